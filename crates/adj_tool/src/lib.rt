@@ -1,0 +1,7 @@
+//! The top call: what the program does for its words, its input and its output.
+#![tactic(auto)]
+
+pub mod text;
+pub mod words;
+
+pub use text::Text;
