@@ -52,9 +52,11 @@ with_lists head _ _ = None
 abbrev pub values_taken : List ℕ → List ℕ → List ℕ → Option Request
 values_taken head vars outvars = if is_name_word head then with_lists (map upper head) (names_of vars) (names_of outvars) else None
 
--- the words that are taken: adjoint --head NAME --vars LIST --outvars LIST
+-- the command and its options, in order
+abbrev pub is_adjoint : List ℕ → List ℕ → List ℕ → List ℕ → Bool
+is_adjoint a b c d = name_eq a (codes "adjoint") && (name_eq b (codes "--head") && (name_eq c (codes "--vars") && name_eq d (codes "--outvars")))
+
+-- the words that are taken, adjoint --head NAME --vars LIST --outvars LIST, and what they ask for
 unfoldable pub taken : List (List ℕ) → Option Request
-taken (a ∷ b ∷ head ∷ c ∷ vars ∷ d ∷ outvars ∷ []) =
-    if name_eq a (codes "adjoint") && (name_eq b (codes "--head") && (name_eq c (codes "--vars") && name_eq d (codes "--outvars")))
-    then values_taken head vars outvars else None
+taken (a ∷ b ∷ head ∷ c ∷ vars ∷ d ∷ outvars ∷ []) = if is_adjoint a b c d then values_taken head vars outvars else None
 taken _ = None

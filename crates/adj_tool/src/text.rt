@@ -19,6 +19,12 @@ impl Model for Text {
     ghost view = { λ t. t.bytes.items };
 }
 
+fn are_same(left: &[u8], right: &[u8]) -> bool
+    ensures { result ≡ name_eq left.now right.now }
+{
+    left == right
+}
+
 impl Text {
     /// The word with these bytes.
     pub fn new(alloc: Global, word: &str) -> Result<Text, Memory>
@@ -37,6 +43,6 @@ impl Text {
     pub(crate) fn is(&self, word: &str) -> bool
         ensures { result ≡ name_eq self.now word.now }
     {
-        self.bytes.as_slice() == word.as_bytes()
+        are_same(self.bytes(), word.as_bytes())
     }
 }

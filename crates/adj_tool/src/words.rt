@@ -2,7 +2,7 @@
 
 ghost use Rattle.std.specs.Prelude.{◌≡◌, ◌≢◌, ◌<◌, ℕ, List, ◌∷◌, length, slice_index, IfOk, IfSome, MatchOption, option_map, map};
 ghost use Rattle.std.specs.List.{list_all};
-ghost use Rattle.adj_tool.specs.Words.{is_letter, is_name_byte, upper, is_name_word, pieces, pieces_behind, names_of, values_taken, taken};
+ghost use Rattle.adj_tool.specs.Words.{is_letter, is_name_byte, upper, is_name_word, pieces, pieces_behind, names_of, values_taken, is_adjoint, taken};
 ghost use Rattle.adj_tool.specs.Views.{request_of};
 
 use crate::text::Text;
@@ -126,22 +126,21 @@ fn take_values(
     }
 }
 
+fn is_adjoint(command: &Text, head: &Text, vars: &Text, outvars: &Text) -> bool
+    ensures { result ≡ is_adjoint command.now head.now vars.now outvars.now }
+{
+    command.is("adjoint") && head.is("--head") && vars.is("--vars") && outvars.is("--outvars")
+}
+
 /// What the words ask for, or none where they are no command.
 pub fn take(alloc: Global, words: &[Text]) -> Result<Option<Request>, Memory>
     ensures taken { IfOk result (λ r. option_map request_of r ≡ taken words.now) }
 {
-    match words {
-        [command, first, head, second, vars, third, outvars] => {
-            let named = command.is("adjoint")
-                && first.is("--head")
-                && second.is("--vars")
-                && third.is("--outvars");
-            if named {
-                take_values(alloc, head.bytes(), vars.bytes(), outvars.bytes())
-            } else {
-                Ok(None)
-            }
-        }
-        _ => Ok(None),
+    if words.len() != 7 {
+        return Ok(None);
     }
+    if !is_adjoint(&words[0], &words[1], &words[3], &words[5]) {
+        return Ok(None);
+    }
+    take_values(alloc, words[2].bytes(), words[4].bytes(), words[6].bytes())
 }
