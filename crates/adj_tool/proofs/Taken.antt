@@ -1,52 +1,41 @@
--- Which words are taken.
-use Rattle.std.proofs.Common.{◌≡◌, ◌≢◌, ℕ, ◌<◌, Bool, true, false, lit<, List, [], ◌∷◌, length, get_or, refl, sym, ap, ◌∙◌, arith, Option, None}
-use Rattle.std.proofs.lemmas.List.{get_or_read_under}
-use Rattle.std.specs.Prelude.{if◌then◌else◌}
-use Rattle.adj_tool.specs.Words.{taken, is_adjoint, values_taken}
+-- What the words ask for, from what `clap` says of a parse.
+use Rattle.std.proofs.Common.{◌≡◌, ◌≢◌, ◌⊎◌, inl, inr, List, [], ◌∷◌, true, map, refl, sym, ap, ◌∙◌, None}
+use Rattle.clap.specs.Walk.{Row, Text}
+use Rattle.clap.specs.Simple.{App, is_simple, matches_of}
+use Rattle.clap.specs.Faults.{fault_of, is_simple_and_free}
+use Rattle.clap.specs.Kinds.{Kinds, IsAmong}
+use Rattle.clap.specs.declared.error.kind.ErrorKind.{ErrorKind}
+use Rattle.clap.proofs.OnLiterals.{clap_on_literals}
+use Rattle.adj_tool.specs.Words.{program, asked, taken, taken_by}
 
--- a word by its place, and the word of no bytes where there is none
-abbrev at : List (List ℕ) → ℕ → List ℕ
-at ws i = get_or ws i []
+-- the command line is one of which clap says all
+pub program_is_simple : is_simple program ≡ true
+unfolding clap_on_literals
+program_is_simple = refl
 
--- seven words are looked at one by one
-taken_at : (ws : List (List ℕ)) → length ws ≡ 7 → taken ws ≡ (if is_adjoint (at ws 0) (at ws 1) (at ws 3) (at ws 5) then values_taken (at ws 2) (at ws 4) (at ws 6) else None)
+pub program_is_free : is_simple_and_free program ≡ true
+unfolding clap_on_literals
+program_is_free = refl
+
+-- words that are seen as themselves
+pub map_same : (ws : List Text) → map (λ w. w) ws ≡ ws
+map_same [] = refl
+map_same (w ∷ ws) = ap (λ vs. w ∷ vs) (map_same ws)
+
+-- what a parse says of the command line and the words, it says of what is taken
+taken_from : (app : App) → app ≡ program → (ws vs : List Text) → ws ≡ vs → taken vs ≡ taken_by (fault_of app ws) (matches_of app ws)
 unfolding taken
-taken_at (x0 ∷ x1 ∷ x2 ∷ x3 ∷ x4 ∷ x5 ∷ x6 ∷ []) n = refl
-taken_at (x0 ∷ x1 ∷ x2 ∷ x3 ∷ x4 ∷ x5 ∷ x6 ∷ x7 ∷ xs) n = absurd (omega arith)
-taken_at (x0 ∷ x1 ∷ x2 ∷ x3 ∷ x4 ∷ x5 ∷ []) n = absurd (omega arith)
-taken_at (x0 ∷ x1 ∷ x2 ∷ x3 ∷ x4 ∷ []) n = absurd (omega arith)
-taken_at (x0 ∷ x1 ∷ x2 ∷ x3 ∷ []) n = absurd (omega arith)
-taken_at (x0 ∷ x1 ∷ x2 ∷ []) n = absurd (omega arith)
-taken_at (x0 ∷ x1 ∷ []) n = absurd (omega arith)
-taken_at (x0 ∷ []) n = absurd (omega arith)
-taken_at [] n = absurd (omega arith)
+taken_from app e ws vs w = λ i. taken_by (fault_of (sym e i) (sym w i)) (matches_of (sym e i) (sym w i))
 
--- fewer or more words are no command
-pub taken_other : (ws : List (List ℕ)) → length ws ≢ 7 → taken ws ≡ None
-unfolding taken
-taken_other [] n = refl
-taken_other (x0 ∷ []) n = refl
-taken_other (x0 ∷ x1 ∷ []) n = refl
-taken_other (x0 ∷ x1 ∷ x2 ∷ []) n = refl
-taken_other (x0 ∷ x1 ∷ x2 ∷ x3 ∷ []) n = refl
-taken_other (x0 ∷ x1 ∷ x2 ∷ x3 ∷ x4 ∷ []) n = refl
-taken_other (x0 ∷ x1 ∷ x2 ∷ x3 ∷ x4 ∷ x5 ∷ []) n = refl
-taken_other (x0 ∷ x1 ∷ x2 ∷ x3 ∷ x4 ∷ x5 ∷ x6 ∷ []) n = absurd (n (omega arith))
-taken_other (x0 ∷ x1 ∷ x2 ∷ x3 ∷ x4 ∷ x5 ∷ x6 ∷ x7 ∷ xs) n = refl
+-- where the parse has no fault, they ask for what its rows say
+pub taken_ok : (app : App) → app ≡ program → (ws vs : List Text) → ws ≡ vs → fault_of app ws ≡ [] → (rows : List Row) → rows ≡ matches_of app ws → taken vs ≡ asked rows
+taken_ok app e ws vs w none rows r = taken_from app e ws vs w ∙ ap (λ kinds. taken_by kinds (matches_of app ws)) none ∙ ap asked (sym r)
 
--- a word that was read is the word at its place
-read : (ws : List (List ℕ)) (i : ℕ) (w : List ℕ) → length ws ≡ 7 → i < 7 → w ≡ get_or ws i w → w ≡ at ws i
-read ws i w n k e = get_or_read_under ws i 7 w [] e k (sym n)
-
-module _ (ws : List (List ℕ)) (n : length ws ≡ 7) (a b c d : List ℕ) (at0 : a ≡ get_or ws 0 a) (at1 : b ≡ get_or ws 1 b) (at3 : c ≡ get_or ws 3 c) (at5 : d ≡ get_or ws 5 d) (t : Bool) (test : t ≡ is_adjoint a b c d) where
-  form : t ≡ is_adjoint (at ws 0) (at ws 1) (at ws 3) (at ws 5)
-  form = test ∙ (λ i. is_adjoint (read ws 0 a n (lit< tt) at0 i) (read ws 1 b n (lit< tt) at1 i) (read ws 3 c n (lit< tt) at3 i) (read ws 5 d n (lit< tt) at5 i))
-
-  -- seven words that aren't the command and its options ask for nothing
-  pub taken_not : t ≡ false → taken ws ≡ None
-  taken_not no_form = taken_at ws n ∙ ap (λ z. if z then values_taken (at ws 2) (at ws 4) (at ws 6) else None) (sym form ∙ no_form)
-
-  -- else they ask for what the values say
-  pub taken_values : t ≡ true → (h v o : List ℕ) → h ≡ get_or ws 2 h → v ≡ get_or ws 4 v → o ≡ get_or ws 6 o → taken ws ≡ values_taken h v o
-  taken_values is_form h v o at2 at4 at6 =
-      taken_at ws n ∙ ap (λ z. if z then values_taken (at ws 2) (at ws 4) (at ws 6) else None) (sym form ∙ is_form) ∙ sym (λ i. values_taken (read ws 2 h n (lit< tt) at2 i) (read ws 4 v n (lit< tt) at4 i) (read ws 6 o n (lit< tt) at6 i))
+-- where the parse has a fault, they ask for nothing
+pub taken_none : (app : App) → app ≡ program → (ws vs : List Text) → ws ≡ vs → (k other : ErrorKind) → (k ≡ other) ⊎ IsAmong k (fault_of app ws) → k ≢ other → taken vs ≡ None
+taken_none app e ws vs w k other (inl same) differs = absurd (differs same)
+taken_none app e ws vs w k other (inr among) differs = taken_from app e ws vs w ∙ go (fault_of app ws) among
+  where
+    go : (kinds : Kinds) → IsAmong k kinds → taken_by kinds (matches_of app ws) ≡ None
+    go [] h = absurd h
+    go (x ∷ xs) h = refl

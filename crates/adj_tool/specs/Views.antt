@@ -1,7 +1,14 @@
 -- Views: what clauses see of the types of the top call.
+use Rattle.std.specs.Prelude.{Option, option_map}
 use Rattle.adj_tool.specs.Words as words
 use Rattle.adj_tool.specs.declared.words.Request.{Request}
+use Rattle.adj_tool.specs.declared.words.Task.{Task}
+use Rattle.adj_tool.specs.declared.words.Task.TheVariants as task
 
--- what is asked for
 abbrev pub request_of : Request → words.Request
 request_of r = record { head = r.head; vars = r.vars; outvars = r.outvars }
+
+-- what is asked for
+abbrev pub command_of : Task → words.Command
+command_of (task.Adjoint r) = words.Adjoint (request_of r)
+command_of (task.Schedule l s) = words.Schedule l s

@@ -1,62 +1,151 @@
 -- Words: what the program is asked to do.
-use Rattle.std.specs.Prelude.{ℕ, ◌-◌, ◌==◌, nat_le, List, [], ◌∷◌, length, map, Bool, true, false, ◌&&◌, ◌||◌, if◌then◌else◌, Option, Some, None, codes}
+use Rattle.std.specs.Prelude.{ℕ, ◌-◌, ◌+◌, ◌*◌, ◌^◌, ◌==◌, nat_le, List, [], ◌∷◌, length, map, fold, Bool, true, false, not, ◌&&◌, ◌||◌, if◌then◌else◌, Option, Some, None, is_some, option_and_then, codes}
 use Rattle.std.specs.List.{list_all}
-use Rattle.adj_tree.specs.Code.{name_eq}
+use Rattle.std.specs.Str.{bytes_eq}
+use Rattle.clap.specs.Kinds.{Kinds}
+use Rattle.clap.specs.Walk.{Row, Rule, Text, all_of, first_of}
+use Rattle.clap.specs.Simple.{App, matches_of, new_app, new_rule, on_top, with_rule}
+use Rattle.clap.specs.Faults.{fault_of}
+use Rattle.clap.specs.declared.builder.range.ValueRange.{ValueRange}
+
+-- ---- the command line
+
+-- an option that takes one value
+abbrev pub option_rule : Text → Rule
+option_rule name = record (new_rule name) { long = Some name }
+
+-- the command's own name, which is required
+abbrev pub command_rule : Rule
+command_rule = record (new_rule (codes "command")) { required = true }
+
+-- the words behind it that are no options
+abbrev pub numbers_rule : Rule
+numbers_rule = record (new_rule (codes "numbers")) { range = Some (record { start_inclusive = 1; end_inclusive = 2 ^ 64 - 1 }) }
+
+-- a command line without arguments, whose words begin behind the program's own name
+abbrev pub bare_program : App
+bare_program = on_top (λ s. record s { no_binary_name = true }) (new_app (codes "adjtool"))
+
+-- what the words may be: a command, numbers, and options with a value each
+abbrev pub program : App
+program =
+    with_rule (with_rule (with_rule (with_rule (with_rule (with_rule (with_rule bare_program
+      command_rule) numbers_rule) (option_rule (codes "head"))) (option_rule (codes "vars"))) (option_rule (codes "outvars"))) (option_rule (codes "budget"))) (option_rule (codes "tape"))
+
+-- ---- values
 
 -- a letter of either case
 abbrev pub is_letter : ℕ → Bool
 is_letter c = (nat_le 65 c && nat_le c 90) || (nat_le 97 c && nat_le c 122)
 
+abbrev pub is_digit : ℕ → Bool
+is_digit c = nat_le 48 c && nat_le c 57
+
 -- what may follow the first letter of a name: letters, digits and `_`
 abbrev pub is_name_byte : ℕ → Bool
-is_name_byte c = is_letter c || ((nat_le 48 c && nat_le c 57) || (c == 95))
+is_name_byte c = is_letter c || (is_digit c || (c == 95))
 
 -- lower case folded to upper case
 abbrev pub upper : ℕ → ℕ
 upper c = if nat_le 97 c && nat_le c 122 then c - 32 else c
 
 -- a name word: a letter and then letters, digits and `_`, at most 63 characters
-abbrev pub is_name_word : List ℕ → Bool
+abbrev pub is_name_word : Text → Bool
 is_name_word [] = false
 is_name_word (c ∷ cs) = is_letter c && (list_all is_name_byte cs && nat_le (length (c ∷ cs)) 63)
 
-abbrev pub in_front : ℕ → List (List ℕ) → List (List ℕ)
+-- the name of a name word, in upper case
+abbrev pub name_of : Text → Option Text
+name_of w = if is_name_word w then Some (map upper w) else None
+
+abbrev pub in_front : ℕ → List Text → List Text
 in_front c [] = (c ∷ []) ∷ []
 in_front c (w ∷ ws) = (c ∷ w) ∷ ws
 
 -- the pieces of a word between its commas
-unfoldable pub pieces : List ℕ → List (List ℕ)
+unfoldable pub pieces : Text → List Text
 pieces [] = [] ∷ []
 pieces (c ∷ cs) = if c == 44 then [] ∷ pieces cs else in_front c (pieces cs)
 
 -- the pieces of what stands behind a comma, or none
-abbrev pub pieces_behind : Option (List ℕ) → List (List ℕ)
+abbrev pub pieces_behind : Option Text → List Text
 pieces_behind None = []
 pieces_behind (Some w) = pieces w
 
--- the names of a list word: name words separated by single commas, folded to upper case
-abbrev pub names_of : List ℕ → Option (List (List ℕ))
+-- the names of a list word, in upper case: name words separated by single commas
+abbrev pub names_of : Text → Option (List Text)
 names_of w = if list_all is_name_word (pieces w) then Some (map (map upper) (pieces w)) else None
 
--- what `adjoint` is asked for: the head, its independents and its dependents
+-- the number that digits write
+abbrev pub value_of : List ℕ → ℕ
+value_of ds = fold (λ n d. n * 10 + (d - 48)) 0 ds
+
+-- the number of a number word, 1 to 20 digits, where it lies from `least` to `most`
+abbrev pub number_in : ℕ → ℕ → Text → Option ℕ
+number_in least most w =
+    if (nat_le 1 (length w) && nat_le (length w) 20) && (list_all is_digit w && (nat_le least (value_of w) && nat_le (value_of w) most))
+    then Some (value_of w) else None
+
+-- ---- commands
+
+-- a head with its independents and its dependents
 pub record Request : Type 0 where
   pub head : List ℕ
   pub vars : List (List ℕ)
   pub outvars : List (List ℕ)
 
-abbrev pub with_lists : List ℕ → Option (List (List ℕ)) → Option (List (List ℕ)) → Option Request
-with_lists head (Some vars) (Some outvars) = Some (record { head = head; vars = vars; outvars = outvars })
-with_lists head _ _ = None
+-- the commands
+pub data Command : Type 0 where
+  Adjoint : Request → Command
+  -- steps and snapshots
+  Schedule : ℕ → ℕ → Command
 
--- the values of the options of `adjoint`
-abbrev pub values_taken : List ℕ → List ℕ → List ℕ → Option Request
-values_taken head vars outvars = if is_name_word head then with_lists (map upper head) (names_of vars) (names_of outvars) else None
+-- the options of a command are absent
+abbrev pub lacks : List Text → List Row → Bool
+lacks ids rows = list_all (λ id. not (is_some (first_of id rows))) ids
 
--- the command and its options, in order
-abbrev pub is_adjoint : List ℕ → List ℕ → List ℕ → List ℕ → Bool
-is_adjoint a b c d = name_eq a (codes "adjoint") && (name_eq b (codes "--head") && (name_eq c (codes "--vars") && name_eq d (codes "--outvars")))
+abbrev pub with_request : Option Text → Option (List Text) → Option (List Text) → Option Command
+with_request (Some head) (Some vars) (Some outvars) = Some (Adjoint (record { head = head; vars = vars; outvars = outvars }))
+with_request _ _ _ = None
 
--- the words that are taken, adjoint --head NAME --vars LIST --outvars LIST, and what they ask for
-unfoldable pub taken : List (List ℕ) → Option Request
-taken (a ∷ b ∷ head ∷ c ∷ vars ∷ d ∷ outvars ∷ []) = if is_adjoint a b c d then values_taken head vars outvars else None
-taken _ = None
+-- adjoint --head NAME --vars LIST --outvars LIST
+abbrev pub adjoint_asked : List Row → Option Command
+adjoint_asked rows =
+    if lacks (codes "numbers" ∷ codes "budget" ∷ codes "tape" ∷ []) rows
+    then with_request (option_and_then name_of (first_of (codes "head") rows)) (option_and_then names_of (first_of (codes "vars") rows)) (option_and_then names_of (first_of (codes "outvars") rows))
+    else None
+
+-- steps and snapshots
+abbrev pub two_numbers : Option ℕ → Option ℕ → Option Command
+two_numbers (Some l) (Some s) = Some (Schedule l s)
+two_numbers _ _ = None
+
+abbrev pub numbers_asked : List Text → Option Command
+numbers_asked (l ∷ s ∷ []) = two_numbers (number_in 0 100000 l) (number_in 1 64 s)
+numbers_asked _ = None
+
+-- schedule STEPS SNAPSHOTS, at most 100000 steps and from 1 to 64 snapshots
+abbrev pub schedule_asked : List Row → Option Command
+schedule_asked rows =
+    if lacks (codes "head" ∷ codes "vars" ∷ codes "outvars" ∷ codes "budget" ∷ codes "tape" ∷ []) rows
+    then option_and_then numbers_asked (all_of (codes "numbers") rows)
+    else None
+
+-- the place where commands are listed
+abbrev pub command_asked : Text → List Row → Option Command
+command_asked name rows =
+    if bytes_eq name (codes "adjoint") then adjoint_asked rows
+    else (if bytes_eq name (codes "schedule") then schedule_asked rows
+    else None)
+
+abbrev pub asked : List Row → Option Command
+asked rows = option_and_then (λ name. command_asked name rows) (first_of (codes "command") rows)
+
+-- what is asked for by a parse with these faults and rows
+abbrev pub taken_by : Kinds → List Row → Option Command
+taken_by [] rows = asked rows
+taken_by (fault ∷ faults) rows = None
+
+-- what the words ask for, by the definition of the command line and the checks on values
+unfoldable pub taken : List Text → Option Command
+taken words = taken_by (fault_of program words) (matches_of program words)

@@ -2,6 +2,7 @@
 #![tactic(auto)]
 
 pub mod text;
+mod values;
 pub mod words;
 
 pub use text::Text;

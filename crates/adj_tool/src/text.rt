@@ -1,28 +1,22 @@
 //! One word of a command.
 
-ghost use Rattle.std.specs.Prelude.{◌≡◌, ℕ, List, IfOk};
-ghost use Rattle.adj_tree.specs.Code.{name_eq};
+ghost use Rattle.std.specs.Prelude.{◌≡◌, ℕ, List, IfOk, string_bytes};
 
 use adj_tree::Memory;
 use std::alloc::Global;
+use std::convert::AsStr;
 use std::marker::Model;
 
 /// One word of a command, seen as its bytes.
 #[derive(Drop)]
 pub struct Text {
-    bytes: Vec<u8>,
+    word: String,
 }
 
 impl Model for Text {
     ghost Value = { List ℕ };
 
-    ghost view = { λ t. t.bytes.items };
-}
-
-fn are_same(left: &[u8], right: &[u8]) -> bool
-    ensures { result ≡ name_eq left.now right.now }
-{
-    left == right
+    ghost view = { λ t. string_bytes t.word };
 }
 
 impl Text {
@@ -30,19 +24,15 @@ impl Text {
     pub fn new(alloc: Global, word: &str) -> Result<Text, Memory>
         ensures bytes { IfOk result (λ t. t ≡ word.now) }
     {
-        let bytes = word.as_bytes().to_vec(alloc)?;
-        Ok(Text { bytes })
+        let word = word.to_string(alloc)?;
+        Ok(Text { word })
     }
+}
 
-    pub(crate) fn bytes(&self) -> &[u8]
-        ensures { result.now ≡ self.now }
-    {
-        self.bytes.as_slice()
-    }
+impl AsStr for Text {
+    ghost text = { λ t. t };
 
-    pub(crate) fn is(&self, word: &str) -> bool
-        ensures { result ≡ name_eq self.now word.now }
-    {
-        are_same(self.bytes(), word.as_bytes())
+    fn as_str(&self) -> &str {
+        self.word.as_str()
     }
 }

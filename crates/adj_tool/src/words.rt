@@ -1,99 +1,20 @@
-//! The words of a command.
+//! The words of a command, as `clap` reads them.
 
-ghost use Rattle.std.specs.Prelude.{◌≡◌, ◌≢◌, ◌<◌, ℕ, List, ◌∷◌, length, slice_index, IfOk, IfSome, MatchOption, option_map, map};
-ghost use Rattle.std.specs.List.{list_all};
-ghost use Rattle.adj_tool.specs.Words.{is_letter, is_name_byte, upper, is_name_word, pieces, pieces_behind, names_of, values_taken, is_adjoint, taken};
-ghost use Rattle.adj_tool.specs.Views.{request_of};
+ghost use Rattle.std.specs.Prelude.{◌≡◌, false, not, is_some, ℕ, List, ◌∷◌, IfOk, Option, option_map, option_and_then, map, codes};
+ghost use Rattle.adj_tool.specs.Words.{bare_program, program, command_rule, numbers_rule, option_rule, lacks, name_of, names_of, adjoint_asked, schedule_asked, numbers_asked, command_asked, asked, taken};
+ghost use Rattle.adj_tool.specs.Views.{command_of};
+ghost use Rattle.clap.specs.Simple.{app_of, with_rule};
+ghost use Rattle.clap.specs.Matches.{found_of};
+ghost use Rattle.clap.specs.Walk.{rows_of, rule_of, first_of, all_of};
 
 use crate::text::Text;
+use crate::values::{name_of, names_of, number_in};
 use adj_tree::{Memory, Name, NameList};
+use clap::error::ErrorKind;
+use clap::{Arg, ArgMatches, Command};
 use std::alloc::Global;
 
-fn is_letter(c: u8) -> bool
-    ensures { result ≡ is_letter c }
-{
-    c.is_ascii_alphabetic()
-}
-
-fn is_name_byte(c: u8) -> bool
-    ensures { result ≡ is_name_byte c }
-{
-    c.is_ascii_alphanumeric() || c == b'_'
-}
-
-fn upper(c: u8) -> u8
-    ensures { result ≡ upper c }
-{
-    c.to_ascii_uppercase()
-}
-
-fn are_name_bytes(bytes: &[u8]) -> bool
-    ensures { result ≡ list_all is_name_byte bytes.now }
-{
-    bytes.iter().all(|c| is_name_byte(*c))
-}
-
-fn is_name_word(word: &[u8]) -> bool
-    ensures { result ≡ is_name_word word.now }
-{
-    match word {
-        [] => false,
-        [first, rest @ ..] => is_letter(*first) && are_name_bytes(rest) && word.len() <= 63,
-    }
-}
-
-// The name of a name word, in upper case.
-fn folded(alloc: Global, word: &[u8]) -> Result<Name, Memory>
-    ensures { IfOk result (λ n. n ≡ map upper word.now) }
-{
-    let mut bytes = Vec::new(alloc);
-    for c in word {
-        bytes.push(upper(*c))?;
-    }
-    Ok(Name::new(bytes))
-}
-
-// Where the first comma stands.
-fn find_comma(word: &[u8]) -> Option<usize>
-    ensures { MatchOption result
-        ((k : ℕ) → k < length word.now → slice_index word.now k ≢ 44)
-        (λ n. (n < length word.now) × (slice_index word.now n ≡ 44) × ((k : ℕ) → k < n → slice_index word.now k ≢ 44)) }
-{
-    word.iter().position(|c| *c == b',')
-}
-
-// The first piece of a list word, and what stands behind its comma.
-fn split_piece(word: &[u8]) -> (&[u8], Option<&[u8]>)
-    ensures pieces { pieces word.now ≡ result.0.now ∷ pieces_behind (option_map (λ r. r.now) result.1) }
-    ensures shorter { IfSome result.1 (λ r. length r.now < length word.now) }
-{
-    match find_comma(word) {
-        Some(end) => (&word[..end], Some(&word[end + 1..])),
-        None => (word, None),
-    }
-}
-
-/// The names of a list word, in upper case, or none where it is no list word.
-fn names_of(alloc: Global, word: &[u8]) -> Result<Option<NameList>, Memory>
-    ensures { IfOk result (λ r. r ≡ names_of word.now) }
-{
-    let mut names = Vec::new(alloc);
-    let mut rest = word;
-    loop {
-        let (piece, behind) = split_piece(rest);
-        if !is_name_word(piece) {
-            return Ok(None);
-        }
-        let name = folded(alloc, piece)?;
-        names.push(name)?;
-        match behind {
-            Some(next) => rest = next,
-            None => return Ok(Some(NameList::new(names))),
-        }
-    }
-}
-
-/// What `adjoint` is asked for: the head, its independents and its dependents.
+/// A head with its independents and its dependents.
 #[derive(Drop)]
 pub struct Request {
     pub head: Name,
@@ -101,46 +22,195 @@ pub struct Request {
     pub outvars: NameList,
 }
 
-// The values of the options of `adjoint`.
-fn take_values(
-    alloc: Global,
-    head: &[u8],
-    vars: &[u8],
-    outvars: &[u8],
-) -> Result<Option<Request>, Memory>
-    ensures { IfOk result (λ r. option_map request_of r ≡ values_taken head.now vars.now outvars.now) }
+/// What the program is asked to do.
+#[derive(Drop)]
+pub enum Task {
+    /// Write the adjoint of a unit.
+    Adjoint(Request),
+    /// Write the schedule of a number of steps and of snapshots.
+    Schedule(u64, u32),
+}
+
+// An option that takes one value.
+fn option<'a>(alloc: Global, name: &'a str) -> Arg<'a>
+    ensures rule { rule_of result ≡ option_rule name.entry.now }
+    ensures local { result.global ≡ false }
 {
-    if !is_name_word(head) {
+    Arg::new(alloc, name).long(name)
+}
+
+// The name of the command, which is required.
+fn command_argument<'a>(alloc: Global) -> Arg<'a>
+    ensures rule { rule_of result ≡ command_rule }
+    ensures local { result.global ≡ false }
+{
+    Arg::new(alloc, "command").required(true)
+}
+
+// Any words behind it that are no options.
+fn numbers_argument<'a>(alloc: Global) -> Arg<'a>
+    ensures rule { rule_of result ≡ numbers_rule }
+    ensures local { result.global ≡ false }
+{
+    Arg::new(alloc, "numbers").num_args(1..)
+}
+
+// A command line with no arguments, whose first word is no program's name.
+fn bare_line<'a>(alloc: Global) -> Command<'a>
+    ensures { app_of result ≡ bare_program }
+{
+    Command::new(alloc, "adjtool").no_binary_name(true)
+}
+
+fn with_argument<'a>(command: Command<'a>, argument: Arg<'a>) -> Result<Command<'a>, Memory>
+    requires { argument.global ≡ false }
+    ensures { IfOk result (λ c. app_of c ≡ with_rule (app_of command.entry) (rule_of argument.entry)) }
+{
+    let command = command.arg(argument)?;
+    Ok(command)
+}
+
+// The command line: a command, numbers, and options with a value each.
+fn command_line<'a>(alloc: Global) -> Result<Command<'a>, Memory>
+    ensures { IfOk result (λ c. app_of c ≡ program) }
+{
+    let line = bare_line(alloc);
+    let line = with_argument(line, command_argument(alloc))?;
+    let line = with_argument(line, numbers_argument(alloc))?;
+    let line = with_argument(line, option(alloc, "head"))?;
+    let line = with_argument(line, option(alloc, "vars"))?;
+    let line = with_argument(line, option(alloc, "outvars"))?;
+    let line = with_argument(line, option(alloc, "budget"))?;
+    let line = with_argument(line, option(alloc, "tape"))?;
+    Ok(line)
+}
+
+// The one value of an option or a name.
+fn value<'a>(matches: &ArgMatches<'a>, id: &str) -> Option<&'a str>
+    ensures { option_map (λ s. s.now) result ≡ first_of id.now (rows_of (found_of matches.now)) }
+{
+    matches.get_str(id)
+}
+
+// Whether an option or a name is absent.
+fn is_absent(matches: &ArgMatches<'_>, id: &str) -> bool
+    ensures { result ≡ not (is_some (first_of id.now (rows_of (found_of matches.now)))) }
+{
+    value(matches, id).is_none()
+}
+
+// All values of a name.
+fn values<'a, 'b>(matches: &'b ArgMatches<'a>, id: &str) -> Option<&'b [&'a str]>
+    ensures { option_map (λ s. map (λ v. v.now) s.now) result ≡ all_of id.now (rows_of (found_of matches.now)) }
+{
+    matches.get_strs(id)
+}
+
+fn name_option(
+    alloc: Global,
+    matches: &ArgMatches<'_>,
+    id: &str,
+) -> Result<Option<Name>, Memory>
+    ensures { IfOk result (λ r. r ≡ option_and_then name_of (first_of id.now (rows_of (found_of matches.now)))) }
+{
+    match value(matches, id) {
+        Some(word) => name_of(alloc, word.as_bytes()),
+        None => Ok(None),
+    }
+}
+
+fn list_option(
+    alloc: Global,
+    matches: &ArgMatches<'_>,
+    id: &str,
+) -> Result<Option<NameList>, Memory>
+    ensures { IfOk result (λ r. r ≡ option_and_then names_of (first_of id.now (rows_of (found_of matches.now)))) }
+{
+    match value(matches, id) {
+        Some(word) => names_of(alloc, word.as_bytes()),
+        None => Ok(None),
+    }
+}
+
+// adjoint --head NAME --vars LIST --outvars LIST
+fn adjoint_task(alloc: Global, matches: &ArgMatches<'_>) -> Result<Option<Task>, Memory>
+    ensures { IfOk result (λ r. option_map command_of r ≡ adjoint_asked (rows_of (found_of matches.now))) }
+{
+    let lacks = is_absent(matches, "numbers")
+        && is_absent(matches, "budget")
+        && is_absent(matches, "tape");
+    if !lacks {
         return Ok(None);
     }
-    let head = folded(alloc, head)?;
-    let vars = names_of(alloc, vars)?;
-    let outvars = names_of(alloc, outvars)?;
-    match (vars, outvars) {
-        (Some(vars), Some(outvars)) => Ok(Some(Request {
+    let head = name_option(alloc, matches, "head")?;
+    let vars = list_option(alloc, matches, "vars")?;
+    let outvars = list_option(alloc, matches, "outvars")?;
+    match (head, vars, outvars) {
+        (Some(head), Some(vars), Some(outvars)) => Ok(Some(Task::Adjoint(Request {
             head,
             vars,
             outvars,
-        })),
+        }))),
         _ => Ok(None),
     }
 }
 
-fn is_adjoint(command: &Text, head: &Text, vars: &Text, outvars: &Text) -> bool
-    ensures { result ≡ is_adjoint command.now head.now vars.now outvars.now }
+fn schedule_numbers(numbers: &[&str]) -> Option<Task>
+    ensures { option_map command_of result ≡ numbers_asked (map (λ v. v.now) numbers.now) }
 {
-    command.is("adjoint") && head.is("--head") && vars.is("--vars") && outvars.is("--outvars")
+    match numbers {
+        [steps, snapshots] => {
+            let steps = number_in(0, 100_000, steps.as_bytes())?;
+            let snapshots = number_in(1, 64, snapshots.as_bytes())?;
+            Some(Task::Schedule(steps, snapshots as u32))
+        }
+        _ => None,
+    }
+}
+
+// schedule STEPS SNAPSHOTS
+fn schedule_task(matches: &ArgMatches<'_>) -> Option<Task>
+    ensures { option_map command_of result ≡ schedule_asked (rows_of (found_of matches.now)) }
+{
+    let lacks = is_absent(matches, "head")
+        && is_absent(matches, "vars")
+        && is_absent(matches, "outvars")
+        && is_absent(matches, "budget")
+        && is_absent(matches, "tape");
+    if !lacks {
+        return None;
+    }
+    schedule_numbers(values(matches, "numbers")?)
+}
+
+// What the values of the command line ask for.
+fn task_asked(alloc: Global, matches: &ArgMatches<'_>) -> Result<Option<Task>, Memory>
+    ensures { IfOk result (λ r. option_map command_of r ≡ asked (rows_of (found_of matches.now))) }
+{
+    let name = match value(matches, "command") {
+        Some(name) => name,
+        None => return Ok(None),
+    };
+    if name == "adjoint" {
+        let task = adjoint_task(alloc, matches)?;
+        return Ok(task);
+    }
+    if name == "schedule" {
+        return Ok(schedule_task(matches));
+    }
+    Ok(None)
 }
 
 /// What the words ask for, or none where they are no command.
-pub fn take(alloc: Global, words: &[Text]) -> Result<Option<Request>, Memory>
-    ensures taken { IfOk result (λ r. option_map request_of r ≡ taken words.now) }
+pub fn take(alloc: Global, words: &[Text]) -> Result<Option<Task>, Memory>
+    ensures taken { IfOk result (λ r. option_map command_of r ≡ taken words.now) }
 {
-    if words.len() != 7 {
-        return Ok(None);
+    let line = command_line(alloc)?;
+    match line.try_get_matches_from(words) {
+        Ok(matches) => task_asked(alloc, &matches),
+        Err(error) => match error.kind() {
+            ErrorKind::OutOfMemory => Err(Memory),
+            _ => Ok(None),
+        },
     }
-    if !is_adjoint(&words[0], &words[1], &words[3], &words[5]) {
-        return Ok(None);
-    }
-    take_values(alloc, words[2].bytes(), words[4].bytes(), words[6].bytes())
 }

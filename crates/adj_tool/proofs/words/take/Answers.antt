@@ -1,17 +1,18 @@
-use Rattle.std.proofs.Common.{◌≡◌, List, ℕ, sym, arith, length, subst, IfOk, option_map}
-use Rattle.adj_tool.specs.Words.{values_taken}
-use Rattle.adj_tool.specs.Views.{request_of}
-use Rattle.adj_tool.proofs.Taken.{taken_other, taken_not, taken_values}
+use Rattle.std.proofs.Common.{◌≡◌, ◌∙◌, ap, sym}
+use Rattle.clap.specs.Simple.{is_simple}
+use Rattle.clap.specs.Faults.{is_simple_and_free}
+use Rattle.adj_tool.proofs.Taken.{program_is_simple, program_is_free, map_same, taken_ok, taken_none}
 use Rattle.adj_tool.proofs.words.take.Goals as goal
 
-pub returns-then-words-ne7 : goal.returns-then-words-ne7
-returns-then-words-ne7 c = record { taken = sym (taken_other _ c.if-words-ne7.true) }
-
-pub returns-then-not-is_adjoint : goal.returns-then-not-is_adjoint
-returns-then-not-is_adjoint c =
-    record { taken = sym (taken_not c.args.words.now c.if-words-ne7.false _ _ _ _ c.index-words-0.is c.index-words-1.is c.index-words-3.is c.index-words-5.is c.is_adjoint.result c.is_adjoint.ensures c.if-not-is_adjoint.true) }
+pub returns-in-Ok : goal.returns-in-Ok
+returns-in-Ok c =
+    let line = c.in_ok-line.ensures in
+    let none = c.in-Ok.ensures.kinds (ap is_simple_and_free line ∙ program_is_free) in
+    let rows = (c.in-Ok.ensures.matches (ap is_simple line ∙ program_is_simple)).0 in
+    record { taken = rw (taken_ok _ line _ _ (map_same c.args.words.now) none _ rows) c.task_asked.ensures }
 
 pub returns : goal.returns
 returns c =
-    let asked = taken_values c.args.words.now c.if-words-ne7.false _ _ _ _ c.index-words-0.is c.index-words-1.is c.index-words-3.is c.index-words-5.is c.is_adjoint.result c.is_adjoint.ensures c.if-not-is_adjoint.false _ _ _ c.index-words-2.is c.index-words-4.is c.index-words-6.is in
-    record { taken = rw asked (rw (← c.bytes.ensures, ← c.bytes-2.ensures, ← c.bytes-3.ensures) c.take_values.ensures) }
+    let line = c.in_ok-line.ensures in
+    let failed = c.in-Err.ensures.kinds (ap is_simple_and_free line ∙ program_is_free) in
+    record { taken = sym (taken_none _ line _ _ (map_same c.args.words.now) _ _ failed (λ e. c.in_default.not-OutOfMemory (c.kind.ensures ∙ e))) }

@@ -1,7 +1,7 @@
 use Rattle.std.proofs.Common.{◌≡◌, ◌++◌, map, length}
 use Rattle.std.specs.List.{list_all}
 use Rattle.adj_tool.specs.Words.{upper, pieces, is_name_word}
-use Rattle.adj_tool.proofs.words.names_of.Given as goal
+use Rattle.adj_tool.proofs.values.names_of.Given as goal
 
 abbrev pub invariant-loop-piece : goal.invariant-loop-piece
 invariant-loop-piece l = record {

@@ -2,7 +2,7 @@ use Rattle.std.proofs.Common.{ap, ◌∙◌, ◌∷◌, ◌+◌, take, sym}
 use Rattle.std.proofs.lemmas.List.{take_rest}
 use Rattle.adj_tool.specs.Words.{pieces}
 use Rattle.adj_tool.proofs.Pieces.{cut_first, uncut}
-use Rattle.adj_tool.proofs.words.split_piece.Goals as goal
+use Rattle.adj_tool.proofs.values.split_piece.Goals as goal
 
 pub returns-in-Some-clause-pieces : goal.returns-in-Some-clause-pieces
 returns-in-Some-clause-pieces c =

@@ -1,6 +1,6 @@
 use Rattle.std.proofs.Common.{◌≡◌, map, take}
 use Rattle.adj_tool.specs.Words.{upper}
-use Rattle.adj_tool.proofs.words.folded.Given as goal
+use Rattle.adj_tool.proofs.values.folded.Given as goal
 
 abbrev pub invariant-loop-c : goal.invariant-loop-c
 invariant-loop-c l = l.bytes.items ≡ map upper (take l.c-index l.word)
