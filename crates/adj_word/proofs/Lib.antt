@@ -1,0 +1,5 @@
+-- The laws of words, for the proofs of this crate and of the crates above it.
+pub mod Integers
+pub mod Residues
+pub mod Powers
+pub mod Transposes
