@@ -1,0 +1,3 @@
+-- What the contracts of this crate and of the crates above it say of emission and of adjoints.
+pub mod Fresh
+pub mod Naming
