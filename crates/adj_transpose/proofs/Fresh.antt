@@ -4,7 +4,9 @@ use Rattle.std.specs.Prelude.{◌==◌, ◌&&◌, ◌||◌, codes}
 use Rattle.std.proofs.lemmas.Bool.Decides.{nat_tests}
 use Rattle.adj_tree.specs.Code.{name_eq}
 use Rattle.adj_transpose.specs.Fresh.{has_name, digits_before, digits, candidate, first_free, fresh}
-use Rattle.adj_transpose.proofs.Names.{and_true, or_false, not_true, name_refl, name_same, name_comm}
+use Rattle.adj_tree.proofs.Names.{name_same}
+use Rattle.adj_transpose.specs.Naming.{begins_outside}
+use Rattle.adj_transpose.proofs.Variables.{not_true}
 
 -- ---- candidates are apart
 
@@ -105,12 +107,7 @@ fresh-is_free b taken = first_free-is_free (length taken) 0 b taken taken (omega
 
 -- ---- a fresh name is b with something behind it
 
--- whether a name begins with the byte 0, which no text has
-abbrev pub begins_outside : List ℕ → Bool
-begins_outside [] = false
-begins_outside (a ∷ x) = a == 0
-
-behind-begins : (b x : List ℕ) → begins_outside b ≡ false → begins_outside x ≡ false → begins_outside (b ++ x) ≡ false
+pub behind-begins : (b x : List ℕ) → begins_outside b ≡ false → begins_outside x ≡ false → begins_outside (b ++ x) ≡ false
 behind-begins [] x h g = g
 behind-begins (a ∷ b) x h g = h
 

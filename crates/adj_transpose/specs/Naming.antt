@@ -1,7 +1,7 @@
 -- The names that the variables of an emitted unit have.
-use Rattle.std.specs.Prelude.{ℕ, List, [], ◌∷◌, ◌++◌, map, if◌then◌else◌, codes}
+use Rattle.std.specs.Prelude.{◌≡◌, ℕ, ◌==◌, Bool, true, false, List, [], ◌∷◌, ◌++◌, map, if◌then◌else◌, codes}
 use Rattle.adj_tree.specs.Code.{Role, role_code, work, temp, control, first, stride, count, turn, entry, entries, kind, lower, upper, Var, plain, shadow, helper, var_eq}
-use Rattle.adj_transpose.specs.Fresh.{digits, fresh, reserved}
+use Rattle.adj_transpose.specs.Fresh.{has_name, digits, fresh, reserved}
 
 -- how the names of a role's helpers begin
 abbrev pub letters : Role → List ℕ
@@ -50,7 +50,33 @@ outside (plain x) = 0 ∷ 0 ∷ x
 outside (shadow x) = 0 ∷ 1 ∷ x
 outside (helper r k) = 0 ∷ 2 ∷ role_code r ∷ k ∷ []
 
--- the variable under its name; one that has none goes outside all texts
+-- the name of a variable; one that has none is outside all texts
+abbrev pub name_in : List Named → Var → List ℕ
+name_in [] v = outside v
+name_in (p ∷ ps) v = if var_eq v p.variable then p.name else name_in ps v
+
+-- the variable under its name
 abbrev pub naming : List Named → Var → Var
-naming [] v = plain (outside v)
-naming (p ∷ ps) v = if var_eq v p.variable then plain p.name else naming ps v
+naming ps v = plain (name_in ps v)
+
+-- ---- names that are of a text, and apart
+
+-- whether a name begins with the byte 0, which no text has
+abbrev pub begins_outside : List ℕ → Bool
+begins_outside [] = false
+begins_outside (a ∷ x) = a == 0
+
+-- each name is of a text
+abbrev pub AreInside : List (List ℕ) → Type 0
+AreInside [] = Unit {0}
+AreInside (x ∷ xs) = (begins_outside x ≡ false) × AreInside xs
+
+-- no name stands twice in the list
+abbrev pub AreApart : List (List ℕ) → Type 0
+AreApart [] = Unit {0}
+AreApart (x ∷ xs) = (has_name x xs ≡ false) × AreApart xs
+
+-- the names that a table gives
+abbrev pub names : List Named → List (List ℕ)
+names [] = []
+names (p ∷ ps) = p.name ∷ names ps

@@ -1,14 +1,9 @@
--- When names, roles and variables are the same.
-use Rattle.std.proofs.Common.{◌≡◌, ℕ, zero, suc, Bool, true, false, List, [], ◌∷◌, get_or, refl, sym, ap, ◌∙◌, subst, arith}
+-- When roles and variables are the same.
+use Rattle.std.proofs.Common.{◌≡◌, ℕ, Bool, true, false, List, [], ◌∷◌, get_or, refl, sym, ap, ◌∙◌, subst}
 use Rattle.std.specs.Prelude.{◌==◌, ◌&&◌, ◌||◌}
 use Rattle.adj_tree.specs.Code.{Role, role_code, work, temp, control, first, stride, count, turn, entry, entries, kind, lower, upper, Var, plain, shadow, helper, name_eq, var_eq}
+use Rattle.adj_tree.proofs.Names.{nat_same, nat_refl, name_refl, name_same}
 use Rattle.adj_transpose.specs.Fresh.{has_name}
-
-pub nat_same : (a b : ℕ) → (a == b) ≡ true → a ≡ b
-nat_same a b h = grind arith
-
-pub nat_refl : (a : ℕ) → (a == a) ≡ true
-nat_refl a = grind arith
 
 pub and_true : (a b : Bool) → (a && b) ≡ true → (a ≡ true) × (b ≡ true)
 and_true true b h = (refl, h)
@@ -22,19 +17,6 @@ or_false false b h = (refl, h)
 pub not_true : (b : Bool) → (b ≡ true → ⊥) → b ≡ false
 not_true true h = absurd (h refl)
 not_true false h = refl
-
-pub name_refl : (x : List ℕ) → name_eq x x ≡ true
-name_refl [] = refl
-name_refl (a ∷ x) = rw nat_refl (name_refl x)
-
--- names that count as the same are the same
-pub name_same : (x y : List ℕ) → name_eq x y ≡ true → x ≡ y
-name_same [] [] h = refl
-name_same [] (b ∷ y) h = cc
-name_same (a ∷ x) [] h = cc
-name_same (a ∷ x) (b ∷ y) h =
-    let p = and_true (a == b) (name_eq x y) h in
-    λ i. nat_same a b p.0 i ∷ name_same x y p.1 i
 
 -- the role of a number
 abbrev role_of : ℕ → Role
