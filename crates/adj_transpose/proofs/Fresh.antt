@@ -125,3 +125,11 @@ first_free-begins (suc tries) i b taken h = go (first_free-begins tries (suc i) 
 
 pub fresh-begins : (b : List ℕ) (taken : List (List ℕ)) → begins_outside b ≡ false → begins_outside (fresh b taken) ≡ false
 fresh-begins b taken h = first_free-begins (length taken) 0 b taken h
+
+first_free-as_wanted : (tries : ℕ) (b : List ℕ) (taken : List (List ℕ)) → has_name b taken ≡ false → first_free tries 0 b taken ≡ b
+first_free-as_wanted zero b taken h = refl
+first_free-as_wanted (suc tries) b taken h = rw h refl
+
+-- a name that is free stays as it is
+pub fresh-as_wanted : (b : List ℕ) (taken : List (List ℕ)) → has_name b taken ≡ false → fresh b taken ≡ b
+fresh-as_wanted b taken h = first_free-as_wanted (length taken) b taken h

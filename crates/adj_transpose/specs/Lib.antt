@@ -1,3 +1,7 @@
 -- What the contracts of this crate and of the crates above it say of emission and of adjoints.
 pub mod Fresh
 pub mod Naming
+pub mod Emit
+pub mod Rename
+pub mod Program
+pub mod Examples
