@@ -3,3 +3,7 @@ pub mod Integers
 pub mod Residues
 pub mod Powers
 pub mod Transposes
+pub mod Quotients
+pub mod TripCounts
+pub mod Counting
+pub mod DotProducts

@@ -2,8 +2,8 @@
 -- A law that gives back an argument has two forms: for every integer it gives its residue, and for a word the word itself.
 use Rattle.std.proofs.Common.{◌≡◌, arith, rules, refl, ap, ◌∙◌, sym}
 use Rattle.std.specs.Prelude.{ℤ, pos, neg_ℤ, ◌+ℤ◌, ◌-ℤ◌, ◌*ℤ◌}
-use Rattle.std.specs.Int.{int_wrap, w64}
-use Rattle.std.proofs.lemmas.Int.{ints, int_wrap_fits, SFits-int_wrap, int_wrap-add_left, int_wrap-add_right, int_wrap-sub_right, int_wrap-mul_left, int_wrap-mul_right}
+use Rattle.std.specs.Int.{int_wrap, w64, cast_signed, cast_unsigned}
+use Rattle.std.proofs.lemmas.Int.{ints, to_z-of_z, int_wrap_fits, SFits-int_wrap, int_wrap-add_left, int_wrap-add_right, int_wrap-sub_right, int_wrap-mul_left, int_wrap-mul_right}
 use lib.IntN.{*ℤ_comm, +ℤ_comm, +ℤ_idl, +ℤ_idr}
 use Rattle.adj_word.specs.Word.{wrap, IsWord, add, sub, mul, negated}
 use Rattle.adj_word.proofs.Integers.{mul-add_ℤ, add-mul_ℤ, mul_assoc_ℤ, neg-mul_ℤ, mul-neg_ℤ, mul-sub_ℤ, sub-mul_ℤ, one-mul_ℤ, mul-one_ℤ, zero-mul_ℤ, mul-zero_ℤ}
@@ -33,6 +33,16 @@ wrap-one = wrap_word (pos 1) word-one
 -- and so is a residue's
 pub wrap-wrap : (z : ℤ) → wrap (wrap z) ≡ wrap z
 wrap-wrap z = wrap_word (wrap z) (word-wrap z)
+
+-- ---- the bits of words
+
+-- a number as the code holds it in 64 bits
+abbrev pub held : ℤ → ℤ
+held z = cast_signed w64 (cast_unsigned w64 z)
+
+-- a word is held as itself
+pub held_word : (z : ℤ) → IsWord z → held z ≡ z
+held_word z h = to_z-of_z w64 z h
 
 -- ---- residues of the arguments may be taken or left
 
