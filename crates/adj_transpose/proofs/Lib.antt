@@ -2,3 +2,4 @@
 pub mod Variables
 pub mod Fresh
 pub mod Naming
+pub mod Values

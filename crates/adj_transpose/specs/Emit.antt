@@ -2,17 +2,7 @@
 -- Variables are told apart by what they hold; names come by one renaming of the whole.
 use Rattle.std.specs.Prelude.{ℕ, zero, suc, ◌+◌, ℤ, pos, List, [], ◌∷◌, Bool, true, false, ◌||◌, ◌&&◌, if◌then◌else◌, max}
 use Rattle.adj_tree.specs.Code.{Var, plain, shadow, helper, work, temp, Op, plus, minus, times, Term, lit, var, elem, neg, bin, pow, abs, Terms, none, more, Act, assign, runtime, push_word, pop_word, Code, stop, step}
-
-infixr 5 ◌+++◌
-
--- one code after another
-abbrev pub ◌+++◌ : Code → Code → Code
-stop +++ d = d
-(step line a c) +++ d = step line a (c +++ d)
-
--- one statement
-abbrev pub one : ℕ → Act → Code
-one line a = step line a stop
+use Rattle.adj_meaning.specs.Append.{◌+++◌, one}
 
 -- the code where b holds, and nothing elsewhere
 abbrev pub code_if : Bool → Code → Code

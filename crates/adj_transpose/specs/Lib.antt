@@ -2,6 +2,6 @@
 pub mod Fresh
 pub mod Naming
 pub mod Emit
-pub mod Rename
+pub mod Pairs
 pub mod Program
 pub mod Examples

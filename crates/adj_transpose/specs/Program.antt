@@ -3,7 +3,7 @@ use Rattle.std.specs.Prelude.{ℕ, zero, suc, List, [], ◌∷◌, ◌++◌, map
 use Rattle.adj_tree.specs.Code.{Var, plain, shadow, helper, Role, work, temp, name_eq, Declaration, Procedure, Extent, Code}
 use Rattle.adj_transpose.specs.Fresh.{has_name, fresh}
 use Rattle.adj_transpose.specs.Naming.{Named, unit_names, name_in, naming}
-use Rattle.adj_transpose.specs.Rename.{rename}
+use Rattle.adj_meaning.specs.Rename.{rename}
 use Rattle.adj_transpose.specs.Emit.{adjoint_body, works_used, temps_used}
 
 -- ---- the variables of a unit that declares them all
