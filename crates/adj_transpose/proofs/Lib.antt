@@ -3,3 +3,7 @@ pub mod Variables
 pub mod Fresh
 pub mod Naming
 pub mod Values
+pub mod Leads
+pub mod Temps
+pub mod Back
+pub mod Sweeps

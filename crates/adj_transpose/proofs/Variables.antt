@@ -4,6 +4,7 @@ use Rattle.std.specs.Prelude.{◌==◌, ◌&&◌, ◌||◌}
 use Rattle.adj_tree.specs.Code.{Role, role_code, work, temp, control, first, stride, count, turn, entry, entries, kind, lower, upper, Var, plain, shadow, helper, name_eq, var_eq}
 use Rattle.adj_tree.proofs.Names.{nat_same, nat_refl, name_refl, name_same}
 use Rattle.adj_transpose.specs.Fresh.{has_name}
+use Rattle.adj_transpose.specs.Pairs.{Key, key_eq}
 
 pub and_true : (a b : Bool) → (a && b) ≡ true → (a ≡ true) × (b ≡ true)
 and_true true b h = (refl, h)
@@ -68,3 +69,9 @@ name_comm x y h = not_true (name_eq y x) (λ e. let p : name_eq x y ≡ true = s
 -- a name that stands in a list differs from one that doesn't
 pub has_apart : (x y : List ℕ) (ys : List (List ℕ)) → has_name x ys ≡ true → has_name y ys ≡ false → name_eq x y ≡ false
 has_apart x y ys h n = not_true (name_eq x y) (λ e. let p : has_name y ys ≡ true = subst (λ z. has_name z ys ≡ true) (name_same x y e) h in cc)
+
+-- cells that count as the same are the same
+pub key_same : (x y : Key) → key_eq x y ≡ true → x ≡ y
+key_same x y h =
+    let p = and_true (name_eq x.0 y.0) (x.1 == y.1) h in
+    λ i. (name_same x.0 y.0 p.0 i, nat_same x.1 y.1 p.1 i)

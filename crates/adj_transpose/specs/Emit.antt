@@ -137,25 +137,25 @@ adjoint_of t subs e line =
     (one line (assign (shadow t) subs (lit (pos 0))) +++
     code_if (is_active e) (back e 1 1 line))
 
--- the forward sweep of a statement: the value that is overwritten is pushed
-abbrev pub forward_act : ℕ → Act → Code
-forward_act line (assign (plain x) subs e) = step line (runtime (push_word (plain x) subs)) (one line (assign (plain x) subs e))
-forward_act line _ = stop
+-- the forward sweep of a statement in loops of depth d: the value that is overwritten is pushed
+abbrev pub forward_act : ℕ → ℕ → Act → Code
+forward_act d line (assign (plain x) subs e) = step line (runtime (push_word (plain x) subs)) (one line (assign (plain x) subs e))
+forward_act d line _ = stop
 
 -- the forward sweep
-abbrev pub forward : Code → Code
-forward stop = stop
-forward (step line a rest) = forward_act line a +++ forward rest
+abbrev pub forward : ℕ → Code → Code
+forward d stop = stop
+forward d (step line a rest) = forward_act d line a +++ forward d rest
 
 -- the backward sweep of a statement: the value is popped, and then comes the adjoint
-abbrev pub backward_act : ℕ → Act → Code
-backward_act line (assign (plain x) subs e) = step line (runtime (pop_word (plain x) subs)) (adjoint_of x subs e line)
-backward_act line _ = stop
+abbrev pub backward_act : ℕ → ℕ → Act → Code
+backward_act d line (assign (plain x) subs e) = step line (runtime (pop_word (plain x) subs)) (adjoint_of x subs e line)
+backward_act d line _ = stop
 
 -- the backward sweep, which takes the statements from the last to the first
-abbrev pub backward : Code → Code
-backward stop = stop
-backward (step line a rest) = backward rest +++ backward_act line a
+abbrev pub backward : ℕ → Code → Code
+backward d stop = stop
+backward d (step line a rest) = backward d rest +++ backward_act d line a
 
 -- the shadows of these set to 0
 abbrev pub zeros : ℕ → List (List ℕ) → Code
@@ -164,7 +164,7 @@ zeros line (x ∷ xs) = step line (assign (shadow x) none (lit (pos 0))) (zeros 
 
 -- the body of the head's adjoint: the forward sweep, the shadows of what isn't dependent, the backward sweep, and the shadows of what isn't independent
 abbrev pub adjoint_body : ℕ → Code → List (List ℕ) → List (List ℕ) → Code
-adjoint_body line c other_outputs other_inputs = forward c +++ (zeros line other_outputs +++ (backward c +++ zeros line other_inputs))
+adjoint_body line c other_outputs other_inputs = forward 0 c +++ (zeros line other_outputs +++ (backward 0 c +++ zeros line other_inputs))
 
 -- how many work variables and temporaries the adjoints of the assignments use
 abbrev pub works_used : Code → ℕ
