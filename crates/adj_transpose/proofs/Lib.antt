@@ -7,3 +7,6 @@ pub mod Leads
 pub mod Temps
 pub mod Back
 pub mod Sweeps
+pub mod Inversion
+pub mod Straight
+pub mod Head
