@@ -12,3 +12,4 @@ pub mod Written
 pub mod Units
 pub mod Rename
 pub mod Leads
+pub mod Examples
