@@ -10,3 +10,4 @@ pub mod Sweeps
 pub mod Inversion
 pub mod Straight
 pub mod Head
+pub mod Slots

@@ -5,16 +5,8 @@ use Rattle.adj_tree.specs.Code.{Role, role_code, work, temp, control, first, str
 use Rattle.adj_transpose.specs.Fresh.{has_name, digits, fresh, reserved}
 use Rattle.adj_transpose.specs.Naming.{letters, wanted, Named, own, named, unit_names, outside, name_in, naming, begins_outside, AreInside, AreApart, names}
 use Rattle.adj_tree.proofs.Names.{name_refl, name_same}
-use Rattle.adj_transpose.proofs.Variables.{or_false, not_true, name_comm, var_refl, var_same, var_comm, has_apart}
+use Rattle.adj_transpose.proofs.Variables.{or_assoc, or_right, or_false, not_true, name_comm, var_refl, var_same, var_comm, has_apart}
 use Rattle.adj_transpose.proofs.Fresh.{fresh-is_free, fresh-begins, behind-begins}
-
-or_assoc : (a b c : Bool) → ((a || b) || c) ≡ (a || (b || c))
-or_assoc true b c = refl
-or_assoc false b c = refl
-
-or_right : (a b : Bool) → b ≡ true → (a || b) ≡ true
-or_right true b h = refl
-or_right false b h = h
 
 -- ---- a table of names tells apart
 

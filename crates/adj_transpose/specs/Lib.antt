@@ -5,3 +5,5 @@ pub mod Emit
 pub mod Pairs
 pub mod Program
 pub mod Examples
+pub mod Adjoint
+pub mod Straight
