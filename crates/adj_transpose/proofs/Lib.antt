@@ -11,3 +11,4 @@ pub mod Inversion
 pub mod Straight
 pub mod Head
 pub mod Slots
+pub mod Products

@@ -1,7 +1,7 @@
 -- Slots and stores: what a unit of scalars has at its entry and hands out at its end.
 use Rattle.std.proofs.Common.{◌≡◌, ℕ, zero, suc, Bool, true, false, List, [], ◌∷◌, ◌++◌, map, length, refl, sym, ap, ◌∙◌, subst, arith, if◌then◌else◌}
 use Rattle.std.specs.Prelude.{ℤ, pos, ◌==◌, ◌&&◌, ◌||◌, Option, None}
-use Rattle.adj_tree.specs.Code.{Var, plain, shadow, helper, name_eq, var_eq, Extent, Declaration, Procedure}
+use Rattle.adj_tree.specs.Code.{Role, Var, plain, shadow, helper, name_eq, var_eq, Extent, Declaration, Procedure}
 use Rattle.adj_tree.proofs.Names.{nat_same, name_refl, name_same}
 use Rattle.adj_meaning.specs.Numbers.{Numbers, words, duals}
 use Rattle.adj_meaning.specs.Store.{Shape, scalar, Store, set_all, size_of, cells_from}
@@ -12,7 +12,7 @@ use Rattle.adj_transpose.specs.Naming.{Named, name_in, naming, AreApart}
 use Rattle.adj_transpose.specs.Program.{with_shadows}
 use Rattle.adj_transpose.specs.Straight.{AreScalars}
 use Rattle.adj_transpose.specs.Pairs.{Words, tangent_at, with_tangents}
-use Rattle.adj_transpose.specs.Adjoint.{AreAlike, interleaved, every_second, cells_of, side_by_side, with_direction, AreTangents}
+use Rattle.adj_transpose.specs.Adjoint.{AreAlike, interleaved, every_second, cells_of, side_by_side, with_direction, AreTangents, tangents_of}
 use Rattle.adj_transpose.proofs.Variables.{and_true, or_false, or_right}
 
 -- ---- shapes
@@ -121,3 +121,79 @@ given-shadow n [] (v ∷ vs) ws a b y j = absurd a
 given-shadow n (x ∷ xs) [] ws a b y j = absurd a
 given-shadow n (x ∷ xs) (v ∷ vs) [] a b y j = absurd b
 given-shadow n (x ∷ xs) (v ∷ vs) (w ∷ ws) a b y j = ap (λ z. if name_eq y x then w.cells j else z) (given-shadow n xs vs ws a b y j)
+
+many_from_slots : {A C : Type 0} (n : Numbers C) (xs : List A) (vs : List (Slot C)) → AreAsMany xs vs → AreAsMany xs (map (from_slot n) vs)
+many_from_slots n [] [] h = tt
+many_from_slots n [] (v ∷ vs) h = absurd h
+many_from_slots n (x ∷ xs) [] h = absurd h
+many_from_slots n (x ∷ xs) (v ∷ vs) h = many_from_slots n xs vs h
+
+-- what the variables of the text hold in the adjoint's store, and what their shadows
+module _ {C : Type 0} (n : Numbers C) (xs : List (List ℕ)) (input shadows : List (Slot C)) (a : AreAsMany xs input) (b : AreAsMany xs shadows) where
+  pub slots-plain : (y : List ℕ) (j : ℕ) → given_store n (paired xs) (map (from_slot n) (interleaved input shadows)) (plain y) j ≡ entry_store n xs (map (from_slot n) input) (plain y) j
+  slots-plain y j =
+      ap (λ got. given_store n (paired xs) got (plain y) j) (from_slots-interleaved n input shadows)
+      ∙ given-plain n xs (map (from_slot n) input) (map (from_slot n) shadows) (many_from_slots n xs input a) (many_from_slots n xs shadows b) y j
+
+  pub slots-shadow : (y : List ℕ) (j : ℕ) → given_store n (paired xs) (map (from_slot n) (interleaved input shadows)) (shadow y) j ≡ entry_store n xs (map (from_slot n) shadows) (plain y) j
+  slots-shadow y j =
+      ap (λ got. given_store n (paired xs) got (shadow y) j) (from_slots-interleaved n input shadows)
+      ∙ given-shadow n xs (map (from_slot n) input) (map (from_slot n) shadows) (many_from_slots n xs input a) (many_from_slots n xs shadows b) y j
+
+-- ---- the store of a dual run
+
+-- the tangents of the dummies' cells, and 0 elsewhere
+abbrev pub direction : List (List ℕ) → List (Slot ℤ) → List (List ℤ) → Words
+direction xs input d = λ k. (entry_store duals xs (map (from_slot duals) (with_direction input d)) (plain k.0) k.1).1
+
+nth-side : (cs ds : List ℤ) (j : ℕ) → length ds ≡ length cs → (nth_cell duals (side_by_side cs ds) j).0 ≡ nth_cell words cs j
+nth-side [] ds j h = refl
+nth-side (c ∷ cs) [] j h = cc
+nth-side (c ∷ cs) (d ∷ ds) zero h = refl
+nth-side (c ∷ cs) (d ∷ ds) (suc j) h = nth-side cs ds j (cc)
+
+dual_values : (xs : List (List ℕ)) (input : List (Slot ℤ)) (d : List (List ℤ)) → AreTangents input d → (v : Var) (j : ℕ) → (entry_store duals xs (map (from_slot duals) (with_direction input d)) v j).0 ≡ entry_store words xs (map (from_slot words) input) v j
+dual_values [] input d h v j = refl
+dual_values (x ∷ xs) [] d h v j = refl
+dual_values (x ∷ xs) (w ∷ ws) [] h v j = absurd h
+dual_values (x ∷ xs) (w ∷ ws) (t ∷ ts) h v j = go (var_eq v (plain x)) (nth-side w.cells t j h.0) (dual_values xs ws ts h.1 v j)
+  where
+    go : (b : Bool) → (nth_cell duals (side_by_side w.cells t) j).0 ≡ nth_cell words w.cells j → (entry_store duals xs (map (from_slot duals) (with_direction ws ts)) v j).0 ≡ entry_store words xs (map (from_slot words) ws) v j → (if b then nth_cell duals (side_by_side w.cells t) j else entry_store duals xs (map (from_slot duals) (with_direction ws ts)) v j).0 ≡ (if b then nth_cell words w.cells j else entry_store words xs (map (from_slot words) ws) v j)
+    go true here ih = here
+    go false here ih = ih
+
+shadow_none : (xs : List (List ℕ)) (got : List (Actual (ℤ × ℤ))) (y : List ℕ) (j : ℕ) → (entry_store duals xs got (shadow y) j).1 ≡ pos 0
+shadow_none [] got y j = refl
+shadow_none (x ∷ xs) [] y j = refl
+shadow_none (x ∷ xs) (a ∷ got) y j = shadow_none xs got y j
+
+helper_none : (xs : List (List ℕ)) (got : List (Actual (ℤ × ℤ))) (r : Role) (k j : ℕ) → (entry_store duals xs got (helper r k) j).1 ≡ pos 0
+helper_none [] got r k j = refl
+helper_none (x ∷ xs) [] r k j = refl
+helper_none (x ∷ xs) (a ∷ got) r k j = helper_none xs got r k j
+
+-- the dual run begins with the values of the run, and the direction
+pub dual_store : (xs : List (List ℕ)) (input : List (Slot ℤ)) (d : List (List ℤ)) → AreTangents input d → (v : Var) (j : ℕ) → entry_store duals xs (map (from_slot duals) (with_direction input d)) v j ≡ with_tangents (entry_store words xs (map (from_slot words) input)) (direction xs input d) v j
+dual_store xs input d h (plain y) j = λ i. (dual_values xs input d h (plain y) j i, direction xs input d (y, j))
+dual_store xs input d h (shadow y) j = λ i. (dual_values xs input d h (shadow y) j i, shadow_none xs (map (from_slot duals) (with_direction input d)) y j i)
+dual_store xs input d h (helper r k) j = λ i. (dual_values xs input d h (helper r k) j i, helper_none xs (map (from_slot duals) (with_direction input d)) r k j i)
+
+-- ---- the slots at a unit's end
+
+-- one word for each name
+abbrev pub singles : {C : Type 0} → (List ℕ → C) → List (List ℕ) → List (List C)
+singles f [] = []
+singles f (x ∷ xs) = (f x ∷ []) ∷ singles f xs
+
+pub cells-scalars : {C : Type 0} (s : Store C) (xs : List (List ℕ)) → cells_of (map (λ x. slot_of scalar (s (plain x))) xs) ≡ singles (λ x. s (plain x) 0) xs
+cells-scalars s [] = refl
+cells-scalars s (x ∷ xs) = ap (λ z. (s (plain x) 0 ∷ []) ∷ z) (cells-scalars s xs)
+
+-- every second slot is that of a shadow
+pub shadows-second : (s : Store ℤ) (ns : List Named) (xs : List (List ℕ)) → cells_of (every_second (map (λ x. slot_of scalar (s (plain x))) (map (name_in ns) (paired xs)))) ≡ singles (λ x. s (naming ns (shadow x)) 0) xs
+shadows-second s ns [] = refl
+shadows-second s ns (x ∷ xs) = ap (λ z. (s (naming ns (shadow x)) 0 ∷ []) ∷ z) (shadows-second s ns xs)
+
+pub tangents-singles : (s : Store ℤ) (d : Words) (xs : List (List ℕ)) → tangents_of (singles (λ x. with_tangents s d (plain x) 0) xs) ≡ singles (λ x. d (x, 0)) xs
+tangents-singles s d [] = refl
+tangents-singles s d (x ∷ xs) = ap (λ z. (d (x, 0) ∷ []) ∷ z) (tangents-singles s d xs)
