@@ -1,1 +1,7 @@
 pub mod Examples
+pub mod Appends
+pub mod Inversions
+pub mod Leadings
+pub mod Verdicts
+pub mod Longer
+pub mod Costs

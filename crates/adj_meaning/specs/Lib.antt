@@ -12,4 +12,5 @@ pub mod Written
 pub mod Units
 pub mod Rename
 pub mod Leads
+pub mod Laws
 pub mod Examples
