@@ -16,10 +16,11 @@ use Rattle.adj_meaning.specs.Value.{value}
 use Rattle.adj_meaning.specs.Append.{◌+++◌}
 use Rattle.adj_meaning.specs.Run.{Calls}
 use Rattle.adj_meaning.specs.Leads.{Leads}
+use Rattle.adj_meaning.proofs.Leadings.{leads_stop, leads_append}
 use Rattle.adj_transpose.specs.Emit.{is_active, has_own, count_of, temps_in, own_or, code_if, back, work_var}
 use Rattle.adj_transpose.specs.Pairs.{Key, key_eq, Words, shadows, SamePlain, IsOver, on_words}
 use Rattle.adj_transpose.proofs.Variables.{key_same}
-use Rattle.adj_transpose.proofs.Leads.{Kept, scene, leads_stop, leads_append, leads_assign}
+use Rattle.adj_transpose.proofs.Steps.{Kept, scene, assigns}
 use Rattle.adj_transpose.proofs.Values.{num, tan, IsDefined, num_same, tan_same, tan_inactive, defined_same, value_words}
 use Rattle.adj_transpose.proofs.Temps.{SameLoops, HasTemps, OwnHolds, SameBelow, temps_same, value_own}
 
@@ -85,7 +86,7 @@ module _ (q : Calls ℤ) (sh : Var → Shape) (level : ℕ) (base : Kept) (xs : 
   adds_scaled : (line : ℕ) (e : Term) (c : Code) (k : ℕ) (s : Store ℤ) (t : List ℤ) (w : ℤ) (g : Words → ℤ) → value (on_words sh level) e s ≡ Ok w → Adds q sh level base xs c (suc k) (set s (helper work (suc k)) 0 w) t g → Adds q sh level base xs (step line (assign (helper work (suc k)) none e) c) k s t g
   adds_scaled line e c k s t w g v a = record {
     after = a.after;
-    runs = leads_assign q sh level base line (helper work (suc k)) e c s t w (scene base a.after t) v a.runs;
+    runs = assigns q sh level base line (helper work (suc k)) e c s t w (scene base a.after t) v a.runs;
     same = record {
       plains = record { at = λ x i. a.same.plains.at x i };
       temps = λ i. a.same.temps i;
@@ -129,7 +130,7 @@ module _ (q : Calls ℤ) (sh : Var → Shape) (level : ℕ) (base : Kept) (xs : 
         let s1 = set s (shadow x) 0 v in
         record {
           after = s1;
-          runs = leads_assign q sh level base line (shadow x) (bin plus (var (shadow x)) (work_var k)) stop s t v (scene base s1 t) refl (leads_stop q (on_words sh level) (scene base s1 t));
+          runs = assigns q sh level base line (shadow x) (bin plus (var (shadow x)) (work_var k)) stop s t v (scene base s1 t) refl (leads_stop q (on_words sh level) (scene base s1 t));
           same = record { plains = record { at = λ y i. refl }; temps = λ i. refl; works = λ i le. refl; loops = record { at = λ r i c lt. refl } };
           pairs = λ d. pairing-more key_eq key_same xs (shadows s) d (x, 0) (s (helper work k) 0) apart o
         }

@@ -9,11 +9,12 @@ use Rattle.adj_meaning.specs.Append.{◌+++◌}
 use Rattle.adj_meaning.specs.Scene.{Scene, Done}
 use Rattle.adj_meaning.specs.Run.{Calls, run}
 use Rattle.adj_meaning.specs.Leads.{Leads}
+use Rattle.adj_meaning.proofs.Leadings.{leads_stop, leads_append}
 use Rattle.adj_transpose.specs.Fresh.{has_name}
 use Rattle.adj_transpose.specs.Emit.{forward, backward, zeros, adjoint_body}
 use Rattle.adj_transpose.specs.Pairs.{Key, key_eq, Words, shadows, SamePlain, IsStraight, on_words, on_duals}
 use Rattle.adj_transpose.proofs.Variables.{key_same}
-use Rattle.adj_transpose.proofs.Leads.{Kept, scene, leads_stop, leads_append, leads_assign}
+use Rattle.adj_transpose.proofs.Steps.{Kept, scene, assigns}
 use Rattle.adj_transpose.proofs.Sweeps.{dual_scene}
 use Rattle.adj_transpose.proofs.Straight.{transposed}
 
@@ -29,7 +30,7 @@ AreZero (y ∷ ys) d = (d (y, 0) ≡ pos 0) × AreZero ys d
 
 zeros_run : (q : Calls ℤ) (sh : Var → Shape) (level : ℕ) (base : Kept) (line : ℕ) (ys : List (List ℕ)) (s : Store ℤ) (t : List ℤ) → Leads q (on_words sh level) (zeros line ys) (scene base s t) (scene base (cleared ys s) t)
 zeros_run q sh level base line [] s t = leads_stop q (on_words sh level) (scene base s t)
-zeros_run q sh level base line (y ∷ ys) s t = leads_assign q sh level base line (shadow y) (lit (pos 0)) (zeros line ys) s t (pos 0) (scene base (cleared ys (set s (shadow y) 0 (pos 0))) t) refl (zeros_run q sh level base line ys (set s (shadow y) 0 (pos 0)) t)
+zeros_run q sh level base line (y ∷ ys) s t = assigns q sh level base line (shadow y) (lit (pos 0)) (zeros line ys) s t (pos 0) (scene base (cleared ys (set s (shadow y) 0 (pos 0))) t) refl (zeros_run q sh level base line ys (set s (shadow y) 0 (pos 0)) t)
 
 cleared_plain : (ys : List (List ℕ)) (v s : Store ℤ) → SamePlain v s → SamePlain v (cleared ys s)
 cleared_plain [] v s h = h

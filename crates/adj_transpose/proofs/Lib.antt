@@ -3,11 +3,10 @@ pub mod Variables
 pub mod Fresh
 pub mod Naming
 pub mod Values
-pub mod Leads
+pub mod Steps
 pub mod Temps
 pub mod Back
 pub mod Sweeps
-pub mod Inversion
 pub mod Straight
 pub mod Head
 pub mod Slots

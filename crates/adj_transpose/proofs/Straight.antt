@@ -10,9 +10,9 @@ use Rattle.adj_meaning.specs.Scene.{Scene, Done, then_do}
 use Rattle.adj_meaning.specs.Run.{Calls, act, run}
 use Rattle.adj_transpose.specs.Emit.{forward_act, forward, backward_act, backward}
 use Rattle.adj_transpose.specs.Pairs.{Key, key_eq, IsOver, IsStraight, on_words}
-use Rattle.adj_transpose.proofs.Leads.{Kept, scene}
+use Rattle.adj_transpose.proofs.Steps.{Kept, scene}
 use Rattle.adj_transpose.proofs.Values.{num, ok_same, value_words, defined_of}
-use Rattle.adj_transpose.proofs.Inversion.{then_done, value_done, count_done, done_same}
+use Rattle.adj_meaning.proofs.Inversions.{then_done, value_done, count_done, done_same}
 use Rattle.adj_transpose.proofs.Sweeps.{Transposed, transposed_stop, transposed_append, transposed_assign}
 
 module _ (q : Calls ℤ) (qd : Calls (ℤ × ℤ)) (sh : Var → Shape) (level : ℕ) (base : Kept) (xs : List Key) (apart : IsApart key_eq xs) where
@@ -46,7 +46,7 @@ module _ (q : Calls ℤ) (qd : Calls (ℤ × ℤ)) (sh : Var → Shape) (level :
       let a = assign (plain x) none e in
       let r = count_done k (λ j. then_do (act q (on_words sh level) a line (scene base u t) j) (run q (on_words sh level) rest)) s' k' h in
       let m = then_done (act q (on_words sh level) a line (scene base u t) r.left) (run q (on_words sh level) rest) s' k' r.goes in
-      let one_done = assigned d line x e u t r.left m.left m.mid p.0.0 p.0.1 m.first in
+      let one_done = assigned d line x e u t r.left m.left m.scene p.0.0 p.0.1 m.first in
       let others = transposed rest d one_done.after t m.left k' s' p.1 (ap (λ z. run q (on_words sh level) rest z m.left) (sym one_done.is) ∙ m.second) in
       record {
         after = others.after;

@@ -12,10 +12,11 @@ use Rattle.adj_meaning.specs.Append.{◌+++◌, one}
 use Rattle.adj_meaning.specs.Scene.{Scene, Done, with_value}
 use Rattle.adj_meaning.specs.Run.{Calls}
 use Rattle.adj_meaning.specs.Leads.{Leads}
+use Rattle.adj_meaning.proofs.Leadings.{leads_stop, leads_append, leads_step}
 use Rattle.adj_transpose.specs.Emit.{is_active, temps_in, temps, code_if, back, adjoint_of, forward_act, backward_act}
 use Rattle.adj_transpose.specs.Pairs.{Key, key_eq, Words, shadows, with_tangents, SamePlain, IsOver, on_words, on_duals}
 use Rattle.adj_transpose.proofs.Variables.{key_same}
-use Rattle.adj_transpose.proofs.Leads.{Kept, scene, leads_stop, leads_append, leads_step, leads_assign, leads_push, leads_pop}
+use Rattle.adj_transpose.proofs.Steps.{Kept, scene, assigns, pushes, pops}
 use Rattle.adj_transpose.proofs.Values.{num, tan, IsDefined, num_same, tan_same, tan_inactive, defined_same, value_words, value_duals}
 use Rattle.adj_transpose.proofs.Temps.{SameBelow, temps_same, temps_made}
 use Rattle.adj_transpose.proofs.Back.{backs}
@@ -104,7 +105,7 @@ module _ (q : Calls ℤ) (qd : Calls (ℤ × ℤ)) (sh : Var → Shape) (level :
         let s1 = set s (shadow x) 0 (pos 0) in
         record {
           after = s1;
-          runs = leads_assign q sh level base line (shadow x) (lit (pos 0)) stop s t (pos 0) (scene base s1 t) refl (leads_stop q (on_words sh level) (scene base s1 t));
+          runs = assigns q sh level base line (shadow x) (lit (pos 0)) stop s t (pos 0) (scene base s1 t) refl (leads_stop q (on_words sh level) (scene base s1 t));
           plains = record { at = λ y i. refl };
           pairs = λ y.
             sym (wrap-pairing xs (shadows s1) y) ∙ sym (add-zero (pairing xs (shadows s1) y)) ∙ ap (add (pairing xs (shadows s1) y)) (sym (mul-zero (s (shadow x) 0)))
@@ -126,8 +127,8 @@ module _ (q : Calls ℤ) (qd : Calls (ℤ × ℤ)) (sh : Var → Shape) (level :
         record {
           after = b.after;
           runs = leads_append q (on_words sh level) _ _ (scene base s t) (scene base s2 t) (scene base b.after t)
-            (leads_append q (on_words sh level) (temps e 1 line) _ (scene base s t) (scene base s1 t) (scene base s2 t) m.runs (leads_assign q sh level base line (helper work 1) (var (shadow x)) stop s1 t w (scene base s2 t) refl (leads_stop q (on_words sh level) (scene base s2 t))))
-            (leads_assign q sh level base line (shadow x) (lit (pos 0)) (back e 1 1 line) s2 t (pos 0) (scene base b.after t) refl b.runs);
+            (leads_append q (on_words sh level) (temps e 1 line) _ (scene base s t) (scene base s1 t) (scene base s2 t) m.runs (assigns q sh level base line (helper work 1) (var (shadow x)) stop s1 t w (scene base s2 t) refl (leads_stop q (on_words sh level) (scene base s2 t))))
+            (assigns q sh level base line (shadow x) (lit (pos 0)) (back e 1 1 line) s2 t (pos 0) (scene base b.after t) refl b.runs);
           plains = record { at = λ y i. b.same.plains.at y i ∙ m.same.plains.at y i };
           pairs = λ y.
             b.pairs y ∙ ap (λ z. add (pairing xs (shadows s3) y) (mul w z)) (tan_same xs e s s3 y o from)
@@ -180,8 +181,8 @@ module _ (q : Calls ℤ) (qd : Calls (ℤ × ℤ)) (sh : Var → Shape) (level :
           let s1 = set s (plain x) 0 (num e s) in
           record {
             after = s1;
-            runs = leads_push q sh level base line (plain x) (one line (assign (plain x) none e)) s t (u (plain x) 0) (scene base s1 (u (plain x) 0 ∷ t)) (h.at x 0)
-              (leads_assign q sh level base line (plain x) e stop s (u (plain x) 0 ∷ t) (num e s) (scene base s1 (u (plain x) 0 ∷ t)) (value_words sh level xs e s o (defined_same xs e u s o h f)) (leads_stop q (on_words sh level) (scene base s1 (u (plain x) 0 ∷ t))));
+            runs = pushes q sh level base line (plain x) (one line (assign (plain x) none e)) s t (u (plain x) 0) (scene base s1 (u (plain x) 0 ∷ t)) (h.at x 0)
+              (assigns q sh level base line (plain x) e stop s (u (plain x) 0 ∷ t) (num e s) (scene base s1 (u (plain x) 0 ∷ t)) (value_words sh level xs e s o (defined_same xs e u s o h f)) (leads_stop q (on_words sh level) (scene base s1 (u (plain x) 0 ∷ t))));
             plains = set_same u s x (num e u) (num e s) h (num_same xs e u s o h);
             shadows = λ y i. refl;
             depth = record { at = λ r i c lt le. refl }
@@ -192,7 +193,7 @@ module _ (q : Calls ℤ) (qd : Calls (ℤ × ℤ)) (sh : Var → Shape) (level :
           let a = turned apart d x e line s1 t here o (defined_same xs e u s1 o back_at f) in
           record {
             after = a.after;
-            runs = leads_pop q sh level base line (plain x) (adjoint_of x none e line) s t (u (plain x) 0) (scene base a.after t) a.runs;
+            runs = pops q sh level base line (plain x) (adjoint_of x none e line) s t (u (plain x) 0) (scene base a.after t) a.runs;
             plains = record { at = λ y i. a.plains.at y i ∙ back_at.at y i };
             pairs = λ y. a.pairs y ∙ ap (λ z. pairing xs (shadows s) (put key_eq y (x, 0) z)) (tan_same xs e u s1 y o back_at);
             depth = record { at = λ r i c lt le. a.depth.at r i c lt le }

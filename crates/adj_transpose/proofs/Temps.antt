@@ -11,9 +11,10 @@ use Rattle.adj_meaning.specs.Value.{value}
 use Rattle.adj_meaning.specs.Append.{◌+++◌}
 use Rattle.adj_meaning.specs.Run.{Calls}
 use Rattle.adj_meaning.specs.Leads.{Leads}
+use Rattle.adj_meaning.proofs.Leadings.{leads_stop, leads_append}
 use Rattle.adj_transpose.specs.Emit.{has_own, count_of, temps_in, own_or, own_code, shrunk, temps}
 use Rattle.adj_transpose.specs.Pairs.{Key, SamePlain, IsOver, on_words}
-use Rattle.adj_transpose.proofs.Leads.{Kept, scene, leads_stop, leads_append, leads_assign}
+use Rattle.adj_transpose.proofs.Steps.{Kept, scene, assigns}
 use Rattle.adj_transpose.proofs.Values.{num, IsDefined, num_same, defined_same, value_words}
 
 -- the helpers of loops and branches are as they were
@@ -126,7 +127,7 @@ module _ (q : Calls ℤ) (sh : Var → Shape) (level : ℕ) (base : Kept) (xs : 
       let same : SameBelow j s s1 = record { plains = record { at = λ x i. refl }; below = λ i lt. let ne : (i == j) ≡ false = grind arith in rw ne refl } in
       let here : s1 (helper temp j) 0 ≡ num e s = rw (nat_refl j) refl in
       let loops : SameLoops s s1 = record { at = λ r i c lt. let ne : (role_code r == 1) ≡ false = grind arith in rw ne refl } in
-      record { after = s1; runs = leads_assign q sh level base line (helper temp j) e' stop s t (num e s) (scene base s1 t) v (leads_stop q (on_words sh level) (scene base s1 t)); same = same; loops = loops; shadows = λ x i. refl; holds = here ∙ sym (keeps s1 same) }
+      record { after = s1; runs = assigns q sh level base line (helper temp j) e' stop s t (num e s) (scene base s1 t) v (leads_stop q (on_words sh level) (scene base s1 t)); same = same; loops = loops; shadows = λ x i. refl; holds = here ∙ sym (keeps s1 same) }
   own_made false line j e e' s t v keeps = nothing_made j s t
 
   makes_append : (c d : Code) (j j' : ℕ) (s : Store ℤ) (t : List ℤ) (Q R : Store ℤ → Type 0) → j ≤ j' → Makes q sh level base c j s t Q → ((s1 : Store ℤ) → SamePlain s s1 → Q s1 → Makes q sh level base d j' s1 t R) → ((s1 s2 : Store ℤ) → SameBelow j' s1 s2 → Q s1 → Q s2) → Makes q sh level base (c +++ d) j s t (λ s'. Q s' × R s')
