@@ -44,7 +44,7 @@ cleared_same : (ys : List (List ℕ)) (s s' : Store ℤ) → ((x : List ℕ) (i 
 cleared_same [] s s' h x i = h x i
 cleared_same (y ∷ ys) s s' h x i = cleared_same ys (set s (shadow y) 0 (pos 0)) (set s' (shadow y) 0 (pos 0)) (λ z j. λ k. if name_eq z y && (j == 0) then pos 0 else h z j k) x i
 
-cleared_zero : (ys : List (List ℕ)) (s : Store ℤ) (x : List ℕ) → s (shadow x) 0 ≡ pos 0 → cleared ys s (shadow x) 0 ≡ pos 0
+pub cleared_zero : (ys : List (List ℕ)) (s : Store ℤ) (x : List ℕ) → s (shadow x) 0 ≡ pos 0 → cleared ys s (shadow x) 0 ≡ pos 0
 cleared_zero [] s x h = h
 cleared_zero (y ∷ ys) s x h = cleared_zero ys (set s (shadow y) 0 (pos 0)) x (go (name_eq x y))
   where
@@ -52,7 +52,7 @@ cleared_zero (y ∷ ys) s x h = cleared_zero ys (set s (shadow y) 0 (pos 0)) x (
     go true = refl
     go false = h
 
-is_cleared : (ys : List (List ℕ)) (s : Store ℤ) (x : List ℕ) → has_name x ys ≡ true → cleared ys s (shadow x) 0 ≡ pos 0
+pub is_cleared : (ys : List (List ℕ)) (s : Store ℤ) (x : List ℕ) → has_name x ys ≡ true → cleared ys s (shadow x) 0 ≡ pos 0
 is_cleared [] s x h = cc
 is_cleared (y ∷ ys) s x h = go (is_cleared ys (set s (shadow y) 0 (pos 0)) x) (name_eq x y) refl h
   where
@@ -61,17 +61,18 @@ is_cleared (y ∷ ys) s x h = go (is_cleared ys (set s (shadow y) 0 (pos 0)) x) 
     go ih false e h = ih h
 
 -- what the body of the head's adjoint does, from a store s with the values of u, where the head goes from u to u'
-pub record Reverses (q : Calls ℤ) (qd : Calls (ℤ × ℤ)) (sh : Var → Shape) (level : ℕ) (base : Kept) (xs : List Key) (line : ℕ) (c : Code) (out into : List (List ℕ)) (u u' s : Store ℤ) : Type 0 where
+pub record Reverses (q : Calls ℤ) (qd : Calls (ℤ × ℤ)) (sh : Var → Shape) (level : ℕ) (base home : Kept) (xs : List Key) (line : ℕ) (c : Code) (out into : List (List ℕ)) (u u' s : Store ℤ) : Type 0 where
   pub end : Store ℤ
   pub runs : Leads q (on_words sh level) (adjoint_body line c out into) (scene base s []) (scene base end [])
   pub change : Words → Words
-  pub dual : (dx : Words) → Leads qd (on_duals sh level) c (dual_scene base u dx []) (dual_scene base u' (change dx) [])
+  pub dual : (dx : Words) → Leads qd (on_duals sh level) c (dual_scene home u dx []) (dual_scene home u' (change dx) [])
   pub products : (dx : Words) → AreZero into dx → pairing xs (shadows end) dx ≡ pairing xs (shadows (cleared out s)) (change dx)
   pub others : (x : List ℕ) → has_name x into ≡ true → end (shadow x) 0 ≡ pos 0
 
-pub reverses : (q : Calls ℤ) (qd : Calls (ℤ × ℤ)) (sh : Var → Shape) (level : ℕ) (base : Kept) (xs : List Key) → IsApart key_eq xs → (line : ℕ) (c : Code) (out into : List (List ℕ)) (u s : Store ℤ) (k k' : ℕ) (s' : Scene ℤ) → IsStraight xs c → run q (on_words sh level) c (scene base u []) k ≡ Done s' k' → SamePlain u s → Reverses q qd sh level base xs line c out into u s'.store s
-reverses q qd sh level base xs apart line c out into u s k k' s' p h same =
-    let w = transposed q qd sh level base xs apart c 0 u [] k k' s' p h in
+-- where the head was run with calls p and kept `start`
+pub reverses : (p : Calls ℤ) (start : Kept) (q : Calls ℤ) (qd : Calls (ℤ × ℤ)) (sh : Var → Shape) (level : ℕ) (base home : Kept) (xs : List Key) → IsApart key_eq xs → (line : ℕ) (c : Code) (out into : List (List ℕ)) (u s : Store ℤ) (k k' : ℕ) (s' : Scene ℤ) → IsStraight xs c → run p (on_words sh level) c (scene start u []) k ≡ Done s' k' → SamePlain u s → Reverses q qd sh level base home xs line c out into u s'.store s
+reverses p start q qd sh level base home xs apart line c out into u s k k' s' o h same =
+    let w = transposed p start q qd sh level base home xs apart c 0 u [] k k' s' o h in
     let m = w.sweeps in
     let g = m.goes s [] same in
     let s1 = cleared out g.after in
@@ -79,7 +80,7 @@ reverses q qd sh level base xs apart line c out into u s k k' s' p h same =
     let s2 = cleared into b.after in
     let tape = m.trail ++ [] in
     let sh1 : shadows s1 ≡ shadows (cleared out s) = λ i x. cleared_same out s g.after g.shadows x.0 x.1 i in
-    subst (λ u'. Reverses q qd sh level base xs line c out into u u' s) (ap (λ (z : Scene ℤ). z.store) (sym w.is)) (record {
+    subst (λ u'. Reverses q qd sh level base home xs line c out into u u' s) (ap (λ (z : Scene ℤ). z.store) (sym w.is)) (record {
       end = s2;
       runs = leads_append q (on_words sh level) (forward 0 c) (zeros line out +++ (backward 0 c +++ zeros line into)) (scene base s []) (scene base g.after tape) (scene base s2 []) g.runs
         (leads_append q (on_words sh level) (zeros line out) (backward 0 c +++ zeros line into) (scene base g.after tape) (scene base s1 tape) (scene base s2 []) (zeros_run q sh level base line out g.after tape)

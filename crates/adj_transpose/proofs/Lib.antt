@@ -11,3 +11,6 @@ pub mod Straight
 pub mod Head
 pub mod Slots
 pub mod Products
+pub mod Renaming
+pub mod Units
+pub mod Adjoints

@@ -45,31 +45,31 @@ pub record Turns (q : Calls ℤ) (sh : Var → Shape) (level : ℕ) (base : Kept
   pub pairs : (x : Words) → pairing xs (shadows after) x ≡ pairing xs (shadows s) (change x)
   pub depth : SameDepth d s after
 
--- the code takes the values u to u', f and b are its sweeps
-pub record Transposed (q : Calls ℤ) (qd : Calls (ℤ × ℤ)) (sh : Var → Shape) (level : ℕ) (base : Kept) (xs : List Key) (d : ℕ) (c f b : Code) (u u' : Store ℤ) : Type 0 where
+-- the code takes the values u to u', f and b are its sweeps; `base` is what they keep, and `home` what the code keeps
+pub record Transposed (q : Calls ℤ) (qd : Calls (ℤ × ℤ)) (sh : Var → Shape) (level : ℕ) (base home : Kept) (xs : List Key) (d : ℕ) (c f b : Code) (u u' : Store ℤ) : Type 0 where
   pub trail : List ℤ
   pub change : Words → Words
-  pub dual : (x : Words) (t : List (ℤ × ℤ)) → Leads qd (on_duals sh level) c (dual_scene base u x t) (dual_scene base u' (change x) t)
+  pub dual : (x : Words) (t : List (ℤ × ℤ)) → Leads qd (on_duals sh level) c (dual_scene home u x t) (dual_scene home u' (change x) t)
   pub goes : (s : Store ℤ) (t : List ℤ) → SamePlain u s → Goes q sh level base d f s t (trail ++ t) u'
   pub turns : (s : Store ℤ) (t : List ℤ) → SamePlain u' s → Turns q sh level base xs d b s (trail ++ t) t u change
 
-module _ (q : Calls ℤ) (qd : Calls (ℤ × ℤ)) (sh : Var → Shape) (level : ℕ) (base : Kept) (xs : List Key) where
+module _ (q : Calls ℤ) (qd : Calls (ℤ × ℤ)) (sh : Var → Shape) (level : ℕ) (base home : Kept) (xs : List Key) where
   -- nothing
-  pub transposed_stop : (d : ℕ) (u : Store ℤ) → Transposed q qd sh level base xs d stop stop stop u u
+  pub transposed_stop : (d : ℕ) (u : Store ℤ) → Transposed q qd sh level base home xs d stop stop stop u u
   transposed_stop d u = record {
     trail = [];
     change = λ x. x;
-    dual = λ x t. leads_stop qd (on_duals sh level) (dual_scene base u x t);
+    dual = λ x t. leads_stop qd (on_duals sh level) (dual_scene home u x t);
     goes = λ s t h. record { after = s; runs = leads_stop q (on_words sh level) (scene base s t); plains = h; shadows = λ x i. refl; depth = record { at = λ r i c lt le. refl } };
     turns = λ s t h. record { after = s; runs = leads_stop q (on_words sh level) (scene base s t); plains = h; pairs = λ x. refl; depth = record { at = λ r i c lt le. refl } }
   }
 
   -- one after another: the backward sweeps in the other order
-  pub transposed_append : (d : ℕ) (c1 c2 f1 f2 b1 b2 : Code) (u u1 u2 : Store ℤ) → Transposed q qd sh level base xs d c1 f1 b1 u u1 → Transposed q qd sh level base xs d c2 f2 b2 u1 u2 → Transposed q qd sh level base xs d (c1 +++ c2) (f1 +++ f2) (b2 +++ b1) u u2
+  pub transposed_append : (d : ℕ) (c1 c2 f1 f2 b1 b2 : Code) (u u1 u2 : Store ℤ) → Transposed q qd sh level base home xs d c1 f1 b1 u u1 → Transposed q qd sh level base home xs d c2 f2 b2 u1 u2 → Transposed q qd sh level base home xs d (c1 +++ c2) (f1 +++ f2) (b2 +++ b1) u u2
   transposed_append d c1 c2 f1 f2 b1 b2 u u1 u2 m1 m2 = record {
     trail = m2.trail ++ m1.trail;
     change = λ x. m2.change (m1.change x);
-    dual = λ x t. leads_append qd (on_duals sh level) c1 c2 (dual_scene base u x t) (dual_scene base u1 (m1.change x) t) (dual_scene base u2 (m2.change (m1.change x)) t) (m1.dual x t) (m2.dual (m1.change x) t);
+    dual = λ x t. leads_append qd (on_duals sh level) c1 c2 (dual_scene home u x t) (dual_scene home u1 (m1.change x) t) (dual_scene home u2 (m2.change (m1.change x)) t) (m1.dual x t) (m2.dual (m1.change x) t);
     goes = λ s t h.
       let g1 = m1.goes s t h in
       let g2 = m2.goes g1.after (m1.trail ++ t) g1.plains in
@@ -166,7 +166,7 @@ module _ (q : Calls ℤ) (qd : Calls (ℤ × ℤ)) (sh : Var → Shape) (level :
       go y i true e r = ap (λ (z : Key). u (plain z.0) z.1) (sym (key_same (y, i) (x, 0) e))
       go y i false e r = r
 
-  pub transposed_assign : IsApart key_eq xs → (d line : ℕ) (x : List ℕ) (e : Term) (u : Store ℤ) → stands_in key_eq (x, 0) xs ≡ true → IsOver xs e → IsDefined e u → Transposed q qd sh level base xs d (one line (assign (plain x) none e)) (forward_act d line (assign (plain x) none e)) (backward_act d line (assign (plain x) none e)) u (set u (plain x) 0 (num e u))
+  pub transposed_assign : IsApart key_eq xs → (d line : ℕ) (x : List ℕ) (e : Term) (u : Store ℤ) → stands_in key_eq (x, 0) xs ≡ true → IsOver xs e → IsDefined e u → Transposed q qd sh level base home xs d (one line (assign (plain x) none e)) (forward_act d line (assign (plain x) none e)) (backward_act d line (assign (plain x) none e)) u (set u (plain x) 0 (num e u))
   transposed_assign apart d line x e u here o f =
       let u1 = set u (plain x) 0 (num e u) in
       record {
@@ -174,9 +174,9 @@ module _ (q : Calls ℤ) (qd : Calls (ℤ × ℤ)) (sh : Var → Shape) (level :
         change = λ y. put key_eq y (x, 0) (tan e u y);
         dual = λ y t.
           let same : set (with_tangents u y) (plain x) 0 (num e u, tan e u y) ≡ with_tangents u1 (put key_eq y (x, 0) (tan e u y)) = λ i w j. set_both u y x (num e u) (tan e u y) w j i in
-          leads_step qd (on_duals sh level) line (assign (plain x) none e) stop (dual_scene base u y t) (dual_scene base u1 (put key_eq y (x, 0) (tan e u y)) t) (dual_scene base u1 (put key_eq y (x, 0) (tan e u y)) t)
-            (λ k. ap (λ o. with_value o line (λ w. Done (scene base (set (with_tangents u y) (plain x) 0 w) t) k)) (value_duals sh level xs e u y o f) ∙ ap (λ (st : Store (ℤ × ℤ)). Done (scene base st t) k) same)
-            (leads_stop qd (on_duals sh level) (dual_scene base u1 (put key_eq y (x, 0) (tan e u y)) t));
+          leads_step qd (on_duals sh level) line (assign (plain x) none e) stop (dual_scene home u y t) (dual_scene home u1 (put key_eq y (x, 0) (tan e u y)) t) (dual_scene home u1 (put key_eq y (x, 0) (tan e u y)) t)
+            (λ k. ap (λ o. with_value o line (λ w. Done (scene home (set (with_tangents u y) (plain x) 0 w) t) k)) (value_duals sh level xs e u y o f) ∙ ap (λ (st : Store (ℤ × ℤ)). Done (scene home st t) k) same)
+            (leads_stop qd (on_duals sh level) (dual_scene home u1 (put key_eq y (x, 0) (tan e u y)) t));
         goes = λ s t h.
           let s1 = set s (plain x) 0 (num e s) in
           record {
