@@ -5,3 +5,6 @@ pub mod Leadings
 pub mod Verdicts
 pub mod Longer
 pub mod Costs
+pub mod SeenValues
+pub mod SeenRuns
+pub mod SeenCalls
