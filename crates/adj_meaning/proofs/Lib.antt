@@ -8,3 +8,5 @@ pub mod Costs
 pub mod SeenValues
 pub mod SeenRuns
 pub mod SeenCalls
+pub mod Renamed
+pub mod Projected

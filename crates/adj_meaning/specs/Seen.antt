@@ -5,6 +5,7 @@ use Rattle.adj_meaning.specs.Numbers.{Numbers}
 use Rattle.adj_meaning.specs.Store.{Store}
 use Rattle.adj_meaning.specs.Value.{Setting}
 use Rattle.adj_meaning.specs.Scene.{Scene, Outcome, Done, then_do}
+use Rattle.adj_meaning.specs.Units.{Slot, Output}
 
 -- ---- other names
 
@@ -50,3 +51,15 @@ seen_scene r h s = record { store = seen r h s.store; tape = map h s.tape; opene
 
 abbrev pub seen_outcome : {C D : Type 0} → (Var → Var) → (C → D) → Outcome (Scene C) → Outcome (Scene D)
 seen_outcome r h o = then_do o (λ s k. Done (seen_scene r h s) k)
+
+-- ---- units of a program over other numbers
+
+abbrev pub slot_seen : {C D : Type 0} → (C → D) → Slot C → Slot D
+slot_seen h v = record { shape = v.shape; cells = map h v.cells }
+
+abbrev pub output_seen : {C D : Type 0} → (C → D) → Output C → Output D
+output_seen h out = record { slots = map (slot_seen h) out.slots; tape = map h out.tape; events = out.events }
+
+-- how a run ends, over other numbers
+abbrev pub ending_seen : {C D : Type 0} → (C → D) → Outcome (Output C) → Outcome (Output D)
+ending_seen h o = then_do o (λ out used. Done (output_seen h out) used)
