@@ -1,12 +1,12 @@
 -- The dot product is symmetric and linear on both sides.
-use Rattle.std.proofs.Common.{◌≡◌, ℕ, zero, suc, ◌+◌, ◌<◌, List, [], ◌∷◌, ◌++◌, length, get_or, set, map, replicate, arith, refl, ap, ◌∙◌, sym, inl, inr, ◌⊎◌}
-use Rattle.std.specs.Prelude.{ℤ, pos, ◌+ℤ◌, ◌-ℤ◌, ◌*ℤ◌}
+use Rattle.std.proofs.Common.{◌≡◌, ℕ, zero, suc, ◌<◌, List, [], ◌∷◌, ◌++◌, length, get_or, set, replicate, arith, refl, ap, ◌∙◌, sym, inl, inr, ◌⊎◌}
+use Rattle.std.specs.Prelude.{ℤ, pos, ◌+ℤ◌, ◌*ℤ◌}
 use Rattle.std.proofs.lemmas.Int.{ints}
 use lib.IntN.{*ℤ_comm}
-use Rattle.adj_word.specs.Word.{wrap, IsWord, add, sub, mul, negated}
+use Rattle.adj_word.specs.Word.{wrap, IsWord, add, sub, mul}
 use Rattle.adj_word.specs.Dot.{sum_of_products, dot, added, scaled}
 use Rattle.adj_word.proofs.Integers.{zero-mul_ℤ, sub-mul_ℤ, mul-sub_ℤ}
-use Rattle.adj_word.proofs.Residues.{residues, held, held_word, add-zero_word, word-wrap, wrap-wrap, wrap-zero, wrap-add_left, wrap-add_right, wrap-mul_left, add-zero, zero-add, add-add, add_assoc, add_comm, mul_comm, mul_assoc, mul-add, add-mul, mul-zero, zero-mul, negated-mul, negated-add, negated-zero}
+use Rattle.adj_word.proofs.Residues.{residues, held, held_word, add-zero_word, word-wrap, wrap-wrap, wrap-zero, wrap-mul_left, add-zero, zero-add, add-add, add_assoc, mul_comm, mul_assoc, mul-add, add-mul, mul-zero, zero-mul}
 
 -- ---- one pair more
 

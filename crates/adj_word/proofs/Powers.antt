@@ -1,13 +1,13 @@
 -- Powers of words.
-use Rattle.std.proofs.Common.{◌≡◌, ℕ, zero, suc, ◌+◌, ◌*◌, ◌%◌, ◌^◌, ◌<◌, rules, refl, ap, ◌∙◌, sym}
-use Rattle.std.specs.Prelude.{ℤ, pos, ◌*ℤ◌}
+use Rattle.std.proofs.Common.{◌≡◌, ℕ, zero, suc, ◌%◌, ◌^◌, ◌<◌, rules, refl, ap, ◌∙◌, sym}
+use Rattle.std.specs.Prelude.{ℤ, pos}
 use Rattle.std.specs.Int.{w64, cast_signed, cast_unsigned, int_wrapping_pow}
 use Rattle.std.proofs.Math.Nat.{pow-zero, pow-suc}
 use Rattle.std.proofs.lemmas.Nat.{mul-mod_first}
 use Rattle.std.proofs.lemmas.Int.{wrapping_mul_onto}
 use Rattle.adj_word.specs.Word.{wrap, IsWord, mul, raised, power}
 use Rattle.adj_word.proofs.Integers.{one-mul_ℤ}
-use Rattle.adj_word.proofs.Residues.{held, held_word, word-wrap, wrap-one, wrap-mul_left, wrap-mul_right, mul_assoc, mul-one}
+use Rattle.adj_word.proofs.Residues.{held, held_word, word-wrap, wrap-one, wrap-mul_left, wrap-mul_right}
 
 pub power-zero : (z : ℤ) → power z 0 ≡ pos 1
 power-zero z = wrap-one

@@ -1,12 +1,12 @@
 -- Quotients cut towards zero, what they leave, and the bits that they are held in.
-use Rattle.std.proofs.Common.{◌≡◌, ℕ, zero, suc, ◌+◌, ◌*◌, ◌<◌, ◌≤◌, ◌^◌, ◌/◌, ◌%◌, arith, refl, ap, ◌∙◌, sym, subst}
-use Rattle.std.specs.Prelude.{ℤ, pos, negsuc, neg_ℤ, ◌+ℤ◌, ◌-ℤ◌, ◌*ℤ◌, int_div, int_rem, unsigned_abs}
-use Rattle.std.specs.Int.{int_wrap, w64, cast_signed, cast_unsigned}
+use Rattle.std.proofs.Common.{◌≡◌, ℕ, zero, suc, ◌<◌, ◌≤◌, ◌^◌, ◌/◌, arith, refl, ap, ◌∙◌, sym}
+use Rattle.std.specs.Prelude.{ℤ, pos, negsuc, neg_ℤ, ◌-ℤ◌, ◌*ℤ◌, int_div, int_rem, unsigned_abs}
+use Rattle.std.specs.Int.{int_wrap, w64, cast_signed}
 use Rattle.std.specs.Int.Signed.{nat_abs-le, mag_rem}
 use Rattle.std.proofs.Math.Nat.{div-le_self, mod-eq_of_lt}
 use Rattle.std.proofs.lemmas.Int.{ints, quot-rem}
-use Rattle.adj_word.specs.Word.{wrap, IsWord, sub, mul, quotient, remainder}
-use Rattle.adj_word.proofs.Residues.{held, held_word, word-wrap, wrap_word, wrap-mul_left, wrap-sub_right}
+use Rattle.adj_word.specs.Word.{wrap, IsWord, add, sub, mul, quotient, remainder}
+use Rattle.adj_word.proofs.Residues.{held, held_word, word-wrap, wrap_word, wrap-mul_left, wrap-sub_right, add_comm, sub-add}
 
 abs-neg : (n : ℕ) → unsigned_abs (neg_ℤ (pos n)) ≡ n
 abs-neg zero = refl
@@ -53,3 +53,7 @@ quotient_held a b r f g is =
 pub remainder_held : (a b r : ℤ) → IsWord a → IsWord b → r ≡ int_rem (held a) (held b) → held r ≡ remainder a b
 remainder_held a b r f g is =
     ap held (is ∙ (λ i. int_rem (held_word a f i) (held_word b g i))) ∙ held_word (int_rem a b) (word-remainder a b f) ∙ sym (remainder_is a b f)
+
+-- the quotient's multiple and the remainder make the dividend
+pub quotient-remainder : (a b : ℤ) → IsWord a → add (mul (quotient a b) b) (remainder a b) ≡ a
+quotient-remainder a b h = add_comm (mul (quotient a b) b) (remainder a b) ∙ sub-add a (mul (quotient a b) b) ∙ wrap_word a h

@@ -1,8 +1,8 @@
 -- Words are a commutative ring under `add`, `mul` and `negated`.
 -- A law that gives back an argument has two forms: for every integer it gives its residue, and for a word the word itself.
-use Rattle.std.proofs.Common.{◌≡◌, arith, rules, refl, ap, ◌∙◌, sym}
-use Rattle.std.specs.Prelude.{ℤ, pos, neg_ℤ, ◌+ℤ◌, ◌-ℤ◌, ◌*ℤ◌}
-use Rattle.std.specs.Int.{int_wrap, w64, cast_signed, cast_unsigned}
+use Rattle.std.proofs.Common.{◌≡◌, arith, rules, ap, ◌∙◌, sym}
+use Rattle.std.specs.Prelude.{ℤ, pos, neg_ℤ, ◌+ℤ◌, ◌-ℤ◌}
+use Rattle.std.specs.Int.{w64, cast_signed, cast_unsigned}
 use Rattle.std.proofs.lemmas.Int.{ints, to_z-of_z, int_wrap_fits, SFits-int_wrap, int_wrap-add_left, int_wrap-add_right, int_wrap-sub_right, int_wrap-mul_left, int_wrap-mul_right}
 use lib.IntN.{*ℤ_comm, +ℤ_comm, +ℤ_idl, +ℤ_idr}
 use Rattle.adj_word.specs.Word.{wrap, IsWord, add, sub, mul, negated}

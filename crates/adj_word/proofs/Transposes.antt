@@ -1,11 +1,11 @@
 -- What the transposition of each operation needs: a share w of the result's adjoint, times the tangent of the result,
 -- is the sum of the operands' adjoints times their tangents. p is what was there before.
-use Rattle.std.proofs.Common.{◌≡◌, ℕ, arith, refl, ap, ◌∙◌, sym}
-use Rattle.std.specs.Prelude.{ℤ, ◌+ℤ◌, ◌*ℤ◌}
+use Rattle.std.proofs.Common.{◌≡◌, ℕ, arith, ap, ◌∙◌}
+use Rattle.std.specs.Prelude.{ℤ, ◌*ℤ◌}
 use Rattle.std.proofs.lemmas.Int.{ints}
 use lib.IntN.{*ℤ_comm}
 use Rattle.adj_word.specs.Word.{wrap, add, sub, mul, negated, power}
-use Rattle.adj_word.proofs.Integers.{mul-add_ℤ, add-mul_ℤ, mul_assoc_ℤ, neg-mul_ℤ, mul-neg_ℤ, mul-sub_ℤ}
+use Rattle.adj_word.proofs.Integers.{mul-add_ℤ, add-mul_ℤ, mul_assoc_ℤ, neg-mul_ℤ, mul-sub_ℤ}
 use Rattle.adj_word.proofs.Residues.{residues, mul_assoc, negated-mul_swap}
 
 -- the operands of a sum

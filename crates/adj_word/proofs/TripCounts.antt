@@ -1,12 +1,12 @@
 -- How often loops turn.
-use Rattle.std.proofs.Common.{◌≡◌, ◌≢◌, ℕ, zero, suc, ◌+◌, ◌-◌, ◌<◌, ◌≤◌, ◌^◌, ◌/◌, arith, rules, refl, ap, ◌∙◌, sym, subst}
+use Rattle.std.proofs.Common.{◌≡◌, ◌≢◌, ℕ, ◌<◌, ◌^◌, arith, refl, ap, ◌∙◌, sym, subst}
 use Rattle.std.specs.Prelude.{ℤ, pos, negsuc, ◌+ℤ◌, ◌-ℤ◌, ◌≤ℤ◌, int_div, unsigned_abs, Result, Ok, Err, OkIff}
 use Rattle.std.specs.Result.{result_unwrap_or}
-use Rattle.std.specs.Int.{w64, w128, cast_signed, cast_unsigned}
+use Rattle.std.specs.Int.{w128, cast_signed, cast_unsigned}
 use Rattle.std.specs.Int.RustNames.{FitsSigned}
 use Rattle.std.proofs.lemmas.Int.{ints, to_z-of_z, fits_signed_from_abs}
-use Rattle.adj_word.specs.Word.{IsWord, at_least_zero, trip_count, add, sub}
-use Rattle.adj_word.proofs.Residues.{held, wrap_word}
+use Rattle.adj_word.specs.Word.{IsWord, at_least_zero, trip_count}
+use Rattle.adj_word.proofs.Residues.{held}
 use Rattle.adj_word.proofs.Quotients.{abs-quotient}
 
 -- ---- the code's count

@@ -44,7 +44,11 @@ pub fn pow(base: i64, e: u32) -> i64
 pub fn quot(a: i64, b: i64) -> Option<i64>
     ensures { MatchOption result (b ≡ pos 0) (λ q. (b ≢ pos 0) × (q ≡ Word.quotient a b)) }
 {
-    if b == 0 { None } else { Some(a.wrapping_div(b)) }
+    if b == 0 {
+        None
+    } else {
+        Some(a.wrapping_div(b))
+    }
 }
 
 /// What `quot` leaves of `a`, with the sign of `a`, or `None` for `b = 0`.
@@ -53,7 +57,11 @@ pub fn quot(a: i64, b: i64) -> Option<i64>
 pub fn rem(a: i64, b: i64) -> Option<i64>
     ensures { MatchOption result (b ≡ pos 0) (λ r. (b ≢ pos 0) × (r ≡ Word.remainder a b)) }
 {
-    if b == 0 { None } else { Some(a.wrapping_rem(b)) }
+    if b == 0 {
+        None
+    } else {
+        Some(a.wrapping_rem(b))
+    }
 }
 
 /// How often a DO loop from `m1` to `m2` by `m3` turns, or `None` for `m3 = 0`.

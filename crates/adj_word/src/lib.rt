@@ -6,6 +6,11 @@
 
 mod arithmetic;
 mod dots;
+mod laws;
 
 pub use arithmetic::{add, mul, neg, pow, quot, rem, sub, trips};
 pub use dots::dot;
+pub use laws::{dot_laws, pairing_laws, quotient_laws, ring_laws};
+
+#[cfg(test)]
+mod tests;

@@ -2,7 +2,7 @@
 use Rattle.std.proofs.Common.{◌≡◌, ◌⊎◌, length, rules, ap, ◌∙◌, inl, inr}
 use Rattle.std.specs.Slice.Iter.{iter_rest}
 use Rattle.std.specs.Int.{w64, cast_signed}
-use Rattle.adj_word.specs.Word.{IsWord, add}
+use Rattle.adj_word.specs.Word.{IsWord}
 use Rattle.adj_word.specs.Dot.{dot}
 use Rattle.adj_word.proofs.Residues.{zero-add}
 use Rattle.adj_word.proofs.DotProducts.{dot_turn, dot_end, wrap-dot}
