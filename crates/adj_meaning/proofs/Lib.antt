@@ -5,3 +5,8 @@ pub mod Leadings
 pub mod Verdicts
 pub mod Longer
 pub mod Costs
+pub mod SeenValues
+pub mod SeenRuns
+pub mod SeenCalls
+pub mod Renamed
+pub mod Projected
