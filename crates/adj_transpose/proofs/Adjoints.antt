@@ -14,7 +14,9 @@ use Rattle.adj_meaning.specs.Run.{Calls, run}
 use Rattle.adj_meaning.specs.Leads.{Leads}
 use Rattle.adj_meaning.specs.Written.{find_unit}
 use Rattle.adj_meaning.specs.Units.{Slot, Actual, Output, from_slot, entry_store, slot_of, input_store, calls_of, fits, run_unit}
+use Rattle.adj_meaning.specs.Seen.{Separates, pulled, pulled_scene, pulled_outcome}
 use Rattle.adj_meaning.proofs.Inversions.{done_same}
+use Rattle.adj_meaning.proofs.Renamed.{run_renamed}
 use Rattle.adj_transpose.specs.Fresh.{has_name}
 use Rattle.adj_transpose.specs.Naming.{Named, name_in, naming, AreApart}
 use Rattle.adj_transpose.specs.Emit.{adjoint_body}
@@ -29,7 +31,6 @@ use Rattle.adj_transpose.proofs.Head.{cleared, AreZero, Reverses, reverses, clea
 use Rattle.adj_transpose.proofs.Slots.{AreSingle, AreAsMany, fits_single, single_alike, many_alike, given_store, paired, with_shadows-named, entry_store-named, slots-plain, slots-shadow, direction, dual_store, singles, cells-scalars, shadows-second, tangents-singles}
 use Rattle.adj_transpose.proofs.Products.{keys-apart, pairing-behind, pairing-product, product_comm, others_zero, zero_others, marked-same, given_words, given_direction}
 use Rattle.adj_transpose.proofs.Units.{scalars, kept_in, output_at, BodyDone, body_done, ends, adjoint-scalars, adjoint-separates, adjoint-own}
-use Rattle.adj_transpose.proofs.Renaming.{Separates, pulled, pulled_scene, pulled_outcome, Carries, RunRenamed}
 
 -- ---- lists of names
 
@@ -94,7 +95,7 @@ pulled_done r Full s k h = cc
 
 -- ---- one run of the adjoint
 
-module _ (run_renamed : RunRenamed) (ps : List Procedure) (u : Procedure) (good : IsStraightUnit u) (vars outvars : List Bool) (input given : List (Slot ℤ)) (fit : fits words u input ≡ true) (alike : AreAlike input given) (k used : ℕ) (output : Output ℤ) (done : run_unit words ps u input [] None k ≡ Done output used) where
+module _ (ps : List Procedure) (u : Procedure) (good : IsStraightUnit u) (vars outvars : List Bool) (input given : List (Slot ℤ)) (fit : fits words u input ≡ true) (alike : AreAlike input given) (k used : ℕ) (output : Output ℤ) (done : run_unit words ps u input [] None k ≡ Done output used) where
   abbrev ns : List Named
   ns = adjoint_names ps u
 
@@ -150,16 +151,16 @@ module _ (run_renamed : RunRenamed) (ps : List Procedure) (u : Procedure) (good 
   body = body_done words ps u input good.scalars k used output done
 
   -- what the body of the adjoint does, under its own names
-  reversed : Reverses (calls_of ps 0) (calls_of ps 0) (λ x. scalar) 1 (kept_in a) (kept_in u) (keys (variables u)) u.line u.body other_outputs other_inputs before body.end.store start
+  reversed : Reverses (calls_of qs 0) (calls_of ps 0) (λ x. scalar) 1 (kept_in a) (kept_in u) (keys (variables u)) u.line u.body other_outputs other_inputs before body.end.store start
   reversed =
-      reverses (calls_of ps k) (kept_in u) (calls_of ps 0) (calls_of ps 0) (λ x. scalar) 1 (kept_in a) (kept_in u) (keys (variables u)) (keys-apart (variables u) good.apart)
+      reverses (calls_of ps k) (kept_in u) (calls_of qs 0) (calls_of ps 0) (λ x. scalar) 1 (kept_in a) (kept_in u) (keys (variables u)) (keys-apart (variables u) good.apart)
         u.line u.body other_outputs other_inputs before start k body.left body.end good.body body.is same_values
 
   -- and so under the names of the program
   named_run : PulledDone (naming ns) (run (calls_of qs 0) (scalars words) a.body (scene (kept_in a) (input_store words a (interleaved input given)) []) (reversed.runs.cost + 0)) (scene (kept_in a) reversed.end []) 0
   named_run =
       pulled_done (naming ns) (run (calls_of qs 0) (scalars words) a.body (scene (kept_in a) (input_store words a (interleaved input given)) []) (reversed.runs.cost + 0)) (scene (kept_in a) reversed.end []) 0
-        (run_renamed (naming ns) separates (scalars words) (calls_of qs 0) (calls_of ps 0) (record { by = λ name args line s j. refl }) (adjoint_body u.line u.body other_outputs other_inputs)
+        (run_renamed (naming ns) separates qs 0 (scalars words) (adjoint_body u.line u.body other_outputs other_inputs)
           (scene (kept_in a) (input_store words a (interleaved input given)) []) (reversed.runs.cost + 0)
         ∙ reversed.runs.by 0)
 
@@ -266,3 +267,18 @@ module _ (run_renamed : RunRenamed) (ps : List Procedure) (u : Procedure) (good 
     products = agrees;
     others = subst (OthersAreZero vars) (sym shadows_after) (others_zero u.dummies vars (shadows reversed.end) (zero-each other_inputs (shadows reversed.end) (λ y e. reversed.others y e)))
   }
+
+-- ---- the program
+
+-- the emitted program is an adjoint of the source
+pub emitted_is_adjoint : (ps : List Procedure) (head : ℕ) (vars outvars : List Bool) (u : Procedure) → unit_at head ps ≡ u ∷ [] → IsStraightUnit u → IsAdjoint ps head vars outvars (adjoint_program ps head vars outvars)
+emitted_is_adjoint ps head vars outvars u is good =
+    let a = adjoint_unit ps u vars outvars in
+    subst (λ us. IsAdjoint ps head vars outvars (map (λ p. adjoint_unit ps p vars outvars) us)) (sym is) (record {
+      unit = u;
+      is_head = is;
+      adjoint = a;
+      is_there = ap (λ b. if b then Some a else None) (name_refl (adjoint_name ps u));
+      dummies = refl;
+      transposes = λ input given fit alike k used output done. transposes ps u good vars outvars input given fit alike k used output done
+    })

@@ -11,6 +11,5 @@ pub mod Straight
 pub mod Head
 pub mod Slots
 pub mod Products
-pub mod Renaming
 pub mod Units
 pub mod Adjoints

@@ -7,3 +7,4 @@ pub mod Program
 pub mod Examples
 pub mod Adjoint
 pub mod Straight
+pub mod Theorem

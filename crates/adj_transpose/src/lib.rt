@@ -25,3 +25,11 @@ pub fn emitted_examples()
     ensures fourth_power { adjoint_program (fourth ∷ []) 0 (true ∷ []) (true ∷ []) ≡ fourth_adjoint ∷ [] }
 {
 }
+
+ghost use Rattle.adj_transpose.specs.Theorem.{EmittedIsAdjoint};
+
+/// The emitted program is an adjoint of each source whose head is a list of assignments to scalars.
+pub fn adjoint_law()
+    ensures { EmittedIsAdjoint }
+{
+}
