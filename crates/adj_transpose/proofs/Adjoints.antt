@@ -1,18 +1,16 @@
 -- The emitted program is an adjoint: the adjoint of a unit of straight code.
-use Rattle.std.proofs.Common.{◌≡◌, ℕ, zero, suc, ◌+◌, ◌≤◌, Bool, true, false, List, [], ◌∷◌, ◌++◌, map, refl, sym, ap, ◌∙◌, subst, arith, if◌then◌else◌}
-use Rattle.std.specs.Prelude.{ℤ, pos, ◌==◌, ◌&&◌, ◌||◌, Option, Some, None}
-use Rattle.adj_tree.specs.Code.{Var, plain, shadow, name_eq, var_eq, Terms, Declaration, Procedure, Code}
-use Rattle.adj_tree.proofs.Names.{name_refl, name_same}
+use Rattle.std.proofs.Common.{◌≡◌, ℕ, ◌+◌, Bool, true, false, List, [], ◌∷◌, ◌++◌, map, refl, sym, ap, ◌∙◌, subst, if◌then◌else◌}
+use Rattle.std.specs.Prelude.{ℤ, pos, ◌==◌, ◌&&◌, ◌||◌, Some, None}
+use Rattle.adj_tree.specs.Code.{Var, plain, shadow, name_eq, Declaration, Procedure}
+use Rattle.adj_tree.proofs.Names.{name_refl}
 use Rattle.adj_word.specs.Dot.{dot}
 use Rattle.adj_word.specs.Pairing.{pairing}
 use Rattle.adj_word.proofs.Pairings.{pairing_comm}
 use Rattle.adj_meaning.specs.Numbers.{Numbers, words, duals}
-use Rattle.adj_meaning.specs.Store.{Store, Shape, scalar, set}
-use Rattle.adj_meaning.specs.Value.{Setting}
+use Rattle.adj_meaning.specs.Store.{Store, scalar, set}
 use Rattle.adj_meaning.specs.Scene.{Scene, Outcome, Done, Trapped, More, Full}
-use Rattle.adj_meaning.specs.Run.{Calls, run}
+use Rattle.adj_meaning.specs.Run.{run}
 use Rattle.adj_meaning.specs.Leads.{Leads}
-use Rattle.adj_meaning.specs.Written.{find_unit}
 use Rattle.adj_meaning.specs.Units.{Slot, Actual, Output, from_slot, entry_store, slot_of, input_store, calls_of, fits, run_unit}
 use Rattle.adj_meaning.specs.Seen.{Separates, pulled, pulled_scene, pulled_outcome}
 use Rattle.adj_meaning.proofs.Inversions.{done_same}
@@ -23,9 +21,9 @@ use Rattle.adj_transpose.specs.Emit.{adjoint_body}
 use Rattle.adj_transpose.specs.Program.{locals_among, locals, variables, adjoint_name, adjoint_names, unmarked, with_shadows, adjoint_unit, unit_at, adjoint_program}
 use Rattle.adj_transpose.specs.Straight.{AreScalars, keys, IsStraightUnit}
 use Rattle.adj_transpose.specs.Pairs.{Words, shadows, with_tangents, SamePlain}
-use Rattle.adj_transpose.specs.Adjoint.{Ends, AreAlike, interleaved, every_second, cells_of, with_direction, tangents_of, product, marked_cells, OthersAreZero, AreTangents, IsDirection, Agrees, Transposes, IsAdjoint}
-use Rattle.adj_transpose.proofs.Variables.{or_false, or_right, has_apart}
-use Rattle.adj_transpose.proofs.Steps.{Kept, scene}
+use Rattle.adj_transpose.specs.Adjoint.{Ends, AreAlike, interleaved, every_second, cells_of, with_direction, tangents_of, product, marked_cells, OthersAreZero, IsDirection, Agrees, Transposes, IsAdjoint}
+use Rattle.adj_transpose.proofs.Variables.{or_false, or_right}
+use Rattle.adj_transpose.proofs.Steps.{scene}
 use Rattle.adj_transpose.proofs.Sweeps.{dual_scene}
 use Rattle.adj_transpose.proofs.Head.{cleared, AreZero, Reverses, reverses, cleared_zero, is_cleared}
 use Rattle.adj_transpose.proofs.Slots.{AreSingle, AreAsMany, fits_single, single_alike, many_alike, given_store, paired, with_shadows-named, entry_store-named, slots-plain, slots-shadow, direction, dual_store, singles, cells-scalars, shadows-second, tangents-singles}
@@ -154,15 +152,15 @@ module _ (ps : List Procedure) (u : Procedure) (good : IsStraightUnit u) (vars o
   reversed : Reverses (calls_of qs 0) (calls_of ps 0) (λ x. scalar) 1 (kept_in a) (kept_in u) (keys (variables u)) u.line u.body other_outputs other_inputs before body.end.store start
   reversed =
       reverses (calls_of ps k) (kept_in u) (calls_of qs 0) (calls_of ps 0) (λ x. scalar) 1 (kept_in a) (kept_in u) (keys (variables u)) (keys-apart (variables u) good.apart)
-        u.line u.body other_outputs other_inputs before start k body.left body.end good.body body.is same_values
+      u.line u.body other_outputs other_inputs before start k body.left body.end good.body body.is same_values
 
   -- and so under the names of the program
   named_run : PulledDone (naming ns) (run (calls_of qs 0) (scalars words) a.body (scene (kept_in a) (input_store words a (interleaved input given)) []) (reversed.runs.cost + 0)) (scene (kept_in a) reversed.end []) 0
   named_run =
       pulled_done (naming ns) (run (calls_of qs 0) (scalars words) a.body (scene (kept_in a) (input_store words a (interleaved input given)) []) (reversed.runs.cost + 0)) (scene (kept_in a) reversed.end []) 0
-        (run_renamed (naming ns) separates qs 0 (scalars words) (adjoint_body u.line u.body other_outputs other_inputs)
-          (scene (kept_in a) (input_store words a (interleaved input given)) []) (reversed.runs.cost + 0)
-        ∙ reversed.runs.by 0)
+      (run_renamed (naming ns) separates qs 0 (scalars words) (adjoint_body u.line u.body other_outputs other_inputs)
+      (scene (kept_in a) (input_store words a (interleaved input given)) []) (reversed.runs.cost + 0)
+      ∙ reversed.runs.by 0)
 
   -- its run ends
   ended : Ends words qs a (interleaved input given)
@@ -170,7 +168,7 @@ module _ (ps : List Procedure) (u : Procedure) (good : IsStraightUnit u) (vars o
     enough = reversed.runs.cost + 0;
     output = output_at words qs a (interleaved input given) are named_run.end;
     used = reversed.runs.cost + 0;
-    runs = ends words qs a (interleaved input given) are (reversed.runs.cost + 0) named_run.end named_run.is (ap (λ z. z.opened) named_run.same)
+    runs = ends words qs a (interleaved input given) are (reversed.runs.cost + 0) named_run.end named_run.is (ap (λ z. z.opened) named_run.same);
   }
 
   -- its shadows at the end, at the names of the dummies
@@ -213,7 +211,7 @@ module _ (ps : List Procedure) (u : Procedure) (good : IsStraightUnit u) (vars o
       enough = dual_leads.cost + 0;
       output = output_at duals ps u (with_direction input d) good.scalars (dual_scene (kept_in u) body.end.store (reversed.change along) []);
       used = dual_leads.cost + 0;
-      runs = ends duals ps u (with_direction input d) good.scalars (dual_leads.cost + 0) (dual_scene (kept_in u) body.end.store (reversed.change along) []) dual_is refl
+      runs = ends duals ps u (with_direction input d) good.scalars (dual_leads.cost + 0) (dual_scene (kept_in u) body.end.store (reversed.change along) []) dual_is refl;
     }
 
     tangents_after : singles (λ x. reversed.change along (x, 0)) u.dummies ≡ tangents_of (cells_of dual_ended.output.slots)
@@ -247,7 +245,7 @@ module _ (ps : List Procedure) (u : Procedure) (good : IsStraightUnit u) (vars o
         let unmarked_zero : AreZero other_outputs cleared_start = zero-each other_outputs cleared_start (λ y e. is_cleared other_outputs start y e) in
         let locals_zero : AreZero (locals u) cleared_start = locals-zero u.dummies u.declarations cleared_start (λ y h. cleared_zero other_outputs start y (local_shadow y h)) in
         let uncleared : marked_cells outvars (words_at cleared_start) ≡ marked_cells outvars (words_at (shadows start)) =
-              marked-same u.dummies outvars (λ x. cleared_start (x, 0)) (λ x. start (shadow x) 0) apart_dummies (λ x e h. cleared_other other_outputs start x h) in
+        marked-same u.dummies outvars (λ x. cleared_start (x, 0)) (λ x. start (shadow x) 0) apart_dummies (λ x e h. cleared_other other_outputs start x h) in
         pairing_comm (keys (variables u)) cleared_start after
         ∙ pairing-behind u.dummies (locals u) after cleared_start locals_zero
         ∙ pairing-product u.dummies outvars after cleared_start unmarked_zero
@@ -265,7 +263,7 @@ module _ (ps : List Procedure) (u : Procedure) (good : IsStraightUnit u) (vars o
     run = ended;
     empties = ap (λ z. z.tape) named_run.same;
     products = agrees;
-    others = subst (OthersAreZero vars) (sym shadows_after) (others_zero u.dummies vars (shadows reversed.end) (zero-each other_inputs (shadows reversed.end) (λ y e. reversed.others y e)))
+    others = subst (OthersAreZero vars) (sym shadows_after) (others_zero u.dummies vars (shadows reversed.end) (zero-each other_inputs (shadows reversed.end) (λ y e. reversed.others y e)));
   }
 
 -- ---- the program
@@ -280,5 +278,5 @@ emitted_is_adjoint ps head vars outvars u is good =
       adjoint = a;
       is_there = ap (λ b. if b then Some a else None) (name_refl (adjoint_name ps u));
       dummies = refl;
-      transposes = λ input given fit alike k used output done. transposes ps u good vars outvars input given fit alike k used output done
+      transposes = λ input given fit alike k used output done. transposes ps u good vars outvars input given fit alike k used output done;
     })

@@ -1,6 +1,6 @@
 -- A fresh name isn't taken.
 use Rattle.std.proofs.Common.{◌≡◌, ℕ, zero, suc, ◌+◌, ◌-◌, ◌*◌, ◌/◌, ◌%◌, ◌<◌, ◌≤◌, Bool, true, false, List, [], ◌∷◌, ◌++◌, length, nat_lt, refl, sym, ap, ◌∙◌, subst, arith, if◌then◌else◌}
-use Rattle.std.specs.Prelude.{◌==◌, ◌&&◌, ◌||◌, codes}
+use Rattle.std.specs.Prelude.{◌||◌}
 use Rattle.std.proofs.lemmas.Bool.Decides.{nat_tests}
 use Rattle.adj_tree.specs.Code.{name_eq}
 use Rattle.adj_transpose.specs.Fresh.{has_name, digits_before, digits, candidate, first_free, fresh}
@@ -97,9 +97,9 @@ first_free-is_free (suc tries) i b taken left le same = go (λ l h g. first_free
     go ih true e =
         let shorter = without-shorter (candidate b i) left (same i (omega arith) ∙ e) in
         ih (without (candidate b i) left) (omega arith)
-          (λ j lt.
-            let apart : name_eq (candidate b j) (candidate b i) ≡ false = not_true _ (λ p. candidates_apart b i j lt (sym (name_same (candidate b j) (candidate b i) p))) in
-            without-has (candidate b i) (candidate b j) left apart ∙ same j (omega arith))
+        (λ j lt.
+        let apart : name_eq (candidate b j) (candidate b i) ≡ false = not_true _ (λ p. candidates_apart b i j lt (sym (name_same (candidate b j) (candidate b i) p))) in
+        without-has (candidate b i) (candidate b j) left apart ∙ same j (omega arith))
 
 -- a fresh name isn't among the taken ones
 pub fresh-is_free : (b : List ℕ) (taken : List (List ℕ)) → has_name (fresh b taken) taken ≡ false

@@ -1,7 +1,7 @@
 -- The whole body of the head's adjoint, for straight code.
-use Rattle.std.proofs.Common.{◌≡◌, ℕ, zero, suc, ◌+◌, Bool, true, false, List, [], ◌∷◌, ◌++◌, refl, sym, ap, ◌∙◌, subst, if◌then◌else◌}
+use Rattle.std.proofs.Common.{◌≡◌, ℕ, Bool, true, false, List, [], ◌∷◌, ◌++◌, refl, sym, ap, ◌∙◌, subst, if◌then◌else◌}
 use Rattle.std.specs.Prelude.{ℤ, pos, ◌||◌, ◌&&◌, ◌==◌}
-use Rattle.adj_tree.specs.Code.{Var, plain, shadow, name_eq, lit, Code, stop}
+use Rattle.adj_tree.specs.Code.{Var, shadow, name_eq, lit, Code}
 use Rattle.adj_word.specs.Pairing.{pairing, IsApart}
 use Rattle.adj_word.proofs.Pairings.{pairing-put_zero}
 use Rattle.adj_meaning.specs.Store.{Shape, Store, set}
@@ -83,10 +83,10 @@ reverses p start q qd sh level base home xs apart line c out into u s k k' s' o 
     subst (λ u'. Reverses q qd sh level base home xs line c out into u u' s) (ap (λ (z : Scene ℤ). z.store) (sym w.is)) (record {
       end = s2;
       runs = leads_append q (on_words sh level) (forward 0 c) (zeros line out +++ (backward 0 c +++ zeros line into)) (scene base s []) (scene base g.after tape) (scene base s2 []) g.runs
-        (leads_append q (on_words sh level) (zeros line out) (backward 0 c +++ zeros line into) (scene base g.after tape) (scene base s1 tape) (scene base s2 []) (zeros_run q sh level base line out g.after tape)
+          (leads_append q (on_words sh level) (zeros line out) (backward 0 c +++ zeros line into) (scene base g.after tape) (scene base s1 tape) (scene base s2 []) (zeros_run q sh level base line out g.after tape)
           (leads_append q (on_words sh level) (backward 0 c) (zeros line into) (scene base s1 tape) (scene base b.after []) (scene base s2 []) b.runs (zeros_run q sh level base line into b.after [])));
       change = m.change;
       dual = λ dx. m.dual dx [];
       products = λ dx z. pairing-cleared xs into b.after dx z ∙ b.pairs dx ∙ ap (λ f. pairing xs f (m.change dx)) sh1;
-      others = λ x e. is_cleared into b.after x e
+      others = λ x e. is_cleared into b.after x e;
     })

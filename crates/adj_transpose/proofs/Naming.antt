@@ -1,9 +1,9 @@
 -- The naming of a unit tells all variables apart.
-use Rattle.std.proofs.Common.{◌≡◌, ℕ, zero, suc, Bool, true, false, List, [], ◌∷◌, ◌++◌, map, refl, sym, ap, ◌∙◌, subst, arith, if◌then◌else◌, codes}
+use Rattle.std.proofs.Common.{◌≡◌, ℕ, Bool, true, false, List, [], ◌∷◌, ◌++◌, map, refl, sym, ap, ◌∙◌, subst, if◌then◌else◌, codes}
 use Rattle.std.specs.Prelude.{◌==◌, ◌&&◌, ◌||◌}
-use Rattle.adj_tree.specs.Code.{Role, role_code, work, temp, control, first, stride, count, turn, entry, entries, kind, lower, upper, Var, plain, shadow, helper, name_eq, var_eq}
-use Rattle.adj_transpose.specs.Fresh.{has_name, digits, fresh, reserved}
-use Rattle.adj_transpose.specs.Naming.{letters, wanted, Named, own, named, unit_names, outside, name_in, naming, begins_outside, AreInside, AreApart, names}
+use Rattle.adj_tree.specs.Code.{role_code, work, temp, control, first, stride, count, turn, entry, entries, kind, lower, upper, Var, plain, shadow, helper, name_eq, var_eq}
+use Rattle.adj_transpose.specs.Fresh.{has_name, fresh, reserved}
+use Rattle.adj_transpose.specs.Naming.{wanted, Named, own, named, unit_names, outside, name_in, naming, begins_outside, AreInside, AreApart, names}
 use Rattle.adj_tree.proofs.Names.{name_refl, name_same}
 use Rattle.adj_transpose.proofs.Variables.{or_assoc, or_right, or_false, not_true, name_comm, var_refl, var_same, var_comm, has_apart}
 use Rattle.adj_transpose.proofs.Fresh.{fresh-is_free, fresh-begins, behind-begins}
@@ -125,9 +125,10 @@ has-append x (y ∷ xs) ys = ap (λ b. name_eq x y || b) (has-append x xs ys) �
 apart-append : (xs ys : List (List ℕ)) → AreApart xs → AreApart ys → ((x : List ℕ) → has_name x xs ≡ true → has_name x ys ≡ false) → AreApart (xs ++ ys)
 apart-append [] ys a b h = b
 apart-append (x ∷ xs) ys a b h =
-    let here : has_name x (x ∷ xs) ≡ true = ap (λ t. t || has_name x xs) (name_refl x) in
-    (has-append x xs ys ∙ (λ i. a.0 i || h x here i),
-    apart-append xs ys a.1 b (λ z g. h z (or_right (name_eq z x) (has_name z xs) g)))
+    let here : has_name x (x ∷ xs) ≡ true = ap (λ t. t || has_name x xs) (name_refl x) in (
+      has-append x xs ys ∙ (λ i. a.0 i || h x here i),
+      apart-append xs ys a.1 b (λ z g. h z (or_right (name_eq z x) (has_name z xs) g)),
+    )
 
 inside-append : (xs ys : List (List ℕ)) → AreInside xs → AreInside ys → AreInside (xs ++ ys)
 inside-append [] ys a b = b
@@ -142,8 +143,8 @@ pub unit_names-apart : (xs units : List (List ℕ)) (made : List Var) → AreApa
 unit_names-apart xs units made a =
     let taken = xs ++ (units ++ reserved) in
     subst AreApart (sym (names-of_unit xs units made))
-      (apart-append xs (names (named taken made)) a (named-apart taken made)
-        (λ x h. named-free x taken made (has-append x xs (units ++ reserved) ∙ ap (λ b. b || has_name x (units ++ reserved)) h)))
+    (apart-append xs (names (named taken made)) a (named-apart taken made)
+    (λ x h. named-free x taken made (has-append x xs (units ++ reserved) ∙ ap (λ b. b || has_name x (units ++ reserved)) h)))
 
 -- and of a text where its own are
 pub unit_names-inside : (xs units : List (List ℕ)) (made : List Var) → AreInside xs → AreMadeInside made → AreInside (names (unit_names xs units made))

@@ -1,23 +1,21 @@
 -- Products over marked dummies are sums over the cells of all variables.
-use Rattle.std.proofs.Common.{◌≡◌, ℕ, zero, suc, Bool, true, false, List, [], ◌∷◌, ◌++◌, map, length, refl, sym, ap, ◌∙◌, subst, arith, if◌then◌else◌}
-use Rattle.std.specs.Prelude.{ℤ, pos, ◌==◌, ◌&&◌, ◌||◌}
-use Rattle.adj_tree.specs.Code.{plain, shadow, name_eq}
-use Rattle.adj_tree.proofs.Names.{name_refl, name_same}
+use Rattle.std.proofs.Common.{◌≡◌, ℕ, suc, Bool, true, false, List, [], ◌∷◌, ◌++◌, map, length, refl, sym, ap, ◌∙◌, arith, if◌then◌else◌}
+use Rattle.std.specs.Prelude.{ℤ, pos, ◌||◌}
+use Rattle.adj_tree.specs.Code.{plain, name_eq}
+use Rattle.adj_tree.proofs.Names.{name_refl}
 use Rattle.adj_word.specs.Word.{wrap, add, mul}
-use Rattle.adj_word.specs.Dot.{dot}
 use Rattle.adj_word.specs.Pairing.{pairing, stands_in, IsApart}
-use Rattle.adj_word.proofs.Residues.{mul-zero, zero-mul, add-zero, zero-add, wrap-zero}
-use Rattle.adj_word.proofs.DotProducts.{dot-nil, dot-cons, wrap-dot, dot_comm}
-use Rattle.adj_word.proofs.Pairings.{pairing_comm, wrap-pairing}
+use Rattle.adj_word.proofs.Residues.{mul-zero, zero-add, wrap-zero}
+use Rattle.adj_word.proofs.DotProducts.{dot-cons, wrap-dot, dot_comm}
 use Rattle.adj_meaning.specs.Numbers.{Numbers, duals}
 use Rattle.adj_meaning.specs.Units.{Slot, from_slot, entry_store, nth_cell}
 use Rattle.adj_transpose.specs.Fresh.{has_name}
 use Rattle.adj_transpose.specs.Naming.{AreApart}
 use Rattle.adj_transpose.specs.Program.{unmarked}
 use Rattle.adj_transpose.specs.Straight.{keys}
-use Rattle.adj_transpose.specs.Pairs.{Key, key_eq, Words}
-use Rattle.adj_transpose.specs.Adjoint.{marked_cells, product, AreZeros, OthersAreZero, cells_of, AreTangents, with_direction, side_by_side, tangents_in, tangents_of}
-use Rattle.adj_transpose.proofs.Variables.{or_false, or_right, not_true, name_comm, has_apart}
+use Rattle.adj_transpose.specs.Pairs.{key_eq, Words}
+use Rattle.adj_transpose.specs.Adjoint.{marked_cells, product, OthersAreZero, cells_of, AreTangents, with_direction, side_by_side, tangents_in, tangents_of}
+use Rattle.adj_transpose.proofs.Variables.{or_false, or_right, name_comm, has_apart}
 use Rattle.adj_transpose.proofs.Slots.{AreSingle, AreAsMany, singles, direction}
 use Rattle.adj_transpose.proofs.Head.{AreZero}
 
@@ -120,7 +118,7 @@ given_words n (x ∷ xs) (v ∷ vs) a s m =
     let rest = entry_store n xs (map (from_slot n) vs) in
     let first : (if name_eq x x then nth_cell n v.cells 0 else rest (plain x) 0) ∷ [] ≡ v.cells = ap (λ b. (if b then nth_cell n v.cells 0 else rest (plain x) 0) ∷ []) (name_refl x) ∙ only_cell n v.cells s.0 in
     let others : singles (λ y. if name_eq y x then nth_cell n v.cells 0 else rest (plain y) 0) xs ≡ singles (λ y. rest (plain y) 0) xs =
-          singles-same xs _ _ (λ y e. ap (λ b. if b then nth_cell n v.cells 0 else rest (plain y) 0) (has_apart y x xs e a.0)) in
+    singles-same xs _ _ (λ y e. ap (λ b. if b then nth_cell n v.cells 0 else rest (plain y) 0) (has_apart y x xs e a.0)) in
     λ i. first i ∷ (others ∙ given_words n xs vs a.1 s.1 m) i
 
 -- ---- a direction given for the names

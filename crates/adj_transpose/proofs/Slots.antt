@@ -1,19 +1,19 @@
 -- Slots and stores: what a unit of scalars has at its entry and hands out at its end.
-use Rattle.std.proofs.Common.{◌≡◌, ℕ, zero, suc, Bool, true, false, List, [], ◌∷◌, ◌++◌, map, length, refl, sym, ap, ◌∙◌, subst, arith, if◌then◌else◌}
-use Rattle.std.specs.Prelude.{ℤ, pos, ◌==◌, ◌&&◌, ◌||◌, Option, None}
-use Rattle.adj_tree.specs.Code.{Role, Var, plain, shadow, helper, name_eq, var_eq, Extent, Declaration, Procedure}
-use Rattle.adj_tree.proofs.Names.{nat_same, name_refl, name_same}
+use Rattle.std.proofs.Common.{◌≡◌, ℕ, zero, suc, Bool, true, false, List, [], ◌∷◌, map, length, refl, sym, ap, ◌∙◌, subst, arith, if◌then◌else◌}
+use Rattle.std.specs.Prelude.{ℤ, pos, ◌==◌, ◌||◌}
+use Rattle.adj_tree.specs.Code.{Role, Var, plain, shadow, helper, name_eq, var_eq, Declaration, Procedure}
+use Rattle.adj_tree.proofs.Names.{nat_same, name_refl}
 use Rattle.adj_meaning.specs.Numbers.{Numbers, words, duals}
-use Rattle.adj_meaning.specs.Store.{Shape, scalar, Store, set_all, size_of, cells_from}
+use Rattle.adj_meaning.specs.Store.{scalar, Store, set_all, size_of}
 use Rattle.adj_meaning.specs.Value.{Setting}
-use Rattle.adj_meaning.specs.Units.{declared, extent_in, extents_of, shape_of, setting_in, Slot, from_slot, slot_of, Actual, entry_store, input_store, dummy_slots, nth_cell, slots_fit, slot_fits, shape_fits}
+use Rattle.adj_meaning.specs.Units.{declared, extent_in, extents_of, shape_of, setting_in, Slot, from_slot, slot_of, Actual, entry_store, nth_cell, slots_fit, slot_fits, shape_fits}
 use Rattle.adj_transpose.specs.Fresh.{has_name}
-use Rattle.adj_transpose.specs.Naming.{Named, name_in, naming, AreApart}
+use Rattle.adj_transpose.specs.Naming.{Named, name_in, naming}
 use Rattle.adj_transpose.specs.Program.{with_shadows}
 use Rattle.adj_transpose.specs.Straight.{AreScalars}
-use Rattle.adj_transpose.specs.Pairs.{Words, tangent_at, with_tangents}
+use Rattle.adj_transpose.specs.Pairs.{Words, with_tangents}
 use Rattle.adj_transpose.specs.Adjoint.{AreAlike, interleaved, every_second, cells_of, side_by_side, with_direction, AreTangents, tangents_of}
-use Rattle.adj_transpose.proofs.Variables.{and_true, or_false, or_right}
+use Rattle.adj_transpose.proofs.Variables.{and_true, or_right}
 
 -- ---- shapes
 

@@ -1,11 +1,11 @@
 -- The sweeps of straight code transpose its derivative along its run.
-use Rattle.std.proofs.Common.{◌≡◌, ℕ, zero, suc, Bool, true, List, refl, sym, ap, ◌∙◌, subst}
-use Rattle.std.specs.Prelude.{ℤ, Ok}
-use Rattle.adj_tree.specs.Code.{Var, plain, shadow, helper, Term, none, more, Act, assign, choose, loop, call, runtime, Code, stop, step}
+use Rattle.std.proofs.Common.{◌≡◌, ℕ, true, List, sym, ap, ◌∙◌}
+use Rattle.std.specs.Prelude.{ℤ}
+use Rattle.adj_tree.specs.Code.{Var, plain, shadow, helper, Term, none, more, assign, choose, loop, call, runtime, Code, stop, step}
 use Rattle.adj_word.specs.Pairing.{stands_in, IsApart}
 use Rattle.adj_meaning.specs.Store.{Shape, Store, set}
 use Rattle.adj_meaning.specs.Value.{value}
-use Rattle.adj_meaning.specs.Append.{◌+++◌, one}
+use Rattle.adj_meaning.specs.Append.{one}
 use Rattle.adj_meaning.specs.Scene.{Scene, Done, then_do}
 use Rattle.adj_meaning.specs.Run.{Calls, act, run}
 use Rattle.adj_transpose.specs.Emit.{forward_act, forward, backward_act, backward}
@@ -31,7 +31,7 @@ module _ (p : Calls ℤ) (start : Kept) (q : Calls ℤ) (qd : Calls (ℤ × ℤ)
       record {
         after = set u (plain x) 0 (num e u);
         is = sym (done_same (scene start (set u (plain x) 0 r.value) t) s' k k' r.goes) ∙ ap (λ v. scene start (set u (plain x) 0 v) t) same;
-        sweeps = transposed_assign q qd sh level base home xs apart d line x e u here o f
+        sweeps = transposed_assign q qd sh level base home xs apart d line x e u here o f;
       }
 
   -- a list of assignments that was done
@@ -52,7 +52,7 @@ module _ (p : Calls ℤ) (start : Kept) (q : Calls ℤ) (qd : Calls (ℤ × ℤ)
       record {
         after = others.after;
         is = others.is;
-        sweeps = transposed_append q qd sh level base home xs d (one line a) rest (forward_act d line a) (forward d rest) (backward_act d line a) (backward d rest) u one_done.after others.after one_done.sweeps others.sweeps
+        sweeps = transposed_append q qd sh level base home xs d (one line a) rest (forward_act d line a) (forward d rest) (backward_act d line a) (backward d rest) u one_done.after others.after one_done.sweeps others.sweeps;
       }
   transposed (step line (assign (plain x) (more i is) e) rest) d u t k k' s' o h = absurd o
   transposed (step line (assign (shadow x) subs e) rest) d u t k k' s' o h = absurd o

@@ -1,13 +1,12 @@
 -- The sweeps transpose the derivative of the statements that they were made from.
-use Rattle.std.proofs.Common.{◌≡◌, ℕ, zero, suc, ◌+◌, ◌<◌, ◌≤◌, Bool, true, false, List, [], ◌∷◌, ◌++◌, refl, sym, ap, ◌∙◌, subst, arith, append_assoc, if◌then◌else◌}
-use Rattle.std.specs.Prelude.{ℤ, pos, ◌==◌, ◌&&◌, Ok}
-use Rattle.adj_tree.specs.Code.{Var, plain, shadow, helper, Role, role_code, work, name_eq, Term, lit, var, none, Act, assign, runtime, push_word, pop_word, Code, stop, step}
+use Rattle.std.proofs.Common.{◌≡◌, ℕ, ◌+◌, ◌<◌, ◌≤◌, Bool, true, false, List, [], ◌∷◌, ◌++◌, refl, sym, ap, ◌∙◌, subst, arith, append_assoc, if◌then◌else◌}
+use Rattle.std.specs.Prelude.{ℤ, pos, ◌==◌, ◌&&◌}
+use Rattle.adj_tree.specs.Code.{Var, plain, shadow, helper, Role, role_code, work, name_eq, Term, lit, var, none, assign, Code, stop}
 use Rattle.adj_word.specs.Word.{add, mul}
 use Rattle.adj_word.specs.Pairing.{pairing, put, stands_in, IsApart}
 use Rattle.adj_word.proofs.Residues.{add-zero, mul-zero}
 use Rattle.adj_word.proofs.Pairings.{pairing-apart, wrap-pairing}
 use Rattle.adj_meaning.specs.Store.{Shape, Store, set}
-use Rattle.adj_meaning.specs.Value.{value}
 use Rattle.adj_meaning.specs.Append.{◌+++◌, one}
 use Rattle.adj_meaning.specs.Scene.{Scene, Done, with_value}
 use Rattle.adj_meaning.specs.Run.{Calls}
@@ -61,7 +60,7 @@ module _ (q : Calls ℤ) (qd : Calls (ℤ × ℤ)) (sh : Var → Shape) (level :
     change = λ x. x;
     dual = λ x t. leads_stop qd (on_duals sh level) (dual_scene home u x t);
     goes = λ s t h. record { after = s; runs = leads_stop q (on_words sh level) (scene base s t); plains = h; shadows = λ x i. refl; depth = record { at = λ r i c lt le. refl } };
-    turns = λ s t h. record { after = s; runs = leads_stop q (on_words sh level) (scene base s t); plains = h; pairs = λ x. refl; depth = record { at = λ r i c lt le. refl } }
+    turns = λ s t h. record { after = s; runs = leads_stop q (on_words sh level) (scene base s t); plains = h; pairs = λ x. refl; depth = record { at = λ r i c lt le. refl } };
   }
 
   -- one after another: the backward sweeps in the other order
@@ -71,29 +70,29 @@ module _ (q : Calls ℤ) (qd : Calls (ℤ × ℤ)) (sh : Var → Shape) (level :
     change = λ x. m2.change (m1.change x);
     dual = λ x t. leads_append qd (on_duals sh level) c1 c2 (dual_scene home u x t) (dual_scene home u1 (m1.change x) t) (dual_scene home u2 (m2.change (m1.change x)) t) (m1.dual x t) (m2.dual (m1.change x) t);
     goes = λ s t h.
-      let g1 = m1.goes s t h in
-      let g2 = m2.goes g1.after (m1.trail ++ t) g1.plains in
-      let e : m2.trail ++ (m1.trail ++ t) ≡ (m2.trail ++ m1.trail) ++ t = sym (append_assoc m2.trail m1.trail t) in
-      record {
-        after = g2.after;
-        runs = subst (λ (l : List ℤ). Leads q (on_words sh level) (f1 +++ f2) (scene base s t) (scene base g2.after l)) e
-          (leads_append q (on_words sh level) f1 f2 (scene base s t) (scene base g1.after (m1.trail ++ t)) (scene base g2.after (m2.trail ++ (m1.trail ++ t))) g1.runs g2.runs);
-        plains = g2.plains;
-        shadows = λ x i. g2.shadows x i ∙ g1.shadows x i;
-        depth = record { at = λ r i c lt le. g2.depth.at r i c lt le ∙ g1.depth.at r i c lt le }
-      };
+        let g1 = m1.goes s t h in
+        let g2 = m2.goes g1.after (m1.trail ++ t) g1.plains in
+        let e : m2.trail ++ (m1.trail ++ t) ≡ (m2.trail ++ m1.trail) ++ t = sym (append_assoc m2.trail m1.trail t) in
+        record {
+          after = g2.after;
+          runs = subst (λ (l : List ℤ). Leads q (on_words sh level) (f1 +++ f2) (scene base s t) (scene base g2.after l)) e
+              (leads_append q (on_words sh level) f1 f2 (scene base s t) (scene base g1.after (m1.trail ++ t)) (scene base g2.after (m2.trail ++ (m1.trail ++ t))) g1.runs g2.runs);
+          plains = g2.plains;
+          shadows = λ x i. g2.shadows x i ∙ g1.shadows x i;
+          depth = record { at = λ r i c lt le. g2.depth.at r i c lt le ∙ g1.depth.at r i c lt le };
+        };
     turns = λ s t h.
-      let g2 = m2.turns s (m1.trail ++ t) h in
-      let g1 = m1.turns g2.after t g2.plains in
-      let e : m2.trail ++ (m1.trail ++ t) ≡ (m2.trail ++ m1.trail) ++ t = sym (append_assoc m2.trail m1.trail t) in
-      record {
-        after = g1.after;
-        runs = subst (λ (l : List ℤ). Leads q (on_words sh level) (b2 +++ b1) (scene base s l) (scene base g1.after t)) e
-          (leads_append q (on_words sh level) b2 b1 (scene base s (m2.trail ++ (m1.trail ++ t))) (scene base g2.after (m1.trail ++ t)) (scene base g1.after t) g2.runs g1.runs);
-        plains = g1.plains;
-        pairs = λ x. g1.pairs x ∙ g2.pairs (m1.change x);
-        depth = record { at = λ r i c lt le. g1.depth.at r i c lt le ∙ g2.depth.at r i c lt le }
-      }
+        let g2 = m2.turns s (m1.trail ++ t) h in
+        let g1 = m1.turns g2.after t g2.plains in
+        let e : m2.trail ++ (m1.trail ++ t) ≡ (m2.trail ++ m1.trail) ++ t = sym (append_assoc m2.trail m1.trail t) in
+        record {
+          after = g1.after;
+          runs = subst (λ (l : List ℤ). Leads q (on_words sh level) (b2 +++ b1) (scene base s l) (scene base g1.after t)) e
+              (leads_append q (on_words sh level) b2 b1 (scene base s (m2.trail ++ (m1.trail ++ t))) (scene base g2.after (m1.trail ++ t)) (scene base g1.after t) g2.runs g1.runs);
+          plains = g1.plains;
+          pairs = λ x. g1.pairs x ∙ g2.pairs (m1.change x);
+          depth = record { at = λ r i c lt le. g1.depth.at r i c lt le ∙ g2.depth.at r i c lt le };
+        };
   }
 
   -- ---- an assignment
@@ -108,9 +107,9 @@ module _ (q : Calls ℤ) (qd : Calls (ℤ × ℤ)) (sh : Var → Shape) (level :
           runs = assigns q sh level base line (shadow x) (lit (pos 0)) stop s t (pos 0) (scene base s1 t) refl (leads_stop q (on_words sh level) (scene base s1 t));
           plains = record { at = λ y i. refl };
           pairs = λ y.
-            sym (wrap-pairing xs (shadows s1) y) ∙ sym (add-zero (pairing xs (shadows s1) y)) ∙ ap (add (pairing xs (shadows s1) y)) (sym (mul-zero (s (shadow x) 0)))
-            ∙ pairing-apart key_eq key_same xs (shadows s) y (x, 0) (pos 0) apart here ∙ ap (λ z. pairing xs (shadows s) (put key_eq y (x, 0) z)) (sym (tan_inactive e s y idle));
-          depth = record { at = λ r i c lt le. refl }
+              sym (wrap-pairing xs (shadows s1) y) ∙ sym (add-zero (pairing xs (shadows s1) y)) ∙ ap (add (pairing xs (shadows s1) y)) (sym (mul-zero (s (shadow x) 0)))
+              ∙ pairing-apart key_eq key_same xs (shadows s) y (x, 0) (pos 0) apart here ∙ ap (λ z. pairing xs (shadows s) (put key_eq y (x, 0) z)) (sym (tan_inactive e s y idle));
+          depth = record { at = λ r i c lt le. refl };
         }
 
     turned_some : (d : ℕ) (x : List ℕ) (e : Term) (line : ℕ) (s : Store ℤ) (t : List ℤ) → stands_in key_eq (x, 0) xs ≡ true → IsOver xs e → IsDefined e s → Turns q sh level base xs d ((temps e 1 line +++ one line (assign (helper work 1) none (var (shadow x)))) +++ (one line (assign (shadow x) none (lit (pos 0))) +++ back e 1 1 line)) s t t s (λ y. put key_eq y (x, 0) (tan e s y))
@@ -127,13 +126,13 @@ module _ (q : Calls ℤ) (qd : Calls (ℤ × ℤ)) (sh : Var → Shape) (level :
         record {
           after = b.after;
           runs = leads_append q (on_words sh level) _ _ (scene base s t) (scene base s2 t) (scene base b.after t)
-            (leads_append q (on_words sh level) (temps e 1 line) _ (scene base s t) (scene base s1 t) (scene base s2 t) m.runs (assigns q sh level base line (helper work 1) (var (shadow x)) stop s1 t w (scene base s2 t) refl (leads_stop q (on_words sh level) (scene base s2 t))))
-            (assigns q sh level base line (shadow x) (lit (pos 0)) (back e 1 1 line) s2 t (pos 0) (scene base b.after t) refl b.runs);
+              (leads_append q (on_words sh level) (temps e 1 line) _ (scene base s t) (scene base s1 t) (scene base s2 t) m.runs (assigns q sh level base line (helper work 1) (var (shadow x)) stop s1 t w (scene base s2 t) refl (leads_stop q (on_words sh level) (scene base s2 t))))
+              (assigns q sh level base line (shadow x) (lit (pos 0)) (back e 1 1 line) s2 t (pos 0) (scene base b.after t) refl b.runs);
           plains = record { at = λ y i. b.same.plains.at y i ∙ m.same.plains.at y i };
           pairs = λ y.
-            b.pairs y ∙ ap (λ z. add (pairing xs (shadows s3) y) (mul w z)) (tan_same xs e s s3 y o from)
-            ∙ pairing-apart key_eq key_same xs (shadows s1) y (x, 0) (tan e s y) apart here ∙ ap (λ g. pairing xs g (put key_eq y (x, 0) (tan e s y))) sh1;
-          depth = record { at = λ r i c lt le. b.same.loops.at r i c (omega arith) ∙ (let ne : (role_code r == 0) ≡ false = grind arith in rw ne (m.loops.at r i c (omega arith))) }
+              b.pairs y ∙ ap (λ z. add (pairing xs (shadows s3) y) (mul w z)) (tan_same xs e s s3 y o from)
+              ∙ pairing-apart key_eq key_same xs (shadows s1) y (x, 0) (tan e s y) apart here ∙ ap (λ g. pairing xs g (put key_eq y (x, 0) (tan e s y))) sh1;
+          depth = record { at = λ r i c lt le. b.same.loops.at r i c (omega arith) ∙ (let ne : (role_code r == 0) ≡ false = grind arith in rw ne (m.loops.at r i c (omega arith))) };
         }
 
     pub turned : (d : ℕ) (x : List ℕ) (e : Term) (line : ℕ) (s : Store ℤ) (t : List ℤ) → stands_in key_eq (x, 0) xs ≡ true → IsOver xs e → IsDefined e s → Turns q sh level base xs d (adjoint_of x none e line) s t t s (λ y. put key_eq y (x, 0) (tan e s y))
@@ -173,30 +172,29 @@ module _ (q : Calls ℤ) (qd : Calls (ℤ × ℤ)) (sh : Var → Shape) (level :
         trail = u (plain x) 0 ∷ [];
         change = λ y. put key_eq y (x, 0) (tan e u y);
         dual = λ y t.
-          let same : set (with_tangents u y) (plain x) 0 (num e u, tan e u y) ≡ with_tangents u1 (put key_eq y (x, 0) (tan e u y)) = λ i w j. set_both u y x (num e u) (tan e u y) w j i in
-          leads_step qd (on_duals sh level) line (assign (plain x) none e) stop (dual_scene home u y t) (dual_scene home u1 (put key_eq y (x, 0) (tan e u y)) t) (dual_scene home u1 (put key_eq y (x, 0) (tan e u y)) t)
+            let same : set (with_tangents u y) (plain x) 0 (num e u, tan e u y) ≡ with_tangents u1 (put key_eq y (x, 0) (tan e u y)) = λ i w j. set_both u y x (num e u) (tan e u y) w j i in
+            leads_step qd (on_duals sh level) line (assign (plain x) none e) stop (dual_scene home u y t) (dual_scene home u1 (put key_eq y (x, 0) (tan e u y)) t) (dual_scene home u1 (put key_eq y (x, 0) (tan e u y)) t)
             (λ k. ap (λ o. with_value o line (λ w. Done (scene home (set (with_tangents u y) (plain x) 0 w) t) k)) (value_duals sh level xs e u y o f) ∙ ap (λ (st : Store (ℤ × ℤ)). Done (scene home st t) k) same)
             (leads_stop qd (on_duals sh level) (dual_scene home u1 (put key_eq y (x, 0) (tan e u y)) t));
         goes = λ s t h.
-          let s1 = set s (plain x) 0 (num e s) in
-          record {
-            after = s1;
-            runs = pushes q sh level base line (plain x) (one line (assign (plain x) none e)) s t (u (plain x) 0) (scene base s1 (u (plain x) 0 ∷ t)) (h.at x 0)
-              (assigns q sh level base line (plain x) e stop s (u (plain x) 0 ∷ t) (num e s) (scene base s1 (u (plain x) 0 ∷ t)) (value_words sh level xs e s o (defined_same xs e u s o h f)) (leads_stop q (on_words sh level) (scene base s1 (u (plain x) 0 ∷ t))));
-            plains = set_same u s x (num e u) (num e s) h (num_same xs e u s o h);
-            shadows = λ y i. refl;
-            depth = record { at = λ r i c lt le. refl }
-          };
+            let s1 = set s (plain x) 0 (num e s) in
+            record {
+              after = s1;
+              runs = pushes q sh level base line (plain x) (one line (assign (plain x) none e)) s t (u (plain x) 0) (scene base s1 (u (plain x) 0 ∷ t)) (h.at x 0)
+                  (assigns q sh level base line (plain x) e stop s (u (plain x) 0 ∷ t) (num e s) (scene base s1 (u (plain x) 0 ∷ t)) (value_words sh level xs e s o (defined_same xs e u s o h f)) (leads_stop q (on_words sh level) (scene base s1 (u (plain x) 0 ∷ t))));
+              plains = set_same u s x (num e u) (num e s) h (num_same xs e u s o h);
+              shadows = λ y i. refl;
+              depth = record { at = λ r i c lt le. refl };
+            };
         turns = λ s t h.
-          let s1 = set s (plain x) 0 (u (plain x) 0) in
-          let back_at : SamePlain u s1 = undone u s x (num e u) h in
-          let a = turned apart d x e line s1 t here o (defined_same xs e u s1 o back_at f) in
-          record {
-            after = a.after;
-            runs = pops q sh level base line (plain x) (adjoint_of x none e line) s t (u (plain x) 0) (scene base a.after t) a.runs;
-            plains = record { at = λ y i. a.plains.at y i ∙ back_at.at y i };
-            pairs = λ y. a.pairs y ∙ ap (λ z. pairing xs (shadows s) (put key_eq y (x, 0) z)) (tan_same xs e u s1 y o back_at);
-            depth = record { at = λ r i c lt le. a.depth.at r i c lt le }
-          }
+            let s1 = set s (plain x) 0 (u (plain x) 0) in
+            let back_at : SamePlain u s1 = undone u s x (num e u) h in
+            let a = turned apart d x e line s1 t here o (defined_same xs e u s1 o back_at f) in
+            record {
+              after = a.after;
+              runs = pops q sh level base line (plain x) (adjoint_of x none e line) s t (u (plain x) 0) (scene base a.after t) a.runs;
+              plains = record { at = λ y i. a.plains.at y i ∙ back_at.at y i };
+              pairs = λ y. a.pairs y ∙ ap (λ z. pairing xs (shadows s) (put key_eq y (x, 0) z)) (tan_same xs e u s1 y o back_at);
+              depth = record { at = λ r i c lt le. a.depth.at r i c lt le };
+            };
       }
-

@@ -1,7 +1,7 @@
 -- What the assignments of the temporaries do.
 use Rattle.std.proofs.Common.{◌≡◌, ℕ, zero, suc, ◌+◌, ◌<◌, ◌≤◌, Bool, true, false, List, refl, sym, ap, ◌∙◌, arith}
 use Rattle.std.specs.Prelude.{ℤ, ◌==◌, Ok}
-use Rattle.adj_tree.specs.Code.{Var, plain, shadow, helper, Role, role_code, temp, Op, plus, minus, times, quot, modulo, greater, lesser, Term, lit, var, elem, neg, bin, pow, abs, none, assign, Code, stop}
+use Rattle.adj_tree.specs.Code.{Var, shadow, helper, Role, role_code, temp, Op, plus, minus, times, quot, modulo, greater, lesser, Term, lit, var, elem, neg, bin, pow, abs, Code, stop}
 use Rattle.adj_tree.proofs.Names.{nat_refl}
 use Rattle.adj_word.specs.Word.{negated, power}
 use Rattle.adj_meaning.specs.Trap.{then_ok}
@@ -62,11 +62,16 @@ module _ (xs : List Key) where
       (temps_same a j s s' o.1.0 (below_less _ _ s s' (omega arith) h) w.0, temps_same b (j + temps_in a) s s' o.1.1 (below_less _ _ s s' (omega arith) h) w.1)
   temps_same (bin minus a b) j s s' o h w =
       (temps_same a j s s' o.1.0 (below_less _ _ s s' (omega arith) h) w.0, temps_same b (j + temps_in a) s s' o.1.1 (below_less _ _ s s' (omega arith) h) w.1)
-  temps_same (bin times a b) j s s' o h w =
-      (temps_same a j s s' o.1.0 (below_less _ _ s s' (omega arith) h) w.0,
-      (own_same (has_own a b) (j + temps_in a) a s s' o.1.0 (below_less _ _ s s' (omega arith) h) w.1.0,
-      (temps_same b (j + temps_in a + count_of (has_own a b)) s s' o.1.1 (below_less _ _ s s' (omega arith) h) w.1.1.0,
-      own_same (has_own b a) (j + temps_in a + count_of (has_own a b) + temps_in b) b s s' o.1.1 (below_less _ _ s s' (omega arith) h) w.1.1.1)))
+  temps_same (bin times a b) j s s' o h w = (
+    temps_same a j s s' o.1.0 (below_less _ _ s s' (omega arith) h) w.0,
+    (
+      own_same (has_own a b) (j + temps_in a) a s s' o.1.0 (below_less _ _ s s' (omega arith) h) w.1.0,
+      (
+        temps_same b (j + temps_in a + count_of (has_own a b)) s s' o.1.1 (below_less _ _ s s' (omega arith) h) w.1.1.0,
+        own_same (has_own b a) (j + temps_in a + count_of (has_own a b) + temps_in b) b s s' o.1.1 (below_less _ _ s s' (omega arith) h) w.1.1.1,
+      ),
+    ),
+  )
   temps_same (bin quot a b) j s s' o h w = tt
   temps_same (bin modulo a b) j s s' o h w = tt
   temps_same (bin greater a b) j s s' o h w = tt
@@ -106,8 +111,8 @@ module _ (q : Calls ℤ) (sh : Var → Shape) (level : ℕ) (base : Kept) (xs : 
       let m = j + temps_in a in
       let l = m + count_of (has_own a b) in
       two_values times (own_or (has_own a b) m (shrunk a j)) (own_or (has_own b a) (l + temps_in b) (shrunk b l)) s (num a s) (num b s)
-        (value_own (has_own a b) m a (shrunk a j) s (value_shrunk a j s o.1.0 d.1.0 h.0) h.1.0)
-        (value_own (has_own b a) (l + temps_in b) b (shrunk b l) s (value_shrunk b l s o.1.1 d.1.1 h.1.1.0) h.1.1.1)
+      (value_own (has_own a b) m a (shrunk a j) s (value_shrunk a j s o.1.0 d.1.0 h.0) h.1.0)
+      (value_own (has_own b a) (l + temps_in b) b (shrunk b l) s (value_shrunk b l s o.1.1 d.1.1 h.1.1.0) h.1.1.1)
   value_shrunk (bin quot a b) j s o d h = value_words sh level xs (bin quot a b) s o d
   value_shrunk (bin modulo a b) j s o d h = value_words sh level xs (bin modulo a b) s o d
   value_shrunk (bin greater a b) j s o d h = absurd o.0
@@ -138,11 +143,11 @@ module _ (q : Calls ℤ) (sh : Var → Shape) (level : ℕ) (base : Kept) (xs : 
         runs = leads_append q (on_words sh level) c d (scene base s t) (scene base a.after t) (scene base b.after t) a.runs b.runs;
         same = record {
           plains = record { at = λ x i. b.same.plains.at x i ∙ a.same.plains.at x i };
-          below = λ i lt. b.same.below i (omega arith) ∙ a.same.below i lt
+          below = λ i lt. b.same.below i (omega arith) ∙ a.same.below i lt;
         };
         loops = record { at = λ r i c lt. b.loops.at r i c lt ∙ a.loops.at r i c lt };
         shadows = λ x i. b.shadows x i ∙ a.shadows x i;
-        holds = (keeps a.after b.after b.same a.holds, b.holds)
+        holds = (keeps a.after b.after b.same a.holds, b.holds);
       }
 
   -- the temporaries of a term, computed in order
@@ -153,31 +158,31 @@ module _ (q : Calls ℤ) (sh : Var → Shape) (level : ℕ) (base : Kept) (xs : 
   temps_made (neg a) j line s t o d = temps_made a j line s t o d
   temps_made (bin plus a b) j line s t o d =
       makes_append (temps a j line) (temps b (j + temps_in a) line) j (j + temps_in a) s t (HasTemps a j) (HasTemps b (j + temps_in a)) (omega arith)
-        (temps_made a j line s t o.1.0 d.1.0)
-        (λ s1 p r. temps_made b (j + temps_in a) line s1 t o.1.1 (defined_same xs b s s1 o.1.1 p d.1.1))
-        (λ s1 s2 h w. temps_same xs a j s1 s2 o.1.0 h w)
+      (temps_made a j line s t o.1.0 d.1.0)
+      (λ s1 p r. temps_made b (j + temps_in a) line s1 t o.1.1 (defined_same xs b s s1 o.1.1 p d.1.1))
+      (λ s1 s2 h w. temps_same xs a j s1 s2 o.1.0 h w)
   temps_made (bin minus a b) j line s t o d =
       makes_append (temps a j line) (temps b (j + temps_in a) line) j (j + temps_in a) s t (HasTemps a j) (HasTemps b (j + temps_in a)) (omega arith)
-        (temps_made a j line s t o.1.0 d.1.0)
-        (λ s1 p r. temps_made b (j + temps_in a) line s1 t o.1.1 (defined_same xs b s s1 o.1.1 p d.1.1))
-        (λ s1 s2 h w. temps_same xs a j s1 s2 o.1.0 h w)
+      (temps_made a j line s t o.1.0 d.1.0)
+      (λ s1 p r. temps_made b (j + temps_in a) line s1 t o.1.1 (defined_same xs b s s1 o.1.1 p d.1.1))
+      (λ s1 s2 h w. temps_same xs a j s1 s2 o.1.0 h w)
   temps_made (bin times a b) j line s t o d =
       let m = j + temps_in a in
       let l = m + count_of (has_own a b) in
       let own_a = own_code (has_own a b) line m (shrunk a j) in
       let own_b = own_code (has_own b a) line (l + temps_in b) (shrunk b l) in
       makes_append (temps a j line) (own_a +++ (temps b l line +++ own_b)) j m s t (HasTemps a j) (λ s'. OwnHolds (has_own a b) m a s' × (HasTemps b l s' × OwnHolds (has_own b a) (l + temps_in b) b s')) (omega arith)
-        (temps_made a j line s t o.1.0 d.1.0)
-        (λ s1 p1 q1. makes_append own_a (temps b l line +++ own_b) m l s1 t (OwnHolds (has_own a b) m a) (λ s'. HasTemps b l s' × OwnHolds (has_own b a) (l + temps_in b) b s') (omega arith)
-          (own_made (has_own a b) line m a (shrunk a j) s1 t (value_shrunk a j s1 o.1.0 (defined_same xs a s s1 o.1.0 p1 d.1.0) q1) (λ s' h. num_same xs a s1 s' o.1.0 h.plains))
-          (λ s2 p2 q2.
-            let d2 = defined_same xs b s1 s2 o.1.1 p2 (defined_same xs b s s1 o.1.1 p1 d.1.1) in
-            makes_append (temps b l line) own_b l (l + temps_in b) s2 t (HasTemps b l) (OwnHolds (has_own b a) (l + temps_in b) b) (omega arith)
-              (temps_made b l line s2 t o.1.1 d2)
-              (λ s3 p3 q3. own_made (has_own b a) line (l + temps_in b) b (shrunk b l) s3 t (value_shrunk b l s3 o.1.1 (defined_same xs b s2 s3 o.1.1 p3 d2) q3) (λ s' h. num_same xs b s3 s' o.1.1 h.plains))
-              (λ s3 s4 h w. temps_same xs b l s3 s4 o.1.1 h w))
-          (λ s2 s3 h w. own_same xs (has_own a b) m a s2 s3 o.1.0 h w))
-        (λ s1 s2 h w. temps_same xs a j s1 s2 o.1.0 h w)
+      (temps_made a j line s t o.1.0 d.1.0)
+      (λ s1 p1 q1. makes_append own_a (temps b l line +++ own_b) m l s1 t (OwnHolds (has_own a b) m a) (λ s'. HasTemps b l s' × OwnHolds (has_own b a) (l + temps_in b) b s') (omega arith)
+      (own_made (has_own a b) line m a (shrunk a j) s1 t (value_shrunk a j s1 o.1.0 (defined_same xs a s s1 o.1.0 p1 d.1.0) q1) (λ s' h. num_same xs a s1 s' o.1.0 h.plains))
+      (λ s2 p2 q2.
+      let d2 = defined_same xs b s1 s2 o.1.1 p2 (defined_same xs b s s1 o.1.1 p1 d.1.1) in
+      makes_append (temps b l line) own_b l (l + temps_in b) s2 t (HasTemps b l) (OwnHolds (has_own b a) (l + temps_in b) b) (omega arith)
+      (temps_made b l line s2 t o.1.1 d2)
+      (λ s3 p3 q3. own_made (has_own b a) line (l + temps_in b) b (shrunk b l) s3 t (value_shrunk b l s3 o.1.1 (defined_same xs b s2 s3 o.1.1 p3 d2) q3) (λ s' h. num_same xs b s3 s' o.1.1 h.plains))
+      (λ s3 s4 h w. temps_same xs b l s3 s4 o.1.1 h w))
+      (λ s2 s3 h w. own_same xs (has_own a b) m a s2 s3 o.1.0 h w))
+      (λ s1 s2 h w. temps_same xs a j s1 s2 o.1.0 h w)
   temps_made (bin quot a b) j line s t o d = nothing_made j s t
   temps_made (bin modulo a b) j line s t o d = nothing_made j s t
   temps_made (bin greater a b) j line s t o d = nothing_made j s t
@@ -187,7 +192,7 @@ module _ (q : Calls ℤ) (sh : Var → Shape) (level : ℕ) (base : Kept) (xs : 
   temps_made (pow a (suc (suc k))) j line s t o d =
       let m = j + temps_in a in
       makes_append (temps a j line) (own_code (has_own a a) line m (shrunk a j)) j m s t (HasTemps a j) (OwnHolds (has_own a a) m a) (omega arith)
-        (temps_made a j line s t o d)
-        (λ s1 p r. own_made (has_own a a) line m a (shrunk a j) s1 t (value_shrunk a j s1 o (defined_same xs a s s1 o p d) r) (λ s' h. num_same xs a s1 s' o h.plains))
-        (λ s1 s2 h w. temps_same xs a j s1 s2 o h w)
+      (temps_made a j line s t o d)
+      (λ s1 p r. own_made (has_own a a) line m a (shrunk a j) s1 t (value_shrunk a j s1 o (defined_same xs a s s1 o p d) r) (λ s' h. num_same xs a s1 s' o h.plains))
+      (λ s1 s2 h w. temps_same xs a j s1 s2 o h w)
   temps_made (abs a) j line s t o d = nothing_made j s t

@@ -1,15 +1,15 @@
 -- Runs of units from the runs of their bodies, and what a unit of scalars declares.
-use Rattle.std.proofs.Common.{◌≡◌, ℕ, zero, suc, ◌+◌, ◌-◌, ◌≤◌, Bool, true, false, List, [], ◌∷◌, ◌++◌, map, length, refl, sym, ap, ◌∙◌, subst, arith, if◌then◌else◌}
-use Rattle.std.specs.Prelude.{ℤ, pos, ◌==◌, Option, None, reverse}
-use Rattle.adj_tree.specs.Code.{Var, plain, shadow, Role, work, temp, name_eq, var_eq, Declaration, Procedure, Code}
+use Rattle.std.proofs.Common.{◌≡◌, ℕ, zero, suc, ◌+◌, ◌-◌, ◌≤◌, Bool, true, false, List, [], ◌∷◌, ◌++◌, map, refl, sym, ap, ◌∙◌, arith, if◌then◌else◌}
+use Rattle.std.specs.Prelude.{◌==◌, None, reverse}
+use Rattle.adj_tree.specs.Code.{Var, plain, shadow, Role, work, temp, name_eq, var_eq, Declaration, Procedure}
 use Rattle.adj_meaning.specs.Trap.{schedule_trap}
-use Rattle.adj_meaning.specs.Numbers.{Numbers, words}
-use Rattle.adj_meaning.specs.Store.{Store, Shape, scalar}
+use Rattle.adj_meaning.specs.Numbers.{Numbers}
+use Rattle.adj_meaning.specs.Store.{scalar}
 use Rattle.adj_meaning.specs.Value.{Setting}
-use Rattle.adj_meaning.specs.Event.{Event, Enter}
-use Rattle.adj_meaning.specs.Scene.{Scene, Outcome, Done, Trapped, More, then_do}
-use Rattle.adj_meaning.specs.Run.{Calls, run}
-use Rattle.adj_meaning.specs.Units.{Slot, Output, calls_of, unit_run, setting_in, entered, input_store, dummy_slots, slot_of, run_unit}
+use Rattle.adj_meaning.specs.Event.{Enter}
+use Rattle.adj_meaning.specs.Scene.{Scene, Outcome, Done, Trapped, then_do}
+use Rattle.adj_meaning.specs.Run.{run}
+use Rattle.adj_meaning.specs.Units.{Slot, Output, calls_of, setting_in, input_store, slot_of, run_unit}
 use Rattle.adj_meaning.proofs.Inversions.{then_done}
 use Rattle.adj_meaning.proofs.Costs.{run_later}
 use Rattle.adj_transpose.specs.Fresh.{has_name, reserved}
@@ -17,7 +17,6 @@ use Rattle.adj_transpose.specs.Naming.{Named, named, name_in, naming, AreApart, 
 use Rattle.adj_transpose.specs.Emit.{works_used, temps_used}
 use Rattle.adj_transpose.specs.Program.{locals, variables, declaration, unit_name, adjoint_name, helpers_from, helpers, made_for, adjoint_names, declared_with_shadows, declared_helpers, adjoint_unit}
 use Rattle.adj_transpose.specs.Straight.{AreScalars}
-use Rattle.adj_transpose.specs.Adjoint.{Ends}
 use Rattle.adj_transpose.proofs.Naming.{AreMadeInside, naming-apart, unit_names-apart, unit_names-inside, own-name}
 use Rattle.adj_transpose.proofs.Steps.{Kept, scene}
 use Rattle.adj_transpose.proofs.Slots.{setting-scalars}
@@ -78,8 +77,8 @@ module _ {C : Type 0} (n : Numbers C) (ps : List Procedure) (u : Procedure) (inp
       let none : 0 + left ≡ left = omega arith in
       let used : k - left ≡ cost = omega arith in
       let body : run (calls_of ps k) declared_setting u.body begin k ≡ Done s left =
-            ap (λ m. run (calls_of ps k) m u.body begin k) same_setting ∙ ap (run (calls_of ps k) (scalars n) u.body begin) (sym all)
-            ∙ run_later ps 0 k (omega arith) (scalars n) u.body begin s cost 0 left h ∙ ap (Done s) none in
+      ap (λ m. run (calls_of ps k) m u.body begin k) same_setting ∙ ap (run (calls_of ps k) (scalars n) u.body begin) (sym all)
+      ∙ run_later ps 0 k (omega arith) (scalars n) u.body begin s cost 0 left h ∙ ap (Done s) none in
       let shut : closed u.line s left ≡ Done s left = ap (λ m. if m == 0 then Done s left else Trapped schedule_trap u.line) o in
       ap (λ z. then_do (then_do z (closed u.line)) (handed_out k declared_setting)) body
       ∙ ap (λ z. then_do z (handed_out k declared_setting)) shut
@@ -115,7 +114,7 @@ pub adjoint-scalars : (ps : List Procedure) (p : Procedure) (vars outvars : List
 adjoint-scalars ps p vars outvars h =
     let ns = adjoint_names ps p in
     scalars-append (declared_with_shadows ns p p.dummies) (declared_with_shadows ns p (locals p) ++ declared_helpers ns p.line (helpers p.body)) (shadows_scalars ns p p.dummies h)
-      (scalars-append (declared_with_shadows ns p (locals p)) (declared_helpers ns p.line (helpers p.body)) (shadows_scalars ns p (locals p) h) (helpers_scalars ns p.line (helpers p.body)))
+    (scalars-append (declared_with_shadows ns p (locals p)) (declared_helpers ns p.line (helpers p.body)) (shadows_scalars ns p (locals p) h) (helpers_scalars ns p.line (helpers p.body)))
 
 -- ---- the names of an adjoint
 
@@ -135,7 +134,7 @@ module _ (ps : List Procedure) (p : Procedure) (apart : AreApart (variables p)) 
   made_inside : AreMadeInside (made_for p)
   made_inside =
       made-append (map shadow (variables p)) (helpers p.body) (inside-made (variables p) inside)
-        (made-append (helpers_from work 1 (works_used p.body)) (helpers_from temp 1 (temps_used p.body)) (helpers-inside work 1 (works_used p.body)) (helpers-inside temp 1 (temps_used p.body)))
+      (made-append (helpers_from work 1 (works_used p.body)) (helpers_from temp 1 (temps_used p.body)) (helpers-inside work 1 (works_used p.body)) (helpers-inside temp 1 (temps_used p.body)))
 
   -- the names in an adjoint tell all variables apart
   pub adjoint-separates : (v w : Var) → var_eq (naming (adjoint_names ps p) v) (naming (adjoint_names ps p) w) ≡ var_eq v w

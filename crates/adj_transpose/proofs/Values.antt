@@ -1,14 +1,13 @@
 -- The value and the tangent of an expression as words, wherever it is evaluated.
 use Rattle.std.proofs.Common.{◌≡◌, ℕ, zero, suc, Bool, true, false, List, refl, sym, ap, ◌∙◌, subst, int_eq}
-use Rattle.std.specs.Prelude.{ℤ, pos, ◌||◌, Result, Ok, Err, if◌then◌else◌}
+use Rattle.std.specs.Prelude.{ℤ, pos, Result, Ok, Err, if◌then◌else◌}
 use Rattle.adj_tree.specs.Code.{Var, plain, shadow, helper, Op, plus, minus, times, quot, modulo, greater, lesser, Term, lit, var, elem, neg, bin, pow, abs}
 use Rattle.adj_word.specs.Word.{add, sub, mul, negated, power, quotient, remainder}
 use Rattle.adj_word.proofs.Residues.{zero-mul, mul-zero, negated-zero, wrap-zero}
-use Rattle.adj_word.specs.Pairing.{stands_in}
 use Rattle.adj_meaning.specs.Trap.{Trap, division, then_ok}
-use Rattle.adj_meaning.specs.Numbers.{Numbers, words, duals, power_tangent, operation}
+use Rattle.adj_meaning.specs.Numbers.{words, duals, power_tangent, operation}
 use Rattle.adj_meaning.specs.Store.{Shape, Store}
-use Rattle.adj_meaning.specs.Value.{Setting, value}
+use Rattle.adj_meaning.specs.Value.{value}
 use Rattle.adj_transpose.specs.Emit.{is_active}
 use Rattle.adj_transpose.specs.Pairs.{Key, Words, tangent_at, with_tangents, SamePlain, IsTreated, IsOver, on_words, on_duals}
 use Rattle.adj_transpose.proofs.Variables.{or_false}

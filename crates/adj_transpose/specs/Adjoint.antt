@@ -1,6 +1,6 @@
 -- What it means that a program is the adjoint of another.
-use Rattle.std.specs.Prelude.{◌≡◌, ◌≤◌, ℕ, ℤ, pos, List, [], ◌∷◌, ◌++◌, map, length, Bool, true, false, Option, Some, None}
-use Rattle.adj_tree.specs.Code.{plain, shadow, Procedure}
+use Rattle.std.specs.Prelude.{◌≡◌, ◌≤◌, ℕ, ℤ, pos, List, [], ◌∷◌, ◌++◌, length, Bool, true, false, Some, None}
+use Rattle.adj_tree.specs.Code.{Procedure}
 use Rattle.adj_word.specs.Dot.{dot}
 use Rattle.adj_meaning.specs.Numbers.{Numbers, words, duals}
 use Rattle.adj_meaning.specs.Scene.{Done}

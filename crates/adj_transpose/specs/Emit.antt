@@ -1,7 +1,7 @@
 -- The sweeps of a list of statements, where every statement is kept, saved and adjointed.
 -- Variables are told apart by what they hold; names come by one renaming of the whole.
-use Rattle.std.specs.Prelude.{ℕ, zero, suc, ◌+◌, ℤ, pos, List, [], ◌∷◌, Bool, true, false, ◌||◌, ◌&&◌, if◌then◌else◌, max}
-use Rattle.adj_tree.specs.Code.{Var, plain, shadow, helper, work, temp, Op, plus, minus, times, Term, lit, var, elem, neg, bin, pow, abs, Terms, none, more, Act, assign, runtime, push_word, pop_word, Code, stop, step}
+use Rattle.std.specs.Prelude.{ℕ, zero, suc, ◌+◌, pos, List, [], ◌∷◌, Bool, true, false, ◌||◌, ◌&&◌, max}
+use Rattle.adj_tree.specs.Code.{Var, plain, shadow, helper, work, temp, plus, minus, times, Term, lit, var, elem, neg, bin, pow, abs, Terms, none, more, Act, assign, runtime, push_word, pop_word, Code, stop, step}
 use Rattle.adj_meaning.specs.Append.{◌+++◌, one}
 
 -- the code where b holds, and nothing elsewhere
@@ -60,8 +60,8 @@ shrunk (bin plus a b) j = bin plus (shrunk a j) (shrunk b (j + temps_in a))
 shrunk (bin minus a b) j = bin minus (shrunk a j) (shrunk b (j + temps_in a))
 shrunk (bin times a b) j =
     bin times
-      (own_or (has_own a b) (j + temps_in a) (shrunk a j))
-      (own_or (has_own b a) (j + temps_in a + count_of (has_own a b) + temps_in b) (shrunk b (j + temps_in a + count_of (has_own a b))))
+    (own_or (has_own a b) (j + temps_in a) (shrunk a j))
+    (own_or (has_own b a) (j + temps_in a + count_of (has_own a b) + temps_in b) (shrunk b (j + temps_in a + count_of (has_own a b))))
 shrunk (pow a (suc (suc k))) j = pow (own_or (has_own a a) (j + temps_in a) (shrunk a j)) (suc (suc k))
 shrunk (pow a (suc zero)) j = pow (shrunk a j) (suc zero)
 shrunk e j = e
@@ -100,16 +100,16 @@ back (bin minus a b) k j line =
     code_if (is_active b) (step line (assign (helper work (suc k)) none (neg (work_var k))) (back b (suc k) (j + temps_in a) line))
 back (bin times a b) k j line =
     code_if (is_active a)
-      (step line (assign (helper work (suc k)) none (bin times (work_var k) (own_or (has_own b a) (j + temps_in a + count_of (has_own a b) + temps_in b) b)))
-        (back a (suc k) j line)) +++
+    (step line (assign (helper work (suc k)) none (bin times (work_var k) (own_or (has_own b a) (j + temps_in a + count_of (has_own a b) + temps_in b) b)))
+    (back a (suc k) j line)) +++
     code_if (is_active b)
-      (step line (assign (helper work (suc k)) none (bin times (work_var k) (own_or (has_own a b) (j + temps_in a) a)))
-        (back b (suc k) (j + temps_in a + count_of (has_own a b)) line))
+    (step line (assign (helper work (suc k)) none (bin times (work_var k) (own_or (has_own a b) (j + temps_in a) a)))
+    (back b (suc k) (j + temps_in a + count_of (has_own a b)) line))
 back (pow a (suc zero)) k j line = code_if (is_active a) (back a k j line)
 back (pow a (suc (suc n))) k j line =
     code_if (is_active a)
-      (step line (assign (helper work (suc k)) none (bin times (bin times (work_var k) (lit (pos (suc (suc n))))) (pow (own_or (has_own a a) (j + temps_in a) a) (suc n))))
-        (back a (suc k) j line))
+    (step line (assign (helper work (suc k)) none (bin times (bin times (work_var k) (lit (pos (suc (suc n))))) (pow (own_or (has_own a a) (j + temps_in a) a) (suc n))))
+    (back a (suc k) j line))
 back _ k j line = stop
 
 -- how many work variables that takes, where the first one has the number k
@@ -133,7 +133,7 @@ place x (more e es) = elem x (more e es)
 abbrev pub adjoint_of : List ℕ → Terms → Term → ℕ → Code
 adjoint_of t subs e line =
     code_if (is_active e)
-      (temps e 1 line +++ one line (assign (helper work 1) none (place (shadow t) subs))) +++
+    (temps e 1 line +++ one line (assign (helper work 1) none (place (shadow t) subs))) +++
     (one line (assign (shadow t) subs (lit (pos 0))) +++
     code_if (is_active e) (back e 1 1 line))
 

@@ -1,5 +1,5 @@
 -- Programs and their adjoints, written out.
-use Rattle.std.specs.Prelude.{ℕ, pos, List, [], ◌∷◌, true, false, codes}
+use Rattle.std.specs.Prelude.{ℕ, pos, List, [], ◌∷◌, false, codes}
 use Rattle.adj_tree.specs.Code.{Var, plain, Term, lit, var, bin, plus, times, none, Act, assign, runtime, push_word, pop_word, Code, stop, step, Declaration, Procedure}
 
 -- the variable of this name
@@ -41,7 +41,7 @@ square = record {
   dummies = codes "X" ∷ codes "Y" ∷ [];
   is_none = false;
   declarations = declare 2 (codes "X") ∷ declare 2 (codes "Y") ∷ [];
-  body = step 3 (multiply (codes "Y") (codes "X") (codes "X")) stop
+  body = step 3 (multiply (codes "Y") (codes "X") (codes "X")) stop;
 }
 
 -- its adjoint, where X is independent and Y dependent
@@ -53,18 +53,18 @@ square_adjoint = record {
   is_none = false;
   declarations = declare 2 (codes "X") ∷ declare 2 (codes "XB") ∷ declare 2 (codes "Y") ∷ declare 2 (codes "YB") ∷ declare 1 (codes "ADW1") ∷ declare 1 (codes "ADW2") ∷ [];
   body =
-    step 3 (push (codes "Y"))
-    (step 3 (multiply (codes "Y") (codes "X") (codes "X"))
-    (step 1 (zero_of (codes "XB"))
-    (step 3 (pop (codes "Y"))
-    (step 3 (set_to (codes "ADW1") (use_of (codes "YB")))
-    (step 3 (zero_of (codes "YB"))
-    (step 3 (multiply (codes "ADW2") (codes "ADW1") (codes "X"))
-    (step 3 (grow (codes "XB") (codes "ADW2"))
-    (step 3 (multiply (codes "ADW2") (codes "ADW1") (codes "X"))
-    (step 3 (grow (codes "XB") (codes "ADW2"))
-    (step 1 (zero_of (codes "YB"))
-    stop))))))))))
+      step 3 (push (codes "Y"))
+      (step 3 (multiply (codes "Y") (codes "X") (codes "X"))
+      (step 1 (zero_of (codes "XB"))
+      (step 3 (pop (codes "Y"))
+      (step 3 (set_to (codes "ADW1") (use_of (codes "YB")))
+      (step 3 (zero_of (codes "YB"))
+      (step 3 (multiply (codes "ADW2") (codes "ADW1") (codes "X"))
+      (step 3 (grow (codes "XB") (codes "ADW2"))
+      (step 3 (multiply (codes "ADW2") (codes "ADW1") (codes "X"))
+      (step 3 (grow (codes "XB") (codes "ADW2"))
+      (step 1 (zero_of (codes "YB"))
+      stop))))))))));
 }
 
 -- SUBROUTINE P(X), INTEGER*8 X, X=X*X, X=X*X, END
@@ -75,7 +75,7 @@ fourth = record {
   dummies = codes "X" ∷ [];
   is_none = false;
   declarations = declare 2 (codes "X") ∷ [];
-  body = step 3 (multiply (codes "X") (codes "X") (codes "X")) (step 4 (multiply (codes "X") (codes "X") (codes "X")) stop)
+  body = step 3 (multiply (codes "X") (codes "X") (codes "X")) (step 4 (multiply (codes "X") (codes "X") (codes "X")) stop);
 }
 
 -- the adjoint of one of its statements
@@ -99,9 +99,9 @@ fourth_adjoint = record {
   is_none = false;
   declarations = declare 2 (codes "X") ∷ declare 2 (codes "XB") ∷ declare 1 (codes "ADW1") ∷ declare 1 (codes "ADW2") ∷ [];
   body =
-    step 3 (push (codes "X"))
-    (step 3 (multiply (codes "X") (codes "X") (codes "X"))
-    (step 4 (push (codes "X"))
-    (step 4 (multiply (codes "X") (codes "X") (codes "X"))
-    (squared_back 4 (squared_back 3 stop)))))
+      step 3 (push (codes "X"))
+      (step 3 (multiply (codes "X") (codes "X") (codes "X"))
+      (step 4 (push (codes "X"))
+      (step 4 (multiply (codes "X") (codes "X") (codes "X"))
+      (squared_back 4 (squared_back 3 stop)))));
 }

@@ -1,6 +1,6 @@
 -- Stores with their shadows and tangents, seen from the cells of the text's variables.
-use Rattle.std.specs.Prelude.{◌≡◌, ℕ, ℤ, pos, List, [], ◌∷◌, ◌==◌, ◌&&◌, Bool, true, None}
-use Rattle.adj_tree.specs.Code.{Var, plain, shadow, helper, name_eq, Op, quot, modulo, greater, lesser, Term, lit, var, elem, neg, bin, pow, abs, none, Act, assign, Code, stop, step}
+use Rattle.std.specs.Prelude.{◌≡◌, ℕ, ℤ, pos, List, ◌==◌, ◌&&◌, Bool, true, None}
+use Rattle.adj_tree.specs.Code.{Var, plain, shadow, name_eq, Op, greater, lesser, Term, lit, var, neg, bin, pow, none, assign, Code, stop, step}
 use Rattle.adj_word.specs.Pairing.{stands_in}
 use Rattle.adj_meaning.specs.Numbers.{words, duals}
 use Rattle.adj_meaning.specs.Store.{Shape, Store}

@@ -1,6 +1,6 @@
 -- The adjoint of a program, as it is written.
-use Rattle.std.specs.Prelude.{ℕ, zero, suc, List, [], ◌∷◌, ◌++◌, map, flat_map, Bool, true, false, if◌then◌else◌, codes, filter, not}
-use Rattle.adj_tree.specs.Code.{Var, plain, shadow, helper, Role, work, temp, name_eq, Declaration, Procedure, Extent, Code}
+use Rattle.std.specs.Prelude.{ℕ, zero, suc, List, [], ◌∷◌, ◌++◌, map, flat_map, Bool, true, false, if◌then◌else◌, codes}
+use Rattle.adj_tree.specs.Code.{Var, shadow, helper, Role, work, temp, name_eq, Declaration, Procedure, Code}
 use Rattle.adj_transpose.specs.Fresh.{has_name, fresh}
 use Rattle.adj_transpose.specs.Naming.{Named, unit_names, name_in, naming}
 use Rattle.adj_meaning.specs.Rename.{rename}
@@ -94,7 +94,7 @@ adjoint_unit ps p vars outvars =
       dummies = with_shadows ns p.dummies;
       is_none = false;
       declarations = declared_with_shadows ns p p.dummies ++ (declared_with_shadows ns p (locals p) ++ declared_helpers ns p.line (helpers p.body));
-      body = rename (naming ns) (adjoint_body p.line p.body (unmarked p.dummies outvars) (unmarked p.dummies vars))
+      body = rename (naming ns) (adjoint_body p.line p.body (unmarked p.dummies outvars) (unmarked p.dummies vars));
     }
 
 -- the unit of this number

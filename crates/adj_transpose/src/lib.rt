@@ -16,20 +16,17 @@ pub fn fresh_law()
     ensures is_free { (b : List ℕ) (taken : List (List ℕ)) → has_name (fresh b taken) taken ≡ false }
     ensures as_wanted { (b : List ℕ) (taken : List (List ℕ)) → has_name b taken ≡ false → fresh b taken ≡ b }
     ensures first_number { fresh (codes "XB") (codes "XB" ∷ codes "XB_2" ∷ []) ≡ codes "XB_1" }
-{
-}
+{}
 
 /// The adjoints of two programs as they are written.
 pub fn emitted_examples()
     ensures square { adjoint_program (square ∷ []) 0 (true ∷ false ∷ []) (false ∷ true ∷ []) ≡ square_adjoint ∷ [] }
     ensures fourth_power { adjoint_program (fourth ∷ []) 0 (true ∷ []) (true ∷ []) ≡ fourth_adjoint ∷ [] }
-{
-}
+{}
 
 ghost use Rattle.adj_transpose.specs.Theorem.{EmittedIsAdjoint};
 
 /// The emitted program is an adjoint of each source whose head is a list of assignments to scalars.
 pub fn adjoint_law()
     ensures { EmittedIsAdjoint }
-{
-}
+{}
