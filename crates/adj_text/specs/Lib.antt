@@ -1,0 +1,3 @@
+pub mod Char
+pub mod Word
+pub mod Token
