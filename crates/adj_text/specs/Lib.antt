@@ -1,3 +1,10 @@
 pub mod Char
 pub mod Word
 pub mod Token
+pub mod Refused
+pub mod Limits
+pub mod Line
+pub mod Lined
+pub mod Class
+pub mod Stated
+pub mod Data
