@@ -8,3 +8,9 @@ pub mod Lined
 pub mod Class
 pub mod Stated
 pub mod Data
+pub mod Grammar
+pub mod Condition
+pub mod Statement
+pub mod Form
+pub mod Block
+pub mod Unit
