@@ -4,7 +4,7 @@ use Rattle.adj_tree.specs.Code.{Test, Act}
 use Rattle.adj_text.specs.declared.stated.Kind.{Kind}
 use Rattle.adj_text.specs.declared.stated.Kind.TheVariants.{Do, BlockIf, LogicalIf, Assign, Continue, Return, End, EndIf, EndDo, Else, ImplicitNone, ElseIf, Subroutine, Integer, Call}
 use Rattle.adj_text.specs.Word.{Word}
-use Rattle.adj_text.specs.Statement.{Item, Range, ReadsHead, ReadsDeclared, ReadsAssignment, ReadsCall, ReadsGuard, ReadsGuarded, ReadsDo}
+use Rattle.adj_text.specs.Statement.{Item, Range, ReadsHead, ReadsItems, ReadsAssignment, ReadsCall, ReadsGuard, ReadsGuarded, ReadsDo}
 
 -- what a statement says; a loop with the label behind its DO and the snapshots of the directive before it
 pub data Form : Type 0 where
@@ -31,7 +31,7 @@ pub data Statement : Type 0 where
 pub data ReadsForm : ℕ → Kind → List Word → Form → Type 0 where
   heading : {ts : List Word} {x : List ℕ} {dummies : List (List ℕ)} → ReadsHead ts x dummies → ReadsForm 0 Subroutine ts (subroutine x dummies)
   implicit : ReadsForm 0 ImplicitNone [] implicit_none
-  declaration : {ts : List Word} {is : List Item} → ReadsDeclared ts is → ReadsForm 0 Integer ts (integers is)
+  declaration : {ts : List Word} {is : List Item} → ReadsItems ts is → ReadsForm 0 Integer ts (integers is)
   assigned : {ts : List Word} {a : Act} → ReadsAssignment ts a → ReadsForm 0 Assign ts (simple a)
   calls : {ts : List Word} {a : Act} → ReadsCall ts a → ReadsForm 0 Call ts (simple a)
   guarded : {ts us : List Word} {c : Test} {a : Act} → ReadsGuard ts us c → ReadsGuarded us a → ReadsForm 0 LogicalIf ts (logical c a)

@@ -14,3 +14,4 @@ pub mod Statement
 pub mod Form
 pub mod Block
 pub mod Unit
+pub mod Reads

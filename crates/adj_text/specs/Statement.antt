@@ -1,7 +1,7 @@
 -- Statement: which words behind its keyword make a statement of each class.
-use Rattle.std.specs.Prelude.{◌≡◌, ℕ, ◌≤◌, List, [], ◌∷◌, codes, Option, Some, None, pos, if◌then◌else◌}
+use Rattle.std.specs.Prelude.{ℕ, ◌≤◌, List, [], ◌∷◌, codes, Option, Some, None, pos, if◌then◌else◌}
 use Rattle.adj_tree.specs.Code.{Var, plain, Term, lit, var, elem, Terms, none, more, name_eq, Test, Runtime, push_word, pop_word, push_array, pop_array, push_control, pop_control, zero_array, begin_reversal, count_actions, give_action, end_reversal, Act, assign, call, runtime, Extent, fixed, given}
-use Rattle.adj_text.specs.declared.token.TokenKind.TheVariants.{Left, Right, Comma, Equals, Star, Call}
+use Rattle.adj_text.specs.declared.token.TokenKind.TheVariants.{Left, Right, Comma, Equals, Call}
 use Rattle.adj_text.specs.Char.{number_of}
 use Rattle.adj_text.specs.Word.{Word, Named, Digits, Mark}
 use Rattle.adj_text.specs.Grammar.{ReadsTerm, ReadsTerms}
@@ -40,15 +40,10 @@ pub data ReadsItem : List Word → List Word → Item → Type 0 where
   row : {x : List ℕ} {ts rest : List Word} {a : Extent} → ReadsExtent ts (Mark Right ∷ rest) a → ReadsItem (Named x ∷ Mark Left ∷ ts) rest (record { name = x; extents = a ∷ [] })
   table : {x : List ℕ} {ts us rest : List Word} {a b : Extent} → ReadsExtent ts (Mark Comma ∷ us) a → ReadsExtent us (Mark Right ∷ rest) b → ReadsItem (Named x ∷ Mark Left ∷ ts) rest (record { name = x; extents = a ∷ b ∷ [] })
 
--- items separated by commas
+-- behind INTEGER: items separated by commas
 pub data ReadsItems : List Word → List Item → Type 0 where
   last : {ts : List Word} {i : Item} → ReadsItem ts [] i → ReadsItems ts (i ∷ [])
   another : {ts us : List Word} {i : Item} {is : List Item} → ReadsItem ts (Mark Comma ∷ us) i → ReadsItems us is → ReadsItems ts (i ∷ is)
-
--- behind INTEGER: the length 8 or none, then the items
-pub data ReadsDeclared : List Word → List Item → Type 0 where
-  short : {ts : List Word} {is : List Item} → ReadsItems ts is → ReadsDeclared ts is
-  long : {digits : List ℕ} {ts : List Word} {is : List Item} → number_of digits ≡ 8 → ReadsItems ts is → ReadsDeclared (Mark Star ∷ Digits digits ∷ ts) is
 
 -- an actual that is a place, and one that is a name
 abbrev pub as_place : (Var → Terms → Runtime) → Terms → Option Runtime
