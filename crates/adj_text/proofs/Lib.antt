@@ -1,3 +1,4 @@
 pub mod Spelled
 pub mod Scans
 pub mod Stating
+pub mod Joins
