@@ -2,3 +2,4 @@ pub mod Spelled
 pub mod Scans
 pub mod Stating
 pub mod Joins
+pub mod Classes
