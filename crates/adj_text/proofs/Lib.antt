@@ -3,3 +3,4 @@ pub mod Scans
 pub mod Stating
 pub mod Joins
 pub mod Classes
+pub mod Plain

@@ -37,7 +37,7 @@ prefix_len-stops p (x ∷ xs) rest h f =
 capital_is_name_char : (c : ℕ) → is_capital c ≡ true → is_name_char c ≡ true
 capital_is_name_char c h = rw h refl
 
-capital_is_no_digit : (c : ℕ) → is_capital c ≡ true → is_digit c ≡ false
+pub capital_is_no_digit : (c : ℕ) → is_capital c ≡ true → is_digit c ≡ false
 capital_is_no_digit c h = grind (arith, nat_tests)
 
 digit_is_no_capital : (c : ℕ) → is_digit c ≡ true → is_capital c ≡ false
