@@ -1,15 +1,15 @@
 -- Joins: how an initial line and its continuation lines are joined, where there is no limit.
-use Rattle.std.proofs.Common.{◌≡◌, ℕ, zero, suc, ◌+◌, ◌-◌, ◌<◌, ◌≤◌, Bool, true, false, eqb, List, [], ◌∷◌, ◌++◌, length, get_or, take, drop, map, filter, Option, Some, None, Ok, refl, sym, ap, ◌∙◌, arith, append_assoc, append-nil}
-use Rattle.std.specs.Prelude.{◌&&◌, not}
+use Rattle.std.proofs.Common.{◌≡◌, ℕ, zero, suc, ◌-◌, ◌<◌, ◌≤◌, true, false, eqb, List, [], ◌∷◌, ◌++◌, length, get_or, map, Some, None, Ok, refl, ap, ◌∙◌, arith}
+use Rattle.std.specs.Prelude.{not}
 use Rattle.std.specs.List.{list_all}
 use Rattle.std.proofs.lemmas.Bool.{lt-ltb}
 use Rattle.std.proofs.lemmas.Bool.Decides.{nat_tests}
 use Rattle.std.proofs.lemmas.List.{take_all, map-append}
 use Rattle.std.proofs.lemmas.List.Elements.{filter-append}
 use Rattle.adj_text.specs.Char.{is_blank, are_blank, is_allowed, upper, without_blanks, folded}
-use Rattle.adj_text.specs.Line.{cut_lines, without_cr, next_number, is_data, begins_in_either_case, is_directive, is_comment, body}
+use Rattle.adj_text.specs.Line.{cut_lines, without_cr, next_number, is_data, begins_in_either_case, is_directive}
 use Rattle.adj_text.specs.Limits.{no_limits}
-use Rattle.adj_text.specs.Lined.{Lines, Pass, flushed, mark_of, with_line, pass_over}
+use Rattle.adj_text.specs.Lined.{Pass, flushed, mark_of, with_line, pass_over}
 use Rattle.adj_text.proofs.Scans.{both_true}
 
 -- all characters may stand in a statement

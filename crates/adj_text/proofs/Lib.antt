@@ -4,3 +4,4 @@ pub mod Stating
 pub mod Joins
 pub mod Classes
 pub mod Plain
+pub mod Derived

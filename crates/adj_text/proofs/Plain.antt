@@ -1,18 +1,17 @@
 -- Plain: plain statements, as keyword and words, are statements of their class.
-use Rattle.std.proofs.Common.{◌≡◌, ℕ, ◌+◌, ◌<◌, ◌≤◌, Bool, true, false, List, [], ◌∷◌, ◌++◌, length, Some, None, refl, sym, ap, ◌∙◌, arith, append-nil}
+use Rattle.std.proofs.Common.{◌≡◌, ℕ, ◌<◌, true, List, [], ◌∷◌, ◌++◌, length, Some, refl, sym, ap, ◌∙◌, arith, append-nil}
 use Rattle.std.specs.Prelude.{codes, take_while}
 use Rattle.std.specs.List.{flat_map, list_all}
 use Rattle.std.proofs.lemmas.List.Sums.{take_while-cons}
-use Rattle.adj_text.specs.declared.stated.Kind.{Kind}
 use Rattle.adj_text.specs.declared.stated.Kind.TheVariants as classes
-use Rattle.adj_text.specs.declared.token.TokenKind.TheVariants.{Left, Right, Comma, Equals, Star, Plus}
+use Rattle.adj_text.specs.declared.token.TokenKind.TheVariants.{Left, Right, Comma, Equals}
 use Rattle.adj_text.specs.Char.{left, right, comma, equals, is_capital, is_digit, is_name_char}
-use Rattle.adj_text.specs.Class.{width_of, has_open, is_matched, kind_of, class_of, is_do, is_if}
+use Rattle.adj_text.specs.Class.{width_of, has_open, is_matched, kind_of, class_of}
 use Rattle.adj_text.specs.Stated.{keyword_len}
-use Rattle.adj_text.specs.Word.{Word, Named, Digits, Mark}
-use Rattle.adj_text.proofs.Spelled.{spelling, is_name, is_number, EndsName, AreSpaced}
+use Rattle.adj_text.specs.Word.{Word, Named, Mark}
+use Rattle.adj_text.proofs.Spelled.{spelling, is_name, EndsName, AreSpaced}
 use Rattle.adj_text.proofs.Scans.{both_true, capital_is_no_digit}
-use Rattle.adj_text.proofs.Stating.{text_of, IsStatement}
+use Rattle.adj_text.proofs.Stating.{IsStatement}
 use Rattle.adj_text.proofs.Classes.{Lacks, Lack, has_open-none, has_open-behind, is_matched-behind, no_do, no_if, lacks-name, lacks-words, lacks-behind}
 
 -- names with commas between them, and what follows
