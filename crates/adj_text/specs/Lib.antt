@@ -15,3 +15,4 @@ pub mod Form
 pub mod Block
 pub mod Unit
 pub mod Reads
+pub mod Text
