@@ -16,3 +16,4 @@ pub mod Block
 pub mod Unit
 pub mod Reads
 pub mod Text
+pub mod Written
