@@ -1,2 +1,5 @@
 pub mod Code
 pub mod View
+pub mod Size
+pub mod Lines
+pub mod Listed

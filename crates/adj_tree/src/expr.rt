@@ -1,6 +1,12 @@
 //! Expressions, conditions and places.
 
+ghost use Rattle.std.specs.Prelude.{◌≡◌};
+ghost use Rattle.adj_tree.specs.Code.{none};
+ghost use Rattle.adj_tree.specs.View.{terms_of};
+ghost use Rattle.adj_tree.specs.Listed.{terms_turned};
+
 use crate::name::Name;
+use std::mem;
 
 /// What joins two operands.
 #[derive(Clone, Copy, PartialEq, Eq, Debug)]
@@ -35,6 +41,24 @@ pub enum Expr {
 pub enum Exprs {
     Empty,
     More(Box<Expr>, Box<Exprs>),
+}
+
+impl Exprs {
+    /// Its members in the other order.
+    pub fn turned(mut self) -> Exprs
+        ensures turned { terms_of result ≡ terms_turned (terms_of self) none }
+    {
+        let mut made = Exprs::Empty;
+        loop {
+            match self {
+                Exprs::Empty => return made,
+                Exprs::More(first, mut rest) => {
+                    self = mem::replace(&mut *rest, made);
+                    made = Exprs::More(first, rest);
+                }
+            }
+        }
+    }
 }
 
 impl Drop for Exprs {

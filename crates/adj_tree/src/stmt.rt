@@ -1,7 +1,13 @@
 //! Statements.
 
+ghost use Rattle.std.specs.Prelude.{◌≡◌};
+ghost use Rattle.adj_tree.specs.Code.{stop};
+ghost use Rattle.adj_tree.specs.View.{code_of};
+ghost use Rattle.adj_tree.specs.Listed.{code_turned};
+
 use crate::expr::{Cond, Expr, Exprs, Place};
 use crate::name::Name;
+use std::mem;
 
 /// A call of the runtime: of its tape, its zeroing, or its schedules.
 #[derive(Drop)]
@@ -55,6 +61,24 @@ pub struct Stmt {
 pub enum Stmts {
     Empty,
     More(Box<Stmt>, Box<Stmts>),
+}
+
+impl Stmts {
+    /// Its members in the other order.
+    pub fn turned(mut self) -> Stmts
+        ensures turned { code_of result ≡ code_turned (code_of self) stop }
+    {
+        let mut made = Stmts::Empty;
+        loop {
+            match self {
+                Stmts::Empty => return made,
+                Stmts::More(first, mut rest) => {
+                    self = mem::replace(&mut *rest, made);
+                    made = Stmts::More(first, rest);
+                }
+            }
+        }
+    }
 }
 
 impl Drop for Stmts {

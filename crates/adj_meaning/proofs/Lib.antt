@@ -1,0 +1,12 @@
+pub mod Examples
+pub mod Appends
+pub mod Inversions
+pub mod Leadings
+pub mod Verdicts
+pub mod Longer
+pub mod Costs
+pub mod SeenValues
+pub mod SeenRuns
+pub mod SeenCalls
+pub mod Renamed
+pub mod Projected

@@ -1,0 +1,49 @@
+-- What holds of every run, for words and for words with tangents alike.
+use Rattle.std.specs.Prelude.{◌≡◌, ℕ, ℤ, ◌+◌, ◌<◌, ◌≤◌, List, map, Option}
+use Rattle.adj_tree.specs.Code.{Var, Code, Procedure}
+use Rattle.adj_meaning.specs.Append.{◌+++◌}
+use Rattle.adj_meaning.specs.Numbers.{Numbers, words, duals}
+use Rattle.adj_meaning.specs.Value.{Setting}
+use Rattle.adj_meaning.specs.Scene.{Scene, Done, More, then_do}
+use Rattle.adj_meaning.specs.Run.{Calls, run}
+use Rattle.adj_meaning.specs.Units.{Slot, Output, calls_of, run_unit}
+use Rattle.adj_meaning.specs.Rename.{rename}
+use Rattle.adj_meaning.specs.Seen.{Separates, pulled_setting, pulled_scene, pulled_outcome, Projects, slot_seen, ending_seen}
+
+-- a list is run part by part
+abbrev pub RunsPartByPart : Type 0 → Type 0
+RunsPartByPart C = (q : Calls C) (n : Setting C) (c d : Code) (s : Scene C) (k : ℕ) → run q n (c +++ d) s k ≡ then_do (run q n c s k) (run q n d)
+
+-- a list that is done is done alike with more statements and with deeper calls
+abbrev pub DoneWithMore : Type 0 → Type 0
+DoneWithMore C = (units : List Procedure) (depth deeper : ℕ) → depth ≤ deeper → (n : Setting C) (c : Code) (s s' : Scene C) (k k' m : ℕ) → run (calls_of units depth) n c s k ≡ Done s' k' → run (calls_of units deeper) n c s (k + m) ≡ Done s' (k' + m)
+
+-- a run that doesn't end for want of statements ends alike with more of them
+abbrev pub EndsAlike : Type 0 → Type 0
+EndsAlike C = (n : Numbers C) (units : List Procedure) (u : Procedure) (input : List (Slot C)) (tape : List C) (room : Option ℕ) (k m : ℕ) →
+    (run_unit n units u input tape room k ≡ More → ⊥) → run_unit n units u input tape room (k + m) ≡ run_unit n units u input tape room k
+
+-- so two such runs end alike, whatever statements they had
+abbrev pub OneEnd : Type 0 → Type 0
+OneEnd C = (n : Numbers C) (units : List Procedure) (u : Procedure) (input : List (Slot C)) (tape : List C) (room : Option ℕ) (k m : ℕ) →
+    (run_unit n units u input tape room k ≡ More → ⊥) → (run_unit n units u input tape room m ≡ More → ⊥) → run_unit n units u input tape room k ≡ run_unit n units u input tape room m
+
+-- a run that is done had enough statements, and with fewer than it used there is more to do
+abbrev pub MoreBefore : Type 0 → Type 0
+MoreBefore C = (n : Numbers C) (units : List Procedure) (u : Procedure) (input : List (Slot C)) (tape : List C) (room : Option ℕ) (k : ℕ) (out : Output C) (used : ℕ) →
+    run_unit n units u input tape room k ≡ Done out used → (used ≤ k) × ((j : ℕ) → j < used → run_unit n units u input tape room j ≡ More)
+
+-- a run under new names that keep the variables apart is the run under the old ones
+abbrev pub RunRenamed : Type 0 → Type 0
+RunRenamed C = (r : Var → Var) → Separates r → (units : List Procedure) (depth : ℕ) (n : Setting C) (c : Code) (s : Scene C) (k : ℕ) →
+    pulled_outcome r (run (calls_of units depth) n (rename r c) s k) ≡ run (calls_of units depth) (pulled_setting r n) c (pulled_scene r s) k
+
+-- a run over some numbers, seen over others that do alike, is the run over those
+abbrev pub RunProjected : Type 0 → Type 0 → Type 0
+RunProjected C D = (h : C → D) (n : Numbers C) (m : Numbers D) → Projects h n m → (units : List Procedure) (u : Procedure) (input : List (Slot C)) (tape : List C) (room : Option ℕ) (k : ℕ) →
+    ending_seen h (run_unit n units u input tape room k) ≡ run_unit m units u (map (slot_seen h) input) (map h tape) room k
+
+-- a dual run without its tangents is the run of its words: it takes the same path and ends alike
+abbrev pub TangentsForgotten : Type 0
+TangentsForgotten = (units : List Procedure) (u : Procedure) (input : List (Slot (ℤ × ℤ))) (tape : List (ℤ × ℤ)) (room : Option ℕ) (k : ℕ) →
+    ending_seen (λ a. a.0) (run_unit duals units u input tape room k) ≡ run_unit words units u (map (slot_seen (λ a. a.0)) input) (map (λ a. a.0) tape) room k

@@ -1,0 +1,135 @@
+-- A fresh name isn't taken.
+use Rattle.std.proofs.Common.{◌≡◌, ℕ, zero, suc, ◌+◌, ◌-◌, ◌*◌, ◌/◌, ◌%◌, ◌<◌, ◌≤◌, Bool, true, false, List, [], ◌∷◌, ◌++◌, length, nat_lt, refl, sym, ap, ◌∙◌, subst, arith, if◌then◌else◌}
+use Rattle.std.specs.Prelude.{◌||◌}
+use Rattle.std.proofs.lemmas.Bool.Decides.{nat_tests}
+use Rattle.adj_tree.specs.Code.{name_eq}
+use Rattle.adj_transpose.specs.Fresh.{has_name, digits_before, digits, candidate, first_free, fresh}
+use Rattle.adj_tree.proofs.Names.{name_same}
+use Rattle.adj_transpose.specs.Naming.{begins_outside}
+use Rattle.adj_transpose.proofs.Variables.{not_true}
+
+-- ---- candidates are apart
+
+-- the number that digits after the number v make
+abbrev read : ℕ → List ℕ → ℕ
+read v [] = v
+read v (d ∷ ds) = read (v * 10 + (d - 48)) ds
+
+read-digits : (most n : ℕ) (others : List ℕ) → n < most → read 0 (digits_before most n others) ≡ read n others
+read-digits zero n others h = absurd (omega arith)
+read-digits (suc most) n others h = go (λ m o l. read-digits most m o l) (nat_lt n 10) refl
+  where
+    go : ((m : ℕ) (o : List ℕ) → m < most → read 0 (digits_before most m o) ≡ read m o) → (b : Bool) → nat_lt n 10 ≡ b → read 0 (if b then (48 + n) ∷ others else digits_before most (n / 10) ((48 + n % 10) ∷ others)) ≡ read n others
+    go ih true e = let p : 0 * 10 + (48 + n - 48) ≡ n = omega arith in ap (λ v. read v others) p
+    go ih false e =
+        let large : 10 ≤ n = grind (arith, nat_tests) in
+        let less : n / 10 < most = omega arith in
+        let p : n / 10 * 10 + (48 + n % 10 - 48) ≡ n = omega arith in
+        ih (n / 10) ((48 + n % 10) ∷ others) less ∙ ap (λ v. read v others) p
+
+-- digits say of what number they are
+pub digits_same : (m n : ℕ) → digits m ≡ digits n → m ≡ n
+digits_same m n h = sym (read-digits (suc m) m [] (omega arith)) ∙ ap (read 0) h ∙ read-digits (suc n) n [] (omega arith)
+
+-- what follows the same front is the same
+behind_same : (b x y : List ℕ) → b ++ x ≡ b ++ y → x ≡ y
+behind_same [] x y h = h
+behind_same (a ∷ b) x y h = behind_same b x y (cc)
+
+-- nothing but the front itself is as long as it
+front_longer : (b : List ℕ) (d : ℕ) (x : List ℕ) → b ≡ b ++ (d ∷ x) → ⊥
+front_longer [] d x h = cc
+front_longer (a ∷ b) d x h = front_longer b d x (cc)
+
+-- candidates of two numbers are two names
+pub candidates_apart : (b : List ℕ) (i j : ℕ) → i < j → candidate b i ≡ candidate b j → ⊥
+candidates_apart b i zero lt e = absurd (omega arith)
+candidates_apart b zero (suc j) lt e = front_longer b 95 (digits (suc j)) e
+candidates_apart b (suc i) (suc j) lt e =
+    let p = behind_same b (95 ∷ digits (suc i)) (95 ∷ digits (suc j)) e in
+    let q : digits (suc i) ≡ digits (suc j) = cc in
+    let r = digits_same (suc i) (suc j) q in
+    absurd (omega arith)
+
+-- ---- one of them is free
+
+-- the list without a name
+abbrev without : List ℕ → List (List ℕ) → List (List ℕ)
+without x [] = []
+without x (y ∷ ys) = if name_eq x y then without x ys else y ∷ without x ys
+
+without-le : (x : List ℕ) (ys : List (List ℕ)) → length (without x ys) ≤ length ys
+without-le x [] = omega arith
+without-le x (y ∷ ys) = go (name_eq x y) (without-le x ys)
+  where
+    go : (b : Bool) → length (without x ys) ≤ length ys → length (if b then without x ys else y ∷ without x ys) ≤ suc (length ys)
+    go true h = omega arith
+    go false h = omega arith
+
+-- it is shorter where it had the name
+without-shorter : (x : List ℕ) (ys : List (List ℕ)) → has_name x ys ≡ true → length (without x ys) < length ys
+without-shorter x [] h = cc
+without-shorter x (y ∷ ys) h = go (name_eq x y) h (without-le x ys) (without-shorter x ys)
+  where
+    go : (b : Bool) → (b || has_name x ys) ≡ true → length (without x ys) ≤ length ys → (has_name x ys ≡ true → length (without x ys) < length ys) → length (if b then without x ys else y ∷ without x ys) < suc (length ys)
+    go true h le ih = omega arith
+    go false h le ih = let p = ih h in omega arith
+
+-- and has the other names as before
+without-has : (x z : List ℕ) (ys : List (List ℕ)) → name_eq z x ≡ false → has_name z (without x ys) ≡ has_name z ys
+without-has x z [] n = refl
+without-has x z (y ∷ ys) n = go (name_eq x y) refl (without-has x z ys n)
+  where
+    go : (b : Bool) → name_eq x y ≡ b → has_name z (without x ys) ≡ has_name z ys → has_name z (if b then without x ys else y ∷ without x ys) ≡ (name_eq z y || has_name z ys)
+    go true e ih =
+        let p : name_eq z y ≡ false = subst (λ w. name_eq z w ≡ false) (name_same x y e) n in
+        ih ∙ sym (ap (λ b. b || has_name z ys) p)
+    go false e ih = ap (λ b. name_eq z y || b) ih
+
+-- among more candidates than there are names left one is free
+first_free-is_free : (tries i : ℕ) (b : List ℕ) (taken left : List (List ℕ)) → length left ≤ tries → ((j : ℕ) → i ≤ j → has_name (candidate b j) left ≡ has_name (candidate b j) taken) → has_name (first_free tries i b taken) taken ≡ false
+first_free-is_free zero i b taken [] le same = sym (same i (omega arith))
+first_free-is_free zero i b taken (x ∷ left) le same = absurd (omega arith)
+first_free-is_free (suc tries) i b taken left le same = go (λ l h g. first_free-is_free tries (suc i) b taken l h g) (has_name (candidate b i) taken) refl
+  where
+    go : ((l : List (List ℕ)) → length l ≤ tries → ((j : ℕ) → suc i ≤ j → has_name (candidate b j) l ≡ has_name (candidate b j) taken) → has_name (first_free tries (suc i) b taken) taken ≡ false) → (t : Bool) → has_name (candidate b i) taken ≡ t → has_name (if t then first_free tries (suc i) b taken else candidate b i) taken ≡ false
+    go ih false e = e
+    go ih true e =
+        let shorter = without-shorter (candidate b i) left (same i (omega arith) ∙ e) in
+        ih (without (candidate b i) left) (omega arith)
+        (λ j lt.
+        let apart : name_eq (candidate b j) (candidate b i) ≡ false = not_true _ (λ p. candidates_apart b i j lt (sym (name_same (candidate b j) (candidate b i) p))) in
+        without-has (candidate b i) (candidate b j) left apart ∙ same j (omega arith))
+
+-- a fresh name isn't among the taken ones
+pub fresh-is_free : (b : List ℕ) (taken : List (List ℕ)) → has_name (fresh b taken) taken ≡ false
+fresh-is_free b taken = first_free-is_free (length taken) 0 b taken taken (omega arith) (λ j le. refl)
+
+-- ---- a fresh name is b with something behind it
+
+pub behind-begins : (b x : List ℕ) → begins_outside b ≡ false → begins_outside x ≡ false → begins_outside (b ++ x) ≡ false
+behind-begins [] x h g = g
+behind-begins (a ∷ b) x h g = h
+
+candidate-begins : (b : List ℕ) (i : ℕ) → begins_outside b ≡ false → begins_outside (candidate b i) ≡ false
+candidate-begins b zero h = h
+candidate-begins b (suc i) h = behind-begins b (95 ∷ digits (suc i)) h refl
+
+first_free-begins : (tries i : ℕ) (b : List ℕ) (taken : List (List ℕ)) → begins_outside b ≡ false → begins_outside (first_free tries i b taken) ≡ false
+first_free-begins zero i b taken h = candidate-begins b i h
+first_free-begins (suc tries) i b taken h = go (first_free-begins tries (suc i) b taken h) (has_name (candidate b i) taken)
+  where
+    go : begins_outside (first_free tries (suc i) b taken) ≡ false → (t : Bool) → begins_outside (if t then first_free tries (suc i) b taken else candidate b i) ≡ false
+    go ih true = ih
+    go ih false = candidate-begins b i h
+
+pub fresh-begins : (b : List ℕ) (taken : List (List ℕ)) → begins_outside b ≡ false → begins_outside (fresh b taken) ≡ false
+fresh-begins b taken h = first_free-begins (length taken) 0 b taken h
+
+first_free-as_wanted : (tries : ℕ) (b : List ℕ) (taken : List (List ℕ)) → has_name b taken ≡ false → first_free tries 0 b taken ≡ b
+first_free-as_wanted zero b taken h = refl
+first_free-as_wanted (suc tries) b taken h = rw h refl
+
+-- a name that is free stays as it is
+pub fresh-as_wanted : (b : List ℕ) (taken : List (List ℕ)) → has_name b taken ≡ false → fresh b taken ≡ b
+fresh-as_wanted b taken h = first_free-as_wanted (length taken) b taken h

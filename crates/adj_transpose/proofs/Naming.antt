@@ -1,0 +1,162 @@
+-- The naming of a unit tells all variables apart.
+use Rattle.std.proofs.Common.{◌≡◌, ℕ, Bool, true, false, List, [], ◌∷◌, ◌++◌, map, refl, sym, ap, ◌∙◌, subst, if◌then◌else◌, codes}
+use Rattle.std.specs.Prelude.{◌==◌, ◌&&◌, ◌||◌}
+use Rattle.adj_tree.specs.Code.{role_code, work, temp, control, first, stride, count, turn, entry, entries, kind, lower, upper, Var, plain, shadow, helper, name_eq, var_eq}
+use Rattle.adj_transpose.specs.Fresh.{has_name, fresh, reserved}
+use Rattle.adj_transpose.specs.Naming.{wanted, Named, own, named, unit_names, outside, name_in, naming, begins_outside, AreInside, AreApart, names}
+use Rattle.adj_tree.proofs.Names.{name_refl, name_same}
+use Rattle.adj_transpose.proofs.Variables.{or_assoc, or_right, or_false, not_true, name_comm, var_refl, var_same, var_comm, has_apart}
+use Rattle.adj_transpose.proofs.Fresh.{fresh-is_free, fresh-begins, behind-begins}
+
+-- ---- a table of names tells apart
+
+outside-begins : (v : Var) → begins_outside (outside v) ≡ true
+outside-begins (plain x) = refl
+outside-begins (shadow x) = refl
+outside-begins (helper r k) = refl
+
+-- names of which one begins outside differ
+begins_apart : (x y : List ℕ) → begins_outside x ≡ true → begins_outside y ≡ false → name_eq x y ≡ false
+begins_apart x y h n = not_true (name_eq x y) (λ e. let p : begins_outside y ≡ true = subst (λ z. begins_outside z ≡ true) (name_same x y e) h in cc)
+
+-- the names outside are apart
+outside_apart : (v w : Var) → name_eq (outside v) (outside w) ≡ var_eq v w
+outside_apart (plain x) (plain y) = refl
+outside_apart (plain x) (shadow y) = refl
+outside_apart (plain x) (helper b k) = refl
+outside_apart (shadow x) (plain y) = refl
+outside_apart (shadow x) (shadow y) = refl
+outside_apart (shadow x) (helper b k) = refl
+outside_apart (helper a j) (plain y) = refl
+outside_apart (helper a j) (shadow y) = refl
+outside_apart (helper a j) (helper b k) = and_true_right (role_code a == role_code b) (j == k)
+  where
+    and_true_right : (s t : Bool) → (s && (t && true)) ≡ (s && t)
+    and_true_right true true = refl
+    and_true_right true false = refl
+    and_true_right false t = refl
+
+-- a name that isn't in the table and is of a text is no name that the table gives
+never_named : (x : List ℕ) (ps : List Named) (v : Var) → has_name x (names ps) ≡ false → begins_outside x ≡ false → name_eq x (name_in ps v) ≡ false
+never_named x [] v h n = name_comm (outside v) x (begins_apart (outside v) x (outside-begins v) n)
+never_named x (p ∷ ps) v h n = go (var_eq v p.variable) (never_named x ps v (or_false (name_eq x p.name) (has_name x (names ps)) h).1 n)
+  where
+    go : (b : Bool) → name_eq x (name_in ps v) ≡ false → name_eq x (if b then p.name else name_in ps v) ≡ false
+    go true ih = (or_false (name_eq x p.name) (has_name x (names ps)) h).0
+    go false ih = ih
+
+-- names that are apart and of a text tell all variables apart
+pub naming-apart : (ps : List Named) → AreApart (names ps) → AreInside (names ps) → (v w : Var) → var_eq (naming ps v) (naming ps w) ≡ var_eq v w
+naming-apart [] a n v w = outside_apart v w
+naming-apart (p ∷ ps) a n v w = go (var_eq v p.variable) refl (var_eq w p.variable) refl (naming-apart ps a.1 n.1 v w)
+  where
+    go : (s : Bool) → var_eq v p.variable ≡ s → (t : Bool) → var_eq w p.variable ≡ t → name_eq (name_in ps v) (name_in ps w) ≡ var_eq v w → name_eq (if s then p.name else name_in ps v) (if t then p.name else name_in ps w) ≡ var_eq v w
+    go true d true e ih =
+        let same : v ≡ w = var_same v p.variable d ∙ sym (var_same w p.variable e) in
+        name_refl p.name ∙ sym (subst (λ z. var_eq v z ≡ true) same (var_refl v))
+    go true d false e ih =
+        never_named p.name ps w a.0 n.0 ∙ sym (var_comm w v (subst (λ z. var_eq w z ≡ false) (sym (var_same v p.variable d)) e))
+    go false d true e ih =
+        name_comm p.name (name_in ps v) (never_named p.name ps v a.0 n.0) ∙ sym (subst (λ z. var_eq v z ≡ false) (sym (var_same w p.variable e)) d)
+    go false d false e ih = ih
+
+-- ---- the names of a unit are such a table
+
+-- what a variable is made from is of a text
+abbrev pub IsInside : Var → Type 0
+IsInside (plain x) = begins_outside x ≡ false
+IsInside (shadow x) = begins_outside x ≡ false
+IsInside (helper r k) = Unit {0}
+
+wanted-begins : (v : Var) → IsInside v → begins_outside (wanted v) ≡ false
+wanted-begins (plain x) h = h
+wanted-begins (shadow x) h = behind-begins x (codes "B") h refl
+wanted-begins (helper work k) h = refl
+wanted-begins (helper temp k) h = refl
+wanted-begins (helper control k) h = refl
+wanted-begins (helper first k) h = refl
+wanted-begins (helper stride k) h = refl
+wanted-begins (helper count k) h = refl
+wanted-begins (helper turn k) h = refl
+wanted-begins (helper entry k) h = refl
+wanted-begins (helper entries k) h = refl
+wanted-begins (helper kind k) h = refl
+wanted-begins (helper lower k) h = refl
+wanted-begins (helper upper k) h = refl
+
+abbrev pub AreMadeInside : List Var → Type 0
+AreMadeInside [] = Unit {0}
+AreMadeInside (v ∷ vs) = IsInside v × AreMadeInside vs
+
+named-inside : (taken : List (List ℕ)) (vs : List Var) → AreMadeInside vs → AreInside (names (named taken vs))
+named-inside taken [] h = tt
+named-inside taken (v ∷ vs) h = (fresh-begins (wanted v) taken (wanted-begins v h.0), named-inside (fresh (wanted v) taken ∷ taken) vs h.1)
+
+-- a taken name isn't made
+named-free : (x : List ℕ) (taken : List (List ℕ)) (vs : List Var) → has_name x taken ≡ true → has_name x (names (named taken vs)) ≡ false
+named-free x taken [] h = refl
+named-free x taken (v ∷ vs) h =
+    let f = fresh (wanted v) taken in
+    let apart : name_eq x f ≡ false = has_apart x f taken h (fresh-is_free (wanted v) taken) in
+    rw apart (named-free x (f ∷ taken) vs (rw apart h))
+
+named-apart : (taken : List (List ℕ)) (vs : List Var) → AreApart (names (named taken vs))
+named-apart taken [] = tt
+named-apart taken (v ∷ vs) =
+    let f = fresh (wanted v) taken in
+    let here : has_name f (f ∷ taken) ≡ true = ap (λ b. b || has_name f taken) (name_refl f) in
+    (named-free f (f ∷ taken) vs here, named-apart (f ∷ taken) vs)
+
+-- the names of two tables, one behind the other
+names-append : (ps qs : List Named) → names (ps ++ qs) ≡ names ps ++ names qs
+names-append [] qs = refl
+names-append (p ∷ ps) qs = ap (λ z. p.name ∷ z) (names-append ps qs)
+
+names-own : (xs : List (List ℕ)) → names (map own xs) ≡ xs
+names-own [] = refl
+names-own (x ∷ xs) = ap (λ z. x ∷ z) (names-own xs)
+
+-- ---- own names, and those that were made
+
+has-append : (x : List ℕ) (xs ys : List (List ℕ)) → has_name x (xs ++ ys) ≡ (has_name x xs || has_name x ys)
+has-append x [] ys = refl
+has-append x (y ∷ xs) ys = ap (λ b. name_eq x y || b) (has-append x xs ys) ∙ sym (or_assoc (name_eq x y) (has_name x xs) (has_name x ys))
+
+apart-append : (xs ys : List (List ℕ)) → AreApart xs → AreApart ys → ((x : List ℕ) → has_name x xs ≡ true → has_name x ys ≡ false) → AreApart (xs ++ ys)
+apart-append [] ys a b h = b
+apart-append (x ∷ xs) ys a b h =
+    let here : has_name x (x ∷ xs) ≡ true = ap (λ t. t || has_name x xs) (name_refl x) in (
+      has-append x xs ys ∙ (λ i. a.0 i || h x here i),
+      apart-append xs ys a.1 b (λ z g. h z (or_right (name_eq z x) (has_name z xs) g)),
+    )
+
+inside-append : (xs ys : List (List ℕ)) → AreInside xs → AreInside ys → AreInside (xs ++ ys)
+inside-append [] ys a b = b
+inside-append (x ∷ xs) ys a b = (a.0, inside-append xs ys a.1 b)
+
+names-of_unit : (xs units : List (List ℕ)) (made : List Var) → names (unit_names xs units made) ≡ xs ++ names (named (xs ++ (units ++ reserved)) made)
+names-of_unit xs units made =
+    names-append (map own xs) (named (xs ++ (units ++ reserved)) made) ∙ ap (λ z. z ++ names (named (xs ++ (units ++ reserved)) made)) (names-own xs)
+
+-- the names of a unit are apart where its own are
+pub unit_names-apart : (xs units : List (List ℕ)) (made : List Var) → AreApart xs → AreApart (names (unit_names xs units made))
+unit_names-apart xs units made a =
+    let taken = xs ++ (units ++ reserved) in
+    subst AreApart (sym (names-of_unit xs units made))
+    (apart-append xs (names (named taken made)) a (named-apart taken made)
+    (λ x h. named-free x taken made (has-append x xs (units ++ reserved) ∙ ap (λ b. b || has_name x (units ++ reserved)) h)))
+
+-- and of a text where its own are
+pub unit_names-inside : (xs units : List (List ℕ)) (made : List Var) → AreInside xs → AreMadeInside made → AreInside (names (unit_names xs units made))
+unit_names-inside xs units made a m =
+    let taken = xs ++ (units ++ reserved) in
+    subst AreInside (sym (names-of_unit xs units made)) (inside-append xs (names (named taken made)) a (named-inside taken made m))
+
+-- a variable of the text keeps its name
+pub own-name : (xs : List (List ℕ)) (qs : List Named) (x : List ℕ) → has_name x xs ≡ true → name_in (map own xs ++ qs) (plain x) ≡ x
+own-name [] qs x h = cc
+own-name (y ∷ xs) qs x h = go (name_eq x y) refl h (own-name xs qs x)
+  where
+    go : (b : Bool) → name_eq x y ≡ b → (b || has_name x xs) ≡ true → (has_name x xs ≡ true → name_in (map own xs ++ qs) (plain x) ≡ x) → (if b then y else name_in (map own xs ++ qs) (plain x)) ≡ x
+    go true e h ih = sym (name_same x y e)
+    go false e h ih = ih h

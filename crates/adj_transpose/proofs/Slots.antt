@@ -1,0 +1,199 @@
+-- Slots and stores: what a unit of scalars has at its entry and hands out at its end.
+use Rattle.std.proofs.Common.{◌≡◌, ℕ, zero, suc, Bool, true, false, List, [], ◌∷◌, map, length, refl, sym, ap, ◌∙◌, subst, arith, if◌then◌else◌}
+use Rattle.std.specs.Prelude.{ℤ, pos, ◌==◌, ◌||◌}
+use Rattle.adj_tree.specs.Code.{Role, Var, plain, shadow, helper, name_eq, var_eq, Declaration, Procedure}
+use Rattle.adj_tree.proofs.Names.{nat_same, name_refl}
+use Rattle.adj_meaning.specs.Numbers.{Numbers, words, duals}
+use Rattle.adj_meaning.specs.Store.{scalar, Store, set_all, size_of}
+use Rattle.adj_meaning.specs.Value.{Setting}
+use Rattle.adj_meaning.specs.Units.{declared, extent_in, extents_of, shape_of, setting_in, Slot, from_slot, slot_of, Actual, entry_store, nth_cell, slots_fit, slot_fits, shape_fits}
+use Rattle.adj_transpose.specs.Fresh.{has_name}
+use Rattle.adj_transpose.specs.Naming.{Named, name_in, naming}
+use Rattle.adj_transpose.specs.Program.{with_shadows}
+use Rattle.adj_transpose.specs.Straight.{AreScalars}
+use Rattle.adj_transpose.specs.Pairs.{Words, with_tangents}
+use Rattle.adj_transpose.specs.Adjoint.{AreAlike, interleaved, every_second, cells_of, side_by_side, with_direction, AreTangents, tangents_of}
+use Rattle.adj_transpose.proofs.Variables.{and_true, or_right}
+
+-- ---- shapes
+
+declared-none : (ds : List Declaration) (x : Var) → AreScalars ds → declared ds x ≡ []
+declared-none [] x h = refl
+declared-none (d ∷ ds) x h = go (var_eq x (plain d.name)) (declared-none ds x h.1)
+  where
+    go : (b : Bool) → declared ds x ≡ [] → (if b then d.extents else declared ds x) ≡ []
+    go true ih = h.0
+    go false ih = ih
+
+-- a unit of scalars runs in a setting where every variable is one
+pub setting-scalars : {C : Type 0} (n : Setting C) (u : Procedure) (s : Store C) → AreScalars u.declarations → setting_in n u s ≡ record n { shape = λ x. scalar; level = suc n.level }
+setting-scalars n u s h = λ i. record n { shape = λ x. shape_of (map (extent_in n.numbers s) (declared-none u.declarations x h i)); level = suc n.level }
+
+-- ---- a unit's slots, where each dummy has one word
+
+-- each slot has one cell
+abbrev pub AreSingle : {C : Type 0} → List (Slot C) → Type 0
+AreSingle [] = Unit {0}
+AreSingle (v ∷ vs) = (length v.cells ≡ 1) × AreSingle vs
+
+-- so many slots as names
+abbrev pub AreAsMany : {A B : Type 0} → List A → List B → Type 0
+AreAsMany [] [] = Unit {0}
+AreAsMany [] (y ∷ ys) = ⊥
+AreAsMany (x ∷ xs) [] = ⊥
+AreAsMany (x ∷ xs) (y ∷ ys) = AreAsMany xs ys
+
+single_fits : (v : Slot ℤ) → slot_fits [] v ≡ true → length v.cells ≡ 1
+single_fits v h =
+    let p = and_true (shape_fits [] v.shape) (length v.cells == size_of v.shape) h in
+    let q = and_true (0 == v.shape.rows) (0 == v.shape.cols) p.0 in
+    let r : (v.shape.rows == 0) ≡ true = grind arith in
+    nat_same (length v.cells) 1 (rw r at p.1)
+
+-- an input that fits a unit of scalars has one word for each dummy
+pub fits_single : (u : Procedure) (s : Store ℤ) (xs : List (List ℕ)) (input : List (Slot ℤ)) → AreScalars u.declarations → slots_fit words u s xs input ≡ true → AreSingle input × AreAsMany xs input
+fits_single u s [] [] h f = (tt, tt)
+fits_single u s [] (v ∷ vs) h f = cc
+fits_single u s (x ∷ xs) [] h f = cc
+fits_single u s (x ∷ xs) (v ∷ vs) h f =
+    let p = and_true (slot_fits (extents_of words u s (plain x)) v) (slots_fit words u s xs vs) f in
+    let e : extents_of words u s (plain x) ≡ [] = ap (map (extent_in words s)) (declared-none u.declarations (plain x) h) in
+    let here = single_fits v (subst (λ zs. slot_fits zs v ≡ true) e p.0) in
+    let rest = fits_single u s xs vs h p.1 in
+    ((here, rest.0), rest.1)
+
+pub single_alike : (vs ws : List (Slot ℤ)) → AreAlike vs ws → AreSingle vs → AreSingle ws
+single_alike [] [] a h = tt
+single_alike [] (w ∷ ws) a h = absurd a
+single_alike (v ∷ vs) [] a h = absurd a
+single_alike (v ∷ vs) (w ∷ ws) a h = (a.1.0 ∙ h.0, single_alike vs ws a.1.1 h.1)
+
+pub many_alike : {A : Type 0} (xs : List A) (vs ws : List (Slot ℤ)) → AreAlike vs ws → AreAsMany xs vs → AreAsMany xs ws
+many_alike [] [] [] a h = tt
+many_alike [] [] (w ∷ ws) a h = absurd a
+many_alike [] (v ∷ vs) ws a h = absurd h
+many_alike (x ∷ xs) [] ws a h = absurd h
+many_alike (x ∷ xs) (v ∷ vs) [] a h = absurd a
+many_alike (x ∷ xs) (v ∷ vs) (w ∷ ws) a h = many_alike xs vs ws a.1.1 h
+
+-- ---- the store at a unit's entry, by the names of its dummies
+
+-- the store of variables that get these, told apart by what they hold
+abbrev pub given_store : {C : Type 0} → Numbers C → List Var → List (Actual C) → Store C
+given_store n [] got = λ x j. n.of_word (pos 0)
+given_store n (v ∷ vs) [] = λ x j. n.of_word (pos 0)
+given_store n (v ∷ vs) (a ∷ got) = set_all (given_store n vs got) v a.cells
+
+-- a unit whose dummies bear the names of some variables has each at its name
+pub entry_store-named : {C : Type 0} (n : Numbers C) (ns : List Named) → ((v w : Var) → var_eq (naming ns v) (naming ns w) ≡ var_eq v w) → (vs : List Var) (got : List (Actual C)) (w : Var) (j : ℕ) → entry_store n (map (name_in ns) vs) got (naming ns w) j ≡ given_store n vs got w j
+entry_store-named n ns sep [] got w j = refl
+entry_store-named n ns sep (v ∷ vs) [] w j = refl
+entry_store-named n ns sep (v ∷ vs) (a ∷ got) w j = λ i. if sep w v i then a.cells j else entry_store-named n ns sep vs got w j i
+
+-- each variable followed by its shadow
+abbrev pub paired : List (List ℕ) → List Var
+paired [] = []
+paired (x ∷ xs) = plain x ∷ shadow x ∷ paired xs
+
+pub with_shadows-named : (ns : List Named) (xs : List (List ℕ)) → ((x : List ℕ) → has_name x xs ≡ true → name_in ns (plain x) ≡ x) → with_shadows ns xs ≡ map (name_in ns) (paired xs)
+with_shadows-named ns [] h = refl
+with_shadows-named ns (x ∷ xs) h =
+    let here : has_name x (x ∷ xs) ≡ true = ap (λ b. b || has_name x xs) (name_refl x) in
+    λ i. sym (h x here) i ∷ name_in ns (shadow x) ∷ with_shadows-named ns xs (λ y e. h y (or_right (name_eq y x) (has_name y xs) e)) i
+
+from_slots-interleaved : {C : Type 0} (n : Numbers C) (vs ws : List (Slot C)) → map (from_slot n) (interleaved vs ws) ≡ interleaved (map (from_slot n) vs) (map (from_slot n) ws)
+from_slots-interleaved n [] ws = refl
+from_slots-interleaved n (v ∷ vs) [] = refl
+from_slots-interleaved n (v ∷ vs) (w ∷ ws) = ap (λ z. from_slot n v ∷ from_slot n w ∷ z) (from_slots-interleaved n vs ws)
+
+-- there a variable of the text holds its own slot, and a shadow its own
+given-plain : {C : Type 0} (n : Numbers C) (xs : List (List ℕ)) (vs ws : List (Actual C)) → AreAsMany xs vs → AreAsMany xs ws → (y : List ℕ) (j : ℕ) → given_store n (paired xs) (interleaved vs ws) (plain y) j ≡ entry_store n xs vs (plain y) j
+given-plain n [] [] ws a b y j = refl
+given-plain n [] (v ∷ vs) ws a b y j = absurd a
+given-plain n (x ∷ xs) [] ws a b y j = absurd a
+given-plain n (x ∷ xs) (v ∷ vs) [] a b y j = absurd b
+given-plain n (x ∷ xs) (v ∷ vs) (w ∷ ws) a b y j = ap (λ z. if name_eq y x then v.cells j else z) (given-plain n xs vs ws a b y j)
+
+given-shadow : {C : Type 0} (n : Numbers C) (xs : List (List ℕ)) (vs ws : List (Actual C)) → AreAsMany xs vs → AreAsMany xs ws → (y : List ℕ) (j : ℕ) → given_store n (paired xs) (interleaved vs ws) (shadow y) j ≡ entry_store n xs ws (plain y) j
+given-shadow n [] [] [] a b y j = refl
+given-shadow n [] [] (w ∷ ws) a b y j = absurd b
+given-shadow n [] (v ∷ vs) ws a b y j = absurd a
+given-shadow n (x ∷ xs) [] ws a b y j = absurd a
+given-shadow n (x ∷ xs) (v ∷ vs) [] a b y j = absurd b
+given-shadow n (x ∷ xs) (v ∷ vs) (w ∷ ws) a b y j = ap (λ z. if name_eq y x then w.cells j else z) (given-shadow n xs vs ws a b y j)
+
+many_from_slots : {A C : Type 0} (n : Numbers C) (xs : List A) (vs : List (Slot C)) → AreAsMany xs vs → AreAsMany xs (map (from_slot n) vs)
+many_from_slots n [] [] h = tt
+many_from_slots n [] (v ∷ vs) h = absurd h
+many_from_slots n (x ∷ xs) [] h = absurd h
+many_from_slots n (x ∷ xs) (v ∷ vs) h = many_from_slots n xs vs h
+
+-- what the variables of the text hold in the adjoint's store, and what their shadows
+module _ {C : Type 0} (n : Numbers C) (xs : List (List ℕ)) (input shadows : List (Slot C)) (a : AreAsMany xs input) (b : AreAsMany xs shadows) where
+  pub slots-plain : (y : List ℕ) (j : ℕ) → given_store n (paired xs) (map (from_slot n) (interleaved input shadows)) (plain y) j ≡ entry_store n xs (map (from_slot n) input) (plain y) j
+  slots-plain y j =
+      ap (λ got. given_store n (paired xs) got (plain y) j) (from_slots-interleaved n input shadows)
+      ∙ given-plain n xs (map (from_slot n) input) (map (from_slot n) shadows) (many_from_slots n xs input a) (many_from_slots n xs shadows b) y j
+
+  pub slots-shadow : (y : List ℕ) (j : ℕ) → given_store n (paired xs) (map (from_slot n) (interleaved input shadows)) (shadow y) j ≡ entry_store n xs (map (from_slot n) shadows) (plain y) j
+  slots-shadow y j =
+      ap (λ got. given_store n (paired xs) got (shadow y) j) (from_slots-interleaved n input shadows)
+      ∙ given-shadow n xs (map (from_slot n) input) (map (from_slot n) shadows) (many_from_slots n xs input a) (many_from_slots n xs shadows b) y j
+
+-- ---- the store of a dual run
+
+-- the tangents of the dummies' cells, and 0 elsewhere
+abbrev pub direction : List (List ℕ) → List (Slot ℤ) → List (List ℤ) → Words
+direction xs input d = λ k. (entry_store duals xs (map (from_slot duals) (with_direction input d)) (plain k.0) k.1).1
+
+nth-side : (cs ds : List ℤ) (j : ℕ) → length ds ≡ length cs → (nth_cell duals (side_by_side cs ds) j).0 ≡ nth_cell words cs j
+nth-side [] ds j h = refl
+nth-side (c ∷ cs) [] j h = cc
+nth-side (c ∷ cs) (d ∷ ds) zero h = refl
+nth-side (c ∷ cs) (d ∷ ds) (suc j) h = nth-side cs ds j (cc)
+
+dual_values : (xs : List (List ℕ)) (input : List (Slot ℤ)) (d : List (List ℤ)) → AreTangents input d → (v : Var) (j : ℕ) → (entry_store duals xs (map (from_slot duals) (with_direction input d)) v j).0 ≡ entry_store words xs (map (from_slot words) input) v j
+dual_values [] input d h v j = refl
+dual_values (x ∷ xs) [] d h v j = refl
+dual_values (x ∷ xs) (w ∷ ws) [] h v j = absurd h
+dual_values (x ∷ xs) (w ∷ ws) (t ∷ ts) h v j = go (var_eq v (plain x)) (nth-side w.cells t j h.0) (dual_values xs ws ts h.1 v j)
+  where
+    go : (b : Bool) → (nth_cell duals (side_by_side w.cells t) j).0 ≡ nth_cell words w.cells j → (entry_store duals xs (map (from_slot duals) (with_direction ws ts)) v j).0 ≡ entry_store words xs (map (from_slot words) ws) v j → (if b then nth_cell duals (side_by_side w.cells t) j else entry_store duals xs (map (from_slot duals) (with_direction ws ts)) v j).0 ≡ (if b then nth_cell words w.cells j else entry_store words xs (map (from_slot words) ws) v j)
+    go true here ih = here
+    go false here ih = ih
+
+shadow_none : (xs : List (List ℕ)) (got : List (Actual (ℤ × ℤ))) (y : List ℕ) (j : ℕ) → (entry_store duals xs got (shadow y) j).1 ≡ pos 0
+shadow_none [] got y j = refl
+shadow_none (x ∷ xs) [] y j = refl
+shadow_none (x ∷ xs) (a ∷ got) y j = shadow_none xs got y j
+
+helper_none : (xs : List (List ℕ)) (got : List (Actual (ℤ × ℤ))) (r : Role) (k j : ℕ) → (entry_store duals xs got (helper r k) j).1 ≡ pos 0
+helper_none [] got r k j = refl
+helper_none (x ∷ xs) [] r k j = refl
+helper_none (x ∷ xs) (a ∷ got) r k j = helper_none xs got r k j
+
+-- the dual run begins with the values of the run, and the direction
+pub dual_store : (xs : List (List ℕ)) (input : List (Slot ℤ)) (d : List (List ℤ)) → AreTangents input d → (v : Var) (j : ℕ) → entry_store duals xs (map (from_slot duals) (with_direction input d)) v j ≡ with_tangents (entry_store words xs (map (from_slot words) input)) (direction xs input d) v j
+dual_store xs input d h (plain y) j = λ i. (dual_values xs input d h (plain y) j i, direction xs input d (y, j))
+dual_store xs input d h (shadow y) j = λ i. (dual_values xs input d h (shadow y) j i, shadow_none xs (map (from_slot duals) (with_direction input d)) y j i)
+dual_store xs input d h (helper r k) j = λ i. (dual_values xs input d h (helper r k) j i, helper_none xs (map (from_slot duals) (with_direction input d)) r k j i)
+
+-- ---- the slots at a unit's end
+
+-- one word for each name
+abbrev pub singles : {C : Type 0} → (List ℕ → C) → List (List ℕ) → List (List C)
+singles f [] = []
+singles f (x ∷ xs) = (f x ∷ []) ∷ singles f xs
+
+pub cells-scalars : {C : Type 0} (s : Store C) (xs : List (List ℕ)) → cells_of (map (λ x. slot_of scalar (s (plain x))) xs) ≡ singles (λ x. s (plain x) 0) xs
+cells-scalars s [] = refl
+cells-scalars s (x ∷ xs) = ap (λ z. (s (plain x) 0 ∷ []) ∷ z) (cells-scalars s xs)
+
+-- every second slot is that of a shadow
+pub shadows-second : (s : Store ℤ) (ns : List Named) (xs : List (List ℕ)) → cells_of (every_second (map (λ x. slot_of scalar (s (plain x))) (map (name_in ns) (paired xs)))) ≡ singles (λ x. s (naming ns (shadow x)) 0) xs
+shadows-second s ns [] = refl
+shadows-second s ns (x ∷ xs) = ap (λ z. (s (naming ns (shadow x)) 0 ∷ []) ∷ z) (shadows-second s ns xs)
+
+pub tangents-singles : (s : Store ℤ) (d : Words) (xs : List (List ℕ)) → tangents_of (singles (λ x. with_tangents s d (plain x) 0) xs) ≡ singles (λ x. d (x, 0)) xs
+tangents-singles s d [] = refl
+tangents-singles s d (x ∷ xs) = ap (λ z. (d (x, 0) ∷ []) ∷ z) (tangents-singles s d xs)

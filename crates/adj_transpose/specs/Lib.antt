@@ -1,0 +1,10 @@
+-- What the contracts of this crate and of the crates above it say of emission and of adjoints.
+pub mod Fresh
+pub mod Naming
+pub mod Emit
+pub mod Pairs
+pub mod Program
+pub mod Examples
+pub mod Adjoint
+pub mod Straight
+pub mod Theorem

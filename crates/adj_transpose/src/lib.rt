@@ -1,0 +1,32 @@
+//! The adjoint of a program as a function of the program, what an adjoint is, and the theorem that joins the two.
+//!
+//! The emission (`specs/Emit.antt`) is a function on the trees' mirror, over variables that are told apart by what they
+//! hold; one renaming at the end (`specs/Naming.antt`, with the fresh names of `specs/Fresh.antt`) gives them names.
+//! The crate stands on the trees, the words and the meaning of programs. The layers above cite the emission
+//! in the contracts of the code that emits, and the theorem from the law functions here.
+#![tactic(auto)]
+
+ghost use Rattle.std.specs.Prelude.{◌≡◌, List, [], ◌∷◌, ℕ, codes, true, false};
+ghost use Rattle.adj_transpose.specs.Fresh.{has_name, fresh};
+ghost use Rattle.adj_transpose.specs.Program.{adjoint_program};
+ghost use Rattle.adj_transpose.specs.Examples.{square, square_adjoint, fourth, fourth_adjoint};
+
+/// A fresh name isn't taken, and is the name wanted where that is free.
+pub fn fresh_law()
+    ensures is_free { (b : List ℕ) (taken : List (List ℕ)) → has_name (fresh b taken) taken ≡ false }
+    ensures as_wanted { (b : List ℕ) (taken : List (List ℕ)) → has_name b taken ≡ false → fresh b taken ≡ b }
+    ensures first_number { fresh (codes "XB") (codes "XB" ∷ codes "XB_2" ∷ []) ≡ codes "XB_1" }
+{}
+
+/// The adjoints of two programs as they are written.
+pub fn emitted_examples()
+    ensures square { adjoint_program (square ∷ []) 0 (true ∷ false ∷ []) (false ∷ true ∷ []) ≡ square_adjoint ∷ [] }
+    ensures fourth_power { adjoint_program (fourth ∷ []) 0 (true ∷ []) (true ∷ []) ≡ fourth_adjoint ∷ [] }
+{}
+
+ghost use Rattle.adj_transpose.specs.Theorem.{EmittedIsAdjoint};
+
+/// The emitted program is an adjoint of each source whose head is a list of assignments to scalars.
+pub fn adjoint_law()
+    ensures { EmittedIsAdjoint }
+{}
