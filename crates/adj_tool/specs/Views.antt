@@ -1,6 +1,8 @@
 -- Views: what clauses see of the types of the top call.
 use Rattle.std.specs.Prelude.{Option, option_map}
 use Rattle.adj_tool.specs.Words as words
+use Rattle.adj_tool.specs.Answer as answer
+use Rattle.adj_tool.specs.declared.answer.Answer.{Answer}
 use Rattle.adj_tool.specs.declared.words.Request.{Request}
 use Rattle.adj_tool.specs.declared.words.Task.{Task}
 use Rattle.adj_tool.specs.declared.words.Task.TheVariants as task
@@ -12,3 +14,7 @@ request_of r = record { head = r.head; vars = r.vars; outvars = r.outvars }
 abbrev pub command_of : Task → words.Command
 command_of (task.Adjoint r) = words.Adjoint (request_of r)
 command_of (task.Schedule l s) = words.Schedule l s
+
+-- what is written, with its status
+abbrev pub answer_of : Answer → answer.Answer
+answer_of a = record { status = a.status; text = a.text.items }

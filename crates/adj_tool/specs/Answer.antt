@@ -1,0 +1,43 @@
+-- Answer: what a command writes, and the status that goes with it.
+use Rattle.std.specs.Prelude.{ℕ, ◌==◌, List, [], ◌∷◌, ◌++◌, flat_map, codes, decimal, if◌then◌else◌}
+use Rattle.adj_tree.specs.declared.fault.Refusal.{Refusal}
+use Rattle.adj_revolve.specs.declared.machine.Action.{Action}
+use Rattle.adj_revolve.specs.declared.machine.Action.TheVariants.{Store, Advance, Turn, Keep, Drop}
+use Rattle.adj_revolve.specs.Schedule.{schedule_of}
+use Rattle.adj_revolve.specs.Least.{least_cost}
+
+pub record Answer : Type 0 where
+  pub status : ℕ
+  pub text : List ℕ
+
+-- ---- words that are no command, and refusals
+
+abbrev pub usage : Answer
+usage = record { status = 1; text = codes "USAGE\n" }
+
+-- the limit that was passed, which code 21 alone has
+abbrev pub limit_text : Refusal → List ℕ
+limit_text r = if r.code == 21 then codes " LIMIT " ++ decimal r.number else []
+
+abbrev pub refused : Refusal → Answer
+refused r = record { status = 2; text = codes "REFUSED " ++ decimal r.code ++ codes " LINE " ++ decimal r.line ++ limit_text r ++ codes "\n" }
+
+-- ---- schedules
+
+abbrev pub line_of_one : List ℕ → ℕ → List ℕ
+line_of_one word p = word ++ decimal p ++ codes "\n"
+
+-- the line of an action
+abbrev pub action_line : Action → List ℕ
+action_line (Store p) = line_of_one (codes "STORE ") p
+action_line (Advance p q) = codes "ADVANCE " ++ decimal p ++ codes " " ++ decimal q ++ codes "\n"
+action_line (Turn p) = line_of_one (codes "TURN ") p
+action_line (Keep p) = line_of_one (codes "KEEP ") p
+action_line (Drop p) = line_of_one (codes "DROP ") p
+
+-- a line for each action of the schedule, and its cost
+abbrev pub schedule_answer : ℕ → ℕ → Answer
+schedule_answer steps snapshots = record {
+  status = 0;
+  text = flat_map action_line (schedule_of 0 steps snapshots) ++ line_of_one (codes "ADVANCES ") (least_cost steps snapshots)
+}

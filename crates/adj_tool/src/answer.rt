@@ -1,0 +1,48 @@
+//! What is written, and the status that goes with it.
+
+ghost use Rattle.std.specs.Prelude.{◌≡◌, ◌++◌, ℕ, List, IfOk, OnOk, decimal, codes};
+ghost use Rattle.adj_tool.specs.Answer.{limit_text, refused, usage};
+ghost use Rattle.adj_tool.specs.Views.{answer_of};
+
+use adj_tree::{Memory, Refusal};
+use itoa::Buffer;
+use std::alloc::Global;
+
+/// The bytes that a command writes, and the status of the program where they are written whole.
+#[derive(Drop)]
+pub struct Answer {
+    pub status: u8,
+    pub text: Vec<u8>,
+}
+
+/// Writes the decimal digits of a number behind a word.
+pub(crate) fn push_number(text: &mut Vec<u8>, word: &[u8], number: u128) -> Result<(), Memory>
+    ensures { OnOk result (text.new.items ≡ text.old.items ++ word.now ++ decimal number) }
+{
+    let mut buffer = Buffer::new();
+    text.extend_from_slice(word)?;
+    text.extend_from_slice(buffer.format(number).as_bytes())?;
+    Ok(())
+}
+
+/// The answer to words that are no command.
+pub(crate) fn usage(alloc: Global) -> Result<Answer, Memory>
+    ensures { IfOk result (λ a. answer_of a ≡ usage) }
+{
+    let text = Vec::from_slice(alloc, b"USAGE\n")?;
+    Ok(Answer { status: 1, text })
+}
+
+/// The answer to a text that is refused.
+pub(crate) fn refused(alloc: Global, refusal: Refusal) -> Result<Answer, Memory>
+    ensures { IfOk result (λ a. answer_of a ≡ refused refusal) }
+{
+    let mut text = Vec::new(alloc);
+    push_number(&mut text, b"REFUSED ", u128::from(refusal.code))?;
+    push_number(&mut text, b" LINE ", u128::from(refusal.line))?;
+    if refusal.code == 21 {
+        push_number(&mut text, b" LIMIT ", u128::from(refusal.number))?;
+    }
+    text.push(b'\n')?;
+    Ok(Answer { status: 2, text })
+}
