@@ -1,0 +1,9 @@
+use Rattle.std.proofs.Common.{◌<◌, arith}
+use Rattle.adj_revolve.specs.Binomial.{beta}
+use Rattle.adj_revolve.proofs.CodeLemmas.{short_below}
+use Rattle.adj_revolve.proofs.least_cost.enough.Goals as goal
+
+pub loop-repetitions-preserved : goal.loop-repetitions-preserved
+loop-repetitions-preserved c =
+    let short : beta c.args.snapshots c.loop-repetitions.repetitions < c.args.steps = grind arith in
+    omega (arith, short_below c.args.steps c.args.snapshots c.loop-repetitions.repetitions c.requires.some short)
