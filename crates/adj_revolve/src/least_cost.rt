@@ -1,6 +1,6 @@
 //! The least cost of a schedule, and where it splits its steps.
 
-ghost use Rattle.std.specs.Prelude.{◌≡◌, ℕ, ◌+◌, ◌-◌, ◌*◌, ◌^◌, ◌<◌, ◌≤◌, ◌↔◌, IsTrue, min};
+ghost use Rattle.std.specs.Prelude.{◌≡◌, ℕ, ◌+◌, ◌-◌, ◌*◌, ◌/◌, ◌^◌, ◌<◌, ◌≤◌, ◌↔◌, IsTrue, min};
 ghost use Rattle.adj_revolve.specs.Binomial.{beta, choose_before};
 ghost use Rattle.adj_revolve.specs.LeastCost.{IsGreatest, bound_at, least_cost};
 ghost use Rattle.adj_revolve.specs.Split.{IsRepetitions, repetitions, split_of};
@@ -15,11 +15,12 @@ fn suffices(steps: u64, snapshots: u32, repetitions: u64) -> bool
     steps <= beta_up_to(snapshots, repetitions, steps.max(1))
 }
 
-/// A number of repetitions that suffices, found by doubling.
+/// The first power of two that suffices, as a number of repetitions.
 fn enough(steps: u64, snapshots: u32) -> u64
     requires some { 0 < snapshots }
     requires within { steps ≤ 2 ^ 40 }
-    ensures { steps ≤ beta snapshots result }
+    ensures enough { steps ≤ beta snapshots result }
+    ensures half_fails { 1 < result → beta snapshots (result / 2) < steps }
 {
     let mut repetitions = 1;
     while !suffices(steps, snapshots, repetitions) {
@@ -35,8 +36,8 @@ fn repetitions(steps: u64, snapshots: u32) -> u64
     ensures value { result ≡ repetitions steps snapshots }
     ensures no_more { result ≤ steps }
 {
-    let mut low = 0;
     let mut high = enough(steps, snapshots);
+    let mut low = high / 2;
     while low < high {
         let middle = low + (high - low) / 2;
         if suffices(steps, snapshots, middle) {
