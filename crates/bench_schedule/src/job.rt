@@ -1,13 +1,22 @@
 //! What the words of the command line ask for.
 
-ghost use Rattle.std.specs.Prelude.{◌+◌, ◌<◌, ◌≤◌, ◌^◌, IfSome};
+ghost use Rattle.std.specs.Prelude.{◌≤◌, IfSome};
+ghost use Rattle.bench_schedule.specs.Job.{IsWithinLimits};
 
-/// A schedule whose actions are to be given, or, where `count` is not 0, numbers of steps that are to be split.
+/// The work that is to be timed.
 #[derive(Clone, Copy)]
-pub(crate) struct Job {
-    pub(crate) steps: u64,
-    pub(crate) snapshots: u32,
-    pub(crate) count: u64,
+pub(crate) enum Job {
+    /// Give all actions of a schedule.
+    Actions {
+        steps: u64,
+        snapshots: u32,
+    },
+    /// Split so many numbers of steps, from the first on.
+    Splits {
+        first: u64,
+        count: u64,
+        snapshots: u32,
+    },
 }
 
 /// The number that a word names, if it is at most `most`.
@@ -18,29 +27,25 @@ fn number(words: &[String], at: usize, most: u64) -> Option<u64>
     (number <= most).then_some(number)
 }
 
-/// The job that the words after the program's name ask for.
+/// The job that the words after the program's name ask for, if it lies within the limits.
 pub(crate) fn read(words: &[String]) -> Option<Job>
-    ensures some { IfSome result (λ job. 0 < job.snapshots) }
-    ensures few { IfSome result (λ job. job.snapshots ≤ 64) }
-    ensures within { IfSome result (λ job. job.steps ≤ 2 ^ 40) }
-    ensures two { IfSome result (λ job. 0 < job.count → 2 ≤ job.steps) }
-    ensures within_all { IfSome result (λ job. 0 < job.count → job.steps + job.count ≤ 2 ^ 40) }
-    ensures count_small { IfSome result (λ job. job.count ≤ 2 ^ 20) }
+    ensures { IfSome result IsWithinLimits }
 {
     let steps = number(words, 1, 1 << 40)?;
     let snapshots = number(words, 2, 64)? as u32;
-    let count = if words.len() > 3 {
-        number(words, 3, 1 << 20)?
-    } else {
-        0
-    };
-    let splits = steps >= 2 && steps + count <= 1 << 40;
-    if snapshots == 0 || count > 0 && !splits {
+    if snapshots == 0 {
         return None;
     }
-    Some(Job {
-        steps,
-        snapshots,
+    if words.len() <= 3 {
+        return Some(Job::Actions { steps, snapshots });
+    }
+    let count = number(words, 3, 1 << 20)?;
+    if steps < 2 || steps + count > 1 << 40 {
+        return None;
+    }
+    Some(Job::Splits {
+        first: steps,
         count,
+        snapshots,
     })
 }

@@ -8,6 +8,7 @@ mod job;
 mod work;
 
 use anyhow::{Result, bail};
+use job::Job;
 use std::env;
 
 const USAGE: &str =
@@ -18,13 +19,17 @@ fn main(rt: HostRuntime) -> Result<()> {
     let Some(job) = job::read(words.as_slice()) else {
         bail!("{USAGE}");
     };
-    if job.count == 0 {
-        println!(rt; "ACTIONS {}", work::count_actions(job.steps, job.snapshots))?;
-    } else {
-        println!(rt;
-            "SPLITS {}",
-            work::sum_of_splits(job.steps, job.count, job.snapshots)
-        )?;
+    match job {
+        Job::Actions { steps, snapshots } => {
+            println!(rt; "ACTIONS {}", work::count_actions(steps, snapshots))?;
+        }
+        Job::Splits {
+            first,
+            count,
+            snapshots,
+        } => {
+            println!(rt; "SPLITS {}", work::sum_of_splits(first, count, snapshots))?;
+        }
     }
     Ok(())
 }
