@@ -59,7 +59,8 @@ pub(crate) fn beta_up_to(snapshots: u32, repetitions: u64, cap: u128) -> u128
 }
 
 /// How many steps can be reversed with so many snapshots where at most so many advances lead over each: the binomial
-/// number of their sum over one of them. None where it is above 2^127. (Griewank and Walther 2000, equation 2)
+/// number of their sum over either. None where it is above 2^127. (docs/SCHEDULES.md, "The numbers"; Griewank and
+/// Walther 2000)
 pub fn beta(snapshots: u32, repetitions: u64) -> Option<u128>
     ensures { MatchOption result
         (2 ^ 127 < beta snapshots repetitions)

@@ -12,7 +12,7 @@ fn suffices(steps: u64, snapshots: u32, repetitions: u64) -> bool
     ensures { IsTrue result ↔ (steps ≤ beta snapshots repetitions) }
 {
     let steps = u128::from(steps);
-    steps <= beta_up_to(snapshots, repetitions, steps.max(1))
+    steps == beta_up_to(snapshots, repetitions, steps)
 }
 
 /// The first power of two that suffices, as a number of repetitions.
@@ -29,7 +29,7 @@ fn enough(steps: u64, snapshots: u32) -> u64
     repetitions
 }
 
-/// The least number of repetitions that suffices. Its time grows by the logarithm of the answer.
+/// The least number of repetitions that suffices. Its time grows with the logarithm of that number.
 fn repetitions(steps: u64, snapshots: u32) -> u64
     requires some { 0 < snapshots }
     requires within { steps ≤ 2 ^ 40 }
