@@ -1,5 +1,5 @@
 -- Pieces that are read or written one after the other.
-use Rattle.std.proofs.Common.{◌≡◌, ℕ, ◌+◌, ◌-◌, ◌≤◌, List, [], ◌∷◌, ◌++◌, length, take, drop, length-take, length-drop, Option, Some, None, Result, Err, append_assoc, length-append, arith, refl, ap, ◌∙◌, sym}
+use Rattle.std.proofs.Common.{◌≡◌, ℕ, ◌+◌, ◌-◌, ◌≤◌, List, ◌++◌, length, take, drop, length-take, length-drop, Option, Some, None, Result, Err, append_assoc, length-append, arith, refl, ap, ◌∙◌, sym}
 use Rattle.std.specs.Prelude.{◌↔◌}
 use Rattle.std.specs.Result.{IsErrOf}
 use Rattle.std.proofs.lemmas.List.{drop-drop, take_all, take-append-le, take-append-drop}
@@ -30,7 +30,7 @@ pub read_more : (front buffer : List ℕ) (k : ℕ) (old mid new : Option (List 
 read_more front buffer k old mid new h e f = record {
   front = front ++ take k buffer;
   long = omega (arith, length-append front (take k buffer), length-take k buffer);
-  before = e ∙ ap (followed_by front) f ∙ followed_by-append front (take k buffer) new
+  before = e ∙ ap (followed_by front) f ∙ followed_by-append front (take k buffer) new;
 }
 
 -- what isn't that error comes with fewer bytes than it

@@ -1,5 +1,5 @@
 -- A source and a sink in memory, as their callers see them.
-use Rattle.std.specs.Prelude.{ℕ, ◌-◌, ◌+◌, ◌==◌, Bool, ◌&&◌, ◌||◌, not, List, ◌++◌, length, take, drop, min}
+use Rattle.std.specs.Prelude.{ℕ, ◌-◌, ◌==◌, Bool, ◌&&◌, ◌||◌, not, List, ◌++◌, length, take, drop, min}
 use Rattle.std.specs.List.{list_any}
 use Rattle.adj_io.specs.Faults.{counted}
 

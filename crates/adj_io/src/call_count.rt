@@ -25,7 +25,11 @@ impl Calls {
     pub fn new(failing: Vec<u64>) -> Calls
         ensures { result ≡ untouched failing.items }
     {
-        Calls { made: 0, failing, faults: 0 }
+        Calls {
+            made: 0,
+            failing,
+            faults: 0,
+        }
     }
 
     /// Whether the next call is one of those that fail.

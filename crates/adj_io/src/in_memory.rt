@@ -45,7 +45,12 @@ impl MemSource {
         requires { 0 < piece }
         ensures { result ≡ record { left = bytes.items; piece = piece; calls = untouched fail.items } }
     {
-        MemSource { bytes, given: 0, piece, calls: Calls::new(fail) }
+        MemSource {
+            bytes,
+            given: 0,
+            piece,
+            calls: Calls::new(fail),
+        }
     }
 }
 
@@ -106,7 +111,12 @@ impl MemSink {
         ensures { IfOk result (λ s. s ≡ record { taken = []; room = room; piece = piece; calls = untouched fail.items }) }
     {
         let taken = Vec::with_capacity(alloc, room)?;
-        Ok(MemSink { taken, room, piece, calls: Calls::new(fail) })
+        Ok(MemSink {
+            taken,
+            room,
+            piece,
+            calls: Calls::new(fail),
+        })
     }
 
     /// What was taken.

@@ -7,11 +7,16 @@
 
 mod call_count;
 mod in_memory;
+mod laws;
 mod standard;
 mod streams;
 mod whole;
 
 pub use in_memory::{MemSink, MemSource, Memory};
+pub use laws::{fault_laws, reading_laws};
 pub use standard::{StdSink, StdSource};
 pub use streams::{Failed, Sink, Source};
 pub use whole::{ReadError, WriteFault, read_all, write_all};
+
+#[cfg(test)]
+mod tests;

@@ -13,8 +13,10 @@ pub struct StdSource<R> {
 }
 
 impl<R: Read + Drop> StdSource<R> {
-    /// Reads from `reader`.
-    pub fn new(reader: R) -> StdSource<R> {
+    /// Reads from `reader`. No call has failed yet.
+    pub fn new(reader: R) -> StdSource<R>
+        ensures { ⟦<StdSource<R> as Source>⟧.faults result ≡ 0 }
+    {
         StdSource { reader, faults: 0 }
     }
 }
@@ -43,8 +45,10 @@ pub struct StdSink<W> {
 }
 
 impl<W: Write + Drop> StdSink<W> {
-    /// Writes to `writer`.
-    pub fn new(writer: W) -> StdSink<W> {
+    /// Writes to `writer`. No call has failed yet.
+    pub fn new(writer: W) -> StdSink<W>
+        ensures { ⟦<StdSink<W> as Sink>⟧.faults result ≡ 0 }
+    {
         StdSink { writer, faults: 0 }
     }
 }

@@ -32,17 +32,19 @@ const PIECE: usize = 4096;
 /// Reads a source to its end, up to `limit` bytes.
 ///
 /// Bytes that were read before a refusal stay taken from the source.
-pub fn read_all<S: Source>(alloc: Global, source: &mut S, limit: usize) -> Result<Vec<u8>, ReadError>
+pub fn read_all<S: Source>(
+    alloc: Global,
+    source: &mut S,
+    limit: usize,
+) -> Result<Vec<u8>, ReadError>
     requires { limit < usize.MAX }
     // On success these bytes were left, at most `limit`, and now none are.
     ensures bytes { IfOk result (λ v. S.left source.old ≡ followed_by v.items (S.left source.new)) }
     ensures end { OnOk result (IsAtEnd (S.left source.new)) }
     ensures limit { IfOk result (λ v. vec_len v ≤ limit) }
     // Some number of bytes was read, and the input is too long exactly where it is `limit + 1`.
-    ensures read {
-        (n : ℕ) × (n ≤ limit + 1) × HasRead n (S.left source.old) (S.left source.new)
-        × (IsErrOf result ReadError.TooLong ↔ (n ≡ limit + 1))
-    }
+    ensures read { (n : ℕ) × (n ≤ limit + 1) × HasRead n (S.left source.old) (S.left source.new)
+        × (IsErrOf result ReadError.TooLong ↔ (n ≡ limit + 1)) }
     // A fault comes only where the source's count rose.
     ensures risen { IsErrOf result ReadError.ReadFault → Rose (S.faults source.old) (S.faults source.new) }
     ensures count { S.faults source.old ≤ S.faults source.new }

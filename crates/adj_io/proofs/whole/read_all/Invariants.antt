@@ -1,5 +1,5 @@
 -- What was read are the bytes that the source had before those that it has left, at most as many as the limit, and no count fell.
-use Rattle.std.proofs.Common.{◌≡◌, ◌-◌, ◌+◌, ◌≤◌, length, vec_len}
+use Rattle.std.proofs.Common.{◌≡◌, ◌-◌, ◌+◌, ◌≤◌, vec_len}
 use Rattle.adj_io.specs.Bytes.{followed_by}
 use Rattle.adj_io.proofs.whole.read_all.Given as goal
 

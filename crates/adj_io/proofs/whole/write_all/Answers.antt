@@ -1,5 +1,5 @@
 -- The next piece goes on where those before it ended.
-use Rattle.std.proofs.Common.{◌-◌, ◌+◌, ◌≤◌, length, take, drop, length-drop, arith, subst}
+use Rattle.std.proofs.Common.{◌≤◌, length, drop, length-drop, arith, subst}
 use Rattle.adj_io.proofs.Pieces.{next_taken, slice_rest}
 use Rattle.adj_io.proofs.whole.write_all.Goals as goal
 

@@ -1,5 +1,5 @@
 -- What was copied and what is left then make what was left before.
-use Rattle.std.proofs.Common.{◌-◌, ◌≤◌, Some, arith, take, drop, length, length-take, ap, ◌∙◌, sym}
+use Rattle.std.proofs.Common.{◌-◌, ◌≤◌, Some, arith, take, drop, length, ap, ◌∙◌, sym}
 use Rattle.adj_io.proofs.Pieces.{copied, slice_rest}
 use Rattle.adj_io.proofs.in_memory.MemSourceSource.read.Goals as goal
 
