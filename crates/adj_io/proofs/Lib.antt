@@ -1,0 +1,3 @@
+-- What the proofs of this crate say of bytes that are left or were taken.
+pub mod Pieces
+pub mod Reading
