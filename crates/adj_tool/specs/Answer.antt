@@ -4,7 +4,7 @@ use Rattle.adj_tree.specs.declared.fault.Refusal.{Refusal}
 use Rattle.adj_revolve.specs.declared.machine.Action.{Action}
 use Rattle.adj_revolve.specs.declared.machine.Action.TheVariants.{Store, Advance, Turn, Keep, Drop}
 use Rattle.adj_revolve.specs.Schedule.{schedule_of}
-use Rattle.adj_revolve.specs.Least.{least_cost}
+use Rattle.adj_revolve.specs.LeastCost.{least_cost}
 
 pub record Answer : Type 0 where
   pub status : ℕ
