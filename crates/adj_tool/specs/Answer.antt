@@ -1,8 +1,9 @@
 -- Answer: what a command writes, and the status that goes with it.
-use Rattle.std.specs.Prelude.{ℕ, ◌==◌, List, [], ◌∷◌, ◌++◌, flat_map, codes, decimal, if◌then◌else◌}
+use Rattle.std.specs.Prelude.{ℕ, ◌==◌, nat_lt, List, [], ◌∷◌, ◌++◌, length, flat_map, codes, decimal, if◌then◌else◌}
 use Rattle.adj_tree.specs.declared.fault.Refusal.{Refusal}
 use Rattle.adj_revolve.specs.declared.machine.Action.{Action}
 use Rattle.adj_revolve.specs.declared.machine.Action.TheVariants.{Store, Advance, Turn, Keep, Drop}
+use Rattle.adj_tool.specs.Words.{Request}
 use Rattle.adj_revolve.specs.Schedule.{schedule_of}
 use Rattle.adj_revolve.specs.LeastCost.{least_cost}
 
@@ -41,3 +42,20 @@ schedule_answer steps snapshots = record {
   status = 0;
   text = flat_map action_line (schedule_of 0 steps snapshots) ++ line_of_one (codes "ADVANCES ") (least_cost steps snapshots)
 }
+
+-- ---- adjoints
+
+-- the most bytes of an input
+abbrev pub most_bytes : ℕ
+most_bytes = 4194304
+
+-- an input of more bytes
+abbrev pub too_long : Answer
+too_long = refused (record { code = 21; line = 0; number = most_bytes })
+
+-- an input outside the profile, or a head or a listed name that it hasn't
+abbrev pub outside : Answer
+outside = refused (record { code = 3; line = 0; number = 0 })
+
+abbrev pub adjoint_answer : Request → List ℕ → Answer
+adjoint_answer r bytes = if nat_lt most_bytes (length bytes) then too_long else outside

@@ -3,9 +3,9 @@ use Rattle.std.specs.Prelude.{Option, option_map}
 use Rattle.adj_tool.specs.Words as words
 use Rattle.adj_tool.specs.Answer as answer
 use Rattle.adj_tool.specs.declared.answer.Answer.{Answer}
-use Rattle.adj_tool.specs.declared.words.Request.{Request}
-use Rattle.adj_tool.specs.declared.words.Task.{Task}
-use Rattle.adj_tool.specs.declared.words.Task.TheVariants as task
+use Rattle.adj_tool.specs.declared.task.Request.{Request}
+use Rattle.adj_tool.specs.declared.task.Task.{Task}
+use Rattle.adj_tool.specs.declared.task.Task.TheVariants as task
 
 abbrev pub request_of : Request → words.Request
 request_of r = record { head = r.head; vars = r.vars; outvars = r.outvars }
@@ -13,7 +13,7 @@ request_of r = record { head = r.head; vars = r.vars; outvars = r.outvars }
 -- what is asked for
 abbrev pub command_of : Task → words.Command
 command_of (task.Adjoint r) = words.Adjoint (request_of r)
-command_of (task.Schedule l s) = words.Schedule l s
+command_of (task.Schedule r) = words.Schedule r.steps r.snapshots
 
 -- what is written, with its status
 abbrev pub answer_of : Answer → answer.Answer

@@ -1,10 +1,11 @@
 //! The command `schedule`.
 
-ghost use Rattle.std.specs.Prelude.{◌≡◌, ◌++◌, ◌<◌, ◌≤◌, ◌^◌, ℕ, List, IfOk, OnOk, decimal, codes};
+ghost use Rattle.std.specs.Prelude.{◌≡◌, ◌++◌, ℕ, List, IfOk, OnOk, decimal, codes};
 ghost use Rattle.adj_tool.specs.Answer.{action_line, schedule_answer};
 ghost use Rattle.adj_tool.specs.Views.{answer_of};
 
 use crate::answer::{Answer, push_number};
+use crate::task::Reversal;
 use adj_revolve::{Action, Schedule, least};
 use adj_tree::Memory;
 use std::alloc::Global;
@@ -28,12 +29,11 @@ fn push_action(text: &mut Vec<u8>, action: &Action) -> Result<(), Memory>
 }
 
 /// The actions of the schedule, a line each, and their cost.
-pub(crate) fn schedule(alloc: Global, steps: u64, snapshots: u32) -> Result<Answer, Memory>
-    requires some { 0 < snapshots }
-    requires few { snapshots ≤ 64 }
-    requires within { steps ≤ 2 ^ 40 }
-    ensures { IfOk result (λ a. answer_of a ≡ schedule_answer steps snapshots) }
+pub(crate) fn schedule(alloc: Global, reversal: &Reversal) -> Result<Answer, Memory>
+    ensures { IfOk result (λ a. answer_of a ≡ schedule_answer reversal.now.steps reversal.now.snapshots) }
 {
+    let steps = reversal.steps;
+    let snapshots = reversal.snapshots;
     let mut text = Vec::new(alloc);
     let mut actions = Schedule::new(steps, snapshots);
     while let Some(action) = actions.next() {

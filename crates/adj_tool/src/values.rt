@@ -122,7 +122,8 @@ fn value_of(digits: &[u8]) -> u128
 
 /// The number of a number word, 1 to 20 digits, where it lies from `least` to `most`.
 pub(crate) fn number_in(least: u64, most: u64, word: &[u8]) -> Option<u64>
-    ensures { result ≡ number_in least most word.now }
+    ensures value { result ≡ number_in least most word.now }
+    ensures within { IfSome result (λ n. (least ≤ n) × (n ≤ most)) }
 {
     if word.is_empty() || word.len() > 20 || !are_digits(word) {
         return None;

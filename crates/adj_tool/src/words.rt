@@ -7,29 +7,13 @@ ghost use Rattle.clap.specs.Simple.{app_of, with_rule};
 ghost use Rattle.clap.specs.Matches.{found_of};
 ghost use Rattle.clap.specs.Walk.{rows_of, rule_of, first_of, all_of};
 
+use crate::task::{Request, Reversal, Task};
 use crate::text::Text;
 use crate::values::{name_of, names_of, number_in};
 use adj_tree::{Memory, Name, NameList};
 use clap::error::ErrorKind;
 use clap::{Arg, ArgMatches, Command};
 use std::alloc::Global;
-
-/// A head with its independents and its dependents.
-#[derive(Drop)]
-pub struct Request {
-    pub head: Name,
-    pub vars: NameList,
-    pub outvars: NameList,
-}
-
-/// What the program is asked to do.
-#[derive(Drop)]
-pub enum Task {
-    /// Write the adjoint of a unit.
-    Adjoint(Request),
-    /// Write the schedule of a number of steps and of snapshots.
-    Schedule(u64, u32),
-}
 
 // An option that takes one value.
 fn option<'a>(alloc: Global, name: &'a str) -> Arg<'a>
@@ -162,7 +146,10 @@ fn schedule_numbers(numbers: &[&str]) -> Option<Task>
         [steps, snapshots] => {
             let steps = number_in(0, 100_000, steps.as_bytes())?;
             let snapshots = number_in(1, 64, snapshots.as_bytes())?;
-            Some(Task::Schedule(steps, snapshots as u32))
+            Some(Task::Schedule(Reversal {
+                steps,
+                snapshots: snapshots as u32,
+            }))
         }
         _ => None,
     }

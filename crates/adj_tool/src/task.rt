@@ -1,0 +1,32 @@
+//! What the program is asked to do.
+
+ghost use Rattle.std.specs.Prelude.{◌<◌, ◌≤◌};
+
+use adj_tree::{Name, NameList};
+
+/// A head with its independents and its dependents.
+#[derive(Drop)]
+pub struct Request {
+    pub head: Name,
+    pub vars: NameList,
+    pub outvars: NameList,
+}
+
+/// A number of steps that is to be reversed with a number of snapshots.
+#[derive(Clone, Copy, Debug)]
+pub struct Reversal {
+    pub steps: u64,
+    pub snapshots: u32,
+    pub ghost short: { steps ≤ 100000 },
+    pub ghost some: { 0 < snapshots },
+    pub ghost few: { snapshots ≤ 64 },
+}
+
+/// What the program is asked to do. Each command stands here.
+#[derive(Drop)]
+pub enum Task {
+    /// Write the adjoint of a unit.
+    Adjoint(Request),
+    /// Write the schedule of a reversal.
+    Schedule(Reversal),
+}

@@ -1,0 +1,119 @@
+//! The call that does all that the program does.
+
+ghost use Rattle.std.specs.Prelude.{◌≡◌, ◌<◌, ◌⊎◌, IfOk, IsErrOf};
+ghost use Rattle.adj_tool.specs.declared.tool.Stop.TheVariants as stop;
+ghost use Rattle.adj_io.specs.Faults.{Rose};
+ghost use Rattle.adj_tool.specs.Words.{taken};
+ghost use Rattle.adj_tool.specs.Views.{answer_of, request_of};
+ghost use Rattle.adj_tool.specs.Tool.{AnswersInput, IsAnswer, ReadsInput, WritesAll, WritesFront};
+
+use crate::adjoint::adjoint;
+use crate::answer::{Answer, refused, usage};
+use crate::schedule::schedule;
+use crate::task::{Request, Task};
+use crate::text::Text;
+use crate::words::take;
+use adj_io::{ReadError, Sink, Source, WriteFault, read_all, write_all};
+use adj_tree::{Memory, Refusal};
+use std::alloc::Global;
+
+/// The most bytes of an input.
+const MOST_BYTES: usize = 4_194_304;
+
+/// Why there is no answer.
+#[derive(Clone, Copy, Debug)]
+pub enum Stop {
+    /// A read failed.
+    ReadFault,
+    /// Memory ran out.
+    Memory,
+}
+
+impl From<Memory> for Stop {
+    ghost from_gives = { λ _ e. e ≡ stop.Memory };
+
+    fn from(_error: Memory) -> Stop {
+        Stop::Memory
+    }
+}
+
+// The answer of `adjoint` to an input.
+fn answer_input<S: Source>(
+    alloc: Global,
+    request: &Request,
+    input: &mut S,
+) -> Result<Answer, Stop>
+    ensures answer { IfOk result (λ a. AnswersInput (request_of request.now) (S.left input.old) (S.left input.new) (answer_of a)) }
+    ensures fault { IsErrOf result Stop.ReadFault → Rose (S.faults input.old) (S.faults input.new) }
+{
+    match read_all(alloc, input, MOST_BYTES) {
+        Ok(bytes) => {
+            let answer = adjoint(alloc, request, bytes.as_slice())?;
+            Ok(answer)
+        }
+        Err(ReadError::TooLong) => {
+            let limit = Refusal {
+                code: 21,
+                line: 0,
+                number: 4_194_304,
+            };
+            let answer = refused(alloc, limit)?;
+            Ok(answer)
+        }
+        Err(ReadError::ReadFault) => Err(Stop::ReadFault),
+        Err(ReadError::Memory) => Err(Stop::Memory),
+    }
+}
+
+// The answer to the words, and to the input where they ask for a command that reads.
+fn answer_words<S: Source>(
+    alloc: Global,
+    words: &[Text],
+    input: &mut S,
+) -> Result<Answer, Stop>
+    ensures answer { IfOk result (λ a. IsAnswer (taken words.now) (S.left input.old) (S.left input.new) (answer_of a)) }
+    ensures fault { IsErrOf result Stop.ReadFault → Rose (S.faults input.old) (S.faults input.new) }
+    ensures reads { IsErrOf result Stop.ReadFault → ReadsInput (taken words.now) }
+{
+    let Some(task) = take(alloc, words)? else {
+        let answer = usage(alloc)?;
+        return Ok(answer);
+    };
+    match task {
+        Task::Adjoint(request) => {
+            let answer = answer_input(alloc, &request, input)?;
+            Ok(answer)
+        }
+        Task::Schedule(reversal) => {
+            let answer = schedule(alloc, &reversal)?;
+            Ok(answer)
+        }
+    }
+}
+
+/// Does what the words ask for, and answers the status of the program.
+///
+/// 0: done. 1: the words are no command. 2: the text is refused. 7: a read failed. 8: a write failed. 9: memory ran out.
+pub fn tool<S: Source, K: Sink>(
+    alloc: Global,
+    words: &[Text],
+    input: &mut S,
+    output: &mut K,
+) -> u8
+    ensures answer { result < 7 → WritesAll (taken words.now) (S.left input.old) (S.left input.new) (K.taken output.old) (K.taken output.new) result }
+    ensures read_fault { result ≡ 7 → Rose (S.faults input.old) (S.faults input.new) }
+    ensures reads { result ≡ 7 → ReadsInput (taken words.now) }
+    ensures write_fault { result ≡ 8 → Rose (K.faults output.old) (K.faults output.new) }
+    ensures front { result ≡ 8 → WritesFront (taken words.now) (S.left input.old) (S.left input.new) (K.taken output.old) (K.taken output.new) }
+    ensures unwritten { (result ≡ 7) ⊎ (result ≡ 9) → K.taken output.new ≡ K.taken output.old }
+    ensures status { (result < 3) ⊎ ((result ≡ 7) ⊎ ((result ≡ 8) ⊎ (result ≡ 9))) }
+{
+    match answer_words(alloc, words, input) {
+        Ok(answer) => match write_all(output, answer.text.as_slice()) {
+            Ok(()) => answer.status,
+            Err(WriteFault) => 8,
+        },
+        Err(Stop::ReadFault) => 7,
+        Err(Stop::Memory) => 9,
+    }
+}
