@@ -2,12 +2,13 @@
 #![tactic(auto)]
 
 mod adjoint;
-pub mod answer;
+mod answer;
 mod schedule;
-pub mod task;
-pub mod text;
-pub mod tool;
+mod task;
+mod text;
+mod top;
 mod values;
-pub mod words;
+mod words;
 
 pub use text::Text;
+pub use top::tool;

@@ -1,7 +1,7 @@
 //! The call that does all that the program does.
 
 ghost use Rattle.std.specs.Prelude.{◌≡◌, ◌<◌, ◌⊎◌, IfOk, IsErrOf};
-ghost use Rattle.adj_tool.specs.declared.tool.Stop.TheVariants as stop;
+ghost use Rattle.adj_tool.specs.declared.top.Stop.TheVariants as stop;
 ghost use Rattle.adj_io.specs.Faults.{Rose};
 ghost use Rattle.adj_tool.specs.Words.{taken};
 ghost use Rattle.adj_tool.specs.Views.{answer_of, request_of};
