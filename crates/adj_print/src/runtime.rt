@@ -66,6 +66,20 @@ fn push_two_values(out: &mut Vec<u8>, first: &Expr, second: &Expr) -> Result<(),
     push_expr(out, second)
 }
 
+// Three expressions with the parenthesis before them, and none behind.
+fn push_three_values(
+    out: &mut Vec<u8>,
+    first: &Expr,
+    second: &Expr,
+    third: &Expr,
+) -> Result<(), Memory>
+    ensures characters { OnOk result (out.new.items ≡ out.old.items ++ 40 ∷ term_text (term_of first.now) ++ 44 ∷ term_text (term_of second.now) ++ 44 ∷ term_text (term_of third.now)) }
+{
+    push_two_values(out, first, second)?;
+    out.push(b',')?;
+    push_expr(out, third)
+}
+
 // Three names, each with a comma before it, and the parenthesis behind them.
 fn push_three_names(
     out: &mut Vec<u8>,
@@ -109,10 +123,9 @@ pub fn push_runtime_actuals(out: &mut Vec<u8>, call: &RunCall) -> Result<(), Mem
             Ok(())
         }
         RunCall::Action(steps, snapshots, action, kind, from, to) => {
-            push_two_values(out, steps, snapshots)?;
-            out.push(b',')?;
-            push_expr(out, action)?;
-            push_three_names(out, kind, from, to)
+            push_three_values(out, steps, snapshots, action)?;
+            push_three_names(out, kind, from, to)?;
+            Ok(())
         }
         RunCall::End => Ok(()),
     }

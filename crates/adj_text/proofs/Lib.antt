@@ -10,3 +10,5 @@ pub mod TermDerived
 pub mod TestDerived
 pub mod TermSpelled
 pub mod TermSpaced
+pub mod Balanced
+pub mod TermBalanced

@@ -13,4 +13,4 @@ loop-c-preserved c =
 pub returns : goal.returns
 returns c =
     let last = at_drop_all (λ cs. c.loop-c.out.items ++ laid c.loop-c.column cs) c.args.chars.now c.loop-c.c-index c.loop-c-test.false in
-    c.in_ok-push.ensures.items ∙ ap (λ xs. c.loop-c.out.items ++ xs) (sym (laid-nil c.loop-c.column)) ∙ sym last ∙ c.loop-c.invariant.laid_so_far
+    record { lines = c.in_ok-push.ensures.items ∙ ap (λ xs. c.loop-c.out.items ++ xs) (sym (laid-nil c.loop-c.column)) ∙ sym last ∙ c.loop-c.invariant.laid_so_far }
