@@ -11,6 +11,8 @@ mod layout;
 mod list;
 mod runtime;
 mod statement;
+#[cfg(test)]
+mod tests;
 mod unit;
 
 pub use unit::text;

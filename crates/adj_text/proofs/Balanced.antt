@@ -171,9 +171,12 @@ comma_inside-inner : (ts : List (List ℕ)) → AreBalanced ts → IsInner (comm
 comma_inside-inner [] h = inner-nil
 comma_inside-inner (t ∷ ts) h = inner-append (comma ∷ []) (t ++ comma_inside ts) (inner-char comma refl refl) (inner-append t (comma_inside ts) h.0.inner (comma_inside-inner ts h.1))
 
+-- a list is something in parentheses
+pub bracketed_is_grouped : (t : List ℕ) (ts : List (List ℕ)) → AreBalanced (t ∷ ts) → (inside : List ℕ) × IsInner inside × (grouped inside ≡ bracketed (t ∷ ts))
+bracketed_is_grouped t ts h =
+    (t ++ comma_inside ts, inner-append t (comma_inside ts) h.0.inner (comma_inside-inner ts h.1), ap (λ xs. left ∷ xs) (append_assoc t (comma_inside ts) (right ∷ []) ∙ ap (λ xs. t ++ xs) (comma_inside-closed ts)))
+
 -- items in parentheses, separated by commas
 pub balanced-bracketed : (ts : List (List ℕ)) → AreBalanced ts → IsBalanced (bracketed ts)
 balanced-bracketed [] h = balanced-nil
-balanced-bracketed (t ∷ ts) h =
-    let e : grouped (t ++ comma_inside ts) ≡ bracketed (t ∷ ts) = ap (λ xs. left ∷ xs) (append_assoc t (comma_inside ts) (right ∷ []) ∙ ap (λ xs. t ++ xs) (comma_inside-closed ts)) in
-    subst IsBalanced e (balanced-grouped (t ++ comma_inside ts) (inner-append t (comma_inside ts) h.0.inner (comma_inside-inner ts h.1)))
+balanced-bracketed (t ∷ ts) h = let g = bracketed_is_grouped t ts h in subst IsBalanced g.2 (balanced-grouped g.0 g.1)

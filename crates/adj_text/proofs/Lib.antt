@@ -12,3 +12,6 @@ pub mod TermSpelled
 pub mod TermSpaced
 pub mod Balanced
 pub mod TermBalanced
+pub mod Laid
+pub mod Assigned
+pub mod TestSpelled
