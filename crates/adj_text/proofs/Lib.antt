@@ -5,3 +5,13 @@ pub mod Joins
 pub mod Classes
 pub mod Plain
 pub mod Derived
+pub mod TermWords
+pub mod TermDerived
+pub mod TestDerived
+pub mod TermSpelled
+pub mod TermSpaced
+pub mod Balanced
+pub mod TermBalanced
+pub mod Laid
+pub mod Assigned
+pub mod TestSpelled
