@@ -5,3 +5,4 @@ pub mod Joins
 pub mod Classes
 pub mod Plain
 pub mod Derived
+pub mod Said
