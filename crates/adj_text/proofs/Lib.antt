@@ -6,3 +6,4 @@ pub mod Classes
 pub mod Plain
 pub mod Derived
 pub mod Said
+pub mod Laying
