@@ -7,3 +7,4 @@ pub mod Plain
 pub mod Derived
 pub mod Said
 pub mod Laying
+pub mod Printed
