@@ -8,3 +8,4 @@ pub mod Derived
 pub mod Said
 pub mod Laying
 pub mod Printed
+pub mod Placed
