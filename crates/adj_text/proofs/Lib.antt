@@ -9,3 +9,4 @@ pub mod Said
 pub mod Laying
 pub mod Printed
 pub mod Placed
+pub mod Sayings
