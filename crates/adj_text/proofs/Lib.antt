@@ -15,3 +15,8 @@ pub mod TermBalanced
 pub mod Laid
 pub mod Assigned
 pub mod TestSpelled
+pub mod Said
+pub mod Laying
+pub mod Printed
+pub mod Placed
+pub mod Sayings
