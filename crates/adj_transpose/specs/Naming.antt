@@ -48,7 +48,7 @@ unit_names own_names units made = map own own_names ++ named (own_names ++ (unit
 abbrev pub outside : Var → List ℕ
 outside (plain x) = 0 ∷ 0 ∷ x
 outside (shadow x) = 0 ∷ 1 ∷ x
-outside (helper r k) = 0 ∷ 2 ∷ role_code r ∷ k ∷ []
+outside (helper r k) = 0 ∷ 2 ∷ role_code r ∷ digits k
 
 -- the name of a variable; one that has none is outside all texts
 abbrev pub name_in : List Named → Var → List ℕ
