@@ -91,9 +91,13 @@ abbrev pub AreMadeInside : List Var → Type 0
 AreMadeInside [] = Unit {0}
 AreMadeInside (v ∷ vs) = IsInside v × AreMadeInside vs
 
+has-append : (x : List ℕ) (xs ys : List (List ℕ)) → has_name x (xs ++ ys) ≡ (has_name x xs || has_name x ys)
+has-append x [] ys = refl
+has-append x (y ∷ xs) ys = ap (λ b. name_eq x y || b) (has-append x xs ys) ∙ sym (or_assoc (name_eq x y) (has_name x xs) (has_name x ys))
+
 named-inside : (taken : List (List ℕ)) (vs : List Var) → AreMadeInside vs → AreInside (names (named taken vs))
 named-inside taken [] h = tt
-named-inside taken (v ∷ vs) h = (fresh-begins (wanted v) taken (wanted-begins v h.0), named-inside (fresh (wanted v) taken ∷ taken) vs h.1)
+named-inside taken (v ∷ vs) h = (fresh-begins (wanted v) taken (wanted-begins v h.0), named-inside (taken ++ (fresh (wanted v) taken ∷ [])) vs h.1)
 
 -- a taken name isn't made
 named-free : (x : List ℕ) (taken : List (List ℕ)) (vs : List Var) → has_name x taken ≡ true → has_name x (names (named taken vs)) ≡ false
@@ -101,14 +105,15 @@ named-free x taken [] h = refl
 named-free x taken (v ∷ vs) h =
     let f = fresh (wanted v) taken in
     let apart : name_eq x f ≡ false = has_apart x f taken h (fresh-is_free (wanted v) taken) in
-    rw apart (named-free x (f ∷ taken) vs (rw apart h))
+    let still : has_name x (taken ++ (f ∷ [])) ≡ true = has-append x taken (f ∷ []) ∙ ap (λ b. b || has_name x (f ∷ [])) h in
+    rw apart (named-free x (taken ++ (f ∷ [])) vs still)
 
 named-apart : (taken : List (List ℕ)) (vs : List Var) → AreApart (names (named taken vs))
 named-apart taken [] = tt
 named-apart taken (v ∷ vs) =
     let f = fresh (wanted v) taken in
-    let here : has_name f (f ∷ taken) ≡ true = ap (λ b. b || has_name f taken) (name_refl f) in
-    (named-free f (f ∷ taken) vs here, named-apart (f ∷ taken) vs)
+    let here : has_name f (taken ++ (f ∷ [])) ≡ true = has-append f taken (f ∷ []) ∙ or_right (has_name f taken) (has_name f (f ∷ [])) (ap (λ b. b || false) (name_refl f)) in
+    (named-free f (taken ++ (f ∷ [])) vs here, named-apart (taken ++ (f ∷ [])) vs)
 
 -- the names of two tables, one behind the other
 names-append : (ps qs : List Named) → names (ps ++ qs) ≡ names ps ++ names qs
@@ -120,10 +125,6 @@ names-own [] = refl
 names-own (x ∷ xs) = ap (λ z. x ∷ z) (names-own xs)
 
 -- ---- own names, and those that were made
-
-has-append : (x : List ℕ) (xs ys : List (List ℕ)) → has_name x (xs ++ ys) ≡ (has_name x xs || has_name x ys)
-has-append x [] ys = refl
-has-append x (y ∷ xs) ys = ap (λ b. name_eq x y || b) (has-append x xs ys) ∙ sym (or_assoc (name_eq x y) (has_name x xs) (has_name x ys))
 
 apart-append : (xs ys : List (List ℕ)) → AreApart xs → AreApart ys → ((x : List ℕ) → has_name x xs ≡ true → has_name x ys ≡ false) → AreApart (xs ++ ys)
 apart-append [] ys a b h = b

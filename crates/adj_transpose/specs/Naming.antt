@@ -37,8 +37,7 @@ own x = record { variable = plain x; name = x }
 -- variables that are named in order, each by a name that isn't taken
 abbrev pub named : List (List ℕ) → List Var → List Named
 named taken [] = []
-named taken (v ∷ vs) =
-    record { variable = v; name = fresh (wanted v) taken } ∷ named (fresh (wanted v) taken ∷ taken) vs
+named taken (v ∷ vs) = record { variable = v; name = fresh (wanted v) taken } ∷ named (taken ++ (fresh (wanted v) taken ∷ [])) vs
 
 -- the names of a unit: those of its own variables, and those of the variables made for it, where `units` are all units' names
 abbrev pub unit_names : List (List ℕ) → List (List ℕ) → List Var → List Named
