@@ -31,6 +31,39 @@ read-digits (suc most) n others h = go (λ m o l. read-digits most m o l) (nat_l
 pub digits_same : (m n : ℕ) → digits m ≡ digits n → m ≡ n
 digits_same m n h = sym (read-digits (suc m) m [] (omega arith)) ∙ ap (read 0) h ∙ read-digits (suc n) n [] (omega arith)
 
+-- ---- digits from the last one
+
+-- what stands behind the others stands behind the digits
+digits-behind : (most n : ℕ) (others rest : List ℕ) → digits_before most n others ++ rest ≡ digits_before most n (others ++ rest)
+digits-behind zero n others rest = refl
+digits-behind (suc most) n others rest = go (nat_lt n 10) (digits-behind most (n / 10) ((48 + n % 10) ∷ others) rest)
+  where
+    go : (b : Bool) → digits_before most (n / 10) ((48 + n % 10) ∷ others) ++ rest ≡ digits_before most (n / 10) ((48 + n % 10) ∷ (others ++ rest)) → (if b then (48 + n) ∷ others else digits_before most (n / 10) ((48 + n % 10) ∷ others)) ++ rest ≡ (if b then (48 + n) ∷ (others ++ rest) else digits_before most (n / 10) ((48 + n % 10) ∷ (others ++ rest)))
+    go true ih = refl
+    go false ih = ih
+
+-- there are as many digits as there are, whatever bound there is above
+digits-bound : (k m n : ℕ) (others : List ℕ) → n < k → n < m → digits_before k n others ≡ digits_before m n others
+digits-bound zero m n others h g = absurd (omega arith)
+digits-bound (suc k) zero n others h g = absurd (omega arith)
+digits-bound (suc k) (suc m) n others h g = go (λ a b. digits-bound k m (n / 10) ((48 + n % 10) ∷ others) a b) (nat_lt n 10) refl
+  where
+    go : (n / 10 < k → n / 10 < m → digits_before k (n / 10) ((48 + n % 10) ∷ others) ≡ digits_before m (n / 10) ((48 + n % 10) ∷ others)) → (b : Bool) → nat_lt n 10 ≡ b → (if b then (48 + n) ∷ others else digits_before k (n / 10) ((48 + n % 10) ∷ others)) ≡ (if b then (48 + n) ∷ others else digits_before m (n / 10) ((48 + n % 10) ∷ others))
+    go ih true e = refl
+    go ih false e = let large : 10 ≤ n = grind (arith, nat_tests) in ih (omega arith) (omega arith)
+
+-- a number below 10 has one digit
+pub digits-one : (n : ℕ) → n < 10 → digits n ≡ (48 + n) ∷ []
+digits-one n h = let e : nat_lt n 10 ≡ true = grind (arith, nat_tests) in ap (λ b. if b then (48 + n) ∷ [] else digits_before n (n / 10) ((48 + n % 10) ∷ [])) e
+
+-- a greater one has those of its tenth, and a last one
+pub digits-last : (n : ℕ) → 10 ≤ n → digits n ≡ digits (n / 10) ++ ((48 + n % 10) ∷ [])
+digits-last n h =
+    let e : nat_lt n 10 ≡ false = grind (arith, nat_tests) in
+    ap (λ b. if b then (48 + n) ∷ [] else digits_before n (n / 10) ((48 + n % 10) ∷ [])) e
+    ∙ digits-bound n (suc (n / 10)) (n / 10) ((48 + n % 10) ∷ []) (omega arith) (omega arith)
+    ∙ sym (digits-behind (suc (n / 10)) (n / 10) [] ((48 + n % 10) ∷ []))
+
 -- what follows the same front is the same
 behind_same : (b x y : List ℕ) → b ++ x ≡ b ++ y → x ≡ y
 behind_same [] x y h = h
@@ -133,3 +166,42 @@ first_free-as_wanted (suc tries) b taken h = rw h refl
 -- a name that is free stays as it is
 pub fresh-as_wanted : (b : List ℕ) (taken : List (List ℕ)) → has_name b taken ≡ false → fresh b taken ≡ b
 fresh-as_wanted b taken h = first_free-as_wanted (length taken) b taken h
+
+-- ---- only what is taken matters, not in which order
+
+-- the first free candidate from the i-th on is the m-th
+pub record IsFirstFree (i m : ℕ) (b : List ℕ) (taken : List (List ℕ)) : Type 0 where
+  pub from : i ≤ m
+  pub passed : (j : ℕ) → i ≤ j → j < m → has_name (candidate b j) taken ≡ true
+  pub free : has_name (candidate b m) taken ≡ false
+
+-- with tries enough it is the one that is found
+pub first_free-found : (tries i m : ℕ) (b : List ℕ) (taken : List (List ℕ)) → IsFirstFree i m b taken → m ≤ i + tries → first_free tries i b taken ≡ candidate b m
+first_free-found zero i m b taken f le = let e : i ≡ m = omega (arith, f.from) in ap (candidate b) e
+first_free-found (suc tries) i m b taken f le = go (λ g h. first_free-found tries (suc i) m b taken g h) (has_name (candidate b i) taken) refl
+  where
+    go : (IsFirstFree (suc i) m b taken → m ≤ suc i + tries → first_free tries (suc i) b taken ≡ candidate b m) → (t : Bool) → has_name (candidate b i) taken ≡ t → (if t then first_free tries (suc i) b taken else candidate b i) ≡ candidate b m
+    go ih true e =
+        let other : i ≡ m → ⊥ = λ s. let c : has_name (candidate b i) taken ≡ false = ap (λ z. has_name (candidate b z) taken) s ∙ f.free in cc in
+        let lt : suc i ≤ m = grind (arith, f.from, other) in
+        ih (record { from = lt; passed = λ j a h. f.passed j (omega arith) h; free = f.free }) (omega arith)
+    go ih false e =
+        let same : i ≡ m = grind (arith, f.from, f.passed i (omega arith), e) in
+        ap (candidate b) same
+
+-- no more candidates are taken than there are names
+few_taken : (m i : ℕ) (b : List ℕ) (left : List (List ℕ)) → ((j : ℕ) → i ≤ j → j < i + m → has_name (candidate b j) left ≡ true) → m ≤ length left
+few_taken zero i b left h = omega arith
+few_taken (suc m) i b left h =
+    let shorter = without-shorter (candidate b i) left (h i (omega arith) (omega arith)) in
+    let rest = few_taken m (suc i) b (without (candidate b i) left)
+          (λ j le lt.
+            let apart : name_eq (candidate b j) (candidate b i) ≡ false = not_true (name_eq (candidate b j) (candidate b i)) (λ p. candidates_apart b i j le (sym (name_same (candidate b j) (candidate b i) p))) in
+            without-has (candidate b i) (candidate b j) left apart ∙ h j (omega arith) (omega arith)) in
+    omega arith
+
+-- a candidate that is free while those before it are taken is the fresh name
+pub fresh-found : (m : ℕ) (b : List ℕ) (taken : List (List ℕ)) → ((j : ℕ) → j < m → has_name (candidate b j) taken ≡ true) → has_name (candidate b m) taken ≡ false → fresh b taken ≡ candidate b m
+fresh-found m b taken passed free =
+    first_free-found (length taken) 0 m b taken (record { from = omega arith; passed = λ j a h. passed j h; free = free })
+      (let few = few_taken m 0 b taken (λ j a h. passed j (omega arith)) in omega arith)

@@ -1,12 +1,12 @@
 -- The naming of a unit tells all variables apart.
-use Rattle.std.proofs.Common.{◌≡◌, ℕ, Bool, true, false, List, [], ◌∷◌, ◌++◌, map, refl, sym, ap, ◌∙◌, subst, if◌then◌else◌, codes}
+use Rattle.std.proofs.Common.{◌≡◌, ℕ, Bool, true, false, List, [], ◌∷◌, ◌++◌, map, refl, sym, ap, ◌∙◌, subst, arith, if◌then◌else◌, codes}
 use Rattle.std.specs.Prelude.{◌==◌, ◌&&◌, ◌||◌}
 use Rattle.adj_tree.specs.Code.{role_code, work, temp, control, first, stride, count, turn, entry, entries, kind, lower, upper, Var, plain, shadow, helper, name_eq, var_eq}
-use Rattle.adj_transpose.specs.Fresh.{has_name, fresh, reserved}
+use Rattle.adj_transpose.specs.Fresh.{digits, has_name, fresh, reserved}
 use Rattle.adj_transpose.specs.Naming.{wanted, Named, own, named, unit_names, outside, name_in, naming, begins_outside, AreInside, AreApart, names}
-use Rattle.adj_tree.proofs.Names.{name_refl, name_same}
+use Rattle.adj_tree.proofs.Names.{nat_same, name_refl, name_same}
 use Rattle.adj_transpose.proofs.Variables.{or_assoc, or_right, or_false, not_true, name_comm, var_refl, var_same, var_comm, has_apart}
-use Rattle.adj_transpose.proofs.Fresh.{fresh-is_free, fresh-begins, behind-begins}
+use Rattle.adj_transpose.proofs.Fresh.{digits_same, fresh-is_free, fresh-begins, behind-begins}
 
 -- ---- a table of names tells apart
 
@@ -19,6 +19,14 @@ outside-begins (helper r k) = refl
 begins_apart : (x y : List ℕ) → begins_outside x ≡ true → begins_outside y ≡ false → name_eq x y ≡ false
 begins_apart x y h n = not_true (name_eq x y) (λ e. let p : begins_outside y ≡ true = subst (λ z. begins_outside z ≡ true) (name_same x y e) h in cc)
 
+-- digits are compared as their numbers
+digits_apart : (j k : ℕ) → name_eq (digits j) (digits k) ≡ (j == k)
+digits_apart j k = go (j == k) refl
+  where
+    go : (t : Bool) → (j == k) ≡ t → name_eq (digits j) (digits k) ≡ t
+    go true e = ap (λ z. name_eq (digits j) (digits z)) (sym (nat_same j k e)) ∙ name_refl (digits j)
+    go false e = not_true (name_eq (digits j) (digits k)) (λ h. let p : j ≡ k = digits_same j k (name_same (digits j) (digits k) h) in absurd (grind arith))
+
 -- the names outside are apart
 outside_apart : (v w : Var) → name_eq (outside v) (outside w) ≡ var_eq v w
 outside_apart (plain x) (plain y) = refl
@@ -29,12 +37,7 @@ outside_apart (shadow x) (shadow y) = refl
 outside_apart (shadow x) (helper b k) = refl
 outside_apart (helper a j) (plain y) = refl
 outside_apart (helper a j) (shadow y) = refl
-outside_apart (helper a j) (helper b k) = and_true_right (role_code a == role_code b) (j == k)
-  where
-    and_true_right : (s t : Bool) → (s && (t && true)) ≡ (s && t)
-    and_true_right true true = refl
-    and_true_right true false = refl
-    and_true_right false t = refl
+outside_apart (helper a j) (helper b k) = ap (λ t. (role_code a == role_code b) && t) (digits_apart j k)
 
 -- a name that isn't in the table and is of a text is no name that the table gives
 never_named : (x : List ℕ) (ps : List Named) (v : Var) → has_name x (names ps) ≡ false → begins_outside x ≡ false → name_eq x (name_in ps v) ≡ false
@@ -88,9 +91,13 @@ abbrev pub AreMadeInside : List Var → Type 0
 AreMadeInside [] = Unit {0}
 AreMadeInside (v ∷ vs) = IsInside v × AreMadeInside vs
 
+has-append : (x : List ℕ) (xs ys : List (List ℕ)) → has_name x (xs ++ ys) ≡ (has_name x xs || has_name x ys)
+has-append x [] ys = refl
+has-append x (y ∷ xs) ys = ap (λ b. name_eq x y || b) (has-append x xs ys) ∙ sym (or_assoc (name_eq x y) (has_name x xs) (has_name x ys))
+
 named-inside : (taken : List (List ℕ)) (vs : List Var) → AreMadeInside vs → AreInside (names (named taken vs))
 named-inside taken [] h = tt
-named-inside taken (v ∷ vs) h = (fresh-begins (wanted v) taken (wanted-begins v h.0), named-inside (fresh (wanted v) taken ∷ taken) vs h.1)
+named-inside taken (v ∷ vs) h = (fresh-begins (wanted v) taken (wanted-begins v h.0), named-inside (taken ++ (fresh (wanted v) taken ∷ [])) vs h.1)
 
 -- a taken name isn't made
 named-free : (x : List ℕ) (taken : List (List ℕ)) (vs : List Var) → has_name x taken ≡ true → has_name x (names (named taken vs)) ≡ false
@@ -98,14 +105,15 @@ named-free x taken [] h = refl
 named-free x taken (v ∷ vs) h =
     let f = fresh (wanted v) taken in
     let apart : name_eq x f ≡ false = has_apart x f taken h (fresh-is_free (wanted v) taken) in
-    rw apart (named-free x (f ∷ taken) vs (rw apart h))
+    let still : has_name x (taken ++ (f ∷ [])) ≡ true = has-append x taken (f ∷ []) ∙ ap (λ b. b || has_name x (f ∷ [])) h in
+    rw apart (named-free x (taken ++ (f ∷ [])) vs still)
 
 named-apart : (taken : List (List ℕ)) (vs : List Var) → AreApart (names (named taken vs))
 named-apart taken [] = tt
 named-apart taken (v ∷ vs) =
     let f = fresh (wanted v) taken in
-    let here : has_name f (f ∷ taken) ≡ true = ap (λ b. b || has_name f taken) (name_refl f) in
-    (named-free f (f ∷ taken) vs here, named-apart (f ∷ taken) vs)
+    let here : has_name f (taken ++ (f ∷ [])) ≡ true = has-append f taken (f ∷ []) ∙ or_right (has_name f taken) (has_name f (f ∷ [])) (ap (λ b. b || false) (name_refl f)) in
+    (named-free f (taken ++ (f ∷ [])) vs here, named-apart (taken ++ (f ∷ [])) vs)
 
 -- the names of two tables, one behind the other
 names-append : (ps qs : List Named) → names (ps ++ qs) ≡ names ps ++ names qs
@@ -117,10 +125,6 @@ names-own [] = refl
 names-own (x ∷ xs) = ap (λ z. x ∷ z) (names-own xs)
 
 -- ---- own names, and those that were made
-
-has-append : (x : List ℕ) (xs ys : List (List ℕ)) → has_name x (xs ++ ys) ≡ (has_name x xs || has_name x ys)
-has-append x [] ys = refl
-has-append x (y ∷ xs) ys = ap (λ b. name_eq x y || b) (has-append x xs ys) ∙ sym (or_assoc (name_eq x y) (has_name x xs) (has_name x ys))
 
 apart-append : (xs ys : List (List ℕ)) → AreApart xs → AreApart ys → ((x : List ℕ) → has_name x xs ≡ true → has_name x ys ≡ false) → AreApart (xs ++ ys)
 apart-append [] ys a b h = b

@@ -37,8 +37,7 @@ own x = record { variable = plain x; name = x }
 -- variables that are named in order, each by a name that isn't taken
 abbrev pub named : List (List ℕ) → List Var → List Named
 named taken [] = []
-named taken (v ∷ vs) =
-    record { variable = v; name = fresh (wanted v) taken } ∷ named (fresh (wanted v) taken ∷ taken) vs
+named taken (v ∷ vs) = record { variable = v; name = fresh (wanted v) taken } ∷ named (taken ++ (fresh (wanted v) taken ∷ [])) vs
 
 -- the names of a unit: those of its own variables, and those of the variables made for it, where `units` are all units' names
 abbrev pub unit_names : List (List ℕ) → List (List ℕ) → List Var → List Named
@@ -48,7 +47,7 @@ unit_names own_names units made = map own own_names ++ named (own_names ++ (unit
 abbrev pub outside : Var → List ℕ
 outside (plain x) = 0 ∷ 0 ∷ x
 outside (shadow x) = 0 ∷ 1 ∷ x
-outside (helper r k) = 0 ∷ 2 ∷ role_code r ∷ k ∷ []
+outside (helper r k) = 0 ∷ 2 ∷ role_code r ∷ digits k
 
 -- the name of a variable; one that has none is outside all texts
 abbrev pub name_in : List Named → Var → List ℕ

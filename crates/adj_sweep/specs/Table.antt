@@ -1,0 +1,27 @@
+-- The names of an adjoint unit as a table.
+use Rattle.std.specs.Prelude.{ℕ, suc, List, [], ◌∷◌, ◌++◌, map}
+use Rattle.adj_tree.specs.Code.{Var, plain, shadow, helper, Role, work, temp}
+use Rattle.adj_transpose.specs.Naming.{Named, own, naming}
+use Rattle.adj_sweep.specs.declared.names.Shadowed.{Shadowed}
+use Rattle.adj_sweep.specs.declared.names.Names.{Names}
+
+-- a variable of the text keeps its name
+abbrev pub own_entry : Shadowed → Named
+own_entry p = own p.name
+
+-- and its shadow has another
+abbrev pub shadow_entry : Shadowed → Named
+shadow_entry p = record { variable = shadow p.name; name = p.shadow }
+
+-- the helpers of a role from the k-th on, and their names
+abbrev pub helper_table : Role → ℕ → List (List ℕ) → List Named
+helper_table r k [] = []
+helper_table r k (n ∷ ns) = record { variable = helper r k; name = n } ∷ helper_table r (suc k) ns
+
+-- all names of the unit
+abbrev pub table_of : Names → List Named
+table_of n = map own_entry n.variables.items ++ (map shadow_entry n.variables.items ++ (helper_table work 1 n.works.items ++ helper_table temp 1 n.temps.items))
+
+-- the variables under these names
+abbrev pub named_by : Names → Var → Var
+named_by n = naming (table_of n)
