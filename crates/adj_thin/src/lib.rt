@@ -1,0 +1,13 @@
+//! The reader of the thin profile: one SUBROUTINE with one product of two variables.
+//!
+//! The crate stands on the trees and on what a text reads as.
+//! The layer above uses `read`, whose contract gives its result for every text.
+#![tactic(auto)]
+
+mod fit;
+mod line;
+mod reading;
+mod statement;
+mod text;
+
+//pub use reading::read;
