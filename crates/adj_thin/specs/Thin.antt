@@ -91,9 +91,12 @@ said l =
         (option_and_then product (statement l.third))) (option_and_then declared (statement l.second))) (option_and_then heading (statement l.first))
 
 -- a letter, and at most five letters and digits
+abbrev pub is_letter_or_digit : ℕ → Bool
+is_letter_or_digit c = is_capital c || is_digit c
+
 abbrev pub is_name : List ℕ → Bool
 is_name [] = false
-is_name (c ∷ cs) = is_capital c && list_all (λ d. is_capital d || is_digit d) cs && nat_le (length cs) 5
+is_name (c ∷ cs) = is_capital c && list_all is_letter_or_digit cs && nat_le (length cs) 5
 
 abbrev pub is_in : List (List ℕ) → List ℕ → Bool
 is_in names x = list_any (λ y. bytes_eq y x) names
@@ -113,16 +116,19 @@ is_unit x = is_name x && not (is_in reserved x)
 abbrev pub is_variable : List ℕ → List ℕ → Bool
 is_variable unit x = is_unit x && not (bytes_eq x unit)
 
-abbrev pub is_one_or_two : List (List ℕ) → Bool
-is_one_or_two xs = length xs == 1 || length xs == 2
+-- one or two dummies, which differ and are declared
+abbrev pub are_dummies : List (List ℕ) → List (List ℕ) → Bool
+are_dummies ds xs = (length xs == 1 || length xs == 2) && are_distinct xs && list_all (is_in ds) xs
+
+abbrev pub are_declared : List ℕ → List (List ℕ) → Bool
+are_declared unit ds = list_all (is_variable unit) ds && are_distinct ds
+
+abbrev pub is_product : List (List ℕ) → Product → Bool
+is_product ds p = is_in ds p.target && is_in ds p.left && is_in ds p.right
 
 -- names are well formed, declared once and, where they are used, declared
 abbrev pub is_fit : Thin → Bool
-is_fit t =
-    is_unit t.heading.name
-    && is_one_or_two t.heading.dummies && are_distinct t.heading.dummies && list_all (is_in t.declared) t.heading.dummies
-    && list_all (is_variable t.heading.name) t.declared && are_distinct t.declared
-    && is_in t.declared t.product.target && is_in t.declared t.product.left && is_in t.declared t.product.right
+is_fit t = is_unit t.heading.name && are_dummies t.declared t.heading.dummies && are_declared t.heading.name t.declared && is_product t.declared t.product
 
 abbrev pub kept : Thin → Option Thin
 kept t = if is_fit t then Some t else None
