@@ -1,7 +1,7 @@
 -- Thin: the texts of the thin profile, and their programs.
 use Rattle.std.specs.Prelude.{ℕ, ◌+◌, ◌-◌, Bool, true, false, ◌==◌, nat_le, nat_lt, nat_eq, not, ◌&&◌, ◌||◌, List, [], ◌∷◌, length, take, drop, map, codes, bytes_eq, Option, Some, None, option_map, option_and_then, position, if◌then◌else◌}
 use Rattle.std.specs.List.{list_all, list_any, slice_split, starts_with}
-use Rattle.adj_tree.specs.Code.{times, var, bin, none, plain, assign, step, stop, Declaration, Procedure}
+use Rattle.adj_tree.specs.Code.{times, var, bin, none, plain, assign, step, stop, Act, Declaration, Procedure}
 use Rattle.adj_text.specs.Char.{line_feed, blank, left, right, star, comma, equals, is_between, is_capital, is_digit, are_blank, without_blanks}
 
 -- what stands before and behind the first separator
@@ -141,6 +141,9 @@ thin_of bytes = option_and_then kept (option_and_then said (lines_of bytes))
 abbrev pub scalar : List ℕ → Declaration
 scalar x = record { line = 2; name = x; extents = [] }
 
+abbrev pub act : Product → Act
+act p = assign (plain p.target) none (bin times (var (plain p.left)) (var (plain p.right)))
+
 -- the one unit of its program
 abbrev pub unit_of : Thin → Procedure
 unit_of t = record {
@@ -149,7 +152,7 @@ unit_of t = record {
     dummies = t.heading.dummies;
     is_none = false;
     declarations = map scalar t.declared;
-    body = step 3 (assign (plain t.product.target) none (bin times (var (plain t.product.left)) (var (plain t.product.right)))) stop
+    body = step 3 (act t.product) stop
   }
 
 abbrev pub program_of : Thin → List Procedure

@@ -10,4 +10,4 @@ mod reading;
 mod statement;
 mod text;
 
-//pub use reading::read;
+pub use reading::read;

@@ -11,6 +11,7 @@ use adj_tree::Memory;
 use std::alloc::Global;
 
 /// Four lines.
+#[derive(Clone, Copy)]
 pub struct Lines<'a> {
     pub first: &'a [u8],
     pub second: &'a [u8],
