@@ -15,3 +15,4 @@ pub mod TermBalanced
 pub mod Laid
 pub mod Assigned
 pub mod TestSpelled
+pub mod Said
