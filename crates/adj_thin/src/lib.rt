@@ -5,9 +5,11 @@
 #![tactic(auto)]
 
 mod fit;
+mod laws;
 mod line;
 mod reading;
 mod statement;
 mod text;
 
+pub use laws::thin_reads;
 pub use reading::read;
