@@ -29,7 +29,7 @@ behind_is word cs rest h =
     let p = if_some (starts_with nat_eq cs word) (drop (length word) cs) rest h in
     (starts_is Decides-eqb cs word (starts_with nat_eq cs word) refl).0 p.0 ∙ ap (λ r. word ++ r) p.1
 
-empty : (cs : List ℕ) → eqb (length cs) 0 ≡ true → cs ≡ []
+pub empty : (cs : List ℕ) → eqb (length cs) 0 ≡ true → cs ≡ []
 empty [] h = refl
 empty (c ∷ cs) h = absurd (omega (arith, eqb-true (length (c ∷ cs)) 0 h))
 
