@@ -16,3 +16,4 @@ pub mod Laid
 pub mod Assigned
 pub mod TestSpelled
 pub mod Said
+pub mod Laying
