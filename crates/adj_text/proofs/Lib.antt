@@ -17,3 +17,4 @@ pub mod Assigned
 pub mod TestSpelled
 pub mod Said
 pub mod Laying
+pub mod Printed
