@@ -18,3 +18,4 @@ pub mod TestSpelled
 pub mod Said
 pub mod Laying
 pub mod Printed
+pub mod Placed
