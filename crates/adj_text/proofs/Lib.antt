@@ -19,3 +19,4 @@ pub mod Said
 pub mod Laying
 pub mod Printed
 pub mod Placed
+pub mod Sayings
