@@ -20,3 +20,4 @@ pub mod Laying
 pub mod Printed
 pub mod Placed
 pub mod Sayings
+pub mod ReadsBack
