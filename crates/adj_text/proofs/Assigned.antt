@@ -33,14 +33,14 @@ no_and true b h = absurd cc
 no_and false b h = refl
 
 -- a name and what follows it: a front of characters that pass ends where one fails
-stops : (p : ℕ → Bool) (xs : List ℕ) (t : ℕ) (rest : List ℕ) → list_all p xs ≡ true → p t ≡ false → prefix_len p (xs ++ t ∷ rest) ≡ length xs
+pub stops : (p : ℕ → Bool) (xs : List ℕ) (t : ℕ) (rest : List ℕ) → list_all p xs ≡ true → p t ≡ false → prefix_len p (xs ++ t ∷ rest) ≡ length xs
 stops p [] t rest h f = rw f refl
 stops p (x ∷ xs) t rest h f = let g = both_true (p x) (list_all p xs) h in rw (g.0, stops p xs t rest g.1 f) (omega arith)
 
 drop_suc : (k c : ℕ) (cs : List ℕ) → drop (1 + k) (c ∷ cs) ≡ drop k cs
 drop_suc k c cs = let e : 1 + k ≡ suc k = omega arith in ap (λ n. drop n (c ∷ cs)) e
 
-drop_past : (xs : List ℕ) (t : ℕ) (rest : List ℕ) → drop (length xs + 1) (xs ++ t ∷ rest) ≡ rest
+pub drop_past : (xs : List ℕ) (t : ℕ) (rest : List ℕ) → drop (length xs + 1) (xs ++ t ∷ rest) ≡ rest
 drop_past [] t rest = refl
 drop_past (x ∷ xs) t rest = let e : length (x ∷ xs) + 1 ≡ suc (length xs + 1) = omega arith in ap (λ n. drop n (x ∷ (xs ++ t ∷ rest))) e ∙ drop_past xs t rest
 
@@ -53,7 +53,7 @@ record Left (cs : List ℕ) (t : ℕ) (rest : List ℕ) : Type 0 where
 prefix-yes : (p : ℕ → Bool) (c : ℕ) (cs : List ℕ) → p c ≡ true → prefix_len p (c ∷ cs) ≡ 1 + prefix_len p cs
 prefix-yes p c cs e = rw e refl
 
-prefix-no : (p : ℕ → Bool) (c : ℕ) (cs : List ℕ) → p c ≡ false → prefix_len p (c ∷ cs) ≡ 0
+pub prefix-no : (p : ℕ → Bool) (c : ℕ) (cs : List ℕ) → p c ≡ false → prefix_len p (c ∷ cs) ≡ 0
 prefix-no p c cs e = rw e refl
 
 left_of : (cs : List ℕ) (t : ℕ) (rest : List ℕ) → list_all is_name_char cs ≡ true → is_digit t ≡ false → Left cs t rest
@@ -123,7 +123,7 @@ no_if_name (a ∷ b ∷ c ∷ cs) t rest h f found =
     no_and (begins_with (a ∷ b ∷ c ∷ (cs ++ t ∷ rest)) (codes "IF(")) (begins_with_letter (inner (a ∷ b ∷ c ∷ (cs ++ t ∷ rest)))) (rw i (and_no (eqb 73 a) (eqb 70 b && false) (and_no (eqb 70 b) false refl)))
 
 -- behind the group that follows two characters stands what follows it
-inner_behind : (a b : ℕ) (cs rest : List ℕ) → IsInner cs → inner (a ∷ b ∷ (grouped cs ++ rest)) ≡ rest
+pub inner_behind : (a b : ℕ) (cs rest : List ℕ) → IsInner cs → inner (a ∷ b ∷ (grouped cs ++ rest)) ≡ rest
 inner_behind a b cs rest h =
     let len : group_len 0 (grouped cs ++ rest) ≡ Some (length (grouped cs)) =
       ap (group_len 0) (ap (λ xs. left ∷ xs) (append_assoc cs (right ∷ []) rest)) ∙ opening-groups 0 (cs ++ right ∷ rest)
@@ -151,19 +151,19 @@ no_if_place x [] e h b = no_if_name x 61 e h refl (λ q. absurd cc)
 no_if_place x (t ∷ ts) e h b = no_if_name x 40 (t ++ behind_commas ts ++ 61 ∷ e) h refl (λ q l. group_inner x t ts e b l)
 
 -- an = that stands open makes it an assignment
-opens-equals : (rest : List ℕ) → has_open equals 0 (61 ∷ rest) ≡ true
+pub opens-equals : (rest : List ℕ) → has_open equals 0 (61 ∷ rest) ≡ true
 unfolding has_open
 opens-equals rest = refl
 
-matches-equals : (rest : List ℕ) → is_matched 0 (61 ∷ rest) ≡ is_matched 0 rest
+pub matches-equals : (rest : List ℕ) → is_matched 0 (61 ∷ rest) ≡ is_matched 0 rest
 unfolding is_matched
 matches-equals rest = refl
 
-opens-nothing : (x : ℕ) → has_open x 0 [] ≡ false
+pub opens-nothing : (x : ℕ) → has_open x 0 [] ≡ false
 unfolding has_open
 opens-nothing x = refl
 
-matches-nothing : is_matched 0 [] ≡ true
+pub matches-nothing : is_matched 0 [] ≡ true
 unfolding is_matched
 matches-nothing = refl
 

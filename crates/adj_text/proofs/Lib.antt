@@ -12,7 +12,6 @@ pub mod TermSpelled
 pub mod TermSpaced
 pub mod Balanced
 pub mod TermBalanced
-pub mod Laid
 pub mod Assigned
 pub mod TestSpelled
 pub mod Said
@@ -21,3 +20,4 @@ pub mod Printed
 pub mod Placed
 pub mod Sayings
 pub mod ReadsBack
+pub mod Opened
