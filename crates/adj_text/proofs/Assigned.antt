@@ -33,14 +33,14 @@ no_and true b h = absurd cc
 no_and false b h = refl
 
 -- a name and what follows it: a front of characters that pass ends where one fails
-stops : (p : ℕ → Bool) (xs : List ℕ) (t : ℕ) (rest : List ℕ) → list_all p xs ≡ true → p t ≡ false → prefix_len p (xs ++ t ∷ rest) ≡ length xs
+pub stops : (p : ℕ → Bool) (xs : List ℕ) (t : ℕ) (rest : List ℕ) → list_all p xs ≡ true → p t ≡ false → prefix_len p (xs ++ t ∷ rest) ≡ length xs
 stops p [] t rest h f = rw f refl
 stops p (x ∷ xs) t rest h f = let g = both_true (p x) (list_all p xs) h in rw (g.0, stops p xs t rest g.1 f) (omega arith)
 
 drop_suc : (k c : ℕ) (cs : List ℕ) → drop (1 + k) (c ∷ cs) ≡ drop k cs
 drop_suc k c cs = let e : 1 + k ≡ suc k = omega arith in ap (λ n. drop n (c ∷ cs)) e
 
-drop_past : (xs : List ℕ) (t : ℕ) (rest : List ℕ) → drop (length xs + 1) (xs ++ t ∷ rest) ≡ rest
+pub drop_past : (xs : List ℕ) (t : ℕ) (rest : List ℕ) → drop (length xs + 1) (xs ++ t ∷ rest) ≡ rest
 drop_past [] t rest = refl
 drop_past (x ∷ xs) t rest = let e : length (x ∷ xs) + 1 ≡ suc (length xs + 1) = omega arith in ap (λ n. drop n (x ∷ (xs ++ t ∷ rest))) e ∙ drop_past xs t rest
 
@@ -50,14 +50,20 @@ record Left (cs : List ℕ) (t : ℕ) (rest : List ℕ) : Type 0 where
   passes : list_all is_name_char left_over ≡ true
   is_left : drop (prefix_len is_digit (cs ++ t ∷ rest)) (cs ++ t ∷ rest) ≡ left_over ++ t ∷ rest
 
+prefix-yes : (p : ℕ → Bool) (c : ℕ) (cs : List ℕ) → p c ≡ true → prefix_len p (c ∷ cs) ≡ 1 + prefix_len p cs
+prefix-yes p c cs e = rw e refl
+
+pub prefix-no : (p : ℕ → Bool) (c : ℕ) (cs : List ℕ) → p c ≡ false → prefix_len p (c ∷ cs) ≡ 0
+prefix-no p c cs e = rw e refl
+
 left_of : (cs : List ℕ) (t : ℕ) (rest : List ℕ) → list_all is_name_char cs ≡ true → is_digit t ≡ false → Left cs t rest
 left_of [] t rest h f = record { left_over = []; passes = refl; is_left = rw f refl }
 left_of (c ∷ cs) t rest h f =
     let g = both_true (is_name_char c) (list_all is_name_char cs) h in
     let r = left_of cs t rest g.1 f in
     elim (is_digit c) as (λ b. is_digit c ≡ b → Left (c ∷ cs) t rest) [
-      | true ↦ λ e. record { left_over = r.left_over; passes = r.passes; is_left = rw e (drop_suc (prefix_len is_digit (cs ++ t ∷ rest)) c (cs ++ t ∷ rest) ∙ r.is_left) }
-      | false ↦ λ e. record { left_over = c ∷ cs; passes = h; is_left = rw e refl }
+      | true ↦ λ e. record { left_over = r.left_over; passes = r.passes; is_left = ap (λ n. drop n (c ∷ (cs ++ t ∷ rest))) (prefix-yes is_digit c (cs ++ t ∷ rest) e) ∙ drop_suc (prefix_len is_digit (cs ++ t ∷ rest)) c (cs ++ t ∷ rest) ∙ r.is_left }
+      | false ↦ λ e. record { left_over = c ∷ cs; passes = h; is_left = ap (λ n. drop n (c ∷ (cs ++ t ∷ rest))) (prefix-no is_digit c (cs ++ t ∷ rest) e) }
     ] refl
 
 name_char_no_comma : (c : ℕ) → is_name_char c ≡ true → eqb 44 c ≡ false
@@ -69,47 +75,47 @@ no_comma_first (x ∷ xs) t rest h f = rw (name_char_no_comma x (both_true (is_n
 
 -- a text that goes on behind name characters with a character that is none, and in which no comma stands open behind an =, is no range of a DO
 no_range : (xs : List ℕ) (t : ℕ) (rest : List ℕ) → list_all is_name_char xs ≡ true → is_name_char t ≡ false → (eqb 61 t ≡ true → has_open comma 0 rest ≡ false) → is_control (xs ++ t ∷ rest) ≡ false
-no_range xs t rest h f open =
+no_range xs t rest h f found =
     let e : prefix_len is_name_char (xs ++ t ∷ rest) ≡ length xs = stops is_name_char xs t rest h f in
     rw (e, drop_at xs (t ∷ rest) (length xs) refl, drop_past xs t rest) (elim (eqb 61 t) as (λ b. (b ≡ true → has_open comma 0 rest ≡ false) → (begins_with_letter (xs ++ t ∷ rest) && (b && true)) && has_open comma 0 rest ≡ false) [
       | true ↦ λ o. and_no (begins_with_letter (xs ++ t ∷ rest) && true) (has_open comma 0 rest) (o refl)
       | false ↦ λ o. no_and (begins_with_letter (xs ++ t ∷ rest) && false) (has_open comma 0 rest) (and_no (begins_with_letter (xs ++ t ∷ rest)) false refl)
-    ] open)
+    ] found)
 
 no_range_behind_label : (cs : List ℕ) (t : ℕ) (rest : List ℕ) → list_all is_name_char cs ≡ true → is_name_char t ≡ false → is_digit t ≡ false → eqb 44 t ≡ false → (eqb 61 t ≡ true → has_open comma 0 rest ≡ false) → is_control (behind_label (cs ++ t ∷ rest)) ≡ false
-no_range_behind_label cs t rest h f digit no_comma open =
+no_range_behind_label cs t rest h f digit no_comma found =
     let l = left_of cs t rest h digit in
     let no : begins_with (drop (prefix_len is_digit (cs ++ t ∷ rest)) (cs ++ t ∷ rest)) (comma ∷ []) ≡ false = ap (λ xs. begins_with xs (comma ∷ [])) l.is_left ∙ no_comma_first l.left_over t rest l.passes no_comma in
     let behind : behind_label (cs ++ t ∷ rest) ≡ l.left_over ++ t ∷ rest = rw (and_no (nat_lt 0 (prefix_len is_digit (cs ++ t ∷ rest))) (begins_with (drop (prefix_len is_digit (cs ++ t ∷ rest)) (cs ++ t ∷ rest)) (comma ∷ [])) no) l.is_left in
-    ap is_control behind ∙ no_range l.left_over t rest l.passes f open
+    ap is_control behind ∙ no_range l.left_over t rest l.passes f found
 
 -- such a text is no DO
 pub no_do_behind : (x : List ℕ) (t : ℕ) (rest : List ℕ) → list_all is_name_char x ≡ true → is_name_char t ≡ false → is_digit t ≡ false → eqb 44 t ≡ false → (eqb 61 t ≡ true → has_open comma 0 rest ≡ false) → is_do (x ++ t ∷ rest) ≡ false
-no_do_behind [] t rest h f digit no_comma open =
+no_do_behind [] t rest h f digit no_comma found =
     let d : eqb 68 t ≡ false = ne_eqb 68 t (λ e. let g = ap is_name_char e in cc) in
     no_and (begins_with (t ∷ rest) (codes "DO")) (is_control (behind_label (drop 2 (t ∷ rest)))) (rw d refl)
-no_do_behind (a ∷ []) t rest h f digit no_comma open =
+no_do_behind (a ∷ []) t rest h f digit no_comma found =
     let o : eqb 79 t ≡ false = ne_eqb 79 t (λ e. let g = ap is_name_char e in cc) in
     no_and (begins_with (a ∷ t ∷ rest) (codes "DO")) (is_control (behind_label (drop 2 (a ∷ t ∷ rest)))) (rw o (and_no (eqb 68 a) false refl))
-no_do_behind (a ∷ b ∷ cs) t rest h f digit no_comma open =
+no_do_behind (a ∷ b ∷ cs) t rest h f digit no_comma found =
     let k = both_true (is_name_char a) (list_all is_name_char (b ∷ cs)) h in
     let l = both_true (is_name_char b) (list_all is_name_char cs) k.1 in
-    and_no (begins_with (a ∷ b ∷ (cs ++ t ∷ rest)) (codes "DO")) (is_control (behind_label (cs ++ t ∷ rest))) (no_range_behind_label cs t rest l.1 f digit no_comma open)
+    and_no (begins_with (a ∷ b ∷ (cs ++ t ∷ rest)) (codes "DO")) (is_control (behind_label (cs ++ t ∷ rest))) (no_range_behind_label cs t rest l.1 f digit no_comma found)
 
 -- a name of which the third character isn't the parenthesis of an IF
 no_if_name : (x : List ℕ) (t : ℕ) (rest : List ℕ) → list_all is_name_char x ≡ true → is_name_char t ≡ false → (eqb 40 t ≡ true → length x ≡ 2 → begins_with_letter (inner (x ++ t ∷ rest)) ≡ false) → is_if (x ++ t ∷ rest) ≡ false
-no_if_name [] t rest h f open =
+no_if_name [] t rest h f found =
     let i : eqb 73 t ≡ false = ne_eqb 73 t (λ e. let g = ap is_name_char e in cc) in
     no_and (begins_with (t ∷ rest) (codes "IF(")) (begins_with_letter (inner (t ∷ rest))) (rw i refl)
-no_if_name (a ∷ []) t rest h f open =
+no_if_name (a ∷ []) t rest h f found =
     let i : eqb 70 t ≡ false = ne_eqb 70 t (λ e. let g = ap is_name_char e in cc) in
     no_and (begins_with (a ∷ t ∷ rest) (codes "IF(")) (begins_with_letter (inner (a ∷ t ∷ rest))) (rw i (and_no (eqb 73 a) false refl))
-no_if_name (a ∷ b ∷ []) t rest h f open =
+no_if_name (a ∷ b ∷ []) t rest h f found =
     elim (eqb 40 t) as (λ v. eqb 40 t ≡ v → is_if (a ∷ b ∷ t ∷ rest) ≡ false) [
-      | true ↦ λ e. and_no (begins_with (a ∷ b ∷ t ∷ rest) (codes "IF(")) (begins_with_letter (inner (a ∷ b ∷ t ∷ rest))) (open e refl)
+      | true ↦ λ e. and_no (begins_with (a ∷ b ∷ t ∷ rest) (codes "IF(")) (begins_with_letter (inner (a ∷ b ∷ t ∷ rest))) (found e refl)
       | false ↦ λ e. no_and (begins_with (a ∷ b ∷ t ∷ rest) (codes "IF(")) (begins_with_letter (inner (a ∷ b ∷ t ∷ rest))) (rw e (and_no (eqb 73 a) (eqb 70 b && false) (and_no (eqb 70 b) false refl)))
     ] refl
-no_if_name (a ∷ b ∷ c ∷ cs) t rest h f open =
+no_if_name (a ∷ b ∷ c ∷ cs) t rest h f found =
     let k = both_true (is_name_char a) (list_all is_name_char (b ∷ c ∷ cs)) h in
     let l = both_true (is_name_char b) (list_all is_name_char (c ∷ cs)) k.1 in
     let m = both_true (is_name_char c) (list_all is_name_char cs) l.1 in
@@ -117,7 +123,7 @@ no_if_name (a ∷ b ∷ c ∷ cs) t rest h f open =
     no_and (begins_with (a ∷ b ∷ c ∷ (cs ++ t ∷ rest)) (codes "IF(")) (begins_with_letter (inner (a ∷ b ∷ c ∷ (cs ++ t ∷ rest)))) (rw i (and_no (eqb 73 a) (eqb 70 b && false) (and_no (eqb 70 b) false refl)))
 
 -- behind the group that follows two characters stands what follows it
-inner_behind : (a b : ℕ) (cs rest : List ℕ) → IsInner cs → inner (a ∷ b ∷ (grouped cs ++ rest)) ≡ rest
+pub inner_behind : (a b : ℕ) (cs rest : List ℕ) → IsInner cs → inner (a ∷ b ∷ (grouped cs ++ rest)) ≡ rest
 inner_behind a b cs rest h =
     let len : group_len 0 (grouped cs ++ rest) ≡ Some (length (grouped cs)) =
       ap (group_len 0) (ap (λ xs. left ∷ xs) (append_assoc cs (right ∷ []) rest)) ∙ opening-groups 0 (cs ++ right ∷ rest)
@@ -145,19 +151,19 @@ no_if_place x [] e h b = no_if_name x 61 e h refl (λ q. absurd cc)
 no_if_place x (t ∷ ts) e h b = no_if_name x 40 (t ++ behind_commas ts ++ 61 ∷ e) h refl (λ q l. group_inner x t ts e b l)
 
 -- an = that stands open makes it an assignment
-opens-equals : (rest : List ℕ) → has_open equals 0 (61 ∷ rest) ≡ true
+pub opens-equals : (rest : List ℕ) → has_open equals 0 (61 ∷ rest) ≡ true
 unfolding has_open
 opens-equals rest = refl
 
-matches-equals : (rest : List ℕ) → is_matched 0 (61 ∷ rest) ≡ is_matched 0 rest
+pub matches-equals : (rest : List ℕ) → is_matched 0 (61 ∷ rest) ≡ is_matched 0 rest
 unfolding is_matched
 matches-equals rest = refl
 
-opens-nothing : (x : ℕ) → has_open x 0 [] ≡ false
+pub opens-nothing : (x : ℕ) → has_open x 0 [] ≡ false
 unfolding has_open
 opens-nothing x = refl
 
-matches-nothing : is_matched 0 [] ≡ true
+pub matches-nothing : is_matched 0 [] ≡ true
 unfolding is_matched
 matches-nothing = refl
 
@@ -166,8 +172,8 @@ unfolding kind_of
 assignment_classed x ts e h b c =
     let no_comma : has_open comma 0 e ≡ false = ap (has_open comma 0) (sym (append-nil e)) ∙ c.commas [] ∙ opens-nothing comma in
     let place = balanced-append x (bracketed ts) (balanced-name x h) (balanced-bracketed ts b) in
-    let open : has_open equals 0 (x ++ (bracketed ts ++ 61 ∷ e)) ≡ true = ap (has_open equals 0) (sym (append_assoc x (bracketed ts) (61 ∷ e))) ∙ place.assigns (61 ∷ e) ∙ opens-equals e in
-    rw (no_do_place x ts e h b no_comma, no_if_place x ts e h b, open) refl
+    let found : has_open equals 0 (x ++ (bracketed ts ++ 61 ∷ e)) ≡ true = ap (has_open equals 0) (sym (append_assoc x (bracketed ts) (61 ∷ e))) ∙ place.assigns (61 ∷ e) ∙ opens-equals e in
+    rw (no_do_place x ts e h b no_comma, no_if_place x ts e h b, found) refl
 
 assignment_matched : (x : List ℕ) (ts : List (List ℕ)) (e : List ℕ) → list_all is_name_char x ≡ true → AreBalanced ts → IsBalanced e → is_matched 0 (x ++ (bracketed ts ++ 61 ∷ e)) ≡ true
 assignment_matched x ts e h b c =

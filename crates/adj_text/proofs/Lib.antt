@@ -12,7 +12,6 @@ pub mod TermSpelled
 pub mod TermSpaced
 pub mod Balanced
 pub mod TermBalanced
-pub mod Laid
 pub mod Assigned
 pub mod TestSpelled
 pub mod Said
@@ -20,3 +19,5 @@ pub mod Laying
 pub mod Printed
 pub mod Placed
 pub mod Sayings
+pub mod ReadsBack
+pub mod Opened

@@ -17,7 +17,7 @@ use Rattle.adj_text.proofs.TermWords.{Words, enclosed_words, opening_words, mark
 abbrev pub AreSpelled : Words → List ℕ → Type 0
 AreSpelled ws cs = (rest : List Word) → flat_map spelling (ws rest) ≡ cs ++ flat_map spelling rest
 
-enclosed_spelled : (b : Bool) (ws : Words) (cs : List ℕ) → AreSpelled ws cs → AreSpelled (enclosed_words b ws) (enclosed b cs)
+pub enclosed_spelled : (b : Bool) (ws : Words) (cs : List ℕ) → AreSpelled ws cs → AreSpelled (enclosed_words b ws) (enclosed b cs)
 enclosed_spelled false ws cs h rest = h rest
 enclosed_spelled true ws cs h rest = ap (λ xs. 40 ∷ xs) (h (Mark Right ∷ rest)) ∙ simp append_assoc
 
