@@ -1,9 +1,16 @@
 -- The names of an adjoint unit as a table.
-use Rattle.std.specs.Prelude.{ℕ, suc, List, [], ◌∷◌, ◌++◌, map}
+use Rattle.std.specs.Prelude.{ℕ, zero, suc, ◌≤◌, ◌-◌, nat_le, ◌&&◌, List, [], ◌∷◌, ◌++◌, map, get_or, length, if◌then◌else◌}
 use Rattle.adj_tree.specs.Code.{Var, plain, shadow, helper, Role, work, temp}
-use Rattle.adj_transpose.specs.Naming.{Named, own, naming}
+use Rattle.adj_transpose.specs.Naming.{Named, own, outside, naming}
 use Rattle.adj_sweep.specs.declared.names.Shadowed.{Shadowed}
 use Rattle.adj_sweep.specs.declared.names.Names.{Names}
+use Rattle.adj_sweep.specs.declared.names.Helper.{Helper}
+use Rattle.adj_sweep.specs.declared.names.Helper.TheVariants.{Work, Temp}
+
+-- what a helper is for, in the emission
+abbrev pub role_of : Helper → Role
+role_of Work = work
+role_of Temp = temp
 
 -- a variable of the text keeps its name
 abbrev pub own_entry : Shadowed → Named
@@ -22,6 +29,12 @@ helper_table r k (n ∷ ns) = record { variable = helper r k; name = n } ∷ hel
 abbrev pub table_of : Names → List Named
 table_of n = map own_entry n.variables.items ++ (map shadow_entry n.variables.items ++ (helper_table work 1 n.works.items ++ helper_table temp 1 n.temps.items))
 
--- the variables under these names
+-- the variables under these names; those of the text keep theirs
 abbrev pub named_by : Names → Var → Var
-named_by n = naming (table_of n)
+named_by n (plain x) = plain x
+named_by n (shadow x) = naming (table_of n) (shadow x)
+named_by n (helper r k) = naming (table_of n) (helper r k)
+
+-- the name of a helper, by its number from 1
+abbrev pub helper_name : List (List ℕ) → Role → ℕ → List ℕ
+helper_name ns r k = if nat_le 1 k && nat_le k (length ns) then get_or ns (k - 1) [] else outside (helper r k)

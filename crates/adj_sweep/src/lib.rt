@@ -6,4 +6,6 @@
 //! The crate stands on the emission's definitions, and the layers above use `adjoint`.
 #![tactic(auto)]
 
+pub mod fresh;
 pub mod names;
+pub mod right;

@@ -1,11 +1,11 @@
 //! The names of an adjoint unit.
 
 ghost use Rattle.std.specs.Prelude.{◌≡◌, IfOk};
-ghost use Rattle.adj_tree.specs.Code.{shadow, helper, work, temp};
-ghost use Rattle.adj_transpose.specs.Fresh.{digits};
-ghost use Rattle.adj_transpose.specs.Naming.{name_in, outside};
-ghost use Rattle.adj_sweep.specs.Table.{table_of};
+ghost use Rattle.adj_tree.specs.Code.{helper};
+ghost use Rattle.adj_transpose.specs.Naming.{outside};
+ghost use Rattle.adj_sweep.specs.Table.{helper_name, role_of};
 
+use crate::fresh::{joined, with_number};
 use adj_tree::{Memory, Name};
 use std::alloc::Global;
 
@@ -16,8 +16,17 @@ pub struct Shadowed {
     pub shadow: Name,
 }
 
+/// What a helper of an assignment's adjoint is for.
+#[derive(Clone, Copy, PartialEq, Eq, Debug)]
+pub enum Helper {
+    /// The adjoint of the assignment or of a part of its right side: `ADW1`, `ADW2`, ..
+    Work,
+    /// An operand whose value is used: `ADZ1`, `ADZ2`, ..
+    Temp,
+}
+
 /// The names of one adjoint unit: of its variables and their shadows, and of its helpers by number, from 1.
-/// A variable that it doesn't have gets a name that no text has.
+/// What it doesn't have gets a name that no text has.
 #[derive(Drop)]
 pub struct Names {
     pub variables: Vec<Shadowed>,
@@ -27,9 +36,9 @@ pub struct Names {
 
 impl Names {
     ghost use Rattle.std.specs.Prelude.{◌≡◌, IfOk};
-    ghost use Rattle.adj_tree.specs.Code.{shadow, helper, work, temp};
+    ghost use Rattle.adj_tree.specs.Code.{shadow, helper};
     ghost use Rattle.adj_transpose.specs.Naming.{name_in};
-    ghost use Rattle.adj_sweep.specs.Table.{table_of};
+    ghost use Rattle.adj_sweep.specs.Table.{table_of, role_of};
 
     /// The name of the shadow of a variable.
     pub fn shadow(&self, alloc: Global, x: &Name) -> Result<Name, Memory>
@@ -41,45 +50,48 @@ impl Names {
                 return Ok(name);
             }
         }
-        let name = outside(alloc, 1, x.bytes())?;
+        let name = joined(alloc, &[0, 1], x.bytes())?;
         Ok(name)
     }
 
-    /// The name of the work variable of this number.
-    pub fn work(&self, alloc: Global, number: usize) -> Result<Name, Memory>
-        ensures name { IfOk result (λ y. y ≡ name_in (table_of self.now) (helper work number)) }
+    /// The name of the helper of this number.
+    pub fn helper(&self, alloc: Global, role: Helper, number: usize) -> Result<Name, Memory>
+        ensures name { IfOk result (λ y. y ≡ name_in (table_of self.now) (helper (role_of role) number)) }
     {
-        let name = numbered(alloc, self.works.as_slice(), 0, number)?;
-        Ok(name)
+        match role {
+            Helper::Work => {
+                let name = name_at(alloc, self.works.as_slice(), role, number)?;
+                Ok(name)
+            }
+            Helper::Temp => {
+                let name = name_at(alloc, self.temps.as_slice(), role, number)?;
+                Ok(name)
+            }
+        }
     }
+}
 
-    /// The name of the temporary of this number.
-    pub fn temp(&self, alloc: Global, number: usize) -> Result<Name, Memory>
-        ensures name { IfOk result (λ y. y ≡ name_in (table_of self.now) (helper temp number)) }
-    {
-        let name = numbered(alloc, self.temps.as_slice(), 1, number)?;
+// The name at a place counted from 1; where there is none, one outside all texts.
+fn name_at(alloc: Global, names: &[Name], role: Helper, number: usize) -> Result<Name, Memory>
+    ensures name { IfOk result (λ y. y ≡ helper_name names.now (role_of role) number) }
+{
+    if number >= 1 && number <= names.len() {
+        let name = names[number - 1].copy(alloc)?;
+        Ok(name)
+    } else {
+        let name = outside_helper(alloc, role, number)?;
         Ok(name)
     }
 }
 
-// The name at a place that is counted from 1; a helper that isn't there has one outside all texts.
-fn numbered(alloc: Global, names: &[Name], role: u8, number: usize) -> Result<Name, Memory>
-    ensures name { IfOk result (λ y. y ≡ numbered_name role number names.now) }
+// A name that no text has, for a helper.
+fn outside_helper(alloc: Global, role: Helper, number: usize) -> Result<Name, Memory>
+    ensures name { IfOk result (λ y. y ≡ outside (helper (role_of role) number)) }
 {
-    match number.checked_sub(1) {
-        Some(place) => match names.get(place) {
-            Some(name) => {
-                let name = name.copy(alloc)?;
-                Ok(name)
-            }
-            None => {
-                let name = outside_helper(alloc, role, number)?;
-                Ok(name)
-            }
-        },
-        None => {
-            let name = outside_helper(alloc, role, number)?;
-            Ok(name)
-        }
-    }
+    let code = match role {
+        Helper::Work => 0,
+        Helper::Temp => 1,
+    };
+    let name = with_number(alloc, &[0, 2, code], number)?;
+    Ok(name)
 }

@@ -1,0 +1,80 @@
+//! Fresh names.
+
+ghost use Rattle.std.specs.Prelude.{◌≡◌, ◌++◌, IfOk, OnOk};
+ghost use Rattle.adj_transpose.specs.Fresh.{digits, candidate, has_name, fresh};
+
+use adj_tree::{Memory, Name};
+use std::alloc::Global;
+
+// The decimal digits of n behind what is there.
+fn push_digits(out: &mut Vec<u8>, n: usize) -> Result<(), Memory>
+    ensures digits { OnOk result (out.new.items ≡ out.old.items ++ digits n) }
+{
+    if n < 10 {
+        out.push(48 + n as u8)?;
+        return Ok(());
+    }
+    push_digits(out, n / 10)?;
+    out.push(48 + (n % 10) as u8)?;
+    Ok(())
+}
+
+/// The name of some bytes and then some others.
+pub fn joined(alloc: Global, front: &[u8], back: &[u8]) -> Result<Name, Memory>
+    ensures name { IfOk result (λ y. y ≡ front.now ++ back.now) }
+{
+    let mut bytes = Vec::new(alloc);
+    bytes.extend_from_slice(front)?;
+    bytes.extend_from_slice(back)?;
+    Ok(Name::new(bytes))
+}
+
+/// The name of some bytes and then a number in decimal digits.
+pub fn with_number(alloc: Global, front: &[u8], number: usize) -> Result<Name, Memory>
+    ensures name { IfOk result (λ y. y ≡ front.now ++ digits number) }
+{
+    let mut bytes = Vec::new(alloc);
+    bytes.extend_from_slice(front)?;
+    push_digits(&mut bytes, number)?;
+    Ok(Name::new(bytes))
+}
+
+// The base itself, or with its number behind.
+fn candidate(alloc: Global, base: &[u8], number: usize) -> Result<Name, Memory>
+    ensures name { IfOk result (λ y. y ≡ candidate base.now number) }
+{
+    if number == 0 {
+        let name = joined(alloc, base, &[])?;
+        Ok(name)
+    } else {
+        let front = joined(alloc, base, b"_")?;
+        let name = with_number(alloc, front.bytes(), number)?;
+        Ok(name)
+    }
+}
+
+/// Whether the name stands among these.
+pub fn contains(names: &[Name], x: &Name) -> bool
+    ensures found { result ≡ has_name x.now names.now }
+{
+    for name in names {
+        if name.equals(x) {
+            return true;
+        }
+    }
+    false
+}
+
+/// The base, or the first of `base_1`, `base_2` and on that isn't taken (docs/EMITTED.md, "Fresh names").
+pub fn fresh(alloc: Global, base: &[u8], taken: &[Name]) -> Result<Name, Memory>
+    ensures name { IfOk result (λ y. y ≡ fresh base.now taken.now) }
+{
+    for number in 0..taken.len() {
+        let name = candidate(alloc, base, number)?;
+        if !contains(taken, &name) {
+            return Ok(name);
+        }
+    }
+    let name = candidate(alloc, base, taken.len())?;
+    Ok(name)
+}
