@@ -10,3 +10,4 @@ pub mod SeenRuns
 pub mod SeenCalls
 pub mod Renamed
 pub mod Projected
+pub mod LeastSets

@@ -1,5 +1,5 @@
 -- What holds of every run, for words and for words with tangents alike.
-use Rattle.std.specs.Prelude.{◌≡◌, ℕ, ℤ, ◌+◌, ◌<◌, ◌≤◌, List, map, Option}
+use Rattle.std.specs.Prelude.{◌≡◌, ℕ, ℤ, ◌+◌, ◌<◌, ◌≤◌, List, map, Bool, false, Option}
 use Rattle.adj_tree.specs.Code.{Var, Code, Procedure}
 use Rattle.adj_meaning.specs.Append.{◌+++◌}
 use Rattle.adj_meaning.specs.Numbers.{Numbers, words, duals}
@@ -7,6 +7,7 @@ use Rattle.adj_meaning.specs.Value.{Setting}
 use Rattle.adj_meaning.specs.Scene.{Scene, Done, More, then_do}
 use Rattle.adj_meaning.specs.Run.{Calls, run}
 use Rattle.adj_meaning.specs.Units.{Slot, Output, calls_of, run_unit}
+use Rattle.adj_meaning.specs.Written.{writes, written_by, written_rows, handed_back, AreWithin}
 use Rattle.adj_meaning.specs.Rename.{rename}
 use Rattle.adj_meaning.specs.Seen.{Separates, pulled_setting, pulled_scene, pulled_outcome, Projects, slot_seen, ending_seen}
 
@@ -47,3 +48,12 @@ RunProjected C D = (h : C → D) (n : Numbers C) (m : Numbers D) → Projects h 
 abbrev pub TangentsForgotten : Type 0
 TangentsForgotten = (units : List Procedure) (u : Procedure) (input : List (Slot (ℤ × ℤ))) (tape : List (ℤ × ℤ)) (room : Option ℕ) (k : ℕ) →
     ending_seen (λ a. a.0) (run_unit duals units u input tape room k) ≡ run_unit words units u (map (slot_seen (λ a. a.0)) input) (map (λ a. a.0) tape) room k
+
+-- the dummies that units write are those that their statements may write, and no smaller set holds all of these
+abbrev pub LeastWritten : Type 0
+LeastWritten = (units : List Procedure) → (written_by units (written_rows units) ≡ written_rows units) × ((rows : List (List Bool)) → AreWithin (written_by units rows) rows → AreWithin (written_rows units) rows)
+
+-- a list that is done changed no variable that it may not write
+abbrev pub KeepsOthers : Type 0 → Type 0
+KeepsOthers C = (units : List Procedure) (depth : ℕ) (n : Setting C) (c : Code) (s s' : Scene C) (k k' : ℕ) → run (calls_of units depth) n c s k ≡ Done s' k' →
+    (x : Var) → writes (handed_back units) x c ≡ false → (i : ℕ) → s'.store x i ≡ s.store x i

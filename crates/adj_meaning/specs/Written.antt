@@ -1,5 +1,5 @@
 -- Which variables statements may write, and so which dummies a unit hands back. (docs/RUNNING.md, "Calls")
-use Rattle.std.specs.Prelude.{ℕ, zero, suc, List, [], ◌∷◌, map, length, Bool, false, ◌&&◌, ◌||◌, Option, Some, None, if◌then◌else◌}
+use Rattle.std.specs.Prelude.{◌≡◌, ◌+◌, ℕ, zero, suc, List, [], ◌∷◌, map, length, Bool, false, ◌&&◌, ◌||◌, Option, Some, None, if◌then◌else◌, true}
 use Rattle.adj_tree.specs.Code.{Var, plain, name_eq, var_eq, Term, lit, var, elem, neg, bin, pow, abs, Terms, none, more, Runtime, push_word, pop_word, push_array, pop_array, push_control, pop_control, zero_array, begin_reversal, count_actions, give_action, end_reversal, Act, assign, choose, loop, call, runtime, Code, stop, step, Procedure}
 
 -- the unit of a name
@@ -52,16 +52,50 @@ abbrev mutual
   writes handed x stop = false
   writes handed x (step line a rest) = act_writes handed x a || writes handed x rest
 
--- which dummies of a unit its statements may write
-abbrev pub written_dummies : (List ℕ → List Bool) → Option Procedure → List Bool
-written_dummies handed None = []
-written_dummies handed (Some u) = map (λ d. writes handed (plain d) u.body) u.dummies
+-- ---- the dummies that units write: the least set that holds what their statements may write
 
--- the same of the unit of a name, through calls that lie at most `depth` within one another
-abbrev pub handed_within : List Procedure → ℕ → List ℕ → List Bool
-handed_within units zero name = []
-handed_within units (suc depth) name = written_dummies (handed_within units depth) (find_unit units name)
+-- the row of the unit of a name, where there is a row of dummies for each unit
+abbrev pub row_of : List Procedure → List (List Bool) → List ℕ → List Bool
+row_of [] rows name = []
+row_of (u ∷ us) [] name = []
+row_of (u ∷ us) (ws ∷ rows) name = if name_eq u.name name then ws else row_of us rows name
 
--- which dummies of the unit of a name are written: a chain of calls without recursion has no more units than the program
+-- no dummy of any unit
+abbrev pub no_dummies : List Procedure → List (List Bool)
+no_dummies units = map (λ u. map (λ d. false) u.dummies) units
+
+-- the dummies that the statements of each unit may write, where the rows say which dummies of called units are written
+abbrev pub written_by : List Procedure → List (List Bool) → List (List Bool)
+written_by units rows = map (λ u. map (λ d. writes (row_of units rows) (plain d) u.body) u.dummies) units
+
+-- what is found after some rounds, each of which looks at all units
+abbrev pub rounds : List Procedure → ℕ → List (List Bool)
+rounds units zero = no_dummies units
+rounds units (suc k) = written_by units (rounds units k)
+
+abbrev pub dummies_in_all : List Procedure → ℕ
+dummies_in_all [] = 0
+dummies_in_all (u ∷ us) = length u.dummies + dummies_in_all us
+
+-- a round that finds no more dummies is the last, so there are no more rounds than dummies
+abbrev pub written_rows : List Procedure → List (List Bool)
+written_rows units = rounds units (dummies_in_all units)
+
+-- which dummies the unit of a name may write
 abbrev pub handed_back : List Procedure → List ℕ → List Bool
-handed_back units name = handed_within units (length units) name
+handed_back units name = row_of units (written_rows units) name
+
+-- ---- sets of dummies
+
+-- each dummy of the one row is in the other
+abbrev pub IsWithin : List Bool → List Bool → Type 0
+IsWithin [] [] = Unit {0}
+IsWithin [] (w ∷ ws) = ⊥
+IsWithin (v ∷ vs) [] = ⊥
+IsWithin (v ∷ vs) (w ∷ ws) = (v ≡ true → w ≡ true) × IsWithin vs ws
+
+abbrev pub AreWithin : List (List Bool) → List (List Bool) → Type 0
+AreWithin [] [] = Unit {0}
+AreWithin [] (w ∷ ws) = ⊥
+AreWithin (v ∷ vs) [] = ⊥
+AreWithin (v ∷ vs) (w ∷ ws) = IsWithin v w × AreWithin vs ws
