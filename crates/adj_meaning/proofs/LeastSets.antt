@@ -1,8 +1,8 @@
 -- The dummies that units write are the least set that holds what their statements may write.
-use Rattle.std.proofs.Common.{◌≡◌, ℕ, zero, suc, ◌+◌, ◌<◌, ◌≤◌, ◌⊎◌, inl, inr, Bool, true, false, List, [], ◌∷◌, refl, sym, ap, ◌∙◌, subst, arith}
+use Rattle.std.proofs.Common.{◌≡◌, ℕ, zero, suc, ◌+◌, ◌<◌, ◌≤◌, ◌⊎◌, inl, inr, Bool, true, false, List, [], ◌∷◌, refl, sym, ap, ◌∙◌, arith}
 use Rattle.std.proofs.lemmas.Bool.{or_cases}
 use Rattle.std.specs.Prelude.{◌||◌, ◌&&◌, map, length, if◌then◌else◌}
-use Rattle.adj_tree.specs.Code.{Var, plain, name_eq, Terms, none, more, Runtime, Act, assign, choose, loop, call, runtime, Code, stop, step, Procedure}
+use Rattle.adj_tree.specs.Code.{Var, plain, name_eq, Terms, none, more, Act, assign, choose, loop, call, runtime, Code, stop, step, Procedure}
 use Rattle.adj_meaning.specs.Written.{is_place_of, is_handed_back, act_writes, writes, row_of, no_dummies, written_by, rounds, dummies_in_all, written_rows, IsWithin, AreWithin}
 use Rattle.adj_meaning.specs.Laws.{LeastWritten}
 

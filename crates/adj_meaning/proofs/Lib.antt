@@ -1,4 +1,4 @@
-pub mod Examples
+pub mod Samples
 pub mod Appends
 pub mod Inversions
 pub mod Leadings
@@ -11,3 +11,4 @@ pub mod SeenCalls
 pub mod Renamed
 pub mod Projected
 pub mod LeastSets
+pub mod Frames

@@ -1,4 +1,4 @@
--- What holds of every run, for words and for words with tangents alike.
+-- What holds of every run. Most laws hold over any numbers; the contracts name them for words and for words with tangents.
 use Rattle.std.specs.Prelude.{◌≡◌, ℕ, ℤ, ◌+◌, ◌<◌, ◌≤◌, List, map, Bool, false, Option}
 use Rattle.adj_tree.specs.Code.{Var, Code, Procedure}
 use Rattle.adj_meaning.specs.Append.{◌+++◌}
@@ -57,3 +57,7 @@ LeastWritten = (units : List Procedure) → (written_by units (written_rows unit
 abbrev pub KeepsOthers : Type 0 → Type 0
 KeepsOthers C = (units : List Procedure) (depth : ℕ) (n : Setting C) (c : Code) (s s' : Scene C) (k k' : ℕ) → run (calls_of units depth) n c s k ≡ Done s' k' →
     (x : Var) → writes (handed_back units) x c ≡ false → (i : ℕ) → s'.store x i ≡ s.store x i
+
+-- a law for words, and for words with tangents
+abbrev pub ForBoth : (Type 0 → Type 0) → Type 0
+ForBoth Law = Law ℤ × Law (ℤ × ℤ)

@@ -14,4 +14,4 @@ pub mod Rename
 pub mod Seen
 pub mod Leads
 pub mod Laws
-pub mod Examples
+pub mod Samples

@@ -9,8 +9,8 @@ find_unit (u ∷ us) name = if name_eq u.name name then Some u else find_unit us
 
 -- whether an actual is the variable or one of its elements
 abbrev pub is_place_of : Var → Term → Bool
-is_place_of x (var y) = var_eq y x
-is_place_of x (elem y subs) = var_eq y x
+is_place_of x (var y) = var_eq x y
+is_place_of x (elem y subs) = var_eq x y
 is_place_of x (lit z) = false
 is_place_of x (neg a) = false
 is_place_of x (bin op a b) = false
@@ -26,24 +26,24 @@ is_handed_back x (w ∷ ws) (more e es) = (w && is_place_of x e) || is_handed_ba
 -- whether a runtime call changes the variable
 abbrev pub runtime_writes : Var → Runtime → Bool
 runtime_writes x (push_word y subs) = false
-runtime_writes x (pop_word y subs) = var_eq y x
+runtime_writes x (pop_word y subs) = var_eq x y
 runtime_writes x (push_array y) = false
-runtime_writes x (pop_array y) = var_eq y x
+runtime_writes x (pop_array y) = var_eq x y
 runtime_writes x (push_control e) = false
-runtime_writes x (pop_control y) = var_eq y x
-runtime_writes x (zero_array y) = var_eq y x
+runtime_writes x (pop_control y) = var_eq x y
+runtime_writes x (zero_array y) = var_eq x y
 runtime_writes x (begin_reversal l m) = false
-runtime_writes x (count_actions l m y) = var_eq y x
-runtime_writes x (give_action l m e a f t) = var_eq a x || (var_eq f x || var_eq t x)
+runtime_writes x (count_actions l m y) = var_eq x y
+runtime_writes x (give_action l m e a f t) = var_eq x a || (var_eq x f || var_eq x t)
 runtime_writes x end_reversal = false
 
 abbrev mutual
   -- whether a statement may write the variable, where `handed` says which dummies of a unit are written:
   -- its target, the variable of a DO, an actual of a dummy that is written, and what a runtime call changes
   pub act_writes : (List ℕ → List Bool) → Var → Act → Bool
-  act_writes handed x (assign y subs e) = var_eq y x
+  act_writes handed x (assign y subs e) = var_eq x y
   act_writes handed x (choose c a b) = writes handed x a || writes handed x b
-  act_writes handed x (loop y first last by body m) = var_eq y x || writes handed x body
+  act_writes handed x (loop y first last by body m) = var_eq x y || writes handed x body
   act_writes handed x (call name args) = is_handed_back x (handed name) args
   act_writes handed x (runtime r) = runtime_writes x r
 

@@ -1,0 +1,15 @@
+-- Each law is a lemma, over words and over words with tangents.
+use Rattle.std.specs.Prelude.{ℤ}
+use Rattle.adj_meaning.proofs.Renamed.{run_renamed}
+use Rattle.adj_meaning.proofs.LeastSets.{least_written}
+use Rattle.adj_meaning.proofs.Frames.{keeps_others}
+use Rattle.adj_meaning.proofs.laws.variable_laws.Goals as goal
+
+pub returns-clause-renamed : goal.returns-clause-renamed
+returns-clause-renamed c = (run_renamed {C = ℤ}, run_renamed {C = ℤ × ℤ})
+
+pub returns-clause-written : goal.returns-clause-written
+returns-clause-written c = least_written
+
+pub returns-clause-others : goal.returns-clause-others
+returns-clause-others c = (keeps_others {C = ℤ}, keeps_others {C = ℤ × ℤ})
