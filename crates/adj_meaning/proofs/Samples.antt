@@ -64,7 +64,7 @@ open_reversal = (refl, refl, refl, refl)
 
 pub events_in_order : EventsInOrder
 unfolding int_wrap
-events_in_order = refl
+events_in_order = (refl, refl)
 
 pub chosen_tangents : ChosenTangents
 unfolding int_wrap

@@ -11,6 +11,7 @@ pub mod Run
 pub mod Written
 pub mod Units
 pub mod Rename
+pub mod Log
 pub mod Seen
 pub mod Leads
 pub mod Laws
