@@ -1,17 +1,17 @@
 -- A run changes no variable that its statements may not write.
 use Rattle.std.proofs.Common.{◌≡◌, ℕ, zero, suc, Bool, true, false, List, [], ◌∷◌, refl, sym, ap, ◌∙◌}
-use Rattle.std.specs.Prelude.{Result, Ok, Err, Option, Some, None, ◌||◌, ◌&&◌, length, if◌then◌else◌}
+use Rattle.std.specs.Prelude.{◌==◌, Result, Ok, Err, Option, Some, None, ◌||◌, ◌&&◌, length, if◌then◌else◌}
 use Rattle.adj_tree.specs.Code.{Var, plain, var_eq, Term, lit, var, elem, neg, bin, pow, abs, Terms, none, more, Runtime, push_word, pop_word, push_array, pop_array, push_control, pop_control, zero_array, begin_reversal, count_actions, give_action, end_reversal, Act, assign, choose, loop, call, runtime, Code, stop, step, Procedure}
 use Rattle.adj_word.specs.Word.{wrap}
-use Rattle.adj_meaning.specs.Trap.{Trap, then_ok, shape_trap}
+use Rattle.adj_meaning.specs.Trap.{Trap, then_ok, shape_trap, schedule_trap}
 use Rattle.adj_meaning.specs.Store.{Store, set, set_all, size_of, cells_from}
 use Rattle.adj_meaning.specs.Value.{Setting, value, values, cell_at, target, holds}
 use Rattle.adj_meaning.specs.Scene.{Scene, Go, Outcome, Done, Trapped, Full, then_do, has_room, pushed, pushed_all, popped, popped_all}
 use Rattle.adj_meaning.specs.Runtime.{runtime_act, steps_of, snapshots_of, actions_of, action_at, kind_of, lower_of, upper_of, number, ended}
 use Rattle.adj_meaning.specs.Run.{Calls, trips, turns, stepped, with_turn, after_loop, act, run}
 use Rattle.adj_meaning.specs.Written.{is_place_of, is_handed_back, runtime_writes, act_writes, writes, handed_back, find_unit}
-use Rattle.adj_meaning.specs.Units.{Place, whole, cell, nowhere, Actual, one_word, actual_of, actuals, put, entry_store, dummies_fit, copied_out, unit_run, call_in, calls_of}
-use Rattle.adj_meaning.specs.Laws.{KeepsOthers}
+use Rattle.adj_meaning.specs.Units.{Place, whole, cell, nowhere, Actual, one_word, actual_of, actuals, put, entry_store, dummies_fit, copied_out, setting_in, entered, unit_run, call_in, calls_of}
+use Rattle.adj_meaning.specs.Laws.{KeepsOthers, KeepsDummies}
 use Rattle.adj_meaning.proofs.Inversions.{then_done, value_done, top_done, count_done, done_same, then_ok_is}
 
 or_false : (a b : Bool) → (a || b) ≡ false → (a ≡ false) × (b ≡ false)
@@ -231,3 +231,12 @@ calls_keep units (suc depth) x n name args line w s k s' k' e = go (find_unit un
 
 pub keeps_others : {C : Type 0} → KeepsOthers C
 keeps_others units depth n c s s' k k' e x h = run_keeps (handed_back units) (calls_of units depth) (calls_keep units depth) n x c h s k s' k' e
+
+-- a unit changes no dummy that it doesn't write
+pub keeps_dummies : {C : Type 0} → KeepsDummies C
+keeps_dummies units u d h depth n line s s' k k' e =
+    let x = plain d in
+    let p = then_done (run (calls_of units depth) (setting_in n u s.store) u.body (entered n u s) k) (λ s1 j. if s1.opened == 0 then Done s1 j else Trapped schedule_trap line) s' k' e in
+    trans x s p.scene s'
+    (run_keeps (handed_back units) (calls_of units depth) (calls_keep units depth) (setting_in n u s.store) x u.body h (entered n u s) k p.scene p.left p.first)
+    (if_keeps x (p.scene.opened == 0) (Done p.scene p.left) (Trapped schedule_trap line) p.scene s' k' (kept x p.scene p.scene s' p.left k' (λ i. refl)) (λ g. cc) p.second)

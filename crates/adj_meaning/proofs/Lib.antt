@@ -12,3 +12,4 @@ pub mod Renamed
 pub mod Projected
 pub mod LeastSets
 pub mod Frames
+pub mod Extensions

@@ -14,5 +14,6 @@ pub mod Rename
 pub mod Log
 pub mod Seen
 pub mod Leads
+pub mod Common
 pub mod Laws
 pub mod Samples

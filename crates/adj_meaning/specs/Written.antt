@@ -85,6 +85,10 @@ written_rows units = rounds units (dummies_in_all units)
 abbrev pub handed_back : List Procedure → List ℕ → List Bool
 handed_back units name = row_of units (written_rows units) name
 
+-- whether the unit may write its dummy
+abbrev pub is_written : List Procedure → Procedure → List ℕ → Bool
+is_written units u d = writes (handed_back units) (plain d) u.body
+
 -- ---- sets of dummies
 
 -- each dummy of the one row is in the other
