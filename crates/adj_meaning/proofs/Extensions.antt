@@ -1,18 +1,20 @@
 -- A unit runs alike in two programs that hold the same text of it and of all units that it calls.
-use Rattle.std.proofs.Common.{◌≡◌, ℕ, zero, suc, ◌+◌, ◌-◌, Bool, true, false, List, [], ◌∷◌, refl, sym, ap, ◌∙◌, arith}
+use Rattle.std.proofs.Common.{◌≡◌, ℕ, zero, suc, ◌+◌, ◌-◌, Bool, false, List, [], refl, sym, ap, ◌∙◌, arith}
 use Rattle.std.specs.Prelude.{Option, Some, None, IsTrue, ◌||◌, ◌==◌, map, reverse, if◌then◌else◌}
-use Rattle.adj_tree.specs.Code.{Var, plain, name_eq, var_eq, Terms, Act, assign, choose, loop, call, runtime, Code, stop, step, Procedure}
+use Rattle.adj_tree.specs.Code.{Var, plain, var_eq, Terms, Act, assign, choose, loop, call, runtime, Code, stop, step, Procedure}
 use Rattle.adj_word.specs.Word.{wrap}
 use Rattle.adj_meaning.specs.Trap.{shape_trap, schedule_trap}
 use Rattle.adj_meaning.specs.Store.{scalar}
 use Rattle.adj_meaning.specs.Value.{Setting, value, holds}
 use Rattle.adj_meaning.specs.Scene.{Scene, Done, Trapped, then_do, with_value, counted}
 use Rattle.adj_meaning.specs.Run.{Calls, trips, turns, stepped, with_turn, after_loop, act, run}
-use Rattle.adj_meaning.specs.Written.{find_unit, is_handed_back, act_writes, writes, row_of, rounds, dummies_in_all, handed_back, is_written}
+use Rattle.adj_meaning.specs.LeastSet.{Dummies, Rule, row_of, rounds, dummies_in_all, in_least}
+use Rattle.adj_meaning.specs.Written.{find_unit, is_handed_back, act_writes, writes, write_rule, handed_back}
 use Rattle.adj_meaning.specs.Units.{input_store, dummy_slots, actuals, dummies_fit, entry_store, copied_out, setting_in, entered, unit_run, call_in, calls_of}
 use Rattle.adj_meaning.specs.Common.{CallsInside', CallsInside, HaveInCommon}
-use Rattle.adj_meaning.specs.Laws.{HandsBackWritten, ExtendsPrograms, ExtendsWritten}
-use Rattle.adj_meaning.proofs.LeastSets.{written_closed, rounds_stay}
+use Rattle.adj_meaning.specs.Laws.{ExtendsPrograms, ExtendsWritten}
+use Rattle.adj_meaning.proofs.LeastSets.{Rises, rounds_stay, of_found, row_map}
+use Rattle.adj_meaning.proofs.WriteSets.{write_rises}
 
 -- ---- the dummies that units write
 
@@ -29,51 +31,41 @@ module _ (inside : List ℕ → Bool) (f g : List ℕ → List Bool) (h : (name 
     writes_same stop c = refl
     writes_same (step line a rest) c = λ i. act_writes_same a c.0 i || writes_same rest c.1 i
 
--- what a function of units gives for the unit of a name
-abbrev pub of_found : (Procedure → List Bool) → Option Procedure → List Bool
-of_found f None = []
-of_found f (Some u) = f u
-
--- the row of a unit is what the unit of that name gives
-pub row_map : (f : Procedure → List Bool) (units : List Procedure) (name : List ℕ) → row_of units (map f units) name ≡ of_found f (find_unit units name)
-row_map f [] name = refl
-row_map f (u ∷ us) name = go (name_eq u.name name) (row_map f us name)
-  where
-    go : (b : Bool) → row_of us (map f us) name ≡ of_found f (find_unit us name) → (if b then f u else row_of us (map f us) name) ≡ of_found f (if b then Some u else find_unit us name)
-    go true e = refl
-    go false e = e
+-- the rule looks at no units but those that are called
+pub record LooksInside (rule : Rule) : Type 0 where
+  pub by : (inside : List ℕ → Bool) (f g : Dummies) → ((name : List ℕ) → IsTrue (inside name) → f name ≡ g name) → (u : Procedure) → CallsInside inside u.body → (d : List ℕ) → rule f u d ≡ rule g u d
 
 -- what the round after k finds in a unit
-abbrev pub found_in : List Procedure → ℕ → Procedure → List Bool
-found_in units k u = map (λ d. writes (row_of units (rounds units k)) (plain d) u.body) u.dummies
-
--- what is handed back are the dummies that the unit may write
-pub handed_written : HandsBackWritten
-handed_written units name u e =
-    ap (λ z. row_of units z name) (sym (written_closed units)) ∙ row_map (λ u. map (is_written units u) u.dummies) units name ∙ ap (of_found (λ u. map (is_written units u) u.dummies)) e
+abbrev pub found_in : Rule → List Procedure → ℕ → Procedure → List Bool
+found_in rule units k u = map (rule (row_of units (rounds rule units k)) u) u.dummies
 
 module _ (inside : List ℕ → Bool) (units others : List Procedure) (common : HaveInCommon inside units others) where
-  -- after as many rounds the same dummies are found in both programs
-  rounds_same : (k : ℕ) (name : List ℕ) → IsTrue (inside name) → row_of units (rounds units k) name ≡ row_of others (rounds others k) name
-  rounds_same zero name t =
-      row_map (λ u. map (λ d. false) u.dummies) units name ∙ ap (of_found (λ u. map (λ d. false) u.dummies)) (common.same name t) ∙ sym (row_map (λ u. map (λ d. false) u.dummies) others name)
-  rounds_same (suc k) name t =
-      row_map (found_in units k) units name ∙ found (find_unit units name) refl (rounds_same k) ∙ ap (of_found (found_in others k)) (common.same name t) ∙ sym (row_map (found_in others k) others name)
-    where
-      found : (o : Option Procedure) → find_unit units name ≡ o → ((name : List ℕ) → IsTrue (inside name) → row_of units (rounds units k) name ≡ row_of others (rounds others k) name) → of_found (found_in units k) o ≡ of_found (found_in others k) o
-      found None e ih = refl
-      found (Some u) e ih = λ i. map (λ d. writes_same inside (row_of units (rounds units k)) (row_of others (rounds others k)) ih (plain d) u.body (common.closed name u t e) i) u.dummies
+  module _ (rule : Rule) (looks : LooksInside rule) where
+    -- after as many rounds the same dummies are found in both programs
+    rounds_same : (k : ℕ) (name : List ℕ) → IsTrue (inside name) → row_of units (rounds rule units k) name ≡ row_of others (rounds rule others k) name
+    rounds_same zero name t =
+        row_map (λ u. map (λ d. false) u.dummies) units name ∙ ap (of_found (λ u. map (λ d. false) u.dummies)) (common.same name t) ∙ sym (row_map (λ u. map (λ d. false) u.dummies) others name)
+    rounds_same (suc k) name t =
+        row_map (found_in rule units k) units name ∙ found (find_unit units name) refl (rounds_same k) ∙ ap (of_found (found_in rule others k)) (common.same name t) ∙ sym (row_map (found_in rule others k) others name)
+      where
+        found : (o : Option Procedure) → find_unit units name ≡ o → ((name : List ℕ) → IsTrue (inside name) → row_of units (rounds rule units k) name ≡ row_of others (rounds rule others k) name) → of_found (found_in rule units k) o ≡ of_found (found_in rule others k) o
+        found None e ih = refl
+        found (Some u) e ih = λ i. map (λ d. looks.by inside (row_of units (rounds rule units k)) (row_of others (rounds rule others k)) ih u (common.closed name u t e) d i) u.dummies
 
-  pub handed_same : (name : List ℕ) → IsTrue (inside name) → handed_back units name ≡ handed_back others name
-  handed_same name t =
-      let e : dummies_in_all units + dummies_in_all others ≡ dummies_in_all others + dummies_in_all units = omega arith in
-      ap (λ z. row_of units z name) (sym (rounds_stay units (dummies_in_all others)))
-      ∙ rounds_same (dummies_in_all units + dummies_in_all others) name t
-      ∙ ap (λ z. row_of others (rounds others z) name) e
-      ∙ ap (λ z. row_of others z name) (rounds_stay others (dummies_in_all units))
+    -- so the least sets are the same there
+    pub least_same : Rises rule → (name : List ℕ) → IsTrue (inside name) → in_least rule units name ≡ in_least rule others name
+    least_same rises name t =
+        let e : dummies_in_all units + dummies_in_all others ≡ dummies_in_all others + dummies_in_all units = omega arith in
+        ap (λ z. row_of units z name) (sym (rounds_stay rule rises units (dummies_in_all others)))
+        ∙ rounds_same (dummies_in_all units + dummies_in_all others) name t
+        ∙ ap (λ z. row_of others (rounds rule others z) name) e
+        ∙ ap (λ z. row_of others z name) (rounds_stay rule rises others (dummies_in_all units))
+
+pub write_looks : LooksInside write_rule
+write_looks = record { by = λ inside f g h u c d. writes_same inside f g h (plain d) u.body c }
 
 pub extends_written : ExtendsWritten
-extends_written inside units others common name t = handed_same inside units others common name t
+extends_written inside units others common name t = least_same inside units others common write_rule write_looks write_rises name t
 
 -- ---- runs
 
@@ -117,7 +109,7 @@ module _ {C : Type 0} (inside : List ℕ → Bool) (units others : List Procedur
   calls_same zero n name args line t s k = refl
   calls_same (suc depth) n name args line t s k =
       call_same inside (calls_of units depth) (calls_of others depth) (calls_same depth) n (handed_back units name) (find_unit units name) (λ u e. common.closed name u t e) args line s k
-      ∙ (λ i. call_in (calls_of others depth) n (handed_same inside units others common name t i) (common.same name t i) args line s k)
+      ∙ (λ i. call_in (calls_of others depth) n (extends_written inside units others common name t i) (common.same name t i) args line s k)
 
 pub extends_programs : {C : Type 0} → ExtendsPrograms C
 extends_programs inside units others common u c n input tape room k =

@@ -1,50 +1,13 @@
--- The dummies that units write are the least set that holds what their statements may write.
+-- What is found round by round is the least set by its rule, for each rule that finds more where more is known.
 use Rattle.std.proofs.Common.{◌≡◌, ℕ, zero, suc, ◌+◌, ◌<◌, ◌≤◌, ◌⊎◌, inl, inr, Bool, true, false, List, [], ◌∷◌, refl, sym, ap, ◌∙◌, arith}
-use Rattle.std.proofs.lemmas.Bool.{or_cases}
-use Rattle.std.specs.Prelude.{◌||◌, ◌&&◌, map, length, if◌then◌else◌}
-use Rattle.adj_tree.specs.Code.{Var, plain, name_eq, Terms, none, more, Act, assign, choose, loop, call, runtime, Code, stop, step, Procedure}
-use Rattle.adj_meaning.specs.Written.{is_place_of, is_handed_back, act_writes, writes, row_of, no_dummies, written_by, rounds, dummies_in_all, written_rows, IsWithin, AreWithin}
-use Rattle.adj_meaning.specs.Laws.{LeastWritten}
+use Rattle.std.specs.Prelude.{Option, Some, None, map, length, if◌then◌else◌}
+use Rattle.adj_tree.specs.Code.{name_eq, Procedure}
+use Rattle.adj_meaning.specs.LeastSet.{Dummies, Rule, row_of, no_dummies, by_rule, rounds, dummies_in_all, least_rows, in_least, IsWithin, AreWithin, IsLeast}
+use Rattle.adj_meaning.specs.Written.{find_unit}
 
--- ---- what holds of a set holds of a greater one
-
-or_left : (a b : Bool) → a ≡ true → (a || b) ≡ true
-or_left a b e = ap (λ z. z || b) e
-
-or_right : (a b : Bool) → b ≡ true → (a || b) ≡ true
-or_right true b e = refl
-or_right false b e = e
-
-and_more : (v w p : Bool) → (v ≡ true → w ≡ true) → (v && p) ≡ true → (w && p) ≡ true
-and_more true w p h e = ap (λ z. z && p) (h refl) ∙ e
-and_more false w p h e = cc
-
-or_more : (a b c d : Bool) → (a ≡ true → c ≡ true) → (b ≡ true → d ≡ true) → (a || b) ≡ true → (c || d) ≡ true
-or_more a b c d f g e = go (or_cases a b e)
-  where
-    go : (a ≡ true) ⊎ (b ≡ true) → (c || d) ≡ true
-    go (inl h) = or_left c d (f h)
-    go (inr h) = or_right c d (g h)
-
-handed_more : (x : Var) (vs ws : List Bool) (args : Terms) → IsWithin vs ws → is_handed_back x vs args ≡ true → is_handed_back x ws args ≡ true
-handed_more x [] ws args h e = cc
-handed_more x (v ∷ vs) [] args h e = absurd h
-handed_more x (v ∷ vs) (w ∷ ws) none h e = cc
-handed_more x (v ∷ vs) (w ∷ ws) (more a args) h e =
-    or_more (v && is_place_of x a) (is_handed_back x vs args) (w && is_place_of x a) (is_handed_back x ws args) (and_more v w (is_place_of x a) h.0) (handed_more x vs ws args h.1) e
-
-module _ (f g : List ℕ → List Bool) (h : (name : List ℕ) → IsWithin (f name) (g name)) (x : Var) where
-  mutual
-    act_more : (a : Act) → act_writes f x a ≡ true → act_writes g x a ≡ true
-    act_more (assign y subs e) t = t
-    act_more (choose c a b) t = or_more (writes f x a) (writes f x b) (writes g x a) (writes g x b) (writes_more a) (writes_more b) t
-    act_more (loop y first last by body m) t = or_more _ (writes f x body) _ (writes g x body) (λ z. z) (writes_more body) t
-    act_more (call name args) t = handed_more x (f name) (g name) args (h name) t
-    act_more (runtime r) t = t
-
-    writes_more : (c : Code) → writes f x c ≡ true → writes g x c ≡ true
-    writes_more stop t = t
-    writes_more (step line a rest) t = or_more (act_writes f x a) (writes f x rest) (act_writes g x a) (writes g x rest) (act_more a) (writes_more rest) t
+-- more is found where more is known
+pub record Rises (rule : Rule) : Type 0 where
+  pub by : (f g : Dummies) → ((name : List ℕ) → IsWithin (f name) (g name)) → (u : Procedure) (d : List ℕ) → rule f u d ≡ true → rule g u d ≡ true
 
 row_within : (units : List Procedure) (vs ws : List (List Bool)) → AreWithin vs ws → (name : List ℕ) → IsWithin (row_of units vs name) (row_of units ws name)
 row_within [] vs ws h name = tt
@@ -65,15 +28,15 @@ maps_within : (us : List Procedure) (f g : Procedure → List ℕ → Bool) → 
 maps_within [] f g h = tt
 maps_within (u ∷ us) f g h = (map_within u.dummies (f u) (g u) (h u), maps_within us f g h)
 
--- a round finds more where it begins with more
-written_more : (units : List Procedure) (vs ws : List (List Bool)) → AreWithin vs ws → AreWithin (written_by units vs) (written_by units ws)
-written_more units vs ws h =
-    maps_within units _ _ (λ u d. writes_more (row_of units vs) (row_of units ws) (row_within units vs ws h) (plain d) u.body)
+module _ (rule : Rule) (rises : Rises rule) where
+  -- a round finds more where it begins with more
+  round_rises : (units : List Procedure) (vs ws : List (List Bool)) → AreWithin vs ws → AreWithin (by_rule rule units vs) (by_rule rule units ws)
+  round_rises units vs ws h = maps_within units (rule (row_of units vs)) (rule (row_of units ws)) (rises.by (row_of units vs) (row_of units ws) (row_within units vs ws h))
 
--- so each round finds more than the one before
-rounds_rise : (units : List Procedure) (k : ℕ) → AreWithin (rounds units k) (rounds units (suc k))
-rounds_rise units zero = maps_within units (λ u d. false) _ (λ u d e. cc)
-rounds_rise units (suc k) = written_more units (rounds units k) (rounds units (suc k)) (rounds_rise units k)
+  -- so each round finds more than the one before
+  rounds_rise : (units : List Procedure) (k : ℕ) → AreWithin (rounds rule units k) (rounds rule units (suc k))
+  rounds_rise units zero = maps_within units (λ u d. false) (rule (row_of units (no_dummies units))) (λ u d e. cc)
+  rounds_rise units (suc k) = round_rises units (rounds rule units k) (rounds rule units (suc k)) (rounds_rise units k)
 
 -- ---- counting
 
@@ -134,34 +97,38 @@ total_most (u ∷ us) f = omega (arith, count_most u.dummies (f u), total_most u
 
 -- ---- the last round
 
--- a round finds no more, or there are as many dummies as rounds
-last_or_many : (units : List Procedure) (k : ℕ) → (rounds units (suc k) ≡ rounds units k) ⊎ (suc k ≤ total (rounds units (suc k)))
-last_or_many units zero = go (rows_same_or_fewer (rounds units 0) (rounds units 1) (rounds_rise units 0))
-  where
-    go : (rounds units 0 ≡ rounds units 1) ⊎ (total (rounds units 0) < total (rounds units 1)) → (rounds units 1 ≡ rounds units 0) ⊎ (1 ≤ total (rounds units 1))
-    go (inl e) = inl (sym e)
-    go (inr l) = inr (omega arith)
-last_or_many units (suc k) = go (last_or_many units k) (rows_same_or_fewer (rounds units (suc k)) (rounds units (suc (suc k))) (rounds_rise units (suc k)))
-  where
-    go : (rounds units (suc k) ≡ rounds units k) ⊎ (suc k ≤ total (rounds units (suc k))) → (rounds units (suc k) ≡ rounds units (suc (suc k))) ⊎ (total (rounds units (suc k)) < total (rounds units (suc (suc k)))) → (rounds units (suc (suc k)) ≡ rounds units (suc k)) ⊎ (suc (suc k) ≤ total (rounds units (suc (suc k))))
-    go (inl e) b = inl (ap (written_by units) e)
-    go (inr m) (inl e) = inl (sym e)
-    go (inr m) (inr l) = inr (omega arith)
+module _ (rule : Rule) (rises : Rises rule) (units : List Procedure) where
+  abbrev after : ℕ → List (List Bool)
+  after k = rounds rule units k
 
--- what is found once there were as many rounds as dummies is what the statements may write
-pub written_closed : (units : List Procedure) → written_by units (written_rows units) ≡ written_rows units
-written_closed units = go (last_or_many units (dummies_in_all units))
-  where
-    go : (rounds units (suc (dummies_in_all units)) ≡ rounds units (dummies_in_all units)) ⊎ (suc (dummies_in_all units) ≤ total (rounds units (suc (dummies_in_all units)))) → rounds units (suc (dummies_in_all units)) ≡ rounds units (dummies_in_all units)
-    go (inl e) = e
-    go (inr l) = absurd (omega (arith, total_most units (λ u d. writes (row_of units (rounds units (dummies_in_all units))) (plain d) u.body)))
+  -- a round finds no more, or there are as many dummies as rounds
+  last_or_many : (k : ℕ) → (after (suc k) ≡ after k) ⊎ (suc k ≤ total (after (suc k)))
+  last_or_many zero = go (rows_same_or_fewer (after 0) (after 1) (rounds_rise rule rises units 0))
+    where
+      go : (after 0 ≡ after 1) ⊎ (total (after 0) < total (after 1)) → (after 1 ≡ after 0) ⊎ (1 ≤ total (after 1))
+      go (inl e) = inl (sym e)
+      go (inr l) = inr (omega arith)
+  last_or_many (suc k) = go (last_or_many k) (rows_same_or_fewer (after (suc k)) (after (suc (suc k))) (rounds_rise rule rises units (suc k)))
+    where
+      go : (after (suc k) ≡ after k) ⊎ (suc k ≤ total (after (suc k))) → (after (suc k) ≡ after (suc (suc k))) ⊎ (total (after (suc k)) < total (after (suc (suc k)))) → (after (suc (suc k)) ≡ after (suc k)) ⊎ (suc (suc k) ≤ total (after (suc (suc k))))
+      go (inl e) b = inl (ap (by_rule rule units) e)
+      go (inr m) (inl e) = inl (sym e)
+      go (inr m) (inr l) = inr (omega arith)
 
--- and no further round changes it
-pub rounds_stay : (units : List Procedure) (k : ℕ) → rounds units (dummies_in_all units + k) ≡ written_rows units
-rounds_stay units zero = let e : dummies_in_all units + 0 ≡ dummies_in_all units = omega arith in ap (rounds units) e
-rounds_stay units (suc k) =
-    let e : dummies_in_all units + suc k ≡ suc (dummies_in_all units + k) = omega arith in
-    ap (rounds units) e ∙ ap (written_by units) (rounds_stay units k) ∙ written_closed units
+  -- what is found once there were as many rounds as dummies is what the rule puts into the set
+  pub least_closed : by_rule rule units (least_rows rule units) ≡ least_rows rule units
+  least_closed = go (last_or_many (dummies_in_all units))
+    where
+      go : (after (suc (dummies_in_all units)) ≡ after (dummies_in_all units)) ⊎ (suc (dummies_in_all units) ≤ total (after (suc (dummies_in_all units)))) → after (suc (dummies_in_all units)) ≡ after (dummies_in_all units)
+      go (inl e) = e
+      go (inr l) = absurd (omega (arith, total_most units (rule (row_of units (after (dummies_in_all units))))))
+
+  -- and no further round changes it
+  pub rounds_stay : (k : ℕ) → after (dummies_in_all units + k) ≡ least_rows rule units
+  rounds_stay zero = let e : dummies_in_all units + 0 ≡ dummies_in_all units = omega arith in ap after e
+  rounds_stay (suc k) =
+      let e : dummies_in_all units + suc k ≡ suc (dummies_in_all units + k) = omega arith in
+      ap after e ∙ ap (by_rule rule units) (rounds_stay k) ∙ least_closed
 
 within_trans : (us vs ws : List Bool) → IsWithin us vs → IsWithin vs ws → IsWithin us ws
 within_trans [] [] [] f g = tt
@@ -179,10 +146,32 @@ are_within_trans (u ∷ us) [] ws f g = absurd f
 are_within_trans (u ∷ us) (v ∷ vs) [] f g = absurd g
 are_within_trans (u ∷ us) (v ∷ vs) (w ∷ ws) f g = (within_trans u v w f.0 g.0, are_within_trans us vs ws f.1 g.1)
 
--- each round lies within every set that holds what the statements may write with it
-rounds_least : (units : List Procedure) (ws : List (List Bool)) → AreWithin (written_by units ws) ws → (k : ℕ) → AreWithin (rounds units k) ws
-rounds_least units ws h zero = are_within_trans (no_dummies units) (written_by units ws) ws (maps_within units (λ u d. false) _ (λ u d e. cc)) h
-rounds_least units ws h (suc k) = are_within_trans (rounds units (suc k)) (written_by units ws) ws (written_more units (rounds units k) ws (rounds_least units ws h k)) h
+module _ (rule : Rule) (rises : Rises rule) (units : List Procedure) where
+  -- each round lies within every set that holds what the rule puts into it
+  rounds_least : (ws : List (List Bool)) → AreWithin (by_rule rule units ws) ws → (k : ℕ) → AreWithin (rounds rule units k) ws
+  rounds_least ws h zero = are_within_trans (no_dummies units) (by_rule rule units ws) ws (maps_within units (λ u d. false) (rule (row_of units ws)) (λ u d e. cc)) h
+  rounds_least ws h (suc k) = are_within_trans (rounds rule units (suc k)) (by_rule rule units ws) ws (round_rises rule rises units (rounds rule units k) ws (rounds_least ws h k)) h
 
-pub least_written : LeastWritten
-least_written units = (written_closed units, λ ws h. rounds_least units ws h (dummies_in_all units))
+  pub is_least : IsLeast rule units (least_rows rule units)
+  is_least = record { closed = least_closed rule rises units; least = λ ws h. rounds_least ws h (dummies_in_all units) }
+
+-- ---- rows by names
+
+-- what a function of units gives for the unit of a name
+abbrev pub of_found : (Procedure → List Bool) → Option Procedure → List Bool
+of_found f None = []
+of_found f (Some u) = f u
+
+-- the row of a unit is what the unit of that name gives
+pub row_map : (f : Procedure → List Bool) (units : List Procedure) (name : List ℕ) → row_of units (map f units) name ≡ of_found f (find_unit units name)
+row_map f [] name = refl
+row_map f (u ∷ us) name = go (name_eq u.name name) (row_map f us name)
+  where
+    go : (b : Bool) → row_of us (map f us) name ≡ of_found f (find_unit us name) → (if b then f u else row_of us (map f us) name) ≡ of_found f (if b then Some u else find_unit us name)
+    go true e = refl
+    go false e = e
+
+-- the row of a unit in the least set is what the rule gives for its dummies
+pub least_row : (rule : Rule) → Rises rule → (units : List Procedure) (name : List ℕ) (u : Procedure) → find_unit units name ≡ Some u → in_least rule units name ≡ map (rule (in_least rule units) u) u.dummies
+least_row rule rises units name u e =
+    ap (λ z. row_of units z name) (sym (least_closed rule rises units)) ∙ row_map (λ u. map (rule (in_least rule units) u) u.dummies) units name ∙ ap (of_found (λ u. map (rule (in_least rule units) u) u.dummies)) e

@@ -11,5 +11,6 @@ pub mod SeenCalls
 pub mod Renamed
 pub mod Projected
 pub mod LeastSets
+pub mod WriteSets
 pub mod Frames
 pub mod Extensions

@@ -8,7 +8,8 @@ use Rattle.adj_meaning.specs.Scene.{Scene, Done, More, then_do}
 use Rattle.adj_meaning.specs.Run.{Calls, run}
 use Rattle.adj_meaning.specs.Units.{Slot, Output, unit_run, calls_of, run_unit}
 use Rattle.adj_meaning.specs.Common.{CallsInside, HaveInCommon}
-use Rattle.adj_meaning.specs.Written.{find_unit, is_written, writes, written_by, written_rows, handed_back, AreWithin}
+use Rattle.adj_meaning.specs.LeastSet.{least_rows, IsLeast}
+use Rattle.adj_meaning.specs.Written.{find_unit, writes, write_rule, is_written, handed_back}
 use Rattle.adj_meaning.specs.Rename.{rename}
 use Rattle.adj_meaning.specs.Seen.{Separates, pulled_setting, pulled_scene, pulled_outcome, Projects, slot_seen, ending_seen}
 
@@ -52,7 +53,7 @@ TangentsForgotten = (units : List Procedure) (u : Procedure) (input : List (Slot
 
 -- the dummies that units write are those that their statements may write, and no smaller set holds all of these
 abbrev pub LeastWritten : Type 0
-LeastWritten = (units : List Procedure) → (written_by units (written_rows units) ≡ written_rows units) × ((rows : List (List Bool)) → AreWithin (written_by units rows) rows → AreWithin (written_rows units) rows)
+LeastWritten = (units : List Procedure) → IsLeast write_rule units (least_rows write_rule units)
 
 -- what a unit hands back are the dummies that its statements may write
 abbrev pub HandsBackWritten : Type 0

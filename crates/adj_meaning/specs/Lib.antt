@@ -8,6 +8,7 @@ pub mod Event
 pub mod Scene
 pub mod Runtime
 pub mod Run
+pub mod LeastSet
 pub mod Written
 pub mod Units
 pub mod Rename

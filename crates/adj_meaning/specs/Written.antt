@@ -1,6 +1,7 @@
 -- Which variables statements may write, and so which dummies a unit hands back. (docs/RUNNING.md, "Calls")
-use Rattle.std.specs.Prelude.{◌≡◌, ◌+◌, ℕ, zero, suc, List, [], ◌∷◌, map, length, Bool, false, ◌&&◌, ◌||◌, Option, Some, None, if◌then◌else◌, true}
+use Rattle.std.specs.Prelude.{ℕ, List, [], ◌∷◌, Bool, false, ◌&&◌, ◌||◌, Option, Some, None, if◌then◌else◌}
 use Rattle.adj_tree.specs.Code.{Var, plain, name_eq, var_eq, Term, lit, var, elem, neg, bin, pow, abs, Terms, none, more, Runtime, push_word, pop_word, push_array, pop_array, push_control, pop_control, zero_array, begin_reversal, count_actions, give_action, end_reversal, Act, assign, choose, loop, call, runtime, Code, stop, step, Procedure}
+use Rattle.adj_meaning.specs.LeastSet.{Dummies, Rule, in_least}
 
 -- the unit of a name
 abbrev pub find_unit : List Procedure → List ℕ → Option Procedure
@@ -40,7 +41,7 @@ runtime_writes x end_reversal = false
 abbrev mutual
   -- whether a statement may write the variable, where `handed` says which dummies of a unit are written:
   -- its target, the variable of a DO, an actual of a dummy that is written, and what a runtime call changes
-  pub act_writes : (List ℕ → List Bool) → Var → Act → Bool
+  pub act_writes : Dummies → Var → Act → Bool
   act_writes handed x (assign y subs e) = var_eq x y
   act_writes handed x (choose c a b) = writes handed x a || writes handed x b
   act_writes handed x (loop y first last by body m) = var_eq x y || writes handed x body
@@ -48,58 +49,20 @@ abbrev mutual
   act_writes handed x (runtime r) = runtime_writes x r
 
   -- the same of a list
-  pub writes : (List ℕ → List Bool) → Var → Code → Bool
+  pub writes : Dummies → Var → Code → Bool
   writes handed x stop = false
   writes handed x (step line a rest) = act_writes handed x a || writes handed x rest
 
--- ---- the dummies that units write: the least set that holds what their statements may write
+-- ---- the dummies that units write
 
--- the row of the unit of a name, where there is a row of dummies for each unit
-abbrev pub row_of : List Procedure → List (List Bool) → List ℕ → List Bool
-row_of [] rows name = []
-row_of (u ∷ us) [] name = []
-row_of (u ∷ us) (ws ∷ rows) name = if name_eq u.name name then ws else row_of us rows name
+-- a unit writes the dummies that its statements may write
+abbrev pub write_rule : Rule
+write_rule handed u d = writes handed (plain d) u.body
 
--- no dummy of any unit
-abbrev pub no_dummies : List Procedure → List (List Bool)
-no_dummies units = map (λ u. map (λ d. false) u.dummies) units
+-- which dummies of the unit of a name are written, and so handed back at the end of a call: the least set by that rule
+abbrev pub handed_back : List Procedure → Dummies
+handed_back units name = in_least write_rule units name
 
--- the dummies that the statements of each unit may write, where the rows say which dummies of called units are written
-abbrev pub written_by : List Procedure → List (List Bool) → List (List Bool)
-written_by units rows = map (λ u. map (λ d. writes (row_of units rows) (plain d) u.body) u.dummies) units
-
--- what is found after some rounds, each of which looks at all units
-abbrev pub rounds : List Procedure → ℕ → List (List Bool)
-rounds units zero = no_dummies units
-rounds units (suc k) = written_by units (rounds units k)
-
-abbrev pub dummies_in_all : List Procedure → ℕ
-dummies_in_all [] = 0
-dummies_in_all (u ∷ us) = length u.dummies + dummies_in_all us
-
--- a round that finds no more dummies is the last, so there are no more rounds than dummies
-abbrev pub written_rows : List Procedure → List (List Bool)
-written_rows units = rounds units (dummies_in_all units)
-
--- which dummies the unit of a name may write
-abbrev pub handed_back : List Procedure → List ℕ → List Bool
-handed_back units name = row_of units (written_rows units) name
-
--- whether the unit may write its dummy
+-- whether the unit writes its dummy
 abbrev pub is_written : List Procedure → Procedure → List ℕ → Bool
-is_written units u d = writes (handed_back units) (plain d) u.body
-
--- ---- sets of dummies
-
--- each dummy of the one row is in the other
-abbrev pub IsWithin : List Bool → List Bool → Type 0
-IsWithin [] [] = Unit {0}
-IsWithin [] (w ∷ ws) = ⊥
-IsWithin (v ∷ vs) [] = ⊥
-IsWithin (v ∷ vs) (w ∷ ws) = (v ≡ true → w ≡ true) × IsWithin vs ws
-
-abbrev pub AreWithin : List (List Bool) → List (List Bool) → Type 0
-AreWithin [] [] = Unit {0}
-AreWithin [] (w ∷ ws) = ⊥
-AreWithin (v ∷ vs) [] = ⊥
-AreWithin (v ∷ vs) (w ∷ ws) = IsWithin v w × AreWithin vs ws
+is_written units u d = write_rule (handed_back units) u d

@@ -1,9 +1,8 @@
 -- Each law is a lemma, over words and over words with tangents.
 use Rattle.std.specs.Prelude.{ℤ}
 use Rattle.adj_meaning.proofs.Renamed.{run_renamed}
-use Rattle.adj_meaning.proofs.LeastSets.{least_written}
+use Rattle.adj_meaning.proofs.WriteSets.{least_written, handed_written}
 use Rattle.adj_meaning.proofs.Frames.{keeps_others, keeps_dummies}
-use Rattle.adj_meaning.proofs.Extensions.{handed_written}
 use Rattle.adj_meaning.proofs.laws.variable_laws.Goals as goal
 
 pub returns-clause-renamed : goal.returns-clause-renamed
