@@ -1,4 +1,4 @@
-pub mod Examples
+pub mod Samples
 pub mod Appends
 pub mod Inversions
 pub mod Leadings
@@ -10,3 +10,7 @@ pub mod SeenRuns
 pub mod SeenCalls
 pub mod Renamed
 pub mod Projected
+pub mod LeastSets
+pub mod WriteSets
+pub mod Frames
+pub mod Extensions

@@ -1,12 +1,15 @@
--- What holds of every run, for words and for words with tangents alike.
-use Rattle.std.specs.Prelude.{◌≡◌, ℕ, ℤ, ◌+◌, ◌<◌, ◌≤◌, List, map, Option}
-use Rattle.adj_tree.specs.Code.{Var, Code, Procedure}
+-- What holds of every run. Most laws hold over any numbers; the contracts name them for words and for words with tangents.
+use Rattle.std.specs.Prelude.{◌≡◌, ℕ, ℤ, ◌+◌, ◌<◌, ◌≤◌, List, map, Bool, false, IsTrue, Option, Some}
+use Rattle.adj_tree.specs.Code.{Var, plain, Code, Procedure}
 use Rattle.adj_meaning.specs.Append.{◌+++◌}
 use Rattle.adj_meaning.specs.Numbers.{Numbers, words, duals}
 use Rattle.adj_meaning.specs.Value.{Setting}
 use Rattle.adj_meaning.specs.Scene.{Scene, Done, More, then_do}
 use Rattle.adj_meaning.specs.Run.{Calls, run}
-use Rattle.adj_meaning.specs.Units.{Slot, Output, calls_of, run_unit}
+use Rattle.adj_meaning.specs.Units.{Slot, Output, unit_run, calls_of, run_unit}
+use Rattle.adj_meaning.specs.Common.{CallsInside, HaveInCommon}
+use Rattle.adj_meaning.specs.LeastSet.{least_rows, IsLeast}
+use Rattle.adj_meaning.specs.Written.{find_unit, writes, write_rule, is_written, handed_back}
 use Rattle.adj_meaning.specs.Rename.{rename}
 use Rattle.adj_meaning.specs.Seen.{Separates, pulled_setting, pulled_scene, pulled_outcome, Projects, slot_seen, ending_seen}
 
@@ -47,3 +50,34 @@ RunProjected C D = (h : C → D) (n : Numbers C) (m : Numbers D) → Projects h 
 abbrev pub TangentsForgotten : Type 0
 TangentsForgotten = (units : List Procedure) (u : Procedure) (input : List (Slot (ℤ × ℤ))) (tape : List (ℤ × ℤ)) (room : Option ℕ) (k : ℕ) →
     ending_seen (λ a. a.0) (run_unit duals units u input tape room k) ≡ run_unit words units u (map (slot_seen (λ a. a.0)) input) (map (λ a. a.0) tape) room k
+
+-- the dummies that units write are those that their statements may write, and no smaller set holds all of these
+abbrev pub LeastWritten : Type 0
+LeastWritten = (units : List Procedure) → IsLeast write_rule units (least_rows write_rule units)
+
+-- what a unit hands back are the dummies that its statements may write
+abbrev pub HandsBackWritten : Type 0
+HandsBackWritten = (units : List Procedure) (name : List ℕ) (u : Procedure) → find_unit units name ≡ Some u → handed_back units name ≡ map (is_written units u) u.dummies
+
+-- a list that is done changed no variable that it may not write
+abbrev pub KeepsOthers : Type 0 → Type 0
+KeepsOthers C = (units : List Procedure) (depth : ℕ) (n : Setting C) (c : Code) (s s' : Scene C) (k k' : ℕ) → run (calls_of units depth) n c s k ≡ Done s' k' →
+    (x : Var) → writes (handed_back units) x c ≡ false → (i : ℕ) → s'.store x i ≡ s.store x i
+
+-- the run of a unit depends on no units of the program but those that it calls, or that these call
+abbrev pub ExtendsPrograms : Type 0 → Type 0
+ExtendsPrograms C = (inside : List ℕ → Bool) (units others : List Procedure) → HaveInCommon inside units others → (u : Procedure) → CallsInside inside u.body →
+    (n : Numbers C) (input : List (Slot C)) (tape : List C) (room : Option ℕ) (k : ℕ) → run_unit n units u input tape room k ≡ run_unit n others u input tape room k
+
+-- nor do the dummies that a unit writes
+abbrev pub ExtendsWritten : Type 0
+ExtendsWritten = (inside : List ℕ → Bool) (units others : List Procedure) → HaveInCommon inside units others → (name : List ℕ) → IsTrue (inside name) → handed_back units name ≡ handed_back others name
+
+-- a unit that is done changed no dummy that it doesn't write
+abbrev pub KeepsDummies : Type 0 → Type 0
+KeepsDummies C = (units : List Procedure) (u : Procedure) (d : List ℕ) → is_written units u d ≡ false →
+    (depth : ℕ) (n : Setting C) (line : ℕ) (s s' : Scene C) (k k' : ℕ) → unit_run (calls_of units depth) n u line s k ≡ Done s' k' → (i : ℕ) → s'.store (plain d) i ≡ s.store (plain d) i
+
+-- a law for words, and for words with tangents
+abbrev pub ForBoth : (Type 0 → Type 0) → Type 0
+ForBoth Law = Law ℤ × Law (ℤ × ℤ)

@@ -1,0 +1,32 @@
+//! The laws of runs, each the contract of an empty function.
+
+ghost use Rattle.adj_meaning.specs.Laws.{ForBoth, RunsPartByPart, DoneWithMore, EndsAlike, OneEnd, MoreBefore, RunRenamed, TangentsForgotten, LeastWritten, HandsBackWritten, KeepsOthers, KeepsDummies, ExtendsPrograms, ExtendsWritten};
+
+/// How runs are put together, and how many statements they take.
+pub fn run_laws()
+    ensures part_by_part { ForBoth RunsPartByPart }
+    ensures done_with_more { ForBoth DoneWithMore }
+    ensures ends_alike { ForBoth EndsAlike }
+    ensures one_end { ForBoth OneEnd }
+    ensures more_before { ForBoth MoreBefore }
+{}
+
+/// That names don't matter, and what statements and units leave alone.
+pub fn variable_laws()
+    ensures renamed { ForBoth RunRenamed }
+    ensures written { LeastWritten }
+    ensures handed_back { HandsBackWritten }
+    ensures others { ForBoth KeepsOthers }
+    ensures dummies { ForBoth KeepsDummies }
+{}
+
+/// A unit is the same in every program that holds it and all that it calls.
+pub fn program_laws()
+    ensures runs { ForBoth ExtendsPrograms }
+    ensures written { ExtendsWritten }
+{}
+
+/// A dual run without its tangents is the run.
+pub fn dual_law()
+    ensures { TangentsForgotten }
+{}
