@@ -2,3 +2,4 @@
 pub mod Faults
 pub mod Bytes
 pub mod InMemory
+pub mod Adapter

@@ -1,6 +1,6 @@
 //! A source and a sink in memory, whose calls fail as they are told.
 
-ghost use Rattle.std.specs.Prelude.{◌≡◌, ◌≤◌, ◌<◌, ◌+◌, ℕ, List, [], ◌++◌, Option, Some, length, take, drop, vec_len, vec_capacity, IfOk, IsErr, OnErr, IsTrue, ◌↔◌, is_ok, if◌then◌else◌};
+ghost use Rattle.std.specs.Prelude.{◌≡◌, ◌≤◌, ◌<◌, [], ◌++◌, Some, length, take, drop, vec_len, vec_capacity, IfOk, IsErr, OnErr, IsTrue, ◌↔◌};
 ghost use Rattle.adj_io.specs.Bytes.{IsAtEnd, extended_by, followed_by};
 ghost use Rattle.adj_io.specs.Faults.{Rose};
 ghost use Rattle.adj_io.specs.InMemory.{Feed, Store, untouched, is_failing, given, fed, unfed, is_refused, accepted, stored, unstored};

@@ -1,7 +1,7 @@
 //! What follows from the contracts of streams, as contracts of functions that do nothing.
 
-ghost use Rattle.std.specs.Prelude.{◌≡◌, ◌≤◌, ◌<◌, ℕ, List, [], Option, Some, length, drop};
-ghost use Rattle.adj_io.specs.Bytes.{HasRead, IsAtEnd, extended_by, followed_by};
+ghost use Rattle.std.specs.Prelude.{◌≡◌, ◌≤◌, ℕ, List, [], Option, Some, length, drop};
+ghost use Rattle.adj_io.specs.Bytes.{HasRead, IsAtEnd, followed_by};
 ghost use Rattle.adj_io.specs.Faults.{Rose};
 
 /// A count that rose in a part of a call rose in the call, since it never falls.

@@ -1,6 +1,6 @@
 //! Reading to the end, and writing all.
 
-ghost use Rattle.std.specs.Prelude.{◌≡◌, ◌≤◌, ◌<◌, ◌+◌, ℕ, List, length, take, vec_len, IfOk, OnOk, OnErr, IsErrOf, ◌↔◌};
+ghost use Rattle.std.specs.Prelude.{◌≡◌, ◌≤◌, ◌<◌, ◌+◌, ℕ, length, take, vec_len, IfOk, OnOk, OnErr, IsErrOf, ◌↔◌};
 ghost use Rattle.adj_io.specs.Bytes.{HasRead, IsAtEnd, extended_by, followed_by};
 ghost use Rattle.adj_io.specs.Faults.{Rose};
 
