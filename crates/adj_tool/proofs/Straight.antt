@@ -1,6 +1,6 @@
 -- The unit of a thin text is straight code over scalars.
-use Rattle.std.proofs.Common.{◌≡◌, ℕ, Bool, true, false, List, [], ◌∷◌, ◌++◌, map, length, refl, sym, ap, ap₂, ◌∙◌}
-use Rattle.std.specs.Prelude.{◌&&◌, ◌||◌, not, bytes_eq, if◌then◌else◌}
+use Rattle.std.proofs.Common.{arith, ◌≡◌, ℕ, zero, suc, Bool, true, false, List, [], ◌∷◌, ◌++◌, map, length, refl, sym, ap, ap₂, ◌∙◌}
+use Rattle.std.specs.Prelude.{◌==◌, ◌&&◌, ◌||◌, not, bytes_eq, if◌then◌else◌}
 use Rattle.std.specs.List.{list_all, list_any}
 use Rattle.adj_tree.specs.Code.{name_eq, Declaration}
 use Rattle.adj_tree.proofs.Names.{name_eq-bytes, name_refl, name_same}
@@ -31,7 +31,7 @@ pub is_in-has_name : (ds : List (List ℕ)) (x : List ℕ) → is_in ds x ≡ ha
 is_in-has_name [] x = refl
 is_in-has_name (d ∷ ds) x = ap₂ (λ a b. a || b) (sym (name_eq-bytes d x) ∙ name_swap d x) (is_in-has_name ds x)
 
-has-append : (x : List ℕ) (xs ys : List (List ℕ)) → has_name x (xs ++ ys) ≡ (has_name x xs || has_name x ys)
+pub has-append : (x : List ℕ) (xs ys : List (List ℕ)) → has_name x (xs ++ ys) ≡ (has_name x xs || has_name x ys)
 has-append x [] ys = refl
 has-append x (a ∷ xs) ys = go (name_eq x a) (has-append x xs ys)
   where
@@ -70,13 +70,13 @@ dummy_local x dummies (d ∷ ds) h = go (has_name d dummies) refl (dummy_local x
 -- what is declared is a dummy or a local
 declared_local : (x : List ℕ) (dummies ds : List (List ℕ)) → has_name x ds ≡ true → has_name x dummies ≡ false → has_name x (locals_among dummies (map scalar ds)) ≡ true
 declared_local x dummies [] h n = cc
-declared_local x dummies (d ∷ ds) h n = go (has_name d dummies) refl (name_eq x d) refl h
+declared_local x dummies (d ∷ ds) h n = go (λ k. declared_local x dummies ds k n) (has_name d dummies) refl (name_eq x d) refl h
   where
-    go : (b : Bool) → has_name d dummies ≡ b → (e : Bool) → name_eq x d ≡ e → (e || has_name x ds) ≡ true → has_name x (if b then locals_among dummies (map scalar ds) else d ∷ locals_among dummies (map scalar ds)) ≡ true
-    go true f true g k = absurd (let p = name_same x d g in let q : true ≡ false = sym f ∙ ap (λ z. has_name z dummies) (sym p) ∙ n in cc)
-    go true f false g k = declared_local x dummies ds k n
-    go false f true g k = rw g refl
-    go false f false g k = or_right _ _ (declared_local x dummies ds k n)
+    go : (has_name x ds ≡ true → has_name x (locals_among dummies (map scalar ds)) ≡ true) → (b : Bool) → has_name d dummies ≡ b → (e : Bool) → name_eq x d ≡ e → (e || has_name x ds) ≡ true → has_name x (if b then locals_among dummies (map scalar ds) else d ∷ locals_among dummies (map scalar ds)) ≡ true
+    go rest true f true g k = absurd (let p = name_same x d g in let q : true ≡ false = sym f ∙ ap (λ z. has_name z dummies) (sym p) ∙ n in cc)
+    go rest true f false g k = rest k
+    go rest false f true g k = rw g refl
+    go rest false f false g k = or_right _ _ (rest k)
 
 locals_apart : (dummies ds : List (List ℕ)) → AreApart ds → AreApart (locals_among dummies (map scalar ds))
 locals_apart dummies [] h = tt
@@ -93,6 +93,89 @@ append_apart (x ∷ xs) ys h k n =
 
 -- ---- names of a text
 
+capital_inside : (c : ℕ) → is_capital c ≡ true → (c == 0) ≡ false
+capital_inside zero h = cc
+capital_inside (suc c) h = grind arith
+
 letter_inside : (x : List ℕ) → is_name x ≡ true → begins_outside x ≡ false
 letter_inside [] h = cc
-letter_inside (c ∷ cs) h = ?
+letter_inside (c ∷ cs) h = capital_inside c (and_true (is_capital c) _ (and_true (is_capital c && list_all _ cs) _ h).0).0
+
+unit_inside : (x : List ℕ) → is_unit x ≡ true → begins_outside x ≡ false
+unit_inside x h = letter_inside x (and_true (is_name x) _ h).0
+
+variable_inside : (unit x : List ℕ) → is_variable unit x ≡ true → begins_outside x ≡ false
+variable_inside unit x h = unit_inside x (and_true (is_unit x) _ h).0
+
+all_inside : (unit : List ℕ) (ds : List (List ℕ)) → list_all (is_variable unit) ds ≡ true → AreInside ds
+all_inside unit [] h = tt
+all_inside unit (d ∷ ds) h = let p = and_true (is_variable unit d) _ h in (variable_inside unit d p.0, all_inside unit ds p.1)
+
+-- a declared name is of a text
+has_inside : (x : List ℕ) (ds : List (List ℕ)) → AreInside ds → has_name x ds ≡ true → begins_outside x ≡ false
+has_inside x [] h e = cc
+has_inside x (d ∷ ds) h e = go (λ k. has_inside x ds h.1 k) (name_eq x d) refl e
+  where
+    go : (has_name x ds ≡ true → begins_outside x ≡ false) → (b : Bool) → name_eq x d ≡ b → (b || has_name x ds) ≡ true → begins_outside x ≡ false
+    go rest true f k = ap begins_outside (name_same x d f) ∙ h.0
+    go rest false f k = rest k
+
+dummies_inside : (xs ds : List (List ℕ)) → AreInside ds → list_all (is_in ds) xs ≡ true → AreInside xs
+dummies_inside [] ds h e = tt
+dummies_inside (x ∷ xs) ds h e = let p = and_true (is_in ds x) _ e in (has_inside x ds h (sym (is_in-has_name ds x) ∙ p.0), dummies_inside xs ds h p.1)
+
+locals_inside : (dummies ds : List (List ℕ)) → AreInside ds → AreInside (locals_among dummies (map scalar ds))
+locals_inside dummies [] h = tt
+locals_inside dummies (d ∷ ds) h = go (has_name d dummies) (locals_inside dummies ds h.1)
+  where
+    go : (b : Bool) → AreInside (locals_among dummies (map scalar ds)) → AreInside (if b then locals_among dummies (map scalar ds) else d ∷ locals_among dummies (map scalar ds))
+    go true r = r
+    go false r = (h.0, r)
+
+append_inside : (xs ys : List (List ℕ)) → AreInside xs → AreInside ys → AreInside (xs ++ ys)
+append_inside [] ys h k = k
+append_inside (x ∷ xs) ys h k = (h.0, append_inside xs ys h.1 k)
+
+scalars : (ds : List (List ℕ)) → AreScalars (map scalar ds)
+scalars [] = tt
+scalars (d ∷ ds) = (refl, scalars ds)
+
+-- a name of the list has its cell among the keys
+key_stands : (x : List ℕ) (xs : List (List ℕ)) → has_name x xs ≡ true → stands_in key_eq (x, 0) (keys xs) ≡ true
+key_stands x [] h = cc
+key_stands x (y ∷ ys) h = go (λ k. key_stands x ys k) (name_eq x y) refl h
+  where
+    go : (has_name x ys ≡ true → stands_in key_eq (x, 0) (keys ys) ≡ true) → (b : Bool) → name_eq x y ≡ b → (b || has_name x ys) ≡ true → ((name_eq y x && true) || stands_in key_eq (x, 0) (keys ys)) ≡ true
+    go rest true e k = rw (name_swap y x, e) refl
+    go rest false e k = or_right _ _ (rest k)
+
+-- a declared name is one of the variables
+pub declared_has : (x : List ℕ) (dummies ds : List (List ℕ)) → is_in ds x ≡ true → has_name x (dummies ++ locals_among dummies (map scalar ds)) ≡ true
+declared_has x dummies ds h = has-append x dummies (locals_among dummies (map scalar ds)) ∙ go (has_name x dummies) refl
+  where
+    go : (b : Bool) → has_name x dummies ≡ b → (b || has_name x (locals_among dummies (map scalar ds))) ≡ true
+    go true e = refl
+    go false e = declared_local x dummies ds (sym (is_in-has_name ds x) ∙ h) e
+
+-- a declared name has its cell among those of the variables
+declared_stands : (x : List ℕ) (dummies ds : List (List ℕ)) → is_in ds x ≡ true → stands_in key_eq (x, 0) (keys (dummies ++ locals_among dummies (map scalar ds))) ≡ true
+declared_stands x dummies ds h = key_stands x (dummies ++ locals_among dummies (map scalar ds)) (declared_has x dummies ds h)
+
+-- the unit of a thin text is straight code over scalars
+pub thin_straight : (t : Thin) → is_fit t ≡ true → IsStraightUnit (unit_of t)
+thin_straight t h =
+    let parts = and_true _ (is_product t.declared t.product) h in
+    let parts2 = and_true _ (are_declared t.heading.name t.declared) parts.0 in
+    let parts3 = and_true (is_unit t.heading.name) (are_dummies t.declared t.heading.dummies) parts2.0 in
+    let dummies = and_true _ (list_all (is_in t.declared) t.heading.dummies) parts3.1 in
+    let distinct = and_true _ (are_distinct t.heading.dummies) dummies.0 in
+    let declared = and_true (list_all (is_variable t.heading.name) t.declared) (are_distinct t.declared) parts2.1 in
+    let product = and_true _ (is_in t.declared t.product.right) parts.1 in
+    let product2 = and_true (is_in t.declared t.product.target) (is_in t.declared t.product.left) product.0 in
+    let inside = all_inside t.heading.name t.declared declared.0 in
+    record {
+      apart = append_apart t.heading.dummies (locals_among t.heading.dummies (map scalar t.declared)) (apart t.heading.dummies distinct.1) (locals_apart t.heading.dummies t.declared (apart t.declared declared.1)) (λ x e. dummy_local x t.heading.dummies t.declared e);
+      inside = append_inside t.heading.dummies (locals_among t.heading.dummies (map scalar t.declared)) (dummies_inside t.heading.dummies t.declared inside dummies.1) (locals_inside t.heading.dummies t.declared inside);
+      scalars = scalars t.declared;
+      body = ((declared_stands t.product.target t.heading.dummies t.declared product2.0, (tt, (declared_stands t.product.left t.heading.dummies t.declared product2.1, declared_stands t.product.right t.heading.dummies t.declared product.1))), tt)
+    }

@@ -1,5 +1,10 @@
 -- Answer: what a command writes, and the status that goes with it.
-use Rattle.std.specs.Prelude.{ℕ, ◌==◌, nat_lt, List, [], ◌∷◌, ◌++◌, length, flat_map, codes, decimal, if◌then◌else◌}
+use Rattle.std.specs.Prelude.{ℕ, ◌==◌, nat_lt, Bool, ◌&&◌, List, [], ◌∷◌, ◌++◌, length, map, flat_map, bytes_eq, Option, Some, None, option_map, codes, decimal, if◌then◌else◌}
+use Rattle.std.specs.List.{list_all}
+use Rattle.adj_tree.specs.Code.{Procedure}
+use Rattle.adj_text.specs.Text.{text_of}
+use Rattle.adj_transpose.specs.Program.{adjoint_program}
+use Rattle.adj_thin.specs.Thin.{is_in, are_distinct, thin_of, program_of}
 use Rattle.adj_tree.specs.declared.fault.Refusal.{Refusal}
 use Rattle.adj_revolve.specs.declared.machine.Action.{Action}
 use Rattle.adj_revolve.specs.declared.machine.Action.TheVariants.{Store, Advance, Turn, Keep, Drop}
@@ -57,5 +62,37 @@ too_long = refused (record { code = 21; line = 0; number = most_bytes })
 abbrev pub outside : Answer
 outside = refused (record { code = 3; line = 0; number = 0 })
 
+-- which of these names are listed
+abbrev pub flags_of : List (List ℕ) → List (List ℕ) → List Bool
+flags_of listed names = map (is_in listed) names
+
+-- each listed name is a dummy, and stands once in its list
+abbrev pub are_listed : List (List ℕ) → List (List ℕ) → Bool
+are_listed dummies listed = list_all (is_in dummies) listed && are_distinct listed
+
+-- the unit is the head that is asked for, and has the listed names among its dummies
+abbrev pub is_asked : Request → Procedure → Bool
+is_asked r u = bytes_eq u.name r.head && (are_listed u.dummies r.vars && are_listed u.dummies r.outvars)
+
+-- the adjoint of a program of one unit, as a program
+abbrev pub emitted : Request → Procedure → List Procedure
+emitted r u = adjoint_program (u ∷ []) 0 (flags_of r.vars u.dummies) (flags_of r.outvars u.dummies)
+
+abbrev pub written : Request → Procedure → Answer
+written r u = record { status = 0; text = text_of (emitted r u) }
+
+abbrev pub unit_answer : Request → Procedure → Answer
+unit_answer r u = if is_asked r u then written r u else outside
+
+-- the answer for a program that was read
+abbrev pub program_answer : Request → List Procedure → Answer
+program_answer r (u ∷ []) = unit_answer r u
+program_answer r _ = outside
+
+-- the answer for a text that reads as a program of the profile, or doesn't
+abbrev pub text_answer : Request → Option (List Procedure) → Answer
+text_answer r None = outside
+text_answer r (Some ps) = program_answer r ps
+
 abbrev pub adjoint_answer : Request → List ℕ → Answer
-adjoint_answer r bytes = if nat_lt most_bytes (length bytes) then too_long else outside
+adjoint_answer r bytes = if nat_lt most_bytes (length bytes) then too_long else text_answer r (option_map program_of (thin_of bytes))

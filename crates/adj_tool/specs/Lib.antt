@@ -1,4 +1,5 @@
 pub mod Words
 pub mod Answer
+pub mod Headline
 pub mod Views
 pub mod Tool

@@ -3,6 +3,7 @@ use Rattle.std.specs.Prelude.{◌≡◌, ◌⊎◌, ◌+◌, ◌<◌, ℕ, List,
 use Rattle.adj_io.specs.Bytes.{IsAtEnd, extended_by, followed_by}
 use Rattle.adj_io.specs.Faults.{Rose}
 use Rattle.adj_tool.specs.Words.{Command, Request, Adjoint, Schedule}
+use Rattle.adj_tool.specs.Headline.{WritesAdjoint}
 use Rattle.adj_tool.specs.Answer.{Answer, usage, schedule_answer, adjoint_answer, most_bytes}
 
 -- the answer to an input, of which some bytes were read: it was read to its end, or one byte more than the limit was
@@ -37,3 +38,17 @@ pub record WritesFront (asked : Option Command) (before after written_before wri
   pub count : ℕ
   pub less : count < length answer.text
   pub front : written_after ≡ extended_by written_before (take count answer.text)
+
+-- the bytes that were read and those that were written, of which the second are an adjoint of the first
+pub record Adjoins (r : Request) (before after written_before written_after : Option (List ℕ)) : Type 0 where
+  pub bytes : List ℕ
+  pub were_left : before ≡ followed_by bytes after
+  pub to_end : IsAtEnd after
+  pub text : List ℕ
+  pub whole : written_after ≡ extended_by written_before text
+  pub adjoint : WritesAdjoint r bytes text
+
+-- the theorem of `adjoint`
+abbrev pub IsHeadline : Option Command → Option (List ℕ) → Option (List ℕ) → Option (List ℕ) → Option (List ℕ) → Type 0
+IsHeadline (Some (Adjoint r)) before after written_before written_after = Adjoins r before after written_before written_after
+IsHeadline _ before after written_before written_after = Unit {0}

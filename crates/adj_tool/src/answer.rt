@@ -1,17 +1,42 @@
 //! What is written, and the status that goes with it.
 
-ghost use Rattle.std.specs.Prelude.{◌≡◌, ◌++◌, ℕ, List, IfOk, OnOk, decimal, codes};
+ghost use Rattle.std.specs.Prelude.{◌≡◌, ◌<◌, ◌++◌, ℕ, List, IfOk, OnOk, decimal, codes};
 ghost use Rattle.adj_tool.specs.Answer.{limit_text, refused, usage};
-ghost use Rattle.adj_tool.specs.Views.{answer_of};
+ghost use Rattle.adj_tool.specs.Views.{answer_of, status_of};
 
 use adj_tree::{Memory, Refusal};
 use itoa::Buffer;
 use std::alloc::Global;
 
-/// The bytes that a command writes, and the status of the program where they are written whole.
+/// How a call ends whose answer is written whole.
+#[derive(Clone, Copy, Debug, PartialEq, Eq)]
+pub enum Status {
+    /// The command was done.
+    Done,
+    /// The words are no command.
+    Usage,
+    /// The text is refused.
+    Refused,
+}
+
+impl Status {
+    /// The status of the program.
+    pub(crate) fn number(&self) -> u8
+        ensures value { result ≡ status_of self.now }
+        ensures few { result < 3 }
+    {
+        match self {
+            Status::Done => 0,
+            Status::Usage => 1,
+            Status::Refused => 2,
+        }
+    }
+}
+
+/// The bytes that a command writes, and how the call ends where they are written whole.
 #[derive(Drop)]
 pub struct Answer {
-    pub status: u8,
+    pub status: Status,
     pub text: Vec<u8>,
 }
 
@@ -30,7 +55,10 @@ pub(crate) fn usage(alloc: Global) -> Result<Answer, Memory>
     ensures { IfOk result (λ a. answer_of a ≡ usage) }
 {
     let text = Vec::from_slice(alloc, b"USAGE\n")?;
-    Ok(Answer { status: 1, text })
+    Ok(Answer {
+        status: Status::Usage,
+        text,
+    })
 }
 
 /// The answer to a text that is refused.
@@ -44,5 +72,8 @@ pub(crate) fn refused(alloc: Global, refusal: Refusal) -> Result<Answer, Memory>
         push_number(&mut text, b" LIMIT ", u128::from(refusal.number))?;
     }
     text.push(b'\n')?;
-    Ok(Answer { status: 2, text })
+    Ok(Answer {
+        status: Status::Refused,
+        text,
+    })
 }

@@ -4,7 +4,7 @@ ghost use Rattle.std.specs.Prelude.{◌≡◌, ◌++◌, ℕ, List, IfOk, OnOk, 
 ghost use Rattle.adj_tool.specs.Answer.{action_line, schedule_answer};
 ghost use Rattle.adj_tool.specs.Views.{answer_of};
 
-use crate::answer::{Answer, push_number};
+use crate::answer::{Answer, Status, push_number};
 use crate::task::Reversal;
 use adj_revolve::{Action, Schedule, least};
 use adj_tree::Memory;
@@ -41,5 +41,8 @@ pub(crate) fn schedule(alloc: Global, reversal: &Reversal) -> Result<Answer, Mem
     }
     push_number(&mut text, b"ADVANCES ", least(steps, snapshots))?;
     text.push(b'\n')?;
-    Ok(Answer { status: 0, text })
+    Ok(Answer {
+        status: Status::Done,
+        text,
+    })
 }

@@ -5,7 +5,7 @@ ghost use Rattle.adj_tool.specs.declared.top.Stop.TheVariants as stop;
 ghost use Rattle.adj_io.specs.Faults.{Rose};
 ghost use Rattle.adj_tool.specs.Words.{taken};
 ghost use Rattle.adj_tool.specs.Views.{answer_of, request_of};
-ghost use Rattle.adj_tool.specs.Tool.{AnswersInput, IsAnswer, ReadsInput, WritesAll, WritesFront};
+ghost use Rattle.adj_tool.specs.Tool.{AnswersInput, IsAnswer, IsHeadline, ReadsInput, WritesAll, WritesFront};
 
 use crate::adjoint::adjoint;
 use crate::answer::{Answer, refused, usage};
@@ -106,11 +106,13 @@ pub fn tool<S: Source, K: Sink>(
     ensures write_fault { result ≡ 8 → Rose (K.faults output.old) (K.faults output.new) }
     ensures front { result ≡ 8 → WritesFront (taken words.now) (S.left input.old) (S.left input.new) (K.taken output.old) (K.taken output.new) }
     ensures unwritten { (result ≡ 7) ⊎ (result ≡ 9) → K.taken output.new ≡ K.taken output.old }
+    // Where `adjoint` is done, what was written is an adjoint of what was read.
+    ensures headline { result ≡ 0 → IsHeadline (taken words.now) (S.left input.old) (S.left input.new) (K.taken output.old) (K.taken output.new) }
     ensures status { (result < 3) ⊎ ((result ≡ 7) ⊎ ((result ≡ 8) ⊎ (result ≡ 9))) }
 {
     match answer_words(alloc, words, input) {
         Ok(answer) => match write_all(output, answer.text.as_slice()) {
-            Ok(()) => answer.status,
+            Ok(()) => answer.status.number(),
             Err(WriteFault) => 8,
         },
         Err(Stop::ReadFault) => 7,
