@@ -5,6 +5,8 @@ mod adjoint;
 mod answer;
 mod schedule;
 mod task;
+#[cfg(test)]
+mod tests;
 mod text;
 mod top;
 mod values;
