@@ -12,11 +12,8 @@ use Rattle.adj_meaning.specs.Run.{Calls, trips, turns, stepped, with_turn, after
 use Rattle.adj_meaning.specs.Written.{is_place_of, is_handed_back, runtime_writes, act_writes, writes, handed_back, find_unit}
 use Rattle.adj_meaning.specs.Units.{Place, whole, cell, nowhere, Actual, one_word, actual_of, actuals, put, entry_store, dummies_fit, copied_out, setting_in, entered, unit_run, call_in, calls_of}
 use Rattle.adj_meaning.specs.Laws.{KeepsOthers, KeepsDummies}
+use Rattle.adj_meaning.proofs.Booleans.{or_false}
 use Rattle.adj_meaning.proofs.Inversions.{then_done, value_done, top_done, count_done, done_same, then_ok_is}
-
-or_false : (a b : Bool) → (a || b) ≡ false → (a ≡ false) × (b ≡ false)
-or_false true b e = absurd (let f : true ≡ false = e in cc)
-or_false false b e = (refl, e)
 
 module _ {C : Type 0} (x : Var) where
   -- every cell of the variable is as it was

@@ -14,6 +14,7 @@ use Rattle.adj_meaning.specs.Written.{find_unit, handed_back}
 use Rattle.adj_meaning.specs.Units.{declared, extent_in, extents_of, shape_of, shape_fits, Place, whole, cell, nowhere, Actual, one_word, actual_of, actuals, put, entry_store, dummies_fit, copied_out, setting_in, entered, unit_run, call_in, calls_of}
 use Rattle.adj_meaning.specs.Rename.{rename_term, rename_terms, rename_test, rename_runtime, rename_act, rename}
 use Rattle.adj_meaning.specs.Seen.{Separates, Projects, seen, seen_setting, seen_scene, seen_outcome}
+use Rattle.adj_meaning.proofs.Results.{AlikeResults, results_then, results_same}
 use Rattle.adj_meaning.proofs.SeenValues.{mapped, map_if, value_seen, values_seen, set_seen, set_all_seen}
 use Rattle.adj_meaning.proofs.SeenRuns.{then_through, if_seen, Carries, run_seen}
 
@@ -87,26 +88,6 @@ AlikeActuals r h [] (b ∷ bs) = ⊥
 AlikeActuals r h (a ∷ got) [] = ⊥
 AlikeActuals r h (a ∷ got) (b ∷ bs) = AlikeActual r h a b × AlikeActuals r h got bs
 
--- both are traps of one kind, or values that are alike
-abbrev pub AlikeResults : {A B : Type 0} → (A → B → Type 0) → Result A Trap → Result B Trap → Type 0
-AlikeResults R (Ok a) (Ok b) = R a b
-AlikeResults R (Ok a) (Err t) = ⊥
-AlikeResults R (Err t) (Ok b) = ⊥
-AlikeResults R (Err t) (Err t') = t ≡ t'
-
-then_alike : {A B A' B' : Type 0} (R : A → A' → Type 0) (Q : B → B' → Type 0) (v : Result A Trap) (w : Result A' Trap) (f : A → Result B Trap) (g : A' → Result B' Trap) → AlikeResults R v w → ((a : A) (b : A') → R a b → AlikeResults Q (f a) (g b)) → AlikeResults Q (then_ok v f) (then_ok w g)
-then_alike R Q (Ok a) (Ok b) f g e d = d a b e
-then_alike R Q (Ok a) (Err t) f g e d = absurd e
-then_alike R Q (Err t) (Ok b) f g e d = absurd e
-then_alike R Q (Err t) (Err t') f g e d = e
-
-same_alike : {A B B' : Type 0} (Q : B → B' → Type 0) (v w : Result A Trap) (f : A → Result B Trap) (g : A → Result B' Trap) → v ≡ w → ((a : A) → AlikeResults Q (f a) (g a)) → AlikeResults Q (then_ok v f) (then_ok w g)
-same_alike Q v w f g e d = subst (λ z. AlikeResults Q (then_ok v f) (then_ok z g)) e (go v)
-  where
-    go : (v : Result _ Trap) → AlikeResults Q (then_ok v f) (then_ok v g)
-    go (Ok a) = d a
-    go (Err t) = refl
-
 module _ {C D : Type 0} (r : Var → Var) (sep : Separates r) (h : C → D) (n : Setting C) (m : Numbers D) (p : Projects h n.numbers m) where
   -- a value, which has no place
   word_alike : (v : Result C Trap) (w : Result D Trap) → mapped h v ≡ w → AlikeResults (AlikeActual r h) (then_ok v (λ c. Ok (one_word c nowhere))) (then_ok w (λ c. Ok (one_word c nowhere)))
@@ -122,8 +103,8 @@ module _ {C D : Type 0} (r : Var → Var) (sep : Separates r) (h : C → D) (n :
   actual_seen : (e : Term) (s : Store C) → AlikeResults (AlikeActual r h) (actual_of n (rename_term r e) s) (actual_of (seen_setting r m n) e (seen r h s))
   actual_seen (var x) s = record { shape = refl; cells = refl; place = refl }
   actual_seen (elem x subs) s =
-      same_alike (AlikeActual r h) _ _ _ _ (values_seen r h n m p subs s) (λ is. same_alike (AlikeActual r h) (cell_at n (r x) is) (cell_at n (r x) is) (λ i. Ok (one_word (s (r x) i) (cell (r x) i))) (λ i. Ok (one_word (h (s (r x) i)) (cell x i))) refl
-      (λ i. record { shape = refl; cells = refl; place = refl }))
+      results_same (AlikeActual r h) _ _ _ _ (values_seen r h n m p subs s) (λ is w. results_same (AlikeActual r h) (cell_at n (r x) is) (cell_at n (r x) is) (λ i. Ok (one_word (s (r x) i) (cell (r x) i))) (λ i. Ok (one_word (h (s (r x) i)) (cell x i))) refl
+      (λ i w1. record { shape = refl; cells = refl; place = refl }))
   actual_seen (lit z) s = value_alike (lit z) s
   actual_seen (neg a) s = value_alike (neg a) s
   actual_seen (bin op a b) s = value_alike (bin op a b) s
@@ -133,7 +114,7 @@ module _ {C D : Type 0} (r : Var → Var) (sep : Separates r) (h : C → D) (n :
   actuals_seen : (es : Terms) (s : Store C) → AlikeResults (AlikeActuals r h) (actuals n (rename_terms r es) s) (actuals (seen_setting r m n) es (seen r h s))
   actuals_seen none s = tt
   actuals_seen (more e es) s =
-      then_alike (AlikeActual r h) (AlikeActuals r h) _ _ _ _ (actual_seen e s) (λ a b l. then_alike (AlikeActuals r h) (AlikeActuals r h) _ _ _ _ (actuals_seen es s) (λ got bs ls. (l, ls)))
+      results_then (AlikeActual r h) (AlikeActuals r h) _ _ _ _ (actual_seen e s) (λ a b l. results_then (AlikeActuals r h) (AlikeActuals r h) _ _ _ _ (actuals_seen es s) (λ got bs ls. (l, ls)))
 
   -- the cells at a place become others
   put_seen : (q : Place) (cs : ℕ → C) (s : Store C) → seen r h (put (moved r q) cs s) ≡ put q (λ j. h (cs j)) (seen r h s)

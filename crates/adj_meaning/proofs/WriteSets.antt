@@ -1,30 +1,12 @@
 -- What statements may write grows with what is known of called units.
-use Rattle.std.proofs.Common.{◌≡◌, ℕ, ◌⊎◌, inl, inr, Bool, true, false, List, [], ◌∷◌, refl, ap, ◌∙◌}
-use Rattle.std.proofs.lemmas.Bool.{or_cases}
-use Rattle.std.specs.Prelude.{◌||◌, ◌&&◌}
+use Rattle.std.proofs.Common.{◌≡◌, ℕ, Bool, true, List, [], ◌∷◌}
+use Rattle.std.specs.Prelude.{◌&&◌}
 use Rattle.adj_tree.specs.Code.{Var, plain, Terms, none, more, Act, assign, choose, loop, call, runtime, Code, stop, step}
 use Rattle.adj_meaning.specs.LeastSet.{Dummies, IsWithin}
 use Rattle.adj_meaning.specs.Written.{is_place_of, is_handed_back, act_writes, writes, write_rule}
 use Rattle.adj_meaning.specs.Laws.{LeastWritten, HandsBackWritten}
+use Rattle.adj_meaning.proofs.Booleans.{and_more, or_more}
 use Rattle.adj_meaning.proofs.LeastSets.{Rises, is_least, least_row}
-
-or_left : (a b : Bool) → a ≡ true → (a || b) ≡ true
-or_left a b e = ap (λ z. z || b) e
-
-or_right : (a b : Bool) → b ≡ true → (a || b) ≡ true
-or_right true b e = refl
-or_right false b e = e
-
-pub and_more : (v w p : Bool) → (v ≡ true → w ≡ true) → (v && p) ≡ true → (w && p) ≡ true
-and_more true w p h e = ap (λ z. z && p) (h refl) ∙ e
-and_more false w p h e = cc
-
-pub or_more : (a b c d : Bool) → (a ≡ true → c ≡ true) → (b ≡ true → d ≡ true) → (a || b) ≡ true → (c || d) ≡ true
-or_more a b c d f g e = go (or_cases a b e)
-  where
-    go : (a ≡ true) ⊎ (b ≡ true) → (c || d) ≡ true
-    go (inl h) = or_left c d (f h)
-    go (inr h) = or_right c d (g h)
 
 handed_more : (x : Var) (vs ws : List Bool) (args : Terms) → IsWithin vs ws → is_handed_back x vs args ≡ true → is_handed_back x ws args ≡ true
 handed_more x [] ws args h e = cc

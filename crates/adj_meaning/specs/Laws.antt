@@ -1,5 +1,5 @@
 -- What holds of every run. Most laws hold over any numbers; the contracts name them for words and for words with tangents.
-use Rattle.std.specs.Prelude.{◌≡◌, ℕ, ℤ, ◌+◌, ◌<◌, ◌≤◌, List, map, Bool, false, IsTrue, Option, Some}
+use Rattle.std.specs.Prelude.{◌≡◌, ℕ, ℤ, ◌+◌, ◌<◌, ◌≤◌, List, map, Bool, true, false, IsTrue, Option, Some}
 use Rattle.adj_tree.specs.Code.{Var, plain, Code, Procedure}
 use Rattle.adj_meaning.specs.Append.{◌+++◌}
 use Rattle.adj_meaning.specs.Numbers.{Numbers, words, duals}
@@ -7,6 +7,9 @@ use Rattle.adj_meaning.specs.Value.{Setting}
 use Rattle.adj_meaning.specs.Scene.{Scene, Done, More, then_do}
 use Rattle.adj_meaning.specs.Run.{Calls, run}
 use Rattle.adj_meaning.specs.Units.{Slot, Output, unit_run, calls_of, run_unit}
+use Rattle.adj_meaning.specs.Read.{reads, read_rule, looked_at}
+use Rattle.adj_meaning.specs.Agree.{AgreeOn, EndAlike, AreApart}
+use Rattle.adj_meaning.specs.Store.{size_of}
 use Rattle.adj_meaning.specs.Common.{CallsInside, HaveInCommon}
 use Rattle.adj_meaning.specs.LeastSet.{least_rows, IsLeast}
 use Rattle.adj_meaning.specs.Written.{find_unit, writes, write_rule, is_written, handed_back}
@@ -64,6 +67,17 @@ abbrev pub KeepsOthers : Type 0 → Type 0
 KeepsOthers C = (units : List Procedure) (depth : ℕ) (n : Setting C) (c : Code) (s s' : Scene C) (k k' : ℕ) → run (calls_of units depth) n c s k ≡ Done s' k' →
     (x : Var) → writes (handed_back units) x c ≡ false → (i : ℕ) → s'.store x i ≡ s.store x i
 
+-- the dummies that units read are those that their statements read, and their extents, and no smaller set holds all of these
+abbrev pub LeastRead : Type 0
+LeastRead = (units : List Procedure) → IsLeast read_rule units (least_rows read_rule units)
+
+-- where units have dummies with names of their own, a list ends alike from scenes that agree on the cells of what it reads:
+-- by the same path, in the same way, with as many statements; and whatever else they agree on, they agree on it at the end
+abbrev pub DependsOnReads : Type 0 → Type 0
+DependsOnReads C = (units : List Procedure) → ((name : List ℕ) (u : Procedure) → find_unit units name ≡ Some u → AreApart u.dummies) →
+    (depth : ℕ) (n : Setting C) (c : Code) (inside : Var → ℕ → Bool) → ((x : Var) → reads (looked_at units) x c ≡ true → (i : ℕ) → i < size_of (n.shape x) → IsTrue (inside x i)) →
+    (s t : Scene C) → AgreeOn (λ x i. IsTrue (inside x i)) s t → (k : ℕ) → EndAlike (λ x i. IsTrue (inside x i)) (run (calls_of units depth) n c s k) (run (calls_of units depth) n c t k)
+
 -- the run of a unit depends on no units of the program but those that it calls, or that these call
 abbrev pub ExtendsPrograms : Type 0 → Type 0
 ExtendsPrograms C = (inside : List ℕ → Bool) (units others : List Procedure) → HaveInCommon inside units others → (u : Procedure) → CallsInside inside u.body →
@@ -72,6 +86,10 @@ ExtendsPrograms C = (inside : List ℕ → Bool) (units others : List Procedure)
 -- nor do the dummies that a unit writes
 abbrev pub ExtendsWritten : Type 0
 ExtendsWritten = (inside : List ℕ → Bool) (units others : List Procedure) → HaveInCommon inside units others → (name : List ℕ) → IsTrue (inside name) → handed_back units name ≡ handed_back others name
+
+-- nor do those that it reads
+abbrev pub ExtendsRead : Type 0
+ExtendsRead = (inside : List ℕ → Bool) (units others : List Procedure) → HaveInCommon inside units others → (name : List ℕ) → IsTrue (inside name) → looked_at units name ≡ looked_at others name
 
 -- a unit that is done changed no dummy that it doesn't write
 abbrev pub KeepsDummies : Type 0 → Type 0
