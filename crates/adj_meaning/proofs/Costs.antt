@@ -9,16 +9,14 @@ use Rattle.adj_meaning.specs.Scene.{Scene, Outcome, Done, More, then_do}
 use Rattle.adj_meaning.specs.Run.{Calls, run}
 use Rattle.adj_meaning.specs.Units.{Slot, Output, calls_of, unit_run, setting_in, input_store, dummy_slots, run_unit}
 use Rattle.adj_meaning.specs.Leads.{Leads}
-use Rattle.adj_meaning.specs.Laws.{DoneWithMore}
+use Rattle.adj_meaning.specs.Laws.{DoneWithMore, LeadsWhereDone}
 use Rattle.adj_meaning.proofs.Verdicts.{Ending, finished, stopped, filled, with_left, Settled, Verdict, goes_on, settled}
 use Rattle.adj_meaning.proofs.Longer.{CallsAlike, run_verdict, unit_verdict, calls_alike}
 
--- what f spends to come to b: with fewer statements there is more to do, with more all others are left, also for g
+-- what f spent to come to b, and g spends: all other statements are left
 pub record Spent {B : Type 0} (f g : ℕ → Outcome B) (b : B) (k k' : ℕ) : Type 0 where
   pub cost : ℕ
   pub is : k ≡ cost + k'
-  pub early : (j : ℕ) → j < cost → f j ≡ More
-  pub same : (j : ℕ) → f (cost + j) ≡ Done b j
   pub later : (j : ℕ) → g (cost + j) ≡ Done b j
 
 pub spent : {B : Type 0} (f g : ℕ → Outcome B) (b : B) (k k' : ℕ) → Verdict f g k → f k ≡ Done b k' → Spent f g b k k'
@@ -36,8 +34,6 @@ spent f g b k k' (settled s) h = go s.ending refl
         record {
           cost = s.cost;
           is = s.is ∙ ap (λ z. s.cost + z) same_k;
-          early = s.early;
-          same = λ j. s.same j ∙ ap (λ z. with_left z j) is ∙ ap (λ z. Done z j) same_b;
           later = λ j. s.later j ∙ ap (λ z. with_left z j) is ∙ ap (λ z. Done z j) same_b;
         }
     go (stopped t line) is = absurd (let e = came (stopped t line) is in cc)
@@ -46,6 +42,9 @@ spent f g b k k' (settled s) h = go s.ending refl
 -- a list that is done with some number of statements leads from its scene to the other
 pub leads_of_done : {C : Type 0} (q q' : Calls C) → CallsAlike q q' → (n : Setting C) (c : Code) (s s' : Scene C) (k k' : ℕ) → run q n c s k ≡ Done s' k' → Leads q' n c s s'
 leads_of_done q q' alike n c s s' k k' h = let w = spent (run q n c s) (run q' n c s) s' k k' (run_verdict q q' alike n c s k) h in record { cost = w.cost; by = w.later }
+
+pub leads_where_done : {C : Type 0} → LeadsWhereDone C
+leads_where_done units depth n c s s' k k' h = leads_of_done (calls_of units depth) (calls_of units depth) (calls_alike units depth depth (omega arith)) n c s s' k k' h
 
 -- it is done alike with more statements and with deeper calls
 pub run_later : {C : Type 0} → DoneWithMore C

@@ -52,9 +52,6 @@ count_done (suc m) go b k h = record { left = m; is = refl; goes = h }
 pub done_same : {B : Type 0} (b c : B) (j k : ℕ) → (let o : Outcome B = Done b j in o ≡ Done c k) → b ≡ c
 done_same b c j k h = cc
 
-pub left_same : {B : Type 0} (b c : B) (j k : ℕ) → (let o : Outcome B = Done b j in o ≡ Done c k) → j ≡ k
-left_same b c j k h = cc
-
 -- a value that came after another
 pub record Evaluated {A B : Type 0} (r : Result A Trap) (go : A → Result B Trap) (b : B) : Type 0 where
   pub value : A

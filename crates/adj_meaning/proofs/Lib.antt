@@ -21,3 +21,4 @@ pub mod Cells
 pub mod Agreements
 pub mod ReadSets
 pub mod Dependence
+pub mod Tapes

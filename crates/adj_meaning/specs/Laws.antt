@@ -10,6 +10,7 @@ use Rattle.adj_meaning.specs.Units.{Slot, Output, unit_run, calls_of, run_unit}
 use Rattle.adj_meaning.specs.Read.{reads, read_rule, looked_at}
 use Rattle.adj_meaning.specs.Agree.{AgreeOn, EndAlike, AreApart}
 use Rattle.adj_meaning.specs.Store.{size_of}
+use Rattle.adj_meaning.specs.Leads.{Leads}
 use Rattle.adj_meaning.specs.Common.{CallsInside, HaveInCommon}
 use Rattle.adj_meaning.specs.LeastSet.{least_rows, IsLeast}
 use Rattle.adj_meaning.specs.Written.{find_unit, writes, write_rule, is_written, handed_back}
@@ -23,6 +24,10 @@ RunsPartByPart C = (q : Calls C) (n : Setting C) (c d : Code) (s : Scene C) (k :
 -- a list that is done is done alike with more statements and with deeper calls
 abbrev pub DoneWithMore : Type 0 → Type 0
 DoneWithMore C = (units : List Procedure) (depth deeper : ℕ) → depth ≤ deeper → (n : Setting C) (c : Code) (s s' : Scene C) (k k' m : ℕ) → run (calls_of units depth) n c s k ≡ Done s' k' → run (calls_of units deeper) n c s (k + m) ≡ Done s' (k' + m)
+
+-- a list that is done with some number of statements costs the same with every other, and leads from the one scene to the other
+abbrev pub LeadsWhereDone : Type 0 → Type 0
+LeadsWhereDone C = (units : List Procedure) (depth : ℕ) (n : Setting C) (c : Code) (s s' : Scene C) (k k' : ℕ) → run (calls_of units depth) n c s k ≡ Done s' k' → Leads (calls_of units depth) n c s s'
 
 -- a run that doesn't end for want of statements ends alike with more of them
 abbrev pub EndsAlike : Type 0 → Type 0

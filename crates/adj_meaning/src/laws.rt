@@ -1,11 +1,12 @@
 //! The laws of runs, each the contract of an empty function.
 
-ghost use Rattle.adj_meaning.specs.Laws.{ForBoth, RunsPartByPart, DoneWithMore, EndsAlike, OneEnd, MoreBefore, RunRenamed, TangentsForgotten, LeastWritten, HandsBackWritten, KeepsOthers, KeepsDummies, LeastRead, DependsOnReads, ExtendsPrograms, ExtendsWritten, ExtendsRead};
+ghost use Rattle.adj_meaning.specs.Laws.{ForBoth, RunsPartByPart, DoneWithMore, LeadsWhereDone, EndsAlike, OneEnd, MoreBefore, RunRenamed, TangentsForgotten, LeastWritten, HandsBackWritten, KeepsOthers, KeepsDummies, LeastRead, DependsOnReads, ExtendsPrograms, ExtendsWritten, ExtendsRead};
 
 /// How runs are put together, and how many statements they take.
 pub fn run_laws()
     ensures part_by_part { ForBoth RunsPartByPart }
     ensures done_with_more { ForBoth DoneWithMore }
+    ensures leads { ForBoth LeadsWhereDone }
     ensures ends_alike { ForBoth EndsAlike }
     ensures one_end { ForBoth OneEnd }
     ensures more_before { ForBoth MoreBefore }
