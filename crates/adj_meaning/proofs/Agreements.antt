@@ -29,6 +29,7 @@ abbrev pub Covers : {C : Type 0} → Setting C → Cells → (Var → Bool) → 
 Covers n A p = (x : Var) → p x ≡ true → (i : ℕ) → i < size_of (n.shape x) → A x i
 
 module _ {C : Type 0} (n : Setting C) (A : Cells) (p q : Var → Bool) (h : Covers n A (λ x. p x || q x)) where
+  -- what covers two sets of variables covers each of them
   pub covers_first : Covers n A p
   covers_first x e = h x (or_first (p x) (q x) e)
 
@@ -38,9 +39,11 @@ module _ {C : Type 0} (n : Setting C) (A : Cells) (p q : Var → Bool) (h : Cove
 abbrev pub StoresAgree : {C : Type 0} → Cells → Store C → Store C → Type 0
 StoresAgree A f g = (x : Var) (i : ℕ) → A x i → f x i ≡ g x i
 
+-- stores that agree agree where the same number is set in both
 pub set_alike : {C : Type 0} (A : Cells) (f g : Store C) (y : Var) (j : ℕ) (c : C) → StoresAgree A f g → StoresAgree A (set f y j c) (set g y j c)
 set_alike A f g y j c h x i a = ap (λ z. if var_eq x y && (i == j) then c else z) (h x i a)
 
+-- and where a variable is set whole
 pub set_all_alike : {C : Type 0} (A : Cells) (f g : Store C) (y : Var) (cs : ℕ → C) → StoresAgree A f g → StoresAgree A (set_all f y cs) (set_all g y cs)
 set_all_alike A f g y cs h x i a = ap (λ z. if var_eq x y then cs i else z) (h x i a)
 
@@ -51,6 +54,7 @@ same_ok : {A B : Type 0} (v w : Result A Trap) (f g : A → Result B Trap) → v
 same_ok (Ok a) w f g e h = h a refl ∙ ap (λ z. then_ok z g) e
 same_ok (Err t) w f g e h = ap (λ z. then_ok z g) e
 
+-- the cell that subscripts name is one of the variable's
 pub cell_bound : {C : Type 0} (n : Setting C) (x : Var) (is : List ℤ) (i : ℕ) → cell_at n x is ≡ Ok i → i < size_of (n.shape x)
 cell_bound n x is i h = go (cell_of (n.shape x) is) refl h
   where
@@ -60,6 +64,7 @@ cell_bound n x is i h = go (cell_of (n.shape x) is) refl h
 
 module _ {C : Type 0} (n : Setting C) (A : Cells) (f g : Store C) (agree : StoresAgree A f g) where
   mutual
+    -- an expression has the same value in stores that agree on what it reads
     pub value_alike : (e : Term) → Covers n A (λ x. reads_term x e) → value n e f ≡ value n e g
     value_alike (lit z) c = refl
     value_alike (var x) c = ap Ok (agree x 0 (c x (var_refl x) 0 (size_positive (n.shape x))))
@@ -79,10 +84,12 @@ module _ {C : Type 0} (n : Setting C) (A : Cells) (f g : Store C) (agree : Store
     values_alike (more e es) c =
         λ i. then_ok (value_alike e (covers_first n A (λ x. reads_term x e) (λ x. reads_terms x es) c) i) (λ u. then_ok (values_alike es (covers_second n A (λ x. reads_term x e) (λ x. reads_terms x es) c) i) (λ us. Ok (n.numbers.shown u ∷ us)))
 
+  -- subscripts name the same cell
   pub target_alike : (x : Var) (subs : Terms) → Covers n A (λ y. reads_terms y subs) → target n x subs f ≡ target n x subs g
   target_alike x none c = refl
   target_alike x (more e es) c = ap (λ z. then_ok z (λ is. cell_at n x is)) (values_alike (more e es) c)
 
+  -- a condition holds in both or in neither
   pub holds_alike : (t : Test) → Covers n A (λ x. reads_test x t) → holds n t f ≡ holds n t g
   holds_alike (compare r a b) c =
       λ i. then_ok (value_alike a (covers_first n A (λ x. reads_term x a) (λ x. reads_term x b) c) i) (λ u. then_ok (value_alike b (covers_second n A (λ x. reads_term x a) (λ x. reads_term x b) c) i) (λ v. Ok (compares r (n.numbers.shown u) (n.numbers.shown v))))
@@ -104,6 +111,7 @@ target_bound n x (more e es) s i h = go (values n (more e es) s) h
 -- ---- how outcomes are put together
 
 module _ {C : Type 0} (A : Cells) where
+  -- what goes on alike from results that are alike ends alike
   pub then_alike : (B : Cells) (o p : Outcome (Scene C)) (f g : Go C) → EndAlike A o p → ((s t : Scene C) → AgreeOn A s t → (k : ℕ) → EndAlike B (f s k) (g t k)) → EndAlike B (then_do o f) (then_do p g)
   then_alike B (Done s j) (Done t k) f g e h = subst (λ z. EndAlike B (f s j) (g t z)) e.1 (h s t e.0 j)
   then_alike B (Done s j) (Trapped b l) f g e h = absurd e
@@ -122,18 +130,22 @@ module _ {C : Type 0} (A : Cells) where
   then_alike B Full More f g e h = absurd e
   then_alike B Full Full f g e h = tt
 
+  -- a statement is counted in both or in neither
   pub counted_alike : (k : ℕ) (f g : ℕ → Outcome (Scene C)) → ((j : ℕ) → EndAlike A (f j) (g j)) → EndAlike A (counted k f) (counted k g)
   counted_alike zero f g h = tt
   counted_alike (suc k) f g h = h k
 
+  -- the same value, or the same trap, leads to the like
   pub with_alike : {B : Type 0} (v w : Result B Trap) (line : ℕ) (f g : B → Outcome (Scene C)) → v ≡ w → ((b : B) → v ≡ Ok b → EndAlike A (f b) (g b)) → EndAlike A (with_value v line f) (with_value w line g)
   with_alike (Ok b) w line f g e h = subst (λ z. EndAlike A (f b) (with_value z line g)) e (h b refl)
   with_alike (Err t) w line f g e h = subst (λ z. EndAlike A (Trapped t line) (with_value z line g)) e (refl, refl)
 
+  -- the same branch of both
   pub if_alike : (p : Bool) (o o1 w w1 : Outcome (Scene C)) → EndAlike A o w → EndAlike A o1 w1 → EndAlike A (if p then o else o1) (if p then w else w1)
   if_alike true o o1 w w1 e f = e
   if_alike false o o1 w w1 e f = f
 
+  -- the turns of a loop end alike where each turn and each step does
   turns_alike : (m : ℕ) (f g : Go C) (a : Scene C → Scene C) → ((s t : Scene C) → AgreeOn A s t → (k : ℕ) → EndAlike A (f s k) (g t k)) → ((s t : Scene C) → AgreeOn A s t → AgreeOn A (a s) (a t)) → (s t : Scene C) → AgreeOn A s t → (k : ℕ) → EndAlike A (turns m f a s k) (turns m g a t k)
   turns_alike zero f g a h d s t e k = (e, refl)
   turns_alike (suc m) f g a h d s t e k =
@@ -144,22 +156,26 @@ module _ {C : Type 0} (A : Cells) where
   stored_alike : (s t : Scene C) → AgreeOn A s t → (f g : Store C) → StoresAgree A f g → AgreeOn A (record s { store = f }) (record t { store = g })
   stored_alike s t e f g h = record { store = h; tape = e.tape; opened = e.opened; events = e.events }
 
+  -- scenes that agree are done alike with stores that agree
   pub done_alike : (s t : Scene C) → AgreeOn A s t → (f g : Store C) → StoresAgree A f g → (k : ℕ) → EndAlike A (Done (record s { store = f }) k) (Done (record t { store = g }) k)
   done_alike s t e f g h k = (stored_alike s t e f g h, refl)
 
   -- ---- runtime calls
 
   module _ (n : Setting C) where
+    -- a push of one word
     pushed_alike : (c d : C) → c ≡ d → (s t : Scene C) → AgreeOn A s t → (k : ℕ) → EndAlike A (pushed n c s k) (pushed n d t k)
     pushed_alike c d same s t e k =
         subst (λ z. EndAlike A (pushed n c s k) (if has_room n.room (length z) then Done (record t { tape = d ∷ t.tape }) k else Full)) e.tape
         (if_alike (has_room n.room (length s.tape)) (Done (record s { tape = c ∷ s.tape }) k) Full (Done (record t { tape = d ∷ t.tape }) k) Full
         (record { store = e.store; tape = λ i. same i ∷ e.tape i; opened = e.opened; events = e.events }, refl) tt)
 
+    -- of some words
     pushed_all_alike : (cs : List C) (s t : Scene C) → AgreeOn A s t → (k : ℕ) → EndAlike A (pushed_all n cs s k) (pushed_all n cs t k)
     pushed_all_alike [] s t e k = (e, refl)
     pushed_all_alike (c ∷ cs) s t e k = then_alike A (pushed n c s k) (pushed n c t k) (pushed_all n cs) (pushed_all n cs) (pushed_alike c c refl s t e k) (λ s1 t1 e1 j. pushed_all_alike cs s1 t1 e1 j)
 
+    -- a pop of one word
     popped_alike : (x : Var) (i line : ℕ) (s t : Scene C) → AgreeOn A s t → (k : ℕ) → EndAlike A (popped x i line s k) (popped x i line t k)
     popped_alike x i line s t e k =
         subst (λ z. EndAlike A (popped x i line s k) (with_top z line (λ c cs. Done (record t { store = set t.store x i c; tape = cs }) k))) e.tape (go s.tape)
@@ -168,18 +184,22 @@ module _ {C : Type 0} (A : Cells) where
         go [] = (refl, refl)
         go (c ∷ cs) = (record { store = set_alike A s.store t.store x i c e.store; tape = refl; opened = e.opened; events = e.events }, refl)
 
+    -- of some words
     popped_all_alike : (x : Var) (m line : ℕ) (s t : Scene C) → AgreeOn A s t → (k : ℕ) → EndAlike A (popped_all x m line s k) (popped_all x m line t k)
     popped_all_alike x zero line s t e k = (e, refl)
     popped_all_alike x (suc i) line s t e k = then_alike A (popped x i line s k) (popped x i line t k) (popped_all x i line) (popped_all x i line) (popped_alike x i line s t e k) (λ s1 t1 e1 j. popped_all_alike x i line s1 t1 e1 j)
 
+    -- the end of a reversal
     ended_alike : (m line : ℕ) (s t : Scene C) → AgreeOn A s t → (k : ℕ) → EndAlike A (ended n m line s k) (ended n m line t k)
     ended_alike zero line s t e k = (refl, refl)
     ended_alike (suc m) line s t e k = (record { store = e.store; tape = e.tape; opened = refl; events = ap (λ z. End n.level ∷ z) e.events }, refl)
 
+    -- a variable's cells are the same list
     cells_alike : (x : Var) (f g : Store C) → StoresAgree A f g → (i m : ℕ) → ((j : ℕ) → j < i + m → A x j) → cells_from (f x) i m ≡ cells_from (g x) i m
     cells_alike x f g h i zero c = refl
     cells_alike x f g h i (suc m) c = λ k. h x i (c i (omega arith)) k ∷ cells_alike x f g h (suc i) m (λ j l. c j (omega arith)) k
 
+    -- a runtime call ends alike from scenes that agree on what it reads
     runtime_alike : (r : Runtime) (line : ℕ) → Covers n A (λ x. reads_runtime x r) → (s t : Scene C) → AgreeOn A s t → (k : ℕ) → EndAlike A (runtime_act n r line s k) (runtime_act n r line t k)
     runtime_alike (push_word x subs) line c s t e k =
         with_alike (target n x subs s.store) (target n x subs t.store) line _ _ (target_alike n A s.store t.store e.store x subs (covers_second n A (λ y. var_eq y x) (λ y. reads_terms y subs) c))
@@ -229,6 +249,7 @@ CallsDepend looked q = (A : Cells) (n : Setting _) (name : List ℕ) (args : Ter
 abbrev pub WithFirst : Cells → Var → Cells
 WithFirst A y x i = A x i ⊎ ((var_eq x y && (i == 0)) ≡ true)
 
+-- what agrees on more cells agrees on these
 weaker : {C : Type 0} (A : Cells) (y : Var) (s t : Scene C) → AgreeOn (WithFirst A y) s t → AgreeOn A s t
 weaker A y s t e = record { store = λ x i a. e.store x i (inl a); tape = e.tape; opened = e.opened; events = e.events }
 
@@ -254,12 +275,14 @@ module _ {C : Type 0} (n : Setting C) (A : Cells) (y : Var) where
         events = e.events;
       }
 
+-- the end of a loop
 told_alike : {C : Type 0} (A : Cells) (line m snapshots : ℕ) (s t : Scene C) → AgreeOn A s t → AgreeOn A (after_loop line m snapshots s) (after_loop line m snapshots t)
 told_alike A line m zero s t e = e
 told_alike A line m (suc snapshots) s t e = record { store = e.store; tape = e.tape; opened = e.opened; events = ap (λ z. Marked line m (suc snapshots) ∷ z) e.events }
 
 module _ {C : Type 0} (looked : Dummies) (q : Calls C) (depend : CallsDepend looked q) (n : Setting C) where
   mutual
+    -- a statement ends alike from scenes that agree on what it reads
     act_alike : (A : Cells) (a : Act) (line : ℕ) → Covers n A (λ x. act_reads looked x a) → (s t : Scene C) → AgreeOn A s t → (k : ℕ) → EndAlike A (act q n a line s k) (act q n a line t k)
     act_alike A (assign x subs a) line c s t e k =
         with_alike A (value n a s.store) (value n a t.store) line _ _ (value_alike n A s.store t.store e.store a (covers_first n A (λ y. reads_term y a) (λ y. reads_terms y subs) c))

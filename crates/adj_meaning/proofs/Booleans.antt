@@ -3,14 +3,17 @@ use Rattle.std.proofs.Common.{◌≡◌, ◌⊎◌, inl, inr, Bool, true, false,
 use Rattle.std.proofs.lemmas.Bool.{or_cases}
 use Rattle.std.specs.Prelude.{◌||◌, ◌&&◌}
 
+-- both parts hold
 pub and_true : (a b : Bool) → (a && b) ≡ true → (a ≡ true) × (b ≡ true)
 and_true true b h = (refl, h)
 and_true false b h = absurd cc
 
+-- neither part holds
 pub or_false : (a b : Bool) → (a || b) ≡ false → (a ≡ false) × (b ≡ false)
 or_false true b e = absurd (let f : true ≡ false = e in cc)
 or_false false b e = (refl, e)
 
+-- one part is enough
 pub or_first : (a b : Bool) → a ≡ true → (a || b) ≡ true
 or_first a b e = ap (λ z. z || b) e
 

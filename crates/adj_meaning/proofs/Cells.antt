@@ -4,6 +4,7 @@ use Rattle.std.proofs.Math.Nat.{mul-le-mul_left}
 use Rattle.std.specs.Prelude.{ℤ, pos, negsuc, Option, Some, None, nat_lt, ◌==◌, if◌then◌else◌}
 use Rattle.adj_meaning.specs.Store.{Shape, size_of, within, by_column, cell_of}
 
+-- the three cases of a size
 size_cases : (rows cols : ℕ) (a b : Bool) → (rows == 0) ≡ a → (cols == 0) ≡ b → (m : ℕ) → (a ≡ true → m < 1) → (a ≡ false → b ≡ true → m < rows) → (a ≡ false → b ≡ false → m < rows * cols) → m < (if a then 1 else (if b then rows else rows * cols))
 size_cases rows cols true b e f m x y z = x refl
 size_cases rows cols false true e f m x y z = y refl refl
@@ -18,6 +19,7 @@ size_positive sh =
     more_than a zero h k = absurd (omega arith)
     more_than a (suc b) h k = let e : a * suc b ≡ a + a * b = omega arith in omega arith
 
+-- a subscript within an extent is below it
 within_below : (z : ℤ) (m i : ℕ) → within z m ≡ Some i → i < m
 within_below (pos zero) m i h = absurd cc
 within_below (pos (suc j)) m i h = go (nat_lt j m) refl h
@@ -27,11 +29,13 @@ within_below (pos (suc j)) m i h = go (nat_lt j m) refl h
     go false e h = absurd cc
 within_below (negsuc j) m i h = absurd cc
 
+-- a cell of the first column
 row_below : (sh : Shape) (i : ℕ) → i < sh.rows → i < size_of sh
 row_below sh i h =
     size_cases sh.rows sh.cols (sh.rows == 0) (sh.cols == 0) refl refl i (λ e. let z : sh.rows ≡ 0 = grind arith in absurd (omega arith)) (λ e f. h)
     (λ e f. let one : 1 ≤ sh.cols = grind arith in let l = mul-le-mul_left sh.rows one in omega arith)
 
+-- a cell by row and column
 pair_below : (sh : Shape) (i j : ℕ) → i < sh.rows → j < sh.cols → i + j * sh.rows < size_of sh
 pair_below sh i j h k =
     size_cases sh.rows sh.cols (sh.rows == 0) (sh.cols == 0) refl refl (i + j * sh.rows) (λ e. let z : sh.rows ≡ 0 = grind arith in absurd (omega arith)) (λ e f. let z : sh.cols ≡ 0 = grind arith in absurd (omega arith))

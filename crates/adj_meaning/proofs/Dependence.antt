@@ -54,10 +54,12 @@ AllMatch A ws (a ∷ got) [] = ⊥
 AllMatch A ws (a ∷ got) (b ∷ bs) = Matches A (first_flag ws) a b × AllMatch A (other_flags ws) got bs
 
 module _ {C : Type 0} (n : Setting C) (A : Cells) (f g : Store C) (agree : StoresAgree A f g) where
+  -- values that are the same match
   word_matches : (w : Bool) (v u : Result C Trap) → v ≡ u → AlikeResults (Matches A w) (then_ok v (λ c. Ok (one_word c nowhere))) (then_ok u (λ c. Ok (one_word c nowhere)))
   word_matches w v u e =
       results_same (Matches A w) v u (λ c. Ok (one_word c nowhere)) (λ c. Ok (one_word c nowhere)) e (λ c h. record { shape = refl; place = refl; cells = λ j a. refl; taken = λ t j l. refl })
 
+  -- an actual matches where the stores agree on what it reads
   actual_matches : (w : Bool) (e : Term) → Covers n A (λ x. reads_actual x w e) → AlikeResults (Matches A w) (actual_of n e f) (actual_of n e g)
   actual_matches w (var x) c = record {
     shape = refl;
@@ -80,6 +82,7 @@ module _ {C : Type 0} (n : Setting C) (A : Cells) (f g : Store C) (agree : Store
   actual_matches w (pow a k) c = word_matches w (value n (pow a k) f) (value n (pow a k) g) (value_alike n A f g agree (pow a k) c)
   actual_matches w (abs a) c = word_matches w (value n (abs a) f) (value n (abs a) g) (value_alike n A f g agree (abs a) c)
 
+  -- and so do all actuals of a call
   actuals_match : (ws : List Bool) (es : Terms) → Covers n A (λ x. reads_actuals x ws es) → AlikeResults (AllMatch A ws) (actuals n es f) (actuals n es g)
   actuals_match ws none c = tt
   actuals_match [] (more e es) c =
@@ -91,10 +94,12 @@ module _ {C : Type 0} (n : Setting C) (A : Cells) (f g : Store C) (agree : Store
 
 -- ---- the stores at a unit's entry
 
+-- a list of no length has no members
 none_declared : (l : List Extent) → (length l == 0) ≡ true → l ≡ []
 none_declared [] h = refl
 none_declared (e ∷ es) h = absurd (let x : length es ≡ length es = refl in grind arith)
 
+-- shapes that compare equal are equal
 shape_same : (a b : Shape) → (a.rows == b.rows && a.cols == b.cols) ≡ true → a ≡ b
 shape_same a b h =
     let p = and_true (a.rows == b.rows) (a.cols == b.cols) h in
@@ -157,6 +162,7 @@ extent_there d x (e ∷ es) h = go (var_eq x (plain e.name)) refl h (extent_ther
     go true w h ih = ap (λ z. z || is_extent d es) h
     go false w h ih = or_second (is_among d e.extents) (is_extent d es) (ih h)
 
+-- extents are the same where the names among them hold the same words
 extents_alike : {C : Type 0} (n : Numbers C) (f g : Store C) (es : List Extent) → ((d : List ℕ) → is_among d es ≡ true → f (plain d) 0 ≡ g (plain d) 0) → map (extent_in n f) es ≡ map (extent_in n g) es
 extents_alike n f g [] h = refl
 extents_alike n f g (fixed z ∷ es) h = ap (λ w. z ∷ w) (extents_alike n f g es h)
@@ -166,6 +172,7 @@ extents_alike n f g (given x ∷ es) h =
     go : (d : List ℕ) → is_among d es ≡ true → (name_eq d x || is_among d es) ≡ true
     go d k = or_second (name_eq d x) (is_among d es) k
 
+-- the dummies fit in both or in neither
 fit_alike : {C : Type 0} (n : Numbers C) (A : Cells) (u : Procedure) (s t : Store C) → ((x : Var) → extents_of n u s x ≡ extents_of n u t x) → (ds : List (List ℕ)) (ws : List Bool) (got bs : List (Actual C)) → AllMatch A ws got bs → dummies_fit n u s ds got ≡ dummies_fit n u t ds bs
 fit_alike n A u s t e [] ws got bs m = refl
 fit_alike n A u s t e (d ∷ ds) ws [] [] m = refl
@@ -182,6 +189,7 @@ HoldsActuals s [] got = Unit {0}
 HoldsActuals s (d ∷ ds) [] = Unit {0}
 HoldsActuals s (d ∷ ds) (a ∷ got) = ((i : ℕ) → s (plain d) i ≡ a.cells i) × HoldsActuals s ds got
 
+-- a dummy of another name changes nothing
 holds_more : {C : Type 0} (s : Store C) (d : List ℕ) (cs : ℕ → C) (ds : List (List ℕ)) (got : List (Actual C)) → stands_among d ds ≡ false → HoldsActuals s ds got → HoldsActuals (set_all s (plain d) cs) ds got
 holds_more s d cs [] got h k = tt
 holds_more s d cs (e ∷ ds) [] h k = tt
@@ -197,6 +205,7 @@ entry_holds n (d ∷ ds) (a ∷ got) h =
     (λ i. ap (λ t. if t then a.cells i else entry_store n ds got (plain d) i) (name_refl d), holds_more (entry_store n ds got) d a.cells ds got h.0 (entry_holds n ds got h.1))
 
 module _ {C : Type 0} (A : Cells) where
+  -- what is put back where the set is agrees
   put_alike : (p : Place) (cs ds : ℕ → C) (f g : Store C) → ((j : ℕ) → IsBackIn A p j → cs j ≡ ds j) → StoresAgree A f g → StoresAgree A (put p cs f) (put p ds g)
   put_alike (whole x) cs ds f g h agree y i a = go (var_eq y x) refl
     where
@@ -232,6 +241,7 @@ module _ {C : Type 0} (A : Cells) where
 
 -- ---- calls
 
+-- traps of one kind and actuals that match lead to the like
 results_alike : {C : Type 0} (A : Cells) (R : List (Actual C) → List (Actual C) → Type 0) (v w : Result (List (Actual C)) Trap) (line : ℕ) (f g : List (Actual C) → Outcome (Scene C)) → AlikeResults R v w → ((a b : List (Actual C)) → R a b → EndAlike A (f a) (g b)) → EndAlike A (with_value v line f) (with_value w line g)
 results_alike A R (Ok a) (Ok b) line f g e h = h a b e
 results_alike A R (Ok a) (Err t) line f g e h = absurd e
@@ -269,6 +279,7 @@ module _ {C : Type 0} (looked : Dummies) (q : Calls C) (depend : CallsDepend loo
         let t : flag d ≡ true = or_second (reads looked (plain d) u.body) (is_extent d u.declarations) (extent_there d x u.declarations h) in
         entry_alike n.numbers A flag u.dummies got bs match (plain d) (λ e k. ap flag (sym (name_same d e k)) ∙ t) 0 (has_first (plain d) u.dummies got))
 
+    -- so the dummies fit in both or in neither
     fit_same : dummies_fit n.numbers u here u.dummies got ≡ dummies_fit n.numbers u there u.dummies bs
     fit_same = fit_alike n.numbers A u here there extents_same u.dummies (map flag u.dummies) got bs match
 
@@ -324,6 +335,7 @@ module _ {C : Type 0} (looked : Dummies) (q : Calls C) (depend : CallsDepend loo
 -- ---- calls of a program's units, by their depth
 
 module _ {C : Type 0} (units : List Procedure) (apart : (name : List ℕ) (u : Procedure) → find_unit units name ≡ Some u → AreApart u.dummies) where
+  -- a call of a unit that was looked for
   found_depends : (q : Calls C) → CallsDepend (looked_at units) q → (name : List ℕ) (o : Option Procedure) → find_unit units name ≡ o → (A : Cells) (n : Setting C) (args : Terms) (line : ℕ) → Covers n A (λ x. reads_actuals x (looked_at units name) args) → (s t : Scene C) → AgreeOn A s t → (k : ℕ) → EndAlike A (call_in q n (handed_back units name) o args line s k) (call_in q n (handed_back units name) o args line t k)
   found_depends q ih name None f A n args line c s t e k = (refl, refl)
   found_depends q ih name (Some u) f A n args line c s t e k =
@@ -332,10 +344,12 @@ module _ {C : Type 0} (units : List Procedure) (apart : (name : List ℕ) (u : P
       (actuals_match n A s.store t.store e.store (map (read_rule (looked_at units) u) u.dummies) args (λ x r. c x (ap (λ z. reads_actuals x z args) flags ∙ r)))
       (λ got bs m. call_matched (looked_at units) q ih A n u (apart name u f) got bs m (handed_back units name) line s t e k)
 
+  -- calls at most `depth` within one another
   pub calls_depend : (depth : ℕ) → CallsDepend {C = C} (looked_at units) (calls_of units depth)
   calls_depend zero A n name args line c s t e k = tt
   calls_depend (suc depth) A n name args line c s t e k = found_depends (calls_of units depth) (calls_depend depth) name (find_unit units name) refl A n args line c s t e k
 
+-- a list depends on no cells but those of what it reads
 pub depends_on_reads : {C : Type 0} → DependsOnReads C
 depends_on_reads units apart depth n c inside covered s t e k =
     run_alike (looked_at units) (calls_of units depth) (calls_depend units apart depth) n (λ x i. IsTrue (inside x i)) c covered s t e k

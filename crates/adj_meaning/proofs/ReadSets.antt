@@ -20,6 +20,7 @@ actual_more x v w h (bin op a b) t = t
 actual_more x v w h (pow a k) t = t
 actual_more x v w h (abs a) t = t
 
+-- and so for all actuals
 actuals_more : (x : Var) (vs ws : List Bool) → IsWithin vs ws → (es : Terms) → reads_actuals x vs es ≡ true → reads_actuals x ws es ≡ true
 actuals_more x vs ws h none t = t
 actuals_more x [] [] h (more e es) t = t
@@ -30,6 +31,7 @@ actuals_more x (v ∷ vs) (w ∷ ws) h (more e es) t =
 
 module _ (f g : Dummies) (h : (name : List ℕ) → IsWithin (f name) (g name)) (x : Var) where
   mutual
+    -- a statement reads more where more is known
     act_more : (a : Act) → act_reads f x a ≡ true → act_reads g x a ≡ true
     act_more (assign y subs e) t = t
     act_more (choose c a b) t =
@@ -43,12 +45,14 @@ module _ (f g : Dummies) (h : (name : List ℕ) → IsWithin (f name) (g name)) 
     reads_more stop t = t
     reads_more (step line a rest) t = or_more (act_reads f x a) (reads f x rest) (act_reads g x a) (reads g x rest) (act_more a) (reads_more rest) t
 
+-- what units read grows with what is known
 pub read_rises : Rises read_rule
 read_rises = record {
   by = λ f g h u d t.
       or_more (reads f (plain d) u.body) (is_extent d u.declarations) (reads g (plain d) u.body) (is_extent d u.declarations) (reads_more f g h (plain d) u.body) (λ z. z) t;
 }
 
+-- the dummies that units read are the least set by their rule
 pub least_read : LeastRead
 least_read units = is_least read_rule read_rises units
 
@@ -61,12 +65,15 @@ module _ (inside : List ℕ → Bool) (f g : Dummies) (h : (name : List ℕ) →
     act_reads_same (call name args) c = ap (λ z. reads_actuals x z args) (h name c)
     act_reads_same (runtime r) c = refl
 
+    -- a list reads the same variables where called units are known to read the same dummies
     reads_same : (b : Code) → CallsInside inside b → reads f x b ≡ reads g x b
     reads_same stop c = refl
     reads_same (step line a rest) c = λ i. act_reads_same a c.0 i || reads_same rest c.1 i
 
+-- what a unit reads depends on no other units
 pub read_looks : LooksInside read_rule
 read_looks = record { by = λ inside f g h u c d. ap (λ z. z || is_extent d u.declarations) (reads_same inside f g h (plain d) u.body c) }
 
+-- so the dummies that a unit reads are the same in both programs
 pub extends_read : ExtendsRead
 extends_read inside units others common name t = least_same inside units others common read_rule read_looks read_rises name t

@@ -66,11 +66,13 @@ mutual
   code_same stop = refl
   code_same (step line a rest) = λ i. step line (act_same a i) (code_same rest i)
 
+-- a variable's own name keeps it apart
 pub own_names : Separates (λ x. x)
 own_names = record { at = λ x y. refl }
 
 -- ---- actuals
 
+-- a place under other names
 abbrev pub moved : (Var → Var) → Place → Place
 moved r (whole x) = whole (r x)
 moved r (cell x i) = cell (r x) i
@@ -82,6 +84,7 @@ pub record AlikeActual {C D : Type 0} (r : Var → Var) (h : C → D) (a : Actua
   pub cells : (λ j. h (a.cells j)) ≡ b.cells
   pub place : a.place ≡ moved r b.place
 
+-- the same of all actuals of a call
 abbrev pub AlikeActuals : {C D : Type 0} → (Var → Var) → (C → D) → List (Actual C) → List (Actual D) → Type 0
 AlikeActuals r h [] [] = Unit {0}
 AlikeActuals r h [] (b ∷ bs) = ⊥
@@ -97,9 +100,11 @@ module _ {C D : Type 0} (r : Var → Var) (sep : Separates r) (h : C → D) (n :
       go (Ok a) = record { shape = refl; cells = refl; place = refl }
       go (Err t) = refl
 
+  -- the value of an expression
   value_alike : (e : Term) (s : Store C) → AlikeResults (AlikeActual r h) (then_ok (value n (rename_term r e) s) (λ c. Ok (one_word c nowhere))) (then_ok (value (seen_setting r m n) e (seen r h s)) (λ c. Ok (one_word c nowhere)))
   value_alike e s = word_alike (value n (rename_term r e) s) (value (seen_setting r m n) e (seen r h s)) (value_seen r h n m p e s)
 
+  -- an actual
   actual_seen : (e : Term) (s : Store C) → AlikeResults (AlikeActual r h) (actual_of n (rename_term r e) s) (actual_of (seen_setting r m n) e (seen r h s))
   actual_seen (var x) s = record { shape = refl; cells = refl; place = refl }
   actual_seen (elem x subs) s =
@@ -111,6 +116,7 @@ module _ {C D : Type 0} (r : Var → Var) (sep : Separates r) (h : C → D) (n :
   actual_seen (pow a k) s = value_alike (pow a k) s
   actual_seen (abs a) s = value_alike (abs a) s
 
+  -- all actuals of a call
   actuals_seen : (es : Terms) (s : Store C) → AlikeResults (AlikeActuals r h) (actuals n (rename_terms r es) s) (actuals (seen_setting r m n) es (seen r h s))
   actuals_seen none s = tt
   actuals_seen (more e es) s =
@@ -122,6 +128,7 @@ module _ {C D : Type 0} (r : Var → Var) (sep : Separates r) (h : C → D) (n :
   put_seen (cell x i) cs s = set_seen r sep h s x i (cs 0)
   put_seen nowhere cs s = refl
 
+  -- the dummies that are handed back
   copied_out_seen : (ds : List (List ℕ)) (ws : List Bool) (got : List (Actual C)) (bs : List (Actual D)) (t s : Store C) → AlikeActuals r h got bs → seen r h (copied_out ds ws got t s) ≡ copied_out ds ws bs (seen (λ x. x) h t) (seen r h s)
   copied_out_seen [] ws got bs t s l = refl
   copied_out_seen (d ∷ ds) [] got bs t s l = refl
@@ -136,6 +143,7 @@ module _ {C D : Type 0} (r : Var → Var) (sep : Separates r) (h : C → D) (n :
 -- ---- units
 
 module _ {C D : Type 0} (h : C → D) (n : Numbers C) (m : Numbers D) (p : Projects h n m) where
+  -- the store at a unit's entry
   pub entry_seen : (r : Var → Var) (ds : List (List ℕ)) (got : List (Actual C)) (bs : List (Actual D)) → AlikeActuals r h got bs → seen (λ x. x) h (entry_store n ds got) ≡ entry_store m ds bs
   entry_seen r [] got bs l = λ i x j. p.of_word (pos 0) i
   entry_seen r (d ∷ ds) [] [] l = λ i x j. p.of_word (pos 0) i
@@ -144,13 +152,16 @@ module _ {C D : Type 0} (h : C → D) (n : Numbers C) (m : Numbers D) (p : Proje
   entry_seen r (d ∷ ds) (a ∷ got) (b ∷ bs) l =
       set_all_seen (λ x. x) own_names h (entry_store n ds got) (plain d) a.cells ∙ (λ i. set_all (entry_seen r ds got bs l.1 i) (plain d) (l.0.cells i))
 
+  -- an extent
   extent_seen : (s : Store C) (e : Extent) → extent_in n s e ≡ extent_in m (seen (λ x. x) h s) e
   extent_seen s (fixed z) = refl
   extent_seen s (given x) = sym (p.shown (s (plain x) 0))
 
+  -- all extents of a variable
   pub extents_seen : (u : Procedure) (s : Store C) (x : Var) → extents_of n u s x ≡ extents_of m u (seen (λ x. x) h s) x
   extents_seen u s x = λ i. map (λ e. extent_seen s e i) (declared u.declarations x)
 
+  -- the dummies fit in both or in neither
   fit_seen : (r : Var → Var) (u : Procedure) (s : Store C) (ds : List (List ℕ)) (got : List (Actual C)) (bs : List (Actual D)) → AlikeActuals r h got bs → dummies_fit n u s ds got ≡ dummies_fit m u (seen (λ x. x) h s) ds bs
   fit_seen r u s [] got bs l = refl
   fit_seen r u s (d ∷ ds) [] [] l = refl
@@ -166,6 +177,7 @@ module _ {C D : Type 0} (h : C → D) (n : Setting C) (m : Numbers D) (p : Proje
       λ i. record { numbers = m; shape = λ x. shape_of (extents_seen h n.numbers m p u s x i); room = n.room; level = suc n.level }
 
   module _ (q : Calls C) (q' : Calls D) (r : Var → Var) (u : Procedure) (s : Scene C) (carries : Carries (λ x. x) h (setting_in n u s.store) m q q') where
+    -- a unit, whose own names stay
     pub unit_seen : (line k : ℕ) → seen_outcome (λ x. x) h (unit_run q n u line s k) ≡ unit_run q' (seen_setting r m n) u line (seen_scene (λ x. x) h s) k
     unit_seen line k =
         then_through (seen_scene (λ x. x) h) (seen_scene (λ x. x) h) (run q (setting_in n u s.store) u.body (entered n u s) k) _
@@ -184,12 +196,14 @@ module _ {C D : Type 0} (h : C → D) (n : Setting C) (m : Numbers D) (p : Proje
 -- ---- calls
 
 module _ {C D : Type 0} (h : C → D) where
+  -- traps of one kind and actuals that are alike lead to the like
   alike_then : (r : Var → Var) (v : Result (List (Actual C)) Trap) (w : Result (List (Actual D)) Trap) (line : ℕ) (f : List (Actual C) → Outcome (Scene C)) (g : List (Actual D) → Outcome (Scene D)) → AlikeResults (AlikeActuals r h) v w → ((got : List (Actual C)) (bs : List (Actual D)) → AlikeActuals r h got bs → seen_outcome r h (f got) ≡ g bs) → seen_outcome r h (with_value v line f) ≡ with_value w line g
   alike_then r (Ok a) (Ok b) line f g e d = d a b e
   alike_then r (Ok a) (Err t) line f g e d = absurd e
   alike_then r (Err t) (Ok b) line f g e d = absurd e
   alike_then r (Err t) (Err t') line f g e d = ap (λ z. Trapped z line) e
 
+  -- a call of a unit that was looked for
   call_seen : (q : Calls C) (q' : Calls D) (m : Numbers D) → ((n : Setting C) → Projects h n.numbers m → Carries (λ x. x) h n m q q') → (r : Var → Var) → Separates r → (n : Setting C) → Projects h n.numbers m → (ws : List Bool) (u : Option Procedure) (args : Terms) (line : ℕ) (s : Scene C) (k : ℕ) → seen_outcome r h (call_in q n ws u (rename_terms r args) line s k) ≡ call_in q' (seen_setting r m n) ws u args line (seen_scene r h s) k
   call_seen q q' m inner r sep n p ws None args line s k = refl
   call_seen q q' m inner r sep n p ws (Some u) args line s k =

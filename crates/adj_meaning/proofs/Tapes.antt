@@ -24,6 +24,7 @@ pushed_on-last : {C : Type 0} (cs : List C) (c : C) (t : List C) → pushed_on (
 pushed_on-last [] c t = refl
 pushed_on-last (d ∷ cs) c t = pushed_on-last cs c (d ∷ t)
 
+-- the last of some cells
 cells_last : {C : Type 0} (f : ℕ → C) (i m : ℕ) → cells_from f i (suc m) ≡ cells_from f i m ++ (f (i + m) ∷ [])
 cells_last f i zero = let e : i ≡ i + 0 = omega arith in ap (λ z. f z ∷ []) e
 cells_last f i (suc m) = let e : suc i + m ≡ i + suc m = omega arith in ap (λ z. f i ∷ z) (cells_last f (suc i) m ∙ ap (λ z. cells_from f (suc i) m ++ (f z ∷ [])) e)
@@ -32,6 +33,7 @@ cells_last f i (suc m) = let e : suc i + m ≡ i + suc m = omega arith in ap (λ
 abbrev pub filled : {C : Type 0} → Store C → Var → (ℕ → C) → ℕ → Store C
 filled s x f m = λ y j. if var_eq y x && nat_lt j m then f j else s y j
 
+-- no cell
 filled-zero : {C : Type 0} (s : Store C) (x : Var) (f : ℕ → C) → s ≡ filled s x f 0
 filled-zero s x f = λ i y j. go y j (var_eq y x) i
   where
@@ -39,6 +41,7 @@ filled-zero s x f = λ i y j. go y j (var_eq y x) i
     go y j true = let none_less : nat_lt j 0 ≡ false = grind arith in rw none_less refl
     go y j false = refl
 
+-- one cell more, which may be set first
 filled-suc : {C : Type 0} (s : Store C) (x : Var) (f : ℕ → C) (m : ℕ) → filled (set s x m (f m)) x f m ≡ filled s x f (suc m)
 filled-suc s x f m = λ i y j. go y j (var_eq y x) (cases_order j m) i
   where

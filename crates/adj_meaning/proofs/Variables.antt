@@ -5,6 +5,7 @@ use Rattle.adj_tree.specs.Code.{Role, work, temp, control, first, stride, count,
 use Rattle.adj_meaning.proofs.Booleans.{and_true}
 use Rattle.adj_tree.proofs.Names.{nat_same, nat_refl, name_refl, name_same}
 
+-- each variable compares equal to itself
 pub var_refl : (x : Var) → var_eq x x ≡ true
 var_refl (plain x) = name_refl x
 var_refl (shadow x) = name_refl x
@@ -25,6 +26,7 @@ role_of (suc (suc (suc (suc (suc (suc (suc (suc (suc zero))))))))) = kind
 role_of (suc (suc (suc (suc (suc (suc (suc (suc (suc (suc zero)))))))))) = lower
 role_of (suc (suc (suc (suc (suc (suc (suc (suc (suc (suc (suc n))))))))))) = upper
 
+-- no two roles have one number
 role_back : (r : Role) → role_of (role_code r) ≡ r
 unfolding role_of
 role_back work = refl

@@ -1,6 +1,7 @@
 //! The laws of runs, each the contract of an empty function.
 
-ghost use Rattle.adj_meaning.specs.Laws.{ForBoth, RunsPartByPart, DoneWithMore, LeadsWhereDone, EndsAlike, OneEnd, MoreBefore, RunRenamed, TangentsForgotten, LeastWritten, HandsBackWritten, KeepsOthers, KeepsDummies, LeastRead, DependsOnReads, ExtendsPrograms, ExtendsWritten, ExtendsRead};
+ghost use Rattle.std.specs.Prelude.{ℤ};
+ghost use Rattle.adj_meaning.specs.Laws.{ForBoth, RunsPartByPart, DoneWithMore, LeadsWhereDone, EndsAlike, OneEnd, MoreBefore, RunRenamed, RunProjected, TangentsForgotten, LeastWritten, HandsBackWritten, KeepsOthers, KeepsDummies, LeastRead, DependsOnReads, ExtendsPrograms, ExtendsWritten, ExtendsRead};
 
 /// How runs are put together, and how many statements they take.
 pub fn run_laws()
@@ -30,7 +31,8 @@ pub fn program_laws()
     ensures read { ExtendsRead }
 {}
 
-/// A dual run without its tangents is the run.
-pub fn dual_law()
-    ensures { TangentsForgotten }
+/// Runs over other numbers: a dual run without its tangents is the run.
+pub fn dual_laws()
+    ensures projected { RunProjected (ℤ × ℤ) ℤ }
+    ensures forgotten { TangentsForgotten }
 {}
