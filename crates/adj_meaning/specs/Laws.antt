@@ -54,7 +54,7 @@ abbrev pub RunProjected : Type 0 → Type 0 → Type 0
 RunProjected C D = (h : C → D) (n : Numbers C) (m : Numbers D) → Projects h n m → (units : List Procedure) (u : Procedure) (input : List (Slot C)) (tape : List C) (room : Option ℕ) (k : ℕ) →
     ending_seen h (run_unit n units u input tape room k) ≡ run_unit m units u (map (slot_seen h) input) (map h tape) room k
 
--- a dual run without its tangents is the run of its words: it takes the same path and ends alike
+-- a dual run without its tangents is the run of its words: it ends alike, with as many statements, and tells the same
 abbrev pub TangentsForgotten : Type 0
 TangentsForgotten = (units : List Procedure) (u : Procedure) (input : List (Slot (ℤ × ℤ))) (tape : List (ℤ × ℤ)) (room : Option ℕ) (k : ℕ) →
     ending_seen (λ a. a.0) (run_unit duals units u input tape room k) ≡ run_unit words units u (map (slot_seen (λ a. a.0)) input) (map (λ a. a.0) tape) room k
@@ -77,7 +77,7 @@ abbrev pub LeastRead : Type 0
 LeastRead = (units : List Procedure) → IsLeast read_rule units (least_rows read_rule units)
 
 -- where units have dummies with names of their own, a list ends alike from scenes that agree on the cells of what it reads:
--- by the same path, in the same way, with as many statements; and whatever else they agree on, they agree on it at the end
+-- in the same way, with as many statements, telling the same; and whatever else they agree on, they agree on it at the end
 abbrev pub DependsOnReads : Type 0 → Type 0
 DependsOnReads C = (units : List Procedure) → ((name : List ℕ) (u : Procedure) → find_unit units name ≡ Some u → AreApart u.dummies) →
     (depth : ℕ) (n : Setting C) (c : Code) (inside : Var → ℕ → Bool) → ((x : Var) → reads (looked_at units) x c ≡ true → (i : ℕ) → i < size_of (n.shape x) → IsTrue (inside x i)) →
