@@ -27,6 +27,7 @@ module _ (inside : List ℕ → Bool) (f g : List ℕ → List Bool) (h : (name 
     act_writes_same (call name args) c = ap (λ z. is_handed_back x z args) (h name c)
     act_writes_same (runtime r) c = refl
 
+    -- a list may write the same variables where called units are known to write the same dummies
     pub writes_same : (b : Code) → CallsInside inside b → writes f x b ≡ writes g x b
     writes_same stop c = refl
     writes_same (step line a rest) c = λ i. act_writes_same a c.0 i || writes_same rest c.1 i
@@ -61,9 +62,11 @@ module _ (inside : List ℕ → Bool) (units others : List Procedure) (common : 
         ∙ ap (λ z. row_of others (rounds rule others z) name) e
         ∙ ap (λ z. row_of others z name) (rounds_stay rule rises others (dummies_in_all units))
 
+-- what a unit writes depends on no other units
 pub write_looks : LooksInside write_rule
 write_looks = record { by = λ inside f g h u c d. writes_same inside f g h (plain d) u.body c }
 
+-- so the dummies that a unit writes are the same in both programs
 pub extends_written : ExtendsWritten
 extends_written inside units others common name t = least_same inside units others common write_rule write_looks write_rises name t
 
@@ -75,6 +78,7 @@ SameInside inside q q' = (n : Setting _) (name : List ℕ) (args : Terms) (line 
 
 module _ {C : Type 0} (inside : List ℕ → Bool) (q q' : Calls C) (same : SameInside inside q q') (n : Setting C) where
   mutual
+    -- a statement does the same
     act_same : (a : Act) (line : ℕ) → CallsInside' inside a → (s : Scene C) (k : ℕ) → act q n a line s k ≡ act q' n a line s k
     act_same (assign x subs e) line c s k = refl
     act_same (choose t a b) line c s k = λ i. with_value (holds n t s.store) line (λ p. if p then run_same a c.0 s k i else run_same b c.1 s k i)
@@ -86,14 +90,17 @@ module _ {C : Type 0} (inside : List ℕ → Bool) (q q' : Calls C) (same : Same
     act_same (call name args) line c s k = same n name args line c s k
     act_same (runtime r) line c s k = refl
 
+    -- and so does a list
     pub run_same : (b : Code) → CallsInside inside b → (s : Scene C) (k : ℕ) → run q n b s k ≡ run q' n b s k
     run_same stop c s k = refl
     run_same (step line a rest) c s k = λ i. counted k (λ j. then_do (act_same a line c.0 s j i) (λ s1 m. run_same rest c.1 s1 m i))
 
 module _ {C : Type 0} (inside : List ℕ → Bool) (q q' : Calls C) (same : SameInside inside q q') (n : Setting C) where
+  -- and a unit
   pub unit_same : (u : Procedure) → CallsInside inside u.body → (line : ℕ) (s : Scene C) (k : ℕ) → unit_run q n u line s k ≡ unit_run q' n u line s k
   unit_same u c line s k = λ i. then_do (run_same inside q q' same (setting_in n u s.store) u.body c (entered n u s) k i) (λ s1 j. if s1.opened == 0 then Done s1 j else Trapped schedule_trap line)
 
+  -- and a call of a unit that was looked for
   call_same : (ws : List Bool) (o : Option Procedure) → ((u : Procedure) → o ≡ Some u → CallsInside inside u.body) → (args : Terms) (line : ℕ) (s : Scene C) (k : ℕ) → call_in q n ws o args line s k ≡ call_in q' n ws o args line s k
   call_same ws None c args line s k = refl
   call_same ws (Some u) c args line s k =
@@ -111,6 +118,7 @@ module _ {C : Type 0} (inside : List ℕ → Bool) (units others : List Procedur
       call_same inside (calls_of units depth) (calls_of others depth) (calls_same depth) n (handed_back units name) (find_unit units name) (λ u e. common.closed name u t e) args line s k
       ∙ (λ i. call_in (calls_of others depth) n (extends_written inside units others common name t i) (common.same name t i) args line s k)
 
+-- the run of a unit is the same in both programs
 pub extends_programs : {C : Type 0} → ExtendsPrograms C
 extends_programs inside units others common u c n input tape room k =
     let outside : Setting _ = record { numbers = n; shape = λ x. scalar; room = room; level = 0 } in

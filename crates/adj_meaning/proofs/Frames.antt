@@ -12,11 +12,8 @@ use Rattle.adj_meaning.specs.Run.{Calls, trips, turns, stepped, with_turn, after
 use Rattle.adj_meaning.specs.Written.{is_place_of, is_handed_back, runtime_writes, act_writes, writes, handed_back, find_unit}
 use Rattle.adj_meaning.specs.Units.{Place, whole, cell, nowhere, Actual, one_word, actual_of, actuals, put, entry_store, dummies_fit, copied_out, setting_in, entered, unit_run, call_in, calls_of}
 use Rattle.adj_meaning.specs.Laws.{KeepsOthers, KeepsDummies}
+use Rattle.adj_meaning.proofs.Booleans.{or_false}
 use Rattle.adj_meaning.proofs.Inversions.{then_done, value_done, top_done, count_done, done_same, then_ok_is}
-
-or_false : (a b : Bool) → (a || b) ≡ false → (a ≡ false) × (b ≡ false)
-or_false true b e = absurd (let f : true ≡ false = e in cc)
-or_false false b e = (refl, e)
 
 module _ {C : Type 0} (x : Var) where
   -- every cell of the variable is as it was
@@ -27,6 +24,7 @@ module _ {C : Type 0} (x : Var) where
   abbrev pub Keeps : Go C → Type 0
   Keeps go = (s : Scene C) (k : ℕ) (s' : Scene C) (k' : ℕ) → go s k ≡ Done s' k' → Same s s'
 
+  -- what two runs one after the other keep
   trans : (s s1 s2 : Scene C) → Same s s1 → Same s1 s2 → Same s s2
   trans s s1 s2 f g i = g i ∙ f i
 
@@ -34,27 +32,33 @@ module _ {C : Type 0} (x : Var) where
   kept : (s s1 s' : Scene C) (k k' : ℕ) → Same s s1 → (let o : Outcome (Scene C) = Done s1 k in o ≡ Done s' k') → Same s s'
   kept s s1 s' k k' f e i = ap (λ (z : Scene C). z.store x i) (sym (done_same s1 s' k k' e)) ∙ f i
 
+  -- a cell of another variable is set
   set_keeps : (s : Store C) (y : Var) (j : ℕ) (c : C) → var_eq x y ≡ false → (i : ℕ) → set s y j c x i ≡ s x i
   set_keeps s y j c h i = rw h refl
 
+  -- another variable is set whole
   set_all_keeps : (s : Store C) (y : Var) (cs : ℕ → C) → var_eq x y ≡ false → (i : ℕ) → set_all s y cs x i ≡ s x i
   set_all_keeps s y cs h i = rw h refl
 
+  -- three others are set
   set_three_keeps : (s : Store C) (y z t : Var) (a b c : C) → (var_eq x y || (var_eq x z || var_eq x t)) ≡ false → (i : ℕ) → set (set (set s y 0 a) z 0 b) t 0 c x i ≡ s x i
   set_three_keeps s y z t a b c h i =
       let p = or_false (var_eq x y) (var_eq x z || var_eq x t) h in
       let q = or_false (var_eq x z) (var_eq x t) p.1 in
       set_keeps (set (set s y 0 a) z 0 b) t 0 c q.1 i ∙ set_keeps (set s y 0 a) z 0 b q.0 i ∙ set_keeps s y 0 a p.0 i
 
+  -- what goes on after what keeps the variable
   then_keeps : (f g : Go C) → Keeps f → Keeps g → Keeps (λ s k. then_do (f s k) g)
   then_keeps f g a b s k s' k' e =
       let p = then_done (f s k) g s' k' e in
       trans s p.scene s' (a s k p.scene p.left p.first) (b p.scene p.left s' k' p.second)
 
+  -- the branch that is taken keeps it
   if_keeps : (b : Bool) (o p : Outcome (Scene C)) (s s' : Scene C) (k' : ℕ) → (o ≡ Done s' k' → Same s s') → (p ≡ Done s' k' → Same s s') → (if b then o else p) ≡ Done s' k' → Same s s'
   if_keeps true o p s s' k' f g e = f e
   if_keeps false o p s s' k' f g e = g e
 
+  -- the turns of a loop keep it where each turn and each step does
   turns_keep : (m : ℕ) (go : Go C) (after : Scene C → Scene C) → Keeps go → ((s : Scene C) → Same s (after s)) → Keeps (turns m go after)
   turns_keep zero go after h f s k s' k' e = kept s s s' k k' (λ i. refl) e
   turns_keep (suc m) go after h f s k s' k' e =
@@ -64,6 +68,7 @@ module _ {C : Type 0} (x : Var) where
 
   -- ---- runtime calls
 
+  -- pushes keep every variable
   pushed_keeps : (n : Setting C) (c : C) → Keeps (pushed n c)
   pushed_keeps n c s k s' k' e = if_keeps (has_room n.room (length s.tape)) _ Full s s' k' (kept s (record s { tape = c ∷ s.tape }) s' k k' (λ i. refl)) (λ f. cc) e
 
@@ -71,6 +76,7 @@ module _ {C : Type 0} (x : Var) where
   pushed_all_keeps n [] s k s' k' e = kept s s s' k k' (λ i. refl) e
   pushed_all_keeps n (c ∷ cs) s k s' k' e = then_keeps (pushed n c) (pushed_all n cs) (pushed_keeps n c) (pushed_all_keeps n cs) s k s' k' e
 
+  -- pops keep every other
   popped_keeps : (y : Var) (j line : ℕ) → var_eq x y ≡ false → Keeps (popped y j line)
   popped_keeps y j line h s k s' k' e =
       let t = top_done s.tape line (λ c cs. Done (record s { store = set s.store y j c; tape = cs }) k) s' k' e in
@@ -80,10 +86,12 @@ module _ {C : Type 0} (x : Var) where
   popped_all_keeps y zero line h s k s' k' e = kept s s s' k k' (λ i. refl) e
   popped_all_keeps y (suc j) line h s k s' k' e = then_keeps (popped y j line) (popped_all y j line) (popped_keeps y j line h) (popped_all_keeps y j line h) s k s' k' e
 
+  -- the end of a reversal keeps every variable
   ended_keeps : (n : Setting C) (m line : ℕ) → Keeps (ended n m line)
   ended_keeps n zero line s k s' k' e = absurd cc
   ended_keeps n (suc m) line s k s' k' e = kept s _ s' k k' (λ i. refl) e
 
+  -- a runtime call keeps what it doesn't change
   runtime_keeps : (n : Setting C) (r : Runtime) (line : ℕ) → runtime_writes x r ≡ false → Keeps (runtime_act n r line)
   runtime_keeps n (push_word y subs) line h s k s' k' e =
       let v = value_done (target n y subs s.store) line (λ i. pushed n (s.store y i) s k) s' k' e in pushed_keeps n (s.store y v.value) s k s' k' v.goes
@@ -129,6 +137,7 @@ CallsKeep handed q = (x : Var) (n : Setting _) (name : List ℕ) (args : Terms) 
 
 module _ {C : Type 0} (handed : List ℕ → List Bool) (q : Calls C) (keep : CallsKeep handed q) (n : Setting C) (x : Var) where
   mutual
+    -- a statement keeps what it may not write
     act_keeps : (a : Act) (line : ℕ) → act_writes handed x a ≡ false → Keeps x (act q n a line)
     act_keeps (assign y subs a) line h s k s' k' e =
         let v = value_done (value n a s.store) line _ s' k' e in
@@ -169,6 +178,7 @@ is_in x (whole y) = var_eq x y
 is_in x (cell y i) = var_eq x y
 is_in x nowhere = false
 
+-- a place in another variable
 put_keeps : {C : Type 0} (x : Var) (p : Place) (cs : ℕ → C) (s : Store C) → is_in x p ≡ false → (i : ℕ) → put p cs s x i ≡ s x i
 put_keeps x (whole y) cs s h i = set_all_keeps x s y cs h i
 put_keeps x (cell y j) cs s h i = set_keeps x s y j (cs 0) h i
@@ -229,6 +239,7 @@ calls_keep units (suc depth) x n name args line w s k s' k' e = go (find_unit un
         (copied_keeps n x u.dummies (handed_back units name) args s.store v.value p.scene.store s.store v.is w) p.second)
         (λ f. cc) v.goes
 
+-- a list of a program
 pub keeps_others : {C : Type 0} → KeepsOthers C
 keeps_others units depth n c s s' k k' e x h = run_keeps (handed_back units) (calls_of units depth) (calls_keep units depth) n x c h s k s' k' e
 

@@ -9,6 +9,7 @@ use Rattle.adj_meaning.specs.Written.{find_unit}
 pub record Rises (rule : Rule) : Type 0 where
   pub by : (f g : Dummies) → ((name : List ℕ) → IsWithin (f name) (g name)) → (u : Procedure) (d : List ℕ) → rule f u d ≡ true → rule g u d ≡ true
 
+-- a row of a set within another is within its row
 row_within : (units : List Procedure) (vs ws : List (List Bool)) → AreWithin vs ws → (name : List ℕ) → IsWithin (row_of units vs name) (row_of units ws name)
 row_within [] vs ws h name = tt
 row_within (u ∷ us) [] [] h name = tt
@@ -20,6 +21,7 @@ row_within (u ∷ us) (v ∷ vs) (w ∷ ws) h name = go (name_eq u.name name) (r
     go true r = h.0
     go false r = r
 
+-- a row by one test is within that by a weaker one
 map_within : (ds : List (List ℕ)) (f g : List ℕ → Bool) → ((d : List ℕ) → f d ≡ true → g d ≡ true) → IsWithin (map f ds) (map g ds)
 map_within [] f g h = tt
 map_within (d ∷ ds) f g h = (h d, map_within ds f g h)
@@ -40,11 +42,13 @@ module _ (rule : Rule) (rises : Rises rule) where
 
 -- ---- counting
 
+-- how many dummies a row has
 abbrev pub count : List Bool → ℕ
 count [] = 0
 count (true ∷ ws) = suc (count ws)
 count (false ∷ ws) = count ws
 
+-- how many a set has
 abbrev pub total : List (List Bool) → ℕ
 total [] = 0
 total (w ∷ ws) = count w + total ws
@@ -71,6 +75,7 @@ same_or_fewer (false ∷ vs) (false ∷ ws) h = go (same_or_fewer vs ws h.1)
     go (inl e) = inl (ap (λ z. false ∷ z) e)
     go (inr l) = inr l
 
+-- a set within another is the same or has fewer dummies
 rows_same_or_fewer : (vs ws : List (List Bool)) → AreWithin vs ws → (vs ≡ ws) ⊎ (total vs < total ws)
 rows_same_or_fewer [] [] h = inl refl
 rows_same_or_fewer [] (w ∷ ws) h = absurd h
@@ -83,6 +88,7 @@ rows_same_or_fewer (v ∷ vs) (w ∷ ws) h = go (same_or_fewer v w h.0) (rows_sa
     go (inr l) (inl f) = let c : total vs ≡ total ws = ap total f in inr (omega arith)
     go (inr l) (inr m) = inr (omega arith)
 
+-- a row has no more dummies than its unit
 count_most : (ds : List (List ℕ)) (f : List ℕ → Bool) → count (map f ds) ≤ length ds
 count_most [] f = omega arith
 count_most (d ∷ ds) f = go (f d) (count_most ds f)
@@ -91,6 +97,7 @@ count_most (d ∷ ds) f = go (f d) (count_most ds f)
     go true h = omega arith
     go false h = omega arith
 
+-- a set has no more dummies than the program
 total_most : (us : List Procedure) (f : Procedure → List ℕ → Bool) → total (map (λ u. map (f u) u.dummies) us) ≤ dummies_in_all us
 total_most [] f = omega arith
 total_most (u ∷ us) f = omega (arith, count_most u.dummies (f u), total_most us f)
@@ -130,6 +137,7 @@ module _ (rule : Rule) (rises : Rises rule) (units : List Procedure) where
       let e : dummies_in_all units + suc k ≡ suc (dummies_in_all units + k) = omega arith in
       ap after e ∙ ap (by_rule rule units) (rounds_stay k) ∙ least_closed
 
+-- within a set within another is within that
 within_trans : (us vs ws : List Bool) → IsWithin us vs → IsWithin vs ws → IsWithin us ws
 within_trans [] [] [] f g = tt
 within_trans [] [] (w ∷ ws) f g = absurd g
@@ -152,6 +160,7 @@ module _ (rule : Rule) (rises : Rises rule) (units : List Procedure) where
   rounds_least ws h zero = are_within_trans (no_dummies units) (by_rule rule units ws) ws (maps_within units (λ u d. false) (rule (row_of units ws)) (λ u d e. cc)) h
   rounds_least ws h (suc k) = are_within_trans (rounds rule units (suc k)) (by_rule rule units ws) ws (round_rises rule rises units (rounds rule units k) ws (rounds_least ws h k)) h
 
+  -- what is found is the least set
   pub is_least : IsLeast rule units (least_rows rule units)
   is_least = record { closed = least_closed rule rises units; least = λ ws h. rounds_least ws h (dummies_in_all units) }
 

@@ -1,3 +1,4 @@
+pub mod Booleans
 pub mod Samples
 pub mod Appends
 pub mod Inversions
@@ -14,3 +15,10 @@ pub mod LeastSets
 pub mod WriteSets
 pub mod Frames
 pub mod Extensions
+pub mod Results
+pub mod Variables
+pub mod Cells
+pub mod Agreements
+pub mod ReadSets
+pub mod Dependence
+pub mod Tapes

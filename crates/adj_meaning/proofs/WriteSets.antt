@@ -1,31 +1,14 @@
 -- What statements may write grows with what is known of called units.
-use Rattle.std.proofs.Common.{◌≡◌, ℕ, ◌⊎◌, inl, inr, Bool, true, false, List, [], ◌∷◌, refl, ap, ◌∙◌}
-use Rattle.std.proofs.lemmas.Bool.{or_cases}
-use Rattle.std.specs.Prelude.{◌||◌, ◌&&◌}
+use Rattle.std.proofs.Common.{◌≡◌, ℕ, Bool, true, List, [], ◌∷◌}
+use Rattle.std.specs.Prelude.{◌&&◌}
 use Rattle.adj_tree.specs.Code.{Var, plain, Terms, none, more, Act, assign, choose, loop, call, runtime, Code, stop, step}
 use Rattle.adj_meaning.specs.LeastSet.{Dummies, IsWithin}
 use Rattle.adj_meaning.specs.Written.{is_place_of, is_handed_back, act_writes, writes, write_rule}
 use Rattle.adj_meaning.specs.Laws.{LeastWritten, HandsBackWritten}
+use Rattle.adj_meaning.proofs.Booleans.{and_more, or_more}
 use Rattle.adj_meaning.proofs.LeastSets.{Rises, is_least, least_row}
 
-or_left : (a b : Bool) → a ≡ true → (a || b) ≡ true
-or_left a b e = ap (λ z. z || b) e
-
-or_right : (a b : Bool) → b ≡ true → (a || b) ≡ true
-or_right true b e = refl
-or_right false b e = e
-
-pub and_more : (v w p : Bool) → (v ≡ true → w ≡ true) → (v && p) ≡ true → (w && p) ≡ true
-and_more true w p h e = ap (λ z. z && p) (h refl) ∙ e
-and_more false w p h e = cc
-
-pub or_more : (a b c d : Bool) → (a ≡ true → c ≡ true) → (b ≡ true → d ≡ true) → (a || b) ≡ true → (c || d) ≡ true
-or_more a b c d f g e = go (or_cases a b e)
-  where
-    go : (a ≡ true) ⊎ (b ≡ true) → (c || d) ≡ true
-    go (inl h) = or_left c d (f h)
-    go (inr h) = or_right c d (g h)
-
+-- more is handed back where more is written
 handed_more : (x : Var) (vs ws : List Bool) (args : Terms) → IsWithin vs ws → is_handed_back x vs args ≡ true → is_handed_back x ws args ≡ true
 handed_more x [] ws args h e = cc
 handed_more x (v ∷ vs) [] args h e = absurd h
@@ -35,6 +18,7 @@ handed_more x (v ∷ vs) (w ∷ ws) (more a args) h e =
 
 module _ (f g : Dummies) (h : (name : List ℕ) → IsWithin (f name) (g name)) (x : Var) where
   mutual
+    -- a statement may write more where more is known
     act_more : (a : Act) → act_writes f x a ≡ true → act_writes g x a ≡ true
     act_more (assign y subs e) t = t
     act_more (choose c a b) t = or_more (writes f x a) (writes f x b) (writes g x a) (writes g x b) (writes_more a) (writes_more b) t
@@ -46,11 +30,14 @@ module _ (f g : Dummies) (h : (name : List ℕ) → IsWithin (f name) (g name)) 
     writes_more stop t = t
     writes_more (step line a rest) t = or_more (act_writes f x a) (writes f x rest) (act_writes g x a) (writes g x rest) (act_more a) (writes_more rest) t
 
+-- what units write grows with what is known
 pub write_rises : Rises write_rule
 write_rises = record { by = λ f g h u d t. writes_more f g h (plain d) u.body t }
 
+-- the dummies that units write are the least set by their rule
 pub least_written : LeastWritten
 least_written units = is_least write_rule write_rises units
 
+-- what a unit hands back are the dummies that it writes
 pub handed_written : HandsBackWritten
 handed_written units name u e = least_row write_rule write_rises units name u e
