@@ -8,4 +8,5 @@
 
 pub mod fresh;
 pub mod names;
-pub mod right;
+pub mod step;
+pub mod product;
