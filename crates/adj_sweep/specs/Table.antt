@@ -1,6 +1,6 @@
 -- The names of an adjoint unit as a table.
-use Rattle.std.specs.Prelude.{ℕ, zero, suc, ◌≤◌, ◌-◌, nat_le, ◌&&◌, List, [], ◌∷◌, ◌++◌, map, get_or, length, if◌then◌else◌}
-use Rattle.adj_tree.specs.Code.{Var, plain, shadow, helper, Role, work, temp, Term, var, bin, plus, times, none, Act, assign, Code, step}
+use Rattle.std.specs.Prelude.{ℕ, zero, suc, ◌≤◌, ◌-◌, nat_le, ◌&&◌, List, [], ◌∷◌, ◌++◌, map, get_or, length, if◌then◌else◌, Bool, false, slice_get, unwrap_or}
+use Rattle.adj_tree.specs.Code.{Var, plain, shadow, helper, Role, work, temp, Term, var, bin, plus, times, none, Act, assign, Code, step, Declaration}
 use Rattle.adj_transpose.specs.Naming.{Named, own, outside, naming}
 use Rattle.adj_sweep.specs.declared.names.Shadowed.{Shadowed}
 use Rattle.adj_sweep.specs.declared.names.Names.{Names}
@@ -49,3 +49,11 @@ abbrev pub factor_code : (Var → Var) → ℕ → List ℕ → List ℕ → Cod
 factor_code r line grown factor rest =
     step line (assign (r (helper work 2)) none (bin times (var (r (helper work 1))) (var (plain factor))))
     (step line (assign (r (shadow grown)) none (bin plus (var (r (shadow grown))) (var (r (helper work 2))))) rest)
+
+-- whether the dummy at a place is marked
+abbrev pub mark_at : List Bool → ℕ → Bool
+mark_at marks i = unwrap_or (slice_get marks i) false
+
+-- a declaration under another name
+abbrev pub with_name : Declaration → List ℕ → Declaration
+with_name d x = record d { name = x }
