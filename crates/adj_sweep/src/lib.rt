@@ -8,4 +8,7 @@
 
 pub mod fresh;
 pub mod names;
-pub mod right;
+pub mod naming;
+pub mod step;
+pub mod product;
+pub mod unit;

@@ -1,0 +1,83 @@
+-- The parts of an adjoint unit.
+use Rattle.std.proofs.Common.{◌≡◌, ℕ, zero, suc, Bool, true, false, List, [], ◌∷◌, ◌++◌, ◌+◌, ◌-◌, ◌<◌, ◌≤◌, map, length, drop, get_or, slice_get, refl, sym, ap, ◌∙◌, subst, arith, append_assoc, add-one, if◌then◌else◌}
+use Rattle.std.specs.Prelude.{ℤ, pos, unwrap_or}
+use Rattle.std.proofs.lemmas.List.{map_push}
+use Rattle.adj_tree.specs.Code.{Var, plain, shadow, helper, Role, work, name_eq, lit, none, assign, Code, stop, step, Declaration}
+use Rattle.adj_tree.specs.View.{declaration_of}
+use Rattle.adj_tree.specs.declared.unit.Decl.{Decl}
+use Rattle.adj_tree.proofs.Names.{name_refl, name_same}
+use Rattle.adj_meaning.specs.Append.{◌+++◌}
+use Rattle.adj_meaning.specs.Rename.{rename}
+use Rattle.adj_transpose.specs.Emit.{zeros}
+use Rattle.adj_transpose.specs.Naming.{Named, name_in}
+use Rattle.adj_transpose.specs.Program.{unmarked, scalar, declaration, declared_helpers, helpers_from}
+use Rattle.adj_transpose.proofs.Variables.{not_true}
+use Rattle.adj_sweep.specs.Table.{mark_at}
+use Rattle.adj_sweep.proofs.Places.{from_here}
+
+-- ---- declarations
+
+-- the declaration at i is that of x
+pub declaration_found : (line : ℕ) (items : List Decl) (x : List ℕ) (i : ℕ) (d : Decl) (all : Declaration) → i < length items → d ≡ get_or items i d → d.name ≡ x → all ≡ declaration line (map declaration_of (drop i items)) x → declaration_of d ≡ all
+declaration_found line items x i d all lt at same h =
+    let test : name_eq d.name x ≡ true = ap (λ z. name_eq z x) same ∙ name_refl x in
+    sym (h ∙ ap (λ ds. declaration line (map declaration_of ds) x) (from_here items i d lt at) ∙ ap (λ b. if b then declaration_of d else declaration line (map declaration_of (drop (i + 1) items)) x) test)
+
+-- the declaration at i is that of another
+pub declaration_passed : (line : ℕ) (items : List Decl) (x : List ℕ) (i : ℕ) (d : Decl) (all : Declaration) → i < length items → d ≡ get_or items i d → (d.name ≡ x → ⊥) → all ≡ declaration line (map declaration_of (drop i items)) x → all ≡ declaration line (map declaration_of (drop (i + 1) items)) x
+declaration_passed line items x i d all lt at other h =
+    let test : name_eq d.name x ≡ false = not_true (name_eq d.name x) (λ e. other (name_same d.name x e)) in
+    h ∙ ap (λ ds. declaration line (map declaration_of ds) x) (from_here items i d lt at) ∙ ap (λ b. if b then declaration_of d else declaration line (map declaration_of (drop (i + 1) items)) x) test
+
+-- one helper more is declared
+pub helper_declared : (ns : List Named) (line : ℕ) (r : Role) (made : List Decl) (d : Decl) (done count : ℕ) → done < count → declaration_of d ≡ scalar line (name_in ns (helper r (done + 1))) → map declaration_of (made ++ (d ∷ [])) ++ declared_helpers ns line (helpers_from r (suc (done + 1)) (count - (done + 1))) ≡ map declaration_of made ++ declared_helpers ns line (helpers_from r (suc done) (count - done))
+helper_declared ns line r made d done count lt is =
+    let left : count - done ≡ suc (count - (done + 1)) = omega arith in
+    let others = declared_helpers ns line (helpers_from r (suc (suc done)) (count - (done + 1))) in
+    ap (λ k. map declaration_of (made ++ (d ∷ [])) ++ declared_helpers ns line (helpers_from r (suc k) (count - (done + 1)))) (add-one done)
+    ∙ ap (λ z. z ++ others) (map_push declaration_of made d)
+    ∙ append_assoc (map declaration_of made) (declaration_of d ∷ []) others
+    ∙ ap (λ z. map declaration_of made ++ (z ∷ others)) (is ∙ ap (λ k. scalar line (name_in ns (helper r k))) (add-one done))
+    ∙ ap (λ m. map declaration_of made ++ declared_helpers ns line (helpers_from r (suc done) m)) (sym left)
+
+-- ---- zeros
+
+-- whether the first name is marked is told by the mark at its place
+unmarked_at : (x : List ℕ) (ys : List (List ℕ)) (marks : List Bool) (j : ℕ) → unmarked (x ∷ ys) (drop j marks) ≡ (if mark_at marks j then unmarked ys (drop (suc j) marks) else x ∷ unmarked ys (drop (suc j) marks))
+unmarked_at x ys [] zero = refl
+unmarked_at x ys [] (suc j) = refl
+unmarked_at x ys (true ∷ marks) zero = refl
+unmarked_at x ys (false ∷ marks) zero = refl
+unmarked_at x ys (m ∷ marks) (suc j) = unmarked_at x ys marks j
+
+-- within a list it is no matter what stands for what is missing
+get_or_any : {A : Type 0} (xs : List A) (j : ℕ) (a b : A) → j < length xs → get_or xs j a ≡ get_or xs j b
+get_or_any [] j a b h = absurd (omega arith)
+get_or_any (x ∷ xs) zero a b h = refl
+get_or_any (x ∷ xs) (suc j) a b h = get_or_any xs j a b (omega arith)
+
+-- what isn't marked is set to 0 before the rest
+pub zeros_more : (r : Var → Var) (line : ℕ) (xs : List (List ℕ)) (marks : List Bool) (i : ℕ) (x : List ℕ) (code code' rest : Code) → 0 < i → i ≤ length xs → x ≡ get_or xs (i - 1) x → mark_at marks (i - 1) ≡ false → code' ≡ step line (assign (r (shadow x)) none (lit (pos 0))) code → code ≡ rename r (zeros line (unmarked (drop i xs) (drop i marks))) +++ rest → code' ≡ rename r (zeros line (unmarked (drop (i - 1) xs) (drop (i - 1) marks))) +++ rest
+zeros_more r line xs marks i x code code' rest lt le at off is h =
+    let j = i - 1 in
+    let up : i ≡ suc j = omega arith in
+    let here : unmarked (drop j xs) (drop j marks) ≡ x ∷ unmarked (drop i xs) (drop i marks) =
+          ap (λ z. unmarked z (drop j marks)) (from_here xs j x (omega arith) at)
+          ∙ unmarked_at x (drop (j + 1) xs) marks j
+          ∙ ap (λ b. if b then unmarked (drop (j + 1) xs) (drop (suc j) marks) else x ∷ unmarked (drop (j + 1) xs) (drop (suc j) marks)) off
+          ∙ (λ k. x ∷ unmarked (drop ((add-one j ∙ sym up) k) xs) (drop (sym up k) marks)) in
+    is ∙ ap (step line (assign (r (shadow x)) none (lit (pos 0)))) h ∙ ap (λ z. rename r (zeros line z) +++ rest) (sym here)
+
+-- what is marked stays
+pub zeros_same : (r : Var → Var) (line : ℕ) (xs : List (List ℕ)) (marks : List Bool) (i : ℕ) (code rest : Code) → 0 < i → i ≤ length xs → mark_at marks (i - 1) ≡ true → code ≡ rename r (zeros line (unmarked (drop i xs) (drop i marks))) +++ rest → code ≡ rename r (zeros line (unmarked (drop (i - 1) xs) (drop (i - 1) marks))) +++ rest
+zeros_same r line xs marks i code rest lt le on h =
+    let j = i - 1 in
+    let up : i ≡ suc j = omega arith in
+    let x = get_or xs j [] in
+    let at : x ≡ get_or xs j x = get_or_any xs j [] x (omega arith) in
+    let here : unmarked (drop j xs) (drop j marks) ≡ unmarked (drop i xs) (drop i marks) =
+          ap (λ z. unmarked z (drop j marks)) (from_here xs j x (omega arith) at)
+          ∙ unmarked_at x (drop (j + 1) xs) marks j
+          ∙ ap (λ b. if b then unmarked (drop (j + 1) xs) (drop (suc j) marks) else x ∷ unmarked (drop (j + 1) xs) (drop (suc j) marks)) on
+          ∙ (λ k. unmarked (drop ((add-one j ∙ sym up) k) xs) (drop (sym up k) marks)) in
+    h ∙ ap (λ z. rename r (zeros line z) +++ rest) (sym here)
