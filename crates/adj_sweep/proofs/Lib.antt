@@ -3,3 +3,4 @@ pub mod Tables
 pub mod Kept
 pub mod Making
 pub mod Units
+pub mod Heads

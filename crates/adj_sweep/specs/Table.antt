@@ -1,6 +1,9 @@
 -- The names of an adjoint unit as a table.
 use Rattle.std.specs.Prelude.{ℕ, zero, suc, ◌≤◌, ◌-◌, nat_le, ◌&&◌, List, [], ◌∷◌, ◌++◌, map, get_or, length, if◌then◌else◌, Bool, false, slice_get, unwrap_or}
-use Rattle.adj_tree.specs.Code.{Var, plain, shadow, helper, Role, work, temp, Term, var, bin, plus, times, none, Act, assign, Code, step, Declaration}
+use Rattle.adj_tree.specs.Code.{Var, plain, shadow, helper, Role, work, temp, Term, var, bin, plus, times, none, Act, assign, Code, stop, step, Declaration}
+use Rattle.adj_meaning.specs.Append.{◌+++◌}
+use Rattle.adj_meaning.specs.Rename.{rename}
+use Rattle.adj_transpose.specs.Emit.{zeros, forward_act, backward_act}
 use Rattle.adj_transpose.specs.Naming.{Named, own, outside, naming}
 use Rattle.adj_sweep.specs.declared.names.Shadowed.{Shadowed}
 use Rattle.adj_sweep.specs.declared.names.Names.{Names}
@@ -57,3 +60,10 @@ mark_at marks i = unwrap_or (slice_get marks i) false
 -- a declaration under another name
 abbrev pub with_name : Declaration → List ℕ → Declaration
 with_name d x = record d { name = x }
+
+-- the sweeps of a product, with the shadows of these set to 0 between them and at the end
+abbrev pub swept : Names → ℕ → Product → List (List ℕ) → List (List ℕ) → Code
+swept n line p other_outputs other_inputs =
+    forward_act 0 p.line (assigned p)
+    +++ (rename (named_by n) (zeros line other_outputs)
+    +++ (rename (named_by n) (backward_act 0 p.line (assigned p)) +++ (rename (named_by n) (zeros line other_inputs) +++ stop)))

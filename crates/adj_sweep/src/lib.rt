@@ -12,3 +12,4 @@ pub mod naming;
 pub mod step;
 pub mod product;
 pub mod unit;
+pub mod head;

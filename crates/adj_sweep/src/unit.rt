@@ -25,8 +25,8 @@ fn is_marked(marks: &[bool], i: usize) -> bool
     }
 }
 
-// The shadows of the variables that aren't marked set to 0, in order, and then the rest.
-fn zeros(
+/// The shadows of the variables that aren't marked set to 0, in order, and then the rest.
+pub fn zeros(
     alloc: Global,
     n: &Names,
     line: u32,
@@ -47,8 +47,8 @@ fn zeros(
     Ok(code)
 }
 
-// Each name followed by that of its shadow.
-fn with_shadows(alloc: Global, n: &Names, names: &[Name]) -> Result<Vec<Name>, Memory>
+/// Each name followed by that of its shadow.
+pub fn with_shadows(alloc: Global, n: &Names, names: &[Name]) -> Result<Vec<Name>, Memory>
     ensures names { IfOk result (λ v. v.items ≡ with_shadows (table_of n.now) names.now) }
 {
     let mut made = Vec::new(alloc);
@@ -97,8 +97,8 @@ fn shadow_declaration(alloc: Global, n: &Names, decl: &Decl, x: &Name) -> Result
     })
 }
 
-// The declarations of variables, each followed by that of its shadow, behind the others.
-fn declare_variables(
+/// The declarations of variables, each followed by that of its shadow, behind the others.
+pub fn declare_variables(
     alloc: Global,
     n: &Names,
     unit: &Unit,
@@ -116,8 +116,8 @@ fn declare_variables(
     Ok(())
 }
 
-// The declarations of the first helpers of a role behind the others.
-fn declare_helpers(
+/// The declarations of the first helpers of a role behind the others.
+pub fn declare_helpers(
     alloc: Global,
     n: &Names,
     line: u32,

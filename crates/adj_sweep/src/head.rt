@@ -1,0 +1,103 @@
+//! The adjoint of a program whose head's body is one product.
+
+ghost use Rattle.std.specs.Prelude.{◌≡◌, ◌++◌, ◌∷◌, [], ◌<◌, IfOk, map, length};
+ghost use Rattle.adj_tree.specs.Code.{Procedure, step, stop, work};
+ghost use Rattle.adj_tree.specs.View.{declaration_of, procedure_of, procedures_of, code_of};
+ghost use Rattle.adj_transpose.specs.Program.{locals, unmarked, declared_with_shadows, declared_helpers, helpers_from, adjoint_unit, unit_at, adjoint_program};
+ghost use Rattle.adj_transpose.specs.Straight.{IsStraightUnit};
+ghost use Rattle.adj_transpose.specs.Adjoint.{IsAdjoint};
+ghost use Rattle.adj_sweep.specs.Table.{table_of, assigned, swept};
+
+use crate::names::{Helper, Names};
+use crate::naming::{adjoint_name, locals, names};
+use crate::product::{Product, backward, forward};
+use crate::unit::{declare_helpers, declare_variables, with_shadows, zeros};
+use adj_tree::{Decl, Head, Items, Memory, Program, Stmts, Unit, Units};
+use std::alloc::Global;
+
+// The declarations of the adjoint unit.
+fn declarations(alloc: Global, n: &Names, unit: &Unit) -> Result<Vec<Decl>, Memory>
+    ensures declarations { IfOk result (λ v. map declaration_of v.items ≡ declared_with_shadows (table_of n.now) (procedure_of unit.now) unit.now.dummies ++ (declared_with_shadows (table_of n.now) (procedure_of unit.now) (locals (procedure_of unit.now)) ++ declared_helpers (table_of n.now) unit.now.line (helpers_from work 1 2))) }
+{
+    let mut made = Vec::new(alloc);
+    declare_variables(alloc, n, unit, unit.dummies.as_slice(), &mut made)?;
+    let more = locals(alloc, unit)?;
+    declare_variables(alloc, n, unit, more.as_slice(), &mut made)?;
+    declare_helpers(alloc, n, unit.line, Helper::Work, 2, &mut made)?;
+    Ok(made)
+}
+
+// The body of the adjoint unit.
+fn body(
+    alloc: Global,
+    n: &Names,
+    unit: &Unit,
+    product: &Product,
+    vars: &[bool],
+    outvars: &[bool],
+) -> Result<Stmts, Memory>
+    ensures sweeps { IfOk result (λ c. code_of c ≡ swept n.now unit.now.line product.now (unmarked unit.now.dummies outvars.now) (unmarked unit.now.dummies vars.now)) }
+{
+    let last = zeros(alloc, n, unit.line, unit.dummies.as_slice(), vars, Stmts::Empty)?;
+    let back = backward(alloc, n, product, last)?;
+    let middle = zeros(alloc, n, unit.line, unit.dummies.as_slice(), outvars, back)?;
+    let code = forward(alloc, product, middle)?;
+    Ok(code)
+}
+
+// The adjoint of a unit whose body is the product.
+fn adjoint_of_unit(
+    alloc: Global,
+    p: &Program,
+    unit: &Unit,
+    product: &Product,
+    vars: &[bool],
+    outvars: &[bool],
+) -> Result<Unit, Memory>
+    requires body { code_of unit.now.body ≡ step product.now.line (assigned product.now) stop }
+    requires straight { IsStraightUnit (procedure_of unit.now) }
+    ensures unit { IfOk result (λ u. procedure_of u ≡ adjoint_unit (procedures_of p.now) (procedure_of unit.now) vars.now outvars.now) }
+{
+    let name = adjoint_name(alloc, p, unit)?;
+    let n = names(alloc, p, unit, &name, 2, 0)?;
+    let all = with_shadows(alloc, &n, unit.dummies.as_slice())?;
+    let decls = declarations(alloc, &n, unit)?;
+    let code = body(alloc, &n, unit, product, vars, outvars)?;
+    let made = Unit {
+        line: unit.line,
+        name,
+        dummies: Items::new(all),
+        none: false,
+        decls: Items::new(decls),
+        body: code,
+    };
+    Ok(made)
+}
+
+/// The adjoint of a program whose head's body is the product: one unit, the head's adjoint (docs/EMITTED.md).
+pub fn adjoint(
+    alloc: Global,
+    p: &Program,
+    head: &Head,
+    product: &Product,
+) -> Result<Program, Memory>
+    requires unit { head.now.unit < length p.now.units }
+    requires body { (u : Procedure) → unit_at head.now.unit (procedures_of p.now) ≡ u ∷ [] → u.body ≡ step product.now.line (assigned product.now) stop }
+    requires straight { (u : Procedure) → unit_at head.now.unit (procedures_of p.now) ≡ u ∷ [] → IsStraightUnit u }
+    ensures emitted { IfOk result (λ q. procedures_of q ≡ adjoint_program (procedures_of p.now) head.now.unit head.now.vars head.now.outvars) }
+    ensures adjoint { IfOk result (λ q. IsAdjoint (procedures_of p.now) head.now.unit head.now.vars head.now.outvars (procedures_of q)) }
+{
+    let unit = &p.units.as_slice()[head.unit];
+    let made = adjoint_of_unit(
+        alloc,
+        p,
+        unit,
+        product,
+        head.vars.as_slice(),
+        head.outvars.as_slice(),
+    )?;
+    let mut units = Vec::new(alloc);
+    units.push(made)?;
+    let units: Units = Items::new(units);
+    Ok(Program { units })
+}
