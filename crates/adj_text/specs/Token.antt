@@ -1,5 +1,5 @@
 -- The tokens of a text.
-use Rattle.std.specs.Prelude.{ℕ, zero, suc, ◌+◌, ◌-◌, Bool, false, ◌==◌, List, [], ◌∷◌, codes, nat_eq, Option, Some, None, option_map, option_and_then, if◌then◌else◌}
+use Rattle.std.specs.Prelude.{◌≡◌, ◌<◌, ℕ, zero, suc, ◌+◌, ◌-◌, Bool, false, ◌==◌, List, [], ◌∷◌, codes, nat_eq, Option, Some, None, option_map, option_and_then, if◌then◌else◌}
 use Rattle.std.specs.List.{prefix_len, starts_with}
 use Rattle.adj_text.specs.Char.{star, plus, minus, slash, left, right, comma, equals, dot, is_capital, is_digit, is_name_char}
 use Rattle.adj_text.specs.declared.token.Token.{Token}
@@ -64,3 +64,8 @@ tokens_from call skip here [] = Some []
 tokens_from call (suc skip) here (c ∷ cs) = tokens_from call skip (here + 1) cs
 tokens_from call zero here (c ∷ cs) =
     option_and_then (λ t. option_map (λ ts. token_at here t ∷ ts) (tokens_from call (t.1 - 1) (here + 1) cs)) (token_here call here (c ∷ cs))
+
+-- the tokens stand side by side from a place to another, each with one character at least
+abbrev pub AreJoined : ℕ → ℕ → List Token → Type 0
+AreJoined from to [] = from ≡ to
+AreJoined from to (t ∷ ts) = (t.start ≡ from) × (from < t.end) × AreJoined t.end to ts
