@@ -5,8 +5,14 @@
 //! trees' types of faults and lists. The layer above uses one clause: the result is `statements_of` of the bytes.
 #![tactic(auto)]
 
+mod class;
+mod data;
 mod directive;
 mod line;
 mod lined;
+mod scan;
+mod statement;
 
 pub use adj_text::{Kind, Mode, Stated, Token, TokenKind, Tokens};
+pub use data::data_part;
+pub use statement::statements;

@@ -1,7 +1,7 @@
 -- How a text is cut into lines.
-use Rattle.std.proofs.Common.{◌≡◌, ◌≢◌, ℕ, zero, suc, ◌+◌, ◌<◌, Bool, true, false, eqb, cond, List, [], ◌∷◌, length, get_or, take, drop, refl, sym, ap, ◌∙◌, arith, add-one}
+use Rattle.std.proofs.Common.{◌≡◌, ◌≢◌, ℕ, zero, suc, ◌+◌, ◌<◌, false, eqb, List, [], ◌∷◌, length, get_or, take, drop, refl, arith, add-one}
 use Rattle.std.proofs.lemmas.Bool.{ne_eqb}
-use Rattle.adj_text.specs.Line.{in_front, cut_lines}
+use Rattle.adj_text.specs.Line.{cut_lines}
 
 cut_at : (n : ℕ) (bs : List ℕ) → n < length bs → get_or bs n 0 ≡ 10 → ((k : ℕ) → k < n → get_or bs k 0 ≢ 10) → cut_lines bs ≡ take n bs ∷ cut_lines (drop (suc n) bs)
 unfolding cut_lines

@@ -1,2 +1,4 @@
 pub mod Cutting
 pub mod Beginning
+pub mod Fitting
+pub mod Scanning

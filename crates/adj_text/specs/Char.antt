@@ -1,5 +1,5 @@
 -- Characters, as their ASCII codes.
-use Rattle.std.specs.Prelude.{ℕ, ◌-◌, Bool, ◌==◌, nat_le, not, ◌&&◌, ◌||◌, List, map, filter, fold, ◌+◌, ◌*◌, if◌then◌else◌}
+use Rattle.std.specs.Prelude.{ℕ, ◌-◌, Bool, ◌==◌, nat_le, not, ◌&&◌, ◌||◌, List, map, filter, fold, ◌+◌, ◌*◌}
 use Rattle.std.specs.Char.{to_ascii_uppercase}
 use Rattle.std.specs.List.{list_all}
 

@@ -36,6 +36,10 @@ mark_of c =
     else (if c == equals then Some Equals
     else None))))))
 
+-- `**` or `*` with its length, where this stands behind the first star
+abbrev pub stars : List ℕ → TokenKind × ℕ
+stars cs = if begins_with cs (star ∷ []) then (Power, 2) else (Star, 1)
+
 -- the kind of the first token of a text, and its length: a name and digits as long as they go, `**` before `*`
 abbrev pub first_token : List ℕ → Option (TokenKind × ℕ)
 first_token [] = None
@@ -43,7 +47,7 @@ first_token (c ∷ cs) =
     if is_capital c then Some (Name, 1 + prefix_len is_name_char cs)
     else (if is_digit c then Some (Number, 1 + prefix_len is_digit cs)
     else (if c == dot then dotted (c ∷ cs)
-    else (if c == star then Some (if begins_with cs (star ∷ []) then (Power, 2) else (Star, 1))
+    else (if c == star then Some (stars cs)
     else option_map (λ k. (k, 1)) (mark_of c))))
 
 -- whether a place is the one
