@@ -1,6 +1,6 @@
 //! Statements with their classes and tokens.
 
-ghost use Rattle.std.specs.Prelude.{◌≡◌, ◌+◌, ◌-◌, ◌≤◌, Some, length, All, IfOk, IfSome};
+ghost use Rattle.std.specs.Prelude.{◌≡◌, ◌+◌, ◌-◌, ◌≤◌, Some, length, All, IfOk, IfSome, option_map};
 ghost use Rattle.std.specs.List.{list_any};
 ghost use Rattle.adj_text.specs.Limits.{limits_of};
 ghost use Rattle.adj_text.specs.Refused.{Gives};
@@ -28,7 +28,11 @@ fn integer_len(text: &[u8]) -> usize
     ensures { result ≡ keyword_len Kind.Integer text.now }
 {
     let digits = width_of(text);
-    if digits.is_empty() { 7 } else { 8 + digits.len() }
+    if digits.is_empty() {
+        7
+    } else {
+        8 + digits.len()
+    }
 }
 
 // How many characters the keyword has.

@@ -31,7 +31,7 @@ abbrev Fits : List ℕ → Kind → Type 0
 Fits text kind = keyword_len kind text + ending_len kind ≤ length text
 
 -- what holds of both answers holds of the chosen one
-if_some : (P : Kind → Type 0) (b : Bool) (x y : Option Kind) → (b ≡ true → IfSome x P) → (b ≡ false → IfSome y P) → IfSome (cond b x y) P
+pub if_some : {X : Type 0} (P : X → Type 0) (b : Bool) (x y : Option X) → (b ≡ true → IfSome x P) → (b ≡ false → IfSome y P) → IfSome (cond b x y) P
 if_some P true x y first second = first refl
 if_some P false x y first second = second refl
 
@@ -69,7 +69,7 @@ if_fits text h =
     elim (bytes_eq (inner text) (codes "THEN")) as (λ b. bytes_eq (inner text) (codes "THEN") ≡ b → Fits text (cond b BlockIf LogicalIf))
     [ true ↦ λ e. then_fits text (group_len 0 (drop 2 text)) e | false ↦ λ e. omega arith ] refl
 
-whole_fits : (text : List ℕ) → IfSome (whole text) (Fits text)
+pub whole_fits : (text : List ℕ) → IfSome (whole text) (Fits text)
 whole_fits text =
     if_some (Fits text) (bytes_eq text (codes "CONTINUE")) _ _ (λ h. omega (arith, equal_fits text (codes "CONTINUE") h)) (λ _.
     if_some (Fits text) (bytes_eq text (codes "RETURN")) _ _ (λ h. omega (arith, equal_fits text (codes "RETURN") h)) (λ _.
@@ -94,14 +94,14 @@ width_fits : (text : List ℕ) (starred : Bool) → 7 ≤ length text → Fits-w
 width_fits text true h = width_of_some text (take_while is_digit (drop 8 text)) h (omega (arith, length-take (prefix_len is_digit (drop 8 text)) (drop 8 text), length-drop 8 text))
 width_fits text false h = h
 
-begun_fits : (text : List ℕ) → IfSome (begun text) (Fits text)
+pub begun_fits : (text : List ℕ) → IfSome (begun text) (Fits text)
 begun_fits text =
     if_some (Fits text) (begins_with text (codes "ELSEIF(") && ends_with nat_eq text (codes ")THEN")) _ _ (λ h. else_if_fits text (and_first _ _ h) (and_second _ _ h)) (λ _.
     if_some (Fits text) (begins_with text (codes "SUBROUTINE")) _ _ (λ h. omega (arith, begins_fits text (codes "SUBROUTINE") h)) (λ _.
     if_some (Fits text) (begins_with text (codes "INTEGER")) _ _ (λ h. if_some (Fits text) (is_integer text) _ _ (λ _. width_fits text (begins_with (drop 7 text) (star ∷ [])) (begins_fits text (codes "INTEGER") h)) (λ _. tt)) (λ _.
     if_some (Fits text) (begins_with text (codes "CALL")) _ _ (λ h. omega (arith, begins_fits text (codes "CALL") h)) (λ _. tt))))
 
-or_fits : (P : Kind → Type 0) (x y : Option Kind) → IfSome x P → IfSome y P → IfSome (option_or x y) P
+pub or_fits : (P : Kind → Type 0) (x y : Option Kind) → IfSome x P → IfSome y P → IfSome (option_or x y) P
 or_fits P None y first second = second
 or_fits P (Some k) y first second = first
 
