@@ -2,10 +2,11 @@
 
 ghost use Rattle.std.specs.Prelude.{◌≡◌, ◌≤◌, length, option_map};
 ghost use Rattle.std.specs.List.{prefix_len};
-ghost use Rattle.adj_text.specs.Char.{is_blank, is_digit};
+ghost use Rattle.adj_text.specs.Char.{is_blank};
 ghost use Rattle.adj_text.specs.Line.{begins_in_either_case, is_directive, behind_blanks, behind_name, snapshots_of, operand_of};
 
 use crate::line::{are_blank, behind, number};
+use crate::scan::number_len;
 
 // Whether a line begins with a word of capitals, in either case.
 fn begins_in_either_case(line: &[u8], word: &[u8]) -> bool
@@ -31,13 +32,6 @@ fn blanks(text: &[u8]) -> usize
     ensures within { result ≤ length text.now }
 {
     text.iter().take_while(|c| **c == b' ').count()
-}
-
-fn digits(text: &[u8]) -> usize
-    ensures value { result ≡ prefix_len is_digit text.now }
-    ensures within { result ≤ length text.now }
-{
-    text.iter().take_while(|c| c.is_ascii_digit()).count()
 }
 
 // What stands behind blanks, of which there is one at least.
@@ -67,7 +61,7 @@ fn behind_name(text: &[u8]) -> Option<&[u8]>
 fn snapshots_of(text: &[u8]) -> Option<u32>
     ensures { result ≡ snapshots_of text.now }
 {
-    let count = digits(text);
+    let count = number_len(text);
     if !(1..=2).contains(&count) || !are_blank(behind(text, count)) {
         return None;
     }

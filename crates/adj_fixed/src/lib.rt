@@ -16,3 +16,6 @@ mod statement;
 pub use adj_text::{Kind, Mode, Stated, Token, TokenKind, Tokens};
 pub use data::data_part;
 pub use statement::statements;
+
+#[cfg(test)]
+mod tests;
