@@ -1,8 +1,8 @@
 //! Statements with their classes and tokens.
 
-ghost use Rattle.std.specs.Prelude.{◌≡◌, ◌+◌, ◌-◌, ◌≤◌, Some, length, All, IfOk, IfSome, option_map};
+ghost use Rattle.std.specs.Prelude.{◌≡◌, ◌+◌, ◌-◌, ◌≤◌, Ok, Some, length, All, IfOk, IfSome, option_map};
 ghost use Rattle.std.specs.List.{list_any};
-ghost use Rattle.adj_text.specs.Limits.{limits_of};
+ghost use Rattle.adj_text.specs.Limits.{no_limits, limits_of};
 ghost use Rattle.adj_text.specs.Refused.{Gives};
 ghost use Rattle.adj_text.specs.Stated.{keyword_len, ending_len, call_place, tokens_of, is_too_long, stated, all_stated, statements_of, IsCovered};
 ghost use Rattle.adj_fixed.specs.View.{lines_of, all_lines};
@@ -143,9 +143,10 @@ fn all_stated(alloc: Global, mode: Mode, lines: Vec<Lined>) -> Result<Vec<Stated
 }
 
 /// The statements of a text before `$DATA`, in order, or its first fault: of all its lines first (codes 1, 2, 20 and
-/// 21), then of its statements (codes 3, 4 and 6).
+/// 21), then of its statements (codes 3, 4 and 6). docs/LANGUAGE.md and docs/REFUSALS.md say both in words.
 pub fn statements(alloc: Global, bytes: &[u8], mode: Mode) -> Result<Vec<Stated>, Fault>
     ensures exact { Gives (λ v. v.items) result (statements_of (limits_of mode) bytes.now) }
+    ensures unlimited { IfOk result (λ v. statements_of no_limits bytes.now ≡ Ok v.items) }
     ensures covered { IfOk result (λ v. All IsCovered v.items) }
 {
     all_stated(alloc, mode, lines_of(alloc, mode, bytes)?)

@@ -5,3 +5,4 @@ pub mod Scanning
 pub mod Parentheses
 pub mod Dating
 pub mod Covering
+pub mod Unlimited
