@@ -1,5 +1,5 @@
 -- Numbers that a few digits write.
-use Rattle.std.proofs.Common.{◌≡◌, ℕ, ◌+◌, ◌*◌, ◌<◌, ◌≤◌}
+use Rattle.std.proofs.Common.{ℕ, ◌≤◌}
 
 -- a number of so many digits at most, for up to four
 pub record IsShort (number digits : ℕ) : Type 0 where

@@ -1,5 +1,5 @@
 -- A pass over lines: one line more, and the end.
-use Rattle.std.proofs.Common.{◌≡◌, ℕ, List, [], ◌∷◌, Bool, true, false, cond, Result, Ok, Err, sym, ap, ◌∙◌, length}
+use Rattle.std.proofs.Common.{◌≡◌, ℕ, List, ◌∷◌, Bool, true, false, cond, Result, Ok, sym, ap, ◌∙◌, length}
 use Rattle.std.proofs.lemmas.List.{nil_from_length}
 use Rattle.adj_tree.specs.declared.fault.Refusal.{Refusal}
 use Rattle.adj_tree.specs.declared.fault.Fault.{Fault}

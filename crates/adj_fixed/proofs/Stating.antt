@@ -5,7 +5,6 @@ use Rattle.adj_tree.specs.declared.fault.Refusal.{Refusal}
 use Rattle.adj_tree.specs.declared.fault.Fault.{Fault}
 use Rattle.adj_tree.specs.declared.fault.Fault.TheVariants.{Memory, Refused}
 use Rattle.adj_text.specs.Limits.{Limits}
-use Rattle.adj_text.specs.Lined.{Lines}
 use Rattle.adj_text.specs.Refused.{◌>>=◌, Fails}
 use Rattle.adj_text.specs.Stated.{stated, all_stated}
 use Rattle.adj_text.specs.declared.stated.Stated.{Stated}

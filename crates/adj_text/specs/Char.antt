@@ -42,8 +42,14 @@ nought = 48
 abbrev pub equals : ℕ
 equals = 61
 
+abbrev pub capital_c : ℕ
+capital_c = 67
+
 abbrev pub underscore : ℕ
 underscore = 95
+
+abbrev pub small_c : ℕ
+small_c = 99
 
 abbrev pub is_between : ℕ → ℕ → ℕ → Bool
 is_between low high c = nat_le low c && nat_le c high

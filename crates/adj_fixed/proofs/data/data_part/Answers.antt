@@ -1,7 +1,7 @@
-use Rattle.std.proofs.Common.{◌≡◌, ◌∙◌, ◌+◌, ◌-◌, length, min, sym, ap, arith}
+use Rattle.std.proofs.Common.{◌≡◌, ◌∙◌, ◌-◌, length, min, sym, ap, arith}
 use Rattle.std.proofs.lemmas.Bool.{eqb-true}
-use Rattle.adj_text.specs.Data.{text_len, data_line, data_of}
-use Rattle.adj_text.specs.Line.{cut_lines, is_data, next_number, without_cr}
+use Rattle.adj_text.specs.Data.{text_len, data_line}
+use Rattle.adj_text.specs.Line.{cut_lines, is_data}
 use Rattle.adj_text.proofs.Dating.{begins_here, begins_later, number_here, number_later, number_ends}
 use Rattle.adj_fixed.proofs.data.data_part.Goals as goal
 
@@ -26,7 +26,7 @@ loop-rest-preserved c =
 
 pub returns : goal.returns
 returns c =
-    let none = eqb-true _ _ (sym c.loop-rest-test.ensures) in
+    let none = eqb-true (length c.loop-rest.rest.now) 0 (sym c.loop-rest-test.ensures) in
     let place : length c.args.bytes.now ≡ min (text_len (cut_lines c.args.bytes.now)) (length c.args.bytes.now) = omega (arith, none, c.loop-rest.invariant.1, c.loop-rest.invariant.2) in
-    let number = sym (number_ends c.loop-rest.number _ none) ∙ c.loop-rest.invariant.0 in
+    let number = sym (number_ends c.loop-rest.number c.loop-rest.rest.now none) ∙ c.loop-rest.invariant.0 in
     cc
