@@ -1,0 +1,7 @@
+pub mod Binomial
+pub mod LeastCost
+pub mod Split
+pub mod Machine
+pub mod Playing
+pub mod Schedule
+pub mod Frames
