@@ -1,6 +1,6 @@
 //! Statements with their classes and tokens.
 
-ghost use Rattle.std.specs.Prelude.{◌≡◌, ◌+◌, ◌-◌, ◌≤◌, Ok, Some, length, All, IfOk, IfSome, option_map};
+ghost use Rattle.std.specs.Prelude.{◌≡◌, ◌+◌, ◌≤◌, Ok, Some, length, All, IfOk, IfSome, option_map};
 ghost use Rattle.std.specs.List.{list_any};
 ghost use Rattle.adj_text.specs.Limits.{no_limits, limits_of};
 ghost use Rattle.adj_text.specs.Refused.{Gives};
@@ -11,7 +11,7 @@ use crate::class::{class_of, condition_end, inner, is_matched, kind_of, width_of
 use crate::lined::{Lined, lines_of, refused};
 use crate::scan::tokens;
 use adj_text::{Kind, Mode, Stated, Token, TokenKind, Tokens};
-use adj_tree::{Bytes, Fault, Items};
+use adj_tree::{Bytes, Fault};
 use std::alloc::{AllocError, Global};
 
 // How many characters a name may have.
