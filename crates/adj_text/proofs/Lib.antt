@@ -22,3 +22,11 @@ pub mod Sayings
 pub mod ReadsBack
 pub mod Opened
 pub mod PlainSays
+pub mod Cutting
+pub mod Beginning
+pub mod Fitting
+pub mod Scanning
+pub mod Parentheses
+pub mod Dating
+pub mod Covering
+pub mod Unlimited

@@ -1,5 +1,6 @@
 -- Characters, as their ASCII codes.
-use Rattle.std.specs.Prelude.{ℕ, ◌-◌, Bool, ◌==◌, nat_le, not, ◌&&◌, ◌||◌, List, map, filter, fold, ◌+◌, ◌*◌, if◌then◌else◌}
+use Rattle.std.specs.Prelude.{ℕ, ◌-◌, Bool, ◌==◌, nat_le, not, ◌&&◌, ◌||◌, List, map, filter, fold, ◌+◌, ◌*◌}
+use Rattle.std.specs.Char.{to_ascii_uppercase}
 use Rattle.std.specs.List.{list_all}
 
 abbrev pub line_feed : ℕ
@@ -41,8 +42,14 @@ nought = 48
 abbrev pub equals : ℕ
 equals = 61
 
+abbrev pub capital_c : ℕ
+capital_c = 67
+
 abbrev pub underscore : ℕ
 underscore = 95
+
+abbrev pub small_c : ℕ
+small_c = 99
 
 abbrev pub is_between : ℕ → ℕ → ℕ → Bool
 is_between low high c = nat_le low c && nat_le c high
@@ -73,7 +80,7 @@ is_allowed c = is_capital c || is_small c || is_digit c || c == blank || c == eq
 
 -- a small letter as its capital
 abbrev pub upper : ℕ → ℕ
-upper c = if is_small c then c - 32 else c
+upper c = to_ascii_uppercase c
 
 abbrev pub without_blanks : List ℕ → List ℕ
 without_blanks cs = filter (λ c. not (is_blank c)) cs
@@ -81,6 +88,9 @@ without_blanks cs = filter (λ c. not (is_blank c)) cs
 -- without blanks, in capitals
 abbrev pub folded : List ℕ → List ℕ
 folded cs = map upper (without_blanks cs)
+
+abbrev pub digits_of : List ℕ → List ℕ
+digits_of cs = filter is_digit cs
 
 -- the number that digits write
 abbrev pub number_of : List ℕ → ℕ

@@ -54,6 +54,10 @@ inner text = drop (unwrap_or (condition_end text) (length text)) text
 abbrev pub is_if : List ℕ → Bool
 is_if text = begins_with text (codes "IF(") && begins_with_letter (inner text)
 
+-- the class of an IF
+abbrev pub if_kind : List ℕ → Kind
+if_kind text = if bytes_eq (inner text) (codes "THEN") then BlockIf else LogicalIf
+
 -- the statements that are one word
 abbrev pub whole : List ℕ → Option Kind
 whole text =
@@ -74,12 +78,16 @@ width_of text = if begins_with (drop 7 text) (star ∷ []) then take_while is_di
 abbrev pub is_eight : List ℕ → Bool
 is_eight ds = bytes_eq (drop (prefix_len (λ d. d == nought) ds) ds) (codes "8")
 
+-- whether a text that begins with INTEGER declares integers of 8 bytes, or of no width that is said
+abbrev pub is_integer : List ℕ → Bool
+is_integer text = length (width_of text) == 0 || is_eight (width_of text)
+
 -- the statements that begin with their word
 abbrev pub begun : List ℕ → Option Kind
 begun text =
     if begins_with text (codes "ELSEIF(") && ends_with nat_eq text (codes ")THEN") then Some ElseIf
     else (if begins_with text (codes "SUBROUTINE") then Some Subroutine
-    else (if begins_with text (codes "INTEGER") then (if length (width_of text) == 0 || is_eight (width_of text) then Some Integer else None)
+    else (if begins_with text (codes "INTEGER") then (if is_integer text then Some Integer else None)
     else (if begins_with text (codes "CALL") then Some Call
     else None)))
 
@@ -87,7 +95,7 @@ begun text =
 unfoldable pub kind_of : List ℕ → Option Kind
 kind_of text =
     if is_do text then Some Do
-    else (if is_if text then Some (if bytes_eq (inner text) (codes "THEN") then BlockIf else LogicalIf)
+    else (if is_if text then Some (if_kind text)
     else (if has_open equals 0 text then Some Assign
     else option_or (whole text) (begun text)))
 

@@ -1,7 +1,7 @@
 -- Lines of a text (ANSI X3.9-1978, 3.2), and what they are.
 use Rattle.std.specs.Prelude.{ℕ, ◌+◌, ◌-◌, ◌^◌, min, Bool, true, false, ◌==◌, nat_lt, not, ◌&&◌, ◌||◌, List, [], ◌∷◌, length, take, drop, take_while, codes, slice_index, slice_index_or, Option, Some, None, option_and_then, if◌then◌else◌}
 use Rattle.std.specs.List.{list_all, prefix_len}
-use Rattle.adj_text.specs.Char.{line_feed, carriage_return, blank, star, nought, is_between, is_digit, is_blank, are_blank, without_blanks, upper, number_of}
+use Rattle.adj_text.specs.Char.{capital_c, small_c, line_feed, carriage_return, blank, star, nought, is_between, is_digit, is_blank, are_blank, digits_of, upper, number_of}
 use Rattle.adj_text.specs.Token.{begins_with}
 
 -- lines, the first with one more character in front
@@ -40,7 +40,7 @@ abbrev pub is_directive : List ℕ → Bool
 is_directive l = begins_in_either_case (codes "C$AD") l
 
 abbrev pub is_comment : List ℕ → Bool
-is_comment l = column l 1 == 67 || column l 1 == 99 || column l 1 == star || are_blank (take 72 l)
+is_comment l = column l 1 == capital_c || column l 1 == small_c || column l 1 == star || are_blank (take 72 l)
 
 abbrev pub is_continuation : List ℕ → Bool
 is_continuation l = are_blank (take 5 l) && not (column l 6 == blank) && not (column l 6 == nought)
@@ -49,14 +49,17 @@ is_continuation l = are_blank (take 5 l) && not (column l 6 == blank) && not (co
 abbrev pub body : List ℕ → List ℕ
 body l = take 66 (drop 6 l)
 
--- the label that some characters without blanks write, 0 where there are none; none where they write no label
+-- the label that columns hold: 0 where they are blank, else that of their digits, which aren't all zero;
+-- none where something else stands there
 abbrev pub label : List ℕ → Option ℕ
-label [] = Some 0
-label (d ∷ ds) = if list_all is_digit (d ∷ ds) && nat_lt 0 (number_of (d ∷ ds)) then Some (number_of (d ∷ ds)) else None
+label cs =
+    if are_blank cs then Some 0
+    else (if list_all (λ c. is_blank c || is_digit c) cs && nat_lt 0 (number_of (digits_of cs)) then Some (number_of (digits_of cs))
+    else None)
 
 -- the label in columns 1 to 5
 abbrev pub label_of : List ℕ → Option ℕ
-label_of l = label (without_blanks (take 5 l))
+label_of l = label (take 5 l)
 
 -- what stands behind blanks, of which there is one at least
 abbrev pub behind_blanks : List ℕ → Option (List ℕ)

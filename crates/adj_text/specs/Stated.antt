@@ -6,7 +6,7 @@ use Rattle.adj_text.specs.Class.{kind_of, class_of, is_matched, condition_end, i
 use Rattle.adj_text.specs.Limits.{Limits}
 use Rattle.adj_text.specs.Lined.{Lines, lines_of}
 use Rattle.adj_text.specs.Refused.{◌>>=◌, refused}
-use Rattle.adj_text.specs.Token.{tokens_from}
+use Rattle.adj_text.specs.Token.{tokens_from, AreJoined}
 use Rattle.adj_text.specs.Word.{part}
 use Rattle.adj_text.specs.declared.stated.Kind.{Kind}
 use Rattle.adj_text.specs.declared.stated.Kind.TheVariants.{Do, BlockIf, LogicalIf, Assign, Continue, Return, End, EndIf, EndDo, Else, ImplicitNone, ElseIf, Subroutine, Integer, Call}
@@ -85,3 +85,7 @@ all_stated limits (s ∷ ss) = stated limits s >>= λ x. all_stated limits ss >>
 -- the statements of a text before `$DATA`, or its first fault: of all its lines first, then of its statements
 abbrev pub statements_of : Limits → List ℕ → Result (List Stated) Refusal
 statements_of limits bytes = lines_of limits bytes >>= all_stated limits
+
+-- the tokens cover the statement behind its keyword, without its final THEN
+abbrev pub IsCovered : Stated → Type 0
+IsCovered s = AreJoined (keyword_len s.kind s.text) (length s.text - ending_len s.kind) s.tokens

@@ -1,5 +1,5 @@
 -- The tokens of a text.
-use Rattle.std.specs.Prelude.{ℕ, zero, suc, ◌+◌, ◌-◌, Bool, false, ◌==◌, List, [], ◌∷◌, codes, nat_eq, Option, Some, None, option_map, option_and_then, if◌then◌else◌}
+use Rattle.std.specs.Prelude.{◌≡◌, ◌<◌, ℕ, zero, suc, ◌+◌, ◌-◌, Bool, false, ◌==◌, List, [], ◌∷◌, codes, nat_eq, Option, Some, None, option_map, option_and_then, if◌then◌else◌}
 use Rattle.std.specs.List.{prefix_len, starts_with}
 use Rattle.adj_text.specs.Char.{star, plus, minus, slash, left, right, comma, equals, dot, is_capital, is_digit, is_name_char}
 use Rattle.adj_text.specs.declared.token.Token.{Token}
@@ -36,6 +36,10 @@ mark_of c =
     else (if c == equals then Some Equals
     else None))))))
 
+-- `**` or `*` with its length, where this stands behind the first star
+abbrev pub stars : List ℕ → TokenKind × ℕ
+stars cs = if begins_with cs (star ∷ []) then (Power, 2) else (Star, 1)
+
 -- the kind of the first token of a text, and its length: a name and digits as long as they go, `**` before `*`
 abbrev pub first_token : List ℕ → Option (TokenKind × ℕ)
 first_token [] = None
@@ -43,7 +47,7 @@ first_token (c ∷ cs) =
     if is_capital c then Some (Name, 1 + prefix_len is_name_char cs)
     else (if is_digit c then Some (Number, 1 + prefix_len is_digit cs)
     else (if c == dot then dotted (c ∷ cs)
-    else (if c == star then Some (if begins_with cs (star ∷ []) then (Power, 2) else (Star, 1))
+    else (if c == star then Some (stars cs)
     else option_map (λ k. (k, 1)) (mark_of c))))
 
 -- whether a place is the one
@@ -64,3 +68,8 @@ tokens_from call skip here [] = Some []
 tokens_from call (suc skip) here (c ∷ cs) = tokens_from call skip (here + 1) cs
 tokens_from call zero here (c ∷ cs) =
     option_and_then (λ t. option_map (λ ts. token_at here t ∷ ts) (tokens_from call (t.1 - 1) (here + 1) cs)) (token_here call here (c ∷ cs))
+
+-- the tokens stand side by side from a place to another, each with one character at least
+abbrev pub AreJoined : ℕ → ℕ → List Token → Type 0
+AreJoined from to [] = from ≡ to
+AreJoined from to (t ∷ ts) = (t.start ≡ from) × (from < t.end) × AreJoined t.end to ts
