@@ -21,3 +21,4 @@ pub mod Placed
 pub mod Sayings
 pub mod ReadsBack
 pub mod Opened
+pub mod Called
