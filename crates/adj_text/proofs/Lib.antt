@@ -22,3 +22,4 @@ pub mod Sayings
 pub mod ReadsBack
 pub mod Opened
 pub mod Called
+pub mod WrittenSays
