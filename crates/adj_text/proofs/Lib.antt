@@ -23,3 +23,4 @@ pub mod ReadsBack
 pub mod Opened
 pub mod Called
 pub mod WrittenSays
+pub mod PlainSays
