@@ -24,12 +24,7 @@ pub record SaysChars (mark : ℕ) (chars : List ℕ) (f : Form) : Type 0 where
   pub are : chars ≡ first ∷ others
   pub some : is_blank first ≡ false
   pub allowed : AreAllowed (first ∷ others)
-  pub kind : Kind
-  pub keyword : List ℕ
-  pub words : List Word
-  pub text : folded chars ≡ text_of keyword words
-  pub is_statement : IsStatement kind keyword words
-  pub form : ReadsForm mark kind words f
+  pub says : (s : Lines) → s.text ≡ folded chars → s.mark ≡ mark → Says s f
 
 -- a text of printed statements that say these forms
 pub data Printed : List ℕ → List Form → Type 0 where
@@ -44,9 +39,6 @@ pub data AreAt : List Statement → List Form → Type 0 where
 -- the statement that begins at line n behind what a pass has
 abbrev begun : Pass → ℕ → List ℕ → Lines
 begun p n text = record { line = n; label = 0; mark = (mark_of p.pending).snapshots; mark_line = (mark_of p.pending).line; text = text; room = None }
-
-begun_says : (p : Pass) (n : ℕ) (chars : List ℕ) (f : Form) → SaysChars (mark_of p.pending).snapshots chars f → Says (begun p n (folded chars)) f
-begun_says p n chars f h = record { kind = h.kind; keyword = h.keyword; words = h.words; text = h.text; is_statement = h.is_statement; form = h.form }
 
 over_statement : (p : Pass) (n mark : ℕ) (chars cs : List ℕ) (f : Form) → SaysChars mark chars f → (m : ℕ) × (pass_over no_limits p n (cut_lines (statement chars ++ cs)) ≡ pass_over no_limits (going p n (folded chars)) m (cut_lines cs))
 over_statement p n mark chars cs f h =
@@ -82,7 +74,7 @@ read_on (more {chars = chars} {cs = cs} {f = f} {fs = fs} s rest) p n h =
     record {
       lines = begun p n text ∷ r.lines;
       statements = at n 0 f ∷ r.statements;
-      say = said.AllSay.more (begun_says p n chars f here) r.say;
+      say = said.AllSay.more (here.says (begun p n text) refl refl) r.say;
       at_forms = more r.at_forms;
       passed = over.1 ∙ r.passed ∙ ap Ok (append_assoc (flushed p) (begun p n text ∷ []) r.lines);
     }
