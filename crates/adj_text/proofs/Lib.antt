@@ -24,3 +24,4 @@ pub mod Opened
 pub mod Called
 pub mod WrittenSays
 pub mod PlainSays
+pub mod WrittenSays
