@@ -25,3 +25,4 @@ pub mod Called
 pub mod WrittenSays
 pub mod PlainSays
 pub mod WrittenSays
+pub mod Directives

@@ -1,16 +1,17 @@
 -- Printed: statements that are printed one after another are read one after another.
-use Rattle.std.proofs.Common.{◌≡◌, ℕ, ◌+◌, Bool, false, List, [], ◌∷◌, ◌++◌, Option, None, Some, Ok, refl, sym, ap, subst, ◌∙◌, append_assoc, append-nil}
+use Rattle.std.proofs.Common.{◌≡◌, ℕ, ◌<◌, ◌≤◌, Bool, false, List, [], ◌∷◌, ◌++◌, Option, None, Some, Ok, refl, sym, ap, subst, ◌∙◌, append_assoc, append-nil}
 use Rattle.adj_tree.specs.Code.{Procedure}
 use Rattle.adj_text.specs.declared.stated.Kind.{Kind}
 use Rattle.adj_text.specs.Char.{is_blank, folded}
 use Rattle.adj_text.specs.Form.{Form, Statement, at, ReadsForm}
 use Rattle.adj_text.specs.Limits.{no_limits}
-use Rattle.adj_text.specs.Line.{cut_lines}
+use Rattle.adj_text.specs.Line.{cut_lines, next_number}
 use Rattle.adj_text.specs.Lined.{Lines, Pass, flushed, mark_of, start, pass_over, lines_of}
 use Rattle.adj_text.specs.Reads.{Reads}
-use Rattle.adj_text.specs.Text.{statement}
+use Rattle.adj_text.specs.Text.{directive, statement}
 use Rattle.adj_text.specs.Unit.{ReadsUnits}
 use Rattle.adj_text.specs.Word.{Word}
+use Rattle.adj_text.proofs.Directives.{behind, over_directive}
 use Rattle.adj_text.proofs.Joins.{AreAllowed, going}
 use Rattle.adj_text.proofs.Laying.{joins}
 use Rattle.adj_text.proofs.Said as said
@@ -30,6 +31,7 @@ pub record SaysChars (mark : ℕ) (chars : List ℕ) (f : Form) : Type 0 where
 pub data Printed : List ℕ → List Form → Type 0 where
   none : Printed [] []
   more : {chars cs : List ℕ} {f : Form} {fs : List Form} → SaysChars 0 chars f → Printed cs fs → Printed (statement chars ++ cs) (f ∷ fs)
+  marked : {chars cs : List ℕ} {f : Form} {fs : List Form} {n : ℕ} → 0 < n → n ≤ 64 → SaysChars n chars f → Printed cs fs → Printed (directive n ++ (statement chars ++ cs)) (f ∷ fs)
 
 -- statements without labels that say these forms, at whatever lines
 pub data AreAt : List Statement → List Form → Type 0 where
@@ -77,6 +79,21 @@ read_on (more {chars = chars} {cs = cs} {f = f} {fs = fs} s rest) p n h =
       say = said.AllSay.more (here.says (begun p n text) refl refl) r.say;
       at_forms = more r.at_forms;
       passed = over.1 ∙ r.passed ∙ ap Ok (append_assoc (flushed p) (begun p n text ∷ []) r.lines);
+    }
+
+read_on (marked {chars = chars} {cs = cs} {f = f} {fs = fs} {n = count} some le s rest) p n h =
+    let text = folded chars in
+    let q = behind p n count in
+    let m = next_number n in
+    let over = over_statement q m count chars cs f s in
+    let r = read_on rest (going q m text) over.0 refl in
+    let gathered : (flushed q ++ begun q m text ∷ []) ++ r.lines ≡ flushed p ++ begun q m text ∷ r.lines = append_assoc (flushed q) (begun q m text ∷ []) r.lines ∙ ap (λ ls. ls ++ begun q m text ∷ r.lines) (append-nil (flushed p)) in
+    record {
+      lines = begun q m text ∷ r.lines;
+      statements = at m 0 f ∷ r.statements;
+      say = said.AllSay.more (s.says (begun q m text) refl refl) r.say;
+      at_forms = more r.at_forms;
+      passed = over_directive p n count (statement chars ++ cs) h some le ∙ over.1 ∙ r.passed ∙ ap Ok gathered;
     }
 
 -- what is printed reads as the units of its statements, at whatever lines these stand
