@@ -25,4 +25,5 @@ pub mod Called
 pub mod WrittenSays
 pub mod PlainSays
 pub mod WrittenSays
+pub mod BranchSays
 pub mod Directives
