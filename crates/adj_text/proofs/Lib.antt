@@ -23,7 +23,6 @@ pub mod ReadsBack
 pub mod Opened
 pub mod Called
 pub mod WrittenSays
-pub mod PlainSays
-pub mod WrittenSays
 pub mod BranchSays
 pub mod Directives
+pub mod WrittenBack
