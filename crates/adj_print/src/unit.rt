@@ -4,6 +4,8 @@ ghost use Rattle.std.specs.Prelude.{◌≡◌, ◌++◌, codes, IfOk, OnOk};
 ghost use Rattle.std.specs.List.{flat_map};
 ghost use Rattle.std.specs.Prelude.{map};
 ghost use Rattle.adj_tree.specs.View.{declaration_of, procedure_of, procedures_of};
+ghost use Rattle.adj_text.specs.ReadsAs.{ReadsAs};
+ghost use Rattle.adj_text.specs.Written.{IsWritten};
 ghost use Rattle.adj_text.specs.Text.{statement, bracketed, declaration_text, implicit_text, procedure_text, text_of};
 
 use crate::layout::push_statement;
@@ -65,8 +67,7 @@ fn push_unit(alloc: Global, out: &mut Vec<u8>, unit: &Unit) -> Result<(), Memory
     push_statement(out, b"END")
 }
 
-/// The canonical text of a program.
-pub fn text(alloc: Global, p: &Program) -> Result<Vec<u8>, Memory>
+fn all_lines(alloc: Global, p: &Program) -> Result<Vec<u8>, Memory>
     ensures text { IfOk result (λ v. v.items ≡ text_of (procedures_of p.now)) }
 {
     let mut out = Vec::new(alloc);
@@ -74,4 +75,13 @@ pub fn text(alloc: Global, p: &Program) -> Result<Vec<u8>, Memory>
         push_unit(alloc, &mut out, unit)?;
     }
     Ok(out)
+}
+
+/// The canonical text of a program, whether or not it is written. Where it is, the text reads as the program, up to line numbers.
+pub fn text(alloc: Global, p: &Program) -> Result<Vec<u8>, Memory>
+    ensures text { IfOk result (λ v. v.items ≡ text_of (procedures_of p.now)) }
+    ensures reads { IsWritten (procedures_of p.now) → IfOk result (λ v. ReadsAs v.items (procedures_of p.now)) }
+{
+    let bytes = all_lines(alloc, p)?;
+    Ok(bytes)
 }

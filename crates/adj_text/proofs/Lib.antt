@@ -30,3 +30,8 @@ pub mod Parentheses
 pub mod Dating
 pub mod Covering
 pub mod Unlimited
+pub mod Called
+pub mod WrittenSays
+pub mod BranchSays
+pub mod Directives
+pub mod WrittenBack

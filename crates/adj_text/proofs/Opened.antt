@@ -72,7 +72,7 @@ step_words false c rest = Mark Comma ∷ term_words c rest
 abbrev pub do_words : Var → Term → Term → Term → List Word
 do_words x a b c = Named (var_text x) ∷ Mark Equals ∷ term_words a (Mark Comma ∷ term_words b (step_words (is_one c) c []))
 
-abbrev step_chars : Bool → Term → List ℕ
+abbrev pub step_chars : Bool → Term → List ℕ
 step_chars true c = []
 step_chars false c = comma ∷ term_text c
 
@@ -89,10 +89,10 @@ step_matched true c h = matches-nothing
 step_matched false c h = matches-comma (term_text c) ∙ ap (is_matched 0) (sym (append-nil (term_text c))) ∙ (term_balanced c h).matches [] ∙ matches-nothing
 
 -- the characters of a DO behind the keyword
-abbrev do_chars : Var → Term → Term → Bool → Term → List ℕ
+abbrev pub do_chars : Var → Term → Term → Bool → Term → List ℕ
 do_chars x a b l c = var_text x ++ 61 ∷ (term_text a ++ 44 ∷ (term_text b ++ step_chars l c))
 
-do_spelled : (x : Var) (a b c : Term) → IsWrittenTerm a → IsWrittenTerm b → IsWrittenTerm c → flat_map spelling (do_words x a b c) ≡ do_chars x a b (is_one c) c
+pub do_spelled : (x : Var) (a b c : Term) → IsWrittenTerm a → IsWrittenTerm b → IsWrittenTerm c → flat_map spelling (do_words x a b c) ≡ do_chars x a b (is_one c) c
 do_spelled x a b c h g k =
     ap (λ xs. var_text x ++ 61 ∷ xs) (term_spelled a h (Mark Comma ∷ term_words b (step_words (is_one c) c []))
     ∙ ap (λ xs. term_text a ++ 44 ∷ xs) (term_spelled b g (step_words (is_one c) c []) ∙ ap (λ xs. term_text b ++ xs) (step_spelled (is_one c) c k)))

@@ -92,7 +92,7 @@ no_digits [] xs h = absurd (cc (h.0))
 no_digits (c ∷ cs) [] h = take_while-cons is_digit c (cs ++ []) ∙ rw (capital_is_no_digit c (both_true (is_capital c) (list_all is_name_char cs) h.0).0) refl
 no_digits (c ∷ cs) (y ∷ ys) h = take_while-cons is_digit c (cs ++ flat_map spelling (Mark Comma ∷ name_words (y ∷ ys) [])) ∙ rw (capital_is_no_digit c (both_true (is_capital c) (list_all is_name_char cs) h.0).0) refl
 
-eight_wide : (rest : List ℕ) → take_while is_digit rest ≡ [] → width_of (codes "INTEGER*8" ++ rest) ≡ codes "8"
+pub eight_wide : (rest : List ℕ) → take_while is_digit rest ≡ [] → width_of (codes "INTEGER*8" ++ rest) ≡ codes "8"
 eight_wide rest d = take_while-cons is_digit 56 rest ∙ ap (λ ds. 56 ∷ ds) d
 
 integer_classed : (rest : List ℕ) → Lacks equals rest → take_while is_digit rest ≡ [] → class_of (codes "INTEGER*8" ++ rest) ≡ Some classes.Integer

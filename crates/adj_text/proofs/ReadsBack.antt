@@ -1,5 +1,5 @@
 -- ReadsBack: the canonical text of a program reads as it, where the characters of each statement say it.
-use Rattle.std.proofs.Common.{◌≡◌, ℕ, Bool, true, false, List, [], ◌∷◌, ◌++◌, map, None, refl, sym, ap, subst, ◌∙◌, append_assoc, append-nil}
+use Rattle.std.proofs.Common.{◌≡◌, ℕ, zero, suc, ◌≤◌, arith, Bool, true, false, List, [], ◌∷◌, ◌++◌, map, None, refl, sym, ap, subst, ◌∙◌, append_assoc, append-nil}
 use Rattle.std.specs.Prelude.{codes}
 use Rattle.std.specs.List.{flat_map, All}
 use Rattle.adj_tree.specs.Code.{Act, Code, assign, choose, loop, call, runtime, stop, step, Declaration, Procedure}
@@ -20,7 +20,7 @@ abbrev mutual
   pub SaidAct : Act → Type 0
   SaidAct (assign x s e) = SaysChars 0 (place_text x s ++ equals ∷ term_text e) (simple (assign x s e))
   SaidAct (choose c a b) = SaysChars 0 (codes "IF (" ++ test_text c ++ codes ") THEN") (opens_if c) × SaidCode a × SaidCode b
-  SaidAct (loop x a b c body n) = (n ≡ 0) × SaysChars 0 (codes "DO " ++ var_text x ++ equals ∷ term_text a ++ comma ∷ term_text b ++ step_text c) (opens_do None (record { counter = x; from = a; to = b; by = c }) n) × SaidCode body
+  SaidAct (loop x a b c body n) = (n ≤ 64) × SaysChars n (codes "DO " ++ var_text x ++ equals ∷ term_text a ++ comma ∷ term_text b ++ step_text c) (opens_do None (record { counter = x; from = a; to = b; by = c }) n) × SaidCode body
   SaidAct (call x es) = SaysChars 0 (codes "CALL " ++ x ++ bracketed (term_texts es)) (simple (call x es))
   SaidAct (runtime r) = SaysChars 0 (codes "CALL " ++ runtime_name r ++ bracketed (runtime_actuals r)) (simple (runtime r))
 
@@ -73,6 +73,11 @@ printed_else (step n a k) cs fs inner =
     let P : List ℕ → Type 0 = λ zs. Printed (zs ++ behind) (else_forms (step n a k) fs) in
     subst P (sym (append_assoc (statement (codes "ELSE")) (act_text a) (code_text k))) (apart (statement (codes "ELSE")) (act_text a ++ code_text k) behind (printed.Printed.more says_else inner))
 
+-- a statement behind its directive, or without one
+printed_marked : (n : ℕ) (chars cs : List ℕ) {f : Form} {fs : List Form} → n ≤ 64 → SaysChars n chars f → Printed cs fs → Printed ((directive n ++ statement chars) ++ cs) (f ∷ fs)
+printed_marked zero chars cs le h rest = printed.Printed.more h rest
+printed_marked (suc n) chars cs le h rest = apart (directive (suc n)) (statement chars) cs (printed.Printed.marked (omega arith) le h rest)
+
 mutual
   printed_act : (a : Act) {cs : List ℕ} {fs : List Form} → SaidAct a → Printed cs fs → Printed (act_text a ++ cs) (act_forms a fs)
   printed_act (assign x s e) h rest = printed.Printed.more h rest
@@ -85,13 +90,10 @@ mutual
       let inner = printed_code a h.1 other in
       apart (first ++ code_text a ++ else_text b) last cs (apart (first ++ code_text a) (else_text b) (last ++ cs) (apart first (code_text a) (else_text b ++ (last ++ cs)) (printed.Printed.more h.0 inner)))
   printed_act (loop x a b c body n) {cs = cs} {fs = fs} h rest =
-      let chars = codes "DO " ++ var_text x ++ equals ∷ term_text a ++ comma ∷ term_text b ++ step_text c in
-      let first = statement chars in
+      let first = statement (codes "DO " ++ var_text x ++ equals ∷ term_text a ++ comma ∷ term_text b ++ step_text c) in
       let last = statement (codes "END DO") in
       let inner = printed_code body h.2 (printed.Printed.more says_end_do rest) in
-      let P : ℕ → Type 0 = λ n. SaysChars 0 chars (opens_do None (record { counter = x; from = a; to = b; by = c }) n) in
-      let Q : ℕ → Type 0 = λ n. Printed (act_text (loop x a b c body n) ++ cs) (act_forms (loop x a b c body n) fs) in
-      subst Q (sym h.0) (apart (first ++ code_text body) last cs (apart first (code_text body) (last ++ cs) (printed.Printed.more (subst P h.0 h.1) inner)))
+      apart (directive n ++ first ++ code_text body) last cs (apart (directive n ++ first) (code_text body) (last ++ cs) (printed_marked n _ _ h.0 h.1 inner))
 
   printed_code : (k : Code) {cs : List ℕ} {fs : List Form} → SaidCode k → Printed cs fs → Printed (code_text k ++ cs) (code_forms k fs)
   printed_code stop h rest = rest

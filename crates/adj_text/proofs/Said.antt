@@ -17,12 +17,23 @@ use Rattle.adj_text.proofs.Stating.{text_of, IsStatement, statement_of, states, 
 
 -- the lines of a statement that says this form
 pub record Says (s : Lines) (f : Form) : Type 0 where
-  pub kind : Kind
-  pub keyword : List ℕ
-  pub words : List Word
-  pub text : s.text ≡ text_of keyword words
-  pub is_statement : IsStatement kind keyword words
-  pub form : ReadsForm s.mark kind words f
+  pub found : Stated
+  pub is_stated : stated no_limits s ≡ Ok found
+  pub at_line : found.line ≡ s.line
+  pub with_label : found.label ≡ s.label
+  pub form : ReadsForm found.mark found.kind (words_of found.text found.tokens) f
+
+-- lines whose characters are a keyword and words that derive the form
+pub says_statement : (s : Lines) (kind : Kind) (keyword : List ℕ) (ws : List Word) (f : Form) → s.text ≡ text_of keyword ws → IsStatement kind keyword ws → ReadsForm s.mark kind ws f → Says s f
+says_statement s kind keyword ws f e h form =
+    let P : List Word → Type 0 = λ ws. ReadsForm s.mark kind ws f in
+    record {
+      found = statement_of s kind keyword ws;
+      is_stated = states s kind keyword ws e h;
+      at_line = refl;
+      with_label = refl;
+      form = subst P (sym (words_stand s kind keyword ws e h)) form;
+    }
 
 pub data AllSay : List Lines → List Statement → Type 0 where
   none : AllSay [] []
@@ -40,13 +51,11 @@ one_stated s ss x xs h g = rw (h, g) refl
 -- statements that say forms are stated, and their words derive the forms
 all_say : {ls : List Lines} {ts : List Statement} → AllSay ls ts → (ss : List Stated) × (all_stated no_limits ls ≡ Ok ss) × ReadsAll ss ts
 all_say none = ([], none_stated, texts.ReadsAll.none)
-all_say (more {s = s} {ss = ss} {f = f} h rest) =
+all_say (more {s = s} {ss = ss} {f = f} {ts = ts} h rest) =
     let r = all_say rest in
-    let x = statement_of s h.kind h.keyword h.words in
-    let one = states s h.kind h.keyword h.words h.text h.is_statement in
-    let P : List Word → Type 0 = λ ws. ReadsForm s.mark h.kind ws f in
-    let form : ReadsForm x.mark x.kind (words_of x.text x.tokens) f = subst P (sym (words_stand s h.kind h.keyword h.words h.text h.is_statement)) h.form in
-    (x ∷ r.0, one_stated s ss x r.0 one r.1, texts.ReadsAll.more form r.2)
+    let P : ℕ → Type 0 = λ n. ReadsAll (h.found ∷ r.0) (at n h.found.label f ∷ ts) in
+    let Q : ℕ → Type 0 = λ l. ReadsAll (h.found ∷ r.0) (at s.line l f ∷ ts) in
+    (h.found ∷ r.0, one_stated s ss h.found r.0 h.is_stated r.1, subst Q h.with_label (subst P h.at_line (texts.ReadsAll.more h.form r.2)))
 
 pub reads_said : (bytes : List ℕ) (ls : List Lines) (ts : List Statement) (ps : List Procedure) → lines_of no_limits bytes ≡ Ok ls → AllSay ls ts → ReadsUnits ts ps → Reads bytes ps
 reads_said bytes ls ts ps h say units =

@@ -13,6 +13,7 @@ use Rattle.adj_text.specs.Word.{Word, Named, Digits, Mark}
 use Rattle.adj_text.proofs.Classes.{name_chars, number_chars}
 use Rattle.adj_text.proofs.Joins.{AreAllowed, allowed-append, folded-append}
 use Rattle.adj_text.proofs.Printed.{SaysChars}
+use Rattle.adj_text.proofs.Said.{says_statement}
 use Rattle.adj_text.proofs.Scans.{both_true}
 use Rattle.adj_text.proofs.Spelled.{chars_of, spelling, is_name, is_number, IsMark, AreSpaced}
 use Rattle.adj_text.proofs.Stating.{text_of, IsStatement}
@@ -78,12 +79,7 @@ says_words mark kind first lead keyword ws chars f are folds some allowed h form
       are = are;
       some = some;
       allowed = allowed-append (first ∷ lead) (flat_map spelling ws) allowed solid.1;
-      kind = kind;
-      keyword = keyword;
-      words = ws;
-      text = ap folded are ∙ folded-append (first ∷ lead) (flat_map spelling ws) ∙ rw (folds, solid.0) refl;
-      is_statement = h;
-      form = form;
+      says = λ s e m. says_statement s kind keyword ws f (e ∙ ap folded are ∙ folded-append (first ∷ lead) (flat_map spelling ws) ∙ rw (folds, solid.0) refl) h (rw m form);
     }
 
 -- a statement without a keyword: its first word is a name
@@ -98,10 +94,5 @@ says_named mark kind (c ∷ cs) ws chars f are h form =
       are = are;
       some = (name_char_stays c chars_are.0).0;
       allowed = solid.1;
-      kind = kind;
-      keyword = [];
-      words = Named (c ∷ cs) ∷ ws;
-      text = ap folded are ∙ solid.0;
-      is_statement = h;
-      form = form;
+      says = λ s e m. says_statement s kind [] (Named (c ∷ cs) ∷ ws) f (e ∙ ap folded are ∙ solid.0) h (rw m form);
     }

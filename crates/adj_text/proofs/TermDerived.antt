@@ -213,3 +213,13 @@ reads_terms t others rest h =
     let trees : AreTrees (only w.0) (more t) = λ acc. ap (option_map (λ u. more u acc)) w.1 in
     let all = joins_front others (only w.0) (more t) (term_words t (comma_words others rest)) rest h.1 trees (single (w.2 (comma_words others rest))) in
     (count_of all.0, (all.0, all.1, refl, all.2 none ∙ ap (λ es. Some (more t es)) (terms_before-none others)))
+
+-- one subscript, and two
+pub reads_one : (a : Term) (rest : List Word) → IsWrittenTerm a → ReadsTerms (term_words a (Mark Right ∷ rest)) (Mark Right ∷ rest) 1 (more a none)
+reads_one a rest h = let w = as_whole a h in (only w.0, single (w.2 (Mark Right ∷ rest)), refl, ap (option_map (λ t. more t none)) w.1)
+
+pub reads_two : (a b : Term) (rest : List Word) → IsWrittenTerm a → IsWrittenTerm b → ReadsTerms (term_words a (Mark Comma ∷ term_words b (Mark Right ∷ rest))) (Mark Right ∷ rest) 2 (more a (more b none))
+reads_two a b rest h g =
+    let w = as_whole a h in
+    let v = as_whole b g in
+    (beside (only w.0) v.0, another (single (w.2 (Mark Comma ∷ term_words b (Mark Right ∷ rest)))) (v.2 (Mark Right ∷ rest)), refl, ap (option_and_then (λ t. trees_before (only w.0) (more t none))) v.1 ∙ ap (option_map (λ t. more t (more b none))) w.1)

@@ -1,6 +1,6 @@
 //! Small trees, counted and copied.
 
-use crate::{Act, Expr, Items, Memory, Program, RunCall, Stmt};
+use crate::{Expr, Items, Memory, Program};
 use std::alloc::Global;
 use std::test::Fail;
 
@@ -9,14 +9,6 @@ fn power(alloc: Global) -> Result<Expr, Memory> {
     let base = Box::new(alloc, Expr::Lit(2))?;
     let power = Box::new(alloc, Expr::Pow(base, 3))?;
     Ok(Expr::Neg(power))
-}
-
-// CALL ADEND
-fn call() -> Stmt {
-    Stmt {
-        line: 3,
-        act: Act::Run(RunCall::End),
-    }
 }
 
 fn no_units(alloc: Global) -> Program {
@@ -32,14 +24,6 @@ fn an_expression_is_counted_and_copied_with_its_parts(rt: HostRuntime) -> Result
     assert_eq!(rt; e.depth(), 3);
     let copied = e.copy(rt.alloc())?;
     assert_eq!(rt; copied.nodes(), 3);
-    Ok(())
-}
-
-#[test]
-fn a_call_is_copied_with_its_line(rt: HostRuntime) -> Result<(), Fail> {
-    let copied = call().copy(rt.alloc())?;
-    assert_eq!(rt; copied.line, 3);
-    assert_eq!(rt; copied.nodes(), 1);
     Ok(())
 }
 

@@ -1,5 +1,5 @@
 -- Each character is taken off those that are left; behind the last one the line ends.
-use Rattle.std.proofs.Common.{ℕ, List, ◌∙◌, ◌++◌, ap, sym}
+use Rattle.std.proofs.Common.{◌∙◌, ◌++◌, ap, sym}
 use Rattle.std.proofs.lemmas.List.{at_drop_more, at_drop_all}
 use Rattle.adj_text.specs.Text.{laid}
 use Rattle.adj_print.proofs.Laying.{laid-nil}

@@ -1,6 +1,11 @@
--- Each unit is taken off those that are left.
-use Rattle.adj_print.proofs.Units.{unit_more}
+-- What a written program's text is, reads as the program.
+use Rattle.std.proofs.Common.{ℕ, List, sym, subst}
+use Rattle.adj_tree.specs.View.{procedures_of}
+use Rattle.adj_text.specs.ReadsAs.{ReadsAs}
+use Rattle.adj_text.proofs.WrittenBack.{written_reads_back}
 use Rattle.adj_print.proofs.unit.text.Goals as goal
 
-pub loop-unit-preserved : goal.loop-unit-preserved
-loop-unit-preserved c = unit_more _ _ _ _ _ _ c.loop-unit-test.true c.unit-item.is c.in_ok-push_unit.ensures.lines c.loop-unit.invariant
+pub returns-clause-reads : goal.returns-clause-reads
+returns-clause-reads c = λ w.
+    let P : List ℕ → Type 0 = λ bs. ReadsAs bs (procedures_of c.args.p.now) in
+    subst P (sym c.in_ok-bytes.ensures.text) (written_reads_back (procedures_of c.args.p.now) w)
