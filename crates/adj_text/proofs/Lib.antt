@@ -21,7 +21,6 @@ pub mod Placed
 pub mod Sayings
 pub mod ReadsBack
 pub mod Opened
-pub mod PlainSays
 pub mod Cutting
 pub mod Beginning
 pub mod Fitting

@@ -18,4 +18,3 @@ pub mod Reads
 pub mod Text
 pub mod Written
 pub mod ReadsAs
-pub mod PlainWritten

@@ -6,7 +6,7 @@ use Rattle.adj_tree.specs.Code.{Procedure, name_eq}
 use Rattle.adj_tree.proofs.Names.{name_eq-bytes, name_same}
 use Rattle.adj_transpose.proofs.Variables.{and_true}
 use Rattle.adj_thin.specs.Thin.{Thin, is_fit, kept, thin_of, said, lines_of, program_of, unit_of}
-use Rattle.adj_text.proofs.PlainSays.{plain_reads_back}
+use Rattle.adj_text.proofs.WrittenBack.{written_reads_back}
 use Rattle.adj_thin.proofs.Accepted.{accepted}
 use Rattle.adj_transpose.proofs.Adjoints.{emitted_is_adjoint}
 use Rattle.adj_io.specs.Bytes.{IsAtEnd, extended_by}
@@ -15,7 +15,7 @@ use Rattle.adj_tool.specs.Tool.{IsAnswer, IsHeadline}
 use Rattle.adj_tool.specs.Answer.{Answer, most_bytes, too_long, outside, is_asked, emitted, written, text_answer, adjoint_answer, are_listed}
 use Rattle.adj_tool.specs.Headline.{WritesAdjoint}
 use Rattle.adj_tool.proofs.Straight.{thin_straight}
-use Rattle.adj_tool.proofs.PlainAdjoint.{adjoint_is_plain}
+use Rattle.adj_tool.proofs.WrittenAdjoint.{adjoint_is_written}
 
 -- a text of the profile has names that are well formed and declared
 kept_fits : (t s : Thin) → kept t ≡ Some s → (t ≡ s) × (is_fit s ≡ true)
@@ -54,7 +54,7 @@ adjoins r bytes zero = long (nat_lt most_bytes (length bytes)) refl zero
         named = asked_name r (unit_of t) f;
         adjoint = emitted r (unit_of t);
         text = refl;
-        reads_back = plain_reads_back (emitted r (unit_of t)) (adjoint_is_plain t (thin_fits bytes t e) _ _);
+        reads_back = written_reads_back (emitted r (unit_of t)) (adjoint_is_written t (thin_fits bytes t e) _ _);
         is_adjoint = emitted_is_adjoint (program_of t) 0 _ _ (unit_of t) refl (thin_straight t (thin_fits bytes t e));
       }
     asked t e false f s = cc

@@ -1,15 +1,24 @@
 //! The command `adjoint`.
 
-ghost use Rattle.std.specs.Prelude.{◌≡◌, ◌≤◌, List, length, map, bytes_eq, IfOk};
+ghost use Rattle.std.specs.Prelude.{◌≡◌, ◌≤◌, ◌∷◌, [], List, length, map, bytes_eq, IfOk};
 ghost use Rattle.std.specs.List.{list_all};
-ghost use Rattle.adj_tree.specs.View.{procedure_of, procedures_of};
+ghost use Rattle.adj_tree.specs.Code.{step, stop};
+ghost use Rattle.adj_tree.specs.View.{code_of, procedure_of, procedures_of};
+ghost use Rattle.adj_transpose.specs.Straight.{IsStraightUnit};
+ghost use Rattle.adj_sweep.specs.Table.{assigned};
+ghost use Rattle.adj_tool.specs.Product.{IsThinProgram};
 ghost use Rattle.adj_thin.specs.Thin.{is_in, are_distinct};
-ghost use Rattle.adj_tool.specs.Answer.{adjoint_answer, are_listed, flags_of, is_asked, most_bytes, outside, program_answer, unit_answer};
+ghost use Rattle.adj_tool.specs.Answer.{adjoint_answer, are_listed, flags_of, is_asked, most_bytes, outside, program_answer, written};
 ghost use Rattle.adj_tool.specs.Views.{answer_of, request_of};
 
 use crate::answer::{Answer, Status, refused};
+use crate::product::product_in;
 use crate::task::Request;
-use adj_tree::{Memory, Name, Program, Refusal, Unit};
+use adj_print::text;
+use adj_sweep::head::adjoint as emit;
+use adj_sweep::product::Product;
+use adj_thin::read;
+use adj_tree::{Flags, Head, Memory, Name, Program, Refusal, Unit};
 use std::alloc::Global;
 
 // Whether the names hold this one.
@@ -83,4 +92,67 @@ fn outside(alloc: Global) -> Result<Answer, Memory>
         number: 0,
     };
     refused(alloc, refusal)
+}
+
+// The text of the adjoint of a program of one unit.
+fn written(
+    alloc: Global,
+    request: &Request,
+    program: &Program,
+    unit: &Unit,
+    product: &Product,
+) -> Result<Answer, Memory>
+    requires one { procedures_of program.now ≡ procedure_of unit.now ∷ [] }
+    requires body { code_of unit.now.body ≡ step product.now.line (assigned product.now) stop }
+    requires straight { IsStraightUnit (procedure_of unit.now) }
+    ensures { IfOk result (λ a. answer_of a ≡ written (request_of request.now) (procedure_of unit.now)) }
+{
+    let dummies = unit.dummies.as_slice();
+    let vars = flags_of(alloc, request.vars.as_slice(), dummies)?;
+    let outvars = flags_of(alloc, request.outvars.as_slice(), dummies)?;
+    let head = Head {
+        unit: 0,
+        vars: Flags::new(vars),
+        outvars: Flags::new(outvars),
+    };
+    let emitted = emit(alloc, program, &head, product)?;
+    let text = text(alloc, &emitted)?;
+    Ok(Answer {
+        status: Status::Done,
+        text,
+    })
+}
+
+// The answer for a program of the profile.
+fn answer_program(
+    alloc: Global,
+    request: &Request,
+    program: &Program,
+) -> Result<Answer, Memory>
+    requires { IsThinProgram (procedures_of program.now) }
+    ensures { IfOk result (λ a. answer_of a ≡ program_answer (request_of request.now) (procedures_of program.now)) }
+{
+    let units = program.units.as_slice();
+    if units.len() != 1 {
+        return outside(alloc);
+    }
+    let unit = &units[0];
+    if !is_asked(request, unit) {
+        return outside(alloc);
+    }
+    match product_in(alloc, &unit.body)? {
+        Some(product) => written(alloc, request, program, unit, &product),
+        None => outside(alloc),
+    }
+}
+
+/// The answer to an input within the limit.
+pub(crate) fn adjoint(alloc: Global, request: &Request, bytes: &[u8]) -> Result<Answer, Memory>
+    requires { length bytes.now ≤ most_bytes }
+    ensures { IfOk result (λ a. answer_of a ≡ adjoint_answer (request_of request.now) bytes.now) }
+{
+    match read(alloc, bytes)? {
+        Some(program) => answer_program(alloc, request, &program),
+        None => outside(alloc),
+    }
 }

@@ -3,6 +3,7 @@
 
 mod adjoint;
 mod answer;
+mod product;
 mod schedule;
 mod task;
 #[cfg(test)]

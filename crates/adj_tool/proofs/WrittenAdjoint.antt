@@ -1,4 +1,4 @@
--- The adjoint of a thin program is a written program of scalars, whose text reads back.
+-- The adjoint of a thin program is a written program, whose text reads back.
 use Rattle.std.proofs.Common.{arith, lit≤, ◌≡◌, ◌<◌, ◌≤◌, ◌+◌, ◌/◌, ◌%◌, ℕ, zero, suc, Bool, true, false, List, [], ◌∷◌, ◌++◌, map, length, codes, refl, sym, ap, ap₂, ◌∙◌, subst}
 use Rattle.std.specs.Prelude.{◌==◌, ◌&&◌, ◌||◌, not, nat_lt, if◌then◌else◌}
 use Rattle.std.specs.List.{All, list_all, AllByRecursion}
@@ -9,8 +9,7 @@ use Rattle.adj_tree.proofs.Names.{name_refl, name_same}
 use Rattle.adj_meaning.specs.Append.{◌+++◌}
 use Rattle.adj_meaning.specs.Rename.{rename}
 use Rattle.adj_text.specs.Char.{is_capital, is_digit, is_name_char}
-use Rattle.adj_text.specs.Written.{IsName}
-use Rattle.adj_text.specs.PlainWritten.{IsPlainCode, IsPlainDeclaration, IsPlainProcedure, IsPlainWritten}
+use Rattle.adj_text.specs.Written.{IsName, IsWrittenCode, IsWrittenDeclaration, IsWrittenExtent, IsWrittenProcedure, IsWritten}
 use Rattle.adj_transpose.specs.Fresh.{has_name, digits, digits_before, candidate, first_free, fresh, reserved}
 use Rattle.adj_transpose.specs.Naming.{Named, own, named, unit_names, wanted, name_in, naming, names}
 use Rattle.adj_transpose.specs.Emit.{zeros, adjoint_body}
@@ -193,6 +192,14 @@ declaration_scalar line (d ∷ ds) x = go (name_eq d x) (declaration_scalar line
     go true rest = refl
     go false rest = rest
 
+-- a scalar with a name of a text is a written declaration
+scalar_written : (d : Declaration) → IsName d.name → d.extents ≡ [] → IsWrittenDeclaration d
+scalar_written d h e = record {
+    named = h;
+    few_extents = rw e (lit≤ tt);
+    extents = rw e (All-from_recursion IsWrittenExtent [] tt)
+  }
+
 -- ---- the emitted unit
 
 -- what is needed of a table of names: the variables of a list, their shadows and two work variables have names of a text
@@ -243,18 +250,18 @@ unmarked_among xs (d ∷ ds) (true ∷ marks) h = unmarked_among xs ds marks h.1
 unmarked_among xs (d ∷ ds) (false ∷ marks) h = (h.0, unmarked_among xs ds marks h.1)
 
 module _ (ns : List Named) (xs : List (List ℕ)) (nm : Names ns xs) where
-  -- a row of zeroings before plain code
-  zeros_plain : (line : ℕ) (ys : List (List ℕ)) (c : Code) → AreAmong xs ys → IsPlainCode (rename (naming ns) c) → IsPlainCode (rename (naming ns) (zeros line ys +++ c))
+  -- a row of zeroings before written code
+  zeros_plain : (line : ℕ) (ys : List (List ℕ)) (c : Code) → AreAmong xs ys → IsWrittenCode (rename (naming ns) c) → IsWrittenCode (rename (naming ns) (zeros line ys +++ c))
   zeros_plain line [] c h k = k
   zeros_plain line (y ∷ ys) c h k = ((nm.of_shadow y h.0, lit≤ tt), zeros_plain line ys c h.1 k)
 
-  zeros_last : (line : ℕ) (ys : List (List ℕ)) → AreAmong xs ys → IsPlainCode (rename (naming ns) (zeros line ys))
+  zeros_last : (line : ℕ) (ys : List (List ℕ)) → AreAmong xs ys → IsWrittenCode (rename (naming ns) (zeros line ys))
   zeros_last line [] h = tt
   zeros_last line (y ∷ ys) h = ((nm.of_shadow y h.0, lit≤ tt), zeros_last line ys h.1)
 
   -- the body of the adjoint of one product
   body_plain : (line n : ℕ) (x a b : List ℕ) (outs ins : List (List ℕ)) → has_name x xs ≡ true → has_name a xs ≡ true → has_name b xs ≡ true → AreAmong xs outs → AreAmong xs ins →
-    IsPlainCode (rename (naming ns) (adjoint_body line (step n (assign (plain x) none (bin times (var (plain a)) (var (plain b)))) stop) outs ins))
+    IsWrittenCode (rename (naming ns) (adjoint_body line (step n (assign (plain x) none (bin times (var (plain a)) (var (plain b)))) stop) outs ins))
   body_plain line n x a b outs ins hx ha hb ho hi =
       (nm.of_plain x hx,
       ((nm.of_plain x hx, (nm.of_plain a ha, nm.of_plain b hb)),
@@ -272,16 +279,16 @@ module _ (ns : List Named) (xs : List (List ℕ)) (nm : Names ns xs) where
   with_shadows_names [] h k = tt
   with_shadows_names (y ∷ ys) h k = (h.0, (nm.of_shadow y k.0, with_shadows_names ys h.1 k.1))
 
-  declared_plain : (p : Procedure) (ds : List (List ℕ)) → p.declarations ≡ map scalar ds → (ys : List (List ℕ)) → AllNames ys → AreAmong xs ys → (rest : List Declaration) → AllByRecursion IsPlainDeclaration rest → AllByRecursion IsPlainDeclaration (declared_with_shadows ns p ys ++ rest)
+  declared_plain : (p : Procedure) (ds : List (List ℕ)) → p.declarations ≡ map scalar ds → (ys : List (List ℕ)) → AllNames ys → AreAmong xs ys → (rest : List Declaration) → AllByRecursion IsWrittenDeclaration rest → AllByRecursion IsWrittenDeclaration (declared_with_shadows ns p ys ++ rest)
   declared_plain p ds e [] h k rest l = l
   declared_plain p ds e (y ∷ ys) h k rest l =
-      (record { named = subst (λ z. IsName (declaration p.line z y).name) (sym e) (subst IsName (sym (declaration_name p.line ds y)) h.0); scalar = ap (λ z. (declaration p.line z y).extents) e ∙ declaration_scalar p.line ds y },
-      (record { named = nm.of_shadow y k.0; scalar = ap (λ z. (declaration p.line z y).extents) e ∙ declaration_scalar p.line ds y },
+      (scalar_written _ (subst (λ z. IsName (declaration p.line z y).name) (sym e) (subst IsName (sym (declaration_name p.line ds y)) h.0)) (ap (λ z. (declaration p.line z y).extents) e ∙ declaration_scalar p.line ds y),
+      (scalar_written _ (nm.of_shadow y k.0) (ap (λ z. (declaration p.line z y).extents) e ∙ declaration_scalar p.line ds y),
       declared_plain p ds e ys h.1 k.1 rest l))
 
--- the adjoint of a thin program is plain and written
-pub adjoint_is_plain : (t : Thin) → is_fit t ≡ true → (vars outvars : List Bool) → IsPlainWritten (adjoint_program (program_of t) 0 vars outvars)
-adjoint_is_plain t fit vars outvars =
+-- the adjoint of a thin program is written
+pub adjoint_is_written : (t : Thin) → is_fit t ≡ true → (vars outvars : List Bool) → IsWritten (adjoint_program (program_of t) 0 vars outvars)
+adjoint_is_written t fit vars outvars =
     let parts = and_true _ (is_product t.declared t.product) fit in
     let parts2 = and_true _ (are_declared t.heading.name t.declared) parts.0 in
     let parts3 = and_true (is_unit t.heading.name) (are_dummies t.declared t.heading.dummies) parts2.0 in
@@ -298,10 +305,10 @@ adjoint_is_plain t fit vars outvars =
     let ns = adjoint_names (program_of t) (unit_of t) in
     let in_dummies = among_append xs ls xs (among_itself xs) in
     let in_locals = among_behind xs ls ls (among_itself ls) in
-    All-from_recursion IsPlainProcedure (adjoint_program (program_of t) 0 vars outvars) (record {
+    All-from_recursion IsWrittenProcedure (adjoint_program (program_of t) 0 vars outvars) (record {
       named = fresh_name (t.heading.name ++ codes "_B") (source_names (program_of t)) (longer_name t.heading.name (codes "_B") (unit_is_name t.heading.name parts3.0) refl);
       dummies = All-from_recursion IsName _ (with_shadows_names ns (xs ++ ls) nm xs names_dummies in_dummies);
-      declarations = All-from_recursion IsPlainDeclaration _ (declared_plain ns (xs ++ ls) nm (unit_of t) t.declared refl xs names_dummies in_dummies _ (declared_plain ns (xs ++ ls) nm (unit_of t) t.declared refl ls names_locals in_locals _ (record { named = nm.of_first; scalar = refl }, (record { named = nm.of_second; scalar = refl }, tt))));
+      declarations = All-from_recursion IsWrittenDeclaration _ (declared_plain ns (xs ++ ls) nm (unit_of t) t.declared refl xs names_dummies in_dummies _ (declared_plain ns (xs ++ ls) nm (unit_of t) t.declared refl ls names_locals in_locals _ (scalar_written _ nm.of_first refl, (scalar_written _ nm.of_second refl, tt))));
       body = body_plain ns (xs ++ ls) nm 1 3 t.product.target t.product.left t.product.right (unmarked xs outvars) (unmarked xs vars) (stands t t.product.target product2.0) (stands t t.product.left product2.1) (stands t t.product.right product.1) (unmarked_among _ xs outvars in_dummies) (unmarked_among _ xs vars in_dummies)
     }, tt)
   where
