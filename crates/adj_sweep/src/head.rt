@@ -38,7 +38,14 @@ fn body(
 ) -> Result<Stmts, Memory>
     ensures sweeps { IfOk result (λ c. code_of c ≡ swept n.now unit.now.line product.now (unmarked unit.now.dummies outvars.now) (unmarked unit.now.dummies vars.now)) }
 {
-    let last = zeros(alloc, n, unit.line, unit.dummies.as_slice(), vars, Stmts::Empty)?;
+    let last = zeros(
+        alloc,
+        n,
+        unit.line,
+        unit.dummies.as_slice(),
+        vars,
+        Stmts::Empty,
+    )?;
     let back = backward(alloc, n, product, last)?;
     let middle = zeros(alloc, n, unit.line, unit.dummies.as_slice(), outvars, back)?;
     let code = forward(alloc, product, middle)?;

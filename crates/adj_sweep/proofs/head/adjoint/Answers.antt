@@ -1,7 +1,7 @@
-use Rattle.std.proofs.Common.{◌≡◌, ◌<◌, ◌++◌, ◌∷◌, [], List, map, length, get_or, ap, sym, ◌∙◌, subst}
+use Rattle.std.proofs.Common.{◌≡◌, ◌++◌, ◌∷◌, [], map, get_or, ap, sym, ◌∙◌, subst}
 use Rattle.adj_tree.specs.Code.{Procedure}
 use Rattle.adj_tree.specs.View.{procedure_of, procedures_of}
-use Rattle.adj_transpose.specs.Program.{unit_at, adjoint_unit, adjoint_program}
+use Rattle.adj_transpose.specs.Program.{unit_at, adjoint_unit}
 use Rattle.adj_transpose.specs.Adjoint.{IsAdjoint}
 use Rattle.adj_transpose.proofs.Adjoints.{emitted_is_adjoint}
 use Rattle.adj_sweep.proofs.Heads.{unit_at-get}
