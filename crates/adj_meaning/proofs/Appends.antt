@@ -6,10 +6,12 @@ use Rattle.adj_meaning.specs.Value.{Setting}
 use Rattle.adj_meaning.specs.Scene.{Scene, Outcome, Done, Trapped, More, Full, then_do, counted}
 use Rattle.adj_meaning.specs.Run.{Calls, act, run}
 
+-- lists may be grouped otherwise
 pub append_assoc : (a b c : Code) → (a +++ b) +++ c ≡ a +++ (b +++ c)
 append_assoc stop b c = refl
 append_assoc (step line a rest) b c = ap (step line a) (append_assoc rest b c)
 
+-- nothing comes after
 pub append-stop : (a : Code) → a +++ stop ≡ a
 append-stop stop = refl
 append-stop (step line a rest) = ap (step line a) (append-stop rest)

@@ -9,18 +9,17 @@ use Rattle.adj_meaning.specs.Scene.{Scene, Outcome, Done, More, then_do}
 use Rattle.adj_meaning.specs.Run.{Calls, run}
 use Rattle.adj_meaning.specs.Units.{Slot, Output, calls_of, unit_run, setting_in, input_store, dummy_slots, run_unit}
 use Rattle.adj_meaning.specs.Leads.{Leads}
-use Rattle.adj_meaning.specs.Laws.{DoneWithMore}
+use Rattle.adj_meaning.specs.Laws.{DoneWithMore, LeadsWhereDone}
 use Rattle.adj_meaning.proofs.Verdicts.{Ending, finished, stopped, filled, with_left, Settled, Verdict, goes_on, settled}
 use Rattle.adj_meaning.proofs.Longer.{CallsAlike, run_verdict, unit_verdict, calls_alike}
 
--- what f spends to come to b: with fewer statements there is more to do, with more all others are left, also for g
+-- what f spent to come to b, and g spends: all other statements are left
 pub record Spent {B : Type 0} (f g : ℕ → Outcome B) (b : B) (k k' : ℕ) : Type 0 where
   pub cost : ℕ
   pub is : k ≡ cost + k'
-  pub early : (j : ℕ) → j < cost → f j ≡ More
-  pub same : (j : ℕ) → f (cost + j) ≡ Done b j
   pub later : (j : ℕ) → g (cost + j) ≡ Done b j
 
+-- a run that is done spent what it costs
 pub spent : {B : Type 0} (f g : ℕ → Outcome B) (b : B) (k k' : ℕ) → Verdict f g k → f k ≡ Done b k' → Spent f g b k k'
 spent f g b k k' (goes_on m) h = absurd (let e : More ≡ Done b k' = sym (m k (omega arith)) ∙ h in cc)
 spent f g b k k' (settled s) h = go s.ending refl
@@ -36,8 +35,6 @@ spent f g b k k' (settled s) h = go s.ending refl
         record {
           cost = s.cost;
           is = s.is ∙ ap (λ z. s.cost + z) same_k;
-          early = s.early;
-          same = λ j. s.same j ∙ ap (λ z. with_left z j) is ∙ ap (λ z. Done z j) same_b;
           later = λ j. s.later j ∙ ap (λ z. with_left z j) is ∙ ap (λ z. Done z j) same_b;
         }
     go (stopped t line) is = absurd (let e = came (stopped t line) is in cc)
@@ -46,6 +43,10 @@ spent f g b k k' (settled s) h = go s.ending refl
 -- a list that is done with some number of statements leads from its scene to the other
 pub leads_of_done : {C : Type 0} (q q' : Calls C) → CallsAlike q q' → (n : Setting C) (c : Code) (s s' : Scene C) (k k' : ℕ) → run q n c s k ≡ Done s' k' → Leads q' n c s s'
 leads_of_done q q' alike n c s s' k k' h = let w = spent (run q n c s) (run q' n c s) s' k k' (run_verdict q q' alike n c s k) h in record { cost = w.cost; by = w.later }
+
+-- over the calls of a program
+pub leads_where_done : {C : Type 0} → LeadsWhereDone C
+leads_where_done units depth n c s s' k k' h = leads_of_done (calls_of units depth) (calls_of units depth) (calls_alike units depth depth (omega arith)) n c s s' k k' h
 
 -- it is done alike with more statements and with deeper calls
 pub run_later : {C : Type 0} → DoneWithMore C
@@ -70,6 +71,7 @@ module _ {C : Type 0} (n : Numbers C) (units : List Procedure) (u : Procedure) (
   abbrev output : ℕ → Scene C → ℕ → Outcome (Output C)
   output k s left = Done (record { slots = dummy_slots (setting_in around u start.store) u s.store; tape = s.tape; events = reverse s.events }) (k - left)
 
+  -- the unit comes to the same end with deeper calls
   verdict : (k m : ℕ) → k ≤ m → (j : ℕ) → Verdict (within k) (within m) j
   verdict k m le j = unit_verdict (calls_of units k) (calls_of units m) (calls_alike units k m le) around u u.line start j
 
@@ -81,6 +83,7 @@ module _ {C : Type 0} (n : Numbers C) (units : List Procedure) (u : Procedure) (
   same_output cost rest m (stopped t line) = refl
   same_output cost rest m filled = refl
 
+  -- a run that ends otherwise than for want of statements ends alike with more
   pub ends_alike : (k m : ℕ) → (run_unit n units u input tape room k ≡ More → ⊥) → run_unit n units u input tape room (k + m) ≡ run_unit n units u input tape room k
   ends_alike k m h = go (verdict k (k + m) (omega arith) k)
     where
@@ -94,6 +97,7 @@ module _ {C : Type 0} (n : Numbers C) (units : List Procedure) (u : Procedure) (
           ∙ ap (λ z. then_do (with_left s.ending s.rest) (output z)) (sym s.is)
           ∙ ap (λ z. then_do z (output k)) (sym (ap (within k) s.is ∙ s.same s.rest))
 
+  -- so two such runs end alike
   pub one_end : (k m : ℕ) → (run_unit n units u input tape room k ≡ More → ⊥) → (run_unit n units u input tape room m ≡ More → ⊥) → run_unit n units u input tape room k ≡ run_unit n units u input tape room m
   one_end k m h h' = let e : m + k ≡ k + m = omega arith in sym (ends_alike k m h) ∙ ap (run_unit n units u input tape room) (sym e) ∙ ends_alike m k h'
 
@@ -103,6 +107,7 @@ module _ {C : Type 0} (n : Numbers C) (units : List Procedure) (u : Procedure) (
   used_is k cost le (stopped t line) out used h = absurd cc
   used_is k cost le filled out used h = absurd cc
 
+  -- a run that is done used no more than it had, and has more to do with fewer
   pub more_before : (k : ℕ) (out : Output C) (used : ℕ) → run_unit n units u input tape room k ≡ Done out used → (used ≤ k) × ((j : ℕ) → j < used → run_unit n units u input tape room j ≡ More)
   more_before k out used h = (enough, early)
     where

@@ -1,4 +1,5 @@
-pub mod Examples
+pub mod Booleans
+pub mod Samples
 pub mod Appends
 pub mod Inversions
 pub mod Leadings
@@ -10,3 +11,14 @@ pub mod SeenRuns
 pub mod SeenCalls
 pub mod Renamed
 pub mod Projected
+pub mod LeastSets
+pub mod WriteSets
+pub mod Frames
+pub mod Extensions
+pub mod Results
+pub mod Variables
+pub mod Cells
+pub mod Agreements
+pub mod ReadSets
+pub mod Dependence
+pub mod Tapes

@@ -16,25 +16,31 @@ use Rattle.adj_meaning.proofs.Verdicts.{Verdict, goes_on, done_verdict, trapped_
 -- ---- runtime calls
 
 module _ {C : Type 0} (n : Setting C) where
+  -- a push
   pushed_verdict : (c : C) (s : Scene C) (k : ℕ) → Verdict (pushed n c s) (pushed n c s) k
   pushed_verdict c s k = if_verdict (has_room n.room (length s.tape)) (λ j. Done (record s { tape = c ∷ s.tape }) j) (λ j. Full) _ _ k (done_verdict _ k) (full_verdict k)
 
+  -- some pushes
   pushed_all_verdict : (cs : List C) (s : Scene C) (k : ℕ) → Verdict (pushed_all n cs s) (pushed_all n cs s) k
   pushed_all_verdict [] s k = done_verdict s k
   pushed_all_verdict (c ∷ cs) s k = then_verdict (pushed n c s) (pushed n c s) (pushed_all n cs) (pushed_all n cs) k (pushed_verdict c s k) (λ s1 m. pushed_all_verdict cs s1 m)
 
+  -- a pop
   popped_verdict : (x : Var) (i line : ℕ) (s : Scene C) (k : ℕ) → Verdict (popped x i line s) (popped x i line s) k
   popped_verdict x i line s k =
       top_verdict s.tape line (λ c cs j. Done (record s { store = set s.store x i c; tape = cs }) j) _ k (λ c cs. done_verdict (record s { store = set s.store x i c; tape = cs }) k)
 
+  -- some pops
   popped_all_verdict : (x : Var) (m line : ℕ) (s : Scene C) (k : ℕ) → Verdict (popped_all x m line s) (popped_all x m line s) k
   popped_all_verdict x zero line s k = done_verdict s k
   popped_all_verdict x (suc i) line s k = then_verdict (popped x i line s) (popped x i line s) (popped_all x i line) (popped_all x i line) k (popped_verdict x i line s k) (λ s1 m. popped_all_verdict x i line s1 m)
 
+  -- the end of a reversal
   ended_verdict : (m line : ℕ) (s : Scene C) (k : ℕ) → Verdict (ended n m line s) (ended n m line s) k
   ended_verdict zero line s k = trapped_verdict schedule_trap line k
   ended_verdict (suc m) line s k = done_verdict _ k
 
+  -- any runtime call
   runtime_verdict : (r : Runtime) (line : ℕ) (s : Scene C) (k : ℕ) → Verdict (runtime_act n r line s) (runtime_act n r line s) k
   runtime_verdict (push_word x subs) line s k = value_verdict (target n x subs s.store) line (λ i. pushed n (s.store x i) s) _ k (λ i. pushed_verdict (s.store x i) s k)
   runtime_verdict (pop_word x subs) line s k = value_verdict (target n x subs s.store) line (λ i. popped x i line s) _ k (λ i. popped_verdict x i line s k)
@@ -57,6 +63,7 @@ module _ {C : Type 0} (n : Setting C) where
 
 -- ---- statements
 
+-- the turns of a loop
 turns_verdict : {C : Type 0} (m : ℕ) (f g : Go C) (after : Scene C → Scene C) → ((s : Scene C) (k : ℕ) → Verdict (f s) (g s) k) → (s : Scene C) (k : ℕ) → Verdict (turns m f after s) (turns m g after s) k
 turns_verdict zero f g after h s k = done_verdict s k
 turns_verdict (suc m) f g after h s k =
@@ -69,6 +76,7 @@ pub record CallsAlike {C : Type 0} (q q' : Calls C) : Type 0 where
 
 module _ {C : Type 0} (q q' : Calls C) (alike : CallsAlike q q') where
   mutual
+    -- a statement
     act_verdict : (n : Setting C) (a : Act) (line : ℕ) (s : Scene C) (k : ℕ) → Verdict (act q n a line s) (act q' n a line s) k
     act_verdict n (assign x subs e) line s k =
         value_verdict (value n e s.store) line _ _ k (λ c. value_verdict (target n x subs s.store) line (λ i j. Done (record s { store = set s.store x i c }) j) _ k (λ i. done_verdict _ k))
@@ -101,6 +109,7 @@ module _ {C : Type 0} (q q' : Calls C) (alike : CallsAlike q q') where
       (run_verdict (setting_in n u s.store) u.body (entered n u s) k)
       (λ s1 j. if_verdict (s1.opened == 0) (λ i. Done s1 i) (λ i. Trapped schedule_trap line) _ _ j (done_verdict s1 j) (trapped_verdict schedule_trap line j))
 
+  -- a call of a unit that was looked for
   call_verdict : (n : Setting C) (ws : List Bool) (u : Option Procedure) (args : Terms) (line : ℕ) (s : Scene C) (k : ℕ) → Verdict (call_in q n ws u args line s) (call_in q' n ws u args line s) k
   call_verdict n ws None args line s k = trapped_verdict shape_trap line k
   call_verdict n ws (Some u) args line s k =

@@ -14,6 +14,7 @@ use Rattle.adj_meaning.proofs.SeenRuns.{then_through}
 use Rattle.adj_meaning.proofs.SeenCalls.{own_names, AlikeActuals, entry_seen, setting_seen, unit_seen, calls_carry}
 
 module _ {C D : Type 0} (h : C → D) (n : Numbers C) (m : Numbers D) (p : Projects h n m) where
+  -- a cell of a slot
   nth_seen : (cs : List C) (j : ℕ) → h (nth_cell n cs j) ≡ nth_cell m (map h cs) j
   nth_seen [] j = p.of_word (pos 0)
   nth_seen (c ∷ cs) zero = refl
@@ -43,12 +44,15 @@ module _ {C D : Type 0} (h : C → D) (n : Numbers C) (m : Numbers D) (p : Proje
     abbrev start' : Scene D
     start' = record { store = input_store m u (map (slot_seen h) input); tape = map h tape; opened = 0; events = [] }
 
+    -- the scene at the start
     started : seen_scene (λ x. x) h start ≡ start'
     started = ap (λ (z : Store D). record start' { store = z }) (entry_seen h n m p (λ x. x) u.dummies (map (from_slot n) input) (map (from_slot m) (map (slot_seen h) input)) (slots_alike input))
 
+    -- the setting within the unit
     inside_same : seen_setting (λ x. x) m (setting_in here u start.store) ≡ setting_in there u start'.store
     inside_same = setting_seen h here m p (λ x. x) u start.store ∙ ap (λ (z : Scene D). setting_in there u z.store) started
 
+    -- the run of the unit
     run_projected_at : (k : ℕ) → ending_seen h (run_unit n units u input tape room k) ≡ run_unit m units u (map (slot_seen h) input) (map h tape) room k
     run_projected_at k =
         then_through (seen_scene (λ x. x) h) (output_seen h) (unit_run (calls_of units k) here u u.line start k) (unit_run (calls_of units k) there u u.line start' k) _ _
@@ -65,5 +69,6 @@ run_projected h n m p units u input tape room k = run_projected_at h n m p units
 pub without_tangents : Projects {C = ℤ × ℤ} (λ a. a.0) duals words
 without_tangents = record { of_word = λ z. refl; shown = λ a. refl; negation = λ a. refl; sum = λ a b. refl; difference = λ a b. refl; product = λ a b. refl; raised_to = λ a k. refl }
 
+-- a dual run without its tangents
 pub tangents_forgotten : TangentsForgotten
 tangents_forgotten units u input tape room k = run_projected (λ a. a.0) duals words without_tangents units u input tape room k

@@ -23,9 +23,11 @@ rename-append r (step line a c) d = ap (step line (rename_act r a)) (rename-appe
 same_numbers : {C : Type 0} (n : Numbers C) → Projects (λ z. z) n n
 same_numbers n = record { of_word = λ z. refl; shown = λ a. refl; negation = λ a. refl; sum = λ a b. refl; difference = λ a b. refl; product = λ a b. refl; raised_to = λ a k. refl }
 
+-- a scene seen under other names and over the same numbers
 scene_same : {C : Type 0} (r : Var → Var) (s : Scene C) → seen_scene r (λ z. z) s ≡ pulled_scene r s
 scene_same r s = λ i. record { store = pulled r s.store; tape = map-id s.tape i; opened = s.opened; events = s.events }
 
+-- the same of an outcome
 outcome_same : {C : Type 0} (r : Var → Var) (o : Outcome (Scene C)) → seen_outcome r (λ z. z) o ≡ pulled_outcome r o
 outcome_same r o = λ i. then_do o (λ s k. Done (scene_same r s i) k)
 

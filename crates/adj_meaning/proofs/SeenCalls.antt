@@ -14,6 +14,7 @@ use Rattle.adj_meaning.specs.Written.{find_unit, handed_back}
 use Rattle.adj_meaning.specs.Units.{declared, extent_in, extents_of, shape_of, shape_fits, Place, whole, cell, nowhere, Actual, one_word, actual_of, actuals, put, entry_store, dummies_fit, copied_out, setting_in, entered, unit_run, call_in, calls_of}
 use Rattle.adj_meaning.specs.Rename.{rename_term, rename_terms, rename_test, rename_runtime, rename_act, rename}
 use Rattle.adj_meaning.specs.Seen.{Separates, Projects, seen, seen_setting, seen_scene, seen_outcome}
+use Rattle.adj_meaning.proofs.Results.{AlikeResults, results_then, results_same}
 use Rattle.adj_meaning.proofs.SeenValues.{mapped, map_if, value_seen, values_seen, set_seen, set_all_seen}
 use Rattle.adj_meaning.proofs.SeenRuns.{then_through, if_seen, Carries, run_seen}
 
@@ -65,11 +66,13 @@ mutual
   code_same stop = refl
   code_same (step line a rest) = λ i. step line (act_same a i) (code_same rest i)
 
+-- a variable's own name keeps it apart
 pub own_names : Separates (λ x. x)
 own_names = record { at = λ x y. refl }
 
 -- ---- actuals
 
+-- a place under other names
 abbrev pub moved : (Var → Var) → Place → Place
 moved r (whole x) = whole (r x)
 moved r (cell x i) = cell (r x) i
@@ -81,31 +84,12 @@ pub record AlikeActual {C D : Type 0} (r : Var → Var) (h : C → D) (a : Actua
   pub cells : (λ j. h (a.cells j)) ≡ b.cells
   pub place : a.place ≡ moved r b.place
 
+-- the same of all actuals of a call
 abbrev pub AlikeActuals : {C D : Type 0} → (Var → Var) → (C → D) → List (Actual C) → List (Actual D) → Type 0
 AlikeActuals r h [] [] = Unit {0}
 AlikeActuals r h [] (b ∷ bs) = ⊥
 AlikeActuals r h (a ∷ got) [] = ⊥
 AlikeActuals r h (a ∷ got) (b ∷ bs) = AlikeActual r h a b × AlikeActuals r h got bs
-
--- both are traps of one kind, or values that are alike
-abbrev pub AlikeResults : {A B : Type 0} → (A → B → Type 0) → Result A Trap → Result B Trap → Type 0
-AlikeResults R (Ok a) (Ok b) = R a b
-AlikeResults R (Ok a) (Err t) = ⊥
-AlikeResults R (Err t) (Ok b) = ⊥
-AlikeResults R (Err t) (Err t') = t ≡ t'
-
-then_alike : {A B A' B' : Type 0} (R : A → A' → Type 0) (Q : B → B' → Type 0) (v : Result A Trap) (w : Result A' Trap) (f : A → Result B Trap) (g : A' → Result B' Trap) → AlikeResults R v w → ((a : A) (b : A') → R a b → AlikeResults Q (f a) (g b)) → AlikeResults Q (then_ok v f) (then_ok w g)
-then_alike R Q (Ok a) (Ok b) f g e d = d a b e
-then_alike R Q (Ok a) (Err t) f g e d = absurd e
-then_alike R Q (Err t) (Ok b) f g e d = absurd e
-then_alike R Q (Err t) (Err t') f g e d = e
-
-same_alike : {A B B' : Type 0} (Q : B → B' → Type 0) (v w : Result A Trap) (f : A → Result B Trap) (g : A → Result B' Trap) → v ≡ w → ((a : A) → AlikeResults Q (f a) (g a)) → AlikeResults Q (then_ok v f) (then_ok w g)
-same_alike Q v w f g e d = subst (λ z. AlikeResults Q (then_ok v f) (then_ok z g)) e (go v)
-  where
-    go : (v : Result _ Trap) → AlikeResults Q (then_ok v f) (then_ok v g)
-    go (Ok a) = d a
-    go (Err t) = refl
 
 module _ {C D : Type 0} (r : Var → Var) (sep : Separates r) (h : C → D) (n : Setting C) (m : Numbers D) (p : Projects h n.numbers m) where
   -- a value, which has no place
@@ -116,24 +100,27 @@ module _ {C D : Type 0} (r : Var → Var) (sep : Separates r) (h : C → D) (n :
       go (Ok a) = record { shape = refl; cells = refl; place = refl }
       go (Err t) = refl
 
+  -- the value of an expression
   value_alike : (e : Term) (s : Store C) → AlikeResults (AlikeActual r h) (then_ok (value n (rename_term r e) s) (λ c. Ok (one_word c nowhere))) (then_ok (value (seen_setting r m n) e (seen r h s)) (λ c. Ok (one_word c nowhere)))
   value_alike e s = word_alike (value n (rename_term r e) s) (value (seen_setting r m n) e (seen r h s)) (value_seen r h n m p e s)
 
+  -- an actual
   actual_seen : (e : Term) (s : Store C) → AlikeResults (AlikeActual r h) (actual_of n (rename_term r e) s) (actual_of (seen_setting r m n) e (seen r h s))
   actual_seen (var x) s = record { shape = refl; cells = refl; place = refl }
   actual_seen (elem x subs) s =
-      same_alike (AlikeActual r h) _ _ _ _ (values_seen r h n m p subs s) (λ is. same_alike (AlikeActual r h) (cell_at n (r x) is) (cell_at n (r x) is) (λ i. Ok (one_word (s (r x) i) (cell (r x) i))) (λ i. Ok (one_word (h (s (r x) i)) (cell x i))) refl
-      (λ i. record { shape = refl; cells = refl; place = refl }))
+      results_same (AlikeActual r h) _ _ _ _ (values_seen r h n m p subs s) (λ is w. results_same (AlikeActual r h) (cell_at n (r x) is) (cell_at n (r x) is) (λ i. Ok (one_word (s (r x) i) (cell (r x) i))) (λ i. Ok (one_word (h (s (r x) i)) (cell x i))) refl
+      (λ i w1. record { shape = refl; cells = refl; place = refl }))
   actual_seen (lit z) s = value_alike (lit z) s
   actual_seen (neg a) s = value_alike (neg a) s
   actual_seen (bin op a b) s = value_alike (bin op a b) s
   actual_seen (pow a k) s = value_alike (pow a k) s
   actual_seen (abs a) s = value_alike (abs a) s
 
+  -- all actuals of a call
   actuals_seen : (es : Terms) (s : Store C) → AlikeResults (AlikeActuals r h) (actuals n (rename_terms r es) s) (actuals (seen_setting r m n) es (seen r h s))
   actuals_seen none s = tt
   actuals_seen (more e es) s =
-      then_alike (AlikeActual r h) (AlikeActuals r h) _ _ _ _ (actual_seen e s) (λ a b l. then_alike (AlikeActuals r h) (AlikeActuals r h) _ _ _ _ (actuals_seen es s) (λ got bs ls. (l, ls)))
+      results_then (AlikeActual r h) (AlikeActuals r h) _ _ _ _ (actual_seen e s) (λ a b l. results_then (AlikeActuals r h) (AlikeActuals r h) _ _ _ _ (actuals_seen es s) (λ got bs ls. (l, ls)))
 
   -- the cells at a place become others
   put_seen : (q : Place) (cs : ℕ → C) (s : Store C) → seen r h (put (moved r q) cs s) ≡ put q (λ j. h (cs j)) (seen r h s)
@@ -141,6 +128,7 @@ module _ {C D : Type 0} (r : Var → Var) (sep : Separates r) (h : C → D) (n :
   put_seen (cell x i) cs s = set_seen r sep h s x i (cs 0)
   put_seen nowhere cs s = refl
 
+  -- the dummies that are handed back
   copied_out_seen : (ds : List (List ℕ)) (ws : List Bool) (got : List (Actual C)) (bs : List (Actual D)) (t s : Store C) → AlikeActuals r h got bs → seen r h (copied_out ds ws got t s) ≡ copied_out ds ws bs (seen (λ x. x) h t) (seen r h s)
   copied_out_seen [] ws got bs t s l = refl
   copied_out_seen (d ∷ ds) [] got bs t s l = refl
@@ -155,6 +143,7 @@ module _ {C D : Type 0} (r : Var → Var) (sep : Separates r) (h : C → D) (n :
 -- ---- units
 
 module _ {C D : Type 0} (h : C → D) (n : Numbers C) (m : Numbers D) (p : Projects h n m) where
+  -- the store at a unit's entry
   pub entry_seen : (r : Var → Var) (ds : List (List ℕ)) (got : List (Actual C)) (bs : List (Actual D)) → AlikeActuals r h got bs → seen (λ x. x) h (entry_store n ds got) ≡ entry_store m ds bs
   entry_seen r [] got bs l = λ i x j. p.of_word (pos 0) i
   entry_seen r (d ∷ ds) [] [] l = λ i x j. p.of_word (pos 0) i
@@ -163,13 +152,16 @@ module _ {C D : Type 0} (h : C → D) (n : Numbers C) (m : Numbers D) (p : Proje
   entry_seen r (d ∷ ds) (a ∷ got) (b ∷ bs) l =
       set_all_seen (λ x. x) own_names h (entry_store n ds got) (plain d) a.cells ∙ (λ i. set_all (entry_seen r ds got bs l.1 i) (plain d) (l.0.cells i))
 
+  -- an extent
   extent_seen : (s : Store C) (e : Extent) → extent_in n s e ≡ extent_in m (seen (λ x. x) h s) e
   extent_seen s (fixed z) = refl
   extent_seen s (given x) = sym (p.shown (s (plain x) 0))
 
+  -- all extents of a variable
   pub extents_seen : (u : Procedure) (s : Store C) (x : Var) → extents_of n u s x ≡ extents_of m u (seen (λ x. x) h s) x
   extents_seen u s x = λ i. map (λ e. extent_seen s e i) (declared u.declarations x)
 
+  -- the dummies fit in both or in neither
   fit_seen : (r : Var → Var) (u : Procedure) (s : Store C) (ds : List (List ℕ)) (got : List (Actual C)) (bs : List (Actual D)) → AlikeActuals r h got bs → dummies_fit n u s ds got ≡ dummies_fit m u (seen (λ x. x) h s) ds bs
   fit_seen r u s [] got bs l = refl
   fit_seen r u s (d ∷ ds) [] [] l = refl
@@ -185,6 +177,7 @@ module _ {C D : Type 0} (h : C → D) (n : Setting C) (m : Numbers D) (p : Proje
       λ i. record { numbers = m; shape = λ x. shape_of (extents_seen h n.numbers m p u s x i); room = n.room; level = suc n.level }
 
   module _ (q : Calls C) (q' : Calls D) (r : Var → Var) (u : Procedure) (s : Scene C) (carries : Carries (λ x. x) h (setting_in n u s.store) m q q') where
+    -- a unit, whose own names stay
     pub unit_seen : (line k : ℕ) → seen_outcome (λ x. x) h (unit_run q n u line s k) ≡ unit_run q' (seen_setting r m n) u line (seen_scene (λ x. x) h s) k
     unit_seen line k =
         then_through (seen_scene (λ x. x) h) (seen_scene (λ x. x) h) (run q (setting_in n u s.store) u.body (entered n u s) k) _
@@ -203,12 +196,14 @@ module _ {C D : Type 0} (h : C → D) (n : Setting C) (m : Numbers D) (p : Proje
 -- ---- calls
 
 module _ {C D : Type 0} (h : C → D) where
+  -- traps of one kind and actuals that are alike lead to the like
   alike_then : (r : Var → Var) (v : Result (List (Actual C)) Trap) (w : Result (List (Actual D)) Trap) (line : ℕ) (f : List (Actual C) → Outcome (Scene C)) (g : List (Actual D) → Outcome (Scene D)) → AlikeResults (AlikeActuals r h) v w → ((got : List (Actual C)) (bs : List (Actual D)) → AlikeActuals r h got bs → seen_outcome r h (f got) ≡ g bs) → seen_outcome r h (with_value v line f) ≡ with_value w line g
   alike_then r (Ok a) (Ok b) line f g e d = d a b e
   alike_then r (Ok a) (Err t) line f g e d = absurd e
   alike_then r (Err t) (Ok b) line f g e d = absurd e
   alike_then r (Err t) (Err t') line f g e d = ap (λ z. Trapped z line) e
 
+  -- a call of a unit that was looked for
   call_seen : (q : Calls C) (q' : Calls D) (m : Numbers D) → ((n : Setting C) → Projects h n.numbers m → Carries (λ x. x) h n m q q') → (r : Var → Var) → Separates r → (n : Setting C) → Projects h n.numbers m → (ws : List Bool) (u : Option Procedure) (args : Terms) (line : ℕ) (s : Scene C) (k : ℕ) → seen_outcome r h (call_in q n ws u (rename_terms r args) line s k) ≡ call_in q' (seen_setting r m n) ws u args line (seen_scene r h s) k
   call_seen q q' m inner r sep n p ws None args line s k = refl
   call_seen q q' m inner r sep n p ws (Some u) args line s k =

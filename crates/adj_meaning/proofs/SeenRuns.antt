@@ -26,9 +26,11 @@ then_through see look More w f g e d = ap (λ z. then_do z g) e
 then_through see look Full w f g e d = ap (λ z. then_do z g) e
 
 module _ {C D : Type 0} (r : Var → Var) (h : C → D) where
+  -- from one scene to the next
   pub then_seen : (o : Outcome (Scene C)) (w : Outcome (Scene D)) (f : Go C) (g : Go D) → seen_outcome r h o ≡ w → ((s : Scene C) (k : ℕ) → seen_outcome r h (f s k) ≡ g (seen_scene r h s) k) → seen_outcome r h (then_do o f) ≡ then_do w g
   then_seen o w f g e d = then_through (seen_scene r h) (seen_scene r h) o w f g e d
 
+  -- a statement is counted in both or in neither
   pub counted_seen : (k : ℕ) (f : ℕ → Outcome (Scene C)) (g : ℕ → Outcome (Scene D)) → ((j : ℕ) → seen_outcome r h (f j) ≡ g j) → seen_outcome r h (counted k f) ≡ counted k g
   counted_seen zero f g d = refl
   counted_seen (suc k) f g d = d k
@@ -43,16 +45,19 @@ module _ {C D : Type 0} (r : Var → Var) (h : C → D) where
   same_then (Ok a) w line f g e d = d a ∙ ap (λ z. with_value z line g) e
   same_then (Err t) w line f g e d = ap (λ z. with_value z line g) e
 
+  -- the same branch of both
   pub if_seen : (p : Bool) (o o1 : Outcome (Scene C)) (w w1 : Outcome (Scene D)) → seen_outcome r h o ≡ w → seen_outcome r h o1 ≡ w1 → seen_outcome r h (if p then o else o1) ≡ (if p then w else w1)
   if_seen true o o1 w w1 e f = e
   if_seen false o o1 w w1 e f = f
 
+  -- the turns of a loop
   turns_seen : (m : ℕ) (f : Go C) (g : Go D) (a : Scene C → Scene C) (b : Scene D → Scene D) → ((s : Scene C) (k : ℕ) → seen_outcome r h (f s k) ≡ g (seen_scene r h s) k) → ((s : Scene C) → seen_scene r h (a s) ≡ b (seen_scene r h s)) → (s : Scene C) (k : ℕ) → seen_outcome r h (turns m f a s k) ≡ turns m g b (seen_scene r h s) k
   turns_seen zero f g a b d e s k = refl
   turns_seen (suc m) f g a b d e s k =
       counted_seen k _ _ (λ j. then_seen (f s j) _ (λ s1 i. turns m f a (a s1) i) (λ s1 i. turns m g b (b s1) i) (d s j)
       (λ s1 i. turns_seen m f g a b d e (a s1) i ∙ ap (λ z. turns m g b z i) (e s1)))
 
+  -- the word on top
   top_seen : (t : List C) (line : ℕ) (f : C → List C → Outcome (Scene C)) (g : D → List D → Outcome (Scene D)) → ((c : C) (cs : List C) → seen_outcome r h (f c cs) ≡ g (h c) (map h cs)) → seen_outcome r h (with_top t line f) ≡ with_top (map h t) line g
   top_seen [] line f g d = refl
   top_seen (c ∷ cs) line f g d = d c cs
@@ -70,28 +75,34 @@ module _ {C D : Type 0} (r : Var → Var) (sep : Separates r) (h : C → D) (n :
   abbrev with_seen : Scene C → ℕ → Store D → Outcome (Scene D)
   with_seen s k z = Done (record (at s) { store = z }) k
 
+  -- a push
   pushed_seen : (c : C) (s : Scene C) (k : ℕ) → seen_outcome r h (pushed n c s k) ≡ pushed there (h c) (at s) k
   pushed_seen c s k =
       if_seen r h (has_room n.room (length s.tape)) (Done (record s { tape = c ∷ s.tape }) k) Full (Done (record (at s) { tape = h c ∷ map h s.tape }) k) Full refl refl
       ∙ ap (λ z. if has_room n.room z then Done (record (at s) { tape = h c ∷ map h s.tape }) k else Full) (sym (length-map s.tape h))
 
+  -- some pushes
   pushed_all_seen : (cs : List C) (s : Scene C) (k : ℕ) → seen_outcome r h (pushed_all n cs s k) ≡ pushed_all there (map h cs) (at s) k
   pushed_all_seen [] s k = refl
   pushed_all_seen (c ∷ cs) s k = then_seen r h _ _ (pushed_all n cs) (pushed_all there (map h cs)) (pushed_seen c s k) (λ s1 j. pushed_all_seen cs s1 j)
 
+  -- a pop
   popped_seen : (x : Var) (i line : ℕ) (s : Scene C) (k : ℕ) → seen_outcome r h (popped (r x) i line s k) ≡ popped x i line (at s) k
   popped_seen x i line s k =
       top_seen r h s.tape line (λ c cs. Done (record s { store = set s.store (r x) i c; tape = cs }) k) (λ c cs. Done (record (at s) { store = set (at s).store x i c; tape = cs }) k)
       (λ c cs. ap (λ (z : Store D). Done (record (at s) { store = z; tape = map h cs }) k) (set_seen r sep h s.store x i c))
 
+  -- some pops
   popped_all_seen : (x : Var) (i line : ℕ) (s : Scene C) (k : ℕ) → seen_outcome r h (popped_all (r x) i line s k) ≡ popped_all x i line (at s) k
   popped_all_seen x zero line s k = refl
   popped_all_seen x (suc i) line s k = then_seen r h _ _ (popped_all (r x) i line) (popped_all x i line) (popped_seen x i line s k) (λ s1 j. popped_all_seen x i line s1 j)
 
+  -- the end of a reversal
   ended_seen : (i line : ℕ) (s : Scene C) (k : ℕ) → seen_outcome r h (ended n i line s k) ≡ ended there i line (at s) k
   ended_seen zero line s k = refl
   ended_seen (suc i) line s k = refl
 
+  -- its beginning
   begun_seen : (l i : ℕ) (s : Scene C) → seen_scene r h (begun n l i s) ≡ begun there l i (at s)
   begun_seen l i s = ap (λ z. record (at s) { opened = suc s.opened; events = Begin l i n.level z ∷ s.events }) (sym (length-map s.tape h))
 
@@ -99,9 +110,11 @@ module _ {C D : Type 0} (r : Var → Var) (sep : Separates r) (h : C → D) (n :
   number_seen : (i : ℕ) → h (number n i) ≡ number there i
   number_seen i = p.of_word (pos i)
 
+  -- a natural number is set
   set_number : (s : Store C) (x : Var) (i : ℕ) → seen r h (set s (r x) 0 (number n i)) ≡ set (seen r h s) x 0 (number there i)
   set_number s x i = set_seen r sep h s x 0 (number n i) ∙ ap (set (seen r h s) x 0) (number_seen i)
 
+  -- three of them
   set_three : (s : Store C) (x y z : Var) (a b c : ℕ) → seen r h (set (set (set s (r x) 0 (number n a)) (r y) 0 (number n b)) (r z) 0 (number n c)) ≡ set (set (set (seen r h s) x 0 (number there a)) y 0 (number there b)) z 0 (number there c)
   set_three s x y z a b c =
       set_number (set (set s (r x) 0 (number n a)) (r y) 0 (number n b)) z c
@@ -140,19 +153,23 @@ module _ {C D : Type 0} (r : Var → Var) (sep : Separates r) (h : C → D) (n :
   abbrev yonder : Setting D
   yonder = seen_setting r m n
 
+  -- the first value of a loop
   with_turn_seen : (x : Var) (z : ℤ) (s : Scene C) → seen_scene r h (with_turn n (r x) z s) ≡ with_turn yonder x z (seen_scene r h s)
   with_turn_seen x z s =
       ap (λ (w : Store D). record (seen_scene r h s) { store = w }) (set_seen r sep h s.store x 0 (n.numbers.of_word z) ∙ ap (set (seen r h s.store) x 0) (p.of_word z))
 
+  -- the step after a turn
   stepped_seen : (x : Var) (c : ℤ) (s : Scene C) → seen_scene r h (stepped n (r x) c s) ≡ stepped yonder x c (seen_scene r h s)
   stepped_seen x c s =
       with_turn_seen x (add (n.numbers.shown (s.store (r x) 0)) c) s ∙ ap (λ z. with_turn yonder x (add z c) (seen_scene r h s)) (sym (p.shown (s.store (r x) 0)))
 
+  -- the end of a loop
   after_loop_seen : (line i snapshots : ℕ) (s : Scene C) (k : ℕ) → seen_outcome r h (Done (after_loop line i snapshots s) k) ≡ Done (after_loop line i snapshots (seen_scene r h s)) k
   after_loop_seen line i zero s k = refl
   after_loop_seen line i (suc snapshots) s k = refl
 
   mutual
+    -- a statement
     act_seen : (a : Act) (line : ℕ) (s : Scene C) (k : ℕ) → seen_outcome r h (act q n (rename_act r a) line s k) ≡ act q' yonder a line (seen_scene r h s) k
     act_seen (assign x subs e) line s k =
         value_then r h _ _ line _ _ (value_seen r h n m p e s.store) (λ c. same_then r h _ _ line _ _ (target_seen r h n m p x subs s.store) (λ i.

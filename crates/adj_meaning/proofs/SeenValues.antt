@@ -30,15 +30,18 @@ pub then_into : {A A' B : Type 0} (h : A → A') (v : Result A Trap) (w : Result
 then_into h (Ok a) w f f' e d = d a ∙ ap (λ z. then_ok z f') e
 then_into h (Err t) w f f' e d = ap (λ z. then_ok z f') e
 
+-- h of a choice is the choice of h
 pub map_if : {A B : Type 0} (h : A → B) (p : Bool) (a b : A) → h (if p then a else b) ≡ (if p then h a else h b)
 map_if h true a b = refl
 map_if h false a b = refl
 
 module _ {C D : Type 0} (h : C → D) (n : Numbers C) (m : Numbers D) (p : Projects h n m) where
+  -- a trap for 0, or else a word
   divided : (e : Bool) (z : ℤ) → mapped h (if e then Err division else Ok (n.of_word z)) ≡ (if e then Err division else Ok (m.of_word z))
   divided true z = refl
   divided false z = ap Ok (p.of_word z)
 
+  -- an operation
   pub operation_seen : (op : Op) (a b : C) → mapped h (operation n op a b) ≡ operation m op (h a) (h b)
   operation_seen plus a b = ap Ok (p.sum a b)
   operation_seen minus a b = ap Ok (p.difference a b)
@@ -52,12 +55,14 @@ module _ {C D : Type 0} (h : C → D) (n : Numbers C) (m : Numbers D) (p : Proje
   operation_seen greater a b = ap Ok (map_if h (int_lt (n.shown a) (n.shown b)) b a ∙ (λ i. if int_lt (sym (p.shown a) i) (sym (p.shown b) i) then h b else h a))
   operation_seen lesser a b = ap Ok (map_if h (int_lt (n.shown b) (n.shown a)) b a ∙ (λ i. if int_lt (sym (p.shown b) i) (sym (p.shown a) i) then h b else h a))
 
+  -- the absolute value
   pub absolute_seen : (a : C) → h (absolute n a) ≡ absolute m (h a)
   absolute_seen a =
       map_if h (int_lt (n.shown a) (pos 0)) (n.negation a) a ∙ (λ i. if int_lt (sym (p.shown a) i) (pos 0) then p.negation a i else h a)
 
 module _ {C D : Type 0} (r : Var → Var) (h : C → D) (n : Setting C) (m : Numbers D) (p : Projects h n.numbers m) where
   mutual
+    -- an expression
     pub value_seen : (e : Term) (s : Store C) → mapped h (value n (rename_term r e) s) ≡ value (seen_setting r m n) e (seen r h s)
     value_seen (lit z) s = ap Ok (p.of_word z)
     value_seen (var x) s = refl
@@ -75,10 +80,12 @@ module _ {C D : Type 0} (r : Var → Var) (h : C → D) (n : Setting C) (m : Num
         then_into h _ _ (λ u. then_ok (values n (rename_terms r es) s) (λ us. Ok (n.numbers.shown u ∷ us))) (λ u. then_ok (values (seen_setting r m n) es (seen r h s)) (λ us. Ok (m.shown u ∷ us))) (value_seen e s)
         (λ u i. then_ok (values_seen es s i) (λ us. Ok (sym (p.shown u) i ∷ us)))
 
+  -- the cell of a target
   pub target_seen : (x : Var) (subs : Terms) (s : Store C) → target n (r x) (rename_terms r subs) s ≡ target (seen_setting r m n) x subs (seen r h s)
   target_seen x none s = refl
   target_seen x (more e es) s = ap (λ z. then_ok z (λ is. cell_at n (r x) is)) (values_seen (more e es) s)
 
+  -- a condition
   pub holds_seen : (c : Test) (s : Store C) → holds n (rename_test r c) s ≡ holds (seen_setting r m n) c (seen r h s)
   holds_seen (compare o a b) s =
       then_into h _ _ (λ u. then_ok (value n (rename_term r b) s) (λ v. Ok (compares o (n.numbers.shown u) (n.numbers.shown v)))) (λ u. then_ok (value (seen_setting r m n) b (seen r h s)) (λ v. Ok (compares o (m.shown u) (m.shown v)))) (value_seen a s)

@@ -11,6 +11,7 @@ pub data Ending (B : Type 0) : Type 0 where
   stopped : Trap → ℕ → Ending B
   filled : Ending B
 
+-- an end with so many statements left
 abbrev pub with_left : {B : Type 0} → Ending B → ℕ → Outcome B
 with_left (finished b) j = Done b j
 with_left (stopped t line) j = Trapped t line
@@ -34,32 +35,40 @@ pub data Verdict {B : Type 0} (f g : ℕ → Outcome B) (k : ℕ) : Type 0 where
 
 -- ---- the parts of a run
 
+-- an end that costs nothing
 at_once : {B : Type 0} (e : Ending B) (f g : ℕ → Outcome B) (k : ℕ) → ((j : ℕ) → f j ≡ with_left e j) → ((j : ℕ) → g j ≡ with_left e j) → Verdict f g k
 at_once e f g k hf hg =
     let z : (j : ℕ) → 0 + j ≡ j = λ j. omega arith in
     settled (record { cost = 0; rest = k; is = omega arith; ending = e; early = λ j lt. absurd (omega arith); same = λ j. ap f (z j) ∙ hf j; later = λ j. ap g (z j) ∙ hg j })
 
+-- a result
 pub done_verdict : {B : Type 0} (b : B) (k : ℕ) → Verdict (λ j. Done b j) (λ j. Done b j) k
 done_verdict b k = at_once (finished b) (λ j. Done b j) (λ j. Done b j) k (λ j. refl) (λ j. refl)
 
+-- a trap
 pub trapped_verdict : {B : Type 0} (t : Trap) (line k : ℕ) → Verdict {B = B} (λ j. Trapped t line) (λ j. Trapped t line) k
 trapped_verdict t line k = at_once (stopped t line) (λ j. Trapped t line) (λ j. Trapped t line) k (λ j. refl) (λ j. refl)
 
+-- a full tape
 pub full_verdict : {B : Type 0} (k : ℕ) → Verdict {B = B} (λ j. Full) (λ j. Full) k
 full_verdict k = at_once filled (λ j. Full) (λ j. Full) k (λ j. refl) (λ j. refl)
 
+-- what follows a value
 pub value_verdict : {A B : Type 0} (v : Result A Trap) (line : ℕ) (f g : A → ℕ → Outcome B) (k : ℕ) → ((a : A) → Verdict (f a) (g a) k) → Verdict (λ j. with_value v line (λ a. f a j)) (λ j. with_value v line (λ a. g a j)) k
 value_verdict (Ok a) line f g k h = h a
 value_verdict (Err t) line f g k h = trapped_verdict t line k
 
+-- what follows a pop
 pub top_verdict : {B C : Type 0} (t : List C) (line : ℕ) (f g : C → List C → ℕ → Outcome B) (k : ℕ) → ((c : C) (cs : List C) → Verdict (f c cs) (g c cs) k) → Verdict (λ j. with_top t line (λ c cs. f c cs j)) (λ j. with_top t line (λ c cs. g c cs j)) k
 top_verdict [] line f g k h = trapped_verdict _ line k
 top_verdict (c ∷ cs) line f g k h = h c cs
 
+-- one of two branches
 pub if_verdict : {B : Type 0} (p : Bool) (f g f' g' : ℕ → Outcome B) (k : ℕ) → Verdict f f' k → Verdict g g' k → Verdict (λ j. if p then f j else g j) (λ j. if p then f' j else g' j) k
 if_verdict true f g f' g' k a b = a
 if_verdict false f g f' g' k a b = b
 
+-- what follows a count
 pub counted_verdict : {B : Type 0} (f g : ℕ → Outcome B) (k : ℕ) → ((m : ℕ) → Verdict f g m) → Verdict (λ j. counted j f) (λ j. counted j g) k
 counted_verdict f g zero h = goes_on (λ j le. let e : j ≡ 0 = omega arith in ap (λ z. counted z f) e)
 counted_verdict f g (suc k) h = go (h k)
@@ -130,11 +139,13 @@ module _ {A B : Type 0} (o p : ℕ → Outcome A) (go go' : A → ℕ → Outcom
             later = λ j. ap (λ z. then_do (p z) go') (e1 j) ∙ past' (t.cost + j) ∙ t.later j;
           })
 
+  -- what goes on from an end
   then_settled : (k : ℕ) (s : Settled o p k) (e : Ending A) → s.ending ≡ e → ((a : A) (m : ℕ) → Verdict (go a) (go' a) m) → Verdict (λ j. then_do (o j) go) (λ j. then_do (p j) go') k
   then_settled k s (finished a) e h = after_result k s a (λ j. ap (λ z. with_left z j) e) (h a s.rest)
   then_settled k s (stopped t line) e h = after_end k s (stopped t line) (λ j. ap (λ z. then_do (with_left z j) go) e) (λ j. ap (λ z. then_do (with_left z j) go') e)
   then_settled k s filled e h = after_end k s filled (λ j. ap (λ z. then_do (with_left z j) go) e) (λ j. ap (λ z. then_do (with_left z j) go') e)
 
+  -- one run after another
   pub then_verdict : (k : ℕ) → Verdict o p k → ((a : A) (m : ℕ) → Verdict (go a) (go' a) m) → Verdict (λ j. then_do (o j) go) (λ j. then_do (p j) go') k
   then_verdict k (goes_on m) h = goes_on (λ j le. ap (λ z. then_do z go) (m j le))
   then_verdict k (settled s) h = then_settled k s s.ending refl h

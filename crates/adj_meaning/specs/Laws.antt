@@ -1,12 +1,19 @@
--- What holds of every run, for words and for words with tangents alike.
-use Rattle.std.specs.Prelude.{◌≡◌, ℕ, ℤ, ◌+◌, ◌<◌, ◌≤◌, List, map, Option}
-use Rattle.adj_tree.specs.Code.{Var, Code, Procedure}
+-- What holds of every run. Most laws hold over any numbers; the contracts name them for words and for words with tangents.
+use Rattle.std.specs.Prelude.{◌≡◌, ℕ, ℤ, ◌+◌, ◌<◌, ◌≤◌, List, map, Bool, true, false, IsTrue, Option, Some}
+use Rattle.adj_tree.specs.Code.{Var, plain, Code, Procedure}
 use Rattle.adj_meaning.specs.Append.{◌+++◌}
 use Rattle.adj_meaning.specs.Numbers.{Numbers, words, duals}
 use Rattle.adj_meaning.specs.Value.{Setting}
 use Rattle.adj_meaning.specs.Scene.{Scene, Done, More, then_do}
 use Rattle.adj_meaning.specs.Run.{Calls, run}
-use Rattle.adj_meaning.specs.Units.{Slot, Output, calls_of, run_unit}
+use Rattle.adj_meaning.specs.Units.{Slot, Output, unit_run, calls_of, run_unit}
+use Rattle.adj_meaning.specs.Read.{reads, read_rule, looked_at}
+use Rattle.adj_meaning.specs.Agree.{AgreeOn, EndAlike, AreApart}
+use Rattle.adj_meaning.specs.Store.{size_of}
+use Rattle.adj_meaning.specs.Leads.{Leads}
+use Rattle.adj_meaning.specs.Common.{CallsInside, HaveInCommon}
+use Rattle.adj_meaning.specs.LeastSet.{least_rows, IsLeast}
+use Rattle.adj_meaning.specs.Written.{find_unit, writes, write_rule, is_written, handed_back}
 use Rattle.adj_meaning.specs.Rename.{rename}
 use Rattle.adj_meaning.specs.Seen.{Separates, pulled_setting, pulled_scene, pulled_outcome, Projects, slot_seen, ending_seen}
 
@@ -17,6 +24,10 @@ RunsPartByPart C = (q : Calls C) (n : Setting C) (c d : Code) (s : Scene C) (k :
 -- a list that is done is done alike with more statements and with deeper calls
 abbrev pub DoneWithMore : Type 0 → Type 0
 DoneWithMore C = (units : List Procedure) (depth deeper : ℕ) → depth ≤ deeper → (n : Setting C) (c : Code) (s s' : Scene C) (k k' m : ℕ) → run (calls_of units depth) n c s k ≡ Done s' k' → run (calls_of units deeper) n c s (k + m) ≡ Done s' (k' + m)
+
+-- a list that is done with some number of statements costs the same with every other, and leads from the one scene to the other
+abbrev pub LeadsWhereDone : Type 0 → Type 0
+LeadsWhereDone C = (units : List Procedure) (depth : ℕ) (n : Setting C) (c : Code) (s s' : Scene C) (k k' : ℕ) → run (calls_of units depth) n c s k ≡ Done s' k' → Leads (calls_of units depth) n c s s'
 
 -- a run that doesn't end for want of statements ends alike with more of them
 abbrev pub EndsAlike : Type 0 → Type 0
@@ -43,7 +54,53 @@ abbrev pub RunProjected : Type 0 → Type 0 → Type 0
 RunProjected C D = (h : C → D) (n : Numbers C) (m : Numbers D) → Projects h n m → (units : List Procedure) (u : Procedure) (input : List (Slot C)) (tape : List C) (room : Option ℕ) (k : ℕ) →
     ending_seen h (run_unit n units u input tape room k) ≡ run_unit m units u (map (slot_seen h) input) (map h tape) room k
 
--- a dual run without its tangents is the run of its words: it takes the same path and ends alike
+-- a dual run without its tangents is the run of its words: it ends alike, with as many statements, and tells the same
 abbrev pub TangentsForgotten : Type 0
 TangentsForgotten = (units : List Procedure) (u : Procedure) (input : List (Slot (ℤ × ℤ))) (tape : List (ℤ × ℤ)) (room : Option ℕ) (k : ℕ) →
     ending_seen (λ a. a.0) (run_unit duals units u input tape room k) ≡ run_unit words units u (map (slot_seen (λ a. a.0)) input) (map (λ a. a.0) tape) room k
+
+-- the dummies that units write are those that their statements may write, and no smaller set holds all of these
+abbrev pub LeastWritten : Type 0
+LeastWritten = (units : List Procedure) → IsLeast write_rule units (least_rows write_rule units)
+
+-- what a unit hands back are the dummies that its statements may write
+abbrev pub HandsBackWritten : Type 0
+HandsBackWritten = (units : List Procedure) (name : List ℕ) (u : Procedure) → find_unit units name ≡ Some u → handed_back units name ≡ map (is_written units u) u.dummies
+
+-- a list that is done changed no variable that it may not write
+abbrev pub KeepsOthers : Type 0 → Type 0
+KeepsOthers C = (units : List Procedure) (depth : ℕ) (n : Setting C) (c : Code) (s s' : Scene C) (k k' : ℕ) → run (calls_of units depth) n c s k ≡ Done s' k' →
+    (x : Var) → writes (handed_back units) x c ≡ false → (i : ℕ) → s'.store x i ≡ s.store x i
+
+-- the dummies that units read are those that their statements read, and their extents, and no smaller set holds all of these
+abbrev pub LeastRead : Type 0
+LeastRead = (units : List Procedure) → IsLeast read_rule units (least_rows read_rule units)
+
+-- where units have dummies with names of their own, a list ends alike from scenes that agree on the cells of what it reads:
+-- in the same way, with as many statements, telling the same; and whatever else they agree on, they agree on it at the end
+abbrev pub DependsOnReads : Type 0 → Type 0
+DependsOnReads C = (units : List Procedure) → ((name : List ℕ) (u : Procedure) → find_unit units name ≡ Some u → AreApart u.dummies) →
+    (depth : ℕ) (n : Setting C) (c : Code) (inside : Var → ℕ → Bool) → ((x : Var) → reads (looked_at units) x c ≡ true → (i : ℕ) → i < size_of (n.shape x) → IsTrue (inside x i)) →
+    (s t : Scene C) → AgreeOn (λ x i. IsTrue (inside x i)) s t → (k : ℕ) → EndAlike (λ x i. IsTrue (inside x i)) (run (calls_of units depth) n c s k) (run (calls_of units depth) n c t k)
+
+-- the run of a unit depends on no units of the program but those that it calls, or that these call
+abbrev pub ExtendsPrograms : Type 0 → Type 0
+ExtendsPrograms C = (inside : List ℕ → Bool) (units others : List Procedure) → HaveInCommon inside units others → (u : Procedure) → CallsInside inside u.body →
+    (n : Numbers C) (input : List (Slot C)) (tape : List C) (room : Option ℕ) (k : ℕ) → run_unit n units u input tape room k ≡ run_unit n others u input tape room k
+
+-- nor do the dummies that a unit writes
+abbrev pub ExtendsWritten : Type 0
+ExtendsWritten = (inside : List ℕ → Bool) (units others : List Procedure) → HaveInCommon inside units others → (name : List ℕ) → IsTrue (inside name) → handed_back units name ≡ handed_back others name
+
+-- nor do those that it reads
+abbrev pub ExtendsRead : Type 0
+ExtendsRead = (inside : List ℕ → Bool) (units others : List Procedure) → HaveInCommon inside units others → (name : List ℕ) → IsTrue (inside name) → looked_at units name ≡ looked_at others name
+
+-- a unit that is done changed no dummy that it doesn't write
+abbrev pub KeepsDummies : Type 0 → Type 0
+KeepsDummies C = (units : List Procedure) (u : Procedure) (d : List ℕ) → is_written units u d ≡ false →
+    (depth : ℕ) (n : Setting C) (line : ℕ) (s s' : Scene C) (k k' : ℕ) → unit_run (calls_of units depth) n u line s k ≡ Done s' k' → (i : ℕ) → s'.store (plain d) i ≡ s.store (plain d) i
+
+-- a law for words, and for words with tangents
+abbrev pub ForBoth : (Type 0 → Type 0) → Type 0
+ForBoth Law = Law ℤ × Law (ℤ × ℤ)

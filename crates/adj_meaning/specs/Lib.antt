@@ -8,10 +8,15 @@ pub mod Event
 pub mod Scene
 pub mod Runtime
 pub mod Run
+pub mod LeastSet
 pub mod Written
+pub mod Read
 pub mod Units
 pub mod Rename
+pub mod Log
 pub mod Seen
 pub mod Leads
+pub mod Agree
+pub mod Common
 pub mod Laws
-pub mod Examples
+pub mod Samples

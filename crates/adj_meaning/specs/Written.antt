@@ -1,6 +1,7 @@
 -- Which variables statements may write, and so which dummies a unit hands back. (docs/RUNNING.md, "Calls")
-use Rattle.std.specs.Prelude.{ℕ, zero, suc, List, [], ◌∷◌, map, length, Bool, false, ◌&&◌, ◌||◌, Option, Some, None, if◌then◌else◌}
+use Rattle.std.specs.Prelude.{ℕ, List, [], ◌∷◌, Bool, false, ◌&&◌, ◌||◌, Option, Some, None, if◌then◌else◌}
 use Rattle.adj_tree.specs.Code.{Var, plain, name_eq, var_eq, Term, lit, var, elem, neg, bin, pow, abs, Terms, none, more, Runtime, push_word, pop_word, push_array, pop_array, push_control, pop_control, zero_array, begin_reversal, count_actions, give_action, end_reversal, Act, assign, choose, loop, call, runtime, Code, stop, step, Procedure}
+use Rattle.adj_meaning.specs.LeastSet.{Dummies, Rule, in_least}
 
 -- the unit of a name
 abbrev pub find_unit : List Procedure → List ℕ → Option Procedure
@@ -9,8 +10,8 @@ find_unit (u ∷ us) name = if name_eq u.name name then Some u else find_unit us
 
 -- whether an actual is the variable or one of its elements
 abbrev pub is_place_of : Var → Term → Bool
-is_place_of x (var y) = var_eq y x
-is_place_of x (elem y subs) = var_eq y x
+is_place_of x (var y) = var_eq x y
+is_place_of x (elem y subs) = var_eq x y
 is_place_of x (lit z) = false
 is_place_of x (neg a) = false
 is_place_of x (bin op a b) = false
@@ -26,42 +27,42 @@ is_handed_back x (w ∷ ws) (more e es) = (w && is_place_of x e) || is_handed_ba
 -- whether a runtime call changes the variable
 abbrev pub runtime_writes : Var → Runtime → Bool
 runtime_writes x (push_word y subs) = false
-runtime_writes x (pop_word y subs) = var_eq y x
+runtime_writes x (pop_word y subs) = var_eq x y
 runtime_writes x (push_array y) = false
-runtime_writes x (pop_array y) = var_eq y x
+runtime_writes x (pop_array y) = var_eq x y
 runtime_writes x (push_control e) = false
-runtime_writes x (pop_control y) = var_eq y x
-runtime_writes x (zero_array y) = var_eq y x
+runtime_writes x (pop_control y) = var_eq x y
+runtime_writes x (zero_array y) = var_eq x y
 runtime_writes x (begin_reversal l m) = false
-runtime_writes x (count_actions l m y) = var_eq y x
-runtime_writes x (give_action l m e a f t) = var_eq a x || (var_eq f x || var_eq t x)
+runtime_writes x (count_actions l m y) = var_eq x y
+runtime_writes x (give_action l m e a f t) = var_eq x a || (var_eq x f || var_eq x t)
 runtime_writes x end_reversal = false
 
 abbrev mutual
   -- whether a statement may write the variable, where `handed` says which dummies of a unit are written:
   -- its target, the variable of a DO, an actual of a dummy that is written, and what a runtime call changes
-  pub act_writes : (List ℕ → List Bool) → Var → Act → Bool
-  act_writes handed x (assign y subs e) = var_eq y x
+  pub act_writes : Dummies → Var → Act → Bool
+  act_writes handed x (assign y subs e) = var_eq x y
   act_writes handed x (choose c a b) = writes handed x a || writes handed x b
-  act_writes handed x (loop y first last by body m) = var_eq y x || writes handed x body
+  act_writes handed x (loop y first last by body m) = var_eq x y || writes handed x body
   act_writes handed x (call name args) = is_handed_back x (handed name) args
   act_writes handed x (runtime r) = runtime_writes x r
 
   -- the same of a list
-  pub writes : (List ℕ → List Bool) → Var → Code → Bool
+  pub writes : Dummies → Var → Code → Bool
   writes handed x stop = false
   writes handed x (step line a rest) = act_writes handed x a || writes handed x rest
 
--- which dummies of a unit its statements may write
-abbrev pub written_dummies : (List ℕ → List Bool) → Option Procedure → List Bool
-written_dummies handed None = []
-written_dummies handed (Some u) = map (λ d. writes handed (plain d) u.body) u.dummies
+-- ---- the dummies that units write
 
--- the same of the unit of a name, through calls that lie at most `depth` within one another
-abbrev pub handed_within : List Procedure → ℕ → List ℕ → List Bool
-handed_within units zero name = []
-handed_within units (suc depth) name = written_dummies (handed_within units depth) (find_unit units name)
+-- a unit writes the dummies that its statements may write
+abbrev pub write_rule : Rule
+write_rule handed u d = writes handed (plain d) u.body
 
--- which dummies of the unit of a name are written: a chain of calls without recursion has no more units than the program
-abbrev pub handed_back : List Procedure → List ℕ → List Bool
-handed_back units name = handed_within units (length units) name
+-- which dummies of the unit of a name are written, and so handed back at the end of a call: the least set by that rule
+abbrev pub handed_back : List Procedure → Dummies
+handed_back units name = in_least write_rule units name
+
+-- whether the unit writes its dummy
+abbrev pub is_written : List Procedure → Procedure → List ℕ → Bool
+is_written units u d = write_rule (handed_back units) u d

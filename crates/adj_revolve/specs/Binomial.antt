@@ -1,4 +1,4 @@
--- The binomial numbers. (Griewank and Walther, Algorithm 799, 2000, section 2; docs/SCHEDULES.md, "The numbers")
+-- The binomial numbers. (docs/SCHEDULES.md, "The numbers"; Griewank and Walther, Algorithm 799, 2000)
 use Rattle.std.specs.Prelude.{ℕ, zero, suc, ◌+◌}
 
 -- how many ways there are to choose k of n things, by Pascal's rule

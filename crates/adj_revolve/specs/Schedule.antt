@@ -13,7 +13,7 @@ abbrev pub from_snapshot : ℕ → ℕ → List Action → List Action
 from_snapshot lo k again = if k == 1 then (Drop lo ∷ Turn lo ∷ []) else (Keep lo ∷ again)
 
 -- l steps, 2 or more, where lo is stored and its slot is one of the s: advance to the split, turn the steps above it with
--- one slot fewer, and then those below. Any depth of at least l gives the same list.
+-- one slot fewer, and then those below. Any depth of at least l gives the same list, by the law `schedule_recursion`.
 unfoldable pub body : ℕ → ℕ → ℕ → ℕ → List Action
 body zero lo l s = []
 body (suc depth) lo l s =

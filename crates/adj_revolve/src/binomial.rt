@@ -6,6 +6,9 @@ ghost use Rattle.adj_revolve.specs.Binomial.{beta};
 /// The greatest number that `beta` answers, 2^127.
 const LIMIT: u128 = 1 << 127;
 
+/// Below this a number times a total fits, and one division serves.
+const SMALL: u128 = 1 << 62;
+
 /// `ways * total / taken`, or `cap` where that is less.
 fn grown_up_to(ways: u128, total: u128, taken: u128, cap: u128) -> u128
     requires taken { 0 < taken }
@@ -15,6 +18,9 @@ fn grown_up_to(ways: u128, total: u128, taken: u128, cap: u128) -> u128
     requires cap_small { cap ≤ 2 ^ 127 + 1 }
     ensures { result ≡ min cap (ways * total / taken) }
 {
+    if ways < SMALL {
+        return cap.min(ways * total / taken);
+    }
     let whole = ways / taken;
     if whole > cap / total {
         return cap;
@@ -53,7 +59,8 @@ pub(crate) fn beta_up_to(snapshots: u32, repetitions: u64, cap: u128) -> u128
 }
 
 /// How many steps can be reversed with so many snapshots where at most so many advances lead over each: the binomial
-/// number of their sum over one of them. None where it is above 2^127. (Griewank and Walther 2000, equation 2)
+/// number of their sum over either. None where it is above 2^127. (docs/SCHEDULES.md, "The numbers"; Griewank and
+/// Walther 2000)
 pub fn beta(snapshots: u32, repetitions: u64) -> Option<u128>
     ensures { MatchOption result
         (2 ^ 127 < beta snapshots repetitions)

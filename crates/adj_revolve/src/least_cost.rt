@@ -1,6 +1,6 @@
 //! The least cost of a schedule, and where it splits its steps.
 
-ghost use Rattle.std.specs.Prelude.{◌≡◌, ℕ, ◌+◌, ◌-◌, ◌*◌, ◌^◌, ◌<◌, ◌≤◌, ◌↔◌, IsTrue, min};
+ghost use Rattle.std.specs.Prelude.{◌≡◌, ℕ, ◌+◌, ◌-◌, ◌*◌, ◌/◌, ◌^◌, ◌<◌, ◌≤◌, ◌↔◌, IsTrue, min};
 ghost use Rattle.adj_revolve.specs.Binomial.{beta, choose_before};
 ghost use Rattle.adj_revolve.specs.LeastCost.{IsGreatest, bound_at, least_cost};
 ghost use Rattle.adj_revolve.specs.Split.{IsRepetitions, repetitions, split_of};
@@ -12,14 +12,15 @@ fn suffices(steps: u64, snapshots: u32, repetitions: u64) -> bool
     ensures { IsTrue result ↔ (steps ≤ beta snapshots repetitions) }
 {
     let steps = u128::from(steps);
-    steps <= beta_up_to(snapshots, repetitions, steps.max(1))
+    steps == beta_up_to(snapshots, repetitions, steps)
 }
 
-/// A number of repetitions that suffices, found by doubling.
+/// The first power of two that suffices, as a number of repetitions.
 fn enough(steps: u64, snapshots: u32) -> u64
     requires some { 0 < snapshots }
     requires within { steps ≤ 2 ^ 40 }
-    ensures { steps ≤ beta snapshots result }
+    ensures enough { steps ≤ beta snapshots result }
+    ensures half_fails { 1 < result → beta snapshots (result / 2) < steps }
 {
     let mut repetitions = 1;
     while !suffices(steps, snapshots, repetitions) {
@@ -28,15 +29,15 @@ fn enough(steps: u64, snapshots: u32) -> u64
     repetitions
 }
 
-/// The least number of repetitions that suffices. Its time grows by the logarithm of the answer.
+/// The least number of repetitions that suffices. Its time grows with the logarithm of that number.
 fn repetitions(steps: u64, snapshots: u32) -> u64
     requires some { 0 < snapshots }
     requires within { steps ≤ 2 ^ 40 }
     ensures value { result ≡ repetitions steps snapshots }
     ensures no_more { result ≤ steps }
 {
-    let mut low = 0;
     let mut high = enough(steps, snapshots);
+    let mut low = high / 2;
     while low < high {
         let middle = low + (high - low) / 2;
         if suffices(steps, snapshots, middle) {

@@ -8,6 +8,7 @@
 
 mod binomial;
 mod frames;
+mod law;
 mod least_cost;
 mod list;
 mod machine;
@@ -16,6 +17,7 @@ mod tests;
 
 pub use binomial::beta;
 pub use frames::Schedule;
+pub use law::schedule_recursion;
 pub use least_cost::{least, split};
 pub use list::{Memory, actions};
 pub use machine::{Action, play};

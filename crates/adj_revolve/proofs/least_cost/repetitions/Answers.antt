@@ -4,6 +4,13 @@ use Rattle.adj_revolve.proofs.SplitLemmas.{repetitions_from}
 use Rattle.adj_revolve.proofs.CodeLemmas.{fewer_up, repetitions_le}
 use Rattle.adj_revolve.proofs.least_cost.repetitions.Goals as goal
 
+pub loop-low-init : goal.loop-low-init
+loop-low-init c = record {
+  in_range = omega arith;
+  enough = c.enough-high.ensures.enough;
+  fewer = λ r h. fewer_up c.args.steps c.args.snapshots (c.enough-high.result / 2) (c.enough-high.ensures.half_fails (omega arith)) r (omega arith);
+}
+
 pub loop-low-preserved : goal.loop-low-preserved
 loop-low-preserved c =
     let middle : ℕ = c.loop-low.low + (c.loop-low.high - c.loop-low.low) / 2 in

@@ -4,7 +4,7 @@ use Rattle.std.specs.Int.{int_wrap}
 use Rattle.adj_revolve.specs.Binomial.{choose}
 use Rattle.adj_revolve.specs.Split.{first_repetition, repetitions, split_of}
 use Rattle.adj_revolve.specs.Schedule.{body}
-use Rattle.adj_meaning.specs.Examples.{SquareOfThree, SquareOfLeast, SumOfOneElement, PowersOfTwo, LongSteps, QuotientsAndTraps, CubeByCall, SquaredElement, ArrayPassed, AdjointOfSquares, PopFromEmpty, ArraySaved, LastAction, OpenReversal, EventsInOrder, ChosenTangents}
+use Rattle.adj_meaning.specs.Samples.{SquareOfThree, SquareOfLeast, SumOfOneElement, PowersOfTwo, LongSteps, QuotientsAndTraps, CubeByCall, SquaredElement, ArrayPassed, AdjointOfSquares, PopFromEmpty, ArraySaved, LastAction, OpenReversal, EventsInOrder, ChosenTangents}
 
 pub square_of_three : SquareOfThree
 unfolding int_wrap
@@ -64,7 +64,7 @@ open_reversal = (refl, refl, refl, refl)
 
 pub events_in_order : EventsInOrder
 unfolding int_wrap
-events_in_order = refl
+events_in_order = (refl, refl)
 
 pub chosen_tangents : ChosenTangents
 unfolding int_wrap

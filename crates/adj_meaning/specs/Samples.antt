@@ -4,7 +4,8 @@ use Rattle.adj_tree.specs.Code.{plain, Term, lit, var, elem, neg, bin, pow, abs,
 use Rattle.adj_meaning.specs.Trap.{division, index, step_trap, shape_trap, tape_trap, schedule_trap}
 use Rattle.adj_meaning.specs.Numbers.{words, duals}
 use Rattle.adj_meaning.specs.Store.{scalar}
-use Rattle.adj_meaning.specs.Event.{Event, Enter, Begin, End, Marked}
+use Rattle.adj_meaning.specs.Log.{log_of}
+use Rattle.adj_meaning.specs.Event.{Enter, Begin, End, Marked}
 use Rattle.adj_meaning.specs.Scene.{Outcome, Done, Trapped, More, Full, then_do}
 use Rattle.adj_meaning.specs.Units.{Slot, Output, run_unit}
 
@@ -332,20 +333,26 @@ OpenReversal =
 
 -- ---- events
 
--- a marked loop of two turns at line 3 around a reversal and a call
+abbrev pub pushes : Runtime
+pushes = push_word (plain name_i) none
+
+-- a marked loop of one turn at line 3, around a reversal of one step with two calls and pushes
 abbrev pub eventful : Procedure
 eventful =
     subroutine 1 name_p (name_a ∷ []) []
-    (step 3 (loop (plain name_i) (literal 1) (literal 1) (literal 1) (step 4 (runtime (push_word (plain name_i) none)) (step 5 (runtime begins) (step 6 (call name_sq (only (of name_a))) (step 7 (runtime end_reversal) stop)))) 5) stop)
+    (step 3 (loop (plain name_i) (literal 1) (literal 1) (literal 1)
+    (step 4 (runtime pushes) (step 5 (runtime (begin_reversal (literal 1) (literal 2)))
+    (step 6 (call name_sq (only (of name_a))) (step 7 (runtime pushes) (step 8 (call name_sq (only (of name_a)))
+    (step 9 (runtime end_reversal) stop)))))) 5) stop)
 
--- what happened, in order of time
-abbrev pub events_of : Outcome (Output ℤ) → Outcome (List Event)
-events_of o = then_do o (λ out used. Done out.events used)
+abbrev pub eventful_run : Outcome (Output ℤ)
+eventful_run = run_unit words (eventful ∷ squarer ∷ []) eventful (scalars (pos 2 ∷ [])) [] None 100
 
+-- what happened, in order of time; one reversal began, with one call more than its steps, the second of them a word above its start
 abbrev pub EventsInOrder : Type 0
 EventsInOrder =
-    events_of (run_unit words (eventful ∷ squarer ∷ []) eventful (scalars (pos 2 ∷ [])) [] None 100)
-    ≡ Done (Enter name_p 1 0 ∷ Begin 3 2 1 1 ∷ Enter name_sq 2 1 ∷ End 1 ∷ Marked 3 1 5 ∷ []) 7
+    (then_do eventful_run (λ out used. Done out.events used) ≡ Done (Enter name_p 1 0 ∷ Begin 1 2 1 1 ∷ Enter name_sq 2 1 ∷ Enter name_sq 2 2 ∷ End 1 ∷ Marked 3 1 5 ∷ []) 10)
+    × (then_do eventful_run (λ out used. Done (log_of out.events) used) ≡ Done (record { reversals = 1; advances = 1; height = 1 }) 10)
 
 -- ---- tangents of MAX, MIN, ABS and quotients
 
