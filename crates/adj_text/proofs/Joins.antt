@@ -70,7 +70,7 @@ unfolding with_line
 continuation_line p n m text b h le = rw (no_directive (32 ∷ 32 ∷ 32 ∷ 32 ∷ 43 ∷ b), take_all 66 b le, h) refl
 
 -- one line is read
-over_line : (p q : Pass) (n : ℕ) (l : List ℕ) (ls : List (List ℕ)) → without_cr l ≡ l → is_data l ≡ false → with_line no_limits p n l ≡ Ok q → pass_over no_limits p n (l ∷ ls) ≡ pass_over no_limits q (next_number n) ls
+pub over_line : (p q : Pass) (n : ℕ) (l : List ℕ) (ls : List (List ℕ)) → without_cr l ≡ l → is_data l ≡ false → with_line no_limits p n l ≡ Ok q → pass_over no_limits p n (l ∷ ls) ≡ pass_over no_limits q (next_number n) ls
 unfolding pass_over
 over_line p q n l ls same no_data h = rw (same, no_data, h) refl
 

@@ -1,13 +1,14 @@
 -- Plain: plain statements, as keyword and words, are statements of their class.
-use Rattle.std.proofs.Common.{◌≡◌, ℕ, ◌<◌, true, List, [], ◌∷◌, ◌++◌, length, Some, refl, sym, ap, ◌∙◌, arith, append-nil}
+use Rattle.std.proofs.Common.{◌≡◌, ℕ, ◌<◌, true, List, [], ◌∷◌, ◌++◌, length, Some, None, refl, sym, ap, ◌∙◌, arith, append-nil}
 use Rattle.std.specs.Prelude.{codes, take_while}
 use Rattle.std.specs.List.{flat_map, list_all}
 use Rattle.std.proofs.lemmas.List.Sums.{take_while-cons}
+use Rattle.adj_text.specs.declared.stated.Kind.{Kind}
 use Rattle.adj_text.specs.declared.stated.Kind.TheVariants as classes
 use Rattle.adj_text.specs.declared.token.TokenKind.TheVariants.{Left, Right, Comma, Equals}
 use Rattle.adj_text.specs.Char.{left, right, comma, equals, is_capital, is_digit, is_name_char}
 use Rattle.adj_text.specs.Class.{width_of, has_open, is_matched, kind_of, class_of}
-use Rattle.adj_text.specs.Stated.{keyword_len}
+use Rattle.adj_text.specs.Stated.{keyword_len, ending_len, call_place}
 use Rattle.adj_text.specs.Word.{Word, Named, Mark}
 use Rattle.adj_text.proofs.Spelled.{spelling, is_name, EndsName, AreSpaced}
 use Rattle.adj_text.proofs.Scans.{both_true, capital_is_no_digit}
@@ -91,7 +92,7 @@ no_digits [] xs h = absurd (cc (h.0))
 no_digits (c ∷ cs) [] h = take_while-cons is_digit c (cs ++ []) ∙ rw (capital_is_no_digit c (both_true (is_capital c) (list_all is_name_char cs) h.0).0) refl
 no_digits (c ∷ cs) (y ∷ ys) h = take_while-cons is_digit c (cs ++ flat_map spelling (Mark Comma ∷ name_words (y ∷ ys) [])) ∙ rw (capital_is_no_digit c (both_true (is_capital c) (list_all is_name_char cs) h.0).0) refl
 
-eight_wide : (rest : List ℕ) → take_while is_digit rest ≡ [] → width_of (codes "INTEGER*8" ++ rest) ≡ codes "8"
+pub eight_wide : (rest : List ℕ) → take_while is_digit rest ≡ [] → width_of (codes "INTEGER*8" ++ rest) ≡ codes "8"
 eight_wide rest d = take_while-cons is_digit 56 rest ∙ ap (λ ds. 56 ∷ ds) d
 
 integer_classed : (rest : List ℕ) → Lacks equals rest → take_while is_digit rest ≡ [] → class_of (codes "INTEGER*8" ++ rest) ≡ Some classes.Integer
@@ -115,20 +116,52 @@ is_integer x xs h =
       calls_none = refl;
     }
 
+-- statements that are one word
+word_statement : (kind : Kind) (c : ℕ) (cs : List ℕ) → class_of ((c ∷ cs) ++ []) ≡ Some kind → Lacks left (c ∷ cs) → Lacks right (c ∷ cs) → keyword_len kind ((c ∷ cs) ++ []) ≡ length (c ∷ cs) → ending_len kind ≡ 0 → call_place kind ((c ∷ cs) ++ []) ≡ None → IsStatement kind (c ∷ cs) []
+word_statement kind c cs classed l r len whole none = record {
+  spaced = tt;
+  some = omega arith;
+  classed = classed;
+  matched = is_matched-behind 0 (c ∷ cs) [] l r ∙ empty_matched;
+  keyword_ends = len;
+  whole = whole;
+  calls_none = none;
+}
+
 end_classed : class_of (codes "END") ≡ Some classes.End
 unfolding kind_of
 end_classed = rw (has_open-none equals 0 (codes "END") refl) refl
 
+end_if_classed : class_of (codes "ENDIF") ≡ Some classes.EndIf
+unfolding kind_of
+end_if_classed = rw (has_open-none equals 0 (codes "ENDIF") refl) refl
+
+end_do_classed : class_of (codes "ENDDO") ≡ Some classes.EndDo
+unfolding kind_of
+end_do_classed = rw (has_open-none equals 0 (codes "ENDDO") refl) refl
+
+else_classed : class_of (codes "ELSE") ≡ Some classes.Else
+unfolding kind_of
+else_classed = rw (has_open-none equals 0 (codes "ELSE") refl) refl
+
+implicit_classed : class_of (codes "IMPLICITNONE") ≡ Some classes.ImplicitNone
+unfolding kind_of
+implicit_classed = rw (has_open-none equals 0 (codes "IMPLICITNONE") refl) refl
+
 pub is_end : IsStatement classes.End (codes "END") []
-is_end = record {
-  spaced = tt;
-  some = omega arith;
-  classed = end_classed;
-  matched = is_matched-behind 0 (codes "END") [] refl refl ∙ empty_matched;
-  keyword_ends = refl;
-  whole = refl;
-  calls_none = refl;
-}
+is_end = word_statement classes.End 69 (codes "ND") end_classed refl refl refl refl refl
+
+pub is_end_if : IsStatement classes.EndIf (codes "ENDIF") []
+is_end_if = word_statement classes.EndIf 69 (codes "NDIF") end_if_classed refl refl refl refl refl
+
+pub is_end_do : IsStatement classes.EndDo (codes "ENDDO") []
+is_end_do = word_statement classes.EndDo 69 (codes "NDDO") end_do_classed refl refl refl refl refl
+
+pub is_else : IsStatement classes.Else (codes "ELSE") []
+is_else = word_statement classes.Else 69 (codes "LSE") else_classed refl refl refl refl refl
+
+pub is_implicit : IsStatement classes.ImplicitNone (codes "IMPLICITNONE") []
+is_implicit = word_statement classes.ImplicitNone 73 (codes "MPLICITNONE") implicit_classed refl refl refl refl refl
 
 -- CALL of a name with a list of names in parentheses
 call_classed : (rest : List ℕ) → Lacks equals rest → class_of (codes "CALL" ++ rest) ≡ Some classes.Call

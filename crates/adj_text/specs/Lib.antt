@@ -17,3 +17,4 @@ pub mod Unit
 pub mod Reads
 pub mod Text
 pub mod Written
+pub mod ReadsAs

@@ -2,6 +2,7 @@
 use Rattle.std.specs.Prelude.{ℕ, ◌+◌, ◌==◌, ℤ, pos, Bool, true, false, nat_lt, List, [], ◌∷◌, ◌++◌, map, codes, if◌then◌else◌}
 use Rattle.std.specs.Fmt.{decimal, signed_decimal}
 use Rattle.std.specs.List.{flat_map}
+use Rattle.std.specs.Ordering.{int_eq}
 use Rattle.adj_tree.specs.Code.{Var, plain, shadow, helper, Op, plus, minus, times, quot, modulo, greater, lesser, Term, Terms, lit, var, elem, neg, bin, pow, abs, none, more, Rel, is_less, is_most, is_same, is_other, is_greater, is_least, Test, compare, negation, conjunction, disjunction, Runtime, push_word, pop_word, push_array, pop_array, push_control, pop_control, zero_array, begin_reversal, count_actions, give_action, end_reversal, Act, Code, assign, choose, loop, call, runtime, stop, step, Extent, fixed, given, Declaration, Procedure}
 use Rattle.adj_text.specs.Char.{line_feed, blank, left, right, comma, equals}
 
@@ -160,10 +161,13 @@ call_text x actuals = statement (codes "CALL " ++ x ++ bracketed actuals)
 abbrev pub directive : ℕ → List ℕ
 directive n = if n == 0 then [] else codes "C$AD BINOMIAL-CKP " ++ decimal n ++ line_feed ∷ []
 
+abbrev pub is_one : Term → Bool
+is_one (lit n) = int_eq n (pos 1)
+is_one c = false
+
 -- a step is left out exactly where it is the literal 1
 abbrev pub step_text : Term → List ℕ
-step_text (lit (pos n)) = if n == 1 then [] else comma ∷ decimal n
-step_text c = comma ∷ term_text c
+step_text c = if is_one c then [] else comma ∷ term_text c
 
 abbrev mutual
   -- the lines of a statement and of those in it

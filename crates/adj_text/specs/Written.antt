@@ -1,5 +1,5 @@
 -- Written: the programs that the trees of a text are, so that their canonical text reads as they are.
-use Rattle.std.specs.Prelude.{◌≡◌, ℕ, ◌≤◌, ℤ, pos, negsuc, Bool, true, false, ◌||◌, List, [], ◌∷◌, length, None, is_some}
+use Rattle.std.specs.Prelude.{◌≡◌, ℕ, ◌^◌, ◌<◌, ◌≤◌, ℤ, pos, negsuc, Bool, true, false, ◌||◌, List, [], ◌∷◌, length, None, is_some}
 use Rattle.std.specs.List.{All, list_all}
 use Rattle.adj_tree.specs.Code.{Var, plain, shadow, helper, Term, Terms, lit, var, elem, neg, bin, pow, abs, none, more, Test, compare, negation, conjunction, disjunction, Runtime, push_word, pop_word, push_array, pop_array, push_control, pop_control, zero_array, begin_reversal, count_actions, give_action, end_reversal, Act, Code, assign, choose, loop, call, runtime, stop, step, Extent, fixed, given, Declaration, Procedure}
 use Rattle.adj_text.specs.Char.{is_capital, is_name_char}
@@ -26,10 +26,10 @@ IsIndexed (plain x) = IsName x × (is_intrinsic x ≡ false)
 IsIndexed (shadow x) = ⊥
 IsIndexed (helper r k) = ⊥
 
--- literals and extents are at least 0
-abbrev pub IsAtLeast0 : ℤ → Type 0
-IsAtLeast0 (pos n) = Unit {0}
-IsAtLeast0 (negsuc n) = ⊥
+-- literals and extents are words that aren't negative
+abbrev pub IsLiteral : ℤ → Type 0
+IsLiteral (pos n) = n < 2 ^ 63
+IsLiteral (negsuc n) = ⊥
 
 -- one or two
 abbrev pub AreSubscripts : Terms → Type 0
@@ -39,7 +39,7 @@ AreSubscripts _ = ⊥
 
 abbrev mutual
   pub IsWrittenTerm : Term → Type 0
-  IsWrittenTerm (lit n) = IsAtLeast0 n
+  IsWrittenTerm (lit n) = IsLiteral n
   IsWrittenTerm (var x) = IsVariable x
   IsWrittenTerm (elem x s) = IsIndexed x × AreSubscripts s × AreWrittenTerms s
   IsWrittenTerm (neg a) = IsWrittenTerm a
@@ -94,7 +94,7 @@ abbrev mutual
   IsWrittenCode (step line a rest) = IsWrittenAct a × IsWrittenCode rest
 
 abbrev pub IsWrittenExtent : Extent → Type 0
-IsWrittenExtent (fixed n) = IsAtLeast0 n
+IsWrittenExtent (fixed n) = IsLiteral n
 IsWrittenExtent (given x) = IsName x
 
 pub record IsWrittenDeclaration (d : Declaration) : Type 0 where

@@ -4,10 +4,12 @@
 //! It stands on the trees. The reader's and the printer's crates cite its definitions in their contracts.
 #![tactic(auto)]
 
+mod laws;
 pub mod mode;
 pub mod stated;
 pub mod token;
 
+pub use laws::text_reads_back;
 pub use mode::Mode;
 pub use stated::{Kind, Stated};
 pub use token::{Token, TokenKind, Tokens};

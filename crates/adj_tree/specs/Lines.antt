@@ -1,5 +1,5 @@
 -- Trees up to their line numbers: every line is set to 0.
-use Rattle.std.specs.Prelude.{ℕ, List, map}
+use Rattle.std.specs.Prelude.{List, map}
 use Rattle.adj_tree.specs.Code.{Act, Code, Declaration, Procedure, assign, choose, loop, call, runtime, stop, step}
 
 -- statements, with line 0 each

@@ -1,0 +1,158 @@
+//! Statements.
+
+ghost use Rattle.std.specs.Prelude.{◌≡◌, ◌++◌, ◌∷◌, codes, OnOk};
+ghost use Rattle.adj_tree.specs.Code.{plain};
+ghost use Rattle.adj_tree.specs.View.{term_of, terms_of, test_of, runtime_of, act_of, code_of};
+ghost use Rattle.adj_text.specs.Text.{statement, term_text, term_texts, test_text, place_text, call_text, runtime_name, runtime_actuals, directive, is_one, step_text, act_text, code_text, else_text, var_text};
+
+use crate::condition::push_cond;
+use crate::expression::{push_expr, push_exprs, push_place};
+use crate::layout::push_statement;
+use crate::list::{push_count, push_name};
+use crate::runtime::{push_runtime_actuals, push_runtime_name};
+use adj_tree::{Act, Cond, Expr, Exprs, Memory, Name, Place, RunCall, Stmt, Stmts};
+use std::alloc::Global;
+
+fn push_assignment(
+    alloc: Global,
+    out: &mut Vec<u8>,
+    place: &Place,
+    value: &Expr,
+) -> Result<(), Memory>
+    ensures lines { OnOk result (out.new.items ≡ out.old.items ++ statement (place_text (plain place.now.name) (terms_of place.now.subs) ++ 61 ∷ term_text (term_of value.now))) }
+{
+    let mut chars = Vec::new(alloc);
+    push_place(&mut chars, place)?;
+    chars.push(b'=')?;
+    push_expr(&mut chars, value)?;
+    push_statement(out, chars.as_slice())
+}
+
+fn push_if(alloc: Global, out: &mut Vec<u8>, cond: &Cond) -> Result<(), Memory>
+    ensures lines { OnOk result (out.new.items ≡ out.old.items ++ statement (codes "IF (" ++ test_text (test_of cond.now) ++ codes ") THEN")) }
+{
+    let mut chars = Vec::new(alloc);
+    chars.extend_from_slice(b"IF (")?;
+    push_cond(&mut chars, cond)?;
+    chars.extend_from_slice(b") THEN")?;
+    push_statement(out, chars.as_slice())
+}
+
+fn push_directive(out: &mut Vec<u8>, snapshots: u32) -> Result<(), Memory>
+    ensures line { OnOk result (out.new.items ≡ out.old.items ++ directive snapshots) }
+{
+    if snapshots != 0 {
+        out.extend_from_slice(b"C$AD BINOMIAL-CKP ")?;
+        push_count(out, snapshots)?;
+        out.push(b'\n')?;
+    }
+    Ok(())
+}
+
+fn is_one(step: &Expr) -> bool
+    ensures one { result ≡ is_one (term_of step.now) }
+{
+    match step {
+        Expr::Lit(number) => *number == 1,
+        _ => false,
+    }
+}
+
+fn push_step(out: &mut Vec<u8>, step: &Expr) -> Result<(), Memory>
+    ensures characters { OnOk result (out.new.items ≡ out.old.items ++ step_text (term_of step.now)) }
+{
+    if !is_one(step) {
+        out.push(b',')?;
+        push_expr(out, step)?;
+    }
+    Ok(())
+}
+
+fn push_do(
+    alloc: Global,
+    out: &mut Vec<u8>,
+    var: &Name,
+    first: &Expr,
+    limit: &Expr,
+    step: &Expr,
+) -> Result<(), Memory>
+    ensures lines { OnOk result (out.new.items ≡ out.old.items ++ statement (codes "DO " ++ var.now ++ 61 ∷ term_text (term_of first.now) ++ 44 ∷ term_text (term_of limit.now) ++ step_text (term_of step.now))) }
+{
+    let mut chars = Vec::new(alloc);
+    chars.extend_from_slice(b"DO ")?;
+    push_name(&mut chars, var)?;
+    chars.push(b'=')?;
+    push_expr(&mut chars, first)?;
+    chars.push(b',')?;
+    push_expr(&mut chars, limit)?;
+    push_step(&mut chars, step)?;
+    push_statement(out, chars.as_slice())
+}
+
+fn push_call(alloc: Global, out: &mut Vec<u8>, name: &Name, actuals: &Exprs) -> Result<(), Memory>
+    ensures lines { OnOk result (out.new.items ≡ out.old.items ++ call_text name.now (term_texts (terms_of actuals.now))) }
+{
+    let mut chars = Vec::new(alloc);
+    chars.extend_from_slice(b"CALL ")?;
+    push_name(&mut chars, name)?;
+    push_exprs(&mut chars, actuals)?;
+    push_statement(out, chars.as_slice())
+}
+
+fn push_runtime(alloc: Global, out: &mut Vec<u8>, call: &RunCall) -> Result<(), Memory>
+    ensures lines { OnOk result (out.new.items ≡ out.old.items ++ call_text (runtime_name (runtime_of call.now)) (runtime_actuals (runtime_of call.now))) }
+{
+    let mut chars = Vec::new(alloc);
+    chars.extend_from_slice(b"CALL ")?;
+    push_runtime_name(&mut chars, call)?;
+    push_runtime_actuals(&mut chars, call)?;
+    push_statement(out, chars.as_slice())
+}
+
+#[cycle(push)]
+fn push_stmt(alloc: Global, out: &mut Vec<u8>, stmt: &Stmt) -> Result<(), Memory>
+    ensures lines { OnOk result (out.new.items ≡ out.old.items ++ act_text (act_of stmt.now.act)) }
+{
+    match &stmt.act {
+        Act::Assign(place, value) => push_assignment(alloc, out, place, value),
+        Act::If(cond, then, other) => {
+            push_if(alloc, out, cond)?;
+            push_stmts(alloc, out, then)?;
+            push_else(alloc, out, other)?;
+            push_statement(out, b"END IF")
+        }
+        Act::Loop(var, first, limit, step, body, snapshots) => {
+            push_directive(out, *snapshots)?;
+            push_do(alloc, out, var, first, limit, step)?;
+            push_stmts(alloc, out, body)?;
+            push_statement(out, b"END DO")
+        }
+        Act::Call(name, actuals) => push_call(alloc, out, name, actuals),
+        Act::Run(call) => push_runtime(alloc, out, call),
+    }
+}
+
+#[cycle(push)]
+fn push_else(alloc: Global, out: &mut Vec<u8>, other: &Stmts) -> Result<(), Memory>
+    ensures lines { OnOk result (out.new.items ≡ out.old.items ++ else_text (code_of other.now)) }
+{
+    if let Stmts::More(first, rest) = other {
+        push_statement(out, b"ELSE")?;
+        push_stmt(alloc, out, first)?;
+        push_stmts(alloc, out, rest)?;
+    }
+    Ok(())
+}
+
+/// Adds the lines of statements in order.
+#[cycle(push)]
+pub fn push_stmts(alloc: Global, out: &mut Vec<u8>, list: &Stmts) -> Result<(), Memory>
+    ensures lines { OnOk result (out.new.items ≡ out.old.items ++ code_text (code_of list.now)) }
+{
+    let mut current = list;
+    while let Stmts::More(first, rest) = current {
+        push_stmt(alloc, out, first)?;
+        current = rest;
+    }
+    Ok(())
+}

@@ -1,0 +1,299 @@
+//! Printed texts, character by character.
+
+use crate::condition::push_cond;
+use crate::expression::push_expr;
+use crate::layout::push_statement;
+use crate::text;
+use adj_tree::{
+    Act, Cond, Decl, Expr, Exprs, Items, Memory, Name, Op, Place, Program, Rel, RunCall, Stmt,
+    Stmts, Unit,
+};
+use std::alloc::Global;
+use std::test::Fail;
+
+type Made<T> = Result<T, Memory>;
+
+fn name(alloc: Global, text: &str) -> Made<Name> {
+    Ok(Name::new(text.as_bytes().to_vec(alloc)?))
+}
+
+fn var(alloc: Global, text: &str) -> Made<Expr> {
+    Ok(Expr::Var(name(alloc, text)?))
+}
+
+fn lit(value: i64) -> Made<Expr> {
+    Ok(Expr::Lit(value))
+}
+
+fn bin(alloc: Global, op: Op, left: Made<Expr>, right: Made<Expr>) -> Made<Expr> {
+    let left = Box::new(alloc, left?)?;
+    let right = Box::new(alloc, right?)?;
+    Ok(Expr::Bin(op, left, right))
+}
+
+fn neg(alloc: Global, inner: Made<Expr>) -> Made<Expr> {
+    Ok(Expr::Neg(Box::new(alloc, inner?)?))
+}
+
+fn pow(alloc: Global, base: Made<Expr>, exponent: u32) -> Made<Expr> {
+    Ok(Expr::Pow(Box::new(alloc, base?)?, exponent))
+}
+
+fn less(alloc: Global, left: Made<Expr>, right: Made<Expr>) -> Made<Cond> {
+    let left = Box::new(alloc, left?)?;
+    let right = Box::new(alloc, right?)?;
+    Ok(Cond::Cmp(Rel::Lt, left, right))
+}
+
+fn or(alloc: Global, left: Made<Cond>, right: Made<Cond>) -> Made<Cond> {
+    let left = Box::new(alloc, left?)?;
+    let right = Box::new(alloc, right?)?;
+    Ok(Cond::Or(left, right))
+}
+
+fn not(alloc: Global, inner: Made<Cond>) -> Made<Cond> {
+    Ok(Cond::Not(Box::new(alloc, inner?)?))
+}
+
+fn scalar(alloc: Global, text: &str) -> Made<Place> {
+    Ok(Place {
+        name: name(alloc, text)?,
+        subs: Exprs::Empty,
+    })
+}
+
+fn none<T: Drop>(alloc: Global) -> Made<Vec<T>> {
+    Ok(Vec::new(alloc))
+}
+
+fn and<T: Drop>(list: Made<Vec<T>>, item: Made<T>) -> Made<Vec<T>> {
+    let mut list = list?;
+    list.push(item?)?;
+    Ok(list)
+}
+
+fn stmt(act: Act) -> Made<Stmt> {
+    Ok(Stmt { line: 0, act })
+}
+
+fn assign(alloc: Global, text: &str, value: Made<Expr>) -> Made<Stmt> {
+    let place = scalar(alloc, text)?;
+    stmt(Act::Assign(place, value?))
+}
+
+fn push_word(alloc: Global, text: &str) -> Made<Stmt> {
+    stmt(Act::Run(RunCall::PushWord(scalar(alloc, text)?)))
+}
+
+fn pop_word(alloc: Global, text: &str) -> Made<Stmt> {
+    stmt(Act::Run(RunCall::PopWord(scalar(alloc, text)?)))
+}
+
+fn branch(
+    alloc: Global,
+    cond: Made<Cond>,
+    then: Made<Vec<Stmt>>,
+    other: Made<Vec<Stmt>>,
+) -> Made<Stmt> {
+    let cond = cond?;
+    let then = Stmts::from_vec(alloc, then?)?;
+    let other = Stmts::from_vec(alloc, other?)?;
+    stmt(Act::If(cond, then, other))
+}
+
+fn count(alloc: Global, step: Made<Expr>, body: Made<Vec<Stmt>>, snapshots: u32) -> Made<Stmt> {
+    let counter = name(alloc, "I")?;
+    let limit = var(alloc, "N")?;
+    let step = step?;
+    let body = Stmts::from_vec(alloc, body?)?;
+    stmt(Act::Loop(counter, Expr::Lit(1), limit, step, body, snapshots))
+}
+
+fn decl(alloc: Global, text: &str) -> Made<Decl> {
+    let name = name(alloc, text)?;
+    let extents = Items::new(Vec::new(alloc));
+    Ok(Decl {
+        line: 0,
+        name,
+        extents,
+    })
+}
+
+fn program(
+    alloc: Global,
+    dummies: Made<Vec<Name>>,
+    decls: Made<Vec<Decl>>,
+    body: Made<Vec<Stmt>>,
+    is_none: bool,
+) -> Made<Program> {
+    let name = name(alloc, "P_B")?;
+    let dummies = Items::new(dummies?);
+    let decls = Items::new(decls?);
+    let body = Stmts::from_vec(alloc, body?)?;
+    let mut units = Vec::new(alloc);
+    units.push(Unit {
+        line: 0,
+        name,
+        dummies,
+        none: is_none,
+        decls,
+        body,
+    })?;
+    Ok(Program {
+        units: Items::new(units),
+    })
+}
+
+fn is_printed(alloc: Global, program: Made<Program>, lines: &str) -> Made<bool> {
+    let program = program?;
+    let printed = text(alloc, &program)?;
+    Ok(printed.as_slice() == lines.as_bytes())
+}
+
+fn is_shown(alloc: Global, expr: Made<Expr>, chars: &str) -> Made<bool> {
+    let expr = expr?;
+    let mut out = Vec::new(alloc);
+    push_expr(&mut out, &expr)?;
+    Ok(out.as_slice() == chars.as_bytes())
+}
+
+fn is_test(alloc: Global, cond: Made<Cond>, chars: &str) -> Made<bool> {
+    let cond = cond?;
+    let mut out = Vec::new(alloc);
+    push_cond(&mut out, &cond)?;
+    Ok(out.as_slice() == chars.as_bytes())
+}
+
+#[test]
+fn parentheses_stand_where_the_level_is_too_low(rt: HostRuntime) -> Result<(), Fail> {
+    let at = rt.alloc();
+    let difference = bin(at, Op::Sub, var(at, "B"), var(at, "C"));
+    assert!(rt; is_shown(at, bin(at, Op::Sub, var(at, "A"), difference), "A-(B-C)")?);
+    let difference = bin(at, Op::Sub, var(at, "A"), var(at, "B"));
+    assert!(rt; is_shown(at, bin(at, Op::Sub, difference, var(at, "C")), "A-B-C")?);
+    let sum = bin(at, Op::Add, var(at, "A"), var(at, "B"));
+    assert!(rt; is_shown(at, neg(at, sum), "-(A+B)")?);
+    assert!(rt; is_shown(at, pow(at, neg(at, var(at, "A")), 2), "(-A)**2")?);
+    Ok(())
+}
+
+#[test]
+fn quotients_intrinsics_and_conditions_have_their_parentheses(rt: HostRuntime) -> Result<(), Fail> {
+    let at = rt.alloc();
+    let quotient = bin(at, Op::Quot, var(at, "B"), var(at, "C"));
+    assert!(rt; is_shown(at, bin(at, Op::Mul, var(at, "A"), quotient), "A*(B/C)")?);
+    let sum = bin(at, Op::Add, var(at, "A"), lit(10));
+    assert!(rt; is_shown(at, bin(at, Op::Max, sum, var(at, "B")), "MAX(A+10,B)")?);
+    let either = or(
+        at,
+        less(at, var(at, "A"), var(at, "B")),
+        less(at, var(at, "C"), var(at, "D")),
+    );
+    assert!(rt; is_test(at, not(at, either), ".NOT.(A.LT.B.OR.C.LT.D)")?);
+    Ok(())
+}
+
+// How many lines a statement of so many characters has.
+fn lines_of(alloc: Global, chars: usize) -> Made<usize> {
+    let mut statement = Vec::new(alloc);
+    for _ in 0..chars {
+        statement.push(b'A')?;
+    }
+    let mut out = Vec::new(alloc);
+    push_statement(&mut out, statement.as_slice())?;
+    Ok(out.as_slice().iter().filter(|c| **c == b'\n').count())
+}
+
+#[test]
+fn statements_are_cut_after_66_characters(rt: HostRuntime) -> Result<(), Fail> {
+    assert_eq!(rt; lines_of(rt.alloc(), 66)?, 1);
+    assert_eq!(rt; lines_of(rt.alloc(), 67)?, 2);
+    assert_eq!(rt; lines_of(rt.alloc(), 132)?, 2);
+    assert_eq!(rt; lines_of(rt.alloc(), 133)?, 3);
+    Ok(())
+}
+
+fn square_dummies(at: Global) -> Made<Vec<Name>> {
+    and(
+        and(
+            and(and(none(at), name(at, "X")), name(at, "XB")),
+            name(at, "Y"),
+        ),
+        name(at, "YB"),
+    )
+}
+
+fn square_decls(at: Global) -> Made<Vec<Decl>> {
+    let dummies = and(
+        and(
+            and(and(none(at), decl(at, "X")), decl(at, "XB")),
+            decl(at, "Y"),
+        ),
+        decl(at, "YB"),
+    );
+    and(and(dummies, decl(at, "ADW1")), decl(at, "ADW2"))
+}
+
+// ADW2=ADW1*X and XB=XB+ADW2, behind what stands before
+fn square_step(at: Global, before: Made<Vec<Stmt>>) -> Made<Vec<Stmt>> {
+    let product = bin(at, Op::Mul, var(at, "ADW1"), var(at, "X"));
+    let sum = bin(at, Op::Add, var(at, "XB"), var(at, "ADW2"));
+    and(
+        and(before, assign(at, "ADW2", product)),
+        assign(at, "XB", sum),
+    )
+}
+
+fn square_body(at: Global) -> Made<Vec<Stmt>> {
+    let square = bin(at, Op::Mul, var(at, "X"), var(at, "X"));
+    let forward = and(and(none(at), push_word(at, "Y")), assign(at, "Y", square));
+    let back = and(and(forward, assign(at, "XB", lit(0))), pop_word(at, "Y"));
+    let adjoint = and(
+        and(back, assign(at, "ADW1", var(at, "YB"))),
+        assign(at, "YB", lit(0)),
+    );
+    and(
+        square_step(at, square_step(at, adjoint)),
+        assign(at, "YB", lit(0)),
+    )
+}
+
+#[test]
+fn the_adjoint_of_a_square_is_printed(rt: HostRuntime) -> Result<(), Fail> {
+    let at = rt.alloc();
+    let square = program(
+        at,
+        square_dummies(at),
+        square_decls(at),
+        square_body(at),
+        false,
+    );
+    let lines =
+        "      SUBROUTINE P_B(X,XB,Y,YB)\n      INTEGER*8 X\n      INTEGER*8 XB\n      INTEGER*8 Y\n      INTEGER*8 YB\n      INTEGER*8 ADW1\n      INTEGER*8 ADW2\n      CALL PUSHINTEGER8(Y)\n      Y=X*X\n      XB=0\n      CALL POPINTEGER8(Y)\n      ADW1=YB\n      YB=0\n      ADW2=ADW1*X\n      XB=XB+ADW2\n      ADW2=ADW1*X\n      XB=XB+ADW2\n      YB=0\n      END\n";
+    assert!(rt; is_printed(at, square, lines)?);
+    Ok(())
+}
+
+fn loops(at: Global) -> Made<Vec<Stmt>> {
+    let plain = count(at, lit(1), none(at), 0);
+    let marked = count(at, var(at, "K"), and(none(at), push_word(at, "I")), 3);
+    and(and(none(at), plain), marked)
+}
+
+fn branches(at: Global, before: Made<Vec<Stmt>>) -> Made<Vec<Stmt>> {
+    let then = and(none(at), stmt(Act::Run(RunCall::End)));
+    let one = branch(at, less(at, var(at, "A"), lit(2)), then, none(at));
+    let other = and(none(at), assign(at, "A", lit(3)));
+    let two = branch(at, less(at, var(at, "A"), lit(2)), none(at), other);
+    and(and(before, one), two)
+}
+
+#[test]
+fn loops_and_branches_are_printed(rt: HostRuntime) -> Result<(), Fail> {
+    let at = rt.alloc();
+    let all = program(at, none(at), none(at), branches(at, loops(at)), true);
+    let lines =
+        "      SUBROUTINE P_B\n      IMPLICIT NONE\n      DO I=1,N\n      END DO\nC$AD BINOMIAL-CKP 3\n      DO I=1,N,K\n      CALL PUSHINTEGER8(I)\n      END DO\n      IF (A.LT.2) THEN\n      CALL ADEND\n      END IF\n      IF (A.LT.2) THEN\n      ELSE\n      A=3\n      END IF\n      END\n";
+    assert!(rt; is_printed(at, all, lines)?);
+    Ok(())
+}

@@ -1,0 +1,62 @@
+-- BranchSays: the characters of a block IF with a written condition say it.
+use Rattle.std.proofs.Common.{◌≡◌, ℕ, ℤ, pos, negsuc, Bool, true, false, cond, List, [], ◌∷◌, ◌++◌, map, None, refl, sym, ap, subst, ◌∙◌, append_assoc, append-nil}
+use Rattle.std.specs.Prelude.{codes}
+use Rattle.std.specs.Ordering.{int_eq}
+use Rattle.std.specs.List.{flat_map}
+use Rattle.std.proofs.lemmas.Bool.Decides.{Decides-int_eq}
+use Rattle.adj_tree.specs.Code.{Var, plain, shadow, helper, Term, lit, var, elem, neg, bin, pow, abs, Test}
+use Rattle.adj_text.specs.declared.stated.Kind.TheVariants as classes
+use Rattle.adj_text.specs.declared.token.TokenKind.TheVariants.{Left, Right, Comma, Equals}
+use Rattle.adj_text.specs.Char.{comma, equals, folded}
+use Rattle.adj_text.specs.Form.{opens_do, opens_if, ReadsForm}
+use Rattle.adj_text.specs.Form as forms
+use Rattle.adj_text.specs.Lined.{Lines}
+use Rattle.adj_text.specs.Statement.{Range, ReadsRange, ReadsDo}
+use Rattle.adj_text.specs.Statement as statements
+use Rattle.adj_text.specs.Text.{is_one, step_text, var_text, term_text, test_text}
+use Rattle.adj_text.specs.Word.{Word, Named, Mark, words_of}
+use Rattle.adj_text.specs.Written.{IsVariable, IsWrittenTerm, IsWrittenTest}
+use Rattle.adj_text.proofs.Balanced.{grouped}
+use Rattle.adj_text.proofs.Joins.{allowed-append, folded-append}
+use Rattle.adj_text.proofs.Opened.{do_words, step_words, step_chars, do_chars, do_spelled, is_do_statement, guard_words, if_chars, if_statement, states_if, if_words}
+use Rattle.adj_text.proofs.Printed.{SaysChars}
+use Rattle.adj_text.proofs.Said.{Says}
+use Rattle.adj_text.proofs.Sayings.{IsSolid, solid_words, says_words}
+use Rattle.adj_text.proofs.Spelled.{spelling}
+use Rattle.adj_text.proofs.TermDerived.{reads_term}
+use Rattle.adj_text.proofs.TermWords.{term_words}
+use Rattle.adj_text.proofs.TestDerived.{test_words, reads_test}
+use Rattle.adj_text.proofs.TestSpelled.{test_spelled, test_spaced}
+
+solid_test : (c : Test) → IsWrittenTest c → IsSolid (test_text c)
+solid_test c h =
+    let P : List ℕ → Type 0 = IsSolid in
+    subst P (test_spelled c h [] ∙ append-nil (test_text c)) (solid_words (test_words c []) (test_spaced c h [] tt tt))
+
+-- what a block IF's characters are without blanks
+if_folded : (c : Test) → IsWrittenTest c → folded (codes "IF (" ++ test_text c ++ codes ") THEN") ≡ if_chars c
+if_folded c h =
+    ap (λ cs. codes "IF(" ++ cs) (folded-append (test_text c) (codes ") THEN") ∙ ap (λ cs. cs ++ codes ")THEN") (solid_test c h).0 ∙ sym (append_assoc (test_text c) (codes ")") (codes "THEN")))
+
+if_reads : (s : Lines) (c : Test) → s.text ≡ if_chars c → s.mark ≡ 0 → IsWrittenTest c → Says s (opens_if c)
+if_reads s c e m h =
+    let form : ReadsForm 0 classes.BlockIf (guard_words c) (opens_if c) = forms.ReadsForm.tests (statements.ReadsGuard.guard (reads_test c (Mark Right ∷ []) h)) in
+    let P : List Word → Type 0 = λ ws. ReadsForm s.mark classes.BlockIf ws (opens_if c) in
+    let Q : ℕ → Type 0 = λ mark. ReadsForm mark classes.BlockIf (guard_words c) (opens_if c) in
+    record {
+      found = if_statement s c;
+      is_stated = states_if s c e h;
+      at_line = refl;
+      with_label = refl;
+      form = subst P (sym (if_words s c e h)) (subst Q (sym m) form);
+    }
+
+pub says_if : (c : Test) → IsWrittenTest c → SaysChars 0 (codes "IF (" ++ test_text c ++ codes ") THEN") (opens_if c)
+says_if c h = record {
+  first = 73;
+  others = codes "F (" ++ test_text c ++ codes ") THEN";
+  are = refl;
+  some = refl;
+  allowed = allowed-append (codes "IF (" ++ test_text c) (codes ") THEN") (solid_test c h).1 refl;
+  says = λ s e m. if_reads s c (e ∙ if_folded c h) m h;
+}
