@@ -213,6 +213,10 @@ front-among x (y ∷ xs) ys h = go (name_eq x y) h (front-among x xs ys)
     go true h ih = refl
     go false h ih = ih h
 
+has-behind : (x : List ℕ) (xs ys : List (List ℕ)) → has_name x ys ≡ true → has_name x (xs ++ ys) ≡ true
+has-behind x [] ys h = h
+has-behind x (y ∷ xs) ys h = or_right (name_eq x y) (has_name x (xs ++ ys)) (has-behind x xs ys h)
+
 locals-named : (dummies : List (List ℕ)) (ds : List Declaration) → All IsWrittenDeclaration ds → All IsName (locals_among dummies ds)
 locals-named dummies [] h = All-nil IsName
 locals-named dummies (d ∷ ds) h = go (has_name d.name dummies) (locals-named dummies ds (All-tail IsWrittenDeclaration d ds h))
@@ -224,3 +228,76 @@ locals-named dummies (d ∷ ds) h = go (has_name d.name dummies) (locals-named d
 -- a scalar under a name is declared well
 scalar-written : (d : Declaration) → IsName d.name → d.extents ≡ [] → IsWrittenDeclaration d
 scalar-written d h e = record { named = h; few_extents = subst (λ es. length es ≤ 2) (sym e) (omega arith); extents = All-same IsWrittenExtent d.extents [] e (All-nil IsWrittenExtent) }
+
+declaration-named : (line : ℕ) (ds : List Declaration) (x : List ℕ) → IsName x → All IsWrittenDeclaration ds → IsName (declaration line ds x).name
+declaration-named line [] x h a = h
+declaration-named line (d ∷ ds) x h a = go (name_eq d.name x) (declaration-named line ds x h (All-tail IsWrittenDeclaration d ds a))
+  where
+    go : (b : Bool) → IsName (declaration line ds x).name → IsName (if b then d else declaration line ds x).name
+    go true ih = let here = All-head IsWrittenDeclaration d ds a in here.named
+    go false ih = ih
+
+declaration-scalar : (line : ℕ) (ds : List Declaration) (x : List ℕ) → AreScalars ds → (declaration line ds x).extents ≡ []
+declaration-scalar line [] x h = refl
+declaration-scalar line (d ∷ ds) x h = go (name_eq d.name x) (declaration-scalar line ds x h.1)
+  where
+    go : (b : Bool) → (declaration line ds x).extents ≡ [] → (if b then d else declaration line ds x).extents ≡ []
+    go true ih = h.0
+    go false ih = ih
+
+-- the parts of the adjoint of u, whose variables are written names
+module _ (u : Procedure) (units : List (List ℕ)) (names : All IsName (variables u)) (declared : All IsWrittenDeclaration u.declarations) (scalars : AreScalars u.declarations) where
+  abbrev ns : List Named
+  ns = product_names (variables u) units names
+
+  dummies-written : (xs : List (List ℕ)) → ((x : List ℕ) → has_name x xs ≡ true → has_name x (variables u) ≡ true) → All IsName xs → All IsName (with_shadows ns xs)
+  dummies-written [] h a = All-nil IsName
+  dummies-written (x ∷ xs) h a =
+      let here : has_name x (x ∷ xs) ≡ true = ap (λ b. b || has_name x xs) (name_refl x) in
+      let rest = dummies-written xs (λ y e. h y (or_right (name_eq y x) (has_name y xs) e)) (All-tail IsName x xs a) in
+      All-cons IsName x (name_in ns (shadow x) ∷ with_shadows ns xs) (All-head IsName x xs a)
+        (All-cons IsName (name_in ns (shadow x)) (with_shadows ns xs) (shadow-name (variables u) units names x (h x here)) rest)
+
+  declarations-written : (xs : List (List ℕ)) → ((x : List ℕ) → has_name x xs ≡ true → has_name x (variables u) ≡ true) → All IsName xs → All IsWrittenDeclaration (declared_with_shadows ns u xs)
+  declarations-written [] h a = All-nil IsWrittenDeclaration
+  declarations-written (x ∷ xs) h a =
+      let here : has_name x (x ∷ xs) ≡ true = ap (λ b. b || has_name x xs) (name_refl x) in
+      let d = declaration u.line u.declarations x in
+      let none_there = declaration-scalar u.line u.declarations x scalars in
+      let rest = declarations-written xs (λ y e. h y (or_right (name_eq y x) (has_name y xs) e)) (All-tail IsName x xs a) in
+      All-cons IsWrittenDeclaration d (record d { name = name_in ns (shadow x) } ∷ declared_with_shadows ns u xs)
+        (scalar-written d (declaration-named u.line u.declarations x (All-head IsName x xs a) declared) none_there)
+        (All-cons IsWrittenDeclaration (record d { name = name_in ns (shadow x) }) (declared_with_shadows ns u xs)
+          (scalar-written (record d { name = name_in ns (shadow x) }) (shadow-name (variables u) units names x (h x here)) none_there) rest)
+
+  helpers-written : (line : ℕ) → All IsWrittenDeclaration (declared_helpers ns line (helpers_from work 1 2 ++ helpers_from temp 1 0))
+  helpers-written line =
+      let first = scalar line (name_in ns (helper work 1)) in
+      let second = scalar line (name_in ns (helper work 2)) in
+      All-cons IsWrittenDeclaration first (second ∷ []) (scalar-written first (work-name (variables u) units names 1 refl) refl)
+        (All-cons IsWrittenDeclaration second [] (scalar-written second (work-name (variables u) units names 2 refl) refl) (All-nil IsWrittenDeclaration))
+
+-- the adjoint of a written unit that is one product is written
+pub unit-written : (ps : List Procedure) (u : Procedure) (vars outvars : List Bool) (p : Product) → u.body ≡ step p.line (assigned p) stop → IsWrittenProcedure u → AreScalars u.declarations → has_name p.target (variables u) ≡ true → has_name p.left (variables u) ≡ true → has_name p.right (variables u) ≡ true → IsWrittenProcedure (adjoint_unit ps u vars outvars)
+unit-written ps u vars outvars p hb w scalars ht ha hc =
+    let vs = variables u in
+    let units = map unit_name ps ++ (adjoint_name ps u ∷ []) in
+    let names : All IsName vs = All-append IsName u.dummies (locals u) w.dummies (locals-named u.dummies u.declarations w.declarations) in
+    let front = λ (x : List ℕ) (e : has_name x u.dummies ≡ true). front-among x u.dummies (locals u) e in
+    let behind = λ (x : List ℕ) (e : has_name x (locals u) ≡ true). has-behind x u.dummies (locals u) e in
+    let out = unmarked u.dummies outvars in
+    let into = unmarked u.dummies vars in
+    let table : adjoint_names ps u ≡ product_names vs units names = ap (λ c. unit_names vs units (map shadow vs ++ helpers c)) hb in
+    let ns = product_names vs units names in
+    record {
+      named = fresh-name (u.name ++ codes "_B") (source_names ps) (name-append u.name (codes "_B") w.named refl);
+      dummies = All-same IsName (with_shadows (adjoint_names ps u) u.dummies) (with_shadows ns u.dummies) (ap (λ t. with_shadows t u.dummies) table) (dummies-written u units names w.declarations scalars u.dummies front w.dummies);
+      declarations =
+        let all : List Declaration = declared_with_shadows ns u u.dummies ++ (declared_with_shadows ns u (locals u) ++ declared_helpers ns u.line (helpers_from work 1 2 ++ helpers_from temp 1 0)) in
+        All-same IsWrittenDeclaration _ all
+          ((λ i. declared_with_shadows (table i) u u.dummies ++ (declared_with_shadows (table i) u (locals u) ++ declared_helpers (table i) u.line (helpers (hb i)))))
+          (All-append IsWrittenDeclaration (declared_with_shadows ns u u.dummies) _ (declarations-written u units names w.declarations scalars u.dummies front w.dummies)
+            (All-append IsWrittenDeclaration (declared_with_shadows ns u (locals u)) _ (declarations-written u units names w.declarations scalars (locals u) behind (locals-named u.dummies u.declarations w.declarations)) (helpers-written u units names w.declarations scalars u.line)));
+      body = subst IsWrittenCode (λ i. rename (naming (sym table i)) (adjoint_body u.line (sym hb i) out into))
+        (body-written vs units names u.line p out into ht ha hc (λ x e. front x (unmarked-among x u.dummies outvars e)) (λ x e. front x (unmarked-among x u.dummies vars e)))
+    }
