@@ -1,24 +1,26 @@
 -- The adjoint of a written program is written.
 use Rattle.std.proofs.Common.{◌≡◌, ℕ, zero, suc, Bool, true, false, List, [], ◌∷◌, ◌++◌, ◌+◌, ◌/◌, ◌%◌, ◌<◌, ◌≤◌, ◌^◌, All, map, length, nat_lt, refl, sym, ap, ◌∙◌, subst, arith, if◌then◌else◌, codes}
-use Rattle.std.specs.Prelude.{pos, ◌||◌, ◌&&◌, ◌==◌}
+use Rattle.std.specs.Prelude.{◌||◌, ◌&&◌}
 use Rattle.std.specs.List.{list_all}
 use Rattle.std.proofs.lemmas.List.Elements.{All-nil, All-cons, All-head, All-tail, All-append, All-same}
 use Rattle.std.proofs.lemmas.Bool.Decides.{nat_tests}
 use Rattle.adj_text.specs.Char.{is_name_char}
-use Rattle.adj_text.specs.Written.{IsName, IsVariable, IsWrittenTerm, IsWrittenAct, IsWrittenCode, IsWrittenExtent, IsWrittenDeclaration, IsWrittenProcedure, IsWritten}
-use Rattle.adj_tree.specs.Code.{Role, Var, plain, shadow, helper, work, temp, name_eq, var_eq, Term, var, lit, bin, plus, times, none, assign, runtime, push_word, pop_word, Code, stop, step, Extent, Declaration, Procedure}
-use Rattle.adj_tree.proofs.Names.{name_refl, name_same}
+use Rattle.adj_text.specs.Written.{IsName, IsWrittenCode, IsWrittenExtent, IsWrittenDeclaration, IsWrittenProcedure, IsWritten}
+use Rattle.adj_tree.specs.Code.{Var, plain, shadow, helper, work, temp, name_eq, var_eq, Code, stop, step, Declaration, Procedure}
+use Rattle.adj_tree.proofs.Names.{name_refl}
 use Rattle.adj_meaning.specs.Append.{◌+++◌}
 use Rattle.adj_meaning.specs.Rename.{rename}
 use Rattle.adj_meaning.proofs.Renamed.{rename-append}
 use Rattle.adj_transpose.specs.Fresh.{has_name, digits_before, digits, candidate, first_free, fresh, reserved}
 use Rattle.adj_transpose.specs.Naming.{Named, own, named, wanted, unit_names, name_in, naming}
 use Rattle.adj_transpose.specs.Emit.{zeros, backward_act, adjoint_body}
-use Rattle.adj_transpose.specs.Straight.{AreScalars}
-use Rattle.adj_transpose.specs.Program.{locals_among, locals, variables, scalar, declaration, unit_name, source_names, adjoint_name, helpers_from, helpers, made_for, adjoint_names, unmarked, with_shadows, declared_with_shadows, declared_helpers, adjoint_unit}
-use Rattle.adj_transpose.proofs.Variables.{or_right, or_assoc, var_refl}
+use Rattle.adj_transpose.specs.Pairs.{IsStraight}
+use Rattle.adj_transpose.specs.Straight.{AreScalars, keys, IsStraightUnit}
+use Rattle.adj_transpose.specs.Program.{locals_among, locals, variables, scalar, declaration, unit_name, source_names, adjoint_name, helpers_from, helpers, adjoint_names, unmarked, with_shadows, declared_with_shadows, declared_helpers, adjoint_unit, unit_at, adjoint_program}
+use Rattle.adj_transpose.proofs.Variables.{or_right, or_assoc}
 use Rattle.adj_sweep.specs.declared.product.Product.{Product}
 use Rattle.adj_sweep.specs.Table.{assigned}
+use Rattle.adj_sweep.proofs.Heads.{stands_has}
 
 -- ---- names
 
@@ -139,9 +141,9 @@ module _ (vs units : List (List ℕ)) (names : All IsName vs) where
   are_named =
       let ask = λ (v : Var). IsName (wanted v) in
       let helpers_wanted : All ask (helper work 1 ∷ helper work 2 ∷ []) =
-            All-cons ask (helper work 1) (helper work 2 ∷ []) (refl, refl) (All-cons ask (helper work 2) [] (refl, refl) (All-nil ask)) in
+      All-cons ask (helper work 1) (helper work 2 ∷ []) (refl, refl) (All-cons ask (helper work 2) [] (refl, refl) (All-nil ask)) in
       named-append (map own vs) (named (vs ++ (units ++ reserved)) (map shadow vs ++ (helper work 1 ∷ helper work 2 ∷ []))) (own-named vs names)
-        (made-named (vs ++ (units ++ reserved)) (map shadow vs ++ (helper work 1 ∷ helper work 2 ∷ [])) (All-append ask (map shadow vs) (helper work 1 ∷ helper work 2 ∷ []) (shadows-wanted vs names) helpers_wanted))
+      (made-named (vs ++ (units ++ reserved)) (map shadow vs ++ (helper work 1 ∷ helper work 2 ∷ [])) (All-append ask (map shadow vs) (helper work 1 ∷ helper work 2 ∷ []) (shadows-wanted vs names) helpers_wanted))
 
   plain-name : (x : List ℕ) → has_name x vs ≡ true → IsName (name_in product_names (plain x))
   plain-name x h = name_in-name product_names (plain x) are_named (has-append_var (plain x) (map own vs) _ ∙ or_left (has_var (plain x) (map own vs)) _ (has_own x vs ∙ h))
@@ -185,9 +187,13 @@ module _ (vs units : List (List ℕ)) (names : All IsName vs) where
       let zero_word : 0 < 2 ^ 63 = omega arith in
       let behind : Code = backward_act 0 p.line (assigned p) +++ zeros line into in
       let back : IsWrittenCode (rename r behind) =
-            (t, ((w1, tb), ((tb, zero_word), ((w2, (w1, b)), ((ab, (ab, w2)), ((w2, (w1, a)), ((bb, (bb, w2)), zeros-written line into hi))))))) in
-      (t, ((t, (a, b)),
-      subst IsWrittenCode (sym (rename-append r (zeros line out) behind)) (code-append (rename r (zeros line out)) (rename r behind) (zeros-written line out ho) back)))
+      (t, ((w1, tb), ((tb, zero_word), ((w2, (w1, b)), ((ab, (ab, w2)), ((w2, (w1, a)), ((bb, (bb, w2)), zeros-written line into hi))))))) in (
+        t,
+        (
+          (t, (a, b)),
+          subst IsWrittenCode (sym (rename-append r (zeros line out) behind)) (code-append (rename r (zeros line out)) (rename r behind) (zeros-written line out ho) back),
+        ),
+      )
 
 -- ---- the unit
 
@@ -256,7 +262,7 @@ module _ (u : Procedure) (units : List (List ℕ)) (names : All IsName (variable
       let here : has_name x (x ∷ xs) ≡ true = ap (λ b. b || has_name x xs) (name_refl x) in
       let rest = dummies-written xs (λ y e. h y (or_right (name_eq y x) (has_name y xs) e)) (All-tail IsName x xs a) in
       All-cons IsName x (name_in ns (shadow x) ∷ with_shadows ns xs) (All-head IsName x xs a)
-        (All-cons IsName (name_in ns (shadow x)) (with_shadows ns xs) (shadow-name (variables u) units names x (h x here)) rest)
+      (All-cons IsName (name_in ns (shadow x)) (with_shadows ns xs) (shadow-name (variables u) units names x (h x here)) rest)
 
   declarations-written : (xs : List (List ℕ)) → ((x : List ℕ) → has_name x xs ≡ true → has_name x (variables u) ≡ true) → All IsName xs → All IsWrittenDeclaration (declared_with_shadows ns u xs)
   declarations-written [] h a = All-nil IsWrittenDeclaration
@@ -266,16 +272,16 @@ module _ (u : Procedure) (units : List (List ℕ)) (names : All IsName (variable
       let none_there = declaration-scalar u.line u.declarations x scalars in
       let rest = declarations-written xs (λ y e. h y (or_right (name_eq y x) (has_name y xs) e)) (All-tail IsName x xs a) in
       All-cons IsWrittenDeclaration d (record d { name = name_in ns (shadow x) } ∷ declared_with_shadows ns u xs)
-        (scalar-written d (declaration-named u.line u.declarations x (All-head IsName x xs a) declared) none_there)
-        (All-cons IsWrittenDeclaration (record d { name = name_in ns (shadow x) }) (declared_with_shadows ns u xs)
-          (scalar-written (record d { name = name_in ns (shadow x) }) (shadow-name (variables u) units names x (h x here)) none_there) rest)
+      (scalar-written d (declaration-named u.line u.declarations x (All-head IsName x xs a) declared) none_there)
+      (All-cons IsWrittenDeclaration (record d { name = name_in ns (shadow x) }) (declared_with_shadows ns u xs)
+      (scalar-written (record d { name = name_in ns (shadow x) }) (shadow-name (variables u) units names x (h x here)) none_there) rest)
 
   helpers-written : (line : ℕ) → All IsWrittenDeclaration (declared_helpers ns line (helpers_from work 1 2 ++ helpers_from temp 1 0))
   helpers-written line =
       let first = scalar line (name_in ns (helper work 1)) in
       let second = scalar line (name_in ns (helper work 2)) in
       All-cons IsWrittenDeclaration first (second ∷ []) (scalar-written first (work-name (variables u) units names 1 refl) refl)
-        (All-cons IsWrittenDeclaration second [] (scalar-written second (work-name (variables u) units names 2 refl) refl) (All-nil IsWrittenDeclaration))
+      (All-cons IsWrittenDeclaration second [] (scalar-written second (work-name (variables u) units names 2 refl) refl) (All-nil IsWrittenDeclaration))
 
 -- the adjoint of a written unit that is one product is written
 pub unit-written : (ps : List Procedure) (u : Procedure) (vars outvars : List Bool) (p : Product) → u.body ≡ step p.line (assigned p) stop → IsWrittenProcedure u → AreScalars u.declarations → has_name p.target (variables u) ≡ true → has_name p.left (variables u) ≡ true → has_name p.right (variables u) ≡ true → IsWrittenProcedure (adjoint_unit ps u vars outvars)
@@ -293,11 +299,23 @@ unit-written ps u vars outvars p hb w scalars ht ha hc =
       named = fresh-name (u.name ++ codes "_B") (source_names ps) (name-append u.name (codes "_B") w.named refl);
       dummies = All-same IsName (with_shadows (adjoint_names ps u) u.dummies) (with_shadows ns u.dummies) (ap (λ t. with_shadows t u.dummies) table) (dummies-written u units names w.declarations scalars u.dummies front w.dummies);
       declarations =
-        let all : List Declaration = declared_with_shadows ns u u.dummies ++ (declared_with_shadows ns u (locals u) ++ declared_helpers ns u.line (helpers_from work 1 2 ++ helpers_from temp 1 0)) in
-        All-same IsWrittenDeclaration _ all
+          let all : List Declaration = declared_with_shadows ns u u.dummies ++ (declared_with_shadows ns u (locals u) ++ declared_helpers ns u.line (helpers_from work 1 2 ++ helpers_from temp 1 0)) in
+          All-same IsWrittenDeclaration _ all
           ((λ i. declared_with_shadows (table i) u u.dummies ++ (declared_with_shadows (table i) u (locals u) ++ declared_helpers (table i) u.line (helpers (hb i)))))
           (All-append IsWrittenDeclaration (declared_with_shadows ns u u.dummies) _ (declarations-written u units names w.declarations scalars u.dummies front w.dummies)
-            (All-append IsWrittenDeclaration (declared_with_shadows ns u (locals u)) _ (declarations-written u units names w.declarations scalars (locals u) behind (locals-named u.dummies u.declarations w.declarations)) (helpers-written u units names w.declarations scalars u.line)));
+          (All-append IsWrittenDeclaration (declared_with_shadows ns u (locals u)) _ (declarations-written u units names w.declarations scalars (locals u) behind (locals-named u.dummies u.declarations w.declarations)) (helpers-written u units names w.declarations scalars u.line)));
       body = subst IsWrittenCode (λ i. rename (naming (sym table i)) (adjoint_body u.line (sym hb i) out into))
-        (body-written vs units names u.line p out into ht ha hc (λ x e. front x (unmarked-among x u.dummies outvars e)) (λ x e. front x (unmarked-among x u.dummies vars e)))
+          (body-written vs units names u.line p out into ht ha hc (λ x e. front x (unmarked-among x u.dummies outvars e)) (λ x e. front x (unmarked-among x u.dummies vars e)));
     }
+
+unit_at-written : (ps : List Procedure) (k : ℕ) (u : Procedure) → unit_at k ps ≡ u ∷ [] → IsWritten ps → IsWrittenProcedure u
+unit_at-written [] k u e w = cc
+unit_at-written (p ∷ ps) zero u e w = let same : p ≡ u = cc in subst IsWrittenProcedure same (All-head IsWrittenProcedure p ps w)
+unit_at-written (p ∷ ps) (suc k) u e w = unit_at-written ps k u e (All-tail IsWrittenProcedure p ps w)
+
+-- the adjoint of a written program whose head is one product is written
+pub program-written : (ps : List Procedure) (k : ℕ) (vars outvars : List Bool) (u : Procedure) (p : Product) → unit_at k ps ≡ u ∷ [] → u.body ≡ step p.line (assigned p) stop → IsStraightUnit u → IsWritten ps → IsWritten (adjoint_program ps k vars outvars)
+program-written ps k vars outvars u p at hb good w =
+    let known = subst (λ b. IsStraight (keys (variables u)) b) hb good.body in
+    let made = unit-written ps u vars outvars p hb (unit_at-written ps k u at w) good.scalars (stands_has p.target (variables u) known.0.0) (stands_has p.left (variables u) known.0.1.1.0) (stands_has p.right (variables u) known.0.1.1.1) in
+    subst (λ us. IsWritten (map (λ q. adjoint_unit ps q vars outvars) us)) (sym at) (All-cons IsWrittenProcedure (adjoint_unit ps u vars outvars) [] made (All-nil IsWrittenProcedure))

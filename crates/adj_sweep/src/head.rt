@@ -2,6 +2,7 @@
 
 ghost use Rattle.std.specs.Prelude.{◌≡◌, ◌++◌, ◌∷◌, [], ◌<◌, IfOk, map, length};
 ghost use Rattle.adj_tree.specs.Code.{Procedure, step, stop, work};
+ghost use Rattle.adj_text.specs.Written.{IsWritten};
 ghost use Rattle.adj_tree.specs.View.{declaration_of, procedure_of, procedures_of, code_of};
 ghost use Rattle.adj_transpose.specs.Program.{locals, unmarked, declared_with_shadows, declared_helpers, helpers_from, adjoint_unit, unit_at, adjoint_program};
 ghost use Rattle.adj_transpose.specs.Straight.{IsStraightUnit};
@@ -92,6 +93,7 @@ pub fn adjoint(
     requires body { (u : Procedure) → unit_at head.now.unit (procedures_of p.now) ≡ u ∷ [] → u.body ≡ step product.now.line (assigned product.now) stop }
     requires straight { (u : Procedure) → unit_at head.now.unit (procedures_of p.now) ≡ u ∷ [] → IsStraightUnit u }
     ensures emitted { IfOk result (λ q. procedures_of q ≡ adjoint_program (procedures_of p.now) head.now.unit head.now.vars head.now.outvars) }
+    ensures written { IfOk result (λ q. IsWritten (procedures_of p.now) → IsWritten (procedures_of q)) }
     ensures adjoint { IfOk result (λ q. IsAdjoint (procedures_of p.now) head.now.unit head.now.vars head.now.outvars (procedures_of q)) }
 {
     let unit = &p.units.as_slice()[head.unit];
