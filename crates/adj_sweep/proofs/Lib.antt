@@ -5,3 +5,4 @@ pub mod Making
 pub mod Units
 pub mod Heads
 pub mod Written
+pub mod Products

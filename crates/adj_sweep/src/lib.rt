@@ -10,6 +10,7 @@ pub mod fresh;
 pub mod head;
 pub mod names;
 pub mod naming;
+pub mod only;
 pub mod product;
 pub mod step;
 pub mod unit;
