@@ -5,4 +5,3 @@ pub mod Making
 pub mod Units
 pub mod Heads
 pub mod Written
-pub mod Products

@@ -10,7 +10,6 @@ pub mod fresh;
 pub mod head;
 pub mod names;
 pub mod naming;
-pub mod only;
 pub mod product;
 pub mod step;
 pub mod unit;
