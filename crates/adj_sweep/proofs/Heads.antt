@@ -1,7 +1,7 @@
 -- The adjoint unit is put together.
-use Rattle.std.proofs.Common.{◌≡◌, ℕ, zero, suc, Bool, true, false, List, [], ◌∷◌, ◌++◌, map, length, ◌<◌, get_or, refl, sym, ap, ◌∙◌, subst, arith}
-use Rattle.std.specs.Prelude.{ℤ, pos, ◌||◌, ◌&&◌, ◌==◌}
-use Rattle.adj_tree.specs.Code.{Var, plain, shadow, helper, work, temp, name_eq, Term, var, bin, plus, times, lit, none, Act, assign, runtime, push_word, pop_word, Code, stop, step, Declaration, Procedure}
+use Rattle.std.proofs.Common.{◌≡◌, ℕ, zero, suc, Bool, true, false, List, [], ◌∷◌, ◌++◌, map, length, ◌<◌, get_or, refl, sym, ap, ◌∙◌, arith}
+use Rattle.std.specs.Prelude.{pos, ◌||◌, ◌&&◌, ◌==◌}
+use Rattle.adj_tree.specs.Code.{Var, plain, shadow, helper, work, temp, name_eq, var, bin, plus, times, lit, none, assign, runtime, push_word, pop_word, Code, stop, step, Declaration, Procedure}
 use Rattle.adj_tree.proofs.Names.{name_refl, name_same}
 use Rattle.adj_word.specs.Pairing.{stands_in}
 use Rattle.adj_meaning.specs.Append.{◌+++◌}
@@ -12,7 +12,7 @@ use Rattle.adj_transpose.specs.Fresh.{has_name}
 use Rattle.adj_transpose.specs.Emit.{zeros, backward_act, adjoint_body}
 use Rattle.adj_transpose.specs.Naming.{Named, name_in, naming, unit_names}
 use Rattle.adj_transpose.specs.Program.{locals, variables, unit_name, adjoint_name, helpers_from, helpers, adjoint_names, unmarked, with_shadows, declared_with_shadows, declared_helpers, adjoint_unit, unit_at}
-use Rattle.adj_transpose.specs.Pairs.{Key, key_eq}
+use Rattle.adj_transpose.specs.Pairs.{key_eq}
 use Rattle.adj_transpose.specs.Straight.{keys}
 use Rattle.adj_transpose.proofs.Variables.{or_right}
 use Rattle.adj_tree.specs.View.{procedure_of}
@@ -46,14 +46,14 @@ body_named n line p out into et ea eb =
     let w2 = r (helper work 2) in
     let front : Var → Var → Var → Code → Code = λ t a b rest. step l (runtime (push_word t none)) (step l (assign t none (bin times (var a) (var b))) rest) in
     let back : Var → Var → Var → Code → Code = λ t a b rest.
-          step l (runtime (pop_word t none))
-          (step l (assign w1 none (var (r (shadow p.target))))
-          (step l (assign (r (shadow p.target)) none (lit (pos 0)))
-          (step l (assign w2 none (bin times (var w1) (var b)))
-          (step l (assign (r (shadow p.left)) none (bin plus (var (r (shadow p.left))) (var w2)))
-          (step l (assign w2 none (bin times (var w1) (var a)))
-          (step l (assign (r (shadow p.right)) none (bin plus (var (r (shadow p.right))) (var w2)))
-          rest)))))) in
+    step l (runtime (pop_word t none))
+    (step l (assign w1 none (var (r (shadow p.target))))
+    (step l (assign (r (shadow p.target)) none (lit (pos 0)))
+    (step l (assign w2 none (bin times (var w1) (var b)))
+    (step l (assign (r (shadow p.left)) none (bin plus (var (r (shadow p.left))) (var w2)))
+    (step l (assign w2 none (bin times (var w1) (var a)))
+    (step l (assign (r (shadow p.right)) none (bin plus (var (r (shadow p.right))) (var w2)))
+    rest)))))) in
     let behind : Code = backward_act 0 l (assigned p) +++ zeros line into in
     (λ i. front (plain (et i)) (plain (ea i)) (plain (eb i)) (rename-append r (zeros line out) behind i))
     ∙ (λ i. front (plain p.target) (plain p.left) (plain p.right) (zeros_named n line out i +++ back (plain (et i)) (plain (ea i)) (plain (eb i)) ((zeros_named n line into ∙ sym (append-stop (rename (named_by n) (zeros line into)))) i)))
@@ -62,18 +62,18 @@ body_named n line p out into et ea eb =
 pub unit_made : (ps : List Procedure) (u : Procedure) (vars outvars : List Bool) (p : Product) (name : List ℕ) (t : List Named) (dummies : List (List ℕ)) (declarations : List Declaration) (body : Code) → u.body ≡ step p.line (assigned p) stop → name ≡ adjoint_name ps u → t ≡ unit_names (variables u) (map unit_name ps ++ (name ∷ [])) (map shadow (variables u) ++ (helpers_from work 1 2 ++ helpers_from temp 1 0)) → dummies ≡ with_shadows t u.dummies → declarations ≡ declared_with_shadows t u u.dummies ++ (declared_with_shadows t u (locals u) ++ declared_helpers t u.line (helpers_from work 1 2)) → body ≡ rename (naming t) (adjoint_body u.line (step p.line (assigned p) stop) (unmarked u.dummies outvars) (unmarked u.dummies vars)) → (let made : Procedure = record { line = u.line; name = name; dummies = dummies; is_none = false; declarations = declarations; body = body } in made ≡ adjoint_unit ps u vars outvars)
 unit_made ps u vars outvars p name t dummies declarations body hb hn ht hd hc hy =
     let table : t ≡ adjoint_names ps u =
-          ht ∙ ap (λ z. unit_names (variables u) (map unit_name ps ++ (z ∷ [])) (map shadow (variables u) ++ (helpers_from work 1 2 ++ helpers_from temp 1 0))) hn
-          ∙ ap (λ c. unit_names (variables u) (map unit_name ps ++ (adjoint_name ps u ∷ [])) (map shadow (variables u) ++ helpers c)) (sym hb) in
+    ht ∙ ap (λ z. unit_names (variables u) (map unit_name ps ++ (z ∷ [])) (map shadow (variables u) ++ (helpers_from work 1 2 ++ helpers_from temp 1 0))) hn
+    ∙ ap (λ c. unit_names (variables u) (map unit_name ps ++ (adjoint_name ps u ∷ [])) (map shadow (variables u) ++ helpers c)) (sym hb) in
     let declared : declarations ≡ declared_with_shadows (adjoint_names ps u) u u.dummies ++ (declared_with_shadows (adjoint_names ps u) u (locals u) ++ declared_helpers (adjoint_names ps u) u.line (helpers u.body)) =
-          hc ∙ ap (λ z. declared_with_shadows z u u.dummies ++ (declared_with_shadows z u (locals u) ++ declared_helpers z u.line (helpers_from work 1 2))) table
-          ∙ ap (λ c. declared_with_shadows (adjoint_names ps u) u u.dummies ++ (declared_with_shadows (adjoint_names ps u) u (locals u) ++ declared_helpers (adjoint_names ps u) u.line (helpers c))) (sym hb) in
+    hc ∙ ap (λ z. declared_with_shadows z u u.dummies ++ (declared_with_shadows z u (locals u) ++ declared_helpers z u.line (helpers_from work 1 2))) table
+    ∙ ap (λ c. declared_with_shadows (adjoint_names ps u) u u.dummies ++ (declared_with_shadows (adjoint_names ps u) u (locals u) ++ declared_helpers (adjoint_names ps u) u.line (helpers c))) (sym hb) in
     λ i. record {
       line = u.line;
       name = hn i;
       dummies = (hd ∙ ap (λ z. with_shadows z u.dummies) table) i;
       is_none = false;
       declarations = declared i;
-      body = (hy ∙ (λ k. rename (naming (table k)) (adjoint_body u.line (sym hb k) (unmarked u.dummies outvars) (unmarked u.dummies vars)))) i
+      body = (hy ∙ (λ k. rename (naming (table k)) (adjoint_body u.line (sym hb k) (unmarked u.dummies outvars) (unmarked u.dummies vars)))) i;
     }
 
 -- the unit at a place of the program

@@ -1,6 +1,6 @@
 -- The variables of a tree of the program are of the text, and keep their names.
 use Rattle.std.proofs.Common.{◌≡◌, refl, ap}
-use Rattle.adj_tree.specs.Code.{Term, Terms, neg, bin, pow, abs, elem, more, none, plain}
+use Rattle.adj_tree.specs.Code.{neg, bin, pow, abs, elem, more, plain}
 use Rattle.adj_meaning.specs.Rename.{rename_term, rename_terms}
 use Rattle.adj_tree.specs.declared.expr.Expr.{Expr}
 use Rattle.adj_tree.specs.declared.expr.Expr.TheVariants.{Lit, Var, Elem, Neg', Bin', Pow', Abs'}

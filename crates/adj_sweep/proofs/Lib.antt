@@ -4,3 +4,4 @@ pub mod Kept
 pub mod Making
 pub mod Units
 pub mod Heads
+pub mod Written

@@ -1,5 +1,5 @@
 -- Names that are made one after another.
-use Rattle.std.proofs.Common.{◌≡◌, ℕ, zero, suc, List, [], ◌∷◌, ◌++◌, ◌+◌, ◌-◌, ◌<◌, map, length, refl, sym, ap, ◌∙◌, subst, arith, append_assoc, append-nil, add-one}
+use Rattle.std.proofs.Common.{◌≡◌, ℕ, suc, List, [], ◌∷◌, ◌++◌, ◌+◌, ◌-◌, ◌<◌, map, length, sym, ap, ◌∙◌, arith, append_assoc, append-nil, add-one}
 use Rattle.adj_tree.specs.Code.{Var, Role, helper, shadow}
 use Rattle.adj_transpose.specs.Fresh.{fresh, reserved}
 use Rattle.adj_transpose.specs.Naming.{Named, own, named, wanted, unit_names}

@@ -1,5 +1,5 @@
 -- Names passed one by one, and candidates tried one by one.
-use Rattle.std.proofs.Common.{◌≡◌, ℕ, suc, Bool, true, false, List, [], ◌∷◌, ◌+◌, ◌-◌, ◌<◌, length, drop, get_or, refl, sym, ap, ◌∙◌, subst, arith, drop-cons, add-one, if◌then◌else◌}
+use Rattle.std.proofs.Common.{◌≡◌, ℕ, suc, true, false, List, ◌∷◌, ◌+◌, ◌-◌, ◌<◌, length, drop, get_or, sym, ap, ◌∙◌, arith, drop-cons, add-one, if◌then◌else◌}
 use Rattle.std.specs.Prelude.{◌||◌}
 use Rattle.adj_tree.specs.Code.{name_eq}
 use Rattle.adj_tree.proofs.Names.{name_refl, name_same}

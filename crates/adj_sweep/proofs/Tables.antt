@@ -1,9 +1,9 @@
 -- What the table of a unit's names has.
-use Rattle.std.proofs.Common.{◌≡◌, ℕ, zero, suc, Bool, true, false, List, [], ◌∷◌, ◌++◌, ◌+◌, ◌-◌, ◌<◌, ◌≤◌, map, length, drop, get_or, drop_of_length-le, refl, sym, ap, ◌∙◌, subst, arith, add-one, if◌then◌else◌}
+use Rattle.std.proofs.Common.{◌≡◌, ℕ, zero, suc, Bool, true, false, List, [], ◌∷◌, ◌++◌, ◌+◌, ◌-◌, ◌<◌, ◌≤◌, map, length, drop, get_or, drop_of_length-le, refl, sym, ap, ◌∙◌, arith, if◌then◌else◌}
 use Rattle.std.specs.Prelude.{◌==◌, ◌&&◌, nat_le}
 use Rattle.std.proofs.lemmas.Bool.Decides.{nat_tests}
-use Rattle.adj_tree.specs.Code.{Var, plain, shadow, helper, Role, role_code, work, temp, name_eq, var_eq}
-use Rattle.adj_tree.proofs.Names.{nat_refl, name_refl, name_same}
+use Rattle.adj_tree.specs.Code.{shadow, helper, Role, work, temp, name_eq}
+use Rattle.adj_tree.proofs.Names.{name_refl, name_same}
 use Rattle.adj_transpose.specs.Naming.{Named, outside, name_in}
 use Rattle.adj_transpose.proofs.Variables.{not_true, name_comm}
 use Rattle.adj_sweep.specs.declared.names.Shadowed.{Shadowed}

@@ -1,8 +1,8 @@
 -- The parts of an adjoint unit.
-use Rattle.std.proofs.Common.{◌≡◌, ℕ, zero, suc, Bool, true, false, List, [], ◌∷◌, ◌++◌, ◌+◌, ◌-◌, ◌<◌, ◌≤◌, map, length, drop, get_or, slice_get, refl, sym, ap, ◌∙◌, subst, arith, append_assoc, add-one, if◌then◌else◌}
-use Rattle.std.specs.Prelude.{ℤ, pos, unwrap_or}
+use Rattle.std.proofs.Common.{◌≡◌, ℕ, zero, suc, Bool, true, false, List, [], ◌∷◌, ◌++◌, ◌+◌, ◌-◌, ◌<◌, ◌≤◌, map, length, drop, get_or, refl, sym, ap, ◌∙◌, arith, append_assoc, add-one, if◌then◌else◌}
+use Rattle.std.specs.Prelude.{pos}
 use Rattle.std.proofs.lemmas.List.{map_push}
-use Rattle.adj_tree.specs.Code.{Var, plain, shadow, helper, Role, work, name_eq, lit, none, assign, Code, stop, step, Declaration}
+use Rattle.adj_tree.specs.Code.{Var, shadow, helper, Role, name_eq, lit, none, assign, Code, step, Declaration}
 use Rattle.adj_tree.specs.View.{declaration_of}
 use Rattle.adj_tree.specs.declared.unit.Decl.{Decl}
 use Rattle.adj_tree.proofs.Names.{name_refl, name_same}
@@ -62,10 +62,10 @@ zeros_more r line xs marks i x code code' rest lt le at off is h =
     let j = i - 1 in
     let up : i ≡ suc j = omega arith in
     let here : unmarked (drop j xs) (drop j marks) ≡ x ∷ unmarked (drop i xs) (drop i marks) =
-          ap (λ z. unmarked z (drop j marks)) (from_here xs j x (omega arith) at)
-          ∙ unmarked_at x (drop (j + 1) xs) marks j
-          ∙ ap (λ b. if b then unmarked (drop (j + 1) xs) (drop (suc j) marks) else x ∷ unmarked (drop (j + 1) xs) (drop (suc j) marks)) off
-          ∙ (λ k. x ∷ unmarked (drop ((add-one j ∙ sym up) k) xs) (drop (sym up k) marks)) in
+    ap (λ z. unmarked z (drop j marks)) (from_here xs j x (omega arith) at)
+    ∙ unmarked_at x (drop (j + 1) xs) marks j
+    ∙ ap (λ b. if b then unmarked (drop (j + 1) xs) (drop (suc j) marks) else x ∷ unmarked (drop (j + 1) xs) (drop (suc j) marks)) off
+    ∙ (λ k. x ∷ unmarked (drop ((add-one j ∙ sym up) k) xs) (drop (sym up k) marks)) in
     is ∙ ap (step line (assign (r (shadow x)) none (lit (pos 0)))) h ∙ ap (λ z. rename r (zeros line z) +++ rest) (sym here)
 
 -- what is marked stays
@@ -76,8 +76,8 @@ zeros_same r line xs marks i code rest lt le on h =
     let x = get_or xs j [] in
     let at : x ≡ get_or xs j x = get_or_any xs j [] x (omega arith) in
     let here : unmarked (drop j xs) (drop j marks) ≡ unmarked (drop i xs) (drop i marks) =
-          ap (λ z. unmarked z (drop j marks)) (from_here xs j x (omega arith) at)
-          ∙ unmarked_at x (drop (j + 1) xs) marks j
-          ∙ ap (λ b. if b then unmarked (drop (j + 1) xs) (drop (suc j) marks) else x ∷ unmarked (drop (j + 1) xs) (drop (suc j) marks)) on
-          ∙ (λ k. unmarked (drop ((add-one j ∙ sym up) k) xs) (drop (sym up k) marks)) in
+    ap (λ z. unmarked z (drop j marks)) (from_here xs j x (omega arith) at)
+    ∙ unmarked_at x (drop (j + 1) xs) marks j
+    ∙ ap (λ b. if b then unmarked (drop (j + 1) xs) (drop (suc j) marks) else x ∷ unmarked (drop (j + 1) xs) (drop (suc j) marks)) on
+    ∙ (λ k. unmarked (drop ((add-one j ∙ sym up) k) xs) (drop (sym up k) marks)) in
     h ∙ ap (λ z. rename r (zeros line z) +++ rest) (sym here)

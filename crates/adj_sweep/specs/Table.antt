@@ -1,6 +1,6 @@
 -- The names of an adjoint unit as a table.
-use Rattle.std.specs.Prelude.{ℕ, zero, suc, ◌≤◌, ◌-◌, nat_le, ◌&&◌, List, [], ◌∷◌, ◌++◌, map, get_or, length, if◌then◌else◌, Bool, false, slice_get, unwrap_or}
-use Rattle.adj_tree.specs.Code.{Var, plain, shadow, helper, Role, work, temp, Term, var, bin, plus, times, none, Act, assign, Code, stop, step, Declaration}
+use Rattle.std.specs.Prelude.{ℕ, suc, ◌-◌, nat_le, ◌&&◌, List, [], ◌∷◌, ◌++◌, map, get_or, length, if◌then◌else◌, Bool, false, slice_get, unwrap_or}
+use Rattle.adj_tree.specs.Code.{Var, plain, shadow, helper, Role, work, temp, var, bin, plus, times, none, Act, assign, Code, stop, step, Declaration}
 use Rattle.adj_meaning.specs.Append.{◌+++◌}
 use Rattle.adj_meaning.specs.Rename.{rename}
 use Rattle.adj_transpose.specs.Emit.{zeros, forward_act, backward_act}

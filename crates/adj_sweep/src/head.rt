@@ -2,6 +2,7 @@
 
 ghost use Rattle.std.specs.Prelude.{◌≡◌, ◌++◌, ◌∷◌, [], ◌<◌, IfOk, map, length};
 ghost use Rattle.adj_tree.specs.Code.{Procedure, step, stop, work};
+ghost use Rattle.adj_text.specs.Written.{IsWritten};
 ghost use Rattle.adj_tree.specs.View.{declaration_of, procedure_of, procedures_of, code_of};
 ghost use Rattle.adj_transpose.specs.Program.{locals, unmarked, declared_with_shadows, declared_helpers, helpers_from, adjoint_unit, unit_at, adjoint_program};
 ghost use Rattle.adj_transpose.specs.Straight.{IsStraightUnit};
@@ -38,7 +39,14 @@ fn body(
 ) -> Result<Stmts, Memory>
     ensures sweeps { IfOk result (λ c. code_of c ≡ swept n.now unit.now.line product.now (unmarked unit.now.dummies outvars.now) (unmarked unit.now.dummies vars.now)) }
 {
-    let last = zeros(alloc, n, unit.line, unit.dummies.as_slice(), vars, Stmts::Empty)?;
+    let last = zeros(
+        alloc,
+        n,
+        unit.line,
+        unit.dummies.as_slice(),
+        vars,
+        Stmts::Empty,
+    )?;
     let back = backward(alloc, n, product, last)?;
     let middle = zeros(alloc, n, unit.line, unit.dummies.as_slice(), outvars, back)?;
     let code = forward(alloc, product, middle)?;
@@ -85,6 +93,7 @@ pub fn adjoint(
     requires body { (u : Procedure) → unit_at head.now.unit (procedures_of p.now) ≡ u ∷ [] → u.body ≡ step product.now.line (assigned product.now) stop }
     requires straight { (u : Procedure) → unit_at head.now.unit (procedures_of p.now) ≡ u ∷ [] → IsStraightUnit u }
     ensures emitted { IfOk result (λ q. procedures_of q ≡ adjoint_program (procedures_of p.now) head.now.unit head.now.vars head.now.outvars) }
+    ensures written { IfOk result (λ q. IsWritten (procedures_of p.now) → IsWritten (procedures_of q)) }
     ensures adjoint { IfOk result (λ q. IsAdjoint (procedures_of p.now) head.now.unit head.now.vars head.now.outvars (procedures_of q)) }
 {
     let unit = &p.units.as_slice()[head.unit];

@@ -7,9 +7,9 @@
 #![tactic(auto)]
 
 pub mod fresh;
+pub mod head;
 pub mod names;
 pub mod naming;
-pub mod step;
 pub mod product;
+pub mod step;
 pub mod unit;
-pub mod head;

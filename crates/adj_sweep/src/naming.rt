@@ -125,7 +125,11 @@ fn taken_names(alloc: Global, p: &Program, unit: &Unit, adjoint: &Name) -> Resul
 }
 
 // The shadow of each variable, with a name that is taken from then on.
-fn shadows(alloc: Global, variables: &[Name], taken: &mut Vec<Name>) -> Result<Vec<Shadowed>, Memory>
+fn shadows(
+    alloc: Global,
+    variables: &[Name],
+    taken: &mut Vec<Name>,
+) -> Result<Vec<Shadowed>, Memory>
     ensures variables { IfOk result (λ v. map own_entry v.items ≡ map own variables.now) }
     ensures shadows { IfOk result (λ v. (rest : List Var) → map shadow_entry v.items ++ named taken.new.items rest ≡ named taken.old.items (map shadow variables.now ++ rest)) }
 {

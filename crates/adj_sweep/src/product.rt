@@ -57,7 +57,13 @@ fn sum(alloc: Global, a: Expr, b: Expr) -> Result<Expr, Memory>
 }
 
 /// `vB=0` for the shadow of a variable, and then the rest.
-pub fn zero_step(alloc: Global, n: &Names, line: u32, x: &Name, rest: Stmts) -> Result<Stmts, Memory>
+pub fn zero_step(
+    alloc: Global,
+    n: &Names,
+    line: u32,
+    x: &Name,
+    rest: Stmts,
+) -> Result<Stmts, Memory>
     ensures step { IfOk result (λ c. code_of c ≡ step line (assign (named_by n.now (shadow x.now)) none (lit (pos 0))) (code_of rest)) }
 {
     let name = n.shadow(alloc, x)?;
@@ -89,7 +95,11 @@ fn factor_steps(
 pub fn forward(alloc: Global, p: &Product, rest: Stmts) -> Result<Stmts, Memory>
     ensures sweep { IfOk result (λ c. code_of c ≡ forward_act 0 p.now.line (assigned p.now) +++ code_of rest) }
 {
-    let value = multiplied(alloc, plain_var(alloc, &p.left)?, plain_var(alloc, &p.right)?)?;
+    let value = multiplied(
+        alloc,
+        plain_var(alloc, &p.left)?,
+        plain_var(alloc, &p.right)?,
+    )?;
     let assigned = assign_step(alloc, p.line, p.target.copy(alloc)?, value, rest)?;
     let code = push_step(alloc, p.line, p.target.copy(alloc)?, assigned)?;
     Ok(code)

@@ -1,4 +1,4 @@
-use Rattle.std.proofs.Common.{◌≡◌, ◌++◌, ◌+◌, ◌/◌, ◌%◌, ◌∷◌, [], ap, sym, ◌∙◌, append_assoc}
+use Rattle.std.proofs.Common.{◌++◌, ◌+◌, ◌/◌, ◌%◌, ◌∷◌, [], ap, sym, ◌∙◌, append_assoc}
 use Rattle.adj_transpose.specs.Fresh.{digits}
 use Rattle.adj_transpose.proofs.Fresh.{digits-one, digits-last}
 use Rattle.adj_sweep.proofs.fresh.+push_digits.Goals as goal

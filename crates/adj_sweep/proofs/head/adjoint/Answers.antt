@@ -1,10 +1,12 @@
-use Rattle.std.proofs.Common.{◌≡◌, ◌<◌, ◌++◌, ◌∷◌, [], List, map, length, get_or, ap, sym, ◌∙◌, subst}
+use Rattle.std.proofs.Common.{◌≡◌, ◌++◌, ◌∷◌, [], map, get_or, ap, sym, ◌∙◌, subst}
 use Rattle.adj_tree.specs.Code.{Procedure}
 use Rattle.adj_tree.specs.View.{procedure_of, procedures_of}
-use Rattle.adj_transpose.specs.Program.{unit_at, adjoint_unit, adjoint_program}
+use Rattle.adj_transpose.specs.Program.{unit_at, adjoint_unit}
 use Rattle.adj_transpose.specs.Adjoint.{IsAdjoint}
 use Rattle.adj_transpose.proofs.Adjoints.{emitted_is_adjoint}
+use Rattle.adj_text.specs.Written.{IsWritten}
 use Rattle.adj_sweep.proofs.Heads.{unit_at-get}
+use Rattle.adj_sweep.proofs.Written.{program-written}
 use Rattle.adj_sweep.proofs.head.adjoint.Goals as goal
 
 pub adjoint_of_unit-requires-clause-body : goal.adjoint_of_unit-requires-clause-body
@@ -40,3 +42,13 @@ returns-clause-adjoint c =
     let outvars = c.args.head.now.outvars in
     let at : unit_at k ps ≡ procedure_of u ∷ [] = unit_at-get c.args.p.now.units k u c.requires.unit (c.index-as_slice-head.is ∙ ap (λ us. get_or us k u) c.as_slice.ensures.members) in
     subst (IsAdjoint ps k vars outvars) (sym (returns-clause-emitted c)) (emitted_is_adjoint ps k vars outvars (procedure_of u) at (c.requires.straight (procedure_of u) at))
+
+pub returns-clause-written : goal.returns-clause-written
+returns-clause-written c =
+    let u = c.index-as_slice-head.result in
+    let k = c.args.head.now.unit in
+    let ps = procedures_of c.args.p.now in
+    let vars = c.args.head.now.vars in
+    let outvars = c.args.head.now.outvars in
+    let at : unit_at k ps ≡ procedure_of u ∷ [] = unit_at-get c.args.p.now.units k u c.requires.unit (c.index-as_slice-head.is ∙ ap (λ us. get_or us k u) c.as_slice.ensures.members) in
+    λ (w : IsWritten ps). subst IsWritten (sym (returns-clause-emitted c)) (program-written ps k vars outvars (procedure_of u) c.args.product.now at (c.requires.body (procedure_of u) at) (c.requires.straight (procedure_of u) at) w)

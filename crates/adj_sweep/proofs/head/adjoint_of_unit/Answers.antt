@@ -26,11 +26,11 @@ returns c =
     let made = map shadow vs ++ (helpers_from work 1 2 ++ helpers_from temp 1 0) in
     let known = subst (λ b. IsStraight (keys vs) b) c.requires.body c.requires.straight.body in
     let keeps : (x : List ℕ) → has_name x vs ≡ true → name_in t (plain x) ≡ x =
-          λ x h. ap (λ z. name_in z (plain x)) c.in_ok-n.ensures.names ∙ own-name vs (named (vs ++ (units ++ reserved)) made) x h in
+    λ x h. ap (λ z. name_in z (plain x)) c.in_ok-n.ensures.names ∙ own-name vs (named (vs ++ (units ++ reserved)) made) x h in
     record {
       unit = unit_made ps u c.args.vars.now c.args.outvars.now product name t c.new.result (map declaration_of c.new-2.result) (code_of c.in_ok-code.code)
-        c.requires.body c.in_ok-name.ensures.name c.in_ok-n.ensures.names
-        (c.new.ensures.members ∙ c.in_ok-all.ensures.names ∙ ap (with_shadows t) c.as_slice.ensures.members)
-        (ap (map declaration_of) c.new-2.ensures.members ∙ c.in_ok-decls.ensures.declarations)
-        (c.in_ok-code.ensures.sweeps ∙ sym (body_named n u.line product out into (keeps product.target (stands_has product.target vs known.0.0)) (keeps product.left (stands_has product.left vs known.0.1.1.0)) (keeps product.right (stands_has product.right vs known.0.1.1.1))))
+          c.requires.body c.in_ok-name.ensures.name c.in_ok-n.ensures.names
+          (c.new.ensures.members ∙ c.in_ok-all.ensures.names ∙ ap (with_shadows t) c.as_slice.ensures.members)
+          (ap (map declaration_of) c.new-2.ensures.members ∙ c.in_ok-decls.ensures.declarations)
+          (c.in_ok-code.ensures.sweeps ∙ sym (body_named n u.line product out into (keeps product.target (stands_has product.target vs known.0.0)) (keeps product.left (stands_has product.left vs known.0.1.1.0)) (keeps product.right (stands_has product.right vs known.0.1.1.1))));
     }

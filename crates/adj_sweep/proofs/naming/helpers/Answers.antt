@@ -1,4 +1,4 @@
-use Rattle.std.proofs.Common.{◌≡◌, ◌++◌, ◌∷◌, [], ◌+◌, ◌-◌, suc, length, length-append, ap, sym, ◌∙◌, arith}
+use Rattle.std.proofs.Common.{◌≡◌, ◌++◌, ◌∷◌, [], ◌+◌, ◌-◌, suc, length, length-append, ap, ◌∙◌}
 use Rattle.adj_tree.specs.Code.{helper}
 use Rattle.adj_transpose.specs.Fresh.{fresh}
 use Rattle.adj_transpose.specs.Naming.{named, wanted}
@@ -15,13 +15,13 @@ loop-done-preserved c =
     let done = c.loop-done.done in
     let name = c.in_ok-name.name in
     let is : name ≡ fresh (wanted (helper r (done + 1))) taken =
-          c.in_ok-name.ensures.name ∙ (λ i. fresh ((c.bytes.ensures.bytes ∙ c.in_ok-base.ensures.name) i) (c.as_slice.ensures.value i)) in
+    c.in_ok-name.ensures.name ∙ (λ i. fresh ((c.bytes.ensures.bytes ∙ c.in_ok-base.ensures.name) i) (c.as_slice.ensures.value i)) in
     let pushed : c.push.new.self.items ≡ taken ++ (name ∷ []) = c.in_ok-push.ensures.items ∙ ap (λ z. taken ++ (z ∷ [])) c.in_ok-copy.ensures.same in
     let added : c.push-in-loop-done.new.self.items ≡ made ++ (name ∷ []) = c.in_ok-push-2.ensures.items in
     record {
       count = ap length added ∙ length-append made (name ∷ []) ∙ ap (λ z. z + 1) c.loop-done.invariant.count;
       helpers = λ rest.
-        (λ i. helper_table r 1 (added i) ++ named (pushed i) (helpers_from r (suc (done + 1)) (c.args.count - (done + 1)) ++ rest))
-        ∙ helpers_step r made taken name done c.args.count rest c.loop-done.invariant.count c.loop-done-test.true is
-        ∙ c.loop-done.invariant.helpers rest
+          (λ i. helper_table r 1 (added i) ++ named (pushed i) (helpers_from r (suc (done + 1)) (c.args.count - (done + 1)) ++ rest))
+          ∙ helpers_step r made taken name done c.args.count rest c.loop-done.invariant.count c.loop-done-test.true is
+          ∙ c.loop-done.invariant.helpers rest;
     }

@@ -1,4 +1,4 @@
-use Rattle.std.proofs.Common.{◌≡◌, map, refl, ◌∙◌}
+use Rattle.std.proofs.Common.{map, refl, ◌∙◌}
 use Rattle.adj_tree.specs.View.{declaration_of}
 use Rattle.adj_transpose.specs.Program.{declaration}
 use Rattle.adj_sweep.proofs.Units.{declaration_found, declaration_passed}

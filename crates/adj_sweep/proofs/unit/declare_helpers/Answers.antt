@@ -1,4 +1,4 @@
-use Rattle.std.proofs.Common.{◌≡◌, ◌++◌, ◌+◌, ◌-◌, suc, map, ap, ◌∙◌}
+use Rattle.std.proofs.Common.{◌++◌, ◌+◌, ◌-◌, suc, map, ap, ◌∙◌}
 use Rattle.adj_tree.specs.View.{declaration_of}
 use Rattle.adj_transpose.specs.Program.{scalar, declared_helpers, helpers_from}
 use Rattle.adj_sweep.specs.Table.{table_of, role_of}

@@ -11,7 +11,7 @@ use Rattle.adj_sweep.proofs.unit.zeros.Given as goal
 abbrev pub invariant-loop-i : goal.invariant-loop-i
 invariant-loop-i l = record {
   within : l.i ≤ length l.names;
-  code : code_of l.code ≡ rename (named_by l.n) (zeros l.line (unmarked (drop l.i l.names) (drop l.i l.marks))) +++ code_of l.fn.rest
+  code : code_of l.code ≡ rename (named_by l.n) (zeros l.line (unmarked (drop l.i l.names) (drop l.i l.marks))) +++ code_of l.fn.rest;
 }
 
 abbrev pub decreases-loop-i : goal.decreases-loop-i

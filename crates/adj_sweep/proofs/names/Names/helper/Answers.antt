@@ -1,5 +1,5 @@
 use Rattle.std.proofs.Common.{◌∙◌, ap, sym}
-use Rattle.adj_tree.specs.Code.{helper, work, temp}
+use Rattle.adj_tree.specs.Code.{helper}
 use Rattle.adj_transpose.specs.Naming.{name_in}
 use Rattle.adj_sweep.specs.Table.{table_of, role_of, helper_name}
 use Rattle.adj_sweep.proofs.Tables.{work_name, temp_name}
