@@ -26,3 +26,7 @@ pub mod WrittenSays
 pub mod BranchSays
 pub mod Directives
 pub mod WrittenBack
+pub mod TermWritten
+pub mod FormWritten
+pub mod CallWritten
+pub mod UnitWritten

@@ -18,3 +18,4 @@ pub mod Reads
 pub mod Text
 pub mod Written
 pub mod ReadsAs
+pub mod Fits
