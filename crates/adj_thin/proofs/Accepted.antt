@@ -22,7 +22,7 @@ use Rattle.adj_text.proofs.Derived.{head_derived, as_scalar, items_derived, prod
 use Rattle.adj_text.proofs.Joins.{indented, going, cut_line, over_initial}
 use Rattle.adj_text.proofs.Plain.{name_words, head_words, AreNames, is_subroutine, is_integer, is_end, is_assignment}
 use Rattle.adj_text.proofs.Said as said
-use Rattle.adj_text.proofs.Said.{Says, AllSay, reads_said}
+use Rattle.adj_text.proofs.Said.{Says, says_statement, AllSay, reads_said}
 use Rattle.adj_text.proofs.Stating.{text_of, IsStatement}
 use Rattle.adj_thin.specs.Thin as thin
 use Rattle.adj_thin.specs.Thin.{Thin, Product, cut, statement, last_line, kept, is_fit, thin_of, scalar, program_of}
@@ -103,7 +103,7 @@ says_heading t text names e =
     let dummies : AreNames (k.0 ∷ k.1) = subst P k.2 names.dummies in
     let h = is_subroutine t.heading.name (k.0 ∷ k.1) names.unit dummies in
     let Q : List (List ℕ) → Type 0 = λ ds. Says (line_of 1 text) (subroutine t.heading.name ds) in
-    let says : Says (line_of 1 text) (subroutine t.heading.name (k.0 ∷ k.1)) = record { kind = classes.Subroutine; keyword = codes "SUBROUTINE"; words = head_words t.heading.name (k.0 ∷ k.1); text = k.3; is_statement = h; form = forms.ReadsForm.heading (head_derived t.heading.name (k.0 ∷ k.1)) } in
+    let says : Says (line_of 1 text) (subroutine t.heading.name (k.0 ∷ k.1)) = says_statement (line_of 1 text) classes.Subroutine (codes "SUBROUTINE") (head_words t.heading.name (k.0 ∷ k.1)) (subroutine t.heading.name (k.0 ∷ k.1)) k.3 h (forms.ReadsForm.heading (head_derived t.heading.name (k.0 ∷ k.1))) in
     (some_chars classes.Subroutine (codes "SUBROUTINE") text (head_words t.heading.name (k.0 ∷ k.1)) h k.3, subst Q (sym k.2) says)
 
 says_declared : (t : Thin) (text : List ℕ) → AreNamed t → thin.declared text ≡ Some t.declared → (0 < length text) × Says (line_of 2 text) (integers (map as_scalar t.declared))
@@ -112,7 +112,7 @@ says_declared t text names e =
     let P : List (List ℕ) → Type 0 = AreNames in
     let h = is_integer k.0 k.1 (subst P k.2 names.declared) in
     let Q : List (List ℕ) → Type 0 = λ ds. Says (line_of 2 text) (integers (map as_scalar ds)) in
-    let says : Says (line_of 2 text) (integers (map as_scalar (k.0 ∷ k.1))) = record { kind = classes.Integer; keyword = codes "INTEGER*8"; words = name_words (k.0 ∷ k.1) []; text = k.3; is_statement = h; form = forms.ReadsForm.declaration (items_derived k.0 k.1) } in
+    let says : Says (line_of 2 text) (integers (map as_scalar (k.0 ∷ k.1))) = says_statement (line_of 2 text) classes.Integer (codes "INTEGER*8") (name_words (k.0 ∷ k.1) []) (integers (map as_scalar (k.0 ∷ k.1))) k.3 h (forms.ReadsForm.declaration (items_derived k.0 k.1)) in
     (some_chars classes.Integer (codes "INTEGER*8") text (name_words (k.0 ∷ k.1) []) h k.3, subst Q (sym k.2) says)
 
 says_product : (t : Thin) (text : List ℕ) → AreNamed t → thin.product text ≡ Some t.product → (0 < length text) × Says (line_of 3 text) (simple (thin.act t.product))
@@ -121,10 +121,10 @@ says_product t text names e =
     let k = product_is text p e in
     let h = product_statement p t names refl in
     (some_chars classes.Assign [] text (product_words p) h k,
-     record { kind = classes.Assign; keyword = []; words = product_words p; text = k; is_statement = h; form = forms.ReadsForm.assigned (assignment_derived p.target (Named p.left ∷ Mark Star ∷ Named p.right ∷ []) (bin times (var (plain p.left)) (var (plain p.right))) (product_derived p.left p.right [])) })
+     says_statement (line_of 3 text) classes.Assign [] (product_words p) (simple (thin.act p)) k h (forms.ReadsForm.assigned (assignment_derived p.target (Named p.left ∷ Mark Star ∷ Named p.right ∷ []) (bin times (var (plain p.left)) (var (plain p.right))) (product_derived p.left p.right []))))
 
 says_end : Says (line_of 4 (codes "END")) ends
-says_end = record { kind = classes.End; keyword = codes "END"; words = []; text = refl; is_statement = is_end; form = forms.ReadsForm.ended }
+says_end = says_statement (line_of 4 (codes "END")) classes.End (codes "END") [] ends refl is_end forms.ReadsForm.ended
 
 lines_read : (t : Thin) (l1 l2 l3 l4 t1 t2 t3 : List ℕ) → AreNamed t → statement l1 ≡ Some t1 → thin.heading t1 ≡ Some t.heading → statement l2 ≡ Some t2 → thin.declared t2 ≡ Some t.declared → statement l3 ≡ Some t3 → thin.product t3 ≡ Some t.product → statement l4 ≡ Some (codes "END") → Reads (l1 ++ 10 ∷ (l2 ++ 10 ∷ (l3 ++ 10 ∷ (l4 ++ 10 ∷ [])))) (program_of t)
 lines_read t l1 l2 l3 l4 t1 t2 t3 names s1 h s2 d s3 p s4 =
