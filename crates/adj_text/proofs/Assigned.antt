@@ -1,24 +1,23 @@
 -- Assigned: an assignment of a written expression to a written place is a statement of its class, with the words of both.
-use Rattle.std.proofs.Common.{◌≡◌, ℕ, zero, suc, ◌+◌, ◌<◌, Bool, true, false, cond, eqb, List, [], ◌∷◌, ◌++◌, length, drop, Option, Some, None, option_map, refl, sym, ap, subst, ◌∙◌, arith, append_assoc, append-nil, length-append}
+use Rattle.std.proofs.Common.{◌≡◌, ℕ, suc, ◌+◌, ◌<◌, Bool, true, false, eqb, List, [], ◌∷◌, ◌++◌, length, drop, Some, option_map, refl, sym, ap, ◌∙◌, arith, append_assoc, append-nil, length-append}
 use Rattle.std.specs.Prelude.{◌&&◌, nat_lt, codes, unwrap_or}
 use Rattle.std.specs.List.{flat_map, list_all, prefix_len}
 use Rattle.std.proofs.lemmas.Bool.{ne_eqb}
-use Rattle.std.proofs.lemmas.Bool.Decides.{nat_tests}
 use Rattle.std.proofs.lemmas.List.{drop_at}
-use Rattle.adj_tree.specs.Code.{Var, plain, shadow, helper, Term, Terms, none, more}
-use Rattle.adj_text.specs.Char.{left, right, comma, equals, is_capital, is_digit, is_name_char}
-use Rattle.adj_text.specs.Class.{has_open, is_matched, group_len, begins_with_letter, behind_label, is_control, is_do, condition_end, inner, is_if, kind_of, class_of}
+use Rattle.adj_tree.specs.Code.{Var, Term, Terms, none, more}
+use Rattle.adj_text.specs.Char.{left, right, comma, equals, is_digit, is_name_char}
+use Rattle.adj_text.specs.Class.{has_open, is_matched, group_len, begins_with_letter, behind_label, is_control, is_do, inner, is_if, kind_of, class_of}
 use Rattle.adj_text.specs.Text.{var_text, behind_commas, bracketed, term_text, term_texts}
 use Rattle.adj_text.specs.Token.{begins_with}
 use Rattle.adj_text.specs.Word.{Word, Named, Mark}
-use Rattle.adj_text.specs.Written.{IsName, IsVariable, IsPlace, IsWrittenTerm, AreWrittenTerms}
+use Rattle.adj_text.specs.Written.{IsVariable, IsPlace, IsWrittenTerm, AreWrittenTerms}
 use Rattle.adj_text.specs.declared.stated.Kind.TheVariants as classes
 use Rattle.adj_text.specs.declared.token.TokenKind.TheVariants.{Equals}
 use Rattle.adj_text.proofs.Spelled.{spelling, is_name, EndsName}
 use Rattle.adj_text.proofs.Scans.{both_true}
 use Rattle.adj_text.proofs.Stating.{IsStatement}
 use Rattle.adj_text.proofs.Classes.{name_chars}
-use Rattle.adj_text.proofs.TermWords.{Words, term_words, bracketed_words}
+use Rattle.adj_text.proofs.TermWords.{term_words, bracketed_words}
 use Rattle.adj_text.proofs.TermSpelled.{term_spelled, bracketed_spelled}
 use Rattle.adj_text.proofs.TermSpaced.{is_name-variable, term_spaced, bracketed_spaced}
 use Rattle.adj_text.proofs.Balanced.{IsInner, IsBalanced, grouped, opening-groups, closing-group, balanced-append, balanced-name, balanced-bracketed, bracketed_is_grouped, AreBalanced}
@@ -126,11 +125,11 @@ no_if_name (a ∷ b ∷ c ∷ cs) t rest h f found =
 pub inner_behind : (a b : ℕ) (cs rest : List ℕ) → IsInner cs → inner (a ∷ b ∷ (grouped cs ++ rest)) ≡ rest
 inner_behind a b cs rest h =
     let len : group_len 0 (grouped cs ++ rest) ≡ Some (length (grouped cs)) =
-      ap (group_len 0) (ap (λ xs. left ∷ xs) (append_assoc cs (right ∷ []) rest)) ∙ opening-groups 0 (cs ++ right ∷ rest)
-      ∙ ap (option_map (λ k. k + 1)) (h.groups 0 (right ∷ rest) ∙ ap (option_map (λ k. k + length cs)) (closing-group rest))
-      ∙ ap Some (let e = length-append cs (right ∷ []) in omega arith) in
+    ap (group_len 0) (ap (λ xs. left ∷ xs) (append_assoc cs (right ∷ []) rest)) ∙ opening-groups 0 (cs ++ right ∷ rest)
+    ∙ ap (option_map (λ k. k + 1)) (h.groups 0 (right ∷ rest) ∙ ap (option_map (λ k. k + length cs)) (closing-group rest))
+    ∙ ap Some (let e = length-append cs (right ∷ []) in omega arith) in
     let dropped : drop (length (grouped cs) + 2) (a ∷ b ∷ (grouped cs ++ rest)) ≡ rest =
-      (let e : length (grouped cs) + 2 ≡ suc (suc (length (grouped cs))) = omega arith in ap (λ n. drop n (a ∷ b ∷ (grouped cs ++ rest))) e) ∙ drop_at (grouped cs) rest (length (grouped cs)) refl in
+    (let e : length (grouped cs) + 2 ≡ suc (suc (length (grouped cs))) = omega arith in ap (λ n. drop n (a ∷ b ∷ (grouped cs ++ rest))) e) ∙ drop_at (grouped cs) rest (length (grouped cs)) refl in
     ap (λ o. drop (unwrap_or (option_map (λ n. n + 2) o) (length (a ∷ b ∷ (grouped cs ++ rest)))) (a ∷ b ∷ (grouped cs ++ rest))) len ∙ dropped
 
 -- a name, subscripts or none, an = and a right side in which no comma stands open: no DO and no IF

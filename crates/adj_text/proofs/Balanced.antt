@@ -1,11 +1,10 @@
 -- Balanced: characters behind which as many parentheses are open as before them, and in which no comma and no = stands open.
-use Rattle.std.proofs.Common.{◌≡◌, ℕ, zero, suc, ◌+◌, ◌-◌, Bool, true, false, eqb, List, [], ◌∷◌, ◌++◌, length, Option, Some, None, option_map, refl, sym, ap, subst, ◌∙◌, arith, append_assoc, append-nil, length-append}
-use Rattle.std.specs.Prelude.{◌&&◌, ◌||◌, not, if◌then◌else◌}
+use Rattle.std.proofs.Common.{◌≡◌, ℕ, suc, ◌+◌, Bool, true, false, eqb, List, [], ◌∷◌, ◌++◌, length, Option, Some, None, option_map, refl, ap, subst, ◌∙◌, arith, append_assoc, length-append}
+use Rattle.std.specs.Prelude.{◌&&◌}
 use Rattle.std.specs.List.{list_all}
 use Rattle.std.proofs.lemmas.Bool.{ne_eqb}
-use Rattle.std.proofs.lemmas.Bool.Decides.{nat_tests}
 use Rattle.adj_text.specs.Char.{left, right, comma, equals, is_name_char}
-use Rattle.adj_text.specs.Class.{depth_behind, has_open, is_matched, group_len}
+use Rattle.adj_text.specs.Class.{has_open, is_matched, group_len}
 use Rattle.adj_text.specs.Text.{behind_commas, bracketed, enclosed}
 use Rattle.adj_text.proofs.Scans.{both_true}
 
@@ -37,7 +36,7 @@ pub inner-append : (cs ds : List ℕ) → IsInner cs → IsInner ds → IsInner 
 inner-append cs ds h g = record {
   opens = λ x n rest. ap (has_open x (suc n)) (append_assoc cs ds rest) ∙ h.opens x n (ds ++ rest) ∙ g.opens x n rest;
   matches = λ n rest. ap (is_matched (suc n)) (append_assoc cs ds rest) ∙ h.matches n (ds ++ rest) ∙ g.matches n rest;
-  groups = λ n rest. ap (group_len (suc n)) (append_assoc cs ds rest) ∙ h.groups n (ds ++ rest) ∙ ap (option_map (λ k. k + length cs)) (g.groups n rest) ∙ map_twice (length cs) (length ds) (length (cs ++ ds)) (group_len (suc n) rest) (length-append cs ds ∙ omega arith)
+  groups = λ n rest. ap (group_len (suc n)) (append_assoc cs ds rest) ∙ h.groups n (ds ++ rest) ∙ ap (option_map (λ k. k + length cs)) (g.groups n rest) ∙ map_twice (length cs) (length ds) (length (cs ++ ds)) (group_len (suc n) rest) (length-append cs ds ∙ omega arith);
 }
 
 some_open : (n : ℕ) → eqb (suc n) 0 ≡ false
@@ -56,7 +55,7 @@ unfolding has_open is_matched group_len
 inner-char c l r = record {
   opens = λ x n rest. rw (and_no (eqb c x) (eqb (suc n) 0) (some_open n), l, r) refl;
   matches = λ n rest. rw (r, l) refl;
-  groups = λ n rest. rw (r, l) refl
+  groups = λ n rest. rw (r, l) refl;
 }
 
 opening-opens : (x n : ℕ) (rest : List ℕ) → has_open x (suc n) (left ∷ rest) ≡ has_open x (suc (suc n)) rest
@@ -99,8 +98,8 @@ inner-grouped cs h = record {
   opens = λ x n rest. ap (has_open x (suc n)) (grouped_before cs rest) ∙ opening-opens x n (cs ++ right ∷ rest) ∙ h.opens x (suc n) (right ∷ rest) ∙ closing-opens x (suc n) rest;
   matches = λ n rest. ap (is_matched (suc n)) (grouped_before cs rest) ∙ opening-matches (suc n) (cs ++ right ∷ rest) ∙ h.matches (suc n) (right ∷ rest) ∙ closing-matches (suc n) rest;
   groups = λ n rest. ap (group_len (suc n)) (grouped_before cs rest) ∙ opening-groups (suc n) (cs ++ right ∷ rest)
-    ∙ ap (option_map (λ k. k + 1)) (h.groups (suc n) (right ∷ rest) ∙ ap (option_map (λ k. k + length cs)) (closing-groups n rest) ∙ map_twice (length cs) 1 (length cs + 1) (group_len (suc n) rest) (omega arith))
-    ∙ map_twice 1 (length cs + 1) (length (grouped cs)) (group_len (suc n) rest) (let e = length-append cs (right ∷ []) in omega arith)
+      ∙ ap (option_map (λ k. k + 1)) (h.groups (suc n) (right ∷ rest) ∙ ap (option_map (λ k. k + length cs)) (closing-groups n rest) ∙ map_twice (length cs) 1 (length cs + 1) (group_len (suc n) rest) (omega arith))
+      ∙ map_twice 1 (length cs + 1) (length (grouped cs)) (group_len (suc n) rest) (let e = length-append cs (right ∷ []) in omega arith);
 }
 
 pub balanced-nil : IsBalanced []
@@ -111,7 +110,7 @@ balanced-append cs ds h g = record {
   inner = inner-append cs ds h.inner g.inner;
   commas = λ rest. ap (has_open comma 0) (append_assoc cs ds rest) ∙ h.commas (ds ++ rest) ∙ g.commas rest;
   assigns = λ rest. ap (has_open equals 0) (append_assoc cs ds rest) ∙ h.assigns (ds ++ rest) ∙ g.assigns rest;
-  matches = λ rest. ap (is_matched 0) (append_assoc cs ds rest) ∙ h.matches (ds ++ rest) ∙ g.matches rest
+  matches = λ rest. ap (is_matched 0) (append_assoc cs ds rest) ∙ h.matches (ds ++ rest) ∙ g.matches rest;
 }
 
 -- a character that is no parenthesis, no comma and no =
@@ -121,7 +120,7 @@ balanced-char c l r m e = record {
   inner = inner-char c l r;
   commas = λ rest. rw (m, l, r) refl;
   assigns = λ rest. rw (e, l, r) refl;
-  matches = λ rest. rw (r, l) refl
+  matches = λ rest. rw (r, l) refl;
 }
 
 opening-open : (x : ℕ) (rest : List ℕ) → eqb left x ≡ false → has_open x 0 (left ∷ rest) ≡ has_open x 1 rest
@@ -134,7 +133,7 @@ balanced-grouped cs h = record {
   inner = inner-grouped cs h;
   commas = λ rest. ap (has_open comma 0) (grouped_before cs rest) ∙ opening-open comma (cs ++ right ∷ rest) refl ∙ h.opens comma 0 (right ∷ rest) ∙ closing-opens comma 0 rest;
   assigns = λ rest. ap (has_open equals 0) (grouped_before cs rest) ∙ opening-open equals (cs ++ right ∷ rest) refl ∙ h.opens equals 0 (right ∷ rest) ∙ closing-opens equals 0 rest;
-  matches = λ rest. ap (is_matched 0) (grouped_before cs rest) ∙ opening-matches 0 (cs ++ right ∷ rest) ∙ h.matches 0 (right ∷ rest) ∙ closing-matches 0 rest
+  matches = λ rest. ap (is_matched 0) (grouped_before cs rest) ∙ opening-matches 0 (cs ++ right ∷ rest) ∙ h.matches 0 (right ∷ rest) ∙ closing-matches 0 rest;
 }
 
 pub balanced-enclosed : (b : Bool) (cs : List ℕ) → IsBalanced cs → IsBalanced (enclosed b cs)

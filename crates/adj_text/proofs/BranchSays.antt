@@ -1,30 +1,23 @@
 -- BranchSays: the characters of a block IF with a written condition say it.
-use Rattle.std.proofs.Common.{◌≡◌, ℕ, ℤ, pos, negsuc, Bool, true, false, cond, List, [], ◌∷◌, ◌++◌, map, None, refl, sym, ap, subst, ◌∙◌, append_assoc, append-nil}
+use Rattle.std.proofs.Common.{◌≡◌, ℕ, List, [], ◌∷◌, ◌++◌, refl, sym, ap, subst, ◌∙◌, append_assoc, append-nil}
 use Rattle.std.specs.Prelude.{codes}
-use Rattle.std.specs.Ordering.{int_eq}
-use Rattle.std.specs.List.{flat_map}
-use Rattle.std.proofs.lemmas.Bool.Decides.{Decides-int_eq}
-use Rattle.adj_tree.specs.Code.{Var, plain, shadow, helper, Term, lit, var, elem, neg, bin, pow, abs, Test}
+use Rattle.adj_tree.specs.Code.{Test}
 use Rattle.adj_text.specs.declared.stated.Kind.TheVariants as classes
-use Rattle.adj_text.specs.declared.token.TokenKind.TheVariants.{Left, Right, Comma, Equals}
-use Rattle.adj_text.specs.Char.{comma, equals, folded}
+use Rattle.adj_text.specs.declared.token.TokenKind.TheVariants.{Right}
+use Rattle.adj_text.specs.Char.{folded}
 use Rattle.adj_text.specs.Form.{opens_do, opens_if, ReadsForm}
 use Rattle.adj_text.specs.Form as forms
 use Rattle.adj_text.specs.Lined.{Lines}
 use Rattle.adj_text.specs.Statement.{Range, ReadsRange, ReadsDo}
 use Rattle.adj_text.specs.Statement as statements
-use Rattle.adj_text.specs.Text.{is_one, step_text, var_text, term_text, test_text}
-use Rattle.adj_text.specs.Word.{Word, Named, Mark, words_of}
-use Rattle.adj_text.specs.Written.{IsVariable, IsWrittenTerm, IsWrittenTest}
-use Rattle.adj_text.proofs.Balanced.{grouped}
+use Rattle.adj_text.specs.Text.{test_text}
+use Rattle.adj_text.specs.Word.{Word, Mark}
+use Rattle.adj_text.specs.Written.{IsWrittenTest}
 use Rattle.adj_text.proofs.Joins.{allowed-append, folded-append}
-use Rattle.adj_text.proofs.Opened.{do_words, step_words, step_chars, do_chars, do_spelled, is_do_statement, guard_words, if_chars, if_statement, states_if, if_words}
+use Rattle.adj_text.proofs.Opened.{guard_words, if_chars, if_statement, states_if, if_words}
 use Rattle.adj_text.proofs.Printed.{SaysChars}
 use Rattle.adj_text.proofs.Said.{Says}
-use Rattle.adj_text.proofs.Sayings.{IsSolid, solid_words, says_words}
-use Rattle.adj_text.proofs.Spelled.{spelling}
-use Rattle.adj_text.proofs.TermDerived.{reads_term}
-use Rattle.adj_text.proofs.TermWords.{term_words}
+use Rattle.adj_text.proofs.Sayings.{IsSolid, solid_words}
 use Rattle.adj_text.proofs.TestDerived.{test_words, reads_test}
 use Rattle.adj_text.proofs.TestSpelled.{test_spelled, test_spaced}
 

@@ -1,8 +1,8 @@
 -- Called: CALL and INTEGER statements of written actuals and extents are statements of their classes, with their words.
-use Rattle.std.proofs.Common.{◌≡◌, ℕ, suc, ◌<◌, ◌≤◌, ◌^◌, ℤ, pos, negsuc, Bool, true, false, List, [], ◌∷◌, ◌++◌, map, length, Some, refl, sym, ap, ◌∙◌, arith, append-nil, append_assoc}
+use Rattle.std.proofs.Common.{◌≡◌, ℕ, suc, ◌≤◌, pos, negsuc, true, false, List, [], ◌∷◌, ◌++◌, map, length, Some, refl, sym, ap, ◌∙◌, arith, append-nil}
 use Rattle.std.specs.Prelude.{codes, take_while}
 use Rattle.std.specs.List.{All, flat_map, list_all}
-use Rattle.std.specs.Fmt.{decimal, signed_decimal}
+use Rattle.std.specs.Fmt.{decimal}
 use Rattle.std.proofs.lemmas.List.Sums.{take_while-cons}
 use Rattle.adj_tree.specs.Code.{Terms, none, more, Extent, fixed, given}
 use Rattle.adj_text.specs.Char.{equals, is_capital, is_digit, is_name_char}
@@ -10,15 +10,15 @@ use Rattle.adj_text.specs.Class.{has_open, is_matched, kind_of, class_of}
 use Rattle.adj_text.specs.Stated.{keyword_len}
 use Rattle.adj_text.specs.Text.{bracketed, term_texts, extent_text}
 use Rattle.adj_text.specs.Word.{Word, Named, Digits, Mark}
-use Rattle.adj_text.specs.Written.{IsName, IsLiteral, IsWrittenExtent, AreWrittenTerms}
+use Rattle.adj_text.specs.Written.{IsWrittenExtent, AreWrittenTerms}
 use Rattle.adj_text.specs.declared.stated.Kind.TheVariants as classes
 use Rattle.adj_text.specs.declared.token.TokenKind.TheVariants.{Left, Right, Comma}
-use Rattle.adj_text.proofs.Spelled.{spelling, is_name, is_number, EndsName, AreSpaced}
+use Rattle.adj_text.proofs.Spelled.{spelling, is_name, EndsName, AreSpaced}
 use Rattle.adj_text.proofs.Scans.{both_true, capital_is_no_digit}
 use Rattle.adj_text.proofs.Stating.{IsStatement}
 use Rattle.adj_text.proofs.Classes.{name_chars}
 use Rattle.adj_text.proofs.Plain.{eight_wide}
-use Rattle.adj_text.proofs.TermWords.{Words, bracketed_words}
+use Rattle.adj_text.proofs.TermWords.{bracketed_words}
 use Rattle.adj_text.proofs.TermSpelled.{bracketed_spelled}
 use Rattle.adj_text.proofs.TermSpaced.{is_number-decimal, is_name-name, bracketed_spaced}
 use Rattle.adj_text.proofs.Balanced.{IsBalanced, balanced-append, balanced-name, balanced-bracketed, AreBalanced}

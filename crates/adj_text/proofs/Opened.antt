@@ -1,19 +1,19 @@
 -- Opened: DO and block IF of written expressions are statements of their classes, with their words.
-use Rattle.std.proofs.Common.{◌≡◌, ℕ, ◌+◌, ◌-◌, ◌<◌, Bool, true, false, cond, eqb, List, [], ◌∷◌, ◌++◌, length, drop, Option, Some, None, option_map, Ok, refl, sym, ap, ◌∙◌, arith, append_assoc, append-nil, length-append}
-use Rattle.std.specs.Prelude.{◌&&◌, codes, unwrap_or}
+use Rattle.std.proofs.Common.{◌≡◌, ℕ, ◌+◌, ◌-◌, Bool, true, false, eqb, List, [], ◌∷◌, ◌++◌, length, drop, Some, None, Ok, refl, sym, ap, ◌∙◌, arith, append-nil, length-append}
+use Rattle.std.specs.Prelude.{◌&&◌, codes}
 use Rattle.std.specs.List.{flat_map, list_all, list_any, prefix_len}
 use Rattle.std.proofs.lemmas.Bool.{ne_eqb}
 use Rattle.std.proofs.lemmas.List.{drop_at, take_at}
 use Rattle.adj_tree.specs.Code.{Var, Term, Test}
-use Rattle.adj_text.specs.Char.{left, right, comma, equals, is_capital, is_digit, is_name_char}
-use Rattle.adj_text.specs.Class.{has_open, is_matched, group_len, begins_with_letter, behind_label, is_control, is_do, condition_end, inner, is_if, kind_of, class_of}
+use Rattle.adj_text.specs.Char.{comma, equals, is_capital, is_digit, is_name_char}
+use Rattle.adj_text.specs.Class.{has_open, is_matched, begins_with_letter, behind_label, is_control, is_do, inner, kind_of, class_of}
 use Rattle.adj_text.specs.Limits.{no_limits}
 use Rattle.adj_text.specs.Lined.{Lines}
-use Rattle.adj_text.specs.Stated.{keyword_len, ending_len, call_place, tokens_of, is_too_long, stated}
-use Rattle.adj_text.specs.Text.{var_text, term_text, is_one, step_text, test_text}
+use Rattle.adj_text.specs.Stated.{tokens_of, is_too_long, stated}
+use Rattle.adj_text.specs.Text.{var_text, term_text, is_one, test_text}
 use Rattle.adj_text.specs.Token.{begins_with, tokens_from}
 use Rattle.adj_text.specs.Word.{Word, Named, Mark, part, words_of}
-use Rattle.adj_text.specs.Written.{IsName, IsVariable, IsWrittenTerm, IsWrittenTest}
+use Rattle.adj_text.specs.Written.{IsVariable, IsWrittenTerm, IsWrittenTest}
 use Rattle.adj_text.specs.declared.stated.Kind.TheVariants as classes
 use Rattle.adj_text.specs.declared.stated.Stated.{Stated}
 use Rattle.adj_text.specs.declared.token.Token.{Token}
@@ -23,13 +23,13 @@ use Rattle.adj_text.proofs.Scans.{both_true, capital_is_no_digit, tokens_at, sca
 use Rattle.adj_text.proofs.Stating.{IsStatement}
 use Rattle.adj_text.proofs.Classes.{name_chars}
 use Rattle.adj_text.proofs.TermWords.{Words, term_words}
-use Rattle.adj_text.proofs.TermSpelled.{AreSpelled, term_spelled}
-use Rattle.adj_text.proofs.TermSpaced.{AreSpacedBefore, is_name-variable, term_spaced}
+use Rattle.adj_text.proofs.TermSpelled.{term_spelled}
+use Rattle.adj_text.proofs.TermSpaced.{is_name-variable, term_spaced}
 use Rattle.adj_text.proofs.TestDerived.{test_words}
 use Rattle.adj_text.proofs.TestSpelled.{test_spelled, test_spaced}
-use Rattle.adj_text.proofs.Balanced.{IsInner, IsBalanced, grouped, balanced-append, balanced-name, balanced-grouped}
+use Rattle.adj_text.proofs.Balanced.{IsInner, grouped, balanced-append, balanced-name, balanced-grouped}
 use Rattle.adj_text.proofs.TermBalanced.{balanced-plain, term_balanced, test_balanced}
-use Rattle.adj_text.proofs.Assigned.{stops, drop_past, prefix-no, opens-equals, matches-equals, opens-nothing, matches-nothing, inner_behind}
+use Rattle.adj_text.proofs.Assigned.{stops, drop_past, prefix-no, matches-equals, matches-nothing, inner_behind}
 
 -- a name, an = and an open comma behind it
 is_range : (c : ℕ) (cs rest : List ℕ) → is_capital c ≡ true → list_all is_name_char (c ∷ cs) ≡ true → has_open comma 0 rest ≡ true → is_control (c ∷ (cs ++ 61 ∷ rest)) ≡ true

@@ -1,22 +1,19 @@
 -- Printed: statements that are printed one after another are read one after another.
-use Rattle.std.proofs.Common.{◌≡◌, ℕ, ◌<◌, ◌≤◌, Bool, false, List, [], ◌∷◌, ◌++◌, Option, None, Some, Ok, refl, sym, ap, subst, ◌∙◌, append_assoc, append-nil}
+use Rattle.std.proofs.Common.{◌≡◌, ℕ, ◌<◌, ◌≤◌, false, List, [], ◌∷◌, ◌++◌, None, Ok, refl, sym, ap, subst, ◌∙◌, append_assoc, append-nil}
 use Rattle.adj_tree.specs.Code.{Procedure}
-use Rattle.adj_text.specs.declared.stated.Kind.{Kind}
 use Rattle.adj_text.specs.Char.{is_blank, folded}
-use Rattle.adj_text.specs.Form.{Form, Statement, at, ReadsForm}
+use Rattle.adj_text.specs.Form.{Form, Statement, at}
 use Rattle.adj_text.specs.Limits.{no_limits}
 use Rattle.adj_text.specs.Line.{cut_lines, next_number}
-use Rattle.adj_text.specs.Lined.{Lines, Pass, flushed, mark_of, start, pass_over, lines_of}
+use Rattle.adj_text.specs.Lined.{Lines, Pass, flushed, mark_of, start, pass_over}
 use Rattle.adj_text.specs.Reads.{Reads}
 use Rattle.adj_text.specs.Text.{directive, statement}
 use Rattle.adj_text.specs.Unit.{ReadsUnits}
-use Rattle.adj_text.specs.Word.{Word}
 use Rattle.adj_text.proofs.Directives.{behind, over_directive}
 use Rattle.adj_text.proofs.Joins.{AreAllowed, going}
 use Rattle.adj_text.proofs.Laying.{joins}
 use Rattle.adj_text.proofs.Said as said
 use Rattle.adj_text.proofs.Said.{Says, AllSay, reads_said}
-use Rattle.adj_text.proofs.Stating.{text_of, IsStatement}
 
 -- characters that say a form behind a directive with so many snapshots, 0 where there is none
 pub record SaysChars (mark : ℕ) (chars : List ℕ) (f : Form) : Type 0 where
@@ -80,7 +77,6 @@ read_on (more {chars = chars} {cs = cs} {f = f} {fs = fs} s rest) p n h =
       at_forms = more r.at_forms;
       passed = over.1 ∙ r.passed ∙ ap Ok (append_assoc (flushed p) (begun p n text ∷ []) r.lines);
     }
-
 read_on (marked {chars = chars} {cs = cs} {f = f} {fs = fs} {n = count} some le s rest) p n h =
     let text = folded chars in
     let q = behind p n count in

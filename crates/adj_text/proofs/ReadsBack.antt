@@ -1,7 +1,7 @@
 -- ReadsBack: the canonical text of a program reads as it, where the characters of each statement say it.
-use Rattle.std.proofs.Common.{◌≡◌, ℕ, zero, suc, ◌≤◌, arith, Bool, true, false, List, [], ◌∷◌, ◌++◌, map, None, refl, sym, ap, subst, ◌∙◌, append_assoc, append-nil}
+use Rattle.std.proofs.Common.{ℕ, zero, suc, ◌≤◌, arith, Bool, true, false, List, [], ◌∷◌, ◌++◌, map, None, refl, sym, subst, append_assoc}
 use Rattle.std.specs.Prelude.{codes}
-use Rattle.std.specs.List.{flat_map, All}
+use Rattle.std.specs.List.{flat_map}
 use Rattle.adj_tree.specs.Code.{Act, Code, assign, choose, loop, call, runtime, stop, step, Declaration, Procedure}
 use Rattle.adj_text.specs.declared.stated.Kind.TheVariants as classes
 use Rattle.adj_text.specs.Char.{comma, equals}
@@ -115,9 +115,9 @@ printed_unit p {cs = cs} h rest =
     let last = statement (codes "END") in
     let inner = printed_implicit p.is_none (printed_declarations p.declarations h.declarations (printed_code p.body h.body (printed.Printed.more says_end rest))) in
     apart (first ++ implicit ++ declared ++ code_text p.body) last cs
-      (apart (first ++ implicit ++ declared) (code_text p.body) (last ++ cs)
-      (apart (first ++ implicit) declared (code_text p.body ++ (last ++ cs))
-      (apart first implicit (declared ++ (code_text p.body ++ (last ++ cs))) (printed.Printed.more h.heading inner))))
+    (apart (first ++ implicit ++ declared) (code_text p.body) (last ++ cs)
+    (apart (first ++ implicit) declared (code_text p.body ++ (last ++ cs))
+    (apart first implicit (declared ++ (code_text p.body ++ (last ++ cs))) (printed.Printed.more h.heading inner))))
 
 printed_program : (ps : List Procedure) → SaidProgram ps → Printed (text_of ps) (program_forms ps)
 printed_program [] h = printed.Printed.none

@@ -1,7 +1,6 @@
 -- Said: a text reads as the units of what its statements say.
-use Rattle.std.proofs.Common.{◌≡◌, ℕ, List, [], ◌∷◌, Result, Ok, refl, sym, ap, subst, ◌∙◌}
+use Rattle.std.proofs.Common.{◌≡◌, ℕ, List, [], ◌∷◌, Ok, refl, sym, ap, subst, ◌∙◌}
 use Rattle.adj_tree.specs.Code.{Procedure}
-use Rattle.adj_tree.specs.declared.fault.Refusal.{Refusal}
 use Rattle.adj_text.specs.declared.stated.Kind.{Kind}
 use Rattle.adj_text.specs.declared.stated.Stated.{Stated}
 use Rattle.adj_text.specs.Form.{Form, Statement, at, ReadsForm}
@@ -10,7 +9,7 @@ use Rattle.adj_text.specs.Lined.{Lines, lines_of}
 use Rattle.adj_text.specs.Reads as texts
 use Rattle.adj_text.specs.Reads.{ReadsAll, Reads}
 use Rattle.adj_text.specs.Refused.{◌>>=◌}
-use Rattle.adj_text.specs.Stated.{stated, all_stated, statements_of}
+use Rattle.adj_text.specs.Stated.{stated, all_stated}
 use Rattle.adj_text.specs.Unit.{ReadsUnits}
 use Rattle.adj_text.specs.Word.{Word, words_of}
 use Rattle.adj_text.proofs.Stating.{text_of, IsStatement, statement_of, states, words_stand}

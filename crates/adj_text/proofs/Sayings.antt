@@ -1,13 +1,11 @@
 -- Sayings: characters that are a keyword, blanks among it, and spelled words say what the words derive.
-use Rattle.std.proofs.Common.{◌≡◌, ℕ, ◌+◌, Bool, true, false, cond, List, [], ◌∷◌, ◌++◌, map, filter, refl, sym, ap, ◌∙◌, arith}
-use Rattle.std.specs.Prelude.{codes, not, ◌&&◌}
+use Rattle.std.proofs.Common.{◌≡◌, ℕ, true, false, List, [], ◌∷◌, ◌++◌, refl, ap, ◌∙◌, arith}
 use Rattle.std.specs.List.{flat_map, list_all}
 use Rattle.std.proofs.lemmas.Bool.Decides.{nat_tests}
 use Rattle.adj_text.specs.declared.stated.Kind.{Kind}
-use Rattle.adj_text.specs.declared.stated.Kind.TheVariants as classes
 use Rattle.adj_text.specs.declared.token.TokenKind.{TokenKind}
 use Rattle.adj_text.specs.declared.token.TokenKind.TheVariants as kinds
-use Rattle.adj_text.specs.Char.{is_blank, is_small, is_allowed, upper, without_blanks, folded, is_name_char}
+use Rattle.adj_text.specs.Char.{is_blank, is_allowed, upper, folded, is_name_char}
 use Rattle.adj_text.specs.Form.{Form, ReadsForm}
 use Rattle.adj_text.specs.Word.{Word, Named, Digits, Mark}
 use Rattle.adj_text.proofs.Classes.{name_chars, number_chars}
@@ -15,8 +13,8 @@ use Rattle.adj_text.proofs.Joins.{AreAllowed, allowed-append, folded-append}
 use Rattle.adj_text.proofs.Printed.{SaysChars}
 use Rattle.adj_text.proofs.Said.{says_statement}
 use Rattle.adj_text.proofs.Scans.{both_true}
-use Rattle.adj_text.proofs.Spelled.{chars_of, spelling, is_name, is_number, IsMark, AreSpaced}
-use Rattle.adj_text.proofs.Stating.{text_of, IsStatement}
+use Rattle.adj_text.proofs.Spelled.{chars_of, spelling, AreSpaced}
+use Rattle.adj_text.proofs.Stating.{IsStatement}
 
 -- characters that folding leaves, and that may stand in a statement
 abbrev pub IsSolid : List ℕ → Type 0

@@ -1,12 +1,12 @@
 -- TermBalanced: the characters of written expressions and conditions are balanced.
-use Rattle.std.proofs.Common.{◌≡◌, ℕ, ◌<◌, ◌^◌, ℤ, pos, negsuc, Bool, true, false, eqb, List, [], ◌∷◌, ◌++◌, refl, arith}
+use Rattle.std.proofs.Common.{◌≡◌, ℕ, ◌<◌, ◌^◌, pos, negsuc, Bool, true, false, eqb, List, [], ◌∷◌, ◌++◌, refl, arith}
 use Rattle.std.specs.Prelude.{codes, nat_lt, ◌&&◌, not}
 use Rattle.std.specs.List.{list_all}
 use Rattle.std.specs.Fmt.{decimal}
 use Rattle.adj_tree.specs.Code.{Op, plus, minus, times, quot, modulo, greater, lesser, Term, Terms, lit, var, elem, neg, bin, pow, abs, none, more, Var, plain, shadow, helper, Rel, is_less, is_most, is_same, is_other, is_greater, is_least, Test, compare, negation, conjunction, disjunction}
 use Rattle.adj_text.specs.Char.{left, right, comma, equals}
-use Rattle.adj_text.specs.Text.{op_level, left_place, right_place, term_level, var_text, opening, between, closing, enclosed, bracketed, term_text, term_texts, rel_text, test_level, test_text}
-use Rattle.adj_text.specs.Written.{IsName, IsLiteral, IsVariable, IsWrittenTerm, AreWrittenTerms, IsWrittenTest}
+use Rattle.adj_text.specs.Text.{left_place, right_place, term_level, var_text, opening, between, closing, enclosed, bracketed, term_text, term_texts, rel_text, test_level, test_text}
+use Rattle.adj_text.specs.Written.{IsVariable, IsWrittenTerm, AreWrittenTerms, IsWrittenTest}
 use Rattle.adj_text.proofs.Scans.{both_true}
 use Rattle.adj_text.proofs.Classes.{name_chars, number_chars}
 use Rattle.adj_text.proofs.TermSpaced.{is_number-decimal, is_name-name, is_name-variable}

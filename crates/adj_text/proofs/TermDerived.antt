@@ -1,18 +1,18 @@
 -- TermDerived: the words of a written expression derive it.
-use Rattle.std.proofs.Common.{◌≡◌, ℕ, zero, suc, ◌+◌, ◌-◌, ◌*◌, ◌/◌, ◌%◌, ◌<◌, ◌≤◌, ◌^◌, ℤ, pos, negsuc, Bool, true, false, ltb, List, [], ◌∷◌, ◌++◌, Option, Some, None, refl, sym, ap, ◌∙◌, arith, inl, inr}
-use Rattle.std.specs.Prelude.{codes, fold, is_some, ◌||◌, nat_le, option_and_then, option_map, if◌then◌else◌}
+use Rattle.std.proofs.Common.{◌≡◌, ℕ, zero, suc, ◌+◌, ◌-◌, ◌*◌, ◌/◌, ◌%◌, ◌<◌, ◌≤◌, ◌^◌, pos, negsuc, Bool, true, false, ltb, List, ◌∷◌, Option, Some, None, refl, ap, ◌∙◌, arith, inl, inr}
+use Rattle.std.specs.Prelude.{codes, is_some, ◌||◌, option_and_then, option_map}
 use Rattle.std.proofs.lemmas.Bool.{cases_lt, lt-ltb, le-ltb, le-leb}
 use Rattle.std.specs.Fmt.{decimal}
 use Rattle.std.proofs.lemmas.List.Sums.{fold_push}
 use Rattle.std.proofs.lemmas.Fmt.{decimal_by_steps}
-use Rattle.adj_tree.specs.Code.{Op, plus, minus, times, quot, modulo, greater, lesser, Term, Terms, lit, var, elem, neg, bin, pow, abs, none, more, Var, plain, shadow, helper}
+use Rattle.adj_tree.specs.Code.{Op, plus, minus, times, quot, modulo, greater, lesser, Term, Terms, lit, var, elem, neg, bin, pow, abs, none, more, plain, shadow, helper}
 use Rattle.adj_text.specs.declared.token.TokenKind.TheVariants.{Power, Star, Slash, Plus, Minus, Left, Right, Comma}
 use Rattle.adj_text.specs.Char.{number_of}
-use Rattle.adj_text.specs.Grammar.{Syntax, number, variable, negated, joined, raised, applied, Arguments, only, beside, Symbol, Sum, Product, Factor, Primary, adds, subtracts, multiplies, divides, signed, Derives, DerivesAll, literal, name, group, application, primary, power, factor, product, term, sign, sum, single, another, in_words, as_exponent, exponent, with_both, tree, trees_before, operation_of, is_absolute, application_of, two_arguments, takes, takes_as, count_of, ReadsTerm, ReadsTerms}
-use Rattle.adj_text.specs.Text.{op_level, left_place, right_place, term_level, var_text}
+use Rattle.adj_text.specs.Grammar.{Syntax, number, variable, negated, joined, raised, applied, Arguments, only, beside, Symbol, Sum, Product, Factor, Primary, adds, subtracts, multiplies, divides, Derives, DerivesAll, literal, name, group, application, primary, power, factor, product, term, sign, sum, single, another, exponent, with_both, tree, trees_before, operation_of, is_absolute, application_of, takes, count_of, ReadsTerm, ReadsTerms}
+use Rattle.adj_text.specs.Text.{term_level}
 use Rattle.adj_text.specs.Word.{Word, Named, Digits, Mark}
-use Rattle.adj_text.specs.Written.{IsName, IsVariable, is_intrinsic, IsIndexed, IsLiteral, AreSubscripts, IsWrittenTerm, AreWrittenTerms}
-use Rattle.adj_text.proofs.TermWords.{Words, enclosed_words, opening_words, mark_between, closing_words, magnitude, term_words, bracketed_words, comma_words}
+use Rattle.adj_text.specs.Written.{is_intrinsic, IsWrittenTerm, AreWrittenTerms}
+use Rattle.adj_text.proofs.TermWords.{Words, enclosed_words, term_words, comma_words}
 
 -- what derives an operand in a place of a level
 abbrev pub place : ℕ → Symbol

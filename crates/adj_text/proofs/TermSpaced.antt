@@ -1,16 +1,16 @@
 -- TermSpaced: the words of a written expression can be told apart when they are joined.
-use Rattle.std.proofs.Common.{◌≡◌, ℕ, ◌+◌, ◌%◌, ◌<◌, ◌≤◌, ◌^◌, ℤ, pos, negsuc, Bool, true, false, List, [], ◌∷◌, ◌++◌, refl, arith}
-use Rattle.std.specs.Prelude.{nat_lt, ◌&&◌}
+use Rattle.std.proofs.Common.{◌≡◌, ℕ, ◌+◌, ◌%◌, ◌<◌, ◌^◌, pos, negsuc, Bool, true, false, List, [], ◌∷◌, ◌++◌, refl, arith}
+use Rattle.std.specs.Prelude.{nat_lt}
 use Rattle.std.specs.List.{list_all}
 use Rattle.std.specs.Fmt.{decimal}
 use Rattle.std.proofs.lemmas.Fmt.{decimal_by_steps}
 use Rattle.std.proofs.lemmas.Bool.Decides.{nat_tests}
 use Rattle.adj_tree.specs.Code.{Op, plus, minus, times, quot, modulo, greater, lesser, Term, Terms, lit, var, elem, neg, bin, pow, abs, none, more, Var, plain, shadow, helper}
-use Rattle.adj_text.specs.declared.token.TokenKind.TheVariants.{Power, Star, Slash, Plus, Minus, Left, Right, Comma}
+use Rattle.adj_text.specs.declared.token.TokenKind.TheVariants.{Power, Star, Right}
 use Rattle.adj_text.specs.Char.{is_digit}
-use Rattle.adj_text.specs.Text.{op_level, left_place, right_place, term_level, var_text}
+use Rattle.adj_text.specs.Text.{left_place, right_place, term_level, var_text}
 use Rattle.adj_text.specs.Word.{Word, Named, Digits, Mark}
-use Rattle.adj_text.specs.Written.{IsName, IsLiteral, IsVariable, IsWrittenTerm, AreWrittenTerms}
+use Rattle.adj_text.specs.Written.{IsName, IsVariable, IsWrittenTerm, AreWrittenTerms}
 use Rattle.adj_text.proofs.Spelled.{is_name, is_number, EndsName, EndsNumber, EndsMark, AreSpaced}
 use Rattle.adj_text.proofs.Scans.{both_true}
 use Rattle.adj_text.proofs.TermWords.{Words, enclosed_words, opening_words, mark_between, closing_words, term_words, bracketed_words, comma_words}

@@ -1,17 +1,15 @@
 -- TermSpelled: the words of an expression are spelled as its characters, and can be told apart.
-use Rattle.std.proofs.Common.{◌≡◌, ℕ, ◌<◌, ◌≤◌, ◌^◌, ℤ, pos, negsuc, Bool, true, false, ltb, List, [], ◌∷◌, ◌++◌, refl, sym, ap, ◌∙◌, arith, append_assoc}
+use Rattle.std.proofs.Common.{◌≡◌, ℕ, pos, negsuc, Bool, true, false, List, [], ◌∷◌, ◌++◌, refl, sym, ap, ◌∙◌, append_assoc}
 use Rattle.std.specs.Prelude.{codes, nat_lt}
-use Rattle.std.specs.List.{flat_map, list_all}
-use Rattle.std.specs.Fmt.{decimal, signed_decimal}
-use Rattle.std.proofs.lemmas.Fmt.{decimal_by_steps}
-use Rattle.adj_tree.specs.Code.{Op, plus, minus, times, quot, modulo, greater, lesser, Term, Terms, lit, var, elem, neg, bin, pow, abs, none, more, Var, plain, shadow, helper}
-use Rattle.adj_text.specs.declared.token.TokenKind.TheVariants.{Power, Star, Slash, Plus, Minus, Left, Right, Comma}
-use Rattle.adj_text.specs.Char.{is_digit}
-use Rattle.adj_text.specs.Text.{op_level, left_place, right_place, term_level, var_text, opening, between, closing, enclosed, behind_commas, bracketed, term_text, term_texts}
-use Rattle.adj_text.specs.Word.{Word, Named, Digits, Mark}
-use Rattle.adj_text.specs.Written.{IsName, IsLiteral, IsVariable, IsWrittenTerm, AreWrittenTerms}
-use Rattle.adj_text.proofs.Spelled.{spelling, is_name, is_number, IsMark, EndsName, EndsNumber, EndsMark, AreSpaced}
-use Rattle.adj_text.proofs.TermWords.{Words, enclosed_words, opening_words, mark_between, closing_words, magnitude, term_words, bracketed_words, comma_words}
+use Rattle.std.specs.List.{flat_map}
+use Rattle.std.specs.Fmt.{decimal}
+use Rattle.adj_tree.specs.Code.{Op, plus, minus, times, quot, modulo, greater, lesser, Term, Terms, lit, var, elem, neg, bin, pow, abs, none, more}
+use Rattle.adj_text.specs.declared.token.TokenKind.TheVariants.{Power, Right}
+use Rattle.adj_text.specs.Text.{left_place, right_place, term_level, var_text, opening, between, closing, enclosed, behind_commas, bracketed, term_text, term_texts}
+use Rattle.adj_text.specs.Word.{Word, Digits, Mark}
+use Rattle.adj_text.specs.Written.{IsWrittenTerm, AreWrittenTerms}
+use Rattle.adj_text.proofs.Spelled.{spelling}
+use Rattle.adj_text.proofs.TermWords.{Words, enclosed_words, opening_words, mark_between, closing_words, term_words, bracketed_words, comma_words}
 
 -- these words, before any rest, are spelled as these characters
 abbrev pub AreSpelled : Words → List ℕ → Type 0

@@ -1,9 +1,9 @@
 -- TestDerived: the words of a condition, and that those of a written condition derive it.
-use Rattle.std.proofs.Common.{◌≡◌, ℕ, zero, suc, ◌≤◌, Bool, true, false, ltb, List, ◌∷◌, Some, refl, arith, inl, inr}
+use Rattle.std.proofs.Common.{◌≡◌, ℕ, zero, suc, ◌≤◌, true, ltb, List, ◌∷◌, Some, refl, arith, inl, inr}
 use Rattle.std.proofs.lemmas.Bool.{cases_lt, lt-ltb, le-ltb}
 use Rattle.adj_tree.specs.Code.{Term, Rel, is_less, is_most, is_same, is_other, is_greater, is_least, Test, compare, negation, conjunction, disjunction}
 use Rattle.adj_text.specs.declared.token.TokenKind.{TokenKind}
-use Rattle.adj_text.specs.declared.token.TokenKind.TheVariants.{Left, Right, Lt, Le, Eq, Ne, Gt, Ge, Not, And, Or}
+use Rattle.adj_text.specs.declared.token.TokenKind.TheVariants.{Right, Lt, Le, Eq, Ne, Gt, Ge, Not, And, Or}
 use Rattle.adj_text.specs.Condition.{Condition, compared, denied, both, either, Relates, less, most, same, other, greater, least, Part, Whole, Conjunction, Item, Plain, DerivesCondition, comparison, group, plain, not, item, and, whole, or, test, ReadsTest}
 use Rattle.adj_text.specs.Text.{test_level}
 use Rattle.adj_text.specs.Word.{Word, Mark}

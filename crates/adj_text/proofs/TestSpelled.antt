@@ -1,13 +1,13 @@
 -- TestSpelled: the words of a condition are spelled as its characters, and can be told apart.
-use Rattle.std.proofs.Common.{◌≡◌, ℕ, Bool, ltb, List, ◌∷◌, ◌++◌, refl, sym, ap, ◌∙◌, append_assoc}
+use Rattle.std.proofs.Common.{◌≡◌, ℕ, ltb, List, ◌∷◌, ◌++◌, refl, ap, ◌∙◌, append_assoc}
 use Rattle.std.specs.Prelude.{codes}
 use Rattle.std.specs.List.{flat_map}
 use Rattle.adj_tree.specs.Code.{Rel, is_less, is_most, is_same, is_other, is_greater, is_least, Test, compare, negation, conjunction, disjunction}
-use Rattle.adj_text.specs.declared.token.TokenKind.TheVariants.{Left, Right, Not, And, Or}
+use Rattle.adj_text.specs.declared.token.TokenKind.TheVariants.{And, Or}
 use Rattle.adj_text.specs.Text.{enclosed, term_text, rel_text, test_level, test_text}
 use Rattle.adj_text.specs.Word.{Word, Mark}
 use Rattle.adj_text.specs.Written.{IsWrittenTest}
-use Rattle.adj_text.proofs.Spelled.{spelling, EndsName, AreSpaced}
+use Rattle.adj_text.proofs.Spelled.{spelling, AreSpaced}
 use Rattle.adj_text.proofs.TermWords.{Words, enclosed_words, term_words}
 use Rattle.adj_text.proofs.TermSpelled.{AreSpelled, enclosed_spelled, term_spelled}
 use Rattle.adj_text.proofs.TermSpaced.{AreSpacedBefore, enclosed_spaced, term_spaced}

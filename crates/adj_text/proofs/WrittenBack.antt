@@ -1,5 +1,5 @@
 -- WrittenBack: the text of a written program reads as it.
-use Rattle.std.proofs.Common.{◌≡◌, ℕ, suc, ◌<◌, List, [], ◌∷◌, length, arith}
+use Rattle.std.proofs.Common.{ℕ, suc, List, [], ◌∷◌, arith}
 use Rattle.std.specs.List.{All}
 use Rattle.adj_tree.specs.Code.{Act, Code, assign, choose, loop, call, runtime, stop, step, Declaration, Procedure}
 use Rattle.adj_text.specs.ReadsAs.{ReadsAs}

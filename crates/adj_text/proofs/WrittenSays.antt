@@ -1,11 +1,10 @@
 -- WrittenSays: the characters of each written statement say it.
-use Rattle.std.proofs.Common.{◌≡◌, ℕ, suc, ◌≤◌, ℤ, pos, negsuc, Bool, true, false, List, [], ◌∷◌, ◌++◌, map, None, length, refl, sym, ap, subst, ◌∙◌, arith, append_assoc, append-nil}
+use Rattle.std.proofs.Common.{◌≡◌, ℕ, ◌≤◌, pos, negsuc, Bool, true, false, List, [], ◌∷◌, ◌++◌, map, None, length, refl, sym, ap, subst, ◌∙◌, arith, append_assoc, append-nil}
 use Rattle.std.specs.Prelude.{codes}
-use Rattle.std.specs.List.{All, flat_map}
-use Rattle.std.specs.Ordering.{int_eq}
+use Rattle.std.specs.List.{flat_map}
 use Rattle.std.specs.Fmt.{decimal}
 use Rattle.std.proofs.lemmas.Bool.Decides.{Decides-int_eq}
-use Rattle.adj_tree.specs.Code.{Var, plain, shadow, helper, Term, Terms, lit, var, elem, neg, bin, pow, abs, none, more, Test, Runtime, push_word, pop_word, push_array, pop_array, push_control, pop_control, zero_array, begin_reversal, count_actions, give_action, end_reversal, Act, assign, call, runtime, Extent, fixed, given, Declaration}
+use Rattle.adj_tree.specs.Code.{Var, plain, shadow, helper, Term, Terms, lit, var, elem, neg, bin, pow, abs, none, more, Runtime, push_word, pop_word, push_array, pop_array, push_control, pop_control, zero_array, begin_reversal, count_actions, give_action, end_reversal, Act, assign, call, runtime, Extent, fixed, given, Declaration}
 use Rattle.adj_text.specs.Char.{comma, equals}
 use Rattle.adj_text.specs.Form as forms
 use Rattle.adj_text.specs.Form.{subroutine, integers, simple, opens_do}
@@ -24,9 +23,9 @@ use Rattle.adj_text.proofs.Placed.{item_of}
 use Rattle.adj_text.proofs.Sayings.{says_words, says_named}
 use Rattle.adj_text.proofs.TermWords.{term_words, bracketed_words}
 use Rattle.adj_text.proofs.TermDerived.{number_of-decimal, reads_term, reads_terms, reads_one, reads_two}
-use Rattle.adj_text.proofs.TermSpaced.{is_name-name, is_name-variable}
+use Rattle.adj_text.proofs.TermSpaced.{is_name-name}
 use Rattle.adj_text.proofs.Assigned.{assignment_spelled, is_assigned}
-use Rattle.adj_text.proofs.Opened.{do_words, do_chars, step_words, step_chars, do_spelled, is_do_statement}
+use Rattle.adj_text.proofs.Opened.{do_words, step_words, step_chars, do_spelled, is_do_statement}
 use Rattle.adj_text.proofs.Called.{call_words, call_spelled, is_called, AreExtents, extent_word, declared_words, declared_spelled, is_declared}
 
 -- the words of a place

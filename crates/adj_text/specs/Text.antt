@@ -1,10 +1,10 @@
 -- Text: the canonical characters of a program.
-use Rattle.std.specs.Prelude.{ℕ, ◌+◌, ◌==◌, ℤ, pos, Bool, true, false, nat_lt, List, [], ◌∷◌, ◌++◌, map, codes, if◌then◌else◌}
+use Rattle.std.specs.Prelude.{ℕ, ◌+◌, ◌==◌, pos, Bool, true, false, nat_lt, List, [], ◌∷◌, ◌++◌, map, codes, if◌then◌else◌}
 use Rattle.std.specs.Fmt.{decimal, signed_decimal}
 use Rattle.std.specs.List.{flat_map}
 use Rattle.std.specs.Ordering.{int_eq}
 use Rattle.adj_tree.specs.Code.{Var, plain, shadow, helper, Op, plus, minus, times, quot, modulo, greater, lesser, Term, Terms, lit, var, elem, neg, bin, pow, abs, none, more, Rel, is_less, is_most, is_same, is_other, is_greater, is_least, Test, compare, negation, conjunction, disjunction, Runtime, push_word, pop_word, push_array, pop_array, push_control, pop_control, zero_array, begin_reversal, count_actions, give_action, end_reversal, Act, Code, assign, choose, loop, call, runtime, stop, step, Extent, fixed, given, Declaration, Procedure}
-use Rattle.adj_text.specs.Char.{line_feed, blank, left, right, comma, equals}
+use Rattle.adj_text.specs.Char.{line_feed, left, right, comma, equals}
 
 -- Lines. The rest of a statement, once so many characters stand in its line: it is cut after 66, and goes on behind five blanks and a +
 unfoldable pub laid : ℕ → List ℕ → List ℕ

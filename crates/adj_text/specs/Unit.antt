@@ -25,8 +25,8 @@ pub data ReadsEnd : List Statement → List Statement → Type 0 where
 
 pub data ReadsUnit : List Statement → List Statement → Procedure → Type 0 where
   unit : {ts us vs ws rest : List Statement} {n l : ℕ} {x : List ℕ} {dummies : List (List ℕ)} {is_none : Bool} {ds : List Declaration} {body : Code} →
-    ReadsImplicit ts us is_none → ReadsDeclarations us vs ds → ReadsBody [] vs ws body → ReadsEnd ws rest →
-    ReadsUnit (at n l (subroutine x dummies) ∷ ts) rest (record { line = n; name = x; dummies = dummies; is_none = is_none; declarations = ds; body = body })
+      ReadsImplicit ts us is_none → ReadsDeclarations us vs ds → ReadsBody [] vs ws body → ReadsEnd ws rest →
+      ReadsUnit (at n l (subroutine x dummies) ∷ ts) rest (record { line = n; name = x; dummies = dummies; is_none = is_none; declarations = ds; body = body })
 
 -- the units of a text, in order
 pub data ReadsUnits : List Statement → List Procedure → Type 0 where

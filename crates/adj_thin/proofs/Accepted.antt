@@ -89,11 +89,11 @@ statements_of t = at 1 0 (subroutine t.heading.name t.heading.dummies) ∷ at 2 
 one_unit : (t : Thin) → ReadsUnits (statements_of t) (program_of t)
 one_unit t =
     units.ReadsUnits.more
-      (units.ReadsUnit.unit units.ReadsImplicit.absent
-        (units.ReadsDeclarations.more units.ReadsDeclarations.none (scalars t.declared))
-        (blocks.ReadsBody.more refl blocks.ReadsAct.simply blocks.ReadsBody.empty)
-        units.ReadsEnd.ended)
-      units.ReadsUnits.none
+    (units.ReadsUnit.unit units.ReadsImplicit.absent
+    (units.ReadsDeclarations.more units.ReadsDeclarations.none (scalars t.declared))
+    (blocks.ReadsBody.more refl blocks.ReadsAct.simply blocks.ReadsBody.empty)
+    units.ReadsEnd.ended)
+    units.ReadsUnits.none
 
 -- the heading, the declaration and the product, as their lines say them
 says_heading : (t : Thin) (text : List ℕ) → AreNamed t → thin.heading text ≡ Some t.heading → (0 < length text) × Says (line_of 1 text) (subroutine t.heading.name t.heading.dummies)
@@ -119,9 +119,10 @@ says_product : (t : Thin) (text : List ℕ) → AreNamed t → thin.product text
 says_product t text names e =
     let p = t.product in
     let k = product_is text p e in
-    let h = product_statement p t names refl in
-    (some_chars classes.Assign [] text (product_words p) h k,
-     says_statement (line_of 3 text) classes.Assign [] (product_words p) (simple (thin.act p)) k h (forms.ReadsForm.assigned (assignment_derived p.target (Named p.left ∷ Mark Star ∷ Named p.right ∷ []) (bin times (var (plain p.left)) (var (plain p.right))) (product_derived p.left p.right []))))
+    let h = product_statement p t names refl in (
+      some_chars classes.Assign [] text (product_words p) h k,
+      says_statement (line_of 3 text) classes.Assign [] (product_words p) (simple (thin.act p)) k h (forms.ReadsForm.assigned (assignment_derived p.target (Named p.left ∷ Mark Star ∷ Named p.right ∷ []) (bin times (var (plain p.left)) (var (plain p.right))) (product_derived p.left p.right []))),
+    )
 
 says_end : Says (line_of 4 (codes "END")) ends
 says_end = says_statement (line_of 4 (codes "END")) classes.End (codes "END") [] ends refl is_end forms.ReadsForm.ended
@@ -136,9 +137,9 @@ lines_read t l1 l2 l3 l4 t1 t2 t3 names s1 h s2 d s3 p s4 =
     let i3 = statement_is l3 t3 s3 c.0 in
     let i4 = statement_is l4 (codes "END") s4 (omega arith) in
     reads_said (l1 ++ 10 ∷ (l2 ++ 10 ∷ (l3 ++ 10 ∷ (l4 ++ 10 ∷ [])))) (line_of 1 t1 ∷ line_of 2 t2 ∷ line_of 3 t3 ∷ line_of 4 (codes "END") ∷ []) (statements_of t) (program_of t)
-      (lined l1 l2 l3 l4 t1 t2 t3 (codes "END") i1 i2 i3 i4)
-      (said.AllSay.more a.1 (said.AllSay.more b.1 (said.AllSay.more c.1 (said.AllSay.more says_end said.AllSay.none))))
-      (one_unit t)
+    (lined l1 l2 l3 l4 t1 t2 t3 (codes "END") i1 i2 i3 i4)
+    (said.AllSay.more a.1 (said.AllSay.more b.1 (said.AllSay.more c.1 (said.AllSay.more says_end said.AllSay.none))))
+    (one_unit t)
 
 -- a text is its four lines, each with its line feed
 lines_are : (bytes : List ℕ) (l : thin.Lines) → thin.lines_of bytes ≡ Some l → bytes ≡ l.first ++ 10 ∷ (l.second ++ 10 ∷ (l.third ++ 10 ∷ (l.fourth ++ 10 ∷ [])))

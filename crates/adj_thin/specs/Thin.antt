@@ -88,7 +88,7 @@ ending h ds ends p = if ends then Some (record { heading = h; declared = ds; pro
 abbrev pub said : Lines → Option Thin
 said l =
     option_and_then (λ h. option_and_then (λ ds. option_and_then (ending h ds (is_end (statement l.fourth)))
-        (option_and_then product (statement l.third))) (option_and_then declared (statement l.second))) (option_and_then heading (statement l.first))
+    (option_and_then product (statement l.third))) (option_and_then declared (statement l.second))) (option_and_then heading (statement l.first))
 
 -- a letter, and at most five letters and digits
 abbrev pub is_letter_or_digit : ℕ → Bool
@@ -147,13 +147,13 @@ act p = assign (plain p.target) none (bin times (var (plain p.left)) (var (plain
 -- the one unit of its program
 abbrev pub unit_of : Thin → Procedure
 unit_of t = record {
-    line = 1;
-    name = t.heading.name;
-    dummies = t.heading.dummies;
-    is_none = false;
-    declarations = map scalar t.declared;
-    body = step 3 (act t.product) stop
-  }
+  line = 1;
+  name = t.heading.name;
+  dummies = t.heading.dummies;
+  is_none = false;
+  declarations = map scalar t.declared;
+  body = step 3 (act t.product) stop;
+}
 
 abbrev pub program_of : Thin → List Procedure
 program_of t = unit_of t ∷ []

@@ -26,7 +26,9 @@ fn is_name(x: &[u8]) -> bool
 {
     match x {
         [] => false,
-        [first, others @ ..] => first.is_ascii_uppercase() && are_letters_or_digits(others) && others.len() <= 5,
+        [first, others @ ..] => first.is_ascii_uppercase()
+            && are_letters_or_digits(others)
+            && others.len() <= 5,
     }
 }
 
@@ -51,7 +53,20 @@ fn are_distinct(names: &[Name]) -> bool
 fn is_reserved(x: &[u8]) -> bool
     ensures { result ≡ is_in reserved x.now }
 {
-    matches!(x, b"ABS" | b"IABS" | b"MAX" | b"MAX0" | b"MIN" | b"MIN0" | b"MOD" | b"ADBEG" | b"ADEND" | b"ADACT" | b"ADACTN")
+    matches!(
+        x,
+        b"ABS"
+            | b"IABS"
+            | b"MAX"
+            | b"MAX0"
+            | b"MIN"
+            | b"MIN0"
+            | b"MOD"
+            | b"ADBEG"
+            | b"ADEND"
+            | b"ADACT"
+            | b"ADACTN"
+    )
 }
 
 fn is_unit(x: &[u8]) -> bool
@@ -93,7 +108,9 @@ fn are_declared(names: &[Name], unit: &[u8]) -> bool
 fn is_product(declared: &[Name], p: &Product) -> bool
     ensures { result ≡ is_product declared.now (product_of p.now) }
 {
-    is_in(declared, p.target.bytes()) && is_in(declared, p.left.bytes()) && is_in(declared, p.right.bytes())
+    is_in(declared, p.target.bytes())
+        && is_in(declared, p.left.bytes())
+        && is_in(declared, p.right.bytes())
 }
 
 /// Whether the names are those of the profile.
@@ -102,5 +119,8 @@ pub fn is_fit(t: &Thin) -> bool
 {
     let unit = t.heading.name.bytes();
     let declared = t.declared.as_slice();
-    is_unit(unit) && are_dummies(t.heading.dummies.as_slice(), declared) && are_declared(declared, unit) && is_product(declared, &t.product)
+    is_unit(unit)
+        && are_dummies(t.heading.dummies.as_slice(), declared)
+        && are_declared(declared, unit)
+        && is_product(declared, &t.product)
 }

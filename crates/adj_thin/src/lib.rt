@@ -9,6 +9,8 @@ mod laws;
 mod line;
 mod reading;
 mod statement;
+#[cfg(test)]
+mod tests;
 mod text;
 
 pub use laws::thin_reads;

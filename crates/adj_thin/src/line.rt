@@ -28,7 +28,12 @@ pub fn four_lines(bytes: &[u8]) -> Option<Lines<'_>>
     let (third, rest) = cut(rest, b'\n')?;
     let (fourth, rest) = cut(rest, b'\n')?;
     if rest.is_empty() {
-        Some(Lines { first, second, third, fourth })
+        Some(Lines {
+            first,
+            second,
+            third,
+            fourth,
+        })
     } else {
         None
     }

@@ -45,7 +45,10 @@ fn read_heading(alloc: Global, text: &[u8]) -> Result<Option<Heading>, Memory>
         return Ok(None);
     };
     if rest.is_empty() {
-        Ok(Some(Heading { name: name(alloc, unit)?, dummies: parts(alloc, inner)? }))
+        Ok(Some(Heading {
+            name: name(alloc, unit)?,
+            dummies: parts(alloc, inner)?,
+        }))
     } else {
         Ok(None)
     }
@@ -69,7 +72,11 @@ fn read_product(alloc: Global, text: &[u8]) -> Result<Option<Product>, Memory>
     let Some((left, right)) = cut(rest, b'*') else {
         return Ok(None);
     };
-    Ok(Some(Product { target: name(alloc, target)?, left: name(alloc, left)?, right: name(alloc, right)? }))
+    Ok(Some(Product {
+        target: name(alloc, target)?,
+        left: name(alloc, left)?,
+        right: name(alloc, right)?,
+    }))
 }
 
 fn heading_line(alloc: Global, line: &[u8]) -> Result<Option<Heading>, Memory>
@@ -122,7 +129,11 @@ pub fn read_lines(alloc: Global, l: &Lines) -> Result<Option<Thin>, Memory>
         return Ok(None);
     };
     if is_end_line(alloc, l.fourth)? {
-        Ok(Some(Thin { heading, declared, product }))
+        Ok(Some(Thin {
+            heading,
+            declared,
+            product,
+        }))
     } else {
         Ok(None)
     }
