@@ -1,10 +1,10 @@
 -- Accepted: a text of the profile reads as its program.
-use Rattle.std.proofs.Common.{◌≡◌, ℕ, ◌+◌, ◌<◌, ◌≤◌, Bool, true, false, cond, eqb, List, [], ◌∷◌, ◌++◌, length, map, Option, Some, None, Ok, refl, sym, ap, subst, ◌∙◌, arith}
+use Rattle.std.proofs.Common.{◌≡◌, ℕ, ◌<◌, true, eqb, List, [], ◌∷◌, ◌++◌, length, map, Some, None, Ok, refl, sym, ap, subst, ◌∙◌, arith}
 use Rattle.std.specs.Prelude.{codes, option_and_then}
-use Rattle.adj_tree.specs.Code.{Procedure, none, plain, assign, step, stop, bin, times, var, Declaration}
+use Rattle.adj_tree.specs.Code.{plain, bin, times, var}
 use Rattle.adj_text.specs.declared.stated.Kind.{Kind}
 use Rattle.adj_text.specs.declared.stated.Kind.TheVariants as classes
-use Rattle.adj_text.specs.declared.token.TokenKind.TheVariants.{Equals, Star}
+use Rattle.adj_text.specs.declared.token.TokenKind.TheVariants.{Star}
 use Rattle.adj_text.specs.Block.{ReadsBody}
 use Rattle.adj_text.specs.Block as blocks
 use Rattle.adj_text.specs.Char.{folded}
@@ -14,7 +14,6 @@ use Rattle.adj_text.specs.Limits.{no_limits}
 use Rattle.adj_text.specs.Line.{cut_lines}
 use Rattle.adj_text.specs.Lined.{Lines, start, pass_over, lines_of}
 use Rattle.adj_text.specs.Reads.{Reads}
-use Rattle.adj_text.specs.Statement.{Item}
 use Rattle.adj_text.specs.Unit as units
 use Rattle.adj_text.specs.Unit.{declaration_of, ReadsUnits}
 use Rattle.adj_text.specs.Word.{Word, Named, Mark}

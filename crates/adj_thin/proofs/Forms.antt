@@ -1,12 +1,12 @@
 -- Forms: the characters of the four statements.
-use Rattle.std.proofs.Common.{◌≡◌, ℕ, ◌+◌, ◌-◌, ◌<◌, ◌≤◌, Bool, true, false, cond, eqb, List, [], ◌∷◌, ◌++◌, length, take, drop, Option, Some, None, option_map, refl, sym, ap, ◌∙◌, arith, append_assoc, append-nil}
+use Rattle.std.proofs.Common.{◌≡◌, ℕ, Bool, true, false, cond, eqb, List, [], ◌∷◌, ◌++◌, length, drop, Option, Some, None, option_map, refl, sym, ap, ◌∙◌, arith, append_assoc, append-nil}
 use Rattle.std.specs.Prelude.{codes, nat_eq, option_and_then}
-use Rattle.std.specs.List.{flat_map, slice_split, onto_first, starts_with, join_with_byte}
+use Rattle.std.specs.List.{flat_map, onto_first, starts_with, join_with_byte}
 use Rattle.std.proofs.lemmas.Bool.{eqb-true}
 use Rattle.std.proofs.lemmas.Bool.Decides.{Decides-eqb}
 use Rattle.std.proofs.lemmas.Slice.Eq.{starts_is, bytes_eq-Decides}
 use Rattle.std.proofs.lemmas.List.Splits.{join_with_byte-slice_split}
-use Rattle.adj_text.specs.declared.token.TokenKind.TheVariants.{Left, Right, Comma, Equals, Star}
+use Rattle.adj_text.specs.declared.token.TokenKind.TheVariants.{Right, Equals, Star}
 use Rattle.adj_text.specs.Word.{Word, Named, Mark}
 use Rattle.adj_text.proofs.Spelled.{spelling}
 use Rattle.adj_text.proofs.Stating.{text_of}

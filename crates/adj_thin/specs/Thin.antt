@@ -1,5 +1,5 @@
 -- Thin: the texts of the thin profile, and their programs.
-use Rattle.std.specs.Prelude.{ℕ, ◌+◌, ◌-◌, Bool, true, false, ◌==◌, nat_le, nat_lt, nat_eq, not, ◌&&◌, ◌||◌, List, [], ◌∷◌, length, take, drop, map, codes, bytes_eq, Option, Some, None, option_map, option_and_then, position, if◌then◌else◌}
+use Rattle.std.specs.Prelude.{ℕ, ◌+◌, Bool, true, false, ◌==◌, nat_le, nat_lt, nat_eq, not, ◌&&◌, ◌||◌, List, [], ◌∷◌, length, take, drop, map, codes, bytes_eq, Option, Some, None, option_map, option_and_then, position, if◌then◌else◌}
 use Rattle.std.specs.List.{list_all, list_any, slice_split, starts_with}
 use Rattle.adj_tree.specs.Code.{times, var, bin, none, plain, assign, step, stop, Act, Declaration, Procedure}
 use Rattle.adj_text.specs.Char.{line_feed, blank, left, right, star, comma, equals, is_between, is_capital, is_digit, are_blank, without_blanks}

@@ -1,5 +1,4 @@
-use Rattle.std.proofs.Common.{sym, ◌∙◌, ap, ◌++◌, ◌∷◌, []}
-use Rattle.adj_thin.specs.Thin.{parts}
+use Rattle.std.proofs.Common.{◌∙◌}
 use Rattle.adj_thin.proofs.Cuts.{parts_go_on, parts_end}
 use Rattle.adj_thin.proofs.text.parts.Goals as goal
 
