@@ -30,3 +30,6 @@ pub mod TermWritten
 pub mod FormWritten
 pub mod CallWritten
 pub mod UnitWritten
+pub mod Complete
+pub mod Sound
+pub mod Unique

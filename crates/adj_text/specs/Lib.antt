@@ -19,3 +19,4 @@ pub mod Text
 pub mod Written
 pub mod ReadsAs
 pub mod Fits
+pub mod Machine
