@@ -1,5 +1,5 @@
 -- UnitWritten: the units that statements make are written, where their literals fit.
-use Rattle.std.proofs.Common.{ℕ, suc, ◌≤◌, Bool, List, [], ◌∷◌, ◌++◌, map, sym, subst, arith}
+use Rattle.std.proofs.Common.{◌≡◌, ℕ, zero, suc, ◌≤◌, Bool, List, [], ◌∷◌, ◌++◌, map, Option, sym, subst, arith}
 use Rattle.std.specs.List.{All}
 use Rattle.adj_tree.specs.Code.{Act, Code, Declaration, Procedure}
 use Rattle.adj_text.specs.Block as blocks
@@ -11,8 +11,8 @@ use Rattle.adj_text.specs.Unit as units
 use Rattle.adj_text.specs.Unit.{ReadsImplicit, declaration_of, ReadsDeclarations, ReadsEnd, ReadsUnit, ReadsUnits}
 use Rattle.adj_text.specs.Word.{Word}
 use Rattle.adj_text.specs.declared.stated.Kind.{Kind}
-use Rattle.adj_text.specs.Written.{IsName, IsWrittenCode, IsWrittenDeclaration, IsWrittenProcedure, IsWritten}
-use Rattle.adj_text.specs.Fits.{FitsCode, FitsExtent, FitsProcedure, Fits}
+use Rattle.adj_text.specs.Written.{IsName, IsWrittenCode, IsWrittenAct, IsWrittenDeclaration, IsWrittenProcedure, IsWritten}
+use Rattle.adj_text.specs.Fits.{FitsCode, FitsAct, FitsExtent, FitsProcedure, Fits}
 use Rattle.adj_text.proofs.TermWritten.{AreWords}
 use Rattle.adj_text.proofs.FormWritten.{all_nil, all_cons, TestWhereFits, ActWhereFits, assignment_written, head_written, AreWrittenItems, items_written, IsWrittenRange, do_written, guard_written}
 use Rattle.adj_text.proofs.CallWritten.{call_written, guarded_written}
