@@ -34,3 +34,10 @@ pub mod WrittenSays
 pub mod BranchSays
 pub mod Directives
 pub mod WrittenBack
+pub mod TermWritten
+pub mod FormWritten
+pub mod CallWritten
+pub mod UnitWritten
+pub mod Complete
+pub mod Sound
+pub mod Unique

@@ -18,3 +18,5 @@ pub mod Reads
 pub mod Text
 pub mod Written
 pub mod ReadsAs
+pub mod Fits
+pub mod Machine

@@ -1,12 +1,23 @@
 //! Laws of texts.
 
-ghost use Rattle.std.specs.Prelude.{List};
+ghost use Rattle.std.specs.Prelude.{◌≡◌, List, [], Some, IfSome};
 ghost use Rattle.adj_tree.specs.Code.{Procedure};
+ghost use Rattle.adj_text.specs.Grammar.{Syntax, Sum, Derives};
+ghost use Rattle.adj_text.specs.Machine.{Stops, wanting, read, syntaxes};
 ghost use Rattle.adj_text.specs.ReadsAs.{ReadsAs};
 ghost use Rattle.adj_text.specs.Text.{text_of};
+ghost use Rattle.adj_text.specs.Word.{Word};
 ghost use Rattle.adj_text.specs.Written.{IsWritten};
 
 /// The canonical text of a written program reads as that program, up to line numbers.
 pub fn text_reads_back()
     ensures reads { (program : List Procedure) → IsWritten program → ReadsAs (text_of program) program }
+{}
+
+/// The machine that reads an expression at the front of some words reads exactly what is derived there, up to what ends an
+/// expression; and that is one expression with one rest.
+pub fn expressions_are_read()
+    ensures complete { (words rest : List Word) (s : Syntax) → Derives Sum words rest s → Stops rest → read syntaxes (wanting []) words ≡ Some (s, rest) }
+    ensures sound { (words : List Word) → IfSome (read syntaxes (wanting []) words) (λ r. Derives Sum words r.1 r.0) }
+    ensures one { (words rest others : List Word) (s t : Syntax) → Derives Sum words rest s → Derives Sum words others t → Stops rest → Stops others → (s ≡ t) × (rest ≡ others) }
 {}
