@@ -33,3 +33,6 @@ pub mod UnitWritten
 pub mod Complete
 pub mod Sound
 pub mod Unique
+pub mod TokensNamed
+pub mod LinesMarked
+pub mod ReadingWritten
