@@ -1,6 +1,6 @@
 //! Laws of texts.
 
-ghost use Rattle.std.specs.Prelude.{◌≡◌, List, [], Some, IfSome};
+ghost use Rattle.std.specs.Prelude.{◌≡◌, ℕ, List, [], Some, IfSome};
 ghost use Rattle.adj_tree.specs.Code.{Procedure};
 ghost use Rattle.adj_text.specs.Grammar.{Syntax, Sum, Derives};
 ghost use Rattle.adj_text.specs.Machine.{Stops, wanting, read, syntaxes};
