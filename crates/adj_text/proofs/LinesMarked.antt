@@ -4,11 +4,11 @@ use Rattle.std.specs.Prelude.{◌&&◌, ◌||◌, ◌==◌, nat_le, not, if◌th
 use Rattle.std.specs.List.{list_all, prefix_len}
 use Rattle.std.proofs.lemmas.Bool.{leb-true}
 use Rattle.adj_tree.specs.declared.fault.Refusal.{Refusal}
-use Rattle.adj_text.specs.Char.{blank, nought, is_between, is_digit, are_blank, is_allowed, folded, number_of}
+use Rattle.adj_text.specs.Char.{blank, nought, is_between, is_digit, are_blank, is_allowed, number_of}
 use Rattle.adj_text.specs.Limits.{no_limits}
 use Rattle.adj_text.specs.Line.{cut_lines, without_cr, next_number, is_data, column, is_directive, is_comment, is_continuation, body, label_of, behind_blanks, behind_name, snapshots_of, operand_of}
-use Rattle.adj_text.specs.Lined.{Lines, Directive, Pass, start, flushed, with_directive, mark_of, with_initial, has_room, one_less, with_continuation, behind_directive, with_line, ended, pass_over, lines_of}
-use Rattle.adj_text.specs.Refused.{◌>>=◌, refused, limited}
+use Rattle.adj_text.specs.Lined.{Lines, Directive, Pass, start, flushed, with_directive, mark_of, with_initial, has_room, with_continuation, behind_directive, with_line, ended, pass_over, lines_of}
+use Rattle.adj_text.specs.Refused.{◌>>=◌}
 use Rattle.adj_text.proofs.Scans.{both_true}
 use Rattle.adj_text.proofs.TermWritten.{then_some}
 

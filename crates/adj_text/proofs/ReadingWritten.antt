@@ -1,5 +1,5 @@
 -- ReadingWritten: what a text reads as is written, where its literals and extents are words.
-use Rattle.std.proofs.Common.{◌≡◌, ℕ, zero, suc, ◌-◌, ◌≤◌, Bool, true, false, eqb, List, [], ◌∷◌, ◌++◌, length, take, drop, Option, Some, None, Result, Ok, Err, refl, sym, ap, subst, ◌∙◌, arith, inl, inr, append-nil}
+use Rattle.std.proofs.Common.{◌≡◌, ℕ, zero, suc, ◌-◌, ◌≤◌, Bool, true, false, eqb, List, [], ◌∷◌, ◌++◌, length, take, drop, Option, Some, None, Result, Ok, Err, refl, sym, ap, subst, ◌∙◌, arith, inl, inr}
 use Rattle.std.specs.Prelude.{if◌then◌else◌}
 use Rattle.std.specs.List.{list_any}
 use Rattle.std.proofs.lemmas.Bool.{cases_lt}
@@ -12,10 +12,10 @@ use Rattle.adj_text.specs.Limits.{no_limits}
 use Rattle.adj_text.specs.Lined.{Lines, lines_of}
 use Rattle.adj_text.specs.Reads as texts
 use Rattle.adj_text.specs.Reads.{ReadsAll, Reads}
-use Rattle.adj_text.specs.Refused.{◌>>=◌, refused}
-use Rattle.adj_text.specs.Stated.{keyword_len, ending_len, call_place, tokens_of, is_too_long, with_tokens, with_class, stated, all_stated, statements_of}
+use Rattle.adj_text.specs.Refused.{◌>>=◌}
+use Rattle.adj_text.specs.Stated.{keyword_len, ending_len, call_place, tokens_of, is_too_long, with_tokens, with_class, stated, all_stated}
 use Rattle.adj_text.specs.Token.{tokens_from}
-use Rattle.adj_text.specs.Word.{Word, part, words_of}
+use Rattle.adj_text.specs.Word.{words_of}
 use Rattle.adj_text.specs.Written.{IsWritten}
 use Rattle.adj_text.specs.Fits.{Fits}
 use Rattle.adj_text.specs.declared.stated.Kind.{Kind}

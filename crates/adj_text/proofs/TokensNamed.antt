@@ -1,11 +1,11 @@
 -- TokensNamed: the names among the tokens of a text are names.
 use Rattle.std.proofs.Common.{◌≡◌, ℕ, zero, suc, ◌+◌, ◌-◌, Bool, true, false, List, [], ◌∷◌, ◌++◌, length, take, drop, Option, Some, None, option_map, refl, sym, ap, subst, ◌∙◌, arith, append_assoc, length-append}
-use Rattle.std.specs.Prelude.{codes, if◌then◌else◌, option_and_then, ◌==◌}
+use Rattle.std.specs.Prelude.{codes, if◌then◌else◌, ◌==◌}
 use Rattle.std.specs.List.{list_all, prefix_len}
 use Rattle.std.proofs.lemmas.List.{drop_at}
 use Rattle.adj_text.specs.Char.{star, plus, minus, slash, left, right, comma, equals, dot, is_capital, is_digit, is_name_char}
 use Rattle.adj_text.specs.Token.{begins_with, dotted, mark_of, first_token, is_place, token_here, token_at, tokens_from}
-use Rattle.adj_text.specs.Word.{Word, Named, Digits, Mark, word, part, word_of, words_of}
+use Rattle.adj_text.specs.Word.{Word, Named, Digits, Mark, word, part, words_of}
 use Rattle.adj_text.specs.Written.{IsName}
 use Rattle.adj_text.specs.declared.token.Token.{Token}
 use Rattle.adj_text.specs.declared.token.TokenKind.{TokenKind}
