@@ -16,16 +16,12 @@ use Rattle.adj_text.specs.declared.token.TokenKind.TheVariants.{Equals}
 use Rattle.adj_text.proofs.Spelled.{spelling, is_name, EndsName}
 use Rattle.adj_text.proofs.Scans.{both_true}
 use Rattle.adj_text.proofs.Stating.{IsStatement}
-use Rattle.adj_text.proofs.Classes.{name_chars}
+use Rattle.adj_text.proofs.Classes.{and_no, name_chars}
 use Rattle.adj_text.proofs.TermWords.{term_words, bracketed_words}
 use Rattle.adj_text.proofs.TermSpelled.{term_spelled, bracketed_spelled}
 use Rattle.adj_text.proofs.TermSpaced.{is_name-variable, term_spaced, bracketed_spaced}
 use Rattle.adj_text.proofs.Balanced.{IsInner, IsBalanced, grouped, opening-groups, closing-group, balanced-append, balanced-name, balanced-bracketed, bracketed_is_grouped, AreBalanced}
 use Rattle.adj_text.proofs.TermBalanced.{term_balanced, terms_balanced}
-
-and_no : (a b : Bool) → b ≡ false → a && b ≡ false
-and_no true b h = h
-and_no false b h = refl
 
 no_and : (a b : Bool) → a ≡ false → a && b ≡ false
 no_and true b h = absurd cc

@@ -1,12 +1,12 @@
 -- Balanced: characters behind which as many parentheses are open as before them, and in which no comma and no = stands open.
 use Rattle.std.proofs.Common.{◌≡◌, ℕ, suc, ◌+◌, Bool, true, false, eqb, List, [], ◌∷◌, ◌++◌, length, Option, Some, None, option_map, refl, ap, subst, ◌∙◌, arith, append_assoc, length-append}
-use Rattle.std.specs.Prelude.{◌&&◌}
 use Rattle.std.specs.List.{list_all}
 use Rattle.std.proofs.lemmas.Bool.{ne_eqb}
 use Rattle.adj_text.specs.Char.{left, right, comma, equals, is_name_char}
 use Rattle.adj_text.specs.Class.{has_open, is_matched, group_len}
 use Rattle.adj_text.specs.Text.{behind_commas, bracketed, enclosed}
 use Rattle.adj_text.proofs.Scans.{both_true}
+use Rattle.adj_text.proofs.Classes.{and_no}
 
 -- inside parentheses these characters leave everything as it is
 pub record IsInner (cs : List ℕ) : Type 0 where
@@ -44,10 +44,6 @@ some_open n = ne_eqb (suc n) 0 (λ e. absurd (omega arith))
 
 two_open : (n : ℕ) → eqb (suc (suc n)) 1 ≡ false
 two_open n = ne_eqb (suc (suc n)) 1 (λ e. absurd (omega arith))
-
-and_no : (a b : Bool) → b ≡ false → a && b ≡ false
-and_no true b h = h
-and_no false b h = refl
 
 -- a character that is no parenthesis
 pub inner-char : (c : ℕ) → eqb c left ≡ false → eqb c right ≡ false → IsInner (c ∷ [])

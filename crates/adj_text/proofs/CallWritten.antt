@@ -1,13 +1,13 @@
 -- CallWritten: what the words behind CALL say is written, where its literals fit.
 use Rattle.std.proofs.Common.{◌≡◌, ℕ, Bool, true, false, List, [], ◌∷◌, Option, Some, None, refl, subst}
 use Rattle.std.specs.Prelude.{codes, if◌then◌else◌}
-use Rattle.adj_tree.specs.Code.{Var, plain, Term, Terms, lit, var, elem, neg, bin, pow, abs, none, more, name_eq, Runtime, push_word, pop_word, push_array, pop_array, push_control, pop_control, zero_array, begin_reversal, count_actions, give_action, end_reversal, Act, call, runtime}
+use Rattle.adj_tree.specs.Code.{Var, Terms, lit, var, elem, neg, bin, pow, abs, none, more, name_eq, Runtime, push_word, pop_word, push_array, pop_array, push_control, pop_control, zero_array, begin_reversal, count_actions, give_action, end_reversal, Act}
 use Rattle.adj_text.specs.declared.token.TokenKind.TheVariants.{Right}
 use Rattle.adj_text.specs.Statement as statements
 use Rattle.adj_text.specs.Statement.{as_place, as_name, as_value, as_beginning, as_count, as_action, as_nothing, runtime_call, called, called_as, ReadsCall, ReadsGuarded}
 use Rattle.adj_text.specs.Word.{Word, Mark}
-use Rattle.adj_text.specs.Written.{IsName, IsVariable, IsActualPlace, IsWrittenTerm, IsWrittenRuntime, IsWrittenAct}
-use Rattle.adj_text.specs.Fits.{FitsTerms, FitsRuntime, FitsAct}
+use Rattle.adj_text.specs.Written.{IsName, IsVariable, IsActualPlace, IsWrittenTerm, IsWrittenRuntime}
+use Rattle.adj_text.specs.Fits.{FitsTerms, FitsRuntime}
 use Rattle.adj_text.proofs.TermWritten.{AreWords, AllWhereFit, all_where_fit, reads_written}
 use Rattle.adj_text.proofs.FormWritten.{ActWhereFits, assignment_written}
 

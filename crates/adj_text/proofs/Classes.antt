@@ -18,11 +18,11 @@ is_not k c = not (eqb c k)
 abbrev pub Lacks : ℕ → List ℕ → Type 0
 Lacks k cs = list_all (is_not k) cs ≡ true
 
-and_no : (a b : Bool) → b ≡ false → a && b ≡ false
+pub and_no : (a b : Bool) → b ≡ false → a && b ≡ false
 and_no true b h = h
 and_no false b h = refl
 
-no_true : (b : Bool) → not b ≡ true → b ≡ false
+pub no_true : (b : Bool) → not b ≡ true → b ≡ false
 no_true true h = cc
 no_true false h = refl
 

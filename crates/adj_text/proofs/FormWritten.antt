@@ -1,17 +1,16 @@
 -- FormWritten: what the words of a statement say is written, where its literals fit.
-use Rattle.std.proofs.Common.{◌≡◌, ℕ, zero, suc, ◌<◌, ◌≤◌, ℤ, pos, Bool, true, false, List, [], ◌∷◌, length, Option, Some, None, refl, sym, ap, subst, ◌∙◌, arith}
-use Rattle.std.specs.Prelude.{codes, option_map, if◌then◌else◌}
+use Rattle.std.proofs.Common.{◌≡◌, ℕ, zero, suc, ◌≤◌, List, [], ◌∷◌, length, Option, Some, refl, sym, subst, ◌∙◌, arith}
 use Rattle.std.specs.List.{All}
-use Rattle.adj_tree.specs.Code.{Var, plain, Term, Terms, lit, var, elem, neg, bin, pow, abs, none, more, name_eq, Test, compare, negation, conjunction, disjunction, Runtime, push_word, pop_word, push_array, pop_array, push_control, pop_control, zero_array, begin_reversal, count_actions, give_action, end_reversal, Act, assign, call, runtime, Extent, fixed, given}
-use Rattle.adj_text.specs.Condition.{Condition, compared, denied, both, either, Part, DerivesCondition, comparison, group, plain as bare, not, item, and, whole, or, test, ReadsTest}
+use Rattle.adj_tree.specs.Code.{Var, plain, Terms, none, more, Test, compare, negation, conjunction, disjunction, Act, Extent}
+use Rattle.adj_text.specs.Condition.{Condition, Part, DerivesCondition, comparison, group, plain as bare, not, item, and, whole, or, test, ReadsTest}
 use Rattle.adj_text.specs.Grammar.{tree}
 use Rattle.adj_text.specs.Statement as statements
 use Rattle.adj_text.specs.Statement.{ReadsPlace, ReadsAssignment, ReadsNames, ReadsHead, Item, ReadsExtent, ReadsItem, ReadsItems, as_place, as_name, as_value, as_beginning, as_count, as_action, as_nothing, runtime_call, called, called_as, ReadsCall, Range, ReadsRange, ReadsDo, ReadsGuard, ReadsGuarded}
 use Rattle.adj_text.specs.declared.token.TokenKind.TheVariants.{Right, Comma}
-use Rattle.adj_text.specs.Word.{Word, Named, Digits, Mark}
-use Rattle.adj_text.specs.Written.{IsName, IsVariable, IsIndexed, IsPlace, IsActualPlace, AreSubscripts, IsWrittenTerm, AreWrittenTerms, IsWrittenTest, IsWrittenRuntime, IsWrittenAct, IsWrittenExtent}
-use Rattle.adj_text.specs.Fits.{FitsTerm, FitsTerms, FitsTest, FitsRuntime, FitsAct, FitsExtent}
-use Rattle.adj_text.proofs.TermWritten.{AreWords, derived_named, tree_written, both_some, map_some, WhereFits, AllWhereFit, all_where_fit, terms_count, read_written, reads_written}
+use Rattle.adj_text.specs.Word.{Word, Mark}
+use Rattle.adj_text.specs.Written.{IsName, IsVariable, IsPlace, AreSubscripts, AreWrittenTerms, IsWrittenTest, IsWrittenAct, IsWrittenExtent}
+use Rattle.adj_text.specs.Fits.{FitsTerms, FitsTest, FitsAct, FitsExtent}
+use Rattle.adj_text.proofs.TermWritten.{AreWords, derived_named, tree_written, both_some, map_some, WhereFits, all_where_fit, terms_count, read_written, reads_written}
 
 -- what holds of each member, member by member
 pub all_nil : {X : Type 0} (P : X → Type 0) → All P []

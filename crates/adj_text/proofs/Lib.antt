@@ -41,3 +41,6 @@ pub mod UnitWritten
 pub mod Complete
 pub mod Sound
 pub mod Unique
+pub mod TokensNamed
+pub mod LinesMarked
+pub mod ReadingWritten

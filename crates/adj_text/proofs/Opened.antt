@@ -1,7 +1,7 @@
 -- Opened: DO and block IF of written expressions are statements of their classes, with their words.
 use Rattle.std.proofs.Common.{◌≡◌, ℕ, ◌+◌, ◌-◌, Bool, true, false, eqb, List, [], ◌∷◌, ◌++◌, length, drop, Some, None, Ok, refl, sym, ap, ◌∙◌, arith, append-nil, length-append}
 use Rattle.std.specs.Prelude.{◌&&◌, codes}
-use Rattle.std.specs.List.{flat_map, list_all, list_any, prefix_len}
+use Rattle.std.specs.List.{flat_map, list_all, prefix_len}
 use Rattle.std.proofs.lemmas.Bool.{ne_eqb}
 use Rattle.std.proofs.lemmas.List.{drop_at, take_at}
 use Rattle.adj_tree.specs.Code.{Var, Term, Test}
@@ -9,18 +9,17 @@ use Rattle.adj_text.specs.Char.{comma, equals, is_capital, is_digit, is_name_cha
 use Rattle.adj_text.specs.Class.{has_open, is_matched, begins_with_letter, behind_label, is_control, is_do, inner, kind_of, class_of}
 use Rattle.adj_text.specs.Limits.{no_limits}
 use Rattle.adj_text.specs.Lined.{Lines}
-use Rattle.adj_text.specs.Stated.{tokens_of, is_too_long, stated}
+use Rattle.adj_text.specs.Stated.{tokens_of, stated}
 use Rattle.adj_text.specs.Text.{var_text, term_text, is_one, test_text}
 use Rattle.adj_text.specs.Token.{begins_with, tokens_from}
 use Rattle.adj_text.specs.Word.{Word, Named, Mark, part, words_of}
 use Rattle.adj_text.specs.Written.{IsVariable, IsWrittenTerm, IsWrittenTest}
 use Rattle.adj_text.specs.declared.stated.Kind.TheVariants as classes
 use Rattle.adj_text.specs.declared.stated.Stated.{Stated}
-use Rattle.adj_text.specs.declared.token.Token.{Token}
 use Rattle.adj_text.specs.declared.token.TokenKind.TheVariants.{Left, Right, Equals, Comma}
 use Rattle.adj_text.proofs.Spelled.{spelling, is_name, EndsName, AreSpaced}
 use Rattle.adj_text.proofs.Scans.{both_true, capital_is_no_digit, tokens_at, scanned, words_back}
-use Rattle.adj_text.proofs.Stating.{IsStatement}
+use Rattle.adj_text.proofs.Stating.{IsStatement, none_too_long}
 use Rattle.adj_text.proofs.Classes.{name_chars}
 use Rattle.adj_text.proofs.TermWords.{Words, term_words}
 use Rattle.adj_text.proofs.TermSpelled.{term_spelled}
@@ -158,10 +157,6 @@ if_part cs =
 if_tokens : (c : Test) → IsWrittenTest c → tokens_of classes.BlockIf (if_chars c) ≡ Some (tokens_at 2 (guard_words c))
 if_tokens c h =
     ap (λ cs. tokens_from None 0 2 cs) (if_part (grouped (test_text c)) ∙ sym (guard_spelled c h)) ∙ scanned (guard_words c) 2 (guard_spaced c h)
-
-none_too_long : (ts : List Token) → list_any (is_too_long None) ts ≡ false
-none_too_long [] = refl
-none_too_long (t ∷ ts) = none_too_long ts
 
 -- these lines as a block IF
 abbrev pub if_statement : Lines → Test → Stated

@@ -33,7 +33,7 @@ pub record IsStatement (kind : Kind) (keyword : List ℕ) (ws : List Word) : Typ
 abbrev pub statement_of : Lines → Kind → List ℕ → List Word → Stated
 statement_of s kind keyword ws = record { line = s.line; label = s.label; mark = s.mark; mark_line = s.mark_line; kind = kind; text = s.text; tokens = tokens_at (length keyword) ws }
 
-none_too_long : (ts : List Token) → list_any (is_too_long None) ts ≡ false
+pub none_too_long : (ts : List Token) → list_any (is_too_long None) ts ≡ false
 none_too_long [] = refl
 none_too_long (t ∷ ts) = none_too_long ts
 

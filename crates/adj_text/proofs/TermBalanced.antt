@@ -1,5 +1,5 @@
 -- TermBalanced: the characters of written expressions and conditions are balanced.
-use Rattle.std.proofs.Common.{◌≡◌, ℕ, ◌<◌, ◌^◌, pos, negsuc, Bool, true, false, eqb, List, [], ◌∷◌, ◌++◌, refl, arith}
+use Rattle.std.proofs.Common.{◌≡◌, ℕ, ◌<◌, ◌^◌, pos, negsuc, Bool, true, eqb, List, [], ◌∷◌, ◌++◌, refl, arith}
 use Rattle.std.specs.Prelude.{codes, nat_lt, ◌&&◌, not}
 use Rattle.std.specs.List.{list_all}
 use Rattle.std.specs.Fmt.{decimal}
@@ -8,17 +8,13 @@ use Rattle.adj_text.specs.Char.{left, right, comma, equals}
 use Rattle.adj_text.specs.Text.{left_place, right_place, term_level, var_text, opening, between, closing, enclosed, bracketed, term_text, term_texts, rel_text, test_level, test_text}
 use Rattle.adj_text.specs.Written.{IsVariable, IsWrittenTerm, AreWrittenTerms, IsWrittenTest}
 use Rattle.adj_text.proofs.Scans.{both_true}
-use Rattle.adj_text.proofs.Classes.{name_chars, number_chars}
+use Rattle.adj_text.proofs.Classes.{no_true, name_chars, number_chars}
 use Rattle.adj_text.proofs.TermSpaced.{is_number-decimal, is_name-name, is_name-variable}
 use Rattle.adj_text.proofs.Balanced.{IsBalanced, grouped, inner-append, inner-char, balanced-nil, balanced-append, balanced-char, balanced-grouped, balanced-enclosed, balanced-name, balanced-bracketed, AreBalanced}
 
 -- no parenthesis, no comma and no =
 abbrev is_plain : ℕ → Bool
 is_plain c = (not (eqb c left) && not (eqb c right)) && (not (eqb c comma) && not (eqb c equals))
-
-no_true : (b : Bool) → not b ≡ true → b ≡ false
-no_true true h = absurd cc
-no_true false h = refl
 
 balanced-plain_char : (c : ℕ) → is_plain c ≡ true → IsBalanced (c ∷ [])
 balanced-plain_char c h =

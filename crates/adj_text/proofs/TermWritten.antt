@@ -1,12 +1,12 @@
 -- TermWritten: expressions that words derive are written, where their literals fit.
-use Rattle.std.proofs.Common.{◌≡◌, ℕ, suc, ◌+◌, ◌≤◌, ℤ, pos, negsuc, Bool, true, false, eqb, List, [], ◌∷◌, Option, Some, None, option_map, refl, sym, ap, subst, ◌∙◌, arith}
-use Rattle.std.specs.Prelude.{option_and_then, nat_le, is_some, ◌||◌, if◌then◌else◌}
+use Rattle.std.proofs.Common.{◌≡◌, ℕ, suc, ◌+◌, ◌≤◌, ℤ, pos, negsuc, Bool, true, false, List, [], ◌∷◌, Option, Some, None, option_map, refl, sym, ap, subst, ◌∙◌, arith}
+use Rattle.std.specs.Prelude.{option_and_then, nat_le, if◌then◌else◌}
 use Rattle.std.proofs.lemmas.Bool.{ne_eqb, leb-true}
 use Rattle.adj_tree.specs.Code.{Op, Term, Terms, lit, var, elem, neg, bin, pow, abs, none, more, plain}
 use Rattle.adj_text.specs.Grammar.{Syntax, number, variable, negated, joined, raised, applied, Arguments, only, beside, count_of, Symbol, adds, subtracts, Derives, DerivesAll, literal, name, group, application, primary, power, factor, product, term, sign, sum, single, another, constant, as_exponent, exponent, with_both, tree, trees_before, operation_of, is_absolute, application_of, two_arguments, takes, takes_as, ReadsTerm, ReadsTerms}
 use Rattle.adj_text.specs.Char.{number_of}
 use Rattle.adj_text.specs.Word.{Word, Named, Digits, Mark}
-use Rattle.adj_text.specs.Written.{IsName, is_intrinsic, AreSubscripts, IsWrittenTerm, AreWrittenTerms}
+use Rattle.adj_text.specs.Written.{IsName, IsWrittenTerm, AreWrittenTerms}
 use Rattle.adj_text.specs.Fits.{FitsTerm, FitsTerms}
 
 -- the names among these words are names

@@ -1,5 +1,5 @@
 -- UnitWritten: the units that statements make are written, where their literals fit.
-use Rattle.std.proofs.Common.{◌≡◌, ℕ, zero, suc, ◌≤◌, Bool, List, [], ◌∷◌, ◌++◌, map, Option, sym, subst, arith}
+use Rattle.std.proofs.Common.{ℕ, ◌≤◌, Bool, List, [], ◌∷◌, ◌++◌, map, sym, subst}
 use Rattle.std.specs.List.{All}
 use Rattle.adj_tree.specs.Code.{Act, Code, Declaration, Procedure}
 use Rattle.adj_text.specs.Block as blocks
@@ -11,10 +11,11 @@ use Rattle.adj_text.specs.Unit as units
 use Rattle.adj_text.specs.Unit.{ReadsImplicit, declaration_of, ReadsDeclarations, ReadsEnd, ReadsUnit, ReadsUnits}
 use Rattle.adj_text.specs.Word.{Word}
 use Rattle.adj_text.specs.declared.stated.Kind.{Kind}
-use Rattle.adj_text.specs.Written.{IsName, IsWrittenCode, IsWrittenAct, IsWrittenDeclaration, IsWrittenProcedure, IsWritten}
-use Rattle.adj_text.specs.Fits.{FitsCode, FitsAct, FitsExtent, FitsProcedure, Fits}
+use Rattle.adj_text.specs.Written.{IsName, IsWrittenCode, IsWrittenDeclaration, IsWrittenProcedure, IsWritten}
+use Rattle.adj_text.specs.Fits.{FitsCode, FitsExtent, FitsProcedure, Fits}
 use Rattle.adj_text.proofs.TermWritten.{AreWords}
 use Rattle.adj_text.proofs.FormWritten.{all_nil, all_cons, TestWhereFits, ActWhereFits, assignment_written, head_written, AreWrittenItems, items_written, IsWrittenRange, do_written, guard_written}
+use Rattle.adj_text.proofs.WrittenBack.{all_first, all_rest}
 use Rattle.adj_text.proofs.CallWritten.{call_written, guarded_written}
 
 -- what a form holds is written, where its literals fit
@@ -92,17 +93,11 @@ ExtentsFit d = All FitsExtent d.extents
 abbrev DeclarationsWhereFit : List Declaration → Type 0
 DeclarationsWhereFit ds = All ExtentsFit ds → All IsWrittenDeclaration ds
 
-first_of : {X : Type 0} (P : X → Type 0) (x : X) (xs : List X) → All P (x ∷ xs) → P x
-first_of P x xs h = h 0 x (omega arith)
-
-rest_of : {X : Type 0} (P : X → Type 0) (x : X) (xs : List X) → All P (x ∷ xs) → All P xs
-rest_of P x xs h k d lt = h (suc k) d (omega arith)
-
 items_declared : (n : ℕ) (is : List Item) (ds : List Declaration) → AreWrittenItems is → DeclarationsWhereFit ds → DeclarationsWhereFit (map (declaration_of n) is ++ ds)
 items_declared n [] ds w h = h
 items_declared n (i ∷ is) ds w h = λ f.
     let rest = map (declaration_of n) is ++ ds in
-    all_cons IsWrittenDeclaration (declaration_of n i) rest (record { named = w.0.named; few_extents = w.0.few_extents; extents = w.0.extents (first_of ExtentsFit (declaration_of n i) rest f) }) (items_declared n is ds w.1 h (rest_of ExtentsFit (declaration_of n i) rest f))
+    all_cons IsWrittenDeclaration (declaration_of n i) rest (record { named = w.0.named; few_extents = w.0.few_extents; extents = w.0.extents (all_first ExtentsFit (declaration_of n i) rest f) }) (items_declared n is ds w.1 h (all_rest ExtentsFit (declaration_of n i) rest f))
 
 declarations_written : {ts rest : List Statement} {ds : List Declaration} → ReadsDeclarations ts rest ds → AreWrittenForms ts → AreWrittenForms rest × DeclarationsWhereFit ds
 declarations_written units.ReadsDeclarations.none h = (h, λ f. all_nil IsWrittenDeclaration)
@@ -124,4 +119,4 @@ pub units_written : {ts : List Statement} {ps : List Procedure} → ReadsUnits t
 units_written units.ReadsUnits.none h f = all_nil IsWrittenProcedure
 units_written (units.ReadsUnits.more {p = p} {ps = ps} u us) h f =
     let r = unit_written u h in
-    all_cons IsWrittenProcedure p ps (r.1 (first_of FitsProcedure p ps f)) (units_written us r.0 (rest_of FitsProcedure p ps f))
+    all_cons IsWrittenProcedure p ps (r.1 (all_first FitsProcedure p ps f)) (units_written us r.0 (all_rest FitsProcedure p ps f))

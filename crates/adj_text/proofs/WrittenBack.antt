@@ -13,10 +13,10 @@ use Rattle.adj_text.proofs.TermSpaced.{is_name-name}
 use Rattle.adj_text.proofs.WrittenSays.{says_assign, says_call, says_runtime, says_declaration, says_heading, says_do}
 
 -- the first of what holds of each, and the rest
-all_first : {X : Type 0} (P : X → Type 0) (x : X) (xs : List X) → All P (x ∷ xs) → P x
+pub all_first : {X : Type 0} (P : X → Type 0) (x : X) (xs : List X) → All P (x ∷ xs) → P x
 all_first P x xs h = h 0 x (omega arith)
 
-all_rest : {X : Type 0} (P : X → Type 0) (x : X) (xs : List X) → All P (x ∷ xs) → All P xs
+pub all_rest : {X : Type 0} (P : X → Type 0) (x : X) (xs : List X) → All P (x ∷ xs) → All P xs
 all_rest P x xs h k d lt = h (suc k) d (omega arith)
 
 names : (xs : List (List ℕ)) → All IsName xs → AreNames xs

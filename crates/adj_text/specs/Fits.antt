@@ -1,7 +1,7 @@
 -- Fits: each literal and each extent of a program is a word.
 use Rattle.std.specs.Prelude.{List}
 use Rattle.std.specs.List.{All}
-use Rattle.adj_tree.specs.Code.{Term, Terms, lit, var, elem, neg, bin, pow, abs, none, more, Test, compare, negation, conjunction, disjunction, Runtime, push_word, pop_word, push_array, pop_array, push_control, pop_control, zero_array, begin_reversal, count_actions, give_action, end_reversal, Act, Code, assign, choose, loop, call, runtime, stop, step, Extent, fixed, given, Declaration, Procedure}
+use Rattle.adj_tree.specs.Code.{Term, Terms, lit, var, elem, neg, bin, pow, abs, none, more, Test, compare, negation, conjunction, disjunction, Runtime, push_word, pop_word, push_control, begin_reversal, count_actions, give_action, Act, Code, assign, choose, loop, call, runtime, stop, step, Extent, fixed, given, Declaration, Procedure}
 use Rattle.adj_text.specs.Written.{IsLiteral}
 
 abbrev mutual

@@ -1,9 +1,11 @@
 //! Laws of texts.
 
-ghost use Rattle.std.specs.Prelude.{◌≡◌, List, [], Some, IfSome};
+ghost use Rattle.std.specs.Prelude.{◌≡◌, ℕ, List, [], Some, IfSome};
 ghost use Rattle.adj_tree.specs.Code.{Procedure};
 ghost use Rattle.adj_text.specs.Grammar.{Syntax, Sum, Derives};
 ghost use Rattle.adj_text.specs.Machine.{Stops, wanting, read, syntaxes};
+ghost use Rattle.adj_text.specs.Fits.{Fits};
+ghost use Rattle.adj_text.specs.Reads.{Reads};
 ghost use Rattle.adj_text.specs.ReadsAs.{ReadsAs};
 ghost use Rattle.adj_text.specs.Text.{text_of};
 ghost use Rattle.adj_text.specs.Word.{Word};
@@ -20,4 +22,10 @@ pub fn expressions_are_read()
     ensures complete { (words rest : List Word) (s : Syntax) → Derives Sum words rest s → Stops rest → read syntaxes (wanting []) words ≡ Some (s, rest) }
     ensures sound { (words : List Word) → IfSome (read syntaxes (wanting []) words) (λ r. Derives Sum words r.1 r.0) }
     ensures one { (words rest others : List Word) (s t : Syntax) → Derives Sum words rest s → Derives Sum words others t → Stops rest → Stops others → (s ≡ t) × (rest ≡ others) }
+{}
+
+/// What a text reads as is written, where its literals and extents are words; so its canonical text reads as the same program, up to line numbers.
+pub fn readings_are_written()
+    ensures written { (bytes : List ℕ) (program : List Procedure) → Reads bytes program → Fits program → IsWritten program }
+    ensures rewritten { (bytes : List ℕ) (program : List Procedure) → Reads bytes program → Fits program → ReadsAs (text_of program) program }
 {}
