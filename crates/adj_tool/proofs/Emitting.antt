@@ -1,16 +1,16 @@
 -- A program of the profile has one unit, whose body is one product of variables.
-use Rattle.std.proofs.Common.{arith, ◌≡◌, ◌<◌, ℕ, Bool, true, List, [], ◌∷◌, map, length, get_or, Option, Some, None, refl, sym, ap, ◌∙◌, subst}
+use Rattle.std.proofs.Common.{arith, ◌≡◌, ℕ, Bool, true, List, [], ◌∷◌, map, length, get_or, Option, Some, None, refl, sym, ap, ◌∙◌, subst}
 use Rattle.std.specs.Prelude.{option_map, if◌then◌else◌}
 use Rattle.adj_text.specs.Text.{text_of}
-use Rattle.adj_tree.specs.Code.{Code, Procedure, step, stop}
-use Rattle.adj_tree.specs.View.{procedure_of, code_of}
+use Rattle.adj_tree.specs.Code.{Procedure}
+use Rattle.adj_tree.specs.View.{procedure_of}
 use Rattle.adj_tree.specs.declared.unit.Unit.{Unit as TreeUnit}
 use Rattle.adj_transpose.specs.Program.{adjoint_program}
 use Rattle.adj_transpose.specs.Straight.{IsStraightUnit}
-use Rattle.adj_thin.specs.Thin.{Thin, is_fit, thin_of, program_of, unit_of}
-use Rattle.adj_tool.specs.Answer.{Answer, flags_of, is_asked, outside, program_answer, written}
+use Rattle.adj_thin.specs.Thin.{Thin, thin_of, program_of, unit_of}
+use Rattle.adj_tool.specs.Answer.{flags_of, is_asked, outside, program_answer, written}
 use Rattle.adj_tool.specs.Words.{Request}
-use Rattle.adj_tool.specs.Product.{IsThinProgram, product_in, product_view}
+use Rattle.adj_tool.specs.Product.{IsThinProgram}
 use Rattle.adj_tool.proofs.Straight.{thin_straight}
 use Rattle.adj_tool.proofs.Headline.{thin_fits}
 

@@ -1,8 +1,8 @@
 -- What is written for a text of the profile is an adjoint of it.
-use Rattle.std.proofs.Common.{arith, ◌≡◌, ◌⊎◌, inl, inr, ◌+◌, ◌<◌, ℕ, Bool, true, false, List, [], ◌∷◌, Option, Some, None, refl, sym, ap, ◌∙◌, subst, length}
+use Rattle.std.proofs.Common.{arith, ◌≡◌, ◌⊎◌, inl, inr, ◌+◌, ◌<◌, ℕ, Bool, true, false, List, Option, Some, None, refl, sym, ap, ◌∙◌, subst, length}
 use Rattle.std.specs.Prelude.{◌&&◌, nat_lt, if◌then◌else◌, option_map, option_and_then, bytes_eq}
 use Rattle.std.proofs.lemmas.Bool.{lt-ltb}
-use Rattle.adj_tree.specs.Code.{Procedure, name_eq}
+use Rattle.adj_tree.specs.Code.{Procedure}
 use Rattle.adj_tree.proofs.Names.{name_eq-bytes, name_same}
 use Rattle.adj_transpose.proofs.Variables.{and_true}
 use Rattle.adj_thin.specs.Thin.{Thin, is_fit, kept, thin_of, said, lines_of, program_of, unit_of}
@@ -46,21 +46,23 @@ adjoins r bytes zero = long (nat_lt most_bytes (length bytes)) refl zero
   where
     asked : (t : Thin) → thin_of bytes ≡ Some t → (b : Bool) → is_asked r (unit_of t) ≡ b → (if b then written r (unit_of t) else outside).status ≡ 0 → WritesAdjoint r bytes (if b then written r (unit_of t) else outside).text
     asked t e true f s = record {
-        source = program_of t;
-        reads = accepted bytes t e;
-        head = 0;
-        unit = unit_of t;
-        is_head = refl;
-        named = asked_name r (unit_of t) f;
-        adjoint = emitted r (unit_of t);
-        text = refl;
-        reads_back = written_reads_back (emitted r (unit_of t)) (adjoint_is_written t (thin_fits bytes t e) _ _);
-        is_adjoint = emitted_is_adjoint (program_of t) 0 _ _ (unit_of t) refl (thin_straight t (thin_fits bytes t e));
-      }
+      source = program_of t;
+      reads = accepted bytes t e;
+      head = 0;
+      unit = unit_of t;
+      is_head = refl;
+      named = asked_name r (unit_of t) f;
+      adjoint = emitted r (unit_of t);
+      text = refl;
+      reads_back = written_reads_back (emitted r (unit_of t)) (adjoint_is_written t (thin_fits bytes t e) _ _);
+      is_adjoint = emitted_is_adjoint (program_of t) 0 _ _ (unit_of t) refl (thin_straight t (thin_fits bytes t e));
+    }
     asked t e false f s = cc
+
     found : (o : Option Thin) → thin_of bytes ≡ o → (text_answer r (option_map program_of o)).status ≡ 0 → WritesAdjoint r bytes (text_answer r (option_map program_of o)).text
     found None e s = cc
     found (Some t) e s = asked t e (is_asked r (unit_of t)) refl s
+
     long : (b : Bool) → nat_lt most_bytes (length bytes) ≡ b → (if b then too_long else text_answer r (option_map program_of (thin_of bytes))).status ≡ 0 → WritesAdjoint r bytes (if b then too_long else text_answer r (option_map program_of (thin_of bytes))).text × (b ≡ false)
     long true e s = cc
     long false e s = (found (thin_of bytes) refl s, refl)

@@ -1,17 +1,17 @@
 -- The unit of a thin text is straight code over scalars.
-use Rattle.std.proofs.Common.{arith, ◌≡◌, ℕ, zero, suc, Bool, true, false, List, [], ◌∷◌, ◌++◌, map, length, refl, sym, ap, ap₂, ◌∙◌}
-use Rattle.std.specs.Prelude.{◌==◌, ◌&&◌, ◌||◌, not, bytes_eq, if◌then◌else◌}
-use Rattle.std.specs.List.{list_all, list_any}
-use Rattle.adj_tree.specs.Code.{name_eq, Declaration}
+use Rattle.std.proofs.Common.{arith, ◌≡◌, ℕ, zero, suc, Bool, true, false, List, [], ◌∷◌, ◌++◌, map, refl, sym, ap, ap₂, ◌∙◌}
+use Rattle.std.specs.Prelude.{◌==◌, ◌&&◌, ◌||◌, not, if◌then◌else◌}
+use Rattle.std.specs.List.{list_all}
+use Rattle.adj_tree.specs.Code.{name_eq}
 use Rattle.adj_tree.proofs.Names.{name_eq-bytes, name_refl, name_same}
 use Rattle.adj_word.specs.Pairing.{stands_in}
 use Rattle.adj_text.specs.Char.{is_capital}
 use Rattle.adj_transpose.specs.Fresh.{has_name}
 use Rattle.adj_transpose.specs.Naming.{AreApart, AreInside, begins_outside}
-use Rattle.adj_transpose.specs.Pairs.{key_eq, IsStraight}
-use Rattle.adj_transpose.specs.Program.{locals_among, locals, variables}
+use Rattle.adj_transpose.specs.Pairs.{key_eq}
+use Rattle.adj_transpose.specs.Program.{locals_among}
 use Rattle.adj_transpose.specs.Straight.{AreScalars, keys, IsStraightUnit}
-use Rattle.adj_transpose.proofs.Variables.{and_true, or_false, or_right, not_true, name_comm, has_apart}
+use Rattle.adj_transpose.proofs.Variables.{and_true, or_false, or_right, has_apart}
 use Rattle.adj_thin.specs.Thin.{Thin, is_in, are_distinct, is_name, is_unit, is_variable, are_dummies, are_declared, is_product, is_fit, scalar, unit_of}
 
 -- ---- names in lists
@@ -177,5 +177,5 @@ thin_straight t h =
       apart = append_apart t.heading.dummies (locals_among t.heading.dummies (map scalar t.declared)) (apart t.heading.dummies distinct.1) (locals_apart t.heading.dummies t.declared (apart t.declared declared.1)) (λ x e. dummy_local x t.heading.dummies t.declared e);
       inside = append_inside t.heading.dummies (locals_among t.heading.dummies (map scalar t.declared)) (dummies_inside t.heading.dummies t.declared inside dummies.1) (locals_inside t.heading.dummies t.declared inside);
       scalars = scalars t.declared;
-      body = ((declared_stands t.product.target t.heading.dummies t.declared product2.0, (tt, (declared_stands t.product.left t.heading.dummies t.declared product2.1, declared_stands t.product.right t.heading.dummies t.declared product.1))), tt)
+      body = ((declared_stands t.product.target t.heading.dummies t.declared product2.0, (tt, (declared_stands t.product.left t.heading.dummies t.declared product2.1, declared_stands t.product.right t.heading.dummies t.declared product.1))), tt);
     }

@@ -1,21 +1,21 @@
 -- The adjoint of a thin program is a written program, whose text reads back.
-use Rattle.std.proofs.Common.{arith, lit≤, ◌≡◌, ◌<◌, ◌≤◌, ◌+◌, ◌/◌, ◌%◌, ℕ, zero, suc, Bool, true, false, List, [], ◌∷◌, ◌++◌, map, length, codes, refl, sym, ap, ap₂, ◌∙◌, subst}
-use Rattle.std.specs.Prelude.{◌==◌, ◌&&◌, ◌||◌, not, nat_lt, if◌then◌else◌}
-use Rattle.std.specs.List.{All, list_all, AllByRecursion}
+use Rattle.std.proofs.Common.{arith, lit≤, ◌≡◌, ◌<◌, ◌+◌, ◌/◌, ◌%◌, ℕ, zero, suc, Bool, true, false, List, [], ◌∷◌, ◌++◌, map, length, codes, refl, sym, ap, ap₂, ◌∙◌, subst}
+use Rattle.std.specs.Prelude.{◌==◌, ◌&&◌, ◌||◌, nat_lt, if◌then◌else◌}
+use Rattle.std.specs.List.{list_all, AllByRecursion}
 use Rattle.std.proofs.lemmas.List.Elements.{All-from_recursion}
 use Rattle.std.proofs.lemmas.List.Folds.{list_all-append}
-use Rattle.adj_tree.specs.Code.{Var, plain, shadow, helper, Role, work, temp, name_eq, var_eq, times, var, bin, none, assign, Code, step, stop, Declaration, Procedure}
+use Rattle.adj_tree.specs.Code.{Var, plain, shadow, helper, work, name_eq, var_eq, times, var, bin, none, assign, Code, step, stop, Declaration, Procedure}
 use Rattle.adj_tree.proofs.Names.{name_refl, name_same}
 use Rattle.adj_meaning.specs.Append.{◌+++◌}
 use Rattle.adj_meaning.specs.Rename.{rename}
 use Rattle.adj_text.specs.Char.{is_capital, is_digit, is_name_char}
 use Rattle.adj_text.specs.Written.{IsName, IsWrittenCode, IsWrittenDeclaration, IsWrittenExtent, IsWrittenProcedure, IsWritten}
 use Rattle.adj_transpose.specs.Fresh.{has_name, digits, digits_before, candidate, first_free, fresh, reserved}
-use Rattle.adj_transpose.specs.Naming.{Named, own, named, unit_names, wanted, name_in, naming, names}
+use Rattle.adj_transpose.specs.Naming.{Named, own, named, unit_names, wanted, name_in, naming}
 use Rattle.adj_transpose.specs.Emit.{zeros, adjoint_body}
-use Rattle.adj_transpose.specs.Program.{locals_among, locals, variables, declaration, scalar as emitted_scalar, unit_name, source_names, adjoint_name, adjoint_names, made_for, helpers, with_shadows, unmarked, declared_with_shadows, declared_helpers, adjoint_unit, adjoint_program}
-use Rattle.adj_transpose.proofs.Variables.{and_true, or_right, var_refl, var_same}
-use Rattle.adj_thin.specs.Thin.{Thin, is_fit, is_in, is_name, is_unit, is_variable, are_dummies, are_declared, is_product, is_letter_or_digit, scalar, act, unit_of, program_of}
+use Rattle.adj_transpose.specs.Program.{locals_among, declaration, unit_name, source_names, adjoint_name, adjoint_names, with_shadows, unmarked, declared_with_shadows, adjoint_program}
+use Rattle.adj_transpose.proofs.Variables.{and_true, or_right}
+use Rattle.adj_thin.specs.Thin.{Thin, is_fit, is_in, is_name, is_unit, is_variable, are_dummies, are_declared, is_product, is_letter_or_digit, scalar, unit_of, program_of}
 use Rattle.adj_tool.proofs.Straight.{is_in-has_name, has-append, declared_has}
 
 -- ---- names with something behind them
@@ -195,10 +195,10 @@ declaration_scalar line (d ∷ ds) x = go (name_eq d x) (declaration_scalar line
 -- a scalar with a name of a text is a written declaration
 scalar_written : (d : Declaration) → IsName d.name → d.extents ≡ [] → IsWrittenDeclaration d
 scalar_written d h e = record {
-    named = h;
-    few_extents = rw e (lit≤ tt);
-    extents = rw e (All-from_recursion IsWrittenExtent [] tt)
-  }
+  named = h;
+  few_extents = rw e (lit≤ tt);
+  extents = rw e (All-from_recursion IsWrittenExtent [] tt);
+}
 
 -- ---- the emitted unit
 
@@ -261,19 +261,35 @@ module _ (ns : List Named) (xs : List (List ℕ)) (nm : Names ns xs) where
 
   -- the body of the adjoint of one product
   body_plain : (line n : ℕ) (x a b : List ℕ) (outs ins : List (List ℕ)) → has_name x xs ≡ true → has_name a xs ≡ true → has_name b xs ≡ true → AreAmong xs outs → AreAmong xs ins →
-    IsWrittenCode (rename (naming ns) (adjoint_body line (step n (assign (plain x) none (bin times (var (plain a)) (var (plain b)))) stop) outs ins))
-  body_plain line n x a b outs ins hx ha hb ho hi =
-      (nm.of_plain x hx,
-      ((nm.of_plain x hx, (nm.of_plain a ha, nm.of_plain b hb)),
-      zeros_plain line outs _ ho
-        (nm.of_plain x hx,
-        ((nm.of_first, nm.of_shadow x hx),
-        ((nm.of_shadow x hx, lit≤ tt),
-        ((nm.of_second, (nm.of_first, nm.of_plain b hb)),
-        ((nm.of_shadow a ha, (nm.of_shadow a ha, nm.of_second)),
-        ((nm.of_second, (nm.of_first, nm.of_plain a ha)),
-        ((nm.of_shadow b hb, (nm.of_shadow b hb, nm.of_second)),
-        zeros_last line ins hi)))))))))
+      IsWrittenCode (rename (naming ns) (adjoint_body line (step n (assign (plain x) none (bin times (var (plain a)) (var (plain b)))) stop) outs ins))
+  body_plain line n x a b outs ins hx ha hb ho hi = (
+    nm.of_plain x hx,
+    (
+      (nm.of_plain x hx, (nm.of_plain a ha, nm.of_plain b hb)),
+      zeros_plain line outs _ ho (
+        nm.of_plain x hx,
+        (
+          (nm.of_first, nm.of_shadow x hx),
+          (
+            (nm.of_shadow x hx, lit≤ tt),
+            (
+              (nm.of_second, (nm.of_first, nm.of_plain b hb)),
+              (
+                (nm.of_shadow a ha, (nm.of_shadow a ha, nm.of_second)),
+                (
+                  (nm.of_second, (nm.of_first, nm.of_plain a ha)),
+                  (
+                    (nm.of_shadow b hb, (nm.of_shadow b hb, nm.of_second)),
+                    zeros_last line ins hi,
+                  ),
+                ),
+              ),
+            ),
+          ),
+        ),
+      ),
+    ),
+  )
 
   with_shadows_names : (ys : List (List ℕ)) → AllNames ys → AreAmong xs ys → AllByRecursion IsName (with_shadows ns ys)
   with_shadows_names [] h k = tt
@@ -281,10 +297,13 @@ module _ (ns : List Named) (xs : List (List ℕ)) (nm : Names ns xs) where
 
   declared_plain : (p : Procedure) (ds : List (List ℕ)) → p.declarations ≡ map scalar ds → (ys : List (List ℕ)) → AllNames ys → AreAmong xs ys → (rest : List Declaration) → AllByRecursion IsWrittenDeclaration rest → AllByRecursion IsWrittenDeclaration (declared_with_shadows ns p ys ++ rest)
   declared_plain p ds e [] h k rest l = l
-  declared_plain p ds e (y ∷ ys) h k rest l =
-      (scalar_written _ (subst (λ z. IsName (declaration p.line z y).name) (sym e) (subst IsName (sym (declaration_name p.line ds y)) h.0)) (ap (λ z. (declaration p.line z y).extents) e ∙ declaration_scalar p.line ds y),
-      (scalar_written _ (nm.of_shadow y k.0) (ap (λ z. (declaration p.line z y).extents) e ∙ declaration_scalar p.line ds y),
-      declared_plain p ds e ys h.1 k.1 rest l))
+  declared_plain p ds e (y ∷ ys) h k rest l = (
+    scalar_written _ (subst (λ z. IsName (declaration p.line z y).name) (sym e) (subst IsName (sym (declaration_name p.line ds y)) h.0)) (ap (λ z. (declaration p.line z y).extents) e ∙ declaration_scalar p.line ds y),
+    (
+      scalar_written _ (nm.of_shadow y k.0) (ap (λ z. (declaration p.line z y).extents) e ∙ declaration_scalar p.line ds y),
+      declared_plain p ds e ys h.1 k.1 rest l,
+    ),
+  )
 
 -- the adjoint of a thin program is written
 pub adjoint_is_written : (t : Thin) → is_fit t ≡ true → (vars outvars : List Bool) → IsWritten (adjoint_program (program_of t) 0 vars outvars)
@@ -305,12 +324,15 @@ adjoint_is_written t fit vars outvars =
     let ns = adjoint_names (program_of t) (unit_of t) in
     let in_dummies = among_append xs ls xs (among_itself xs) in
     let in_locals = among_behind xs ls ls (among_itself ls) in
-    All-from_recursion IsWrittenProcedure (adjoint_program (program_of t) 0 vars outvars) (record {
-      named = fresh_name (t.heading.name ++ codes "_B") (source_names (program_of t)) (longer_name t.heading.name (codes "_B") (unit_is_name t.heading.name parts3.0) refl);
-      dummies = All-from_recursion IsName _ (with_shadows_names ns (xs ++ ls) nm xs names_dummies in_dummies);
-      declarations = All-from_recursion IsWrittenDeclaration _ (declared_plain ns (xs ++ ls) nm (unit_of t) t.declared refl xs names_dummies in_dummies _ (declared_plain ns (xs ++ ls) nm (unit_of t) t.declared refl ls names_locals in_locals _ (scalar_written _ nm.of_first refl, (scalar_written _ nm.of_second refl, tt))));
-      body = body_plain ns (xs ++ ls) nm 1 3 t.product.target t.product.left t.product.right (unmarked xs outvars) (unmarked xs vars) (stands t t.product.target product2.0) (stands t t.product.left product2.1) (stands t t.product.right product.1) (unmarked_among _ xs outvars in_dummies) (unmarked_among _ xs vars in_dummies)
-    }, tt)
+    All-from_recursion IsWrittenProcedure (adjoint_program (program_of t) 0 vars outvars) (
+      record {
+        named = fresh_name (t.heading.name ++ codes "_B") (source_names (program_of t)) (longer_name t.heading.name (codes "_B") (unit_is_name t.heading.name parts3.0) refl);
+        dummies = All-from_recursion IsName _ (with_shadows_names ns (xs ++ ls) nm xs names_dummies in_dummies);
+        declarations = All-from_recursion IsWrittenDeclaration _ (declared_plain ns (xs ++ ls) nm (unit_of t) t.declared refl xs names_dummies in_dummies _ (declared_plain ns (xs ++ ls) nm (unit_of t) t.declared refl ls names_locals in_locals _ (scalar_written _ nm.of_first refl, (scalar_written _ nm.of_second refl, tt))));
+        body = body_plain ns (xs ++ ls) nm 1 3 t.product.target t.product.left t.product.right (unmarked xs outvars) (unmarked xs vars) (stands t t.product.target product2.0) (stands t t.product.left product2.1) (stands t t.product.right product.1) (unmarked_among _ xs outvars in_dummies) (unmarked_among _ xs vars in_dummies);
+      },
+      tt,
+    )
   where
     stands : (t : Thin) (x : List ℕ) → is_in t.declared x ≡ true → has_name x (t.heading.dummies ++ locals_among t.heading.dummies (map scalar t.declared)) ≡ true
     stands t x h = declared_has x t.heading.dummies t.declared h

@@ -45,7 +45,7 @@ action_line (Drop p) = line_of_one (codes "DROP ") p
 abbrev pub schedule_answer : ℕ → ℕ → Answer
 schedule_answer steps snapshots = record {
   status = 0;
-  text = flat_map action_line (schedule_of 0 steps snapshots) ++ line_of_one (codes "ADVANCES ") (least_cost steps snapshots)
+  text = flat_map action_line (schedule_of 0 steps snapshots) ++ line_of_one (codes "ADVANCES ") (least_cost steps snapshots);
 }
 
 -- ---- adjoints

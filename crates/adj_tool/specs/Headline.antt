@@ -1,5 +1,5 @@
 -- Headline: what the written text is.
-use Rattle.std.specs.Prelude.{◌≡◌, ℕ, Bool, List, [], ◌∷◌}
+use Rattle.std.specs.Prelude.{◌≡◌, ℕ, List, [], ◌∷◌}
 use Rattle.adj_tree.specs.Code.{Procedure}
 use Rattle.adj_text.specs.Reads.{Reads}
 use Rattle.adj_text.specs.ReadsAs.{ReadsAs}

@@ -1,6 +1,6 @@
 -- Product: the one product that a unit of the profile computes.
-use Rattle.std.specs.Prelude.{◌≡◌, ℕ, Bool, true, List, Option, Some, None, option_map}
-use Rattle.adj_tree.specs.Code.{Term, lit, var, elem, neg, bin, pow, abs, Terms, none, more, Op, plus, minus, times, quot, modulo, greater, lesser, Var, plain, shadow, helper, Act, assign, choose, loop, call, runtime, Code, stop, step, Procedure}
+use Rattle.std.specs.Prelude.{◌≡◌, ℕ, true, List, Option, Some, None, option_map}
+use Rattle.adj_tree.specs.Code.{Term, var, bin, none, times, plain, Act, assign, Code, stop, step, Procedure}
 use Rattle.adj_thin.specs.Thin.{Thin, program_of, is_fit}
 use Rattle.adj_sweep.specs.declared.product.Product.{Product as CodeProduct}
 

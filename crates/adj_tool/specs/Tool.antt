@@ -1,7 +1,6 @@
 -- Tool: what a call of the program comes to.
 use Rattle.std.specs.Prelude.{◌≡◌, ◌⊎◌, ◌+◌, ◌<◌, ℕ, List, length, take, Option, Some, None}
 use Rattle.adj_io.specs.Bytes.{IsAtEnd, extended_by, followed_by}
-use Rattle.adj_io.specs.Faults.{Rose}
 use Rattle.adj_tool.specs.Words.{Command, Request, Adjoint, Schedule}
 use Rattle.adj_tool.specs.Headline.{WritesAdjoint}
 use Rattle.adj_tool.specs.Answer.{Answer, usage, schedule_answer, adjoint_answer, most_bytes}

@@ -6,7 +6,6 @@ use Rattle.clap.specs.Kinds.{Kinds}
 use Rattle.clap.specs.Walk.{Row, Rule, Text, all_of, first_of}
 use Rattle.clap.specs.Simple.{App, matches_of, new_app, new_rule, on_top, with_rule}
 use Rattle.clap.specs.Faults.{fault_of}
-use Rattle.clap.specs.declared.builder.range.ValueRange.{ValueRange}
 
 -- ---- the command line
 
@@ -30,7 +29,7 @@ bare_program = on_top (λ s. record s { no_binary_name = true }) (new_app (codes
 abbrev pub program : App
 program =
     with_rule (with_rule (with_rule (with_rule (with_rule (with_rule (with_rule bare_program
-      command_rule) numbers_rule) (option_rule (codes "head"))) (option_rule (codes "vars"))) (option_rule (codes "outvars"))) (option_rule (codes "budget"))) (option_rule (codes "tape"))
+    command_rule) numbers_rule) (option_rule (codes "head"))) (option_rule (codes "vars"))) (option_rule (codes "outvars"))) (option_rule (codes "budget"))) (option_rule (codes "tape"))
 
 -- ---- values
 

@@ -124,11 +124,7 @@ fn written(
 }
 
 // The answer for a program of the profile.
-fn answer_program(
-    alloc: Global,
-    request: &Request,
-    program: &Program,
-) -> Result<Answer, Memory>
+fn answer_program(alloc: Global, request: &Request, program: &Program) -> Result<Answer, Memory>
     requires { IsThinProgram (procedures_of program.now) }
     ensures { IfOk result (λ a. answer_of a ≡ program_answer (request_of request.now) (procedures_of program.now)) }
 {

@@ -68,7 +68,13 @@ fn call(alloc: Global, line: &str, input: &[u8], faults: &Faults<'_>) -> Result<
     Ok(Ended { status, sink })
 }
 
-fn comes_to(alloc: Global, line: &str, input: &[u8], status: u8, text: &str) -> Result<bool, Memory> {
+fn comes_to(
+    alloc: Global,
+    line: &str,
+    input: &[u8],
+    status: u8,
+    text: &str,
+) -> Result<bool, Memory> {
     let ended = call(alloc, line, input, &NONE)?;
     Ok(ended.status == status && ended.sink.bytes() == text.as_bytes())
 }
@@ -90,10 +96,19 @@ fn a_text_outside_the_profile_and_one_that_is_too_long(rt: HostRuntime) -> Resul
         (WORDS, b""),
     ];
     for (line, input) in cases {
-        assert!(rt; comes_to(alloc, line, input, 2, "REFUSED 3 LINE 0\n")?, "{line}");
+        assert!(rt;
+            comes_to(alloc, line, input, 2, "REFUSED 3 LINE 0\n")?,
+            "{line}"
+        );
     }
     let long = vec![in alloc; b' '; 4_194_305]?;
-    let refused = comes_to(alloc, WORDS, long.as_slice(), 2, "REFUSED 21 LINE 0 LIMIT 4194304\n")?;
+    let refused = comes_to(
+        alloc,
+        WORDS,
+        long.as_slice(),
+        2,
+        "REFUSED 21 LINE 0 LIMIT 4194304\n",
+    )?;
     assert!(rt; refused);
     Ok(())
 }
@@ -101,10 +116,16 @@ fn a_text_outside_the_profile_and_one_that_is_too_long(rt: HostRuntime) -> Resul
 #[test]
 fn a_read_fault_writes_nothing_and_a_write_fault_a_front(rt: HostRuntime) -> Result<(), Memory> {
     let alloc = rt.alloc();
-    let read = Faults { reads: &[2], writes: &[] };
+    let read = Faults {
+        reads: &[2],
+        writes: &[],
+    };
     let ended = call(alloc, WORDS, SQUARE, &read)?;
     assert!(rt; ended.status == 7 && ended.sink.bytes().is_empty());
-    let write = Faults { reads: &[], writes: &[2] };
+    let write = Faults {
+        reads: &[],
+        writes: &[2],
+    };
     let ended = call(alloc, WORDS, SQUARE, &write)?;
     assert!(rt; ended.status == 8 && ended.sink.bytes() == &ADJOINT.as_bytes()[..10]);
     Ok(())
@@ -114,18 +135,31 @@ fn a_read_fault_writes_nothing_and_a_write_fault_a_front(rt: HostRuntime) -> Res
 fn schedules_with_their_costs(rt: HostRuntime) -> Result<(), Memory> {
     let alloc = rt.alloc();
     let cases = [
-        ("schedule 3 2", "STORE 0\nADVANCE 0 1\nSTORE 1\nADVANCE 1 2\nTURN 2\nDROP 1\nTURN 1\nDROP 0\nTURN 0\nADVANCES 2\n"),
-        ("schedule 3 1", "STORE 0\nADVANCE 0 2\nTURN 2\nKEEP 0\nADVANCE 0 1\nTURN 1\nDROP 0\nTURN 0\nADVANCES 3\n"),
+        (
+            "schedule 3 2",
+            "STORE 0\nADVANCE 0 1\nSTORE 1\nADVANCE 1 2\nTURN 2\nDROP 1\nTURN 1\nDROP 0\nTURN 0\nADVANCES 2\n",
+        ),
+        (
+            "schedule 3 1",
+            "STORE 0\nADVANCE 0 2\nTURN 2\nKEEP 0\nADVANCE 0 1\nTURN 1\nDROP 0\nTURN 0\nADVANCES 3\n",
+        ),
         ("schedule 0 4", "ADVANCES 0\n"),
         ("schedule 1 1", "TURN 0\nADVANCES 0\n"),
     ];
     for (line, text) in cases {
         assert!(rt; comes_to(alloc, line, b"", 0, text)?, "{line}");
     }
-    let ends = [("schedule 10 3", "\nADVANCES 15\n"), ("schedule 100 5", "\nADVANCES 316\n"), ("schedule 1000 10", "\nADVANCES 3636\n")];
+    let ends = [
+        ("schedule 10 3", "\nADVANCES 15\n"),
+        ("schedule 100 5", "\nADVANCES 316\n"),
+        ("schedule 1000 10", "\nADVANCES 3636\n"),
+    ];
     for (line, end) in ends {
         let ended = call(alloc, line, b"", &NONE)?;
-        assert!(rt; ended.status == 0 && ended.sink.bytes().ends_with(end.as_bytes()), "{line}");
+        assert!(rt;
+            ended.status == 0 && ended.sink.bytes().ends_with(end.as_bytes()),
+            "{line}"
+        );
     }
     Ok(())
 }
@@ -187,7 +221,12 @@ fn words_that_are_taken(rt: HostRuntime) -> Result<(), Memory> {
     for line in lines {
         assert!(rt; comes_to(alloc, line, SQUARE, 0, ADJOINT)?, "{line}");
     }
-    let lines = ["schedule 0 1", "schedule 00000000000000000000 01", "schedule -- 0 1", "schedule 0 -- 1"];
+    let lines = [
+        "schedule 0 1",
+        "schedule 00000000000000000000 01",
+        "schedule -- 0 1",
+        "schedule 0 -- 1",
+    ];
     for line in lines {
         assert!(rt; comes_to(alloc, line, b"", 0, "ADVANCES 0\n")?, "{line}");
     }

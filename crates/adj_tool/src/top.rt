@@ -38,11 +38,7 @@ impl From<Memory> for Stop {
 }
 
 // The answer of `adjoint` to an input.
-fn answer_input<S: Source>(
-    alloc: Global,
-    request: &Request,
-    input: &mut S,
-) -> Result<Answer, Stop>
+fn answer_input<S: Source>(alloc: Global, request: &Request, input: &mut S) -> Result<Answer, Stop>
     ensures answer { IfOk result (λ a. AnswersInput (request_of request.now) (S.left input.old) (S.left input.new) (answer_of a)) }
     ensures fault { IsErrOf result Stop.ReadFault → Rose (S.faults input.old) (S.faults input.new) }
 {
@@ -66,11 +62,7 @@ fn answer_input<S: Source>(
 }
 
 // The answer to the words, and to the input where they ask for a command that reads.
-fn answer_words<S: Source>(
-    alloc: Global,
-    words: &[Text],
-    input: &mut S,
-) -> Result<Answer, Stop>
+fn answer_words<S: Source>(alloc: Global, words: &[Text], input: &mut S) -> Result<Answer, Stop>
     ensures answer { IfOk result (λ a. IsAnswer (taken words.now) (S.left input.old) (S.left input.new) (answer_of a)) }
     ensures fault { IsErrOf result Stop.ReadFault → Rose (S.faults input.old) (S.faults input.new) }
     ensures reads { IsErrOf result Stop.ReadFault → ReadsInput (taken words.now) }
@@ -94,12 +86,7 @@ fn answer_words<S: Source>(
 /// Does what the words ask for, and answers the status of the program.
 ///
 /// 0: done. 1: the words are no command. 2: the text is refused. 7: a read failed. 8: a write failed. 9: memory ran out.
-pub fn tool<S: Source, K: Sink>(
-    alloc: Global,
-    words: &[Text],
-    input: &mut S,
-    output: &mut K,
-) -> u8
+pub fn tool<S: Source, K: Sink>(alloc: Global, words: &[Text], input: &mut S, output: &mut K) -> u8
     ensures answer { result < 7 → WritesAll (taken words.now) (S.left input.old) (S.left input.new) (K.taken output.old) (K.taken output.new) result }
     ensures read_fault { result ≡ 7 → Rose (S.faults input.old) (S.faults input.new) }
     ensures reads { result ≡ 7 → ReadsInput (taken words.now) }

@@ -90,11 +90,7 @@ fn values<'a, 'b>(matches: &'b ArgMatches<'a>, id: &str) -> Option<&'b [&'a str]
     matches.get_strs(id)
 }
 
-fn name_option(
-    alloc: Global,
-    matches: &ArgMatches<'_>,
-    id: &str,
-) -> Result<Option<Name>, Memory>
+fn name_option(alloc: Global, matches: &ArgMatches<'_>, id: &str) -> Result<Option<Name>, Memory>
     ensures { IfOk result (λ r. r ≡ option_and_then name_of (first_of id.now (rows_of (found_of matches.now)))) }
 {
     match value(matches, id) {
