@@ -57,9 +57,6 @@ close_sum-close_product alg _ x = refl
 abbrev To : {X : Type 0} → Algebra X → State X → List Word → State X → List Word → Type 0
 To {X} alg s ts t us = (x : X × List Word) → read alg t us ≡ Some x → read alg s ts ≡ Some x
 
-To-same : {X : Type 0} (alg : Algebra X) (s : State X) (ts : List Word) (t : State X) (us : List Word) → read alg s ts ≡ read alg t us → To alg s ts t us
-To-same alg s ts t us e x h = e ∙ h
-
 -- the states and words after the words of a symbol
 abbrev Leads : {X : Type 0} → Algebra X → Symbol → List Word → List Word → Syntax → Type 0
 Leads {X} alg Primary ts rest s = (frames : List (Frame X)) → To alg (wanting frames) ts (having frames (value alg s)) rest

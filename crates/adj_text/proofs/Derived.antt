@@ -1,11 +1,9 @@
 -- Derived: the words of plain statements derive these.
 use Rattle.std.proofs.Common.{ℕ, List, [], ◌∷◌, map, refl}
-use Rattle.adj_tree.specs.Code.{times, plus, Term, lit, var, bin, more, none, plain, assign}
-use Rattle.std.specs.Prelude.{pos}
-use Rattle.adj_text.specs.declared.token.TokenKind.TheVariants.{Right, Equals, Star, Plus}
-use Rattle.adj_text.specs.Char.{number_of}
-use Rattle.adj_text.specs.Word.{Word, Named, Digits, Mark}
-use Rattle.adj_text.specs.Grammar.{number, variable, joined, only, adds, multiplies, literal, name, primary, factor, product, term, sum, single, ReadsTerm}
+use Rattle.adj_tree.specs.Code.{times, Term, var, bin, none, plain, assign}
+use Rattle.adj_text.specs.declared.token.TokenKind.TheVariants.{Right, Equals, Star}
+use Rattle.adj_text.specs.Word.{Word, Named, Mark}
+use Rattle.adj_text.specs.Grammar.{variable, joined, multiplies, name, primary, factor, product, term, ReadsTerm}
 use Rattle.adj_text.specs.Statement as statements
 use Rattle.adj_text.specs.Statement.{Item, ReadsPlace, ReadsAssignment, ReadsNames, ReadsHead, ReadsItem, ReadsItems, ReadsCall, called, assignment}
 use Rattle.adj_text.proofs.Plain.{name_words, head_words}
@@ -27,23 +25,10 @@ pub items_derived : (x : List ℕ) (xs : List (List ℕ)) → ReadsItems (name_w
 items_derived x [] = statements.ReadsItems.last statements.ReadsItem.scalar
 items_derived x (y ∷ ys) = statements.ReadsItems.another statements.ReadsItem.scalar (items_derived y ys)
 
--- a name, digits, and two names that are multiplied or added
-pub name_derived : (x : List ℕ) (rest : List Word) → ReadsTerm (Named x ∷ rest) rest (var (plain x))
-name_derived x rest = (variable x, term (factor (primary name)), refl)
-
-pub digits_derived : (ds : List ℕ) (rest : List Word) → ReadsTerm (Digits ds ∷ rest) rest (lit (pos (number_of ds)))
-digits_derived ds rest = (number ds, term (factor (primary literal)), refl)
-
+-- two names that are multiplied
 pub product_derived : (x y : List ℕ) (rest : List Word) → ReadsTerm (Named x ∷ Mark Star ∷ Named y ∷ rest) rest (bin times (var (plain x)) (var (plain y)))
 product_derived x y rest = (joined times (variable x) (variable y), term (product multiplies (factor (primary name)) (primary name)), refl)
-
-pub sum_derived : (x y : List ℕ) (rest : List Word) → ReadsTerm (Named x ∷ Mark Plus ∷ Named y ∷ rest) rest (bin plus (var (plain x)) (var (plain y)))
-sum_derived x y rest = (joined plus (variable x) (variable y), sum adds (term (factor (primary name))) (factor (primary name)), refl)
 
 -- an assignment to a name
 pub assignment_derived : (x : List ℕ) (ws : List Word) (t : Term) → ReadsTerm ws [] t → ReadsAssignment (Named x ∷ Mark Equals ∷ ws) (assign (plain x) none t)
 assignment_derived x ws t h = assignment statements.ReadsPlace.scalar h
-
--- a CALL with a name as its actual
-pub call_derived : (f x : List ℕ) → ReadsCall (head_words f (x ∷ [])) (called f (more (var (plain x)) none))
-call_derived f x = statements.ReadsCall.actuals (only (variable x), single (term (factor (primary name))), refl, refl)

@@ -11,6 +11,7 @@ use Rattle.adj_text.specs.Limits.{no_limits}
 use Rattle.adj_text.specs.Line.{cut_lines, without_cr, next_number, is_data, begins_in_either_case, is_directive, operand_of}
 use Rattle.adj_text.specs.Lined.{Pass, flushed, with_line, pass_over}
 use Rattle.adj_text.specs.Text.{directive}
+use Rattle.adj_text.proofs.Classes.{no_true}
 use Rattle.adj_text.proofs.Joins.{over_line}
 use Rattle.adj_text.proofs.Scans.{both_true}
 
@@ -61,10 +62,6 @@ record IsDirective (l : List ℕ) (n : ℕ) : Type 0 where
   no_data : is_data l ≡ false
   is_one : is_directive l ≡ true
   gives : operand_of l ≡ Some n
-
-no_true : (b : Bool) → not b ≡ true → b ≡ false
-no_true true h = absurd cc
-no_true false h = refl
 
 given : (o : Option ℕ) (n : ℕ) → 0 < n → eqb (unwrap_or o 0) n ≡ true → o ≡ Some n
 given None n h e = absurd (omega (arith, eqb-true 0 n e))

@@ -163,22 +163,6 @@ is_else = word_statement classes.Else 69 (codes "LSE") else_classed refl refl re
 pub is_implicit : IsStatement classes.ImplicitNone (codes "IMPLICITNONE") []
 is_implicit = word_statement classes.ImplicitNone 73 (codes "MPLICITNONE") implicit_classed refl refl refl refl refl
 
--- CALL of a name with a list of names in parentheses
-call_classed : (rest : List ℕ) → Lacks equals rest → class_of (codes "CALL" ++ rest) ≡ Some classes.Call
-unfolding kind_of
-call_classed rest h = rw (has_open-none equals 0 (codes "CALL" ++ rest) (lacks-behind equals (codes "CALL") rest refl h)) refl
-
-pub is_call : (x : List ℕ) (xs : List (List ℕ)) → is_name x ≡ true → AreNames xs → IsStatement classes.Call (codes "CALL") (head_words x xs)
-is_call x xs h g = record {
-  spaced = head_spaced x xs h g;
-  some = omega arith;
-  classed = call_classed (flat_map spelling (head_words x xs)) (lacks-words equals (head_words x xs) refl (head_spaced x xs h g) (head_lacks equals x xs refl refl refl));
-  matched = is_matched-behind 0 (codes "CALL") (flat_map spelling (head_words x xs)) refl refl ∙ head_matched x xs h g;
-  keyword_ends = refl;
-  whole = refl;
-  calls_none = refl;
-}
-
 -- an assignment to a name, whose right side has no parentheses and no commas
 assignment_classed : (x rest : List ℕ) → is_name x ≡ true → Lacks comma rest → Lacks left rest → class_of (x ++ 61 ∷ rest) ≡ Some classes.Assign
 unfolding kind_of has_open

@@ -34,9 +34,6 @@ prefix_len-stops p (x ∷ xs) rest h f =
     let g = both_true (p x) (list_all p xs) h in
     rw (g.0, prefix_len-stops p xs rest g.1 f) (omega arith)
 
-capital_is_name_char : (c : ℕ) → is_capital c ≡ true → is_name_char c ≡ true
-capital_is_name_char c h = rw h refl
-
 pub capital_is_no_digit : (c : ℕ) → is_capital c ≡ true → is_digit c ≡ false
 capital_is_no_digit c h = grind (arith, nat_tests)
 
