@@ -33,12 +33,14 @@ const ADJOINT: &str = "      SUBROUTINE P_B(X,XB,Y,YB)
 ";
 
 // What a call came to.
+#[derive(Drop)]
 struct Ended {
     status: u8,
     sink: MemSink,
 }
 
 // The faults of the streams, by the numbers of their calls.
+#[derive(Clone, Copy)]
 struct Faults<'a> {
     reads: &'a [u64],
     writes: &'a [u64],
