@@ -1,6 +1,5 @@
 pub mod Places
 pub mod Tables
-pub mod Kept
 pub mod Making
 pub mod Units
 pub mod Heads

@@ -1,9 +1,9 @@
 //! The adjoint of a program, as code.
 //!
-//! `names` gives the variables of an adjoint unit their names, `right` emits what a right side needs, `sweep` the sweeps
-//! of a list of statements. Each function's clause says that its result is that of the emission's definition
-//! (`adj_transpose/specs/Emit.antt` and `Program.antt`), unless memory runs out.
-//! The crate stands on the emission's definitions, and the layers above use `adjoint`.
+//! `fresh` makes names, `naming` gives them to the variables of an adjoint unit, and `names` looks them up; `product` emits the
+//! sweeps of a product, `unit` the zeroing and the declarations, and `head` puts the program together. Each clause says that the
+//! result is that of the emission's definition (`adj_transpose/specs/Emit.antt` and `Program.antt`), unless memory runs out.
+//! The crate stands on those definitions and on the theorem about them. The layer above uses `head::adjoint`.
 #![tactic(auto)]
 
 pub mod fresh;
