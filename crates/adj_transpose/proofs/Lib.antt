@@ -13,3 +13,5 @@ pub mod Slots
 pub mod Products
 pub mod Units
 pub mod Adjoints
+mod Faulty
+mod Trials

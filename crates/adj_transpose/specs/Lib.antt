@@ -8,3 +8,4 @@ pub mod Examples
 pub mod Adjoint
 pub mod Straight
 pub mod Theorem
+pub mod Faulty

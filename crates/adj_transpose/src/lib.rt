@@ -30,3 +30,18 @@ ghost use Rattle.adj_transpose.specs.Theorem.{EmittedIsAdjoint};
 pub fn adjoint_law()
     ensures { EmittedIsAdjoint }
 {}
+
+ghost use Rattle.std.specs.Prelude.{Bool};
+ghost use Rattle.adj_tree.specs.Code.{Procedure};
+ghost use Rattle.adj_transpose.specs.Faulty.{with_sweeps, Serve, right_forward, right_backward, pushed_after, unreversed, assigned, unsigned, uncleared, unpopped, squared_itself, cube, difference};
+
+/// Emitted programs with a fault are no adjoints: the definition of an adjoint tells them from the emitted one.
+pub fn wrong_adjoints()
+    ensures without_fault { (p : Procedure) (vars outvars : List Bool) → with_sweeps right_forward right_backward p vars outvars ∷ [] ≡ adjoint_program (p ∷ []) 0 vars outvars }
+    ensures pushed_after { Serve pushed_after right_backward squared_itself (true ∷ []) (true ∷ []) → ⊥ }
+    ensures unreversed { Serve right_forward unreversed cube (true ∷ false ∷ []) (false ∷ true ∷ []) → ⊥ }
+    ensures assigned { Serve right_forward (λ c. assigned (right_backward c)) square (true ∷ false ∷ []) (false ∷ true ∷ []) → ⊥ }
+    ensures unsigned { Serve right_forward (λ c. unsigned (right_backward c)) difference (true ∷ false ∷ []) (false ∷ true ∷ []) → ⊥ }
+    ensures uncleared { Serve right_forward (λ c. uncleared (right_backward c)) squared_itself (true ∷ []) (true ∷ []) → ⊥ }
+    ensures unpopped { Serve right_forward (λ c. unpopped (right_backward c)) square (true ∷ false ∷ []) (false ∷ true ∷ []) → ⊥ }
+{}
