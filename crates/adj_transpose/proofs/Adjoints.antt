@@ -17,17 +17,20 @@ use Rattle.adj_meaning.proofs.Inversions.{done_same}
 use Rattle.adj_meaning.proofs.Renamed.{run_renamed}
 use Rattle.adj_transpose.specs.Fresh.{has_name}
 use Rattle.adj_transpose.specs.Naming.{Named, name_in, naming, AreApart}
+use Rattle.adj_transpose.specs.Marks.{everything, full}
+use Rattle.adj_transpose.specs.Marked.{names_in}
 use Rattle.adj_transpose.specs.Emit.{adjoint_body}
+use Rattle.adj_transpose.specs.Facts.{full_facts}
 use Rattle.adj_transpose.specs.Program.{locals_among, locals, variables, adjoint_name, adjoint_names, unmarked, with_shadows, adjoint_unit, unit_at, adjoint_program}
 use Rattle.adj_transpose.specs.Straight.{AreScalars, keys, IsStraightUnit}
 use Rattle.adj_transpose.specs.Pairs.{Words, shadows, with_tangents, SamePlain}
 use Rattle.adj_transpose.specs.Adjoint.{Ends, AreAlike, interleaved, every_second, cells_of, with_direction, tangents_of, product, marked_cells, OthersAreZero, IsDirection, Agrees, Transposes, IsAdjoint}
+use Rattle.adj_transpose.specs.Lists.{scene, dual_scene, counted}
 use Rattle.adj_transpose.proofs.Variables.{or_false, or_right}
-use Rattle.adj_transpose.proofs.Steps.{scene}
-use Rattle.adj_transpose.proofs.Sweeps.{dual_scene}
+use Rattle.adj_transpose.proofs.Full.{full_names, full_body, full_closed}
 use Rattle.adj_transpose.proofs.Head.{cleared, AreZero, Reverses, reverses, cleared_zero, is_cleared}
 use Rattle.adj_transpose.proofs.Slots.{AreSingle, AreAsMany, fits_single, single_alike, many_alike, given_store, paired, with_shadows-named, entry_store-named, slots-plain, slots-shadow, direction, dual_store, singles, cells-scalars, shadows-second, tangents-singles}
-use Rattle.adj_transpose.proofs.Products.{keys-apart, pairing-behind, pairing-product, product_comm, others_zero, zero_others, marked-same, given_words, given_direction}
+use Rattle.adj_transpose.proofs.Products.{keys-apart, keys-scalars, pairing-behind, pairing-product, product_comm, others_zero, zero_others, marked-same, given_words, given_direction}
 use Rattle.adj_transpose.proofs.Units.{scalars, kept_in, output_at, BodyDone, body_done, ends, adjoint-scalars, adjoint-separates, adjoint-own}
 
 -- ---- lists of names
@@ -149,26 +152,29 @@ module _ (ps : List Procedure) (u : Procedure) (good : IsStraightUnit u) (vars o
   body = body_done words ps u input good.scalars k used output done
 
   -- what the body of the adjoint does, under its own names
-  reversed : Reverses (calls_of qs 0) (calls_of ps 0) (λ x. scalar) 1 (kept_in a) (kept_in u) (keys (variables u)) u.line u.body other_outputs other_inputs before body.end.store start
+  reversed : Reverses (calls_of qs 0) (calls_of ps 0) (λ x. scalar) 1 (kept_in a) (kept_in u) (keys (variables u)) full_facts (λ name. []) 0 0 1 u.line u.body other_outputs other_inputs before body.end.store start
   reversed =
-      reverses (calls_of ps k) (kept_in u) (calls_of qs 0) (calls_of ps 0) (λ x. scalar) 1 (kept_in a) (kept_in u) (keys (variables u)) (keys-apart (variables u) good.apart)
-      u.line u.body other_outputs other_inputs before start k body.left body.end good.body body.is same_values
+      reverses (calls_of ps k) (kept_in u) (calls_of qs 0) (calls_of ps 0) (λ x. scalar) 1 (kept_in a) (kept_in u) (keys (variables u)) (keys-apart (variables u) good.apart) (keys-scalars (variables u))
+      full_facts (λ name. []) 0 0 1 u.line u.body other_outputs other_inputs before start k body.left body.end good.body (full_closed (keys (variables u)) u.body 0 1 0 good.body) body.is same_values
+
+  leads : Leads (calls_of qs 0) (scalars words) (adjoint_body u.line u.body other_outputs other_inputs) (scene (kept_in a) start []) (scene (kept_in a) reversed.end [])
+  leads = subst (λ c. Leads (calls_of qs 0) (scalars words) c (scene (kept_in a) start []) (scene (kept_in a) reversed.end [])) (full_body 0 u.line u.body other_outputs other_inputs) reversed.runs
 
   -- and so under the names of the program
-  named_run : PulledDone (naming ns) (run (calls_of qs 0) (scalars words) a.body (scene (kept_in a) (input_store words a (interleaved input given)) []) (reversed.runs.cost + 0)) (scene (kept_in a) reversed.end []) 0
+  named_run : PulledDone (naming ns) (run (calls_of qs 0) (scalars words) a.body (scene (kept_in a) (input_store words a (interleaved input given)) []) (leads.cost + 0)) (scene (kept_in a) reversed.end []) 0
   named_run =
-      pulled_done (naming ns) (run (calls_of qs 0) (scalars words) a.body (scene (kept_in a) (input_store words a (interleaved input given)) []) (reversed.runs.cost + 0)) (scene (kept_in a) reversed.end []) 0
+      pulled_done (naming ns) (run (calls_of qs 0) (scalars words) a.body (scene (kept_in a) (input_store words a (interleaved input given)) []) (leads.cost + 0)) (scene (kept_in a) reversed.end []) 0
       (run_renamed (naming ns) separates qs 0 (scalars words) (adjoint_body u.line u.body other_outputs other_inputs)
-      (scene (kept_in a) (input_store words a (interleaved input given)) []) (reversed.runs.cost + 0)
-      ∙ reversed.runs.by 0)
+      (scene (kept_in a) (input_store words a (interleaved input given)) []) (leads.cost + 0)
+      ∙ leads.by 0)
 
   -- its run ends
   ended : Ends words qs a (interleaved input given)
   ended = record {
-    enough = reversed.runs.cost + 0;
+    enough = leads.cost + 0;
     output = output_at words qs a (interleaved input given) are named_run.end;
-    used = reversed.runs.cost + 0;
-    runs = ends words qs a (interleaved input given) are (reversed.runs.cost + 0) named_run.end named_run.is (ap (λ z. z.opened) named_run.same);
+    used = leads.cost + 0;
+    runs = ends words qs a (interleaved input given) are (leads.cost + 0) named_run.end named_run.is (ap (λ z. z.opened) named_run.same);
   }
 
   -- its shadows at the end, at the names of the dummies
@@ -189,18 +195,25 @@ module _ (ps : List Procedure) (u : Procedure) (good : IsStraightUnit u) (vars o
   local_shadow : (y : List ℕ) → has_name y u.dummies ≡ false → start (shadow y) 0 ≡ pos 0
   local_shadow y h = shadow_is y 0 ∙ entry-other words u.dummies (map (from_slot words) given) y 0 h
 
+  -- the names of what isn't dependent, and of what isn't independent
+  abbrev outs : List (List ℕ)
+  outs = names_in everything other_outputs
+
+  abbrev ins : List (List ℕ)
+  ins = names_in everything other_inputs
+
   -- the shadows with those of what isn't dependent set to 0
   abbrev cleared_start : Words
-  cleared_start = shadows (cleared other_outputs start)
+  cleared_start = counted full (cleared outs start)
 
   module _ (d : List (List ℤ)) (dir : IsDirection vars input d) where
     abbrev along : Words
     along = direction u.dummies input d
 
-    dual_leads : Leads (calls_of ps 0) (scalars duals) u.body (dual_scene (kept_in u) before along []) (dual_scene (kept_in u) body.end.store (reversed.change along) [])
+    dual_leads : Leads (calls_of ps 0) (scalars duals) u.body (dual_scene (kept_in u) before along []) (dual_scene (kept_in u) body.end.store (reversed.derivative along) [])
     dual_leads = reversed.dual along
 
-    dual_is : run (calls_of ps 0) (scalars duals) u.body (scene (kept_in u) (input_store duals u (with_direction input d)) []) (dual_leads.cost + 0) ≡ Done (dual_scene (kept_in u) body.end.store (reversed.change along) []) 0
+    dual_is : run (calls_of ps 0) (scalars duals) u.body (scene (kept_in u) (input_store duals u (with_direction input d)) []) (dual_leads.cost + 0) ≡ Done (dual_scene (kept_in u) body.end.store (reversed.derivative along) []) 0
     dual_is =
         let same : input_store duals u (with_direction input d) ≡ with_tangents before along = λ i v j. dual_store u.dummies input d dir.tangents v j i in
         ap (λ (st : Store (ℤ × ℤ)). run (calls_of ps 0) (scalars duals) u.body (scene (kept_in u) st []) (dual_leads.cost + 0)) same ∙ dual_leads.by 0
@@ -209,16 +222,16 @@ module _ (ps : List Procedure) (u : Procedure) (good : IsStraightUnit u) (vars o
     dual_ended : Ends duals ps u (with_direction input d)
     dual_ended = record {
       enough = dual_leads.cost + 0;
-      output = output_at duals ps u (with_direction input d) good.scalars (dual_scene (kept_in u) body.end.store (reversed.change along) []);
+      output = output_at duals ps u (with_direction input d) good.scalars (dual_scene (kept_in u) body.end.store (reversed.derivative along) []);
       used = dual_leads.cost + 0;
-      runs = ends duals ps u (with_direction input d) good.scalars (dual_leads.cost + 0) (dual_scene (kept_in u) body.end.store (reversed.change along) []) dual_is refl;
+      runs = ends duals ps u (with_direction input d) good.scalars (dual_leads.cost + 0) (dual_scene (kept_in u) body.end.store (reversed.derivative along) []) dual_is refl;
     }
 
-    tangents_after : singles (λ x. reversed.change along (x, 0)) u.dummies ≡ tangents_of (cells_of dual_ended.output.slots)
+    tangents_after : singles (λ x. reversed.derivative along (x, 0)) u.dummies ≡ tangents_of (cells_of dual_ended.output.slots)
     unfolding dual_ended
     tangents_after =
-        let after = with_tangents body.end.store (reversed.change along) in
-        sym (ap tangents_of (cells-scalars after u.dummies) ∙ tangents-singles body.end.store (reversed.change along) u.dummies)
+        let after = with_tangents body.end.store (reversed.derivative along) in
+        sym (ap tangents_of (cells-scalars after u.dummies) ∙ tangents-singles body.end.store (reversed.derivative along) u.dummies)
 
     along_is : singles (λ x. along (x, 0)) u.dummies ≡ d
     along_is = given_direction u.dummies input d apart_dummies single.0 single.1 dir.tangents
@@ -238,14 +251,14 @@ module _ (ps : List Procedure) (u : Procedure) (good : IsStraightUnit u) (vars o
         ∙ sym (pairing-behind u.dummies (locals u) (shadows reversed.end) along along_locals)
 
     -- that over the dependents is the sum over all variables at its start
-    over_outputs : pairing (keys (variables u)) cleared_start (reversed.change along) ≡ product outvars (cells_of given) (tangents_of (cells_of dual_ended.output.slots))
+    over_outputs : pairing (keys (variables u)) cleared_start (reversed.derivative along) ≡ product outvars (cells_of given) (tangents_of (cells_of dual_ended.output.slots))
     over_outputs =
-        let after = reversed.change along in
+        let after = reversed.derivative along in
         let words_at : Words → List (List ℤ) = λ f. singles (λ x. f (x, 0)) u.dummies in
-        let unmarked_zero : AreZero other_outputs cleared_start = zero-each other_outputs cleared_start (λ y e. is_cleared other_outputs start y e) in
-        let locals_zero : AreZero (locals u) cleared_start = locals-zero u.dummies u.declarations cleared_start (λ y h. cleared_zero other_outputs start y (local_shadow y h)) in
+        let unmarked_zero : AreZero other_outputs cleared_start = zero-each other_outputs cleared_start (λ y e. is_cleared outs start y (ap (has_name y) (full_names other_outputs) ∙ e)) in
+        let locals_zero : AreZero (locals u) cleared_start = locals-zero u.dummies u.declarations cleared_start (λ y h. cleared_zero outs start y (local_shadow y h)) in
         let uncleared : marked_cells outvars (words_at cleared_start) ≡ marked_cells outvars (words_at (shadows start)) =
-        marked-same u.dummies outvars (λ x. cleared_start (x, 0)) (λ x. start (shadow x) 0) apart_dummies (λ x e h. cleared_other other_outputs start x h) in
+        marked-same u.dummies outvars (λ x. cleared_start (x, 0)) (λ x. start (shadow x) 0) apart_dummies (λ x e h. cleared_other outs start x (ap (has_name x) (full_names other_outputs) ∙ h)) in
         pairing_comm (keys (variables u)) cleared_start after
         ∙ pairing-behind u.dummies (locals u) after cleared_start locals_zero
         ∙ pairing-product u.dummies outvars after cleared_start unmarked_zero
@@ -254,7 +267,7 @@ module _ (ps : List Procedure) (u : Procedure) (good : IsStraightUnit u) (vars o
         ∙ (λ i. product outvars (shadows_before i) (tangents_after i))
 
     agrees : Agrees ps u vars outvars input (cells_of given) (cells_of (every_second ended.output.slots)) d
-    agrees = record { dual = dual_ended; products = over_inputs ∙ reversed.products along along_inputs ∙ over_outputs }
+    agrees = record { dual = dual_ended; products = over_inputs ∙ reversed.products along along_inputs (λ y o n. cc) (λ y o c a n. cc) ∙ over_outputs }
 
   -- the adjoint transposes the derivative of the head along this run
   pub transposes : Transposes ps u vars outvars qs a input given
@@ -263,7 +276,7 @@ module _ (ps : List Procedure) (u : Procedure) (good : IsStraightUnit u) (vars o
     run = ended;
     empties = ap (λ z. z.tape) named_run.same;
     products = agrees;
-    others = subst (OthersAreZero vars) (sym shadows_after) (others_zero u.dummies vars (shadows reversed.end) (zero-each other_inputs (shadows reversed.end) (λ y e. reversed.others y e)));
+    others = subst (OthersAreZero vars) (sym shadows_after) (others_zero u.dummies vars (shadows reversed.end) (zero-each other_inputs (shadows reversed.end) (λ y e. reversed.others y (ap (has_name y) (full_names other_inputs) ∙ e))));
   }
 
 -- ---- the program

@@ -17,8 +17,8 @@ use Rattle.adj_transpose.specs.Naming.{Named, named, name_in, naming, AreApart, 
 use Rattle.adj_transpose.specs.Emit.{works_used, temps_used}
 use Rattle.adj_transpose.specs.Program.{locals, variables, declaration, unit_name, adjoint_name, helpers_from, helpers, made_for, adjoint_names, declared_with_shadows, declared_helpers, adjoint_unit}
 use Rattle.adj_transpose.specs.Straight.{AreScalars}
+use Rattle.adj_transpose.specs.Lists.{Kept, scene}
 use Rattle.adj_transpose.proofs.Naming.{AreMadeInside, naming-apart, unit_names-apart, unit_names-inside, own-name}
-use Rattle.adj_transpose.proofs.Steps.{Kept, scene}
 use Rattle.adj_transpose.proofs.Slots.{setting-scalars}
 
 -- ---- units of scalars

@@ -1,8 +1,12 @@
 -- What the contracts of this crate and of the crates above it say of emission and of adjoints.
 pub mod Fresh
 pub mod Naming
+pub mod Marks
+pub mod Marked
 pub mod Emit
 pub mod Pairs
+pub mod Facts
+pub mod Lists
 pub mod Program
 pub mod Examples
 pub mod Adjoint

@@ -24,7 +24,19 @@ pub fn emitted_examples()
     ensures fourth_power { adjoint_program (fourth ∷ []) 0 (true ∷ []) (true ∷ []) ≡ fourth_adjoint ∷ [] }
 {}
 
-ghost use Rattle.adj_transpose.specs.Theorem.{EmittedIsAdjoint};
+ghost use Rattle.adj_transpose.specs.Theorem.{MarkedSweepsTranspose, FullForward, FullBackward, FullClosed, EmittedIsAdjoint};
+
+/// The sweeps of a list of assignments to scalars transpose its derivative, with all marks that are closed on it.
+pub fn marked_sweeps_law()
+    ensures { MarkedSweepsTranspose }
+{}
+
+/// Where everything is marked, the marks are closed and the sweeps are those of the emitted program.
+pub fn full_marks_law()
+    ensures forward { FullForward }
+    ensures backward { FullBackward }
+    ensures closed { FullClosed }
+{}
 
 /// The emitted program is an adjoint of each source whose head is a list of assignments to scalars.
 pub fn adjoint_law()
