@@ -19,6 +19,8 @@ pub mod Head
 pub mod Slots
 pub mod Products
 pub mod Units
+pub mod MarkedAdjoints
 pub mod Adjoints
+mod MarkedExamples
 mod Faulty
 mod Trials

@@ -17,20 +17,20 @@ abbrev pub set_to : List ℕ → Term → Act
 set_to t e = assign (named t) none e
 
 -- t = t + e
-abbrev grow : List ℕ → List ℕ → Act
+abbrev pub grow : List ℕ → List ℕ → Act
 grow t e = set_to t (bin plus (use_of t) (use_of e))
 
 -- t = a * b
 abbrev pub multiply : List ℕ → List ℕ → List ℕ → Act
 multiply t a b = set_to t (bin times (use_of a) (use_of b))
 
-abbrev push : List ℕ → Act
+abbrev pub push : List ℕ → Act
 push x = runtime (push_word (named x) none)
 
-abbrev pop : List ℕ → Act
+abbrev pub pop : List ℕ → Act
 pop x = runtime (pop_word (named x) none)
 
-abbrev zero_of : List ℕ → Act
+abbrev pub zero_of : List ℕ → Act
 zero_of x = set_to x (lit (pos 0))
 
 -- SUBROUTINE P(X,Y), INTEGER*8 X,Y, Y=X*X, END

@@ -10,6 +10,9 @@ pub mod Lists
 pub mod Program
 pub mod Examples
 pub mod Adjoint
+pub mod MarkedProgram
+pub mod MarkedAdjoint
+pub mod MarkedExamples
 pub mod Straight
 pub mod Theorem
 pub mod Faulty

@@ -24,18 +24,37 @@ pub fn emitted_examples()
     ensures fourth_power { adjoint_program (fourth ∷ []) 0 (true ∷ []) (true ∷ []) ≡ fourth_adjoint ∷ [] }
 {}
 
-ghost use Rattle.adj_transpose.specs.Theorem.{MarkedSweepsTranspose, FullForward, FullBackward, FullClosed, EmittedIsAdjoint};
+ghost use Rattle.adj_transpose.specs.Theorem.{MarkedSweepsTranspose, MarkedIsAdjoint, FullForward, FullBackward, FullProgram, FullAdjoint, FullClosed, EmittedIsAdjoint};
 
 /// The sweeps of a list of assignments to scalars transpose its derivative, with all marks that are closed on it.
 pub fn marked_sweeps_law()
     ensures { MarkedSweepsTranspose }
 {}
 
-/// Where everything is marked, the marks are closed and the sweeps are those of the emitted program.
+/// The program that is emitted by closed marks is an adjoint of each source whose head is straight code over scalars, if the marks suit the head.
+pub fn marked_adjoint_law()
+    ensures { MarkedIsAdjoint }
+{}
+
+/// Where everything is marked, the marks are closed, and sweeps, program and adjoints are those without marks.
 pub fn full_marks_law()
+    ensures closed { FullClosed }
     ensures forward { FullForward }
     ensures backward { FullBackward }
-    ensures closed { FullClosed }
+    ensures program { FullProgram }
+    ensures adjoint { FullAdjoint }
+{}
+
+ghost use Rattle.adj_transpose.specs.Facts.{AreClosed};
+ghost use Rattle.adj_transpose.specs.MarkedProgram.{marked_program};
+ghost use Rattle.adj_transpose.specs.MarkedExamples.{square_facts, lean_square, fourth_facts, lean_fourth};
+
+/// Marks that spare values and assignments: they are closed, and give these adjoints.
+pub fn marked_examples()
+    ensures square_closed { AreClosed square_facts 3 4 0 square.body }
+    ensures square { marked_program square_facts.marks 0 (square ∷ []) 0 (true ∷ false ∷ []) (false ∷ true ∷ []) ≡ lean_square ∷ [] }
+    ensures fourth_power_closed { AreClosed fourth_facts 6 7 0 fourth.body }
+    ensures fourth_power { marked_program fourth_facts.marks 0 (fourth ∷ []) 0 (true ∷ []) (true ∷ []) ≡ lean_fourth ∷ [] }
 {}
 
 /// The emitted program is an adjoint of each source whose head is a list of assignments to scalars.
