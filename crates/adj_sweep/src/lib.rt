@@ -11,5 +11,6 @@ pub mod head;
 pub mod names;
 pub mod naming;
 pub mod product;
+pub mod sizes;
 pub mod step;
 pub mod unit;
