@@ -2,7 +2,7 @@
 
 ghost use Rattle.std.specs.Prelude.{◌≡◌, ◌+◌, ◌&&◌, ◌||◌, IfOk};
 ghost use Rattle.adj_tree.specs.View.{term_of, code_of};
-ghost use Rattle.adj_transpose.specs.Emit.{is_active, is_compound, count_of, temps_in, works_in, works_used, temps_used};
+ghost use Rattle.adj_transpose.specs.Emit.{is_active, is_compound, has_own, count_of, temps_in, works_in, works_used, temps_used};
 
 use adj_tree::{Act, Expr, Memory, Op, Stmts};
 
@@ -40,6 +40,20 @@ pub fn is_compound(e: &Expr) -> bool
         Expr::Lit(_) | Expr::Var(_) | Expr::Elem(_, _) => false,
         Expr::Neg(_) | Expr::Bin(_, _, _) | Expr::Pow(_, _) | Expr::Abs(_) => true,
     }
+}
+
+/// Whether the factor a of a product with b has a temporary of its own.
+pub fn has_own(a: &Expr, b: &Expr) -> bool
+    ensures own { result ≡ has_own (term_of a.now) (term_of b.now) }
+{
+    is_compound(a) && is_active(b)
+}
+
+/// The same where it is known whether b is active.
+pub fn has_own_beside(a: &Expr, active: bool) -> bool
+    ensures own { result ≡ (is_compound (term_of a.now) && active) }
+{
+    is_compound(a) && active
 }
 
 /// 1 for an operand that has a temporary of its own, else 0.
