@@ -1,0 +1,4 @@
+pub mod Judged
+pub mod Reading
+pub mod Front
+pub mod View
