@@ -1,3 +1,4 @@
+pub mod ConditionMachine
 pub mod Judged
 pub mod Reading
 pub mod Front
