@@ -29,6 +29,53 @@ abbrev pub opened : {C : Type 0} → ℕ → List (Waiting C) → List (Waiting 
 opened zero frames = frames
 opened (suc n) frames = Opened ∷ opened n frames
 
+some_same : {A : Type 0} (x y : A) → Some x ≡ Some y → x ≡ y
+some_same x y h = cc
+
+none_some : {A : Type 0} (x : A) → None ≡ Some x → ⊥
+none_some x h = cc
+
+-- where a reading of an expression stops
+stops_at : {A : Type 0} (b : Bool) (w : Word) (ws : List Word) (found : Option A) (p : A × List Word) → cond b (option_map (λ x. (x, w ∷ ws)) found) None ≡ Some p → (found ≡ Some p.0) × (p.1 ≡ w ∷ ws)
+stops_at true w ws (Some x) p h = (ap (λ q. Some q.0) (some_same (x, w ∷ ws) p h), sym (ap (λ q. q.1) (some_same (x, w ∷ ws) p h)))
+stops_at true w ws None p h = absurd (none_some p h)
+stops_at false w ws found p h = absurd (none_some p h)
+
+ends_at : {A : Type 0} (found : Option A) (p : A × List Word) → option_map (λ x. (x, [])) found ≡ Some p → (found ≡ Some p.0) × (p.1 ≡ [])
+ends_at (Some x) p h = (ap (λ q. Some q.0) (some_same (x, []) p h), sym (ap (λ q. q.1) (some_same (x, []) p h)))
+ends_at None p h = absurd (none_some p h)
+
+head_same : (v w : Word) (vs ws : List Word) → v ∷ vs ≡ w ∷ ws → w ≡ v
+head_same v w vs ws h = cc
+
+empty_cons : {A : Type 0} (w : Word) (ws : List Word) → w ∷ ws ≡ [] → A
+empty_cons w ws h = absurd cc
+
+-- where a choice is none, its first part is
+pub not_taken : {A B : Type 0} (taken : Option A) (f : A → B) (instead : Option B) → chosen taken (λ t. Some (f t)) instead ≡ None → taken ≡ None
+not_taken None f instead h = refl
+not_taken (Some t) f instead h = absurd cc
+
+relation_stops : {k : TokenKind} {r : Rel} → Relates k r → is_stop (Mark k) ≡ true
+relation_stops less = refl
+relation_stops most = refl
+relation_stops same = refl
+relation_stops other = refl
+relation_stops greater = refl
+relation_stops least = refl
+
+-- what ends a condition ends an expression
+pub stops-end : (rest : List Word) → Ends rest → Stops rest
+stops-end [] end = tt
+stops-end (Mark Right ∷ ws) end = refl
+stops-end (Mark Comma ∷ ws) end = refl
+stops-end (Mark Equals ∷ ws) end = refl
+stops-end (Mark Not ∷ ws) end = refl
+stops-end (Mark Call ∷ ws) end = refl
+stops-end (Named text ∷ ws) end = absurd cc
+stops-end (Digits digits ∷ ws) end = absurd cc
+stops-end (Mark _ ∷ ws) end = absurd cc
+
 module _ {X C : Type 0} (alg : TestAlgebra X C) where
   pub deny-start : {frames : List (Waiting C)} (c : C) → IsItemStart frames → deny alg frames c ≡ (frames, c)
   deny-start c (item_at_conjunction (conjunction_at_whole whole_bottom)) = refl
@@ -68,12 +115,6 @@ module _ {X C : Type 0} (alg : TestAlgebra X C) where
   abbrev Follows : List (Waiting C) → Option (TestState X C) → State X → Type 0
   Follows frames found e = (t : TestState X C) × (found ≡ Some t) × Stands frames t e
 
-  some_same : {A : Type 0} (x y : A) → Some x ≡ Some y → x ≡ y
-  some_same x y h = cc
-
-  none_some : {A : Type 0} (x : A) → None ≡ Some x → ⊥
-  none_some x h = cc
-
   first_taken : (frames : List (Waiting C)) (n : ℕ) (e t : State X) (w : Word) (taken : Option (State X)) (found : Option X) → chosen taken (λ t. Some (above n t)) (closed w found n) ≡ Some t → Follows frames (chosen taken (λ t. Some (opened n frames, First t)) (option_and_then (behind_left (opened n frames) w) found)) t
   first_taken frames n e t w (Some u) found h = ((opened n frames, First u), refl, subst (Stands frames (opened n frames, First u)) (some_same (above n u) t h) (stands_first n u))
   first_taken frames (suc n) e t (Mark Right) None (Some x) h = ((opened n frames, First (having [] x)), refl, subst (Stands frames (opened n frames, First (having [] x))) (some_same (having (groups n) x) t h) (stands_first n (having [] x)))
@@ -101,26 +142,6 @@ module _ {X C : Type 0} (alg : TestAlgebra X C) where
   follows {frames = frames} t w (stands_fresh n) h = fresh_follows frames n t w h
   follows {frames = frames} t w (stands_first n e) h = first_taken frames n e t w (step alg.terms e w) (finish alg.terms e) (sym (step-above alg.terms e w n) ∙ h)
 
-  -- where a reading of an expression stops
-  stops_at : {A : Type 0} (b : Bool) (w : Word) (ws : List Word) (found : Option A) (p : A × List Word) → cond b (option_map (λ x. (x, w ∷ ws)) found) None ≡ Some p → (found ≡ Some p.0) × (p.1 ≡ w ∷ ws)
-  stops_at true w ws (Some x) p h = (ap (λ q. Some q.0) (some_same (x, w ∷ ws) p h), sym (ap (λ q. q.1) (some_same (x, w ∷ ws) p h)))
-  stops_at true w ws None p h = absurd (none_some p h)
-  stops_at false w ws found p h = absurd (none_some p h)
-
-  ends_at : {A : Type 0} (found : Option A) (p : A × List Word) → option_map (λ x. (x, [])) found ≡ Some p → (found ≡ Some p.0) × (p.1 ≡ [])
-  ends_at (Some x) p h = (ap (λ q. Some q.0) (some_same (x, []) p h), sym (ap (λ q. q.1) (some_same (x, []) p h)))
-  ends_at None p h = absurd (none_some p h)
-
-  head_same : (v w : Word) (vs ws : List Word) → v ∷ vs ≡ w ∷ ws → w ≡ v
-  head_same v w vs ws h = cc
-
-  empty_cons : {A : Type 0} (w : Word) (ws : List Word) → w ∷ ws ≡ [] → A
-  empty_cons w ws h = absurd cc
-
-  not_taken : {A B : Type 0} (taken : Option A) (f : A → B) (instead : Option B) → chosen taken (λ t. Some (f t)) instead ≡ None → taken ≡ None
-  not_taken None f instead h = refl
-  not_taken (Some t) f instead h = absurd cc
-
   behind_left-relates : {k : TokenKind} {r : Rel} → Relates k r → (frames : List (Waiting C)) (x : X) → behind_left {C = C} frames (Mark k) x ≡ Some (frames, Second r x (wanting []))
   behind_left-relates less frames x = refl
   behind_left-relates most frames x = refl
@@ -128,14 +149,6 @@ module _ {X C : Type 0} (alg : TestAlgebra X C) where
   behind_left-relates other frames x = refl
   behind_left-relates greater frames x = refl
   behind_left-relates least frames x = refl
-
-  relation_stops : {k : TokenKind} {r : Rel} → Relates k r → is_stop (Mark k) ≡ true
-  relation_stops less = refl
-  relation_stops most = refl
-  relation_stops same = refl
-  relation_stops other = refl
-  relation_stops greater = refl
-  relation_stops least = refl
 
   left_ends : {frames : List (Waiting C)} {s : TestState X C} {e : State X} {k : TokenKind} {r : Rel} (x : X) → Stands frames s e → Relates k r → step alg.terms e (Mark k) ≡ None → finish alg.terms e ≡ Some x → advance alg s (Mark k) ≡ Some (frames, Second r x (wanting []))
   left_ends x (stands_fresh n) rel stays h = absurd (none_some x h)
@@ -226,17 +239,6 @@ module _ {X C : Type 0} (alg : TestAlgebra X C) where
   ends inner x c (Named text ∷ ws) h end = absurd cc
   ends inner x c (Digits digits ∷ ws) h end = absurd cc
   ends inner x c (Mark _ ∷ ws) h end = absurd cc
-
-  pub stops-end : (rest : List Word) → Ends rest → Stops rest
-  stops-end [] end = tt
-  stops-end (Mark Right ∷ ws) end = refl
-  stops-end (Mark Comma ∷ ws) end = refl
-  stops-end (Mark Equals ∷ ws) end = refl
-  stops-end (Mark Not ∷ ws) end = refl
-  stops-end (Mark Call ∷ ws) end = refl
-  stops-end (Named text ∷ ws) end = absurd cc
-  stops-end (Digits digits ∷ ws) end = absurd cc
-  stops-end (Mark _ ∷ ws) end = absurd cc
 
   -- what is derived at the front is read
   pub reads_test : (ts rest : List Word) (c : Condition) → DerivesCondition Whole ts rest c → Ends rest → read_test alg (beginning []) ts ≡ Some (test_value alg c, rest)
