@@ -1,14 +1,13 @@
 -- ConditionComplete: what the grammar derives as a condition at the front of some words is what the machine reads there.
-use Rattle.std.proofs.Common.{◌≡◌, ℕ, zero, suc, List, [], ◌∷◌, ◌++◌, Bool, true, false, cond, Option, Some, None, option_map, option_and_then, refl, sym, ap, subst, ◌∙◌}
+use Rattle.std.proofs.Common.{◌≡◌, ℕ, zero, suc, List, [], ◌∷◌, Bool, true, false, cond, Option, Some, None, option_map, option_and_then, refl, sym, ap, subst, ◌∙◌}
 use Rattle.adj_tree.specs.Code.{Rel}
 use Rattle.adj_text.specs.declared.token.TokenKind.{TokenKind}
-use Rattle.adj_text.specs.declared.token.TokenKind.TheVariants.{Left, Right, Comma, Equals, Lt, Le, Eq, Ne, Gt, Ge, Not, And, Or, Call}
-use Rattle.adj_text.specs.Grammar.{Syntax, Sum, Derives}
+use Rattle.adj_text.specs.declared.token.TokenKind.TheVariants.{Left, Right, Comma, Equals, Not, And, Or, Call}
 use Rattle.adj_text.specs.Condition.{Condition, Relates, less, most, same, other, greater, least, Part, Whole, Conjunction, Item, Plain, DerivesCondition, comparison, group, plain, not, item, and, whole, or}
-use Rattle.adj_text.specs.Machine.{Frame, Group, Algebra, value, Nothing, State, wanting, having, step, finish, is_stop, Stops, chosen, stopped, read}
+use Rattle.adj_text.specs.Machine.{value, State, wanting, having, step, finish, is_stop, Stops, chosen, stopped, read}
 use Rattle.adj_text.specs.Word.{Word, Named, Digits, Mark}
 use Rattle.adj_text.proofs.Complete.{reads}
-use Rattle.adj_expression.specs.ConditionMachine.{Waiting, Opened, Denied, Anded, Ored, TestAlgebra, test_value, Fresh, First, Second, Made, TestState, beginning, made, deny, conjoin, disjoin, close_all, await_and, await_or, end_condition, end_operand, behind_condition, relation_of, behind_left, begin_not, compare_with, advance, alone, conclude, is_end, Ends, ended, read_test}
+use Rattle.adj_expression.specs.ConditionMachine.{Waiting, Opened, Denied, Anded, Ored, TestAlgebra, test_value, First, Second, Made, TestState, beginning, made, deny, conjoin, disjoin, close_all, await_and, await_or, end_condition, behind_condition, behind_left, begin_not, compare_with, advance, alone, conclude, Ends, ended, read_test}
 use Rattle.adj_expression.proofs.Split.{groups, above, closed, step-above, finish-above}
 
 -- no `.NOT.`, no `.AND.`, no `.OR.` waits on top, from the last on
@@ -29,10 +28,10 @@ abbrev pub opened : {C : Type 0} → ℕ → List (Waiting C) → List (Waiting 
 opened zero frames = frames
 opened (suc n) frames = Opened ∷ opened n frames
 
-some_same : {A : Type 0} (x y : A) → Some x ≡ Some y → x ≡ y
+pub some_same : {A : Type 0} (x y : A) → Some x ≡ Some y → x ≡ y
 some_same x y h = cc
 
-none_some : {A : Type 0} (x : A) → None ≡ Some x → ⊥
+pub none_some : {A : Type 0} (x : A) → None ≡ Some x → ⊥
 none_some x h = cc
 
 -- where a reading of an expression stops
@@ -56,7 +55,7 @@ pub not_taken : {A B : Type 0} (taken : Option A) (f : A → B) (instead : Optio
 not_taken None f instead h = refl
 not_taken (Some t) f instead h = absurd cc
 
-relation_stops : {k : TokenKind} {r : Rel} → Relates k r → is_stop (Mark k) ≡ true
+pub relation_stops : {k : TokenKind} {r : Rel} → Relates k r → is_stop (Mark k) ≡ true
 relation_stops less = refl
 relation_stops most = refl
 relation_stops same = refl

@@ -1,15 +1,15 @@
 -- ConditionSound: what the machine reads as a condition at the front of some words is derived there.
-use Rattle.std.proofs.Common.{◌≡◌, ℕ, zero, suc, List, [], ◌∷◌, ◌++◌, Bool, true, false, cond, Option, Some, None, option_map, option_and_then, refl, sym, ap, subst, ◌∙◌}
+use Rattle.std.proofs.Common.{◌≡◌, List, [], ◌∷◌, Bool, true, false, cond, Option, Some, None, option_map, option_and_then, refl, ap, subst, ◌∙◌}
 use Rattle.std.specs.Prelude.{IfSome}
 use Rattle.adj_tree.specs.Code.{Rel}
 use Rattle.adj_text.specs.declared.token.TokenKind.{TokenKind}
-use Rattle.adj_text.specs.declared.token.TokenKind.TheVariants.{Left, Right, Comma, Equals, Lt, Le, Eq, Ne, Gt, Ge, Not, And, Or, Call}
+use Rattle.adj_text.specs.declared.token.TokenKind.TheVariants.{Left, Right, Lt, Le, Eq, Ne, Gt, Ge, Not, And, Or}
 use Rattle.adj_text.specs.Grammar.{Syntax, Sum, Derives}
 use Rattle.adj_text.specs.Condition.{Condition, compared, denied, both, either, Relates, less, most, same, other, greater, least, Part, Whole, Conjunction, Item, Plain, DerivesCondition, comparison, group, plain, not, item, and, whole, or}
-use Rattle.adj_text.specs.Machine.{Algebra, value, State, wanting, having, step, finish, is_stop, Stops, chosen, stopped, read}
+use Rattle.adj_text.specs.Machine.{Algebra, value, State, wanting, having, step, finish, Stops, chosen, stopped, read}
 use Rattle.adj_text.specs.Word.{Word, Named, Digits, Mark}
 use Rattle.adj_text.proofs.Sound.{is_read}
-use Rattle.adj_expression.specs.ConditionMachine.{Waiting, Opened, Denied, Anded, Ored, TestAlgebra, test_value, Fresh, First, Second, Made, TestState, beginning, made, deny, conjoin, disjoin, close_all, end_condition, end_operand, behind_condition, behind_left, begin_not, begin_item, compare_with, advance, alone, conclude, is_end, Ends, ended, read_test}
+use Rattle.adj_expression.specs.ConditionMachine.{Waiting, Opened, Denied, Anded, Ored, TestAlgebra, test_value, Fresh, First, Second, Made, TestState, beginning, deny, conjoin, disjoin, close_all, end_condition, end_operand, behind_condition, behind_left, begin_not, begin_item, compare_with, advance, alone, conclude, is_end, Ends, ended, read_test}
 use Rattle.adj_expression.proofs.Split.{above, closed, step-above}
 use Rattle.adj_expression.proofs.ConditionComplete.{IsWholeStart, whole_bottom, whole_in_group, IsConjunctionStart, conjunction_at_whole, conjunction_behind_or, IsItemStart, item_at_conjunction, item_behind_and, not_taken, stops-end}
 

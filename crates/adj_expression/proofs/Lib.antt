@@ -1,3 +1,4 @@
 pub mod Split
 pub mod ConditionComplete
 pub mod ConditionSound
+pub mod ConditionUnique

@@ -3,7 +3,7 @@ use Rattle.std.proofs.Common.{◌≡◌, ℕ, zero, suc, List, [], ◌∷◌, �
 use Rattle.adj_tree.specs.Code.{Op, plus, minus, times, quot}
 use Rattle.adj_text.specs.declared.token.TokenKind.TheVariants.{Power, Star, Slash, Plus, Minus, Left, Right, Comma}
 use Rattle.adj_text.specs.Grammar.{takes}
-use Rattle.adj_text.specs.Machine.{Frame, Group, Called, Signed, Added, Multiplied, Base, Algebra, with_sign, close_product, close_sum, Seen, Nothing, Callee, Operand, State, having, wanting, is_sum_start, begin_sign, begin, end_group, next_argument, add, multiply, go_on, behind_name, step, whole, finish, chosen}
+use Rattle.adj_text.specs.Machine.{Frame, Group, Called, Signed, Added, Multiplied, Base, Algebra, with_sign, close_product, close_sum, Nothing, Callee, Operand, State, having, begin_sign, begin, end_group, next_argument, add, multiply, go_on, behind_name, step, whole, finish, chosen}
 use Rattle.adj_text.specs.Word.{Word, Named, Digits, Mark}
 
 -- so many open parentheses

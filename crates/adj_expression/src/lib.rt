@@ -8,7 +8,9 @@
 mod conditions;
 mod expressions;
 mod flaw;
+mod laws;
 
 pub use conditions::condition;
 pub use expressions::expression;
 pub use flaw::Flaw;
+pub use laws::conditions_are_read;
