@@ -6,8 +6,12 @@
 #![tactic(auto)]
 
 mod conditions;
+mod constant;
 mod expressions;
 mod flaw;
+mod frame;
+mod machine;
+mod operand;
 
 pub use conditions::condition;
 pub use expressions::expression;
