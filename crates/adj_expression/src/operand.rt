@@ -5,6 +5,7 @@ ghost use Rattle.adj_tree.specs.View.{term_of, op_of};
 ghost use Rattle.adj_text.specs.Char.{number_of};
 ghost use Rattle.adj_text.specs.Grammar.{in_words, as_exponent, takes};
 ghost use Rattle.adj_expression.specs.Flaws.{as_power};
+ghost use Rattle.adj_expression.specs.View.{seen};
 
 use crate::constant;
 use crate::flaw::{Flaw, both};
@@ -23,7 +24,7 @@ pub(crate) struct Operand {
 
 // The exponent that an expression is. Of its own flaws only a literal that is too large counts.
 fn exponent(found: Result<Expr, Flaw>, constant: Option<i64>) -> Result<u32, Flaw>
-    ensures { result ≡ as_power found (option_and_then as_exponent constant) }
+    ensures { result ≡ as_power (seen term_of found) (option_and_then as_exponent constant) }
 {
     if let Err(Flaw::Large) = found {
         return Err(Flaw::Large);
@@ -36,7 +37,6 @@ fn exponent(found: Result<Expr, Flaw>, constant: Option<i64>) -> Result<u32, Fla
 
 impl Operand {
     ghost use Rattle.adj_expression.specs.Partial.{literal, scalar, opposite, combined, powered, application, bounded, algebra, operand_of};
-    ghost use Rattle.adj_expression.specs.View.{seen};
     ghost use Rattle.adj_text.specs.Machine.{with_sign};
 
     fn bounded(found: Result<Expr, Flaw>, depth: u32, constant: Option<i64>, limit: u32) -> Operand
@@ -120,6 +120,23 @@ impl Operand {
         };
         let found = match both(self.found, right.found) {
             Ok((a, b)) => Ok(Expr::Bin(op, Box::new(alloc, a)?, Box::new(alloc, b)?)),
+            Err(flaw) => Err(flaw),
+        };
+        Ok(Operand::bounded(found, depth, constant, limit))
+    }
+
+    /// The power with this exponent.
+    pub fn powered(self, alloc: Global, right: Operand, limit: u32) -> Result<Operand, Memory>
+        requires { limit < 1000 }
+        ensures { IfOk result (λ x. operand_of x ≡ powered limit (operand_of self) (operand_of right)) }
+    {
+        let depth = self.depth + 1;
+        let constant = match (self.constant, right.constant) {
+            (Some(a), Some(b)) => constant::power(a, b),
+            _ => None,
+        };
+        let found = match both(self.found, exponent(right.found, right.constant)) {
+            Ok((a, k)) => Ok(Expr::Pow(Box::new(alloc, a)?, k)),
             Err(flaw) => Err(flaw),
         };
         Ok(Operand::bounded(found, depth, constant, limit))
