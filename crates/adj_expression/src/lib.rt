@@ -5,11 +5,13 @@
 //! The crate stands on the trees and on what texts mean. The layer above reads statements with it.
 #![tactic(auto)]
 
+mod application;
 mod conditions;
 mod constant;
 mod expressions;
 mod flaw;
 mod frame;
+mod intrinsic;
 mod machine;
 mod operand;
 

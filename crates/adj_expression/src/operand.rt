@@ -3,13 +3,14 @@
 ghost use Rattle.std.specs.Prelude.{◌≡◌, ◌<◌, ◌≤◌, ◌+◌, ◌∷◌, [], ◌++◌, ℤ, map, length, true, pos, option_and_then, IfOk};
 ghost use Rattle.adj_tree.specs.View.{term_of, op_of};
 ghost use Rattle.adj_text.specs.Char.{number_of};
-ghost use Rattle.adj_text.specs.Grammar.{in_words, as_exponent, takes};
+ghost use Rattle.adj_text.specs.Grammar.{in_words, as_exponent};
 ghost use Rattle.adj_expression.specs.Flaws.{as_power};
 ghost use Rattle.adj_expression.specs.View.{seen};
 
+use crate::application::{one_argument, two_arguments};
 use crate::constant;
 use crate::flaw::{Flaw, both};
-use adj_tree::{Expr, Exprs, Memory, Name, Op};
+use adj_tree::{Expr, Memory, Name, Op};
 use std::alloc::Global;
 
 /// An expression: its tree or what is wrong with it, its depth or 1 more than the limit where it is deeper, and its value
@@ -140,6 +141,56 @@ impl Operand {
             Err(flaw) => Err(flaw),
         };
         Ok(Operand::bounded(found, depth, constant, limit))
+    }
+
+    // A name with one argument.
+    fn with_one(name: Name, alloc: Global, argument: Operand, limit: u32) -> Result<Operand, Memory>
+        requires { limit < 1000 }
+        ensures { IfOk result (λ x. operand_of x ≡ application limit name (operand_of argument ∷ [])) }
+    {
+        let Operand { found, depth, .. } = argument;
+        let found = match found {
+            Ok(a) => Ok(one_argument(name, alloc, a)?),
+            Err(flaw) => Err(flaw),
+        };
+        Ok(Operand::bounded(found, depth + 1, None, limit))
+    }
+
+    // A name with two arguments.
+    fn with_two(
+        name: Name,
+        alloc: Global,
+        first: Operand,
+        second: Operand,
+        limit: u32,
+    ) -> Result<Operand, Memory>
+        requires { limit < 1000 }
+        ensures { IfOk result (λ x. operand_of x ≡ application limit name (operand_of first ∷ operand_of second ∷ [])) }
+    {
+        let depth = first.depth.max(second.depth) + 1;
+        let found = match both(first.found, second.found) {
+            Ok((a, b)) => Ok(two_arguments(name, alloc, a, b)?),
+            Err(flaw) => Err(flaw),
+        };
+        Ok(Operand::bounded(found, depth, None, limit))
+    }
+
+    /// A name with its arguments, of which there are as many as it takes.
+    pub fn application(
+        name: Name,
+        alloc: Global,
+        mut before: Vec<Operand>,
+        last: Operand,
+        limit: u32,
+    ) -> Result<Operand, Memory>
+        requires limit { limit < 1000 }
+        requires number { length before.items < 2 }
+        ensures { IfOk result (λ x. operand_of x ≡ application limit name (map operand_of before.items ++ operand_of last ∷ [])) }
+    {
+        match before.pop() {
+            None => Operand::with_one(name, alloc, last, limit),
+            Some(first) => Operand::with_two(name, alloc, first, last, limit),
+        }
     }
 
     /// Behind a sign.
