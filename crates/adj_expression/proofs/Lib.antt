@@ -2,3 +2,6 @@ pub mod Split
 pub mod ConditionComplete
 pub mod ConditionSound
 pub mod ConditionUnique
+pub mod StackLemmas
+pub mod Powers
+pub mod Names

@@ -3,7 +3,6 @@
 ghost use Rattle.std.specs.Prelude.{◌≡◌, ◌<◌, IfOk, IfSome, option_map};
 ghost use Rattle.adj_text.specs.Word.{words_of};
 ghost use Rattle.adj_expression.specs.Front.{AreSlices, front_expression};
-
 ghost use Rattle.adj_tree.specs.View.{term_of};
 ghost use Rattle.adj_expression.specs.View.{seen};
 

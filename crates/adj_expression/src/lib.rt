@@ -5,12 +5,13 @@
 //! The crate stands on the trees and on what texts mean. The layer above reads statements with it.
 #![tactic(auto)]
 
+mod application;
 mod conditions;
+mod constant;
 mod expressions;
 mod flaw;
+mod frame;
+mod intrinsic;
 mod laws;
-
-pub use conditions::condition;
-pub use expressions::expression;
-pub use flaw::Flaw;
-pub use laws::conditions_are_read;
+mod machine;
+mod operand;
