@@ -1,4 +1,5 @@
 pub mod Split
+pub mod WaitLemmas
 pub mod ConditionComplete
 pub mod ConditionSound
 pub mod ConditionUnique

@@ -1,4 +1,6 @@
 pub mod ConditionMachine
+pub mod PartialCondition
+pub mod Waits
 pub mod Judged
 pub mod Reading
 pub mod Front
