@@ -3,7 +3,11 @@ use Rattle.std.proofs.Common.{◌≡◌, ℕ, List, [], ◌∷◌, ◌++◌, ◌
 use Rattle.std.proofs.lemmas.List.{map_push, reverse-append, append-nil, nil_from_length, take_all, take_more}
 use Rattle.std.proofs.lemmas.Option.{slice_get_within, get_or_from_slice_get, slice_get-get_or}
 use Rattle.std.specs.Prelude.{map, reverse, slice_get}
-use Rattle.adj_expression.specs.Waits.{stacked}
+use Rattle.adj_expression.specs.declared.waiting.Waiting.{Waiting}
+use Rattle.adj_expression.specs.ConditionMachine.{alone}
+use Rattle.adj_expression.specs.PartialCondition.{PartialTest}
+use Rattle.adj_expression.specs.Waits.{stacked, waits_of}
+use Rattle.adj_expression.proofs.StackLemmas.{stack_of-nil}
 
 pub stacked-push : {A B : Type 0} (view : A → B) (items : List A) (item : A) → stacked view (items ++ item ∷ []) ≡ view item ∷ stacked view items
 unfolding stacked
@@ -34,4 +38,16 @@ stacked-no_last view (item ∷ items) e =
     let same = ap (slice_get (item ∷ items)) k in
     absurd cc
 
-pub ruleset waits = (stacked-push, stacked-pop, stacked-nil, stacked-last, stacked-no_last, append-nil)
+-- a condition is alone where nothing waits
+pub alone-nil : (items : List Waiting) (c : PartialTest) → length items ≡ 0 → alone (waits_of items, c) ≡ Some c
+alone-nil items c n = ap (λ waits. alone (waits, c)) (stacked-nil _ items n)
+
+pub alone-left_over : (items : List Waiting) (c : PartialTest) → 0 < length items → alone (waits_of items, c) ≡ None
+alone-left_over [] c some = absurd (omega arith)
+alone-left_over (item ∷ items) c some =
+    let n = length (item ∷ items) - 1 in
+    let within : n < length (item ∷ items) = omega arith in
+    let found = slice_get-get_or (item ∷ items) n item within in
+    ap (λ waits. alone (waits, c)) (stacked-last _ (item ∷ items) (get_or (item ∷ items) n item) found)
+
+pub ruleset waits = (stacked-push, stacked-pop, stacked-nil, stacked-last, stacked-no_last, append-nil, stack_of-nil, alone-nil, alone-left_over)

@@ -4,11 +4,11 @@
 ghost use Rattle.std.specs.Prelude.{◌≡◌, ◌<◌, None, IfOk, option_map};
 ghost use Rattle.adj_tree.specs.View.{rel_of};
 ghost use Rattle.adj_text.specs.Word.{word, Mark};
-ghost use Rattle.adj_expression.specs.ConditionMachine.{First, Second, behind_condition, end_condition, end_operand, relation_of, behind_left, begin_not, begin_item, compare_with, alone, close_all, advance, conclude};
+ghost use Rattle.adj_expression.specs.ConditionMachine.{First, Second, Made, beginning, end_condition, end_operand, relation_of, behind_left, begin_not, alone, conclude};
 ghost use Rattle.adj_expression.specs.Partial.{operand_of};
 ghost use Rattle.adj_expression.specs.PartialCondition.{test_algebra, proposition_of};
 ghost use Rattle.adj_expression.specs.Stack.{stack_of, seen_of};
-ghost use Rattle.adj_expression.specs.Waits.{waits_of, inside_of, Turns};
+ghost use Rattle.adj_expression.specs.Waits.{waits_of, inside_of, Turns, Advances};
 
 use crate::frame::{Frame, Seen};
 use crate::machine::{Stepped, finish, step};
@@ -65,7 +65,7 @@ fn behind_condition(
     limit: u32,
 ) -> Result<Advanced, Memory>
     requires { limit < 1000 }
-    ensures { IfOk result (λ next. Turns (behind_condition (test_algebra limit) (waits_of waits.old.items, proposition_of made) (Mark kind)) (alone (close_all (test_algebra limit) (waits_of waits.old.items, proposition_of made))) waits.new.items next) }
+    ensures { IfOk result (λ next. Advances limit (waits_of waits.old.items, Made (proposition_of made)) (Mark kind) waits.new.items next) }
 {
     match kind {
         TokenKind::And => {
@@ -141,7 +141,7 @@ fn go_on_left(
     limit: u32,
 ) -> Result<Advanced, Memory>
     requires { limit < 1000 }
-    ensures { IfOk result (λ next. Turns (advance (test_algebra limit) (waits_of waits.old.items, First (stack_of frames.items, seen_of left)) (word kind text.now)) None waits.new.items next) }
+    ensures { IfOk result (λ next. Advances limit (waits_of waits.old.items, First (stack_of frames.items, seen_of left)) (word kind text.now) waits.new.items next) }
 {
     match step(alloc, &mut frames, left, kind, text, limit)? {
         Stepped::On(left) => Ok(Advanced::On(Inside::First(frames, left))),
@@ -165,7 +165,7 @@ fn go_on_right(
     limit: u32,
 ) -> Result<Advanced, Memory>
     requires { limit < 1000 }
-    ensures { IfOk result (λ next. let state = (waits_of waits.old.items, Second (rel_of rel) (operand_of left) (stack_of frames.items, seen_of right)) in Turns (advance (test_algebra limit) state (word kind text.now)) (conclude (test_algebra limit) state) waits.new.items next) }
+    ensures { IfOk result (λ next. Advances limit (waits_of waits.old.items, Second (rel_of rel) (operand_of left) (stack_of frames.items, seen_of right)) (word kind text.now) waits.new.items next) }
 {
     match step(alloc, &mut frames, right, kind, text, limit)? {
         Stepped::On(right) => Ok(Advanced::On(Inside::Second(rel, left, frames, right))),
@@ -199,7 +199,7 @@ fn begin_item(
     limit: u32,
 ) -> Result<Advanced, Memory>
     requires { limit < 1000 }
-    ensures { IfOk result (λ next. Turns (begin_item (test_algebra limit) (waits_of waits.old.items) (word kind text.now)) None waits.new.items next) }
+    ensures { IfOk result (λ next. Advances limit (beginning (waits_of waits.old.items)) (word kind text.now) waits.new.items next) }
 {
     match kind {
         TokenKind::Left => {
@@ -224,7 +224,7 @@ pub(crate) fn advance(
     limit: u32,
 ) -> Result<Advanced, Memory>
     requires { limit < 1000 }
-    ensures { IfOk result (λ next. let state = (waits_of waits.old.items, inside_of inside) in Turns (advance (test_algebra limit) state (word kind text.now)) (conclude (test_algebra limit) state) waits.new.items next) }
+    ensures { IfOk result (λ next. Advances limit (waits_of waits.old.items, inside_of inside) (word kind text.now) waits.new.items next) }
 {
     match inside {
         Inside::Fresh => begin_item(alloc, waits, kind, text, limit),
