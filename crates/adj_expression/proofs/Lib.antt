@@ -1,5 +1,6 @@
 pub mod Split
 pub mod WaitLemmas
+pub mod ConditionSteps
 pub mod ConditionComplete
 pub mod ConditionSound
 pub mod ConditionUnique
