@@ -1,3 +1,4 @@
 pub mod StackLemmas
 pub mod Powers
 pub mod Names
+pub mod Closing
