@@ -2,3 +2,5 @@ pub mod StackLemmas
 pub mod Powers
 pub mod Names
 pub mod Closing
+pub mod Exact
+pub mod Front
