@@ -7,3 +7,6 @@ pub mod ConditionUnique
 pub mod StackLemmas
 pub mod Powers
 pub mod Names
+pub mod Closing
+pub mod Exact
+pub mod Front

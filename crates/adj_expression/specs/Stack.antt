@@ -34,7 +34,11 @@ closed alg (frames, machine.Nothing) = None
 closed alg (frames, machine.Callee x) = Some (close_sum alg frames (alg.name x))
 closed alg (frames, machine.Operand x) = Some (close_sum alg frames x)
 
+-- the next state is as given; or there is none, and what the operands come to is as given
+abbrev pub Makes : Algebra Partial → Option (State Partial) → Option (List (machine.Frame Partial) × Partial) → List Frame → Stepped → Type 0
+Makes alg next before frames (On seen) = next ≡ Some (stack_of frames, seen_of seen)
+Makes alg next before frames (Stuck seen) = (next ≡ None) × (closed alg (stack_of frames, seen_of seen) ≡ before)
+
 -- the step is made; or there is none, and what the operands come to stays the same
 abbrev pub Steps : Algebra Partial → State Partial → Word → List Frame → Stepped → Type 0
-Steps alg s w frames (On seen) = step alg s w ≡ Some (stack_of frames, seen_of seen)
-Steps alg s w frames (Stuck seen) = (step alg s w ≡ None) × (closed alg (stack_of frames, seen_of seen) ≡ closed alg s)
+Steps alg s w frames stepped = Makes alg (step alg s w) (closed alg s) frames stepped

@@ -43,7 +43,18 @@ pub(crate) fn close_product(
     requires { limit < 1000 }
     ensures { IfOk result (λ x. (stack_of frames.new.items, operand_of x) ≡ close_product (algebra limit) (stack_of frames.old.items) (operand_of operand)) }
 {
-    Err(Memory)
+    let mut operand = operand;
+    while let Some(frame) = frames.pop() {
+        match frame {
+            Frame::Base(left) => operand = left.powered(alloc, operand, limit)?,
+            Frame::Multiplied(op, left) => operand = left.combined(alloc, op, operand, limit)?,
+            outer => {
+                frames.push(outer)?;
+                return Ok(operand);
+            }
+        }
+    }
+    Ok(operand)
 }
 
 /// The operand to the left, once its sums are made.
@@ -56,7 +67,20 @@ pub(crate) fn close_sum(
     requires { limit < 1000 }
     ensures { IfOk result (λ x. (stack_of frames.new.items, operand_of x) ≡ close_sum (algebra limit) (stack_of frames.old.items) (operand_of operand)) }
 {
-    Err(Memory)
+    let mut operand = operand;
+    while let Some(frame) = frames.pop() {
+        match frame {
+            Frame::Base(left) => operand = left.powered(alloc, operand, limit)?,
+            Frame::Multiplied(op, left) => operand = left.combined(alloc, op, operand, limit)?,
+            Frame::Added(op, left) => operand = left.combined(alloc, op, operand, limit)?,
+            Frame::Signed(op) => operand = operand.with_sign(alloc, op, limit)?,
+            outer => {
+                frames.push(outer)?;
+                return Ok(operand);
+            }
+        }
+    }
+    Ok(operand)
 }
 
 /// Whether a sign may stand here.
