@@ -203,11 +203,11 @@ module _ {X C : Type 0} (alg : TestAlgebra X C) where
   leads : {part : Part} {ts rest : List Word} {c : Condition} → DerivesCondition part ts rest c → Stops rest → Leads part ts rest (test_value alg c)
   leads (comparison {ts = ts} {us = us} {rest = rest} {a = a} {b = b} {k = k} {r = r} rel p q) stop = λ frames res e.
       leads_left frames ts (beginning frames) (wanting []) (value alg.terms a) us (stands_fresh 0) rel (reads X alg.terms ts (Mark k ∷ us) a p (relation_stops rel)) res (
-        leads_right frames r (value alg.terms a) us (wanting []) (value alg.terms b) rest (reads X alg.terms us rest b q stop) res e)
+      leads_right frames r (value alg.terms a) us (wanting []) (value alg.terms b) rest (reads X alg.terms us rest b q stop) res e)
   leads (group {ts = ts} {rest = rest} {c = c} p) stop = λ frames res e.
       let h = leads p refl (Opened ∷ frames) whole_in_group in
       advances (beginning frames) (beginning (Opened ∷ frames)) (Mark Left) ts refl res (
-        h.2 res (advances (h.0, Made h.1) (made (deny alg frames (test_value alg c))) (Mark Right) rest (ap (end_condition alg) h.3) res e))
+      h.2 res (advances (h.0, Made h.1) (made (deny alg frames (test_value alg c))) (Mark Right) rest (ap (end_condition alg) h.3) res e))
   leads (plain {ts = ts} {rest = rest} {c = c} p) stop = λ frames start.
       let P : List (Waiting C) × C → Type 0 = λ d. To (beginning frames) ts (made d) rest in
       subst P (deny-start (test_value alg c) start) (leads p stop frames)

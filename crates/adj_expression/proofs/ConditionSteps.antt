@@ -35,9 +35,9 @@ right_ends limit waits r a b e f kind text c p left result stays same is_b is_c 
     let made : p ≡ compare_with (test_algebra limit) waits r a b = is_p ∙ ap (deny (test_algebra limit) waits) is_c in
     let then : Option (State Partial) → Option Partial → Option (TestState Partial PartialTest) = λ taken found. chosen taken (λ t. Some (waits, Second r a t)) (option_and_then (λ b. behind_condition (test_algebra limit) (compare_with (test_algebra limit) waits r a b) (word kind text)) found) in
     let goes : advance (test_algebra limit) (p.0, Made p.1) (Mark kind) ≡ advance (test_algebra limit) (waits, Second r a e) (word kind text) =
-        behind_condition-word limit p kind text ∙ ap (λ q. behind_condition (test_algebra limit) q (word kind text)) made ∙ sym (ap (λ o. then o (finish (algebra limit) e)) stays ∙ ap (then None) found) in
+    behind_condition-word limit p kind text ∙ ap (λ q. behind_condition (test_algebra limit) q (word kind text)) made ∙ sym (ap (λ o. then o (finish (algebra limit) e)) stays ∙ ap (then None) found) in
     let ends : conclude (test_algebra limit) (p.0, Made p.1) ≡ conclude (test_algebra limit) (waits, Second r a e) =
-        ap (λ q. alone (close_all (test_algebra limit) q)) made ∙ sym (ap (option_and_then (λ b. alone (close_all (test_algebra limit) (compare_with (test_algebra limit) waits r a b)))) found) in
+    ap (λ q. alone (close_all (test_algebra limit) q)) made ∙ sym (ap (option_and_then (λ b. alone (close_all (test_algebra limit) (compare_with (test_algebra limit) waits r a b)))) found) in
     let P : Option (TestState Partial PartialTest) → Type 0 = λ o. IfOk result (λ next. Turns o (conclude (test_algebra limit) (p.0, Made p.1)) left next) in
     let Q : Option PartialTest → Type 0 = λ o. IfOk result (λ next. Turns (advance (test_algebra limit) (waits, Second r a e) (word kind text)) o left next) in
     subst Q ends (subst P goes behind)

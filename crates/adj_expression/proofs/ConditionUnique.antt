@@ -33,7 +33,7 @@ pub test_reads_itself : (words rest : List Word) (c : Condition) → DerivesCond
 test_reads_itself words rest c p end = reads_test conditions words rest c p end ∙ ap (λ d. Some (d, rest)) (test_itself p (stops-end rest end))
 
 -- and what is read is derived, up to what ends a condition
-test_derived : (words : List Word) → IfSome (read_condition words) (λ r. DerivesCondition Whole words r.1 r.0 × Ends r.1)
+pub test_derived : (words : List Word) → IfSome (read_condition words) (λ r. DerivesCondition Whole words r.1 r.0 × Ends r.1)
 test_derived words = derived (read_condition words) (is_read_test conditions words)
   where
     derived : (o : Option (Condition × List Word)) → IfSome o (λ r. (c : Condition) × DerivesCondition Whole words r.1 c × (r.0 ≡ test_value conditions c) × Ends r.1) → IfSome o (λ r. DerivesCondition Whole words r.1 r.0 × Ends r.1)

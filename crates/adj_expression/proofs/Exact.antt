@@ -19,13 +19,13 @@ use Rattle.adj_expression.specs.Partial.{Partial, bounded, one_argument, algebra
 abbrev pub exactly : ℕ → Syntax → Partial
 exactly limit s = record { found = judged limit s; depth = min (depth s) (limit + 1); constant = constant s }
 
-of_one-judged : {A B : Type 0} (f : A → B) (large deep : Bool) (o : Option A) → of_one f (judged_by large deep o) ≡ judged_by large deep (option_map f o)
+pub of_one-judged : {A B : Type 0} (f : A → B) (large deep : Bool) (o : Option A) → of_one f (judged_by large deep o) ≡ judged_by large deep (option_map f o)
 of_one-judged f true deep o = refl
 of_one-judged f false true o = refl
 of_one-judged f false false None = refl
 of_one-judged f false false (Some a) = refl
 
-of_two-judged : {A B C : Type 0} (f : A → B → C) (l d m e : Bool) (o : Option A) (p : Option B) → of_two f (judged_by l d o) (judged_by m e p) ≡ judged_by (l || m) (d || e) (with_both (λ a b. Some (f a b)) o p)
+pub of_two-judged : {A B C : Type 0} (f : A → B → C) (l d m e : Bool) (o : Option A) (p : Option B) → of_two f (judged_by l d o) (judged_by m e p) ≡ judged_by (l || m) (d || e) (with_both (λ a b. Some (f a b)) o p)
 of_two-judged f true d true e o p = refl
 of_two-judged f true d false true o p = refl
 of_two-judged f true d false false o (Some b) = refl
@@ -43,7 +43,7 @@ of_two-judged f false false false false (Some a) None = refl
 of_two-judged f false false false false None (Some b) = refl
 of_two-judged f false false false false None None = refl
 
-kept-judged : {A : Type 0} (b l d : Bool) (o : Option A) → kept b (judged_by l d o) ≡ judged_by l (b || d) o
+pub kept-judged : {A : Type 0} (b l d : Bool) (o : Option A) → kept b (judged_by l d o) ≡ judged_by l (b || d) o
 kept-judged false l d o = refl
 kept-judged true true d o = refl
 kept-judged true false true o = refl
@@ -60,10 +60,10 @@ as_power-judged false false None (Some k) = refl
 as_power-judged false false None None = refl
 
 -- the depth up to 1 more than the limit tells as much
-deeper_one : (limit d : ℕ) → (nat_lt limit (min d (limit + 1) + 1) || nat_lt limit d) ≡ nat_lt limit (suc d)
+pub deeper_one : (limit d : ℕ) → (nat_lt limit (min d (limit + 1) + 1) || nat_lt limit d) ≡ nat_lt limit (suc d)
 deeper_one limit d = grind (arith, nat_tests)
 
-deeper_two : (limit d e : ℕ) → (nat_lt limit (max (min d (limit + 1)) (min e (limit + 1)) + 1) || (nat_lt limit d || nat_lt limit e)) ≡ nat_lt limit (suc (max d e))
+pub deeper_two : (limit d e : ℕ) → (nat_lt limit (max (min d (limit + 1)) (min e (limit + 1)) + 1) || (nat_lt limit d || nat_lt limit e)) ≡ nat_lt limit (suc (max d e))
 deeper_two limit d e = grind (arith, nat_tests)
 
 or-false : (b : Bool) → b || false ≡ b

@@ -4,6 +4,8 @@ pub mod ConditionSteps
 pub mod ConditionComplete
 pub mod ConditionSound
 pub mod ConditionUnique
+pub mod ConditionExact
+pub mod ConditionReads
 pub mod StackLemmas
 pub mod Powers
 pub mod Names

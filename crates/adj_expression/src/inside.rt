@@ -113,12 +113,7 @@ fn end_operand(alloc: Global, waits: &mut Vec<Waiting>, operand: Operand) -> Adv
 }
 
 // A word that doesn't go on with the left operand.
-fn behind_left(
-    alloc: Global,
-    waits: &mut Vec<Waiting>,
-    left: Operand,
-    kind: TokenKind,
-) -> Advanced
+fn behind_left(alloc: Global, waits: &mut Vec<Waiting>, left: Operand, kind: TokenKind) -> Advanced
     ensures { Turns (behind_left (waits_of waits.old.items) (Mark kind) (operand_of left)) None waits.new.items result }
 {
     if kind == TokenKind::Right {
