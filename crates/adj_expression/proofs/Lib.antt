@@ -4,3 +4,4 @@ pub mod Names
 pub mod Closing
 pub mod Exact
 pub mod Front
+pub mod Runs
