@@ -14,6 +14,8 @@ mod frame;
 mod intrinsic;
 mod machine;
 mod operand;
+#[cfg(test)]
+mod tests;
 
 pub use conditions::condition;
 pub use expressions::expression;
