@@ -1,12 +1,11 @@
 -- ConditionReads: a reading of a condition over the tokens that are left.
-use Rattle.std.proofs.Common.{◌≡◌, ℕ, List, [], ◌∷◌, length, Option, Some, None, option_map, Bor, refl, sym, ap, subst, ◌∙◌, suc, arith, if◌then◌else◌, cond, Bool, true, false}
+use Rattle.std.proofs.Common.{◌≡◌, ℕ, List, [], ◌∷◌, length, Option, Some, None, option_map, Bor, refl, sym, ap, ◌∙◌, if◌then◌else◌, cond, Bool, true, false}
 use Rattle.std.proofs.lemmas.List.{nil_from_length}
 use Rattle.adj_text.specs.declared.token.Token.{Token}
 use Rattle.adj_text.specs.declared.token.TokenKind.{TokenKind}
 use Rattle.adj_text.specs.declared.token.TokenKind.TheVariants.{Name, Number}
 use Rattle.adj_text.specs.Word.{Word, word, word_of, words_of, part, Mark}
 use Rattle.adj_text.specs.Machine.{chosen}
-use Rattle.adj_expression.specs.Front.{AreSlices}
 use Rattle.adj_expression.specs.declared.proposition.Proposition.{Proposition}
 use Rattle.adj_expression.specs.PartialCondition.{PartialTest, proposition_of}
 use Rattle.std.specs.Prelude.{IfSome}
@@ -57,7 +56,3 @@ with_rest text None whole rest is behind = let pair : PartialTest → PartialTes
 with_rest text (Some f) whole rest is behind =
     let pair : List Token → PartialTest → PartialTest × List Word = λ ts c. (c, words_of text ts) in
     ap (λ ts. Some (pair ts (proposition_of f.0))) behind ∙ ap (option_map (pair rest)) is
-
--- the tokens behind the first are slices too
-pub slices_behind : (text : List ℕ) (rest behind : List Token) (token : Token) → rest ≡ token ∷ behind → AreSlices text rest → AreSlices text behind
-slices_behind text rest behind token is slices = λ k d within. let P : List Token → Type 0 = AreSlices text in subst P is slices (suc k) d (omega arith)

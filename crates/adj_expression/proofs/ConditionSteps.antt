@@ -5,7 +5,7 @@ use Rattle.adj_tree.specs.Code.{Rel}
 use Rattle.adj_tree.specs.declared.Memory.{Memory}
 use Rattle.adj_text.specs.declared.token.TokenKind.{TokenKind}
 use Rattle.adj_text.specs.declared.token.TokenKind.TheVariants.{Name, Number}
-use Rattle.adj_text.specs.Machine.{Algebra, State, Nothing, Callee, Operand, step, whole, finish, chosen}
+use Rattle.adj_text.specs.Machine.{State, step, whole, finish, chosen}
 use Rattle.adj_text.specs.Word.{word, Mark}
 use Rattle.adj_expression.specs.declared.inside.Advanced.{Advanced}
 use Rattle.adj_expression.specs.declared.waiting.Waiting as code
@@ -14,11 +14,7 @@ use Rattle.adj_expression.specs.Partial.{Partial, algebra}
 use Rattle.adj_expression.specs.PartialCondition.{PartialTest, comparison_of, test_algebra}
 use Rattle.adj_expression.specs.Stack.{closed}
 use Rattle.adj_expression.specs.Waits.{Turns, Advances}
-
-finish-closed : {X : Type 0} (alg : Algebra X) (s : State X) → finish alg s ≡ option_and_then whole (closed alg s)
-finish-closed alg (frames, Nothing) = refl
-finish-closed alg (frames, Callee x) = refl
-finish-closed alg (frames, Operand x) = refl
+use Rattle.adj_expression.proofs.Runs.{finish-closed}
 
 -- a name and a number don't go on with a condition
 behind_condition-word : (limit : ℕ) (p : List (Waiting PartialTest) × PartialTest) (kind : TokenKind) (text : List ℕ) → behind_condition (test_algebra limit) p (Mark kind) ≡ behind_condition (test_algebra limit) p (word kind text)

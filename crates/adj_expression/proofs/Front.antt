@@ -33,3 +33,30 @@ module _ {X : Type 0} (alg : Algebra X) where
         | None ↦ at_stop w ws (is_stop w) (finish alg s) refl
         | Some t ↦ stops ws t
       ]
+
+abbrev pub found_in : Partial × List Word → Result Term Flaw × List Word
+found_in r = (r.0.found, r.1)
+
+module _ (limit : ℕ) (ws : List Word) where
+  abbrev Found : Option (Partial × List Word) → Type 0
+  Found p = (read (algebra limit) (wanting []) ws ≡ p) × IfSome p (λ r. (s : Syntax) × Derives Sum ws r.1 s × (r.0 ≡ value (algebra limit) s)) × IfSome p (λ r. Stops r.1)
+
+  abbrev Derived : Option (Syntax × List Word) → Type 0
+  Derived o = (read syntaxes (wanting []) ws ≡ o) × IfSome o (λ r. Derives Sum ws r.1 r.0) × IfSome o (λ r. Stops r.1)
+
+  agree : (p : Option (Partial × List Word)) (o : Option (Syntax × List Word)) → Found p → Derived o → p ≡ option_map (λ f. (exactly limit f.0, f.1)) o
+  agree p (Some r) f d = sym f.0 ∙ reads Partial (algebra limit) ws r.1 r.0 d.1 d.2 ∙ ap (λ x. Some (x, r.1)) (exact limit d.1)
+  agree None None f d = refl
+  agree (Some r) None f d = let e = reads_itself ws r.1 f.1.0 f.1.1 f.2 in cc (e, d.0)
+
+  -- the two machines read the same words
+  pub reads_exactly : read (algebra limit) (wanting []) ws ≡ option_map (λ f. (exactly limit f.0, f.1)) (read syntaxes (wanting []) ws)
+  reads_exactly = agree _ _ (refl, is_read (algebra limit) ws, stops (algebra limit) ws (wanting [])) (refl, itself_derived ws, stops syntaxes ws (wanting []))
+
+  found_judged : (o : Option (Syntax × List Word)) → option_map found_in (option_map (λ f. (exactly limit f.0, f.1)) o) ≡ option_map (λ f. (judged limit f.0, f.1)) o
+  found_judged None = refl
+  found_judged (Some r) = refl
+
+  -- so what is found is what stands at the front
+  pub front_is : option_map found_in (read (algebra limit) (wanting []) ws) ≡ front_expression limit ws
+  front_is = ap (option_map found_in) reads_exactly ∙ found_judged (read syntaxes (wanting []) ws)

@@ -12,3 +12,4 @@ pub mod Names
 pub mod Closing
 pub mod Exact
 pub mod Front
+pub mod Runs

@@ -53,3 +53,8 @@ algebra limit = record { digits = λ ds. literal limit (in_words (pos (number_of
 
 abbrev pub operand_of : Operand → Partial
 operand_of x = record { found = seen term_of x.found; depth = x.depth; constant = x.constant }
+
+-- an expression that is read to its end, and what stands behind it
+abbrev pub ended : {Y : Type 0} → Y → Option Partial → Option (Result Term Flaw × Y)
+ended rest None = None
+ended rest (Some x) = Some (x.found, rest)

@@ -17,4 +17,11 @@ mod laws;
 mod machine;
 mod operand;
 mod proposition;
+#[cfg(test)]
+mod tests;
 mod waiting;
+
+pub use conditions::condition;
+pub use expressions::expression;
+pub use flaw::Flaw;
+pub use laws::conditions_are_read;

@@ -2,7 +2,8 @@
 use Rattle.std.proofs.Common.{◌∙◌, [], refl, sym}
 use Rattle.adj_expression.specs.PartialCondition.{test_algebra}
 use Rattle.adj_expression.specs.Waits.{waiting_of}
-use Rattle.adj_expression.proofs.ConditionReads.{test_goes_on, test_ended, test_refused, test_ends, with_rest, slices_behind}
+use Rattle.adj_expression.proofs.ConditionReads.{test_goes_on, test_ended, test_refused, test_ends, with_rest}
+use Rattle.adj_expression.proofs.Runs.{AreSlices-rest}
 use Rattle.adj_expression.proofs.WaitLemmas.{stacked-nil}
 use Rattle.adj_expression.proofs.conditions.read.Goals as goal
 
@@ -30,5 +31,5 @@ loop-token-preserved c =
     let on = rw c.in-On.is at c.in_ok-next.ensures in
     record {
       so_far = test_goes_on (test_algebra c.args.limit) c.args.text.now _ c.loop-token.rest.now _ c.in-Some.token.now c.in-Some.behind.now _ c.in-Some.ensures.cases.0 on c.loop-token.invariant.so_far;
-      slices = slices_behind c.args.text.now c.loop-token.rest.now c.in-Some.behind.now c.in-Some.token.now c.in-Some.ensures.cases.0 c.loop-token.invariant.slices;
+      slices = AreSlices-rest c.args.text.now c.loop-token.rest.now c.in-Some.behind.now c.in-Some.token.now c.in-Some.ensures.cases.0 c.loop-token.invariant.slices;
     }
