@@ -1,0 +1,15 @@
+pub mod Split
+pub mod WaitLemmas
+pub mod ConditionSteps
+pub mod ConditionComplete
+pub mod ConditionSound
+pub mod ConditionUnique
+pub mod ConditionExact
+pub mod ConditionReads
+pub mod StackLemmas
+pub mod Powers
+pub mod Names
+pub mod Closing
+pub mod Exact
+pub mod Front
+pub mod Runs
