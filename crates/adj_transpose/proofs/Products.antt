@@ -42,10 +42,6 @@ keys-scalars (y ∷ xs) x j h = go (key_eq (y, 0) (x, j)) refl h (keys-scalars x
     go true e h ih = sym (nat_same 0 j (and_true (name_eq y x) (0 == j) e).1)
     go false e h ih = ih h
 
-keys-append : (xs ys : List (List ℕ)) → keys (xs ++ ys) ≡ keys xs ++ keys ys
-keys-append [] ys = refl
-keys-append (x ∷ xs) ys = ap (λ z. (x, 0) ∷ z) (keys-append xs ys)
-
 -- ---- sums in which one side is 0
 
 pub pairing-zeros : (xs : List (List ℕ)) (s d : Words) → AreZero xs d → pairing (keys xs) s d ≡ pos 0

@@ -1,19 +1,23 @@
 -- The faulty programs of specs/Faulty.antt are no adjoints: each is tried on one input.
-use Rattle.std.proofs.Common.{◌≡◌, List, [], ◌∷◌, Bool, true, false, refl, ap, if◌then◌else◌}
-use Rattle.std.specs.Prelude.{ℤ, pos, Some, None}
+use Rattle.std.proofs.Common.{◌≡◌, ℕ, List, [], ◌∷◌, Bool, true, false, refl, sym, ap, ◌∙◌, subst, if◌then◌else◌}
+use Rattle.std.specs.Prelude.{ℤ, pos, Some, None, ◌==◌}
 use Rattle.std.specs.Int.{int_wrap}
 use Rattle.adj_tree.specs.Code.{Procedure}
-use Rattle.adj_tree.proofs.Names.{name_refl}
+use Rattle.adj_tree.proofs.Names.{nat_refl, name_refl}
 use Rattle.adj_meaning.specs.Store.{scalar}
 use Rattle.adj_meaning.specs.Units.{Slot}
 use Rattle.adj_transpose.specs.Program.{adjoint_name}
-use Rattle.adj_transpose.specs.Examples.{square}
-use Rattle.adj_transpose.specs.Faulty.{Sweep, with_sweeps, Serve, right_forward, right_backward, pushed_after, unreversed, assigned, unsigned, uncleared, unpopped, squared_itself, cube, difference}
+use Rattle.adj_transpose.specs.Examples.{square, fourth}
+use Rattle.adj_transpose.specs.Faulty.{Sweep, with_sweeps, Serve, right_forward, right_backward, pushed_after, unreversed, assigned, unsigned, uncleared, unpopped, forward_by, backward_by, unsaved, unkept, squared_itself, cube, difference}
 use Rattle.adj_transpose.proofs.Faulty.{Trial, result_of, ProductsAgree, products_differ, tape_left}
 
 -- a scalar
 abbrev word : ℤ → Slot ℤ
 word z = record { shape = scalar; cells = z ∷ [] }
+
+-- words of different numbers
+differ_words : (m n : ℕ) → (m == n) ≡ false → pos m ≡ pos n → ⊥
+differ_words m n d h = let e : m ≡ n = cc in let p : true ≡ false = sym (subst (λ k. (m == k) ≡ true) e (nat_refl m)) ∙ d in cc
 
 -- a trial of these sweeps
 abbrev Tried : Sweep → Sweep → Procedure → List Bool → List Bool → Type 0
@@ -46,7 +50,7 @@ pushed_after_fails =
       comes = record { is = λ k. refl };
       dual_comes = record { is = λ k. refl };
     })
-    (λ h. cc)
+    (differ_words 18 6 refl)
 
 -- one of the two occurrences is lost: 3, where the tangent is 6
 pub assigned_fails : Serve right_forward (λ c. assigned (right_backward c)) square (true ∷ false ∷ []) (false ∷ true ∷ []) → ⊥
@@ -65,9 +69,9 @@ assigned_fails =
       comes = record { is = λ k. refl };
       dual_comes = record { is = λ k. refl };
     })
-    (λ h. cc)
+    (differ_words 3 6 refl)
 
--- the adjoint of X*X comes before that of the product with it
+-- the adjoint of X*X comes before that of the product with it: 6, where the tangent is 27
 pub unreversed_fails : Serve right_forward unreversed cube (true ∷ false ∷ []) (false ∷ true ∷ []) → ⊥
 unfolding int_wrap
 unreversed_fails =
@@ -84,7 +88,7 @@ unreversed_fails =
       comes = record { is = λ k. refl };
       dual_comes = record { is = λ k. refl };
     })
-    (λ h. cc)
+    (differ_words 6 27 refl)
 
 -- 1, where the tangent is -1
 pub unsigned_fails : Serve right_forward (λ c. unsigned (right_backward c)) difference (true ∷ false ∷ []) (false ∷ true ∷ []) → ⊥
@@ -122,7 +126,7 @@ uncleared_fails =
       comes = record { is = λ k. refl };
       dual_comes = record { is = λ k. refl };
     })
-    (λ h. cc)
+    (differ_words 7 6 refl)
 
 -- the old value of Y is left on the tape
 pub unpopped_fails : Serve right_forward (λ c. unpopped (right_backward c)) square (true ∷ false ∷ []) (false ∷ true ∷ []) → ⊥
@@ -142,3 +146,41 @@ unpopped_fails =
       dual_comes = record { is = λ k. refl };
     })
     (λ h. cc)
+
+-- the first adjoint reads 9 in place of 3: 324, where the tangent is 108
+pub unsaved_fails : Serve (forward_by unsaved) (backward_by unsaved) fourth (true ∷ []) (true ∷ []) → ⊥
+unfolding int_wrap
+unsaved_fails =
+    differ (forward_by unsaved) (backward_by unsaved) fourth (true ∷ []) (true ∷ [])
+    (record {
+      input = word (pos 3) ∷ [];
+      shadows = word (pos 1) ∷ [];
+      direction = (pos 1 ∷ []) ∷ [];
+      least = 30;
+      fit = refl;
+      alike = (refl, (refl, tt));
+      directed = record { tangents = (refl, tt); others = tt };
+      done = refl;
+      comes = record { is = λ k. refl };
+      dual_comes = record { is = λ k. refl };
+    })
+    (differ_words 324 108 refl)
+
+-- the second adjoint reads 3 in place of 9: 36, where the tangent is 108
+pub unkept_fails : Serve (forward_by unkept) (backward_by unkept) fourth (true ∷ []) (true ∷ []) → ⊥
+unfolding int_wrap
+unkept_fails =
+    differ (forward_by unkept) (backward_by unkept) fourth (true ∷ []) (true ∷ [])
+    (record {
+      input = word (pos 3) ∷ [];
+      shadows = word (pos 1) ∷ [];
+      direction = (pos 1 ∷ []) ∷ [];
+      least = 30;
+      fit = refl;
+      alike = (refl, (refl, tt));
+      directed = record { tangents = (refl, tt); others = tt };
+      done = refl;
+      comes = record { is = λ k. refl };
+      dual_comes = record { is = λ k. refl };
+    })
+    (differ_words 36 108 refl)

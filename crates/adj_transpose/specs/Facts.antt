@@ -1,5 +1,5 @@
 -- Facts about variables at points, and the laws that join them with marks. With marks that have such facts the sweeps are right.
--- (docs/THEOREMS.md, "Marks")
+-- (docs/THEOREMS.md, "Adjoints")
 use Rattle.std.specs.Prelude.{◌≡◌, ℕ, suc, Bool, true, false, not, ◌&&◌, ◌||◌, zero}
 use Rattle.adj_tree.specs.Code.{Var, var_eq, Term, elem, neg, bin, pow, plus, minus, times, Terms, none, more, Act, assign, Code, stop, step}
 use Rattle.adj_meaning.specs.Read.{reads_term, reads_terms}

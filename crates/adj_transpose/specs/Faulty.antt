@@ -4,6 +4,9 @@ use Rattle.adj_tree.specs.Code.{shadow, lit, neg, bin, plus, minus, assign, runt
 use Rattle.adj_meaning.specs.Append.{◌+++◌}
 use Rattle.adj_meaning.specs.Rename.{rename}
 use Rattle.adj_transpose.specs.Naming.{naming}
+use Rattle.adj_transpose.specs.Marks.{Marks}
+use Rattle.adj_transpose.specs.Marked.{marked_forward, marked_backward}
+use Rattle.adj_transpose.specs.MarkedExamples.{fourth_facts}
 use Rattle.adj_transpose.specs.Emit.{forward, backward_act, backward, zeros}
 use Rattle.adj_transpose.specs.Program.{unmarked, adjoint_names, adjoint_unit}
 use Rattle.adj_transpose.specs.Adjoint.{IsAdjoint}
@@ -69,6 +72,21 @@ abbrev pub unpopped : Code → Code
 unpopped stop = stop
 unpopped (step line (runtime (pop_word x subs)) rest) = unpopped rest
 unpopped (step line a rest) = step line a (unpopped rest)
+
+-- the sweeps of a list by marks
+abbrev pub forward_by : Marks → Sweep
+forward_by m c = marked_forward m 0 0 c
+
+abbrev pub backward_by : Marks → Sweep
+backward_by m c = marked_backward m 0 0 c
+
+-- marks for `X=X*X` twice that aren't closed: the first assignment doesn't save X, which its adjoint reads; or it isn't kept,
+-- though X is needed after it
+abbrev pub unsaved : Marks
+unsaved = record fourth_facts.marks { saved = λ i x. false }
+
+abbrev pub unkept : Marks
+unkept = record fourth_facts.marks { kept = λ i. false }
 
 -- ---- sources that show them
 

@@ -1,4 +1,4 @@
--- What it means that the sweeps of a list of statements transpose its derivative along a run. (docs/THEOREMS.md, "Transposed lists")
+-- What it means that the sweeps of a list of statements transpose its derivative along a run. (docs/THEOREMS.md, "Adjoints")
 use Rattle.std.specs.Prelude.{◌≡◌, ℕ, ℤ, pos, List, ◌++◌, true, false, if◌then◌else◌}
 use Rattle.adj_tree.specs.Code.{Var, plain, shadow, Code}
 use Rattle.adj_word.specs.Pairing.{pairing, stands_in}

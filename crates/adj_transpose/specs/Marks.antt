@@ -1,4 +1,4 @@
--- Marks: what analyses say of statements, and of variables at the points between them. (docs/EMITTED.md, "Marks")
+-- Marks: what analyses say of statements, and of variables at the points between them. (docs/THEOREMS.md, "Adjoints")
 use Rattle.std.specs.Prelude.{ℕ, suc, ◌+◌, ◌*◌, Bool, true, ◌&&◌}
 use Rattle.adj_tree.specs.Code.{Var, Act, assign, choose, loop, call, runtime, Code, stop, step}
 
@@ -27,15 +27,12 @@ abbrev mutual
   behind i stop = i
   behind i (step line a rest) = behind (next i a) rest
 
--- the points before and after the i-th statement, and the one inside it where it is a loop
+-- the points before and after the i-th statement; a loop has the point 3 * i + 2 inside it
 abbrev pub point_before : ℕ → ℕ
 point_before i = 3 * i
 
 abbrev pub point_after : ℕ → ℕ
 point_after i = 3 * i + 1
-
-abbrev pub point_inside : ℕ → ℕ
-point_inside i = 3 * i + 2
 
 -- ---- marks
 

@@ -1,7 +1,9 @@
 //! The adjoint of a program as a function of the program, what an adjoint is, and the theorem that joins the two.
 //!
-//! The emission (`specs/Emit.antt`) is a function on the trees' mirror, over variables that are told apart by what they
-//! hold; one renaming at the end (`specs/Naming.antt`, with the fresh names of `specs/Fresh.antt`) gives them names.
+//! The emission is a function on the trees' mirror, over variables that are told apart by what they hold; one renaming at
+//! the end (`specs/Naming.antt`, with the fresh names of `specs/Fresh.antt`) gives them names. It follows marks
+//! (`specs/Marked.antt`); where everything is marked it is that of `specs/Emit.antt`. The theorem takes any marks whose facts
+//! at points meet local laws (`specs/Facts.antt`).
 //! The crate stands on the trees, the words and the meaning of programs. The layers above cite the emission
 //! in the contracts of the code that emits, and the theorem from the law functions here.
 #![tactic(auto)]
@@ -64,7 +66,7 @@ pub fn adjoint_law()
 
 ghost use Rattle.std.specs.Prelude.{Bool};
 ghost use Rattle.adj_tree.specs.Code.{Procedure};
-ghost use Rattle.adj_transpose.specs.Faulty.{with_sweeps, Serve, right_forward, right_backward, pushed_after, unreversed, assigned, unsigned, uncleared, unpopped, squared_itself, cube, difference};
+ghost use Rattle.adj_transpose.specs.Faulty.{with_sweeps, Serve, right_forward, right_backward, pushed_after, unreversed, assigned, unsigned, uncleared, unpopped, forward_by, backward_by, unsaved, unkept, squared_itself, cube, difference};
 
 /// Emitted programs with a fault are no adjoints: the definition of an adjoint tells them from the emitted one.
 pub fn wrong_adjoints()
@@ -75,4 +77,6 @@ pub fn wrong_adjoints()
     ensures unsigned { Serve right_forward (λ c. unsigned (right_backward c)) difference (true ∷ false ∷ []) (false ∷ true ∷ []) → ⊥ }
     ensures uncleared { Serve right_forward (λ c. uncleared (right_backward c)) squared_itself (true ∷ []) (true ∷ []) → ⊥ }
     ensures unpopped { Serve right_forward (λ c. unpopped (right_backward c)) square (true ∷ false ∷ []) (false ∷ true ∷ []) → ⊥ }
+    ensures unsaved { Serve (forward_by unsaved) (backward_by unsaved) fourth (true ∷ []) (true ∷ []) → ⊥ }
+    ensures unkept { Serve (forward_by unkept) (backward_by unkept) fourth (true ∷ []) (true ∷ []) → ⊥ }
 {}
