@@ -20,13 +20,22 @@ fn kind_of(word: &[u8]) -> TokenKind {
         b")" => TokenKind::Right,
         b"," => TokenKind::Comma,
         b"=" => TokenKind::Equals,
+        b".LT." => TokenKind::Lt,
+        b".LE." => TokenKind::Le,
+        b".EQ." => TokenKind::Eq,
+        b".NE." => TokenKind::Ne,
+        b".GT." => TokenKind::Gt,
+        b".GE." => TokenKind::Ge,
+        b".NOT." => TokenKind::Not,
+        b".AND." => TokenKind::And,
+        b".OR." => TokenKind::Or,
         [b'0'..=b'9', ..] => TokenKind::Number,
         _ => TokenKind::Name,
     }
 }
 
 // The tokens of a text in which one blank stands between two.
-fn tokens(alloc: Global, text: &[u8]) -> Result<Vec<Token>, AllocError>
+pub(crate) fn tokens(alloc: Global, text: &[u8]) -> Result<Vec<Token>, AllocError>
     ensures { IfOk result (λ v. AreSlices text.now v.items) }
 {
     let mut tokens = Vec::new(alloc);
@@ -49,7 +58,7 @@ fn push_name(out: &mut String, name: &Name) -> Result<(), AllocError> {
 }
 
 #[cycle(shown)]
-fn push_expr(out: &mut String, expr: &Expr) -> Result<(), AllocError> {
+pub(crate) fn push_expr(out: &mut String, expr: &Expr) -> Result<(), AllocError> {
     match expr {
         Expr::Lit(n) => write!(out, "{n}"),
         Expr::Var(name) => push_name(out, name),
