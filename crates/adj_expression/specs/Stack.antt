@@ -1,5 +1,5 @@
 -- Stack: the frames of the code without where they lie in memory, the newest first, and what one step makes of them.
-use Rattle.std.specs.Prelude.{◌≡◌, List, map, reverse, Option, Some, None, option_map}
+use Rattle.std.specs.Prelude.{◌≡◌, List, map, reverse, Option, Some, None}
 use Rattle.adj_tree.specs.View.{op_of}
 use Rattle.adj_text.specs.Word.{Word}
 use Rattle.adj_text.specs.Machine as machine

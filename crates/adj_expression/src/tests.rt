@@ -152,3 +152,33 @@ fn an_expression_is_read_at_the_front(rt: HostRuntime) -> Result<(), Fail> {
     }
     Ok(())
 }
+
+fn push_times(out: &mut String, part: &str, count: usize) -> Result<(), AllocError> {
+    for _ in 0..count {
+        out.push_str(part)?;
+    }
+    Ok(())
+}
+
+#[test]
+fn a_deep_expression_is_read_without_recursion(rt: HostRuntime) -> Result<(), Fail> {
+    let cases = [
+        ("( ", "A", " )", "A, 0"),
+        ("ABS ( ", "A", " )", "Deep, 0"),
+        ("MAX ( A , ", "A", " )", "Deep, 0"),
+        ("A + ", "A", "", "Deep, 0"),
+        ("A ** ", "1", "", "Exponent, 0"),
+        ("1 ** ", "2", "", "(Pow 1 1), 0"),
+        ("A , ", "A", "", "A, 40000"),
+        ("( A , ", "A", "", "none"),
+    ];
+    for (front, inner, back, want) in cases {
+        let mut text = String::new(rt.alloc());
+        push_times(&mut text, front, 20_000)?;
+        text.push_str(inner)?;
+        push_times(&mut text, back, 20_000)?;
+        let found = shown(rt.alloc(), text.as_str(), 100)?;
+        assert_eq!(rt; found.as_str(), want, "{front}");
+    }
+    Ok(())
+}
