@@ -153,7 +153,7 @@ fn an_expression_is_read_at_the_front(rt: HostRuntime) -> Result<(), Fail> {
     Ok(())
 }
 
-fn push_times(out: &mut String, part: &str, count: usize) -> Result<(), AllocError> {
+pub(crate) fn push_times(out: &mut String, part: &str, count: usize) -> Result<(), AllocError> {
     for _ in 0..count {
         out.push_str(part)?;
     }
