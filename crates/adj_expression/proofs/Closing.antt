@@ -1,5 +1,5 @@
 -- Closing: sums that are made stay as they are, so what a closed state comes to is known.
-use Rattle.std.proofs.Common.{◌≡◌, ℕ, ◌+◌, List, [], ◌∷◌, ◌++◌, length, false, Option, Some, None, Result, refl, ap, sym, subst, ◌∙◌}
+use Rattle.std.proofs.Common.{◌≡◌, ℕ, ◌+◌, List, [], ◌∷◌, length, false, Option, Some, None, Result, refl, subst}
 use Rattle.std.specs.Prelude.{map, IfOk}
 use Rattle.std.proofs.lemmas.List.{length_push, length-map}
 use Rattle.adj_tree.specs.declared.fault.Memory.{Memory}

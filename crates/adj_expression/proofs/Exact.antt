@@ -1,15 +1,14 @@
 -- Exact: what stands for an expression while it is read is what it is judged to be.
-use Rattle.std.proofs.Common.{◌≡◌, ℕ, zero, suc, ◌+◌, ◌<◌, ◌≤◌, ◌==◌, min, max, Bool, true, false, List, [], ◌∷◌, Option, Some, None, Result, Ok, Err, refl, sym, ap, ap₂, subst, ◌∙◌, arith, inl, inr}
+use Rattle.std.proofs.Common.{◌≡◌, ℕ, suc, ◌+◌, ◌<◌, ◌≤◌, min, max, Bool, true, false, List, [], ◌∷◌, Option, Some, None, Result, refl, ap, ap₂, ◌∙◌, arith, inl, inr}
 use Rattle.std.specs.Prelude.{◌^◌, ◌||◌, ℤ, pos, neg_ℤ, nat_lt, nat_le, option_map, option_and_then}
-use Rattle.std.proofs.lemmas.Bool.{cases_lt, lt-ltb, le-ltb, le-leb, lt-leb, false≢true}
+use Rattle.std.proofs.lemmas.Bool.{cases_lt, lt-ltb, le-ltb, le-leb, lt-leb}
 use Rattle.std.proofs.lemmas.Bool.Decides.{nat_tests}
-use Rattle.adj_tree.specs.Code.{Op, Term, lit, var, elem, neg, bin, pow, abs, plain, none, more}
+use Rattle.adj_tree.specs.Code.{Op, Term, lit, var, neg, bin, pow, plain, none, more}
 use Rattle.adj_text.specs.Char.{number_of}
-use Rattle.adj_text.specs.Grammar.{Syntax, number, variable, negated, joined, raised, applied, Arguments, only, beside, count_of, takes, takes_as, application_of, operation_of, is_absolute, two_arguments, in_words, with_both, constant_of, constant_power, as_exponent, constant, exponent, tree, Symbol, Derives, literal, name, group, application, primary, power, factor, product, term, sign, sum, signed, adds, subtracts, DerivesAll, single, another}
-use Rattle.adj_text.specs.Machine.{value, values}
+use Rattle.adj_text.specs.Grammar.{Syntax, applied, Arguments, only, beside, count_of, takes, takes_as, application_of, operation_of, is_absolute, two_arguments, in_words, with_both, constant_of, constant_power, constant, exponent, tree, Symbol, Derives, literal, name, group, application, primary, power, factor, product, term, sign, sum, adds, subtracts, DerivesAll, single, another}
+use Rattle.adj_text.specs.Machine.{value}
 use Rattle.adj_text.specs.Word.{Word}
 use Rattle.adj_expression.specs.declared.flaw.Flaw.{Flaw}
-use Rattle.adj_expression.specs.declared.flaw.Flaw.TheVariants.{Large, Deep, Exponent}
 use Rattle.adj_expression.specs.Flaws.{of_one, of_two, kept, as_power}
 use Rattle.adj_expression.specs.Judged.{has_large, depth, judged_by, judged}
 use Rattle.adj_expression.specs.Partial as partial

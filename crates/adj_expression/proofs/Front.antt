@@ -1,5 +1,5 @@
 -- Front: what the machine of operands reads at the front of some words is what stands there, judged.
-use Rattle.std.proofs.Common.{◌≡◌, List, [], ◌∷◌, Bool, true, false, cond, Option, Some, None, refl, sym, ap, ap₂, subst, ◌∙◌}
+use Rattle.std.proofs.Common.{◌≡◌, List, [], ◌∷◌, Bool, true, false, cond, Option, Some, None, refl, sym, ap, ◌∙◌}
 use Rattle.std.specs.Prelude.{ℕ, IfSome, Result, option_map}
 use Rattle.adj_tree.specs.Code.{Term}
 use Rattle.adj_text.specs.Grammar.{Syntax, Sum, Derives}

@@ -1,9 +1,8 @@
 -- Powers: a power without wrapping is std's; and where the exponent is large it turns on whether that is even.
-use Rattle.std.specs.Prelude.{◌≡◌, ◌⊎◌, ◌+◌, ◌-◌, ◌*◌, ◌%◌, ◌^◌, ◌<◌, ◌≤◌, ◌==◌, ℕ, ℤ, Bool, zero, suc, pos, negsuc, neg_ℤ, ◌*ℤ◌, true, false, min, not, Option, Some, None, if◌then◌else◌, unsigned_abs, SomeIff, FitsSigned, int_le, int_lt, ◌&&◌}
+use Rattle.std.specs.Prelude.{◌≡◌, ◌+◌, ◌-◌, ◌*◌, ◌%◌, ◌^◌, ◌<◌, ◌≤◌, ◌==◌, ℕ, ℤ, Bool, zero, suc, pos, negsuc, neg_ℤ, ◌*ℤ◌, true, false, min, not, Option, Some, None, if◌then◌else◌, SomeIff, FitsSigned}
 use Rattle.std.specs.Int.{int_pow}
-use Rattle.std.proofs.Common.{refl, ap, ap₂, sym, subst, ◌∙◌, arith, inl, inr, le_trans, pow_mono, pow-suc, mul-zero, w64, cond}
+use Rattle.std.proofs.Common.{refl, ap, ap₂, sym, ◌∙◌, arith, inl, inr, le_trans, pow_mono, pow-suc, mul-zero, w64}
 use Rattle.std.proofs.Math.Nat.{mul-one, pow-le-pow_left, pow-succ', pow-zero}
-use Rattle.std.proofs.Math.IntN.{neg_ℤ-neg_ℤ}
 use Rattle.std.proofs.lemmas.Bool.{cases_lt, le-ltb, lt-ltb, le-leb, lt-leb}
 use Rattle.adj_text.specs.Grammar.{to_power, in_words}
 

@@ -1,5 +1,5 @@
 -- Runs: a run of the machine over the tokens that are left.
-use Rattle.std.proofs.Common.{◌≡◌, ℕ, suc, ◌<◌, ◌≤◌, List, [], ◌∷◌, length, Option, Some, None, Result, Ok, Err, true, false, refl, sym, ap, subst, arith, ◌∙◌, Bor}
+use Rattle.std.proofs.Common.{◌≡◌, ℕ, suc, List, [], ◌∷◌, Option, Some, None, Result, Ok, Err, true, false, refl, sym, ap, subst, arith, ◌∙◌, Bor}
 use Rattle.std.specs.Prelude.{option_map, option_and_then, IfOk}
 use Rattle.adj_tree.specs.Code.{Term}
 use Rattle.adj_tree.specs.View.{term_of}
@@ -7,7 +7,7 @@ use Rattle.adj_tree.specs.declared.expr.Expr.{Expr}
 use Rattle.adj_tree.specs.declared.fault.Memory.{Memory}
 use Rattle.adj_text.specs.declared.token.Token.{Token}
 use Rattle.adj_text.specs.Machine.{Algebra, State, Nothing, Callee, Operand, wanting, is_stop, step, finish, whole, chosen, stopped, read}
-use Rattle.adj_text.specs.Word.{Word, word_of, words_of}
+use Rattle.adj_text.specs.Word.{Word, words_of}
 use Rattle.adj_expression.specs.declared.flaw.Flaw.{Flaw}
 use Rattle.adj_expression.specs.Front.{AreSlices, front_expression}
 use Rattle.adj_expression.specs.Partial.{Partial, algebra, ended}

@@ -6,44 +6,47 @@ use Rattle.std.specs.Prelude.{map, reverse, slice_get}
 use Rattle.adj_text.specs.Machine.{whole}
 use Rattle.adj_expression.specs.declared.frame.Frame.{Frame}
 use Rattle.adj_expression.specs.Partial.{Partial}
-use Rattle.adj_expression.specs.Stack.{frame_of, stack_of}
+use Rattle.adj_expression.specs.Stack.{stacked, frame_of, stack_of}
 
-pub stack_of-push : (items : List Frame) (frame : Frame) → stack_of (items ++ frame ∷ []) ≡ frame_of frame ∷ stack_of items
-unfolding stack_of
-stack_of-push items frame = ap reverse (map_push frame_of items frame) ∙ reverse-append (map frame_of items) (frame_of frame ∷ [])
+pub stacked-push : {A B : Type 0} (view : A → B) (items : List A) (item : A) → stacked view (items ++ item ∷ []) ≡ view item ∷ stacked view items
+unfolding stacked
+stacked-push view items item = ap reverse (map_push view items item) ∙ reverse-append (map view items) (view item ∷ [])
 
-pub stack_of-pop : (items rest : List Frame) (frame : Frame) → items ≡ rest ++ frame ∷ [] → stack_of items ≡ frame_of frame ∷ stack_of rest
-stack_of-pop items rest frame e = ap stack_of e ∙ stack_of-push rest frame
+pub stacked-pop : {A B : Type 0} (view : A → B) (items rest : List A) (item : A) → items ≡ rest ++ item ∷ [] → stacked view items ≡ view item ∷ stacked view rest
+stacked-pop view items rest item e = ap (stacked view) e ∙ stacked-push view rest item
 
-pub stack_of-nil : (items : List Frame) → length items ≡ 0 → stack_of items ≡ []
-unfolding stack_of
-stack_of-nil items n = let none = nil_from_length items n in rw none refl
+pub stacked-nil : {A B : Type 0} (view : A → B) (items : List A) → length items ≡ 0 → stacked view items ≡ []
+unfolding stacked
+stacked-nil view items n = let none = nil_from_length items n in rw none refl
 
-pub stack_of-last : (items : List Frame) (frame : Frame) → slice_get items (length items - 1) ≡ Some frame → stack_of items ≡ frame_of frame ∷ stack_of (take (length items - 1) items)
-stack_of-last items frame e =
-    let within = slice_get_within items (length items - 1) frame e in
+pub stacked-last : {A B : Type 0} (view : A → B) (items : List A) (item : A) → slice_get items (length items - 1) ≡ Some item → stacked view items ≡ view item ∷ stacked view (take (length items - 1) items)
+stacked-last view items item e =
+    let within = slice_get_within items (length items - 1) item e in
     let n = length items - 1 in
     let all : take (n + 1) items ≡ items = take_all (n + 1) items (omega arith) in
-    let last : get_or items n frame ≡ frame = get_or_from_slice_get items n frame frame e in
-    stack_of-pop items (take n items) frame (sym all ∙ take_more items n frame within ∙ ap (λ f. take n items ++ f ∷ []) last)
+    let last : get_or items n item ≡ item = get_or_from_slice_get items n item item e in
+    stacked-pop view items (take n items) item (sym all ∙ take_more items n item within ∙ ap (λ f. take n items ++ f ∷ []) last)
 
-pub stack_of-no_last : (items : List Frame) → slice_get items (length items - 1) ≡ None → stack_of items ≡ []
-stack_of-no_last [] e = stack_of-nil [] refl
-stack_of-no_last (frame ∷ items) e =
+pub stacked-no_last : {A B : Type 0} (view : A → B) (items : List A) → slice_get items (length items - 1) ≡ None → stacked view items ≡ []
+stacked-no_last view [] e = stacked-nil view [] refl
+stacked-no_last view (item ∷ items) e =
     let n = length items in
-    let within : n < length (frame ∷ items) = omega arith in
-    let found = slice_get-get_or (frame ∷ items) n frame within in
-    let k : length (frame ∷ items) - 1 ≡ n = omega arith in
-    let same = ap (slice_get (frame ∷ items)) k in
-    cc (e, found, same)
+    let within : n < length (item ∷ items) = omega arith in
+    let found = slice_get-get_or (item ∷ items) n item within in
+    let k : length (item ∷ items) - 1 ≡ n = omega arith in
+    let same = ap (slice_get (item ∷ items)) k in
+    absurd cc
 
--- a frame is left over
+-- something is left over
+pub stacked-left_over : {A B : Type 0} (view : A → B) (items : List A) → 0 < length items → (newest : B) × (rest : List B) × (stacked view items ≡ newest ∷ rest)
+stacked-left_over view [] some = absurd (omega arith)
+stacked-left_over view (item ∷ items) some =
+    let n = length (item ∷ items) - 1 in
+    let within : n < length (item ∷ items) = omega arith in
+    let found = slice_get-get_or (item ∷ items) n item within in
+    (view (get_or (item ∷ items) n item), stacked view (take n (item ∷ items)), stacked-last view (item ∷ items) (get_or (item ∷ items) n item) found)
+
 pub whole-left_over : (items : List Frame) (x : Partial) → 0 < length items → whole (stack_of items, x) ≡ None
-whole-left_over [] x some = absurd (omega arith)
-whole-left_over (frame ∷ items) x some =
-    let n = length (frame ∷ items) - 1 in
-    let within : n < length (frame ∷ items) = omega arith in
-    let found = slice_get-get_or (frame ∷ items) n frame within in
-    rw (stack_of-last (frame ∷ items) (get_or (frame ∷ items) n frame) found) refl
+whole-left_over items x some = ap (λ frames. whole (frames, x)) (stacked-left_over frame_of items some).2
 
-pub ruleset stacks = (stack_of-push, stack_of-pop, stack_of-nil, append-nil, stack_of-last, stack_of-no_last, whole-left_over, map_push)
+pub ruleset stacks = (stacked-push, stacked-pop, stacked-nil, append-nil, stacked-last, stacked-no_last, whole-left_over, map_push)

@@ -1,5 +1,5 @@
 -- Stack: the frames of the code without where they lie in memory, the newest first, and what one step makes of them.
-use Rattle.std.specs.Prelude.{◌≡◌, List, map, reverse, Option, Some, None, option_map}
+use Rattle.std.specs.Prelude.{◌≡◌, List, map, reverse, Option, Some, None}
 use Rattle.adj_tree.specs.View.{op_of}
 use Rattle.adj_text.specs.Word.{Word}
 use Rattle.adj_text.specs.Machine as machine
@@ -20,8 +20,12 @@ frame_of (frames.Added op x) = machine.Added (op_of op) (operand_of x)
 frame_of (frames.Multiplied op x) = machine.Multiplied (op_of op) (operand_of x)
 frame_of (frames.Base x) = machine.Base (operand_of x)
 
-unfoldable pub stack_of : List Frame → List (machine.Frame Partial)
-stack_of items = reverse (map frame_of items)
+-- what a view shows, the newest first
+unfoldable pub stacked : {A B : Type 0} → (A → B) → List A → List B
+stacked view items = reverse (map view items)
+
+abbrev pub stack_of : List Frame → List (machine.Frame Partial)
+stack_of items = stacked frame_of items
 
 abbrev pub seen_of : Seen → machine.Seen Partial
 seen_of seens.Nothing = machine.Nothing

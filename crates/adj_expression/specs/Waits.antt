@@ -1,5 +1,5 @@
 -- Waits: what waits in the code without where it lies in memory, the newest first, and what one word makes of it.
-use Rattle.std.specs.Prelude.{◌≡◌, ℕ, List, map, reverse, Option, Some, None, option_map}
+use Rattle.std.specs.Prelude.{◌≡◌, ℕ, List, Option, Some, None, option_map}
 use Rattle.adj_tree.specs.View.{rel_of}
 use Rattle.adj_text.specs.Word.{Word}
 use Rattle.adj_expression.specs.declared.inside.Inside.{Inside}
@@ -12,11 +12,7 @@ use Rattle.adj_expression.specs.ConditionMachine as machine
 use Rattle.adj_expression.specs.ConditionMachine.{TestState, advance, conclude}
 use Rattle.adj_expression.specs.Partial.{Partial, operand_of}
 use Rattle.adj_expression.specs.PartialCondition.{PartialTest, test_algebra, proposition_of}
-use Rattle.adj_expression.specs.Stack.{stack_of, seen_of}
-
--- the newest first
-unfoldable pub stacked : {A B : Type 0} → (A → B) → List A → List B
-stacked view items = reverse (map view items)
+use Rattle.adj_expression.specs.Stack.{stacked, stack_of, seen_of}
 
 abbrev pub waiting_of : Waiting → machine.Waiting PartialTest
 waiting_of waitings.Opened = machine.Opened

@@ -6,6 +6,8 @@
 #![tactic(auto)]
 
 mod application;
+#[cfg(test)]
+mod condition_tests;
 mod conditions;
 mod constant;
 mod expressions;

@@ -134,8 +134,8 @@ fn add(
     requires { limit < 1000 }
     ensures { IfOk result (λ next. Makes (algebra limit) (Some (add (op_of op) (close_sum (algebra limit) (stack_of frames.old.items) (operand_of operand)))) None frames.new.items next) }
 {
-    let sum = close_sum(alloc, frames, operand, limit)?;
-    frames.push(Frame::Added(op, sum))?;
+    let left = close_sum(alloc, frames, operand, limit)?;
+    frames.push(Frame::Added(op, left))?;
     Ok(Stepped::On(Seen::Nothing))
 }
 
@@ -149,8 +149,8 @@ fn multiply(
     requires { limit < 1000 }
     ensures { IfOk result (λ next. Makes (algebra limit) (Some (multiply (op_of op) (close_product (algebra limit) (stack_of frames.old.items) (operand_of operand)))) None frames.new.items next) }
 {
-    let product = close_product(alloc, frames, operand, limit)?;
-    frames.push(Frame::Multiplied(op, product))?;
+    let left = close_product(alloc, frames, operand, limit)?;
+    frames.push(Frame::Multiplied(op, left))?;
     Ok(Stepped::On(Seen::Nothing))
 }
 

@@ -20,13 +20,22 @@ fn kind_of(word: &[u8]) -> TokenKind {
         b")" => TokenKind::Right,
         b"," => TokenKind::Comma,
         b"=" => TokenKind::Equals,
+        b".LT." => TokenKind::Lt,
+        b".LE." => TokenKind::Le,
+        b".EQ." => TokenKind::Eq,
+        b".NE." => TokenKind::Ne,
+        b".GT." => TokenKind::Gt,
+        b".GE." => TokenKind::Ge,
+        b".NOT." => TokenKind::Not,
+        b".AND." => TokenKind::And,
+        b".OR." => TokenKind::Or,
         [b'0'..=b'9', ..] => TokenKind::Number,
         _ => TokenKind::Name,
     }
 }
 
 // The tokens of a text in which one blank stands between two.
-fn tokens(alloc: Global, text: &[u8]) -> Result<Vec<Token>, AllocError>
+pub(crate) fn tokens(alloc: Global, text: &[u8]) -> Result<Vec<Token>, AllocError>
     ensures { IfOk result (λ v. AreSlices text.now v.items) }
 {
     let mut tokens = Vec::new(alloc);
@@ -49,7 +58,7 @@ fn push_name(out: &mut String, name: &Name) -> Result<(), AllocError> {
 }
 
 #[cycle(shown)]
-fn push_expr(out: &mut String, expr: &Expr) -> Result<(), AllocError> {
+pub(crate) fn push_expr(out: &mut String, expr: &Expr) -> Result<(), AllocError> {
     match expr {
         Expr::Lit(n) => write!(out, "{n}"),
         Expr::Var(name) => push_name(out, name),
@@ -140,6 +149,36 @@ fn an_expression_is_read_at_the_front(rt: HostRuntime) -> Result<(), Fail> {
     for (text, want) in cases {
         let found = shown(rt.alloc(), text, 4)?;
         assert_eq!(rt; found.as_str(), want, "{text}");
+    }
+    Ok(())
+}
+
+pub(crate) fn push_times(out: &mut String, part: &str, count: usize) -> Result<(), AllocError> {
+    for _ in 0..count {
+        out.push_str(part)?;
+    }
+    Ok(())
+}
+
+#[test]
+fn a_deep_expression_is_read_without_recursion(rt: HostRuntime) -> Result<(), Fail> {
+    let cases = [
+        ("( ", "A", " )", "A, 0"),
+        ("ABS ( ", "A", " )", "Deep, 0"),
+        ("MAX ( A , ", "A", " )", "Deep, 0"),
+        ("A + ", "A", "", "Deep, 0"),
+        ("A ** ", "1", "", "Exponent, 0"),
+        ("1 ** ", "2", "", "(Pow 1 1), 0"),
+        ("A , ", "A", "", "A, 40000"),
+        ("( A , ", "A", "", "none"),
+    ];
+    for (front, inner, back, want) in cases {
+        let mut text = String::new(rt.alloc());
+        push_times(&mut text, front, 20_000)?;
+        text.push_str(inner)?;
+        push_times(&mut text, back, 20_000)?;
+        let found = shown(rt.alloc(), text.as_str(), 100)?;
+        assert_eq!(rt; found.as_str(), want, "{front}");
     }
     Ok(())
 }

@@ -4,7 +4,7 @@ use Rattle.adj_expression.specs.PartialCondition.{test_algebra}
 use Rattle.adj_expression.specs.Waits.{waiting_of}
 use Rattle.adj_expression.proofs.ConditionReads.{test_goes_on, test_ended, test_refused, test_ends, with_rest}
 use Rattle.adj_expression.proofs.Runs.{AreSlices-rest}
-use Rattle.adj_expression.proofs.WaitLemmas.{stacked-nil}
+use Rattle.adj_expression.proofs.StackLemmas.{stacked-nil}
 use Rattle.adj_expression.proofs.conditions.read.Goals as goal
 
 pub loop-token-init : goal.loop-token-init

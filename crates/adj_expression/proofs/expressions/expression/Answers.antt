@@ -1,15 +1,15 @@
-use Rattle.std.proofs.Common.{◌≡◌, sym, ap, refl, subst, ◌∙◌}
+use Rattle.std.proofs.Common.{sym, ap, refl, subst, ◌∙◌}
 use Rattle.std.proofs.lemmas.List.{nil_from_length}
 use Rattle.adj_text.specs.Machine.{Nothing, State, read}
 use Rattle.adj_text.specs.Word.{words_of, word_of}
 use Rattle.adj_expression.specs.Partial.{Partial, algebra}
-use Rattle.adj_expression.specs.Stack.{stack_of, seen_of, Steps}
+use Rattle.adj_expression.specs.Stack.{frame_of, stack_of, seen_of, Steps}
 use Rattle.adj_expression.proofs.Runs.{read_more, read_ends, read_fails, read_whole, AreSlices-rest, ends_front, fails_front}
-use Rattle.adj_expression.proofs.StackLemmas.{stack_of-nil}
+use Rattle.adj_expression.proofs.StackLemmas.{stacked-nil}
 use Rattle.adj_expression.proofs.expressions.expression.Goals as goal
 
 pub loop-token-init : goal.loop-token-init
-loop-token-init c = (ap (λ frames. read (algebra c.args.limit) (frames, Nothing) (words_of c.args.text.now c.args.tokens.now)) (ap stack_of c.new-frames.ensures.items ∙ stack_of-nil _ refl), c.requires.slices)
+loop-token-init c = (ap (λ frames. read (algebra c.args.limit) (frames, Nothing) (words_of c.args.text.now c.args.tokens.now)) (ap stack_of c.new-frames.ensures.items ∙ stacked-nil frame_of _ refl), c.requires.slices)
 
 pub loop-token-preserved : goal.loop-token-preserved
 loop-token-preserved c =

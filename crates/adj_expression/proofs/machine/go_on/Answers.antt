@@ -1,4 +1,3 @@
-use Rattle.std.proofs.Common.{◌≡◌}
 use Rattle.adj_text.specs.Machine.{end_group, next_argument}
 use Rattle.adj_expression.specs.Partial.{algebra, operand_of}
 use Rattle.adj_expression.specs.Stack.{stack_of}
