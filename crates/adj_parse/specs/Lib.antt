@@ -1,3 +1,5 @@
+pub mod Phrase
+pub mod Phrases
 pub mod Said
 pub mod View
 pub mod Trees
