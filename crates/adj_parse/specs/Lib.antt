@@ -1,5 +1,7 @@
 pub mod Phrase
 pub mod Phrases
+pub mod Flaws
 pub mod Said
 pub mod View
+pub mod WordsView
 pub mod Trees
