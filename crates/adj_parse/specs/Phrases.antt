@@ -1,5 +1,5 @@
 -- Phrases: how the words of a statement are read, from the front.
-use Rattle.std.specs.Prelude.{ℕ, zero, suc, List, [], ◌∷◌, ◌++◌, length, Option, Some, None, option_map, option_and_then}
+use Rattle.std.specs.Prelude.{if◌then◌else◌, Bool, true, false, ℕ, zero, suc, List, [], ◌∷◌, ◌++◌, length, Option, Some, None, option_map, option_and_then}
 use Rattle.adj_text.specs.Condition.{Condition}
 use Rattle.adj_text.specs.Form.{Form, subroutine, implicit_none, end_do, go_on, otherwise, end_if, leaves, ends}
 use Rattle.adj_text.specs.Grammar.{Syntax, Arguments, only, beside}
@@ -47,6 +47,10 @@ behind_equals ws = None
 abbrev pub behind_call : List Word → Option (List Word)
 behind_call (Mark Call ∷ ws) = Some ws
 behind_call ws = None
+
+abbrev pub are_none : List Word → Bool
+are_none [] = true
+are_none (w ∷ ws) = false
 
 -- what was read, where no word is left
 abbrev pub ended : {A : Type 0} → A → List Word → Option A
@@ -102,9 +106,8 @@ actuals_in ws None = do
   rest ← behind_right all.1
   ended (Some all.0) rest
 
-abbrev pub read_actuals : List Word → Option (Option Arguments)
-read_actuals [] = Some None
-read_actuals (w ∷ ws) = behind_left (w ∷ ws) >>= λ us. actuals_in us (behind_right us)
+unfoldable pub read_actuals : List Word → Option (Option Arguments)
+read_actuals ws = if are_none ws then Some None else (behind_left ws >>= λ us. actuals_in us (behind_right us))
 
 unfoldable pub read_call : List Word → Option Deed
 read_call ws = do
@@ -123,9 +126,8 @@ dummies_in ws None = do
   rest ← behind_right all.1
   ended all.0 rest
 
-abbrev pub read_dummies : List Word → Option (List (List ℕ))
-read_dummies [] = Some []
-read_dummies (w ∷ ws) = behind_left (w ∷ ws) >>= λ us. dummies_in us (behind_right us)
+unfoldable pub read_dummies : List Word → Option (List (List ℕ))
+read_dummies ws = if are_none ws then Some [] else (behind_left ws >>= λ us. dummies_in us (behind_right us))
 
 unfoldable pub read_head : List Word → Option Form
 read_head ws = do
@@ -162,12 +164,14 @@ read_items ws = do
   ended all.0 all.1
 
 -- the step of a loop, where it has one
-abbrev pub read_step : List Word → Option (Option Syntax)
-read_step [] = Some None
-read_step (w ∷ ws) = do
-  us ← behind_comma (w ∷ ws)
+abbrev pub step_behind : List Word → Option (Option Syntax)
+step_behind ws = do
+  us ← behind_comma ws
   c ← read_expression us
   ended (Some c.0) c.1
+
+unfoldable pub read_step : List Word → Option (Option Syntax)
+read_step ws = if are_none ws then Some None else step_behind ws
 
 unfoldable pub read_bounds : List Word → Option Bounds
 read_bounds ws = do

@@ -3,5 +3,5 @@ use Rattle.std.specs.Prelude.{List}
 use Rattle.adj_text.specs.Word.{Word, words_of}
 use Rattle.adj_parse.specs.declared.words.Words.{Words}
 
-abbrev pub words : Words → List Word
-words w = words_of w.text.now w.tokens.now
+abbrev pub words_in : Words → List Word
+words_in w = words_of w.text.now w.tokens.now

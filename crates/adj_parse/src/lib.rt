@@ -6,6 +6,7 @@
 #![tactic(auto)]
 
 mod flaws;
+mod heading;
 mod label;
 mod said;
 mod statement;

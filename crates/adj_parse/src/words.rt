@@ -16,32 +16,42 @@ pub(crate) struct Words<'t> {
 }
 
 impl<'t> Words<'t> {
-    ghost use Rattle.std.specs.Prelude.{◌≡◌, ◌==◌, ◌<◌, length, IfOk, option_map};
+    ghost use Rattle.std.specs.Prelude.{◌≡◌, ◌<◌, IfOk, option_map};
     ghost use Rattle.adj_tree.specs.View.{term_of, test_of};
     ghost use Rattle.adj_text.specs.Word.{words_of};
     ghost use Rattle.adj_expression.specs.Front.{front_expression, front_condition};
     ghost use Rattle.adj_expression.specs.View.{seen};
-    ghost use Rattle.adj_parse.specs.Phrases.{name_at, digits_at, behind_left, behind_right, behind_comma, behind_equals, behind_call};
-    ghost use Rattle.adj_parse.specs.WordsView.{words};
+    ghost use Rattle.adj_parse.specs.Phrases.{are_none, ended, name_at, digits_at, behind_left, behind_right, behind_comma, behind_equals, behind_call};
+    ghost use Rattle.adj_parse.specs.WordsView.{words_in};
 
     /// Tokens of a text.
     pub fn new(text: &'t [u8], tokens: &'t [Token]) -> Words<'t>
         requires { AreSlices text.now tokens.now }
-        ensures { words result ≡ words_of text.now tokens.now }
+        ensures { words_in result ≡ words_of text.now tokens.now }
     {
         Words { text, tokens }
     }
 
     /// Whether none is left.
-    pub fn are_empty(self) -> bool
-        ensures { result ≡ (length (words self.entry) == 0) }
+    pub fn are_none(self) -> bool
+        ensures { result ≡ are_none (words_in self.entry) }
     {
         self.tokens.is_empty()
     }
 
+    /// What was read before, where none is left.
+    pub fn ended<A: Drop>(self, read: A) -> Option<A>
+        ensures { result ≡ ended read (words_in self.entry) }
+    {
+        match self.tokens {
+            [] => Some(read),
+            [..] => None,
+        }
+    }
+
     /// What stands behind a left parenthesis.
     pub fn behind_left(self) -> Option<Words<'t>>
-        ensures { option_map words result ≡ behind_left (words self.entry) }
+        ensures { option_map words_in result ≡ behind_left (words_in self.entry) }
     {
         match self.tokens {
             [first, rest @ ..] if first.kind == TokenKind::Left => Some(Words::new(self.text, rest)),
@@ -51,7 +61,7 @@ impl<'t> Words<'t> {
 
     /// What stands behind a right parenthesis.
     pub fn behind_right(self) -> Option<Words<'t>>
-        ensures { option_map words result ≡ behind_right (words self.entry) }
+        ensures { option_map words_in result ≡ behind_right (words_in self.entry) }
     {
         match self.tokens {
             [first, rest @ ..] if first.kind == TokenKind::Right => Some(Words::new(self.text, rest)),
@@ -61,7 +71,7 @@ impl<'t> Words<'t> {
 
     /// What stands behind a comma.
     pub fn behind_comma(self) -> Option<Words<'t>>
-        ensures { option_map words result ≡ behind_comma (words self.entry) }
+        ensures { option_map words_in result ≡ behind_comma (words_in self.entry) }
     {
         match self.tokens {
             [first, rest @ ..] if first.kind == TokenKind::Comma => Some(Words::new(self.text, rest)),
@@ -71,7 +81,7 @@ impl<'t> Words<'t> {
 
     /// What stands behind `=`.
     pub fn behind_equals(self) -> Option<Words<'t>>
-        ensures { option_map words result ≡ behind_equals (words self.entry) }
+        ensures { option_map words_in result ≡ behind_equals (words_in self.entry) }
     {
         match self.tokens {
             [first, rest @ ..] if first.kind == TokenKind::Equals => Some(Words::new(self.text, rest)),
@@ -81,7 +91,7 @@ impl<'t> Words<'t> {
 
     /// What stands behind the word CALL.
     pub fn behind_call(self) -> Option<Words<'t>>
-        ensures { option_map words result ≡ behind_call (words self.entry) }
+        ensures { option_map words_in result ≡ behind_call (words_in self.entry) }
     {
         match self.tokens {
             [first, rest @ ..] if first.kind == TokenKind::Call => Some(Words::new(self.text, rest)),
@@ -91,7 +101,7 @@ impl<'t> Words<'t> {
 
     /// The name at the front, and what stands behind it.
     pub fn name(self, alloc: Global) -> Result<Option<(Name, Words<'t>)>, Memory>
-        ensures { IfOk result (λ found. option_map (λ f. (f.0, words f.1)) found ≡ name_at (words self.entry)) }
+        ensures { IfOk result (λ found. option_map (λ f. (f.0, words_in f.1)) found ≡ name_at (words_in self.entry)) }
     {
         match self.tokens {
             [first, rest @ ..] if first.kind == TokenKind::Name => {
@@ -104,7 +114,7 @@ impl<'t> Words<'t> {
 
     /// The digits at the front, and what stands behind them.
     pub fn digits(self) -> Option<(&'t [u8], Words<'t>)>
-        ensures { option_map (λ f. (f.0.now, words f.1)) result ≡ digits_at (words self.entry) }
+        ensures { option_map (λ f. (f.0.now, words_in f.1)) result ≡ digits_at (words_in self.entry) }
     {
         match self.tokens {
             [first, rest @ ..] if first.kind == TokenKind::Number => {
@@ -122,7 +132,7 @@ impl<'t> Words<'t> {
         limit: u32,
     ) -> Result<Option<(Result<Expr, Flaw>, Words<'t>)>, Memory>
         requires { limit < 1000 }
-        ensures { IfOk result (λ found. option_map (λ f. (seen term_of f.0, words f.1)) found ≡ front_expression limit (words self.entry)) }
+        ensures { IfOk result (λ found. option_map (λ f. (seen term_of f.0, words_in f.1)) found ≡ front_expression limit (words_in self.entry)) }
     {
         match expression(alloc, self.text, self.tokens, limit)? {
             Some((found, rest)) => Ok(Some((found, Words::new(self.text, rest)))),
@@ -137,7 +147,7 @@ impl<'t> Words<'t> {
         limit: u32,
     ) -> Result<Option<(Result<Cond, Flaw>, Words<'t>)>, Memory>
         requires { limit < 1000 }
-        ensures { IfOk result (λ found. option_map (λ f. (seen test_of f.0, words f.1)) found ≡ front_condition limit (words self.entry)) }
+        ensures { IfOk result (λ found. option_map (λ f. (seen test_of f.0, words_in f.1)) found ≡ front_condition limit (words_in self.entry)) }
     {
         match condition(alloc, self.text, self.tokens, limit)? {
             Some((found, rest)) => Ok(Some((found, Words::new(self.text, rest)))),
