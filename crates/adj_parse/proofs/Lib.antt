@@ -1,3 +1,5 @@
-pub mod Members
 pub mod Shorter
+pub mod Members
 pub mod Lists
+pub mod Judging
+pub mod Declared

@@ -1,13 +1,10 @@
 -- Members: lists between commas are read one member at a time.
-use Rattle.std.proofs.Common.{◌≡◌, ◌≤◌, ◌<◌, ℕ, zero, suc, List, [], ◌∷◌, length, Option, Some, None, IfSome, refl, sym, ap, ◌∙◌, arith}
+use Rattle.std.proofs.Common.{◌≡◌, ◌≤◌, ◌<◌, ℕ, zero, suc, List, [], ◌∷◌, length, Option, Some, None, option_map, IfSome, refl, sym, ap, ◌∙◌, arith}
 use Rattle.adj_text.specs.Machine.{chosen}
 use Rattle.adj_text.specs.Word.{Word, Named, Digits, Mark}
 use Rattle.adj_text.specs.declared.token.TokenKind.TheVariants.{Comma}
+use Rattle.adj_parse.proofs.Shorter.{Shortens}
 use Rattle.adj_parse.specs.Phrases.{Read, ◌>>=◌, behind_comma, members, members_behind}
-
--- what is left is no longer than what was there
-abbrev pub Shortens : {A : Type 0} → (List Word → Read A) → Type 0
-Shortens reader = (ws : List Word) → IfSome (reader ws) (λ r. length r.1 ≤ length ws)
 
 -- as many as there are words are enough
 enough : {A B : Type 0} (push : B → A → B) (reader : List Word → Read A) → Shortens reader → (m n : ℕ) (before : B) (ws : List Word) → length ws ≤ m → length ws ≤ n → members push reader m before ws ≡ members push reader n before ws
@@ -35,3 +32,16 @@ members_on push reader short before (Mark Comma ∷ us) =
       | Some r ↦ λ s. enough push reader short (length us) (length r.1) (push before r.0) r.1 s (omega arith)
     ] (short us)
 members_on push reader short before (w ∷ ws) = refl
+
+-- what is read when each member and the list are seen in another way
+pub members-seen : {A B C D : Type 0} (push : B → A → B) (other : D → C → D) (reader : List Word → Read A) (j : A → C) (k : B → D) → ((b : B) (a : A) → other (k b) (j a) ≡ k (push b a)) → (n : ℕ) (before : B) (ws : List Word) → members other (λ us. option_map (λ r. (j r.0, r.1)) (reader us)) n (k before) ws ≡ option_map (λ r. (k r.0, r.1)) (members push reader n before ws)
+unfolding members
+members-seen push other reader j k same zero before ws = refl
+members-seen push other reader j k same (suc n) before [] = refl
+members-seen {A} {B} {C} {D} push other reader j k same (suc n) before (Mark Comma ∷ us) =
+    let seen : List Word → Read C = λ vs. option_map (λ (r : A × List Word). (j r.0, r.1)) (reader vs) in
+    elim (reader us) as (λ (o : Read A). (option_map (λ (r : A × List Word). (j r.0, r.1)) o >>= λ (r : C × List Word). members other seen n (other (k before) r.0) r.1) ≡ option_map (λ (r : B × List Word). (k r.0, r.1)) (o >>= λ (r : A × List Word). members push reader n (push before r.0) r.1)) [
+      | None ↦ refl
+      | Some r ↦ ap (λ (b : D). members other seen n b r.1) (same before r.0) ∙ members-seen push other reader j k same n (push before r.0) r.1
+    ]
+members-seen push other reader j k same (suc n) before (w ∷ ws) = refl

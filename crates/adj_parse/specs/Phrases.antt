@@ -15,6 +15,10 @@ use Rattle.adj_parse.specs.Phrase.{Entry, Deed, assigns, calls, Size, numbered, 
 abbrev pub Read : Type 0 → Type 0
 Read A = Option (A × List Word)
 
+-- what was read, in another form
+abbrev pub read_as : {A B : Type 0} → (A → B) → Read A → Read B
+read_as f r = option_map (λ m. (f m.0, m.1)) r
+
 infixl 10 ◌>>=◌
 abbrev pub ◌>>=◌ : {A B : Type 0} → Option A → (A → Option B) → Option B
 o >>= f = option_and_then f o
@@ -135,10 +139,8 @@ read_head ws = do
   dummies ← read_dummies x.1
   Some (subroutine x.0 dummies)
 
-abbrev pub size_at : List Word → Read Size
-size_at (Digits ds ∷ ws) = Some (numbered ds, ws)
-size_at (Named x ∷ ws) = Some (named x, ws)
-size_at ws = None
+unfoldable pub size_at : List Word → Read Size
+size_at ws = chosen (digits_at ws) (λ d. Some (numbered d.0, d.1)) (option_map (λ x. (named x.0, x.1)) (name_at ws))
 
 abbrev pub second_size : Size → List Word → Option (List Word) → Read (List Size)
 second_size a rest None = Some (a ∷ [], rest)

@@ -5,9 +5,11 @@
 //! on what texts mean (`adj_text`) and on the trees. The layer above uses the clauses of `program`.
 #![tactic(auto)]
 
+mod declaration;
 mod flaws;
 mod heading;
 mod label;
+mod number;
 mod said;
 mod statement;
 mod text;
