@@ -45,3 +45,13 @@ members-seen {A} {B} {C} {D} push other reader j k same (suc n) before (Mark Com
       | Some r ↦ ap (λ (b : D). members other seen n b r.1) (same before r.0) ∙ members-seen push other reader j k same n (push before r.0) r.1
     ]
 members-seen push other reader j k same (suc n) before (w ∷ ws) = refl
+
+-- behind a comma and a member less is left
+pub shorter_behind : {A : Type 0} (reader : List Word → Read A) → Shortens reader → (ws us vs : List Word) (x : A) → Some us ≡ behind_comma ws → Some (x, vs) ≡ reader us → length vs < length ws
+shorter_behind reader short [] us vs x h k = absurd cc
+shorter_behind {A} reader short (Mark Comma ∷ ws) us vs x h k = let e : us ≡ ws = cc in let n = left (reader us) k (short us) in omega (arith, n, ap length e)
+  where
+    left : (o : Read A) → Some (x, vs) ≡ o → IfSome o (λ r. length r.1 ≤ length us) → length vs ≤ length us
+    left None h k = absurd cc
+    left (Some r) h k = let e : (x, vs) ≡ r = cc in omega (arith, ap (λ (p : A × List Word). length p.1) e)
+shorter_behind reader short (w ∷ ws) us vs x h k = absurd cc
