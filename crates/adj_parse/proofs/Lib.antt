@@ -3,3 +3,4 @@ pub mod Members
 pub mod Lists
 pub mod Judging
 pub mod Declared
+pub mod Deeds
