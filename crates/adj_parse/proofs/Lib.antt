@@ -4,3 +4,4 @@ pub mod Lists
 pub mod Judging
 pub mod Declared
 pub mod Deeds
+pub mod Runtime

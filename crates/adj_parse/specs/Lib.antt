@@ -3,6 +3,7 @@ pub mod Phrases
 pub mod Flaws
 pub mod Said
 pub mod Fronts
+pub mod Called
 pub mod View
 pub mod WordsView
 pub mod Trees
