@@ -11,6 +11,7 @@ use Rattle.adj_expression.specs.Judged.{has_large, any_large, depth, judged, jud
 use Rattle.adj_expression.specs.Reading.{read_expression}
 use Rattle.adj_expression.specs.View.{seen}
 use Rattle.adj_expression.specs.declared.flaw.Flaw.{Flaw}
+use Rattle.adj_parse.specs.Called.{call_of}
 use Rattle.adj_parse.specs.Flaws.{both, with_part}
 use Rattle.adj_parse.specs.Phrase.{Entry, Deed, assigns, calls}
 use Rattle.adj_parse.specs.Phrases.{Read, read_as, ◌>>=◌, name_at, behind_left, behind_right, behind_comma, behind_equals, are_none, ended, members, members_behind, read_arguments, second_subscript, read_subscripts, place_behind, read_place, read_assignment, actuals_in, read_actuals, read_call}
@@ -18,6 +19,7 @@ use Rattle.adj_parse.specs.Said.{any_deep, list_large, list_deep, list_trees}
 use Rattle.adj_parse.specs.Fronts.{front_list, terms, judged_terms, front_subscripts, judged_place, front_place, judged_actuals, front_actuals, judged_deed, front_assignment, front_call}
 use Rattle.adj_parse.proofs.Judging.{seen-judged, seen-seen, joined-judged, with_part-judged}
 use Rattle.adj_parse.proofs.Members.{members-seen}
+use Rattle.adj_parse.proofs.Runtime.{call_of-called}
 
 -- the last of some expressions comes directly before the others
 terms_last : (ts : List Term) (t : Term) (rest : Terms) → terms_onto (ts ++ t ∷ []) rest ≡ terms_onto ts (more t rest)
@@ -186,14 +188,18 @@ call_judged limit x (Some all) =
     go None = refl
     go (Some ts) = refl
 
-pub front_call_on : (limit : ℕ) (ws : List Word) → front_call limit ws ≡ (name_at ws >>= λ x. option_map (seen (λ ts. called x.0 (terms_listed ts))) (front_actuals limit x.1))
+pub front_call_on : (limit : ℕ) (ws : List Word) → front_call limit ws ≡ (name_at ws >>= λ x. option_map (seen (λ ts. call_of x.0 (terms_listed ts))) (front_actuals limit x.1))
 unfolding front_call front_actuals read_call
 front_call_on limit ws = first (name_at ws)
   where
-    list : (x : List ℕ) (o : Option (Option Arguments)) → option_map (judged_deed limit) (o >>= λ l. Some (calls (record { name = x; list = l }))) ≡ option_map (seen (λ ts. called x (terms_listed ts))) (option_map (judged_actuals limit) o)
-    list x None = refl
-    list x (Some l) = ap Some (call_judged limit x l)
+    by_name : (x : List ℕ) (r : Result (List Term) Flaw) → seen (λ ts. called x (terms_listed ts)) r ≡ seen (λ ts. call_of x (terms_listed ts)) r
+    by_name x (Ok ts) = ap Ok (sym (call_of-called x (terms_listed ts)))
+    by_name x (Err f) = refl
 
-    first : (o : Read (List ℕ)) → option_map (judged_deed limit) (o >>= λ x. read_actuals x.1 >>= λ l. Some (calls (record { name = x.0; list = l }))) ≡ (o >>= λ x. option_map (seen (λ ts. called x.0 (terms_listed ts))) (option_map (judged_actuals limit) (read_actuals x.1)))
+    list : (x : List ℕ) (o : Option (Option Arguments)) → option_map (judged_deed limit) (o >>= λ l. Some (calls (record { name = x; list = l }))) ≡ option_map (seen (λ ts. call_of x (terms_listed ts))) (option_map (judged_actuals limit) o)
+    list x None = refl
+    list x (Some l) = ap Some (call_judged limit x l ∙ by_name x (judged_actuals limit l))
+
+    first : (o : Read (List ℕ)) → option_map (judged_deed limit) (o >>= λ x. read_actuals x.1 >>= λ l. Some (calls (record { name = x.0; list = l }))) ≡ (o >>= λ x. option_map (seen (λ ts. call_of x.0 (terms_listed ts))) (option_map (judged_actuals limit) (read_actuals x.1)))
     first None = refl
     first (Some x) = list x.0 (read_actuals x.1)

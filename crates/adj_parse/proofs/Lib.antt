@@ -3,5 +3,5 @@ pub mod Members
 pub mod Lists
 pub mod Judging
 pub mod Declared
-pub mod Deeds
 pub mod Runtime
+pub mod Deeds

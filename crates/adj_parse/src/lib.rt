@@ -7,6 +7,7 @@
 
 mod called;
 mod declaration;
+mod deed;
 mod flaws;
 mod heading;
 mod label;
