@@ -1,7 +1,8 @@
 -- View: what clauses see of what a statement says.
 use Rattle.std.specs.Prelude.{ℕ, pos, List, map, option_map}
-use Rattle.adj_tree.specs.Code.{plain}
-use Rattle.adj_tree.specs.View.{term_of, test_of, act_of, extent_of}
+use Rattle.adj_tree.specs.Code.{Terms, plain}
+use Rattle.adj_tree.specs.View.{term_of, terms_of, test_of, act_of, extent_of}
+use Rattle.adj_tree.specs.declared.expr.Place.{Place}
 use Rattle.adj_text.specs.Char.{number_of}
 use Rattle.adj_text.specs.Statement as statement
 use Rattle.adj_text.specs.Form.{Form, subroutine, implicit_none, integers, simple, logical, opens_do, end_do, go_on, opens_if, otherwise, otherwise_if, end_if, leaves, ends}
@@ -16,6 +17,10 @@ use Rattle.adj_parse.specs.declared.said.Said.TheVariants.{Subroutine, ImplicitN
 abbrev pub label_of : Label → ℕ
 label_of (Short l) = l
 label_of (Long l) = number_of l.digits
+
+-- a place: its name and its subscripts
+abbrev pub place_seen : Place → List ℕ × Terms
+place_seen p = (p.name, terms_of p.subs)
 
 abbrev pub item_of : Item → statement.Item
 item_of i = record { name = i.name; extents = map extent_of i.extents }

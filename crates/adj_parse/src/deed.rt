@@ -3,12 +3,13 @@
 ghost use Rattle.std.specs.Prelude.{◌≡◌, ◌<◌, ℕ, List, map, IfOk, option_map};
 ghost use Rattle.adj_tree.specs.Code.{Term, Terms, plain, assign};
 ghost use Rattle.adj_tree.specs.Listed.{terms_listed};
-ghost use Rattle.adj_tree.specs.View.{term_of, terms_of, act_of};
+ghost use Rattle.adj_tree.specs.View.{term_of, act_of};
 ghost use Rattle.adj_expression.specs.Front.{front_expression};
 ghost use Rattle.adj_expression.specs.View.{seen};
 ghost use Rattle.adj_parse.specs.Called.{call_of};
 ghost use Rattle.adj_parse.specs.Flaws.{both, with_part};
 ghost use Rattle.adj_parse.specs.Fronts.{front_list, front_subscripts, front_place, front_assignment, front_actuals, front_call};
+ghost use Rattle.adj_parse.specs.View.{place_seen};
 ghost use Rattle.adj_parse.specs.WordsView.{words_in};
 
 use crate::called::called;
@@ -57,7 +58,7 @@ fn placed(
     name: Name,
     subscripts: Result<Vec<Expr>, Flaw>,
 ) -> Result<Result<Place, Flaw>, Memory>
-    ensures { IfOk result (λ r. seen (λ p. (p.name, terms_of p.subs)) r ≡ seen (λ ts. (name, terms_listed ts)) (seen (λ v. map term_of v.items) subscripts)) }
+    ensures { IfOk result (λ r. seen place_seen r ≡ seen (λ ts. (name, terms_listed ts)) (seen (λ v. map term_of v.items) subscripts)) }
 {
     match subscripts {
         Ok(all) => {
@@ -76,7 +77,7 @@ fn place(
     limit: u32,
 ) -> Result<Option<(Result<Place, Flaw>, Words)>, Memory>
     requires { limit < 1000 }
-    ensures { IfOk result (λ found. option_map (λ f. (seen (λ p. (p.name, terms_of p.subs)) f.0, words_in f.1)) found ≡ front_place limit (words_in words.entry)) }
+    ensures { IfOk result (λ found. option_map (λ f. (seen place_seen f.0, words_in f.1)) found ≡ front_place limit (words_in words.entry)) }
 {
     let Some((name, rest)) = words.name(alloc)? else {
         return Ok(None);
@@ -96,7 +97,7 @@ fn place(
 
 // An assignment to a place, or what is wrong with its parts.
 fn assigned(place: Result<Place, Flaw>, value: Result<Expr, Flaw>) -> Result<Act, Flaw>
-    ensures { seen act_of result ≡ seen (λ (q : (List ℕ × Terms) × Term). assign (plain q.0.0) q.0.1 q.1) (both (seen (λ p. (p.name, terms_of p.subs)) place) (seen term_of value)) }
+    ensures { seen act_of result ≡ seen (λ (q : (List ℕ × Terms) × Term). assign (plain q.0.0) q.0.1 q.1) (both (seen place_seen place) (seen term_of value)) }
 {
     match both(place, value) {
         Ok((place, value)) => Ok(Act::Assign(place, value)),
