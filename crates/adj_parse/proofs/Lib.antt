@@ -5,3 +5,5 @@ pub mod Judging
 pub mod Declared
 pub mod Runtime
 pub mod Deeds
+pub mod Guards
+pub mod Loops

@@ -190,12 +190,16 @@ abbrev pub without_comma : List Word → Option (List Word) → List Word
 without_comma ws None = ws
 without_comma ws (Some us) = us
 
-abbrev pub do_behind : List Word → Read (List ℕ) → Option Phrase
-do_behind ws None = option_map (repeats None) (read_bounds ws)
-do_behind ws (Some label) = option_map (repeats (Some label.0)) (read_bounds (without_comma label.1 (behind_comma label.1)))
+-- the digits behind DO, where there are any, and what stands behind them and a comma
+abbrev pub label_behind : List Word → Read (List ℕ) → Option (List ℕ) × List Word
+label_behind ws None = (None, ws)
+label_behind ws (Some label) = (Some label.0, without_comma label.1 (behind_comma label.1))
 
-abbrev pub read_do : List Word → Option Phrase
-read_do ws = do_behind ws (digits_at ws)
+unfoldable pub read_label : List Word → Option (List ℕ) × List Word
+read_label ws = label_behind ws (digits_at ws)
+
+unfoldable pub read_do : List Word → Option (Option (List ℕ) × Bounds)
+read_do ws = let label = read_label ws in option_map (λ b. (label.0, b)) (read_bounds label.1)
 
 unfoldable pub read_guard : List Word → Read Condition
 read_guard ws = do
@@ -208,14 +212,14 @@ abbrev pub guarded_behind : List Word → Option (List Word) → Option Deed
 guarded_behind ws None = read_assignment ws
 guarded_behind ws (Some us) = read_call us
 
-abbrev pub read_guarded : List Word → Option Deed
+unfoldable pub read_guarded : List Word → Option Deed
 read_guarded ws = guarded_behind ws (behind_call ws)
 
-unfoldable pub read_logical : List Word → Option Phrase
+unfoldable pub read_logical : List Word → Option (Condition × Deed)
 read_logical ws = do
   c ← read_guard ws
   d ← read_guarded c.1
-  Some (guards c.0 d)
+  Some (c.0, d)
 
 -- a guard up to the end
 unfoldable pub read_test : List Word → Option Condition
@@ -227,8 +231,8 @@ phrase_of kind.Subroutine ws = option_map plainly (read_head ws)
 phrase_of kind.Integer ws = option_map declares (read_items ws)
 phrase_of kind.Assign ws = option_map does (read_assignment ws)
 phrase_of kind.Call ws = option_map does (read_call ws)
-phrase_of kind.LogicalIf ws = read_logical ws
-phrase_of kind.Do ws = read_do ws
+phrase_of kind.LogicalIf ws = option_map (λ p. guards p.0 p.1) (read_logical ws)
+phrase_of kind.Do ws = option_map (λ p. repeats p.0 p.1) (read_do ws)
 phrase_of kind.BlockIf ws = option_map opens (read_test ws)
 phrase_of kind.ElseIf ws = option_map turns (read_test ws)
 phrase_of kind.ImplicitNone ws = ended (plainly implicit_none) ws
