@@ -7,3 +7,4 @@ pub mod Runtime
 pub mod Deeds
 pub mod Guards
 pub mod Loops
+pub mod Phrased

@@ -3,7 +3,7 @@ use Rattle.std.specs.Prelude.{ℕ, ◌^◌, pos, nat_le, nat_lt, Bool, false, �
 use Rattle.std.specs.List.{list_any}
 use Rattle.adj_tree.specs.Code.{plain, Term, Terms, lit, none, Act, assign, Extent, fixed, given}
 use Rattle.adj_text.specs.Char.{number_of}
-use Rattle.adj_text.specs.Condition.{test}
+use Rattle.adj_text.specs.Condition.{Condition, test}
 use Rattle.adj_text.specs.Form.{Form, integers, simple, logical, opens_do, opens_if, otherwise_if}
 use Rattle.adj_text.specs.Grammar.{Syntax, Arguments, only, beside, with_both, tree, trees_before}
 use Rattle.adj_text.specs.Statement.{Item, called, Range}
@@ -66,14 +66,17 @@ step_deep limit (Some c) = nat_lt limit (depth c)
 abbrev pub bounds_deep : ℕ → Bounds → Bool
 bounds_deep limit b = (nat_lt limit (depth b.from) || nat_lt limit (depth b.to)) || step_deep limit b.by
 
+abbrev pub test_deep : ℕ → Condition → Bool
+test_deep limit c = nat_lt limit (test_depth c)
+
 abbrev pub phrase_deep : ℕ → Phrase → Bool
 phrase_deep limit (plainly f) = false
 phrase_deep limit (declares is) = false
 phrase_deep limit (does d) = deed_deep limit d
-phrase_deep limit (guards c d) = nat_lt limit (test_depth c) || deed_deep limit d
+phrase_deep limit (guards c d) = test_deep limit c || deed_deep limit d
 phrase_deep limit (repeats label b) = bounds_deep limit b
-phrase_deep limit (opens c) = nat_lt limit (test_depth c)
-phrase_deep limit (turns c) = nat_lt limit (test_depth c)
+phrase_deep limit (opens c) = test_deep limit c
+phrase_deep limit (turns c) = test_deep limit c
 
 -- the trees of the expressions of a list, where each of their exponents is one
 abbrev pub list_trees : Option Arguments → Option Terms

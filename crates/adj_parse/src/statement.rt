@@ -210,6 +210,7 @@ fn looped(
 }
 
 /// What a statement says, or what is wrong with its expressions; none where its words aren't of the form of its class.
+#[tactic(auto, using(crate::proofs::Phrased::classes))]
 pub(crate) fn said(
     alloc: Global,
     stated: &Stated,
@@ -219,5 +220,26 @@ pub(crate) fn said(
     requires limit { limit < 1000 }
     ensures said { IfOk result (λ found. option_map (seen (form_of stated.now.mark)) found ≡ said limit stated.now.mark stated.now.kind (words_of stated.now.text stated.now.tokens)) }
 {
-    Err(Memory)
+    let words = Words::new(stated.text.as_slice(), stated.tokens.as_slice());
+    match stated.kind {
+        Kind::Subroutine => {
+            Ok(head(alloc, words)?.map(|(name, dummies)| Ok(Said::Subroutine(name, dummies))))
+        }
+        Kind::Integer => Ok(items(alloc, words)?.map(|items| items.map(Said::Integers))),
+        Kind::Assign => Ok(assignment(alloc, words, limit)?.map(|act| act.map(Said::Simple))),
+        Kind::Call => Ok(call(alloc, words, limit)?.map(|act| act.map(Said::Simple))),
+        Kind::LogicalIf => Ok(logical(alloc, words, limit)?
+            .map(|parts| parts.map(|(condition, act)| Said::Guarded(condition, act)))),
+        Kind::Do => Ok(looped(alloc, words, limit)?
+            .map(|parts| parts.map(|(label, range)| Said::Do(label, range)))),
+        Kind::BlockIf => Ok(test(alloc, words, limit)?.map(|c| c.map(Said::If))),
+        Kind::ElseIf => Ok(test(alloc, words, limit)?.map(|c| c.map(Said::ElseIf))),
+        Kind::ImplicitNone => Ok(words.ended(Ok(Said::ImplicitNone))),
+        Kind::EndDo => Ok(words.ended(Ok(Said::EndDo))),
+        Kind::Continue => Ok(words.ended(Ok(Said::Continue))),
+        Kind::Else => Ok(words.ended(Ok(Said::Else))),
+        Kind::EndIf => Ok(words.ended(Ok(Said::EndIf))),
+        Kind::Return => Ok(words.ended(Ok(Said::Return))),
+        Kind::End => Ok(words.ended(Ok(Said::End))),
+    }
 }
