@@ -1,0 +1,10 @@
+pub mod Shorter
+pub mod Members
+pub mod Lists
+pub mod Judging
+pub mod Declared
+pub mod Runtime
+pub mod Deeds
+pub mod Guards
+pub mod Loops
+pub mod Phrased
