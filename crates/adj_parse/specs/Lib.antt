@@ -1,3 +1,6 @@
 pub mod Said
 pub mod View
+pub mod Blocks
+pub mod Order
+pub mod Unit
 pub mod Trees

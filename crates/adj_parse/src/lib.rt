@@ -5,7 +5,9 @@
 //! on what texts mean (`adj_text`) and on the trees. The layer above uses the clauses of `program`.
 #![tactic(auto)]
 
+mod bounds;
 mod label;
+mod phase;
 mod said;
 mod statement;
 mod text;
