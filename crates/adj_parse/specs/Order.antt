@@ -7,17 +7,27 @@ use Rattle.adj_parse.specs.declared.phase.Phase.{Phase}
 use Rattle.adj_parse.specs.declared.phase.Phase.TheVariants.{Heading, Declaring, Acting, Leaving}
 use Rattle.adj_parse.specs.Blocks.{Part, of_loop, of_if, of_else, Block, is_labelled}
 
+-- whether a unit has SUBROUTINE alone; no executable statement; a RETURN
+abbrev pub is_bare : Phase → Bool
+is_bare Heading = true
+is_bare phase = false
+
+abbrev pub is_early : Phase → Bool
+is_early Heading = true
+is_early Declaring = true
+is_early phase = false
+
+abbrev pub is_left : Phase → Bool
+is_left Leaving = true
+is_left phase = false
+
 -- the statements of a unit in order: SUBROUTINE, at most one IMPLICIT NONE, INTEGER, executable ones, at most one RETURN, END
-abbrev pub may_follow : Phase → Kind → Bool
-may_follow phase Subroutine = false
-may_follow Heading kind = true
-may_follow Declaring ImplicitNone = false
-may_follow Declaring kind = true
-may_follow Acting ImplicitNone = false
-may_follow Acting Integer = false
-may_follow Acting kind = true
-may_follow Leaving End = true
-may_follow Leaving kind = false
+abbrev pub may_follow : Kind → Phase → Bool
+may_follow Subroutine phase = false
+may_follow ImplicitNone phase = is_bare phase
+may_follow Integer phase = is_early phase
+may_follow End phase = true
+may_follow kind phase = not (is_left phase)
 
 -- the body of a loop with a label, and of one without
 abbrev pub has_label : Part → Bool

@@ -51,4 +51,4 @@ open_blocks (Some c) = c.nest.blocks
 -- whether a statement of the class can't stand here, other than by closing a block round a loop with a label
 abbrev pub is_misplaced : Kind → Option Current → Bool
 is_misplaced kind None = not (is_heading kind)
-is_misplaced kind (Some c) = not (may_follow c.phase kind && (suits kind c.nest.blocks || leaves_loop kind c.nest.blocks))
+is_misplaced kind (Some c) = not (may_follow kind c.phase && (suits kind c.nest.blocks || leaves_loop kind c.nest.blocks))
