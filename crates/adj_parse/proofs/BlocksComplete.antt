@@ -21,7 +21,7 @@ and_false : (b : Bool) → (b && false) ≡ false
 and_false true = refl
 and_false false = refl
 
-abbrev is_executable : Form → Bool
+abbrev pub is_executable : Form → Bool
 is_executable (simple a) = true
 is_executable (logical c a) = true
 is_executable (opens_do l r s) = true
@@ -49,7 +49,7 @@ innermost_none : (is_such : Part → Bool) (bs : List Block) → some_is is_such
 innermost_none is_such [] h = refl
 innermost_none is_such (b ∷ bs) h = or_first (is_such b.part) (some_is is_such bs) h
 
-abbrev block : ℕ → Acts → Part → Block
+abbrev pub block : ℕ → Acts → Part → Block
 block n before part = record { line = n; before = before; part = part }
 
 module _ (done : List Procedure) (unit : Procedure) where

@@ -1,3 +1,4 @@
 pub mod Machine
 pub mod BlocksComplete
 pub mod UnitsComplete
+pub mod BlocksSound
