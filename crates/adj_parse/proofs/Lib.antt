@@ -2,3 +2,4 @@ pub mod Machine
 pub mod BlocksComplete
 pub mod UnitsComplete
 pub mod BlocksSound
+pub mod UnitsSound

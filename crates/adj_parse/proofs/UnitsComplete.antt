@@ -18,10 +18,10 @@ use Rattle.adj_parse.proofs.BlocksComplete.{inside, body}
 
 module _ (done : List Procedure) where
   -- in a phase of a unit
-  abbrev in_phase : Phase → Procedure → Nest → Units
+  abbrev pub in_phase : Phase → Procedure → Nest → Units
   in_phase p unit nest = record { done = done; current = Some (record { unit = unit; phase = p; nest = nest }) }
 
-  abbrev between : Units
+  abbrev pub between : Units
   between = record { done = done; current = None }
 
   abbrev with_declarations : Procedure → List Declaration → Procedure
