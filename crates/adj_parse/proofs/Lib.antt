@@ -3,3 +3,5 @@ pub mod BlocksComplete
 pub mod UnitsComplete
 pub mod BlocksSound
 pub mod UnitsSound
+pub mod UnitsFit
+pub mod Followed

@@ -1,5 +1,5 @@
 -- Trees: the program that statements are, or their first fault.
-use Rattle.std.specs.Prelude.{◌≡◌, ℕ, ◌-◌, ◌==◌, nat_le, Bool, true, false, not, ◌&&◌, ◌||◌, List, [], ◌∷◌, length, Option, Some, None, is_none, Result, Ok, Err, if◌then◌else◌}
+use Rattle.std.specs.Prelude.{◌≡◌, ℕ, ◌-◌, ◌==◌, nat_le, Bool, true, false, not, ◌&&◌, ◌||◌, List, [], ◌∷◌, length, Option, Some, None, is_none, unwrap_or, Result, Ok, Err, ◌⊎◌, if◌then◌else◌}
 use Rattle.adj_tree.specs.Code.{Procedure}
 use Rattle.adj_tree.specs.declared.fault.Refusal.{Refusal}
 use Rattle.adj_expression.specs.declared.flaw.Flaw.{Flaw}
@@ -59,10 +59,6 @@ abbrev pub is_full : Option ℕ → ℕ → Bool
 is_full None n = false
 is_full (Some limit) n = nat_le limit n
 
-abbrev pub limited_by : {A : Type 0} → Option ℕ → ℕ → Result A Refusal
-limited_by None line = limited 0 line
-limited_by (Some limit) line = limited limit line
-
 -- the form of a statement; where there is none but for a bad exponent, that is the last fault
 abbrev pub with_form : Option (Result Form Flaw) → ℕ → Result Form Refusal
 with_form (Some (Ok f)) line = Ok f
@@ -75,7 +71,7 @@ checked mode s t found =
     else (if is_none found || is_misplaced t.kind s.units.current then refused 4 t.line
     else (if is_large found then refused 5 t.line
     else (if breaks_loop t.kind t.label (open_blocks s.units.current) then refused 10 t.line
-    else (if is_heading t.kind && is_full (bounds_of mode).units (length s.units.done) then limited_by (bounds_of mode).units t.line
+    else (if is_heading t.kind && is_full (bounds_of mode).units (length s.units.done) then limited (unwrap_or (bounds_of mode).units 0) t.line
     else (if s.room == 0 then limited (bounds_of mode).statements t.line
     else (if is_deep found then limited (bounds_of mode).depth t.line
     else (if opens_block t.kind && nat_le (bounds_of mode).nesting (length (open_blocks s.units.current)) then limited (bounds_of mode).nesting t.line
@@ -97,6 +93,10 @@ finish done (Some c) line = refused 4 line
 unfoldable pub trees_from : Mode → State → List Stated → Result (List Procedure) Refusal
 trees_from mode s [] = finish s.units.done s.units.current s.line
 trees_from mode s (t ∷ ts) = follow mode s t >>= λ next. trees_from mode next ts
+
+-- a refusal of a literal or for a limit
+abbrev pub IsBeyond : {A : Type 0} → Result A Refusal → Type 0
+IsBeyond r = (e : Refusal) × (r ≡ Err e) × ((e.code ≡ 5) ⊎ (e.code ≡ 21))
 
 -- the units of a text, or the first fault of its statements
 abbrev pub trees_of : Mode → List Stated → Result (List Procedure) Refusal
