@@ -18,3 +18,18 @@ pub(crate) enum Label {
     Short(u32),
     Long(LongLabel),
 }
+
+impl Label {
+    ghost use Rattle.std.specs.Prelude.{◌==◌};
+    ghost use Rattle.adj_parse.specs.View.{label_of};
+
+    /// Whether it is the label of a statement.
+    pub(crate) fn is(&self, label: u32) -> bool
+        ensures { result ≡ (label_of self.now == label) }
+    {
+        match self {
+            Label::Short(number) => *number == label,
+            Label::Long(_) => false,
+        }
+    }
+}
