@@ -3,4 +3,5 @@ pub mod View
 pub mod Blocks
 pub mod Order
 pub mod Unit
+pub mod NestView
 pub mod Trees

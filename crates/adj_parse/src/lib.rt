@@ -5,6 +5,7 @@
 //! on what texts mean (`adj_text`) and on the trees. The layer above uses the clauses of `program`.
 #![tactic(auto)]
 
+mod block;
 mod bounds;
 mod label;
 mod phase;
