@@ -5,3 +5,4 @@ pub mod BlocksSound
 pub mod UnitsSound
 pub mod UnitsFit
 pub mod Followed
+pub mod Stacks

@@ -8,6 +8,7 @@ use Rattle.adj_parse.specs.Blocks as blocks
 use Rattle.adj_parse.specs.Blocks.{of_loop, of_if, of_else, of_chain, is_labelled, is_chain}
 use Rattle.adj_parse.specs.Order.{has_label, has_no_label, is_first, is_if}
 use Rattle.adj_parse.specs.declared.block.Block.{Block}
+use Rattle.adj_parse.specs.declared.nest.Nest.{Nest}
 use Rattle.adj_parse.specs.declared.block.Part.{Part}
 use Rattle.adj_parse.specs.declared.block.Part.TheVariants as parts
 use Rattle.adj_parse.specs.declared.block.Shape.{Shape}
@@ -45,3 +46,6 @@ block_of b = record { line = b.line; before = map statement_of b.before.items; p
 -- the innermost block, which is the last, comes first
 unfoldable pub blocks_of : List Block → List blocks.Block
 blocks_of items = reverse (map block_of items)
+
+abbrev pub nest_of : Nest → blocks.Nest
+nest_of n = record { blocks = blocks_of n.blocks.items; acts = map statement_of n.acts.items }

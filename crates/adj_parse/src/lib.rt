@@ -8,6 +8,7 @@
 mod block;
 mod bounds;
 mod label;
+mod nest;
 mod phase;
 mod said;
 mod statement;
