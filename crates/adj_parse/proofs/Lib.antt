@@ -6,3 +6,4 @@ pub mod UnitsSound
 pub mod UnitsFit
 pub mod Followed
 pub mod Stacks
+pub mod Declares

@@ -5,3 +5,4 @@ pub mod Order
 pub mod Unit
 pub mod NestView
 pub mod Trees
+pub mod CurrentView

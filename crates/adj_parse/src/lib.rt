@@ -7,8 +7,10 @@
 
 mod block;
 mod bounds;
+mod current;
 mod label;
 mod nest;
+mod parser;
 mod phase;
 mod said;
 mod statement;

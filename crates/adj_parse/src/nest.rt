@@ -25,6 +25,15 @@ pub(crate) struct Nest {
     acts: Vec<Stmt>,
 }
 
+fn last_is(blocks: &[Block], shape: Shape) -> bool
+    ensures { result ≡ innermost_is (is_shape shape) (blocks_of blocks.now) }
+{
+    match blocks.last() {
+        Some(block) => block.part.is(shape),
+        None => false,
+    }
+}
+
 fn any_is(blocks: &[Block], shape: Shape) -> bool
     ensures { result ≡ list_any (λ b. is_shape shape (part_of b.part)) blocks.now }
 {
@@ -114,10 +123,7 @@ impl Nest {
     fn innermost_is(&self, shape: Shape) -> bool
         ensures { result ≡ innermost_is (is_shape shape) (nest_of self.now).blocks }
     {
-        match self.blocks.last() {
-            Some(block) => block.part.is(shape),
-            None => false,
-        }
+        last_is(self.blocks.as_slice(), shape)
     }
 
     // Ends the innermost blocks as long as they are of this shape.
