@@ -18,7 +18,7 @@ use Rattle.adj_text.specs.declared.stated.Kind.TheVariants.{Do, Assign, Call}
 use Rattle.adj_text.specs.declared.stated.Stated.{Stated}
 use Rattle.adj_parse.specs.Order.{breaks_loop, is_heading, opens_block}
 use Rattle.adj_parse.specs.Said.{said}
-use Rattle.adj_parse.specs.Trees.{bounds_of, State, is_do, is_unled, is_large, is_deep, is_full, IsBeyond, with_form, checked, behind, follow, finish, trees_from}
+use Rattle.adj_parse.specs.Trees.{bounds_of, State, is_do, is_unled, is_large, is_deep, is_full, IsBeyond, with_form, limited_by, checked, behind, follow, finish, trees_from}
 use Rattle.adj_parse.specs.Unit.{Current, Units, followed, open_blocks, is_misplaced}
 use Rattle.adj_text.proofs.LinesMarked.{bind_ok}
 use Rattle.adj_parse.proofs.Machine.{kind_of, stands, units_of, run}
@@ -74,7 +74,7 @@ record Through (s : State) (t : Stated) (found : Option (Result Form Flaw)) (f :
   place : is_misplaced t.kind s.units.current ≡ false
   breaks : breaks_loop t.kind t.label (open_blocks s.units.current) ≡ false
 
-through : (mode : Mode) (s : State) (t : Stated) (found : Option (Result Form Flaw)) (f : Form) → checked mode s t found ≡ Ok f → Through s t found f
+through : (mode : Mode) (s : State) (t : Stated) (found : Option (Result Form Flaw)) (f : Form) → checked (bounds_of mode) s t found ≡ Ok f → Through s t found f
 through mode s t found f h =
     let misplaced = is_misplaced t.kind s.units.current in
     let broken = breaks_loop t.kind t.label (open_blocks s.units.current) in
@@ -99,7 +99,7 @@ limits_or x true limit line r h = inr (record { code = 21; line = line; number =
 limits_or x false limit line r h = h
 
 -- what stands rightly and is derived is let through, or refused for its size
-comes : (mode : Mode) (s : State) (t : Stated) (found : Option (Result Form Flaw)) (f : Form) → is_unled t ≡ false → is_misplaced t.kind s.units.current ≡ false → breaks_loop t.kind t.label (open_blocks s.units.current) ≡ false → (found ≡ Some (Ok f)) ⊎ ((found ≡ Some (Err Large)) ⊎ (found ≡ Some (Err Deep))) → Comes f (checked mode s t found)
+comes : (mode : Mode) (s : State) (t : Stated) (found : Option (Result Form Flaw)) (f : Form) → is_unled t ≡ false → is_misplaced t.kind s.units.current ≡ false → breaks_loop t.kind t.label (open_blocks s.units.current) ≡ false → (found ≡ Some (Ok f)) ⊎ ((found ≡ Some (Err Large)) ⊎ (found ≡ Some (Err Deep))) → Comes f (checked (bounds_of mode) s t found)
 comes mode s t found f led place breaks says =
     let nested = opens_block t.kind && nat_le (bounds_of mode).nesting (length (open_blocks s.units.current)) in
     let many = is_heading t.kind && is_full (bounds_of mode).units (length s.units.done) in
@@ -188,7 +188,7 @@ module _ (saying : Saying) (mode : Mode) where
   chain_runs [] s ps h = ([], none, finish_ok s.units.done s.units.current s.line ps h)
   chain_runs (t ∷ ts) s ps h =
       let a = bind_ok (follow mode s t) (λ next. trees_from mode next ts) ps h in
-      let b = bind_ok (checked mode s t (found t)) (λ f. Ok (behind s t f)) a.0 a.1 in
+      let b = bind_ok (checked (bounds_of mode) s t (found t)) (λ f. Ok (behind s t f)) a.0 a.1 in
       let f : Form = b.0 in
       let thr = through mode s t (found t) f b.1 in
       let here : behind s t f ≡ a.0 = cc (b.2) in

@@ -46,12 +46,12 @@ is_do kind = false
 abbrev pub is_unled : Stated → Bool
 is_unled t = not (t.mark == 0) && not (is_do t.kind)
 
--- a literal above the greatest word, and too great a depth
-abbrev pub is_large : Option (Result Form Flaw) → Bool
+-- whether a statement has a literal above the greatest word, or too deep an expression
+abbrev pub is_large : {A : Type 0} → Option (Result A Flaw) → Bool
 is_large (Some (Err Large)) = true
 is_large found = false
 
-abbrev pub is_deep : Option (Result Form Flaw) → Bool
+abbrev pub is_deep : {A : Type 0} → Option (Result A Flaw) → Bool
 is_deep (Some (Err Deep)) = true
 is_deep found = false
 
@@ -59,23 +59,28 @@ abbrev pub is_full : Option ℕ → ℕ → Bool
 is_full None n = false
 is_full (Some limit) n = nat_le limit n
 
--- the form of a statement; where there is none but for a bad exponent, that is the last fault
-abbrev pub with_form : Option (Result Form Flaw) → ℕ → Result Form Refusal
+-- what a statement says; where there is no other fault it may still have a bad exponent
+abbrev pub with_form : {A : Type 0} → Option (Result A Flaw) → ℕ → Result A Refusal
 with_form (Some (Ok f)) line = Ok f
 with_form found line = refused 25 line
 
+-- what the next statement says, or the first limit that it passes
+abbrev pub limited_by : {A : Type 0} → Bounds → State → Stated → Option (Result A Flaw) → Result A Refusal
+limited_by bounds s t found =
+    if is_heading t.kind && is_full bounds.units (length s.units.done) then limited (unwrap_or bounds.units 0) t.line
+    else (if s.room == 0 then limited bounds.statements t.line
+    else (if is_deep found then limited bounds.depth t.line
+    else (if opens_block t.kind && nat_le bounds.nesting (length (open_blocks s.units.current)) then limited bounds.nesting t.line
+    else with_form found t.line)))
+
 -- what the next statement says, or its first fault
-abbrev pub checked : Mode → State → Stated → Option (Result Form Flaw) → Result Form Refusal
-checked mode s t found =
+abbrev pub checked : {A : Type 0} → Bounds → State → Stated → Option (Result A Flaw) → Result A Refusal
+checked bounds s t found =
     if is_unled t then refused 20 t.mark_line
     else (if is_none found || is_misplaced t.kind s.units.current then refused 4 t.line
     else (if is_large found then refused 5 t.line
     else (if breaks_loop t.kind t.label (open_blocks s.units.current) then refused 10 t.line
-    else (if is_heading t.kind && is_full (bounds_of mode).units (length s.units.done) then limited (unwrap_or (bounds_of mode).units 0) t.line
-    else (if s.room == 0 then limited (bounds_of mode).statements t.line
-    else (if is_deep found then limited (bounds_of mode).depth t.line
-    else (if opens_block t.kind && nat_le (bounds_of mode).nesting (length (open_blocks s.units.current)) then limited (bounds_of mode).nesting t.line
-    else with_form found t.line)))))))
+    else limited_by bounds s t found)))
 
 -- behind the next statement, which says this
 abbrev pub behind : State → Stated → Form → State
@@ -83,7 +88,7 @@ behind s t f = record { units = followed s.units.done s.units.current t.line t.l
 
 -- the next statement is read, or refused
 unfoldable pub follow : Mode → State → Stated → Result State Refusal
-follow mode s t = checked mode s t (said (bounds_of mode).depth t.mark t.kind (words_of t.text t.tokens)) >>= λ f. Ok (behind s t f)
+follow mode s t = checked (bounds_of mode) s t (said (bounds_of mode).depth t.mark t.kind (words_of t.text t.tokens)) >>= λ f. Ok (behind s t f)
 
 -- no statement is left: in a unit this is a fault of the last
 abbrev pub finish : List Procedure → Option Current → ℕ → Result (List Procedure) Refusal

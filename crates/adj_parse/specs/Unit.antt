@@ -38,10 +38,10 @@ continued c n l f = record { unit = c.unit; phase = Acting; nest = acted c.nest 
 
 -- the units behind a statement of this line and label, where it may stand there
 abbrev pub followed : List Procedure → Option Current → ℕ → ℕ → Form → Units
-followed done current n l (subroutine x dummies) = record { done = done; current = Some (begun n x dummies) }
+followed done None n l (subroutine x dummies) = record { done = done; current = Some (begun n x dummies) }
+followed done None n l f = record { done = done; current = None }
 followed done (Some c) n l ends = record { done = done ++ finished c ∷ []; current = None }
 followed done (Some c) n l f = record { done = done; current = Some (continued c n l f) }
-followed done None n l f = record { done = done; current = None }
 
 -- the open blocks
 abbrev pub open_blocks : Option Current → List Block

@@ -1,6 +1,7 @@
 //! The statements of a text in order.
 
-ghost use Rattle.std.specs.Prelude.{◌≡◌, ◌==◌, nat_le, ◌&&◌, length, OnOk, option_map};
+ghost use Rattle.std.specs.Prelude.{◌≡◌, ◌==◌, ℕ, List, Some, None, nat_le, ◌&&◌, length, OnOk, option_map};
+ghost use Rattle.adj_tree.specs.Code.{Procedure};
 ghost use Rattle.adj_tree.specs.View.{procedure_of};
 ghost use Rattle.adj_text.specs.Refused.{Gives};
 ghost use Rattle.adj_expression.specs.Front.{AreSlices};
@@ -8,8 +9,8 @@ ghost use Rattle.adj_expression.specs.View.{seen};
 ghost use Rattle.adj_parse.specs.Order.{breaks_loop, is_heading, opens_block};
 ghost use Rattle.adj_parse.specs.Unit.{followed, open_blocks, is_misplaced};
 ghost use Rattle.adj_parse.specs.Trees as trees;
-ghost use Rattle.adj_parse.specs.Trees.{is_large, is_deep, is_full, checked, behind, start, finish};
-ghost use Rattle.adj_parse.specs.CurrentView.{units_of, state_of};
+ghost use Rattle.adj_parse.specs.Trees.{is_large, is_deep, is_full, with_form, checked, behind, start, finish};
+ghost use Rattle.adj_parse.specs.CurrentView.{current_of, units_of, state_of};
 ghost use Rattle.adj_parse.specs.View.{form_of};
 
 use crate::bounds::Bounds;
@@ -61,12 +62,46 @@ fn opens_block(kind: Kind) -> bool
     )
 }
 
+fn is_large(found: &Option<Result<Said, Flaw>>) -> bool
+    ensures { result ≡ is_large found.now }
+{
+    matches!(found, Some(Err(Flaw::Large)))
+}
+
+fn is_deep(found: &Option<Result<Said, Flaw>>) -> bool
+    ensures { result ≡ is_deep found.now }
+{
+    matches!(found, Some(Err(Flaw::Deep)))
+}
+
+fn with_form(found: Option<Result<Said, Flaw>>, line: u32) -> Result<Said, Fault>
+    ensures { Gives (λ said. said) result (with_form found line) }
+{
+    match found {
+        Some(Ok(said)) => Ok(said),
+        _ => Err(refused(25, line)),
+    }
+}
+
 fn is_full(limit: Option<usize>, count: usize) -> bool
     ensures { result ≡ is_full limit count }
 {
     match limit {
         None => false,
         Some(limit) => limit <= count,
+    }
+}
+
+// The unit that a statement outside of units begins.
+fn heading(alloc: Global, line: u32, said: Said) -> Option<Current>
+    ensures { (label mark : ℕ) (done : List Procedure) → followed done None line label (form_of mark said) ≡ record { done = done; current = option_map current_of result } }
+{
+    match said {
+        Said::Subroutine(name, dummies) => Some(Current::new(alloc, line, name, dummies)),
+        other => {
+            drop(other);
+            None
+        }
     }
 }
 
@@ -113,6 +148,34 @@ impl Parser {
         }
     }
 
+    // Takes a statement of a unit.
+    fn within(
+        &mut self,
+        alloc: Global,
+        current: Current,
+        line: u32,
+        label: u32,
+        mark: u32,
+        said: Said,
+    ) -> Result<(), Memory>
+        requires { self.old.current ≡ None }
+        ensures placed { OnOk result (units_of self.new.units.items self.new.current ≡ followed (state_of self.old).units.done (Some (current_of current)) line label (form_of mark said)) }
+        ensures room { self.new.room ≡ self.old.room }
+    {
+        let mut current = current;
+        match said {
+            Said::End => {
+                self.units.push(current.finished(alloc)?)?;
+                Ok(())
+            }
+            said => {
+                current.follow(alloc, line, label, mark, said)?;
+                self.current = Some(current);
+                Ok(())
+            }
+        }
+    }
+
     // Takes a statement of this line and label, where it may stand, with the snapshots of the directive before it.
     fn place(
         &mut self,
@@ -125,24 +188,61 @@ impl Parser {
         ensures placed { OnOk result (units_of self.new.units.items self.new.current ≡ followed (state_of self.old).units.done (state_of self.old).units.current line label (form_of mark said)) }
         ensures room { self.new.room ≡ self.old.room }
     {
-        match said {
-            Said::Subroutine(name, dummies) => {
-                self.current = Some(Current::new(alloc, line, name, dummies));
+        match self.current.take() {
+            None => {
+                self.current = heading(alloc, line, said);
                 Ok(())
             }
-            Said::End => {
-                if let Some(current) = self.current.take() {
-                    self.units.push(current.finished(alloc)?)?;
-                }
-                Ok(())
-            }
-            said => {
-                if let Some(mut current) = self.current.take() {
-                    current.follow(alloc, line, label, mark, said)?;
-                    self.current = Some(current);
-                }
-                Ok(())
-            }
+            Some(current) => self.within(alloc, current, line, label, mark, said),
         }
+    }
+
+    // What the next statement says, or the first limit that it passes.
+    fn limited_by(
+        &self,
+        bounds: Bounds,
+        stated: &Stated,
+        found: Option<Result<Said, Flaw>>,
+    ) -> Result<Said, Fault>
+        ensures { Gives (λ said. said) result (trees.limited_by bounds (state_of self.now) stated.now found) }
+    {
+        let line = stated.line;
+        if stated.kind == Kind::Subroutine && is_full(bounds.units, self.units.len()) {
+            return Err(limited(bounds.units.unwrap_or(0) as u64, line));
+        }
+        if self.room == 0 {
+            return Err(limited(u64::from(bounds.statements), line));
+        }
+        if is_deep(&found) {
+            return Err(limited(u64::from(bounds.depth), line));
+        }
+        if opens_block(stated.kind) && bounds.nesting <= self.depth() {
+            return Err(limited(bounds.nesting as u64, line));
+        }
+        with_form(found, line)
+    }
+
+    // What the next statement says, or its first fault.
+    fn checked(
+        &self,
+        bounds: Bounds,
+        stated: &Stated,
+        found: Option<Result<Said, Flaw>>,
+    ) -> Result<Said, Fault>
+        ensures { Gives (λ said. said) result (checked bounds (state_of self.now) stated.now found) }
+    {
+        if stated.mark != 0 && stated.kind != Kind::Do {
+            return Err(refused(20, stated.mark_line));
+        }
+        if found.is_none() || self.is_misplaced(stated.kind) {
+            return Err(refused(4, stated.line));
+        }
+        if is_large(&found) {
+            return Err(refused(5, stated.line));
+        }
+        if self.breaks_loop(stated.kind, stated.label) {
+            return Err(refused(10, stated.line));
+        }
+        self.limited_by(bounds, stated, found)
     }
 }
