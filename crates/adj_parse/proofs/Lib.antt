@@ -7,3 +7,4 @@ pub mod UnitsFit
 pub mod Followed
 pub mod Stacks
 pub mod Declares
+pub mod Seen
