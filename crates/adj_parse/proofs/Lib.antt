@@ -8,3 +8,4 @@ pub mod Followed
 pub mod Stacks
 pub mod Declares
 pub mod Seen
+pub mod Following

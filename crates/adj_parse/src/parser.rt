@@ -2,7 +2,7 @@
 
 ghost use Rattle.std.specs.Prelude.{◌≡◌, ◌==◌, ℕ, List, Some, None, nat_le, ◌&&◌, length, OnOk, option_map};
 ghost use Rattle.adj_tree.specs.Code.{Procedure};
-ghost use Rattle.adj_tree.specs.View.{procedure_of};
+ghost use Rattle.adj_tree.specs.View.{procedures_of};
 ghost use Rattle.adj_text.specs.Refused.{Gives};
 ghost use Rattle.adj_expression.specs.Front.{AreSlices};
 ghost use Rattle.adj_expression.specs.View.{seen};
@@ -244,5 +244,36 @@ impl Parser {
             return Err(refused(10, stated.line));
         }
         self.limited_by(bounds, stated, found)
+    }
+
+    /// Reads the next statement, or refuses it.
+    pub(crate) fn follow(
+        &mut self,
+        alloc: Global,
+        mode: Mode,
+        stated: &Stated,
+    ) -> Result<(), Fault>
+        requires slices { AreSlices stated.now.text stated.now.tokens }
+        ensures { Gives (λ _. state_of self.new) result (trees.follow mode (state_of self.old) stated.now) }
+    {
+        let bounds = Bounds::of(mode);
+        let found = said(alloc, stated, bounds.depth)?;
+        let said = self.checked(bounds, stated, found)?;
+        self.place(alloc, stated.line, stated.label, stated.mark, said)?;
+        self.line = stated.line;
+        self.room = self.room.saturating_sub(1);
+        Ok(())
+    }
+
+    /// The units, where no unit is open.
+    pub(crate) fn finish(self) -> Result<Program, Fault>
+        ensures { Gives procedures_of result (finish (state_of self).units.done (state_of self).units.current (state_of self).line) }
+    {
+        if self.current.is_some() {
+            return Err(refused(4, self.line));
+        }
+        Ok(Program {
+            units: Units::new(self.units),
+        })
     }
 }
