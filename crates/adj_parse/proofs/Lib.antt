@@ -9,3 +9,5 @@ pub mod Stacks
 pub mod Declares
 pub mod Seen
 pub mod Following
+pub mod Passing
+pub mod Laws
