@@ -8,3 +8,16 @@ pub mod Deeds
 pub mod Guards
 pub mod Loops
 pub mod Phrased
+pub mod Machine
+pub mod BlocksComplete
+pub mod UnitsComplete
+pub mod BlocksSound
+pub mod UnitsSound
+pub mod UnitsFit
+pub mod Followed
+pub mod Stacks
+pub mod Declares
+pub mod Seen
+pub mod Following
+pub mod Passing
+pub mod Laws

@@ -6,4 +6,9 @@ pub mod Fronts
 pub mod Called
 pub mod View
 pub mod WordsView
+pub mod Blocks
+pub mod Order
+pub mod Unit
+pub mod NestView
 pub mod Trees
+pub mod CurrentView

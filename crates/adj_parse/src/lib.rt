@@ -5,13 +5,19 @@
 //! on what texts mean (`adj_text`) and on the trees. The layer above uses the clauses of `program`.
 #![tactic(auto)]
 
+mod block;
+mod bounds;
 mod called;
+mod current;
 mod declaration;
 mod deed;
 mod flaws;
 mod heading;
 mod label;
+mod nest;
 mod number;
+mod parser;
+mod phase;
 mod said;
 mod statement;
 mod text;

@@ -9,6 +9,7 @@ ghost use Rattle.adj_text.specs.Stated.{statements_of};
 ghost use Rattle.adj_text.specs.Written.{IsWritten};
 ghost use Rattle.adj_parse.specs.Trees.{IsText, trees_of};
 
+use crate::parser::Parser;
 use adj_text::{Mode, Stated};
 use adj_tree::{Fault, Program};
 use std::alloc::Global;
@@ -21,5 +22,9 @@ pub fn program(alloc: Global, stated: &[Stated], mode: Mode) -> Result<Program, 
     ensures reads { IfOk result (λ p. (bytes : List ℕ) → statements_of no_limits bytes ≡ Ok stated.now → Reads bytes (procedures_of p)) }
     ensures written { IfOk result (λ p. IsWritten (procedures_of p)) }
 {
-    Err(Fault::Memory)
+    let mut parser = Parser::new(alloc, mode);
+    for statement in stated {
+        parser.follow(alloc, mode, statement)?;
+    }
+    parser.finish()
 }
