@@ -1,3 +1,4 @@
+pub mod Profile
 pub mod Words
 pub mod Answer
 pub mod Headline

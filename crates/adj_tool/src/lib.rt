@@ -3,6 +3,7 @@
 
 mod adjoint;
 mod answer;
+mod name_set;
 mod product;
 mod schedule;
 mod task;
@@ -10,7 +11,9 @@ mod task;
 mod tests;
 mod text;
 mod top;
+mod untreated;
 mod values;
+mod well_named;
 mod words;
 
 pub use text::Text;
