@@ -81,8 +81,7 @@ not_flips a false e = ap not (sym e)
 pub passed_one : (set made rest others all : List (List ℕ)) (x : List ℕ) (added : Bool) → added ≡ true → added ≡ not (has_name x set) → made ≡ (if has_name x set then set else set ++ x ∷ []) → rest ≡ x ∷ others → set ++ rest ≡ all → are_distinct set ≡ true → (made ++ others ≡ all) × (are_distinct made ≡ true)
 passed_one set made rest others all x added yes_added is_new is_made first passed differ =
     let absent : has_name x set ≡ false = not_flips added (has_name x set) is_new ∙ ap not yes_added in
-    let grown : made ≡ set ++ x ∷ [] = is_made ∙ ap (λ b. if b then set else set ++ x ∷ []) absent in
-    (
+    let grown : made ≡ set ++ x ∷ [] = is_made ∙ ap (λ b. if b then set else set ++ x ∷ []) absent in (
       ap (λ m. m ++ others) grown ∙ append_assoc set (x ∷ []) others ∙ ap (λ r. set ++ r) (sym first) ∙ passed,
       ap are_distinct grown ∙ distinct_more set x differ absent,
     )

@@ -4,7 +4,7 @@
 mod adjoint;
 mod answer;
 mod name_set;
-mod product;
+mod read;
 mod schedule;
 mod task;
 #[cfg(test)]

@@ -1,6 +1,6 @@
 //! What the names of a unit must be for now.
 
-ghost use Rattle.std.specs.Prelude.{◌≡◌, map, take, drop, IfOk};
+ghost use Rattle.std.specs.Prelude.{◌≡◌, map, take, drop, IfOk, None, Some, if◌then◌else◌};
 ghost use Rattle.std.specs.List.{list_all};
 ghost use Rattle.adj_tree.specs.View.{term_of, act_of, code_of, declaration_of, procedure_of};
 ghost use Rattle.adj_transpose.specs.Fresh.{has_name, reserved};
@@ -65,8 +65,8 @@ fn is_free_in(unit: &Name, name: &Name) -> bool
     is_free(name) && name.bytes() != unit.bytes()
 }
 
-// Whether each of these is among the names.
-fn are_among(names: &NameSet<'_>, others: &[Name]) -> bool
+/// Whether each of these is among the names.
+pub(crate) fn are_among(names: &NameSet<'_>, others: &[Name]) -> bool
     ensures { result ≡ are_among names.now others.now }
 {
     others.iter().all(|name| names.has(name))
@@ -123,20 +123,26 @@ fn are_free_in(unit: &Name, decls: &[Decl]) -> bool
     true
 }
 
-/// Whether the names of the unit are as they must be for now (docs/LANGUAGE.md).
-pub(crate) fn is_well_named(alloc: Global, unit: &Unit) -> Result<bool, Memory>
-    ensures { IfOk result (λ well. well ≡ is_well_named (procedure_of unit.now)) }
+/// The dummies of the unit, or none where its names aren't as they must be for now (docs/LANGUAGE.md).
+pub(crate) fn well_named_dummies<'a>(
+    alloc: Global,
+    unit: &'a Unit,
+) -> Result<Option<NameSet<'a>>, Memory>
+    ensures { IfOk result (λ dummies. let u = procedure_of unit.now in dummies ≡ (if is_well_named u then Some u.dummies else None)) }
 {
     let decls = unit.decls.as_slice();
-    let dummies = unit.dummies.as_slice();
+    let names = unit.dummies.as_slice();
     if !is_free(&unit.name) || !are_free_in(&unit.name, decls) {
-        return Ok(false);
+        return Ok(None);
     }
-    let Some(names) = declared(alloc, decls)? else {
-        return Ok(false);
+    let Some(declared) = declared(alloc, decls)? else {
+        return Ok(None);
     };
-    if distinct(alloc, dummies)?.is_none() {
-        return Ok(false);
+    let Some(dummies) = distinct(alloc, names)? else {
+        return Ok(None);
+    };
+    if !are_among(&declared, names) || !is_over_body(&declared, &unit.body) {
+        return Ok(None);
     }
-    Ok(are_among(&names, dummies) && is_over_body(&names, &unit.body))
+    Ok(Some(dummies))
 }

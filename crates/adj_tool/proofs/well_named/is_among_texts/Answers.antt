@@ -1,4 +1,4 @@
-use Rattle.std.proofs.Common.{ap, sym, ◌∙◌, map, drop, ◌+◌, [], Bor, List, ℕ}
+use Rattle.std.proofs.Common.{ap, sym, ◌∙◌, drop, ◌+◌}
 use Rattle.std.specs.Prelude.{◌||◌}
 use Rattle.adj_transpose.specs.Fresh.{has_name}
 use Rattle.adj_tool.proofs.NameSets.{has_first, names_of}
