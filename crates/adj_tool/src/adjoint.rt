@@ -38,7 +38,7 @@ fn marks(alloc: Global, listed: &NameSet<'_>, dummies: &[Name]) -> Result<Flags,
 {
     let mut flags = Vec::new(alloc);
     for name in dummies {
-        flags.push(listed.has(name))?;
+        flags.push(listed.contains(name))?;
     }
     Ok(Flags::new(flags))
 }

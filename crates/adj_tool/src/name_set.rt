@@ -33,14 +33,14 @@ impl<'a> NameSet<'a> {
     }
 
     /// Whether the name is among them.
-    pub(crate) fn has(&self, name: &Name) -> bool
-        ensures has { result ≡ has_name name.now self.now }
+    pub(crate) fn contains(&self, name: &Name) -> bool
+        ensures contains { result ≡ has_name name.now self.now }
     {
         self.names.contains(name.bytes())
     }
 
     // Adds a name behind the others where it isn't among them, and says whether it was added.
-    fn add(&mut self, name: &'a Name) -> Result<bool, Memory>
+    fn insert(&mut self, name: &'a Name) -> Result<bool, Memory>
         ensures added { IfOk result (λ added. added ≡ not (has_name name.now self.old)) }
         ensures names { OnOk result (self.new ≡ (if has_name name.now self.old then self.old else self.old ++ name.now ∷ [])) }
     {
@@ -55,7 +55,7 @@ pub(crate) fn distinct<'a>(alloc: Global, names: &'a [Name]) -> Result<Option<Na
 {
     let mut set = NameSet::new(alloc);
     for name in names {
-        if !set.add(name)? {
+        if !set.insert(name)? {
             return Ok(None);
         }
     }
@@ -68,7 +68,7 @@ pub(crate) fn declared<'a>(alloc: Global, decls: &'a [Decl]) -> Result<Option<Na
 {
     let mut set = NameSet::new(alloc);
     for decl in decls {
-        if !set.add(&decl.name)? {
+        if !set.insert(&decl.name)? {
             return Ok(None);
         }
     }

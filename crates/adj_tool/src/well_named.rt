@@ -69,7 +69,7 @@ fn is_free_in(unit: &Name, name: &Name) -> bool
 pub(crate) fn are_among(names: &NameSet<'_>, others: &[Name]) -> bool
     ensures { result ≡ are_among names.now others.now }
 {
-    others.iter().all(|name| names.has(name))
+    others.iter().all(|name| names.contains(name))
 }
 
 // Whether the variables of the expression are among the names.
@@ -78,7 +78,7 @@ fn is_over(names: &NameSet<'_>, term: &Expr) -> bool
 {
     match term {
         Expr::Lit(_) => true,
-        Expr::Var(name) => names.has(name),
+        Expr::Var(name) => names.contains(name),
         Expr::Neg(inner) => is_over(names, inner),
         Expr::Bin(_, left, right) => is_over(names, left) && is_over(names, right),
         Expr::Elem(_, _) | Expr::Pow(_, _) | Expr::Abs(_) => false,
@@ -90,7 +90,7 @@ fn is_over_act(names: &NameSet<'_>, act: &Act) -> bool
 {
     match act {
         Act::Assign(place, value) => match place.subs {
-            Exprs::Empty => names.has(&place.name) && is_over(names, value),
+            Exprs::Empty => names.contains(&place.name) && is_over(names, value),
             Exprs::More(_, _) => false,
         },
         _ => false,
@@ -135,13 +135,13 @@ pub(crate) fn well_named_dummies<'a>(
     if !is_free(&unit.name) || !are_free_in(&unit.name, decls) {
         return Ok(None);
     }
-    let Some(declared) = declared(alloc, decls)? else {
+    let Some(known) = declared(alloc, decls)? else {
         return Ok(None);
     };
     let Some(dummies) = distinct(alloc, names)? else {
         return Ok(None);
     };
-    if !are_among(&declared, names) || !is_over_body(&declared, &unit.body) {
+    if !are_among(&known, names) || !is_over_body(&known, &unit.body) {
         return Ok(None);
     }
     Ok(Some(dummies))

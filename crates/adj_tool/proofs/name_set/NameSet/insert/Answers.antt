@@ -2,7 +2,7 @@ use Rattle.std.proofs.Common.{ap, ap₂, ◌∙◌}
 use Rattle.std.specs.Prelude.{not}
 use Rattle.adj_transpose.specs.Fresh.{has_name}
 use Rattle.adj_tool.proofs.NameSets.{any_has, added_names}
-use Rattle.adj_tool.proofs.name_set.NameSet.add.Goals as goal
+use Rattle.adj_tool.proofs.name_set.NameSet.insert.Goals as goal
 
 pub returns-clause-added : goal.returns-clause-added
 returns-clause-added c =
