@@ -81,3 +81,19 @@ zeros_same r line xs marks i code rest lt le on h =
     ∙ ap (λ b. if b then unmarked (drop (j + 1) xs) (drop (suc j) marks) else x ∷ unmarked (drop (j + 1) xs) (drop (suc j) marks)) on
     ∙ (λ k. unmarked (drop ((add-one j ∙ sym up) k) xs) (drop (sym up k) marks)) in
     h ∙ ap (λ z. rename r (zeros line z) +++ rest) (sym here)
+
+-- ---- all declarations
+
+-- helpers of two roles
+pub helpers-append : (ns : List Named) (line : ℕ) (vs ws : List Var) → declared_helpers ns line (vs ++ ws) ≡ declared_helpers ns line vs ++ declared_helpers ns line ws
+helpers-append ns line [] ws = refl
+helpers-append ns line (v ∷ vs) ws = ap (λ ds. scalar line (name_in ns v) ∷ ds) (helpers-append ns line vs ws)
+
+-- dummies, locals, work variables and temporaries, declared one after another
+pub all_declared : (ns : List Named) (line : ℕ) (works temps : List Var) (none_yet dummies locals most all d l : List Declaration) → none_yet ≡ [] → dummies ≡ none_yet ++ d → locals ≡ dummies ++ l → most ≡ locals ++ declared_helpers ns line works → all ≡ most ++ declared_helpers ns line temps → all ≡ d ++ (l ++ declared_helpers ns line (works ++ temps))
+all_declared ns line works temps none_yet dummies locals most all d l h0 hd hl hm ha =
+    let w = declared_helpers ns line works in
+    let z = declared_helpers ns line temps in
+    let first : dummies ≡ d = hd ∙ ap (λ x. x ++ d) h0 in
+    ha ∙ ap (λ x. x ++ z) (hm ∙ ap (λ x. x ++ w) (hl ∙ ap (λ x. x ++ l) first))
+    ∙ append_assoc (d ++ l) w z ∙ append_assoc d l (w ++ z) ∙ ap (λ x. d ++ (l ++ x)) (sym (helpers-append ns line works temps))

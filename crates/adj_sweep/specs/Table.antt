@@ -1,13 +1,9 @@
 -- The names of an adjoint unit as a table.
 use Rattle.std.specs.Prelude.{ℕ, suc, ◌-◌, nat_le, ◌&&◌, List, [], ◌∷◌, ◌++◌, map, get_or, length, if◌then◌else◌, Bool, false, slice_get, unwrap_or}
-use Rattle.adj_tree.specs.Code.{Var, plain, shadow, helper, Role, work, temp, var, bin, plus, times, none, Act, assign, Code, stop, step, Declaration}
-use Rattle.adj_meaning.specs.Append.{◌+++◌}
-use Rattle.adj_meaning.specs.Rename.{rename}
-use Rattle.adj_transpose.specs.Emit.{zeros, forward_act, backward_act}
+use Rattle.adj_tree.specs.Code.{Var, plain, shadow, helper, Role, work, temp, Declaration}
 use Rattle.adj_transpose.specs.Naming.{Named, own, outside, naming}
 use Rattle.adj_sweep.specs.declared.names.Shadowed.{Shadowed}
 use Rattle.adj_sweep.specs.declared.names.Names.{Names}
-use Rattle.adj_sweep.specs.declared.product.Product.{Product}
 use Rattle.adj_sweep.specs.declared.names.Helper.{Helper}
 use Rattle.adj_sweep.specs.declared.names.Helper.TheVariants.{Work, Temp}
 
@@ -43,16 +39,6 @@ named_by n (helper r k) = naming (table_of n) (helper r k)
 abbrev pub helper_name : List (List ℕ) → Role → ℕ → List ℕ
 helper_name ns r k = if nat_le 1 k && nat_le k (length ns) then get_or ns (k - 1) [] else outside (helper r k)
 
--- the assignment of a product
-abbrev pub assigned : Product → Act
-assigned p = assign (plain p.target) none (bin times (var (plain p.left)) (var (plain p.right)))
-
--- the second work variable becomes the first one times a factor, and is added to the shadow of the other factor
-abbrev pub factor_code : (Var → Var) → ℕ → List ℕ → List ℕ → Code → Code
-factor_code r line grown factor rest =
-    step line (assign (r (helper work 2)) none (bin times (var (r (helper work 1))) (var (plain factor))))
-    (step line (assign (r (shadow grown)) none (bin plus (var (r (shadow grown))) (var (r (helper work 2))))) rest)
-
 -- whether the dummy at a place is marked
 abbrev pub mark_at : List Bool → ℕ → Bool
 mark_at marks i = unwrap_or (slice_get marks i) false
@@ -61,9 +47,3 @@ mark_at marks i = unwrap_or (slice_get marks i) false
 abbrev pub with_name : Declaration → List ℕ → Declaration
 with_name d x = record d { name = x }
 
--- the sweeps of a product, with the shadows of these set to 0 between them and at the end
-abbrev pub swept : Names → ℕ → Product → List (List ℕ) → List (List ℕ) → Code
-swept n line p other_outputs other_inputs =
-    forward_act 0 p.line (assigned p)
-    +++ (rename (named_by n) (zeros line other_outputs)
-    +++ (rename (named_by n) (backward_act 0 p.line (assigned p)) +++ (rename (named_by n) (zeros line other_inputs) +++ stop)))

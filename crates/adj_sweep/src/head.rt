@@ -1,76 +1,72 @@
-//! The adjoint of a program whose head's body is one product.
+//! The adjoint of a program whose head is straight code over scalars.
 
 ghost use Rattle.std.specs.Prelude.{◌≡◌, ◌++◌, ◌∷◌, [], ◌<◌, IfOk, map, length};
-ghost use Rattle.adj_tree.specs.Code.{Procedure, step, stop, work};
+ghost use Rattle.adj_tree.specs.Code.{Procedure, work, temp};
 ghost use Rattle.adj_text.specs.Written.{IsWritten};
 ghost use Rattle.adj_tree.specs.View.{declaration_of, procedure_of, procedures_of, code_of};
+ghost use Rattle.adj_meaning.specs.Rename.{rename};
+ghost use Rattle.adj_transpose.specs.Emit.{adjoint_body};
 ghost use Rattle.adj_transpose.specs.Program.{locals, unmarked, declared_with_shadows, declared_helpers, helpers_from, adjoint_unit, unit_at, adjoint_program};
 ghost use Rattle.adj_transpose.specs.Straight.{IsStraightUnit};
 ghost use Rattle.adj_transpose.specs.Adjoint.{IsAdjoint};
-ghost use Rattle.adj_sweep.specs.Table.{table_of, assigned, swept};
+ghost use Rattle.adj_sweep.specs.Table.{table_of, named_by};
 
 use crate::names::{Helper, Names};
 use crate::naming::{adjoint_name, locals, names};
-use crate::product::{Product, backward, forward};
+use crate::sizes::{Used, helpers_used};
+use crate::sweeps::{backward, forward};
 use crate::unit::{declare_helpers, declare_variables, with_shadows, zeros};
 use adj_tree::{Decl, Head, Items, Memory, Program, Stmts, Unit, Units};
 use std::alloc::Global;
 
 // The declarations of the adjoint unit.
-fn declarations(alloc: Global, n: &Names, unit: &Unit) -> Result<Vec<Decl>, Memory>
-    ensures declarations { IfOk result (λ v. map declaration_of v.items ≡ declared_with_shadows (table_of n.now) (procedure_of unit.now) unit.now.dummies ++ (declared_with_shadows (table_of n.now) (procedure_of unit.now) (locals (procedure_of unit.now)) ++ declared_helpers (table_of n.now) unit.now.line (helpers_from work 1 2))) }
+fn declarations(alloc: Global, n: &Names, unit: &Unit, used: Used) -> Result<Vec<Decl>, Memory>
+    ensures declarations { IfOk result (λ v. map declaration_of v.items ≡ declared_with_shadows (table_of n.now) (procedure_of unit.now) unit.now.dummies ++ (declared_with_shadows (table_of n.now) (procedure_of unit.now) (locals (procedure_of unit.now)) ++ declared_helpers (table_of n.now) unit.now.line (helpers_from work 1 used.works ++ helpers_from temp 1 used.temps))) }
 {
     let mut made = Vec::new(alloc);
     declare_variables(alloc, n, unit, unit.dummies.as_slice(), &mut made)?;
     let more = locals(alloc, unit)?;
     declare_variables(alloc, n, unit, more.as_slice(), &mut made)?;
-    declare_helpers(alloc, n, unit.line, Helper::Work, 2, &mut made)?;
+    declare_helpers(alloc, n, unit.line, Helper::Work, used.works, &mut made)?;
+    declare_helpers(alloc, n, unit.line, Helper::Temp, used.temps, &mut made)?;
     Ok(made)
 }
 
-// The body of the adjoint unit.
+// The body of the adjoint unit, made from its end.
 fn body(
     alloc: Global,
     n: &Names,
     unit: &Unit,
-    product: &Product,
     vars: &[bool],
     outvars: &[bool],
 ) -> Result<Stmts, Memory>
-    ensures sweeps { IfOk result (λ c. code_of c ≡ swept n.now unit.now.line product.now (unmarked unit.now.dummies outvars.now) (unmarked unit.now.dummies vars.now)) }
+    ensures sweeps { IfOk result (λ c. code_of c ≡ rename (named_by n.now) (adjoint_body unit.now.line (code_of unit.now.body) (unmarked unit.now.dummies outvars.now) (unmarked unit.now.dummies vars.now))) }
 {
-    let last = zeros(
-        alloc,
-        n,
-        unit.line,
-        unit.dummies.as_slice(),
-        vars,
-        Stmts::Empty,
-    )?;
-    let back = backward(alloc, n, product, last)?;
-    let middle = zeros(alloc, n, unit.line, unit.dummies.as_slice(), outvars, back)?;
-    let code = forward(alloc, product, middle)?;
+    let dummies = unit.dummies.as_slice();
+    let last = zeros(alloc, n, unit.line, dummies, vars, Stmts::Empty)?;
+    let back = backward(alloc, n, &unit.body, last)?;
+    let middle = zeros(alloc, n, unit.line, dummies, outvars, back)?;
+    let code = forward(alloc, &unit.body, middle)?;
     Ok(code)
 }
 
-// The adjoint of a unit whose body is the product.
+// The adjoint of a unit of straight code.
 fn adjoint_of_unit(
     alloc: Global,
     p: &Program,
     unit: &Unit,
-    product: &Product,
     vars: &[bool],
     outvars: &[bool],
 ) -> Result<Unit, Memory>
-    requires body { code_of unit.now.body ≡ step product.now.line (assigned product.now) stop }
     requires straight { IsStraightUnit (procedure_of unit.now) }
     ensures unit { IfOk result (λ u. procedure_of u ≡ adjoint_unit (procedures_of p.now) (procedure_of unit.now) vars.now outvars.now) }
 {
     let name = adjoint_name(alloc, p, unit)?;
-    let n = names(alloc, p, unit, &name, 2, 0)?;
+    let used = helpers_used(&unit.body)?;
+    let n = names(alloc, p, unit, &name, used)?;
     let all = with_shadows(alloc, &n, unit.dummies.as_slice())?;
-    let decls = declarations(alloc, &n, unit)?;
-    let code = body(alloc, &n, unit, product, vars, outvars)?;
+    let decls = declarations(alloc, &n, unit, used)?;
+    let code = body(alloc, &n, unit, vars, outvars)?;
     let made = Unit {
         line: unit.line,
         name,
@@ -82,15 +78,9 @@ fn adjoint_of_unit(
     Ok(made)
 }
 
-/// The adjoint of a program whose head's body is the product: one unit, the head's adjoint (docs/EMITTED.md).
-pub fn adjoint(
-    alloc: Global,
-    p: &Program,
-    head: &Head,
-    product: &Product,
-) -> Result<Program, Memory>
+/// The adjoint of a program whose head is straight code over scalars: one unit, the head's adjoint (docs/EMITTED.md).
+pub fn adjoint(alloc: Global, p: &Program, head: &Head) -> Result<Program, Memory>
     requires unit { head.now.unit < length p.now.units }
-    requires body { (u : Procedure) → unit_at head.now.unit (procedures_of p.now) ≡ u ∷ [] → u.body ≡ step product.now.line (assigned product.now) stop }
     requires straight { (u : Procedure) → unit_at head.now.unit (procedures_of p.now) ≡ u ∷ [] → IsStraightUnit u }
     ensures emitted { IfOk result (λ q. procedures_of q ≡ adjoint_program (procedures_of p.now) head.now.unit head.now.vars head.now.outvars) }
     ensures written { IfOk result (λ q. IsWritten (procedures_of p.now) → IsWritten (procedures_of q)) }
@@ -101,7 +91,6 @@ pub fn adjoint(
         alloc,
         p,
         unit,
-        product,
         head.vars.as_slice(),
         head.outvars.as_slice(),
     )?;

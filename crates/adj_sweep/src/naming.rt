@@ -10,6 +10,7 @@ ghost use Rattle.adj_sweep.specs.Table.{own_entry, shadow_entry, helper_table, t
 
 use crate::fresh::{contains, fresh, joined, with_number};
 use crate::names::{Helper, Names, Shadowed};
+use crate::sizes::Used;
 use adj_tree::{Memory, Name, Program, Unit};
 use std::alloc::Global;
 
@@ -187,16 +188,15 @@ pub fn names(
     p: &Program,
     unit: &Unit,
     adjoint: &Name,
-    works: usize,
-    temps: usize,
+    used: Used,
 ) -> Result<Names, Memory>
-    ensures names { IfOk result (λ n. table_of n ≡ unit_names (variables (procedure_of unit.now)) (map unit_name (procedures_of p.now) ++ (adjoint.now ∷ [])) (map shadow (variables (procedure_of unit.now)) ++ (helpers_from work 1 works ++ helpers_from temp 1 temps))) }
+    ensures names { IfOk result (λ n. table_of n ≡ unit_names (variables (procedure_of unit.now)) (map unit_name (procedures_of p.now) ++ (adjoint.now ∷ [])) (map shadow (variables (procedure_of unit.now)) ++ (helpers_from work 1 used.works ++ helpers_from temp 1 used.temps))) }
 {
     let mut taken = taken_names(alloc, p, unit, adjoint)?;
     let vars = variables(alloc, unit)?;
     let variables = shadows(alloc, vars.as_slice(), &mut taken)?;
-    let works = helpers(alloc, Helper::Work, works, &mut taken)?;
-    let temps = helpers(alloc, Helper::Temp, temps, &mut taken)?;
+    let works = helpers(alloc, Helper::Work, used.works, &mut taken)?;
+    let temps = helpers(alloc, Helper::Temp, used.temps, &mut taken)?;
     let all = Names {
         variables,
         works,

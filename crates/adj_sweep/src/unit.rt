@@ -1,4 +1,4 @@
-//! The adjoint unit of a head whose body is one product (docs/EMITTED.md, "The unit").
+//! The parts of the adjoint unit besides its sweeps (docs/EMITTED.md, "The unit").
 
 ghost use Rattle.std.specs.Prelude.{◌≡◌, ◌++◌, List, Bool, IfOk, OnOk, map};
 ghost use Rattle.adj_tree.specs.Code.{shadow};
@@ -11,8 +11,8 @@ ghost use Rattle.adj_transpose.specs.Naming.{name_in};
 ghost use Rattle.adj_sweep.specs.Table.{table_of, named_by, role_of, mark_at, with_name};
 
 use crate::names::{Helper, Names};
-use crate::product::zero_step;
-use adj_tree::{Decl, Items, Memory, Name, Stmts, Unit};
+use crate::step::{before, scalar_assignment};
+use adj_tree::{Decl, Expr, Items, Memory, Name, Stmts, Unit};
 use std::alloc::Global;
 
 // Whether a dummy is marked; one whose mark is missing isn't.
@@ -41,7 +41,8 @@ pub fn zeros(
     while i > 0 {
         i -= 1;
         if !is_marked(marks, i) {
-            code = zero_step(alloc, n, line, &names[i], code)?;
+            let shadow = n.shadow(alloc, &names[i])?;
+            code = before(alloc, scalar_assignment(line, shadow, Expr::Lit(0)), code)?;
         }
     }
     Ok(code)

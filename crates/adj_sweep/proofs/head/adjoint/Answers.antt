@@ -9,17 +9,11 @@ use Rattle.adj_sweep.proofs.Heads.{unit_at-get}
 use Rattle.adj_sweep.proofs.Written.{program-written}
 use Rattle.adj_sweep.proofs.head.adjoint.Goals as goal
 
-pub adjoint_of_unit-requires-clause-body : goal.adjoint_of_unit-requires-clause-body
-adjoint_of_unit-requires-clause-body c =
+pub adjoint_of_unit-requires : goal.adjoint_of_unit-requires
+adjoint_of_unit-requires c =
     let u = c.index-as_slice-head.result in
     let k = c.args.head.now.unit in
-    c.requires.body (procedure_of u) (unit_at-get c.args.p.now.units k u c.requires.unit (c.index-as_slice-head.is ∙ ap (λ us. get_or us k u) c.as_slice.ensures.members))
-
-pub adjoint_of_unit-requires-clause-straight : goal.adjoint_of_unit-requires-clause-straight
-adjoint_of_unit-requires-clause-straight c =
-    let u = c.index-as_slice-head.result in
-    let k = c.args.head.now.unit in
-    c.requires.straight (procedure_of u) (unit_at-get c.args.p.now.units k u c.requires.unit (c.index-as_slice-head.is ∙ ap (λ us. get_or us k u) c.as_slice.ensures.members))
+    record { straight = c.requires.straight (procedure_of u) (unit_at-get c.args.p.now.units k u c.requires.unit (c.index-as_slice-head.is ∙ ap (λ us. get_or us k u) c.as_slice.ensures.members)) }
 
 pub returns-clause-emitted : goal.returns-clause-emitted
 returns-clause-emitted c =
@@ -51,4 +45,4 @@ returns-clause-written c =
     let vars = c.args.head.now.vars in
     let outvars = c.args.head.now.outvars in
     let at : unit_at k ps ≡ procedure_of u ∷ [] = unit_at-get c.args.p.now.units k u c.requires.unit (c.index-as_slice-head.is ∙ ap (λ us. get_or us k u) c.as_slice.ensures.members) in
-    λ (w : IsWritten ps). subst IsWritten (sym (returns-clause-emitted c)) (program-written ps k vars outvars (procedure_of u) c.args.product.now at (c.requires.body (procedure_of u) at) (c.requires.straight (procedure_of u) at) w)
+    λ (w : IsWritten ps). subst IsWritten (sym (returns-clause-emitted c)) (program-written ps k vars outvars (procedure_of u) at (c.requires.straight (procedure_of u) at) w)

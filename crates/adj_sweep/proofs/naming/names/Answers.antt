@@ -12,7 +12,7 @@ returns c =
     let vs = variables (procedure_of c.args.unit.now) in
     let same : c.as_slice.result.now ≡ vs = c.as_slice.ensures.value ∙ c.in_ok-vars.ensures.variables in
     record {
-      names = names_table vs (map unit_name (procedures_of c.args.p.now) ++ (c.args.adjoint.now ∷ [])) (helpers_from work 1 c.args.works) (helpers_from temp 1 c.args.temps)
+      names = names_table vs (map unit_name (procedures_of c.args.p.now) ++ (c.args.adjoint.now ∷ [])) (helpers_from work 1 c.args.used.works) (helpers_from temp 1 c.args.used.temps)
           (map own_entry c.in_ok-variables.variables.items) (map shadow_entry c.in_ok-variables.variables.items) (helper_table work 1 c.in_ok-works.works.items) (helper_table temp 1 c.in_ok-temps.temps.items)
           c.in_ok-taken.taken.items c.shadows.new.taken.items c.helpers.new.taken.items c.helpers-2.new.taken.items
           c.in_ok-taken.ensures.names
