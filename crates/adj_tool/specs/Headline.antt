@@ -7,7 +7,7 @@ use Rattle.adj_text.specs.Text.{text_of}
 use Rattle.adj_transpose.specs.Program.{unit_at}
 use Rattle.adj_transpose.specs.Adjoint.{IsAdjoint}
 use Rattle.adj_tool.specs.Words.{Request}
-use Rattle.adj_tool.specs.Answer.{flags_of}
+use Rattle.adj_tool.specs.Answer.{Answer, flags_of}
 
 -- the bytes that were read are a program, whose unit of the name asked for is the head; the bytes that were written are the text of a
 -- program, read as it (up to line numbers), and that program is an adjoint of the first one for the head with its independents and dependents
@@ -23,3 +23,7 @@ pub record WritesAdjoint (r : Request) (bytes written : List ℕ) : Type 0 where
   pub text : written ≡ text_of adjoint
   pub reads_back : ReadsAs written adjoint
   pub is_adjoint : IsAdjoint source head (flags_of r.vars unit.dummies) (flags_of r.outvars unit.dummies) adjoint
+
+-- where the answer to these bytes is done, its text is that of an adjoint
+abbrev pub IsAdjoined : Request → List ℕ → Answer → Type 0
+IsAdjoined r bytes a = a.status ≡ 0 → WritesAdjoint r bytes a.text

@@ -1,6 +1,6 @@
+pub mod Profile
 pub mod Words
 pub mod Answer
 pub mod Headline
-pub mod Product
 pub mod Views
 pub mod Tool

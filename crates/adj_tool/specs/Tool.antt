@@ -47,6 +47,18 @@ pub record Adjoins (r : Request) (before after written_before written_after : Op
   pub whole : written_after ≡ extended_by written_before text
   pub adjoint : WritesAdjoint r bytes text
 
+-- the bytes that were read, all that were left, of which the text is that of an adjoint
+pub record AdjoinsInput (r : Request) (before after : Option (List ℕ)) (text : List ℕ) : Type 0 where
+  pub bytes : List ℕ
+  pub were_left : before ≡ followed_by bytes after
+  pub to_end : IsAtEnd after
+  pub adjoint : WritesAdjoint r bytes text
+
+-- the answer's text is that of an adjoint, where one was asked for
+abbrev pub IsAdjoinedTo : Option Command → Option (List ℕ) → Option (List ℕ) → List ℕ → Type 0
+IsAdjoinedTo (Some (Adjoint r)) before after text = AdjoinsInput r before after text
+IsAdjoinedTo _ before after text = Unit {0}
+
 -- the theorem of `adjoint`
 abbrev pub IsHeadline : Option Command → Option (List ℕ) → Option (List ℕ) → Option (List ℕ) → Option (List ℕ) → Type 0
 IsHeadline (Some (Adjoint r)) before after written_before written_after = Adjoins r before after written_before written_after

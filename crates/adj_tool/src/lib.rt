@@ -3,14 +3,17 @@
 
 mod adjoint;
 mod answer;
-mod product;
+mod name_set;
+mod read;
 mod schedule;
 mod task;
 #[cfg(test)]
 mod tests;
 mod text;
 mod top;
+mod untreated;
 mod values;
+mod well_named;
 mod words;
 
 pub use text::Text;

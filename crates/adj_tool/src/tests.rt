@@ -1,17 +1,20 @@
 //! Calls of the program, from words and input to status and output.
 
+mod emitted;
+mod long;
+mod refused;
+
 use super::*;
 use adj_io::{MemSink, MemSource};
 use adj_tree::Memory;
 use std::alloc::Global;
 
-const SQUARE: &[u8] = b"      SUBROUTINE P(X,Y)\n      INTEGER*8 X,Y\n      Y=X*X\n      END\n";
+pub(crate) const SQUARE: &[u8] =
+    b"      SUBROUTINE P(X,Y)\n      INTEGER*8 X,Y\n      Y=X*X\n      END\n";
 
-const HALF: &[u8] = b"      SUBROUTINE P(X,Y)\n      INTEGER*8 X,Y\n      Y=X/2\n      END\n";
+pub(crate) const WORDS: &str = "adjoint --head P --vars X --outvars Y";
 
-const WORDS: &str = "adjoint --head P --vars X --outvars Y";
-
-const ADJOINT: &str = "      SUBROUTINE P_B(X,XB,Y,YB)
+pub(crate) const ADJOINT: &str = "      SUBROUTINE P_B(X,XB,Y,YB)
       INTEGER*8 X
       INTEGER*8 XB
       INTEGER*8 Y
@@ -59,6 +62,17 @@ fn words_of(alloc: Global, line: &str) -> Result<Vec<Text>, Memory> {
     Ok(words)
 }
 
+// Whether a call whose streams take whole texts is done and writes this text.
+pub(crate) fn writes(alloc: Global, line: &str, input: &[u8], text: &[u8]) -> Result<bool, Memory> {
+    let words = words_of(alloc, line)?;
+    let input = Vec::from_slice(alloc, input)?;
+    let mut source = MemSource::new(input, Vec::new(alloc), 65_536);
+    let room = text.len().saturating_add(1);
+    let mut sink = MemSink::new(alloc, room, Vec::new(alloc), 65_536).map_err(|_| Memory)?;
+    let status = tool(alloc, words.as_slice(), &mut source, &mut sink);
+    Ok(status == 0 && sink.bytes() == text)
+}
+
 // A call with streams whose pieces are 10 bytes.
 fn call(alloc: Global, line: &str, input: &[u8], faults: &Faults<'_>) -> Result<Ended, Memory> {
     let words = words_of(alloc, line)?;
@@ -70,7 +84,8 @@ fn call(alloc: Global, line: &str, input: &[u8], faults: &Faults<'_>) -> Result<
     Ok(Ended { status, sink })
 }
 
-fn comes_to(
+// Whether a call ends with this status and text.
+pub(crate) fn comes_to(
     alloc: Global,
     line: &str,
     input: &[u8],
@@ -85,34 +100,6 @@ fn comes_to(
 fn the_adjoint_of_a_square(rt: HostRuntime) {
     let same = comes_to(rt.alloc(), WORDS, SQUARE, 0, ADJOINT);
     assert!(rt; same.is_ok_and(|same| same));
-}
-
-#[test]
-fn a_text_outside_the_profile_and_one_that_is_too_long(rt: HostRuntime) -> Result<(), Memory> {
-    let alloc = rt.alloc();
-    let cases = [
-        (WORDS, HALF),
-        ("adjoint --head Q --vars X --outvars Y", SQUARE),
-        ("adjoint --head P --vars Z --outvars Y", SQUARE),
-        ("adjoint --head P --vars X,X --outvars Y", SQUARE),
-        (WORDS, b""),
-    ];
-    for (line, input) in cases {
-        assert!(rt;
-            comes_to(alloc, line, input, 2, "REFUSED 3 LINE 0\n")?,
-            "{line}"
-        );
-    }
-    let long = vec![in alloc; b' '; 4_194_305]?;
-    let refused = comes_to(
-        alloc,
-        WORDS,
-        long.as_slice(),
-        2,
-        "REFUSED 21 LINE 0 LIMIT 4194304\n",
-    )?;
-    assert!(rt; refused);
-    Ok(())
 }
 
 #[test]

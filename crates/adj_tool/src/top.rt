@@ -5,7 +5,7 @@ ghost use Rattle.adj_tool.specs.declared.top.Stop.TheVariants as stop;
 ghost use Rattle.adj_io.specs.Faults.{Rose};
 ghost use Rattle.adj_tool.specs.Words.{taken};
 ghost use Rattle.adj_tool.specs.Views.{answer_of, request_of};
-ghost use Rattle.adj_tool.specs.Tool.{AnswersInput, IsAnswer, IsHeadline, ReadsInput, WritesAll, WritesFront};
+ghost use Rattle.adj_tool.specs.Tool.{AdjoinsInput, AnswersInput, IsAdjoinedTo, IsAnswer, IsHeadline, ReadsInput, WritesAll, WritesFront};
 
 use crate::adjoint::adjoint;
 use crate::answer::{Answer, refused, usage};
@@ -40,6 +40,7 @@ impl From<Memory> for Stop {
 // The answer of `adjoint` to an input.
 fn answer_input<S: Source>(alloc: Global, request: &Request, input: &mut S) -> Result<Answer, Stop>
     ensures answer { IfOk result (λ a. AnswersInput (request_of request.now) (S.left input.old) (S.left input.new) (answer_of a)) }
+    ensures adjoint { IfOk result (λ a. (answer_of a).status ≡ 0 → AdjoinsInput (request_of request.now) (S.left input.old) (S.left input.new) a.text.items) }
     ensures fault { IsErrOf result Stop.ReadFault → Rose (S.faults input.old) (S.faults input.new) }
 {
     match read_all(alloc, input, MOST_BYTES) {
@@ -64,6 +65,7 @@ fn answer_input<S: Source>(alloc: Global, request: &Request, input: &mut S) -> R
 // The answer to the words, and to the input where they ask for a command that reads.
 fn answer_words<S: Source>(alloc: Global, words: &[Text], input: &mut S) -> Result<Answer, Stop>
     ensures answer { IfOk result (λ a. IsAnswer (taken words.now) (S.left input.old) (S.left input.new) (answer_of a)) }
+    ensures adjoint { IfOk result (λ a. (answer_of a).status ≡ 0 → IsAdjoinedTo (taken words.now) (S.left input.old) (S.left input.new) a.text.items) }
     ensures fault { IsErrOf result Stop.ReadFault → Rose (S.faults input.old) (S.faults input.new) }
     ensures reads { IsErrOf result Stop.ReadFault → ReadsInput (taken words.now) }
 {

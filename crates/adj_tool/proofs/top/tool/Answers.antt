@@ -1,8 +1,7 @@
 use Rattle.std.proofs.Common.{ap, sym, ◌∙◌}
 use Rattle.adj_io.specs.Bytes.{extended_by}
-use Rattle.adj_tool.specs.Views.{answer_of}
 use Rattle.adj_tool.proofs.Headline.{headline}
 use Rattle.adj_tool.proofs.top.tool.Goals as goal
 
 pub returns-in-Ok-write_all-clause-headline : goal.returns-in-Ok-write_all-clause-headline
-returns-in-Ok-write_all-clause-headline g c = λ z. headline _ _ _ _ _ (answer_of c.in-Ok.answer) c.in-Ok.ensures.answer (sym c.number.ensures.value ∙ z) (c.in-Ok-write_all.ensures.bytes ∙ ap (λ t. extended_by (g.K.Sink.taken c.args.output.now) t) c.as_slice.ensures.value)
+returns-in-Ok-write_all-clause-headline g c = λ z. headline _ _ _ _ _ c.in-Ok.answer.text.items (c.in-Ok.ensures.adjoint (sym c.number.ensures.value ∙ z)) (c.in-Ok-write_all.ensures.bytes ∙ ap (λ t. extended_by (g.K.Sink.taken c.args.output.now) t) c.as_slice.ensures.value)

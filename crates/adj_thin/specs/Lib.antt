@@ -1,2 +1,0 @@
-pub mod Thin
-pub mod View
