@@ -1,7 +1,10 @@
 //! Calls of the program, from words and input to status and output.
 
 mod emitted;
+mod limits;
 mod long;
+mod printed;
+mod readings;
 mod refused;
 
 use super::*;
