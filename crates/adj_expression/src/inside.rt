@@ -22,6 +22,7 @@ use std::alloc::Global;
 /// What is being read.
 #[derive(Drop)]
 pub(crate) enum Inside {
+    /// Nothing yet: a comparison, `.NOT.` or a parenthesis is wanted.
     Fresh,
     /// The left operand of a comparison, or an expression in parentheses before it.
     First(Vec<Frame>, Seen),
