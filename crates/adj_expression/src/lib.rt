@@ -5,10 +5,25 @@
 //! The crate stands on the trees and on what texts mean. The layer above reads statements with it.
 #![tactic(auto)]
 
+mod application;
+#[cfg(test)]
+mod condition_tests;
 mod conditions;
+mod constant;
 mod expressions;
 mod flaw;
+mod frame;
+mod inside;
+mod intrinsic;
+mod laws;
+mod machine;
+mod operand;
+mod proposition;
+#[cfg(test)]
+mod tests;
+mod waiting;
 
 pub use conditions::condition;
 pub use expressions::expression;
 pub use flaw::Flaw;
+pub use laws::conditions_are_read;

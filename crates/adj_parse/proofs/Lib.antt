@@ -1,3 +1,13 @@
+pub mod Shorter
+pub mod Members
+pub mod Lists
+pub mod Judging
+pub mod Declared
+pub mod Runtime
+pub mod Deeds
+pub mod Guards
+pub mod Loops
+pub mod Phrased
 pub mod Machine
 pub mod BlocksComplete
 pub mod UnitsComplete

@@ -3,7 +3,9 @@
 ghost use Rattle.std.specs.Prelude.{◌≡◌, ◌≤◌, ◌^◌};
 ghost use Rattle.adj_text.specs.Char.{number_of};
 
-use adj_tree::Name;
+use crate::number::number;
+use adj_tree::{Memory, Name};
+use std::alloc::Global;
 
 /// Digits of a label that no statement carries.
 #[derive(Drop)]
@@ -20,8 +22,21 @@ pub(crate) enum Label {
 }
 
 impl Label {
-    ghost use Rattle.std.specs.Prelude.{◌==◌};
+    ghost use Rattle.std.specs.Prelude.{◌==◌, IfOk};
     ghost use Rattle.adj_parse.specs.View.{label_of};
+
+    /// The label that digits write.
+    pub(crate) fn new(alloc: Global, digits: &[u8]) -> Result<Label, Memory>
+        ensures { IfOk result (λ l. label_of l ≡ number_of digits.now) }
+    {
+        match u32::try_from(number(digits)) {
+            Ok(label) => Ok(Label::Short(label)),
+            Err(_) => {
+                let digits = Name::new(digits.to_vec(alloc)?);
+                Ok(Label::Long(LongLabel { digits }))
+            }
+        }
+    }
 
     /// Whether it is the label of a statement.
     pub(crate) fn is(&self, label: u32) -> bool

@@ -7,13 +7,20 @@
 
 mod block;
 mod bounds;
+mod called;
 mod current;
+mod declaration;
+mod deed;
+mod flaws;
+mod heading;
 mod label;
 mod nest;
+mod number;
 mod parser;
 mod phase;
 mod said;
 mod statement;
 mod text;
+mod words;
 
 pub use text::program;
