@@ -20,4 +20,6 @@ pub mod Declares
 pub mod Seen
 pub mod Following
 pub mod Passing
+pub mod TermsFit
+pub mod FormsFit
 pub mod Laws
