@@ -8,3 +8,6 @@ pub mod Deeds
 pub mod Guards
 pub mod Loops
 pub mod Phrased
+pub mod PhraseComplete
+pub mod PhraseSound
+pub mod PhraseForms
