@@ -11,3 +11,4 @@ pub mod Phrased
 pub mod PhraseComplete
 pub mod PhraseSound
 pub mod PhraseForms
+pub mod FormPhrases

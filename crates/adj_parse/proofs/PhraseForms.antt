@@ -4,7 +4,7 @@ use Rattle.adj_tree.specs.Code.{Var, plain, Term, Terms, lit, none, Test, Act, a
 use Rattle.adj_text.specs.Char.{number_of}
 use Rattle.adj_text.specs.Condition.{Condition, test, ReadsTest}
 use Rattle.adj_text.specs.Form.{Form, integers, simple, logical, opens_do, opens_if, otherwise_if, ReadsForm}
-use Rattle.adj_text.specs.Form as form
+use Rattle.adj_text.specs.Form as reads
 use Rattle.adj_text.specs.Grammar.{Syntax, Arguments, count_of, with_both, tree, trees_before, Sum, Derives}
 use Rattle.adj_text.specs.Statement.{Item, called, Range, ReadsPlace, ReadsAssignment, ReadsItem, ReadsItems, ReadsExtent, ReadsCall, ReadsRange, ReadsDo, ReadsGuard, ReadsGuarded}
 use Rattle.adj_text.specs.Statement as statement
@@ -75,9 +75,9 @@ range_form (by_step {x = x} {ts = ts} {a = a} {b = b} {c = c} d e f) r h =
     subst (ReadsRange (Named x ∷ Mark Equals ∷ ts)) same made
 
 do_form : {ts : List Word} {p : Phrase} → SaysDo ts p → (mark : ℕ) (f : Form) → form mark p ≡ Some f → ReadsForm mark Do ts f
-do_form {ts} (says.unlabelled {b = b} g) mark f h = let k = map_some (λ r. opens_do None r mark) (range b) f h in subst (ReadsForm mark Do ts) k.2 (form.begins (statement.unlabelled (range_form g k.0 k.1)))
-do_form (says.labelled {digits = ds} {ts = ts} {b = b} g) mark f h = let k = map_some (λ r. opens_do (Some (number_of ds)) r mark) (range b) f h in subst (ReadsForm mark Do (Digits ds ∷ ts)) k.2 (form.begins (statement.labelled (range_form g k.0 k.1)))
-do_form (says.labelled_comma {digits = ds} {ts = ts} {b = b} g) mark f h = let k = map_some (λ r. opens_do (Some (number_of ds)) r mark) (range b) f h in subst (ReadsForm mark Do (Digits ds ∷ Mark Comma ∷ ts)) k.2 (form.begins (statement.labelled_comma (range_form g k.0 k.1)))
+do_form {ts} (says.unlabelled {b = b} g) mark f h = let k = map_some (λ r. opens_do None r mark) (range b) f h in subst (ReadsForm mark Do ts) k.2 (reads.begins (statement.unlabelled (range_form g k.0 k.1)))
+do_form (says.labelled {digits = ds} {ts = ts} {b = b} g) mark f h = let k = map_some (λ r. opens_do (Some (number_of ds)) r mark) (range b) f h in subst (ReadsForm mark Do (Digits ds ∷ ts)) k.2 (reads.begins (statement.labelled (range_form g k.0 k.1)))
+do_form (says.labelled_comma {digits = ds} {ts = ts} {b = b} g) mark f h = let k = map_some (λ r. opens_do (Some (number_of ds)) r mark) (range b) f h in subst (ReadsForm mark Do (Digits ds ∷ Mark Comma ∷ ts)) k.2 (reads.begins (statement.labelled_comma (range_form g k.0 k.1)))
 
 -- guards
 guard_form : {ts rest : List Word} {c : Condition} → SaysGuard ts rest c → (t : Test) → test c ≡ Some t → ReadsGuard ts rest t
@@ -100,18 +100,18 @@ plain_form {kind} {mark} {ts} g f m k r h = let e : g ≡ f = cc in subst (Reads
 
 -- the form of what the words of a statement say is one that they have
 pub form_reads : {mark : ℕ} {kind : Kind} {ts : List Word} {p : Phrase} → Says kind ts p → (f : Form) → form mark p ≡ Some f → (mark ≡ 0) ⊎ (kind ≡ Do) → ReadsForm mark kind ts f
-form_reads (says.heading {x = x} {dummies = dummies} g) f h m = plain_form (form.subroutine x dummies) f m (λ e. cc) (form.heading g) h
-form_reads says.implicit f h m = plain_form form.implicit_none f m (λ e. cc) form.implicit h
-form_reads (says.declaration {is = is} g) f h m = plain_form (integers (map item is)) f m (λ e. cc) (form.declaration (items_form g)) h
-form_reads (says.Says.assigned {d = d} g) f h m = does_form d f m (λ e. cc) (λ a k. form.ReadsForm.assigned (assignment_form g a k)) h
-form_reads (says.Says.called {d = d} g) f h m = does_form d f m (λ e. cc) (λ a k. form.calls (call_form g a k)) h
-form_reads {mark} (says.guarded {ts = ts} {c = c} {d = d} g r) f h m = let k = both_some logical (test c) (act d) f h in subst (ReadsForm mark LogicalIf ts) k.4 (unmarked (logical k.0 k.1) m (λ e. cc) (form.guarded (guard_form g k.0 k.2) (guarded_form r k.1 k.3)))
+form_reads (says.heading {x = x} {dummies = dummies} g) f h m = plain_form (reads.subroutine x dummies) f m (λ e. cc) (reads.heading g) h
+form_reads says.implicit f h m = plain_form reads.implicit_none f m (λ e. cc) reads.implicit h
+form_reads (says.declaration {is = is} g) f h m = plain_form (integers (map item is)) f m (λ e. cc) (reads.declaration (items_form g)) h
+form_reads (says.Says.assigned {d = d} g) f h m = does_form d f m (λ e. cc) (λ a k. reads.ReadsForm.assigned (assignment_form g a k)) h
+form_reads (says.Says.called {d = d} g) f h m = does_form d f m (λ e. cc) (λ a k. reads.calls (call_form g a k)) h
+form_reads {mark} (says.guarded {ts = ts} {c = c} {d = d} g r) f h m = let k = both_some logical (test c) (act d) f h in subst (ReadsForm mark LogicalIf ts) k.4 (unmarked (logical k.0 k.1) m (λ e. cc) (reads.guarded (guard_form g k.0 k.2) (guarded_form r k.1 k.3)))
 form_reads {mark} (says.begins g) f h m = do_form g mark f h
-form_reads says.finished f h m = plain_form form.end_do f m (λ e. cc) form.finished h
-form_reads says.continued f h m = plain_form form.go_on f m (λ e. cc) form.continued h
-form_reads {mark} (says.tests {ts = ts} {c = c} g) f h m = let k = map_some opens_if (test c) f h in subst (ReadsForm mark BlockIf ts) k.2 (unmarked (opens_if k.0) m (λ e. cc) (form.tests (guard_form g k.0 k.1)))
-form_reads says.turned f h m = plain_form form.otherwise f m (λ e. cc) form.turns h
-form_reads {mark} (says.tests_again {ts = ts} {c = c} g) f h m = let k = map_some otherwise_if (test c) f h in subst (ReadsForm mark ElseIf ts) k.2 (unmarked (otherwise_if k.0) m (λ e. cc) (form.tests_again (guard_form g k.0 k.1)))
-form_reads says.closed f h m = plain_form form.end_if f m (λ e. cc) form.closed h
-form_reads says.returned f h m = plain_form form.leaves f m (λ e. cc) form.returned h
-form_reads says.ended f h m = plain_form form.ends f m (λ e. cc) form.ended h
+form_reads says.finished f h m = plain_form reads.end_do f m (λ e. cc) reads.finished h
+form_reads says.continued f h m = plain_form reads.go_on f m (λ e. cc) reads.continued h
+form_reads {mark} (says.tests {ts = ts} {c = c} g) f h m = let k = map_some opens_if (test c) f h in subst (ReadsForm mark BlockIf ts) k.2 (unmarked (opens_if k.0) m (λ e. cc) (reads.tests (guard_form g k.0 k.1)))
+form_reads says.turned f h m = plain_form reads.otherwise f m (λ e. cc) reads.turns h
+form_reads {mark} (says.tests_again {ts = ts} {c = c} g) f h m = let k = map_some otherwise_if (test c) f h in subst (ReadsForm mark ElseIf ts) k.2 (unmarked (otherwise_if k.0) m (λ e. cc) (reads.tests_again (guard_form g k.0 k.1)))
+form_reads says.closed f h m = plain_form reads.end_if f m (λ e. cc) reads.closed h
+form_reads says.returned f h m = plain_form reads.leaves f m (λ e. cc) reads.returned h
+form_reads says.ended f h m = plain_form reads.ends f m (λ e. cc) reads.ended h

@@ -11,6 +11,7 @@ mod deed;
 mod flaws;
 mod heading;
 mod label;
+pub mod laws;
 mod number;
 mod said;
 mod statement;
