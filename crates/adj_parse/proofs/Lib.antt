@@ -8,13 +8,16 @@ pub mod Deeds
 pub mod Guards
 pub mod Loops
 pub mod Phrased
+pub mod PhraseComplete
+pub mod PhraseSound
+pub mod PhraseForms
+pub mod FormPhrases
 pub mod Machine
 pub mod BlocksComplete
 pub mod UnitsComplete
 pub mod BlocksSound
 pub mod UnitsSound
 pub mod UnitsFit
-pub mod Followed
 pub mod Stacks
 pub mod Declares
 pub mod Seen
@@ -22,4 +25,6 @@ pub mod Following
 pub mod Passing
 pub mod TermsFit
 pub mod FormsFit
-pub mod Laws
+pub mod Sayings
+pub mod Followed
+pub mod TextReads
