@@ -5,12 +5,12 @@ use Rattle.std.specs.Prelude.{◌==◌, ◌&&◌, ◌||◌, not, is_none, nat_le
 use Rattle.adj_tree.specs.Code.{Procedure}
 use Rattle.adj_tree.specs.declared.fault.Refusal.{Refusal}
 use Rattle.adj_expression.specs.declared.flaw.Flaw.{Flaw}
-use Rattle.adj_expression.specs.declared.flaw.Flaw.TheVariants.{Large, Deep, Exponent}
+use Rattle.adj_expression.specs.declared.flaw.Flaw.TheVariants.{Large, Deep}
 use Rattle.adj_text.specs.Form as forms
 use Rattle.adj_text.specs.Form.{Form, Statement, at, ReadsForm}
 use Rattle.adj_text.specs.Reads as texts
 use Rattle.adj_text.specs.Reads.{ReadsAll}
-use Rattle.adj_text.specs.Refused.{◌>>=◌, refused, limited}
+use Rattle.adj_text.specs.Refused.{◌>>=◌, limited}
 use Rattle.adj_text.specs.Word.{Word, words_of}
 use Rattle.adj_text.specs.declared.mode.Mode.{Mode}
 use Rattle.adj_text.specs.declared.stated.Kind.{Kind}
@@ -18,8 +18,8 @@ use Rattle.adj_text.specs.declared.stated.Kind.TheVariants.{Do, Assign, Call}
 use Rattle.adj_text.specs.declared.stated.Stated.{Stated}
 use Rattle.adj_parse.specs.Order.{breaks_loop, is_heading, opens_block}
 use Rattle.adj_parse.specs.Said.{said}
-use Rattle.adj_parse.specs.Trees.{bounds_of, State, is_do, is_unled, is_large, is_deep, is_full, IsBeyond, with_form, limited_by, checked, behind, follow, finish, trees_from}
-use Rattle.adj_parse.specs.Unit.{Current, Units, followed, open_blocks, is_misplaced}
+use Rattle.adj_parse.specs.Trees.{bounds_of, State, is_do, is_unled, is_large, is_deep, is_full, IsBeyond, with_form, checked, behind, follow, finish, trees_from}
+use Rattle.adj_parse.specs.Unit.{Current, followed, open_blocks, is_misplaced}
 use Rattle.adj_text.proofs.LinesMarked.{bind_ok}
 use Rattle.adj_parse.proofs.Machine.{kind_of, stands, units_of, run}
 use Rattle.adj_parse.proofs.Sayings.{said_reads, said_fits, reads_said}

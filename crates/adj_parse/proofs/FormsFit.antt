@@ -1,21 +1,20 @@
 -- What a statement says fits where none of its literals is above the greatest word.
-use Rattle.std.proofs.Common.{◌≡◌, ℕ, ◌<◌, ◌^◌, pos, Bool, true, false, cond, List, [], ◌∷◌, map, Option, Some, None, option_map, Result, Ok, Err, refl, sym, ap, subst, ◌∙◌, arith}
+use Rattle.std.proofs.Common.{◌≡◌, ℕ, ◌<◌, ◌^◌, pos, false, List, [], ◌∷◌, map, Option, Some, None, option_map, subst, arith}
 use Rattle.std.proofs.lemmas.Bool.{leb-false}
-use Rattle.std.specs.Prelude.{nat_le, ◌||◌}
+use Rattle.std.specs.Prelude.{◌||◌}
 use Rattle.std.specs.List.{All, list_any}
-use Rattle.adj_tree.specs.Code.{Term, Terms, lit, none, Test, Act, assign, plain, Extent, fixed, given}
+use Rattle.adj_tree.specs.Code.{Term, Terms, lit, none, Act, assign, plain}
 use Rattle.adj_text.specs.Char.{number_of}
-use Rattle.adj_text.specs.Condition.{Condition, test}
+use Rattle.adj_text.specs.Condition.{test}
 use Rattle.adj_text.specs.Fits.{FitsTerm, FitsTerms, FitsAct, FitsExtent}
 use Rattle.adj_text.specs.Form.{Form, subroutine, implicit_none, integers, simple, logical, opens_do, end_do, go_on, opens_if, otherwise, otherwise_if, end_if, leaves, ends}
-use Rattle.adj_text.specs.Grammar.{Syntax, Arguments, with_both, tree, trees_before}
-use Rattle.adj_text.specs.Statement.{Item, called, Range}
+use Rattle.adj_text.specs.Grammar.{Syntax, Arguments, with_both, tree}
+use Rattle.adj_text.specs.Statement.{called, Range}
 use Rattle.adj_text.specs.Word.{Word}
 use Rattle.adj_text.specs.declared.stated.Kind.{Kind}
 use Rattle.adj_text.proofs.FormWritten.{all_nil, all_cons}
-use Rattle.adj_text.proofs.TermWritten.{map_some, then_some, both_some}
-use Rattle.adj_expression.specs.Judged.{has_large, test_large, judged_by}
-use Rattle.adj_expression.specs.declared.flaw.Flaw.{Flaw}
+use Rattle.adj_text.proofs.TermWritten.{map_some, both_some}
+use Rattle.adj_expression.specs.Judged.{has_large, test_large}
 use Rattle.adj_parse.specs.Phrase as phrases
 use Rattle.adj_parse.specs.Phrase.{Deed, assigns, calls, Size, numbered, named, Declared, Bounds, Phrase, plainly, declares, does, guards, repeats, opens, turns, SaysDo, Says}
 use Rattle.adj_parse.specs.Said.{list_large, deed_large, size_large, item_large, step_large, bounds_large, phrase_large, list_trees, act, extent, item, step_tree, range, form}

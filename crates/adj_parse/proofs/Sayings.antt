@@ -1,8 +1,6 @@
 -- What the words of a statement say, in the words of the grammar.
-use Rattle.std.proofs.Common.{◌≡◌, ℕ, Bool, true, false, List, Option, Some, None, Result, Ok, Err, refl, sym, ap, subst, ◌∙◌, ◌⊎◌, inl, inr}
-use Rattle.std.specs.Prelude.{IfSome, option_map}
+use Rattle.std.proofs.Common.{◌≡◌, ℕ, Bool, true, false, List, Option, Some, None, Ok, Err, refl, sym, ap, ◌∙◌, ◌⊎◌, inl, inr}
 use Rattle.adj_expression.specs.Judged.{judged_by}
-use Rattle.adj_expression.specs.declared.flaw.Flaw.{Flaw}
 use Rattle.adj_expression.specs.declared.flaw.Flaw.TheVariants.{Large, Deep}
 use Rattle.adj_text.specs.Form.{Form, ReadsForm}
 use Rattle.adj_text.specs.Word.{Word}
