@@ -1,5 +1,5 @@
 -- What the grammar derives as blocks is what the machine makes of the statements.
-use Rattle.std.proofs.Common.{◌≡◌, ◌≢◌, ℕ, Bool, true, false, cond, eqb, List, [], ◌∷◌, ◌++◌, Option, Some, None, refl, sym, ap, ◌∙◌}
+use Rattle.std.proofs.Common.{◌≡◌, ◌≢◌, ℕ, Bool, true, false, cond, List, [], ◌∷◌, ◌++◌, Some, None, refl, sym, ap, ◌∙◌}
 use Rattle.std.proofs.lemmas.Bool.{ne_eqb, eq-eqb}
 use Rattle.std.proofs.lemmas.List.{append_assoc, append-nil}
 use Rattle.std.specs.Prelude.{◌==◌, ◌&&◌, ◌||◌, not}
@@ -12,10 +12,10 @@ use Rattle.adj_text.specs.Form.{Form, subroutine, implicit_none, integers, simpl
 use Rattle.adj_text.specs.declared.stated.Kind.{Kind}
 use Rattle.adj_text.specs.declared.stated.Kind.TheVariants.{Do, BlockIf, LogicalIf, Assign, Continue, EndIf, EndDo, Else, ElseIf}
 use Rattle.adj_parse.specs.declared.phase.Phase.TheVariants.{Acting}
-use Rattle.adj_parse.specs.Blocks.{Acts, Part, of_loop, of_if, of_else, of_chain, Block, ended, close_while, Nest, acted, is_chain, is_labelled}
+use Rattle.adj_parse.specs.Blocks.{Acts, Part, of_loop, of_if, of_else, of_chain, Block, close_while, Nest, acted, is_chain, is_labelled}
 use Rattle.adj_parse.specs.Order.{may_follow, has_label, innermost_is, some_is, suits, reaches_out, breaks_loop}
-use Rattle.adj_parse.specs.Unit.{Current, Units}
-use Rattle.adj_parse.proofs.Machine.{kind_of, stands, run, labels, IsBody, at_bottom, in_loop, in_if, in_else, is_open_some, innermost_labelled, close_while-other, no_chain, acts_of, listed_back}
+use Rattle.adj_parse.specs.Unit.{Units}
+use Rattle.adj_parse.proofs.Machine.{kind_of, stands, run, labels, IsBody, in_loop, in_if, in_else, is_open_some, innermost_labelled, close_while-other, no_chain, acts_of, listed_back}
 
 and_false : (b : Bool) → (b && false) ≡ false
 and_false true = refl

@@ -1,5 +1,5 @@
 -- What the machine makes of statements as blocks is derived by the grammar.
-use Rattle.std.proofs.Common.{◌≡◌, ◌≢◌, ℕ, Bool, true, false, cond, eqb, List, [], ◌∷◌, ◌++◌, Option, Some, None, refl, sym, ap, subst, ◌∙◌}
+use Rattle.std.proofs.Common.{◌≡◌, ◌≢◌, ℕ, Bool, true, false, eqb, List, [], ◌∷◌, ◌++◌, Option, Some, None, refl, sym, subst, ◌∙◌}
 use Rattle.std.proofs.lemmas.Bool.{ne_eqb, eq-eqb, eqb-true, eqb-false}
 use Rattle.std.specs.Prelude.{◌==◌, ◌&&◌, ◌||◌, not}
 use Rattle.adj_tree.specs.Code.{Test, Act, Code, choose, stop, step}
@@ -11,7 +11,7 @@ use Rattle.adj_text.specs.Form.{Form, subroutine, implicit_none, integers, simpl
 use Rattle.adj_text.specs.declared.stated.Kind.{Kind}
 use Rattle.adj_text.specs.declared.stated.Kind.TheVariants.{Do, BlockIf, LogicalIf, Assign, Continue, EndIf, EndDo, Else, ElseIf}
 use Rattle.adj_parse.specs.Blocks.{Acts, Part, of_loop, of_if, of_else, of_chain, Block, close_while, Nest, acted, is_chain, is_labelled}
-use Rattle.adj_parse.specs.Order.{is_continue, has_label, has_no_label, is_first, is_if, innermost_is, some_is, suits, reaches_out, leaves_loop, breaks_loop}
+use Rattle.adj_parse.specs.Order.{is_continue, has_no_label, is_first, is_if, innermost_is, some_is, suits, leaves_loop, breaks_loop}
 use Rattle.adj_parse.proofs.Machine.{kind_of, labels, IsBody, at_bottom, in_loop, in_if, in_else, is_open_some, innermost_labelled, close_while-other, no_chain, onto_last}
 use Rattle.adj_parse.proofs.BlocksComplete.{is_executable, block}
 

@@ -5,12 +5,12 @@ use Rattle.std.specs.Prelude.{◌==◌, ◌&&◌, ◌||◌, not, is_none, nat_le
 use Rattle.adj_tree.specs.Code.{Procedure}
 use Rattle.adj_tree.specs.declared.fault.Refusal.{Refusal}
 use Rattle.adj_expression.specs.declared.flaw.Flaw.{Flaw}
-use Rattle.adj_expression.specs.declared.flaw.Flaw.TheVariants.{Large, Deep, Exponent}
+use Rattle.adj_expression.specs.declared.flaw.Flaw.TheVariants.{Large, Deep}
 use Rattle.adj_text.specs.Form as forms
 use Rattle.adj_text.specs.Form.{Form, Statement, at, ReadsForm}
 use Rattle.adj_text.specs.Reads as texts
 use Rattle.adj_text.specs.Reads.{ReadsAll}
-use Rattle.adj_text.specs.Refused.{◌>>=◌, refused, limited}
+use Rattle.adj_text.specs.Refused.{◌>>=◌, limited}
 use Rattle.adj_text.specs.Word.{Word, words_of}
 use Rattle.adj_text.specs.declared.mode.Mode.{Mode}
 use Rattle.adj_text.specs.declared.stated.Kind.{Kind}
@@ -18,18 +18,12 @@ use Rattle.adj_text.specs.declared.stated.Kind.TheVariants.{Do, Assign, Call}
 use Rattle.adj_text.specs.declared.stated.Stated.{Stated}
 use Rattle.adj_parse.specs.Order.{breaks_loop, is_heading, opens_block}
 use Rattle.adj_parse.specs.Said.{said}
-use Rattle.adj_parse.specs.Trees.{bounds_of, State, is_do, is_unled, is_large, is_deep, is_full, IsBeyond, with_form, limited_by, checked, behind, follow, finish, trees_from}
-use Rattle.adj_parse.specs.Unit.{Current, Units, followed, open_blocks, is_misplaced}
+use Rattle.adj_parse.specs.Trees.{bounds_of, State, is_do, is_unled, is_large, is_deep, is_full, IsBeyond, with_form, checked, behind, follow, finish, trees_from}
+use Rattle.adj_parse.specs.Unit.{Current, followed, open_blocks, is_misplaced}
 use Rattle.adj_text.proofs.LinesMarked.{bind_ok}
 use Rattle.adj_parse.proofs.Machine.{kind_of, stands, units_of, run}
-use Rattle.adj_parse.proofs.UnitsFit.{FitsForm, AreFit}
-
--- what a statement's words say, in the words of the grammar
-pub record Saying : Type 0 where
-  pub reads : (limit mark : ℕ) (kind : Kind) (words : List Word) (f : Form) → said limit mark kind words ≡ Some (Ok f) → (mark ≡ 0) ⊎ (kind ≡ Do) → ReadsForm mark kind words f
-  pub answers : (limit mark : ℕ) (kind : Kind) (words : List Word) (f : Form) → ReadsForm mark kind words f → (said limit mark kind words ≡ Some (Ok f)) ⊎ ((said limit mark kind words ≡ Some (Err Large)) ⊎ (said limit mark kind words ≡ Some (Err Deep)))
-  pub fits : (limit mark : ℕ) (kind : Kind) (words : List Word) (f : Form) → said limit mark kind words ≡ Some (Ok f) → FitsForm f
-  pub one : (mark : ℕ) (kind : Kind) (words : List Word) (f g : Form) → ReadsForm mark kind words f → ReadsForm mark kind words g → f ≡ g
+use Rattle.adj_parse.proofs.Sayings.{said_reads, said_fits, reads_said}
+use Rattle.adj_parse.proofs.UnitsFit.{AreFit}
 
 -- a statement stands as its form does
 same_place : {mark : ℕ} {kind : Kind} {words : List Word} {f : Form} → ReadsForm mark kind words f → (l : ℕ) (current : Option Current) → stands kind l current ≡ stands (kind_of f) l current
@@ -165,7 +159,7 @@ run_on : {ps : List Procedure} (b : Bool) (x : Option (List Procedure)) → cond
 run_on true x h = (refl, h)
 run_on false x h = absurd cc
 
-module _ (saying : Saying) (mode : Mode) where
+module _ (mode : Mode) where
   -- each of some statements says what stands here, and its directive has its place
   pub data AllSay : List Stated → List Statement → Type 0 where
     none : AllSay [] []
@@ -173,11 +167,11 @@ module _ (saying : Saying) (mode : Mode) where
 
   pub reads_all : {ts : List Stated} {ss : List Statement} → AllSay ts ss → ReadsAll ts ss
   reads_all none = texts.ReadsAll.none
-  reads_all (more {t = t} {f = f} e led rest) = texts.ReadsAll.more (saying.reads (bounds_of mode).depth t.mark t.kind (words t) f e (led_by t led)) (reads_all rest)
+  reads_all (more {t = t} {f = f} e led rest) = texts.ReadsAll.more (said_reads (bounds_of mode).depth t.mark t.kind (words t) f e (led_by t led)) (reads_all rest)
 
   pub all_fit : {ts : List Stated} {ss : List Statement} → AllSay ts ss → AreFit ss
   all_fit none = tt
-  all_fit (more {t = t} {f = f} e led rest) = (saying.fits (bounds_of mode).depth t.mark t.kind (words t) f e, all_fit rest)
+  all_fit (more {t = t} {f = f} e led rest) = (said_fits (bounds_of mode).depth t.mark t.kind (words t) f e, all_fit rest)
 
   abbrev found : Stated → Option (Result Form Flaw)
   found t = said (bounds_of mode).depth t.mark t.kind (words t)
@@ -193,7 +187,7 @@ module _ (saying : Saying) (mode : Mode) where
       let thr = through mode s t (found t) f b.1 in
       let here : behind s t f ≡ a.0 = cc (b.2) in
       let rest = chain_runs ts (behind s t f) ps (ap (λ next. trees_from mode next ts) here ∙ a.2) in
-      let d = saying.reads (bounds_of mode).depth t.mark t.kind (words t) f thr.says (led_by t thr.led) in
+      let d = said_reads (bounds_of mode).depth t.mark t.kind (words t) f thr.says (led_by t thr.led) in
       let place : stands t.kind t.label s.units.current ≡ true = rw (thr.place, thr.breaks) refl in
       let stands_so : stands (kind_of f) t.label s.units.current ≡ true = sym (same_place d t.label s.units.current) ∙ place in
       (at t.line t.label f ∷ rest.0, more thr.says thr.led rest.1, rw stands_so rest.2)
@@ -204,7 +198,7 @@ module _ (saying : Saying) (mode : Mode) where
   chain_comes (texts.ReadsAll.more {s = t} {ss = ts} {f = f} {ts = ss} d rest) s ps h =
       let step = run_on (stands (kind_of f) t.label s.units.current) (run (followed s.units.done s.units.current t.line t.label f) ss) h in
       let place = not_both (is_misplaced t.kind s.units.current) (breaks_loop t.kind t.label (open_blocks s.units.current)) (same_place d t.label s.units.current ∙ step.0) in
-      elim (comes mode s t (found t) f (led_form d) place.0 place.1 (saying.answers (bounds_of mode).depth t.mark t.kind (words t) f d)) [
+      elim (comes mode s t (found t) f (led_form d) place.0 place.1 (reads_said (bounds_of mode).depth t.mark t.kind (words t) f d)) [
         | inl e ↦ subst (Comes ps) (sym (ap (λ r. (r >>= λ g. Ok (behind s t g)) >>= λ next. trees_from mode next ts) e)) (chain_comes rest (behind s t f) ps step.1)
         | inr (r, e, code) ↦ inr (r, ap (λ q. (q >>= λ g. Ok (behind s t g)) >>= λ next. trees_from mode next ts) e, code)
       ]

@@ -1,5 +1,5 @@
 -- Statements that follow one another without any limit, and what their labels are to the open blocks.
-use Rattle.std.proofs.Common.{◌≡◌, ℕ, Bool, true, false, cond, eqb, List, [], ◌∷◌, ◌++◌, Option, Some, None, refl, sym, ap, ◌∙◌}
+use Rattle.std.proofs.Common.{◌≡◌, ℕ, Bool, true, false, cond, eqb, List, [], ◌∷◌, ◌++◌, Option, Some, None, refl, sym, ap}
 use Rattle.std.specs.Prelude.{◌==◌, ◌&&◌, ◌||◌, not}
 use Rattle.std.specs.List.{list_any}
 use Rattle.std.proofs.lemmas.Bool.{ne_eqb, eqb-false}
@@ -10,7 +10,7 @@ use Rattle.adj_text.specs.Block.{is_open, innermost}
 use Rattle.adj_text.specs.Form.{Form, subroutine, implicit_none, integers, simple, logical, opens_do, end_do, go_on, opens_if, otherwise, otherwise_if, end_if, leaves, ends, Statement, at}
 use Rattle.adj_text.specs.declared.stated.Kind.{Kind}
 use Rattle.adj_text.specs.declared.stated.Kind.TheVariants.{Do, BlockIf, LogicalIf, Assign, Continue, Return, End, EndIf, EndDo, Else, ImplicitNone, ElseIf, Subroutine, Integer}
-use Rattle.adj_parse.specs.Blocks.{Acts, Part, of_loop, of_if, of_else, of_chain, Block, is_chain, is_labelled, close_while, Nest}
+use Rattle.adj_parse.specs.Blocks.{Acts, Part, of_loop, of_if, of_else, of_chain, Block, is_chain, is_labelled, close_while}
 use Rattle.adj_parse.specs.Order.{innermost_is, some_is, breaks_loop}
 use Rattle.adj_parse.specs.Unit.{Current, Units, followed, open_blocks, is_misplaced}
 

@@ -74,7 +74,7 @@ read_sizes-shortens ws = then_at_most (length ws) (size_at ws) (λ a. second_siz
     second a rest None h = omega arith
     second a rest (Some us) h = paired a (length rest) (size_at us) (AtMost-more (length us) (length rest) (size_at us) h (size_at-shortens us))
 
-read_item-shortens : Shortens read_item
+pub read_item-shortens : Shortens read_item
 unfolding read_item
 read_item-shortens ws = then_at_most (length ws) (name_at ws) (λ x. item_behind x.0 x.1 (behind_left x.1)) (name_at-shortens ws) (λ x. behind x.0 x.1 (behind_left x.1) (behind_left-shortens x.1))
   where

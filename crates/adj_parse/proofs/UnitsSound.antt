@@ -1,9 +1,9 @@
 -- What the machine makes of statements as units is derived by the grammar.
-use Rattle.std.proofs.Common.{◌≡◌, ℕ, zero, suc, Bool, true, false, cond, List, [], ◌∷◌, ◌++◌, length, map, Option, Some, None, refl, sym, ap, subst, ◌∙◌, arith}
+use Rattle.std.proofs.Common.{◌≡◌, ℕ, Bool, true, false, cond, List, [], ◌∷◌, ◌++◌, length, map, Option, Some, None, refl, sym, ap, subst, ◌∙◌, arith}
 use Rattle.std.proofs.lemmas.Bool.{eqb-true}
 use Rattle.std.proofs.lemmas.List.{append_assoc, append-nil}
 use Rattle.std.specs.Prelude.{◌==◌, ◌&&◌, ◌||◌, not}
-use Rattle.adj_tree.specs.Code.{Code, stop, Declaration, Procedure}
+use Rattle.adj_tree.specs.Code.{stop, Declaration, Procedure}
 use Rattle.adj_tree.specs.Listed.{code_listed}
 use Rattle.adj_text.specs.Block.{ReadsBody}
 use Rattle.adj_text.specs.Form.{Form, subroutine, implicit_none, integers, simple, logical, opens_do, end_do, go_on, opens_if, otherwise, otherwise_if, end_if, leaves, ends, Statement, at}
@@ -15,7 +15,7 @@ use Rattle.adj_parse.specs.declared.phase.Phase.{Phase}
 use Rattle.adj_parse.specs.declared.phase.Phase.TheVariants.{Heading, Declaring, Acting, Leaving}
 use Rattle.adj_parse.specs.Blocks.{Acts, Block, Nest, no_blocks, acted}
 use Rattle.adj_parse.specs.Order.{is_bare, is_early, is_left, may_follow, suits, leaves_loop, breaks_loop}
-use Rattle.adj_parse.specs.Unit.{Current, Units, finished, followed}
+use Rattle.adj_parse.specs.Unit.{Current, finished, followed}
 use Rattle.adj_parse.proofs.Machine.{kind_of, stands, run}
 use Rattle.adj_parse.proofs.BlocksComplete.{is_executable}
 use Rattle.adj_parse.proofs.BlocksSound.{Holds, at_start, whole_body, steps}

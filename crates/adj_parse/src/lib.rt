@@ -14,6 +14,7 @@ mod deed;
 mod flaws;
 mod heading;
 mod label;
+pub mod laws;
 mod nest;
 mod number;
 mod parser;
