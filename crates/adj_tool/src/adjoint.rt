@@ -15,7 +15,6 @@ ghost use Rattle.adj_tool.specs.Headline.{IsAdjoined};
 ghost use Rattle.adj_tool.specs.Views.{answer_of, request_of};
 
 use crate::answer::{Answer, Status, refused};
-use adj_sweep::head::adjoint as emit;
 use crate::name_set::{NameSet, distinct};
 use crate::read::read;
 use crate::task::Request;
@@ -23,6 +22,7 @@ use crate::untreated::first_untreated;
 use crate::well_named::{are_among, well_named_dummies};
 use adj_fixed::Mode;
 use adj_print::text;
+use adj_sweep::head::adjoint as emit;
 use adj_tree::{Fault, Flags, Head, Memory, Name, Program, Refusal, Unit};
 use std::alloc::Global;
 
