@@ -1,282 +1,136 @@
--- The emitted program is an adjoint: the adjoint of a unit of straight code.
-use Rattle.std.proofs.Common.{◌≡◌, ℕ, ◌+◌, Bool, true, false, List, [], ◌∷◌, ◌++◌, map, refl, sym, ap, ◌∙◌, subst, if◌then◌else◌}
-use Rattle.std.specs.Prelude.{ℤ, pos, ◌==◌, ◌&&◌, ◌||◌, Some, None}
-use Rattle.adj_tree.specs.Code.{Var, plain, shadow, name_eq, Declaration, Procedure}
-use Rattle.adj_tree.proofs.Names.{name_refl}
-use Rattle.adj_word.specs.Dot.{dot}
-use Rattle.adj_word.specs.Pairing.{pairing}
-use Rattle.adj_word.proofs.Pairings.{pairing_comm}
-use Rattle.adj_meaning.specs.Numbers.{Numbers, words, duals}
-use Rattle.adj_meaning.specs.Store.{Store, scalar, set}
-use Rattle.adj_meaning.specs.Scene.{Scene, Outcome, Done, Trapped, More, Full}
-use Rattle.adj_meaning.specs.Run.{run}
-use Rattle.adj_meaning.specs.Leads.{Leads}
-use Rattle.adj_meaning.specs.Units.{Slot, Actual, Output, from_slot, entry_store, slot_of, input_store, calls_of, fits, run_unit}
-use Rattle.adj_meaning.specs.Seen.{Separates, pulled, pulled_scene, pulled_outcome}
-use Rattle.adj_meaning.proofs.Inversions.{done_same}
-use Rattle.adj_meaning.proofs.Renamed.{run_renamed}
-use Rattle.adj_transpose.specs.Fresh.{has_name}
-use Rattle.adj_transpose.specs.Naming.{Named, name_in, naming, AreApart}
-use Rattle.adj_transpose.specs.Emit.{adjoint_body}
-use Rattle.adj_transpose.specs.Program.{locals_among, locals, variables, adjoint_name, adjoint_names, unmarked, with_shadows, adjoint_unit, unit_at, adjoint_program}
-use Rattle.adj_transpose.specs.Straight.{AreScalars, keys, IsStraightUnit}
-use Rattle.adj_transpose.specs.Pairs.{Words, shadows, with_tangents, SamePlain}
-use Rattle.adj_transpose.specs.Adjoint.{Ends, AreAlike, interleaved, every_second, cells_of, with_direction, tangents_of, product, marked_cells, OthersAreZero, IsDirection, Agrees, Transposes, IsAdjoint}
-use Rattle.adj_transpose.proofs.Variables.{or_false, or_right}
-use Rattle.adj_transpose.proofs.Steps.{scene}
-use Rattle.adj_transpose.proofs.Sweeps.{dual_scene}
-use Rattle.adj_transpose.proofs.Head.{cleared, AreZero, Reverses, reverses, cleared_zero, is_cleared}
-use Rattle.adj_transpose.proofs.Slots.{AreSingle, AreAsMany, fits_single, single_alike, many_alike, given_store, paired, with_shadows-named, entry_store-named, slots-plain, slots-shadow, direction, dual_store, singles, cells-scalars, shadows-second, tangents-singles}
-use Rattle.adj_transpose.proofs.Products.{keys-apart, pairing-behind, pairing-product, product_comm, others_zero, zero_others, marked-same, given_words, given_direction}
-use Rattle.adj_transpose.proofs.Units.{scalars, kept_in, output_at, BodyDone, body_done, ends, adjoint-scalars, adjoint-separates, adjoint-own}
-
--- ---- lists of names
-
-apart-front : (xs ys : List (List ℕ)) → AreApart (xs ++ ys) → AreApart xs
-apart-front [] ys a = tt
-apart-front (x ∷ xs) ys a = (has-front x xs ys a.0, apart-front xs ys a.1)
-  where
-    has-front : (z : List ℕ) (zs ws : List (List ℕ)) → has_name z (zs ++ ws) ≡ false → has_name z zs ≡ false
-    has-front z [] ws h = refl
-    has-front z (w ∷ zs) ws h = let p = or_false (name_eq z w) (has_name z (zs ++ ws)) h in rw p.0 (has-front z zs ws p.1)
-
-has-front_true : (z : List ℕ) (zs ws : List (List ℕ)) → has_name z zs ≡ true → has_name z (zs ++ ws) ≡ true
-has-front_true z [] ws h = cc
-has-front_true z (w ∷ zs) ws h = go (name_eq z w) h (has-front_true z zs ws)
-  where
-    go : (b : Bool) → (b || has_name z zs) ≡ true → (has_name z zs ≡ true → has_name z (zs ++ ws) ≡ true) → (b || has_name z (zs ++ ws)) ≡ true
-    go true h ih = refl
-    go false h ih = ih h
-
--- what is 0 off the dummies is 0 at the locals
-locals-zero : (dummies : List (List ℕ)) (ds : List Declaration) (f : Words) → ((y : List ℕ) → has_name y dummies ≡ false → f (y, 0) ≡ pos 0) → AreZero (locals_among dummies ds) f
-locals-zero dummies [] f h = tt
-locals-zero dummies (d ∷ ds) f h = go (has_name d.name dummies) refl (locals-zero dummies ds f h)
-  where
-    go : (b : Bool) → has_name d.name dummies ≡ b → AreZero (locals_among dummies ds) f → AreZero (if b then locals_among dummies ds else d.name ∷ locals_among dummies ds) f
-    go true e ih = ih
-    go false e ih = (h d.name e, ih)
-
--- a variable that is no dummy is 0 at the entry
-entry-other : {C : Type 0} (n : Numbers C) (xs : List (List ℕ)) (got : List (Actual C)) (y : List ℕ) (j : ℕ) → has_name y xs ≡ false → entry_store n xs got (plain y) j ≡ n.of_word (pos 0)
-entry-other n [] got y j h = refl
-entry-other n (x ∷ xs) [] y j h = refl
-entry-other n (x ∷ xs) (a ∷ got) y j h = let p = or_false (name_eq y x) (has_name y xs) h in rw p.0 (entry-other n xs got y j p.1)
-
--- a shadow that isn't cleared stays
-cleared_other : (ys : List (List ℕ)) (s : Store ℤ) (x : List ℕ) → has_name x ys ≡ false → cleared ys s (shadow x) 0 ≡ s (shadow x) 0
-cleared_other [] s x h = refl
-cleared_other (y ∷ ys) s x h =
-    let p = or_false (name_eq x y) (has_name x ys) h in
-    cleared_other ys (set s (shadow y) 0 (pos 0)) x p.1 ∙ ap (λ b. if b && (0 == 0) then pos 0 else s (shadow x) 0) p.0
-
--- names are zero where each of them is
-zero-each : (ys : List (List ℕ)) (f : Words) → ((y : List ℕ) → has_name y ys ≡ true → f (y, 0) ≡ pos 0) → AreZero ys f
-zero-each [] f h = tt
-zero-each (y ∷ ys) f h =
-    let here : has_name y (y ∷ ys) ≡ true = ap (λ b. b || has_name y ys) (name_refl y) in
-    (h y here, zero-each ys f (λ z e. h z (or_right (name_eq z y) (has_name z ys) e)))
-
--- ---- a renamed run
-
--- an outcome that is done under other names is done
-pub record PulledDone {C : Type 0} (r : Var → Var) (o : Outcome (Scene C)) (s : Scene C) (k : ℕ) : Type 0 where
-  pub end : Scene C
-  pub is : o ≡ Done end k
-  pub same : pulled_scene r end ≡ s
-
-pulled_done : {C : Type 0} (r : Var → Var) (o : Outcome (Scene C)) (s : Scene C) (k : ℕ) → pulled_outcome r o ≡ Done s k → PulledDone r o s k
-pulled_done r (Done e j) s k h = let n : j ≡ k = cc in record { end = e; is = ap (Done e) n; same = done_same (pulled_scene r e) s j k h }
-pulled_done r (Trapped t line) s k h = cc
-pulled_done r More s k h = cc
-pulled_done r Full s k h = cc
-
--- ---- one run of the adjoint
-
-module _ (ps : List Procedure) (u : Procedure) (good : IsStraightUnit u) (vars outvars : List Bool) (input given : List (Slot ℤ)) (fit : fits words u input ≡ true) (alike : AreAlike input given) (k used : ℕ) (output : Output ℤ) (done : run_unit words ps u input [] None k ≡ Done output used) where
-  abbrev ns : List Named
-  ns = adjoint_names ps u
-
-  abbrev a : Procedure
-  a = adjoint_unit ps u vars outvars
-
-  abbrev qs : List Procedure
-  qs = a ∷ []
-
-  abbrev other_outputs : List (List ℕ)
-  other_outputs = unmarked u.dummies outvars
-
-  abbrev other_inputs : List (List ℕ)
-  other_inputs = unmarked u.dummies vars
-
-  -- the store at the head's entry, and that at the adjoint's, as the code under its own names sees it
-  abbrev before : Store ℤ
-  before = input_store words u input
-
-  abbrev start : Store ℤ
-  start = pulled (naming ns) (input_store words a (interleaved input given))
-
-  single : AreSingle input × AreAsMany u.dummies input
-  single = fits_single u before u.dummies input good.scalars fit
-
-  many : AreAsMany u.dummies given
-  many = many_alike u.dummies input given alike single.1
-
-  apart_dummies : AreApart u.dummies
-  apart_dummies = apart-front u.dummies (locals u) good.apart
-
-  separates : Separates (naming ns)
-  separates = record { at = adjoint-separates ps u good.apart good.inside }
-
-  are : AreScalars a.declarations
-  are = adjoint-scalars ps u vars outvars good.scalars
-
-  dummies_named : with_shadows ns u.dummies ≡ map (name_in ns) (paired u.dummies)
-  dummies_named = with_shadows-named ns u.dummies (λ x h. adjoint-own ps u good.apart good.inside x (has-front_true x u.dummies (locals u) h))
-
-  start_is : (w : Var) (j : ℕ) → start w j ≡ given_store words (paired u.dummies) (map (from_slot words) (interleaved input given)) w j
-  start_is w j =
-      let got = map (from_slot words) (interleaved input given) in
-      ap (λ ds. entry_store words ds got (naming ns w) j) dummies_named ∙ entry_store-named words ns separates.at (paired u.dummies) got w j
-
-  same_values : SamePlain before start
-  same_values = record { at = λ y j. start_is (plain y) j ∙ slots-plain words u.dummies input given single.1 many y j }
-
-  shadow_is : (y : List ℕ) (j : ℕ) → start (shadow y) j ≡ entry_store words u.dummies (map (from_slot words) given) (plain y) j
-  shadow_is y j = start_is (shadow y) j ∙ slots-shadow words u.dummies input given single.1 many y j
-
-  body : BodyDone words ps u input good.scalars k
-  body = body_done words ps u input good.scalars k used output done
-
-  -- what the body of the adjoint does, under its own names
-  reversed : Reverses (calls_of qs 0) (calls_of ps 0) (λ x. scalar) 1 (kept_in a) (kept_in u) (keys (variables u)) u.line u.body other_outputs other_inputs before body.end.store start
-  reversed =
-      reverses (calls_of ps k) (kept_in u) (calls_of qs 0) (calls_of ps 0) (λ x. scalar) 1 (kept_in a) (kept_in u) (keys (variables u)) (keys-apart (variables u) good.apart)
-      u.line u.body other_outputs other_inputs before start k body.left body.end good.body body.is same_values
-
-  -- and so under the names of the program
-  named_run : PulledDone (naming ns) (run (calls_of qs 0) (scalars words) a.body (scene (kept_in a) (input_store words a (interleaved input given)) []) (reversed.runs.cost + 0)) (scene (kept_in a) reversed.end []) 0
-  named_run =
-      pulled_done (naming ns) (run (calls_of qs 0) (scalars words) a.body (scene (kept_in a) (input_store words a (interleaved input given)) []) (reversed.runs.cost + 0)) (scene (kept_in a) reversed.end []) 0
-      (run_renamed (naming ns) separates qs 0 (scalars words) (adjoint_body u.line u.body other_outputs other_inputs)
-      (scene (kept_in a) (input_store words a (interleaved input given)) []) (reversed.runs.cost + 0)
-      ∙ reversed.runs.by 0)
-
-  -- its run ends
-  ended : Ends words qs a (interleaved input given)
-  ended = record {
-    enough = reversed.runs.cost + 0;
-    output = output_at words qs a (interleaved input given) are named_run.end;
-    used = reversed.runs.cost + 0;
-    runs = ends words qs a (interleaved input given) are (reversed.runs.cost + 0) named_run.end named_run.is (ap (λ z. z.opened) named_run.same);
-  }
-
-  -- its shadows at the end, at the names of the dummies
-  shadows_after : cells_of (every_second ended.output.slots) ≡ singles (λ x. shadows reversed.end (x, 0)) u.dummies
-  unfolding ended
-  shadows_after =
-      ap (λ ds. cells_of (every_second (map (λ d. slot_of scalar (named_run.end.store (plain d))) ds))) dummies_named
-      ∙ shadows-second named_run.end.store ns u.dummies
-      ∙ ap (λ (z : Scene ℤ). singles (λ x. z.store (shadow x) 0) u.dummies) named_run.same
-
-  -- those at the start are the given ones
-  shadows_before : singles (λ x. start (shadow x) 0) u.dummies ≡ cells_of given
-  shadows_before =
-      (λ i. singles (λ x. shadow_is x 0 i) u.dummies)
-      ∙ given_words words u.dummies given apart_dummies (single_alike input given alike single.0) many
-
-  -- the shadows of the locals are 0 at the start
-  local_shadow : (y : List ℕ) → has_name y u.dummies ≡ false → start (shadow y) 0 ≡ pos 0
-  local_shadow y h = shadow_is y 0 ∙ entry-other words u.dummies (map (from_slot words) given) y 0 h
-
-  -- the shadows with those of what isn't dependent set to 0
-  abbrev cleared_start : Words
-  cleared_start = shadows (cleared other_outputs start)
-
-  module _ (d : List (List ℤ)) (dir : IsDirection vars input d) where
-    abbrev along : Words
-    along = direction u.dummies input d
-
-    dual_leads : Leads (calls_of ps 0) (scalars duals) u.body (dual_scene (kept_in u) before along []) (dual_scene (kept_in u) body.end.store (reversed.change along) [])
-    dual_leads = reversed.dual along
-
-    dual_is : run (calls_of ps 0) (scalars duals) u.body (scene (kept_in u) (input_store duals u (with_direction input d)) []) (dual_leads.cost + 0) ≡ Done (dual_scene (kept_in u) body.end.store (reversed.change along) []) 0
-    dual_is =
-        let same : input_store duals u (with_direction input d) ≡ with_tangents before along = λ i v j. dual_store u.dummies input d dir.tangents v j i in
-        ap (λ (st : Store (ℤ × ℤ)). run (calls_of ps 0) (scalars duals) u.body (scene (kept_in u) st []) (dual_leads.cost + 0)) same ∙ dual_leads.by 0
-
-    -- the dual run ends
-    dual_ended : Ends duals ps u (with_direction input d)
-    dual_ended = record {
-      enough = dual_leads.cost + 0;
-      output = output_at duals ps u (with_direction input d) good.scalars (dual_scene (kept_in u) body.end.store (reversed.change along) []);
-      used = dual_leads.cost + 0;
-      runs = ends duals ps u (with_direction input d) good.scalars (dual_leads.cost + 0) (dual_scene (kept_in u) body.end.store (reversed.change along) []) dual_is refl;
-    }
-
-    tangents_after : singles (λ x. reversed.change along (x, 0)) u.dummies ≡ tangents_of (cells_of dual_ended.output.slots)
-    unfolding dual_ended
-    tangents_after =
-        let after = with_tangents body.end.store (reversed.change along) in
-        sym (ap tangents_of (cells-scalars after u.dummies) ∙ tangents-singles body.end.store (reversed.change along) u.dummies)
-
-    along_is : singles (λ x. along (x, 0)) u.dummies ≡ d
-    along_is = given_direction u.dummies input d apart_dummies single.0 single.1 dir.tangents
-
-    -- the tangents of what isn't independent are 0
-    along_inputs : AreZero other_inputs along
-    along_inputs = zero_others u.dummies vars along (subst (OthersAreZero vars) (sym along_is) dir.others)
-
-    along_locals : AreZero (locals u) along
-    along_locals = locals-zero u.dummies u.declarations along (λ y h. ap (λ p. p.1) (entry-other duals u.dummies (map (from_slot duals) (with_direction input d)) y 0 h))
-
-    -- the product over the independents is the sum over all variables at the end of the adjoint
-    over_inputs : product vars (cells_of (every_second ended.output.slots)) d ≡ pairing (keys (variables u)) (shadows reversed.end) along
-    over_inputs =
-        (λ i. product vars (shadows_after i) (sym along_is i))
-        ∙ sym (pairing-product u.dummies vars (shadows reversed.end) along along_inputs)
-        ∙ sym (pairing-behind u.dummies (locals u) (shadows reversed.end) along along_locals)
-
-    -- that over the dependents is the sum over all variables at its start
-    over_outputs : pairing (keys (variables u)) cleared_start (reversed.change along) ≡ product outvars (cells_of given) (tangents_of (cells_of dual_ended.output.slots))
-    over_outputs =
-        let after = reversed.change along in
-        let words_at : Words → List (List ℤ) = λ f. singles (λ x. f (x, 0)) u.dummies in
-        let unmarked_zero : AreZero other_outputs cleared_start = zero-each other_outputs cleared_start (λ y e. is_cleared other_outputs start y e) in
-        let locals_zero : AreZero (locals u) cleared_start = locals-zero u.dummies u.declarations cleared_start (λ y h. cleared_zero other_outputs start y (local_shadow y h)) in
-        let uncleared : marked_cells outvars (words_at cleared_start) ≡ marked_cells outvars (words_at (shadows start)) =
-        marked-same u.dummies outvars (λ x. cleared_start (x, 0)) (λ x. start (shadow x) 0) apart_dummies (λ x e h. cleared_other other_outputs start x h) in
-        pairing_comm (keys (variables u)) cleared_start after
-        ∙ pairing-behind u.dummies (locals u) after cleared_start locals_zero
-        ∙ pairing-product u.dummies outvars after cleared_start unmarked_zero
-        ∙ product_comm outvars (words_at after) (words_at cleared_start)
-        ∙ ap (λ z. dot z (marked_cells outvars (words_at after))) uncleared
-        ∙ (λ i. product outvars (shadows_before i) (tangents_after i))
-
-    agrees : Agrees ps u vars outvars input (cells_of given) (cells_of (every_second ended.output.slots)) d
-    agrees = record { dual = dual_ended; products = over_inputs ∙ reversed.products along along_inputs ∙ over_outputs }
-
-  -- the adjoint transposes the derivative of the head along this run
-  pub transposes : Transposes ps u vars outvars qs a input given
-  unfolding ended
-  transposes = record {
-    run = ended;
-    empties = ap (λ z. z.tape) named_run.same;
-    products = agrees;
-    others = subst (OthersAreZero vars) (sym shadows_after) (others_zero u.dummies vars (shadows reversed.end) (zero-each other_inputs (shadows reversed.end) (λ y e. reversed.others y e)));
-  }
+-- The emitted program is an adjoint: by full marks it is that of specs/Program.antt, and an adjoint by them is an adjoint.
+use Rattle.std.proofs.Common.{◌≡◌, ℕ, Bool, true, false, List, [], ◌∷◌, ◌++◌, map, max, refl, ap, ◌∙◌, subst}
+use Rattle.std.specs.Prelude.{ℤ}
+use Rattle.adj_tree.specs.Code.{plain, shadow, work, temp, assign, choose, loop, call, runtime, Code, stop, step, Procedure}
+use Rattle.adj_meaning.specs.Numbers.{words}
+use Rattle.adj_meaning.specs.Rename.{rename}
+use Rattle.adj_meaning.specs.Store.{Store}
+use Rattle.adj_meaning.specs.Units.{Slot, slots_fit, slot_fits, extents_of, input_store}
+use Rattle.adj_transpose.specs.Naming.{Named, unit_names, name_in, naming}
+use Rattle.adj_transpose.specs.Marks.{everything, full, next}
+use Rattle.adj_transpose.specs.Emit.{works_used, temps_used, works_in, temps_in}
+use Rattle.adj_transpose.specs.Facts.{full_facts}
+use Rattle.adj_transpose.specs.Program.{locals, variables, declaration, unit_name, adjoint_name, adjoint_names, helpers_from, helpers, unmarked, with_shadows, declared_with_shadows, declared_helpers, adjoint_unit, unit_at}
+use Rattle.adj_transpose.specs.MarkedProgram.{marked_works, marked_temps, marked_helpers, marked_names, shadows_behind, declared_behind, marked_unit, marked_program}
+use Rattle.adj_transpose.specs.Straight.{keys}
+use Rattle.adj_transpose.specs.Adjoint.{Ends, interleaved, every_second, cells_of, IsDirection, Agrees, OthersAreZero, Transposes, IsAdjoint}
+use Rattle.adj_transpose.specs.MarkedAdjoint.{shadow_flags, joined_by, shadow_cells, TransposesBy}
+use Rattle.adj_transpose.specs.Theorem.{EmittedIsAdjoint, FullProgram, FullAdjoint}
+use Rattle.adj_transpose.proofs.Variables.{and_true}
+use Rattle.adj_transpose.proofs.Full.{full_names, full_body, full_closed}
+use Rattle.adj_transpose.proofs.Slots.{AreAsMany, many_alike}
+use Rattle.adj_transpose.proofs.Units.{ends_many}
+use Rattle.adj_transpose.proofs.MarkedAdjoints.{marked_is_adjoint}
 
 -- ---- the program
 
+full_works : (c : Code) (i : ℕ) → marked_works full i c ≡ works_used c
+full_works stop i = refl
+full_works (step line (assign x subs e) rest) i = ap (max (works_in e 1)) (full_works rest (next i (assign x subs e)))
+full_works (step line (choose c a b) rest) i = full_works rest (next i (choose c a b))
+full_works (step line (loop x a b c body m) rest) i = full_works rest (next i (loop x a b c body m))
+full_works (step line (call x args) rest) i = full_works rest (next i (call x args))
+full_works (step line (runtime r) rest) i = full_works rest (next i (runtime r))
+
+full_temps : (c : Code) (i : ℕ) → marked_temps full i c ≡ temps_used c
+full_temps stop i = refl
+full_temps (step line (assign x subs e) rest) i = ap (max (temps_in e)) (full_temps rest (next i (assign x subs e)))
+full_temps (step line (choose c a b) rest) i = full_temps rest (next i (choose c a b))
+full_temps (step line (loop x a b c body m) rest) i = full_temps rest (next i (loop x a b c body m))
+full_temps (step line (call x args) rest) i = full_temps rest (next i (call x args))
+full_temps (step line (runtime r) rest) i = full_temps rest (next i (runtime r))
+
+full_helpers : (c : Code) (i : ℕ) → marked_helpers full i c ≡ helpers c
+full_helpers c i = λ k. helpers_from work 1 (full_works c i k) ++ helpers_from temp 1 (full_temps c i k)
+
+table_same : (i : ℕ) (ps : List Procedure) (p : Procedure) → marked_names full i ps p ≡ adjoint_names ps p
+table_same i ps p = λ k. unit_names (variables p) (map unit_name ps ++ (adjoint_name ps p ∷ [])) (map shadow (full_names (variables p) k) ++ full_helpers p.body i k)
+
+full_behind : (ns : List Named) (xs : List (List ℕ)) → shadows_behind everything ns xs ≡ with_shadows ns xs
+full_behind ns [] = refl
+full_behind ns (x ∷ xs) = ap (λ ys. x ∷ name_in ns (shadow x) ∷ ys) (full_behind ns xs)
+
+full_declared : (ns : List Named) (p : Procedure) (xs : List (List ℕ)) → declared_behind everything ns p xs ≡ declared_with_shadows ns p xs
+full_declared ns p [] = refl
+full_declared ns p (x ∷ xs) = let d = declaration p.line p.declarations x in ap (λ ys. d ∷ record d { name = name_in ns (shadow x) } ∷ ys) (full_declared ns p xs)
+
+full_unit : (i : ℕ) (ps : List Procedure) (p : Procedure) (vars outvars : List Bool) → marked_unit full i ps p vars outvars ≡ adjoint_unit ps p vars outvars
+full_unit i ps p vars outvars =
+    let ns = table_same i ps p in
+    let dummies : shadows_behind everything (marked_names full i ps p) p.dummies ≡ with_shadows (adjoint_names ps p) p.dummies = full_behind (marked_names full i ps p) p.dummies ∙ ap (λ t. with_shadows t p.dummies) ns in
+    let declared : (xs : List (List ℕ)) → declared_behind everything (marked_names full i ps p) p xs ≡ declared_with_shadows (adjoint_names ps p) p xs = λ xs. full_declared (marked_names full i ps p) p xs ∙ ap (λ t. declared_with_shadows t p xs) ns in
+    λ k. record {
+      line = p.line;
+      name = adjoint_name ps p;
+      dummies = dummies k;
+      is_none = false;
+      declarations = declared p.dummies k ++ (declared (locals p) k ++ declared_helpers (ns k) p.line (full_helpers p.body i k));
+      body = rename (naming (ns k)) (full_body i p.line p.body (unmarked p.dummies outvars) (unmarked p.dummies vars) k);
+    }
+
+pub full_program : FullProgram
+full_program i ps head vars outvars = λ k. map (λ p. full_unit i ps p vars outvars k) (unit_at head ps)
+
+-- ---- adjoints
+
+fits_many : (u : Procedure) (s : Store ℤ) (xs : List (List ℕ)) (input : List (Slot ℤ)) → slots_fit words u s xs input ≡ true → AreAsMany xs input
+fits_many u s [] [] f = tt
+fits_many u s [] (v ∷ vs) f = cc
+fits_many u s (x ∷ xs) [] f = cc
+fits_many u s (x ∷ xs) (v ∷ vs) f = fits_many u s xs vs (and_true (slot_fits (extents_of words u s (plain x)) v) (slots_fit words u s xs vs) f).1
+
+joined_full : {A : Type 0} (xs : List (List ℕ)) (vs ws : List A) → AreAsMany xs vs → AreAsMany xs ws → joined_by (shadow_flags everything xs) vs ws ≡ interleaved vs ws
+joined_full [] [] ws m k = refl
+joined_full [] (v ∷ vs) ws m k = absurd m
+joined_full (x ∷ xs) [] ws m k = absurd m
+joined_full (x ∷ xs) (v ∷ vs) [] m k = absurd k
+joined_full (x ∷ xs) (v ∷ vs) (w ∷ ws) m k = ap (λ z. v ∷ w ∷ z) (joined_full xs vs ws m k)
+
+-- each slot of a shadow is every second one
+cells_full : (ns : List Named) (xs : List (List ℕ)) (vs : List (Slot ℤ)) → AreAsMany (with_shadows ns xs) vs → shadow_cells (shadow_flags everything xs) vs ≡ cells_of (every_second vs)
+cells_full ns [] [] m = refl
+cells_full ns [] (v ∷ vs) m = absurd m
+cells_full ns (x ∷ xs) [] m = absurd m
+cells_full ns (x ∷ xs) (v ∷ []) m = absurd m
+cells_full ns (x ∷ xs) (v ∷ w ∷ vs) m = ap (λ z. w.cells ∷ z) (cells_full ns xs vs m)
+
+-- what stands in `TransposesBy`, from an input of the adjoint
+record Turned (flags : List Bool) (ps : List Procedure) (u : Procedure) (vars outvars : List Bool) (qs : List Procedure) (a : Procedure) (input shadows slots : List (Slot ℤ)) : Type 0 where
+  run : Ends words qs a slots
+  empties : run.output.tape ≡ []
+  products : (d : List (List ℤ)) → IsDirection vars input d → Agrees ps u vars outvars input (cells_of shadows) (shadow_cells flags run.output.slots) d
+  others : OthersAreZero vars (shadow_cells flags run.output.slots)
+
+transposes_full : (ps : List Procedure) (u : Procedure) (vars outvars : List Bool) (qs : List Procedure) (a : Procedure) (input shadows : List (Slot ℤ)) (ns : List Named) → a.dummies ≡ with_shadows ns u.dummies → AreAsMany u.dummies input → AreAsMany u.dummies shadows → TransposesBy (shadow_flags everything u.dummies) ps u vars outvars qs a input shadows → Transposes ps u vars outvars qs a input shadows
+transposes_full ps u vars outvars qs a input shadows ns named m k t =
+    let flags = shadow_flags everything u.dummies in
+    let turned : Turned flags ps u vars outvars qs a input shadows (joined_by flags input shadows) = record { run = t.run; empties = t.empties; products = t.products; others = t.others } in
+    let r = subst (Turned flags ps u vars outvars qs a input shadows) (joined_full u.dummies input shadows m k) turned in
+    let same : shadow_cells flags r.run.output.slots ≡ cells_of (every_second r.run.output.slots) = cells_full ns u.dummies r.run.output.slots (subst (λ ds. AreAsMany ds r.run.output.slots) named (ends_many words qs a (interleaved input shadows) r.run)) in
+    record {
+      run = r.run;
+      empties = r.empties;
+      products = λ d dir. subst (λ after. Agrees ps u vars outvars input (cells_of shadows) after d) same (r.products d dir);
+      others = subst (OthersAreZero vars) same r.others;
+    }
+
+pub adjoint_full : FullAdjoint
+adjoint_full i ps head vars outvars qs h =
+    let named : h.adjoint.dummies ≡ with_shadows (adjoint_names ps h.unit) h.unit.dummies = h.dummies ∙ full_behind (marked_names full i ps h.unit) h.unit.dummies ∙ ap (λ t. with_shadows t h.unit.dummies) (table_same i ps h.unit) in
+    record {
+      unit = h.unit;
+      is_head = h.is_head;
+      adjoint = h.adjoint;
+      is_there = h.is_there;
+      dummies = named;
+      transposes = λ input shadows fit alike k used output done.
+          let many = fits_many h.unit (input_store words h.unit input) h.unit.dummies input fit in
+          transposes_full ps h.unit vars outvars qs h.adjoint input shadows (adjoint_names ps h.unit) named many (many_alike h.unit.dummies input shadows alike many) (h.transposes input shadows fit alike k used output done);
+    }
+
 -- the emitted program is an adjoint of the source
-pub emitted_is_adjoint : (ps : List Procedure) (head : ℕ) (vars outvars : List Bool) (u : Procedure) → unit_at head ps ≡ u ∷ [] → IsStraightUnit u → IsAdjoint ps head vars outvars (adjoint_program ps head vars outvars)
+pub emitted_is_adjoint : EmittedIsAdjoint
 emitted_is_adjoint ps head vars outvars u is good =
-    let a = adjoint_unit ps u vars outvars in
-    subst (λ us. IsAdjoint ps head vars outvars (map (λ p. adjoint_unit ps p vars outvars) us)) (sym is) (record {
-      unit = u;
-      is_head = is;
-      adjoint = a;
-      is_there = ap (λ b. if b then Some a else None) (name_refl (adjoint_name ps u));
-      dummies = refl;
-      transposes = λ input given fit alike k used output done. transposes ps u good vars outvars input given fit alike k used output done;
-    })
+    subst (IsAdjoint ps head vars outvars) (full_program 0 ps head vars outvars)
+    (adjoint_full 0 ps head vars outvars (marked_program full 0 ps head vars outvars)
+    (marked_is_adjoint full_facts 0 0 1 ps head vars outvars u is good (full_closed (keys (variables u)) u.body 0 1 0 good.body) (record { varied = λ x h. refl; useful = λ x h. refl; shadowed = λ x h. refl })))

@@ -1,5 +1,5 @@
 -- What the statements of `back` do: the transposed derivative of an expression.
-use Rattle.std.proofs.Common.{◌≡◌, ℕ, zero, suc, ◌+◌, ◌≤◌, Bool, true, false, List, refl, sym, ap, ◌∙◌, arith}
+use Rattle.std.proofs.Common.{◌≡◌, ℕ, zero, suc, ◌+◌, ◌≤◌, Bool, true, false, List, refl, sym, ap, ◌∙◌, arith, if◌then◌else◌}
 use Rattle.std.specs.Prelude.{ℤ, pos, ◌==◌, Ok}
 use Rattle.adj_tree.specs.Code.{Var, plain, shadow, helper, role_code, work, temp, plus, minus, times, quot, modulo, greater, lesser, Term, lit, var, elem, neg, bin, pow, abs, none, assign, Code, stop, step}
 use Rattle.adj_tree.proofs.Names.{nat_refl}
@@ -17,11 +17,13 @@ use Rattle.adj_meaning.specs.Append.{◌+++◌}
 use Rattle.adj_meaning.specs.Run.{Calls}
 use Rattle.adj_meaning.specs.Leads.{Leads}
 use Rattle.adj_meaning.proofs.Leadings.{leads_stop, leads_append}
-use Rattle.adj_transpose.specs.Emit.{is_active, has_own, count_of, temps_in, own_or, code_if, back, work_var}
+use Rattle.adj_transpose.specs.Marks.{Vars}
+use Rattle.adj_transpose.specs.Marked.{is_active_where, has_own_where, count_of, temps_in_where, own_or, code_if, back_where, work_var}
 use Rattle.adj_transpose.specs.Pairs.{Key, key_eq, Words, shadows, SamePlain, IsOver, on_words}
+use Rattle.adj_transpose.specs.Lists.{Kept, scene, masked}
 use Rattle.adj_transpose.proofs.Variables.{key_same}
-use Rattle.adj_transpose.proofs.Steps.{Kept, scene, assigns}
-use Rattle.adj_transpose.proofs.Values.{num, tan, IsDefined, num_same, tan_same, tan_inactive, defined_same, value_words}
+use Rattle.adj_transpose.proofs.Steps.{assigns}
+use Rattle.adj_transpose.proofs.Values.{num, tan, IsUsable, num_same, tan_same, tan_inactive, defined_same, usable_same, value_words}
 use Rattle.adj_transpose.proofs.Temps.{SameLoops, HasTemps, SameBelow, temps_same, value_own}
 
 -- the variables of the text, the temporaries, the helpers of loops and the work variables up to k are as they were
@@ -53,7 +55,7 @@ first_power w u x =
     let one : mul (pos 1) (power u 0) ≡ pos 1 = one-mul_word (power u 0) (word-wrap _) ∙ power-zero u in
     ap (λ z. mul w (mul z x)) one ∙ ap (mul w) (one-mul x) ∙ wrap-mul_right w x
 
-module _ (q : Calls ℤ) (sh : Var → Shape) (level : ℕ) (base : Kept) (xs : List Key) where
+module _ (on : Vars) (q : Calls ℤ) (sh : Var → Shape) (level : ℕ) (base : Kept) (xs : List Key) where
   -- nothing to add
   adds_none : (k : ℕ) (s : Store ℤ) (t : List ℤ) (g : Words → ℤ) → ((d : Words) → g d ≡ pos 0) → Adds q sh level base xs stop k s t g
   adds_none k s t g z = record {
@@ -96,108 +98,107 @@ module _ (q : Calls ℤ) (sh : Var → Shape) (level : ℕ) (base : Kept) (xs : 
     pairs = a.pairs;
   }
 
-  -- where the term has no variable there is nothing to add
-  adds_if : (c : Code) (e : Term) (k : ℕ) (s s0 : Store ℤ) (t : List ℤ) (w : ℤ) → Adds q sh level base xs c k s t (λ d. mul w (tan e s0 d)) → (b : Bool) → is_active e ≡ b → Adds q sh level base xs (code_if b c) k s t (λ d. mul w (tan e s0 d))
-  adds_if c e k s s0 t w a true h = a
-  adds_if c e k s s0 t w a false h = adds_none k s t _ (λ d. ap (mul w) (tan_inactive e s0 d h) ∙ mul-zero w)
+  -- where the term isn't active there is nothing to add
+  adds_if : (c : Code) (e : Term) (k : ℕ) (s s0 : Store ℤ) (t : List ℤ) (w : ℤ) → (is_active_where on e ≡ true → Adds q sh level base xs c k s t (λ d. mul w (tan e s0 (masked on d)))) → (b : Bool) → is_active_where on e ≡ b → Adds q sh level base xs (code_if b c) k s t (λ d. mul w (tan e s0 (masked on d)))
+  adds_if c e k s s0 t w a true h = a h
+  adds_if c e k s s0 t w a false h = adds_none k s t _ (λ d. ap (mul w) (tan_inactive on e s0 d h) ∙ mul-zero w)
 
   -- an operand whose adjoint is that of the whole
-  plainly : (e : Term) (k j line : ℕ) (s0 s : Store ℤ) (t : List ℤ) (w : ℤ) → IsOver xs e → SamePlain s0 s → s (helper work k) 0 ≡ w → Adds q sh level base xs (back e k j line) k s t (λ d. mul (s (helper work k) 0) (tan e s d)) → Adds q sh level base xs (code_if (is_active e) (back e k j line)) k s t (λ d. mul w (tan e s0 d))
+  plainly : (e : Term) (k j line : ℕ) (s0 s : Store ℤ) (t : List ℤ) (w : ℤ) → IsOver xs e → SamePlain s0 s → s (helper work k) 0 ≡ w → (is_active_where on e ≡ true → Adds q sh level base xs (back_where on e k j line) k s t (λ d. mul (s (helper work k) 0) (tan e s (masked on d)))) → Adds q sh level base xs (code_if (is_active_where on e) (back_where on e k j line)) k s t (λ d. mul w (tan e s0 (masked on d)))
   plainly e k j line s0 s t w o h r a =
-      adds_if (back e k j line) e k s s0 t w
-      (adds_as (back e k j line) k s t _ _ (λ d p. λ i. add p (mul (r i) (tan_same xs e s0 s d o h i))) a)
-      (is_active e) refl
+      adds_if (back_where on e k j line) e k s s0 t w
+      (λ on_e. adds_as (back_where on e k j line) k s t _ _ (λ d p. λ i. add p (mul (r i) (tan_same xs e s0 s (masked on d) o h i))) (a on_e))
+      (is_active_where on e) refl
 
   -- an operand whose adjoint is that of the whole times something
-  scaled : (e f : Term) (k j line : ℕ) (s0 s : Store ℤ) (t : List ℤ) (w : ℤ) → IsOver xs e → SamePlain s0 s → value (on_words sh level) f s ≡ Ok w → HasTemps e j s → ((s' : Store ℤ) → SamePlain s s' → HasTemps e j s' → Adds q sh level base xs (back e (suc k) j line) (suc k) s' t (λ d. mul (s' (helper work (suc k)) 0) (tan e s' d))) → Adds q sh level base xs (code_if (is_active e) (step line (assign (helper work (suc k)) none f) (back e (suc k) j line))) k s t (λ d. mul w (tan e s0 d))
+  scaled : (e f : Term) (k j line : ℕ) (s0 s : Store ℤ) (t : List ℤ) (w : ℤ) → IsOver xs e → SamePlain s0 s → (is_active_where on e ≡ true → value (on_words sh level) f s ≡ Ok w) → HasTemps on e j s → ((s' : Store ℤ) → SamePlain s s' → HasTemps on e j s' → is_active_where on e ≡ true → Adds q sh level base xs (back_where on e (suc k) j line) (suc k) s' t (λ d. mul (s' (helper work (suc k)) 0) (tan e s' (masked on d)))) → Adds q sh level base xs (code_if (is_active_where on e) (step line (assign (helper work (suc k)) none f) (back_where on e (suc k) j line))) k s t (λ d. mul w (tan e s0 (masked on d)))
   scaled e f k j line s0 s t w o h v has ih =
       let s1 = set s (helper work (suc k)) 0 w in
       let same : SamePlain s s1 = record { at = λ x i. refl } in
-      let low : SameBelow (j + temps_in e) s s1 = record { plains = same; below = λ i lt. refl } in
+      let low : SameBelow (j + temps_in_where on e) s s1 = record { plains = same; below = λ i lt. refl } in
       let here : s1 (helper work (suc k)) 0 ≡ w = rw (nat_refl (suc k)) refl in
       let from0 : SamePlain s0 s1 = record { at = λ x i. h.at x i } in
-      adds_if (step line (assign (helper work (suc k)) none f) (back e (suc k) j line)) e k s s0 t w
-      (adds_scaled line f (back e (suc k) j line) k s t w _ v
-      (adds_as (back e (suc k) j line) (suc k) s1 t _ _ (λ d p. λ i. add p (mul (here i) (tan_same xs e s0 s1 d o from0 i))) (ih s1 same (temps_same xs e j s s1 o low has))))
-      (is_active e) refl
+      adds_if (step line (assign (helper work (suc k)) none f) (back_where on e (suc k) j line)) e k s s0 t w
+      (λ on_e. adds_scaled line f (back_where on e (suc k) j line) k s t w _ (v on_e)
+      (adds_as (back_where on e (suc k) j line) (suc k) s1 t _ _ (λ d p. λ i. add p (mul (here i) (tan_same xs e s0 s1 (masked on d) o from0 i))) (ih s1 same (temps_same on xs e j s s1 o low has) on_e)))
+      (is_active_where on e) refl
 
   module _ (apart : IsApart key_eq xs) where
     -- back(e,k) adds the adjoint in the k-th work variable, times the derivative of e, to the shadows
-    pub backs : (e : Term) (k j line : ℕ) (s : Store ℤ) (t : List ℤ) → IsOver xs e → IsDefined e s → HasTemps e j s → Adds q sh level base xs (back e k j line) k s t (λ d. mul (s (helper work k) 0) (tan e s d))
-    backs (lit z) k j line s t o f h = adds_none k s t _ (λ d. mul-zero (s (helper work k) 0))
-    backs (var (plain x)) k j line s t o f h =
+    pub backs : (e : Term) (k j line : ℕ) (s : Store ℤ) (t : List ℤ) → IsOver xs e → IsUsable on e s → HasTemps on e j s → is_active_where on e ≡ true → Adds q sh level base xs (back_where on e k j line) k s t (λ d. mul (s (helper work k) 0) (tan e s (masked on d)))
+    backs (lit z) k j line s t o f h act = adds_none k s t _ (λ d. mul-zero (s (helper work k) 0))
+    backs (var (plain x)) k j line s t o f h act =
         let v = add (s (shadow x) 0) (s (helper work k) 0) in
         let s1 = set s (shadow x) 0 v in
         record {
           after = s1;
           runs = assigns q sh level base line (shadow x) (bin plus (var (shadow x)) (work_var k)) stop s t v (scene base s1 t) refl (leads_stop q (on_words sh level) (scene base s1 t));
           same = record { plains = record { at = λ y i. refl }; temps = λ i. refl; works = λ i le. refl; loops = record { at = λ r i c lt. refl } };
-          pairs = λ d. pairing-more key_eq key_same xs (shadows s) d (x, 0) (s (helper work k) 0) apart o;
+          pairs = λ d. pairing-more key_eq key_same xs (shadows s) d (x, 0) (s (helper work k) 0) apart o ∙ ap (λ b. add (pairing xs (shadows s) d) (mul (s (helper work k) 0) (if b then d (x, 0) else pos 0))) (sym act);
         }
-    backs (var (shadow x)) k j line s t o f h = absurd o
-    backs (var (helper r x)) k j line s t o f h = absurd o
-    backs (elem x subs) k j line s t o f h = absurd o
-    backs (neg a) k j line s t o f h =
+    backs (var (shadow x)) k j line s t o f h act = absurd o
+    backs (var (helper r x)) k j line s t o f h act = absurd o
+    backs (elem x subs) k j line s t o f h act = absurd o
+    backs (neg a) k j line s t o f h act =
         let w = s (helper work k) 0 in
-        adds_as (back (neg a) k j line) k s t (λ d. mul (negated w) (tan a s d)) (λ d. mul w (negated (tan a s d))) (λ d p. back_neg p w (tan a s d))
-        (scaled a (neg (work_var k)) k j line s s t (negated w) o (same_plain s) refl h (λ s' p h'. backs a (suc k) j line s' t o (defined_same xs a s s' o p f) h'))
-    backs (bin plus a b) k j line s t o f h =
+        adds_as (back_where on (neg a) k j line) k s t (λ d. mul (negated w) (tan a s (masked on d))) (λ d. mul w (negated (tan a s (masked on d)))) (λ d p. back_neg p w (tan a s (masked on d)))
+        (scaled a (neg (work_var k)) k j line s s t (negated w) o (same_plain s) (λ w. refl) h (λ s' p h'. backs a (suc k) j line s' t o (usable_same on xs a s s' o p f) h'))
+    backs (bin plus a b) k j line s t o f h act =
         let w = s (helper work k) 0 in
-        let l = j + temps_in a in
-        adds_as (back (bin plus a b) k j line) k s t (λ d. add (mul w (tan a s d)) (mul w (tan b s d))) (λ d. mul w (add (tan a s d) (tan b s d)))
-        (λ d p. sym (add_assoc p (mul w (tan a s d)) (mul w (tan b s d))) ∙ back_plus p w (tan a s d) (tan b s d))
-        (adds_then (code_if (is_active a) (back a k j line)) (code_if (is_active b) (back b k l line)) k s t (λ d. mul w (tan a s d)) (λ d. mul w (tan b s d))
-        (plainly a k j line s s t w o.1.0 (same_plain s) refl (backs a k j line s t o.1.0 f.1.0 h.0))
-        (λ s1 r. plainly b k l line s s1 t w o.1.1 r.plains (r.works k (omega arith)) (backs b k l line s1 t o.1.1 (defined_same xs b s s1 o.1.1 r.plains f.1.1) (temps_same xs b l s s1 o.1.1 (below_of _ k s s1 r) h.1))))
-    backs (bin minus a b) k j line s t o f h =
+        let l = j + temps_in_where on a in
+        adds_as (back_where on (bin plus a b) k j line) k s t (λ d. add (mul w (tan a s (masked on d))) (mul w (tan b s (masked on d)))) (λ d. mul w (add (tan a s (masked on d)) (tan b s (masked on d))))
+        (λ d p. sym (add_assoc p (mul w (tan a s (masked on d))) (mul w (tan b s (masked on d)))) ∙ back_plus p w (tan a s (masked on d)) (tan b s (masked on d)))
+        (adds_then (code_if (is_active_where on a) (back_where on a k j line)) (code_if (is_active_where on b) (back_where on b k l line)) k s t (λ d. mul w (tan a s (masked on d))) (λ d. mul w (tan b s (masked on d)))
+        (plainly a k j line s s t w o.1.0 (same_plain s) refl (backs a k j line s t o.1.0 f.0 h.0))
+        (λ s1 r. plainly b k l line s s1 t w o.1.1 r.plains (r.works k (omega arith)) (backs b k l line s1 t o.1.1 (usable_same on xs b s s1 o.1.1 r.plains f.1) (temps_same on xs b l s s1 o.1.1 (below_of _ k s s1 r) h.1))))
+    backs (bin minus a b) k j line s t o f h act =
         let w = s (helper work k) 0 in
-        let l = j + temps_in a in
-        adds_as (back (bin minus a b) k j line) k s t (λ d. add (mul w (tan a s d)) (mul (negated w) (tan b s d))) (λ d. mul w (sub (tan a s d) (tan b s d)))
-        (λ d p. sym (add_assoc p (mul w (tan a s d)) (mul (negated w) (tan b s d))) ∙ back_minus p w (tan a s d) (tan b s d))
-        (adds_then (code_if (is_active a) (back a k j line)) (code_if (is_active b) (step line (assign (helper work (suc k)) none (neg (work_var k))) (back b (suc k) l line))) k s t (λ d. mul w (tan a s d)) (λ d. mul (negated w) (tan b s d))
-        (plainly a k j line s s t w o.1.0 (same_plain s) refl (backs a k j line s t o.1.0 f.1.0 h.0))
-        (λ s1 r. scaled b (neg (work_var k)) k l line s s1 t (negated w) o.1.1 r.plains (ap (λ z. Ok (negated z)) (r.works k (omega arith))) (temps_same xs b l s s1 o.1.1 (below_of _ k s s1 r) h.1)
-        (λ s' p h'. backs b (suc k) l line s' t o.1.1 (defined_same xs b s1 s' o.1.1 p (defined_same xs b s s1 o.1.1 r.plains f.1.1)) h')))
-    backs (bin times a b) k j line s t o f h =
+        let l = j + temps_in_where on a in
+        adds_as (back_where on (bin minus a b) k j line) k s t (λ d. add (mul w (tan a s (masked on d))) (mul (negated w) (tan b s (masked on d)))) (λ d. mul w (sub (tan a s (masked on d)) (tan b s (masked on d))))
+        (λ d p. sym (add_assoc p (mul w (tan a s (masked on d))) (mul (negated w) (tan b s (masked on d)))) ∙ back_minus p w (tan a s (masked on d)) (tan b s (masked on d)))
+        (adds_then (code_if (is_active_where on a) (back_where on a k j line)) (code_if (is_active_where on b) (step line (assign (helper work (suc k)) none (neg (work_var k))) (back_where on b (suc k) l line))) k s t (λ d. mul w (tan a s (masked on d))) (λ d. mul (negated w) (tan b s (masked on d)))
+        (plainly a k j line s s t w o.1.0 (same_plain s) refl (backs a k j line s t o.1.0 f.0 h.0))
+        (λ s1 r. scaled b (neg (work_var k)) k l line s s1 t (negated w) o.1.1 r.plains (λ w. ap (λ z. Ok (negated z)) (r.works k (omega arith))) (temps_same on xs b l s s1 o.1.1 (below_of _ k s s1 r) h.1)
+        (λ s' p h'. backs b (suc k) l line s' t o.1.1 (usable_same on xs b s1 s' o.1.1 p (usable_same on xs b s s1 o.1.1 r.plains f.1)) h')))
+    backs (bin times a b) k j line s t o f h act =
         let w = s (helper work k) 0 in
-        let m = j + temps_in a in
-        let l = m + count_of (has_own a b) in
-        let va = own_or (has_own a b) m a in
-        let vb = own_or (has_own b a) (l + temps_in b) b in
-        let ca = code_if (is_active a) (step line (assign (helper work (suc k)) none (bin times (work_var k) vb)) (back a (suc k) j line)) in
-        let cb = code_if (is_active b) (step line (assign (helper work (suc k)) none (bin times (work_var k) va)) (back b (suc k) l line)) in
-        adds_as (ca +++ cb) k s t (λ d. add (mul (mul w (num b s)) (tan a s d)) (mul (mul w (num a s)) (tan b s d))) (λ d. mul w (add (mul (tan a s d) (num b s)) (mul (num a s) (tan b s d))))
-        (λ d p. sym (add_assoc p (mul (mul w (num b s)) (tan a s d)) (mul (mul w (num a s)) (tan b s d))) ∙ back_times p w (num a s) (num b s) (tan a s d) (tan b s d))
-        (adds_then ca cb k s t (λ d. mul (mul w (num b s)) (tan a s d)) (λ d. mul (mul w (num a s)) (tan b s d))
+        let m = j + temps_in_where on a in
+        let l = m + count_of (has_own_where on a b) in
+        let va = own_or (has_own_where on a b) m a in
+        let vb = own_or (has_own_where on b a) (l + temps_in_where on b) b in
+        let ca = code_if (is_active_where on a) (step line (assign (helper work (suc k)) none (bin times (work_var k) vb)) (back_where on a (suc k) j line)) in
+        let cb = code_if (is_active_where on b) (step line (assign (helper work (suc k)) none (bin times (work_var k) va)) (back_where on b (suc k) l line)) in
+        adds_as (ca +++ cb) k s t (λ d. add (mul (mul w (num b s)) (tan a s (masked on d))) (mul (mul w (num a s)) (tan b s (masked on d)))) (λ d. mul w (add (mul (tan a s (masked on d)) (num b s)) (mul (num a s) (tan b s (masked on d)))))
+        (λ d p. sym (add_assoc p (mul (mul w (num b s)) (tan a s (masked on d))) (mul (mul w (num a s)) (tan b s (masked on d)))) ∙ back_times p w (num a s) (num b s) (tan a s (masked on d)) (tan b s (masked on d)))
+        (adds_then ca cb k s t (λ d. mul (mul w (num b s)) (tan a s (masked on d))) (λ d. mul (mul w (num a s)) (tan b s (masked on d)))
         (scaled a (bin times (work_var k) vb) k j line s s t (mul w (num b s)) o.1.0 (same_plain s)
-        (ap (λ r. then_ok r (λ v. operation words times w v)) (value_own q sh level base xs (has_own b a) (l + temps_in b) b b s (value_words sh level xs b s o.1.1 f.1.1) h.1.1.1)) h.0
-        (λ s' p h'. backs a (suc k) j line s' t o.1.0 (defined_same xs a s s' o.1.0 p f.1.0) h'))
+        (λ on_a. ap (λ r. then_ok r (λ v. operation words times w v)) (value_own on q sh level base xs (has_own_where on b a) (l + temps_in_where on b) b b s (value_words sh level xs b s o.1.1 (f.0.0 on_a)) h.1.1.1)) h.0
+        (λ s' p h'. backs a (suc k) j line s' t o.1.0 (usable_same on xs a s s' o.1.0 p f.1.0) h'))
         (λ s1 r.
-        let h1 = temps_same xs (bin times a b) j s s1 o (below_of _ k s s1 r) h in
-        let fa = defined_same xs a s s1 o.1.0 r.plains f.1.0 in
-        let fb = defined_same xs b s s1 o.1.1 r.plains f.1.1 in
+        let h1 = temps_same on xs (bin times a b) j s s1 o (below_of _ k s s1 r) h in
+        let fb = usable_same on xs b s s1 o.1.1 r.plains f.1.1 in
         scaled b (bin times (work_var k) va) k l line s s1 t (mul w (num a s)) o.1.1 r.plains
-        ((λ i. then_ok (value_own q sh level base xs (has_own a b) m a a s1 (value_words sh level xs a s1 o.1.0 fa) h1.1.0 i) (λ v. operation words times (r.works k (omega arith) i) v)) ∙ ap (λ z. Ok (mul w z)) (num_same xs a s s1 o.1.0 r.plains)) h1.1.1.0
-        (λ s' p h'. backs b (suc k) l line s' t o.1.1 (defined_same xs b s1 s' o.1.1 p fb) h')))
-    backs (bin quot a b) k j line s t o f h = adds_none k s t _ (λ d. mul-zero (s (helper work k) 0))
-    backs (bin modulo a b) k j line s t o f h = adds_none k s t _ (λ d. mul-zero (s (helper work k) 0))
-    backs (bin greater a b) k j line s t o f h = absurd o.0
-    backs (bin lesser a b) k j line s t o f h = absurd o.0
-    backs (pow a zero) k j line s t o f h = adds_none k s t _ (λ d. mul-zero (s (helper work k) 0))
-    backs (pow a (suc zero)) k j line s t o f h =
+        (λ on_b. (λ i. then_ok (value_own on q sh level base xs (has_own_where on a b) m a a s1 (value_words sh level xs a s1 o.1.0 (defined_same xs a s s1 o.1.0 r.plains (f.0.1 on_b))) h1.1.0 i) (λ v. operation words times (r.works k (omega arith) i) v)) ∙ ap (λ z. Ok (mul w z)) (num_same xs a s s1 o.1.0 r.plains)) h1.1.1.0
+        (λ s' p h'. backs b (suc k) l line s' t o.1.1 (usable_same on xs b s1 s' o.1.1 p fb) h')))
+    backs (bin quot a b) k j line s t o f h act = adds_none k s t _ (λ d. mul-zero (s (helper work k) 0))
+    backs (bin modulo a b) k j line s t o f h act = adds_none k s t _ (λ d. mul-zero (s (helper work k) 0))
+    backs (bin greater a b) k j line s t o f h act = absurd o.0
+    backs (bin lesser a b) k j line s t o f h act = absurd o.0
+    backs (pow a zero) k j line s t o f h act = adds_none k s t _ (λ d. mul-zero (s (helper work k) 0))
+    backs (pow a (suc zero)) k j line s t o f h act =
         let w = s (helper work k) 0 in
-        adds_as (back (pow a (suc zero)) k j line) k s t (λ d. mul w (tan a s d)) (λ d. mul w (power_tangent (num a s) (tan a s d) 1))
-        (λ d p. ap (add p) (sym (first_power w (num a s) (tan a s d))))
+        adds_as (back_where on (pow a (suc zero)) k j line) k s t (λ d. mul w (tan a s (masked on d))) (λ d. mul w (power_tangent (num a s) (tan a s (masked on d)) 1))
+        (λ d p. ap (add p) (sym (first_power w (num a s) (tan a s (masked on d)))))
         (plainly a k j line s s t w o (same_plain s) refl (backs a k j line s t o f h))
-    backs (pow a (suc (suc n))) k j line s t o f h =
+    backs (pow a (suc (suc n))) k j line s t o f h act =
         let w = s (helper work k) 0 in
-        let m = j + temps_in a in
+        let m = j + temps_in_where on a in
         let u = num a s in
         let share = mul (mul w (pos (suc (suc n)))) (power u (suc n)) in
-        let own = own_or (has_own a a) m a in
-        adds_as (back (pow a (suc (suc n))) k j line) k s t (λ d. mul share (tan a s d)) (λ d. mul w (mul (mul (pos (suc (suc n))) (power u (suc n))) (tan a s d)))
-        (λ d p. back_power p w (pos (suc (suc n))) u (tan a s d) (suc n))
+        let own = own_or (has_own_where on a a) m a in
+        adds_as (back_where on (pow a (suc (suc n))) k j line) k s t (λ d. mul share (tan a s (masked on d))) (λ d. mul w (mul (mul (pos (suc (suc n))) (power u (suc n))) (tan a s (masked on d))))
+        (λ d p. back_power p w (pos (suc (suc n))) u (tan a s (masked on d)) (suc n))
         (scaled a (bin times (bin times (work_var k) (lit (pos (suc (suc n))))) (pow own (suc n))) k j line s s t share o (same_plain s)
-        (ap (λ r. then_ok (then_ok r (λ v. Ok (power v (suc n)))) (λ v. operation words times (mul w (pos (suc (suc n)))) v)) (value_own q sh level base xs (has_own a a) m a a s (value_words sh level xs a s o f) h.1)) h.0
-        (λ s' p h'. backs a (suc k) j line s' t o (defined_same xs a s s' o p f) h'))
-    backs (abs a) k j line s t o f h = absurd o
+        (λ on_a. ap (λ r. then_ok (then_ok r (λ v. Ok (power v (suc n)))) (λ v. operation words times (mul w (pos (suc (suc n)))) v)) (value_own on q sh level base xs (has_own_where on a a) m a a s (value_words sh level xs a s o (f.0 on_a)) h.1)) h.0
+        (λ s' p h'. backs a (suc k) j line s' t o (usable_same on xs a s s' o p f.1) h'))
+    backs (abs a) k j line s t o f h act = absurd o

@@ -1,8 +1,8 @@
 -- Products over marked dummies are sums over the cells of all variables.
 use Rattle.std.proofs.Common.{◌≡◌, ℕ, suc, Bool, true, false, List, [], ◌∷◌, ◌++◌, map, length, refl, sym, ap, ◌∙◌, arith, if◌then◌else◌}
-use Rattle.std.specs.Prelude.{ℤ, pos, ◌||◌}
+use Rattle.std.specs.Prelude.{ℤ, pos, ◌||◌, ◌==◌}
 use Rattle.adj_tree.specs.Code.{plain, name_eq}
-use Rattle.adj_tree.proofs.Names.{name_refl}
+use Rattle.adj_tree.proofs.Names.{nat_same, name_refl}
 use Rattle.adj_word.specs.Word.{wrap, add, mul}
 use Rattle.adj_word.specs.Pairing.{pairing, stands_in, IsApart}
 use Rattle.adj_word.proofs.Residues.{mul-zero, zero-add, wrap-zero}
@@ -14,8 +14,9 @@ use Rattle.adj_transpose.specs.Naming.{AreApart}
 use Rattle.adj_transpose.specs.Program.{unmarked}
 use Rattle.adj_transpose.specs.Straight.{keys}
 use Rattle.adj_transpose.specs.Pairs.{key_eq, Words}
+use Rattle.adj_transpose.specs.Lists.{OnlyScalars}
 use Rattle.adj_transpose.specs.Adjoint.{marked_cells, product, OthersAreZero, cells_of, AreTangents, with_direction, side_by_side, tangents_in, tangents_of}
-use Rattle.adj_transpose.proofs.Variables.{or_false, or_right, name_comm, has_apart}
+use Rattle.adj_transpose.proofs.Variables.{and_true, or_false, or_right, name_comm, has_apart}
 use Rattle.adj_transpose.proofs.Slots.{AreSingle, AreAsMany, singles, direction}
 use Rattle.adj_transpose.proofs.Head.{AreZero}
 
@@ -32,9 +33,14 @@ keys-apart (x ∷ xs) a = (out xs a.0, keys-apart xs a.1)
         let p = or_false (name_eq x y) (has_name x ys) h in
         rw (name_comm x y p.0) (out ys p.1)
 
-keys-append : (xs ys : List (List ℕ)) → keys (xs ++ ys) ≡ keys xs ++ keys ys
-keys-append [] ys = refl
-keys-append (x ∷ xs) ys = ap (λ z. (x, 0) ∷ z) (keys-append xs ys)
+-- they are the first cells alone
+pub keys-scalars : (xs : List (List ℕ)) → OnlyScalars (keys xs)
+keys-scalars [] x j h = cc
+keys-scalars (y ∷ xs) x j h = go (key_eq (y, 0) (x, j)) refl h (keys-scalars xs x j)
+  where
+    go : (b : Bool) → key_eq (y, 0) (x, j) ≡ b → (b || stands_in key_eq (x, j) (keys xs)) ≡ true → (stands_in key_eq (x, j) (keys xs) ≡ true → j ≡ 0) → j ≡ 0
+    go true e h ih = sym (nat_same 0 j (and_true (name_eq y x) (0 == j) e).1)
+    go false e h ih = ih h
 
 -- ---- sums in which one side is 0
 

@@ -2,17 +2,19 @@
 use Rattle.std.proofs.Common.{◌≡◌, ℕ, zero, suc, Bool, true, false, List, [], ◌∷◌, map, length, refl, sym, ap, ◌∙◌, subst, arith, if◌then◌else◌}
 use Rattle.std.specs.Prelude.{ℤ, pos, ◌==◌, ◌||◌}
 use Rattle.adj_tree.specs.Code.{Role, Var, plain, shadow, helper, name_eq, var_eq, Declaration, Procedure}
-use Rattle.adj_tree.proofs.Names.{nat_same, name_refl}
+use Rattle.adj_tree.proofs.Names.{nat_same, name_refl, name_same}
 use Rattle.adj_meaning.specs.Numbers.{Numbers, words, duals}
 use Rattle.adj_meaning.specs.Store.{scalar, Store, set_all, size_of}
 use Rattle.adj_meaning.specs.Value.{Setting}
 use Rattle.adj_meaning.specs.Units.{declared, extent_in, extents_of, shape_of, setting_in, Slot, from_slot, slot_of, Actual, entry_store, nth_cell, slots_fit, slot_fits, shape_fits}
 use Rattle.adj_transpose.specs.Fresh.{has_name}
 use Rattle.adj_transpose.specs.Naming.{Named, name_in, naming}
-use Rattle.adj_transpose.specs.Program.{with_shadows}
+use Rattle.adj_transpose.specs.Marks.{Vars}
+use Rattle.adj_transpose.specs.MarkedProgram.{shadows_behind}
+use Rattle.adj_transpose.specs.MarkedAdjoint.{shadow_flags, joined_by, shadow_cells}
 use Rattle.adj_transpose.specs.Straight.{AreScalars}
 use Rattle.adj_transpose.specs.Pairs.{Words, with_tangents}
-use Rattle.adj_transpose.specs.Adjoint.{AreAlike, interleaved, every_second, cells_of, side_by_side, with_direction, AreTangents, tangents_of}
+use Rattle.adj_transpose.specs.Adjoint.{AreAlike, cells_of, side_by_side, with_direction, AreTangents, tangents_of}
 use Rattle.adj_transpose.proofs.Variables.{and_true, or_right}
 
 -- ---- shapes
@@ -90,37 +92,62 @@ entry_store-named n ns sep [] got w j = refl
 entry_store-named n ns sep (v ∷ vs) [] w j = refl
 entry_store-named n ns sep (v ∷ vs) (a ∷ got) w j = λ i. if sep w v i then a.cells j else entry_store-named n ns sep vs got w j i
 
--- each variable followed by its shadow
-abbrev pub paired : List (List ℕ) → List Var
-paired [] = []
-paired (x ∷ xs) = plain x ∷ shadow x ∷ paired xs
+-- each variable followed by its shadow, if it has one
+abbrev pub paired : Vars → List (List ℕ) → List Var
+paired a [] = []
+paired a (x ∷ xs) = if a (plain x) then plain x ∷ shadow x ∷ paired a xs else plain x ∷ paired a xs
 
-pub with_shadows-named : (ns : List Named) (xs : List (List ℕ)) → ((x : List ℕ) → has_name x xs ≡ true → name_in ns (plain x) ≡ x) → with_shadows ns xs ≡ map (name_in ns) (paired xs)
-with_shadows-named ns [] h = refl
-with_shadows-named ns (x ∷ xs) h =
-    let here : has_name x (x ∷ xs) ≡ true = ap (λ b. b || has_name x xs) (name_refl x) in
-    λ i. sym (h x here) i ∷ name_in ns (shadow x) ∷ with_shadows-named ns xs (λ y e. h y (or_right (name_eq y x) (has_name y xs) e)) i
+pub shadows_behind-named : (a : Vars) (ns : List Named) (xs : List (List ℕ)) → ((x : List ℕ) → has_name x xs ≡ true → name_in ns (plain x) ≡ x) → shadows_behind a ns xs ≡ map (name_in ns) (paired a xs)
+shadows_behind-named a ns [] h = refl
+shadows_behind-named a ns (x ∷ xs) h = go (a (plain x)) (h x (ap (λ b. b || has_name x xs) (name_refl x))) (shadows_behind-named a ns xs (λ y e. h y (or_right (name_eq y x) (has_name y xs) e)))
+  where
+    go : (b : Bool) → name_in ns (plain x) ≡ x → shadows_behind a ns xs ≡ map (name_in ns) (paired a xs) → (if b then x ∷ name_in ns (shadow x) ∷ shadows_behind a ns xs else x ∷ shadows_behind a ns xs) ≡ map (name_in ns) (if b then plain x ∷ shadow x ∷ paired a xs else plain x ∷ paired a xs)
+    go true here ih = λ i. sym here i ∷ name_in ns (shadow x) ∷ ih i
+    go false here ih = λ i. sym here i ∷ ih i
 
-from_slots-interleaved : {C : Type 0} (n : Numbers C) (vs ws : List (Slot C)) → map (from_slot n) (interleaved vs ws) ≡ interleaved (map (from_slot n) vs) (map (from_slot n) ws)
-from_slots-interleaved n [] ws = refl
-from_slots-interleaved n (v ∷ vs) [] = refl
-from_slots-interleaved n (v ∷ vs) (w ∷ ws) = ap (λ z. from_slot n v ∷ from_slot n w ∷ z) (from_slots-interleaved n vs ws)
+from_slots-joined : {C : Type 0} (n : Numbers C) (flags : List Bool) (vs ws : List (Slot C)) → map (from_slot n) (joined_by flags vs ws) ≡ joined_by flags (map (from_slot n) vs) (map (from_slot n) ws)
+from_slots-joined n [] vs ws = refl
+from_slots-joined n (b ∷ flags) [] ws = refl
+from_slots-joined n (b ∷ flags) (v ∷ vs) [] = refl
+from_slots-joined n (true ∷ flags) (v ∷ vs) (w ∷ ws) = ap (λ z. from_slot n v ∷ from_slot n w ∷ z) (from_slots-joined n flags vs ws)
+from_slots-joined n (false ∷ flags) (v ∷ vs) (w ∷ ws) = ap (λ z. from_slot n v ∷ z) (from_slots-joined n flags vs ws)
 
--- there a variable of the text holds its own slot, and a shadow its own
-given-plain : {C : Type 0} (n : Numbers C) (xs : List (List ℕ)) (vs ws : List (Actual C)) → AreAsMany xs vs → AreAsMany xs ws → (y : List ℕ) (j : ℕ) → given_store n (paired xs) (interleaved vs ws) (plain y) j ≡ entry_store n xs vs (plain y) j
-given-plain n [] [] ws a b y j = refl
-given-plain n [] (v ∷ vs) ws a b y j = absurd a
-given-plain n (x ∷ xs) [] ws a b y j = absurd a
-given-plain n (x ∷ xs) (v ∷ vs) [] a b y j = absurd b
-given-plain n (x ∷ xs) (v ∷ vs) (w ∷ ws) a b y j = ap (λ z. if name_eq y x then v.cells j else z) (given-plain n xs vs ws a b y j)
+module _ {C : Type 0} (n : Numbers C) (a : Vars) where
+  -- what the actuals give, by variables
+  abbrev held_by : List (List ℕ) → List (Actual C) → List (Actual C) → Store C
+  held_by xs vs ws = given_store n (paired a xs) (joined_by (shadow_flags a xs) vs ws)
 
-given-shadow : {C : Type 0} (n : Numbers C) (xs : List (List ℕ)) (vs ws : List (Actual C)) → AreAsMany xs vs → AreAsMany xs ws → (y : List ℕ) (j : ℕ) → given_store n (paired xs) (interleaved vs ws) (shadow y) j ≡ entry_store n xs ws (plain y) j
-given-shadow n [] [] [] a b y j = refl
-given-shadow n [] [] (w ∷ ws) a b y j = absurd b
-given-shadow n [] (v ∷ vs) ws a b y j = absurd a
-given-shadow n (x ∷ xs) [] ws a b y j = absurd a
-given-shadow n (x ∷ xs) (v ∷ vs) [] a b y j = absurd b
-given-shadow n (x ∷ xs) (v ∷ vs) (w ∷ ws) a b y j = ap (λ z. if name_eq y x then w.cells j else z) (given-shadow n xs vs ws a b y j)
+  -- there a variable of the text holds its own slot, and a shadow its own
+  given-plain : (xs : List (List ℕ)) (vs ws : List (Actual C)) → AreAsMany xs vs → AreAsMany xs ws → (y : List ℕ) (j : ℕ) → held_by xs vs ws (plain y) j ≡ entry_store n xs vs (plain y) j
+  given-plain [] [] ws m k y j = refl
+  given-plain [] (v ∷ vs) ws m k y j = absurd m
+  given-plain (x ∷ xs) [] ws m k y j = absurd m
+  given-plain (x ∷ xs) (v ∷ vs) [] m k y j = absurd k
+  given-plain (x ∷ xs) (v ∷ vs) (w ∷ ws) m k y j = go (a (plain x)) (given-plain xs vs ws m k y j)
+    where
+      go : (b : Bool) → held_by xs vs ws (plain y) j ≡ entry_store n xs vs (plain y) j → given_store n (if b then plain x ∷ shadow x ∷ paired a xs else plain x ∷ paired a xs) (joined_by (b ∷ shadow_flags a xs) (v ∷ vs) (w ∷ ws)) (plain y) j ≡ (if name_eq y x then v.cells j else entry_store n xs vs (plain y) j)
+      go true ih = ap (λ z. if name_eq y x then v.cells j else z) ih
+      go false ih = ap (λ z. if name_eq y x then v.cells j else z) ih
+
+  given-shadow : (xs : List (List ℕ)) (vs ws : List (Actual C)) → AreAsMany xs vs → AreAsMany xs ws → (y : List ℕ) (j : ℕ) → held_by xs vs ws (shadow y) j ≡ (if a (plain y) then entry_store n xs ws (plain y) j else n.of_word (pos 0))
+  given-shadow [] [] [] m k y j = go (a (plain y))
+    where
+      go : (b : Bool) → n.of_word (pos 0) ≡ (if b then n.of_word (pos 0) else n.of_word (pos 0))
+      go true = refl
+      go false = refl
+  given-shadow [] [] (w ∷ ws) m k y j = absurd k
+  given-shadow [] (v ∷ vs) ws m k y j = absurd m
+  given-shadow (x ∷ xs) [] ws m k y j = absurd m
+  given-shadow (x ∷ xs) (v ∷ vs) [] m k y j = absurd k
+  given-shadow (x ∷ xs) (v ∷ vs) (w ∷ ws) m k y j = go (a (plain x)) refl (name_eq y x) refl (a (plain y)) refl (given-shadow xs vs ws m k y j)
+    where
+      go : (b : Bool) → a (plain x) ≡ b → (e : Bool) → name_eq y x ≡ e → (c : Bool) → a (plain y) ≡ c → held_by xs vs ws (shadow y) j ≡ (if c then entry_store n xs ws (plain y) j else n.of_word (pos 0)) → given_store n (if b then plain x ∷ shadow x ∷ paired a xs else plain x ∷ paired a xs) (joined_by (b ∷ shadow_flags a xs) (v ∷ vs) (w ∷ ws)) (shadow y) j ≡ (if c then (if e then w.cells j else entry_store n xs ws (plain y) j) else n.of_word (pos 0))
+      go true p true e true q ih = ap (λ z. if z then w.cells j else held_by xs vs ws (shadow y) j) e
+      go true p true e false q ih = absurd (let c : true ≡ false = sym p ∙ ap (λ z. a (plain z)) (sym (name_same y x e)) ∙ q in cc)
+      go true p false e c q ih = ap (λ z. if z then w.cells j else held_by xs vs ws (shadow y) j) e ∙ ih
+      go false p true e true q ih = absurd (let c : true ≡ false = sym q ∙ ap (λ z. a (plain z)) (name_same y x e) ∙ p in cc)
+      go false p true e false q ih = ih
+      go false p false e c q ih = ih
 
 many_from_slots : {A C : Type 0} (n : Numbers C) (xs : List A) (vs : List (Slot C)) → AreAsMany xs vs → AreAsMany xs (map (from_slot n) vs)
 many_from_slots n [] [] h = tt
@@ -129,16 +156,16 @@ many_from_slots n (x ∷ xs) [] h = absurd h
 many_from_slots n (x ∷ xs) (v ∷ vs) h = many_from_slots n xs vs h
 
 -- what the variables of the text hold in the adjoint's store, and what their shadows
-module _ {C : Type 0} (n : Numbers C) (xs : List (List ℕ)) (input shadows : List (Slot C)) (a : AreAsMany xs input) (b : AreAsMany xs shadows) where
-  pub slots-plain : (y : List ℕ) (j : ℕ) → given_store n (paired xs) (map (from_slot n) (interleaved input shadows)) (plain y) j ≡ entry_store n xs (map (from_slot n) input) (plain y) j
+module _ {C : Type 0} (n : Numbers C) (a : Vars) (xs : List (List ℕ)) (input shadows : List (Slot C)) (m : AreAsMany xs input) (k : AreAsMany xs shadows) where
+  pub slots-plain : (y : List ℕ) (j : ℕ) → given_store n (paired a xs) (map (from_slot n) (joined_by (shadow_flags a xs) input shadows)) (plain y) j ≡ entry_store n xs (map (from_slot n) input) (plain y) j
   slots-plain y j =
-      ap (λ got. given_store n (paired xs) got (plain y) j) (from_slots-interleaved n input shadows)
-      ∙ given-plain n xs (map (from_slot n) input) (map (from_slot n) shadows) (many_from_slots n xs input a) (many_from_slots n xs shadows b) y j
+      ap (λ got. given_store n (paired a xs) got (plain y) j) (from_slots-joined n (shadow_flags a xs) input shadows)
+      ∙ given-plain n a xs (map (from_slot n) input) (map (from_slot n) shadows) (many_from_slots n xs input m) (many_from_slots n xs shadows k) y j
 
-  pub slots-shadow : (y : List ℕ) (j : ℕ) → given_store n (paired xs) (map (from_slot n) (interleaved input shadows)) (shadow y) j ≡ entry_store n xs (map (from_slot n) shadows) (plain y) j
+  pub slots-shadow : (y : List ℕ) (j : ℕ) → given_store n (paired a xs) (map (from_slot n) (joined_by (shadow_flags a xs) input shadows)) (shadow y) j ≡ (if a (plain y) then entry_store n xs (map (from_slot n) shadows) (plain y) j else n.of_word (pos 0))
   slots-shadow y j =
-      ap (λ got. given_store n (paired xs) got (shadow y) j) (from_slots-interleaved n input shadows)
-      ∙ given-shadow n xs (map (from_slot n) input) (map (from_slot n) shadows) (many_from_slots n xs input a) (many_from_slots n xs shadows b) y j
+      ap (λ got. given_store n (paired a xs) got (shadow y) j) (from_slots-joined n (shadow_flags a xs) input shadows)
+      ∙ given-shadow n a xs (map (from_slot n) input) (map (from_slot n) shadows) (many_from_slots n xs input m) (many_from_slots n xs shadows k) y j
 
 -- ---- the store of a dual run
 
@@ -189,10 +216,14 @@ pub cells-scalars : {C : Type 0} (s : Store C) (xs : List (List ℕ)) → cells_
 cells-scalars s [] = refl
 cells-scalars s (x ∷ xs) = ap (λ z. (s (plain x) 0 ∷ []) ∷ z) (cells-scalars s xs)
 
--- every second slot is that of a shadow
-pub shadows-second : (s : Store ℤ) (ns : List Named) (xs : List (List ℕ)) → cells_of (every_second (map (λ x. slot_of scalar (s (plain x))) (map (name_in ns) (paired xs)))) ≡ singles (λ x. s (naming ns (shadow x)) 0) xs
-shadows-second s ns [] = refl
-shadows-second s ns (x ∷ xs) = ap (λ z. (s (naming ns (shadow x)) 0 ∷ []) ∷ z) (shadows-second s ns xs)
+-- the slots of the shadows, and zeros for what has none
+pub shadows-slots : (a : Vars) (s : Store ℤ) (ns : List Named) (xs : List (List ℕ)) → shadow_cells (shadow_flags a xs) (map (λ x. slot_of scalar (s (plain x))) (map (name_in ns) (paired a xs))) ≡ singles (λ x. if a (plain x) then s (naming ns (shadow x)) 0 else pos 0) xs
+shadows-slots a s ns [] = refl
+shadows-slots a s ns (x ∷ xs) = go (a (plain x)) (shadows-slots a s ns xs)
+  where
+    go : (b : Bool) → shadow_cells (shadow_flags a xs) (map (λ x. slot_of scalar (s (plain x))) (map (name_in ns) (paired a xs))) ≡ singles (λ x. if a (plain x) then s (naming ns (shadow x)) 0 else pos 0) xs → shadow_cells (b ∷ shadow_flags a xs) (map (λ x. slot_of scalar (s (plain x))) (map (name_in ns) (if b then plain x ∷ shadow x ∷ paired a xs else plain x ∷ paired a xs))) ≡ ((if b then s (naming ns (shadow x)) 0 else pos 0) ∷ []) ∷ singles (λ x. if a (plain x) then s (naming ns (shadow x)) 0 else pos 0) xs
+    go true ih = ap (λ z. (s (naming ns (shadow x)) 0 ∷ []) ∷ z) ih
+    go false ih = ap (λ z. (pos 0 ∷ []) ∷ z) ih
 
 pub tangents-singles : (s : Store ℤ) (d : Words) (xs : List (List ℕ)) → tangents_of (singles (λ x. with_tangents s d (plain x) 0) xs) ≡ singles (λ x. d (x, 0)) xs
 tangents-singles s d [] = refl

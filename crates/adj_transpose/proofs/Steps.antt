@@ -4,20 +4,12 @@ use Rattle.std.specs.Prelude.{ℤ, Ok}
 use Rattle.adj_tree.specs.Code.{Var, Term, none, assign, runtime, push_word, pop_word, Code, step}
 use Rattle.adj_meaning.specs.Store.{Shape, Store, set}
 use Rattle.adj_meaning.specs.Value.{value}
-use Rattle.adj_meaning.specs.Event.{Event}
 use Rattle.adj_meaning.specs.Scene.{Scene, Done, with_value}
 use Rattle.adj_meaning.specs.Run.{Calls}
 use Rattle.adj_meaning.specs.Leads.{Leads}
 use Rattle.adj_meaning.proofs.Leadings.{leads_step}
 use Rattle.adj_transpose.specs.Pairs.{on_words}
-
--- what straight code leaves as it is: how many reversals are open, and what happened so far
-pub record Kept : Type 0 where
-  pub opened : ℕ
-  pub events : List Event
-
-abbrev pub scene : {C : Type 0} → Kept → Store C → List C → Scene C
-scene base s t = record { store = s; tape = t; opened = base.opened; events = base.events }
+use Rattle.adj_transpose.specs.Lists.{Kept, scene}
 
 module _ (q : Calls ℤ) (sh : Var → Shape) (level : ℕ) (base : Kept) where
   -- an assignment to a scalar, and the rest

@@ -8,8 +8,10 @@ use Rattle.adj_meaning.specs.Trap.{Trap, division, then_ok}
 use Rattle.adj_meaning.specs.Numbers.{words, duals, power_tangent, operation}
 use Rattle.adj_meaning.specs.Store.{Shape, Store}
 use Rattle.adj_meaning.specs.Value.{value}
-use Rattle.adj_transpose.specs.Emit.{is_active}
+use Rattle.adj_transpose.specs.Marks.{Vars}
+use Rattle.adj_transpose.specs.Marked.{is_active_where}
 use Rattle.adj_transpose.specs.Pairs.{Key, Words, tangent_at, with_tangents, SamePlain, IsTreated, IsOver, on_words, on_duals}
+use Rattle.adj_transpose.specs.Lists.{masked}
 use Rattle.adj_transpose.proofs.Variables.{or_false}
 
 -- ---- values and tangents, traps aside
@@ -132,28 +134,60 @@ defined_same xs (pow a k) s s' o h d = defined_same xs a s s' o h d
 defined_same xs (abs a) s s' o h d = tt
 
 -- a power whose base has no tangent has none
-power_tangent-zero : (u : ℤ) (k : ℕ) → power_tangent u (pos 0) k ≡ pos 0
+pub power_tangent-zero : (u : ℤ) (k : ℕ) → power_tangent u (pos 0) k ≡ pos 0
 power_tangent-zero u zero = refl
 power_tangent-zero u (suc k) = mul-zero (mul (pos (suc k)) (power u k))
 
--- a term that isn't active has no tangent
-pub tan_inactive : (e : Term) (s : Store ℤ) (d : Words) → is_active e ≡ false → tan e s d ≡ pos 0
-tan_inactive (lit z) s d h = refl
-tan_inactive (var x) s d h = cc
-tan_inactive (elem x subs) s d h = refl
-tan_inactive (neg a) s d h = ap negated (tan_inactive a s d h) ∙ negated-zero
-tan_inactive (bin plus a b) s d h = let p = or_false (is_active a) (is_active b) h in (λ i. add (tan_inactive a s d p.0 i) (tan_inactive b s d p.1 i)) ∙ wrap-zero
-tan_inactive (bin minus a b) s d h = let p = or_false (is_active a) (is_active b) h in (λ i. sub (tan_inactive a s d p.0 i) (tan_inactive b s d p.1 i)) ∙ wrap-zero
-tan_inactive (bin times a b) s d h =
-    let p = or_false (is_active a) (is_active b) h in
-    (λ i. add (mul (tan_inactive a s d p.0 i) (num b s)) (mul (num a s) (tan_inactive b s d p.1 i))) ∙ (λ i. add (zero-mul (num b s) i) (mul-zero (num a s) i)) ∙ wrap-zero
-tan_inactive (bin quot a b) s d h = refl
-tan_inactive (bin modulo a b) s d h = refl
-tan_inactive (bin greater a b) s d h = refl
-tan_inactive (bin lesser a b) s d h = refl
-tan_inactive (pow a zero) s d h = refl
-tan_inactive (pow a (suc k)) s d h = ap (λ t. power_tangent (num a s) t (suc k)) (tan_inactive a s d h) ∙ power_tangent-zero (num a s) (suc k)
-tan_inactive (abs a) s d h = refl
+-- ---- active occurrences alone
+
+-- a term that isn't active has no tangent where only active variables have one
+pub tan_inactive : (on : Vars) (e : Term) (s : Store ℤ) (d : Words) → is_active_where on e ≡ false → tan e s (masked on d) ≡ pos 0
+tan_inactive on (lit z) s d h = refl
+tan_inactive on (var (plain x)) s d h = ap (λ b. if b then d (x, 0) else pos 0) h
+tan_inactive on (var (shadow x)) s d h = refl
+tan_inactive on (var (helper r k)) s d h = refl
+tan_inactive on (elem x subs) s d h = refl
+tan_inactive on (neg a) s d h = ap negated (tan_inactive on a s d h) ∙ negated-zero
+tan_inactive on (bin plus a b) s d h = let p = or_false (is_active_where on a) (is_active_where on b) h in (λ i. add (tan_inactive on a s d p.0 i) (tan_inactive on b s d p.1 i)) ∙ wrap-zero
+tan_inactive on (bin minus a b) s d h = let p = or_false (is_active_where on a) (is_active_where on b) h in (λ i. sub (tan_inactive on a s d p.0 i) (tan_inactive on b s d p.1 i)) ∙ wrap-zero
+tan_inactive on (bin times a b) s d h =
+    let p = or_false (is_active_where on a) (is_active_where on b) h in
+    (λ i. add (mul (tan_inactive on a s d p.0 i) (num b s)) (mul (num a s) (tan_inactive on b s d p.1 i))) ∙ (λ i. add (zero-mul (num b s) i) (mul-zero (num a s) i)) ∙ wrap-zero
+tan_inactive on (bin quot a b) s d h = refl
+tan_inactive on (bin modulo a b) s d h = refl
+tan_inactive on (bin greater a b) s d h = refl
+tan_inactive on (bin lesser a b) s d h = refl
+tan_inactive on (pow a zero) s d h = refl
+tan_inactive on (pow a (suc k)) s d h = ap (λ t. power_tangent (num a s) t (suc k)) (tan_inactive on a s d h) ∙ power_tangent-zero (num a s) (suc k)
+tan_inactive on (abs a) s d h = refl
+
+-- the values that the adjoint of a term uses are defined
+abbrev pub IsUsable : Vars → Term → Store ℤ → Type 0
+IsUsable on (neg a) s = IsUsable on a s
+IsUsable on (bin plus a b) s = IsUsable on a s × IsUsable on b s
+IsUsable on (bin minus a b) s = IsUsable on a s × IsUsable on b s
+IsUsable on (bin times a b) s = ((is_active_where on a ≡ true → IsDefined b s) × (is_active_where on b ≡ true → IsDefined a s)) × (IsUsable on a s × IsUsable on b s)
+IsUsable on (pow a (suc zero)) s = IsUsable on a s
+IsUsable on (pow a (suc (suc k))) s = (is_active_where on a ≡ true → IsDefined a s) × IsUsable on a s
+IsUsable on _ s = Unit {0}
+
+pub usable_same : (on : Vars) (xs : List Key) (e : Term) (s s' : Store ℤ) → IsOver xs e → SamePlain s s' → IsUsable on e s → IsUsable on e s'
+usable_same on xs (lit z) s s' o h u = tt
+usable_same on xs (var x) s s' o h u = tt
+usable_same on xs (elem x subs) s s' o h u = tt
+usable_same on xs (neg a) s s' o h u = usable_same on xs a s s' o h u
+usable_same on xs (bin plus a b) s s' o h u = (usable_same on xs a s s' o.1.0 h u.0, usable_same on xs b s s' o.1.1 h u.1)
+usable_same on xs (bin minus a b) s s' o h u = (usable_same on xs a s s' o.1.0 h u.0, usable_same on xs b s s' o.1.1 h u.1)
+usable_same on xs (bin times a b) s s' o h u =
+    ((λ w. defined_same xs b s s' o.1.1 h (u.0.0 w), λ w. defined_same xs a s s' o.1.0 h (u.0.1 w)), (usable_same on xs a s s' o.1.0 h u.1.0, usable_same on xs b s s' o.1.1 h u.1.1))
+usable_same on xs (bin quot a b) s s' o h u = tt
+usable_same on xs (bin modulo a b) s s' o h u = tt
+usable_same on xs (bin greater a b) s s' o h u = tt
+usable_same on xs (bin lesser a b) s s' o h u = tt
+usable_same on xs (pow a zero) s s' o h u = tt
+usable_same on xs (pow a (suc zero)) s s' o h u = usable_same on xs a s s' o h u
+usable_same on xs (pow a (suc (suc k))) s s' o h u = (λ w. defined_same xs a s s' o h (u.0 w), usable_same on xs a s s' o h u.1)
+usable_same on xs (abs a) s s' o h u = tt
 
 -- ---- what a value that is no trap says
 
