@@ -1,7 +1,11 @@
--- Lemmas about names and tables.
+-- Lemmas about names, declarations and tables.
+pub mod NameSets
+pub mod Added
 pub mod Places
 pub mod Tables
+pub mod Locals
 pub mod Making
+pub mod Declarations
 -- Lemmas about the sweeps.
 pub mod Plain
 pub mod Onto

@@ -1,21 +1,20 @@
 -- What the table of a unit's names has.
-use Rattle.std.proofs.Common.{◌≡◌, ℕ, zero, suc, Bool, true, false, List, [], ◌∷◌, ◌++◌, ◌+◌, ◌-◌, ◌<◌, ◌≤◌, map, length, drop, get_or, drop_of_length-le, refl, sym, ap, ◌∙◌, arith, if◌then◌else◌}
-use Rattle.std.specs.Prelude.{◌==◌, ◌&&◌, nat_le}
+use Rattle.std.proofs.Common.{◌≡◌, ℕ, zero, suc, Bool, true, false, List, [], ◌∷◌, ◌++◌, ◌+◌, ◌-◌, ◌<◌, ◌≤◌, map, length, get_or, slice_get, Some, refl, sym, ap, ◌∙◌, arith, if◌then◌else◌}
+use Rattle.std.specs.Prelude.{◌==◌, ◌&&◌, nat_le, position, unwrap_or}
 use Rattle.std.proofs.lemmas.Bool.Decides.{nat_tests}
 use Rattle.adj_tree.specs.Code.{shadow, helper, Role, work, temp, name_eq}
-use Rattle.adj_tree.proofs.Names.{name_refl, name_same}
-use Rattle.adj_transpose.specs.Naming.{Named, outside, name_in}
-use Rattle.adj_transpose.proofs.Variables.{not_true, name_comm}
-use Rattle.adj_sweep.specs.declared.names.Shadowed.{Shadowed}
+use Rattle.std.proofs.lemmas.List.Quantifiers.{position-Some}
+use Rattle.adj_transpose.specs.Fresh.{has_name}
+use Rattle.adj_transpose.specs.Naming.{Named, own, outside, name_in}
+use Rattle.adj_transpose.proofs.Variables.{or_false}
 use Rattle.adj_sweep.specs.declared.names.Names.{Names}
-use Rattle.adj_sweep.specs.Table.{own_entry, shadow_entry, helper_table, table_of, helper_name}
-use Rattle.adj_sweep.proofs.Places.{from_here}
+use Rattle.adj_sweep.specs.Table.{shadow_table, helper_table, table_of, helper_name}
 
 -- ---- shadows
 
-own_passed : (ps : List Shadowed) (rest : List Named) (x : List ℕ) → name_in (map own_entry ps ++ rest) (shadow x) ≡ name_in rest (shadow x)
+own_passed : (xs : List (List ℕ)) (rest : List Named) (x : List ℕ) → name_in (map own xs ++ rest) (shadow x) ≡ name_in rest (shadow x)
 own_passed [] rest x = refl
-own_passed (p ∷ ps) rest x = own_passed ps rest x
+own_passed (y ∷ xs) rest x = own_passed xs rest x
 
 helpers_passed : (r : Role) (k : ℕ) (ns : List (List ℕ)) (rest : List Named) (x : List ℕ) → name_in (helper_table r k ns ++ rest) (shadow x) ≡ name_in rest (shadow x)
 helpers_passed r k [] rest x = refl
@@ -26,44 +25,52 @@ helpers_end r k [] x = refl
 helpers_end r k (n ∷ ns) x = helpers_end r (suc k) ns x
 
 -- the helpers of the table
-abbrev pub helper_tables : Names → List Named
+abbrev helper_tables : Names → List Named
 helper_tables n = helper_table work 1 n.works.items ++ helper_table temp 1 n.temps.items
 
--- the shadow of x is looked for among the shadows
-pub shadow_start : (n : Names) (x : List ℕ) → name_in (table_of n) (shadow x) ≡ name_in (map shadow_entry n.variables.items ++ helper_tables n) (shadow x)
-shadow_start n x = own_passed n.variables.items (map shadow_entry n.variables.items ++ helper_tables n) x
-
-pub shadow_end : (n : Names) (x : List ℕ) → name_in (helper_tables n) (shadow x) ≡ outside (shadow x)
+shadow_end : (n : Names) (x : List ℕ) → name_in (helper_tables n) (shadow x) ≡ outside (shadow x)
 shadow_end n x = helpers_passed work 1 n.works.items (helper_table temp 1 n.temps.items) x ∙ helpers_end temp 1 n.temps.items x
 
--- the variable at i is x
-pub shadow_found : (n : Names) (items : List Shadowed) (x : List ℕ) (i : ℕ) (p : Shadowed) → i < length items → p ≡ get_or items i p → p.name ≡ x → name_in (table_of n) (shadow x) ≡ name_in (map shadow_entry (drop i items) ++ helper_tables n) (shadow x) → p.shadow ≡ name_in (table_of n) (shadow x)
-shadow_found n items x i p lt at same h =
-    sym (h ∙ ap (λ ps. name_in (map shadow_entry ps ++ helper_tables n) (shadow x)) (from_here items i p lt at)
-    ∙ ap (λ z. if name_eq x z then p.shadow else name_in (map shadow_entry (drop (i + 1) items) ++ helper_tables n) (shadow x)) same
-    ∙ ap (λ b. if b then p.shadow else name_in (map shadow_entry (drop (i + 1) items) ++ helper_tables n) (shadow x)) (name_refl x))
+-- x is the variable at i, and at no place before
+placed : (xs ns : List (List ℕ)) (rest : List Named) (x : List ℕ) (i : ℕ) → i < length xs → name_eq x (get_or xs i []) ≡ true → ((k : ℕ) → k < i → name_eq x (get_or xs k []) ≡ false) → name_in (shadow_table xs ns ++ rest) (shadow x) ≡ unwrap_or (slice_get ns i) (name_in rest (shadow x))
+placed [] ns rest x i lt here before = absurd (omega arith)
+placed (y ∷ xs) [] rest x i lt here before = refl
+placed (y ∷ xs) (n ∷ ns) rest x zero lt here before = ap (λ b. if b then n else name_in (shadow_table xs ns ++ rest) (shadow x)) here
+placed (y ∷ xs) (n ∷ ns) rest x (suc i) lt here before =
+    ap (λ b. if b then n else name_in (shadow_table xs ns ++ rest) (shadow x)) (before 0 (omega arith))
+    ∙ placed xs ns rest x i (omega arith) here (λ k h. before (suc k) (omega arith))
 
--- the variable at i is another
-pub shadow_passed : (n : Names) (items : List Shadowed) (x : List ℕ) (i : ℕ) (p : Shadowed) → i < length items → p ≡ get_or items i p → (p.name ≡ x → ⊥) → name_in (table_of n) (shadow x) ≡ name_in (map shadow_entry (drop i items) ++ helper_tables n) (shadow x) → name_in (table_of n) (shadow x) ≡ name_in (map shadow_entry (drop (i + 1) items) ++ helper_tables n) (shadow x)
-shadow_passed n items x i p lt at other h =
-    let apart : name_eq x p.name ≡ false = name_comm p.name x (not_true (name_eq p.name x) (λ e. other (name_same p.name x e))) in
-    h ∙ ap (λ ps. name_in (map shadow_entry ps ++ helper_tables n) (shadow x)) (from_here items i p lt at)
-    ∙ ap (λ b. if b then p.shadow else name_in (map shadow_entry (drop (i + 1) items) ++ helper_tables n) (shadow x)) apart
+-- x is no variable
+absent : (xs ns : List (List ℕ)) (rest : List Named) (x : List ℕ) → has_name x xs ≡ false → name_in (shadow_table xs ns ++ rest) (shadow x) ≡ name_in rest (shadow x)
+absent [] ns rest x h = refl
+absent (y ∷ xs) [] rest x h = refl
+absent (y ∷ xs) (n ∷ ns) rest x h =
+    let apart = or_false (name_eq x y) (has_name x xs) h in
+    ap (λ b. if b then n else name_in (shadow_table xs ns ++ rest) (shadow x)) apart.0 ∙ absent xs ns rest x apart.1
 
--- no variable is x
-pub shadow_missing : (n : Names) (items : List Shadowed) (x : List ℕ) (i : ℕ) → length items ≤ i → name_in (table_of n) (shadow x) ≡ name_in (map shadow_entry (drop i items) ++ helper_tables n) (shadow x) → outside (shadow x) ≡ name_in (table_of n) (shadow x)
-shadow_missing n items x i le h =
-    sym (h ∙ ap (λ ps. name_in (map shadow_entry ps ++ helper_tables n) (shadow x)) (drop_of_length-le items le) ∙ shadow_end n x)
+-- the name of the shadow of the variable at i
+pub shadow_placed : (n : Names) (x : List ℕ) (i : ℕ) → position (name_eq x) n.variables ≡ Some i → unwrap_or (slice_get n.shadows.items i) (outside (shadow x)) ≡ name_in (table_of n) (shadow x)
+shadow_placed n x i h =
+    let at = position-Some (name_eq x) n.variables i [] h in
+    sym (own_passed n.variables (shadow_table n.variables n.shadows.items ++ helper_tables n) x
+    ∙ placed n.variables n.shadows.items (helper_tables n) x i at.0 at.1 at.2
+    ∙ ap (unwrap_or (slice_get n.shadows.items i)) (shadow_end n x))
+
+-- what is no variable has a shadow outside all texts
+pub shadow_absent : (n : Names) (x : List ℕ) → has_name x n.variables ≡ false → outside (shadow x) ≡ name_in (table_of n) (shadow x)
+shadow_absent n x h =
+    sym (own_passed n.variables (shadow_table n.variables n.shadows.items ++ helper_tables n) x ∙ absent n.variables n.shadows.items (helper_tables n) x h ∙ shadow_end n x)
 
 -- ---- helpers
 
-own_passed_helper : (ps : List Shadowed) (rest : List Named) (r : Role) (k : ℕ) → name_in (map own_entry ps ++ rest) (helper r k) ≡ name_in rest (helper r k)
+own_passed_helper : (xs : List (List ℕ)) (rest : List Named) (r : Role) (k : ℕ) → name_in (map own xs ++ rest) (helper r k) ≡ name_in rest (helper r k)
 own_passed_helper [] rest r k = refl
-own_passed_helper (p ∷ ps) rest r k = own_passed_helper ps rest r k
+own_passed_helper (x ∷ xs) rest r k = own_passed_helper xs rest r k
 
-shadow_passed_helper : (ps : List Shadowed) (rest : List Named) (r : Role) (k : ℕ) → name_in (map shadow_entry ps ++ rest) (helper r k) ≡ name_in rest (helper r k)
-shadow_passed_helper [] rest r k = refl
-shadow_passed_helper (p ∷ ps) rest r k = shadow_passed_helper ps rest r k
+shadow_passed_helper : (xs ns : List (List ℕ)) (rest : List Named) (r : Role) (k : ℕ) → name_in (shadow_table xs ns ++ rest) (helper r k) ≡ name_in rest (helper r k)
+shadow_passed_helper [] ns rest r k = refl
+shadow_passed_helper (x ∷ xs) [] rest r k = refl
+shadow_passed_helper (x ∷ xs) (n ∷ ns) rest r k = shadow_passed_helper xs ns rest r k
 
 -- a temporary isn't a work variable
 work_passed : (m : ℕ) (ns : List (List ℕ)) (rest : List Named) (k : ℕ) → name_in (helper_table work m ns ++ rest) (helper temp k) ≡ name_in rest (helper temp k)
@@ -118,16 +125,16 @@ counted_is ns r k = go (nat_le 1 k) refl (nat_le k (length ns)) refl
 
 pub work_name : (n : Names) (k : ℕ) → helper_name n.works.items work k ≡ name_in (table_of n) (helper work k)
 work_name n k =
-    sym (own_passed_helper n.variables.items (map shadow_entry n.variables.items ++ helper_tables n) work k
-    ∙ shadow_passed_helper n.variables.items (helper_tables n) work k
+    sym (own_passed_helper n.variables (shadow_table n.variables n.shadows.items ++ helper_tables n) work k
+    ∙ shadow_passed_helper n.variables n.shadows.items (helper_tables n) work k
     ∙ work_counted 1 n.works.items (helper_table temp 1 n.temps.items) k
     ∙ ap (counted_from 1 n.works.items k) (temp_end 1 n.temps.items k)
     ∙ counted_is n.works.items work k)
 
 pub temp_name : (n : Names) (k : ℕ) → helper_name n.temps.items temp k ≡ name_in (table_of n) (helper temp k)
 temp_name n k =
-    sym (own_passed_helper n.variables.items (map shadow_entry n.variables.items ++ helper_tables n) temp k
-    ∙ shadow_passed_helper n.variables.items (helper_tables n) temp k
+    sym (own_passed_helper n.variables (shadow_table n.variables n.shadows.items ++ helper_tables n) temp k
+    ∙ shadow_passed_helper n.variables n.shadows.items (helper_tables n) temp k
     ∙ work_passed 1 n.works.items (helper_table temp 1 n.temps.items) k
     ∙ temp_counted 1 n.temps.items k
     ∙ counted_is n.temps.items temp k)

@@ -2,32 +2,18 @@
 use Rattle.std.proofs.Common.{◌≡◌, ℕ, zero, suc, Bool, true, false, List, [], ◌∷◌, ◌++◌, ◌+◌, ◌-◌, ◌<◌, ◌≤◌, map, length, drop, get_or, refl, sym, ap, ◌∙◌, arith, append_assoc, add-one, if◌then◌else◌}
 use Rattle.std.specs.Prelude.{pos}
 use Rattle.std.proofs.lemmas.List.{map_push}
-use Rattle.adj_tree.specs.Code.{Var, shadow, helper, Role, name_eq, lit, none, assign, Code, step, Declaration}
+use Rattle.adj_tree.specs.Code.{Var, shadow, helper, Role, lit, none, assign, Code, step, Declaration}
 use Rattle.adj_tree.specs.View.{declaration_of}
 use Rattle.adj_tree.specs.declared.unit.Decl.{Decl}
-use Rattle.adj_tree.proofs.Names.{name_refl, name_same}
 use Rattle.adj_meaning.specs.Append.{◌+++◌}
 use Rattle.adj_meaning.specs.Rename.{rename}
 use Rattle.adj_transpose.specs.Emit.{zeros}
 use Rattle.adj_transpose.specs.Naming.{Named, name_in}
-use Rattle.adj_transpose.specs.Program.{unmarked, scalar, declaration, declared_helpers, helpers_from}
-use Rattle.adj_transpose.proofs.Variables.{not_true}
+use Rattle.adj_transpose.specs.Program.{unmarked, scalar, declared_helpers, helpers_from}
 use Rattle.adj_sweep.specs.Table.{mark_at}
 use Rattle.adj_sweep.proofs.Places.{from_here}
 
--- ---- declarations
-
--- the declaration at i is that of x
-pub declaration_found : (line : ℕ) (items : List Decl) (x : List ℕ) (i : ℕ) (d : Decl) (all : Declaration) → i < length items → d ≡ get_or items i d → d.name ≡ x → all ≡ declaration line (map declaration_of (drop i items)) x → declaration_of d ≡ all
-declaration_found line items x i d all lt at same h =
-    let test : name_eq d.name x ≡ true = ap (λ z. name_eq z x) same ∙ name_refl x in
-    sym (h ∙ ap (λ ds. declaration line (map declaration_of ds) x) (from_here items i d lt at) ∙ ap (λ b. if b then declaration_of d else declaration line (map declaration_of (drop (i + 1) items)) x) test)
-
--- the declaration at i is that of another
-pub declaration_passed : (line : ℕ) (items : List Decl) (x : List ℕ) (i : ℕ) (d : Decl) (all : Declaration) → i < length items → d ≡ get_or items i d → (d.name ≡ x → ⊥) → all ≡ declaration line (map declaration_of (drop i items)) x → all ≡ declaration line (map declaration_of (drop (i + 1) items)) x
-declaration_passed line items x i d all lt at other h =
-    let test : name_eq d.name x ≡ false = not_true (name_eq d.name x) (λ e. other (name_same d.name x e)) in
-    h ∙ ap (λ ds. declaration line (map declaration_of ds) x) (from_here items i d lt at) ∙ ap (λ b. if b then declaration_of d else declaration line (map declaration_of (drop (i + 1) items)) x) test
+-- ---- declarations of helpers
 
 -- one helper more is declared
 pub helper_declared : (ns : List Named) (line : ℕ) (r : Role) (made : List Decl) (d : Decl) (done count : ℕ) → done < count → declaration_of d ≡ scalar line (name_in ns (helper r (done + 1))) → map declaration_of (made ++ (d ∷ [])) ++ declared_helpers ns line (helpers_from r (suc (done + 1)) (count - (done + 1))) ≡ map declaration_of made ++ declared_helpers ns line (helpers_from r (suc done) (count - done))

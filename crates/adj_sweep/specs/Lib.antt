@@ -1,2 +1,3 @@
 pub mod Table
 pub mod Steps
+pub mod Sets

@@ -1,8 +1,7 @@
 -- The names of an adjoint unit as a table.
 use Rattle.std.specs.Prelude.{ℕ, suc, ◌-◌, nat_le, ◌&&◌, List, [], ◌∷◌, ◌++◌, map, get_or, length, if◌then◌else◌, Bool, false, slice_get, unwrap_or}
 use Rattle.adj_tree.specs.Code.{Var, plain, shadow, helper, Role, work, temp, Declaration}
-use Rattle.adj_transpose.specs.Naming.{Named, own, outside, naming}
-use Rattle.adj_sweep.specs.declared.names.Shadowed.{Shadowed}
+use Rattle.adj_transpose.specs.Naming.{Named, own, outside, name_in, naming}
 use Rattle.adj_sweep.specs.declared.names.Names.{Names}
 use Rattle.adj_sweep.specs.declared.names.Helper.{Helper}
 use Rattle.adj_sweep.specs.declared.names.Helper.TheVariants.{Work, Temp}
@@ -12,13 +11,11 @@ abbrev pub role_of : Helper → Role
 role_of Work = work
 role_of Temp = temp
 
--- a variable of the text keeps its name
-abbrev pub own_entry : Shadowed → Named
-own_entry p = own p.name
-
--- and its shadow has another
-abbrev pub shadow_entry : Shadowed → Named
-shadow_entry p = record { variable = shadow p.name; name = p.shadow }
+-- the shadows of the variables, and their names
+abbrev pub shadow_table : List (List ℕ) → List (List ℕ) → List Named
+shadow_table [] ns = []
+shadow_table (x ∷ xs) [] = []
+shadow_table (x ∷ xs) (n ∷ ns) = record { variable = shadow x; name = n } ∷ shadow_table xs ns
 
 -- the helpers of a role from the k-th on, and their names
 abbrev pub helper_table : Role → ℕ → List (List ℕ) → List Named
@@ -27,7 +24,7 @@ helper_table r k (n ∷ ns) = record { variable = helper r k; name = n } ∷ hel
 
 -- all names of the unit
 abbrev pub table_of : Names → List Named
-table_of n = map own_entry n.variables.items ++ (map shadow_entry n.variables.items ++ (helper_table work 1 n.works.items ++ helper_table temp 1 n.temps.items))
+table_of n = map own n.variables ++ (shadow_table n.variables n.shadows.items ++ (helper_table work 1 n.works.items ++ helper_table temp 1 n.temps.items))
 
 -- the variables under these names; those of the text keep theirs
 abbrev pub named_by : Names → Var → Var
@@ -47,3 +44,8 @@ mark_at marks i = unwrap_or (slice_get marks i) false
 abbrev pub with_name : Declaration → List ℕ → Declaration
 with_name d x = record d { name = x }
 
+
+-- the declarations of variables, which `find` gives, each followed by that of its shadow
+abbrev pub declared_by : (List ℕ → Declaration) → List Named → List (List ℕ) → List Declaration
+declared_by find ns [] = []
+declared_by find ns (x ∷ xs) = find x ∷ with_name (find x) (name_in ns (shadow x)) ∷ declared_by find ns xs

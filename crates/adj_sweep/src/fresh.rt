@@ -1,8 +1,9 @@
 //! Fresh names.
 
 ghost use Rattle.std.specs.Prelude.{◌≡◌, ◌++◌, IfOk, OnOk};
-ghost use Rattle.adj_transpose.specs.Fresh.{digits, candidate, has_name, fresh};
+ghost use Rattle.adj_transpose.specs.Fresh.{digits, candidate, fresh};
 
+use crate::name_set::NameSet;
 use adj_tree::{Memory, Name};
 use std::alloc::Global;
 
@@ -53,25 +54,13 @@ fn candidate(alloc: Global, base: &[u8], number: usize) -> Result<Name, Memory>
     }
 }
 
-/// Whether the name stands among these.
-pub fn contains(names: &[Name], x: &Name) -> bool
-    ensures found { result ≡ has_name x.now names.now }
-{
-    for name in names {
-        if name.equals(x) {
-            return true;
-        }
-    }
-    false
-}
-
 /// The base, or the first of `base_1`, `base_2` and on that isn't taken (docs/EMITTED.md, "Fresh names").
-pub fn fresh(alloc: Global, base: &[u8], taken: &[Name]) -> Result<Name, Memory>
+pub fn fresh(alloc: Global, base: &[u8], taken: &NameSet) -> Result<Name, Memory>
     ensures name { IfOk result (λ y. y ≡ fresh base.now taken.now) }
 {
     for number in 0..taken.len() {
         let name = candidate(alloc, base, number)?;
-        if !contains(taken, &name) {
+        if !taken.has(name.bytes()) {
             return Ok(name);
         }
     }

@@ -11,6 +11,7 @@ ghost use Rattle.adj_transpose.specs.Straight.{IsStraightUnit};
 ghost use Rattle.adj_transpose.specs.Adjoint.{IsAdjoint};
 ghost use Rattle.adj_sweep.specs.Table.{table_of, named_by};
 
+use crate::declared::first_declarations;
 use crate::names::{Helper, Names};
 use crate::naming::{adjoint_name, locals, names};
 use crate::sizes::{Used, helpers_used};
@@ -24,9 +25,11 @@ fn declarations(alloc: Global, n: &Names, unit: &Unit, used: Used) -> Result<Vec
     ensures declarations { IfOk result (λ v. map declaration_of v.items ≡ declared_with_shadows (table_of n.now) (procedure_of unit.now) unit.now.dummies ++ (declared_with_shadows (table_of n.now) (procedure_of unit.now) (locals (procedure_of unit.now)) ++ declared_helpers (table_of n.now) unit.now.line (helpers_from work 1 used.works ++ helpers_from temp 1 used.temps))) }
 {
     let mut made = Vec::new(alloc);
-    declare_variables(alloc, n, unit, unit.dummies.as_slice(), &mut made)?;
+    let declared = first_declarations(alloc, unit)?;
+    let dummies = unit.dummies.as_slice();
+    declare_variables(alloc, n, unit.line, &declared, dummies, &mut made)?;
     let more = locals(alloc, unit)?;
-    declare_variables(alloc, n, unit, more.as_slice(), &mut made)?;
+    declare_variables(alloc, n, unit.line, &declared, more.as_slice(), &mut made)?;
     declare_helpers(alloc, n, unit.line, Helper::Work, used.works, &mut made)?;
     declare_helpers(alloc, n, unit.line, Helper::Temp, used.temps, &mut made)?;
     Ok(made)

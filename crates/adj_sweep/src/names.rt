@@ -1,20 +1,14 @@
 //! The names of an adjoint unit.
 
-ghost use Rattle.std.specs.Prelude.{◌≡◌, IfOk};
-ghost use Rattle.adj_tree.specs.Code.{helper};
+ghost use Rattle.std.specs.Prelude.{◌≡◌, IfOk, slice_get, unwrap_or};
+ghost use Rattle.adj_tree.specs.Code.{shadow, helper};
 ghost use Rattle.adj_transpose.specs.Naming.{outside};
 ghost use Rattle.adj_sweep.specs.Table.{helper_name, role_of};
 
 use crate::fresh::{joined, with_number};
+use crate::name_set::NameSet;
 use adj_tree::{Memory, Name};
 use std::alloc::Global;
-
-/// A variable of the unit and its shadow.
-#[derive(Drop)]
-pub struct Shadowed {
-    pub name: Name,
-    pub shadow: Name,
-}
 
 /// What a helper of an assignment's adjoint is for.
 #[derive(Clone, Copy, PartialEq, Eq, Debug)]
@@ -25,11 +19,12 @@ pub enum Helper {
     Temp,
 }
 
-/// The names of one adjoint unit: of its variables and their shadows, and of its helpers by number, from 1.
-/// What it doesn't have gets a name that no text has.
+/// The names of one adjoint unit: of the shadows of its variables, each at its variable's place, and of its helpers by number,
+/// from 1. What it doesn't have gets a name that no text has. Look-ups take constant time.
 #[derive(Drop)]
 pub struct Names {
-    pub variables: Vec<Shadowed>,
+    pub variables: NameSet,
+    pub shadows: Vec<Name>,
     pub works: Vec<Name>,
     pub temps: Vec<Name>,
 }
@@ -44,14 +39,16 @@ impl Names {
     pub fn shadow(&self, alloc: Global, x: &Name) -> Result<Name, Memory>
         ensures name { IfOk result (λ y. y ≡ name_in (table_of self.now) (shadow x.now)) }
     {
-        for pair in self.variables.as_slice() {
-            if pair.name.equals(x) {
-                let name = pair.shadow.copy(alloc)?;
-                return Ok(name);
+        match self.variables.place(x.bytes()) {
+            Some(place) => {
+                let name = shadow_at(alloc, self.shadows.as_slice(), place, x)?;
+                Ok(name)
+            }
+            None => {
+                let name = outside_shadow(alloc, x)?;
+                Ok(name)
             }
         }
-        let name = joined(alloc, &[0, 1], x.bytes())?;
-        Ok(name)
     }
 
     /// The name of the helper of this number.
@@ -69,6 +66,30 @@ impl Names {
             }
         }
     }
+}
+
+// The name at the place; where there is none, one outside all texts.
+fn shadow_at(alloc: Global, names: &[Name], place: usize, x: &Name) -> Result<Name, Memory>
+    ensures name { IfOk result (λ y. y ≡ unwrap_or (slice_get names.now place) (outside (shadow x.now))) }
+{
+    match names.get(place) {
+        Some(name) => {
+            let name = name.copy(alloc)?;
+            Ok(name)
+        }
+        None => {
+            let name = outside_shadow(alloc, x)?;
+            Ok(name)
+        }
+    }
+}
+
+// A name that no text has, for the shadow of a variable.
+fn outside_shadow(alloc: Global, x: &Name) -> Result<Name, Memory>
+    ensures name { IfOk result (λ y. y ≡ outside (shadow x.now)) }
+{
+    let name = joined(alloc, &[0, 1], x.bytes())?;
+    Ok(name)
 }
 
 // The name at a place counted from 1; where there is none, one outside all texts.

@@ -2,17 +2,18 @@
 
 ghost use Rattle.std.specs.Prelude.{◌≡◌, ◌++◌, List, Bool, IfOk, OnOk, map};
 ghost use Rattle.adj_tree.specs.Code.{shadow};
-ghost use Rattle.adj_tree.specs.View.{declaration_of, procedure_of, code_of};
+ghost use Rattle.adj_tree.specs.View.{declaration_of, code_of};
 ghost use Rattle.adj_meaning.specs.Append.{◌+++◌};
 ghost use Rattle.adj_meaning.specs.Rename.{rename};
 ghost use Rattle.adj_transpose.specs.Emit.{zeros};
-ghost use Rattle.adj_transpose.specs.Program.{unmarked, with_shadows, scalar, declaration, declared_with_shadows, declared_helpers, helpers_from};
+ghost use Rattle.adj_transpose.specs.Program.{unmarked, with_shadows, declaration, declared_helpers, helpers_from};
 ghost use Rattle.adj_transpose.specs.Naming.{name_in};
-ghost use Rattle.adj_sweep.specs.Table.{table_of, named_by, role_of, mark_at, with_name};
+ghost use Rattle.adj_sweep.specs.Table.{table_of, named_by, role_of, mark_at, with_name, declared_by};
 
+use crate::declared::{Declared, declaration, scalar};
 use crate::names::{Helper, Names};
 use crate::step::{before, scalar_assignment};
-use adj_tree::{Decl, Expr, Items, Memory, Name, Stmts, Unit};
+use adj_tree::{Decl, Expr, Memory, Name, Stmts};
 use std::alloc::Global;
 
 // Whether a dummy is marked; one whose mark is missing isn't.
@@ -60,31 +61,6 @@ pub fn with_shadows(alloc: Global, n: &Names, names: &[Name]) -> Result<Vec<Name
     Ok(made)
 }
 
-// A scalar with its line.
-fn scalar(alloc: Global, line: u32, name: Name) -> Decl
-    ensures declaration { declaration_of result ≡ scalar line name }
-{
-    Decl {
-        line,
-        name,
-        extents: Items::new(Vec::new(alloc)),
-    }
-}
-
-// The declaration of a variable of the unit.
-fn declaration(alloc: Global, unit: &Unit, x: &Name) -> Result<Decl, Memory>
-    ensures declaration { IfOk result (λ d. declaration_of d ≡ declaration unit.now.line (map declaration_of unit.now.decls) x.now) }
-{
-    for decl in unit.decls.as_slice() {
-        if decl.name.equals(x) {
-            let found = decl.copy(alloc)?;
-            return Ok(found);
-        }
-    }
-    let name = x.copy(alloc)?;
-    Ok(scalar(alloc, unit.line, name))
-}
-
 // The declaration of a shadow, which has its variable's extents.
 fn shadow_declaration(alloc: Global, n: &Names, decl: &Decl, x: &Name) -> Result<Decl, Memory>
     ensures declaration { IfOk result (λ d. declaration_of d ≡ with_name (declaration_of decl.now) (name_in (table_of n.now) (shadow x.now))) }
@@ -102,14 +78,15 @@ fn shadow_declaration(alloc: Global, n: &Names, decl: &Decl, x: &Name) -> Result
 pub fn declare_variables(
     alloc: Global,
     n: &Names,
-    unit: &Unit,
+    line: u32,
+    declared: &Declared,
     names: &[Name],
     made: &mut Vec<Decl>,
 ) -> Result<(), Memory>
-    ensures declarations { OnOk result (map declaration_of made.new.items ≡ map declaration_of made.old.items ++ declared_with_shadows (table_of n.now) (procedure_of unit.now) names.now) }
+    ensures declarations { OnOk result (map declaration_of made.new.items ≡ map declaration_of made.old.items ++ declared_by (declaration line (map declaration_of declared.now.firsts.items)) (table_of n.now) names.now) }
 {
     for x in names {
-        let own = declaration(alloc, unit, x)?;
+        let own = declaration(alloc, line, declared, x)?;
         let other = shadow_declaration(alloc, n, &own, x)?;
         made.push(own)?;
         made.push(other)?;

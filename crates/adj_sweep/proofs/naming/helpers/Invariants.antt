@@ -9,5 +9,5 @@ use Rattle.adj_sweep.proofs.naming.helpers.Given as goal
 abbrev pub invariant-loop-done : goal.invariant-loop-done
 invariant-loop-done l = record {
   count : length l.made.items ≡ l.done;
-  helpers : (rest : List Var) → helper_table (role_of l.role) 1 l.made.items ++ named l.taken.items (helpers_from (role_of l.role) (suc l.done) (l.count - l.done) ++ rest) ≡ named l.fn.taken.items (helpers_from (role_of l.role) 1 l.count ++ rest);
+  helpers : (rest : List Var) → helper_table (role_of l.role) 1 l.made.items ++ named l.taken (helpers_from (role_of l.role) (suc l.done) (l.count - l.done) ++ rest) ≡ named l.fn.taken (helpers_from (role_of l.role) 1 l.count ++ rest);
 }

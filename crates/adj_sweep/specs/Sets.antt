@@ -1,0 +1,12 @@
+-- Sets of names, as lists in which no name stands twice.
+use Rattle.std.specs.Prelude.{ℕ, List, [], ◌∷◌, ◌++◌, if◌then◌else◌}
+use Rattle.adj_transpose.specs.Fresh.{has_name}
+
+-- the names with one more at the end, unless it is among them
+unfoldable pub with_added : List ℕ → List (List ℕ) → List (List ℕ)
+with_added x xs = if has_name x xs then xs else xs ++ x ∷ []
+
+-- the names of the first list and then those of the second, each once
+abbrev pub all_added : List (List ℕ) → List (List ℕ) → List (List ℕ)
+all_added xs [] = xs
+all_added xs (y ∷ ys) = all_added (with_added y xs) ys
