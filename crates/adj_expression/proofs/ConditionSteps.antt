@@ -1,0 +1,39 @@
+-- ConditionSteps: behind a right operand that goes no further a word does what it does behind the comparison.
+use Rattle.std.proofs.Common.{◌≡◌, ℕ, List, Option, Some, None, option_and_then, Result, refl, sym, ap, subst, ◌∙◌}
+use Rattle.std.specs.Prelude.{IfOk}
+use Rattle.adj_tree.specs.Code.{Rel}
+use Rattle.adj_tree.specs.declared.Memory.{Memory}
+use Rattle.adj_text.specs.declared.token.TokenKind.{TokenKind}
+use Rattle.adj_text.specs.declared.token.TokenKind.TheVariants.{Name, Number}
+use Rattle.adj_text.specs.Machine.{State, step, whole, finish, chosen}
+use Rattle.adj_text.specs.Word.{word, Mark}
+use Rattle.adj_expression.specs.declared.inside.Advanced.{Advanced}
+use Rattle.adj_expression.specs.declared.waiting.Waiting as code
+use Rattle.adj_expression.specs.ConditionMachine.{Waiting, Second, Made, TestState, deny, behind_condition, compare_with, advance, alone, close_all, conclude}
+use Rattle.adj_expression.specs.Partial.{Partial, algebra}
+use Rattle.adj_expression.specs.PartialCondition.{PartialTest, comparison_of, test_algebra}
+use Rattle.adj_expression.specs.Stack.{closed}
+use Rattle.adj_expression.specs.Waits.{Turns, Advances}
+use Rattle.adj_expression.proofs.Runs.{finish-closed}
+
+-- a name and a number don't go on with a condition
+behind_condition-word : (limit : ℕ) (p : List (Waiting PartialTest) × PartialTest) (kind : TokenKind) (text : List ℕ) → behind_condition (test_algebra limit) p (Mark kind) ≡ behind_condition (test_algebra limit) p (word kind text)
+behind_condition-word limit p Name text = refl
+behind_condition-word limit p Number text = refl
+behind_condition-word limit p _ text = refl
+
+pub right_ends : (limit : ℕ) (waits : List (Waiting PartialTest)) (r : Rel) (a b : Partial) (e f : State Partial) (kind : TokenKind) (text : List ℕ) (c : PartialTest) (p : List (Waiting PartialTest) × PartialTest) (left : List code.Waiting) (result : Result Advanced Memory)
+    → step (algebra limit) e (word kind text) ≡ None → closed (algebra limit) f ≡ closed (algebra limit) e → Some b ≡ finish (algebra limit) f
+    → c ≡ comparison_of limit r a b → p ≡ deny (test_algebra limit) waits c
+    → IfOk result (λ next. Advances limit (p.0, Made p.1) (Mark kind) left next) → IfOk result (λ next. Advances limit (waits, Second r a e) (word kind text) left next)
+right_ends limit waits r a b e f kind text c p left result stays same is_b is_c is_p behind =
+    let found : finish (algebra limit) e ≡ Some b = finish-closed (algebra limit) e ∙ ap (option_and_then whole) (sym same) ∙ sym (finish-closed (algebra limit) f) ∙ sym is_b in
+    let made : p ≡ compare_with (test_algebra limit) waits r a b = is_p ∙ ap (deny (test_algebra limit) waits) is_c in
+    let then : Option (State Partial) → Option Partial → Option (TestState Partial PartialTest) = λ taken found. chosen taken (λ t. Some (waits, Second r a t)) (option_and_then (λ b. behind_condition (test_algebra limit) (compare_with (test_algebra limit) waits r a b) (word kind text)) found) in
+    let goes : advance (test_algebra limit) (p.0, Made p.1) (Mark kind) ≡ advance (test_algebra limit) (waits, Second r a e) (word kind text) =
+    behind_condition-word limit p kind text ∙ ap (λ q. behind_condition (test_algebra limit) q (word kind text)) made ∙ sym (ap (λ o. then o (finish (algebra limit) e)) stays ∙ ap (then None) found) in
+    let ends : conclude (test_algebra limit) (p.0, Made p.1) ≡ conclude (test_algebra limit) (waits, Second r a e) =
+    ap (λ q. alone (close_all (test_algebra limit) q)) made ∙ sym (ap (option_and_then (λ b. alone (close_all (test_algebra limit) (compare_with (test_algebra limit) waits r a b)))) found) in
+    let P : Option (TestState Partial PartialTest) → Type 0 = λ o. IfOk result (λ next. Turns o (conclude (test_algebra limit) (p.0, Made p.1)) left next) in
+    let Q : Option PartialTest → Type 0 = λ o. IfOk result (λ next. Turns (advance (test_algebra limit) (waits, Second r a e) (word kind text)) o left next) in
+    subst Q ends (subst P goes behind)

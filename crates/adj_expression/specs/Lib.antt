@@ -1,0 +1,10 @@
+pub mod ConditionMachine
+pub mod PartialCondition
+pub mod Waits
+pub mod Judged
+pub mod Reading
+pub mod Front
+pub mod View
+pub mod Flaws
+pub mod Partial
+pub mod Stack

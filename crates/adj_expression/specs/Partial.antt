@@ -1,0 +1,60 @@
+-- Partial: what stands for an expression while it is read.
+use Rattle.std.specs.Prelude.{ℕ, ◌+◌, min, max, nat_lt, List, [], ◌∷◌, Option, Some, None, option_and_then, ℤ, pos, neg_ℤ, Result, Ok, Err, if◌then◌else◌}
+use Rattle.adj_tree.specs.Code.{Op, Term, lit, var, elem, neg, bin, pow, abs, none, more, plain}
+use Rattle.adj_tree.specs.View.{term_of}
+use Rattle.adj_text.specs.Char.{number_of}
+use Rattle.adj_text.specs.Grammar.{in_words, with_both, constant_of, constant_power, as_exponent, is_absolute, operation_of, two_arguments}
+use Rattle.adj_text.specs.Machine.{Algebra}
+use Rattle.adj_expression.specs.declared.flaw.Flaw.{Flaw}
+use Rattle.adj_expression.specs.declared.flaw.Flaw.TheVariants.{Large}
+use Rattle.adj_expression.specs.declared.operand.Operand.{Operand}
+use Rattle.adj_expression.specs.Flaws.{of_one, of_two, kept, as_power}
+use Rattle.adj_expression.specs.View.{seen}
+
+-- the tree or what is wrong, the depth or 1 more than the limit, and the value of a constant
+pub record Partial : Type 0 where
+  pub found : Result Term Flaw
+  pub depth : ℕ
+  pub constant : Option ℤ
+
+-- one that is too deep isn't kept
+abbrev pub bounded : ℕ → Result Term Flaw → ℕ → Option ℤ → Partial
+bounded limit found depth constant = record { found = kept (nat_lt limit depth) found; depth = min depth (limit + 1); constant = constant }
+
+-- a literal, where it is a word
+abbrev pub literal : ℕ → Option ℤ → Partial
+literal limit None = bounded limit (Err Large) 1 None
+literal limit (Some z) = bounded limit (Ok (lit z)) 1 (Some z)
+
+abbrev pub scalar : ℕ → List ℕ → Partial
+scalar limit x = bounded limit (Ok (var (plain x))) 1 None
+
+abbrev pub opposite : ℕ → Partial → Partial
+opposite limit a = bounded limit (of_one neg a.found) (a.depth + 1) (option_and_then (λ z. in_words (neg_ℤ z)) a.constant)
+
+abbrev pub combined : ℕ → Op → Partial → Partial → Partial
+combined limit op a b = bounded limit (of_two (bin op) a.found b.found) (max a.depth b.depth + 1) (with_both (constant_of op) a.constant b.constant)
+
+-- the exponent is no part of the tree
+abbrev pub powered : ℕ → Partial → Partial → Partial
+powered limit a b = bounded limit (of_two pow a.found (as_power b.found (option_and_then as_exponent b.constant))) (a.depth + 1) (with_both constant_power a.constant b.constant)
+
+abbrev pub one_argument : List ℕ → Term → Term
+one_argument x a = if is_absolute x then abs a else elem (plain x) (more a none)
+
+-- a name with one or two arguments; another number is never read
+abbrev pub application : ℕ → List ℕ → List Partial → Partial
+application limit x (a ∷ []) = bounded limit (of_one (one_argument x) a.found) (a.depth + 1) None
+application limit x (a ∷ b ∷ []) = bounded limit (of_two (two_arguments x (operation_of x)) a.found b.found) (max a.depth b.depth + 1) None
+application limit x _ = bounded limit (Err Large) 1 None
+
+abbrev pub algebra : ℕ → Algebra Partial
+algebra limit = record { digits = λ ds. literal limit (in_words (pos (number_of ds))); name = scalar limit; opposite = opposite limit; combined = combined limit; powered = powered limit; application = application limit }
+
+abbrev pub operand_of : Operand → Partial
+operand_of x = record { found = seen term_of x.found; depth = x.depth; constant = x.constant }
+
+-- an expression that is read to its end, and what stands behind it
+abbrev pub ended : {Y : Type 0} → Y → Option Partial → Option (Result Term Flaw × Y)
+ended rest None = None
+ended rest (Some x) = Some (x.found, rest)

@@ -1,0 +1,259 @@
+//! Conditions, read from left to right with a stack.
+#![tactic(auto, using(crate::proofs::WaitLemmas::waits))]
+
+ghost use Rattle.std.specs.Prelude.{◌≡◌, ◌<◌, None, IfOk, option_map};
+ghost use Rattle.adj_tree.specs.View.{rel_of};
+ghost use Rattle.adj_text.specs.Word.{word, Mark};
+ghost use Rattle.adj_expression.specs.ConditionMachine.{First, Second, Made, beginning, end_condition, end_operand, relation_of, behind_left, begin_not, alone, conclude};
+ghost use Rattle.adj_expression.specs.Partial.{operand_of};
+ghost use Rattle.adj_expression.specs.PartialCondition.{test_algebra, proposition_of};
+ghost use Rattle.adj_expression.specs.Stack.{stack_of, seen_of};
+ghost use Rattle.adj_expression.specs.Waits.{waits_of, inside_of, Turns, Advances};
+
+use crate::frame::{Frame, Seen};
+use crate::machine::{Stepped, finish, step};
+use crate::operand::Operand;
+use crate::proposition::Proposition;
+use crate::waiting::{Waiting, alone, close_all, conjoin, deny};
+use adj_text::TokenKind;
+use adj_tree::{Memory, Rel};
+use std::alloc::Global;
+
+/// What is being read.
+#[derive(Drop)]
+pub(crate) enum Inside {
+    Fresh,
+    /// The left operand of a comparison, or an expression in parentheses before it.
+    First(Vec<Frame>, Seen),
+    /// The right operand of a comparison.
+    Second(Rel, Operand, Vec<Frame>, Seen),
+    /// A condition that is whole.
+    Made(Proposition),
+}
+
+/// What a word makes of what stands to the left.
+#[derive(Drop)]
+pub(crate) enum Advanced {
+    On(Inside),
+    /// No condition goes on with the word. The condition that is whole here, if there is one.
+    Stuck(Option<Proposition>),
+}
+
+// A parenthesis is closed behind a condition.
+fn end_condition(
+    alloc: Global,
+    waits: &mut Vec<Waiting>,
+    made: Proposition,
+    limit: u32,
+) -> Result<Advanced, Memory>
+    requires { limit < 1000 }
+    ensures { IfOk result (λ next. Turns (end_condition (test_algebra limit) (waits_of waits.old.items, proposition_of made)) (alone (waits_of waits.old.items, proposition_of made)) waits.new.items next) }
+{
+    match waits.pop() {
+        Some(Waiting::Opened) => Ok(Advanced::On(Inside::Made(deny(alloc, waits, made, limit)?))),
+        Some(_) => Ok(Advanced::Stuck(None)),
+        None => Ok(Advanced::Stuck(Some(made))),
+    }
+}
+
+// A word behind a condition.
+fn behind_condition(
+    alloc: Global,
+    waits: &mut Vec<Waiting>,
+    made: Proposition,
+    kind: TokenKind,
+    limit: u32,
+) -> Result<Advanced, Memory>
+    requires { limit < 1000 }
+    ensures { IfOk result (λ next. Advances limit (waits_of waits.old.items, Made (proposition_of made)) (Mark kind) waits.new.items next) }
+{
+    match kind {
+        TokenKind::And => {
+            let made = conjoin(alloc, waits, made, limit)?;
+            waits.push(Waiting::Anded(made))?;
+            Ok(Advanced::On(Inside::Fresh))
+        }
+        TokenKind::Or => {
+            let made = close_all(alloc, waits, made, limit)?;
+            waits.push(Waiting::Ored(made))?;
+            Ok(Advanced::On(Inside::Fresh))
+        }
+        TokenKind::Right => {
+            let made = close_all(alloc, waits, made, limit)?;
+            end_condition(alloc, waits, made, limit)
+        }
+        _ => Ok(Advanced::Stuck(alone(alloc, waits, made, limit)?)),
+    }
+}
+
+fn relation_of(kind: TokenKind) -> Option<Rel>
+    ensures { option_map rel_of result ≡ relation_of kind }
+{
+    match kind {
+        TokenKind::Lt => Some(Rel::Lt),
+        TokenKind::Le => Some(Rel::Le),
+        TokenKind::Eq => Some(Rel::Eq),
+        TokenKind::Ne => Some(Rel::Ne),
+        TokenKind::Gt => Some(Rel::Gt),
+        TokenKind::Ge => Some(Rel::Ge),
+        _ => None,
+    }
+}
+
+// A parenthesis is closed behind an expression.
+fn end_operand(alloc: Global, waits: &mut Vec<Waiting>, operand: Operand) -> Advanced
+    ensures { Turns (end_operand (waits_of waits.old.items) (operand_of operand)) None waits.new.items result }
+{
+    match waits.pop() {
+        Some(Waiting::Opened) => {
+            Advanced::On(Inside::First(Vec::new(alloc), Seen::Operand(operand)))
+        }
+        _ => Advanced::Stuck(None),
+    }
+}
+
+// A word that doesn't go on with the left operand.
+fn behind_left(alloc: Global, waits: &mut Vec<Waiting>, left: Operand, kind: TokenKind) -> Advanced
+    ensures { Turns (behind_left (waits_of waits.old.items) (Mark kind) (operand_of left)) None waits.new.items result }
+{
+    if kind == TokenKind::Right {
+        return end_operand(alloc, waits, left);
+    }
+    match relation_of(kind) {
+        Some(rel) => Advanced::On(Inside::Second(rel, left, Vec::new(alloc), Seen::Nothing)),
+        None => Advanced::Stuck(None),
+    }
+}
+
+// The next word, where a left operand is read.
+fn go_on_left(
+    alloc: Global,
+    waits: &mut Vec<Waiting>,
+    mut frames: Vec<Frame>,
+    left: Seen,
+    kind: TokenKind,
+    text: &[u8],
+    limit: u32,
+) -> Result<Advanced, Memory>
+    requires { limit < 1000 }
+    ensures { IfOk result (λ next. Advances limit (waits_of waits.old.items, First (stack_of frames.items, seen_of left)) (word kind text.now) waits.new.items next) }
+{
+    match step(alloc, &mut frames, left, kind, text, limit)? {
+        Stepped::On(left) => Ok(Advanced::On(Inside::First(frames, left))),
+        Stepped::Stuck(left) => match finish(alloc, frames, left, limit)? {
+            Some(operand) => Ok(behind_left(alloc, waits, operand, kind)),
+            None => Ok(Advanced::Stuck(None)),
+        },
+    }
+}
+
+// The next word, where a right operand is read.
+fn go_on_right(
+    alloc: Global,
+    waits: &mut Vec<Waiting>,
+    rel: Rel,
+    left: Operand,
+    mut frames: Vec<Frame>,
+    right: Seen,
+    kind: TokenKind,
+    text: &[u8],
+    limit: u32,
+) -> Result<Advanced, Memory>
+    requires { limit < 1000 }
+    ensures { IfOk result (λ next. Advances limit (waits_of waits.old.items, Second (rel_of rel) (operand_of left) (stack_of frames.items, seen_of right)) (word kind text.now) waits.new.items next) }
+{
+    match step(alloc, &mut frames, right, kind, text, limit)? {
+        Stepped::On(right) => Ok(Advanced::On(Inside::Second(rel, left, frames, right))),
+        Stepped::Stuck(right) => match finish(alloc, frames, right, limit)? {
+            Some(operand) => {
+                let made = Proposition::compared(alloc, rel, left, operand, limit)?;
+                let made = deny(alloc, waits, made, limit)?;
+                behind_condition(alloc, waits, made, kind, limit)
+            }
+            None => Ok(Advanced::Stuck(None)),
+        },
+    }
+}
+
+fn begin_not(waits: &mut Vec<Waiting>) -> Result<Advanced, Memory>
+    ensures { IfOk result (λ next. Turns (begin_not (waits_of waits.old.items)) None waits.new.items next) }
+{
+    if let Some(Waiting::Denied) = waits.last() {
+        return Ok(Advanced::Stuck(None));
+    }
+    waits.push(Waiting::Denied)?;
+    Ok(Advanced::On(Inside::Fresh))
+}
+
+// A word where a comparison, `.NOT.` or a parenthesis is wanted.
+fn begin_item(
+    alloc: Global,
+    waits: &mut Vec<Waiting>,
+    kind: TokenKind,
+    text: &[u8],
+    limit: u32,
+) -> Result<Advanced, Memory>
+    requires { limit < 1000 }
+    ensures { IfOk result (λ next. Advances limit (beginning (waits_of waits.old.items)) (word kind text.now) waits.new.items next) }
+{
+    match kind {
+        TokenKind::Left => {
+            waits.push(Waiting::Opened)?;
+            Ok(Advanced::On(Inside::Fresh))
+        }
+        TokenKind::Not => begin_not(waits),
+        _ => {
+            let frames = Vec::new(alloc);
+            go_on_left(alloc, waits, frames, Seen::Nothing, kind, text, limit)
+        }
+    }
+}
+
+/// The next word, with its characters.
+pub(crate) fn advance(
+    alloc: Global,
+    waits: &mut Vec<Waiting>,
+    inside: Inside,
+    kind: TokenKind,
+    text: &[u8],
+    limit: u32,
+) -> Result<Advanced, Memory>
+    requires { limit < 1000 }
+    ensures { IfOk result (λ next. Advances limit (waits_of waits.old.items, inside_of inside) (word kind text.now) waits.new.items next) }
+{
+    match inside {
+        Inside::Fresh => begin_item(alloc, waits, kind, text, limit),
+        Inside::First(frames, left) => go_on_left(alloc, waits, frames, left, kind, text, limit),
+        Inside::Second(rel, left, frames, right) => {
+            go_on_right(alloc, waits, rel, left, frames, right, kind, text, limit)
+        }
+        Inside::Made(made) => behind_condition(alloc, waits, made, kind, limit),
+    }
+}
+
+/// The condition, at its end; none where it isn't whole.
+pub(crate) fn conclude(
+    alloc: Global,
+    waits: &mut Vec<Waiting>,
+    inside: Inside,
+    limit: u32,
+) -> Result<Option<Proposition>, Memory>
+    requires { limit < 1000 }
+    ensures { IfOk result (λ found. option_map proposition_of found ≡ conclude (test_algebra limit) (waits_of waits.old.items, inside_of inside)) }
+{
+    match inside {
+        Inside::Fresh => Ok(None),
+        Inside::First(_, _) => Ok(None),
+        Inside::Second(rel, left, frames, right) => {
+            match finish(alloc, frames, right, limit)? {
+                Some(operand) => {
+                    let made = Proposition::compared(alloc, rel, left, operand, limit)?;
+                    let made = deny(alloc, waits, made, limit)?;
+                    alone(alloc, waits, made, limit)
+                }
+                None => Ok(None),
+            }
+        }
+        Inside::Made(made) => alone(alloc, waits, made, limit),
+    }
+}

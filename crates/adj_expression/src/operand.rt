@@ -1,0 +1,206 @@
+//! Expressions that are still read.
+
+ghost use Rattle.std.specs.Prelude.{◌≡◌, ◌<◌, ◌≤◌, ◌+◌, ◌∷◌, [], ◌++◌, ℤ, map, length, true, pos, option_and_then, IfOk};
+ghost use Rattle.adj_tree.specs.View.{term_of, op_of};
+ghost use Rattle.adj_text.specs.Char.{number_of};
+ghost use Rattle.adj_text.specs.Grammar.{in_words, as_exponent};
+ghost use Rattle.adj_expression.specs.Flaws.{as_power};
+ghost use Rattle.adj_expression.specs.View.{seen};
+
+use crate::application::{one_argument, two_arguments};
+use crate::constant;
+use crate::flaw::{Flaw, both};
+use adj_tree::{Expr, Memory, Name, Op};
+use std::alloc::Global;
+
+/// An expression: its tree or what is wrong with it, its depth or 1 more than the limit where it is deeper, and its value
+/// where it is a constant. One that is too deep isn't kept, so no tree is ever deeper than the limit.
+#[derive(Drop)]
+pub(crate) struct Operand {
+    pub found: Result<Expr, Flaw>,
+    pub depth: u32,
+    pub constant: Option<i64>,
+    ghost shallow: { depth ≤ 1000 },
+}
+
+// The exponent that an expression is. Of its own flaws only a literal that is too large counts.
+fn exponent(found: Result<Expr, Flaw>, constant: Option<i64>) -> Result<u32, Flaw>
+    ensures { result ≡ as_power (seen term_of found) (option_and_then as_exponent constant) }
+{
+    if let Err(Flaw::Large) = found {
+        return Err(Flaw::Large);
+    }
+    match constant {
+        Some(k) if 0 <= k && k <= 63 => Ok(k as u32),
+        _ => Err(Flaw::Exponent),
+    }
+}
+
+impl Operand {
+    ghost use Rattle.adj_expression.specs.Partial.{literal, scalar, opposite, combined, powered, application, bounded, algebra, operand_of};
+    ghost use Rattle.adj_text.specs.Machine.{with_sign};
+
+    fn bounded(found: Result<Expr, Flaw>, depth: u32, constant: Option<i64>, limit: u32) -> Operand
+        requires { limit < 1000 }
+        ensures { operand_of result ≡ bounded limit (seen term_of found) depth constant }
+    {
+        if depth <= limit {
+            Operand {
+                found,
+                depth,
+                constant,
+            }
+        } else {
+            let flaw = match found {
+                Ok(_) => Flaw::Deep,
+                Err(flaw) => flaw.first_of(Flaw::Deep),
+            };
+            Operand {
+                found: Err(flaw),
+                depth: limit + 1,
+                constant,
+            }
+        }
+    }
+
+    /// A literal.
+    pub fn literal(digits: &[u8], limit: u32) -> Operand
+        requires { limit < 1000 }
+        ensures { operand_of result ≡ literal limit (in_words (pos (number_of digits.now))) }
+    {
+        match constant::literal(digits) {
+            None => Operand::bounded(Err(Flaw::Large), 1, None, limit),
+            Some(n) => Operand::bounded(Ok(Expr::Lit(n)), 1, Some(n), limit),
+        }
+    }
+
+    /// A name with no arguments.
+    pub fn scalar(name: Name, limit: u32) -> Operand
+        requires { limit < 1000 }
+        ensures { operand_of result ≡ scalar limit name }
+    {
+        Operand::bounded(Ok(Expr::Var(name)), 1, None, limit)
+    }
+
+    /// Behind a minus sign.
+    pub fn opposite(self, alloc: Global, limit: u32) -> Result<Operand, Memory>
+        requires { limit < 1000 }
+        ensures { IfOk result (λ x. operand_of x ≡ opposite limit (operand_of self)) }
+    {
+        let Operand {
+            found,
+            depth,
+            constant,
+        } = self;
+        let found = match found {
+            Ok(e) => Ok(Expr::Neg(Box::new(alloc, e)?)),
+            Err(flaw) => Err(flaw),
+        };
+        let constant = match constant {
+            Some(n) => n.checked_neg(),
+            None => None,
+        };
+        Ok(Operand::bounded(found, depth + 1, constant, limit))
+    }
+
+    /// The sum, difference, product or quotient.
+    pub fn combined(
+        self,
+        alloc: Global,
+        op: Op,
+        right: Operand,
+        limit: u32,
+    ) -> Result<Operand, Memory>
+        requires { limit < 1000 }
+        ensures { IfOk result (λ x. operand_of x ≡ combined limit (op_of op) (operand_of self) (operand_of right)) }
+    {
+        let depth = self.depth.max(right.depth) + 1;
+        let constant = match (self.constant, right.constant) {
+            (Some(a), Some(b)) => constant::joined(op, a, b),
+            _ => None,
+        };
+        let found = match both(self.found, right.found) {
+            Ok((a, b)) => Ok(Expr::Bin(op, Box::new(alloc, a)?, Box::new(alloc, b)?)),
+            Err(flaw) => Err(flaw),
+        };
+        Ok(Operand::bounded(found, depth, constant, limit))
+    }
+
+    /// The power with this exponent.
+    pub fn powered(self, alloc: Global, right: Operand, limit: u32) -> Result<Operand, Memory>
+        requires { limit < 1000 }
+        ensures { IfOk result (λ x. operand_of x ≡ powered limit (operand_of self) (operand_of right)) }
+    {
+        let depth = self.depth + 1;
+        let constant = match (self.constant, right.constant) {
+            (Some(a), Some(b)) => constant::power(a, b),
+            _ => None,
+        };
+        let found = match both(self.found, exponent(right.found, right.constant)) {
+            Ok((a, k)) => Ok(Expr::Pow(Box::new(alloc, a)?, k)),
+            Err(flaw) => Err(flaw),
+        };
+        Ok(Operand::bounded(found, depth, constant, limit))
+    }
+
+    // A name with one argument.
+    fn with_one(name: Name, alloc: Global, argument: Operand, limit: u32) -> Result<Operand, Memory>
+        requires { limit < 1000 }
+        ensures { IfOk result (λ x. operand_of x ≡ application limit name (operand_of argument ∷ [])) }
+    {
+        let Operand { found, depth, .. } = argument;
+        let found = match found {
+            Ok(a) => Ok(one_argument(name, alloc, a)?),
+            Err(flaw) => Err(flaw),
+        };
+        Ok(Operand::bounded(found, depth + 1, None, limit))
+    }
+
+    // A name with two arguments.
+    fn with_two(
+        name: Name,
+        alloc: Global,
+        first: Operand,
+        second: Operand,
+        limit: u32,
+    ) -> Result<Operand, Memory>
+        requires { limit < 1000 }
+        ensures { IfOk result (λ x. operand_of x ≡ application limit name (operand_of first ∷ operand_of second ∷ [])) }
+    {
+        let depth = first.depth.max(second.depth) + 1;
+        let found = match both(first.found, second.found) {
+            Ok((a, b)) => Ok(two_arguments(name, alloc, a, b)?),
+            Err(flaw) => Err(flaw),
+        };
+        Ok(Operand::bounded(found, depth, None, limit))
+    }
+
+    /// A name with its arguments, of which there are as many as it takes.
+    pub fn application(
+        name: Name,
+        alloc: Global,
+        mut before: Vec<Operand>,
+        last: Operand,
+        limit: u32,
+    ) -> Result<Operand, Memory>
+        requires limit { limit < 1000 }
+        requires number { length before.items < 2 }
+        ensures { IfOk result (λ x. operand_of x ≡ application limit name (map operand_of before.items ++ operand_of last ∷ [])) }
+    {
+        match before.pop() {
+            None => Operand::with_one(name, alloc, last, limit),
+            Some(first) => Operand::with_two(name, alloc, first, last, limit),
+        }
+    }
+
+    /// Behind a sign.
+    pub fn with_sign(self, alloc: Global, op: Op, limit: u32) -> Result<Operand, Memory>
+        requires { limit < 1000 }
+        ensures { IfOk result (λ x. operand_of x ≡ with_sign (algebra limit) (op_of op) (operand_of self)) }
+    {
+        match op {
+            Op::Sub => self.opposite(alloc, limit),
+            _ => Ok(self),
+        }
+    }
+}

@@ -1,0 +1,38 @@
+-- What the code has of the next statement, and what the definition makes of it.
+use Rattle.std.proofs.Common.{◌≡◌, ℕ, ◌-◌, Option, Result, Ok, Err, refl, sym, ap, ◌∙◌}
+use Rattle.std.specs.Prelude.{option_map}
+use Rattle.adj_tree.specs.declared.fault.Fault.{Fault}
+use Rattle.adj_tree.specs.declared.fault.Fault.TheVariants.{Memory, Refused}
+use Rattle.adj_expression.specs.View.{seen}
+use Rattle.adj_expression.specs.declared.flaw.Flaw.{Flaw}
+use Rattle.adj_text.specs.Refused.{◌>>=◌, Fails}
+use Rattle.adj_text.specs.Word.{words_of}
+use Rattle.adj_text.specs.declared.mode.Mode.{Mode}
+use Rattle.adj_text.specs.declared.stated.Stated.{Stated}
+use Rattle.adj_tree.specs.declared.fault.Refusal.{Refusal}
+use Rattle.adj_parse.specs.declared.bounds.Bounds.{Bounds}
+use Rattle.adj_parse.specs.Said as says
+use Rattle.adj_parse.specs.Trees.{bounds_of, State, checked, behind, follow}
+use Rattle.adj_parse.specs.Unit.{Units, followed}
+use Rattle.adj_parse.specs.View.{form_of}
+use Rattle.adj_parse.specs.declared.said.Said.{Said}
+use Rattle.adj_parse.proofs.Seen.{checked_seen}
+
+module _ (mode : Mode) (bounds : Bounds) (bounds_are : bounds ≡ bounds_of mode) (s : State) (t : Stated) (found : Option (Result Said Flaw)) (is : option_map (seen (form_of t.mark)) found ≡ says.said bounds.depth t.mark t.kind (words_of t.text t.tokens)) where
+  within : Bounds → Result State Refusal
+  within b = checked b s t (says.said b.depth t.mark t.kind (words_of t.text t.tokens)) >>= λ f. Ok (behind s t f)
+
+  followed_is : follow mode s t ≡ ((checked bounds s t found >>= λ x. Ok (form_of t.mark x)) >>= λ f. Ok (behind s t f))
+  unfolding follow within
+  followed_is =
+      ap within (sym bounds_are) ∙ ap (λ o. checked bounds s t o >>= λ f. Ok (behind s t f)) (sym is)
+      ∙ ap (λ r. r >>= λ f. Ok (behind s t f)) (checked_seen (form_of t.mark) bounds s t found)
+
+  pub follow_ok : (x : Said) (units : Units) (room : ℕ) → checked bounds s t found ≡ Ok x → units ≡ followed s.units.done s.units.current t.line t.label (form_of t.mark x) → room ≡ s.room - 1 → follow mode s t ≡ Ok (record { units = units; line = t.line; room = room })
+  follow_ok x units room h e g =
+      let same : behind s t (form_of t.mark x) ≡ record { units = units; line = t.line; room = room } = rw (e, g) refl in
+      followed_is ∙ ap (λ r. (r >>= λ y. Ok (form_of t.mark y)) >>= λ f. Ok (behind s t f)) h ∙ ap Ok same
+
+  pub follow_fails : (e : Fault) → Fails e (checked bounds s t found) → Fails e (follow mode s t)
+  follow_fails Memory h = tt
+  follow_fails (Refused r) h = followed_is ∙ ap (λ q. (q >>= λ y. Ok (form_of t.mark y)) >>= λ f. Ok (behind s t f)) h

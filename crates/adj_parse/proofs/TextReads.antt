@@ -1,0 +1,72 @@
+-- What the chain of faults answers for a text is what the text reads as.
+use Rattle.std.proofs.Common.{◌≡◌, ℕ, List, [], ◌∷◌, Result, Ok, Err, refl, sym, ap, subst, ◌∙◌, ◌⊎◌}
+use Rattle.std.specs.Prelude.{IfOk}
+use Rattle.adj_tree.specs.Code.{Procedure}
+use Rattle.adj_tree.specs.View.{procedures_of}
+use Rattle.adj_tree.specs.declared.unit.Program.{Program}
+use Rattle.adj_tree.specs.declared.fault.Fault.{Fault}
+use Rattle.adj_tree.specs.declared.fault.Refusal.{Refusal}
+use Rattle.adj_text.specs.Fits.{Fits}
+use Rattle.adj_text.specs.Form.{Statement}
+use Rattle.adj_text.specs.Limits.{no_limits, limits_of}
+use Rattle.adj_text.specs.Reads as texts
+use Rattle.adj_text.specs.Reads.{ReadsAll, Reads}
+use Rattle.adj_text.specs.Refused.{Gives}
+use Rattle.adj_text.specs.Stated.{statements_of}
+use Rattle.adj_text.specs.Unit.{ReadsUnits}
+use Rattle.adj_text.specs.Word.{words_of}
+use Rattle.adj_text.specs.Written.{IsWritten}
+use Rattle.adj_text.specs.declared.mode.Mode.{Mode}
+use Rattle.adj_text.specs.declared.stated.Stated.{Stated}
+use Rattle.adj_text.proofs.ReadingWritten.{reading_written}
+use Rattle.adj_text.proofs.Unlimited.{statements_follow}
+use Rattle.adj_parse.specs.Trees.{IsText, start, trees_of, IsBeyond}
+use Rattle.adj_parse.proofs.Followed.{reads_all, all_fit, chain_runs, chain_comes}
+use Rattle.adj_parse.proofs.Sayings.{one_form}
+use Rattle.adj_parse.proofs.UnitsComplete.{units_run, one_units}
+use Rattle.adj_parse.proofs.UnitsFit.{units_fit}
+use Rattle.adj_parse.proofs.UnitsSound.{run_reads}
+
+pub derived : (mode : Mode) (stated : List Stated) (ps : List Procedure) → trees_of mode stated ≡ Ok ps → (statements : List Statement) × ReadsAll stated statements × ReadsUnits statements ps
+derived mode stated ps h = let r = chain_runs mode stated (start mode) ps h in (r.0, reads_all mode r.1, run_reads r.0 ps r.2)
+
+pub answered : (mode : Mode) (stated : List Stated) (statements : List Statement) (ps : List Procedure) → ReadsAll stated statements → ReadsUnits statements ps → (trees_of mode stated ≡ Ok ps) ⊎ IsBeyond (trees_of mode stated)
+answered mode stated statements ps all units = chain_comes mode all (start mode) ps (units_run units)
+
+pub fits : (mode : Mode) (stated : List Stated) (ps : List Procedure) → trees_of mode stated ≡ Ok ps → Fits ps
+fits mode stated ps h = let r = chain_runs mode stated (start mode) ps h in units_fit (run_reads r.0 ps r.2) (all_fit mode r.1)
+
+one_all : {stated : List Stated} {ss ts : List Statement} → ReadsAll stated ss → ReadsAll stated ts → ss ≡ ts
+one_all texts.ReadsAll.none texts.ReadsAll.none = refl
+one_all (texts.ReadsAll.more {s = s} {f = f} d r) (texts.ReadsAll.more {f = g} e q) =
+    let forms : f ≡ g = one_form s.mark s.kind (words_of s.text s.tokens) f g d e in
+    let rest = one_all r q in
+    cc
+
+ok_same : (a b : List Stated) (r : Result (List Stated) Refusal) → r ≡ Ok a → r ≡ Ok b → a ≡ b
+ok_same a b r h g = cc
+
+pub one_program : (bytes : List ℕ) (ps qs : List Procedure) → Reads bytes ps → Reads bytes qs → ps ≡ qs
+one_program bytes ps qs r q =
+    let same = ok_same r.stated q.stated (statements_of no_limits bytes) r.lines_form q.lines_form in
+    let first : ReadsAll q.stated r.statements = subst (λ ss. ReadsAll ss r.statements) same r.words_derive in
+    let units : ReadsUnits q.statements ps = subst (λ ts. ReadsUnits ts ps) (one_all first q.words_derive) r.units_derive in
+    one_units units q.units_derive
+
+-- a text whose statements have these units reads as them
+pub text_reads : (mode : Mode) (stated : List Stated) (ps : List Procedure) → trees_of mode stated ≡ Ok ps → (bytes : List ℕ) → statements_of no_limits bytes ≡ Ok stated → Reads bytes ps
+text_reads mode stated ps h bytes e = let d = derived mode stated ps h in record { stated = stated; statements = d.0; lines_form = e; words_derive = d.1; units_derive = d.2 }
+
+pub text_written : (mode : Mode) (stated : List Stated) (ps : List Procedure) → trees_of mode stated ≡ Ok ps → IsText mode stated → IsWritten ps
+text_written mode stated ps h text =
+    let unlimited : statements_of no_limits text.0 ≡ Ok stated = rw text.1 at (statements_follow (limits_of mode) text.0) in
+    reading_written text.0 ps (text_reads mode stated ps h text.0 unlimited) (fits mode stated ps h)
+
+-- the same of what the call gives
+pub gives_reads : (mode : Mode) (stated : List Stated) (r : Result Program Fault) → Gives procedures_of r (trees_of mode stated) → IfOk r (λ p. (bytes : List ℕ) → statements_of no_limits bytes ≡ Ok stated → Reads bytes (procedures_of p))
+gives_reads mode stated (Ok p) h = text_reads mode stated (procedures_of p) h
+gives_reads mode stated (Err e) h = tt
+
+pub gives_written : (mode : Mode) (stated : List Stated) (r : Result Program Fault) → Gives procedures_of r (trees_of mode stated) → IsText mode stated → IfOk r (λ p. IsWritten (procedures_of p))
+gives_written mode stated (Ok p) h text = text_written mode stated (procedures_of p) h text
+gives_written mode stated (Err e) h text = tt

@@ -1,0 +1,78 @@
+-- The literals and extents of units are words where those of their statements are.
+use Rattle.std.proofs.Common.{ℕ, Bool, List, [], ◌∷◌, ◌++◌, map, sym, subst}
+use Rattle.std.specs.List.{All}
+use Rattle.adj_tree.specs.Code.{Act, Code, Declaration, Procedure}
+use Rattle.adj_text.specs.Block as blocks
+use Rattle.adj_text.specs.Block.{ReadsBody, ReadsAct, ReadsElse}
+use Rattle.adj_text.specs.Fits.{FitsTerm, FitsTest, FitsAct, FitsCode, FitsExtent, FitsProcedure, Fits}
+use Rattle.adj_text.specs.Form.{Form, integers, simple, logical, opens_do, opens_if, otherwise_if, Statement, at}
+use Rattle.adj_text.specs.Statement.{Item}
+use Rattle.adj_text.specs.Unit as units
+use Rattle.adj_text.specs.Unit.{ReadsImplicit, declaration_of, ReadsDeclarations, ReadsEnd, ReadsUnit, ReadsUnits}
+use Rattle.adj_text.proofs.FormWritten.{all_nil, all_cons}
+
+abbrev pub FitsItems : List Item → Type 0
+FitsItems [] = Unit {0}
+FitsItems (i ∷ is) = All FitsExtent i.extents × FitsItems is
+
+-- the literals and extents of a form are words
+abbrev pub FitsForm : Form → Type 0
+FitsForm (integers is) = FitsItems is
+FitsForm (simple a) = FitsAct a
+FitsForm (logical c a) = FitsTest c × FitsAct a
+FitsForm (opens_do l r s) = FitsTerm r.from × FitsTerm r.to × FitsTerm r.by
+FitsForm (opens_if c) = FitsTest c
+FitsForm (otherwise_if c) = FitsTest c
+FitsForm f = Unit {0}
+
+abbrev pub AreFit : List Statement → Type 0
+AreFit [] = Unit {0}
+AreFit (at n l f ∷ ts) = FitsForm f × AreFit ts
+
+mutual
+  body_fits : {ls : List ℕ} {ts rest : List Statement} {k : Code} → ReadsBody ls ts rest k → AreFit ts → AreFit rest × FitsCode k
+  body_fits blocks.ReadsBody.empty h = (h, tt)
+  body_fits (blocks.ReadsBody.more c a b) h = let r = act_fits a h.0 h.1 in let q = body_fits b r.0 in (q.0, (r.1, q.1))
+  body_fits (blocks.ReadsBody.skipped c b) h = body_fits b h.1
+
+  act_fits : {ls : List ℕ} {n : ℕ} {f : Form} {ts rest : List Statement} {a : Act} → ReadsAct ls n f ts rest a → FitsForm f → AreFit ts → AreFit rest × FitsAct a
+  act_fits blocks.ReadsAct.simply w h = (h, w)
+  act_fits blocks.ReadsAct.guarded w h = (h, (w.0, (w.1, tt), tt))
+  act_fits (blocks.ReadsAct.branch a b) w h = let r = body_fits a h in let q = else_fits b r.0 in (q.0, (w, r.1, q.1))
+  act_fits (blocks.ReadsAct.unlabelled b c) w h = let r = body_fits b h in (r.0.1, (w.0, w.1, w.2, r.1))
+  act_fits (blocks.ReadsAct.labelled c d b) w h = let r = body_fits b h in (r.0.1, (w.0, w.1, w.2, r.1))
+  act_fits (blocks.ReadsAct.shared c d b) w h = let r = body_fits b h in (r.0, (w.0, w.1, w.2, r.1))
+
+  else_fits : {ls : List ℕ} {ts rest : List Statement} {k : Code} → ReadsElse ls ts rest k → AreFit ts → AreFit rest × FitsCode k
+  else_fits (blocks.ReadsElse.nothing c) h = (h.1, tt)
+  else_fits (blocks.ReadsElse.part c b d) h = let r = body_fits b h.1 in (r.0.1, r.1)
+  else_fits (blocks.ReadsElse.chained c a b) h = let r = body_fits a h.1 in let q = else_fits b r.0 in (q.0, ((h.0, r.1, q.1), tt))
+
+implicit_fits : {ts rest : List Statement} {b : Bool} → ReadsImplicit ts rest b → AreFit ts → AreFit rest
+implicit_fits units.ReadsImplicit.absent h = h
+implicit_fits units.ReadsImplicit.present h = h.1
+
+abbrev DeclaredFit : Declaration → Type 0
+DeclaredFit d = All FitsExtent d.extents
+
+items_fit : (n : ℕ) (is : List Item) (ds : List Declaration) → FitsItems is → All DeclaredFit ds → All DeclaredFit (map (declaration_of n) is ++ ds)
+items_fit n [] ds w h = h
+items_fit n (i ∷ is) ds w h = all_cons DeclaredFit (declaration_of n i) (map (declaration_of n) is ++ ds) w.0 (items_fit n is ds w.1 h)
+
+declarations_fit : {ts rest : List Statement} {ds : List Declaration} → ReadsDeclarations ts rest ds → AreFit ts → AreFit rest × All DeclaredFit ds
+declarations_fit units.ReadsDeclarations.none h = (h, all_nil DeclaredFit)
+declarations_fit (units.ReadsDeclarations.more {n = n} {is = is} {ds = ds} d e) h = let r = declarations_fit d h.1 in (r.0, subst (All DeclaredFit) (sym e) (items_fit n is ds h.0 r.1))
+
+end_fits : {ts rest : List Statement} → ReadsEnd ts rest → AreFit ts → AreFit rest
+end_fits units.ReadsEnd.ended h = h.1
+end_fits units.ReadsEnd.returned h = h.1.1
+
+unit_fits : {ts rest : List Statement} {p : Procedure} → ReadsUnit ts rest p → AreFit ts → AreFit rest × FitsProcedure p
+unit_fits (units.ReadsUnit.unit i d b e) h =
+    let s = declarations_fit d (implicit_fits i h.1) in
+    let r = body_fits b s.0 in
+    (end_fits e r.0, record { declarations = s.1; body = r.1 })
+
+pub units_fit : {ts : List Statement} {ps : List Procedure} → ReadsUnits ts ps → AreFit ts → Fits ps
+units_fit units.ReadsUnits.none h = all_nil FitsProcedure
+units_fit (units.ReadsUnits.more {p = p} {ps = ps} u us) h = let r = unit_fits u h in all_cons FitsProcedure p ps r.1 (units_fit us r.0)

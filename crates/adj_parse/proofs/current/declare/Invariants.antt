@@ -1,0 +1,8 @@
+use Rattle.std.proofs.Common.{◌≡◌, ◌++◌, map}
+use Rattle.adj_tree.specs.View.{declaration_of}
+use Rattle.adj_text.specs.Unit as unit
+use Rattle.adj_parse.specs.View.{item_of}
+use Rattle.adj_parse.proofs.current.declare.Given as goal
+
+abbrev pub invariant-loop-item : goal.invariant-loop-item
+invariant-loop-item l = map declaration_of l.decls.items ≡ map declaration_of l.fn.decls.items ++ map (unit.declaration_of l.line) (map item_of l.yielded)

@@ -1,0 +1,108 @@
+-- Trees: the program that statements are, or their first fault.
+use Rattle.std.specs.Prelude.{◌≡◌, ℕ, ◌-◌, ◌==◌, nat_le, Bool, true, false, not, ◌&&◌, ◌||◌, List, [], ◌∷◌, length, Option, Some, None, is_none, unwrap_or, Result, Ok, Err, ◌⊎◌, if◌then◌else◌}
+use Rattle.adj_tree.specs.Code.{Procedure}
+use Rattle.adj_tree.specs.declared.fault.Refusal.{Refusal}
+use Rattle.adj_expression.specs.declared.flaw.Flaw.{Flaw}
+use Rattle.adj_expression.specs.declared.flaw.Flaw.TheVariants.{Large, Deep, Exponent}
+use Rattle.adj_text.specs.Form.{Form}
+use Rattle.adj_text.specs.Limits.{limits_of}
+use Rattle.adj_text.specs.Refused.{◌>>=◌, refused, limited}
+use Rattle.adj_text.specs.Stated.{statements_of}
+use Rattle.adj_text.specs.Word.{words_of}
+use Rattle.adj_text.specs.declared.mode.Mode.{Mode}
+use Rattle.adj_text.specs.declared.mode.Mode.TheVariants.{Source, Run}
+use Rattle.adj_text.specs.declared.stated.Kind.{Kind}
+use Rattle.adj_text.specs.declared.stated.Kind.TheVariants.{Do}
+use Rattle.adj_text.specs.declared.stated.Stated.{Stated}
+use Rattle.adj_parse.specs.declared.bounds.Bounds.{Bounds}
+use Rattle.adj_parse.specs.Order.{breaks_loop, is_heading, opens_block}
+use Rattle.adj_parse.specs.Said.{said}
+use Rattle.adj_parse.specs.Unit.{Current, Units, followed, open_blocks, is_misplaced}
+
+-- these are the statements of a text
+abbrev pub IsText : Mode → List Stated → Type 0
+IsText mode stated = (bytes : List ℕ) × (statements_of (limits_of mode) bytes ≡ Ok stated)
+
+-- what bounds a text: units, statements, the depth of an expression or a condition, and the open blocks round a statement
+abbrev pub bounds_of : Mode → Bounds
+bounds_of Source = record { units = Some 2000; statements = 200000; depth = 100; nesting = 30 }
+bounds_of Run = record { units = None; statements = 4000000; depth = 120; nesting = 45 }
+
+-- the units so far, the line of the statement before, and how many more statements the text may have
+pub record State : Type 0 where
+  pub units : Units
+  pub line : ℕ
+  pub room : ℕ
+
+-- before the first statement
+abbrev pub start : Mode → State
+start mode = record { units = record { done = []; current = None }; line = 0; room = (bounds_of mode).statements }
+
+abbrev pub is_do : Kind → Bool
+is_do Do = true
+is_do kind = false
+
+-- a directive before another statement than a DO
+abbrev pub is_unled : Stated → Bool
+is_unled t = not (t.mark == 0) && not (is_do t.kind)
+
+-- whether a statement has a literal above the greatest word, or too deep an expression
+abbrev pub is_large : {A : Type 0} → Option (Result A Flaw) → Bool
+is_large (Some (Err Large)) = true
+is_large found = false
+
+abbrev pub is_deep : {A : Type 0} → Option (Result A Flaw) → Bool
+is_deep (Some (Err Deep)) = true
+is_deep found = false
+
+abbrev pub is_full : Option ℕ → ℕ → Bool
+is_full None n = false
+is_full (Some limit) n = nat_le limit n
+
+-- what a statement says; where there is no other fault it may still have a bad exponent
+abbrev pub with_form : {A : Type 0} → Option (Result A Flaw) → ℕ → Result A Refusal
+with_form (Some (Ok f)) line = Ok f
+with_form found line = refused 25 line
+
+-- what the next statement says, or the first limit that it passes
+abbrev pub limited_by : {A : Type 0} → Bounds → State → Stated → Option (Result A Flaw) → Result A Refusal
+limited_by bounds s t found =
+    if is_heading t.kind && is_full bounds.units (length s.units.done) then limited (unwrap_or bounds.units 0) t.line
+    else (if s.room == 0 then limited bounds.statements t.line
+    else (if is_deep found then limited bounds.depth t.line
+    else (if opens_block t.kind && nat_le bounds.nesting (length (open_blocks s.units.current)) then limited bounds.nesting t.line
+    else with_form found t.line)))
+
+-- what the next statement says, or its first fault
+abbrev pub checked : {A : Type 0} → Bounds → State → Stated → Option (Result A Flaw) → Result A Refusal
+checked bounds s t found =
+    if is_unled t then refused 20 t.mark_line
+    else (if is_none found || is_misplaced t.kind s.units.current then refused 4 t.line
+    else (if is_large found then refused 5 t.line
+    else (if breaks_loop t.kind t.label (open_blocks s.units.current) then refused 10 t.line
+    else limited_by bounds s t found)))
+
+-- behind the next statement, which says this
+abbrev pub behind : State → Stated → Form → State
+behind s t f = record { units = followed s.units.done s.units.current t.line t.label f; line = t.line; room = s.room - 1 }
+
+-- the next statement is read, or refused
+unfoldable pub follow : Mode → State → Stated → Result State Refusal
+follow mode s t = checked (bounds_of mode) s t (said (bounds_of mode).depth t.mark t.kind (words_of t.text t.tokens)) >>= λ f. Ok (behind s t f)
+
+-- no statement is left: in a unit this is a fault of the last
+abbrev pub finish : List Procedure → Option Current → ℕ → Result (List Procedure) Refusal
+finish done None line = Ok done
+finish done (Some c) line = refused 4 line
+
+unfoldable pub trees_from : Mode → State → List Stated → Result (List Procedure) Refusal
+trees_from mode s [] = finish s.units.done s.units.current s.line
+trees_from mode s (t ∷ ts) = follow mode s t >>= λ next. trees_from mode next ts
+
+-- a refusal of a literal or for a limit
+abbrev pub IsBeyond : {A : Type 0} → Result A Refusal → Type 0
+IsBeyond r = (e : Refusal) × (r ≡ Err e) × ((e.code ≡ 5) ⊎ (e.code ≡ 21))
+
+-- the units of a text, or the first fault of its statements
+abbrev pub trees_of : Mode → List Stated → Result (List Procedure) Refusal
+trees_of mode stated = trees_from mode (start mode) stated

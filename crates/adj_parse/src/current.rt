@@ -1,0 +1,113 @@
+//! The unit that is being read.
+
+ghost use Rattle.std.specs.Prelude.{◌≡◌, ◌++◌, map, not, ◌&&◌, ◌||◌, OnOk, IfOk};
+ghost use Rattle.adj_tree.specs.View.{declaration_of, procedure_of};
+ghost use Rattle.adj_text.specs.Unit as unit;
+ghost use Rattle.adj_parse.specs.Order.{may_follow, suits, leaves_loop};
+ghost use Rattle.adj_parse.specs.Unit.{begun, finished, continued};
+ghost use Rattle.adj_parse.specs.CurrentView.{current_of};
+ghost use Rattle.adj_parse.specs.View.{item_of, form_of};
+
+use crate::nest::Nest;
+use crate::phase::Phase;
+use crate::said::{Item, Said};
+use adj_text::Kind;
+use adj_tree::{Decl, Decls, Memory, Name, NameList, Unit};
+use std::alloc::Global;
+
+/// A unit before its END.
+#[derive(Drop)]
+pub(crate) struct Current {
+    line: u32,
+    name: Name,
+    dummies: NameList,
+    none: bool,
+    decls: Vec<Decl>,
+    phase: Phase,
+    pub nest: Nest,
+}
+
+// Adds the declarations of an INTEGER statement.
+fn declare(decls: &mut Vec<Decl>, line: u32, items: Vec<Item>) -> Result<(), Memory>
+    ensures { OnOk result (map declaration_of decls.new.items ≡ map declaration_of decls.old.items ++ map (unit.declaration_of line) (map item_of items.items)) }
+{
+    for item in items {
+        decls.push(Decl {
+            line,
+            name: item.name,
+            extents: item.extents,
+        })?;
+    }
+    Ok(())
+}
+
+impl Current {
+    /// A unit behind its SUBROUTINE.
+    pub(crate) fn new(alloc: Global, line: u32, name: Name, dummies: NameList) -> Current
+        ensures { current_of result ≡ begun line name dummies }
+    {
+        Current {
+            line,
+            name,
+            dummies,
+            none: false,
+            decls: Vec::new(alloc),
+            phase: Phase::Heading,
+            nest: Nest::new(alloc),
+        }
+    }
+
+    /// Whether a statement of this class may stand here, if only by closing a block round a loop with a label.
+    pub(crate) fn admits(&self, kind: Kind) -> bool
+        ensures { result ≡ (may_follow kind (current_of self.now).phase && (suits kind (current_of self.now).nest.blocks || leaves_loop kind (current_of self.now).nest.blocks)) }
+    {
+        self.phase.admits(kind) && (self.nest.suits(kind) || self.nest.leaves_loop(kind))
+    }
+
+    /// Takes another statement of this line and label than SUBROUTINE and END, with the snapshots of the directive before it.
+    pub(crate) fn follow(
+        &mut self,
+        alloc: Global,
+        line: u32,
+        label: u32,
+        mark: u32,
+        said: Said,
+    ) -> Result<(), Memory>
+        ensures { OnOk result (current_of self.new ≡ continued (current_of self.old) line label (form_of mark said)) }
+    {
+        match said {
+            Said::ImplicitNone => {
+                self.none = true;
+                self.phase = Phase::Declaring;
+                Ok(())
+            }
+            Said::Integers(items) => {
+                self.phase = Phase::Declaring;
+                declare(&mut self.decls, line, items)
+            }
+            Said::Return => {
+                self.phase = Phase::Leaving;
+                Ok(())
+            }
+            said => {
+                self.phase = Phase::Acting;
+                self.nest.follow(alloc, line, label, mark, said)
+            }
+        }
+    }
+
+    /// The unit at its END.
+    pub(crate) fn finished(self, alloc: Global) -> Result<Unit, Memory>
+        ensures { IfOk result (λ u. procedure_of u ≡ finished (current_of self)) }
+    {
+        let body = self.nest.into_body(alloc)?;
+        Ok(Unit {
+            line: self.line,
+            name: self.name,
+            dummies: self.dummies,
+            none: self.none,
+            decls: Decls::new(self.decls),
+            body,
+        })
+    }
+}

@@ -1,0 +1,27 @@
+//! Statements to trees.
+//!
+//! `program` makes the units of a text out of its statements, or gives the first fault of their grammar, their order and their limits.
+//! `said` reads one statement, and `blocks` puts statements together. The crate stands on the reader of expressions (`adj_expression`),
+//! on what texts mean (`adj_text`) and on the trees. The layer above uses the clauses of `program`.
+#![tactic(auto)]
+
+mod block;
+mod bounds;
+mod called;
+mod current;
+mod declaration;
+mod deed;
+mod flaws;
+mod heading;
+mod label;
+pub mod laws;
+mod nest;
+mod number;
+mod parser;
+mod phase;
+mod said;
+mod statement;
+mod text;
+mod words;
+
+pub use text::program;

@@ -1,0 +1,279 @@
+//! The statements of a text in order.
+
+ghost use Rattle.std.specs.Prelude.{◌≡◌, ◌==◌, ℕ, List, Some, None, nat_le, ◌&&◌, length, OnOk, option_map};
+ghost use Rattle.adj_tree.specs.Code.{Procedure};
+ghost use Rattle.adj_tree.specs.View.{procedures_of};
+ghost use Rattle.adj_text.specs.Refused.{Gives};
+ghost use Rattle.adj_expression.specs.Front.{AreSlices};
+ghost use Rattle.adj_expression.specs.View.{seen};
+ghost use Rattle.adj_parse.specs.Order.{breaks_loop, is_heading, opens_block};
+ghost use Rattle.adj_parse.specs.Unit.{followed, open_blocks, is_misplaced};
+ghost use Rattle.adj_parse.specs.Trees as trees;
+ghost use Rattle.adj_parse.specs.Trees.{is_large, is_deep, is_full, with_form, checked, behind, start, finish};
+ghost use Rattle.adj_parse.specs.CurrentView.{current_of, units_of, state_of};
+ghost use Rattle.adj_parse.specs.View.{form_of};
+
+use crate::bounds::Bounds;
+use crate::current::Current;
+use crate::said::Said;
+use crate::statement::said;
+use adj_expression::Flaw;
+use adj_text::{Kind, Mode, Stated};
+use adj_tree::{Fault, Memory, Program, Refusal, Unit, Units};
+use std::alloc::Global;
+
+/// The units so far, the line of the statement before, and how many more statements the text may have.
+#[derive(Drop)]
+pub(crate) struct Parser {
+    units: Vec<Unit>,
+    current: Option<Current>,
+    line: u32,
+    room: u32,
+}
+
+// The refusal with a code, at a line.
+fn refused(code: u8, line: u32) -> Fault
+    ensures { result ≡ Fault.Refused (record { code = code; line = line; number = 0 }) }
+{
+    Fault::Refused(Refusal {
+        code,
+        line,
+        number: 0,
+    })
+}
+
+// The refusal of what passes a limit, at a line.
+fn limited(limit: u64, line: u32) -> Fault
+    ensures { result ≡ Fault.Refused (record { code = 21; line = line; number = limit }) }
+{
+    Fault::Refused(Refusal {
+        code: 21,
+        line,
+        number: limit,
+    })
+}
+
+fn opens_block(kind: Kind) -> bool
+    ensures { result ≡ opens_block kind }
+{
+    matches!(
+        kind,
+        Kind::Do | Kind::BlockIf | Kind::LogicalIf | Kind::ElseIf
+    )
+}
+
+fn is_large(found: &Option<Result<Said, Flaw>>) -> bool
+    ensures { result ≡ is_large found.now }
+{
+    matches!(found, Some(Err(Flaw::Large)))
+}
+
+fn is_deep(found: &Option<Result<Said, Flaw>>) -> bool
+    ensures { result ≡ is_deep found.now }
+{
+    matches!(found, Some(Err(Flaw::Deep)))
+}
+
+fn with_form(found: Option<Result<Said, Flaw>>, line: u32) -> Result<Said, Fault>
+    ensures { Gives (λ said. said) result (with_form found line) }
+{
+    match found {
+        Some(Ok(said)) => Ok(said),
+        _ => Err(refused(25, line)),
+    }
+}
+
+fn is_full(limit: Option<usize>, count: usize) -> bool
+    ensures { result ≡ is_full limit count }
+{
+    match limit {
+        None => false,
+        Some(limit) => limit <= count,
+    }
+}
+
+// The unit that a statement outside of units begins.
+fn heading(alloc: Global, line: u32, said: Said) -> Option<Current>
+    ensures { (label mark : ℕ) (done : List Procedure) → followed done None line label (form_of mark said) ≡ record { done = done; current = option_map current_of result } }
+{
+    match said {
+        Said::Subroutine(name, dummies) => Some(Current::new(alloc, line, name, dummies)),
+        other => {
+            drop(other);
+            None
+        }
+    }
+}
+
+impl Parser {
+    /// Before the first statement.
+    pub(crate) fn new(alloc: Global, mode: Mode) -> Parser
+        ensures { state_of result ≡ start mode }
+    {
+        Parser {
+            units: Vec::new(alloc),
+            current: None,
+            line: 0,
+            room: Bounds::of(mode).statements,
+        }
+    }
+
+    // Whether a statement of this class can't stand here.
+    fn is_misplaced(&self, kind: Kind) -> bool
+        ensures { result ≡ is_misplaced kind (state_of self.now).units.current }
+    {
+        match &self.current {
+            None => kind != Kind::Subroutine,
+            Some(current) => !current.admits(kind),
+        }
+    }
+
+    // Whether a loop with a label doesn't end on its CONTINUE.
+    fn breaks_loop(&self, kind: Kind, label: u32) -> bool
+        ensures { result ≡ breaks_loop kind label (open_blocks (state_of self.now).units.current) }
+    {
+        match &self.current {
+            None => false,
+            Some(current) => current.nest.breaks_loop(kind, label),
+        }
+    }
+
+    // How many blocks are open.
+    fn depth(&self) -> usize
+        ensures { result ≡ length (open_blocks (state_of self.now).units.current) }
+    {
+        match &self.current {
+            None => 0,
+            Some(current) => current.nest.depth(),
+        }
+    }
+
+    // Takes a statement of a unit.
+    fn within(
+        &mut self,
+        alloc: Global,
+        current: Current,
+        line: u32,
+        label: u32,
+        mark: u32,
+        said: Said,
+    ) -> Result<(), Memory>
+        requires { self.old.current ≡ None }
+        ensures placed { OnOk result (units_of self.new.units.items self.new.current ≡ followed (state_of self.old).units.done (Some (current_of current)) line label (form_of mark said)) }
+        ensures room { self.new.room ≡ self.old.room }
+    {
+        let mut current = current;
+        match said {
+            Said::End => {
+                self.units.push(current.finished(alloc)?)?;
+                Ok(())
+            }
+            said => {
+                current.follow(alloc, line, label, mark, said)?;
+                self.current = Some(current);
+                Ok(())
+            }
+        }
+    }
+
+    // Takes a statement of this line and label, where it may stand, with the snapshots of the directive before it.
+    fn place(
+        &mut self,
+        alloc: Global,
+        line: u32,
+        label: u32,
+        mark: u32,
+        said: Said,
+    ) -> Result<(), Memory>
+        ensures placed { OnOk result (units_of self.new.units.items self.new.current ≡ followed (state_of self.old).units.done (state_of self.old).units.current line label (form_of mark said)) }
+        ensures room { self.new.room ≡ self.old.room }
+    {
+        match self.current.take() {
+            None => {
+                self.current = heading(alloc, line, said);
+                Ok(())
+            }
+            Some(current) => self.within(alloc, current, line, label, mark, said),
+        }
+    }
+
+    // What the next statement says, or the first limit that it passes.
+    fn limited_by(
+        &self,
+        bounds: Bounds,
+        stated: &Stated,
+        found: Option<Result<Said, Flaw>>,
+    ) -> Result<Said, Fault>
+        ensures { Gives (λ said. said) result (trees.limited_by bounds (state_of self.now) stated.now found) }
+    {
+        let line = stated.line;
+        if stated.kind == Kind::Subroutine && is_full(bounds.units, self.units.len()) {
+            return Err(limited(bounds.units.unwrap_or(0) as u64, line));
+        }
+        if self.room == 0 {
+            return Err(limited(u64::from(bounds.statements), line));
+        }
+        if is_deep(&found) {
+            return Err(limited(u64::from(bounds.depth), line));
+        }
+        if opens_block(stated.kind) && bounds.nesting <= self.depth() {
+            return Err(limited(bounds.nesting as u64, line));
+        }
+        with_form(found, line)
+    }
+
+    // What the next statement says, or its first fault.
+    fn checked(
+        &self,
+        bounds: Bounds,
+        stated: &Stated,
+        found: Option<Result<Said, Flaw>>,
+    ) -> Result<Said, Fault>
+        ensures { Gives (λ said. said) result (checked bounds (state_of self.now) stated.now found) }
+    {
+        if stated.mark != 0 && stated.kind != Kind::Do {
+            return Err(refused(20, stated.mark_line));
+        }
+        if found.is_none() || self.is_misplaced(stated.kind) {
+            return Err(refused(4, stated.line));
+        }
+        if is_large(&found) {
+            return Err(refused(5, stated.line));
+        }
+        if self.breaks_loop(stated.kind, stated.label) {
+            return Err(refused(10, stated.line));
+        }
+        self.limited_by(bounds, stated, found)
+    }
+
+    /// Reads the next statement, or refuses it.
+    pub(crate) fn follow(
+        &mut self,
+        alloc: Global,
+        mode: Mode,
+        stated: &Stated,
+    ) -> Result<(), Fault>
+        requires slices { AreSlices stated.now.text stated.now.tokens }
+        ensures { Gives (λ _. state_of self.new) result (trees.follow mode (state_of self.old) stated.now) }
+    {
+        let bounds = Bounds::of(mode);
+        let found = said(alloc, stated, bounds.depth)?;
+        let said = self.checked(bounds, stated, found)?;
+        self.place(alloc, stated.line, stated.label, stated.mark, said)?;
+        self.line = stated.line;
+        self.room = self.room.saturating_sub(1);
+        Ok(())
+    }
+
+    /// The units, where no unit is open.
+    pub(crate) fn finish(self) -> Result<Program, Fault>
+        ensures { Gives procedures_of result (finish (state_of self).units.done (state_of self).units.current (state_of self).line) }
+    {
+        if self.current.is_some() {
+            return Err(refused(4, self.line));
+        }
+        Ok(Program {
+            units: Units::new(self.units),
+        })
+    }
+}

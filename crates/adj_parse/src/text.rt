@@ -1,0 +1,30 @@
+//! All statements of a text.
+
+ghost use Rattle.std.specs.Prelude.{◌≡◌, List, ℕ, Ok, IfOk};
+ghost use Rattle.adj_tree.specs.View.{procedures_of};
+ghost use Rattle.adj_text.specs.Limits.{no_limits};
+ghost use Rattle.adj_text.specs.Reads.{Reads};
+ghost use Rattle.adj_text.specs.Refused.{Gives};
+ghost use Rattle.adj_text.specs.Stated.{statements_of};
+ghost use Rattle.adj_text.specs.Written.{IsWritten};
+ghost use Rattle.adj_parse.specs.Trees.{IsText, trees_of};
+
+use crate::parser::Parser;
+use adj_text::{Mode, Stated};
+use adj_tree::{Fault, Program};
+use std::alloc::Global;
+
+/// The program that the statements of a text are, or the first fault: of grammar and order (codes 4, 5, 10, 20 and 25) or of a limit (code 21).
+/// docs/LANGUAGE.md and docs/REFUSALS.md say both in words.
+pub fn program(alloc: Global, stated: &[Stated], mode: Mode) -> Result<Program, Fault>
+    requires text { IsText mode stated.now }
+    ensures exact { Gives procedures_of result (trees_of mode stated.now) }
+    ensures reads { IfOk result (λ p. (bytes : List ℕ) → statements_of no_limits bytes ≡ Ok stated.now → Reads bytes (procedures_of p)) }
+    ensures written { IfOk result (λ p. IsWritten (procedures_of p)) }
+{
+    let mut parser = Parser::new(alloc, mode);
+    for statement in stated {
+        parser.follow(alloc, mode, statement)?;
+    }
+    parser.finish()
+}
