@@ -12,3 +12,4 @@ pub mod PhraseComplete
 pub mod PhraseSound
 pub mod PhraseForms
 pub mod FormPhrases
+pub mod SaidForms

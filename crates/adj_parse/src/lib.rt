@@ -11,11 +11,12 @@ mod deed;
 mod flaws;
 mod heading;
 mod label;
-pub mod laws;
+mod laws;
 mod number;
 mod said;
 mod statement;
 mod text;
 mod words;
 
+pub use laws::statements_are_said;
 pub use text::program;
