@@ -1,12 +1,11 @@
 -- SaidForms: what a statement is found to say, in the words of the grammar of texts.
-use Rattle.std.proofs.Common.{◌≡◌, ◌⊎◌, inl, inr, ℕ, Bool, true, false, List, Option, Some, None, option_map, IfSome, Result, Ok, Err, refl, sym, ap, ◌∙◌, subst}
+use Rattle.std.proofs.Common.{◌≡◌, ◌⊎◌, inl, inr, ℕ, Bool, true, false, List, Option, Some, None, option_map, IfSome, Ok, Err, sym, ap, ◌∙◌, subst}
 use Rattle.adj_text.proofs.TermWritten.{map_some}
 use Rattle.adj_text.specs.Form.{Form, ReadsForm}
 use Rattle.adj_text.specs.Word.{Word}
 use Rattle.adj_text.specs.declared.stated.Kind.{Kind}
 use Rattle.adj_text.specs.declared.stated.Kind.TheVariants.{Do}
 use Rattle.adj_expression.specs.Judged.{judged_by}
-use Rattle.adj_expression.specs.declared.flaw.Flaw.{Flaw}
 use Rattle.adj_expression.specs.declared.flaw.Flaw.TheVariants.{Large, Deep}
 use Rattle.adj_parse.specs.Phrase.{Phrase, Says}
 use Rattle.adj_parse.specs.Phrases.{phrase_of}
