@@ -22,7 +22,8 @@ use Rattle.adj_parse.specs.Trees.{bounds_of, State, is_do, is_unled, is_large, i
 use Rattle.adj_parse.specs.Unit.{Current, followed, open_blocks, is_misplaced}
 use Rattle.adj_text.proofs.LinesMarked.{bind_ok}
 use Rattle.adj_parse.proofs.Machine.{kind_of, stands, units_of, run}
-use Rattle.adj_parse.proofs.Sayings.{said_reads, said_fits, reads_said}
+use Rattle.adj_parse.proofs.FormsFit.{said_fits}
+use Rattle.adj_parse.proofs.SaidForms.{said_reads, said_answers}
 use Rattle.adj_parse.proofs.UnitsFit.{AreFit}
 
 -- a statement stands as its form does
@@ -198,7 +199,7 @@ module _ (mode : Mode) where
   chain_comes (texts.ReadsAll.more {s = t} {ss = ts} {f = f} {ts = ss} d rest) s ps h =
       let step = run_on (stands (kind_of f) t.label s.units.current) (run (followed s.units.done s.units.current t.line t.label f) ss) h in
       let place = not_both (is_misplaced t.kind s.units.current) (breaks_loop t.kind t.label (open_blocks s.units.current)) (same_place d t.label s.units.current ∙ step.0) in
-      elim (comes mode s t (found t) f (led_form d) place.0 place.1 (reads_said (bounds_of mode).depth t.mark t.kind (words t) f d)) [
+      elim (comes mode s t (found t) f (led_form d) place.0 place.1 (said_answers (bounds_of mode).depth t.mark t.kind (words t) f d)) [
         | inl e ↦ subst (Comes ps) (sym (ap (λ r. (r >>= λ g. Ok (behind s t g)) >>= λ next. trees_from mode next ts) e)) (chain_comes rest (behind s t f) ps step.1)
         | inr (r, e, code) ↦ inr (r, ap (λ q. (q >>= λ g. Ok (behind s t g)) >>= λ next. trees_from mode next ts) e, code)
       ]

@@ -14,7 +14,7 @@ mod deed;
 mod flaws;
 mod heading;
 mod label;
-pub mod laws;
+mod laws;
 mod nest;
 mod number;
 mod parser;
@@ -24,4 +24,5 @@ mod statement;
 mod text;
 mod words;
 
+pub use laws::{one_program, statements_are_said, trees_are_derived};
 pub use text::program;
