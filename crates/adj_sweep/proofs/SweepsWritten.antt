@@ -78,8 +78,7 @@ module _ (r : Var → Var) (xs : List Key) (works temps_named : ℕ) (plains : (
   shrunk-written (bin plus a b) j o w low high = (shrunk-written a j o.1.0 w.0 low (omega arith), shrunk-written b (j + temps_in a) o.1.1 w.1 (omega arith) (omega arith))
   shrunk-written (bin minus a b) j o w low high = (shrunk-written a j o.1.0 w.0 low (omega arith), shrunk-written b (j + temps_in a) o.1.1 w.1 (omega arith) (omega arith))
   shrunk-written (bin times a b) j o w low high =
-      let m = j + temps_in a + count_of (has_own a b) in
-      (
+      let m = j + temps_in a + count_of (has_own a b) in (
         own_or-written (has_own a b) (j + temps_in a) (shrunk a j) (omega arith) (omega arith) (shrunk-written a j o.1.0 w.0 low (omega arith)),
         own_or-written (has_own b a) (m + temps_in b) (shrunk b m) (omega arith) (omega arith) (shrunk-written b m o.1.1 w.1 (omega arith) (omega arith)),
       )
