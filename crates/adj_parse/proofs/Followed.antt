@@ -99,7 +99,7 @@ comes mode s t found f led place breaks says =
     let nested = opens_block t.kind && nat_le (bounds_of mode).nesting (length (open_blocks s.units.current)) in
     let many = is_heading t.kind && is_full (bounds_of mode).units (length s.units.done) in
     let limited_first : (r : Result Form Refusal) → Comes f r → Comes f (cond many (limited (unwrap_or (bounds_of mode).units 0) t.line) (cond (s.room == 0) (limited (bounds_of mode).statements t.line) r)) =
-        λ r h. limits_or f many (unwrap_or (bounds_of mode).units 0) t.line _ (limits_or f (s.room == 0) (bounds_of mode).statements t.line r h) in
+    λ r h. limits_or f many (unwrap_or (bounds_of mode).units 0) t.line _ (limits_or f (s.room == 0) (bounds_of mode).statements t.line r h) in
     elim says [
       | inl e ↦ rw (e, led, place, breaks) (limited_first _ (limits_or f nested (bounds_of mode).nesting t.line (Ok f) (inl refl)))
       | inr (inl e) ↦ rw (e, led, place) (inr (record { code = 5; line = t.line; number = 0 }, refl, inl refl))

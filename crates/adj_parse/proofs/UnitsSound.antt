@@ -90,26 +90,30 @@ module _ (n : ℕ) (x : List ℕ) (dummies : List (List ℕ)) (ts : List Stateme
   declares p unit nest m l is rest h r =
       let e = early p unit nest (at m l (integers is) ∷ rest) h r in
       let d = e.1 in
-      let new : List Declaration = map (declaration_of m) is in
-      (e.0, record {
-        is_none = d.is_none;
-        ds = d.ds ++ new;
-        unit_is = ap (λ (u : Procedure). record { line = u.line; name = u.name; dummies = u.dummies; is_none = u.is_none; declarations = u.declarations ++ new; body = u.body }) d.unit_is;
-        us = d.us;
-        implicit = d.implicit;
-        follow = λ vs es q. subst (ReadsDeclarations d.us vs) (sym (append_assoc d.ds new es)) (d.follow vs (new ++ es) (units.ReadsDeclarations.more q refl))
-      })
+      let new : List Declaration = map (declaration_of m) is in (
+        e.0,
+        record {
+          is_none = d.is_none;
+          ds = d.ds ++ new;
+          unit_is = ap (λ (u : Procedure). record { line = u.line; name = u.name; dummies = u.dummies; is_none = u.is_none; declarations = u.declarations ++ new; body = u.body }) d.unit_is;
+          us = d.us;
+          implicit = d.implicit;
+          follow = λ vs es q. subst (ReadsDeclarations d.us vs) (sym (append_assoc d.ds new es)) (d.follow vs (new ++ es) (units.ReadsDeclarations.more q refl));
+        },
+      )
 
   forbids : (p : Phase) (unit : Procedure) (nest : Nest) (m l : ℕ) (rest : List Statement) → is_bare p ≡ true → Read p unit nest (at m l implicit_none ∷ rest) → Read Declaring (record { line = unit.line; name = unit.name; dummies = unit.dummies; is_none = true; declarations = unit.declarations; body = unit.body }) nest rest
-  forbids Heading unit nest m l rest h r =
-      (r.0, record {
-        is_none = true;
-        ds = [];
-        unit_is = ap (λ (u : Procedure). record { line = u.line; name = u.name; dummies = u.dummies; is_none = true; declarations = u.declarations; body = u.body }) r.1;
-        us = rest;
-        implicit = subst (λ us. ReadsImplicit us rest true) r.2 units.ReadsImplicit.present;
-        follow = λ vs es q. q
-      })
+  forbids Heading unit nest m l rest h r = (
+    r.0,
+    record {
+      is_none = true;
+      ds = [];
+      unit_is = ap (λ (u : Procedure). record { line = u.line; name = u.name; dummies = u.dummies; is_none = true; declarations = u.declarations; body = u.body }) r.1;
+      us = rest;
+      implicit = subst (λ us. ReadsImplicit us rest true) r.2 units.ReadsImplicit.present;
+      follow = λ vs es q. q;
+    },
+  )
   forbids Declaring unit nest m l rest h r = absurd cc
   forbids Acting unit nest m l rest h r = absurd cc
   forbids Leaving unit nest m l rest h r = absurd cc
@@ -124,7 +128,7 @@ module _ (n : ℕ) (x : List ℕ) (dummies : List (List ℕ)) (ts : List Stateme
   unit_read : {unit : Procedure} {vs ws rest : List Statement} (p : Phase) (nest : Nest) (k : ℕ) → Declared unit vs → ReadsBody [] vs ws (code_listed nest.acts) → ReadsEnd ws rest → ReadsUnit (at n k (subroutine x dummies) ∷ ts) rest (finished (record { unit = unit; phase = p; nest = nest }))
   unit_read {vs = vs} {rest = rest} p nest k d b e =
       subst (λ (u : Procedure). ReadsUnit (at n k (subroutine x dummies) ∷ ts) rest (record { line = u.line; name = u.name; dummies = u.dummies; is_none = u.is_none; declarations = u.declarations; body = code_listed nest.acts })) (sym d.unit_is)
-        (units.ReadsUnit.unit d.implicit (subst (ReadsDeclarations d.us vs) (append-nil d.ds) (d.follow vs [] units.ReadsDeclarations.none)) b e)
+      (units.ReadsUnit.unit d.implicit (subst (ReadsDeclarations d.us vs) (append-nil d.ds) (d.follow vs [] units.ReadsDeclarations.none)) b e)
 
   ends_unit : (k : ℕ) (p : Phase) (unit : Procedure) (nest : Nest) (m l : ℕ) (rest : List Statement) → (length nest.blocks == 0) ≡ true → Read p unit nest (at m l ends ∷ rest) → ReadsUnit (at n k (subroutine x dummies) ∷ ts) rest (finished (record { unit = unit; phase = p; nest = nest }))
   ends_unit k Heading unit nest m l rest e r = let a = acting Heading unit nest (at m l ends ∷ rest) refl r in unit_read Heading nest k a.1 (no_block nest.blocks nest.acts e a.2) units.ReadsEnd.ended
