@@ -1,7 +1,7 @@
 //! Statements to trees.
 //!
 //! `program` makes the units of a text out of its statements, or gives the first fault of their grammar, their order and their limits.
-//! `said` reads one statement, and `blocks` puts statements together. The crate stands on the reader of expressions (`adj_expression`),
+//! `said` reads one statement, and `parser` puts statements together. The crate stands on the reader of expressions (`adj_expression`),
 //! on what texts mean (`adj_text`) and on the trees. The layer above uses the clauses of `program`.
 #![tactic(auto)]
 
