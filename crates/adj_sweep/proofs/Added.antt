@@ -1,5 +1,5 @@
 -- Lists in which no name stands twice, in place of lists with the same names.
-use Rattle.std.proofs.Common.{◌≡◌, ℕ, zero, suc, ◌+◌, ◌-◌, ◌<◌, ◌≤◌, Bool, true, false, List, [], ◌∷◌, ◌++◌, length, refl, sym, ap, ◌∙◌, subst, arith, append_assoc, append-nil, if◌then◌else◌}
+use Rattle.std.proofs.Common.{◌≡◌, ℕ, zero, suc, Bool, true, false, List, [], ◌∷◌, ◌++◌, length, refl, sym, ap, ◌∙◌, subst, append_assoc, append-nil, if◌then◌else◌}
 use Rattle.std.specs.Prelude.{◌||◌}
 use Rattle.adj_tree.specs.Code.{Var, name_eq}
 use Rattle.adj_tree.proofs.Names.{name_refl, name_same}

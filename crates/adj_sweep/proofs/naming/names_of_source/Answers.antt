@@ -1,4 +1,4 @@
-use Rattle.std.proofs.Common.{◌≡◌, [], map, flat_map, ap, ◌∙◌, sym}
+use Rattle.std.proofs.Common.{[], map, flat_map, ap, ◌∙◌, sym}
 use Rattle.adj_tree.specs.View.{procedure_of, procedures_of}
 use Rattle.adj_transpose.specs.Program.{variables, unit_name}
 use Rattle.adj_sweep.specs.Sets.{all_added}

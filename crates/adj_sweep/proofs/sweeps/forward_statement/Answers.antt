@@ -1,5 +1,5 @@
 use Rattle.std.proofs.Common.{◌≡◌, sym, ap, ◌∙◌}
-use Rattle.adj_tree.specs.Code.{Code, Act, plain, assign, runtime, push_word, step}
+use Rattle.adj_tree.specs.Code.{Act, plain, assign, runtime, push_word, step}
 use Rattle.adj_tree.specs.View.{act_of, term_of, terms_of}
 use Rattle.adj_meaning.specs.Append.{◌+++◌}
 use Rattle.adj_transpose.specs.Emit.{forward_act}
