@@ -18,7 +18,8 @@ use Rattle.adj_expression.specs.Judged.{has_large, test_large}
 use Rattle.adj_parse.specs.Phrase as phrases
 use Rattle.adj_parse.specs.Phrase.{Deed, assigns, calls, Size, numbered, named, Declared, Bounds, Phrase, plainly, declares, does, guards, repeats, opens, turns, SaysDo, Says}
 use Rattle.adj_parse.specs.Said.{list_large, deed_large, size_large, item_large, step_large, bounds_large, phrase_large, list_trees, act, extent, item, step_tree, range, form, phrase_deep, judged_phrase, said}
-use Rattle.adj_parse.proofs.TermsFit.{neither, tree_fits, trees_fit, test_fits, called_fits}
+use Rattle.adj_parse.proofs.Truths.{neither}
+use Rattle.adj_parse.proofs.TermsFit.{tree_fits, trees_fit, test_fits, called_fits}
 use Rattle.adj_expression.specs.Judged.{judged_by}
 use Rattle.adj_parse.specs.Phrases.{phrase_of}
 use Rattle.adj_parse.proofs.PhraseSound.{phrase_said}

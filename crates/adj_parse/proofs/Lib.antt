@@ -13,6 +13,7 @@ pub mod PhraseSound
 pub mod PhraseForms
 pub mod FormPhrases
 pub mod SaidForms
+pub mod Truths
 pub mod Machine
 pub mod BlocksComplete
 pub mod UnitsComplete

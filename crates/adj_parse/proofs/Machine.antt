@@ -44,6 +44,11 @@ unfoldable pub run : Units → List Statement → Option (List Procedure)
 run u [] = units_of u.done u.current
 run u (at n l f ∷ ts) = cond (stands (kind_of f) l u.current) (run (followed u.done u.current n l f) ts) None
 
+-- a statement that let the machine go on
+pub picked : {ps : List Procedure} (b : Bool) (x : Option (List Procedure)) → cond b x None ≡ Some ps → (b ≡ true) × (x ≡ Some ps)
+picked true x h = (refl, h)
+picked false x h = absurd cc
+
 -- the labels of blocks as the grammar has them: the IFs of a chain of ELSE IFs are one block
 abbrev pub labels_before : Part → List ℕ → List ℕ
 labels_before (of_loop None r s) ls = 0 ∷ ls

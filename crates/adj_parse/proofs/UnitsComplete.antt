@@ -94,7 +94,7 @@ nothing = record { done = []; current = None }
 pub units_run : {ts : List Statement} {ps : List Procedure} → ReadsUnits ts ps → run nothing ts ≡ Some ps
 units_run r = units_follow r []
 
-some_same : (a b : List Procedure) → Some a ≡ Some b → a ≡ b
+pub some_same : (a b : List Procedure) → Some a ≡ Some b → a ≡ b
 some_same a b h = cc
 
 pub one_units : {ts : List Statement} {ps qs : List Procedure} → ReadsUnits ts ps → ReadsUnits ts qs → ps ≡ qs

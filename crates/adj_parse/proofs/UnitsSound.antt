@@ -1,5 +1,5 @@
 -- What the machine makes of statements as units is derived by the grammar.
-use Rattle.std.proofs.Common.{◌≡◌, ℕ, Bool, true, false, cond, List, [], ◌∷◌, ◌++◌, length, map, Option, Some, None, refl, sym, ap, subst, ◌∙◌, arith}
+use Rattle.std.proofs.Common.{◌≡◌, ℕ, Bool, true, false, List, [], ◌∷◌, ◌++◌, length, map, Some, refl, sym, ap, subst, ◌∙◌, arith}
 use Rattle.std.proofs.lemmas.Bool.{eqb-true}
 use Rattle.std.proofs.lemmas.List.{append_assoc, append-nil}
 use Rattle.std.specs.Prelude.{◌==◌, ◌&&◌, ◌||◌, not}
@@ -16,18 +16,14 @@ use Rattle.adj_parse.specs.declared.phase.Phase.TheVariants.{Heading, Declaring,
 use Rattle.adj_parse.specs.Blocks.{Acts, Block, Nest, no_blocks, acted}
 use Rattle.adj_parse.specs.Order.{is_bare, is_early, is_left, may_follow, suits, leaves_loop, breaks_loop}
 use Rattle.adj_parse.specs.Unit.{Current, finished, followed}
-use Rattle.adj_parse.proofs.Machine.{kind_of, stands, run}
+use Rattle.adj_parse.proofs.Machine.{picked, kind_of, stands, run}
 use Rattle.adj_parse.proofs.BlocksComplete.{is_executable}
 use Rattle.adj_parse.proofs.BlocksSound.{Holds, at_start, whole_body, steps}
-use Rattle.adj_parse.proofs.UnitsComplete.{in_phase, between, nothing}
+use Rattle.adj_parse.proofs.UnitsComplete.{some_same, in_phase, between, nothing}
 
 -- units, whatever follows
 record Ahead (all rest : List Statement) (done : List Procedure) : Type 0 where
   follow : (qs : List Procedure) → ReadsUnits rest qs → ReadsUnits all (done ++ qs)
-
-picked : {ps : List Procedure} (b : Bool) (x : Option (List Procedure)) → cond b x None ≡ Some ps → (b ≡ true) × (x ≡ Some ps)
-picked true x h = (refl, h)
-picked false x h = absurd cc
 
 -- the tests that a statement of a unit has passed
 record Passed (kind : Kind) (l : ℕ) (p : Phase) (bs : List Block) : Type 0 where
@@ -138,9 +134,6 @@ module _ (n : ℕ) (x : List ℕ) (dummies : List (List ℕ)) (ts : List Stateme
 
 one_more : {all rest us : List Statement} {done : List Procedure} {p : Procedure} → Ahead all us done → ReadsUnit us rest p → Ahead all rest (done ++ p ∷ [])
 one_more {all = all} {done = done} {p = p} a u = record { follow = λ qs r. subst (ReadsUnits all) (sym (append_assoc done (p ∷ []) qs)) (a.follow (p ∷ qs) (units.ReadsUnits.more u r)) }
-
-some_same : (a b : List Procedure) → Some a ≡ Some b → a ≡ b
-some_same a b h = cc
 
 -- a statement of a unit that didn't stop the machine
 first : {ps : List Procedure} (done : List Procedure) (p : Phase) (unit : Procedure) (nest : Nest) (m l : ℕ) (f : Form) (rest : List Statement) → run (in_phase done p unit nest) (at m l f ∷ rest) ≡ Some ps →
