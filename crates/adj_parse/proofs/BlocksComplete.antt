@@ -1,8 +1,8 @@
 -- What the grammar derives as blocks is what the machine makes of the statements.
-use Rattle.std.proofs.Common.{◌≡◌, ◌≢◌, ℕ, Bool, true, false, cond, eqb, List, [], ◌∷◌, ◌++◌, Option, Some, None, refl, sym, ap, ◌∙◌}
+use Rattle.std.proofs.Common.{◌≡◌, ◌≢◌, ℕ, Bool, true, false, cond, List, [], ◌∷◌, ◌++◌, Some, None, refl, sym, ap, ◌∙◌}
 use Rattle.std.proofs.lemmas.Bool.{ne_eqb, eq-eqb}
 use Rattle.std.proofs.lemmas.List.{append_assoc, append-nil}
-use Rattle.std.specs.Prelude.{◌==◌, ◌&&◌, ◌||◌, not}
+use Rattle.std.specs.Prelude.{◌==◌, not}
 use Rattle.adj_tree.specs.Code.{Test, Act, Code, choose, stop, step, Procedure}
 use Rattle.adj_tree.specs.Listed.{code_listed}
 use Rattle.adj_text.specs.Statement.{Range}
@@ -12,14 +12,11 @@ use Rattle.adj_text.specs.Form.{Form, subroutine, implicit_none, integers, simpl
 use Rattle.adj_text.specs.declared.stated.Kind.{Kind}
 use Rattle.adj_text.specs.declared.stated.Kind.TheVariants.{Do, BlockIf, LogicalIf, Assign, Continue, EndIf, EndDo, Else, ElseIf}
 use Rattle.adj_parse.specs.declared.phase.Phase.TheVariants.{Acting}
-use Rattle.adj_parse.specs.Blocks.{Acts, Part, of_loop, of_if, of_else, of_chain, Block, ended, close_while, Nest, acted, is_chain, is_labelled}
+use Rattle.adj_parse.specs.Blocks.{Acts, Part, of_loop, of_if, of_else, of_chain, Block, close_while, Nest, acted, is_chain, is_labelled}
 use Rattle.adj_parse.specs.Order.{may_follow, has_label, innermost_is, some_is, suits, reaches_out, breaks_loop}
-use Rattle.adj_parse.specs.Unit.{Current, Units}
-use Rattle.adj_parse.proofs.Machine.{kind_of, stands, run, labels, IsBody, at_bottom, in_loop, in_if, in_else, is_open_some, innermost_labelled, close_while-other, no_chain, acts_of, listed_back}
-
-and_false : (b : Bool) → (b && false) ≡ false
-and_false true = refl
-and_false false = refl
+use Rattle.adj_parse.specs.Unit.{Units}
+use Rattle.adj_parse.proofs.Truths.{and_false, neither}
+use Rattle.adj_parse.proofs.Machine.{kind_of, stands, run, labels, IsBody, in_loop, in_if, in_else, is_open_some, innermost_labelled, close_while-other, no_chain, acts_of, listed_back}
 
 abbrev pub is_executable : Form → Bool
 is_executable (simple a) = true
@@ -41,13 +38,9 @@ breaks_none kind l bs h g = rw (h, g) (rw (and_false (innermost_is has_label bs)
 breaks_own : (l : ℕ) (bs : List Block) → innermost_is (is_labelled l) bs ≡ true → breaks_loop Continue l bs ≡ false
 breaks_own l bs h = rw (and_false (innermost_is has_label bs), h) (and_false (some_is (is_labelled l) bs))
 
-or_first : (a b : Bool) → (a || b) ≡ false → a ≡ false
-or_first true b h = absurd cc
-or_first false b h = refl
-
 innermost_none : (is_such : Part → Bool) (bs : List Block) → some_is is_such bs ≡ false → innermost_is is_such bs ≡ false
 innermost_none is_such [] h = refl
-innermost_none is_such (b ∷ bs) h = or_first (is_such b.part) (some_is is_such bs) h
+innermost_none is_such (b ∷ bs) h = (neither (is_such b.part) (some_is is_such bs) h).0
 
 abbrev pub block : ℕ → Acts → Part → Block
 block n before part = record { line = n; before = before; part = part }

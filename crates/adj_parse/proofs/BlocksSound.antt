@@ -1,7 +1,7 @@
 -- What the machine makes of statements as blocks is derived by the grammar.
-use Rattle.std.proofs.Common.{◌≡◌, ◌≢◌, ℕ, Bool, true, false, cond, eqb, List, [], ◌∷◌, ◌++◌, Option, Some, None, refl, sym, ap, subst, ◌∙◌}
+use Rattle.std.proofs.Common.{◌≡◌, ◌≢◌, ℕ, true, false, eqb, List, [], ◌∷◌, ◌++◌, Option, Some, None, refl, sym, subst, ◌∙◌}
 use Rattle.std.proofs.lemmas.Bool.{ne_eqb, eq-eqb, eqb-true, eqb-false}
-use Rattle.std.specs.Prelude.{◌==◌, ◌&&◌, ◌||◌, not}
+use Rattle.std.specs.Prelude.{◌==◌, ◌&&◌, not}
 use Rattle.adj_tree.specs.Code.{Test, Act, Code, choose, stop, step}
 use Rattle.adj_tree.specs.Listed.{code_onto, code_listed}
 use Rattle.adj_text.specs.Statement.{Range}
@@ -11,7 +11,8 @@ use Rattle.adj_text.specs.Form.{Form, subroutine, implicit_none, integers, simpl
 use Rattle.adj_text.specs.declared.stated.Kind.{Kind}
 use Rattle.adj_text.specs.declared.stated.Kind.TheVariants.{Do, BlockIf, LogicalIf, Assign, Continue, EndIf, EndDo, Else, ElseIf}
 use Rattle.adj_parse.specs.Blocks.{Acts, Part, of_loop, of_if, of_else, of_chain, Block, close_while, Nest, acted, is_chain, is_labelled}
-use Rattle.adj_parse.specs.Order.{is_continue, has_label, has_no_label, is_first, is_if, innermost_is, some_is, suits, reaches_out, leaves_loop, breaks_loop}
+use Rattle.adj_parse.specs.Order.{is_continue, has_no_label, is_first, is_if, innermost_is, some_is, suits, leaves_loop, breaks_loop}
+use Rattle.adj_parse.proofs.Truths.{and_true, neither, both, not_true}
 use Rattle.adj_parse.proofs.Machine.{kind_of, labels, IsBody, at_bottom, in_loop, in_if, in_else, is_open_some, innermost_labelled, close_while-other, no_chain, onto_last}
 use Rattle.adj_parse.proofs.BlocksComplete.{is_executable, block}
 
@@ -56,18 +57,6 @@ whole_body {total = total} {rest = rest} {acts = acts} h = from h.begun (listed 
     from : {us : List Statement} → Begun total [] us → ReadsBody [] us rest (code_listed acts) → ReadsBody [] total rest (code_listed acts)
     from from_start q = q
 
-both_first : (a b : Bool) → (a && b) ≡ true → a ≡ true
-both_first true b h = refl
-both_first false b h = absurd cc
-
-both_second : (a b : Bool) → (a && b) ≡ true → b ≡ true
-both_second true b h = h
-both_second false b h = absurd cc
-
-not_true : (b : Bool) → not b ≡ true → b ≡ false
-not_true true h = absurd cc
-not_true false h = refl
-
 module _ (total : List Statement) where
   holds_more : {bs : List Block} {us ts rest : List Statement} {n l : ℕ} {f : Form} {a : Act} {acts : Acts} → IsBody bs → Begun total bs us → is_open (labels bs) l ≡ false → Leads (labels bs) us (at n l f ∷ ts) acts → ReadsAct (labels bs) n f ts rest a → Holds total (record { blocks = bs; acts = acts ++ (n, a) ∷ [] }) rest
   holds_more {us = us} b g none h q = record { is_body = b; items = us; begun = g; leads = one_more none h q }
@@ -87,7 +76,7 @@ module _ (total : List Statement) where
   same_label : (l : ℕ) (bs : List Block) → IsBody bs → innermost_is (is_labelled l) bs ≡ true → (l ≢ 0) × (innermost (labels bs) ≡ l)
   same_label l bs b h =
       let e = sym (innermost_labelled l b) ∙ h in
-      (eqb-false l 0 (not_true (eqb l 0) (both_first _ _ e)), eqb-true (innermost (labels bs)) l (both_second _ _ e))
+      (eqb-false l 0 (not_true (eqb l 0) (both _ _ e).0), eqb-true (innermost (labels bs)) l (both _ _ e).1)
 
   other_label : (l : ℕ) (bs : List Block) → IsBody bs → l ≢ 0 → innermost_is (is_labelled l) bs ≡ false → innermost (labels bs) ≢ l
   other_label l bs b some h same =
@@ -103,8 +92,8 @@ module _ (total : List Statement) where
   label_whole same (behind_chain g none f) h = absurd cc
   label_whole same (of_do {k = None} b g none f) h = absurd cc
   label_whole {us = us} {rest = rest} {m = m} {l = l} {acts = acts} same (of_do {bs = bs} {us = vs} {n = n} {l = j} {s = s} {k = Some k} {r = r} {before = before} b g none f) h =
-      let some : l ≢ 0 = eqb-false l 0 (not_true (eqb l 0) (both_first _ _ same)) in
-      let e : k ≡ l = eqb-true k l (both_second (not (eqb l 0)) (eqb k l) same) in
+      let some : l ≢ 0 = eqb-false l 0 (not_true (eqb l 0) (both _ _ same).0) in
+      let e : k ≡ l = eqb-true k l (both (not (eqb l 0)) (eqb k l) same).1 in
       let body : ReadsBody (l ∷ labels bs) us (at m l go_on ∷ rest) (code_listed acts) = subst (λ i. ReadsBody (i ∷ labels bs) us (at m l go_on ∷ rest) (code_listed acts)) e (listed h) in
       let opens : Leads (labels bs) vs (at n j (opens_do (Some l) r s) ∷ us) before = subst (λ i. Leads (labels bs) vs (at n j (opens_do (Some i) r s) ∷ us) before) e f in
       let xs : Acts = before ++ (n, loop_of r (code_listed acts) s) ∷ [] in
@@ -141,21 +130,13 @@ module _ (total : List Statement) where
   ends_if (of_loop k r s) n before bs acts m l rest x none h = absurd cc
   ends_if (of_chain c first) n before bs acts m l rest x none h = absurd cc
 
-  or_second : (a b : Bool) → (a || b) ≡ false → b ≡ false
-  or_second true b h = absurd cc
-  or_second false b h = h
-
-  and_true : (a : Bool) → (a && true) ≡ false → a ≡ false
-  and_true true h = absurd cc
-  and_true false h = refl
-
   -- a statement that isn't a CONTINUE and breaks no loop has no open label
   no_label : (kind : Kind) (l : ℕ) (bs : List Block) → is_continue kind ≡ false → breaks_loop kind l bs ≡ false → is_open (labels bs) l ≡ false
-  no_label kind l bs x h = is_open_some bs l ∙ and_true (some_is (is_labelled l) bs) (rw x at (or_second (leaves_loop kind bs) _ h))
+  no_label kind l bs x h = is_open_some bs l ∙ and_true (some_is (is_labelled l) bs) (rw x at ((neither (leaves_loop kind bs) _ h).1))
 
   -- the label behind the innermost block
   inner_label : (b : Block) (bs : List Block) (l : ℕ) → is_open (labels (b ∷ bs)) l ≡ false → is_open (labels bs) l ≡ false
-  inner_label b bs l h = is_open_some bs l ∙ or_second (is_labelled l b.part) (some_is (is_labelled l) bs) (sym (is_open_some (b ∷ bs) l) ∙ h)
+  inner_label b bs l h = is_open_some bs l ∙ (neither (is_labelled l b.part) (some_is (is_labelled l) bs) (sym (is_open_some (b ∷ bs) l) ∙ h)).1
 
   -- a CONTINUE that breaks no loop
   continues : (bs : List Block) (acts : Acts) (m l : ℕ) (rest : List Statement) → breaks_loop Continue l bs ≡ false → Holds total (record { blocks = bs; acts = acts }) (at m l go_on ∷ rest) → Holds total (close_while (is_labelled l) bs acts) rest
@@ -163,7 +144,7 @@ module _ (total : List Statement) where
       elim (innermost_is (is_labelled l) bs) as (λ t. innermost_is (is_labelled l) bs ≡ t → Holds total (close_while (is_labelled l) bs acts) rest) [
         | true ↦ λ t. label_whole t h.begun h.leads
         | false ↦ λ t.
-            let shut : is_open (labels bs) l ≡ false = is_open_some bs l ∙ and_true (some_is (is_labelled l) bs) (rw t at (or_second (leaves_loop Continue bs) (some_is (is_labelled l) bs && not (innermost_is (is_labelled l) bs)) x)) in
+            let shut : is_open (labels bs) l ≡ false = is_open_some bs l ∙ and_true (some_is (is_labelled l) bs) (rw t at (neither (leaves_loop Continue bs) (some_is (is_labelled l) bs && not (innermost_is (is_labelled l) bs)) x).1) in
             subst (λ (nest : Nest). Holds total nest rest) (sym (close_while-other (is_labelled l) bs acts t)) (record { is_body = h.is_body; items = h.items; begun = h.begun; leads = skipped shut h.leads })
       ] refl
 

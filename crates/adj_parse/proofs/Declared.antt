@@ -1,8 +1,7 @@
 -- Declared: the items of a declaration are judged part by part.
-use Rattle.std.proofs.Common.{◌≡◌, ℕ, Bool, true, false, ◌||◌, List, [], ◌∷◌, ◌++◌, map, length, Option, Some, None, option_map, Result, Ok, Err, refl, sym, ap, ◌∙◌}
+use Rattle.std.proofs.Common.{◌≡◌, ℕ, Bool, true, false, ◌||◌, List, [], ◌∷◌, ◌++◌, map, length, Option, Some, None, option_map, Result, Ok, refl, sym, ap, ◌∙◌}
 use Rattle.std.specs.List.{list_any}
 use Rattle.std.proofs.lemmas.List.{map_push}
-use Rattle.std.proofs.lemmas.List.Folds.{list_any-append}
 use Rattle.adj_tree.specs.Code.{Extent}
 use Rattle.adj_text.specs.Machine.{chosen}
 use Rattle.adj_text.specs.Statement.{Item}
@@ -98,4 +97,3 @@ judged_items_on ws = first (read_item ws)
     first (Some i) =
         last (members with_last read_item (length i.1) (i.0 ∷ []) i.1)
         ∙ ap (λ (r : Read (Result (List Item) Flaw)). r >>= λ r. ended r.0 r.1) (sym (ap (λ (b : Result (List Item) Flaw). members with_part (λ us. read_as judged_item (read_item us)) (length i.1) b i.1) (judged_items-push [] i.0) ∙ members-seen with_last with_part read_item judged_item judged_items judged_items-push (length i.1) (i.0 ∷ []) i.1))
-

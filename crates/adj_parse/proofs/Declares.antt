@@ -1,5 +1,5 @@
 -- Declarations behind those of one more item.
-use Rattle.std.proofs.Common.{◌≡◌, ℕ, List, [], ◌∷◌, ◌++◌, map, refl, sym, ap, ◌∙◌}
+use Rattle.std.proofs.Common.{◌≡◌, ℕ, List, [], ◌∷◌, ◌++◌, map, sym, ap, ◌∙◌}
 use Rattle.std.proofs.lemmas.List.{map_push, append_assoc}
 use Rattle.adj_tree.specs.View.{declaration_of}
 use Rattle.adj_tree.specs.declared.unit.Decl.{Decl}

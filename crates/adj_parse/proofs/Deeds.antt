@@ -1,23 +1,23 @@
 -- Deeds: assignments and CALLs are judged part by part.
 use Rattle.std.proofs.Common.{◌≡◌, ℕ, Bool, true, false, ◌||◌, cond, List, [], ◌∷◌, ◌++◌, length, Option, Some, None, option_map, Result, Ok, Err, refl, sym, ap, ◌∙◌}
-use Rattle.adj_tree.specs.Code.{plain, Term, Terms, none, more, Act, assign}
+use Rattle.adj_tree.specs.Code.{plain, Term, Terms, none, more, assign}
 use Rattle.adj_tree.specs.Listed.{terms_onto, terms_listed}
 use Rattle.adj_text.specs.Grammar.{Syntax, Arguments, only, beside, with_both, tree, trees_before}
 use Rattle.adj_text.specs.Machine.{chosen}
 use Rattle.adj_text.specs.Statement.{called}
 use Rattle.adj_text.specs.Word.{Word}
 use Rattle.adj_expression.specs.Front.{front_expression}
-use Rattle.adj_expression.specs.Judged.{has_large, any_large, depth, judged, judged_by}
+use Rattle.adj_expression.specs.Judged.{has_large, any_large, judged, judged_by}
 use Rattle.adj_expression.specs.Reading.{read_expression}
 use Rattle.adj_expression.specs.View.{seen}
 use Rattle.adj_expression.specs.declared.flaw.Flaw.{Flaw}
 use Rattle.adj_parse.specs.Called.{call_of}
 use Rattle.adj_parse.specs.Flaws.{both, with_part}
-use Rattle.adj_parse.specs.Phrase.{Entry, Deed, assigns, calls}
+use Rattle.adj_parse.specs.Phrase.{Entry, assigns, calls}
 use Rattle.adj_parse.specs.Phrases.{Read, read_as, ◌>>=◌, name_at, behind_left, behind_right, behind_comma, behind_equals, are_none, ended, members, members_behind, read_arguments, second_subscript, read_subscripts, place_behind, read_place, read_assignment, actuals_in, read_actuals, read_call}
 use Rattle.adj_parse.specs.Said.{any_deep, list_large, list_deep, list_trees}
 use Rattle.adj_parse.specs.Fronts.{front_list, terms, judged_terms, front_subscripts, judged_place, front_place, judged_actuals, front_actuals, judged_deed, front_assignment, front_call}
-use Rattle.adj_parse.proofs.Judging.{seen-judged, seen-seen, joined-judged, with_part-judged}
+use Rattle.adj_parse.proofs.Judging.{seen-judged, joined-judged, with_part-judged}
 use Rattle.adj_parse.proofs.Members.{members-seen}
 use Rattle.adj_parse.proofs.Runtime.{call_of-called}
 

@@ -5,12 +5,12 @@ use Rattle.std.specs.Prelude.{◌==◌, ◌&&◌, ◌||◌, not, is_none, nat_le
 use Rattle.adj_tree.specs.Code.{Procedure}
 use Rattle.adj_tree.specs.declared.fault.Refusal.{Refusal}
 use Rattle.adj_expression.specs.declared.flaw.Flaw.{Flaw}
-use Rattle.adj_expression.specs.declared.flaw.Flaw.TheVariants.{Large, Deep, Exponent}
+use Rattle.adj_expression.specs.declared.flaw.Flaw.TheVariants.{Large, Deep}
 use Rattle.adj_text.specs.Form as forms
 use Rattle.adj_text.specs.Form.{Form, Statement, at, ReadsForm}
 use Rattle.adj_text.specs.Reads as texts
 use Rattle.adj_text.specs.Reads.{ReadsAll}
-use Rattle.adj_text.specs.Refused.{◌>>=◌, refused, limited}
+use Rattle.adj_text.specs.Refused.{◌>>=◌, limited}
 use Rattle.adj_text.specs.Word.{Word, words_of}
 use Rattle.adj_text.specs.declared.mode.Mode.{Mode}
 use Rattle.adj_text.specs.declared.stated.Kind.{Kind}
@@ -18,11 +18,13 @@ use Rattle.adj_text.specs.declared.stated.Kind.TheVariants.{Do, Assign, Call}
 use Rattle.adj_text.specs.declared.stated.Stated.{Stated}
 use Rattle.adj_parse.specs.Order.{breaks_loop, is_heading, opens_block}
 use Rattle.adj_parse.specs.Said.{said}
-use Rattle.adj_parse.specs.Trees.{bounds_of, State, is_do, is_unled, is_large, is_deep, is_full, IsBeyond, with_form, limited_by, checked, behind, follow, finish, trees_from}
-use Rattle.adj_parse.specs.Unit.{Current, Units, followed, open_blocks, is_misplaced}
+use Rattle.adj_parse.specs.Trees.{bounds_of, State, is_do, has_stray_mark, is_large, is_deep, is_full, IsBeyond, with_form, checked, behind, follow, finish, trees_from}
+use Rattle.adj_parse.specs.Unit.{Current, followed, open_blocks, is_misplaced}
 use Rattle.adj_text.proofs.LinesMarked.{bind_ok}
-use Rattle.adj_parse.proofs.Machine.{kind_of, stands, units_of, run}
-use Rattle.adj_parse.proofs.Sayings.{said_reads, said_fits, reads_said}
+use Rattle.adj_parse.proofs.Truths.{and_false, neither}
+use Rattle.adj_parse.proofs.Machine.{picked, kind_of, stands, units_of, run}
+use Rattle.adj_parse.proofs.FormsFit.{said_fits}
+use Rattle.adj_parse.proofs.SaidForms.{said_reads, said_answers}
 use Rattle.adj_parse.proofs.UnitsFit.{AreFit}
 
 -- a statement stands as its form does
@@ -57,14 +59,10 @@ with_form-ok None line f h = absurd cc
 with_form-ok (Some (Ok g)) line f h = cc
 with_form-ok (Some (Err e)) line f h = absurd cc
 
-or_second : (a b : Bool) → (a || b) ≡ false → b ≡ false
-or_second true b h = absurd cc
-or_second false b h = h
-
 -- what a statement that is let through has
 record Through (s : State) (t : Stated) (found : Option (Result Form Flaw)) (f : Form) : Type 0 where
   says : found ≡ Some (Ok f)
-  led : is_unled t ≡ false
+  led : has_stray_mark t ≡ false
   place : is_misplaced t.kind s.units.current ≡ false
   breaks : breaks_loop t.kind t.label (open_blocks s.units.current) ≡ false
 
@@ -74,7 +72,7 @@ through mode s t found f h =
     let broken = breaks_loop t.kind t.label (open_blocks s.units.current) in
     let too_many = is_heading t.kind && is_full (bounds_of mode).units (length s.units.done) in
     let too_nested = opens_block t.kind && nat_le (bounds_of mode).nesting (length (open_blocks s.units.current)) in
-    let a = let_through (is_unled t) _ _ f h in
+    let a = let_through (has_stray_mark t) _ _ f h in
     let b = let_through (is_none found || misplaced) _ _ f a.1 in
     let c = let_through (is_large found) _ _ f b.1 in
     let d = let_through broken _ _ f c.1 in
@@ -82,7 +80,7 @@ through mode s t found f h =
     let g = let_through (s.room == 0) _ _ f e.1 in
     let i = let_through (is_deep found) _ _ f g.1 in
     let j = let_through too_nested _ _ f i.1 in
-    record { says = with_form-ok found t.line f j.1; led = a.0; place = or_second (is_none found) misplaced b.0; breaks = d.0 }
+    record { says = with_form-ok found t.line f j.1; led = a.0; place = (neither (is_none found) misplaced b.0).1; breaks = d.0 }
 
 -- the answer, or a refusal of a literal or for a limit
 abbrev Comes : {A : Type 0} → A → Result A Refusal → Type 0
@@ -93,12 +91,12 @@ limits_or x true limit line r h = inr (record { code = 21; line = line; number =
 limits_or x false limit line r h = h
 
 -- what stands rightly and is derived is let through, or refused for its size
-comes : (mode : Mode) (s : State) (t : Stated) (found : Option (Result Form Flaw)) (f : Form) → is_unled t ≡ false → is_misplaced t.kind s.units.current ≡ false → breaks_loop t.kind t.label (open_blocks s.units.current) ≡ false → (found ≡ Some (Ok f)) ⊎ ((found ≡ Some (Err Large)) ⊎ (found ≡ Some (Err Deep))) → Comes f (checked (bounds_of mode) s t found)
+comes : (mode : Mode) (s : State) (t : Stated) (found : Option (Result Form Flaw)) (f : Form) → has_stray_mark t ≡ false → is_misplaced t.kind s.units.current ≡ false → breaks_loop t.kind t.label (open_blocks s.units.current) ≡ false → (found ≡ Some (Ok f)) ⊎ ((found ≡ Some (Err Large)) ⊎ (found ≡ Some (Err Deep))) → Comes f (checked (bounds_of mode) s t found)
 comes mode s t found f led place breaks says =
     let nested = opens_block t.kind && nat_le (bounds_of mode).nesting (length (open_blocks s.units.current)) in
     let many = is_heading t.kind && is_full (bounds_of mode).units (length s.units.done) in
     let limited_first : (r : Result Form Refusal) → Comes f r → Comes f (cond many (limited (unwrap_or (bounds_of mode).units 0) t.line) (cond (s.room == 0) (limited (bounds_of mode).statements t.line) r)) =
-        λ r h. limits_or f many (unwrap_or (bounds_of mode).units 0) t.line _ (limits_or f (s.room == 0) (bounds_of mode).statements t.line r h) in
+    λ r h. limits_or f many (unwrap_or (bounds_of mode).units 0) t.line _ (limits_or f (s.room == 0) (bounds_of mode).statements t.line r h) in
     elim says [
       | inl e ↦ rw (e, led, place, breaks) (limited_first _ (limits_or f nested (bounds_of mode).nesting t.line (Ok f) (inl refl)))
       | inr (inl e) ↦ rw (e, led, place) (inr (record { code = 5; line = t.line; number = 0 }, refl, inl refl))
@@ -123,12 +121,8 @@ is_do_is : (kind : Kind) → is_do kind ≡ true → kind ≡ Do
 is_do_is Do h = refl
 is_do_is kind h = absurd cc
 
-led_by : (t : Stated) → is_unled t ≡ false → (t.mark ≡ 0) ⊎ (t.kind ≡ Do)
+led_by : (t : Stated) → has_stray_mark t ≡ false → (t.mark ≡ 0) ⊎ (t.kind ≡ Do)
 led_by t h = elim (both_not (t.mark == 0) (is_do t.kind) h) [ inl e ↦ inl (eqb-true t.mark 0 e) | inr e ↦ inr (is_do_is t.kind e) ]
-
-and_false : (b : Bool) → (b && false) ≡ false
-and_false true = refl
-and_false false = refl
 
 led_form : {mark : ℕ} {kind : Kind} {ws : List Word} {f : Form} → ReadsForm mark kind ws f → (not (mark == 0) && not (is_do kind)) ≡ false
 led_form (forms.ReadsForm.heading d) = refl
@@ -155,15 +149,11 @@ ok_finish : (done : List Procedure) (current : Option Current) (line : ℕ) (ps 
 ok_finish done None line ps h = cc
 ok_finish done (Some c) line ps h = absurd cc
 
-run_on : {ps : List Procedure} (b : Bool) (x : Option (List Procedure)) → cond b x None ≡ Some ps → (b ≡ true) × (x ≡ Some ps)
-run_on true x h = (refl, h)
-run_on false x h = absurd cc
-
 module _ (mode : Mode) where
   -- each of some statements says what stands here, and its directive has its place
   pub data AllSay : List Stated → List Statement → Type 0 where
     none : AllSay [] []
-    more : {t : Stated} {ts : List Stated} {f : Form} {ss : List Statement} → said (bounds_of mode).depth t.mark t.kind (words t) ≡ Some (Ok f) → is_unled t ≡ false → AllSay ts ss → AllSay (t ∷ ts) (at t.line t.label f ∷ ss)
+    more : {t : Stated} {ts : List Stated} {f : Form} {ss : List Statement} → said (bounds_of mode).depth t.mark t.kind (words t) ≡ Some (Ok f) → has_stray_mark t ≡ false → AllSay ts ss → AllSay (t ∷ ts) (at t.line t.label f ∷ ss)
 
   pub reads_all : {ts : List Stated} {ss : List Statement} → AllSay ts ss → ReadsAll ts ss
   reads_all none = texts.ReadsAll.none
@@ -196,9 +186,9 @@ module _ (mode : Mode) where
   unfolding trees_from follow run
   chain_comes texts.ReadsAll.none s ps h = inl (ok_finish s.units.done s.units.current s.line ps h)
   chain_comes (texts.ReadsAll.more {s = t} {ss = ts} {f = f} {ts = ss} d rest) s ps h =
-      let step = run_on (stands (kind_of f) t.label s.units.current) (run (followed s.units.done s.units.current t.line t.label f) ss) h in
+      let step = picked (stands (kind_of f) t.label s.units.current) (run (followed s.units.done s.units.current t.line t.label f) ss) h in
       let place = not_both (is_misplaced t.kind s.units.current) (breaks_loop t.kind t.label (open_blocks s.units.current)) (same_place d t.label s.units.current ∙ step.0) in
-      elim (comes mode s t (found t) f (led_form d) place.0 place.1 (reads_said (bounds_of mode).depth t.mark t.kind (words t) f d)) [
+      elim (comes mode s t (found t) f (led_form d) place.0 place.1 (said_answers (bounds_of mode).depth t.mark t.kind (words t) f d)) [
         | inl e ↦ subst (Comes ps) (sym (ap (λ r. (r >>= λ g. Ok (behind s t g)) >>= λ next. trees_from mode next ts) e)) (chain_comes rest (behind s t f) ps step.1)
         | inr (r, e, code) ↦ inr (r, ap (λ q. (q >>= λ g. Ok (behind s t g)) >>= λ next. trees_from mode next ts) e, code)
       ]

@@ -1,5 +1,5 @@
 -- What the code has of the next statement, and what the definition makes of it.
-use Rattle.std.proofs.Common.{◌≡◌, ℕ, ◌-◌, Option, Result, Ok, Err, refl, sym, ap, ◌∙◌}
+use Rattle.std.proofs.Common.{◌≡◌, ℕ, ◌-◌, Option, Result, Ok, refl, sym, ap, ◌∙◌}
 use Rattle.std.specs.Prelude.{option_map}
 use Rattle.adj_tree.specs.declared.fault.Fault.{Fault}
 use Rattle.adj_tree.specs.declared.fault.Fault.TheVariants.{Memory, Refused}

@@ -1,6 +1,6 @@
 -- FormPhrases: what the grammar of texts reads of the words of a statement is the form of what they say.
 use Rattle.std.proofs.Common.{◌≡◌, ℕ, pos, List, [], ◌∷◌, map, Option, Some, None, option_map, refl, ap, ◌∙◌, arith}
-use Rattle.adj_tree.specs.Code.{Var, plain, Term, Terms, lit, none, Test, Act, assign, Extent}
+use Rattle.adj_tree.specs.Code.{Var, plain, Term, Terms, lit, Test, Act, assign, Extent}
 use Rattle.adj_text.specs.Char.{number_of}
 use Rattle.adj_text.specs.Condition.{Condition, test}
 use Rattle.adj_text.specs.Form.{Form, subroutine, implicit_none, integers, simple, logical, opens_do, opens_if, otherwise, otherwise_if, end_do, go_on, end_if, leaves, ends, ReadsForm}

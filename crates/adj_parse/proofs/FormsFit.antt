@@ -1,25 +1,28 @@
 -- What a statement says fits where none of its literals is above the greatest word.
-use Rattle.std.proofs.Common.{◌≡◌, ℕ, ◌<◌, ◌^◌, pos, Bool, true, false, cond, List, [], ◌∷◌, map, Option, Some, None, option_map, Result, Ok, Err, refl, sym, ap, subst, ◌∙◌, arith}
+use Rattle.std.proofs.Common.{◌≡◌, ℕ, ◌<◌, ◌^◌, pos, Bool, true, false, List, [], ◌∷◌, map, Option, Some, None, option_map, Ok, refl, subst, arith}
 use Rattle.std.proofs.lemmas.Bool.{leb-false}
-use Rattle.std.specs.Prelude.{nat_le, ◌||◌}
+use Rattle.std.specs.Prelude.{◌||◌}
 use Rattle.std.specs.List.{All, list_any}
-use Rattle.adj_tree.specs.Code.{Term, Terms, lit, none, Test, Act, assign, plain, Extent, fixed, given}
+use Rattle.adj_tree.specs.Code.{Term, Terms, lit, none, Act, assign, plain}
 use Rattle.adj_text.specs.Char.{number_of}
-use Rattle.adj_text.specs.Condition.{Condition, test}
+use Rattle.adj_text.specs.Condition.{test}
 use Rattle.adj_text.specs.Fits.{FitsTerm, FitsTerms, FitsAct, FitsExtent}
 use Rattle.adj_text.specs.Form.{Form, subroutine, implicit_none, integers, simple, logical, opens_do, end_do, go_on, opens_if, otherwise, otherwise_if, end_if, leaves, ends}
-use Rattle.adj_text.specs.Grammar.{Syntax, Arguments, with_both, tree, trees_before}
-use Rattle.adj_text.specs.Statement.{Item, called, Range}
+use Rattle.adj_text.specs.Grammar.{Syntax, Arguments, with_both, tree}
+use Rattle.adj_text.specs.Statement.{called, Range}
 use Rattle.adj_text.specs.Word.{Word}
 use Rattle.adj_text.specs.declared.stated.Kind.{Kind}
 use Rattle.adj_text.proofs.FormWritten.{all_nil, all_cons}
-use Rattle.adj_text.proofs.TermWritten.{map_some, then_some, both_some}
-use Rattle.adj_expression.specs.Judged.{has_large, test_large, judged_by}
-use Rattle.adj_expression.specs.declared.flaw.Flaw.{Flaw}
+use Rattle.adj_text.proofs.TermWritten.{map_some, both_some}
+use Rattle.adj_expression.specs.Judged.{has_large, test_large}
 use Rattle.adj_parse.specs.Phrase as phrases
 use Rattle.adj_parse.specs.Phrase.{Deed, assigns, calls, Size, numbered, named, Declared, Bounds, Phrase, plainly, declares, does, guards, repeats, opens, turns, SaysDo, Says}
-use Rattle.adj_parse.specs.Said.{list_large, deed_large, size_large, item_large, step_large, bounds_large, phrase_large, list_trees, act, extent, item, step_tree, range, form}
-use Rattle.adj_parse.proofs.TermsFit.{neither, tree_fits, trees_fit, test_fits, called_fits}
+use Rattle.adj_parse.specs.Said.{list_large, deed_large, size_large, item_large, step_large, bounds_large, phrase_large, list_trees, act, extent, item, step_tree, range, form, phrase_deep, judged_phrase, said}
+use Rattle.adj_parse.proofs.Truths.{neither}
+use Rattle.adj_parse.proofs.TermsFit.{tree_fits, trees_fit, test_fits, called_fits}
+use Rattle.adj_expression.specs.Judged.{judged_by}
+use Rattle.adj_parse.specs.Phrases.{phrase_of}
+use Rattle.adj_parse.proofs.PhraseSound.{phrase_said}
 use Rattle.adj_parse.proofs.UnitsFit.{FitsItems, FitsForm}
 
 list_fits : (o : Option Arguments) (ts : Terms) → list_large o ≡ false → list_trees o ≡ Some ts → FitsTerms ts
@@ -96,3 +99,18 @@ phrase_fits (phrases.Says.tests_again {c = c} g) mark f h e = let r = map_some o
 phrase_fits phrases.Says.closed mark f h e = form_is end_if f e tt
 phrase_fits phrases.Says.returned mark f h e = form_is leaves f e tt
 phrase_fits phrases.Says.ended mark f h e = form_is ends f e tt
+
+judged_ok : (large deep : Bool) (o : Option Form) (f : Form) → judged_by large deep o ≡ Ok f → (large ≡ false) × (o ≡ Some f)
+judged_ok true deep o f h = absurd cc
+judged_ok false true o f h = absurd cc
+judged_ok false false None f h = absurd cc
+judged_ok false false (Some g) f h = (refl, cc)
+
+-- what is said has only literals and extents that are words
+pub said_fits : (limit mark : ℕ) (kind : Kind) (words : List Word) (f : Form) → said limit mark kind words ≡ Some (Ok f) → FitsForm f
+unfolding said
+said_fits limit mark kind words f h =
+    let r = map_some (judged_phrase limit mark) (phrase_of kind words) (Ok f) h in
+    let says : Says kind words r.0 = rw r.1 at (phrase_said kind words) in
+    let j = judged_ok (phrase_large r.0) (phrase_deep limit r.0) (form mark r.0) f r.2 in
+    phrase_fits says mark f j.0 j.1

@@ -1,13 +1,11 @@
 -- Guards: the statements with a condition are judged part by part.
-use Rattle.std.proofs.Common.{◌≡◌, ℕ, List, [], ◌∷◌, Option, Some, None, option_map, Result, refl, ap, ◌∙◌}
-use Rattle.adj_tree.specs.Code.{Test, Act}
+use Rattle.std.proofs.Common.{◌≡◌, ℕ, List, [], ◌∷◌, Option, Some, None, option_map, refl}
 use Rattle.adj_text.specs.Condition.{Condition}
 use Rattle.adj_text.specs.Machine.{chosen}
 use Rattle.adj_text.specs.Word.{Word}
 use Rattle.adj_expression.specs.Front.{front_condition}
 use Rattle.adj_expression.specs.Judged.{judged_test}
 use Rattle.adj_expression.specs.Reading.{read_condition}
-use Rattle.adj_expression.specs.declared.flaw.Flaw.{Flaw}
 use Rattle.adj_parse.specs.Flaws.{both}
 use Rattle.adj_parse.specs.Phrase.{Deed}
 use Rattle.adj_parse.specs.Phrases.{Read, read_as, ◌>>=◌, behind_left, behind_right, behind_call, ended, read_guard, read_test, guarded_behind, read_guarded, read_logical}

@@ -5,7 +5,6 @@ use Rattle.adj_text.specs.Grammar.{with_both}
 use Rattle.adj_expression.specs.Judged.{judged_by}
 use Rattle.adj_expression.specs.View.{seen}
 use Rattle.adj_expression.specs.declared.flaw.Flaw.{Flaw}
-use Rattle.adj_expression.specs.declared.flaw.Flaw.TheVariants.{Large, Deep, Exponent}
 use Rattle.adj_parse.specs.Flaws.{both, with_part}
 
 -- of two parts

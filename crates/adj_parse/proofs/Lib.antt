@@ -12,6 +12,8 @@ pub mod PhraseComplete
 pub mod PhraseSound
 pub mod PhraseForms
 pub mod FormPhrases
+pub mod SaidForms
+pub mod Truths
 pub mod Machine
 pub mod BlocksComplete
 pub mod UnitsComplete
@@ -25,6 +27,5 @@ pub mod Following
 pub mod Passing
 pub mod TermsFit
 pub mod FormsFit
-pub mod Sayings
 pub mod Followed
 pub mod TextReads

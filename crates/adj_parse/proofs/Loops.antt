@@ -1,19 +1,18 @@
 -- Loops: the bounds of a loop are judged part by part.
-use Rattle.std.proofs.Common.{◌≡◌, ℕ, pos, Bool, true, false, ◌||◌, cond, List, [], ◌∷◌, Option, Some, None, option_map, Result, Ok, Err, refl, sym, ap, ◌∙◌}
+use Rattle.std.proofs.Common.{◌≡◌, ℕ, pos, Bool, true, false, ◌||◌, cond, List, [], ◌∷◌, Option, Some, None, option_map, Result, Ok, refl, sym, ap, ◌∙◌}
 use Rattle.adj_tree.specs.Code.{plain, Term, lit}
 use Rattle.adj_text.specs.Char.{number_of}
 use Rattle.adj_text.specs.Grammar.{Syntax, only, with_both, tree}
-use Rattle.adj_text.specs.Statement.{Range}
 use Rattle.adj_text.specs.Word.{Word}
 use Rattle.adj_expression.specs.Front.{front_expression}
-use Rattle.adj_expression.specs.Judged.{has_large, judged, judged_by}
+use Rattle.adj_expression.specs.Judged.{has_large, judged}
 use Rattle.adj_expression.specs.Reading.{read_expression}
 use Rattle.adj_expression.specs.View.{seen}
 use Rattle.adj_expression.specs.declared.flaw.Flaw.{Flaw}
 use Rattle.adj_parse.specs.Flaws.{both}
 use Rattle.adj_parse.specs.Phrase.{Bounds}
 use Rattle.adj_parse.specs.Phrases.{Read, read_as, ◌>>=◌, name_at, behind_comma, behind_equals, are_none, ended, step_behind, read_step, read_bounds, read_label, read_do}
-use Rattle.adj_parse.specs.Said.{any_deep, step_large, step_deep, step_tree, range}
+use Rattle.adj_parse.specs.Said.{any_deep, step_large, step_deep, step_tree}
 use Rattle.adj_parse.specs.Fronts.{judged_step, front_step, judged_bounds, front_bounds, front_label, judged_loop, front_do}
 use Rattle.adj_parse.proofs.Judging.{both-judged, joined-judged}
 

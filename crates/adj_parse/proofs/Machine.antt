@@ -1,5 +1,5 @@
 -- Statements that follow one another without any limit, and what their labels are to the open blocks.
-use Rattle.std.proofs.Common.{◌≡◌, ℕ, Bool, true, false, cond, eqb, List, [], ◌∷◌, ◌++◌, Option, Some, None, refl, sym, ap, ◌∙◌}
+use Rattle.std.proofs.Common.{◌≡◌, ℕ, Bool, true, false, cond, eqb, List, [], ◌∷◌, ◌++◌, Option, Some, None, refl, sym, ap}
 use Rattle.std.specs.Prelude.{◌==◌, ◌&&◌, ◌||◌, not}
 use Rattle.std.specs.List.{list_any}
 use Rattle.std.proofs.lemmas.Bool.{ne_eqb, eqb-false}
@@ -10,7 +10,7 @@ use Rattle.adj_text.specs.Block.{is_open, innermost}
 use Rattle.adj_text.specs.Form.{Form, subroutine, implicit_none, integers, simple, logical, opens_do, end_do, go_on, opens_if, otherwise, otherwise_if, end_if, leaves, ends, Statement, at}
 use Rattle.adj_text.specs.declared.stated.Kind.{Kind}
 use Rattle.adj_text.specs.declared.stated.Kind.TheVariants.{Do, BlockIf, LogicalIf, Assign, Continue, Return, End, EndIf, EndDo, Else, ImplicitNone, ElseIf, Subroutine, Integer}
-use Rattle.adj_parse.specs.Blocks.{Acts, Part, of_loop, of_if, of_else, of_chain, Block, is_chain, is_labelled, close_while, Nest}
+use Rattle.adj_parse.specs.Blocks.{Acts, Part, of_loop, of_if, of_else, of_chain, Block, is_chain, is_labelled, close_while}
 use Rattle.adj_parse.specs.Order.{innermost_is, some_is, breaks_loop}
 use Rattle.adj_parse.specs.Unit.{Current, Units, followed, open_blocks, is_misplaced}
 
@@ -43,6 +43,11 @@ units_of done (Some c) = None
 unfoldable pub run : Units → List Statement → Option (List Procedure)
 run u [] = units_of u.done u.current
 run u (at n l f ∷ ts) = cond (stands (kind_of f) l u.current) (run (followed u.done u.current n l f) ts) None
+
+-- a statement that let the machine go on
+pub picked : {ps : List Procedure} (b : Bool) (x : Option (List Procedure)) → cond b x None ≡ Some ps → (b ≡ true) × (x ≡ Some ps)
+picked true x h = (refl, h)
+picked false x h = absurd cc
 
 -- the labels of blocks as the grammar has them: the IFs of a chain of ELSE IFs are one block
 abbrev pub labels_before : Part → List ℕ → List ℕ

@@ -1,7 +1,7 @@
 -- Members: lists between commas are read one member at a time.
-use Rattle.std.proofs.Common.{◌≡◌, ◌≤◌, ◌<◌, ℕ, zero, suc, List, [], ◌∷◌, length, Option, Some, None, option_map, IfSome, refl, sym, ap, ◌∙◌, arith}
+use Rattle.std.proofs.Common.{◌≡◌, ◌≤◌, ◌<◌, ℕ, zero, suc, List, [], ◌∷◌, length, Some, None, option_map, IfSome, refl, ap, ◌∙◌, arith}
 use Rattle.adj_text.specs.Machine.{chosen}
-use Rattle.adj_text.specs.Word.{Word, Named, Digits, Mark}
+use Rattle.adj_text.specs.Word.{Word, Mark}
 use Rattle.adj_text.specs.declared.token.TokenKind.TheVariants.{Comma}
 use Rattle.adj_parse.proofs.Shorter.{Shortens}
 use Rattle.adj_parse.specs.Phrases.{Read, ◌>>=◌, behind_comma, members, members_behind}

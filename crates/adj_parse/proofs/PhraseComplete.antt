@@ -1,20 +1,20 @@
 -- PhraseComplete: what the words of a statement say is read.
-use Rattle.std.proofs.Common.{◌≡◌, ◌≤◌, ℕ, ◌+◌, List, [], ◌∷◌, ◌++◌, Option, Some, None, option_map, refl, sym, ap, ◌∙◌, append_assoc, arith}
+use Rattle.std.proofs.Common.{◌≡◌, ◌≤◌, ℕ, List, [], ◌∷◌, ◌++◌, Option, Some, None, option_map, refl, ap, ◌∙◌, append_assoc, arith}
 use Rattle.adj_text.proofs.Unique.{reads_itself}
 use Rattle.adj_text.specs.Condition.{Condition}
-use Rattle.adj_text.specs.Form.{Form, subroutine}
-use Rattle.adj_text.specs.Grammar.{Syntax, Arguments, only, beside, count_of, Symbol, Sum, Derives, literal, name, group, application, primary, power, factor, product, term, sign, sum, adds, subtracts, DerivesAll, single, another}
-use Rattle.adj_text.specs.Machine.{chosen, Stops}
+use Rattle.adj_text.specs.Form.{subroutine}
+use Rattle.adj_text.specs.Grammar.{Syntax, Arguments, only, beside, count_of, Symbol, Derives, literal, name, group, application, primary, power, factor, product, term, sign, sum, adds, subtracts, DerivesAll, single, another}
+use Rattle.adj_text.specs.Machine.{Stops}
 use Rattle.adj_text.specs.Statement.{ReadsNames, ReadsHead}
 use Rattle.adj_text.specs.Statement as statement
-use Rattle.adj_text.specs.Word.{Word, Named, Digits, Mark}
+use Rattle.adj_text.specs.Word.{Word, Named, Mark}
 use Rattle.adj_text.specs.declared.stated.Kind.{Kind}
-use Rattle.adj_text.specs.declared.token.TokenKind.TheVariants.{Left, Right, Comma, Equals}
+use Rattle.adj_text.specs.declared.token.TokenKind.TheVariants.{Right, Comma, Equals}
 use Rattle.adj_expression.proofs.ConditionUnique.{test_reads_itself}
-use Rattle.adj_expression.specs.Reading.{read_expression, read_condition}
+use Rattle.adj_expression.specs.Reading.{read_expression}
 use Rattle.adj_parse.specs.Phrase.{Entry, Deed, assigns, calls, Size, Declared, Bounds, Phrase, plainly, declares, does, guards, repeats, opens, turns, SaysPlace, SaysAssignment, SaysCall, SaysSize, SaysItem, SaysItems, SaysBounds, by_one, by_step, SaysDo, SaysGuard, guard, SaysGuarded, Says}
 use Rattle.adj_parse.specs.Phrase as says
-use Rattle.adj_parse.specs.Phrases.{Read, ◌>>=◌, name_at, digits_at, behind_left, behind_right, behind_comma, behind_equals, behind_call, ended, members_behind, with_last, read_arguments, second_subscript, read_subscripts, place_behind, read_place, read_assignment, actuals_in, read_actuals, read_call, read_names, dummies_in, read_dummies, read_head, size_at, second_size, read_sizes, item_behind, read_item, read_items, read_step, read_bounds, label_behind, without_comma, read_label, read_do, read_guard, guarded_behind, read_guarded, read_logical, read_test, phrase_of}
+use Rattle.adj_parse.specs.Phrases.{Read, ◌>>=◌, name_at, digits_at, behind_left, behind_right, behind_comma, behind_equals, behind_call, ended, members_behind, with_last, read_arguments, second_subscript, read_subscripts, read_place, read_assignment, actuals_in, read_actuals, read_call, read_names, dummies_in, read_dummies, read_head, size_at, second_size, read_sizes, item_behind, read_item, read_items, read_step, read_bounds, label_behind, without_comma, read_label, read_do, read_guard, guarded_behind, read_guarded, read_logical, read_test, phrase_of}
 use Rattle.adj_parse.proofs.Lists.{names_on}
 use Rattle.adj_parse.proofs.Members.{members_on}
 use Rattle.adj_parse.proofs.Shorter.{read_expression-shortens, read_item-shortens}

@@ -1,31 +1,21 @@
 -- PhraseForms: the form of what the words of a statement say is what the grammar of texts gives them, and the other way round.
-use Rattle.std.proofs.Common.{◌≡◌, ◌⊎◌, inl, inr, ℕ, pos, List, [], ◌∷◌, map, Option, Some, None, option_map, refl, sym, ap, ◌∙◌, subst}
-use Rattle.adj_tree.specs.Code.{Var, plain, Term, Terms, lit, none, Test, Act, assign, Extent}
+use Rattle.std.proofs.Common.{◌≡◌, ◌⊎◌, inl, inr, ℕ, pos, List, [], ◌∷◌, map, Some, None, option_map, refl, sym, ap, ◌∙◌, subst}
+use Rattle.adj_text.proofs.TermWritten.{map_some, both_some}
+use Rattle.adj_tree.specs.Code.{plain, Term, Terms, lit, none, Test, Act, assign}
 use Rattle.adj_text.specs.Char.{number_of}
-use Rattle.adj_text.specs.Condition.{Condition, test, ReadsTest}
+use Rattle.adj_text.specs.Condition.{Condition, test}
 use Rattle.adj_text.specs.Form.{Form, integers, simple, logical, opens_do, opens_if, otherwise_if, ReadsForm}
 use Rattle.adj_text.specs.Form as reads
-use Rattle.adj_text.specs.Grammar.{Syntax, Arguments, count_of, with_both, tree, trees_before, Sum, Derives}
+use Rattle.adj_text.specs.Grammar.{with_both, tree, trees_before}
 use Rattle.adj_text.specs.Statement.{Item, called, Range, ReadsPlace, ReadsAssignment, ReadsItem, ReadsItems, ReadsExtent, ReadsCall, ReadsRange, ReadsDo, ReadsGuard, ReadsGuarded}
 use Rattle.adj_text.specs.Statement as statement
 use Rattle.adj_text.specs.Word.{Word, Named, Digits, Mark}
 use Rattle.adj_text.specs.declared.stated.Kind.{Kind}
-use Rattle.adj_text.specs.declared.stated.Kind.TheVariants.{Do, BlockIf, LogicalIf, Assign, Continue, Return, End, EndIf, EndDo, Else, ImplicitNone, ElseIf, Subroutine, Integer, Call}
+use Rattle.adj_text.specs.declared.stated.Kind.TheVariants.{Do, BlockIf, LogicalIf, ElseIf}
 use Rattle.adj_text.specs.declared.token.TokenKind.TheVariants.{Left, Right, Comma, Equals}
 use Rattle.adj_parse.specs.Phrase.{Entry, Deed, assigns, calls, Size, numbered, named, Declared, Bounds, Phrase, plainly, declares, does, guards, repeats, opens, turns, SaysPlace, SaysAssignment, SaysCall, SaysSize, SaysItem, SaysItems, SaysBounds, by_one, by_step, SaysDo, SaysGuard, guard, SaysGuarded, Says}
 use Rattle.adj_parse.specs.Phrase as says
-use Rattle.adj_parse.specs.Said.{list_trees, act, extent, item, step_tree, range, form}
-
--- what stands where something was made
-map_some : {A B : Type 0} (f : A → B) (o : Option A) (y : B) → option_map f o ≡ Some y → (x : A) × (o ≡ Some x) × (f x ≡ y)
-map_some f None y h = absurd cc
-map_some f (Some x) y h = (x, refl, cc)
-
-both_some : {A B C : Type 0} (f : A → B → C) (m : Option A) (n : Option B) (y : C) → with_both (λ a b. Some (f a b)) m n ≡ Some y → (a : A) × (b : B) × (m ≡ Some a) × (n ≡ Some b) × (f a b ≡ y)
-both_some f (Some a) (Some b) y h = (a, b, refl, refl, cc)
-both_some f (Some a) None y h = absurd cc
-both_some f None (Some b) y h = absurd cc
-both_some f None None y h = absurd cc
+use Rattle.adj_parse.specs.Said.{list_trees, act, extent, item, range, form}
 
 -- places
 place_form : {ts rest : List Word} {p : Entry} → SaysPlace ts rest p → (s : Terms) → list_trees p.list ≡ Some s → ReadsPlace ts rest (plain p.name) s

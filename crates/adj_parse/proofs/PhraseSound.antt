@@ -1,10 +1,9 @@
 -- PhraseSound: what is read of a statement is what its words say.
-use Rattle.std.proofs.Common.{◌≡◌, ◌≤◌, ℕ, zero, suc, ◌+◌, List, [], ◌∷◌, ◌++◌, length, Option, Some, None, option_map, IfSome, refl, sym, ap, ◌∙◌, subst, append_assoc, append-nil, arith}
+use Rattle.std.proofs.Common.{◌≡◌, ◌≤◌, ℕ, zero, suc, List, [], ◌∷◌, ◌++◌, length, Option, Some, None, option_map, IfSome, refl, sym, ap, ◌∙◌, subst, append_assoc, append-nil, arith}
 use Rattle.adj_text.proofs.Unique.{itself_derived}
 use Rattle.adj_text.specs.Condition.{Condition, Whole, DerivesCondition}
-use Rattle.adj_text.specs.Form.{Form, subroutine}
+use Rattle.adj_text.specs.Form.{subroutine}
 use Rattle.adj_text.specs.Grammar.{Syntax, Arguments, only, beside, count_of, Sum, Derives, DerivesAll, single, another}
-use Rattle.adj_text.specs.Machine.{chosen}
 use Rattle.adj_text.specs.Statement.{ReadsNames, ReadsHead}
 use Rattle.adj_text.specs.Statement as statement
 use Rattle.adj_text.specs.Word.{Word, Named, Digits, Mark}
@@ -15,7 +14,7 @@ use Rattle.adj_expression.proofs.ConditionUnique.{test_itself_derived}
 use Rattle.adj_expression.specs.Reading.{read_expression, read_condition}
 use Rattle.adj_parse.specs.Phrase.{Entry, Deed, assigns, calls, Size, numbered, named, Declared, Bounds, Phrase, plainly, declares, does, guards, repeats, opens, turns, SaysPlace, SaysAssignment, SaysCall, SaysSize, SaysItem, SaysItems, SaysBounds, by_one, by_step, SaysDo, SaysGuard, guard, SaysGuarded, Says}
 use Rattle.adj_parse.specs.Phrase as says
-use Rattle.adj_parse.specs.Phrases.{Read, ◌>>=◌, name_at, digits_at, behind_left, behind_right, behind_comma, behind_equals, behind_call, are_none, ended, members, members_behind, with_last, read_arguments, second_subscript, read_subscripts, place_behind, read_place, read_assignment, actuals_in, read_actuals, read_call, read_names, dummies_in, read_dummies, read_head, size_at, second_size, read_sizes, item_behind, read_item, read_items, read_step, read_bounds, label_behind, without_comma, read_label, read_do, read_guard, guarded_behind, read_guarded, read_logical, read_test, phrase_of}
+use Rattle.adj_parse.specs.Phrases.{Read, ◌>>=◌, name_at, behind_right, behind_comma, behind_equals, ended, members, members_behind, with_last, read_arguments, second_subscript, read_subscripts, read_place, read_assignment, actuals_in, read_actuals, read_call, read_names, dummies_in, read_dummies, read_head, size_at, second_size, read_sizes, read_item, read_items, read_step, read_bounds, read_label, read_do, read_guard, read_guarded, read_logical, read_test, phrase_of}
 
 -- expressions separated by commas
 members_derived : (n : ℕ) (ws us : List Word) (front : Arguments) → DerivesAll ws us front → IfSome (members beside read_expression n front us) (λ r. DerivesAll ws r.1 r.0)

@@ -1,5 +1,5 @@
 -- Phrased: what a statement of each class says, judged by its parts.
-use Rattle.std.proofs.Common.{◌≡◌, ℕ, false, List, [], ◌∷◌, map, Option, Some, None, option_map, Result, Ok, refl, sym, ap, ◌∙◌}
+use Rattle.std.proofs.Common.{◌≡◌, ℕ, false, List, [], ◌∷◌, map, Option, Some, None, option_map, Ok, refl, sym, ap, ◌∙◌}
 use Rattle.std.specs.List.{list_any}
 use Rattle.adj_tree.specs.Code.{Test, Act}
 use Rattle.adj_text.specs.Condition.{Condition, test}
@@ -8,11 +8,10 @@ use Rattle.adj_text.specs.Statement.{Range}
 use Rattle.adj_text.specs.Char.{number_of}
 use Rattle.adj_text.specs.Word.{Word}
 use Rattle.adj_text.specs.declared.stated.Kind.TheVariants.{Do, BlockIf, LogicalIf, Assign, Continue, Return, End, EndIf, EndDo, Else, ImplicitNone, ElseIf, Subroutine, Integer, Call}
-use Rattle.adj_expression.specs.Judged.{judged_by, test_large, judged_test}
+use Rattle.adj_expression.specs.Judged.{test_large, judged_test}
 use Rattle.adj_expression.specs.View.{seen}
-use Rattle.adj_expression.specs.declared.flaw.Flaw.{Flaw}
-use Rattle.adj_parse.specs.Phrase.{Deed, Declared, Bounds, Phrase, plainly, declares, does, guards, repeats, opens, turns}
-use Rattle.adj_parse.specs.Phrases.{ended, phrase_of, read_head, read_items, read_assignment, read_call, read_logical, read_do, read_test}
+use Rattle.adj_parse.specs.Phrase.{Deed, Bounds, plainly, declares, does, guards, repeats, opens, turns}
+use Rattle.adj_parse.specs.Phrases.{ended, read_head, read_items, read_assignment, read_call, read_logical, read_do, read_test}
 use Rattle.adj_parse.specs.Said.{item_large, item, deed_large, deed_deep, act, bounds_large, bounds_deep, range, test_deep, judged_phrase, said}
 use Rattle.adj_parse.specs.Fronts.{judged_items, judged_deed, front_assignment, front_call, judged_logical, front_logical, judged_bounds, judged_loop, front_do, front_test}
 use Rattle.adj_parse.proofs.Judging.{seen-judged, seen-seen, joined-judged}

@@ -1,7 +1,7 @@
 -- Runtime: the actuals of the runtime's calls, by their number and form.
 use Rattle.std.proofs.Common.{◌≡◌, ℕ, Bool, true, false, cond, codes, List, [], ◌∷◌, length, map, Option, Some, None, option_map, option_and_then, refl, ap, arith}
 use Rattle.std.specs.Option.{option_or}
-use Rattle.adj_tree.specs.Code.{Var, Term, Terms, var, elem, none, more, name_eq, Runtime, push_word, pop_word, push_array, pop_array, pop_control, zero_array, count_actions, give_action, Act}
+use Rattle.adj_tree.specs.Code.{Var, Term, Terms, var, elem, none, more, name_eq, Runtime, push_word, pop_word, push_array, pop_array, pop_control, zero_array, count_actions, give_action}
 use Rattle.adj_tree.specs.Listed.{terms_listed}
 use Rattle.adj_tree.specs.View.{term_of}
 use Rattle.adj_tree.specs.declared.expr.Expr.{Expr}

@@ -1,8 +1,6 @@
 -- The chain of faults doesn't look into what a statement says.
 use Rattle.std.proofs.Common.{◌≡◌, ℕ, Bool, true, false, cond, Option, Some, None, Result, Ok, Err, refl, sym, ap, ◌∙◌}
 use Rattle.std.specs.Prelude.{◌==◌, ◌&&◌, ◌||◌, is_none, nat_le, length, unwrap_or, option_map}
-use Rattle.adj_tree.specs.declared.fault.Fault.{Fault}
-use Rattle.adj_tree.specs.declared.fault.Fault.TheVariants.{Memory, Refused}
 use Rattle.adj_tree.specs.declared.fault.Refusal.{Refusal}
 use Rattle.adj_expression.specs.View.{seen}
 use Rattle.adj_expression.specs.declared.flaw.Flaw.{Flaw}
@@ -11,7 +9,7 @@ use Rattle.adj_text.specs.Refused.{◌>>=◌, refused}
 use Rattle.adj_text.specs.declared.stated.Stated.{Stated}
 use Rattle.adj_parse.specs.declared.bounds.Bounds.{Bounds}
 use Rattle.adj_parse.specs.Order.{breaks_loop, is_heading, opens_block}
-use Rattle.adj_parse.specs.Trees.{State, is_unled, is_large, is_deep, is_full, with_form, limited_by, checked}
+use Rattle.adj_parse.specs.Trees.{State, has_stray_mark, is_large, is_deep, is_full, with_form, limited_by, checked}
 use Rattle.adj_parse.specs.Unit.{open_blocks, is_misplaced}
 
 abbrev refusal : ℕ → ℕ → ℕ → Refusal
@@ -62,5 +60,5 @@ module _ {A B : Type 0} (v : A → B) where
   checked_seen bounds s t found =
       let misplaced = is_none found || is_misplaced t.kind s.units.current in
       let broken = breaks_loop t.kind t.label (open_blocks s.units.current) in
-      rw (none_seen found, large_seen found) (ap (λ r. cond (is_unled t) (refused 20 t.mark_line) (cond misplaced (refused 4 t.line) (cond (is_large found) (refused 5 t.line) (cond broken (refused 10 t.line) r)))) (limited_seen bounds s t found)
-      ∙ sym (after_four (is_unled t) misplaced (is_large found) broken (refusal 20 t.mark_line 0) (refusal 4 t.line 0) (refusal 5 t.line 0) (refusal 10 t.line 0) (limited_by bounds s t found)))
+      rw (none_seen found, large_seen found) (ap (λ r. cond (has_stray_mark t) (refused 20 t.mark_line) (cond misplaced (refused 4 t.line) (cond (is_large found) (refused 5 t.line) (cond broken (refused 10 t.line) r)))) (limited_seen bounds s t found)
+      ∙ sym (after_four (has_stray_mark t) misplaced (is_large found) broken (refusal 20 t.mark_line 0) (refusal 4 t.line 0) (refusal 5 t.line 0) (refusal 10 t.line 0) (limited_by bounds s t found)))

@@ -1,5 +1,5 @@
 -- Shorter: what is left behind what was read is no longer than what was there.
-use Rattle.std.proofs.Common.{◌≡◌, ◌≤◌, ℕ, ◌+◌, List, [], ◌∷◌, length, Bool, true, false, cond, Option, Some, None, option_map, IfSome, ◌∙◌, arith}
+use Rattle.std.proofs.Common.{◌≤◌, ℕ, List, [], ◌∷◌, length, Bool, true, false, cond, Option, Some, None, option_map, IfSome, arith}
 use Rattle.adj_text.specs.Grammar.{Syntax}
 use Rattle.adj_text.specs.Machine.{State, step, finish, syntaxes, wanting, is_stop, chosen, stopped, read}
 use Rattle.adj_text.specs.Word.{Word, Named, Digits, Mark}
@@ -7,9 +7,9 @@ use Rattle.adj_text.specs.declared.token.TokenKind.TheVariants.{Left, Right, Com
 use Rattle.adj_expression.specs.Judged.{judged}
 use Rattle.adj_expression.specs.Reading.{read_expression}
 use Rattle.adj_expression.specs.Front.{front_expression}
-use Rattle.adj_parse.specs.Fronts.{judged_size, judged_sizes, judged_item, front_item}
-use Rattle.adj_parse.specs.Phrase.{Size, numbered, named}
-use Rattle.adj_parse.specs.Phrases.{Read, read_as, ◌>>=◌, name_at, digits_at, behind_left, behind_right, behind_comma, size_at, second_size, read_sizes, item_behind, read_item}
+use Rattle.adj_parse.specs.Fronts.{judged_item, front_item}
+use Rattle.adj_parse.specs.Phrase.{Size}
+use Rattle.adj_parse.specs.Phrases.{Read, read_as, ◌>>=◌, name_at, behind_left, behind_right, behind_comma, size_at, second_size, read_sizes, item_behind, read_item}
 
 -- what is left has at most so many words
 abbrev pub AtMost : {A : Type 0} → ℕ → Read A → Type 0

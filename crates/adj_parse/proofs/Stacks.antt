@@ -9,7 +9,7 @@ use Rattle.adj_tree.specs.Listed.{statement_of, code_listed}
 use Rattle.adj_tree.specs.declared.stmt.Stmt.{Stmt}
 use Rattle.adj_parse.specs.Blocks as blocks
 use Rattle.adj_parse.specs.Blocks.{Acts, of_loop, of_if, of_else, of_chain, turned}
-use Rattle.adj_parse.specs.Order.{innermost_is, some_is, awaits_else}
+use Rattle.adj_parse.specs.Order.{innermost_is, some_is}
 use Rattle.adj_parse.specs.NestView.{part_of, block_of, blocks_of, other_part, turn_of}
 use Rattle.adj_parse.specs.declared.block.Block.{Block}
 use Rattle.adj_parse.specs.declared.block.Turn.{Turn}

@@ -1,20 +1,16 @@
 -- Trees whose expressions have no literal above the greatest word fit.
-use Rattle.std.proofs.Common.{◌≡◌, ℕ, ◌<◌, ◌^◌, pos, Bool, true, false, List, [], ◌∷◌, map, Option, Some, None, option_map, refl, sym, ap, subst, ◌∙◌}
+use Rattle.std.proofs.Common.{◌≡◌, ℕ, ◌<◌, ◌^◌, pos, Bool, true, false, List, Option, Some, None, subst}
 use Rattle.std.proofs.lemmas.Bool.{leb-false}
-use Rattle.std.specs.Prelude.{codes, nat_le, ◌||◌, option_and_then, if◌then◌else◌}
-use Rattle.std.specs.List.{All, list_any}
-use Rattle.adj_tree.specs.Code.{Var, plain, Op, Term, Terms, lit, var, elem, neg, bin, pow, abs, none, more, name_eq, Test, compare, negation, conjunction, disjunction, Runtime, push_word, pop_word, push_array, pop_array, push_control, pop_control, zero_array, begin_reversal, count_actions, give_action, end_reversal, Act, assign, call, runtime, Extent}
+use Rattle.std.specs.Prelude.{codes, if◌then◌else◌}
+use Rattle.adj_tree.specs.Code.{Var, plain, Op, Term, Terms, lit, var, elem, neg, bin, pow, abs, none, more, name_eq, Test, compare, negation, conjunction, disjunction, Runtime, push_word, pop_word, push_array, pop_array, pop_control, zero_array}
 use Rattle.adj_text.specs.Char.{number_of}
 use Rattle.adj_text.specs.Condition.{Condition, compared, denied, both, either, test}
-use Rattle.adj_text.specs.Fits.{FitsTerm, FitsTerms, FitsTest, FitsRuntime, FitsAct, FitsExtent}
-use Rattle.adj_text.specs.Grammar.{Syntax, number, variable, negated, joined, raised, applied, Arguments, only, beside, exponent, with_both, tree, trees_before, operation_of, is_absolute, application_of, two_arguments}
+use Rattle.adj_text.specs.Fits.{FitsTerm, FitsTerms, FitsTest, FitsRuntime, FitsAct}
+use Rattle.adj_text.specs.Grammar.{Syntax, number, variable, negated, joined, raised, applied, Arguments, only, beside, exponent, tree, trees_before, operation_of, is_absolute, application_of, two_arguments}
 use Rattle.adj_text.specs.Statement.{as_place, as_name, as_value, as_beginning, as_count, as_action, as_nothing, runtime_call, called, called_as}
 use Rattle.adj_text.proofs.TermWritten.{map_some, then_some, both_some}
+use Rattle.adj_parse.proofs.Truths.{neither}
 use Rattle.adj_expression.specs.Judged.{has_large, any_large, test_large}
-
-pub neither : (a b : Bool) → (a || b) ≡ false → (a ≡ false) × (b ≡ false)
-neither true b h = absurd cc
-neither false b h = (refl, h)
 
 -- an intrinsic with its arguments, or an element
 absolute_fits : (b : Bool) (x : List ℕ) (a : Term) → FitsTerm a → FitsTerm (if b then abs a else elem (plain x) (more a none))

@@ -1,5 +1,5 @@
 -- What the chain of faults answers for a text is what the text reads as.
-use Rattle.std.proofs.Common.{◌≡◌, ℕ, List, [], ◌∷◌, Result, Ok, Err, refl, sym, ap, subst, ◌∙◌, ◌⊎◌}
+use Rattle.std.proofs.Common.{◌≡◌, ℕ, List, Result, Ok, Err, refl, subst, ◌⊎◌}
 use Rattle.std.specs.Prelude.{IfOk}
 use Rattle.adj_tree.specs.Code.{Procedure}
 use Rattle.adj_tree.specs.View.{procedures_of}
@@ -22,7 +22,7 @@ use Rattle.adj_text.proofs.ReadingWritten.{reading_written}
 use Rattle.adj_text.proofs.Unlimited.{statements_follow}
 use Rattle.adj_parse.specs.Trees.{IsText, start, trees_of, IsBeyond}
 use Rattle.adj_parse.proofs.Followed.{reads_all, all_fit, chain_runs, chain_comes}
-use Rattle.adj_parse.proofs.Sayings.{one_form}
+use Rattle.adj_parse.proofs.SaidForms.{one_form}
 use Rattle.adj_parse.proofs.UnitsComplete.{units_run, one_units}
 use Rattle.adj_parse.proofs.UnitsFit.{units_fit}
 use Rattle.adj_parse.proofs.UnitsSound.{run_reads}

@@ -1,20 +1,19 @@
 -- What the grammar derives as units is what the machine makes of the statements, and nothing else.
-use Rattle.std.proofs.Common.{◌≡◌, ℕ, Bool, true, false, cond, List, [], ◌∷◌, ◌++◌, map, Option, Some, None, refl, sym, ap, ◌∙◌}
+use Rattle.std.proofs.Common.{◌≡◌, ℕ, Bool, true, false, List, [], ◌∷◌, ◌++◌, map, Some, None, refl, sym, ap, ◌∙◌}
 use Rattle.std.proofs.lemmas.List.{append_assoc, append-nil}
-use Rattle.std.specs.Prelude.{not}
 use Rattle.adj_tree.specs.Code.{Act, Code, stop, Declaration, Procedure}
 use Rattle.adj_text.specs.Block as blocks
 use Rattle.adj_text.specs.Block.{ReadsBody, ReadsAct}
-use Rattle.adj_text.specs.Form.{Form, subroutine, implicit_none, integers, simple, logical, opens_do, end_do, go_on, opens_if, otherwise, otherwise_if, end_if, leaves, ends, Statement, at}
+use Rattle.adj_text.specs.Form.{Form, integers, Statement, at}
 use Rattle.adj_text.specs.Unit as units
 use Rattle.adj_text.specs.Unit.{ReadsImplicit, declaration_of, ReadsDeclarations, ReadsEnd, ReadsUnit, ReadsUnits}
 use Rattle.adj_parse.specs.declared.phase.Phase.{Phase}
 use Rattle.adj_parse.specs.declared.phase.Phase.TheVariants.{Heading, Declaring, Acting, Leaving}
 use Rattle.adj_parse.specs.Blocks.{Acts, Nest, no_blocks}
 use Rattle.adj_parse.specs.Order.{is_early, is_left}
-use Rattle.adj_parse.specs.Unit.{Current, Units, finished}
+use Rattle.adj_parse.specs.Unit.{Units, finished}
 use Rattle.adj_parse.proofs.Machine.{run, at_bottom, acts_of, listed_back}
-use Rattle.adj_parse.proofs.BlocksComplete.{inside, body}
+use Rattle.adj_parse.proofs.BlocksComplete.{body}
 
 module _ (done : List Procedure) where
   -- in a phase of a unit
@@ -95,7 +94,7 @@ nothing = record { done = []; current = None }
 pub units_run : {ts : List Statement} {ps : List Procedure} → ReadsUnits ts ps → run nothing ts ≡ Some ps
 units_run r = units_follow r []
 
-some_same : (a b : List Procedure) → Some a ≡ Some b → a ≡ b
+pub some_same : (a b : List Procedure) → Some a ≡ Some b → a ≡ b
 some_same a b h = cc
 
 pub one_units : {ts : List Statement} {ps qs : List Procedure} → ReadsUnits ts ps → ReadsUnits ts qs → ps ≡ qs

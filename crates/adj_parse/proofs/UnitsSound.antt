@@ -1,9 +1,9 @@
 -- What the machine makes of statements as units is derived by the grammar.
-use Rattle.std.proofs.Common.{◌≡◌, ℕ, zero, suc, Bool, true, false, cond, List, [], ◌∷◌, ◌++◌, length, map, Option, Some, None, refl, sym, ap, subst, ◌∙◌, arith}
+use Rattle.std.proofs.Common.{◌≡◌, ℕ, Bool, true, false, List, [], ◌∷◌, ◌++◌, length, map, Some, refl, sym, ap, subst, ◌∙◌, arith}
 use Rattle.std.proofs.lemmas.Bool.{eqb-true}
 use Rattle.std.proofs.lemmas.List.{append_assoc, append-nil}
 use Rattle.std.specs.Prelude.{◌==◌, ◌&&◌, ◌||◌, not}
-use Rattle.adj_tree.specs.Code.{Code, stop, Declaration, Procedure}
+use Rattle.adj_tree.specs.Code.{stop, Declaration, Procedure}
 use Rattle.adj_tree.specs.Listed.{code_listed}
 use Rattle.adj_text.specs.Block.{ReadsBody}
 use Rattle.adj_text.specs.Form.{Form, subroutine, implicit_none, integers, simple, logical, opens_do, end_do, go_on, opens_if, otherwise, otherwise_if, end_if, leaves, ends, Statement, at}
@@ -15,19 +15,15 @@ use Rattle.adj_parse.specs.declared.phase.Phase.{Phase}
 use Rattle.adj_parse.specs.declared.phase.Phase.TheVariants.{Heading, Declaring, Acting, Leaving}
 use Rattle.adj_parse.specs.Blocks.{Acts, Block, Nest, no_blocks, acted}
 use Rattle.adj_parse.specs.Order.{is_bare, is_early, is_left, may_follow, suits, leaves_loop, breaks_loop}
-use Rattle.adj_parse.specs.Unit.{Current, Units, finished, followed}
-use Rattle.adj_parse.proofs.Machine.{kind_of, stands, run}
+use Rattle.adj_parse.specs.Unit.{Current, finished, followed}
+use Rattle.adj_parse.proofs.Machine.{picked, kind_of, stands, run}
 use Rattle.adj_parse.proofs.BlocksComplete.{is_executable}
 use Rattle.adj_parse.proofs.BlocksSound.{Holds, at_start, whole_body, steps}
-use Rattle.adj_parse.proofs.UnitsComplete.{in_phase, between, nothing}
+use Rattle.adj_parse.proofs.UnitsComplete.{some_same, in_phase, between, nothing}
 
 -- units, whatever follows
 record Ahead (all rest : List Statement) (done : List Procedure) : Type 0 where
   follow : (qs : List Procedure) → ReadsUnits rest qs → ReadsUnits all (done ++ qs)
-
-picked : {ps : List Procedure} (b : Bool) (x : Option (List Procedure)) → cond b x None ≡ Some ps → (b ≡ true) × (x ≡ Some ps)
-picked true x h = (refl, h)
-picked false x h = absurd cc
 
 -- the tests that a statement of a unit has passed
 record Passed (kind : Kind) (l : ℕ) (p : Phase) (bs : List Block) : Type 0 where
@@ -90,26 +86,30 @@ module _ (n : ℕ) (x : List ℕ) (dummies : List (List ℕ)) (ts : List Stateme
   declares p unit nest m l is rest h r =
       let e = early p unit nest (at m l (integers is) ∷ rest) h r in
       let d = e.1 in
-      let new : List Declaration = map (declaration_of m) is in
-      (e.0, record {
-        is_none = d.is_none;
-        ds = d.ds ++ new;
-        unit_is = ap (λ (u : Procedure). record { line = u.line; name = u.name; dummies = u.dummies; is_none = u.is_none; declarations = u.declarations ++ new; body = u.body }) d.unit_is;
-        us = d.us;
-        implicit = d.implicit;
-        follow = λ vs es q. subst (ReadsDeclarations d.us vs) (sym (append_assoc d.ds new es)) (d.follow vs (new ++ es) (units.ReadsDeclarations.more q refl))
-      })
+      let new : List Declaration = map (declaration_of m) is in (
+        e.0,
+        record {
+          is_none = d.is_none;
+          ds = d.ds ++ new;
+          unit_is = ap (λ (u : Procedure). record { line = u.line; name = u.name; dummies = u.dummies; is_none = u.is_none; declarations = u.declarations ++ new; body = u.body }) d.unit_is;
+          us = d.us;
+          implicit = d.implicit;
+          follow = λ vs es q. subst (ReadsDeclarations d.us vs) (sym (append_assoc d.ds new es)) (d.follow vs (new ++ es) (units.ReadsDeclarations.more q refl));
+        },
+      )
 
   forbids : (p : Phase) (unit : Procedure) (nest : Nest) (m l : ℕ) (rest : List Statement) → is_bare p ≡ true → Read p unit nest (at m l implicit_none ∷ rest) → Read Declaring (record { line = unit.line; name = unit.name; dummies = unit.dummies; is_none = true; declarations = unit.declarations; body = unit.body }) nest rest
-  forbids Heading unit nest m l rest h r =
-      (r.0, record {
-        is_none = true;
-        ds = [];
-        unit_is = ap (λ (u : Procedure). record { line = u.line; name = u.name; dummies = u.dummies; is_none = true; declarations = u.declarations; body = u.body }) r.1;
-        us = rest;
-        implicit = subst (λ us. ReadsImplicit us rest true) r.2 units.ReadsImplicit.present;
-        follow = λ vs es q. q
-      })
+  forbids Heading unit nest m l rest h r = (
+    r.0,
+    record {
+      is_none = true;
+      ds = [];
+      unit_is = ap (λ (u : Procedure). record { line = u.line; name = u.name; dummies = u.dummies; is_none = true; declarations = u.declarations; body = u.body }) r.1;
+      us = rest;
+      implicit = subst (λ us. ReadsImplicit us rest true) r.2 units.ReadsImplicit.present;
+      follow = λ vs es q. q;
+    },
+  )
   forbids Declaring unit nest m l rest h r = absurd cc
   forbids Acting unit nest m l rest h r = absurd cc
   forbids Leaving unit nest m l rest h r = absurd cc
@@ -124,7 +124,7 @@ module _ (n : ℕ) (x : List ℕ) (dummies : List (List ℕ)) (ts : List Stateme
   unit_read : {unit : Procedure} {vs ws rest : List Statement} (p : Phase) (nest : Nest) (k : ℕ) → Declared unit vs → ReadsBody [] vs ws (code_listed nest.acts) → ReadsEnd ws rest → ReadsUnit (at n k (subroutine x dummies) ∷ ts) rest (finished (record { unit = unit; phase = p; nest = nest }))
   unit_read {vs = vs} {rest = rest} p nest k d b e =
       subst (λ (u : Procedure). ReadsUnit (at n k (subroutine x dummies) ∷ ts) rest (record { line = u.line; name = u.name; dummies = u.dummies; is_none = u.is_none; declarations = u.declarations; body = code_listed nest.acts })) (sym d.unit_is)
-        (units.ReadsUnit.unit d.implicit (subst (ReadsDeclarations d.us vs) (append-nil d.ds) (d.follow vs [] units.ReadsDeclarations.none)) b e)
+      (units.ReadsUnit.unit d.implicit (subst (ReadsDeclarations d.us vs) (append-nil d.ds) (d.follow vs [] units.ReadsDeclarations.none)) b e)
 
   ends_unit : (k : ℕ) (p : Phase) (unit : Procedure) (nest : Nest) (m l : ℕ) (rest : List Statement) → (length nest.blocks == 0) ≡ true → Read p unit nest (at m l ends ∷ rest) → ReadsUnit (at n k (subroutine x dummies) ∷ ts) rest (finished (record { unit = unit; phase = p; nest = nest }))
   ends_unit k Heading unit nest m l rest e r = let a = acting Heading unit nest (at m l ends ∷ rest) refl r in unit_read Heading nest k a.1 (no_block nest.blocks nest.acts e a.2) units.ReadsEnd.ended
@@ -134,9 +134,6 @@ module _ (n : ℕ) (x : List ℕ) (dummies : List (List ℕ)) (ts : List Stateme
 
 one_more : {all rest us : List Statement} {done : List Procedure} {p : Procedure} → Ahead all us done → ReadsUnit us rest p → Ahead all rest (done ++ p ∷ [])
 one_more {all = all} {done = done} {p = p} a u = record { follow = λ qs r. subst (ReadsUnits all) (sym (append_assoc done (p ∷ []) qs)) (a.follow (p ∷ qs) (units.ReadsUnits.more u r)) }
-
-some_same : (a b : List Procedure) → Some a ≡ Some b → a ≡ b
-some_same a b h = cc
 
 -- a statement of a unit that didn't stop the machine
 first : {ps : List Procedure} (done : List Procedure) (p : Phase) (unit : Procedure) (nest : Nest) (m l : ℕ) (f : Form) (rest : List Statement) → run (in_phase done p unit nest) (at m l f ∷ rest) ≡ Some ps →

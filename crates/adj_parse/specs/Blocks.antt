@@ -1,5 +1,5 @@
 -- Blocks: the open blocks of a unit, and what an executable statement makes of them.
-use Rattle.std.specs.Prelude.{ℕ, Bool, true, false, not, ◌==◌, ◌&&◌, List, [], ◌∷◌, ◌++◌, Option, Some, None, if◌then◌else◌}
+use Rattle.std.specs.Prelude.{ℕ, Bool, true, false, not, ◌==◌, ◌&&◌, List, [], ◌∷◌, ◌++◌, Option, Some, if◌then◌else◌}
 use Rattle.adj_tree.specs.Code.{Test, Act, Code, choose, stop, step}
 use Rattle.adj_tree.specs.Listed.{code_listed}
 use Rattle.adj_text.specs.Statement.{Range}

@@ -1,5 +1,5 @@
 -- NestView: what clauses see of open blocks.
-use Rattle.std.specs.Prelude.{ℕ, Bool, List, map, reverse, option_map}
+use Rattle.std.specs.Prelude.{Bool, List, map, reverse, option_map}
 use Rattle.adj_tree.specs.Code.{Test, Code}
 use Rattle.adj_tree.specs.Listed.{statement_of}
 use Rattle.adj_tree.specs.View.{test_of, code_of}

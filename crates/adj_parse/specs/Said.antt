@@ -11,7 +11,7 @@ use Rattle.adj_text.specs.Word.{Word}
 use Rattle.adj_text.specs.declared.stated.Kind.{Kind}
 use Rattle.adj_expression.specs.Judged.{has_large, any_large, depth, judged_by, test_large, test_depth}
 use Rattle.adj_expression.specs.declared.flaw.Flaw.{Flaw}
-use Rattle.adj_parse.specs.Phrase.{Entry, Deed, assigns, calls, Size, numbered, named, Declared, Bounds, Phrase, plainly, declares, does, guards, repeats, opens, turns}
+use Rattle.adj_parse.specs.Phrase.{Deed, assigns, calls, Size, numbered, named, Declared, Bounds, Phrase, plainly, declares, does, guards, repeats, opens, turns}
 use Rattle.adj_parse.specs.Phrases.{phrase_of}
 
 -- whether a literal of the expressions of a list, of a deed, of an item, of bounds or of a phrase is above the greatest word
@@ -102,7 +102,7 @@ step_tree (Some c) = tree c
 abbrev pub range : Bounds → Option Range
 range b =
     with_both (λ (ends : Term × Term) c. Some (record { counter = plain b.counter; from = ends.0; to = ends.1; by = c }))
-        (with_both (λ from to. Some (from, to)) (tree b.from) (tree b.to)) (step_tree b.by)
+    (with_both (λ from to. Some (from, to)) (tree b.from) (tree b.to)) (step_tree b.by)
 
 -- what a phrase says, with the snapshots of the directive before it, where each exponent is one
 abbrev pub form : ℕ → Phrase → Option Form

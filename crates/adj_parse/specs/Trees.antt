@@ -3,7 +3,7 @@ use Rattle.std.specs.Prelude.{◌≡◌, ℕ, ◌-◌, ◌==◌, nat_le, Bool, t
 use Rattle.adj_tree.specs.Code.{Procedure}
 use Rattle.adj_tree.specs.declared.fault.Refusal.{Refusal}
 use Rattle.adj_expression.specs.declared.flaw.Flaw.{Flaw}
-use Rattle.adj_expression.specs.declared.flaw.Flaw.TheVariants.{Large, Deep, Exponent}
+use Rattle.adj_expression.specs.declared.flaw.Flaw.TheVariants.{Large, Deep}
 use Rattle.adj_text.specs.Form.{Form}
 use Rattle.adj_text.specs.Limits.{limits_of}
 use Rattle.adj_text.specs.Refused.{◌>>=◌, refused, limited}
@@ -43,8 +43,8 @@ is_do Do = true
 is_do kind = false
 
 -- a directive before another statement than a DO
-abbrev pub is_unled : Stated → Bool
-is_unled t = not (t.mark == 0) && not (is_do t.kind)
+abbrev pub has_stray_mark : Stated → Bool
+has_stray_mark t = not (t.mark == 0) && not (is_do t.kind)
 
 -- whether a statement has a literal above the greatest word, or too deep an expression
 abbrev pub is_large : {A : Type 0} → Option (Result A Flaw) → Bool
@@ -76,7 +76,7 @@ limited_by bounds s t found =
 -- what the next statement says, or its first fault
 abbrev pub checked : {A : Type 0} → Bounds → State → Stated → Option (Result A Flaw) → Result A Refusal
 checked bounds s t found =
-    if is_unled t then refused 20 t.mark_line
+    if has_stray_mark t then refused 20 t.mark_line
     else (if is_none found || is_misplaced t.kind s.units.current then refused 4 t.line
     else (if is_large found then refused 5 t.line
     else (if breaks_loop t.kind t.label (open_blocks s.units.current) then refused 10 t.line

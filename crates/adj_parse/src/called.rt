@@ -87,10 +87,7 @@ fn begin(alloc: Global, actuals: &[Expr]) -> Result<Option<RunCall>, Memory>
     ensures { IfOk result (λ found. option_map runtime_of found ≡ as_beginning (terms_listed (map term_of actuals.now))) }
 {
     match actuals {
-        [steps, snapshots] => Ok(Some(RunCall::Begin(
-            steps.copy(alloc)?,
-            snapshots.copy(alloc)?,
-        ))),
+        [steps, snapshots] => Ok(Some(RunCall::Begin(steps.copy(alloc)?, snapshots.copy(alloc)?))),
         _ => Ok(None),
     }
 }
@@ -130,9 +127,7 @@ fn action(alloc: Global, actuals: &[Expr]) -> Result<Option<RunCall>, Memory>
     let steps = steps.copy(alloc)?;
     let snapshots = snapshots.copy(alloc)?;
     let number = number.copy(alloc)?;
-    Ok(Some(RunCall::Action(
-        steps, snapshots, number, kind, from, to,
-    )))
+    Ok(Some(RunCall::Action(steps, snapshots, number, kind, from, to)))
 }
 
 // `PUSHCONTROL1B`, where its actual is one value.

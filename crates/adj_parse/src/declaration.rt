@@ -30,10 +30,7 @@ fn literal(digits: &[u8]) -> Result<Extent, Flaw>
 
 // An extent, and what stands behind it.
 #[tactic(auto, unfolding(crate::specs::Phrases::size_at, crate::specs::Fronts::front_size))]
-fn size(
-    alloc: Global,
-    words: Words,
-) -> Result<Option<(Result<Extent, Flaw>, Words)>, Memory>
+fn size(alloc: Global, words: Words) -> Result<Option<(Result<Extent, Flaw>, Words)>, Memory>
     ensures { IfOk result (λ found. option_map (λ f. (seen extent_of f.0, words_in f.1)) found ≡ front_size (words_in words.entry)) }
 {
     if let Some((digits, rest)) = words.digits() {
@@ -57,10 +54,7 @@ fn with_extent(
 
 // The extents of an item, one or two, and what stands behind them.
 #[tactic(auto, using(crate::proofs::Declared::front_sizes_on))]
-fn sizes(
-    alloc: Global,
-    words: Words,
-) -> Result<Option<(Result<Vec<Extent>, Flaw>, Words)>, Memory>
+fn sizes(alloc: Global, words: Words) -> Result<Option<(Result<Vec<Extent>, Flaw>, Words)>, Memory>
     ensures { IfOk result (λ found. option_map (λ f. (seen (λ v. map extent_of v.items) f.0, words_in f.1)) found ≡ front_sizes (words_in words.entry)) }
 {
     let Some((first, rest)) = size(alloc, words)? else {
@@ -122,10 +116,7 @@ fn with_item(
 
 // Items separated by commas, and what stands behind them.
 #[tactic(auto, using(crate::proofs::Lists::items_on), unfolding(crate::specs::Fronts::front_list))]
-fn listed(
-    alloc: Global,
-    words: Words,
-) -> Result<Option<(Result<Vec<Item>, Flaw>, Words)>, Memory>
+fn listed(alloc: Global, words: Words) -> Result<Option<(Result<Vec<Item>, Flaw>, Words)>, Memory>
     ensures { IfOk result (λ found. option_map (λ f. (seen (λ v. map item_of v.items) f.0, words_in f.1)) found ≡ front_list front_item (words_in words.entry)) }
 {
     let Some((first, mut rest)) = item(alloc, words)? else {
@@ -144,10 +135,7 @@ fn listed(
 
 /// The items of the words behind INTEGER, or what is wrong with them.
 #[tactic(auto, using(crate::proofs::Declared::judged_items_on))]
-pub(crate) fn items(
-    alloc: Global,
-    words: Words,
-) -> Result<Option<Result<Vec<Item>, Flaw>>, Memory>
+pub(crate) fn items(alloc: Global, words: Words) -> Result<Option<Result<Vec<Item>, Flaw>>, Memory>
     ensures { IfOk result (λ found. option_map (seen (λ v. map item_of v.items)) found ≡ option_map judged_items (read_items (words_in words.entry))) }
 {
     match listed(alloc, words)? {

@@ -1,7 +1,7 @@
 //! Statements to trees.
 //!
 //! `program` makes the units of a text out of its statements, or gives the first fault of their grammar, their order and their limits.
-//! `said` reads one statement, and `blocks` puts statements together. The crate stands on the reader of expressions (`adj_expression`),
+//! `said` reads one statement, and `parser` puts statements together. The crate stands on the reader of expressions (`adj_expression`),
 //! on what texts mean (`adj_text`) and on the trees. The layer above uses the clauses of `program`.
 #![tactic(auto)]
 
@@ -14,14 +14,17 @@ mod deed;
 mod flaws;
 mod heading;
 mod label;
-pub mod laws;
+mod laws;
 mod nest;
 mod number;
 mod parser;
 mod phase;
 mod said;
 mod statement;
+#[cfg(test)]
+mod tests;
 mod text;
 mod words;
 
+pub use laws::{one_program, statements_are_said, trees_are_derived};
 pub use text::program;

@@ -193,13 +193,7 @@ impl Nest {
     }
 
     // Adds an IF with one statement.
-    fn add_guarded(
-        &mut self,
-        alloc: Global,
-        line: u32,
-        cond: Cond,
-        act: Act,
-    ) -> Result<(), Memory>
+    fn add_guarded(&mut self, alloc: Global, line: u32, cond: Cond, act: Act) -> Result<(), Memory>
         ensures { OnOk result (nest_of self.new ≡ add (nest_of self.old) line (choose (test_of cond) (step line (act_of act) stop) stop)) }
     {
         let one = Box::new(alloc, Stmt { line, act })?;

@@ -247,12 +247,7 @@ impl Parser {
     }
 
     /// Reads the next statement, or refuses it.
-    pub(crate) fn follow(
-        &mut self,
-        alloc: Global,
-        mode: Mode,
-        stated: &Stated,
-    ) -> Result<(), Fault>
+    pub(crate) fn follow(&mut self, alloc: Global, mode: Mode, stated: &Stated) -> Result<(), Fault>
         requires slices { AreSlices stated.now.text stated.now.tokens }
         ensures { Gives (λ _. state_of self.new) result (trees.follow mode (state_of self.old) stated.now) }
     {

@@ -48,11 +48,7 @@ fn guard(
 
 // A condition in parentheses up to the end.
 #[tactic(auto, using(crate::proofs::Guards::front_test_on))]
-fn test(
-    alloc: Global,
-    words: Words,
-    limit: u32,
-) -> Result<Option<Result<Cond, Flaw>>, Memory>
+fn test(alloc: Global, words: Words, limit: u32) -> Result<Option<Result<Cond, Flaw>>, Memory>
     requires { limit < 1000 }
     ensures { IfOk result (λ found. option_map (seen test_of) found ≡ front_test limit (words_in words.entry)) }
 {
@@ -64,11 +60,7 @@ fn test(
 
 // What a logical IF guards.
 #[tactic(auto, using(crate::proofs::Guards::front_guarded_on))]
-fn guarded(
-    alloc: Global,
-    words: Words,
-    limit: u32,
-) -> Result<Option<Result<Act, Flaw>>, Memory>
+fn guarded(alloc: Global, words: Words, limit: u32) -> Result<Option<Result<Act, Flaw>>, Memory>
     requires { limit < 1000 }
     ensures { IfOk result (λ found. option_map (seen act_of) found ≡ front_guarded limit (words_in words.entry)) }
 {
@@ -106,11 +98,7 @@ fn logical(
 
 // The step of a loop, 1 where it has none.
 #[tactic(auto, using(crate::proofs::Loops::front_step_on))]
-fn step(
-    alloc: Global,
-    words: Words,
-    limit: u32,
-) -> Result<Option<Result<Expr, Flaw>>, Memory>
+fn step(alloc: Global, words: Words, limit: u32) -> Result<Option<Result<Expr, Flaw>>, Memory>
     requires { limit < 1000 }
     ensures { IfOk result (λ found. option_map (seen term_of) found ≡ front_step limit (words_in words.entry)) }
 {
@@ -148,11 +136,7 @@ fn ranged(
 
 // The bounds of a loop, of the words behind its label.
 #[tactic(auto, using(crate::proofs::Loops::front_bounds_on))]
-fn bounds(
-    alloc: Global,
-    words: Words,
-    limit: u32,
-) -> Result<Option<Result<Range, Flaw>>, Memory>
+fn bounds(alloc: Global, words: Words, limit: u32) -> Result<Option<Result<Range, Flaw>>, Memory>
     requires { limit < 1000 }
     ensures { IfOk result (λ found. option_map (seen range_of) found ≡ front_bounds limit (words_in words.entry)) }
 {
@@ -228,10 +212,13 @@ pub(crate) fn said(
         Kind::Integer => Ok(items(alloc, words)?.map(|items| items.map(Said::Integers))),
         Kind::Assign => Ok(assignment(alloc, words, limit)?.map(|act| act.map(Said::Simple))),
         Kind::Call => Ok(call(alloc, words, limit)?.map(|act| act.map(Said::Simple))),
-        Kind::LogicalIf => Ok(logical(alloc, words, limit)?
-            .map(|parts| parts.map(|(condition, act)| Said::Guarded(condition, act)))),
-        Kind::Do => Ok(looped(alloc, words, limit)?
-            .map(|parts| parts.map(|(label, range)| Said::Do(label, range)))),
+        Kind::LogicalIf => Ok(logical(alloc, words, limit)?.map(|parts| parts.map(|(
+            condition,
+            act,
+        )| Said::Guarded(condition, act)))),
+        Kind::Do => Ok(looped(alloc, words, limit)?.map(|parts| parts.map(|(label, range)| Said::Do(
+            label, range,
+        )))),
         Kind::BlockIf => Ok(test(alloc, words, limit)?.map(|c| c.map(Said::If))),
         Kind::ElseIf => Ok(test(alloc, words, limit)?.map(|c| c.map(Said::ElseIf))),
         Kind::ImplicitNone => Ok(words.ended(Ok(Said::ImplicitNone))),

@@ -1,11 +1,11 @@
 //! The tokens of a statement that are still to be read.
 
+ghost use Rattle.adj_expression.specs.Front.{AreSlices};
+
 use adj_expression::{Flaw, condition, expression};
 use adj_text::{Token, TokenKind};
 use adj_tree::{Cond, Expr, Memory, Name};
 use std::alloc::Global;
-
-ghost use Rattle.adj_expression.specs.Front.{AreSlices};
 
 /// Tokens of a text.
 #[derive(Clone, Copy)]
@@ -54,7 +54,9 @@ impl<'t> Words<'t> {
         ensures { option_map words_in result ≡ behind_left (words_in self.entry) }
     {
         match self.tokens {
-            [first, rest @ ..] if first.kind == TokenKind::Left => Some(Words::new(self.text, rest)),
+            [first, rest @ ..] if first.kind == TokenKind::Left => Some(Words::new(
+                self.text, rest,
+            )),
             _ => None,
         }
     }
@@ -64,7 +66,9 @@ impl<'t> Words<'t> {
         ensures { option_map words_in result ≡ behind_right (words_in self.entry) }
     {
         match self.tokens {
-            [first, rest @ ..] if first.kind == TokenKind::Right => Some(Words::new(self.text, rest)),
+            [first, rest @ ..] if first.kind == TokenKind::Right => Some(Words::new(
+                self.text, rest,
+            )),
             _ => None,
         }
     }
@@ -74,7 +78,9 @@ impl<'t> Words<'t> {
         ensures { option_map words_in result ≡ behind_comma (words_in self.entry) }
     {
         match self.tokens {
-            [first, rest @ ..] if first.kind == TokenKind::Comma => Some(Words::new(self.text, rest)),
+            [first, rest @ ..] if first.kind == TokenKind::Comma => Some(Words::new(
+                self.text, rest,
+            )),
             _ => None,
         }
     }
@@ -84,7 +90,9 @@ impl<'t> Words<'t> {
         ensures { option_map words_in result ≡ behind_equals (words_in self.entry) }
     {
         match self.tokens {
-            [first, rest @ ..] if first.kind == TokenKind::Equals => Some(Words::new(self.text, rest)),
+            [first, rest @ ..] if first.kind == TokenKind::Equals => Some(Words::new(
+                self.text, rest,
+            )),
             _ => None,
         }
     }
@@ -94,7 +102,9 @@ impl<'t> Words<'t> {
         ensures { option_map words_in result ≡ behind_call (words_in self.entry) }
     {
         match self.tokens {
-            [first, rest @ ..] if first.kind == TokenKind::Call => Some(Words::new(self.text, rest)),
+            [first, rest @ ..] if first.kind == TokenKind::Call => Some(Words::new(
+                self.text, rest,
+            )),
             _ => None,
         }
     }

@@ -1,4 +1,4 @@
-use Rattle.std.proofs.Common.{◌≡◌, ℕ, length}
+use Rattle.std.proofs.Common.{◌≡◌, length}
 use Rattle.adj_parse.specs.Phrases.{name_at, with_last, members_behind, read_names}
 use Rattle.adj_parse.specs.WordsView.{words_in}
 use Rattle.adj_parse.proofs.heading.names.Given as goal

@@ -1,9 +1,8 @@
-use Rattle.std.proofs.Common.{◌≡◌, sym, subst, ◌∙◌, arith}
+use Rattle.std.proofs.Common.{subst}
 use Rattle.std.proofs.lemmas.Result.{err_from_is_err_and}
 use Rattle.adj_tree.specs.View.{procedures_of}
 use Rattle.adj_text.specs.Refused.{Gives}
 use Rattle.adj_parse.specs.CurrentView.{state_of}
-use Rattle.adj_parse.specs.Trees.{trees_of}
 use Rattle.adj_parse.proofs.Passing.{over_end, over_more, over_fails, text_slices}
 use Rattle.adj_parse.proofs.TextReads.{gives_reads, gives_written}
 use Rattle.adj_parse.proofs.text.program.Goals as goal

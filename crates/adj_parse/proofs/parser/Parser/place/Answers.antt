@@ -1,4 +1,4 @@
-use Rattle.std.proofs.Common.{◌≡◌, ◌∙◌, sym, ap, map, None}
+use Rattle.std.proofs.Common.{◌∙◌, sym, ap, map}
 use Rattle.adj_tree.specs.View.{procedure_of}
 use Rattle.adj_parse.specs.Unit.{followed}
 use Rattle.adj_parse.specs.CurrentView.{current_of}
