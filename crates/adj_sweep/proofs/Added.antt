@@ -1,5 +1,5 @@
 -- Lists in which no name stands twice, in place of lists with the same names.
-use Rattle.std.proofs.Common.{◌≡◌, ℕ, zero, suc, ◌+◌, ◌-◌, ◌<◌, ◌≤◌, Bool, true, false, List, [], ◌∷◌, ◌++◌, length, refl, sym, ap, ◌∙◌, subst, arith, append_assoc, append-nil, if◌then◌else◌}
+use Rattle.std.proofs.Common.{◌≡◌, ℕ, zero, suc, Bool, true, false, List, [], ◌∷◌, ◌++◌, length, refl, sym, ap, ◌∙◌, subst, append_assoc, append-nil, if◌then◌else◌}
 use Rattle.std.specs.Prelude.{◌||◌}
 use Rattle.adj_tree.specs.Code.{Var, name_eq}
 use Rattle.adj_tree.proofs.Names.{name_refl, name_same}
@@ -31,6 +31,7 @@ has-with_added x y xs = ap (has_name x) (with_added_is y xs) ∙ go (has_name y 
     found : (b : Bool) → name_eq x y ≡ b → has_name y xs ≡ true → has_name x xs ≡ (has_name x xs || b)
     found true e h = ap (λ z. has_name z xs) (name_same x y e) ∙ h ∙ sym (or_right (has_name x xs) true refl)
     found false e h = sym (or_false_right (has_name x xs))
+
     go : (b : Bool) → has_name y xs ≡ b → has_name x (if b then xs else xs ++ y ∷ []) ≡ (has_name x xs || name_eq x y)
     go true e = found (name_eq x y) refl e
     go false e = has-behind x xs (y ∷ []) ∙ ap (λ b. has_name x xs || b) (or_false_right (name_eq x y))
@@ -60,6 +61,7 @@ all_added-apart xs (y ∷ ys) a h =
         other : (t : Bool) → name_eq x y ≡ t → (t || false) ≡ true → has_name x ys ≡ false
         other true g k = ap (λ z. has_name z ys) (name_same x y g) ∙ free
         other false g k = cc
+
         one : (t : Bool) → has_name x xs ≡ t → has_name x ys ≡ false
         one true g = (or_false (name_eq x y) (has_name x ys) (f g)).1
         one false g = other (name_eq x y) refl (ap (λ t. t || has_name x (y ∷ [])) (sym g) ∙ e)

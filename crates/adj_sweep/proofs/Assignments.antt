@@ -1,5 +1,5 @@
 -- The adjoint of an assignment, from its parts.
-use Rattle.std.proofs.Common.{◌≡◌, ℕ, Bool, true, false, List, refl, sym, ap, ◌∙◌}
+use Rattle.std.proofs.Common.{◌≡◌, ℕ, true, false, List, refl, sym, ap, ◌∙◌}
 use Rattle.std.specs.Prelude.{pos}
 use Rattle.adj_tree.specs.Code.{Var, shadow, helper, work, Term, Terms, lit, none, Act, assign, Code, step}
 use Rattle.adj_meaning.specs.Append.{◌+++◌, one}

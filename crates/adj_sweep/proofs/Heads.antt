@@ -1,7 +1,7 @@
 -- The adjoint unit is put together.
 use Rattle.std.proofs.Common.{◌≡◌, ℕ, zero, suc, Bool, true, false, List, [], ◌∷◌, ◌++◌, map, length, ◌<◌, get_or, refl, sym, ap, ◌∙◌, arith}
 use Rattle.std.specs.Prelude.{◌||◌, ◌&&◌, ◌==◌}
-use Rattle.adj_tree.specs.Code.{plain, shadow, work, temp, name_eq, Code, Declaration, Procedure}
+use Rattle.adj_tree.specs.Code.{shadow, work, temp, name_eq, Code, Declaration, Procedure}
 use Rattle.adj_tree.proofs.Names.{name_refl, name_same}
 use Rattle.adj_word.specs.Pairing.{stands_in}
 use Rattle.adj_meaning.specs.Rename.{rename}

@@ -1,5 +1,5 @@
 -- Terms whose operands were replaced by their temporaries.
-use Rattle.std.proofs.Common.{◌≡◌, ◌⊎◌, inl, inr, ℕ, zero, suc, ◌+◌, ◌-◌, ◌≤◌, ℤ, Box, Global, refl, sym, ap, ◌∙◌, subst, arith}
+use Rattle.std.proofs.Common.{◌≡◌, ◌⊎◌, inl, inr, ℕ, suc, ◌+◌, ◌-◌, ◌≤◌, ℤ, Box, Global, refl, sym, ap, ◌∙◌, subst, arith}
 use Rattle.adj_tree.specs.Code.{Var as Variable, Term, bin, pow, Code}
 use Rattle.adj_tree.specs.declared.name.Name.{Name}
 use Rattle.adj_tree.specs.declared.expr.Op.{Op}
@@ -8,7 +8,7 @@ use Rattle.adj_tree.specs.declared.expr.Expr.{Expr, Lit, Var, Elem, Abs}
 use Rattle.adj_tree.specs.declared.expr.Exprs.{Exprs}
 use Rattle.adj_tree.specs.View.{op_of, term_of}
 use Rattle.adj_meaning.specs.Append.{◌+++◌}
-use Rattle.adj_meaning.specs.Rename.{rename, rename_term}
+use Rattle.adj_meaning.specs.Rename.{rename}
 use Rattle.adj_transpose.specs.Emit.{has_own, temps_in, shrunk, own_code, temps}
 use Rattle.adj_sweep.proofs.Onto.{written_both}
 

@@ -1,10 +1,6 @@
 -- Names passed one by one, and candidates tried one by one.
-use Rattle.std.proofs.Common.{◌≡◌, ℕ, suc, true, false, List, ◌∷◌, ◌+◌, ◌-◌, ◌<◌, length, drop, get_or, sym, ap, ◌∙◌, arith, drop-cons, add-one, if◌then◌else◌}
-use Rattle.std.specs.Prelude.{◌||◌}
-use Rattle.adj_tree.specs.Code.{name_eq}
-use Rattle.adj_tree.proofs.Names.{name_refl, name_same}
+use Rattle.std.proofs.Common.{◌≡◌, ℕ, suc, true, List, ◌∷◌, ◌+◌, ◌-◌, ◌<◌, length, drop, get_or, sym, ap, ◌∙◌, arith, drop-cons, add-one, if◌then◌else◌}
 use Rattle.adj_transpose.specs.Fresh.{has_name, candidate, first_free}
-use Rattle.adj_transpose.proofs.Variables.{not_true, name_comm}
 
 -- what is left from a place on, by its first member
 pub from_here : {A : Type 0} (xs : List A) (i : ℕ) (a : A) → i < length xs → a ≡ get_or xs i a → drop i xs ≡ a ∷ drop (i + 1) xs

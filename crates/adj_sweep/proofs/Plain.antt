@@ -1,6 +1,5 @@
 -- The variables of a tree of the program are of the text, and keep their names.
 use Rattle.std.proofs.Common.{◌≡◌, refl, ap}
-use Rattle.adj_tree.specs.Code as code
 use Rattle.adj_tree.specs.Code.{neg, bin, pow, abs, elem, more, plain, assign, runtime, push_word, step}
 use Rattle.adj_tree.specs.declared.expr.Expr.{Expr}
 use Rattle.adj_tree.specs.declared.expr.Expr.TheVariants.{Lit, Var, Elem, Neg', Bin', Pow', Abs'}

@@ -186,4 +186,3 @@ module _ (n : Names) (xs : List Key) (keeps : (x : List ℕ) → stands_in key_e
       both (forward 0 c) (zeros line out +++ (backward 0 c +++ zeros line into)) (forward_same c h)
       (both (zeros line out) (backward 0 c +++ zeros line into) (zeros_same line out)
       (both (backward 0 c) (zeros line into) (backward_same c h) (zeros_same line into)))
-

@@ -1,8 +1,8 @@
 -- The sweeps of written straight code are written, where the variables that they use have written names.
-use Rattle.std.proofs.Common.{◌≡◌, ℕ, zero, suc, ◌+◌, ◌<◌, ◌≤◌, ◌^◌, max, Bool, true, false, List, [], ◌∷◌, refl, sym, ap, ◌∙◌, subst, arith}
+use Rattle.std.proofs.Common.{◌≡◌, ℕ, zero, suc, ◌+◌, ◌<◌, ◌≤◌, ◌^◌, max, Bool, true, false, List, refl, sym, subst, arith}
 use Rattle.std.specs.Prelude.{pos, ◌||◌}
 use Rattle.adj_text.specs.Written.{IsVariable, IsWrittenTerm, IsWrittenCode}
-use Rattle.adj_tree.specs.Code.{Var, plain, shadow, helper, work, temp, plus, minus, times, quot, modulo, greater, lesser, Term, lit, var, elem, neg, bin, pow, abs, none, more, assign, choose, loop, call, runtime, push_word, pop_word, Code, stop, step}
+use Rattle.adj_tree.specs.Code.{Var, plain, shadow, helper, work, temp, plus, minus, times, quot, modulo, greater, lesser, Term, lit, var, elem, neg, bin, pow, abs, none, more, assign, choose, loop, call, runtime, Code, stop, step}
 use Rattle.adj_word.specs.Pairing.{stands_in}
 use Rattle.adj_meaning.specs.Append.{◌+++◌, one}
 use Rattle.adj_meaning.specs.Rename.{rename, rename_term}
@@ -78,8 +78,7 @@ module _ (r : Var → Var) (xs : List Key) (works temps_named : ℕ) (plains : (
   shrunk-written (bin plus a b) j o w low high = (shrunk-written a j o.1.0 w.0 low (omega arith), shrunk-written b (j + temps_in a) o.1.1 w.1 (omega arith) (omega arith))
   shrunk-written (bin minus a b) j o w low high = (shrunk-written a j o.1.0 w.0 low (omega arith), shrunk-written b (j + temps_in a) o.1.1 w.1 (omega arith) (omega arith))
   shrunk-written (bin times a b) j o w low high =
-      let m = j + temps_in a + count_of (has_own a b) in
-      (
+      let m = j + temps_in a + count_of (has_own a b) in (
         own_or-written (has_own a b) (j + temps_in a) (shrunk a j) (omega arith) (omega arith) (shrunk-written a j o.1.0 w.0 low (omega arith)),
         own_or-written (has_own b a) (m + temps_in b) (shrunk b m) (omega arith) (omega arith) (shrunk-written b m o.1.1 w.1 (omega arith) (omega arith)),
       )

@@ -44,7 +44,6 @@ mark_at marks i = unwrap_or (slice_get marks i) false
 abbrev pub with_name : Declaration → List ℕ → Declaration
 with_name d x = record d { name = x }
 
-
 -- the declarations of variables, which `find` gives, each followed by that of its shadow
 abbrev pub declared_by : (List ℕ → Declaration) → List Named → List (List ℕ) → List Declaration
 declared_by find ns [] = []

@@ -43,12 +43,7 @@ pub fn scalar(alloc: Global, line: u32, name: Name) -> Decl
 }
 
 /// The declaration of a variable; one that isn't declared is a scalar with the given line.
-pub fn declaration(
-    alloc: Global,
-    line: u32,
-    declared: &Declared,
-    x: &Name,
-) -> Result<Decl, Memory>
+pub fn declaration(alloc: Global, line: u32, declared: &Declared, x: &Name) -> Result<Decl, Memory>
     ensures declaration { IfOk result (λ d. declaration_of d ≡ declaration line (map declaration_of declared.now.firsts.items) x.now) }
 {
     match declared.names.place(x.bytes()) {

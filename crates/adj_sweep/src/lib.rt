@@ -20,4 +20,6 @@ pub mod step;
 pub mod sweeps;
 pub mod temps;
 pub mod terms;
+#[cfg(test)]
+mod tests;
 pub mod unit;

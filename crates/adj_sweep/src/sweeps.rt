@@ -56,12 +56,7 @@ fn adjoint_of(
 }
 
 // The backward sweep of a statement: the value is popped, and then comes the adjoint.
-fn backward_statement(
-    alloc: Global,
-    n: &Names,
-    stmt: &Stmt,
-    rest: Stmts,
-) -> Result<Stmts, Memory>
+fn backward_statement(alloc: Global, n: &Names, stmt: &Stmt, rest: Stmts) -> Result<Stmts, Memory>
     ensures steps { IfOk result (λ c. code_of c ≡ rename (named_by n.now) (backward_act 0 stmt.now.line (act_of stmt.now.act)) +++ code_of rest) }
 {
     match &stmt.act {

@@ -60,13 +60,7 @@ pub fn sum(alloc: Global, a: Expr, b: Expr) -> Result<Expr, Memory>
 }
 
 /// The value of an operand: its temporary, if it has one of its own, or the operand itself.
-pub fn operand(
-    alloc: Global,
-    n: &Names,
-    own: bool,
-    number: usize,
-    e: &Expr,
-) -> Result<Expr, Memory>
+pub fn operand(alloc: Global, n: &Names, own: bool, number: usize, e: &Expr) -> Result<Expr, Memory>
     ensures value { IfOk result (λ x. term_of x ≡ rename_term (named_by n.now) (own_or own number (term_of e.now))) }
 {
     if own {

@@ -1,4 +1,4 @@
-use Rattle.std.proofs.Common.{◌≡◌, ap, sym, ◌∙◌}
+use Rattle.std.proofs.Common.{ap, sym, ◌∙◌}
 use Rattle.std.specs.Prelude.{position}
 use Rattle.adj_tree.specs.Code.{name_eq}
 use Rattle.adj_transpose.specs.Fresh.{has_name}

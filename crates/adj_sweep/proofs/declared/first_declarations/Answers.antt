@@ -21,7 +21,7 @@ loop-decl-preserved c =
     let h = c.loop-decl.invariant in
     let known : c.has.result ≡ has_name d.name names = c.has.ensures.found ∙ ap (λ z. has_name z names) c.bytes.ensures.bytes in
     elim c.if-not-has.branch [
-      then-not-has+in_ok-add+in_ok-copy+in_ok-push w ↦
+      | then-not-has+in_ok-add+in_ok-copy+in_ok-push w ↦
           let e = w.in_ok-copy.field-0 in
           let longer : c.if-not-has.firsts.items ≡ firsts ++ (e ∷ []) = ap (λ v. v.items) w.firsts-is ∙ w.in_ok-push.ensures.items in
           record {
@@ -29,7 +29,7 @@ loop-decl-preserved c =
                 ∙ ap (λ z. z ++ (d.name ∷ [])) h.names ∙ ap (λ z. map name_of firsts ++ (z ∷ [])) (sym (ap (λ x. x.name) w.in_ok-copy.ensures.equal)) ∙ sym (map_push name_of firsts e) ∙ ap (map name_of) (sym longer);
             same = λ line x. first_kept items firsts c.if-not-has.firsts.items d e i line x c.loop-decl-test.true c.decl-item.is longer w.in_ok-copy.ensures.equal ∙ h.same line x;
           }
-    | else-not-has w ↦
+      | else-not-has w ↦
           record {
             names = w.names-is ∙ h.names ∙ ap (λ v. map name_of v.items) (sym w.firsts-is);
             same = λ line x.

@@ -20,9 +20,9 @@ loop-decl-preserved c =
     c.has.ensures.found ∙ ap (λ z. has_name z c.add_names.new.set) c.bytes.ensures.bytes
     ∙ ap (has_name d.name) (c.in_ok-add_names.ensures.added ∙ (λ k. all_added (c.new-dummies.ensures.empty k) (c.as_slice.ensures.members k))) ∙ (once_same dummies).at d.name in
     elim c.if-not-has.branch [
-      then-not-has+in_ok-copy+in_ok-push w ↦
+      | then-not-has+in_ok-copy+in_ok-push w ↦
           ap (λ m. m.items ++ rest) w.made-is ∙ ap (λ ms. ms ++ rest) (w.in_ok-push.ensures.items ∙ ap (λ z. made ++ (z ∷ [])) w.in_ok-copy.ensures.same)
           ∙ local_kept items dummies made i d c.loop-decl-test.true c.decl-item.is (sym known ∙ w.if-not-has.true) ∙ c.loop-decl.invariant
-    | else-not-has w ↦
+      | else-not-has w ↦
           ap (λ m. m.items ++ rest) w.made-is ∙ local_passed items dummies made i d c.loop-decl-test.true c.decl-item.is (sym known ∙ w.if-not-has.false) ∙ c.loop-decl.invariant
     ]

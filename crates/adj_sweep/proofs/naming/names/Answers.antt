@@ -25,8 +25,8 @@ returns c =
           c.in_ok-taken.taken c.shadows.new.taken c.helpers.new.taken c.helpers-2.new.taken
           taken own_names
           (λ (rest : List Var).
-              ap (λ z. shadow_table z c.in_ok-shadows.shadows.items ++ named c.shadows.new.taken rest) (own_names ∙ sym (c.as_slice-3.ensures.value ∙ listed))
-              ∙ c.in_ok-shadows.ensures.shadows rest ∙ ap (λ z. named c.in_ok-taken.taken (map shadow z ++ rest)) (c.as_slice-3.ensures.value ∙ listed))
+          ap (λ z. shadow_table z c.in_ok-shadows.shadows.items ++ named c.shadows.new.taken rest) (own_names ∙ sym (c.as_slice-3.ensures.value ∙ listed))
+          ∙ c.in_ok-shadows.ensures.shadows rest ∙ ap (λ z. named c.in_ok-taken.taken (map shadow z ++ rest)) (c.as_slice-3.ensures.value ∙ listed))
           c.in_ok-works.ensures.helpers
           c.in_ok-temps.ensures.helpers;
     }

@@ -1,4 +1,4 @@
-use Rattle.std.proofs.Common.{◌≡◌, [], map, flat_map, ap, ◌∙◌, sym}
+use Rattle.std.proofs.Common.{[], map, flat_map, ap, ◌∙◌, sym}
 use Rattle.adj_tree.specs.View.{procedure_of, procedures_of}
 use Rattle.adj_transpose.specs.Program.{variables, unit_name}
 use Rattle.adj_sweep.specs.Sets.{all_added}
@@ -15,5 +15,5 @@ loop-unit-init c =
 pub loop-unit-preserved : goal.loop-unit-preserved
 loop-unit-preserved c =
     source_more c.as_slice-unit-items.result.now c.loop-unit.taken c.add_names.new.set c.loop-unit.unit-index c.unit-item.result c.loop-unit-test.true c.unit-item.is
-        (c.in_ok-add_names.ensures.added ∙ ap (all_added c.loop-unit.taken) (c.as_slice.ensures.value ∙ c.in_ok-more.ensures.variables))
+    (c.in_ok-add_names.ensures.added ∙ ap (all_added c.loop-unit.taken) (c.as_slice.ensures.value ∙ c.in_ok-more.ensures.variables))
     ∙ c.loop-unit.invariant

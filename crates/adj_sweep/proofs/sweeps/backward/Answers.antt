@@ -14,5 +14,5 @@ loop-current-preserved c =
     let stmt = c.deref.result.now in
     let next = c.deref-current.result.now in
     backward_more r stmt.line (act_of stmt.act) (code_of c.loop-current.current.now) (code_of next) (code_of c.loop-current.code) (code_of c.in_ok-code.code) (rename r (backward 0 (code_of c.args.body.now)) +++ code_of c.args.rest)
-        (ap code_of c.in-More.is ∙ (λ i. step (sym c.deref.ensures i).line (act_of (sym c.deref.ensures i).act) (code_of (sym c.deref-current.ensures i))))
-        c.in_ok-code.ensures.steps c.loop-current.invariant
+    (ap code_of c.in-More.is ∙ (λ i. step (sym c.deref.ensures i).line (act_of (sym c.deref.ensures i).act) (code_of (sym c.deref-current.ensures i))))
+    c.in_ok-code.ensures.steps c.loop-current.invariant

@@ -51,21 +51,21 @@ shrink-returns-in_ok-made-in-Add-clause-term t c =
 pub shrink-returns-in_ok-made-in-Add-clause-steps : goal.shrink-returns-in_ok-made-in-Add-clause-steps
 shrink-returns-in_ok-made-in-Add-clause-steps t c =
     λ rest.
-        let r = named_by c.args.n.now in
-        let op = c.in-Bin.op in
-        let j = c.args.first in
-        let line = c.args.line in
-        let a = term_of c.in-Bin.a.value in
-        let b = term_of c.in-Bin.b.value in
-        let s0 = steps_onto c.args.steps.now.items in
-        let s1 = steps_onto c.shrink-in-Add.new.steps.items in
-        let s2 = steps_onto c.shrink-in-Add-2.new.steps.items in
-        let next : c.in_ok-left-in-Add.left.next ≡ j + temps_in a = c.in_ok-left-in-Add.ensures.next ∙ ap (λ x. j + temps_in (term_of x)) c.deref-in-Add.ensures in
-        written_both r (temps a j line) (temps b (j + temps_in a) line) s0 s1 s2
-            (λ rest. c.in_ok-left-in-Add.ensures.steps rest ∙ ap (λ x. s0 (rename r (temps (term_of x) j line) +++ rest)) c.deref-in-Add.ensures)
-            (λ rest. c.in_ok-right-in-Add.ensures.steps rest ∙ (λ i. s1 (rename r (temps (term_of (c.deref-in-Add-2.ensures i)) (next i) line) +++ rest)))
-            rest
-        ∙ ap (λ z. s0 (rename r z +++ rest)) (sym (sum_temps op a b j line c.in-Add.is) ∙ ap (λ e. temps (term_of e) j line) (sym c.in-Bin.is))
+    let r = named_by c.args.n.now in
+    let op = c.in-Bin.op in
+    let j = c.args.first in
+    let line = c.args.line in
+    let a = term_of c.in-Bin.a.value in
+    let b = term_of c.in-Bin.b.value in
+    let s0 = steps_onto c.args.steps.now.items in
+    let s1 = steps_onto c.shrink-in-Add.new.steps.items in
+    let s2 = steps_onto c.shrink-in-Add-2.new.steps.items in
+    let next : c.in_ok-left-in-Add.left.next ≡ j + temps_in a = c.in_ok-left-in-Add.ensures.next ∙ ap (λ x. j + temps_in (term_of x)) c.deref-in-Add.ensures in
+    written_both r (temps a j line) (temps b (j + temps_in a) line) s0 s1 s2
+    (λ rest. c.in_ok-left-in-Add.ensures.steps rest ∙ ap (λ x. s0 (rename r (temps (term_of x) j line) +++ rest)) c.deref-in-Add.ensures)
+    (λ rest. c.in_ok-right-in-Add.ensures.steps rest ∙ (λ i. s1 (rename r (temps (term_of (c.deref-in-Add-2.ensures i)) (next i) line) +++ rest)))
+    rest
+    ∙ ap (λ z. s0 (rename r z +++ rest)) (sym (sum_temps op a b j line c.in-Add.is) ∙ ap (λ e. temps (term_of e) j line) (sym c.in-Bin.is))
 
 pub shrink_power-returns-in_ok-made-in-0-clause-term : goal.shrink_power-returns-in_ok-made-in-0-clause-term
 shrink_power-returns-in_ok-made-in-0-clause-term t c =
@@ -77,13 +77,13 @@ shrink_power-returns-in_ok-made-in-0-clause-term t c =
 pub shrink_power-returns-in_ok-made-in_default-clause-steps : goal.shrink_power-returns-in_ok-made-in_default-clause-steps
 shrink_power-returns-in_ok-made-in_default-clause-steps t c =
     λ rest.
-        let r = named_by c.args.n.now in
-        let a = term_of c.args.a.now in
-        let base = c.in_ok-base-in_default.base in
-        let s1 = steps_onto c.shrink-in_default.new.steps.items in
-        power_written r a c.args.power c.args.first base.next c.args.line (steps_onto c.args.steps.now.items) s1 (steps_onto c.operand.new.steps.items) (omega arith) c.in_ok-base-in_default.ensures.next c.in_ok-base-in_default.ensures.steps
-            (λ rest. c.in_ok-value-in_default.ensures.steps (shrunk a c.args.first) c.in_ok-base-in_default.ensures.term rest ∙ ap (λ o. s1 (rename r (own_code o c.args.line base.next (shrunk a c.args.first)) +++ rest)) c.has_own-own.ensures.own)
-            rest
+    let r = named_by c.args.n.now in
+    let a = term_of c.args.a.now in
+    let base = c.in_ok-base-in_default.base in
+    let s1 = steps_onto c.shrink-in_default.new.steps.items in
+    power_written r a c.args.power c.args.first base.next c.args.line (steps_onto c.args.steps.now.items) s1 (steps_onto c.operand.new.steps.items) (omega arith) c.in_ok-base-in_default.ensures.next c.in_ok-base-in_default.ensures.steps
+    (λ rest. c.in_ok-value-in_default.ensures.steps (shrunk a c.args.first) c.in_ok-base-in_default.ensures.term rest ∙ ap (λ o. s1 (rename r (own_code o c.args.line base.next (shrunk a c.args.first)) +++ rest)) c.has_own-own.ensures.own)
+    rest
 
 pub shrink_product-returns-clause-term : goal.shrink_product-returns-clause-term
 shrink_product-returns-clause-term t c =
@@ -101,16 +101,16 @@ shrink_product-returns-clause-term t c =
 pub shrink_product-returns-clause-steps : goal.shrink_product-returns-clause-steps
 shrink_product-returns-clause-steps t c =
     λ rest.
-        let r = named_by c.args.n.now in
-        let a = term_of c.args.a.now in
-        let b = term_of c.args.b.now in
-        let left = c.in_ok-left.left in
-        let right = c.in_ok-right.right in
-        let next = c.in_ok-left_value.left_value.next in
-        product_written r a b c.has_own-own_left.result c.has_own-own_right.result c.args.first left.next next right.next c.args.line (steps_onto c.args.steps.now.items) (steps_onto c.shrink.new.steps.items) (steps_onto c.operand.new.steps.items) (steps_onto c.shrink-2.new.steps.items) (steps_onto c.operand-2.new.steps.items)
-            c.has_own-own_left.ensures.own c.has_own-own_right.ensures.own c.in_ok-left.ensures.next c.in_ok-left_value.ensures.next c.in_ok-right.ensures.next
-            c.in_ok-left.ensures.steps
-            (c.in_ok-left_value.ensures.steps (shrunk a c.args.first) c.in_ok-left.ensures.term)
-            c.in_ok-right.ensures.steps
-            (c.in_ok-right_value.ensures.steps (shrunk b next) c.in_ok-right.ensures.term)
-            rest
+    let r = named_by c.args.n.now in
+    let a = term_of c.args.a.now in
+    let b = term_of c.args.b.now in
+    let left = c.in_ok-left.left in
+    let right = c.in_ok-right.right in
+    let next = c.in_ok-left_value.left_value.next in
+    product_written r a b c.has_own-own_left.result c.has_own-own_right.result c.args.first left.next next right.next c.args.line (steps_onto c.args.steps.now.items) (steps_onto c.shrink.new.steps.items) (steps_onto c.operand.new.steps.items) (steps_onto c.shrink-2.new.steps.items) (steps_onto c.operand-2.new.steps.items)
+    c.has_own-own_left.ensures.own c.has_own-own_right.ensures.own c.in_ok-left.ensures.next c.in_ok-left_value.ensures.next c.in_ok-right.ensures.next
+    c.in_ok-left.ensures.steps
+    (c.in_ok-left_value.ensures.steps (shrunk a c.args.first) c.in_ok-left.ensures.term)
+    c.in_ok-right.ensures.steps
+    (c.in_ok-right_value.ensures.steps (shrunk b next) c.in_ok-right.ensures.term)
+    rest

@@ -1,5 +1,4 @@
-use Rattle.std.proofs.Common.{sym, ap, ◌∙◌, rules}
-use Rattle.adj_tree.specs.Code.{plain, elem}
+use Rattle.std.proofs.Common.{rules}
 use Rattle.adj_sweep.proofs.Plain.{terms_plain}
 use Rattle.adj_sweep.proofs.terms.shadow_of.Goals as goal
 

@@ -1,4 +1,4 @@
-use Rattle.std.proofs.Common.{Some, ◌∙◌, ap, sym}
+use Rattle.std.proofs.Common.{◌∙◌, ap, sym}
 use Rattle.std.specs.Prelude.{position, unwrap_or, slice_get}
 use Rattle.adj_tree.specs.Code.{shadow, name_eq}
 use Rattle.adj_transpose.specs.Fresh.{has_name}
