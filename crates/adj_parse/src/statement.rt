@@ -212,13 +212,14 @@ pub(crate) fn said(
         Kind::Integer => Ok(items(alloc, words)?.map(|items| items.map(Said::Integers))),
         Kind::Assign => Ok(assignment(alloc, words, limit)?.map(|act| act.map(Said::Simple))),
         Kind::Call => Ok(call(alloc, words, limit)?.map(|act| act.map(Said::Simple))),
-        Kind::LogicalIf => Ok(logical(alloc, words, limit)?.map(|parts| parts.map(|(
-            condition,
-            act,
-        )| Said::Guarded(condition, act)))),
-        Kind::Do => Ok(looped(alloc, words, limit)?.map(|parts| parts.map(|(label, range)| Said::Do(
-            label, range,
-        )))),
+        Kind::LogicalIf => {
+            let parts = logical(alloc, words, limit)?;
+            Ok(parts.map(|parts| parts.map(|(condition, act)| Said::Guarded(condition, act))))
+        }
+        Kind::Do => {
+            let parts = looped(alloc, words, limit)?;
+            Ok(parts.map(|parts| parts.map(|(label, range)| Said::Do(label, range))))
+        }
         Kind::BlockIf => Ok(test(alloc, words, limit)?.map(|c| c.map(Said::If))),
         Kind::ElseIf => Ok(test(alloc, words, limit)?.map(|c| c.map(Said::ElseIf))),
         Kind::ImplicitNone => Ok(words.ended(Ok(Said::ImplicitNone))),

@@ -118,10 +118,11 @@ fn what_is_printed_reads_as_it_was_written(rt: HostRuntime) -> Result<(), Fault>
     Ok(())
 }
 
-// A unit whose one statement has so many characters: `X=1+1..` of a longer or a shorter name.
+// A unit whose one statement has so many characters: a sum of ones, assigned to a name of one or two letters.
 fn unit_of(alloc: Global, length: usize) -> Result<Vec<u8>, Fault> {
     let mut statement = Vec::from_slice(alloc, if length % 2 == 0 { b"XY=1" } else { b"X=1" })?;
-    while statement.len() < length {
+    let more = length.saturating_sub(statement.len()) / 2;
+    for _ in 0..more {
         statement.extend_from_slice(b"+1")?;
     }
     let mut all = Vec::from_slice(alloc, b"      SUBROUTINE P\n")?;
