@@ -1,6 +1,6 @@
 -- What the grammar derives as blocks is what the machine makes of the statements.
 use Rattle.std.proofs.Common.{◌≡◌, ◌≢◌, ℕ, Bool, true, false, cond, List, [], ◌∷◌, ◌++◌, Some, None, refl, sym, ap, ◌∙◌}
-use Rattle.std.proofs.lemmas.Bool.{ne_eqb, eq-eqb}
+use Rattle.std.proofs.lemmas.Bool.{ne_eqb, eq-eqb, or_parts}
 use Rattle.std.proofs.lemmas.List.{append_assoc, append-nil}
 use Rattle.std.specs.Prelude.{◌==◌, not}
 use Rattle.adj_tree.specs.Code.{Test, Act, Code, choose, stop, step, Procedure}
@@ -15,7 +15,7 @@ use Rattle.adj_parse.specs.declared.phase.Phase.TheVariants.{Acting}
 use Rattle.adj_parse.specs.Blocks.{Acts, Part, of_loop, of_if, of_else, of_chain, Block, close_while, Nest, acted, is_chain, is_labelled}
 use Rattle.adj_parse.specs.Order.{may_follow, has_label, innermost_is, some_is, suits, reaches_out, breaks_loop}
 use Rattle.adj_parse.specs.Unit.{Units}
-use Rattle.adj_parse.proofs.Truths.{and_false, neither}
+use Rattle.adj_parse.proofs.Truths.{and_false}
 use Rattle.adj_parse.proofs.Machine.{kind_of, stands, run, labels, IsBody, in_loop, in_if, in_else, is_open_some, innermost_labelled, close_while-other, no_chain, acts_of, listed_back}
 
 abbrev pub is_executable : Form → Bool
@@ -40,7 +40,7 @@ breaks_own l bs h = rw (and_false (innermost_is has_label bs), h) (and_false (so
 
 innermost_none : (is_such : Part → Bool) (bs : List Block) → some_is is_such bs ≡ false → innermost_is is_such bs ≡ false
 innermost_none is_such [] h = refl
-innermost_none is_such (b ∷ bs) h = (neither (is_such b.part) (some_is is_such bs) h).0
+innermost_none is_such (b ∷ bs) h = (or_parts (is_such b.part) (some_is is_such bs) h).0
 
 abbrev pub block : ℕ → Acts → Part → Block
 block n before part = record { line = n; before = before; part = part }

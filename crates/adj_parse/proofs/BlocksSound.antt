@@ -1,6 +1,6 @@
 -- What the machine makes of statements as blocks is derived by the grammar.
 use Rattle.std.proofs.Common.{◌≡◌, ◌≢◌, ℕ, true, false, eqb, List, [], ◌∷◌, ◌++◌, Option, Some, None, refl, sym, subst, ◌∙◌}
-use Rattle.std.proofs.lemmas.Bool.{ne_eqb, eq-eqb, eqb-true, eqb-false}
+use Rattle.std.proofs.lemmas.Bool.{ne_eqb, eq-eqb, eqb-true, eqb-false, or_parts}
 use Rattle.std.specs.Prelude.{◌==◌, ◌&&◌, not}
 use Rattle.adj_tree.specs.Code.{Test, Act, Code, choose, stop, step}
 use Rattle.adj_tree.specs.Listed.{code_onto, code_listed}
@@ -12,7 +12,7 @@ use Rattle.adj_text.specs.declared.stated.Kind.{Kind}
 use Rattle.adj_text.specs.declared.stated.Kind.TheVariants.{Do, BlockIf, LogicalIf, Assign, Continue, EndIf, EndDo, Else, ElseIf}
 use Rattle.adj_parse.specs.Blocks.{Acts, Part, of_loop, of_if, of_else, of_chain, Block, close_while, Nest, acted, is_chain, is_labelled}
 use Rattle.adj_parse.specs.Order.{is_continue, has_no_label, is_first, is_if, innermost_is, some_is, suits, leaves_loop, breaks_loop}
-use Rattle.adj_parse.proofs.Truths.{and_true, neither, both, not_true}
+use Rattle.adj_parse.proofs.Truths.{and_true, both, not_true}
 use Rattle.adj_parse.proofs.Machine.{kind_of, labels, IsBody, at_bottom, in_loop, in_if, in_else, is_open_some, innermost_labelled, close_while-other, no_chain, onto_last}
 use Rattle.adj_parse.proofs.BlocksComplete.{is_executable, block}
 
@@ -132,11 +132,11 @@ module _ (total : List Statement) where
 
   -- a statement that isn't a CONTINUE and breaks no loop has no open label
   no_label : (kind : Kind) (l : ℕ) (bs : List Block) → is_continue kind ≡ false → breaks_loop kind l bs ≡ false → is_open (labels bs) l ≡ false
-  no_label kind l bs x h = is_open_some bs l ∙ and_true (some_is (is_labelled l) bs) (rw x at ((neither (leaves_loop kind bs) _ h).1))
+  no_label kind l bs x h = is_open_some bs l ∙ and_true (some_is (is_labelled l) bs) (rw x at ((or_parts (leaves_loop kind bs) _ h).1))
 
   -- the label behind the innermost block
   inner_label : (b : Block) (bs : List Block) (l : ℕ) → is_open (labels (b ∷ bs)) l ≡ false → is_open (labels bs) l ≡ false
-  inner_label b bs l h = is_open_some bs l ∙ (neither (is_labelled l b.part) (some_is (is_labelled l) bs) (sym (is_open_some (b ∷ bs) l) ∙ h)).1
+  inner_label b bs l h = is_open_some bs l ∙ (or_parts (is_labelled l b.part) (some_is (is_labelled l) bs) (sym (is_open_some (b ∷ bs) l) ∙ h)).1
 
   -- a CONTINUE that breaks no loop
   continues : (bs : List Block) (acts : Acts) (m l : ℕ) (rest : List Statement) → breaks_loop Continue l bs ≡ false → Holds total (record { blocks = bs; acts = acts }) (at m l go_on ∷ rest) → Holds total (close_while (is_labelled l) bs acts) rest
@@ -144,7 +144,7 @@ module _ (total : List Statement) where
       elim (innermost_is (is_labelled l) bs) as (λ t. innermost_is (is_labelled l) bs ≡ t → Holds total (close_while (is_labelled l) bs acts) rest) [
         | true ↦ λ t. label_whole t h.begun h.leads
         | false ↦ λ t.
-            let shut : is_open (labels bs) l ≡ false = is_open_some bs l ∙ and_true (some_is (is_labelled l) bs) (rw t at (neither (leaves_loop Continue bs) (some_is (is_labelled l) bs && not (innermost_is (is_labelled l) bs)) x).1) in
+            let shut : is_open (labels bs) l ≡ false = is_open_some bs l ∙ and_true (some_is (is_labelled l) bs) (rw t at (or_parts (leaves_loop Continue bs) (some_is (is_labelled l) bs && not (innermost_is (is_labelled l) bs)) x).1) in
             subst (λ (nest : Nest). Holds total nest rest) (sym (close_while-other (is_labelled l) bs acts t)) (record { is_body = h.is_body; items = h.items; begun = h.begun; leads = skipped shut h.leads })
       ] refl
 

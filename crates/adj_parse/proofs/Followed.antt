@@ -1,6 +1,6 @@
 -- The chain of faults: what it lets through is derived, and what is derived it refuses for its size alone.
 use Rattle.std.proofs.Common.{◌≡◌, ℕ, Bool, true, false, cond, List, [], ◌∷◌, Option, Some, None, Result, Ok, Err, refl, sym, ap, subst, ◌∙◌, ◌⊎◌, inl, inr}
-use Rattle.std.proofs.lemmas.Bool.{eqb-true}
+use Rattle.std.proofs.lemmas.Bool.{eqb-true, or_parts}
 use Rattle.std.specs.Prelude.{◌==◌, ◌&&◌, ◌||◌, not, is_none, nat_le, length, unwrap_or}
 use Rattle.adj_tree.specs.Code.{Procedure}
 use Rattle.adj_tree.specs.declared.fault.Refusal.{Refusal}
@@ -17,14 +17,14 @@ use Rattle.adj_text.specs.declared.stated.Kind.{Kind}
 use Rattle.adj_text.specs.declared.stated.Kind.TheVariants.{Do, Assign, Call}
 use Rattle.adj_text.specs.declared.stated.Stated.{Stated}
 use Rattle.adj_parse.specs.Order.{breaks_loop, is_heading, opens_block}
-use Rattle.adj_parse.specs.Said.{said}
+use Rattle.adj_statement.specs.Said.{said}
 use Rattle.adj_parse.specs.Trees.{bounds_of, State, is_do, has_stray_mark, is_large, is_deep, is_full, IsBeyond, with_form, checked, behind, follow, finish, trees_from}
 use Rattle.adj_parse.specs.Unit.{Current, followed, open_blocks, is_misplaced}
 use Rattle.adj_text.proofs.LinesMarked.{bind_ok}
-use Rattle.adj_parse.proofs.Truths.{and_false, neither}
+use Rattle.adj_parse.proofs.Truths.{and_false}
 use Rattle.adj_parse.proofs.Machine.{picked, kind_of, stands, units_of, run}
-use Rattle.adj_parse.proofs.FormsFit.{said_fits}
-use Rattle.adj_parse.proofs.SaidForms.{said_reads, said_answers}
+use Rattle.adj_statement.proofs.FormsFit.{said_fits}
+use Rattle.adj_statement.proofs.SaidForms.{said_reads, said_answers}
 use Rattle.adj_parse.proofs.UnitsFit.{AreFit}
 
 -- a statement stands as its form does
@@ -80,7 +80,7 @@ through mode s t found f h =
     let g = let_through (s.room == 0) _ _ f e.1 in
     let i = let_through (is_deep found) _ _ f g.1 in
     let j = let_through too_nested _ _ f i.1 in
-    record { says = with_form-ok found t.line f j.1; led = a.0; place = (neither (is_none found) misplaced b.0).1; breaks = d.0 }
+    record { says = with_form-ok found t.line f j.1; led = a.0; place = (or_parts (is_none found) misplaced b.0).1; breaks = d.0 }
 
 -- the answer, or a refusal of a literal or for a limit
 abbrev Comes : {A : Type 0} → A → Result A Refusal → Type 0

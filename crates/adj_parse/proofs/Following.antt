@@ -11,11 +11,11 @@ use Rattle.adj_text.specs.declared.mode.Mode.{Mode}
 use Rattle.adj_text.specs.declared.stated.Stated.{Stated}
 use Rattle.adj_tree.specs.declared.fault.Refusal.{Refusal}
 use Rattle.adj_parse.specs.declared.bounds.Bounds.{Bounds}
-use Rattle.adj_parse.specs.Said as says
+use Rattle.adj_statement.specs.Said as says
 use Rattle.adj_parse.specs.Trees.{bounds_of, State, checked, behind, follow}
 use Rattle.adj_parse.specs.Unit.{Units, followed}
-use Rattle.adj_parse.specs.View.{form_of}
-use Rattle.adj_parse.specs.declared.said.Said.{Said}
+use Rattle.adj_statement.specs.View.{form_of}
+use Rattle.adj_statement.specs.declared.content.Said.{Said}
 use Rattle.adj_parse.proofs.Seen.{checked_seen}
 
 module _ (mode : Mode) (bounds : Bounds) (bounds_are : bounds ≡ bounds_of mode) (s : State) (t : Stated) (found : Option (Result Said Flaw)) (is : option_map (seen (form_of t.mark)) found ≡ says.said bounds.depth t.mark t.kind (words_of t.text t.tokens)) where

@@ -1,18 +1,3 @@
-pub mod Shorter
-pub mod Members
-pub mod Lists
-pub mod Judging
-pub mod Declared
-pub mod Runtime
-pub mod Deeds
-pub mod Guards
-pub mod Loops
-pub mod Phrased
-pub mod PhraseComplete
-pub mod PhraseSound
-pub mod PhraseForms
-pub mod FormPhrases
-pub mod SaidForms
 pub mod Truths
 pub mod Machine
 pub mod BlocksComplete
@@ -25,7 +10,5 @@ pub mod Declares
 pub mod Seen
 pub mod Following
 pub mod Passing
-pub mod TermsFit
-pub mod FormsFit
 pub mod Followed
 pub mod TextReads

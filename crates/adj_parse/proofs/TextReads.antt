@@ -22,7 +22,7 @@ use Rattle.adj_text.proofs.ReadingWritten.{reading_written}
 use Rattle.adj_text.proofs.Unlimited.{statements_follow}
 use Rattle.adj_parse.specs.Trees.{IsText, start, trees_of, IsBeyond}
 use Rattle.adj_parse.proofs.Followed.{reads_all, all_fit, chain_runs, chain_comes}
-use Rattle.adj_parse.proofs.SaidForms.{one_form}
+use Rattle.adj_statement.proofs.SaidForms.{one_form}
 use Rattle.adj_parse.proofs.UnitsComplete.{units_run, one_units}
 use Rattle.adj_parse.proofs.UnitsFit.{units_fit}
 use Rattle.adj_parse.proofs.UnitsSound.{run_reads}

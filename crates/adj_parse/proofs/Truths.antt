@@ -1,6 +1,6 @@
 -- Small facts about truth values.
 use Rattle.std.proofs.Common.{◌≡◌, Bool, true, false, refl}
-use Rattle.std.specs.Prelude.{◌&&◌, ◌||◌, not}
+use Rattle.std.specs.Prelude.{◌&&◌, not}
 
 pub and_false : (b : Bool) → (b && false) ≡ false
 and_false true = refl
@@ -9,10 +9,6 @@ and_false false = refl
 pub and_true : (a : Bool) → (a && true) ≡ false → a ≡ false
 and_true true h = absurd cc
 and_true false h = refl
-
-pub neither : (a b : Bool) → (a || b) ≡ false → (a ≡ false) × (b ≡ false)
-neither true b h = absurd cc
-neither false b h = (refl, h)
 
 pub both : (a b : Bool) → (a && b) ≡ true → (a ≡ true) × (b ≡ true)
 both true b h = (refl, h)

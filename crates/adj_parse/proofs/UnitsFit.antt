@@ -10,20 +10,7 @@ use Rattle.adj_text.specs.Statement.{Item}
 use Rattle.adj_text.specs.Unit as units
 use Rattle.adj_text.specs.Unit.{ReadsImplicit, declaration_of, ReadsDeclarations, ReadsEnd, ReadsUnit, ReadsUnits}
 use Rattle.adj_text.proofs.FormWritten.{all_nil, all_cons}
-
-abbrev pub FitsItems : List Item → Type 0
-FitsItems [] = Unit {0}
-FitsItems (i ∷ is) = All FitsExtent i.extents × FitsItems is
-
--- the literals and extents of a form are words
-abbrev pub FitsForm : Form → Type 0
-FitsForm (integers is) = FitsItems is
-FitsForm (simple a) = FitsAct a
-FitsForm (logical c a) = FitsTest c × FitsAct a
-FitsForm (opens_do l r s) = FitsTerm r.from × FitsTerm r.to × FitsTerm r.by
-FitsForm (opens_if c) = FitsTest c
-FitsForm (otherwise_if c) = FitsTest c
-FitsForm f = Unit {0}
+use Rattle.adj_statement.proofs.FormsFit.{FitsItems, FitsForm}
 
 abbrev pub AreFit : List Statement → Type 0
 AreFit [] = Unit {0}

@@ -1,11 +1,3 @@
-pub mod Phrase
-pub mod Phrases
-pub mod Flaws
-pub mod Said
-pub mod Fronts
-pub mod Called
-pub mod View
-pub mod WordsView
 pub mod Blocks
 pub mod Order
 pub mod Unit

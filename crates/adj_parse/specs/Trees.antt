@@ -16,7 +16,7 @@ use Rattle.adj_text.specs.declared.stated.Kind.TheVariants.{Do}
 use Rattle.adj_text.specs.declared.stated.Stated.{Stated}
 use Rattle.adj_parse.specs.declared.bounds.Bounds.{Bounds}
 use Rattle.adj_parse.specs.Order.{breaks_loop, is_heading, opens_block}
-use Rattle.adj_parse.specs.Said.{said}
+use Rattle.adj_statement.specs.Said.{said}
 use Rattle.adj_parse.specs.Unit.{Current, Units, followed, open_blocks, is_misplaced}
 
 -- these are the statements of a text

@@ -6,11 +6,11 @@ ghost use Rattle.adj_text.specs.Unit as unit;
 ghost use Rattle.adj_parse.specs.Order.{may_follow, suits, leaves_loop};
 ghost use Rattle.adj_parse.specs.Unit.{begun, finished, continued};
 ghost use Rattle.adj_parse.specs.CurrentView.{current_of};
-ghost use Rattle.adj_parse.specs.View.{item_of, form_of};
+ghost use Rattle.adj_statement.specs.View.{item_of, form_of};
 
 use crate::nest::Nest;
 use crate::phase::Phase;
-use crate::said::{Item, Said};
+use adj_statement::{Item, Said};
 use adj_text::Kind;
 use adj_tree::{Decl, Decls, Memory, Name, NameList, Unit};
 use std::alloc::Global;

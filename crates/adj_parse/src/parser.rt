@@ -11,13 +11,12 @@ ghost use Rattle.adj_parse.specs.Unit.{followed, open_blocks, is_misplaced};
 ghost use Rattle.adj_parse.specs.Trees as trees;
 ghost use Rattle.adj_parse.specs.Trees.{is_large, is_deep, is_full, with_form, checked, behind, start, finish};
 ghost use Rattle.adj_parse.specs.CurrentView.{current_of, units_of, state_of};
-ghost use Rattle.adj_parse.specs.View.{form_of};
+ghost use Rattle.adj_statement.specs.View.{form_of};
 
 use crate::bounds::Bounds;
 use crate::current::Current;
-use crate::said::Said;
-use crate::statement::said;
 use adj_expression::Flaw;
+use adj_statement::{Said, said};
 use adj_text::{Kind, Mode, Stated};
 use adj_tree::{Fault, Memory, Program, Refusal, Unit, Units};
 use std::alloc::Global;

@@ -1,0 +1,57 @@
+-- SaidForms: what a statement is found to say, in the words of the grammar of texts.
+use Rattle.std.proofs.Common.{◌≡◌, ◌⊎◌, inl, inr, ℕ, Bool, true, false, List, Option, Some, None, option_map, IfSome, Ok, Err, sym, ap, ◌∙◌, subst}
+use Rattle.adj_text.proofs.TermWritten.{map_some}
+use Rattle.adj_text.specs.Form.{Form, ReadsForm}
+use Rattle.adj_text.specs.Word.{Word}
+use Rattle.adj_text.specs.declared.stated.Kind.{Kind}
+use Rattle.adj_text.specs.declared.stated.Kind.TheVariants.{Do}
+use Rattle.adj_expression.specs.Judged.{judged_by}
+use Rattle.adj_expression.specs.declared.flaw.Flaw.TheVariants.{Large, Deep}
+use Rattle.adj_statement.specs.Phrase.{Phrase, Says}
+use Rattle.adj_statement.specs.Phrases.{phrase_of}
+use Rattle.adj_statement.specs.Said.{phrase_large, phrase_deep, form, judged_phrase, said}
+use Rattle.adj_statement.proofs.PhraseComplete.{phrase_read}
+use Rattle.adj_statement.proofs.PhraseSound.{phrase_said}
+use Rattle.adj_statement.proofs.PhraseForms.{form_reads}
+use Rattle.adj_statement.proofs.FormPhrases.{form_says}
+
+judged_ok : (large deep : Bool) (o : Option Form) (f : Form) → judged_by large deep o ≡ Ok f → o ≡ Some f
+judged_ok true deep o f h = absurd cc
+judged_ok false true o f h = absurd cc
+judged_ok false false None f h = absurd cc
+judged_ok false false (Some g) f h = cc
+
+phrase_found : (o : Option Phrase) (P : Phrase → Type 0) (p : Phrase) → o ≡ Some p → IfSome o P → P p
+phrase_found None P p e h = absurd cc
+phrase_found (Some q) P p e h = let k : q ≡ p = cc in subst P k h
+
+-- a form that is found is one that the words have
+pub said_reads : (limit mark : ℕ) (kind : Kind) (words : List Word) (f : Form) → said limit mark kind words ≡ Some (Ok f) → (mark ≡ 0) ⊎ (kind ≡ Do) → ReadsForm mark kind words f
+unfolding said
+said_reads limit mark kind words f h m =
+    let k = map_some (judged_phrase limit mark) (phrase_of kind words) (Ok f) h in
+    form_reads (phrase_found (phrase_of kind words) (Says kind words) k.0 k.1 (phrase_said kind words)) f (judged_ok (phrase_large k.0) (phrase_deep limit k.0) (form mark k.0) f k.2) m
+
+-- a form that the words have is found, but for a literal that is too large and for the depth
+pub said_answers : (limit mark : ℕ) (kind : Kind) (words : List Word) (f : Form) → ReadsForm mark kind words f → (said limit mark kind words ≡ Some (Ok f)) ⊎ ((said limit mark kind words ≡ Some (Err Large)) ⊎ (said limit mark kind words ≡ Some (Err Deep)))
+unfolding said
+said_answers limit mark kind words f h =
+    let p = form_says h in
+    let found = ap (option_map (judged_phrase limit mark)) (phrase_read p.1) ∙ ap (λ o. Some (judged_by (phrase_large p.0) (phrase_deep limit p.0) o)) p.2 in
+    cases (phrase_large p.0) (phrase_deep limit p.0) found
+  where
+    cases : (large deep : Bool) → said limit mark kind words ≡ Some (judged_by large deep (Some f)) → (said limit mark kind words ≡ Some (Ok f)) ⊎ ((said limit mark kind words ≡ Some (Err Large)) ⊎ (said limit mark kind words ≡ Some (Err Deep)))
+    cases true deep e = inr (inl e)
+    cases false true e = inr (inr e)
+    cases false false e = inl e
+
+some_is : {A : Type 0} (p q : A) → Some p ≡ Some q → p ≡ q
+some_is p q h = cc
+
+-- and it is one form
+pub one_form : (mark : ℕ) (kind : Kind) (words : List Word) (f g : Form) → ReadsForm mark kind words f → ReadsForm mark kind words g → f ≡ g
+one_form mark kind words f g h k =
+    let p = form_says h in
+    let q = form_says k in
+    let same = some_is p.0 q.0 (sym (phrase_read p.1) ∙ phrase_read q.1) in
+    some_is f g (sym p.2 ∙ ap (form mark) same ∙ q.2)

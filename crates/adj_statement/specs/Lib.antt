@@ -1,0 +1,8 @@
+pub mod Phrase
+pub mod Phrases
+pub mod Flaws
+pub mod Said
+pub mod Fronts
+pub mod Called
+pub mod View
+pub mod WordsView

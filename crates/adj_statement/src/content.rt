@@ -1,0 +1,43 @@
+//! What a statement says.
+
+use crate::label::Label;
+use adj_tree::{Act, Cond, Expr, Extents, Name, NameList};
+
+/// A declared name with its extents, none where it is a scalar.
+#[derive(Drop)]
+pub struct Item {
+    pub name: Name,
+    pub extents: Extents,
+}
+
+/// A loop's variable, first value, limit and step.
+#[derive(Drop)]
+pub struct Range {
+    pub counter: Name,
+    pub from: Expr,
+    pub to: Expr,
+    pub by: Expr,
+}
+
+/// What a statement says, by its class.
+#[derive(Drop)]
+pub enum Said {
+    /// The name of a unit and its dummies.
+    Subroutine(Name, NameList),
+    ImplicitNone,
+    Integers(Vec<Item>),
+    /// An assignment or a CALL.
+    Simple(Act),
+    /// A logical IF with its assignment or CALL.
+    Guarded(Cond, Act),
+    /// A DO with its label, where it has one.
+    Do(Option<Label>, Range),
+    EndDo,
+    Continue,
+    If(Cond),
+    Else,
+    ElseIf(Cond),
+    EndIf,
+    Return,
+    End,
+}

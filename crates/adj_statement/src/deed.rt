@@ -1,0 +1,200 @@
+//! Assignments and CALLs.
+
+ghost use Rattle.std.specs.Prelude.{◌≡◌, ◌<◌, ℕ, List, map, IfOk, option_map};
+ghost use Rattle.adj_tree.specs.Code.{Term, Terms, plain, assign};
+ghost use Rattle.adj_tree.specs.Listed.{terms_listed};
+ghost use Rattle.adj_tree.specs.View.{term_of, act_of};
+ghost use Rattle.adj_expression.specs.Front.{front_expression};
+ghost use Rattle.adj_expression.specs.View.{seen};
+ghost use Rattle.adj_statement.specs.Called.{call_of};
+ghost use Rattle.adj_statement.specs.Flaws.{both, with_part};
+ghost use Rattle.adj_statement.specs.Fronts.{front_list, front_subscripts, front_place, front_assignment, front_actuals, front_call};
+ghost use Rattle.adj_statement.specs.View.{place_seen};
+ghost use Rattle.adj_statement.specs.WordsView.{words_in};
+
+use crate::called::called;
+use crate::flaws::{both, with_part};
+use crate::words::Words;
+use adj_expression::Flaw;
+use adj_tree::{Act, Expr, Exprs, Memory, Name, Place};
+use std::alloc::Global;
+
+// Expressions with one more.
+fn with_expression(
+    all: Result<Vec<Expr>, Flaw>,
+    next: Result<Expr, Flaw>,
+) -> Result<Result<Vec<Expr>, Flaw>, Memory>
+    ensures { IfOk result (λ r. seen (λ v. map term_of v.items) r ≡ with_part (seen (λ v. map term_of v.items) all) (seen term_of next)) }
+{
+    with_part(all, next)
+}
+
+// One or two subscripts, and what stands behind them.
+#[tactic(auto, using(crate::proofs::Deeds::front_subscripts_on))]
+fn subscripts(
+    alloc: Global,
+    words: Words,
+    limit: u32,
+) -> Result<Option<(Result<Vec<Expr>, Flaw>, Words)>, Memory>
+    requires { limit < 1000 }
+    ensures { IfOk result (λ found. option_map (λ f. (seen (λ v. map term_of v.items) f.0, words_in f.1)) found ≡ front_subscripts limit (words_in words.entry)) }
+{
+    let Some((first, rest)) = words.expression(alloc, limit)? else {
+        return Ok(None);
+    };
+    let all = with_expression(Ok(Vec::new(alloc)), first)?;
+    let Some(behind) = rest.behind_comma() else {
+        return Ok(Some((all, rest)));
+    };
+    match behind.expression(alloc, limit)? {
+        Some((second, rest)) => Ok(Some((with_expression(all, second)?, rest))),
+        None => Ok(None),
+    }
+}
+
+// A place with these subscripts, or what is wrong with them.
+fn placed(
+    alloc: Global,
+    name: Name,
+    subscripts: Result<Vec<Expr>, Flaw>,
+) -> Result<Result<Place, Flaw>, Memory>
+    ensures { IfOk result (λ r. seen place_seen r ≡ seen (λ ts. (name, terms_listed ts)) (seen (λ v. map term_of v.items) subscripts)) }
+{
+    match subscripts {
+        Ok(all) => {
+            let subs = Exprs::from_vec(alloc, all)?;
+            Ok(Ok(Place { name, subs }))
+        }
+        Err(flaw) => Ok(Err(flaw)),
+    }
+}
+
+// A variable, or one with one or two subscripts, and what stands behind it.
+#[tactic(auto, using(crate::proofs::Deeds::front_place_on))]
+fn place(
+    alloc: Global,
+    words: Words,
+    limit: u32,
+) -> Result<Option<(Result<Place, Flaw>, Words)>, Memory>
+    requires { limit < 1000 }
+    ensures { IfOk result (λ found. option_map (λ f. (seen place_seen f.0, words_in f.1)) found ≡ front_place limit (words_in words.entry)) }
+{
+    let Some((name, rest)) = words.name(alloc)? else {
+        return Ok(None);
+    };
+    let Some(inner) = rest.behind_left() else {
+        let subs = Exprs::Empty;
+        return Ok(Some((Ok(Place { name, subs }), rest)));
+    };
+    let Some((subs, rest)) = subscripts(alloc, inner, limit)? else {
+        return Ok(None);
+    };
+    match rest.behind_right() {
+        Some(rest) => Ok(Some((placed(alloc, name, subs)?, rest))),
+        None => Ok(None),
+    }
+}
+
+// An assignment to a place, or what is wrong with its parts.
+fn assigned(place: Result<Place, Flaw>, value: Result<Expr, Flaw>) -> Result<Act, Flaw>
+    ensures { seen act_of result ≡ seen (λ (q : (List ℕ × Terms) × Term). assign (plain q.0.0) q.0.1 q.1) (both (seen place_seen place) (seen term_of value)) }
+{
+    match both(place, value) {
+        Ok((place, value)) => Ok(Act::Assign(place, value)),
+        Err(flaw) => Err(flaw),
+    }
+}
+
+/// The assignment that the words are, or what is wrong with it.
+#[tactic(auto, using(crate::proofs::Deeds::front_assignment_on))]
+pub(crate) fn assignment(
+    alloc: Global,
+    words: Words,
+    limit: u32,
+) -> Result<Option<Result<Act, Flaw>>, Memory>
+    requires { limit < 1000 }
+    ensures { IfOk result (λ found. option_map (seen act_of) found ≡ front_assignment limit (words_in words.entry)) }
+{
+    let Some((place, rest)) = place(alloc, words, limit)? else {
+        return Ok(None);
+    };
+    let Some(rest) = rest.behind_equals() else {
+        return Ok(None);
+    };
+    match rest.expression(alloc, limit)? {
+        Some((value, rest)) => Ok(rest.ended(assigned(place, value))),
+        None => Ok(None),
+    }
+}
+
+// Expressions separated by commas, and what stands behind them.
+#[tactic(auto, using(crate::proofs::Lists::expressions_on), unfolding(crate::specs::Fronts::front_list))]
+fn arguments(
+    alloc: Global,
+    words: Words,
+    limit: u32,
+) -> Result<Option<(Result<Vec<Expr>, Flaw>, Words)>, Memory>
+    requires { limit < 1000 }
+    ensures { IfOk result (λ found. option_map (λ f. (seen (λ v. map term_of v.items) f.0, words_in f.1)) found ≡ front_list (front_expression limit) (words_in words.entry)) }
+{
+    let Some((first, mut rest)) = words.expression(alloc, limit)? else {
+        return Ok(None);
+    };
+    let mut all = with_expression(Ok(Vec::new(alloc)), first)?;
+    while let Some(behind) = rest.behind_comma() {
+        let Some((next, others)) = behind.expression(alloc, limit)? else {
+            return Ok(None);
+        };
+        all = with_expression(all, next)?;
+        rest = others;
+    }
+    Ok(Some((all, rest)))
+}
+
+// The actuals behind the name up to the end: none where there are no parentheses, or nothing in them.
+#[tactic(auto, using(crate::proofs::Deeds::front_actuals_on))]
+fn actuals(
+    alloc: Global,
+    words: Words,
+    limit: u32,
+) -> Result<Option<Result<Vec<Expr>, Flaw>>, Memory>
+    requires { limit < 1000 }
+    ensures { IfOk result (λ found. option_map (seen (λ v. map term_of v.items)) found ≡ front_actuals limit (words_in words.entry)) }
+{
+    if words.are_none() {
+        return Ok(Some(Ok(Vec::new(alloc))));
+    }
+    let Some(words) = words.behind_left() else {
+        return Ok(None);
+    };
+    if let Some(rest) = words.behind_right() {
+        return Ok(rest.ended(Ok(Vec::new(alloc))));
+    }
+    let Some((all, rest)) = arguments(alloc, words, limit)? else {
+        return Ok(None);
+    };
+    match rest.behind_right() {
+        Some(rest) => Ok(rest.ended(all)),
+        None => Ok(None),
+    }
+}
+
+/// The CALL that the words behind the word CALL are, or what is wrong with it.
+#[tactic(auto, using(crate::proofs::Deeds::front_call_on))]
+pub(crate) fn call(
+    alloc: Global,
+    words: Words,
+    limit: u32,
+) -> Result<Option<Result<Act, Flaw>>, Memory>
+    requires { limit < 1000 }
+    ensures { IfOk result (λ found. option_map (seen act_of) found ≡ front_call limit (words_in words.entry)) }
+{
+    let Some((name, rest)) = words.name(alloc)? else {
+        return Ok(None);
+    };
+    match actuals(alloc, rest, limit)? {
+        Some(Ok(all)) => Ok(Some(Ok(called(alloc, name, all)?))),
+        Some(Err(flaw)) => Ok(Some(Err(flaw))),
+        None => Ok(None),
+    }
+}

@@ -1,0 +1,66 @@
+//! The heading of a unit.
+
+ghost use Rattle.std.specs.Prelude.{◌≡◌, IfOk, option_map};
+ghost use Rattle.adj_text.specs.Form.{subroutine};
+ghost use Rattle.adj_statement.specs.Phrases.{read_names, read_dummies, read_head};
+ghost use Rattle.adj_statement.specs.WordsView.{words_in};
+
+use crate::words::Words;
+use adj_tree::{Memory, Name, NameList};
+use std::alloc::Global;
+
+// Names separated by commas, and what stands behind them.
+#[tactic(auto, using(crate::proofs::Lists::names_on), unfolding(crate::specs::Phrases::read_names))]
+fn names(alloc: Global, words: Words) -> Result<Option<(Vec<Name>, Words)>, Memory>
+    ensures { IfOk result (λ found. option_map (λ f. (f.0.items, words_in f.1)) found ≡ read_names (words_in words.entry)) }
+{
+    let Some((first, mut rest)) = words.name(alloc)? else {
+        return Ok(None);
+    };
+    let mut names = vec![in alloc; first]?;
+    while let Some(behind) = rest.behind_comma() {
+        let Some((next, others)) = behind.name(alloc)? else {
+            return Ok(None);
+        };
+        names.push(next)?;
+        rest = others;
+    }
+    Ok(Some((names, rest)))
+}
+
+// The dummies behind the name up to the end: none where there are no parentheses, or nothing in them.
+#[tactic(auto, unfolding(crate::specs::Phrases::read_dummies))]
+fn dummies(alloc: Global, words: Words) -> Result<Option<NameList>, Memory>
+    ensures { IfOk result (λ found. found ≡ read_dummies (words_in words.entry)) }
+{
+    if words.are_none() {
+        return Ok(Some(NameList::new(Vec::new(alloc))));
+    }
+    let Some(words) = words.behind_left() else {
+        return Ok(None);
+    };
+    if let Some(rest) = words.behind_right() {
+        return Ok(rest.ended(NameList::new(Vec::new(alloc))));
+    }
+    let Some((names, rest)) = names(alloc, words)? else {
+        return Ok(None);
+    };
+    match rest.behind_right() {
+        Some(rest) => Ok(rest.ended(NameList::new(names))),
+        None => Ok(None),
+    }
+}
+
+/// The name of a unit and its dummies, of the words behind SUBROUTINE.
+#[tactic(auto, unfolding(crate::specs::Phrases::read_head))]
+pub(crate) fn head(alloc: Global, words: Words) -> Result<Option<(Name, NameList)>, Memory>
+    ensures { IfOk result (λ found. option_map (λ f. subroutine f.0 f.1) found ≡ read_head (words_in words.entry)) }
+{
+    let Some((name, rest)) = words.name(alloc)? else {
+        return Ok(None);
+    };
+    match dummies(alloc, rest)? {
+        Some(dummies) => Ok(Some((name, dummies))),
+        None => Ok(None),
+    }
+}

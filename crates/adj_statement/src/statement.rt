@@ -1,0 +1,234 @@
+//! One statement.
+
+ghost use Rattle.std.specs.Prelude.{◌≡◌, ◌<◌, IfOk, option_map};
+ghost use Rattle.adj_tree.specs.Code.{Term, plain};
+ghost use Rattle.adj_tree.specs.View.{term_of, test_of, act_of};
+ghost use Rattle.adj_text.specs.Word.{words_of};
+ghost use Rattle.adj_expression.specs.Front.{AreSlices};
+ghost use Rattle.adj_expression.specs.View.{seen};
+ghost use Rattle.adj_statement.specs.Flaws.{both};
+ghost use Rattle.adj_statement.specs.Fronts.{front_guard, front_test, front_guarded, front_logical, front_step, front_bounds, front_label, front_do};
+ghost use Rattle.adj_statement.specs.Said.{said};
+ghost use Rattle.adj_statement.specs.View.{label_of, range_of, guarded_seen, loop_seen, form_of};
+ghost use Rattle.adj_statement.specs.WordsView.{words_in};
+
+use crate::content::{Range, Said};
+use crate::declaration::items;
+use crate::deed::{assignment, call};
+use crate::flaws::both;
+use crate::heading::head;
+use crate::label::Label;
+use crate::words::Words;
+use adj_expression::Flaw;
+use adj_text::{Kind, Stated};
+use adj_tree::{Act, Cond, Expr, Memory, Name};
+use std::alloc::Global;
+
+// A condition in parentheses, and what stands behind it.
+#[tactic(auto, using(crate::proofs::Guards::front_guard_on))]
+fn guard(
+    alloc: Global,
+    words: Words,
+    limit: u32,
+) -> Result<Option<(Result<Cond, Flaw>, Words)>, Memory>
+    requires { limit < 1000 }
+    ensures { IfOk result (λ found. option_map (λ f. (seen test_of f.0, words_in f.1)) found ≡ front_guard limit (words_in words.entry)) }
+{
+    let Some(inner) = words.behind_left() else {
+        return Ok(None);
+    };
+    let Some((condition, rest)) = inner.condition(alloc, limit)? else {
+        return Ok(None);
+    };
+    match rest.behind_right() {
+        Some(rest) => Ok(Some((condition, rest))),
+        None => Ok(None),
+    }
+}
+
+// A condition in parentheses up to the end.
+#[tactic(auto, using(crate::proofs::Guards::front_test_on))]
+fn test(alloc: Global, words: Words, limit: u32) -> Result<Option<Result<Cond, Flaw>>, Memory>
+    requires { limit < 1000 }
+    ensures { IfOk result (λ found. option_map (seen test_of) found ≡ front_test limit (words_in words.entry)) }
+{
+    match guard(alloc, words, limit)? {
+        Some((condition, rest)) => Ok(rest.ended(condition)),
+        None => Ok(None),
+    }
+}
+
+// What a logical IF guards.
+#[tactic(auto, using(crate::proofs::Guards::front_guarded_on))]
+fn guarded(alloc: Global, words: Words, limit: u32) -> Result<Option<Result<Act, Flaw>>, Memory>
+    requires { limit < 1000 }
+    ensures { IfOk result (λ found. option_map (seen act_of) found ≡ front_guarded limit (words_in words.entry)) }
+{
+    match words.behind_call() {
+        Some(rest) => call(alloc, rest, limit),
+        None => assignment(alloc, words, limit),
+    }
+}
+
+// The condition of a logical IF and what it guards, or what is wrong with them.
+fn joined(condition: Result<Cond, Flaw>, act: Result<Act, Flaw>) -> Result<(Cond, Act), Flaw>
+    ensures { seen guarded_seen result ≡ both (seen test_of condition) (seen act_of act) }
+{
+    both(condition, act)
+}
+
+// The condition of a logical IF and what it guards, of the words behind IF.
+#[tactic(auto, using(crate::proofs::Guards::front_logical_on))]
+fn logical(
+    alloc: Global,
+    words: Words,
+    limit: u32,
+) -> Result<Option<Result<(Cond, Act), Flaw>>, Memory>
+    requires { limit < 1000 }
+    ensures { IfOk result (λ found. option_map (seen guarded_seen) found ≡ front_logical limit (words_in words.entry)) }
+{
+    let Some((condition, rest)) = guard(alloc, words, limit)? else {
+        return Ok(None);
+    };
+    match guarded(alloc, rest, limit)? {
+        Some(act) => Ok(Some(joined(condition, act))),
+        None => Ok(None),
+    }
+}
+
+// The step of a loop, 1 where it has none.
+#[tactic(auto, using(crate::proofs::Loops::front_step_on))]
+fn step(alloc: Global, words: Words, limit: u32) -> Result<Option<Result<Expr, Flaw>>, Memory>
+    requires { limit < 1000 }
+    ensures { IfOk result (λ found. option_map (seen term_of) found ≡ front_step limit (words_in words.entry)) }
+{
+    if words.are_none() {
+        return Ok(Some(Ok(Expr::Lit(1))));
+    }
+    let Some(words) = words.behind_comma() else {
+        return Ok(None);
+    };
+    match words.expression(alloc, limit)? {
+        Some((step, rest)) => Ok(rest.ended(step)),
+        None => Ok(None),
+    }
+}
+
+// The bounds of a loop, or what is wrong with them.
+fn ranged(
+    counter: Name,
+    from: Result<Expr, Flaw>,
+    to: Result<Expr, Flaw>,
+    by: Result<Expr, Flaw>,
+) -> Result<Range, Flaw>
+    ensures { seen range_of result ≡ seen (λ (q : (Term × Term) × Term). record { counter = plain counter; from = q.0.0; to = q.0.1; by = q.1 }) (both (both (seen term_of from) (seen term_of to)) (seen term_of by)) }
+{
+    match both(both(from, to), by) {
+        Ok(((from, to), by)) => Ok(Range {
+            counter,
+            from,
+            to,
+            by,
+        }),
+        Err(flaw) => Err(flaw),
+    }
+}
+
+// The bounds of a loop, of the words behind its label.
+#[tactic(auto, using(crate::proofs::Loops::front_bounds_on))]
+fn bounds(alloc: Global, words: Words, limit: u32) -> Result<Option<Result<Range, Flaw>>, Memory>
+    requires { limit < 1000 }
+    ensures { IfOk result (λ found. option_map (seen range_of) found ≡ front_bounds limit (words_in words.entry)) }
+{
+    let Some((counter, rest)) = words.name(alloc)? else {
+        return Ok(None);
+    };
+    let Some(rest) = rest.behind_equals() else {
+        return Ok(None);
+    };
+    let Some((from, rest)) = rest.expression(alloc, limit)? else {
+        return Ok(None);
+    };
+    let Some(rest) = rest.behind_comma() else {
+        return Ok(None);
+    };
+    let Some((to, rest)) = rest.expression(alloc, limit)? else {
+        return Ok(None);
+    };
+    match step(alloc, rest, limit)? {
+        Some(by) => Ok(Some(ranged(counter, from, to, by))),
+        None => Ok(None),
+    }
+}
+
+// The label behind DO, where there is one, and what stands behind it and a comma.
+#[tactic(auto, unfolding(crate::specs::Phrases::read_label, crate::specs::Fronts::front_label))]
+fn label(alloc: Global, words: Words) -> Result<(Option<Label>, Words), Memory>
+    ensures { IfOk result (λ found. (option_map label_of found.0, words_in found.1) ≡ front_label (words_in words.entry)) }
+{
+    match words.digits() {
+        Some((digits, rest)) => {
+            let label = Label::new(alloc, digits)?;
+            Ok((Some(label), rest.behind_comma().unwrap_or(rest)))
+        }
+        None => Ok((None, words)),
+    }
+}
+
+// The label and the bounds of a loop, of the words behind DO.
+#[tactic(auto, using(crate::proofs::Loops::front_do_on))]
+fn looped(
+    alloc: Global,
+    words: Words,
+    limit: u32,
+) -> Result<Option<Result<(Option<Label>, Range), Flaw>>, Memory>
+    requires { limit < 1000 }
+    ensures { IfOk result (λ found. option_map (seen loop_seen) found ≡ front_do limit (words_in words.entry)) }
+{
+    let (label, rest) = label(alloc, words)?;
+    match bounds(alloc, rest, limit)? {
+        Some(Ok(range)) => Ok(Some(Ok((label, range)))),
+        Some(Err(flaw)) => Ok(Some(Err(flaw))),
+        None => Ok(None),
+    }
+}
+
+/// What a statement says, or what is wrong with its expressions; none where its words aren't of the form of its class.
+/// Its expressions and conditions are at most as deep as the limit. What is wrong is the least flaw of all of them, in the order large, deep, exponent.
+#[tactic(auto, using(crate::proofs::Phrased::classes))]
+pub fn said(
+    alloc: Global,
+    stated: &Stated,
+    limit: u32,
+) -> Result<Option<Result<Said, Flaw>>, Memory>
+    requires slices { AreSlices stated.now.text stated.now.tokens }
+    requires limit { limit < 1000 }
+    ensures said { IfOk result (λ found. option_map (seen (form_of stated.now.mark)) found ≡ said limit stated.now.mark stated.now.kind (words_of stated.now.text stated.now.tokens)) }
+{
+    let words = Words::new(stated.text.as_slice(), stated.tokens.as_slice());
+    match stated.kind {
+        Kind::Subroutine => {
+            Ok(head(alloc, words)?.map(|(name, dummies)| Ok(Said::Subroutine(name, dummies))))
+        }
+        Kind::Integer => Ok(items(alloc, words)?.map(|items| items.map(Said::Integers))),
+        Kind::Assign => Ok(assignment(alloc, words, limit)?.map(|act| act.map(Said::Simple))),
+        Kind::Call => Ok(call(alloc, words, limit)?.map(|act| act.map(Said::Simple))),
+        Kind::LogicalIf => {
+            let parts = logical(alloc, words, limit)?;
+            Ok(parts.map(|parts| parts.map(|(condition, act)| Said::Guarded(condition, act))))
+        }
+        Kind::Do => {
+            let parts = looped(alloc, words, limit)?;
+            Ok(parts.map(|parts| parts.map(|(label, range)| Said::Do(label, range))))
+        }
+        Kind::BlockIf => Ok(test(alloc, words, limit)?.map(|c| c.map(Said::If))),
+        Kind::ElseIf => Ok(test(alloc, words, limit)?.map(|c| c.map(Said::ElseIf))),
+        Kind::ImplicitNone => Ok(words.ended(Ok(Said::ImplicitNone))),
+        Kind::EndDo => Ok(words.ended(Ok(Said::EndDo))),
+        Kind::Continue => Ok(words.ended(Ok(Said::Continue))),
+        Kind::Else => Ok(words.ended(Ok(Said::Else))),
+        Kind::EndIf => Ok(words.ended(Ok(Said::EndIf))),
+        Kind::Return => Ok(words.ended(Ok(Said::Return))),
+        Kind::End => Ok(words.ended(Ok(Said::End))),
+    }
+}
