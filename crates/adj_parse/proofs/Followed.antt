@@ -1,5 +1,6 @@
 -- The chain of faults: what it lets through is derived, and what is derived it refuses for its size alone.
 use Rattle.std.proofs.Common.{◌≡◌, ℕ, Bool, true, false, cond, List, [], ◌∷◌, Option, Some, None, Result, Ok, Err, refl, sym, ap, subst, ◌∙◌, ◌⊎◌, inl, inr}
+use Rattle.std.proofs.Math.Dec.{eqb-suc-zero}
 use Rattle.std.proofs.lemmas.Bool.{eqb-true, or_parts}
 use Rattle.std.specs.Prelude.{◌==◌, ◌&&◌, ◌||◌, not, is_none, nat_le, length, unwrap_or}
 use Rattle.adj_tree.specs.Code.{Procedure}
@@ -7,7 +8,7 @@ use Rattle.adj_tree.specs.declared.fault.Refusal.{Refusal}
 use Rattle.adj_expression.specs.declared.flaw.Flaw.{Flaw}
 use Rattle.adj_expression.specs.declared.flaw.Flaw.TheVariants.{Large, Deep}
 use Rattle.adj_text.specs.Form as forms
-use Rattle.adj_text.specs.Form.{Form, Statement, at, ReadsForm}
+use Rattle.adj_text.specs.Form.{Form, Statement, at, ReadsForm, subroutine, ends}
 use Rattle.adj_text.specs.Reads as texts
 use Rattle.adj_text.specs.Reads.{ReadsAll}
 use Rattle.adj_text.specs.Refused.{◌>>=◌, limited}
@@ -16,9 +17,9 @@ use Rattle.adj_text.specs.declared.mode.Mode.{Mode}
 use Rattle.adj_text.specs.declared.stated.Kind.{Kind}
 use Rattle.adj_text.specs.declared.stated.Kind.TheVariants.{Do, Assign, Call}
 use Rattle.adj_text.specs.declared.stated.Stated.{Stated}
-use Rattle.adj_parse.specs.Order.{breaks_loop, is_heading, opens_block}
+use Rattle.adj_parse.specs.Order.{breaks_loop, is_end, is_heading, opens_block}
 use Rattle.adj_statement.specs.Said.{said}
-use Rattle.adj_parse.specs.Trees.{bounds_of, State, is_do, has_stray_mark, is_large, is_deep, is_full, IsBeyond, with_form, checked, behind, follow, finish, trees_from}
+use Rattle.adj_parse.specs.Trees.{bounds_of, State, is_do, has_stray_mark, is_large, is_deep, is_full, IsBeyond, with_form, is_astray, checked, behind, follow, trees_from}
 use Rattle.adj_parse.specs.Unit.{Current, followed, open_blocks, is_misplaced}
 use Rattle.adj_text.proofs.LinesMarked.{bind_ok}
 use Rattle.adj_parse.proofs.Truths.{and_false}
@@ -60,27 +61,30 @@ with_form-ok (Some (Ok g)) line f h = cc
 with_form-ok (Some (Err e)) line f h = absurd cc
 
 -- what a statement that is let through has
-record Through (s : State) (t : Stated) (found : Option (Result Form Flaw)) (f : Form) : Type 0 where
+record Through (s : State) (t : Stated) (left : ℕ) (found : Option (Result Form Flaw)) (f : Form) : Type 0 where
   says : found ≡ Some (Ok f)
   led : has_stray_mark t ≡ false
   place : is_misplaced t.kind s.units.current ≡ false
+  end : ((left == 0) && not (is_end t.kind)) ≡ false
   breaks : breaks_loop t.kind t.label (open_blocks s.units.current) ≡ false
 
-through : (mode : Mode) (s : State) (t : Stated) (found : Option (Result Form Flaw)) (f : Form) → checked (bounds_of mode) s t found ≡ Ok f → Through s t found f
-through mode s t found f h =
+through : (mode : Mode) (s : State) (t : Stated) (left : ℕ) (found : Option (Result Form Flaw)) (f : Form) → checked (bounds_of mode) s t left found ≡ Ok f → Through s t left found f
+through mode s t left found f h =
     let misplaced = is_misplaced t.kind s.units.current in
+    let cut_off = (left == 0) && not (is_end t.kind) in
     let broken = breaks_loop t.kind t.label (open_blocks s.units.current) in
     let too_many = is_heading t.kind && is_full (bounds_of mode).units (length s.units.done) in
     let too_nested = opens_block t.kind && nat_le (bounds_of mode).nesting (length (open_blocks s.units.current)) in
     let a = let_through (has_stray_mark t) _ _ f h in
-    let b = let_through (is_none found || misplaced) _ _ f a.1 in
+    let b = let_through (is_none found || (misplaced || cut_off)) _ _ f a.1 in
     let c = let_through (is_large found) _ _ f b.1 in
     let d = let_through broken _ _ f c.1 in
     let e = let_through too_many _ _ f d.1 in
     let g = let_through (s.room == 0) _ _ f e.1 in
     let i = let_through (is_deep found) _ _ f g.1 in
     let j = let_through too_nested _ _ f i.1 in
-    record { says = with_form-ok found t.line f j.1; led = a.0; place = (or_parts (is_none found) misplaced b.0).1; breaks = d.0 }
+    let right = or_parts misplaced cut_off (or_parts (is_none found) (misplaced || cut_off) b.0).1 in
+    record { says = with_form-ok found t.line f j.1; led = a.0; place = right.0; end = right.1; breaks = d.0 }
 
 -- the answer, or a refusal of a literal or for a limit
 abbrev Comes : {A : Type 0} → A → Result A Refusal → Type 0
@@ -91,8 +95,8 @@ limits_or x true limit line r h = inr (record { code = 21; line = line; number =
 limits_or x false limit line r h = h
 
 -- what stands rightly and is derived is let through, or refused for its size
-comes : (mode : Mode) (s : State) (t : Stated) (found : Option (Result Form Flaw)) (f : Form) → has_stray_mark t ≡ false → is_misplaced t.kind s.units.current ≡ false → breaks_loop t.kind t.label (open_blocks s.units.current) ≡ false → (found ≡ Some (Ok f)) ⊎ ((found ≡ Some (Err Large)) ⊎ (found ≡ Some (Err Deep))) → Comes f (checked (bounds_of mode) s t found)
-comes mode s t found f led place breaks says =
+comes : (mode : Mode) (s : State) (t : Stated) (left : ℕ) (found : Option (Result Form Flaw)) (f : Form) → has_stray_mark t ≡ false → is_astray t left s.units.current ≡ false → breaks_loop t.kind t.label (open_blocks s.units.current) ≡ false → (found ≡ Some (Ok f)) ⊎ ((found ≡ Some (Err Large)) ⊎ (found ≡ Some (Err Deep))) → Comes f (checked (bounds_of mode) s t left found)
+comes mode s t left found f led place breaks says =
     let nested = opens_block t.kind && nat_le (bounds_of mode).nesting (length (open_blocks s.units.current)) in
     let many = is_heading t.kind && is_full (bounds_of mode).units (length s.units.done) in
     let limited_first : (r : Result Form Refusal) → Comes f r → Comes f (cond many (limited (unwrap_or (bounds_of mode).units 0) t.line) (cond (s.room == 0) (limited (bounds_of mode).statements t.line) r)) =
@@ -106,6 +110,10 @@ comes mode s t found f led place breaks says =
 -- the words of a statement
 abbrev words : Stated → List Word
 words t = words_of t.text t.tokens
+
+sure : (b : Bool) → (true && not b) ≡ false → b ≡ true
+sure true h = refl
+sure false h = absurd cc
 
 not_both : (a b : Bool) → (not a && not b) ≡ true → (a ≡ false) × (b ≡ false)
 not_both true b h = absurd cc
@@ -141,13 +149,44 @@ led_form forms.ReadsForm.closed = refl
 led_form forms.ReadsForm.returned = refl
 led_form forms.ReadsForm.ended = refl
 
-finish_ok : (done : List Procedure) (current : Option Current) (line : ℕ) (ps : List Procedure) → finish done current line ≡ Ok ps → units_of done current ≡ Some ps
-finish_ok done None line ps h = cc
-finish_ok done (Some c) line ps h = absurd cc
+-- END is END, and closes the unit
+same_end : {mark : ℕ} {kind : Kind} {ws : List Word} {f : Form} → ReadsForm mark kind ws f → is_end kind ≡ is_end (kind_of f)
+same_end (forms.ReadsForm.heading d) = refl
+same_end forms.ReadsForm.implicit = refl
+same_end (forms.ReadsForm.declaration d) = refl
+same_end (forms.ReadsForm.assigned d) = refl
+same_end (forms.ReadsForm.calls d) = refl
+same_end (forms.ReadsForm.guarded d e) = refl
+same_end (forms.ReadsForm.begins d) = refl
+same_end forms.ReadsForm.finished = refl
+same_end forms.ReadsForm.continued = refl
+same_end (forms.ReadsForm.tests d) = refl
+same_end forms.ReadsForm.turns = refl
+same_end (forms.ReadsForm.tests_again d) = refl
+same_end forms.ReadsForm.closed = refl
+same_end forms.ReadsForm.returned = refl
+same_end forms.ReadsForm.ended = refl
 
-ok_finish : (done : List Procedure) (current : Option Current) (line : ℕ) (ps : List Procedure) → units_of done current ≡ Some ps → finish done current line ≡ Ok ps
-ok_finish done None line ps h = cc
-ok_finish done (Some c) line ps h = absurd cc
+-- behind END no unit is open
+end_closes : (done : List Procedure) (current : Option Current) (n l : ℕ) (f : Form) → is_end (kind_of f) ≡ true → (followed done current n l f).current ≡ None
+end_closes done None n l ends h = refl
+end_closes done (Some c) n l ends h = refl
+end_closes done current n l f h = absurd cc
+
+-- a statement behind which no unit is open, and which stands where it may, is END
+closes_end : (done : List Procedure) (current : Option Current) (n l : ℕ) (f : Form) → stands (kind_of f) l current ≡ true → (followed done current n l f).current ≡ None → is_end (kind_of f) ≡ true
+closes_end done (Some c) n l ends p h = refl
+closes_end done (Some c) n l f p h = absurd cc
+closes_end done None n l (subroutine x dummies) p h = absurd cc
+closes_end done None n l f p h = absurd cc
+
+units_none : (done : List Procedure) (current : Option Current) (ps : List Procedure) → units_of done current ≡ Some ps → current ≡ None
+units_none done None ps h = refl
+units_none done (Some c) ps h = absurd cc
+
+units_done : (done : List Procedure) (current : Option Current) (ps : List Procedure) → units_of done current ≡ Some ps → done ≡ ps
+units_done done None ps h = cc
+units_done done (Some c) ps h = absurd cc
 
 module _ (mode : Mode) where
   -- each of some statements says what stands here, and its directive has its place
@@ -166,29 +205,45 @@ module _ (mode : Mode) where
   abbrev found : Stated → Option (Result Form Flaw)
   found t = said (bounds_of mode).depth t.mark t.kind (words t)
 
+  -- where no statement is left, no unit is open
+  abbrev pub Closed : List Stated → State → Type 0
+  Closed [] s = s.units.current ≡ None
+  Closed (t ∷ ts) s = Unit {0}
+
   -- what the chain answers, the machine answers for what the statements say
-  pub chain_runs : (ts : List Stated) (s : State) (ps : List Procedure) → trees_from mode s ts ≡ Ok ps → (ss : List Statement) × AllSay ts ss × (run s.units ss ≡ Some ps)
+  pub chain_runs : (ts : List Stated) (s : State) (ps : List Procedure) → Closed ts s → trees_from mode s ts ≡ Ok ps → (ss : List Statement) × AllSay ts ss × (run s.units ss ≡ Some ps)
   unfolding trees_from follow run
-  chain_runs [] s ps h = ([], none, finish_ok s.units.done s.units.current s.line ps h)
-  chain_runs (t ∷ ts) s ps h =
-      let a = bind_ok (follow mode s t) (λ next. trees_from mode next ts) ps h in
-      let b = bind_ok (checked (bounds_of mode) s t (found t)) (λ f. Ok (behind s t f)) a.0 a.1 in
+  chain_runs [] s ps closed h = let same : s.units.done ≡ ps = cc in ([], none, rw closed (ap Some same))
+  chain_runs (t ∷ ts) s ps closed h =
+      let a = bind_ok (follow mode s t (length ts)) (λ next. trees_from mode next ts) ps h in
+      let b = bind_ok (checked (bounds_of mode) s t (length ts) (found t)) (λ f. Ok (behind s t f)) a.0 a.1 in
       let f : Form = b.0 in
-      let thr = through mode s t (found t) f b.1 in
+      let thr = through mode s t (length ts) (found t) f b.1 in
       let here : behind s t f ≡ a.0 = cc (b.2) in
-      let rest = chain_runs ts (behind s t f) ps (ap (λ next. trees_from mode next ts) here ∙ a.2) in
       let d = said_reads (bounds_of mode).depth t.mark t.kind (words t) f thr.says (led_by t thr.led) in
+      let rest = chain_runs ts (behind s t f) ps (closes ts d thr.end) (ap (λ next. trees_from mode next ts) here ∙ a.2) in
       let place : stands t.kind t.label s.units.current ≡ true = rw (thr.place, thr.breaks) refl in
       let stands_so : stands (kind_of f) t.label s.units.current ≡ true = sym (same_place d t.label s.units.current) ∙ place in
       (at t.line t.label f ∷ rest.0, more thr.says thr.led rest.1, rw stands_so rest.2)
+    where
+      closes : {f : Form} (ts : List Stated) → ReadsForm t.mark t.kind (words t) f → ((length ts == 0) && not (is_end t.kind)) ≡ false → Closed ts (behind s t f)
+      closes {f} [] d e = end_closes s.units.done s.units.current t.line t.label f (sym (same_end d) ∙ sure (is_end t.kind) e)
+      closes (u ∷ us) d e = tt
 
   pub chain_comes : {ts : List Stated} {ss : List Statement} → ReadsAll ts ss → (s : State) (ps : List Procedure) → run s.units ss ≡ Some ps → Comes ps (trees_from mode s ts)
   unfolding trees_from follow run
-  chain_comes texts.ReadsAll.none s ps h = inl (ok_finish s.units.done s.units.current s.line ps h)
+  chain_comes texts.ReadsAll.none s ps h = inl (ap Ok (units_done s.units.done s.units.current ps h))
   chain_comes (texts.ReadsAll.more {s = t} {ss = ts} {f = f} {ts = ss} d rest) s ps h =
       let step = picked (stands (kind_of f) t.label s.units.current) (run (followed s.units.done s.units.current t.line t.label f) ss) h in
       let place = not_both (is_misplaced t.kind s.units.current) (breaks_loop t.kind t.label (open_blocks s.units.current)) (same_place d t.label s.units.current ∙ step.0) in
-      elim (comes mode s t (found t) f (led_form d) place.0 place.1 (said_answers (bounds_of mode).depth t.mark t.kind (words t) f d)) [
+      let right : is_astray t (length ts) s.units.current ≡ false = rw (place.0) (last_ends rest step.1) in
+      elim (comes mode s t (length ts) (found t) f (led_form d) right place.1 (said_answers (bounds_of mode).depth t.mark t.kind (words t) f d)) [
         | inl e ↦ subst (Comes ps) (sym (ap (λ r. (r >>= λ g. Ok (behind s t g)) >>= λ next. trees_from mode next ts) e)) (chain_comes rest (behind s t f) ps step.1)
         | inr (r, e, code) ↦ inr (r, ap (λ q. (q >>= λ g. Ok (behind s t g)) >>= λ next. trees_from mode next ts) e, code)
       ]
+    where
+      last_ends : {ts : List Stated} {ss : List Statement} → ReadsAll ts ss → run (followed s.units.done s.units.current t.line t.label f) ss ≡ Some ps → ((length ts == 0) && not (is_end t.kind)) ≡ false
+      last_ends texts.ReadsAll.none g =
+          let ended = closes_end s.units.done s.units.current t.line t.label f (picked (stands (kind_of f) t.label s.units.current) (run (followed s.units.done s.units.current t.line t.label f) ss) h).0 (units_none _ _ ps g) in
+          rw (same_end d, ended) refl
+      last_ends (texts.ReadsAll.more {ss = us} e r) g = rw (eqb-suc-zero (length us)) refl

@@ -18,21 +18,21 @@ use Rattle.adj_statement.specs.View.{form_of}
 use Rattle.adj_statement.specs.declared.content.Said.{Said}
 use Rattle.adj_parse.proofs.Seen.{checked_seen}
 
-module _ (mode : Mode) (bounds : Bounds) (bounds_are : bounds ≡ bounds_of mode) (s : State) (t : Stated) (found : Option (Result Said Flaw)) (is : option_map (seen (form_of t.mark)) found ≡ says.said bounds.depth t.mark t.kind (words_of t.text t.tokens)) where
+module _ (mode : Mode) (bounds : Bounds) (bounds_are : bounds ≡ bounds_of mode) (s : State) (t : Stated) (left : ℕ) (found : Option (Result Said Flaw)) (is : option_map (seen (form_of t.mark)) found ≡ says.said bounds.depth t.mark t.kind (words_of t.text t.tokens)) where
   within : Bounds → Result State Refusal
-  within b = checked b s t (says.said b.depth t.mark t.kind (words_of t.text t.tokens)) >>= λ f. Ok (behind s t f)
+  within b = checked b s t left (says.said b.depth t.mark t.kind (words_of t.text t.tokens)) >>= λ f. Ok (behind s t f)
 
-  followed_is : follow mode s t ≡ ((checked bounds s t found >>= λ x. Ok (form_of t.mark x)) >>= λ f. Ok (behind s t f))
+  followed_is : follow mode s t left ≡ ((checked bounds s t left found >>= λ x. Ok (form_of t.mark x)) >>= λ f. Ok (behind s t f))
   unfolding follow within
   followed_is =
-      ap within (sym bounds_are) ∙ ap (λ o. checked bounds s t o >>= λ f. Ok (behind s t f)) (sym is)
-      ∙ ap (λ r. r >>= λ f. Ok (behind s t f)) (checked_seen (form_of t.mark) bounds s t found)
+      ap within (sym bounds_are) ∙ ap (λ o. checked bounds s t left o >>= λ f. Ok (behind s t f)) (sym is)
+      ∙ ap (λ r. r >>= λ f. Ok (behind s t f)) (checked_seen (form_of t.mark) bounds s t left found)
 
-  pub follow_ok : (x : Said) (units : Units) (room : ℕ) → checked bounds s t found ≡ Ok x → units ≡ followed s.units.done s.units.current t.line t.label (form_of t.mark x) → room ≡ s.room - 1 → follow mode s t ≡ Ok (record { units = units; line = t.line; room = room })
+  pub follow_ok : (x : Said) (units : Units) (room : ℕ) → checked bounds s t left found ≡ Ok x → units ≡ followed s.units.done s.units.current t.line t.label (form_of t.mark x) → room ≡ s.room - 1 → follow mode s t left ≡ Ok (record { units = units; room = room })
   follow_ok x units room h e g =
-      let same : behind s t (form_of t.mark x) ≡ record { units = units; line = t.line; room = room } = rw (e, g) refl in
+      let same : behind s t (form_of t.mark x) ≡ record { units = units; room = room } = rw (e, g) refl in
       followed_is ∙ ap (λ r. (r >>= λ y. Ok (form_of t.mark y)) >>= λ f. Ok (behind s t f)) h ∙ ap Ok same
 
-  pub follow_fails : (e : Fault) → Fails e (checked bounds s t found) → Fails e (follow mode s t)
+  pub follow_fails : (e : Fault) → Fails e (checked bounds s t left found) → Fails e (follow mode s t left)
   follow_fails Memory h = tt
   follow_fails (Refused r) h = followed_is ∙ ap (λ q. (q >>= λ y. Ok (form_of t.mark y)) >>= λ f. Ok (behind s t f)) h

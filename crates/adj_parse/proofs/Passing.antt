@@ -1,7 +1,7 @@
 -- A pass over the statements of a text: one more, and the end; their tokens are slices of them.
 use Rattle.std.proofs.Common.{◌≡◌, ℕ, ◌+◌, ◌-◌, ◌<◌, ◌≤◌, List, [], ◌∷◌, length, drop, get_or, Result, Ok, sym, ap, ◌∙◌, arith}
 use Rattle.std.specs.Prelude.{All}
-use Rattle.std.proofs.lemmas.List.{at_drop_more, drop_all}
+use Rattle.std.proofs.lemmas.List.{at_drop_more, drop_all, length-drop}
 use Rattle.std.proofs.lemmas.List.Elements.{All-nil, All-cons}
 use Rattle.adj_tree.specs.Code.{Procedure}
 use Rattle.adj_tree.specs.declared.fault.Fault.{Fault}
@@ -18,25 +18,30 @@ use Rattle.adj_text.specs.declared.stated.Stated.{Stated}
 use Rattle.adj_text.specs.declared.token.Token.{Token}
 use Rattle.adj_text.proofs.Covering.{all_covered}
 use Rattle.adj_text.proofs.LinesMarked.{bind_ok}
-use Rattle.adj_parse.specs.Trees.{IsText, State, follow, finish, trees_from}
+use Rattle.adj_parse.specs.Trees.{IsText, State, follow, trees_from}
 
 module _ (mode : Mode) (s : State) (all : List Stated) (i : ℕ) (total : Result (List Procedure) Refusal) (so_far : trees_from mode s (drop i all) ≡ total) where
   -- no statement is left
-  pub over_end : length all ≤ i → finish s.units.done s.units.current s.line ≡ total
+  pub over_end : length all ≤ i → Ok s.units.done ≡ total
   unfolding trees_from
   over_end h = ap (trees_from mode s) (sym (drop_all i all h)) ∙ so_far
 
-  module _ (t : Stated) (within : i < length all) (here : t ≡ get_or all i t) where
-    one : trees_from mode s (drop i all) ≡ (follow mode s t >>= λ next. trees_from mode next (drop (i + 1) all))
+  module _ (t : Stated) (within : i < length all) (here : t ≡ get_or all i t) (left : ℕ) (behind : left ≡ length all - i - 1) where
+    left_behind : length (drop (i + 1) all) ≡ left
+    left_behind = omega (arith, length-drop (i + 1) all)
+
+    one : trees_from mode s (drop i all) ≡ (follow mode s t left >>= λ next. trees_from mode next (drop (i + 1) all))
     unfolding trees_from
-    one = at_drop_more (trees_from mode s) all i t within ∙ ap (λ x. trees_from mode s (x ∷ drop (i + 1) all)) (sym here)
+    one =
+        at_drop_more (trees_from mode s) all i t within ∙ ap (λ x. trees_from mode s (x ∷ drop (i + 1) all)) (sym here)
+        ∙ ap (λ n. follow mode s t n >>= λ next. trees_from mode next (drop (i + 1) all)) left_behind
 
     -- the next statement is read
-    pub over_more : (next : State) → follow mode s t ≡ Ok next → trees_from mode next (drop (i + 1) all) ≡ total
+    pub over_more : (next : State) → follow mode s t left ≡ Ok next → trees_from mode next (drop (i + 1) all) ≡ total
     over_more next h = sym (ap (λ r. r >>= λ n. trees_from mode n (drop (i + 1) all)) h) ∙ sym one ∙ so_far
 
     -- the next statement has a fault
-    pub over_fails : (e : Fault) → Fails e (follow mode s t) → Fails e total
+    pub over_fails : (e : Fault) → Fails e (follow mode s t left) → Fails e total
     over_fails Memory h = tt
     over_fails (Refused r) h = sym so_far ∙ one ∙ ap (λ q. q >>= λ n. trees_from mode n (drop (i + 1) all)) h
 

@@ -9,8 +9,8 @@ use Rattle.adj_text.specs.Refused.{◌>>=◌, refused}
 use Rattle.adj_text.specs.declared.stated.Stated.{Stated}
 use Rattle.adj_parse.specs.declared.bounds.Bounds.{Bounds}
 use Rattle.adj_parse.specs.Order.{breaks_loop, is_heading, opens_block}
-use Rattle.adj_parse.specs.Trees.{State, has_stray_mark, is_large, is_deep, is_full, with_form, limited_by, checked}
-use Rattle.adj_parse.specs.Unit.{open_blocks, is_misplaced}
+use Rattle.adj_parse.specs.Trees.{State, has_stray_mark, is_large, is_deep, is_full, with_form, limited_by, is_astray, checked}
+use Rattle.adj_parse.specs.Unit.{open_blocks}
 
 abbrev refusal : ℕ → ℕ → ℕ → Refusal
 refusal code line number = record { code = code; line = line; number = number }
@@ -56,9 +56,9 @@ module _ {A B : Type 0} (v : A → B) where
       let nested = opens_block t.kind && nat_le bounds.nesting (length (open_blocks s.units.current)) in
       rw (deep_seen found, form_seen found t.line) (sym (after_four many (s.room == 0) (is_deep found) nested (refusal 21 t.line (unwrap_or bounds.units 0)) (refusal 21 t.line bounds.statements) (refusal 21 t.line bounds.depth) (refusal 21 t.line bounds.nesting) (with_form found t.line)))
 
-  pub checked_seen : (bounds : Bounds) (s : State) (t : Stated) (found : Option (Result A Flaw)) → checked bounds s t (option_map (seen v) found) ≡ mapped (checked bounds s t found)
-  checked_seen bounds s t found =
-      let misplaced = is_none found || is_misplaced t.kind s.units.current in
+  pub checked_seen : (bounds : Bounds) (s : State) (t : Stated) (left : ℕ) (found : Option (Result A Flaw)) → checked bounds s t left (option_map (seen v) found) ≡ mapped (checked bounds s t left found)
+  checked_seen bounds s t left found =
+      let misplaced = is_none found || is_astray t left s.units.current in
       let broken = breaks_loop t.kind t.label (open_blocks s.units.current) in
       rw (none_seen found, large_seen found) (ap (λ r. cond (has_stray_mark t) (refused 20 t.mark_line) (cond misplaced (refused 4 t.line) (cond (is_large found) (refused 5 t.line) (cond broken (refused 10 t.line) r)))) (limited_seen bounds s t found)
       ∙ sym (after_four (has_stray_mark t) misplaced (is_large found) broken (refusal 20 t.mark_line 0) (refusal 4 t.line 0) (refusal 5 t.line 0) (refusal 10 t.line 0) (limited_by bounds s t found)))

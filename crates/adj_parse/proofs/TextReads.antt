@@ -1,5 +1,5 @@
 -- What the chain of faults answers for a text is what the text reads as.
-use Rattle.std.proofs.Common.{◌≡◌, ℕ, List, Result, Ok, Err, refl, subst, ◌⊎◌}
+use Rattle.std.proofs.Common.{◌≡◌, ℕ, List, [], ◌∷◌, Result, Ok, Err, refl, subst, ◌⊎◌}
 use Rattle.std.specs.Prelude.{IfOk}
 use Rattle.adj_tree.specs.Code.{Procedure}
 use Rattle.adj_tree.specs.View.{procedures_of}
@@ -21,20 +21,25 @@ use Rattle.adj_text.specs.declared.stated.Stated.{Stated}
 use Rattle.adj_text.proofs.ReadingWritten.{reading_written}
 use Rattle.adj_text.proofs.Unlimited.{statements_follow}
 use Rattle.adj_parse.specs.Trees.{IsText, start, trees_of, IsBeyond}
-use Rattle.adj_parse.proofs.Followed.{reads_all, all_fit, chain_runs, chain_comes}
+use Rattle.adj_parse.proofs.Followed.{Closed, reads_all, all_fit, chain_runs, chain_comes}
 use Rattle.adj_statement.proofs.SaidForms.{one_form}
 use Rattle.adj_parse.proofs.UnitsComplete.{units_run, one_units}
 use Rattle.adj_parse.proofs.UnitsFit.{units_fit}
 use Rattle.adj_parse.proofs.UnitsSound.{run_reads}
 
+-- before the first statement no unit is open
+closed : (mode : Mode) (stated : List Stated) → Closed mode stated (start mode)
+closed mode [] = refl
+closed mode (t ∷ ts) = tt
+
 pub derived : (mode : Mode) (stated : List Stated) (ps : List Procedure) → trees_of mode stated ≡ Ok ps → (statements : List Statement) × ReadsAll stated statements × ReadsUnits statements ps
-derived mode stated ps h = let r = chain_runs mode stated (start mode) ps h in (r.0, reads_all mode r.1, run_reads r.0 ps r.2)
+derived mode stated ps h = let r = chain_runs mode stated (start mode) ps (closed mode stated) h in (r.0, reads_all mode r.1, run_reads r.0 ps r.2)
 
 pub answered : (mode : Mode) (stated : List Stated) (statements : List Statement) (ps : List Procedure) → ReadsAll stated statements → ReadsUnits statements ps → (trees_of mode stated ≡ Ok ps) ⊎ IsBeyond (trees_of mode stated)
 answered mode stated statements ps all units = chain_comes mode all (start mode) ps (units_run units)
 
 pub fits : (mode : Mode) (stated : List Stated) (ps : List Procedure) → trees_of mode stated ≡ Ok ps → Fits ps
-fits mode stated ps h = let r = chain_runs mode stated (start mode) ps h in units_fit (run_reads r.0 ps r.2) (all_fit mode r.1)
+fits mode stated ps h = let r = chain_runs mode stated (start mode) ps (closed mode stated) h in units_fit (run_reads r.0 ps r.2) (all_fit mode r.1)
 
 one_all : {stated : List Stated} {ss ts : List Statement} → ReadsAll stated ss → ReadsAll stated ts → ss ≡ ts
 one_all texts.ReadsAll.none texts.ReadsAll.none = refl

@@ -17,4 +17,4 @@ abbrev pub units_of : List Unit → Option Current → unit.Units
 units_of done current = record { done = map procedure_of done; current = option_map current_of current }
 
 abbrev pub state_of : Parser → State
-state_of p = record { units = units_of p.units.items p.current; line = p.line; room = p.room }
+state_of p = record { units = units_of p.units.items p.current; room = p.room }

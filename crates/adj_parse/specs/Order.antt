@@ -98,6 +98,10 @@ abbrev pub is_heading : Kind → Bool
 is_heading Subroutine = true
 is_heading kind = false
 
+abbrev pub is_end : Kind → Bool
+is_end End = true
+is_end kind = false
+
 -- whether a statement opens a block, if only for one statement
 abbrev pub opens_block : Kind → Bool
 opens_block Do = true

@@ -15,7 +15,7 @@ use Rattle.adj_text.specs.declared.stated.Kind.{Kind}
 use Rattle.adj_text.specs.declared.stated.Kind.TheVariants.{Do}
 use Rattle.adj_text.specs.declared.stated.Stated.{Stated}
 use Rattle.adj_parse.specs.declared.bounds.Bounds.{Bounds}
-use Rattle.adj_parse.specs.Order.{breaks_loop, is_heading, opens_block}
+use Rattle.adj_parse.specs.Order.{breaks_loop, is_end, is_heading, opens_block}
 use Rattle.adj_statement.specs.Said.{said}
 use Rattle.adj_parse.specs.Unit.{Current, Units, followed, open_blocks, is_misplaced}
 
@@ -28,15 +28,14 @@ abbrev pub bounds_of : Mode → Bounds
 bounds_of Source = record { units = Some 2000; statements = 200000; depth = 100; nesting = 30 }
 bounds_of Run = record { units = None; statements = 4000000; depth = 120; nesting = 45 }
 
--- the units so far, the line of the statement before, and how many more statements the text may have
+-- the units so far, and how many more statements the text may have
 pub record State : Type 0 where
   pub units : Units
-  pub line : ℕ
   pub room : ℕ
 
 -- before the first statement
 abbrev pub start : Mode → State
-start mode = record { units = record { done = []; current = None }; line = 0; room = (bounds_of mode).statements }
+start mode = record { units = record { done = []; current = None }; room = (bounds_of mode).statements }
 
 abbrev pub is_do : Kind → Bool
 is_do Do = true
@@ -73,31 +72,31 @@ limited_by bounds s t found =
     else (if opens_block t.kind && nat_le bounds.nesting (length (open_blocks s.units.current)) then limited bounds.nesting t.line
     else with_form found t.line)))
 
--- what the next statement says, or its first fault
-abbrev pub checked : {A : Type 0} → Bounds → State → Stated → Option (Result A Flaw) → Result A Refusal
-checked bounds s t found =
+-- whether a statement stands wrongly: it can't follow those before it, or the text ends with it and it isn't END. `left` statements come behind it
+abbrev pub is_astray : Stated → ℕ → Option Current → Bool
+is_astray t left current = is_misplaced t.kind current || ((left == 0) && not (is_end t.kind))
+
+-- what the next statement says, behind which some are left, or its first fault
+abbrev pub checked : {A : Type 0} → Bounds → State → Stated → ℕ → Option (Result A Flaw) → Result A Refusal
+checked bounds s t left found =
     if has_stray_mark t then refused 20 t.mark_line
-    else (if is_none found || is_misplaced t.kind s.units.current then refused 4 t.line
+    else (if is_none found || is_astray t left s.units.current then refused 4 t.line
     else (if is_large found then refused 5 t.line
     else (if breaks_loop t.kind t.label (open_blocks s.units.current) then refused 10 t.line
     else limited_by bounds s t found)))
 
 -- behind the next statement, which says this
 abbrev pub behind : State → Stated → Form → State
-behind s t f = record { units = followed s.units.done s.units.current t.line t.label f; line = t.line; room = s.room - 1 }
+behind s t f = record { units = followed s.units.done s.units.current t.line t.label f; room = s.room - 1 }
 
--- the next statement is read, or refused
-unfoldable pub follow : Mode → State → Stated → Result State Refusal
-follow mode s t = checked (bounds_of mode) s t (said (bounds_of mode).depth t.mark t.kind (words_of t.text t.tokens)) >>= λ f. Ok (behind s t f)
+-- the next statement, behind which some are left, is read or refused
+unfoldable pub follow : Mode → State → Stated → ℕ → Result State Refusal
+follow mode s t left = checked (bounds_of mode) s t left (said (bounds_of mode).depth t.mark t.kind (words_of t.text t.tokens)) >>= λ f. Ok (behind s t f)
 
--- no statement is left: in a unit this is a fault of the last
-abbrev pub finish : List Procedure → Option Current → ℕ → Result (List Procedure) Refusal
-finish done None line = Ok done
-finish done (Some c) line = refused 4 line
-
+-- the units so far, and those of the statements that are left
 unfoldable pub trees_from : Mode → State → List Stated → Result (List Procedure) Refusal
-trees_from mode s [] = finish s.units.done s.units.current s.line
-trees_from mode s (t ∷ ts) = follow mode s t >>= λ next. trees_from mode next ts
+trees_from mode s [] = Ok s.units.done
+trees_from mode s (t ∷ ts) = follow mode s t (length ts) >>= λ next. trees_from mode next ts
 
 -- a refusal of a literal or for a limit
 abbrev pub IsBeyond : {A : Type 0} → Result A Refusal → Type 0

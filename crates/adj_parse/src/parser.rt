@@ -9,7 +9,7 @@ ghost use Rattle.adj_expression.specs.View.{seen};
 ghost use Rattle.adj_parse.specs.Order.{breaks_loop, is_heading, opens_block};
 ghost use Rattle.adj_parse.specs.Unit.{followed, open_blocks, is_misplaced};
 ghost use Rattle.adj_parse.specs.Trees as trees;
-ghost use Rattle.adj_parse.specs.Trees.{is_large, is_deep, is_full, with_form, checked, behind, start, finish};
+ghost use Rattle.adj_parse.specs.Trees.{is_large, is_deep, is_astray, is_full, with_form, checked, behind, start};
 ghost use Rattle.adj_parse.specs.CurrentView.{current_of, units_of, state_of};
 ghost use Rattle.adj_statement.specs.View.{form_of};
 
@@ -21,12 +21,11 @@ use adj_text::{Kind, Mode, Stated};
 use adj_tree::{Fault, Memory, Program, Refusal, Unit, Units};
 use std::alloc::Global;
 
-/// The units so far, the line of the statement before, and how many more statements the text may have.
+/// The units so far, and how many more statements the text may have.
 #[derive(Drop)]
 pub(crate) struct Parser {
     units: Vec<Unit>,
     current: Option<Current>,
-    line: u32,
     room: u32,
 }
 
@@ -112,7 +111,6 @@ impl Parser {
         Parser {
             units: Vec::new(alloc),
             current: None,
-            line: 0,
             room: Bounds::of(mode).statements,
         }
     }
@@ -125,6 +123,13 @@ impl Parser {
             None => kind != Kind::Subroutine,
             Some(current) => !current.admits(kind),
         }
+    }
+
+    // Whether a statement stands wrongly; a text ends with END.
+    fn is_astray(&self, stated: &Stated, left: usize) -> bool
+        ensures { result ≡ is_astray stated.now left (state_of self.now).units.current }
+    {
+        self.is_misplaced(stated.kind) || (left == 0 && stated.kind != Kind::End)
     }
 
     // Whether a loop with a label doesn't end on its CONTINUE.
@@ -221,19 +226,20 @@ impl Parser {
         with_form(found, line)
     }
 
-    // What the next statement says, or its first fault.
+    // What the next statement says, behind which some are left, or its first fault.
     fn checked(
         &self,
         bounds: Bounds,
         stated: &Stated,
+        left: usize,
         found: Option<Result<Said, Flaw>>,
     ) -> Result<Said, Fault>
-        ensures { Gives (λ said. said) result (checked bounds (state_of self.now) stated.now found) }
+        ensures { Gives (λ said. said) result (checked bounds (state_of self.now) stated.now left found) }
     {
         if stated.mark != 0 && stated.kind != Kind::Do {
             return Err(refused(20, stated.mark_line));
         }
-        if found.is_none() || self.is_misplaced(stated.kind) {
+        if found.is_none() || self.is_astray(stated, left) {
             return Err(refused(4, stated.line));
         }
         if is_large(&found) {
@@ -245,29 +251,31 @@ impl Parser {
         self.limited_by(bounds, stated, found)
     }
 
-    /// Reads the next statement, or refuses it.
-    pub(crate) fn follow(&mut self, alloc: Global, mode: Mode, stated: &Stated) -> Result<(), Fault>
+    /// Reads the next statement, behind which some are left, or refuses it.
+    pub(crate) fn follow(
+        &mut self,
+        alloc: Global,
+        mode: Mode,
+        stated: &Stated,
+        left: usize,
+    ) -> Result<(), Fault>
         requires slices { AreSlices stated.now.text stated.now.tokens }
-        ensures { Gives (λ _. state_of self.new) result (trees.follow mode (state_of self.old) stated.now) }
+        ensures { Gives (λ _. state_of self.new) result (trees.follow mode (state_of self.old) stated.now left) }
     {
         let bounds = Bounds::of(mode);
         let found = said(alloc, stated, bounds.depth)?;
-        let said = self.checked(bounds, stated, found)?;
+        let said = self.checked(bounds, stated, left, found)?;
         self.place(alloc, stated.line, stated.label, stated.mark, said)?;
-        self.line = stated.line;
         self.room = self.room.saturating_sub(1);
         Ok(())
     }
 
-    /// The units, where no unit is open.
-    pub(crate) fn finish(self) -> Result<Program, Fault>
-        ensures { Gives procedures_of result (finish (state_of self).units.done (state_of self).units.current (state_of self).line) }
+    /// The units behind the last statement.
+    pub(crate) fn finish(self) -> Program
+        ensures { procedures_of result ≡ (state_of self).units.done }
     {
-        if self.current.is_some() {
-            return Err(refused(4, self.line));
-        }
-        Ok(Program {
+        Program {
             units: Units::new(self.units),
-        })
+        }
     }
 }

@@ -23,8 +23,9 @@ pub fn program(alloc: Global, stated: &[Stated], mode: Mode) -> Result<Program, 
     ensures written { IfOk result (λ p. IsWritten (procedures_of p)) }
 {
     let mut parser = Parser::new(alloc, mode);
-    for statement in stated {
-        parser.follow(alloc, mode, statement)?;
+    for (index, statement) in stated.iter().enumerate() {
+        let left = stated.len() - index - 1;
+        parser.follow(alloc, mode, statement, left)?;
     }
-    parser.finish()
+    Ok(parser.finish())
 }

@@ -20,12 +20,12 @@ pub enum Trap {
     Division,
     /// A subscript outside its extent.
     Index,
-    /// A step that is 0.
+    /// A step that is 0, or more turns than a loop may make.
     Step,
-    /// An actual that doesn't fit its dummy, or an extent below 1.
+    /// An extent below 1, more elements than an array may have, or other extents than the actual's.
     Shape,
-    /// A tape that holds nothing to be popped, or something else.
+    /// A pop from an empty tape.
     Tape,
-    /// A call of a schedule that stands at another place.
+    /// A number outside its range in a runtime call of a schedule, an ADEND without its ADBEG, or a unit that ends while a reversal is open.
     Schedule,
 }

@@ -24,6 +24,34 @@ const CUTS: [(usize, &[u8]); 6] = [
     (109, b"REFUSED 4 LINE 6\n"),
 ];
 
+// Texts whose last statement isn't END: the code of that is the lowest at this statement, and what stands earlier comes first.
+const UNENDED: [(&[u8], &[u8]); 6] = [
+    (
+        b"      SUBROUTINE P(X)\n      X=9223372036854775808\n",
+        b"REFUSED 4 LINE 2\n",
+    ),
+    (
+        b"      SUBROUTINE P(X)\n      X=X**64\n",
+        b"REFUSED 4 LINE 2\n",
+    ),
+    (
+        b"      SUBROUTINE P\n      DO 10 I=1,2\n   10 K=I\n",
+        b"REFUSED 4 LINE 3\n",
+    ),
+    (
+        b"      SUBROUTINE P(X)\n      X=X**64\n      X=1\n",
+        b"REFUSED 25 LINE 2\n",
+    ),
+    (
+        b"      SUBROUTINE P(X)\nC$AD BINOMIAL-CKP 2\n      X=1\n",
+        b"REFUSED 20 LINE 2\n",
+    ),
+    (
+        b"      SUBROUTINE P\n      DO 10 I=1,2\n      END\n",
+        b"REFUSED 10 LINE 3\n",
+    ),
+];
+
 // Whether a text comes to this in a mode.
 fn comes_to(alloc: Global, bytes: &[u8], mode: Mode, expected: &[u8]) -> Result<bool, Memory> {
     let found = reading(alloc, bytes, mode)?;
@@ -54,6 +82,9 @@ fn a_text_that_ends_within_a_unit_is_refused_at_its_last_statement(
     for (end, expected) in CUTS {
         assert!(rt; end < SUM.len() && SUM[end - 1] == b'\n');
         assert!(rt; comes_to(rt.alloc(), &SUM[..end], Mode::Source, expected)?);
+    }
+    for (text, expected) in UNENDED {
+        assert!(rt; comes_to(rt.alloc(), text, Mode::Source, expected)?);
     }
     Ok(())
 }
