@@ -66,7 +66,7 @@ pub fn adjoint_law()
 
 ghost use Rattle.std.specs.Prelude.{Bool};
 ghost use Rattle.adj_tree.specs.Code.{Procedure};
-ghost use Rattle.adj_transpose.specs.Faulty.{with_sweeps, Serve, right_forward, right_backward, pushed_after, unreversed, assigned, unsigned, uncleared, unpopped, forward_by, backward_by, unsaved, unkept, squared_itself, cube, difference};
+ghost use Rattle.adj_transpose.specs.Faulty.{with_sweeps, Serve, right_forward, right_backward, pushed_after, unreversed, assigned, unsigned, uncleared, unpopped, replayed, forward_by, backward_by, unsaved, unkept, squared_itself, cube, difference};
 
 /// Emitted programs with a fault are no adjoints: the definition of an adjoint tells them from the emitted one.
 pub fn wrong_adjoints()
@@ -77,6 +77,7 @@ pub fn wrong_adjoints()
     ensures unsigned { Serve right_forward (λ c. unsigned (right_backward c)) difference (true ∷ false ∷ []) (false ∷ true ∷ []) → ⊥ }
     ensures uncleared { Serve right_forward (λ c. uncleared (right_backward c)) squared_itself (true ∷ []) (true ∷ []) → ⊥ }
     ensures unpopped { Serve right_forward (λ c. unpopped (right_backward c)) square (true ∷ false ∷ []) (false ∷ true ∷ []) → ⊥ }
+    ensures replayed { Serve (λ c. replayed (right_forward c)) right_backward square (true ∷ false ∷ []) (false ∷ true ∷ []) → ⊥ }
     ensures unsaved { Serve (forward_by unsaved) (backward_by unsaved) fourth (true ∷ []) (true ∷ []) → ⊥ }
     ensures unkept { Serve (forward_by unkept) (backward_by unkept) fourth (true ∷ []) (true ∷ []) → ⊥ }
 {}
