@@ -26,7 +26,7 @@ pub fn emitted_examples()
     ensures fourth_power { adjoint_program (fourth ∷ []) 0 (true ∷ []) (true ∷ []) ≡ fourth_adjoint ∷ [] }
 {}
 
-ghost use Rattle.adj_transpose.specs.Theorem.{MarkedSweepsTranspose, MarkedIsAdjoint, FullForward, FullBackward, FullProgram, FullAdjoint, FullClosed, EmittedIsAdjoint};
+ghost use Rattle.adj_transpose.specs.Theorem.{MarkedSweepsTranspose, MarkedIsAdjoint, FullForward, FullBackward, FullProgram, FullAdjoint, FullClosed, EmittedIsAdjoint, OtherLines};
 
 /// The sweeps of a list of assignments to scalars transpose its derivative, with all marks that are closed on it.
 pub fn marked_sweeps_law()
@@ -62,6 +62,11 @@ pub fn marked_examples()
 /// The emitted program is an adjoint of each source whose head is a list of assignments to scalars.
 pub fn adjoint_law()
     ensures { EmittedIsAdjoint }
+{}
+
+/// Line numbers don't matter: where a program is an adjoint, so is each that differs from it in these alone.
+pub fn lines_law()
+    ensures other_lines { OtherLines }
 {}
 
 ghost use Rattle.std.specs.Prelude.{Bool};
