@@ -22,3 +22,6 @@ pub mod Agreements
 pub mod ReadSets
 pub mod Dependence
 pub mod Tapes
+pub mod UnlinedUnits
+pub mod UnlinedRuns
+pub mod Unlined

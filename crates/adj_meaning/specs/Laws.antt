@@ -1,12 +1,13 @@
 -- What holds of every run. Most laws hold over any numbers; the contracts name them for words and for words with tangents.
 use Rattle.std.specs.Prelude.{◌≡◌, ℕ, ℤ, ◌+◌, ◌<◌, ◌≤◌, List, map, Bool, true, false, IsTrue, Option, Some}
 use Rattle.adj_tree.specs.Code.{Var, plain, Code, Procedure}
+use Rattle.adj_tree.specs.Lines.{unlined_procedure, unlined}
 use Rattle.adj_meaning.specs.Append.{◌+++◌}
 use Rattle.adj_meaning.specs.Numbers.{Numbers, words, duals}
 use Rattle.adj_meaning.specs.Value.{Setting}
 use Rattle.adj_meaning.specs.Scene.{Scene, Done, More, then_do}
 use Rattle.adj_meaning.specs.Run.{Calls, run}
-use Rattle.adj_meaning.specs.Units.{Slot, Output, unit_run, calls_of, run_unit}
+use Rattle.adj_meaning.specs.Units.{Slot, Output, unit_run, calls_of, fits, run_unit}
 use Rattle.adj_meaning.specs.Read.{reads, read_rule, looked_at}
 use Rattle.adj_meaning.specs.Agree.{AgreeOn, EndAlike, AreApart}
 use Rattle.adj_meaning.specs.Store.{size_of}
@@ -15,6 +16,7 @@ use Rattle.adj_meaning.specs.Common.{CallsInside, HaveInCommon}
 use Rattle.adj_meaning.specs.LeastSet.{least_rows, IsLeast}
 use Rattle.adj_meaning.specs.Written.{find_unit, writes, write_rule, is_written, handed_back}
 use Rattle.adj_meaning.specs.Rename.{rename}
+use Rattle.adj_meaning.specs.Unlined.{unlined_ending}
 use Rattle.adj_meaning.specs.Seen.{Separates, pulled_setting, pulled_scene, pulled_outcome, Projects, slot_seen, ending_seen}
 
 -- a list is run part by part
@@ -100,6 +102,20 @@ ExtendsRead = (inside : List ℕ → Bool) (units others : List Procedure) → H
 abbrev pub KeepsDummies : Type 0 → Type 0
 KeepsDummies C = (units : List Procedure) (u : Procedure) (d : List ℕ) → is_written units u d ≡ false →
     (depth : ℕ) (n : Setting C) (line : ℕ) (s s' : Scene C) (k k' : ℕ) → unit_run (calls_of units depth) n u line s k ≡ Done s' k' → (i : ℕ) → s'.store (plain d) i ≡ s.store (plain d) i
+
+-- the run of a unit is that of the unit and the program without line numbers, but for the lines of its trap and of the marked loops that it tells of
+abbrev pub RunUnlined : Type 0 → Type 0
+RunUnlined C = (n : Numbers C) (units : List Procedure) (u : Procedure) (input : List (Slot C)) (tape : List C) (room : Option ℕ) (k : ℕ) →
+    unlined_ending (run_unit n units u input tape room k) ≡ unlined_ending (run_unit n (unlined units) (unlined_procedure u) input tape room k)
+
+-- so units and programs that are the same up to line numbers run alike up to these lines
+abbrev pub RunsAlike : Type 0 → Type 0
+RunsAlike C = (units others : List Procedure) → unlined units ≡ unlined others → (u v : Procedure) → unlined_procedure u ≡ unlined_procedure v →
+    (n : Numbers C) (input : List (Slot C)) (tape : List C) (room : Option ℕ) (k : ℕ) → unlined_ending (run_unit n units u input tape room k) ≡ unlined_ending (run_unit n others v input tape room k)
+
+-- and the same inputs fit them
+abbrev pub FitsAlike : Type 0 → Type 0
+FitsAlike C = (u v : Procedure) → unlined_procedure u ≡ unlined_procedure v → (n : Numbers C) (input : List (Slot C)) → fits n u input ≡ fits n v input
 
 -- a law for words, and for words with tangents
 abbrev pub ForBoth : (Type 0 → Type 0) → Type 0

@@ -18,5 +18,6 @@ pub mod Seen
 pub mod Leads
 pub mod Agree
 pub mod Common
+pub mod Unlined
 pub mod Laws
 pub mod Samples

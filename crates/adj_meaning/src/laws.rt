@@ -1,7 +1,7 @@
 //! The laws of runs, each the contract of an empty function.
 
 ghost use Rattle.std.specs.Prelude.{ℤ};
-ghost use Rattle.adj_meaning.specs.Laws.{ForBoth, RunsPartByPart, DoneWithMore, LeadsWhereDone, EndsAlike, OneEnd, MoreBefore, RunRenamed, RunProjected, TangentsForgotten, LeastWritten, HandsBackWritten, KeepsOthers, KeepsDummies, LeastRead, DependsOnReads, ExtendsPrograms, ExtendsWritten, ExtendsRead};
+ghost use Rattle.adj_meaning.specs.Laws.{ForBoth, RunsPartByPart, DoneWithMore, LeadsWhereDone, EndsAlike, OneEnd, MoreBefore, RunRenamed, RunProjected, TangentsForgotten, LeastWritten, HandsBackWritten, KeepsOthers, KeepsDummies, LeastRead, DependsOnReads, ExtendsPrograms, ExtendsWritten, ExtendsRead, RunUnlined, RunsAlike, FitsAlike};
 
 /// How runs are put together, and how many statements they take.
 pub fn run_laws()
@@ -29,6 +29,13 @@ pub fn program_laws()
     ensures runs { ForBoth ExtendsPrograms }
     ensures written { ExtendsWritten }
     ensures read { ExtendsRead }
+{}
+
+/// Runs don't depend on line numbers, but for the lines that traps and marked loops name.
+pub fn line_laws()
+    ensures unlined { ForBoth RunUnlined }
+    ensures runs_alike { ForBoth RunsAlike }
+    ensures fits_alike { ForBoth FitsAlike }
 {}
 
 /// Runs over other numbers: a dual run without its tangents is the run.

@@ -9,5 +9,5 @@
 mod laws;
 mod worked;
 
-pub use laws::{dual_laws, program_laws, run_laws, variable_laws};
+pub use laws::{dual_laws, line_laws, program_laws, run_laws, variable_laws};
 pub use worked::worked_examples;

@@ -44,3 +44,4 @@ pub mod Unique
 pub mod TokensNamed
 pub mod LinesMarked
 pub mod ReadingWritten
+pub mod TextUnlined

@@ -2,6 +2,7 @@
 
 ghost use Rattle.std.specs.Prelude.{◌≡◌, ℕ, List, [], Some, IfSome};
 ghost use Rattle.adj_tree.specs.Code.{Procedure};
+ghost use Rattle.adj_tree.specs.Lines.{unlined};
 ghost use Rattle.adj_text.specs.Grammar.{Syntax, Sum, Derives};
 ghost use Rattle.adj_text.specs.Machine.{Stops, wanting, read, syntaxes};
 ghost use Rattle.adj_text.specs.Fits.{Fits};
@@ -14,6 +15,11 @@ ghost use Rattle.adj_text.specs.Written.{IsWritten};
 /// The canonical text of a written program reads as that program, up to line numbers.
 pub fn text_reads_back()
     ensures reads { (program : List Procedure) → IsWritten program → ReadsAs (text_of program) program }
+{}
+
+/// Programs that differ in line numbers alone have one canonical text.
+pub fn texts_name_no_lines()
+    ensures one { (program other : List Procedure) → unlined program ≡ unlined other → text_of program ≡ text_of other }
 {}
 
 /// The machine that reads an expression at the front of some words reads exactly what is derived there, up to what ends an

@@ -9,7 +9,7 @@ pub mod mode;
 pub mod stated;
 pub mod token;
 
-pub use laws::{expressions_are_read, readings_are_written, text_reads_back};
+pub use laws::{expressions_are_read, readings_are_written, text_reads_back, texts_name_no_lines};
 pub use mode::Mode;
 pub use stated::{Kind, Stated};
 pub use token::{Token, TokenKind, Tokens};

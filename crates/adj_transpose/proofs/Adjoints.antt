@@ -5,7 +5,7 @@ use Rattle.adj_tree.specs.Code.{plain, shadow, work, temp, assign, choose, loop,
 use Rattle.adj_meaning.specs.Numbers.{words}
 use Rattle.adj_meaning.specs.Rename.{rename}
 use Rattle.adj_meaning.specs.Store.{Store}
-use Rattle.adj_meaning.specs.Units.{Slot, slots_fit, slot_fits, extents_of, input_store}
+use Rattle.adj_meaning.specs.Units.{Slot, fits, slots_fit, slot_fits, extents_of, input_store}
 use Rattle.adj_transpose.specs.Naming.{Named, unit_names, name_in, naming}
 use Rattle.adj_transpose.specs.Marks.{everything, full, next}
 use Rattle.adj_transpose.specs.Emit.{works_used, temps_used, works_in, temps_in}
@@ -13,7 +13,7 @@ use Rattle.adj_transpose.specs.Facts.{full_facts}
 use Rattle.adj_transpose.specs.Program.{locals, variables, declaration, unit_name, adjoint_name, adjoint_names, helpers_from, helpers, unmarked, with_shadows, declared_with_shadows, declared_helpers, adjoint_unit, unit_at}
 use Rattle.adj_transpose.specs.MarkedProgram.{marked_works, marked_temps, marked_helpers, marked_names, shadows_behind, declared_behind, marked_unit, marked_program}
 use Rattle.adj_transpose.specs.Straight.{keys}
-use Rattle.adj_transpose.specs.Adjoint.{Ends, interleaved, every_second, cells_of, IsDirection, Agrees, OthersAreZero, Transposes, IsAdjoint}
+use Rattle.adj_transpose.specs.Adjoint.{Ends, interleaved, every_second, cells_of, reversals, IsDirection, Agrees, OthersAreZero, Transposes, IsAdjoint}
 use Rattle.adj_transpose.specs.MarkedAdjoint.{shadow_flags, joined_by, shadow_cells, TransposesBy}
 use Rattle.adj_transpose.specs.Theorem.{EmittedIsAdjoint, FullProgram, FullAdjoint}
 use Rattle.adj_transpose.proofs.Variables.{and_true}
@@ -96,20 +96,24 @@ cells_full ns (x ∷ xs) (v ∷ w ∷ vs) m = ap (λ z. w.cells ∷ z) (cells_fu
 
 -- what stands in `TransposesBy`, from an input of the adjoint
 record Turned (flags : List Bool) (ps : List Procedure) (u : Procedure) (vars outvars : List Bool) (qs : List Procedure) (a : Procedure) (input shadows slots : List (Slot ℤ)) : Type 0 where
+  fits : fits words a slots ≡ true
   run : Ends words qs a slots
   empties : run.output.tape ≡ []
+  no_reversals : reversals run.output.events ≡ []
   products : (d : List (List ℤ)) → IsDirection vars input d → Agrees ps u vars outvars input (cells_of shadows) (shadow_cells flags run.output.slots) d
   others : OthersAreZero vars (shadow_cells flags run.output.slots)
 
 transposes_full : (ps : List Procedure) (u : Procedure) (vars outvars : List Bool) (qs : List Procedure) (a : Procedure) (input shadows : List (Slot ℤ)) (ns : List Named) → a.dummies ≡ with_shadows ns u.dummies → AreAsMany u.dummies input → AreAsMany u.dummies shadows → TransposesBy (shadow_flags everything u.dummies) ps u vars outvars qs a input shadows → Transposes ps u vars outvars qs a input shadows
 transposes_full ps u vars outvars qs a input shadows ns named m k t =
     let flags = shadow_flags everything u.dummies in
-    let turned : Turned flags ps u vars outvars qs a input shadows (joined_by flags input shadows) = record { run = t.run; empties = t.empties; products = t.products; others = t.others } in
+    let turned : Turned flags ps u vars outvars qs a input shadows (joined_by flags input shadows) = record { fits = t.fits; run = t.run; empties = t.empties; no_reversals = t.no_reversals; products = t.products; others = t.others } in
     let r = subst (Turned flags ps u vars outvars qs a input shadows) (joined_full u.dummies input shadows m k) turned in
     let same : shadow_cells flags r.run.output.slots ≡ cells_of (every_second r.run.output.slots) = cells_full ns u.dummies r.run.output.slots (subst (λ ds. AreAsMany ds r.run.output.slots) named (ends_many words qs a (interleaved input shadows) r.run)) in
     record {
+      fits = r.fits;
       run = r.run;
       empties = r.empties;
+      no_reversals = r.no_reversals;
       products = λ d dir. subst (λ after. Agrees ps u vars outvars input (cells_of shadows) after d) same (r.products d dir);
       others = subst (OthersAreZero vars) same r.others;
     }

@@ -8,7 +8,7 @@ use Rattle.adj_meaning.specs.Written.{find_unit}
 use Rattle.adj_meaning.specs.Units.{Slot, Output, fits, run_unit}
 use Rattle.adj_meaning.proofs.Inversions.{done_same}
 use Rattle.adj_transpose.specs.Program.{unit_at, adjoint_name}
-use Rattle.adj_transpose.specs.Adjoint.{Ends, AreAlike, interleaved, every_second, cells_of, with_direction, tangents_of, IsDirection, product, Transposes, IsAdjoint}
+use Rattle.adj_transpose.specs.Adjoint.{Ends, AreAlike, interleaved, every_second, cells_of, with_direction, tangents_of, reversals, IsDirection, product, Transposes, IsAdjoint}
 
 -- n more statements than k
 abbrev pub longer : ℕ → ℕ → ℕ
@@ -95,3 +95,9 @@ module _ (ps : List Procedure) (head : ℕ) (vars outvars : List Bool) (qs : Lis
   tape_left left h =
       let r = transposed h in
       left (ap (λ o. o.tape) (sym (output_same words qs a (interleaved t.input t.shadows) t.least r.run t.comes)) ∙ r.empties)
+
+  -- nor is it one where steps are done again by a schedule
+  pub reversed_by_schedule : (reversals (result_of t).events ≡ [] → ⊥) → IsAdjoint ps head vars outvars qs → ⊥
+  reversed_by_schedule begun h =
+      let r = transposed h in
+      begun (ap (λ o. reversals o.events) (sym (output_same words qs a (interleaved t.input t.shadows) t.least r.run t.comes)) ∙ r.no_reversals)

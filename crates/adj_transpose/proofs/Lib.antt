@@ -21,6 +21,7 @@ pub mod Products
 pub mod Units
 pub mod MarkedAdjoints
 pub mod Adjoints
+pub mod Lines
 mod MarkedExamples
 mod Faulty
 mod Trials

@@ -1,6 +1,6 @@
 -- The program emitted by closed marks is an adjoint: the adjoint of a unit of straight code.
 use Rattle.std.proofs.Common.{◌≡◌, ℕ, ◌+◌, Bool, true, false, List, [], ◌∷◌, ◌++◌, map, refl, sym, ap, ◌∙◌, subst, if◌then◌else◌}
-use Rattle.std.specs.Prelude.{ℤ, pos, ◌==◌, ◌&&◌, ◌||◌, Some, None}
+use Rattle.std.specs.Prelude.{ℤ, pos, ◌==◌, ◌&&◌, ◌||◌, Some, None, reverse}
 use Rattle.adj_tree.specs.Code.{Var, plain, shadow, name_eq, Declaration, Procedure}
 use Rattle.adj_tree.proofs.Names.{name_refl, name_same}
 use Rattle.adj_word.specs.Dot.{dot}
@@ -26,11 +26,11 @@ use Rattle.adj_transpose.specs.MarkedAdjoint.{shadow_flags, joined_by, shadow_ce
 use Rattle.adj_transpose.specs.Theorem.{MarkedIsAdjoint}
 use Rattle.adj_transpose.specs.Straight.{AreScalars, keys, IsStraightUnit}
 use Rattle.adj_transpose.specs.Pairs.{Words, with_tangents, SamePlain}
-use Rattle.adj_transpose.specs.Adjoint.{Ends, AreAlike, cells_of, with_direction, tangents_of, product, marked_cells, OthersAreZero, IsDirection, Agrees}
+use Rattle.adj_transpose.specs.Adjoint.{Ends, AreAlike, cells_of, reversals, with_direction, tangents_of, product, marked_cells, OthersAreZero, IsDirection, Agrees}
 use Rattle.adj_transpose.specs.Lists.{scene, dual_scene, counted, AreVaried, AreReady}
 use Rattle.adj_transpose.proofs.Variables.{or_false, or_right}
 use Rattle.adj_transpose.proofs.Head.{cleared, AreZero, Reverses, reverses, cleared_zero, is_cleared}
-use Rattle.adj_transpose.proofs.Slots.{AreSingle, AreAsMany, fits_single, single_alike, many_alike, given_store, paired, shadows_behind-named, entry_store-named, slots-plain, slots-shadow, direction, dual_store, singles, cells-scalars, shadows-slots, tangents-singles}
+use Rattle.adj_transpose.proofs.Slots.{AreSingle, AreAsMany, fits_single, single_alike, many_alike, fits_scalars, scalars_fit, scalars_alike, scalars_joined, many_joined, given_store, paired, shadows_behind-named, entry_store-named, slots-plain, slots-shadow, direction, dual_store, singles, cells-scalars, shadows-slots, tangents-singles}
 use Rattle.adj_transpose.proofs.Products.{keys-apart, keys-scalars, pairing-behind, pairing-product, product_comm, others_zero, zero_others, marked-same, given_words, given_direction}
 use Rattle.adj_transpose.proofs.Units.{scalars, kept_in, output_at, BodyDone, body_done, ends, adjoint-scalars, adjoint-separates, adjoint-own}
 
@@ -219,6 +219,12 @@ module _ (w : Facts) (i from to : ℕ) (ps : List Procedure) (u : Procedure) (go
       (scene (kept_in a) (input_store words a adjoint_input) []) (reversed.runs.cost + 0)
       ∙ reversed.runs.by 0)
 
+  -- the slots of the dummies and of the shadows fit
+  adjoint_fits : fits words a adjoint_input ≡ true
+  adjoint_fits =
+      let own = fits_scalars u before u.dummies input good.scalars fit in
+      scalars_fit a (input_store words a adjoint_input) a.dummies adjoint_input are (many_joined m.shadowed ns u.dummies input given single.1 many) (scalars_joined flags input given own (scalars_alike input given alike own))
+
   -- its run ends
   ended : Ends words qs a adjoint_input
   ended = record {
@@ -352,8 +358,10 @@ module _ (w : Facts) (i from to : ℕ) (ps : List Procedure) (u : Procedure) (go
   pub transposes : TransposesBy flags ps u vars outvars qs a input given
   unfolding ended
   transposes = record {
+    fits = adjoint_fits;
     run = ended;
     empties = ap (λ z. z.tape) named_run.same;
+    no_reversals = ap (λ z. reversals (reverse z.events)) named_run.same;
     products = agrees;
     others = subst (OthersAreZero vars) (sym shadows_after) (others_zero u.dummies vars (counted m reversed.end) (zero-each other_inputs (counted m reversed.end) other_ended));
   }

@@ -1,6 +1,6 @@
 -- Slots and stores: what a unit of scalars has at its entry and hands out at its end.
 use Rattle.std.proofs.Common.{◌≡◌, ℕ, zero, suc, Bool, true, false, List, [], ◌∷◌, map, length, refl, sym, ap, ◌∙◌, subst, arith, if◌then◌else◌}
-use Rattle.std.specs.Prelude.{ℤ, pos, ◌==◌, ◌||◌}
+use Rattle.std.specs.Prelude.{ℤ, pos, ◌==◌, ◌&&◌, ◌||◌}
 use Rattle.adj_tree.specs.Code.{Role, Var, plain, shadow, helper, name_eq, var_eq, Declaration, Procedure}
 use Rattle.adj_tree.proofs.Names.{nat_same, name_refl, name_same}
 use Rattle.adj_meaning.specs.Numbers.{Numbers, words, duals}
@@ -77,6 +77,54 @@ many_alike [] (v ∷ vs) ws a h = absurd h
 many_alike (x ∷ xs) [] ws a h = absurd h
 many_alike (x ∷ xs) (v ∷ vs) [] a h = absurd a
 many_alike (x ∷ xs) (v ∷ vs) (w ∷ ws) a h = many_alike xs vs ws a.1.1 h
+
+-- each slot is that of a scalar
+abbrev pub AreOfScalars : List (Slot ℤ) → Type 0
+AreOfScalars [] = Unit {0}
+AreOfScalars (v ∷ vs) = (slot_fits [] v ≡ true) × AreOfScalars vs
+
+-- an input that fits a unit of scalars has such slots
+pub fits_scalars : (u : Procedure) (s : Store ℤ) (xs : List (List ℕ)) (input : List (Slot ℤ)) → AreScalars u.declarations → slots_fit words u s xs input ≡ true → AreOfScalars input
+fits_scalars u s [] [] h f = tt
+fits_scalars u s [] (v ∷ vs) h f = cc
+fits_scalars u s (x ∷ xs) [] h f = cc
+fits_scalars u s (x ∷ xs) (v ∷ vs) h f =
+    let p = and_true (slot_fits (extents_of words u s (plain x)) v) (slots_fit words u s xs vs) f in
+    let e : extents_of words u s (plain x) ≡ [] = ap (map (extent_in words s)) (declared-none u.declarations (plain x) h) in
+    (subst (λ zs. slot_fits zs v ≡ true) e p.0, fits_scalars u s xs vs h p.1)
+
+-- and such slots, as many as dummies, fit it
+pub scalars_fit : (u : Procedure) (s : Store ℤ) (xs : List (List ℕ)) (vs : List (Slot ℤ)) → AreScalars u.declarations → AreAsMany xs vs → AreOfScalars vs → slots_fit words u s xs vs ≡ true
+scalars_fit u s [] [] h m o = refl
+scalars_fit u s [] (v ∷ vs) h m o = absurd m
+scalars_fit u s (x ∷ xs) [] h m o = absurd m
+scalars_fit u s (x ∷ xs) (v ∷ vs) h m o =
+    let e : extents_of words u s (plain x) ≡ [] = ap (map (extent_in words s)) (declared-none u.declarations (plain x) h) in
+    ap (λ zs. slot_fits zs v && slots_fit words u s xs vs) e ∙ rw (o.0) (scalars_fit u s xs vs h m o.1)
+
+pub scalars_alike : (vs ws : List (Slot ℤ)) → AreAlike vs ws → AreOfScalars vs → AreOfScalars ws
+scalars_alike [] [] a o = tt
+scalars_alike [] (w ∷ ws) a o = absurd a
+scalars_alike (v ∷ vs) [] a o = absurd a
+scalars_alike (v ∷ vs) (w ∷ ws) a o = (rw (a.0, a.1.0) (o.0), scalars_alike vs ws a.1.1 o.1)
+
+pub scalars_joined : (flags : List Bool) (vs ws : List (Slot ℤ)) → AreOfScalars vs → AreOfScalars ws → AreOfScalars (joined_by flags vs ws)
+scalars_joined [] vs ws o p = tt
+scalars_joined (b ∷ flags) [] ws o p = tt
+scalars_joined (b ∷ flags) (v ∷ vs) [] o p = tt
+scalars_joined (true ∷ flags) (v ∷ vs) (w ∷ ws) o p = (o.0, (p.0, scalars_joined flags vs ws o.1 p.1))
+scalars_joined (false ∷ flags) (v ∷ vs) (w ∷ ws) o p = (o.0, scalars_joined flags vs ws o.1 p.1)
+
+-- dummies with their shadows are as many as the slots of both
+pub many_joined : (a : Vars) (ns : List Named) (xs : List (List ℕ)) (vs ws : List (Slot ℤ)) → AreAsMany xs vs → AreAsMany xs ws → AreAsMany (shadows_behind a ns xs) (joined_by (shadow_flags a xs) vs ws)
+many_joined a ns [] vs ws m k = tt
+many_joined a ns (x ∷ xs) [] ws m k = absurd m
+many_joined a ns (x ∷ xs) (v ∷ vs) [] m k = absurd k
+many_joined a ns (x ∷ xs) (v ∷ vs) (w ∷ ws) m k = go (a (plain x)) (many_joined a ns xs vs ws m k)
+  where
+    go : (b : Bool) → AreAsMany (shadows_behind a ns xs) (joined_by (shadow_flags a xs) vs ws) → AreAsMany (if b then x ∷ name_in ns (shadow x) ∷ shadows_behind a ns xs else x ∷ shadows_behind a ns xs) (joined_by (b ∷ shadow_flags a xs) (v ∷ vs) (w ∷ ws))
+    go true h = h
+    go false h = h
 
 -- ---- the store at a unit's entry, by the names of its dummies
 

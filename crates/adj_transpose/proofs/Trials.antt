@@ -8,8 +8,9 @@ use Rattle.adj_meaning.specs.Store.{scalar}
 use Rattle.adj_meaning.specs.Units.{Slot}
 use Rattle.adj_transpose.specs.Program.{adjoint_name}
 use Rattle.adj_transpose.specs.Examples.{square, fourth}
-use Rattle.adj_transpose.specs.Faulty.{Sweep, with_sweeps, Serve, right_forward, right_backward, pushed_after, unreversed, assigned, unsigned, uncleared, unpopped, forward_by, backward_by, unsaved, unkept, squared_itself, cube, difference}
-use Rattle.adj_transpose.proofs.Faulty.{Trial, result_of, ProductsAgree, products_differ, tape_left}
+use Rattle.adj_transpose.specs.Faulty.{Sweep, with_sweeps, Serve, right_forward, right_backward, pushed_after, unreversed, assigned, unsigned, uncleared, unpopped, replayed, forward_by, backward_by, unsaved, unkept, squared_itself, cube, difference}
+use Rattle.adj_transpose.specs.Adjoint.{reversals}
+use Rattle.adj_transpose.proofs.Faulty.{Trial, result_of, ProductsAgree, products_differ, tape_left, reversed_by_schedule}
 
 -- a scalar
 abbrev word : ℤ → Slot ℤ
@@ -32,6 +33,9 @@ module _ (forth back : Sweep) (p : Procedure) (vars outvars : List Bool) (t : Tr
 
   left : ((result_of t).tape ≡ [] → ⊥) → Serve forth back p vars outvars → ⊥
   left = tape_left (p ∷ []) 0 vars outvars (faulty ∷ []) p faulty refl (ap (λ b. if b then Some faulty else None) (name_refl (adjoint_name (p ∷ []) p))) t
+
+  begun : (reversals (result_of t).events ≡ [] → ⊥) → Serve forth back p vars outvars → ⊥
+  begun = reversed_by_schedule (p ∷ []) 0 vars outvars (faulty ∷ []) p faulty refl (ap (λ b. if b then Some faulty else None) (name_refl (adjoint_name (p ∷ []) p))) t
 
 -- 3 * 3 is used in place of 3: 18, where the tangent is 6
 pub pushed_after_fails : Serve pushed_after right_backward squared_itself (true ∷ []) (true ∷ []) → ⊥
@@ -184,3 +188,22 @@ unkept_fails =
       dual_comes = record { is = λ k. refl };
     })
     (differ_words 36 108 refl)
+
+-- a reversal of no steps with one snapshot is one too many
+pub replayed_fails : Serve (λ c. replayed (right_forward c)) right_backward square (true ∷ false ∷ []) (false ∷ true ∷ []) → ⊥
+unfolding int_wrap
+replayed_fails =
+    begun (λ c. replayed (right_forward c)) right_backward square (true ∷ false ∷ []) (false ∷ true ∷ [])
+    (record {
+      input = word (pos 3) ∷ word (pos 5) ∷ [];
+      shadows = word (pos 0) ∷ word (pos 1) ∷ [];
+      direction = (pos 1 ∷ []) ∷ (pos 0 ∷ []) ∷ [];
+      least = 30;
+      fit = refl;
+      alike = (refl, (refl, (refl, (refl, tt))));
+      directed = record { tangents = (refl, (refl, tt)); others = ((refl, tt), tt) };
+      done = refl;
+      comes = record { is = λ k. refl };
+      dual_comes = record { is = λ k. refl };
+    })
+    (λ h. cc)

@@ -3,6 +3,7 @@ use Rattle.std.specs.Prelude.{◌≡◌, ◌≤◌, ℕ, ℤ, pos, List, [], ◌
 use Rattle.adj_tree.specs.Code.{Procedure}
 use Rattle.adj_word.specs.Dot.{dot}
 use Rattle.adj_meaning.specs.Numbers.{Numbers, words, duals}
+use Rattle.adj_meaning.specs.Event.{Event, Begin}
 use Rattle.adj_meaning.specs.Scene.{Done}
 use Rattle.adj_meaning.specs.Written.{find_unit}
 use Rattle.adj_meaning.specs.Units.{Slot, Output, fits, run_unit}
@@ -65,6 +66,14 @@ abbrev pub tangents_of : List (List (ℤ × ℤ)) → List (List ℤ)
 tangents_of [] = []
 tangents_of (c ∷ cs) = tangents_in c ∷ tangents_of cs
 
+-- ---- reversals
+
+-- the steps and the snapshots of the reversals that were begun, in order of time
+abbrev pub reversals : List Event → List (ℕ × ℕ)
+reversals [] = []
+reversals (Begin steps snapshots level height ∷ es) = (steps, snapshots) ∷ reversals es
+reversals (e ∷ es) = reversals es
+
 -- ---- marks over dummies: a dummy whose mark is missing isn't marked
 
 abbrev pub AreZeros : List ℤ → Type 0
@@ -110,10 +119,14 @@ pub record Agrees (ps : List Procedure) (u : Procedure) (vars outvars : List Boo
 
 -- what the adjoint unit a does for an input of u and shadows of its dummies: those of the dependents are the given adjoints
 pub record Transposes (ps : List Procedure) (u : Procedure) (vars outvars : List Bool) (qs : List Procedure) (a : Procedure) (input shadows : List (Slot ℤ)) : Type 0 where
+  -- they are an input of it
+  pub fits : fits words a (interleaved input shadows) ≡ true
   -- its run ends
   pub run : Ends words qs a (interleaved input shadows)
   -- the tape is empty again
   pub empties : run.output.tape ≡ []
+  -- no loop was reversed by a schedule
+  pub no_reversals : reversals run.output.events ≡ []
   -- in each direction the products agree
   pub products : (d : List (List ℤ)) → IsDirection vars input d → Agrees ps u vars outvars input (cells_of shadows) (cells_of (every_second run.output.slots)) d
   -- the shadows of the dummies that aren't independent are 0 at the end
@@ -121,7 +134,7 @@ pub record Transposes (ps : List Procedure) (u : Procedure) (vars outvars : List
 
 -- the unit of qs that bears the name of the adjoint of the head of ps is its adjoint: it has each dummy of the head followed by its
 -- shadow, and transposes the derivative of the head on every input on which the head's run is done.
--- (With marked loops that are reversed two more facts will stand in `Transposes`: which reversals there are, and what each calls.)
+-- (Where marked loops are reversed by schedules, the reversals will be those loops', and what each calls will stand beside them.)
 pub record IsAdjoint (ps : List Procedure) (head : ℕ) (vars outvars : List Bool) (qs : List Procedure) : Type 0 where
   pub unit : Procedure
   pub is_head : unit_at head ps ≡ unit ∷ []

@@ -1,6 +1,6 @@
 -- Emitted programs with a fault: each is the adjoint of a program, but for one thing.
-use Rattle.std.specs.Prelude.{ℕ, List, [], ◌∷◌, map, Bool, false, codes}
-use Rattle.adj_tree.specs.Code.{shadow, lit, neg, bin, plus, minus, assign, runtime, push_word, pop_word, Code, stop, step, Procedure}
+use Rattle.std.specs.Prelude.{ℕ, pos, List, [], ◌∷◌, map, Bool, false, codes}
+use Rattle.adj_tree.specs.Code.{shadow, lit, neg, bin, plus, minus, assign, runtime, push_word, pop_word, begin_reversal, end_reversal, Code, stop, step, Procedure}
 use Rattle.adj_meaning.specs.Append.{◌+++◌}
 use Rattle.adj_meaning.specs.Rename.{rename}
 use Rattle.adj_transpose.specs.Naming.{naming}
@@ -72,6 +72,10 @@ abbrev pub unpopped : Code → Code
 unpopped stop = stop
 unpopped (step line (runtime (pop_word x subs)) rest) = unpopped rest
 unpopped (step line a rest) = step line a (unpopped rest)
+
+-- a reversal of no steps is begun and ended in front
+abbrev pub replayed : Code → Code
+replayed c = step 0 (runtime (begin_reversal (lit (pos 0)) (lit (pos 1)))) (step 0 (runtime end_reversal) c)
 
 -- the sweeps of a list by marks
 abbrev pub forward_by : Marks → Sweep

@@ -10,7 +10,7 @@ use Rattle.adj_transpose.specs.Program.{adjoint_name, unmarked, unit_at}
 use Rattle.adj_transpose.specs.Marks.{Vars, Marks}
 use Rattle.adj_transpose.specs.Facts.{In}
 use Rattle.adj_transpose.specs.MarkedProgram.{marked_names, shadows_behind}
-use Rattle.adj_transpose.specs.Adjoint.{Ends, AreAlike, cells_of, IsDirection, Agrees, OthersAreZero}
+use Rattle.adj_transpose.specs.Adjoint.{Ends, AreAlike, cells_of, reversals, IsDirection, Agrees, OthersAreZero}
 
 -- which of the names have a shadow
 abbrev pub shadow_flags : Vars → List (List ℕ) → List Bool
@@ -35,10 +35,14 @@ shadow_cells (false ∷ flags) (v ∷ vs) = map (λ c. pos 0) v.cells ∷ shadow
 
 -- what the adjoint unit a does for an input of u and shadows of its dummies, of which it takes those that are flagged
 pub record TransposesBy (flags : List Bool) (ps : List Procedure) (u : Procedure) (vars outvars : List Bool) (qs : List Procedure) (a : Procedure) (input shadows : List (Slot ℤ)) : Type 0 where
+  -- they are an input of it
+  pub fits : fits words a (joined_by flags input shadows) ≡ true
   -- its run ends
   pub run : Ends words qs a (joined_by flags input shadows)
   -- the tape is empty again
   pub empties : run.output.tape ≡ []
+  -- no loop was reversed by a schedule
+  pub no_reversals : reversals run.output.events ≡ []
   -- in each direction the products agree
   pub products : (d : List (List ℤ)) → IsDirection vars input d → Agrees ps u vars outvars input (cells_of shadows) (shadow_cells flags run.output.slots) d
   -- the shadows of the dummies that aren't independent are 0 at the end

@@ -1,6 +1,7 @@
 -- The statements of the theorems.
 use Rattle.std.specs.Prelude.{◌≡◌, ℕ, ℤ, List, [], ◌∷◌, Bool}
 use Rattle.adj_tree.specs.Code.{Var, Code, Procedure}
+use Rattle.adj_tree.specs.Lines.{unlined}
 use Rattle.adj_word.specs.Pairing.{IsApart}
 use Rattle.adj_meaning.specs.LeastSet.{Dummies}
 use Rattle.adj_meaning.specs.Store.{Shape, Store}
@@ -52,3 +53,7 @@ FullAdjoint = (i : ℕ) (ps : List Procedure) (head : ℕ) (vars outvars : List 
 
 abbrev pub FullClosed : Type 0
 FullClosed = (xs : List Key) (c : Code) (i from to : ℕ) → IsStraight xs c → AreClosed full_facts from to i c
+
+-- a program that differs from an adjoint in line numbers alone is an adjoint as well
+abbrev pub OtherLines : Type 0
+OtherLines = (ps qs others : List Procedure) (head : ℕ) (vars outvars : List Bool) → unlined qs ≡ unlined others → IsAdjoint ps head vars outvars qs → IsAdjoint ps head vars outvars others

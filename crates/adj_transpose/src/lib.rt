@@ -26,7 +26,7 @@ pub fn emitted_examples()
     ensures fourth_power { adjoint_program (fourth ∷ []) 0 (true ∷ []) (true ∷ []) ≡ fourth_adjoint ∷ [] }
 {}
 
-ghost use Rattle.adj_transpose.specs.Theorem.{MarkedSweepsTranspose, MarkedIsAdjoint, FullForward, FullBackward, FullProgram, FullAdjoint, FullClosed, EmittedIsAdjoint};
+ghost use Rattle.adj_transpose.specs.Theorem.{MarkedSweepsTranspose, MarkedIsAdjoint, FullForward, FullBackward, FullProgram, FullAdjoint, FullClosed, EmittedIsAdjoint, OtherLines};
 
 /// The sweeps of a list of assignments to scalars transpose its derivative, with all marks that are closed on it.
 pub fn marked_sweeps_law()
@@ -64,9 +64,14 @@ pub fn adjoint_law()
     ensures { EmittedIsAdjoint }
 {}
 
+/// Line numbers don't matter: where a program is an adjoint, so is each that differs from it in these alone.
+pub fn lines_law()
+    ensures other_lines { OtherLines }
+{}
+
 ghost use Rattle.std.specs.Prelude.{Bool};
 ghost use Rattle.adj_tree.specs.Code.{Procedure};
-ghost use Rattle.adj_transpose.specs.Faulty.{with_sweeps, Serve, right_forward, right_backward, pushed_after, unreversed, assigned, unsigned, uncleared, unpopped, forward_by, backward_by, unsaved, unkept, squared_itself, cube, difference};
+ghost use Rattle.adj_transpose.specs.Faulty.{with_sweeps, Serve, right_forward, right_backward, pushed_after, unreversed, assigned, unsigned, uncleared, unpopped, replayed, forward_by, backward_by, unsaved, unkept, squared_itself, cube, difference};
 
 /// Emitted programs with a fault are no adjoints: the definition of an adjoint tells them from the emitted one.
 pub fn wrong_adjoints()
@@ -77,6 +82,7 @@ pub fn wrong_adjoints()
     ensures unsigned { Serve right_forward (λ c. unsigned (right_backward c)) difference (true ∷ false ∷ []) (false ∷ true ∷ []) → ⊥ }
     ensures uncleared { Serve right_forward (λ c. uncleared (right_backward c)) squared_itself (true ∷ []) (true ∷ []) → ⊥ }
     ensures unpopped { Serve right_forward (λ c. unpopped (right_backward c)) square (true ∷ false ∷ []) (false ∷ true ∷ []) → ⊥ }
+    ensures replayed { Serve (λ c. replayed (right_forward c)) right_backward square (true ∷ false ∷ []) (false ∷ true ∷ []) → ⊥ }
     ensures unsaved { Serve (forward_by unsaved) (backward_by unsaved) fourth (true ∷ []) (true ∷ []) → ⊥ }
     ensures unkept { Serve (forward_by unkept) (backward_by unkept) fourth (true ∷ []) (true ∷ []) → ⊥ }
 {}

@@ -1,5 +1,5 @@
 use Rattle.std.proofs.Common.{refl}
-use Rattle.adj_transpose.proofs.Trials.{pushed_after_fails, unreversed_fails, assigned_fails, unsigned_fails, uncleared_fails, unpopped_fails, unsaved_fails, unkept_fails}
+use Rattle.adj_transpose.proofs.Trials.{pushed_after_fails, unreversed_fails, assigned_fails, unsigned_fails, uncleared_fails, unpopped_fails, replayed_fails, unsaved_fails, unkept_fails}
 use Rattle.adj_transpose.proofs.wrong_adjoints.Goals as goal
 
 pub returns-clause-without_fault : goal.returns-clause-without_fault
@@ -22,6 +22,9 @@ returns-clause-uncleared c = uncleared_fails
 
 pub returns-clause-unpopped : goal.returns-clause-unpopped
 returns-clause-unpopped c = unpopped_fails
+
+pub returns-clause-replayed : goal.returns-clause-replayed
+returns-clause-replayed c = replayed_fails
 
 pub returns-clause-unsaved : goal.returns-clause-unsaved
 returns-clause-unsaved c = unsaved_fails
