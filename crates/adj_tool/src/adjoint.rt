@@ -142,8 +142,12 @@ fn answer_unit(
     Ok(answer)
 }
 
-// The answer for a program.
-fn answer_program(alloc: Global, request: &Request, program: &Program) -> Result<Answer, Memory>
+/// The answer for a program.
+pub(crate) fn answer_program(
+    alloc: Global,
+    request: &Request,
+    program: &Program,
+) -> Result<Answer, Memory>
     requires { IsWritten (procedures_of program.now) }
     ensures answer { IfOk result (λ a. answer_of a ≡ program_answer (request_of request.now) (procedures_of program.now)) }
     ensures adjoint { IfOk result (λ a. (bytes : List ℕ) → Reads bytes (procedures_of program.now) → IsAdjoined (request_of request.now) bytes (answer_of a)) }

@@ -68,6 +68,7 @@ fn answer_words<S: Source>(alloc: Global, words: &[Text], input: &mut S) -> Resu
     ensures adjoint { IfOk result (λ a. (answer_of a).status ≡ 0 → IsAdjoinedTo (taken words.now) (S.left input.old) (S.left input.new) a.text.items) }
     ensures fault { IsErrOf result Stop.ReadFault → Rose (S.faults input.old) (S.faults input.new) }
     ensures reads { IsErrOf result Stop.ReadFault → ReadsInput (taken words.now) }
+    ensures unread { (ReadsInput (taken words.now) → ⊥) → S.left input.new ≡ S.left input.old }
 {
     let Some(task) = take(alloc, words)? else {
         let answer = usage(alloc)?;
@@ -92,6 +93,8 @@ pub fn tool<S: Source, K: Sink>(alloc: Global, words: &[Text], input: &mut S, ou
     ensures answer { result < 7 → WritesAll (taken words.now) (S.left input.old) (S.left input.new) (K.taken output.old) (K.taken output.new) result }
     ensures read_fault { result ≡ 7 → Rose (S.faults input.old) (S.faults input.new) }
     ensures reads { result ≡ 7 → ReadsInput (taken words.now) }
+    // A command that doesn't read, and words that are none, leave the input as it was, whatever the status.
+    ensures unread { (ReadsInput (taken words.now) → ⊥) → S.left input.new ≡ S.left input.old }
     ensures write_fault { result ≡ 8 → Rose (K.faults output.old) (K.faults output.new) }
     ensures front { result ≡ 8 → WritesFront (taken words.now) (S.left input.old) (S.left input.new) (K.taken output.old) (K.taken output.new) }
     ensures unwritten { (result ≡ 7) ⊎ (result ≡ 9) → K.taken output.new ≡ K.taken output.old }

@@ -1,7 +1,12 @@
 //! Long texts and long statements.
 
 use super::{WORDS, writes};
-use adj_tree::Memory;
+use crate::adjoint::answer_program;
+use crate::answer::Status;
+use crate::read::read;
+use crate::task::Request;
+use adj_fixed::Mode;
+use adj_tree::{Fault, Memory, Name, NameList};
 use std::alloc::Global;
 
 // Writes a text as often as that.
@@ -56,7 +61,7 @@ fn a_hundred_thousand_assignments(rt: HostRuntime) -> Result<(), Memory> {
 }
 
 /// How many dummies of 31 characters a SUBROUTINE statement with 19 continuation lines has room for.
-const DUMMIES: u8 = 40;
+const MOST_IN_A_SOURCE: u8 = 40;
 
 // Writes a dummy's name of 31 characters.
 fn push_name(all: &mut Vec<u8>, number: u8) -> Result<(), Memory> {
@@ -96,17 +101,17 @@ fn push_form(alloc: Global, all: &mut Vec<u8>, form: &[u8]) -> Result<(), Memory
     push_statement(all, statement.as_slice())
 }
 
-// The source: the first dummy becomes the product of the second and the third.
-fn long_source(alloc: Global) -> Result<Vec<u8>, Memory> {
+// The source: the first of so many dummies becomes the product of the second and the third.
+fn long_source(alloc: Global, dummies: u8) -> Result<Vec<u8>, Memory> {
     let mut heading = Vec::from_slice(alloc, b"SUBROUTINE P")?;
-    for number in 0..DUMMIES {
+    for number in 0..dummies {
         heading.push(if number == 0 { b'(' } else { b',' })?;
         push_name(&mut heading, number)?;
     }
     heading.push(b')')?;
     let mut text = Vec::new(alloc);
     push_statement(&mut text, heading.as_slice())?;
-    for number in 0..DUMMIES {
+    for number in 0..dummies {
         text.extend_from_slice(b"      INTEGER*8 ")?;
         push_name(&mut text, number)?;
         text.push(b'\n')?;
@@ -117,8 +122,8 @@ fn long_source(alloc: Global) -> Result<Vec<u8>, Memory> {
 }
 
 // Writes a zeroing of the shadow of each dummy but one.
-fn push_zeros(all: &mut Vec<u8>, but: u8) -> Result<(), Memory> {
-    for number in 0..DUMMIES {
+fn push_zeros(all: &mut Vec<u8>, dummies: u8, but: u8) -> Result<(), Memory> {
+    for number in 0..dummies {
         if number != but {
             all.extend_from_slice(b"      ")?;
             push_name(all, number)?;
@@ -129,9 +134,9 @@ fn push_zeros(all: &mut Vec<u8>, but: u8) -> Result<(), Memory> {
 }
 
 // Its adjoint.
-fn long_adjoint(alloc: Global) -> Result<Vec<u8>, Memory> {
+fn long_adjoint(alloc: Global, dummies: u8) -> Result<Vec<u8>, Memory> {
     let mut heading = Vec::from_slice(alloc, b"SUBROUTINE P_B")?;
-    for number in 0..DUMMIES {
+    for number in 0..dummies {
         heading.push(if number == 0 { b'(' } else { b',' })?;
         push_name(&mut heading, number)?;
         heading.push(b',')?;
@@ -141,7 +146,7 @@ fn long_adjoint(alloc: Global) -> Result<Vec<u8>, Memory> {
     heading.push(b')')?;
     let mut text = Vec::new(alloc);
     push_statement(&mut text, heading.as_slice())?;
-    for number in 0..DUMMIES {
+    for number in 0..dummies {
         text.extend_from_slice(b"      INTEGER*8 ")?;
         push_name(&mut text, number)?;
         text.extend_from_slice(b"\n      INTEGER*8 ")?;
@@ -151,7 +156,7 @@ fn long_adjoint(alloc: Global) -> Result<Vec<u8>, Memory> {
     text.extend_from_slice(b"      INTEGER*8 ADW1\n      INTEGER*8 ADW2\n")?;
     push_form(alloc, &mut text, b"CALL PUSHINTEGER8(@)")?;
     push_form(alloc, &mut text, b"@=#*&")?;
-    push_zeros(&mut text, 0)?;
+    push_zeros(&mut text, dummies, 0)?;
     push_form(alloc, &mut text, b"CALL POPINTEGER8(@)")?;
     push_form(alloc, &mut text, b"ADW1=@B")?;
     push_form(alloc, &mut text, b"@B=0")?;
@@ -159,7 +164,7 @@ fn long_adjoint(alloc: Global) -> Result<Vec<u8>, Memory> {
     push_form(alloc, &mut text, b"#B=#B+ADW2")?;
     push_form(alloc, &mut text, b"ADW2=ADW1*#")?;
     push_form(alloc, &mut text, b"&B=&B+ADW2")?;
-    push_zeros(&mut text, 1)?;
+    push_zeros(&mut text, dummies, 1)?;
     push_form(alloc, &mut text, b"END")?;
     Ok(text)
 }
@@ -169,8 +174,34 @@ fn long_names_fill_statements_of_many_lines(rt: HostRuntime) -> Result<(), Memor
     let alloc = rt.alloc();
     let words =
         "adjoint --head P --vars DUMMY_WITH_A_VERY_LONG_NAME_A01 --outvars DUMMY_WITH_A_VERY_LONG_NAME_A00";
-    let text = long_source(alloc)?;
-    let adjoint = long_adjoint(alloc)?;
+    let text = long_source(alloc, MOST_IN_A_SOURCE)?;
+    let adjoint = long_adjoint(alloc, MOST_IN_A_SOURCE)?;
     assert!(rt; writes(alloc, words, text.as_slice(), adjoint.as_slice())?);
+    Ok(())
+}
+
+// A list of one dummy's name.
+fn one_name(alloc: Global, number: u8) -> Result<NameList, Memory> {
+    let mut bytes = Vec::new(alloc);
+    push_name(&mut bytes, number)?;
+    let mut names = Vec::new(alloc);
+    names.push(Name::new(bytes))?;
+    Ok(NameList::new(names))
+}
+
+#[test]
+fn a_hundred_long_dummies(rt: HostRuntime) -> Result<(), Fault> {
+    let alloc = rt.alloc();
+    // a statement of a source has no room for so many
+    let text = long_source(alloc, 100)?;
+    let program = read(alloc, text.as_slice(), Mode::Run)?;
+    let request = Request {
+        head: Name::new(Vec::from_slice(alloc, b"P")?),
+        vars: one_name(alloc, 1)?,
+        outvars: one_name(alloc, 0)?,
+    };
+    let answer = answer_program(alloc, &request, &program)?;
+    let adjoint = long_adjoint(alloc, 100)?;
+    assert!(rt; answer.status == Status::Done && answer.text == adjoint);
     Ok(())
 }
