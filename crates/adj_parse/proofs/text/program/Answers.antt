@@ -1,11 +1,10 @@
-use Rattle.std.proofs.Common.{length, ◌-◌, refl}
+use Rattle.std.proofs.Common.{◌-◌, length, refl, sym, ap, ◌∙◌}
 use Rattle.std.proofs.lemmas.Result.{err_from_is_err_and}
+use Rattle.std.specs.Prelude.{Ok}
 use Rattle.adj_parse.specs.CurrentView.{state_of}
 use Rattle.adj_parse.proofs.Passing.{over_end, over_more, over_fails, text_slices}
 use Rattle.adj_parse.proofs.TextReads.{gives_reads, gives_written}
 use Rattle.adj_parse.proofs.text.program.Goals as goal
-use Rattle.std.specs.Prelude.{Ok}
-use Rattle.std.proofs.Common.{sym, ◌∙◌, ap}
 
 pub follow-requires : goal.follow-requires
 follow-requires c = record { slices = text_slices c.args.mode c.args.stated.now c.requires.text c.loop-index.index c.index-stated-index.result c.loop-index-test.true c.index-stated-index.is }
