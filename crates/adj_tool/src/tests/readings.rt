@@ -188,6 +188,76 @@ const DECLARATIONS: [(&str, &str); 10] = [
     ("SUBROUTINE Q", "REFUSED 4 LINE 2\n"),
 ];
 
+/// Loops that share their CONTINUE, in small letters and without blanks, and the same as it is written canonically.
+const SHARED: &[u8] = b"      subroutine p(n,k)
+      INTEGER N,K
+      K=0                                                               JUNK
+      DO10I=1,2
+      DO 10 J = 1 , N
+      K=K+I*J
+   10 CONTINUE
+      RETURN
+      END
+";
+
+const SHARED_TREE: &[u8] = b"      SUBROUTINE P(N,K)
+      INTEGER*8 N
+      INTEGER*8 K
+      K=0
+      DO I=1,2
+      DO J=1,N
+      K=K+I*J
+      END DO
+      END DO
+      END
+";
+
+/// The same with a bound that is no number.
+const BROKEN: &[u8] = b"      subroutine p(n,k)
+      INTEGER N,K
+      K=0                                                               JUNK
+      DO 10 I = 1.5
+      DO 10 J = 1 , N
+      K=K+I*J
+   10 CONTINUE
+      RETURN
+      END
+";
+
+/// A loop over time steps, whose values are to be kept in five snapshots.
+const WAVE: &[u8] = b"      SUBROUTINE WAVE(N,U,S)
+      INTEGER*8 N,U(N),S,V(50)
+C$AD BINOMIAL-CKP 5
+      DO 30 K=1,100
+      DO 10 I=2,N
+      V(I)=U(I-1)*U(I)
+   10 CONTINUE
+      DO 20 I=2,N
+      U(I)=V(I)
+   20 CONTINUE
+   30 CONTINUE
+      S=U(N)
+      END
+";
+
+const WAVE_TREE: &[u8] = b"      SUBROUTINE WAVE(N,U,S)
+      INTEGER*8 N
+      INTEGER*8 U(N)
+      INTEGER*8 S
+      INTEGER*8 V(50)
+C$AD BINOMIAL-CKP 5
+      DO K=1,100
+      DO I=2,N
+      V(I)=U(I-1)*U(I)
+      END DO
+      DO I=2,N
+      U(I)=V(I)
+      END DO
+      END DO
+      S=U(N)
+      END
+";
+
 // The line of a text that begins in column 7, or stands as it is.
 fn push_line(all: &mut Vec<u8>, line: &str) -> Result<(), Memory> {
     if !line.starts_with(' ') && !line.starts_with("C$") {
@@ -259,6 +329,20 @@ fn each_condition_reads_as_its_tree(rt: HostRuntime) -> Result<(), Memory> {
 fn each_block_ends_where_its_kind_says(rt: HostRuntime) -> Result<(), Memory> {
     for (body, expected) in BLOCKS {
         assert!(rt; reads_as(rt.alloc(), body, expected)?, "{body}");
+    }
+    Ok(())
+}
+
+#[test]
+fn loops_with_labels_read_as_their_trees(rt: HostRuntime) -> Result<(), Memory> {
+    let cases: [(&[u8], &[u8]); 3] = [
+        (SHARED, SHARED_TREE),
+        (BROKEN, b"REFUSED 4 LINE 4\n"),
+        (WAVE, WAVE_TREE),
+    ];
+    for (text, expected) in cases {
+        let found = reading(rt.alloc(), text, Mode::Source)?;
+        assert!(rt; found.as_slice() == expected);
     }
     Ok(())
 }
