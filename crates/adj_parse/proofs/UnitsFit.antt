@@ -4,8 +4,8 @@ use Rattle.std.specs.List.{All}
 use Rattle.adj_tree.specs.Code.{Act, Code, Declaration, Procedure}
 use Rattle.adj_text.specs.Block as blocks
 use Rattle.adj_text.specs.Block.{ReadsBody, ReadsAct, ReadsElse}
-use Rattle.adj_text.specs.Fits.{FitsTerm, FitsTest, FitsAct, FitsCode, FitsExtent, FitsProcedure, Fits}
-use Rattle.adj_text.specs.Form.{Form, integers, simple, logical, opens_do, opens_if, otherwise_if, Statement, at}
+use Rattle.adj_text.specs.Fits.{FitsAct, FitsCode, FitsExtent, FitsProcedure, Fits}
+use Rattle.adj_text.specs.Form.{Form, Statement, at}
 use Rattle.adj_text.specs.Statement.{Item}
 use Rattle.adj_text.specs.Unit as units
 use Rattle.adj_text.specs.Unit.{ReadsImplicit, declaration_of, ReadsDeclarations, ReadsEnd, ReadsUnit, ReadsUnits}
