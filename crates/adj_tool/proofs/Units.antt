@@ -10,10 +10,12 @@ use Rattle.adj_text.specs.Reads.{Reads}
 use Rattle.adj_text.specs.ReadsAs.{ReadsAs}
 use Rattle.adj_text.specs.Written.{IsWritten, IsWrittenProcedure}
 use Rattle.adj_text.proofs.WrittenBack.{all_first}
+use Rattle.adj_text.proofs.TextUnlined.{one_text}
 use Rattle.adj_transpose.specs.Adjoint.{IsAdjoint}
 use Rattle.adj_transpose.specs.Program.{unit_at}
 use Rattle.adj_transpose.specs.Straight.{IsStraightUnit}
 use Rattle.adj_transpose.proofs.Variables.{and_true}
+use Rattle.adj_transpose.proofs.Lines.{other_lines}
 use Rattle.adj_tool.specs.Words.{Request}
 use Rattle.adj_tool.specs.Profile.{untreated_in, first_untreated, is_well_named}
 use Rattle.adj_tool.specs.Answer.{Answer, head_of, emitted, is_asked, are_listed, answer_behind, treated_answer, program_answer, unit_answer, untreated, written}
@@ -45,7 +47,7 @@ module _ (r : Request) (ps : List Procedure) (u : Procedure) (one : ps ≡ u ∷
   pub unit_answered : h ≡ head_of r u → is_well_named u ≡ true → is_asked r u ≡ true → written ps h ≡ unit_answer r u
   unit_answered is named asked = ap₂ written one is ∙ sym (ap₂ (λ a b. if a && b then written (u ∷ []) (head_of r u) else untreated 0) named asked)
 
-  -- and that text is an adjoint of the text that reads as the program
+  -- and the program that this text is, which has other lines than the one that was printed, is an adjoint of the text that reads as the program
   pub unit_adjoins : h ≡ head_of r u → is_asked r u ≡ true → (a : Answer) → a ≡ written ps h → ReadsAs a.text (emitted ps h) → IsAdjoint ps h.unit h.vars h.outvars (emitted ps h) → (bytes : List ℕ) → Reads bytes ps → WritesAdjoint r bytes a.text
   unit_adjoins is asked a answers back adjoint bytes reads = record {
     source = ps;
@@ -54,10 +56,10 @@ module _ (r : Request) (ps : List Procedure) (u : Procedure) (one : ps ≡ u ∷
     unit = u;
     is_head = ap₂ unit_at (ap (λ (z : Head). z.unit) is) one;
     named = asked_name r u asked;
-    adjoint = emitted ps h;
-    text = ap (λ (z : Answer). z.text) answers;
-    reads_back = back;
-    is_adjoint = subst (λ (z : Head). IsAdjoint ps h.unit z.vars z.outvars (emitted ps h)) is adjoint;
+    adjoint = back.0;
+    reads_back = back.1;
+    text = ap (λ (z : Answer). z.text) answers ∙ one_text (emitted ps h) back.0 (sym back.2);
+    is_adjoint = subst (λ (z : Head). IsAdjoint ps h.unit z.vars z.outvars back.0) is (other_lines ps (emitted ps h) back.0 h.unit h.vars h.outvars (sym back.2) adjoint);
   }
 
 -- a refusal is no answer that is done

@@ -2,15 +2,14 @@
 use Rattle.std.specs.Prelude.{◌≡◌, ℕ, List, [], ◌∷◌}
 use Rattle.adj_tree.specs.Code.{Procedure}
 use Rattle.adj_text.specs.Reads.{Reads}
-use Rattle.adj_text.specs.ReadsAs.{ReadsAs}
 use Rattle.adj_text.specs.Text.{text_of}
 use Rattle.adj_transpose.specs.Program.{unit_at}
 use Rattle.adj_transpose.specs.Adjoint.{IsAdjoint}
 use Rattle.adj_tool.specs.Words.{Request}
 use Rattle.adj_tool.specs.Answer.{Answer, flags_of}
 
--- the bytes that were read are a program, whose unit of the name asked for is the head; the bytes that were written are the text of a
--- program, read as it (up to line numbers), and that program is an adjoint of the first one for the head with its independents and dependents
+-- the bytes that were read are a program, whose unit of the name asked for is the head; the bytes that were written are a program too, and the
+-- canonical text of that program, and it is an adjoint of the first one for the head with its independents and dependents
 pub record WritesAdjoint (r : Request) (bytes written : List ℕ) : Type 0 where
   pub source : List Procedure
   pub reads : Reads bytes source
@@ -19,9 +18,10 @@ pub record WritesAdjoint (r : Request) (bytes written : List ℕ) : Type 0 where
   pub unit : Procedure
   pub is_head : unit_at head source ≡ unit ∷ []
   pub named : unit.name ≡ r.head
+  -- what the written bytes are, with the lines at which its units and statements stand there
   pub adjoint : List Procedure
+  pub reads_back : Reads written adjoint
   pub text : written ≡ text_of adjoint
-  pub reads_back : ReadsAs written adjoint
   pub is_adjoint : IsAdjoint source head (flags_of r.vars unit.dummies) (flags_of r.outvars unit.dummies) adjoint
 
 -- where the answer to these bytes is done, its text is that of an adjoint
