@@ -4,7 +4,7 @@ use Rattle.std.specs.Int.{int_wrap}
 use Rattle.adj_revolve.specs.Binomial.{choose}
 use Rattle.adj_revolve.specs.Split.{first_repetition, repetitions, split_of}
 use Rattle.adj_revolve.specs.Schedule.{body}
-use Rattle.adj_meaning.specs.Samples.{SquareOfThree, SquareOfLeast, SumOfOneElement, PowersOfTwo, LongSteps, QuotientsAndTraps, CubeByCall, SquaredElement, ArrayPassed, AdjointOfSquares, PopFromEmpty, ArraySaved, LastAction, OpenReversal, EventsInOrder, ChosenTangents}
+use Rattle.adj_meaning.specs.Samples.{SquareOfThree, SquareOfLeast, SumOfOneElement, PowersOfTwo, LongSteps, QuotientsAndTraps, CubeByCall, SquaredElement, ArrayPassed, ShapesTold, AdjointOfSquares, PopFromEmpty, ArraySaved, LastAction, OpenReversal, EventsInOrder, ChosenTangents}
 
 pub square_of_three : SquareOfThree
 unfolding int_wrap
@@ -41,6 +41,10 @@ squared_element = refl
 pub array_passed : ArrayPassed
 unfolding int_wrap
 array_passed = (refl, refl, refl)
+
+pub shapes_told : ShapesTold
+unfolding int_wrap
+shapes_told = refl
 
 pub adjoint_of_squares : AdjointOfSquares
 unfolding int_wrap

@@ -24,8 +24,8 @@ is_direct level r = level == suc r.level
 -- the log after some events, where the innermost open reversal is the first: no unit ends while it has one open
 abbrev pub log_from : List Reversal → Log → List Event → Log
 log_from open_ones log [] = log
-log_from [] log (Enter name level height ∷ es) = log_from [] log es
-log_from (r ∷ rs) log (Enter name level height ∷ es) =
+log_from [] log (Enter name level height shapes ∷ es) = log_from [] log es
+log_from (r ∷ rs) log (Enter name level height shapes ∷ es) =
     log_from (record r { calls = if is_direct level r then suc r.calls else r.calls } ∷ rs) (record log { height = if is_direct level r then max log.height (height - r.start) else log.height }) es
 log_from rs log (Begin steps snapshots level height ∷ es) = log_from (record { level = level; steps = steps; start = height; calls = 0 } ∷ rs) (record log { reversals = suc log.reversals }) es
 log_from [] log (End level ∷ es) = log_from [] log es

@@ -1,5 +1,5 @@
 -- Each run is computed.
-use Rattle.adj_meaning.proofs.Samples.{square_of_three, square_of_least, sum_of_one_element, powers_of_two, long_steps, quotients_and_traps, cube_by_call, squared_element, array_passed, adjoint_of_squares, pop_from_empty, array_saved, last_action, open_reversal, events_in_order, chosen_tangents}
+use Rattle.adj_meaning.proofs.Samples.{square_of_three, square_of_least, sum_of_one_element, powers_of_two, long_steps, quotients_and_traps, cube_by_call, squared_element, array_passed, shapes_told, adjoint_of_squares, pop_from_empty, array_saved, last_action, open_reversal, events_in_order, chosen_tangents}
 use Rattle.adj_meaning.proofs.worked.worked_examples.Goals as goal
 
 pub returns-clause-square : goal.returns-clause-square
@@ -49,3 +49,6 @@ returns-clause-events c = events_in_order
 
 pub returns-clause-chosen_tangents : goal.returns-clause-chosen_tangents
 returns-clause-chosen_tangents c = chosen_tangents
+
+pub returns-clause-shapes_told : goal.returns-clause-shapes_told
+returns-clause-shapes_told c = shapes_told
