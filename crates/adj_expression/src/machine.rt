@@ -47,7 +47,7 @@ fn begin(
 {
     match kind {
         TokenKind::Name => {
-            let name = Name::new(text.to_vec(alloc)?);
+            let name = Name::from_slice(alloc, text)?;
             Ok(Stepped::On(Seen::Callee(name)))
         }
         TokenKind::Number => {

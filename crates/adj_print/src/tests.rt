@@ -14,7 +14,7 @@ use std::test::Fail;
 type Made<T> = Result<T, Memory>;
 
 fn name(alloc: Global, text: &str) -> Made<Name> {
-    Ok(Name::new(text.as_bytes().to_vec(alloc)?))
+    Name::from_slice(alloc, text.as_bytes())
 }
 
 fn var(alloc: Global, text: &str) -> Made<Expr> {

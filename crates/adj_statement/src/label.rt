@@ -32,7 +32,7 @@ impl Label {
         match u32::try_from(number(digits)) {
             Ok(label) => Ok(Label::Short(label)),
             Err(_) => {
-                let digits = Name::new(digits.to_vec(alloc)?);
+                let digits = Name::from_slice(alloc, digits)?;
                 Ok(Label::Long(LongLabel { digits }))
             }
         }

@@ -115,8 +115,8 @@ impl<'t> Words<'t> {
     {
         match self.tokens {
             [first, rest @ ..] if first.kind == TokenKind::Name => {
-                let bytes = self.text[first.start..first.end].to_vec(alloc)?;
-                Ok(Some((Name::new(bytes), Words::new(self.text, rest))))
+                let name = Name::from_slice(alloc, &self.text[first.start..first.end])?;
+                Ok(Some((name, Words::new(self.text, rest))))
             }
             _ => Ok(None),
         }

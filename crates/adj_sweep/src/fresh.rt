@@ -27,7 +27,7 @@ pub fn joined(alloc: Global, front: &[u8], back: &[u8]) -> Result<Name, Memory>
     let mut bytes = Vec::new(alloc);
     bytes.extend_from_slice(front)?;
     bytes.extend_from_slice(back)?;
-    Ok(Name::new(bytes))
+    Name::from_slice(alloc, bytes.as_slice())
 }
 
 /// The name of some bytes and then a number in decimal digits.
@@ -37,7 +37,7 @@ pub fn with_number(alloc: Global, front: &[u8], number: usize) -> Result<Name, M
     let mut bytes = Vec::new(alloc);
     bytes.extend_from_slice(front)?;
     push_digits(&mut bytes, number)?;
-    Ok(Name::new(bytes))
+    Name::from_slice(alloc, bytes.as_slice())
 }
 
 // The base itself, or with its number behind.

@@ -10,7 +10,7 @@ use std::alloc::Global;
 use std::test::Fail;
 
 fn name(alloc: Global, text: &[u8]) -> Result<Name, Memory> {
-    Ok(Name::new(text.to_vec(alloc)?))
+    Name::from_slice(alloc, text)
 }
 
 fn var(alloc: Global, text: &[u8]) -> Result<Expr, Memory> {

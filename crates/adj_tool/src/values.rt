@@ -48,7 +48,7 @@ fn folded(alloc: Global, word: &[u8]) -> Result<Name, Memory>
     for c in word {
         bytes.push(upper(*c))?;
     }
-    Ok(Name::new(bytes))
+    Name::from_slice(alloc, bytes.as_slice())
 }
 
 // Where the first comma stands.

@@ -3,48 +3,51 @@
 ghost use Rattle.std.specs.Prelude.{◌≡◌, ◌↔◌, List, ℕ, IsTrue, IfOk};
 
 use crate::fault::Memory;
+use smallvec::SmallVec;
 use std::alloc::Global;
 use std::marker::Model;
+use std::rc::Rc;
 
-/// The name of a variable or a unit, seen as its bytes.
+/// The name of a variable or a unit, seen as its bytes. Its copies share them; up to 16 bytes lie in one block.
 #[derive(Drop)]
 pub struct Name {
-    bytes: Vec<u8>,
+    shared: Rc<SmallVec<u8, 16>>,
 }
 
 impl Model for Name {
     ghost Value = { List ℕ };
 
-    ghost view = { λ n. n.bytes.items };
+    ghost view = { λ n. n.shared.value.items };
 }
 
 impl Name {
     /// The name of these bytes.
-    pub fn new(bytes: Vec<u8>) -> Name
-        ensures bytes { result ≡ bytes.items }
+    pub fn from_slice(alloc: Global, bytes: &[u8]) -> Result<Name, Memory>
+        ensures bytes { IfOk result (λ n. n ≡ bytes.now) }
     {
-        Name { bytes }
+        let shared = Rc::new(alloc, SmallVec::from_slice(alloc, bytes)?)?;
+        Ok(Name { shared })
     }
 
     /// Its bytes.
     pub fn bytes(&self) -> &[u8]
         ensures bytes { result.now ≡ self.now }
     {
-        self.bytes.as_slice()
+        self.shared.as_slice()
     }
 
-    /// The same name once more.
+    /// The same name once more, which takes no memory: an error means that too many copies are alive to be counted.
     pub fn copy(&self, alloc: Global) -> Result<Name, Memory>
         ensures same { IfOk result (λ n. n ≡ self.now) }
     {
-        let bytes = self.bytes.as_slice().to_vec(alloc)?;
-        Ok(Name { bytes })
+        let shared = self.shared.clone()?;
+        Ok(Name { shared })
     }
 
     /// Whether both are the same bytes.
     pub fn equals(&self, other: &Name) -> bool
         ensures equal { IsTrue result ↔ (self.now ≡ other.now) }
     {
-        self.bytes.as_slice() == other.bytes.as_slice()
+        self.bytes() == other.bytes()
     }
 }

@@ -1,6 +1,6 @@
 //! Small trees, counted and copied.
 
-use crate::{Expr, Items, Memory, Program};
+use crate::{Expr, Items, Memory, Name, Program};
 use std::alloc::Global;
 use std::test::Fail;
 
@@ -31,5 +31,16 @@ fn an_expression_is_counted_and_copied_with_its_parts(rt: HostRuntime) -> Result
 fn a_program_of_no_units_is_copied(rt: HostRuntime) -> Result<(), Fail> {
     let copied = no_units(rt.alloc()).copy(rt.alloc())?;
     assert!(rt; copied.units.as_slice().is_empty());
+    Ok(())
+}
+
+#[test]
+fn a_name_and_its_copy_are_equal_short_or_long(rt: HostRuntime) -> Result<(), Fail> {
+    for text in ["X", "ABCDEFGHIJKLMNOPQRSTUVWXYZABCDE_B"] {
+        let name = Name::from_slice(rt.alloc(), text.as_bytes())?;
+        let copied = name.copy(rt.alloc())?;
+        assert!(rt; copied.equals(&name));
+        assert_eq!(rt; copied.bytes(), text.as_bytes());
+    }
     Ok(())
 }

@@ -185,7 +185,7 @@ fn one_name(alloc: Global, number: u8) -> Result<NameList, Memory> {
     let mut bytes = Vec::new(alloc);
     push_name(&mut bytes, number)?;
     let mut names = Vec::new(alloc);
-    names.push(Name::new(bytes))?;
+    names.push(Name::from_slice(alloc, bytes.as_slice())?)?;
     Ok(NameList::new(names))
 }
 
@@ -196,7 +196,7 @@ fn a_hundred_long_dummies(rt: HostRuntime) -> Result<(), Fault> {
     let text = long_source(alloc, 100)?;
     let program = read(alloc, text.as_slice(), Mode::Run)?;
     let request = Request {
-        head: Name::new(Vec::from_slice(alloc, b"P")?),
+        head: Name::from_slice(alloc, b"P")?,
         vars: one_name(alloc, 1)?,
         outvars: one_name(alloc, 0)?,
     };
