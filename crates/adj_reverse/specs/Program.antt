@@ -1,0 +1,169 @@
+-- The program that is emitted for a kernel and its head, by marks. (docs/EMITTED.md)
+use Rattle.std.specs.Prelude.{ℕ, zero, suc, List, [], ◌∷◌, ◌++◌, map, length, max, Bool, true, false, ◌&&◌, ◌||◌, not, if◌then◌else◌}
+use Rattle.adj_tree.specs.Code.{Var, shadow, helper, work, temp, control, first, stride, count, turn, name_eq, Act, assign, choose, loop, during, call, runtime, Code, stop, step, Procedure}
+use Rattle.adj_meaning.specs.Rename.{rename}
+use Rattle.adj_transpose.specs.Naming.{Named, unit_names, naming}
+use Rattle.adj_transpose.specs.Marks.{Marks, next, behind, active_at}
+use Rattle.adj_transpose.specs.Marked.{works_in_where, temps_in_where, names_in}
+use Rattle.adj_transpose.specs.Program.{locals, variables, unit_name, helpers_from, unmarked, declared_helpers, unit_at}
+use Rattle.adj_reverse.specs.Names.{adjoint_name}
+use Rattle.adj_transpose.specs.MarkedProgram.{shadows_behind, declared_behind}
+use Rattle.adj_reverse.specs.Plan.{Plan}
+use Rattle.adj_reverse.specs.Emission.{is_empty, backward, adjoint_body}
+use Rattle.adj_reverse.specs.Marking.{ProgramMarks, first_statement, plan_in}
+
+-- ---- helpers that a body uses
+
+-- the greatest number of work variables, and of temporaries, that the adjoint of an assignment uses
+abbrev mutual
+  pub works_act : Marks → ℕ → Act → ℕ
+  works_act m i (assign x subs e) = if m.adjointed i then works_in_where (active_at m i) e 1 else 0
+  works_act m i (choose c a b) = max (works_used m (suc i) a) (works_used m (behind (suc i) a) b)
+  works_act m i (loop x a b c body n) = works_used m (suc i) body
+  works_act m i (during c body) = works_used m (suc i) body
+  works_act m i (call name args) = 0
+  works_act m i (runtime r) = 0
+
+  pub works_used : Marks → ℕ → Code → ℕ
+  works_used m i stop = 0
+  works_used m i (step line a rest) = max (works_act m i a) (works_used m (next i a) rest)
+
+abbrev mutual
+  pub temps_act : Marks → ℕ → Act → ℕ
+  temps_act m i (assign x subs e) = if m.adjointed i then temps_in_where (active_at m i) e else 0
+  temps_act m i (choose c a b) = max (temps_used m (suc i) a) (temps_used m (behind (suc i) a) b)
+  temps_act m i (loop x a b c body n) = temps_used m (suc i) body
+  temps_act m i (during c body) = temps_used m (suc i) body
+  temps_act m i (call name args) = 0
+  temps_act m i (runtime r) = 0
+
+  pub temps_used : Marks → ℕ → Code → ℕ
+  temps_used m i stop = 0
+  temps_used m i (step line a rest) = max (temps_act m i a) (temps_used m (next i a) rest)
+
+-- how deep the loops are whose turns are gone through backward
+abbrev mutual
+  pub depth_act : Plan → ℕ → ℕ → Act → ℕ
+  depth_act p i d (assign x subs e) = 0
+  depth_act p i d (choose c a b) = max (depth_used p (suc i) d a) (depth_used p (behind (suc i) a) d b)
+  depth_act p i d (loop x a b c body n) = if is_empty (backward p (suc i) (suc d) body) then 0 else max (suc d) (depth_used p (suc i) (suc d) body)
+  depth_act p i d (during c body) = if is_empty (backward p (suc i) (suc d) body) then 0 else max (suc d) (depth_used p (suc i) (suc d) body)
+  depth_act p i d (call name args) = 0
+  depth_act p i d (runtime r) = 0
+
+  pub depth_used : Plan → ℕ → ℕ → Code → ℕ
+  depth_used p i d stop = 0
+  depth_used p i d (step line a rest) = max (depth_act p i d a) (depth_used p (next i a) d rest)
+
+-- whether an IF tells which part ran
+abbrev mutual
+  pub tells_act : Plan → ℕ → ℕ → Act → Bool
+  tells_act p i d (assign x subs e) = false
+  tells_act p i d (choose c a b) = not (is_empty (backward p (suc i) d a) && is_empty (backward p (behind (suc i) a) d b))
+  tells_act p i d (loop x a b c body n) = tells_some p (suc i) (suc d) body
+  tells_act p i d (during c body) = tells_some p (suc i) (suc d) body
+  tells_act p i d (call name args) = false
+  tells_act p i d (runtime r) = false
+
+  pub tells_some : Plan → ℕ → ℕ → Code → Bool
+  tells_some p i d stop = false
+  tells_some p i d (step line a rest) = tells_act p i d a || tells_some p (next i a) d rest
+
+-- the helpers, in the order of their declarations
+abbrev pub helpers_used : Plan → ℕ → Code → List Var
+helpers_used p i c =
+    let deep = depth_used p i 0 c in
+    (if tells_some p i 0 c then helper control 0 ∷ [] else [])
+    ++ (helpers_from count 1 deep ++ (helpers_from first 1 deep ++ (helpers_from stride 1 deep ++ (helpers_from turn 1 deep
+    ++ (helpers_from work 1 (works_used p.marks i c) ++ helpers_from temp 1 (temps_used p.marks i c))))))
+
+-- ---- the adjoint unit
+
+-- the variables that it has besides those of u: a shadow of each that has one, and helpers
+abbrev pub made_for : ProgramMarks → List Procedure → Procedure → List Var
+made_for m ps u = map shadow (names_in (m.shadowed u.name) (variables u)) ++ helpers_used (plan_in m ps u) (first_statement ps u.name) u.body
+
+-- the names of its variables; `units` are the names of all units of the source and of all that are made
+abbrev pub adjoint_names : ProgramMarks → List Procedure → List (List ℕ) → Procedure → List Named
+adjoint_names m ps units u = unit_names (variables u) units (made_for m ps u)
+
+-- the adjoint of u, in which these shadows are cleared between the sweeps, and these at the end
+abbrev pub adjoint_unit : ProgramMarks → List Procedure → List (List ℕ) → Procedure → List (List ℕ) → List (List ℕ) → Procedure
+adjoint_unit m ps units u at_turn at_end =
+    let ns = adjoint_names m ps units u in
+    let p = plan_in m ps u in
+    let i = first_statement ps u.name in
+    record {
+      line = u.line;
+      name = adjoint_name ps u;
+      dummies = shadows_behind (m.shadowed u.name) ns u.dummies;
+      is_none = false;
+      declarations = declared_behind (m.shadowed u.name) ns u u.dummies ++ (declared_behind (m.shadowed u.name) ns u (locals u) ++ declared_helpers ns u.line (helpers_used p i u.body));
+      body = rename (naming ns) (adjoint_body p i u.line u.body at_turn at_end);
+    }
+
+-- ---- which units are emitted
+
+-- whether a list calls the unit of a name in a statement whose number is in a set
+abbrev mutual
+  pub calls_act : (ℕ → Bool) → List ℕ → ℕ → Act → Bool
+  calls_act f name i (assign x subs e) = false
+  calls_act f name i (choose c a b) = calls_in f name (suc i) a || calls_in f name (behind (suc i) a) b
+  calls_act f name i (loop x a b c body n) = calls_in f name (suc i) body
+  calls_act f name i (during c body) = calls_in f name (suc i) body
+  calls_act f name i (call other args) = f i && name_eq name other
+  calls_act f name i (runtime r) = false
+
+  pub calls_in : (ℕ → Bool) → List ℕ → ℕ → Code → Bool
+  calls_in f name i stop = false
+  calls_in f name i (step line a rest) = calls_act f name i a || calls_in f name (next i a) rest
+
+-- whether one of the units, of those in a set, does
+abbrev pub calls_some : (List ℕ → Bool) → (ℕ → Bool) → List ℕ → ℕ → List Procedure → Bool
+calls_some among f name i [] = false
+calls_some among f name i (u ∷ us) = (among u.name && calls_in f name i u.body) || calls_some among f name (behind i u.body) us
+
+-- the units whose adjoint is emitted: the head, and those that an adjointed call names
+abbrev pub has_adjoint : ProgramMarks → List Procedure → Procedure → List ℕ → Bool
+has_adjoint m ps head name = name_eq head.name name || calls_some (λ n. true) m.adjointed name 0 ps
+
+-- those that are emitted as they are: named by a kept call of an adjoint, or by a call of one that is emitted so, in some rounds
+abbrev pub carried_after : ProgramMarks → List Procedure → Procedure → ℕ → List ℕ → Bool
+carried_after m ps head zero name = false
+carried_after m ps head (suc k) name = calls_some (has_adjoint m ps head) m.kept name 0 ps || calls_some (carried_after m ps head k) (λ i. true) name 0 ps
+
+abbrev pub is_carried : ProgramMarks → List Procedure → Procedure → List ℕ → Bool
+is_carried m ps head name = carried_after m ps head (length ps) name
+
+-- the names of the adjoints that are emitted
+abbrev pub made_names : ProgramMarks → List Procedure → Procedure → List Procedure → List (List ℕ)
+made_names m ps head [] = []
+made_names m ps head (u ∷ us) = if has_adjoint m ps head u.name then adjoint_name ps u ∷ made_names m ps head us else made_names m ps head us
+
+-- the names of all units, of the source and made
+abbrev pub all_units : ProgramMarks → List Procedure → Procedure → List (List ℕ)
+all_units m ps head = map unit_name ps ++ made_names m ps head ps
+
+-- the adjoint of a unit as it is emitted: only the head's clears shadows
+abbrev pub emitted_adjoint : ProgramMarks → List Procedure → Procedure → List Bool → List Bool → Procedure → Procedure
+emitted_adjoint m ps head vars outvars u =
+    let shadows = names_in (m.shadowed u.name) in
+    if name_eq head.name u.name
+    then adjoint_unit m ps (all_units m ps head) u (shadows (unmarked u.dummies outvars)) (shadows (unmarked u.dummies vars))
+    else adjoint_unit m ps (all_units m ps head) u [] []
+
+-- each unit as it is, where it is carried, and then its adjoint, where it has one
+abbrev pub emitted_units : ProgramMarks → List Procedure → Procedure → List Bool → List Bool → List Procedure → List Procedure
+emitted_units m ps head vars outvars [] = []
+emitted_units m ps head vars outvars (u ∷ us) =
+    (if is_carried m ps head u.name then u ∷ [] else [])
+    ++ ((if has_adjoint m ps head u.name then emitted_adjoint m ps head vars outvars u ∷ [] else []) ++ emitted_units m ps head vars outvars us)
+
+-- what is emitted for a head, if there is one
+abbrev pub emitted_for : ProgramMarks → List Procedure → List Bool → List Bool → List Procedure → List Procedure
+emitted_for m ps vars outvars [] = []
+emitted_for m ps vars outvars (u ∷ us) = emitted_units m ps u vars outvars ps
+
+-- the program that is emitted for the head of this number, of which the flags tell the independents and the dependents
+abbrev pub emitted_program : ProgramMarks → List Procedure → ℕ → List Bool → List Bool → List Procedure
+emitted_program m ps head vars outvars = emitted_for m ps vars outvars (unit_at head ps)
