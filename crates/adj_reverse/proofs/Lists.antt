@@ -36,6 +36,7 @@ use Rattle.adj_reverse.proofs.Choices.{part, transposed_choice}
 use Rattle.adj_reverse.proofs.Loops.{turning}
 use Rattle.adj_reverse.proofs.LoopStatements.{looped}
 use Rattle.adj_reverse.proofs.LoopDone.{transposed_done}
+use Rattle.adj_reverse.proofs.WhileDone.{transposed_while}
 use Rattle.adj_reverse.proofs.Cells.{cells_has, cells_apart}
 
 -- what an actual that isn't handed back is: no actual of a dummy that is written
@@ -156,7 +157,9 @@ module _ (p q : Calls ℤ) (qd : Calls (ℤ × ℤ)) (ps : List Procedure) (hand
           loop_swept x a b c body mark i d line s e k left f.0 laws.0 h (λ s0 e0 k0 l0 g. list_swept body (suc i) (suc d) (point_inside i) s0 e0 k0 l0 f.1 laws.1 g)
       act_swept (loop (shadow x) a b c body mark) i d line s e k left f laws h = absurd f
       act_swept (loop (helper r x) a b c body mark) i d line s e k left f laws h = absurd f
-      act_swept (during c body) i d line s e k left f laws h = absurd f
+      act_swept (during c body) i d line s e k left f laws h =
+          transposed_while p q qd sh level xs w d present callees arrays i line c body laws.0 f.0 (λ x. writes handed x body) (is_plain m (suc i) body)
+          (λ s0 e0 k0 l0 g. list_swept body (suc i) (suc d) (point_inside i) s0 e0 k0 l0 f.1 laws.1 g) s e k left h
       act_swept (call name args) i d line s e k left f laws h =
           let given = laws.0 in
           let is : args ≡ actuals_named given = laws.1.0 in

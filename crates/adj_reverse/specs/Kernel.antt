@@ -88,7 +88,7 @@ abbrev mutual
   Fits' ps g answers carried present m vars arrays handed i (loop (plain x) a b c body n) = LoopFits vars arrays handed x a b c body × FitsList ps g answers carried present m vars arrays handed (suc i) body
   Fits' ps g answers carried present m vars arrays handed i (loop (shadow x) a b c body n) = ⊥
   Fits' ps g answers carried present m vars arrays handed i (loop (helper r x) a b c body n) = ⊥
-  Fits' ps g answers carried present m vars arrays handed i (during c body) = ⊥
+  Fits' ps g answers carried present m vars arrays handed i (during c body) = AllText (λ v. reads_test v c) × FitsList ps g answers carried present m vars arrays handed (suc i) body
   Fits' ps g answers carried present m vars arrays handed i (call name args) =
       ((given : List (List ℕ)) → args ≡ actuals_named given → CallFits ps vars arrays (g name) name given) × ((present ≡ true → m.adjointed i ≡ true → answers name ≡ true) × (present ≡ true → m.kept i ≡ true → carried name ≡ true))
   Fits' ps g answers carried present m vars arrays handed i (runtime r) = ⊥
