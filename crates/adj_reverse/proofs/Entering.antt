@@ -3,7 +3,7 @@ use Rattle.std.proofs.Common.{◌≡◌, ℕ, suc, ◌+◌, Bool, true, false, L
 use Rattle.std.specs.Prelude.{pos, length, Ok, Some, ◌==◌, if◌then◌else◌}
 use Rattle.adj_tree.specs.Code.{Var, plain, var_eq, call, Code, Procedure}
 use Rattle.adj_meaning.specs.Trap.{then_ok, shape_trap, schedule_trap}
-use Rattle.adj_meaning.specs.Store.{Store, set_all}
+use Rattle.adj_meaning.specs.Store.{Shape, Store, set_all}
 use Rattle.adj_meaning.specs.Value.{Setting}
 use Rattle.adj_meaning.specs.Event.{Enter}
 use Rattle.adj_meaning.specs.Scene.{Scene, stand, Outcome, Done, Trapped, More, Full, then_do, with_value}
@@ -11,7 +11,7 @@ use Rattle.adj_meaning.specs.Run.{run}
 use Rattle.adj_meaning.specs.Written.{find_unit, handed_back, is_written}
 use Rattle.adj_meaning.specs.Rename.{rename}
 use Rattle.adj_meaning.specs.Seen.{Separates, pulled, pulled_setting, pulled_scene, pulled_outcome}
-use Rattle.adj_meaning.specs.Units.{Actual, whole, actuals, entry_store, dummies_fit, copied_out, setting_in, entered, unit_run, call_in, calls_of}
+use Rattle.adj_meaning.specs.Units.{Actual, whole, actuals, entry_store, dummy_shapes, dummies_fit, copied_out, setting_in, entered, unit_run, call_in, calls_of}
 use Rattle.adj_meaning.specs.Leads.{Leads}
 use Rattle.adj_meaning.proofs.Inversions.{then_done, done_same}
 use Rattle.adj_meaning.proofs.Renamed.{run_renamed}
@@ -76,8 +76,8 @@ pulled_done r (More w) s k h = cc
 pulled_done r (Full w) s k h = cc
 
 -- what is kept at a unit's entry
-abbrev pub kept_at : {C : Type 0} → Setting C → Procedure → Kept → List C → Kept
-kept_at n u base t = record { opened = 0; events = Enter u.name (suc n.level) (length t) ∷ base.events }
+abbrev pub kept_at : {C : Type 0} → Setting C → Procedure → List Shape → Kept → List C → Kept
+kept_at n u shapes base t = record { opened = 0; events = Enter u.name (suc n.level) (length t) shapes ∷ base.events }
 
 module _ {C : Type 0} (units : List Procedure) (depth : ℕ) (n : Setting C) (name : List ℕ) (u : Procedure) (found : find_unit units name ≡ Some u) (r : Var → Var) (sep : Separates r) (bs : Bindings) (named : AreNamed r u.dummies bs) (s : Store C) where
   -- the unit's store at its entry
@@ -85,7 +85,7 @@ module _ {C : Type 0} (units : List Procedure) (depth : ℕ) (n : Setting C) (na
   entry = entry_store n.numbers u.dummies (actuals_at n s bs)
 
   -- where the dummies fit and the body comes to an end under the other names, so does the call
-  pub call_comes : (c : Code) → u.body ≡ rename r c → (line : ℕ) (base : Kept) (t t' : List C) (end : Store C) → dummies_fit n.numbers u entry u.dummies (actuals_at n s bs) ≡ true → Comes (calls_of units depth) (pulled_setting r (setting_in n u entry)) c (kept_at n u base t) (passed_in (n.numbers.of_word (pos 0)) bs s) end t t' → ActComes (calls_of units (suc depth)) n (call name (actuals_in bs)) line base s (passed_out (writes_as units u r) bs end s) t t'
+  pub call_comes : (c : Code) → u.body ≡ rename r c → (line : ℕ) (base : Kept) (t t' : List C) (end : Store C) → dummies_fit n.numbers u entry u.dummies (actuals_at n s bs) ≡ true → Comes (calls_of units depth) (pulled_setting r (setting_in n u entry)) c (kept_at n u (dummy_shapes (setting_in n u entry) u) base t) (passed_in (n.numbers.of_word (pos 0)) bs s) end t t' → ActComes (calls_of units (suc depth)) n (call name (actuals_in bs)) line base s (passed_out (writes_as units u r) bs end s) t t'
   call_comes c is line base t t' end fit b = record {
     later = record { opened = base.opened; events = b.later.events };
     quiet = record { opened = refl; reversals = b.quiet.reversals };
@@ -102,13 +102,13 @@ module _ {C : Type 0} (units : List Procedure) (depth : ℕ) (n : Setting C) (na
   }
     where
       start : Scene C
-      start = scene (kept_at n u base t) entry t
+      start = scene (kept_at n u (dummy_shapes (setting_in n u entry) u) base t) entry t
 
       inside : Setting C
       inside = setting_in n u entry
 
-      seen : pulled_scene r start ≡ scene (kept_at n u base t) (passed_in (n.numbers.of_word (pos 0)) bs s) t
-      seen = ap (λ (f : Store C). scene (kept_at n u base t) f t) (entry_pulled n r sep u.dummies bs s named)
+      seen : pulled_scene r start ≡ scene (kept_at n u (dummy_shapes (setting_in n u entry) u) base t) (passed_in (n.numbers.of_word (pos 0)) bs s) t
+      seen = ap (λ (f : Store C). scene (kept_at n u (dummy_shapes (setting_in n u entry) u) base t) f t) (entry_pulled n r sep u.dummies bs s named)
 
       ended : Pulled r (run (calls_of units depth) inside u.body start (b.runs.cost + 0)) (scene b.later end t') 0
       ended = pulled_done r (run (calls_of units depth) inside u.body start (b.runs.cost + 0)) (scene b.later end t') 0
@@ -133,15 +133,15 @@ module _ {C : Type 0} (units : List Procedure) (depth : ℕ) (n : Setting C) (na
           ∙ ap (λ (z : Scene C). passed_out (writes_as units u r) bs z.store s) ended.same
 
   -- what the unit doesn't write is at the end as it was handed in
-  pub call_keeps : (c : Code) → u.body ≡ rename r c → (base : Kept) (t t' : List C) (end : Store C) → Comes (calls_of units depth) (pulled_setting r (setting_in n u entry)) c (kept_at n u base t) (passed_in (n.numbers.of_word (pos 0)) bs s) end t t' → (v : Var) (d : List ℕ) → r v ≡ plain d → is_written units u d ≡ false → (j : ℕ) → end v j ≡ passed_in (n.numbers.of_word (pos 0)) bs s v j
+  pub call_keeps : (c : Code) → u.body ≡ rename r c → (base : Kept) (t t' : List C) (end : Store C) → Comes (calls_of units depth) (pulled_setting r (setting_in n u entry)) c (kept_at n u (dummy_shapes (setting_in n u entry) u) base t) (passed_in (n.numbers.of_word (pos 0)) bs s) end t t' → (v : Var) (d : List ℕ) → r v ≡ plain d → is_written units u d ≡ false → (j : ℕ) → end v j ≡ passed_in (n.numbers.of_word (pos 0)) bs s v j
   call_keeps c is base t t' end b v d named_as unwritten j =
-      let start : Scene C = scene (kept_at n u base t) entry t in
+      let start : Scene C = scene (kept_at n u (dummy_shapes (setting_in n u entry) u) base t) entry t in
       let inside : Setting C = setting_in n u entry in
       let entry_is = entry_pulled n r sep u.dummies bs s named in
       let ended = pulled_done r (run (calls_of units depth) inside u.body start (b.runs.cost + 0)) (scene b.later end t') 0
       (ap (λ e. pulled_outcome r (run (calls_of units depth) inside e start (b.runs.cost + 0))) is
       ∙ run_renamed r sep units depth inside c start (b.runs.cost + 0)
-      ∙ ap (λ (f : Store C). run (calls_of units depth) (pulled_setting r inside) c (scene (kept_at n u base t) f t) (b.runs.cost + 0)) entry_is
+      ∙ ap (λ (f : Store C). run (calls_of units depth) (pulled_setting r inside) c (scene (kept_at n u (dummy_shapes (setting_in n u entry) u) base t) f t) (b.runs.cost + 0)) entry_is
       ∙ b.runs.by 0) in
       ap (λ (z : Scene C). z.store v j) (sym ended.same)
       ∙ ap (λ x. ended.end.store x j) named_as

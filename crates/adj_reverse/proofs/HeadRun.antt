@@ -30,7 +30,6 @@ use Rattle.adj_transpose.specs.Adjoint as slots
 use Rattle.adj_transpose.specs.Adjoint.{Ends, AreAlike, IsDirection, Agrees, OthersAreZero, product, marked_cells, with_direction, tangents_of, reversals}
 use Rattle.adj_transpose.proofs.Slots.{direction, dual_store}
 use Rattle.adj_transpose.proofs.Variables.{or_left}
-use Rattle.adj_transpose.proofs.Units.{kept_in}
 use Rattle.adj_reverse.specs.Plan.{Plan, Callee}
 use Rattle.adj_reverse.specs.Cells.{cells_of}
 use Rattle.adj_reverse.specs.Passing.{plainly}
@@ -51,7 +50,7 @@ use Rattle.adj_reverse.proofs.Made as made
 use Rattle.adj_reverse.proofs.Emitted as emitted
 use Rattle.adj_reverse.proofs.Entry as entry
 use Rattle.adj_reverse.proofs.Units.{units_transpose}
-use Rattle.adj_reverse.proofs.UnitRuns.{unit_setting, begin, BodyEnds, body_ends, unit_ends}
+use Rattle.adj_reverse.proofs.UnitRuns.{kept_in, unit_setting, begin, BodyEnds, body_ends, unit_ends}
 use Rattle.adj_reverse.proofs.Heads.{zeroed, stays_zero, zeroed_others, is_zeroed, Reverses, reverses}
 
 -- ---- a renamed run
@@ -176,8 +175,8 @@ module _ (w : ProgramFacts) (ps : List Procedure) (u : Procedure) (vars outvars 
       (begin words ps u input) body.end k body.left (ap (λ n. run (calls_of ps k) n u.body (begin words ps u input) k) (sym setting_plain) ∙ body.is))
 
   -- what the body of the adjoint does, under its own names
-  abbrev pub reversed : Reverses (calls_of qs k) (calls_of ps k) sh 1 cells p own written (first_statement ps u.name) from to u.line u.body outs ins (kept_in a) before body.end.store start []
-  reversed = reverses (calls_of qs k) (calls_of ps k) sh 1 cells p knows own written (first_statement ps u.name) from to u.line u.body outs ins (kept_in a) before body.end.store start [] list (record { at = λ x j l i. same_plain x j })
+  abbrev pub reversed : Reverses (calls_of qs k) (calls_of ps k) sh 1 cells p own written (first_statement ps u.name) from to u.line u.body outs ins (kept_in words qs a joined) before body.end.store start []
+  reversed = reverses (calls_of qs k) (calls_of ps k) sh 1 cells p knows own written (first_statement ps u.name) from to u.line u.body outs ins (kept_in words qs a joined) before body.end.store start [] list (record { at = λ x j l i. same_plain x j })
 
   abbrev seen_setting : Setting ℤ
   seen_setting = unit_setting words qs a joined
@@ -187,7 +186,7 @@ module _ (w : ProgramFacts) (ps : List Procedure) (u : Procedure) (vars outvars 
   named_run =
       pulled_done (naming ns) (run (calls_of qs k) seen_setting a.body (begin words qs a joined) (reversed.runs.runs.cost + 0)) (scene reversed.runs.later reversed.end []) 0
       (run_renamed (naming ns) (record { at = separates }) qs k seen_setting (adjoint_body p (first_statement ps u.name) u.line u.body outs ins) (begin words qs a joined) (reversed.runs.runs.cost + 0)
-      ∙ ap (λ n. run (calls_of qs k) n (adjoint_body p (first_statement ps u.name) u.line u.body outs ins) (scene (kept_in a) start []) (reversed.runs.runs.cost + 0))
+      ∙ ap (λ n. run (calls_of qs k) n (adjoint_body p (first_statement ps u.name) u.line u.body outs ins) (scene (kept_in words qs a joined) start []) (reversed.runs.runs.cost + 0))
       (entry.setting_seen u a ns separates g refl declared_alike (made.own_dummy m ps (all_units m ps u) u fitting.vars_apart (good.inside u.name u good.there) (good.extents u.name u good.there)) refl input given fit alike)
       ∙ reversed.runs.runs.by 0)
 
@@ -274,8 +273,8 @@ module _ (w : ProgramFacts) (ps : List Procedure) (u : Procedure) (vars outvars 
       dual_setting : unit_setting duals ps u dual_input ≡ on_duals (plainly sh) 1
       dual_setting = λ i. record { numbers = duals; shape = λ x. dual_shape x i; room = None; level = 1 }
 
-      abbrev dual_comes : Comes (calls_of ps k) (on_duals (plainly sh) 1) u.body (kept_in u) (with_tangents before along) (with_tangents body.end.store (reversed.derivative along)) [] []
-      dual_comes = reversed.dual (kept_in u) along []
+      abbrev dual_comes : Comes (calls_of ps k) (on_duals (plainly sh) 1) u.body (kept_in duals ps u dual_input) (with_tangents before along) (with_tangents body.end.store (reversed.derivative along)) [] []
+      dual_comes = reversed.dual (kept_in duals ps u dual_input) along []
 
       abbrev dual_end : Scene (ℤ × ℤ)
       dual_end = scene dual_comes.later (with_tangents body.end.store (reversed.derivative along)) []
@@ -283,7 +282,7 @@ module _ (w : ProgramFacts) (ps : List Procedure) (u : Procedure) (vars outvars 
       dual_is : run (calls_of ps k) (unit_setting duals ps u dual_input) u.body (begin duals ps u dual_input) (dual_comes.runs.cost + 0) ≡ Done dual_end 0
       dual_is =
           ap (λ n. run (calls_of ps k) n u.body (begin duals ps u dual_input) (dual_comes.runs.cost + 0)) dual_setting
-          ∙ ap (λ (s : Store (ℤ × ℤ)). run (calls_of ps k) (on_duals (plainly sh) 1) u.body (scene (kept_in u) s []) (dual_comes.runs.cost + 0)) entered_with
+          ∙ ap (λ (s : Store (ℤ × ℤ)). run (calls_of ps k) (on_duals (plainly sh) 1) u.body (scene (kept_in duals ps u dual_input) s []) (dual_comes.runs.cost + 0)) entered_with
           ∙ dual_comes.runs.by 0
 
       -- the dual run ends

@@ -1,18 +1,19 @@
 -- Runs of units from the runs of their bodies, for units of any shapes and any depth of calls.
-use Rattle.std.proofs.Common.{◌≡◌, ℕ, ◌+◌, ◌-◌, ◌≤◌, List, [], sym, ap, ◌∙◌, arith, if◌then◌else◌}
+use Rattle.std.proofs.Common.{◌≡◌, ℕ, ◌+◌, ◌-◌, ◌≤◌, List, [], ◌∷◌, sym, ap, ◌∙◌, arith, if◌then◌else◌}
 use Rattle.std.specs.Prelude.{◌==◌, None, reverse}
 use Rattle.adj_tree.specs.Code.{Procedure}
 use Rattle.adj_meaning.specs.Trap.{schedule_trap}
 use Rattle.adj_meaning.specs.Numbers.{Numbers}
 use Rattle.adj_meaning.specs.Value.{Setting}
+use Rattle.adj_meaning.specs.Event.{Enter}
 use Rattle.adj_meaning.specs.Scene.{Scene, stand, Outcome, Done, Trapped, then_do}
 use Rattle.adj_meaning.specs.Run.{run}
-use Rattle.adj_meaning.specs.Units.{Slot, Output, calls_of, setting_in, input_store, dummy_slots, run_unit}
+use Rattle.adj_meaning.specs.Units.{Slot, Output, calls_of, setting_in, dummy_shapes, input_store, dummy_slots, run_unit}
 use Rattle.adj_meaning.proofs.Inversions.{then_done}
 use Rattle.adj_meaning.proofs.Costs.{run_later}
-use Rattle.adj_transpose.specs.Lists.{scene}
+use Rattle.adj_transpose.specs.Lists.{Kept, scene}
 use Rattle.adj_transpose.specs.Adjoint.{Ends}
-use Rattle.adj_transpose.proofs.Units.{outside, kept_in}
+use Rattle.adj_transpose.proofs.Units.{outside}
 
 module _ {C : Type 0} (n : Numbers C) (ps : List Procedure) (u : Procedure) (input : List (Slot C)) where
   -- how the unit ends after its body
@@ -29,8 +30,12 @@ module _ {C : Type 0} (n : Numbers C) (ps : List Procedure) (u : Procedure) (inp
   abbrev handed_out : ℕ → Scene C → ℕ → Outcome (Output C)
   handed_out k s left = Done (output_from s) (k - left)
 
+  -- what was told at the unit's entry
+  abbrev pub kept_in : Kept
+  kept_in = record { opened = 0; events = Enter u.name 1 0 (dummy_shapes unit_setting u) ∷ [] }
+
   abbrev pub begin : Scene C
-  begin = scene (kept_in u) (input_store n u input) []
+  begin = scene kept_in (input_store n u input) []
 
   -- a run of the unit that is done has a run of its body that is
   pub record BodyEnds (k : ℕ) : Type 0 where
