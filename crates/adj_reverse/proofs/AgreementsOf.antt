@@ -3,7 +3,7 @@ use Rattle.std.proofs.Common.{◌≡◌, ℕ, zero, suc, Bool, true, false, List
 use Rattle.std.specs.Prelude.{ℤ, pos, ◌||◌, ◌&&◌}
 use Rattle.adj_tree.specs.Code.{Var, plain, shadow, helper, var_eq, plus, minus, times, quot, modulo, greater, lesser, Term, lit, var, elem, neg, bin, pow, power_of, abs, Terms, none, more}
 use Rattle.adj_tree.proofs.Names.{name_refl}
-use Rattle.adj_word.specs.Word.{add, sub, mul, negated, power}
+use Rattle.adj_word.specs.Word.{add, sub, mul, negated, power, at_least_zero}
 use Rattle.adj_word.proofs.Residues.{mul_comm, zero-mul}
 use Rattle.adj_meaning.specs.Numbers.{words, power_tangent, absolute}
 use Rattle.adj_meaning.specs.Store.{Shape, Store, cell_of}
@@ -114,6 +114,12 @@ module _ (sh : Var → Shape) (c : Vars) (s s' : Store ℤ) (h : SameOn sh c s s
     base_later : (a : Term) (k : ℕ) → Within (adjoint_reads on (pow a (suc (suc k)))) c → Within (adjoint_reads on a) c
     base_later a k w = λ v i. w v (or_right (is_active_where on a && reads_term v a) (adjoint_reads on a v) i)
 
+    power_reads : (a b : Term) → Within (adjoint_reads on (power_of a b)) c → is_active_where on a ≡ true → Within (λ v. reads_term v a || reads_term v b) c
+    power_reads a b w act = λ v i. w v (or_left (is_active_where on a && (reads_term v a || reads_term v b)) (adjoint_reads on a v) (rw act i))
+
+    power_later : (a b : Term) → Within (adjoint_reads on (power_of a b)) c → Within (adjoint_reads on a) c
+    power_later a b w = λ v i. w v (or_right (is_active_where on a && (reads_term v a || reads_term v b)) (adjoint_reads on a v) i)
+
     subs_reads : (x : Var) (subs : Terms) → Within (adjoint_reads on (elem x subs)) c → on x ≡ true → Within (in_terms subs) c
     subs_reads x subs w act = λ v i. w v (rw act i)
 
@@ -141,7 +147,7 @@ module _ (sh : Var → Shape) (c : Vars) (s s' : Store ℤ) (h : SameOn sh c s s
     usable_on (pow a zero) o w d = tt
     usable_on (pow a (suc zero)) o w d = usable_on a o w d
     usable_on (pow a (suc (suc k))) o w d = (λ act. defined_on a (over_text vars a o) d (base_reads a k w act), usable_on a o (base_later a k w) d)
-    usable_on (power_of a b) o w d = absurd o
+    usable_on (power_of a b) o w d = (λ act. defined_on (power_of a b) (over_text vars (power_of a b) o) d (power_reads a b w act), usable_on a o.0 (power_later a b w) d.1.0)
     usable_on (abs a) o w d = tt
 
     -- the part of a product's tangent that comes from a factor: by the other's value, or there is none
@@ -189,5 +195,13 @@ module _ (sh : Var → Shape) (c : Vars) (s s' : Store ℤ) (h : SameOn sh c s s
         go false act same =
             ap (λ t. power_tangent (num sh a s') t (suc (suc k))) (tan_inactive sh on a s' d (over_treated vars a o) act) ∙ power_tangent-zero (num sh a s') (suc (suc k))
             ∙ sym (ap (λ t. power_tangent (num sh a s) t (suc (suc k))) (tan_inactive sh on a s d (over_treated vars a o) act) ∙ power_tangent-zero (num sh a s) (suc (suc k)))
-    tan_on (power_of a b) d o f w = absurd o
+    tan_on (power_of a b) d o f w = go (is_active_where on a) refl (tan_on a d o.0 f.1.0 (power_later a b w))
+      where
+        go : (t : Bool) → is_active_where on a ≡ t → tan sh a s' (masked on d) ≡ tan sh a s (masked on d) → power_tangent (num sh a s') (tan sh a s' (masked on d)) (at_least_zero (num sh b s')) ≡ power_tangent (num sh a s) (tan sh a s (masked on d)) (at_least_zero (num sh b s))
+        go true act same =
+            let reads = power_reads a b w act in
+            λ i. power_tangent (num_on a (over_text vars a o.0) f.1.0 (within_first (λ v. reads_term v a) (λ v. reads_term v b) c reads) i) (same i) (at_least_zero (num_on b o.1 f.1.1 (within_second (λ v. reads_term v a) (λ v. reads_term v b) c reads) i))
+        go false act same =
+            ap (λ t. power_tangent (num sh a s') t (at_least_zero (num sh b s'))) (tan_inactive sh on a s' d (over_treated vars a o.0) act) ∙ power_tangent-zero (num sh a s') (at_least_zero (num sh b s'))
+            ∙ sym (ap (λ t. power_tangent (num sh a s) t (at_least_zero (num sh b s))) (tan_inactive sh on a s d (over_treated vars a o.0) act) ∙ power_tangent-zero (num sh a s) (at_least_zero (num sh b s)))
     tan_on (abs a) d o f w = absurd o

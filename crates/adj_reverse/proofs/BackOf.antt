@@ -3,7 +3,7 @@ use Rattle.std.proofs.Common.{◌≡◌, ℕ, zero, suc, ◌+◌, ◌<◌, Bool,
 use Rattle.std.specs.Prelude.{ℤ, pos, ◌==◌, Ok}
 use Rattle.adj_tree.specs.Code.{Var, plain, shadow, helper, role_code, work, plus, minus, times, quot, modulo, greater, lesser, Term, lit, var, elem, neg, bin, pow, power_of, abs, Terms, none, more, assign, Code, stop, step}
 use Rattle.adj_tree.proofs.Names.{nat_refl}
-use Rattle.adj_word.specs.Word.{add, sub, mul, negated, power}
+use Rattle.adj_word.specs.Word.{add, sub, mul, negated, power, at_least_zero}
 use Rattle.adj_word.specs.Pairing.{pairing, stands_in, IsApart}
 use Rattle.adj_word.proofs.Residues.{add_assoc, add-zero, mul-zero, one-mul, one-mul_word, word-wrap, wrap-mul_right}
 use Rattle.adj_word.proofs.Powers.{power-zero}
@@ -12,12 +12,12 @@ use Rattle.adj_word.proofs.Pairings.{pairing-more, wrap-pairing}
 use Rattle.adj_meaning.specs.Trap.{index, or_trap, then_ok}
 use Rattle.adj_meaning.specs.Numbers.{words, power_tangent, operation}
 use Rattle.adj_meaning.specs.Store.{Shape, size_of, cell_of, Store, set}
-use Rattle.adj_meaning.specs.Value.{value, values, cell_at, target}
+use Rattle.adj_meaning.specs.Value.{value, values, exponent_of, cell_at, target}
 use Rattle.adj_meaning.specs.Append.{◌+++◌}
 use Rattle.adj_meaning.specs.Run.{Calls}
 use Rattle.adj_meaning.proofs.Leadings.{leads_stop, leads_append, leads_assign}
 use Rattle.adj_transpose.specs.Marks.{Vars}
-use Rattle.adj_transpose.specs.Marked.{is_active_where, has_own_where, count_of, temps_in_where, own_or, code_if, back_where, work_var}
+use Rattle.adj_transpose.specs.Marked.{is_active_where, has_own_where, count_of, temps_in_where, own_or, code_if, times_power, back_where, work_var}
 use Rattle.adj_transpose.specs.Pairs.{Key, key_eq, Words, shadows, SamePlain, on_words}
 use Rattle.adj_transpose.specs.Lists.{Kept, scene, masked}
 use Rattle.adj_transpose.proofs.Variables.{key_same}
@@ -29,6 +29,7 @@ use Rattle.adj_meaning.proofs.Cells.{size_positive}
 use Rattle.adj_reverse.proofs.Terms.{num, nums, cell_or, tan, HasCell, value_words, values_words}
 use Rattle.adj_reverse.proofs.TermTangents.{tan_inactive, cell_in_below}
 use Rattle.adj_reverse.proofs.TermUses.{IsOver, over_treated, IsUsable, num_same, tan_same, defined_same, usable_same}
+use Rattle.adj_reverse.proofs.Guards.{Guarded, guarded}
 use Rattle.adj_reverse.proofs.TempsOf.{HasTemps, SameBelow, temps_same, value_own}
 
 same_all : (k : ℕ) (s : Store ℤ) → SameUpTo k s s
@@ -118,6 +119,13 @@ module _ (on : Vars) (q : Calls ℤ) (sh : Var → Shape) (level : ℕ) (base : 
       (λ on_e. adds_scaled line f (back_where on e (suc k) j line) k s t w _ (v on_e)
       (adds_as (back_where on e (suc k) j line) (suc k) s1 t _ _ (λ d p. λ i. add p (mul (here i) (tan_same sh vars e s0 s1 (masked on d) o from0 i))) (ih s1 same (temps_same on sh vars e j s s1 o low has) on_e)))
       (is_active_where on e) refl
+
+  -- the derivative of a power whose exponent is an expression, times the work variable
+  power_share : (raised exponent : Term) (k : ℕ) (s : Store ℤ) (u z : ℤ) → value (on_words sh level) raised s ≡ Ok u → value (on_words sh level) exponent s ≡ Ok z → (g : Guarded z) → value (on_words sh level) (times_power (work_var k) raised exponent) s ≡ Ok (mul (mul (s (helper work k) 0) z) (power u g.less))
+  power_share raised exponent k s u z is_u is_z g =
+      let w = s (helper work k) 0 in
+      (λ i. then_ok (then_ok (is_z i) (λ v. operation words times w v)) (λ x. then_ok (then_ok (is_u i) (λ b. then_ok (then_ok (then_ok (is_z i) (λ v. operation words minus v (pos 1))) (λ v. operation words greater v (pos 0))) (λ e. then_ok (exponent_of e) (λ n. Ok (power b n))))) (λ y. operation words times x y)))
+      ∙ ap (λ r. then_ok (then_ok r (λ n. Ok (power u n))) (λ y. operation words times (mul w z) y)) g.is
 
   module _ (apart : IsApart key_eq xs) (cells : (x : List ℕ) (j : ℕ) → has_name x vars ≡ true → j < size_of (sh (plain x)) → stands_in key_eq (x, j) xs ≡ true) (shadow_shape : (x : List ℕ) → In (plain x) on → sh (shadow x) ≡ sh (plain x)) where
     -- back(e,k) adds the adjoint in the k-th work variable, times the derivative of e, to the shadows
@@ -215,5 +223,21 @@ module _ (on : Vars) (q : Calls ℤ) (sh : Var → Shape) (level : ℕ) (base : 
         (scaled a (bin times (bin times (work_var k) (lit (pos (suc (suc n))))) (pow own (suc n))) k j line s s t share o (same_plain s)
         (λ on_a. ap (λ r. then_ok (then_ok r (λ v. Ok (power v (suc n)))) (λ v. operation words times (mul w (pos (suc (suc n)))) v)) (value_own on q sh level base vars (has_own_where on a a) m a a s (value_words sh level a s (f.0 on_a)) h.1)) h.0
         (λ s' p h'. backs a (suc k) j line s' t o (usable_same on sh vars a s s' o p f.1) h'))
-    backs (power_of a b) k j line s t o f h act = absurd o
+    backs (power_of a b) k j line s t o f h act =
+        let w = s (helper work k) 0 in
+        let m = j + temps_in_where on a in
+        let l = m + count_of (has_own_where on a a) in
+        let u = num sh a s in
+        let z = num sh b s in
+        let raised = own_or (has_own_where on a a) m a in
+        let exponent = own_or (has_own_where on b a) l b in
+        let d = f.0 act in
+        let g = guarded z d.0 in
+        let va = value_own on q sh level base vars (has_own_where on a a) m a a s (value_words sh level a s d.1.0) h.1.0 in
+        let vb = value_own on q sh level base vars (has_own_where on b a) l b b s (value_words sh level b s d.1.1) h.1.1 in
+        adds_as (back_where on (power_of a b) k j line) k s t (λ d. mul (mul (mul w z) (power u g.less)) (tan sh a s (masked on d))) (λ d. mul w (power_tangent u (tan sh a s (masked on d)) (at_least_zero z)))
+        (λ d p. g.shares p w u (tan sh a s (masked on d)))
+        (scaled a (times_power (work_var k) raised exponent) k j line s s t (mul (mul w z) (power u g.less)) o.0 (same_plain s)
+        (λ on_a. power_share raised exponent k s u z va vb g) h.0
+        (λ s' p h'. backs a (suc k) j line s' t o.0 (usable_same on sh vars a s s' o.0 p f.1) h'))
     backs (abs a) k j line s t o f h act = absurd o

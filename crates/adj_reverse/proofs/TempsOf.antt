@@ -7,7 +7,7 @@ use Rattle.adj_word.specs.Word.{negated, power}
 use Rattle.adj_meaning.specs.Trap.{then_ok}
 use Rattle.adj_meaning.specs.Numbers.{words, operation}
 use Rattle.adj_meaning.specs.Store.{Shape, Store, set}
-use Rattle.adj_meaning.specs.Value.{value}
+use Rattle.adj_meaning.specs.Value.{exponent_of, value}
 use Rattle.adj_meaning.specs.Append.{◌+++◌}
 use Rattle.adj_meaning.specs.Run.{Calls}
 use Rattle.adj_meaning.specs.Leads.{Leads}
@@ -20,7 +20,7 @@ use Rattle.adj_transpose.proofs.Variables.{and_true}
 use Rattle.adj_transpose.proofs.Steps.{assigns}
 pub use Rattle.adj_transpose.proofs.Temps.{SameLoops, SameBelow}
 use Rattle.adj_reverse.proofs.Terms.{num, IsDefined, value_words}
-use Rattle.adj_reverse.proofs.TermUses.{IsOver, IsUsable, num_same, defined_same, usable_same}
+use Rattle.adj_reverse.proofs.TermUses.{IsText, IsOver, over_text, IsUsable, num_text, defined_text, num_same, defined_same, usable_same}
 
 -- the operand's temporary holds its value, if it has one
 abbrev pub OwnHolds : (Var → Shape) → Bool → ℕ → Term → Store ℤ → Type 0
@@ -39,14 +39,17 @@ HasTemps sh on (bin times a b) j s =
     × OwnHolds sh (has_own_where on b a) (j + temps_in_where on a + count_of (has_own_where on a b) + temps_in_where on b) b s))
 HasTemps sh on (pow a (suc zero)) j s = HasTemps sh on a j s
 HasTemps sh on (pow a (suc (suc k))) j s = HasTemps sh on a j s × OwnHolds sh (has_own_where on a a) (j + temps_in_where on a) a s
+HasTemps sh on (power_of a b) j s =
+    HasTemps sh on a j s
+    × (OwnHolds sh (has_own_where on a a) (j + temps_in_where on a) a s × OwnHolds sh (has_own_where on b a) (j + temps_in_where on a + count_of (has_own_where on a a)) b s)
 HasTemps sh on _ j s = Unit {0}
 
 below_less : (m m' : ℕ) (s s' : Store ℤ) → m' ≤ m → SameBelow m s s' → SameBelow m' s s'
 below_less m m' s s' le h = record { plains = h.plains; below = λ i lt. h.below i (omega arith) }
 
 module _ (on : Vars) (sh : Var → Shape) (vars : List (List ℕ)) where
-  own_same : (t : Bool) (j : ℕ) (e : Term) (s s' : Store ℤ) → IsOver vars e → SameBelow (j + count_of t) s s' → OwnHolds sh t j e s → OwnHolds sh t j e s'
-  own_same true j e s s' o h w = h.below j (omega arith) ∙ w ∙ sym (num_same sh vars e s s' o h.plains)
+  own_same : (t : Bool) (j : ℕ) (e : Term) (s s' : Store ℤ) → IsText e → SameBelow (j + count_of t) s s' → OwnHolds sh t j e s → OwnHolds sh t j e s'
+  own_same true j e s s' o h w = h.below j (omega arith) ∙ w ∙ sym (num_text sh s s' h.plains e o)
   own_same false j e s s' o h w = tt
 
   pub temps_same : (e : Term) (j : ℕ) (s s' : Store ℤ) → IsOver vars e → SameBelow (j + temps_in_where on e) s s' → HasTemps sh on e j s → HasTemps sh on e j s'
@@ -61,10 +64,10 @@ module _ (on : Vars) (sh : Var → Shape) (vars : List (List ℕ)) where
   temps_same (bin times a b) j s s' o h w = (
     temps_same a j s s' o.1.0 (below_less _ _ s s' (omega arith) h) w.0,
     (
-      own_same (has_own_where on a b) (j + temps_in_where on a) a s s' o.1.0 (below_less _ _ s s' (omega arith) h) w.1.0,
+      own_same (has_own_where on a b) (j + temps_in_where on a) a s s' (over_text vars a o.1.0) (below_less _ _ s s' (omega arith) h) w.1.0,
       (
         temps_same b (j + temps_in_where on a + count_of (has_own_where on a b)) s s' o.1.1 (below_less _ _ s s' (omega arith) h) w.1.1.0,
-        own_same (has_own_where on b a) (j + temps_in_where on a + count_of (has_own_where on a b) + temps_in_where on b) b s s' o.1.1 (below_less _ _ s s' (omega arith) h) w.1.1.1,
+        own_same (has_own_where on b a) (j + temps_in_where on a + count_of (has_own_where on a b) + temps_in_where on b) b s s' (over_text vars b o.1.1) (below_less _ _ s s' (omega arith) h) w.1.1.1,
       ),
     ),
   )
@@ -75,8 +78,14 @@ module _ (on : Vars) (sh : Var → Shape) (vars : List (List ℕ)) where
   temps_same (pow a zero) j s s' o h w = tt
   temps_same (pow a (suc zero)) j s s' o h w = temps_same a j s s' o h w
   temps_same (pow a (suc (suc k))) j s s' o h w =
-      (temps_same a j s s' o (below_less _ _ s s' (omega arith) h) w.0, own_same (has_own_where on a a) (j + temps_in_where on a) a s s' o (below_less _ _ s s' (omega arith) h) w.1)
-  temps_same (power_of a b) j s s' o h w = tt
+      (temps_same a j s s' o (below_less _ _ s s' (omega arith) h) w.0, own_same (has_own_where on a a) (j + temps_in_where on a) a s s' (over_text vars a o) (below_less _ _ s s' (omega arith) h) w.1)
+  temps_same (power_of a b) j s s' o h w = (
+    temps_same a j s s' o.0 (below_less _ _ s s' (omega arith) h) w.0,
+    (
+      own_same (has_own_where on a a) (j + temps_in_where on a) a s s' (over_text vars a o.0) (below_less _ _ s s' (omega arith) h) w.1.0,
+      own_same (has_own_where on b a) (j + temps_in_where on a + count_of (has_own_where on a a)) b s s' o.1 (below_less _ _ s s' (omega arith) h) w.1.1,
+    ),
+  )
   temps_same (abs a) j s s' o h w = tt
 
 -- what some assignments of temporaries from the j-th on do
@@ -118,7 +127,11 @@ module _ (on : Vars) (q : Calls ℤ) (sh : Var → Shape) (level : ℕ) (base : 
   value_shrunk (pow a (suc zero)) j s o d h = ap (λ r. then_ok r (λ u. Ok (power u 1))) (value_shrunk a j s o d h)
   value_shrunk (pow a (suc (suc k))) j s o d h =
       ap (λ r. then_ok r (λ u. Ok (power u (suc (suc k))))) (value_own (has_own_where on a a) (j + temps_in_where on a) a (shrunk_where on a j) s (value_shrunk a j s o d h.0) h.1)
-  value_shrunk (power_of a b) j s o d h = absurd o
+  value_shrunk (power_of a b) j s o d h =
+      let m = j + temps_in_where on a in
+      let l = m + count_of (has_own_where on a a) in
+      (λ i. then_ok (value_own (has_own_where on a a) m a (shrunk_where on a j) s (value_shrunk a j s o.0 d.1.0 h.0) h.1.0 i) (λ u. then_ok (value_own (has_own_where on b a) l b b s (value_words sh level b s d.1.1) h.1.1 i) (λ v. then_ok (exponent_of v) (λ k. Ok (power u k)))))
+      ∙ ap (λ r. then_ok r (λ k. Ok (power (num sh a s) k))) d.0
   value_shrunk (abs a) j s o d h = absurd o
 
   nothing_made : (j : ℕ) (s : Store ℤ) (t : List ℤ) → Makes q sh level base stop j s t (λ s'. Unit {0})
@@ -181,7 +194,7 @@ module _ (on : Vars) (q : Calls ℤ) (sh : Var → Shape) (level : ℕ) (base : 
       (λ s3 p3 q3. own_made (has_own_where on b a) line (l + temps_in_where on b) b (shrunk_where on b l) s3 t
       (λ h. value_shrunk b l s3 o.1.1 (defined_same sh vars b s2 s3 o.1.1 p3 (defined_same sh vars b s s2 o.1.1 p (d.0.0 (and_true (is_compound b) (is_active_where on a) h).1))) q3) (λ s' h. num_same sh vars b s3 s' o.1.1 h.plains))
       (λ s3 s4 h w. temps_same on sh vars b l s3 s4 o.1.1 h w))
-      (λ s2 s3 h w. own_same on sh vars (has_own_where on a b) m a s2 s3 o.1.0 h w))
+      (λ s2 s3 h w. own_same on sh vars (has_own_where on a b) m a s2 s3 (over_text vars a o.1.0) h w))
       (λ s1 s2 h w. temps_same on sh vars a j s1 s2 o.1.0 h w)
   temps_made (bin quot a b) j line s t o d = nothing_made j s t
   temps_made (bin modulo a b) j line s t o d = nothing_made j s t
@@ -196,5 +209,18 @@ module _ (on : Vars) (q : Calls ℤ) (sh : Var → Shape) (level : ℕ) (base : 
       (λ s1 p r. own_made (has_own_where on a a) line m a (shrunk_where on a j) s1 t
       (λ h. value_shrunk a j s1 o (defined_same sh vars a s s1 o p (d.0 (and_true (is_compound a) (is_active_where on a) h).1)) r) (λ s' h. num_same sh vars a s1 s' o h.plains))
       (λ s1 s2 h w. temps_same on sh vars a j s1 s2 o h w)
-  temps_made (power_of a b) j line s t o d = nothing_made j s t
+  temps_made (power_of a b) j line s t o d =
+      let m = j + temps_in_where on a in
+      let l = m + count_of (has_own_where on a a) in
+      let own_a = own_code (has_own_where on a a) line m (shrunk_where on a j) in
+      let own_b = own_code (has_own_where on b a) line l b in
+      makes_append (temps_where on a j line) (own_a +++ own_b) j m s t (HasTemps sh on a j) (λ s'. OwnHolds sh (has_own_where on a a) m a s' × OwnHolds sh (has_own_where on b a) l b s') (omega arith)
+      (temps_made a j line s t o.0 d.1)
+      (λ s1 p1 q1. makes_append own_a own_b m l s1 t (OwnHolds sh (has_own_where on a a) m a) (OwnHolds sh (has_own_where on b a) l b) (omega arith)
+      (own_made (has_own_where on a a) line m a (shrunk_where on a j) s1 t
+      (λ h. value_shrunk a j s1 o.0 (defined_same sh vars a s s1 o.0 p1 (d.0 (and_true (is_compound a) (is_active_where on a) h).1).1.0) q1) (λ s' h. num_same sh vars a s1 s' o.0 h.plains))
+      (λ s2 p2 q2. own_made (has_own_where on b a) line l b b s2 t
+      (λ h. value_words sh level b s2 (defined_text sh s1 s2 p2 b o.1 (defined_text sh s s1 p1 b o.1 (d.0 (and_true (is_compound b) (is_active_where on a) h).1).1.1))) (λ s' h. num_text sh s2 s' h.plains b o.1))
+      (λ s2 s3 h w. own_same on sh vars (has_own_where on a a) m a s2 s3 (over_text vars a o.0) h w))
+      (λ s1 s2 h w. temps_same on sh vars a j s1 s2 o.0 h w)
   temps_made (abs a) j line s t o d = nothing_made j s t

@@ -3,7 +3,7 @@ use Rattle.std.proofs.Common.{◌≡◌, ◌<◌, ℕ, zero, suc, Bool, true, fa
 use Rattle.std.specs.Prelude.{ℤ, pos, ◌==◌, ◌||◌, ◌&&◌}
 use Rattle.adj_tree.specs.Code.{Var, plain, shadow, helper, plus, minus, times, quot, modulo, greater, lesser, Term, lit, var, elem, neg, bin, pow, power_of, abs, Terms}
 use Rattle.adj_tree.proofs.Names.{nat_refl, name_refl}
-use Rattle.adj_word.specs.Word.{add, sub, mul, negated}
+use Rattle.adj_word.specs.Word.{add, sub, mul, negated, at_least_zero}
 use Rattle.adj_word.specs.Pairing.{put}
 use Rattle.adj_word.proofs.Residues.{zero-mul, mul-zero, negated-zero, wrap-zero}
 use Rattle.adj_meaning.specs.Numbers.{power_tangent}
@@ -51,7 +51,7 @@ module _ (sh : Var → Shape) (u : Store ℤ) (y z : Words) where
   tan_equal (bin lesser a b) t f h = absurd t
   tan_equal (pow a zero) t f h = refl
   tan_equal (pow a (suc k)) t f h = ap (λ t. power_tangent (num sh a u) t (suc k)) (tan_equal a t f h)
-  tan_equal (power_of a b) t f h = absurd t
+  tan_equal (power_of a b) t f h = ap (λ t. power_tangent (num sh a u) t (at_least_zero (num sh b u))) (tan_equal a t f.1.0 h)
   tan_equal (abs a) t f h = absurd t
 
 -- a term that isn't active has no tangent where only active variables have one
@@ -75,7 +75,7 @@ tan_inactive sh on (bin greater a b) s d t h = absurd t
 tan_inactive sh on (bin lesser a b) s d t h = absurd t
 tan_inactive sh on (pow a zero) s d t h = refl
 tan_inactive sh on (pow a (suc k)) s d t h = ap (λ t. power_tangent (num sh a s) t (suc k)) (tan_inactive sh on a s d t h) ∙ power_tangent-zero (num sh a s) (suc k)
-tan_inactive sh on (power_of a b) s d t h = absurd t
+tan_inactive sh on (power_of a b) s d t h = ap (λ t. power_tangent (num sh a s) t (at_least_zero (num sh b s))) (tan_inactive sh on a s d t h) ∙ power_tangent-zero (num sh a s) (at_least_zero (num sh b s))
 tan_inactive sh on (abs a) s d t h = absurd t
 
 -- no variables
@@ -99,7 +99,7 @@ inactive (bin greater a b) = refl
 inactive (bin lesser a b) = refl
 inactive (pow a zero) = refl
 inactive (pow a (suc k)) = inactive a
-inactive (power_of a b) = refl
+inactive (power_of a b) = inactive a
 inactive (abs a) = refl
 
 -- where these have no tangent the term has none

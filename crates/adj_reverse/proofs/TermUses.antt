@@ -55,7 +55,7 @@ IsOver vars (bin greater a b) = ⊥
 IsOver vars (bin lesser a b) = ⊥
 IsOver vars (pow a zero) = IsText a
 IsOver vars (pow a (suc k)) = IsOver vars a
-IsOver vars (power_of a b) = ⊥
+IsOver vars (power_of a b) = IsOver vars a × IsText b
 IsOver vars (abs a) = ⊥
 
 mutual
@@ -95,7 +95,7 @@ over_of vars (bin greater a b) x t h = absurd t
 over_of vars (bin lesser a b) x t h = absurd t
 over_of vars (pow a zero) x t h = x
 over_of vars (pow a (suc k)) x t h = over_of vars a x t h
-over_of vars (power_of a b) x t h = absurd t
+over_of vars (power_of a b) x t h = (over_of vars a x.0 t (λ y n. h y (or_left _ (reads_term (plain y) b) n)), x.1)
 over_of vars (abs a) x t h = absurd t
 
 pub over_text : (vars : List (List ℕ)) (e : Term) → IsOver vars e → IsText e
@@ -116,7 +116,7 @@ over_text vars (bin greater a b) o = absurd o
 over_text vars (bin lesser a b) o = absurd o
 over_text vars (pow a zero) o = o
 over_text vars (pow a (suc k)) o = over_text vars a o
-over_text vars (power_of a b) o = absurd o
+over_text vars (power_of a b) o = (over_text vars a o.0, o.1)
 over_text vars (abs a) o = absurd o
 
 pub over_treated : (vars : List (List ℕ)) (e : Term) → IsOver vars e → AreTreated e
@@ -133,7 +133,7 @@ over_treated vars (bin greater a b) o = absurd o
 over_treated vars (bin lesser a b) o = absurd o
 over_treated vars (pow a zero) o = tt
 over_treated vars (pow a (suc k)) o = over_treated vars a o
-over_treated vars (power_of a b) o = absurd o
+over_treated vars (power_of a b) o = over_treated vars a o.0
 over_treated vars (abs a) o = absurd o
 
 -- ---- stores with the same values of the text's variables
@@ -214,7 +214,7 @@ IsUsable sh on (bin lesser a b) s = Unit {0}
 IsUsable sh on (pow a zero) s = Unit {0}
 IsUsable sh on (pow a (suc zero)) s = IsUsable sh on a s
 IsUsable sh on (pow a (suc (suc k))) s = (is_active_where on a ≡ true → IsDefined sh a s) × IsUsable sh on a s
-IsUsable sh on (power_of a b) s = Unit {0}
+IsUsable sh on (power_of a b) s = (is_active_where on a ≡ true → IsDefined sh (power_of a b) s) × IsUsable sh on a s
 IsUsable sh on (abs a) s = Unit {0}
 
 module _ (on : Vars) (sh : Var → Shape) (vars : List (List ℕ)) where
@@ -236,5 +236,5 @@ module _ (on : Vars) (sh : Var → Shape) (vars : List (List ℕ)) where
   usable_same (pow a zero) s s' o h u = tt
   usable_same (pow a (suc zero)) s s' o h u = usable_same a s s' o h u
   usable_same (pow a (suc (suc k))) s s' o h u = (λ w. defined_same sh vars a s s' o h (u.0 w), usable_same a s s' o h u.1)
-  usable_same (power_of a b) s s' o h u = tt
+  usable_same (power_of a b) s s' o h u = (λ w. defined_same sh vars (power_of a b) s s' o h (u.0 w), usable_same a s s' o.0 h u.1)
   usable_same (abs a) s s' o h u = tt

@@ -40,7 +40,7 @@ AreTreated (bin greater a b) = ⊥
 AreTreated (bin lesser a b) = ⊥
 AreTreated (pow a zero) = Unit {0}
 AreTreated (pow a (suc k)) = AreTreated a
-AreTreated (power_of a b) = ⊥
+AreTreated (power_of a b) = AreTreated a
 AreTreated (abs a) = ⊥
 AreTreated _ = Unit {0}
 
