@@ -1,12 +1,12 @@
 -- The guard of an exponent in the adjoint of a power: it is an exponent, and gives the derivative, which is 0 for the exponent 0.
-use Rattle.std.proofs.Common.{◌≡◌, ◌≤◌, ◌<◌, ◌^◌, ℕ, zero, suc, Bool, true, false, refl, sym, ap, ◌∙◌, arith, if◌then◌else◌}
-use Rattle.std.specs.Prelude.{ℤ, pos, negsuc, ◌-ℤ◌, ◌&&◌, nat_le, int_lt, Result, Ok, Option, Some, None}
+use Rattle.std.proofs.Common.{◌≡◌, ◌≤◌, ℕ, zero, suc, Bool, true, false, refl, sym, ap, ◌∙◌, arith, if◌then◌else◌}
+use Rattle.std.specs.Prelude.{ℤ, pos, negsuc, ◌-ℤ◌, ◌&&◌, nat_le, int_lt, Ok, Some, None}
 use Rattle.std.proofs.lemmas.Int.{ints}
 use Rattle.adj_word.specs.Word.{add, sub, mul, power, at_least_zero}
 use Rattle.adj_word.proofs.Residues.{mul-zero, zero-mul}
 use Rattle.adj_word.proofs.Counting.{last_of}
 use Rattle.adj_word.proofs.Transposes.{back_power}
-use Rattle.adj_meaning.specs.Trap.{Trap, power_trap, or_trap}
+use Rattle.adj_meaning.specs.Trap.{power_trap, or_trap}
 use Rattle.adj_meaning.specs.Numbers.{power_tangent}
 use Rattle.adj_meaning.specs.Value.{exponent_of}
 use Rattle.adj_reverse.proofs.Terms.{IsExponent}

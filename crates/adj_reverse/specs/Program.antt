@@ -1,6 +1,6 @@
 -- The program that is emitted for a kernel and its head, by marks. (docs/EMITTED.md)
-use Rattle.std.specs.Prelude.{ℕ, zero, suc, List, [], ◌∷◌, ◌++◌, map, length, max, Bool, true, false, ◌&&◌, ◌||◌, not, if◌then◌else◌}
-use Rattle.adj_tree.specs.Code.{Var, shadow, helper, work, temp, control, first, stride, count, turn, name_eq, Act, assign, choose, loop, during, call, runtime, Code, stop, step, Procedure}
+use Rattle.std.specs.Prelude.{ℕ, zero, suc, List, [], ◌∷◌, ◌++◌, map, length, max, Bool, true, false, ◌&&◌, ◌||◌, not, ◌==◌, if◌then◌else◌}
+use Rattle.adj_tree.specs.Code.{Role, Var, shadow, helper, work, temp, control, first, stride, count, turn, name_eq, Act, assign, choose, loop, during, call, runtime, Code, stop, step, Procedure}
 use Rattle.adj_meaning.specs.Rename.{rename}
 use Rattle.adj_transpose.specs.Naming.{Named, unit_names, naming}
 use Rattle.adj_transpose.specs.Marks.{Marks, next, behind, active_at}
@@ -69,12 +69,53 @@ abbrev mutual
   tells_some p i d stop = false
   tells_some p i d (step line a rest) = tells_act p i d a || tells_some p (next i a) d rest
 
+-- whether a loop of depth k that is of a kind has turns that are gone through backward
+abbrev mutual
+  pub goes_back_act : (Act → Bool) → ℕ → Plan → ℕ → ℕ → Act → Bool
+  goes_back_act kind k p i d (assign x subs e) = false
+  goes_back_act kind k p i d (choose c a b) = goes_back kind k p (suc i) d a || goes_back kind k p (behind (suc i) a) d b
+  goes_back_act kind k p i d (loop x a b c body n) =
+      (kind (loop x a b c body n) && ((k == suc d) && not (is_empty (backward p (suc i) (suc d) body)))) || goes_back kind k p (suc i) (suc d) body
+  goes_back_act kind k p i d (during c body) =
+      (kind (during c body) && ((k == suc d) && not (is_empty (backward p (suc i) (suc d) body)))) || goes_back kind k p (suc i) (suc d) body
+  goes_back_act kind k p i d (call name args) = false
+  goes_back_act kind k p i d (runtime r) = false
+
+  pub goes_back : (Act → Bool) → ℕ → Plan → ℕ → ℕ → Code → Bool
+  goes_back kind k p i d stop = false
+  goes_back kind k p i d (step line a rest) = goes_back_act kind k p i d a || goes_back kind k p (next i a) d rest
+
+-- the kinds of loops
+abbrev pub is_do : Act → Bool
+is_do (assign x subs e) = false
+is_do (choose c a b) = false
+is_do (loop x a b c body n) = true
+is_do (during c body) = false
+is_do (call name args) = false
+is_do (runtime r) = false
+
+abbrev pub is_loop : Act → Bool
+is_loop (assign x subs e) = false
+is_loop (choose c a b) = false
+is_loop (loop x a b c body n) = true
+is_loop (during c body) = true
+is_loop (call name args) = false
+is_loop (runtime r) = false
+
+-- the helpers of a role with the numbers of a set, of the n from k on
+abbrev pub helpers_among : (ℕ → Bool) → Role → ℕ → ℕ → List Var
+helpers_among f r k zero = []
+helpers_among f r k (suc n) = if f k then helper r k ∷ helpers_among f r (suc k) n else helpers_among f r (suc k) n
+
+-- the helpers of loops of a kind
+abbrev pub loop_helpers : (Act → Bool) → Role → Plan → ℕ → Code → List Var
+loop_helpers kind r p i c = helpers_among (λ k. goes_back kind k p i 0 c) r 1 (depth_used p i 0 c)
+
 -- the helpers, in the order of their declarations
 abbrev pub helpers_used : Plan → ℕ → Code → List Var
 helpers_used p i c =
-    let deep = depth_used p i 0 c in
     (if tells_some p i 0 c then helper control 0 ∷ [] else [])
-    ++ (helpers_from count 1 deep ++ (helpers_from first 1 deep ++ (helpers_from stride 1 deep ++ (helpers_from turn 1 deep
+    ++ (loop_helpers is_loop count p i c ++ (loop_helpers is_do first p i c ++ (loop_helpers is_do stride p i c ++ (loop_helpers is_loop turn p i c
     ++ (helpers_from work 1 (works_used p.marks i c) ++ helpers_from temp 1 (temps_used p.marks i c))))))
 
 -- ---- the adjoint unit
