@@ -12,10 +12,10 @@ use Rattle.adj_transpose.specs.Marks.{next, behind}
 use Rattle.adj_transpose.proofs.Variables.{and_true, or_false, or_left, or_right, name_comm, has_apart}
 use Rattle.adj_reverse.specs.Names.{adjoint_after, adjoint_name}
 use Rattle.adj_reverse.specs.Marking.{ProgramMarks}
-use Rattle.adj_reverse.specs.Program.{calls_act, calls_in, calls_some, has_adjoint, is_carried, carried_after, all_units, adjoint_unit, emitted_adjoint, emitted_units}
+use Rattle.adj_reverse.specs.Program.{calls_act, calls_in, calls_some, reached_after, has_adjoint, answers, is_kept, is_carried, all_units, adjoint_unit, emitted_adjoint, emitted_units}
 use Rattle.adj_reverse.proofs.Names.{is_unit, has-append, adjoint_free, adjoints_apart}
 pub use Rattle.adj_reverse.specs.Source.{CallUnits}
-use Rattle.adj_reverse.proofs.Rounds.{either, carried_last}
+use Rattle.adj_reverse.proofs.Rounds.{either, reached_last}
 
 -- ---- units in a list
 
@@ -167,11 +167,11 @@ some_there ps (u ∷ us) k f s name i h =
     (some_there ps us k.1 f s name (behind i u.body))
 
 module _ (m : ProgramMarks) (ps : List Procedure) (head : Procedure) (vars outvars : List Bool) (known : CallUnits ps ps) where
-  there_after : (k : ℕ) (name : List ℕ) → carried_after m ps head k name ≡ true → is_unit ps name ≡ true
+  there_after : (k : ℕ) (name : List ℕ) → reached_after (is_kept m ps head) (λ i. true) ps k name ≡ true → is_unit ps name ≡ true
   there_after zero name h = absurd cc
   there_after (suc k) name h =
-      either (calls_some (has_adjoint m ps head) m.kept name 0 ps) (calls_some (carried_after m ps head k) (λ i. true) name 0 ps) (is_unit ps name) h
-      (some_there ps ps known (has_adjoint m ps head) m.kept name 0) (some_there ps ps known (carried_after m ps head k) (λ i. true) name 0)
+      either (is_kept m ps head name) (calls_some (reached_after (is_kept m ps head) (λ i. true) ps k) (λ i. true) name 0 ps) (is_unit ps name) h
+      (some_there ps ps known (has_adjoint m ps head) m.kept name 0) (some_there ps ps known (reached_after (is_kept m ps head) (λ i. true) ps k) (λ i. true) name 0)
 
   -- the carried units are in the emitted program as in the source, and call carried ones only
   pub carried_common : HaveInCommon (is_carried m ps head) ps (emitted_units m ps head vars outvars ps)
@@ -181,5 +181,13 @@ module _ (m : ProgramMarks) (ps : List Procedure) (head : Procedure) (vars outva
         let c = counts (is_carried m ps head) (λ i. true) 0 ps name u f h in
         inside_in (is_carried m ps head) c.at u.body (λ n g.
         let some : calls_some (is_carried m ps head) (λ i. true) n 0 ps ≡ true = c.by n g in
-        carried_last m ps head n (some_there ps ps known (is_carried m ps head) (λ i. true) n 0 some) (or_right (calls_some (has_adjoint m ps head) m.kept n 0 ps) (calls_some (is_carried m ps head) (λ i. true) n 0 ps) some));
+        reached_last (is_kept m ps head) (λ i. true) ps n (some_there ps ps known (is_carried m ps head) (λ i. true) n 0 some) (or_right (is_kept m ps head n) (calls_some (is_carried m ps head) (λ i. true) n 0 ps) some));
   }
+
+  -- a unit whose adjoint is called has one
+  pub answers_there : (name : List ℕ) → answers m ps head name ≡ true → has_adjoint m ps head name ≡ true
+  answers_there name h = reached_last (name_eq head.name) m.adjointed ps name (some_there ps ps known (has_adjoint m ps head) m.adjointed name 0 h) (or_right (name_eq head.name name) (answers m ps head name) h)
+
+  -- and so has the head
+  pub head_there : is_unit ps head.name ≡ true → has_adjoint m ps head head.name ≡ true
+  head_there there = reached_last (name_eq head.name) m.adjointed ps head.name there (or_left (name_eq head.name head.name) (calls_some (has_adjoint m ps head) m.adjointed head.name 0 ps) (name_refl head.name))

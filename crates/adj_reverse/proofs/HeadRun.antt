@@ -1,8 +1,7 @@
 -- The run of the head's adjoint, from its input: it ends, its tape is empty, and its body reverses the head's.
 use Rattle.std.proofs.Common.{◌≡◌, ℕ, ◌+◌, ◌<◌, Bool, true, false, List, [], map, refl, sym, ap, ◌∙◌, subst, if◌then◌else◌}
 use Rattle.std.specs.Prelude.{ℤ, pos, Option, Some, None}
-use Rattle.adj_tree.specs.Code.{Var, plain, shadow, helper, name_eq, var_eq, Procedure}
-use Rattle.adj_tree.proofs.Names.{name_refl}
+use Rattle.adj_tree.specs.Code.{Var, plain, shadow, helper, var_eq, Procedure}
 use Rattle.adj_word.specs.Dot.{dot}
 use Rattle.adj_word.specs.Pairing.{pairing}
 use Rattle.adj_word.proofs.Pairings.{pairing_comm}
@@ -29,7 +28,6 @@ use Rattle.adj_transpose.specs.Program.{variables, locals, unmarked}
 use Rattle.adj_transpose.specs.Adjoint as slots
 use Rattle.adj_transpose.specs.Adjoint.{Ends, AreAlike, IsDirection, Agrees, OthersAreZero, product, marked_cells, with_direction, tangents_of, reversals}
 use Rattle.adj_transpose.proofs.Slots.{direction, dual_store}
-use Rattle.adj_transpose.proofs.Variables.{or_left}
 use Rattle.adj_reverse.specs.Plan.{Plan, Callee}
 use Rattle.adj_reverse.specs.Cells.{cells_of}
 use Rattle.adj_reverse.specs.Passing.{plainly}
@@ -39,13 +37,14 @@ use Rattle.adj_reverse.specs.Emitted.{DeclaredAlike}
 use Rattle.adj_reverse.specs.Environment.{UnitFits}
 use Rattle.adj_reverse.specs.Lists.{AreVaried, AreReady, TransposesList}
 use Rattle.adj_reverse.specs.Marking.{ProgramMarks, ProgramFacts, facts_in, arrays_of, callee_facts, callee_of, plan_in, first_statement, entry_point, end_point}
-use Rattle.adj_reverse.specs.Program.{adjoint_names, has_adjoint, is_carried, all_units, adjoint_unit}
-use Rattle.adj_reverse.specs.Source.{answers, variables_of, arrays_in, SourceFits}
+use Rattle.adj_reverse.specs.Program.{adjoint_names, has_adjoint, answers, is_carried, all_units, adjoint_unit}
+use Rattle.adj_reverse.specs.Source.{variables_of, arrays_in, SourceFits}
 use Rattle.adj_reverse.specs.Theorem.{ShapesFit, plan_of}
 use Rattle.adj_reverse.proofs.Calls.{shadow_undeclared, helper_undeclared, extents_dual}
 use Rattle.adj_reverse.proofs.Cells.{cells_only}
 use Rattle.adj_reverse.proofs.HeadNames.{apart_front, local_apart, unmarked_in, among_in, among_from, among_out, counts, entry_other, turned}
 use Rattle.adj_reverse.proofs.Rows.{rows, by_cells, AreNought, pairing_behind, pairing_product, others_nought, nought_others, marked_alike, given_rows, shadow_rows, tangents_rows, cells_rows, direction_rows, direction_nought, AreSized, fits_sized, sized_alike}
+use Rattle.adj_reverse.proofs.EmittedUnits.{found_there, head_there}
 use Rattle.adj_reverse.proofs.Made as made
 use Rattle.adj_reverse.proofs.Emitted as emitted
 use Rattle.adj_reverse.proofs.Entry as entry
@@ -98,7 +97,7 @@ module _ (w : ProgramFacts) (ps : List Procedure) (u : Procedure) (vars outvars 
   abbrev g : Callee
   g = callee_of m ps u.name (Some u)
 
-  abbrev pub fitting : UnitFits ps (callee_facts w ps) (has_adjoint m ps u) (answers m ps) (is_carried m ps u) u.name u (first_statement ps u.name) (variables u) (arrays_of u)
+  abbrev pub fitting : UnitFits ps (callee_facts w ps) (has_adjoint m ps u) (answers m ps u) (is_carried m ps u) u.name u (first_statement ps u.name) (variables u) (arrays_of u)
   fitting = good.units u.name u good.there
 
   abbrev pub separates : (v w : Var) → var_eq (naming ns v) (naming ns w) ≡ var_eq v w
@@ -169,8 +168,8 @@ module _ (w : ProgramFacts) (ps : List Procedure) (u : Procedure) (vars outvars 
   pub list : Transposed (Some u)
   list =
       subst Transposed good.there
-      (units_transpose ps qs (callee_facts w ps) (has_adjoint m ps u) (answers m ps) (is_carried m ps u) (first_statement ps) (emitted.vars_of w ps u vars outvars good) (emitted.arrays w ps u vars outvars good) (emitted.emitted_fits w ps u vars outvars good)
-      k u.name u good.there (or_left (name_eq u.name u.name) (answers m ps u.name) (name_refl u.name)) sh 1
+      (units_transpose ps qs (callee_facts w ps) (has_adjoint m ps u) (answers m ps u) (is_carried m ps u) (first_statement ps) (emitted.vars_of w ps u vars outvars good) (emitted.arrays w ps u vars outvars good) (emitted.emitted_fits w ps u vars outvars good)
+      k u.name u good.there (head_there m ps u vars outvars good.known (found_there ps u.name u good.there).0) sh 1
       (subst (λ o. ShapesFit (plan_of (callee_facts w ps) own (arrays_in o)) sh) (sym good.there) shapes_fit)
       (begin words ps u input) body.end k body.left (ap (λ n. run (calls_of ps k) n u.body (begin words ps u input) k) (sym setting_plain) ∙ body.is))
 

@@ -164,17 +164,30 @@ abbrev pub calls_some : (List ℕ → Bool) → (ℕ → Bool) → List ℕ → 
 calls_some among f name i [] = false
 calls_some among f name i (u ∷ us) = (among u.name && calls_in f name i u.body) || calls_some among f name (behind i u.body) us
 
--- the units whose adjoint is emitted: the head, and those that an adjointed call names
+-- the units of a set, and those that a call of one of them names in a statement whose number is in a set, in some rounds
+abbrev pub reached_after : (List ℕ → Bool) → (ℕ → Bool) → List Procedure → ℕ → List ℕ → Bool
+reached_after roots f ps zero name = false
+reached_after roots f ps (suc k) name = roots name || calls_some (reached_after roots f ps k) f name 0 ps
+
+-- in as many rounds as there are units: no more are found
+abbrev pub is_reached : (List ℕ → Bool) → (ℕ → Bool) → List Procedure → List ℕ → Bool
+is_reached roots f ps name = reached_after roots f ps (length ps) name
+
+-- the units whose adjoint is emitted: the head, and those that an adjointed call of one of them names
 abbrev pub has_adjoint : ProgramMarks → List Procedure → Procedure → List ℕ → Bool
-has_adjoint m ps head name = name_eq head.name name || calls_some (λ n. true) m.adjointed name 0 ps
+has_adjoint m ps head name = is_reached (name_eq head.name) m.adjointed ps name
 
--- those that are emitted as they are: named by a kept call of an adjoint, or by a call of one that is emitted so, in some rounds
-abbrev pub carried_after : ProgramMarks → List Procedure → Procedure → ℕ → List ℕ → Bool
-carried_after m ps head zero name = false
-carried_after m ps head (suc k) name = calls_some (has_adjoint m ps head) m.kept name 0 ps || calls_some (carried_after m ps head k) (λ i. true) name 0 ps
+-- the units whose adjoint is called
+abbrev pub answers : ProgramMarks → List Procedure → Procedure → List ℕ → Bool
+answers m ps head name = calls_some (has_adjoint m ps head) m.adjointed name 0 ps
 
+-- those that an adjoint calls as they are, by a kept call
+abbrev pub is_kept : ProgramMarks → List Procedure → Procedure → List ℕ → Bool
+is_kept m ps head name = calls_some (has_adjoint m ps head) m.kept name 0 ps
+
+-- the units that are emitted as they are: those, and what they call
 abbrev pub is_carried : ProgramMarks → List Procedure → Procedure → List ℕ → Bool
-is_carried m ps head name = carried_after m ps head (length ps) name
+is_carried m ps head name = is_reached (is_kept m ps head) (λ i. true) ps name
 
 -- the names of the adjoints that are emitted
 abbrev pub made_names : ProgramMarks → List Procedure → Procedure → List Procedure → List (List ℕ)
