@@ -1,0 +1,197 @@
+-- A call of a unit in the forward sweep: it does what it did in the program, as far as the unit reads the same.
+use Rattle.std.proofs.Common.{◌≡◌, ◌<◌, ℕ, zero, suc, ◌+◌, Bool, true, false, List, [], ◌∷◌, map, refl, sym, ap, ◌∙◌, subst, if◌then◌else◌}
+use Rattle.std.specs.Prelude.{ℤ, pos, IsTrue, ◌&&◌, ◌||◌, Ok, Option, Some, None}
+use Rattle.adj_tree.specs.Code.{Role, Var, plain, shadow, helper, name_eq, call, Code, stop, Procedure}
+use Rattle.adj_meaning.specs.Trap.{shape_trap, then_ok}
+use Rattle.adj_meaning.specs.Numbers.{words}
+use Rattle.adj_meaning.specs.Append.{one}
+use Rattle.adj_meaning.specs.Store.{Shape, size_of, Store}
+use Rattle.adj_meaning.specs.Value.{Setting}
+use Rattle.adj_meaning.specs.Scene.{Scene, stand, Outcome, Done, Trapped, More, Full, then_do, with_value}
+use Rattle.adj_meaning.specs.Run.{Calls, run}
+use Rattle.adj_meaning.specs.Written.{find_unit, handed_back, is_handed_back}
+use Rattle.adj_meaning.specs.Read.{reads_actuals, looked_at}
+use Rattle.adj_meaning.specs.Common.{HaveInCommon}
+use Rattle.adj_meaning.specs.Agree.{EndAlike}
+use Rattle.adj_meaning.specs.Seen.{seen_outcome}
+use Rattle.adj_meaning.specs.Units.{whole, actuals, entry_store, dummies_fit, copied_out, unit_run, calls_of, call_in}
+use Rattle.adj_meaning.specs.Leads.{Leads}
+use Rattle.adj_meaning.proofs.Agreements.{Cells, CallsDepend}
+use Rattle.adj_meaning.proofs.Extensions.{calls_same}
+use Rattle.adj_meaning.proofs.Frames.{keeps_others}
+use Rattle.adj_meaning.proofs.SeenCalls.{own_names, terms_same, calls_carry}
+use Rattle.adj_meaning.proofs.Projected.{without_tangents}
+use Rattle.adj_meaning.proofs.Costs.{leads_where_done}
+use Rattle.adj_tree.proofs.Names.{name_same}
+use Rattle.adj_transpose.specs.Fresh.{has_name}
+use Rattle.adj_transpose.specs.Naming.{AreApart}
+use Rattle.adj_transpose.specs.Pairs.{Words, with_tangents, on_words, on_duals}
+use Rattle.adj_transpose.specs.Lists.{Kept, scene}
+use Rattle.adj_transpose.proofs.Variables.{or_false}
+use Rattle.adj_reverse.specs.Plan.{Callee, beside, actuals_named}
+use Rattle.adj_reverse.specs.Passing.{plainly}
+use Rattle.adj_reverse.specs.Kernel.{AsMany}
+use Rattle.adj_reverse.specs.Runs.{ActComes}
+use Rattle.adj_reverse.proofs.Passing.{found_or}
+use Rattle.adj_reverse.proofs.CallSweeps.{PlainCalled}
+
+-- words as dual numbers without tangents, and back
+untangled : (t : List ℤ) → map (λ (a : ℤ × ℤ). a.0) (map (λ z. (z, pos 0)) t) ≡ t
+untangled [] = refl
+untangled (z ∷ t) = ap (λ l. z ∷ l) (untangled t)
+
+-- a dual call that comes to an end is a call that does, from any scene
+pub words_of_dual : (units : List Procedure) (depth : ℕ) (sh : Var → Shape) (level : ℕ) (name : List ℕ) (given : List (List ℕ)) (line : ℕ) (u u' : Store ℤ) (derivative : Words → Words) → ((home : Kept) (y : Words) (t : List (ℤ × ℤ)) → ActComes (calls_of units depth) (on_duals sh level) (call name (actuals_named given)) line home (with_tangents u y) (with_tangents u' (derivative y)) t t) →
+    (home : Kept) (t : List ℤ) → ActComes (calls_of units depth) (on_words sh level) (call name (actuals_named given)) line home u u' t t
+words_of_dual units depth sh level name given line u u' derivative dual home t =
+    let t2 = map (λ z. (z, pos 0)) t in
+    let y : Words = λ k. pos 0 in
+    let d = dual home y t2 in
+    record {
+      later = d.later;
+      quiet = d.quiet;
+      runs = record {
+        cost = d.runs.cost;
+        by = λ k.
+            ap (λ (l : List ℤ). calls_of units depth (on_words sh level) name (actuals_named given) line (scene home u l) (d.runs.cost + k)) (sym (untangled t))
+            ∙ sym ((calls_carry (λ (a : ℤ × ℤ). a.0) units depth words (λ x. x) own_names (on_duals sh level) without_tangents).by name (actuals_named given) line (scene home (with_tangents u y) t2) (d.runs.cost + k))
+            ∙ ap (λ es. seen_outcome (λ x. x) (λ (a : ℤ × ℤ). a.0) (calls_of units depth (on_duals sh level) name es line (scene home (with_tangents u y) t2) (d.runs.cost + k))) (terms_same (actuals_named given))
+            ∙ ap (seen_outcome (λ x. x) (λ (a : ℤ × ℤ). a.0)) (d.runs.by k)
+            ∙ ap (λ (l : List ℤ). Done (scene d.later u' l) k) (untangled t);
+      };
+    }
+
+-- ---- actuals that are names
+
+-- the shapes of the text's variables alone give the same actuals
+actuals_plainly : (sh : Var → Shape) (level : ℕ) (given : List (List ℕ)) (s : Store ℤ) → actuals (on_words (plainly sh) level) (actuals_named given) s ≡ actuals (on_words sh level) (actuals_named given) s
+actuals_plainly sh level [] s = refl
+actuals_plainly sh level (a ∷ given) s = ap (λ r. then_ok r (λ got. Ok (record { shape = sh (plain a); cells = s (plain a); place = whole (plain a) } ∷ got))) (actuals_plainly sh level given s)
+
+-- what is no actual isn't handed back
+handed_other : (x : List ℕ) (ws : List Bool) (given : List (List ℕ)) → has_name x given ≡ false → is_handed_back (plain x) ws (actuals_named given) ≡ false
+handed_other x [] given h = refl
+handed_other x (w ∷ ws) [] h = refl
+handed_other x (w ∷ ws) (a ∷ given) h =
+    let o = or_false (name_eq x a) (has_name x given) h in
+    go w (handed_other x ws given o.1) o.0
+  where
+    go : (w : Bool) → is_handed_back (plain x) ws (actuals_named given) ≡ false → name_eq x a ≡ false → ((w && name_eq x a) || is_handed_back (plain x) ws (actuals_named given)) ≡ false
+    go true ih e = rw e ih
+    go false ih e = ih
+
+-- nor is an actual of a dummy that isn't written
+handed_plain : (f : List ℕ → Bool) (x : List ℕ) (ds given : List (List ℕ)) → AreApart given → found_or (beside given ds x) false f ≡ false → is_handed_back (plain x) (map f ds) (actuals_named given) ≡ false
+handed_plain f x [] given p h = refl
+handed_plain f x (d ∷ ds) [] p h = refl
+handed_plain f x (d ∷ ds) (a ∷ given) p h = go (name_eq x a) refl h (handed_plain f x ds given p.1)
+  where
+    go : (b : Bool) → name_eq x a ≡ b → found_or (if b then Some d else beside given ds x) false f ≡ false → (found_or (beside given ds x) false f ≡ false → is_handed_back (plain x) (map f ds) (actuals_named given) ≡ false) → ((f d && name_eq x a) || is_handed_back (plain x) (map f ds) (actuals_named given)) ≡ false
+    go true e h ih =
+        let out : has_name x given ≡ false = ap (λ z. has_name z given) (name_same x a e) ∙ p.0 in
+        rw (h, handed_other x (map f ds) given out) refl
+    go false e h ih = rw (e, ih h) (none_of (f d))
+      where
+        none_of : (w : Bool) → ((w && false) || false) ≡ false
+        none_of true = refl
+        none_of false = refl
+
+handed_shadow : (x : List ℕ) (ws : List Bool) (given : List (List ℕ)) → is_handed_back (shadow x) ws (actuals_named given) ≡ false
+handed_shadow x [] given = refl
+handed_shadow x (w ∷ ws) [] = refl
+handed_shadow x (w ∷ ws) (a ∷ given) = go w (handed_shadow x ws given)
+  where
+    go : (w : Bool) → is_handed_back (shadow x) ws (actuals_named given) ≡ false → ((w && false) || is_handed_back (shadow x) ws (actuals_named given)) ≡ false
+    go true ih = ih
+    go false ih = ih
+
+handed_helper : (r : Role) (k : ℕ) (ws : List Bool) (given : List (List ℕ)) → is_handed_back (helper r k) ws (actuals_named given) ≡ false
+handed_helper r k [] given = refl
+handed_helper r k (w ∷ ws) [] = refl
+handed_helper r k (w ∷ ws) (a ∷ given) = go w (handed_helper r k ws given)
+  where
+    go : (w : Bool) → is_handed_back (helper r k) ws (actuals_named given) ≡ false → ((w && false) || is_handed_back (helper r k) ws (actuals_named given)) ≡ false
+    go true ih = ih
+    go false ih = ih
+
+-- ---- the call again
+
+module _ (ps qs : List Procedure) (inside : List ℕ → Bool) (common : HaveInCommon inside ps qs) (depth : ℕ) (depend : CallsDepend {C = ℤ} (looked_at ps) (calls_of ps (suc depth))) (sh : Var → Shape) (level : ℕ) (name : List ℕ) (there : IsTrue (inside name)) (g : Callee) (given : List (List ℕ)) (many : AsMany g.dummies given) (apart : AreApart given) (flags : handed_back ps name ≡ map (λ d. g.written (plain d)) g.dummies) (line : ℕ) (u u' : Store ℤ)
+    (from_program : (home : Kept) (t : List ℤ) → ActComes (calls_of ps (suc depth)) (on_words (plainly sh) level) (call name (actuals_named given)) line home u u' t t) where
+  abbrev nw : Setting ℤ
+  nw = on_words sh level
+
+  abbrev p : Calls ℤ
+  p = calls_of ps (suc depth)
+
+  abbrev code : Code
+  code = one line (call name (actuals_named given))
+
+  -- the shapes that differ don't matter
+  same_shapes : (s : Scene ℤ) (k : ℕ) → p nw name (actuals_named given) line s k ≡ p (on_words (plainly sh) level) name (actuals_named given) line s k
+  same_shapes s k = go (find_unit ps name)
+    where
+      go : (o : Option Procedure) → call_in (calls_of ps depth) nw (handed_back ps name) o (actuals_named given) line s k ≡ call_in (calls_of ps depth) (on_words (plainly sh) level) (handed_back ps name) o (actuals_named given) line s k
+      go None = refl
+      go (Some v) =
+          ap (λ r. with_value r line (stand nw s) (λ got.
+          if dummies_fit words v (entry_store words v.dummies got) v.dummies got
+          then then_do (unit_run (calls_of ps depth) nw v line (record s { store = entry_store words v.dummies got }) k)
+          (λ s1 j. Done (record s { store = copied_out v.dummies (handed_back ps name) got s1.store s.store; tape = s1.tape; events = s1.events }) j)
+          else Trapped shape_trap line (stand nw s))) (sym (actuals_plainly sh level given s.store))
+
+  -- a run of the program from the forward sweep's store
+  record Again (base : Kept) (f : Store ℤ) (t : List ℤ) (later : Kept) : Type 0 where
+    end : Store ℤ
+    leads : Leads p nw code (scene base f t) (scene later end t)
+    same : (x : Var) (j : ℕ) → f x j ≡ u x j → end x j ≡ u' x j
+
+  again : (base : Kept) (f : Store ℤ) (t : List ℤ) → ((x : Var) → reads_actuals x (looked_at ps name) (actuals_named given) ≡ true → (j : ℕ) → j < size_of (sh x) → f x j ≡ u x j) → Again base f t (from_program base t).later
+  again base f t agrees =
+      let c = from_program base t in
+      let A : Cells = λ x j. f x j ≡ u x j in
+      let k = c.runs.cost + 0 in
+      let done : p nw name (actuals_named given) line (scene base u t) k ≡ Done (scene c.later u' t) 0 = same_shapes (scene base u t) k ∙ c.runs.by 0 in
+      let e : EndAlike A (p nw name (actuals_named given) line (scene base f t) k) (p nw name (actuals_named given) line (scene base u t) k) =
+      depend A nw name (actuals_named given) line (λ x r j l. agrees x r j l) (scene base f t) (scene base u t) (record { store = λ x j a. a; tape = refl; opened = refl; events = refl }) k in
+      ended A c.later k (p nw name (actuals_named given) line (scene base f t) k) refl (subst (λ o. EndAlike A (p nw name (actuals_named given) line (scene base f t) k) o) done e)
+    where
+      ended : (A : Cells) (later : Kept) (k : ℕ) (o : Outcome (Scene ℤ)) → p nw name (actuals_named given) line (scene base f t) k ≡ o → EndAlike (λ x j. f x j ≡ u x j) o (Done (scene later u' t) 0) → Again base f t later
+      ended A later k (Done s j) is e =
+          let a = e.0 in
+          let scene_is : s ≡ scene later s.store t = λ i. record { store = s.store; tape = a.tape i; opened = a.opened i; events = a.events i } in
+          record {
+            end = s.store;
+            leads = leads_where_done ps (suc depth) nw code (scene base f t) (scene later s.store t) (suc k) j
+                (ap (λ z. then_do z (run p nw stop)) (is ∙ ap (λ z. Done z j) scene_is));
+            same = λ x i h. a.store x i h;
+          }
+      ended A later k (Trapped w l stands) is e = absurd e
+      ended A later k (More stands) is e = absurd e
+      ended A later k (Full stands) is e = absurd e
+
+  -- the units that the emitted program has in common with the source do the same
+  there_same : (s : Scene ℤ) (k : ℕ) → calls_of qs (suc depth) nw name (actuals_named given) line s k ≡ p nw name (actuals_named given) line s k
+  there_same s k = sym (calls_same inside ps qs common (suc depth) nw name (actuals_named given) line there s k)
+
+  pub plain_called : (base : Kept) (f : Store ℤ) (t : List ℤ) → ((x : Var) → reads_actuals x (looked_at ps name) (actuals_named given) ≡ true → (j : ℕ) → j < size_of (sh x) → f x j ≡ u x j) → PlainCalled (calls_of qs (suc depth)) sh level g given name line base u u' f t
+  plain_called base f t agrees =
+      let a = again base f t agrees in
+      let c = from_program base t in
+      let kept_by : (x : Var) → is_handed_back x (handed_back ps name) (actuals_named given) ≡ false → (j : ℕ) → a.end x j ≡ f x j = λ x h j. keeps_others ps (suc depth) nw code (scene base f t) (scene c.later a.end t) (a.leads.cost + 0) 0 (a.leads.by 0) x (rw h refl) j in
+      record {
+        after = a.end;
+        runs = record {
+          later = c.later;
+          quiet = c.quiet;
+          runs = record { cost = a.leads.cost; by = λ k. ap (λ z. z) (same_run (scene base f t) (a.leads.cost + k)) ∙ a.leads.by k };
+        };
+        same = λ x j h. a.same (plain x) j h;
+        off = record { at = λ x j h. kept_by (plain x) (ap (λ ws. is_handed_back (plain x) ws (actuals_named given)) flags ∙ handed_plain (λ d. g.written (plain d)) x g.dummies given apart h) j };
+        shadows = λ x j. kept_by (shadow x) (handed_shadow x (handed_back ps name) given) j;
+        helpers = λ r k j. kept_by (helper r k) (handed_helper r k (handed_back ps name) given) j;
+      }
+    where
+      same_run : (s : Scene ℤ) (k : ℕ) → run (calls_of qs (suc depth)) nw code s k ≡ run p nw code s k
+      same_run s zero = refl
+      same_run s (suc k) = ap (λ o. then_do o (λ s1 j. Done s1 j)) (there_same s k)

@@ -1,0 +1,70 @@
+-- Runs of units from the runs of their bodies, for units of any shapes and any depth of calls.
+use Rattle.std.proofs.Common.{◌≡◌, ℕ, ◌+◌, ◌-◌, ◌≤◌, List, [], ◌∷◌, sym, ap, ◌∙◌, arith, if◌then◌else◌}
+use Rattle.std.specs.Prelude.{◌==◌, None, reverse}
+use Rattle.adj_tree.specs.Code.{Procedure}
+use Rattle.adj_meaning.specs.Trap.{schedule_trap}
+use Rattle.adj_meaning.specs.Numbers.{Numbers}
+use Rattle.adj_meaning.specs.Value.{Setting}
+use Rattle.adj_meaning.specs.Event.{Enter}
+use Rattle.adj_meaning.specs.Scene.{Scene, stand, Outcome, Done, Trapped, then_do}
+use Rattle.adj_meaning.specs.Run.{run}
+use Rattle.adj_meaning.specs.Units.{Slot, Output, calls_of, setting_in, dummy_shapes, input_store, dummy_slots, run_unit}
+use Rattle.adj_meaning.proofs.Inversions.{then_done}
+use Rattle.adj_meaning.proofs.Costs.{run_later}
+use Rattle.adj_transpose.specs.Lists.{Kept, scene}
+use Rattle.adj_transpose.specs.Adjoint.{Ends}
+use Rattle.adj_transpose.proofs.Units.{outside}
+
+module _ {C : Type 0} (n : Numbers C) (ps : List Procedure) (u : Procedure) (input : List (Slot C)) where
+  -- how the unit ends after its body
+  abbrev closed : ℕ → Scene C → ℕ → Outcome (Scene C)
+  closed line s j = if s.opened == 0 then Done s j else Trapped schedule_trap line (stand (outside n) s)
+
+  abbrev pub unit_setting : Setting C
+  unit_setting = setting_in (outside n) u (input_store n u input)
+
+  -- what the run of the unit gives from the end of its body's run
+  abbrev pub output_from : Scene C → Output C
+  output_from s = record { slots = dummy_slots unit_setting u s.store; tape = s.tape; events = reverse s.events }
+
+  abbrev handed_out : ℕ → Scene C → ℕ → Outcome (Output C)
+  handed_out k s left = Done (output_from s) (k - left)
+
+  -- what was told at the unit's entry
+  abbrev pub kept_in : Kept
+  kept_in = record { opened = 0; events = Enter u.name 1 0 (dummy_shapes unit_setting u) ∷ [] }
+
+  abbrev pub begin : Scene C
+  begin = scene kept_in (input_store n u input) []
+
+  -- a run of the unit that is done has a run of its body that is
+  pub record BodyEnds (k : ℕ) : Type 0 where
+    pub end : Scene C
+    pub left : ℕ
+    pub is : run (calls_of ps k) unit_setting u.body begin k ≡ Done end left
+
+  pub body_ends : (k used : ℕ) (output : Output C) → run_unit n ps u input [] None k ≡ Done output used → BodyEnds k
+  body_ends k used output h =
+      let p = then_done (then_do (run (calls_of ps k) unit_setting u.body begin k) (closed u.line)) (handed_out k) output used h in
+      let q = then_done (run (calls_of ps k) unit_setting u.body begin k) (closed u.line) p.scene p.left p.first in
+      record { end = q.scene; left = q.left; is = q.first }
+
+  -- a unit whose body's run is done with calls of some depth ends
+  abbrev pub unit_ends : (depth cost : ℕ) (s : Scene C) → run (calls_of ps depth) unit_setting u.body begin cost ≡ Done s 0 → s.opened ≡ 0 → Ends n ps u input
+  unit_ends depth cost s h o = record {
+    enough = depth + cost;
+    output = output_from s;
+    used = cost;
+    runs = λ k le.
+        let left = k - cost in
+        let all : cost + left ≡ k = omega arith in
+        let none : 0 + left ≡ left = omega arith in
+        let spent : k - left ≡ cost = omega arith in
+        let deep : depth ≤ k = omega arith in
+        let body : run (calls_of ps k) unit_setting u.body begin k ≡ Done s left =
+        ap (run (calls_of ps k) unit_setting u.body begin) (sym all) ∙ run_later ps depth k deep unit_setting u.body begin s cost 0 left h ∙ ap (Done s) none in
+        let shut : closed u.line s left ≡ Done s left = ap (λ m. if m == 0 then Done s left else Trapped schedule_trap u.line (stand (outside n) s)) o in
+        ap (λ z. then_do (then_do z (closed u.line)) (handed_out k)) body
+        ∙ ap (λ z. then_do z (handed_out k)) shut
+        ∙ ap (Done (output_from s)) spent;
+  }

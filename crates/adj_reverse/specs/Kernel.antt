@@ -1,0 +1,98 @@
+-- What the theorem asks of the code of a unit: what a program in kernel form that was checked has.
+use Rattle.std.specs.Prelude.{◌≡◌, ℕ, zero, suc, List, [], ◌∷◌, Bool, true, false, Some}
+use Rattle.adj_tree.specs.Code.{Var, plain, shadow, helper, plus, minus, times, quot, modulo, greater, lesser, Term, neg, bin, pow, power_of, abs, Terms, none, Act, assign, choose, loop, during, call, runtime, Code, stop, step, Procedure}
+use Rattle.adj_meaning.specs.LeastSet.{Dummies}
+use Rattle.adj_meaning.specs.Written.{find_unit, writes}
+use Rattle.adj_meaning.specs.Read.{reads_term, reads_terms, reads_test}
+use Rattle.adj_meaning.specs.Units.{declared}
+use Rattle.adj_transpose.specs.Marks.{Vars, Marks, next, behind}
+use Rattle.adj_transpose.specs.Fresh.{has_name}
+use Rattle.adj_transpose.specs.Naming.{AreApart}
+use Rattle.adj_reverse.specs.Plan.{IsActual, actuals_named}
+use Rattle.adj_reverse.specs.Laws.{CalleeFacts}
+
+-- a variable of the text
+abbrev pub is_text : Var → Bool
+is_text (plain x) = true
+is_text (shadow x) = false
+is_text (helper r k) = false
+
+-- the variables of a set are of the text
+abbrev pub AllText : (Var → Bool) → Type 0
+AllText f = (v : Var) → f v ≡ true → is_text v ≡ true
+
+-- as many of the one as of the other
+abbrev pub AsMany : List (List ℕ) → List (List ℕ) → Type 0
+AsMany [] [] = Unit {0}
+AsMany [] (y ∷ ys) = ⊥
+AsMany (x ∷ xs) [] = ⊥
+AsMany (x ∷ xs) (y ∷ ys) = AsMany xs ys
+
+-- no MAX, MIN or ABS at a differentiable occurrence; elsewhere they stay
+abbrev pub AreTreated : Term → Type 0
+AreTreated (neg a) = AreTreated a
+AreTreated (bin plus a b) = AreTreated a × AreTreated b
+AreTreated (bin minus a b) = AreTreated a × AreTreated b
+AreTreated (bin times a b) = AreTreated a × AreTreated b
+AreTreated (bin quot a b) = Unit {0}
+AreTreated (bin modulo a b) = Unit {0}
+AreTreated (bin greater a b) = ⊥
+AreTreated (bin lesser a b) = ⊥
+AreTreated (pow a zero) = Unit {0}
+AreTreated (pow a (suc k)) = AreTreated a
+AreTreated (power_of a b) = AreTreated a
+AreTreated (abs a) = ⊥
+AreTreated _ = Unit {0}
+
+-- ---- statements, in a unit with these variables, of which some are arrays
+
+pub record AssignmentFits (vars : List (List ℕ)) (arrays : Vars) (x : List ℕ) (subs : Terms) (e : Term) : Type 0 where
+  pub variable : has_name x vars ≡ true
+  -- an array has subscripts
+  pub rank : subs ≡ none → arrays (plain x) ≡ false
+  -- the target isn't in its own subscripts
+  pub apart : reads_terms (plain x) subs ≡ false
+  pub text : AllText (λ v. reads_term v e)
+  pub subs_text : AllText (λ v. reads_terms v subs)
+  pub treated : AreTreated e
+  -- what stands in it is among the variables, and an array only with subscripts
+  pub known : (y : List ℕ) → reads_term (plain y) e ≡ true → has_name y vars ≡ true
+
+pub record LoopFits (vars : List (List ℕ)) (arrays : Vars) (handed : Dummies) (x : List ℕ) (a b c : Term) (body : Code) : Type 0 where
+  pub variable : has_name x vars ≡ true
+  pub scalar : arrays (plain x) ≡ false
+  -- the body doesn't write it
+  pub spares : writes handed (plain x) body ≡ false
+  pub text_first : AllText (λ v. reads_term v a)
+  pub text_last : AllText (λ v. reads_term v b)
+  pub text_step : AllText (λ v. reads_term v c)
+
+pub record CallFits (ps : List Procedure) (vars : List (List ℕ)) (arrays : Vars) (g : CalleeFacts) (name : List ℕ) (given : List (List ℕ)) : Type 0 where
+  pub unit : Procedure
+  pub found : find_unit ps name ≡ Some unit
+  pub apart : AreApart given
+  pub many : AsMany g.callee.dummies given
+  pub variables : (a : List ℕ) → has_name a given ≡ true → has_name a vars ≡ true
+  -- a scalar is given for a scalar
+  pub ranks : (d a : List ℕ) → IsActual g.callee.dummies given d a → declared unit.declarations (plain d) ≡ [] → arrays (plain a) ≡ false
+
+abbrev mutual
+  -- in the order of the statements' numbers; `answers` says of which units the adjoint is called, and `carried` which are emitted
+  -- themselves; `present` says whether the adjoint of the unit that this is in is
+  pub Fits' : (ps : List Procedure) → (List ℕ → CalleeFacts) → (answers carried : List ℕ → Bool) → (present : Bool) → Marks → (vars : List (List ℕ)) → (arrays : Vars) → Dummies → ℕ → Act → Type 0
+  Fits' ps g answers carried present m vars arrays handed i (assign (plain x) subs e) = AssignmentFits vars arrays x subs e
+  Fits' ps g answers carried present m vars arrays handed i (assign (shadow x) subs e) = ⊥
+  Fits' ps g answers carried present m vars arrays handed i (assign (helper r x) subs e) = ⊥
+  Fits' ps g answers carried present m vars arrays handed i (choose c a b) =
+      AllText (λ v. reads_test v c) × (FitsList ps g answers carried present m vars arrays handed (suc i) a × FitsList ps g answers carried present m vars arrays handed (behind (suc i) a) b)
+  Fits' ps g answers carried present m vars arrays handed i (loop (plain x) a b c body n) = LoopFits vars arrays handed x a b c body × FitsList ps g answers carried present m vars arrays handed (suc i) body
+  Fits' ps g answers carried present m vars arrays handed i (loop (shadow x) a b c body n) = ⊥
+  Fits' ps g answers carried present m vars arrays handed i (loop (helper r x) a b c body n) = ⊥
+  Fits' ps g answers carried present m vars arrays handed i (during c body) = AllText (λ v. reads_test v c) × FitsList ps g answers carried present m vars arrays handed (suc i) body
+  Fits' ps g answers carried present m vars arrays handed i (call name args) =
+      ((given : List (List ℕ)) → args ≡ actuals_named given → CallFits ps vars arrays (g name) name given) × ((present ≡ true → m.adjointed i ≡ true → answers name ≡ true) × (present ≡ true → m.kept i ≡ true → carried name ≡ true))
+  Fits' ps g answers carried present m vars arrays handed i (runtime r) = ⊥
+
+  pub FitsList : (ps : List Procedure) → (List ℕ → CalleeFacts) → (answers carried : List ℕ → Bool) → (present : Bool) → Marks → (vars : List (List ℕ)) → (arrays : Vars) → Dummies → ℕ → Code → Type 0
+  FitsList ps g answers carried present m vars arrays handed i stop = Unit {0}
+  FitsList ps g answers carried present m vars arrays handed i (step line a rest) = Fits' ps g answers carried present m vars arrays handed i a × FitsList ps g answers carried present m vars arrays handed (next i a) rest

@@ -1,0 +1,223 @@
+-- The program that is emitted for a kernel and its head, by marks. (docs/EMITTED.md)
+use Rattle.std.specs.Prelude.{ℕ, zero, suc, List, [], ◌∷◌, ◌++◌, map, length, max, Bool, true, false, ◌&&◌, ◌||◌, not, ◌==◌, if◌then◌else◌}
+use Rattle.adj_tree.specs.Code.{Role, Var, shadow, helper, work, temp, control, first, stride, count, turn, name_eq, Act, assign, choose, loop, during, call, runtime, Code, stop, step, Procedure}
+use Rattle.adj_meaning.specs.Rename.{rename}
+use Rattle.adj_transpose.specs.Naming.{Named, unit_names, naming}
+use Rattle.adj_transpose.specs.Marks.{Marks, next, behind, active_at}
+use Rattle.adj_transpose.specs.Marked.{works_in_where, temps_in_where, names_in}
+use Rattle.adj_transpose.specs.Program.{locals, variables, unit_name, helpers_from, unmarked, declared_helpers, unit_at}
+use Rattle.adj_reverse.specs.Names.{adjoint_name}
+use Rattle.adj_transpose.specs.MarkedProgram.{shadows_behind, declared_behind}
+use Rattle.adj_reverse.specs.Plan.{Plan}
+use Rattle.adj_reverse.specs.Emission.{is_empty, backward, adjoint_body}
+use Rattle.adj_reverse.specs.Marking.{ProgramMarks, first_statement, plan_in}
+
+-- ---- helpers that a body uses
+
+-- the greatest number of work variables, and of temporaries, that the adjoint of an assignment uses
+abbrev mutual
+  pub works_act : Marks → ℕ → Act → ℕ
+  works_act m i (assign x subs e) = if m.adjointed i then works_in_where (active_at m i) e 1 else 0
+  works_act m i (choose c a b) = max (works_used m (suc i) a) (works_used m (behind (suc i) a) b)
+  works_act m i (loop x a b c body n) = works_used m (suc i) body
+  works_act m i (during c body) = works_used m (suc i) body
+  works_act m i (call name args) = 0
+  works_act m i (runtime r) = 0
+
+  pub works_used : Marks → ℕ → Code → ℕ
+  works_used m i stop = 0
+  works_used m i (step line a rest) = max (works_act m i a) (works_used m (next i a) rest)
+
+abbrev mutual
+  pub temps_act : Marks → ℕ → Act → ℕ
+  temps_act m i (assign x subs e) = if m.adjointed i then temps_in_where (active_at m i) e else 0
+  temps_act m i (choose c a b) = max (temps_used m (suc i) a) (temps_used m (behind (suc i) a) b)
+  temps_act m i (loop x a b c body n) = temps_used m (suc i) body
+  temps_act m i (during c body) = temps_used m (suc i) body
+  temps_act m i (call name args) = 0
+  temps_act m i (runtime r) = 0
+
+  pub temps_used : Marks → ℕ → Code → ℕ
+  temps_used m i stop = 0
+  temps_used m i (step line a rest) = max (temps_act m i a) (temps_used m (next i a) rest)
+
+-- how deep the loops are whose turns are gone through backward
+abbrev mutual
+  pub depth_act : Plan → ℕ → ℕ → Act → ℕ
+  depth_act p i d (assign x subs e) = 0
+  depth_act p i d (choose c a b) = max (depth_used p (suc i) d a) (depth_used p (behind (suc i) a) d b)
+  depth_act p i d (loop x a b c body n) = if is_empty (backward p (suc i) (suc d) body) then 0 else max (suc d) (depth_used p (suc i) (suc d) body)
+  depth_act p i d (during c body) = if is_empty (backward p (suc i) (suc d) body) then 0 else max (suc d) (depth_used p (suc i) (suc d) body)
+  depth_act p i d (call name args) = 0
+  depth_act p i d (runtime r) = 0
+
+  pub depth_used : Plan → ℕ → ℕ → Code → ℕ
+  depth_used p i d stop = 0
+  depth_used p i d (step line a rest) = max (depth_act p i d a) (depth_used p (next i a) d rest)
+
+-- whether an IF tells which part ran
+abbrev mutual
+  pub tells_act : Plan → ℕ → ℕ → Act → Bool
+  tells_act p i d (assign x subs e) = false
+  tells_act p i d (choose c a b) = not (is_empty (backward p (suc i) d a) && is_empty (backward p (behind (suc i) a) d b))
+  tells_act p i d (loop x a b c body n) = tells_some p (suc i) (suc d) body
+  tells_act p i d (during c body) = tells_some p (suc i) (suc d) body
+  tells_act p i d (call name args) = false
+  tells_act p i d (runtime r) = false
+
+  pub tells_some : Plan → ℕ → ℕ → Code → Bool
+  tells_some p i d stop = false
+  tells_some p i d (step line a rest) = tells_act p i d a || tells_some p (next i a) d rest
+
+-- whether a loop of depth k that is of a kind has turns that are gone through backward
+abbrev mutual
+  pub goes_back_act : (Act → Bool) → ℕ → Plan → ℕ → ℕ → Act → Bool
+  goes_back_act kind k p i d (assign x subs e) = false
+  goes_back_act kind k p i d (choose c a b) = goes_back kind k p (suc i) d a || goes_back kind k p (behind (suc i) a) d b
+  goes_back_act kind k p i d (loop x a b c body n) =
+      (kind (loop x a b c body n) && ((k == suc d) && not (is_empty (backward p (suc i) (suc d) body)))) || goes_back kind k p (suc i) (suc d) body
+  goes_back_act kind k p i d (during c body) =
+      (kind (during c body) && ((k == suc d) && not (is_empty (backward p (suc i) (suc d) body)))) || goes_back kind k p (suc i) (suc d) body
+  goes_back_act kind k p i d (call name args) = false
+  goes_back_act kind k p i d (runtime r) = false
+
+  pub goes_back : (Act → Bool) → ℕ → Plan → ℕ → ℕ → Code → Bool
+  goes_back kind k p i d stop = false
+  goes_back kind k p i d (step line a rest) = goes_back_act kind k p i d a || goes_back kind k p (next i a) d rest
+
+-- the kinds of loops
+abbrev pub is_do : Act → Bool
+is_do (assign x subs e) = false
+is_do (choose c a b) = false
+is_do (loop x a b c body n) = true
+is_do (during c body) = false
+is_do (call name args) = false
+is_do (runtime r) = false
+
+abbrev pub is_loop : Act → Bool
+is_loop (assign x subs e) = false
+is_loop (choose c a b) = false
+is_loop (loop x a b c body n) = true
+is_loop (during c body) = true
+is_loop (call name args) = false
+is_loop (runtime r) = false
+
+-- the helpers of a role with the numbers of a set, of the n from k on
+abbrev pub helpers_among : (ℕ → Bool) → Role → ℕ → ℕ → List Var
+helpers_among f r k zero = []
+helpers_among f r k (suc n) = if f k then helper r k ∷ helpers_among f r (suc k) n else helpers_among f r (suc k) n
+
+-- the helpers of loops of a kind
+abbrev pub loop_helpers : (Act → Bool) → Role → Plan → ℕ → Code → List Var
+loop_helpers kind r p i c = helpers_among (λ k. goes_back kind k p i 0 c) r 1 (depth_used p i 0 c)
+
+-- the helpers, in the order of their declarations
+abbrev pub helpers_used : Plan → ℕ → Code → List Var
+helpers_used p i c =
+    (if tells_some p i 0 c then helper control 0 ∷ [] else [])
+    ++ (loop_helpers is_loop count p i c ++ (loop_helpers is_do first p i c ++ (loop_helpers is_do stride p i c ++ (loop_helpers is_loop turn p i c
+    ++ (helpers_from work 1 (works_used p.marks i c) ++ helpers_from temp 1 (temps_used p.marks i c))))))
+
+-- ---- the adjoint unit
+
+-- the variables that it has besides those of u: a shadow of each that has one, and helpers
+abbrev pub made_for : ProgramMarks → List Procedure → Procedure → List Var
+made_for m ps u = map shadow (names_in (m.shadowed u.name) (variables u)) ++ helpers_used (plan_in m ps u) (first_statement ps u.name) u.body
+
+-- the names of its variables; `units` are the names of all units of the source and of all that are made
+abbrev pub adjoint_names : ProgramMarks → List Procedure → List (List ℕ) → Procedure → List Named
+adjoint_names m ps units u = unit_names (variables u) units (made_for m ps u)
+
+-- the adjoint of u, in which these shadows are cleared between the sweeps, and these at the end
+abbrev pub adjoint_unit : ProgramMarks → List Procedure → List (List ℕ) → Procedure → List (List ℕ) → List (List ℕ) → Procedure
+adjoint_unit m ps units u at_turn at_end =
+    let ns = adjoint_names m ps units u in
+    let p = plan_in m ps u in
+    let i = first_statement ps u.name in
+    record {
+      line = u.line;
+      name = adjoint_name ps u;
+      dummies = shadows_behind (m.shadowed u.name) ns u.dummies;
+      is_none = false;
+      declarations = declared_behind (m.shadowed u.name) ns u u.dummies ++ (declared_behind (m.shadowed u.name) ns u (locals u) ++ declared_helpers ns u.line (helpers_used p i u.body));
+      body = rename (naming ns) (adjoint_body p i u.line u.body at_turn at_end);
+    }
+
+-- ---- which units are emitted
+
+-- whether a list calls the unit of a name in a statement whose number is in a set
+abbrev mutual
+  pub calls_act : (ℕ → Bool) → List ℕ → ℕ → Act → Bool
+  calls_act f name i (assign x subs e) = false
+  calls_act f name i (choose c a b) = calls_in f name (suc i) a || calls_in f name (behind (suc i) a) b
+  calls_act f name i (loop x a b c body n) = calls_in f name (suc i) body
+  calls_act f name i (during c body) = calls_in f name (suc i) body
+  calls_act f name i (call other args) = f i && name_eq name other
+  calls_act f name i (runtime r) = false
+
+  pub calls_in : (ℕ → Bool) → List ℕ → ℕ → Code → Bool
+  calls_in f name i stop = false
+  calls_in f name i (step line a rest) = calls_act f name i a || calls_in f name (next i a) rest
+
+-- whether one of the units, of those in a set, does
+abbrev pub calls_some : (List ℕ → Bool) → (ℕ → Bool) → List ℕ → ℕ → List Procedure → Bool
+calls_some among f name i [] = false
+calls_some among f name i (u ∷ us) = (among u.name && calls_in f name i u.body) || calls_some among f name (behind i u.body) us
+
+-- the units of a set, and those that a call of one of them names in a statement whose number is in a set, in some rounds
+abbrev pub reached_after : (List ℕ → Bool) → (ℕ → Bool) → List Procedure → ℕ → List ℕ → Bool
+reached_after roots f ps zero name = false
+reached_after roots f ps (suc k) name = roots name || calls_some (reached_after roots f ps k) f name 0 ps
+
+-- in as many rounds as there are units: no more are found
+abbrev pub is_reached : (List ℕ → Bool) → (ℕ → Bool) → List Procedure → List ℕ → Bool
+is_reached roots f ps name = reached_after roots f ps (length ps) name
+
+-- the units whose adjoint is emitted: the head, and those that an adjointed call of one of them names
+abbrev pub has_adjoint : ProgramMarks → List Procedure → Procedure → List ℕ → Bool
+has_adjoint m ps head name = is_reached (name_eq head.name) m.adjointed ps name
+
+-- the units whose adjoint is called
+abbrev pub answers : ProgramMarks → List Procedure → Procedure → List ℕ → Bool
+answers m ps head name = calls_some (has_adjoint m ps head) m.adjointed name 0 ps
+
+-- those that an adjoint calls as they are, by a kept call
+abbrev pub is_kept : ProgramMarks → List Procedure → Procedure → List ℕ → Bool
+is_kept m ps head name = calls_some (has_adjoint m ps head) m.kept name 0 ps
+
+-- the units that are emitted as they are: those, and what they call
+abbrev pub is_carried : ProgramMarks → List Procedure → Procedure → List ℕ → Bool
+is_carried m ps head name = is_reached (is_kept m ps head) (λ i. true) ps name
+
+-- the names of the adjoints that are emitted
+abbrev pub made_names : ProgramMarks → List Procedure → Procedure → List Procedure → List (List ℕ)
+made_names m ps head [] = []
+made_names m ps head (u ∷ us) = if has_adjoint m ps head u.name then adjoint_name ps u ∷ made_names m ps head us else made_names m ps head us
+
+-- the names of all units, of the source and made
+abbrev pub all_units : ProgramMarks → List Procedure → Procedure → List (List ℕ)
+all_units m ps head = map unit_name ps ++ made_names m ps head ps
+
+-- the adjoint of a unit as it is emitted: only the head's clears shadows
+abbrev pub emitted_adjoint : ProgramMarks → List Procedure → Procedure → List Bool → List Bool → Procedure → Procedure
+emitted_adjoint m ps head vars outvars u =
+    let shadows = names_in (m.shadowed u.name) in
+    if name_eq head.name u.name
+    then adjoint_unit m ps (all_units m ps head) u (shadows (unmarked u.dummies outvars)) (shadows (unmarked u.dummies vars))
+    else adjoint_unit m ps (all_units m ps head) u [] []
+
+-- each unit as it is, where it is carried, and then its adjoint, where it has one
+abbrev pub emitted_units : ProgramMarks → List Procedure → Procedure → List Bool → List Bool → List Procedure → List Procedure
+emitted_units m ps head vars outvars [] = []
+emitted_units m ps head vars outvars (u ∷ us) =
+    (if is_carried m ps head u.name then u ∷ [] else [])
+    ++ ((if has_adjoint m ps head u.name then emitted_adjoint m ps head vars outvars u ∷ [] else []) ++ emitted_units m ps head vars outvars us)
+
+-- what is emitted for a head, if there is one
+abbrev pub emitted_for : ProgramMarks → List Procedure → List Bool → List Bool → List Procedure → List Procedure
+emitted_for m ps vars outvars [] = []
+emitted_for m ps vars outvars (u ∷ us) = emitted_units m ps u vars outvars ps
+
+-- the program that is emitted for the head of this number, of which the flags tell the independents and the dependents
+abbrev pub emitted_program : ProgramMarks → List Procedure → ℕ → List Bool → List Bool → List Procedure
+emitted_program m ps head vars outvars = emitted_for m ps vars outvars (unit_at head ps)
