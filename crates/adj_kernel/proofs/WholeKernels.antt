@@ -1,0 +1,134 @@
+-- The kernel by all its steps means what the program means.
+use Rattle.std.proofs.Common.{◌≡◌, ℕ, ◌*◌, ◌≤◌, Bool, true, false, List, [], ◌∷◌, ◌++◌, sym, ap, ◌∙◌, arith, subst, mul_assoc, mul-le-mul_left}
+use Rattle.std.specs.Prelude.{max, Option, Some, if◌then◌else◌}
+use Rattle.adj_tree.specs.Code.{name_eq, Procedure}
+use Rattle.adj_meaning.specs.Numbers.{Numbers}
+use Rattle.adj_meaning.specs.Written.{find_unit, handed_back}
+use Rattle.adj_meaning.specs.Units.{Slot, fits}
+use Rattle.adj_kernel.specs.Apart.{ShowWords, EachCall}
+use Rattle.adj_kernel.specs.Kernel.{PlainCode, EachUnit, IsFitCall, IsFit, lowered_unit}
+use Rattle.adj_kernel.specs.Form.{IsStepped, IsKernel}
+use Rattle.adj_kernel.specs.Stepped.{marked_in, step_names, cut, stepped_unit, stepped_from, names_of_source, stepped_program, kernel_of}
+use Rattle.adj_kernel.specs.StepTheorem.{nest, deepest, IsStepFor, IsCounted, HasExtents, StepFits, IsSource}
+use Rattle.adj_kernel.specs.Theorem.{MeansTheSame}
+use Rattle.adj_kernel.specs.StepMeans.{MeansAlike, WholeKernelMeansAlike}
+use Rattle.adj_kernel.proofs.Programs.{found_in, found_lowered}
+use Rattle.adj_kernel.specs.Weights.{WeighsAtMost}
+use Rattle.adj_kernel.proofs.Costs.{lowered_means}
+use Rattle.adj_kernel.proofs.Forms.{is_kernel}
+use Rattle.adj_kernel.proofs.StepLookups.{is_step_for, AllThere, program_there}
+use Rattle.adj_kernel.proofs.StepWritten.{step_written}
+use Rattle.adj_kernel.proofs.StepFitting.{good_unit}
+use Rattle.adj_kernel.proofs.StepMeanings.{means_alike}
+
+-- a unit that is found nests no deeper than the deepest
+found_nest : (us : List Procedure) (name : List ℕ) (v : Procedure) → find_unit us name ≡ Some v → nest v.body ≤ deepest us
+found_nest [] name v h = absurd cc
+found_nest (u ∷ us) name v h = go (name_eq u.name name) h (λ g. found_nest us name v g)
+  where
+    go : (b : Bool) → (if b then Some u else find_unit us name) ≡ Some v → (find_unit us name ≡ Some v → nest v.body ≤ deepest us) → nest v.body ≤ max (nest u.body) (deepest us)
+    go true g ih = let e : u ≡ v = cc in let f : nest u.body ≡ nest v.body = ap (λ (z : Procedure). nest z.body) e in omega (arith, f)
+    go false g ih = let l = ih g in omega (arith, l)
+
+module _ (C : Type 0) (units : List Procedure) (source : IsSource C units) where
+  abbrev units' : List Procedure
+  units' = stepped_program units
+
+  stepped : (name : List ℕ) (v : Procedure) → find_unit units name ≡ Some v → IsStepFor units' name v
+  stepped name v f = is_step_for units name v f
+
+  plainly : (name : List ℕ) (v : Procedure) → find_unit units name ≡ Some v → PlainCode v.body
+  plainly name v f = found_in (λ u. PlainCode u.body) units name v f source.fit.plains
+
+  counted : (name : List ℕ) (v : Procedure) → find_unit units name ≡ Some v → EachCall (IsCounted units) v.body
+  counted name v f = found_in (λ u. EachCall (IsCounted units) u.body) units name v f source.counted
+
+  pub written : (name : List ℕ) (v : Procedure) → find_unit units name ≡ Some v → handed_back units' name ≡ handed_back units name
+  written name v f = step_written units units' plainly counted stepped name v f
+
+  step_fits : (name : List ℕ) (v : Procedure) → find_unit units name ≡ Some v → StepFits C units units' (deepest units) name v
+  step_fits name v f = record { plainly = plainly name v f; each = counted name v f; extents = found_in (HasExtents C units) units name v f source.extents; stepped = stepped name v f; nests = found_nest units name v f }
+
+  -- ---- the stepped program fits
+
+  abbrev IsGood : Procedure → Type 0
+  IsGood p = PlainCode p.body × (EachCall (IsFitCall units' p) p.body × IsStepped p.body)
+
+  append_good : (ps qs : List Procedure) → EachUnit IsGood ps → EachUnit IsGood qs → EachUnit IsGood (ps ++ qs)
+  append_good [] qs h g = g
+  append_good (p ∷ ps) qs h g = (h.0, append_good ps qs h.1 g)
+
+  all_good : (us : List Procedure) (taken : List (List ℕ)) → EachUnit (λ u. PlainCode u.body) us → EachUnit (λ u. EachCall (IsFitCall units u) u.body) us → EachUnit (HasExtents C units) us → AllThere units' taken us → EachUnit IsGood (stepped_from taken us)
+  all_good [] taken p c x t = tt
+  all_good (u ∷ us) taken p c x t = append_good (stepped_unit taken u) (stepped_from (taken ++ step_names taken u.name (marked_in u.body)) us) (good_unit units units' stepped written taken u x.0.own x.0.flat p.0 c.0 t.0) (all_good us (taken ++ step_names taken u.name (marked_in u.body)) p.1 c.1 x.1 t.1)
+
+  good : EachUnit IsGood units'
+  good = all_good units (names_of_source units) source.fit.plains source.fit.calls source.extents (program_there units)
+
+  firsts : (ps : List Procedure) → EachUnit IsGood ps → EachUnit (λ p. PlainCode p.body) ps
+  firsts [] h = tt
+  firsts (p ∷ ps) h = (h.0.0, firsts ps h.1)
+
+  seconds : (ps : List Procedure) → EachUnit IsGood ps → EachUnit (λ p. EachCall (IsFitCall units' p) p.body) ps
+  seconds [] h = tt
+  seconds (p ∷ ps) h = (h.0.1.0, seconds ps h.1)
+
+  thirds : (ps : List Procedure) → EachUnit IsGood ps → EachUnit (λ p. IsStepped p.body) ps
+  thirds [] h = tt
+  thirds (p ∷ ps) h = (h.0.1.1, thirds ps h.1)
+
+  pub stepped_fit : IsFit units'
+  stepped_fit = record { plains = firsts units' good; calls = seconds units' good }
+
+  -- so the kernel is in kernel form
+  pub whole_kernel_form : IsKernel (kernel_of units)
+  whole_kernel_form = is_kernel units' stepped_fit (thirds units' good)
+
+  -- ---- both steps one after the other
+
+  module _ (n : Numbers C) (shows : ShowWords n) (m : ℕ) (weighs : EachUnit (λ u. WeighsAtMost m u.body) units') (name : List ℕ) (u : Procedure) (found : find_unit units name ≡ Some u) (input : List (Slot C)) (input_is : fits n u input ≡ true) (tape : List C) (room : Option ℕ) where
+    abbrev taken : List (List ℕ)
+    taken = (stepped name u found).taken
+
+    abbrev cut_unit : Procedure
+    cut_unit = record u { body = cut taken u 0 u.body }
+
+    abbrev kernel_unit : Procedure
+    kernel_unit = lowered_unit units' cut_unit
+
+    first : MeansAlike n units u units' cut_unit 2 input tape room
+    unfolding stepped step_fits
+    first = means_alike n units units' (deepest units) step_fits written name u found input input_is tape room
+
+    abbrev w : ℕ
+    w = 9 * m
+
+    second : MeansTheSame n units' cut_unit (kernel_of units) kernel_unit w input tape room
+    second = lowered_means n shows units' stepped_fit m weighs name cut_unit (stepped name u found).found input tape room
+
+    whole : MeansAlike n units u (kernel_of units) kernel_unit (w * 2) input tape room
+    whole = record {
+      done = λ k used out h.
+          let a = first.done k used out h in
+          let b = second.done a.ends.enough a.ends.used a.other (a.ends.runs a.ends.enough (omega arith)) in
+          record {
+            other = a.other;
+            ends = b.ends;
+            least = omega (arith, a.least, b.least);
+            most = omega (arith, b.most, mul-le-mul_left w a.most, mul_assoc w 2 used);
+            same = a.same;
+          };
+      traps = λ k line kind there h. let a = first.traps k line kind there h in second.traps a.enough line a.kind a.stands (a.runs a.enough (omega arith));
+      done_back = λ k used other h.
+          let b = second.done_back k used other h in
+          first.done_back b.enough b.used other (b.runs b.enough (omega arith));
+      traps_back = λ k line kind there h. let b = second.traps_back k line kind there h in first.traps_back k line b.kind b.stands b.is;
+    }
+
+pub whole_means_alike : {C : Type 0} → WholeKernelMeansAlike C
+whole_means_alike {C} n shows units source m weighs name u found input input_is tape room k kernel_is =
+    let is : find_unit (kernel_of units) name ≡ Some (kernel_unit C units source n shows m weighs name u found input input_is tape room) =
+    found_lowered (stepped_program units) (stepped_program units) name (cut_unit C units source n shows m weighs name u found input input_is tape room) (stepped C units source name u found).found in
+    let e : Some (kernel_unit C units source n shows m weighs name u found input input_is tape room) ≡ Some k = sym is ∙ kernel_is in
+    let same : kernel_unit C units source n shows m weighs name u found input input_is tape room ≡ k = cc in
+    subst (λ z. MeansAlike n units u (kernel_of units) z (9 * m * 2) input tape room) same (whole C units source n shows m weighs name u found input input_is tape room)

@@ -1,0 +1,43 @@
+//! What the kernel of a program is, and that it means what the program means.
+//!
+//! The crate holds no code that does work. `specs/` has the kernel as a function of the program: `Stepped.antt` makes units of
+//! the bodies of marked loops, `Lowered.antt` lowers statements, `Kernel.antt` has names, units and programs (docs/KERNEL.md).
+//! `proofs/` has the simulation, over any numbers whose words are shown as they are. The layer above uses `whole_kernel_laws`.
+#![tactic(auto)]
+
+ghost use Rattle.std.specs.Prelude.{ℤ};
+ghost use Rattle.adj_meaning.specs.Laws.{ForBoth};
+ghost use Rattle.adj_kernel.specs.Theorem.{BothShowWords, KernelMeansTheSame, KernelFitsTheSame, KernelWritesTheSame, KernelStatementsWriteTheSame, KernelHasItsForm};
+ghost use Rattle.adj_kernel.specs.StepMeans.{WholeKernelMeansAlike, WholeKernelHasItsForm, FirstStepWritesTheSame};
+ghost use Rattle.adj_kernel.specs.WeighTheorem.{StatementsWeigh, ListsWeigh, TowersWeigh, NothingToStep, KernelCostsItsWeight, CappedAreWeights};
+
+/// The kernel by all its steps means what the program means, but for the events of the calls of step units; it is in kernel form.
+pub fn whole_kernel_laws()
+    ensures shown { BothShowWords }
+    ensures means_alike { ForBoth WholeKernelMeansAlike }
+    ensures form { WholeKernelHasItsForm ℤ }
+    ensures first_step { FirstStepWritesTheSame ℤ }
+{}
+
+/// The lowered program of a program that fits means what the program means, over words and over words with tangents.
+pub fn kernel_laws()
+    ensures means_the_same { ForBoth KernelMeansTheSame }
+    ensures fits_the_same { ForBoth KernelFitsTheSame }
+{}
+
+/// The lowered units and statements write what the source's write; the lowered program is in kernel form.
+pub fn form_laws()
+    ensures units_write_the_same { KernelWritesTheSame }
+    ensures statements_write_the_same { KernelStatementsWriteTheSame }
+    ensures form { KernelHasItsForm }
+{}
+
+/// What a statement becomes weighs at most nine times what it weighs; so does a run of the kernel with statements at their weights.
+pub fn weight_laws()
+    ensures statements { StatementsWeigh }
+    ensures lists { ListsWeigh }
+    ensures towers { TowersWeigh }
+    ensures no_step { NothingToStep }
+    ensures cost { ForBoth KernelCostsItsWeight }
+    ensures capped { CappedAreWeights }
+{}
