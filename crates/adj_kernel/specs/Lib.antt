@@ -10,3 +10,5 @@ pub mod StepTheorem
 pub mod Theorem
 pub mod StepMeans
 pub mod WeighTheorem
+pub mod Samples
+pub mod Worked

@@ -9,6 +9,7 @@ ghost use Rattle.std.specs.Prelude.{ℤ};
 ghost use Rattle.adj_meaning.specs.Laws.{ForBoth};
 ghost use Rattle.adj_kernel.specs.Theorem.{BothShowWords, KernelMeansTheSame, KernelFitsTheSame, KernelWritesTheSame, KernelStatementsWriteTheSame, KernelHasItsForm};
 ghost use Rattle.adj_kernel.specs.StepMeans.{WholeKernelMeansAlike, WholeKernelHasItsForm, FirstStepWritesTheSame};
+ghost use Rattle.adj_kernel.specs.Worked.{OneEach, MaximumInMaximum, InOperations, LeftAlone, InPowers, TargetsApart, NamesOfCalls, ElementsOfCalls, ValuesOfCalls, BodiesLowered, LocalsNamed, StepUnits};
 ghost use Rattle.adj_kernel.specs.WeighTheorem.{StatementsWeigh, ListsWeigh, TowersWeigh, NothingToStep, KernelCostsItsWeight, CappedAreWeights};
 
 /// The kernel by all its steps means what the program means, but for the events of the calls of step units; it is in kernel form.
@@ -40,4 +41,20 @@ pub fn weight_laws()
     ensures no_step { NothingToStep }
     ensures cost { ForBoth KernelCostsItsWeight }
     ensures capped { CappedAreWeights }
+{}
+
+/// The kernels of statements and programs that were worked out by hand.
+pub fn worked_kernels()
+    ensures one_each { OneEach }
+    ensures maximum_in_maximum { MaximumInMaximum }
+    ensures in_operations { InOperations }
+    ensures left_alone { LeftAlone }
+    ensures in_powers { InPowers }
+    ensures targets_apart { TargetsApart }
+    ensures names_of_calls { NamesOfCalls }
+    ensures elements_of_calls { ElementsOfCalls }
+    ensures values_of_calls { ValuesOfCalls }
+    ensures bodies_lowered { BodiesLowered }
+    ensures locals_named { LocalsNamed }
+    ensures step_units { StepUnits }
 {}
