@@ -1,10 +1,13 @@
 -- A program and its lowered program, each statement counted once, and at its weight.
 use Rattle.std.proofs.Common.{◌≡◌, ◌*◌, List, [], ◌∷◌, refl, subst, arith}
 use Rattle.adj_tree.specs.Code.{Procedure}
+use Rattle.adj_meaning.specs.Units.{Output, run_unit}
+use Rattle.adj_meaning.specs.Follows.{Runs}
 use Rattle.adj_meaning.specs.Padded.{own_nodes, padded_procedure, padded_program}
 use Rattle.adj_meaning.proofs.PaddedPrograms.{unpadded}
 use Rattle.adj_kernel.specs.Kernel.{lowered_unit, lowered_program}
-use Rattle.adj_kernel.specs.Theorem.{MeansTheSame, KernelMeansTheSame}
+use Rattle.adj_kernel.specs.Means.{MeansTheSame}
+use Rattle.adj_kernel.specs.Theorem.{KernelMeansTheSame}
 use Rattle.adj_kernel.specs.WeighTheorem.{KernelCostsItsWeight}
 use Rattle.adj_kernel.proofs.Meanings.{means_the_same}
 use Rattle.adj_kernel.proofs.SameWritten.{same_written}
@@ -21,8 +24,9 @@ program_unpadded (u ∷ us) = λ i. unit_unpadded u i ∷ program_unpadded us i
 pub lowered_means : {C : Type 0} → KernelMeansTheSame C
 lowered_means n shows units fit m weighs name u found input tape room =
     let plain = means_the_same n shows (λ a. 0) (λ a. omega arith) units fit m weighs (same_written units fit) name u found input tape room in
-    subst (λ ps. MeansTheSame n units u ps (lowered_unit units u) (9 * m) input tape room) (program_unpadded (lowered_program units))
-    (subst (λ v. MeansTheSame n units u (padded_program (λ a. 0) (lowered_program units)) v (9 * m) input tape room) (unit_unpadded (lowered_unit units u)) plain)
+    let run : List Procedure → Procedure → Runs (Output _) = λ ps v. run_unit n ps v input tape room in
+    subst (λ ps. MeansTheSame (run units u) (run ps (lowered_unit units u)) (9 * m)) (program_unpadded (lowered_program units))
+    (subst (λ v. MeansTheSame (run units u) (run (padded_program (λ a. 0) (lowered_program units)) v) (9 * m)) (unit_unpadded (lowered_unit units u)) plain)
 
 -- each statement at its weight
 pub weighed_means : {C : Type 0} → KernelCostsItsWeight C

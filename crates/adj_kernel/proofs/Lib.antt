@@ -16,6 +16,7 @@ pub mod Calling
 pub mod Lists
 pub mod Locals
 pub mod Programs
+pub mod Followed
 pub mod Meanings
 pub mod Inputs
 pub mod Writes

@@ -1,20 +1,22 @@
 -- The kernel by all its steps means what the program means.
-use Rattle.std.proofs.Common.{◌≡◌, ℕ, ◌*◌, ◌≤◌, Bool, true, false, List, [], ◌∷◌, ◌++◌, sym, ap, ◌∙◌, arith, subst, mul_assoc, mul-le-mul_left}
+use Rattle.std.proofs.Common.{◌≡◌, ℕ, ◌*◌, ◌≤◌, Bool, true, false, List, [], ◌∷◌, ◌++◌, sym, ap, ◌∙◌, arith, subst, refl}
 use Rattle.std.specs.Prelude.{max, Option, Some, if◌then◌else◌}
 use Rattle.adj_tree.specs.Code.{name_eq, Procedure}
 use Rattle.adj_meaning.specs.Numbers.{Numbers}
 use Rattle.adj_meaning.specs.Written.{find_unit, handed_back}
-use Rattle.adj_meaning.specs.Units.{Slot, fits}
+use Rattle.adj_meaning.specs.Units.{Slot, fits, run_unit}
 use Rattle.adj_kernel.specs.Apart.{ShowWords, EachCall}
 use Rattle.adj_kernel.specs.Kernel.{PlainCode, EachUnit, IsFitCall, IsFit, lowered_unit}
 use Rattle.adj_kernel.specs.Form.{IsStepped, IsKernel}
 use Rattle.adj_kernel.specs.Stepped.{marked_in, step_names, cut, stepped_unit, stepped_from, names_of_source, stepped_program, kernel_of}
 use Rattle.adj_kernel.specs.StepTheorem.{nest, deepest, IsStepFor, IsCounted, HasExtents, StepFits, IsSource}
-use Rattle.adj_kernel.specs.Theorem.{MeansTheSame}
-use Rattle.adj_kernel.specs.StepMeans.{MeansAlike, WholeKernelMeansAlike}
+use Rattle.adj_kernel.specs.Means.{MeansAlike, MeansTheSame}
+use Rattle.adj_kernel.specs.StepMeans.{SameButCalls, WholeKernelHasUnits, WholeKernelMeansAlike}
 use Rattle.adj_kernel.proofs.Programs.{found_in, found_lowered}
 use Rattle.adj_kernel.specs.Weights.{WeighsAtMost}
 use Rattle.adj_kernel.proofs.Costs.{lowered_means}
+use Rattle.adj_kernel.proofs.SameWritten.{same_written}
+use Rattle.adj_kernel.proofs.Followed.{means_then}
 use Rattle.adj_kernel.proofs.Forms.{is_kernel}
 use Rattle.adj_kernel.proofs.StepLookups.{is_step_for, AllThere, program_there}
 use Rattle.adj_kernel.proofs.StepWritten.{step_written}
@@ -84,51 +86,46 @@ module _ (C : Type 0) (units : List Procedure) (source : IsSource C units) where
   pub whole_kernel_form : IsKernel (kernel_of units)
   whole_kernel_form = is_kernel units' stepped_fit (thirds units' good)
 
+  -- and it writes what the source writes
+  pub whole_written : (name : List ℕ) (v : Procedure) → find_unit units name ≡ Some v → handed_back (kernel_of units) name ≡ handed_back units name
+  whole_written name v f = same_written units' stepped_fit name ∙ written name v f
+
   -- ---- both steps one after the other
 
   module _ (n : Numbers C) (shows : ShowWords n) (m : ℕ) (weighs : EachUnit (λ u. WeighsAtMost m u.body) units') (name : List ℕ) (u : Procedure) (found : find_unit units name ≡ Some u) (input : List (Slot C)) (input_is : fits n u input ≡ true) (tape : List C) (room : Option ℕ) where
-    abbrev taken : List (List ℕ)
-    taken = (stepped name u found).taken
-
     abbrev cut_unit : Procedure
-    cut_unit = record u { body = cut taken u 0 u.body }
+    cut_unit = record u { body = cut (stepped name u found).taken u 0 u.body }
 
-    abbrev kernel_unit : Procedure
-    kernel_unit = lowered_unit units' cut_unit
-
-    first : MeansAlike n units u units' cut_unit 2 input tape room
+    first : MeansAlike SameButCalls (run_unit n units u input tape room) (run_unit n units' cut_unit input tape room) 2
     unfolding stepped step_fits
     first = means_alike n units units' (deepest units) step_fits written name u found input input_is tape room
 
-    abbrev w : ℕ
-    w = 9 * m
-
-    second : MeansTheSame n units' cut_unit (kernel_of units) kernel_unit w input tape room
+    second : MeansTheSame (run_unit n units' cut_unit input tape room) (run_unit n (kernel_of units) (lowered_unit units' cut_unit) input tape room) (9 * m)
     second = lowered_means n shows units' stepped_fit m weighs name cut_unit (stepped name u found).found input tape room
 
-    whole : MeansAlike n units u (kernel_of units) kernel_unit (w * 2) input tape room
-    whole = record {
-      done = λ k used out h.
-          let a = first.done k used out h in
-          let b = second.done a.ends.enough a.ends.used a.other (a.ends.runs a.ends.enough (omega arith)) in
-          record {
-            other = a.other;
-            ends = b.ends;
-            least = omega (arith, a.least, b.least);
-            most = omega (arith, b.most, mul-le-mul_left w a.most, mul_assoc w 2 used);
-            same = a.same;
-          };
-      traps = λ k line kind there h. let a = first.traps k line kind there h in second.traps a.enough line a.kind a.stands (a.runs a.enough (omega arith));
-      done_back = λ k used other h.
-          let b = second.done_back k used other h in
-          first.done_back b.enough b.used other (b.runs b.enough (omega arith));
-      traps_back = λ k line kind there h. let b = second.traps_back k line kind there h in first.traps_back k line b.kind b.stands b.is;
+    whole : MeansAlike SameButCalls (run_unit n units u input tape room) (run_unit n (kernel_of units) (lowered_unit units' cut_unit) input tape room) (18 * m)
+    whole =
+        let twice : 9 * m * 2 ≡ 18 * m = omega arith in
+        subst (λ z. MeansAlike SameButCalls (run_unit n units u input tape room) (run_unit n (kernel_of units) (lowered_unit units' cut_unit) input tape room) z) twice
+        (means_then SameButCalls (run_unit n units u input tape room) (run_unit n units' cut_unit input tape room) (run_unit n (kernel_of units) (lowered_unit units' cut_unit) input tape room) 2 (9 * m) first second)
+
+-- each unit of the source is there in the kernel
+pub whole_units : WholeKernelHasUnits
+whole_units units name u found =
+    let s = is_step_for units name u found in
+    record {
+      becomes = lowered_unit (stepped_program units) (record u { body = cut s.taken u 0 u.body });
+      found = found_lowered (stepped_program units) (stepped_program units) name (record u { body = cut s.taken u 0 u.body }) s.found;
+      same_name = refl;
+      same_line = refl;
+      same_dummies = refl;
     }
 
 pub whole_means_alike : {C : Type 0} → WholeKernelMeansAlike C
-whole_means_alike {C} n shows units source m weighs name u found input input_is tape room k kernel_is =
-    let is : find_unit (kernel_of units) name ≡ Some (kernel_unit C units source n shows m weighs name u found input input_is tape room) =
+whole_means_alike {C} n shows units source m weighs name u v found kernel_is input input_is tape room =
+    let w = lowered_unit (stepped_program units) (cut_unit C units source n shows m weighs name u found input input_is tape room) in
+    let is : find_unit (kernel_of units) name ≡ Some w =
     found_lowered (stepped_program units) (stepped_program units) name (cut_unit C units source n shows m weighs name u found input input_is tape room) (stepped C units source name u found).found in
-    let e : Some (kernel_unit C units source n shows m weighs name u found input input_is tape room) ≡ Some k = sym is ∙ kernel_is in
-    let same : kernel_unit C units source n shows m weighs name u found input input_is tape room ≡ k = cc in
-    subst (λ z. MeansAlike n units u (kernel_of units) z (9 * m * 2) input tape room) same (whole C units source n shows m weighs name u found input input_is tape room)
+    let e : Some w ≡ Some v = sym is ∙ kernel_is in
+    let same : w ≡ v = cc in
+    subst (λ z. MeansAlike SameButCalls (run_unit n units u input tape room) (run_unit n (kernel_of units) z input tape room) (18 * m)) same (whole C units source n shows m weighs name u found input input_is tape room)

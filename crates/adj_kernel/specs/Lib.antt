@@ -7,6 +7,7 @@ pub mod Kernel
 pub mod Stepped
 pub mod Form
 pub mod StepTheorem
+pub mod Means
 pub mod Theorem
 pub mod StepMeans
 pub mod WeighTheorem

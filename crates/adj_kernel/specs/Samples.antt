@@ -1,6 +1,6 @@
 -- How worked kernels are written.
-use Rattle.std.specs.Prelude.{◌≡◌, ℕ, pos, List, [], ◌∷◌, ◌++◌, Bool, true, false, if◌then◌else◌, codes}
-use Rattle.adj_tree.specs.Code.{Var, plain, name_eq, Term, lit, var, elem, neg, bin, abs, plus, times, quot, greater, lesser, Terms, none, more, Test, compare, is_less, Act, assign, choose, call, Code, stop, step, Extent, Declaration, Procedure}
+use Rattle.std.specs.Prelude.{◌≡◌, ℕ, pos, List, [], ◌∷◌, ◌++◌, true, false, if◌then◌else◌, codes}
+use Rattle.adj_tree.specs.Code.{Var, plain, name_eq, Term, lit, var, elem, neg, bin, greater, lesser, none, more, compare, is_less, Act, assign, choose, call, Code, stop, step, Extent, Declaration, Procedure}
 use Rattle.adj_meaning.specs.LeastSet.{Dummies}
 use Rattle.adj_transpose.specs.Fresh.{digits}
 use Rattle.adj_kernel.specs.Kernel.{wanted_local}

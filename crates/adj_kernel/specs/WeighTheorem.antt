@@ -4,13 +4,13 @@ use Rattle.adj_tree.specs.Code.{Var, Term, var, abs, none, Act, assign, Code, Pr
 use Rattle.adj_meaning.specs.Numbers.{Numbers}
 use Rattle.adj_meaning.specs.LeastSet.{Dummies}
 use Rattle.adj_meaning.specs.Written.{find_unit}
-use Rattle.adj_meaning.specs.Units.{Slot}
+use Rattle.adj_meaning.specs.Units.{Slot, run_unit}
 use Rattle.adj_meaning.specs.Padded.{own_nodes, padded_procedure, padded_program}
 use Rattle.adj_kernel.specs.Lowered.{lowered_assign, lowered_act, lowered}
 use Rattle.adj_kernel.specs.Apart.{ShowWords}
 use Rattle.adj_kernel.specs.Kernel.{lowered_unit, lowered_program, EachUnit, IsFit}
 use Rattle.adj_kernel.specs.Stepped.{marked_in, stepped_program}
-use Rattle.adj_kernel.specs.Theorem.{MeansTheSame}
+use Rattle.adj_kernel.specs.Means.{MeansTheSame}
 use Rattle.adj_kernel.specs.Weights.{weight, weight_with_bodies, total_weight, WeighsAtMost, capped}
 
 -- the kernel statements that one statement becomes weigh at most nine times what it weighs, all bodies counted on both sides
@@ -33,7 +33,7 @@ weighed_unit units u = padded_procedure own_nodes (lowered_unit units u)
 abbrev pub KernelCostsItsWeight : Type 0 → Type 0
 KernelCostsItsWeight C =
     (n : Numbers C) → ShowWords n → (units : List Procedure) → IsFit units → (m : ℕ) → EachUnit (λ u. WeighsAtMost m u.body) units → (name : List ℕ) (u : Procedure) → find_unit units name ≡ Some u →
-    (input : List (Slot C)) (tape : List C) (room : Option ℕ) → MeansTheSame n units u (weighed_program units) (weighed_unit units u) (9 * m) input tape room
+    (input : List (Slot C)) (tape : List C) (room : Option ℕ) → MeansTheSame (run_unit n units u input tape room) (run_unit n (weighed_program units) (weighed_unit units u) input tape room) (9 * m)
 
 -- where no statement weighs more than m + 1, weights that are capped at m are the weights
 abbrev pub CappedAreWeights : Type 0

@@ -1,6 +1,6 @@
 -- Statements and programs, and their kernels worked out by hand. (docs/KERNEL.md)
 use Rattle.std.specs.Prelude.{◌≡◌, ℕ, pos, List, [], ◌∷◌, codes}
-use Rattle.adj_tree.specs.Code.{plain, lit, var, abs, bin, pow, power_of, plus, minus, times, quot, modulo, none, more, Test, compare, is_less, is_greater, unmarked, count_from, Act, assign, choose, loop, during, call, Code, stop, step, Extent, fixed, given, Procedure}
+use Rattle.adj_tree.specs.Code.{plain, abs, bin, pow, power_of, plus, minus, times, quot, modulo, none, more, Test, compare, is_less, is_greater, unmarked, count_from, Act, choose, loop, during, call, Code, stop, step, Extent, fixed, given, Procedure}
 use Rattle.adj_kernel.specs.Stepped.{kernel_of}
 use Rattle.adj_kernel.specs.Samples.{number, the, at, at_two, larger, smaller, adv, sets, sets_at, sets_at_two, calls, listed, greatest, least, positive, Becomes, declares, unit_at}
 

@@ -8,16 +8,17 @@
 ghost use Rattle.std.specs.Prelude.{ℤ};
 ghost use Rattle.adj_meaning.specs.Laws.{ForBoth};
 ghost use Rattle.adj_kernel.specs.Theorem.{BothShowWords, KernelMeansTheSame, KernelFitsTheSame, KernelWritesTheSame, KernelStatementsWriteTheSame, KernelHasItsForm};
-ghost use Rattle.adj_kernel.specs.StepMeans.{WholeKernelMeansAlike, WholeKernelHasItsForm, FirstStepWritesTheSame};
+ghost use Rattle.adj_kernel.specs.StepMeans.{WholeKernelHasUnits, WholeKernelMeansAlike, WholeKernelHasItsForm, WholeKernelWritesTheSame};
 ghost use Rattle.adj_kernel.specs.Worked.{OneEach, MaximumInMaximum, InOperations, LeftAlone, InPowers, TargetsApart, NamesOfCalls, ElementsOfCalls, ValuesOfCalls, BodiesLowered, LocalsNamed, StepUnits};
 ghost use Rattle.adj_kernel.specs.WeighTheorem.{StatementsWeigh, ListsWeigh, TowersWeigh, NothingToStep, KernelCostsItsWeight, CappedAreWeights};
 
 /// The kernel by all its steps means what the program means, but for the events of the calls of step units; it is in kernel form.
 pub fn whole_kernel_laws()
+    ensures units { WholeKernelHasUnits }
     ensures shown { BothShowWords }
     ensures means_alike { ForBoth WholeKernelMeansAlike }
     ensures form { WholeKernelHasItsForm ℤ }
-    ensures first_step { FirstStepWritesTheSame ℤ }
+    ensures written_same { WholeKernelWritesTheSame ℤ }
 {}
 
 /// The lowered program of a program that fits means what the program means, over words and over words with tangents.

@@ -1,7 +1,7 @@
 -- Each law is a lemma, over words and over words with tangents.
 use Rattle.std.specs.Prelude.{ℤ}
 use Rattle.std.proofs.Common.{refl}
-use Rattle.adj_kernel.proofs.WholeKernels.{whole_means_alike, whole_kernel_form, written}
+use Rattle.adj_kernel.proofs.WholeKernels.{whole_units, whole_means_alike, whole_kernel_form, whole_written}
 use Rattle.adj_kernel.proofs.whole_kernel_laws.Goals as goal
 
 pub returns-clause-shown : goal.returns-clause-shown
@@ -13,5 +13,8 @@ returns-clause-means_alike c = (whole_means_alike {C = ℤ}, whole_means_alike {
 pub returns-clause-form : goal.returns-clause-form
 returns-clause-form c units source = whole_kernel_form ℤ units source
 
-pub returns-clause-first_step : goal.returns-clause-first_step
-returns-clause-first_step c units source = written ℤ units source
+pub returns-clause-written_same : goal.returns-clause-written_same
+returns-clause-written_same c units source = whole_written ℤ units source
+
+pub returns-clause-units : goal.returns-clause-units
+returns-clause-units c = whole_units
