@@ -359,10 +359,6 @@ module _ {C : Type 0} (q : Calls C) (n : Setting C) (inside : Var → Bool) (loc
     turned s t (comes t1 g c v) = with_value_of s t t1 g c (value n a s) (value n (reduced local j a) t1) refl refl v
     turned s t (stops k e x) = stops k (ap (λ z. then_ok z (λ u. Ok (absolute n.numbers u))) e) (stops_first q n (before local line j a) turning (at t) line x)
 
-  -- an expression without locals
-  leaf : (e : Term) (s t : Store C) → TermInside inside e → Agree s t → Goes q n stop (at t) (at t) 0 × SameOrNone (value n e s) (value n e t)
-  leaf e s t h g = (goes_stop q n (at t), as_it_was e s t h g)
-
   -- after the statements before it, the reduced expression has the value of the expression; or they trap where this has none
   pub prefixed : (e : Term) (j : ℕ) (s t : Store C) → TermInside inside e → Agree s t → Prefixed e j s t
   prefixed (lit z) j s t h g = comes t (goes_stop q n (at t)) (changes_none inside local (Range j 0) t) refl

@@ -1,6 +1,6 @@
 -- Statements and programs, and their kernels worked out by hand. (docs/KERNEL.md)
-use Rattle.std.specs.Prelude.{◌≡◌, ℕ, pos, List, [], ◌∷◌, codes}
-use Rattle.adj_tree.specs.Code.{plain, abs, bin, pow, power_of, plus, minus, times, quot, modulo, none, more, Test, compare, is_less, is_greater, unmarked, count_from, Act, choose, loop, during, call, Code, stop, step, Extent, fixed, given, Procedure}
+use Rattle.std.specs.Prelude.{◌≡◌, ℕ, pos, List, [], ◌∷◌, ◌++◌, codes}
+use Rattle.adj_tree.specs.Code.{plain, abs, bin, pow, power_of, plus, minus, times, quot, modulo, none, more, Test, compare, is_less, is_greater, unmarked, count_from, Act, choose, loop, during, call, Code, stop, step, Extent, fixed, given, Declaration, Procedure}
 use Rattle.adj_kernel.specs.Stepped.{kernel_of}
 use Rattle.adj_kernel.specs.Samples.{number, the, at, at_two, larger, smaller, adv, sets, sets_at, sets_at_two, calls, listed, greatest, least, positive, Becomes, declares, unit_at}
 
@@ -138,6 +138,28 @@ LocalsNamed =
     ≡ unit_at 1 (codes "P") (x ∷ adv 2 ∷ []) (declares 2 x [] ∷ declares 2 (adv 2) [] ∷ declares 1 (adv 1) [] ∷ declares 1 second [] ∷ [])
     (listed 5 (sets (adv 1) (the x) ∷ sets second (the (adv 2)) ∷ choose (compare is_less (the (adv 1)) (the second)) (listed 5 (sets (adv 1) (the second) ∷ [])) stop ∷ sets x (the (adv 1)) ∷ positive 1 (the x) (sets x (the (adv 1)) ∷ [])))
     ∷ []
+
+-- The example of docs/KERNEL.md, where G is a unit of the program that assigns its first dummy
+abbrev doubles : Procedure
+doubles = unit_at 6 (codes "G") (x ∷ z ∷ []) (declares 7 x [] ∷ declares 7 z [] ∷ []) (step 8 (sets x (bin plus (the x) (the z))) stop)
+
+abbrev nine : List Extent
+nine = fixed (pos 9) ∷ []
+
+abbrev own_declarations : List Declaration
+own_declarations = declares 2 i [] ∷ declares 2 j [] ∷ declares 2 a nine ∷ declares 2 y [] ∷ []
+
+abbrev locals_declared : List Declaration
+locals_declared = declares 1 (adv 1) [] ∷ declares 1 (adv 2) [] ∷ declares 1 (adv 3) [] ∷ declares 1 (adv 4) [] ∷ []
+
+abbrev pub WorkedExample : Type 0
+WorkedExample =
+    kernel_of (unit_at 1 (codes "P") (i ∷ j ∷ a ∷ y ∷ []) own_declarations (listed 5 (sets_at a (at a (the i)) (bin times (the y) (abs (at a (the j)))) ∷ calls (codes "G") (at a (larger (the i) (the j))) (the y) ∷ [])) ∷ doubles ∷ [])
+    ≡ unit_at 1 (codes "P") (i ∷ j ∷ a ∷ y ∷ []) (own_declarations ++ locals_declared)
+    (listed 5 (sets (adv 1) (at a (the i)) ∷ positive 2 (at a (the j))
+    (sets_at a (the (adv 1)) (bin times (the y) (the (adv 2))) ∷ greatest 2 3 (the i) (the j)
+    (sets (adv 1) (the (adv 2)) ∷ sets (adv 4) (at a (the (adv 1))) ∷ calls (codes "G") (the (adv 4)) (the y) ∷ sets_at a (the (adv 1)) (the (adv 4)) ∷ []))))
+    ∷ doubles ∷ []
 
 -- A marked loop in a marked loop, each with a number of snapshots that a variable says:
 --     SUBROUTINE P(N,U,S)                        SUBROUTINE P_S1(N,U,S,W,M,K,I)      SUBROUTINE P_S2(S,W,I)

@@ -9,7 +9,7 @@ ghost use Rattle.std.specs.Prelude.{ℤ};
 ghost use Rattle.adj_meaning.specs.Laws.{ForBoth};
 ghost use Rattle.adj_kernel.specs.Theorem.{BothShowWords, KernelMeansTheSame, KernelFitsTheSame, KernelWritesTheSame, KernelStatementsWriteTheSame, KernelHasItsForm};
 ghost use Rattle.adj_kernel.specs.StepMeans.{WholeKernelHasUnits, WholeKernelMeansAlike, WholeKernelHasItsForm, WholeKernelWritesTheSame};
-ghost use Rattle.adj_kernel.specs.Worked.{OneEach, MaximumInMaximum, InOperations, LeftAlone, InPowers, TargetsApart, NamesOfCalls, ElementsOfCalls, ValuesOfCalls, BodiesLowered, LocalsNamed, StepUnits};
+ghost use Rattle.adj_kernel.specs.Worked.{OneEach, MaximumInMaximum, InOperations, LeftAlone, InPowers, TargetsApart, NamesOfCalls, ElementsOfCalls, ValuesOfCalls, BodiesLowered, LocalsNamed, WorkedExample, StepUnits};
 ghost use Rattle.adj_kernel.specs.WeighTheorem.{StatementsWeigh, ListsWeigh, TowersWeigh, NothingToStep, KernelCostsItsWeight, CappedAreWeights};
 
 /// The kernel by all its steps means what the program means, but for the events of the calls of step units; it is in kernel form.
@@ -57,5 +57,6 @@ pub fn worked_kernels()
     ensures values_of_calls { ValuesOfCalls }
     ensures bodies_lowered { BodiesLowered }
     ensures locals_named { LocalsNamed }
+    ensures worked_example { WorkedExample }
     ensures step_units { StepUnits }
 {}

@@ -35,5 +35,8 @@ returns-clause-bodies_lowered c = (refl, (refl, refl))
 pub returns-clause-locals_named : goal.returns-clause-locals_named
 returns-clause-locals_named c = refl
 
+pub returns-clause-worked_example : goal.returns-clause-worked_example
+returns-clause-worked_example c = refl
+
 pub returns-clause-step_units : goal.returns-clause-step_units
 returns-clause-step_units c = refl
