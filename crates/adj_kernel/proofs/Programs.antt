@@ -12,7 +12,7 @@ use Rattle.adj_meaning.specs.Scene.{Scene, Go, stand, IsMore, Done, Trapped, the
 use Rattle.adj_meaning.specs.Run.{Calls, run}
 use Rattle.adj_meaning.specs.Agree.{AgreeOn}
 use Rattle.adj_meaning.specs.Written.{find_unit, handed_back, is_written}
-use Rattle.adj_meaning.specs.Units.{declared, extent_in, shape_of, setting_in, entered, unit_run, call_in, calls_of}
+use Rattle.adj_meaning.specs.Units.{declared, extent_in, shape_of, setting_in, dummy_shapes, entered, unit_run, call_in, calls_of}
 use Rattle.adj_meaning.specs.Follows.{Follows, both_more}
 use Rattle.adj_meaning.specs.Padded.{own_nodes, padded, padded_procedure, padded_program}
 use Rattle.adj_meaning.proofs.Appends.{append_assoc}
@@ -157,7 +157,7 @@ module _ (C : Type 0) (extra : Act → ℕ) (cheap : (a : Act) → extra a ≤ o
         (lists_follow extra cheap (source depth) (kernel depth) here (self_alike depth) (is_of u) (local_in units u) (unit_locals units u) shows (handed_back units) (IsFitCall units u) w depth
         (λ name1 args line1 f h few1 s1 t1 a1 k1 le1. calls u n shows s.store name1 args line1 f h few1 s1 t1 a1 k1 le1) m few
         u.body (own_body u (found_in (λ u. PlainCode u.body) units name u found fit.plains)) (found_in (λ u. EachCall (IsFitCall units u) u.body) units name u found fit.calls) (found_in (λ u. WeighsAtMost m u.body) units name u found weighed) (entered n u s) (entered n (padded_unit u) t)
-        (record { store = a.store; tape = a.tape; opened = refl; events = λ i. Enter u.name (suc n.level) (length (a.tape i)) ∷ a.events i }) k le)
+        (record { store = a.store; tape = a.tape; opened = refl; events = λ i. Enter u.name (suc n.level) (length (a.tape i)) (dummy_shapes (same i) u) ∷ a.events i }) k le)
         (λ s1 t1 i l r. ends s1 t1 i r))
       where
         here : Setting C

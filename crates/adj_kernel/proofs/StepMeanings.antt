@@ -32,7 +32,7 @@ use Rattle.adj_kernel.proofs.Followed.{stays_ended, means_followed}
 
 marked_append : (xs ys : List Event) → marked_of (xs ++ ys) ≡ marked_of xs ++ marked_of ys
 marked_append [] ys = refl
-marked_append (Enter a b c ∷ xs) ys = marked_append xs ys
+marked_append (Enter a b c d ∷ xs) ys = marked_append xs ys
 marked_append (Begin a b c d ∷ xs) ys = marked_append xs ys
 marked_append (End a ∷ xs) ys = marked_append xs ys
 marked_append (Marked a b c ∷ xs) ys = ap (λ z. Marked a b c ∷ z) (marked_append xs ys)
@@ -43,7 +43,7 @@ nothing_behind (x ∷ xs) = ap (λ z. x ∷ z) (nothing_behind xs)
 
 marked_reverse : (xs : List Event) → marked_of (reverse xs) ≡ reverse (marked_of xs)
 marked_reverse [] = refl
-marked_reverse (Enter a b c ∷ xs) = ap marked_of (reverse-cons (Enter a b c) xs) ∙ marked_append (reverse xs) (Enter a b c ∷ []) ∙ nothing_behind (marked_of (reverse xs)) ∙ marked_reverse xs
+marked_reverse (Enter a b c d ∷ xs) = ap marked_of (reverse-cons (Enter a b c d) xs) ∙ marked_append (reverse xs) (Enter a b c d ∷ []) ∙ nothing_behind (marked_of (reverse xs)) ∙ marked_reverse xs
 marked_reverse (Begin a b c d ∷ xs) = ap marked_of (reverse-cons (Begin a b c d) xs) ∙ marked_append (reverse xs) (Begin a b c d ∷ []) ∙ nothing_behind (marked_of (reverse xs)) ∙ marked_reverse xs
 marked_reverse (End a ∷ xs) = ap marked_of (reverse-cons (End a) xs) ∙ marked_append (reverse xs) (End a ∷ []) ∙ nothing_behind (marked_of (reverse xs)) ∙ marked_reverse xs
 marked_reverse (Marked a b c ∷ xs) = ap marked_of (reverse-cons (Marked a b c) xs) ∙ marked_append (reverse xs) (Marked a b c ∷ []) ∙ ap (λ z. z ++ (Marked a b c ∷ [])) (marked_reverse xs) ∙ sym (reverse-cons (Marked a b c) (marked_of xs))

@@ -14,7 +14,7 @@ use Rattle.adj_kernel.specs.Stepped.{marked_in, marked_in_act, names_extent, ste
 -- the events of marked loops alone
 abbrev pub marked_of : List Event → List Event
 marked_of [] = []
-marked_of (Enter name level height ∷ es) = marked_of es
+marked_of (Enter name level height shapes ∷ es) = marked_of es
 marked_of (Begin l m level height ∷ es) = marked_of es
 marked_of (End level ∷ es) = marked_of es
 marked_of (Marked line turns snapshots ∷ es) = Marked line turns snapshots ∷ marked_of es
