@@ -4,12 +4,13 @@ use Rattle.std.specs.Prelude.{codes, not, ◌&&◌, bytes_eq}
 use Rattle.std.specs.Fmt.{decimal}
 use Rattle.std.specs.List.{list_all}
 use Rattle.std.specs.Option.{unwrap_or}
-use Rattle.std.proofs.lemmas.Bool.{eqb-true, ne_eqb, cases_lt, lt-ltb, le-ltb}
+use Rattle.std.proofs.lemmas.Bool.{eqb-true, cases_lt, lt-ltb, le-ltb}
 use Rattle.std.proofs.lemmas.Fmt.{decimal_digit, decimal_step}
 use Rattle.std.proofs.lemmas.Slice.Eq.{bytes_eq-Decides}
 use Rattle.adj_text.specs.Limits.{no_limits}
 use Rattle.adj_text.specs.Line.{cut_lines, without_cr, next_number, is_data, begins_in_either_case, is_directive, operand_of}
 use Rattle.adj_text.specs.Lined.{Pass, flushed, with_line, pass_over}
+use Rattle.adj_tree.specs.Code.{with_count}
 use Rattle.adj_text.specs.Text.{directive}
 use Rattle.adj_text.proofs.Classes.{no_true}
 use Rattle.adj_text.proofs.Joins.{over_line}
@@ -98,11 +99,11 @@ unfolding with_line
 with_one p k n l h d = rw (d.is_one, h, d.gives) refl
 
 -- the printed line of a directive is read as one
-pub over_directive : (p : Pass) (k n : ℕ) (rest : List ℕ) → p.pending ≡ None → 0 < n → n ≤ 64 → pass_over no_limits p k (cut_lines (directive n ++ rest)) ≡ pass_over no_limits (behind p k n) (next_number k) (cut_lines rest)
+pub over_directive : (p : Pass) (k n : ℕ) (rest : List ℕ) → p.pending ≡ None → 0 < n → n ≤ 64 → pass_over no_limits p k (cut_lines (directive (with_count n) ++ rest)) ≡ pass_over no_limits (behind p k n) (next_number k) (cut_lines rest)
 over_directive p k n rest h some le =
     let l = line_with (decimal n) in
     let d = directive_line n some le in
-    let is : directive n ≡ l ++ 10 ∷ [] = rw (ne_eqb n 0 (λ e. omega arith)) refl in
+    let is : directive (with_count n) ≡ l ++ 10 ∷ [] = refl in
     ap (λ cs. pass_over no_limits p k (cut_lines cs)) (ap (λ cs. cs ++ rest) is ∙ append_assoc l (10 ∷ []) rest)
     ∙ ap (λ ls. pass_over no_limits p k ls) (cut_clean l rest d.no_line_feed)
     ∙ over_line p (behind p k n) k l (cut_lines rest) d.stays d.no_data (with_one p k n l h d)

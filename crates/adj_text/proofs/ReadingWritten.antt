@@ -7,7 +7,7 @@ use Rattle.std.proofs.lemmas.List.{take-append-drop, length-take-le, drop_all}
 use Rattle.adj_tree.specs.Code.{Procedure}
 use Rattle.adj_tree.specs.declared.fault.Refusal.{Refusal}
 use Rattle.adj_text.specs.Class.{class_of, is_matched}
-use Rattle.adj_text.specs.Form.{Statement}
+use Rattle.adj_text.specs.Form.{Statement, mark_by}
 use Rattle.adj_text.specs.Limits.{no_limits}
 use Rattle.adj_text.specs.Lined.{Lines, lines_of}
 use Rattle.adj_text.specs.Reads as texts
@@ -16,7 +16,7 @@ use Rattle.adj_text.specs.Refused.{◌>>=◌}
 use Rattle.adj_text.specs.Stated.{keyword_len, ending_len, call_place, tokens_of, is_too_long, with_tokens, with_class, stated, all_stated}
 use Rattle.adj_text.specs.Token.{tokens_from}
 use Rattle.adj_text.specs.Word.{words_of}
-use Rattle.adj_text.specs.Written.{IsWritten}
+use Rattle.adj_text.specs.Written.{IsWrittenMark, IsWritten}
 use Rattle.adj_text.specs.Fits.{Fits}
 use Rattle.adj_text.specs.declared.stated.Kind.{Kind}
 use Rattle.adj_text.specs.declared.stated.Stated.{Stated}
@@ -101,9 +101,14 @@ all_named (l ∷ ls) ss m e =
     let q : a.0 ∷ b.0 ≡ ss = cc in
     subst AreNamedStatements q (few, n.words, all_named ls b.0 m.1 b.1)
 
+-- the mark of at most 64 snapshots
+mark_written : (n : ℕ) → n ≤ 64 → IsWrittenMark (mark_by n)
+mark_written zero h = tt
+mark_written (suc n) h = (omega arith, h)
+
 forms_written : {ss : List Stated} {ts : List Statement} → ReadsAll ss ts → AreNamedStatements ss → AreWrittenForms ts
 forms_written texts.ReadsAll.none h = tt
-forms_written (texts.ReadsAll.more d rest) h = (form_written d h.1 h.0, forms_written rest h.2)
+forms_written (texts.ReadsAll.more d rest) h = (form_written d h.1 (mark_written _ h.0), forms_written rest h.2)
 
 pub reading_written : (bytes : List ℕ) (ps : List Procedure) → Reads bytes ps → Fits ps → IsWritten ps
 reading_written bytes ps r f =

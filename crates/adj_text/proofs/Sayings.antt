@@ -2,6 +2,7 @@
 use Rattle.std.proofs.Common.{◌≡◌, ℕ, true, false, List, [], ◌∷◌, ◌++◌, refl, ap, ◌∙◌, arith}
 use Rattle.std.specs.List.{flat_map, list_all}
 use Rattle.std.proofs.lemmas.Bool.Decides.{nat_tests}
+use Rattle.adj_tree.specs.Code as trees
 use Rattle.adj_text.specs.declared.stated.Kind.{Kind}
 use Rattle.adj_text.specs.declared.token.TokenKind.{TokenKind}
 use Rattle.adj_text.specs.declared.token.TokenKind.TheVariants as kinds
@@ -68,7 +69,7 @@ solid_words (Digits ds ∷ ws) a = solid-append ds (flat_map spelling ws) (solid
 solid_words (Mark k ∷ ws) a = solid-append (chars_of k) (flat_map spelling ws) (solid_mark k) (solid_words ws a.2)
 
 -- a keyword with blanks among it, and words behind it
-pub says_words : (mark : ℕ) (kind : Kind) (first : ℕ) (lead keyword : List ℕ) (ws : List Word) (chars : List ℕ) (f : Form) → chars ≡ (first ∷ lead) ++ flat_map spelling ws → folded (first ∷ lead) ≡ keyword → is_blank first ≡ false → AreAllowed (first ∷ lead) → IsStatement kind keyword ws → ReadsForm mark kind ws f → SaysChars mark chars f
+pub says_words : (mark : trees.Mark) (kind : Kind) (first : ℕ) (lead keyword : List ℕ) (ws : List Word) (chars : List ℕ) (f : Form) → chars ≡ (first ∷ lead) ++ flat_map spelling ws → folded (first ∷ lead) ≡ keyword → is_blank first ≡ false → AreAllowed (first ∷ lead) → IsStatement kind keyword ws → ReadsForm mark kind ws f → SaysChars mark chars f
 says_words mark kind first lead keyword ws chars f are folds some allowed h form =
     let solid = solid_words ws h.spaced in
     record {
@@ -81,7 +82,7 @@ says_words mark kind first lead keyword ws chars f are folds some allowed h form
     }
 
 -- a statement without a keyword: its first word is a name
-pub says_named : (mark : ℕ) (kind : Kind) (x : List ℕ) (ws : List Word) (chars : List ℕ) (f : Form) → chars ≡ x ++ flat_map spelling ws → IsStatement kind [] (Named x ∷ ws) → ReadsForm mark kind (Named x ∷ ws) f → SaysChars mark chars f
+pub says_named : (mark : trees.Mark) (kind : Kind) (x : List ℕ) (ws : List Word) (chars : List ℕ) (f : Form) → chars ≡ x ++ flat_map spelling ws → IsStatement kind [] (Named x ∷ ws) → ReadsForm mark kind (Named x ∷ ws) f → SaysChars mark chars f
 says_named mark kind [] ws chars f are h form = absurd (cc (h.spaced.0))
 says_named mark kind (c ∷ cs) ws chars f are h form =
     let solid = solid_words (Named (c ∷ cs) ∷ ws) h.spaced in

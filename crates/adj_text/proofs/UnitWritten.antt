@@ -1,7 +1,7 @@
 -- UnitWritten: the units that statements make are written, where their literals fit.
-use Rattle.std.proofs.Common.{ℕ, ◌≤◌, Bool, List, [], ◌∷◌, ◌++◌, map, sym, subst}
+use Rattle.std.proofs.Common.{ℕ, Bool, List, [], ◌∷◌, ◌++◌, map, sym, subst}
 use Rattle.std.specs.List.{All}
-use Rattle.adj_tree.specs.Code.{Act, Code, Declaration, Procedure}
+use Rattle.adj_tree.specs.Code.{Mark, Act, Code, Declaration, Procedure}
 use Rattle.adj_text.specs.Block as blocks
 use Rattle.adj_text.specs.Block.{ReadsBody, ReadsAct, ReadsElse}
 use Rattle.adj_text.specs.Form as forms
@@ -11,7 +11,7 @@ use Rattle.adj_text.specs.Unit as units
 use Rattle.adj_text.specs.Unit.{ReadsImplicit, declaration_of, ReadsDeclarations, ReadsEnd, ReadsUnit, ReadsUnits}
 use Rattle.adj_text.specs.Word.{Word}
 use Rattle.adj_text.specs.declared.stated.Kind.{Kind}
-use Rattle.adj_text.specs.Written.{IsName, IsWrittenCode, IsWrittenDeclaration, IsWrittenProcedure, IsWritten}
+use Rattle.adj_text.specs.Written.{IsName, IsWrittenMark, IsWrittenCode, IsWrittenDeclaration, IsWrittenProcedure, IsWritten}
 use Rattle.adj_text.specs.Fits.{FitsCode, FitsExtent, FitsProcedure, Fits}
 use Rattle.adj_text.proofs.TermWritten.{AreWords}
 use Rattle.adj_text.proofs.FormWritten.{all_nil, all_cons, TestWhereFits, ActWhereFits, assignment_written, head_written, AreWrittenItems, items_written, IsWrittenRange, do_written, guard_written}
@@ -24,12 +24,12 @@ IsWrittenForm (subroutine x xs) = IsName x × All IsName xs
 IsWrittenForm (integers is) = AreWrittenItems is
 IsWrittenForm (simple a) = ActWhereFits a
 IsWrittenForm (logical c a) = TestWhereFits c × ActWhereFits a
-IsWrittenForm (opens_do l r n) = IsWrittenRange r × (n ≤ 64)
+IsWrittenForm (opens_do l r m) = IsWrittenRange r × IsWrittenMark m
 IsWrittenForm (opens_if c) = TestWhereFits c
 IsWrittenForm (otherwise_if c) = TestWhereFits c
 IsWrittenForm _ = Unit {0}
 
-pub form_written : {mark : ℕ} {kind : Kind} {ts : List Word} {f : Form} → ReadsForm mark kind ts f → AreWords ts → mark ≤ 64 → IsWrittenForm f
+pub form_written : {mark : Mark} {kind : Kind} {ts : List Word} {f : Form} → ReadsForm mark kind ts f → AreWords ts → IsWrittenMark mark → IsWrittenForm f
 form_written (forms.ReadsForm.heading d) h m = head_written d h
 form_written forms.ReadsForm.implicit h m = tt
 form_written (forms.ReadsForm.declaration d) h m = items_written d h
