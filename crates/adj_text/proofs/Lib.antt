@@ -34,6 +34,8 @@ pub mod WrittenSays
 pub mod BranchSays
 pub mod Directives
 pub mod WrittenBack
+pub mod Parts
+pub mod Literals
 pub mod TermWritten
 pub mod FormWritten
 pub mod CallWritten

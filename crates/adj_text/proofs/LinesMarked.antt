@@ -10,7 +10,7 @@ use Rattle.adj_text.specs.Line.{cut_lines, without_cr, next_number, is_data, col
 use Rattle.adj_text.specs.Lined.{Lines, Directive, Pass, start, flushed, with_directive, mark_of, with_initial, has_room, with_continuation, behind_directive, with_line, ended, pass_over, lines_of}
 use Rattle.adj_text.specs.Refused.{◌>>=◌}
 use Rattle.adj_text.proofs.Scans.{both_true}
-use Rattle.adj_text.proofs.TermWritten.{then_some}
+use Rattle.adj_text.proofs.Parts.{then_some}
 
 -- at most 64 snapshots before each
 abbrev pub AreMarked : List Lines → Type 0
