@@ -7,7 +7,7 @@ use Rattle.adj_tree.specs.declared.fault.Refusal.{Refusal}
 use Rattle.adj_text.specs.Char.{blank, nought, is_between, is_digit, are_blank, is_allowed, number_of}
 use Rattle.adj_text.specs.Limits.{no_limits}
 use Rattle.adj_text.specs.Line.{cut_lines, without_cr, next_number, is_data, column, is_directive, is_comment, is_continuation, body, label_of, behind_blanks, behind_name, snapshots_of, operand_of}
-use Rattle.adj_text.specs.Lined.{Lines, Directive, Pass, start, flushed, with_directive, mark_of, with_initial, has_room, with_continuation, behind_directive, with_line, ended, pass_over, lines_of}
+use Rattle.adj_text.specs.Lined.{Lines, Directive, Pass, start, flushed, with_directive, directive_before, with_initial, has_room, with_continuation, behind_directive, with_line, ended, pass_over, lines_of}
 use Rattle.adj_text.specs.Refused.{◌>>=◌}
 use Rattle.adj_text.proofs.Scans.{both_true}
 use Rattle.adj_text.proofs.TermWritten.{then_some}
@@ -41,7 +41,7 @@ current_listed (Some s) h = (h, tt)
 marked-flushed : (p : Pass) → IsMarked p → AreMarked (flushed p)
 marked-flushed p h = marked-append p.done (option_to_list p.current) h.before (current_listed p.current h.now)
 
-pending_mark : (o : Option Directive) → PendingMarked o → (mark_of o).snapshots ≤ 64
+pending_mark : (o : Option Directive) → PendingMarked o → (directive_before o).snapshots ≤ 64
 pending_mark None h = omega arith
 pending_mark (Some d) h = h
 

@@ -5,7 +5,7 @@ use Rattle.adj_text.specs.Char.{is_blank, folded}
 use Rattle.adj_text.specs.Form.{Form, Statement, at}
 use Rattle.adj_text.specs.Limits.{no_limits}
 use Rattle.adj_text.specs.Line.{cut_lines, next_number}
-use Rattle.adj_text.specs.Lined.{Lines, Pass, flushed, mark_of, start, pass_over}
+use Rattle.adj_text.specs.Lined.{Lines, Pass, flushed, directive_before, start, pass_over}
 use Rattle.adj_text.specs.Reads.{Reads}
 use Rattle.adj_text.specs.Text.{directive, statement}
 use Rattle.adj_text.specs.Unit.{ReadsUnits}
@@ -37,7 +37,7 @@ pub data AreAt : List Statement → List Form → Type 0 where
 
 -- the statement that begins at line n behind what a pass has
 abbrev begun : Pass → ℕ → List ℕ → Lines
-begun p n text = record { line = n; label = 0; mark = (mark_of p.pending).snapshots; mark_line = (mark_of p.pending).line; text = text; room = None }
+begun p n text = record { line = n; label = 0; mark = (directive_before p.pending).mark; mark_line = (directive_before p.pending).line; text = text; room = None }
 
 over_statement : (p : Pass) (n mark : ℕ) (chars cs : List ℕ) (f : Form) → SaysChars mark chars f → (m : ℕ) × (pass_over no_limits p n (cut_lines (statement chars ++ cs)) ≡ pass_over no_limits (going p n (folded chars)) m (cut_lines cs))
 over_statement p n mark chars cs f h =
@@ -66,9 +66,9 @@ read_on : {cs : List ℕ} {fs : List Form} → Printed cs fs → (p : Pass) (n :
 read_on none p n h = at_end p n h
 read_on (more {chars = chars} {cs = cs} {f = f} {fs = fs} s rest) p n h =
     let P : ℕ → Type 0 = λ mark. SaysChars mark chars f in
-    let here : SaysChars (mark_of p.pending).snapshots chars f = subst P (sym (ap (λ o. (mark_of o).snapshots) h)) s in
+    let here : SaysChars (directive_before p.pending).mark chars f = subst P (sym (ap (λ o. (directive_before o).snapshots) h)) s in
     let text = folded chars in
-    let over = over_statement p n (mark_of p.pending).snapshots chars cs f here in
+    let over = over_statement p n (directive_before p.pending).mark chars cs f here in
     let r = read_on rest (going p n text) over.0 refl in
     record {
       lines = begun p n text ∷ r.lines;
