@@ -94,10 +94,7 @@ impl Reader {
             return Err(refused(20, number));
         };
         self.flush()?;
-        self.pending = Some(Directive {
-            mark,
-            line: number,
-        });
+        self.pending = Some(Directive { mark, line: number });
         Ok(())
     }
 

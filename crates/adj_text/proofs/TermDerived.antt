@@ -5,7 +5,7 @@ use Rattle.std.proofs.lemmas.Bool.{cases_lt, lt-ltb, le-ltb, le-leb}
 use Rattle.std.specs.Fmt.{decimal}
 use Rattle.std.proofs.lemmas.List.Sums.{fold_push}
 use Rattle.std.proofs.lemmas.Fmt.{decimal_by_steps}
-use Rattle.adj_tree.specs.Code.{Op, plus, minus, times, quot, modulo, greater, lesser, Term, Terms, lit, var, elem, neg, bin, pow, abs, none, more, plain, shadow, helper}
+use Rattle.adj_tree.specs.Code.{Op, plus, minus, times, quot, modulo, greater, lesser, Term, Terms, lit, var, elem, neg, bin, pow, power_of, abs, none, more, plain, shadow, helper}
 use Rattle.adj_text.specs.declared.token.TokenKind.TheVariants.{Power, Star, Slash, Plus, Minus, Left, Right, Comma}
 use Rattle.adj_text.specs.Char.{number_of}
 use Rattle.adj_text.specs.Grammar.{Syntax, number, variable, negated, joined, raised, applied, Arguments, only, beside, Symbol, Sum, Product, Factor, Primary, adds, subtracts, multiplies, divides, Derives, DerivesAll, literal, name, group, application, primary, power, factor, product, term, sign, sum, single, another, exponent, with_both, tree, trees_before, operation_of, is_absolute, application_of, takes, count_of, ReadsTerm, ReadsTerms}
@@ -170,6 +170,7 @@ derives (bin modulo a b) h = intrinsic (codes "MOD") modulo (enclosed_words (ltb
 derives (bin greater a b) h = intrinsic (codes "MAX") greater (enclosed_words (ltb (term_level a) 0) (term_words a)) (enclosed_words (ltb (term_level b) 0) (term_words b)) a b refl (operand (term_level a) 0 (term_words a) a (derives a h.0)) (operand (term_level b) 0 (term_words b) b (derives b h.1))
 derives (bin lesser a b) h = intrinsic (codes "MIN") lesser (enclosed_words (ltb (term_level a) 0) (term_words a)) (enclosed_words (ltb (term_level b) 0) (term_words b)) a b refl (operand (term_level a) 0 (term_words a) a (derives a h.0)) (operand (term_level b) 0 (term_words b) b (derives b h.1))
 derives (pow a k) h = raised_to (enclosed_words (ltb (term_level a) 3) (term_words a)) a k h.1 (operand (term_level a) 3 (term_words a) a (derives a h.0))
+derives (power_of a b) h = absurd h
 derives (abs a) h = absolute (term_words a) a (lower (term_level a) 0 (term_words a) a (omega arith) (derives a h))
 
 -- in a place, in parentheses where its level is below that of the place
