@@ -39,6 +39,12 @@ fn pow(alloc: Global, base: Made<Expr>, exponent: u32) -> Made<Expr> {
     Ok(Expr::Pow(Box::new(alloc, base?)?, exponent))
 }
 
+fn power(alloc: Global, base: Made<Expr>, exponent: Made<Expr>) -> Made<Expr> {
+    let base = Box::new(alloc, base?)?;
+    let exponent = Box::new(alloc, exponent?)?;
+    Ok(Expr::Power(base, exponent))
+}
+
 fn less(alloc: Global, left: Made<Expr>, right: Made<Expr>) -> Made<Cond> {
     let left = Box::new(alloc, left?)?;
     let right = Box::new(alloc, right?)?;
@@ -174,6 +180,22 @@ fn parentheses_stand_where_the_level_is_too_low(rt: HostRuntime) -> Result<(), F
     let sum = bin(at, Op::Add, var(at, "A"), var(at, "B"));
     assert!(rt; is_shown(at, neg(at, sum), "-(A+B)")?);
     assert!(rt; is_shown(at, pow(at, neg(at, var(at, "A")), 2), "(-A)**2")?);
+    Ok(())
+}
+
+#[test]
+fn exponents_have_their_parentheses(rt: HostRuntime) -> Result<(), Fail> {
+    let at = rt.alloc();
+    let sum = bin(at, Op::Add, var(at, "N"), lit(1));
+    assert!(rt; is_shown(at, power(at, var(at, "X"), sum), "X**(N+1)")?);
+    let quotient = bin(at, Op::Quot, lit(4), lit(2));
+    assert!(rt; is_shown(at, power(at, var(at, "X"), quotient), "X**(4/2)")?);
+    let right = power(at, lit(2), var(at, "N"));
+    assert!(rt; is_shown(at, power(at, var(at, "X"), right), "X**2**N")?);
+    let left = pow(at, var(at, "X"), 2);
+    assert!(rt; is_shown(at, power(at, left, var(at, "N")), "(X**2)**N")?);
+    let whole = power(at, var(at, "X"), var(at, "N"));
+    assert!(rt; is_shown(at, neg(at, whole), "-X**N")?);
     Ok(())
 }
 

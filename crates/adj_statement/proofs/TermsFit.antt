@@ -8,7 +8,7 @@ use Rattle.adj_text.specs.Condition.{Condition, compared, denied, both, either, 
 use Rattle.adj_text.specs.Fits.{FitsTerm, FitsTerms, FitsTest, FitsRuntime, FitsAct}
 use Rattle.adj_text.specs.Grammar.{Syntax, number, variable, negated, joined, raised, applied, Arguments, only, beside, exponent, tree, trees_before, operation_of, is_absolute, application_of, two_arguments}
 use Rattle.adj_text.specs.Statement.{as_place, as_name, as_value, as_beginning, as_count, as_action, as_nothing, runtime_call, called, called_as}
-use Rattle.adj_text.proofs.TermWritten.{map_some, then_some, both_some}
+use Rattle.adj_text.proofs.Parts.{map_some, then_some, both_some}
 use Rattle.adj_expression.specs.Judged.{has_large, any_large, test_large}
 
 -- an intrinsic with its arguments, or an element

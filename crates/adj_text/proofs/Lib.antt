@@ -36,6 +36,8 @@ pub mod BranchSays
 pub mod Repeated
 pub mod Directives
 pub mod WrittenBack
+pub mod Parts
+pub mod Literals
 pub mod TermWritten
 pub mod FormWritten
 pub mod CallWritten

@@ -16,7 +16,7 @@ use Rattle.adj_text.specs.Lined.{Lines, Directive, Pass, start, flushed, with_di
 use Rattle.adj_text.specs.Refused.{◌>>=◌}
 use Rattle.adj_text.specs.Written.{IsName, IsWrittenMark}
 use Rattle.adj_text.proofs.Scans.{both_true}
-use Rattle.adj_text.proofs.TermWritten.{then_some}
+use Rattle.adj_text.proofs.Parts.{then_some}
 
 -- the mark before each is written
 abbrev pub AreMarked : List Lines → Type 0

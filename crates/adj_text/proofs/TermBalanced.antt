@@ -61,7 +61,7 @@ mutual
   term_balanced (neg a) h = balanced-append (45 ∷ []) (enclosed (nat_lt (term_level a) 1) (term_text a)) (balanced-plain_char 45 refl) (balanced-enclosed (nat_lt (term_level a) 1) (term_text a) (term_balanced a h))
   term_balanced (bin op a b) h = balanced-op op (enclosed (nat_lt (term_level a) (left_place op)) (term_text a)) (enclosed (nat_lt (term_level b) (right_place op)) (term_text b)) (balanced-enclosed (nat_lt (term_level a) (left_place op)) (term_text a) (term_balanced a h.0)) (balanced-enclosed (nat_lt (term_level b) (right_place op)) (term_text b) (term_balanced b h.1))
   term_balanced (pow a k) h = balanced-append (enclosed (nat_lt (term_level a) 3) (term_text a) ++ codes "**") (decimal k) (balanced-append (enclosed (nat_lt (term_level a) 3) (term_text a)) (codes "**") (balanced-enclosed (nat_lt (term_level a) 3) (term_text a) (term_balanced a h.0)) (balanced-plain (codes "**") refl)) (balanced-decimal k (let small = h.1 in omega arith))
-  term_balanced (power_of a b) h = absurd h
+  term_balanced (power_of a b) h = balanced-append (enclosed (nat_lt (term_level a) 3) (term_text a) ++ codes "**") (enclosed (nat_lt (term_level b) 2) (term_text b)) (balanced-append (enclosed (nat_lt (term_level a) 3) (term_text a)) (codes "**") (balanced-enclosed (nat_lt (term_level a) 3) (term_text a) (term_balanced a h.0)) (balanced-plain (codes "**") refl)) (balanced-enclosed (nat_lt (term_level b) 2) (term_text b) (term_balanced b h.1))
   term_balanced (abs a) h = balanced-append (codes "ABS") (grouped (term_text a)) (balanced-plain (codes "ABS") refl) (balanced-grouped (term_text a) (term_balanced a h).inner)
 
   pub terms_balanced : (s : Terms) → AreWrittenTerms s → AreBalanced (term_texts s)

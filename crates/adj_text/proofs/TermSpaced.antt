@@ -138,7 +138,7 @@ mutual
   term_spaced (neg t) h rest e a = (tt, tt, enclosed_spaced (nat_lt (term_level t) 1) (term_words t) (term_spaced t h) rest e a)
   term_spaced (bin op t u) h rest e a = joined_spaced op (enclosed_words (nat_lt (term_level t) (left_place op)) (term_words t)) (enclosed_words (nat_lt (term_level u) (right_place op)) (term_words u)) (enclosed_spaced (nat_lt (term_level t) (left_place op)) (term_words t) (term_spaced t h.0)) (enclosed_spaced (nat_lt (term_level u) (right_place op)) (term_words u) (term_spaced u h.1)) (λ r. enclosed_starts (nat_lt (term_level u) (right_place op)) (term_words u) r (starts u r)) rest e a
   term_spaced (pow t k) h rest e a = enclosed_spaced (nat_lt (term_level t) 3) (term_words t) (term_spaced t h.0) (Mark Power ∷ Digits (decimal k) ∷ rest) tt (tt, tt, (is_number-decimal k (let small = h.1 in omega arith), ends_number rest e, a))
-  term_spaced (power_of t u) h rest e a = absurd h
+  term_spaced (power_of t u) h rest e a = enclosed_spaced (nat_lt (term_level t) 3) (term_words t) (term_spaced t h.0) (Mark Power ∷ enclosed_words (nat_lt (term_level u) 2) (term_words u) rest) tt (tt, tt, enclosed_spaced (nat_lt (term_level u) 2) (term_words u) (term_spaced u h.1) rest e a)
   term_spaced (abs t) h rest e a = (refl, tt, (tt, tt, term_spaced t h (Mark Right ∷ rest) tt (tt, tt, a)))
 
   pub bracketed_spaced : (s : Terms) → AreWrittenTerms s → AreSpacedBefore (bracketed_words s)

@@ -1,9 +1,9 @@
 -- Written: the programs that the trees of a text are, so that their canonical text reads as they are.
-use Rattle.std.specs.Prelude.{◌≡◌, ℕ, ◌^◌, ◌<◌, ◌≤◌, ℤ, pos, negsuc, Bool, true, false, ◌||◌, List, [], ◌∷◌, length, None, is_some}
+use Rattle.std.specs.Prelude.{◌≡◌, ℕ, ◌^◌, ◌<◌, ◌≤◌, ℤ, pos, negsuc, Bool, true, false, ◌&&◌, ◌||◌, List, [], ◌∷◌, length, None, is_some}
 use Rattle.std.specs.List.{All, list_all}
 use Rattle.adj_tree.specs.Code.{Var, plain, shadow, helper, Term, Terms, lit, var, elem, neg, bin, pow, power_of, abs, none, more, Test, compare, negation, conjunction, disjunction, Runtime, push_word, pop_word, push_array, pop_array, push_control, pop_control, zero_array, begin_reversal, count_actions, give_action, end_reversal, Mark, unmarked, with_count, count_from, Act, Code, assign, choose, loop, during, call, runtime, stop, step, Extent, fixed, given, Declaration, Procedure}
 use Rattle.adj_text.specs.Char.{is_capital, is_name_char}
-use Rattle.adj_text.specs.Grammar.{is_absolute, operation_of}
+use Rattle.adj_text.specs.Grammar.{is_absolute, operation_of, joins_literals}
 use Rattle.adj_text.specs.Statement.{runtime_call}
 
 -- a capital letter, and then capital letters, digits and underscores
@@ -37,6 +37,18 @@ AreSubscripts (more a none) = Unit {0}
 AreSubscripts (more a (more b none)) = Unit {0}
 AreSubscripts _ = ⊥
 
+-- whether only literals, signs, sums, differences, products and powers stand in an expression
+abbrev pub is_literal : Term → Bool
+is_literal (lit n) = true
+is_literal (var x) = false
+is_literal (elem x s) = false
+is_literal (neg a) = is_literal a
+is_literal (bin op a b) = joins_literals op && (is_literal a && is_literal b)
+is_literal (pow a k) = is_literal a
+is_literal (power_of a b) = is_literal a && is_literal b
+is_literal (abs a) = false
+
+-- an exponent that is kept as an expression isn't literal
 abbrev mutual
   pub IsWrittenTerm : Term → Type 0
   IsWrittenTerm (lit n) = IsLiteral n
@@ -45,7 +57,7 @@ abbrev mutual
   IsWrittenTerm (neg a) = IsWrittenTerm a
   IsWrittenTerm (bin op a b) = IsWrittenTerm a × IsWrittenTerm b
   IsWrittenTerm (pow a k) = IsWrittenTerm a × (k ≤ 63)
-  IsWrittenTerm (power_of a b) = ⊥
+  IsWrittenTerm (power_of a b) = IsWrittenTerm a × IsWrittenTerm b × (is_literal b ≡ false)
   IsWrittenTerm (abs a) = IsWrittenTerm a
 
   pub AreWrittenTerms : Terms → Type 0
