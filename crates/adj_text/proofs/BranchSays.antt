@@ -3,10 +3,11 @@ use Rattle.std.proofs.Common.{◌≡◌, ℕ, List, [], ◌∷◌, ◌++◌, ref
 use Rattle.std.specs.Prelude.{codes}
 use Rattle.adj_tree.specs.Code.{Test, unmarked}
 use Rattle.adj_tree.specs.Code as trees
+use Rattle.adj_tree.specs.View.{mark_of}
 use Rattle.adj_text.specs.declared.stated.Kind.TheVariants as classes
 use Rattle.adj_text.specs.declared.token.TokenKind.TheVariants.{Right}
 use Rattle.adj_text.specs.Char.{folded}
-use Rattle.adj_text.specs.Form.{opens_if, mark_by, ReadsForm}
+use Rattle.adj_text.specs.Form.{opens_if, ReadsForm}
 use Rattle.adj_text.specs.Form as forms
 use Rattle.adj_text.specs.Lined.{Lines}
 use Rattle.adj_text.specs.Statement.{Range, ReadsRange, ReadsDo}
@@ -18,7 +19,7 @@ use Rattle.adj_text.proofs.Joins.{allowed-append, folded-append}
 use Rattle.adj_text.proofs.Opened.{guard_words, if_chars, if_statement, states_if, if_words}
 use Rattle.adj_text.proofs.Printed.{SaysChars}
 use Rattle.adj_text.proofs.Said.{Says}
-use Rattle.adj_text.proofs.Sayings.{IsSolid, solid_words}
+use Rattle.adj_text.proofs.Solid.{IsSolid, solid_words}
 use Rattle.adj_text.proofs.TestDerived.{test_words, reads_test}
 use Rattle.adj_text.proofs.TestSpelled.{test_spelled, test_spaced}
 
@@ -32,10 +33,10 @@ if_folded : (c : Test) → IsWrittenTest c → folded (codes "IF (" ++ test_text
 if_folded c h =
     ap (λ cs. codes "IF(" ++ cs) (folded-append (test_text c) (codes ") THEN") ∙ ap (λ cs. cs ++ codes ")THEN") (solid_test c h).0 ∙ sym (append_assoc (test_text c) (codes ")") (codes "THEN")))
 
-if_reads : (s : Lines) (c : Test) → s.text ≡ if_chars c → mark_by s.mark ≡ unmarked → IsWrittenTest c → Says s (opens_if c)
+if_reads : (s : Lines) (c : Test) → s.text ≡ if_chars c → mark_of s.mark ≡ unmarked → IsWrittenTest c → Says s (opens_if c)
 if_reads s c e m h =
     let form : ReadsForm unmarked classes.BlockIf (guard_words c) (opens_if c) = forms.ReadsForm.tests (statements.ReadsGuard.guard (reads_test c (Mark Right ∷ []) h)) in
-    let P : List Word → Type 0 = λ ws. ReadsForm (mark_by s.mark) classes.BlockIf ws (opens_if c) in
+    let P : List Word → Type 0 = λ ws. ReadsForm (mark_of s.mark) classes.BlockIf ws (opens_if c) in
     let Q : trees.Mark → Type 0 = λ mark. ReadsForm mark classes.BlockIf (guard_words c) (opens_if c) in
     record {
       found = if_statement s c;

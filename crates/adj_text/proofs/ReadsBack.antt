@@ -2,10 +2,10 @@
 use Rattle.std.proofs.Common.{ℕ, Bool, true, false, List, [], ◌∷◌, ◌++◌, map, None, refl, sym, subst, append_assoc}
 use Rattle.std.specs.Prelude.{codes}
 use Rattle.std.specs.List.{flat_map}
-use Rattle.adj_tree.specs.Code.{Mark, unmarked, with_count, count_from, Act, Code, assign, choose, loop, during, call, runtime, stop, step, Declaration, Procedure}
+use Rattle.adj_tree.specs.Code.{plain, shadow, helper, Mark, unmarked, with_count, count_from, Act, Code, assign, choose, loop, during, call, runtime, stop, step, Declaration, Procedure}
 use Rattle.adj_text.specs.declared.stated.Kind.TheVariants as classes
 use Rattle.adj_text.specs.Char.{comma, equals}
-use Rattle.adj_text.specs.Form.{Form, subroutine, implicit_none, integers, simple, opens_do, end_do, opens_if, otherwise, end_if, ends, ReadsForm}
+use Rattle.adj_text.specs.Form.{Form, subroutine, implicit_none, integers, simple, opens_do, opens_while, end_do, opens_if, otherwise, end_if, ends, ReadsForm}
 use Rattle.adj_text.specs.Form as forms
 use Rattle.adj_text.specs.ReadsAs.{ReadsAs}
 use Rattle.adj_text.specs.Text.{statement, bracketed, var_text, term_text, term_texts, place_text, test_text, runtime_name, runtime_actuals, directive, step_text, act_text, code_text, else_text, extent_text, declaration_text, implicit_text, procedure_text, text_of}
@@ -22,7 +22,7 @@ abbrev mutual
   SaidAct (assign x s e) = SaysChars unmarked (place_text x s ++ equals ∷ term_text e) (simple (assign x s e))
   SaidAct (choose c a b) = SaysChars unmarked (codes "IF (" ++ test_text c ++ codes ") THEN") (opens_if c) × SaidCode a × SaidCode b
   SaidAct (loop x a b c body m) = IsWrittenMark m × SaysChars m (codes "DO " ++ var_text x ++ equals ∷ term_text a ++ comma ∷ term_text b ++ step_text c) (opens_do None (record { counter = x; from = a; to = b; by = c }) m) × SaidCode body
-  SaidAct (during c body) = ⊥
+  SaidAct (during c body) = SaysChars unmarked (codes "DO WHILE (" ++ test_text c ++ codes ")") (opens_while c) × SaidCode body
   SaidAct (call x es) = SaysChars unmarked (codes "CALL " ++ x ++ bracketed (term_texts es)) (simple (call x es))
   SaidAct (runtime r) = SaysChars unmarked (codes "CALL " ++ runtime_name r ++ bracketed (runtime_actuals r)) (simple (runtime r))
 
@@ -78,8 +78,10 @@ printed_else (step n a k) cs fs inner =
 -- a statement behind its directive, or without one
 printed_marked : (m : Mark) (chars cs : List ℕ) {f : Form} {fs : List Form} → IsWrittenMark m → SaysChars m chars f → Printed cs fs → Printed ((directive m ++ statement chars) ++ cs) (f ∷ fs)
 printed_marked unmarked chars cs w h rest = printed.Printed.more h rest
-printed_marked (with_count n) chars cs w h rest = apart (directive (with_count n)) (statement chars) cs (printed.Printed.marked w.0 w.1 h rest)
-printed_marked (count_from x) chars cs w h rest = absurd w
+printed_marked (with_count n) chars cs w h rest = apart (directive (with_count n)) (statement chars) cs (printed.Printed.marked w h rest)
+printed_marked (count_from (plain x)) chars cs w h rest = apart (directive (count_from (plain x))) (statement chars) cs (printed.Printed.marked w h rest)
+printed_marked (count_from (shadow x)) chars cs w h rest = absurd w
+printed_marked (count_from (helper r k)) chars cs w h rest = absurd w
 
 mutual
   printed_act : (a : Act) {cs : List ℕ} {fs : List Form} → SaidAct a → Printed cs fs → Printed (act_text a ++ cs) (act_forms a fs)
@@ -92,7 +94,11 @@ mutual
       let other = printed_else b cs fs (printed_code b h.2 (printed.Printed.more says_end_if rest)) in
       let inner = printed_code a h.1 other in
       apart (first ++ code_text a ++ else_text b) last cs (apart (first ++ code_text a) (else_text b) (last ++ cs) (apart first (code_text a) (else_text b ++ (last ++ cs)) (printed.Printed.more h.0 inner)))
-  printed_act (during c body) h rest = absurd h
+  printed_act (during c body) {cs = cs} {fs = fs} h rest =
+      let first = statement (codes "DO WHILE (" ++ test_text c ++ codes ")") in
+      let last = statement (codes "END DO") in
+      let inner = printed_code body h.1 (printed.Printed.more says_end_do rest) in
+      apart (first ++ code_text body) last cs (apart first (code_text body) (last ++ cs) (printed.Printed.more h.0 inner))
   printed_act (loop x a b c body m) {cs = cs} {fs = fs} h rest =
       let first = statement (codes "DO " ++ var_text x ++ equals ∷ term_text a ++ comma ∷ term_text b ++ step_text c) in
       let last = statement (codes "END DO") in

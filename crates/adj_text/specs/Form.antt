@@ -1,12 +1,12 @@
 -- Form: what a statement says, by its class and words.
-use Rattle.std.specs.Prelude.{ℕ, zero, suc, List, [], Option}
-use Rattle.adj_tree.specs.Code.{Test, Mark, unmarked, with_count, Act}
+use Rattle.std.specs.Prelude.{ℕ, List, [], Option}
+use Rattle.adj_tree.specs.Code.{Test, Mark, unmarked, Act}
 use Rattle.adj_text.specs.declared.stated.Kind.{Kind}
-use Rattle.adj_text.specs.declared.stated.Kind.TheVariants.{Do, BlockIf, LogicalIf, Assign, Continue, Return, End, EndIf, EndDo, Else, ImplicitNone, ElseIf, Subroutine, Integer, Call}
+use Rattle.adj_text.specs.declared.stated.Kind.TheVariants.{Do, BlockIf, LogicalIf, Assign, Continue, Return, End, EndIf, EndDo, Else, ImplicitNone, ElseIf, DoWhile, Subroutine, Integer, Call}
 use Rattle.adj_text.specs.Word.{Word}
 use Rattle.adj_text.specs.Statement.{Item, Range, ReadsHead, ReadsItems, ReadsAssignment, ReadsCall, ReadsGuard, ReadsGuarded, ReadsDo}
 
--- what a statement says; a loop with the label behind its DO and the snapshots of the directive before it
+-- what a statement says; a DO with the label behind it and what the directive before it says
 pub data Form : Type 0 where
   subroutine : List ℕ → List (List ℕ) → Form
   implicit_none : Form
@@ -14,6 +14,7 @@ pub data Form : Type 0 where
   simple : Act → Form
   logical : Test → Act → Form
   opens_do : Option ℕ → Range → Mark → Form
+  opens_while : Test → Form
   end_do : Form
   go_on : Form
   opens_if : Test → Form
@@ -27,12 +28,7 @@ pub data Form : Type 0 where
 pub data Statement : Type 0 where
   at : ℕ → ℕ → Form → Statement
 
--- the mark that a number of snapshots is, 0 where there is none
-abbrev pub mark_by : ℕ → Mark
-mark_by zero = unmarked
-mark_by (suc n) = with_count (suc n)
-
--- ReadsForm mark class words form: a statement of this class with these words behind its keyword says this; only a DO has a directive before it
+-- ReadsForm mark class words form: a statement of this class with these words behind its keyword says this; only a DO that is no DO WHILE has a directive before it
 pub data ReadsForm : Mark → Kind → List Word → Form → Type 0 where
   heading : {ts : List Word} {x : List ℕ} {dummies : List (List ℕ)} → ReadsHead ts x dummies → ReadsForm unmarked Subroutine ts (subroutine x dummies)
   implicit : ReadsForm unmarked ImplicitNone [] implicit_none
@@ -41,6 +37,7 @@ pub data ReadsForm : Mark → Kind → List Word → Form → Type 0 where
   calls : {ts : List Word} {a : Act} → ReadsCall ts a → ReadsForm unmarked Call ts (simple a)
   guarded : {ts us : List Word} {c : Test} {a : Act} → ReadsGuard ts us c → ReadsGuarded us a → ReadsForm unmarked LogicalIf ts (logical c a)
   begins : {ts : List Word} {l : Option ℕ} {r : Range} {mark : Mark} → ReadsDo ts l r → ReadsForm mark Do ts (opens_do l r mark)
+  repeats : {ts : List Word} {c : Test} → ReadsGuard ts [] c → ReadsForm unmarked DoWhile ts (opens_while c)
   finished : ReadsForm unmarked EndDo [] end_do
   continued : ReadsForm unmarked Continue [] go_on
   tests : {ts : List Word} {c : Test} → ReadsGuard ts [] c → ReadsForm unmarked BlockIf ts (opens_if c)

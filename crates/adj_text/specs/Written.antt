@@ -93,11 +93,11 @@ IsWrittenRuntime (count_actions l s n) = IsWrittenTerm l × IsWrittenTerm s × I
 IsWrittenRuntime (give_action l s k a f t) = IsWrittenTerm l × IsWrittenTerm s × IsWrittenTerm k × IsVariable a × IsVariable f × IsVariable t
 IsWrittenRuntime end_reversal = Unit {0}
 
--- a loop has 1 to 64 snapshots where it is marked
+-- a loop that is marked has 1 to 64 snapshots, or as many as a variable of the text says
 abbrev pub IsWrittenMark : Mark → Type 0
 IsWrittenMark unmarked = Unit {0}
 IsWrittenMark (with_count n) = (0 < n) × (n ≤ 64)
-IsWrittenMark (count_from x) = ⊥
+IsWrittenMark (count_from x) = IsVariable x
 
 -- a CALL of a unit has no name and actuals of a runtime call
 abbrev mutual
@@ -105,7 +105,7 @@ abbrev mutual
   IsWrittenAct (assign x s e) = IsPlace x s × IsWrittenTerm e
   IsWrittenAct (choose c a b) = IsWrittenTest c × IsWrittenCode a × IsWrittenCode b
   IsWrittenAct (loop x a b c body m) = IsVariable x × IsWrittenTerm a × IsWrittenTerm b × IsWrittenTerm c × IsWrittenCode body × IsWrittenMark m
-  IsWrittenAct (during c body) = ⊥
+  IsWrittenAct (during c body) = IsWrittenTest c × IsWrittenCode body
   IsWrittenAct (call x actuals) = IsName x × AreWrittenTerms actuals × (runtime_call x actuals ≡ None)
   IsWrittenAct (runtime r) = IsWrittenRuntime r
 

@@ -178,6 +178,45 @@ const BLOCKS: [(&str, &str); 34] = [
     ("X=1\nC$AD BINOMIAL-CKP 7\nX=A+", "REFUSED 20 LINE 3\n"),
 ];
 
+// DO WHILE, and directives with a number or a name.
+const REPEATED: [(&str, &str); 11] = [
+    (
+        "do while ((I.LT.N))\nI=I+1\nEND DO",
+        "DO WHILE (I.LT.N)\nI=I+1\nEND DO",
+    ),
+    (
+        "DO 10 I=1,N\nDO WHILE (K.LT.N)\nENDDO\n   10 CONTINUE",
+        "DO I=1,N\nDO WHILE (K.LT.N)\nEND DO\nEND DO",
+    ),
+    ("DO WHILE = 1", "DOWHILE=1"),
+    (
+        "C$Ad binomial-ckp  Max_n  \nDO I=1,N\nEND DO",
+        "C$AD BINOMIAL-CKP MAX_N\nDO I=1,N\nEND DO",
+    ),
+    (
+        "DO 10 I=1,N\nDO WHILE (K.LT.N)\n   10 CONTINUE",
+        "REFUSED 10 LINE 4\n",
+    ),
+    (
+        "DO WHILE (K.LT.N)\nDO 10 I=1,N\nEND DO",
+        "REFUSED 10 LINE 4\n",
+    ),
+    ("DO 10 WHILE (K.LT.N)\n   10 CONTINUE", "REFUSED 3 LINE 2\n"),
+    ("DO WHILE (K)\nEND DO", "REFUSED 4 LINE 2\n"),
+    (
+        "DO WHILE (K.LT.N)\nIF (A.LT.B) THEN\nEND DO",
+        "REFUSED 4 LINE 4\n",
+    ),
+    (
+        "C$AD BINOMIAL-CKP 7\nDO WHILE (K.LT.N)\nEND DO",
+        "REFUSED 20 LINE 2\n",
+    ),
+    (
+        "C$AD BINOMIAL-CKP 0\nDO I=1,N\nEND DO",
+        "REFUSED 20 LINE 2\n",
+    ),
+];
+
 const DECLARATIONS: [(&str, &str); 10] = [
     (
         "IMPLICIT NONE\nINTEGER A, B",
@@ -326,6 +365,14 @@ fn each_call_and_declaration_reads_as_its_tree(rt: HostRuntime) -> Result<(), Me
 #[test]
 fn each_condition_reads_as_its_tree(rt: HostRuntime) -> Result<(), Memory> {
     for (body, expected) in CONDITIONS {
+        assert!(rt; reads_as(rt.alloc(), body, expected)?, "{body}");
+    }
+    Ok(())
+}
+
+#[test]
+fn each_do_while_and_each_directive_reads_as_its_tree(rt: HostRuntime) -> Result<(), Memory> {
+    for (body, expected) in REPEATED {
         assert!(rt; reads_as(rt.alloc(), body, expected)?, "{body}");
     }
     Ok(())
