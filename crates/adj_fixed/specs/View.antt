@@ -12,7 +12,7 @@ abbrev pub all_lines : List Lined → List Lines
 all_lines ss = map lines_of ss
 
 abbrev pub directive_of : CodeDirective → Directive
-directive_of d = record { snapshots = d.snapshots; line = d.line }
+directive_of d = record { mark = d.mark; line = d.line }
 
 abbrev pub pass_of : Reader → Pass
 pass_of r = record { done = all_lines r.done.items; current = option_map lines_of r.current; pending = option_map directive_of r.pending }

@@ -4,7 +4,7 @@ ghost use Rattle.std.specs.Prelude.{◌≡◌, ◌==◌, ◌+◌, ◌^◌, ◌<�
 ghost use Rattle.std.specs.List.{prefix_len};
 ghost use Rattle.adj_text.specs.Char.{nought};
 ghost use Rattle.adj_text.specs.Stated.{keyword_len, ending_len};
-ghost use Rattle.adj_text.specs.Class.{depth_behind, has_open, is_matched, group_len, begins_with_letter, behind_label, is_control, is_do, condition_end, inner, is_if, if_kind, whole, width_of, is_eight, is_integer, begun, kind_of, class_of};
+ghost use Rattle.adj_text.specs.Class.{depth_behind, has_open, is_matched, group_len, begins_with_letter, behind_label, is_control, is_do, condition_end, inner, is_if, if_kind, whole, width_of, is_eight, is_integer, is_group, begun, kind_of, class_of};
 
 use crate::line::behind;
 use crate::scan::{name_len, number_len};
@@ -186,12 +186,21 @@ fn is_integer(text: &[u8]) -> bool
     digits.is_empty() || is_eight(digits)
 }
 
+// Whether the parenthesis that opens a text closes at its end.
+fn is_group(text: &[u8]) -> bool
+    ensures { result ≡ is_group text.now }
+{
+    group_len(text).unwrap_or(0) == text.len()
+}
+
 // The statements that begin with their word.
 fn begun(text: &[u8]) -> Option<Kind>
     ensures { result ≡ begun text.now }
 {
     if text.starts_with(b"ELSEIF(") && text.ends_with(b")THEN") {
         Some(Kind::ElseIf)
+    } else if text.starts_with(b"DOWHILE(") && is_group(behind(text, 7)) {
+        Some(Kind::DoWhile)
     } else if text.starts_with(b"SUBROUTINE") {
         Some(Kind::Subroutine)
     } else if text.starts_with(b"INTEGER") {

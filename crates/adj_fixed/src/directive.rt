@@ -1,12 +1,14 @@
 //! Directives.
 
-ghost use Rattle.std.specs.Prelude.{◌≡◌, ◌≤◌, length, option_map};
+ghost use Rattle.std.specs.Prelude.{◌≡◌, ◌≤◌, IfOk, length, option_map};
 ghost use Rattle.std.specs.List.{prefix_len};
 ghost use Rattle.adj_text.specs.Char.{is_blank};
-ghost use Rattle.adj_text.specs.Line.{begins_in_either_case, is_directive, behind_blanks, behind_name, snapshots_of, operand_of};
+ghost use Rattle.adj_text.specs.Line.{begins_in_either_case, is_directive, behind_blanks, behind_name, snapshots_of, is_name_part, is_named, name_of, mark_in, operand, operand_of};
 
-use crate::line::{are_blank, behind, number};
-use crate::scan::number_len;
+use crate::line::{are_blank, behind, front, number, push_folded};
+use crate::scan::{is_name_char, number_len};
+use adj_tree::{Mark, Name};
+use std::alloc::{AllocError, Global};
 
 // Whether a line begins with a word of capitals, in either case.
 fn begins_in_either_case(line: &[u8], word: &[u8]) -> bool
@@ -73,11 +75,65 @@ fn snapshots_of(text: &[u8]) -> Option<u32>
     }
 }
 
-/// The number of snapshots that a directive gives, where it is well formed.
-pub(crate) fn operand_of(line: &[u8]) -> Option<u32>
-    ensures { result ≡ operand_of line.now }
+// How many characters from the front a name in either case may go on with.
+fn name_len(text: &[u8]) -> usize
+    ensures value { result ≡ prefix_len is_name_part text.now }
+    ensures within { result ≤ length text.now }
+{
+    text.iter()
+        .take_while(|c| is_name_char(c.to_ascii_uppercase()))
+        .count()
+}
+
+// Whether a name stands here, in either case, with blanks alone behind it.
+fn is_named(text: &[u8]) -> bool
+    ensures { result ≡ is_named text.now }
+{
+    match text.first() {
+        Some(c) => c.is_ascii_alphabetic() && are_blank(behind(text, name_len(text))),
+        None => false,
+    }
+}
+
+// That name, in capitals.
+fn name_of(alloc: Global, text: &[u8]) -> Result<Option<Name>, AllocError>
+    ensures { IfOk result (λ found. found ≡ name_of text.now) }
+{
+    if !is_named(text) {
+        return Ok(None);
+    }
+    let mut name = Vec::new(alloc);
+    push_folded(&mut name, front(text, name_len(text)))?;
+    Ok(Some(Name::new(name)))
+}
+
+// A number of snapshots, or the name of a variable that says it.
+fn mark_in(alloc: Global, text: &[u8]) -> Result<Option<Mark>, AllocError>
+    ensures { IfOk result (λ found. found ≡ mark_in text.now) }
+{
+    if let Some(snapshots) = snapshots_of(text) {
+        return Ok(Some(Mark::Count(snapshots)));
+    }
+    match name_of(alloc, text)? {
+        Some(name) => Ok(Some(Mark::From(name))),
+        None => Ok(None),
+    }
+}
+
+// What stands behind the name of a directive and the blanks behind it.
+fn operand(line: &[u8]) -> Option<&[u8]>
+    ensures { option_map (λ r. r.now) result ≡ operand line.now }
 {
     let name = behind_blanks(behind(line, 4))?;
-    let operand = behind_blanks(behind_name(name)?)?;
-    snapshots_of(operand)
+    behind_blanks(behind_name(name)?)
+}
+
+/// What a directive says, where it is well formed.
+pub(crate) fn operand_of(alloc: Global, line: &[u8]) -> Result<Option<Mark>, AllocError>
+    ensures { IfOk result (λ found. found ≡ operand_of line.now) }
+{
+    match operand(line) {
+        Some(text) => mark_in(alloc, text),
+        None => Ok(None),
+    }
 }

@@ -14,7 +14,7 @@ use crate::line::{
     push_folded, split_line, without_cr,
 };
 use adj_text::Mode;
-use adj_tree::{Fault, Refusal};
+use adj_tree::{Fault, Mark, Refusal};
 use std::alloc::Global;
 
 /// A statement: its lines, joined.
@@ -22,7 +22,7 @@ use std::alloc::Global;
 pub(crate) struct Lined {
     pub line: u32,
     pub label: u32,
-    pub mark: u32,
+    pub mark: Mark,
     pub mark_line: u32,
     pub text: Vec<u8>,
     /// How many continuation lines it may still have, where that is limited.
@@ -30,9 +30,9 @@ pub(crate) struct Lined {
 }
 
 /// A directive that waits for its statement.
-#[derive(Clone, Copy, Debug, PartialEq, Eq)]
+#[derive(Drop)]
 struct Directive {
-    snapshots: u32,
+    mark: Mark,
     line: u32,
 }
 
@@ -87,17 +87,14 @@ impl Reader {
         Ok(())
     }
 
-    fn directive(&mut self, number: u32, line: &[u8]) -> Result<(), Fault>
+    fn directive(&mut self, alloc: Global, number: u32, line: &[u8]) -> Result<(), Fault>
         ensures { Gives (λ _. pass_of self.new) result (with_directive (pass_of self.old) number (operand_of line.now)) }
     {
-        let Some(snapshots) = operand_of(line) else {
+        let Some(mark) = operand_of(alloc, line)? else {
             return Err(refused(20, number));
         };
         self.flush()?;
-        self.pending = Some(Directive {
-            snapshots,
-            line: number,
-        });
+        self.pending = Some(Directive { mark, line: number });
         Ok(())
     }
 
@@ -117,8 +114,8 @@ impl Reader {
         push_folded(&mut text, body(line))?;
         self.flush()?;
         let (mark, mark_line) = match self.pending.take() {
-            Some(directive) => (directive.snapshots, directive.line),
-            None => (0, 0),
+            Some(directive) => (directive.mark, directive.line),
+            None => (Mark::Plain, 0),
         };
         self.current = Some(Lined {
             line: number,
@@ -156,14 +153,14 @@ impl Reader {
         ensures { Gives (λ _. pass_of self.new) result (with_line (limits_of mode) (pass_of self.old) number line.now) }
     {
         if is_directive(line) {
-            match self.pending {
+            match &self.pending {
                 Some(directive) => Err(refused(20, directive.line)),
-                None => self.directive(number, line),
+                None => self.directive(alloc, number, line),
             }
         } else if is_comment(line) {
             Ok(())
         } else if is_continuation(line) {
-            match self.pending {
+            match &self.pending {
                 Some(directive) => Err(refused(20, directive.line)),
                 None => self.continuation(mode, number, line),
             }
@@ -177,7 +174,7 @@ impl Reader {
         ensures { Gives (λ v. all_lines v.items) result (ended (pass_of self) (pass_of self).pending) }
     {
         let mut reader = self;
-        if let Some(directive) = reader.pending {
+        if let Some(directive) = &reader.pending {
             return Err(refused(20, directive.line));
         }
         reader.flush()?;

@@ -8,7 +8,7 @@ ghost use Rattle.adj_text.specs.Token.{dotted, mark_of, stars, first_token, toke
 use adj_text::{Token, TokenKind};
 use std::alloc::{AllocError, Global};
 
-fn is_name_char(c: u8) -> bool
+pub(crate) fn is_name_char(c: u8) -> bool
     ensures { result ≡ is_name_char c }
 {
     c.is_ascii_uppercase() || c.is_ascii_digit() || c == b'_'

@@ -4,14 +4,14 @@ ghost use Rattle.std.specs.Prelude.{◌≡◌, ◌+◌, ◌≤◌, Ok, Some, len
 ghost use Rattle.std.specs.List.{list_any};
 ghost use Rattle.adj_text.specs.Limits.{no_limits, limits_of};
 ghost use Rattle.adj_text.specs.Refused.{Gives};
-ghost use Rattle.adj_text.specs.Stated.{keyword_len, ending_len, call_place, tokens_of, is_too_long, stated, all_stated, statements_of, IsCovered};
+ghost use Rattle.adj_text.specs.Stated.{keyword_len, ending_len, call_place, tokens_of, is_too_long, is_marked_long, stated, all_stated, statements_of, IsCovered};
 ghost use Rattle.adj_fixed.specs.View.{lines_of, all_lines};
 
 use crate::class::{class_of, condition_end, inner, is_matched, kind_of, width_of};
 use crate::lined::{Lined, lines_of, refused};
 use crate::scan::tokens;
 use adj_text::{Kind, Mode, Stated, Token, TokenKind, Tokens};
-use adj_tree::{Bytes, Fault};
+use adj_tree::{Bytes, Fault, Mark};
 use std::alloc::{AllocError, Global};
 
 // How many characters a name may have.
@@ -46,6 +46,7 @@ fn keyword_len(kind: Kind, text: &[u8]) -> usize
         Kind::Else | Kind::Call => 4,
         Kind::EndIf | Kind::EndDo => 5,
         Kind::Return | Kind::ElseIf => 6,
+        Kind::DoWhile => 7,
         Kind::Continue => 8,
         Kind::Subroutine => 10,
         Kind::ImplicitNone => 12,
@@ -99,6 +100,16 @@ fn any_too_long(limit: usize, tokens: &[Token]) -> bool
     tokens.iter().any(|token| is_too_long(limit, token))
 }
 
+// Whether the directive before a DO has a name above the limit.
+fn is_marked_long(limit: usize, kind: Kind, mark: &Mark) -> bool
+    ensures { result ≡ is_marked_long (Some limit) kind mark.now }
+{
+    match mark {
+        Mark::From(name) => kind == Kind::Do && name.bytes().len() > limit,
+        Mark::Plain | Mark::Count(_) => false,
+    }
+}
+
 // A statement with its class and tokens, or its first fault.
 #[tactic(auto, unfolding(adj_text::specs::Stated::stated))]
 fn stated(alloc: Global, mode: Mode, lined: Lined) -> Result<Stated, Fault>
@@ -117,7 +128,8 @@ fn stated(alloc: Global, mode: Mode, lined: Lined) -> Result<Stated, Fault>
     let Some(tokens) = tokens_of(alloc, kind, text)? else {
         return Err(refused(4, lined.line));
     };
-    if any_too_long(name_limit(mode), tokens.as_slice()) {
+    let limit = name_limit(mode);
+    if any_too_long(limit, tokens.as_slice()) || is_marked_long(limit, kind, &lined.mark) {
         return Err(refused(6, lined.line));
     }
     Ok(Stated {

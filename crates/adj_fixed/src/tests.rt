@@ -1,13 +1,23 @@
 //! That the definitions mean what the language says: worked texts, their statements and their first faults.
 
 use crate::{Mode, Stated, TokenKind, data_part, statements};
-use adj_tree::Fault;
+use adj_tree::{Fault, Mark};
 use std::alloc::{AllocError, Global};
 use std::test::Fail;
 
-// One line for a statement: its line, label, snapshots and class, then the texts of its tokens.
+// The number or the name of a directive, or 0.
+fn push_mark(out: &mut String, mark: &Mark) -> Result<(), AllocError> {
+    match mark {
+        Mark::Plain => out.push_str("0"),
+        Mark::Count(snapshots) => write!(out, "{snapshots}"),
+        Mark::From(name) => out.push_str(str::from_utf8(name.bytes()).unwrap_or("?")),
+    }
+}
+
+// One line for a statement: its line, label, mark and class, then the texts of its tokens.
 fn push_shown(out: &mut String, stated: &Stated) -> Result<(), AllocError> {
-    write!(out, "{} {} {}", stated.line, stated.label, stated.mark)?;
+    write!(out, "{} {} ", stated.line, stated.label)?;
+    push_mark(out, &stated.mark)?;
     write!(out, " {:?}:", stated.kind)?;
     let text = stated.text.as_slice();
     for token in stated.tokens.as_slice() {
@@ -110,9 +120,29 @@ const FORMS_SHOWN: &str = "2 0 0 ImplicitNone:
 22 0 0 End:
 ";
 
+const WHILES: &str = "C$Ad BINOMIAL-ckp  Max_n1  \r
+      DO 10, I=1,N
+      DO WH ILE (K.LT.(N+1))
+      END DO
+c$ad binomial-ckp c
+* another
+      CALL P
+";
+
+const WHILES_SHOWN: &str = "2 0 MAX_N1 Do: 10 , I = 1 , N
+3 0 0 DoWhile: ( K .LT. ( N + 1 ) )
+4 0 0 EndDo:
+7 0 C Call: P
+";
+
 #[test]
 fn texts_give_their_statements(rt: HostRuntime) -> Result<(), Fail> {
-    for (text, want) in [(LOOPS, LOOPS_SHOWN), (FORMS, FORMS_SHOWN), ("", "")] {
+    for (text, want) in [
+        (LOOPS, LOOPS_SHOWN),
+        (FORMS, FORMS_SHOWN),
+        (WHILES, WHILES_SHOWN),
+        ("", ""),
+    ] {
         assert_eq!(rt; shown(rt.alloc(), text, Mode::Source)?.as_str(), want);
         assert_eq!(rt; shown(rt.alloc(), text, Mode::Run)?.as_str(), want);
     }
@@ -155,17 +185,24 @@ fn continuation_lines_are_limited_in_source_mode(rt: HostRuntime) -> Result<(), 
     Ok(())
 }
 
+fn code_of(alloc: Global, text: &str, mode: Mode) -> u8 {
+    match statements(alloc, text.as_bytes(), mode) {
+        Err(Fault::Refused(refusal)) => refusal.code,
+        _ => 0,
+    }
+}
+
 #[test]
 fn names_are_limited_by_mode(rt: HostRuntime) -> Result<(), Fail> {
     for (len, source, run) in [(31, 0, 0), (32, 6, 0), (63, 6, 0), (64, 6, 6)] {
         let name = "A".repeat(rt.alloc(), len)?;
-        let text = format!(in rt.alloc(); "      IF(X)Y=\n     1{name}")?;
+        let used = format!(in rt.alloc(); "      IF(X)Y=\n     1{name}")?;
+        let marked = format!(in rt.alloc(); "C$AD BINOMIAL-CKP {name}\n      DOI=1,2")?;
+        let stray = format!(in rt.alloc(); "C$AD BINOMIAL-CKP {name}\n      X=1")?;
         for (mode, want) in [(Mode::Source, source), (Mode::Run, run)] {
-            let code = match statements(rt.alloc(), text.as_bytes(), mode) {
-                Err(Fault::Refused(refusal)) => refusal.code,
-                _ => 0,
-            };
-            assert_eq!(rt; code, want, "at {len}");
+            assert_eq!(rt; code_of(rt.alloc(), &used, mode), want, "at {len}");
+            assert_eq!(rt; code_of(rt.alloc(), &marked, mode), want, "at {len}");
+            assert_eq!(rt; code_of(rt.alloc(), &stray, mode), 0, "at {len}");
         }
     }
     Ok(())
@@ -205,6 +242,10 @@ const FAULTS: &[(&str, u8, u32)] = &[
     ("      IF (A) 1,2,3", 3, 1),
     ("      IF (A.GT.0) GOTO 10", 3, 1),
     ("      IF ((X.GT.0) THEN", 3, 1),
+    ("      DO 10 WHILE (A.LT.B)", 3, 1),
+    ("      DO WHILE (A.LT.B) C", 3, 1),
+    ("      DO WHILE (A.LT.B)(C)", 3, 1),
+    ("      DO WHILE (A.LT.B", 3, 1),
     // Code 4: what isn't cut into tokens, parentheses, and no statement at all.
     ("      DO 10 I = 1.5", 4, 1),
     ("   10", 4, 1),
@@ -219,11 +260,21 @@ const FAULTS: &[(&str, u8, u32)] = &[
     // Code 6: long names.
     ("      SUBROUTINE ABCDEFGHIJKLMNOPQRSTUVWXYZABCDEF", 6, 1),
     ("      X=1\n      X=ABCDEFGHIJKLMNOPQRSTUVWXYZ_12345", 6, 2),
+    (
+        "C$AD BINOMIAL-CKP ABCDEFGHIJKLMNOPQRSTUVWXYZ_12345\n      DOI=1,2",
+        6,
+        2,
+    ),
     // Code 20: directives.
     ("C$AD BINOMIAL-CKP 0\n      DOI=1,2", 20, 1),
     ("C$AD BINOMIAL-CKP 65\n      DOI=1,2", 20, 1),
     ("C$AD BINOMIAL-CKP 005\n      DOI=1,2", 20, 1),
     ("C$AD BINOMIAL-CKP 5 6\n      DOI=1,2", 20, 1),
+    ("C$AD BINOMIAL-CKP 5N\n      DOI=1,2", 20, 1),
+    ("C$AD BINOMIAL-CKP N 5\n      DOI=1,2", 20, 1),
+    ("C$AD BINOMIAL-CKP _N\n      DOI=1,2", 20, 1),
+    ("C$AD BINOMIAL-CKP\n      DOI=1,2", 20, 1),
+    ("C$AD BINOMIAL-CKP \n      DOI=1,2", 20, 1),
     ("C$AD BINOMIAL-CKP5\n      DOI=1,2", 20, 1),
     ("C$ADBINOMIAL-CKP 5\n      DOI=1,2", 20, 1),
     ("C$AD OTHER\n      DOI=1,2", 20, 1),
@@ -243,6 +294,7 @@ const FAULTS: &[(&str, u8, u32)] = &[
     ("      DO10I=(1,2)", 0, 0),
     ("      IF (A) CONTINUE", 0, 0),
     ("C$AD BINOMIAL-CKP 64  \n      X=1", 0, 0),
+    ("C$AD BINOMIAL-CKP N\nC c\n      DOWHILE(I=1,2)", 0, 0),
     ("      X=1\n$DATA\nX", 0, 0),
     (
         "      X=1                                                               'JUNK'",

@@ -78,7 +78,7 @@ fn term_level(expr: &Expr) -> u8
         Expr::Lit(_) | Expr::Var(_) | Expr::Elem(_, _) | Expr::Abs(_) => 3,
         Expr::Neg(_) => 0,
         Expr::Bin(op, _, _) => op_level(*op),
-        Expr::Pow(_, _) => 2,
+        Expr::Pow(_, _) | Expr::Power(_, _) => 2,
     }
 }
 
@@ -109,6 +109,11 @@ pub fn push_expr(out: &mut Vec<u8>, expr: &Expr) -> Result<(), Memory>
             push_operand(out, base, 3)?;
             out.extend_from_slice(b"**")?;
             push_count(out, *exponent)
+        }
+        Expr::Power(base, exponent) => {
+            push_operand(out, base, 3)?;
+            out.extend_from_slice(b"**")?;
+            push_operand(out, exponent, 2)
         }
         Expr::Abs(inner) => {
             out.extend_from_slice(b"ABS(")?;

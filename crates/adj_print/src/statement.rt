@@ -2,7 +2,7 @@
 
 ghost use Rattle.std.specs.Prelude.{◌≡◌, ◌++◌, ◌∷◌, codes, OnOk};
 ghost use Rattle.adj_tree.specs.Code.{plain};
-ghost use Rattle.adj_tree.specs.View.{term_of, terms_of, test_of, runtime_of, act_of, code_of};
+ghost use Rattle.adj_tree.specs.View.{term_of, terms_of, test_of, runtime_of, mark_of, act_of, code_of};
 ghost use Rattle.adj_text.specs.Text.{statement, term_text, term_texts, test_text, place_text, call_text, runtime_name, runtime_actuals, directive, is_one, step_text, act_text, code_text, else_text, var_text};
 
 use crate::condition::push_cond;
@@ -10,7 +10,7 @@ use crate::expression::{push_expr, push_exprs, push_place};
 use crate::layout::push_statement;
 use crate::list::{push_count, push_name};
 use crate::runtime::{push_runtime_actuals, push_runtime_name};
-use adj_tree::{Act, Cond, Expr, Exprs, Memory, Name, Place, RunCall, Stmt, Stmts};
+use adj_tree::{Act, Cond, Expr, Exprs, Mark, Memory, Name, Place, RunCall, Stmt, Stmts};
 use std::alloc::Global;
 
 fn push_assignment(
@@ -38,14 +38,31 @@ fn push_if(alloc: Global, out: &mut Vec<u8>, cond: &Cond) -> Result<(), Memory>
     push_statement(out, chars.as_slice())
 }
 
-fn push_directive(out: &mut Vec<u8>, snapshots: u32) -> Result<(), Memory>
-    ensures line { OnOk result (out.new.items ≡ out.old.items ++ directive snapshots) }
+fn push_while(alloc: Global, out: &mut Vec<u8>, cond: &Cond) -> Result<(), Memory>
+    ensures lines { OnOk result (out.new.items ≡ out.old.items ++ statement (codes "DO WHILE (" ++ test_text (test_of cond.now) ++ codes ")")) }
 {
-    if snapshots != 0 {
-        out.extend_from_slice(b"C$AD BINOMIAL-CKP ")?;
-        push_count(out, snapshots)?;
-        out.push(b'\n')?;
+    let mut chars = Vec::new(alloc);
+    chars.extend_from_slice(b"DO WHILE (")?;
+    push_cond(&mut chars, cond)?;
+    chars.push(b')')?;
+    push_statement(out, chars.as_slice())
+}
+
+fn push_directive(out: &mut Vec<u8>, mark: &Mark) -> Result<(), Memory>
+    ensures line { OnOk result (out.new.items ≡ out.old.items ++ directive (mark_of mark.now)) }
+{
+    match mark {
+        Mark::Plain => return Ok(()),
+        Mark::Count(snapshots) => {
+            out.extend_from_slice(b"C$AD BINOMIAL-CKP ")?;
+            push_count(out, *snapshots)?;
+        }
+        Mark::From(name) => {
+            out.extend_from_slice(b"C$AD BINOMIAL-CKP ")?;
+            push_name(out, name)?;
+        }
     }
+    out.push(b'\n')?;
     Ok(())
 }
 
@@ -121,9 +138,14 @@ fn push_stmt(alloc: Global, out: &mut Vec<u8>, stmt: &Stmt) -> Result<(), Memory
             push_else(alloc, out, other)?;
             push_statement(out, b"END IF")
         }
-        Act::Loop(var, first, limit, step, body, snapshots) => {
-            push_directive(out, *snapshots)?;
+        Act::Loop(var, first, limit, step, body, mark) => {
+            push_directive(out, mark)?;
             push_do(alloc, out, var, first, limit, step)?;
+            push_stmts(alloc, out, body)?;
+            push_statement(out, b"END DO")
+        }
+        Act::While(cond, body) => {
+            push_while(alloc, out, cond)?;
             push_stmts(alloc, out, body)?;
             push_statement(out, b"END DO")
         }

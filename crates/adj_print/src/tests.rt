@@ -5,8 +5,8 @@ use crate::expression::push_expr;
 use crate::layout::push_statement;
 use crate::text;
 use adj_tree::{
-    Act, Cond, Decl, Expr, Exprs, Items, Memory, Name, Op, Place, Program, Rel, RunCall, Stmt,
-    Stmts, Unit,
+    Act, Cond, Decl, Expr, Exprs, Items, Mark, Memory, Name, Op, Place, Program, Rel, RunCall,
+    Stmt, Stmts, Unit,
 };
 use std::alloc::Global;
 use std::test::Fail;
@@ -37,6 +37,12 @@ fn neg(alloc: Global, inner: Made<Expr>) -> Made<Expr> {
 
 fn pow(alloc: Global, base: Made<Expr>, exponent: u32) -> Made<Expr> {
     Ok(Expr::Pow(Box::new(alloc, base?)?, exponent))
+}
+
+fn power(alloc: Global, base: Made<Expr>, exponent: Made<Expr>) -> Made<Expr> {
+    let base = Box::new(alloc, base?)?;
+    let exponent = Box::new(alloc, exponent?)?;
+    Ok(Expr::Power(base, exponent))
 }
 
 fn less(alloc: Global, left: Made<Expr>, right: Made<Expr>) -> Made<Cond> {
@@ -101,12 +107,22 @@ fn branch(
     stmt(Act::If(cond, then, other))
 }
 
-fn count(alloc: Global, step: Made<Expr>, body: Made<Vec<Stmt>>, snapshots: u32) -> Made<Stmt> {
+fn count(alloc: Global, step: Made<Expr>, body: Made<Vec<Stmt>>, mark: Made<Mark>) -> Made<Stmt> {
     let counter = name(alloc, "I")?;
     let limit = var(alloc, "N")?;
     let step = step?;
     let body = Stmts::from_vec(alloc, body?)?;
-    stmt(Act::Loop(counter, Expr::Lit(1), limit, step, body, snapshots))
+    stmt(Act::Loop(counter, Expr::Lit(1), limit, step, body, mark?))
+}
+
+fn from(alloc: Global, text: &str) -> Made<Mark> {
+    Ok(Mark::From(name(alloc, text)?))
+}
+
+fn while_less(alloc: Global, body: Made<Vec<Stmt>>) -> Made<Stmt> {
+    let cond = less(alloc, var(alloc, "I"), var(alloc, "N"))?;
+    let body = Stmts::from_vec(alloc, body?)?;
+    stmt(Act::While(cond, body))
 }
 
 fn decl(alloc: Global, text: &str) -> Made<Decl> {
@@ -174,6 +190,22 @@ fn parentheses_stand_where_the_level_is_too_low(rt: HostRuntime) -> Result<(), F
     let sum = bin(at, Op::Add, var(at, "A"), var(at, "B"));
     assert!(rt; is_shown(at, neg(at, sum), "-(A+B)")?);
     assert!(rt; is_shown(at, pow(at, neg(at, var(at, "A")), 2), "(-A)**2")?);
+    Ok(())
+}
+
+#[test]
+fn exponents_have_their_parentheses(rt: HostRuntime) -> Result<(), Fail> {
+    let at = rt.alloc();
+    let sum = bin(at, Op::Add, var(at, "N"), lit(1));
+    assert!(rt; is_shown(at, power(at, var(at, "X"), sum), "X**(N+1)")?);
+    let quotient = bin(at, Op::Quot, lit(4), lit(2));
+    assert!(rt; is_shown(at, power(at, var(at, "X"), quotient), "X**(4/2)")?);
+    let right = power(at, lit(2), var(at, "N"));
+    assert!(rt; is_shown(at, power(at, var(at, "X"), right), "X**2**N")?);
+    let left = pow(at, var(at, "X"), 2);
+    assert!(rt; is_shown(at, power(at, left, var(at, "N")), "(X**2)**N")?);
+    let whole = power(at, var(at, "X"), var(at, "N"));
+    assert!(rt; is_shown(at, neg(at, whole), "-X**N")?);
     Ok(())
 }
 
@@ -275,9 +307,16 @@ fn the_adjoint_of_a_square_is_printed(rt: HostRuntime) -> Result<(), Fail> {
 }
 
 fn loops(at: Global) -> Made<Vec<Stmt>> {
-    let plain = count(at, lit(1), none(at), 0);
-    let marked = count(at, var(at, "K"), and(none(at), push_word(at, "I")), 3);
-    and(and(none(at), plain), marked)
+    let push = and(none(at), push_word(at, "I"));
+    let plain = count(at, lit(1), none(at), Ok(Mark::Plain));
+    let marked = count(at, var(at, "K"), push, Ok(Mark::Count(3)));
+    let named = count(
+        at,
+        lit(1),
+        and(none(at), while_less(at, none(at))),
+        from(at, "M"),
+    );
+    and(and(and(none(at), plain), marked), named)
 }
 
 fn branches(at: Global, before: Made<Vec<Stmt>>) -> Made<Vec<Stmt>> {
@@ -293,7 +332,7 @@ fn loops_and_branches_are_printed(rt: HostRuntime) -> Result<(), Fail> {
     let at = rt.alloc();
     let all = program(at, none(at), none(at), branches(at, loops(at)), true);
     let lines =
-        "      SUBROUTINE P_B\n      IMPLICIT NONE\n      DO I=1,N\n      END DO\nC$AD BINOMIAL-CKP 3\n      DO I=1,N,K\n      CALL PUSHINTEGER8(I)\n      END DO\n      IF (A.LT.2) THEN\n      CALL ADEND\n      END IF\n      IF (A.LT.2) THEN\n      ELSE\n      A=3\n      END IF\n      END\n";
+        "      SUBROUTINE P_B\n      IMPLICIT NONE\n      DO I=1,N\n      END DO\nC$AD BINOMIAL-CKP 3\n      DO I=1,N,K\n      CALL PUSHINTEGER8(I)\n      END DO\nC$AD BINOMIAL-CKP M\n      DO I=1,N\n      DO WHILE (I.LT.N)\n      END DO\n      END DO\n      IF (A.LT.2) THEN\n      CALL ADEND\n      END IF\n      IF (A.LT.2) THEN\n      ELSE\n      A=3\n      END IF\n      END\n";
     assert!(rt; is_printed(at, all, lines)?);
     Ok(())
 }

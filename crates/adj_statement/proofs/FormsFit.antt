@@ -13,7 +13,7 @@ use Rattle.adj_text.specs.Statement.{Item, called, Range}
 use Rattle.adj_text.specs.Word.{Word}
 use Rattle.adj_text.specs.declared.stated.Kind.{Kind}
 use Rattle.adj_text.proofs.FormWritten.{all_nil, all_cons}
-use Rattle.adj_text.proofs.TermWritten.{map_some, both_some}
+use Rattle.adj_text.proofs.Parts.{map_some, both_some}
 use Rattle.adj_expression.specs.Judged.{has_large, test_large}
 use Rattle.adj_statement.specs.Phrase as phrases
 use Rattle.adj_statement.specs.Phrase.{Deed, assigns, calls, Size, numbered, named, Declared, Bounds, Phrase, plainly, declares, does, guards, repeats, opens, turns, SaysDo, Says}

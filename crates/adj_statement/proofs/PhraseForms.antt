@@ -1,6 +1,6 @@
 -- PhraseForms: the form of what the words of a statement say is what the grammar of texts gives them, and the other way round.
 use Rattle.std.proofs.Common.{◌≡◌, ◌⊎◌, inl, inr, ℕ, pos, List, [], ◌∷◌, map, Some, None, option_map, refl, sym, ap, ◌∙◌, subst}
-use Rattle.adj_text.proofs.TermWritten.{map_some, both_some}
+use Rattle.adj_text.proofs.Parts.{map_some, both_some}
 use Rattle.adj_tree.specs.Code.{plain, Term, Terms, lit, none, Test, Act, assign}
 use Rattle.adj_text.specs.Char.{number_of}
 use Rattle.adj_text.specs.Condition.{Condition, test}

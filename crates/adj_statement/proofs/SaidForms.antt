@@ -1,6 +1,6 @@
 -- SaidForms: what a statement is found to say, in the words of the grammar of texts.
 use Rattle.std.proofs.Common.{◌≡◌, ◌⊎◌, inl, inr, ℕ, Bool, true, false, List, Option, Some, None, option_map, IfSome, Ok, Err, sym, ap, ◌∙◌, subst}
-use Rattle.adj_text.proofs.TermWritten.{map_some}
+use Rattle.adj_text.proofs.Parts.{map_some}
 use Rattle.adj_text.specs.Form.{Form, ReadsForm}
 use Rattle.adj_text.specs.Word.{Word}
 use Rattle.adj_text.specs.declared.stated.Kind.{Kind}

@@ -78,7 +78,7 @@ phrase_deep limit (repeats label b) = bounds_deep limit b
 phrase_deep limit (opens c) = test_deep limit c
 phrase_deep limit (turns c) = test_deep limit c
 
--- the trees of the expressions of a list, where each of their exponents is one
+-- the trees of the expressions of a list, where each literal exponent in them is one
 abbrev pub list_trees : Option Arguments → Option Terms
 list_trees None = Some none
 list_trees (Some all) = trees_before all none
@@ -104,7 +104,7 @@ range b =
     with_both (λ (ends : Term × Term) c. Some (record { counter = plain b.counter; from = ends.0; to = ends.1; by = c }))
     (with_both (λ from to. Some (from, to)) (tree b.from) (tree b.to)) (step_tree b.by)
 
--- what a phrase says, with the snapshots of the directive before it, where each exponent is one
+-- what a phrase says, with the snapshots of the directive before it, where each literal exponent is one
 abbrev pub form : ℕ → Phrase → Option Form
 form mark (plainly f) = Some f
 form mark (declares is) = Some (integers (map item is))

@@ -1,11 +1,13 @@
 -- BranchSays: the characters of a block IF with a written condition say it.
 use Rattle.std.proofs.Common.{◌≡◌, ℕ, List, [], ◌∷◌, ◌++◌, refl, sym, ap, subst, ◌∙◌, append_assoc, append-nil}
 use Rattle.std.specs.Prelude.{codes}
-use Rattle.adj_tree.specs.Code.{Test}
+use Rattle.adj_tree.specs.Code.{Test, unmarked}
+use Rattle.adj_tree.specs.Code as trees
+use Rattle.adj_tree.specs.View.{mark_of}
 use Rattle.adj_text.specs.declared.stated.Kind.TheVariants as classes
 use Rattle.adj_text.specs.declared.token.TokenKind.TheVariants.{Right}
 use Rattle.adj_text.specs.Char.{folded}
-use Rattle.adj_text.specs.Form.{opens_do, opens_if, ReadsForm}
+use Rattle.adj_text.specs.Form.{opens_if, ReadsForm}
 use Rattle.adj_text.specs.Form as forms
 use Rattle.adj_text.specs.Lined.{Lines}
 use Rattle.adj_text.specs.Statement.{Range, ReadsRange, ReadsDo}
@@ -17,7 +19,7 @@ use Rattle.adj_text.proofs.Joins.{allowed-append, folded-append}
 use Rattle.adj_text.proofs.Opened.{guard_words, if_chars, if_statement, states_if, if_words}
 use Rattle.adj_text.proofs.Printed.{SaysChars}
 use Rattle.adj_text.proofs.Said.{Says}
-use Rattle.adj_text.proofs.Sayings.{IsSolid, solid_words}
+use Rattle.adj_text.proofs.Solid.{IsSolid, solid_words}
 use Rattle.adj_text.proofs.TestDerived.{test_words, reads_test}
 use Rattle.adj_text.proofs.TestSpelled.{test_spelled, test_spaced}
 
@@ -31,11 +33,11 @@ if_folded : (c : Test) → IsWrittenTest c → folded (codes "IF (" ++ test_text
 if_folded c h =
     ap (λ cs. codes "IF(" ++ cs) (folded-append (test_text c) (codes ") THEN") ∙ ap (λ cs. cs ++ codes ")THEN") (solid_test c h).0 ∙ sym (append_assoc (test_text c) (codes ")") (codes "THEN")))
 
-if_reads : (s : Lines) (c : Test) → s.text ≡ if_chars c → s.mark ≡ 0 → IsWrittenTest c → Says s (opens_if c)
+if_reads : (s : Lines) (c : Test) → s.text ≡ if_chars c → mark_of s.mark ≡ unmarked → IsWrittenTest c → Says s (opens_if c)
 if_reads s c e m h =
-    let form : ReadsForm 0 classes.BlockIf (guard_words c) (opens_if c) = forms.ReadsForm.tests (statements.ReadsGuard.guard (reads_test c (Mark Right ∷ []) h)) in
-    let P : List Word → Type 0 = λ ws. ReadsForm s.mark classes.BlockIf ws (opens_if c) in
-    let Q : ℕ → Type 0 = λ mark. ReadsForm mark classes.BlockIf (guard_words c) (opens_if c) in
+    let form : ReadsForm unmarked classes.BlockIf (guard_words c) (opens_if c) = forms.ReadsForm.tests (statements.ReadsGuard.guard (reads_test c (Mark Right ∷ []) h)) in
+    let P : List Word → Type 0 = λ ws. ReadsForm (mark_of s.mark) classes.BlockIf ws (opens_if c) in
+    let Q : trees.Mark → Type 0 = λ mark. ReadsForm mark classes.BlockIf (guard_words c) (opens_if c) in
     record {
       found = if_statement s c;
       is_stated = states_if s c e h;
@@ -44,7 +46,7 @@ if_reads s c e m h =
       form = subst P (sym (if_words s c e h)) (subst Q (sym m) form);
     }
 
-pub says_if : (c : Test) → IsWrittenTest c → SaysChars 0 (codes "IF (" ++ test_text c ++ codes ") THEN") (opens_if c)
+pub says_if : (c : Test) → IsWrittenTest c → SaysChars unmarked (codes "IF (" ++ test_text c ++ codes ") THEN") (opens_if c)
 says_if c h = record {
   first = 73;
   others = codes "F (" ++ test_text c ++ codes ") THEN";

@@ -1,7 +1,7 @@
 -- CallWritten: what the words behind CALL say is written, where its literals fit.
 use Rattle.std.proofs.Common.{◌≡◌, ℕ, Bool, true, false, List, [], ◌∷◌, Option, Some, None, refl, subst}
 use Rattle.std.specs.Prelude.{codes, if◌then◌else◌}
-use Rattle.adj_tree.specs.Code.{Var, Terms, lit, var, elem, neg, bin, pow, abs, none, more, name_eq, Runtime, push_word, pop_word, push_array, pop_array, push_control, pop_control, zero_array, begin_reversal, count_actions, give_action, end_reversal, Act}
+use Rattle.adj_tree.specs.Code.{Var, Terms, lit, var, elem, neg, bin, pow, power_of, abs, none, more, name_eq, Runtime, push_word, pop_word, push_array, pop_array, push_control, pop_control, zero_array, begin_reversal, count_actions, give_action, end_reversal, Act}
 use Rattle.adj_text.specs.declared.token.TokenKind.TheVariants.{Right}
 use Rattle.adj_text.specs.Statement as statements
 use Rattle.adj_text.specs.Statement.{as_place, as_name, as_value, as_beginning, as_count, as_action, as_nothing, runtime_call, called, called_as, ReadsCall, ReadsGuarded}
@@ -39,6 +39,7 @@ good_place make h f (more (lit n) es) w = good_none
 good_place make h f (more (neg a) es) w = good_none
 good_place make h f (more (bin op a b) es) w = good_none
 good_place make h f (more (pow a k) es) w = good_none
+good_place make h f (more (power_of a c) es) w = good_none
 good_place make h f (more (abs a) es) w = good_none
 
 good_name : (make : Var → Runtime) → ((x : Var) → IsVariable x → IsWrittenRuntime (make x)) → (es : Terms) → AllWhereFit es → Good (as_name make es)
@@ -50,6 +51,7 @@ good_name make h (more (lit n) es) w = good_none
 good_name make h (more (neg a) es) w = good_none
 good_name make h (more (bin op a b) es) w = good_none
 good_name make h (more (pow a k) es) w = good_none
+good_name make h (more (power_of a c) es) w = good_none
 good_name make h (more (abs a) es) w = good_none
 
 good_value : (es : Terms) → AllWhereFit es → Good (as_value es)
@@ -74,6 +76,7 @@ good_count (more l (more s (more (lit n) es))) w = good_none
 good_count (more l (more s (more (neg a) es))) w = good_none
 good_count (more l (more s (more (bin op a b) es))) w = good_none
 good_count (more l (more s (more (pow a k) es))) w = good_none
+good_count (more l (more s (more (power_of a c) es))) w = good_none
 good_count (more l (more s (more (abs a) es))) w = good_none
 
 -- of three variables, which follow three expressions
@@ -91,18 +94,21 @@ good_action (more l (more s (more k (more (var a) (more (var f) (more (lit n) es
 good_action (more l (more s (more k (more (var a) (more (var f) (more (neg b) es)))))) w = good_none
 good_action (more l (more s (more k (more (var a) (more (var f) (more (bin op b c) es)))))) w = good_none
 good_action (more l (more s (more k (more (var a) (more (var f) (more (pow b n) es)))))) w = good_none
+good_action (more l (more s (more k (more (var a) (more (var f) (more (power_of b c) es)))))) w = good_none
 good_action (more l (more s (more k (more (var a) (more (var f) (more (abs b) es)))))) w = good_none
 good_action (more l (more s (more k (more (var a) (more (elem x u) es))))) w = good_none
 good_action (more l (more s (more k (more (var a) (more (lit n) es))))) w = good_none
 good_action (more l (more s (more k (more (var a) (more (neg b) es))))) w = good_none
 good_action (more l (more s (more k (more (var a) (more (bin op b c) es))))) w = good_none
 good_action (more l (more s (more k (more (var a) (more (pow b n) es))))) w = good_none
+good_action (more l (more s (more k (more (var a) (more (power_of b c) es))))) w = good_none
 good_action (more l (more s (more k (more (var a) (more (abs b) es))))) w = good_none
 good_action (more l (more s (more k (more (elem x u) es)))) w = good_none
 good_action (more l (more s (more k (more (lit n) es)))) w = good_none
 good_action (more l (more s (more k (more (neg b) es)))) w = good_none
 good_action (more l (more s (more k (more (bin op b c) es)))) w = good_none
 good_action (more l (more s (more k (more (pow b n) es)))) w = good_none
+good_action (more l (more s (more k (more (power_of b c) es)))) w = good_none
 good_action (more l (more s (more k (more (abs b) es)))) w = good_none
 
 good_nothing : (es : Terms) → Good (as_nothing es)

@@ -26,7 +26,7 @@ pub no_true : (b : Bool) → not b ≡ true → b ≡ false
 no_true true h = cc
 no_true false h = refl
 
-list_all-append : (p : ℕ → Bool) (xs ys : List ℕ) → list_all p xs ≡ true → list_all p ys ≡ true → list_all p (xs ++ ys) ≡ true
+pub list_all-append : (p : ℕ → Bool) (xs ys : List ℕ) → list_all p xs ≡ true → list_all p ys ≡ true → list_all p (xs ++ ys) ≡ true
 list_all-append p [] ys h g = g
 list_all-append p (x ∷ xs) ys h g = let k = both_true (p x) (list_all p xs) h in rw (k.0, list_all-append p xs ys k.1 g) refl
 

@@ -1,6 +1,6 @@
 -- The tokens of a statement cover its text behind the keyword, without the final THEN.
 use Rattle.std.proofs.Common.{◌≡◌, ℕ, zero, suc, ◌+◌, ◌-◌, ◌<◌, ◌≤◌, Bool, true, false, cond, eqb, List, [], ◌∷◌, length, drop, Option, Some, None, Result, Ok, Err, option_map, option_and_then, refl, sym, subst, arith, length-take, length-drop}
-use Rattle.std.specs.Prelude.{IfSome, IfOk, All, codes, unwrap_or}
+use Rattle.std.specs.Prelude.{IfSome, IfOk, All, codes, unwrap_or, ◌||◌}
 use Rattle.std.specs.List.{prefix_len, list_any}
 use Rattle.std.proofs.lemmas.Bool.{eqb-true}
 use Rattle.std.proofs.lemmas.List.Elements.{All-nil, All-cons}
@@ -10,10 +10,10 @@ use Rattle.adj_text.specs.Class.{kind_of, class_of, with_inner, is_matched, cond
 use Rattle.adj_text.specs.Limits.{Limits}
 use Rattle.adj_text.specs.Lined.{Lines}
 use Rattle.adj_text.specs.Refused.{◌>>=◌, Gives}
-use Rattle.adj_text.specs.Stated.{keyword_len, ending_len, place_for, call_place, tokens_of, is_too_long, with_tokens, with_class, stated, all_stated, IsCovered}
+use Rattle.adj_text.specs.Stated.{keyword_len, ending_len, place_for, call_place, tokens_of, is_too_long, is_marked_long, with_tokens, with_class, stated, all_stated, IsCovered}
 use Rattle.adj_text.specs.Word.{part}
 use Rattle.adj_text.specs.declared.stated.Kind.{Kind}
-use Rattle.adj_text.specs.declared.stated.Kind.TheVariants.{Do, BlockIf, LogicalIf, Assign, Continue, Return, End, EndIf, EndDo, Else, ImplicitNone, ElseIf, Subroutine, Integer, Call}
+use Rattle.adj_text.specs.declared.stated.Kind.TheVariants.{Do, BlockIf, LogicalIf, Assign, Continue, Return, End, EndIf, EndDo, Else, ImplicitNone, ElseIf, DoWhile, Subroutine, Integer, Call}
 use Rattle.adj_text.specs.Char.{is_capital, is_digit, is_name_char, dot, star}
 use Rattle.adj_text.specs.Token.{begins_with, dotted, mark_of, stars, first_token, token_here, token_at, tokens_from, AreJoined}
 use Rattle.adj_text.specs.declared.token.Token.{Token}
@@ -119,6 +119,7 @@ place_within text (Some EndDo) end fits = tt
 place_within text (Some Else) end fits = tt
 place_within text (Some ImplicitNone) end fits = tt
 place_within text (Some ElseIf) end fits = tt
+place_within text (Some DoWhile) end fits = tt
 place_within text (Some Subroutine) end fits = tt
 place_within text (Some Integer) end fits = tt
 
@@ -146,7 +147,7 @@ if_ok P false x y first second = second refl
 
 with_tokens_covered : (limits : Limits) (s : Lines) (kind : Kind) (found : Option (List Token)) → IfSome found (Covers s.text kind) → IfOk (with_tokens limits s kind found) IsCovered
 with_tokens_covered limits s kind None covers = tt
-with_tokens_covered limits s kind (Some tokens) covers = if_ok IsCovered (list_any (is_too_long limits.name) tokens) _ _ (λ _. tt) (λ _. covers)
+with_tokens_covered limits s kind (Some tokens) covers = if_ok IsCovered (list_any (is_too_long limits.name) tokens || is_marked_long limits.name kind s.mark) _ _ (λ _. tt) (λ _. covers)
 
 with_class_covered : (limits : Limits) (s : Lines) (class : Option Kind) → IfSome class (λ kind. keyword_len kind s.text + ending_len kind ≤ length s.text) → IfOk (with_class limits s class) IsCovered
 with_class_covered limits s None fits = tt

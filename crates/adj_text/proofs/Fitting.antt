@@ -8,7 +8,7 @@ use Rattle.std.proofs.Math.Dec.{eqb-suc-zero}
 use Rattle.std.proofs.lemmas.Bool.Decides.{Decides-eqb}
 use Rattle.std.proofs.lemmas.List.{drop_all}
 use Rattle.adj_text.specs.Char.{star, equals, is_digit}
-use Rattle.adj_text.specs.Class.{kind_of, is_do, is_if, if_kind, inner, group_len, has_open, whole, begun, is_integer}
+use Rattle.adj_text.specs.Class.{kind_of, is_do, is_if, if_kind, inner, group_len, has_open, whole, is_group, begun, is_integer}
 use Rattle.adj_text.specs.Stated.{keyword_len, ending_len}
 use Rattle.adj_text.specs.Token.{begins_with}
 use Rattle.adj_text.specs.declared.stated.Kind.{Kind}
@@ -97,9 +97,10 @@ width_fits text false h = h
 pub begun_fits : (text : List ℕ) → IfSome (begun text) (Fits text)
 begun_fits text =
     if_some (Fits text) (begins_with text (codes "ELSEIF(") && ends_with nat_eq text (codes ")THEN")) _ _ (λ h. else_if_fits text (and_first _ _ h) (and_second _ _ h)) (λ _.
+    if_some (Fits text) (begins_with text (codes "DOWHILE(") && is_group (drop 7 text)) _ _ (λ h. omega (arith, begins_fits text (codes "DOWHILE(") (and_first _ _ h))) (λ _.
     if_some (Fits text) (begins_with text (codes "SUBROUTINE")) _ _ (λ h. omega (arith, begins_fits text (codes "SUBROUTINE") h)) (λ _.
     if_some (Fits text) (begins_with text (codes "INTEGER")) _ _ (λ h. if_some (Fits text) (is_integer text) _ _ (λ _. width_fits text (begins_with (drop 7 text) (star ∷ [])) (begins_fits text (codes "INTEGER") h)) (λ _. tt)) (λ _.
-    if_some (Fits text) (begins_with text (codes "CALL")) _ _ (λ h. omega (arith, begins_fits text (codes "CALL") h)) (λ _. tt))))
+    if_some (Fits text) (begins_with text (codes "CALL")) _ _ (λ h. omega (arith, begins_fits text (codes "CALL") h)) (λ _. tt)))))
 
 pub or_fits : (P : Kind → Type 0) (x y : Option Kind) → IfSome x P → IfSome y P → IfSome (option_or x y) P
 or_fits P None y first second = second

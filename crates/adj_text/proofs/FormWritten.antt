@@ -10,7 +10,8 @@ use Rattle.adj_text.specs.declared.token.TokenKind.TheVariants.{Right, Comma}
 use Rattle.adj_text.specs.Word.{Word, Mark}
 use Rattle.adj_text.specs.Written.{IsName, IsVariable, IsPlace, AreSubscripts, AreWrittenTerms, IsWrittenTest, IsWrittenAct, IsWrittenExtent}
 use Rattle.adj_text.specs.Fits.{FitsTerms, FitsTest, FitsAct, FitsExtent}
-use Rattle.adj_text.proofs.TermWritten.{AreWords, derived_named, tree_written, both_some, map_some, WhereFits, all_where_fit, terms_count, read_written, reads_written}
+use Rattle.adj_text.proofs.Parts.{both_some, map_some}
+use Rattle.adj_text.proofs.TermWritten.{AreWords, derived_named, tree_written, WhereFits, all_where_fit, terms_count, read_written, reads_written}
 
 -- what holds of each member, member by member
 pub all_nil : {X : Type 0} (P : X → Type 0) → All P []

@@ -9,7 +9,7 @@ use Rattle.std.proofs.lemmas.List.Elements.{filter-append}
 use Rattle.adj_text.specs.Char.{is_blank, are_blank, is_allowed, upper, without_blanks, folded}
 use Rattle.adj_text.specs.Line.{cut_lines, without_cr, next_number, is_data, begins_in_either_case, is_directive}
 use Rattle.adj_text.specs.Limits.{no_limits}
-use Rattle.adj_text.specs.Lined.{Pass, flushed, mark_of, with_line, pass_over}
+use Rattle.adj_text.specs.Lined.{Pass, flushed, directive_before, with_line, pass_over}
 use Rattle.adj_text.proofs.Scans.{both_true}
 
 -- all characters may stand in a statement
@@ -55,7 +55,7 @@ continued b = 32 ∷ 32 ∷ 32 ∷ 32 ∷ 32 ∷ 43 ∷ b
 
 -- a statement of this text begins at line n, behind what a pass has
 abbrev pub going : Pass → ℕ → List ℕ → Pass
-going p n text = record { done = flushed p; current = Some (record { line = n; label = 0; mark = (mark_of p.pending).snapshots; mark_line = (mark_of p.pending).line; text = text; room = None }); pending = None }
+going p n text = record { done = flushed p; current = Some (record { line = n; label = 0; mark = (directive_before p.pending).mark; mark_line = (directive_before p.pending).line; text = text; room = None }); pending = None }
 
 no_directive : (b : List ℕ) → is_directive (32 ∷ b) ≡ false
 unfolding begins_in_either_case

@@ -18,6 +18,7 @@ pub mod Said
 pub mod Laying
 pub mod Printed
 pub mod Placed
+pub mod Solid
 pub mod Sayings
 pub mod ReadsBack
 pub mod Opened
@@ -32,8 +33,11 @@ pub mod Unlimited
 pub mod Called
 pub mod WrittenSays
 pub mod BranchSays
+pub mod Repeated
 pub mod Directives
 pub mod WrittenBack
+pub mod Parts
+pub mod Literals
 pub mod TermWritten
 pub mod FormWritten
 pub mod CallWritten

@@ -1,10 +1,10 @@
 -- Placed: the statements of a program, as it is printed, are its units again, up to line numbers.
 use Rattle.std.proofs.Common.{◌≡◌, ℕ, Bool, true, false, List, [], ◌∷◌, map, None, refl, sym, subst}
-use Rattle.adj_tree.specs.Code.{Act, Code, assign, choose, loop, call, runtime, stop, step, Declaration, Procedure}
+use Rattle.adj_tree.specs.Code.{Act, Code, assign, choose, loop, during, call, runtime, stop, step, Declaration, Procedure}
 use Rattle.adj_tree.specs.Lines.{unlined_act, unlined_code, unlined_declaration, unlined_procedure, unlined}
 use Rattle.adj_text.specs.Block as blocks
 use Rattle.adj_text.specs.Block.{ReadsBody, ReadsAct, ReadsElse}
-use Rattle.adj_text.specs.Form.{Form, subroutine, implicit_none, integers, simple, opens_do, end_do, opens_if, otherwise, end_if, ends, Statement, at}
+use Rattle.adj_text.specs.Form.{Form, subroutine, implicit_none, integers, simple, opens_do, opens_while, end_do, opens_if, otherwise, end_if, ends, Statement, at}
 use Rattle.adj_text.specs.Statement.{Item}
 use Rattle.adj_text.specs.Unit as units
 use Rattle.adj_text.specs.Unit.{ReadsImplicit, ReadsDeclarations, ReadsUnit, ReadsUnits}
@@ -17,6 +17,7 @@ abbrev mutual
   act_forms (assign x s e) rest = simple (assign x s e) ∷ rest
   act_forms (choose c a b) rest = opens_if c ∷ code_forms a (else_forms b rest)
   act_forms (loop x a b c body n) rest = opens_do None (record { counter = x; from = a; to = b; by = c }) n ∷ code_forms body (end_do ∷ rest)
+  act_forms (during c body) rest = opens_while c ∷ code_forms body (end_do ∷ rest)
   act_forms (call x es) rest = simple (call x es) ∷ rest
   act_forms (runtime r) rest = simple (runtime r) ∷ rest
 
@@ -103,6 +104,12 @@ else_back ls (step n a k) fs back ts h =
 mutual
   act_back : (a : Act) (ls : List ℕ) (fs : List Form) (ts : List Statement) → AreAt ts (act_forms a fs) → ActBack ls ts a fs
   act_back (assign x s e) ls fs ts h = simply_back ls ts (assign x s e) fs h
+  act_back (during c body) ls fs ts h =
+      let q = first_at h in
+      let r = code_back body (0 ∷ ls) (end_do ∷ fs) q.others q.left in
+      let e = first_at r.left in
+      let P : List Statement → Type 0 = λ rest. ReadsBody (0 ∷ ls) q.others rest r.body in
+      record { line = q.line; form = opens_while c; behind = q.others; rest = e.others; act = during c r.body; starts = q.are; reads = blocks.ReadsAct.repeated (subst P e.are r.reads) refl; same = rw (r.same) refl; left = e.left }
   act_back (call x es) ls fs ts h = simply_back ls ts (call x es) fs h
   act_back (runtime r) ls fs ts h = simply_back ls ts (runtime r) fs h
   act_back (choose c a b) ls fs ts h =

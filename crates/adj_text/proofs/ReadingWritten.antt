@@ -1,11 +1,13 @@
 -- ReadingWritten: what a text reads as is written, where its literals and extents are words.
-use Rattle.std.proofs.Common.{◌≡◌, ℕ, zero, suc, ◌-◌, ◌≤◌, Bool, true, false, eqb, List, [], ◌∷◌, ◌++◌, length, take, drop, Option, Some, None, Result, Ok, Err, refl, sym, ap, subst, ◌∙◌, arith, inl, inr}
-use Rattle.std.specs.Prelude.{if◌then◌else◌}
+use Rattle.std.proofs.Common.{◌≡◌, ℕ, zero, suc, ◌-◌, Bool, true, false, eqb, List, [], ◌∷◌, ◌++◌, length, take, drop, Option, Some, None, Result, Ok, Err, refl, sym, ap, subst, ◌∙◌, arith, inl, inr}
+use Rattle.std.specs.Prelude.{◌||◌, if◌then◌else◌}
 use Rattle.std.specs.List.{list_any}
 use Rattle.std.proofs.lemmas.Bool.{cases_lt}
 use Rattle.std.proofs.lemmas.List.{take-append-drop, length-take-le, drop_all}
 use Rattle.adj_tree.specs.Code.{Procedure}
 use Rattle.adj_tree.specs.declared.fault.Refusal.{Refusal}
+use Rattle.adj_tree.specs.View.{mark_of}
+use Rattle.adj_tree.specs.declared.stmt.Mark.{Mark}
 use Rattle.adj_text.specs.Class.{class_of, is_matched}
 use Rattle.adj_text.specs.Form.{Statement}
 use Rattle.adj_text.specs.Limits.{no_limits}
@@ -13,10 +15,10 @@ use Rattle.adj_text.specs.Lined.{Lines, lines_of}
 use Rattle.adj_text.specs.Reads as texts
 use Rattle.adj_text.specs.Reads.{ReadsAll, Reads}
 use Rattle.adj_text.specs.Refused.{◌>>=◌}
-use Rattle.adj_text.specs.Stated.{keyword_len, ending_len, call_place, tokens_of, is_too_long, with_tokens, with_class, stated, all_stated}
+use Rattle.adj_text.specs.Stated.{keyword_len, ending_len, call_place, tokens_of, is_too_long, is_marked_long, with_tokens, with_class, stated, all_stated}
 use Rattle.adj_text.specs.Token.{tokens_from}
 use Rattle.adj_text.specs.Word.{words_of}
-use Rattle.adj_text.specs.Written.{IsWritten}
+use Rattle.adj_text.specs.Written.{IsWrittenMark, IsWritten}
 use Rattle.adj_text.specs.Fits.{Fits}
 use Rattle.adj_text.specs.declared.stated.Kind.{Kind}
 use Rattle.adj_text.specs.declared.stated.Stated.{Stated}
@@ -72,7 +74,7 @@ named_ok l kind ts w s e = let q : record_of l kind ts ≡ s = cc in let P : Sta
 
 named_tokens : (l : Lines) (kind : Kind) (o : Option (List Token)) → ((ts : List Token) → o ≡ Some ts → AreWords (words_of l.text ts)) → NamedAs l (with_tokens no_limits l kind o)
 named_tokens l kind None w = named_err l _
-named_tokens l kind (Some ts) w = named_if l (list_any (is_too_long None) ts) _ _ (named_err l _) (named_ok l kind ts (w ts refl))
+named_tokens l kind (Some ts) w = named_if l (list_any (is_too_long None) ts || is_marked_long None kind l.mark) _ _ (named_err l _) (named_ok l kind ts (w ts refl))
 
 kind_named : (l : Lines) (kind : Kind) (ts : List Token) → tokens_of kind l.text ≡ Some ts → AreWords (words_of l.text ts)
 kind_named l kind ts e = part_named l.text (call_place kind l.text) (keyword_len kind l.text) (length l.text - ending_len kind - keyword_len kind l.text) ts e
@@ -88,7 +90,7 @@ named_stated l = named_if l (eqb (length l.text) 0) _ _ (named_err l _) (named_c
 -- each of some statements
 abbrev AreNamedStatements : List Stated → Type 0
 AreNamedStatements [] = Unit {0}
-AreNamedStatements (s ∷ ss) = (s.mark ≤ 64) × AreWords (words_of s.text s.tokens) × AreNamedStatements ss
+AreNamedStatements (s ∷ ss) = IsWrittenMark (mark_of s.mark) × AreWords (words_of s.text s.tokens) × AreNamedStatements ss
 
 all_named : (ls : List Lines) (ss : List Stated) → AreMarked ls → all_stated no_limits ls ≡ Ok ss → AreNamedStatements ss
 unfolding all_stated
@@ -97,9 +99,9 @@ all_named (l ∷ ls) ss m e =
     let a = bind_ok (stated no_limits l) (λ x. all_stated no_limits ls >>= λ xs. Ok (x ∷ xs)) ss e in
     let b = bind_ok (all_stated no_limits ls) (λ xs. Ok (a.0 ∷ xs)) ss a.2 in
     let n = named_stated l a.0 a.1 in
-    let few : a.0.mark ≤ 64 = let same = n.mark in let le = m.0 in omega arith in
+    let marked : IsWrittenMark (mark_of a.0.mark) = subst (λ (d : Mark). IsWrittenMark (mark_of d)) (sym n.mark) m.0 in
     let q : a.0 ∷ b.0 ≡ ss = cc in
-    subst AreNamedStatements q (few, n.words, all_named ls b.0 m.1 b.1)
+    subst AreNamedStatements q (marked, n.words, all_named ls b.0 m.1 b.1)
 
 forms_written : {ss : List Stated} {ts : List Statement} → ReadsAll ss ts → AreNamedStatements ss → AreWrittenForms ts
 forms_written texts.ReadsAll.none h = tt

@@ -1,14 +1,15 @@
 -- ReadsBack: the canonical text of a program reads as it, where the characters of each statement say it.
-use Rattle.std.proofs.Common.{ℕ, zero, suc, ◌≤◌, arith, Bool, true, false, List, [], ◌∷◌, ◌++◌, map, None, refl, sym, subst, append_assoc}
+use Rattle.std.proofs.Common.{ℕ, Bool, true, false, List, [], ◌∷◌, ◌++◌, map, None, refl, sym, subst, append_assoc}
 use Rattle.std.specs.Prelude.{codes}
 use Rattle.std.specs.List.{flat_map}
-use Rattle.adj_tree.specs.Code.{Act, Code, assign, choose, loop, call, runtime, stop, step, Declaration, Procedure}
+use Rattle.adj_tree.specs.Code.{plain, shadow, helper, Mark, unmarked, with_count, count_from, Act, Code, assign, choose, loop, during, call, runtime, stop, step, Declaration, Procedure}
 use Rattle.adj_text.specs.declared.stated.Kind.TheVariants as classes
 use Rattle.adj_text.specs.Char.{comma, equals}
-use Rattle.adj_text.specs.Form.{Form, subroutine, implicit_none, integers, simple, opens_do, end_do, opens_if, otherwise, end_if, ends, ReadsForm}
+use Rattle.adj_text.specs.Form.{Form, subroutine, implicit_none, integers, simple, opens_do, opens_while, end_do, opens_if, otherwise, end_if, ends, ReadsForm}
 use Rattle.adj_text.specs.Form as forms
 use Rattle.adj_text.specs.ReadsAs.{ReadsAs}
 use Rattle.adj_text.specs.Text.{statement, bracketed, var_text, term_text, term_texts, place_text, test_text, runtime_name, runtime_actuals, directive, step_text, act_text, code_text, else_text, extent_text, declaration_text, implicit_text, procedure_text, text_of}
+use Rattle.adj_text.specs.Written.{IsWrittenMark}
 use Rattle.adj_text.proofs.Placed.{act_forms, code_forms, else_forms, item_of, declaration_forms, implicit_forms, procedure_forms, program_forms, program_back}
 use Rattle.adj_text.proofs.Plain.{is_end, is_end_if, is_end_do, is_else, is_implicit}
 use Rattle.adj_text.proofs.Printed as printed
@@ -18,25 +19,26 @@ use Rattle.adj_text.proofs.Sayings.{says_words}
 -- the characters of each statement say it
 abbrev mutual
   pub SaidAct : Act → Type 0
-  SaidAct (assign x s e) = SaysChars 0 (place_text x s ++ equals ∷ term_text e) (simple (assign x s e))
-  SaidAct (choose c a b) = SaysChars 0 (codes "IF (" ++ test_text c ++ codes ") THEN") (opens_if c) × SaidCode a × SaidCode b
-  SaidAct (loop x a b c body n) = (n ≤ 64) × SaysChars n (codes "DO " ++ var_text x ++ equals ∷ term_text a ++ comma ∷ term_text b ++ step_text c) (opens_do None (record { counter = x; from = a; to = b; by = c }) n) × SaidCode body
-  SaidAct (call x es) = SaysChars 0 (codes "CALL " ++ x ++ bracketed (term_texts es)) (simple (call x es))
-  SaidAct (runtime r) = SaysChars 0 (codes "CALL " ++ runtime_name r ++ bracketed (runtime_actuals r)) (simple (runtime r))
+  SaidAct (assign x s e) = SaysChars unmarked (place_text x s ++ equals ∷ term_text e) (simple (assign x s e))
+  SaidAct (choose c a b) = SaysChars unmarked (codes "IF (" ++ test_text c ++ codes ") THEN") (opens_if c) × SaidCode a × SaidCode b
+  SaidAct (loop x a b c body m) = IsWrittenMark m × SaysChars m (codes "DO " ++ var_text x ++ equals ∷ term_text a ++ comma ∷ term_text b ++ step_text c) (opens_do None (record { counter = x; from = a; to = b; by = c }) m) × SaidCode body
+  SaidAct (during c body) = SaysChars unmarked (codes "DO WHILE (" ++ test_text c ++ codes ")") (opens_while c) × SaidCode body
+  SaidAct (call x es) = SaysChars unmarked (codes "CALL " ++ x ++ bracketed (term_texts es)) (simple (call x es))
+  SaidAct (runtime r) = SaysChars unmarked (codes "CALL " ++ runtime_name r ++ bracketed (runtime_actuals r)) (simple (runtime r))
 
   pub SaidCode : Code → Type 0
   SaidCode stop = Unit {0}
   SaidCode (step line a rest) = SaidAct a × SaidCode rest
 
 abbrev pub SaidDeclaration : Declaration → Type 0
-SaidDeclaration d = SaysChars 0 (codes "INTEGER*8 " ++ d.name ++ bracketed (map extent_text d.extents)) (integers (item_of d ∷ []))
+SaidDeclaration d = SaysChars unmarked (codes "INTEGER*8 " ++ d.name ++ bracketed (map extent_text d.extents)) (integers (item_of d ∷ []))
 
 abbrev pub SaidDeclarations : List Declaration → Type 0
 SaidDeclarations [] = Unit {0}
 SaidDeclarations (d ∷ ds) = SaidDeclaration d × SaidDeclarations ds
 
 pub record SaidProcedure (p : Procedure) : Type 0 where
-  pub heading : SaysChars 0 (codes "SUBROUTINE " ++ p.name ++ bracketed p.dummies) (subroutine p.name p.dummies)
+  pub heading : SaysChars unmarked (codes "SUBROUTINE " ++ p.name ++ bracketed p.dummies) (subroutine p.name p.dummies)
   pub declarations : SaidDeclarations p.declarations
   pub body : SaidCode p.body
 
@@ -45,20 +47,20 @@ SaidProgram [] = Unit {0}
 SaidProgram (p ∷ ps) = SaidProcedure p × SaidProgram ps
 
 -- statements that are one word
-says_end : SaysChars 0 (codes "END") ends
-says_end = says_words 0 classes.End 69 (codes "ND") (codes "END") [] (codes "END") ends refl refl refl refl is_end forms.ReadsForm.ended
+says_end : SaysChars unmarked (codes "END") ends
+says_end = says_words unmarked classes.End 69 (codes "ND") (codes "END") [] (codes "END") ends refl refl refl refl is_end forms.ReadsForm.ended
 
-says_end_if : SaysChars 0 (codes "END IF") end_if
-says_end_if = says_words 0 classes.EndIf 69 (codes "ND IF") (codes "ENDIF") [] (codes "END IF") end_if refl refl refl refl is_end_if forms.ReadsForm.closed
+says_end_if : SaysChars unmarked (codes "END IF") end_if
+says_end_if = says_words unmarked classes.EndIf 69 (codes "ND IF") (codes "ENDIF") [] (codes "END IF") end_if refl refl refl refl is_end_if forms.ReadsForm.closed
 
-says_end_do : SaysChars 0 (codes "END DO") end_do
-says_end_do = says_words 0 classes.EndDo 69 (codes "ND DO") (codes "ENDDO") [] (codes "END DO") end_do refl refl refl refl is_end_do forms.ReadsForm.finished
+says_end_do : SaysChars unmarked (codes "END DO") end_do
+says_end_do = says_words unmarked classes.EndDo 69 (codes "ND DO") (codes "ENDDO") [] (codes "END DO") end_do refl refl refl refl is_end_do forms.ReadsForm.finished
 
-says_else : SaysChars 0 (codes "ELSE") otherwise
-says_else = says_words 0 classes.Else 69 (codes "LSE") (codes "ELSE") [] (codes "ELSE") otherwise refl refl refl refl is_else forms.ReadsForm.turns
+says_else : SaysChars unmarked (codes "ELSE") otherwise
+says_else = says_words unmarked classes.Else 69 (codes "LSE") (codes "ELSE") [] (codes "ELSE") otherwise refl refl refl refl is_else forms.ReadsForm.turns
 
-says_implicit : SaysChars 0 (codes "IMPLICIT NONE") implicit_none
-says_implicit = says_words 0 classes.ImplicitNone 73 (codes "MPLICIT NONE") (codes "IMPLICITNONE") [] (codes "IMPLICIT NONE") implicit_none refl refl refl refl is_implicit forms.ReadsForm.implicit
+says_implicit : SaysChars unmarked (codes "IMPLICIT NONE") implicit_none
+says_implicit = says_words unmarked classes.ImplicitNone 73 (codes "MPLICIT NONE") (codes "IMPLICITNONE") [] (codes "IMPLICIT NONE") implicit_none refl refl refl refl is_implicit forms.ReadsForm.implicit
 
 -- pieces in front of what is printed
 module _ {fs : List Form} where
@@ -74,9 +76,12 @@ printed_else (step n a k) cs fs inner =
     subst P (sym (append_assoc (statement (codes "ELSE")) (act_text a) (code_text k))) (apart (statement (codes "ELSE")) (act_text a ++ code_text k) behind (printed.Printed.more says_else inner))
 
 -- a statement behind its directive, or without one
-printed_marked : (n : ℕ) (chars cs : List ℕ) {f : Form} {fs : List Form} → n ≤ 64 → SaysChars n chars f → Printed cs fs → Printed ((directive n ++ statement chars) ++ cs) (f ∷ fs)
-printed_marked zero chars cs le h rest = printed.Printed.more h rest
-printed_marked (suc n) chars cs le h rest = apart (directive (suc n)) (statement chars) cs (printed.Printed.marked (omega arith) le h rest)
+printed_marked : (m : Mark) (chars cs : List ℕ) {f : Form} {fs : List Form} → IsWrittenMark m → SaysChars m chars f → Printed cs fs → Printed ((directive m ++ statement chars) ++ cs) (f ∷ fs)
+printed_marked unmarked chars cs w h rest = printed.Printed.more h rest
+printed_marked (with_count n) chars cs w h rest = apart (directive (with_count n)) (statement chars) cs (printed.Printed.marked w h rest)
+printed_marked (count_from (plain x)) chars cs w h rest = apart (directive (count_from (plain x))) (statement chars) cs (printed.Printed.marked w h rest)
+printed_marked (count_from (shadow x)) chars cs w h rest = absurd w
+printed_marked (count_from (helper r k)) chars cs w h rest = absurd w
 
 mutual
   printed_act : (a : Act) {cs : List ℕ} {fs : List Form} → SaidAct a → Printed cs fs → Printed (act_text a ++ cs) (act_forms a fs)
@@ -89,11 +94,16 @@ mutual
       let other = printed_else b cs fs (printed_code b h.2 (printed.Printed.more says_end_if rest)) in
       let inner = printed_code a h.1 other in
       apart (first ++ code_text a ++ else_text b) last cs (apart (first ++ code_text a) (else_text b) (last ++ cs) (apart first (code_text a) (else_text b ++ (last ++ cs)) (printed.Printed.more h.0 inner)))
-  printed_act (loop x a b c body n) {cs = cs} {fs = fs} h rest =
+  printed_act (during c body) {cs = cs} {fs = fs} h rest =
+      let first = statement (codes "DO WHILE (" ++ test_text c ++ codes ")") in
+      let last = statement (codes "END DO") in
+      let inner = printed_code body h.1 (printed.Printed.more says_end_do rest) in
+      apart (first ++ code_text body) last cs (apart first (code_text body) (last ++ cs) (printed.Printed.more h.0 inner))
+  printed_act (loop x a b c body m) {cs = cs} {fs = fs} h rest =
       let first = statement (codes "DO " ++ var_text x ++ equals ∷ term_text a ++ comma ∷ term_text b ++ step_text c) in
       let last = statement (codes "END DO") in
       let inner = printed_code body h.2 (printed.Printed.more says_end_do rest) in
-      apart (directive n ++ first ++ code_text body) last cs (apart (directive n ++ first) (code_text body) (last ++ cs) (printed_marked n _ _ h.0 h.1 inner))
+      apart (directive m ++ first ++ code_text body) last cs (apart (directive m ++ first) (code_text body) (last ++ cs) (printed_marked m _ _ h.0 h.1 inner))
 
   printed_code : (k : Code) {cs : List ℕ} {fs : List Form} → SaidCode k → Printed cs fs → Printed (code_text k ++ cs) (code_forms k fs)
   printed_code stop h rest = rest

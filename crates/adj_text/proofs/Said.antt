@@ -1,6 +1,7 @@
 -- Said: a text reads as the units of what its statements say.
 use Rattle.std.proofs.Common.{◌≡◌, ℕ, List, [], ◌∷◌, Ok, refl, sym, ap, subst, ◌∙◌}
 use Rattle.adj_tree.specs.Code.{Procedure}
+use Rattle.adj_tree.specs.View.{mark_of}
 use Rattle.adj_text.specs.declared.stated.Kind.{Kind}
 use Rattle.adj_text.specs.declared.stated.Stated.{Stated}
 use Rattle.adj_text.specs.Form.{Form, Statement, at, ReadsForm}
@@ -20,12 +21,12 @@ pub record Says (s : Lines) (f : Form) : Type 0 where
   pub is_stated : stated no_limits s ≡ Ok found
   pub at_line : found.line ≡ s.line
   pub with_label : found.label ≡ s.label
-  pub form : ReadsForm found.mark found.kind (words_of found.text found.tokens) f
+  pub form : ReadsForm (mark_of found.mark) found.kind (words_of found.text found.tokens) f
 
 -- lines whose characters are a keyword and words that derive the form
-pub says_statement : (s : Lines) (kind : Kind) (keyword : List ℕ) (ws : List Word) (f : Form) → s.text ≡ text_of keyword ws → IsStatement kind keyword ws → ReadsForm s.mark kind ws f → Says s f
+pub says_statement : (s : Lines) (kind : Kind) (keyword : List ℕ) (ws : List Word) (f : Form) → s.text ≡ text_of keyword ws → IsStatement kind keyword ws → ReadsForm (mark_of s.mark) kind ws f → Says s f
 says_statement s kind keyword ws f e h form =
-    let P : List Word → Type 0 = λ ws. ReadsForm s.mark kind ws f in
+    let P : List Word → Type 0 = λ ws. ReadsForm (mark_of s.mark) kind ws f in
     record {
       found = statement_of s kind keyword ws;
       is_stated = states s kind keyword ws e h;

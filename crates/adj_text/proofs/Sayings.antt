@@ -1,74 +1,22 @@
 -- Sayings: characters that are a keyword, blanks among it, and spelled words say what the words derive.
-use Rattle.std.proofs.Common.{◌≡◌, ℕ, true, false, List, [], ◌∷◌, ◌++◌, refl, ap, ◌∙◌, arith}
+use Rattle.std.proofs.Common.{◌≡◌, ℕ, false, List, [], ◌∷◌, ◌++◌, refl, ap, ◌∙◌}
 use Rattle.std.specs.List.{flat_map, list_all}
-use Rattle.std.proofs.lemmas.Bool.Decides.{nat_tests}
+use Rattle.adj_tree.specs.Code as trees
 use Rattle.adj_text.specs.declared.stated.Kind.{Kind}
-use Rattle.adj_text.specs.declared.token.TokenKind.{TokenKind}
-use Rattle.adj_text.specs.declared.token.TokenKind.TheVariants as kinds
-use Rattle.adj_text.specs.Char.{is_blank, is_allowed, upper, folded, is_name_char}
+use Rattle.adj_text.specs.Char.{is_blank, folded, is_name_char}
 use Rattle.adj_text.specs.Form.{Form, ReadsForm}
-use Rattle.adj_text.specs.Word.{Word, Named, Digits, Mark}
-use Rattle.adj_text.proofs.Classes.{name_chars, number_chars}
+use Rattle.adj_text.specs.Word.{Word, Named}
+use Rattle.adj_text.proofs.Classes.{name_chars}
 use Rattle.adj_text.proofs.Joins.{AreAllowed, allowed-append, folded-append}
 use Rattle.adj_text.proofs.Printed.{SaysChars}
 use Rattle.adj_text.proofs.Said.{says_statement}
 use Rattle.adj_text.proofs.Scans.{both_true}
-use Rattle.adj_text.proofs.Spelled.{chars_of, spelling, AreSpaced}
+use Rattle.adj_text.proofs.Solid.{name_char_stays, solid_words}
+use Rattle.adj_text.proofs.Spelled.{spelling}
 use Rattle.adj_text.proofs.Stating.{IsStatement}
 
--- characters that folding leaves, and that may stand in a statement
-abbrev pub IsSolid : List ℕ → Type 0
-IsSolid cs = (folded cs ≡ cs) × AreAllowed cs
-
-pub solid-append : (xs ys : List ℕ) → IsSolid xs → IsSolid ys → IsSolid (xs ++ ys)
-solid-append xs ys h g = (folded-append xs ys ∙ rw (h.0, g.0) refl, allowed-append xs ys h.1 g.1)
-
-name_char_stays : (c : ℕ) → is_name_char c ≡ true → (is_blank c ≡ false) × (upper c ≡ c)
-name_char_stays c h = (grind (arith, nat_tests), grind (arith, nat_tests))
-
-name_char_allowed : (c : ℕ) → is_name_char c ≡ true → is_allowed c ≡ true
-name_char_allowed c h = grind (arith, nat_tests)
-
-pub solid_chars : (cs : List ℕ) → list_all is_name_char cs ≡ true → IsSolid cs
-solid_chars [] h = (refl, refl)
-solid_chars (c ∷ cs) h =
-    let p = both_true (is_name_char c) (list_all is_name_char cs) h in
-    let stays = name_char_stays c p.0 in
-    let rest = solid_chars cs p.1 in
-    (rw (stays.0, stays.1, rest.0) refl, rw (name_char_allowed c p.0, rest.1) refl)
-
-solid_mark : (k : TokenKind) → IsSolid (chars_of k)
-solid_mark kinds.Name = (refl, refl)
-solid_mark kinds.Number = (refl, refl)
-solid_mark kinds.Power = (refl, refl)
-solid_mark kinds.Star = (refl, refl)
-solid_mark kinds.Slash = (refl, refl)
-solid_mark kinds.Plus = (refl, refl)
-solid_mark kinds.Minus = (refl, refl)
-solid_mark kinds.Left = (refl, refl)
-solid_mark kinds.Right = (refl, refl)
-solid_mark kinds.Comma = (refl, refl)
-solid_mark kinds.Equals = (refl, refl)
-solid_mark kinds.Lt = (refl, refl)
-solid_mark kinds.Le = (refl, refl)
-solid_mark kinds.Eq = (refl, refl)
-solid_mark kinds.Ne = (refl, refl)
-solid_mark kinds.Gt = (refl, refl)
-solid_mark kinds.Ge = (refl, refl)
-solid_mark kinds.Not = (refl, refl)
-solid_mark kinds.And = (refl, refl)
-solid_mark kinds.Or = (refl, refl)
-solid_mark kinds.Call = (refl, refl)
-
--- spelled words are such characters
-pub solid_words : (ws : List Word) → AreSpaced ws → IsSolid (flat_map spelling ws)
-solid_words [] a = (refl, refl)
-solid_words (Named x ∷ ws) a = solid-append x (flat_map spelling ws) (solid_chars x (name_chars x a.0)) (solid_words ws a.2)
-solid_words (Digits ds ∷ ws) a = solid-append ds (flat_map spelling ws) (solid_chars ds (number_chars ds a.0)) (solid_words ws a.2)
-solid_words (Mark k ∷ ws) a = solid-append (chars_of k) (flat_map spelling ws) (solid_mark k) (solid_words ws a.2)
-
 -- a keyword with blanks among it, and words behind it
-pub says_words : (mark : ℕ) (kind : Kind) (first : ℕ) (lead keyword : List ℕ) (ws : List Word) (chars : List ℕ) (f : Form) → chars ≡ (first ∷ lead) ++ flat_map spelling ws → folded (first ∷ lead) ≡ keyword → is_blank first ≡ false → AreAllowed (first ∷ lead) → IsStatement kind keyword ws → ReadsForm mark kind ws f → SaysChars mark chars f
+pub says_words : (mark : trees.Mark) (kind : Kind) (first : ℕ) (lead keyword : List ℕ) (ws : List Word) (chars : List ℕ) (f : Form) → chars ≡ (first ∷ lead) ++ flat_map spelling ws → folded (first ∷ lead) ≡ keyword → is_blank first ≡ false → AreAllowed (first ∷ lead) → IsStatement kind keyword ws → ReadsForm mark kind ws f → SaysChars mark chars f
 says_words mark kind first lead keyword ws chars f are folds some allowed h form =
     let solid = solid_words ws h.spaced in
     record {
@@ -81,7 +29,7 @@ says_words mark kind first lead keyword ws chars f are folds some allowed h form
     }
 
 -- a statement without a keyword: its first word is a name
-pub says_named : (mark : ℕ) (kind : Kind) (x : List ℕ) (ws : List Word) (chars : List ℕ) (f : Form) → chars ≡ x ++ flat_map spelling ws → IsStatement kind [] (Named x ∷ ws) → ReadsForm mark kind (Named x ∷ ws) f → SaysChars mark chars f
+pub says_named : (mark : trees.Mark) (kind : Kind) (x : List ℕ) (ws : List Word) (chars : List ℕ) (f : Form) → chars ≡ x ++ flat_map spelling ws → IsStatement kind [] (Named x ∷ ws) → ReadsForm mark kind (Named x ∷ ws) f → SaysChars mark chars f
 says_named mark kind [] ws chars f are h form = absurd (cc (h.spaced.0))
 says_named mark kind (c ∷ cs) ws chars f are h form =
     let solid = solid_words (Named (c ∷ cs) ∷ ws) h.spaced in

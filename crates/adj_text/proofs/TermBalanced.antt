@@ -3,7 +3,7 @@ use Rattle.std.proofs.Common.{◌≡◌, ℕ, ◌<◌, ◌^◌, pos, negsuc, Boo
 use Rattle.std.specs.Prelude.{codes, nat_lt, ◌&&◌, not}
 use Rattle.std.specs.List.{list_all}
 use Rattle.std.specs.Fmt.{decimal}
-use Rattle.adj_tree.specs.Code.{Op, plus, minus, times, quot, modulo, greater, lesser, Term, Terms, lit, var, elem, neg, bin, pow, abs, none, more, Var, plain, shadow, helper, Rel, is_less, is_most, is_same, is_other, is_greater, is_least, Test, compare, negation, conjunction, disjunction}
+use Rattle.adj_tree.specs.Code.{Op, plus, minus, times, quot, modulo, greater, lesser, Term, Terms, lit, var, elem, neg, bin, pow, power_of, abs, none, more, Var, plain, shadow, helper, Rel, is_less, is_most, is_same, is_other, is_greater, is_least, Test, compare, negation, conjunction, disjunction}
 use Rattle.adj_text.specs.Char.{left, right, comma, equals}
 use Rattle.adj_text.specs.Text.{left_place, right_place, term_level, var_text, opening, between, closing, enclosed, bracketed, term_text, term_texts, rel_text, test_level, test_text}
 use Rattle.adj_text.specs.Written.{IsVariable, IsWrittenTerm, AreWrittenTerms, IsWrittenTest}
@@ -61,6 +61,7 @@ mutual
   term_balanced (neg a) h = balanced-append (45 ∷ []) (enclosed (nat_lt (term_level a) 1) (term_text a)) (balanced-plain_char 45 refl) (balanced-enclosed (nat_lt (term_level a) 1) (term_text a) (term_balanced a h))
   term_balanced (bin op a b) h = balanced-op op (enclosed (nat_lt (term_level a) (left_place op)) (term_text a)) (enclosed (nat_lt (term_level b) (right_place op)) (term_text b)) (balanced-enclosed (nat_lt (term_level a) (left_place op)) (term_text a) (term_balanced a h.0)) (balanced-enclosed (nat_lt (term_level b) (right_place op)) (term_text b) (term_balanced b h.1))
   term_balanced (pow a k) h = balanced-append (enclosed (nat_lt (term_level a) 3) (term_text a) ++ codes "**") (decimal k) (balanced-append (enclosed (nat_lt (term_level a) 3) (term_text a)) (codes "**") (balanced-enclosed (nat_lt (term_level a) 3) (term_text a) (term_balanced a h.0)) (balanced-plain (codes "**") refl)) (balanced-decimal k (let small = h.1 in omega arith))
+  term_balanced (power_of a b) h = balanced-append (enclosed (nat_lt (term_level a) 3) (term_text a) ++ codes "**") (enclosed (nat_lt (term_level b) 2) (term_text b)) (balanced-append (enclosed (nat_lt (term_level a) 3) (term_text a)) (codes "**") (balanced-enclosed (nat_lt (term_level a) 3) (term_text a) (term_balanced a h.0)) (balanced-plain (codes "**") refl)) (balanced-enclosed (nat_lt (term_level b) 2) (term_text b) (term_balanced b h.1))
   term_balanced (abs a) h = balanced-append (codes "ABS") (grouped (term_text a)) (balanced-plain (codes "ABS") refl) (balanced-grouped (term_text a) (term_balanced a h).inner)
 
   pub terms_balanced : (s : Terms) → AreWrittenTerms s → AreBalanced (term_texts s)

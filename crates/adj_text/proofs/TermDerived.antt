@@ -5,13 +5,15 @@ use Rattle.std.proofs.lemmas.Bool.{cases_lt, lt-ltb, le-ltb, le-leb}
 use Rattle.std.specs.Fmt.{decimal}
 use Rattle.std.proofs.lemmas.List.Sums.{fold_push}
 use Rattle.std.proofs.lemmas.Fmt.{decimal_by_steps}
-use Rattle.adj_tree.specs.Code.{Op, plus, minus, times, quot, modulo, greater, lesser, Term, Terms, lit, var, elem, neg, bin, pow, abs, none, more, plain, shadow, helper}
+use Rattle.adj_tree.specs.Code.{Op, plus, minus, times, quot, modulo, greater, lesser, Term, Terms, lit, var, elem, neg, bin, pow, power_of, abs, none, more, plain, shadow, helper}
 use Rattle.adj_text.specs.declared.token.TokenKind.TheVariants.{Power, Star, Slash, Plus, Minus, Left, Right, Comma}
 use Rattle.adj_text.specs.Char.{number_of}
 use Rattle.adj_text.specs.Grammar.{Syntax, number, variable, negated, joined, raised, applied, Arguments, only, beside, Symbol, Sum, Product, Factor, Primary, adds, subtracts, multiplies, divides, Derives, DerivesAll, literal, name, group, application, primary, power, factor, product, term, sign, sum, single, another, exponent, with_both, tree, trees_before, operation_of, is_absolute, application_of, takes, count_of, ReadsTerm, ReadsTerms}
 use Rattle.adj_text.specs.Text.{term_level}
 use Rattle.adj_text.specs.Word.{Word, Named, Digits, Mark}
+use Rattle.adj_text.specs.Written as trees
 use Rattle.adj_text.specs.Written.{is_intrinsic, IsWrittenTerm, AreWrittenTerms}
+use Rattle.adj_text.proofs.Literals.{literal_is}
 use Rattle.adj_text.proofs.TermWords.{Words, enclosed_words, term_words, comma_words}
 
 -- what derives an operand in a place of a level
@@ -136,6 +138,11 @@ raised_to ws a k h d =
     let e : with_both (λ t j. Some (pow t j)) (tree d.0) (exponent (number (decimal k))) ≡ Some (pow a k) = rw (d.1, exponent_stands k h) refl in
     (raised d.0 (number (decimal k)), e, λ rest. power (d.2 (Mark Power ∷ Digits (decimal k) ∷ rest)) (primary literal))
 
+raised_by : (ws vs : Words) (a b : Term) → trees.is_literal b ≡ false → Stands Primary ws a → Stands Factor vs b → Stands Factor (λ rest. ws (Mark Power ∷ vs rest)) (power_of a b)
+raised_by ws vs a b h d e =
+    let kept : tree (raised d.0 e.0) ≡ Some (power_of a b) = rw (literal_is e.0 b e.1 ∙ h, d.1, e.1) refl in
+    (raised d.0 e.0, kept, λ rest. power (d.2 (Mark Power ∷ vs rest)) (e.2 rest))
+
 negative : (ws : Words) (a : Term) → Stands Product ws a → Stands Sum (λ rest. Mark Minus ∷ ws rest) (neg a)
 negative ws a d = (negated d.0, rw d.1 refl, λ rest. sign subtracts (d.2 rest))
 
@@ -170,6 +177,7 @@ derives (bin modulo a b) h = intrinsic (codes "MOD") modulo (enclosed_words (ltb
 derives (bin greater a b) h = intrinsic (codes "MAX") greater (enclosed_words (ltb (term_level a) 0) (term_words a)) (enclosed_words (ltb (term_level b) 0) (term_words b)) a b refl (operand (term_level a) 0 (term_words a) a (derives a h.0)) (operand (term_level b) 0 (term_words b) b (derives b h.1))
 derives (bin lesser a b) h = intrinsic (codes "MIN") lesser (enclosed_words (ltb (term_level a) 0) (term_words a)) (enclosed_words (ltb (term_level b) 0) (term_words b)) a b refl (operand (term_level a) 0 (term_words a) a (derives a h.0)) (operand (term_level b) 0 (term_words b) b (derives b h.1))
 derives (pow a k) h = raised_to (enclosed_words (ltb (term_level a) 3) (term_words a)) a k h.1 (operand (term_level a) 3 (term_words a) a (derives a h.0))
+derives (power_of a b) h = raised_by (enclosed_words (ltb (term_level a) 3) (term_words a)) (enclosed_words (ltb (term_level b) 2) (term_words b)) a b h.2 (operand (term_level a) 3 (term_words a) a (derives a h.0)) (operand (term_level b) 2 (term_words b) b (derives b h.1))
 derives (abs a) h = absolute (term_words a) a (lower (term_level a) 0 (term_words a) a (omega arith) (derives a h))
 
 -- in a place, in parentheses where its level is below that of the place

@@ -5,7 +5,7 @@ use Rattle.std.specs.List.{list_all}
 use Rattle.std.specs.Fmt.{decimal}
 use Rattle.std.proofs.lemmas.Fmt.{decimal_by_steps}
 use Rattle.std.proofs.lemmas.Bool.Decides.{nat_tests}
-use Rattle.adj_tree.specs.Code.{Op, plus, minus, times, quot, modulo, greater, lesser, Term, Terms, lit, var, elem, neg, bin, pow, abs, none, more, Var, plain, shadow, helper}
+use Rattle.adj_tree.specs.Code.{Op, plus, minus, times, quot, modulo, greater, lesser, Term, Terms, lit, var, elem, neg, bin, pow, power_of, abs, none, more, Var, plain, shadow, helper}
 use Rattle.adj_text.specs.declared.token.TokenKind.TheVariants.{Power, Star, Right}
 use Rattle.adj_text.specs.Char.{is_digit}
 use Rattle.adj_text.specs.Text.{left_place, right_place, term_level, var_text}
@@ -111,6 +111,7 @@ starts (elem x s) rest = tt
 starts (neg a) rest = tt
 starts (bin op a b) rest = opening_starts op (enclosed_words (nat_lt (term_level a) (left_place op)) (term_words a) (Mark (mark_between op) ∷ enclosed_words (nat_lt (term_level b) (right_place op)) (term_words b) (closing_words op rest))) (enclosed_starts (nat_lt (term_level a) (left_place op)) (term_words a) (Mark (mark_between op) ∷ enclosed_words (nat_lt (term_level b) (right_place op)) (term_words b) (closing_words op rest)) (starts a (Mark (mark_between op) ∷ enclosed_words (nat_lt (term_level b) (right_place op)) (term_words b) (closing_words op rest))))
 starts (pow a k) rest = enclosed_starts (nat_lt (term_level a) 3) (term_words a) (Mark Power ∷ Digits (decimal k) ∷ rest) (starts a (Mark Power ∷ Digits (decimal k) ∷ rest))
+starts (power_of a b) rest = enclosed_starts (nat_lt (term_level a) 3) (term_words a) (Mark Power ∷ enclosed_words (nat_lt (term_level b) 2) (term_words b) rest) (starts a (Mark Power ∷ enclosed_words (nat_lt (term_level b) 2) (term_words b) rest))
 starts (abs a) rest = tt
 
 joined_spaced : (op : Op) (ws vs : Words) → AreSpacedBefore ws → AreSpacedBefore vs → ((rest : List Word) → EndsMark Star (vs rest)) → AreSpacedBefore (λ rest. opening_words op (ws (Mark (mark_between op) ∷ vs (closing_words op rest))))
@@ -137,6 +138,7 @@ mutual
   term_spaced (neg t) h rest e a = (tt, tt, enclosed_spaced (nat_lt (term_level t) 1) (term_words t) (term_spaced t h) rest e a)
   term_spaced (bin op t u) h rest e a = joined_spaced op (enclosed_words (nat_lt (term_level t) (left_place op)) (term_words t)) (enclosed_words (nat_lt (term_level u) (right_place op)) (term_words u)) (enclosed_spaced (nat_lt (term_level t) (left_place op)) (term_words t) (term_spaced t h.0)) (enclosed_spaced (nat_lt (term_level u) (right_place op)) (term_words u) (term_spaced u h.1)) (λ r. enclosed_starts (nat_lt (term_level u) (right_place op)) (term_words u) r (starts u r)) rest e a
   term_spaced (pow t k) h rest e a = enclosed_spaced (nat_lt (term_level t) 3) (term_words t) (term_spaced t h.0) (Mark Power ∷ Digits (decimal k) ∷ rest) tt (tt, tt, (is_number-decimal k (let small = h.1 in omega arith), ends_number rest e, a))
+  term_spaced (power_of t u) h rest e a = enclosed_spaced (nat_lt (term_level t) 3) (term_words t) (term_spaced t h.0) (Mark Power ∷ enclosed_words (nat_lt (term_level u) 2) (term_words u) rest) tt (tt, tt, enclosed_spaced (nat_lt (term_level u) 2) (term_words u) (term_spaced u h.1) rest e a)
   term_spaced (abs t) h rest e a = (refl, tt, (tt, tt, term_spaced t h (Mark Right ∷ rest) tt (tt, tt, a)))
 
   pub bracketed_spaced : (s : Terms) → AreWrittenTerms s → AreSpacedBefore (bracketed_words s)

@@ -3,7 +3,7 @@ use Rattle.std.proofs.Common.{◌≡◌, ℕ, pos, negsuc, Bool, true, false, Li
 use Rattle.std.specs.Prelude.{codes, nat_lt}
 use Rattle.std.specs.List.{flat_map}
 use Rattle.std.specs.Fmt.{decimal}
-use Rattle.adj_tree.specs.Code.{Op, plus, minus, times, quot, modulo, greater, lesser, Term, Terms, lit, var, elem, neg, bin, pow, abs, none, more}
+use Rattle.adj_tree.specs.Code.{Op, plus, minus, times, quot, modulo, greater, lesser, Term, Terms, lit, var, elem, neg, bin, pow, power_of, abs, none, more}
 use Rattle.adj_text.specs.declared.token.TokenKind.TheVariants.{Power, Right}
 use Rattle.adj_text.specs.Text.{left_place, right_place, term_level, var_text, opening, between, closing, enclosed, behind_commas, bracketed, term_text, term_texts}
 use Rattle.adj_text.specs.Word.{Word, Digits, Mark}
@@ -56,6 +56,9 @@ joined_spelled op ws vs cs ds h g rest =
     ∙ ap (λ xs. opening op ++ xs) (h (Mark (mark_between op) ∷ vs (closing_words op rest)) ∙ ap (λ xs. cs ++ xs) (between_spelled op (vs (closing_words op rest)) ∙ ap (λ xs. between op ∷ xs) (g (closing_words op rest) ∙ ap (λ xs. ds ++ xs) (closing_spelled op rest))))
     ∙ simp append_assoc
 
+raised_spelled : (ws vs : Words) (cs ds : List ℕ) → AreSpelled ws cs → AreSpelled vs ds → AreSpelled (λ rest. ws (Mark Power ∷ vs rest)) (cs ++ codes "**" ++ ds)
+raised_spelled ws vs cs ds h g rest = h (Mark Power ∷ vs rest) ∙ ap (λ xs. cs ++ (codes "**" ++ xs)) (g rest) ∙ simp append_assoc
+
 mutual
   -- the words of a written expression are spelled as it is printed
   pub term_spelled : (t : Term) → IsWrittenTerm t → AreSpelled (term_words t) (term_text t)
@@ -66,6 +69,7 @@ mutual
   term_spelled (neg a) h rest = ap (λ xs. 45 ∷ xs) (enclosed_spelled (nat_lt (term_level a) 1) (term_words a) (term_text a) (term_spelled a h) rest)
   term_spelled (bin op a b) h rest = joined_spelled op (enclosed_words (nat_lt (term_level a) (left_place op)) (term_words a)) (enclosed_words (nat_lt (term_level b) (right_place op)) (term_words b)) (enclosed (nat_lt (term_level a) (left_place op)) (term_text a)) (enclosed (nat_lt (term_level b) (right_place op)) (term_text b)) (enclosed_spelled (nat_lt (term_level a) (left_place op)) (term_words a) (term_text a) (term_spelled a h.0)) (enclosed_spelled (nat_lt (term_level b) (right_place op)) (term_words b) (term_text b) (term_spelled b h.1)) rest
   term_spelled (pow a k) h rest = enclosed_spelled (nat_lt (term_level a) 3) (term_words a) (term_text a) (term_spelled a h.0) (Mark Power ∷ Digits (decimal k) ∷ rest) ∙ simp append_assoc
+  term_spelled (power_of a b) h rest = raised_spelled (enclosed_words (nat_lt (term_level a) 3) (term_words a)) (enclosed_words (nat_lt (term_level b) 2) (term_words b)) (enclosed (nat_lt (term_level a) 3) (term_text a)) (enclosed (nat_lt (term_level b) 2) (term_text b)) (enclosed_spelled (nat_lt (term_level a) 3) (term_words a) (term_text a) (term_spelled a h.0)) (enclosed_spelled (nat_lt (term_level b) 2) (term_words b) (term_text b) (term_spelled b h.1)) rest
   term_spelled (abs a) h rest = ap (λ xs. codes "ABS(" ++ xs) (term_spelled a h (Mark Right ∷ rest)) ∙ simp append_assoc
 
   pub bracketed_spelled : (s : Terms) → AreWrittenTerms s → AreSpelled (bracketed_words s) (bracketed (term_texts s))

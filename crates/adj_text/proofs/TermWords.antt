@@ -2,7 +2,7 @@
 use Rattle.std.proofs.Common.{ℕ, ℤ, pos, negsuc, Bool, true, false, List, ◌∷◌}
 use Rattle.std.specs.Prelude.{codes, nat_lt}
 use Rattle.std.specs.Fmt.{decimal}
-use Rattle.adj_tree.specs.Code.{Op, plus, minus, times, quot, modulo, greater, lesser, Term, Terms, lit, var, elem, neg, bin, pow, abs, none, more}
+use Rattle.adj_tree.specs.Code.{Op, plus, minus, times, quot, modulo, greater, lesser, Term, Terms, lit, var, elem, neg, bin, pow, power_of, abs, none, more}
 use Rattle.adj_text.specs.declared.token.TokenKind.{TokenKind}
 use Rattle.adj_text.specs.declared.token.TokenKind.TheVariants.{Power, Star, Slash, Plus, Minus, Left, Right, Comma}
 use Rattle.adj_text.specs.Text.{var_text, left_place, right_place, term_level}
@@ -50,6 +50,7 @@ abbrev mutual
   term_words (neg a) rest = Mark Minus ∷ enclosed_words (nat_lt (term_level a) 1) (term_words a) rest
   term_words (bin op a b) rest = opening_words op (enclosed_words (nat_lt (term_level a) (left_place op)) (term_words a) (Mark (mark_between op) ∷ enclosed_words (nat_lt (term_level b) (right_place op)) (term_words b) (closing_words op rest)))
   term_words (pow a k) rest = enclosed_words (nat_lt (term_level a) 3) (term_words a) (Mark Power ∷ Digits (decimal k) ∷ rest)
+  term_words (power_of a b) rest = enclosed_words (nat_lt (term_level a) 3) (term_words a) (Mark Power ∷ enclosed_words (nat_lt (term_level b) 2) (term_words b) rest)
   term_words (abs a) rest = Named (codes "ABS") ∷ Mark Left ∷ term_words a (Mark Right ∷ rest)
 
   -- expressions in parentheses, separated by commas

@@ -1,13 +1,15 @@
 -- TermWritten: expressions that words derive are written, where their literals fit.
-use Rattle.std.proofs.Common.{◌≡◌, ℕ, suc, ◌+◌, ◌≤◌, ℤ, pos, negsuc, Bool, true, false, List, [], ◌∷◌, Option, Some, None, option_map, refl, sym, ap, subst, ◌∙◌, arith}
-use Rattle.std.specs.Prelude.{option_and_then, nat_le, if◌then◌else◌}
+use Rattle.std.proofs.Common.{◌≡◌, ℕ, suc, ◌+◌, ◌≤◌, ℤ, pos, negsuc, Bool, true, false, List, [], ◌∷◌, Option, Some, None, refl, sym, ap, subst, ◌∙◌, arith}
+use Rattle.std.specs.Prelude.{nat_le, if◌then◌else◌}
 use Rattle.std.proofs.lemmas.Bool.{ne_eqb, leb-true}
-use Rattle.adj_tree.specs.Code.{Op, Term, Terms, lit, var, elem, neg, bin, pow, abs, none, more, plain}
-use Rattle.adj_text.specs.Grammar.{Syntax, number, variable, negated, joined, raised, applied, Arguments, only, beside, count_of, Symbol, adds, subtracts, Derives, DerivesAll, literal, name, group, application, primary, power, factor, product, term, sign, sum, single, another, constant, as_exponent, exponent, with_both, tree, trees_before, operation_of, is_absolute, application_of, two_arguments, takes, takes_as, ReadsTerm, ReadsTerms}
+use Rattle.adj_tree.specs.Code.{Op, Term, Terms, lit, var, elem, neg, bin, pow, power_of, abs, none, more, plain}
+use Rattle.adj_text.specs.Grammar.{Syntax, number, variable, negated, joined, raised, applied, Arguments, only, beside, count_of, Symbol, adds, subtracts, Derives, DerivesAll, literal, name, group, application, primary, power, factor, product, term, sign, sum, single, another, constant, as_exponent, is_literal, exponent, with_both, tree, trees_before, operation_of, is_absolute, application_of, two_arguments, takes, takes_as, ReadsTerm, ReadsTerms}
 use Rattle.adj_text.specs.Char.{number_of}
 use Rattle.adj_text.specs.Word.{Word, Named, Digits, Mark}
 use Rattle.adj_text.specs.Written.{IsName, IsWrittenTerm, AreWrittenTerms}
 use Rattle.adj_text.specs.Fits.{FitsTerm, FitsTerms}
+use Rattle.adj_text.proofs.Literals.{literal_is}
+use Rattle.adj_text.proofs.Parts.{map_some, then_some, both_some}
 
 -- the names among these words are names
 abbrev pub AreWords : List Word → Type 0
@@ -48,20 +50,6 @@ mutual
   all_named : {ts rest : List Word} {all : Arguments} → DerivesAll ts rest all → AreWords ts → AreWords rest × AreNamed all
   all_named (single d) h = derived_named d h
   all_named (another ds d) h = let r = all_named ds h in let q = derived_named d r.0 in (q.0, (r.1, q.1))
-
--- what an option that is there was made of
-pub map_some : {A B : Type 0} (F : A → B) (o : Option A) (r : B) → option_map F o ≡ Some r → (t : A) × (o ≡ Some t) × (F t ≡ r)
-map_some F None r e = absurd cc
-map_some F (Some t) r e = (t, refl, cc)
-
-pub then_some : {A B : Type 0} (F : A → Option B) (o : Option A) (r : B) → option_and_then F o ≡ Some r → (t : A) × (o ≡ Some t) × (F t ≡ Some r)
-then_some F None r e = absurd cc
-then_some F (Some t) r e = (t, refl, e)
-
-pub both_some : {A B C : Type 0} (F : A → B → C) (o : Option A) (p : Option B) (r : C) → with_both (λ t u. Some (F t u)) o p ≡ Some r → (t : A) × (u : B) × (o ≡ Some t) × (p ≡ Some u) × (F t u ≡ r)
-both_some F None p r e = absurd cc
-both_some F (Some t) None r e = absurd cc
-both_some F (Some t) (Some u) r e = (t, u, refl, refl, cc)
 
 small_exponent : (z : ℤ) (k : ℕ) → as_exponent z ≡ Some k → k ≤ 63
 small_exponent (negsuc n) k e = absurd cc
@@ -134,7 +122,11 @@ mutual
   tree_written (variable x) t h e = subst WhereFits (variable_is x t e) (λ fits. h)
   tree_written (negated s) t h e = let r = map_some neg (tree s) t e in subst WhereFits r.2 (tree_written s r.0 h r.1)
   tree_written (joined op a b) t h e = let r = both_some (bin op) (tree a) (tree b) t e in subst WhereFits r.4 (λ fits. (tree_written a r.0 h.0 r.2 fits.0, tree_written b r.1 h.1 r.3 fits.1))
-  tree_written (raised a b) t h e = let r = both_some pow (tree a) (exponent b) t e in subst WhereFits r.4 (λ fits. (tree_written a r.0 h.0 r.2 fits, exponent_small b r.1 r.3))
+  tree_written (raised a b) t h e =
+      elim (is_literal b) as (λ l. is_literal b ≡ l → (if l then with_both (λ t k. Some (pow t k)) (tree a) (exponent b) else with_both (λ t u. Some (power_of t u)) (tree a) (tree b)) ≡ Some t → WhereFits t) [
+        | true ↦ λ l g. let r = both_some pow (tree a) (exponent b) t g in subst WhereFits r.4 (λ fits. (tree_written a r.0 h.0 r.2 fits, exponent_small b r.1 r.3))
+        | false ↦ λ l g. let r = both_some power_of (tree a) (tree b) t g in subst WhereFits r.4 (λ fits. (tree_written a r.0 h.0 r.2 fits.0, tree_written b r.1 h.1 r.3 fits.1, sym (literal_is b r.1 r.3) ∙ l))
+      ] refl e
   tree_written (applied x all) t h e =
       let r = map_some (application_of x) (trees_before all none) t e in
       let w = arguments_written all none r.0 h.2 r.1 tt in

@@ -2,7 +2,7 @@
 use Rattle.std.proofs.Common.{◌≡◌, List, [], ◌∷◌, refl, sym, ap, ◌∙◌}
 use Rattle.std.specs.Prelude.{codes, map, ◌++◌}
 use Rattle.std.specs.List.{flat_map}
-use Rattle.adj_tree.specs.Code.{Act, Code, assign, choose, loop, call, runtime, stop, step, Declaration, Procedure}
+use Rattle.adj_tree.specs.Code.{Act, Code, assign, choose, loop, during, call, runtime, stop, step, Declaration, Procedure}
 use Rattle.adj_tree.specs.Lines.{unlined_act, unlined_code, unlined_declaration, unlined_procedure, unlined}
 use Rattle.adj_text.specs.Char.{comma, equals}
 use Rattle.adj_text.specs.Text.{statement, bracketed, var_text, term_text, test_text, directive, step_text, act_text, code_text, else_text, declaration_text, implicit_text, procedure_text, text_of}
@@ -12,6 +12,7 @@ mutual
   act_text_unlined (assign x s e) = refl
   act_text_unlined (choose c a b) = λ i. statement (codes "IF (" ++ test_text c ++ codes ") THEN") ++ code_text_unlined a i ++ else_text_unlined b i ++ statement (codes "END IF")
   act_text_unlined (loop x a b c body n) = λ i. directive n ++ statement (codes "DO " ++ var_text x ++ equals ∷ term_text a ++ comma ∷ term_text b ++ step_text c) ++ code_text_unlined body i ++ statement (codes "END DO")
+  act_text_unlined (during c body) = λ i. statement (codes "DO WHILE (" ++ test_text c ++ codes ")") ++ code_text_unlined body i ++ statement (codes "END DO")
   act_text_unlined (call x es) = refl
   act_text_unlined (runtime r) = refl
 

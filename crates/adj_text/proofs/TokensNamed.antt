@@ -10,7 +10,8 @@ use Rattle.adj_text.specs.Written.{IsName}
 use Rattle.adj_text.specs.declared.token.Token.{Token}
 use Rattle.adj_text.specs.declared.token.TokenKind.{TokenKind}
 use Rattle.adj_text.specs.declared.token.TokenKind.TheVariants.{Name, Number, Power, Star, Slash, Plus, Minus, Left, Right, Comma, Equals, Lt, Le, Eq, Ne, Gt, Ge, Not, And, Or, Call}
-use Rattle.adj_text.proofs.TermWritten.{AreWords, map_some, then_some}
+use Rattle.adj_text.proofs.Parts.{map_some, then_some}
+use Rattle.adj_text.proofs.TermWritten.{AreWords}
 
 -- every kind but that of a name
 abbrev IsNoName : TokenKind → Type 0

@@ -1,17 +1,17 @@
 -- UnitWritten: the units that statements make are written, where their literals fit.
-use Rattle.std.proofs.Common.{ℕ, ◌≤◌, Bool, List, [], ◌∷◌, ◌++◌, map, sym, subst}
+use Rattle.std.proofs.Common.{ℕ, Bool, List, [], ◌∷◌, ◌++◌, map, sym, subst}
 use Rattle.std.specs.List.{All}
-use Rattle.adj_tree.specs.Code.{Act, Code, Declaration, Procedure}
+use Rattle.adj_tree.specs.Code.{Mark, Act, Code, Declaration, Procedure}
 use Rattle.adj_text.specs.Block as blocks
 use Rattle.adj_text.specs.Block.{ReadsBody, ReadsAct, ReadsElse}
 use Rattle.adj_text.specs.Form as forms
-use Rattle.adj_text.specs.Form.{Form, subroutine, implicit_none, integers, simple, logical, opens_do, end_do, go_on, opens_if, otherwise, otherwise_if, end_if, leaves, ends, Statement, at, ReadsForm}
+use Rattle.adj_text.specs.Form.{Form, subroutine, implicit_none, integers, simple, logical, opens_do, opens_while, end_do, go_on, opens_if, otherwise, otherwise_if, end_if, leaves, ends, Statement, at, ReadsForm}
 use Rattle.adj_text.specs.Statement.{Item}
 use Rattle.adj_text.specs.Unit as units
 use Rattle.adj_text.specs.Unit.{ReadsImplicit, declaration_of, ReadsDeclarations, ReadsEnd, ReadsUnit, ReadsUnits}
 use Rattle.adj_text.specs.Word.{Word}
 use Rattle.adj_text.specs.declared.stated.Kind.{Kind}
-use Rattle.adj_text.specs.Written.{IsName, IsWrittenCode, IsWrittenDeclaration, IsWrittenProcedure, IsWritten}
+use Rattle.adj_text.specs.Written.{IsName, IsWrittenMark, IsWrittenCode, IsWrittenDeclaration, IsWrittenProcedure, IsWritten}
 use Rattle.adj_text.specs.Fits.{FitsCode, FitsExtent, FitsProcedure, Fits}
 use Rattle.adj_text.proofs.TermWritten.{AreWords}
 use Rattle.adj_text.proofs.FormWritten.{all_nil, all_cons, TestWhereFits, ActWhereFits, assignment_written, head_written, AreWrittenItems, items_written, IsWrittenRange, do_written, guard_written}
@@ -24,12 +24,13 @@ IsWrittenForm (subroutine x xs) = IsName x × All IsName xs
 IsWrittenForm (integers is) = AreWrittenItems is
 IsWrittenForm (simple a) = ActWhereFits a
 IsWrittenForm (logical c a) = TestWhereFits c × ActWhereFits a
-IsWrittenForm (opens_do l r n) = IsWrittenRange r × (n ≤ 64)
+IsWrittenForm (opens_do l r m) = IsWrittenRange r × IsWrittenMark m
+IsWrittenForm (opens_while c) = TestWhereFits c
 IsWrittenForm (opens_if c) = TestWhereFits c
 IsWrittenForm (otherwise_if c) = TestWhereFits c
 IsWrittenForm _ = Unit {0}
 
-pub form_written : {mark : ℕ} {kind : Kind} {ts : List Word} {f : Form} → ReadsForm mark kind ts f → AreWords ts → mark ≤ 64 → IsWrittenForm f
+pub form_written : {mark : Mark} {kind : Kind} {ts : List Word} {f : Form} → ReadsForm mark kind ts f → AreWords ts → IsWrittenMark mark → IsWrittenForm f
 form_written (forms.ReadsForm.heading d) h m = head_written d h
 form_written forms.ReadsForm.implicit h m = tt
 form_written (forms.ReadsForm.declaration d) h m = items_written d h
@@ -37,6 +38,7 @@ form_written (forms.ReadsForm.assigned d) h m = assignment_written d h
 form_written (forms.ReadsForm.calls d) h m = call_written d h
 form_written (forms.ReadsForm.guarded d e) h m = let r = guard_written d h in (r.1, guarded_written e r.0)
 form_written (forms.ReadsForm.begins d) h m = (do_written d h, m)
+form_written (forms.ReadsForm.repeats d) h m = (guard_written d h).1
 form_written forms.ReadsForm.finished h m = tt
 form_written forms.ReadsForm.continued h m = tt
 form_written (forms.ReadsForm.tests d) h m = (guard_written d h).1
@@ -71,6 +73,7 @@ mutual
       let q = else_written b r.0 in
       (q.0, λ f. (w f.0, r.1 f.1, q.1 f.2))
   act_written (blocks.ReadsAct.unlabelled b c) w h = let r = body_written b h in (r.0.1, λ f. (w.0.counter, w.0.from f.0, w.0.to f.1, w.0.by f.2, r.1 f.3, w.1))
+  act_written (blocks.ReadsAct.repeated b c) w h = let r = body_written b h in (r.0.1, λ f. (w f.0, r.1 f.1))
   act_written (blocks.ReadsAct.labelled c d b) w h = let r = body_written b h in (r.0.1, λ f. (w.0.counter, w.0.from f.0, w.0.to f.1, w.0.by f.2, r.1 f.3, w.1))
   act_written (blocks.ReadsAct.shared c d b) w h = let r = body_written b h in (r.0, λ f. (w.0.counter, w.0.from f.0, w.0.to f.1, w.0.by f.2, r.1 f.3, w.1))
 

@@ -1,7 +1,7 @@
 -- WrittenBack: the text of a written program reads as it.
 use Rattle.std.proofs.Common.{ℕ, suc, List, [], ◌∷◌, arith}
 use Rattle.std.specs.List.{All}
-use Rattle.adj_tree.specs.Code.{Act, Code, assign, choose, loop, call, runtime, stop, step, Declaration, Procedure}
+use Rattle.adj_tree.specs.Code.{Act, Code, assign, choose, loop, during, call, runtime, stop, step, Declaration, Procedure}
 use Rattle.adj_text.specs.ReadsAs.{ReadsAs}
 use Rattle.adj_text.specs.Text.{text_of}
 use Rattle.adj_text.specs.Written.{IsName, IsWrittenAct, IsWrittenCode, IsWrittenDeclaration, IsWrittenProcedure, IsWritten}
@@ -9,6 +9,7 @@ use Rattle.adj_text.proofs.BranchSays.{says_if}
 use Rattle.adj_text.proofs.Called.{each_extent}
 use Rattle.adj_text.proofs.Plain.{AreNames}
 use Rattle.adj_text.proofs.ReadsBack.{SaidAct, SaidCode, SaidDeclarations, SaidProcedure, SaidProgram, reads_back}
+use Rattle.adj_text.proofs.Repeated.{says_while}
 use Rattle.adj_text.proofs.TermSpaced.{is_name-name}
 use Rattle.adj_text.proofs.WrittenSays.{says_assign, says_call, says_runtime, says_declaration, says_heading, says_do}
 
@@ -29,6 +30,7 @@ mutual
   says_act (assign x s e) h = says_assign x s e h.0 h.1
   says_act (choose c a b) h = (says_if c h.0, says_code a h.1, says_code b h.2)
   says_act (loop x a b c body n) h = (h.5, says_do n x a b c h.0 h.1 h.2 h.3, says_code body h.4)
+  says_act (during c body) h = (says_while c h.0, says_code body h.1)
   says_act (call x es) h = says_call x es h.0 h.1 h.2
   says_act (runtime r) h = says_runtime r h
 

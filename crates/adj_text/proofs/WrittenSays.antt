@@ -4,7 +4,8 @@ use Rattle.std.specs.Prelude.{codes}
 use Rattle.std.specs.List.{flat_map}
 use Rattle.std.specs.Fmt.{decimal}
 use Rattle.std.proofs.lemmas.Bool.Decides.{Decides-int_eq}
-use Rattle.adj_tree.specs.Code.{Var, plain, shadow, helper, Term, Terms, lit, var, elem, neg, bin, pow, abs, none, more, Runtime, push_word, pop_word, push_array, pop_array, push_control, pop_control, zero_array, begin_reversal, count_actions, give_action, end_reversal, Act, assign, call, runtime, Extent, fixed, given, Declaration}
+use Rattle.adj_tree.specs.Code.{Var, plain, shadow, helper, Term, Terms, lit, var, elem, neg, bin, pow, power_of, abs, none, more, Runtime, push_word, pop_word, push_array, pop_array, push_control, pop_control, zero_array, begin_reversal, count_actions, give_action, end_reversal, unmarked, Act, assign, call, runtime, Extent, fixed, given, Declaration}
+use Rattle.adj_tree.specs.Code as trees
 use Rattle.adj_text.specs.Char.{comma, equals}
 use Rattle.adj_text.specs.Form as forms
 use Rattle.adj_text.specs.Form.{subroutine, integers, simple, opens_do}
@@ -40,10 +41,10 @@ place_terms x none h = tt
 place_terms x (more a s) h = h.2
 
 -- an assignment
-pub says_assign : (x : Var) (s : Terms) (e : Term) → IsPlace x s → IsWrittenTerm e → SaysChars 0 (place_text x s ++ equals ∷ term_text e) (simple (assign x s e))
+pub says_assign : (x : Var) (s : Terms) (e : Term) → IsPlace x s → IsWrittenTerm e → SaysChars unmarked (place_text x s ++ equals ∷ term_text e) (simple (assign x s e))
 says_assign (plain x) s e h g =
     let are = append_assoc x (bracketed (term_texts s)) (61 ∷ term_text e) ∙ sym (assignment_spelled (plain x) s e (place_terms x s h) g) in
-    says_named 0 classes.Assign x (bracketed_words s (Mark Equals ∷ term_words e [])) (place_text (plain x) s ++ equals ∷ term_text e) (simple (assign (plain x) s e)) are (is_assigned (plain x) s e h g) (forms.ReadsForm.assigned (statements.ReadsAssignment.assignment (place_reads x s (Mark Equals ∷ term_words e []) h) (reads_term e [] g)))
+    says_named unmarked classes.Assign x (bracketed_words s (Mark Equals ∷ term_words e [])) (place_text (plain x) s ++ equals ∷ term_text e) (simple (assign (plain x) s e)) are (is_assigned (plain x) s e h g) (forms.ReadsForm.assigned (statements.ReadsAssignment.assignment (place_reads x s (Mark Equals ∷ term_words e []) h) (reads_term e [] g)))
 says_assign (shadow x) none e h g = absurd h
 says_assign (shadow x) (more a s) e h g = absurd h.0
 says_assign (helper r k) none e h g = absurd h
@@ -53,14 +54,14 @@ call_reads : (x : List ℕ) (es : Terms) → AreWrittenTerms es → ReadsCall (c
 call_reads x none h = statements.ReadsCall.alone
 call_reads x (more a others) h = statements.ReadsCall.actuals (reads_terms a others [] h).1
 
-says_called : (x : List ℕ) (es : Terms) → is_name x ≡ true → AreWrittenTerms es → SaysChars 0 (codes "CALL " ++ x ++ bracketed (term_texts es)) (simple (called x es))
+says_called : (x : List ℕ) (es : Terms) → is_name x ≡ true → AreWrittenTerms es → SaysChars unmarked (codes "CALL " ++ x ++ bracketed (term_texts es)) (simple (called x es))
 says_called x es n h =
-    says_words 0 classes.Call 67 (codes "ALL ") (codes "CALL") (call_words x es) (codes "CALL " ++ x ++ bracketed (term_texts es)) (simple (called x es)) (ap (λ xs. codes "CALL " ++ xs) (sym (call_spelled x es h))) refl refl refl (is_called x es n h) (forms.ReadsForm.calls (call_reads x es h))
+    says_words unmarked classes.Call 67 (codes "ALL ") (codes "CALL") (call_words x es) (codes "CALL " ++ x ++ bracketed (term_texts es)) (simple (called x es)) (ap (λ xs. codes "CALL " ++ xs) (sym (call_spelled x es h))) refl refl refl (is_called x es n h) (forms.ReadsForm.calls (call_reads x es h))
 
 -- a CALL of a unit
-pub says_call : (x : List ℕ) (es : Terms) → IsName x → AreWrittenTerms es → runtime_call x es ≡ None → SaysChars 0 (codes "CALL " ++ x ++ bracketed (term_texts es)) (simple (call x es))
+pub says_call : (x : List ℕ) (es : Terms) → IsName x → AreWrittenTerms es → runtime_call x es ≡ None → SaysChars unmarked (codes "CALL " ++ x ++ bracketed (term_texts es)) (simple (call x es))
 says_call x es n h e =
-    let P : Act → Type 0 = λ a. SaysChars 0 (codes "CALL " ++ x ++ bracketed (term_texts es)) (simple a) in
+    let P : Act → Type 0 = λ a. SaysChars unmarked (codes "CALL " ++ x ++ bracketed (term_texts es)) (simple a) in
     subst P (ap (called_as x es) e) (says_called x es (is_name-name x n) h)
 
 -- the actuals of a call of the runtime
@@ -145,10 +146,10 @@ runtime_named (give_action l s k a f t) = refl
 runtime_named end_reversal = refl
 
 -- a call of the runtime
-pub says_runtime : (r : Runtime) → IsWrittenRuntime r → SaysChars 0 (codes "CALL " ++ runtime_name r ++ bracketed (runtime_actuals r)) (simple (runtime r))
+pub says_runtime : (r : Runtime) → IsWrittenRuntime r → SaysChars unmarked (codes "CALL " ++ runtime_name r ++ bracketed (runtime_actuals r)) (simple (runtime r))
 says_runtime r h =
-    let P : Act → Type 0 = λ a. SaysChars 0 (codes "CALL " ++ runtime_name r ++ bracketed (term_texts (runtime_terms r))) (simple a) in
-    let Q : List (List ℕ) → Type 0 = λ ts. SaysChars 0 (codes "CALL " ++ runtime_name r ++ bracketed ts) (simple (runtime r)) in
+    let P : Act → Type 0 = λ a. SaysChars unmarked (codes "CALL " ++ runtime_name r ++ bracketed (term_texts (runtime_terms r))) (simple a) in
+    let Q : List (List ℕ) → Type 0 = λ ts. SaysChars unmarked (codes "CALL " ++ runtime_name r ++ bracketed ts) (simple (runtime r)) in
     subst Q (runtime_texts r) (subst P (runtime_reads r) (says_called (runtime_name r) (runtime_terms r) (runtime_named r) (runtime_written r h)))
 
 -- an extent
@@ -166,9 +167,9 @@ items_reads x (a ∷ b ∷ []) l h = statements.ReadsItems.last (statements.Read
 items_reads x (a ∷ b ∷ c ∷ es) l h = absurd (omega arith)
 
 -- a declaration
-pub says_declaration : (d : Declaration) → IsName d.name → length d.extents ≤ 2 → AreExtents d.extents → SaysChars 0 (codes "INTEGER*8 " ++ d.name ++ bracketed (map extent_text d.extents)) (integers (item_of d ∷ []))
+pub says_declaration : (d : Declaration) → IsName d.name → length d.extents ≤ 2 → AreExtents d.extents → SaysChars unmarked (codes "INTEGER*8 " ++ d.name ++ bracketed (map extent_text d.extents)) (integers (item_of d ∷ []))
 says_declaration d n l h =
-    says_words 0 classes.Integer 73 (codes "NTEGER*8 ") (codes "INTEGER*8") (declared_words d.name d.extents) (codes "INTEGER*8 " ++ d.name ++ bracketed (map extent_text d.extents)) (integers (item_of d ∷ [])) (ap (λ xs. codes "INTEGER*8 " ++ xs) (sym (declared_spelled d.name d.extents l h))) refl refl refl (is_declared d.name d.extents (is_name-name d.name n) l h) (forms.ReadsForm.declaration (items_reads d.name d.extents l h))
+    says_words unmarked classes.Integer 73 (codes "NTEGER*8 ") (codes "INTEGER*8") (declared_words d.name d.extents) (codes "INTEGER*8 " ++ d.name ++ bracketed (map extent_text d.extents)) (integers (item_of d ∷ [])) (ap (λ xs. codes "INTEGER*8 " ++ xs) (sym (declared_spelled d.name d.extents l h))) refl refl refl (is_declared d.name d.extents (is_name-name d.name n) l h) (forms.ReadsForm.declaration (items_reads d.name d.extents l h))
 
 -- a SUBROUTINE
 names_spelled : (x : List ℕ) (xs : List (List ℕ)) → flat_map spelling (name_words (x ∷ xs) (Mark Right ∷ [])) ≡ x ++ behind_commas xs
@@ -179,9 +180,9 @@ head_spelled : (x : List ℕ) (ds : List (List ℕ)) → flat_map spelling (head
 head_spelled x [] = refl
 head_spelled x (d ∷ ds) = ap (λ zs. x ++ 40 ∷ zs) (names_spelled d ds)
 
-pub says_heading : (x : List ℕ) (ds : List (List ℕ)) → IsName x → AreNames ds → SaysChars 0 (codes "SUBROUTINE " ++ x ++ bracketed ds) (subroutine x ds)
+pub says_heading : (x : List ℕ) (ds : List (List ℕ)) → IsName x → AreNames ds → SaysChars unmarked (codes "SUBROUTINE " ++ x ++ bracketed ds) (subroutine x ds)
 says_heading x ds n h =
-    says_words 0 classes.Subroutine 83 (codes "UBROUTINE ") (codes "SUBROUTINE") (head_words x ds) (codes "SUBROUTINE " ++ x ++ bracketed ds) (subroutine x ds) (ap (λ xs. codes "SUBROUTINE " ++ xs) (sym (head_spelled x ds))) refl refl refl (is_subroutine x ds (is_name-name x n) h) (forms.ReadsForm.heading (head_derived x ds))
+    says_words unmarked classes.Subroutine 83 (codes "UBROUTINE ") (codes "SUBROUTINE") (head_words x ds) (codes "SUBROUTINE " ++ x ++ bracketed ds) (subroutine x ds) (ap (λ xs. codes "SUBROUTINE " ++ xs) (sym (head_spelled x ds))) refl refl refl (is_subroutine x ds (is_name-name x n) h) (forms.ReadsForm.heading (head_derived x ds))
 
 -- a step that is left out is the literal 1
 one_is : (c : Term) → is_one c ≡ true → c ≡ lit (pos 1)
@@ -191,6 +192,7 @@ one_is (elem x s) e = absurd cc
 one_is (neg a) e = absurd cc
 one_is (bin op a b) e = absurd cc
 one_is (pow a k) e = absurd cc
+one_is (power_of a b) e = absurd cc
 one_is (abs a) e = absurd cc
 
 abbrev range : Var → Term → Term → Term → Range
@@ -206,12 +208,12 @@ step_chars-text : (l : Bool) (c : Term) → is_one c ≡ l → step_text c ≡ s
 step_chars-text true c e = rw e refl
 step_chars-text false c e = rw e refl
 
--- a DO behind a directive with so many snapshots, 0 where there is none
-pub says_do : (n : ℕ) (x : Var) (a b c : Term) → IsVariable x → IsWrittenTerm a → IsWrittenTerm b → IsWrittenTerm c → SaysChars n (codes "DO " ++ var_text x ++ equals ∷ term_text a ++ comma ∷ term_text b ++ step_text c) (opens_do None (range x a b c) n)
-says_do n (plain x) a b c v h g k =
+-- a DO behind a directive with this mark, or without one
+pub says_do : (m : trees.Mark) (x : Var) (a b c : Term) → IsVariable x → IsWrittenTerm a → IsWrittenTerm b → IsWrittenTerm c → SaysChars m (codes "DO " ++ var_text x ++ equals ∷ term_text a ++ comma ∷ term_text b ++ step_text c) (opens_do None (range x a b c) m)
+says_do m (plain x) a b c v h g k =
     let spelled = do_spelled (plain x) a b c h g k in
     let regroup : codes "DO " ++ x ++ equals ∷ term_text a ++ comma ∷ term_text b ++ step_text c ≡ codes "DO " ++ (x ++ 61 ∷ (term_text a ++ 44 ∷ (term_text b ++ step_text c))) = simp append_assoc in
     let are = regroup ∙ ap (λ zs. codes "DO " ++ (x ++ 61 ∷ (term_text a ++ 44 ∷ (term_text b ++ zs)))) (step_chars-text (is_one c) c refl) ∙ ap (λ zs. codes "DO " ++ zs) (sym spelled) in
-    says_words n classes.Do 68 (codes "O ") (codes "DO") (do_words (plain x) a b c) (codes "DO " ++ x ++ equals ∷ term_text a ++ comma ∷ term_text b ++ step_text c) (opens_do None (range (plain x) a b c) n) are refl refl refl (is_do_statement (plain x) a b c v h g k) (forms.ReadsForm.begins (statements.ReadsDo.unlabelled (range_reads x a b c (is_one c) refl h g k)))
-says_do n (shadow x) a b c v h g k = absurd v
-says_do n (helper r i) a b c v h g k = absurd v
+    says_words m classes.Do 68 (codes "O ") (codes "DO") (do_words (plain x) a b c) (codes "DO " ++ x ++ equals ∷ term_text a ++ comma ∷ term_text b ++ step_text c) (opens_do None (range (plain x) a b c) m) are refl refl refl (is_do_statement (plain x) a b c v h g k) (forms.ReadsForm.begins (statements.ReadsDo.unlabelled (range_reads x a b c (is_one c) refl h g k)))
+says_do m (shadow x) a b c v h g k = absurd v
+says_do m (helper r i) a b c v h g k = absurd v

@@ -1,9 +1,9 @@
 -- Block: which statements are the body of a unit, a loop or a part of an IF.
 use Rattle.std.specs.Prelude.{◌≡◌, ◌≢◌, ℕ, Bool, false, not, ◌==◌, ◌&&◌, List, [], ◌∷◌, Some, None}
 use Rattle.std.specs.List.{list_any}
-use Rattle.adj_tree.specs.Code.{Test, Act, Code, choose, loop, stop, step}
+use Rattle.adj_tree.specs.Code.{Test, Mark, Act, Code, choose, loop, during, stop, step}
 use Rattle.adj_text.specs.Statement.{Range}
-use Rattle.adj_text.specs.Form.{Form, simple, logical, opens_do, end_do, go_on, opens_if, otherwise, otherwise_if, end_if, Statement, at}
+use Rattle.adj_text.specs.Form.{Form, simple, logical, opens_do, opens_while, end_do, go_on, opens_if, otherwise, otherwise_if, end_if, Statement, at}
 
 -- whether a label is that of an open DO; the labels are those of the open blocks, the innermost first, 0 where a block has none
 abbrev pub is_open : List ℕ → ℕ → Bool
@@ -13,8 +13,8 @@ abbrev pub innermost : List ℕ → ℕ
 innermost [] = 0
 innermost (l ∷ ls) = l
 
-abbrev pub loop_of : Range → Code → ℕ → Act
-loop_of r body snapshots = loop r.counter r.from r.to r.by body snapshots
+abbrev pub loop_of : Range → Code → Mark → Act
+loop_of r body mark = loop r.counter r.from r.to r.by body mark
 
 -- ReadsBody labels statements rest body: inside open blocks with these labels the statements up to the rest are a body.
 -- A statement with the label of an open DO is the CONTINUE that ends it.
@@ -32,11 +32,13 @@ mutual
     guarded : {ls : List ℕ} {rest : List Statement} {n : ℕ} {c : Test} {a : Act} → ReadsAct ls n (logical c a) rest rest (choose c (step n a stop) stop)
     branch : {ls : List ℕ} {ts us rest : List Statement} {n : ℕ} {c : Test} {a b : Code} → ReadsBody (0 ∷ ls) ts us a → ReadsElse ls us rest b → ReadsAct ls n (opens_if c) ts rest (choose c a b)
     -- a DO without label ends at END DO
-    unlabelled : {ls : List ℕ} {ts rest : List Statement} {n m k s : ℕ} {r : Range} {body : Code} → ReadsBody (0 ∷ ls) ts (at m k end_do ∷ rest) body → is_open ls k ≡ false → ReadsAct ls n (opens_do None r s) ts rest (loop_of r body s)
+    unlabelled : {ls : List ℕ} {ts rest : List Statement} {n m k : ℕ} {s : Mark} {r : Range} {body : Code} → ReadsBody (0 ∷ ls) ts (at m k end_do ∷ rest) body → is_open ls k ≡ false → ReadsAct ls n (opens_do None r s) ts rest (loop_of r body s)
+    -- and so does a DO WHILE
+    repeated : {ls : List ℕ} {ts rest : List Statement} {n m k : ℕ} {c : Test} {body : Code} → ReadsBody (0 ∷ ls) ts (at m k end_do ∷ rest) body → is_open ls k ≡ false → ReadsAct ls n (opens_while c) ts rest (during c body)
     -- a DO with label ends at the CONTINUE of that label
-    labelled : {ls : List ℕ} {ts rest : List Statement} {n m l s : ℕ} {r : Range} {body : Code} → l ≢ 0 → innermost ls ≢ l → ReadsBody (l ∷ ls) ts (at m l go_on ∷ rest) body → ReadsAct ls n (opens_do (Some l) r s) ts rest (loop_of r body s)
+    labelled : {ls : List ℕ} {ts rest : List Statement} {n m l : ℕ} {s : Mark} {r : Range} {body : Code} → l ≢ 0 → innermost ls ≢ l → ReadsBody (l ∷ ls) ts (at m l go_on ∷ rest) body → ReadsAct ls n (opens_do (Some l) r s) ts rest (loop_of r body s)
     -- directly inside a DO of the same label the CONTINUE is left to that one
-    shared : {ls : List ℕ} {ts rest : List Statement} {n m l s : ℕ} {r : Range} {body : Code} → l ≢ 0 → innermost ls ≡ l → ReadsBody (l ∷ ls) ts (at m l go_on ∷ rest) body → ReadsAct ls n (opens_do (Some l) r s) ts (at m l go_on ∷ rest) (loop_of r body s)
+    shared : {ls : List ℕ} {ts rest : List Statement} {n m l : ℕ} {s : Mark} {r : Range} {body : Code} → l ≢ 0 → innermost ls ≡ l → ReadsBody (l ∷ ls) ts (at m l go_on ∷ rest) body → ReadsAct ls n (opens_do (Some l) r s) ts (at m l go_on ∷ rest) (loop_of r body s)
 
   -- ReadsElse labels statements rest body: behind the first part of an IF, what is done otherwise
   pub data ReadsElse : List ℕ → List Statement → List Statement → Code → Type 0 where

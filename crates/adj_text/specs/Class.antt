@@ -5,7 +5,7 @@ use Rattle.std.specs.Option.{option_or}
 use Rattle.adj_text.specs.Char.{left, right, star, comma, equals, nought, is_capital, is_digit, is_name_char}
 use Rattle.adj_text.specs.Token.{begins_with}
 use Rattle.adj_text.specs.declared.stated.Kind.{Kind}
-use Rattle.adj_text.specs.declared.stated.Kind.TheVariants.{Do, BlockIf, LogicalIf, Assign, Continue, Return, End, EndIf, EndDo, Else, ImplicitNone, ElseIf, Subroutine, Integer, Call}
+use Rattle.adj_text.specs.declared.stated.Kind.TheVariants.{Do, BlockIf, LogicalIf, Assign, Continue, Return, End, EndIf, EndDo, Else, ImplicitNone, ElseIf, DoWhile, Subroutine, Integer, Call}
 
 -- how many parentheses are open behind a character, of n before it: never fewer than none
 abbrev pub depth_behind : ℕ → ℕ → ℕ
@@ -82,14 +82,19 @@ is_eight ds = bytes_eq (drop (prefix_len (λ d. d == nought) ds) ds) (codes "8")
 abbrev pub is_integer : List ℕ → Bool
 is_integer text = length (width_of text) == 0 || is_eight (width_of text)
 
+-- whether the parenthesis that opens these characters closes at their end
+abbrev pub is_group : List ℕ → Bool
+is_group cs = unwrap_or (group_len 0 cs) 0 == length cs
+
 -- the statements that begin with their word
 abbrev pub begun : List ℕ → Option Kind
 begun text =
     if begins_with text (codes "ELSEIF(") && ends_with nat_eq text (codes ")THEN") then Some ElseIf
+    else (if begins_with text (codes "DOWHILE(") && is_group (drop 7 text) then Some DoWhile
     else (if begins_with text (codes "SUBROUTINE") then Some Subroutine
     else (if begins_with text (codes "INTEGER") then (if is_integer text then Some Integer else None)
     else (if begins_with text (codes "CALL") then Some Call
-    else None)))
+    else None))))
 
 -- the class of a text: the first that fits, or none where the profile hasn't one
 unfoldable pub kind_of : List ℕ → Option Kind

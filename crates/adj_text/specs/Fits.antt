@@ -1,7 +1,7 @@
 -- Fits: each literal and each extent of a program is a word.
 use Rattle.std.specs.Prelude.{List}
 use Rattle.std.specs.List.{All}
-use Rattle.adj_tree.specs.Code.{Term, Terms, lit, var, elem, neg, bin, pow, abs, none, more, Test, compare, negation, conjunction, disjunction, Runtime, push_word, pop_word, push_control, begin_reversal, count_actions, give_action, Act, Code, assign, choose, loop, call, runtime, stop, step, Extent, fixed, given, Declaration, Procedure}
+use Rattle.adj_tree.specs.Code.{Term, Terms, lit, var, elem, neg, bin, pow, power_of, abs, none, more, Test, compare, negation, conjunction, disjunction, Runtime, push_word, pop_word, push_control, begin_reversal, count_actions, give_action, Act, Code, assign, choose, loop, during, call, runtime, stop, step, Extent, fixed, given, Declaration, Procedure}
 use Rattle.adj_text.specs.Written.{IsLiteral}
 
 abbrev mutual
@@ -12,6 +12,7 @@ abbrev mutual
   FitsTerm (neg a) = FitsTerm a
   FitsTerm (bin op a b) = FitsTerm a × FitsTerm b
   FitsTerm (pow a k) = FitsTerm a
+  FitsTerm (power_of a b) = FitsTerm a × FitsTerm b
   FitsTerm (abs a) = FitsTerm a
 
   pub FitsTerms : Terms → Type 0
@@ -37,7 +38,8 @@ abbrev mutual
   pub FitsAct : Act → Type 0
   FitsAct (assign x s e) = FitsTerms s × FitsTerm e
   FitsAct (choose c a b) = FitsTest c × FitsCode a × FitsCode b
-  FitsAct (loop x a b c body n) = FitsTerm a × FitsTerm b × FitsTerm c × FitsCode body
+  FitsAct (loop x a b c body m) = FitsTerm a × FitsTerm b × FitsTerm c × FitsCode body
+  FitsAct (during c body) = FitsTest c × FitsCode body
   FitsAct (call x actuals) = FitsTerms actuals
   FitsAct (runtime r) = FitsRuntime r
 

@@ -1,19 +1,20 @@
 -- Form: what a statement says, by its class and words.
 use Rattle.std.specs.Prelude.{ℕ, List, [], Option}
-use Rattle.adj_tree.specs.Code.{Test, Act}
+use Rattle.adj_tree.specs.Code.{Test, Mark, unmarked, Act}
 use Rattle.adj_text.specs.declared.stated.Kind.{Kind}
-use Rattle.adj_text.specs.declared.stated.Kind.TheVariants.{Do, BlockIf, LogicalIf, Assign, Continue, Return, End, EndIf, EndDo, Else, ImplicitNone, ElseIf, Subroutine, Integer, Call}
+use Rattle.adj_text.specs.declared.stated.Kind.TheVariants.{Do, BlockIf, LogicalIf, Assign, Continue, Return, End, EndIf, EndDo, Else, ImplicitNone, ElseIf, DoWhile, Subroutine, Integer, Call}
 use Rattle.adj_text.specs.Word.{Word}
 use Rattle.adj_text.specs.Statement.{Item, Range, ReadsHead, ReadsItems, ReadsAssignment, ReadsCall, ReadsGuard, ReadsGuarded, ReadsDo}
 
--- what a statement says; a loop with the label behind its DO and the snapshots of the directive before it
+-- what a statement says; a DO with the label behind it and what the directive before it says
 pub data Form : Type 0 where
   subroutine : List ℕ → List (List ℕ) → Form
   implicit_none : Form
   integers : List Item → Form
   simple : Act → Form
   logical : Test → Act → Form
-  opens_do : Option ℕ → Range → ℕ → Form
+  opens_do : Option ℕ → Range → Mark → Form
+  opens_while : Test → Form
   end_do : Form
   go_on : Form
   opens_if : Test → Form
@@ -27,20 +28,21 @@ pub data Form : Type 0 where
 pub data Statement : Type 0 where
   at : ℕ → ℕ → Form → Statement
 
--- ReadsForm mark class words form: a statement of this class with these words behind its keyword says this; only a DO has a directive before it
-pub data ReadsForm : ℕ → Kind → List Word → Form → Type 0 where
-  heading : {ts : List Word} {x : List ℕ} {dummies : List (List ℕ)} → ReadsHead ts x dummies → ReadsForm 0 Subroutine ts (subroutine x dummies)
-  implicit : ReadsForm 0 ImplicitNone [] implicit_none
-  declaration : {ts : List Word} {is : List Item} → ReadsItems ts is → ReadsForm 0 Integer ts (integers is)
-  assigned : {ts : List Word} {a : Act} → ReadsAssignment ts a → ReadsForm 0 Assign ts (simple a)
-  calls : {ts : List Word} {a : Act} → ReadsCall ts a → ReadsForm 0 Call ts (simple a)
-  guarded : {ts us : List Word} {c : Test} {a : Act} → ReadsGuard ts us c → ReadsGuarded us a → ReadsForm 0 LogicalIf ts (logical c a)
-  begins : {ts : List Word} {l : Option ℕ} {r : Range} {mark : ℕ} → ReadsDo ts l r → ReadsForm mark Do ts (opens_do l r mark)
-  finished : ReadsForm 0 EndDo [] end_do
-  continued : ReadsForm 0 Continue [] go_on
-  tests : {ts : List Word} {c : Test} → ReadsGuard ts [] c → ReadsForm 0 BlockIf ts (opens_if c)
-  turns : ReadsForm 0 Else [] otherwise
-  tests_again : {ts : List Word} {c : Test} → ReadsGuard ts [] c → ReadsForm 0 ElseIf ts (otherwise_if c)
-  closed : ReadsForm 0 EndIf [] end_if
-  returned : ReadsForm 0 Return [] leaves
-  ended : ReadsForm 0 End [] ends
+-- ReadsForm mark class words form: a statement of this class with these words behind its keyword says this; only a DO that is no DO WHILE has a directive before it
+pub data ReadsForm : Mark → Kind → List Word → Form → Type 0 where
+  heading : {ts : List Word} {x : List ℕ} {dummies : List (List ℕ)} → ReadsHead ts x dummies → ReadsForm unmarked Subroutine ts (subroutine x dummies)
+  implicit : ReadsForm unmarked ImplicitNone [] implicit_none
+  declaration : {ts : List Word} {is : List Item} → ReadsItems ts is → ReadsForm unmarked Integer ts (integers is)
+  assigned : {ts : List Word} {a : Act} → ReadsAssignment ts a → ReadsForm unmarked Assign ts (simple a)
+  calls : {ts : List Word} {a : Act} → ReadsCall ts a → ReadsForm unmarked Call ts (simple a)
+  guarded : {ts us : List Word} {c : Test} {a : Act} → ReadsGuard ts us c → ReadsGuarded us a → ReadsForm unmarked LogicalIf ts (logical c a)
+  begins : {ts : List Word} {l : Option ℕ} {r : Range} {mark : Mark} → ReadsDo ts l r → ReadsForm mark Do ts (opens_do l r mark)
+  repeats : {ts : List Word} {c : Test} → ReadsGuard ts [] c → ReadsForm unmarked DoWhile ts (opens_while c)
+  finished : ReadsForm unmarked EndDo [] end_do
+  continued : ReadsForm unmarked Continue [] go_on
+  tests : {ts : List Word} {c : Test} → ReadsGuard ts [] c → ReadsForm unmarked BlockIf ts (opens_if c)
+  turns : ReadsForm unmarked Else [] otherwise
+  tests_again : {ts : List Word} {c : Test} → ReadsGuard ts [] c → ReadsForm unmarked ElseIf ts (otherwise_if c)
+  closed : ReadsForm unmarked EndIf [] end_if
+  returned : ReadsForm unmarked Return [] leaves
+  ended : ReadsForm unmarked End [] ends

@@ -1,6 +1,6 @@
 -- Grammar: which words are an expression, and its tree.
 use Rattle.std.specs.Prelude.{◌≡◌, ℕ, zero, suc, ◌+◌, ◌-◌, ◌^◌, Bool, true, false, ◌==◌, ◌&&◌, ◌||◌, nat_le, List, ◌∷◌, codes, Option, Some, None, option_map, option_and_then, ℤ, pos, negsuc, ◌+ℤ◌, ◌-ℤ◌, ◌*ℤ◌, neg_ℤ, int_le, int_lt, if◌then◌else◌}
-use Rattle.adj_tree.specs.Code.{Op, plus, minus, times, quot, modulo, greater, lesser, Term, Terms, lit, var, elem, neg, bin, pow, abs, none, more, plain, name_eq}
+use Rattle.adj_tree.specs.Code.{Op, plus, minus, times, quot, modulo, greater, lesser, Term, Terms, lit, var, elem, neg, bin, pow, power_of, abs, none, more, plain, name_eq}
 use Rattle.adj_text.specs.declared.token.TokenKind.{TokenKind}
 use Rattle.adj_text.specs.declared.token.TokenKind.TheVariants.{Power, Star, Slash, Plus, Minus, Left, Right, Comma}
 use Rattle.adj_text.specs.Char.{number_of}
@@ -88,6 +88,22 @@ mutual
     single : {ts rest : List Word} {s : Syntax} → Derives Sum ts rest s → DerivesAll ts rest (only s)
     another : {ts us rest : List Word} {front : Arguments} {s : Syntax} → DerivesAll ts (Mark Comma ∷ us) front → Derives Sum us rest s → DerivesAll ts rest (beside front s)
 
+-- the operations of literals
+abbrev pub joins_literals : Op → Bool
+joins_literals plus = true
+joins_literals minus = true
+joins_literals times = true
+joins_literals _ = false
+
+-- whether only literals, signs, sums, differences, products and powers stand in an expression
+abbrev pub is_literal : Syntax → Bool
+is_literal (number digits) = true
+is_literal (variable x) = false
+is_literal (negated s) = is_literal s
+is_literal (joined op a b) = joins_literals op && (is_literal a && is_literal b)
+is_literal (raised a b) = is_literal a && is_literal b
+is_literal (applied x all) = false
+
 -- a value, where it is one of the words from -2^63 to 2^63-1
 abbrev pub in_words : ℤ → Option ℤ
 in_words z = if int_le (negsuc (2 ^ 63 - 1)) z && int_lt z (pos (2 ^ 63)) then Some z else None
@@ -111,7 +127,7 @@ abbrev pub with_both : {A B C : Type 0} → (A → B → Option C) → Option A 
 with_both f (Some a) (Some b) = f a b
 with_both f _ _ = None
 
--- the value of an expression of literals, signs, sums, differences, products and powers, where it and all its parts are words
+-- the value of such an expression, where it and all its parts are words
 abbrev pub constant : Syntax → Option ℤ
 constant (number digits) = in_words (pos (number_of digits))
 constant (variable x) = None
@@ -120,7 +136,7 @@ constant (joined op a b) = with_both (constant_of op) (constant a) (constant b)
 constant (raised a b) = with_both constant_power (constant a) (constant b)
 constant (applied x all) = None
 
--- an exponent is a constant from 0 to 63
+-- a literal exponent is from 0 to 63
 abbrev pub as_exponent : ℤ → Option ℕ
 as_exponent (pos k) = if nat_le k 63 then Some k else None
 as_exponent (negsuc k) = None
@@ -138,14 +154,14 @@ application_of x (more a none) = if is_absolute x then abs a else elem (plain x)
 application_of x (more a (more b none)) = two_arguments x (operation_of x) a b
 application_of x all = elem (plain x) all
 
--- the tree of an expression, where each of its exponents is one
+-- the tree of an expression, where each literal exponent in it is one; the tree keeps the value of a literal exponent, and any other as it is
 abbrev mutual
   pub tree : Syntax → Option Term
   tree (number digits) = Some (lit (pos (number_of digits)))
   tree (variable x) = Some (var (plain x))
   tree (negated s) = option_map neg (tree s)
   tree (joined op a b) = with_both (λ t u. Some (bin op t u)) (tree a) (tree b)
-  tree (raised a b) = with_both (λ t k. Some (pow t k)) (tree a) (exponent b)
+  tree (raised a b) = if is_literal b then with_both (λ t k. Some (pow t k)) (tree a) (exponent b) else with_both (λ t u. Some (power_of t u)) (tree a) (tree b)
   tree (applied x all) = option_map (application_of x) (trees_before all none)
 
   -- the trees of arguments, and those that follow

@@ -1,7 +1,10 @@
 -- Lines of a text (ANSI X3.9-1978, 3.2), and what they are.
-use Rattle.std.specs.Prelude.{ℕ, ◌+◌, ◌-◌, ◌^◌, min, Bool, true, false, ◌==◌, nat_lt, not, ◌&&◌, ◌||◌, List, [], ◌∷◌, length, take, drop, take_while, codes, slice_index, slice_index_or, Option, Some, None, option_and_then, if◌then◌else◌}
+use Rattle.std.specs.Prelude.{ℕ, ◌+◌, ◌-◌, ◌^◌, min, Bool, true, false, ◌==◌, nat_lt, not, ◌&&◌, ◌||◌, List, [], ◌∷◌, length, take, drop, take_while, codes, slice_index, slice_index_or, Option, Some, None, option_map, option_and_then, if◌then◌else◌}
 use Rattle.std.specs.List.{list_all, prefix_len}
-use Rattle.adj_text.specs.Char.{capital_c, small_c, line_feed, carriage_return, blank, star, nought, is_between, is_digit, is_blank, are_blank, digits_of, upper, number_of}
+use Rattle.std.specs.Option.{option_or}
+use Rattle.adj_tree.specs.declared.stmt.Mark.{Mark}
+use Rattle.adj_tree.specs.declared.stmt.Mark.TheVariants.{Count, From}
+use Rattle.adj_text.specs.Char.{capital_c, small_c, line_feed, carriage_return, blank, star, nought, is_between, is_capital, is_digit, is_name_char, is_blank, are_blank, digits_of, upper, folded, number_of}
 use Rattle.adj_text.specs.Token.{begins_with}
 
 -- lines, the first with one more character in front
@@ -75,6 +78,27 @@ snapshots_of cs =
     if is_between 1 2 (prefix_len is_digit cs) && are_blank (drop (prefix_len is_digit cs) cs) && is_between 1 64 (number_of (take_while is_digit cs)) then Some (number_of (take_while is_digit cs))
     else None
 
--- the number of snapshots that a directive gives: `C$AD`, blanks, `BINOMIAL-CKP`, blanks, the number
-abbrev pub operand_of : List ℕ → Option ℕ
-operand_of l = option_and_then snapshots_of (option_and_then behind_blanks (option_and_then behind_name (behind_blanks (drop 4 l))))
+-- what a name goes on with, in either case
+abbrev pub is_name_part : ℕ → Bool
+is_name_part c = is_name_char (upper c)
+
+-- whether a name stands here, in either case, with blanks alone behind it
+abbrev pub is_named : List ℕ → Bool
+is_named [] = false
+is_named (c ∷ cs) = is_capital (upper c) && are_blank (drop (prefix_len is_name_part (c ∷ cs)) (c ∷ cs))
+
+-- that name, in capitals
+abbrev pub name_of : List ℕ → Option (List ℕ)
+name_of cs = if is_named cs then Some (folded (take_while is_name_part cs)) else None
+
+-- a number of snapshots, or the name of a variable that says it
+abbrev pub mark_in : List ℕ → Option Mark
+mark_in cs = option_or (option_map Count (snapshots_of cs)) (option_map From (name_of cs))
+
+-- what stands in a directive behind `C$AD`, blanks, `BINOMIAL-CKP`, blanks
+abbrev pub operand : List ℕ → Option (List ℕ)
+operand l = option_and_then behind_blanks (option_and_then behind_name (behind_blanks (drop 4 l)))
+
+-- what a directive says: its operand is a number or a name
+abbrev pub operand_of : List ℕ → Option Mark
+operand_of l = option_and_then mark_in (operand l)

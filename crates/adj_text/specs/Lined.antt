@@ -2,24 +2,26 @@
 use Rattle.std.specs.Prelude.{ℕ, ◌-◌, Bool, true, ◌==◌, nat_lt, not, ◌&&◌, ◌||◌, List, [], ◌∷◌, ◌++◌, Option, Some, None, option_to_list, option_map, unwrap_or, Result, Ok, if◌then◌else◌}
 use Rattle.std.specs.List.{list_all}
 use Rattle.adj_tree.specs.declared.fault.Refusal.{Refusal}
+use Rattle.adj_tree.specs.declared.stmt.Mark.{Mark}
+use Rattle.adj_tree.specs.declared.stmt.Mark.TheVariants.{Plain}
 use Rattle.adj_text.specs.Char.{blank, nought, is_between, is_allowed, folded}
 use Rattle.adj_text.specs.Line.{cut_lines, without_cr, next_number, is_data, column, is_directive, is_comment, is_continuation, body, label_of, operand_of}
 use Rattle.adj_text.specs.Limits.{Limits}
 use Rattle.adj_text.specs.Refused.{◌>>=◌, refused, limited}
 
--- a statement so far: the line of its initial line, its label, the snapshots and the line of the directive before it,
+-- a statement so far: the line of its initial line, its label, what the directive before it says and that directive's line,
 -- its characters, and how many continuation lines it may still have, where that is limited
 pub record Lines : Type 0 where
   pub line : ℕ
   pub label : ℕ
-  pub mark : ℕ
+  pub mark : Mark
   pub mark_line : ℕ
   pub text : List ℕ
   pub room : Option ℕ
 
 -- a directive that waits for its statement
 pub record Directive : Type 0 where
-  pub snapshots : ℕ
+  pub mark : Mark
   pub line : ℕ
 
 -- the statements before, the one whose lines may go on, and the directive before the next
@@ -36,14 +38,14 @@ abbrev pub flushed : Pass → List Lines
 flushed p = p.done ++ option_to_list p.current
 
 -- a directive with its operand, where it is well formed
-abbrev pub with_directive : Pass → ℕ → Option ℕ → Result Pass Refusal
+abbrev pub with_directive : Pass → ℕ → Option Mark → Result Pass Refusal
 with_directive p n None = refused 20 n
-with_directive p n (Some snapshots) = Ok (record { done = flushed p; current = None; pending = Some (record { snapshots = snapshots; line = n }) })
+with_directive p n (Some mark) = Ok (record { done = flushed p; current = None; pending = Some (record { mark = mark; line = n }) })
 
--- the directive before a statement, zeros where there is none
-abbrev pub mark_of : Option Directive → Directive
-mark_of None = record { snapshots = 0; line = 0 }
-mark_of (Some d) = d
+-- the directive before a statement: no mark and line 0 where there is none
+abbrev pub directive_before : Option Directive → Directive
+directive_before None = record { mark = Plain; line = 0 }
+directive_before (Some d) = d
 
 -- an initial line with its label, where columns 1 to 5 are well formed
 abbrev pub with_initial : Limits → Pass → ℕ → List ℕ → Option ℕ → Result Pass Refusal
@@ -51,7 +53,7 @@ with_initial limits p n l None = refused 1 n
 with_initial limits p n l (Some label) =
     if not (column l 6 == blank || column l 6 == nought) then refused 1 n
     else (if not (list_all is_allowed (body l)) then refused 2 n
-    else Ok (record { done = flushed p; current = Some (record { line = n; label = label; mark = (mark_of p.pending).snapshots; mark_line = (mark_of p.pending).line; text = folded (body l); room = limits.continuations }); pending = None }))
+    else Ok (record { done = flushed p; current = Some (record { line = n; label = label; mark = (directive_before p.pending).mark; mark_line = (directive_before p.pending).line; text = folded (body l); room = limits.continuations }); pending = None }))
 
 -- whether one line more has room, and the room behind it
 abbrev pub has_room : Option ℕ → Bool

@@ -1,6 +1,7 @@
 -- Reads: what a text reads as.
 use Rattle.std.specs.Prelude.{◌≡◌, ℕ, List, [], ◌∷◌, Ok}
 use Rattle.adj_tree.specs.Code.{Procedure}
+use Rattle.adj_tree.specs.View.{mark_of}
 use Rattle.adj_text.specs.Limits.{no_limits}
 use Rattle.adj_text.specs.Word.{words_of}
 use Rattle.adj_text.specs.Stated.{statements_of}
@@ -11,7 +12,7 @@ use Rattle.adj_text.specs.declared.stated.Stated.{Stated}
 -- ReadsAll stated statements: each statement of a text, by its class and the words behind its keyword, says what stands here
 pub data ReadsAll : List Stated → List Statement → Type 0 where
   none : ReadsAll [] []
-  more : {s : Stated} {ss : List Stated} {f : Form} {ts : List Statement} → ReadsForm s.mark s.kind (words_of s.text s.tokens) f → ReadsAll ss ts → ReadsAll (s ∷ ss) (at s.line s.label f ∷ ts)
+  more : {s : Stated} {ss : List Stated} {f : Form} {ts : List Statement} → ReadsForm (mark_of s.mark) s.kind (words_of s.text s.tokens) f → ReadsAll ss ts → ReadsAll (s ∷ ss) (at s.line s.label f ∷ ts)
 
 -- the lines of a text form statements, without any limit, and their words derive the program
 pub record Reads (bytes : List ℕ) (program : List Procedure) : Type 0 where

@@ -1,7 +1,9 @@
 -- The statements of a text with their classes and tokens, or the first fault of a text.
-use Rattle.std.specs.Prelude.{ℕ, ◌+◌, ◌-◌, Bool, true, false, ◌==◌, nat_lt, ◌&&◌, List, [], ◌∷◌, length, Option, Some, None, Result, Ok, if◌then◌else◌}
+use Rattle.std.specs.Prelude.{ℕ, ◌+◌, ◌-◌, Bool, true, false, ◌==◌, nat_lt, ◌&&◌, ◌||◌, List, [], ◌∷◌, length, Option, Some, None, Result, Ok, if◌then◌else◌}
 use Rattle.std.specs.List.{list_any}
 use Rattle.adj_tree.specs.declared.fault.Refusal.{Refusal}
+use Rattle.adj_tree.specs.declared.stmt.Mark.{Mark}
+use Rattle.adj_tree.specs.declared.stmt.Mark.TheVariants.{From}
 use Rattle.adj_text.specs.Class.{kind_of, class_of, is_matched, condition_end, inner, width_of}
 use Rattle.adj_text.specs.Limits.{Limits}
 use Rattle.adj_text.specs.Lined.{Lines, lines_of}
@@ -9,7 +11,7 @@ use Rattle.adj_text.specs.Refused.{◌>>=◌, refused}
 use Rattle.adj_text.specs.Token.{tokens_from, AreJoined}
 use Rattle.adj_text.specs.Word.{part}
 use Rattle.adj_text.specs.declared.stated.Kind.{Kind}
-use Rattle.adj_text.specs.declared.stated.Kind.TheVariants.{Do, BlockIf, LogicalIf, Assign, Continue, Return, End, EndIf, EndDo, Else, ImplicitNone, ElseIf, Subroutine, Integer, Call}
+use Rattle.adj_text.specs.declared.stated.Kind.TheVariants.{Do, BlockIf, LogicalIf, Assign, Continue, Return, End, EndIf, EndDo, Else, ImplicitNone, ElseIf, DoWhile, Subroutine, Integer, Call}
 use Rattle.adj_text.specs.declared.stated.Stated.{Stated}
 use Rattle.adj_text.specs.declared.token.Token.{Token}
 use Rattle.adj_text.specs.declared.token.TokenKind.{TokenKind}
@@ -29,6 +31,7 @@ keyword_len EndDo text = 5
 keyword_len Else text = 4
 keyword_len ImplicitNone text = 12
 keyword_len ElseIf text = 6
+keyword_len DoWhile text = 7
 keyword_len Subroutine text = 10
 keyword_len Integer text = if length (width_of text) == 0 then 7 else 8 + length (width_of text)
 keyword_len Call text = 4
@@ -61,11 +64,17 @@ abbrev pub is_too_long : Option ℕ → Token → Bool
 is_too_long None t = false
 is_too_long (Some limit) t = is_name t.kind && nat_lt limit (t.end - t.start)
 
+-- whether the directive before a DO has a name above the limit
+abbrev pub is_marked_long : Option ℕ → Kind → Mark → Bool
+is_marked_long None kind mark = false
+is_marked_long (Some limit) Do (From x) = nat_lt limit (length x)
+is_marked_long (Some limit) kind mark = false
+
 -- a statement of a class, with its tokens
 abbrev pub with_tokens : Limits → Lines → Kind → Option (List Token) → Result Stated Refusal
 with_tokens limits s kind None = refused 4 s.line
 with_tokens limits s kind (Some tokens) =
-    if list_any (is_too_long limits.name) tokens then refused 6 s.line
+    if list_any (is_too_long limits.name) tokens || is_marked_long limits.name kind s.mark then refused 6 s.line
     else Ok (record { line = s.line; label = s.label; mark = s.mark; mark_line = s.mark_line; kind = kind; text = s.text; tokens = tokens })
 
 -- a statement with its class

@@ -3,7 +3,7 @@ use Rattle.std.specs.Prelude.{ℕ, ◌+◌, ◌==◌, pos, Bool, true, false, na
 use Rattle.std.specs.Fmt.{decimal, signed_decimal}
 use Rattle.std.specs.List.{flat_map}
 use Rattle.std.specs.Ordering.{int_eq}
-use Rattle.adj_tree.specs.Code.{Var, plain, shadow, helper, Op, plus, minus, times, quot, modulo, greater, lesser, Term, Terms, lit, var, elem, neg, bin, pow, abs, none, more, Rel, is_less, is_most, is_same, is_other, is_greater, is_least, Test, compare, negation, conjunction, disjunction, Runtime, push_word, pop_word, push_array, pop_array, push_control, pop_control, zero_array, begin_reversal, count_actions, give_action, end_reversal, Act, Code, assign, choose, loop, call, runtime, stop, step, Extent, fixed, given, Declaration, Procedure}
+use Rattle.adj_tree.specs.Code.{Var, plain, shadow, helper, Op, plus, minus, times, quot, modulo, greater, lesser, Term, Terms, lit, var, elem, neg, bin, pow, power_of, abs, none, more, Rel, is_less, is_most, is_same, is_other, is_greater, is_least, Test, compare, negation, conjunction, disjunction, Runtime, push_word, pop_word, push_array, pop_array, push_control, pop_control, zero_array, begin_reversal, count_actions, give_action, end_reversal, Mark, unmarked, with_count, count_from, Act, Code, assign, choose, loop, during, call, runtime, stop, step, Extent, fixed, given, Declaration, Procedure}
 use Rattle.adj_text.specs.Char.{line_feed, left, right, comma, equals}
 
 -- Lines. The rest of a statement, once so many characters stand in its line: it is cut after 66, and goes on behind five blanks and a +
@@ -77,6 +77,7 @@ abbrev pub term_level : Term → ℕ
 term_level (neg a) = 0
 term_level (bin op a b) = op_level op
 term_level (pow a k) = 2
+term_level (power_of a b) = 2
 term_level _ = 3
 
 -- characters, in parentheses where the level is below that of the place
@@ -93,6 +94,7 @@ abbrev mutual
   term_text (neg a) = 45 ∷ enclosed (nat_lt (term_level a) 1) (term_text a)
   term_text (bin op a b) = opening op ++ enclosed (nat_lt (term_level a) (left_place op)) (term_text a) ++ between op ∷ enclosed (nat_lt (term_level b) (right_place op)) (term_text b) ++ closing op
   term_text (pow a k) = enclosed (nat_lt (term_level a) 3) (term_text a) ++ codes "**" ++ decimal k
+  term_text (power_of a b) = enclosed (nat_lt (term_level a) 3) (term_text a) ++ codes "**" ++ enclosed (nat_lt (term_level b) 2) (term_text b)
   term_text (abs a) = codes "ABS(" ++ term_text a ++ codes ")"
 
   -- the characters of each expression
@@ -158,8 +160,10 @@ abbrev pub call_text : List ℕ → List (List ℕ) → List ℕ
 call_text x actuals = statement (codes "CALL " ++ x ++ bracketed actuals)
 
 -- the line of the directive before a loop that is marked
-abbrev pub directive : ℕ → List ℕ
-directive n = if n == 0 then [] else codes "C$AD BINOMIAL-CKP " ++ decimal n ++ line_feed ∷ []
+abbrev pub directive : Mark → List ℕ
+directive unmarked = []
+directive (with_count n) = codes "C$AD BINOMIAL-CKP " ++ decimal n ++ line_feed ∷ []
+directive (count_from x) = codes "C$AD BINOMIAL-CKP " ++ var_text x ++ line_feed ∷ []
 
 abbrev pub is_one : Term → Bool
 is_one (lit n) = int_eq n (pos 1)
@@ -174,7 +178,8 @@ abbrev mutual
   pub act_text : Act → List ℕ
   act_text (assign x s e) = statement (place_text x s ++ equals ∷ term_text e)
   act_text (choose c a b) = statement (codes "IF (" ++ test_text c ++ codes ") THEN") ++ code_text a ++ else_text b ++ statement (codes "END IF")
-  act_text (loop x a b c body n) = directive n ++ statement (codes "DO " ++ var_text x ++ equals ∷ term_text a ++ comma ∷ term_text b ++ step_text c) ++ code_text body ++ statement (codes "END DO")
+  act_text (loop x a b c body m) = directive m ++ statement (codes "DO " ++ var_text x ++ equals ∷ term_text a ++ comma ∷ term_text b ++ step_text c) ++ code_text body ++ statement (codes "END DO")
+  act_text (during c body) = statement (codes "DO WHILE (" ++ test_text c ++ codes ")") ++ code_text body ++ statement (codes "END DO")
   act_text (call x actuals) = call_text x (term_texts actuals)
   act_text (runtime r) = call_text (runtime_name r) (runtime_actuals r)
 

@@ -1,9 +1,9 @@
 -- Written: the programs that the trees of a text are, so that their canonical text reads as they are.
-use Rattle.std.specs.Prelude.{◌≡◌, ℕ, ◌^◌, ◌<◌, ◌≤◌, ℤ, pos, negsuc, Bool, true, false, ◌||◌, List, [], ◌∷◌, length, None, is_some}
+use Rattle.std.specs.Prelude.{◌≡◌, ℕ, ◌^◌, ◌<◌, ◌≤◌, ℤ, pos, negsuc, Bool, true, false, ◌&&◌, ◌||◌, List, [], ◌∷◌, length, None, is_some}
 use Rattle.std.specs.List.{All, list_all}
-use Rattle.adj_tree.specs.Code.{Var, plain, shadow, helper, Term, Terms, lit, var, elem, neg, bin, pow, abs, none, more, Test, compare, negation, conjunction, disjunction, Runtime, push_word, pop_word, push_array, pop_array, push_control, pop_control, zero_array, begin_reversal, count_actions, give_action, end_reversal, Act, Code, assign, choose, loop, call, runtime, stop, step, Extent, fixed, given, Declaration, Procedure}
+use Rattle.adj_tree.specs.Code.{Var, plain, shadow, helper, Term, Terms, lit, var, elem, neg, bin, pow, power_of, abs, none, more, Test, compare, negation, conjunction, disjunction, Runtime, push_word, pop_word, push_array, pop_array, push_control, pop_control, zero_array, begin_reversal, count_actions, give_action, end_reversal, Mark, unmarked, with_count, count_from, Act, Code, assign, choose, loop, during, call, runtime, stop, step, Extent, fixed, given, Declaration, Procedure}
 use Rattle.adj_text.specs.Char.{is_capital, is_name_char}
-use Rattle.adj_text.specs.Grammar.{is_absolute, operation_of}
+use Rattle.adj_text.specs.Grammar.{is_absolute, operation_of, joins_literals}
 use Rattle.adj_text.specs.Statement.{runtime_call}
 
 -- a capital letter, and then capital letters, digits and underscores
@@ -37,6 +37,18 @@ AreSubscripts (more a none) = Unit {0}
 AreSubscripts (more a (more b none)) = Unit {0}
 AreSubscripts _ = ⊥
 
+-- whether only literals, signs, sums, differences, products and powers stand in an expression
+abbrev pub is_literal : Term → Bool
+is_literal (lit n) = true
+is_literal (var x) = false
+is_literal (elem x s) = false
+is_literal (neg a) = is_literal a
+is_literal (bin op a b) = joins_literals op && (is_literal a && is_literal b)
+is_literal (pow a k) = is_literal a
+is_literal (power_of a b) = is_literal a && is_literal b
+is_literal (abs a) = false
+
+-- an exponent that is kept as an expression isn't literal
 abbrev mutual
   pub IsWrittenTerm : Term → Type 0
   IsWrittenTerm (lit n) = IsLiteral n
@@ -45,6 +57,7 @@ abbrev mutual
   IsWrittenTerm (neg a) = IsWrittenTerm a
   IsWrittenTerm (bin op a b) = IsWrittenTerm a × IsWrittenTerm b
   IsWrittenTerm (pow a k) = IsWrittenTerm a × (k ≤ 63)
+  IsWrittenTerm (power_of a b) = IsWrittenTerm a × IsWrittenTerm b × (is_literal b ≡ false)
   IsWrittenTerm (abs a) = IsWrittenTerm a
 
   pub AreWrittenTerms : Terms → Type 0
@@ -80,12 +93,19 @@ IsWrittenRuntime (count_actions l s n) = IsWrittenTerm l × IsWrittenTerm s × I
 IsWrittenRuntime (give_action l s k a f t) = IsWrittenTerm l × IsWrittenTerm s × IsWrittenTerm k × IsVariable a × IsVariable f × IsVariable t
 IsWrittenRuntime end_reversal = Unit {0}
 
--- a CALL of a unit has no name and actuals of a runtime call; a loop has at most 64 snapshots
+-- a loop that is marked has 1 to 64 snapshots, or as many as a variable of the text says
+abbrev pub IsWrittenMark : Mark → Type 0
+IsWrittenMark unmarked = Unit {0}
+IsWrittenMark (with_count n) = (0 < n) × (n ≤ 64)
+IsWrittenMark (count_from x) = IsVariable x
+
+-- a CALL of a unit has no name and actuals of a runtime call
 abbrev mutual
   pub IsWrittenAct : Act → Type 0
   IsWrittenAct (assign x s e) = IsPlace x s × IsWrittenTerm e
   IsWrittenAct (choose c a b) = IsWrittenTest c × IsWrittenCode a × IsWrittenCode b
-  IsWrittenAct (loop x a b c body n) = IsVariable x × IsWrittenTerm a × IsWrittenTerm b × IsWrittenTerm c × IsWrittenCode body × (n ≤ 64)
+  IsWrittenAct (loop x a b c body m) = IsVariable x × IsWrittenTerm a × IsWrittenTerm b × IsWrittenTerm c × IsWrittenCode body × IsWrittenMark m
+  IsWrittenAct (during c body) = IsWrittenTest c × IsWrittenCode body
   IsWrittenAct (call x actuals) = IsName x × AreWrittenTerms actuals × (runtime_call x actuals ≡ None)
   IsWrittenAct (runtime r) = IsWrittenRuntime r
 

@@ -1,7 +1,7 @@
 //! Statements of a text, before their grammar is looked at.
 
 use crate::token::Tokens;
-use adj_tree::Bytes;
+use adj_tree::{Bytes, Mark};
 
 /// The class of a statement (docs/LANGUAGE.md).
 #[derive(Clone, Copy, PartialEq, Eq, Debug)]
@@ -18,6 +18,7 @@ pub enum Kind {
     Else,
     ImplicitNone,
     ElseIf,
+    DoWhile,
     Subroutine,
     Integer,
     Call,
@@ -30,8 +31,8 @@ pub struct Stated {
     pub line: u32,
     /// Its label, or 0 where it has none.
     pub label: u32,
-    /// The operand of the directive directly before it, or 0.
-    pub mark: u32,
+    /// What the directive directly before it says: a number of snapshots or a name in capitals; plain where there is none.
+    pub mark: Mark,
     /// The line of that directive, or 0.
     pub mark_line: u32,
     pub kind: Kind,

@@ -9,7 +9,7 @@ use std::alloc::Global;
 
 // A body that is one statement or more, and its canonical text or its refusal. Line 1 is the SUBROUTINE of the unit round it.
 // A line that begins with a blank or is a directive stands as it is; any other begins in column 7.
-const ASSIGNMENTS: [(&str, &str); 48] = [
+const ASSIGNMENTS: [(&str, &str); 54] = [
     ("X=A+B*C", "X=A+B*C"),
     ("X=(A+B)*C", "X=(A+B)*C"),
     ("X=A-B-C", "X=A-B-C"),
@@ -36,7 +36,13 @@ const ASSIGNMENTS: [(&str, &str); 48] = [
     ("X=A**63", "X=A**63"),
     ("X=A**64", "REFUSED 25 LINE 2\n"),
     ("X=A**(-1)", "REFUSED 25 LINE 2\n"),
-    ("X=A**N", "REFUSED 25 LINE 2\n"),
+    ("X=A**N", "X=A**N"),
+    ("X=A**(N+1)", "X=A**(N+1)"),
+    ("X=A**2**N", "X=A**2**N"),
+    ("X=(A**2)**N", "X=(A**2)**N"),
+    ("X=-A**N", "X=-A**N"),
+    ("X=A**(4/2)", "X=A**(4/2)"),
+    ("X=A**N**64", "REFUSED 25 LINE 2\n"),
     ("X=A**(2**(1-2))", "REFUSED 25 LINE 2\n"),
     (
         "X=A**(9223372036854775807+1-9223372036854775807)",
@@ -170,6 +176,45 @@ const BLOCKS: [(&str, &str); 34] = [
     ("X=1\nINTEGER Y", "REFUSED 4 LINE 3\n"),
     ("INTEGER Y\nIMPLICIT NONE", "REFUSED 4 LINE 3\n"),
     ("X=1\nC$AD BINOMIAL-CKP 7\nX=A+", "REFUSED 20 LINE 3\n"),
+];
+
+// DO WHILE, and directives with a number or a name.
+const REPEATED: [(&str, &str); 11] = [
+    (
+        "do while ((I.LT.N))\nI=I+1\nEND DO",
+        "DO WHILE (I.LT.N)\nI=I+1\nEND DO",
+    ),
+    (
+        "DO 10 I=1,N\nDO WHILE (K.LT.N)\nENDDO\n   10 CONTINUE",
+        "DO I=1,N\nDO WHILE (K.LT.N)\nEND DO\nEND DO",
+    ),
+    ("DO WHILE = 1", "DOWHILE=1"),
+    (
+        "C$Ad binomial-ckp  Max_n  \nDO I=1,N\nEND DO",
+        "C$AD BINOMIAL-CKP MAX_N\nDO I=1,N\nEND DO",
+    ),
+    (
+        "DO 10 I=1,N\nDO WHILE (K.LT.N)\n   10 CONTINUE",
+        "REFUSED 10 LINE 4\n",
+    ),
+    (
+        "DO WHILE (K.LT.N)\nDO 10 I=1,N\nEND DO",
+        "REFUSED 10 LINE 4\n",
+    ),
+    ("DO 10 WHILE (K.LT.N)\n   10 CONTINUE", "REFUSED 3 LINE 2\n"),
+    ("DO WHILE (K)\nEND DO", "REFUSED 4 LINE 2\n"),
+    (
+        "DO WHILE (K.LT.N)\nIF (A.LT.B) THEN\nEND DO",
+        "REFUSED 4 LINE 4\n",
+    ),
+    (
+        "C$AD BINOMIAL-CKP 7\nDO WHILE (K.LT.N)\nEND DO",
+        "REFUSED 20 LINE 2\n",
+    ),
+    (
+        "C$AD BINOMIAL-CKP 0\nDO I=1,N\nEND DO",
+        "REFUSED 20 LINE 2\n",
+    ),
 ];
 
 const DECLARATIONS: [(&str, &str); 10] = [
@@ -320,6 +365,14 @@ fn each_call_and_declaration_reads_as_its_tree(rt: HostRuntime) -> Result<(), Me
 #[test]
 fn each_condition_reads_as_its_tree(rt: HostRuntime) -> Result<(), Memory> {
     for (body, expected) in CONDITIONS {
+        assert!(rt; reads_as(rt.alloc(), body, expected)?, "{body}");
+    }
+    Ok(())
+}
+
+#[test]
+fn each_do_while_and_each_directive_reads_as_its_tree(rt: HostRuntime) -> Result<(), Memory> {
+    for (body, expected) in REPEATED {
         assert!(rt; reads_as(rt.alloc(), body, expected)?, "{body}");
     }
     Ok(())
