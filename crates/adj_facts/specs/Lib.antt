@@ -1,0 +1,13 @@
+-- the definitions of the crate, a module a subject
+pub mod Reached
+pub mod Parts
+pub mod Ways
+pub mod Standing
+pub mod Occurrences
+pub mod Problem
+pub mod Flow
+pub mod Activity
+pub mod Uses
+pub mod Live
+pub mod Held
+pub mod Laws

@@ -1,0 +1,8 @@
+-- the lemmas of the crate
+pub mod Tallies
+pub mod Placing
+pub mod Sums
+pub mod Marking
+pub mod Searching
+pub mod Numbered
+pub mod Spreading
