@@ -41,14 +41,15 @@ again code (p ∷ ps) = flat_map (λ q. faults_if (name_eq p.1 q.1) (fault code 
 
 -- ---- the first
 
--- an earlier line, and at one line the lower code
+-- an earlier line, at one line the lower code, and of two limits the lower
 abbrev pub is_before : Refusal → Refusal → Bool
-is_before r s = nat_lt r.line s.line || ((r.line == s.line) && nat_lt r.code s.code)
+is_before r s = nat_lt r.line s.line || ((r.line == s.line) && (nat_lt r.code s.code || ((r.code == s.code) && nat_lt r.number s.number)))
 
 abbrev pub earlier : Refusal → Option Refusal → Option Refusal
 earlier r None = Some r
 earlier r (Some s) = if is_before s r then Some s else Some r
 
+-- that before which none of them is
 abbrev pub first_of : List Refusal → Option Refusal
 first_of [] = None
 first_of (r ∷ rs) = earlier r (first_of rs)

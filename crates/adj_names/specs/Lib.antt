@@ -14,6 +14,7 @@ pub mod WriteFaults
 pub mod Check
 pub mod HeadFaults
 pub mod Numbering
+pub mod Laws
 pub mod Words
 pub mod Samples
 pub mod NameSamples

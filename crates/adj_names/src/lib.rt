@@ -6,6 +6,8 @@
 //! The layers above cite `specs/Check.antt` for which programs are accepted, and `specs/Variables.antt` for their variables.
 #![tactic(auto)]
 
+mod laws;
 mod worked;
 
+pub use laws::{fault_laws, fresh_laws, variable_laws};
 pub use worked::{call_examples, name_examples, standing_examples};
