@@ -1,8 +1,10 @@
 -- The first of some faults: it is one of them, none is before it, and it doesn't depend on how they are listed.
-use Rattle.std.proofs.Common.{◌≡◌, inl, inr, Bool, true, false, List, [], ◌∷◌, refl, ap, sym, ◌∙◌, subst, arith, Option, Some, None, if◌then◌else◌}
+use Rattle.std.proofs.Common.{◌≡◌, inl, inr, ℕ, ◌++◌, ◌+◌, ◌<◌, length, drop, get_or, Bool, true, false, List, [], ◌∷◌, refl, ap, sym, ◌∙◌, subst, arith, Option, Some, None, if◌then◌else◌}
+use Rattle.std.specs.List.{flat_map}
+use Rattle.std.proofs.lemmas.List.{drop_more}
 use Rattle.std.proofs.lemmas.Bool.Decides.{nat_tests}
 use Rattle.adj_tree.specs.declared.fault.Refusal.{Refusal}
-use Rattle.adj_names.specs.Fault.{is_before, earlier, first_of}
+use Rattle.adj_names.specs.Fault.{is_before, earlier, sooner, first_of}
 use Rattle.adj_names.specs.Laws.{IsIn}
 
 -- nothing is before itself
@@ -12,6 +14,10 @@ before_itself r = grind (arith, nat_tests)
 -- of three, where neither of the later two is before the one ahead of it
 before_none : (r s t : Refusal) → is_before s r ≡ false → is_before t s ≡ false → is_before t r ≡ false
 before_none r s t h g = grind (arith, nat_tests)
+
+-- where the third isn't before the first and is before the second, nor is the second before the first
+before_chain : (r t s : Refusal) → is_before t r ≡ false → is_before t s ≡ true → is_before s r ≡ false
+before_chain r t s h g = grind (arith, nat_tests)
 
 -- what is before another isn't behind it
 before_after : (r s : Refusal) → is_before r s ≡ true → is_before s r ≡ false
@@ -92,3 +98,43 @@ first_of_same rs ss f g = go (first_of rs) (first_of ss) refl refl
     go None (Some s) e d = absurd (some_first rs s (g s (first_is_first ss s d).0) e)
     go (Some r) None e d = absurd (some_first ss r (f r (first_is_first rs r e).0) d)
     go (Some r) (Some s) e d = e ∙ ap Some (both r s (first_is_first rs r e) (first_is_first ss s d)) ∙ sym d
+
+-- ---- the first of lists put together
+
+pub sooner_none : (a : Option Refusal) → sooner a None ≡ a
+sooner_none None = refl
+sooner_none (Some r) = refl
+
+-- of three, the first of the later two is looked at first or last
+earlier_twice : (r s : Refusal) (t : Option Refusal) → sooner (earlier r (Some s)) t ≡ earlier r (earlier s t)
+earlier_twice r s None = sooner_none (earlier r (Some s))
+earlier_twice r s (Some t) = go (is_before s r) (is_before t s) (is_before t r) refl refl refl
+  where
+    go : (a b c : Bool) → is_before s r ≡ a → is_before t s ≡ b → is_before t r ≡ c → sooner (if a then Some s else Some r) (Some t) ≡ earlier r (if b then Some t else Some s)
+    go true true true e d f = rw d (rw f refl)
+    go true true false e d f = absurd (let p : is_before s r ≡ false = before_chain r t s f d in cc)
+    go true false c e d f = rw d (rw e refl)
+    go false true true e d f = rw f refl
+    go false true false e d f = rw f refl
+    go false false true e d f = absurd (let p = before_none r s t e d in cc)
+    go false false false e d f = rw f (rw e refl)
+
+pub sooner_assoc : (a b c : Option Refusal) → sooner (sooner a b) c ≡ sooner a (sooner b c)
+sooner_assoc None b c = refl
+sooner_assoc (Some r) None c = refl
+sooner_assoc (Some r) (Some s) c = earlier_twice r s c
+
+pub first_of-append : (rs ss : List Refusal) → first_of (rs ++ ss) ≡ sooner (first_of rs) (first_of ss)
+first_of-append [] ss = refl
+first_of-append (r ∷ rs) ss = ap (earlier r) (first_of-append rs ss) ∙ sym (sooner_assoc (Some r) (first_of rs) (first_of ss))
+
+-- the first of some faults and one list more
+pub sooner-append : (a : Option Refusal) (rs ss : List Refusal) → sooner (sooner a (first_of rs)) (first_of ss) ≡ sooner a (first_of (rs ++ ss))
+sooner-append a rs ss = sooner_assoc a (first_of rs) (first_of ss) ∙ ap (sooner a) (sym (first_of-append rs ss))
+
+-- the first of what one member of a list adds, and of what those behind it add
+pub sooner_more : {X : Type 0} (f : X → List Refusal) (xs : List X) (i : ℕ) (d : X) (a b : Option Refusal) → i < length xs → b ≡ sooner a (first_of (f (get_or xs i d))) → sooner b (first_of (flat_map f (drop (i + 1) xs))) ≡ sooner a (first_of (flat_map f (drop i xs)))
+sooner_more f xs i d a b lt e =
+    ap (λ z. sooner z (first_of (flat_map f (drop (i + 1) xs)))) e
+    ∙ sooner-append a (f (get_or xs i d)) (flat_map f (drop (i + 1) xs))
+    ∙ ap (λ z. sooner a (first_of (flat_map f z))) (sym (drop_more xs i d lt))

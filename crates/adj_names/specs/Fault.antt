@@ -54,6 +54,11 @@ abbrev pub first_of : List Refusal → Option Refusal
 first_of [] = None
 first_of (r ∷ rs) = earlier r (first_of rs)
 
+-- the first of two
+abbrev pub sooner : Option Refusal → Option Refusal → Option Refusal
+sooner None later = later
+sooner (Some r) later = earlier r later
+
 -- the first of the first pass that has any
 abbrev pub first_in_passes : List (List Refusal) → Option Refusal
 first_in_passes [] = None
