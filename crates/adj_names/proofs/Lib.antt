@@ -1,0 +1,5 @@
+pub mod Lists
+pub mod Fresh
+pub mod Order
+pub mod Sound
+pub mod Samples

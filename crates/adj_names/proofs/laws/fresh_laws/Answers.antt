@@ -1,0 +1,11 @@
+use Rattle.adj_names.proofs.Fresh.{fresh-is_free, fresh-as_wanted, fresh-candidate}
+use Rattle.adj_names.proofs.laws.fresh_laws.Goals as goal
+
+pub returns-clause-is_free : goal.returns-clause-is_free
+returns-clause-is_free c = fresh-is_free
+
+pub returns-clause-as_wanted : goal.returns-clause-as_wanted
+returns-clause-as_wanted c = fresh-as_wanted
+
+pub returns-clause-numbered : goal.returns-clause-numbered
+returns-clause-numbered c = fresh-candidate

@@ -1,0 +1,21 @@
+-- What the contracts of this crate and of the crates above it say of names and calls.
+pub mod Fresh
+pub mod Reserved
+pub mod Statements
+pub mod Standing
+pub mod Variables
+pub mod Calls
+pub mod Fault
+pub mod UnitFaults
+pub mod NameFaults
+pub mod CallFaults
+pub mod ChainFaults
+pub mod WriteFaults
+pub mod Check
+pub mod HeadFaults
+pub mod Numbering
+pub mod Laws
+pub mod Words
+pub mod Samples
+pub mod NameSamples
+pub mod CallSamples

@@ -1,0 +1,24 @@
+//! Laws of faults and of names, each the contract of an empty function.
+
+ghost use Rattle.adj_names.specs.Laws.{FirstIsFirst, NoFirst, FirstOfSame, SoundHasNone, VariablesApart, VariablesStand, FreshIsFree, FreshAsWanted, FreshNumbered};
+
+/// The first of some faults is before all others, however they are listed; and what has none is free of faults.
+pub fn fault_laws()
+    ensures is_first { FirstIsFirst }
+    ensures no_first { NoFirst }
+    ensures of_same { FirstOfSame }
+    ensures sound { SoundHasNone }
+{}
+
+/// The variables of a unit are apart, and just the names that stand in it.
+pub fn variable_laws()
+    ensures apart { VariablesApart }
+    ensures stand { VariablesStand }
+{}
+
+/// A fresh name isn't taken, and is the name wanted where that is free.
+pub fn fresh_laws()
+    ensures is_free { FreshIsFree }
+    ensures as_wanted { FreshAsWanted }
+    ensures numbered { FreshNumbered }
+{}

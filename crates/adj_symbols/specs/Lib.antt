@@ -1,0 +1,3 @@
+-- What clauses see of the tables and lists of this crate.
+pub mod Table
+pub mod View

@@ -1,0 +1,38 @@
+-- Views: what clauses see of lists of borrowed statements and names.
+use Rattle.std.specs.Prelude.{ℕ, List, map, flat_map, Bool, Option, Some, None}
+use Rattle.std.specs.Borrow.{Bor}
+use Rattle.adj_tree.specs.Code as code
+use Rattle.adj_tree.specs.Listed.{statement_of}
+use Rattle.adj_tree.specs.View.{terms_of}
+use Rattle.adj_tree.specs.declared.stmt.Stmt.{Stmt}
+use Rattle.adj_names.specs.Statements.{At}
+use Rattle.adj_names.specs.Standing.{Standing, count_of}
+use Rattle.adj_names.specs.NameFaults.{taken_in}
+use Rattle.adj_symbols.specs.declared.standing.Stands.{Stands}
+use Rattle.adj_symbols.specs.declared.standing.Stands.TheVariants.{Scalar, Element, Whole}
+use Rattle.adj_symbols.specs.declared.standing.Use.{Use}
+
+-- the statements that are borrowed
+abbrev pub seen : List (Bor Stmt) → List (At code.Act)
+seen bs = map (λ b. statement_of b.now) bs
+
+-- how a name stands
+abbrev pub stands_of : Stands → Option ℕ
+stands_of Scalar = Some 0
+stands_of (Element subs) = Some (count_of (terms_of subs.now))
+stands_of Whole = None
+
+-- the names with their lines
+abbrev pub use_of : Use → At Standing
+use_of u = (u.line, record { name = u.name.now; subscripts = stands_of u.stands })
+
+abbrev pub uses_of : List Use → List (At Standing)
+uses_of us = map use_of us
+
+-- names at a line
+abbrev pub at_line : ℕ → List Standing → List (At Standing)
+at_line line ns = map (λ n. (line, n)) ns
+
+-- the names that stand in statements, in order
+abbrev pub taken_at : Bool → List (At code.Act) → List (At Standing)
+taken_at takes_runtime ss = flat_map (λ s. at_line s.0 (taken_in takes_runtime s.1)) ss

@@ -1,0 +1,105 @@
+//! Names looked up in constant time.
+
+ghost use Rattle.std.specs.Prelude.{◌≡◌, ◌++◌, ◌∷◌, [], ℕ, List, Option, not, map, length, position, is_some, unwrap_or, IfOk, OnOk, if◌then◌else◌, Some, None};
+ghost use Rattle.adj_tree.specs.Code.{name_eq};
+ghost use Rattle.adj_names.specs.Fresh.{has_name};
+ghost use Rattle.adj_names.specs.Variables.{Name};
+ghost use Rattle.adj_symbols.specs.Table.{value_of, with_name, with_value};
+
+use adj_tree::{Memory, Name};
+use indexmap::{IndexMap, IndexSet};
+use std::alloc::Global;
+use std::marker::Model;
+
+/// Different names, seen as their list in the order in which they were added.
+#[derive(Drop)]
+pub(crate) struct NameSet<'a> {
+    names: IndexSet<&'a [u8]>,
+}
+
+impl<'a> Model for NameSet<'a> {
+    ghost Value = { List (List ℕ) };
+
+    ghost view = { λ s. map (λ k. k.now) s.names.keys };
+}
+
+impl<'a> NameSet<'a> {
+    /// No names.
+    pub(crate) fn new(alloc: Global) -> NameSet<'a>
+        ensures empty { result ≡ [] }
+    {
+        NameSet {
+            names: IndexSet::new(alloc),
+        }
+    }
+
+    /// How many there are.
+    pub(crate) fn len(&self) -> usize
+        ensures len { result ≡ length self.now }
+    {
+        self.names.len()
+    }
+
+    /// Whether the name is among them.
+    pub(crate) fn contains(&self, name: &Name) -> bool
+        ensures contains { result ≡ has_name name.now self.now }
+    {
+        self.names.contains(name.bytes())
+    }
+
+    /// Where the name stands among them.
+    pub(crate) fn place(&self, name: &Name) -> Option<usize>
+        ensures place { result ≡ position (name_eq name.now) self.now }
+    {
+        self.names.get_index_of(name.bytes())
+    }
+
+    /// Adds a name behind the others where it isn't among them, and says whether it was added.
+    pub(crate) fn insert(&mut self, name: &'a Name) -> Result<bool, Memory>
+        ensures added { IfOk result (λ added. added ≡ not (has_name name.now self.old)) }
+        ensures names { OnOk result (self.new ≡ with_name self.old name.now) }
+    {
+        let added = self.names.insert(name.bytes())?;
+        Ok(added)
+    }
+}
+
+/// A number for each of some different names, seen as their list in the order in which they were added.
+#[derive(Drop)]
+pub(crate) struct Numbers<'a> {
+    numbers: IndexMap<&'a [u8], usize>,
+}
+
+impl<'a> Model for Numbers<'a> {
+    ghost Value = { List (List ℕ × ℕ) };
+
+    ghost view = { λ s. map (λ e. (e.0.now, e.1)) s.numbers.entries };
+}
+
+impl<'a> Numbers<'a> {
+    /// No names.
+    pub(crate) fn new(alloc: Global) -> Numbers<'a>
+        ensures empty { result ≡ [] }
+    {
+        Numbers {
+            numbers: IndexMap::new(alloc),
+        }
+    }
+
+    /// The number of a name.
+    pub(crate) fn get(&self, name: &Name) -> Option<usize>
+        ensures number { result ≡ value_of name.now self.now }
+    {
+        self.numbers.get(name.bytes()).copied()
+    }
+
+    /// Adds a number where the name has none.
+    pub(crate) fn add(&mut self, name: &'a Name, number: usize) -> Result<(), Memory>
+        ensures added { OnOk result (self.new ≡ with_value self.old name.now number) }
+    {
+        if self.get(name).is_none() {
+            self.numbers.insert(name.bytes(), number)?;
+        }
+        Ok(())
+    }
+}
