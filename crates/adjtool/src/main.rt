@@ -15,6 +15,12 @@ const USAGE: u8 = 1;
 /// Memory ran out.
 const MEMORY: u8 = 9;
 
+/// The bytes of stack that a call of `stack_taken` takes.
+const ROOM: usize = 4096;
+
+/// How many such calls take the stack that the deepest text needs, about four times over.
+const CALLS: u32 = 256;
+
 fn status(error: &io::Error) -> u8 {
     match error.kind() {
         io::ErrorKind::OutOfMemory => MEMORY,
@@ -33,11 +39,27 @@ fn words(rt: &HostRuntime) -> Result<Vec<Text>, u8> {
     Ok(words)
 }
 
+// Touches the stack, so that it stays there when memory runs out. Each call looks at its room behind the deeper calls,
+// at a place that they tell, so that no compiler leaves them out. The answer is 0 or 1.
+fn stack_taken(calls: u32, place: usize) -> usize {
+    let mut room = [0u8; ROOM];
+    room[place % ROOM] = 1;
+    let told = if calls == 0 {
+        place
+    } else {
+        stack_taken(calls - 1, place)
+    };
+    usize::from(room[told.wrapping_add(1) % ROOM])
+}
+
 fn main(rt: HostRuntime) -> ExitCode {
     let words = match words(&rt) {
         Ok(words) => words,
         Err(status) => return ExitCode::from(status),
     };
+    if stack_taken(CALLS, words.len()) > 1 {
+        return ExitCode::from(MEMORY);
+    }
     let mut input = StdSource::new(rt.reader());
     let mut output = StdSink::new(io::writer(&rt));
     ExitCode::from(tool(rt.alloc(), words.as_slice(), &mut input, &mut output))
