@@ -1,13 +1,13 @@
 //! The sweeps of a list of assignments (docs/EMITTED.md, "Sweeps"). Lists are gone through by loops.
 
-ghost use Rattle.std.specs.Prelude.{◌≡◌, pos, IfOk, OnOk};
-ghost use Rattle.adj_tree.specs.Code.{Code, shadow, lit, assign};
+ghost use Rattle.std.specs.Prelude.{◌≡◌, pos, IfOk};
+ghost use Rattle.adj_tree.specs.Code.{Code, plain, shadow, lit, assign, runtime, push_word, step};
+ghost use Rattle.adj_tree.specs.Listed.{code_turned};
 ghost use Rattle.adj_tree.specs.View.{term_of, terms_of, act_of, code_of};
 ghost use Rattle.adj_meaning.specs.Append.{◌+++◌};
 ghost use Rattle.adj_meaning.specs.Rename.{rename};
 ghost use Rattle.adj_transpose.specs.Emit.{adjoint_of, forward_act, forward, backward_act, backward};
 ghost use Rattle.adj_sweep.specs.Table.{named_by};
-ghost use Rattle.adj_sweep.specs.Steps.{steps_onto};
 
 use crate::back::back;
 use crate::names::{Helper, Names};
@@ -87,27 +87,37 @@ pub fn backward(alloc: Global, n: &Names, body: &Stmts, rest: Stmts) -> Result<S
     Ok(code)
 }
 
-// The forward sweep of a statement behind others: the value that is overwritten is pushed.
-fn forward_statement(alloc: Global, stmt: &Stmt, steps: &mut Vec<Stmt>) -> Result<(), Memory>
-    ensures steps { OnOk result ((rest : Code) → steps_onto steps.new.items rest ≡ steps_onto steps.old.items (forward_act 0 stmt.now.line (act_of stmt.now.act) +++ rest)) }
+// The push of a place, and then the rest.
+fn pushed_before(alloc: Global, line: u32, target: &Place, rest: Stmts) -> Result<Stmts, Memory>
+    ensures steps { IfOk result (λ c. code_of c ≡ step line (runtime (push_word (plain target.now.name) (terms_of target.now.subs))) (code_of rest)) }
 {
-    if let Act::Assign(target, _) = &stmt.act {
-        steps.push(push(stmt.line, target.copy(alloc)?))?;
-        steps.push(stmt.copy(alloc)?)?;
-    }
-    Ok(())
+    let pushed = push(line, target.copy(alloc)?);
+    let code = before(alloc, pushed, rest)?;
+    Ok(code)
+}
+
+// The forward sweep of a statement before others that are turned round: the value that is overwritten is pushed.
+fn forward_statement(alloc: Global, stmt: &Stmt, turned: Stmts) -> Result<Stmts, Memory>
+    ensures steps { IfOk result (λ c. (rest : Code) → code_turned (code_of c) rest ≡ code_turned (code_of turned) (forward_act 0 stmt.now.line (act_of stmt.now.act) +++ rest)) }
+{
+    let Act::Assign(target, _) = &stmt.act else {
+        return Ok(turned);
+    };
+    let pushed = pushed_before(alloc, stmt.line, target, turned)?;
+    let code = before(alloc, stmt.copy(alloc)?, pushed)?;
+    Ok(code)
 }
 
 /// The forward sweep, and then the rest.
 pub fn forward(alloc: Global, body: &Stmts, rest: Stmts) -> Result<Stmts, Memory>
     ensures steps { IfOk result (λ c. code_of c ≡ forward 0 (code_of body.now) +++ code_of rest) }
 {
-    let mut steps = Vec::new(alloc);
+    let mut turned = Stmts::Empty;
     let mut current = body;
     while let Stmts::More(stmt, next) = current {
-        forward_statement(alloc, stmt, &mut steps)?;
+        turned = forward_statement(alloc, stmt, turned)?;
         current = next;
     }
-    let code = all_before(alloc, steps, rest)?;
+    let code = turned.turned_onto(rest);
     Ok(code)
 }
