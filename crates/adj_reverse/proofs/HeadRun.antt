@@ -47,7 +47,7 @@ use Rattle.adj_reverse.specs.Source.{variables_of, arrays_in, SourceFits}
 use Rattle.adj_reverse.specs.Theorem.{ShapesFit, plan_of}
 use Rattle.adj_reverse.proofs.Calls.{shadow_undeclared, helper_undeclared, extents_dual}
 use Rattle.adj_reverse.proofs.Cells.{cells_only}
-use Rattle.adj_reverse.proofs.HeadNames.{apart_front, local_apart, unmarked_in, among_in, among_from, among_out, counts, entry_other, turned}
+use Rattle.adj_reverse.proofs.HeadNames.{apart_front, local_apart, unmarked_in, among_in, among_from, among_out, counts, entry_other}
 use Rattle.adj_reverse.proofs.Rows.{rows, by_cells, AreNought, pairing_behind, pairing_product, others_nought, nought_others, marked_alike, given_rows, shadow_rows, tangents_rows, cells_rows, direction_rows, direction_nought, AreSized, fits_sized, sized_alike}
 use Rattle.adj_reverse.proofs.EmittedUnits.{found_there, head_there}
 use Rattle.adj_reverse.proofs.Made as made
