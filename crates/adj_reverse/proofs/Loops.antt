@@ -1,6 +1,6 @@
 -- A DO as a statement: its derivative and its sweeps.
 use Rattle.std.proofs.Common.{◌≡◌, ◌<◌, ◌≤◌, ◌^◌, ℕ, Bool, true, false, List, ◌∷◌, refl, sym, ap, ◌∙◌, arith, if◌then◌else◌, int_eq}
-use Rattle.std.specs.Prelude.{ℤ, pos, negsuc, ◌-ℤ◌, nat_le, Result, Ok, Err, Option, Some, None}
+use Rattle.std.specs.Prelude.{ℤ, pos, negsuc, ◌-ℤ◌, nat_le, Result, Ok, Err, Some, None}
 use Rattle.adj_tree.specs.Code.{Var, Term, Mark, unmarked, with_count, count_from, loop, Code}
 use Rattle.adj_word.specs.Word.{wrap, sub, trip_count}
 use Rattle.adj_word.proofs.Counting.{last_of, trips_down}

@@ -1,8 +1,7 @@
 -- What runs tell of reversals goes together one after another, through calls, and around a reversal.
-use Rattle.std.proofs.Common.{◌≡◌, ◌≤◌, ◌<◌, ◌⊎◌, ℕ, zero, suc, ◌+◌, Bool, true, false, List, [], ◌∷◌, ◌++◌, map, refl, sym, ap, ◌∙◌, subst, arith, append_assoc, if◌then◌else◌}
-use Rattle.std.specs.Prelude.{◌==◌, ◌&&◌, reverse}
+use Rattle.std.proofs.Common.{◌≡◌, ◌≤◌, ◌<◌, ℕ, zero, suc, ◌+◌, Bool, true, false, List, [], ◌∷◌, ◌++◌, map, refl, sym, ap, ◌∙◌, subst, arith, append_assoc, if◌then◌else◌}
+use Rattle.std.specs.Prelude.{◌==◌, reverse}
 use Rattle.std.proofs.lemmas.List.{append-nil, reverse-append}
-use Rattle.adj_tree.specs.Code.{name_eq}
 use Rattle.adj_tree.proofs.Names.{nat_refl}
 use Rattle.adj_meaning.specs.Event.{Event, Enter, Begin, End, Marked}
 use Rattle.adj_meaning.specs.Store.{Shape}
