@@ -10,12 +10,12 @@ use Rattle.adj_meaning.specs.Store.{Shape, Store, cell_of}
 use Rattle.adj_meaning.specs.Read.{reads_term, reads_terms}
 use Rattle.adj_meaning.proofs.Cells.{size_positive}
 use Rattle.adj_transpose.specs.Marks.{Vars}
-use Rattle.adj_transpose.specs.Marked.{is_active_where}
-use Rattle.adj_transpose.specs.Facts.{Within, in_term, in_terms, adjoint_reads}
+use Rattle.adj_transpose.specs.Facts.{Within, in_term, in_terms}
 use Rattle.adj_transpose.specs.Pairs.{Words}
 use Rattle.adj_transpose.specs.Lists.{masked}
 use Rattle.adj_transpose.proofs.Variables.{or_left, or_right}
 use Rattle.adj_transpose.proofs.Values.{power_tangent-zero}
+use Rattle.adj_reverse.specs.AdjointOf.{is_active_where, adjoint_reads}
 use Rattle.adj_reverse.specs.Runs.{SameOn}
 use Rattle.adj_reverse.proofs.Terms.{num, nums, cell_or, cell_in, tan, word_of, power_word, IsExponent, CanDo, HasCell, IsDefined, AreDefined}
 use Rattle.adj_reverse.proofs.TermTangents.{tan_inactive, cell_in_below}

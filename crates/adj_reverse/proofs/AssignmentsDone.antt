@@ -1,5 +1,5 @@
 -- Each assignment that was done is transposed.
-use Rattle.std.proofs.Common.{◌≡◌, ◌<◌, ℕ, Bool, true, false, List, refl, sym, ap, ◌∙◌, subst, arith, if◌then◌else◌}
+use Rattle.std.proofs.Common.{◌≡◌, ◌<◌, ℕ, Bool, true, false, List, [], refl, sym, ap, ◌∙◌, subst, arith, if◌then◌else◌}
 use Rattle.std.specs.Prelude.{ℤ, Result, Ok, Option, Some, None, ◌==◌, ◌&&◌, not}
 use Rattle.adj_tree.specs.Code.{Var, plain, shadow, name_eq, var_eq, Term, Terms, none, more, assign, stop}
 use Rattle.adj_tree.proofs.Names.{name_same}
@@ -25,8 +25,8 @@ use Rattle.adj_reverse.specs.Laws.{CalleeFacts, AssignmentLaws}
 use Rattle.adj_reverse.specs.Passing.{plainly}
 use Rattle.adj_reverse.specs.Cells.{cells_of}
 use Rattle.adj_reverse.specs.Kernel.{AllText, AssignmentFits}
-use Rattle.adj_reverse.specs.Runs.{Comes}
-use Rattle.adj_reverse.proofs.Runs.{comes_leads}
+use Rattle.adj_reverse.specs.Runs.{Passes}
+use Rattle.adj_reverse.proofs.Runs.{passes_leads}
 use Rattle.adj_reverse.proofs.Sweeps.{IsCell}
 use Rattle.adj_reverse.proofs.Transposed.{Transposed}
 use Rattle.adj_reverse.specs.Theorem.{plan_of}
@@ -72,7 +72,7 @@ target_dual : (sh : Var → Shape) (level : ℕ) (x : Var) (subs : Terms) (s : S
 target_dual sh level x none s y h = refl
 target_dual sh level x (more a rest) s y h = ap (λ r. then_ok r (λ is. cell_at (on_duals sh level) x is)) (values_duals sh level (more a rest) s y h.0) ∙ ap (or_trap index) h.1
 
-module _ (p q : Calls ℤ) (qd : Calls (ℤ × ℤ)) (callees : List ℕ → CalleeFacts) (w : Facts) (arrays : Vars) (vars : List (List ℕ)) (apart : AreApart vars) (present : Bool) (sh : Var → Shape) (level : ℕ) (known : KnowsArrays (plan_of callees w arrays) sh) (shapes : (x : List ℕ) → w.marks.shadowed (plain x) ≡ true → sh (shadow x) ≡ sh (plain x)) (x : List ℕ) (subs : Terms) (e : Term) (i d line : ℕ) (laws : AssignmentLaws w i (plain x) subs e) (fits : AssignmentFits vars arrays x subs e) where
+module _ (p q : Calls ℤ) (lines : ℕ → Bool) (qd : Calls (ℤ × ℤ)) (callees : List ℕ → CalleeFacts) (w : Facts) (arrays : Vars) (vars : List (List ℕ)) (apart : AreApart vars) (present : Bool) (sh : Var → Shape) (level : ℕ) (known : KnowsArrays (plan_of callees w arrays) sh) (shapes : (x : List ℕ) → w.marks.shadowed (plain x) ≡ true → sh (shadow x) ≡ sh (plain x)) (x : List ℕ) (subs : Terms) (e : Term) (i d line : ℕ) (laws : AssignmentLaws w i (plain x) subs e) (fits : AssignmentFits vars arrays x subs e) where
   abbrev m : Marks
   m = w.marks
 
@@ -113,28 +113,30 @@ module _ (p q : Calls ℤ) (qd : Calls (ℤ × ℤ)) (callees : List ℕ → Cal
             λ j. (n j, z j)
         go (more a rest) is h = cc
 
-    dual_assign : (home : Kept) (y : Words) (t : List (ℤ × ℤ)) → Comes qd nd (one line (assign (plain x) subs e)) home (with_tangents u y) (with_tangents (set u (plain x) c (num sh e u)) (put key_eq y at (tan sh e u y))) t t
+    dual_assign : (home : Kept) (y : Words) (t : List (ℤ × ℤ)) → Passes lines qd nd (one line (assign (plain x) subs e)) home (with_tangents u y) (with_tangents (set u (plain x) c (num sh e u)) (put key_eq y at (tan sh e u y))) t []
     dual_assign home y t =
         let pv : ℤ × ℤ = (num sh e u, tan sh e u y) in
         let s1 = set (with_tangents u y) (plain x) c pv in
         let is : value nd e (with_tangents u y) ≡ Ok pv = value_bare (on_duals sh level) (with_tangents u y) e fits.text ∙ value_duals sh level e u y def in
         let tis : target nd (plain x) subs (with_tangents u y) ≡ Ok c = target_bare (on_duals sh level) (with_tangents u y) x subs fits.subs_text ∙ target_dual sh level (plain x) subs u y tg in
-        comes_leads qd nd (one line (assign (plain x) subs e)) home (with_tangents u y) (with_tangents (set u (plain x) c (num sh e u)) (put key_eq y at (tan sh e u y))) t t
+        passes_leads qd nd lines (one line (assign (plain x) subs e)) home (with_tangents u y) (with_tangents (set u (plain x) c (num sh e u)) (put key_eq y at (tan sh e u y))) t
         (leads_assign qd nd line (plain x) subs e stop (scene home (with_tangents u y) t) (scene home (with_tangents (set u (plain x) c (num sh e u)) (put key_eq y at (tan sh e u y))) t) pv c is tis
         (subst (λ (s : Store (ℤ × ℤ)). Leads qd nd stop (scene home s1 t) (scene home s t)) (both y (tan sh e u y)) (leads_stop qd nd (scene home s1 t))))
       where
         both : (y : Words) (z : ℤ) → (let p : ℤ × ℤ = (num sh e u, z) in set (with_tangents u y) (plain x) c p ≡ with_tangents (set u (plain x) c (num sh e u)) (put key_eq y at z))
         both y z = set_both q sh level xs (cells_apart sh vars apart) vars (λ y j n l. cells_has sh vars y j n l) w shapes i x subs e laws over (texts_of subs fits.subs_text) fits.apart u def tg (cells_has sh vars x c fits.variable below) scalar_cell y z
 
-    transposed_assign : Transposed q qd sh level xs w d present (λ v. var_eq v (plain x)) (not (m.adjointed i)) (point_before i) (point_after i) (one line (assign (plain x) subs e)) (forward_act (plan_of callees w arrays) i d line (assign (plain x) subs e)) (backward_act (plan_of callees w arrays) i d line (assign (plain x) subs e)) u (set u (plain x) c (num sh e u))
+    transposed_assign : Transposed q lines qd sh level xs w d present (λ v. var_eq v (plain x)) (not (m.adjointed i)) (point_before i) (point_after i) (one line (assign (plain x) subs e)) (forward_act (plan_of callees w arrays) i d line (assign (plain x) subs e)) (backward_act (plan_of callees w arrays) i d line (assign (plain x) subs e)) u (set u (plain x) c (num sh e u))
     transposed_assign = record {
       derivative = λ y. put key_eq y at (tan sh e u y);
       change = assigned_change m i at sh e u;
+      loops = [];
       dual = dual_assign;
       sweeps = λ pr. sweeps_assign q sh level xs (cells_apart sh vars apart) vars (λ y j n l. cells_has sh vars y j n l) w shapes i x subs e laws over (texts_of subs fits.subs_text) fits.apart u def tg (cells_has sh vars x c fits.variable below) scalar_cell d line;
       matches = λ y z h. matches_assign sh w i x subs e laws fits.treated u def c scalar_cell below y z h laws.shadows;
       unwritten = λ k n y. (other k n y (tan sh e u y), go k n y (m.adjointed i));
       still = λ o y k. still (m.adjointed i) refl o y k;
+      none_reversed = λ o. refl;
     }
       where
         other : (k : Key) → name_eq k.0 x ≡ false → (y : Words) (z : ℤ) → put key_eq y at z k ≡ y k
@@ -148,17 +150,17 @@ module _ (p q : Calls ℤ) (qd : Calls (ℤ × ℤ)) (callees : List ℕ → Cal
         still true ea o y k = absurd (let r : false ≡ true = ap not (sym ea) ∙ o in cc)
         still false ea o y k = refl
 
-  pub assign_done : (s r : Scene ℤ) (k left : ℕ) → act p np (assign (plain x) subs e) line s k ≡ Done r left → Transposed q qd sh level xs w d present (λ v. var_eq v (plain x)) (not (m.adjointed i)) (point_before i) (point_after i) (one line (assign (plain x) subs e)) (forward_act (plan_of callees w arrays) i d line (assign (plain x) subs e)) (backward_act (plan_of callees w arrays) i d line (assign (plain x) subs e)) s.store r.store
+  pub assign_done : (s r : Scene ℤ) (k left : ℕ) → act p np (assign (plain x) subs e) line s k ≡ Done r left → Transposed q lines qd sh level xs w d present (λ v. var_eq v (plain x)) (not (m.adjointed i)) (point_before i) (point_after i) (one line (assign (plain x) subs e)) (forward_act (plan_of callees w arrays) i d line (assign (plain x) subs e)) (backward_act (plan_of callees w arrays) i d line (assign (plain x) subs e)) s.store r.store
   assign_done s r k left h =
       let v = value_done (value np e s.store) line _ _ r left h in
       let t = value_done (target np (plain x) subs s.store) line _ _ r left v.goes in
       from s r k left v.value t.value (sym (value_bare (on_words sh level) s.store e fits.text) ∙ v.is) (sym (target_bare (on_words sh level) s.store x subs fits.subs_text) ∙ t.is) (done_same _ r k left t.goes)
     where
-      from : (s r : Scene ℤ) (k left : ℕ) (v : ℤ) (j : ℕ) → value (on_words sh level) e s.store ≡ Ok v → target (on_words sh level) (plain x) subs s.store ≡ Ok j → record s { store = set s.store (plain x) j v } ≡ r → Transposed q qd sh level xs w d present (λ v. var_eq v (plain x)) (not (m.adjointed i)) (point_before i) (point_after i) (one line (assign (plain x) subs e)) (forward_act (plan_of callees w arrays) i d line (assign (plain x) subs e)) (backward_act (plan_of callees w arrays) i d line (assign (plain x) subs e)) s.store r.store
+      from : (s r : Scene ℤ) (k left : ℕ) (v : ℤ) (j : ℕ) → value (on_words sh level) e s.store ≡ Ok v → target (on_words sh level) (plain x) subs s.store ≡ Ok j → record s { store = set s.store (plain x) j v } ≡ r → Transposed q lines qd sh level xs w d present (λ v. var_eq v (plain x)) (not (m.adjointed i)) (point_before i) (point_after i) (one line (assign (plain x) subs e)) (forward_act (plan_of callees w arrays) i d line (assign (plain x) subs e)) (backward_act (plan_of callees w arrays) i d line (assign (plain x) subs e)) s.store r.store
       from s r k left v j is tis e_r =
           let def = defined_of sh level e s.store v is in
           let tw = target_was sh level (plain x) subs s.store j tis in
           let same : num sh e s.store ≡ v = ok_same (num sh e s.store) v (sym (value_words sh level e s.store def) ∙ is) in
-          subst (λ (u' : Store ℤ). Transposed q qd sh level xs w d present (λ v. var_eq v (plain x)) (not (m.adjointed i)) (point_before i) (point_after i) (one line (assign (plain x) subs e)) (forward_act (plan_of callees w arrays) i d line (assign (plain x) subs e)) (backward_act (plan_of callees w arrays) i d line (assign (plain x) subs e)) s.store u')
+          subst (λ (u' : Store ℤ). Transposed q lines qd sh level xs w d present (λ v. var_eq v (plain x)) (not (m.adjointed i)) (point_before i) (point_after i) (one line (assign (plain x) subs e)) (forward_act (plan_of callees w arrays) i d line (assign (plain x) subs e)) (backward_act (plan_of callees w arrays) i d line (assign (plain x) subs e)) s.store u')
           ((λ l. set s.store (plain x) (tw.is l) (same l)) ∙ ap (λ (z : Scene ℤ). z.store) e_r)
           (transposed_assign s.store def tw.has)

@@ -17,7 +17,7 @@ use Rattle.adj_meaning.specs.Append.{◌+++◌}
 use Rattle.adj_meaning.specs.Run.{Calls}
 use Rattle.adj_meaning.proofs.Leadings.{leads_stop, leads_append, leads_assign}
 use Rattle.adj_transpose.specs.Marks.{Vars}
-use Rattle.adj_transpose.specs.Marked.{is_active_where, has_own_where, count_of, temps_in_where, own_or, code_if, times_power, back_where, work_var}
+use Rattle.adj_transpose.specs.Marked.{count_of, own_or, code_if, work_var}
 use Rattle.adj_transpose.specs.Pairs.{Key, key_eq, Words, shadows, SamePlain, on_words}
 use Rattle.adj_transpose.specs.Lists.{Kept, scene, masked}
 use Rattle.adj_transpose.proofs.Variables.{key_same}
@@ -26,6 +26,7 @@ use Rattle.adj_transpose.proofs.Back.{SameUpTo, Adds}
 use Rattle.adj_transpose.specs.Facts.{In}
 use Rattle.adj_transpose.specs.Fresh.{has_name}
 use Rattle.adj_meaning.proofs.Cells.{size_positive}
+use Rattle.adj_reverse.specs.AdjointOf.{is_active_where, has_own_where, temps_in_where, times_power, back_where}
 use Rattle.adj_reverse.proofs.Terms.{num, nums, cell_or, tan, HasCell, value_words, values_words}
 use Rattle.adj_reverse.proofs.TermTangents.{tan_inactive, cell_in_below}
 use Rattle.adj_reverse.proofs.TermUses.{IsOver, over_treated, IsUsable, num_same, tan_same, defined_same, usable_same}

@@ -12,7 +12,7 @@ use Rattle.adj_meaning.specs.Written.{find_unit, handed_back, is_written}
 use Rattle.adj_meaning.specs.Rename.{rename}
 use Rattle.adj_meaning.specs.Seen.{Separates, pulled, pulled_setting, pulled_scene, pulled_outcome}
 use Rattle.adj_meaning.specs.Units.{Actual, whole, actuals, entry_store, dummy_shapes, dummies_fit, copied_out, setting_in, entered, unit_run, call_in, calls_of}
-use Rattle.adj_meaning.specs.Leads.{Leads}
+use Rattle.adj_meaning.specs.Leads.{Leads, ActLeads}
 use Rattle.adj_meaning.proofs.Inversions.{then_done, done_same}
 use Rattle.adj_meaning.proofs.Renamed.{run_renamed}
 use Rattle.adj_meaning.proofs.WriteSets.{handed_written}
@@ -20,7 +20,9 @@ use Rattle.adj_meaning.proofs.Frames.{keeps_others}
 use Rattle.adj_meaning.proofs.Costs.{leads_where_done}
 use Rattle.adj_transpose.specs.Marks.{Vars}
 use Rattle.adj_transpose.specs.Lists.{Kept, scene}
-use Rattle.adj_reverse.specs.Runs.{Comes, ActComes}
+use Rattle.adj_reverse.specs.Reversals.{Reversal, LoopRun}
+use Rattle.adj_reverse.proofs.Told.{tells_called, marks_called}
+use Rattle.adj_reverse.specs.Runs.{Comes, ActComes, Passes, ActPasses}
 use Rattle.adj_reverse.specs.Passing.{Bindings, actuals_in, passed_in, passed_out}
 pub use Rattle.adj_reverse.specs.Emitted.{AreNamed, name_of}
 
@@ -84,21 +86,20 @@ module _ {C : Type 0} (units : List Procedure) (depth : ℕ) (n : Setting C) (na
   abbrev pub entry : Store C
   entry = entry_store n.numbers u.dummies (actuals_at n s bs)
 
+  abbrev pub entered_at : Kept → List C → Kept
+  entered_at base t = kept_at n u (dummy_shapes (setting_in n u entry) u) base t
+
   -- where the dummies fit and the body comes to an end under the other names, so does the call
-  pub call_comes : (c : Code) → u.body ≡ rename r c → (line : ℕ) (base : Kept) (t t' : List C) (end : Store C) → dummies_fit n.numbers u entry u.dummies (actuals_at n s bs) ≡ true → Comes (calls_of units depth) (pulled_setting r (setting_in n u entry)) c (kept_at n u (dummy_shapes (setting_in n u entry) u) base t) (passed_in (n.numbers.of_word (pos 0)) bs s) end t t' → ActComes (calls_of units (suc depth)) n (call name (actuals_in bs)) line base s (passed_out (writes_as units u r) bs end s) t t'
-  call_comes c is line base t t' end fit b = record {
-    later = record { opened = base.opened; events = b.later.events };
-    quiet = record { opened = refl; reversals = b.quiet.reversals };
-    runs = record {
-      cost = body.cost;
-      by = λ k.
-          ap (λ o. call_in (calls_of units depth) n (handed_back units name) o (actuals_in bs) line (scene base s t) (body.cost + k)) found
-          ∙ ap (λ g. with_value g line (stand n (scene base s t)) (λ got. if dummies_fit n.numbers u (entry_store n.numbers u.dummies got) u.dummies got then then_do (unit_run (calls_of units depth) n u line (scene base (entry_store n.numbers u.dummies got) t) (body.cost + k)) (back got) else Trapped shape_trap line (stand n (scene base s t)))) (actuals_are n s bs)
-          ∙ ap (λ f. if f then then_do (unit_run (calls_of units depth) n u line (scene base entry t) (body.cost + k)) (back (actuals_at n s bs)) else Trapped shape_trap line (stand n (scene base s t))) fit
-          ∙ ap (λ o. then_do (then_do o close) (back (actuals_at n s bs))) (body.by k)
-          ∙ ap (λ f. then_do (if f == 0 then Done ended.end k else Trapped schedule_trap line (stand n ended.end)) (back (actuals_at n s bs))) (ap (λ (z : Scene C). z.opened) ended.same ∙ b.quiet.opened)
-          ∙ (λ i. Done (record { store = stored i; tape = (ended.same i).tape; opened = base.opened; events = (ended.same i).events }) k);
-    };
+  call_leads : (c : Code) → u.body ≡ rename r c → (line : ℕ) (base later : Kept) (t t' : List C) (end : Store C) → dummies_fit n.numbers u entry u.dummies (actuals_at n s bs) ≡ true → later.opened ≡ 0 → (b : Leads (calls_of units depth) (pulled_setting r (setting_in n u entry)) c (scene (entered_at base t) (passed_in (n.numbers.of_word (pos 0)) bs s) t) (scene later end t')) → ActLeads (calls_of units (suc depth)) n (call name (actuals_in bs)) line (scene base s t) (scene (record { opened = base.opened; events = later.events }) (passed_out (writes_as units u r) bs end s) t')
+  call_leads c is line base later t t' end fit none b = record {
+    cost = body.cost;
+    by = λ k.
+        ap (λ o. call_in (calls_of units depth) n (handed_back units name) o (actuals_in bs) line (scene base s t) (body.cost + k)) found
+        ∙ ap (λ g. with_value g line (stand n (scene base s t)) (λ got. if dummies_fit n.numbers u (entry_store n.numbers u.dummies got) u.dummies got then then_do (unit_run (calls_of units depth) n u line (scene base (entry_store n.numbers u.dummies got) t) (body.cost + k)) (back got) else Trapped shape_trap line (stand n (scene base s t)))) (actuals_are n s bs)
+        ∙ ap (λ f. if f then then_do (unit_run (calls_of units depth) n u line (scene base entry t) (body.cost + k)) (back (actuals_at n s bs)) else Trapped shape_trap line (stand n (scene base s t))) fit
+        ∙ ap (λ o. then_do (then_do o close) (back (actuals_at n s bs))) (body.by k)
+        ∙ ap (λ f. then_do (if f == 0 then Done ended.end k else Trapped schedule_trap line (stand n ended.end)) (back (actuals_at n s bs))) (ap (λ (z : Scene C). z.opened) ended.same ∙ none)
+        ∙ (λ i. Done (record { store = stored i; tape = (ended.same i).tape; opened = base.opened; events = (ended.same i).events }) k);
   }
     where
       start : Scene C
@@ -110,15 +111,15 @@ module _ {C : Type 0} (units : List Procedure) (depth : ℕ) (n : Setting C) (na
       seen : pulled_scene r start ≡ scene (kept_at n u (dummy_shapes (setting_in n u entry) u) base t) (passed_in (n.numbers.of_word (pos 0)) bs s) t
       seen = ap (λ (f : Store C). scene (kept_at n u (dummy_shapes (setting_in n u entry) u) base t) f t) (entry_pulled n r sep u.dummies bs s named)
 
-      ended : Pulled r (run (calls_of units depth) inside u.body start (b.runs.cost + 0)) (scene b.later end t') 0
-      ended = pulled_done r (run (calls_of units depth) inside u.body start (b.runs.cost + 0)) (scene b.later end t') 0
-          (ap (λ e. pulled_outcome r (run (calls_of units depth) inside e start (b.runs.cost + 0))) is
-          ∙ run_renamed r sep units depth inside c start (b.runs.cost + 0)
-          ∙ ap (λ z. run (calls_of units depth) (pulled_setting r inside) c z (b.runs.cost + 0)) seen
-          ∙ b.runs.by 0)
+      ended : Pulled r (run (calls_of units depth) inside u.body start (b.cost + 0)) (scene later end t') 0
+      ended = pulled_done r (run (calls_of units depth) inside u.body start (b.cost + 0)) (scene later end t') 0
+          (ap (λ e. pulled_outcome r (run (calls_of units depth) inside e start (b.cost + 0))) is
+          ∙ run_renamed r sep units depth inside c start (b.cost + 0)
+          ∙ ap (λ z. run (calls_of units depth) (pulled_setting r inside) c z (b.cost + 0)) seen
+          ∙ b.by 0)
 
       body : Leads (calls_of units depth) inside u.body start ended.end
-      body = leads_where_done units depth inside u.body start ended.end (b.runs.cost + 0) 0 ended.is
+      body = leads_where_done units depth inside u.body start ended.end (b.cost + 0) 0 ended.is
 
       close : Scene C → ℕ → Outcome (Scene C)
       close s1 j = if s1.opened == 0 then Done s1 j else Trapped schedule_trap line (stand n s1)
@@ -132,8 +133,22 @@ module _ {C : Type 0} (units : List Procedure) (depth : ℕ) (n : Setting C) (na
           ∙ copied_pulled n units u r u.dummies bs s ended.end.store s named
           ∙ ap (λ (z : Scene C). passed_out (writes_as units u r) bs z.store s) ended.same
 
+  pub call_comes : {rs : List Reversal} (c : Code) → u.body ≡ rename r c → (line : ℕ) (base : Kept) (t t' : List C) (end : Store C) → dummies_fit n.numbers u entry u.dummies (actuals_at n s bs) ≡ true → Comes (calls_of units depth) (pulled_setting r (setting_in n u entry)) c (entered_at base t) (passed_in (n.numbers.of_word (pos 0)) bs s) end t t' rs → ActComes (calls_of units (suc depth)) n (call name (actuals_in bs)) line base s (passed_out (writes_as units u r) bs end s) t t' rs
+  call_comes {rs} c is line base t t' end fit b = record {
+    later = record { opened = base.opened; events = b.later.events };
+    tells = tells_called n.level (length t) u.name (dummy_shapes (setting_in n u entry) u) base b.later rs b.tells;
+    runs = call_leads c is line base b.later t t' end fit b.tells.opened b.runs;
+  }
+
+  pub call_passes : (lines : ℕ → Bool) (loops : List LoopRun) (c : Code) → u.body ≡ rename r c → (line : ℕ) (base : Kept) (t : List C) (end : Store C) → dummies_fit n.numbers u entry u.dummies (actuals_at n s bs) ≡ true → Passes lines (calls_of units depth) (pulled_setting r (setting_in n u entry)) c (entered_at base t) (passed_in (n.numbers.of_word (pos 0)) bs s) end t loops → ActPasses lines (calls_of units (suc depth)) n (call name (actuals_in bs)) line base s (passed_out (writes_as units u r) bs end s) t loops
+  call_passes lines loops c is line base t end fit b = record {
+    later = record { opened = base.opened; events = b.later.events };
+    tells = marks_called lines n.level (length t) u.name (dummy_shapes (setting_in n u entry) u) base b.later loops b.tells;
+    runs = call_leads c is line base b.later t t end fit b.tells.opened b.runs;
+  }
+
   -- what the unit doesn't write is at the end as it was handed in
-  pub call_keeps : (c : Code) → u.body ≡ rename r c → (base : Kept) (t t' : List C) (end : Store C) → Comes (calls_of units depth) (pulled_setting r (setting_in n u entry)) c (kept_at n u (dummy_shapes (setting_in n u entry) u) base t) (passed_in (n.numbers.of_word (pos 0)) bs s) end t t' → (v : Var) (d : List ℕ) → r v ≡ plain d → is_written units u d ≡ false → (j : ℕ) → end v j ≡ passed_in (n.numbers.of_word (pos 0)) bs s v j
+  pub call_keeps : {rs : List Reversal} (c : Code) → u.body ≡ rename r c → (base : Kept) (t t' : List C) (end : Store C) → Comes (calls_of units depth) (pulled_setting r (setting_in n u entry)) c (kept_at n u (dummy_shapes (setting_in n u entry) u) base t) (passed_in (n.numbers.of_word (pos 0)) bs s) end t t' rs → (v : Var) (d : List ℕ) → r v ≡ plain d → is_written units u d ≡ false → (j : ℕ) → end v j ≡ passed_in (n.numbers.of_word (pos 0)) bs s v j
   call_keeps c is base t t' end b v d named_as unwritten j =
       let start : Scene C = scene (kept_at n u (dummy_shapes (setting_in n u entry) u) base t) entry t in
       let inside : Setting C = setting_in n u entry in

@@ -37,13 +37,13 @@ module _ (q : Calls ℤ) (sh : Var → Shape) (level : ℕ) (p : Plan) (line : �
   -- what is popped
   pub record Popped (xs : List (List ℕ)) (c : Code) (base : Kept) (f g : Store ℤ) (t t' : List ℤ) : Type 0 where
     pub after : Store ℤ
-    pub runs : Comes q (on_words sh level) c base g after t t'
+    pub runs : Comes q (on_words sh level) c base g after t t' []
     pub restored : Restored sh xs f g after
 
   -- these are pushed by one code, and popped by another
   pub record Pushed (xs : List (List ℕ)) (push pop : Code) (f : Store ℤ) : Type 0 where
     pub trail : List ℤ
-    pub pushed : (base : Kept) (t : List ℤ) → Comes q (on_words sh level) push base f f t (trail ++ t)
+    pub pushed : (base : Kept) (t : List ℤ) → Comes q (on_words sh level) push base f f t (trail ++ t) []
     pub popped : (base : Kept) (g : Store ℤ) (t : List ℤ) → Popped xs pop base f g (trail ++ t) t
 
   pub nothing_pushed : (f : Store ℤ) → Pushed [] stop stop f
@@ -155,7 +155,7 @@ module _ (q : Calls ℤ) (sh : Var → Shape) (level : ℕ) (p : Plan) (line : �
         pushed = λ base t.
             let e : b.trail ++ (a.trail ++ t) ≡ (b.trail ++ a.trail) ++ t = sym (append_assoc b.trail a.trail t) in
             let c = a.pushed base t in
-            subst (λ (l : List ℤ). Comes q n (push p line x +++ pushes p line xs) base f f t l) e
+            subst (λ (l : List ℤ). Comes q n (push p line x +++ pushes p line xs) base f f t l []) e
             (comes_append q n (push p line x) (pushes p line xs) base f f f t (a.trail ++ t) (b.trail ++ (a.trail ++ t)) c (b.pushed c.later (a.trail ++ t)));
         popped = λ base g t.
             let e : b.trail ++ (a.trail ++ t) ≡ (b.trail ++ a.trail) ++ t = sym (append_assoc b.trail a.trail t) in
@@ -163,7 +163,7 @@ module _ (q : Calls ℤ) (sh : Var → Shape) (level : ℕ) (p : Plan) (line : �
             let d = a.popped c.runs.later c.after t in
             record {
               after = d.after;
-              runs = subst (λ (l : List ℤ). Comes q n (pops p line xs +++ pop p line x) base g d.after l t) e
+              runs = subst (λ (l : List ℤ). Comes q n (pops p line xs +++ pop p line x) base g d.after l t []) e
                   (comes_append q n (pops p line xs) (pop p line x) base g c.after d.after (b.trail ++ (a.trail ++ t)) (a.trail ++ t) t c.runs d.runs);
               restored = record {
                 here = λ y j h l. here y j h l g c.after d.after d.restored c.restored;

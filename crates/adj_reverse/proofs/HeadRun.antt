@@ -23,7 +23,7 @@ use Rattle.adj_transpose.specs.Marked.{names_in}
 use Rattle.adj_transpose.specs.Facts.{Facts}
 use Rattle.adj_transpose.specs.Pairs.{Key, Words, with_tangents, on_words, on_duals}
 use Rattle.adj_transpose.specs.Lists.{scene, counted}
-use Rattle.adj_transpose.specs.MarkedAdjoint.{shadow_flags, joined_by, shadow_cells, TransposesBy, SuitHead}
+use Rattle.adj_transpose.specs.MarkedAdjoint.{shadow_flags, joined_by, shadow_cells, SuitHead}
 use Rattle.adj_transpose.specs.Program.{variables, locals, unmarked}
 use Rattle.adj_transpose.specs.Adjoint as slots
 use Rattle.adj_transpose.specs.Adjoint.{Ends, AreAlike, IsDirection, Agrees, OthersAreZero, product, marked_cells, with_direction, tangents_of, reversals}
@@ -31,7 +31,12 @@ use Rattle.adj_transpose.proofs.Slots.{direction, dual_store}
 use Rattle.adj_reverse.specs.Plan.{Plan, Callee}
 use Rattle.adj_reverse.specs.Cells.{cells_of}
 use Rattle.adj_reverse.specs.Passing.{plainly}
-use Rattle.adj_reverse.specs.Runs.{Comes}
+use Rattle.std.proofs.lemmas.List.{append-nil, reverse-reverse}
+use Rattle.std.specs.Prelude.{reverse}
+use Rattle.adj_reverse.specs.Adjoint.{TransposesBy}
+use Rattle.adj_reverse.specs.Reversals.{ReversesLoops, AreReversed, marks_in, reversals_in, in_order}
+use Rattle.adj_reverse.proofs.Told.{marks_in-append, in_order-append, in_order-reverse}
+use Rattle.adj_reverse.specs.Runs.{Passes}
 use Rattle.adj_reverse.specs.Emission.{adjoint_body}
 use Rattle.adj_reverse.specs.Emitted.{DeclaredAlike}
 use Rattle.adj_reverse.specs.Environment.{UnitFits}
@@ -42,14 +47,14 @@ use Rattle.adj_reverse.specs.Source.{variables_of, arrays_in, SourceFits}
 use Rattle.adj_reverse.specs.Theorem.{ShapesFit, plan_of}
 use Rattle.adj_reverse.proofs.Calls.{shadow_undeclared, helper_undeclared, extents_dual}
 use Rattle.adj_reverse.proofs.Cells.{cells_only}
-use Rattle.adj_reverse.proofs.HeadNames.{apart_front, local_apart, unmarked_in, among_in, among_from, among_out, counts, entry_other, turned}
+use Rattle.adj_reverse.proofs.HeadNames.{apart_front, local_apart, unmarked_in, among_in, among_from, among_out, counts, entry_other}
 use Rattle.adj_reverse.proofs.Rows.{rows, by_cells, AreNought, pairing_behind, pairing_product, others_nought, nought_others, marked_alike, given_rows, shadow_rows, tangents_rows, cells_rows, direction_rows, direction_nought, AreSized, fits_sized, sized_alike}
 use Rattle.adj_reverse.proofs.EmittedUnits.{found_there, head_there}
 use Rattle.adj_reverse.proofs.Made as made
 use Rattle.adj_reverse.proofs.Emitted as emitted
 use Rattle.adj_reverse.proofs.Entry as entry
 use Rattle.adj_reverse.proofs.Units.{units_transpose}
-use Rattle.adj_reverse.proofs.UnitRuns.{kept_in, unit_setting, begin, BodyEnds, body_ends, unit_ends}
+use Rattle.adj_reverse.proofs.UnitRuns.{words_end, kept_in, unit_setting, begin, BodyEnds, body_ends, unit_ends}
 use Rattle.adj_reverse.proofs.Heads.{zeroed, stays_zero, zeroed_others, is_zeroed, Reverses, reverses}
 
 -- ---- a renamed run
@@ -66,7 +71,7 @@ pulled_done r (Trapped t line w) s k h = cc
 pulled_done r (More w) s k h = cc
 pulled_done r (Full w) s k h = cc
 
-module _ (w : ProgramFacts) (ps : List Procedure) (u : Procedure) (vars outvars : List Bool) (good : SourceFits w ps u) (input given : List (Slot ℤ)) (fit : fits words u input ≡ true) (alike : AreAlike input given) (k used : ℕ) (output : Output ℤ) (done : run_unit words ps u input [] None k ≡ Done output used) where
+module _ (lines : ℕ → Bool) (w : ProgramFacts) (ps : List Procedure) (u : Procedure) (vars outvars : List Bool) (good : SourceFits lines w ps u) (input given : List (Slot ℤ)) (fit : fits words u input ≡ true) (alike : AreAlike input given) (k used : ℕ) (output : Output ℤ) (done : run_unit words ps u input [] None k ≡ Done output used) where
   abbrev pub m : ProgramMarks
   m = w.marks
 
@@ -89,7 +94,7 @@ module _ (w : ProgramFacts) (ps : List Procedure) (u : Procedure) (vars outvars 
   a = adjoint_unit m ps (all_units m ps u) u outs ins
 
   abbrev pub qs : List Procedure
-  qs = emitted.qs w ps u vars outvars good
+  qs = emitted.qs lines w ps u vars outvars good
 
   abbrev pub joined : List (Slot ℤ)
   joined = joined_by (shadow_flags shadowed u.dummies) input given
@@ -97,7 +102,7 @@ module _ (w : ProgramFacts) (ps : List Procedure) (u : Procedure) (vars outvars 
   abbrev g : Callee
   g = callee_of m ps u.name (Some u)
 
-  abbrev pub fitting : UnitFits ps (callee_facts w ps) (has_adjoint m ps u) (answers m ps u) (is_carried m ps u) u.name u (first_statement ps u.name) (variables u) (arrays_of u)
+  abbrev pub fitting : UnitFits lines ps (callee_facts w ps) (has_adjoint m ps u) (answers m ps u) (is_carried m ps u) u.name u (first_statement ps u.name) (variables u) (arrays_of u)
   fitting = good.units u.name u good.there
 
   abbrev pub separates : (v w : Var) → var_eq (naming ns v) (naming ns w) ≡ var_eq v w
@@ -129,7 +134,7 @@ module _ (w : ProgramFacts) (ps : List Procedure) (u : Procedure) (vars outvars 
   pub adjoint_fits : fits words a joined ≡ true
   adjoint_fits = entry.adjoint_fits u a ns separates g refl declared_alike (made.own_dummy m ps (all_units m ps u) u fitting.vars_apart (good.inside u.name u good.there) (good.extents u.name u good.there)) refl input given fit alike
 
-  abbrev pub body : BodyEnds words ps u input k
+  abbrev pub body : BodyEnds words ps u input k output
   body = body_ends words ps u input k used output done
 
   -- the shapes in which the head runs
@@ -163,19 +168,19 @@ module _ (w : ProgramFacts) (ps : List Procedure) (u : Procedure) (vars outvars 
   cells = cells_of sh (variables u)
 
   abbrev Transposed : Option Procedure → Type 0
-  Transposed o = TransposesList (calls_of qs k) (calls_of ps k) sh 1 (cells_of sh (variables_of o)) (plan_of (callee_facts w ps) own (arrays_in o)) own 0 written (first_statement ps u.name) from to u.body before body.end.store
+  Transposed o = TransposesList (calls_of qs k) lines (calls_of ps k) sh 1 (cells_of sh (variables_of o)) (plan_of (callee_facts w ps) own (arrays_in o)) own 0 written (first_statement ps u.name) from to u.body before body.end.store
 
   pub list : Transposed (Some u)
   list =
       subst Transposed good.there
-      (units_transpose ps qs (callee_facts w ps) (has_adjoint m ps u) (answers m ps u) (is_carried m ps u) (first_statement ps) (emitted.vars_of w ps u vars outvars good) (emitted.arrays w ps u vars outvars good) (emitted.emitted_fits w ps u vars outvars good)
+      (units_transpose lines ps qs (callee_facts w ps) (has_adjoint m ps u) (answers m ps u) (is_carried m ps u) (first_statement ps) (emitted.vars_of lines w ps u vars outvars good) (emitted.arrays lines w ps u vars outvars good) (emitted.emitted_fits lines w ps u vars outvars good)
       k u.name u good.there (head_there m ps u vars outvars good.known (found_there ps u.name u good.there).0) sh 1
       (subst (λ o. ShapesFit (plan_of (callee_facts w ps) own (arrays_in o)) sh) (sym good.there) shapes_fit)
       (begin words ps u input) body.end k body.left (ap (λ n. run (calls_of ps k) n u.body (begin words ps u input) k) (sym setting_plain) ∙ body.is))
 
   -- what the body of the adjoint does, under its own names
-  abbrev pub reversed : Reverses (calls_of qs k) (calls_of ps k) sh 1 cells p own written (first_statement ps u.name) from to u.line u.body outs ins (kept_in words qs a joined) before body.end.store start []
-  reversed = reverses (calls_of qs k) (calls_of ps k) sh 1 cells p knows own written (first_statement ps u.name) from to u.line u.body outs ins (kept_in words qs a joined) before body.end.store start [] list (record { at = λ x j l i. same_plain x j })
+  abbrev pub reversed : Reverses (calls_of qs k) lines (calls_of ps k) sh 1 cells p own written (first_statement ps u.name) from to u.line u.body outs ins (kept_in words qs a joined) before body.end.store start []
+  reversed = reverses (calls_of qs k) lines (calls_of ps k) sh 1 cells p knows own written (first_statement ps u.name) from to u.line u.body outs ins (kept_in words qs a joined) before body.end.store start [] list (record { at = λ x j l i. same_plain x j })
 
   abbrev seen_setting : Setting ℤ
   seen_setting = unit_setting words qs a joined
@@ -191,7 +196,30 @@ module _ (w : ProgramFacts) (ps : List Procedure) (u : Procedure) (vars outvars 
 
   -- its run ends
   abbrev pub ended : Ends words qs a joined
-  ended = unit_ends words qs a joined k (reversed.runs.runs.cost + 0) named_run.end named_run.is (ap (λ z. z.opened) named_run.same ∙ reversed.runs.quiet.opened)
+  ended = unit_ends words qs a joined k (reversed.runs.runs.cost + 0) named_run.end named_run.is (ap (λ z. z.opened) named_run.same ∙ reversed.runs.tells.opened)
+
+  -- ---- what they tell
+
+  -- the program's run tells what its dual run does, with any tangents
+  abbrev passed : Passes lines (calls_of ps k) (on_duals (plainly sh) 1) u.body (kept_in words ps u input) (with_tangents before (λ y. pos 0)) (with_tangents body.end.store (reversed.derivative (λ y. pos 0))) [] reversed.loops
+  passed = reversed.dual (kept_in words ps u input) (λ y. pos 0) []
+
+  told_same : body.end.events ≡ passed.later.events
+  told_same = ap (λ (z : Scene ℤ). z.events) (words_end ps k (plainly sh) u.body (kept_in words ps u input) passed.later before body.end.store (λ y. pos 0) (reversed.derivative (λ y. pos 0)) body.end k body.left (ap (λ n. run (calls_of ps k) n u.body (begin words ps u input) k) (sym setting_plain) ∙ body.is) passed.runs)
+
+  reverses_loops : ReversesLoops lines output.events ended.output.events
+  reverses_loops = record {
+    loops = reversed.loops;
+    marks = ap (λ (o : Output ℤ). marks_in lines (reverse o.events)) body.gives ∙ ap (marks_in lines) (reverse-reverse body.end.events ∙ told_same ∙ passed.tells.events)
+        ∙ marks_in-append lines passed.tells.told (kept_in words ps u input).events ∙ append-nil (marks_in lines passed.tells.told) ∙ passed.tells.loops_are;
+    reversed = subst (AreReversed reversed.loops) (sym turned_events) reversed.reversed;
+  }
+    where
+      turned_events : reversals_in (reverse named_run.end.events) ≡ reversed.reversals
+      turned_events =
+          ap (λ z. reversals_in (reverse z.events)) named_run.same
+          ∙ ap reversals_in (sym (append-nil (reverse reversed.runs.later.events)) ∙ sym (in_order-reverse reversed.runs.later.events []) ∙ ap (λ z. in_order z []) reversed.runs.tells.events ∙ in_order-append reversed.runs.tells.told (kept_in words qs a joined).events [])
+          ∙ reversed.runs.tells.is.all [] ∙ append-nil reversed.reversals
 
   -- ---- products
 
@@ -272,7 +300,7 @@ module _ (w : ProgramFacts) (ps : List Procedure) (u : Procedure) (vars outvars 
       dual_setting : unit_setting duals ps u dual_input ≡ on_duals (plainly sh) 1
       dual_setting = λ i. record { numbers = duals; shape = λ x. dual_shape x i; room = None; level = 1 }
 
-      abbrev dual_comes : Comes (calls_of ps k) (on_duals (plainly sh) 1) u.body (kept_in duals ps u dual_input) (with_tangents before along) (with_tangents body.end.store (reversed.derivative along)) [] []
+      abbrev dual_comes : Passes lines (calls_of ps k) (on_duals (plainly sh) 1) u.body (kept_in duals ps u dual_input) (with_tangents before along) (with_tangents body.end.store (reversed.derivative along)) [] reversed.loops
       dual_comes = reversed.dual (kept_in duals ps u dual_input) along []
 
       abbrev dual_end : Scene (ℤ × ℤ)
@@ -286,7 +314,7 @@ module _ (w : ProgramFacts) (ps : List Procedure) (u : Procedure) (vars outvars 
 
       -- the dual run ends
       abbrev dual_ended : Ends duals ps u dual_input
-      dual_ended = unit_ends duals ps u dual_input k (dual_comes.runs.cost + 0) dual_end dual_is dual_comes.quiet.opened
+      dual_ended = unit_ends duals ps u dual_input k (dual_comes.runs.cost + 0) dual_end dual_is dual_comes.tells.opened
 
       tangents_after : rows sh (by_cells (reversed.derivative along)) u.dummies ≡ tangents_of (slots.cells_of dual_ended.output.slots)
       tangents_after =
@@ -345,12 +373,12 @@ module _ (w : ProgramFacts) (ps : List Procedure) (u : Procedure) (vars outvars 
     other_ended y j h l = counts (shadowed (plain y)) (reversed.end (shadow y) j) (λ s. reversed.others y j l (among_in shadowed other_inputs y h s))
 
     -- the adjoint transposes the derivative of the head along this run
-    pub transposes : TransposesBy (shadow_flags shadowed u.dummies) ps u vars outvars qs a input given
+    pub transposes : TransposesBy lines (shadow_flags shadowed u.dummies) ps u vars outvars qs a input given output.events
     transposes = record {
       fits = adjoint_fits;
       run = ended;
       empties = ap (λ z. z.tape) named_run.same;
-      no_reversals = turned named_run.end.events [] (ap (λ z. reversals z.events) named_run.same ∙ reversed.runs.quiet.reversals) refl;
+      reverses = reverses_loops;
       products = agrees;
       others = subst (OthersAreZero vars) (sym shadows_after) (others_nought sh u.dummies vars (counted own.marks reversed.end) other_ended);
     }

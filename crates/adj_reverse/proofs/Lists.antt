@@ -51,7 +51,7 @@ unwritten_actual f x (d ∷ ds) (a ∷ given) m h = go (name_eq x a) refl (f d) 
     go true e false t o ih = t
     go false e t et o ih = ih o.1
 
-module _ (p q : Calls ℤ) (qd : Calls (ℤ × ℤ)) (ps : List Procedure) (handed : Dummies) (callees : List ℕ → CalleeFacts) (answers carried : List ℕ → Bool) (w : Facts) (present : Bool) (vars : List (List ℕ)) (arrays : Vars) (apart : AreApart vars) (sh : Var → Shape) (level : ℕ) (known : KnowsArrays (plan_of callees w arrays) sh)
+module _ (p q : Calls ℤ) (lines : ℕ → Bool) (qd : Calls (ℤ × ℤ)) (ps : List Procedure) (handed : Dummies) (callees : List ℕ → CalleeFacts) (answers carried : List ℕ → Bool) (w : Facts) (present : Bool) (vars : List (List ℕ)) (arrays : Vars) (apart : AreApart vars) (sh : Var → Shape) (level : ℕ) (known : KnowsArrays (plan_of callees w arrays) sh)
     -- the units of the program: their names of dummies, what they hand back, and that what is varied and useful at their ends has a shadow
     (own : (name : List ℕ) (u : Procedure) → find_unit ps name ≡ Some u → (v : Var) → (callees name).callee.shadowed v ≡ (callees name).facts.marks.shadowed v)
     (dummies_apart : (name : List ℕ) (u : Procedure) → find_unit ps name ≡ Some u → AreApart (callees name).callee.dummies)
@@ -74,19 +74,19 @@ module _ (p q : Calls ℤ) (qd : Calls (ℤ × ℤ)) (ps : List Procedure) (hand
 
   -- a statement that was done
   abbrev ActDone : ℕ → ℕ → ℕ → Act → Scene ℤ → Scene ℤ → Type 0
-  ActDone i d line a s e = Transposed q qd sh level xs w d present (λ x. act_writes handed x a) (is_plain' m i a) (point_before i) (point_after i) (one line a) (forward_act plan i d line a) (backward_act plan i d line a) s.store e.store
+  ActDone i d line a s e = Transposed q lines qd sh level xs w d present (λ x. act_writes handed x a) (is_plain' m i a) (point_before i) (point_after i) (one line a) (forward_act plan i d line a) (backward_act plan i d line a) s.store e.store
 
   module _
-      (calls : (name given : _) (i line : ℕ) (s e : Scene ℤ) (k left : ℕ) → CallLaws w i (callees name) given → CallFits ps vars arrays (callees name) name given → (present ≡ true → m.adjointed i ≡ true → answers name ≡ true) → (present ≡ true → m.kept i ≡ true → carried name ≡ true) → p np name (actuals_named given) line s k ≡ Done e left → CallTransposed q qd sh level xs (callees name) given name line (m.kept i) (m.adjointed i) present s.store e.store)
+      (calls : (name given : _) (i line : ℕ) (s e : Scene ℤ) (k left : ℕ) → CallLaws w i (callees name) given → CallFits ps vars arrays (callees name) name given → (present ≡ true → m.adjointed i ≡ true → answers name ≡ true) → (present ≡ true → m.kept i ≡ true → carried name ≡ true) → p np name (actuals_named given) line s k ≡ Done e left → CallTransposed q lines qd sh level xs (callees name) given name line (m.kept i) (m.adjointed i) present s.store e.store)
       (assigns : (x : List ℕ) (subs : Terms) (a : Term) (i d line : ℕ) (s e : Scene ℤ) (k left : ℕ) → AssignmentLaws w i (plain x) subs a → AssignmentFits vars arrays x subs a → act p np (assign (plain x) subs a) line s k ≡ Done e left → ActDone i d line (assign (plain x) subs a) s e) where
     -- the call of a unit
     call_done : (name given : _) (i d line : ℕ) (s e : Scene ℤ) (k left : ℕ) → CallLaws w i (callees name) given → CallFits ps vars arrays (callees name) name given → (present ≡ true → m.adjointed i ≡ true → answers name ≡ true) → (present ≡ true → m.kept i ≡ true → carried name ≡ true) → p np name (actuals_named given) line s k ≡ Done e left → ActDone i d line (call name (actuals_named given)) s e
     call_done name given i d line s e k left laws fits t c h =
         let apart_ds = dummies_apart name fits.unit fits.found in
-        transposed_more q qd sh level xs w d present (writes_actual (callees name).callee given) (λ x. is_handed_back x (handed name) (actuals_named given)) (not (m.adjointed i)) (not (m.adjointed i)) (point_before i) (point_after i) (one line (call name (actuals_named given))) (forward_act plan i d line (call name (actuals_named given))) (backward_act plan i d line (call name (actuals_named given))) s.store e.store
+        transposed_more q lines qd sh level xs w d present (writes_actual (callees name).callee given) (λ x. is_handed_back x (handed name) (actuals_named given)) (not (m.adjointed i)) (not (m.adjointed i)) (point_before i) (point_after i) (one line (call name (actuals_named given))) (forward_act plan i d line (call name (actuals_named given))) (backward_act plan i d line (call name (actuals_named given))) s.store e.store
         (λ x n. unwritten_actual (λ d. (callees name).callee.written (plain d)) x (callees name).callee.dummies given fits.many (ap (λ ws. is_handed_back (plain x) ws (actuals_named given)) (sym (flags name fits.unit fits.found)) ∙ n))
         (λ o. o)
-        (transposed_call q qd sh level xs w d present callees arrays known i name given laws (own name fits.unit fits.found) apart_ds fits.apart (entry_shadows name fits.unit fits.found) (end_shadows name fits.unit fits.found) line s.store e.store (calls name given i line s e k left laws fits t c h))
+        (transposed_call q lines qd sh level xs w d present callees arrays known i name given laws (own name fits.unit fits.found) apart_ds fits.apart (entry_shadows name fits.unit fits.found) (end_shadows name fits.unit fits.found) line s.store e.store (calls name given i line s e k left laws fits t c h))
 
     same_loop_store : (line n : ℕ) (mark : Option ℕ) (s1 e : Scene ℤ) → after_loop line n mark s1 ≡ e → s1.store ≡ e.store
     same_loop_store line n None s1 e h = ap (λ (z : Scene ℤ). z.store) h
@@ -94,44 +94,44 @@ module _ (p q : Calls ℤ) (qd : Calls (ℤ × ℤ)) (ps : List Procedure) (hand
 
     -- an IF, by the part that ran
     choice_swept : (c : Test) (a b : Code) (i d line : ℕ) (s e : Scene ℤ) (k left : ℕ) (ran : Bool) → AllText (λ v. reads_test v c) → ChoiceLaws w i c a b → holds np c s.store ≡ Ok ran → (if ran then run p np a s k else run p np b s k) ≡ Done e left →
-        (run p np a s k ≡ Done e left → Transposed q qd sh level xs w d present (λ x. writes handed x a) (is_plain m (suc i) a) (point_before i) (last_point (point_before i) (suc i) a) a (forward plan (suc i) d a) (backward plan (suc i) d a) s.store e.store) →
-        (run p np b s k ≡ Done e left → Transposed q qd sh level xs w d present (λ x. writes handed x b) (is_plain m (behind (suc i) a) b) (point_before i) (last_point (point_before i) (behind (suc i) a) b) b (forward plan (behind (suc i) a) d b) (backward plan (behind (suc i) a) d b) s.store e.store) →
+        (run p np a s k ≡ Done e left → Transposed q lines qd sh level xs w d present (λ x. writes handed x a) (is_plain m (suc i) a) (point_before i) (last_point (point_before i) (suc i) a) a (forward plan (suc i) d a) (backward plan (suc i) d a) s.store e.store) →
+        (run p np b s k ≡ Done e left → Transposed q lines qd sh level xs w d present (λ x. writes handed x b) (is_plain m (behind (suc i) a) b) (point_before i) (last_point (point_before i) (behind (suc i) a) b) b (forward plan (behind (suc i) a) d b) (backward plan (behind (suc i) a) d b) s.store e.store) →
         ActDone i d line (choose c a b) s e
     choice_swept c a b i d line s e k left ran text laws is h first other =
-        transposed_choice q qd sh level xs w d present callees arrays i line c a b laws text ran (λ x. writes handed x a || writes handed x b) (not (m.adjointed i) && (is_plain m (suc i) a && is_plain m (behind (suc i) a) b)) s.store e.store is (go ran h)
+        transposed_choice q lines qd sh level xs w d present callees arrays i line c a b laws text ran (λ x. writes handed x a || writes handed x b) (not (m.adjointed i) && (is_plain m (suc i) a && is_plain m (behind (suc i) a) b)) s.store e.store is (go ran h)
       where
-        go : (r : Bool) → (if r then run p np a s k else run p np b s k) ≡ Done e left → Transposed q qd sh level xs w d present (λ x. writes handed x a || writes handed x b) (not (m.adjointed i) && (is_plain m (suc i) a && is_plain m (behind (suc i) a) b)) (point_before i) (point_after i) (part r a b) (part r (forward plan (suc i) d a) (forward plan (behind (suc i) a) d b)) (part r (backward plan (suc i) d a) (backward plan (behind (suc i) a) d b)) s.store e.store
+        go : (r : Bool) → (if r then run p np a s k else run p np b s k) ≡ Done e left → Transposed q lines qd sh level xs w d present (λ x. writes handed x a || writes handed x b) (not (m.adjointed i) && (is_plain m (suc i) a && is_plain m (behind (suc i) a) b)) (point_before i) (point_after i) (part r a b) (part r (forward plan (suc i) d a) (forward plan (behind (suc i) a) d b)) (part r (backward plan (suc i) d a) (backward plan (behind (suc i) a) d b)) s.store e.store
         go true h =
-            transposed_more q qd sh level xs w d present (λ x. writes handed x a) (λ x. writes handed x a || writes handed x b) (is_plain m (suc i) a) (not (m.adjointed i) && (is_plain m (suc i) a && is_plain m (behind (suc i) a) b)) (point_before i) (point_after i) a (forward plan (suc i) d a) (backward plan (suc i) d a) s.store e.store
+            transposed_more q lines qd sh level xs w d present (λ x. writes handed x a) (λ x. writes handed x a || writes handed x b) (is_plain m (suc i) a) (not (m.adjointed i) && (is_plain m (suc i) a && is_plain m (behind (suc i) a) b)) (point_before i) (point_after i) a (forward plan (suc i) d a) (backward plan (suc i) d a) s.store e.store
             (λ x n. (or_false (writes handed (plain x) a) (writes handed (plain x) b) n).0)
             (λ n. (and_true (is_plain m (suc i) a) (is_plain m (behind (suc i) a) b) (and_true (not (m.adjointed i)) (is_plain m (suc i) a && is_plain m (behind (suc i) a) b) n).1).0)
-            (transposed_to q qd sh level xs w d present (λ x. writes handed x a) (is_plain m (suc i) a) (point_before i) (last_point (point_before i) (suc i) a) (point_after i) a (forward plan (suc i) d a) (backward plan (suc i) d a) s.store e.store laws.first_end (first h))
+            (transposed_to q lines qd sh level xs w d present (λ x. writes handed x a) (is_plain m (suc i) a) (point_before i) (last_point (point_before i) (suc i) a) (point_after i) a (forward plan (suc i) d a) (backward plan (suc i) d a) s.store e.store laws.first_end (first h))
         go false h =
-            transposed_more q qd sh level xs w d present (λ x. writes handed x b) (λ x. writes handed x a || writes handed x b) (is_plain m (behind (suc i) a) b) (not (m.adjointed i) && (is_plain m (suc i) a && is_plain m (behind (suc i) a) b)) (point_before i) (point_after i) b (forward plan (behind (suc i) a) d b) (backward plan (behind (suc i) a) d b) s.store e.store
+            transposed_more q lines qd sh level xs w d present (λ x. writes handed x b) (λ x. writes handed x a || writes handed x b) (is_plain m (behind (suc i) a) b) (not (m.adjointed i) && (is_plain m (suc i) a && is_plain m (behind (suc i) a) b)) (point_before i) (point_after i) b (forward plan (behind (suc i) a) d b) (backward plan (behind (suc i) a) d b) s.store e.store
             (λ x n. (or_false (writes handed (plain x) a) (writes handed (plain x) b) n).1)
             (λ n. (and_true (is_plain m (suc i) a) (is_plain m (behind (suc i) a) b) (and_true (not (m.adjointed i)) (is_plain m (suc i) a && is_plain m (behind (suc i) a) b) n).1).1)
-            (transposed_to q qd sh level xs w d present (λ x. writes handed x b) (is_plain m (behind (suc i) a) b) (point_before i) (last_point (point_before i) (behind (suc i) a) b) (point_after i) b (forward plan (behind (suc i) a) d b) (backward plan (behind (suc i) a) d b) s.store e.store laws.other_end (other h))
+            (transposed_to q lines qd sh level xs w d present (λ x. writes handed x b) (is_plain m (behind (suc i) a) b) (point_before i) (last_point (point_before i) (behind (suc i) a) b) (point_after i) b (forward plan (behind (suc i) a) d b) (backward plan (behind (suc i) a) d b) s.store e.store laws.other_end (other h))
 
     zero_more : (n : ℕ) → n < 2 ^ 63 → 0 + n < 2 ^ 63
     zero_more n h = omega arith
 
     -- a DO whose bounds have these values, turn by turn
-    turns_swept : (x : List ℕ) (a b c : Term) (body : Code) (mark : Mark) (i d line : ℕ) (s o : Scene ℤ) (k left : ℕ) (a0 b0 c0 : ℤ) (n : ℕ) → LoopFits vars arrays handed x a b c body → LoopLaws w i (plain x) a b c body → value np a s.store ≡ Ok a0 → value np b s.store ≡ Ok b0 → value np c s.store ≡ Ok c0 → trips mark a0 b0 c0 ≡ Ok n → turns np n (run p np body) (stepped np (plain x) c0) (with_turn np (plain x) (wrap a0) s) k ≡ Done o left →
-        ((s0 e0 : Scene ℤ) (k0 l0 : ℕ) → run p np body s0 k0 ≡ Done e0 l0 → Transposed q qd sh level xs w (suc d) present (λ x. writes handed x body) (is_plain m (suc i) body) (point_inside i) (last_point (point_inside i) (suc i) body) body (forward plan (suc i) (suc d) body) (backward plan (suc i) (suc d) body) s0.store e0.store) →
-        Transposed q qd sh level xs w d present (λ v. var_eq v (plain x) || writes handed v body) (not (m.adjointed i) && is_plain m (suc i) body) (point_before i) (point_after i) (one line (loop (plain x) a b c body mark)) (forward_act plan i d line (loop (plain x) a b c body mark)) (backward_act plan i d line (loop (plain x) a b c body mark)) s.store o.store
+    turns_swept : (x : List ℕ) (a b c : Term) (body : Code) (mark : Mark) (i d line : ℕ) (s o : Scene ℤ) (k left : ℕ) (a0 b0 c0 : ℤ) (n : ℕ) → LoopFits lines line mark vars arrays handed x a b c body → LoopLaws w i (plain x) a b c body → value np a s.store ≡ Ok a0 → value np b s.store ≡ Ok b0 → value np c s.store ≡ Ok c0 → trips mark a0 b0 c0 ≡ Ok n → turns np n (run p np body) (stepped np (plain x) c0) (with_turn np (plain x) (wrap a0) s) k ≡ Done o left →
+        ((s0 e0 : Scene ℤ) (k0 l0 : ℕ) → run p np body s0 k0 ≡ Done e0 l0 → Transposed q lines qd sh level xs w (suc d) present (λ x. writes handed x body) (is_plain m (suc i) body) (point_inside i) (last_point (point_inside i) (suc i) body) body (forward plan (suc i) (suc d) body) (backward plan (suc i) (suc d) body) s0.store e0.store) →
+        Transposed q lines qd sh level xs w d present (λ v. var_eq v (plain x) || writes handed v body) (not (m.adjointed i) && is_plain m (suc i) body) (point_before i) (point_after i) (one line (loop (plain x) a b c body mark)) (forward_act plan i d line (loop (plain x) a b c body mark)) (backward_act plan i d line (loop (plain x) a b c body mark)) s.store o.store
     turns_swept x a b c body mark i d line s o k left a0 b0 c0 n f laws is_a is_b is_c is_n h each =
         let start = with_turn np (plain x) (wrap a0) s in
         let one_cell = known x f.scalar in
         let at_first : start.store (plain x) 0 ≡ add a0 (mul (pos 0) c0) = rw (name_refl x) (start_step a0 c0) in
-        let l = looped p q qd sh level xs w d present i line x one_cell a b c body (forward plan (suc i) (suc d) body) (backward plan (suc i) (suc d) body) laws (λ x. writes handed x body) f.spares (is_plain m (suc i) body) a0 c0
+        let l = looped p q lines qd sh level xs w d present i line x one_cell a b c body (forward plan (suc i) (suc d) body) (backward plan (suc i) (suc d) body) laws (λ x. writes handed x body) f.spares (is_plain m (suc i) body) a0 c0
         (λ s0 e0 k0 l0 g. record { transposed = each s0 e0 k0 l0 g; keeps = keeps body s0 e0 k0 l0 g (plain x) f.spares 0 })
         n 0 start o k left (zero_more n (turning mark a0 b0 c0 n is_n).small) at_first h in
         let first_cell : 0 < size_of (sh (plain x)) = subst (λ z. 0 < z) (sym one_cell) (omega arith) in
-        transposed_done p q qd sh level xs (cells_apart sh vars apart) w d present callees arrays i line x one_cell (cells_has sh vars x 0 f.variable first_cell) a b c body mark laws f.text_first f.text_last f.text_step (λ x. writes handed x body) f.spares (is_plain m (suc i) body)
+        transposed_done p q lines qd sh level xs (cells_apart sh vars apart) w d present callees arrays i line x one_cell (cells_has sh vars x 0 f.variable first_cell) a b c body mark f.told laws f.text_first f.text_last f.text_step (λ x. writes handed x body) f.spares (is_plain m (suc i) body)
         a0 b0 c0 n s.store o.store is_a is_b is_c is_n l
 
-    loop_swept : (x : List ℕ) (a b c : Term) (body : Code) (mark : Mark) (i d line : ℕ) (s e : Scene ℤ) (k left : ℕ) → LoopFits vars arrays handed x a b c body → LoopLaws w i (plain x) a b c body → act p np (loop (plain x) a b c body mark) line s k ≡ Done e left →
-        ((s0 e0 : Scene ℤ) (k0 l0 : ℕ) → run p np body s0 k0 ≡ Done e0 l0 → Transposed q qd sh level xs w (suc d) present (λ x. writes handed x body) (is_plain m (suc i) body) (point_inside i) (last_point (point_inside i) (suc i) body) body (forward plan (suc i) (suc d) body) (backward plan (suc i) (suc d) body) s0.store e0.store) →
+    loop_swept : (x : List ℕ) (a b c : Term) (body : Code) (mark : Mark) (i d line : ℕ) (s e : Scene ℤ) (k left : ℕ) → LoopFits lines line mark vars arrays handed x a b c body → LoopLaws w i (plain x) a b c body → act p np (loop (plain x) a b c body mark) line s k ≡ Done e left →
+        ((s0 e0 : Scene ℤ) (k0 l0 : ℕ) → run p np body s0 k0 ≡ Done e0 l0 → Transposed q lines qd sh level xs w (suc d) present (λ x. writes handed x body) (is_plain m (suc i) body) (point_inside i) (last_point (point_inside i) (suc i) body) body (forward plan (suc i) (suc d) body) (backward plan (suc i) (suc d) body) s0.store e0.store) →
         ActDone i d line (loop (plain x) a b c body mark) s e
     loop_swept x a b c body mark i d line s e k left f laws h each =
         let va = value_done (value np a s.store) line _ _ e left h in
@@ -139,12 +139,12 @@ module _ (p q : Calls ℤ) (qd : Calls (ℤ × ℤ)) (ps : List Procedure) (hand
         let vc = value_done (value np c s.store) line _ _ e left vb.goes in
         let n = value_done (trips mark va.value vb.value vc.value) line _ _ e left vc.goes in
         let o = then_done (turns np n.value (run p np body) (stepped np (plain x) vc.value) (with_turn np (plain x) (wrap va.value) s) k) (λ s1 j. Done (after_loop line n.value (in_force np mark s.store) s1) j) e left n.goes in
-        subst (λ (u' : Store ℤ). Transposed q qd sh level xs w d present (λ v. var_eq v (plain x) || writes handed v body) (not (m.adjointed i) && is_plain m (suc i) body) (point_before i) (point_after i) (one line (loop (plain x) a b c body mark)) (forward_act plan i d line (loop (plain x) a b c body mark)) (backward_act plan i d line (loop (plain x) a b c body mark)) s.store u')
+        subst (λ (u' : Store ℤ). Transposed q lines qd sh level xs w d present (λ v. var_eq v (plain x) || writes handed v body) (not (m.adjointed i) && is_plain m (suc i) body) (point_before i) (point_after i) (one line (loop (plain x) a b c body mark)) (forward_act plan i d line (loop (plain x) a b c body mark)) (backward_act plan i d line (loop (plain x) a b c body mark)) s.store u')
         (same_loop_store line n.value (in_force np mark s.store) o.scene e (done_same (after_loop line n.value (in_force np mark s.store) o.scene) e o.left left o.second))
         (turns_swept x a b c body mark i d line s o.scene k o.left va.value vb.value vc.value n.value f laws va.is vb.is vc.is n.is o.first each)
 
     mutual
-      act_swept : (a : Act) (i d line : ℕ) (s e : Scene ℤ) (k left : ℕ) → Fits' ps callees answers carried present m vars arrays handed i a → ActLaws callees w i a → act p np a line s k ≡ Done e left → ActDone i d line a s e
+      act_swept : (a : Act) (i d line : ℕ) (s e : Scene ℤ) (k left : ℕ) → Fits' lines ps callees answers carried present m vars arrays handed i line a → ActLaws callees w i a → act p np a line s k ≡ Done e left → ActDone i d line a s e
       act_swept (assign (plain x) subs a) i d line s e k left f laws h = assigns x subs a i d line s e k left laws f h
       act_swept (assign (shadow x) subs a) i d line s e k left f laws h = absurd f
       act_swept (assign (helper r x) subs a) i d line s e k left f laws h = absurd f
@@ -158,7 +158,7 @@ module _ (p q : Calls ℤ) (qd : Calls (ℤ × ℤ)) (ps : List Procedure) (hand
       act_swept (loop (shadow x) a b c body mark) i d line s e k left f laws h = absurd f
       act_swept (loop (helper r x) a b c body mark) i d line s e k left f laws h = absurd f
       act_swept (during c body) i d line s e k left f laws h =
-          transposed_while p q qd sh level xs w d present callees arrays i line c body laws.0 f.0 (λ x. writes handed x body) (is_plain m (suc i) body)
+          transposed_while p q lines qd sh level xs w d present callees arrays i line c body laws.0 f.0 (λ x. writes handed x body) (is_plain m (suc i) body)
           (λ s0 e0 k0 l0 g. list_swept body (suc i) (suc d) (point_inside i) s0 e0 k0 l0 f.1 laws.1 g) s e k left h
       act_swept (call name args) i d line s e k left f laws h =
           let given = laws.0 in
@@ -166,14 +166,14 @@ module _ (p q : Calls ℤ) (qd : Calls (ℤ × ℤ)) (ps : List Procedure) (hand
           subst (λ es. ActDone i d line (call name es) s e) (sym is) (call_done name given i d line s e k left laws.1.1 (f.0 given is) f.1.0 f.1.1 (ap (λ es. p np name es line s k) (sym is) ∙ h))
       act_swept (runtime r) i d line s e k left f laws h = absurd f
 
-      pub list_swept : (c : Code) (i d from : ℕ) (s e : Scene ℤ) (k left : ℕ) → FitsList ps callees answers carried present m vars arrays handed i c → ListLaws callees w from i c → run p np c s k ≡ Done e left → Transposed q qd sh level xs w d present (λ x. writes handed x c) (is_plain m i c) from (last_point from i c) c (forward plan i d c) (backward plan i d c) s.store e.store
+      pub list_swept : (c : Code) (i d from : ℕ) (s e : Scene ℤ) (k left : ℕ) → FitsList lines ps callees answers carried present m vars arrays handed i c → ListLaws callees w from i c → run p np c s k ≡ Done e left → Transposed q lines qd sh level xs w d present (λ x. writes handed x c) (is_plain m i c) from (last_point from i c) c (forward plan i d c) (backward plan i d c) s.store e.store
       list_swept stop i d from s e k left f laws h =
-          subst (λ (z : Scene ℤ). Transposed q qd sh level xs w d present nothing true from from stop stop stop s.store z.store) (done_same s e k left h) (transposed_none q qd sh level xs w d present from s.store)
+          subst (λ (z : Scene ℤ). Transposed q lines qd sh level xs w d present nothing true from from stop stop stop s.store z.store) (done_same s e k left h) (transposed_none q lines qd sh level xs w d present from s.store)
       list_swept (step line a rest) i d from s e k left f laws h =
           let r = count_done _ k (λ j. then_do (act p np a line s j) (run p np rest)) e left h in
           let o = then_done (act p np a line s r.left) (run p np rest) e left r.goes in
           let first = act_swept a i d line s o.scene r.left o.left f.0 laws.1.0 o.first in
           let others = list_swept rest (next i a) d (point_after i) o.scene e o.left left f.1 laws.1.1 o.second in
-          transposed_append q qd sh level xs w d present (λ x. act_writes handed x a) (λ x. writes handed x rest) (is_plain' m i a) (is_plain m (next i a) rest) from (point_after i) (last_point (point_after i) (next i a) rest) (one line a) rest (forward_act plan i d line a) (forward plan (next i a) d rest) (backward_act plan i d line a) (backward plan (next i a) d rest) s.store o.scene.store e.store
-          (transposed_from q qd sh level xs w d present (λ x. act_writes handed x a) (is_plain' m i a) from (point_before i) (point_after i) (one line a) (forward_act plan i d line a) (backward_act plan i d line a) s.store o.scene.store laws.0 first)
+          transposed_append q lines qd sh level xs w d present (λ x. act_writes handed x a) (λ x. writes handed x rest) (is_plain' m i a) (is_plain m (next i a) rest) from (point_after i) (last_point (point_after i) (next i a) rest) (one line a) rest (forward_act plan i d line a) (forward plan (next i a) d rest) (backward_act plan i d line a) (backward plan (next i a) d rest) s.store o.scene.store e.store
+          (transposed_from q lines qd sh level xs w d present (λ x. act_writes handed x a) (is_plain' m i a) from (point_before i) (point_after i) (one line a) (forward_act plan i d line a) (backward_act plan i d line a) s.store o.scene.store laws.0 first)
           others

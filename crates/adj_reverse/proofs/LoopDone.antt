@@ -18,27 +18,28 @@ use Rattle.adj_transpose.specs.Marked.{code_if}
 use Rattle.adj_transpose.specs.Facts.{In, without, joined, Facts}
 use Rattle.adj_transpose.specs.Pairs.{Key, key_eq, Words, shadows, with_tangents, on_words, on_duals}
 use Rattle.adj_transpose.specs.Lists.{Kept, scene}
-use Rattle.adj_transpose.proofs.Variables.{key_same, or_false}
+use Rattle.adj_transpose.proofs.Variables.{key_same, or_false, and_true}
 use Rattle.adj_reverse.specs.Plan.{Plan}
 use Rattle.adj_reverse.specs.Emission.{is_empty, literal, loop_forward, loop_backward, resets, reset, forward_act, forward, backward_act, backward}
 use Rattle.adj_reverse.specs.Laws.{nothing, just, point_inside, CalleeFacts, LoopLaws}
+use Rattle.adj_reverse.specs.Kernel.{is_marked}
 use Rattle.adj_reverse.specs.Passing.{plainly}
-use Rattle.adj_reverse.specs.Runs.{Comes, SameOn}
-use Rattle.adj_reverse.proofs.Runs.{comes_stop, comes_leads, comes_one, comes_append}
+use Rattle.adj_reverse.specs.Runs.{Comes, Passes, SameOn}
+use Rattle.adj_reverse.proofs.Runs.{comes_stop, comes_leads, comes_append, comes_before, passes_one}
 use Rattle.adj_reverse.proofs.Sweeps.{Matches, Sweeps}
 use Rattle.adj_reverse.proofs.Transposed.{Transposed, matches_way}
 use Rattle.adj_reverse.proofs.Shapes.{AllText}
 use Rattle.adj_reverse.proofs.Evaluations.{value_dual}
 use Rattle.adj_reverse.proofs.Idle.{idle_list}
-use Rattle.adj_reverse.proofs.Turns.{TurnsCome}
+use Rattle.adj_reverse.proofs.Turns.{TurnsPass}
 use Rattle.adj_reverse.proofs.LoopTangents.{set_dual, only_cell, put_there, matches_cut}
 use Rattle.adj_reverse.specs.Theorem.{plan_of}
 use Rattle.adj_reverse.proofs.Runs.{same_within}
-use Rattle.adj_reverse.proofs.Loops.{loop_comes}
+use Rattle.adj_reverse.proofs.Loops.{loop_passes}
 use Rattle.adj_reverse.proofs.LoopStatements.{Looped}
 use Rattle.adj_reverse.proofs.LoopRows.{Row, row}
 
-module _ (p q : Calls ℤ) (qd : Calls (ℤ × ℤ)) (sh : Var → Shape) (level : ℕ) (xs : List Key) (apart : IsApart key_eq xs) (w : Facts) (d : ℕ) (present : Bool) (callees : List ℕ → CalleeFacts) (arrays : Vars) (i line : ℕ) (x : List ℕ) (one_cell : size_of (sh (plain x)) ≡ 1) (in_list : stands_in key_eq (x, 0) xs ≡ true) (ea eb ec : Term) (body : Code) (mark : Mark) (laws : LoopLaws w i (plain x) ea eb ec body) (text_a : AllText (λ v. reads_term v ea)) (text_b : AllText (λ v. reads_term v eb)) (text_c : AllText (λ v. reads_term v ec)) (wr : Vars) (spares : wr (plain x) ≡ false) (inert : Bool) where
+module _ (p q : Calls ℤ) (lines : ℕ → Bool) (qd : Calls (ℤ × ℤ)) (sh : Var → Shape) (level : ℕ) (xs : List Key) (apart : IsApart key_eq xs) (w : Facts) (d : ℕ) (present : Bool) (callees : List ℕ → CalleeFacts) (arrays : Vars) (i line : ℕ) (x : List ℕ) (one_cell : size_of (sh (plain x)) ≡ 1) (in_list : stands_in key_eq (x, 0) xs ≡ true) (ea eb ec : Term) (body : Code) (mark : Mark) (untold : is_marked mark ≡ true → lines line ≡ false) (laws : LoopLaws w i (plain x) ea eb ec body) (text_a : AllText (λ v. reads_term v ea)) (text_b : AllText (λ v. reads_term v eb)) (text_c : AllText (λ v. reads_term v ec)) (wr : Vars) (spares : wr (plain x) ≡ false) (inert : Bool) where
   abbrev plan : Plan
   plan = plan_of callees w arrays
 
@@ -89,21 +90,21 @@ module _ (p q : Calls ℤ) (qd : Calls (ℤ × ℤ)) (sh : Var → Shape) (level
       turned_round false true e = refl
       turned_round false false e = refl
 
-  module _ (a0 b0 c0 : ℤ) (n : ℕ) (u u' : Store ℤ) (is_a : value np ea u ≡ Ok a0) (is_b : value np eb u ≡ Ok b0) (is_c : value np ec u ≡ Ok c0) (turns_is : trips mark a0 b0 c0 ≡ Ok n) (l : Looped p q qd sh level xs w d present i line x one_cell ea eb ec body Fb Bb laws wr spares inert a0 c0 n 0 (set u (plain x) 0 (wrap a0)) u') where
+  module _ (a0 b0 c0 : ℤ) (n : ℕ) (u u' : Store ℤ) (is_a : value np ea u ≡ Ok a0) (is_b : value np eb u ≡ Ok b0) (is_c : value np ec u ≡ Ok c0) (turns_is : trips mark a0 b0 c0 ≡ Ok n) (l : Looped p q lines qd sh level xs w d present i line x one_cell ea eb ec body Fb Bb laws wr spares inert a0 c0 n 0 (set u (plain x) 0 (wrap a0)) u') where
     abbrev change : Words → Words
     change z = l.tangents.change (reset_words (resets m i x) z)
 
     abbrev derivative : Words → Words
     derivative y = l.tangents.derivative (put key_eq y (x, 0) (pos 0))
 
-    dual_loop : (home : Kept) (y : Words) (t : List (ℤ × ℤ)) → Comes qd nd this home (with_tangents u y) (with_tangents u' (derivative y)) t t
+    dual_loop : (home : Kept) (y : Words) (t : List (ℤ × ℤ)) → Passes lines qd nd this home (with_tangents u y) (with_tangents u' (derivative y)) t l.tangents.loops
     dual_loop home y t =
         let va = value_dual (plainly sh) level u y ea a0 is_a in
         let vb = value_dual (plainly sh) level u y eb b0 is_b in
         let vc = value_dual (plainly sh) level u y ec c0 is_c in
-        comes_one qd nd line (loop (plain x) ea eb ec body mark) home (with_tangents u y) (with_tangents u' (derivative y)) t t
-        (loop_comes qd nd line (plain x) ea eb ec body mark home (with_tangents u y) (with_tangents u' (derivative y)) t t (a0, va.tangent) (b0, vb.tangent) (c0, vc.tangent) n va.is vb.is vc.is turns_is
-        (subst (λ (s : Store (ℤ × ℤ)). TurnsCome qd nd n body (plain x) c0 home s (with_tangents u' (derivative y)) t t) (sym (set_dual x u y (wrap a0))) (l.tangents.dual home (put key_eq y (x, 0) (pos 0)) t)))
+        passes_one qd nd lines l.tangents.loops line (loop (plain x) ea eb ec body mark) home (with_tangents u y) (with_tangents u' (derivative y)) t
+        (loop_passes lines l.tangents.loops qd nd line (plain x) ea eb ec body mark untold home (with_tangents u y) (with_tangents u' (derivative y)) t (a0, va.tangent) (b0, vb.tangent) (c0, vc.tangent) n va.is vb.is vc.is turns_is
+        (subst (λ (s : Store (ℤ × ℤ)). TurnsPass lines qd nd n body (plain x) c0 home s (with_tangents u' (derivative y)) t l.tangents.loops) (sym (set_dual x u y (wrap a0))) (l.tangents.dual home (put key_eq y (x, 0) (pos 0)) t)))
 
     matches_loop : (y z : Words) → Matches sh m (point_before i) y z → Matches sh m (point_after i) (derivative y) (change z)
     matches_loop y z h =
@@ -128,7 +129,7 @@ module _ (p q : Calls ℤ) (qd : Calls (ℤ × ℤ)) (sh : Var → Shape) (level
     -- ---- the sweeps
 
     -- the last of the backward sweep: the variable's old value, and its shadow
-    reset_comes : (r : Bool) (b : Kept) (g : Store ℤ) (t : List ℤ) → Comes q nw (code_if r (one line (assign (shadow x) none (literal 0)))) b g (if r then set g (shadow x) 0 (pos 0) else g) t t
+    reset_comes : (r : Bool) (b : Kept) (g : Store ℤ) (t : List ℤ) → Comes q nw (code_if r (one line (assign (shadow x) none (literal 0)))) b g (if r then set g (shadow x) 0 (pos 0) else g) t t []
     reset_comes true b g t =
         comes_leads q nw (one line (assign (shadow x) none (literal 0))) b g (set g (shadow x) 0 (pos 0)) t t
         (leads_step q nw line (assign (shadow x) none (literal 0)) stop (scene b g t) (scene b (set g (shadow x) 0 (pos 0)) t) (scene b (set g (shadow x) 0 (pos 0)) t) (λ k. refl) (leads_stop q nw (scene b (set g (shadow x) 0 (pos 0)) t)))
@@ -160,7 +161,7 @@ module _ (p q : Calls ℤ) (qd : Calls (ℤ × ℤ)) (sh : Var → Shape) (level
     saved_words true f = f (plain x) 0 ∷ []
     saved_words false f = []
 
-    push_comes : (v : Bool) (b : Kept) (f : Store ℤ) (t : List ℤ) → Comes q nw (pushing v) b f f t (saved_words v f ++ t)
+    push_comes : (v : Bool) (b : Kept) (f : Store ℤ) (t : List ℤ) → Comes q nw (pushing v) b f f t (saved_words v f ++ t) []
     push_comes true b f t =
         comes_leads q nw (pushing true) b f f t (f (plain x) 0 ∷ t)
         (leads_step q nw line (runtime (push_word (plain x) none)) stop (scene b f t) (scene b f (f (plain x) 0 ∷ t)) (scene b f (f (plain x) 0 ∷ t)) (λ k. refl) (leads_stop q nw (scene b f (f (plain x) 0 ∷ t))))
@@ -170,7 +171,7 @@ module _ (p q : Calls ℤ) (qd : Calls (ℤ × ℤ)) (sh : Var → Shape) (level
     popped_store true f g = set g (plain x) 0 (f (plain x) 0)
     popped_store false f g = g
 
-    pop_comes : (v : Bool) (b : Kept) (f g : Store ℤ) (t : List ℤ) → Comes q nw (popping v) b g (popped_store v f g) (saved_words v f ++ t) t
+    pop_comes : (v : Bool) (b : Kept) (f g : Store ℤ) (t : List ℤ) → Comes q nw (popping v) b g (popped_store v f g) (saved_words v f ++ t) t []
     pop_comes true b f g t =
         comes_leads q nw (popping true) b g (popped_store true f g) (f (plain x) 0 ∷ t) t
         (leads_step q nw line (runtime (pop_word (plain x) none)) stop (scene b g (f (plain x) 0 ∷ t)) (scene b (popped_store true f g) t) (scene b (popped_store true f g) t) (λ k. refl) (leads_stop q nw (scene b (popped_store true f g) t)))
@@ -206,7 +207,7 @@ module _ (p q : Calls ℤ) (qd : Calls (ℤ × ℤ)) (sh : Var → Shape) (level
         go y j lt h false e = popped_other v f g y j e ∙ stays y j lt e (inside y e h)
 
     -- a DO that is kept
-    kept_sweeps : present ≡ true → m.kept i ≡ true → (v : Bool) → m.saved i (plain x) ≡ v → (r : Bool) → resets m i x ≡ r → Sweeps q sh level xs d (pushing v +++ loop_forward (is_empty Bb) (suc d) line (plain x) ea eb ec Fb) (loop_backward (is_empty Bb) (suc d) line (plain x) Bb +++ (popping v +++ code_if r (one line (assign (shadow x) none (literal 0))))) (w.needed (point_before i)) (w.needed (point_after i)) (w.held (point_before i)) (w.held (point_after i)) wrote u u' (λ z. l.tangents.change (reset_words r z))
+    kept_sweeps : present ≡ true → m.kept i ≡ true → (v : Bool) → m.saved i (plain x) ≡ v → (r : Bool) → resets m i x ≡ r → Sweeps q sh level xs d (pushing v +++ loop_forward (is_empty Bb) (suc d) line (plain x) ea eb ec Fb) (loop_backward (is_empty Bb) (suc d) line (plain x) Bb +++ (popping v +++ code_if r (one line (assign (shadow x) none (literal 0))))) (w.needed (point_before i)) (w.needed (point_after i)) (w.held (point_before i)) (w.held (point_after i)) wrote u u' (λ z. l.tangents.change (reset_words r z)) l.tangents.loops
     kept_sweeps pr ek v ev r er = record {
       way = λ b f t s.
           let t1 = saved_words v f ++ t in
@@ -216,7 +217,7 @@ module _ (p q : Calls ℤ) (qd : Calls (ℤ × ℤ)) (sh : Var → Shape) (level
           record {
             to = k.to;
             trail = k.trail ++ saved_words v f;
-            runs = subst (λ (z : List ℤ). Comes q nw (pushing v +++ loop_forward (is_empty Bb) (suc d) line (plain x) ea eb ec Fb) b f k.to t z) e
+            runs = subst (λ (z : List ℤ). Comes q nw (pushing v +++ loop_forward (is_empty Bb) (suc d) line (plain x) ea eb ec Fb) b f k.to t z []) e
                 (comes_append q nw (pushing v) (loop_forward (is_empty Bb) (suc d) line (plain x) ea eb ec Fb) b f f k.to t t1 (k.trail ++ t1) c1 k.runs);
             same = same_within sh (w.needed (point_inside i)) (w.needed (point_after i)) u' k.to (λ y h. laws.exit.values.needs y (rw h refl)) k.same;
             off = k.off;
@@ -231,8 +232,10 @@ module _ (p q : Calls ℤ) (qd : Calls (ℤ × ℤ)) (sh : Var → Shape) (level
                 let again = held_again v ev ek f o.after o.stays in
                 record {
                   after = g2;
-                  runs = subst (λ (z : List ℤ). Comes q nw (loop_backward (is_empty Bb) (suc d) line (plain x) Bb +++ (popping v +++ code_if r (one line (assign (shadow x) none (literal 0))))) b1 g g2 z t) e
-                      (comes_append q nw (loop_backward (is_empty Bb) (suc d) line (plain x) Bb) (popping v +++ code_if r (one line (assign (shadow x) none (literal 0)))) b1 g o.after g2 (k.trail ++ t1) t1 t o.runs
+                  reversals = o.reversals;
+                  reversed = o.reversed;
+                  runs = subst (λ (z : List ℤ). Comes q nw (loop_backward (is_empty Bb) (suc d) line (plain x) Bb +++ (popping v +++ code_if r (one line (assign (shadow x) none (literal 0))))) b1 g g2 z t o.reversals) e
+                      (comes_before q nw (loop_backward (is_empty Bb) (suc d) line (plain x) Bb) (popping v +++ code_if r (one line (assign (shadow x) none (literal 0)))) b1 g o.after g2 (k.trail ++ t1) t1 t o.runs
                       (comes_append q nw (popping v) (code_if r (one line (assign (shadow x) none (literal 0)))) o.runs.later o.after g1 g2 t1 t t c2 c3));
                   same = record { at = λ y j lt i. reset_plain r g1 y j ∙ again.at y j lt i };
                   off = record { at = λ y j n. reset_plain r g1 y j ∙ popped_other v f o.after y j (or_false (name_eq y x) (wr (plain y)) n).0 ∙ o.off.at y j n };
@@ -242,15 +245,15 @@ module _ (p q : Calls ℤ) (qd : Calls (ℤ × ℤ)) (sh : Var → Shape) (level
           };
     }
       where
-        row_of : present ≡ true → (b : Kept) (f : Store ℤ) (t0 : List ℤ) → m.kept i ≡ true → SameOn sh (w.needed (point_before i)) u f → Row q sh level xs d x wrote (w.needed (point_inside i)) (w.held (point_inside i)) (loop_forward (is_empty Bb) (suc d) line (plain x) ea eb ec Fb) (loop_backward (is_empty Bb) (suc d) line (plain x) Bb) b u' f t0 l.tangents.change
+        row_of : present ≡ true → (b : Kept) (f : Store ℤ) (t0 : List ℤ) → m.kept i ≡ true → SameOn sh (w.needed (point_before i)) u f → Row q sh level xs d x wrote (w.needed (point_inside i)) (w.held (point_inside i)) (loop_forward (is_empty Bb) (suc d) line (plain x) ea eb ec Fb) (loop_backward (is_empty Bb) (suc d) line (plain x) Bb) b u' f t0 l.tangents.change l.tangents.loops
         row_of pr b f t0 ek s = at_present present pr l
           where
-            at_present : (z : Bool) → z ≡ true → (l : Looped p q qd sh level xs w d z i line x one_cell ea eb ec body Fb Bb laws wr spares inert a0 c0 n 0 (set u (plain x) 0 (wrap a0)) u') → Row q sh level xs d x wrote (w.needed (point_inside i)) (w.held (point_inside i)) (loop_forward (is_empty Bb) (suc d) line (plain x) ea eb ec Fb) (loop_backward (is_empty Bb) (suc d) line (plain x) Bb) b u' f t0 l.tangents.change
-            at_present true e l = row p q qd sh level xs w d i line x one_cell ea eb ec body Fb Bb laws text_a text_b text_c wr spares inert a0 b0 c0 n mark u u' is_a is_b is_c turns_is ek l (is_empty Bb) refl b f t0 s
+            at_present : (z : Bool) → z ≡ true → (l : Looped p q lines qd sh level xs w d z i line x one_cell ea eb ec body Fb Bb laws wr spares inert a0 c0 n 0 (set u (plain x) 0 (wrap a0)) u') → Row q sh level xs d x wrote (w.needed (point_inside i)) (w.held (point_inside i)) (loop_forward (is_empty Bb) (suc d) line (plain x) ea eb ec Fb) (loop_backward (is_empty Bb) (suc d) line (plain x) Bb) b u' f t0 l.tangents.change l.tangents.loops
+            at_present true e l = row p q lines qd sh level xs w d i line x one_cell ea eb ec body Fb Bb laws text_a text_b text_c wr spares inert a0 b0 c0 n mark u u' is_a is_b is_c turns_is ek l (is_empty Bb) refl b f t0 s
             at_present false e l = absurd (let c : false ≡ true = e in cc)
 
     -- a DO that isn't
-    left_sweeps : present ≡ true → m.kept i ≡ false → (r : Bool) → resets m i x ≡ r → Sweeps q sh level xs d stop stop (w.needed (point_before i)) (w.needed (point_after i)) (w.held (point_before i)) (w.held (point_after i)) wrote u u' (λ z. l.tangents.change (reset_words r z))
+    left_sweeps : present ≡ true → m.kept i ≡ false → (r : Bool) → resets m i x ≡ r → Sweeps q sh level xs d stop stop (w.needed (point_before i)) (w.needed (point_after i)) (w.held (point_before i)) (w.held (point_after i)) wrote u u' (λ z. l.tangents.change (reset_words r z)) l.tangents.loops
     left_sweeps pr ek true er = absurd (let c : true ≡ false = sym (laws.keeps_reset er) ∙ ek in cc)
     left_sweeps pr ek false er = record {
       way = λ b f t s.
@@ -265,6 +268,8 @@ module _ (p q : Calls ℤ) (qd : Calls (ℤ × ℤ)) (sh : Var → Shape) (level
             depth = record { at = λ a k c lt le. refl };
             returns = λ b1 g h. record {
               after = g;
+              reversals = [];
+              reversed = (l.left pr empty.1 empty.0 idle).unreversed;
               runs = comes_stop q nw b1 g t;
               same = same_within sh (w.held (point_after i)) (w.held (point_before i)) f g (λ y h. laws.exit.values.holds y (without_none (w.held (point_inside i)) y (laws.entry_values.holds y (rw (h, ek) refl)))) h;
               off = record { at = λ y j n. refl };
@@ -294,18 +299,20 @@ module _ (p q : Calls ℤ) (qd : Calls (ℤ × ℤ)) (sh : Var → Shape) (level
             go y j lt h true e = absurd (let c : true ≡ false = sym h ∙ ap (λ z. w.needed (point_inside i) (plain z)) (name_same y x e) ∙ idle in cc)
             go y j lt h false e = rw e (s.at y j lt (laws.entry_values.needs (plain y) (rw (h, e) refl)))
 
-    pub transposed_done : Transposed q qd sh level xs w d present wrote (not (m.adjointed i) && inert) (point_before i) (point_after i) this (forward_act plan i d line (loop (plain x) ea eb ec body mark)) (backward_act plan i d line (loop (plain x) ea eb ec body mark)) u u'
+    pub transposed_done : Transposed q lines qd sh level xs w d present wrote (not (m.adjointed i) && inert) (point_before i) (point_after i) this (forward_act plan i d line (loop (plain x) ea eb ec body mark)) (backward_act plan i d line (loop (plain x) ea eb ec body mark)) u u'
     transposed_done = record {
       derivative = derivative;
       change = change;
+      loops = l.tangents.loops;
       dual = dual_loop;
       sweeps = λ e. emitted e (m.kept i) refl (m.adjointed i) refl;
       matches = matches_loop;
       unwritten = unwritten_loop;
       still = still_loop;
+      none_reversed = λ e. l.tangents.none_reversed (and_true (not (m.adjointed i)) inert e).1;
     }
       where
-        emitted : present ≡ true → (k : Bool) → m.kept i ≡ k → (a : Bool) → m.adjointed i ≡ a → Sweeps q sh level xs d (code_if (k || a) (pushing (m.saved i (plain x)) +++ loop_forward (is_empty Bb) (suc d) line (plain x) ea eb ec Fb)) (code_if (k || a) (loop_backward (is_empty Bb) (suc d) line (plain x) Bb +++ (popping (m.saved i (plain x)) +++ reset m i line x))) (w.needed (point_before i)) (w.needed (point_after i)) (w.held (point_before i)) (w.held (point_after i)) wrote u u' change
+        emitted : present ≡ true → (k : Bool) → m.kept i ≡ k → (a : Bool) → m.adjointed i ≡ a → Sweeps q sh level xs d (code_if (k || a) (pushing (m.saved i (plain x)) +++ loop_forward (is_empty Bb) (suc d) line (plain x) ea eb ec Fb)) (code_if (k || a) (loop_backward (is_empty Bb) (suc d) line (plain x) Bb +++ (popping (m.saved i (plain x)) +++ reset m i line x))) (w.needed (point_before i)) (w.needed (point_after i)) (w.held (point_before i)) (w.held (point_after i)) wrote u u' change l.tangents.loops
         emitted e true ek a ea' = kept_sweeps e ek (m.saved i (plain x)) refl (resets m i x) refl
         emitted e false ek true ea' = absurd (let c : true ≡ false = sym (laws.keeps_adjointed ea') ∙ ek in cc)
         emitted e false ek false ea' = left_sweeps e ek (resets m i x) refl

@@ -1,5 +1,5 @@
 -- A DO as a statement: its derivative and its sweeps.
-use Rattle.std.proofs.Common.{◌≡◌, ◌<◌, ◌^◌, ℕ, zero, suc, ◌+◌, Bool, true, false, List, refl, ap, ◌∙◌, subst, arith}
+use Rattle.std.proofs.Common.{◌≡◌, ◌<◌, ◌^◌, ℕ, zero, suc, ◌+◌, Bool, true, false, List, [], refl, ap, ◌∙◌, subst, arith}
 use Rattle.std.specs.Prelude.{ℤ, pos, ◌&&◌, not}
 use Rattle.adj_tree.specs.Code.{Var, plain, name_eq, Term, Code, stop}
 use Rattle.adj_tree.proofs.Names.{name_refl}
@@ -23,7 +23,7 @@ use Rattle.adj_reverse.proofs.LoopSilent.{LoopSilent, silent_none, silent_more, 
 
 -- ---- the turns of a run
 
-module _ (p q : Calls ℤ) (qd : Calls (ℤ × ℤ)) (sh : Var → Shape) (level : ℕ) (xs : List Key) (w : Facts) (d : ℕ) (present : Bool) (i line : ℕ) (x : List ℕ) (one_cell : size_of (sh (plain x)) ≡ 1) (ea eb ec : Term) (body Fb Bb : Code) (laws : LoopLaws w i (plain x) ea eb ec body) (wr : Vars) (spares : wr (plain x) ≡ false) (inert : Bool) (a0 c0 : ℤ) where
+module _ (p q : Calls ℤ) (lines : ℕ → Bool) (qd : Calls (ℤ × ℤ)) (sh : Var → Shape) (level : ℕ) (xs : List Key) (w : Facts) (d : ℕ) (present : Bool) (i line : ℕ) (x : List ℕ) (one_cell : size_of (sh (plain x)) ≡ 1) (ea eb ec : Term) (body Fb Bb : Code) (laws : LoopLaws w i (plain x) ea eb ec body) (wr : Vars) (spares : wr (plain x) ≡ false) (inert : Bool) (a0 c0 : ℤ) where
   abbrev n_in : ℕ
   n_in = point_inside i
 
@@ -45,46 +45,46 @@ module _ (p q : Calls ℤ) (qd : Calls (ℤ × ℤ)) (sh : Var → Shape) (level
 
   -- m turns from the j-th on: what they make of tangents, and their sweeps
   pub record Looped (m j : ℕ) (u u' : Store ℤ) : Type 0 where
-    pub tangents : LoopTangents q qd sh level xs w d present x one_cell c0 n_in n_last laws.step_tangents body Fb Bb wr spares inert m u u'
-    pub told : present ≡ true → LoopSwept q sh level xs d line x one_cell a0 c0 (w.needed n_in) (w.needed n_last) (w.held n_in) (w.held n_last) needs holds Fb Bb wr spares m j u u' tangents.change
-    pub silent : present ≡ true → Bb ≡ stop → LoopSilent q sh level xs d x one_cell c0 (w.needed n_in) (w.needed n_last) (w.held n_in) (w.held n_last) needs Fb wr spares m u u' tangents.change
-    pub left : present ≡ true → Bb ≡ stop → Fb ≡ stop → w.needed n_in (plain x) ≡ false → LoopLeft q sh level xs d x one_cell c0 (w.needed n_in) (w.needed n_last) (w.held n_in) (w.held n_last) needs Fb wr spares m u u' tangents.change
+    pub tangents : LoopTangents q lines qd sh level xs w d present x one_cell c0 n_in n_last laws.step_tangents body Fb Bb wr spares inert m u u'
+    pub told : present ≡ true → LoopSwept q sh level xs d line x one_cell a0 c0 (w.needed n_in) (w.needed n_last) (w.held n_in) (w.held n_last) needs holds Fb Bb wr spares m j u u' tangents.change tangents.loops
+    pub silent : present ≡ true → Bb ≡ stop → LoopSilent q sh level xs d x one_cell c0 (w.needed n_in) (w.needed n_last) (w.held n_in) (w.held n_last) needs Fb wr spares m u u' tangents.change tangents.loops
+    pub left : present ≡ true → Bb ≡ stop → Fb ≡ stop → w.needed n_in (plain x) ≡ false → LoopLeft q sh level xs d x one_cell c0 (w.needed n_in) (w.needed n_last) (w.held n_in) (w.held n_last) needs Fb wr spares m u u' tangents.change tangents.loops
 
   pub looped_none : (j : ℕ) (u : Store ℤ) → Looped 0 j u u
   looped_none j u = record {
-    tangents = tangents_none q qd sh level xs w d present x one_cell c0 n_in n_last laws.step_tangents body Fb Bb wr spares inert u;
+    tangents = tangents_none q lines qd sh level xs w d present x one_cell c0 n_in n_last laws.step_tangents body Fb Bb wr spares inert u;
     told = λ e. told0;
     silent = λ e n. silent0;
     left = λ e n f o. left0;
   }
     where
-      told0 : LoopSwept q sh level xs d line x one_cell a0 c0 (w.needed n_in) (w.needed n_last) (w.held n_in) (w.held n_last) needs holds Fb Bb wr spares 0 j u u (λ z. z)
+      told0 : LoopSwept q sh level xs d line x one_cell a0 c0 (w.needed n_in) (w.needed n_last) (w.held n_in) (w.held n_last) needs holds Fb Bb wr spares 0 j u u (λ z. z) []
       told0 = swept_none q sh level xs d line x one_cell a0 c0 (w.needed n_in) (w.needed n_last) (w.held n_in) (w.held n_last) needs holds Fb Bb wr spares j u
 
-      silent0 : LoopSilent q sh level xs d x one_cell c0 (w.needed n_in) (w.needed n_last) (w.held n_in) (w.held n_last) needs Fb wr spares 0 u u (λ z. z)
+      silent0 : LoopSilent q sh level xs d x one_cell c0 (w.needed n_in) (w.needed n_last) (w.held n_in) (w.held n_last) needs Fb wr spares 0 u u (λ z. z) []
       silent0 = silent_none q sh level xs d x one_cell c0 (w.needed n_in) (w.needed n_last) (w.held n_in) (w.held n_last) needs Fb wr spares u
 
-      left0 : LoopLeft q sh level xs d x one_cell c0 (w.needed n_in) (w.needed n_last) (w.held n_in) (w.held n_last) needs Fb wr spares 0 u u (λ z. z)
+      left0 : LoopLeft q sh level xs d x one_cell c0 (w.needed n_in) (w.needed n_last) (w.held n_in) (w.held n_last) needs Fb wr spares 0 u u (λ z. z) []
       left0 = left_none q sh level xs d x one_cell c0 (w.needed n_in) (w.needed n_last) (w.held n_in) (w.held n_last) needs Fb wr spares u
 
-  pub looped_more : (m j : ℕ) (u ub u' : Store ℤ) → suc j < 2 ^ 63 → u (plain x) 0 ≡ add a0 (mul (pos j) c0) → ub (plain x) 0 ≡ u (plain x) 0 → Transposed q qd sh level xs w (suc d) present wr inert n_in n_last body Fb Bb u ub → Looped m (suc j) (set ub (plain x) 0 (add (ub (plain x) 0) c0)) u' → Looped (suc m) j u u'
+  pub looped_more : (m j : ℕ) (u ub u' : Store ℤ) → suc j < 2 ^ 63 → u (plain x) 0 ≡ add a0 (mul (pos j) c0) → ub (plain x) 0 ≡ u (plain x) 0 → Transposed q lines qd sh level xs w (suc d) present wr inert n_in n_last body Fb Bb u ub → Looped m (suc j) (set ub (plain x) 0 (add (ub (plain x) 0) c0)) u' → Looped (suc m) j u u'
   looped_more m j u ub u' small value_is keeps t rest =
-      let g = tangents_more q qd sh level xs w d present x one_cell c0 n_in n_last laws.step_tangents body Fb Bb wr spares inert m u ub u' t rest.tangents in
+      let g = tangents_more q lines qd sh level xs w d present x one_cell c0 n_in n_last laws.step_tangents body Fb Bb wr spares inert m u ub u' t rest.tangents in
       record {
         tangents = g;
-        told = λ e. swept_more q sh level xs d line x one_cell a0 c0 (w.needed n_in) (w.needed n_last) (w.held n_in) (w.held n_last) needs holds Fb Bb wr spares m j u ub u' t.change rest.tangents.change small value_is keeps (t.sweeps e) (rest.told e);
+        told = λ e. swept_more q sh level xs d line x one_cell a0 c0 (w.needed n_in) (w.needed n_last) (w.held n_in) (w.held n_last) needs holds Fb Bb wr spares m j u ub u' t.change rest.tangents.change t.loops rest.tangents.loops small value_is keeps (t.sweeps e) (rest.told e);
         silent = λ e n.
-            let s = subst (λ z. Sweeps q sh level xs (suc d) Fb z (w.needed n_in) (w.needed n_last) (w.held n_in) (w.held n_last) wr u ub t.change) n (t.sweeps e) in
-            silent_more q sh level xs d x one_cell c0 (w.needed n_in) (w.needed n_last) (w.held n_in) (w.held n_last) needs Fb wr spares m u ub u' t.change rest.tangents.change keeps s (rest.silent e n);
+            let s = subst (λ z. Sweeps q sh level xs (suc d) Fb z (w.needed n_in) (w.needed n_last) (w.held n_in) (w.held n_last) wr u ub t.change t.loops) n (t.sweeps e) in
+            silent_more q sh level xs d x one_cell c0 (w.needed n_in) (w.needed n_last) (w.held n_in) (w.held n_last) needs Fb wr spares m u ub u' t.change rest.tangents.change t.loops rest.tangents.loops keeps s (rest.silent e n);
         left = λ e n f o.
-            let s = subst (λ z. Sweeps q sh level xs (suc d) Fb z (w.needed n_in) (w.needed n_last) (w.held n_in) (w.held n_last) wr u ub t.change) n (t.sweeps e) in
-            let s2 = subst (λ z. Sweeps q sh level xs (suc d) z stop (w.needed n_in) (w.needed n_last) (w.held n_in) (w.held n_last) wr u ub t.change) f s in
-            left_more q sh level xs d x one_cell c0 (w.needed n_in) (w.needed n_last) (w.held n_in) (w.held n_last) needs Fb wr spares m u ub u' t.change rest.tangents.change o s2 (rest.left e n f o);
+            let s = subst (λ z. Sweeps q sh level xs (suc d) Fb z (w.needed n_in) (w.needed n_last) (w.held n_in) (w.held n_last) wr u ub t.change t.loops) n (t.sweeps e) in
+            let s2 = subst (λ z. Sweeps q sh level xs (suc d) z stop (w.needed n_in) (w.needed n_last) (w.held n_in) (w.held n_last) wr u ub t.change t.loops) f s in
+            left_more q sh level xs d x one_cell c0 (w.needed n_in) (w.needed n_last) (w.held n_in) (w.held n_last) needs Fb wr spares m u ub u' t.change rest.tangents.change t.loops rest.tangents.loops o s2 (rest.left e n f o);
       }
 
   -- what a turn of the program does
   pub record Turned (u ub : Store ℤ) : Type 0 where
-    pub transposed : Transposed q qd sh level xs w (suc d) present wr inert n_in n_last body Fb Bb u ub
+    pub transposed : Transposed q lines qd sh level xs w (suc d) present wr inert n_in n_last body Fb Bb u ub
     pub keeps : ub (plain x) 0 ≡ u (plain x) 0
 
   pub looped : ((s e : Scene ℤ) (k left : ℕ) → run p np body s k ≡ Done e left → Turned s.store e.store) → (m j : ℕ) (s s' : Scene ℤ) (k k' : ℕ) → j + m < 2 ^ 63 → s.store (plain x) 0 ≡ add a0 (mul (pos j) c0) → turns np m (run p np body) (stepped np (plain x) c0) s k ≡ Done s' k' → Looped m j s.store s'.store

@@ -1,6 +1,6 @@
 -- A DO as a statement: its derivative and its sweeps.
-use Rattle.std.proofs.Common.{◌≡◌, ◌<◌, ◌≤◌, ◌^◌, ℕ, Bool, true, false, List, ◌∷◌, refl, ap, ◌∙◌, arith, if◌then◌else◌, int_eq}
-use Rattle.std.specs.Prelude.{ℤ, pos, negsuc, ◌-ℤ◌, nat_le, Result, Ok, Err, Option, Some, None}
+use Rattle.std.proofs.Common.{◌≡◌, ◌<◌, ◌≤◌, ◌^◌, ℕ, Bool, true, false, List, ◌∷◌, refl, sym, ap, ◌∙◌, arith, if◌then◌else◌, int_eq}
+use Rattle.std.specs.Prelude.{ℤ, pos, negsuc, ◌-ℤ◌, nat_le, Result, Ok, Err, Some, None}
 use Rattle.adj_tree.specs.Code.{Var, Term, Mark, unmarked, with_count, count_from, loop, Code}
 use Rattle.adj_word.specs.Word.{wrap, sub, trip_count}
 use Rattle.adj_word.proofs.Counting.{last_of, trips_down}
@@ -9,28 +9,43 @@ use Rattle.adj_meaning.specs.Event.{Marked}
 use Rattle.adj_meaning.specs.Store.{Store, set}
 use Rattle.adj_meaning.specs.Value.{Setting, value}
 use Rattle.adj_meaning.specs.Scene.{Done, then_do}
-use Rattle.adj_meaning.specs.Run.{Calls, trips, most_turns, in_force, after_loop}
+use Rattle.adj_meaning.specs.Run.{Calls, trips, most_turns, in_force, from_1_to_64, after_loop}
 use Rattle.adj_transpose.specs.Lists.{Kept}
-use Rattle.adj_reverse.specs.Runs.{ActComes}
-use Rattle.adj_reverse.proofs.Turns.{TurnsCome}
+use Rattle.adj_reverse.specs.Kernel.{is_marked}
+use Rattle.adj_reverse.specs.Reversals.{Reversal, LoopRun}
+use Rattle.adj_reverse.specs.Runs.{ActComes, ActPasses}
+use Rattle.adj_reverse.proofs.Told.{marks_other}
+use Rattle.adj_reverse.proofs.Turns.{TurnsCome, TurnsPass}
 
 -- ---- the run of a loop
 
--- a loop whose bounds have these values
-pub loop_comes : {C : Type 0} (q : Calls C) (n : Setting C) (line : ℕ) (x : Var) (ea eb ec : Term) (body : Code) (mark : Mark) (base : Kept) (s s' : Store C) (t t' : List C) (a b c : C) (m : ℕ) → value n ea s ≡ Ok a → value n eb s ≡ Ok b → value n ec s ≡ Ok c → trips mark (n.numbers.shown a) (n.numbers.shown b) (n.numbers.shown c) ≡ Ok m → TurnsCome q n m body x (n.numbers.shown c) base (set s x 0 (n.numbers.of_word (wrap (n.numbers.shown a)))) s' t t' → ActComes q n (loop x ea eb ec body mark) line base s s' t t'
-loop_comes q n line x ea eb ec body mark base s s' t t' a b c m ha hb hc hm l = go (in_force n mark s) refl
+-- a loop whose bounds have these values, where it isn't marked
+pub loop_comes : {C : Type 0} {rs : List Reversal} (q : Calls C) (n : Setting C) (line : ℕ) (x : Var) (ea eb ec : Term) (body : Code) (base : Kept) (s s' : Store C) (t t' : List C) (a b c : C) (m : ℕ) → value n ea s ≡ Ok a → value n eb s ≡ Ok b → value n ec s ≡ Ok c → trips unmarked (n.numbers.shown a) (n.numbers.shown b) (n.numbers.shown c) ≡ Ok m → TurnsCome q n m body x (n.numbers.shown c) base (set s x 0 (n.numbers.of_word (wrap (n.numbers.shown a)))) s' t t' rs → ActComes q n (loop x ea eb ec body unmarked) line base s s' t t' rs
+loop_comes q n line x ea eb ec body base s s' t t' a b c m ha hb hc hm l = record {
+  later = l.later;
+  tells = l.tells;
+  runs = record { cost = l.cost; by = λ k. rw (ha, hb, hc, hm) (ap (λ o. then_do o (λ s1 j. Done (after_loop line m None s1) j)) (l.by k)) };
+}
+
+-- a loop of the program, which isn't one of those that are to be reversed
+pub loop_passes : {C : Type 0} (lines : ℕ → Bool) (loops : List LoopRun) (q : Calls C) (n : Setting C) (line : ℕ) (x : Var) (ea eb ec : Term) (body : Code) (mark : Mark) → (is_marked mark ≡ true → lines line ≡ false) → (base : Kept) (s s' : Store C) (t : List C) (a b c : C) (m : ℕ) → value n ea s ≡ Ok a → value n eb s ≡ Ok b → value n ec s ≡ Ok c → trips mark (n.numbers.shown a) (n.numbers.shown b) (n.numbers.shown c) ≡ Ok m → TurnsPass lines q n m body x (n.numbers.shown c) base (set s x 0 (n.numbers.of_word (wrap (n.numbers.shown a)))) s' t loops → ActPasses lines q n (loop x ea eb ec body mark) line base s s' t loops
+loop_passes lines loops q n line x ea eb ec body mark other base s s' t a b c m ha hb hc hm l = go mark other refl
   where
-    go : (o : Option ℕ) → in_force n mark s ≡ o → ActComes q n (loop x ea eb ec body mark) line base s s' t t'
-    go None is = record {
-      later = l.later;
-      quiet = l.quiet;
-      runs = record { cost = l.cost; by = λ k. rw (ha, hb, hc, hm, is) (ap (λ o. then_do o (λ s1 j. Done (after_loop line m None s1) j)) (l.by k)) };
-    }
-    go (Some snapshots) is = record {
+    told : (snapshots : ℕ) → in_force n mark s ≡ Some snapshots → lines line ≡ false → ActPasses lines q n (loop x ea eb ec body mark) line base s s' t loops
+    told snapshots is o = record {
       later = record { opened = l.later.opened; events = Marked line m snapshots ∷ l.later.events };
-      quiet = record { opened = l.quiet.opened; reversals = l.quiet.reversals };
+      tells = marks_other lines n.level line m snapshots base l.later loops o l.tells;
       runs = record { cost = l.cost; by = λ k. rw (ha, hb, hc, hm, is) (ap (λ o. then_do o (λ s1 j. Done (after_loop line m (Some snapshots) s1) j)) (l.by k)) };
     }
+
+    go : (mark1 : Mark) → (is_marked mark1 ≡ true → lines line ≡ false) → mark1 ≡ mark → ActPasses lines q n (loop x ea eb ec body mark) line base s s' t loops
+    go unmarked o is = record {
+      later = l.later;
+      tells = l.tells;
+      runs = record { cost = l.cost; by = λ k. let none : in_force n mark s ≡ None = ap (λ z. in_force n z s) (sym is) in rw (ha, hb, hc, hm, none) (ap (λ o. then_do o (λ s1 j. Done (after_loop line m None s1) j)) (l.by k)) };
+    }
+    go (with_count k) o is = told k (ap (λ z. in_force n z s) (sym is)) (o refl)
+    go (count_from y) o is = told (from_1_to_64 (n.numbers.shown (s y 0))) (ap (λ z. in_force n z s) (sym is)) (o refl)
 
 -- ---- numbers of turns
 

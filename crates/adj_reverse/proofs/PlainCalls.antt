@@ -31,7 +31,9 @@ use Rattle.adj_transpose.proofs.Variables.{or_false}
 use Rattle.adj_reverse.specs.Plan.{Callee, beside, actuals_named}
 use Rattle.adj_reverse.specs.Passing.{plainly}
 use Rattle.adj_reverse.specs.Kernel.{AsMany}
-use Rattle.adj_reverse.specs.Runs.{ActComes}
+use Rattle.adj_reverse.specs.Reversals.{LoopRun}
+use Rattle.adj_reverse.proofs.Told.{tells_of_marks}
+use Rattle.adj_reverse.specs.Runs.{ActComes, ActPasses}
 use Rattle.adj_reverse.proofs.Passing.{found_or}
 use Rattle.adj_reverse.proofs.CallSweeps.{PlainCalled}
 
@@ -41,15 +43,15 @@ untangled [] = refl
 untangled (z ∷ t) = ap (λ l. z ∷ l) (untangled t)
 
 -- a dual call that comes to an end is a call that does, from any scene
-pub words_of_dual : (units : List Procedure) (depth : ℕ) (sh : Var → Shape) (level : ℕ) (name : List ℕ) (given : List (List ℕ)) (line : ℕ) (u u' : Store ℤ) (derivative : Words → Words) → ((home : Kept) (y : Words) (t : List (ℤ × ℤ)) → ActComes (calls_of units depth) (on_duals sh level) (call name (actuals_named given)) line home (with_tangents u y) (with_tangents u' (derivative y)) t t) →
-    (home : Kept) (t : List ℤ) → ActComes (calls_of units depth) (on_words sh level) (call name (actuals_named given)) line home u u' t t
-words_of_dual units depth sh level name given line u u' derivative dual home t =
+pub words_of_dual : (units : List Procedure) (depth : ℕ) (sh : Var → Shape) (level : ℕ) (name : List ℕ) (given : List (List ℕ)) (line : ℕ) (u u' : Store ℤ) (derivative : Words → Words) (lines : ℕ → Bool) (loops : List LoopRun) → ((home : Kept) (y : Words) (t : List (ℤ × ℤ)) → ActPasses lines (calls_of units depth) (on_duals sh level) (call name (actuals_named given)) line home (with_tangents u y) (with_tangents u' (derivative y)) t loops) →
+    (home : Kept) (t : List ℤ) → ActComes (calls_of units depth) (on_words sh level) (call name (actuals_named given)) line home u u' t t []
+words_of_dual units depth sh level name given line u u' derivative lines loops dual home t =
     let t2 = map (λ z. (z, pos 0)) t in
     let y : Words = λ k. pos 0 in
     let d = dual home y t2 in
     record {
       later = d.later;
-      quiet = d.quiet;
+      tells = tells_of_marks lines level home d.later loops d.tells;
       runs = record {
         cost = d.runs.cost;
         by = λ k.
@@ -117,7 +119,7 @@ handed_helper r k (w ∷ ws) (a ∷ given) = go w (handed_helper r k ws given)
 -- ---- the call again
 
 module _ (ps qs : List Procedure) (inside : List ℕ → Bool) (common : HaveInCommon inside ps qs) (depth : ℕ) (depend : CallsDepend {C = ℤ} (looked_at ps) (calls_of ps (suc depth))) (sh : Var → Shape) (level : ℕ) (name : List ℕ) (there : IsTrue (inside name)) (g : Callee) (given : List (List ℕ)) (many : AsMany g.dummies given) (apart : AreApart given) (flags : handed_back ps name ≡ map (λ d. g.written (plain d)) g.dummies) (line : ℕ) (u u' : Store ℤ)
-    (from_program : (home : Kept) (t : List ℤ) → ActComes (calls_of ps (suc depth)) (on_words (plainly sh) level) (call name (actuals_named given)) line home u u' t t) where
+    (from_program : (home : Kept) (t : List ℤ) → ActComes (calls_of ps (suc depth)) (on_words (plainly sh) level) (call name (actuals_named given)) line home u u' t t []) where
   abbrev nw : Setting ℤ
   nw = on_words sh level
 
@@ -183,7 +185,7 @@ module _ (ps qs : List Procedure) (inside : List ℕ → Bool) (common : HaveInC
         after = a.end;
         runs = record {
           later = c.later;
-          quiet = c.quiet;
+          tells = c.tells;
           runs = record { cost = a.leads.cost; by = λ k. ap (λ z. z) (same_run (scene base f t) (a.leads.cost + k)) ∙ a.leads.by k };
         };
         same = λ x j h. a.same (plain x) j h;

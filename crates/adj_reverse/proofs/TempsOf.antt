@@ -13,12 +13,13 @@ use Rattle.adj_meaning.specs.Run.{Calls}
 use Rattle.adj_meaning.specs.Leads.{Leads}
 use Rattle.adj_meaning.proofs.Leadings.{leads_stop, leads_append}
 use Rattle.adj_transpose.specs.Marks.{Vars}
-use Rattle.adj_transpose.specs.Marked.{is_active_where, is_compound, has_own_where, count_of, temps_in_where, own_or, own_code, shrunk_where, temps_where}
+use Rattle.adj_transpose.specs.Marked.{is_compound, count_of, own_or, own_code}
 use Rattle.adj_transpose.specs.Pairs.{SamePlain, on_words}
 use Rattle.adj_transpose.specs.Lists.{Kept, scene}
 use Rattle.adj_transpose.proofs.Variables.{and_true}
 use Rattle.adj_transpose.proofs.Steps.{assigns}
 pub use Rattle.adj_transpose.proofs.Temps.{SameLoops, SameBelow}
+use Rattle.adj_reverse.specs.AdjointOf.{is_active_where, has_own_where, temps_in_where, shrunk_where, temps_where}
 use Rattle.adj_reverse.proofs.Terms.{num, IsDefined, value_words}
 use Rattle.adj_reverse.proofs.TermUses.{IsText, IsOver, over_text, IsUsable, num_text, defined_text, num_same, defined_same, usable_same}
 

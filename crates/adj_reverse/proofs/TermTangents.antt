@@ -10,12 +10,12 @@ use Rattle.adj_meaning.specs.Numbers.{power_tangent}
 use Rattle.adj_meaning.specs.Store.{Shape, size_of, Store, cell_of}
 use Rattle.adj_meaning.proofs.Cells.{size_positive, cell_below}
 use Rattle.adj_transpose.specs.Marks.{Vars, Marks, point_before, point_after, active_at}
-use Rattle.adj_transpose.specs.Marked.{is_active_where}
-use Rattle.adj_transpose.specs.Facts.{In, occurring, whole, Facts}
+use Rattle.adj_transpose.specs.Facts.{In, whole, Facts}
 use Rattle.adj_transpose.specs.Pairs.{Key, key_eq, Words}
 use Rattle.adj_transpose.specs.Lists.{masked}
 use Rattle.adj_transpose.proofs.Variables.{or_left, or_right, or_false, key_same}
 use Rattle.adj_transpose.proofs.Values.{power_tangent-zero}
+use Rattle.adj_reverse.specs.AdjointOf.{is_active_where, occurring}
 use Rattle.adj_reverse.specs.Kernel.{AreTreated}
 use Rattle.adj_reverse.specs.Laws.{AssignmentLaws}
 use Rattle.adj_reverse.proofs.Sweeps.{IsCell, Matches}

@@ -8,10 +8,10 @@ use Rattle.adj_meaning.specs.Numbers.{words, power_tangent, absolute}
 use Rattle.adj_meaning.specs.Store.{Shape, Store, cell_of}
 use Rattle.adj_meaning.specs.Read.{reads_term, reads_terms}
 use Rattle.adj_transpose.specs.Marks.{Vars}
-use Rattle.adj_transpose.specs.Marked.{is_active_where}
 use Rattle.adj_transpose.specs.Fresh.{has_name}
 use Rattle.adj_transpose.specs.Pairs.{Words, SamePlain}
 use Rattle.adj_transpose.proofs.Variables.{or_left, or_right, var_refl}
+use Rattle.adj_reverse.specs.AdjointOf.{is_active_where}
 use Rattle.adj_reverse.specs.Kernel.{AllText, AreTreated}
 use Rattle.adj_reverse.proofs.Shapes.{text_first, text_second}
 use Rattle.adj_reverse.proofs.Terms.{num, nums, word_of, power_word, IsExponent, tan, tangent_of, cell_or, CanDo, HasCell, IsDefined, AreDefined}

@@ -1,5 +1,5 @@
 -- The tests and turns of a DO WHILE, one after another.
-use Rattle.std.proofs.Common.{◌≡◌, ◌<◌, ◌^◌, ℕ, zero, suc, ◌+◌, ◌⊎◌, inl, inr, Bool, true, false, ap, ◌∙◌, arith, List, if◌then◌else◌}
+use Rattle.std.proofs.Common.{◌≡◌, ◌<◌, ◌^◌, ℕ, zero, suc, ◌+◌, ◌⊎◌, inl, inr, Bool, true, false, refl, ap, ◌∙◌, arith, List, [], ◌++◌, if◌then◌else◌}
 use Rattle.std.specs.Prelude.{Ok}
 use Rattle.adj_tree.specs.Code.{Test, during, Code}
 use Rattle.adj_meaning.specs.Trap.{step_trap}
@@ -9,8 +9,9 @@ use Rattle.adj_meaning.specs.Scene.{Scene, stand, Outcome, Done, Trapped, then_d
 use Rattle.adj_meaning.specs.Run.{Calls, run, tests, most_tests}
 use Rattle.adj_meaning.proofs.Inversions.{then_done, value_done, count_done, done_same}
 use Rattle.adj_transpose.specs.Lists.{Kept, scene}
-use Rattle.adj_reverse.specs.Runs.{Quiet, Comes, ActComes}
-use Rattle.adj_reverse.proofs.Runs.{quiet_refl, quiet_then}
+use Rattle.adj_reverse.specs.Reversals.{Reversal, LoopRun, Tells, Marks}
+use Rattle.adj_reverse.specs.Runs.{Comes, ActComes, Passes, ActPasses}
+use Rattle.adj_reverse.proofs.Told.{tells_nothing, tells_then, marks_nothing, marks_then}
 
 -- as many turns as a DO WHILE may have fit a word
 pub most_small : most_tests < 2 ^ 63
@@ -18,23 +19,30 @@ unfolding most_tests
 most_small = omega arith
 
 -- some tests and turns come from a store and a tape to others, where the test fails
-pub record TestsCome {C : Type 0} (q : Calls C) (n : Setting C) (m : ℕ) (c : Test) (line : ℕ) (body : Code) (base : Kept) (s s' : Store C) (t t' : List C) : Type 0 where
+pub record TestsCome {C : Type 0} (q : Calls C) (n : Setting C) (m : ℕ) (c : Test) (line : ℕ) (body : Code) (base : Kept) (s s' : Store C) (t t' : List C) (rs : List Reversal) : Type 0 where
   pub later : Kept
-  pub quiet : Quiet base later
+  pub tells : Tells n.level base later rs
   pub cost : ℕ
   pub by : (k : ℕ) → tests n m (λ (z : Scene C). holds n c z.store) line (run q n body) (scene base s t) (cost + k) ≡ Done (scene later s' t') k
 
+-- the same of the program, which tells its runs of loops
+pub record TestsPass {C : Type 0} (lines : ℕ → Bool) (q : Calls C) (n : Setting C) (m : ℕ) (c : Test) (line : ℕ) (body : Code) (base : Kept) (s s' : Store C) (t : List C) (loops : List LoopRun) : Type 0 where
+  pub later : Kept
+  pub tells : Marks lines n.level base later loops
+  pub cost : ℕ
+  pub by : (k : ℕ) → tests n m (λ (z : Scene C). holds n c z.store) line (run q n body) (scene base s t) (cost + k) ≡ Done (scene later s' t) k
+
 module _ {C : Type 0} (q : Calls C) (n : Setting C) (c : Test) (line : ℕ) (body : Code) where
   -- the test fails
-  pub tests_none : (m : ℕ) (b : Kept) (s : Store C) (t : List C) → holds n c s ≡ Ok false → TestsCome q n m c line body b s s t t
-  tests_none zero b s t h = record { later = b; quiet = quiet_refl b; cost = 0; by = λ k. let e : 0 + k ≡ k = omega arith in rw h (ap (Done (scene b s t)) e) }
-  tests_none (suc m) b s t h = record { later = b; quiet = quiet_refl b; cost = 0; by = λ k. let e : 0 + k ≡ k = omega arith in rw h (ap (Done (scene b s t)) e) }
+  pub tests_none : (m : ℕ) (b : Kept) (s : Store C) (t : List C) → holds n c s ≡ Ok false → TestsCome q n m c line body b s s t t []
+  tests_none zero b s t h = record { later = b; tells = tells_nothing n.level b; cost = 0; by = λ k. let e : 0 + k ≡ k = omega arith in rw h (ap (Done (scene b s t)) e) }
+  tests_none (suc m) b s t h = record { later = b; tells = tells_nothing n.level b; cost = 0; by = λ k. let e : 0 + k ≡ k = omega arith in rw h (ap (Done (scene b s t)) e) }
 
   -- it holds: a turn, and the tests after it
-  pub tests_more : (m : ℕ) (b : Kept) (s s1 s2 : Store C) (t t1 t2 : List C) → holds n c s ≡ Ok true → (f : Comes q n body b s s1 t t1) → TestsCome q n m c line body f.later s1 s2 t1 t2 → TestsCome q n (suc m) c line body b s s2 t t2
+  pub tests_more : (m : ℕ) (b : Kept) (s s1 s2 : Store C) (t t1 t2 : List C) → holds n c s ≡ Ok true → (f : Comes q n body b s s1 t t1 []) → TestsCome q n m c line body f.later s1 s2 t1 t2 [] → TestsCome q n (suc m) c line body b s s2 t t2 []
   tests_more m b s s1 s2 t t1 t2 h f g = record {
     later = g.later;
-    quiet = quiet_then b f.later g.later f.quiet g.quiet;
+    tells = tells_then n.level b f.later g.later [] [] f.tells g.tells;
     cost = f.runs.cost + suc g.cost;
     by = λ k.
         let e : f.runs.cost + suc g.cost + k ≡ f.runs.cost + suc (g.cost + k) = omega arith in
@@ -43,8 +51,32 @@ module _ {C : Type 0} (q : Calls C) (n : Setting C) (c : Test) (line : ℕ) (bod
   }
 
   -- the statement
-  pub while_comes : (b : Kept) (s s' : Store C) (t t' : List C) → TestsCome q n most_tests c line body b s s' t t' → ActComes q n (during c body) line b s s' t t'
-  while_comes b s s' t t' l = record { later = l.later; quiet = l.quiet; runs = record { cost = l.cost; by = l.by } }
+  pub while_comes : (b : Kept) (s s' : Store C) (t t' : List C) → TestsCome q n most_tests c line body b s s' t t' [] → ActComes q n (during c body) line b s s' t t' []
+  while_comes b s s' t t' l = record { later = l.later; tells = l.tells; runs = record { cost = l.cost; by = l.by } }
+
+-- ---- of the program
+
+module _ {C : Type 0} (lines : ℕ → Bool) (q : Calls C) (n : Setting C) (c : Test) (line : ℕ) (body : Code) where
+  pub tests_pass_none : (m : ℕ) (b : Kept) (s : Store C) (t : List C) → holds n c s ≡ Ok false → TestsPass lines q n m c line body b s s t []
+  tests_pass_none m b s t h = record { later = b; tells = marks_nothing lines n.level b; cost = 0; by = λ k. let e : 0 + k ≡ k = omega arith in fails m k ∙ ap (Done (scene b s t)) e }
+    where
+      fails : (m k : ℕ) → tests n m (λ (z : Scene C). holds n c z.store) line (run q n body) (scene b s t) (0 + k) ≡ Done (scene b s t) (0 + k)
+      fails zero k = rw h refl
+      fails (suc m) k = rw h refl
+
+  pub tests_pass_more : (la lb : List LoopRun) (m : ℕ) (b : Kept) (s s1 s2 : Store C) (t : List C) → holds n c s ≡ Ok true → (f : Passes lines q n body b s s1 t la) → TestsPass lines q n m c line body f.later s1 s2 t lb → TestsPass lines q n (suc m) c line body b s s2 t (lb ++ la)
+  tests_pass_more la lb m b s s1 s2 t h f g = record {
+    later = g.later;
+    tells = marks_then lines n.level b f.later g.later la lb f.tells g.tells;
+    cost = f.runs.cost + suc g.cost;
+    by = λ k.
+        let e : f.runs.cost + suc g.cost + k ≡ f.runs.cost + suc (g.cost + k) = omega arith in
+        ap (tests n (suc m) (λ (z : Scene C). holds n c z.store) line (run q n body) (scene b s t)) e
+        ∙ rw h (ap (λ o. then_do o (λ s1 j. counted (stand n s1) j (λ i. tests n m (λ (z : Scene C). holds n c z.store) line (run q n body) s1 i))) (f.runs.by (suc (g.cost + k))) ∙ g.by k);
+  }
+
+  pub while_passes : (loops : List LoopRun) (b : Kept) (s s' : Store C) (t : List C) → TestsPass lines q n most_tests c line body b s s' t loops → ActPasses lines q n (during c body) line b s s' t loops
+  while_passes loops b s s' t l = record { later = l.later; tells = l.tells; runs = record { cost = l.cost; by = l.by } }
 
 -- ---- tests that were done
 

@@ -1,7 +1,7 @@
 -- Runs of units from the runs of their bodies, for units of any shapes and any depth of calls.
-use Rattle.std.proofs.Common.{◌≡◌, ℕ, ◌+◌, ◌-◌, ◌≤◌, List, [], ◌∷◌, sym, ap, ◌∙◌, arith, if◌then◌else◌}
-use Rattle.std.specs.Prelude.{◌==◌, None, reverse}
-use Rattle.adj_tree.specs.Code.{Procedure}
+use Rattle.std.proofs.Common.{◌≡◌, ℕ, ◌+◌, ◌-◌, ◌≤◌, List, [], ◌∷◌, Bool, true, false, sym, ap, ◌∙◌, arith, if◌then◌else◌}
+use Rattle.std.specs.Prelude.{ℤ, ◌==◌, None, reverse}
+use Rattle.adj_tree.specs.Code.{Var, Code, Procedure}
 use Rattle.adj_meaning.specs.Trap.{schedule_trap}
 use Rattle.adj_meaning.specs.Numbers.{Numbers}
 use Rattle.adj_meaning.specs.Value.{Setting}
@@ -9,8 +9,16 @@ use Rattle.adj_meaning.specs.Event.{Enter}
 use Rattle.adj_meaning.specs.Scene.{Scene, stand, Outcome, Done, Trapped, then_do}
 use Rattle.adj_meaning.specs.Run.{run}
 use Rattle.adj_meaning.specs.Units.{Slot, Output, calls_of, setting_in, dummy_shapes, input_store, dummy_slots, run_unit}
-use Rattle.adj_meaning.proofs.Inversions.{then_done}
+use Rattle.adj_meaning.proofs.Inversions.{then_done, done_same}
+use Rattle.adj_meaning.specs.Leads.{Leads}
+use Rattle.adj_meaning.specs.Seen.{seen_outcome}
+use Rattle.adj_meaning.specs.Store.{Shape, Store}
+use Rattle.adj_meaning.specs.Numbers.{words}
 use Rattle.adj_meaning.proofs.Costs.{run_later}
+use Rattle.adj_meaning.proofs.SeenRuns.{run_seen}
+use Rattle.adj_meaning.proofs.SeenCalls.{own_names, code_same, calls_carry}
+use Rattle.adj_meaning.proofs.Projected.{without_tangents}
+use Rattle.adj_transpose.specs.Pairs.{Words, with_tangents, on_words, on_duals}
 use Rattle.adj_transpose.specs.Lists.{Kept, scene}
 use Rattle.adj_transpose.specs.Adjoint.{Ends}
 use Rattle.adj_transpose.proofs.Units.{outside}
@@ -38,16 +46,21 @@ module _ {C : Type 0} (n : Numbers C) (ps : List Procedure) (u : Procedure) (inp
   begin = scene kept_in (input_store n u input) []
 
   -- a run of the unit that is done has a run of its body that is
-  pub record BodyEnds (k : ℕ) : Type 0 where
+  pub record BodyEnds (k : ℕ) (output : Output C) : Type 0 where
     pub end : Scene C
     pub left : ℕ
     pub is : run (calls_of ps k) unit_setting u.body begin k ≡ Done end left
+    pub gives : output ≡ output_from end
 
-  pub body_ends : (k used : ℕ) (output : Output C) → run_unit n ps u input [] None k ≡ Done output used → BodyEnds k
+  pub body_ends : (k used : ℕ) (output : Output C) → run_unit n ps u input [] None k ≡ Done output used → BodyEnds k output
   body_ends k used output h =
       let p = then_done (then_do (run (calls_of ps k) unit_setting u.body begin k) (closed u.line)) (handed_out k) output used h in
       let q = then_done (run (calls_of ps k) unit_setting u.body begin k) (closed u.line) p.scene p.left p.first in
-      record { end = q.scene; left = q.left; is = q.first }
+      record { end = q.scene; left = q.left; is = q.first; gives = sym (done_same (output_from p.scene) output (k - p.left) used p.second) ∙ ap output_from (sym (shut q.scene q.left p.scene p.left (q.scene.opened == 0) q.second)) }
+    where
+      shut : (s : Scene C) (l : ℕ) (s1 : Scene C) (l1 : ℕ) (b : Bool) → (if b then Done s l else Trapped schedule_trap u.line (stand (outside n) s)) ≡ Done s1 l1 → s ≡ s1
+      shut s l s1 l1 true h = done_same s s1 l l1 h
+      shut s l s1 l1 false h = cc
 
   -- a unit whose body's run is done with calls of some depth ends
   abbrev pub unit_ends : (depth cost : ℕ) (s : Scene C) → run (calls_of ps depth) unit_setting u.body begin cost ≡ Done s 0 → s.opened ≡ 0 → Ends n ps u input
@@ -68,3 +81,19 @@ module _ {C : Type 0} (n : Numbers C) (ps : List Procedure) (u : Procedure) (inp
         ∙ ap (λ z. then_do z (handed_out k)) shut
         ∙ ap (Done (output_from s)) spent;
   }
+
+-- the run of a list on words ends as its dual run, without the tangents
+pub words_end : (ps : List Procedure) (depth : ℕ) (sh : Var → Shape) (c : Code) (base later : Kept) (u u' : Store ℤ) (y y' : Words) (end : Scene ℤ) (k left : ℕ) → run (calls_of ps depth) (on_words sh 1) c (scene base u []) k ≡ Done end left → Leads (calls_of ps depth) (on_duals sh 1) c (scene base (with_tangents u y) []) (scene later (with_tangents u' y') []) → end ≡ scene later u' []
+words_end ps depth sh c base later u u' y y' end k left is d = done_same end (scene later u' []) (left + d.cost) k (sym more ∙ ap (run (calls_of ps depth) (on_words sh 1) c (scene base u [])) e ∙ words_run)
+  where
+    more : run (calls_of ps depth) (on_words sh 1) c (scene base u []) (k + d.cost) ≡ Done end (left + d.cost)
+    more = run_later ps depth depth (omega arith) (on_words sh 1) c (scene base u []) end k left d.cost is
+
+    e : k + d.cost ≡ d.cost + k
+    e = omega arith
+
+    words_run : run (calls_of ps depth) (on_words sh 1) c (scene base u []) (d.cost + k) ≡ Done (scene later u' []) k
+    words_run =
+        sym (run_seen (λ x. x) own_names (λ (a : ℤ × ℤ). a.0) (on_duals sh 1) words without_tangents (calls_of ps depth) (calls_of ps depth) (calls_carry (λ (a : ℤ × ℤ). a.0) ps depth words (λ x. x) own_names (on_duals sh 1) without_tangents) c (scene base (with_tangents u y) []) (d.cost + k))
+        ∙ ap (λ z. seen_outcome (λ x. x) (λ (a : ℤ × ℤ). a.0) (run (calls_of ps depth) (on_duals sh 1) z (scene base (with_tangents u y) []) (d.cost + k))) (code_same c)
+        ∙ ap (seen_outcome (λ x. x) (λ (a : ℤ × ℤ). a.0)) (d.by k)

@@ -21,7 +21,9 @@ use Rattle.adj_transpose.specs.Lists.{Kept, scene}
 use Rattle.adj_transpose.proofs.Turned.{SameDepth}
 use Rattle.adj_reverse.specs.Emission.{literal, push_own, while_forward, while_backward}
 use Rattle.adj_reverse.specs.Passing.{plainly}
+use Rattle.adj_reverse.specs.Reversals.{Reversal, LoopRun, AreReversed}
 use Rattle.adj_reverse.specs.Runs.{SameOn, SameOff, Comes}
+use Rattle.adj_reverse.proofs.Told.{reversed_append}
 use Rattle.adj_reverse.proofs.Runs.{comes_stop, comes_leads, comes_one, comes_act, comes_append}
 use Rattle.adj_reverse.proofs.Sweeps.{Sweeps, Returns}
 use Rattle.adj_reverse.proofs.Shapes.{AllText}
@@ -38,9 +40,11 @@ module _ (q : Calls ℤ) (sh : Var → Shape) (level : ℕ) (xs : List Key) (d l
   -- ---- with a backward sweep
 
   -- the turns are gone through backward, down to the j-th
-  pub record TestsBack (m j : ℕ) (base : Kept) (f g : Store ℤ) (t t' : List ℤ) (change : Words → Words) : Type 0 where
+  pub record TestsBack (m j : ℕ) (base : Kept) (f g : Store ℤ) (t t' : List ℤ) (change : Words → Words) (loops : List LoopRun) : Type 0 where
     pub after : Store ℤ
-    pub runs : TurnsCome q nw m Bb (helper turn (suc d)) (negsuc 0) base g after t t'
+    pub reversals : List Reversal
+    pub reversed : AreReversed loops reversals
+    pub runs : TurnsCome q nw m Bb (helper turn (suc d)) (negsuc 0) base g after t t' reversals
     pub same : SameOn sh held f after
     pub off : SameOff wr g after
     pub pairs : (y : Words) → pairing xs (shadows after) y ≡ pairing xs (shadows g) (change y)
@@ -48,43 +52,43 @@ module _ (q : Calls ℤ) (sh : Var → Shape) (level : ℕ) (xs : List Key) (d l
     pub number : after (helper turn (suc d)) 0 ≡ add (pos j) (negsuc 0)
 
   -- the tests that are left, with m turns from the j-th on
-  pub record TestsForth (tests m j : ℕ) (base : Kept) (u' f : Store ℤ) (t : List ℤ) (change : Words → Words) : Type 0 where
+  pub record TestsForth (tests m j : ℕ) (base : Kept) (u' f : Store ℤ) (t : List ℤ) (change : Words → Words) (loops : List LoopRun) : Type 0 where
     pub to : Store ℤ
     pub trail : List ℤ
-    pub runs : TestsCome q nw tests c line (forward_turn (suc d) line Fb) base f to t (trail ++ t)
+    pub runs : TestsCome q nw tests c line (forward_turn (suc d) line Fb) base f to t (trail ++ t) []
     pub same : SameOn sh needed u' to
     pub off : SameOff wr f to
     pub shadows : (y : List ℕ) (i : ℕ) → to (shadow y) i ≡ f (shadow y) i
     pub depth : SameDepth d f to
     pub counted_is : to (helper count (suc d)) 0 ≡ pos (j + m)
-    pub back : (b : Kept) (g : Store ℤ) → SameOn sh held to g → g (helper turn (suc d)) 0 ≡ add (pos (j + m)) (negsuc 0) → TestsBack m j b f g (trail ++ t) t change
+    pub back : (b : Kept) (g : Store ℤ) → SameOn sh held to g → g (helper turn (suc d)) 0 ≡ add (pos (j + m)) (negsuc 0) → TestsBack m j b f g (trail ++ t) t change loops
 
-  pub record TestsSwept (tests j : ℕ) (u u' : Store ℤ) (change : Words → Words) : Type 0 where
+  pub record TestsSwept (tests j : ℕ) (u u' : Store ℤ) (change : Words → Words) (loops : List LoopRun) : Type 0 where
     pub turns : ℕ
     pub small : j + turns < 2 ^ 63
-    pub forth : (b : Kept) (f : Store ℤ) (t : List ℤ) → SameOn sh needed u f → f (helper count (suc d)) 0 ≡ pos j → TestsForth tests turns j b u' f t change
+    pub forth : (b : Kept) (f : Store ℤ) (t : List ℤ) → SameOn sh needed u f → f (helper count (suc d)) 0 ≡ pos j → TestsForth tests turns j b u' f t change loops
 
   -- ---- without one
 
-  pub record SilentForth (tests : ℕ) (base : Kept) (u' f : Store ℤ) (t : List ℤ) (change : Words → Words) : Type 0 where
+  pub record SilentForth (tests : ℕ) (base : Kept) (u' f : Store ℤ) (t : List ℤ) (change : Words → Words) (loops : List LoopRun) : Type 0 where
     pub to : Store ℤ
     pub trail : List ℤ
-    pub runs : TestsCome q nw tests c line Fb base f to t (trail ++ t)
+    pub runs : TestsCome q nw tests c line Fb base f to t (trail ++ t) []
     pub same : SameOn sh needed u' to
     pub off : SameOff wr f to
     pub shadows : (y : List ℕ) (i : ℕ) → to (shadow y) i ≡ f (shadow y) i
     pub depth : SameDepth d f to
-    pub returns : (b : Kept) (g : Store ℤ) → SameOn sh held to g → Returns q sh level xs d stop held wr b f g (trail ++ t) t change
+    pub returns : (b : Kept) (g : Store ℤ) → SameOn sh held to g → Returns q sh level xs d stop held wr b f g (trail ++ t) t change loops
 
-  pub record TestsSilent (tests : ℕ) (u u' : Store ℤ) (change : Words → Words) : Type 0 where
-    pub forth : (b : Kept) (f : Store ℤ) (t : List ℤ) → SameOn sh needed u f → SilentForth tests b u' f t change
+  pub record TestsSilent (tests : ℕ) (u u' : Store ℤ) (change : Words → Words) (loops : List LoopRun) : Type 0 where
+    pub forth : (b : Kept) (f : Store ℤ) (t : List ℤ) → SameOn sh needed u f → SilentForth tests b u' f t change loops
 
   module _ (text : AllText (λ v. reads_test v c)) (uses : Within (λ v. reads_test v c) needed) where
     test_again : (u f : Store ℤ) (r : Bool) → SameOn sh needed u f → holds (on_words (plainly sh) level) c u ≡ Ok r → holds nw c f ≡ Ok r
     test_again u f r s is = holds_again sh level needed u f s c text uses ∙ is
 
     -- the test fails
-    pub swept_none : (tests j : ℕ) (u : Store ℤ) → j < 2 ^ 63 → holds (on_words (plainly sh) level) c u ≡ Ok false → TestsSwept tests j u u (λ z. z)
+    pub swept_none : (tests j : ℕ) (u : Store ℤ) → j < 2 ^ 63 → holds (on_words (plainly sh) level) c u ≡ Ok false → TestsSwept tests j u u (λ z. z) []
     swept_none tests j u small fails = record {
       turns = 0;
       small = omega arith;
@@ -99,6 +103,8 @@ module _ (q : Calls ℤ) (sh : Var → Shape) (level : ℕ) (xs : List Key) (d l
         counted_is = let e : j ≡ j + 0 = omega arith in k ∙ ap pos e;
         back = λ b1 g r at. record {
           after = g;
+          reversals = [];
+          reversed = tt;
           runs = turns_none q nw Bb (helper turn (suc d)) (negsuc 0) b1 g t;
           same = r;
           off = record { at = λ y i o. refl };
@@ -110,8 +116,8 @@ module _ (q : Calls ℤ) (sh : Var → Shape) (level : ℕ) (xs : List Key) (d l
     }
 
     -- it holds: a turn, and the tests after it
-    pub swept_more : (tests j : ℕ) (u ub u' : Store ℤ) (c1 c2 : Words → Words) → suc j < 2 ^ 63 → holds (on_words (plainly sh) level) c u ≡ Ok true → Sweeps q sh level xs (suc d) Fb Bb needed needed held held wr u ub c1 → TestsSwept tests (suc j) ub u' c2 → TestsSwept (suc tests) j u u' (λ z. c2 (c1 z))
-    swept_more tests j u ub u' c1 c2 small holds_there s rest = record {
+    pub swept_more : (tests j : ℕ) (u ub u' : Store ℤ) (c1 c2 : Words → Words) (l1 l2 : List LoopRun) → suc j < 2 ^ 63 → holds (on_words (plainly sh) level) c u ≡ Ok true → Sweeps q sh level xs (suc d) Fb Bb needed needed held held wr u ub c1 l1 → TestsSwept tests (suc j) ub u' c2 l2 → TestsSwept (suc tests) j u u' (λ z. c2 (c1 z)) (l2 ++ l1)
+    swept_more tests j u ub u' c1 c2 l1 l2 small holds_there s rest = record {
       turns = suc rest.turns;
       small = let le = rest.small in let e : suc j + rest.turns ≡ j + suc rest.turns = omega arith in subst (λ z. z < 2 ^ 63) e le;
       forth = λ b f t same k.
@@ -132,7 +138,7 @@ module _ (q : Calls ℤ) (sh : Var → Shape) (level : ℕ) (xs : List Key) (d l
           record {
             to = r.to;
             trail = r.trail ++ k1.trail;
-            runs = subst (λ (z : List ℤ). TestsCome q nw (suc tests) c line (forward_turn (suc d) line Fb) b f r.to t z) e
+            runs = subst (λ (z : List ℤ). TestsCome q nw (suc tests) c line (forward_turn (suc d) line Fb) b f r.to t z []) e
                 (tests_more q nw c line (forward_turn (suc d) line Fb) tests b f f2 r.to t l (r.trail ++ l) (test_again u f true same holds_there) turn_runs r.runs);
             same = r.same;
             off = record { at = λ y i o. r.off.at y i o ∙ k1.off.at y i o };
@@ -146,7 +152,9 @@ module _ (q : Calls ℤ) (sh : Var → Shape) (level : ℕ) (xs : List Key) (d l
                 let g3 = set k3.after (helper turn (suc d)) 0 (add (k3.after (helper turn (suc d)) 0) (negsuc 0)) in
                 record {
                   after = g3;
-                  runs = subst (λ (z : List ℤ). TurnsCome q nw (suc m) Bb (helper turn (suc d)) (negsuc 0) b1 g g3 z t) e
+                  reversals = k2.reversals ++ k3.reversals;
+                  reversed = reversed_append l2 l1 k2.reversals k3.reversals k2.reversed k3.reversed;
+                  runs = subst (λ (z : List ℤ). TurnsCome q nw (suc m) Bb (helper turn (suc d)) (negsuc 0) b1 g g3 z t (k2.reversals ++ k3.reversals)) e
                       (turns_then q nw Bb (helper turn (suc d)) (negsuc 0) m b1 g k2.after k3.after (r.trail ++ l) l t k2.runs k3.runs);
                   same = record { at = λ y i lt o. k3.same.at y i lt o };
                   off = record { at = λ y i o. k3.off.at y i o ∙ k2.off.at y i o };
@@ -157,7 +165,7 @@ module _ (q : Calls ℤ) (sh : Var → Shape) (level : ℕ) (xs : List Key) (d l
           };
     }
 
-    pub silent_none : (tests : ℕ) (u : Store ℤ) → holds (on_words (plainly sh) level) c u ≡ Ok false → TestsSilent tests u u (λ z. z)
+    pub silent_none : (tests : ℕ) (u : Store ℤ) → holds (on_words (plainly sh) level) c u ≡ Ok false → TestsSilent tests u u (λ z. z) []
     silent_none tests u fails = record {
       forth = λ b f t s. record {
         to = f;
@@ -169,6 +177,8 @@ module _ (q : Calls ℤ) (sh : Var → Shape) (level : ℕ) (xs : List Key) (d l
         depth = record { at = λ r i k lt le. refl };
         returns = λ b1 g r. record {
           after = g;
+          reversals = [];
+          reversed = tt;
           runs = comes_stop q nw b1 g t;
           same = r;
           off = record { at = λ y i o. refl };
@@ -178,8 +188,8 @@ module _ (q : Calls ℤ) (sh : Var → Shape) (level : ℕ) (xs : List Key) (d l
       };
     }
 
-    pub silent_more : (tests : ℕ) (u ub u' : Store ℤ) (c1 c2 : Words → Words) → holds (on_words (plainly sh) level) c u ≡ Ok true → Sweeps q sh level xs (suc d) Fb stop needed needed held held wr u ub c1 → TestsSilent tests ub u' c2 → TestsSilent (suc tests) u u' (λ z. c2 (c1 z))
-    silent_more tests u ub u' c1 c2 holds_there s rest = record {
+    pub silent_more : (tests : ℕ) (u ub u' : Store ℤ) (c1 c2 : Words → Words) (l1 l2 : List LoopRun) → holds (on_words (plainly sh) level) c u ≡ Ok true → Sweeps q sh level xs (suc d) Fb stop needed needed held held wr u ub c1 l1 → TestsSilent tests ub u' c2 l2 → TestsSilent (suc tests) u u' (λ z. c2 (c1 z)) (l2 ++ l1)
+    silent_more tests u ub u' c1 c2 l1 l2 holds_there s rest = record {
       forth = λ b f t same.
           let k1 = s.way b f t same in
           let l = k1.trail ++ t in
@@ -188,7 +198,7 @@ module _ (q : Calls ℤ) (sh : Var → Shape) (level : ℕ) (xs : List Key) (d l
           record {
             to = r.to;
             trail = r.trail ++ k1.trail;
-            runs = subst (λ (z : List ℤ). TestsCome q nw (suc tests) c line Fb b f r.to t z) e
+            runs = subst (λ (z : List ℤ). TestsCome q nw (suc tests) c line Fb b f r.to t z []) e
                 (tests_more q nw c line Fb tests b f k1.to r.to t l (r.trail ++ l) (test_again u f true same holds_there) k1.runs r.runs);
             same = r.same;
             off = record { at = λ y i o. r.off.at y i o ∙ k1.off.at y i o };
@@ -199,7 +209,9 @@ module _ (q : Calls ℤ) (sh : Var → Shape) (level : ℕ) (xs : List Key) (d l
                 let k3 = k1.returns k2.runs.later k2.after k2.same in
                 record {
                   after = k3.after;
-                  runs = subst (λ (z : List ℤ). Comes q nw stop b1 g k3.after z t) e (comes_append q nw stop stop b1 g k2.after k3.after (r.trail ++ l) l t k2.runs k3.runs);
+                  reversals = k2.reversals ++ k3.reversals;
+                  reversed = reversed_append l2 l1 k2.reversals k3.reversals k2.reversed k3.reversed;
+                  runs = subst (λ (z : List ℤ). Comes q nw stop b1 g k3.after z t (k2.reversals ++ k3.reversals)) e (comes_append q nw stop stop b1 g k2.after k3.after (r.trail ++ l) l t k2.runs k3.runs);
                   same = k3.same;
                   off = record { at = λ y i o. k3.off.at y i o ∙ k2.off.at y i o };
                   pairs = λ y. k3.pairs y ∙ k2.pairs (c1 y);
@@ -213,8 +225,8 @@ module _ (q : Calls ℤ) (sh : Var → Shape) (level : ℕ) (xs : List Key) (d l
 
   -- ---- the rows of the statement
 
-  pub silent_row : (u u' : Store ℤ) (change : Words → Words) → TestsSilent most_tests u u' change → Sweeps q sh level xs d (while_forward true (suc d) line c Fb) (while_backward true (suc d) line Bb) needed needed held held wr u u' change
-  silent_row u u' change l = record {
+  pub silent_row : (u u' : Store ℤ) (change : Words → Words) (loops : List LoopRun) → TestsSilent most_tests u u' change loops → Sweeps q sh level xs d (while_forward true (suc d) line c Fb) (while_backward true (suc d) line Bb) needed needed held held wr u u' change loops
+  silent_row u u' change loops l = record {
     way = λ b f t s.
         let r = l.forth b f t s in
         record {
@@ -229,8 +241,8 @@ module _ (q : Calls ℤ) (sh : Var → Shape) (level : ℕ) (xs : List Key) (d l
         };
   }
 
-  pub told_row : (u u' : Store ℤ) (change : Words → Words) → TestsSwept most_tests 0 u u' change → Sweeps q sh level xs d (while_forward false (suc d) line c Fb) (while_backward false (suc d) line Bb) needed needed held held wr u u' change
-  told_row u u' change l = record {
+  pub told_row : (u u' : Store ℤ) (change : Words → Words) (loops : List LoopRun) → TestsSwept most_tests 0 u u' change loops → Sweeps q sh level xs d (while_forward false (suc d) line c Fb) (while_backward false (suc d) line Bb) needed needed held held wr u u' change loops
+  told_row u u' change loops l = record {
     way = λ b f t s.
         let m = l.turns in
         let f1 = set f (helper count (suc d)) 0 (pos 0) in
@@ -241,7 +253,7 @@ module _ (q : Calls ℤ) (sh : Var → Shape) (level : ℕ) (xs : List Key) (d l
         let body = forward_turn (suc d) line Fb in
         let looping = while_comes q nw c line body b f1 r.to t l0 r.runs in
         let after = looping.later in
-        let tail : Comes q nw (push_own line (helper count (suc d)) stop) after r.to r.to l0 (total ∷ l0) =
+        let tail : Comes q nw (push_own line (helper count (suc d)) stop) after r.to r.to l0 (total ∷ l0) [] =
         comes_leads q nw _ after r.to r.to l0 (total ∷ l0)
         (leads_step q nw line (runtime (push_word (helper count (suc d)) none)) stop (scene after r.to l0) (scene after r.to (total ∷ l0)) (scene after r.to (total ∷ l0)) (λ k. ap (λ (z : ℤ). Done (scene after r.to (z ∷ l0)) k) r.counted_is) (leads_stop q nw (scene after r.to (total ∷ l0)))) in
         let rest = comes_act q nw line (during c body) _ b f1 r.to r.to t l0 (total ∷ l0) looping tail in
@@ -250,7 +262,7 @@ module _ (q : Calls ℤ) (sh : Var → Shape) (level : ℕ) (xs : List Key) (d l
           trail = total ∷ r.trail;
           runs = record {
             later = rest.later;
-            quiet = rest.quiet;
+            tells = rest.tells;
             runs = leads_step q nw line (assign (helper count (suc d)) none (literal 0)) _ (scene b f t) (scene b f1 t) (scene rest.later r.to (total ∷ l0)) (λ k. refl) rest.runs;
           };
           same = r.same;
@@ -262,14 +274,16 @@ module _ (q : Calls ℤ) (sh : Var → Shape) (level : ℕ) (xs : List Key) (d l
               let g2 = set g1 (helper turn (suc d)) 0 (wrap (sub total (pos 1))) in
               let total_is : g1 (helper count (suc d)) 0 ≡ total = rw (nat_refl (suc d)) refl in
               let e = r.back b1 g2 (record { at = λ y j lt o. h.at y j lt o }) (rw (nat_refl (suc d)) (wrap-wrap _)) in
-              let turning = loop_comes q nw line (helper turn (suc d)) (bin minus (var (helper count (suc d))) (literal 1)) (literal 0) (lit (negsuc 0)) Bb unmarked b1 g1 e.after l0 t (sub total (pos 1)) (pos 0) (negsuc 0) m
+              let turning = loop_comes q nw line (helper turn (suc d)) (bin minus (var (helper count (suc d))) (literal 1)) (literal 0) (lit (negsuc 0)) Bb b1 g1 e.after l0 t (sub total (pos 1)) (pos 0) (negsuc 0) m
               (ap (λ z. Ok (sub z (pos 1))) total_is) refl refl (ap (λ z. trips unmarked z (pos 0) (negsuc 0)) sub_first ∙ trips_back m small) e.runs in
               let rest_back = comes_one q nw line (loop (helper turn (suc d)) (bin minus (var (helper count (suc d))) (literal 1)) (literal 0) (lit (negsuc 0)) Bb unmarked) b1 g1 e.after l0 t turning in
               record {
                 after = e.after;
+                reversals = e.reversals;
+                reversed = e.reversed;
                 runs = record {
                   later = rest_back.later;
-                  quiet = rest_back.quiet;
+                  tells = rest_back.tells;
                   runs = leads_step q nw line (runtime (pop_word (helper count (suc d)) none)) _ (scene b1 g (total ∷ l0)) (scene b1 g1 l0) (scene rest_back.later e.after t) (λ k. refl) rest_back.runs;
                 };
                 same = record { at = λ y j lt o. e.same.at y j lt o };

@@ -4,7 +4,8 @@ use Rattle.std.specs.Prelude.{ℕ, suc, pos, negsuc, List, [], ◌∷◌, Bool, 
 use Rattle.adj_tree.specs.Code.{Var, plain, shadow, helper, control, first, stride, count, turn, plus, minus, times, is_same, Term, lit, var, bin, Terms, none, more, Test, compare, unmarked, Act, assign, choose, loop, during, call, runtime, push_word, pop_word, push_array, pop_array, push_control, pop_control, zero_array, Code, stop, step}
 use Rattle.adj_meaning.specs.Append.{◌+++◌, one}
 use Rattle.adj_transpose.specs.Marks.{Vars, Marks, next, behind, point_before, active_at}
-use Rattle.adj_transpose.specs.Marked.{code_if, adjoint_where}
+use Rattle.adj_transpose.specs.Marked.{code_if}
+use Rattle.adj_reverse.specs.AdjointOf.{adjoint_where}
 use Rattle.adj_reverse.specs.Plan.{Callee, Plan, is_emitted, names_of, save_group, snapshot_group}
 
 -- no statement

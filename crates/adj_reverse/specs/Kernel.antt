@@ -1,6 +1,6 @@
 -- What the theorem asks of the code of a unit: what a program in kernel form that was checked has.
 use Rattle.std.specs.Prelude.{◌≡◌, ℕ, zero, suc, List, [], ◌∷◌, Bool, true, false, Some}
-use Rattle.adj_tree.specs.Code.{Var, plain, shadow, helper, plus, minus, times, quot, modulo, greater, lesser, Term, neg, bin, pow, power_of, abs, Terms, none, Act, assign, choose, loop, during, call, runtime, Code, stop, step, Procedure}
+use Rattle.adj_tree.specs.Code.{Var, plain, shadow, helper, plus, minus, times, quot, modulo, greater, lesser, Term, neg, bin, pow, power_of, abs, Terms, none, Mark, unmarked, with_count, count_from, Act, assign, choose, loop, during, call, runtime, Code, stop, step, Procedure}
 use Rattle.adj_meaning.specs.LeastSet.{Dummies}
 use Rattle.adj_meaning.specs.Written.{find_unit, writes}
 use Rattle.adj_meaning.specs.Read.{reads_term, reads_terms, reads_test}
@@ -58,7 +58,15 @@ pub record AssignmentFits (vars : List (List ℕ)) (arrays : Vars) (x : List ℕ
   -- what stands in it is among the variables, and an array only with subscripts
   pub known : (y : List ℕ) → reads_term (plain y) e ≡ true → has_name y vars ≡ true
 
-pub record LoopFits (vars : List (List ℕ)) (arrays : Vars) (handed : Dummies) (x : List ℕ) (a b c : Term) (body : Code) : Type 0 where
+-- the loop has a mark
+abbrev pub is_marked : Mark → Bool
+is_marked unmarked = false
+is_marked (with_count k) = true
+is_marked (count_from y) = true
+
+pub record LoopFits (lines : ℕ → Bool) (line : ℕ) (mark : Mark) (vars : List (List ℕ)) (arrays : Vars) (handed : Dummies) (x : List ℕ) (a b c : Term) (body : Code) : Type 0 where
+  -- where it is marked, its line isn't one of those whose loops are reversed by a schedule
+  pub told : is_marked mark ≡ true → lines line ≡ false
   pub variable : has_name x vars ≡ true
   pub scalar : arrays (plain x) ≡ false
   -- the body doesn't write it
@@ -79,20 +87,20 @@ pub record CallFits (ps : List Procedure) (vars : List (List ℕ)) (arrays : Var
 abbrev mutual
   -- in the order of the statements' numbers; `answers` says of which units the adjoint is called, and `carried` which are emitted
   -- themselves; `present` says whether the adjoint of the unit that this is in is
-  pub Fits' : (ps : List Procedure) → (List ℕ → CalleeFacts) → (answers carried : List ℕ → Bool) → (present : Bool) → Marks → (vars : List (List ℕ)) → (arrays : Vars) → Dummies → ℕ → Act → Type 0
-  Fits' ps g answers carried present m vars arrays handed i (assign (plain x) subs e) = AssignmentFits vars arrays x subs e
-  Fits' ps g answers carried present m vars arrays handed i (assign (shadow x) subs e) = ⊥
-  Fits' ps g answers carried present m vars arrays handed i (assign (helper r x) subs e) = ⊥
-  Fits' ps g answers carried present m vars arrays handed i (choose c a b) =
-      AllText (λ v. reads_test v c) × (FitsList ps g answers carried present m vars arrays handed (suc i) a × FitsList ps g answers carried present m vars arrays handed (behind (suc i) a) b)
-  Fits' ps g answers carried present m vars arrays handed i (loop (plain x) a b c body n) = LoopFits vars arrays handed x a b c body × FitsList ps g answers carried present m vars arrays handed (suc i) body
-  Fits' ps g answers carried present m vars arrays handed i (loop (shadow x) a b c body n) = ⊥
-  Fits' ps g answers carried present m vars arrays handed i (loop (helper r x) a b c body n) = ⊥
-  Fits' ps g answers carried present m vars arrays handed i (during c body) = AllText (λ v. reads_test v c) × FitsList ps g answers carried present m vars arrays handed (suc i) body
-  Fits' ps g answers carried present m vars arrays handed i (call name args) =
+  pub Fits' : (lines : ℕ → Bool) (ps : List Procedure) → (List ℕ → CalleeFacts) → (answers carried : List ℕ → Bool) → (present : Bool) → Marks → (vars : List (List ℕ)) → (arrays : Vars) → Dummies → ℕ → ℕ → Act → Type 0
+  Fits' lines ps g answers carried present m vars arrays handed i line (assign (plain x) subs e) = AssignmentFits vars arrays x subs e
+  Fits' lines ps g answers carried present m vars arrays handed i line (assign (shadow x) subs e) = ⊥
+  Fits' lines ps g answers carried present m vars arrays handed i line (assign (helper r x) subs e) = ⊥
+  Fits' lines ps g answers carried present m vars arrays handed i line (choose c a b) =
+      AllText (λ v. reads_test v c) × (FitsList lines ps g answers carried present m vars arrays handed (suc i) a × FitsList lines ps g answers carried present m vars arrays handed (behind (suc i) a) b)
+  Fits' lines ps g answers carried present m vars arrays handed i line (loop (plain x) a b c body n) = LoopFits lines line n vars arrays handed x a b c body × FitsList lines ps g answers carried present m vars arrays handed (suc i) body
+  Fits' lines ps g answers carried present m vars arrays handed i line (loop (shadow x) a b c body n) = ⊥
+  Fits' lines ps g answers carried present m vars arrays handed i line (loop (helper r x) a b c body n) = ⊥
+  Fits' lines ps g answers carried present m vars arrays handed i line (during c body) = AllText (λ v. reads_test v c) × FitsList lines ps g answers carried present m vars arrays handed (suc i) body
+  Fits' lines ps g answers carried present m vars arrays handed i line (call name args) =
       ((given : List (List ℕ)) → args ≡ actuals_named given → CallFits ps vars arrays (g name) name given) × ((present ≡ true → m.adjointed i ≡ true → answers name ≡ true) × (present ≡ true → m.kept i ≡ true → carried name ≡ true))
-  Fits' ps g answers carried present m vars arrays handed i (runtime r) = ⊥
+  Fits' lines ps g answers carried present m vars arrays handed i line (runtime r) = ⊥
 
-  pub FitsList : (ps : List Procedure) → (List ℕ → CalleeFacts) → (answers carried : List ℕ → Bool) → (present : Bool) → Marks → (vars : List (List ℕ)) → (arrays : Vars) → Dummies → ℕ → Code → Type 0
-  FitsList ps g answers carried present m vars arrays handed i stop = Unit {0}
-  FitsList ps g answers carried present m vars arrays handed i (step line a rest) = Fits' ps g answers carried present m vars arrays handed i a × FitsList ps g answers carried present m vars arrays handed (next i a) rest
+  pub FitsList : (lines : ℕ → Bool) (ps : List Procedure) → (List ℕ → CalleeFacts) → (answers carried : List ℕ → Bool) → (present : Bool) → Marks → (vars : List (List ℕ)) → (arrays : Vars) → Dummies → ℕ → Code → Type 0
+  FitsList lines ps g answers carried present m vars arrays handed i stop = Unit {0}
+  FitsList lines ps g answers carried present m vars arrays handed i (step line a rest) = Fits' lines ps g answers carried present m vars arrays handed i line a × FitsList lines ps g answers carried present m vars arrays handed (next i a) rest

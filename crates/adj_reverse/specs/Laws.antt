@@ -4,8 +4,9 @@ use Rattle.std.specs.Prelude.{◌≡◌, ℕ, suc, ◌+◌, ◌*◌, Bool, true,
 use Rattle.adj_tree.specs.Code.{Var, plain, var_eq, Term, Terms, Test, Act, assign, choose, loop, during, call, runtime, Code, stop, step}
 use Rattle.adj_meaning.specs.Read.{reads_test}
 use Rattle.adj_transpose.specs.Marks.{Vars, Marks, next, behind, point_before, point_after}
-use Rattle.adj_transpose.specs.Facts.{In, Within, without, joined, vars_if, in_term, in_terms, occurring, whole, Facts, reads_at, is_adjointed}
+use Rattle.adj_transpose.specs.Facts.{In, Within, without, joined, vars_if, in_term, in_terms, whole, Facts, is_adjointed}
 use Rattle.adj_transpose.specs.Fresh.{has_name}
+use Rattle.adj_reverse.specs.AdjointOf.{occurring, reads_at}
 use Rattle.adj_reverse.specs.Plan.{beside, IsActual, actuals_named, Callee}
 
 -- the point inside the i-th statement, a loop

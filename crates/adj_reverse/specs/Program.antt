@@ -4,8 +4,9 @@ use Rattle.adj_tree.specs.Code.{Role, Var, shadow, helper, work, temp, control, 
 use Rattle.adj_meaning.specs.Rename.{rename}
 use Rattle.adj_transpose.specs.Naming.{Named, unit_names, naming}
 use Rattle.adj_transpose.specs.Marks.{Marks, next, behind, active_at}
-use Rattle.adj_transpose.specs.Marked.{works_in_where, temps_in_where, names_in}
+use Rattle.adj_transpose.specs.Marked.{names_in}
 use Rattle.adj_transpose.specs.Program.{locals, variables, unit_name, helpers_from, unmarked, declared_helpers, unit_at}
+use Rattle.adj_reverse.specs.AdjointOf.{works_in_where, temps_in_where}
 use Rattle.adj_reverse.specs.Names.{adjoint_name}
 use Rattle.adj_transpose.specs.MarkedProgram.{shadows_behind, declared_behind}
 use Rattle.adj_reverse.specs.Plan.{Plan}

@@ -1,7 +1,7 @@
 -- Facts about variables at points, and the laws that join them with marks. With marks that have such facts the sweeps are right.
 -- (docs/THEOREMS.md, "Adjoints")
 use Rattle.std.specs.Prelude.{◌≡◌, ℕ, suc, Bool, true, false, not, ◌&&◌, ◌||◌, zero}
-use Rattle.adj_tree.specs.Code.{Var, var_eq, Term, elem, neg, bin, pow, power_of, plus, minus, times, Terms, none, more, Act, assign, Code, stop, step}
+use Rattle.adj_tree.specs.Code.{Var, var_eq, Term, elem, neg, bin, pow, plus, minus, times, Terms, none, more, Act, assign, Code, stop, step}
 use Rattle.adj_meaning.specs.Read.{reads_term, reads_terms}
 use Rattle.adj_transpose.specs.Marks.{Vars, everything, Marks, full, next, point_before, point_after, active_at}
 use Rattle.adj_transpose.specs.Marked.{is_active_where}
@@ -38,7 +38,7 @@ abbrev pub occurring : Term → Vars
 occurring e = λ v. is_active_where (λ x. var_eq v x) e
 
 -- those whose values the adjoint of a term uses, where `on` are the active ones: the factor of an active factor,
--- the base of an active power of at least 2, base and exponent of one whose exponent is an expression, and the subscripts of active occurrences
+-- the base of an active power of at least 2, and the subscripts of active occurrences
 abbrev pub adjoint_reads : Vars → Term → Vars
 adjoint_reads on (elem x subs) v = on x && reads_terms v subs
 adjoint_reads on (neg a) v = adjoint_reads on a v
@@ -48,7 +48,6 @@ adjoint_reads on (bin times a b) v =
     (is_active_where on a && reads_term v b) || ((is_active_where on b && reads_term v a) || (adjoint_reads on a v || adjoint_reads on b v))
 adjoint_reads on (pow a (suc zero)) v = adjoint_reads on a v
 adjoint_reads on (pow a (suc (suc k))) v = (is_active_where on a && reads_term v a) || adjoint_reads on a v
-adjoint_reads on (power_of a b) v = (is_active_where on a && (reads_term v a || reads_term v b)) || adjoint_reads on a v
 adjoint_reads on _ v = false
 
 -- the variable that an assignment to a place assigns whole: a scalar

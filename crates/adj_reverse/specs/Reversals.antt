@@ -1,0 +1,151 @@
+-- The reversals that a run tells of, and what they are to be for the marked loops of a program. (docs/RUNNING.md, "Events")
+use Rattle.std.specs.Prelude.{◌≡◌, ◌≤◌, ◌<◌, ◌⊎◌, ℕ, zero, suc, ◌+◌, ◌*◌, ◌==◌, ◌&&◌, List, [], ◌∷◌, ◌++◌, map, reverse, Bool, true, false, if◌then◌else◌}
+use Rattle.adj_tree.specs.Code.{name_eq}
+use Rattle.adj_revolve.specs.LeastCost.{least_cost}
+use Rattle.adj_meaning.specs.Event.{Event, Enter, Begin, End, Marked}
+use Rattle.adj_transpose.specs.Lists.{Kept}
+
+-- ---- reversals by events alone
+
+-- a call: the unit, and how many words the tape held at its entry
+pub record Called : Type 0 where
+  pub unit : List ℕ
+  pub height : ℕ
+
+-- a reversal: its steps and snapshots, the words on the tape at its begin, the calls directly in it, and whether it came to its end
+pub record Reversal : Type 0 where
+  pub steps : ℕ
+  pub snapshots : ℕ
+  pub start : ℕ
+  pub calls : List Called
+  pub ended : Bool
+
+-- the calls directly in a reversal of a unit that was entered at the level, by what comes after its begin: the entries one level
+-- above, while no other reversal of that entry is open within it; `inner` counts those that are
+abbrev pub calls_after : ℕ → ℕ → List Event → List Called
+calls_after level inner [] = []
+calls_after level inner (Enter name l height shapes ∷ es) =
+    if l == suc level && inner == 0 then record { unit = name; height = height } ∷ calls_after level inner es else calls_after level inner es
+calls_after level inner (Begin steps snapshots l height ∷ es) = calls_after level (if l == level then suc inner else inner) es
+calls_after level zero (End l ∷ es) = if l == level then [] else calls_after level 0 es
+calls_after level (suc inner) (End l ∷ es) = calls_after level (if l == level then inner else suc inner) es
+calls_after level inner (Marked line turns snapshots ∷ es) = calls_after level inner es
+
+-- whether it comes to its end
+abbrev pub ends_after : ℕ → ℕ → List Event → Bool
+ends_after level inner [] = false
+ends_after level inner (Enter name l height shapes ∷ es) = ends_after level inner es
+ends_after level inner (Begin steps snapshots l height ∷ es) = ends_after level (if l == level then suc inner else inner) es
+ends_after level zero (End l ∷ es) = if l == level then true else ends_after level 0 es
+ends_after level (suc inner) (End l ∷ es) = ends_after level (if l == level then inner else suc inner) es
+ends_after level inner (Marked line turns snapshots ∷ es) = ends_after level inner es
+
+-- the reversals of a run with these events, in the order of their begins; events come in order of time
+abbrev pub reversals_in : List Event → List Reversal
+reversals_in [] = []
+reversals_in (Enter name l height shapes ∷ es) = reversals_in es
+reversals_in (Begin steps snapshots level height ∷ es) =
+    record { steps = steps; snapshots = snapshots; start = height; calls = calls_after level 0 es; ended = ends_after level 0 es } ∷ reversals_in es
+reversals_in (End l ∷ es) = reversals_in es
+reversals_in (Marked line turns snapshots ∷ es) = reversals_in es
+
+-- ---- marked loops by events alone
+
+-- a marked loop that ended: the line of its DO, its turns and its snapshots
+pub record MarkedRun : Type 0 where
+  pub line : ℕ
+  pub turns : ℕ
+  pub snapshots : ℕ
+
+-- those whose lines are in a set, in the order of the events
+abbrev pub marks_in : (ℕ → Bool) → List Event → List MarkedRun
+marks_in at [] = []
+marks_in at (Enter name l height shapes ∷ es) = marks_in at es
+marks_in at (Begin steps snapshots level height ∷ es) = marks_in at es
+marks_in at (End l ∷ es) = marks_in at es
+marks_in at (Marked line turns snapshots ∷ es) = if at line then record { line = line; turns = turns; snapshots = snapshots } ∷ marks_in at es else marks_in at es
+
+-- ---- what a reversal is to be
+
+-- a run of a marked loop that is to be reversed: its step unit, the adjoint of that, and how many words the snapshot of a step takes
+pub record LoopRun : Type 0 where
+  pub mark : MarkedRun
+  pub unit : List ℕ
+  pub adjoint : List ℕ
+  pub words : ℕ
+
+-- how often a unit is called
+abbrev pub times : List ℕ → List Called → ℕ
+times name [] = 0
+times name (c ∷ cs) = (if name_eq name c.unit then 1 else 0) + times name cs
+
+-- each call is of one of the two units, while the tape is as long as `low` at least and as `high` at most
+abbrev pub AreWithin : List ℕ → List ℕ → ℕ → ℕ → List Called → Type 0
+AreWithin unit adjoint low high [] = Unit {0}
+AreWithin unit adjoint low high (c ∷ cs) = (((c.unit ≡ unit) ⊎ (c.unit ≡ adjoint)) × ((low ≤ c.height) × (c.height ≤ high))) × AreWithin unit adjoint low high cs
+
+-- the reversal turns the run's steps with the run's snapshots, by as few calls of the step unit as any schedule, and one call of its
+-- adjoint for each step; it calls nothing else, and holds no more snapshots on the tape than it has
+pub record Reverses (run : LoopRun) (r : Reversal) : Type 0 where
+  pub steps : r.steps ≡ run.mark.turns
+  pub snapshots : r.snapshots ≡ run.mark.snapshots
+  pub ended : r.ended ≡ true
+  pub advances : times run.unit r.calls ≡ least_cost r.steps r.snapshots
+  pub adjoints : times run.adjoint r.calls ≡ r.steps
+  pub within : AreWithin run.unit run.adjoint r.start (r.start + r.snapshots * run.words) r.calls
+
+-- one for the other, in order
+abbrev pub AreReversed : List LoopRun → List Reversal → Type 0
+AreReversed [] [] = Unit {0}
+AreReversed [] (r ∷ rs) = ⊥
+AreReversed (l ∷ ls) [] = ⊥
+AreReversed (l ∷ ls) (r ∷ rs) = Reverses l r × AreReversed ls rs
+
+-- What the program told in its run and its adjoint in its own, both in order of time: the reversals of the adjoint are those of the
+-- program's runs of the loops at these lines, from the last to the first, and each is right.
+pub record ReversesLoops (lines : ℕ → Bool) (told told' : List Event) : Type 0 where
+  pub loops : List LoopRun
+  pub marks : marks_in lines (reverse told) ≡ map (λ (r : LoopRun). r.mark) loops
+  pub reversed : AreReversed loops (reversals_in told')
+
+-- ---- runs within a unit
+
+-- events that were told, the last first, put in order of time before others
+abbrev pub in_order : List Event → List Event → List Event
+in_order [] later = later
+in_order (e ∷ told) later = in_order told (e ∷ later)
+
+-- The events were told within a unit that was entered at the level: these are the reversals begun in them, each came to its end,
+-- and what calls are directly in a reversal that is open further out is seen from it, whatever comes later.
+pub record IsTold (level : ℕ) (told : List Event) (rs : List Reversal) : Type 0 where
+  pub all : (later : List Event) → reversals_in (in_order told later) ≡ rs ++ reversals_in later
+  pub outer_calls : (l inner : ℕ) → l < level → (later : List Event) → calls_after l inner (in_order told later) ≡ calls_after l inner later
+  pub outer_ends : (l inner : ℕ) → l < level → (later : List Event) → ends_after l inner (in_order told later) ≡ ends_after l inner later
+
+-- and these are the calls that the unit itself made, outside of the reversals that it began
+pub record IsToldBy (level : ℕ) (told : List Event) (calls : List Called) (rs : List Reversal) : Type 0 where
+  pub told_is : IsTold level told rs
+  pub own_calls : (later : List Event) → calls_after level 0 (in_order told later) ≡ calls ++ calls_after level 0 later
+  pub own_ends : (later : List Event) → ends_after level 0 (in_order told later) ≡ ends_after level 0 later
+
+-- what was kept, and later: as many reversals are open, and these were begun and ended meanwhile
+pub record Tells (level : ℕ) (base later : Kept) (rs : List Reversal) : Type 0 where
+  pub opened : later.opened ≡ base.opened
+  pub told : List Event
+  pub events : later.events ≡ told ++ base.events
+  pub is : IsTold level told rs
+
+-- the same, with the calls that the unit made
+pub record TellsCalls (level : ℕ) (base later : Kept) (calls : List Called) (rs : List Reversal) : Type 0 where
+  pub opened : later.opened ≡ base.opened
+  pub told : List Event
+  pub events : later.events ≡ told ++ base.events
+  pub is : IsToldBy level told calls rs
+
+-- what was kept, and later: no reversal was begun meanwhile, and these runs of loops at lines of a set were told, the last first
+pub record Marks (lines : ℕ → Bool) (level : ℕ) (base later : Kept) (loops : List LoopRun) : Type 0 where
+  pub opened : later.opened ≡ base.opened
+  pub told : List Event
+  pub events : later.events ≡ told ++ base.events
+  pub is : IsTold level told []
+  pub loops_are : marks_in lines told ≡ map (λ (r : LoopRun). r.mark) loops
