@@ -9,34 +9,39 @@ module adjoint_tape
   integer, parameter :: word = int64
   ! The words on the tape are words(1:height); the room doubles when it is used up.
   integer(word), allocatable, save :: words(:)
-  integer(word), save :: height = 0
+  integer(word), save :: height = 0, room = 0
 
 contains
 
   ! One word on top of the tape.
   subroutine push(w)
     integer(word), intent(in) :: w
-    integer(word), allocatable :: wider(:)
-    if (.not. allocated(words)) allocate (words(1024))
-    if (height == size(words, kind=word)) then
-      allocate (wider(2 * height))
-      wider(1:height) = words
-      call move_alloc(wider, words)
-    end if
+    if (height == room) call grow()
     height = height + 1
     words(height) = w
   end subroutine push
 
+  subroutine grow()
+    integer(word), allocatable :: wider(:)
+    allocate (wider(max(1024_word, 2 * room)))
+    if (allocated(words)) wider(1:height) = words
+    call move_alloc(wider, words)
+    room = size(words, kind=word)
+  end subroutine grow
+
   ! The word on top, taken away; `call_name` is the runtime call that asks for it.
   integer(word) function pop(call_name)
     character(*), intent(in) :: call_name
-    if (height == 0) then
-      write (error_unit, '(3a)') 'adjoint runtime: ', call_name, ' pops from an empty tape'
-      error stop 1
-    end if
+    if (height == 0) call refuse(call_name)
     pop = words(height)
     height = height - 1
   end function pop
+
+  subroutine refuse(call_name)
+    character(*), intent(in) :: call_name
+    write (error_unit, '(3a)') 'adjoint runtime: ', call_name, ' pops from an empty tape'
+    error stop 1
+  end subroutine refuse
 
   ! How many words the tape holds.
   integer(word) function left()
