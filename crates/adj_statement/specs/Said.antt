@@ -104,7 +104,7 @@ range b =
     with_both (λ (ends : Term × Term) c. Some (record { counter = plain b.counter; from = ends.0; to = ends.1; by = c }))
     (with_both (λ from to. Some (from, to)) (tree b.from) (tree b.to)) (step_tree b.by)
 
--- what a phrase says, with the snapshots of the directive before it, where each literal exponent is one
+-- what a phrase says, with the snapshots of the directive before it, where each exponent is one
 abbrev pub form : ℕ → Phrase → Option Form
 form mark (plainly f) = Some f
 form mark (declares is) = Some (integers (map item is))
