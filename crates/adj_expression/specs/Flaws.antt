@@ -27,7 +27,7 @@ kept false found = found
 kept true (Ok a) = Err Deep
 kept true (Err g) = Err (first_of g Deep)
 
--- an exponent keeps its value alone, and of its flaws the literal that is too large
+-- a literal exponent keeps its value alone, and of its flaws the literal that is too large
 abbrev pub as_power : {A B : Type 0} → Result A Flaw → Option B → Result B Flaw
 as_power (Err Large) found = Err Large
 as_power _ (Some k) = Ok k

@@ -2,7 +2,7 @@
 use Rattle.std.specs.Prelude.{ℕ, suc, ◌^◌, max, nat_le, nat_lt, Bool, false, ◌||◌, Option, Some, None, Result, Ok, Err, if◌then◌else◌}
 use Rattle.adj_tree.specs.Code.{Term, Test}
 use Rattle.adj_text.specs.Char.{number_of}
-use Rattle.adj_text.specs.Grammar.{Syntax, number, variable, negated, joined, raised, applied, Arguments, only, beside, tree}
+use Rattle.adj_text.specs.Grammar.{Syntax, number, variable, negated, joined, raised, applied, Arguments, only, beside, is_literal, tree}
 use Rattle.adj_text.specs.Condition.{Condition, compared, denied, both, either, test}
 use Rattle.adj_expression.specs.declared.flaw.Flaw.{Flaw}
 use Rattle.adj_expression.specs.declared.flaw.Flaw.TheVariants.{Large, Deep, Exponent}
@@ -21,14 +21,14 @@ abbrev mutual
   any_large (only s) = has_large s
   any_large (beside front s) = any_large front || has_large s
 
--- 1 for a literal and a name, else 1 more than the greatest depth of the parts; an exponent is a number and no part
+-- 1 for a literal and a name, else 1 more than the greatest depth of the parts; a literal exponent is a number and no part
 abbrev mutual
   pub depth : Syntax → ℕ
   depth (number digits) = 1
   depth (variable x) = 1
   depth (negated s) = suc (depth s)
   depth (joined op a b) = suc (max (depth a) (depth b))
-  depth (raised a b) = suc (depth a)
+  depth (raised a b) = if is_literal b then suc (depth a) else suc (max (depth a) (depth b))
   depth (applied x all) = suc (deepest all)
 
   pub deepest : Arguments → ℕ

@@ -6,5 +6,6 @@ pub mod Reading
 pub mod Front
 pub mod View
 pub mod Flaws
+pub mod Constants
 pub mod Partial
 pub mod Stack

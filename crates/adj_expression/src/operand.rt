@@ -1,46 +1,47 @@
 //! Expressions that are still read.
 
-ghost use Rattle.std.specs.Prelude.{◌≡◌, ◌<◌, ◌≤◌, ◌+◌, ◌∷◌, [], ◌++◌, ℤ, map, length, true, pos, option_and_then, IfOk};
+ghost use Rattle.std.specs.Prelude.{◌≡◌, ◌<◌, ◌≤◌, ◌+◌, ◌∷◌, [], ◌++◌, ℤ, map, length, pos, IfOk};
 ghost use Rattle.adj_tree.specs.View.{term_of, op_of};
 ghost use Rattle.adj_text.specs.Char.{number_of};
-ghost use Rattle.adj_text.specs.Grammar.{in_words, as_exponent};
+ghost use Rattle.adj_text.specs.Grammar.{in_words};
+ghost use Rattle.adj_expression.specs.Constants.{exponent_of};
 ghost use Rattle.adj_expression.specs.Flaws.{as_power};
 ghost use Rattle.adj_expression.specs.View.{seen};
 
 use crate::application::{one_argument, two_arguments};
-use crate::constant;
+use crate::constant::{self, Constant};
 use crate::flaw::{Flaw, both};
 use adj_tree::{Expr, Memory, Name, Op};
 use std::alloc::Global;
 
-/// An expression: its tree or what is wrong with it, its depth or 1 more than the limit where it is deeper, and its value
-/// where it is a constant. One that is too deep isn't kept, so no tree is ever deeper than the limit.
+/// An expression: its tree or what is wrong with it, its depth or 1 more than the limit where it is deeper, and what it is
+/// as an exponent. One that is too deep isn't kept, so no tree is ever deeper than the limit.
 #[derive(Drop)]
 pub(crate) struct Operand {
     pub found: Result<Expr, Flaw>,
     pub depth: u32,
-    pub constant: Option<i64>,
+    pub constant: Constant,
     ghost shallow: { depth ≤ 1000 },
 }
 
-// The exponent that an expression is. Of its own flaws only a literal that is too large counts.
-fn exponent(found: Result<Expr, Flaw>, constant: Option<i64>) -> Result<u32, Flaw>
-    ensures { result ≡ as_power (seen term_of found) (option_and_then as_exponent constant) }
+// The exponent that a literal expression is. Of its own flaws only a literal that is too large counts.
+fn exponent(found: Result<Expr, Flaw>, constant: Constant) -> Result<u32, Flaw>
+    ensures { result ≡ as_power (seen term_of found) (exponent_of constant) }
 {
     if let Err(Flaw::Large) = found {
         return Err(Flaw::Large);
     }
-    match constant {
-        Some(k) if 0 <= k && k <= 63 => Ok(k as u32),
-        _ => Err(Flaw::Exponent),
+    match constant.exponent() {
+        Some(k) => Ok(k),
+        None => Err(Flaw::Exponent),
     }
 }
 
 impl Operand {
-    ghost use Rattle.adj_expression.specs.Partial.{literal, scalar, opposite, combined, powered, application, bounded, algebra, operand_of};
+    ghost use Rattle.adj_expression.specs.Partial.{literal, scalar, opposite, combined, to_literal, to_expression, powered, application, bounded, algebra, operand_of};
     ghost use Rattle.adj_text.specs.Machine.{with_sign};
 
-    fn bounded(found: Result<Expr, Flaw>, depth: u32, constant: Option<i64>, limit: u32) -> Operand
+    fn bounded(found: Result<Expr, Flaw>, depth: u32, constant: Constant, limit: u32) -> Operand
         requires { limit < 1000 }
         ensures { operand_of result ≡ bounded limit (seen term_of found) depth constant }
     {
@@ -69,8 +70,8 @@ impl Operand {
         ensures { operand_of result ≡ literal limit (in_words (pos (number_of digits.now))) }
     {
         match constant::literal(digits) {
-            None => Operand::bounded(Err(Flaw::Large), 1, None, limit),
-            Some(n) => Operand::bounded(Ok(Expr::Lit(n)), 1, Some(n), limit),
+            None => Operand::bounded(Err(Flaw::Large), 1, Constant::Beyond, limit),
+            Some(n) => Operand::bounded(Ok(Expr::Lit(n)), 1, Constant::Word(n), limit),
         }
     }
 
@@ -79,7 +80,7 @@ impl Operand {
         requires { limit < 1000 }
         ensures { operand_of result ≡ scalar limit name }
     {
-        Operand::bounded(Ok(Expr::Var(name)), 1, None, limit)
+        Operand::bounded(Ok(Expr::Var(name)), 1, Constant::Other, limit)
     }
 
     /// Behind a minus sign.
@@ -96,11 +97,7 @@ impl Operand {
             Ok(e) => Ok(Expr::Neg(Box::new(alloc, e)?)),
             Err(flaw) => Err(flaw),
         };
-        let constant = match constant {
-            Some(n) => n.checked_neg(),
-            None => None,
-        };
-        Ok(Operand::bounded(found, depth + 1, constant, limit))
+        Ok(Operand::bounded(found, depth + 1, constant.opposite(), limit))
     }
 
     /// The sum, difference, product or quotient.
@@ -115,10 +112,7 @@ impl Operand {
         ensures { IfOk result (λ x. operand_of x ≡ combined limit (op_of op) (operand_of self) (operand_of right)) }
     {
         let depth = self.depth.max(right.depth) + 1;
-        let constant = match (self.constant, right.constant) {
-            (Some(a), Some(b)) => constant::joined(op, a, b),
-            _ => None,
-        };
+        let constant = self.constant.joined(op, right.constant);
         let found = match both(self.found, right.found) {
             Ok((a, b)) => Ok(Expr::Bin(op, Box::new(alloc, a)?, Box::new(alloc, b)?)),
             Err(flaw) => Err(flaw),
@@ -126,21 +120,43 @@ impl Operand {
         Ok(Operand::bounded(found, depth, constant, limit))
     }
 
-    /// The power with this exponent.
-    pub fn powered(self, alloc: Global, right: Operand, limit: u32) -> Result<Operand, Memory>
+    // The power with a literal exponent, of which the tree keeps the value.
+    fn to_literal(self, alloc: Global, right: Operand, limit: u32) -> Result<Operand, Memory>
         requires { limit < 1000 }
-        ensures { IfOk result (λ x. operand_of x ≡ powered limit (operand_of self) (operand_of right)) }
+        ensures { IfOk result (λ x. operand_of x ≡ to_literal limit (operand_of self) (operand_of right)) }
     {
         let depth = self.depth + 1;
-        let constant = match (self.constant, right.constant) {
-            (Some(a), Some(b)) => constant::power(a, b),
-            _ => None,
-        };
+        let constant = self.constant.powered(right.constant);
         let found = match both(self.found, exponent(right.found, right.constant)) {
             Ok((a, k)) => Ok(Expr::Pow(Box::new(alloc, a)?, k)),
             Err(flaw) => Err(flaw),
         };
         Ok(Operand::bounded(found, depth, constant, limit))
+    }
+
+    // The power with any other exponent.
+    fn to_expression(self, alloc: Global, right: Operand, limit: u32) -> Result<Operand, Memory>
+        requires { limit < 1000 }
+        ensures { IfOk result (λ x. operand_of x ≡ to_expression limit (operand_of self) (operand_of right)) }
+    {
+        let depth = self.depth.max(right.depth) + 1;
+        let found = match both(self.found, right.found) {
+            Ok((a, b)) => Ok(Expr::Power(Box::new(alloc, a)?, Box::new(alloc, b)?)),
+            Err(flaw) => Err(flaw),
+        };
+        Ok(Operand::bounded(found, depth, Constant::Other, limit))
+    }
+
+    /// The power with this exponent.
+    pub fn powered(self, alloc: Global, right: Operand, limit: u32) -> Result<Operand, Memory>
+        requires { limit < 1000 }
+        ensures { IfOk result (λ x. operand_of x ≡ powered limit (operand_of self) (operand_of right)) }
+    {
+        if right.constant.is_other() {
+            self.to_expression(alloc, right, limit)
+        } else {
+            self.to_literal(alloc, right, limit)
+        }
     }
 
     // A name with one argument.
@@ -153,7 +169,7 @@ impl Operand {
             Ok(a) => Ok(one_argument(name, alloc, a)?),
             Err(flaw) => Err(flaw),
         };
-        Ok(Operand::bounded(found, depth + 1, None, limit))
+        Ok(Operand::bounded(found, depth + 1, Constant::Other, limit))
     }
 
     // A name with two arguments.
@@ -172,7 +188,7 @@ impl Operand {
             Ok((a, b)) => Ok(two_arguments(name, alloc, a, b)?),
             Err(flaw) => Err(flaw),
         };
-        Ok(Operand::bounded(found, depth, None, limit))
+        Ok(Operand::bounded(found, depth, Constant::Other, limit))
     }
 
     /// A name with its arguments, of which there are as many as it takes.

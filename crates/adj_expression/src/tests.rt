@@ -82,6 +82,13 @@ pub(crate) fn push_expr(out: &mut String, expr: &Expr) -> Result<(), AllocError>
             push_expr(out, base)?;
             out.push_str(")")
         }
+        Expr::Power(base, exponent) => {
+            out.push_str("(Power ")?;
+            push_expr(out, base)?;
+            out.push_str(" ")?;
+            push_expr(out, exponent)?;
+            out.push_str(")")
+        }
         Expr::Abs(inner) => {
             out.push_str("Abs ")?;
             push_expr(out, inner)
@@ -138,6 +145,16 @@ fn an_expression_is_read_at_the_front(rt: HostRuntime) -> Result<(), Fail> {
         ("9223372036854775807", "9223372036854775807, 0"),
         ("9223372036854775808", "Large, 0"),
         ("X ** 9223372036854775808", "Large, 0"),
+        ("X ** N", "(Power X N), 0"),
+        ("X ** ( N + 1 )", "(Power X (Add N 1)), 0"),
+        ("X ** 2 ** N", "(Power X (Power 2 N)), 0"),
+        ("( X ** 2 ) ** N", "(Power (Pow 2 X) N), 0"),
+        ("- X ** N", "Neg (Power X N), 0"),
+        ("X ** ( 4 / 2 )", "(Power X (Quot 4 2)), 0"),
+        ("X ** ( N + 1 + 1 )", "(Power X (Add (Add N 1) 1)), 0"),
+        ("X ** ( N + 1 + 1 + 1 )", "Deep, 0"),
+        ("X ** ( N + 9223372036854775808 )", "Large, 0"),
+        ("X ** N ** 64", "Exponent, 0"),
         ("A ( B + 1 + 1 )", "A@(Add (Add B 1) 1), 0"),
         ("A ( B + 1 + 1 + 1 )", "Deep, 0"),
         ("MOD ( A )", "none"),
@@ -167,8 +184,10 @@ fn a_deep_expression_is_read_without_recursion(rt: HostRuntime) -> Result<(), Fa
         ("ABS ( ", "A", " )", "Deep, 0"),
         ("MAX ( A , ", "A", " )", "Deep, 0"),
         ("A + ", "A", "", "Deep, 0"),
-        ("A ** ", "1", "", "Exponent, 0"),
+        ("A ** ", "1", "", "Deep, 0"),
         ("1 ** ", "2", "", "(Pow 1 1), 0"),
+        ("A ** ( ", "B", " )", "Deep, 0"),
+        ("1 ** ( ", "2", " )", "(Pow 1 1), 0"),
         ("A , ", "A", "", "A, 40000"),
         ("( A , ", "A", "", "none"),
     ];

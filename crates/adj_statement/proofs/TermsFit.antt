@@ -2,11 +2,11 @@
 use Rattle.std.proofs.Common.{◌≡◌, ℕ, ◌<◌, ◌^◌, pos, Bool, true, false, List, Option, Some, None, subst}
 use Rattle.std.proofs.lemmas.Bool.{leb-false, or_parts}
 use Rattle.std.specs.Prelude.{codes, if◌then◌else◌}
-use Rattle.adj_tree.specs.Code.{Var, plain, Op, Term, Terms, lit, var, elem, neg, bin, pow, abs, none, more, name_eq, Test, compare, negation, conjunction, disjunction, Runtime, push_word, pop_word, push_array, pop_array, pop_control, zero_array}
+use Rattle.adj_tree.specs.Code.{Var, plain, Op, Term, Terms, lit, var, elem, neg, bin, pow, power_of, abs, none, more, name_eq, Test, compare, negation, conjunction, disjunction, Runtime, push_word, pop_word, push_array, pop_array, pop_control, zero_array}
 use Rattle.adj_text.specs.Char.{number_of}
 use Rattle.adj_text.specs.Condition.{Condition, compared, denied, both, either, test}
 use Rattle.adj_text.specs.Fits.{FitsTerm, FitsTerms, FitsTest, FitsRuntime, FitsAct}
-use Rattle.adj_text.specs.Grammar.{Syntax, number, variable, negated, joined, raised, applied, Arguments, only, beside, exponent, tree, trees_before, operation_of, is_absolute, application_of, two_arguments}
+use Rattle.adj_text.specs.Grammar.{Syntax, number, variable, negated, joined, raised, applied, Arguments, only, beside, is_literal, exponent, with_both, tree, trees_before, operation_of, is_absolute, application_of, two_arguments}
 use Rattle.adj_text.specs.Statement.{as_place, as_name, as_value, as_beginning, as_count, as_action, as_nothing, runtime_call, called, called_as}
 use Rattle.adj_text.proofs.Parts.{map_some, then_some, both_some}
 use Rattle.adj_expression.specs.Judged.{has_large, any_large, test_large}
@@ -32,7 +32,12 @@ mutual
   tree_fits (variable x) t h e = let same : var (plain x) ≡ t = cc in subst FitsTerm same tt
   tree_fits (negated s) t h e = let r = map_some neg (tree s) t e in subst FitsTerm r.2 (tree_fits s r.0 h r.1)
   tree_fits (joined op a b) t h e = let n = or_parts (has_large a) (has_large b) h in let r = both_some (bin op) (tree a) (tree b) t e in subst FitsTerm r.4 (tree_fits a r.0 n.0 r.2, tree_fits b r.1 n.1 r.3)
-  tree_fits (raised a b) t h e = let n = or_parts (has_large a) (has_large b) h in let r = both_some pow (tree a) (exponent b) t e in subst FitsTerm r.4 (tree_fits a r.0 n.0 r.2)
+  tree_fits (raised a b) t h e =
+      let n = or_parts (has_large a) (has_large b) h in
+      elim (is_literal b) as (λ l. (if l then with_both (λ t k. Some (pow t k)) (tree a) (exponent b) else with_both (λ t u. Some (power_of t u)) (tree a) (tree b)) ≡ Some t → FitsTerm t) [
+        | true ↦ λ g. let r = both_some pow (tree a) (exponent b) t g in subst FitsTerm r.4 (tree_fits a r.0 n.0 r.2)
+        | false ↦ λ g. let r = both_some power_of (tree a) (tree b) t g in subst FitsTerm r.4 (tree_fits a r.0 n.0 r.2, tree_fits b r.1 n.1 r.3)
+      ] e
   tree_fits (applied x all) t h e = let r = map_some (application_of x) (trees_before all none) t e in subst FitsTerm r.2 (application_fits x r.0 (trees_fit all none r.0 h tt r.1))
 
   pub trees_fit : (all : Arguments) (rest ts : Terms) → any_large all ≡ false → FitsTerms rest → trees_before all rest ≡ Some ts → FitsTerms ts

@@ -80,7 +80,7 @@ phrase_deep limit (goes_while c) = test_deep limit c
 phrase_deep limit (opens c) = test_deep limit c
 phrase_deep limit (turns c) = test_deep limit c
 
--- the trees of the expressions of a list, where each of their exponents is one
+-- the trees of the expressions of a list, where each literal exponent in them is one
 abbrev pub list_trees : Option Arguments → Option Terms
 list_trees None = Some none
 list_trees (Some all) = trees_before all none

@@ -1,7 +1,7 @@
 -- Where the variables of straight code keep their names, the table of a unit's names renames its adjoint as code does.
 use Rattle.std.proofs.Common.{◌≡◌, ℕ, zero, suc, ◌+◌, Bool, true, false, List, [], ◌∷◌, refl, sym, ap, ◌∙◌}
 use Rattle.std.specs.Prelude.{pos}
-use Rattle.adj_tree.specs.Code.{Var, plain, shadow, helper, work, temp, plus, minus, times, quot, modulo, greater, lesser, Term, lit, var, elem, neg, bin, pow, abs, none, more, assign, choose, loop, call, runtime, push_word, pop_word, Code, stop, step}
+use Rattle.adj_tree.specs.Code.{Var, plain, shadow, helper, work, temp, plus, minus, times, quot, modulo, greater, lesser, Term, lit, var, elem, neg, bin, pow, power_of, abs, none, more, assign, choose, loop, during, call, runtime, push_word, pop_word, Code, stop, step}
 use Rattle.adj_word.specs.Pairing.{stands_in}
 use Rattle.adj_meaning.specs.Append.{◌+++◌, one}
 use Rattle.adj_meaning.specs.Rename.{rename, rename_term}
@@ -41,6 +41,7 @@ module _ (n : Names) (xs : List Key) (keeps : (x : List ℕ) → stands_in key_e
   term_same (neg a) h = ap neg (term_same a h)
   term_same (bin op a b) h = λ i. bin op (term_same a h.1.0 i) (term_same b h.1.1 i)
   term_same (pow a k) h = ap (λ e. pow e k) (term_same a h)
+  term_same (power_of a b) h = absurd h
   term_same (abs a) h = absurd h
 
   own_or_same : (t : Bool) (j : ℕ) (e : Term) → AreSameTerms e → AreSameTerms (own_or t j e)
@@ -66,6 +67,7 @@ module _ (n : Names) (xs : List Key) (keeps : (x : List ℕ) → stands_in key_e
   shrunk_same (pow a zero) j h = term_same (pow a zero) h
   shrunk_same (pow a (suc zero)) j h = ap (λ e. pow e 1) (shrunk_same a j h)
   shrunk_same (pow a (suc (suc k))) j h = ap (λ e. pow e (suc (suc k))) (own_or_same (has_own a a) (j + temps_in a) (shrunk a j) (shrunk_same a j h))
+  shrunk_same (power_of a b) j h = absurd h
   shrunk_same (abs a) j h = absurd h
 
   -- ---- temporaries
@@ -96,6 +98,7 @@ module _ (n : Names) (xs : List Key) (keeps : (x : List ℕ) → stands_in key_e
   temps_same (pow a (suc zero)) j line h = temps_same a j line h
   temps_same (pow a (suc (suc k))) j line h =
       both (temps a j line) (own_code (has_own a a) line (j + temps_in a) (shrunk a j)) (temps_same a j line h) (own_same (has_own a a) line (j + temps_in a) (shrunk a j) (shrunk_same a j h))
+  temps_same (power_of a b) j line h = absurd h
   temps_same (abs a) j line h = absurd h
 
   -- ---- what is added to shadows
@@ -138,6 +141,7 @@ module _ (n : Names) (xs : List Key) (keeps : (x : List ℕ) → stands_in key_e
       let same : AreSameTerms value = own_or_same (has_own a a) (j + temps_in a) a (term_same a h) in
       scaled_same (is_active a) line k (bin times share (pow value (suc m))) (back a (suc k) j line)
       (ap (λ v. bin times (bin times (var (naming (table_of n) (helper work k))) (lit (pos (suc (suc m))))) (pow v (suc m))) same) (back_same a (suc k) j line h)
+  back_same (power_of a b) k j line h = absurd h
   back_same (abs a) k j line h = absurd h
 
   -- ---- sweeps
@@ -160,6 +164,7 @@ module _ (n : Names) (xs : List Key) (keeps : (x : List ℕ) → stands_in key_e
   forward_same (step line (assign (helper r k) subs e) rest) h = absurd h
   forward_same (step line (choose c a b) rest) h = absurd h
   forward_same (step line (loop x a b c body m) rest) h = absurd h
+  forward_same (step line (during c body) rest) h = absurd h
   forward_same (step line (call name args) rest) h = absurd h
   forward_same (step line (runtime r) rest) h = absurd h
 
@@ -173,6 +178,7 @@ module _ (n : Names) (xs : List Key) (keeps : (x : List ℕ) → stands_in key_e
   backward_same (step line (assign (helper r k) subs e) rest) h = absurd h
   backward_same (step line (choose c a b) rest) h = absurd h
   backward_same (step line (loop x a b c body m) rest) h = absurd h
+  backward_same (step line (during c body) rest) h = absurd h
   backward_same (step line (call name args) rest) h = absurd h
   backward_same (step line (runtime r) rest) h = absurd h
 

@@ -2,7 +2,7 @@
 use Rattle.std.proofs.Common.{◌≡◌, ℕ, zero, suc, ◌+◌, ◌<◌, ◌≤◌, ◌^◌, max, Bool, true, false, List, refl, sym, subst, arith}
 use Rattle.std.specs.Prelude.{pos, ◌||◌}
 use Rattle.adj_text.specs.Written.{IsVariable, IsWrittenTerm, IsWrittenCode}
-use Rattle.adj_tree.specs.Code.{Var, plain, shadow, helper, work, temp, plus, minus, times, quot, modulo, greater, lesser, Term, lit, var, elem, neg, bin, pow, abs, none, more, assign, choose, loop, call, runtime, Code, stop, step}
+use Rattle.adj_tree.specs.Code.{Var, plain, shadow, helper, work, temp, plus, minus, times, quot, modulo, greater, lesser, Term, lit, var, elem, neg, bin, pow, power_of, abs, none, more, assign, choose, loop, during, call, runtime, Code, stop, step}
 use Rattle.adj_word.specs.Pairing.{stands_in}
 use Rattle.adj_meaning.specs.Append.{◌+++◌, one}
 use Rattle.adj_meaning.specs.Rename.{rename, rename_term}
@@ -64,6 +64,7 @@ module _ (r : Var → Var) (xs : List Key) (works temps_named : ℕ) (plains : (
   term-written (neg a) o w = term-written a o w
   term-written (bin op a b) o w = (term-written a o.1.0 w.0, term-written b o.1.1 w.1)
   term-written (pow a k) o w = (term-written a o w.0, w.1)
+  term-written (power_of a b) o w = absurd o
   term-written (abs a) o w = absurd o
 
   own_or-written : (t : Bool) (j : ℕ) (e : Term) → 1 ≤ j → j + count_of t ≤ suc temps_named → IsWrittenTerm (rename_term r e) → IsWrittenTerm (rename_term r (own_or t j e))
@@ -90,6 +91,7 @@ module _ (r : Var → Var) (xs : List Key) (works temps_named : ℕ) (plains : (
   shrunk-written (pow a (suc zero)) j o w low high = (shrunk-written a j o w.0 low high, w.1)
   shrunk-written (pow a (suc (suc k))) j o w low high =
       (own_or-written (has_own a a) (j + temps_in a) (shrunk a j) (omega arith) (omega arith) (shrunk-written a j o w.0 low (omega arith)), w.1)
+  shrunk-written (power_of a b) j o w low high = absurd o
   shrunk-written (abs a) j o w low high = absurd o
 
   -- ---- temporaries
@@ -124,6 +126,7 @@ module _ (r : Var → Var) (xs : List Key) (works temps_named : ℕ) (plains : (
   temps-written (pow a (suc (suc k))) j line o w low high =
       both (temps a j line) (own_code (has_own a a) line (j + temps_in a) (shrunk a j)) (temps-written a j line o w.0 low (omega arith))
       (own-written (has_own a a) line (j + temps_in a) (shrunk a j) (omega arith) (omega arith) (shrunk-written a j o w.0 low (omega arith)))
+  temps-written (power_of a b) j line o w low high = tt
   temps-written (abs a) j line o w low high = tt
 
   -- ---- what is added to shadows
@@ -172,6 +175,7 @@ module _ (r : Var → Var) (xs : List Key) (works temps_named : ℕ) (plains : (
       scaled-written a line k (bin times (bin times (work_var k) (lit (pos n))) (pow value (suc m))) (back a (suc k) j line) low least
       (λ h. ((work-named k low h, word), (own_or-written (has_own a a) (j + temps_in a) a (omega arith) (omega arith) (term-written a o w.0), less)))
       (back-written a (suc k) j line o w.0 (omega arith) least first (omega arith))
+  back-written (power_of a b) k j line o w low least first last = tt
   back-written (abs a) k j line o w low least first last = tt
 
   -- ---- sweeps
@@ -193,6 +197,7 @@ module _ (r : Var → Var) (xs : List Key) (works temps_named : ℕ) (plains : (
   forward-written (step line (assign (helper s k) subs e) rest) o w = absurd o
   forward-written (step line (choose c a b) rest) o w = absurd o
   forward-written (step line (loop x a b c body m) rest) o w = absurd o
+  forward-written (step line (during c body) rest) o w = absurd o
   forward-written (step line (call name args) rest) o w = absurd o
   forward-written (step line (runtime s) rest) o w = absurd o
 
@@ -206,5 +211,6 @@ module _ (r : Var → Var) (xs : List Key) (works temps_named : ℕ) (plains : (
   backward-written (step line (assign (helper s k) subs e) rest) o w most all = absurd o
   backward-written (step line (choose c a b) rest) o w most all = absurd o
   backward-written (step line (loop x a b c body m) rest) o w most all = absurd o
+  backward-written (step line (during c body) rest) o w most all = absurd o
   backward-written (step line (call name args) rest) o w most all = absurd o
   backward-written (step line (runtime s) rest) o w most all = absurd o

@@ -109,7 +109,7 @@ pub fn back(
     ensures steps { IfOk result (λ c. code_of c ≡ rename (named_by n.now) (back (term_of e.now) work temp line) +++ code_of rest) }
 {
     match e {
-        Expr::Lit(_) | Expr::Abs(_) => Ok(rest),
+        Expr::Lit(_) | Expr::Power(_, _) | Expr::Abs(_) => Ok(rest),
         Expr::Var(x) => grow_scalar(alloc, n, line, x, work, rest),
         Expr::Elem(x, subs) => grow_element(alloc, n, line, x, subs, work, rest),
         Expr::Neg(a) => {

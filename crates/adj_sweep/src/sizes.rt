@@ -21,7 +21,7 @@ pub fn is_active(e: &Expr) -> bool
     ensures active { result ≡ is_active (term_of e.now) }
 {
     match e {
-        Expr::Lit(_) | Expr::Abs(_) => false,
+        Expr::Lit(_) | Expr::Power(_, _) | Expr::Abs(_) => false,
         Expr::Var(_) | Expr::Elem(_, _) => true,
         Expr::Neg(a) => is_active(a),
         Expr::Bin(op, a, b) => match op {
@@ -38,7 +38,11 @@ pub fn is_compound(e: &Expr) -> bool
 {
     match e {
         Expr::Lit(_) | Expr::Var(_) | Expr::Elem(_, _) => false,
-        Expr::Neg(_) | Expr::Bin(_, _, _) | Expr::Pow(_, _) | Expr::Abs(_) => true,
+        Expr::Neg(_)
+        | Expr::Bin(_, _, _)
+        | Expr::Pow(_, _)
+        | Expr::Power(_, _)
+        | Expr::Abs(_) => true,
     }
 }
 
@@ -127,7 +131,7 @@ pub fn measured(e: &Expr) -> Result<Measure, Memory>
     ensures temps { IfOk result (λ m. m.temps ≡ temps_in (term_of e.now)) }
 {
     match e {
-        Expr::Lit(_) | Expr::Abs(_) => Ok(leaf(false)),
+        Expr::Lit(_) | Expr::Power(_, _) | Expr::Abs(_) => Ok(leaf(false)),
         Expr::Var(_) | Expr::Elem(_, _) => Ok(leaf(true)),
         Expr::Neg(a) => measured(a),
         Expr::Bin(op, a, b) => match op {
@@ -148,7 +152,7 @@ pub fn works_in(e: &Expr, work: usize) -> Result<usize, Memory>
     ensures works { IfOk result (λ w. w ≡ works_in (term_of e.now) work) }
 {
     match e {
-        Expr::Lit(_) | Expr::Abs(_) => Ok(0),
+        Expr::Lit(_) | Expr::Power(_, _) | Expr::Abs(_) => Ok(0),
         Expr::Var(_) | Expr::Elem(_, _) => Ok(work),
         Expr::Neg(a) => works_in(a, plus(work, 1)?),
         Expr::Bin(op, a, b) => match op {

@@ -66,7 +66,11 @@ fn backward_statement(alloc: Global, n: &Names, stmt: &Stmt, rest: Stmts) -> Res
             let code = before(alloc, pop(stmt.line, popped), adjoint)?;
             Ok(code)
         }
-        Act::If(_, _, _) | Act::Loop(_, _, _, _, _, _) | Act::Call(_, _) | Act::Run(_) => Ok(rest),
+        Act::If(_, _, _)
+        | Act::Loop(_, _, _, _, _, _)
+        | Act::While(_, _)
+        | Act::Call(_, _)
+        | Act::Run(_) => Ok(rest),
     }
 }
 

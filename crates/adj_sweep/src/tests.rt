@@ -72,7 +72,7 @@ fn write_term(out: &mut Vec<u8>, e: &Expr) -> Result<(), Memory> {
             write_term(out, b)?;
             out.push(b')')?;
         }
-        Expr::Elem(_, _) | Expr::Pow(_, _) | Expr::Abs(_) => out.push(b'?')?,
+        Expr::Elem(_, _) | Expr::Pow(_, _) | Expr::Power(_, _) | Expr::Abs(_) => out.push(b'?')?,
     }
     Ok(())
 }

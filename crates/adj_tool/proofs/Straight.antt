@@ -3,7 +3,7 @@ use Rattle.std.proofs.Common.{arith, ◌≡◌, ℕ, zero, suc, Bool, true, fals
 use Rattle.std.specs.Prelude.{◌==◌, ◌&&◌, ◌||◌, not, if◌then◌else◌}
 use Rattle.std.specs.Option.{option_or}
 use Rattle.std.specs.List.{All, list_all}
-use Rattle.adj_tree.specs.Code.{plain, shadow, helper, name_eq, Op, plus, minus, times, quot, modulo, greater, lesser, Term, lit, var, elem, neg, bin, pow, abs, none, more, Act, assign, choose, loop, call, runtime, Code, stop, step, Declaration, Procedure}
+use Rattle.adj_tree.specs.Code.{plain, shadow, helper, name_eq, Op, plus, minus, times, quot, modulo, greater, lesser, Term, lit, var, elem, neg, bin, pow, power_of, abs, none, more, Act, assign, choose, loop, during, call, runtime, Code, stop, step, Declaration, Procedure}
 use Rattle.adj_tree.proofs.Names.{nat_same, name_refl, name_same}
 use Rattle.adj_word.specs.Pairing.{stands_in}
 use Rattle.adj_text.specs.Char.{is_capital}
@@ -165,6 +165,7 @@ module _ (u : Procedure) where
       let r = and_true (is_over (declared u) a) (is_over (declared u) b) h in
       (operation_treated op p.0, (term_over a q.0 r.0, term_over b q.1 r.1))
   term_over (pow a k) t h = cc
+  term_over (power_of a b) t h = cc
   term_over (abs a) t h = cc
 
   -- a treated statement over declared names, before straight code
@@ -177,6 +178,7 @@ module _ (u : Procedure) where
   act_over line (assign (helper r k) b e) rest t h s = cc
   act_over line (choose c a b) rest t h s = cc
   act_over line (loop x a b c body n) rest t h s = cc
+  act_over line (during c body) rest t h s = cc
   act_over line (call x es) rest t h s = cc
   act_over line (runtime r) rest t h s = cc
 

@@ -22,7 +22,7 @@ fn is_treated_term(term: &Expr) -> bool
         Expr::Bin(op, left, right) => {
             is_treated(*op) && is_treated_term(left) && is_treated_term(right)
         }
-        Expr::Elem(_, _) | Expr::Pow(_, _) | Expr::Abs(_) => false,
+        Expr::Elem(_, _) | Expr::Pow(_, _) | Expr::Power(_, _) | Expr::Abs(_) => false,
     }
 }
 

@@ -81,7 +81,7 @@ fn is_over(names: &NameSet<'_>, term: &Expr) -> bool
         Expr::Var(name) => names.contains(name),
         Expr::Neg(inner) => is_over(names, inner),
         Expr::Bin(_, left, right) => is_over(names, left) && is_over(names, right),
-        Expr::Elem(_, _) | Expr::Pow(_, _) | Expr::Abs(_) => false,
+        Expr::Elem(_, _) | Expr::Pow(_, _) | Expr::Power(_, _) | Expr::Abs(_) => false,
     }
 }
 

@@ -9,7 +9,7 @@ use std::alloc::Global;
 
 // A body that is one statement or more, and its canonical text or its refusal. Line 1 is the SUBROUTINE of the unit round it.
 // A line that begins with a blank or is a directive stands as it is; any other begins in column 7.
-const ASSIGNMENTS: [(&str, &str); 48] = [
+const ASSIGNMENTS: [(&str, &str); 54] = [
     ("X=A+B*C", "X=A+B*C"),
     ("X=(A+B)*C", "X=(A+B)*C"),
     ("X=A-B-C", "X=A-B-C"),
@@ -36,7 +36,13 @@ const ASSIGNMENTS: [(&str, &str); 48] = [
     ("X=A**63", "X=A**63"),
     ("X=A**64", "REFUSED 25 LINE 2\n"),
     ("X=A**(-1)", "REFUSED 25 LINE 2\n"),
-    ("X=A**N", "REFUSED 25 LINE 2\n"),
+    ("X=A**N", "X=A**N"),
+    ("X=A**(N+1)", "X=A**(N+1)"),
+    ("X=A**2**N", "X=A**2**N"),
+    ("X=(A**2)**N", "X=(A**2)**N"),
+    ("X=-A**N", "X=-A**N"),
+    ("X=A**(4/2)", "X=A**(4/2)"),
+    ("X=A**N**64", "REFUSED 25 LINE 2\n"),
     ("X=A**(2**(1-2))", "REFUSED 25 LINE 2\n"),
     (
         "X=A**(9223372036854775807+1-9223372036854775807)",

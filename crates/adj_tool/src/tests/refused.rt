@@ -4,7 +4,7 @@ use super::{SQUARE, WORDS, comes_to};
 use adj_tree::Memory;
 
 // Texts, and the line of the first statement of a form that isn't treated yet.
-const UNTREATED: [(&[u8], &str); 20] = [
+const UNTREATED: [(&[u8], &str); 23] = [
     (
         b"      SUBROUTINE P(X,Y)\n      INTEGER*8 X,Y\n      Y=X/2\n      END\n",
         "REFUSED 3 LINE 3\n",
@@ -59,6 +59,18 @@ const UNTREATED: [(&[u8], &str); 20] = [
     ),
     (
         b"      SUBROUTINE P(X,Y)\n      INTEGER*8 X,Y\nC$AD BINOMIAL-CKP 2\n      DO I=1,3\n      Y=Y*X\n      END DO\n      END\n",
+        "REFUSED 3 LINE 4\n",
+    ),
+    (
+        b"      SUBROUTINE P(X,Y)\n      INTEGER*8 X,Y\nC$AD BINOMIAL-CKP X\n      DO I=1,3\n      Y=Y*X\n      END DO\n      END\n",
+        "REFUSED 3 LINE 4\n",
+    ),
+    (
+        b"      SUBROUTINE P(X,Y)\n      INTEGER*8 X,Y\n      Y=X\n      DO WHILE (Y.LT.5)\n      Y=Y+X\n      END DO\n      END\n",
+        "REFUSED 3 LINE 4\n",
+    ),
+    (
+        b"      SUBROUTINE P(X,N,Y)\n      INTEGER*8 X,N,Y\n      Y=X\n      Y=X**N\n      END\n",
         "REFUSED 3 LINE 4\n",
     ),
     (
