@@ -9,7 +9,7 @@ ghost use Rattle.adj_expression.specs.Constants.{valued, negated_constant, joine
 use adj_tree::Op;
 
 /// What an expression is as an exponent.
-#[derive(Clone, Copy, PartialEq, Eq, Debug)]
+#[derive(Clone, Copy)]
 pub(crate) enum Constant {
     /// Not literal: something else stands in it than literals, signs, sums, differences, products and powers.
     Other,

@@ -186,6 +186,8 @@ fn a_deep_expression_is_read_without_recursion(rt: HostRuntime) -> Result<(), Fa
         ("A + ", "A", "", "Deep, 0"),
         ("A ** ", "1", "", "Deep, 0"),
         ("1 ** ", "2", "", "(Pow 1 1), 0"),
+        ("A ** ( ", "B", " )", "Deep, 0"),
+        ("1 ** ( ", "2", " )", "(Pow 1 1), 0"),
         ("A , ", "A", "", "A, 40000"),
         ("( A , ", "A", "", "none"),
     ];

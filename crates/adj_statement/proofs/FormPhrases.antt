@@ -1,16 +1,16 @@
 -- FormPhrases: what the grammar of texts reads of the words of a statement is the form of what they say.
 use Rattle.std.proofs.Common.{◌≡◌, ℕ, pos, List, [], ◌∷◌, map, Option, Some, None, option_map, refl, ap, ◌∙◌, arith}
-use Rattle.adj_tree.specs.Code.{Var, plain, Term, Terms, lit, Test, Act, assign, Extent}
+use Rattle.adj_tree.specs.Code.{Var, plain, Term, Terms, lit, Test, Mark, Act, assign, Extent}
 use Rattle.adj_text.specs.Char.{number_of}
 use Rattle.adj_text.specs.Condition.{Condition, test}
-use Rattle.adj_text.specs.Form.{Form, subroutine, implicit_none, integers, simple, logical, opens_do, opens_if, otherwise, otherwise_if, end_do, go_on, end_if, leaves, ends, ReadsForm}
+use Rattle.adj_text.specs.Form.{Form, subroutine, implicit_none, integers, simple, logical, opens_do, opens_while, opens_if, otherwise, otherwise_if, end_do, go_on, end_if, leaves, ends, ReadsForm}
 use Rattle.adj_text.specs.Form as reads
 use Rattle.adj_text.specs.Grammar.{with_both, tree}
 use Rattle.adj_text.specs.Statement.{Item, called, Range, ReadsPlace, ReadsAssignment, ReadsItem, ReadsItems, ReadsExtent, ReadsCall, ReadsRange, ReadsDo, ReadsGuard, ReadsGuarded}
 use Rattle.adj_text.specs.Statement as statement
 use Rattle.adj_text.specs.Word.{Word}
 use Rattle.adj_text.specs.declared.stated.Kind.{Kind}
-use Rattle.adj_statement.specs.Phrase.{Entry, Deed, assigns, calls, Size, numbered, named, Declared, Bounds, Phrase, plainly, declares, does, guards, repeats, opens, turns, SaysPlace, SaysAssignment, SaysCall, SaysSize, SaysItem, SaysItems, SaysBounds, by_one, by_step, SaysDo, SaysGuard, guard, SaysGuarded, Says}
+use Rattle.adj_statement.specs.Phrase.{Entry, Deed, assigns, calls, Size, numbered, named, Declared, Bounds, Phrase, plainly, declares, does, guards, repeats, goes_while, opens, turns, SaysPlace, SaysAssignment, SaysCall, SaysSize, SaysItem, SaysItems, SaysBounds, by_one, by_step, SaysDo, SaysGuard, guard, SaysGuarded, Says}
 use Rattle.adj_statement.specs.Phrase as says
 use Rattle.adj_statement.specs.Said.{list_trees, act, extent, item, range, form}
 
@@ -60,7 +60,7 @@ range_says (statement.by_one {x = x} {a = a} {b = b} d e) =
 range_says (statement.by_step {x = x} {a = a} {b = b} {c = c} d e f) =
     (record { counter = x; from = d.0; to = e.0; by = Some f.0 }, by_step d.1 e.1 f.1, both_made (λ (ends : Term × Term) c. record { counter = plain x; from = ends.0; to = ends.1; by = c }) (with_both (λ from to. Some (from, to)) (tree d.0) (tree e.0)) (tree f.0) (a, b) c (both_made {C = Term × Term} (λ from to. (from, to)) (tree d.0) (tree e.0) a b d.2 e.2) f.2)
 
-do_says : {ts : List Word} {l : Option ℕ} {r : Range} (mark : ℕ) → ReadsDo ts l r → (p : Phrase) × SaysDo ts p × (form mark p ≡ Some (opens_do l r mark))
+do_says : {ts : List Word} {l : Option ℕ} {r : Range} (mark : Mark) → ReadsDo ts l r → (p : Phrase) × SaysDo ts p × (form mark p ≡ Some (opens_do l r mark))
 do_says mark (statement.unlabelled g) = let b = range_says g in (repeats None b.0, says.unlabelled b.1, ap (option_map (λ r. opens_do None r mark)) b.2)
 do_says mark (statement.labelled {digits = ds} g) = let b = range_says g in (repeats (Some ds) b.0, says.labelled b.1, ap (option_map (λ r. opens_do (Some (number_of ds)) r mark)) b.2)
 do_says mark (statement.labelled_comma {digits = ds} g) = let b = range_says g in (repeats (Some ds) b.0, says.labelled_comma b.1, ap (option_map (λ r. opens_do (Some (number_of ds)) r mark)) b.2)
@@ -74,7 +74,7 @@ guarded_says (statement.assigned g) = let d = assignment_says g in (d.0, says.Sa
 guarded_says (statement.calls g) = let d = call_says g in (d.0, says.SaysGuarded.called d.1, d.2)
 
 -- what the words of a statement say has the form that is read of them
-pub form_says : {mark : ℕ} {kind : Kind} {ts : List Word} {f : Form} → ReadsForm mark kind ts f → (p : Phrase) × Says kind ts p × (form mark p ≡ Some f)
+pub form_says : {mark : Mark} {kind : Kind} {ts : List Word} {f : Form} → ReadsForm mark kind ts f → (p : Phrase) × Says kind ts p × (form mark p ≡ Some f)
 form_says (reads.heading {x = x} {dummies = dummies} g) = (plainly (subroutine x dummies), says.heading g, refl)
 form_says reads.implicit = (plainly implicit_none, says.implicit, refl)
 form_says (reads.declaration g) = let ds = items_say g in (declares ds.0, says.declaration ds.1, ap (λ is. Some (integers is)) ds.2)
@@ -85,6 +85,7 @@ form_says (reads.guarded {c = t} {a = a} g r) =
     let d = guarded_says r in
     (guards c.0 d.0, says.guarded c.1 d.1, both_made logical (test c.0) (act d.0) t a c.2 d.2)
 form_says (reads.begins {mark = mark} g) = let p = do_says mark g in (p.0, says.begins p.1, p.2)
+form_says (reads.ReadsForm.repeats g) = let c = guard_says g in (goes_while c.0, says.tests_first c.1, ap (option_map opens_while) c.2)
 form_says reads.finished = (plainly end_do, says.finished, refl)
 form_says reads.continued = (plainly go_on, says.continued, refl)
 form_says (reads.tests g) = let c = guard_says g in (opens c.0, says.tests c.1, ap (option_map opens_if) c.2)

@@ -3,11 +3,11 @@ use Rattle.std.proofs.Common.{◌≡◌, ℕ, ◌<◌, ◌^◌, pos, Bool, true,
 use Rattle.std.proofs.lemmas.Bool.{leb-false, or_parts}
 use Rattle.std.specs.Prelude.{◌||◌}
 use Rattle.std.specs.List.{All, list_any}
-use Rattle.adj_tree.specs.Code.{Term, Terms, lit, none, Act, assign, plain}
+use Rattle.adj_tree.specs.Code.{Term, Terms, lit, none, Mark, Act, assign, plain}
 use Rattle.adj_text.specs.Char.{number_of}
 use Rattle.adj_text.specs.Condition.{test}
 use Rattle.adj_text.specs.Fits.{FitsTerm, FitsTerms, FitsTest, FitsAct, FitsExtent}
-use Rattle.adj_text.specs.Form.{Form, subroutine, implicit_none, integers, simple, logical, opens_do, end_do, go_on, opens_if, otherwise, otherwise_if, end_if, leaves, ends}
+use Rattle.adj_text.specs.Form.{Form, subroutine, implicit_none, integers, simple, logical, opens_do, opens_while, end_do, go_on, opens_if, otherwise, otherwise_if, end_if, leaves, ends}
 use Rattle.adj_text.specs.Grammar.{Syntax, Arguments, with_both, tree}
 use Rattle.adj_text.specs.Statement.{Item, called, Range}
 use Rattle.adj_text.specs.Word.{Word}
@@ -34,6 +34,7 @@ FitsForm (integers is) = FitsItems is
 FitsForm (simple a) = FitsAct a
 FitsForm (logical c a) = FitsTest c × FitsAct a
 FitsForm (opens_do l r s) = FitsTerm r.from × FitsTerm r.to × FitsTerm r.by
+FitsForm (opens_while c) = FitsTest c
 FitsForm (opens_if c) = FitsTest c
 FitsForm (otherwise_if c) = FitsTest c
 FitsForm f = Unit {0}
@@ -81,10 +82,10 @@ range_fits b r h e =
     let fit : RangeFits (whole (w.0, w.1) q.1) = (tree_fits b.from w.0 ends.0 w.2, tree_fits b.to w.1 ends.1 w.3, step_fits b.by q.1 all.1 q.3) in
     subst RangeFits q.4 (subst (λ (x : Term × Term). RangeFits (whole x q.1)) w.4 fit)
 
-loop_fits : (label : Option (List ℕ)) (b : Bounds) (mark : ℕ) (f : Form) → bounds_large b ≡ false → form mark (repeats label b) ≡ Some f → FitsForm f
+loop_fits : (label : Option (List ℕ)) (b : Bounds) (mark : Mark) (f : Form) → bounds_large b ≡ false → form mark (repeats label b) ≡ Some f → FitsForm f
 loop_fits label b mark f h e = let r = map_some (λ r. opens_do (option_map number_of label) r mark) (range b) f e in subst FitsForm r.2 (range_fits b r.0 h r.1)
 
-do_fits : {ws : List Word} {p : Phrase} → SaysDo ws p → (mark : ℕ) (f : Form) → phrase_large p ≡ false → form mark p ≡ Some f → FitsForm f
+do_fits : {ws : List Word} {p : Phrase} → SaysDo ws p → (mark : Mark) (f : Form) → phrase_large p ≡ false → form mark p ≡ Some f → FitsForm f
 do_fits (phrases.SaysDo.unlabelled {b = b} d) mark f h e = loop_fits None b mark f h e
 do_fits (phrases.SaysDo.labelled {digits = digits} {b = b} d) mark f h e = loop_fits (Some digits) b mark f h e
 do_fits (phrases.SaysDo.labelled_comma {digits = digits} {b = b} d) mark f h e = loop_fits (Some digits) b mark f h e
@@ -93,7 +94,7 @@ form_is : (f g : Form) → Some f ≡ Some g → FitsForm f → FitsForm g
 form_is f g e h = let same : f ≡ g = cc in subst FitsForm same h
 
 -- a phrase of a class has a form that fits
-pub phrase_fits : {kind : Kind} {ws : List Word} {p : Phrase} → Says kind ws p → (mark : ℕ) (f : Form) → phrase_large p ≡ false → form mark p ≡ Some f → FitsForm f
+pub phrase_fits : {kind : Kind} {ws : List Word} {p : Phrase} → Says kind ws p → (mark : Mark) (f : Form) → phrase_large p ≡ false → form mark p ≡ Some f → FitsForm f
 phrase_fits (phrases.Says.heading {x = x} {dummies = dummies} d) mark f h e = form_is (subroutine x dummies) f e tt
 phrase_fits phrases.Says.implicit mark f h e = form_is implicit_none f e tt
 phrase_fits (phrases.Says.declaration {is = is} d) mark f h e = form_is (integers (map item is)) f e (items_fit is h)
@@ -104,6 +105,7 @@ phrase_fits (phrases.Says.guarded {c = c} {d = d} g s) mark f h e =
     let r = both_some logical (test c) (act d) f e in
     subst FitsForm r.4 (test_fits c r.0 n.0 r.2, deed_fits d r.1 n.1 r.3)
 phrase_fits (phrases.Says.begins d) mark f h e = do_fits d mark f h e
+phrase_fits (phrases.Says.tests_first {c = c} g) mark f h e = let r = map_some opens_while (test c) f e in subst FitsForm r.2 (test_fits c r.0 h r.1)
 phrase_fits phrases.Says.finished mark f h e = form_is end_do f e tt
 phrase_fits phrases.Says.continued mark f h e = form_is go_on f e tt
 phrase_fits (phrases.Says.tests {c = c} g) mark f h e = let r = map_some opens_if (test c) f e in subst FitsForm r.2 (test_fits c r.0 h r.1)
@@ -120,7 +122,7 @@ judged_ok false false None f h = absurd cc
 judged_ok false false (Some g) f h = (refl, cc)
 
 -- what is said has only literals and extents that are words
-pub said_fits : (limit mark : ℕ) (kind : Kind) (words : List Word) (f : Form) → said limit mark kind words ≡ Some (Ok f) → FitsForm f
+pub said_fits : (limit : ℕ) (mark : Mark) (kind : Kind) (words : List Word) (f : Form) → said limit mark kind words ≡ Some (Ok f) → FitsForm f
 unfolding said
 said_fits limit mark kind words f h =
     let r = map_some (judged_phrase limit mark) (phrase_of kind words) (Ok f) h in

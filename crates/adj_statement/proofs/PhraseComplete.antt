@@ -12,7 +12,7 @@ use Rattle.adj_text.specs.declared.stated.Kind.{Kind}
 use Rattle.adj_text.specs.declared.token.TokenKind.TheVariants.{Right, Comma, Equals}
 use Rattle.adj_expression.proofs.ConditionUnique.{test_reads_itself}
 use Rattle.adj_expression.specs.Reading.{read_expression}
-use Rattle.adj_statement.specs.Phrase.{Entry, Deed, assigns, calls, Size, Declared, Bounds, Phrase, plainly, declares, does, guards, repeats, opens, turns, SaysPlace, SaysAssignment, SaysCall, SaysSize, SaysItem, SaysItems, SaysBounds, by_one, by_step, SaysDo, SaysGuard, guard, SaysGuarded, Says}
+use Rattle.adj_statement.specs.Phrase.{Entry, Deed, assigns, calls, Size, Declared, Bounds, Phrase, plainly, declares, does, guards, repeats, goes_while, opens, turns, SaysPlace, SaysAssignment, SaysCall, SaysSize, SaysItem, SaysItems, SaysBounds, by_one, by_step, SaysDo, SaysGuard, guard, SaysGuarded, Says}
 use Rattle.adj_statement.specs.Phrase as says
 use Rattle.adj_statement.specs.Phrases.{Read, ◌>>=◌, name_at, digits_at, behind_left, behind_right, behind_comma, behind_equals, behind_call, ended, members_behind, with_last, read_arguments, second_subscript, read_subscripts, read_place, read_assignment, actuals_in, read_actuals, read_call, read_names, dummies_in, read_dummies, read_head, size_at, second_size, read_sizes, item_behind, read_item, read_items, read_step, read_bounds, label_behind, without_comma, read_label, read_do, read_guard, guarded_behind, read_guarded, read_logical, read_test, phrase_of}
 use Rattle.adj_statement.proofs.Lists.{names_on}
@@ -203,6 +203,7 @@ phrase_read says.Says.finished = refl
 phrase_read says.Says.continued = refl
 phrase_read (says.Says.tests h) = ap (option_map opens) (test_read h)
 phrase_read says.Says.turned = refl
+phrase_read (says.Says.tests_first h) = ap (option_map goes_while) (test_read h)
 phrase_read (says.Says.tests_again h) = ap (option_map turns) (test_read h)
 phrase_read says.Says.closed = refl
 phrase_read says.Says.returned = refl

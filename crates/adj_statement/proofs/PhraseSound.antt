@@ -12,7 +12,7 @@ use Rattle.adj_text.specs.declared.stated.Kind.TheVariants as kind
 use Rattle.adj_text.specs.declared.token.TokenKind.TheVariants.{Left, Right, Comma, Equals, Call}
 use Rattle.adj_expression.proofs.ConditionUnique.{test_itself_derived}
 use Rattle.adj_expression.specs.Reading.{read_expression, read_condition}
-use Rattle.adj_statement.specs.Phrase.{Entry, Deed, assigns, calls, Size, numbered, named, Declared, Bounds, Phrase, plainly, declares, does, guards, repeats, opens, turns, SaysPlace, SaysAssignment, SaysCall, SaysSize, SaysItem, SaysItems, SaysBounds, by_one, by_step, SaysDo, SaysGuard, guard, SaysGuarded, Says}
+use Rattle.adj_statement.specs.Phrase.{Entry, Deed, assigns, calls, Size, numbered, named, Declared, Bounds, Phrase, plainly, declares, does, guards, repeats, goes_while, opens, turns, SaysPlace, SaysAssignment, SaysCall, SaysSize, SaysItem, SaysItems, SaysBounds, by_one, by_step, SaysDo, SaysGuard, guard, SaysGuarded, Says}
 use Rattle.adj_statement.specs.Phrase as says
 use Rattle.adj_statement.specs.Phrases.{Read, ◌>>=◌, name_at, behind_right, behind_comma, behind_equals, ended, members, members_behind, with_last, read_arguments, second_subscript, read_subscripts, read_place, read_assignment, actuals_in, read_actuals, read_call, read_names, dummies_in, read_dummies, read_head, size_at, second_size, read_sizes, read_item, read_items, read_step, read_bounds, read_label, read_do, read_guard, read_guarded, read_logical, read_test, phrase_of}
 
@@ -377,6 +377,7 @@ phrase_said kind.Do ws = begun (option_map (λ (q : Option (List ℕ) × Bounds)
     begun None h = tt
     begun (Some p) h = says.Says.begins h
 phrase_said kind.BlockIf ws = made kind.BlockIf ws opens (SaysGuard ws []) (λ c h. says.Says.tests h) (read_test ws) (test_said ws)
+phrase_said kind.DoWhile ws = made kind.DoWhile ws goes_while (SaysGuard ws []) (λ c h. says.Says.tests_first h) (read_test ws) (test_said ws)
 phrase_said kind.ElseIf ws = made kind.ElseIf ws turns (SaysGuard ws []) (λ c h. says.Says.tests_again h) (read_test ws) (test_said ws)
 phrase_said kind.ImplicitNone [] = says.Says.implicit
 phrase_said kind.EndDo [] = says.Says.finished

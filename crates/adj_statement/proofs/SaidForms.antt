@@ -1,6 +1,7 @@
 -- SaidForms: what a statement is found to say, in the words of the grammar of texts.
 use Rattle.std.proofs.Common.{◌≡◌, ◌⊎◌, inl, inr, ℕ, Bool, true, false, List, Option, Some, None, option_map, IfSome, Ok, Err, sym, ap, ◌∙◌, subst}
 use Rattle.adj_text.proofs.Parts.{map_some}
+use Rattle.adj_tree.specs.Code.{Mark, unmarked}
 use Rattle.adj_text.specs.Form.{Form, ReadsForm}
 use Rattle.adj_text.specs.Word.{Word}
 use Rattle.adj_text.specs.declared.stated.Kind.{Kind}
@@ -26,14 +27,14 @@ phrase_found None P p e h = absurd cc
 phrase_found (Some q) P p e h = let k : q ≡ p = cc in subst P k h
 
 -- a form that is found is one that the words have
-pub said_reads : (limit mark : ℕ) (kind : Kind) (words : List Word) (f : Form) → said limit mark kind words ≡ Some (Ok f) → (mark ≡ 0) ⊎ (kind ≡ Do) → ReadsForm mark kind words f
+pub said_reads : (limit : ℕ) (mark : Mark) (kind : Kind) (words : List Word) (f : Form) → said limit mark kind words ≡ Some (Ok f) → (mark ≡ unmarked) ⊎ (kind ≡ Do) → ReadsForm mark kind words f
 unfolding said
 said_reads limit mark kind words f h m =
     let k = map_some (judged_phrase limit mark) (phrase_of kind words) (Ok f) h in
     form_reads (phrase_found (phrase_of kind words) (Says kind words) k.0 k.1 (phrase_said kind words)) f (judged_ok (phrase_large k.0) (phrase_deep limit k.0) (form mark k.0) f k.2) m
 
 -- a form that the words have is found, but for a literal that is too large and for the depth
-pub said_answers : (limit mark : ℕ) (kind : Kind) (words : List Word) (f : Form) → ReadsForm mark kind words f → (said limit mark kind words ≡ Some (Ok f)) ⊎ ((said limit mark kind words ≡ Some (Err Large)) ⊎ (said limit mark kind words ≡ Some (Err Deep)))
+pub said_answers : (limit : ℕ) (mark : Mark) (kind : Kind) (words : List Word) (f : Form) → ReadsForm mark kind words f → (said limit mark kind words ≡ Some (Ok f)) ⊎ ((said limit mark kind words ≡ Some (Err Large)) ⊎ (said limit mark kind words ≡ Some (Err Deep)))
 unfolding said
 said_answers limit mark kind words f h =
     let p = form_says h in
@@ -49,7 +50,7 @@ some_is : {A : Type 0} (p q : A) → Some p ≡ Some q → p ≡ q
 some_is p q h = cc
 
 -- and it is one form
-pub one_form : (mark : ℕ) (kind : Kind) (words : List Word) (f g : Form) → ReadsForm mark kind words f → ReadsForm mark kind words g → f ≡ g
+pub one_form : (mark : Mark) (kind : Kind) (words : List Word) (f g : Form) → ReadsForm mark kind words f → ReadsForm mark kind words g → f ≡ g
 one_form mark kind words f g h k =
     let p = form_says h in
     let q = form_says k in

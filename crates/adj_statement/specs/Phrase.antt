@@ -6,7 +6,7 @@ use Rattle.adj_text.specs.Grammar.{Syntax, Arguments, count_of, Sum, Derives, De
 use Rattle.adj_text.specs.Statement.{ReadsHead}
 use Rattle.adj_text.specs.Word.{Word, Named, Digits, Mark}
 use Rattle.adj_text.specs.declared.stated.Kind.{Kind}
-use Rattle.adj_text.specs.declared.stated.Kind.TheVariants.{Do, BlockIf, LogicalIf, Assign, Continue, Return, End, EndIf, EndDo, Else, ImplicitNone, ElseIf, Subroutine, Integer, Call}
+use Rattle.adj_text.specs.declared.stated.Kind.TheVariants.{Do, BlockIf, LogicalIf, Assign, Continue, Return, End, EndIf, EndDo, Else, ImplicitNone, ElseIf, DoWhile, Subroutine, Integer, Call}
 use Rattle.adj_text.specs.declared.token.TokenKind.TheVariants as mark
 
 -- a name, with its subscripts or its actuals in parentheses, or without
@@ -44,6 +44,7 @@ pub data Phrase : Type 0 where
   guards : Condition → Deed → Phrase
   -- the digits behind DO, where there are any
   repeats : Option (List ℕ) → Bounds → Phrase
+  goes_while : Condition → Phrase
   opens : Condition → Phrase
   turns : Condition → Phrase
 
@@ -85,7 +86,7 @@ pub data SaysDo : List Word → Phrase → Type 0 where
   labelled : {digits : List ℕ} {ts : List Word} {b : Bounds} → SaysBounds ts b → SaysDo (Digits digits ∷ ts) (repeats (Some digits) b)
   labelled_comma : {digits : List ℕ} {ts : List Word} {b : Bounds} → SaysBounds ts b → SaysDo (Digits digits ∷ Mark mark.Comma ∷ ts) (repeats (Some digits) b)
 
--- behind IF or ELSE IF: a condition in parentheses
+-- behind IF, ELSE IF or DO WHILE: a condition in parentheses
 pub data SaysGuard : List Word → List Word → Condition → Type 0 where
   guard : {ts rest : List Word} {c : Condition} → DerivesCondition Whole ts (Mark mark.Right ∷ rest) c → SaysGuard (Mark mark.Left ∷ ts) rest c
 
@@ -103,6 +104,7 @@ pub data Says : Kind → List Word → Phrase → Type 0 where
   called : {ts : List Word} {d : Deed} → SaysCall ts d → Says Call ts (does d)
   guarded : {ts us : List Word} {c : Condition} {d : Deed} → SaysGuard ts us c → SaysGuarded us d → Says LogicalIf ts (guards c d)
   begins : {ts : List Word} {p : Phrase} → SaysDo ts p → Says Do ts p
+  tests_first : {ts : List Word} {c : Condition} → SaysGuard ts [] c → Says DoWhile ts (goes_while c)
   finished : Says EndDo [] (plainly end_do)
   continued : Says Continue [] (plainly go_on)
   tests : {ts : List Word} {c : Condition} → SaysGuard ts [] c → Says BlockIf ts (opens c)

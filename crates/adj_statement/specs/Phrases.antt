@@ -9,7 +9,7 @@ use Rattle.adj_text.specs.declared.stated.Kind.{Kind}
 use Rattle.adj_text.specs.declared.stated.Kind.TheVariants as kind
 use Rattle.adj_text.specs.declared.token.TokenKind.TheVariants.{Left, Right, Comma, Equals, Call}
 use Rattle.adj_expression.specs.Reading.{read_expression, read_condition}
-use Rattle.adj_statement.specs.Phrase.{Entry, Deed, assigns, calls, Size, numbered, named, Declared, Bounds, Phrase, plainly, declares, does, guards, repeats, opens, turns}
+use Rattle.adj_statement.specs.Phrase.{Entry, Deed, assigns, calls, Size, numbered, named, Declared, Bounds, Phrase, plainly, declares, does, guards, repeats, goes_while, opens, turns}
 
 -- what is read at the front of some words, and the words behind it
 abbrev pub Read : Type 0 → Type 0
@@ -233,6 +233,7 @@ phrase_of kind.Assign ws = option_map does (read_assignment ws)
 phrase_of kind.Call ws = option_map does (read_call ws)
 phrase_of kind.LogicalIf ws = option_map (λ p. guards p.0 p.1) (read_logical ws)
 phrase_of kind.Do ws = option_map (λ p. repeats p.0 p.1) (read_do ws)
+phrase_of kind.DoWhile ws = option_map goes_while (read_test ws)
 phrase_of kind.BlockIf ws = option_map opens (read_test ws)
 phrase_of kind.ElseIf ws = option_map turns (read_test ws)
 phrase_of kind.ImplicitNone ws = ended (plainly implicit_none) ws

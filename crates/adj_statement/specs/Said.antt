@@ -1,17 +1,17 @@
 -- Said: what the words of a statement say, or what is wrong with its expressions.
 use Rattle.std.specs.Prelude.{ℕ, ◌^◌, pos, nat_le, nat_lt, Bool, false, ◌||◌, List, map, Option, Some, None, option_map, Result}
 use Rattle.std.specs.List.{list_any}
-use Rattle.adj_tree.specs.Code.{plain, Term, Terms, lit, none, Act, assign, Extent, fixed, given}
+use Rattle.adj_tree.specs.Code.{plain, Term, Terms, lit, none, Mark, Act, assign, Extent, fixed, given}
 use Rattle.adj_text.specs.Char.{number_of}
 use Rattle.adj_text.specs.Condition.{Condition, test}
-use Rattle.adj_text.specs.Form.{Form, integers, simple, logical, opens_do, opens_if, otherwise_if}
+use Rattle.adj_text.specs.Form.{Form, integers, simple, logical, opens_do, opens_while, opens_if, otherwise_if}
 use Rattle.adj_text.specs.Grammar.{Syntax, Arguments, only, beside, with_both, tree, trees_before}
 use Rattle.adj_text.specs.Statement.{Item, called, Range}
 use Rattle.adj_text.specs.Word.{Word}
 use Rattle.adj_text.specs.declared.stated.Kind.{Kind}
 use Rattle.adj_expression.specs.Judged.{has_large, any_large, depth, judged_by, test_large, test_depth}
 use Rattle.adj_expression.specs.declared.flaw.Flaw.{Flaw}
-use Rattle.adj_statement.specs.Phrase.{Deed, assigns, calls, Size, numbered, named, Declared, Bounds, Phrase, plainly, declares, does, guards, repeats, opens, turns}
+use Rattle.adj_statement.specs.Phrase.{Deed, assigns, calls, Size, numbered, named, Declared, Bounds, Phrase, plainly, declares, does, guards, repeats, goes_while, opens, turns}
 use Rattle.adj_statement.specs.Phrases.{phrase_of}
 
 -- whether a literal of the expressions of a list, of a deed, of an item, of bounds or of a phrase is above the greatest word
@@ -43,6 +43,7 @@ phrase_large (declares is) = list_any item_large is
 phrase_large (does d) = deed_large d
 phrase_large (guards c d) = test_large c || deed_large d
 phrase_large (repeats label b) = bounds_large b
+phrase_large (goes_while c) = test_large c
 phrase_large (opens c) = test_large c
 phrase_large (turns c) = test_large c
 
@@ -75,6 +76,7 @@ phrase_deep limit (declares is) = false
 phrase_deep limit (does d) = deed_deep limit d
 phrase_deep limit (guards c d) = test_deep limit c || deed_deep limit d
 phrase_deep limit (repeats label b) = bounds_deep limit b
+phrase_deep limit (goes_while c) = test_deep limit c
 phrase_deep limit (opens c) = test_deep limit c
 phrase_deep limit (turns c) = test_deep limit c
 
@@ -104,20 +106,21 @@ range b =
     with_both (λ (ends : Term × Term) c. Some (record { counter = plain b.counter; from = ends.0; to = ends.1; by = c }))
     (with_both (λ from to. Some (from, to)) (tree b.from) (tree b.to)) (step_tree b.by)
 
--- what a phrase says, with the snapshots of the directive before it, where each literal exponent is one
-abbrev pub form : ℕ → Phrase → Option Form
+-- what a phrase says, with the mark of the directive before it, where each exponent is one
+abbrev pub form : Mark → Phrase → Option Form
 form mark (plainly f) = Some f
 form mark (declares is) = Some (integers (map item is))
 form mark (does d) = option_map simple (act d)
 form mark (guards c d) = with_both (λ t a. Some (logical t a)) (test c) (act d)
 form mark (repeats label b) = option_map (λ r. opens_do (option_map number_of label) r mark) (range b)
+form mark (goes_while c) = option_map opens_while (test c)
 form mark (opens c) = option_map opens_if (test c)
 form mark (turns c) = option_map otherwise_if (test c)
 
 -- a phrase's form, or what is wrong with its expressions
-abbrev pub judged_phrase : ℕ → ℕ → Phrase → Result Form Flaw
+abbrev pub judged_phrase : ℕ → Mark → Phrase → Result Form Flaw
 judged_phrase limit mark p = judged_by (phrase_large p) (phrase_deep limit p) (form mark p)
 
--- a statement of a class with these words behind its keyword and the snapshots of the directive before it; none where the words don't have the form of the class
-unfoldable pub said : ℕ → ℕ → Kind → List Word → Option (Result Form Flaw)
+-- a statement of a class with these words behind its keyword and the mark of the directive before it; none where the words don't have the form of the class
+unfoldable pub said : ℕ → Mark → Kind → List Word → Option (Result Form Flaw)
 said limit mark kind words = option_map (judged_phrase limit mark) (phrase_of kind words)

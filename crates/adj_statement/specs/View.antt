@@ -8,13 +8,13 @@ use Rattle.adj_tree.specs.declared.expr.Place.{Place}
 use Rattle.adj_tree.specs.declared.stmt.Act.{Act}
 use Rattle.adj_text.specs.Char.{number_of}
 use Rattle.adj_text.specs.Statement as statement
-use Rattle.adj_text.specs.Form.{Form, subroutine, implicit_none, integers, simple, logical, opens_do, end_do, go_on, opens_if, otherwise, otherwise_if, end_if, leaves, ends}
+use Rattle.adj_text.specs.Form.{Form, subroutine, implicit_none, integers, simple, logical, opens_do, opens_while, end_do, go_on, opens_if, otherwise, otherwise_if, end_if, leaves, ends}
 use Rattle.adj_statement.specs.declared.label.Label.{Label}
 use Rattle.adj_statement.specs.declared.label.Label.TheVariants.{Short, Long}
 use Rattle.adj_statement.specs.declared.content.Item.{Item}
 use Rattle.adj_statement.specs.declared.content.Range.{Range}
 use Rattle.adj_statement.specs.declared.content.Said.{Said}
-use Rattle.adj_statement.specs.declared.content.Said.TheVariants.{Subroutine, ImplicitNone, Integers, Simple, Guarded, Do, EndDo, Continue, If, Else, ElseIf, EndIf, Return, End}
+use Rattle.adj_statement.specs.declared.content.Said.TheVariants.{Subroutine, ImplicitNone, Integers, Simple, Guarded, Do, While, EndDo, Continue, If, Else, ElseIf, EndIf, Return, End}
 
 -- the number that a label is
 abbrev pub label_of : Label → ℕ
@@ -38,14 +38,15 @@ guarded_seen p = (test_of p.0, act_of p.1)
 abbrev pub loop_seen : Option Label × Range → Option ℕ × statement.Range
 loop_seen p = (option_map label_of p.0, range_of p.1)
 
--- what a statement says, with the snapshots of the directive before it
-abbrev pub form_of : ℕ → Said → Form
+-- what a statement says, with the mark of the directive before it
+abbrev pub form_of : code.Mark → Said → Form
 form_of mark (Subroutine x dummies) = subroutine x dummies
 form_of mark ImplicitNone = implicit_none
 form_of mark (Integers is) = integers (map item_of is.items)
 form_of mark (Simple a) = simple (act_of a)
 form_of mark (Guarded c a) = logical (test_of c) (act_of a)
 form_of mark (Do l r) = opens_do (option_map label_of l) (range_of r) mark
+form_of mark (While c) = opens_while (test_of c)
 form_of mark EndDo = end_do
 form_of mark Continue = go_on
 form_of mark (If c) = opens_if (test_of c)

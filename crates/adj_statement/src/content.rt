@@ -32,6 +32,8 @@ pub enum Said {
     Guarded(Cond, Act),
     /// A DO with its label, where it has one.
     Do(Option<Label>, Range),
+    /// A DO WHILE with its condition.
+    While(Cond),
     EndDo,
     Continue,
     If(Cond),

@@ -2,7 +2,7 @@
 
 ghost use Rattle.std.specs.Prelude.{◌≡◌, ◌<◌, IfOk, option_map};
 ghost use Rattle.adj_tree.specs.Code.{Term, plain};
-ghost use Rattle.adj_tree.specs.View.{term_of, test_of, act_of};
+ghost use Rattle.adj_tree.specs.View.{term_of, test_of, mark_of, act_of};
 ghost use Rattle.adj_text.specs.Word.{words_of};
 ghost use Rattle.adj_expression.specs.Front.{AreSlices};
 ghost use Rattle.adj_expression.specs.View.{seen};
@@ -203,7 +203,7 @@ pub fn said(
 ) -> Result<Option<Result<Said, Flaw>>, Memory>
     requires slices { AreSlices stated.now.text stated.now.tokens }
     requires limit { limit < 1000 }
-    ensures said { IfOk result (λ found. option_map (seen (form_of stated.now.mark)) found ≡ said limit stated.now.mark stated.now.kind (words_of stated.now.text stated.now.tokens)) }
+    ensures said { IfOk result (λ found. option_map (seen (form_of (mark_of stated.now.mark))) found ≡ said limit (mark_of stated.now.mark) stated.now.kind (words_of stated.now.text stated.now.tokens)) }
 {
     let words = Words::new(stated.text.as_slice(), stated.tokens.as_slice());
     match stated.kind {
@@ -221,6 +221,7 @@ pub fn said(
             let parts = looped(alloc, words, limit)?;
             Ok(parts.map(|parts| parts.map(|(label, range)| Said::Do(label, range))))
         }
+        Kind::DoWhile => Ok(test(alloc, words, limit)?.map(|c| c.map(Said::While))),
         Kind::BlockIf => Ok(test(alloc, words, limit)?.map(|c| c.map(Said::If))),
         Kind::ElseIf => Ok(test(alloc, words, limit)?.map(|c| c.map(Said::ElseIf))),
         Kind::ImplicitNone => Ok(words.ended(Ok(Said::ImplicitNone))),

@@ -4,7 +4,7 @@ use Rattle.adj_tree.specs.Code.{Var as Variable, Term, bin, pow, Code}
 use Rattle.adj_tree.specs.declared.name.Name.{Name}
 use Rattle.adj_tree.specs.declared.expr.Op.{Op}
 use Rattle.adj_tree.specs.declared.expr.Op.TheVariants.{Add, Sub, Quot, Mod, Max, Min}
-use Rattle.adj_tree.specs.declared.expr.Expr.{Expr, Lit, Var, Elem, Abs}
+use Rattle.adj_tree.specs.declared.expr.Expr.{Expr, Lit, Var, Elem, Power, Abs}
 use Rattle.adj_tree.specs.declared.expr.Exprs.{Exprs}
 use Rattle.adj_tree.specs.View.{op_of, term_of}
 use Rattle.adj_meaning.specs.Append.{◌+++◌}
@@ -12,12 +12,13 @@ use Rattle.adj_meaning.specs.Rename.{rename}
 use Rattle.adj_transpose.specs.Emit.{has_own, temps_in, shrunk, own_code, temps}
 use Rattle.adj_sweep.proofs.Onto.{written_both}
 
--- a literal, a name, an element and an absolute value stay as they are
-pub leaf_whole : (e : Expr) (j : ℕ) → ((x : ℤ) × (e ≡ Lit x)) ⊎ (((x : Name) × (e ≡ Var x)) ⊎ (((x : Name) × (s : Exprs) × (e ≡ Elem x s)) ⊎ ((x : Box Expr Global) × (e ≡ Abs x)))) → shrunk (term_of e) j ≡ term_of e
+-- a literal, a name, an element, a power by an expression and an absolute value stay as they are
+pub leaf_whole : (e : Expr) (j : ℕ) → ((x : ℤ) × (e ≡ Lit x)) ⊎ (((x : Name) × (e ≡ Var x)) ⊎ (((x : Name) × (s : Exprs) × (e ≡ Elem x s)) ⊎ (((x : Box Expr Global) × (y : Box Expr Global) × (e ≡ Power x y)) ⊎ ((x : Box Expr Global) × (e ≡ Abs x))))) → shrunk (term_of e) j ≡ term_of e
 leaf_whole e j (inl h) = subst (λ x. shrunk (term_of x) j ≡ term_of x) (sym h.1) refl
 leaf_whole e j (inr (inl h)) = subst (λ x. shrunk (term_of x) j ≡ term_of x) (sym h.1) refl
 leaf_whole e j (inr (inr (inl h))) = subst (λ x. shrunk (term_of x) j ≡ term_of x) (sym h.2) refl
-leaf_whole e j (inr (inr (inr h))) = subst (λ x. shrunk (term_of x) j ≡ term_of x) (sym h.1) refl
+leaf_whole e j (inr (inr (inr (inl h)))) = subst (λ x. shrunk (term_of x) j ≡ term_of x) (sym h.2) refl
+leaf_whole e j (inr (inr (inr (inr h)))) = subst (λ x. shrunk (term_of x) j ≡ term_of x) (sym h.1) refl
 
 -- and so does what has no derivative
 pub operation_whole : (op : Op) (a b : Term) (j : ℕ) → (op ≡ Quot) ⊎ ((op ≡ Mod) ⊎ ((op ≡ Max) ⊎ (op ≡ Min))) → shrunk (bin (op_of op) a b) j ≡ bin (op_of op) a b
