@@ -3,25 +3,26 @@ use Rattle.std.proofs.Common.{◌≡◌, ◌≢◌, ℕ, Bool, true, false, cond
 use Rattle.std.proofs.lemmas.Bool.{ne_eqb, eq-eqb, or_parts}
 use Rattle.std.proofs.lemmas.List.{append_assoc, append-nil}
 use Rattle.std.specs.Prelude.{◌==◌, not}
-use Rattle.adj_tree.specs.Code.{Test, Act, Code, choose, stop, step, Procedure}
+use Rattle.adj_tree.specs.Code.{Test, Mark, Act, Code, choose, during, stop, step, Procedure}
 use Rattle.adj_tree.specs.Listed.{code_listed}
 use Rattle.adj_text.specs.Statement.{Range}
 use Rattle.adj_text.specs.Block as blocks
 use Rattle.adj_text.specs.Block.{is_open, innermost, loop_of, ReadsBody, ReadsAct, ReadsElse}
-use Rattle.adj_text.specs.Form.{Form, subroutine, implicit_none, integers, simple, logical, opens_do, end_do, go_on, opens_if, otherwise, otherwise_if, end_if, leaves, ends, Statement, at}
+use Rattle.adj_text.specs.Form.{Form, subroutine, implicit_none, integers, simple, logical, opens_do, opens_while, end_do, go_on, opens_if, otherwise, otherwise_if, end_if, leaves, ends, Statement, at}
 use Rattle.adj_text.specs.declared.stated.Kind.{Kind}
-use Rattle.adj_text.specs.declared.stated.Kind.TheVariants.{Do, BlockIf, LogicalIf, Assign, Continue, EndIf, EndDo, Else, ElseIf}
+use Rattle.adj_text.specs.declared.stated.Kind.TheVariants.{Do, BlockIf, LogicalIf, Assign, Continue, EndIf, EndDo, Else, ElseIf, DoWhile}
 use Rattle.adj_parse.specs.declared.phase.Phase.TheVariants.{Acting}
-use Rattle.adj_parse.specs.Blocks.{Acts, Part, of_loop, of_if, of_else, of_chain, Block, close_while, Nest, acted, is_chain, is_labelled}
+use Rattle.adj_parse.specs.Blocks.{Acts, Part, of_loop, of_while, of_if, of_else, of_chain, Block, close_while, Nest, acted, is_chain, is_labelled}
 use Rattle.adj_parse.specs.Order.{may_follow, has_label, innermost_is, some_is, suits, reaches_out, breaks_loop}
 use Rattle.adj_parse.specs.Unit.{Units}
 use Rattle.adj_parse.proofs.Truths.{and_false}
-use Rattle.adj_parse.proofs.Machine.{kind_of, stands, run, labels, IsBody, in_loop, in_if, in_else, is_open_some, innermost_labelled, close_while-other, no_chain, acts_of, listed_back}
+use Rattle.adj_parse.proofs.Machine.{kind_of, stands, run, labels, IsBody, in_loop, in_while, in_if, in_else, is_open_some, innermost_labelled, close_while-other, no_chain, acts_of, listed_back}
 
 abbrev pub is_executable : Form → Bool
 is_executable (simple a) = true
 is_executable (logical c a) = true
 is_executable (opens_do l r s) = true
+is_executable (opens_while c) = true
 is_executable end_do = true
 is_executable go_on = true
 is_executable (opens_if c) = true
@@ -62,6 +63,7 @@ module _ (done : List Procedure) (unit : Procedure) where
   steps (simple a) nest n l ts x h g = ap (λ b. cond b (run (inside (acted nest n l (simple a))) ts) None) (stands_inside Assign l nest refl h g)
   steps (logical c a) nest n l ts x h g = ap (λ b. cond b (run (inside (acted nest n l (logical c a))) ts) None) (stands_inside LogicalIf l nest refl h g)
   steps (opens_do k r s) nest n l ts x h g = ap (λ b. cond b (run (inside (acted nest n l (opens_do k r s))) ts) None) (stands_inside Do l nest refl h g)
+  steps (opens_while c) nest n l ts x h g = ap (λ b. cond b (run (inside (acted nest n l (opens_while c))) ts) None) (stands_inside DoWhile l nest refl h g)
   steps end_do nest n l ts x h g = ap (λ b. cond b (run (inside (acted nest n l end_do)) ts) None) (stands_inside EndDo l nest refl h g)
   steps go_on nest n l ts x h g = ap (λ b. cond b (run (inside (acted nest n l go_on)) ts) None) (stands_inside Continue l nest refl h g)
   steps (opens_if c) nest n l ts x h g = ap (λ b. cond b (run (inside (acted nest n l (opens_if c))) ts) None) (stands_inside BlockIf l nest refl h g)
@@ -81,7 +83,7 @@ module _ (done : List Procedure) (unit : Procedure) where
   continues : (bs : List Block) (acts : Acts) (n l : ℕ) (ts : List Statement) → innermost_is (is_labelled l) bs ≡ true → run (at_block bs acts) (at n l go_on ∷ ts) ≡ run (inside (close_while (is_labelled l) bs acts)) ts
   continues bs acts n l ts h = steps go_on (record { blocks = bs; acts = acts }) n l ts refl refl (breaks_own l bs h)
 
-  own_label : (n l s : ℕ) (r : Range) (before : Acts) (bs : List Block) → l ≢ 0 → innermost_is (is_labelled l) (block n before (of_loop (Some l) r s) ∷ bs) ≡ true
+  own_label : (n l : ℕ) (s : Mark) (r : Range) (before : Acts) (bs : List Block) → l ≢ 0 → innermost_is (is_labelled l) (block n before (of_loop (Some l) r s) ∷ bs) ≡ true
   own_label n l s r before bs some = rw (ne_eqb l 0 some, eq-eqb l l refl) refl
 
   other_label : {ls : List ℕ} (bs : List Block) (l : ℕ) → IsBody bs → ls ≡ labels bs → innermost ls ≢ l → innermost_is (is_labelled l) bs ≡ false
@@ -90,11 +92,11 @@ module _ (done : List Procedure) (unit : Procedure) where
   same_label : {ls : List ℕ} (bs : List Block) (l : ℕ) → IsBody bs → ls ≡ labels bs → l ≢ 0 → innermost ls ≡ l → innermost_is (is_labelled l) bs ≡ true
   same_label bs l b e some same = innermost_labelled l b ∙ rw (ne_eqb l 0 some, eq-eqb (innermost (labels bs)) l (ap innermost (sym e) ∙ same)) refl
 
-  close_own : (n l s : ℕ) (r : Range) (before : Acts) (bs : List Block) (acts : Acts) → l ≢ 0 → close_while (is_labelled l) (block n before (of_loop (Some l) r s) ∷ bs) acts ≡ close_while (is_labelled l) bs (before ++ (n, loop_of r (code_listed acts) s) ∷ [])
+  close_own : (n l : ℕ) (s : Mark) (r : Range) (before : Acts) (bs : List Block) (acts : Acts) → l ≢ 0 → close_while (is_labelled l) (block n before (of_loop (Some l) r s) ∷ bs) acts ≡ close_while (is_labelled l) bs (before ++ (n, loop_of r (code_listed acts) s) ∷ [])
   close_own n l s r before bs acts some = rw (ne_eqb l 0 some, eq-eqb l l refl) refl
 
   -- a DO with a label, to the CONTINUE of that label and what it ends
-  to_label : (n l k s m : ℕ) (r : Range) (inner : Code) (ts rest : List Statement) (bs : List Block) (acts : Acts) → k ≢ 0 → some_is (is_labelled l) bs ≡ false →
+  to_label : (n l k : ℕ) (s : Mark) (m : ℕ) (r : Range) (inner : Code) (ts rest : List Statement) (bs : List Block) (acts : Acts) → k ≢ 0 → some_is (is_labelled l) bs ≡ false →
       run (at_block (block n acts (of_loop (Some k) r s) ∷ bs) []) ts ≡ run (at_block (block n acts (of_loop (Some k) r s) ∷ bs) (acts_of inner)) (at m k go_on ∷ rest) →
       run (at_block bs acts) (at n l (opens_do (Some k) r s) ∷ ts) ≡ run (inside (close_while (is_labelled k) bs (acts ++ (n, loop_of r inner s) ∷ []))) rest
   to_label n l k s m r inner ts rest bs acts some h first =
@@ -128,6 +130,12 @@ module _ (done : List Procedure) (unit : Procedure) where
         ∙ body q (loop ∷ bs) [] in_loop (ap (λ ks. 0 ∷ ks) e)
         ∙ steps end_do (record { blocks = loop ∷ bs; acts = acts_of inner }) m k rest refl refl (rw (not_open bs k e g) refl)
         ∙ ap (λ code. run (at_block bs (acts ++ (n, loop_of r code s) ∷ [])) rest) (listed_back inner)
+    act {n = n} {rest = rest} (blocks.ReadsAct.repeated {ts = ts} {m = m} {k = k} {c = c} {body = inner} q g) bs acts b e l h =
+        let loop = block n acts (of_while c) in
+        steps (opens_while c) (record { blocks = bs; acts = acts }) n l ts refl refl (breaks_none DoWhile l bs refl h)
+        ∙ body q (loop ∷ bs) [] in_while (ap (λ ks. 0 ∷ ks) e)
+        ∙ steps end_do (record { blocks = loop ∷ bs; acts = acts_of inner }) m k rest refl refl (rw (not_open bs k e g) refl)
+        ∙ ap (λ code. run (at_block bs (acts ++ (n, during c code) ∷ [])) rest) (listed_back inner)
     act {n = n} {rest = rest} (blocks.ReadsAct.labelled {ts = ts} {m = m} {l = k} {s = s} {r = r} {body = inner} some other q) bs acts b e l h =
         to_label n l k s m r inner ts rest bs acts some h (body q (block n acts (of_loop (Some k) r s) ∷ bs) [] in_loop (ap (λ ks. k ∷ ks) e))
         ∙ ap (λ nest. run (inside nest) rest) (close_while-other (is_labelled k) bs _ (other_label bs k b e other))

@@ -2,18 +2,18 @@
 use Rattle.std.proofs.Common.{◌≡◌, ◌≢◌, ℕ, true, false, eqb, List, [], ◌∷◌, ◌++◌, Option, Some, None, refl, sym, subst, ◌∙◌}
 use Rattle.std.proofs.lemmas.Bool.{ne_eqb, eq-eqb, eqb-true, eqb-false, or_parts}
 use Rattle.std.specs.Prelude.{◌==◌, ◌&&◌, not}
-use Rattle.adj_tree.specs.Code.{Test, Act, Code, choose, stop, step}
+use Rattle.adj_tree.specs.Code.{Test, Mark, Act, Code, choose, during, stop, step}
 use Rattle.adj_tree.specs.Listed.{code_onto, code_listed}
 use Rattle.adj_text.specs.Statement.{Range}
 use Rattle.adj_text.specs.Block as blocks
 use Rattle.adj_text.specs.Block.{is_open, innermost, loop_of, ReadsBody, ReadsAct, ReadsElse}
-use Rattle.adj_text.specs.Form.{Form, subroutine, implicit_none, integers, simple, logical, opens_do, end_do, go_on, opens_if, otherwise, otherwise_if, end_if, leaves, ends, Statement, at}
+use Rattle.adj_text.specs.Form.{Form, subroutine, implicit_none, integers, simple, logical, opens_do, opens_while, end_do, go_on, opens_if, otherwise, otherwise_if, end_if, leaves, ends, Statement, at}
 use Rattle.adj_text.specs.declared.stated.Kind.{Kind}
-use Rattle.adj_text.specs.declared.stated.Kind.TheVariants.{Do, BlockIf, LogicalIf, Assign, Continue, EndIf, EndDo, Else, ElseIf}
-use Rattle.adj_parse.specs.Blocks.{Acts, Part, of_loop, of_if, of_else, of_chain, Block, close_while, Nest, acted, is_chain, is_labelled}
+use Rattle.adj_text.specs.declared.stated.Kind.TheVariants.{Do, BlockIf, LogicalIf, Assign, Continue, EndIf, EndDo, Else, ElseIf, DoWhile}
+use Rattle.adj_parse.specs.Blocks.{Acts, Part, of_loop, of_while, of_if, of_else, of_chain, Block, close_while, Nest, acted, is_chain, is_labelled}
 use Rattle.adj_parse.specs.Order.{is_continue, has_no_label, is_first, is_if, innermost_is, some_is, suits, leaves_loop, breaks_loop}
 use Rattle.adj_parse.proofs.Truths.{and_true, both, not_true}
-use Rattle.adj_parse.proofs.Machine.{kind_of, labels, IsBody, at_bottom, in_loop, in_if, in_else, is_open_some, innermost_labelled, close_while-other, no_chain, onto_last}
+use Rattle.adj_parse.proofs.Machine.{kind_of, labels, IsBody, at_bottom, in_loop, in_while, in_if, in_else, is_open_some, innermost_labelled, close_while-other, no_chain, onto_last}
 use Rattle.adj_parse.proofs.BlocksComplete.{is_executable, block}
 
 -- statements of a body, whatever follows
@@ -23,7 +23,8 @@ record Leads (ls : List ℕ) (us rest : List Statement) (acts : Acts) : Type 0 w
 -- the statements before lead to these blocks, and the body of the innermost begins here
 data Begun (total : List Statement) : List Block → List Statement → Type 0 where
   from_start : Begun total [] total
-  of_do : {bs : List Block} {us ts : List Statement} {n l s : ℕ} {k : Option ℕ} {r : Range} {before : Acts} → IsBody bs → Begun total bs us → is_open (labels bs) l ≡ false → Leads (labels bs) us (at n l (opens_do k r s) ∷ ts) before → Begun total (block n before (of_loop k r s) ∷ bs) ts
+  of_do : {bs : List Block} {us ts : List Statement} {n l : ℕ} {s : Mark} {k : Option ℕ} {r : Range} {before : Acts} → IsBody bs → Begun total bs us → is_open (labels bs) l ≡ false → Leads (labels bs) us (at n l (opens_do k r s) ∷ ts) before → Begun total (block n before (of_loop k r s) ∷ bs) ts
+  behind_while : {bs : List Block} {us ts : List Statement} {n l : ℕ} {c : Test} {before : Acts} → IsBody bs → Begun total bs us → is_open (labels bs) l ≡ false → Leads (labels bs) us (at n l (opens_while c) ∷ ts) before → Begun total (block n before (of_while c) ∷ bs) ts
   behind_if : {bs : List Block} {us ts : List Statement} {n l : ℕ} {c : Test} {before : Acts} → IsBody bs → Begun total bs us → is_open (labels bs) l ≡ false → Leads (labels bs) us (at n l (opens_if c) ∷ ts) before → Begun total (block n before (of_if c) ∷ bs) ts
   behind_else : {bs : List Block} {us ts : List Statement} {n m l : ℕ} {c : Test} {before : Acts} {first : Code} → Begun total (block n before (of_if c) ∷ bs) us → is_open (labels bs) l ≡ false → ReadsBody (0 ∷ labels bs) us (at m l otherwise ∷ ts) first → Begun total (block n before (of_else c first) ∷ bs) ts
   behind_chain : {bs : List Block} {us ts : List Statement} {n m l : ℕ} {c d : Test} {before : Acts} {first : Code} → Begun total (block n before (of_if c) ∷ bs) us → is_open (labels bs) l ≡ false → ReadsBody (0 ∷ labels bs) us (at m l (otherwise_if d) ∷ ts) first → Begun total (block m [] (of_if d) ∷ block n before (of_chain c first) ∷ bs) ts
@@ -70,8 +71,11 @@ module _ (total : List Statement) where
   else_whole : {bs : List Block} {us rest : List Statement} {n m l : ℕ} {c : Test} {before : Acts} {first other : Code} → Begun total (block n before (of_else c first) ∷ bs) us → is_open (labels bs) l ≡ false → ReadsBody (0 ∷ labels bs) us (at m l end_if ∷ rest) other → Holds total (close_while is_chain bs (before ++ (n, choose c first other) ∷ [])) rest
   else_whole (behind_else g before r) none q = if_whole g r (blocks.ReadsElse.part before q none)
 
-  do_whole : {bs : List Block} {us rest : List Statement} {n m l s : ℕ} {r : Range} {before : Acts} {body : Code} → Begun total (block n before (of_loop None r s) ∷ bs) us → is_open (labels bs) l ≡ false → ReadsBody (0 ∷ labels bs) us (at m l end_do ∷ rest) body → Holds total (record { blocks = bs; acts = before ++ (n, loop_of r body s) ∷ [] }) rest
+  do_whole : {bs : List Block} {us rest : List Statement} {n m l : ℕ} {s : Mark} {r : Range} {before : Acts} {body : Code} → Begun total (block n before (of_loop None r s) ∷ bs) us → is_open (labels bs) l ≡ false → ReadsBody (0 ∷ labels bs) us (at m l end_do ∷ rest) body → Holds total (record { blocks = bs; acts = before ++ (n, loop_of r body s) ∷ [] }) rest
   do_whole (of_do b g before h) none q = holds_more b g before h (blocks.ReadsAct.unlabelled q none)
+
+  while_whole : {bs : List Block} {us rest : List Statement} {n m l : ℕ} {c : Test} {before : Acts} {body : Code} → Begun total (block n before (of_while c) ∷ bs) us → is_open (labels bs) l ≡ false → ReadsBody (0 ∷ labels bs) us (at m l end_do ∷ rest) body → Holds total (record { blocks = bs; acts = before ++ (n, during c body) ∷ [] }) rest
+  while_whole (behind_while b g before h) none q = holds_more b g before h (blocks.ReadsAct.repeated q none)
 
   same_label : (l : ℕ) (bs : List Block) → IsBody bs → innermost_is (is_labelled l) bs ≡ true → (l ≢ 0) × (innermost (labels bs) ≡ l)
   same_label l bs b h =
@@ -87,6 +91,7 @@ module _ (total : List Statement) where
   -- the loops of a label are whole
   label_whole : {bs : List Block} {us rest : List Statement} {m l : ℕ} {acts : Acts} → innermost_is (is_labelled l) bs ≡ true → Begun total bs us → Leads (labels bs) us (at m l go_on ∷ rest) acts → Holds total (close_while (is_labelled l) bs acts) rest
   label_whole same from_start h = absurd cc
+  label_whole same (behind_while b g none f) h = absurd cc
   label_whole same (behind_if b g none f) h = absurd cc
   label_whole same (behind_else g none f) h = absurd cc
   label_whole same (behind_chain g none f) h = absurd cc
@@ -108,18 +113,21 @@ module _ (total : List Statement) where
   ends_do : (part : Part) (n : ℕ) (before : Acts) (bs : List Block) (acts : Acts) (m l : ℕ) (rest : List Statement) → has_no_label part ≡ true → is_open (labels bs) l ≡ false → Holds total (record { blocks = block n before part ∷ bs; acts = acts }) (at m l end_do ∷ rest) → Holds total (acted (record { blocks = block n before part ∷ bs; acts = acts }) m l end_do) rest
   ends_do (of_loop None r s) n before bs acts m l rest x none h = do_whole h.begun none (listed h.leads)
   ends_do (of_loop (Some k) r s) n before bs acts m l rest x none h = absurd cc
+  ends_do (of_while c) n before bs acts m l rest x none h = while_whole h.begun none (listed h.leads)
   ends_do (of_if c) n before bs acts m l rest x none h = absurd cc
   ends_do (of_else c first) n before bs acts m l rest x none h = absurd cc
   ends_do (of_chain c first) n before bs acts m l rest x none h = absurd cc
 
   turns : (part : Part) (n : ℕ) (before : Acts) (bs : List Block) (acts : Acts) (m l : ℕ) (rest : List Statement) → is_first part ≡ true → is_open (labels bs) l ≡ false → Holds total (record { blocks = block n before part ∷ bs; acts = acts }) (at m l otherwise ∷ rest) → Holds total (acted (record { blocks = block n before part ∷ bs; acts = acts }) m l otherwise) rest
   turns (of_if c) n before bs acts m l rest x none h = record { is_body = in_else; items = rest; begun = behind_else h.begun none (listed h.leads); leads = no_acts }
+  turns (of_while d) n before bs acts m l rest x none h = absurd cc
   turns (of_loop k r s) n before bs acts m l rest x none h = absurd cc
   turns (of_else c first) n before bs acts m l rest x none h = absurd cc
   turns (of_chain c first) n before bs acts m l rest x none h = absurd cc
 
   chains : (d : Test) (part : Part) (n : ℕ) (before : Acts) (bs : List Block) (acts : Acts) (m l : ℕ) (rest : List Statement) → is_first part ≡ true → is_open (labels bs) l ≡ false → Holds total (record { blocks = block n before part ∷ bs; acts = acts }) (at m l (otherwise_if d) ∷ rest) → Holds total (acted (record { blocks = block n before part ∷ bs; acts = acts }) m l (otherwise_if d)) rest
   chains d (of_if c) n before bs acts m l rest x none h = record { is_body = in_if; items = rest; begun = behind_chain h.begun none (listed h.leads); leads = no_acts }
+  chains d (of_while c) n before bs acts m l rest x none h = absurd cc
   chains d (of_loop k r s) n before bs acts m l rest x none h = absurd cc
   chains d (of_else c first) n before bs acts m l rest x none h = absurd cc
   chains d (of_chain c first) n before bs acts m l rest x none h = absurd cc
@@ -127,6 +135,7 @@ module _ (total : List Statement) where
   ends_if : (part : Part) (n : ℕ) (before : Acts) (bs : List Block) (acts : Acts) (m l : ℕ) (rest : List Statement) → is_if part ≡ true → is_open (labels bs) l ≡ false → Holds total (record { blocks = block n before part ∷ bs; acts = acts }) (at m l end_if ∷ rest) → Holds total (acted (record { blocks = block n before part ∷ bs; acts = acts }) m l end_if) rest
   ends_if (of_if c) n before bs acts m l rest x none h = if_whole h.begun (listed h.leads) (blocks.ReadsElse.nothing none)
   ends_if (of_else c first) n before bs acts m l rest x none h = else_whole h.begun none (listed h.leads)
+  ends_if (of_while c) n before bs acts m l rest x none h = absurd cc
   ends_if (of_loop k r s) n before bs acts m l rest x none h = absurd cc
   ends_if (of_chain c first) n before bs acts m l rest x none h = absurd cc
 
@@ -153,6 +162,7 @@ module _ (total : List Statement) where
   steps (simple a) bs acts n l rest x y z h = holds_more h.is_body h.begun (no_label Assign l bs refl z) h.leads blocks.ReadsAct.simply
   steps (logical c a) bs acts n l rest x y z h = holds_more h.is_body h.begun (no_label LogicalIf l bs refl z) h.leads blocks.ReadsAct.guarded
   steps (opens_do k r s) bs acts n l rest x y z h = record { is_body = in_loop; items = rest; begun = of_do h.is_body h.begun (no_label Do l bs refl z) h.leads; leads = no_acts }
+  steps (opens_while c) bs acts n l rest x y z h = record { is_body = in_while; items = rest; begun = behind_while h.is_body h.begun (no_label DoWhile l bs refl z) h.leads; leads = no_acts }
   steps (opens_if c) bs acts n l rest x y z h = record { is_body = in_if; items = rest; begun = behind_if h.is_body h.begun (no_label BlockIf l bs refl z) h.leads; leads = no_acts }
   steps go_on bs acts n l rest x y z h = continues bs acts n l rest z h
   steps end_do [] acts n l rest x y z h = absurd cc

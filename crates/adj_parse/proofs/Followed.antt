@@ -1,9 +1,10 @@
 -- The chain of faults: what it lets through is derived, and what is derived it refuses for its size alone.
 use Rattle.std.proofs.Common.{◌≡◌, ℕ, Bool, true, false, cond, List, [], ◌∷◌, Option, Some, None, Result, Ok, Err, refl, sym, ap, subst, ◌∙◌, ◌⊎◌, inl, inr}
 use Rattle.std.proofs.Math.Dec.{eqb-suc-zero}
-use Rattle.std.proofs.lemmas.Bool.{eqb-true, or_parts}
+use Rattle.std.proofs.lemmas.Bool.{or_parts}
 use Rattle.std.specs.Prelude.{◌==◌, ◌&&◌, ◌||◌, not, is_none, nat_le, length, unwrap_or}
-use Rattle.adj_tree.specs.Code.{Procedure}
+use Rattle.adj_tree.specs.Code.{Mark, unmarked, with_count, count_from, Procedure}
+use Rattle.adj_tree.specs.View.{mark_of}
 use Rattle.adj_tree.specs.declared.fault.Refusal.{Refusal}
 use Rattle.adj_expression.specs.declared.flaw.Flaw.{Flaw}
 use Rattle.adj_expression.specs.declared.flaw.Flaw.TheVariants.{Large, Deep}
@@ -19,7 +20,7 @@ use Rattle.adj_text.specs.declared.stated.Kind.TheVariants.{Do, Assign, Call}
 use Rattle.adj_text.specs.declared.stated.Stated.{Stated}
 use Rattle.adj_parse.specs.Order.{breaks_loop, is_end, is_heading, opens_block}
 use Rattle.adj_statement.specs.Said.{said}
-use Rattle.adj_parse.specs.Trees.{bounds_of, State, is_do, has_stray_mark, is_large, is_deep, is_full, IsBeyond, with_form, is_astray, checked, behind, follow, trees_from}
+use Rattle.adj_parse.specs.Trees.{bounds_of, State, is_do, is_marked, has_stray_mark, is_large, is_deep, is_full, IsBeyond, with_form, is_astray, checked, behind, follow, trees_from}
 use Rattle.adj_parse.specs.Unit.{Current, followed, open_blocks, is_misplaced}
 use Rattle.adj_text.proofs.LinesMarked.{bind_ok}
 use Rattle.adj_parse.proofs.Truths.{and_false}
@@ -29,7 +30,7 @@ use Rattle.adj_statement.proofs.SaidForms.{said_reads, said_answers}
 use Rattle.adj_parse.proofs.UnitsFit.{AreFit}
 
 -- a statement stands as its form does
-same_place : {mark : ℕ} {kind : Kind} {words : List Word} {f : Form} → ReadsForm mark kind words f → (l : ℕ) (current : Option Current) → stands kind l current ≡ stands (kind_of f) l current
+same_place : {mark : Mark} {kind : Kind} {words : List Word} {f : Form} → ReadsForm mark kind words f → (l : ℕ) (current : Option Current) → stands kind l current ≡ stands (kind_of f) l current
 same_place (forms.ReadsForm.heading d) l c = refl
 same_place forms.ReadsForm.implicit l c = refl
 same_place (forms.ReadsForm.declaration d) l c = refl
@@ -41,6 +42,7 @@ same_place (forms.ReadsForm.calls d) l c = calls_place l c
     calls_place l (Some c) = refl
 same_place (forms.ReadsForm.guarded d e) l c = refl
 same_place (forms.ReadsForm.begins d) l c = refl
+same_place (forms.ReadsForm.repeats d) l c = refl
 same_place forms.ReadsForm.finished l c = refl
 same_place forms.ReadsForm.continued l c = refl
 same_place (forms.ReadsForm.tests d) l c = refl
@@ -120,26 +122,32 @@ not_both true b h = absurd cc
 not_both false true h = absurd cc
 not_both false false h = (refl, refl)
 
-both_not : (a b : Bool) → (not a && not b) ≡ false → (a ≡ true) ⊎ (b ≡ true)
-both_not true b h = inl refl
-both_not false true h = inr refl
-both_not false false h = absurd cc
+either : (a b : Bool) → (a && not b) ≡ false → (a ≡ false) ⊎ (b ≡ true)
+either false b h = inl refl
+either true true h = inr refl
+either true false h = absurd cc
+
+no_mark : (m : Mark) → is_marked m ≡ false → m ≡ unmarked
+no_mark unmarked h = refl
+no_mark (with_count n) h = absurd cc
+no_mark (count_from x) h = absurd cc
 
 is_do_is : (kind : Kind) → is_do kind ≡ true → kind ≡ Do
 is_do_is Do h = refl
 is_do_is kind h = absurd cc
 
-led_by : (t : Stated) → has_stray_mark t ≡ false → (t.mark ≡ 0) ⊎ (t.kind ≡ Do)
-led_by t h = elim (both_not (t.mark == 0) (is_do t.kind) h) [ inl e ↦ inl (eqb-true t.mark 0 e) | inr e ↦ inr (is_do_is t.kind e) ]
+led_by : (t : Stated) → has_stray_mark t ≡ false → (mark_of t.mark ≡ unmarked) ⊎ (t.kind ≡ Do)
+led_by t h = elim (either (is_marked (mark_of t.mark)) (is_do t.kind) h) [ inl e ↦ inl (no_mark (mark_of t.mark) e) | inr e ↦ inr (is_do_is t.kind e) ]
 
-led_form : {mark : ℕ} {kind : Kind} {ws : List Word} {f : Form} → ReadsForm mark kind ws f → (not (mark == 0) && not (is_do kind)) ≡ false
+led_form : {mark : Mark} {kind : Kind} {ws : List Word} {f : Form} → ReadsForm mark kind ws f → (is_marked mark && not (is_do kind)) ≡ false
 led_form (forms.ReadsForm.heading d) = refl
 led_form forms.ReadsForm.implicit = refl
 led_form (forms.ReadsForm.declaration d) = refl
 led_form (forms.ReadsForm.assigned d) = refl
 led_form (forms.ReadsForm.calls d) = refl
 led_form (forms.ReadsForm.guarded d e) = refl
-led_form (forms.ReadsForm.begins {mark = mark} d) = and_false (not (mark == 0))
+led_form (forms.ReadsForm.begins {mark = mark} d) = and_false (is_marked mark)
+led_form (forms.ReadsForm.repeats d) = refl
 led_form forms.ReadsForm.finished = refl
 led_form forms.ReadsForm.continued = refl
 led_form (forms.ReadsForm.tests d) = refl
@@ -150,7 +158,7 @@ led_form forms.ReadsForm.returned = refl
 led_form forms.ReadsForm.ended = refl
 
 -- END is END, and closes the unit
-same_end : {mark : ℕ} {kind : Kind} {ws : List Word} {f : Form} → ReadsForm mark kind ws f → is_end kind ≡ is_end (kind_of f)
+same_end : {mark : Mark} {kind : Kind} {ws : List Word} {f : Form} → ReadsForm mark kind ws f → is_end kind ≡ is_end (kind_of f)
 same_end (forms.ReadsForm.heading d) = refl
 same_end forms.ReadsForm.implicit = refl
 same_end (forms.ReadsForm.declaration d) = refl
@@ -158,6 +166,7 @@ same_end (forms.ReadsForm.assigned d) = refl
 same_end (forms.ReadsForm.calls d) = refl
 same_end (forms.ReadsForm.guarded d e) = refl
 same_end (forms.ReadsForm.begins d) = refl
+same_end (forms.ReadsForm.repeats d) = refl
 same_end forms.ReadsForm.finished = refl
 same_end forms.ReadsForm.continued = refl
 same_end (forms.ReadsForm.tests d) = refl
@@ -192,18 +201,18 @@ module _ (mode : Mode) where
   -- each of some statements says what stands here, and its directive has its place
   pub data AllSay : List Stated → List Statement → Type 0 where
     none : AllSay [] []
-    more : {t : Stated} {ts : List Stated} {f : Form} {ss : List Statement} → said (bounds_of mode).depth t.mark t.kind (words t) ≡ Some (Ok f) → has_stray_mark t ≡ false → AllSay ts ss → AllSay (t ∷ ts) (at t.line t.label f ∷ ss)
+    more : {t : Stated} {ts : List Stated} {f : Form} {ss : List Statement} → said (bounds_of mode).depth (mark_of t.mark) t.kind (words t) ≡ Some (Ok f) → has_stray_mark t ≡ false → AllSay ts ss → AllSay (t ∷ ts) (at t.line t.label f ∷ ss)
 
   pub reads_all : {ts : List Stated} {ss : List Statement} → AllSay ts ss → ReadsAll ts ss
   reads_all none = texts.ReadsAll.none
-  reads_all (more {t = t} {f = f} e led rest) = texts.ReadsAll.more (said_reads (bounds_of mode).depth t.mark t.kind (words t) f e (led_by t led)) (reads_all rest)
+  reads_all (more {t = t} {f = f} e led rest) = texts.ReadsAll.more (said_reads (bounds_of mode).depth (mark_of t.mark) t.kind (words t) f e (led_by t led)) (reads_all rest)
 
   pub all_fit : {ts : List Stated} {ss : List Statement} → AllSay ts ss → AreFit ss
   all_fit none = tt
-  all_fit (more {t = t} {f = f} e led rest) = (said_fits (bounds_of mode).depth t.mark t.kind (words t) f e, all_fit rest)
+  all_fit (more {t = t} {f = f} e led rest) = (said_fits (bounds_of mode).depth (mark_of t.mark) t.kind (words t) f e, all_fit rest)
 
   abbrev found : Stated → Option (Result Form Flaw)
-  found t = said (bounds_of mode).depth t.mark t.kind (words t)
+  found t = said (bounds_of mode).depth (mark_of t.mark) t.kind (words t)
 
   -- where no statement is left, no unit is open
   abbrev pub Closed : List Stated → State → Type 0
@@ -220,13 +229,13 @@ module _ (mode : Mode) where
       let f : Form = b.0 in
       let thr = through mode s t (length ts) (found t) f b.1 in
       let here : behind s t f ≡ a.0 = cc (b.2) in
-      let d = said_reads (bounds_of mode).depth t.mark t.kind (words t) f thr.says (led_by t thr.led) in
+      let d = said_reads (bounds_of mode).depth (mark_of t.mark) t.kind (words t) f thr.says (led_by t thr.led) in
       let rest = chain_runs ts (behind s t f) ps (closes ts d thr.end) (ap (λ next. trees_from mode next ts) here ∙ a.2) in
       let place : stands t.kind t.label s.units.current ≡ true = rw (thr.place, thr.breaks) refl in
       let stands_so : stands (kind_of f) t.label s.units.current ≡ true = sym (same_place d t.label s.units.current) ∙ place in
       (at t.line t.label f ∷ rest.0, more thr.says thr.led rest.1, rw stands_so rest.2)
     where
-      closes : {f : Form} (ts : List Stated) → ReadsForm t.mark t.kind (words t) f → ((length ts == 0) && not (is_end t.kind)) ≡ false → Closed ts (behind s t f)
+      closes : {f : Form} (ts : List Stated) → ReadsForm (mark_of t.mark) t.kind (words t) f → ((length ts == 0) && not (is_end t.kind)) ≡ false → Closed ts (behind s t f)
       closes {f} [] d e = end_closes s.units.done s.units.current t.line t.label f (sym (same_end d) ∙ sure (is_end t.kind) e)
       closes (u ∷ us) d e = tt
 
@@ -237,7 +246,7 @@ module _ (mode : Mode) where
       let step = picked (stands (kind_of f) t.label s.units.current) (run (followed s.units.done s.units.current t.line t.label f) ss) h in
       let place = not_both (is_misplaced t.kind s.units.current) (breaks_loop t.kind t.label (open_blocks s.units.current)) (same_place d t.label s.units.current ∙ step.0) in
       let right : is_astray t (length ts) s.units.current ≡ false = rw (place.0) (last_ends rest step.1) in
-      elim (comes mode s t (length ts) (found t) f (led_form d) right place.1 (said_answers (bounds_of mode).depth t.mark t.kind (words t) f d)) [
+      elim (comes mode s t (length ts) (found t) f (led_form d) right place.1 (said_answers (bounds_of mode).depth (mark_of t.mark) t.kind (words t) f d)) [
         | inl e ↦ subst (Comes ps) (sym (ap (λ r. (r >>= λ g. Ok (behind s t g)) >>= λ next. trees_from mode next ts) e)) (chain_comes rest (behind s t f) ps step.1)
         | inr (r, e, code) ↦ inr (r, ap (λ q. (q >>= λ g. Ok (behind s t g)) >>= λ next. trees_from mode next ts) e, code)
       ]

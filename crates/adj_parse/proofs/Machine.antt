@@ -3,14 +3,14 @@ use Rattle.std.proofs.Common.{◌≡◌, ℕ, Bool, true, false, cond, eqb, List
 use Rattle.std.specs.Prelude.{◌==◌, ◌&&◌, ◌||◌, not}
 use Rattle.std.specs.List.{list_any}
 use Rattle.std.proofs.lemmas.Bool.{ne_eqb, eqb-false}
-use Rattle.adj_tree.specs.Code.{Test, Act, Code, stop, step, Procedure}
+use Rattle.adj_tree.specs.Code.{Test, Mark, Act, Code, stop, step, Procedure}
 use Rattle.adj_tree.specs.Listed.{code_onto, code_listed}
 use Rattle.adj_text.specs.Statement.{Range}
 use Rattle.adj_text.specs.Block.{is_open, innermost}
-use Rattle.adj_text.specs.Form.{Form, subroutine, implicit_none, integers, simple, logical, opens_do, end_do, go_on, opens_if, otherwise, otherwise_if, end_if, leaves, ends, Statement, at}
+use Rattle.adj_text.specs.Form.{Form, subroutine, implicit_none, integers, simple, logical, opens_do, opens_while, end_do, go_on, opens_if, otherwise, otherwise_if, end_if, leaves, ends, Statement, at}
 use Rattle.adj_text.specs.declared.stated.Kind.{Kind}
-use Rattle.adj_text.specs.declared.stated.Kind.TheVariants.{Do, BlockIf, LogicalIf, Assign, Continue, Return, End, EndIf, EndDo, Else, ImplicitNone, ElseIf, Subroutine, Integer}
-use Rattle.adj_parse.specs.Blocks.{Acts, Part, of_loop, of_if, of_else, of_chain, Block, is_chain, is_labelled, close_while}
+use Rattle.adj_text.specs.declared.stated.Kind.TheVariants.{Do, BlockIf, LogicalIf, Assign, Continue, Return, End, EndIf, EndDo, Else, ImplicitNone, ElseIf, DoWhile, Subroutine, Integer}
+use Rattle.adj_parse.specs.Blocks.{Acts, Part, of_loop, of_while, of_if, of_else, of_chain, Block, is_chain, is_labelled, close_while}
 use Rattle.adj_parse.specs.Order.{innermost_is, some_is, breaks_loop}
 use Rattle.adj_parse.specs.Unit.{Current, Units, followed, open_blocks, is_misplaced}
 
@@ -22,6 +22,7 @@ kind_of (integers is) = Integer
 kind_of (simple a) = Assign
 kind_of (logical c a) = LogicalIf
 kind_of (opens_do l r n) = Do
+kind_of (opens_while c) = DoWhile
 kind_of end_do = EndDo
 kind_of go_on = Continue
 kind_of (opens_if c) = BlockIf
@@ -53,6 +54,7 @@ picked false x h = absurd cc
 abbrev pub labels_before : Part → List ℕ → List ℕ
 labels_before (of_loop None r s) ls = 0 ∷ ls
 labels_before (of_loop (Some l) r s) ls = l ∷ ls
+labels_before (of_while c) ls = 0 ∷ ls
 labels_before (of_if c) ls = 0 ∷ ls
 labels_before (of_else c first) ls = 0 ∷ ls
 labels_before (of_chain c first) ls = ls
@@ -64,7 +66,8 @@ labels (b ∷ bs) = labels_before b.part (labels bs)
 -- a body stands directly in the innermost block
 pub data IsBody : List Block → Type 0 where
   at_bottom : IsBody []
-  in_loop : {n s : ℕ} {l : Option ℕ} {r : Range} {before : Acts} {bs : List Block} → IsBody (record { line = n; before = before; part = of_loop l r s } ∷ bs)
+  in_loop : {n : ℕ} {s : Mark} {l : Option ℕ} {r : Range} {before : Acts} {bs : List Block} → IsBody (record { line = n; before = before; part = of_loop l r s } ∷ bs)
+  in_while : {n : ℕ} {c : Test} {before : Acts} {bs : List Block} → IsBody (record { line = n; before = before; part = of_while c } ∷ bs)
   in_if : {n : ℕ} {c : Test} {before : Acts} {bs : List Block} → IsBody (record { line = n; before = before; part = of_if c } ∷ bs)
   in_else : {n : ℕ} {c : Test} {first : Code} {before : Acts} {bs : List Block} → IsBody (record { line = n; before = before; part = of_else c first } ∷ bs)
 
@@ -82,6 +85,7 @@ one_open false some any h e = rw h refl
 open_step : (part : Part) (l : ℕ) (ls : List ℕ) (some : Bool) → is_open ls l ≡ some → is_open (labels_before part ls) l ≡ (is_labelled l part || some)
 open_step (of_loop None r s) l ls some h = none_open (eqb l 0) some (list_any (λ k. k == l) ls) h (0 == l) (zero_other l)
 open_step (of_loop (Some k) r s) l ls some h = one_open (eqb l 0) some (list_any (λ k. k == l) ls) h (k == l)
+open_step (of_while c) l ls some h = none_open (eqb l 0) some (list_any (λ k. k == l) ls) h (0 == l) (zero_other l)
 open_step (of_if c) l ls some h = none_open (eqb l 0) some (list_any (λ k. k == l) ls) h (0 == l) (zero_other l)
 open_step (of_else c first) l ls some h = none_open (eqb l 0) some (list_any (λ k. k == l) ls) h (0 == l) (zero_other l)
 open_step (of_chain c first) l ls some h = h
@@ -104,6 +108,7 @@ pub innermost_labelled : {bs : List Block} (l : ℕ) → IsBody bs → innermost
 innermost_labelled l at_bottom = unlabelled_is l (eqb l 0) refl
 innermost_labelled l (in_loop {l = Some k}) = refl
 innermost_labelled l (in_loop {l = None}) = unlabelled_is l (eqb l 0) refl
+innermost_labelled l in_while = unlabelled_is l (eqb l 0) refl
 innermost_labelled l in_if = unlabelled_is l (eqb l 0) refl
 innermost_labelled l in_else = unlabelled_is l (eqb l 0) refl
 
@@ -114,6 +119,7 @@ close_while-other is_such (b ∷ bs) acts h = rw h refl
 pub no_chain : {bs : List Block} → IsBody bs → innermost_is is_chain bs ≡ false
 no_chain at_bottom = refl
 no_chain in_loop = refl
+no_chain in_while = refl
 no_chain in_if = refl
 no_chain in_else = refl
 

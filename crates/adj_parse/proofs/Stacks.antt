@@ -8,7 +8,7 @@ use Rattle.std.specs.Prelude.{map, reverse, slice_get, ◌||◌}
 use Rattle.adj_tree.specs.Listed.{statement_of, code_listed}
 use Rattle.adj_tree.specs.declared.stmt.Stmt.{Stmt}
 use Rattle.adj_parse.specs.Blocks as blocks
-use Rattle.adj_parse.specs.Blocks.{Acts, of_loop, of_if, of_else, of_chain, turned}
+use Rattle.adj_parse.specs.Blocks.{Acts, of_loop, of_while, of_if, of_else, of_chain, turned}
 use Rattle.adj_parse.specs.Order.{innermost_is, some_is}
 use Rattle.adj_parse.specs.NestView.{part_of, block_of, blocks_of, other_part, turn_of}
 use Rattle.adj_parse.specs.declared.block.Block.{Block}
@@ -61,6 +61,7 @@ some_block is_such items =
 -- the other part of an IF, from the statements of the first
 pub turned_other : (turn : Turn) (part : blocks.Part) (acts : Acts) → turned (turn_of turn) part acts ≡ other_part turn part (code_listed acts)
 turned_other turn (of_loop l r s) acts = refl
+turned_other turn (of_while c) acts = refl
 turned_other turn (of_if c) acts = refl
 turned_other turn (of_else c first) acts = refl
 turned_other turn (of_chain c first) acts = refl

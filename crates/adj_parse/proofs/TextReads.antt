@@ -2,7 +2,7 @@
 use Rattle.std.proofs.Common.{◌≡◌, ℕ, List, [], ◌∷◌, Result, Ok, Err, refl, subst, ◌⊎◌}
 use Rattle.std.specs.Prelude.{IfOk}
 use Rattle.adj_tree.specs.Code.{Procedure}
-use Rattle.adj_tree.specs.View.{procedures_of}
+use Rattle.adj_tree.specs.View.{mark_of, procedures_of}
 use Rattle.adj_tree.specs.declared.unit.Program.{Program}
 use Rattle.adj_tree.specs.declared.fault.Fault.{Fault}
 use Rattle.adj_tree.specs.declared.fault.Refusal.{Refusal}
@@ -44,7 +44,7 @@ fits mode stated ps h = let r = chain_runs mode stated (start mode) ps (closed m
 one_all : {stated : List Stated} {ss ts : List Statement} → ReadsAll stated ss → ReadsAll stated ts → ss ≡ ts
 one_all texts.ReadsAll.none texts.ReadsAll.none = refl
 one_all (texts.ReadsAll.more {s = s} {f = f} d r) (texts.ReadsAll.more {f = g} e q) =
-    let forms : f ≡ g = one_form s.mark s.kind (words_of s.text s.tokens) f g d e in
+    let forms : f ≡ g = one_form (mark_of s.mark) s.kind (words_of s.text s.tokens) f g d e in
     let rest = one_all r q in
     cc
 

@@ -39,6 +39,7 @@ module _ (done : List Procedure) where
   act_early blocks.ReadsAct.guarded p unit l h = rw (not_left p h) refl
   act_early (blocks.ReadsAct.branch r q) p unit l h = rw (not_left p h) refl
   act_early (blocks.ReadsAct.unlabelled r g) p unit l h = rw (not_left p h) refl
+  act_early (blocks.ReadsAct.repeated r g) p unit l h = rw (not_left p h) refl
   act_early (blocks.ReadsAct.labelled some other r) p unit l h = rw (not_left p h) refl
   act_early (blocks.ReadsAct.shared some same r) p unit l h = rw (not_left p h) refl
 

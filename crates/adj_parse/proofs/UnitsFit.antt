@@ -27,6 +27,7 @@ mutual
   act_fits blocks.ReadsAct.guarded w h = (h, (w.0, (w.1, tt), tt))
   act_fits (blocks.ReadsAct.branch a b) w h = let r = body_fits a h in let q = else_fits b r.0 in (q.0, (w, r.1, q.1))
   act_fits (blocks.ReadsAct.unlabelled b c) w h = let r = body_fits b h in (r.0.1, (w.0, w.1, w.2, r.1))
+  act_fits (blocks.ReadsAct.repeated b c) w h = let r = body_fits b h in (r.0.1, (w, r.1))
   act_fits (blocks.ReadsAct.labelled c d b) w h = let r = body_fits b h in (r.0.1, (w.0, w.1, w.2, r.1))
   act_fits (blocks.ReadsAct.shared c d b) w h = let r = body_fits b h in (r.0, (w.0, w.1, w.2, r.1))
 

@@ -6,7 +6,7 @@ use Rattle.std.specs.Prelude.{◌==◌, ◌&&◌, ◌||◌, not}
 use Rattle.adj_tree.specs.Code.{stop, Declaration, Procedure}
 use Rattle.adj_tree.specs.Listed.{code_listed}
 use Rattle.adj_text.specs.Block.{ReadsBody}
-use Rattle.adj_text.specs.Form.{Form, subroutine, implicit_none, integers, simple, logical, opens_do, end_do, go_on, opens_if, otherwise, otherwise_if, end_if, leaves, ends, Statement, at}
+use Rattle.adj_text.specs.Form.{Form, subroutine, implicit_none, integers, simple, logical, opens_do, opens_while, end_do, go_on, opens_if, otherwise, otherwise_if, end_if, leaves, ends, Statement, at}
 use Rattle.adj_text.specs.Statement.{Item}
 use Rattle.adj_text.specs.Unit as units
 use Rattle.adj_text.specs.Unit.{ReadsImplicit, declaration_of, ReadsDeclarations, ReadsEnd, ReadsUnit, ReadsUnits}
@@ -164,6 +164,9 @@ module _ (all : List Statement) (ps : List Procedure) where
     within (at m l (opens_do q v s) ∷ rest) n x dummies ts k done p unit nest a r h =
         let t = first done p unit nest m l (opens_do q v s) rest h in
         within rest n x dummies ts k done Acting unit (acted nest m l (opens_do q v s)) a (acts n x dummies ts p unit nest m l (opens_do q v s) rest refl t.0.follows t.0 r) t.1
+    within (at m l (opens_while c) ∷ rest) n x dummies ts k done p unit nest a r h =
+        let t = first done p unit nest m l (opens_while c) rest h in
+        within rest n x dummies ts k done Acting unit (acted nest m l (opens_while c)) a (acts n x dummies ts p unit nest m l (opens_while c) rest refl t.0.follows t.0 r) t.1
     within (at m l end_do ∷ rest) n x dummies ts k done p unit nest a r h =
         let t = first done p unit nest m l end_do rest h in
         within rest n x dummies ts k done Acting unit (acted nest m l end_do) a (acts n x dummies ts p unit nest m l end_do rest refl t.0.follows t.0 r) t.1

@@ -1,10 +1,10 @@
 -- Blocks: the open blocks of a unit, and what an executable statement makes of them.
 use Rattle.std.specs.Prelude.{ℕ, Bool, true, false, not, ◌==◌, ◌&&◌, List, [], ◌∷◌, ◌++◌, Option, Some, if◌then◌else◌}
-use Rattle.adj_tree.specs.Code.{Test, Act, Code, choose, stop, step}
+use Rattle.adj_tree.specs.Code.{Test, Mark, Act, Code, choose, during, stop, step}
 use Rattle.adj_tree.specs.Listed.{code_listed}
 use Rattle.adj_text.specs.Statement.{Range}
 use Rattle.adj_text.specs.Block.{loop_of}
-use Rattle.adj_text.specs.Form.{Form, simple, logical, opens_do, end_do, go_on, opens_if, otherwise, otherwise_if, end_if}
+use Rattle.adj_text.specs.Form.{Form, simple, logical, opens_do, opens_while, end_do, go_on, opens_if, otherwise, otherwise_if, end_if}
 
 -- statements in order, each with its line
 abbrev pub Acts : Type 0
@@ -12,8 +12,10 @@ Acts = List (ℕ × Act)
 
 -- the part of a DO or an IF whose statements are being read
 pub data Part : Type 0 where
-  -- the body of a loop, with the label of the loop where it has one, its range and its snapshots
-  of_loop : Option ℕ → Range → ℕ → Part
+  -- the body of a DO, with the label of the DO where it has one, its range and its mark
+  of_loop : Option ℕ → Range → Mark → Part
+  -- the body of a DO WHILE
+  of_while : Test → Part
   -- the statements behind IF
   of_if : Test → Part
   -- those behind ELSE, and the ones before it
@@ -37,7 +39,8 @@ no_blocks = record { blocks = []; acts = [] }
 
 -- the DO or IF whose last part has these statements
 abbrev pub whole : Part → Code → Act
-whole (of_loop label r snapshots) body = loop_of r body snapshots
+whole (of_loop label r mark) body = loop_of r body mark
+whole (of_while c) body = during c body
 whole (of_if c) body = choose c body stop
 whole (of_else c first) body = choose c first body
 whole (of_chain c first) body = choose c first body
@@ -80,14 +83,15 @@ is_chain part = false
 
 -- whether a part is the body of the loop of a label; 0 is none
 abbrev pub is_labelled : ℕ → Part → Bool
-is_labelled l (of_loop (Some k) r snapshots) = not (l == 0) && k == l
+is_labelled l (of_loop (Some k) r mark) = not (l == 0) && k == l
 is_labelled l part = false
 
 -- what an executable statement of this line and label makes of the blocks, where it may stand there
 abbrev pub acted : Nest → ℕ → ℕ → Form → Nest
 acted nest n l (simple a) = add nest n a
 acted nest n l (logical c a) = add nest n (choose c (step n a stop) stop)
-acted nest n l (opens_do label r snapshots) = begin nest n (of_loop label r snapshots)
+acted nest n l (opens_do label r mark) = begin nest n (of_loop label r mark)
+acted nest n l (opens_while c) = begin nest n (of_while c)
 acted nest n l end_do = close nest.blocks nest.acts
 -- a CONTINUE ends each innermost loop of its label, one directly inside the other
 acted nest n l go_on = close_while (is_labelled l) nest.blocks nest.acts

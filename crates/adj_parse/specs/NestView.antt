@@ -2,10 +2,10 @@
 use Rattle.std.specs.Prelude.{Bool, List, map, reverse, option_map}
 use Rattle.adj_tree.specs.Code.{Test, Code}
 use Rattle.adj_tree.specs.Listed.{statement_of}
-use Rattle.adj_tree.specs.View.{test_of, code_of}
+use Rattle.adj_tree.specs.View.{test_of, mark_of, code_of}
 use Rattle.adj_statement.specs.View.{label_of, range_of}
 use Rattle.adj_parse.specs.Blocks as blocks
-use Rattle.adj_parse.specs.Blocks.{of_loop, of_if, of_else, of_chain, is_labelled, is_chain}
+use Rattle.adj_parse.specs.Blocks.{of_loop, of_while, of_if, of_else, of_chain, is_labelled, is_chain}
 use Rattle.adj_parse.specs.Order.{has_label, has_no_label, is_first, is_if}
 use Rattle.adj_parse.specs.declared.block.Block.{Block}
 use Rattle.adj_parse.specs.declared.nest.Nest.{Nest}
@@ -17,7 +17,8 @@ use Rattle.adj_parse.specs.declared.block.Turn.{Turn}
 use Rattle.adj_parse.specs.declared.block.Turn.TheVariants as turns
 
 abbrev pub part_of : Part → blocks.Part
-part_of (parts.Loop l r s) = of_loop (option_map label_of l) (range_of r) s
+part_of (parts.Loop l r m) = of_loop (option_map label_of l) (range_of r) (mark_of m)
+part_of (parts.While c) = of_while (test_of c)
 part_of (parts.If c) = of_if (test_of c)
 part_of (parts.Else c first) = of_else (test_of c) (code_of first)
 part_of (parts.Chain c first) = of_chain (test_of c) (code_of first)

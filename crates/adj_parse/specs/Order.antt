@@ -2,10 +2,10 @@
 use Rattle.std.specs.Prelude.{ℕ, Bool, true, false, not, ◌==◌, ◌&&◌, ◌||◌, List, [], ◌∷◌, length, Some, None}
 use Rattle.std.specs.List.{list_any}
 use Rattle.adj_text.specs.declared.stated.Kind.{Kind}
-use Rattle.adj_text.specs.declared.stated.Kind.TheVariants.{Do, BlockIf, LogicalIf, Continue, Return, End, EndIf, EndDo, Else, ImplicitNone, ElseIf, Subroutine, Integer}
+use Rattle.adj_text.specs.declared.stated.Kind.TheVariants.{Do, BlockIf, LogicalIf, Continue, Return, End, EndIf, EndDo, Else, ImplicitNone, ElseIf, DoWhile, Subroutine, Integer}
 use Rattle.adj_parse.specs.declared.phase.Phase.{Phase}
 use Rattle.adj_parse.specs.declared.phase.Phase.TheVariants.{Heading, Declaring, Leaving}
-use Rattle.adj_parse.specs.Blocks.{Part, of_loop, of_if, of_else, Block, is_labelled}
+use Rattle.adj_parse.specs.Blocks.{Part, of_loop, of_while, of_if, of_else, Block, is_labelled}
 
 -- whether a unit has SUBROUTINE alone; no executable statement; a RETURN
 abbrev pub is_bare : Phase → Bool
@@ -29,13 +29,14 @@ may_follow Integer phase = is_early phase
 may_follow End phase = true
 may_follow kind phase = not (is_left phase)
 
--- the body of a loop with a label, and of one without
+-- the body of a loop with a label, and of one without; a DO WHILE has none
 abbrev pub has_label : Part → Bool
-has_label (of_loop (Some l) r snapshots) = true
+has_label (of_loop (Some l) r mark) = true
 has_label part = false
 
 abbrev pub has_no_label : Part → Bool
-has_no_label (of_loop None r snapshots) = true
+has_no_label (of_loop None r mark) = true
+has_no_label (of_while c) = true
 has_no_label part = false
 
 -- an IF that has no ELSE yet, and one that has
@@ -105,6 +106,7 @@ is_end kind = false
 -- whether a statement opens a block, if only for one statement
 abbrev pub opens_block : Kind → Bool
 opens_block Do = true
+opens_block DoWhile = true
 opens_block BlockIf = true
 opens_block LogicalIf = true
 opens_block ElseIf = true

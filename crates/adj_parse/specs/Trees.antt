@@ -1,6 +1,7 @@
 -- Trees: the program that statements are, or their first fault.
 use Rattle.std.specs.Prelude.{◌≡◌, ℕ, ◌-◌, ◌==◌, nat_le, Bool, true, false, not, ◌&&◌, ◌||◌, List, [], ◌∷◌, length, Option, Some, None, is_none, unwrap_or, Result, Ok, Err, ◌⊎◌, if◌then◌else◌}
-use Rattle.adj_tree.specs.Code.{Procedure}
+use Rattle.adj_tree.specs.Code.{Mark, unmarked, Procedure}
+use Rattle.adj_tree.specs.View.{mark_of}
 use Rattle.adj_tree.specs.declared.fault.Refusal.{Refusal}
 use Rattle.adj_expression.specs.declared.flaw.Flaw.{Flaw}
 use Rattle.adj_expression.specs.declared.flaw.Flaw.TheVariants.{Large, Deep}
@@ -41,9 +42,13 @@ abbrev pub is_do : Kind → Bool
 is_do Do = true
 is_do kind = false
 
--- a directive before another statement than a DO
+abbrev pub is_marked : Mark → Bool
+is_marked unmarked = false
+is_marked mark = true
+
+-- a directive before another statement than a DO; a DO WHILE is none
 abbrev pub has_stray_mark : Stated → Bool
-has_stray_mark t = not (t.mark == 0) && not (is_do t.kind)
+has_stray_mark t = is_marked (mark_of t.mark) && not (is_do t.kind)
 
 -- whether a statement has a literal above the greatest word, or too deep an expression
 abbrev pub is_large : {A : Type 0} → Option (Result A Flaw) → Bool
@@ -91,7 +96,7 @@ behind s t f = record { units = followed s.units.done s.units.current t.line t.l
 
 -- the next statement, behind which some are left, is read or refused
 unfoldable pub follow : Mode → State → Stated → ℕ → Result State Refusal
-follow mode s t left = checked (bounds_of mode) s t left (said (bounds_of mode).depth t.mark t.kind (words_of t.text t.tokens)) >>= λ f. Ok (behind s t f)
+follow mode s t left = checked (bounds_of mode) s t left (said (bounds_of mode).depth (mark_of t.mark) t.kind (words_of t.text t.tokens)) >>= λ f. Ok (behind s t f)
 
 -- the units so far, and those of the statements that are left
 unfoldable pub trees_from : Mode → State → List Stated → Result (List Procedure) Refusal

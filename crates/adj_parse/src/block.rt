@@ -6,13 +6,15 @@ ghost use Rattle.adj_parse.specs.Blocks.{whole, turned};
 ghost use Rattle.adj_parse.specs.NestView.{part_of, is_shape, other_part};
 
 use adj_statement::{Label, Range};
-use adj_tree::{Act, Cond, Stmt, Stmts};
+use adj_tree::{Act, Cond, Mark, Stmt, Stmts};
 
 /// The part of a DO or an IF whose statements are being read.
 #[derive(Drop)]
 pub(crate) enum Part {
-    /// The body of a loop, with its label where it has one, and its snapshots.
-    Loop(Option<Label>, Range, u32),
+    /// The body of a DO, with its label where it has one, and its mark.
+    Loop(Option<Label>, Range, Mark),
+    /// The body of a DO WHILE.
+    While(Cond),
     /// The statements behind IF.
     If(Cond),
     /// Those behind ELSE, and the ones before it.
@@ -26,7 +28,7 @@ pub(crate) enum Part {
 pub(crate) enum Shape {
     /// A loop with a label.
     Labelled,
-    /// A loop without one.
+    /// A loop without one; a DO WHILE is such.
     Unlabelled,
     /// The loop of a label; 0 is none.
     LoopOf(u32),
@@ -59,14 +61,10 @@ impl Part {
         ensures { act_of result ≡ whole (part_of self) (code_of body) }
     {
         match self {
-            Part::Loop(_, range, snapshots) => Act::Loop(
-                range.counter,
-                range.from,
-                range.to,
-                range.by,
-                body,
-                snapshots,
-            ),
+            Part::Loop(_, range, mark) => {
+                Act::Loop(range.counter, range.from, range.to, range.by, body, mark)
+            }
+            Part::While(cond) => Act::While(cond, body),
             Part::If(cond) => Act::If(cond, body, Stmts::Empty),
             Part::Else(cond, first) => Act::If(cond, first, body),
             Part::Chain(cond, first) => Act::If(cond, first, body),
@@ -101,7 +99,7 @@ impl Part {
     {
         match shape {
             Shape::Labelled => matches!(self, Part::Loop(Some(_), _, _)),
-            Shape::Unlabelled => matches!(self, Part::Loop(None, _, _)),
+            Shape::Unlabelled => matches!(self, Part::Loop(None, _, _) | Part::While(_)),
             Shape::LoopOf(label) => self.is_loop_of(label),
             Shape::First => matches!(self, Part::If(_)),
             Shape::Either => matches!(self, Part::If(_) | Part::Else(_, _)),

@@ -1,7 +1,7 @@
 //! The unit that is being read.
 
 ghost use Rattle.std.specs.Prelude.{◌≡◌, ◌++◌, map, not, ◌&&◌, ◌||◌, OnOk, IfOk};
-ghost use Rattle.adj_tree.specs.View.{declaration_of, procedure_of};
+ghost use Rattle.adj_tree.specs.View.{declaration_of, mark_of, procedure_of};
 ghost use Rattle.adj_text.specs.Unit as unit;
 ghost use Rattle.adj_parse.specs.Order.{may_follow, suits, leaves_loop};
 ghost use Rattle.adj_parse.specs.Unit.{begun, finished, continued};
@@ -12,7 +12,7 @@ use crate::nest::Nest;
 use crate::phase::Phase;
 use adj_statement::{Item, Said};
 use adj_text::Kind;
-use adj_tree::{Decl, Decls, Memory, Name, NameList, Unit};
+use adj_tree::{Decl, Decls, Mark, Memory, Name, NameList, Unit};
 use std::alloc::Global;
 
 /// A unit before its END.
@@ -64,16 +64,16 @@ impl Current {
         self.phase.admits(kind) && (self.nest.suits(kind) || self.nest.leaves_loop(kind))
     }
 
-    /// Takes another statement of this line and label than SUBROUTINE and END, with the snapshots of the directive before it.
+    /// Takes another statement of this line and label than SUBROUTINE and END, with the mark of the directive before it.
     pub(crate) fn follow(
         &mut self,
         alloc: Global,
         line: u32,
         label: u32,
-        mark: u32,
+        mark: Mark,
         said: Said,
     ) -> Result<(), Memory>
-        ensures { OnOk result (current_of self.new ≡ continued (current_of self.old) line label (form_of mark said)) }
+        ensures { OnOk result (current_of self.new ≡ continued (current_of self.old) line label (form_of (mark_of mark) said)) }
     {
         match said {
             Said::ImplicitNone => {

@@ -5,7 +5,7 @@ ghost use Rattle.std.specs.Prelude.{◌≡◌, ◌-◌, length, OnOk, IfOk};
 ghost use Rattle.std.specs.List.{list_any};
 ghost use Rattle.adj_tree.specs.Code.{choose, stop, step};
 ghost use Rattle.adj_tree.specs.Listed.{code_listed};
-ghost use Rattle.adj_tree.specs.View.{test_of, act_of, code_of};
+ghost use Rattle.adj_tree.specs.View.{test_of, mark_of, act_of, code_of};
 ghost use Rattle.adj_parse.specs.Blocks.{no_blocks, add, begin, turn, close, close_while, acted};
 ghost use Rattle.adj_parse.specs.Order.{innermost_is, some_is, awaits_else, suits, reaches_out, leaves_loop, breaks_loop};
 ghost use Rattle.adj_parse.specs.NestView.{part_of, is_shape, turn_of, blocks_of, nest_of};
@@ -14,7 +14,7 @@ ghost use Rattle.adj_statement.specs.View.{form_of};
 use crate::block::{Block, Part, Shape, Turn};
 use adj_statement::Said;
 use adj_text::Kind;
-use adj_tree::{Act, Cond, Memory, Stmt, Stmts};
+use adj_tree::{Act, Cond, Mark, Memory, Stmt, Stmts};
 use std::alloc::Global;
 use std::mem;
 
@@ -201,21 +201,22 @@ impl Nest {
         self.add(line, Act::If(cond, body, Stmts::Empty))
     }
 
-    /// Takes an executable statement of this line and label, where it may stand, with the snapshots of the directive before it.
+    /// Takes an executable statement of this line and label, where it may stand, with the mark of the directive before it.
     pub(crate) fn follow(
         &mut self,
         alloc: Global,
         line: u32,
         label: u32,
-        mark: u32,
+        mark: Mark,
         said: Said,
     ) -> Result<(), Memory>
-        ensures { OnOk result (nest_of self.new ≡ acted (nest_of self.old) line label (form_of mark said)) }
+        ensures { OnOk result (nest_of self.new ≡ acted (nest_of self.old) line label (form_of (mark_of mark) said)) }
     {
         match said {
             Said::Simple(act) => self.add(line, act),
             Said::Guarded(cond, act) => self.add_guarded(alloc, line, cond, act),
             Said::Do(own, range) => self.begin(alloc, line, Part::Loop(own, range, mark)),
+            Said::While(cond) => self.begin(alloc, line, Part::While(cond)),
             Said::EndDo => self.close(alloc),
             Said::Continue => self.close_while(alloc, Shape::LoopOf(label)),
             Said::If(cond) => self.begin(alloc, line, Part::If(cond)),

@@ -1,15 +1,16 @@
 //! The statements of a text in order.
 
 ghost use Rattle.std.specs.Prelude.{◌≡◌, ◌==◌, ℕ, List, Some, None, nat_le, ◌&&◌, length, OnOk, option_map};
+ghost use Rattle.adj_tree.specs.Code as code;
 ghost use Rattle.adj_tree.specs.Code.{Procedure};
-ghost use Rattle.adj_tree.specs.View.{procedures_of};
+ghost use Rattle.adj_tree.specs.View.{mark_of, procedures_of};
 ghost use Rattle.adj_text.specs.Refused.{Gives};
 ghost use Rattle.adj_expression.specs.Front.{AreSlices};
 ghost use Rattle.adj_expression.specs.View.{seen};
 ghost use Rattle.adj_parse.specs.Order.{breaks_loop, is_heading, opens_block};
 ghost use Rattle.adj_parse.specs.Unit.{followed, open_blocks, is_misplaced};
 ghost use Rattle.adj_parse.specs.Trees as trees;
-ghost use Rattle.adj_parse.specs.Trees.{is_large, is_deep, is_astray, is_full, with_form, checked, behind, start};
+ghost use Rattle.adj_parse.specs.Trees.{is_marked, is_large, is_deep, is_astray, is_full, with_form, checked, behind, start};
 ghost use Rattle.adj_parse.specs.CurrentView.{current_of, units_of, state_of};
 ghost use Rattle.adj_statement.specs.View.{form_of};
 
@@ -18,7 +19,7 @@ use crate::current::Current;
 use adj_expression::Flaw;
 use adj_statement::{Said, said};
 use adj_text::{Kind, Mode, Stated};
-use adj_tree::{Fault, Memory, Program, Refusal, Unit, Units};
+use adj_tree::{Fault, Mark, Memory, Program, Refusal, Unit, Units};
 use std::alloc::Global;
 
 /// The units so far, and how many more statements the text may have.
@@ -56,8 +57,14 @@ fn opens_block(kind: Kind) -> bool
 {
     matches!(
         kind,
-        Kind::Do | Kind::BlockIf | Kind::LogicalIf | Kind::ElseIf
+        Kind::Do | Kind::DoWhile | Kind::BlockIf | Kind::LogicalIf | Kind::ElseIf
     )
+}
+
+fn is_marked(mark: &Mark) -> bool
+    ensures { result ≡ is_marked (mark_of mark.now) }
+{
+    !matches!(mark, Mark::Plain)
 }
 
 fn is_large(found: &Option<Result<Said, Flaw>>) -> bool
@@ -92,7 +99,7 @@ fn is_full(limit: Option<usize>, count: usize) -> bool
 
 // The unit that a statement outside of units begins.
 fn heading(alloc: Global, line: u32, said: Said) -> Option<Current>
-    ensures { (label mark : ℕ) (done : List Procedure) → followed done None line label (form_of mark said) ≡ record { done = done; current = option_map current_of result } }
+    ensures { (label : ℕ) (mark : code.Mark) (done : List Procedure) → followed done None line label (form_of mark said) ≡ record { done = done; current = option_map current_of result } }
 {
     match said {
         Said::Subroutine(name, dummies) => Some(Current::new(alloc, line, name, dummies)),
@@ -159,11 +166,11 @@ impl Parser {
         current: Current,
         line: u32,
         label: u32,
-        mark: u32,
+        mark: Mark,
         said: Said,
     ) -> Result<(), Memory>
         requires { self.old.current ≡ None }
-        ensures placed { OnOk result (units_of self.new.units.items self.new.current ≡ followed (state_of self.old).units.done (Some (current_of current)) line label (form_of mark said)) }
+        ensures placed { OnOk result (units_of self.new.units.items self.new.current ≡ followed (state_of self.old).units.done (Some (current_of current)) line label (form_of (mark_of mark) said)) }
         ensures room { self.new.room ≡ self.old.room }
     {
         let mut current = current;
@@ -180,16 +187,16 @@ impl Parser {
         }
     }
 
-    // Takes a statement of this line and label, where it may stand, with the snapshots of the directive before it.
+    // Takes a statement of this line and label, where it may stand, with the mark of the directive before it.
     fn place(
         &mut self,
         alloc: Global,
         line: u32,
         label: u32,
-        mark: u32,
+        mark: Mark,
         said: Said,
     ) -> Result<(), Memory>
-        ensures placed { OnOk result (units_of self.new.units.items self.new.current ≡ followed (state_of self.old).units.done (state_of self.old).units.current line label (form_of mark said)) }
+        ensures placed { OnOk result (units_of self.new.units.items self.new.current ≡ followed (state_of self.old).units.done (state_of self.old).units.current line label (form_of (mark_of mark) said)) }
         ensures room { self.new.room ≡ self.old.room }
     {
         match self.current.take() {
@@ -236,7 +243,7 @@ impl Parser {
     ) -> Result<Said, Fault>
         ensures { Gives (λ said. said) result (checked bounds (state_of self.now) stated.now left found) }
     {
-        if stated.mark != 0 && stated.kind != Kind::Do {
+        if is_marked(&stated.mark) && stated.kind != Kind::Do {
             return Err(refused(20, stated.mark_line));
         }
         if found.is_none() || self.is_astray(stated, left) {
@@ -265,7 +272,8 @@ impl Parser {
         let bounds = Bounds::of(mode);
         let found = said(alloc, stated, bounds.depth)?;
         let said = self.checked(bounds, stated, left, found)?;
-        self.place(alloc, stated.line, stated.label, stated.mark, said)?;
+        let mark = stated.mark.copy(alloc)?;
+        self.place(alloc, stated.line, stated.label, mark, said)?;
         self.room = self.room.saturating_sub(1);
         Ok(())
     }

@@ -11,4 +11,4 @@ returns-in_err-said c =
 
 pub returns : goal.returns
 returns c =
-    follow_ok c.args.mode c.of-bounds.result c.of-bounds.ensures (state_of c.args.self.now) c.args.stated.now c.args.left c.in_ok-found.found c.in_ok-found.ensures.said c.in_ok-said.said _ c.saturating_sub-self.result c.in_ok-said.ensures c.in_ok-place.ensures.placed (c.saturating_sub-self.ensures ∙ ap (λ n. n - 1) c.in_ok-place.ensures.room)
+    follow_ok c.args.mode c.of-bounds.result c.of-bounds.ensures (state_of c.args.self.now) c.args.stated.now c.args.left c.in_ok-found.found c.in_ok-found.ensures.said c.in_ok-said.said _ _ c.saturating_sub-self.result c.in_ok-mark.ensures.equal c.in_ok-said.ensures c.in_ok-place.ensures.placed (c.saturating_sub-self.ensures ∙ ap (λ n. n - 1) c.in_ok-place.ensures.room)
