@@ -17,7 +17,7 @@ fn find_end(bytes: &[u8]) -> Option<usize>
 }
 
 /// The first line, up to its line feed, and what follows it.
-pub(crate) fn split_line(bytes: &[u8]) -> (&[u8], &[u8])
+pub fn split_line(bytes: &[u8]) -> (&[u8], &[u8])
     requires { 0 < length bytes.now }
     ensures lines { cut_lines bytes.now ≡ result.0.now ∷ cut_lines result.1.now }
     ensures rest { length result.1.now ≡ length bytes.now - (length result.0.now + 1) }
@@ -29,7 +29,7 @@ pub(crate) fn split_line(bytes: &[u8]) -> (&[u8], &[u8])
 }
 
 /// A line without the carriage return at its end.
-pub(crate) fn without_cr(line: &[u8]) -> &[u8]
+pub fn without_cr(line: &[u8]) -> &[u8]
     ensures { result.now ≡ without_cr line.now }
 {
     let len = line.len();
@@ -41,7 +41,7 @@ pub(crate) fn without_cr(line: &[u8]) -> &[u8]
 }
 
 /// The number of the next line.
-pub(crate) fn next_number(number: u32) -> u32
+pub fn next_number(number: u32) -> u32
     ensures { result ≡ next_number number }
 {
     number.saturating_add(1)

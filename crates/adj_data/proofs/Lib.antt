@@ -1,0 +1,7 @@
+mod NameSets
+mod Cutting
+mod Entering
+mod Found
+mod Elements
+mod Declarations
+mod Extents

@@ -1,0 +1,6 @@
+-- What the contracts of this crate say of data.
+pub mod Words
+pub mod Entries
+pub mod Faults
+pub mod Given
+pub mod Printed

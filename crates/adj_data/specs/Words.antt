@@ -1,0 +1,61 @@
+-- Words of data: what stands between blanks, line by line. (docs/DATA.md, "Lines")
+use Rattle.std.specs.Prelude.{ℕ, ◌==◌, ℤ, pos, neg_ℤ, Bool, true, false, not, ◌&&◌, ◌||◌, List, [], ◌∷◌, ◌++◌, map, filter, length, if◌then◌else◌}
+use Rattle.std.specs.List.{list_all}
+use Rattle.std.specs.Char.{is_ascii_alphabetic, is_ascii_alphanumeric}
+use Rattle.adj_text.specs.Char.{minus, underscore, is_digit, is_blank, upper, number_of}
+use Rattle.adj_text.specs.Line.{in_front, without_cr, next_number}
+
+-- one word with its line; `leads` where it is the first of that line
+pub record Item : Type 0 where
+  pub line : ℕ
+  pub leads : Bool
+  pub text : List ℕ
+
+-- a line is cut at each blank
+abbrev pub pieces : List ℕ → List (List ℕ)
+pieces [] = [] ∷ []
+pieces (c ∷ cs) = if is_blank c then [] ∷ pieces cs else in_front c (pieces cs)
+
+abbrev pub has_some : List ℕ → Bool
+has_some w = not (length w == 0)
+
+-- the words of a line: what isn't empty of that
+abbrev pub words_in : List ℕ → List (List ℕ)
+words_in l = filter has_some (pieces l)
+
+-- words as those of a line, of which the first may lead
+abbrev pub items_with : ℕ → Bool → List (List ℕ) → List Item
+items_with line leads [] = []
+items_with line leads (w ∷ ws) = record { line = line; leads = leads; text = w } ∷ items_with line false ws
+
+-- the words of some lines, behind the line of a number
+abbrev pub items_of : ℕ → List (List ℕ) → List Item
+items_of n [] = []
+items_of n (l ∷ ls) = items_with (next_number n) true (words_in (without_cr l)) ++ items_of (next_number n) ls
+
+-- ---- names
+
+-- a letter, and then letters, digits and `_`
+abbrev pub is_name : List ℕ → Bool
+is_name [] = false
+is_name (c ∷ cs) = is_ascii_alphabetic c && list_all (λ d. is_ascii_alphanumeric d || d == underscore) cs
+
+-- in capitals
+abbrev pub name_of : List ℕ → List ℕ
+name_of w = map upper w
+
+-- ---- numbers
+
+abbrev pub are_digits : List ℕ → Bool
+are_digits [] = false
+are_digits (c ∷ cs) = is_digit c && list_all is_digit cs
+
+-- digits, with a `-` before them or none
+abbrev pub is_number : List ℕ → Bool
+is_number [] = false
+is_number (c ∷ cs) = if c == minus then are_digits cs else are_digits (c ∷ cs)
+
+-- the number of such a word
+abbrev pub number_in : List ℕ → ℤ
+number_in [] = pos 0
+number_in (c ∷ cs) = if c == minus then neg_ℤ (pos (number_of cs)) else pos (number_of (c ∷ cs))
