@@ -36,3 +36,6 @@ pub mod WholeKernels
 pub mod Towers
 pub mod Unmarked
 pub mod Capped
+pub mod FreshWritten
+pub mod WrittenKernels
+pub mod StepsWritten
