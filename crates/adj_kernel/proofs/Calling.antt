@@ -22,6 +22,7 @@ use Rattle.adj_kernel.specs.Calls.{is_scalar, AreHandedApart, ArraysStandOnce, S
 use Rattle.adj_meaning.proofs.Following.{follows_then, follows_statement, follows_trap}
 use Rattle.adj_meaning.proofs.Straights.{Stops, stops_first, stops_after, leads_early}
 use Rattle.adj_meaning.proofs.Bounded.{Goes, leads_of, goes_append}
+use Rattle.adj_kernel.proofs.Together.{follows_same}
 use Rattle.adj_kernel.proofs.Changing.{Range}
 use Rattle.adj_kernel.proofs.Targeting.{agree_after}
 use Rattle.std.proofs.lemmas.Bool.{cases_lt}
@@ -62,10 +63,6 @@ done_then_goes q n alike R w c s t t1 m g r k =
       by = g.by;
       related = r;
     })
-
--- the same runs
-pub follows_same : {A B : Type 0} (R : A → B → Type 0) (w slack : ℕ) (o o1 : Runs A) (p p1 : Runs B) (k : ℕ) → ((j : ℕ) → o1 j ≡ o j) → ((j : ℕ) → p1 j ≡ p j) → Follows R w slack o p k → Follows R w slack o1 p1 k
-follows_same R w slack o o1 p p1 k e f h = subst (λ (z : Runs _). Follows R w slack z p1 k) (λ i j. sym (e j) i) (subst (λ (z : Runs _). Follows R w slack o z k) (λ i j. sym (f j) i) h)
 
 -- the run of the unit in the kernel follows that of the source, from scenes that agree on its variables; k statements at most are left
 abbrev pub UnitFollows : {C : Type 0} → Calls C → Calls C → ℕ → (Var → Bool) → ℕ → Procedure → Procedure → Type 0

@@ -1,3 +1,4 @@
+pub mod Together
 pub mod Changing
 pub mod Reducing
 pub mod Targeting

@@ -27,7 +27,7 @@ cells_same : {C : Type 0} (f g : ℕ → C) (i m : ℕ) → ((j : ℕ) → j < i
 cells_same f g i zero h = refl
 cells_same f g i (suc m) h = λ k. h i (omega arith) k ∷ cells_same f g (suc i) m (λ j l. h j (omega arith)) k
 
-slots_same : {C : Type 0} (n : Setting C) (u : Procedure) (f g : Store C) (ds : List (List ℕ)) → AreDummies (λ d. is_of u (plain d)) ds → ((d : List ℕ) → is_of u (plain d) ≡ true → (i : ℕ) → i < size_of (n.shape (plain d)) → f (plain d) i ≡ g (plain d) i) → map (λ d. slot_of (n.shape (plain d)) (f (plain d))) ds ≡ map (λ d. slot_of (n.shape (plain d)) (g (plain d))) ds
+pub slots_same : {C : Type 0} (n : Setting C) (u : Procedure) (f g : Store C) (ds : List (List ℕ)) → AreDummies (λ d. is_of u (plain d)) ds → ((d : List ℕ) → is_of u (plain d) ≡ true → (i : ℕ) → i < size_of (n.shape (plain d)) → f (plain d) i ≡ g (plain d) i) → map (λ d. slot_of (n.shape (plain d)) (f (plain d))) ds ≡ map (λ d. slot_of (n.shape (plain d)) (g (plain d))) ds
 slots_same n u f g [] a h = refl
 slots_same n u f g (d ∷ ds) a h =
     λ k. record { shape = n.shape (plain d); cells = cells_same (f (plain d)) (g (plain d)) 0 (size_of (n.shape (plain d))) (λ j l. h d a.0 j (omega (arith, l))) k } ∷ slots_same n u f g ds a.1 h k

@@ -233,6 +233,14 @@ declarations_written ds line (v ∷ vs) h g =
 
 -- ---- units
 
+-- a unit that is written, and whose CALLs are of units
+abbrev pub WellWritten : Procedure → Type 0
+WellWritten v = IsWrittenProcedure v × CallsUnits v
+
+append_well : (ps qs : List Procedure) → EachUnit WellWritten ps → EachUnit WellWritten qs → EachUnit WellWritten (ps ++ qs)
+append_well [] qs a b = b
+append_well (v ∷ ps) qs a b = (a.0, append_well ps qs a.1 b)
+
 module _ (taken : List (List ℕ)) (u : Procedure) (h : IsWrittenProcedure u) (p : CallsUnits u) where
   dummies_named : (x : Var) (body : Code) → AllNamed (step_dummies u x body)
   dummies_named x body y k = unit_named u h p y (once_from y [] (names_of u) (used_from u.declarations (named x ++ names_in_code body) (variables_of u) y k))
@@ -270,18 +278,10 @@ module _ (taken : List (List ℕ)) (u : Procedure) (h : IsWrittenProcedure u) (p
     cut_calls k stop w = tt
     cut_calls k (step line a rest) w = (cut_calls_act k line a w.0, cut_calls (k + marked_in_act a) rest w.1)
 
-  -- both of a unit
-  abbrev IsWell : Procedure → Type 0
-  IsWell v = IsWrittenProcedure v × CallsUnits v
-
-  well_append : (ps qs : List Procedure) → EachUnit IsWell ps → EachUnit IsWell qs → EachUnit IsWell (ps ++ qs)
-  well_append [] qs a b = b
-  well_append (v ∷ ps) qs a b = (a.0, well_append ps qs a.1 b)
-
   mutual
-    steps_well_act : (k line : ℕ) (a : Act) → IsWrittenAct a → EachCall' (λ unit args. (es : Terms) → runtime_call unit es ≡ None) a → EachUnit IsWell (step_units_in_act taken u k line a)
+    steps_well_act : (k line : ℕ) (a : Act) → IsWrittenAct a → EachCall' (λ unit args. (es : Terms) → runtime_call unit es ≡ None) a → EachUnit WellWritten (step_units_in_act taken u k line a)
     steps_well_act k line (assign x s e) w c = tt
-    steps_well_act k line (choose t a b) w c = well_append (step_units_in taken u k a) (step_units_in taken u (k + marked_in a) b) (steps_well k a w.1 c.0) (steps_well (k + marked_in a) b w.2 c.1)
+    steps_well_act k line (choose t a b) w c = append_well (step_units_in taken u k a) (step_units_in taken u (k + marked_in a) b) (steps_well k a w.1 c.0) (steps_well (k + marked_in a) b w.2 c.1)
     steps_well_act k line (loop x first last by body unmarked) w c = steps_well k body w.4 c
     steps_well_act k line (loop x first last by body (with_count m)) w c =
         let vs = step_dummies u x body in
@@ -303,19 +303,12 @@ module _ (taken : List (List ℕ)) (u : Procedure) (h : IsWrittenProcedure u) (p
     steps_well_act k line (call name args) w c = tt
     steps_well_act k line (runtime r) w c = tt
 
-    steps_well : (k : ℕ) (c : Code) → IsWrittenCode c → EachCall (λ unit args. (es : Terms) → runtime_call unit es ≡ None) c → EachUnit IsWell (step_units_in taken u k c)
+    steps_well : (k : ℕ) (c : Code) → IsWrittenCode c → EachCall (λ unit args. (es : Terms) → runtime_call unit es ≡ None) c → EachUnit WellWritten (step_units_in taken u k c)
     steps_well k stop w c = tt
-    steps_well k (step line a rest) w c = well_append (step_units_in_act taken u k line a) (step_units_in taken u (k + marked_in_act a) rest) (steps_well_act k line a w.0 c.0) (steps_well (k + marked_in_act a) rest w.1 c.1)
+    steps_well k (step line a rest) w c = append_well (step_units_in_act taken u k line a) (step_units_in taken u (k + marked_in_act a) rest) (steps_well_act k line a w.0 c.0) (steps_well (k + marked_in_act a) rest w.1 c.1)
 
-  unit_well : EachUnit IsWell (stepped_unit taken u)
+  unit_well : EachUnit WellWritten (stepped_unit taken u)
   unit_well = ((record { named = h.named; dummies = h.dummies; declarations = h.declarations; body = cut_written 0 u.body h.body }, cut_calls 0 u.body p), steps_well 0 u.body h.body p)
-
-abbrev pub WellWritten : Procedure → Type 0
-WellWritten v = IsWrittenProcedure v × CallsUnits v
-
-append_well : (ps qs : List Procedure) → EachUnit WellWritten ps → EachUnit WellWritten qs → EachUnit WellWritten (ps ++ qs)
-append_well [] qs a b = b
-append_well (v ∷ ps) qs a b = (a.0, append_well ps qs a.1 b)
 
 from_well : (us : List Procedure) (taken : List (List ℕ)) → All IsWrittenProcedure us → EachUnit CallsUnits us → EachUnit WellWritten (stepped_from taken us)
 from_well [] taken h p = tt
