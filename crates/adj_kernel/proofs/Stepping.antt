@@ -27,8 +27,8 @@ use Rattle.adj_transpose.specs.Fresh.{has_name}
 use Rattle.adj_meaning.specs.Follows.{Runs, Follows}
 use Rattle.adj_kernel.specs.Apart.{TermInside, TermsInside, MarkInside, ActInside, CodeInside, EachCall', EachCall}
 use Rattle.adj_kernel.specs.Kernel.{named, names_in_code, names_of, is_named, is_of, PlainAct, PlainCode}
-use Rattle.adj_kernel.specs.Stepped.{marked_in, marked_in_act, variables_of, names_extent, is_extent_of, step_dummies, as_actuals, step_name, cut_act, cut, step_unit}
-use Rattle.adj_kernel.specs.StepTheorem.{marked_of, nest_act, nest, StepsThereAct, StepsThere, fits_itself, HoldsExtents}
+use Rattle.adj_kernel.specs.Stepped.{marked_in, marked_in_act, variables_of, names_extent, is_extent_of, step_dummies, as_actuals, step_name, step_call, cut_act, cut, step_unit}
+use Rattle.adj_kernel.specs.StepTheorem.{marked_of, nest_act, nest, IsStepThere, StepsThereAct, StepsThere, fits_itself, HoldsExtents}
 use Rattle.adj_meaning.proofs.Following.{follows_done, follows_if, follows_then, follows_known, follows_extra}
 use Rattle.adj_kernel.proofs.Together.{then_nothing, follows_same, follows_value, counted_both, turns_follow, tests_follow}
 use Rattle.adj_kernel.proofs.Locals.{has_second, own_code}
@@ -348,6 +348,25 @@ module _ {C : Type 0} (N : Numbers C) (room : Option ℕ) (units units' : List P
         (subst (λ w. Kept ns a b (after_loop line count (in_force (from level) m s.store) s1) (after_loop line count w t1)) (force_kept ns ext m hm a b s t r sh' level level')
         (told_kept ns ext a b line count (in_force (from level) m s.store) s1 t1 r1))))))))
 
+    -- a marked loop, whose body in the step unit follows that of the source
+    marked_step : (ns : List (List ℕ)) (ext : ExtentsIn ns) (sh' : Var → Shape) (level level' : ℕ) → SameOn ns sh' → (a b line k0 : ℕ) (x : Var) (first last by : Term) (body : Code) (m : Mark) (e : ℕ) →
+        ActInside (is_named ns) (loop x first last by body m) → (ox : is_of u x ≡ true) (own : CodeInside (is_of u) body) (plainly : PlainCode body) (each : EachCall P body) → IsStepThere units' taken u k0 line x body → StepsThere units' taken u (suc k0) body →
+        ((y : Var) (d : List ℕ) → names_extent d (declared u.declarations y) ≡ true → act_writes (handed_back units) (plain d) (loop x first last by body m) ≡ false) →
+        ((inner : Var → Shape) (deeper : ℕ) → SameOn (step_dummies u x body) inner → (s t : Scene C) → Kept (step_dummies u x body) a 0 s t → (k : ℕ) → k ≤ most →
+        Follows (Kept (step_dummies u x body) a 0) 2 0 (run q (from level) body s) (run (q' e) (set_in N room inner deeper) (cut taken u (suc k0) body) t) k) →
+        (s t : Scene C) → Kept ns a b s t → (k : ℕ) → k ≤ most →
+        Follows (Kept ns a b) 2 0 (λ i. counted (standing s) i (act q (from level) (loop x first last by body m) line s))
+        (λ i. counted (standing t) i (act (q' (suc e)) (set_in N room sh' level') (loop x first last by (one line (step_call taken u k0 x body)) m) line t)) k
+    marked_step ns ext sh' level level' same a b line k0 x first last by body m e h ox own plainly each there steps un in_step s t al k le =
+        loop_by ns ext sh' level level' same a b 1 (omega arith) line x first last by body (one line (step_call taken u k0 x body)) m (suc e) h.1.0.0 h.0 h.1.0.1.0 h.1.0.1.1.0 h.1.0.1.1.1
+        (λ y d g. (or_false (var_eq (plain d) x) (writes (handed_back units) (plain d) body) (un y d g)).0)
+        (λ s1 t1 r1 k1 l1. step_follows x body plainly each ox own k0 line there steps ns h.0 h.1.1 ext sh' level level' same a b s1 t1 r1 e
+        (λ k2 l2. in_step (inner_sh x body plainly each ox own k0 line there steps ns h.0 h.1.1 ext sh' level level' same a b s1 t1 r1 e) (suc level')
+        (same_inner x body plainly each ox own k0 line there steps ns h.0 h.1.1 ext sh' level level' same a b s1 t1 r1 e) s1
+        (begun x body plainly each ox own k0 line there steps ns h.0 h.1.1 ext sh' level level' same a b s1 t1 r1 e)
+        (kept_begun x body plainly each ox own k0 line there steps ns h.0 h.1.1 ext sh' level level' same a b s1 t1 r1 e) k2 l2) k1 l1)
+        s t al k le
+
     mutual
       acts_step : (line : ℕ) (act1 : Act) (k0 : ℕ) (ns : List (List ℕ)) → ActInside (is_named ns) act1 → ActInside (is_of u) act1 → PlainAct act1 → EachCall' P act1 → StepsThereAct units' taken u k0 line act1 → ((y : Var) (d : List ℕ) → names_extent d (declared u.declarations y) ≡ true → act_writes (handed_back units) (plain d) act1 ≡ false) → ExtentsIn ns →
           (sh' : Var → Shape) (level level' : ℕ) → SameOn ns sh' → (a b : ℕ) (s t : Scene C) → Kept ns a b s t → (e : ℕ) → base + nest_act act1 ≤ e → (k : ℕ) → k ≤ most →
@@ -372,24 +391,14 @@ module _ {C : Type 0} (N : Numbers C) (room : Option ℕ) (units units' : List P
       acts_step line (loop x first last by body (with_count m)) k0 ns h o pl p st un ext sh' level level' same a b s t al zero be k le = absurd (omega (arith, be))
       acts_step line (loop x first last by body (count_from counter)) k0 ns h o pl p st un ext sh' level level' same a b s t al zero be k le = absurd (omega (arith, be))
       acts_step line (loop x first last by body (with_count m)) k0 ns h o pl p st un ext sh' level level' same a b s t al (suc e) be k le =
-          let vs = step_dummies u x body in
-          loop_by ns ext sh' level level' same a b 1 (omega arith) line x first last by body (one line (call (step_name taken u.name k0) (as_actuals vs))) (with_count m) (suc e) h.1.0.0 h.0 h.1.0.1.0 h.1.0.1.1.0 h.1.0.1.1.1 (λ y d g. (or_false (var_eq (plain d) x) (writes (handed_back units) (plain d) body) (un y d g)).0)
-          (λ s1 t1 r1 k1 l1. step_follows x body pl.1.1 p o.0 o.1.1 k0 line st.0 st.1 ns h.0 h.1.1 ext sh' level level' same a b s1 t1 r1 e
-          (λ k2 l2. lists_step body (suc k0) vs (body_inside x body pl.1.1 p o.0 o.1.1) o.1.1 pl.1.1 p st.1 (λ y d g. (or_false (var_eq (plain d) x) (writes (handed_back units) (plain d) body) (un y d g)).1) (extents_in x body pl.1.1 p o.0 o.1.1)
-          (inner_sh x body pl.1.1 p o.0 o.1.1 k0 line st.0 st.1 ns h.0 h.1.1 ext sh' level level' same a b s1 t1 r1 e) level (suc level')
-          (same_inner x body pl.1.1 p o.0 o.1.1 k0 line st.0 st.1 ns h.0 h.1.1 ext sh' level level' same a b s1 t1 r1 e) a 0 s1
-          (begun x body pl.1.1 p o.0 o.1.1 k0 line st.0 st.1 ns h.0 h.1.1 ext sh' level level' same a b s1 t1 r1 e)
-          (kept_begun x body pl.1.1 p o.0 o.1.1 k0 line st.0 st.1 ns h.0 h.1.1 ext sh' level level' same a b s1 t1 r1 e) e (omega (arith, be)) k2 l2) k1 l1)
+          marked_step ns ext sh' level level' same a b line k0 x first last by body (with_count m) e h o.0 o.1.1 pl.1.1 p st.0 st.1 un
+          (λ inner deeper same1 s1 t1 r1 k1 l1. lists_step body (suc k0) (step_dummies u x body) (body_inside x body pl.1.1 p o.0 o.1.1) o.1.1 pl.1.1 p st.1
+          (λ y d g. (or_false (var_eq (plain d) x) (writes (handed_back units) (plain d) body) (un y d g)).1) (extents_in x body pl.1.1 p o.0 o.1.1) inner level deeper same1 a 0 s1 t1 r1 e (omega (arith, be)) k1 l1)
           s t al k le
       acts_step line (loop x first last by body (count_from counter)) k0 ns h o pl p st un ext sh' level level' same a b s t al (suc e) be k le =
-          let vs = step_dummies u x body in
-          loop_by ns ext sh' level level' same a b 1 (omega arith) line x first last by body (one line (call (step_name taken u.name k0) (as_actuals vs))) (count_from counter) (suc e) h.1.0.0 h.0 h.1.0.1.0 h.1.0.1.1.0 h.1.0.1.1.1 (λ y d g. (or_false (var_eq (plain d) x) (writes (handed_back units) (plain d) body) (un y d g)).0)
-          (λ s1 t1 r1 k1 l1. step_follows x body pl.1.1 p o.0 o.1.1 k0 line st.0 st.1 ns h.0 h.1.1 ext sh' level level' same a b s1 t1 r1 e
-          (λ k2 l2. lists_step body (suc k0) vs (body_inside x body pl.1.1 p o.0 o.1.1) o.1.1 pl.1.1 p st.1 (λ y d g. (or_false (var_eq (plain d) x) (writes (handed_back units) (plain d) body) (un y d g)).1) (extents_in x body pl.1.1 p o.0 o.1.1)
-          (inner_sh x body pl.1.1 p o.0 o.1.1 k0 line st.0 st.1 ns h.0 h.1.1 ext sh' level level' same a b s1 t1 r1 e) level (suc level')
-          (same_inner x body pl.1.1 p o.0 o.1.1 k0 line st.0 st.1 ns h.0 h.1.1 ext sh' level level' same a b s1 t1 r1 e) a 0 s1
-          (begun x body pl.1.1 p o.0 o.1.1 k0 line st.0 st.1 ns h.0 h.1.1 ext sh' level level' same a b s1 t1 r1 e)
-          (kept_begun x body pl.1.1 p o.0 o.1.1 k0 line st.0 st.1 ns h.0 h.1.1 ext sh' level level' same a b s1 t1 r1 e) e (omega (arith, be)) k2 l2) k1 l1)
+          marked_step ns ext sh' level level' same a b line k0 x first last by body (count_from counter) e h o.0 o.1.1 pl.1.1 p st.0 st.1 un
+          (λ inner deeper same1 s1 t1 r1 k1 l1. lists_step body (suc k0) (step_dummies u x body) (body_inside x body pl.1.1 p o.0 o.1.1) o.1.1 pl.1.1 p st.1
+          (λ y d g. (or_false (var_eq (plain d) x) (writes (handed_back units) (plain d) body) (un y d g)).1) (extents_in x body pl.1.1 p o.0 o.1.1) inner level deeper same1 a 0 s1 t1 r1 e (omega (arith, be)) k1 l1)
           s t al k le
       acts_step line (during c body) k0 ns h o pl p st un ext sh' level level' same a b s t al e be k le =
           counted_both (Kept ns a b) 2 0 (standing s) (standing t) (act q (from level) (during c body) line s) (act (q' e) (set_in N room sh' level') (during c (cut taken u k0 body)) line t) k (omega arith)

@@ -284,21 +284,31 @@ module _ (taken : List (List ℕ)) (u : Procedure) (h : IsWrittenProcedure u) (p
     steps_well_act k line (choose t a b) w c = append_well (step_units_in taken u k a) (step_units_in taken u (k + marked_in a) b) (steps_well k a w.1 c.0) (steps_well (k + marked_in a) b w.2 c.1)
     steps_well_act k line (loop x first last by body unmarked) w c = steps_well k body w.4 c
     steps_well_act k line (loop x first last by body (with_count m)) w c =
-        let vs = step_dummies u x body in
-        ((record {
-          named = step_named taken u.name k h.named;
-          dummies = all_of vs (dummies_named x body);
-          declarations = declarations_written u.declarations line vs h.declarations (dummies_named x body);
-          body = cut_written (suc k) body w.4;
-        }, cut_calls (suc k) body c), steps_well (suc k) body w.4 c)
+        let vs = step_dummies u x body in (
+          (
+            record {
+              named = step_named taken u.name k h.named;
+              dummies = all_of vs (dummies_named x body);
+              declarations = declarations_written u.declarations line vs h.declarations (dummies_named x body);
+              body = cut_written (suc k) body w.4;
+            },
+            cut_calls (suc k) body c,
+          ),
+          steps_well (suc k) body w.4 c,
+        )
     steps_well_act k line (loop x first last by body (count_from counter)) w c =
-        let vs = step_dummies u x body in
-        ((record {
-          named = step_named taken u.name k h.named;
-          dummies = all_of vs (dummies_named x body);
-          declarations = declarations_written u.declarations line vs h.declarations (dummies_named x body);
-          body = cut_written (suc k) body w.4;
-        }, cut_calls (suc k) body c), steps_well (suc k) body w.4 c)
+        let vs = step_dummies u x body in (
+          (
+            record {
+              named = step_named taken u.name k h.named;
+              dummies = all_of vs (dummies_named x body);
+              declarations = declarations_written u.declarations line vs h.declarations (dummies_named x body);
+              body = cut_written (suc k) body w.4;
+            },
+            cut_calls (suc k) body c,
+          ),
+          steps_well (suc k) body w.4 c,
+        )
     steps_well_act k line (during t body) w c = steps_well k body w.1 c
     steps_well_act k line (call name args) w c = tt
     steps_well_act k line (runtime r) w c = tt
