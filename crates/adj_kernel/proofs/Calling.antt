@@ -115,6 +115,7 @@ module _ {C : Type 0} (extra : Act → ℕ) (inner inner' q q' : Calls C) (n : S
     abbrev prefix : Code
     prefix = first +++ second
 
+    -- what stands before the CALL is flat
     flat_prefix : IsFlat prefix
     flat_prefix = flat_append first second (flat_before_all local line 0 args) (flat_passing_all local line j ws [] es)
 
@@ -137,9 +138,11 @@ module _ {C : Type 0} (extra : Act → ℕ) (inner inner' q q' : Calls C) (n : S
     abbrev whole_code : Code
     whole_code = padded_prefix +++ the_call
 
+    -- the parts are the whole
     regrouped : whole_code ≡ padded extra (lowered_call local line ws name args)
     regrouped = sym (padded_append extra prefix (step line (call name names) last)) ∙ ap (padded extra) (append_assoc first second (step line (call name names) last))
 
+    -- what the parts cost together
     weighed : total_cost extra prefix + (own + 1 + slack) ≤ w
     weighed = omega (arith, few, cost_append extra first second, cost_append extra first (second +++ step line (call name names) last), cost_append extra second (step line (call name names) last))
 
@@ -318,6 +321,7 @@ module _ {C : Type 0} (extra : Act → ℕ) (inner inner' q q' : Calls C) (n : S
 
     -- ---- the statements before the call
 
+    -- after MAX, MIN and ABS
     after_reduced : AreDummies (λ d. inside_u (plain d)) u.dummies → (most : ℕ) → UnitFollows inner inner' w inside_u most u u' → (k : ℕ) → k ≤ suc most →
         (t1 : Store C) → Goes q' n first t (with_store t t1) (3 * j) → StoresAgree (CellsOf n inside) s.store t1 → AllPassed q' n inside local apart shows scalars t line ws j [] args es s.store t1 → Follows Related w 0 source (run q' n whole_code t) k
     after_reduced known most h k le t1 g b (one_fails z y) =
@@ -327,6 +331,7 @@ module _ {C : Type 0} (extra : Act → ℕ) (inner inner' q q' : Calls C) (n : S
         with_actuals t2 got got_is (goes_flat extra q' n prefix flat_prefix t (with_store t t2) (3 * j + 3 * m) (goes_append q' n first second t (with_store t t1) (with_store t t2) (3 * j) (3 * m) g l))
         (agree_after q' n inside local apart shows t line (Range j m) s.store t1 t2 b c) match known most h k le
 
+    -- from the beginning
     after_nothing : AreDummies (λ d. inside_u (plain d)) u.dummies → (most : ℕ) → UnitFollows inner inner' w inside_u most u u' → (k : ℕ) → k ≤ suc most → Reduced q' n inside local apart shows scalars t line 0 args s.store t.store → Follows Related w 0 source (run q' n whole_code t) k
     after_nothing known most h k le (gives_none z y) = without z (stops_first q' n padded_prefix the_call t line (stops_flat extra q' n prefix flat_prefix t line (stops_first q' n first second t line y))) k
     after_nothing known most h k le (reduces t1 l c v) =
@@ -334,5 +339,6 @@ module _ {C : Type 0} (extra : Act → ℕ) (inner inner' q q' : Calls C) (n : S
         after_reduced known most h k le t1 l b
         (passes_all q' n inside local apart shows scalars t line args ws [] 0 j s.store t1 within b v (omega arith) (record { once = λ x i e. absurd cc; flat = λ x i e. absurd cc }) once (flat_of args arrays t line))
 
+    -- the statements that a CALL becomes follow it
     pub call_follows : AreDummies (λ d. inside_u (plain d)) u.dummies → (most : ℕ) → UnitFollows inner inner' w inside_u most u u' → (k : ℕ) → k ≤ suc most → Follows Related w 0 source (run q' n (padded extra (lowered_call local line ws name args)) t) k
     call_follows known most h k le = subst (λ c. Follows Related w 0 source (run q' n c t) k) regrouped (after_nothing known most h k le (reduces_all q' n inside local apart shows scalars t line args 0 s.store t.store within a.store))

@@ -46,6 +46,7 @@ first_free-name (suc tries) i b taken h = go (has_name (candidate b i) taken) (f
     go true ih = ih
     go false ih = candidate-name b i h
 
+-- a fresh name is a name
 pub fresh-name : (b : List ℕ) (taken : List (List ℕ)) → IsName b → IsName (fresh b taken)
 fresh-name b taken h = first_free-name (length taken) 0 b taken h
 

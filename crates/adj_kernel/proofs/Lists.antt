@@ -84,6 +84,7 @@ module _ {C : Type 0} (extra : Act → ℕ) (cheap : (a : Act) → extra a ≤ o
       omega (arith, c.is, z)
 
   mutual
+    -- the statements that a statement becomes follow it
     acts_follow : (line : ℕ) (a : Act) → ActInside inside a → EachCall' P a → ActWeighsAtMost m a → (s t : Scene C) → Alike s t → (k : ℕ) → k ≤ most → Follows Alike w 0 (λ i. counted (stand n s) i (act q n a line s)) (run q' n (padded extra (lowered_act local handed line a)) t) k
     acts_follow line (assign x subs e) h p f s t a k le =
         let few1 : ℕ = 3 * (mentions x subs + locals_in_target x subs + locals_in e) + 1 in
@@ -122,6 +123,7 @@ module _ {C : Type 0} (extra : Act → ℕ) (cheap : (a : Act) → extra a ≤ o
     acts_follow line (call name args) h p f s t a k le = calls name args line p h (omega (arith, f, few, call_light local line (handed name) name args, list_cheap extra cheap (lowered_call local line (handed name) name args))) s t a k le
     acts_follow line (runtime r) h p f s t a k le = absurd p
 
+    -- the list that a list becomes follows it
     pub lists_follow : (c : Code) → CodeInside inside c → EachCall P c → WeighsAtMost m c → (s t : Scene C) → Alike s t → (k : ℕ) → k ≤ most → Follows Alike w 0 (run q n c s) (run q' n (padded extra (lowered local handed c)) t) k
     lists_follow stop h p f s t a k le = follows_done w 0 Alike s t k a
     lists_follow (step line b rest) h p f s t a k le =

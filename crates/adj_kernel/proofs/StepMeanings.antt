@@ -31,6 +31,7 @@ use Rattle.adj_kernel.proofs.Followed.{stays_ended, means_followed}
 
 -- ---- events
 
+-- marks of events one after another
 marked_append : (xs ys : List Event) → marked_of (xs ++ ys) ≡ marked_of xs ++ marked_of ys
 marked_append [] ys = refl
 marked_append (Enter a b c d ∷ xs) ys = marked_append xs ys
@@ -42,6 +43,7 @@ nothing_behind : (xs : List Event) → xs ++ [] ≡ xs
 nothing_behind [] = refl
 nothing_behind (x ∷ xs) = ap (λ z. x ∷ z) (nothing_behind xs)
 
+-- and in the other order
 marked_reverse : (xs : List Event) → marked_of (reverse xs) ≡ reverse (marked_of xs)
 marked_reverse [] = refl
 marked_reverse (Enter a b c d ∷ xs) = ap marked_of (reverse-cons (Enter a b c d) xs) ∙ marked_append (reverse xs) (Enter a b c d ∷ []) ∙ nothing_behind (marked_of (reverse xs)) ∙ marked_reverse xs
@@ -97,6 +99,7 @@ module _ {C : Type 0} (n : Numbers C) (units units' : List Procedure) (most : �
   kernel_verdict : (d d' : ℕ) → d ≤ d' → (k : ℕ) → Verdict (of_kernel d) (of_kernel d') k
   kernel_verdict d d' le k = unit_verdict (calls_of units' d) (calls_of units' d') (calls_alike units' d d' le) around u' u.line start k
 
+  -- the stepped unit follows the unit
   follows : (k e : ℕ) → far k ≤ e → Follows Related 2 0 (of_source k) (of_kernel e) k
   follows k e le =
       units_step n room units units' most fit same_written k name u found (λ x. scalar) (λ x. scalar) 0 0 u.line start start refl refl refl
@@ -106,6 +109,7 @@ module _ {C : Type 0} (n : Numbers C) (units units' : List Procedure) (most : �
   abbrev source_output : Scene C → Output C
   source_output s = record { slots = dummy_slots here u s.store; tape = s.tape; events = reverse s.events }
 
+  -- and gives the same, but for events of calls
   same_output : (s t : Scene C) → Related s t → SameButCalls (source_output s) (source_output t)
   same_output s t a = record {
     slots = slots_same here u s.store t.store u.dummies (are_own u u.dummies (λ y h. h)) (λ y h i l. a.store (plain y) i h);
@@ -113,6 +117,7 @@ module _ {C : Type 0} (n : Numbers C) (units units' : List Procedure) (most : �
     marked = marked_reverse s.events ∙ ap reverse a.events ∙ sym (marked_reverse t.events);
   }
 
+  -- so it means the same, but for events of calls
   pub means_alike : MeansAlike SameButCalls (run_unit n units u input tape room) (run_unit n units' u' input tape room) 2
   means_alike =
       means_followed Related SameButCalls 2 of_source of_kernel source_output source_output (λ k. far k + k) (λ k. omega arith) kernel_verdict

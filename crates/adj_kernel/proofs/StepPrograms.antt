@@ -26,6 +26,7 @@ use Rattle.adj_kernel.proofs.TwoSettings.{set_in, actuals_two, Equal, copied_two
 use Rattle.adj_kernel.proofs.Stepping.{Alike, lists_step}
 use Rattle.adj_kernel.proofs.StepUnits.{same_count, dummy_fits, all_fit, covered}
 
+-- flags lie within themselves
 within_self : (ws : List Bool) → IsWithin ws ws
 within_self [] = tt
 within_self (w ∷ ws) = ((λ e. e), within_self ws)
@@ -58,6 +59,7 @@ module _ {C : Type 0} (N : Numbers C) (room : Option ℕ) (units units' : List P
   equal_dummies v in_hand s1 t1 r (d ∷ ds) h = ((λ i. r.store (plain d) i (own_dummies v d (h d (or_first (name_eq d d) (has_name d ds) (name_refl d))))), equal_dummies v in_hand s1 t1 r ds (λ y g. h y (or_second (name_eq y d) (has_name y ds) g)))
 
   module _ (depth least : ℕ) (ih : (name : List ℕ) (v : Procedure) (f : find_unit units name ≡ Some v) → UnitSteps depth least (fit name v f).stepped.taken v) where
+    -- a call of a unit follows where its unit does
     call_deeper : CallSteps (suc depth) (suc least)
     call_deeper sh name args line p ns h sh' level level' same a b s t r zero be k le = absurd (omega (arith, be))
     call_deeper sh name args line p ns h sh' level level' same a b s t r (suc e) be k le =

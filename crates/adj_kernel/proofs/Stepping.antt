@@ -101,12 +101,15 @@ module _ {C : Type 0} (N : Numbers C) (room : Option ℕ) (units units' : List P
     own_used : (y : List ℕ) → has_name y (names_of u) ≡ true → is_used u.declarations used y ≡ true → has_name y vs ≡ true
     own_used y h g = used_has u.declarations used (variables_of u) y (listed_once y (names_of u) h) g
 
+    -- each name that is used is a dummy
     all_used : (y : List ℕ) → has_name y used ≡ true → has_name y vs ≡ true
     all_used y h = own_used y (loop_named y (is_of u) P x body ox own each h) (or_first (has_name y used) (is_extent_of u.declarations y used) h)
 
+    -- the body is inside the dummies
     pub body_inside : CodeInside (is_named vs) body
     body_inside = own_code vs body plainly (λ y h. all_used y (has_second y (named x) (names_in_code body) h))
 
+    -- with a dummy its extents are dummies
     extents_in : ExtentsIn vs
     extents_in y d h g = go (or_cases (has_name y used) (is_extent_of u.declarations y used) (used_is u.declarations used (variables_of u) y h))
       where
@@ -308,6 +311,7 @@ module _ {C : Type 0} (N : Numbers C) (room : Option ℕ) (units units' : List P
       λ y d g. ap (λ z. if z && (0 == i) then c else s.store (plain d) 0) (h y d g) ∙ r.1 y d g,
     )
 
+    -- what is told of a loop is kept
     told_kept : (a b line m : ℕ) (force : Option ℕ) (s t : Scene C) → Kept ns a b s t → Kept ns a b (after_loop line m force s) (after_loop line m force t)
     told_kept a b line m None s t r = r
     told_kept a b line m (Some snapshots) s t r = (record { store = r.0.store; tape = r.0.tape; opened = r.0.opened; opened' = r.0.opened'; events = λ i. Marked line m snapshots ∷ r.0.events i }, r.1)

@@ -27,11 +27,13 @@ has_underscore : List ℕ → Bool
 has_underscore [] = false
 has_underscore (c ∷ cs) = (c == 95) || has_underscore cs
 
+-- a name with an underscore behind
 underscore_behind : (x y : List ℕ) → has_underscore y ≡ true → has_underscore (x ++ y) ≡ true
 unfolding has_underscore
 underscore_behind [] y h = h
 underscore_behind (c ∷ x) y h = or_second (c == 95) (has_underscore (x ++ y)) (underscore_behind x y h)
 
+-- or before
 underscore_before : (x y : List ℕ) → has_underscore x ≡ true → has_underscore (x ++ y) ≡ true
 unfolding has_underscore
 underscore_before [] y h = absurd cc
@@ -53,6 +55,7 @@ first_free_underscore (suc tries) i b taken h = go (has_name (candidate b i) tak
     go true ih = ih
     go false ih = candidate_underscore b i h
 
+-- the name of a step unit has one
 step_underscore : (taken : List (List ℕ)) (base : List ℕ) (k : ℕ) → has_underscore (step_name taken base k) ≡ true
 unfolding has_underscore
 step_underscore taken base k = first_free_underscore (length (taken ++ step_names taken base k)) 0 (wanted_step base k) (taken ++ step_names taken base k) (underscore_behind base (codes "_S" ++ digits (suc k)) refl)
@@ -68,12 +71,14 @@ other_name x y h g = go (name_eq x y) refl
 skip_name : {A : Type 0} (x y : List ℕ) (a b : A) → has_underscore x ≡ true → has_underscore y ≡ false → (if name_eq x y then a else b) ≡ b
 skip_name x y a b h g = ap (λ z. if z then a else b) (other_name x y h g)
 
+-- so it is no runtime call
 no_runtime : (x : List ℕ) (es : Terms) → has_underscore x ≡ true → runtime_call x es ≡ None
 unfolding has_underscore
 no_runtime x es h =
     skip_name x (codes "PUSHINTEGER8") _ _ h refl ∙ skip_name x (codes "POPINTEGER8") _ _ h refl ∙ skip_name x (codes "PUSHINTEGER8ARRAY") _ _ h refl ∙ skip_name x (codes "POPINTEGER8ARRAY") _ _ h refl ∙ skip_name x (codes "PUSHCONTROL1B") _ _ h refl
     ∙ skip_name x (codes "POPCONTROL1B") _ _ h refl ∙ skip_name x (codes "ADZERO8") _ _ h refl ∙ skip_name x (codes "ADBEG") _ _ h refl ∙ skip_name x (codes "ADACTN") _ _ h refl ∙ skip_name x (codes "ADACT") _ _ h refl ∙ skip_name x (codes "ADEND") _ _ h refl
 
+-- and is a name
 step_named : (taken : List (List ℕ)) (base : List ℕ) (k : ℕ) → IsName base → IsName (step_name taken base k)
 step_named taken base k h = fresh-name (wanted_step base k) (taken ++ step_names taken base k) (name-append base (codes "_S" ++ digits (suc k)) h (digits_chars (suc (suc k)) (suc k) [] refl))
 
@@ -86,6 +91,7 @@ AllNamed xs = (y : List ℕ) → has_name y xs ≡ true → IsName y
 none_named : AllNamed []
 none_named y h = absurd cc
 
+-- names of both lists
 both_named : (xs ys : List (List ℕ)) → AllNamed xs → AllNamed ys → AllNamed (xs ++ ys)
 both_named xs ys h g y k = go (or_cases (has_name y xs) (has_name y ys) (sym (has-append y xs ys) ∙ k))
   where
@@ -108,6 +114,7 @@ indexed_named (shadow x) h = absurd h
 indexed_named (helper r k) h = absurd h
 
 mutual
+  -- the names in a written expression are names
   term_named : (e : Term) → IsWrittenTerm e → AllNamed (names_in e)
   term_named (lit z) h = none_named
   term_named (var x) h = var_named x h
@@ -122,6 +129,7 @@ mutual
   terms_named none h = none_named
   terms_named (more e es) h = both_named (names_in e) (names_in_all es) (term_named e h.0) (terms_named es h.1)
 
+-- in a condition
 test_named : (c : Test) → IsWrittenTest c → AllNamed (names_in_test c)
 test_named (compare r a b) h = both_named (names_in a) (names_in b) (term_named a h.0) (term_named b h.1)
 test_named (negation c) h = test_named c h
@@ -138,6 +146,7 @@ mark_named (with_count n) h = none_named
 mark_named (count_from x) h = var_named x h
 
 mutual
+  -- in a statement
   act_named : (a : Act) → IsWrittenAct a → EachCall' (λ unit args. (es : Terms) → runtime_call unit es ≡ None) a → AllNamed (names_in_act a)
   act_named (assign x s e) h p = subst AllNamed (regroup (named x) (names_in_all s) (names_in e)) (both_named (named x ++ names_in_all s) (names_in e) (place_named x s h.0) (term_named e h.1))
     where
@@ -153,6 +162,7 @@ mutual
   act_named (call name args) h p = terms_named args h.1
   act_named (runtime r) h p = absurd p
 
+  -- in a list
   code_named : (c : Code) → IsWrittenCode c → EachCall (λ unit args. (es : Terms) → runtime_call unit es ≡ None) c → AllNamed (names_in_code c)
   code_named stop h p = none_named
   code_named (step line a rest) h p = both_named (names_in_act a) (names_in_code rest) (act_named a h.0 p.0) (code_named rest h.1 p.1)
@@ -173,6 +183,7 @@ declared_named (d ∷ ds) h y k = go (or_cases (name_eq y d.name) (has_name y (d
     go (inl e) ih = subst IsName (sym (name_same y d.name e)) (let w = All-head IsWrittenDeclaration d ds h in w.named)
     go (inr e) ih = ih e
 
+-- in a unit
 unit_named : (u : Procedure) → IsWrittenProcedure u → CallsUnits u → AllNamed (names_of u)
 unit_named u h p = both_named u.dummies (declared_names u.declarations ++ names_in_code u.body) (list_named u.dummies h.dummies) (both_named (declared_names u.declarations) (names_in_code u.body) (declared_named u.declarations h.declarations) (code_named u.body h.body p))
 
@@ -206,6 +217,7 @@ all_of : (vs : List (List ℕ)) → AllNamed vs → All IsName vs
 all_of [] h = All-nil IsName
 all_of (v ∷ vs) h = All-cons IsName v vs (h v (or_first (name_eq v v) (has_name v vs) (name_refl v))) (all_of vs (λ y k. h y (or_second (name_eq y v) (has_name y vs) k)))
 
+-- the actuals of the call are written
 actuals_written : (vs : List (List ℕ)) → AllNamed vs → AreWrittenTerms (as_actuals vs)
 actuals_written [] h = tt
 actuals_written (v ∷ vs) h = (h v (or_first (name_eq v v) (has_name v vs) (name_refl v)), actuals_written vs (λ y k. h y (or_second (name_eq y v) (has_name y vs) k)))
@@ -223,6 +235,7 @@ extents_written (d ∷ ds) x h = go (var_eq x (plain d.name)) (extents_written d
     go true ih = let w = All-head IsWrittenDeclaration d ds h in record { few = w.few_extents; each = w.extents }
     go false ih = ih
 
+-- so are the declarations of a step unit
 declarations_written : (ds : List Declaration) (line : ℕ) (vs : List (List ℕ)) → All IsWrittenDeclaration ds → AllNamed vs → All IsWrittenDeclaration (step_declarations ds line vs)
 declarations_written ds line [] h g = All-nil IsWrittenDeclaration
 declarations_written ds line (v ∷ vs) h g =
@@ -259,6 +272,7 @@ module _ (taken : List (List ℕ)) (u : Procedure) (h : IsWrittenProcedure u) (p
     cut_written_act k line (call name args) w = w
     cut_written_act k line (runtime r) w = w
 
+    -- a cut list is written
     cut_written : (k : ℕ) (c : Code) → IsWrittenCode c → IsWrittenCode (cut taken u k c)
     cut_written k stop w = tt
     cut_written k (step line a rest) w = (cut_written_act k line a w.0, cut_written (k + marked_in_act a) rest w.1)
@@ -313,10 +327,12 @@ module _ (taken : List (List ℕ)) (u : Procedure) (h : IsWrittenProcedure u) (p
     steps_well_act k line (call name args) w c = tt
     steps_well_act k line (runtime r) w c = tt
 
+    -- each step unit of a list is written, and its CALLs are of units
     steps_well : (k : ℕ) (c : Code) → IsWrittenCode c → EachCall (λ unit args. (es : Terms) → runtime_call unit es ≡ None) c → EachUnit WellWritten (step_units_in taken u k c)
     steps_well k stop w c = tt
     steps_well k (step line a rest) w c = append_well (step_units_in_act taken u k line a) (step_units_in taken u (k + marked_in_act a) rest) (steps_well_act k line a w.0 c.0) (steps_well (k + marked_in_act a) rest w.1 c.1)
 
+  -- so are a unit and its step units
   unit_well : EachUnit WellWritten (stepped_unit taken u)
   unit_well = ((record { named = h.named; dummies = h.dummies; declarations = h.declarations; body = cut_written 0 u.body h.body }, cut_calls 0 u.body p), steps_well 0 u.body h.body p)
 

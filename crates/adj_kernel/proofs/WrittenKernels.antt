@@ -23,6 +23,7 @@ written_append stop d h g = g
 written_append (step line a c) d h g = (h.0, written_append c d h.1 g)
 
 module _ (local : ℕ → Var) (named : (k : ℕ) → IsVariable (local k)) where
+  -- a reduced expression is written
   written_reduced : (e : Term) (j : ℕ) → IsWrittenTerm e → IsWrittenTerm (reduced local j e)
   written_reduced (lit z) j h = h
   written_reduced (var x) j h = h
@@ -46,6 +47,7 @@ module _ (local : ℕ → Var) (named : (k : ℕ) → IsVariable (local k)) wher
   written_turned : (line i : ℕ) (a : Term) → IsWrittenTerm a → IsWrittenCode (turned_up local line i a)
   written_turned line i a h = ((named i, h), (((named i, omega arith), ((named i, named i), tt), tt), tt))
 
+  -- and so is what is set before it
   written_before : (line j : ℕ) (e : Term) → IsWrittenTerm e → IsWrittenCode (before local line j e)
   written_before line j (lit z) h = tt
   written_before line j (var y) h = tt
@@ -69,6 +71,7 @@ module _ (local : ℕ → Var) (named : (k : ℕ) → IsVariable (local k)) wher
   written_before line j (power_of a b) h = written_before line j a h.0
   written_before line j (abs a) h = written_append (before local line j a) _ (written_before line j a h) (written_turned line (j + locals_in a) (reduced local j a) (written_reduced a j h))
 
+  -- a local that is set
   written_set : (line j m : ℕ) (e : Term) → IsWrittenTerm e → IsWrittenCode (set_local local line j m e)
   written_set line j m e h = written_append (before local line m e) _ (written_before line m e h) ((named j, written_reduced e m h), tt)
 
@@ -123,6 +126,7 @@ module _ (local : ℕ → Var) (named : (k : ℕ) → IsVariable (local k)) wher
   place_terms x none h = tt
   place_terms x (more e es) h = h.2
 
+  -- an assignment
   written_assign : (line : ℕ) (x : Var) (subs : Terms) (e : Term) → IsPlace x subs → IsWrittenTerm e → IsWrittenCode (lowered_assign local line x subs e)
   written_assign line x subs e p h =
       let m = mentions x subs in let k = m + locals_in_target x subs in
@@ -159,6 +163,7 @@ module _ (local : ℕ → Var) (named : (k : ℕ) → IsVariable (local k)) wher
   variable_of (shadow x) h = absurd h
   variable_of (helper r k) h = absurd h
 
+  -- what is passed
   written_passing : (w : Bool) (earlier : List Var) (i : ℕ) (e : Term) → IsWrittenTerm e → IsWrittenPassing (passing w earlier (reduced local i e))
   written_passing w earlier i e h = go (sort Bool local i e)
     where
@@ -211,6 +216,7 @@ module _ (local : ℕ → Var) (named : (k : ℕ) → IsVariable (local k)) wher
         let p = passing (first_flag ws) earlier (reduced local i e) in
         (written_name j p (written_passing (first_flag ws) earlier i e h.0), written_names es (other_flags ws) (passed local j p ∷ earlier) (i + locals_in e) (j + locals_passing p) h.1)
 
+    -- a CALL
     written_call : (ws : List Bool) (unit : List ℕ) (args : Terms) → IsName unit → ((es : Terms) → runtime_call unit es ≡ None) → AreWrittenTerms args → IsWrittenCode (lowered_call local line ws unit args)
     written_call ws unit args u r h =
         let j = locals_in_all args in let es = reduced_all local 0 args in
@@ -237,6 +243,7 @@ module _ (local : ℕ → Var) (named : (k : ℕ) → IsVariable (local k)) wher
 
 -- ---- units
 
+-- the declarations of locals
 locals_written : (line : ℕ) (taken : List (List ℕ)) (k : ℕ) → All IsWrittenDeclaration (map (scalar_at line) (local_names taken k))
 locals_written line taken zero = All-nil IsWrittenDeclaration
 locals_written line taken (suc k) = behind (local_names taken k) (locals_written line taken k)
@@ -249,6 +256,7 @@ locals_written line taken (suc k) = behind (local_names taken k) (locals_written
     behind (x ∷ xs) h =
         All-cons IsWrittenDeclaration (scalar_at line x) (map (scalar_at line) (xs ++ (last ∷ []))) (All-head IsWrittenDeclaration (scalar_at line x) (map (scalar_at line) xs) h) (behind xs (All-tail IsWrittenDeclaration (scalar_at line x) (map (scalar_at line) xs) h))
 
+-- a unit
 pub unit_written : (units : List Procedure) (u : Procedure) → IsWrittenProcedure u → CallsUnits u → IsWrittenProcedure (lowered_unit units u)
 unit_written units u h p = record {
   named = h.named;
