@@ -53,9 +53,11 @@ module _ {C : Type 0} (n : Setting C) where
   none_of (power_of a b) s k h = record { kind = k; is = ap (λ z. then_ok z (λ c. Ok (one_word c nowhere))) h }
   none_of (abs a) s k h = record { kind = k; is = ap (λ z. then_ok z (λ c. Ok (one_word c nowhere))) h }
 
+  -- no actuals where the first has none
   none_at_first : (e : Term) (es : Terms) (s : Store C) (k : Trap) → actual_of n e s ≡ Err k → actuals n (more e es) s ≡ Err k
   none_at_first e es s k h = ap (λ z. then_ok z (λ a. then_ok (actuals n es s) (λ got. Ok (a ∷ got)))) h
 
+  -- nor where a later one has none
   none_later : (e : Term) (es : Terms) (s : Store C) (k : Trap) → actuals n es s ≡ Err k → Nothing (actuals n (more e es) s)
   none_later e es s k h = go (actual_of n e s) refl
     where
@@ -99,6 +101,7 @@ module _ {C : Type 0} (q : Calls C) (n : Setting C) (inside : Var → Bool) (loc
   abbrev Agree : Store C → Store C → Type 0
   Agree s t = StoresAgree (CellsOf n inside) s t
 
+  -- MAX, MIN and ABS of all actuals became locals, or an actual has no value
   pub data Reduced (j : ℕ) (es : Terms) (s t : Store C) : Type 0 where
     reduces : (t1 : Store C) → Goes q n (before_all local line j es) (at t) (at t1) (3 * locals_in_all es) → Changes inside local (Range j (locals_in_all es)) t t1 → AllSame n inside local j es s t1 → Reduced j es s t
     gives_none : Nothing (actuals n es s) → Stops q n (before_all local line j es) (at t) line → Reduced j es s t
@@ -120,6 +123,7 @@ module _ {C : Type 0} (q : Calls C) (n : Setting C) (inside : Var → Bool) (loc
               v2,
             )
 
+  -- so it is of any actuals inside
   pub reduces_all : (es : Terms) (j : ℕ) (s t : Store C) → TermsInside inside es → Agree s t → Reduced j es s t
   reduces_all none j s t h g = reduces t (goes_stop q n (at t)) (changes_none inside local (Range j 0) t) tt
   reduces_all (more e es) j s t h g =
@@ -128,6 +132,7 @@ module _ {C : Type 0} (q : Calls C) (n : Setting C) (inside : Var → Bool) (loc
 
   -- ---- the names
 
+  -- each actual became a name that matches it, or one has none
   pub data AllPassed (ws : List Bool) (j : ℕ) (earlier : List Var) (es es' : Terms) (s t : Store C) : Type 0 where
     all_pass : (t1 : Store C) → Goes q n (before_passing_all local line j ws earlier es') (at t) (at t1) (3 * locals_passing_all local j ws earlier es') → Changes inside local (Range j (locals_passing_all local j ws earlier es')) t t1 → (got : List (Actual C)) → actuals n es s ≡ Ok got → AllMatch n inside local ws j earlier es' got t1 → AllPassed ws j earlier es es' s t
     one_fails : Nothing (actuals n es s) → Stops q n (before_passing_all local line j ws earlier es') (at t) line → AllPassed ws j earlier es es' s t
@@ -257,6 +262,7 @@ module _ {C : Type 0} (q : Calls C) (n : Setting C) (inside : Var → Bool) (loc
             (a ∷ got) (all_of n e es s a got f f2)
             (match_later n inside local (first_flag ws) a j p t1 t2 next more_locals (omega arith) c2 m, m2)
 
+  -- so it is of any actuals, where no name stands twice but for scalars and none is handed back twice
   pub passes_all : (es : Terms) (ws : List Bool) (earlier : List Var) (i j : ℕ) (s t : Store C) → TermsInside inside es → Agree s t → AllSame n inside local i es s t → i + locals_in_all es ≤ j → Earlier ws earlier es → AreHandedApart ws es → Flat es → AllPassed ws j earlier es (reduced_all local i es) s t
   passes_all none ws earlier i j s t h g v le k a f = all_pass t (goes_stop q n (at t)) (changes_none inside local (Range j 0) t) [] refl tt
   passes_all (more e es) ws earlier i j s t h g v le k a f =

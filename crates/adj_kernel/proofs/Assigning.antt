@@ -26,6 +26,7 @@ use Rattle.adj_kernel.proofs.Targeting.{Target, targets, no_target, targeted, ta
 -- ---- a statement that becomes straight code
 
 module _ {C : Type 0} (q : Calls C) (n : Setting C) (alike : CallsAlike q q) (R : Scene C → Scene C → Type 0) (w : ℕ) where
+  -- what is empty goes on with no statement
   at_zero : (c : Code) (t : Scene C) → IsMore (run q n c t 0) → (j : ℕ) → j ≤ 0 → IsMore (run q n c t j)
   at_zero c t empty j l = let e : 0 ≡ j = omega arith in subst (λ z. IsMore (run q n c t z)) e empty
 
@@ -174,5 +175,6 @@ module _ {C : Type 0} (q q' : Calls C) (n : Setting C) (alike : CallsAlike q' q'
         let b = agree_after q' n inside local apart shows t line _ s.store t.store t1 a.store c in
         after_target t1 g b v (prefixed q' n inside local apart shows t line e k0 s.store t1 he b) k
 
+    -- the statements that an assignment becomes follow it
     pub assign_follows : (k : ℕ) → Follows Related w 0 source (run q' n (lowered_assign local line x subs e) t) k
     assign_follows k = before_all_else (targeted q' n inside local apart shows t line x subs 0 m s.store t.store (omega arith) hsubs a.store) k

@@ -22,6 +22,7 @@ use Rattle.adj_kernel.specs.Calls.{is_scalar, AreHandedApart, ArraysStandOnce, S
 use Rattle.adj_meaning.proofs.Following.{follows_then, follows_statement, follows_trap}
 use Rattle.adj_meaning.proofs.Straights.{Stops, stops_first, stops_after, leads_early}
 use Rattle.adj_meaning.proofs.Bounded.{Goes, leads_of, goes_append}
+use Rattle.adj_kernel.proofs.Together.{follows_same}
 use Rattle.adj_kernel.proofs.Changing.{Range}
 use Rattle.adj_kernel.proofs.Targeting.{agree_after}
 use Rattle.std.proofs.lemmas.Bool.{cases_lt}
@@ -62,10 +63,6 @@ done_then_goes q n alike R w c s t t1 m g r k =
       by = g.by;
       related = r;
     })
-
--- the same runs
-pub follows_same : {A B : Type 0} (R : A → B → Type 0) (w slack : ℕ) (o o1 : Runs A) (p p1 : Runs B) (k : ℕ) → ((j : ℕ) → o1 j ≡ o j) → ((j : ℕ) → p1 j ≡ p j) → Follows R w slack o p k → Follows R w slack o1 p1 k
-follows_same R w slack o o1 p p1 k e f h = subst (λ (z : Runs _). Follows R w slack z p1 k) (λ i j. sym (e j) i) (subst (λ (z : Runs _). Follows R w slack o z k) (λ i j. sym (f j) i) h)
 
 -- the run of the unit in the kernel follows that of the source, from scenes that agree on its variables; k statements at most are left
 abbrev pub UnitFollows : {C : Type 0} → Calls C → Calls C → ℕ → (Var → Bool) → ℕ → Procedure → Procedure → Type 0
@@ -118,6 +115,7 @@ module _ {C : Type 0} (extra : Act → ℕ) (inner inner' q q' : Calls C) (n : S
     abbrev prefix : Code
     prefix = first +++ second
 
+    -- what stands before the CALL is flat
     flat_prefix : IsFlat prefix
     flat_prefix = flat_append first second (flat_before_all local line 0 args) (flat_passing_all local line j ws [] es)
 
@@ -140,9 +138,11 @@ module _ {C : Type 0} (extra : Act → ℕ) (inner inner' q q' : Calls C) (n : S
     abbrev whole_code : Code
     whole_code = padded_prefix +++ the_call
 
+    -- the parts are the whole
     regrouped : whole_code ≡ padded extra (lowered_call local line ws name args)
     regrouped = sym (padded_append extra prefix (step line (call name names) last)) ∙ ap (padded extra) (append_assoc first second (step line (call name names) last))
 
+    -- what the parts cost together
     weighed : total_cost extra prefix + (own + 1 + slack) ≤ w
     weighed = omega (arith, few, cost_append extra first second, cost_append extra first (second +++ step line (call name names) last), cost_append extra second (step line (call name names) last))
 
@@ -321,6 +321,7 @@ module _ {C : Type 0} (extra : Act → ℕ) (inner inner' q q' : Calls C) (n : S
 
     -- ---- the statements before the call
 
+    -- after MAX, MIN and ABS
     after_reduced : AreDummies (λ d. inside_u (plain d)) u.dummies → (most : ℕ) → UnitFollows inner inner' w inside_u most u u' → (k : ℕ) → k ≤ suc most →
         (t1 : Store C) → Goes q' n first t (with_store t t1) (3 * j) → StoresAgree (CellsOf n inside) s.store t1 → AllPassed q' n inside local apart shows scalars t line ws j [] args es s.store t1 → Follows Related w 0 source (run q' n whole_code t) k
     after_reduced known most h k le t1 g b (one_fails z y) =
@@ -330,6 +331,7 @@ module _ {C : Type 0} (extra : Act → ℕ) (inner inner' q q' : Calls C) (n : S
         with_actuals t2 got got_is (goes_flat extra q' n prefix flat_prefix t (with_store t t2) (3 * j + 3 * m) (goes_append q' n first second t (with_store t t1) (with_store t t2) (3 * j) (3 * m) g l))
         (agree_after q' n inside local apart shows t line (Range j m) s.store t1 t2 b c) match known most h k le
 
+    -- from the beginning
     after_nothing : AreDummies (λ d. inside_u (plain d)) u.dummies → (most : ℕ) → UnitFollows inner inner' w inside_u most u u' → (k : ℕ) → k ≤ suc most → Reduced q' n inside local apart shows scalars t line 0 args s.store t.store → Follows Related w 0 source (run q' n whole_code t) k
     after_nothing known most h k le (gives_none z y) = without z (stops_first q' n padded_prefix the_call t line (stops_flat extra q' n prefix flat_prefix t line (stops_first q' n first second t line y))) k
     after_nothing known most h k le (reduces t1 l c v) =
@@ -337,5 +339,6 @@ module _ {C : Type 0} (extra : Act → ℕ) (inner inner' q q' : Calls C) (n : S
         after_reduced known most h k le t1 l b
         (passes_all q' n inside local apart shows scalars t line args ws [] 0 j s.store t1 within b v (omega arith) (record { once = λ x i e. absurd cc; flat = λ x i e. absurd cc }) once (flat_of args arrays t line))
 
+    -- the statements that a CALL becomes follow it
     pub call_follows : AreDummies (λ d. inside_u (plain d)) u.dummies → (most : ℕ) → UnitFollows inner inner' w inside_u most u u' → (k : ℕ) → k ≤ suc most → Follows Related w 0 source (run q' n (padded extra (lowered_call local line ws name args)) t) k
     call_follows known most h k le = subst (λ c. Follows Related w 0 source (run q' n c t) k) regrouped (after_nothing known most h k le (reduces_all q' n inside local apart shows scalars t line args 0 s.store t.store within a.store))

@@ -15,6 +15,7 @@ SameOrNone (Ok a) (Err t) = ⊥
 SameOrNone (Err t) (Ok b) = ⊥
 SameOrNone (Err t) (Err t') = Unit {0}
 
+-- equal values are the same or none
 pub same_or_none : {A : Type 0} (v w : Result A Trap) → v ≡ w → SameOrNone v w
 same_or_none (Ok a) w e = subst (λ z. SameOrNone (Ok a) z) e refl
 same_or_none (Err t) w e = subst (λ z. SameOrNone (Err t) z) e tt
@@ -26,6 +27,7 @@ same_then (Ok a) (Err t) f g e h = absurd e
 same_then (Err t) (Ok b) f g e h = absurd e
 same_then (Err t) (Err t') f g e h = tt
 
+-- and stay so where the second is replaced by an equal one
 pub same_trans : {A : Type 0} (u v w : Result A Trap) → SameOrNone u v → v ≡ w → SameOrNone u w
 same_trans u v w h e = subst (λ z. SameOrNone u z) e h
 
@@ -55,15 +57,18 @@ other_local inside local apart k j h = apart.apart k j ∙ go (k == j) refl
     go false e = e
 
 module _ {C : Type 0} (inside : Var → Bool) (local : ℕ → Var) where
+  -- nothing changes
   pub changes_none : (may : ℕ → Type 0) (t : Store C) → Changes inside local may t t
   changes_none may t = record { within = λ x i h. refl; others = λ k i h. refl }
 
+  -- one change after another
   pub changes_both : (may may1 may2 : ℕ → Type 0) (t t1 t2 : Store C) → Changes inside local may1 t t1 → Changes inside local may2 t1 t2 → ((k : ℕ) → may1 k → may k) → ((k : ℕ) → may2 k → may k) → Changes inside local may t t2
   changes_both may may1 may2 t t1 t2 a b f g = record {
     within = λ x i h. b.within x i h ∙ a.within x i h;
     others = λ k i h. b.others k i (λ m. h (g k m)) ∙ a.others k i (λ m. h (f k m));
   }
 
+  -- more locals may change
   pub changes_more : (may may1 : ℕ → Type 0) (t t1 : Store C) → Changes inside local may1 t t1 → ((k : ℕ) → may1 k → may k) → Changes inside local may t t1
   changes_more may may1 t t1 a f = record { within = a.within; others = λ k i h. a.others k i (λ m. h (f k m)) }
 

@@ -16,6 +16,7 @@ use Rattle.adj_kernel.proofs.SameWritten.{same_written}
 unit_unpadded : (u : Procedure) → padded_procedure (λ a. 0) u ≡ u
 unit_unpadded u = λ i. record u { body = unpadded u.body i }
 
+-- nor is a program of such statements
 program_unpadded : (units : List Procedure) → padded_program (λ a. 0) units ≡ units
 program_unpadded [] = refl
 program_unpadded (u ∷ us) = λ i. unit_unpadded u i ∷ program_unpadded us i

@@ -61,6 +61,7 @@ module _ {C : Type 0} (n : Setting C) (t : Store C) where
     there_is : entry_store n.numbers u.dummies (by_names n t ys) ≡ there
     there_is = ap (λ z. entry_store n.numbers z (by_names n t ys)) (sym dummies)
 
+    -- a cell of a dummy at both entries
     pub entry_cells : (y : Var) (i : ℕ) → HasCell y i u.dummies got → here y i ≡ there y i
     entry_cells y i h = entry_same u.dummies got ys m y i h ∙ ap (λ (s : Store C). s y i) there_is
 
@@ -74,6 +75,7 @@ module _ {C : Type 0} (n : Setting C) (t : Store C) where
     pub setting_same : setting_in n u here ≡ setting_in n u' there
     setting_same = λ i. record { numbers = n.numbers; shape = λ x. shape_of (extents_same x i); room = n.room; level = suc n.level }
 
+    -- dummies fit alike where shapes are alike
     fit_all : (ds : List (List ℕ)) (got : List (Actual C)) (ys : List Var) → AllEqual n t got ys → dummies_fit n.numbers u here ds got ≡ dummies_fit n.numbers u' there ds (by_names n t ys)
     fit_all [] got ys m = refl
     fit_all (d ∷ ds) [] [] m = refl

@@ -24,6 +24,7 @@ module _ (local : ℕ → Var) where
   flat_three : (line j : ℕ) (a b : Term) (c : Code) → IsFlat (before local line j a) → IsFlat (before local line (j + locals_in a) b) → IsFlat c → IsFlat (before local line j a +++ (before local line (j + locals_in a) b +++ c))
   flat_three line j a b c f g h = flat_append (before local line j a) (before local line (j + locals_in a) b +++ c) f (flat_append (before local line (j + locals_in a) b) c g h)
 
+  -- what is set before an expression is flat
   pub flat_before : (line j : ℕ) (e : Term) → IsFlat (before local line j e)
   flat_before line j (lit z) = tt
   flat_before line j (var x) = tt
@@ -41,9 +42,11 @@ module _ (local : ℕ → Var) where
   flat_before line j (power_of a b) = flat_before line j a
   flat_before line j (abs a) = flat_append (before local line j a) _ (flat_before line j a) (tt, (((tt, tt), tt), tt))
 
+  -- a local that is set
   flat_set : (line j m : ℕ) (e : Term) → IsFlat (set_local local line j m e)
   flat_set line j m e = flat_append (before local line m e) (one line (assign (local j) none (reduced local m e))) (flat_before line m e) (tt, tt)
 
+  -- what is set before a target
   flat_target : (line : ℕ) (x : Var) (j m : ℕ) (subs : Terms) → IsFlat (before_target local line x j m subs)
   flat_target line x j m none = tt
   flat_target line x j m (more e es) = go (flat_target line x (suc j) (m + locals_in e) es) (flat_target line x j m es) (reads_term x e)
@@ -52,30 +55,36 @@ module _ (local : ℕ → Var) where
       go f g true = flat_append (set_local local line j m e) (before_target local line x (suc j) (m + locals_in e) es) (flat_set line j m e) f
       go f g false = g
 
+  -- an assignment
   pub flat_assign : (line : ℕ) (x : Var) (subs : Terms) (e : Term) → IsFlat (lowered_assign local line x subs e)
   flat_assign line x subs e =
       let m = mentions x subs in let k = m + locals_in_target x subs in
       let last = one line (assign x (apart_from local x 0 subs) (reduced local k e)) in
       flat_append (before_target local line x 0 m subs) (before local line k e +++ last) (flat_target line x 0 m subs) (flat_append (before local line k e) last (flat_before line k e) (tt, tt))
 
+  -- what is set before actuals
   pub flat_before_all : (line j : ℕ) (es : Terms) → IsFlat (before_all local line j es)
   flat_before_all line j none = tt
   flat_before_all line j (more e es) = flat_append (before local line j e) (before_all local line (j + locals_in e) es) (flat_before line j e) (flat_before_all line (j + locals_in e) es)
 
+  -- subscripts that are held
   flat_held : (line j : ℕ) (es : Terms) → IsFlat (before_held local line j es)
   flat_held line j none = tt
   flat_held line j (more e es) = flat_append (set_local local line j (suc j) e) (before_held local line (suc (j + locals_in e)) es) (flat_set line j (suc j) e) (flat_held line (suc (j + locals_in e)) es)
 
+  -- what is set for one passing
   flat_passing : (line j : ℕ) (p : Passing) → IsFlat (before_passing local line j p)
   flat_passing line j (stays x) = tt
   flat_passing line j (put_back x subs) = flat_append (before_held local line j subs) _ (flat_held line j subs) (tt, tt)
   flat_passing line j (by_value e) = (tt, tt)
 
+  -- what puts it back
   flat_after : (line j : ℕ) (p : Passing) → IsFlat (after_passing local line j p)
   flat_after line j (stays x) = tt
   flat_after line j (put_back x subs) = (tt, tt)
   flat_after line j (by_value e) = tt
 
+  -- the same of all
   pub flat_passing_all : (line j : ℕ) (ws : List Bool) (earlier : List Var) (es : Terms) → IsFlat (before_passing_all local line j ws earlier es)
   flat_passing_all line j ws earlier none = tt
   flat_passing_all line j ws earlier (more e es) =
@@ -83,6 +92,7 @@ module _ (local : ℕ → Var) where
       let later : List Var = passed local j p ∷ earlier in
       flat_append (before_passing local line j p) (before_passing_all local line (j + locals_passing p) (other_flags ws) later es) (flat_passing line j p) (flat_passing_all line (j + locals_passing p) (other_flags ws) later es)
 
+  -- what puts all back
   pub flat_after_all : (line j : ℕ) (ws : List Bool) (earlier : List Var) (es : Terms) → IsFlat (after_passing_all local line j ws earlier es)
   flat_after_all line j ws earlier none = tt
   flat_after_all line j ws earlier (more e es) =
@@ -118,12 +128,14 @@ same_end : {A : Type 0} (o p : Runs A) (m : ℕ) (c : Comes o p m) (cost : ℕ) 
 same_end o p m c cost e h = let z : c.cost + cost ≡ cost + c.cost = omega arith in sym (c.by cost) ∙ ap o z ∙ h c.cost
 
 module _ {C : Type 0} (extra : Act → ℕ) (q : Calls C) (n : Setting C) where
+  -- a flat list that leads somewhere leads there padded, at its cost
   pub goes_flat : (c : Code) → IsFlat c → (s s1 : Scene C) (m : ℕ) → Goes q n c s s1 m → Goes q n (padded extra c) s s1 (total_cost extra c)
   goes_flat c f s s1 m g =
       let r = flat_run extra q n c f s in
       let e : r.ending ≡ finished s1 = end_done r.ending s1 g.cost r.cost (same_end (run q n c s) (run q n (padded extra c) s) (total_cost extra c) r g.cost (λ j. Done s1 j) g.by) in
       record { cost = r.dearer; bound = r.most; by = λ j. r.past j ∙ ap (λ z. with_left z j) e }
 
+  -- and one that traps traps padded
   pub stops_flat : (c : Code) → IsFlat c → (s : Scene C) (line : ℕ) → Stops q n c s line → Stops q n (padded extra c) s line
   stops_flat c f s line y =
       let r = flat_run extra q n c f s in

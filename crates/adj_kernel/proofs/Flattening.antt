@@ -29,6 +29,7 @@ abbrev mutual
   IsFlat stop = Unit {0}
   IsFlat (step line a rest) = IsFlatAct a × IsFlat rest
 
+-- flat lists one after another
 pub flat_append : (c d : Code) → IsFlat c → IsFlat d → IsFlat (c +++ d)
 flat_append stop d f g = g
 flat_append (step line a c) d f g = (f.0, flat_append c d f.1 g)
@@ -170,6 +171,7 @@ module _ {C : Type 0} (extra : Act → ℕ) (q : Calls C) (n : Setting C) where
   chosen line c s f f1 g g1 m m1 k le le1 a b (Err t) h =
       at_once (stopped t line (stand n s)) k _ _ (λ j. ap (λ z. with_value z line (stand n s) (λ p. if p then f j else f1 j)) h) (λ j. ap (λ z. with_value z line (stand n s) (λ p. if p then g j else g1 j)) h)
 
+  -- a statement costs no less with its bodies
   bodies_more : (a : Act) → extra a + 1 ≤ cost_with_bodies extra a
   bodies_more (assign x subs e) = omega arith
   bodies_more (choose c a b) = omega arith

@@ -55,6 +55,7 @@ module _ {A B O : Type 0} (R : A → B → Type 0) (Q : O → O → Type 0) (w :
     (follows : (k : ℕ) → Follows R w 0 (f k) (g (deep k)) k) (related : (a : A) (b : B) → R a b → Q (first a) (second b)) where
   -- ---- forth
 
+  -- the second is done where the first is
   done_at : (k : ℕ) (d : BothDone R w 0 (f k) (g (deep k)) k) → whole_run g second (d.cost + deep k) ≡ Done (second d.second) d.cost
   done_at k d =
       let s = spent (g (deep k)) (g (d.cost + deep k)) d.second (d.cost + 0) 0 (verdict (deep k) (d.cost + deep k) (omega arith) (d.cost + 0)) (d.by 0) in
@@ -62,6 +63,7 @@ module _ {A B O : Type 0} (R : A → B → Type 0) (Q : O → O → Type 0) (w :
       let left : d.cost + deep k - deep k ≡ d.cost = omega arith in
       ap (λ z. then_do z (λ b i. Done (second b) (d.cost + deep k - i))) (ap (g (d.cost + deep k)) e ∙ s.later (deep k)) ∙ ap (Done (second d.second)) left
 
+  -- and traps where the first does
   trap_at : (k : ℕ) (d : BothTrap (f k) (g (deep k)) k) → whole_run g second (d.cost + deep k) ≡ Trapped d.other d.line d.stands_there
   trap_at k d =
       ap (λ z. then_do z (λ b i. Done (second b) (d.cost + deep k - i)))
@@ -173,6 +175,7 @@ module _ {A B O : Type 0} (R : A → B → Type 0) (Q : O → O → Type 0) (w :
           let l2 : l ≡ line = cc in
           record { kind = d.kind; stands = d.stands; is = ap (λ o. then_do o (λ a left. Done (first a) (k - left))) d.done ∙ ap (λ z. Trapped d.kind z d.stands) (l1 ∙ l2) }
 
+  -- so the second means what the first means
   pub means_followed : MeansAlike Q (whole_run f first) (whole_run g second) w
   means_followed = record { done = done_forth; traps = traps_forth; done_back = done_back; traps_back = traps_back }
 

@@ -51,6 +51,7 @@ module _ (inside : Var → Bool) (local : ℕ → Var) (apart : AreLocals inside
   form_turned : (line i : ℕ) (a : Term) → IsReduced a → IsKernelCode (turned_up local line i a)
   form_turned line i a h = ((refl, h), ((((refl, tt), tt), tt), tt))
 
+  -- what is set before an expression is in kernel form
   form_before : (line j : ℕ) (e : Term) → IsKernelCode (before local line j e)
   form_before line j (lit z) = tt
   form_before line j (var y) = tt
@@ -72,11 +73,13 @@ module _ (inside : Var → Bool) (local : ℕ → Var) (apart : AreLocals inside
   form_before line j (power_of a b) = form_before line j a
   form_before line j (abs a) = form_append (before local line j a) _ (form_before line j a) (form_turned line (j + locals_in a) (reduced local j a) (reduces a j))
 
+  -- a local that is set
   form_set : (line j m : ℕ) (e : Term) → IsKernelCode (set_local local line j m e)
   form_set line j m e = form_append (before local line m e) _ (form_before line m e) ((refl, reduces e m), tt)
 
   -- ---- an assignment
 
+  -- what is set before a target
   form_target : (line : ℕ) (y : Var) (j m : ℕ) (es : Terms) → IsKernelCode (before_target local line y j m es)
   form_target line y j m none = tt
   form_target line y j m (more e es) = go (reads_term y e) (form_target line y (suc j) (m + locals_in e) es) (form_target line y j m es)
@@ -94,6 +97,7 @@ module _ (inside : Var → Bool) (local : ℕ → Var) (apart : AreLocals inside
       go true f ih ih1 = ap (λ z. z || reads_terms x (apart_from local x (suc j) es)) (not_local inside local apart x j h) ∙ ih
       go false f ih ih1 = ap (λ z. z || reads_terms x (apart_from local x j es)) f ∙ ih1
 
+  -- an assignment
   form_assign : (line : ℕ) (x : Var) (subs : Terms) (e : Term) → inside x ≡ true → IsKernelCode (lowered_assign local line x subs e)
   form_assign line x subs e h =
       let m = mentions x subs in let k = m + locals_in_target x subs in
@@ -101,10 +105,12 @@ module _ (inside : Var → Bool) (local : ℕ → Var) (apart : AreLocals inside
 
   -- ---- a call
 
+  -- what is set before actuals
   form_all : (line j : ℕ) (es : Terms) → IsKernelCode (before_all local line j es)
   form_all line j none = tt
   form_all line j (more e es) = form_append (before local line j e) _ (form_before line j e) (form_all line (j + locals_in e) es)
 
+  -- subscripts that are held
   form_held : (line j : ℕ) (es : Terms) → IsKernelCode (before_held local line j es)
   form_held line j none = tt
   form_held line j (more e es) = form_append (set_local local line j (suc j) e) _ (form_set line j (suc j) e) (form_held line (suc (j + locals_in e)) es)
@@ -134,6 +140,7 @@ module _ (inside : Var → Bool) (local : ℕ → Var) (apart : AreLocals inside
       go (chosen l l1 l2 f is) = subst (λ z. IsGood (passing w earlier z)) (sym f) (by_name (is_among (local l) earlier) (local l))
       go (other f is) = subst IsGood (sym (f w earlier)) (reduces e i)
 
+  -- what is set for one passing
   form_passing : (line j : ℕ) (p : Passing) → IsGood p → IsKernelCode (before_passing local line j p)
   form_passing line j (stays y) g = tt
   form_passing line j (put_back y subs) g = form_append (before_held local line j subs) _ (form_held line j subs) ((refl, tt), tt)
@@ -143,6 +150,7 @@ module _ (inside : Var → Bool) (local : ℕ → Var) (apart : AreLocals inside
   held_apart_from x h j none = refl
   held_apart_from x h j (more e es) = ap (λ z. z || reads_terms x (held local (suc (j + locals_in e)) es)) (not_local inside local apart x j h) ∙ held_apart_from x h (suc (j + locals_in e)) es
 
+  -- what puts it back
   form_after : (line j : ℕ) (p : Passing) → IsGood p → IsKernelCode (after_passing local line j p)
   form_after line j (stays y) g = tt
   form_after line j (put_back y subs) g = ((held_apart_from y g j subs, tt), tt)
@@ -194,6 +202,7 @@ module _ (inside : Var → Bool) (local : ℕ → Var) (apart : AreLocals inside
       let p = passing (first_flag ws) earlier e in
       ap (λ z. var_eq x (passed local j p) || z) (names_are x es (other_flags ws) (passed local j p ∷ earlier) (j + locals_passing p))
 
+  -- the names of a CALL are distinct
   distinct : (es : Terms) (ws : List Bool) (earlier : List Var) (i j : ℕ) → i + locals_in_all es ≤ j → TermsInside inside es → AreDistinctNames (all_passed local j ws earlier (reduced_all local i es))
   distinct none ws earlier i j le h = tt
   distinct (more e es) ws earlier i j le h =
@@ -204,6 +213,7 @@ module _ (inside : Var → Bool) (local : ℕ → Var) (apart : AreLocals inside
         distinct es (other_flags ws) (y ∷ earlier) (i + locals_in e) (j + locals_passing p) (omega (arith, le)) (rest_inside inside e es h),
       )
 
+  -- a CALL
   form_call : (line : ℕ) (ws : List Bool) (unit : List ℕ) (args : Terms) → TermsInside inside args → IsKernelCode (lowered_call local line ws unit args)
   form_call line ws unit args h =
       let j = locals_in_all args in let es = reduced_all local 0 args in
@@ -230,6 +240,7 @@ module _ (inside : Var → Bool) (local : ℕ → Var) (apart : AreLocals inside
       (all_passed local j ws earlier (reduced_all local i es) ≡ es)
       × ((before_passing_all local line j ws earlier (reduced_all local i es) ≡ stop) × (after_passing_all local line j ws earlier (reduced_all local i es) ≡ stop))
 
+  -- names that are distinct stay
   names_stay : (es : Terms) (ws : List Bool) (earlier : List Var) (i j line : ℕ) → AreDistinctNames es → ((x : Var) → stands_whole x es ≡ true → is_among x earlier ≡ false) → NamesStay es ws earlier i j line
   names_stay none ws earlier i j line h f = (refl, (refl, refl))
   names_stay (more (var x) es) ws earlier i j line h f = stays_by (is_among x earlier) (f x (or_first (var_eq x x) (stands_whole x es) (var_refl x))) (names_stay es (other_flags ws) (x ∷ earlier) (i + 0) (j + 0) line h.1 (λ y e. apart_of y e (var_eq y x) refl))
@@ -252,12 +263,14 @@ module _ (inside : Var → Bool) (local : ℕ → Var) (apart : AreLocals inside
   names_stay (more (power_of a b) es) ws earlier i j line h f = absurd h
   names_stay (more (abs a) es) ws earlier i j line h f = absurd h
 
+  -- a CALL of distinct names stays
   call_stays : (line : ℕ) (ws : List Bool) (unit : List ℕ) (args : Terms) → AreDistinctNames args → lowered_call local line ws unit args ≡ step line (call unit args) stop
   call_stays line ws unit args h =
       let k = names_stay args ws [] 0 (locals_in_all args) line h (λ x e. refl) in
       λ i. no_statements line 0 args h i +++ (k.1.0 i +++ step line (call unit (k.0 i)) (k.1.1 i))
 
   module _ (handed : Dummies) where
+    -- one CALL of distinct names stays one CALL
     one_call_stays : (c : Code) → IsOneCall c → IsKernelCode c → IsOneCall (lowered local handed c)
     one_call_stays stop h k = absurd h
     one_call_stays (step line (call unit args) stop) h k = subst (λ z. IsOneCall (z +++ stop)) (sym (call_stays line (handed unit) unit args k.0)) tt
@@ -268,6 +281,7 @@ module _ (inside : Var → Bool) (local : ℕ → Var) (apart : AreLocals inside
     one_call_stays (step line (during t body) c) h k = absurd h
     one_call_stays (step line (runtime r) c) h k = absurd h
 
+    -- so does the body of a marked loop
     where_marked : (m : Mark) (c : Code) → WhereMarked m (IsOneCall c × IsKernelCode c) → WhereMarked m (IsOneCall (lowered local handed c))
     where_marked unmarked c h = tt
     where_marked (with_count m) c h = one_call_stays c h.0 h.1

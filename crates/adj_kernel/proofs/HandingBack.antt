@@ -89,6 +89,7 @@ module _ {C : Type 0} where
     name_apart x y (cell z i) d h s e = apart_by x y h s.0
     name_apart x y nowhere d h s e = apart_by x y h s
 
+    -- other variables stay
     set_all_other : (s : Store C) (x y : Var) (cs : ℕ → C) (i : ℕ) → var_eq x y ≡ false → set_all s y cs x i ≡ s x i
     set_all_other s x y cs i e = ap (λ b. if b then cs i else s x i) e
 
@@ -119,6 +120,7 @@ module _ {C : Type 0} where
     put_cell_other x y (cell z j) g i e = ap (λ b. if b && (i == j) then g y 0 else g x i) e
     put_cell_other x y nowhere g i e = refl
 
+    -- other cells stay
     put_cells_other : (x : Var) (ws : List Bool) (got : List (Actual C)) (ys : List Var) (g : Store C) (i : ℕ) → goes_into x ws got ≡ false → put_cells ws got ys g x i ≡ g x i
     put_cells_other x [] got ys g i e = refl
     put_cells_other x (w ∷ ws) [] ys g i e = refl

@@ -1,3 +1,4 @@
+pub mod Together
 pub mod Changing
 pub mod Reducing
 pub mod Targeting
@@ -36,3 +37,6 @@ pub mod WholeKernels
 pub mod Towers
 pub mod Unmarked
 pub mod Capped
+pub mod FreshWritten
+pub mod WrittenKernels
+pub mod StepsWritten

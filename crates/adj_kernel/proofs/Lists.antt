@@ -1,17 +1,16 @@
 -- Lists of statements, and what they become, each statement at its price.
-use Rattle.std.proofs.Common.{◌≡◌, ℕ, zero, suc, ◌+◌, ◌*◌, ◌≤◌, Bool, true, List, ◌∷◌, refl, sym, ap, ◌∙◌, arith, subst}
-use Rattle.std.specs.Prelude.{ℤ, Option, Some, None, Result, Ok, Err, if◌then◌else◌}
+use Rattle.std.proofs.Common.{◌≡◌, ℕ, suc, ◌+◌, ◌*◌, ◌≤◌, Bool, true, List, ◌∷◌, refl, sym, ap, ◌∙◌, arith, subst}
+use Rattle.std.specs.Prelude.{ℤ, Option, Some, None, if◌then◌else◌}
 use Rattle.adj_tree.specs.Code.{Var, Term, Terms, Mark, unmarked, with_count, count_from, Act, assign, choose, loop, during, call, runtime, Code, stop, step}
 use Rattle.adj_word.specs.Word.{wrap, add}
 use Rattle.adj_meaning.specs.Append.{◌+++◌, one}
-use Rattle.adj_meaning.specs.Trap.{Trap, step_trap}
 use Rattle.adj_meaning.specs.Value.{Setting, value, target, holds}
 use Rattle.adj_meaning.specs.Event.{Marked}
-use Rattle.adj_meaning.specs.Scene.{Scene, Stand, stand, Go, Outcome, Done, Trapped, More, Full, then_do, with_value, counted}
-use Rattle.adj_meaning.specs.Run.{Calls, act, run, most_tests, trips, turns, tests, stepped, with_turn, from_1_to_64, in_force, after_loop}
+use Rattle.adj_meaning.specs.Scene.{Scene, stand, Outcome, Done, then_do, counted}
+use Rattle.adj_meaning.specs.Run.{Calls, act, run, most_tests, trips, turns, stepped, with_turn, from_1_to_64, in_force, after_loop}
 use Rattle.adj_meaning.specs.LeastSet.{Dummies}
 use Rattle.adj_meaning.specs.Agree.{AgreeOn}
-use Rattle.adj_meaning.specs.Follows.{Runs, Follows}
+use Rattle.adj_meaning.specs.Follows.{Follows}
 use Rattle.adj_meaning.specs.Padded.{own_nodes, padded_act, padded}
 use Rattle.adj_meaning.proofs.Appends.{run_append, counted_then}
 use Rattle.adj_meaning.proofs.Longer.{CallsAlike}
@@ -19,56 +18,20 @@ use Rattle.adj_meaning.proofs.Cells.{size_positive}
 use Rattle.adj_meaning.proofs.Variables.{var_refl}
 use Rattle.adj_meaning.proofs.Agreements.{set_alike, value_alike, holds_alike}
 use Rattle.adj_meaning.proofs.Inversions.{count_done, value_done}
-use Rattle.adj_meaning.proofs.Following.{follows_done, follows_trap, follows_counted, follows_if, follows_then, follows_statement}
+use Rattle.adj_meaning.proofs.Following.{follows_done, follows_if, follows_then, follows_statement}
 use Rattle.adj_meaning.proofs.Padding.{waiting_more, waiting_past}
 use Rattle.adj_meaning.proofs.PaddedPrograms.{padded_append}
 use Rattle.adj_kernel.specs.Lowered.{locals_in, mentions, locals_in_target, lowered_assign, lowered_call, lowered_act, lowered}
 use Rattle.adj_kernel.specs.Weights.{weight, total_cost, ActWeighsAtMost, WeighsAtMost}
 use Rattle.adj_kernel.specs.Apart.{ShowWords, AreLocals, CellsOf, TermInside, TermsInside, MarkInside, ActInside, CodeInside, EachCall', EachCall}
 use Rattle.adj_kernel.proofs.Assigning.{assign_follows}
-use Rattle.adj_kernel.proofs.Calling.{follows_same}
+use Rattle.adj_kernel.proofs.Together.{then_nothing, follows_same, follows_value, turns_follow, tests_follow}
 use Rattle.adj_kernel.proofs.Weighing.{list_cheap, assign_light, call_light}
 use Rattle.adj_kernel.proofs.FlatLists.{flat_assign, follows_flat}
-
--- nothing comes after
-then_nothing : {A : Type 0} (o : Outcome A) → then_do o (λ a k. Done a k) ≡ o
-then_nothing (Done a k) = refl
-then_nothing (Trapped t line w) = refl
-then_nothing (More w) = refl
-then_nothing (Full w) = refl
-
--- what follows a value that is the same
-pub follows_value : {A B D : Type 0} (R : A → B → Type 0) (w : ℕ) (v v1 : Result D Trap) (line : ℕ) (x y : Stand) (f : D → Runs A) (g : D → Runs B) (k : ℕ) → v ≡ v1 → ((d : D) → Follows R w 0 (f d) (g d) k) →
-    Follows R w 0 (λ j. with_value v line x (λ d. f d j)) (λ j. with_value v1 line y (λ d. g d j)) k
-follows_value R w (Ok d) v1 line x y f g k e h = subst (λ z. Follows R w 0 (f d) (λ j. with_value z line y (λ d. g d j)) k) e (h d)
-follows_value R w (Err t) v1 line x y f g k e h = subst (λ z. Follows R w 0 (λ j. Trapped t line x) (λ j. with_value z line y (λ d. g d j)) k) e (follows_trap w 0 R t t line x y k)
 
 module _ {C : Type 0} (n : Setting C) (inside : Var → Bool) (w : ℕ) (few : 1 ≤ w) where
   abbrev Related : Scene C → Scene C → Type 0
   Related = AgreeOn (CellsOf n inside)
-
-  -- the turns of a loop
-  turns_follow : (most m : ℕ) (f g : Go C) (after : Scene C → Scene C) → ((s t : Scene C) → Related s t → (k : ℕ) → k ≤ most → Follows Related w 0 (f s) (g t) k) → ((s t : Scene C) → Related s t → Related (after s) (after t)) → (s t : Scene C) → Related s t → (k : ℕ) → k ≤ most →
-      Follows Related w 0 (turns n m f after s) (turns n m g after t) k
-  turns_follow most zero f g after h d s t a k le = follows_done w 0 Related s t k a
-  turns_follow most (suc m) f g after h d s t a k le =
-      follows_counted w 0 Related (stand n s) (stand n t) (λ j. then_do (f s j) (λ s1 i. turns n m f after (after s1) i)) (λ j. then_do (g t j) (λ t1 i. turns n m g after (after t1) i)) k few
-      (λ j e. follows_then w 0 0 Related Related (f s) (g t) (λ s1 i. turns n m f after (after s1) i) (λ t1 i. turns n m g after (after t1) i) j (h s t a j (omega (arith, e, le)))
-      (λ s1 t1 i l r. turns_follow most m f g after h d (after s1) (after t1) (d s1 t1 r) i (omega (arith, e, le, l))))
-
-  -- the tests and turns of a DO WHILE
-  tests_follow : (most m : ℕ) (test : Scene C → Result Bool Trap) (line : ℕ) (f g : Go C) → ((s t : Scene C) → Related s t → test s ≡ test t) → ((s t : Scene C) → Related s t → (k : ℕ) → k ≤ most → Follows Related w 0 (f s) (g t) k) → (s t : Scene C) → Related s t → (k : ℕ) → k ≤ most →
-      Follows Related w 0 (tests n m test line f s) (tests n m test line g t) k
-  tests_follow most zero test line f g e h s t a k le =
-      follows_value Related w (test s) (test t) line (stand n s) (stand n t) (λ p j. if p then Trapped step_trap line (stand n s) else Done s j) (λ p j. if p then Trapped step_trap line (stand n t) else Done t j) k (e s t a)
-      (λ p. follows_if w 0 Related p (λ j. Trapped step_trap line (stand n s)) (λ j. Done s j) (λ j. Trapped step_trap line (stand n t)) (λ j. Done t j) k (follows_trap w 0 Related step_trap step_trap line (stand n s) (stand n t) k) (follows_done w 0 Related s t k a))
-  tests_follow most (suc m) test line f g e h s t a k le =
-      let again : Go C → Go C = λ b s1 j. counted (stand n s1) j (λ i. tests n m test line b s1 i) in
-      follows_value Related w (test s) (test t) line (stand n s) (stand n t) (λ p j. if p then then_do (f s j) (again f) else Done s j) (λ p j. if p then then_do (g t j) (again g) else Done t j) k (e s t a)
-      (λ p. follows_if w 0 Related p (λ j. then_do (f s j) (again f)) (λ j. Done s j) (λ j. then_do (g t j) (again g)) (λ j. Done t j) k
-      (follows_then w 0 0 Related Related (f s) (g t) (again f) (again g) k (h s t a k le)
-      (λ s1 t1 i l r. follows_counted w 0 Related (stand n s1) (stand n t1) (tests n m test line f s1) (tests n m test line g t1) i few (λ j d. tests_follow most m test line f g e h s1 t1 r j (omega (arith, d, le, l)))))
-      (follows_done w 0 Related s t k a))
 
   -- a loop's variable is set
   with_turn_related : (x : Var) (z : ℤ) (s t : Scene C) → Related s t → Related (with_turn n x z s) (with_turn n x z t)
@@ -121,6 +84,7 @@ module _ {C : Type 0} (extra : Act → ℕ) (cheap : (a : Act) → extra a ≤ o
       omega (arith, c.is, z)
 
   mutual
+    -- the statements that a statement becomes follow it
     acts_follow : (line : ℕ) (a : Act) → ActInside inside a → EachCall' P a → ActWeighsAtMost m a → (s t : Scene C) → Alike s t → (k : ℕ) → k ≤ most → Follows Alike w 0 (λ i. counted (stand n s) i (act q n a line s)) (run q' n (padded extra (lowered_act local handed line a)) t) k
     acts_follow line (assign x subs e) h p f s t a k le =
         let few1 : ℕ = 3 * (mentions x subs + locals_in_target x subs + locals_in e) + 1 in
@@ -129,23 +93,23 @@ module _ {C : Type 0} (extra : Act → ℕ) (cheap : (a : Act) → extra a ≤ o
         (assign_follows q q' n alike inside local apart shows few1 line x subs e (omega arith) h.0 h.1.0 h.1.1 s t a k)
     acts_follow line (choose c b d) h p f s t a k le =
         alone line (choose c b d) (choose c (lowered local handed b) (lowered local handed d)) s t k (omega (arith, f.0))
-        (λ j e. follows_value Alike w (holds n c s.store) (holds n c t.store) line (stand n s) (stand n t) (λ o i. if o then run q n b s i else run q n d s i) (λ o i. if o then run q' n (padded extra (lowered local handed b)) t i else run q' n (padded extra (lowered local handed d)) t i) j
+        (λ j e. follows_value Alike w 0 (holds n c s.store) (holds n c t.store) line (stand n s) (stand n t) (λ o i. if o then run q n b s i else run q n d s i) (λ o i. if o then run q' n (padded extra (lowered local handed b)) t i else run q' n (padded extra (lowered local handed d)) t i) j
         (holds_alike n (CellsOf n inside) s.store t.store a.store c (λ x r i l. (h.0 x r, l)))
         (λ o. follows_if w 0 Alike o (run q n b s) (run q n d s) (run q' n (padded extra (lowered local handed b)) t) (run q' n (padded extra (lowered local handed d)) t) j
         (lists_follow b h.1.0 p.0 f.1.0 s t a j (omega (arith, e, le)))
         (lists_follow d h.1.1 p.1 f.1.1 s t a j (omega (arith, e, le)))))
     acts_follow line (loop x first last by body mark) h p f s t a k le =
         alone line (loop x first last by body mark) (loop x first last by (lowered local handed body) mark) s t k (omega (arith, f.0))
-        (λ j e. follows_value Alike w _ _ line (stand n s) (stand n t) _ _ j (same_value first s t h.1.0.1.0 a)
-        (λ u. follows_value Alike w _ _ line (stand n s) (stand n t) _ _ j (same_value last s t h.1.0.1.1.0 a)
-        (λ v. follows_value Alike w _ _ line (stand n s) (stand n t) _ _ j (same_value by s t h.1.0.1.1.1 a)
-        (λ c. follows_value Alike w _ _ line (stand n s) (stand n t) _ _ j (refl {a = trips mark (n.numbers.shown u) (n.numbers.shown v) (n.numbers.shown c)})
+        (λ j e. follows_value Alike w 0 _ _ line (stand n s) (stand n t) _ _ j (same_value first s t h.1.0.1.0 a)
+        (λ u. follows_value Alike w 0 _ _ line (stand n s) (stand n t) _ _ j (same_value last s t h.1.0.1.1.0 a)
+        (λ v. follows_value Alike w 0 _ _ line (stand n s) (stand n t) _ _ j (same_value by s t h.1.0.1.1.1 a)
+        (λ c. follows_value Alike w 0 _ _ line (stand n s) (stand n t) _ _ j (refl {a = trips mark (n.numbers.shown u) (n.numbers.shown v) (n.numbers.shown c)})
         (λ m.
         let after = stepped n x (n.numbers.shown c) in
         let start = with_turn n x (wrap (n.numbers.shown u)) s in
         let start' = with_turn n x (wrap (n.numbers.shown u)) t in
         follows_then w 0 0 Alike Alike (turns n m (run q n body) after start) (turns n m (run q' n (padded extra (lowered local handed body))) after start') (λ s1 i. Done (after_loop line m (in_force n mark s.store) s1) i) (λ s1 i. Done (after_loop line m (in_force n mark t.store) s1) i) j
-        (turns_follow n inside w (omega (arith, f.0, few)) most m (run q n body) (run q' n (padded extra (lowered local handed body))) after (λ s1 t1 a1 i l. lists_follow body h.1.1 p f.1 s1 t1 a1 i l) (stepped_related n inside w (omega (arith, f.0, few)) x (n.numbers.shown c) h.0)
+        (turns_follow n n Alike w 0 (omega (arith, f.0, few)) most m (run q n body) (run q' n (padded extra (lowered local handed body))) after after (λ s1 t1 a1 i l. lists_follow body h.1.1 p f.1 s1 t1 a1 i l) (stepped_related n inside w (omega (arith, f.0, few)) x (n.numbers.shown c) h.0)
         start start' (with_turn_related n inside w (omega (arith, f.0, few)) x (wrap (n.numbers.shown u)) s t a) j (omega (arith, e, le)))
         (λ s1 t1 i l r.
         follows_done w 0 Alike (after_loop line m (in_force n mark s.store) s1) (after_loop line m (in_force n mark t.store) t1) i
@@ -153,12 +117,13 @@ module _ {C : Type 0} (extra : Act → ℕ) (cheap : (a : Act) → extra a ≤ o
         (told_related n inside w (omega (arith, f.0, few)) line m (in_force n mark s.store) s1 t1 r))))))))
     acts_follow line (during c body) h p f s t a k le =
         alone line (during c body) (during c (lowered local handed body)) s t k (omega (arith, f.0))
-        (λ j e. tests_follow n inside w (omega (arith, f.0, few)) most most_tests (λ s1. holds n c s1.store) line (run q n body) (run q' n (padded extra (lowered local handed body)))
+        (λ j e. tests_follow n n Alike w (omega (arith, f.0, few)) most most_tests (λ s1. holds n c s1.store) (λ t1. holds n c t1.store) line (run q n body) (run q' n (padded extra (lowered local handed body)))
         (λ s1 t1 r. holds_alike n (CellsOf n inside) s1.store t1.store r.store c (λ x z i l. (h.0 x z, l)))
         (λ s1 t1 a1 i l. lists_follow body h.1 p f.1 s1 t1 a1 i l) s t a j (omega (arith, e, le)))
     acts_follow line (call name args) h p f s t a k le = calls name args line p h (omega (arith, f, few, call_light local line (handed name) name args, list_cheap extra cheap (lowered_call local line (handed name) name args))) s t a k le
     acts_follow line (runtime r) h p f s t a k le = absurd p
 
+    -- the list that a list becomes follows it
     pub lists_follow : (c : Code) → CodeInside inside c → EachCall P c → WeighsAtMost m c → (s t : Scene C) → Alike s t → (k : ℕ) → k ≤ most → Follows Alike w 0 (run q n c s) (run q' n (padded extra (lowered local handed c)) t) k
     lists_follow stop h p f s t a k le = follows_done w 0 Alike s t k a
     lists_follow (step line b rest) h p f s t a k le =

@@ -108,13 +108,16 @@ scalars_behind (d ∷ ds) line xs x = ap (λ z. if var_eq x (plain d.name) then 
 abbrev pub Within : List (List ℕ) → List (List ℕ) → Type 0
 Within xs all = (x : List ℕ) → has_name x xs ≡ true → has_name x all ≡ true
 
+-- names within some are within more
 within_first : (xs ys all : List (List ℕ)) → Within (xs ++ ys) all → Within xs all
 within_first xs ys all h x e = h x (has_first x xs ys e)
 
+-- behind others, too
 within_second : (xs ys all : List (List ℕ)) → Within (xs ++ ys) all → Within ys all
 within_second xs ys all h x e = h x (has_second x xs ys e)
 
 module _ (all : List (List ℕ)) where
+  -- a variable of the text is among its names
   own_var : (y : Var) → PlainVar y → Within (named y) all → is_named all y ≡ true
   own_var (plain y) p h = h y (or_first (name_eq y y) false (name_refl y))
   own_var (shadow y) p h = absurd p
@@ -136,6 +139,7 @@ module _ (all : List (List ℕ)) where
   own_more e es f g x (inr r) = g x r
 
   mutual
+    -- the variables of an expression are among the names in it
     pub own_term : (e : Term) → PlainTerm e → Within (names_in e) all → TermInside (is_named all) e
     own_term (lit z) p h x r = absurd cc
     own_term (var y) p h x r = same_own x y r (own_var y p h)
@@ -150,6 +154,7 @@ module _ (all : List (List ℕ)) where
     own_terms none p h x r = absurd cc
     own_terms (more e es) p h x r = own_more e es (own_term e p.0 (within_first (names_in e) (names_in_all es) all h)) (own_terms es p.1 (within_second (names_in e) (names_in_all es) all h)) x (or_cases (reads_term x e) (reads_terms x es) r)
 
+  -- of a condition
   pub own_test : (c : Test) → PlainTest c → Within (names_in_test c) all → TestInside (is_named all) c
   own_test (compare r a b) p h x e = own_either a b (own_term a p.0 (within_first (names_in a) (names_in b) all h)) (own_term b p.1 (within_second (names_in a) (names_in b) all h)) x (or_cases (reads_term x a) (reads_term x b) e)
   own_test (negation c) p h x e = own_test c p h x e
@@ -164,12 +169,14 @@ module _ (all : List (List ℕ)) where
       go f g (inl r) = f x r
       go f g (inr r) = g x r
 
+  -- of a mark
   own_mark : (m : Mark) → PlainMark m → Within (names_in_mark m) all → MarkInside (is_named all) m
   own_mark unmarked p h x r = absurd cc
   own_mark (with_count k) p h x r = absurd cc
   own_mark (count_from y) p h x r = same_own x y r (own_var y p h)
 
   mutual
+    -- of a statement
     pub own_act : (a : Act) → PlainAct a → Within (names_in_act a) all → ActInside (is_named all) a
     own_act (assign y subs e) p h =
         let g = within_second (named y) (names_in_all subs ++ names_in e) all h in
@@ -192,6 +199,7 @@ module _ (all : List (List ℕ)) where
     own_act (call name args) p h = own_terms args p h
     own_act (runtime r) p h = tt
 
+    -- of a list
     pub own_code : (c : Code) → PlainCode c → Within (names_in_code c) all → CodeInside (is_named all) c
     own_code stop p h = tt
     own_code (step line a rest) p h = (own_act a p.0 (within_first (names_in_act a) (names_in_code rest) all h), own_code rest p.1 (within_second (names_in_act a) (names_in_code rest) all h))

@@ -23,11 +23,13 @@ use Rattle.adj_kernel.proofs.Followed.{stays_ended, means_followed}
 
 -- ---- outputs
 
+-- cells that agree are equal
 cells_same : {C : Type 0} (f g : ℕ → C) (i m : ℕ) → ((j : ℕ) → j < i + m → f j ≡ g j) → cells_from f i m ≡ cells_from g i m
 cells_same f g i zero h = refl
 cells_same f g i (suc m) h = λ k. h i (omega arith) k ∷ cells_same f g (suc i) m (λ j l. h j (omega arith)) k
 
-slots_same : {C : Type 0} (n : Setting C) (u : Procedure) (f g : Store C) (ds : List (List ℕ)) → AreDummies (λ d. is_of u (plain d)) ds → ((d : List ℕ) → is_of u (plain d) ≡ true → (i : ℕ) → i < size_of (n.shape (plain d)) → f (plain d) i ≡ g (plain d) i) → map (λ d. slot_of (n.shape (plain d)) (f (plain d))) ds ≡ map (λ d. slot_of (n.shape (plain d)) (g (plain d))) ds
+-- so are slots
+pub slots_same : {C : Type 0} (n : Setting C) (u : Procedure) (f g : Store C) (ds : List (List ℕ)) → AreDummies (λ d. is_of u (plain d)) ds → ((d : List ℕ) → is_of u (plain d) ≡ true → (i : ℕ) → i < size_of (n.shape (plain d)) → f (plain d) i ≡ g (plain d) i) → map (λ d. slot_of (n.shape (plain d)) (f (plain d))) ds ≡ map (λ d. slot_of (n.shape (plain d)) (g (plain d))) ds
 slots_same n u f g [] a h = refl
 slots_same n u f g (d ∷ ds) a h =
     λ k. record { shape = n.shape (plain d); cells = cells_same (f (plain d)) (g (plain d)) 0 (size_of (n.shape (plain d))) (λ j l. h d a.0 j (omega (arith, l))) k } ∷ slots_same n u f g ds a.1 h k
@@ -68,6 +70,7 @@ module _ {C : Type 0} (n : Numbers C) (shows : ShowWords n) (extra : Act → ℕ
   kernel_verdict : (d d' : ℕ) → d ≤ d' → (k : ℕ) → Verdict (of_kernel d) (of_kernel d') k
   kernel_verdict d d' le k = unit_verdict (calls_of units' d) (calls_of units' d') (calls_alike units' d d' le) around u' u.line start k
 
+  -- the kernel follows the unit
   follows : (k : ℕ) → Follows Alike w 0 (of_source k) (of_kernel k) k
   follows k = units_follow C extra cheap units fit m w (omega arith) weighs same_written k name u found around shows u.line start start k (omega arith) setting_is (record { store = λ x i h. refl; tape = refl; opened = refl; events = refl })
 
@@ -78,11 +81,13 @@ module _ {C : Type 0} (n : Numbers C) (shows : ShowWords n) (extra : Act → ℕ
   abbrev kernel_output : Scene C → Output C
   kernel_output s = record { slots = dummy_slots (setting_in around u' start.store) u' s.store; tape = s.tape; events = reverse s.events }
 
+  -- and gives the same
   same_output : (s t : Scene C) → Alike s t → source_output s ≡ kernel_output t
   same_output s t a =
       (λ i. record { slots = slots_same here u s.store t.store u.dummies (are_own u u.dummies (λ x h. h)) (λ d h j l. a.store (plain d) j (h, l)) i; tape = a.tape i; events = reverse (a.events i) })
       ∙ (λ i. record { slots = dummy_slots (setting_is i) u t.store; tape = t.tape; events = reverse t.events })
 
+  -- so it means the same
   pub means_the_same : MeansTheSame (run_unit n units u input tape room) (run_unit n units' u' input tape room) w
   means_the_same =
       means_followed Alike (λ a b. a ≡ b) w of_source of_kernel source_output kernel_output (λ k. k) (λ k. omega arith) kernel_verdict

@@ -75,9 +75,11 @@ module _ (C : Type 0) (extra : Act → ℕ) (cheap : (a : Act) → extra a ≤ o
   abbrev padded_unit : Procedure → Procedure
   padded_unit u = padded_procedure extra (lowered_unit units u)
 
+  -- the kernel hands back what the source does
   written_there : (name : List ℕ) → handed_back (padded_program extra (lowered_program units)) name ≡ handed_back units name
   written_there name = handed_padded extra (lowered_program units) name ∙ same_written name
 
+  -- each unit is found there
   found_there : (name : List ℕ) (u : Procedure) → find_unit units name ≡ Some u → find_unit (padded_program extra (lowered_program units)) name ≡ Some (padded_unit u)
   found_there name u found = find_padded extra (lowered_program units) name ∙ ap (padded_found extra) (found_lowered units units name u found)
 
@@ -93,6 +95,7 @@ module _ (C : Type 0) (extra : Act → ℕ) (cheap : (a : Act) → extra a ≤ o
 
   -- calls within a unit, where called units follow
   module _ (depth : ℕ) (ih : (name : List ℕ) (u : Procedure) → find_unit units name ≡ Some u → UnitFollows (source depth) (kernel depth) w (is_of u) depth u (padded_unit u)) where
+    -- a call of a unit follows where its unit does
     call_deeper : (caller : Procedure) (n : Setting C) (shows : ShowWords n.numbers) (store : Store C) (name : List ℕ) (args : Terms) (line : ℕ) → IsFitCall units caller name args → TermsInside (is_of caller) args → total_cost extra (lowered_call (local_in units caller) line (handed_back units name) name args) ≤ w →
         (s t : Scene C) → AgreeOn (CellsOf (setting_in n caller store) (is_of caller)) s t → (k : ℕ) → k ≤ suc depth →
         Follows (AgreeOn (CellsOf (setting_in n caller store) (is_of caller))) w 0 (λ i. counted (stand (setting_in n caller store) s) i (λ j. source (suc depth) (setting_in n caller store) name args line s j)) (run (kernel (suc depth)) (setting_in n caller store) (padded extra (lowered_call (local_in units caller) line (handed_back units name) name args)) t) k
@@ -150,6 +153,7 @@ module _ (C : Type 0) (extra : Act → ℕ) (cheap : (a : Act) → extra a ≤ o
       Follows (AgreeOn (CellsOf (setting_in n caller store) (is_of caller))) w 0 (λ i. counted (stand (setting_in n caller store) s) i (λ j. source depth (setting_in n caller store) name args line s j)) (run (kernel depth) (setting_in n caller store) (padded extra (lowered_call (local_in units caller) line (handed_back units name) name args)) t) k
 
   module _ (depth : ℕ) (calls : CallsFollow depth) (name : List ℕ) (u : Procedure) (found : find_unit units name ≡ Some u) where
+    -- a unit follows where the calls in it do
     unit_by : UnitFollows (source depth) (kernel depth) w (is_of u) depth u (padded_unit u)
     unit_by n shows line s t k le same a =
         subst (λ z. Follows Alike w 0 (unit_run (source depth) n u line s) (λ i. then_do (run (kernel depth) z (padded_unit u).body (entered n (padded_unit u) t) i) (closed line)) k) same

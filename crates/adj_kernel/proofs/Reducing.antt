@@ -24,12 +24,15 @@ use Rattle.adj_kernel.proofs.Changing.{SameOrNone, same_or_none, same_then, same
 pub inside_first : (inside : Var → Bool) (op : Op) (a b : Term) → TermInside inside (bin op a b) → TermInside inside a
 inside_first inside op a b h x e = h x (or_first (reads_term x a) (reads_term x b) e)
 
+-- and so is the second
 pub inside_second : (inside : Var → Bool) (op : Op) (a b : Term) → TermInside inside (bin op a b) → TermInside inside b
 inside_second inside op a b h x e = h x (or_second (reads_term x a) (reads_term x b) e)
 
+-- the base of a power is inside
 pub power_first : (inside : Var → Bool) (a b : Term) → TermInside inside (power_of a b) → TermInside inside a
 power_first inside a b h x e = h x (or_first (reads_term x a) (reads_term x b) e)
 
+-- and its exponent
 pub power_second : (inside : Var → Bool) (a b : Term) → TermInside inside (power_of a b) → TermInside inside b
 power_second inside a b h x e = h x (or_second (reads_term x a) (reads_term x b) e)
 
@@ -72,9 +75,11 @@ module _ {C : Type 0} (q : Calls C) (n : Setting C) (inside : Var → Bool) (loc
   abbrev Agree : Store C → Store C → Type 0
   Agree s t = StoresAgree (CellsOf n inside) s t
 
+  -- agreement is kept where locals change
   agree_changed : (may : ℕ → Type 0) (s t t1 : Store C) → Agree s t → Changes inside local may t t1 → Agree s t1
   agree_changed may s t t1 a c x i h = a x i h ∙ sym (c.within x i h.0)
 
+  -- what is inside has the same value in both stores
   same_inside : (e : Term) (s t : Store C) → TermInside inside e → Agree s t → SameOrNone (value n e s) (value n e t)
   same_inside e s t h a = same_or_none (value n e s) (value n e t) (value_alike n (CellsOf n inside) s t a e (λ x r i l. (h x r, l)))
 
@@ -89,6 +94,7 @@ module _ {C : Type 0} (q : Calls C) (n : Setting C) (inside : Var → Bool) (loc
     stop_first : (k : Trap) → value n a s ≡ Err k → Stops q n (before local line j a +++ before local line (j + locals_in a) b) (at t) line → Both a b j s t
     stop_second : (k : Trap) → value n b s ≡ Err k → Stops q n (before local line j a +++ before local line (j + locals_in a) b) (at t) line → Both a b j s t
 
+  -- one expression, and then the other
   both : (a b : Term) (j : ℕ) (s t : Store C) → TermInside inside a → Agree s t → Prefixed a j s t → ((t1 : Store C) → Agree s t1 → Prefixed b (j + locals_in a) s t1) → Both a b j s t
   both a b j s t h g (stops k e x) next = stop_first k e (stops_first q n (before local line j a) (before local line (j + locals_in a) b) (at t) line x)
   both a b j s t h g (comes t1 l c v) next = go (next t1 (agree_changed (Range j (locals_in a)) s t t1 g c))

@@ -141,6 +141,7 @@ module _ {C : Type 0} (q : Calls C) (n : Setting C) (inside : Var → Bool) (loc
   put_keeps true (cell x c) j (by_value e) t k b i = absurd (b refl)
   put_keeps true nowhere j p t k b i = refl
 
+  -- the statements after a CALL put elements back
   pub puts_back : (ws : List Bool) (j : ℕ) (earlier : List Var) (es : Terms) (got : List (Actual C)) (t k : Store C) → Matching ws j earlier es got t → ((i : ℕ) → HeldIn i j ws earlier es → k (local i) 0 ≡ t (local i) 0) →
       Goes q n (after_passing_all local line j ws earlier es) (at k) (at (put_cells ws got (names_passed local j ws earlier es) k)) (locals_passing_all local j ws earlier es)
   puts_back [] j earlier none [] t k m h = goes_stop q n (at k)
@@ -197,6 +198,7 @@ module _ {C : Type 0} (q : Calls C) (n : Setting C) (inside : Var → Bool) (loc
     stands d hd nowhere sh j (put_back y subs) b e f g = absurd b
     stands d hd nowhere sh j (by_value z) b e f g = apart.outside j
 
+    -- what is known of all dummies at the return
     pub all_stand : (ds : List (List ℕ)) (ws : List Bool) (i j : ℕ) (earlier : List Var) (es : Terms) (got : List (Actual C)) → AreDummies dummy ds → OneEach ds ws → TermsInside inside es → actuals n es s ≡ Ok got → Matching ws j earlier (reduced_all local i es) got t → AreHandedApart ws es → ScalarsToScalars u.declarations calling ds ws es → dummies_fit n.numbers u here ds got ≡ true →
         AllStand n inside t u1 v1 ds ws got (names_passed local j ws earlier (reduced_all local i es))
     all_stand [] [] i j earlier es got hd o h a m z c f = tt

@@ -32,6 +32,7 @@ module _ (inside : Var → Bool) (local : ℕ → Var) (apart : AreLocals inside
     act_back line (call name args) h = call_back inside local apart handed x hx line name args h
     act_back line (runtime r) h = or_nothing (act_writes handed x (runtime r)) h
 
+    -- and of a list
     code_back : (c : Code) → writes handed x (lowered local handed c) ≡ true → writes handed x c ≡ true
     code_back stop h = h
     code_back (step line a rest) h =
@@ -40,6 +41,7 @@ module _ (inside : Var → Bool) (local : ℕ → Var) (apart : AreLocals inside
 
   -- and what the source's write the kernel's do, where fewer dummies are known to be written
   module _ (fewer : Dummies) (within : (name : List ℕ) → IsWithin (fewer name) (handed name)) where
+    -- a CALL that hands back a variable becomes statements that write it
     call_forth : (line : ℕ) (name : List ℕ) (args : Terms) → TermsInside inside args → P name args → is_handed_back x (fewer name) args ≡ true → writes fewer x (lowered_call local line (handed name) name args) ≡ true
     call_forth line name args h p e =
         e1 ∙ go (args_written inside local apart fewer x hx line args (fewer name) (handed name) [] 0 j (within name) h (λ y hy g. absurd cc) (fit name args p) e)
@@ -177,6 +179,7 @@ module _ (units : List Procedure) (given : IsFit units) where
   source_within : AreWithin rows rows'
   source_within = least.least rows' (subst (λ z. AreWithin (by_rule write_rule units rows') z) least'.closed (no_fewer units fit))
 
+  -- so the lowered program writes what the program writes
   pub same_written : (name : List ℕ) → handed_back (lowered_program units) name ≡ handed_back units name
   same_written name = ap (λ z. row_of (lowered_program units) z name) (same_rows rows' rows kernel_within source_within) ∙ row_lowered units units rows name
 

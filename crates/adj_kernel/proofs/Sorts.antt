@@ -31,6 +31,7 @@ module _ (C : Type 0) (local : ℕ → Var) (j : ℕ) where
     chosen : (i : ℕ) → j ≤ i → i < j + locals_in e → reduced local j e ≡ var (local i) → IsValue C e → Sort e
     other : ((w : Bool) (earlier : List Var) → passing w earlier (reduced local j e) ≡ by_value (reduced local j e)) → IsValue C e → Sort e
 
+  -- each actual is of one of these sorts
   pub sort : (e : Term) → Sort e
   sort (lit z) = other (λ w l. refl) (λ n s. refl)
   sort (var x) = name x refl
@@ -96,6 +97,7 @@ module _ {C : Type 0} (q : Calls C) (n : Setting C) (inside : Var → Bool) (loc
             first_of k (inl r) = (omega (arith, r), omega (arith, r))
             first_of k (inr r) = (omega (arith, r.0), omega (arith, r.1))
 
+  -- subscripts are evaluated into locals, or one has no value
   pub holds_subscripts : (es : Terms) (j : ℕ) (s t : Store C) → TermsInside inside es → Agree s t → Held j es s t
   holds_subscripts none j s t h g = are_held t (goes_stop q n (at t)) (changes_none inside local (Range j 0) t) refl
   holds_subscripts (more e es) j s t h g =

@@ -67,6 +67,7 @@ used_distinct ds names (v ∷ vs) h = go (is_used ds names v) (used_distinct ds 
     go true ih = (used_new ds names vs v h.0, ih)
     go false ih = ih
 
+-- the dummies of a step unit are distinct
 dummies_distinct : (u : Procedure) (x : Var) (body : Code) → Distinct (step_dummies u x body)
 dummies_distinct u x body = used_distinct u.declarations (named x ++ names_in_code body) (variables_of u) (once_distinct [] (names_of u))
 
@@ -86,6 +87,7 @@ handed_named y (w ∷ ws) (v ∷ vs) h =
     and_false true = refl
     and_false false = refl
 
+-- so are the actuals of its call
 distinct_names : (vs : List (List ℕ)) → Distinct vs → AreDistinctNames (as_actuals vs)
 distinct_names [] h = tt
 distinct_names (v ∷ vs) h = (whole_named v vs ∙ h.0, distinct_names vs h.1)
@@ -94,6 +96,7 @@ plain_names : (vs : List (List ℕ)) → PlainTerms (as_actuals vs)
 plain_names [] = tt
 plain_names (v ∷ vs) = (tt, plain_names vs)
 
+-- which are handed back apart
 names_apart : (ws : List Bool) (vs : List (List ℕ)) → Distinct vs → AreHandedApart ws (as_actuals vs)
 names_apart ws [] h = tt
 names_apart ws (v ∷ vs) h = (
@@ -101,6 +104,7 @@ names_apart ws (v ∷ vs) h = (
   names_apart (other_flags ws) vs h.1,
 )
 
+-- and stand once
 names_once : (ds : List Declaration) (vs : List (List ℕ)) → Distinct vs → ArraysStandOnce ds (as_actuals vs)
 names_once ds [] h = tt
 names_once ds (v ∷ vs) h = (
@@ -108,6 +112,7 @@ names_once ds (v ∷ vs) h = (
   names_once ds vs h.1,
 )
 
+-- each with the rank of its dummy
 names_ranks : (called calling : List Declaration) (ws : List Bool) (vs : List (List ℕ)) → ((y : List ℕ) → has_name y vs ≡ true → declared called (plain y) ≡ declared calling (plain y)) → ScalarsToScalars called calling vs ws (as_actuals vs)
 names_ranks called calling ws [] h = tt
 names_ranks called calling [] (v ∷ vs) h = tt
@@ -215,6 +220,7 @@ module _ (units units' : List Procedure) (stepped : (name : List ℕ) (v : Proce
     }
 
   mutual
+    -- the calls of a cut statement fit
     fit_act : (k line : ℕ) (a : Act) (caller : Procedure) (ns : List (List ℕ)) → Declares caller ns → ActInside (is_named ns) a → ActInside (is_of u) a → PlainAct a → EachCall' (IsFitCall units u) a → StepsThereAct units' taken u k line a → ExtentsIn ns → EachCall' (IsFitCall units' caller) (cut_act taken u k line a)
     fit_act k line (assign x subs e) caller ns d h o pl p st ext = tt
     fit_act k line (choose c a b) caller ns d h o pl p st ext = (fit_code k a caller ns d h.1.0 o.1.0 pl.1.0 p.0 st.0 ext, fit_code (k + marked_in a) b caller ns d h.1.1 o.1.1 pl.1.1 p.1 st.1 ext)
@@ -225,6 +231,7 @@ module _ (units units' : List Procedure) (stepped : (name : List ℕ) (v : Proce
     fit_act k line (call name args) caller ns d h o pl p st ext = fit_source_call caller ns name args d h p
     fit_act k line (runtime r) caller ns d h o pl p st ext = absurd p
 
+    -- and those of a list
     fit_code : (k : ℕ) (c : Code) (caller : Procedure) (ns : List (List ℕ)) → Declares caller ns → CodeInside (is_named ns) c → CodeInside (is_of u) c → PlainCode c → EachCall (IsFitCall units u) c → StepsThere units' taken u k c → ExtentsIn ns → EachCall (IsFitCall units' caller) (cut taken u k c)
     fit_code k stop caller ns d h o pl p st ext = tt
     fit_code k (step line a rest) caller ns d h o pl p st ext = (fit_act k line a caller ns d h.0 o.0 pl.0 p.0 st.0 ext, fit_code (k + marked_in_act a) rest caller ns d h.1 o.1 pl.1 p.1 st.1 ext)
@@ -270,6 +277,7 @@ module _ (units units' : List Procedure) (stepped : (name : List ℕ) (v : Proce
   each_append (p ∷ ps) qs h g = (h.0, each_append ps qs h.1 g)
 
   mutual
+    -- the step units of a statement fit
     good_act : (k line : ℕ) (a : Act) → ActInside (is_of u) a → PlainAct a → EachCall' (IsFitCall units u) a → StepsThereAct units' taken u k line a → EachUnit Good (step_units_in_act taken u k line a)
     good_act k line (assign x subs e) o pl p st = tt
     good_act k line (choose c a b) o pl p st = each_append (step_units_in taken u k a) (step_units_in taken u (k + marked_in a) b) (good_code k a o.1.0 pl.1.0 p.0 st.0) (good_code (k + marked_in a) b o.1.1 pl.1.1 p.1 st.1)
@@ -300,6 +308,7 @@ module _ (units units' : List Procedure) (stepped : (name : List ℕ) (v : Proce
     good_act k line (call name args) o pl p st = tt
     good_act k line (runtime r) o pl p st = tt
 
+    -- and those of a list
     good_code : (k : ℕ) (c : Code) → CodeInside (is_of u) c → PlainCode c → EachCall (IsFitCall units u) c → StepsThere units' taken u k c → EachUnit Good (step_units_in taken u k c)
     good_code k stop o pl p st = tt
     good_code k (step line a rest) o pl p st = each_append (step_units_in_act taken u k line a) (step_units_in taken u (k + marked_in_act a) rest) (good_act k line a o.0 pl.0 p.0 st.0) (good_code (k + marked_in_act a) rest o.1 pl.1 p.1 st.1)

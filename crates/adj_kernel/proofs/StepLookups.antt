@@ -58,12 +58,14 @@ module _ (taken : List (List ℕ)) (base : List ℕ) where
 
 -- ---- finding
 
+-- units of other names are passed over
 skip : (before rest : List Procedure) (name : List ℕ) → has_name name (map unit_name before) ≡ false → find_unit (before ++ rest) name ≡ find_unit rest name
 skip [] rest name h = refl
 skip (u ∷ us) rest name h =
     let p = or_false (name_eq name u.name) (has_name name (map unit_name us)) h in
     ap (λ b. if b then Some u else find_unit (us ++ rest) name) (name_comm name u.name p.0) ∙ skip us rest name p.1
 
+-- a unit is found at its place
 here : (u : Procedure) (rest : List Procedure) → find_unit (u ∷ rest) u.name ≡ Some u
 here u rest = ap (λ b. if b then Some u else find_unit rest u.name) (name_refl u.name)
 
@@ -100,6 +102,7 @@ module _ (taken : List (List ℕ)) (u : Procedure) where
         ap (has_name (step_name taken u.name i)) (map-append unit_name before more) ∙ neither (step_name taken u.name i) (map unit_name before) (map unit_name more) (h i (omega (arith, le, l))) (g i l)
 
     mutual
+      -- step units are found
       there_act : (k line : ℕ) (a : Act) (before after : List Procedure) → whole ≡ before ++ (step_units_in_act taken u k line a ++ after) → NoneBefore before k → StepsThereAct whole taken u k line a
       there_act k line (assign x subs e) before after w n = tt
       there_act k line (choose c a b) before after w n =
@@ -139,6 +142,7 @@ module _ (taken : List (List ℕ)) (u : Procedure) where
 -- names of step units of a unit are among its list of names
 module _ (taken : List (List ℕ)) (u : Procedure) (total : ℕ) where
   mutual
+    -- step units bear the names of the list
     listed_act : (k line : ℕ) (a : Act) (x : List ℕ) → k + marked_in_act a ≤ total → has_name x (map unit_name (step_units_in_act taken u k line a)) ≡ true → has_name x (step_names taken u.name total) ≡ true
     listed_act k line (assign y subs e) x le h = absurd cc
     listed_act k line (choose c a b) x le h =
@@ -291,5 +295,6 @@ all_there whole (u ∷ us) before taken w hb hu = (
         (λ k. one_of (or_cases (name_eq x u.name) (has_name x (map unit_name made)) k) (λ m. has_first x taken (step_names taken u.name total) (ap (λ z. has_name z taken) (name_same x u.name m) ∙ own_taken))
         (λ m. has_second x taken (step_names taken u.name total) (listed_code taken u total 0 u.body x (omega arith) m)))
 
+-- the step units of each unit are there
 pub program_there : (units : List Procedure) → AllThere (stepped_program units) (names_of_source units) units
 program_there units = all_there (stepped_program units) units [] (names_of_source units) refl (λ x h. absurd cc) (λ x h. has_first x (map unit_name units) (flat_map names_of units) h)

@@ -1,35 +1,37 @@
 -- The runs of a unit and of the unit that it becomes by the first step, from inputs.
-use Rattle.std.proofs.Common.{◌≡◌, ℕ, zero, suc, ◌+◌, ◌≤◌, ◌⊎◌, inl, inr, true, List, [], ◌∷◌, ◌++◌, map, refl, sym, ap, ◌∙◌, arith}
+use Rattle.std.proofs.Common.{◌≡◌, ℕ, ◌+◌, ◌≤◌, ◌⊎◌, inl, inr, true, List, [], ◌∷◌, ◌++◌, refl, sym, ap, ◌∙◌, arith}
 use mathlib.Core.List.{reverse-cons}
 use Rattle.std.proofs.lemmas.Bool.{or_cases}
 use Rattle.std.specs.Prelude.{Option, Some, reverse, ◌==◌, length}
 use Rattle.adj_tree.specs.Code.{plain, name_eq, Procedure}
-use Rattle.adj_tree.proofs.Names.{name_refl, name_same}
+use Rattle.adj_tree.proofs.Names.{name_same}
 use Rattle.adj_meaning.specs.Numbers.{Numbers}
 use Rattle.adj_meaning.specs.Event.{Event, Enter, Begin, End, Marked}
-use Rattle.adj_meaning.specs.Store.{Store, scalar, size_of, cells_from}
+use Rattle.adj_meaning.specs.Store.{Store, scalar, size_of}
 use Rattle.adj_meaning.specs.Value.{Setting}
 use Rattle.adj_meaning.specs.Scene.{Scene}
 use Rattle.adj_meaning.specs.Written.{find_unit, handed_back}
-use Rattle.adj_meaning.specs.Units.{Slot, Output, slot_of, dummy_slots, input_store, declared, extents_of, shape_fits, slot_fits, slots_fit, fits, setting_in, unit_run, calls_of, run_unit}
-use Rattle.adj_meaning.proofs.Booleans.{and_true, or_first, or_second}
+use Rattle.adj_meaning.specs.Units.{Slot, Output, dummy_slots, input_store, declared, extents_of, shape_fits, slot_fits, slots_fit, fits, setting_in, unit_run, calls_of, run_unit}
+use Rattle.adj_meaning.proofs.Booleans.{and_true, or_second}
 use Rattle.adj_meaning.proofs.Verdicts.{Verdict}
 use Rattle.adj_meaning.proofs.Longer.{unit_verdict, calls_alike}
 use Rattle.adj_transpose.specs.Fresh.{has_name}
 use Rattle.adj_meaning.specs.Follows.{Runs, Follows}
-use Rattle.adj_kernel.specs.Kernel.{names_of, is_of}
+use Rattle.adj_kernel.specs.Kernel.{names_of}
 use Rattle.adj_kernel.specs.Stepped.{cut}
 use Rattle.adj_kernel.specs.StepTheorem.{marked_of, fits_itself, StepFits}
 use Rattle.adj_kernel.specs.StepMeans.{SameButCalls}
-use Rattle.adj_kernel.proofs.Locals.{own_dummies}
 use Rattle.adj_kernel.proofs.Stepping.{Alike}
 use Rattle.adj_kernel.proofs.StepUnits.{fits_by, all_fit}
 use Rattle.adj_kernel.proofs.StepPrograms.{deep, units_step}
 use Rattle.adj_kernel.specs.Means.{MeansAlike}
+use Rattle.adj_kernel.proofs.Programs.{are_own}
+use Rattle.adj_kernel.proofs.Meanings.{slots_same}
 use Rattle.adj_kernel.proofs.Followed.{stays_ended, means_followed}
 
 -- ---- events
 
+-- marks of events one after another
 marked_append : (xs ys : List Event) → marked_of (xs ++ ys) ≡ marked_of xs ++ marked_of ys
 marked_append [] ys = refl
 marked_append (Enter a b c d ∷ xs) ys = marked_append xs ys
@@ -41,6 +43,7 @@ nothing_behind : (xs : List Event) → xs ++ [] ≡ xs
 nothing_behind [] = refl
 nothing_behind (x ∷ xs) = ap (λ z. x ∷ z) (nothing_behind xs)
 
+-- and in the other order
 marked_reverse : (xs : List Event) → marked_of (reverse xs) ≡ reverse (marked_of xs)
 marked_reverse [] = refl
 marked_reverse (Enter a b c d ∷ xs) = ap marked_of (reverse-cons (Enter a b c d) xs) ∙ marked_append (reverse xs) (Enter a b c d ∷ []) ∙ nothing_behind (marked_of (reverse xs)) ∙ marked_reverse xs
@@ -49,15 +52,6 @@ marked_reverse (End a ∷ xs) = ap marked_of (reverse-cons (End a) xs) ∙ marke
 marked_reverse (Marked a b c ∷ xs) = ap marked_of (reverse-cons (Marked a b c) xs) ∙ marked_append (reverse xs) (Marked a b c ∷ []) ∙ ap (λ z. z ++ (Marked a b c ∷ [])) (marked_reverse xs) ∙ sym (reverse-cons (Marked a b c) (marked_of xs))
 
 -- ---- inputs
-
-cells_same : {C : Type 0} (f g : ℕ → C) (i m : ℕ) → ((j : ℕ) → f j ≡ g j) → cells_from f i m ≡ cells_from g i m
-cells_same f g i zero h = refl
-cells_same f g i (suc m) h = λ k. h i k ∷ cells_same f g (suc i) m h k
-
-slots_same : {C : Type 0} (n : Setting C) (u : Procedure) (f g : Store C) (ds : List (List ℕ)) → ((y : List ℕ) → has_name y ds ≡ true → has_name y u.dummies ≡ true) → ((y : List ℕ) (i : ℕ) → is_of u (plain y) ≡ true → f (plain y) i ≡ g (plain y) i) → map (λ d. slot_of (n.shape (plain d)) (f (plain d))) ds ≡ map (λ d. slot_of (n.shape (plain d)) (g (plain d))) ds
-slots_same n u f g [] a h = refl
-slots_same n u f g (d ∷ ds) a h =
-    λ k. record { shape = n.shape (plain d); cells = cells_same (f (plain d)) (g (plain d)) 0 (size_of (n.shape (plain d))) (λ j. h d j (own_dummies u d (a d (or_first (name_eq d d) (has_name d ds) (name_refl d))))) k } ∷ slots_same n u f g ds (λ y k1. a y (or_second (name_eq y d) (has_name y ds) k1)) h k
 
 -- each dummy array of an input that fits fits itself
 input_fits : {C : Type 0} (n : Numbers C) (u : Procedure) (s : Store C) (ds : List (List ℕ)) (vs : List (Slot C)) (y : List ℕ) → slots_fit n u s ds vs ≡ true → has_name y ds ≡ true → fits_itself n u s (plain y) ≡ true
@@ -105,6 +99,7 @@ module _ {C : Type 0} (n : Numbers C) (units units' : List Procedure) (most : �
   kernel_verdict : (d d' : ℕ) → d ≤ d' → (k : ℕ) → Verdict (of_kernel d) (of_kernel d') k
   kernel_verdict d d' le k = unit_verdict (calls_of units' d) (calls_of units' d') (calls_alike units' d d' le) around u' u.line start k
 
+  -- the stepped unit follows the unit
   follows : (k e : ℕ) → far k ≤ e → Follows Related 2 0 (of_source k) (of_kernel e) k
   follows k e le =
       units_step n room units units' most fit same_written k name u found (λ x. scalar) (λ x. scalar) 0 0 u.line start start refl refl refl
@@ -114,13 +109,15 @@ module _ {C : Type 0} (n : Numbers C) (units units' : List Procedure) (most : �
   abbrev source_output : Scene C → Output C
   source_output s = record { slots = dummy_slots here u s.store; tape = s.tape; events = reverse s.events }
 
+  -- and gives the same, but for events of calls
   same_output : (s t : Scene C) → Related s t → SameButCalls (source_output s) (source_output t)
   same_output s t a = record {
-    slots = slots_same here u s.store t.store u.dummies (λ y h. h) (λ y i h. a.store (plain y) i h);
+    slots = slots_same here u s.store t.store u.dummies (are_own u u.dummies (λ y h. h)) (λ y h i l. a.store (plain y) i h);
     tape = a.tape;
     marked = marked_reverse s.events ∙ ap reverse a.events ∙ sym (marked_reverse t.events);
   }
 
+  -- so it means the same, but for events of calls
   pub means_alike : MeansAlike SameButCalls (run_unit n units u input tape room) (run_unit n units' u' input tape room) 2
   means_alike =
       means_followed Related SameButCalls 2 of_source of_kernel source_output source_output (λ k. far k + k) (λ k. omega arith) kernel_verdict

@@ -27,6 +27,7 @@ has_either x xs ys h = or_cases (has_name x xs) (has_name x ys) (sym (has-append
 
 -- ---- names and reading
 
+-- a name of a variable is that variable
 named_is : (y : List ℕ) (x : Var) → has_name y (named x) ≡ true → var_eq (plain y) x ≡ true
 named_is y (plain x) h = go (or_cases (name_eq y x) false h)
   where
@@ -58,16 +59,19 @@ module _ (y : List ℕ) where
     reads_named (power_of a b) h = in_or (reads_term (plain y) a) (reads_term (plain y) b) (map_either (reads_named a) (reads_named b) (has_either y (names_in a) (names_in b) h))
     reads_named (abs a) h = reads_named a h
 
+    -- of several expressions
     reads_all_named : (es : Terms) → has_name y (names_in_all es) ≡ true → reads_terms (plain y) es ≡ true
     reads_all_named none h = absurd cc
     reads_all_named (more e es) h = in_or (reads_term (plain y) e) (reads_terms (plain y) es) (map_either (reads_named e) (reads_all_named es) (has_either y (names_in e) (names_in_all es) h))
 
+  -- of a condition
   reads_test_named : (c : Test) → has_name y (names_in_test c) ≡ true → reads_test (plain y) c ≡ true
   reads_test_named (compare r a b) h = in_or (reads_term (plain y) a) (reads_term (plain y) b) (map_either (reads_named a) (reads_named b) (has_either y (names_in a) (names_in b) h))
   reads_test_named (negation c) h = reads_test_named c h
   reads_test_named (conjunction c d) h = in_or (reads_test (plain y) c) (reads_test (plain y) d) (map_either (reads_test_named c) (reads_test_named d) (has_either y (names_in_test c) (names_in_test d) h))
   reads_test_named (disjunction c d) h = in_or (reads_test (plain y) c) (reads_test (plain y) d) (map_either (reads_test_named c) (reads_test_named d) (has_either y (names_in_test c) (names_in_test d) h))
 
+  -- of a mark
   reads_mark_named : (m : Mark) → has_name y (names_in_mark m) ≡ true → reads_mark (plain y) m ≡ true
   reads_mark_named unmarked h = absurd cc
   reads_mark_named (with_count k) h = absurd cc
@@ -106,6 +110,7 @@ module _ (y : List ℕ) where
       code_named P stop i p h = absurd cc
       code_named P (step line a rest) i p h = one_of (act_named P a i.0 p.0) (code_named P rest i.1 p.1) (has_either y (names_in_act a) (names_in_code rest) h)
 
+    -- of a loop
     pub loop_named : (P : List ℕ → Terms → Type 0) (x : Var) (body : Code) → inside x ≡ true → CodeInside inside body → EachCall P body → has_name y (named x ++ names_in_code body) ≡ true → inside (plain y) ≡ true
     loop_named P x body hx i p h = one_of (target_named x hx) (code_named P body i p) (has_either y (named x) (names_in_code body) h)
 
@@ -135,6 +140,7 @@ module _ (inside : Var → Bool) (handed : Dummies) (P : List ℕ → Terms → 
   either_way f g (inr b) = g b
 
   mutual
+    -- what a statement writes is inside
     act_writes_inside : (a : Act) → ActInside inside a → EachCall' P a → act_writes handed x a ≡ true → inside x ≡ true
     act_writes_inside (assign y subs e) i p h = where_set y i.0 h
     act_writes_inside (choose c a b) i p h = either_way (writes_inside a i.1.0 p.0) (writes_inside b i.1.1 p.1) (or_cases (writes handed x a) (writes handed x b) h)
@@ -143,6 +149,7 @@ module _ (inside : Var → Bool) (handed : Dummies) (P : List ℕ → Terms → 
     act_writes_inside (call name args) i p h = i x (handed_read x (handed name) args h)
     act_writes_inside (runtime r) i p h = absurd p
 
+    -- and what a list writes
     pub writes_inside : (c : Code) → CodeInside inside c → EachCall P c → writes handed x c ≡ true → inside x ≡ true
     writes_inside stop i p h = absurd cc
     writes_inside (step line a rest) i p h = either_way (act_writes_inside a i.0 p.0) (writes_inside rest i.1 p.1) (or_cases (act_writes handed x a) (writes handed x rest) h)
@@ -160,6 +167,7 @@ once_has y before (x ∷ xs) h n = go (has_name x before) refl (name_eq y x) ref
     go false e true f ih ih1 = or_first (name_eq y x) (has_name y (once_each (x ∷ before) xs)) f
     go false e false f ih ih1 = or_second (name_eq y x) (has_name y (once_each (x ∷ before) xs)) (ih1 (sym (ap (λ z. z || has_name y xs) f) ∙ h) (ap (λ z. z || has_name y before) f ∙ n))
 
+-- each name is listed
 pub listed_once : (y : List ℕ) (xs : List (List ℕ)) → has_name y xs ≡ true → has_name y (once_each [] xs) ≡ true
 listed_once y xs h = once_has y [] xs h refl
 
@@ -167,6 +175,7 @@ listed_once y xs h = once_has y [] xs h refl
 abbrev pub is_used : List Declaration → List (List ℕ) → List ℕ → Bool
 is_used ds names y = has_name y names || is_extent_of ds y names
 
+-- a variable that is used is a dummy
 pub used_has : (ds : List Declaration) (names vs : List (List ℕ)) (y : List ℕ) → has_name y vs ≡ true → is_used ds names y ≡ true → has_name y (used_among ds names vs) ≡ true
 used_has ds names [] y h g = absurd cc
 used_has ds names (v ∷ vs) y h g = go (is_used ds names v) refl (name_eq y v) refl (λ k. used_has ds names vs y k g)
@@ -177,6 +186,7 @@ used_has ds names (v ∷ vs) y h g = go (is_used ds names v) refl (name_eq y v) 
     go false e true f ih = absurd (let z : true ≡ false = sym g ∙ ap (is_used ds names) (name_same y v f) ∙ e in cc)
     go false e false f ih = ih (sym (ap (λ z. z || has_name y vs) f) ∙ h)
 
+-- a dummy is used
 pub used_is : (ds : List Declaration) (names vs : List (List ℕ)) (y : List ℕ) → has_name y (used_among ds names vs) ≡ true → is_used ds names y ≡ true
 used_is ds names [] y h = absurd cc
 used_is ds names (v ∷ vs) y h = go (is_used ds names v) refl (λ k. used_is ds names vs y k) h
@@ -210,6 +220,7 @@ among_extent ds d (v ∷ vs) h = go (or_cases (names_extent d (declared ds (plai
 
 -- ---- declarations, actuals, entry and return
 
+-- a dummy is declared as in the unit
 pub declared_step : (ds : List Declaration) (line : ℕ) (vs : List (List ℕ)) (y : List ℕ) → has_name y vs ≡ true → declared (step_declarations ds line vs) (plain y) ≡ declared ds (plain y)
 declared_step ds line [] y h = absurd cc
 declared_step ds line (v ∷ vs) y h = go (name_eq y v) refl (or_cases (name_eq y v) (has_name y vs) h) (λ k. declared_step ds line vs y k)
@@ -224,6 +235,7 @@ plains [] = []
 plains (x ∷ xs) = plain x ∷ plains xs
 
 module _ {C : Type 0} (n : Setting C) (t : Store C) where
+  -- the actuals of the call are the variables
   pub actuals_are : (vs : List (List ℕ)) → actuals n (as_actuals vs) t ≡ Ok (by_names n t (plains vs))
   actuals_are [] = refl
   actuals_are (v ∷ vs) = ap (λ z. then_ok z (λ got. Ok (by_name n t (plain v) ∷ got))) (actuals_are vs)

@@ -1,9 +1,9 @@
 -- Units of a program in which the bodies of marked loops are called follow those of the source.
 use Rattle.std.proofs.Common.{◌≡◌, ℕ, zero, suc, ◌+◌, ◌≤◌, Bool, true, false, List, [], ◌∷◌, refl, sym, ap, arith, subst}
-use Rattle.std.specs.Prelude.{◌==◌, Option, Some, Result, Ok, Err, if◌then◌else◌}
+use Rattle.std.specs.Prelude.{◌==◌, Option, Some, Ok, if◌then◌else◌}
 use Rattle.adj_tree.specs.Code.{Var, plain, name_eq, Terms, Procedure}
 use Rattle.adj_tree.proofs.Names.{name_refl}
-use Rattle.adj_meaning.specs.Trap.{Trap, shape_trap, schedule_trap}
+use Rattle.adj_meaning.specs.Trap.{shape_trap, schedule_trap}
 use Rattle.adj_meaning.specs.Numbers.{Numbers}
 use Rattle.adj_meaning.specs.Store.{Shape, scalar, Store}
 use Rattle.adj_meaning.specs.Value.{Setting}
@@ -20,21 +20,16 @@ use Rattle.adj_kernel.specs.Kernel.{names_of, is_named}
 use Rattle.adj_kernel.specs.Stepped.{cut}
 use Rattle.adj_kernel.specs.StepTheorem.{marked_of, fits_itself, HoldsExtents, IsCounted, StepFits}
 use Rattle.adj_meaning.proofs.Following.{follows_done, follows_trap, follows_then}
-use Rattle.adj_kernel.proofs.Calling.{follows_same}
+use Rattle.adj_kernel.proofs.Together.{follows_same, follows_known_value, counted_both}
 use Rattle.adj_kernel.proofs.Locals.{own_body, own_dummies}
 use Rattle.adj_kernel.proofs.TwoSettings.{set_in, actuals_two, Equal, copied_two}
-use Rattle.adj_kernel.proofs.Stepping.{Alike, counted_both, lists_step}
+use Rattle.adj_kernel.proofs.Stepping.{Alike, lists_step}
 use Rattle.adj_kernel.proofs.StepUnits.{same_count, dummy_fits, all_fit, covered}
 
+-- flags lie within themselves
 within_self : (ws : List Bool) → IsWithin ws ws
 within_self [] = tt
 within_self (w ∷ ws) = ((λ e. e), within_self ws)
-
--- what follows a value that is the same, and known
-value_known : {A B D : Type 0} (R : A → B → Type 0) (w slack : ℕ) (v v1 : Result D Trap) (line : ℕ) (x y : Stand) (f : D → Runs A) (g : D → Runs B) (k : ℕ) → v ≡ v1 → ((d : D) → v ≡ Ok d → Follows R w slack (f d) (g d) k) →
-    Follows R w slack (λ j. with_value v line x (λ d. f d j)) (λ j. with_value v1 line y (λ d. g d j)) k
-value_known R w slack (Ok d) v1 line x y f g k e h = subst (λ z. Follows R w slack (f d) (λ j. with_value z line y (λ d. g d j)) k) e (h d refl)
-value_known R w slack (Err t) v1 line x y f g k e h = subst (λ z. Follows R w slack (λ j. Trapped t line x) (λ j. with_value z line y (λ d. g d j)) k) e (follows_trap w slack R t t line x y k)
 
 module _ {C : Type 0} (N : Numbers C) (room : Option ℕ) (units units' : List Procedure) (most : ℕ) (fit : (name : List ℕ) (v : Procedure) → find_unit units name ≡ Some v → StepFits C units units' most name v)
     (same_written : (name : List ℕ) (v : Procedure) → find_unit units name ≡ Some v → handed_back units' name ≡ handed_back units name) where
@@ -64,6 +59,7 @@ module _ {C : Type 0} (N : Numbers C) (room : Option ℕ) (units units' : List P
   equal_dummies v in_hand s1 t1 r (d ∷ ds) h = ((λ i. r.store (plain d) i (own_dummies v d (h d (or_first (name_eq d d) (has_name d ds) (name_refl d))))), equal_dummies v in_hand s1 t1 r ds (λ y g. h y (or_second (name_eq y d) (has_name y ds) g)))
 
   module _ (depth least : ℕ) (ih : (name : List ℕ) (v : Procedure) (f : find_unit units name ≡ Some v) → UnitSteps depth least (fit name v f).stepped.taken v) where
+    -- a call of a unit follows where its unit does
     call_deeper : CallSteps (suc depth) (suc least)
     call_deeper sh name args line p ns h sh' level level' same a b s t r zero be k le = absurd (omega (arith, be))
     call_deeper sh name args line p ns h sh' level level' same a b s t r (suc e) be k le =
@@ -72,7 +68,7 @@ module _ {C : Type 0} (N : Numbers C) (room : Option ℕ) (units units' : List P
         follows_same (Alike ns a b) 2 0 (λ i. with_value (actuals n args s.store) line (standing s) (λ got. in_source got i)) (λ i. calls_of units (suc depth) n name args line s i) (λ i. with_value (actuals n' args t.store) line (standing t) (λ got. in_kernel got i)) (λ i. calls_of units' (suc e) n' name args line t i) j
         (λ i. ap (λ o. call_in (calls_of units depth) n ws o args line s i) p.found)
         (λ i. λ c. call_in (calls_of units' e) n' (same_written name v p.found c) (st.stepped.found c) args line t i)
-        (value_known (Alike ns a b) 2 0 (actuals n args s.store) (actuals n' args t.store) line (standing s) (standing t) in_source in_kernel j (actuals_two N room (is_named ns) sh sh' level level' same s.store t.store r.store args h)
+        (follows_known_value (Alike ns a b) 2 0 (actuals n args s.store) (actuals n' args t.store) line (standing s) (standing t) in_source in_kernel j (actuals_two N room (is_named ns) sh sh' level level' same s.store t.store r.store args h)
         (λ got is. by_fit got is (dummies_fit N v (entry_store N v.dummies got) v.dummies got) refl j (omega (arith, z, le)))))
       where
         n : Setting C

@@ -108,6 +108,7 @@ step_body_inside u P x body pl p ox o =
     used_has u.declarations (named x ++ names_in_code body) (variables_of u) y (listed_once y (names_of u) (loop_named y (is_of u) P x body ox o p g)) (or_first (has_name y (named x ++ names_in_code body)) (is_extent_of u.declarations y (named x ++ names_in_code body)) g))
 
 module _ (units units' : List Procedure) (fewer : Dummies) (within : (name : List ℕ) (v : Procedure) → find_unit units name ≡ Some v → IsWithin (fewer name) (handed_back units' name)) (taken : List (List ℕ)) (u : Procedure) where
+  -- what the body writes its step unit writes
   by_step : (k line : ℕ) (x : Var) (body : Code) (y : List ℕ) → PlainCode body → EachCall (IsCounted units) body → find_unit units' (step_name taken u.name k) ≡ Some (step_unit taken u k line x body) → is_of u x ≡ true → CodeInside (is_of u) body →
       writes fewer (plain y) body ≡ true → writes (handed_back units') (plain y) (cut taken u (suc k) body) ≡ true → (is_handed_back (plain y) (handed_back units' (step_name taken u.name k)) (as_actuals (step_dummies u x body)) || false) ≡ true
   by_step k line x body y pl p found ox o h ih =
@@ -118,6 +119,7 @@ module _ (units units' : List Procedure) (fewer : Dummies) (within : (name : Lis
       ∙ handed_names y (is_written units' (step_unit taken u k line x body)) vs there ih)
 
   mutual
+    -- what a statement writes its cut statement writes
     covered_act : (k line : ℕ) (a : Act) (y : List ℕ) → PlainAct a → EachCall' (IsCounted units) a → StepsThereAct units' taken u k line a → ActInside (is_of u) a → act_writes fewer (plain y) a ≡ true → act_writes (handed_back units') (plain y) (cut_act taken u k line a) ≡ true
     covered_act k line (assign x subs e) y pl p st o h = h
     covered_act k line (choose c a b) y pl p st o h =
@@ -135,6 +137,7 @@ module _ (units units' : List Procedure) (fewer : Dummies) (within : (name : Lis
     covered_act k line (call name args) y pl p st o h = handed_more (plain y) (fewer name) (handed_back units' name) args (within name p.called p.found) h
     covered_act k line (runtime r) y pl p st o h = absurd p
 
+    -- and of a list
     pub covered : (k : ℕ) (c : Code) (y : List ℕ) → PlainCode c → EachCall (IsCounted units) c → StepsThere units' taken u k c → CodeInside (is_of u) c → writes fewer (plain y) c ≡ true → writes (handed_back units') (plain y) (cut taken u k c) ≡ true
     covered k stop y pl p st o h = h
     covered k (step line a rest) y pl p st o h =

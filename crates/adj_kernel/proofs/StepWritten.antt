@@ -142,6 +142,7 @@ module _ (units units' : List Procedure) (plainly : (name : List ℕ) (v : Proce
     pub within : (name : List ℕ) (v : Procedure) → find_unit units name ≡ Some v → IsWithin (after j name) (handed_back units name)
     pub known : (name : List ℕ) (v : Procedure) (f : find_unit units name ≡ Some v) → StepsKnown (after j) (stepped name v f).taken v 0 v.body
 
+  -- so it is after each round
   each_round : (j : ℕ) → Round j
   each_round zero = record {
     within = λ name v f.
@@ -175,6 +176,7 @@ module _ (units units' : List Procedure) (plainly : (name : List ℕ) (v : Proce
       (subst (λ z. IsWithin (map (write_rule (before j) v) v.dummies) z) (sym (handed_written units' name (record v { body = cut s.taken v 0 v.body }) s.found))
       (row_by v.dummies (write_rule (before j) v) (is_written units' (record v { body = cut s.taken v 0 v.body })) (λ d h e. covered units units' (before j) (λ n w g. each_before j n w g) s.taken v 0 v.body d (plainly name v f) (each name v f) s.steps (own_body v (plainly name v f)) e)))
 
+  -- so the stepped program writes what the program writes
   pub step_written : (name : List ℕ) (v : Procedure) → find_unit units name ≡ Some v → handed_back units' name ≡ handed_back units name
   step_written name v f =
       let r = each_round (dummies_in_all units') in

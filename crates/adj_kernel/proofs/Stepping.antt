@@ -1,18 +1,18 @@
 -- Statements, and what they become where the bodies of marked loops are called.
 use Rattle.std.proofs.Common.{◌≡◌, ℕ, zero, suc, ◌+◌, ◌≤◌, ◌⊎◌, inl, inr, Bool, true, false, List, [], ◌∷◌, ◌++◌, map, refl, sym, ap, ◌∙◌, arith, subst}
 use Rattle.std.proofs.lemmas.Bool.{or_cases}
-use Rattle.std.specs.Prelude.{◌||◌, ◌&&◌, ◌==◌, length, Option, Some, None, Result, Ok, Err, if◌then◌else◌}
+use Rattle.std.specs.Prelude.{◌||◌, ◌&&◌, ◌==◌, length, Option, Some, None, if◌then◌else◌}
 use Rattle.adj_tree.specs.Code.{Var, plain, shadow, helper, var_eq, name_eq, Term, Terms, Mark, unmarked, with_count, count_from, Act, assign, choose, loop, during, call, runtime, Code, stop, step, Extent, fixed, given, Procedure}
 use Rattle.adj_tree.proofs.Names.{name_refl}
 use Rattle.adj_word.specs.Word.{wrap, add}
 use Rattle.adj_meaning.specs.Append.{one}
-use Rattle.adj_meaning.specs.Trap.{Trap, step_trap, shape_trap, schedule_trap}
+use Rattle.adj_meaning.specs.Trap.{shape_trap, schedule_trap}
 use Rattle.adj_meaning.specs.Numbers.{Numbers}
 use Rattle.adj_meaning.specs.Store.{Shape, Store, set}
 use Rattle.adj_meaning.specs.Value.{Setting, holds}
 use Rattle.adj_meaning.specs.Event.{Marked}
-use Rattle.adj_meaning.specs.Scene.{Scene, Stand, stand, Go, Outcome, Done, Trapped, More, Full, then_do, with_value, counted}
-use Rattle.adj_meaning.specs.Run.{Calls, act, run, most_tests, trips, turns, tests, stepped, with_turn, from_1_to_64, in_force, after_loop}
+use Rattle.adj_meaning.specs.Scene.{Scene, Stand, stand, Go, Done, Trapped, then_do, with_value, counted}
+use Rattle.adj_meaning.specs.Run.{Calls, act, run, most_tests, trips, turns, stepped, with_turn, from_1_to_64, in_force, after_loop}
 use Rattle.adj_meaning.specs.Read.{is_among}
 use Rattle.adj_meaning.specs.Written.{find_unit, act_writes, writes, handed_back, is_written}
 use Rattle.adj_meaning.specs.Units.{Actual, declared, extent_in, extents_of, shape_of, shape_fits, dummies_fit, entry_store, copied_out, entered, unit_run, call_in, calls_of}
@@ -27,10 +27,10 @@ use Rattle.adj_transpose.specs.Fresh.{has_name}
 use Rattle.adj_meaning.specs.Follows.{Runs, Follows}
 use Rattle.adj_kernel.specs.Apart.{TermInside, TermsInside, MarkInside, ActInside, CodeInside, EachCall', EachCall}
 use Rattle.adj_kernel.specs.Kernel.{named, names_in_code, names_of, is_named, is_of, PlainAct, PlainCode}
-use Rattle.adj_kernel.specs.Stepped.{marked_in, marked_in_act, variables_of, names_extent, is_extent_of, step_dummies, as_actuals, step_name, cut_act, cut, step_unit}
-use Rattle.adj_kernel.specs.StepTheorem.{marked_of, nest_act, nest, StepsThereAct, StepsThere, fits_itself, HoldsExtents}
-use Rattle.adj_meaning.proofs.Following.{follows_done, follows_trap, follows_if, follows_then, follows_statement, follows_known, follows_extra}
-use Rattle.adj_kernel.proofs.Calling.{follows_same}
+use Rattle.adj_kernel.specs.Stepped.{marked_in, marked_in_act, variables_of, names_extent, is_extent_of, step_dummies, as_actuals, step_name, step_call, cut_act, cut, step_unit}
+use Rattle.adj_kernel.specs.StepTheorem.{marked_of, nest_act, nest, IsStepThere, StepsThereAct, StepsThere, fits_itself, HoldsExtents}
+use Rattle.adj_meaning.proofs.Following.{follows_done, follows_if, follows_then, follows_known, follows_extra}
+use Rattle.adj_kernel.proofs.Together.{then_nothing, follows_same, follows_value, counted_both, turns_follow, tests_follow}
 use Rattle.adj_kernel.proofs.Locals.{has_second, own_code}
 use Rattle.adj_kernel.proofs.HandingBack.{by_names}
 use Rattle.adj_kernel.proofs.TwoSettings.{set_in, value_two, target_two, holds_two}
@@ -43,24 +43,6 @@ pub record Alike {C : Type 0} (ns : List (List ℕ)) (a b : ℕ) (s t : Scene C)
   pub opened : s.opened ≡ a
   pub opened' : t.opened ≡ b
   pub events : marked_of s.events ≡ marked_of t.events
-
--- nothing comes after
-then_nothing : {A : Type 0} (o : Outcome A) → then_do o (λ a k. Done a k) ≡ o
-then_nothing (Done a k) = refl
-then_nothing (Trapped t line w) = refl
-then_nothing (More w) = refl
-then_nothing (Full w) = refl
-
--- what follows a value that is the same
-pub follows_value : {A B D : Type 0} (R : A → B → Type 0) (w slack : ℕ) (v v1 : Result D Trap) (line : ℕ) (x y : Stand) (f : D → Runs A) (g : D → Runs B) (k : ℕ) → v ≡ v1 → ((d : D) → Follows R w slack (f d) (g d) k) →
-    Follows R w slack (λ j. with_value v line x (λ d. f d j)) (λ j. with_value v1 line y (λ d. g d j)) k
-follows_value R w slack (Ok d) v1 line x y f g k e h = subst (λ z. Follows R w slack (f d) (λ j. with_value z line y (λ d. g d j)) k) e (h d)
-follows_value R w slack (Err t) v1 line x y f g k e h = subst (λ z. Follows R w slack (λ j. Trapped t line x) (λ j. with_value z line y (λ d. g d j)) k) e (follows_trap w slack R t t line x y k)
-
--- a statement is counted in both, and the second may cost some more
-pub counted_both : {A B : Type 0} (R : A → B → Type 0) (w slack : ℕ) (x y : Stand) (o : Runs A) (p : Runs B) (k : ℕ) → 0 + 1 + slack ≤ w → ((j : ℕ) → k ≡ suc j → Follows R w slack o p j) → Follows R w 0 (λ j. counted x j o) (λ j. counted y j p) k
-counted_both R w slack x y o p k few h =
-    follows_statement w slack R o p (λ j. counted y j p) 0 (λ j lt. absurd (omega arith)) x y (λ j. let e : 0 + j ≡ j = omega arith in ap (λ z. counted y z p) e) few k h
 
 module _ {C : Type 0} (N : Numbers C) (room : Option ℕ) (units units' : List Procedure) (taken : List (List ℕ)) (u : Procedure) (e0 : Store C)
     (good : (x : Var) → fits_itself N u e0 x ≡ true)
@@ -119,12 +101,15 @@ module _ {C : Type 0} (N : Numbers C) (room : Option ℕ) (units units' : List P
     own_used : (y : List ℕ) → has_name y (names_of u) ≡ true → is_used u.declarations used y ≡ true → has_name y vs ≡ true
     own_used y h g = used_has u.declarations used (variables_of u) y (listed_once y (names_of u) h) g
 
+    -- each name that is used is a dummy
     all_used : (y : List ℕ) → has_name y used ≡ true → has_name y vs ≡ true
     all_used y h = own_used y (loop_named y (is_of u) P x body ox own each h) (or_first (has_name y used) (is_extent_of u.declarations y used) h)
 
+    -- the body is inside the dummies
     pub body_inside : CodeInside (is_named vs) body
     body_inside = own_code vs body plainly (λ y h. all_used y (has_second y (named x) (names_in_code body) h))
 
+    -- with a dummy its extents are dummies
     extents_in : ExtentsIn vs
     extents_in y d h g = go (or_cases (has_name y used) (is_extent_of u.declarations y used) (used_is u.declarations used (variables_of u) y h))
       where
@@ -313,29 +298,6 @@ module _ {C : Type 0} (N : Numbers C) (room : Option ℕ) (units units' : List P
   -- ---- loops
 
   module _ (ns : List (List ℕ)) (ext : ExtentsIn ns) where
-    turns_step : (slack : ℕ) → 0 + 1 + (slack + 0) ≤ 2 → (a b m : ℕ) (f g : Go C) (after after' : Scene C → Scene C) → ((s t : Scene C) → Kept ns a b s t → (k : ℕ) → k ≤ most → Follows (Kept ns a b) 2 slack (f s) (g t) k) → ((s t : Scene C) → Kept ns a b s t → Kept ns a b (after s) (after' t)) →
-        (s t : Scene C) → Kept ns a b s t → (k : ℕ) → k ≤ most → Follows (Kept ns a b) 2 0 (turns (from 0) m f after s) (turns (from 0) m g after' t) k
-    turns_step slack few a b zero f g after after' h d s t r k le = follows_done 2 0 (Kept ns a b) s t k r
-    turns_step slack few a b (suc m) f g after after' h d s t r k le =
-        counted_both (Kept ns a b) 2 (slack + 0) (standing s) (standing t) (λ j. then_do (f s j) (λ s1 i. turns (from 0) m f after (after s1) i)) (λ j. then_do (g t j) (λ t1 i. turns (from 0) m g after' (after' t1) i)) k few
-        (λ j e. follows_then 2 slack 0 (Kept ns a b) (Kept ns a b) (f s) (g t) (λ s1 i. turns (from 0) m f after (after s1) i) (λ t1 i. turns (from 0) m g after' (after' t1) i) j (h s t r j (omega (arith, e, le)))
-        (λ s1 t1 i l r1. turns_step slack few a b m f g after after' h d (after s1) (after' t1) (d s1 t1 r1) i (omega (arith, e, le, l))))
-
-    -- the tests and turns of a DO WHILE
-    tests_step : (a b m : ℕ) (test test' : Scene C → Result Bool Trap) (line : ℕ) (f g : Go C) → ((s t : Scene C) → Kept ns a b s t → test s ≡ test' t) → ((s t : Scene C) → Kept ns a b s t → (k : ℕ) → k ≤ most → Follows (Kept ns a b) 2 0 (f s) (g t) k) →
-        (s t : Scene C) → Kept ns a b s t → (k : ℕ) → k ≤ most → Follows (Kept ns a b) 2 0 (tests (from 0) m test line f s) (tests (from 0) m test' line g t) k
-    tests_step a b zero test test' line f g e h s t r k le =
-        follows_value (Kept ns a b) 2 0 (test s) (test' t) line (standing s) (standing t) (λ p j. if p then Trapped step_trap line (standing s) else Done s j) (λ p j. if p then Trapped step_trap line (standing t) else Done t j) k (e s t r)
-        (λ p. follows_if 2 0 (Kept ns a b) p (λ j. Trapped step_trap line (standing s)) (λ j. Done s j) (λ j. Trapped step_trap line (standing t)) (λ j. Done t j) k (follows_trap 2 0 (Kept ns a b) step_trap step_trap line (standing s) (standing t) k) (follows_done 2 0 (Kept ns a b) s t k r))
-    tests_step a b (suc m) test test' line f g e h s t r k le =
-        let again : Go C = λ s1 j. counted (standing s1) j (λ i. tests (from 0) m test line f s1 i) in
-        let again' : Go C = λ s1 j. counted (standing s1) j (λ i. tests (from 0) m test' line g s1 i) in
-        follows_value (Kept ns a b) 2 0 (test s) (test' t) line (standing s) (standing t) (λ p j. if p then then_do (f s j) again else Done s j) (λ p j. if p then then_do (g t j) again' else Done t j) k (e s t r)
-        (λ p. follows_if 2 0 (Kept ns a b) p (λ j. then_do (f s j) again) (λ j. Done s j) (λ j. then_do (g t j) again') (λ j. Done t j) k
-        (follows_then 2 0 0 (Kept ns a b) (Kept ns a b) (f s) (g t) again again' k (h s t r k le)
-        (λ s1 t1 i l r1. counted_both (Kept ns a b) 2 0 (standing s1) (standing t1) (tests (from 0) m test line f s1) (tests (from 0) m test' line g t1) i (omega arith) (λ j d. tests_step a b m test test' line f g e h s1 t1 r1 j (omega (arith, d, le, l)))))
-        (follows_done 2 0 (Kept ns a b) s t k r))
-
     -- a cell of a variable that is no extent is set
     set_kept : (a b : ℕ) (x : Var) (i : ℕ) (c : C) → ((y : Var) (d : List ℕ) → names_extent d (declared u.declarations y) ≡ true → var_eq (plain d) x ≡ false) → (s t : Scene C) → Kept ns a b s t → Kept ns a b (record s { store = set s.store x i c }) (record t { store = set t.store x i c })
     set_kept a b x i c h s t r = (
@@ -349,6 +311,7 @@ module _ {C : Type 0} (N : Numbers C) (room : Option ℕ) (units units' : List P
       λ y d g. ap (λ z. if z && (0 == i) then c else s.store (plain d) 0) (h y d g) ∙ r.1 y d g,
     )
 
+    -- what is told of a loop is kept
     told_kept : (a b line m : ℕ) (force : Option ℕ) (s t : Scene C) → Kept ns a b s t → Kept ns a b (after_loop line m force s) (after_loop line m force t)
     told_kept a b line m None s t r = r
     told_kept a b line m (Some snapshots) s t r = (record { store = r.0.store; tape = r.0.tape; opened = r.0.opened; opened' = r.0.opened'; events = λ i. Marked line m snapshots ∷ r.0.events i }, r.1)
@@ -381,13 +344,32 @@ module _ {C : Type 0} (N : Numbers C) (room : Option ℕ) (units units' : List P
         let begin = with_turn (from level) x (wrap (N.shown p)) s in
         let begin' = with_turn (set_in N room sh' level') x (wrap (N.shown p)) t in
         follows_then 2 0 0 (Kept ns a b) (Kept ns a b) (turns (from level) count f after begin) (turns (set_in N room sh' level') count g after' begin') (λ s1 i. Done (after_loop line count (in_force (from level) m s.store) s1) i) (λ s1 i. Done (after_loop line count (in_force (set_in N room sh' level') m t.store) s1) i) j
-        (turns_step ns ext slack few a b count f g after after' h
+        (turns_follow (from level) (set_in N room sh' level') (Kept ns a b) 2 slack few most count f g after after' h
         (λ s1 t1 r1. subst (λ w. Kept ns a b (after s1) (with_turn (set_in N room sh' level') x (add (N.shown w) (N.shown c)) t1)) (r1.0.store x 0 hx) (set_kept ns ext a b x 0 (N.of_word (add (N.shown (s1.store x 0)) (N.shown c))) un s1 t1 r1))
         begin begin' (set_kept ns ext a b x 0 (N.of_word (wrap (N.shown p))) un s t r) j (omega (arith, z, le)))
         (λ s1 t1 i l r1.
         follows_done 2 0 (Kept ns a b) (after_loop line count (in_force (from level) m s.store) s1) (after_loop line count (in_force (set_in N room sh' level') m t.store) t1) i
         (subst (λ w. Kept ns a b (after_loop line count (in_force (from level) m s.store) s1) (after_loop line count w t1)) (force_kept ns ext m hm a b s t r sh' level level')
         (told_kept ns ext a b line count (in_force (from level) m s.store) s1 t1 r1))))))))
+
+    -- a marked loop, whose body in the step unit follows that of the source
+    marked_step : (ns : List (List ℕ)) (ext : ExtentsIn ns) (sh' : Var → Shape) (level level' : ℕ) → SameOn ns sh' → (a b line k0 : ℕ) (x : Var) (first last by : Term) (body : Code) (m : Mark) (e : ℕ) →
+        ActInside (is_named ns) (loop x first last by body m) → (ox : is_of u x ≡ true) (own : CodeInside (is_of u) body) (plainly : PlainCode body) (each : EachCall P body) → IsStepThere units' taken u k0 line x body → StepsThere units' taken u (suc k0) body →
+        ((y : Var) (d : List ℕ) → names_extent d (declared u.declarations y) ≡ true → act_writes (handed_back units) (plain d) (loop x first last by body m) ≡ false) →
+        ((inner : Var → Shape) (deeper : ℕ) → SameOn (step_dummies u x body) inner → (s t : Scene C) → Kept (step_dummies u x body) a 0 s t → (k : ℕ) → k ≤ most →
+        Follows (Kept (step_dummies u x body) a 0) 2 0 (run q (from level) body s) (run (q' e) (set_in N room inner deeper) (cut taken u (suc k0) body) t) k) →
+        (s t : Scene C) → Kept ns a b s t → (k : ℕ) → k ≤ most →
+        Follows (Kept ns a b) 2 0 (λ i. counted (standing s) i (act q (from level) (loop x first last by body m) line s))
+        (λ i. counted (standing t) i (act (q' (suc e)) (set_in N room sh' level') (loop x first last by (one line (step_call taken u k0 x body)) m) line t)) k
+    marked_step ns ext sh' level level' same a b line k0 x first last by body m e h ox own plainly each there steps un in_step s t al k le =
+        loop_by ns ext sh' level level' same a b 1 (omega arith) line x first last by body (one line (step_call taken u k0 x body)) m (suc e) h.1.0.0 h.0 h.1.0.1.0 h.1.0.1.1.0 h.1.0.1.1.1
+        (λ y d g. (or_false (var_eq (plain d) x) (writes (handed_back units) (plain d) body) (un y d g)).0)
+        (λ s1 t1 r1 k1 l1. step_follows x body plainly each ox own k0 line there steps ns h.0 h.1.1 ext sh' level level' same a b s1 t1 r1 e
+        (λ k2 l2. in_step (inner_sh x body plainly each ox own k0 line there steps ns h.0 h.1.1 ext sh' level level' same a b s1 t1 r1 e) (suc level')
+        (same_inner x body plainly each ox own k0 line there steps ns h.0 h.1.1 ext sh' level level' same a b s1 t1 r1 e) s1
+        (begun x body plainly each ox own k0 line there steps ns h.0 h.1.1 ext sh' level level' same a b s1 t1 r1 e)
+        (kept_begun x body plainly each ox own k0 line there steps ns h.0 h.1.1 ext sh' level level' same a b s1 t1 r1 e) k2 l2) k1 l1)
+        s t al k le
 
     mutual
       acts_step : (line : ℕ) (act1 : Act) (k0 : ℕ) (ns : List (List ℕ)) → ActInside (is_named ns) act1 → ActInside (is_of u) act1 → PlainAct act1 → EachCall' P act1 → StepsThereAct units' taken u k0 line act1 → ((y : Var) (d : List ℕ) → names_extent d (declared u.declarations y) ≡ true → act_writes (handed_back units) (plain d) act1 ≡ false) → ExtentsIn ns →
@@ -413,28 +395,18 @@ module _ {C : Type 0} (N : Numbers C) (room : Option ℕ) (units units' : List P
       acts_step line (loop x first last by body (with_count m)) k0 ns h o pl p st un ext sh' level level' same a b s t al zero be k le = absurd (omega (arith, be))
       acts_step line (loop x first last by body (count_from counter)) k0 ns h o pl p st un ext sh' level level' same a b s t al zero be k le = absurd (omega (arith, be))
       acts_step line (loop x first last by body (with_count m)) k0 ns h o pl p st un ext sh' level level' same a b s t al (suc e) be k le =
-          let vs = step_dummies u x body in
-          loop_by ns ext sh' level level' same a b 1 (omega arith) line x first last by body (one line (call (step_name taken u.name k0) (as_actuals vs))) (with_count m) (suc e) h.1.0.0 h.0 h.1.0.1.0 h.1.0.1.1.0 h.1.0.1.1.1 (λ y d g. (or_false (var_eq (plain d) x) (writes (handed_back units) (plain d) body) (un y d g)).0)
-          (λ s1 t1 r1 k1 l1. step_follows x body pl.1.1 p o.0 o.1.1 k0 line st.0 st.1 ns h.0 h.1.1 ext sh' level level' same a b s1 t1 r1 e
-          (λ k2 l2. lists_step body (suc k0) vs (body_inside x body pl.1.1 p o.0 o.1.1) o.1.1 pl.1.1 p st.1 (λ y d g. (or_false (var_eq (plain d) x) (writes (handed_back units) (plain d) body) (un y d g)).1) (extents_in x body pl.1.1 p o.0 o.1.1)
-          (inner_sh x body pl.1.1 p o.0 o.1.1 k0 line st.0 st.1 ns h.0 h.1.1 ext sh' level level' same a b s1 t1 r1 e) level (suc level')
-          (same_inner x body pl.1.1 p o.0 o.1.1 k0 line st.0 st.1 ns h.0 h.1.1 ext sh' level level' same a b s1 t1 r1 e) a 0 s1
-          (begun x body pl.1.1 p o.0 o.1.1 k0 line st.0 st.1 ns h.0 h.1.1 ext sh' level level' same a b s1 t1 r1 e)
-          (kept_begun x body pl.1.1 p o.0 o.1.1 k0 line st.0 st.1 ns h.0 h.1.1 ext sh' level level' same a b s1 t1 r1 e) e (omega (arith, be)) k2 l2) k1 l1)
+          marked_step ns ext sh' level level' same a b line k0 x first last by body (with_count m) e h o.0 o.1.1 pl.1.1 p st.0 st.1 un
+          (λ inner deeper same1 s1 t1 r1 k1 l1. lists_step body (suc k0) (step_dummies u x body) (body_inside x body pl.1.1 p o.0 o.1.1) o.1.1 pl.1.1 p st.1
+          (λ y d g. (or_false (var_eq (plain d) x) (writes (handed_back units) (plain d) body) (un y d g)).1) (extents_in x body pl.1.1 p o.0 o.1.1) inner level deeper same1 a 0 s1 t1 r1 e (omega (arith, be)) k1 l1)
           s t al k le
       acts_step line (loop x first last by body (count_from counter)) k0 ns h o pl p st un ext sh' level level' same a b s t al (suc e) be k le =
-          let vs = step_dummies u x body in
-          loop_by ns ext sh' level level' same a b 1 (omega arith) line x first last by body (one line (call (step_name taken u.name k0) (as_actuals vs))) (count_from counter) (suc e) h.1.0.0 h.0 h.1.0.1.0 h.1.0.1.1.0 h.1.0.1.1.1 (λ y d g. (or_false (var_eq (plain d) x) (writes (handed_back units) (plain d) body) (un y d g)).0)
-          (λ s1 t1 r1 k1 l1. step_follows x body pl.1.1 p o.0 o.1.1 k0 line st.0 st.1 ns h.0 h.1.1 ext sh' level level' same a b s1 t1 r1 e
-          (λ k2 l2. lists_step body (suc k0) vs (body_inside x body pl.1.1 p o.0 o.1.1) o.1.1 pl.1.1 p st.1 (λ y d g. (or_false (var_eq (plain d) x) (writes (handed_back units) (plain d) body) (un y d g)).1) (extents_in x body pl.1.1 p o.0 o.1.1)
-          (inner_sh x body pl.1.1 p o.0 o.1.1 k0 line st.0 st.1 ns h.0 h.1.1 ext sh' level level' same a b s1 t1 r1 e) level (suc level')
-          (same_inner x body pl.1.1 p o.0 o.1.1 k0 line st.0 st.1 ns h.0 h.1.1 ext sh' level level' same a b s1 t1 r1 e) a 0 s1
-          (begun x body pl.1.1 p o.0 o.1.1 k0 line st.0 st.1 ns h.0 h.1.1 ext sh' level level' same a b s1 t1 r1 e)
-          (kept_begun x body pl.1.1 p o.0 o.1.1 k0 line st.0 st.1 ns h.0 h.1.1 ext sh' level level' same a b s1 t1 r1 e) e (omega (arith, be)) k2 l2) k1 l1)
+          marked_step ns ext sh' level level' same a b line k0 x first last by body (count_from counter) e h o.0 o.1.1 pl.1.1 p st.0 st.1 un
+          (λ inner deeper same1 s1 t1 r1 k1 l1. lists_step body (suc k0) (step_dummies u x body) (body_inside x body pl.1.1 p o.0 o.1.1) o.1.1 pl.1.1 p st.1
+          (λ y d g. (or_false (var_eq (plain d) x) (writes (handed_back units) (plain d) body) (un y d g)).1) (extents_in x body pl.1.1 p o.0 o.1.1) inner level deeper same1 a 0 s1 t1 r1 e (omega (arith, be)) k1 l1)
           s t al k le
       acts_step line (during c body) k0 ns h o pl p st un ext sh' level level' same a b s t al e be k le =
           counted_both (Kept ns a b) 2 0 (standing s) (standing t) (act q (from level) (during c body) line s) (act (q' e) (set_in N room sh' level') (during c (cut taken u k0 body)) line t) k (omega arith)
-          (λ j z. tests_step ns ext a b most_tests (λ s1. holds (from level) c s1.store) (λ t1. holds (set_in N room sh' level') c t1.store) line (run q (from level) body) (run (q' e) (set_in N room sh' level') (cut taken u k0 body))
+          (λ j z. tests_follow (from level) (set_in N room sh' level') (Kept ns a b) 2 (omega arith) most most_tests (λ s1. holds (from level) c s1.store) (λ t1. holds (set_in N room sh' level') c t1.store) line (run q (from level) body) (run (q' e) (set_in N room sh' level') (cut taken u k0 body))
           (λ s1 t1 r1. holds_two N room (is_named ns) sh sh' level level' same s1.store t1.store r1.0.store c h.0)
           (λ s1 t1 r1 k1 l1. lists_step body k0 ns h.1 o.1 pl.1 p st un ext sh' level level' same a b s1 t1 r1 e (omega (arith, be)) k1 l1)
           s t al j (omega (arith, z, le)))

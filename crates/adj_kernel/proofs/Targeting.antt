@@ -19,9 +19,11 @@ use Rattle.adj_meaning.proofs.Bounded.{Goes, leads_of, goes_stop, goes_append, g
 use Rattle.adj_kernel.proofs.Changing.{SameOrNone, same_or_none, same_then, Range, Changes, changes_none, changes_both, changes_more, set_changes, set_holds}
 use Rattle.adj_kernel.proofs.Reducing.{value_within, Prefixed, comes, stops, prefixed}
 
+-- the first is inside
 pub first_inside : (inside : Var → Bool) (e : Term) (es : Terms) → TermsInside inside (more e es) → TermInside inside e
 first_inside inside e es h x r = h x (or_first (reads_term x e) (reads_terms x es) r)
 
+-- and so are the others
 pub rest_inside : (inside : Var → Bool) (e : Term) (es : Terms) → TermsInside inside (more e es) → TermsInside inside es
 rest_inside inside e es h x r = h x (or_second (reads_term x e) (reads_terms x es) r)
 
@@ -40,6 +42,7 @@ module _ {C : Type 0} (q : Calls C) (n : Setting C) (inside : Var → Bool) (loc
   abbrev Before : Term → ℕ → Store C → Store C → Type 0
   Before e j s t = Prefixed q n inside local apart shows base line e j s t
 
+  -- agreement is kept where locals change
   pub agree_after : (may : ℕ → Type 0) (s t t1 : Store C) → Agree s t → Changes inside local may t t1 → Agree s t1
   agree_after may s t t1 a c x i h = a x i h ∙ sym (c.within x i h.0)
 
@@ -49,10 +52,12 @@ module _ {C : Type 0} (q : Calls C) (n : Setting C) (inside : Var → Bool) (loc
   abbrev pub OneAnd : ℕ → ℕ → ℕ → ℕ → Type 0
   OneAnd j k m i = (i ≡ j) ⊎ Range k m i
 
+  -- a local was set to the value of an expression, or this has none
   pub data Local (j m : ℕ) (e : Term) (s t : Store C) : Type 0 where
     is_set : (t1 : Store C) → Goes q n (set_local local line j m e) (at t) (at t1) (3 * locals_in e + 1) → Changes inside local (OneAnd j m (locals_in e)) t t1 → (u : C) → value n e s ≡ Ok u → t1 (local j) 0 ≡ u → Local j m e s t
     is_not : (k : Trap) → value n e s ≡ Err k → Stops q n (set_local local line j m e) (at t) line → Local j m e s t
 
+  -- one of both comes
   pub sets_local : (j m : ℕ) (e : Term) (s t : Store C) → TermInside inside e → Agree s t → Local j m e s t
   sets_local j m e s t h g = go (prefixed q n inside local apart shows base line e m s t h g)
     where
@@ -84,6 +89,7 @@ module _ {C : Type 0} (q : Calls C) (n : Setting C) (inside : Var → Bool) (loc
     abbrev most : Terms → ℕ
     most es = 3 * locals_in_target x es + mentions x es
 
+    -- the subscripts were evaluated apart, or one has no value
     pub data Target (j m : ℕ) (es : Terms) (s t : Store C) : Type 0 where
       targets : (t1 : Store C) → Goes q n (before_target local line x j m es) (at t) (at t1) (most es) → Changes inside local (Locals j m es) t t1 → SameOrNone (values n es s) (values n (apart_from local x j es) t1) → Target j m es s t
       no_target : (k : Trap) → values n es s ≡ Err k → Stops q n (before_target local line x j m es) (at t) line → Target j m es s t

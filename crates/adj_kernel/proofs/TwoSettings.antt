@@ -25,6 +25,7 @@ module _ {C : Type 0} (N : Numbers C) (room : Option ℕ) where
     abbrev n' : Setting C
     n' = set_in sh' level'
 
+    -- the same cell
     cell_same : (x : Var) (is : List ℤ) → inside x ≡ true → cell_at n x is ≡ cell_at n' x is
     cell_same x is h = λ i. or_trap index (cell_of (sym (same x h) i) is)
 
@@ -47,10 +48,12 @@ module _ {C : Type 0} (N : Numbers C) (room : Option ℕ) where
       values_two none h = refl
       values_two (more e es) h = λ i. then_ok (value_two e (first_inside inside e es h) i) (λ u. then_ok (values_two es (rest_inside inside e es h) i) (λ us. Ok (N.shown u ∷ us)))
 
+    -- the cell of a target is the same
     pub target_two : (x : Var) (subs : Terms) → inside x ≡ true → TermsInside inside subs → target n x subs f ≡ target n' x subs g
     target_two x none hx h = refl
     target_two x (more e es) hx h = λ i. then_ok (values_two (more e es) h i) (λ is. cell_same x is hx i)
 
+    -- and so is a condition
     pub holds_two : (c : Test) → TestInside inside c → holds n c f ≡ holds n' c g
     holds_two (compare r a b) h =
         λ i. then_ok (value_two a (λ x z. h x (or_first (reads_term x a) (reads_term x b) z)) i) (λ u. then_ok (value_two b (λ x z. h x (or_second (reads_term x a) (reads_term x b) z)) i) (λ v. Ok (compares r (N.shown u) (N.shown v))))
@@ -64,6 +67,7 @@ module _ {C : Type 0} (N : Numbers C) (room : Option ℕ) where
     value_actual : (v w : Result C Trap) → v ≡ w → then_ok v (λ c. Ok (one_word c nowhere)) ≡ then_ok w (λ c. Ok (one_word c nowhere))
     value_actual v w e = ap (λ z. then_ok z (λ c. Ok (one_word c nowhere))) e
 
+    -- an actual is the same
     actual_two : (e : Term) → TermInside inside e → actual_of n e f ≡ actual_of n' e g
     actual_two (var x) h = let hx = h x (var_refl x) in λ i. Ok (record { shape = sym (same x hx) i; cells = λ j. agree x j hx i; place = whole x })
     actual_two (elem x subs) h =
@@ -88,6 +92,7 @@ module _ {C : Type 0} (inside : Var → Bool) (u v : Store C) where
   abbrev pub Agreeing : Store C → Store C → Type 0
   Agreeing f g = (x : Var) (i : ℕ) → inside x ≡ true → f x i ≡ g x i
 
+  -- cells that are put keep agreement
   put_two : (p : Place) (cs ds : ℕ → C) (f g : Store C) → ((i : ℕ) → cs i ≡ ds i) → Agreeing f g → Agreeing (put p cs f) (put p ds g)
   put_two (whole y) cs ds f g e a x i h = λ k. if var_eq x y then e i k else a x i h k
   put_two (cell y j) cs ds f g e a x i h = λ k. if var_eq x y && (i == j) then e 0 k else a x i h k
@@ -98,6 +103,7 @@ module _ {C : Type 0} (inside : Var → Bool) (u v : Store C) where
   Equal [] = Unit {0}
   Equal (d ∷ ds) = ((i : ℕ) → u (plain d) i ≡ v (plain d) i) × Equal ds
 
+  -- and so does handing back
   pub copied_two : (ds : List (List ℕ)) (ws : List Bool) (got : List (Actual C)) (f g : Store C) → Equal ds → Agreeing f g → Agreeing (copied_out ds ws got u f) (copied_out ds ws got v g)
   copied_two [] ws got f g e a = a
   copied_two (d ∷ ds) [] got f g e a = a

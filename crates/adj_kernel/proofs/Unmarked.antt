@@ -16,6 +16,7 @@ module _ (taken : List (List ℕ)) (u : Procedure) where
     same_act k line (call name args) h = refl
     same_act k line (runtime r) h = refl
 
+    -- a list without marked loops is its cut
     same_code : (k : ℕ) (c : Code) → marked_in c ≡ 0 → cut taken u k c ≡ c
     same_code k stop h = refl
     same_code k (step line a rest) h = λ i. step line (same_act k line a (omega (arith, h)) i) (same_code (k + marked_in_act a) rest (omega (arith, h)) i)
@@ -31,6 +32,7 @@ module _ (taken : List (List ℕ)) (u : Procedure) where
     none_in_act k line (call name args) h = refl
     none_in_act k line (runtime r) h = refl
 
+    -- it has no step units
     none_in : (k : ℕ) (c : Code) → marked_in c ≡ 0 → step_units_in taken u k c ≡ []
     none_in k stop h = refl
     none_in k (step line a rest) h = λ i. none_in_act k line a (omega (arith, h)) i ++ none_in (k + marked_in_act a) rest (omega (arith, h)) i
@@ -41,5 +43,6 @@ from_same taken (u ∷ us) h =
     (λ i. (record u { body = same_code taken u 0 u.body h.0 i } ∷ none_in taken u 0 u.body h.0 i) ++ stepped_from (taken ++ step_names taken u.name (marked_in u.body)) us)
     ∙ ap (λ z. u ∷ z) (from_same (taken ++ step_names taken u.name (marked_in u.body)) us h.1)
 
+-- so a program without marked loops is its own first step
 pub stepped_same : (units : List Procedure) → EachUnit (λ u. marked_in u.body ≡ 0) units → stepped_program units ≡ units
 stepped_same units h = from_same (names_of_source units) units h

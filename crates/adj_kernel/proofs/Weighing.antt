@@ -15,6 +15,7 @@ pub cost_append : (extra : Act → ℕ) (c d : Code) → total_cost extra (c +++
 cost_append extra stop d = omega arith
 cost_append extra (step line a c) d = omega (arith, cost_append extra c d)
 
+-- weights of lists one after another
 pub total_append : (c d : Code) → total_weight (c +++ d) ≡ total_weight c + total_weight d
 total_append c d = cost_append own_nodes c d
 
@@ -28,6 +29,7 @@ mutual
   act_cheap extra h (call name args) = let l = h (call name args) in omega (arith, l)
   act_cheap extra h (runtime r) = let l = h (runtime r) in omega (arith, l)
 
+  -- and no list does
   pub list_cheap : (extra : Act → ℕ) → ((a : Act) → extra a ≤ own_nodes a) → (c : Code) → total_cost extra c ≤ total_weight c
   list_cheap extra h stop = omega arith
   list_cheap extra h (step line a rest) = omega (arith, act_cheap extra h a, list_cheap extra h rest)
@@ -68,6 +70,7 @@ module _ (local : ℕ → Var) where
 
   -- ---- assignments
 
+  -- what is set before a target
   target_light : (line : ℕ) (x : Var) (j m : ℕ) (subs : Terms) → total_weight (before_target local line x j m subs) + terms_nodes (apart_from local x j subs) ≤ 9 * terms_nodes subs
   target_light line x j m none = omega arith
   target_light line x j m (more e es) = go (target_light line x (suc j) (m + locals_in e) es) (target_light line x j m es) (reads_term x e)
@@ -78,6 +81,7 @@ module _ (local : ℕ → Var) where
       go h g true = omega (arith, h, set_local_light line j m e, total_append (set_local local line j m e) (before_target local line x (suc j) (m + locals_in e) es))
       go h g false = omega (arith, g)
 
+  -- an assignment
   pub assign_light : (line : ℕ) (x : Var) (subs : Terms) (e : Term) → total_weight (lowered_assign local line x subs e) ≤ 9 * weight (assign x subs e)
   assign_light line x subs e =
       let m = mentions x subs in let k = m + locals_in_target x subs in
@@ -92,6 +96,7 @@ module _ (local : ℕ → Var) where
   held_nodes j none = refl
   held_nodes j (more e es) = omega (arith, held_nodes (suc (j + locals_in e)) es)
 
+  -- subscripts that are held
   held_light : (line j : ℕ) (es : Terms) → total_weight (before_held local line j es) + 7 * length_of es ≤ 9 * terms_nodes es
   held_light line j none = omega arith
   held_light line j (more e es) =
@@ -132,6 +137,7 @@ module _ (local : ℕ → Var) where
   actual_light line i j b earlier (power_of a c) = omega (arith, light line i (power_of a c))
   actual_light line i j b earlier (abs a) = omega (arith, light line i (abs a), name_cheap line j (is_among (local (i + locals_in a)) earlier) (local (i + locals_in a)))
 
+  -- all actuals, with what is set before and after
   pub actuals_light : (line i j : ℕ) (ws : List Bool) (earlier : List Var) (es : Terms) →
       total_weight (before_all local line i es) + total_weight (before_passing_all local line j ws earlier (reduced_all local i es)) + terms_nodes (all_passed local j ws earlier (reduced_all local i es)) + total_weight (after_passing_all local line j ws earlier (reduced_all local i es)) ≤ 9 * terms_nodes es
   actuals_light line i j ws earlier none = omega arith
@@ -150,6 +156,7 @@ module _ (local : ℕ → Var) where
         total_append (after_passing local line j p) (after_passing_all local line j1 (other_flags ws) later rest),
       )
 
+  -- a CALL
   pub call_light : (line : ℕ) (ws : List Bool) (name : List ℕ) (args : Terms) → total_weight (lowered_call local line ws name args) ≤ 9 * weight (call name args)
   call_light line ws name args =
       let j = locals_in_all args in let es = reduced_all local 0 args in

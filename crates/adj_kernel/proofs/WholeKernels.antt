@@ -36,6 +36,7 @@ module _ (C : Type 0) (units : List Procedure) (source : IsSource C units) where
   abbrev units' : List Procedure
   units' = stepped_program units
 
+  -- each unit is there, stepped
   stepped : (name : List ℕ) (v : Procedure) → find_unit units name ≡ Some v → IsStepFor units' name v
   stepped name v f = is_step_for units name v f
 
@@ -45,6 +46,7 @@ module _ (C : Type 0) (units : List Procedure) (source : IsSource C units) where
   counted : (name : List ℕ) (v : Procedure) → find_unit units name ≡ Some v → EachCall (IsCounted units) v.body
   counted name v f = found_in (λ u. EachCall (IsCounted units) u.body) units name v f source.counted
 
+  -- the first step writes the same
   pub written : (name : List ℕ) (v : Procedure) → find_unit units name ≡ Some v → handed_back units' name ≡ handed_back units name
   written name v f = step_written units units' plainly counted stepped name v f
 
@@ -64,6 +66,7 @@ module _ (C : Type 0) (units : List Procedure) (source : IsSource C units) where
   all_good [] taken p c x t = tt
   all_good (u ∷ us) taken p c x t = append_good (stepped_unit taken u) (stepped_from (taken ++ step_names taken u.name (marked_in u.body)) us) (good_unit units units' stepped written taken u x.0.own x.0.flat p.0 c.0 t.0) (all_good us (taken ++ step_names taken u.name (marked_in u.body)) p.1 c.1 x.1 t.1)
 
+  -- the units of the stepped program are as they should be
   good : EachUnit IsGood units'
   good = all_good units (names_of_source units) source.fit.plains source.fit.calls source.extents (program_there units)
 
@@ -79,6 +82,7 @@ module _ (C : Type 0) (units : List Procedure) (source : IsSource C units) where
   thirds [] h = tt
   thirds (p ∷ ps) h = (h.0.1.1, thirds ps h.1)
 
+  -- so it fits
   pub stepped_fit : IsFit units'
   stepped_fit = record { plains = firsts units' good; calls = seconds units' good }
 
@@ -96,13 +100,16 @@ module _ (C : Type 0) (units : List Procedure) (source : IsSource C units) where
     abbrev cut_unit : Procedure
     cut_unit = record u { body = cut (stepped name u found).taken u 0 u.body }
 
+    -- the first step
     first : MeansAlike SameButCalls (run_unit n units u input tape room) (run_unit n units' cut_unit input tape room) 2
     unfolding stepped step_fits
     first = means_alike n units units' (deepest units) step_fits written name u found input input_is tape room
 
+    -- the others
     second : MeansTheSame (run_unit n units' cut_unit input tape room) (run_unit n (kernel_of units) (lowered_unit units' cut_unit) input tape room) (9 * m)
     second = lowered_means n shows units' stepped_fit m weighs name cut_unit (stepped name u found).found input tape room
 
+    -- one after the other
     whole : MeansAlike SameButCalls (run_unit n units u input tape room) (run_unit n (kernel_of units) (lowered_unit units' cut_unit) input tape room) (18 * m)
     whole =
         let twice : 9 * m * 2 ≡ 18 * m = omega arith in
@@ -121,6 +128,7 @@ whole_units units name u found =
       same_dummies = refl;
     }
 
+-- so the kernel means what the program means
 pub whole_means_alike : {C : Type 0} → WholeKernelMeansAlike C
 whole_means_alike {C} n shows units source m weighs name u v found kernel_is input input_is tape room =
     let w = lowered_unit (stepped_program units) (cut_unit C units source n shows m weighs name u found input input_is tape room) in

@@ -39,6 +39,7 @@ module _ (inside : Var → Bool) (local : ℕ → Var) (apart : AreLocals inside
   abbrev Leaves : Code → Type 0
   Leaves c = writes handed x c ≡ false
 
+  -- lists that leave a variable alone, one after another
   leaves_both : (c d : Code) → Leaves c → Leaves d → Leaves (c +++ d)
   leaves_both c d h g = writes_append handed x c d ∙ either (writes handed x c) (writes handed x d) h g
 
@@ -108,6 +109,7 @@ module _ (inside : Var → Bool) (local : ℕ → Var) (apart : AreLocals inside
 
   -- ---- an assignment
 
+  -- the statements that an assignment becomes write its target alone
   pub assign_writes : (line : ℕ) (y : Var) (subs : Terms) (e : Term) → writes handed x (lowered_assign local line y subs e) ≡ var_eq x y
   assign_writes line y subs e =
       let m = mentions y subs in
@@ -199,6 +201,7 @@ module _ (inside : Var → Bool) (local : ℕ → Var) (apart : AreLocals inside
         go (w ∷ ws) f ih (inl g) = or_first (w && is_place_of x e) (is_handed_back x ws es) ((λ k. (f g).0 k && is_place_of x e) ∙ (f g).1)
         go (w ∷ ws) f ih (inr g) = or_second (w && is_place_of x e) (is_handed_back x ws es) (ih g)
 
+    -- what the statements of a CALL write the CALL hands back
     pub call_back : (line : ℕ) (unit : List ℕ) (args : Terms) → writes handed x (lowered_call local line (handed unit) unit args) ≡ true → is_handed_back x (handed unit) args ≡ true
     call_back line unit args h =
         let ws = handed unit in
@@ -257,6 +260,7 @@ module _ (inside : Var → Bool) (local : ℕ → Var) (apart : AreLocals inside
     head_written line earlier i j (power_of a b) ws es h k e = absurd cc
     head_written line earlier i j (abs a) ws es h k e = absurd cc
 
+    -- and the other way
     pub args_written : (line : ℕ) (es : Terms) (fs ws : List Bool) (earlier : List Var) (i j : ℕ) → IsWithin fs ws → TermsInside inside es → Once ws earlier es → AreHandedApart ws es → is_handed_back x fs es ≡ true → Written line fs ws earlier j (reduced_all local i es)
     args_written line none [] ws earlier i j l h k a e = absurd cc
     args_written line none (f ∷ fs) ws earlier i j l h k a e = absurd cc

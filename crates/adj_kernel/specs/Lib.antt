@@ -13,3 +13,4 @@ pub mod StepMeans
 pub mod WeighTheorem
 pub mod Samples
 pub mod Worked
+pub mod WrittenTheorem

@@ -9,6 +9,7 @@ ghost use Rattle.std.specs.Prelude.{ℤ};
 ghost use Rattle.adj_meaning.specs.Laws.{ForBoth};
 ghost use Rattle.adj_kernel.specs.Theorem.{BothShowWords, KernelMeansTheSame, KernelFitsTheSame, KernelWritesTheSame, KernelStatementsWriteTheSame, KernelHasItsForm};
 ghost use Rattle.adj_kernel.specs.StepMeans.{WholeKernelHasUnits, WholeKernelMeansAlike, WholeKernelHasItsForm, WholeKernelWritesTheSame};
+ghost use Rattle.adj_kernel.specs.WrittenTheorem.{KernelIsWritten, WholeKernelIsWritten};
 ghost use Rattle.adj_kernel.specs.Worked.{OneEach, MaximumInMaximum, InOperations, LeftAlone, InPowers, TargetsApart, NamesOfCalls, ElementsOfCalls, ValuesOfCalls, BodiesLowered, LocalsNamed, WorkedExample, StepUnits};
 ghost use Rattle.adj_kernel.specs.WeighTheorem.{StatementsWeigh, ListsWeigh, TowersWeigh, NothingToStep, KernelCostsItsWeight, CappedAreWeights};
 
@@ -42,6 +43,12 @@ pub fn weight_laws()
     ensures no_step { NothingToStep }
     ensures cost { ForBoth KernelCostsItsWeight }
     ensures capped { CappedAreWeights }
+{}
+
+/// The kernel of a written program whose CALLs are of units is written, and so is the lowered program.
+pub fn written_laws()
+    ensures kernel { WholeKernelIsWritten }
+    ensures lowered { KernelIsWritten }
 {}
 
 /// The kernels of statements and programs that were worked out by hand.
