@@ -1,6 +1,6 @@
 -- A program with a loop over an array and a call, and the sweeps of its units, written out.
-use Rattle.std.specs.Prelude.{ℕ, pos, negsuc, List, [], ◌∷◌, ◌==◌, ◌||◌, not, false, codes}
-use Rattle.adj_tree.specs.Code.{Var, plain, shadow, helper, work, first, stride, count, turn, Term, lit, var, elem, bin, plus, minus, times, Terms, none, more, unmarked, Act, assign, loop, call, runtime, push_word, pop_word, push_array, pop_array, Code, stop, step, given, Procedure}
+use Rattle.std.specs.Prelude.{ℕ, pos, negsuc, List, [], ◌∷◌, map, ◌==◌, ◌||◌, not, false, codes}
+use Rattle.adj_tree.specs.Code.{Var, plain, shadow, helper, work, control, first, stride, count, turn, Term, lit, var, elem, bin, plus, minus, times, greater, power_of, Terms, none, more, is_less, is_same, is_greater, compare, unmarked, Act, assign, choose, loop, during, call, runtime, push_control, pop_control, push_word, pop_word, push_array, pop_array, Code, stop, step, given, Procedure}
 use Rattle.adj_transpose.specs.Marks.{everything}
 use Rattle.adj_reverse.specs.Marking.{full_marks, ProgramFacts}
 
@@ -37,7 +37,7 @@ an_element = elem (plain (codes "A")) (one_of (plain (codes "I")))
 abbrev its_shadow : Term
 its_shadow = elem (shadow (codes "A")) (one_of (plain (codes "I")))
 
-abbrev set : Var → Term → Act
+abbrev pub set : Var → Term → Act
 set x e = assign x none e
 
 abbrev push_scalar : Var → Act
@@ -123,3 +123,92 @@ lean_forward =
     step 8 (runtime (push_array (plain (codes "X"))))
     (step 8 (runtime (push_array (plain (codes "X"))))
     stop)
+
+-- ---- a branch, a DO WHILE and a power, with full marks
+
+-- a unit P over scalars
+abbrev pub unit_over : List (List ℕ) → Code → Procedure
+unit_over xs body = record { line = 1; name = codes "P"; dummies = xs; is_none = false; declarations = map (λ x. record { line = 2; name = x; extents = [] }) xs; body = body }
+
+abbrev x : Var
+x = plain (codes "X")
+
+abbrev y : Var
+y = plain (codes "Y")
+
+abbrev n : Var
+n = plain (codes "N")
+
+abbrev r : Var
+r = plain (codes "R")
+
+abbrev i : Var
+i = plain (codes "I")
+
+abbrev work_of : ℕ → Term
+work_of k = var (helper work k)
+
+-- IF (X.GT.0) THEN, Y=X, ELSE, Y=0, END IF
+abbrev pub branch : Procedure
+branch = unit_over (codes "X" ∷ codes "Y" ∷ []) (step 3 (choose (compare is_greater (var x) (lit (pos 0))) (step 4 (set y (var x)) stop) (step 6 (set y (lit (pos 0))) stop)) stop)
+
+abbrev pub branch_forward : Code
+branch_forward =
+    step 3 (choose (compare is_greater (var x) (lit (pos 0)))
+    (step 4 (push_scalar y) (step 4 (set y (var x)) (step 3 (runtime (push_control (lit (pos 1)))) stop)))
+    (step 6 (push_scalar y) (step 6 (set y (lit (pos 0))) (step 3 (runtime (push_control (lit (pos 0)))) stop)))) stop
+
+abbrev pub branch_backward : Code
+branch_backward =
+    step 3 (runtime (pop_control (helper control 0)))
+    (step 3 (choose (compare is_same (var (helper control 0)) (lit (pos 1)))
+    (step 4 (pop_scalar y)
+    (step 4 (set (helper work 1) (var (shadow (codes "Y"))))
+    (step 4 (set (shadow (codes "Y")) (lit (pos 0)))
+    (step 4 (set (shadow (codes "X")) (bin plus (var (shadow (codes "X"))) (work_of 1))) stop))))
+    (step 6 (pop_scalar y) (step 6 (set (shadow (codes "Y")) (lit (pos 0))) stop))) stop)
+
+-- DO WHILE (I.LT.N), R=R*X, I=I+1, END DO
+abbrev pub powers : Procedure
+powers = unit_over (codes "N" ∷ codes "X" ∷ codes "R" ∷ codes "I" ∷ [])
+    (step 3 (during (compare is_less (var i) (var n)) (step 4 (set r (bin times (var r) (var x))) (step 5 (set i (bin plus (var i) (lit (pos 1)))) stop))) stop)
+
+abbrev pub powers_forward : Code
+powers_forward =
+    step 3 (set (helper count 1) (lit (pos 0)))
+    (step 3 (during (compare is_less (var i) (var n))
+    (step 4 (push_scalar r)
+    (step 4 (set r (bin times (var r) (var x)))
+    (step 5 (push_scalar i)
+    (step 5 (set i (bin plus (var i) (lit (pos 1))))
+    (step 3 (set (helper count 1) (bin plus (var (helper count 1)) (lit (pos 1)))) stop))))))
+    (step 3 (push_scalar (helper count 1)) stop))
+
+abbrev pub powers_backward : Code
+powers_backward =
+    step 3 (pop_scalar (helper count 1))
+    (step 3 (loop (helper turn 1) (bin minus (var (helper count 1)) (lit (pos 1))) (lit (pos 0)) (lit (negsuc 0))
+    (step 5 (pop_scalar i)
+    (step 5 (set (helper work 1) (var (shadow (codes "I"))))
+    (step 5 (set (shadow (codes "I")) (lit (pos 0)))
+    (step 5 (set (shadow (codes "I")) (bin plus (var (shadow (codes "I"))) (work_of 1)))
+    (step 4 (pop_scalar r)
+    (step 4 (set (helper work 1) (var (shadow (codes "R"))))
+    (step 4 (set (shadow (codes "R")) (lit (pos 0)))
+    (step 4 (set (helper work 2) (bin times (work_of 1) (var x)))
+    (step 4 (set (shadow (codes "R")) (bin plus (var (shadow (codes "R"))) (work_of 2)))
+    (step 4 (set (helper work 2) (bin times (work_of 1) (var r)))
+    (step 4 (set (shadow (codes "X")) (bin plus (var (shadow (codes "X"))) (work_of 2))) stop))))))))))) unmarked) stop)
+
+-- Y=X**N
+abbrev pub power : Procedure
+power = unit_over (codes "X" ∷ codes "N" ∷ codes "Y" ∷ []) (step 3 (set y (power_of (var x) (var n))) stop)
+
+-- the guard keeps the exponent from falling below 0; N has no part in the derivative
+abbrev pub power_backward : Code
+power_backward =
+    step 3 (pop_scalar y)
+    (step 3 (set (helper work 1) (var (shadow (codes "Y"))))
+    (step 3 (set (shadow (codes "Y")) (lit (pos 0)))
+    (step 3 (set (helper work 2) (bin times (bin times (work_of 1) (var n)) (power_of (var x) (bin greater (bin minus (var n) (lit (pos 1))) (lit (pos 0))))))
+    (step 3 (set (shadow (codes "X")) (bin plus (var (shadow (codes "X"))) (work_of 2))) stop))))
