@@ -138,3 +138,29 @@ sooner_more f xs i d a b lt e =
     ap (λ z. sooner z (first_of (flat_map f (drop (i + 1) xs)))) e
     ∙ sooner-append a (f (get_or xs i d)) (flat_map f (drop (i + 1) xs))
     ∙ ap (λ z. sooner a (first_of (flat_map f z))) (sym (drop_more xs i d lt))
+
+-- ---- the order of faults doesn't count
+
+-- of two faults the first is the same whichever is looked at first
+sooner_two : (r s : Refusal) → earlier r (Some s) ≡ earlier s (Some r)
+sooner_two r s = go (is_before s r) (is_before r s) refl refl
+  where
+    go : (a b : Bool) → is_before s r ≡ a → is_before r s ≡ b → (if a then Some s else Some r) ≡ (if b then Some r else Some s)
+    go true true e d = absurd (let p = before_after s r e in cc)
+    go true false e d = refl
+    go false true e d = refl
+    go false false e d = ap Some (before_same r s d e)
+
+pub sooner_comm : (a b : Option Refusal) → sooner a b ≡ sooner b a
+sooner_comm None b = sym (sooner_none b)
+sooner_comm (Some r) None = refl
+sooner_comm (Some r) (Some s) = sooner_two r s
+
+-- a fault with itself
+pub sooner_same : (a : Option Refusal) → sooner a a ≡ a
+sooner_same None = refl
+sooner_same (Some r) = go (is_before r r) refl
+  where
+    go : (b : Bool) → is_before r r ≡ b → (if b then Some r else Some r) ≡ Some r
+    go true e = refl
+    go false e = refl
