@@ -1,5 +1,5 @@
 -- The first of some faults: it is one of them, none is before it, and it doesn't depend on how they are listed.
-use Rattle.std.proofs.Common.{◌≡◌, inl, inr, ℕ, ◌++◌, ◌+◌, ◌<◌, length, drop, get_or, Bool, true, false, List, [], ◌∷◌, refl, ap, sym, ◌∙◌, subst, arith, Option, Some, None, if◌then◌else◌}
+use Rattle.std.proofs.Common.{map, ◌≡◌, inl, inr, ℕ, ◌++◌, ◌+◌, ◌<◌, length, drop, get_or, Bool, true, false, List, [], ◌∷◌, refl, ap, sym, ◌∙◌, subst, arith, Option, Some, None, if◌then◌else◌}
 use Rattle.std.specs.List.{flat_map}
 use Rattle.std.proofs.lemmas.List.{drop_more}
 use Rattle.std.proofs.lemmas.Bool.Decides.{nat_tests}
@@ -164,3 +164,14 @@ sooner_same (Some r) = go (is_before r r) refl
     go : (b : Bool) → is_before r r ≡ b → (if b then Some r else Some r) ≡ Some r
     go true e = refl
     go false e = refl
+
+-- the same where members are looked at by a view
+pub sooner_mapped : {X Y : Type 0} (view : X → Y) (f : Y → List Refusal) (xs : List X) (i : ℕ) (x : X) (a b : Option Refusal) → i < length xs → x ≡ get_or xs i x → b ≡ sooner a (first_of (f (view x))) → sooner b (first_of (flat_map f (map view (drop (i + 1) xs)))) ≡ sooner a (first_of (flat_map f (map view (drop i xs))))
+sooner_mapped view f xs i x a b lt is e =
+    ap (λ z. sooner z (first_of (flat_map f (map view (drop (i + 1) xs))))) e
+    ∙ sooner-append a (f (view x)) (flat_map f (map view (drop (i + 1) xs)))
+    ∙ ap (λ z. sooner a (first_of (flat_map f (map view z)))) (sym (drop_more xs i x lt ∙ ap (λ z. z ∷ drop (i + 1) xs) (sym is)))
+
+-- two lists of faults looked at one after the other
+pub sooner_then : (rs ss : List Refusal) (a b c : Option Refusal) → b ≡ sooner a (first_of rs) → c ≡ sooner b (first_of ss) → c ≡ sooner a (first_of (rs ++ ss))
+sooner_then rs ss a b c e d = d ∙ ap (λ z. sooner z (first_of ss)) e ∙ sooner-append a rs ss
