@@ -1,1 +1,3 @@
 pub mod Tables
+pub mod Repeats
+pub mod Outlines

@@ -6,6 +6,8 @@
 #![tactic(auto)]
 
 mod first;
+mod outline;
+mod places;
 mod standing;
 mod statements;
 mod table;
