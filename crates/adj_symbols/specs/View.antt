@@ -49,3 +49,7 @@ places_of ps = map place_of ps
 -- the names at some places
 abbrev pub names_at : List (At Name) → List Name
 names_at ps = map (λ p. p.1) ps
+
+-- where a name stands that is used
+abbrev pub used_place : At Standing → At Name
+used_place u = (u.0, u.1.name)

@@ -6,6 +6,7 @@
 #![tactic(auto)]
 
 mod first;
+mod name_faults;
 mod outline;
 mod places;
 mod standing;
