@@ -5,6 +5,7 @@
 //! `adj_names`, whose definitions say what is a fault and which comes first.
 #![tactic(auto)]
 
+mod extents;
 mod first;
 mod name_faults;
 mod outline;
