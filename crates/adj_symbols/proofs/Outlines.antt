@@ -1,8 +1,7 @@
 -- What tables of a unit say.
-use Rattle.std.proofs.Common.{◌≡◌, ℕ, ◌+◌, ◌<◌, Bool, true, false, List, [], ◌∷◌, ◌++◌, map, length, get_or, drop, refl, sym, ap, ap₂, ◌∙◌, Option, Some, None, if◌then◌else◌}
+use Rattle.std.proofs.Common.{◌≡◌, ℕ, Bool, true, false, List, [], ◌∷◌, ◌++◌, map, length, refl, ap, ◌∙◌, Option, Some, None, if◌then◌else◌}
 use Rattle.std.specs.Prelude.{◌||◌, is_some, unwrap_or, fold}
 use Rattle.std.specs.Option.{option_or}
-use Rattle.std.proofs.lemmas.List.{drop_more}
 use Rattle.adj_tree.specs.Code.{plain, name_eq, Declaration, Procedure}
 use Rattle.adj_tree.proofs.Names.{name_same}
 use Rattle.adj_meaning.specs.Units.{declared}

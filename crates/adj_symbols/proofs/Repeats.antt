@@ -1,21 +1,21 @@
 -- Names that stand among those before them.
-use Rattle.std.proofs.Common.{◌≡◌, ℕ, ◌+◌, ◌<◌, Bool, true, false, List, [], ◌∷◌, ◌++◌, map, length, get_or, drop, refl, sym, ap, ap₂, ◌∙◌, Option, if◌then◌else◌}
+use Rattle.std.proofs.Common.{◌≡◌, ℕ, ◌+◌, ◌<◌, Bool, true, false, List, [], ◌∷◌, ◌++◌, length, get_or, drop, refl, sym, ap, ap₂, ◌∙◌, Option, if◌then◌else◌}
 use Rattle.std.specs.Prelude.{◌||◌, not, fold}
 use Rattle.std.proofs.lemmas.List.{drop_more}
 use Rattle.adj_tree.specs.Code.{name_eq}
-use Rattle.adj_tree.proofs.Names.{name_same, name_refl}
+use Rattle.adj_tree.proofs.Names.{name_same}
 use Rattle.adj_tree.specs.declared.fault.Refusal.{Refusal}
 use Rattle.adj_names.specs.Fresh.{has_name}
 use Rattle.adj_names.specs.Statements.{At}
 use Rattle.adj_names.specs.Variables.{Name}
 use Rattle.adj_names.specs.Fault.{fault, faults_if, again, first_of, sooner}
 use Rattle.adj_names.proofs.Order.{sooner-append}
-use Rattle.adj_symbols.specs.Table.{with_name, once}
-use Rattle.adj_symbols.specs.View.{place_of, places_of, names_at}
+use Rattle.adj_symbols.specs.Table.{with_name}
+use Rattle.adj_symbols.specs.View.{places_of, names_at}
 use Rattle.adj_symbols.specs.declared.places.Placed.{Placed}
 
 -- a name stands in a list with one more behind it
-has_behind : (x y : Name) (ys : List Name) → has_name x (ys ++ y ∷ []) ≡ has_name x (y ∷ ys)
+pub has_behind : (x y : Name) (ys : List Name) → has_name x (ys ++ y ∷ []) ≡ has_name x (y ∷ ys)
 has_behind x y [] = refl
 has_behind x y (z ∷ ys) = ap (λ b. name_eq x z || b) (has_behind x y ys) ∙ turned (name_eq x z) (name_eq x y) (has_name x ys)
   where

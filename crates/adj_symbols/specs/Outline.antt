@@ -2,7 +2,6 @@
 use Rattle.std.specs.Prelude.{◌≡◌, ℕ, List, [], ◌∷◌, length, Option, Some, None, if◌then◌else◌}
 use Rattle.std.specs.Borrow.{Bor}
 use Rattle.adj_tree.specs.Code.{name_eq, Declaration, Procedure}
-use Rattle.adj_tree.specs.View.{procedure_of}
 use Rattle.adj_tree.specs.declared.stmt.Stmt.{Stmt}
 use Rattle.adj_names.specs.Statements.{statements}
 use Rattle.adj_names.specs.Variables.{Name}

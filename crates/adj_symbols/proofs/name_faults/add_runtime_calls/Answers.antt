@@ -1,5 +1,5 @@
 use Rattle.std.proofs.Common.{ap, ◌∙◌}
-use Rattle.std.specs.Prelude.{not, ◌||◌, ◌&&◌}
+use Rattle.std.specs.Prelude.{not, ◌&&◌}
 use Rattle.adj_names.specs.Fault.{fault, faults_if, first_of, sooner}
 use Rattle.adj_names.proofs.Order.{sooner_mapped}
 use Rattle.adj_tree.specs.Listed.{statement_of}

@@ -1,7 +1,4 @@
-use Rattle.std.proofs.Common.{ap, sym, ◌∙◌}
-use Rattle.std.specs.Prelude.{not}
-use Rattle.adj_names.specs.Fresh.{has_name}
-use Rattle.adj_symbols.specs.Table.{with_name}
+use Rattle.std.proofs.Common.{◌∙◌}
 use Rattle.adj_symbols.proofs.Repeats.{again_more, once_more}
 use Rattle.adj_symbols.proofs.places.add_again.Goals as goal
 
