@@ -1,8 +1,10 @@
 -- Lists of names and members of lists.
-use Rattle.std.proofs.Common.{◌≡◌, Bool, true, false, List, [], ◌∷◌, refl, ap, sym, ◌∙◌, subst}
+use Rattle.std.proofs.Common.{ℕ, Bor, ◌+◌, ◌<◌, length, get_or, drop, ◌≡◌, Bool, true, false, List, [], ◌∷◌, refl, ap, sym, ◌∙◌, subst}
 use Rattle.std.specs.Prelude.{◌||◌, not, filter, map, if◌then◌else◌}
+use Rattle.std.specs.Str.{bytes_eq}
+use Rattle.std.proofs.lemmas.List.{drop_more}
 use Rattle.adj_tree.specs.Code.{name_eq}
-use Rattle.adj_tree.proofs.Names.{name_same}
+use Rattle.adj_tree.proofs.Names.{name_same, name_eq-bytes}
 use Rattle.adj_names.specs.Fresh.{has_name}
 use Rattle.adj_names.specs.Statements.{At}
 use Rattle.adj_names.specs.Variables.{Name, first_places}
@@ -69,3 +71,15 @@ first_places-stand x (p ∷ ps) = go (name_eq x p.1) refl (first_places-stand x 
     go : (b : Bool) → name_eq x p.1 ≡ b → has_name x (names_at (first_places ps)) ≡ has_name x (names_at ps) → (b || has_name x (names_at (filter (λ q. not (name_eq p.1 q.1)) (first_places ps)))) ≡ (b || has_name x (names_at ps))
     go true e ih = refl
     go false e ih = other_stays x p.1 (first_places ps) e ∙ ih
+
+-- ---- looking for names among slices
+
+-- the names that slices are
+abbrev pub texts_of : List (Bor (List ℕ)) → List Name
+texts_of ks = map (λ k. k.now) ks
+
+-- a look for a name among what is left of the slices
+pub has_first : (x y : List ℕ) (ks : List (Bor (List ℕ))) (i : ℕ) (d : Bor (List ℕ)) (t : Bool) → y ≡ x → i < length ks → t ≡ bytes_eq y (get_or ks i d).now → has_name x (map (λ k. k.now) (drop i ks)) ≡ (t || has_name x (map (λ k. k.now) (drop (i + 1) ks)))
+has_first x y ks i d t p lt e =
+    ap (λ z. has_name x (map (λ k. k.now) z)) (drop_more ks i d lt)
+    ∙ ap (λ b. b || has_name x (map (λ k. k.now) (drop (i + 1) ks))) (name_eq-bytes x (get_or ks i d).now ∙ ap (λ z. bytes_eq z (get_or ks i d).now) (sym p) ∙ sym e)

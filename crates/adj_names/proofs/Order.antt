@@ -1,5 +1,5 @@
 -- The first of some faults: it is one of them, none is before it, and it doesn't depend on how they are listed.
-use Rattle.std.proofs.Common.{◌≡◌, inl, inr, ℕ, ◌++◌, ◌+◌, ◌<◌, length, drop, get_or, Bool, true, false, List, [], ◌∷◌, refl, ap, sym, ◌∙◌, subst, arith, Option, Some, None, if◌then◌else◌}
+use Rattle.std.proofs.Common.{map, ◌≡◌, inl, inr, ℕ, ◌++◌, ◌+◌, ◌<◌, length, drop, get_or, Bool, true, false, List, [], ◌∷◌, refl, ap, sym, ◌∙◌, subst, arith, Option, Some, None, if◌then◌else◌}
 use Rattle.std.specs.List.{flat_map}
 use Rattle.std.proofs.lemmas.List.{drop_more}
 use Rattle.std.proofs.lemmas.Bool.Decides.{nat_tests}
@@ -138,3 +138,40 @@ sooner_more f xs i d a b lt e =
     ap (λ z. sooner z (first_of (flat_map f (drop (i + 1) xs)))) e
     ∙ sooner-append a (f (get_or xs i d)) (flat_map f (drop (i + 1) xs))
     ∙ ap (λ z. sooner a (first_of (flat_map f z))) (sym (drop_more xs i d lt))
+
+-- ---- the order of faults doesn't count
+
+-- of two faults the first is the same whichever is looked at first
+sooner_two : (r s : Refusal) → earlier r (Some s) ≡ earlier s (Some r)
+sooner_two r s = go (is_before s r) (is_before r s) refl refl
+  where
+    go : (a b : Bool) → is_before s r ≡ a → is_before r s ≡ b → (if a then Some s else Some r) ≡ (if b then Some r else Some s)
+    go true true e d = absurd (let p = before_after s r e in cc)
+    go true false e d = refl
+    go false true e d = refl
+    go false false e d = ap Some (before_same r s d e)
+
+pub sooner_comm : (a b : Option Refusal) → sooner a b ≡ sooner b a
+sooner_comm None b = sym (sooner_none b)
+sooner_comm (Some r) None = refl
+sooner_comm (Some r) (Some s) = sooner_two r s
+
+-- a fault with itself
+pub sooner_same : (a : Option Refusal) → sooner a a ≡ a
+sooner_same None = refl
+sooner_same (Some r) = go (is_before r r) refl
+  where
+    go : (b : Bool) → is_before r r ≡ b → (if b then Some r else Some r) ≡ Some r
+    go true e = refl
+    go false e = refl
+
+-- the same where members are looked at by a view
+pub sooner_mapped : {X Y : Type 0} (view : X → Y) (f : Y → List Refusal) (xs : List X) (i : ℕ) (x : X) (a b : Option Refusal) → i < length xs → x ≡ get_or xs i x → b ≡ sooner a (first_of (f (view x))) → sooner b (first_of (flat_map f (map view (drop (i + 1) xs)))) ≡ sooner a (first_of (flat_map f (map view (drop i xs))))
+sooner_mapped view f xs i x a b lt is e =
+    ap (λ z. sooner z (first_of (flat_map f (map view (drop (i + 1) xs))))) e
+    ∙ sooner-append a (f (view x)) (flat_map f (map view (drop (i + 1) xs)))
+    ∙ ap (λ z. sooner a (first_of (flat_map f (map view z)))) (sym (drop_more xs i x lt ∙ ap (λ z. z ∷ drop (i + 1) xs) (sym is)))
+
+-- two lists of faults looked at one after the other
+pub sooner_then : (rs ss : List Refusal) (a b c : Option Refusal) → b ≡ sooner a (first_of rs) → c ≡ sooner b (first_of ss) → c ≡ sooner a (first_of (rs ++ ss))
+sooner_then rs ss a b c e d = d ∙ ap (λ z. sooner z (first_of ss)) e ∙ sooner-append a rs ss

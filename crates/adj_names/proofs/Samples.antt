@@ -1,8 +1,8 @@
 -- The worked programs are refused or accepted as they were worked out by hand.
 use Rattle.std.proofs.Common.{refl}
-use Rattle.adj_names.specs.Samples.{InAssignment, InTests, InLoops, InCall, InRuntime, AtAnyDepth, VariablesInOrder}
-use Rattle.adj_names.specs.NameSamples.{UnitNames, UndeclaredNames, RepeatedNames, Subscripts, Extents, ReservedVariables, RuntimeCalls, TooManyVariables, ManyVariables}
-use Rattle.adj_names.specs.CallSamples.{Actuals, ArrayArguments, Cycles, Chains, LongChains, WrittenVariables, WrittenExtents, SharedVariables, WrittenValues, Passes, Heads}
+use Rattle.adj_names.specs.Samples.{InAssignment, InTests, InLoops, InCall, InRuntime, AtAnyDepth, VariablesInOrder, EachReserved, FreshNames, Numbers}
+use Rattle.adj_names.specs.NameSamples.{UnitNames, UndeclaredNames, RepeatedNames, Subscripts, Extents, ReservedVariables, RuntimeCalls, TooManyVariables, ManyVariables, Letters}
+use Rattle.adj_names.specs.CallSamples.{Actuals, ArrayArguments, Cycles, Chains, LongChains, WrittenVariables, WrittenExtents, SharedVariables, WrittenValues, Passes, Heads, NoArrays, NoPlaces, AllKinds, Ends}
 
 pub in_assignment : InAssignment
 in_assignment = refl
@@ -84,3 +84,27 @@ long_chains = (refl, refl, refl, refl)
 
 pub many_variables : ManyVariables
 many_variables = (refl, refl, refl)
+
+pub each_reserved : EachReserved
+each_reserved = (refl, refl, refl, refl, refl, refl, refl, refl, refl, refl, refl, refl, refl, refl, refl, refl)
+
+pub fresh_names : FreshNames
+fresh_names = (refl, refl, refl, refl)
+
+pub numbers : Numbers
+numbers = (refl, refl, refl, refl, refl, refl, refl, refl, refl, refl, refl, refl, refl)
+
+pub letters : Letters
+letters = (refl, refl, refl, refl, refl, refl, refl)
+
+pub no_arrays : NoArrays
+no_arrays = (refl, refl)
+
+pub no_places : NoPlaces
+no_places = refl
+
+pub all_kinds : AllKinds
+all_kinds = (refl, refl)
+
+pub ends : Ends
+ends = (refl, refl, refl, refl, refl, refl, refl, refl, refl, refl, refl)

@@ -1,11 +1,12 @@
 -- Worked programs: what is refused of calls, chains and writes, and of heads.
-use Rattle.std.specs.Prelude.{◌≡◌, ℕ, zero, suc, ◌+◌, ◌*◌, List, [], ◌∷◌, ◌++◌, map, true, false, Some, None}
-use Rattle.adj_tree.specs.Code.{Term, plain, neg, pow, none, compare, is_less, push_word, pop_word, push_array, pop_array, zero_array, with_count, count_from, Act, choose, loop, during, runtime, Code, stop, given, Procedure}
+use Rattle.std.specs.Prelude.{◌≡◌, pos, ℕ, zero, suc, ◌+◌, ◌*◌, List, [], ◌∷◌, ◌++◌, map, true, false, Some, None}
+use Rattle.adj_tree.specs.Code.{step, lit, power_of, abs, end_reversal, Term, plain, neg, pow, none, compare, is_less, push_word, pop_word, push_array, pop_array, zero_array, with_count, count_from, Act, choose, loop, during, runtime, Code, stop, given, Procedure}
 use Rattle.adj_names.specs.Variables.{Name}
-use Rattle.adj_names.specs.Words.{A, B, G, H, I, J, K, M, N, P, X, Y, num, of, at_place, one_more, gets, gets_at, calling, thrice, if_less, only, lines, array, size, subroutine, Refuses, Accepts, Refused, Accepted}
+use Rattle.adj_names.specs.Words.{listed, A, B, G, H, I, J, K, M, N, P, X, Y, num, of, at_place, one_more, gets, gets_at, calling, thrice, if_less, only, lines, array, size, subroutine, Refuses, Accepts, Refused, Accepted}
 use Rattle.adj_names.specs.NameSamples.{numbered, empty_unit, of_i, with_arrays}
 use Rattle.adj_names.specs.Fault.{Rules, source_rules, run_rules, fault, passed}
-use Rattle.adj_names.specs.ChainFaults.{chain_faults}
+use Rattle.adj_names.specs.Calls.{leads, calls, chain, chain_within, chain_from}
+use Rattle.adj_names.specs.ChainFaults.{begins_chain, chain_faults}
 use Rattle.adj_names.specs.Check.{first_fault}
 use Rattle.adj_names.specs.HeadFaults.{first_head_fault, head_of}
 
@@ -43,6 +44,15 @@ Actuals =
     × Refused (calls_one (num 1 ∷ []) takes_list) 15 3
     × Accepted (calls_one (of B ∷ []) takes_table)
     × Refused (calls_one (of A ∷ []) takes_table) 15 3
+
+-- each kind of expression for a list, and for a scalar
+abbrev pub expressions : List Term
+expressions = lit (pos 1) ∷ neg (of I) ∷ one_more I ∷ pow (of I) 2 ∷ power_of (of I) (of K) ∷ abs (of I) ∷ []
+
+abbrev pub NoArrays : Type 0
+NoArrays =
+    (map (λ e. first_fault source_rules (calls_one (e ∷ []) takes_list)) expressions ≡ map (λ e. Some (fault 15 3)) expressions)
+    × (map (λ e. first_fault source_rules (calls_one (e ∷ []) takes_scalar)) expressions ≡ map (λ e. None) expressions)
 
 -- a runtime call takes an array where it says so
 abbrev pub ArrayArguments : Type 0
@@ -194,6 +204,36 @@ WrittenValues =
     × Accepted (calls_one (one_more I ∷ []) takes_scalar)
     × Refused (calls_one (of M ∷ one_more I ∷ []) (two_scalars (only 11 (gets K (num 1))))) 24 3
     × Accepted (calls_one (of M ∷ one_more I ∷ []) (two_scalars (only 11 (gets J (num 1)))))
+
+-- each kind of expression
+abbrev pub NoPlaces : Type 0
+NoPlaces = map (λ e. first_fault source_rules (calls_one (e ∷ []) writes_dummy)) expressions ≡ map (λ e. Some (fault 24 3)) expressions
+
+-- ---- a program with every kind of statement
+
+-- SUBROUTINE P(N,X), INTEGER X(N), and a DO whose number of snapshots is K, round an IF, a DO WHILE and a CALL
+abbrev pub with_all_kinds : List Procedure
+with_all_kinds =
+    subroutine 1 P (N ∷ X ∷ []) (array 2 X (given N ∷ []) ∷ [])
+    (step 3 (loop (plain I) (num 1) (of N) (num 1)
+    (step 4 (choose (compare is_less (at_place X (of I)) (num 1)) (only 5 (gets_at X (of I) (num 2))) (only 6 (during (compare is_less (of J) (num 3)) (only 7 (gets J (one_more J))))))
+    (only 8 (calling G (of X ∷ of J ∷ one_more I ∷ [])))) (count_from (plain K))) stop)
+    ∷ subroutine 10 G (X ∷ K ∷ M ∷ []) (array 11 X (size 3 ∷ []) ∷ []) (lines 12 (gets K (at_place X (of M)) ∷ []))
+    ∷ []
+
+abbrev pub AllKinds : Type 0
+AllKinds = Accepted with_all_kinds × Accepts run_rules with_all_kinds
+
+-- ---- ends of chains, and what begins none
+
+abbrev pub Ends : Type 0
+Ends =
+    (leads [] 0 G G ≡ true) × (leads (caller 1 P (G ∷ []) ∷ []) 0 P G ≡ false)
+    × (chain_from [] G ≡ 0) × (chain_within (empty_unit 1 G ∷ []) 0 G ≡ 0) × (chain_from (empty_unit 1 G ∷ []) H ≡ 0)
+    × (chain (λ n. 0) (lines 1 (gets I (num 1) ∷ runtime end_reversal ∷ [])) ≡ 0)
+    × (begins_chain (gets I (num 1)) ≡ false) × (begins_chain (runtime end_reversal) ≡ false) × (begins_chain (if_less (of I) (num 1) stop) ≡ false)
+    × (begins_chain (during (compare is_less (of I) (num 1)) stop) ≡ false)
+    × (calls (subroutine 1 P [] [] (lines 2 (gets I (num 1) ∷ calling G (of I ∷ []) ∷ calling H [] ∷ []))) ≡ (3, (G, listed (of I ∷ []))) ∷ (4, (H, none)) ∷ [])
 
 -- ---- the order of passes
 

@@ -1,8 +1,8 @@
 -- Faults of a program, and the first of them. (docs/REFUSALS.md, "Order")
-use Rattle.std.specs.Prelude.{ℕ, ◌==◌, nat_lt, List, [], ◌∷◌, ◌++◌, flat_map, Bool, true, false, ◌&&◌, ◌||◌, Option, Some, None, if◌then◌else◌}
+use Rattle.std.specs.Prelude.{ℕ, ◌==◌, nat_lt, List, [], ◌∷◌, ◌++◌, Bool, true, false, ◌&&◌, ◌||◌, Option, Some, None, if◌then◌else◌}
 use Rattle.std.specs.Option.{option_or}
-use Rattle.adj_tree.specs.Code.{name_eq}
 use Rattle.adj_tree.specs.declared.fault.Refusal.{Refusal}
+use Rattle.adj_names.specs.Fresh.{has_name}
 use Rattle.adj_names.specs.Statements.{At}
 use Rattle.adj_names.specs.Variables.{Name}
 
@@ -34,10 +34,10 @@ passed limit line = record { code = 21; line = line; number = limit }
 abbrev pub faults_if : Bool → Refusal → List Refusal
 faults_if b r = if b then r ∷ [] else []
 
--- a fault at each name that stands before it in the list
-abbrev pub again : ℕ → List (At Name) → List Refusal
-again code [] = []
-again code (p ∷ ps) = flat_map (λ q. faults_if (name_eq p.1 q.1) (fault code q.0)) ps ++ again code ps
+-- a fault at each name that is among those before it
+abbrev pub again : ℕ → List Name → List (At Name) → List Refusal
+again code before [] = []
+again code before (p ∷ ps) = faults_if (has_name p.1 before) (fault code p.0) ++ again code (p.1 ∷ before) ps
 
 -- ---- the first
 

@@ -10,7 +10,7 @@ use Rattle.adj_names.specs.Fault.{fault, faults_if, again, first_of}
 
 -- 23: a listed name that isn't a dummy of the head, or stands twice in its list
 abbrev pub listed_faults : Procedure → List Name → List Refusal
-listed_faults u listed = flat_map (λ x. faults_if (not (is_dummy u x)) (fault 23 0)) listed ++ again 23 (map (λ x. (0, x)) listed)
+listed_faults u listed = flat_map (λ x. faults_if (not (is_dummy u x)) (fault 23 0)) listed ++ again 23 [] (map (λ x. (0, x)) listed)
 
 -- 22: no unit has the head's name
 abbrev pub faults_of_head : Option Procedure → List Name → List Name → List Refusal

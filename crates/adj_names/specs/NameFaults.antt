@@ -27,7 +27,7 @@ undeclared u = flat_map (λ p. faults_if (not (is_integer u p.1)) (fault 7 p.0))
 -- ---- 8: names that are declared twice, or twice a dummy
 
 abbrev pub declared_twice : Procedure → List Refusal
-declared_twice u = again 8 (dummy_places u) ++ again 8 (declared_places u)
+declared_twice u = again 8 [] (dummy_places u) ++ again 8 [] (declared_places u)
 
 -- ---- 9: another number of subscripts than extents, an array's name where a value or a target stands
 

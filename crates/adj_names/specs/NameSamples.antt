@@ -1,7 +1,9 @@
 -- Worked programs: what is refused of units and of the names in them.
-use Rattle.std.specs.Prelude.{◌≡◌, ℕ, zero, suc, List, [], ◌∷◌, ◌++◌, true, Some, codes}
-use Rattle.adj_tree.specs.Code.{Term, plain, elem, none, more, compare, is_less, push_word, pop_control, push_control, begin_reversal, count_actions, give_action, count_from, Act, loop, during, runtime, stop, given, Declaration, Procedure}
-use Rattle.adj_names.specs.Variables.{Name}
+use Rattle.std.specs.Prelude.{◌≡◌, ℕ, zero, suc, List, [], ◌∷◌, ◌++◌, map, false, true, Some, None, codes}
+use Rattle.adj_tree.specs.Code.{shadow, helper, work, Term, plain, elem, none, more, compare, is_less, push_word, pop_control, push_control, begin_reversal, count_actions, give_action, count_from, Act, loop, during, runtime, stop, given, Declaration, Procedure}
+use Rattle.adj_names.specs.Standing.{standing}
+use Rattle.adj_names.specs.Variables.{Name, is_integer_name}
+use Rattle.adj_names.specs.CallFaults.{variable_rank}
 use Rattle.adj_names.specs.Fresh.{digits}
 use Rattle.adj_names.specs.Words.{A, B, G, H, I, J, K, M, N, P, X, num, of, at_place, one_more, listed, gets, gets_at, calling, thrice, if_less, only, lines, integer, array, size, subroutine, Refuses, Accepts, Refused, Accepted}
 use Rattle.adj_names.specs.Fault.{Rules, source_rules, run_rules, passed, first_of}
@@ -58,6 +60,16 @@ UndeclaredNames =
     × Refused (strict (integer 2 I ∷ []) (thrice J stop ∷ [])) 7 3
     × Refused (strict (integer 2 I ∷ []) (loop (plain I) (num 1) (num 2) (num 1) stop (count_from (plain K)) ∷ [])) 7 3
     × Refused (strict (integer 2 I ∷ array 2 J (given K ∷ []) ∷ []) []) 7 2
+
+-- first letters, and variables that aren't of a text
+abbrev pub Letters : Type 0
+Letters =
+    (is_integer_name [] ≡ false)
+    × (map is_integer_name (H ∷ I ∷ J ∷ N ∷ codes "O" ∷ codes "_I" ∷ codes "KA" ∷ codes "AK" ∷ []) ≡ false ∷ true ∷ true ∷ true ∷ false ∷ false ∷ true ∷ false ∷ [])
+    × (standing (Some 0) (shadow X) ≡ []) × (standing None (helper work 1) ≡ [])
+    × (variable_rank (subroutine 1 P [] (array 2 X (size 3 ∷ []) ∷ []) stop) (plain X) ≡ 1)
+    × (variable_rank (subroutine 1 P [] (array 2 X (size 3 ∷ []) ∷ []) stop) (shadow X) ≡ 0)
+    × (variable_rank (subroutine 1 P [] (array 2 X (size 3 ∷ []) ∷ []) stop) (helper work 1) ≡ 0)
 
 -- ---- 8: names that are declared twice
 

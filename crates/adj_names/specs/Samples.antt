@@ -1,10 +1,13 @@
 -- Worked programs: where names stand in statements, and what is refused of units, names and calls.
-use Rattle.std.specs.Prelude.{◌≡◌, ℕ, List, [], ◌∷◌, map, Some, None}
+use Rattle.std.specs.Prelude.{◌≡◌, ℕ, List, [], ◌∷◌, map, length, true, false, Some, None, codes}
 use Rattle.adj_tree.specs.Code.{plain, neg, bin, pow, power_of, abs, plus, times, none, compare, is_less, negation, conjunction, disjunction, push_word, pop_word, push_array, pop_array, push_control, pop_control, zero_array, begin_reversal, count_actions, give_action, end_reversal, with_count, count_from, Act, assign, choose, loop, during, runtime, Code, stop, step, given, Procedure}
 use Rattle.adj_names.specs.Statements.{statements}
 use Rattle.adj_names.specs.Standing.{Standing, in_act}
 use Rattle.adj_names.specs.Variables.{Name, variables}
-use Rattle.adj_names.specs.Words.{A, B, G, I, J, K, M, N, P, X, Y, num, of, at_place, one_more, listed, gets, calling, thrice, only, lines, integer, array, subroutine}
+use Rattle.adj_names.specs.Fresh.{candidate, fresh}
+use Rattle.adj_names.specs.Reserved.{runtime_names, reserved, is_runtime, is_reserved}
+use Rattle.adj_names.specs.Numbering.{all_statements, statement_count, width, point_before, point_after, point_inside, entry_point, end_point, point_count, node, node_count, is_small}
+use Rattle.adj_names.specs.Words.{A, B, G, H, I, J, K, M, N, P, X, Y, num, of, at_place, one_more, listed, gets, calling, thrice, only, lines, integer, array, subroutine}
 
 -- ---- where names stand
 
@@ -87,3 +90,46 @@ ordered = subroutine 1 P (Y ∷ N ∷ []) (array 2 A (given N ∷ []) ∷ intege
 -- the dummies, the declared local, and the implicit locals as they appear: a target before what stands right of it
 abbrev pub VariablesInOrder : Type 0
 VariablesInOrder = variables ordered ≡ Y ∷ N ∷ A ∷ J ∷ I ∷ K ∷ M ∷ []
+
+-- ---- reserved names
+
+abbrev pub EachReserved : Type 0
+EachReserved =
+    (reserved ≡ codes "ABS" ∷ codes "IABS" ∷ codes "MAX" ∷ codes "MAX0" ∷ codes "MIN" ∷ codes "MIN0" ∷ codes "MOD" ∷ runtime_names)
+    × (is_reserved (codes "IABS") ≡ true) × (is_reserved (codes "ADACT") ≡ true) × (is_reserved (codes "PUSHCONTROL1B") ≡ true)
+    × (is_reserved (codes "ADB") ≡ false) × (is_reserved (codes "MAX1") ≡ false)
+    × (is_runtime (codes "POPINTEGER8ARRAY") ≡ true) × (is_runtime (codes "ADZERO8") ≡ true) × (is_runtime (codes "POPCONTROL1B") ≡ true)
+    × (is_runtime (codes "ADBEG") ≡ true) × (is_runtime (codes "ADEND") ≡ true) × (is_runtime (codes "ADACTN") ≡ true)
+    × (is_runtime (codes "PUSHINTEGER8") ≡ true) × (is_runtime (codes "POPINTEGER8") ≡ true) × (is_runtime (codes "PUSHINTEGER8ARRAY") ≡ true)
+    × (is_runtime (codes "MAX") ≡ false)
+
+-- ---- fresh names
+
+abbrev pub FreshNames : Type 0
+FreshNames =
+    (fresh (codes "XB") [] ≡ codes "XB")
+    × (fresh (codes "XB") (codes "XB" ∷ codes "XB_2" ∷ []) ≡ codes "XB_1")
+    × (fresh (codes "XB") (codes "XB_1" ∷ codes "XB" ∷ []) ≡ codes "XB_2")
+    × (candidate (codes "P_B") 120 ≡ codes "P_B_120")
+
+-- ---- numbers of statements, points and nodes
+
+-- a unit of six statements and two of one, of five variables at most
+abbrev pub three_units : List Procedure
+three_units = subroutine 1 P (N ∷ []) [] nested ∷ subroutine 11 G (I ∷ []) [] (only 12 (gets I (num 1))) ∷ subroutine 14 H [] [] (only 15 (gets J (of K))) ∷ []
+
+abbrev pub Numbers : Type 0
+Numbers =
+    (map (λ s. s.0) (all_statements three_units) ≡ 1 ∷ 2 ∷ 3 ∷ 4 ∷ 5 ∷ 6 ∷ 12 ∷ 15 ∷ [])
+    × (statement_count three_units ≡ 8)
+    × (map (λ u. length (variables u)) three_units ≡ 5 ∷ 1 ∷ 2 ∷ [])
+    × (width three_units ≡ 5)
+    × (map point_before (0 ∷ 1 ∷ 7 ∷ []) ≡ 0 ∷ 3 ∷ 21 ∷ [])
+    × (map point_after (0 ∷ 1 ∷ 7 ∷ []) ≡ 1 ∷ 4 ∷ 22 ∷ [])
+    × (map point_inside (0 ∷ 1 ∷ 7 ∷ []) ≡ 2 ∷ 5 ∷ 23 ∷ [])
+    × (map (entry_point three_units) (0 ∷ 1 ∷ 2 ∷ []) ≡ 24 ∷ 26 ∷ 28 ∷ [])
+    × (map (end_point three_units) (0 ∷ 1 ∷ 2 ∷ []) ≡ 25 ∷ 27 ∷ 29 ∷ [])
+    × (point_count three_units ≡ 30)
+    × (node three_units 3 2 ≡ 17)
+    × (node_count three_units ≡ 150)
+    × (is_small three_units ≡ true)

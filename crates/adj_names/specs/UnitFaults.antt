@@ -1,5 +1,5 @@
 -- Faults of units: names that no unit may have. (docs/REFUSALS.md, "Units")
-use Rattle.std.specs.Prelude.{List, ◌++◌, map, flat_map}
+use Rattle.std.specs.Prelude.{List, [], ◌++◌, map, flat_map}
 use Rattle.adj_tree.specs.Code.{Procedure}
 use Rattle.adj_tree.specs.declared.fault.Refusal.{Refusal}
 use Rattle.adj_names.specs.Statements.{At}
@@ -17,7 +17,7 @@ reserved_units ps = flat_map (λ p. faults_if (is_reserved p.1) (fault 18 p.0)) 
 
 -- 19: two units of one name
 abbrev pub repeated_units : List Procedure → List Refusal
-repeated_units ps = again 19 (unit_places ps)
+repeated_units ps = again 19 [] (unit_places ps)
 
 abbrev pub unit_faults : List Procedure → List Refusal
 unit_faults ps = reserved_units ps ++ repeated_units ps

@@ -7,7 +7,9 @@
 #![tactic(auto)]
 
 mod laws;
+mod reserved;
 mod worked;
 
 pub use laws::{fault_laws, fresh_laws, variable_laws};
+pub use reserved::{is_reserved, is_runtime};
 pub use worked::{call_examples, name_examples, standing_examples};

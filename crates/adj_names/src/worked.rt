@@ -1,10 +1,10 @@
 //! Worked programs, each claim about them the contract of an empty function.
 
-ghost use Rattle.adj_names.specs.Samples.{InAssignment, InTests, InLoops, InCall, InRuntime, AtAnyDepth, VariablesInOrder};
-ghost use Rattle.adj_names.specs.NameSamples.{UnitNames, UndeclaredNames, RepeatedNames, Subscripts, Extents, ReservedVariables, RuntimeCalls, TooManyVariables, ManyVariables};
-ghost use Rattle.adj_names.specs.CallSamples.{Actuals, ArrayArguments, Cycles, Chains, LongChains, WrittenVariables, WrittenExtents, SharedVariables, WrittenValues, Passes, Heads};
+ghost use Rattle.adj_names.specs.Samples.{InAssignment, InTests, InLoops, InCall, InRuntime, AtAnyDepth, VariablesInOrder, EachReserved, FreshNames, Numbers};
+ghost use Rattle.adj_names.specs.NameSamples.{UnitNames, UndeclaredNames, RepeatedNames, Subscripts, Extents, ReservedVariables, RuntimeCalls, TooManyVariables, ManyVariables, Letters};
+ghost use Rattle.adj_names.specs.CallSamples.{Actuals, ArrayArguments, Cycles, Chains, LongChains, WrittenVariables, WrittenExtents, SharedVariables, WrittenValues, Passes, Heads, NoArrays, NoPlaces, AllKinds, Ends};
 
-/// Where names stand in statements, and the variables of a unit.
+/// Where names stand in statements, the variables of a unit, reserved and fresh names, and numbers.
 pub fn standing_examples()
     ensures in_assignment { InAssignment }
     ensures in_tests { InTests }
@@ -13,6 +13,9 @@ pub fn standing_examples()
     ensures in_runtime { InRuntime }
     ensures at_any_depth { AtAnyDepth }
     ensures variables_in_order { VariablesInOrder }
+    ensures each_reserved { EachReserved }
+    ensures fresh_names { FreshNames }
+    ensures numbers { Numbers }
 {}
 
 /// Units and names that are refused, and such that aren't.
@@ -26,6 +29,7 @@ pub fn name_examples()
     ensures runtime_calls { RuntimeCalls }
     ensures too_many_variables { TooManyVariables }
     ensures many_variables { ManyVariables }
+    ensures letters { Letters }
 {}
 
 /// Calls, chains and writes that are refused, and such that aren't, and heads.
@@ -41,4 +45,8 @@ pub fn call_examples()
     ensures written_values { WrittenValues }
     ensures passes { Passes }
     ensures heads { Heads }
+    ensures no_arrays { NoArrays }
+    ensures no_places { NoPlaces }
+    ensures all_kinds { AllKinds }
+    ensures ends { Ends }
 {}

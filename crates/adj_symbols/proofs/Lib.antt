@@ -1,1 +1,4 @@
 pub mod Tables
+pub mod Repeats
+pub mod Outlines
+pub mod Onces

@@ -1,3 +1,4 @@
 -- What clauses see of the tables and lists of this crate.
 pub mod Table
 pub mod View
+pub mod Outline

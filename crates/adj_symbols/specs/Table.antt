@@ -1,5 +1,5 @@
 -- Tables of names.
-use Rattle.std.specs.Prelude.{ℕ, List, [], ◌∷◌, ◌++◌, Option, Some, None, is_some, if◌then◌else◌}
+use Rattle.std.specs.Prelude.{ℕ, List, [], ◌∷◌, ◌++◌, Option, Some, None, is_some, fold, if◌then◌else◌}
 use Rattle.adj_tree.specs.Code.{name_eq}
 use Rattle.adj_names.specs.Fresh.{has_name}
 use Rattle.adj_names.specs.Variables.{Name}
@@ -7,6 +7,10 @@ use Rattle.adj_names.specs.Variables.{Name}
 -- the names with one more behind them, where it isn't among them
 abbrev pub with_name : List Name → Name → List Name
 with_name xs x = if has_name x xs then xs else xs ++ x ∷ []
+
+-- some names, each once
+abbrev pub once : List Name → List Name
+once xs = fold with_name [] xs
 
 -- the number of a name
 abbrev pub value_of : Name → List (Name × ℕ) → Option ℕ

@@ -8,6 +8,8 @@ use Rattle.adj_tree.specs.declared.stmt.Stmt.{Stmt}
 use Rattle.adj_names.specs.Statements.{At}
 use Rattle.adj_names.specs.Standing.{Standing, count_of}
 use Rattle.adj_names.specs.NameFaults.{taken_in}
+use Rattle.adj_names.specs.Variables.{Name}
+use Rattle.adj_symbols.specs.declared.places.Placed.{Placed}
 use Rattle.adj_symbols.specs.declared.standing.Stands.{Stands}
 use Rattle.adj_symbols.specs.declared.standing.Stands.TheVariants.{Scalar, Element, Whole}
 use Rattle.adj_symbols.specs.declared.standing.Use.{Use}
@@ -36,3 +38,18 @@ at_line line ns = map (λ n. (line, n)) ns
 -- the names that stand in statements, in order
 abbrev pub taken_at : Bool → List (At code.Act) → List (At Standing)
 taken_at takes_runtime ss = flat_map (λ s. at_line s.0 (taken_in takes_runtime s.1)) ss
+
+-- names with their lines
+abbrev pub place_of : Placed → At Name
+place_of p = (p.line, p.name.now)
+
+abbrev pub places_of : List Placed → List (At Name)
+places_of ps = map place_of ps
+
+-- the names at some places
+abbrev pub names_at : List (At Name) → List Name
+names_at ps = map (λ p. p.1) ps
+
+-- where a name stands that is used
+abbrev pub used_place : At Standing → At Name
+used_place u = (u.0, u.1.name)

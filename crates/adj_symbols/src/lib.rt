@@ -5,7 +5,11 @@
 //! `adj_names`, whose definitions say what is a fault and which comes first.
 #![tactic(auto)]
 
+mod extents;
 mod first;
+mod name_faults;
+mod outline;
+mod places;
 mod standing;
 mod statements;
 mod table;

@@ -1,5 +1,5 @@
 -- Each program is computed.
-use Rattle.adj_names.proofs.Samples.{actuals, array_arguments, cycles, chains, long_chains, written_variables, written_extents, shared_variables, written_values, passes, heads}
+use Rattle.adj_names.proofs.Samples.{actuals, array_arguments, cycles, chains, long_chains, written_variables, written_extents, shared_variables, written_values, passes, heads, no_arrays, no_places, all_kinds, ends}
 use Rattle.adj_names.proofs.worked.call_examples.Goals as goal
 
 pub returns-clause-actuals : goal.returns-clause-actuals
@@ -34,3 +34,15 @@ returns-clause-passes c = passes
 
 pub returns-clause-heads : goal.returns-clause-heads
 returns-clause-heads c = heads
+
+pub returns-clause-no_arrays : goal.returns-clause-no_arrays
+returns-clause-no_arrays c = no_arrays
+
+pub returns-clause-no_places : goal.returns-clause-no_places
+returns-clause-no_places c = no_places
+
+pub returns-clause-all_kinds : goal.returns-clause-all_kinds
+returns-clause-all_kinds c = all_kinds
+
+pub returns-clause-ends : goal.returns-clause-ends
+returns-clause-ends c = ends

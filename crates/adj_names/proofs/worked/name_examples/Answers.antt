@@ -1,5 +1,5 @@
 -- Each program is computed.
-use Rattle.adj_names.proofs.Samples.{unit_names, undeclared_names, repeated_names, subscripts, extents, reserved_variables, runtime_calls, too_many_variables, many_variables}
+use Rattle.adj_names.proofs.Samples.{unit_names, undeclared_names, repeated_names, subscripts, extents, reserved_variables, runtime_calls, too_many_variables, many_variables, letters}
 use Rattle.adj_names.proofs.worked.name_examples.Goals as goal
 
 pub returns-clause-unit_names : goal.returns-clause-unit_names
@@ -28,3 +28,6 @@ returns-clause-too_many_variables c = too_many_variables
 
 pub returns-clause-many_variables : goal.returns-clause-many_variables
 returns-clause-many_variables c = many_variables
+
+pub returns-clause-letters : goal.returns-clause-letters
+returns-clause-letters c = letters

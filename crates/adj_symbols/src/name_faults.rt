@@ -1,0 +1,152 @@
+//! The faults of the names in a unit.
+
+ghost use Rattle.std.specs.Prelude.{◌≡◌, ◌++◌, ◌==◌, ◌||◌, ◌&&◌, not, is_some, ℕ, List, map, flat_map, IfOk, OnOk, if◌then◌else◌};
+ghost use Rattle.adj_tree.specs.View.{terms_of, act_of, declaration_of, procedure_of};
+ghost use Rattle.adj_names.specs.Fresh.{has_name};
+ghost use Rattle.adj_names.specs.Reserved.{is_reserved};
+ghost use Rattle.adj_names.specs.Standing.{count_of};
+ghost use Rattle.adj_names.specs.Variables.{dummy_places, declared_places, is_integer};
+ghost use Rattle.adj_names.specs.NameFaults.{has_rank, calls_runtime};
+ghost use Rattle.adj_names.specs.Fault.{fault, faults_if, first_of, sooner};
+ghost use Rattle.adj_symbols.specs.View.{seen, use_of, uses_of, used_place, place_of, places_of};
+
+use crate::first::First;
+use crate::outline::Outline;
+use crate::places::Placed;
+use crate::standing::{Stands, Use};
+use crate::table::NameSet;
+use adj_names::{is_reserved, is_runtime};
+use adj_tree::{Act, Exprs, Memory, Name, Stmt, Unit};
+
+// Adds the dummies, which stand in the SUBROUTINE.
+fn add_dummies<'a>(unit: &'a Unit, out: &mut Vec<Placed<'a>>) -> Result<(), Memory>
+    ensures { OnOk result (places_of out.new.items ≡ places_of out.old.items ++ dummy_places (procedure_of unit.now)) }
+{
+    for name in unit.dummies.as_slice() {
+        out.push(Placed {
+            line: unit.line,
+            name,
+        })?;
+    }
+    Ok(())
+}
+
+// Adds the declared variables.
+fn add_declared<'a>(unit: &'a Unit, out: &mut Vec<Placed<'a>>) -> Result<(), Memory>
+    ensures { OnOk result (places_of out.new.items ≡ places_of out.old.items ++ declared_places (procedure_of unit.now)) }
+{
+    for decl in unit.decls.as_slice() {
+        out.push(Placed {
+            line: decl.line,
+            name: &decl.name,
+        })?;
+    }
+    Ok(())
+}
+
+// Adds the names that stand in statements.
+fn add_used<'a>(uses: &[Use<'a>], out: &mut Vec<Placed<'a>>) -> Result<(), Memory>
+    ensures { OnOk result (places_of out.new.items ≡ places_of out.old.items ++ map used_place (uses_of uses.now)) }
+{
+    for used in uses {
+        out.push(Placed {
+            line: used.line,
+            name: used.name,
+        })?;
+    }
+    Ok(())
+}
+
+/// Adds a fault at each name that isn't declared and is no integer by its first letter.
+pub(crate) fn add_undeclared(outline: &Outline<'_>, places: &[Placed<'_>], first: &mut First)
+    ensures { first.new ≡ sooner first.old (first_of (flat_map (λ p. faults_if (not (is_integer (procedure_of outline.now) p.1)) (fault 7 p.0)) (places_of places.now))) }
+{
+    for place in places {
+        first.add_if(!outline.is_integer(place.name), 7, place.line);
+    }
+}
+
+// Whether an intrinsic, a runtime call or a unit has the name.
+fn is_taken(unit_names: &NameSet<'_>, name: &Name) -> bool
+    ensures { result ≡ (is_reserved name.now || has_name name.now unit_names.now) }
+{
+    is_reserved(name) || unit_names.contains(name)
+}
+
+/// Adds a fault at each name that an intrinsic, a runtime call or a unit has.
+pub(crate) fn add_reserved_variables(
+    unit_names: &NameSet<'_>,
+    places: &[Placed<'_>],
+    first: &mut First,
+)
+    ensures { first.new ≡ sooner first.old (first_of (flat_map (λ p. faults_if (is_reserved p.1 || has_name p.1 unit_names.now) (fault 18 p.0)) (places_of places.now))) }
+{
+    for place in places {
+        first.add_if(is_taken(unit_names, place.name), 18, place.line);
+    }
+}
+
+// Whether there are so many expressions.
+fn counts(list: &Exprs, count: usize) -> bool
+    ensures { result ≡ (count_of (terms_of list.now) == count) }
+{
+    let mut rest = list;
+    let mut left = count;
+    while let Exprs::More(_, next) = rest {
+        if left == 0 {
+            return false;
+        }
+        left -= 1;
+        rest = next;
+    }
+    left == 0
+}
+
+// Whether a name stands with as many subscripts as it has extents, or as a whole.
+fn has_rank(outline: &Outline<'_>, used: &Use<'_>) -> bool
+    ensures { result ≡ has_rank (procedure_of outline.now) (use_of used.now).1 }
+{
+    match used.stands {
+        Stands::Scalar => outline.rank(used.name) == 0,
+        Stands::Element(subs) => counts(subs, outline.rank(used.name)),
+        Stands::Whole => true,
+    }
+}
+
+/// Adds a fault at each name that stands with another number of subscripts than it has extents.
+pub(crate) fn add_misused(outline: &Outline<'_>, uses: &[Use<'_>], first: &mut First)
+    ensures { first.new ≡ sooner first.old (first_of (flat_map (λ u. faults_if (not (has_rank (procedure_of outline.now) u.1)) (fault 9 u.0)) (uses_of uses.now))) }
+{
+    for used in uses {
+        first.add_if(!has_rank(outline, used), 9, used.line);
+    }
+}
+
+// Whether a statement is a CALL of a runtime name.
+fn calls_runtime(act: &Act) -> bool
+    ensures { result ≡ calls_runtime (act_of act.now) }
+{
+    match act {
+        Act::Call(name, _) => is_runtime(name),
+        Act::Run(_) => true,
+        Act::Assign(_, _) | Act::If(_, _, _) | Act::Loop(_, _, _, _, _, _) | Act::While(_, _) => {
+            false
+        }
+    }
+}
+
+// Whether a statement is one, where none is taken.
+fn is_stray(takes_runtime: bool, act: &Act) -> bool
+    ensures { result ≡ (not takes_runtime && calls_runtime (act_of act.now)) }
+{
+    !takes_runtime && calls_runtime(act)
+}
+
+/// Adds a fault at each CALL of a runtime name, where none is taken.
+pub(crate) fn add_runtime_calls(takes_runtime: bool, stmts: &[&Stmt], first: &mut First)
+    ensures { first.new ≡ sooner first.old (first_of (flat_map (λ s. faults_if (not takes_runtime && calls_runtime s.1) (fault 18 s.0)) (seen stmts.now))) }
+{
+    for stmt in stmts {
+        first.add_if(is_stray(takes_runtime, &stmt.act), 18, stmt.line);
+    }
+}
