@@ -3,6 +3,7 @@ pub mod Reaching
 pub mod Members
 pub mod Numbered
 pub mod Closure
+pub mod Sameness
 pub mod AsLists
 pub mod Scoped
 pub mod FlowListed
@@ -10,6 +11,8 @@ pub mod ShadowListed
 pub mod AdjointListed
 pub mod LiveListed
 pub mod HeldListed
+pub mod PartsListed
+pub mod Computing
 pub mod Variables
 pub mod Numbers
 pub mod Sets

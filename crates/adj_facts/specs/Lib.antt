@@ -14,3 +14,4 @@ pub mod Held
 pub mod Rules
 pub mod Closure
 pub mod Laws
+pub mod Computed

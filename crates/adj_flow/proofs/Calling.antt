@@ -10,6 +10,7 @@ use Rattle.adj_facts.specs.Problem.{Problem, statements_of, CallsUnit, IsHead}
 use Rattle.adj_facts.proofs.Members.{is_first, is_later, is_among, is_none}
 use Rattle.adj_reach.specs.Edges.{AreBelow}
 use Rattle.adj_facts.proofs.Numbered.{IsListed}
+use Rattle.adj_facts.proofs.PartsListed.{part_above, part_own}
 use Rattle.adj_flow.specs.Calls.{find_number, called_by, with_call, calls_in, calls_from}
 
 -- ---- units and their numbers
@@ -34,29 +35,6 @@ part_found t u i (p ∷ ps) name n e = go (name_eq p.name name) e (part_found t 
         (g : Part) × ((if b then Some (part t u i p) else find_part (parts_from t (suc u) (behind i p.body) ps) name) ≡ Some g) × (g.number ≡ n) × Contains (parts_from t u i (p ∷ ps)) g
     go true f r = (part t u i p, refl, (let h : u ≡ n = cc in h), is_first (part t u i p) (part t u i p) (parts_from t (suc u) (behind i p.body) ps) refl)
     go false f r = let q = r f in (q.0, q.1, q.2, is_later q.0 (part t u i p) (parts_from t (suc u) (behind i p.body) ps) q.3)
-
--- the numbers of units rise
-part_above : (t u i : ℕ) (ps : List Procedure) (g : Part) → Contains (parts_from t u i ps) g → (u ≤ g.number) × (g.number < u + length ps)
-part_above t u i [] g c = absurd (is_none g c)
-part_above t u i (p ∷ ps) g c = go (is_among g (part t u i p) (parts_from t (suc u) (behind i p.body) ps) c) (part_above t (suc u) (behind i p.body) ps g)
-  where
-    go : (part t u i p ≡ g) ⊎ Contains (parts_from t (suc u) (behind i p.body) ps) g → (Contains (parts_from t (suc u) (behind i p.body) ps) g → (suc u ≤ g.number) × (g.number < suc u + length ps)) → (u ≤ g.number) × (g.number < u + suc (length ps))
-    go (inl e) r = let n : u ≡ g.number = ap (λ z. z.number) e in (omega arith, omega arith)
-    go (inr d) r = let q = r d in (omega (arith, q.0), omega (arith, q.1))
-
-part_own : (t u i : ℕ) (ps : List Procedure) (f g : Part) → Contains (parts_from t u i ps) f → Contains (parts_from t u i ps) g → f.number ≡ g.number → f ≡ g
-part_own t u i [] f g c d e = absurd (is_none f c)
-part_own t u i (p ∷ ps) f g c d e =
-    go (is_among f (part t u i p) (parts_from t (suc u) (behind i p.body) ps) c) (is_among g (part t u i p) (parts_from t (suc u) (behind i p.body) ps) d) (λ a b. part_own t (suc u) (behind i p.body) ps f g a b e)
-  where
-    rest : List Part
-    rest = parts_from t (suc u) (behind i p.body) ps
-
-    go : (part t u i p ≡ f) ⊎ Contains rest f → (part t u i p ≡ g) ⊎ Contains rest g → (Contains rest f → Contains rest g → f ≡ g) → f ≡ g
-    go (inl a) (inl b) r = sym a ∙ b
-    go (inl a) (inr b) r = let n : u ≡ f.number = ap (λ z. z.number) a in absurd (omega (arith, (part_above t (suc u) (behind i p.body) ps g b).0))
-    go (inr a) (inl b) r = let n : u ≡ g.number = ap (λ z. z.number) b in absurd (omega (arith, (part_above t (suc u) (behind i p.body) ps f a).0))
-    go (inr a) (inr b) r = r a b
 
 -- the unit at a place
 part_at : (t u i : ℕ) (ps : List Procedure) (n : ℕ) → n < length ps → (g : Part) × (slice_get (parts_from t u i ps) n ≡ Some g) × (g.number ≡ u + n) × Contains (parts_from t u i ps) g
