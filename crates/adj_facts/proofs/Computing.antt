@@ -18,9 +18,9 @@ use Rattle.adj_facts.specs.Held as held
 use Rattle.adj_facts.specs.Held.{IsSaved}
 use Rattle.adj_facts.specs.Rules.{Scope, Covers, against, head_parts, part_steps, flow_steps, varied_starts, useful_starts, shadow_starts, shadow_steps, adjoint_starts, adjoint_steps, live_starts, live_steps, reads_list, held_starts, held_steps, may_save_list}
 use Rattle.adj_facts.specs.Closure.{is_in, closure, is_closed}
-use Rattle.adj_facts.specs.Computed.{same_number, same_node, same_adjoint, same_fact, scope_of, by_point, activity_of, liveness_of, saved_by, HasTable, with_live, with_activity, with_adjoints, with_useful, with_scope, computed}
+use Rattle.adj_facts.specs.Computed.{same_number, same_node, same_adjoint, same_fact, scope_of, by_point, activity_of, liveness_of, saved_by, HasTable, with_live, with_activity, with_adjoints, with_useful, with_scope, computed, Table, same_tables}
 use Rattle.adj_facts.proofs.Closure.{closure_exact, in_it, in_only}
-use Rattle.adj_facts.proofs.Sameness.{numbers_same, nodes_same, adjoints_same, facts_same}
+use Rattle.adj_facts.proofs.Sameness.{numbers_same, nodes_same, adjoints_same, facts_same, tables_same}
 use Rattle.adj_facts.proofs.AsLists.{reached_known, exact_by_lists}
 use Rattle.adj_facts.proofs.Sets.{both, and_both}
 use Rattle.adj_facts.proofs.PartsListed.{scope_covers}
@@ -135,3 +135,7 @@ computed_found k n h =
     let numbers : List ℕ = closure same_number (part_steps k) n (map (λ g. g.number) (head_parts k)) in
     let b = both (is_closed same_number (part_steps k) numbers) (with_scope k n (scope_of k numbers)).is_closed h in
     scope_found k (scope_of k numbers) (scope_covers k numbers (closure_exact numbers_same (part_steps k) (map (λ g. g.number) (head_parts k)) n b.0)) n b.1
+
+-- so the marks by them are those that exact analyses give
+pub computed_table : (k : Problem) (n : ℕ) (t : Table) → (computed k n).is_closed ≡ true → same_tables (computed k n).table t ≡ true → HasTable k t
+computed_table k n t h e = let f = computed_found k n h in record { activity = f.activity; live = f.live; saved = f.saved; held = f.held; analysed = f.analysed; table = f.table ∙ tables_same (computed k n).table t e }

@@ -13,6 +13,7 @@ pub mod LiveListed
 pub mod HeldListed
 pub mod PartsListed
 pub mod Computing
+pub mod Examples
 pub mod Variables
 pub mod Numbers
 pub mod Sets

@@ -1,13 +1,14 @@
 -- The units that take part, by their numbers; and the scope that is made of them.
+use Rattle.adj_meaning.proofs.Variables.{var_same}
 use Rattle.std.proofs.Common.{◌≡◌, ◌⊎◌, inl, inr, ℕ, suc, ◌+◌, ◌<◌, ◌≤◌, List, [], ◌∷◌, ◌++◌, Bool, true, false, refl, sym, ap, ◌∙◌, subst, arith, length}
-use Rattle.std.specs.Prelude.{Contains, ◌↔◌, map, flat_map, if◌then◌else◌}
+use Rattle.std.specs.Prelude.{Contains, ◌↔◌, map, flat_map, not, filter}
 use Rattle.std.proofs.lemmas.List.Elements.{Contains-append_left, Contains-append_right}
-use Rattle.adj_tree.specs.Code.{Var, plain, Terms, Procedure}
+use Rattle.adj_tree.specs.Code.{Var, plain, Terms, Procedure, var_eq}
 use Rattle.adj_transpose.specs.Marks.{behind}
 use Rattle.adj_facts.specs.Reached.{Reached, begins}
 use Rattle.adj_facts.specs.Parts.{Part, part, parts_from, statements_in, parts}
 use Rattle.adj_facts.specs.Standing.{Standing}
-use Rattle.adj_facts.specs.Variables.{has, standing_in}
+use Rattle.adj_facts.specs.Variables.{standing_in}
 use Rattle.adj_facts.specs.Problem.{Problem, statements_of, CallsUnit, IsHead}
 use Rattle.adj_facts.specs.Rules.{Covers, called, head_parts, part_steps}
 use Rattle.adj_facts.specs.Closure.{is_in}
@@ -16,7 +17,6 @@ use Rattle.adj_facts.proofs.Members.{is_first, is_later, is_among, is_none, map_
 use Rattle.adj_facts.proofs.Numbered.{IsListed, exact_by_number}
 use Rattle.adj_facts.proofs.Numbers.{found_part, part_is_there}
 use Rattle.adj_facts.proofs.Scoped.{called_has, called_only, head_has, head_only}
-use Rattle.adj_facts.proofs.Variables.{has_only}
 
 -- ---- numbers of units
 
@@ -82,13 +82,15 @@ module _ (k : Problem) where
 
   distinct_has : (xs : List Var) (v : Var) → Contains xs v → Contains (distinct xs) v
   distinct_has [] v c = c
-  distinct_has (x ∷ xs) v c = go (has xs x) refl (is_among v x xs c) (distinct_has xs v)
+  distinct_has (x ∷ xs) v c = go (var_eq v x) refl (is_among v x xs c) (distinct_has xs v)
     where
-      go : (b : Bool) → has xs x ≡ b → (x ≡ v) ⊎ Contains xs v → (Contains xs v → Contains (distinct xs) v) → Contains (if b then distinct xs else x ∷ distinct xs) v
-      go true h (inl e) r = r (subst (λ z. Contains xs z) e (has_only xs x h))
-      go true h (inr d) r = r d
-      go false h (inl e) r = is_first v x (distinct xs) e
-      go false h (inr d) r = is_later v x (distinct xs) (r d)
+      rest : List Var
+      rest = filter (λ z. not (var_eq z x)) (distinct xs)
+
+      go : (b : Bool) → var_eq v x ≡ b → (x ≡ v) ⊎ Contains xs v → (Contains xs v → Contains (distinct xs) v) → Contains (x ∷ filter (λ z. not (var_eq z x)) (distinct xs)) v
+      go b h (inl e) r = is_first v x rest e
+      go true h (inr d) r = is_first v x rest (sym (var_same v x h))
+      go false h (inr d) r = is_later v x rest (filter_has (λ z. not (var_eq z x)) (distinct xs) v (r d) (ap not h))
 
   pub scope_covers : (numbers : List ℕ) → ((n : ℕ) → (is_in same_number numbers n ≡ true) ↔ Reached (λ m. Contains (map (λ g. g.number) (head_parts k)) m) (λ m j. Contains (part_steps k) (m, j)) n) → Covers k (scope_of k numbers)
   scope_covers numbers exact = record {

@@ -1,13 +1,13 @@
 -- What the tests of sameness call the same is so.
-use Rattle.std.proofs.Common.{◌≡◌, true, refl, ap}
-use Rattle.std.specs.Prelude.{◌==◌}
+use Rattle.std.proofs.Common.{◌≡◌, true, refl, ap, Bool, false, List, [], ◌∷◌}
+use Rattle.std.specs.Prelude.{◌==◌, ◌&&◌}
 use borrow.Author.Tests.{eq-eqb, eqb-true}
 use Rattle.adj_tree.specs.Code.{var_eq, name_eq}
 use Rattle.adj_tree.proofs.Names.{name_same, name_refl}
 use Rattle.adj_meaning.proofs.Variables.{var_refl, var_same}
 use Rattle.adj_facts.specs.Activity.{Adjoint, statement, unit}
 use Rattle.adj_facts.specs.Live.{Fact, needed, kept, wanted}
-use Rattle.adj_facts.specs.Computed.{same_number, same_node, same_adjoint, same_fact}
+use Rattle.adj_facts.specs.Computed.{same_number, same_node, same_adjoint, same_fact, Row, Table, same_lists, same_truths, same_rows, same_tables}
 use Rattle.adj_facts.proofs.Sets.{both, and_both}
 use Rattle.adj_facts.proofs.Closure.{IsSame}
 
@@ -51,3 +51,35 @@ fact_self (wanted u d) = and_both (eq-eqb u u refl) (name_refl d)
 
 pub facts_same : IsSame same_fact
 facts_same = record { same_is = fact_is; is_same = fact_self }
+
+-- ---- tables
+
+lists_same : {A : Type 0} {same : A → A → Bool} → ((x y : A) → same x y ≡ true → x ≡ y) → (xs ys : List A) → same_lists same xs ys ≡ true → xs ≡ ys
+lists_same f [] [] h = refl
+lists_same f [] (y ∷ ys) h = absurd cc
+lists_same f (x ∷ xs) [] h = absurd cc
+lists_same {A} {same} f (x ∷ xs) (y ∷ ys) h = let b = both (same x y) (same_lists same xs ys) h in let p : x ≡ y = f x y b.0 in let q : xs ≡ ys = lists_same f xs ys b.1 in λ i. p i ∷ q i
+
+truths_same : (b c : Bool) → same_truths b c ≡ true → b ≡ c
+truths_same true true h = refl
+truths_same true false h = absurd cc
+truths_same false true h = absurd cc
+truths_same false false h = refl
+
+rows_same : (r s : Row) → same_rows r s ≡ true → r ≡ s
+rows_same r s h =
+    let b = both (same_truths r.adjointed s.adjointed) (same_truths r.kept s.kept && same_lists var_eq r.saved s.saved) h in
+    let c = both (same_truths r.kept s.kept) (same_lists var_eq r.saved s.saved) b.1 in
+    let p = truths_same r.adjointed s.adjointed b.0 in
+    let q = truths_same r.kept s.kept c.0 in
+    let v = lists_same var_same r.saved s.saved c.1 in
+    λ i. record { adjointed = p i; kept = q i; saved = v i }
+
+pub tables_same : (t u : Table) → same_tables t u ≡ true → t ≡ u
+tables_same t u h =
+    let b = both (same_lists same_rows t.rows u.rows) (same_lists (same_lists var_eq) t.shadows u.shadows && same_lists (same_lists name_eq) t.entries u.entries) h in
+    let c = both (same_lists (same_lists var_eq) t.shadows u.shadows) (same_lists (same_lists name_eq) t.entries u.entries) b.1 in
+    let p = lists_same rows_same t.rows u.rows b.0 in
+    let q = lists_same (lists_same var_same) t.shadows u.shadows c.0 in
+    let v = lists_same (lists_same name_same) t.entries u.entries c.1 in
+    λ i. record { rows = p i; shadows = q i; entries = v i }

@@ -1,10 +1,10 @@
 -- The analyses of a program, computed: each set in some passes over its steps.
-use Rattle.std.specs.Prelude.{◌≡◌, ℕ, List, [], ◌∷◌, ◌++◌, map, flat_map, filter, Bool, false, ◌&&◌, ◌||◌, ◌==◌, if◌then◌else◌}
+use Rattle.std.specs.Prelude.{◌≡◌, ℕ, List, [], ◌∷◌, ◌++◌, map, flat_map, filter, Bool, false, ◌&&◌, ◌||◌, ◌==◌, true, not}
 use Rattle.adj_tree.specs.Code.{Var, plain, var_eq, name_eq}
 use Rattle.adj_transpose.specs.Marks.{Vars, point_before}
 use Rattle.adj_facts.specs.Parts.{Part, parts}
 use Rattle.adj_facts.specs.Standing.{Standing}
-use Rattle.adj_facts.specs.Variables.{has, standing_in}
+use Rattle.adj_facts.specs.Variables.{standing_in}
 use Rattle.adj_facts.specs.Problem.{Problem, statements_of}
 use Rattle.adj_facts.specs.Flow.{Node}
 use Rattle.adj_facts.specs.Activity.{Activity, Adjoint, statement, unit}
@@ -40,10 +40,10 @@ same_fact (wanted u d) (wanted w e) = (u == w) && name_eq d e
 
 -- ---- lists as sets
 
--- each once
+-- each once, where it first stands
 abbrev pub distinct : List Var → List Var
 distinct [] = []
-distinct (x ∷ xs) = if has xs x then distinct xs else x ∷ distinct xs
+distinct (x ∷ xs) = x ∷ filter (λ z. not (var_eq z x)) (distinct xs)
 
 -- the dummies of a unit and what stands in its statements
 abbrev pub variables_of : Part → List Var
@@ -87,6 +87,22 @@ table_of k a l saved = record {
   shadows = map (λ g. filter (a.shadowed g.number) (variables_of g)) (parts k.units);
   entries = map (λ g. filter (l.wanted g.number) g.unit.dummies) (parts k.units);
 }
+
+abbrev pub same_lists : {A : Type 0} → (A → A → Bool) → List A → List A → Bool
+same_lists same [] [] = true
+same_lists same [] (y ∷ ys) = false
+same_lists same (x ∷ xs) [] = false
+same_lists same (x ∷ xs) (y ∷ ys) = same x y && same_lists same xs ys
+
+abbrev pub same_truths : Bool → Bool → Bool
+same_truths true b = b
+same_truths false b = not b
+
+abbrev pub same_rows : Row → Row → Bool
+same_rows r s = same_truths r.adjointed s.adjointed && (same_truths r.kept s.kept && same_lists var_eq r.saved s.saved)
+
+abbrev pub same_tables : Table → Table → Bool
+same_tables t u = same_lists same_rows t.rows u.rows && (same_lists (same_lists var_eq) t.shadows u.shadows && same_lists (same_lists name_eq) t.entries u.entries)
 
 -- exact analyses of the program say this
 pub record HasTable (k : Problem) (t : Table) : Type 0 where

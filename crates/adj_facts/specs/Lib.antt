@@ -15,3 +15,5 @@ pub mod Rules
 pub mod Closure
 pub mod Laws
 pub mod Computed
+pub mod Writing
+pub mod Examples
