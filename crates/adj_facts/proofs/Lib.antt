@@ -1,11 +1,26 @@
 -- the lemmas of the crate
 pub mod Reaching
 pub mod Members
+pub mod Numbered
+pub mod Closure
+pub mod Sameness
+pub mod AsLists
+pub mod Scoped
+pub mod FlowListed
+pub mod ShadowListed
+pub mod AdjointListed
+pub mod LiveListed
+pub mod HeldListed
+pub mod PartsListed
+pub mod Computing
+pub mod Examples
+pub mod Variables
 pub mod Numbers
 pub mod Sets
 pub mod Occurring
 pub mod Holders
 pub mod Placed
+pub mod OwnPoints
 pub mod Active
 pub mod Closed
 pub mod Assigned

@@ -101,7 +101,7 @@ all_has (h ∷ hs) g s c d = go (is_among g h hs c) (λ e. all_has hs g s e d)
 
 -- ---- the units that take part are units
 
-found_part : (gs : List Part) (name : List ℕ) (g : Part) → find_part gs name ≡ Some g → Contains gs g
+pub found_part : (gs : List Part) (name : List ℕ) (g : Part) → find_part gs name ≡ Some g → Contains gs g
 found_part [] name g e = absurd cc
 found_part (h ∷ hs) name g e = go (name_eq h.unit.name name) e (found_part hs name g)
   where

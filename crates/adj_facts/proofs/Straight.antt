@@ -1,10 +1,9 @@
 -- The program emitted by the marks of the analyses is an adjoint, where the head is straight code over scalars.
-use Rattle.std.proofs.Common.{◌≡◌, ◌⊎◌, inl, inr, ℕ, zero, suc, List, [], ◌∷◌, ◌++◌, Bool, true, false, refl, sym, ap, ◌∙◌, subst}
+use Rattle.std.proofs.Common.{◌≡◌, ◌⊎◌, inl, inr, ℕ, zero, suc, List, [], ◌∷◌, Bool, true, false, refl, sym, ap, ◌∙◌, subst}
 use Rattle.std.specs.Prelude.{Contains, Some, slice_get, ◌||◌}
-use Rattle.std.proofs.lemmas.List.Elements.{Contains-append_right}
-use Rattle.adj_tree.specs.Code.{Var, plain, shadow, helper, name_eq, Term, Terms, none, more, assign, choose, loop, during, call, runtime, Code, stop, step, Procedure}
+use Rattle.adj_tree.specs.Code.{plain, shadow, helper, name_eq, Terms, none, more, assign, choose, loop, during, call, runtime, Code, stop, step, Procedure}
 use Rattle.adj_tree.proofs.Names.{name_same}
-use Rattle.adj_transpose.specs.Marks.{Vars, next, behind, point_before, point_after}
+use Rattle.adj_transpose.specs.Marks.{Vars, behind}
 use Rattle.adj_transpose.specs.Facts.{AreClosed}
 use Rattle.adj_transpose.specs.Fresh.{has_name}
 use Rattle.adj_transpose.specs.Program.{unit_at, unmarked}
@@ -13,7 +12,7 @@ use Rattle.adj_transpose.specs.MarkedAdjoint.{IsMarked, SuitHead}
 use Rattle.adj_transpose.proofs.MarkedAdjoints.{marked_is_adjoint}
 use Rattle.adj_facts.specs.Reached.{begins, leads}
 use Rattle.adj_facts.specs.Parts.{Part, part, parts_from, statements_in}
-use Rattle.adj_facts.specs.Ways.{Deed, passing, assigning, Way, way, act_ways, ways}
+use Rattle.adj_facts.specs.Ways.{passing}
 use Rattle.adj_facts.specs.Standing.{Place, outermost, Standing, standing}
 use Rattle.adj_facts.specs.Problem.{Problem, statements_of, ways_of, CallsUnit, IsHead, TakesPart, flagged}
 use Rattle.adj_facts.specs.Flow as flow
@@ -22,7 +21,7 @@ use Rattle.adj_facts.specs.Live as live
 use Rattle.adj_facts.specs.Held as held
 use Rattle.adj_facts.specs.Laws.{facts_of, OnlyAssigns, Analysed, AnalysedIsAdjoint, ActiveIsAdjoint}
 use Rattle.adj_facts.proofs.Members.{is_first, is_later, is_among, is_none}
-use Rattle.adj_facts.proofs.Placed.{way_of_statement}
+use Rattle.adj_facts.proofs.OwnPoints.{first_way, last_way, own_before, own_after}
 use Rattle.adj_facts.proofs.Closed.{shadows}
 use Rattle.adj_facts.proofs.Active.{active_facts, shadows_in}
 use Rattle.adj_facts.proofs.Lists.{straight_closed, active_closed}
@@ -53,31 +52,6 @@ no_call (step line (loop x first last by body m) rest) at i o s c name args e = 
 no_call (step line (during q body) rest) at i o s c name args e = o
 no_call (step line (call n es) rest) at i o s c name args e = o
 no_call (step line (runtime r) rest) at i o s c name args e = o
-
--- the first way of a list, and its last
-first_way : (i p q : ℕ) (last : Deed) (c : Code) → (w : Way) × Contains (ways i p q last c) w × (w.from ≡ p)
-first_way i p q last stop = (way p q last, is_first (way p q last) (way p q last) [] refl, refl)
-first_way i p q last (step line a rest) = (way p (point_before i) passing, is_first (way p (point_before i) passing) (way p (point_before i) passing) (act_ways i a ++ ways (next i a) (point_after i) q last rest) refl, refl)
-
-last_way : (i p q : ℕ) (last : Deed) (c : Code) → (w : Way) × Contains (ways i p q last c) w × (w.to ≡ q)
-last_way i p q last stop = (way p q last, is_first (way p q last) (way p q last) [] refl, refl)
-last_way i p q last (step line a rest) =
-    let r : (w : Way) × Contains (ways (next i a) (point_after i) q last rest) w × (w.to ≡ q) = last_way (next i a) (point_after i) q last rest in
-    (r.0, is_later r.0 (way p (point_before i) passing) (act_ways i a ++ ways (next i a) (point_after i) q last rest) (Contains-append_right (act_ways i a) (ways (next i a) (point_after i) q last rest) r.0 r.1), r.2)
-
--- the points before and after an assignment are points
-own_ends : (g : Part) (s : Standing) (x : Var) (subs : Terms) (e : Term) → Contains (statements_of g) s → s.act ≡ assign x subs e → activity.IsPoint g (point_before s.number) × activity.IsPoint g (point_after s.number)
-own_ends g s x subs e c h = go subs h
-  where
-    go : (subs : Terms) → s.act ≡ assign x subs e → activity.IsPoint g (point_before s.number) × activity.IsPoint g (point_after s.number)
-    go none h =
-        let w = way (point_before s.number) (point_after s.number) (assigning s.number x) in
-        let m : Contains (ways_of g) (way (point_before s.number) (point_after s.number) (assigning s.number x)) = way_of_statement g s w c (subst (λ a. Contains (act_ways s.number a) w) (sym h) (is_first w w [] refl)) in
-        ((w, m, inl refl), (w, m, inr refl))
-    go (more j js) h =
-        let w = way (point_before s.number) (point_after s.number) passing in
-        let m : Contains (ways_of g) (way (point_before s.number) (point_after s.number) passing) = way_of_statement g s w c (subst (λ a. Contains (act_ways s.number a) w) (sym h) (is_first w w [] refl)) in
-        ((w, m, inl refl), (w, m, inr refl))
 
 -- ---- the head
 
@@ -123,7 +97,7 @@ module _ (k : Problem) (g : Part) (is : IsHead k g) (only : OnlyAssigns g.unit.b
       let w = first_way g.first g.entry g.end passing g.unit.body in
       subst (λ (z : Part). activity.IsPoint g z.entry) (sym e) (w.0, w.1, inl w.2)
   varied_point n (leads r (flow.stays {g = f} {w = w} p c a b)) = (w, subst (λ z. Contains (ways_of z) w) (alone f p) c, inr refl)
-  varied_point n (leads r (flow.assigned {g = f} {s = s} p c a o)) = (own_ends g s _ _ _ (subst (λ z. Contains (statements_of z) s) (alone f p) c) a).1
+  varied_point n (leads r (flow.assigned {g = f} {s = s} p c a o)) = own_after g s (subst (λ z. Contains (statements_of z) s) (alone f p) c)
   varied_point n (leads r (flow.passed {f = f} {g = h} {s = s} p c b)) = absurd (no_calls f h s _ p c)
   varied_point n (leads r (flow.handed {f = f} {g = h} {s = s} p c b)) = absurd (no_calls f h s _ p c)
 
@@ -133,7 +107,7 @@ module _ (k : Problem) (g : Part) (is : IsHead k g) (only : OnlyAssigns g.unit.b
       let w = last_way g.first g.entry g.end passing g.unit.body in
       subst (λ (z : Part). activity.IsPoint g z.end) (sym e) (w.0, w.1, inr w.2)
   useful_point n (leads r (flow.stays {g = f} {w = w} p c a b)) = (w, subst (λ z. Contains (ways_of z) w) (alone f p) c, inl refl)
-  useful_point n (leads r (flow.assigned {g = f} {s = s} p c a o)) = (own_ends g s _ _ _ (subst (λ z. Contains (statements_of z) s) (alone f p) c) a).0
+  useful_point n (leads r (flow.assigned {g = f} {s = s} p c a o)) = own_before g s (subst (λ z. Contains (statements_of z) s) (alone f p) c)
   useful_point n (leads r (flow.passed {f = f} {g = h} {s = s} p c b)) = absurd (no_calls f h s _ p c)
   useful_point n (leads r (flow.handed {f = f} {g = h} {s = s} p c b)) = absurd (no_calls f h s _ p c)
 

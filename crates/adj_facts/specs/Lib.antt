@@ -4,10 +4,16 @@ pub mod Parts
 pub mod Ways
 pub mod Standing
 pub mod Occurrences
+pub mod Variables
 pub mod Problem
 pub mod Flow
 pub mod Activity
 pub mod Uses
 pub mod Live
 pub mod Held
+pub mod Rules
+pub mod Closure
 pub mod Laws
+pub mod Computed
+pub mod Writing
+pub mod Examples

@@ -4,5 +4,4 @@ pub mod Placing
 pub mod Sums
 pub mod Marking
 pub mod Searching
-pub mod Numbered
 pub mod Spreading

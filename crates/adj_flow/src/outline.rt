@@ -1,0 +1,186 @@
+//! The statements and the ways of units, from their trees: the statement of a number stands at its number.
+
+ghost use Rattle.std.specs.Prelude.{◌≡◌, ◌++◌, ◌∷◌, [], length, map, OnOk};
+ghost use Rattle.adj_tree.specs.Code.{plain};
+ghost use Rattle.adj_tree.specs.View.{act_of, code_of, mark_of, terms_of};
+ghost use Rattle.adj_facts.specs.Standing.{standing, body_of};
+ghost use Rattle.adj_facts.specs.Ways.{ways, act_ways};
+ghost use Rattle.adj_flow.specs.View.{place_of, standing_of, statement_at};
+ghost use Rattle.adj_flow.specs.WayView.{number_of, deed_of, assigned_by, way_of};
+
+use crate::standing::{Place, Standing};
+use crate::way::{Deed, Point, Way};
+use adj_tree::{Act, Exprs, Mark, Memory, Name, Stmts};
+
+/// Statements and ways.
+#[derive(Drop)]
+pub struct Outline<'a> {
+    pub statements: Vec<Standing<'a>>,
+    pub ways: Vec<Way<'a>>,
+}
+
+/// Adds the statements of a list and those in them, and the ways of the list: `from` leads to its first point, and its last point to `to`, on which `last` is done.
+#[cycle(outline)]
+pub fn add_list<'a>(
+    outline: &mut Outline<'a>,
+    place: Place<'a>,
+    from: Point,
+    to: Point,
+    last: Deed<'a>,
+    body: &'a Stmts,
+) -> Result<(), Memory>
+    ensures statements { OnOk result (map standing_of outline.new.statements.items ≡ map standing_of outline.old.statements.items ++ standing (place_of place.entry) (length outline.old.statements.items) (code_of body.now)) }
+    ensures ways { OnOk result (map way_of outline.new.ways.items ≡ map way_of outline.old.ways.items ++ ways (length outline.old.statements.items) (number_of from) (number_of to) (deed_of last.entry) (code_of body.now)) }
+{
+    let mut from = from;
+    let mut current = body;
+    while let Stmts::More(stmt, rest) = current {
+        let number = outline.statements.len();
+        outline.ways.push(Way {
+            from,
+            to: Point::Before(number),
+            deed: Deed::Passing,
+        })?;
+        add_statement(outline, place, &stmt.act)?;
+        from = Point::After(number);
+        current = rest;
+    }
+    outline.ways.push(Way {
+        from,
+        to,
+        deed: last,
+    })?;
+    Ok(())
+}
+
+// Adds a statement and those in it, and their ways.
+#[cycle(outline)]
+fn add_statement<'a>(
+    outline: &mut Outline<'a>,
+    place: Place<'a>,
+    act: &'a Act,
+) -> Result<(), Memory>
+    ensures statements { OnOk result (map standing_of outline.new.statements.items ≡ map standing_of outline.old.statements.items ++ statement_at (length outline.old.statements.items) (place_of place.entry) (act_of act.now)) }
+    ensures ways { OnOk result (map way_of outline.new.ways.items ≡ map way_of outline.old.ways.items ++ act_ways (length outline.old.statements.items) (act_of act.now)) }
+{
+    let number = outline.statements.len();
+    outline.statements.push(Standing { number, place, act })?;
+    match act {
+        Act::Assign(target, _) => {
+            let deed = assigning(number, &target.name, &target.subs);
+            add_way(outline, Point::Before(number), Point::After(number), deed)
+        }
+        Act::Call(_, args) => add_way(
+            outline,
+            Point::Before(number),
+            Point::After(number),
+            Deed::Calling(args),
+        ),
+        Act::Run(_) => add_way(
+            outline,
+            Point::Before(number),
+            Point::After(number),
+            Deed::Passing,
+        ),
+        Act::If(_, first, second) => {
+            add_list(
+                outline,
+                Place::PartOf(number),
+                Point::Before(number),
+                Point::After(number),
+                Deed::Passing,
+                first,
+            )?;
+            add_list(
+                outline,
+                Place::PartOf(number),
+                Point::Before(number),
+                Point::After(number),
+                Deed::Passing,
+                second,
+            )?;
+            Ok(())
+        }
+        Act::Loop(x, _, _, _, body, mark) => {
+            let inside = body_place(number, x, mark);
+            add_way(
+                outline,
+                Point::Before(number),
+                Point::Inside(number),
+                Deed::Assigning(number, x),
+            )?;
+            add_way(
+                outline,
+                Point::Inside(number),
+                Point::After(number),
+                Deed::Passing,
+            )?;
+            add_list(
+                outline,
+                inside,
+                Point::Inside(number),
+                Point::Inside(number),
+                Deed::Assigning(number, x),
+                body,
+            )?;
+            Ok(())
+        }
+        Act::While(_, body) => {
+            add_way(
+                outline,
+                Point::Before(number),
+                Point::Inside(number),
+                Deed::Passing,
+            )?;
+            add_way(
+                outline,
+                Point::Inside(number),
+                Point::After(number),
+                Deed::Passing,
+            )?;
+            add_list(
+                outline,
+                Place::PartOf(number),
+                Point::Inside(number),
+                Point::Inside(number),
+                Deed::Passing,
+                body,
+            )?;
+            Ok(())
+        }
+    }
+}
+
+// Adds a way.
+fn add_way<'a>(
+    outline: &mut Outline<'a>,
+    from: Point,
+    to: Point,
+    deed: Deed<'a>,
+) -> Result<(), Memory>
+    ensures statements { outline.new.statements ≡ outline.old.statements }
+    ensures ways { OnOk result (map way_of outline.new.ways.items ≡ map way_of outline.old.ways.items ++ record { from = number_of from; to = number_of to; deed = deed_of deed.entry } ∷ []) }
+{
+    outline.ways.push(Way { from, to, deed })?;
+    Ok(())
+}
+
+// What an assignment does on its way: a scalar is assigned whole.
+fn assigning<'a>(number: usize, name: &'a Name, subs: &Exprs) -> Deed<'a>
+    ensures { deed_of result ≡ assigned_by number (plain name.now) (terms_of subs.now) }
+{
+    match subs {
+        Exprs::Empty => Deed::Assigning(number, name),
+        Exprs::More(_, _) => Deed::Passing,
+    }
+}
+
+// Where the statements in the body of a DO stand.
+fn body_place<'a>(number: usize, x: &'a Name, mark: &Mark) -> Place<'a>
+    ensures { place_of result ≡ body_of number (plain x.now) (mark_of mark.now) }
+{
+    match mark {
+        Mark::Plain => Place::PartOf(number),
+        Mark::Count(_) | Mark::From(_) => Place::TurnOf(number, x),
+    }
+}

@@ -1,0 +1,126 @@
+//! Which units take part: those that calls reach from the head.
+
+ghost use Rattle.std.specs.Prelude.{◌≡◌, ◌↔◌, ◌+◌, ◌<◌, ◌^◌, ◌++◌, [], ◌∷◌, Contains, IfOk, IsTrue, OnOk, length, map};
+ghost use Rattle.adj_tree.specs.View.{act_of, code_of, procedure_of};
+ghost use Rattle.adj_transpose.specs.Marks.{behind};
+ghost use Rattle.adj_facts.specs.Parts.{Part, parts};
+ghost use Rattle.adj_facts.specs.Problem.{TakesPart};
+ghost use Rattle.adj_facts.specs.Standing.{standing, outermost};
+ghost use Rattle.adj_reach.specs.Edges.{flag};
+ghost use Rattle.adj_flow.specs.Calls.{find_number, called_by, with_call, calls_in, calls_from};
+ghost use Rattle.adj_flow.specs.View.{standing_of};
+
+use crate::outline::{Outline, add_list};
+use crate::standing::{Place, Standing};
+use crate::way::{Deed, Point};
+use adj_reach::reach;
+use adj_tree::{Act, Flags, Memory, Name, Unit};
+use std::alloc::Global;
+
+// The number of the unit of a name. (In the product a table of names finds it at once.)
+fn find_number(units: &[Unit], name: &Name) -> Option<usize>
+    ensures found { result ≡ find_number 0 (map procedure_of units.now) name.now }
+{
+    for (u, unit) in units.iter().enumerate() {
+        if unit.name.equals(name) {
+            return Some(u);
+        }
+    }
+    None
+}
+
+// The number of the unit that a statement calls.
+fn called_by(units: &[Unit], act: &Act) -> Option<usize>
+    ensures called { result ≡ called_by (map procedure_of units.now) (act_of act.now) }
+{
+    match act {
+        Act::Call(name, _) => find_number(units, name),
+        Act::Assign(_, _)
+        | Act::If(_, _, _)
+        | Act::Loop(_, _, _, _, _, _)
+        | Act::While(_, _)
+        | Act::Run(_) => None,
+    }
+}
+
+// Adds an edge to a unit, if there is one.
+fn add_call(
+    edges: &mut Vec<(usize, usize)>,
+    number: usize,
+    callee: Option<usize>,
+) -> Result<(), Memory>
+    ensures added { OnOk result (edges.new.items ≡ edges.old.items ++ with_call number callee []) }
+{
+    if let Some(callee) = callee {
+        edges.push((number, callee))?;
+    }
+    Ok(())
+}
+
+// Adds an edge for each call among the statements of the unit with this number.
+fn add_calls(
+    edges: &mut Vec<(usize, usize)>,
+    units: &[Unit],
+    number: usize,
+    statements: &[Standing],
+) -> Result<(), Memory>
+    ensures added { OnOk result (edges.new.items ≡ edges.old.items ++ calls_in (map procedure_of units.now) number (map standing_of statements.now)) }
+{
+    for statement in statements {
+        add_call(edges, number, called_by(units, statement.act))?;
+    }
+    Ok(())
+}
+
+// Adds the statements of a unit, and an edge for each call among them.
+fn add_unit<'a>(
+    outline: &mut Outline<'a>,
+    edges: &mut Vec<(usize, usize)>,
+    units: &[Unit],
+    number: usize,
+    unit: &'a Unit,
+) -> Result<(), Memory>
+    ensures statements { OnOk result (length outline.new.statements.items ≡ behind (length outline.old.statements.items) (code_of unit.now.body)) }
+    ensures edges { OnOk result (edges.new.items ≡ edges.old.items ++ calls_in (map procedure_of units.now) number (standing outermost (length outline.old.statements.items) (code_of unit.now.body))) }
+{
+    let first = outline.statements.len();
+    add_list(
+        outline,
+        Place::Outermost,
+        Point::At(0),
+        Point::At(0),
+        Deed::Passing,
+        &unit.body,
+    )?;
+    add_calls(edges, units, number, &outline.statements[first..])?;
+    Ok(())
+}
+
+// An edge for each call.
+fn calls<'a>(alloc: Global, units: &'a [Unit]) -> Result<Vec<(usize, usize)>, Memory>
+    ensures edges { IfOk result (λ edges. edges.items ≡ calls_from (map procedure_of units.now) 0 0 (map procedure_of units.now)) }
+{
+    let mut outline = Outline {
+        statements: Vec::new(alloc),
+        ways: Vec::new(alloc),
+    };
+    let mut edges = Vec::new(alloc);
+    for (number, unit) in units.iter().enumerate() {
+        add_unit(&mut outline, &mut edges, units, number, unit)?;
+    }
+    Ok(edges)
+}
+
+/// Which units take part where the unit of this number is the head, by number.
+pub fn taking_part(alloc: Global, units: &[Unit], head: usize) -> Result<Flags, Memory>
+    requires room { length units.now + 1 < 2 ^ 64 }
+    requires head { head < length units.now }
+    ensures count { IfOk result (λ flags. length flags ≡ length units.now) }
+    ensures exact { IfOk result (λ flags. (g : Part) → Contains (parts (map procedure_of units.now)) g →
+        (IsTrue (flag flags g.number) ↔ TakesPart (record { units = map procedure_of units.now; head = head; vars = []; outvars = [] }) g)) }
+{
+    let edges = calls(alloc, units)?;
+    let start = [head];
+    let flags = reach(alloc, units.len(), edges.as_slice(), &start)?;
+    Ok(flags)
+}
