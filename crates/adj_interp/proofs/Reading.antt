@@ -1,5 +1,5 @@
 -- What the slot of a number says of its variable.
-use Rattle.std.proofs.Common.{◌≡◌, ℕ, zero, suc, ◌+◌, ◌<◌, Bool, true, false, List, [], ◌∷◌, length, get_or, refl, ap, sym, ◌∙◌, arith, if◌then◌else◌}
+use Rattle.std.proofs.Common.{◌≡◌, ℕ, zero, suc, ◌<◌, false, List, [], ◌∷◌, length, get_or, refl, ap, sym, ◌∙◌, arith, if◌then◌else◌}
 use Rattle.std.specs.Prelude.{ℤ, pos, Result, Ok, Err, Option, Some, None, IfOk}
 use Rattle.adj_tree.specs.Code.{Var, name_eq}
 use Rattle.adj_tree.specs.declared.value.Trap.{Trap as CodeTrap}

@@ -1,13 +1,13 @@
 -- One cell of one slot becomes another.
-use Rattle.std.proofs.Common.{◌≡◌, ◌≢◌, ℕ, zero, suc, ◌+◌, ◌<◌, Bool, true, false, List, [], ◌∷◌, length, get_or, refl, sym, ap, subst, ◌∙◌, arith, get_or-set_same, get_or-set_other, if◌then◌else◌}
+use Rattle.std.proofs.Common.{◌≡◌, ◌≢◌, ℕ, zero, suc, ◌<◌, Bool, true, false, List, [], ◌∷◌, length, get_or, refl, sym, ap, subst, ◌∙◌, arith, get_or-set_same, get_or-set_other, if◌then◌else◌}
 use Rattle.std.specs.Prelude.{ℤ, pos, ◌==◌, ◌&&◌}
 use Rattle.std.proofs.Math.ListN.{set, length-set}
 use Rattle.std.proofs.lemmas.Grind.{get_or-set_at}
-use Rattle.adj_tree.specs.Code.{Var, plain, shadow, helper, name_eq, var_eq}
+use Rattle.adj_tree.specs.Code.{Var, plain, shadow, helper, name_eq}
 use Rattle.adj_tree.proofs.Names.{name_same}
 use Rattle.adj_meaning.specs.Store as store
 use Rattle.adj_meaning.specs.Store.{Shape, scalar, size_of, Store}
-use Rattle.adj_meaning.specs.Agree.{stands_among, AreApart}
+use Rattle.adj_meaning.specs.Agree.{AreApart}
 use Rattle.adj_interp.specs.declared.slot.Slot.{Slot}
 use Rattle.adj_interp.specs.Prepared.{var_at}
 use Rattle.adj_interp.specs.Framed.{in_slot, slot_shape, IsSlot, IsFrame, shapes_in, store_in}

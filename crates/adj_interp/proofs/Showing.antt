@@ -1,5 +1,5 @@
 -- What slots show of a store, expressions see.
-use Rattle.std.proofs.Common.{◌≡◌, ℕ, zero, suc, ◌<◌, Bool, List, [], ◌∷◌, refl, ap, sym, subst, ◌∙◌}
+use Rattle.std.proofs.Common.{◌≡◌, ℕ, ◌<◌, List, ◌∷◌, refl, ap, ◌∙◌}
 use Rattle.std.specs.Prelude.{ℤ, Result, Ok, Err, Option, Some, None, not, ◌&&◌, ◌||◌}
 use Rattle.adj_tree.specs.Code.{Var, Term, lit, var, elem, neg, bin, pow, power_of, abs, Terms, none, more, Test, compare, negation, conjunction, disjunction}
 use Rattle.adj_meaning.specs.Trap.{Trap, index, then_ok, or_trap}

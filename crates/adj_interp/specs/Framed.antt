@@ -1,5 +1,5 @@
 -- Framed: the store and the setting that the slots of an entry are.
-use Rattle.std.specs.Prelude.{◌≡◌, ℕ, zero, suc, ◌<◌, ◌≤◌, ℤ, pos, List, [], ◌∷◌, length, slice_index_or, Result, Ok, Err, Option, Some, None, if◌then◌else◌}
+use Rattle.std.specs.Prelude.{◌≡◌, ℕ, ◌<◌, ℤ, pos, List, [], ◌∷◌, length, slice_index_or, Result, Ok, Err, None, if◌then◌else◌}
 use Rattle.adj_tree.specs.Code.{Var, plain, shadow, helper, name_eq}
 use Rattle.adj_tree.specs.declared.value.Trap.{Trap as CodeTrap}
 use Rattle.adj_tree.specs.declared.value.Trap.TheVariants as code

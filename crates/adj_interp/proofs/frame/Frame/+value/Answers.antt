@@ -1,11 +1,11 @@
-use Rattle.std.proofs.Common.{rules, FitsSigned, ◌≡◌, ◌<◌, ◌∷◌, [], ℤ, pos, length, get_or, w64, Ok, refl, ap, sym, ◌∙◌, arith}
+use Rattle.std.proofs.Common.{rules, FitsSigned, ◌<◌, ◌∷◌, [], pos, length, get_or, w64, Ok, ap, sym, ◌∙◌, arith}
 use Rattle.std.proofs.lemmas.Int.{to_z-of_z}
 use Rattle.std.proofs.lemmas.List.{get_or_default}
-use Rattle.adj_meaning.specs.Trap.{index, then_ok, or_trap}
+use Rattle.adj_meaning.specs.Trap.{index, or_trap}
 use Rattle.adj_meaning.specs.Store.{cell_of}
 use Rattle.adj_meaning.specs.Value.{value, values, cell_at}
 use Rattle.adj_interp.specs.declared.slot.Slot.{Slot}
-use Rattle.adj_interp.specs.Prepared.{var_at, term_in, terms_in, IsTermBelow, AreTermsBelow}
+use Rattle.adj_interp.specs.Prepared.{var_at, term_in, terms_in}
 use Rattle.adj_interp.specs.Framed.{slot_shape, store_in, setting_in_slots}
 use Rattle.adj_interp.proofs.Reading.{read_cell, read_shape, chained, cell_there, only_one}
 use Rattle.adj_interp.proofs.frame.Frame.+value.Goals as goal

@@ -1,4 +1,4 @@
-use Rattle.std.proofs.Common.{◌≡◌, length, w64, ap, sym, ◌∙◌}
+use Rattle.std.proofs.Common.{length, w64, ap, sym, ◌∙◌}
 use Rattle.std.proofs.Math.ListN.{set, length-set}
 use Rattle.std.proofs.lemmas.Int.{to_z-of_z}
 use Rattle.adj_meaning.specs.Store.{size_of}

@@ -1,6 +1,6 @@
-use Rattle.std.proofs.Common.{◌≡◌, ◌+◌, ◌*◌, ◌<◌, ◌^◌, ◌∷◌, ◌∙◌, [], Some, w64, ap, sym, arith}
+use Rattle.std.proofs.Common.{◌≡◌, ◌+◌, ◌*◌, ◌∷◌, ◌∙◌, [], Some, w64, ap, sym, arith}
 use Rattle.std.proofs.lemmas.Int.{to_z-of_z}
-use Rattle.adj_meaning.specs.Store.{within, cell_of, by_column, size_of}
+use Rattle.adj_meaning.specs.Store.{within, cell_of, by_column}
 use Rattle.adj_meaning.proofs.Cells.{cell_below}
 use Rattle.adj_interp.specs.Framed.{slot_shape}
 use Rattle.adj_interp.proofs.slot.Slot.in_table.Goals as goal
