@@ -1,0 +1,19 @@
+//! The interpreter: runs of a unit of a program on words.
+//!
+//! A unit is prepared once: its variables get numbers, and its trees name them by these. An entry of a unit has one slot
+//! for each variable, whose cells change in place. What prepared trees do is defined by the trees that they stand for
+//! (`specs/Prepared.antt`) and the runs of `adj_meaning`. docs/RUNNING.md says what programs do.
+#![tactic(auto)]
+
+mod arithmetic;
+mod frame;
+mod laws;
+mod slot;
+mod term;
+#[cfg(test)]
+mod tests;
+
+pub use frame::Frame;
+pub use laws::shown_is_seen;
+pub use slot::Slot;
+pub use term::{Term, Terms, Test};
