@@ -6,7 +6,7 @@ use std::alloc::Global;
 use std::test::Fail;
 
 fn name(alloc: Global, text: &str) -> Result<Name, Memory> {
-    Ok(Name::new(text.as_bytes().to_vec(alloc)?))
+    Name::from_slice(alloc, text.as_bytes())
 }
 
 fn decl(alloc: Global, text: &str, extents: Vec<Extent>) -> Result<Decl, Memory> {

@@ -7,8 +7,8 @@ ghost use Rattle.adj_text.specs.Line.{begins_in_either_case, is_directive, behin
 
 use crate::line::{are_blank, behind, front, number, push_folded};
 use crate::scan::{is_name_char, number_len};
-use adj_tree::{Mark, Name};
-use std::alloc::{AllocError, Global};
+use adj_tree::{Mark, Memory, Name};
+use std::alloc::Global;
 
 // Whether a line begins with a word of capitals, in either case.
 fn begins_in_either_case(line: &[u8], word: &[u8]) -> bool
@@ -96,7 +96,7 @@ fn is_named(text: &[u8]) -> bool
 }
 
 // That name, in capitals.
-fn name_of(alloc: Global, text: &[u8]) -> Result<Option<Name>, AllocError>
+fn name_of(alloc: Global, text: &[u8]) -> Result<Option<Name>, Memory>
     ensures { IfOk result (λ found. found ≡ name_of text.now) }
 {
     if !is_named(text) {
@@ -104,11 +104,12 @@ fn name_of(alloc: Global, text: &[u8]) -> Result<Option<Name>, AllocError>
     }
     let mut name = Vec::new(alloc);
     push_folded(&mut name, front(text, name_len(text)))?;
-    Ok(Some(Name::new(name)))
+    let name = Name::from_slice(alloc, name.as_slice())?;
+    Ok(Some(name))
 }
 
 // A number of snapshots, or the name of a variable that says it.
-fn mark_in(alloc: Global, text: &[u8]) -> Result<Option<Mark>, AllocError>
+fn mark_in(alloc: Global, text: &[u8]) -> Result<Option<Mark>, Memory>
     ensures { IfOk result (λ found. found ≡ mark_in text.now) }
 {
     if let Some(snapshots) = snapshots_of(text) {
@@ -129,7 +130,7 @@ fn operand(line: &[u8]) -> Option<&[u8]>
 }
 
 /// What a directive says, where it is well formed.
-pub(crate) fn operand_of(alloc: Global, line: &[u8]) -> Result<Option<Mark>, AllocError>
+pub(crate) fn operand_of(alloc: Global, line: &[u8]) -> Result<Option<Mark>, Memory>
     ensures { IfOk result (λ found. found ≡ operand_of line.now) }
 {
     match operand(line) {
