@@ -34,8 +34,8 @@ fn slots(alloc: Global) -> Result<Vec<Slot>, Memory> {
 }
 
 fn names(alloc: Global) -> Result<NameList, Memory> {
-    let first = Name::new(b"K".to_vec(alloc)?);
-    let second = Name::new(b"A".to_vec(alloc)?);
+    let first = Name::from_slice(alloc, b"K")?;
+    let second = Name::from_slice(alloc, b"A")?;
     Ok(Items::new(vec![in alloc; first, second]?))
 }
 
