@@ -10,8 +10,6 @@ mod frame;
 mod laws;
 mod slot;
 mod term;
-#[cfg(test)]
-mod tests;
 
 pub use frame::Frame;
 pub use laws::shown_is_seen;
