@@ -4,7 +4,9 @@ ghost use Rattle.std.specs.Prelude.{◌≡◌, ◌++◌, ◌∷◌, [], length, 
 ghost use Rattle.adj_tree.specs.Code.{plain};
 ghost use Rattle.adj_tree.specs.View.{act_of, code_of, mark_of, terms_of};
 ghost use Rattle.adj_facts.specs.Standing.{standing, body_of};
-ghost use Rattle.adj_facts.specs.Ways.{ways, act_ways};
+ghost use Rattle.adj_facts.specs.Ways.{ways, act_ways, way, passing};
+ghost use Rattle.adj_facts.specs.Parts.{point_inside};
+ghost use Rattle.adj_transpose.specs.Marks.{point_before, point_after};
 ghost use Rattle.adj_flow.specs.View.{place_of, standing_of, statement_at};
 ghost use Rattle.adj_flow.specs.WayView.{number_of, deed_of, assigned_by, way_of};
 
@@ -70,85 +72,63 @@ fn add_statement<'a>(
             let deed = assigning(number, &target.name, &target.subs);
             add_way(outline, Point::Before(number), Point::After(number), deed)
         }
-        Act::Call(_, args) => add_way(
-            outline,
-            Point::Before(number),
-            Point::After(number),
-            Deed::Calling(args),
-        ),
-        Act::Run(_) => add_way(
-            outline,
-            Point::Before(number),
-            Point::After(number),
-            Deed::Passing,
-        ),
+        Act::Call(_, args) => {
+            let deed = Deed::Calling(args);
+            add_way(outline, Point::Before(number), Point::After(number), deed)
+        }
+        Act::Run(_) => {
+            let deed = Deed::Passing;
+            add_way(outline, Point::Before(number), Point::After(number), deed)
+        }
         Act::If(_, first, second) => {
-            add_list(
-                outline,
-                Place::PartOf(number),
-                Point::Before(number),
-                Point::After(number),
-                Deed::Passing,
-                first,
-            )?;
-            add_list(
-                outline,
-                Place::PartOf(number),
-                Point::Before(number),
-                Point::After(number),
-                Deed::Passing,
-                second,
-            )?;
+            let (before, after) = (Point::Before(number), Point::After(number));
+            let part = Place::PartOf(number);
+            add_list(outline, part, before, after, Deed::Passing, first)?;
+            add_list(outline, part, before, after, Deed::Passing, second)?;
             Ok(())
         }
         Act::Loop(x, _, _, _, body, mark) => {
-            let inside = body_place(number, x, mark);
-            add_way(
-                outline,
-                Point::Before(number),
-                Point::Inside(number),
-                Deed::Assigning(number, x),
-            )?;
-            add_way(
-                outline,
-                Point::Inside(number),
-                Point::After(number),
-                Deed::Passing,
-            )?;
+            let inside = Point::Inside(number);
+            let deed = Deed::Assigning(number, x);
+            add_loop_ways(outline, number, deed)?;
             add_list(
                 outline,
+                body_place(number, x, mark),
                 inside,
-                Point::Inside(number),
-                Point::Inside(number),
-                Deed::Assigning(number, x),
+                inside,
+                deed,
                 body,
             )?;
             Ok(())
         }
         Act::While(_, body) => {
-            add_way(
-                outline,
-                Point::Before(number),
-                Point::Inside(number),
-                Deed::Passing,
-            )?;
-            add_way(
-                outline,
-                Point::Inside(number),
-                Point::After(number),
-                Deed::Passing,
-            )?;
+            let inside = Point::Inside(number);
+            add_loop_ways(outline, number, Deed::Passing)?;
             add_list(
                 outline,
                 Place::PartOf(number),
-                Point::Inside(number),
-                Point::Inside(number),
+                inside,
+                inside,
                 Deed::Passing,
                 body,
             )?;
             Ok(())
         }
     }
+}
+
+// Adds the ways to the point inside a loop, on which something is done, and from there behind it.
+fn add_loop_ways<'a>(outline: &mut Outline<'a>, number: usize, deed: Deed<'a>) -> Result<(), Memory>
+    ensures statements { outline.new.statements ≡ outline.old.statements }
+    ensures ways { OnOk result (map way_of outline.new.ways.items ≡ map way_of outline.old.ways.items ++ way (point_before number) (point_inside number) (deed_of deed.entry) ∷ way (point_inside number) (point_after number) passing ∷ []) }
+{
+    add_way(outline, Point::Before(number), Point::Inside(number), deed)?;
+    add_way(
+        outline,
+        Point::Inside(number),
+        Point::After(number),
+        Deed::Passing,
+    )
 }
 
 // Adds a way.
