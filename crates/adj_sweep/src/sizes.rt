@@ -38,11 +38,8 @@ pub fn is_compound(e: &Expr) -> bool
 {
     match e {
         Expr::Lit(_) | Expr::Var(_) | Expr::Elem(_, _) => false,
-        Expr::Neg(_)
-        | Expr::Bin(_, _, _)
-        | Expr::Pow(_, _)
-        | Expr::Power(_, _)
-        | Expr::Abs(_) => true,
+        Expr::Neg(_) | Expr::Bin(_, _, _) | Expr::Pow(_, _) | Expr::Power(_, _) | Expr::Abs(_) =>
+            true,
     }
 }
 

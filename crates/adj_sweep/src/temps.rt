@@ -111,11 +111,7 @@ pub fn shrink(
     ensures steps { OnOk result ((rest : Code) → steps_onto steps.new.items rest ≡ steps_onto steps.old.items (rename (named_by n.now) (temps (term_of e.now) first line) +++ rest)) }
 {
     match e {
-        Expr::Lit(_)
-        | Expr::Var(_)
-        | Expr::Elem(_, _)
-        | Expr::Power(_, _)
-        | Expr::Abs(_) => {
+        Expr::Lit(_) | Expr::Var(_) | Expr::Elem(_, _) | Expr::Power(_, _) | Expr::Abs(_) => {
             let made = whole(alloc, e, first)?;
             Ok(made)
         }
