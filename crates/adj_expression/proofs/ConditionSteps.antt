@@ -1,4 +1,4 @@
--- ConditionSteps: behind a right operand that goes no further a word does what it does behind the comparison.
+-- ConditionSteps: behind an operand that goes no further a word does what it does behind the left operand, or behind the comparison.
 use Rattle.std.proofs.Common.{◌≡◌, ℕ, List, Option, Some, None, option_and_then, Result, refl, sym, ap, subst, ◌∙◌}
 use Rattle.std.specs.Prelude.{IfOk}
 use Rattle.adj_tree.specs.Code.{Rel}
@@ -9,7 +9,7 @@ use Rattle.adj_text.specs.Machine.{State, step, whole, finish, chosen}
 use Rattle.adj_text.specs.Word.{word, Mark}
 use Rattle.adj_expression.specs.declared.inside.Advanced.{Advanced}
 use Rattle.adj_expression.specs.declared.waiting.Waiting as code
-use Rattle.adj_expression.specs.ConditionMachine.{Waiting, Second, Made, TestState, deny, behind_condition, compare_with, advance, alone, close_all, conclude}
+use Rattle.adj_expression.specs.ConditionMachine.{Waiting, First, Second, Made, TestState, deny, behind_left, behind_condition, compare_with, advance, alone, close_all, conclude}
 use Rattle.adj_expression.specs.Partial.{Partial, algebra}
 use Rattle.adj_expression.specs.PartialCondition.{PartialTest, comparison_of, test_algebra}
 use Rattle.adj_expression.specs.Stack.{closed}
@@ -37,3 +37,19 @@ right_ends limit waits r a b e f kind text c p left result stays same is_b is_c 
     let P : Option (TestState Partial PartialTest) → Type 0 = λ o. IfOk result (λ next. Turns o (conclude (test_algebra limit) (p.0, Made p.1)) left next) in
     let Q : Option PartialTest → Type 0 = λ o. IfOk result (λ next. Turns (advance (test_algebra limit) (waits, Second r a e) (word kind text)) o left next) in
     subst Q ends (subst P goes behind)
+
+-- nor with a comparison
+behind_left-word : (waits : List (Waiting PartialTest)) (a : Partial) (kind : TokenKind) (text : List ℕ) → behind_left waits (Mark kind) a ≡ behind_left waits (word kind text) a
+behind_left-word waits a Name text = refl
+behind_left-word waits a Number text = refl
+behind_left-word waits a _ text = refl
+
+pub left_ends : (limit : ℕ) (waits : List (Waiting PartialTest)) (a : Partial) (e f : State Partial) (kind : TokenKind) (text : List ℕ) (left : List code.Waiting) (result : Advanced)
+    → step (algebra limit) e (word kind text) ≡ None → closed (algebra limit) f ≡ closed (algebra limit) e → Some a ≡ finish (algebra limit) f
+    → Turns (behind_left waits (Mark kind) a) None left result → Advances limit (waits, First e) (word kind text) left result
+left_ends limit waits a e f kind text left result stays same is_a behind =
+    let found : finish (algebra limit) e ≡ Some a = finish-closed (algebra limit) e ∙ ap (option_and_then whole) (sym same) ∙ sym (finish-closed (algebra limit) f) ∙ sym is_a in
+    let then : Option (State Partial) → Option Partial → Option (TestState Partial PartialTest) = λ taken found. chosen taken (λ t. Some (waits, First t)) (option_and_then (behind_left waits (word kind text)) found) in
+    let goes : behind_left waits (Mark kind) a ≡ advance (test_algebra limit) (waits, First e) (word kind text) =
+    behind_left-word waits a kind text ∙ sym (ap (λ o. then o (finish (algebra limit) e)) stays ∙ ap (then None) found) in
+    subst (λ o. Turns o None left result) goes behind
