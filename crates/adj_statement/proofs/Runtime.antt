@@ -6,7 +6,7 @@ use Rattle.adj_tree.specs.Listed.{terms_listed}
 use Rattle.adj_tree.specs.View.{term_of}
 use Rattle.adj_tree.specs.declared.expr.Expr.{Expr}
 use Rattle.adj_text.specs.Statement.{as_place, as_name, as_value, as_beginning, as_count, as_action, as_nothing, runtime_call, called_as, called}
-use Rattle.adj_statement.specs.Called.{name_of, place_of, only_of, word_name, control_name, schedule_name, runtime_name, with_actuals, call_of}
+use Rattle.adj_statement.specs.Called.{name_of, names_of, place_of, only_of, word_name, control_name, schedule_name, runtime_name, with_actuals, call_of}
 use Rattle.adj_statement.specs.declared.called.RuntimeName.TheVariants.{PushWord, PopWord, PushArray, PopArray, PushControl, PopControl, Zero, Begin, Actions, Action, End}
 use Rattle.adj_statement.specs.Phrases.{◌>>=◌}
 
@@ -87,7 +87,7 @@ pub as_count_three : (l s n : Term) → as_count (more l (more s (more n none)))
 as_count_three l s (var x) = refl
 as_count_three l s _ = refl
 
-pub as_action_six : (l s k a f t : Term) → as_action (more l (more s (more k (more a (more f (more t none)))))) ≡ (name_of a >>= λ x. name_of f >>= λ y. option_map (λ z. give_action l s k x y z) (name_of t))
+pub as_action_six : (l s k a f t : Term) → as_action (more l (more s (more k (more a (more f (more t none)))))) ≡ option_map (λ p. give_action l s k p.0 p.1 p.2) (names_of a f t)
 as_action_six l s k (var x) (var y) (var z) = refl
 as_action_six l s k (var x) (var y) _ = refl
 as_action_six l s k (var x) _ t = refl

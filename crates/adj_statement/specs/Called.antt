@@ -1,5 +1,5 @@
 -- Called: what the actuals of the runtime's calls are.
-use Rattle.std.specs.Prelude.{ℕ, List, codes, Option, Some, None, option_and_then, if◌then◌else◌}
+use Rattle.std.specs.Prelude.{ℕ, List, codes, Option, Some, None, option_map, option_and_then, if◌then◌else◌}
 use Rattle.std.specs.Option.{option_or}
 use Rattle.adj_tree.specs.Code.{Var, Term, Terms, var, elem, none, more, name_eq, Runtime, push_word, pop_word, push_array, pop_array, pop_control, zero_array, Act}
 use Rattle.adj_text.specs.Statement.{as_place, as_name, as_value, as_beginning, as_count, as_action, as_nothing, called_as}
@@ -10,6 +10,10 @@ use Rattle.adj_statement.specs.declared.called.RuntimeName.TheVariants.{PushWord
 abbrev pub name_of : Term → Option Var
 name_of (var x) = Some x
 name_of e = None
+
+-- three names
+abbrev pub names_of : Term → Term → Term → Option (Var × Var × Var)
+names_of a b c = option_and_then (λ x. option_and_then (λ y. option_map (λ z. (x, y, z)) (name_of c)) (name_of b)) (name_of a)
 
 abbrev pub place_of : Term → Option (Var × Terms)
 place_of (var x) = Some (x, none)

@@ -1,11 +1,11 @@
 //! Calls of the runtime, by their names and the form of their actuals.
 
 ghost use Rattle.std.specs.Prelude.{◌≡◌, map, IfOk, option_map};
-ghost use Rattle.adj_tree.specs.Code.{plain, name_eq};
+ghost use Rattle.adj_tree.specs.Code.{give_action, plain, name_eq};
 ghost use Rattle.adj_tree.specs.Listed.{terms_listed};
 ghost use Rattle.adj_tree.specs.View.{term_of, terms_of, runtime_of, act_of};
 ghost use Rattle.adj_text.specs.Statement.{as_value, as_beginning, as_count, as_action, as_nothing};
-ghost use Rattle.adj_statement.specs.Called.{name_of, place_of, only_of, word_name, control_name, schedule_name, runtime_name, with_actuals, call_of};
+ghost use Rattle.adj_statement.specs.Called.{name_of, names_of, place_of, only_of, word_name, control_name, schedule_name, runtime_name, with_actuals, call_of};
 
 use adj_tree::{Act, Expr, Exprs, Memory, Name, Place, RunCall};
 use std::alloc::Global;
@@ -107,14 +107,18 @@ fn actions(alloc: Global, actuals: &[Expr]) -> Result<Option<RunCall>, Memory>
     Ok(Some(RunCall::Actions(steps, snapshots.copy(alloc)?, number)))
 }
 
-// `ADACT`, where its actuals are three values and three names.
-#[tactic(auto, using(crate::proofs::Runtime::not_six, crate::proofs::Runtime::as_action_six))]
-fn action(alloc: Global, actuals: &[Expr]) -> Result<Option<RunCall>, Memory>
-    ensures { IfOk result (λ found. option_map runtime_of found ≡ as_action (terms_listed (map term_of actuals.now))) }
+// The variables of `ADACT`.
+#[derive(Drop)]
+struct Places {
+    kind: Name,
+    from: Name,
+    to: Name,
+}
+
+// The names that three actuals are.
+fn names_of(alloc: Global, kind: &Expr, from: &Expr, to: &Expr) -> Result<Option<Places>, Memory>
+    ensures { IfOk result (λ found. option_map (λ p. (plain p.kind, plain p.from, plain p.to)) found ≡ names_of (term_of kind.now) (term_of from.now) (term_of to.now)) }
 {
-    let [steps, snapshots, number, kind, from, to] = actuals else {
-        return Ok(None);
-    };
     let Some(kind) = name_of(alloc, kind)? else {
         return Ok(None);
     };
@@ -124,10 +128,44 @@ fn action(alloc: Global, actuals: &[Expr]) -> Result<Option<RunCall>, Memory>
     let Some(to) = name_of(alloc, to)? else {
         return Ok(None);
     };
+    Ok(Some(Places { kind, from, to }))
+}
+
+// `ADACT` of three values.
+fn asked(
+    alloc: Global,
+    steps: &Expr,
+    snapshots: &Expr,
+    number: &Expr,
+    places: Places,
+) -> Result<RunCall, Memory>
+    ensures { IfOk result (λ r. runtime_of r ≡ give_action (term_of steps.now) (term_of snapshots.now) (term_of number.now) (plain places.kind) (plain places.from) (plain places.to)) }
+{
     let steps = steps.copy(alloc)?;
     let snapshots = snapshots.copy(alloc)?;
     let number = number.copy(alloc)?;
-    Ok(Some(RunCall::Action(steps, snapshots, number, kind, from, to)))
+    Ok(RunCall::Action(
+        steps,
+        snapshots,
+        number,
+        places.kind,
+        places.from,
+        places.to,
+    ))
+}
+
+// `ADACT`, where its actuals are three values and three names.
+#[tactic(auto, using(crate::proofs::Runtime::not_six, crate::proofs::Runtime::as_action_six))]
+fn action(alloc: Global, actuals: &[Expr]) -> Result<Option<RunCall>, Memory>
+    ensures { IfOk result (λ found. option_map runtime_of found ≡ as_action (terms_listed (map term_of actuals.now))) }
+{
+    let [steps, snapshots, number, kind, from, to] = actuals else {
+        return Ok(None);
+    };
+    let Some(places) = names_of(alloc, kind, from, to)? else {
+        return Ok(None);
+    };
+    Ok(Some(asked(alloc, steps, snapshots, number, places)?))
 }
 
 // `PUSHCONTROL1B`, where its actual is one value.
