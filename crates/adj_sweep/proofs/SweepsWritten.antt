@@ -36,6 +36,7 @@ works-least (bin lesser a b) k h = cc
 works-least (pow a zero) k h = cc
 works-least (pow a (suc zero)) k h = works-least a k h
 works-least (pow a (suc (suc m))) k h = let least = works-least a (suc k) h in omega arith
+works-least (power_of a b) k h = cc
 works-least (abs a) k h = cc
 
 -- ---- code
