@@ -13,6 +13,7 @@ use Rattle.adj_meaning.specs.Leads.{Leads, ActLeads}
 use Rattle.adj_meaning.proofs.Leadings.{leads_stop, leads_append, leads_act}
 use Rattle.adj_transpose.specs.Lists.{Kept, scene}
 use Rattle.adj_reverse.specs.Reversals.{Called, Reversal, TellsCalls}
+pub use Rattle.adj_reverse.specs.Steps.{ActGoes}
 use Rattle.adj_reverse.proofs.Told.{tells_none, tells_append}
 use Rattle.adj_reverse.proofs.Turns.{next_store, then-assoc, counted-then}
 
@@ -21,11 +22,6 @@ pub record Goes {C : Type 0} (q : Calls C) (n : Setting C) (c : Code) (base : Ke
   pub later : Kept
   pub tells : TellsCalls n.level base later calls rs
   pub runs : Leads q n c (scene base s t) (scene later s' t')
-
-pub record ActGoes {C : Type 0} (q : Calls C) (n : Setting C) (a : Act) (line : ℕ) (base : Kept) (s s' : Store C) (t t' : List C) (calls : List Called) (rs : List Reversal) : Type 0 where
-  pub later : Kept
-  pub tells : TellsCalls n.level base later calls rs
-  pub runs : ActLeads q n a line (scene base s t) (scene later s' t')
 
 pub record TurnsGo {C : Type 0} (q : Calls C) (n : Setting C) (m : ℕ) (body : Code) (x : Var) (c : ℤ) (base : Kept) (s s' : Store C) (t t' : List C) (calls : List Called) (rs : List Reversal) : Type 0 where
   pub later : Kept

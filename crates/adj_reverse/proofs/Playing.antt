@@ -17,6 +17,7 @@ use Rattle.adj_meaning.specs.Run.{Calls}
 use Rattle.adj_transpose.specs.Pairs.{Key, Words, shadows, on_words}
 use Rattle.adj_transpose.specs.Lists.{Kept}
 use Rattle.adj_reverse.specs.Reversals.{Called, Reversal, LoopRun, times, AreWithin, AreReversed}
+pub use Rattle.adj_reverse.specs.Steps.{changes, loops_of}
 use Rattle.adj_reverse.proofs.Told.{times-append, within_append, within_wider, reversed_append}
 use Rattle.adj_reverse.proofs.Goings.{TurnsGo, turns_go-none, turns_go-append}
 
@@ -40,19 +41,9 @@ cost-append : (xs ys : List Action) → total_cost (xs ++ ys) ≡ total_cost xs 
 cost-append [] ys = omega arith
 cost-append (x ∷ xs) ys = omega (arith, cost-append xs ys)
 
--- the derivatives of the steps from lo on, one after another
-abbrev pub changes : (ℕ → Words → Words) → ℕ → ℕ → Words → Words
-changes change lo zero y = y
-changes change lo (suc n) y = changes change (suc lo) n (change lo y)
-
 changes-join : (change : ℕ → Words → Words) (k lo n : ℕ) (y : Words) → changes change (lo + k) n (changes change lo k y) ≡ changes change lo (k + n) y
 changes-join change zero lo n y = let e : lo + 0 ≡ lo = omega arith in let g : 0 + n ≡ n = omega arith in (λ i. changes change (e i) (sym g i) y)
 changes-join change (suc k) lo n y = let e : lo + suc k ≡ suc lo + k = omega arith in ap (λ z. changes change z n (changes change (suc lo) k (change lo y))) e ∙ changes-join change k (suc lo) n (change lo y) ∙ (let g : suc (k + n) ≡ suc k + n = omega arith in ap (λ z. changes change lo z y) g)
-
--- what the program's steps from lo on told of marked loops, the last step first
-abbrev pub loops_of : (ℕ → List LoopRun) → ℕ → ℕ → List LoopRun
-loops_of loops lo zero = []
-loops_of loops lo (suc n) = loops_of loops (suc lo) n ++ loops lo
 
 loops-join : (loops : ℕ → List LoopRun) (k lo n : ℕ) → loops_of loops (lo + k) n ++ loops_of loops lo k ≡ loops_of loops lo (k + n)
 loops-join loops zero lo n = let e : lo + 0 ≡ lo = omega arith in let g : n ≡ 0 + n = omega arith in append-nil (loops_of loops (lo + 0) n) ∙ ap (λ z. loops_of loops z n) e ∙ ap (λ z. loops_of loops lo z) g

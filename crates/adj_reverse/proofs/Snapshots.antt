@@ -18,6 +18,7 @@ use Rattle.adj_transpose.specs.Lists.{Kept, scene}
 use Rattle.adj_transpose.proofs.Variables.{or_false}
 use Rattle.adj_reverse.specs.Plan.{Plan}
 use Rattle.adj_reverse.specs.Emission.{push, pop, pushes, pops}
+pub use Rattle.adj_reverse.specs.Steps.{words_of}
 
 -- what isn't an array has one cell
 abbrev pub KnowsArrays : Plan → (Var → Shape) → Type 0
@@ -27,11 +28,6 @@ KnowsArrays p sh = (x : List ℕ) → p.arrays (plain x) ≡ false → size_of (
 abbrev pub is_one_of : List (List ℕ) → Vars
 is_one_of xs (plain x) = has_name x xs
 is_one_of xs v = false
-
--- how many words they have
-abbrev pub words_of : (Var → Shape) → List (List ℕ) → ℕ
-words_of sh [] = 0
-words_of sh (x ∷ xs) = size_of (sh (plain x)) + words_of sh xs
 
 length-pushed : (f : ℕ → ℤ) (j m : ℕ) (a : List ℤ) → length (pushed_on (cells_from f j m) a) ≡ m + length a
 length-pushed f j zero a = omega arith

@@ -23,40 +23,43 @@ pub record NumbersFit (l m : ℕ) : Type 0 where
   pub few : suc (suc (length (schedule_of 0 l m))) < 2 ^ 63
   pub small : suc l < 2 ^ 63
 
+-- up to 2 ^ 40 steps with 1 to 64 snapshots have them
+pub numbers_few : (l m : ℕ) → l ≤ 1099511627776 → 0 < m → m ≤ 64 → NumbersFit l m
+numbers_few l m few slot most =
+    let t1 : nat_le 0 l ≡ true = grind arith in
+    let t2 : nat_le l 1099511627776 ≡ true = grind arith in
+    let s1 : nat_le 1 m ≡ true = grind arith in
+    let s2 : nat_le m 64 ≡ true = grind arith in
+    record {
+      slot = slot;
+      steps_fit = rw (t1, t2) refl;
+      snapshots_fit = rw (s1, s2) refl;
+      few = omega (arith, length-schedule_of 0 l m slot);
+      small = omega arith;
+    }
+
 -- a marked loop turns at most 2 ^ 40 times
 abbrev turns_marked : ℤ → ℤ → ℤ → Result ℕ Trap
 turns_marked a b c = if int_eq c (pos 0) then Err step_trap else (if nat_le (trip_count a b c) 1099511627776 then Ok (trip_count a b c) else Err step_trap)
 
-marked_fit : (m : ℕ) (a b c : ℤ) (l : ℕ) → suc m ≤ 64 → turns_marked a b c ≡ Ok l → NumbersFit l (suc m)
-marked_fit m a b c l most h = go (int_eq c (pos 0)) refl h
+marked_few : (a b c : ℤ) (l : ℕ) → turns_marked a b c ≡ Ok l → l ≤ 1099511627776
+marked_few a b c l h = go (int_eq c (pos 0)) refl h
   where
-    go : (z : Bool) → int_eq c (pos 0) ≡ z → (let r : Result ℕ Trap = if z then Err step_trap else (if nat_le (trip_count a b c) 1099511627776 then Ok (trip_count a b c) else Err step_trap) in r ≡ Ok l) → NumbersFit l (suc m)
+    go : (z : Bool) → int_eq c (pos 0) ≡ z → (let r : Result ℕ Trap = if z then Err step_trap else (if nat_le (trip_count a b c) 1099511627776 then Ok (trip_count a b c) else Err step_trap) in r ≡ Ok l) → l ≤ 1099511627776
     go true e h = cc
     go false e h = here (nat_le (trip_count a b c) 1099511627776) refl h
       where
-        here : (n : Bool) → nat_le (trip_count a b c) 1099511627776 ≡ n → (let r : Result ℕ Trap = if n then Ok (trip_count a b c) else Err step_trap in r ≡ Ok l) → NumbersFit l (suc m)
+        here : (n : Bool) → nat_le (trip_count a b c) 1099511627776 ≡ n → (let r : Result ℕ Trap = if n then Ok (trip_count a b c) else Err step_trap in r ≡ Ok l) → l ≤ 1099511627776
         here true n h =
             let same : trip_count a b c ≡ l = cc in
             let le : trip_count a b c ≤ 1099511627776 = grind arith in
-            let few : l ≤ 1099511627776 = omega arith in
-            let t1 : nat_le 0 l ≡ true = grind arith in
-            let t2 : nat_le l 1099511627776 ≡ true = grind arith in
-            let s1 : nat_le 1 (suc m) ≡ true = grind arith in
-            let s2 : nat_le (suc m) 64 ≡ true = grind arith in
-            record {
-              slot = omega arith;
-              steps_fit = rw (t1, t2) refl;
-              snapshots_fit = rw (s1, s2) refl;
-              few = omega (arith, length-schedule_of 0 l (suc m) (let p : 0 < suc m = omega arith in p));
-              small = omega arith;
-            }
+            omega arith
         here false n h = cc
 
--- a marked loop that turned l times with 1 to 64 snapshots has them
-pub numbers_fit : (mark : Mark) (m : ℕ) (a b c : ℤ) (l : ℕ) → is_marked mark ≡ true → suc m ≤ 64 → trips mark a b c ≡ Ok l → NumbersFit l (suc m)
-numbers_fit unmarked m a b c l marked most h = cc
-numbers_fit (with_count k) m a b c l marked most h = marked_fit m a b c l most h
-numbers_fit (count_from x) m a b c l marked most h = marked_fit m a b c l most h
+pub turns_few : (mark : Mark) (a b c : ℤ) (l : ℕ) → is_marked mark ≡ true → trips mark a b c ≡ Ok l → l ≤ 1099511627776
+turns_few unmarked a b c l marked h = cc
+turns_few (with_count k) a b c l marked h = marked_few a b c l h
+turns_few (count_from x) a b c l marked h = marked_few a b c l h
 
 -- ---- steps
 
