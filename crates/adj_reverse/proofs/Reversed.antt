@@ -34,5 +34,5 @@ reversals_turn q sh level cells line x g given name p fits d l m few slot most a
       reversed = r.reversed;
       pairs = r.pairs;
       off = r.loose.framed.off;
-      depth = λ role k c lt le. r.loose.framed.depth.at role k c lt (omega arith);
+      depth = λ role k c lt le. r.loose.framed.depth.at role k c lt le;
     }

@@ -30,6 +30,8 @@ use Rattle.adj_reverse.specs.Passing.{plainly}
 use Rattle.adj_reverse.specs.Runs.{Comes, SameOn, SameOff}
 use Rattle.adj_reverse.specs.Reversals.{LoopRun, Tells}
 use Rattle.adj_reverse.specs.ReversedLaws.{ReversedLaws}
+use Rattle.adj_reverse.specs.ReversedRow.{ReversedBack, ReversedRow, ReversedRowsTurn}
+use Rattle.adj_reverse.specs.Theorem.{plan_of}
 use Rattle.adj_reverse.proofs.Shapes.{AllText}
 use Rattle.adj_reverse.proofs.Evaluations.{value_again}
 use Rattle.adj_reverse.proofs.Snapshots.{KnowsArrays}
@@ -39,20 +41,9 @@ use Rattle.adj_reverse.proofs.Told.{tells_of}
 use Rattle.adj_reverse.proofs.Goings.{loop_goes}
 use Rattle.adj_reverse.proofs.Playing.{changes, loops_of}
 use Rattle.adj_reverse.specs.Steps.{Steps}
-use Rattle.adj_reverse.proofs.StepRuns.{NumbersFit}
+use Rattle.adj_reverse.proofs.StepRuns.{NumbersFit, numbers_few}
 use Rattle.adj_reverse.proofs.ReversedForth.{TurnsForth, turns_forth}
-use Rattle.adj_reverse.proofs.ReversedRows.{ReversedBack, reversed_back, own_run, wr, snap, saves}
-
--- the loop itself in both sweeps, from the store f
-pub record ReversedRow (q : Calls ℤ) (sh : Var → Shape) (level : ℕ) (xs : List Key) (d : ℕ) (x : List ℕ) (written needed held held' : Vars) (forth back : Code) (base : Kept) (u' f : Store ℤ) (t : List ℤ) (change : Words → Words) (loops : List LoopRun) : Type 0 where
-  pub to : Store ℤ
-  pub trail : List ℤ
-  pub runs : Comes q (on_words sh level) forth base f to t (trail ++ t) []
-  pub same : SameOn sh needed u' to
-  pub off : SameOff written f to
-  pub shades : (y : List ℕ) (j : ℕ) → to (shadow y) j ≡ f (shadow y) j
-  pub depth : SameDepth d f to
-  pub returns : (b : Kept) (h : Store ℤ) → SameOn sh held to h → ReversedBack q sh level xs d x written held' back b f h (trail ++ t) t change loops
+use Rattle.adj_reverse.proofs.ReversedRows.{reversed_back, own_run, wr, snap, saves}
 
 module _ (q : Calls ℤ) (sh : Var → Shape) (level : ℕ) (cells : List Key) (d line : ℕ) (p : Plan) (known : KnowsArrays p sh) (x : List ℕ) (one_cell : size_of (sh (plain x)) ≡ 1) (l m : ℕ) (a0 b0 c0 : ℤ) (g : CalleeFacts) (given : List (List ℕ)) (apart : AreApart g.callee.dummies) (apart' : AreApart given) (name : List ℕ) (change : ℕ → Words → Words) (loops : ℕ → List LoopRun) (U U' : ℕ → Store ℤ)
     (w : Facts) (i : ℕ) (ea eb ec : Term) (laws : ReversedLaws w i x ea eb ec g given) (text_a : AllText (λ v. reads_term v ea)) (text_b : AllText (λ v. reads_term v eb)) (text_c : AllText (λ v. reads_term v ec))
@@ -153,9 +144,14 @@ module _ (q : Calls ℤ) (sh : Var → Shape) (level : ℕ) (cells : List Key) (
         same = subst (λ z. SameOn sh (w.needed (point_inside i)) (U z) r.to) none_else r.same;
         off = off_all;
         shades = λ y j. r.shades y j;
-        depth = record { at = λ o n c lt le. r.depth.at o n c lt le ∙ rw (other_depth d (role_code o) 5 n le, other_depth d (role_code o) 4 n le, other_depth d (role_code o) 3 n le) refl };
+        depth = λ o n c lt le. r.depth.at o n c lt le ∙ rw (other_depth d (role_code o) 5 n le, other_depth d (role_code o) 4 n le, other_depth d (role_code o) 3 n le) refl;
         returns = λ b1 h held.
             let back_from = reversed_back q sh level cells d line p known x one_cell l m a0 c0 g given apart apart' name change loops U U' w i ea eb ec laws numbers.slot numbers.steps_fit numbers.snapshots_fit numbers.few numbers.small differ differ' u starts_off s x_free f3 r.to same3 off3 at b1 h t held in
             subst (λ (z : List ℤ). ReversedBack q sh level cells d x (joined (just (plain x)) wrote) (w.held (point_before i)) back b1 f h z t (changes change 0 l) (run_at at ∷ loops_of loops 0 l)) e
             (record { after = back_from.after; reversals = back_from.reversals; reversed = back_from.reversed; runs = back_from.runs; stays = λ y j lt n o. back_from.stays y j lt n o; off = back_from.off; pairs = back_from.pairs; depth = back_from.depth });
       }
+
+pub reversed_rows_turn : ReversedRowsTurn
+reversed_rows_turn q sh level cells line x gs given name w arrays fits i d a b c laws text_a text_b text_c l m few slot most u a0 b0 c0 is_a is_b is_c turns_is change loops U U' starts nexts s at base f t same =
+    reversed_row q sh level cells d line (plan_of gs w arrays) fits.scalars x fits.one_cell l m a0 b0 c0 (gs name) given fits.dummies_apart fits.given_apart name change loops U U' w i a b c laws text_a text_b text_c
+    (numbers_few l m few slot most) fits.other_name fits.other_adjoint u is_a is_b is_c turns_is starts nexts s fits.keeps_variable at base f t same

@@ -29,6 +29,7 @@ use Rattle.adj_reverse.specs.Laws.{just, CalleeFacts}
 use Rattle.adj_reverse.specs.Runs.{Comes, SameOn, SameOff}
 use Rattle.adj_reverse.specs.Reversals.{Reversal, LoopRun, AreReversed, Tells}
 use Rattle.adj_reverse.specs.ReversedLaws.{ReversedLaws}
+use Rattle.adj_reverse.specs.ReversedRow.{ReversedBack}
 use Rattle.adj_reverse.proofs.Passing.{found_or, beside_back}
 use Rattle.adj_reverse.proofs.CallAdjoints.{writes_actual}
 use Rattle.adj_reverse.proofs.CallSweeps.{group_has, group_out}
@@ -39,17 +40,6 @@ use Rattle.adj_reverse.proofs.Playing.{changes, loops_of}
 use Rattle.adj_reverse.proofs.Reversing.{Reversing, reversing}
 use Rattle.adj_reverse.proofs.StepUnits.{Loose, popped_stands, stepping, SnapIn, StandingIn}
 use Rattle.adj_reverse.specs.Steps.{Steps}
-
--- what comes back of a reversed loop in the backward sweep, from the store g: as of another loop, and its reversals
-pub record ReversedBack (q : Calls ℤ) (sh : Var → Shape) (level : ℕ) (xs : List Key) (d : ℕ) (x : List ℕ) (written held : Vars) (c : Code) (base : Kept) (f g : Store ℤ) (t t' : List ℤ) (change : Words → Words) (loops : List LoopRun) : Type 0 where
-  pub after : Store ℤ
-  pub reversals : List Reversal
-  pub reversed : AreReversed loops reversals
-  pub runs : Comes q (on_words sh level) c base g after t t' reversals
-  pub stays : (y : List ℕ) (j : ℕ) → j < size_of (sh (plain y)) → name_eq y x ≡ false → In (plain y) held → after (plain y) j ≡ f (plain y) j
-  pub off : SameOff written g after
-  pub pairs : (z : Words) → pairing xs (shadows after) z ≡ pairing xs (shadows g) (change z)
-  pub depth : SameDepth d g after
 
 module _ (q : Calls ℤ) (sh : Var → Shape) (level : ℕ) (cells : List Key) (d line : ℕ) (p : Plan) (known : KnowsArrays p sh) (x : List ℕ) (one_cell : size_of (sh (plain x)) ≡ 1) (l m : ℕ) (a0 c0 : ℤ) (g : CalleeFacts) (given : List (List ℕ)) (apart : AreApart g.callee.dummies) (apart' : AreApart given) (name : List ℕ) (change : ℕ → Words → Words) (loops : ℕ → List LoopRun) (U U' : ℕ → Store ℤ)
     (w : Facts) (i : ℕ) (ea eb ec : Term) (laws : ReversedLaws w i x ea eb ec g given)
@@ -136,7 +126,7 @@ module _ (q : Calls ℤ) (sh : Var → Shape) (level : ℕ) (cells : List Key) (
           stays = λ y j lt o n. held_again y j lt o n h r.after z.after held r.loose.framed.off z.restored;
           off = record { at = λ y j o. let b = or_false (name_eq y x) (wr (plain y)) o in z.restored.there (plain y) j (out_of_saves y b.1) ∙ r.loose.framed.off.at y j o };
           pairs = λ y. ap (λ v. pairing cells v y) (λ n c. z.restored.there (shadow c.0) c.1 refl n) ∙ r.pairs y ∙ ap (λ v. pairing cells v (changes change 0 l y)) (λ n c. k.restored.there (shadow c.0) c.1 refl n);
-          depth = record { at = λ o n c lt le. z.restored.there (helper o n) c refl ∙ r.loose.framed.depth.at o n c lt le ∙ rw (other_depth d (role_code o) 3 n le, other_depth d (role_code o) 4 n le, other_depth d (role_code o) 5 n le) refl };
+          depth = λ o n c lt le. z.restored.there (helper o n) c refl ∙ r.loose.framed.depth.at o n c lt le ∙ rw (other_depth d (role_code o) 3 n le, other_depth d (role_code o) 4 n le, other_depth d (role_code o) 5 n le) refl;
         }
       where
         out_of_saves : (y : List ℕ) → wr (plain y) ≡ false → has_name y saves ≡ false

@@ -45,6 +45,10 @@ abbrev pub words_of : (Var → Shape) → List (List ℕ) → ℕ
 words_of sh [] = 0
 words_of sh (x ∷ xs) = size_of (sh (plain x)) + words_of sh xs
 
+-- the helpers of the loops up to depth d are as they were
+abbrev pub LeavesHelpers : ℕ → Store ℤ → Store ℤ → Type 0
+LeavesHelpers d f g = (r : Role) (k c : ℕ) → 2 < role_code r → k ≤ d → g (helper r k) c ≡ f (helper r k) c
+
 -- ---- the steps
 
 -- The step call of a marked loop with variable x, in a unit with these cells.
@@ -107,7 +111,7 @@ module _ (q : Calls ℤ) (sh : Var → Shape) (level : ℕ) (cells : List Key) (
   abbrev pub step_words : ℕ
   step_words = words_of sh (step_snapshot g.callee g.read given)
 
-  -- The code reverses the l steps with m snapshots, of a loop whose DO stands at a line, from the store f.
+  -- The code reverses the l steps with m snapshots, of a loop in others of depth d whose DO stands at a line, from the store f.
   pub record TurnsSteps (c : Code) (d l m at : ℕ) (change : ℕ → Words → Words) (loops : ℕ → List LoopRun) (base : Kept) (f : Store ℤ) (t : List ℤ) : Type 0 where
     pub after : Store ℤ
     pub later : Kept
@@ -125,7 +129,7 @@ module _ (q : Calls ℤ) (sh : Var → Shape) (level : ℕ) (cells : List Key) (
     pub pairs : (y : Words) → pairing cells (shadows after) y ≡ pairing cells (shadows f) (changes change 0 l y)
     -- the text's variables that the steps don't write, and the helpers of the loops around, are as they were
     pub off : SameOff (joined (just (plain x)) (writes_actual g.callee given)) f after
-    pub depth : (r : Role) (k c : ℕ) → 2 < role_code r → k < d → after (helper r k) c ≡ f (helper r k) c
+    pub depth : LeavesHelpers d f after
 
 -- the code of a reversal turns the steps of its loop, from a store that has its first values and what the first step calls for
 abbrev pub ReversalsTurn : Type 0
@@ -134,4 +138,4 @@ ReversalsTurn =
     (d l m : ℕ) → l ≤ 1099511627776 → 0 < m → m ≤ 64 →
     (a0 c0 : ℤ) (change : ℕ → Words → Words) (loops : ℕ → List LoopRun) (U U' : ℕ → Store ℤ) → Steps q sh level cells line x g given name l a0 c0 change loops U U' →
     (at : ℕ) (base : Kept) (f : Store ℤ) (t : List ℤ) → f (helper count (suc d)) 0 ≡ pos l → f (helper first (suc d)) 0 ≡ a0 → f (helper stride (suc d)) 0 ≡ c0 → HasStep q sh level cells line x g given name (U 0) f →
-    TurnsSteps q sh level cells line x g given name (step_reversal q sh level cells line x g given name p (suc d) m) (suc d) l m at change loops base f t
+    TurnsSteps q sh level cells line x g given name (step_reversal q sh level cells line x g given name p (suc d) m) d l m at change loops base f t
