@@ -30,13 +30,13 @@ pub record TurnsPass {C : Type 0} (lines : ℕ → Bool) (q : Calls C) (n : Sett
   pub cost : ℕ
   pub by : (k : ℕ) → turns n m (run q n body) (stepped n x c) (scene base s t) (cost + k) ≡ Done (scene later s' t) k
 
-then-assoc : {A B C : Type 0} (o : Outcome A) (f : A → ℕ → Outcome B) (g : B → ℕ → Outcome C) → then_do (then_do o f) g ≡ then_do o (λ a k. then_do (f a k) g)
+pub then-assoc : {A B C : Type 0} (o : Outcome A) (f : A → ℕ → Outcome B) (g : B → ℕ → Outcome C) → then_do (then_do o f) g ≡ then_do o (λ a k. then_do (f a k) g)
 then-assoc (Done a k) f g = refl
 then-assoc (Trapped t line w) f g = refl
 then-assoc (More w) f g = refl
 then-assoc (Full w) f g = refl
 
-counted-then : {A B : Type 0} (w : Stand) (k : ℕ) (go : ℕ → Outcome A) (g : A → ℕ → Outcome B) → then_do (counted w k go) g ≡ counted w k (λ j. then_do (go j) g)
+pub counted-then : {A B : Type 0} (w : Stand) (k : ℕ) (go : ℕ → Outcome A) (g : A → ℕ → Outcome B) → then_do (counted w k go) g ≡ counted w k (λ j. then_do (go j) g)
 counted-then w zero go g = refl
 counted-then w (suc k) go g = refl
 

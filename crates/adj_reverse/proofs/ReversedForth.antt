@@ -1,0 +1,155 @@
+-- The row of a reversed loop in the forward sweep: its turns, with the step call where that is kept.
+use Rattle.std.proofs.Common.{◌≡◌, ◌≤◌, ◌<◌, ◌^◌, ℕ, zero, suc, ◌+◌, Bool, true, false, List, [], ◌∷◌, ◌++◌, length, refl, sym, ap, ◌∙◌, subst, arith, append_assoc}
+use Rattle.std.specs.Prelude.{ℤ, pos, Ok, ◌==◌, ◌&&◌, ◌||◌, Option, Some, None}
+use Rattle.std.proofs.lemmas.List.{append-nil}
+use Rattle.adj_tree.specs.Code.{Role, role_code, Var, plain, shadow, helper, first, stride, count, name_eq, plus, var, bin, none, assign, Term, call, Code, stop}
+use Rattle.adj_tree.proofs.Names.{nat_refl, name_refl}
+use Rattle.adj_word.specs.Word.{wrap, add}
+use Rattle.adj_word.proofs.Counting.{count_up}
+use Rattle.adj_meaning.specs.Append.{◌+++◌, one}
+use Rattle.adj_meaning.specs.Store.{Shape, size_of, Store, set}
+use Rattle.adj_meaning.specs.Value.{Setting}
+use Rattle.adj_meaning.specs.Run.{Calls}
+use Rattle.adj_meaning.specs.Leads.{Leads}
+use Rattle.adj_meaning.proofs.Leadings.{leads_stop, leads_step}
+use Rattle.adj_transpose.specs.Marks.{Vars, point_before, point_after}
+use Rattle.adj_transpose.specs.Marked.{code_if}
+use Rattle.adj_transpose.specs.Facts.{In, joined, without, Facts}
+use Rattle.adj_transpose.specs.Naming.{AreApart}
+use Rattle.adj_transpose.specs.Pairs.{Key, Words, on_words}
+use Rattle.adj_transpose.specs.Lists.{Kept, scene}
+use Rattle.adj_transpose.proofs.Variables.{or_false}
+use Rattle.adj_transpose.proofs.Turned.{SameDepth}
+use Rattle.adj_reverse.specs.Plan.{Plan, beside, IsActual, actuals_named}
+use Rattle.adj_reverse.specs.Emission.{literal}
+use Rattle.adj_reverse.specs.Laws.{just, point_inside, CalleeFacts}
+use Rattle.adj_reverse.specs.Runs.{Comes, SameOn, SameOff}
+use Rattle.adj_reverse.specs.Reversals.{Called, Reversal, LoopRun}
+use Rattle.adj_reverse.specs.ReversedLaws.{ReversedLaws}
+use Rattle.adj_reverse.proofs.Passing.{found_or, beside_back}
+use Rattle.adj_reverse.proofs.CallAdjoints.{writes_actual}
+use Rattle.adj_reverse.proofs.CallSweeps.{ActualsAgree}
+use Rattle.adj_reverse.proofs.Snapshots.{KnowsArrays}
+use Rattle.adj_reverse.proofs.LoopSweeps.{same_set, other_depth}
+use Rattle.adj_reverse.proofs.Turns.{next_store}
+use Rattle.adj_reverse.proofs.Goings.{Goes, TurnsGo, goes_stop, goes_one, goes_silent_after, turns_go-none, turns_go-more}
+use Rattle.adj_reverse.specs.Steps.{Steps}
+
+module _ (q : Calls ℤ) (sh : Var → Shape) (level : ℕ) (cells : List Key) (d line : ℕ) (p : Plan) (known : KnowsArrays p sh) (x : List ℕ) (one_cell : size_of (sh (plain x)) ≡ 1) (l m : ℕ) (a0 c0 : ℤ) (g : CalleeFacts) (given : List (List ℕ)) (apart : AreApart g.callee.dummies) (apart' : AreApart given) (name : List ℕ) (change : ℕ → Words → Words) (loops : ℕ → List LoopRun) (U U' : ℕ → Store ℤ)
+    (w : Facts) (i : ℕ) (ea eb ec : Term) (laws : ReversedLaws w i x ea eb ec g given) (small : suc l < 2 ^ 63)
+    (s : Steps q sh level cells line x g given name l a0 c0 change loops U U') (nexts : (j : ℕ) → j < l → U (suc j) ≡ set (U' j) (plain x) 0 (add (U' j (plain x) 0) c0)) where
+  abbrev nw : Setting ℤ
+  nw = on_words sh level
+
+  abbrev wr : Vars
+  wr = writes_actual g.callee given
+
+  abbrev plain_call : Code
+  plain_call = one line (call name (actuals_named given))
+
+  abbrev counting : Code
+  counting = one line (assign (helper count (suc d)) none (bin plus (var (helper count (suc d))) (literal 1)))
+
+  -- the step call, where it is kept
+  record Mid (k : Bool) (j : ℕ) (base : Kept) (f : Store ℤ) (t : List ℤ) : Type 0 where
+    to : Store ℤ
+    calls : List Called
+    goes : Goes q nw (code_if k plain_call) base f to t t calls []
+    same : SameOn sh (w.needed (point_after (suc i))) (U' j) to
+    off : SameOff wr f to
+    shades : (y : List ℕ) (c : ℕ) → to (shadow y) c ≡ f (shadow y) c
+    helpers : (r : Role) (n c : ℕ) → to (helper r n) c ≡ f (helper r n) c
+
+  needs_later : (v : Var) → In v (w.needed (point_after (suc i))) → In v (w.needed (point_before (suc i)))
+  needs_later v h = laws.call.values.needs v (rw h refl)
+
+  mid : (k : Bool) → w.marks.kept (suc i) ≡ k → (j : ℕ) → j < l → (base : Kept) (f : Store ℤ) (t : List ℤ) → SameOn sh (w.needed (point_before (suc i))) (U j) f → Mid k j base f t
+  mid true e j less base f t h =
+      let c = s.again j base f t less (record { at = λ n a b o c lt. h.at a c lt (laws.call.needs_uses e n a b o) }) in
+      record {
+        to = c.after;
+        calls = record { unit = name; height = length t } ∷ [];
+        goes = goes_one q nw line (call name (actuals_named given)) base f c.after t t (record { unit = name; height = length t } ∷ []) [] c.runs;
+        same = record { at = λ y n lt o. c.same y n (h.at y n lt (needs_later (plain y) o)) };
+        off = c.off;
+        shades = c.shades;
+        helpers = c.helpers;
+      }
+  mid false e j less base f t h = record {
+    to = f;
+    calls = [];
+    goes = goes_stop q nw base f t;
+    same = record { at = λ y n lt o. h.at y n lt (needs_later (plain y) o) ∙ sym ((s.off j less).at y n (idle y o (beside given g.callee.dummies y) refl)) };
+    off = record { at = λ y n o. refl };
+    shades = λ y c. refl;
+    helpers = λ r n c. refl;
+  }
+    where
+      -- a call that isn't kept writes nothing that is needed
+      idle : (y : List ℕ) → In (plain y) (w.needed (point_after (suc i))) → (o : Option (List ℕ)) → beside given g.callee.dummies y ≡ o → wr (plain y) ≡ false
+      idle y h None b = rw b refl
+      idle y h (Some n) b = go (g.callee.written (plain n)) refl
+        where
+          go : (v : Bool) → g.callee.written (plain n) ≡ v → wr (plain y) ≡ false
+          go true v = absurd (let c : true ≡ false = sym (laws.call.keeps n y (beside_back given g.callee.dummies apart' apart y n b) v h) ∙ e in cc)
+          go false v = rw (b, v) refl
+
+  -- the turns from the j-th on
+  pub record TurnsForth (n j : ℕ) (base : Kept) (f : Store ℤ) (t : List ℤ) : Type 0 where
+    pub to : Store ℤ
+    pub calls : List Called
+    pub runs : TurnsGo q nw n (code_if (w.marks.kept (suc i)) plain_call +++ counting) (plain x) c0 base f to t t calls []
+    pub same : SameOn sh (w.needed (point_inside i)) (U (j + n)) to
+    pub off : SameOff (joined (just (plain x)) wr) f to
+    pub shades : (y : List ℕ) (c : ℕ) → to (shadow y) c ≡ f (shadow y) c
+    pub depth : SameDepth d f to
+    pub counted_is : to (helper count (suc d)) 0 ≡ pos (j + n)
+    pub first_is : to (helper first (suc d)) 0 ≡ f (helper first (suc d)) 0
+    pub stride_is : to (helper stride (suc d)) 0 ≡ f (helper stride (suc d)) 0
+
+  pub turns_forth : wr (plain x) ≡ false → (n j : ℕ) (base : Kept) (f : Store ℤ) (t : List ℤ) → j + n ≤ l → SameOn sh (w.needed (point_inside i)) (U j) f → f (plain x) 0 ≡ U j (plain x) 0 → f (helper count (suc d)) 0 ≡ pos j → TurnsForth n j base f t
+  turns_forth x_free zero j base f t fits h v c =
+      let e : j + 0 ≡ j = omega arith in
+      record {
+        to = f;
+        calls = [];
+        runs = turns_go-none q nw (code_if (w.marks.kept (suc i)) plain_call +++ counting) (plain x) c0 base f t;
+        same = subst (λ z. SameOn sh (w.needed (point_inside i)) (U z) f) (sym e) h;
+        off = record { at = λ y n o. refl };
+        shades = λ y n. refl;
+        depth = record { at = λ r n c lt le. refl };
+        counted_is = c ∙ ap pos (sym e);
+        first_is = refl;
+        stride_is = refl;
+      }
+  turns_forth x_free (suc n) j base f t fits h v c =
+      let less : j < l = omega arith in
+      let k = mid (w.marks.kept (suc i)) refl j less base f t (record { at = λ y o lt a. h.at y o lt (laws.inside.values.needs (plain y) (rw a refl)) }) in
+      let number = add (k.to (helper count (suc d)) 0) (pos 1) in
+      let f2 = set k.to (helper count (suc d)) 0 number in
+      let f3 = set f2 (plain x) 0 (add (f2 (plain x) 0) c0) in
+      let turn = goes_silent_after q nw (code_if (w.marks.kept (suc i)) plain_call) counting base f k.to f2 t t t k.calls [] k.goes
+      (λ b. leads_step q nw line (assign (helper count (suc d)) none (bin plus (var (helper count (suc d))) (literal 1))) stop (scene b k.to t) (scene b f2 t) (scene b f2 t) (λ o. refl) (leads_stop q nw (scene b f2 t))) in
+      let value : f2 (plain x) 0 ≡ U' j (plain x) 0 = k.off.at x 0 x_free ∙ v ∙ sym ((s.off j less).at x 0 x_free) in
+      let same2 : SameOn sh (w.needed (point_after (suc i))) (U' j) f2 = record { at = λ y o lt a. k.same.at y o lt a } in
+      let same3 = same_set sh x one_cell (w.needed (point_after (suc i))) (w.needed (point_inside i)) (U' j) f2 (add (U' j (plain x) 0) c0) (add (f2 (plain x) 0) c0) (ap (λ z. add z c0) value) (λ y o a. laws.step_values.needs (plain y) (rw (a, o) refl)) same2 in
+      let same4 : SameOn sh (w.needed (point_inside i)) (U (suc j)) f3 = subst (λ (z : Store ℤ). SameOn sh (w.needed (point_inside i)) z f3) (sym (nexts j less)) same3 in
+      let here : f3 (plain x) 0 ≡ U (suc j) (plain x) 0 = rw (name_refl x) (ap (λ z. add z c0) value) ∙ next_value j less in
+      let up : f3 (helper count (suc d)) 0 ≡ pos (suc j) = rw (nat_refl (suc d)) (ap (λ z. add z (pos 1)) (k.helpers count (suc d) 0 ∙ c) ∙ count_up j (omega arith)) in
+      let r = turns_forth x_free n (suc j) turn.later f3 t (omega arith) same4 here up in
+      let e : suc j + n ≡ j + suc n = omega arith in
+      record {
+        to = r.to;
+        calls = k.calls ++ r.calls;
+        runs = turns_go-more q nw (code_if (w.marks.kept (suc i)) plain_call +++ counting) (plain x) c0 n base f f2 r.to t t t k.calls r.calls [] [] turn r.runs;
+        same = subst (λ z. SameOn sh (w.needed (point_inside i)) (U z) r.to) e r.same;
+        off = record { at = λ y o a. let b = or_false (name_eq y x) (wr (plain y)) a in r.off.at y o a ∙ rw b.0 (k.off.at y o b.1) };
+        shades = λ y o. r.shades y o ∙ k.shades y o;
+        depth = record { at = λ o z a lt le. r.depth.at o z a lt le ∙ rw (other_depth d (role_code o) 5 z le) (k.helpers o z a) };
+        counted_is = r.counted_is ∙ ap pos e;
+        first_is = r.first_is ∙ k.helpers first (suc d) 0;
+        stride_is = r.stride_is ∙ k.helpers stride (suc d) 0;
+      }
+    where
+      next_value : (j : ℕ) → j < l → add (U' j (plain x) 0) c0 ≡ U (suc j) (plain x) 0
+      next_value j less = sym (ap (λ (z : Store ℤ). z (plain x) 0) (nexts j less) ∙ rw (name_refl x) refl)

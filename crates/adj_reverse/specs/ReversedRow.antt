@@ -1,0 +1,79 @@
+-- The row of a marked loop that is reversed by a schedule, and what it does in both sweeps. (docs/EMITTED.md, "Reversal of a marked loop")
+use Rattle.std.specs.Prelude.{◌≡◌, ◌≤◌, ◌<◌, ℕ, suc, ℤ, pos, List, [], ◌∷◌, ◌++◌, Bool, false, Ok}
+use Rattle.adj_tree.specs.Code.{Var, plain, shadow, name_eq, unmarked, Term, call, Code}
+use Rattle.adj_word.specs.Word.{wrap, add}
+use Rattle.adj_word.specs.Pairing.{pairing}
+use Rattle.adj_meaning.specs.Append.{one}
+use Rattle.adj_meaning.specs.Read.{reads_term}
+use Rattle.adj_meaning.specs.Store.{Shape, size_of, Store, set}
+use Rattle.adj_meaning.specs.Value.{value}
+use Rattle.adj_meaning.specs.Run.{Calls, trips}
+use Rattle.adj_transpose.specs.Marks.{Vars, point_before, point_after}
+use Rattle.adj_transpose.specs.Marked.{code_if}
+use Rattle.adj_transpose.specs.Facts.{In, joined, Facts}
+use Rattle.adj_transpose.specs.Pairs.{Key, Words, shadows, on_words}
+use Rattle.adj_transpose.specs.Lists.{Kept}
+use Rattle.adj_reverse.specs.Plan.{Plan, actuals_named, save_group, writes_actual}
+use Rattle.adj_reverse.specs.Emission.{pushes, pops, adjoint_call}
+use Rattle.adj_reverse.specs.ReversalCode.{reversed_forward, reversed_backward, step_snapshot}
+use Rattle.adj_reverse.specs.Laws.{just, point_inside, CalleeFacts}
+use Rattle.adj_reverse.specs.ReversedLaws.{ReversedLaws}
+use Rattle.adj_reverse.specs.Kernel.{AllText}
+use Rattle.adj_reverse.specs.Passing.{plainly}
+use Rattle.adj_reverse.specs.Runs.{Comes, SameOn, SameOff}
+use Rattle.adj_reverse.specs.Reversals.{Reversal, LoopRun, AreReversed}
+use Rattle.adj_reverse.specs.Steps.{LeavesHelpers, changes, loops_of, Steps, StepFits, step_words}
+use Rattle.adj_reverse.specs.Theorem.{plan_of}
+
+-- what comes back of the loop in the backward sweep, from the store g
+pub record ReversedBack (q : Calls ℤ) (sh : Var → Shape) (level : ℕ) (xs : List Key) (d : ℕ) (x : List ℕ) (written held : Vars) (c : Code) (base : Kept) (f g : Store ℤ) (t t' : List ℤ) (change : Words → Words) (loops : List LoopRun) : Type 0 where
+  pub after : Store ℤ
+  -- it reverses these runs of loops
+  pub reversals : List Reversal
+  pub reversed : AreReversed loops reversals
+  pub runs : Comes q (on_words sh level) c base g after t t' reversals
+  -- what is held has the values of f again, the loop's variable aside
+  pub stays : (y : List ℕ) (j : ℕ) → j < size_of (sh (plain y)) → name_eq y x ≡ false → In (plain y) held → after (plain y) j ≡ f (plain y) j
+  pub off : SameOff written g after
+  pub pairs : (z : Words) → pairing xs (shadows after) z ≡ pairing xs (shadows g) (change z)
+  pub depth : LeavesHelpers d g after
+
+-- the loop in both sweeps, from the store f: the forward sweep comes to a store with the values of u' that are needed
+pub record ReversedRow (q : Calls ℤ) (sh : Var → Shape) (level : ℕ) (xs : List Key) (d : ℕ) (x : List ℕ) (written needed held held' : Vars) (forth back : Code) (base : Kept) (u' f : Store ℤ) (t : List ℤ) (change : Words → Words) (loops : List LoopRun) : Type 0 where
+  pub to : Store ℤ
+  pub trail : List ℤ
+  pub runs : Comes q (on_words sh level) forth base f to t (trail ++ t) []
+  pub same : SameOn sh needed u' to
+  pub off : SameOff written f to
+  pub shades : (y : List ℕ) (j : ℕ) → to (shadow y) j ≡ f (shadow y) j
+  pub depth : LeavesHelpers d f to
+  pub returns : (b : Kept) (h : Store ℤ) → SameOn sh held to h → ReversedBack q sh level xs d x written held' back b f h (trail ++ t) t change loops
+
+-- the row in the forward sweep of the i-th statement, whose step call is the statement after it
+abbrev pub row_forward : Plan → ℕ → ℕ → ℕ → List ℕ → Term → Term → Term → CalleeFacts → List (List ℕ) → List ℕ → Code
+row_forward p i d line x a b c g given name =
+    reversed_forward d line (plain x) a b c (pushes p line (save_group p.marks i g.callee given)) (pushes p line (step_snapshot g.callee g.read given)) (code_if (p.marks.kept (suc i)) (one line (call name (actuals_named given))))
+
+-- and in the backward sweep, with m snapshots
+abbrev pub row_backward : Plan → ℕ → ℕ → ℕ → List ℕ → ℕ → CalleeFacts → List (List ℕ) → List ℕ → Code
+row_backward p i d line x m g given name =
+    let snapshot = step_snapshot g.callee g.read given in
+    reversed_backward d line (plain x) m (pushes p line snapshot) (pops p line snapshot) (pops p line (save_group p.marks i g.callee given)) (one line (call name (actuals_named given))) (one line (adjoint_call g.callee given))
+
+-- With facts that meet the laws, both sweeps of a marked loop that turned l times do so: from a store with the values that are needed
+-- before it, where the program had u there and U i before its step i.
+abbrev pub ReversedRowsTurn : Type 0
+ReversedRowsTurn =
+    (q : Calls ℤ) (sh : Var → Shape) (level : ℕ) (cells : List Key) (line : ℕ) (x : List ℕ) (gs : List ℕ → CalleeFacts) (given : List (List ℕ)) (name : List ℕ) (w : Facts) (arrays : Vars) →
+    let g = gs name in
+    let p = plan_of gs w arrays in
+    StepFits q sh level cells line x g given name p →
+    (i d : ℕ) (a b c : Term) → ReversedLaws w i x a b c g given → AllText (λ v. reads_term v a) → AllText (λ v. reads_term v b) → AllText (λ v. reads_term v c) →
+    (l m : ℕ) → l ≤ 1099511627776 → 0 < m → m ≤ 64 →
+    (u : Store ℤ) (a0 b0 c0 : ℤ) → value (on_words (plainly sh) level) a u ≡ Ok a0 → value (on_words (plainly sh) level) b u ≡ Ok b0 → value (on_words (plainly sh) level) c u ≡ Ok c0 → trips unmarked a0 b0 c0 ≡ Ok l →
+    (change : ℕ → Words → Words) (loops : ℕ → List LoopRun) (U U' : ℕ → Store ℤ) →
+    U 0 ≡ set u (plain x) 0 (wrap a0) → ((j : ℕ) → j < l → U (suc j) ≡ set (U' j) (plain x) 0 (add (U' j (plain x) 0) c0)) → Steps q sh level cells line x g given name l a0 c0 change loops U U' →
+    (at : ℕ) (base : Kept) (f : Store ℤ) (t : List ℤ) → SameOn sh (w.needed (point_before i)) u f →
+    let run : LoopRun = record { mark = record { line = at; turns = l; snapshots = m }; unit = name; adjoint = g.callee.adjoint; words = step_words q sh level cells line x g given name } in
+    ReversedRow q sh level cells d x (joined (just (plain x)) (writes_actual g.callee given)) (w.needed (point_inside i)) (w.held (point_after i)) (w.held (point_before i))
+    (row_forward p i (suc d) line x a b c g given name) (row_backward p i (suc d) line x m g given name) base (U l) f t (changes change 0 l) (run ∷ loops_of loops 0 l)
