@@ -6,7 +6,5 @@
 #![tactic(auto)]
 
 pub mod marking;
-#[cfg(test)]
-mod tests;
 
 pub use marking::Marking;
