@@ -1,0 +1,10 @@
+//! The marks of a unit, as the emission asks for them.
+//!
+//! `Marking` says of a statement whether it is kept, adjointed and what it saves, and of a variable whether it has a shadow and
+//! where it is varied. Each clause says that the answer is the one of the marks that the theorem on sweeps speaks of
+//! (`adj_transpose/specs/Marks.antt`). The crate stands on those definitions; the layer above emits by its answers.
+#![tactic(auto)]
+
+pub mod marking;
+
+pub use marking::Marking;
