@@ -1,0 +1,135 @@
+-- Lists without faults, members of lists, and lists of names.
+use Rattle.std.proofs.Common.{◌≡◌, ℕ, zero, suc, Bool, true, false, List, [], ◌∷◌, ◌++◌, map, refl, sym, ap, ◌∙◌, subst, if◌then◌else◌}
+use Rattle.std.specs.Prelude.{◌||◌, flat_map, Option, Some, None}
+use Rattle.std.specs.List.{All}
+use Rattle.std.proofs.lemmas.List.Elements.{All-head, All-tail}
+use Rattle.adj_tree.specs.Code.{name_eq, Procedure}
+use Rattle.adj_tree.specs.declared.fault.Refusal.{Refusal}
+use Rattle.adj_tree.proofs.Names.{name_refl, name_same}
+use Rattle.adj_meaning.specs.Written.{find_unit}
+use Rattle.adj_meaning.specs.Agree as agree
+use Rattle.adj_names.specs.Statements.{At}
+use Rattle.adj_names.specs.Fault.{faults_if, again}
+use Rattle.adj_names.specs.Fresh as fresh
+use Rattle.adj_kernel.specs.Kernel.{EachUnit}
+use Rattle.adj_transpose.specs.Fresh.{has_name}
+use Rattle.adj_transpose.specs.Naming.{AreApart}
+use Rattle.adj_transpose.specs.Program.{unit_name, unit_at}
+use Rattle.adj_transpose.proofs.Variables.{or_false, or_left, or_right, name_comm, has_apart, not_true}
+
+-- ---- members
+
+-- P holds of each member
+abbrev pub Each : {A : Type 0} → (A → Type 0) → List A → Type 0
+Each P [] = Unit {0}
+Each P (x ∷ xs) = P x × Each P xs
+
+pub each_front : {A : Type 0} (P : A → Type 0) (xs ys : List A) → Each P (xs ++ ys) → Each P xs
+each_front P [] ys h = tt
+each_front P (x ∷ xs) ys h = (h.0, each_front P xs ys h.1)
+
+pub each_behind : {A : Type 0} (P : A → Type 0) (xs ys : List A) → Each P (xs ++ ys) → Each P ys
+each_behind P [] ys h = h
+each_behind P (x ∷ xs) ys h = each_behind P xs ys h.1
+
+pub each_more : {A : Type 0} (P Q : A → Type 0) → ((x : A) → P x → Q x) → (xs : List A) → Each P xs → Each Q xs
+each_more P Q f [] h = tt
+each_more P Q f (x ∷ xs) h = (f x h.0, each_more P Q f xs h.1)
+
+pub each_both : {A : Type 0} (P Q : A → Type 0) (xs : List A) → Each P xs → Each Q xs → Each (λ x. P x × Q x) xs
+each_both P Q [] h k = tt
+each_both P Q (x ∷ xs) h k = ((h.0, k.0), each_both P Q xs h.1 k.1)
+
+pub each_all : {A : Type 0} (P : A → Type 0) (xs : List A) → All P xs → Each P xs
+each_all P [] h = tt
+each_all P (x ∷ xs) h = (All-head P x xs h, each_all P xs (All-tail P x xs h))
+
+pub each_unit : (P : Procedure → Type 0) (us : List Procedure) → EachUnit P us → Each P us
+each_unit P [] h = tt
+each_unit P (u ∷ us) h = (h.0, each_unit P us h.1)
+
+-- what holds of each unit holds of the one that is found
+pub each_found : (P : Procedure → Type 0) (us : List Procedure) → Each P us → (name : List ℕ) (u : Procedure) → find_unit us name ≡ Some u → P u
+each_found P [] h name u f = absurd cc
+each_found P (v ∷ us) h name u f = go (name_eq v.name name) f (each_found P us h.1 name u)
+  where
+    go : (b : Bool) → (if b then Some v else find_unit us name) ≡ Some u → (find_unit us name ≡ Some u → P u) → P u
+    go true f ih = let same : v ≡ u = cc in subst P same h.0
+    go false f ih = ih f
+
+-- ---- no faults
+
+pub none_front : {A : Type 0} (xs ys : List A) → xs ++ ys ≡ [] → xs ≡ []
+none_front [] ys h = refl
+none_front (x ∷ xs) ys h = absurd cc
+
+pub none_behind : {A : Type 0} (xs ys : List A) → xs ++ ys ≡ [] → ys ≡ []
+none_behind [] ys h = h
+none_behind (x ∷ xs) ys h = absurd cc
+
+pub none_each : {A B : Type 0} (f : A → List B) (xs : List A) → flat_map f xs ≡ [] → Each (λ x. f x ≡ []) xs
+none_each f [] h = tt
+none_each f (x ∷ xs) h = (none_front (f x) (flat_map f xs) h, none_each f xs (none_behind (f x) (flat_map f xs) h))
+
+pub none_if : (b : Bool) (r : Refusal) → faults_if b r ≡ [] → b ≡ false
+none_if true r h = absurd cc
+none_if false r h = refl
+
+-- ---- names
+
+-- both crates' lookups are the same
+pub same_has : (x : List ℕ) (xs : List (List ℕ)) → fresh.has_name x xs ≡ has_name x xs
+same_has x [] = refl
+same_has x (y ∷ ys) = ap (λ b. name_eq x y || b) (same_has x ys)
+
+-- a name that stood before doesn't stand again
+not_again : (code : ℕ) (before : List (List ℕ)) (ps : List (At (List ℕ))) → again code before ps ≡ [] → (x : List ℕ) → fresh.has_name x before ≡ true → has_name x (map (λ p. p.1) ps) ≡ false
+not_again code before [] h x k = refl
+not_again code before (p ∷ ps) h x k = go (name_eq x p.1) refl (not_again code (p.1 ∷ before) ps (none_behind (faults_if (fresh.has_name p.1 before) _) (again code (p.1 ∷ before) ps) h) x (or_right (name_eq x p.1) (fresh.has_name x before) k))
+  where
+    first : fresh.has_name p.1 before ≡ false
+    first = none_if (fresh.has_name p.1 before) _ (none_front (faults_if (fresh.has_name p.1 before) _) (again code (p.1 ∷ before) ps) h)
+
+    go : (b : Bool) → name_eq x p.1 ≡ b → has_name x (map (λ p. p.1) ps) ≡ false → (b || has_name x (map (λ p. p.1) ps)) ≡ false
+    go true e ih = absurd (let q : true ≡ false = sym k ∙ ap (λ z. fresh.has_name z before) (name_same x p.1 e) ∙ first in cc)
+    go false e ih = ih
+
+-- places without a fault of that kind have names that are apart
+pub apart_places : (code : ℕ) (before : List (List ℕ)) (ps : List (At (List ℕ))) → again code before ps ≡ [] → AreApart (map (λ p. p.1) ps)
+apart_places code before [] h = tt
+apart_places code before (p ∷ ps) h =
+    let later : again code (p.1 ∷ before) ps ≡ [] = none_behind (faults_if (fresh.has_name p.1 before) _) (again code (p.1 ∷ before) ps) h in
+    (not_again code (p.1 ∷ before) ps later p.1 (or_left (name_eq p.1 p.1) (fresh.has_name p.1 before) (name_refl p.1)), apart_places code (p.1 ∷ before) ps later)
+
+-- names that are apart are so by the meaning's lookup, too
+stands_same : (d : List ℕ) (ds : List (List ℕ)) → has_name d ds ≡ false → agree.stands_among d ds ≡ false
+stands_same d [] h = refl
+stands_same d (e ∷ ds) h =
+    let p = or_false (name_eq d e) (has_name d ds) h in
+    ap (λ b. b || agree.stands_among d ds) (name_comm d e p.0) ∙ stands_same d ds p.1
+
+pub apart_same : (ds : List (List ℕ)) → AreApart ds → agree.AreApart ds
+apart_same [] h = tt
+apart_same (d ∷ ds) h = (stands_same d ds h.0, apart_same ds h.1)
+
+-- ---- units by their numbers
+
+unit_there : (k : ℕ) (us : List Procedure) (u : Procedure) → unit_at k us ≡ u ∷ [] → has_name u.name (map unit_name us) ≡ true
+unit_there zero [] u h = absurd cc
+unit_there (suc k) [] u h = absurd cc
+unit_there zero (v ∷ us) u h =
+    let same : v ≡ u = cc in
+    or_left (name_eq u.name v.name) (has_name u.name (map unit_name us)) (subst (λ w. name_eq u.name w.name ≡ true) (sym same) (name_refl u.name))
+unit_there (suc k) (v ∷ us) u h = or_right (name_eq u.name v.name) (has_name u.name (map unit_name us)) (unit_there k us u h)
+
+-- the unit of a number is found by its name, where names are apart
+pub unit_found : (k : ℕ) (us : List Procedure) (u : Procedure) → AreApart (map unit_name us) → unit_at k us ≡ u ∷ [] → find_unit us u.name ≡ Some u
+unit_found zero [] u a h = absurd cc
+unit_found (suc k) [] u a h = absurd cc
+unit_found zero (v ∷ us) u a h =
+    let same : v ≡ u = cc in
+    let e : name_eq v.name u.name ≡ true = subst (λ w. name_eq v.name w.name ≡ true) same (name_refl v.name) in
+    ap (λ b. if b then Some v else find_unit us u.name) e ∙ ap Some same
+unit_found (suc k) (v ∷ us) u a h =
+    let e : name_eq v.name u.name ≡ false = name_comm u.name v.name (has_apart u.name v.name (map unit_name us) (unit_there k us u h) a.0) in
+    ap (λ b. if b then Some v else find_unit us u.name) e ∙ unit_found k us u a.1 h

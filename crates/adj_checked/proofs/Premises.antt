@@ -1,0 +1,189 @@
+-- A checked program meets all that the law on emitted programs asks, and so what is emitted for it is its adjoint.
+use Rattle.std.proofs.Common.{◌≡◌, ℕ, zero, suc, Bool, true, false, List, [], ◌∷◌, ◌++◌, map, refl, sym, ap, ◌∙◌, subst, arith, if◌then◌else◌}
+use Rattle.std.specs.Prelude.{◌||◌, ◌==◌, not, length, flat_map, Option, Some, None}
+use Rattle.adj_tree.specs.Code.{Var, plain, name_eq, Act, Extent, Procedure}
+use Rattle.adj_tree.specs.declared.fault.Refusal.{Refusal}
+use Rattle.adj_meaning.specs.Written.{find_unit, handed_back}
+use Rattle.adj_meaning.specs.Read.{is_extent}
+use Rattle.adj_meaning.specs.Units.{declared}
+use Rattle.adj_text.specs.Written.{IsName, IsWrittenDeclaration, IsWrittenProcedure}
+use Rattle.adj_names.specs.Fresh as fresh
+use Rattle.adj_names.specs.Statements.{At, statements}
+use Rattle.adj_names.specs.Standing.{in_act}
+use Rattle.adj_names.specs.Variables as named
+use Rattle.adj_names.specs.Calls.{Call, calls, calls_lead}
+use Rattle.adj_names.specs.Fault.{Rules, fault, faults_if, again}
+use Rattle.adj_names.specs.UnitFaults.{unit_places, reserved_units, repeated_units}
+use Rattle.adj_names.specs.NameFaults.{undeclared, declared_twice, misused, bad_extents, has_bad_extents, has_rank, taken_in, faults_of_names}
+use Rattle.adj_names.specs.CallFaults.{faults_of_call}
+use Rattle.adj_names.specs.ChainFaults.{cycles, or_else, long_chains}
+use Rattle.adj_names.specs.WriteFaults.{writes_of_variable, written_variables, faults_of_writes}
+use Rattle.adj_names.specs.Laws.{HasNone}
+use Rattle.adj_names.proofs.Sound.{sound_has_none}
+use Rattle.adj_kernel.specs.Form.{IsKernelCode}
+use Rattle.adj_transpose.specs.Fresh.{has_name}
+use Rattle.adj_transpose.specs.Naming.{AreApart, AreInside}
+use Rattle.adj_transpose.specs.Program.{unit_name, variables, unit_at}
+use Rattle.adj_reverse.specs.Marking.{full_marks, full_facts, marks_in, callee_of, callee_facts, read_by, plain_by, arrays_of, first_statement, entry_point}
+use Rattle.adj_reverse.specs.Program.{calls_in, has_adjoint, answers, is_kept, is_carried}
+use Rattle.adj_reverse.specs.Environment.{UnitFits}
+use Rattle.adj_reverse.specs.Source.{CallUnits, SourceFits}
+use Rattle.adj_reverse.proofs.Full.{list_laws, way}
+use Rattle.adj_reverse.proofs.EmittedUnits.{found_there}
+use Rattle.adj_reverse.proofs.Adjoint.{full_is_adjoint}
+use Rattle.adj_checked.specs.Checked.{IsChecked, AllDeclared, CheckedFits, CheckedIsAdjoint}
+use Rattle.adj_checked.proofs.Lists.{Each, each_more, each_all, each_unit, each_both, each_found, none_front, none_behind, none_each, none_if, apart_places, apart_same}
+use Rattle.adj_checked.proofs.Texts.{Known}
+use Rattle.adj_checked.proofs.Statements.{names_given, CallHasNone, calls_inside, StatementSound, list_fits}
+use Rattle.adj_checked.proofs.Callings.{Found, all_found, each_at, head_uncalled, calls_found_some, roots_reached}
+use Rattle.adj_checked.proofs.Units.{dummy_names, declared_names, declaration_names, unit_names, variables_apart, dummy_among, variables_inside, extents_dummies, names_known}
+
+-- what isn't an array has no extents
+no_extents : (l : List Extent) → not (length l == 0) ≡ false → l ≡ []
+no_extents [] h = refl
+no_extents (e ∷ l) h = absurd (let x : length l ≡ length l = refl in grind arith)
+
+-- every dummy is a member and has a shadow
+all_members : (ps : List Procedure) (name d : List ℕ) (o : Option Procedure) → (callee_of full_marks ps name o).members (plain d) ≡ true
+all_members ps name d None = refl
+all_members ps name d (Some u) = refl
+
+all_shadowed : (ps : List Procedure) (name : List ℕ) (v : Var) (o : Option Procedure) → (callee_of full_marks ps name o).shadowed v ≡ true
+all_shadowed ps name v None = refl
+all_shadowed ps name v (Some u) = refl
+
+each_sound : (rules : Rules) (ps : List Procedure) (u : Procedure) (ss : List (At Act)) → Each (λ s. flat_map (λ n. faults_if (not (has_rank u n)) (fault 9 s.0)) (taken_in rules.takes_runtime s.1) ≡ []) ss → Each (CallHasNone ps u) ss → Each (λ s. writes_of_variable (handed_back ps) s.1 ≡ []) ss → Each (λ s. Each (Known (variables u)) (in_act s.1)) ss → Each (StatementSound rules ps u) ss
+each_sound rules ps u [] a b c d = tt
+each_sound rules ps u (s ∷ ss) a b c d = (record { ranks = a.0; called = b.0; spared = c.0; known = d.0 }, each_sound rules ps u ss a.1 b.1 c.1 d.1)
+
+first_none : (xs ys : List Refusal) → or_else xs ys ≡ [] → xs ≡ []
+first_none [] ys h = refl
+first_none (x ∷ xs) ys h = absurd cc
+
+calls_known : (ps us : List Procedure) → Each (λ u. Each (CallHasNone ps u) (statements u.body)) us → CallUnits ps us
+calls_known ps [] h = tt
+calls_known ps (u ∷ us) h = (calls_inside ps u u.body h.0, calls_known ps us h.1)
+
+module _ (rules : Rules) (ps : List Procedure) (checked : IsChecked rules ps) (declaring : AllDeclared ps) where
+  none : HasNone rules ps
+  none = sound_has_none rules ps checked.sound
+
+  units_apart : AreApart (map unit_name ps)
+  units_apart = subst AreApart (unit_names ps) (apart_places 19 [] (unit_places ps) (none_behind (reserved_units ps) (repeated_units ps) none.units))
+
+  found : Each (Found ps) ps
+  found = all_found ps units_apart
+
+  all_calls : Each (λ u. Each (CallHasNone ps u) (statements u.body)) ps
+  all_calls =
+      each_more (λ u. flat_map (λ s. faults_of_call ps u s.0 s.1) (statements u.body) ≡ []) (λ u. Each (CallHasNone ps u) (statements u.body)) (λ u h. none_each (λ s. faults_of_call ps u s.0 s.1) (statements u.body) h) ps
+      (none_each (λ u. flat_map (λ s. faults_of_call ps u s.0 s.1) (statements u.body)) ps none.calls)
+
+  -- no call leads back to its unit
+  no_cycle : (u : Procedure) → find_unit ps u.name ≡ Some u → Each (λ (c : At Call). calls_lead ps (c.1).0 u.name ≡ false) (calls u)
+  no_cycle u f =
+      each_more (λ (c : At Call). faults_if (calls_lead ps (c.1).0 u.name) (fault 16 c.0) ≡ []) (λ c. calls_lead ps (c.1).0 u.name ≡ false) (λ c h. none_if (calls_lead ps (c.1).0 u.name) (fault 16 c.0) h) (calls u)
+      (none_each (λ (c : At Call). faults_if (calls_lead ps (c.1).0 u.name) (fault 16 c.0)) (calls u)
+      (each_found (λ u. flat_map (λ (c : At Call). faults_if (calls_lead ps (c.1).0 u.name) (fault 16 c.0)) (calls u) ≡ []) ps
+      (none_each (λ u. flat_map (λ (c : At Call). faults_if (calls_lead ps (c.1).0 u.name) (fault 16 c.0)) (calls u)) ps (first_none (cycles ps) (long_chains rules ps) none.chains)) u.name u f))
+
+  -- ---- a unit that is found
+
+  module _ (name : List ℕ) (u : Procedure) (f : find_unit ps name ≡ Some u) where
+    of_names : faults_of_names rules ps u ≡ []
+    of_names = each_found (λ u. faults_of_names rules ps u ≡ []) ps (none_each (faults_of_names rules ps) ps none.names) name u f
+
+    once : declared_twice u ≡ []
+    once = none_front (declared_twice u) _ (none_behind (undeclared u) _ of_names)
+
+    ranked : misused rules u ≡ []
+    ranked = none_front (misused rules u) _ (none_behind (declared_twice u) _ (none_behind (undeclared u) _ of_names))
+
+    extended : bad_extents u ≡ []
+    extended = none_front (bad_extents u) _ (none_behind (misused rules u) _ (none_behind (declared_twice u) _ (none_behind (undeclared u) _ of_names)))
+
+    written : IsWrittenProcedure u
+    written = each_found IsWrittenProcedure ps (each_all IsWrittenProcedure ps checked.written) name u f
+
+    kernel : IsKernelCode u.body
+    kernel = each_found (λ u. IsKernelCode u.body) ps (each_unit (λ u. IsKernelCode u.body) ps checked.kernel) name u f
+
+    unit_declared : (x : List ℕ) → fresh.has_name x (named.variables u) ≡ true → fresh.has_name x (variables u) ≡ true
+    unit_declared =
+        each_found (λ u. (x : List ℕ) → fresh.has_name x (named.variables u) ≡ true → fresh.has_name x (variables u) ≡ true) ps
+        (each_unit (λ u. (x : List ℕ) → fresh.has_name x (named.variables u) ≡ true → fresh.has_name x (variables u) ≡ true) ps declaring) name u f
+
+    of_writes : faults_of_writes (handed_back ps) u ≡ []
+    of_writes = each_found (λ u. faults_of_writes (handed_back ps) u ≡ []) ps (none_each (faults_of_writes (handed_back ps)) ps none.writes) name u f
+
+    sound : Each (StatementSound rules ps u) (statements u.body)
+    sound =
+        each_sound rules ps u (statements u.body)
+        (none_each (λ s. flat_map (λ n. faults_if (not (has_rank u n)) (fault 9 s.0)) (taken_in rules.takes_runtime s.1)) (statements u.body) ranked)
+        (each_found (λ u. Each (CallHasNone ps u) (statements u.body)) ps all_calls name u f)
+        (none_each (λ s. writes_of_variable (handed_back ps) s.1) (statements u.body) (none_front (written_variables (handed_back ps) u) _ of_writes))
+        (names_known u unit_declared)
+
+    dummies_apart : AreApart u.dummies
+    dummies_apart = subst AreApart (dummy_names u.line u.dummies) (apart_places 8 [] (named.dummy_places u) (none_front (again 8 [] (named.dummy_places u)) (again 8 [] (named.declared_places u)) once))
+
+    declared_apart : AreApart (declared_names u.declarations)
+    declared_apart = subst AreApart (declaration_names u.declarations) (apart_places 8 [] (named.declared_places u) (none_behind (again 8 [] (named.dummy_places u)) (again 8 [] (named.declared_places u)) once))
+
+    extent_is_dummy : (d : List ℕ) → is_extent d u.declarations ≡ true → has_name d u.dummies ≡ true
+    extent_is_dummy d h =
+        extents_dummies u d u.declarations
+        (each_more (λ d. faults_if (has_bad_extents u d) (fault 12 d.line) ≡ []) (λ d. has_bad_extents u d ≡ false) (λ d e. none_if (has_bad_extents u d) (fault 12 d.line) e) u.declarations
+        (none_each (λ d. faults_if (has_bad_extents u d) (fault 12 d.line)) u.declarations extended)) h
+
+    same_dummies : (callee_facts full_facts ps name).callee.dummies ≡ u.dummies
+    same_dummies = ap (λ o. (callee_of full_marks ps name o).dummies) f
+
+    -- what a unit with an adjoint calls has an adjoint that is called, and is carried
+    served : (head : Procedure) (n : List ℕ) → calls_in full_marks.adjointed n (first_statement ps name) u.body ≡ true → has_adjoint full_marks ps head name ≡ true → (answers full_marks ps head n ≡ true) × (is_carried full_marks ps head n ≡ true)
+    served head n c there =
+        let same : u.name ≡ name = (found_there ps name u f).1 in
+        let inside : has_adjoint full_marks ps head u.name ≡ true = ap (has_adjoint full_marks ps head) same ∙ there in
+        let answered : answers full_marks ps head n ≡ true = calls_found_some (has_adjoint full_marks ps head) full_marks.adjointed n 0 ps name u f inside c in
+        (answered, roots_reached (is_kept full_marks ps head) (λ i. true) ps name u f n answered)
+
+    unit_fits : (head : Procedure) → UnitFits (λ line. false) ps (callee_facts full_facts ps) (has_adjoint full_marks ps head) (answers full_marks ps head) (is_carried full_marks ps head) name u (first_statement ps name) (variables u) (arrays_of u)
+    unit_fits head = record {
+      dummies = sym same_dummies;
+      dummies_apart = subst AreApart (sym same_dummies) dummies_apart;
+      vars_apart = variables_apart u dummies_apart declared_apart;
+      dummies_among = λ d h. dummy_among u d (subst (λ ds. has_name d ds ≡ true) same_dummies h);
+      scalars = λ x h. no_extents (declared u.declarations (plain x)) h;
+      wrote = λ d. ap (λ o. (callee_of full_marks ps name o).written (plain d)) f;
+      reads = λ d. ap (λ o. read_by ps o d) f;
+      shadowed = λ v. all_shadowed ps name v (find_unit ps name);
+      inert = λ h. sym (ap (λ o. plain_by (marks_in full_marks name) (first_statement ps name) o) f) ∙ h;
+      laws = record {
+        laws = list_laws ps name (entry_point ps name) (first_statement ps name) u.body (names_given u.body written.body kernel);
+        ends = way ps name _ _;
+        shadows = λ v a b. refl;
+        members = λ d a b. all_members ps name d (find_unit ps name);
+      };
+      extents = λ d h. all_members ps name d (find_unit ps name);
+      code = list_fits rules ps name u (has_adjoint full_marks ps head name) (answers full_marks ps head) (is_carried full_marks ps head) (first_statement ps name) u.body written.body kernel sound (λ n c there. served head n c there);
+    }
+
+    inside_text : AreInside (variables u)
+    inside_text = variables_inside u (each_all IsName u.dummies written.dummies) (each_all IsWrittenDeclaration u.declarations written.declarations)
+
+  pub source_fits : (head : ℕ) (u : Procedure) → unit_at head ps ≡ u ∷ [] → SourceFits (λ line. false) full_facts ps u
+  source_fits head u is = record {
+    units = λ name v f. unit_fits name v f u;
+    apart = λ name v f. apart_same v.dummies (dummies_apart name v f);
+    inside = λ name v f. inside_text name v f;
+    extents = λ name v f d h. extent_is_dummy name v f d h;
+    known = calls_known ps ps all_calls;
+    there = (each_at (Found ps) head ps u found is).0;
+    uncalled = head_uncalled ps found full_marks.adjointed u.name no_cycle;
+  }
+
+pub checked_fits : CheckedFits
+checked_fits = source_fits
+
+pub checked_is_adjoint : CheckedIsAdjoint
+checked_is_adjoint rules ps checked declaring head vars outvars u is = full_is_adjoint ps head vars outvars u is (source_fits rules ps checked declaring head u is)

@@ -1,0 +1,233 @@
+-- Statements of a unit that has no faults fit.
+use Rattle.std.proofs.Common.{◌≡◌, ℕ, zero, suc, Bool, true, false, List, [], ◌∷◌, ◌++◌, map, refl, sym, ap, ◌∙◌, subst, if◌then◌else◌}
+use Rattle.std.specs.Prelude.{◌||◌, ◌==◌, not, length, flat_map, Option, Some, None}
+use Rattle.adj_tree.specs.Code.{Var, plain, shadow, helper, name_eq, Term, Terms, none, more, Mark, unmarked, with_count, count_from, Act, assign, choose, loop, during, call, runtime, Code, stop, step, Procedure}
+use Rattle.adj_tree.proofs.Names.{nat_same, name_refl}
+use Rattle.adj_meaning.specs.LeastSet.{Dummies}
+use Rattle.adj_meaning.specs.Written.{find_unit, writes, act_writes, handed_back}
+use Rattle.adj_meaning.specs.Common.{CallsInside', CallsInside}
+use Rattle.adj_meaning.specs.Units.{declared}
+use Rattle.adj_text.specs.Written.{IsWrittenAct, IsWrittenCode}
+use Rattle.adj_names.specs.Reserved.{is_runtime}
+use Rattle.adj_names.specs.Statements.{At, inner, statements}
+use Rattle.adj_names.specs.Standing.{Standing, scalar, in_term, in_terms, in_place, in_mark, in_actuals, in_act}
+use Rattle.adj_names.specs.Variables.{rank}
+use Rattle.adj_names.specs.Fault.{Rules, fault, faults_if}
+use Rattle.adj_names.specs.NameFaults.{has_rank, taken_in}
+use Rattle.adj_names.specs.CallFaults.{are_actuals_for, faults_of_unit_call, faults_of_call}
+use Rattle.adj_names.specs.WriteFaults.{may_write, writes_of_variable}
+use Rattle.adj_kernel.specs.Form.{AreDistinctNames, IsKernelAct, IsKernelCode}
+use Rattle.adj_transpose.specs.Marks.{next, behind}
+use Rattle.adj_transpose.specs.Fresh.{has_name}
+use Rattle.adj_transpose.specs.Program.{variables}
+use Rattle.adj_transpose.proofs.Variables.{or_left, or_right}
+use Rattle.adj_reverse.specs.Plan.{beside, actuals_named}
+use Rattle.adj_reverse.specs.Laws.{CalleeFacts}
+use Rattle.adj_reverse.specs.Kernel.{AsMany, CallFits, Fits', FitsList}
+use Rattle.adj_reverse.specs.Marking.{full_marks, full_facts, marks_in, callee_of, callee_facts, arrays_of}
+use Rattle.adj_reverse.specs.Program.{calls_act, calls_in}
+use Rattle.adj_reverse.specs.Source.{is_unit}
+use Rattle.adj_reverse.proofs.Full.{GivesNames', GivesNames}
+use Rattle.adj_reverse.proofs.EmittedUnits.{found_there}
+use Rattle.adj_checked.proofs.Lists.{Each, each_front, each_behind, each_more, none_each, none_if}
+use Rattle.adj_checked.proofs.Texts.{Known, text_term, text_terms, text_test, place_variable, place_terms, known_term, treated, actuals_given, actuals_apart, actuals_known, actuals_many, actuals_rank}
+
+pub not_false : (b : Bool) → not b ≡ false → b ≡ true
+not_false true h = refl
+not_false false h = absurd cc
+
+both_false : (a b : Bool) → a ≡ false → b ≡ false → (a || b) ≡ false
+both_false true b e f = absurd cc
+both_false false b e f = f
+
+-- ---- calls give names
+
+mutual
+  names_given' : (a : Act) → IsWrittenAct a → IsKernelAct a → GivesNames' a
+  names_given' (assign x subs e) w k = tt
+  names_given' (choose c a b) w k = (names_given a w.1 k.0, names_given b w.2 k.1)
+  names_given' (loop x first last by body m) w k = names_given body w.4 k.1
+  names_given' (during c body) w k = names_given body w.1 k
+  names_given' (call name args) w k = actuals_given args k w.1
+  names_given' (runtime r) w k = absurd k
+
+  pub names_given : (c : Code) → IsWrittenCode c → IsKernelCode c → GivesNames c
+  names_given stop w k = tt
+  names_given (step line a rest) w k = (names_given' a w.0 k.0, names_given rest w.1 k.1)
+
+-- ---- a list whose statements don't write a variable doesn't
+
+-- no statement writes it
+abbrev pub Spared : Dummies → Var → At Act → Type 0
+Spared handed x s = may_write handed x s.1 ≡ false
+
+mutual
+  spares' : (handed : Dummies) (x : Var) (a : Act) → may_write handed x a ≡ false → Each (Spared handed x) (inner a) → act_writes handed x a ≡ false
+  spares' handed x (assign y subs e) h k = h
+  spares' handed x (choose c a b) h k =
+      both_false (writes handed x a) (writes handed x b) (spares handed x a (each_front (Spared handed x) (statements a) (statements b) k)) (spares handed x b (each_behind (Spared handed x) (statements a) (statements b) k))
+  spares' handed x (loop y first last by body m) h k = both_false _ (writes handed x body) h (spares handed x body k)
+  spares' handed x (during c body) h k = spares handed x body k
+  spares' handed x (call name args) h k = h
+  spares' handed x (runtime r) h k = h
+
+  pub spares : (handed : Dummies) (x : Var) (c : Code) → Each (Spared handed x) (statements c) → writes handed x c ≡ false
+  spares handed x stop k = refl
+  spares handed x (step line a rest) k =
+      both_false (act_writes handed x a) (writes handed x rest)
+      (spares' handed x a k.0 (each_front (Spared handed x) (inner a) (statements rest) k.1))
+      (spares handed x rest (each_behind (Spared handed x) (inner a) (statements rest) k.1))
+
+-- ---- what a CALL without fault is of
+
+pub record CallsUnit (ps : List Procedure) (caller : Procedure) (name : List ℕ) (args : Terms) : Type 0 where
+  pub unit : Procedure
+  pub found : find_unit ps name ≡ Some unit
+  pub fit : are_actuals_for caller unit unit.dummies args ≡ true
+
+pub call_of_unit : (ps : List Procedure) (caller : Procedure) (line : ℕ) (name : List ℕ) (args : Terms) → faults_of_call ps caller line (call name args) ≡ [] → CallsUnit ps caller name args
+call_of_unit ps caller line name args h = go (is_runtime name) h
+  where
+    at : (o : Option Procedure) → find_unit ps name ≡ o → faults_of_unit_call caller o line args ≡ [] → CallsUnit ps caller name args
+    at None e h = absurd cc
+    at (Some u) e h = record { unit = u; found = e; fit = not_false (are_actuals_for caller u u.dummies args) (none_if (not (are_actuals_for caller u u.dummies args)) (fault 15 line) h) }
+
+    go : (b : Bool) → (if b then fault 15 line ∷ [] else faults_of_unit_call caller (find_unit ps name) line args) ≡ [] → CallsUnit ps caller name args
+    go true h = absurd cc
+    go false h = at (find_unit ps name) refl h
+
+-- each call of a list is of a unit
+abbrev pub CallHasNone : List Procedure → Procedure → At Act → Type 0
+CallHasNone ps u s = faults_of_call ps u s.0 s.1 ≡ []
+
+mutual
+  calls_inside' : (ps : List Procedure) (u : Procedure) (line : ℕ) (a : Act) → faults_of_call ps u line a ≡ [] → Each (CallHasNone ps u) (inner a) → CallsInside' (is_unit ps) a
+  calls_inside' ps u line (assign x subs e) h k = tt
+  calls_inside' ps u line (choose c a b) h k = (calls_inside ps u a (each_front (CallHasNone ps u) (statements a) (statements b) k), calls_inside ps u b (each_behind (CallHasNone ps u) (statements a) (statements b) k))
+  calls_inside' ps u line (loop x first last by body m) h k = calls_inside ps u body k
+  calls_inside' ps u line (during c body) h k = calls_inside ps u body k
+  calls_inside' ps u line (call name args) h k = let c = call_of_unit ps u line name args h in (found_there ps name c.unit c.found).0
+  calls_inside' ps u line (runtime r) h k = tt
+
+  pub calls_inside : (ps : List Procedure) (u : Procedure) (c : Code) → Each (CallHasNone ps u) (statements c) → CallsInside (is_unit ps) c
+  calls_inside ps u stop k = tt
+  calls_inside ps u (step line a rest) k =
+      (calls_inside' ps u line a k.0 (each_front (CallHasNone ps u) (inner a) (statements rest) k.1), calls_inside ps u rest (each_behind (CallHasNone ps u) (inner a) (statements rest) k.1))
+
+-- ---- statements fit
+
+-- what a unit without faults has of each statement
+pub record StatementSound (rules : Rules) (ps : List Procedure) (u : Procedure) (s : At Act) : Type 0 where
+  pub ranks : flat_map (λ n. faults_if (not (has_rank u n)) (fault 9 s.0)) (taken_in rules.takes_runtime s.1) ≡ []
+  pub called : CallHasNone ps u s
+  pub spared : writes_of_variable (handed_back ps) s.1 ≡ []
+  pub known : Each (Known (variables u)) (in_act s.1)
+
+module _ (rules : Rules) (ps : List Procedure) (name : List ℕ) (u : Procedure) (present : Bool) (answers carried : List ℕ → Bool) where
+  abbrev g : List ℕ → CalleeFacts
+  g = callee_facts full_facts ps
+
+  abbrev Sound : At Act → Type 0
+  Sound s = StatementSound rules ps u s
+
+  -- what is called has an adjoint that is called, and is carried
+  abbrev pub Served : List ℕ → Type 0
+  Served n = present ≡ true → (answers n ≡ true) × (carried n ≡ true)
+
+  abbrev pub FitsHere : ℕ → ℕ → Act → Type 0
+  FitsHere i line a = Fits' (λ l. false) ps g answers carried present (marks_in full_marks name) (variables u) (arrays_of u) (handed_back ps) i line a
+
+  abbrev pub ListFits : ℕ → Code → Type 0
+  ListFits i c = FitsList (λ l. false) ps g answers carried present (marks_in full_marks name) (variables u) (arrays_of u) (handed_back ps) i c
+
+  -- a name that stands as a scalar is no array
+  no_array : (x : List ℕ) (line : ℕ) (b : Bool) → b ≡ has_rank u (record { name = x; subscripts = Some 0 }) → faults_if (not b) (fault 9 line) ≡ [] → arrays_of u (plain x) ≡ false
+  no_array x line b e h =
+      let t : (0 == rank u x) ≡ true = sym e ∙ not_false b (none_if (not b) (fault 9 line) h) in
+      let r : 0 ≡ rank u x = nat_same 0 (rank u x) t in
+      ap (λ k. not (k == 0)) (sym r)
+
+  scalar_at : (x : List ℕ) (line : ℕ) (later : List Standing) → flat_map (λ n. faults_if (not (has_rank u n)) (fault 9 line)) (record { name = x; subscripts = Some 0 } ∷ later) ≡ [] → arrays_of u (plain x) ≡ false
+  scalar_at x line later h = no_array x line (has_rank u (record { name = x; subscripts = Some 0 })) refl (none_each (λ n. faults_if (not (has_rank u n)) (fault 9 line)) (record { name = x; subscripts = Some 0 } ∷ later) h).0
+
+  target_scalar : (x : List ℕ) (subs : Terms) (e : Term) (line : ℕ) → flat_map (λ n. faults_if (not (has_rank u n)) (fault 9 line)) (in_act (assign (plain x) subs e)) ≡ [] → subs ≡ none → arrays_of u (plain x) ≡ false
+  target_scalar x none e line h n = scalar_at x line (in_term e) h
+  target_scalar x (more a es) e line h n = absurd cc
+
+  -- the names of a DO stand behind that of its mark
+  loop_scalar : (x : List ℕ) (first last by : Term) (body : Code) (m : Mark) (line : ℕ) → flat_map (λ n. faults_if (not (has_rank u n)) (fault 9 line)) (in_act (loop (plain x) first last by body m)) ≡ [] → arrays_of u (plain x) ≡ false
+  loop_scalar x first last by body m line h =
+      no_array x line (has_rank u (record { name = x; subscripts = Some 0 })) refl
+      (each_behind (λ n. faults_if (not (has_rank u n)) (fault 9 line) ≡ []) (in_mark m) (scalar (plain x) ++ (in_term first ++ (in_term last ++ in_term by)))
+      (none_each (λ n. faults_if (not (has_rank u n)) (fault 9 line)) (in_act (loop (plain x) first last by body m)) h)).0
+
+  -- the body of a DO doesn't write its variable
+  body_spares : (x : Var) (first last by : Term) (body : Code) (m : Mark) → writes_of_variable (handed_back ps) (loop x first last by body m) ≡ [] → writes (handed_back ps) x body ≡ false
+  body_spares x first last by body m h =
+      spares (handed_back ps) x body
+      (each_more (λ s. faults_if (may_write (handed_back ps) x s.1) (fault 11 s.0) ≡ []) (Spared (handed_back ps) x) (λ s e. none_if (may_write (handed_back ps) x s.1) (fault 11 s.0) e) (statements body)
+      (none_each (λ s. faults_if (may_write (handed_back ps) x s.1) (fault 11 s.0)) (statements body) h))
+
+  call_fits : (other : List ℕ) (args : Terms) → AreDistinctNames args → CallsUnit ps u other args → Each (Known (variables u)) (in_actuals args) → (given : List (List ℕ)) → args ≡ actuals_named given → CallFits ps (variables u) (arrays_of u) (g other) other given
+  call_fits other args d c k given e = record {
+    unit = c.unit;
+    found = c.found;
+    apart = actuals_apart given (subst AreDistinctNames e d);
+    many = subst (λ ds. AsMany ds given) (sym dummies) (actuals_many u c.unit c.unit.dummies given fit);
+    variables = λ a h. actuals_known (variables u) given (subst (λ l. Each (Known (variables u)) (in_actuals l)) e k) a h;
+    ranks = λ x a b none. ap (λ n. not (n == 0)) (actuals_rank u c.unit c.unit.dummies given fit x a (subst (λ ds. beside ds given x ≡ Some a) dummies b) ∙ ap length none);
+  }
+    where
+      dummies : (g other).callee.dummies ≡ c.unit.dummies
+      dummies = ap (λ o. (callee_of full_marks ps other o).dummies) c.found
+
+      fit : are_actuals_for u c.unit c.unit.dummies (actuals_named given) ≡ true
+      fit = subst (λ l. are_actuals_for u c.unit c.unit.dummies l ≡ true) e c.fit
+
+  mutual
+    act_fits : (i line : ℕ) (a : Act) → IsWrittenAct a → IsKernelAct a → Sound (line, a) → Each Sound (inner a) → ((n : List ℕ) → calls_act full_marks.adjointed n i a ≡ true → Served n) → FitsHere i line a
+    act_fits i line (assign (plain x) subs e) w k s inside c = record {
+      variable = (let known = s.known in known.0);
+      rank = target_scalar x subs e line s.ranks;
+      apart = k.0;
+      text = λ v h. text_term v e w.1 h;
+      subs_text = λ v h. text_terms v subs (place_terms (plain x) subs w.0) h;
+      treated = treated e k.1;
+      known = λ y h. known_term (variables u) y e (each_behind (Known (variables u)) (in_place (plain x) subs) (in_term e) s.known) h;
+    }
+    act_fits i line (assign (shadow x) subs e) w k s inside c = absurd (place_variable (shadow x) subs w.0)
+    act_fits i line (assign (helper r j) subs e) w k s inside c = absurd (place_variable (helper r j) subs w.0)
+    act_fits i line (choose t a b) w k s inside c = (
+      λ v h. text_test v t w.0 h,
+      (
+        list_fits (suc i) a w.1 k.0 (each_front Sound (statements a) (statements b) inside) (λ n h. c n (or_left (calls_in full_marks.adjointed n (suc i) a) (calls_in full_marks.adjointed n (behind (suc i) a) b) h)),
+        list_fits (behind (suc i) a) b w.2 k.1 (each_behind Sound (statements a) (statements b) inside) (λ n h. c n (or_right (calls_in full_marks.adjointed n (suc i) a) (calls_in full_marks.adjointed n (behind (suc i) a) b) h)),
+      ),
+    )
+    act_fits i line (loop (plain x) first last by body m) w k s inside c = (
+      record {
+        told = λ h. refl;
+        variable = (each_behind (Known (variables u)) (in_mark m) (scalar (plain x) ++ (in_term first ++ (in_term last ++ in_term by))) s.known).0;
+        scalar = loop_scalar x first last by body m line s.ranks;
+        spares = body_spares (plain x) first last by body m s.spared;
+        text_first = λ v h. text_term v first w.1 h;
+        text_last = λ v h. text_term v last w.2 h;
+        text_step = λ v h. text_term v by w.3 h;
+      },
+      list_fits (suc i) body w.4 k.1 inside c,
+    )
+    act_fits i line (loop (shadow x) first last by body m) w k s inside c = absurd w.0
+    act_fits i line (loop (helper r j) first last by body m) w k s inside c = absurd w.0
+    act_fits i line (during t body) w k s inside c = (λ v h. text_test v t w.0 h, list_fits (suc i) body w.1 k inside c)
+    act_fits i line (call other args) w k s inside c = (
+      call_fits other args k (call_of_unit ps u line other args s.called) s.known,
+      (λ pr a. (c other (name_refl other) pr).0, λ pr a. (c other (name_refl other) pr).1),
+    )
+    act_fits i line (runtime r) w k s inside c = absurd k
+
+    pub list_fits : (i : ℕ) (l : Code) → IsWrittenCode l → IsKernelCode l → Each Sound (statements l) → ((n : List ℕ) → calls_in full_marks.adjointed n i l ≡ true → Served n) → ListFits i l
+    list_fits i stop w k s c = tt
+    list_fits i (step line a rest) w k s c = (
+      act_fits i line a w.0 k.0 s.0 (each_front Sound (inner a) (statements rest) s.1) (λ n h. c n (or_left (calls_act full_marks.adjointed n i a) (calls_in full_marks.adjointed n (next i a) rest) h)),
+      list_fits (next i a) rest w.1 k.1 (each_behind Sound (inner a) (statements rest) s.1) (λ n h. c n (or_right (calls_act full_marks.adjointed n i a) (calls_in full_marks.adjointed n (next i a) rest) h)),
+    )

@@ -1,0 +1,18 @@
+//! What is emitted for a checked program in kernel form is its adjoint: definitions and laws, no code.
+//!
+//! `specs/Checked` says which programs are meant: those that can be written as a text, have no fault of names, calls, chains and
+//! writes, and are in kernel form. Its premises are those that checks decide; the crate joins the names of programs and kernel
+//! form with the theorem on both sweeps. The layer above uses `checked_law`.
+#![tactic(auto)]
+
+ghost use Rattle.adj_checked.specs.Checked.{CheckedFits, CheckedIsAdjoint};
+
+/// A checked program in kernel form whose variables are all declared meets all that the law on emitted programs asks.
+pub fn premises_law()
+    ensures { CheckedFits }
+{}
+
+/// What is emitted for it with full marks is its adjoint, with each of its units as the head.
+pub fn checked_law()
+    ensures { CheckedIsAdjoint }
+{}
