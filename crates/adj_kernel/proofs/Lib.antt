@@ -40,3 +40,9 @@ pub mod Capped
 pub mod FreshWritten
 pub mod WrittenKernels
 pub mod StepsWritten
+pub mod Faultless
+pub mod SoundCalls
+pub mod SoundFits
+pub mod SoundExtents
+pub mod SoundPrograms
+pub mod OneNotion

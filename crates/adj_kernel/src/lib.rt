@@ -10,6 +10,7 @@ ghost use Rattle.adj_meaning.specs.Laws.{ForBoth};
 ghost use Rattle.adj_kernel.specs.Theorem.{BothShowWords, KernelMeansTheSame, KernelFitsTheSame, KernelWritesTheSame, KernelStatementsWriteTheSame, KernelHasItsForm};
 ghost use Rattle.adj_kernel.specs.StepMeans.{WholeKernelHasUnits, WholeKernelMeansAlike, WholeKernelHasItsForm, WholeKernelWritesTheSame};
 ghost use Rattle.adj_kernel.specs.WrittenTheorem.{KernelIsWritten, WholeKernelIsWritten};
+ghost use Rattle.adj_kernel.specs.Sound.{AcceptedIsSource, AcceptedMeansAlike, AcceptedHasItsForm, AcceptedIsWritten, AcceptedWritesTheSame, AcceptedCostsItsWeight, VariablesAreThose};
 ghost use Rattle.adj_kernel.specs.Worked.{OneEach, MaximumInMaximum, InOperations, LeftAlone, InPowers, TargetsApart, NamesOfCalls, ElementsOfCalls, ValuesOfCalls, BodiesLowered, LocalsNamed, WorkedExample, StepUnits};
 ghost use Rattle.adj_kernel.specs.WeighTheorem.{StatementsWeigh, ListsWeigh, TowersWeigh, NothingToStep, KernelCostsItsWeight, CappedAreWeights};
 
@@ -49,6 +50,17 @@ pub fn weight_laws()
 pub fn written_laws()
     ensures kernel { WholeKernelIsWritten }
     ensures lowered { KernelIsWritten }
+{}
+
+/// The laws on kernels hold of each program that is accepted as a text of a user: it is what they ask for.
+pub fn accepted_laws()
+    ensures source { ForBoth AcceptedIsSource }
+    ensures means_alike { ForBoth AcceptedMeansAlike }
+    ensures form { AcceptedHasItsForm }
+    ensures written { AcceptedIsWritten }
+    ensures writes { AcceptedWritesTheSame }
+    ensures cost { ForBoth AcceptedCostsItsWeight }
+    ensures variables { VariablesAreThose }
 {}
 
 /// The kernels of statements and programs that were worked out by hand.
