@@ -5,8 +5,9 @@ use Rattle.std.specs.List.{All, list_any}
 use Rattle.std.proofs.lemmas.List.Elements.{All-head, All-tail}
 use Rattle.adj_tree.specs.Code.{name_eq, Procedure}
 use Rattle.adj_tree.specs.declared.fault.Refusal.{Refusal}
+use Rattle.adj_tree.proofs.Names.{name_refl}
 use Rattle.adj_meaning.specs.Written.{find_unit}
-use Rattle.adj_meaning.proofs.Booleans.{or_false}
+use Rattle.adj_meaning.proofs.Booleans.{or_false, or_first, or_second}
 use Rattle.adj_names.specs.Fault.{faults_if}
 use Rattle.adj_names.specs.Fresh as fresh
 use Rattle.adj_transpose.specs.Fresh.{has_name}
@@ -24,6 +25,10 @@ each_front P (x ∷ xs) ys h = (h.0, each_front P xs ys h.1)
 pub each_behind : {A : Type 0} (P : A → Type 0) (xs ys : List A) → Each P (xs ++ ys) → Each P ys
 each_behind P [] ys h = h
 each_behind P (x ∷ xs) ys h = each_behind P xs ys h.1
+
+pub each_join : {A : Type 0} (P : A → Type 0) (xs ys : List A) → Each P xs → Each P ys → Each P (xs ++ ys)
+each_join P [] ys h g = g
+each_join P (x ∷ xs) ys h g = (h.0, each_join P xs ys h.1 g)
 
 pub each_more : {A : Type 0} (P Q : A → Type 0) → ((x : A) → P x → Q x) → (xs : List A) → Each P xs → Each Q xs
 each_more P Q f [] h = tt
@@ -44,6 +49,14 @@ each_map P f (x ∷ xs) h = (h.0, each_map P f xs h.1)
 pub each_flat : {A B : Type 0} (P : B → Type 0) (f : A → List B) (xs : List A) → Each P (flat_map f xs) → Each (λ x. Each P (f x)) xs
 each_flat P f [] h = tt
 each_flat P f (x ∷ xs) h = (each_front P (f x) (flat_map f xs) h, each_flat P f xs (each_behind P (f x) (flat_map f xs) h))
+
+pub flat_each : {A B : Type 0} (P : B → Type 0) (f : A → List B) (xs : List A) → Each (λ x. Each P (f x)) xs → Each P (flat_map f xs)
+flat_each P f [] h = tt
+flat_each P f (x ∷ xs) h = each_join P (f x) (flat_map f xs) h.0 (flat_each P f xs h.1)
+
+pub unit_each : (P : Procedure → Type 0) (us : List Procedure) → EachUnit P us → Each P us
+unit_each P [] h = tt
+unit_each P (u ∷ us) h = (h.0, unit_each P us h.1)
 
 -- units one by one
 pub of_each : (P : Procedure → Type 0) (us : List Procedure) → Each P us → EachUnit P us
@@ -76,6 +89,26 @@ none_each f (x ∷ xs) h = (none_front (f x) (flat_map f xs) h, none_each f xs (
 pub none_if : (b : Bool) (r : Refusal) → faults_if b r ≡ [] → b ≡ false
 none_if true r h = absurd cc
 none_if false r h = refl
+
+pub none_flat : {A B : Type 0} (f : A → List B) (xs : List A) → Each (λ x. f x ≡ []) xs → flat_map f xs ≡ []
+none_flat f [] h = refl
+none_flat f (x ∷ xs) h = ap (λ z. z ++ flat_map f xs) h.0 ∙ none_flat f xs h.1
+
+pub if_none : (b : Bool) (r : Refusal) → b ≡ false → faults_if b r ≡ []
+if_none b r h = ap (λ z. if z then r ∷ [] else []) h
+
+pub none_both : {A : Type 0} (xs ys : List A) → xs ≡ [] → ys ≡ [] → xs ++ ys ≡ []
+none_both xs ys h g = ap (λ z. z ++ ys) h ∙ g
+
+-- what holds for each i of each member holds of each member for each i
+pub each_swap : {I A : Type 0} (P : I → A → Type 0) (xs : List A) → ((i : I) → Each (P i) xs) → Each (λ x. (i : I) → P i x) xs
+each_swap P [] h = tt
+each_swap P (x ∷ xs) h = ((λ i. (h i).0), each_swap P xs (λ i. (h i).1))
+
+-- what holds of no name of a list
+pub none_any : (f : List ℕ → Bool) (xs : List (List ℕ)) → ((x : List ℕ) → fresh.has_name x xs ≡ true → f x ≡ false) → list_any f xs ≡ false
+none_any f [] h = refl
+none_any f (x ∷ xs) h = ap (λ b. b || list_any f xs) (h x (or_first (name_eq x x) (fresh.has_name x xs) (name_refl x))) ∙ none_any f xs (λ y k. h y (or_second (name_eq y x) (fresh.has_name y xs) k))
 
 pub isn't_not : (b : Bool) → not b ≡ false → b ≡ true
 isn't_not true h = refl

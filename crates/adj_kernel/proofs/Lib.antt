@@ -46,3 +46,8 @@ pub mod SoundFits
 pub mod SoundExtents
 pub mod SoundPrograms
 pub mod OneNotion
+pub mod Holding
+pub mod Sparing
+pub mod StepSpared
+pub mod SoundWrites
+pub mod SoundUnits

@@ -18,7 +18,7 @@ use Rattle.adj_names.specs.Variables.{is_dummy, is_scalar}
 use Rattle.adj_names.specs.NameFaults.{extent_names, literal_product, is_bad_extent, has_bad_extents}
 use Rattle.adj_names.specs.WriteFaults.{may_write}
 use Rattle.adj_kernel.specs.Stepped.{names_extent}
-use Rattle.adj_kernel.proofs.Faultless.{Each, each_front, each_behind, isn't_not}
+use Rattle.adj_kernel.proofs.Faultless.{Each, each_front, each_behind, each_join, isn't_not}
 
 -- ---- names of extents
 
@@ -50,7 +50,7 @@ no_extents [] h = refl
 no_extents (e ∷ l) h = absurd (let x = nat_same (length (e ∷ l)) 0 h in omega arith)
 
 -- a name of an extent is an extent of the unit
-is_among-named : (x : List ℕ) (es : List Extent) → names_extent x es ≡ is_among x es
+pub is_among-named : (x : List ℕ) (es : List Extent) → names_extent x es ≡ is_among x es
 is_among-named x [] = refl
 is_among-named x (fixed z ∷ es) = is_among-named x es
 is_among-named x (given y ∷ es) = ap (λ b. name_eq x y || b) (is_among-named x es)
@@ -84,6 +84,23 @@ module _ (handed : Dummies) (x : Var) where
     unwritten (step line a rest) h =
         both_false (act_writes handed x a) (writes handed x rest) (act_unwritten line a h.0 (each_front (λ (s : At Act). may_write handed x s.1 ≡ false) (inner a) (statements rest) h.1))
         (unwritten rest (each_behind (λ (s : At Act). may_write handed x s.1 ≡ false) (inner a) (statements rest) h.1))
+
+  mutual
+    -- and the other way
+    act_spared : (line : ℕ) (a : Act) → act_writes handed x a ≡ false → (may_write handed x a ≡ false) × Each (λ (s : At Act). may_write handed x s.1 ≡ false) (inner a)
+    act_spared line (assign y subs e) h = (h, tt)
+    act_spared line (choose c a b) h = let p = or_false (writes handed x a) (writes handed x b) h in (refl, each_join (λ (s : At Act). may_write handed x s.1 ≡ false) (statements a) (statements b) (spared a p.0) (spared b p.1))
+    act_spared line (loop y first last by body m) h = let p = or_false (var_eq x y) (writes handed x body) h in (p.0, spared body p.1)
+    act_spared line (during c body) h = (refl, spared body h)
+    act_spared line (call name args) h = (h, tt)
+    act_spared line (runtime r) h = (h, tt)
+
+    pub spared : (c : Code) → writes handed x c ≡ false → Each (λ (s : At Act). may_write handed x s.1 ≡ false) (statements c)
+    spared stop h = tt
+    spared (step line a rest) h =
+        let p = or_false (act_writes handed x a) (writes handed x rest) h in
+        let q = act_spared line a p.0 in
+        (q.0, each_join (λ (s : At Act). may_write handed x s.1 ≡ false) (inner a) (statements rest) q.1 (spared rest p.1))
 
 -- ---- literals
 

@@ -24,7 +24,7 @@ use Rattle.adj_kernel.proofs.StepUnits.{step_body_inside}
 -- ---- distinct names
 
 -- no name stands twice
-abbrev Distinct : List (List ℕ) → Type 0
+abbrev pub Distinct : List (List ℕ) → Type 0
 Distinct [] = Unit {0}
 Distinct (x ∷ xs) = (has_name x xs ≡ false) × Distinct xs
 
@@ -68,7 +68,7 @@ used_distinct ds names (v ∷ vs) h = go (is_used ds names v) (used_distinct ds 
     go false ih = ih
 
 -- the dummies of a step unit are distinct
-dummies_distinct : (u : Procedure) (x : Var) (body : Code) → Distinct (step_dummies u x body)
+pub dummies_distinct : (u : Procedure) (x : Var) (body : Code) → Distinct (step_dummies u x body)
 dummies_distinct u x body = used_distinct u.declarations (named x ++ names_in_code body) (variables_of u) (once_distinct [] (names_of u))
 
 -- ---- names as actuals

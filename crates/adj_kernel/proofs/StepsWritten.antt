@@ -10,8 +10,8 @@ use Rattle.adj_text.specs.Written.{IsName, IsVariable, IsIndexed, IsWrittenTerm,
 use Rattle.adj_text.specs.Statement.{runtime_call}
 use Rattle.adj_meaning.specs.Append.{one}
 use Rattle.adj_meaning.specs.Units.{declared}
-use Rattle.adj_meaning.proofs.Booleans.{or_first, or_second}
-use Rattle.adj_transpose.specs.Fresh.{has_name, digits, candidate, first_free}
+use Rattle.adj_meaning.proofs.Booleans.{or_false, or_first, or_second}
+use Rattle.adj_transpose.specs.Fresh.{has_name, digits, candidate, first_free, reserved}
 use Rattle.adj_transpose.proofs.Naming.{has-append}
 use Rattle.adj_kernel.specs.Apart.{EachCall', EachCall}
 use Rattle.adj_kernel.specs.Kernel.{named, names_in, names_in_all, names_in_test, names_in_mark, names_in_act, names_in_code, declared_names, names_of, EachUnit}
@@ -77,6 +77,21 @@ unfolding has_underscore
 no_runtime x es h =
     skip_name x (codes "PUSHINTEGER8") _ _ h refl ∙ skip_name x (codes "POPINTEGER8") _ _ h refl ∙ skip_name x (codes "PUSHINTEGER8ARRAY") _ _ h refl ∙ skip_name x (codes "POPINTEGER8ARRAY") _ _ h refl ∙ skip_name x (codes "PUSHCONTROL1B") _ _ h refl
     ∙ skip_name x (codes "POPCONTROL1B") _ _ h refl ∙ skip_name x (codes "ADZERO8") _ _ h refl ∙ skip_name x (codes "ADBEG") _ _ h refl ∙ skip_name x (codes "ADACTN") _ _ h refl ∙ skip_name x (codes "ADACT") _ _ h refl ∙ skip_name x (codes "ADEND") _ _ h refl
+
+-- nor is it any other name without one
+any_underscore : List (List ℕ) → Bool
+any_underscore [] = false
+any_underscore (y ∷ ys) = has_underscore y || any_underscore ys
+
+none_of : (x : List ℕ) (ys : List (List ℕ)) → has_underscore x ≡ true → any_underscore ys ≡ false → has_name x ys ≡ false
+unfolding any_underscore
+none_of x [] h g = refl
+none_of x (y ∷ ys) h g = let p = or_false (has_underscore y) (any_underscore ys) g in ap (λ b. b || has_name x ys) (other_name x y h p.0) ∙ none_of x ys h p.1
+
+-- so it isn't reserved
+pub step_unreserved : (taken : List (List ℕ)) (base : List ℕ) (k : ℕ) → has_name (step_name taken base k) reserved ≡ false
+unfolding has_underscore any_underscore
+step_unreserved taken base k = none_of (step_name taken base k) reserved (step_underscore taken base k) refl
 
 -- and is a name
 step_named : (taken : List (List ℕ)) (base : List ℕ) (k : ℕ) → IsName base → IsName (step_name taken base k)

@@ -1,5 +1,5 @@
 -- What is known of the kernel of a program that is accepted, as a text that a user writes. (docs/KERNEL.md)
-use Rattle.std.specs.Prelude.{◌≡◌, ℕ, ◌*◌, List, true, Option, Some}
+use Rattle.std.specs.Prelude.{◌≡◌, ℕ, ◌*◌, List, [], true, Option, Some}
 use Rattle.adj_tree.specs.Code.{Procedure}
 use Rattle.adj_text.specs.Written.{IsWritten}
 use Rattle.adj_meaning.specs.Numbers.{Numbers}
@@ -7,6 +7,8 @@ use Rattle.adj_meaning.specs.Written.{find_unit, handed_back}
 use Rattle.adj_meaning.specs.Units.{Slot, fits, run_unit}
 use Rattle.adj_names.specs.Variables.{variables}
 use Rattle.adj_names.specs.Fault.{source_rules}
+use Rattle.adj_names.specs.UnitFaults.{unit_faults}
+use Rattle.adj_names.specs.WriteFaults.{write_faults}
 use Rattle.adj_names.specs.Check.{IsSound}
 use Rattle.adj_kernel.specs.Weights.{WeighsAtMost}
 use Rattle.adj_kernel.specs.Apart.{ShowWords}
@@ -54,3 +56,13 @@ AcceptedCostsItsWeight C =
 -- the variables that step units are made of are those of the unit, in their order
 abbrev pub VariablesAreThose : Type 0
 VariablesAreThose = (u : Procedure) → variables_of u ≡ variables u
+
+-- ---- the kernel itself has no fault, as a text that is run
+
+-- no two of its units have one name, and none is named like an intrinsic or a runtime call
+abbrev pub KernelUnitsStand : Type 0
+KernelUnitsStand = (units : List Procedure) → IsAccepted units → unit_faults (kernel_of units) ≡ []
+
+-- no statement of it writes what it may not
+abbrev pub KernelWritesStand : Type 0
+KernelWritesStand = (units : List Procedure) → IsAccepted units → write_faults (kernel_of units) ≡ []

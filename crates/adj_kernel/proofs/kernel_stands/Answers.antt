@@ -1,0 +1,10 @@
+-- Each pass has its lemma.
+use Rattle.adj_kernel.proofs.SoundUnits.{kernel_units}
+use Rattle.adj_kernel.proofs.SoundWrites.{kernel_writes}
+use Rattle.adj_kernel.proofs.kernel_stands.Goals as goal
+
+pub returns-clause-units : goal.returns-clause-units
+returns-clause-units c units a = kernel_units units a.sound
+
+pub returns-clause-writes : goal.returns-clause-writes
+returns-clause-writes c units a = kernel_writes units a.written a.sound
