@@ -1,0 +1,5 @@
+-- The proofs about what is emitted for a program.
+pub mod Over
+pub mod Terms
+pub mod Helpers
+pub mod Sweeps
