@@ -3,3 +3,4 @@ pub mod Over
 pub mod Terms
 pub mod Helpers
 pub mod Sweeps
+pub mod Renamed
