@@ -4,3 +4,4 @@ pub mod Terms
 pub mod Helpers
 pub mod Sweeps
 pub mod Renamed
+pub mod Tables
