@@ -5,3 +5,5 @@ pub mod Helpers
 pub mod Sweeps
 pub mod Renamed
 pub mod Tables
+pub mod Source
+pub mod Used
