@@ -1,8 +1,8 @@
 -- Where no call lies on a cycle, no unit that has an adjoint calls the head.
-use Rattle.std.proofs.Common.{◌≡◌, ℕ, zero, suc, Bool, true, false, List, [], ◌∷◌, ◌++◌, map, refl, sym, ap, ◌∙◌, subst, if◌then◌else◌}
-use Rattle.std.specs.Prelude.{◌&&◌, ◌||◌, not, length, flat_map, Option, Some, None}
+use Rattle.std.proofs.Common.{◌≡◌, ℕ, zero, suc, Bool, true, false, List, [], ◌∷◌, map, refl, sym, ap, ◌∙◌, subst, if◌then◌else◌}
+use Rattle.std.specs.Prelude.{◌&&◌, ◌||◌, not, length, flat_map, Some}
 use Rattle.std.specs.List.{list_any}
-use Rattle.adj_tree.specs.Code.{name_eq, Term, Terms, Act, assign, choose, loop, during, call, runtime, Code, stop, step, Procedure}
+use Rattle.adj_tree.specs.Code.{name_eq, Act, assign, choose, loop, during, call, runtime, Code, stop, step, Procedure}
 use Rattle.adj_tree.proofs.Names.{name_refl, name_same}
 use Rattle.adj_meaning.specs.Written.{find_unit}
 use Rattle.adj_names.specs.Statements.{At, inner, statements}

@@ -4,4 +4,5 @@ pub mod Texts
 pub mod Statements
 pub mod Callings
 pub mod Units
+pub mod Names
 pub mod Premises

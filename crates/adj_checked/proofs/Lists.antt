@@ -1,6 +1,6 @@
 -- Lists without faults, members of lists, and lists of names.
 use Rattle.std.proofs.Common.{◌≡◌, ℕ, zero, suc, Bool, true, false, List, [], ◌∷◌, ◌++◌, map, refl, sym, ap, ◌∙◌, subst, if◌then◌else◌}
-use Rattle.std.specs.Prelude.{◌||◌, flat_map, Option, Some, None}
+use Rattle.std.specs.Prelude.{◌||◌, flat_map, Some}
 use Rattle.std.specs.List.{All}
 use Rattle.std.proofs.lemmas.List.Elements.{All-head, All-tail}
 use Rattle.adj_tree.specs.Code.{name_eq, Procedure}
@@ -15,7 +15,7 @@ use Rattle.adj_kernel.specs.Kernel.{EachUnit}
 use Rattle.adj_transpose.specs.Fresh.{has_name}
 use Rattle.adj_transpose.specs.Naming.{AreApart}
 use Rattle.adj_transpose.specs.Program.{unit_name, unit_at}
-use Rattle.adj_transpose.proofs.Variables.{or_false, or_left, or_right, name_comm, has_apart, not_true}
+use Rattle.adj_transpose.proofs.Variables.{or_false, or_left, or_right, name_comm, has_apart}
 
 -- ---- members
 
@@ -27,6 +27,10 @@ Each P (x ∷ xs) = P x × Each P xs
 pub each_front : {A : Type 0} (P : A → Type 0) (xs ys : List A) → Each P (xs ++ ys) → Each P xs
 each_front P [] ys h = tt
 each_front P (x ∷ xs) ys h = (h.0, each_front P xs ys h.1)
+
+pub each_append : {A : Type 0} (P : A → Type 0) (xs ys : List A) → Each P xs → Each P ys → Each P (xs ++ ys)
+each_append P [] ys h k = k
+each_append P (x ∷ xs) ys h k = (h.0, each_append P xs ys h.1 k)
 
 pub each_behind : {A : Type 0} (P : A → Type 0) (xs ys : List A) → Each P (xs ++ ys) → Each P ys
 each_behind P [] ys h = h
@@ -76,11 +80,6 @@ none_if true r h = absurd cc
 none_if false r h = refl
 
 -- ---- names
-
--- both crates' lookups are the same
-pub same_has : (x : List ℕ) (xs : List (List ℕ)) → fresh.has_name x xs ≡ has_name x xs
-same_has x [] = refl
-same_has x (y ∷ ys) = ap (λ b. name_eq x y || b) (same_has x ys)
 
 -- a name that stood before doesn't stand again
 not_again : (code : ℕ) (before : List (List ℕ)) (ps : List (At (List ℕ))) → again code before ps ≡ [] → (x : List ℕ) → fresh.has_name x before ≡ true → has_name x (map (λ p. p.1) ps) ≡ false

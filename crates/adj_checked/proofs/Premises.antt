@@ -1,16 +1,16 @@
 -- A checked program meets all that the law on emitted programs asks, and so what is emitted for it is its adjoint.
-use Rattle.std.proofs.Common.{◌≡◌, ℕ, zero, suc, Bool, true, false, List, [], ◌∷◌, ◌++◌, map, refl, sym, ap, ◌∙◌, subst, arith, if◌then◌else◌}
-use Rattle.std.specs.Prelude.{◌||◌, ◌==◌, not, length, flat_map, Option, Some, None}
-use Rattle.adj_tree.specs.Code.{Var, plain, name_eq, Act, Extent, Procedure}
+use Rattle.std.proofs.Common.{◌≡◌, ℕ, true, false, List, [], ◌∷◌, map, refl, sym, ap, ◌∙◌, subst, arith}
+use Rattle.std.specs.Prelude.{◌==◌, not, length, flat_map, Option, Some, None}
+use Rattle.adj_tree.specs.Code.{Var, plain, Act, Extent, Procedure}
 use Rattle.adj_tree.specs.declared.fault.Refusal.{Refusal}
 use Rattle.adj_meaning.specs.Written.{find_unit, handed_back}
 use Rattle.adj_meaning.specs.Read.{is_extent}
 use Rattle.adj_meaning.specs.Units.{declared}
-use Rattle.adj_text.specs.Written.{IsName, IsWrittenDeclaration, IsWrittenProcedure}
-use Rattle.adj_names.specs.Fresh as fresh
+use Rattle.adj_text.specs.Written.{IsWrittenProcedure}
 use Rattle.adj_names.specs.Statements.{At, statements}
 use Rattle.adj_names.specs.Standing.{in_act}
 use Rattle.adj_names.specs.Variables as named
+use Rattle.adj_names.specs.Variables.{variables}
 use Rattle.adj_names.specs.Calls.{Call, calls, calls_lead}
 use Rattle.adj_names.specs.Fault.{Rules, fault, faults_if, again}
 use Rattle.adj_names.specs.UnitFaults.{unit_places, reserved_units, repeated_units}
@@ -23,20 +23,22 @@ use Rattle.adj_names.proofs.Sound.{sound_has_none}
 use Rattle.adj_kernel.specs.Form.{IsKernelCode}
 use Rattle.adj_transpose.specs.Fresh.{has_name}
 use Rattle.adj_transpose.specs.Naming.{AreApart, AreInside}
-use Rattle.adj_transpose.specs.Program.{unit_name, variables, unit_at}
+use Rattle.adj_transpose.specs.Program.{unit_name, unit_at}
 use Rattle.adj_reverse.specs.Marking.{full_marks, full_facts, marks_in, callee_of, callee_facts, read_by, plain_by, arrays_of, first_statement, entry_point}
 use Rattle.adj_reverse.specs.Program.{calls_in, has_adjoint, answers, is_kept, is_carried}
 use Rattle.adj_reverse.specs.Environment.{UnitFits}
 use Rattle.adj_reverse.specs.Source.{CallUnits, SourceFits}
 use Rattle.adj_reverse.proofs.Full.{list_laws, way}
+use Rattle.adj_reverse.proofs.Variables.{variables_apart, dummy_among}
 use Rattle.adj_reverse.proofs.EmittedUnits.{found_there}
 use Rattle.adj_reverse.proofs.Adjoint.{full_is_adjoint}
-use Rattle.adj_checked.specs.Checked.{IsChecked, AllDeclared, CheckedFits, CheckedIsAdjoint}
-use Rattle.adj_checked.proofs.Lists.{Each, each_more, each_all, each_unit, each_both, each_found, none_front, none_behind, none_each, none_if, apart_places, apart_same}
+use Rattle.adj_checked.specs.Checked.{IsChecked, CheckedFits, CheckedIsAdjoint}
+use Rattle.adj_checked.proofs.Lists.{Each, each_more, each_all, each_unit, each_found, none_front, none_behind, none_each, none_if, apart_places, apart_same}
 use Rattle.adj_checked.proofs.Texts.{Known}
 use Rattle.adj_checked.proofs.Statements.{names_given, CallHasNone, calls_inside, StatementSound, list_fits}
 use Rattle.adj_checked.proofs.Callings.{Found, all_found, each_at, head_uncalled, calls_found_some, roots_reached}
-use Rattle.adj_checked.proofs.Units.{dummy_names, declared_names, declaration_names, unit_names, variables_apart, dummy_among, variables_inside, extents_dummies, names_known}
+use Rattle.adj_checked.proofs.Units.{dummy_names, unit_names, extents_dummies, names_known}
+use Rattle.adj_checked.proofs.Names.{variables_inside}
 
 -- what isn't an array has no extents
 no_extents : (l : List Extent) → not (length l == 0) ≡ false → l ≡ []
@@ -64,7 +66,7 @@ calls_known : (ps us : List Procedure) → Each (λ u. Each (CallHasNone ps u) (
 calls_known ps [] h = tt
 calls_known ps (u ∷ us) h = (calls_inside ps u u.body h.0, calls_known ps us h.1)
 
-module _ (rules : Rules) (ps : List Procedure) (checked : IsChecked rules ps) (declaring : AllDeclared ps) where
+module _ (rules : Rules) (ps : List Procedure) (checked : IsChecked rules ps) where
   none : HasNone rules ps
   none = sound_has_none rules ps checked.sound
 
@@ -108,11 +110,6 @@ module _ (rules : Rules) (ps : List Procedure) (checked : IsChecked rules ps) (d
     kernel : IsKernelCode u.body
     kernel = each_found (λ u. IsKernelCode u.body) ps (each_unit (λ u. IsKernelCode u.body) ps checked.kernel) name u f
 
-    unit_declared : (x : List ℕ) → fresh.has_name x (named.variables u) ≡ true → fresh.has_name x (variables u) ≡ true
-    unit_declared =
-        each_found (λ u. (x : List ℕ) → fresh.has_name x (named.variables u) ≡ true → fresh.has_name x (variables u) ≡ true) ps
-        (each_unit (λ u. (x : List ℕ) → fresh.has_name x (named.variables u) ≡ true → fresh.has_name x (variables u) ≡ true) ps declaring) name u f
-
     of_writes : faults_of_writes (handed_back ps) u ≡ []
     of_writes = each_found (λ u. faults_of_writes (handed_back ps) u ≡ []) ps (none_each (faults_of_writes (handed_back ps)) ps none.writes) name u f
 
@@ -122,13 +119,10 @@ module _ (rules : Rules) (ps : List Procedure) (checked : IsChecked rules ps) (d
         (none_each (λ s. flat_map (λ n. faults_if (not (has_rank u n)) (fault 9 s.0)) (taken_in rules.takes_runtime s.1)) (statements u.body) ranked)
         (each_found (λ u. Each (CallHasNone ps u) (statements u.body)) ps all_calls name u f)
         (none_each (λ s. writes_of_variable (handed_back ps) s.1) (statements u.body) (none_front (written_variables (handed_back ps) u) _ of_writes))
-        (names_known u unit_declared)
+        (names_known u)
 
     dummies_apart : AreApart u.dummies
     dummies_apart = subst AreApart (dummy_names u.line u.dummies) (apart_places 8 [] (named.dummy_places u) (none_front (again 8 [] (named.dummy_places u)) (again 8 [] (named.declared_places u)) once))
-
-    declared_apart : AreApart (declared_names u.declarations)
-    declared_apart = subst AreApart (declaration_names u.declarations) (apart_places 8 [] (named.declared_places u) (none_behind (again 8 [] (named.dummy_places u)) (again 8 [] (named.declared_places u)) once))
 
     extent_is_dummy : (d : List ℕ) → is_extent d u.declarations ≡ true → has_name d u.dummies ≡ true
     extent_is_dummy d h =
@@ -151,7 +145,7 @@ module _ (rules : Rules) (ps : List Procedure) (checked : IsChecked rules ps) (d
     unit_fits head = record {
       dummies = sym same_dummies;
       dummies_apart = subst AreApart (sym same_dummies) dummies_apart;
-      vars_apart = variables_apart u dummies_apart declared_apart;
+      vars_apart = variables_apart u;
       dummies_among = λ d h. dummy_among u d (subst (λ ds. has_name d ds ≡ true) same_dummies h);
       scalars = λ x h. no_extents (declared u.declarations (plain x)) h;
       wrote = λ d. ap (λ o. (callee_of full_marks ps name o).written (plain d)) f;
@@ -169,7 +163,7 @@ module _ (rules : Rules) (ps : List Procedure) (checked : IsChecked rules ps) (d
     }
 
     inside_text : AreInside (variables u)
-    inside_text = variables_inside u (each_all IsName u.dummies written.dummies) (each_all IsWrittenDeclaration u.declarations written.declarations)
+    inside_text = variables_inside u written
 
   pub source_fits : (head : ℕ) (u : Procedure) → unit_at head ps ≡ u ∷ [] → SourceFits (λ line. false) full_facts ps u
   source_fits head u is = record {
@@ -186,4 +180,4 @@ pub checked_fits : CheckedFits
 checked_fits = source_fits
 
 pub checked_is_adjoint : CheckedIsAdjoint
-checked_is_adjoint rules ps checked declaring head vars outvars u is = full_is_adjoint ps head vars outvars u is (source_fits rules ps checked declaring head u is)
+checked_is_adjoint rules ps checked head vars outvars u is = full_is_adjoint ps head vars outvars u is (source_fits rules ps checked head u is)

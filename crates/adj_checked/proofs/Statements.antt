@@ -1,16 +1,15 @@
 -- Statements of a unit that has no faults fit.
-use Rattle.std.proofs.Common.{◌≡◌, ℕ, zero, suc, Bool, true, false, List, [], ◌∷◌, ◌++◌, map, refl, sym, ap, ◌∙◌, subst, if◌then◌else◌}
+use Rattle.std.proofs.Common.{◌≡◌, ℕ, suc, Bool, true, false, List, [], ◌∷◌, ◌++◌, refl, sym, ap, ◌∙◌, subst, if◌then◌else◌}
 use Rattle.std.specs.Prelude.{◌||◌, ◌==◌, not, length, flat_map, Option, Some, None}
-use Rattle.adj_tree.specs.Code.{Var, plain, shadow, helper, name_eq, Term, Terms, none, more, Mark, unmarked, with_count, count_from, Act, assign, choose, loop, during, call, runtime, Code, stop, step, Procedure}
+use Rattle.adj_tree.specs.Code.{Var, plain, shadow, helper, Term, Terms, none, more, Mark, Act, assign, choose, loop, during, call, runtime, Code, stop, step, Procedure}
 use Rattle.adj_tree.proofs.Names.{nat_same, name_refl}
 use Rattle.adj_meaning.specs.LeastSet.{Dummies}
 use Rattle.adj_meaning.specs.Written.{find_unit, writes, act_writes, handed_back}
 use Rattle.adj_meaning.specs.Common.{CallsInside', CallsInside}
-use Rattle.adj_meaning.specs.Units.{declared}
 use Rattle.adj_text.specs.Written.{IsWrittenAct, IsWrittenCode}
 use Rattle.adj_names.specs.Reserved.{is_runtime}
 use Rattle.adj_names.specs.Statements.{At, inner, statements}
-use Rattle.adj_names.specs.Standing.{Standing, scalar, in_term, in_terms, in_place, in_mark, in_actuals, in_act}
+use Rattle.adj_names.specs.Standing.{Standing, scalar, in_term, in_place, in_mark, in_actuals, in_act}
 use Rattle.adj_names.specs.Variables.{rank}
 use Rattle.adj_names.specs.Fault.{Rules, fault, faults_if}
 use Rattle.adj_names.specs.NameFaults.{has_rank, taken_in}
@@ -18,8 +17,7 @@ use Rattle.adj_names.specs.CallFaults.{are_actuals_for, faults_of_unit_call, fau
 use Rattle.adj_names.specs.WriteFaults.{may_write, writes_of_variable}
 use Rattle.adj_kernel.specs.Form.{AreDistinctNames, IsKernelAct, IsKernelCode}
 use Rattle.adj_transpose.specs.Marks.{next, behind}
-use Rattle.adj_transpose.specs.Fresh.{has_name}
-use Rattle.adj_transpose.specs.Program.{variables}
+use Rattle.adj_names.specs.Variables.{variables}
 use Rattle.adj_transpose.proofs.Variables.{or_left, or_right}
 use Rattle.adj_reverse.specs.Plan.{beside, actuals_named}
 use Rattle.adj_reverse.specs.Laws.{CalleeFacts}

@@ -1,10 +1,9 @@
 -- What stands in terms that are written and reduced: variables of the text, all of them known.
 use Rattle.std.proofs.Common.{◌≡◌, ℕ, zero, suc, Bool, true, false, List, [], ◌∷◌, refl, sym, ap, ◌∙◌, subst}
-use Rattle.std.specs.Prelude.{◌&&◌, ◌||◌, ◌==◌, Option, Some, None, if◌then◌else◌}
+use Rattle.std.specs.Prelude.{◌||◌, ◌==◌, Some, if◌then◌else◌}
 use Rattle.adj_tree.specs.Code.{Var, plain, shadow, helper, name_eq, var_eq, plus, minus, times, quot, modulo, greater, lesser, Term, lit, var, elem, neg, bin, pow, power_of, abs, Terms, none, more, Test, compare, negation, conjunction, disjunction, Procedure}
 use Rattle.adj_tree.proofs.Names.{name_same, nat_same}
 use Rattle.adj_meaning.specs.Read.{reads_term, reads_terms, reads_test}
-use Rattle.adj_meaning.specs.Units.{declared}
 use Rattle.adj_text.specs.Written.{IsVariable, IsIndexed, IsPlace, IsWrittenTerm, AreWrittenTerms, IsWrittenTest}
 use Rattle.adj_names.specs.Standing.{Standing, in_term, in_terms, in_actuals}
 use Rattle.adj_names.specs.Variables.{rank}
@@ -14,7 +13,7 @@ use Rattle.adj_kernel.specs.Form.{IsReduced, AreDistinctNames}
 use Rattle.adj_transpose.specs.Fresh.{has_name}
 use Rattle.adj_transpose.specs.Naming.{AreApart}
 use Rattle.adj_transpose.proofs.Variables.{and_true}
-use Rattle.adj_reverse.specs.Plan.{beside, IsActual, actuals_named}
+use Rattle.adj_reverse.specs.Plan.{beside, actuals_named}
 use Rattle.adj_reverse.specs.Kernel.{is_text, AsMany, AreTreated}
 use Rattle.adj_reverse.proofs.Rounds.{either}
 use Rattle.adj_checked.proofs.Lists.{Each, each_front, each_behind}
@@ -30,7 +29,7 @@ text_variable (helper r k) (plain x) w h = absurd cc
 text_variable (helper r k) (shadow x) w h = absurd w
 text_variable (helper r k) (helper q j) w h = absurd w
 
-indexed_variable : (x : Var) → IsIndexed x → IsVariable x
+pub indexed_variable : (x : Var) → IsIndexed x → IsVariable x
 indexed_variable (plain x) w = w.0
 indexed_variable (shadow x) w = absurd w
 indexed_variable (helper r k) w = absurd w

@@ -7,7 +7,7 @@
 
 ghost use Rattle.adj_checked.specs.Checked.{CheckedFits, CheckedIsAdjoint};
 
-/// A checked program in kernel form whose variables are all declared meets all that the law on emitted programs asks.
+/// A checked program in kernel form meets all that the law on emitted programs asks.
 pub fn premises_law()
     ensures { CheckedFits }
 {}

@@ -1,7 +1,7 @@
 -- What each action of a reversal does, from what the groups and the calls of the step unit and of its adjoint do.
-use Rattle.std.proofs.Common.{◌≡◌, ◌≤◌, ◌<◌, ◌⊎◌, inl, inr, ◌^◌, ℕ, zero, suc, ◌+◌, ◌-◌, ◌*◌, Bool, true, false, List, [], ◌∷◌, ◌++◌, length, Option, Some, None, refl, sym, ap, ◌∙◌, subst, arith}
-use Rattle.std.specs.Prelude.{ℤ, pos, negsuc, ◌-ℤ◌, nat_le, slice_get, Result, Ok, ◌==◌, ◌&&◌}
-use Rattle.adj_tree.specs.Code.{Role, role_code, Var, plain, shadow, helper, first, stride, count, turn, entry, entries, kind, lower, upper, name_eq, plus, minus, times, var, bin, none, assign, unmarked, loop, runtime, give_action, Code, stop, step}
+use Rattle.std.proofs.Common.{◌≡◌, ◌<◌, inl, inr, ◌^◌, ℕ, zero, suc, ◌+◌, ◌-◌, Bool, true, false, List, [], ◌∷◌, ◌++◌, length, Some, refl, sym, ap, ◌∙◌, subst, arith}
+use Rattle.std.specs.Prelude.{ℤ, pos, ◌-ℤ◌, nat_le, slice_get, Ok, ◌==◌, ◌&&◌}
+use Rattle.adj_tree.specs.Code.{Role, role_code, Var, plain, shadow, helper, first, stride, count, turn, entry, kind, lower, upper, name_eq, plus, minus, times, var, bin, none, assign, unmarked, loop, runtime, give_action, Code}
 use Rattle.adj_tree.proofs.Names.{nat_refl, name_refl}
 use Rattle.adj_word.specs.Word.{wrap, add, sub, mul, trip_count}
 use Rattle.adj_word.specs.Pairing.{pairing}
@@ -10,11 +10,10 @@ use Rattle.adj_word.proofs.Counting.{word-count, count_up, last_of, trips_up}
 use Rattle.adj_revolve.specs.declared.machine.Action.{Action}
 use Rattle.adj_revolve.specs.declared.machine.Action.TheVariants.{Store as Put, Advance, Turn, Keep, Drop}
 use Rattle.adj_revolve.specs.Schedule.{schedule_of}
-use Rattle.adj_meaning.specs.Append.{◌+++◌, one}
+use Rattle.adj_meaning.specs.Append.{◌+++◌}
 use Rattle.adj_meaning.specs.Store.{Shape, Store, set}
 use Rattle.adj_meaning.specs.Value.{Setting}
-use Rattle.adj_meaning.specs.Scene.{Done}
-use Rattle.adj_meaning.specs.Run.{Calls, act, trips}
+use Rattle.adj_meaning.specs.Run.{Calls, trips}
 use Rattle.adj_meaning.specs.Runtime.{steps_of, snapshots_of, kind_of, lower_of, upper_of}
 use Rattle.adj_meaning.specs.Leads.{Leads, ActLeads}
 use Rattle.adj_meaning.proofs.Leadings.{leads_append, act_at_once}
@@ -22,9 +21,9 @@ use Rattle.adj_transpose.specs.Pairs.{Key, Words, shadows, on_words}
 use Rattle.adj_transpose.specs.Lists.{Kept, scene}
 use Rattle.adj_reverse.specs.Emission.{literal}
 use Rattle.adj_reverse.specs.Reversals.{Called, Reversal, LoopRun, times as times_called, AreWithin, AreReversed}
-use Rattle.adj_reverse.specs.ReversalCode.{at_turn, advance, arms, one_action}
+use Rattle.adj_reverse.specs.ReversalCode.{at_turn, arms, one_action}
 use Rattle.adj_reverse.proofs.Turns.{next_store}
-use Rattle.adj_reverse.proofs.Goings.{Goes, ActGoes, TurnsGo, goes_leads, goes_one, goes_step_before, turns_go-none, turns_go-more, turns_go-one, loop_goes}
+use Rattle.adj_reverse.proofs.Goings.{Goes, TurnsGo, goes_leads, goes_one, goes_step_before, turns_go-none, turns_go-more, turns_go-one, loop_goes}
 use Rattle.adj_reverse.proofs.Actions.{do_1, do_2, do_3, do_4, do_5}
 use Rattle.adj_reverse.proofs.Playing.{past, Played, Taken, Renewed, Acts}
 

@@ -1,34 +1,21 @@
 -- The emitted loop over the actions of a schedule does them in order, and what the arms do for each.
-use Rattle.std.proofs.Common.{◌≡◌, ◌≤◌, ◌<◌, ◌⊎◌, inl, inr, ◌^◌, ℕ, zero, suc, ◌+◌, ◌*◌, Bool, true, false, List, [], ◌∷◌, ◌++◌, length, Option, Some, None, refl, sym, ap, ◌∙◌, subst, arith, int_eq}
-use Rattle.std.specs.Prelude.{ℤ, pos, negsuc, ◌-ℤ◌, nat_le, not, slice_get, Ok}
-use Rattle.std.proofs.lemmas.List.{append-nil}
-use Rattle.adj_tree.specs.Code.{Role, role_code, Var, plain, shadow, helper, first, stride, count, turn, entry, entries, kind, lower, upper, name_eq, plus, minus, times, is_same, var, bin, none, compare, assign, choose, loop, runtime, give_action, Act, Code, stop, step}
-use Rattle.adj_tree.proofs.Names.{nat_refl, name_refl}
-use Rattle.adj_word.specs.Word.{wrap, add, sub, mul, trip_count}
-use Rattle.adj_word.specs.Pairing.{pairing}
-use Rattle.adj_word.proofs.Residues.{wrap_word}
-use Rattle.adj_word.proofs.Counting.{word-count, count_up, last_of, trips_up}
-use Rattle.adj_revolve.specs.declared.machine.Action.{Action}
-use Rattle.adj_revolve.specs.declared.machine.Action.TheVariants.{Store as Put, Advance, Turn, Keep, Drop}
-use Rattle.adj_revolve.specs.Schedule.{schedule_of}
+use Rattle.std.proofs.Common.{◌≡◌, ℕ, Bool, true, false, List, refl, ap, ◌∙◌, subst, int_eq}
+use Rattle.std.specs.Prelude.{ℤ, pos, not, Ok}
+use Rattle.adj_tree.specs.Code.{Var, helper, kind, lower, is_same, var, compare, choose, Code, stop}
 use Rattle.adj_meaning.specs.Append.{◌+++◌, one}
-use Rattle.adj_meaning.specs.Store.{Shape, Store, set}
+use Rattle.adj_meaning.specs.Store.{Shape, Store}
 use Rattle.adj_meaning.specs.Value.{Setting}
-use Rattle.adj_meaning.specs.Scene.{Done}
-use Rattle.adj_meaning.specs.Run.{Calls, act, trips}
-use Rattle.adj_meaning.specs.Runtime.{steps_of, snapshots_of, kind_of, lower_of, upper_of}
-use Rattle.adj_meaning.specs.Leads.{Leads, ActLeads}
-use Rattle.adj_meaning.proofs.Leadings.{leads_stop, leads_append, leads_act, act_at_once, act_then, act_else}
-use Rattle.adj_transpose.specs.Pairs.{Key, Words, shadows, on_words}
+use Rattle.adj_meaning.specs.Run.{Calls}
+use Rattle.adj_meaning.specs.Leads.{Leads}
+use Rattle.adj_meaning.proofs.Leadings.{leads_stop, leads_append, leads_act, act_then, act_else}
+use Rattle.adj_transpose.specs.Pairs.{on_words}
 use Rattle.adj_transpose.specs.Lists.{Kept, scene}
 use Rattle.adj_transpose.specs.Marked.{code_if}
 use Rattle.adj_reverse.specs.Emission.{is_empty, literal}
-use Rattle.adj_reverse.specs.Reversals.{Called, Reversal, LoopRun, times as times_called, AreWithin, AreReversed}
-use Rattle.adj_reverse.specs.ReversalCode.{at_turn, arm, advance, arms, one_action}
+use Rattle.adj_reverse.specs.Reversals.{Called, Reversal}
+use Rattle.adj_reverse.specs.ReversalCode.{at_turn, arm, advance, arms}
 use Rattle.adj_reverse.proofs.Idle.{empty_is}
-use Rattle.adj_reverse.proofs.Turns.{next_store}
-use Rattle.adj_reverse.proofs.Goings.{Goes, ActGoes, TurnsGo, goes_leads, goes_one, goes_silent_before, goes_silent_after, goes_step_before, turns_go-none, turns_go-more, turns_go-one, loop_goes}
-use Rattle.adj_reverse.proofs.Playing.{past, Played, Taken, Renewed, Acts}
+use Rattle.adj_reverse.proofs.Goings.{Goes, goes_one, goes_silent_before, goes_silent_after}
 
 -- ---- one arm
 

@@ -6,11 +6,12 @@ use Rattle.adj_tree.proofs.Names.{name_refl, name_same}
 use Rattle.adj_meaning.specs.Written.{find_unit}
 use Rattle.adj_meaning.specs.Common.{CallsInside', CallsInside, HaveInCommon}
 use Rattle.adj_transpose.specs.Fresh.{has_name}
-use Rattle.adj_transpose.specs.Program.{unit_name, variables, source_names, unmarked}
+use Rattle.adj_names.specs.Variables.{variables}
+use Rattle.adj_transpose.specs.Program.{unit_name, unmarked}
 use Rattle.adj_transpose.specs.Marked.{names_in}
 use Rattle.adj_transpose.specs.Marks.{next, behind}
 use Rattle.adj_transpose.proofs.Variables.{and_true, or_false, or_left, or_right, name_comm, has_apart}
-use Rattle.adj_reverse.specs.Names.{adjoint_after, adjoint_name}
+use Rattle.adj_reverse.specs.Names.{source_names, adjoint_after, adjoint_name}
 use Rattle.adj_reverse.specs.Marking.{ProgramMarks}
 use Rattle.adj_reverse.specs.Program.{calls_act, calls_in, calls_some, reached_after, has_adjoint, answers, is_kept, is_carried, all_units, adjoint_unit, emitted_adjoint, emitted_units}
 use Rattle.adj_reverse.proofs.Names.{is_unit, has-append, adjoint_free, adjoints_apart}

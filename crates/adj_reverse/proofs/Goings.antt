@@ -1,5 +1,5 @@
 -- Runs that tell of calls and of reversals are put together.
-use Rattle.std.proofs.Common.{◌≡◌, ℕ, zero, suc, ◌+◌, List, [], ◌∷◌, ◌++◌, refl, sym, ap, ◌∙◌, subst, arith}
+use Rattle.std.proofs.Common.{◌≡◌, ℕ, zero, suc, ◌+◌, List, [], ◌++◌, sym, ap, ◌∙◌, subst, arith}
 use Rattle.std.specs.Prelude.{ℤ, Ok, None}
 use Rattle.std.proofs.lemmas.List.{append-nil}
 use Rattle.adj_tree.specs.Code.{Var, Term, unmarked, loop, Act, Code, stop, step}

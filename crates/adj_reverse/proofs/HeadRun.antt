@@ -1,5 +1,5 @@
 -- The run of the head's adjoint, from its input: it ends, its tape is empty, and its body reverses the head's.
-use Rattle.std.proofs.Common.{◌≡◌, ℕ, ◌+◌, ◌<◌, Bool, true, false, List, [], map, refl, sym, ap, ◌∙◌, subst, if◌then◌else◌}
+use Rattle.std.proofs.Common.{◌≡◌, ℕ, ◌+◌, ◌<◌, Bool, true, false, List, [], ◌++◌, map, refl, sym, ap, ◌∙◌, subst, if◌then◌else◌}
 use Rattle.std.specs.Prelude.{ℤ, pos, Option, Some, None}
 use Rattle.adj_tree.specs.Code.{Var, plain, shadow, helper, var_eq, Procedure}
 use Rattle.adj_word.specs.Dot.{dot}
@@ -24,7 +24,8 @@ use Rattle.adj_transpose.specs.Facts.{Facts}
 use Rattle.adj_transpose.specs.Pairs.{Key, Words, with_tangents, on_words, on_duals}
 use Rattle.adj_transpose.specs.Lists.{scene, counted}
 use Rattle.adj_transpose.specs.MarkedAdjoint.{shadow_flags, joined_by, shadow_cells, SuitHead}
-use Rattle.adj_transpose.specs.Program.{variables, locals, unmarked}
+use Rattle.adj_names.specs.Variables.{variables}
+use Rattle.adj_transpose.specs.Program.{unmarked}
 use Rattle.adj_transpose.specs.Adjoint as slots
 use Rattle.adj_transpose.specs.Adjoint.{Ends, AreAlike, IsDirection, Agrees, OthersAreZero, product, marked_cells, with_direction, tangents_of, reversals}
 use Rattle.adj_transpose.proofs.Slots.{direction, dual_store}
@@ -47,7 +48,8 @@ use Rattle.adj_reverse.specs.Source.{variables_of, arrays_in, SourceFits}
 use Rattle.adj_reverse.specs.Theorem.{ShapesFit, plan_of}
 use Rattle.adj_reverse.proofs.Calls.{shadow_undeclared, helper_undeclared, extents_dual}
 use Rattle.adj_reverse.proofs.Cells.{cells_only}
-use Rattle.adj_reverse.proofs.HeadNames.{apart_front, local_apart, unmarked_in, among_in, among_from, among_out, counts, entry_other}
+use Rattle.adj_reverse.proofs.Variables.{locals, dummies_first, local_apart}
+use Rattle.adj_reverse.proofs.HeadNames.{unmarked_in, among_in, among_from, among_out, counts, entry_other}
 use Rattle.adj_reverse.proofs.Rows.{rows, by_cells, AreNought, pairing_behind, pairing_product, others_nought, nought_others, marked_alike, given_rows, shadow_rows, tangents_rows, cells_rows, direction_rows, direction_nought, AreSized, fits_sized, sized_alike}
 use Rattle.adj_reverse.proofs.EmittedUnits.{found_there, head_there}
 use Rattle.adj_reverse.proofs.Made as made
@@ -227,7 +229,11 @@ module _ (lines : ℕ → Bool) (w : ProgramFacts) (ps : List Procedure) (u : Pr
   sized = fits_sized u before u.dummies input fit
 
   apart_dummies : AreApart u.dummies
-  apart_dummies = apart_front u.dummies (locals u) fitting.vars_apart
+  apart_dummies = subst AreApart (sym fitting.dummies) fitting.dummies_apart
+
+  -- all cells: those of the dummies, and then those of the locals
+  all_cells : cells ≡ cells_of sh (u.dummies ++ locals u)
+  all_cells = ap (cells_of sh) (dummies_first u apart_dummies)
 
   -- the word that is given for a shadow
   abbrev given_at : Words
@@ -348,7 +354,8 @@ module _ (lines : ℕ → Bool) (w : ProgramFacts) (ps : List Procedure) (u : Pr
       over_inputs =
           (λ i. product vars (shadows_after i) (sym along_is i))
           ∙ sym (pairing_product sh u.dummies vars (counted own.marks reversed.end) along along_inputs)
-          ∙ sym (pairing_behind sh u.dummies (locals u) (counted own.marks reversed.end) along (λ y j h l. along_other y j (local_apart u.dummies u.declarations y h)))
+          ∙ sym (pairing_behind sh u.dummies (locals u) (counted own.marks reversed.end) along (λ y j h l. along_other y j (local_apart u y h)))
+          ∙ ap (λ l. pairing l (counted own.marks reversed.end) along) (sym all_cells)
 
       -- that over the dependents is the sum over all cells at its start
       over_outputs : pairing cells cleared_start (reversed.derivative along) ≡ product outvars (slots.cells_of given) (tangents_of (slots.cells_of dual_ended.output.slots))
@@ -357,7 +364,8 @@ module _ (lines : ℕ → Bool) (w : ProgramFacts) (ps : List Procedure) (u : Pr
           let kept : marked_cells outvars (rows sh (by_cells cleared_start) u.dummies) ≡ marked_cells outvars (rows sh (by_cells given_at) u.dummies) =
           marked_alike sh u.dummies outvars cleared_start given_at apart_dummies dependent_kept in
           pairing_comm cells cleared_start after
-          ∙ pairing_behind sh u.dummies (locals u) after cleared_start (λ y j h l. local_cleared y j (local_apart u.dummies u.declarations y h))
+          ∙ ap (λ l. pairing l after cleared_start) all_cells
+          ∙ pairing_behind sh u.dummies (locals u) after cleared_start (λ y j h l. local_cleared y j (local_apart u y h))
           ∙ pairing_product sh u.dummies outvars after cleared_start other_cleared
           ∙ dot_comm (marked_cells outvars (rows sh (by_cells after) u.dummies)) (marked_cells outvars (rows sh (by_cells cleared_start) u.dummies))
           ∙ ap (λ z. dot z (marked_cells outvars (rows sh (by_cells after) u.dummies))) kept

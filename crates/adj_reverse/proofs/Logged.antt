@@ -1,12 +1,12 @@
 -- The log of a run counts what its reversals are: the advances are the calls directly in them less their steps.
-use Rattle.std.proofs.Common.{◌≡◌, ◌≤◌, ◌<◌, ◌⊎◌, inl, inr, ℕ, zero, suc, ◌+◌, ◌-◌, ◌*◌, Bool, true, false, List, [], ◌∷◌, ◌++◌, length, refl, sym, ap, ◌∙◌, subst, arith, if◌then◌else◌}
+use Rattle.std.proofs.Common.{◌≡◌, ◌<◌, ◌⊎◌, inl, inr, ℕ, suc, ◌+◌, ◌-◌, ◌*◌, true, false, List, [], ◌∷◌, ◌++◌, length, refl, sym, ap, ◌∙◌, arith, if◌then◌else◌}
 use Rattle.std.specs.Prelude.{◌==◌, max}
 use Rattle.adj_tree.specs.Code.{name_eq}
 use Rattle.adj_tree.proofs.Names.{nat_refl, name_refl}
 use Rattle.adj_revolve.specs.LeastCost.{least_cost}
 use Rattle.adj_meaning.specs.Store.{Shape}
-use Rattle.adj_meaning.specs.Event.{Event, Enter, Begin, End, Marked}
-use Rattle.adj_meaning.specs.Log.{Reversal as Open, Log, is_direct, log_from}
+use Rattle.adj_meaning.specs.Event.{Event, Enter, Begin, End}
+use Rattle.adj_meaning.specs.Log.{Reversal as Open, Log, log_from}
 use Rattle.adj_reverse.specs.Reversals.{in_order, Called, Reversal, LoopRun, Reverses, AreWithin, times}
 use Rattle.adj_reverse.proofs.Told.{in_order-append}
 

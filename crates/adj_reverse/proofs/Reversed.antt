@@ -1,5 +1,5 @@
 -- The code of a reversal turns the steps of its loop.
-use Rattle.std.proofs.Common.{◌≡◌, ◌≤◌, ◌<◌, ℕ, suc, refl, arith}
+use Rattle.std.proofs.Common.{suc, refl, arith}
 use Rattle.adj_meaning.specs.Append.{one}
 use Rattle.adj_tree.specs.Code.{call}
 use Rattle.adj_reverse.specs.Plan.{actuals_named}

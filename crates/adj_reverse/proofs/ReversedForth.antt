@@ -1,37 +1,33 @@
 -- The row of a reversed loop in the forward sweep: its turns, with the step call where that is kept.
-use Rattle.std.proofs.Common.{◌≡◌, ◌≤◌, ◌<◌, ◌^◌, ℕ, zero, suc, ◌+◌, Bool, true, false, List, [], ◌∷◌, ◌++◌, length, refl, sym, ap, ◌∙◌, subst, arith, append_assoc}
-use Rattle.std.specs.Prelude.{ℤ, pos, Ok, ◌==◌, ◌&&◌, ◌||◌, Option, Some, None}
-use Rattle.std.proofs.lemmas.List.{append-nil}
+use Rattle.std.proofs.Common.{◌≡◌, ◌≤◌, ◌<◌, ◌^◌, ℕ, zero, suc, ◌+◌, Bool, true, false, List, [], ◌∷◌, ◌++◌, length, refl, sym, ap, ◌∙◌, subst, arith}
+use Rattle.std.specs.Prelude.{ℤ, pos, Option, Some, None}
 use Rattle.adj_tree.specs.Code.{Role, role_code, Var, plain, shadow, helper, first, stride, count, name_eq, plus, var, bin, none, assign, Term, call, Code, stop}
 use Rattle.adj_tree.proofs.Names.{nat_refl, name_refl}
-use Rattle.adj_word.specs.Word.{wrap, add}
+use Rattle.adj_word.specs.Word.{add}
 use Rattle.adj_word.proofs.Counting.{count_up}
 use Rattle.adj_meaning.specs.Append.{◌+++◌, one}
 use Rattle.adj_meaning.specs.Store.{Shape, size_of, Store, set}
 use Rattle.adj_meaning.specs.Value.{Setting}
 use Rattle.adj_meaning.specs.Run.{Calls}
-use Rattle.adj_meaning.specs.Leads.{Leads}
 use Rattle.adj_meaning.proofs.Leadings.{leads_stop, leads_step}
 use Rattle.adj_transpose.specs.Marks.{Vars, point_before, point_after}
 use Rattle.adj_transpose.specs.Marked.{code_if}
-use Rattle.adj_transpose.specs.Facts.{In, joined, without, Facts}
+use Rattle.adj_transpose.specs.Facts.{In, joined, Facts}
 use Rattle.adj_transpose.specs.Naming.{AreApart}
 use Rattle.adj_transpose.specs.Pairs.{Key, Words, on_words}
 use Rattle.adj_transpose.specs.Lists.{Kept, scene}
 use Rattle.adj_transpose.proofs.Variables.{or_false}
 use Rattle.adj_transpose.proofs.Turned.{SameDepth}
-use Rattle.adj_reverse.specs.Plan.{Plan, beside, IsActual, actuals_named}
+use Rattle.adj_reverse.specs.Plan.{Plan, beside, actuals_named}
 use Rattle.adj_reverse.specs.Emission.{literal}
 use Rattle.adj_reverse.specs.Laws.{just, point_inside, CalleeFacts}
-use Rattle.adj_reverse.specs.Runs.{Comes, SameOn, SameOff}
-use Rattle.adj_reverse.specs.Reversals.{Called, Reversal, LoopRun}
+use Rattle.adj_reverse.specs.Runs.{SameOn, SameOff}
+use Rattle.adj_reverse.specs.Reversals.{Called, LoopRun}
 use Rattle.adj_reverse.specs.ReversedLaws.{ReversedLaws}
-use Rattle.adj_reverse.proofs.Passing.{found_or, beside_back}
+use Rattle.adj_reverse.proofs.Passing.{beside_back}
 use Rattle.adj_reverse.proofs.CallAdjoints.{writes_actual}
-use Rattle.adj_reverse.proofs.CallSweeps.{ActualsAgree}
 use Rattle.adj_reverse.proofs.Snapshots.{KnowsArrays}
 use Rattle.adj_reverse.proofs.LoopSweeps.{same_set, other_depth}
-use Rattle.adj_reverse.proofs.Turns.{next_store}
 use Rattle.adj_reverse.proofs.Goings.{Goes, TurnsGo, goes_stop, goes_one, goes_silent_after, turns_go-none, turns_go-more}
 use Rattle.adj_reverse.specs.Steps.{Steps}
 

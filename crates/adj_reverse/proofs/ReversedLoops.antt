@@ -1,48 +1,45 @@
 -- The row of a reversed loop in both sweeps.
-use Rattle.std.proofs.Common.{◌≡◌, ◌≤◌, ◌<◌, ◌^◌, ℕ, zero, suc, ◌+◌, Bool, true, false, List, [], ◌∷◌, ◌++◌, length, refl, sym, ap, ◌∙◌, subst, arith, append_assoc}
-use Rattle.std.specs.Prelude.{ℤ, pos, Ok, ◌==◌, ◌&&◌, ◌||◌}
-use Rattle.adj_tree.specs.Code.{Role, role_code, Var, plain, shadow, helper, first, stride, count, name_eq, plus, var, bin, none, assign, unmarked, loop, runtime, push_word, Term, call, Code, stop, step}
+use Rattle.std.proofs.Common.{◌≡◌, ◌<◌, ℕ, suc, ◌+◌, false, List, [], ◌∷◌, ◌++◌, refl, sym, ap, ◌∙◌, subst, arith, append_assoc}
+use Rattle.std.specs.Prelude.{ℤ, pos, Ok, ◌||◌}
+use Rattle.adj_tree.specs.Code.{role_code, Var, plain, helper, first, stride, count, name_eq, plus, var, bin, none, assign, unmarked, loop, runtime, push_word, Term, call, Code, stop}
 use Rattle.adj_tree.proofs.Names.{nat_refl, name_refl}
 use Rattle.adj_word.specs.Word.{wrap, add}
-use Rattle.adj_revolve.specs.Schedule.{schedule_of}
 use Rattle.adj_meaning.specs.Append.{◌+++◌, one}
 use Rattle.adj_meaning.specs.Store.{Shape, size_of, Store, set}
 use Rattle.adj_meaning.specs.Value.{Setting, value}
 use Rattle.adj_meaning.specs.Scene.{Done}
 use Rattle.adj_meaning.specs.Run.{Calls, trips}
 use Rattle.adj_meaning.specs.Read.{reads_term}
-use Rattle.adj_meaning.specs.Runtime.{steps_of, snapshots_of}
 use Rattle.adj_meaning.specs.Leads.{Leads}
 use Rattle.adj_meaning.proofs.Leadings.{leads_stop, leads_append, leads_step, leads_act}
 use Rattle.adj_transpose.specs.Marks.{Vars, point_before, point_after}
 use Rattle.adj_transpose.specs.Marked.{code_if}
-use Rattle.adj_transpose.specs.Facts.{In, Within, joined, Facts}
+use Rattle.adj_transpose.specs.Facts.{Within, joined, Facts}
 use Rattle.adj_transpose.specs.Naming.{AreApart}
 use Rattle.adj_transpose.specs.Pairs.{Key, Words, on_words}
 use Rattle.adj_transpose.specs.Lists.{Kept, scene}
 use Rattle.adj_transpose.proofs.Variables.{or_left, or_right}
-use Rattle.adj_transpose.proofs.Turned.{SameDepth}
 use Rattle.adj_reverse.specs.Plan.{Plan, actuals_named}
 use Rattle.adj_reverse.specs.Emission.{literal, pushes, pops, push_own, adjoint_call}
 use Rattle.adj_reverse.specs.ReversalCode.{reversed_forward, reversed_backward}
 use Rattle.adj_reverse.specs.Laws.{just, point_inside, CalleeFacts}
 use Rattle.adj_reverse.specs.Passing.{plainly}
-use Rattle.adj_reverse.specs.Runs.{Comes, SameOn, SameOff}
-use Rattle.adj_reverse.specs.Reversals.{LoopRun, Tells}
+use Rattle.adj_reverse.specs.Runs.{SameOn, SameOff}
+use Rattle.adj_reverse.specs.Reversals.{LoopRun}
 use Rattle.adj_reverse.specs.ReversedLaws.{ReversedLaws}
 use Rattle.adj_reverse.specs.ReversedRow.{ReversedBack, ReversedRow, ReversedRowsTurn}
 use Rattle.adj_reverse.specs.Theorem.{plan_of}
 use Rattle.adj_reverse.proofs.Shapes.{AllText}
 use Rattle.adj_reverse.proofs.Evaluations.{value_again}
 use Rattle.adj_reverse.proofs.Snapshots.{KnowsArrays}
-use Rattle.adj_reverse.proofs.Snapshots.{Pushed, group_pushed}
+use Rattle.adj_reverse.proofs.Snapshots.{group_pushed}
 use Rattle.adj_reverse.proofs.LoopSweeps.{same_set, set_off, other_depth}
 use Rattle.adj_reverse.proofs.Told.{tells_of}
 use Rattle.adj_reverse.proofs.Goings.{loop_goes}
 use Rattle.adj_reverse.proofs.Playing.{changes, loops_of}
 use Rattle.adj_reverse.specs.Steps.{Steps}
 use Rattle.adj_reverse.proofs.StepRuns.{NumbersFit, numbers_few}
-use Rattle.adj_reverse.proofs.ReversedForth.{TurnsForth, turns_forth}
+use Rattle.adj_reverse.proofs.ReversedForth.{turns_forth}
 use Rattle.adj_reverse.proofs.ReversedRows.{reversed_back, own_run, wr, snap, saves}
 
 module _ (q : Calls ℤ) (sh : Var → Shape) (level : ℕ) (cells : List Key) (d line : ℕ) (p : Plan) (known : KnowsArrays p sh) (x : List ℕ) (one_cell : size_of (sh (plain x)) ≡ 1) (l m : ℕ) (a0 b0 c0 : ℤ) (g : CalleeFacts) (given : List (List ℕ)) (apart : AreApart g.callee.dummies) (apart' : AreApart given) (name : List ℕ) (change : ℕ → Words → Words) (loops : ℕ → List LoopRun) (U U' : ℕ → Store ℤ)

@@ -1,10 +1,9 @@
 -- The row of a reversed loop in the backward sweep: with the laws of such a loop, it gives back what is held before the loop, and
 -- reverses the loop.
-use Rattle.std.proofs.Common.{◌≡◌, ◌≤◌, ◌<◌, ◌^◌, ℕ, zero, suc, ◌+◌, Bool, true, false, List, [], ◌∷◌, ◌++◌, length, refl, sym, ap, ◌∙◌, subst, arith, append_assoc}
-use Rattle.std.specs.Prelude.{ℤ, pos, Ok, ◌==◌, ◌&&◌, ◌||◌, Option, Some, None}
-use Rattle.adj_tree.specs.Code.{Role, role_code, Var, plain, shadow, helper, first, stride, count, name_eq, none, Term, call, runtime, pop_word, Code, stop}
-use Rattle.adj_tree.proofs.Names.{nat_refl, name_refl}
-use Rattle.adj_word.specs.Word.{wrap}
+use Rattle.std.proofs.Common.{◌≡◌, ◌<◌, ◌^◌, ℕ, suc, Bool, true, false, List, ◌∷◌, ◌++◌, length, refl, sym, ap, ◌∙◌, arith}
+use Rattle.std.specs.Prelude.{ℤ, pos, Ok, ◌&&◌, ◌||◌, Option, Some, None}
+use Rattle.adj_tree.specs.Code.{role_code, Var, plain, shadow, helper, first, stride, count, name_eq, none, Term, call, runtime, pop_word, Code}
+use Rattle.adj_tree.proofs.Names.{nat_refl}
 use Rattle.adj_word.specs.Pairing.{pairing}
 use Rattle.adj_revolve.specs.Schedule.{schedule_of}
 use Rattle.adj_meaning.specs.Append.{◌+++◌, one}
@@ -12,32 +11,30 @@ use Rattle.adj_meaning.specs.Store.{Shape, size_of, Store, set}
 use Rattle.adj_meaning.specs.Value.{Setting}
 use Rattle.adj_meaning.specs.Run.{Calls}
 use Rattle.adj_meaning.specs.Runtime.{steps_of, snapshots_of}
-use Rattle.adj_meaning.specs.Leads.{Leads}
 use Rattle.adj_meaning.proofs.Leadings.{leads_append, leads_step}
 use Rattle.adj_transpose.specs.Marks.{Vars, everything, point_before, point_after}
-use Rattle.adj_transpose.specs.Facts.{In, joined, without, Facts}
+use Rattle.adj_transpose.specs.Facts.{In, joined, Facts}
 use Rattle.adj_transpose.specs.Fresh.{has_name}
 use Rattle.adj_transpose.specs.Naming.{AreApart}
-use Rattle.adj_transpose.specs.Pairs.{Key, Words, shadows, on_words}
+use Rattle.adj_transpose.specs.Pairs.{Key, Words, on_words}
 use Rattle.adj_transpose.specs.Lists.{Kept, scene}
 use Rattle.adj_transpose.proofs.Variables.{or_false}
-use Rattle.adj_transpose.proofs.Turned.{SameDepth}
 use Rattle.adj_reverse.specs.Plan.{Plan, beside, IsActual, actuals_named, group, save_group}
 use Rattle.adj_reverse.specs.Emission.{pushes, pops, adjoint_call}
 use Rattle.adj_reverse.specs.ReversalCode.{reversal, reversed_backward}
 use Rattle.adj_reverse.specs.Laws.{just, CalleeFacts}
-use Rattle.adj_reverse.specs.Runs.{Comes, SameOn, SameOff}
-use Rattle.adj_reverse.specs.Reversals.{Reversal, LoopRun, AreReversed, Tells}
+use Rattle.adj_reverse.specs.Runs.{SameOn, SameOff}
+use Rattle.adj_reverse.specs.Reversals.{LoopRun}
 use Rattle.adj_reverse.specs.ReversedLaws.{ReversedLaws}
 use Rattle.adj_reverse.specs.ReversedRow.{ReversedBack}
-use Rattle.adj_reverse.proofs.Passing.{found_or, beside_back}
+use Rattle.adj_reverse.proofs.Passing.{beside_back}
 use Rattle.adj_reverse.proofs.CallAdjoints.{writes_actual}
 use Rattle.adj_reverse.proofs.CallSweeps.{group_has, group_out}
 use Rattle.adj_reverse.proofs.Snapshots.{KnowsArrays}
 use Rattle.adj_reverse.proofs.Snapshots.{Restored, group_pushed, words_of}
 use Rattle.adj_reverse.proofs.LoopSweeps.{other_depth}
 use Rattle.adj_reverse.proofs.Playing.{changes, loops_of}
-use Rattle.adj_reverse.proofs.Reversing.{Reversing, reversing}
+use Rattle.adj_reverse.proofs.Reversing.{reversing}
 use Rattle.adj_reverse.proofs.StepUnits.{Loose, popped_stands, stepping, SnapIn, StandingIn}
 use Rattle.adj_reverse.specs.Steps.{Steps}
 

@@ -1,20 +1,18 @@
 -- A reversal as a whole: what it does to the store and the tape, and what it tells.
-use Rattle.std.proofs.Common.{◌≡◌, ◌≤◌, ◌<◌, ◌^◌, ℕ, zero, suc, ◌+◌, ◌*◌, Bool, true, false, List, [], ◌∷◌, ◌++◌, length, refl, sym, ap, ◌∙◌, subst, arith}
+use Rattle.std.proofs.Common.{◌≡◌, ◌<◌, ◌^◌, ℕ, suc, true, false, List, ◌∷◌, length, refl, ap, ◌∙◌, arith}
 use Rattle.std.specs.Prelude.{ℤ, pos, nat_le, Ok}
-use Rattle.adj_tree.specs.Code.{Role, Var, plain, shadow, helper, first, stride, count, entry, entries, name_eq, var, unmarked, loop, runtime, begin_reversal, count_actions, end_reversal, Code, stop, step}
+use Rattle.adj_tree.specs.Code.{Var, plain, helper, first, stride, count, entry, entries, name_eq, var, unmarked, loop, runtime, begin_reversal, count_actions, end_reversal, Code, stop}
 use Rattle.adj_tree.proofs.Names.{nat_refl}
-use Rattle.adj_word.specs.Word.{wrap, trip_count}
+use Rattle.adj_word.specs.Word.{wrap}
 use Rattle.adj_word.specs.Pairing.{pairing}
 use Rattle.adj_word.proofs.Residues.{wrap_word}
 use Rattle.adj_word.proofs.Counting.{word-count, trips_through}
 use Rattle.adj_revolve.specs.declared.machine.Action.{Action}
 use Rattle.adj_revolve.specs.Schedule.{schedule_of}
-use Rattle.adj_revolve.specs.LeastCost.{least_cost}
 use Rattle.adj_meaning.specs.Append.{one}
 use Rattle.adj_meaning.specs.Event.{Begin, End}
 use Rattle.adj_meaning.specs.Store.{Shape, Store, set}
 use Rattle.adj_meaning.specs.Value.{Setting}
-use Rattle.adj_meaning.specs.Scene.{Done}
 use Rattle.adj_meaning.specs.Run.{Calls, trips}
 use Rattle.adj_meaning.specs.Runtime.{steps_of, snapshots_of}
 use Rattle.adj_meaning.specs.Leads.{Leads}
@@ -22,11 +20,11 @@ use Rattle.adj_meaning.proofs.Leadings.{leads_stop, leads_act, leads_step}
 use Rattle.adj_transpose.specs.Pairs.{Key, Words, shadows, on_words}
 use Rattle.adj_transpose.specs.Lists.{Kept, scene}
 use Rattle.adj_reverse.specs.Emission.{literal}
-use Rattle.adj_reverse.specs.Reversals.{Called, Reversal, LoopRun, Reverses, AreReversed, Tells}
+use Rattle.adj_reverse.specs.Reversals.{Reversal, LoopRun, Reverses, AreReversed, Tells}
 use Rattle.adj_reverse.specs.ReversalCode.{reversal}
 use Rattle.adj_reverse.proofs.Told.{reversal_of, tells_reversal}
-use Rattle.adj_reverse.proofs.Goings.{TurnsGo, ActGoes, loop_goes}
-use Rattle.adj_reverse.proofs.Playing.{Played, changes, loops_of, schedule_played}
+use Rattle.adj_reverse.proofs.Goings.{loop_goes}
+use Rattle.adj_reverse.proofs.Playing.{changes, loops_of, schedule_played}
 use Rattle.adj_reverse.proofs.Acting.{Stepping, Ready, Beside, own_set, beside_then, action, acts}
 
 module _ (q : Calls ℤ) (sh : Var → Shape) (level : ℕ) (cells : List Key) (d line : ℕ) (x : List ℕ) (l m : ℕ) (a0 c0 : ℤ) (unit adj : List ℕ) (words : ℕ) (keep back plain_call adjoint : Code) (Standing : ℕ → Store ℤ → Type 0) (Loose : Store ℤ → Type 0) (Snap : ℕ → List ℤ → Type 0) (change : ℕ → Words → Words) (loops : ℕ → List LoopRun) where

@@ -1,6 +1,6 @@
 -- The steps of a marked loop that was run, and the numbers of its reversal.
-use Rattle.std.proofs.Common.{◌≡◌, ◌≤◌, ◌<◌, ◌^◌, ℕ, zero, suc, ◌+◌, ◌*◌, Bool, true, false, length, refl, sym, ap, ◌∙◌, subst, arith, int_eq, if◌then◌else◌}
-use Rattle.std.specs.Prelude.{ℤ, pos, nat_le, ◌&&◌, Result, Ok, Err}
+use Rattle.std.proofs.Common.{◌≡◌, ◌≤◌, ◌<◌, ◌^◌, ℕ, zero, suc, Bool, true, false, length, refl, arith, int_eq, if◌then◌else◌}
+use Rattle.std.specs.Prelude.{ℤ, pos, nat_le, Result, Ok, Err}
 use Rattle.adj_tree.specs.Code.{Mark, unmarked, with_count, count_from}
 use Rattle.adj_word.specs.Word.{trip_count}
 use Rattle.adj_revolve.specs.Schedule.{schedule_of}

@@ -1,10 +1,9 @@
 -- The calls of a step unit and of its adjoint, and the snapshots of its steps, are what a reversal asks for.
-use Rattle.std.proofs.Common.{◌≡◌, ◌≤◌, ◌<◌, ◌^◌, ℕ, zero, suc, ◌+◌, Bool, true, false, List, [], ◌∷◌, ◌++◌, length, refl, sym, ap, ◌∙◌, subst, arith, if◌then◌else◌}
-use Rattle.std.specs.Prelude.{ℤ, pos, ◌==◌, ◌&&◌, ◌||◌, Option, Some, None}
-use Rattle.adj_tree.specs.Code.{Role, role_code, Var, plain, shadow, helper, name_eq, call, Code}
-use Rattle.adj_tree.proofs.Names.{nat_refl, name_refl, name_same}
+use Rattle.std.proofs.Common.{◌≡◌, ◌≤◌, ◌<◌, ℕ, zero, suc, Bool, true, false, List, [], ◌∷◌, ◌++◌, length, refl, sym, ap, ◌∙◌, subst, arith}
+use Rattle.std.specs.Prelude.{ℤ, pos, ◌==◌, ◌&&◌, Option, Some, None}
+use Rattle.adj_tree.specs.Code.{Role, Var, plain, shadow, helper, name_eq, call, Code}
+use Rattle.adj_tree.proofs.Names.{name_same}
 use Rattle.adj_word.specs.Word.{add, mul}
-use Rattle.adj_word.specs.Pairing.{pairing}
 use Rattle.adj_meaning.specs.Append.{one}
 use Rattle.adj_meaning.specs.Store.{Shape, size_of, Store}
 use Rattle.adj_meaning.specs.Value.{Setting}
@@ -13,23 +12,23 @@ use Rattle.adj_transpose.specs.Marks.{Vars, everything}
 use Rattle.adj_transpose.specs.Facts.{In, joined}
 use Rattle.adj_transpose.specs.Naming.{AreApart}
 use Rattle.adj_transpose.specs.Fresh.{has_name}
-use Rattle.adj_transpose.specs.Pairs.{Key, Words, shadows, on_words}
+use Rattle.adj_transpose.specs.Pairs.{Key, Words, on_words}
 use Rattle.adj_meaning.specs.Leads.{Leads}
-use Rattle.adj_transpose.specs.Lists.{Kept, scene}
+use Rattle.adj_transpose.specs.Lists.{scene}
 use Rattle.adj_transpose.proofs.Variables.{or_left, or_right, or_false}
 use Rattle.adj_transpose.proofs.Turned.{SameDepth}
 use Rattle.adj_reverse.specs.Plan.{Plan, beside, IsActual, actuals_named, group}
 use Rattle.adj_reverse.specs.Emission.{pushes, pops, adjoint_call}
 use Rattle.adj_reverse.specs.Laws.{just, CalleeFacts}
 use Rattle.adj_reverse.specs.Runs.{SameOff}
-use Rattle.adj_reverse.specs.Reversals.{Called, Reversal, LoopRun, AreReversed}
+use Rattle.adj_reverse.specs.Reversals.{LoopRun}
 use Rattle.adj_reverse.specs.Steps.{ActualsAgree, Steps}
 use Rattle.adj_reverse.proofs.Passing.{found_or, beside_back}
 use Rattle.adj_reverse.proofs.CallAdjoints.{writes_actual}
 use Rattle.adj_reverse.proofs.CallSweeps.{group_has, group_out}
 use Rattle.adj_reverse.proofs.Snapshots.{KnowsArrays, Restored, Pushed, words_of, group_pushed}
-use Rattle.adj_reverse.proofs.Goings.{ActGoes, goes_one}
-use Rattle.adj_reverse.proofs.Acting.{Stepping, SnapshotPopped, Beside}
+use Rattle.adj_reverse.proofs.Goings.{goes_one}
+use Rattle.adj_reverse.proofs.Acting.{Stepping, SnapshotPopped}
 
 module _ (q : Calls ℤ) (sh : Var → Shape) (level : ℕ) (cells : List Key) (d line : ℕ) (p : Plan) (known : KnowsArrays p sh) (x : List ℕ) (one_cell : size_of (sh (plain x)) ≡ 1) (l m : ℕ) (a0 c0 : ℤ) (g : CalleeFacts) (given : List (List ℕ)) (apart : AreApart g.callee.dummies) (apart' : AreApart given) (name : List ℕ) (change : ℕ → Words → Words) (loops : ℕ → List LoopRun) (U U' : ℕ → Store ℤ) (g0 : Store ℤ) where
   abbrev nw : Setting ℤ

@@ -1,9 +1,9 @@
 -- What the definitions say of the events of small runs, written out.
-use Rattle.std.proofs.Common.{◌≡◌, ◌⊎◌, inl, inr, ◌≤◌, ℕ, Bool, true, false, List, [], ◌∷◌, refl, arith}
+use Rattle.std.proofs.Common.{◌≡◌, inl, inr, ◌≤◌, ℕ, true, false, List, [], ◌∷◌, refl, arith}
 use Rattle.adj_revolve.specs.LeastCost.{least_cost, greatest_up_to}
 use Rattle.adj_revolve.specs.Binomial.{choose}
-use Rattle.adj_meaning.specs.Event.{Event, Enter, Begin, End, Marked}
-use Rattle.adj_reverse.specs.Reversals.{Called, Reversal, LoopRun, reversals_in, Reverses, times}
+use Rattle.adj_meaning.specs.Event.{Event, Enter, Begin, End}
+use Rattle.adj_reverse.specs.Reversals.{Called, Reversal, LoopRun, reversals_in, Reverses}
 
 g : List ℕ
 g = 71 ∷ []

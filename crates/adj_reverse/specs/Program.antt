@@ -5,7 +5,8 @@ use Rattle.adj_meaning.specs.Rename.{rename}
 use Rattle.adj_transpose.specs.Naming.{Named, unit_names, naming}
 use Rattle.adj_transpose.specs.Marks.{Marks, next, behind, active_at}
 use Rattle.adj_transpose.specs.Marked.{names_in}
-use Rattle.adj_transpose.specs.Program.{locals, variables, unit_name, helpers_from, unmarked, declared_helpers, unit_at}
+use Rattle.adj_names.specs.Variables.{variables}
+use Rattle.adj_transpose.specs.Program.{unit_name, helpers_from, unmarked, declared_helpers, unit_at}
 use Rattle.adj_reverse.specs.AdjointOf.{works_in_where, temps_in_where}
 use Rattle.adj_reverse.specs.Names.{adjoint_name}
 use Rattle.adj_transpose.specs.MarkedProgram.{shadows_behind, declared_behind}
@@ -129,7 +130,8 @@ made_for m ps u = map shadow (names_in (m.shadowed u.name) (variables u)) ++ hel
 abbrev pub adjoint_names : ProgramMarks → List Procedure → List (List ℕ) → Procedure → List Named
 adjoint_names m ps units u = unit_names (variables u) units (made_for m ps u)
 
--- the adjoint of u, in which these shadows are cleared between the sweeps, and these at the end
+-- The adjoint of u, in which these shadows are cleared between the sweeps, and these at the end. Each variable of u has a declaration in
+-- it, a scalar where u has none.
 abbrev pub adjoint_unit : ProgramMarks → List Procedure → List (List ℕ) → Procedure → List (List ℕ) → List (List ℕ) → Procedure
 adjoint_unit m ps units u at_turn at_end =
     let ns = adjoint_names m ps units u in
@@ -140,7 +142,7 @@ adjoint_unit m ps units u at_turn at_end =
       name = adjoint_name ps u;
       dummies = shadows_behind (m.shadowed u.name) ns u.dummies;
       is_none = false;
-      declarations = declared_behind (m.shadowed u.name) ns u u.dummies ++ (declared_behind (m.shadowed u.name) ns u (locals u) ++ declared_helpers ns u.line (helpers_used p i u.body));
+      declarations = declared_behind (m.shadowed u.name) ns u (variables u) ++ declared_helpers ns u.line (helpers_used p i u.body);
       body = rename (naming ns) (adjoint_body p i u.line u.body at_turn at_end);
     }
 

@@ -1,8 +1,8 @@
 -- The row of a marked loop whose steps are reversed by a schedule. (docs/EMITTED.md, "Sweeps")
 -- Rows take codes: `save` and `keep` push the two groups of the step call, `unsave` and `back` pop them, `plain_call` calls the step unit,
 -- and `adjoint` its adjoint.
-use Rattle.std.specs.Prelude.{ℕ, suc, List, Bool, not, ◌&&◌, ◌||◌, Option, Some, None}
-use Rattle.adj_tree.specs.Code.{Var, helper, first, stride, count, turn, Role, entry, entries, kind, lower, upper, plus, minus, times, is_same, unmarked, Term, lit, var, bin, none, plain, compare, assign, choose, loop, call, runtime, push_word, pop_word, begin_reversal, count_actions, give_action, end_reversal, Code, stop, step}
+use Rattle.std.specs.Prelude.{ℕ, suc, List, not, ◌&&◌, ◌||◌, Option, Some, None}
+use Rattle.adj_tree.specs.Code.{Var, helper, first, stride, count, turn, Role, entry, entries, kind, lower, upper, plus, minus, times, is_same, unmarked, Term, var, bin, none, plain, compare, assign, choose, loop, call, runtime, push_word, pop_word, begin_reversal, count_actions, give_action, end_reversal, Code, stop, step}
 use Rattle.adj_meaning.specs.Append.{◌+++◌, one}
 use Rattle.adj_transpose.specs.Marked.{code_if}
 use Rattle.adj_transpose.specs.Marks.{Vars, everything}

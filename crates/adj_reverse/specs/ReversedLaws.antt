@@ -1,6 +1,6 @@
 -- The laws of a marked loop whose steps are reversed by a schedule: facts about it and its step call, the statement after it.
 -- (docs/THEOREMS.md, "Adjoints")
-use Rattle.std.specs.Prelude.{◌≡◌, ℕ, suc, Bool, true, false, List}
+use Rattle.std.specs.Prelude.{◌≡◌, ℕ, suc, true, false, List}
 use Rattle.adj_tree.specs.Code.{plain, name_eq, Term}
 use Rattle.adj_transpose.specs.Marks.{point_before, point_after}
 use Rattle.adj_transpose.specs.Facts.{In, Within, joined, in_term, Facts}

@@ -1,5 +1,5 @@
 -- The row of a marked loop that is reversed by a schedule, and what it does in both sweeps. (docs/EMITTED.md, "Reversal of a marked loop")
-use Rattle.std.specs.Prelude.{◌≡◌, ◌≤◌, ◌<◌, ℕ, suc, ℤ, pos, List, [], ◌∷◌, ◌++◌, Bool, false, Ok}
+use Rattle.std.specs.Prelude.{◌≡◌, ◌≤◌, ◌<◌, ℕ, suc, ℤ, List, [], ◌∷◌, ◌++◌, false, Ok}
 use Rattle.adj_tree.specs.Code.{Var, plain, shadow, name_eq, unmarked, Term, call, Code}
 use Rattle.adj_word.specs.Word.{wrap, add}
 use Rattle.adj_word.specs.Pairing.{pairing}

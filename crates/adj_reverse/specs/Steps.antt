@@ -1,5 +1,5 @@
 -- The steps of a marked loop that was run, and what it means that a reversal turns them. (docs/EMITTED.md, "Reversal of a marked loop")
-use Rattle.std.specs.Prelude.{◌≡◌, ◌≤◌, ◌<◌, ℕ, zero, suc, ◌+◌, ℤ, pos, List, [], ◌∷◌, ◌++◌, length, Bool, false}
+use Rattle.std.specs.Prelude.{◌≡◌, ◌≤◌, ◌<◌, ℕ, zero, suc, ◌+◌, ℤ, pos, List, [], ◌∷◌, ◌++◌, length, false}
 use Rattle.adj_tree.specs.Code.{Role, role_code, Var, plain, shadow, helper, first, stride, count, name_eq, Act, call, Code}
 use Rattle.adj_word.specs.Word.{add, mul}
 use Rattle.adj_word.specs.Pairing.{pairing}
