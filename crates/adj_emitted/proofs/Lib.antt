@@ -2,8 +2,10 @@
 pub mod Over
 pub mod Terms
 pub mod Helpers
+pub mod Follows
 pub mod Sweeps
 pub mod Renamed
 pub mod Tables
 pub mod Source
 pub mod Used
+pub mod MadeNames

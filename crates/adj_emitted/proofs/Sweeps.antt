@@ -14,7 +14,8 @@ use Rattle.adj_reverse.specs.Plan.{Callee, Plan, is_emitted, names_of, group, sa
 use Rattle.adj_reverse.specs.Emission.{is_empty, push, pop, pushes, pops, literal, told_forward, told_backward, loop_forward, loop_backward, while_forward, while_backward, resets, reset, with_shadows, adjoint_call, forward_act, forward, backward_act, backward, cleared, adjoint_body}
 use Rattle.adj_reverse.specs.Program.{works_act, works_used, temps_act, temps_used}
 use Rattle.adj_checked.proofs.Lists.{Each}
-use Rattle.adj_emitted.specs.Shadowed.{AreCarried, FollowsAct, Follows}
+use Rattle.adj_emitted.specs.Shadowed.{AreCarried}
+use Rattle.adj_emitted.proofs.Follows.{FollowsAct, Follows}
 use Rattle.adj_emitted.proofs.Over.{OverTerm, OverTerms, OverPlace, OverTest, OverActual, OverActuals, OverAct, OverCode, over_append, over_if, place_stands, place_other}
 use Rattle.adj_emitted.proofs.Terms.{adjoint_over}
 use Rattle.adj_emitted.proofs.Helpers.{HelpedAct, Helped, helped_front, helped_rest, idle_parts, tells_here, helped_first, helped_other, idle_body, helped_body, loop_counts, loop_bounds, helped_turns, while_counts}
