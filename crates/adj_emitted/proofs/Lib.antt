@@ -9,3 +9,5 @@ pub mod Tables
 pub mod Source
 pub mod Used
 pub mod MadeNames
+pub mod Units
+pub mod Programs
