@@ -11,3 +11,4 @@ pub mod Used
 pub mod MadeNames
 pub mod Units
 pub mod Programs
+pub mod UnitFaults

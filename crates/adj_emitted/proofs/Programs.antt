@@ -40,7 +40,7 @@ use Rattle.adj_emitted.proofs.Tables.{IsFree}
 use Rattle.adj_emitted.proofs.Units.{each_name, of_each, each_marked, unit_written}
 
 -- each unit of a list stands in it
-each_there : (us : List Procedure) → Each (λ u. is_unit us u.name ≡ true) us
+pub each_there : (us : List Procedure) → Each (λ u. is_unit us u.name ≡ true) us
 each_there [] = tt
 each_there (u ∷ us) = (or_left (name_eq u.name u.name) (is_unit us u.name) (name_refl u.name), each_more (λ v. is_unit us v.name ≡ true) (λ v. is_unit (u ∷ us) v.name ≡ true) (λ v h. or_right (name_eq u.name v.name) (is_unit us v.name) h) us (each_there us))
 

@@ -5,10 +5,15 @@
 //! the text that is written for an adjoint reads as that adjoint.
 #![tactic(auto)]
 
-ghost use Rattle.adj_emitted.specs.Emitted.{MarkedIsWritten, EmittedIsWritten};
+ghost use Rattle.adj_emitted.specs.Emitted.{MarkedIsWritten, EmittedIsWritten, UnitsHaveNone};
 
 /// What is emitted can be written as a text, by any marks whose shadows are there, and so by full marks.
 pub fn written_law()
     ensures marked { MarkedIsWritten }
     ensures full { EmittedIsWritten }
+{}
+
+/// It has no faults of units, by any marks: their names are apart, and none is reserved.
+pub fn units_law()
+    ensures { UnitsHaveNone }
 {}
