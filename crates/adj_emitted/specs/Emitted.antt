@@ -1,0 +1,26 @@
+-- That what is emitted for a checked program can be written as a text. (docs/THEOREMS.md, "Emitted programs")
+use Rattle.std.specs.Prelude.{◌≡◌, ℕ, List, [], Bool}
+use Rattle.adj_tree.specs.Code.{Procedure}
+use Rattle.adj_text.specs.Written.{IsWritten}
+use Rattle.adj_names.specs.Fault.{Rules}
+use Rattle.adj_names.specs.UnitFaults.{unit_faults}
+use Rattle.adj_reverse.specs.Marking.{ProgramMarks, full_marks}
+use Rattle.adj_reverse.specs.Program.{emitted_program}
+use Rattle.adj_checked.specs.Checked.{IsChecked}
+use Rattle.adj_emitted.specs.Shadowed.{AllHaveShadows}
+
+-- what is emitted for a checked program in kernel form is written, whatever the marks, as long as what they use has shadows
+abbrev pub MarkedIsWritten : Type 0
+MarkedIsWritten =
+    (rules : Rules) (ps : List Procedure) → IsChecked rules ps → (m : ProgramMarks) → AllHaveShadows m ps ps → (head : ℕ) (vars outvars : List Bool) →
+    IsWritten (emitted_program m ps head vars outvars)
+
+-- so it is with full marks
+abbrev pub EmittedIsWritten : Type 0
+EmittedIsWritten = (rules : Rules) (ps : List Procedure) → IsChecked rules ps → (head : ℕ) (vars outvars : List Bool) → IsWritten (emitted_program full_marks ps head vars outvars)
+
+-- ---- it has no faults
+
+-- the names of its units are apart, and none is reserved
+abbrev pub UnitsHaveNone : Type 0
+UnitsHaveNone = (rules : Rules) (ps : List Procedure) → IsChecked rules ps → (m : ProgramMarks) (head : ℕ) (vars outvars : List Bool) → unit_faults (emitted_program m ps head vars outvars) ≡ []

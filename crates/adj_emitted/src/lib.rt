@@ -1,0 +1,19 @@
+//! What is emitted for a checked program can be written as a text and has no fault: definitions and laws, no code.
+//!
+//! `specs/Emitted` says what holds of the program that is emitted for a checked program in kernel form, for each of its units as
+//! the head. It stands on the theorem on both sweeps and on the names of programs. The layer above uses `written_law`, so that
+//! the text that is written for an adjoint reads as that adjoint.
+#![tactic(auto)]
+
+ghost use Rattle.adj_emitted.specs.Emitted.{MarkedIsWritten, EmittedIsWritten, UnitsHaveNone};
+
+/// What is emitted can be written as a text, by any marks whose shadows are there, and so by full marks.
+pub fn written_law()
+    ensures marked { MarkedIsWritten }
+    ensures full { EmittedIsWritten }
+{}
+
+/// It has no faults of units, by any marks: their names are apart, and none is reserved.
+pub fn units_law()
+    ensures { UnitsHaveNone }
+{}
