@@ -1,5 +1,5 @@
-use Rattle.adj_wrong.proofs.Trials.{variable_unsaved_fails, variable_unvaried_fails, memberless_fails, call_unadjointed_fails, call_unkept_fails, call_unsaved_fails, branch_left_out_fails}
-use Rattle.adj_wrong.proofs.open_marks.Goals as goal
+use Rattle.adj_worked.proofs.Trials.{variable_unsaved_fails, variable_unvaried_fails, memberless_fails, call_unadjointed_fails, call_unkept_fails, call_unsaved_fails, branch_left_out_fails}
+use Rattle.adj_worked.proofs.open_marks.Goals as goal
 
 pub returns-clause-variable_unsaved : goal.returns-clause-variable_unsaved
 returns-clause-variable_unsaved c = variable_unsaved_fails

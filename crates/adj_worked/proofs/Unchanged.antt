@@ -4,7 +4,7 @@ use Rattle.std.specs.Prelude.{map}
 use Rattle.adj_tree.specs.Code.{Act, assign, choose, loop, during, call, runtime, Code, stop, step, Procedure}
 use Rattle.adj_reverse.specs.Marking.{ProgramMarks}
 use Rattle.adj_reverse.specs.Program.{emitted_program}
-use Rattle.adj_wrong.specs.Faulty.{changed_act, changed, with_change, faulty_program, unchanged}
+use Rattle.adj_worked.specs.Faulty.{changed_act, changed, with_change, faulty_program, unchanged}
 
 mutual
   same_act : (a : Act) → changed_act unchanged a ≡ a

@@ -1,6 +1,6 @@
-use Rattle.adj_wrong.proofs.Unchanged.{without_fault}
-use Rattle.adj_wrong.proofs.Trials.{untold_fails, unturned_fails, unrestored_fails, unreset_fails, uncounted_fails, unsnapped_fails, popped_before_fails, unguarded_fails}
-use Rattle.adj_wrong.proofs.wrong_adjoints.Goals as goal
+use Rattle.adj_worked.proofs.Unchanged.{without_fault}
+use Rattle.adj_worked.proofs.Trials.{untold_fails, unturned_fails, unrestored_fails, unreset_fails, uncounted_fails, unsnapped_fails, popped_before_fails, unguarded_fails}
+use Rattle.adj_worked.proofs.wrong_adjoints.Goals as goal
 
 pub returns-clause-without_fault : goal.returns-clause-without_fault
 returns-clause-without_fault c = without_fault

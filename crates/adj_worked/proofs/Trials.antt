@@ -7,9 +7,9 @@ use Rattle.adj_meaning.specs.Run.{most_tests}
 use Rattle.adj_reverse.specs.Marking.{full_marks}
 use Rattle.adj_reverse.specs.Program.{emitted_program}
 use Rattle.adj_reverse.specs.Examples.{branch, powers, power}
-use Rattle.adj_wrong.specs.Faulty.{faulty_program, Serve, Fail, untold, unturned, unrestored, unreset, uncounted, unsnapped, popped_before, unguarded}
-use Rattle.adj_wrong.specs.Sources.{sums, scaled, counted, squaring, raising, caller, calls_after, calls_before, sparing, unsaved, unsaved_call, unvaried, memberless, unadjointed, unkept, left_out}
-use Rattle.adj_wrong.proofs.Trying.{tried, adjoint_in, differ, stuck}
+use Rattle.adj_worked.specs.Faulty.{faulty_program, Serve, Fail, untold, unturned, unrestored, unreset, uncounted, unsnapped, popped_before, unguarded}
+use Rattle.adj_worked.specs.Sources.{sums, scaled, counted, squaring, raising, caller, calls_after, calls_before, sparing, unsaved, unsaved_call, unvaried, memberless, unadjointed, unkept, left_out}
+use Rattle.adj_worked.proofs.Trying.{tried, adjoint_in, differ, stuck}
 
 -- words of different numbers
 differ_words : (m n : ℕ) → (m == n) ≡ false → pos m ≡ pos n → ⊥
