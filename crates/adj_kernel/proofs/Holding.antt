@@ -1,13 +1,13 @@
 -- What holds of each statement of a list, at any depth, and of the statements that a statement becomes.
-use Rattle.std.proofs.Common.{◌≡◌, ℕ, zero, suc, ◌+◌, Bool, true, false, List, [], ◌∷◌, ◌++◌}
+use Rattle.std.proofs.Common.{ℕ, zero, suc, ◌+◌, Bool, true, false, List, [], ◌∷◌}
 use Rattle.std.specs.Prelude.{if◌then◌else◌}
 use Rattle.adj_tree.specs.Code.{Var, plus, minus, times, quot, modulo, greater, lesser, Term, lit, var, elem, neg, bin, pow, power_of, abs, Terms, none, more, Test, Mark, unmarked, with_count, count_from, Runtime, Act, assign, choose, loop, during, call, runtime, Code, stop, step, Procedure}
 use Rattle.adj_meaning.specs.Append.{◌+++◌, one}
 use Rattle.adj_meaning.specs.LeastSet.{Dummies}
 use Rattle.adj_meaning.specs.Read.{reads_term}
 use Rattle.adj_names.specs.Statements.{At, inner, statements}
-use Rattle.adj_kernel.specs.Lowered.{locals_in, locals_in_all, length_of, first_flag, other_flags, reduced, before, set_local, before_target, lowered_assign, reduced_all, before_all, held, before_held, Passing, stays, put_back, by_value, passing, locals_passing, passed, before_passing, after_passing, all_passed, before_passing_all, after_passing_all, lowered_act, lowered}
-use Rattle.adj_kernel.specs.Stepped.{marked_in, marked_in_act, step_call, cut_act, cut, step_unit, step_units_in_act, step_units_in}
+use Rattle.adj_kernel.specs.Lowered.{locals_in, locals_in_all, first_flag, other_flags, before, set_local, before_target, reduced_all, before_all, before_held, Passing, stays, put_back, by_value, passing, locals_passing, passed, before_passing, after_passing, all_passed, before_passing_all, after_passing_all, lowered_act, lowered}
+use Rattle.adj_kernel.specs.Stepped.{marked_in, marked_in_act, step_call, cut_act, cut}
 use Rattle.adj_kernel.proofs.Faultless.{Each, each_front, each_behind, each_join}
 
 abbrev mutual
@@ -98,7 +98,7 @@ module _ (local : ℕ → Var) (S Q : ℕ → Act → Type 0) (assigned : (line 
   hold_set : (line : ℕ) (x : Var) (subs : Terms) (e : Term) → Holds Q (one line (assign x subs e))
   hold_set line x subs e = (assigned line x subs e, (tt, tt))
 
-  hold_before : (line j : ℕ) (e : Term) → Holds Q (before local line j e)
+  pub hold_before : (line j : ℕ) (e : Term) → Holds Q (before local line j e)
   hold_before line j (lit z) = tt
   hold_before line j (var y) = tt
   hold_before line j (elem y subs) = tt
@@ -122,7 +122,7 @@ module _ (local : ℕ → Var) (S Q : ℕ → Act → Type 0) (assigned : (line 
   hold_local : (line j m : ℕ) (e : Term) → Holds Q (set_local local line j m e)
   hold_local line j m e = holds_join Q (before local line m e) _ (hold_before line m e) (hold_set line _ _ _)
 
-  hold_target : (line : ℕ) (y : Var) (j m : ℕ) (es : Terms) → Holds Q (before_target local line y j m es)
+  pub hold_target : (line : ℕ) (y : Var) (j m : ℕ) (es : Terms) → Holds Q (before_target local line y j m es)
   hold_target line y j m none = tt
   hold_target line y j m (more e es) = go (reads_term y e) (hold_target line y (suc j) (m + locals_in e) es) (hold_target line y j m es)
     where
@@ -130,7 +130,7 @@ module _ (local : ℕ → Var) (S Q : ℕ → Act → Type 0) (assigned : (line 
       go true h g = holds_join Q (set_local local line j m e) _ (hold_local line j m e) h
       go false h g = g
 
-  hold_all : (line j : ℕ) (es : Terms) → Holds Q (before_all local line j es)
+  pub hold_all : (line j : ℕ) (es : Terms) → Holds Q (before_all local line j es)
   hold_all line j none = tt
   hold_all line j (more e es) = holds_join Q (before local line j e) _ (hold_before line j e) (hold_all line (j + locals_in e) es)
 
@@ -148,13 +148,13 @@ module _ (local : ℕ → Var) (S Q : ℕ → Act → Type 0) (assigned : (line 
   hold_after line j (put_back y subs) = hold_set line _ _ _
   hold_after line j (by_value e) = tt
 
-  hold_passings : (line j : ℕ) (ws : List Bool) (earlier : List Var) (es : Terms) → Holds Q (before_passing_all local line j ws earlier es)
+  pub hold_passings : (line j : ℕ) (ws : List Bool) (earlier : List Var) (es : Terms) → Holds Q (before_passing_all local line j ws earlier es)
   hold_passings line j ws earlier none = tt
   hold_passings line j ws earlier (more e es) =
       let p = passing (first_flag ws) earlier e in
       holds_join Q (before_passing local line j p) _ (hold_passing line j p) (hold_passings line (j + locals_passing p) (other_flags ws) (passed local j p ∷ earlier) es)
 
-  hold_afters : (line j : ℕ) (ws : List Bool) (earlier : List Var) (es : Terms) → Holds Q (after_passing_all local line j ws earlier es)
+  pub hold_afters : (line j : ℕ) (ws : List Bool) (earlier : List Var) (es : Terms) → Holds Q (after_passing_all local line j ws earlier es)
   hold_afters line j ws earlier none = tt
   hold_afters line j ws earlier (more e es) =
       let p = passing (first_flag ws) earlier e in

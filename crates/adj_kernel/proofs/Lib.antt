@@ -30,6 +30,7 @@ pub mod StepUnits
 pub mod StepPrograms
 pub mod StepLookups
 pub mod StepWritten
+pub mod StepCalls
 pub mod StepFitting
 pub mod StepMeanings
 pub mod Costs
@@ -51,3 +52,9 @@ pub mod Sparing
 pub mod StepSpared
 pub mod SoundWrites
 pub mod SoundUnits
+pub mod Repeated
+pub mod SoundActuals
+pub mod LoweredNames
+pub mod StandingNames
+pub mod LoweredStands
+pub mod SoundNames

@@ -117,7 +117,7 @@ mutual
   stated_act (call name args) = append-nil (names_standing (in_actuals args)) ∙ standing_actuals args
   stated_act (runtime r) = append-nil (names_standing (in_runtime r)) ∙ standing_runtime r
 
-  stated_code : (c : Code) → stated (statements c) ≡ names_in_code c
+  pub stated_code : (c : Code) → stated (statements c) ≡ names_in_code c
   stated_code stop = refl
   stated_code (step line a rest) =
       ap (λ z. names_standing (in_act a) ++ z) (stated-append (inner a) (statements rest))

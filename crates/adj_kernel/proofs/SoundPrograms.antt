@@ -93,6 +93,9 @@ module _ (ps : List Procedure) (u : Procedure) where
     pub counted_calls : EachCall (IsCounted ps) u.body
     counted_calls = each_in_code Good (IsCounted ps) (λ line name args g. counted_of ps u name args (called_good line name args g)) no_runtime_there u.body good
 
+    pub called_calls : EachCall (Called ps u) u.body
+    called_calls = each_in_code Good (Called ps u) called_good no_runtime_there u.body good
+
     pub unit_calls : CallsUnits u
     unit_calls = each_in_code Good (λ name args. (es : Terms) → runtime_call name es ≡ None) (λ line name args g es. no_runtime_call name es (called_good line name args g).is_unit) no_runtime_there u.body good
 
@@ -135,21 +138,25 @@ all_faultless : (ps us : List Procedure) → Each (λ u. faults_of_names source_
 all_faultless ps [] a b c = tt
 all_faultless ps (u ∷ us) a b c = (record { names = a.0; called = b.0; wrote = c.0 }, all_faultless ps us a.1 b.1 c.1)
 
-module _ (ps : List Procedure) (written : IsWritten ps) (sound : IsSound source_rules ps) where
+module _ (ps : List Procedure) (sound : IsSound source_rules ps) where
   faultless : Each (Faultless ps) ps
   faultless =
       let h = sound_has_none source_rules ps sound in
       all_faultless ps ps (none_each (faults_of_names source_rules ps) ps h.names) (none_each (λ u. flat_map (λ s. faults_of_call ps u s.0 s.1) (statements u.body)) ps h.calls) (none_each (faults_of_writes (handed_back ps)) ps h.writes)
 
+  pub called_units : EachUnit (λ u. EachCall (Called ps u) u.body) ps
+  called_units = of_each (λ u. EachCall (Called ps u) u.body) ps (each_more (Faultless ps) (λ u. EachCall (Called ps u) u.body) (λ u h. called_calls ps u h.names h.called h.wrote) ps faultless)
+
+module _ (ps : List Procedure) (written : IsWritten ps) (sound : IsSound source_rules ps) where
   pub sound_calls : EachUnit CallsUnits ps
-  sound_calls = of_each CallsUnits ps (each_more (Faultless ps) CallsUnits (λ u h. unit_calls ps u h.names h.called h.wrote) ps faultless)
+  sound_calls = of_each CallsUnits ps (each_more (Faultless ps) CallsUnits (λ u h. unit_calls ps u h.names h.called h.wrote) ps (faultless ps sound))
 
   pub sound_is_source : (C : Type 0) → IsSource C ps
   sound_is_source C = record {
     fit = record {
       plains = of_each (λ u. PlainCode u.body) ps (each_more IsWrittenProcedure (λ u. PlainCode u.body) (λ u h. plain_code u.body h.body) ps (each_all IsWrittenProcedure ps written));
-      calls = of_each (λ u. EachCall (IsFitCall ps u) u.body) ps (each_more (Faultless ps) (λ u. EachCall (IsFitCall ps u) u.body) (λ u h. fit_calls ps u h.names h.called h.wrote) ps faultless);
+      calls = of_each (λ u. EachCall (IsFitCall ps u) u.body) ps (each_more (Faultless ps) (λ u. EachCall (IsFitCall ps u) u.body) (λ u h. fit_calls ps u h.names h.called h.wrote) ps (faultless ps sound));
     };
-    counted = of_each (λ u. EachCall (IsCounted ps) u.body) ps (each_more (Faultless ps) (λ u. EachCall (IsCounted ps) u.body) (λ u h. counted_calls ps u h.names h.called h.wrote) ps faultless);
-    extents = of_each (HasExtents C ps) ps (each_more (Faultless ps) (HasExtents C ps) (λ u h. has_extents ps u h.names h.called h.wrote C) ps faultless);
+    counted = of_each (λ u. EachCall (IsCounted ps) u.body) ps (each_more (Faultless ps) (λ u. EachCall (IsCounted ps) u.body) (λ u h. counted_calls ps u h.names h.called h.wrote) ps (faultless ps sound));
+    extents = of_each (HasExtents C ps) ps (each_more (Faultless ps) (HasExtents C ps) (λ u h. has_extents ps u h.names h.called h.wrote C) ps (faultless ps sound));
   }

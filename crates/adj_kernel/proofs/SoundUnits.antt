@@ -1,10 +1,9 @@
 -- The units of the kernel have names that are apart and free.
-use Rattle.std.proofs.Common.{◌≡◌, ℕ, zero, suc, ◌+◌, ◌<◌, ◌≤◌, ◌⊎◌, inl, inr, Bool, true, false, List, [], ◌∷◌, ◌++◌, map, refl, sym, ap, ◌∙◌, arith, subst, if◌then◌else◌}
+use Rattle.std.proofs.Common.{◌≡◌, ℕ, suc, ◌+◌, ◌≤◌, ◌⊎◌, inl, inr, Bool, true, false, List, [], ◌∷◌, ◌++◌, map, refl, sym, ap, ◌∙◌, arith, subst}
 use Rattle.std.proofs.lemmas.Bool.{or_cases}
 use Rattle.std.proofs.lemmas.List.{map-append}
 use Rattle.std.specs.Prelude.{◌||◌, flat_map}
 use Rattle.adj_tree.specs.Code.{name_eq, Var, unmarked, with_count, count_from, Act, assign, choose, loop, during, call, runtime, Code, stop, step, Procedure}
-use Rattle.adj_tree.specs.declared.fault.Refusal.{Refusal}
 use Rattle.adj_tree.proofs.Names.{name_refl, name_same}
 use Rattle.adj_meaning.proofs.Booleans.{or_false, or_first, or_second}
 use Rattle.adj_names.specs.Fresh as fresh
@@ -16,10 +15,10 @@ use Rattle.adj_names.specs.Check.{IsSound}
 use Rattle.adj_names.proofs.Sound.{sound_has_none}
 use Rattle.adj_transpose.specs.Fresh.{has_name, reserved}
 use Rattle.adj_transpose.proofs.Naming.{has-append}
-use Rattle.adj_transpose.proofs.Variables.{name_comm, not_true}
-use Rattle.adj_kernel.specs.Kernel.{unit_name, names_of, lowered_unit, lowered_program}
+use Rattle.adj_transpose.proofs.Variables.{not_true}
+use Rattle.adj_kernel.specs.Kernel.{unit_name, names_of, lowered_unit}
 use Rattle.adj_kernel.specs.Stepped.{marked_in, marked_in_act, step_names, step_name, step_unit, step_units_in_act, step_units_in, stepped_from, names_of_source, stepped_program, kernel_of}
-use Rattle.adj_kernel.proofs.Faultless.{Each, each_join, each_more, none_front, none_behind, none_each, none_if, none_flat, if_none, none_both, same_has}
+use Rattle.adj_kernel.proofs.Faultless.{Each, each_join, none_front, none_behind, none_each, none_if, none_flat, if_none, none_both, same_has}
 use Rattle.adj_kernel.proofs.Locals.{has_first, has_second}
 use Rattle.adj_kernel.proofs.StepLookups.{not_taken, later_apart, later_act, later_code, listed_code}
 use Rattle.adj_kernel.proofs.StepFitting.{Distinct}

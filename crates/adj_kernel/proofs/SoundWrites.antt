@@ -1,8 +1,7 @@
 -- The kernel of a program without faults has no fault of writes.
-use Rattle.std.proofs.Common.{◌≡◌, ℕ, Bool, true, false, List, [], ◌∷◌, ◌++◌, map, refl, sym, ap, ◌∙◌}
-use Rattle.std.specs.Prelude.{ℤ, ◌&&◌, ◌||◌, flat_map}
-use Rattle.adj_tree.specs.Code.{Var, var_eq, Term, lit, var, elem, neg, bin, pow, power_of, abs, Terms, none, more, Act, assign, choose, loop, during, call, runtime, Code, stop, step, Procedure}
-use Rattle.adj_tree.specs.declared.fault.Refusal.{Refusal}
+use Rattle.std.proofs.Common.{◌≡◌, ℕ, Bool, true, false, List, [], ◌∷◌, ◌++◌, map, refl, ap, ◌∙◌}
+use Rattle.std.specs.Prelude.{ℤ, ◌&&◌, ◌||◌}
+use Rattle.adj_tree.specs.Code.{Var, var_eq, lit, var, elem, neg, bin, pow, power_of, abs, Terms, none, more, Act, assign, choose, loop, during, call, runtime, Code, stop, step, Procedure}
 use Rattle.adj_text.specs.Written.{IsWritten}
 use Rattle.adj_meaning.specs.LeastSet.{Dummies}
 use Rattle.adj_meaning.specs.Written.{handed_back}
@@ -10,19 +9,19 @@ use Rattle.adj_meaning.proofs.Booleans.{or_false}
 use Rattle.adj_names.specs.Statements.{At, statements}
 use Rattle.adj_names.specs.Calls.{Call, call_in, calls}
 use Rattle.adj_names.specs.Fault.{source_rules, fault, faults_if}
-use Rattle.adj_names.specs.WriteFaults.{is_whole_array, clash, clashes, have_clash, has_no_place, hands_back_values, written_variables, written_extents, shared_variables, written_values, faults_of_writes, write_faults}
+use Rattle.adj_names.specs.WriteFaults.{is_whole_array, clashes, have_clash, hands_back_values, written_variables, written_extents, shared_variables, written_values, faults_of_writes, write_faults}
 use Rattle.adj_names.specs.Check.{IsSound}
 use Rattle.adj_names.proofs.Sound.{sound_has_none}
 use Rattle.adj_kernel.specs.Calls.{stands_whole}
-use Rattle.adj_kernel.specs.Kernel.{EachUnit, lowered_unit, lowered_program}
-use Rattle.adj_kernel.specs.Form.{AreDistinctNames, IsKernelAct, IsKernelCode, IsKernel}
+use Rattle.adj_kernel.specs.Kernel.{EachUnit, lowered_unit}
+use Rattle.adj_kernel.specs.Form.{AreDistinctNames, IsKernelAct, IsKernelCode}
 use Rattle.adj_kernel.specs.Stepped.{names_of_source, stepped_program, kernel_of}
 use Rattle.adj_kernel.specs.StepTheorem.{IsSource}
-use Rattle.adj_kernel.proofs.Faultless.{Each, each_more, each_map, flat_each, of_each, unit_each, none_front, none_behind, none_each, none_flat, if_none, none_both}
+use Rattle.adj_kernel.proofs.Faultless.{Each, each_more, flat_each, of_each, none_front, none_behind, none_each, none_flat, if_none, none_both}
 use Rattle.adj_kernel.proofs.Holding.{HoldsIn, Holds, listed}
 use Rattle.adj_kernel.proofs.Sparing.{AreSpared, KeepsExtents, spared_of, of_spared, kept_of, of_kept, spared_lowered, kept_lowered}
 use Rattle.adj_kernel.proofs.StepLookups.{program_there}
-use Rattle.adj_kernel.proofs.StepSpared.{IsSpared, all_spared}
+use Rattle.adj_kernel.proofs.StepSpared.{all_spared}
 use Rattle.adj_kernel.proofs.WholeKernels.{plainly, counted, stepped, IsGood, good, stepped_fit, whole_kernel_form}
 use Rattle.adj_kernel.proofs.SoundPrograms.{sound_is_source}
 

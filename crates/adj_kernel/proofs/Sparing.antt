@@ -1,8 +1,8 @@
 -- Loops whose variable no statement in them may write, and units that don't write their extents.
 use Rattle.std.proofs.Common.{◌≡◌, ℕ, Bool, true, false, List, [], ◌∷◌, ◌++◌, map, refl, sym, ap, ◌∙◌}
-use Rattle.std.specs.Prelude.{◌&&◌, ◌||◌, flat_map, if◌then◌else◌}
+use Rattle.std.specs.Prelude.{◌&&◌, ◌||◌}
 use Rattle.std.specs.List.{list_any}
-use Rattle.adj_tree.specs.Code.{Var, plain, name_eq, Mark, Term, Act, assign, choose, loop, during, call, runtime, Code, stop, step, Declaration, Procedure}
+use Rattle.adj_tree.specs.Code.{plain, Act, assign, choose, loop, during, call, runtime, Code, stop, step, Declaration, Procedure}
 use Rattle.adj_tree.proofs.Names.{name_same}
 use Rattle.adj_meaning.specs.LeastSet.{Dummies}
 use Rattle.adj_meaning.specs.Written.{writes, handed_back}
@@ -11,14 +11,13 @@ use Rattle.adj_names.specs.Statements.{At, statements}
 use Rattle.adj_names.specs.Variables.{is_dummy}
 use Rattle.adj_names.specs.Fault.{fault, faults_if}
 use Rattle.adj_names.specs.WriteFaults.{may_write, writes_of_variable, written_variables, written_extents}
-use Rattle.adj_kernel.specs.Lowered.{lowered}
 use Rattle.adj_kernel.specs.Apart.{ActInside, CodeInside, EachCall', EachCall}
-use Rattle.adj_kernel.specs.Kernel.{is_of, local_in, scalar_at, lowered_unit, lowered_program, PlainCode, EachUnit, IsFitCall, IsFit}
+use Rattle.adj_kernel.specs.Kernel.{is_of, local_in, scalar_at, lowered_unit, lowered_program, PlainCode, IsFitCall, IsFit}
 use Rattle.adj_kernel.proofs.Faultless.{Each, each_more, each_swap, none_each, none_if, none_flat, if_none, any_none, none_any, same_has}
 use Rattle.adj_kernel.proofs.Locals.{own_body, own_dummies}
 use Rattle.adj_kernel.proofs.SameWritten.{statements_same}
 use Rattle.adj_kernel.proofs.SoundExtents.{unwritten, spared}
-use Rattle.adj_kernel.proofs.Holding.{HoldsIn, Holds, listed, holding, holds_more, lowered_holds}
+use Rattle.adj_kernel.proofs.Holding.{HoldsIn, Holds, listed, holding, lowered_holds}
 
 -- ---- loops
 

@@ -1,8 +1,8 @@
 -- In the stepped program no body of a loop writes its variable, and no unit its extents, where that is so in the program.
-use Rattle.std.proofs.Common.{◌≡◌, ℕ, zero, suc, ◌+◌, ◌⊎◌, inl, inr, Bool, true, false, List, [], ◌∷◌, ◌++◌, refl, sym, ap, ◌∙◌}
+use Rattle.std.proofs.Common.{◌≡◌, ℕ, suc, ◌+◌, ◌⊎◌, inl, inr, Bool, true, false, List, [], ◌∷◌, ◌++◌, refl, sym, ap, ◌∙◌}
 use Rattle.std.proofs.lemmas.Bool.{or_cases}
 use Rattle.std.specs.Prelude.{◌||◌, Some}
-use Rattle.adj_tree.specs.Code.{Var, plain, shadow, helper, name_eq, Term, Mark, unmarked, with_count, count_from, Act, assign, choose, loop, during, call, runtime, Code, stop, step, Declaration, Procedure}
+use Rattle.adj_tree.specs.Code.{Var, plain, shadow, helper, name_eq, unmarked, with_count, count_from, Act, assign, choose, loop, during, call, runtime, Code, stop, step, Declaration, Procedure}
 use Rattle.adj_tree.proofs.Names.{name_refl}
 use Rattle.adj_meaning.specs.Written.{find_unit, is_handed_back, act_writes, writes, handed_back}
 use Rattle.adj_meaning.specs.Read.{is_among, is_extent}
@@ -13,11 +13,11 @@ use Rattle.adj_kernel.specs.Apart.{EachCall', EachCall}
 use Rattle.adj_kernel.specs.Kernel.{PlainVar, PlainAct, PlainCode, EachUnit}
 use Rattle.adj_kernel.specs.Stepped.{marked_in, marked_in_act, names_extent, step_dummies, as_actuals, step_declarations, step_name, step_names, cut_act, cut, step_unit, step_units_in_act, step_units_in, stepped_unit, stepped_from}
 use Rattle.adj_kernel.specs.StepTheorem.{StepsThereAct, StepsThere, IsStepFor, IsCounted, HasExtents}
-use Rattle.adj_kernel.proofs.SoundExtents.{is_among-named, extent_of_unit}
+use Rattle.adj_kernel.proofs.SoundExtents.{is_among-named}
 use Rattle.adj_kernel.proofs.StepNames.{ExtentOf}
 use Rattle.adj_kernel.proofs.StepLookups.{AllThere}
 use Rattle.adj_kernel.proofs.StepWritten.{cut_back, step_back}
-use Rattle.adj_kernel.proofs.Holding.{HoldsIn, Holds}
+use Rattle.adj_kernel.proofs.Holding.{HoldsIn}
 use Rattle.adj_kernel.proofs.Sparing.{Spares, AreSpared, KeepsExtents}
 
 -- what isn't so doesn't follow

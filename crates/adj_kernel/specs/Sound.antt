@@ -6,8 +6,10 @@ use Rattle.adj_meaning.specs.Numbers.{Numbers}
 use Rattle.adj_meaning.specs.Written.{find_unit, handed_back}
 use Rattle.adj_meaning.specs.Units.{Slot, fits, run_unit}
 use Rattle.adj_names.specs.Variables.{variables}
-use Rattle.adj_names.specs.Fault.{source_rules}
+use Rattle.adj_names.specs.Fault.{source_rules, run_rules}
 use Rattle.adj_names.specs.UnitFaults.{unit_faults}
+use Rattle.adj_names.specs.NameFaults.{name_faults}
+use Rattle.adj_names.specs.CallFaults.{call_faults}
 use Rattle.adj_names.specs.WriteFaults.{write_faults}
 use Rattle.adj_names.specs.Check.{IsSound}
 use Rattle.adj_kernel.specs.Weights.{WeighsAtMost}
@@ -62,6 +64,14 @@ VariablesAreThose = (u : Procedure) → variables_of u ≡ variables u
 -- no two of its units have one name, and none is named like an intrinsic or a runtime call
 abbrev pub KernelUnitsStand : Type 0
 KernelUnitsStand = (units : List Procedure) → IsAccepted units → unit_faults (kernel_of units) ≡ []
+
+-- its names are declared, have their types, ranks and extents, and are free
+abbrev pub KernelNamesStand : Type 0
+KernelNamesStand = (units : List Procedure) → IsAccepted units → name_faults run_rules (kernel_of units) ≡ []
+
+-- its CALLs are of its units, with actuals that fit
+abbrev pub KernelCallsStand : Type 0
+KernelCallsStand = (units : List Procedure) → IsAccepted units → call_faults (kernel_of units) ≡ []
 
 -- no statement of it writes what it may not
 abbrev pub KernelWritesStand : Type 0

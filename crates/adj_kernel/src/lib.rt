@@ -10,7 +10,7 @@ ghost use Rattle.adj_meaning.specs.Laws.{ForBoth};
 ghost use Rattle.adj_kernel.specs.Theorem.{BothShowWords, KernelMeansTheSame, KernelFitsTheSame, KernelWritesTheSame, KernelStatementsWriteTheSame, KernelHasItsForm};
 ghost use Rattle.adj_kernel.specs.StepMeans.{WholeKernelHasUnits, WholeKernelMeansAlike, WholeKernelHasItsForm, WholeKernelWritesTheSame};
 ghost use Rattle.adj_kernel.specs.WrittenTheorem.{KernelIsWritten, WholeKernelIsWritten};
-ghost use Rattle.adj_kernel.specs.Sound.{AcceptedIsSource, AcceptedMeansAlike, AcceptedHasItsForm, AcceptedIsWritten, AcceptedWritesTheSame, AcceptedCostsItsWeight, VariablesAreThose, KernelUnitsStand, KernelWritesStand};
+ghost use Rattle.adj_kernel.specs.Sound.{AcceptedIsSource, AcceptedMeansAlike, AcceptedHasItsForm, AcceptedIsWritten, AcceptedWritesTheSame, AcceptedCostsItsWeight, VariablesAreThose, KernelUnitsStand, KernelNamesStand, KernelCallsStand, KernelWritesStand};
 ghost use Rattle.adj_kernel.specs.Worked.{OneEach, MaximumInMaximum, InOperations, LeftAlone, InPowers, TargetsApart, NamesOfCalls, ElementsOfCalls, ValuesOfCalls, BodiesLowered, LocalsNamed, WorkedExample, StepUnits};
 ghost use Rattle.adj_kernel.specs.WeighTheorem.{StatementsWeigh, ListsWeigh, TowersWeigh, NothingToStep, KernelCostsItsWeight, CappedAreWeights};
 
@@ -66,6 +66,8 @@ pub fn accepted_laws()
 /// The kernel of an accepted program has no fault itself, pass by pass.
 pub fn kernel_stands()
     ensures units { KernelUnitsStand }
+    ensures names { KernelNamesStand }
+    ensures calls { KernelCallsStand }
     ensures writes { KernelWritesStand }
 {}
 
