@@ -12,3 +12,5 @@ pub mod MadeNames
 pub mod Units
 pub mod Programs
 pub mod UnitFaults
+pub mod Stood
+pub mod Apart
