@@ -14,3 +14,4 @@ pub mod Programs
 pub mod UnitFaults
 pub mod Stood
 pub mod Apart
+pub mod AdjointNames
