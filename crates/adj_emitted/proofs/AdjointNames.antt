@@ -2,7 +2,7 @@
 use Rattle.std.proofs.Common.{◌≡◌, ℕ, suc, ◌+◌, ◌≤◌, Bool, true, false, List, [], ◌∷◌, ◌++◌, map, length, refl, sym, ap, ◌∙◌, subst, arith, if◌then◌else◌}
 use Rattle.std.specs.Prelude.{pos, ◌||◌, ◌&&◌, ◌==◌, not, flat_map, int_lt, Option, Some, None}
 use Rattle.std.specs.List.{list_any}
-use Rattle.adj_tree.specs.Code.{Var, plain, shadow, helper, work, temp, name_eq, var_eq, Act, Extent, fixed, given, Declaration, Procedure}
+use Rattle.adj_tree.specs.Code.{Var, plain, shadow, helper, work, temp, name_eq, var_eq, Act, assign, choose, loop, during, call, runtime, Extent, fixed, given, Declaration, Procedure}
 use Rattle.adj_tree.proofs.Names.{name_refl, name_same, nat_same}
 use Rattle.adj_text.specs.Written.{IsWrittenProcedure}
 use Rattle.adj_meaning.specs.Read.{is_extent}
@@ -31,16 +31,17 @@ use Rattle.adj_reverse.proofs.Variables.{same_has, variables_apart, dummy_among}
 use Rattle.adj_checked.proofs.Lists.{Each, each_append, each_more}
 use Rattle.adj_checked.proofs.Names.{variables_inside}
 use Rattle.adj_checked.proofs.Statements.{CallHasNone, not_false}
+use Rattle.adj_checked.proofs.Units.{dummy_names}
 use Rattle.adj_emitted.proofs.Over.{OverCode}
 use Rattle.adj_emitted.proofs.Follows.{Follows}
 use Rattle.adj_emitted.proofs.Sweeps.{Allows, body_over}
 use Rattle.adj_emitted.proofs.Source.{source_code}
 use Rattle.adj_emitted.proofs.Used.{used_helpers, used_works, used_temps, all_helped}
-use Rattle.adj_emitted.proofs.Tables.{IsFree, has_var, among, among-append, in_set, has_plain, plain_known, has_shadow, has_helper}
-use Rattle.adj_emitted.proofs.Units.{each_name}
+use Rattle.adj_emitted.proofs.Tables.{IsFree, has_var, among, among-append, in_set, has_plain, plain_known, has_shadow, has_helper, plain_no_helper, shadow_no_helper}
+use Rattle.adj_emitted.proofs.Units.{each_name, of_each}
 use Rattle.adj_emitted.proofs.UnitFaults.{flat_none, if_none, again_none}
 use Rattle.adj_emitted.proofs.Stood.{stands_code}
-use Rattle.adj_emitted.proofs.Apart.{names_apart, interleaved, plain_there, shadow_there, interleaved_apart, all_apart}
+use Rattle.adj_emitted.proofs.Apart.{names_apart, interleaved, plain_there, shadow_there, interleaved_apart, all_apart, table_in}
 
 -- ---- lists
 
@@ -211,3 +212,204 @@ module _ (m : ProgramMarks) (ps : List Procedure) (units : List (List ℕ)) (u :
           at : (b : Bool) → a (plain x) ≡ b → Each Declared (map name (interleaved a xs)) → Each Declared (map name (if b then plain x ∷ shadow x ∷ interleaved a xs else plain x ∷ interleaved a xs))
           at true e ih = (is_declared (plain x) (plain_in x h.0), (is_declared (shadow x) (shadow_in x h.0 e), ih))
           at false e ih = (is_declared (plain x) (plain_in x h.0), ih)
+
+  -- ---- ranks
+
+  abbrev rank_of : Var → ℕ
+  rank_of v = rank unit (name v)
+
+  plain_rank : (x : List ℕ) → rank_of (plain x) ≡ rank u x
+  plain_rank x = ap length (let alike = declared_alike m ps units u (variables_apart u) (variables_inside u written) extent_dummy in alike.plains x)
+
+  shadow_rank : (x : List ℕ) → a (plain x) ≡ true → rank_of (shadow x) ≡ rank u x
+  shadow_rank x marked =
+      ap length (let alike = declared_alike m ps units u (variables_apart u) (variables_inside u written) extent_dummy in alike.shadows x)
+      ∙ ap (λ b. length (if b then declared u.declarations (plain x) else [])) marked
+
+  helper_rank : (v : Var) → among v hs ≡ true → rank_of v ≡ 0
+  helper_rank (plain x) h = absurd (let p : true ≡ false = sym h ∙ plain_no_helper x hs (used_helpers p i u.body) in cc)
+  helper_rank (shadow x) h = absurd (let p : true ≡ false = sym h ∙ shadow_no_helper x hs (used_helpers p i u.body) in cc)
+  helper_rank (helper r k) h = ap length (let alike = declared_alike m ps units u (variables_apart u) (variables_inside u written) extent_dummy in alike.helpers r k)
+
+  -- a variable that stands with as many subscripts as it has extents
+  abbrev Q : Var → Option ℕ → Type 0
+  Q v n = (has_var v ns ≡ true) × (is_rank_for n (rank_of v) ≡ true)
+
+  -- an array
+  abbrev A : Var → Type 0
+  A v = (rank_of v == 0) ≡ false
+
+  array_rank : (n k : ℕ) → k ≡ n → not (n == 0) ≡ true → (k == 0) ≡ false
+  array_rank n k e h = ap (λ j. j == 0) e ∙ go (n == 0) h
+    where
+      go : (b : Bool) → not b ≡ true → b ≡ false
+      go true h = absurd cc
+      go false h = refl
+
+  scalar_rank : (n k : ℕ) → k ≡ n → not (n == 0) ≡ false → (0 == k) ≡ true
+  scalar_rank n k e h = let z : n ≡ 0 = nat_same n 0 (not_false (n == 0) h) in ap (λ j. 0 == j) (e ∙ z)
+
+  allows : Allows Q A a p.arrays
+  allows = record {
+    shadows = λ x n marked q. (
+      has_shadow (variables u) units a hs free (used_helpers p i u.body) x (plain_known (variables u) units a hs free (used_helpers p i u.body) x q.0) marked,
+      subst (λ k. is_rank_for n k ≡ true) (plain_rank x ∙ sym (shadow_rank x marked)) q.1,
+    );
+    whole = λ x e q. array_rank (rank u x) (rank_of (plain x)) (plain_rank x) e;
+    whole_shadows = λ x marked e q. array_rank (rank u x) (rank_of (shadow x)) (shadow_rank x marked) e;
+    scalars = λ x e q. (q.0, scalar_rank (rank u x) (rank_of (plain x)) (plain_rank x) e);
+  }
+
+  -- how a name stands in the source
+  abbrev S : Standing → Type 0
+  S n = (has_name n.name (variables u) ≡ true) × (has_rank u n ≡ true)
+
+  source : OverCode Q A u.body
+  source =
+      source_code Q A S (λ x n k. (has_plain (variables u) units a hs free (used_helpers p i u.body) x k.0, subst (λ j. is_rank_for n j ≡ true) (sym (plain_rank x)) k.1)) ps u u.body written.body kernel stands calls
+
+  helper_stands : (v : Var) → among v hs ≡ true → Q v (Some 0)
+  helper_stands v h = (has_helper (variables u) units a hs free (used_helpers p i u.body) v h, ap (λ k. 0 == k) (helper_rank v h))
+
+  -- a dummy that is cleared stands whole
+  stand : (xs : List (List ℕ)) → Each (λ x. (has_name x (variables u) ≡ true) × (a (plain x) ≡ true)) xs → Each (λ x. Q (plain x) None × (a (plain x) ≡ true)) xs
+  stand xs h = each_more (λ x. (has_name x (variables u) ≡ true) × (a (plain x) ≡ true)) (λ x. Q (plain x) None × (a (plain x) ≡ true)) (λ x k. ((has_plain (variables u) units a hs free (used_helpers p i u.body) x k.0, refl), k.1)) xs h
+
+  body : OverCode Q A (adjoint_body p i u.line u.body at_turn at_end)
+  body =
+      body_over Q A p allows (works_used p.marks i u.body) (temps_used p.marks i u.body) (λ k low high. helper_stands (helper work k) (used_works p i u.body k low high)) (λ k low high. helper_stands (helper temp k) (used_temps p i u.body k low high)) i u.line u.body at_turn at_end follows source (all_helped p i u.body Q helper_stands) (omega arith) (omega arith) (stand at_turn turned) (stand at_end ended)
+
+  -- each name that stands in a statement is declared, and has its rank
+  abbrev T : Standing → Type 0
+  T n = Declared n.name × (has_rank unit n ≡ true)
+
+  known_declared : (v : Var) → has_var v ns ≡ true → Declared (name v)
+  known_declared v h = is_declared v (table_in (variables u) units a hs (used_helpers p i u.body) v h)
+
+  standing : Each (λ (s : At Act). Each T (in_act s.1)) (statements unit.body)
+  standing = stands_code Q A name T (λ v n q. (known_declared v q.0, q.1)) (adjoint_body p i u.line u.body at_turn at_end) body
+
+  -- ---- no faults
+
+  -- each name that stands anywhere is declared
+  pub places_declared : Each (λ (p : At (List ℕ)). Declared p.1) (places unit)
+  places_declared =
+      each_append (λ (p : At (List ℕ)). Declared p.1) (dummy_places unit) (declared_places unit ++ statement_places unit) (each_at_places Declared unit.line unit.dummies dummies_declared)
+      (each_append (λ (p : At (List ℕ)). Declared p.1) (declared_places unit) (statement_places unit) (declarations unit.declarations (each_name Declared (map (λ d. d.name) unit.declarations) (λ x h. h))) in_statements)
+    where
+      declarations : (ds : List Declaration) → Each Declared (map (λ (d : Declaration). d.name) ds) → Each (λ (p : At (List ℕ)). Declared p.1) (map (λ (d : Declaration). (d.line, d.name)) ds)
+      declarations [] h = tt
+      declarations (d ∷ ds) h = (h.0, declarations ds h.1)
+
+      of_names : (line : ℕ) (ts : List Standing) → Each T ts → Each (λ (p : At (List ℕ)). Declared p.1) (map (λ (n : Standing). (line, n.name)) ts)
+      of_names line [] h = tt
+      of_names line (t ∷ ts) h = (h.0.0, of_names line ts h.1)
+
+      in_statements : Each (λ (p : At (List ℕ)). Declared p.1) (statement_places unit)
+      in_statements =
+          each_in_flat (λ (p : At (List ℕ)). Declared p.1) (λ (s : At Act). map (λ n. (s.0, n.name)) (in_act s.1)) (statements unit.body)
+          (each_more (λ (s : At Act). Each T (in_act s.1)) (λ s. Each (λ (p : At (List ℕ)). Declared p.1) (map (λ n. (s.0, n.name)) (in_act s.1))) (λ s h. of_names s.0 (in_act s.1) h) (statements unit.body) standing)
+
+  -- each declaration fits
+  fits_there : (x y : List ℕ) (es : List Extent) → (is_dummy u x ≡ true → is_dummy unit y ≡ true) → ExtentsFit u x es → ExtentsFit unit y es
+  fits_there x y es d h = (bad es h.0, (h.1.0, third (is_dummy u x) (is_dummy unit y) (not (length (extent_names es) == 0)) d h.1.1))
+    where
+      third : (b c e : Bool) → (b ≡ true → c ≡ true) → (not b && e) ≡ false → (not c && e) ≡ false
+      third true c e d h = ap (λ t. not t && e) (d refl)
+      third false c e d h = ap (λ t. not c && t) h ∙ and_none (not c)
+
+      bad : (es : List Extent) → list_any (is_bad_extent u) es ≡ false → list_any (is_bad_extent unit) es ≡ false
+      bad [] h = refl
+      bad (fixed z ∷ es) h = let k = or_false (is_bad_extent u (fixed z)) (list_any (is_bad_extent u) es) h in rw (k.0, bad es k.1) refl
+      bad (given z ∷ es) h =
+          let k = or_false (is_bad_extent u (given z)) (list_any (is_bad_extent u) es) h in
+          let both = and_true (is_dummy u z) (is_scalar u z) (not_false (is_dummy u z && is_scalar u z) k.0) in
+          let inside : has_name z u.dummies ≡ true = sym (same_has z u.dummies) ∙ both.0 in
+          let dummy : is_dummy unit z ≡ true = same_has z unit.dummies ∙ dummy_plain z inside in
+          let ranked : rank unit z ≡ rank u z = ap (rank unit) (sym (keeps z (dummy_among u z inside))) ∙ plain_rank z in
+          let scalar : is_scalar unit z ≡ true = ap (λ n. n == 0) ranked ∙ both.1 in
+          rw (dummy, scalar, bad es k.1) refl
+
+  declaration_fits : (x : List ℕ) → ExtentsFit u x (declaration u.line u.declarations x).extents
+  declaration_fits x = declaration_has (ExtentsFit u) u.line u.declarations x (no_extents_fit u x) (each_more (λ d. has_bad_extents u d ≡ false) (λ d. ExtentsFit u d.name d.extents) (λ d h. extents_fit u d h) u.declarations extents)
+
+  is_plain_dummy : (x : List ℕ) → is_dummy u x ≡ true → is_dummy unit x ≡ true
+  is_plain_dummy x h = same_has x unit.dummies ∙ dummy_plain x (sym (same_has x u.dummies) ∙ h)
+
+  is_shadow_dummy : (x : List ℕ) → a (plain x) ≡ true → is_dummy u x ≡ true → is_dummy unit (name (shadow x)) ≡ true
+  is_shadow_dummy x marked h = same_has (name (shadow x)) unit.dummies ∙ dummy_shadow x (sym (same_has x u.dummies) ∙ h) marked
+
+  declarations_fit : Each (λ d. ExtentsFit unit d.name d.extents) unit.declarations
+  declarations_fit = each_append (λ d. ExtentsFit unit d.name d.extents) (declared_behind a ns u (variables u)) (declared_helpers ns u.line hs) (of_variables (variables u)) (of_helpers hs)
+    where
+      of_helpers : (vs : List Var) → Each (λ d. ExtentsFit unit d.name d.extents) (declared_helpers ns u.line vs)
+      of_helpers [] = tt
+      of_helpers (v ∷ vs) = (no_extents_fit unit (name v), of_helpers vs)
+
+      of_variables : (xs : List (List ℕ)) → Each (λ d. ExtentsFit unit d.name d.extents) (declared_behind a ns u xs)
+      of_variables [] = tt
+      of_variables (x ∷ xs) = go (a (plain x)) refl (of_variables xs)
+        where
+          own : ExtentsFit unit (declaration u.line u.declarations x).name (declaration u.line u.declarations x).extents
+          own = subst (λ y. ExtentsFit unit y (declaration u.line u.declarations x).extents) (sym (declaration_name u.line u.declarations x)) (fits_there x x (declaration u.line u.declarations x).extents (is_plain_dummy x) (declaration_fits x))
+
+          go : (b : Bool) → a (plain x) ≡ b → Each (λ d. ExtentsFit unit d.name d.extents) (declared_behind a ns u xs) →
+              Each (λ d. ExtentsFit unit d.name d.extents) (if b then declaration u.line u.declarations x ∷ record (declaration u.line u.declarations x) { name = name_in ns (shadow x) } ∷ declared_behind a ns u xs else declaration u.line u.declarations x ∷ declared_behind a ns u xs)
+          go true e ih = (own, (fits_there x (name (shadow x)) (declaration u.line u.declarations x).extents (is_shadow_dummy x e) (declaration_fits x), ih))
+          go false e ih = (own, ih)
+
+  pub no_bad_extents : bad_extents unit ≡ []
+  no_bad_extents =
+      flat_none (λ d. faults_if (has_bad_extents unit d) (fault 12 d.line)) unit.declarations
+      (each_more (λ d. ExtentsFit unit d.name d.extents) (λ d. faults_if (has_bad_extents unit d) (fault 12 d.line) ≡ []) (λ d h. if_none (has_bad_extents unit d) (fault 12 d.line) (extents_bad unit d h)) unit.declarations declarations_fit)
+
+  pub no_misused : misused run_rules unit ≡ []
+  no_misused =
+      flat_none (λ s. flat_map (λ n. faults_if (not (has_rank unit n)) (fault 9 s.0)) (taken_in true s.1)) (statements unit.body)
+      (each_more (λ (s : At Act). Each T (in_act s.1)) (λ s. flat_map (λ n. faults_if (not (has_rank unit n)) (fault 9 s.0)) (taken_in true s.1) ≡ []) each_statement (statements unit.body) standing)
+    where
+      same : (act : Act) → taken_in true act ≡ in_act act
+      same (assign x s e) = refl
+      same (choose c x y) = refl
+      same (loop x f l b c k) = refl
+      same (during c x) = refl
+      same (call n args) = refl
+      same (runtime r) = refl
+
+      each_statement : (s : At Act) → Each T (in_act s.1) → flat_map (λ n. faults_if (not (has_rank unit n)) (fault 9 s.0)) (taken_in true s.1) ≡ []
+      each_statement s h =
+          ap (flat_map (λ n. faults_if (not (has_rank unit n)) (fault 9 s.0))) (same s.1)
+          ∙ flat_none (λ n. faults_if (not (has_rank unit n)) (fault 9 s.0)) (in_act s.1) (each_more T (λ n. faults_if (not (has_rank unit n)) (fault 9 s.0) ≡ []) (λ n k. if_none (not (has_rank unit n)) (fault 9 s.0) (ap not k.1)) (in_act s.1) h)
+
+  pub no_twice : declared_twice unit ≡ []
+  no_twice = λ j. again_none 8 [] (dummy_places unit) (subst AreApart (sym (dummy_names unit.line unit.dummies)) unit_dummies_once) (none_before (dummy_places unit)) j ++ again_none 8 [] (declared_places unit) (subst AreApart (sym (declaration_names unit.declarations)) declared_once) (none_before (declared_places unit)) j
+    where
+      none_before : (qs : List (At (List ℕ))) → Each (λ (q : At (List ℕ)). fresh.has_name q.1 [] ≡ false) qs
+      none_before [] = tt
+      none_before (q ∷ qs) = (refl, none_before qs)
+
+      declaration_names : (ds : List Declaration) → map (λ (q : At (List ℕ)). q.1) (map (λ (d : Declaration). (d.line, d.name)) ds) ≡ map (λ (d : Declaration). d.name) ds
+      declaration_names [] = refl
+      declaration_names (d ∷ ds) = ap (λ l. d.name ∷ l) (declaration_names ds)
+
+  -- names of extents are dummies, so they are declared
+  extents_declared : Each (λ (p : At (List ℕ)). Declared p.1) (extent_places unit)
+  extents_declared =
+      each_in_flat (λ (p : At (List ℕ)). Declared p.1) (λ (d : Declaration). map (λ x. (d.line, x)) (extent_names d.extents)) unit.declarations
+      (each_more (λ d. ExtentsFit unit d.name d.extents) (λ (d : Declaration). Each (λ (p : At (List ℕ)). Declared p.1) (map (λ x. (d.line, x)) (extent_names d.extents)))
+      (λ d h. each_at_places Declared d.line (extent_names d.extents) (in_extents d.extents h.0)) unit.declarations declarations_fit)
+    where
+      in_extents : (es : List Extent) → list_any (is_bad_extent unit) es ≡ false → Each Declared (extent_names es)
+      in_extents [] h = tt
+      in_extents (fixed z ∷ es) h = in_extents es (or_false (is_bad_extent unit (fixed z)) (list_any (is_bad_extent unit) es) h).1
+      in_extents (given z ∷ es) h =
+          let k = or_false (is_bad_extent unit (given z)) (list_any (is_bad_extent unit) es) h in
+          let both = and_true (is_dummy unit z) (is_scalar unit z) (not_false (is_dummy unit z && is_scalar unit z) k.0) in
+          (of_each Declared unit.dummies dummies_declared z (sym (same_has z unit.dummies) ∙ both.0), in_extents es k.1)
+
+  pub no_undeclared : undeclared unit ≡ []
+  no_undeclared =
+      flat_none (λ (p : At (List ℕ)). faults_if (not (is_integer unit p.1)) (fault 7 p.0)) (places unit ++ extent_places unit)
+      (each_more (λ (p : At (List ℕ)). Declared p.1) (λ p. faults_if (not (is_integer unit p.1)) (fault 7 p.0) ≡ [])
+      (λ p h. if_none (not (is_integer unit p.1)) (fault 7 p.0) (ap not (or_left (fresh.has_name p.1 (map (λ d. d.name) unit.declarations)) (not unit.is_none && is_integer_name p.1) (same_has p.1 (map (λ d. d.name) unit.declarations) ∙ h)))) (places unit ++ extent_places unit)
+      (each_append (λ (p : At (List ℕ)). Declared p.1) (places unit) (extent_places unit) places_declared extents_declared))

@@ -4,8 +4,8 @@ use Rattle.std.specs.Prelude.{◌&&◌, ◌||◌, ◌==◌, not}
 use Rattle.std.proofs.lemmas.Bool.Decides.{nat_tests}
 use Rattle.adj_tree.specs.Code.{Var, plain, shadow, helper, Role, role_code, work, temp, control, first, stride, count, turn, name_eq, var_eq, Act, Code}
 use Rattle.adj_tree.proofs.Names.{nat_same}
-use Rattle.adj_transpose.specs.Fresh.{has_name}
-use Rattle.adj_transpose.specs.Naming.{AreApart}
+use Rattle.adj_transpose.specs.Fresh.{has_name, reserved}
+use Rattle.adj_transpose.specs.Naming.{own, named, unit_names, AreApart}
 use Rattle.adj_transpose.specs.Marks.{Vars}
 use Rattle.adj_transpose.specs.Marked.{names_in}
 use Rattle.adj_transpose.specs.Program.{helpers_from}
@@ -13,7 +13,7 @@ use Rattle.adj_transpose.proofs.Variables.{or_false, or_left, or_right, var_refl
 use Rattle.adj_reverse.specs.Plan.{Plan}
 use Rattle.adj_reverse.specs.Program.{helpers_among, works_used, temps_used, depth_used, tells_some, goes_back, is_do, is_loop, loop_helpers, helpers_used}
 use Rattle.adj_reverse.proofs.Rounds.{either}
-use Rattle.adj_emitted.proofs.Tables.{among, among-append, AreHelpers}
+use Rattle.adj_emitted.proofs.Tables.{has_var, among, has_var-append, among-append, has_made, has_own, among_shadows, plain_no_shadow, AreHelpers, plain_no_helper, shadow_no_helper}
 
 -- no variable stands twice
 abbrev pub VarsApart : List Var → Type 0
@@ -261,3 +261,54 @@ module _ (p : Plan) (i : ℕ) (c : Code) where
   -- and so do all variables of the adjoint
   pub all_apart : (a : Vars) (xs : List (List ℕ)) → AreApart xs → AreHelpers (helpers_used p i c) → VarsApart (interleaved a xs ++ helpers_used p i c)
   all_apart a xs h k = with_helpers a xs (helpers_used p i c) k (interleaved_apart a xs h) used_apart
+
+-- ---- the variables that the table of an adjoint has are those that it declares
+
+no_shadow_own : (x : List ℕ) (xs : List (List ℕ)) → has_var (shadow x) (map own xs) ≡ false
+no_shadow_own x [] = refl
+no_shadow_own x (y ∷ xs) = no_shadow_own x xs
+
+no_helper_own : (r : Role) (k : ℕ) (xs : List (List ℕ)) → has_var (helper r k) (map own xs) ≡ false
+no_helper_own r k [] = refl
+no_helper_own r k (y ∷ xs) = no_helper_own r k xs
+
+no_helper_shadow : (r : Role) (k : ℕ) (xs : List (List ℕ)) → among (helper r k) (map shadow xs) ≡ false
+no_helper_shadow r k [] = refl
+no_helper_shadow r k (y ∷ xs) = no_helper_shadow r k xs
+
+module _ (vs units : List (List ℕ)) (a : Vars) (hs : List Var) (helpers : AreHelpers hs) where
+  abbrev made : List Var
+  made = map shadow (names_in a vs) ++ hs
+
+  split : (v : Var) → has_var v (unit_names vs units (map shadow (names_in a vs) ++ hs)) ≡ (has_var v (map own vs) || (among v (map shadow (names_in a vs)) || among v hs))
+  split v =
+      has_var-append v (map own vs) (named (vs ++ (units ++ reserved)) made) ∙ ap (λ b. has_var v (map own vs) || b) (has_made v (vs ++ (units ++ reserved)) made ∙ among-append v (map shadow (names_in a vs)) hs)
+
+  -- of three of which two are false the third is what holds
+  first_of : (b c d : Bool) → c ≡ false → d ≡ false → (b || (c || d)) ≡ true → b ≡ true
+  first_of true c d e f h = refl
+  first_of false true d e f h = absurd cc
+  first_of false false true e f h = absurd cc
+  first_of false false false e f h = h
+
+  second_of : (b c d : Bool) → b ≡ false → d ≡ false → (b || (c || d)) ≡ true → c ≡ true
+  second_of true c d e f h = absurd cc
+  second_of false true d e f h = refl
+  second_of false false true e f h = absurd cc
+  second_of false false false e f h = h
+
+  third_of : (b c d : Bool) → b ≡ false → c ≡ false → (b || (c || d)) ≡ true → d ≡ true
+  third_of true c d e f h = absurd cc
+  third_of false true d e f h = absurd cc
+  third_of false false d e f h = h
+
+  pub table_in : (v : Var) → has_var v (unit_names vs units (map shadow (names_in a vs) ++ hs)) ≡ true → among v (interleaved a vs ++ hs) ≡ true
+  table_in (plain x) h =
+      let there : has_name x vs ≡ true = sym (has_own x vs) ∙ first_of (has_var (plain x) (map own vs)) (among (plain x) (map shadow (names_in a vs))) (among (plain x) hs) (plain_no_shadow x (names_in a vs)) (plain_no_helper x hs helpers) (sym (split (plain x)) ∙ h) in
+      among-append (plain x) (interleaved a vs) hs ∙ or_left (among (plain x) (interleaved a vs)) (among (plain x) hs) (plain_there a x vs ∙ there)
+  table_in (shadow x) h =
+      let there : has_name x (names_in a vs) ≡ true = sym (among_shadows x (names_in a vs)) ∙ second_of (has_var (shadow x) (map own vs)) (among (shadow x) (map shadow (names_in a vs))) (among (shadow x) hs) (no_shadow_own x vs) (shadow_no_helper x hs helpers) (sym (split (shadow x)) ∙ h) in
+      among-append (shadow x) (interleaved a vs) hs ∙ or_left (among (shadow x) (interleaved a vs)) (among (shadow x) hs) (shadow_there a x vs ∙ there)
+  table_in (helper r k) h =
+      among-append (helper r k) (interleaved a vs) hs
+      ∙ or_right (among (helper r k) (interleaved a vs)) (among (helper r k) hs) (third_of (has_var (helper r k) (map own vs)) (among (helper r k) (map shadow (names_in a vs))) (among (helper r k) hs) (no_helper_own r k vs) (no_helper_shadow r k (names_in a vs)) (sym (split (helper r k)) ∙ h))

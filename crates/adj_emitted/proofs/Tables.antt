@@ -29,7 +29,7 @@ abbrev pub among : Var → List Var → Bool
 among v [] = false
 among v (w ∷ ws) = var_eq v w || among v ws
 
-has_var-append : (v : Var) (ps qs : List Named) → has_var v (ps ++ qs) ≡ (has_var v ps || has_var v qs)
+pub has_var-append : (v : Var) (ps qs : List Named) → has_var v (ps ++ qs) ≡ (has_var v ps || has_var v qs)
 has_var-append v [] qs = refl
 has_var-append v (p ∷ ps) qs = ap (λ b. var_eq v p.variable || b) (has_var-append v ps qs) ∙ sym (or_assoc (var_eq v p.variable) (has_var v ps) (has_var v qs))
 
@@ -37,19 +37,19 @@ pub among-append : (v : Var) (vs ws : List Var) → among v (vs ++ ws) ≡ (amon
 among-append v [] ws = refl
 among-append v (w ∷ vs) ws = ap (λ b. var_eq v w || b) (among-append v vs ws) ∙ sym (or_assoc (var_eq v w) (among v vs) (among v ws))
 
-has_made : (v : Var) (taken : List (List ℕ)) (ws : List Var) → has_var v (named taken ws) ≡ among v ws
+pub has_made : (v : Var) (taken : List (List ℕ)) (ws : List Var) → has_var v (named taken ws) ≡ among v ws
 has_made v taken [] = refl
 has_made v taken (w ∷ ws) = ap (λ b. var_eq v w || b) (has_made v (taken ++ (fresh (wanted w) taken ∷ [])) ws)
 
-has_own : (x : List ℕ) (xs : List (List ℕ)) → has_var (plain x) (map own xs) ≡ has_name x xs
+pub has_own : (x : List ℕ) (xs : List (List ℕ)) → has_var (plain x) (map own xs) ≡ has_name x xs
 has_own x [] = refl
 has_own x (y ∷ xs) = ap (λ b. name_eq x y || b) (has_own x xs)
 
-among_shadows : (x : List ℕ) (xs : List (List ℕ)) → among (shadow x) (map shadow xs) ≡ has_name x xs
+pub among_shadows : (x : List ℕ) (xs : List (List ℕ)) → among (shadow x) (map shadow xs) ≡ has_name x xs
 among_shadows x [] = refl
 among_shadows x (y ∷ xs) = ap (λ b. name_eq x y || b) (among_shadows x xs)
 
-plain_no_shadow : (x : List ℕ) (xs : List (List ℕ)) → among (plain x) (map shadow xs) ≡ false
+pub plain_no_shadow : (x : List ℕ) (xs : List (List ℕ)) → among (plain x) (map shadow xs) ≡ false
 plain_no_shadow x [] = refl
 plain_no_shadow x (y ∷ xs) = plain_no_shadow x xs
 
@@ -80,11 +80,17 @@ helpers_append (plain x ∷ vs) ws h g = absurd h
 helpers_append (shadow x ∷ vs) ws h g = absurd h
 helpers_append (helper r k ∷ vs) ws h g = helpers_append vs ws h g
 
-plain_no_helper : (x : List ℕ) (vs : List Var) → AreHelpers vs → among (plain x) vs ≡ false
+pub plain_no_helper : (x : List ℕ) (vs : List Var) → AreHelpers vs → among (plain x) vs ≡ false
 plain_no_helper x [] h = refl
 plain_no_helper x (plain y ∷ vs) h = absurd h
 plain_no_helper x (shadow y ∷ vs) h = absurd h
 plain_no_helper x (helper r k ∷ vs) h = plain_no_helper x vs h
+
+pub shadow_no_helper : (x : List ℕ) (vs : List Var) → AreHelpers vs → among (shadow x) vs ≡ false
+shadow_no_helper x [] h = refl
+shadow_no_helper x (plain y ∷ vs) h = absurd h
+shadow_no_helper x (shadow y ∷ vs) h = absurd h
+shadow_no_helper x (helper r k ∷ vs) h = shadow_no_helper x vs h
 
 pub from_helpers : (r : Role) (k n : ℕ) → AreHelpers (helpers_from r k n)
 from_helpers r k zero = tt
