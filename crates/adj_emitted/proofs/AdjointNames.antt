@@ -16,7 +16,7 @@ use Rattle.adj_names.specs.Fault.{Rules, run_rules, fault, faults_if, again}
 use Rattle.adj_names.specs.NameFaults.{extent_names, extent_places, undeclared, declared_twice, is_rank_for, has_rank, taken_in, misused, literal_product, is_bad_extent, has_bad_extents, bad_extents}
 use Rattle.adj_kernel.specs.Form.{IsKernelCode}
 use Rattle.adj_transpose.specs.Fresh.{has_name}
-use Rattle.adj_transpose.specs.Naming.{Named, name_in, naming, AreApart, AreInside}
+use Rattle.adj_transpose.specs.Naming.{Named, own as own_name, name_in, naming, AreApart}
 use Rattle.adj_transpose.specs.Marks.{Vars}
 use Rattle.adj_transpose.specs.Marked.{names_in}
 use Rattle.adj_transpose.specs.MarkedProgram.{shadows_behind, declared_behind}
@@ -37,11 +37,11 @@ use Rattle.adj_emitted.proofs.Follows.{Follows}
 use Rattle.adj_emitted.proofs.Sweeps.{Allows, body_over}
 use Rattle.adj_emitted.proofs.Source.{source_code}
 use Rattle.adj_emitted.proofs.Used.{used_helpers, used_works, used_temps, all_helped}
-use Rattle.adj_emitted.proofs.Tables.{IsFree, has_var, among, among-append, in_set, has_plain, plain_known, has_shadow, has_helper, plain_no_helper, shadow_no_helper}
-use Rattle.adj_emitted.proofs.Units.{each_name, of_each}
+use Rattle.adj_emitted.proofs.Tables.{IsFree, has_var, among, among-append, in_set, has_plain, plain_known, has_shadow, has_helper, AreHelpers, plain_no_helper, shadow_no_helper, named_free, made_no_unit}
+use Rattle.adj_emitted.proofs.Units.{each_name, of_each, each_var}
 use Rattle.adj_emitted.proofs.UnitFaults.{flat_none, if_none, again_none}
 use Rattle.adj_emitted.proofs.Stood.{stands_code}
-use Rattle.adj_emitted.proofs.Apart.{names_apart, interleaved, plain_there, shadow_there, interleaved_apart, all_apart, table_in}
+use Rattle.adj_emitted.proofs.Apart.{names_apart, interleaved, plain_there, shadow_there, interleaved_apart, all_apart, table_in, no_shadow_own, no_helper_own}
 
 -- ---- lists
 
@@ -413,3 +413,29 @@ module _ (m : ProgramMarks) (ps : List Procedure) (units : List (List ℕ)) (u :
       (each_more (λ (p : At (List ℕ)). Declared p.1) (λ p. faults_if (not (is_integer unit p.1)) (fault 7 p.0) ≡ [])
       (λ p h. if_none (not (is_integer unit p.1)) (fault 7 p.0) (ap not (or_left (fresh.has_name p.1 (map (λ d. d.name) unit.declarations)) (not unit.is_none && is_integer_name p.1) (same_has p.1 (map (λ d. d.name) unit.declarations) ∙ h)))) (places unit ++ extent_places unit)
       (each_append (λ (p : At (List ℕ)). Declared p.1) (places unit) (extent_places unit) places_declared extents_declared))
+
+  -- ---- names that no unit has
+
+  -- its names are those of the unit and names that were made
+  pub each_declared : (P : List ℕ → Type 0) → ((x : List ℕ) → has_name x (variables u) ≡ true → P x) → ((z : List ℕ) → IsFree z → has_name z units ≡ false → P z) → (x : List ℕ) → Declared x → P x
+  each_declared P f g x h = of_each P (map (λ d. d.name) unit.declarations) (subst (Each P) (sym declared_names) all) x h
+    where
+      made : (v : Var) → has_var v (map own_name (variables u)) ≡ false → has_var v ns ≡ true → P (name v)
+      made v n k = g (name v) (named_free (variables u) units a hs free (used_helpers p i u.body) v k) (made_no_unit (variables u) units a hs free (used_helpers p i u.body) v n k)
+
+      of_helpers : (vs : List Var) → AreHelpers vs → Each (λ v. among v hs ≡ true) vs → Each P (map name vs)
+      of_helpers [] l k = tt
+      of_helpers (plain y ∷ vs) l k = absurd l
+      of_helpers (shadow y ∷ vs) l k = absurd l
+      of_helpers (helper r j ∷ vs) l k = (made (helper r j) (no_helper_own r j (variables u)) (has_helper (variables u) units a hs free (used_helpers p i u.body) (helper r j) k.0), of_helpers vs l k.1)
+
+      of_variables : (xs : List (List ℕ)) → Each (λ x. has_name x (variables u) ≡ true) xs → Each P (map name (interleaved a xs))
+      of_variables [] k = tt
+      of_variables (y ∷ xs) k = at (a (plain y)) refl (of_variables xs k.1)
+        where
+          at : (b : Bool) → a (plain y) ≡ b → Each P (map name (interleaved a xs)) → Each P (map name (if b then plain y ∷ shadow y ∷ interleaved a xs else plain y ∷ interleaved a xs))
+          at true e ih = (subst P (sym (keeps y k.0)) (f y k.0), (made (shadow y) (no_shadow_own y (variables u)) (has_shadow (variables u) units a hs free (used_helpers p i u.body) y k.0 e), ih))
+          at false e ih = (subst P (sym (keeps y k.0)) (f y k.0), ih)
+
+      all : Each P (map name W)
+      all = subst (Each P) (sym (map_append name (interleaved a (variables u)) hs)) (each_append P (map name (interleaved a (variables u))) (map name hs) (of_variables (variables u) (each_name (λ x. has_name x (variables u) ≡ true) (variables u) (λ x h. h))) (of_helpers hs (used_helpers p i u.body) (each_var (λ v. among v hs ≡ true) hs (λ v h. h))))

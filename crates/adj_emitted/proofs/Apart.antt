@@ -264,11 +264,11 @@ module _ (p : Plan) (i : ℕ) (c : Code) where
 
 -- ---- the variables that the table of an adjoint has are those that it declares
 
-no_shadow_own : (x : List ℕ) (xs : List (List ℕ)) → has_var (shadow x) (map own xs) ≡ false
+pub no_shadow_own : (x : List ℕ) (xs : List (List ℕ)) → has_var (shadow x) (map own xs) ≡ false
 no_shadow_own x [] = refl
 no_shadow_own x (y ∷ xs) = no_shadow_own x xs
 
-no_helper_own : (r : Role) (k : ℕ) (xs : List (List ℕ)) → has_var (helper r k) (map own xs) ≡ false
+pub no_helper_own : (r : Role) (k : ℕ) (xs : List (List ℕ)) → has_var (helper r k) (map own xs) ≡ false
 no_helper_own r k [] = refl
 no_helper_own r k (y ∷ xs) = no_helper_own r k xs
 

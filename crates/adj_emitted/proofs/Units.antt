@@ -63,7 +63,7 @@ all_each P [] h = All-nil P
 all_each P (x ∷ xs) h = All-cons P x xs h.0 (all_each P xs h.1)
 
 -- each variable of a list stands in it
-each_var : (P : Var → Type 0) (vs : List Var) → ((v : Var) → among v vs ≡ true → P v) → Each P vs
+pub each_var : (P : Var → Type 0) (vs : List Var) → ((v : Var) → among v vs ≡ true → P v) → Each P vs
 each_var P [] f = tt
 each_var P (v ∷ vs) f = (f v (or_left (var_eq v v) (among v vs) (var_refl v)), each_var P vs (λ w h. f w (or_right (var_eq w v) (among w vs) h)))
 
