@@ -15,3 +15,4 @@ pub mod UnitFaults
 pub mod Stood
 pub mod Apart
 pub mod AdjointNames
+pub mod NameFaults

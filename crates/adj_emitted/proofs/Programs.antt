@@ -47,7 +47,7 @@ each_there (u ∷ us) = (or_left (name_eq u.name u.name) (is_unit us u.name) (na
 -- ---- what a checked program has of each of its units
 
 -- what is asked of a unit, so that its adjoint is written
-pub record UnitSound (m : ProgramMarks) (ps : List Procedure) (u : Procedure) : Type 0 where
+pub record UnitSound (ps : List Procedure) (u : Procedure) : Type 0 where
   pub written : IsWrittenProcedure u
   pub kernel : IsKernelCode u.body
   pub free : Each IsFree (variables u)
@@ -86,8 +86,8 @@ module _ (rules : Rules) (ps : List Procedure) (checked : IsChecked rules ps) wh
       named_places [] e = tt
       named_places (q ∷ qs) e = (e.0, named_places qs e.1)
 
-  unit_sound : (m : ProgramMarks) (u : Procedure) → IsWrittenProcedure u → IsKernelCode u.body → faults_of_names rules ps u ≡ [] → Each (CallHasNone ps u) (statements u.body) → is_unit ps u.name ≡ true → UnitSound m ps u
-  unit_sound m u w k n c t = record {
+  unit_sound : (u : Procedure) → IsWrittenProcedure u → IsKernelCode u.body → faults_of_names rules ps u ≡ [] → Each (CallHasNone ps u) (statements u.body) → is_unit ps u.name ≡ true → UnitSound ps u
+  unit_sound u w k n c t = record {
     written = w;
     kernel = k;
     free = each_name IsFree (variables u) (λ x h. (variable_named u w x h, unreserved u n x h));
@@ -95,23 +95,23 @@ module _ (rules : Rules) (ps : List Procedure) (checked : IsChecked rules ps) wh
     there = t;
   }
 
-  pub all_sound : (m : ProgramMarks) → Each (UnitSound m ps) ps
-  all_sound m = go ps all_written (each_unit (λ u. IsKernelCode u.body) ps checked.kernel) (none_each (faults_of_names rules ps) ps none.names) all_calls (each_there ps)
+  pub all_sound : Each (UnitSound ps) ps
+  all_sound = go ps all_written (each_unit (λ u. IsKernelCode u.body) ps checked.kernel) (none_each (faults_of_names rules ps) ps none.names) all_calls (each_there ps)
     where
-      go : (us : List Procedure) → Each IsWrittenProcedure us → Each (λ u. IsKernelCode u.body) us → Each (λ u. faults_of_names rules ps u ≡ []) us → Each (λ u. Each (CallHasNone ps u) (statements u.body)) us → Each (λ u. is_unit ps u.name ≡ true) us → Each (UnitSound m ps) us
+      go : (us : List Procedure) → Each IsWrittenProcedure us → Each (λ u. IsKernelCode u.body) us → Each (λ u. faults_of_names rules ps u ≡ []) us → Each (λ u. Each (CallHasNone ps u) (statements u.body)) us → Each (λ u. is_unit ps u.name ≡ true) us → Each (UnitSound ps) us
       go [] w k n c t = tt
-      go (u ∷ us) w k n c t = (unit_sound m u w.0 k.0 n.0 c.0 t.0, go us w.1 k.1 n.1 c.1 t.1)
+      go (u ∷ us) w k n c t = (unit_sound u w.0 k.0 n.0 c.0 t.0, go us w.1 k.1 n.1 c.1 t.1)
 
 -- ---- the emitted units
 
 module _ (m : ProgramMarks) (ps : List Procedure) (head : Procedure) (vars outvars : List Bool) (named : Each (λ u. IsName u.name) ps) where
   -- what is cleared: marked dummies
-  cleared : (u : Procedure) (marks : List Bool) → Each (λ x. (has_name x (variables u) ≡ true) × (m.shadowed u.name (plain x) ≡ true)) (names_in (m.shadowed u.name) (unmarked u.dummies marks))
+  pub cleared : (u : Procedure) (marks : List Bool) → Each (λ x. (has_name x (variables u) ≡ true) × (m.shadowed u.name (plain x) ≡ true)) (names_in (m.shadowed u.name) (unmarked u.dummies marks))
   cleared u marks =
       each_marked (λ x. has_name x (variables u) ≡ true) (m.shadowed u.name) (unmarked u.dummies marks)
       (each_name (λ x. has_name x (variables u) ≡ true) (unmarked u.dummies marks) (λ x h. dummy_among u x (unmarked_in x u.dummies marks h)))
 
-  adjoint_written : (u : Procedure) → UnitSound m ps u → HasShadows (plan_in m ps u) (first_statement ps u.name) u.body → IsWrittenProcedure (emitted_adjoint m ps head vars outvars u)
+  adjoint_written : (u : Procedure) → UnitSound ps u → HasShadows (plan_in m ps u) (first_statement ps u.name) u.body → IsWrittenProcedure (emitted_adjoint m ps head vars outvars u)
   adjoint_written u s h = go (name_eq head.name u.name)
     where
       written : (at_turn at_end : List (List ℕ)) → Each (λ x. (has_name x (variables u) ≡ true) × (m.shadowed u.name (plain x) ≡ true)) at_turn → Each (λ x. (has_name x (variables u) ≡ true) × (m.shadowed u.name (plain x) ≡ true)) at_end → IsWrittenProcedure (adjoint_unit m ps (all_units m ps head) u at_turn at_end)
@@ -121,7 +121,7 @@ module _ (m : ProgramMarks) (ps : List Procedure) (head : Procedure) (vars outva
       go true = written _ _ (cleared u outvars) (cleared u vars)
       go false = written [] [] tt tt
 
-  units_written : (us : List Procedure) → Each (UnitSound m ps) us → AllHaveShadows m ps us → IsWritten (emitted_units m ps head vars outvars us)
+  units_written : (us : List Procedure) → Each (UnitSound ps) us → AllHaveShadows m ps us → IsWritten (emitted_units m ps head vars outvars us)
   units_written [] s h = All-nil IsWrittenProcedure
   units_written (u ∷ us) s h = carried (is_carried m ps head u.name) (made (has_adjoint m ps head u.name) (units_written us s.1 h.1))
     where
@@ -139,7 +139,7 @@ marked_written rules ps checked m shadowed head vars outvars = go (unit_at head 
   where
     go : (us : List Procedure) → IsWritten (emitted_for m ps vars outvars us)
     go [] = All-nil IsWrittenProcedure
-    go (u ∷ us) = units_written m ps u vars outvars (all_named rules ps checked) ps (all_sound rules ps checked m) shadowed
+    go (u ∷ us) = units_written m ps u vars outvars (all_named rules ps checked) ps (all_sound rules ps checked) shadowed
 
 -- ---- full marks
 

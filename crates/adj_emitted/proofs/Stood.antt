@@ -99,9 +99,9 @@ module _ (Q : Var → Option ℕ → Type 0) (A : Var → Type 0) (name : Var �
     stands_act line (choose c a b) o = (stands_test c o.0, each_append Stands (statements (rename named a)) (statements (rename named b)) (stands_code a o.1.0) (stands_code b o.1.1))
     stands_act line (loop x a b c body m) o = (
       each_append S (in_mark (rename_mark named m)) _ (stands_mark m o.1.1.1.1.1)
-      (each_append S (scalar (named x)) _ (stands_scalar x o.0)
-      (each_append S (in_term (rename_term named a)) _ (stands_term a o.1.0)
-      (each_append S (in_term (rename_term named b)) (in_term (rename_term named c)) (stands_term b o.1.1.0) (stands_term c o.1.1.1.0)))),
+          (each_append S (scalar (named x)) _ (stands_scalar x o.0)
+          (each_append S (in_term (rename_term named a)) _ (stands_term a o.1.0)
+          (each_append S (in_term (rename_term named b)) (in_term (rename_term named c)) (stands_term b o.1.1.0) (stands_term c o.1.1.1.0)))),
       stands_code body o.1.1.1.1.0,
     )
     stands_act line (during c body) o = (stands_test c o.0, stands_code body o.1)

@@ -273,9 +273,9 @@ module _ (Q : Var → Option ℕ → Type 0) (A : Var → Type 0) (p : Plan) (al
   choose_over : (i d line : ℕ) (c : Test) (a b : Code) → OverTest Q A c → (is_empty (backward_act p i d line (choose c a b)) ≡ false → HelpedAct Q p i d (choose c a b)) → (IsHelped (suc i) d a → Both (suc i) d a) → (IsHelped (behind (suc i) a) d b → Both (behind (suc i) a) d b) → BothOf i d line (choose c a b)
   choose_over i d line c a b o h one_part other_part = (
     guard (is_emitted p.marks i) (one line (choose c (told_forward (idle_parts Q p i d a b) line (forward p (suc i) d a) 1) (told_forward (idle_parts Q p i d a b) line (forward p (behind (suc i) a) d b) 0)))
-    (λ t. ((o, (told_forward_over (idle_parts Q p i d a b) line 1 (forward p (suc i) d a) one_word (inside t).0, told_forward_over (idle_parts Q p i d a b) line 0 (forward p (behind (suc i) a) d b) zero_word (outside t).0)), tt)),
+        (λ t. ((o, (told_forward_over (idle_parts Q p i d a b) line 1 (forward p (suc i) d a) one_word (inside t).0, told_forward_over (idle_parts Q p i d a b) line 0 (forward p (behind (suc i) a) d b) zero_word (outside t).0)), tt)),
     guard (is_emitted p.marks i) (told_backward (idle_parts Q p i d a b) line (backward p (suc i) d a) (backward p (behind (suc i) a) d b))
-    (λ t. told_backward_over (idle_parts Q p i d a b) line (backward p (suc i) d a) (backward p (behind (suc i) a) d b) (λ e. let there = told t e in there.controls (tells_here Q p i d c a b e)) (inside t).1 (outside t).1),
+        (λ t. told_backward_over (idle_parts Q p i d a b) line (backward p (suc i) d a) (backward p (behind (suc i) a) d b) (λ e. let there = told t e in there.controls (tells_here Q p i d c a b e)) (inside t).1 (outside t).1),
   )
     where
       told : is_emitted p.marks i ≡ true → idle_parts Q p i d a b ≡ false → HelpedAct Q p i d (choose c a b)
@@ -290,11 +290,11 @@ module _ (Q : Var → Option ℕ → Type 0) (A : Var → Type 0) (p : Plan) (al
   loop_over : (i d line : ℕ) (x : List ℕ) (a b c : Term) (body : Code) (m : Mark) → Q (plain x) (Some 0) → OverTerm Q A a → OverTerm Q A b → OverTerm Q A c → (is_empty (backward_act p i d line (loop (plain x) a b c body m)) ≡ false → HelpedAct Q p i d (loop (plain x) a b c body m)) → (IsHelped (suc i) (suc d) body → Both (suc i) (suc d) body) → BothOf i d line (loop (plain x) a b c body m)
   loop_over i d line x a b c body m q oa ob oc h whole = (
     guard (is_emitted p.marks i) (code_if (p.marks.saved i (plain x)) (one line (runtime (push_word (plain x) none))) +++ loop_forward (idle_body Q p i d body) (suc d) line (plain x) a b c (forward p (suc i) (suc d) body))
-    (λ t. join (code_if (p.marks.saved i (plain x)) (one line (runtime (push_word (plain x) none)))) _ (guard (p.marks.saved i (plain x)) (one line (runtime (push_word (plain x) none))) (λ s. (q, tt)))
-    (loop_forward_over (idle_body Q p i d body) (suc d) line (plain x) a b c (forward p (suc i) (suc d) body) (helpers t) q oa ob oc (inside t).0)),
+        (λ t. join (code_if (p.marks.saved i (plain x)) (one line (runtime (push_word (plain x) none)))) _ (guard (p.marks.saved i (plain x)) (one line (runtime (push_word (plain x) none))) (λ s. (q, tt)))
+        (loop_forward_over (idle_body Q p i d body) (suc d) line (plain x) a b c (forward p (suc i) (suc d) body) (helpers t) q oa ob oc (inside t).0)),
     guard (is_emitted p.marks i) (loop_backward (idle_body Q p i d body) (suc d) line (plain x) (backward p (suc i) (suc d) body) +++ (code_if (p.marks.saved i (plain x)) (one line (runtime (pop_word (plain x) none))) +++ reset p.marks i line x))
-    (λ t. join (loop_backward (idle_body Q p i d body) (suc d) line (plain x) (backward p (suc i) (suc d) body)) _ (loop_backward_over (idle_body Q p i d body) (suc d) line (plain x) (backward p (suc i) (suc d) body) (helpers t) q (inside t).1)
-    (join (code_if (p.marks.saved i (plain x)) (one line (runtime (pop_word (plain x) none)))) (reset p.marks i line x) (guard (p.marks.saved i (plain x)) (one line (runtime (pop_word (plain x) none))) (λ s. (q, tt))) (reset_over i line x q))),
+        (λ t. join (loop_backward (idle_body Q p i d body) (suc d) line (plain x) (backward p (suc i) (suc d) body)) _ (loop_backward_over (idle_body Q p i d body) (suc d) line (plain x) (backward p (suc i) (suc d) body) (helpers t) q (inside t).1)
+        (join (code_if (p.marks.saved i (plain x)) (one line (runtime (pop_word (plain x) none)))) (reset p.marks i line x) (guard (p.marks.saved i (plain x)) (one line (runtime (pop_word (plain x) none))) (λ s. (q, tt))) (reset_over i line x q))),
   )
     where
       told : is_emitted p.marks i ≡ true → idle_body Q p i d body ≡ false → HelpedAct Q p i d (loop (plain x) a b c body m)
@@ -309,9 +309,9 @@ module _ (Q : Var → Option ℕ → Type 0) (A : Var → Type 0) (p : Plan) (al
   while_over : (i d line : ℕ) (c : Test) (body : Code) → OverTest Q A c → (is_empty (backward_act p i d line (during c body)) ≡ false → HelpedAct Q p i d (during c body)) → (IsHelped (suc i) (suc d) body → Both (suc i) (suc d) body) → BothOf i d line (during c body)
   while_over i d line c body o h whole = (
     guard (is_emitted p.marks i) (while_forward (idle_body Q p i d body) (suc d) line c (forward p (suc i) (suc d) body))
-    (λ t. while_forward_over (idle_body Q p i d body) (suc d) line c (forward p (suc i) (suc d) body) (λ e. while_counts Q p i d c body e (told t e)) o (inside t).0),
+        (λ t. while_forward_over (idle_body Q p i d body) (suc d) line c (forward p (suc i) (suc d) body) (λ e. while_counts Q p i d c body e (told t e)) o (inside t).0),
     guard (is_emitted p.marks i) (while_backward (idle_body Q p i d body) (suc d) line (backward p (suc i) (suc d) body))
-    (λ t. while_backward_over (idle_body Q p i d body) (suc d) line (backward p (suc i) (suc d) body) (λ e. while_counts Q p i d c body e (told t e)) (inside t).1),
+        (λ t. while_backward_over (idle_body Q p i d body) (suc d) line (backward p (suc i) (suc d) body) (λ e. while_counts Q p i d c body e (told t e)) (inside t).1),
   )
     where
       told : is_emitted p.marks i ≡ true → idle_body Q p i d body ≡ false → HelpedAct Q p i d (during c body)

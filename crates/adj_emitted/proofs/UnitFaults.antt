@@ -95,7 +95,7 @@ module _ (m : ProgramMarks) (ps : List Procedure) (head : Procedure) (vars outva
       carried false ih = ih
 
   -- a unit that stands in a list is none of whose names the list hasn't
-  others_apart : (us : List Procedure) (z : List ℕ) → has_name z (map unit_name us) ≡ false → Each (λ u. name_eq z u.name ≡ false) us
+  pub others_apart : (us : List Procedure) (z : List ℕ) → has_name z (map unit_name us) ≡ false → Each (λ u. name_eq z u.name ≡ false) us
   others_apart [] z h = tt
   others_apart (u ∷ us) z h = let p = or_false (name_eq z u.name) (has_name z (map unit_name us)) h in (p.0, others_apart us z p.1)
 
