@@ -38,7 +38,8 @@ use Rattle.adj_emitted.proofs.Sweeps.{Allows, body_over}
 use Rattle.adj_emitted.proofs.Source.{source_code}
 use Rattle.adj_emitted.proofs.Used.{used_helpers, used_works, used_temps, all_helped}
 use Rattle.adj_emitted.proofs.Tables.{IsFree, has_var, among, among-append, in_set, has_plain, plain_known, has_shadow, has_helper, AreHelpers, plain_no_helper, shadow_no_helper, named_free, made_no_unit}
-use Rattle.adj_emitted.proofs.Units.{each_name, of_each, each_var}
+use Rattle.adj_emitted.proofs.Sources.{each_name, of_each}
+use Rattle.adj_emitted.proofs.Units.{each_var}
 use Rattle.adj_emitted.proofs.UnitFaults.{flat_none, if_none, again_none}
 use Rattle.adj_emitted.proofs.Stood.{stands_code}
 use Rattle.adj_emitted.proofs.Apart.{names_apart, interleaved, plain_there, shadow_there, interleaved_apart, all_apart, table_in, no_shadow_own, no_helper_own}

@@ -38,8 +38,8 @@ use Rattle.adj_emitted.specs.Shadowed.{HasShadows, AllHaveShadows}
 use Rattle.adj_emitted.specs.Emitted.{NamesHaveNone}
 use Rattle.adj_emitted.proofs.MadeNames.{follows}
 use Rattle.adj_emitted.proofs.Tables.{IsFree}
-use Rattle.adj_emitted.proofs.Units.{each_name, of_each, each_marked}
-use Rattle.adj_emitted.proofs.Programs.{UnitSound, each_there, all_named, all_sound, cleared}
+use Rattle.adj_emitted.proofs.Sources.{each_name, of_each, UnitSound, each_there, all_named, all_sound}
+use Rattle.adj_emitted.proofs.Programs.{cleared}
 use Rattle.adj_emitted.proofs.UnitFaults.{flat_none, if_none, each_emitted, not_emitted, others_apart}
 use Rattle.adj_emitted.proofs.AdjointNames.{unit, places_declared, no_bad_extents, no_misused, no_twice, no_undeclared, each_declared}
 

@@ -28,7 +28,7 @@ use Rattle.adj_checked.proofs.Lists.{Each, each_more, none_front, none_behind, n
 use Rattle.adj_checked.proofs.Units.{unit_names}
 use Rattle.adj_emitted.specs.Emitted.{UnitsHaveNone}
 use Rattle.adj_emitted.proofs.MadeNames.{adjoint_named, made_unreserved}
-use Rattle.adj_emitted.proofs.Programs.{all_named, each_there}
+use Rattle.adj_emitted.proofs.Sources.{all_named, each_there}
 
 -- ---- lists without faults
 

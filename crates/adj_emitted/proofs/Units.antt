@@ -34,20 +34,8 @@ use Rattle.adj_emitted.proofs.Sweeps.{Allows, body_over}
 use Rattle.adj_emitted.proofs.Renamed.{written_code}
 use Rattle.adj_emitted.proofs.Source.{source_code}
 use Rattle.adj_emitted.proofs.Used.{used_helpers, used_works, used_temps, all_helped}
+use Rattle.adj_emitted.proofs.Sources.{each_name, of_each}
 use Rattle.adj_emitted.proofs.Tables.{IsFree, has_var, among, named_free, named_indexed, has_plain, plain_known, has_shadow, has_helper}
-
--- what holds of each name of a list
-pub each_name : (P : List ℕ → Type 0) (xs : List (List ℕ)) → ((x : List ℕ) → has_name x xs ≡ true → P x) → Each P xs
-each_name P [] f = tt
-each_name P (x ∷ xs) f = (f x (or_left (name_eq x x) (has_name x xs) (name_refl x)), each_name P xs (λ y h. f y (or_right (name_eq y x) (has_name y xs) h)))
-
-pub of_each : (P : List ℕ → Type 0) (xs : List (List ℕ)) → Each P xs → (x : List ℕ) → has_name x xs ≡ true → P x
-of_each P [] e x h = absurd cc
-of_each P (y ∷ xs) e x h = go (name_eq x y) refl h (of_each P xs e.1 x)
-  where
-    go : (b : Bool) → name_eq x y ≡ b → (b || has_name x xs) ≡ true → (has_name x xs ≡ true → P x) → P x
-    go true d h ih = subst P (sym (name_same x y d)) e.0
-    go false d h ih = ih h
 
 -- the marked ones of a list
 pub each_marked : (P : List ℕ → Type 0) (a : Vars) (xs : List (List ℕ)) → Each P xs → Each (λ x. P x × (a (plain x) ≡ true)) (names_in a xs)
