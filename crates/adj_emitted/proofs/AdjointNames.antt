@@ -32,7 +32,7 @@ use Rattle.adj_checked.proofs.Lists.{Each, each_append, each_more}
 use Rattle.adj_checked.proofs.Names.{variables_inside}
 use Rattle.adj_checked.proofs.Statements.{CallHasNone, not_false}
 use Rattle.adj_checked.proofs.Units.{dummy_names}
-use Rattle.adj_emitted.proofs.Over.{OverCode}
+use Rattle.adj_emitted.proofs.Over.{OverCode, Any}
 use Rattle.adj_emitted.proofs.Follows.{Follows}
 use Rattle.adj_emitted.proofs.Sweeps.{Allows, body_over}
 use Rattle.adj_emitted.proofs.Source.{source_code}
@@ -106,7 +106,7 @@ extents_bad u d h = rw (h.0, h.1.0, h.1.1) refl
 
 -- ---- the adjoint of a unit
 
-module _ (m : ProgramMarks) (ps : List Procedure) (units : List (List ℕ)) (u : Procedure) (written : IsWrittenProcedure u) (kernel : IsKernelCode u.body) (free : Each IsFree (variables u)) (calls : Each (CallHasNone ps u) (statements u.body)) (follows : Follows (plan_in m ps u) (first_statement ps u.name) u.body)
+module _ (m : ProgramMarks) (ps : List Procedure) (units : List (List ℕ)) (u : Procedure) (written : IsWrittenProcedure u) (kernel : IsKernelCode u.body) (free : Each IsFree (variables u)) (calls : Each (CallHasNone ps u) (statements u.body)) (follows : Follows Any (plan_in m ps u) (first_statement ps u.name) u.body)
     (dummies_once : AreApart u.dummies) (extent_dummy : (d : List ℕ) → is_extent d u.declarations ≡ true → has_name d u.dummies ≡ true) (extents : Each (λ d. has_bad_extents u d ≡ false) u.declarations)
     (stands : Each (λ (s : At Act). Each (λ n. (has_name n.name (variables u) ≡ true) × (has_rank u n ≡ true)) (in_act s.1)) (statements u.body))
     (at_turn at_end : List (List ℕ)) (turned : Each (λ x. (has_name x (variables u) ≡ true) × (m.shadowed u.name (plain x) ≡ true)) at_turn) (ended : Each (λ x. (has_name x (variables u) ≡ true) × (m.shadowed u.name (plain x) ≡ true)) at_end) where
@@ -265,7 +265,7 @@ module _ (m : ProgramMarks) (ps : List Procedure) (units : List (List ℕ)) (u :
   abbrev S : Standing → Type 0
   S n = (has_name n.name (variables u) ≡ true) × (has_rank u n ≡ true)
 
-  source : OverCode Q A u.body
+  source : OverCode Q A Any u.body
   source =
       source_code Q A S (λ x n k. (has_plain (variables u) units a hs free (used_helpers p i u.body) x k.0, subst (λ j. is_rank_for n j ≡ true) (sym (plain_rank x)) k.1)) ps u u.body written.body kernel stands calls
 
@@ -276,9 +276,9 @@ module _ (m : ProgramMarks) (ps : List Procedure) (units : List (List ℕ)) (u :
   stand : (xs : List (List ℕ)) → Each (λ x. (has_name x (variables u) ≡ true) × (a (plain x) ≡ true)) xs → Each (λ x. Q (plain x) None × (a (plain x) ≡ true)) xs
   stand xs h = each_more (λ x. (has_name x (variables u) ≡ true) × (a (plain x) ≡ true)) (λ x. Q (plain x) None × (a (plain x) ≡ true)) (λ x k. ((has_plain (variables u) units a hs free (used_helpers p i u.body) x k.0, refl), k.1)) xs h
 
-  body : OverCode Q A (adjoint_body p i u.line u.body at_turn at_end)
+  body : OverCode Q A Any (adjoint_body p i u.line u.body at_turn at_end)
   body =
-      body_over Q A p allows (works_used p.marks i u.body) (temps_used p.marks i u.body) (λ k low high. helper_stands (helper work k) (used_works p i u.body k low high)) (λ k low high. helper_stands (helper temp k) (used_temps p i u.body k low high)) i u.line u.body at_turn at_end follows source (all_helped p i u.body Q helper_stands) (omega arith) (omega arith) (stand at_turn turned) (stand at_end ended)
+      body_over Q A Any p allows (works_used p.marks i u.body) (temps_used p.marks i u.body) (λ k low high. helper_stands (helper work k) (used_works p i u.body k low high)) (λ k low high. helper_stands (helper temp k) (used_temps p i u.body k low high)) i u.line u.body at_turn at_end follows source (all_helped p i u.body Q helper_stands) (omega arith) (omega arith) (stand at_turn turned) (stand at_end ended)
 
   -- each name that stands in a statement is declared, and has its rank
   abbrev T : Standing → Type 0
@@ -288,7 +288,7 @@ module _ (m : ProgramMarks) (ps : List Procedure) (units : List (List ℕ)) (u :
   known_declared v h = is_declared v (table_in (variables u) units a hs (used_helpers p i u.body) v h)
 
   standing : Each (λ (s : At Act). Each T (in_act s.1)) (statements unit.body)
-  standing = stands_code Q A name T (λ v n q. (known_declared v q.0, q.1)) (adjoint_body p i u.line u.body at_turn at_end) body
+  standing = stands_code Q A Any name T (λ v n q. (known_declared v q.0, q.1)) (adjoint_body p i u.line u.body at_turn at_end) body
 
   -- ---- no faults
 

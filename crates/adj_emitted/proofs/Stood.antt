@@ -13,7 +13,7 @@ renamed_count : (r : Var → Var) (s : Terms) → count_of (rename_terms r s) �
 renamed_count r none = refl
 renamed_count r (more e es) = ap suc (renamed_count r es)
 
-module _ (Q : Var → Option ℕ → Type 0) (A : Var → Type 0) (name : Var → List ℕ) (S : Standing → Type 0) (allow : (v : Var) (n : Option ℕ) → Q v n → S (record { name = name v; subscripts = n })) where
+module _ (Q : Var → Option ℕ → Type 0) (A : Var → Type 0) (C : List ℕ → Terms → Type 0) (name : Var → List ℕ) (S : Standing → Type 0) (allow : (v : Var) (n : Option ℕ) → Q v n → S (record { name = name v; subscripts = n })) where
   abbrev named : Var → Var
   named v = plain (name v)
 
@@ -94,7 +94,7 @@ module _ (Q : Var → Option ℕ → Type 0) (A : Var → Type 0) (name : Var �
   Stands s = Each S (in_act s.1)
 
   mutual
-    stands_act : (line : ℕ) (a : Act) → OverAct Q A a → Each Stands ((line, rename_act named a) ∷ inner (rename_act named a))
+    stands_act : (line : ℕ) (a : Act) → OverAct Q A C a → Each Stands ((line, rename_act named a) ∷ inner (rename_act named a))
     stands_act line (assign x s e) o = (each_append S (in_place (named x) (rename_terms named s)) (in_term (rename_term named e)) (stands_place x s o.0) (stands_term e o.1), tt)
     stands_act line (choose c a b) o = (stands_test c o.0, each_append Stands (statements (rename named a)) (statements (rename named b)) (stands_code a o.1.0) (stands_code b o.1.1))
     stands_act line (loop x a b c body m) o = (
@@ -108,6 +108,6 @@ module _ (Q : Var → Option ℕ → Type 0) (A : Var → Type 0) (name : Var �
     stands_act line (call unit args) o = (stands_actuals args o.1.0, tt)
     stands_act line (runtime c) o = (stands_runtime c o, tt)
 
-    pub stands_code : (c : Code) → OverCode Q A c → Each Stands (statements (rename named c))
+    pub stands_code : (c : Code) → OverCode Q A C c → Each Stands (statements (rename named c))
     stands_code stop o = tt
     stands_code (step line a rest) o = let here = stands_act line a o.0 in (here.0, each_append Stands (inner (rename_act named a)) (statements (rename named rest)) here.1 (stands_code rest o.1))

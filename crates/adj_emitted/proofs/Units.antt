@@ -28,7 +28,7 @@ use Rattle.adj_checked.proofs.Lists.{Each, each_more}
 use Rattle.adj_checked.proofs.Texts.{Known}
 use Rattle.adj_checked.proofs.Statements.{CallHasNone}
 use Rattle.adj_checked.proofs.Units.{names_known}
-use Rattle.adj_emitted.proofs.Over.{OverCode}
+use Rattle.adj_emitted.proofs.Over.{OverCode, Any}
 use Rattle.adj_emitted.proofs.Follows.{Follows}
 use Rattle.adj_emitted.proofs.Sweeps.{Allows, body_over}
 use Rattle.adj_emitted.proofs.Renamed.{written_code}
@@ -74,7 +74,7 @@ other_written d x h w = record { named = h; few_extents = w.few_extents; extents
 
 -- ---- the adjoint of a unit
 
-module _ (m : ProgramMarks) (ps : List Procedure) (units : List (List ℕ)) (u : Procedure) (written : IsWrittenProcedure u) (kernel : IsKernelCode u.body) (free : Each IsFree (variables u)) (calls : Each (CallHasNone ps u) (statements u.body)) (follows : Follows (plan_in m ps u) (first_statement ps u.name) u.body) where
+module _ (m : ProgramMarks) (ps : List Procedure) (units : List (List ℕ)) (u : Procedure) (written : IsWrittenProcedure u) (kernel : IsKernelCode u.body) (free : Each IsFree (variables u)) (calls : Each (CallHasNone ps u) (statements u.body)) (follows : Follows Any (plan_in m ps u) (first_statement ps u.name) u.body) where
   abbrev p : Plan
   p = plan_in m ps u
 
@@ -105,15 +105,15 @@ module _ (m : ProgramMarks) (ps : List Procedure) (units : List (List ℕ)) (u :
     scalars = λ x e q. q;
   }
 
-  source : OverCode Q A u.body
+  source : OverCode Q A Any u.body
   source = source_code Q A (Known (variables u)) (λ x n k. has_plain (variables u) units a hs free (used_helpers p i u.body) x k) ps u u.body written.body kernel (names_known u) calls
 
   helper_stands : (v : Var) → among v hs ≡ true → Q v (Some 0)
   helper_stands v h = has_helper (variables u) units a hs free (used_helpers p i u.body) v h
 
-  body_written : (line : ℕ) (at_turn at_end : List (List ℕ)) → Each (λ x. (has_name x (variables u) ≡ true) × (a (plain x) ≡ true)) at_turn → Each (λ x. (has_name x (variables u) ≡ true) × (a (plain x) ≡ true)) at_end → OverCode Q A (adjoint_body p i line u.body at_turn at_end)
+  body_written : (line : ℕ) (at_turn at_end : List (List ℕ)) → Each (λ x. (has_name x (variables u) ≡ true) × (a (plain x) ≡ true)) at_turn → Each (λ x. (has_name x (variables u) ≡ true) × (a (plain x) ≡ true)) at_end → OverCode Q A Any (adjoint_body p i line u.body at_turn at_end)
   body_written line at_turn at_end turned ended =
-      body_over Q A p allows (works_used p.marks i u.body) (temps_used p.marks i u.body) (λ k low high. helper_stands (helper work k) (used_works p i u.body k low high)) (λ k low high. helper_stands (helper temp k) (used_temps p i u.body k low high)) i line u.body at_turn at_end follows source (all_helped p i u.body Q helper_stands) (omega arith) (omega arith) (stand at_turn turned) (stand at_end ended)
+      body_over Q A Any p allows (works_used p.marks i u.body) (temps_used p.marks i u.body) (λ k low high. helper_stands (helper work k) (used_works p i u.body k low high)) (λ k low high. helper_stands (helper temp k) (used_temps p i u.body k low high)) i line u.body at_turn at_end follows source (all_helped p i u.body Q helper_stands) (omega arith) (omega arith) (stand at_turn turned) (stand at_end ended)
     where
       stand : (xs : List (List ℕ)) → Each (λ x. (has_name x (variables u) ≡ true) × (a (plain x) ≡ true)) xs → Each (λ x. Q (plain x) None × (a (plain x) ≡ true)) xs
       stand xs h = each_more (λ x. (has_name x (variables u) ≡ true) × (a (plain x) ≡ true)) (λ x. Q (plain x) None × (a (plain x) ≡ true)) (λ x k. (has_plain (variables u) units a hs free (used_helpers p i u.body) x k.0, k.1)) xs h
@@ -161,5 +161,5 @@ module _ (m : ProgramMarks) (ps : List Procedure) (units : List (List ℕ)) (u :
     named = named;
     dummies = all_each IsName (shadows_behind a ns u.dummies) (dummies_written u.dummies dummies_known);
     declarations = All-append IsWrittenDeclaration (declared_behind a ns u (variables u)) (declared_helpers ns u.line hs) (declared_written (variables u) variables_known) (helpers_written u.line hs helper_names);
-    body = written_code Q A (naming ns) (λ v n q. named_indexed (variables u) units a hs free (used_helpers p i u.body) v q) (adjoint_body p i u.line u.body at_turn at_end) (body_written u.line at_turn at_end turned ended);
+    body = written_code Q A Any (naming ns) (λ v n q. named_indexed (variables u) units a hs free (used_helpers p i u.body) v q) (adjoint_body p i u.line u.body at_turn at_end) (body_written u.line at_turn at_end turned ended);
   }
