@@ -2,7 +2,7 @@
 use Rattle.std.proofs.Common.{◌≡◌, ℕ, suc, ◌+◌, ◌≤◌, Bool, true, false, List, [], ◌∷◌, ◌++◌, map, length, refl, sym, ap, ◌∙◌, subst, arith, if◌then◌else◌}
 use Rattle.std.specs.Prelude.{pos, ◌||◌, ◌&&◌, ◌==◌, not, flat_map, int_lt, Option, Some, None}
 use Rattle.std.specs.List.{list_any}
-use Rattle.adj_tree.specs.Code.{Var, plain, shadow, helper, work, temp, name_eq, var_eq, Act, assign, choose, loop, during, call, runtime, Extent, fixed, given, Declaration, Procedure}
+use Rattle.adj_tree.specs.Code.{Terms, Var, plain, shadow, helper, work, temp, name_eq, var_eq, Act, assign, choose, loop, during, call, runtime, Extent, fixed, given, Declaration, Procedure}
 use Rattle.adj_tree.proofs.Names.{name_refl, name_same, nat_same}
 use Rattle.adj_text.specs.Written.{IsWrittenProcedure}
 use Rattle.adj_meaning.specs.Read.{is_extent}
@@ -137,10 +137,10 @@ module _ (m : ProgramMarks) (ps : List Procedure) (units : List (List ℕ)) (u :
   abbrev Declared : List ℕ → Type 0
   Declared x = has_name x (map (λ d. d.name) unit.declarations) ≡ true
 
-  apart : (v w : Var) → name_eq (name v) (name w) ≡ var_eq v w
+  pub apart : (v w : Var) → name_eq (name v) (name w) ≡ var_eq v w
   apart v w = separates m ps units u (variables_apart u) (variables_inside u written) extent_dummy v w
 
-  keeps : (x : List ℕ) → has_name x (variables u) ≡ true → name (plain x) ≡ x
+  pub keeps : (x : List ℕ) → has_name x (variables u) ≡ true → name (plain x) ≡ x
   keeps x h = own m ps units u (variables_apart u) (variables_inside u written) extent_dummy x h
 
   -- ---- its declarations
@@ -219,10 +219,10 @@ module _ (m : ProgramMarks) (ps : List Procedure) (units : List (List ℕ)) (u :
   abbrev rank_of : Var → ℕ
   rank_of v = rank unit (name v)
 
-  plain_rank : (x : List ℕ) → rank_of (plain x) ≡ rank u x
+  pub plain_rank : (x : List ℕ) → rank_of (plain x) ≡ rank u x
   plain_rank x = ap length (let alike = declared_alike m ps units u (variables_apart u) (variables_inside u written) extent_dummy in alike.plains x)
 
-  shadow_rank : (x : List ℕ) → a (plain x) ≡ true → rank_of (shadow x) ≡ rank u x
+  pub shadow_rank : (x : List ℕ) → a (plain x) ≡ true → rank_of (shadow x) ≡ rank u x
   shadow_rank x marked =
       ap length (let alike = declared_alike m ps units u (variables_apart u) (variables_inside u written) extent_dummy in alike.shadows x)
       ∙ ap (λ b. length (if b then declared u.declarations (plain x) else [])) marked
@@ -276,9 +276,10 @@ module _ (m : ProgramMarks) (ps : List Procedure) (units : List (List ℕ)) (u :
   stand : (xs : List (List ℕ)) → Each (λ x. (has_name x (variables u) ≡ true) × (a (plain x) ≡ true)) xs → Each (λ x. Q (plain x) None × (a (plain x) ≡ true)) xs
   stand xs h = each_more (λ x. (has_name x (variables u) ≡ true) × (a (plain x) ≡ true)) (λ x. Q (plain x) None × (a (plain x) ≡ true)) (λ x k. ((has_plain (variables u) units a hs free (used_helpers p i u.body) x k.0, refl), k.1)) xs h
 
-  body : OverCode Q A Any (adjoint_body p i u.line u.body at_turn at_end)
-  body =
-      body_over Q A Any p allows (works_used p.marks i u.body) (temps_used p.marks i u.body) (λ k low high. helper_stands (helper work k) (used_works p i u.body k low high)) (λ k low high. helper_stands (helper temp k) (used_temps p i u.body k low high)) i u.line u.body at_turn at_end follows source (all_helped p i u.body Q helper_stands) (omega arith) (omega arith) (stand at_turn turned) (stand at_end ended)
+  -- its body, where of each CALL holds what is asked of it
+  pub body_with : (C : List ℕ → Terms → Type 0) → Follows C p i u.body → OverCode Q A C (adjoint_body p i u.line u.body at_turn at_end)
+  body_with C f =
+      body_over Q A C p allows (works_used p.marks i u.body) (temps_used p.marks i u.body) (λ k low high. helper_stands (helper work k) (used_works p i u.body k low high)) (λ k low high. helper_stands (helper temp k) (used_temps p i u.body k low high)) i u.line u.body at_turn at_end f source (all_helped p i u.body Q helper_stands) (omega arith) (omega arith) (stand at_turn turned) (stand at_end ended)
 
   -- each name that stands in a statement is declared, and has its rank
   abbrev T : Standing → Type 0
@@ -288,7 +289,7 @@ module _ (m : ProgramMarks) (ps : List Procedure) (units : List (List ℕ)) (u :
   known_declared v h = is_declared v (table_in (variables u) units a hs (used_helpers p i u.body) v h)
 
   standing : Each (λ (s : At Act). Each T (in_act s.1)) (statements unit.body)
-  standing = stands_code Q A Any name T (λ v n q. (known_declared v q.0, q.1)) (adjoint_body p i u.line u.body at_turn at_end) body
+  standing = stands_code Q A Any name T (λ v n q. (known_declared v q.0, q.1)) (adjoint_body p i u.line u.body at_turn at_end) (body_with Any follows)
 
   -- ---- no faults
 

@@ -20,3 +20,5 @@ pub mod Units
 pub mod Programs
 pub mod AdjointNames
 pub mod NameFaults
+pub mod Called
+pub mod Actuals

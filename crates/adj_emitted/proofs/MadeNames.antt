@@ -98,7 +98,7 @@ adjoint_named taken (u ∷ us) name w h = go (name_eq u.name name) h (λ g. adjo
 
 module _ (m : ProgramMarks) (ps : List Procedure) (named : Each (λ u. IsName u.name) ps) (u : Procedure) where
   -- the adjoint of a unit that is called is named
-  callee_named : (name : List ℕ) (v : Procedure) → find_unit ps name ≡ Some v → IsMadeName (callee_in m ps name).adjoint
+  pub callee_named : (name : List ℕ) (v : Procedure) → find_unit ps name ≡ Some v → IsMadeName (callee_in m ps name).adjoint
   callee_named name v f =
       let there = found_there ps name v f in
       subst IsMadeName (sym (ap (λ o. (callee_of m ps name o).adjoint) f)) (adjoint_named (source_names ps) ps v.name named (ap (is_unit ps) there.1 ∙ there.0))
