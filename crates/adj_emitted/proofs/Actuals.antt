@@ -34,7 +34,7 @@ abbrev pub terms_of : List Var → Terms
 terms_of [] = none
 terms_of (v ∷ vs) = more (var v) (terms_of vs)
 
-plain_terms : (given : List (List ℕ)) → actuals_named given ≡ terms_of (map plain given)
+pub plain_terms : (given : List (List ℕ)) → actuals_named given ≡ terms_of (map plain given)
 plain_terms [] = refl
 plain_terms (a ∷ given) = ap (λ l. more (var (plain a)) l) (plain_terms given)
 
@@ -42,7 +42,7 @@ plain_among : (a : List ℕ) (given : List (List ℕ)) → among (plain a) (map 
 plain_among a [] = refl
 plain_among a (b ∷ given) = ap (λ t. name_eq a b || t) (plain_among a given)
 
-plain_apart : (given : List (List ℕ)) → AreApart given → VarsApart (map plain given)
+pub plain_apart : (given : List (List ℕ)) → AreApart given → VarsApart (map plain given)
 plain_apart [] h = tt
 plain_apart (a ∷ given) h = (plain_among a given ∙ h.0, plain_apart given h.1)
 
@@ -52,7 +52,7 @@ given_vars sh [] given = []
 given_vars sh (d ∷ ds) [] = []
 given_vars sh (d ∷ ds) (a ∷ given) = if sh (plain d) then plain a ∷ shadow a ∷ given_vars sh ds given else plain a ∷ given_vars sh ds given
 
-given_terms : (sh : Vars) (ds given : List (List ℕ)) → with_shadows sh ds given ≡ terms_of (given_vars sh ds given)
+pub given_terms : (sh : Vars) (ds given : List (List ℕ)) → with_shadows sh ds given ≡ terms_of (given_vars sh ds given)
 given_terms sh [] given = refl
 given_terms sh (d ∷ ds) [] = refl
 given_terms sh (d ∷ ds) (a ∷ given) = go (sh (plain d)) (given_terms sh ds given)
@@ -72,7 +72,7 @@ not_given sh a (d ∷ ds) (b ∷ given) h = let n = or_false (name_eq a b) (has_
     go true e ih = (rw (e, ih.0) refl, rw (e, ih.1) refl)
     go false e ih = (rw (e, ih.0) refl, ih.1)
 
-given_apart : (sh : Vars) (ds given : List (List ℕ)) → AreApart given → VarsApart (given_vars sh ds given)
+pub given_apart : (sh : Vars) (ds given : List (List ℕ)) → AreApart given → VarsApart (given_vars sh ds given)
 given_apart sh [] given h = tt
 given_apart sh (d ∷ ds) [] h = tt
 given_apart sh (d ∷ ds) (a ∷ given) h = let n = not_given sh a ds given h.0 in go (sh (plain d)) n (given_apart sh ds given h.1)
@@ -82,7 +82,7 @@ given_apart sh (d ∷ ds) (a ∷ given) h = let n = not_given sh a ds given h.0 
     go false n ih = (n.0, ih)
 
 -- the names of actuals that are names are these
-named_back : (given : List (List ℕ)) → names_of (actuals_named given) ≡ given
+pub named_back : (given : List (List ℕ)) → names_of (actuals_named given) ≡ given
 named_back [] = refl
 named_back (a ∷ given) = ap (λ l. a ∷ l) (named_back given)
 
@@ -102,7 +102,7 @@ module _ (u v : Procedure) (nm : Var → List ℕ) (own : Vars) (plain_rank : (x
   named w = plain (nm w)
 
   -- actuals fit the dummies of a unit that is emitted as it is
-  plain_fit : (w : Procedure) (ds given : List (List ℕ)) → are_actuals_for u w ds (actuals_named given) ≡ true → are_actuals_for v w ds (rename_terms named (actuals_named given)) ≡ true
+  pub plain_fit : (w : Procedure) (ds given : List (List ℕ)) → are_actuals_for u w ds (actuals_named given) ≡ true → are_actuals_for v w ds (rename_terms named (actuals_named given)) ≡ true
   plain_fit w [] [] h = refl
   plain_fit w [] (a ∷ given) h = absurd cc
   plain_fit w (d ∷ ds) [] h = absurd cc
@@ -111,7 +111,7 @@ module _ (u v : Procedure) (nm : Var → List ℕ) (own : Vars) (plain_rank : (x
       rw (ap (λ k. k == rank w d) (plain_rank a) ∙ both.0, plain_fit w ds given both.1) refl
 
   -- and those of the adjoint of one
-  shadow_fit : (w adj : Procedure) (sh : Vars) (ns : List Named) → ((d : List ℕ) → has_name d w.dummies ≡ true → rank adj d ≡ rank w d) → ((d : List ℕ) → sh (plain d) ≡ true → rank adj (name_in ns (shadow d)) ≡ rank w d) → (ds given : List (List ℕ)) → ((d : List ℕ) → has_name d ds ≡ true → has_name d w.dummies ≡ true) → are_actuals_for u w ds (actuals_named given) ≡ true → AreCarried sh own ds given → are_actuals_for v adj (shadows_behind sh ns ds) (rename_terms named (with_shadows sh ds given)) ≡ true
+  pub shadow_fit : (w adj : Procedure) (sh : Vars) (ns : List Named) → ((d : List ℕ) → has_name d w.dummies ≡ true → rank adj d ≡ rank w d) → ((d : List ℕ) → sh (plain d) ≡ true → rank adj (name_in ns (shadow d)) ≡ rank w d) → (ds given : List (List ℕ)) → ((d : List ℕ) → has_name d ds ≡ true → has_name d w.dummies ≡ true) → are_actuals_for u w ds (actuals_named given) ≡ true → AreCarried sh own ds given → are_actuals_for v adj (shadows_behind sh ns ds) (rename_terms named (with_shadows sh ds given)) ≡ true
   shadow_fit w adj sh ns rp rs [] [] inside h c = refl
   shadow_fit w adj sh ns rp rs [] (a ∷ given) inside h c = absurd cc
   shadow_fit w adj sh ns rp rs (d ∷ ds) [] inside h c = absurd cc

@@ -2,11 +2,11 @@
 use Rattle.std.proofs.Common.{◌≡◌, ℕ, suc, ◌+◌, ◌≤◌, Bool, true, false, List, [], ◌∷◌, ◌++◌, map, length, refl, sym, ap, ◌∙◌, subst, arith, if◌then◌else◌}
 use Rattle.std.specs.Prelude.{pos, ◌||◌, ◌&&◌, ◌==◌, not, flat_map, int_lt, Option, Some, None}
 use Rattle.std.specs.List.{list_any}
-use Rattle.adj_tree.specs.Code.{Terms, Var, plain, shadow, helper, work, temp, name_eq, var_eq, Act, assign, choose, loop, during, call, runtime, Extent, fixed, given, Declaration, Procedure}
+use Rattle.adj_tree.specs.Code.{Terms, Var, plain, shadow, helper, work, temp, name_eq, var_eq, Runtime, push_word, pop_word, push_array, pop_array, push_control, pop_control, zero_array, begin_reversal, count_actions, give_action, end_reversal, Act, assign, choose, loop, during, call, runtime, Extent, fixed, given, Declaration, Procedure}
 use Rattle.adj_tree.proofs.Names.{name_refl, name_same, nat_same}
 use Rattle.adj_text.specs.Written.{IsWrittenProcedure}
 use Rattle.adj_meaning.specs.Read.{is_extent}
-use Rattle.adj_meaning.specs.Rename.{rename}
+use Rattle.adj_meaning.specs.Rename.{rename_terms, rename_runtime, rename}
 use Rattle.adj_meaning.specs.Units.{declared}
 use Rattle.adj_names.specs.Fresh as fresh
 use Rattle.adj_names.specs.Standing.{Standing, in_act}
@@ -14,6 +14,8 @@ use Rattle.adj_names.specs.Statements.{At, statements}
 use Rattle.adj_names.specs.Variables.{dummy_places, declared_places, statement_places, places, variables, rank, is_scalar, is_dummy, is_integer, is_integer_name}
 use Rattle.adj_names.specs.Fault.{Rules, run_rules, fault, faults_if, again}
 use Rattle.adj_names.specs.NameFaults.{extent_names, extent_places, undeclared, declared_twice, is_rank_for, has_rank, taken_in, misused, literal_product, is_bad_extent, has_bad_extents, bad_extents}
+use Rattle.adj_names.specs.Reserved.{is_runtime}
+use Rattle.adj_names.specs.CallFaults.{variable_rank, array_arguments}
 use Rattle.adj_kernel.specs.Form.{IsKernelCode}
 use Rattle.adj_transpose.specs.Fresh.{has_name}
 use Rattle.adj_transpose.specs.Naming.{Named, own as own_name, name_in, naming, AreApart}
@@ -32,7 +34,8 @@ use Rattle.adj_checked.proofs.Lists.{Each, each_append, each_more}
 use Rattle.adj_checked.proofs.Names.{variables_inside}
 use Rattle.adj_checked.proofs.Statements.{CallHasNone, not_false}
 use Rattle.adj_checked.proofs.Units.{dummy_names}
-use Rattle.adj_emitted.proofs.Over.{OverCode, Any}
+use Rattle.adj_emitted.proofs.Over.{OverRuntime, OverCode, Any}
+use Rattle.adj_emitted.proofs.Called.{IsOwn, each_statement}
 use Rattle.adj_emitted.proofs.Follows.{Follows}
 use Rattle.adj_emitted.proofs.Sweeps.{Allows, body_over}
 use Rattle.adj_emitted.proofs.Source.{source_code}
@@ -441,3 +444,25 @@ module _ (m : ProgramMarks) (ps : List Procedure) (units : List (List ℕ)) (u :
 
       all : Each P (map name W)
       all = subst (Each P) (sym (map_append name (interleaved a (variables u)) hs)) (each_append P (map name (interleaved a (variables u))) (map name hs) (of_variables (variables u) (each_name (λ x. has_name x (variables u) ≡ true) (variables u) (λ x h. h))) (of_helpers hs (used_helpers p i u.body) (each_var (λ v. among v hs ≡ true) hs (λ v h. h))))
+
+  -- ---- its statements
+
+  -- the arrays of a call of the runtime are arrays
+  arrays_there : (c : Runtime) → OverRuntime Q A c → Each (λ x. (variable_rank unit x == 0) ≡ false) (array_arguments (rename_runtime (naming ns) c))
+  arrays_there (push_word x s) o = tt
+  arrays_there (pop_word x s) o = tt
+  arrays_there (push_array x) o = (o.1, tt)
+  arrays_there (pop_array x) o = (o.1, tt)
+  arrays_there (push_control e) o = tt
+  arrays_there (pop_control x) o = tt
+  arrays_there (zero_array x) o = (o.1, tt)
+  arrays_there (begin_reversal l s) o = tt
+  arrays_there (count_actions l s n) o = tt
+  arrays_there (give_action l s k x f t) o = tt
+  arrays_there end_reversal o = tt
+
+  -- each has what CALLs and calls of the runtime have
+  pub statements_have : (C : List ℕ → Terms → Type 0) → Follows C p i u.body → (G : At Act → Type 0) → ((line : ℕ) (act : Act) → IsOwn act → G (line, act)) → ((line : ℕ) (other : List ℕ) (args : Terms) → is_runtime other ≡ false → C other args → G (line, call other (rename_terms (naming ns) args))) →
+      ((line : ℕ) (c : Runtime) → Each (λ x. (variable_rank unit x == 0) ≡ false) (array_arguments c) → G (line, runtime c)) → Each G (statements unit.body)
+  statements_have C f G own called ran =
+      each_statement Q A C (naming ns) G own called (λ line c o. ran line (rename_runtime (naming ns) c) (arrays_there c o)) (adjoint_body p i u.line u.body at_turn at_end) (body_with C f)

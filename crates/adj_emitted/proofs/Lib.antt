@@ -22,3 +22,4 @@ pub mod AdjointNames
 pub mod NameFaults
 pub mod Called
 pub mod Actuals
+pub mod CallFaults
