@@ -29,12 +29,13 @@ use Rattle.adj_reverse.specs.Source.{is_unit, CallUnits}
 use Rattle.adj_reverse.proofs.EmittedUnits.{found_there, carried_found, adjoint_found, carried_common, answers_there}
 use Rattle.adj_reverse.proofs.Variables.{dummy_among}
 use Rattle.adj_checked.specs.Checked.{IsChecked}
-use Rattle.adj_checked.proofs.Lists.{Each, each_front, each_behind, each_more, each_found, each_both, none_if}
+use Rattle.adj_checked.proofs.Lists.{Each, each_append, each_front, each_behind, each_more, each_found, each_both, none_if}
 use Rattle.adj_checked.proofs.Texts.{actuals_given, actuals_apart}
 use Rattle.adj_checked.proofs.Statements.{CallHasNone, call_of_unit, calls_inside}
 use Rattle.adj_checked.proofs.Callings.{Found, all_found, calls_found_some, roots_reached}
 use Rattle.adj_emitted.specs.Shadowed.{AreCarried, HasShadows', HasShadows, AllHaveShadows}
 
+use Rattle.adj_emitted.specs.Emitted.{CallsHaveNone}
 use Rattle.adj_emitted.proofs.Follows.{FollowsAct, Follows}
 use Rattle.adj_emitted.proofs.MadeNames.{callee_named, made_no_runtime, follows}
 use Rattle.adj_emitted.proofs.Called.{IsOwn}
@@ -228,3 +229,62 @@ module _ (m : ProgramMarks) (ps : List Procedure) (head : Procedure) (vars outva
 
         ran : (line : ℕ) (c : Runtime) → Each (λ x. (variable_rank v x == 0) ≡ false) (array_arguments c) → faults_of_call qs v line (runtime c) ≡ []
         ran line c h = flat_none (λ x. faults_if (variable_rank v x == 0) (fault 15 line)) (array_arguments c) (each_more (λ x. (variable_rank v x == 0) ≡ false) (λ x. faults_if (variable_rank v x == 0) (fault 15 line) ≡ []) (λ x k. if_none (variable_rank v x == 0) (fault 15 line) k) (array_arguments c) h)
+
+  -- ---- units that are emitted as they are
+
+  -- what they call is there as it was
+  mutual
+    carried_act : (u : Procedure) (line : ℕ) (a : Act) → CallsInside' (is_carried m ps head) a → Each (CallHasNone ps u) ((line, a) ∷ inner a) → Each (CallHasNone qs u) ((line, a) ∷ inner a)
+    carried_act u line (assign x subs e) k h = (refl, tt)
+    carried_act u line (choose c a b) k h = (refl, each_append (CallHasNone qs u) (statements a) (statements b) (carried_code u a k.0 (each_front (CallHasNone ps u) (statements a) (statements b) h.1)) (carried_code u b k.1 (each_behind (CallHasNone ps u) (statements a) (statements b) h.1)))
+    carried_act u line (loop x a b c body mark) k h = (refl, carried_code u body k h.1)
+    carried_act u line (during c body) k h = (refl, carried_code u body k h.1)
+    carried_act u line (call name args) k h =
+        let unit = call_of_unit ps u line name args h.0 in
+        let same : find_unit qs name ≡ find_unit ps name = carried_found m ps head vars outvars name k (found_there ps name unit.unit unit.found).0 in
+        (ap (λ o. if is_runtime name then fault 15 line ∷ [] else faults_of_unit_call u o line args) same ∙ h.0, tt)
+    carried_act u line (runtime r) k h = h
+
+    carried_code : (u : Procedure) (c : Code) → CallsInside (is_carried m ps head) c → Each (CallHasNone ps u) (statements c) → Each (CallHasNone qs u) (statements c)
+    carried_code u stop k h = tt
+    carried_code u (step line a rest) k h =
+        let here = carried_act u line a k.0 (h.0, each_front (CallHasNone ps u) (inner a) (statements rest) h.1) in
+        (here.0, each_append (CallHasNone qs u) (inner a) (statements rest) here.1 (carried_code u rest k.1 (each_behind (CallHasNone ps u) (inner a) (statements rest) h.1)))
+
+  carried_none : (u : Procedure) → find_unit ps u.name ≡ Some u → IsSound m ps u → is_carried m ps head u.name ≡ true → flat_map (λ s. faults_of_call qs u s.0 s.1) (statements u.body) ≡ []
+  carried_none u found s h =
+      let common = carried_common m ps head vars outvars known in
+      flat_none (λ s. faults_of_call qs u s.0 s.1) (statements u.body) (carried_code u u.body (common.closed u.name u h found) s.0.0.calls)
+
+  adjoint_none : (u : Procedure) → find_unit ps u.name ≡ Some u → IsSound m ps u → has_adjoint m ps head u.name ≡ true → flat_map (λ s. faults_of_call qs (emitted_adjoint m ps head vars outvars u) s.0 s.1) (statements (emitted_adjoint m ps head vars outvars u).body) ≡ []
+  adjoint_none u found s there =
+      emitted_has (λ u v. find_unit ps u.name ≡ Some u → has_adjoint m ps head u.name ≡ true → flat_map (λ s. faults_of_call qs v s.0 s.1) (statements v.body) ≡ []) calls_none u s found there
+
+  emitted_none : Each (Found ps) ps → call_faults qs ≡ []
+  emitted_none found =
+      flat_none (λ u. flat_map (λ s. faults_of_call qs u s.0 s.1) (statements u.body)) qs
+      (each_emitted m ps head vars outvars (λ u. flat_map (λ s. faults_of_call qs u s.0 s.1) (statements u.body) ≡ []) ps
+      (each_more (λ u. Found ps u × IsSound m ps u) (λ u. is_carried m ps head u.name ≡ true → flat_map (λ s. faults_of_call qs u s.0 s.1) (statements u.body) ≡ []) (λ u k h. carried_none u k.0.0 k.1 h) ps both)
+      (each_more (λ u. Found ps u × IsSound m ps u) (λ u. has_adjoint m ps head u.name ≡ true → flat_map (λ s. faults_of_call qs (emitted_adjoint m ps head vars outvars u) s.0 s.1) (statements (emitted_adjoint m ps head vars outvars u).body) ≡ []) (λ u k h. adjoint_none u k.0.0 k.1 h) ps both))
+    where
+      both : Each (λ u. Found ps u × IsSound m ps u) ps
+      both = each_both (Found ps) (IsSound m ps) ps found sound
+
+-- ---- the program
+
+module _ (rules : Rules) (ps : List Procedure) (checked : IsChecked rules ps) where
+  pub all_known : CallUnits ps ps
+  all_known = calls_known ps ps (all_calls rules ps checked)
+
+  pub all_there : Each (Found ps) ps
+  all_there = all_found ps (units_apart rules ps checked)
+
+  pub each_sound : (m : ProgramMarks) → AllHaveShadows m ps ps → Each (IsSound m ps) ps
+  each_sound m shadowed = each_both (λ u. UnitSound ps u × NamesSound ps u) (λ u. HasShadows (plan_in m ps u) (first_statement ps u.name) u.body) ps (all_names_sound rules ps checked) (shadows_each m ps ps shadowed)
+
+pub calls_have_none : CallsHaveNone
+calls_have_none rules ps checked m shadowed head vars outvars = go (unit_at head ps)
+  where
+    go : (us : List Procedure) → call_faults (emitted_for m ps vars outvars us) ≡ []
+    go [] = refl
+    go (u ∷ us) = emitted_none m ps u vars outvars (all_named rules ps checked) (all_known rules ps checked) (each_sound rules ps checked m shadowed) (all_there rules ps checked)

@@ -5,6 +5,7 @@ use Rattle.adj_text.specs.Written.{IsWritten}
 use Rattle.adj_names.specs.Fault.{Rules, run_rules}
 use Rattle.adj_names.specs.UnitFaults.{unit_faults}
 use Rattle.adj_names.specs.NameFaults.{name_faults}
+use Rattle.adj_names.specs.CallFaults.{call_faults}
 use Rattle.adj_reverse.specs.Marking.{ProgramMarks, full_marks}
 use Rattle.adj_reverse.specs.Program.{emitted_program}
 use Rattle.adj_checked.specs.Checked.{IsChecked}
@@ -31,3 +32,9 @@ abbrev pub NamesHaveNone : Type 0
 NamesHaveNone =
     (rules : Rules) (ps : List Procedure) → IsChecked rules ps → (m : ProgramMarks) → AllHaveShadows m ps ps → (head : ℕ) (vars outvars : List Bool) →
     name_faults run_rules (emitted_program m ps head vars outvars) ≡ []
+
+-- each of its CALLs is of a unit that it has, with an actual for each dummy, of its rank; and calls of the runtime take arrays where they should
+abbrev pub CallsHaveNone : Type 0
+CallsHaveNone =
+    (rules : Rules) (ps : List Procedure) → IsChecked rules ps → (m : ProgramMarks) → AllHaveShadows m ps ps → (head : ℕ) (vars outvars : List Bool) →
+    call_faults (emitted_program m ps head vars outvars) ≡ []
