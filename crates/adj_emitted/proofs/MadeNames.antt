@@ -20,6 +20,7 @@ use Rattle.adj_reverse.proofs.Rounds.{either}
 use Rattle.adj_checked.proofs.Lists.{Each, each_front, each_behind}
 use Rattle.adj_checked.proofs.Statements.{CallHasNone, call_of_unit}
 use Rattle.adj_emitted.specs.Shadowed.{AreCarried, HasShadows', HasShadows}
+use Rattle.adj_emitted.proofs.Over.{Any}
 use Rattle.adj_emitted.proofs.Follows.{FollowsAct, Follows}
 
 -- ---- underscores
@@ -97,13 +98,13 @@ adjoint_named taken (u ∷ us) name w h = go (name_eq u.name name) h (λ g. adjo
 
 module _ (m : ProgramMarks) (ps : List Procedure) (named : Each (λ u. IsName u.name) ps) (u : Procedure) where
   -- the adjoint of a unit that is called is named
-  callee_named : (name : List ℕ) (v : Procedure) → find_unit ps name ≡ Some v → IsMadeName (callee_in m ps name).adjoint
+  pub callee_named : (name : List ℕ) (v : Procedure) → find_unit ps name ≡ Some v → IsMadeName (callee_in m ps name).adjoint
   callee_named name v f =
       let there = found_there ps name v f in
       subst IsMadeName (sym (ap (λ o. (callee_of m ps name o).adjoint) f)) (adjoint_named (source_names ps) ps v.name named (ap (is_unit ps) there.1 ∙ there.0))
 
   mutual
-    follows' : (i line : ℕ) (a : Act) → CallHasNone ps u (line, a) → Each (CallHasNone ps u) (inner a) → HasShadows' (plan_in m ps u) i a → FollowsAct (plan_in m ps u) i a
+    follows' : (i line : ℕ) (a : Act) → CallHasNone ps u (line, a) → Each (CallHasNone ps u) (inner a) → HasShadows' (plan_in m ps u) i a → FollowsAct Any (plan_in m ps u) i a
     follows' i line (assign x subs e) c inside h = h
     follows' i line (choose t a b) c inside h = (
       follows (suc i) a (each_front (CallHasNone ps u) (statements a) (statements b) inside) h.0,
@@ -112,12 +113,12 @@ module _ (m : ProgramMarks) (ps : List Procedure) (named : Each (λ u. IsName u.
     follows' i line (loop x a b c body n) d inside h = follows (suc i) body inside h
     follows' i line (during t body) c inside h = follows (suc i) body inside h
     follows' i line (call name args) c inside h =
-        λ t. let unit = call_of_unit ps u line name args c in
+        (λ t. tt, λ t. let unit = call_of_unit ps u line name args c in
         let made = callee_named name unit.unit unit.found in
-        (made.0, (made_no_runtime (callee_in m ps name).adjoint made, h t))
+        (made.0, (made_no_runtime (callee_in m ps name).adjoint made, (h t, tt))))
     follows' i line (runtime r) c inside h = tt
 
-    pub follows : (i : ℕ) (c : Code) → Each (CallHasNone ps u) (statements c) → HasShadows (plan_in m ps u) i c → Follows (plan_in m ps u) i c
+    pub follows : (i : ℕ) (c : Code) → Each (CallHasNone ps u) (statements c) → HasShadows (plan_in m ps u) i c → Follows Any (plan_in m ps u) i c
     follows i stop c h = tt
     follows i (step line a rest) c h = (
       follows' i line a c.0 (each_front (CallHasNone ps u) (inner a) (statements rest) c.1) h.0,

@@ -73,14 +73,30 @@ module _ (Q : Var → Option ℕ → Type 0) (A : Var → Type 0) where
   OverMark (with_count n) = (0 < n) × (n ≤ 64)
   OverMark (count_from x) = Q x (Some 0)
 
+  -- the subscripts of a place, and a place by its parts
+  pub place_terms : (x : Var) (s : Terms) → OverPlace x s → OverTerms s
+  place_terms x none h = tt
+  place_terms x (more e es) h = h.1.1
+
+  pub place_stands : (x : Var) (s : Terms) → OverPlace x s → Q x (Some (count_of s))
+  place_stands x none h = h
+  place_stands x (more e es) h = h.0
+
+  -- another variable at the same place
+  pub place_other : (x y : Var) (s : Terms) → (Q x (Some (count_of s)) → Q y (Some (count_of s))) → OverPlace x s → OverPlace y s
+  place_other x y none f h = f h
+  place_other x y (more e es) f h = (f h.0, h.1)
+
+-- statements, where of each CALL of a unit and its actuals C holds
+module _ (Q : Var → Option ℕ → Type 0) (A : Var → Type 0) (C : List ℕ → Terms → Type 0) where
   abbrev mutual
     pub OverAct : Act → Type 0
-    OverAct (assign x s e) = OverPlace x s × OverTerm e
-    OverAct (choose c a b) = OverTest c × (OverCode a × OverCode b)
-    OverAct (loop x a b c body m) = Q x (Some 0) × (OverTerm a × (OverTerm b × (OverTerm c × (OverCode body × OverMark m))))
-    OverAct (during c body) = OverTest c × OverCode body
-    OverAct (call name actuals) = IsName name × (OverActuals actuals × (is_runtime name ≡ false))
-    OverAct (runtime r) = OverRuntime r
+    OverAct (assign x s e) = OverPlace Q A x s × OverTerm Q A e
+    OverAct (choose c a b) = OverTest Q A c × (OverCode a × OverCode b)
+    OverAct (loop x a b c body m) = Q x (Some 0) × (OverTerm Q A a × (OverTerm Q A b × (OverTerm Q A c × (OverCode body × OverMark Q A m))))
+    OverAct (during c body) = OverTest Q A c × OverCode body
+    OverAct (call name actuals) = IsName name × (OverActuals Q A actuals × ((is_runtime name ≡ false) × C name actuals))
+    OverAct (runtime r) = OverRuntime Q A r
 
     pub OverCode : Code → Type 0
     OverCode stop = Unit {0}
@@ -95,16 +111,6 @@ module _ (Q : Var → Option ℕ → Type 0) (A : Var → Type 0) where
   over_if true c h = h refl
   over_if false c h = tt
 
-  -- the subscripts of a place, and a place by its parts
-  pub place_terms : (x : Var) (s : Terms) → OverPlace x s → OverTerms s
-  place_terms x none h = tt
-  place_terms x (more e es) h = h.1.1
-
-  pub place_stands : (x : Var) (s : Terms) → OverPlace x s → Q x (Some (count_of s))
-  place_stands x none h = h
-  place_stands x (more e es) h = h.0
-
-  -- another variable at the same place
-  pub place_other : (x y : Var) (s : Terms) → (Q x (Some (count_of s)) → Q y (Some (count_of s))) → OverPlace x s → OverPlace y s
-  place_other x y none f h = f h
-  place_other x y (more e es) f h = (f h.0, h.1)
+-- nothing is asked of a CALL
+abbrev pub Any : List ℕ → Terms → Type 0
+Any name actuals = Unit {0}

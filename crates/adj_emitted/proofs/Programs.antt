@@ -37,81 +37,19 @@ use Rattle.adj_emitted.specs.Shadowed.{AreCarried, HasShadows', HasShadows, AllH
 use Rattle.adj_emitted.specs.Emitted.{MarkedIsWritten, EmittedIsWritten}
 use Rattle.adj_emitted.proofs.MadeNames.{adjoint_named, follows}
 use Rattle.adj_emitted.proofs.Tables.{IsFree}
-use Rattle.adj_emitted.proofs.Units.{each_name, of_each, each_marked, unit_written}
-
--- each unit of a list stands in it
-pub each_there : (us : List Procedure) → Each (λ u. is_unit us u.name ≡ true) us
-each_there [] = tt
-each_there (u ∷ us) = (or_left (name_eq u.name u.name) (is_unit us u.name) (name_refl u.name), each_more (λ v. is_unit us v.name ≡ true) (λ v. is_unit (u ∷ us) v.name ≡ true) (λ v h. or_right (name_eq u.name v.name) (is_unit us v.name) h) us (each_there us))
-
--- ---- what a checked program has of each of its units
-
--- what is asked of a unit, so that its adjoint is written
-pub record UnitSound (m : ProgramMarks) (ps : List Procedure) (u : Procedure) : Type 0 where
-  pub written : IsWrittenProcedure u
-  pub kernel : IsKernelCode u.body
-  pub free : Each IsFree (variables u)
-  pub calls : Each (CallHasNone ps u) (statements u.body)
-  pub there : is_unit ps u.name ≡ true
-
-module _ (rules : Rules) (ps : List Procedure) (checked : IsChecked rules ps) where
-  none : HasNone rules ps
-  none = sound_has_none rules ps checked.sound
-
-  all_written : Each IsWrittenProcedure ps
-  all_written = each_all IsWrittenProcedure ps checked.written
-
-  pub all_named : Each (λ u. IsName u.name) ps
-  all_named = each_more IsWrittenProcedure (λ u. IsName u.name) (λ u w. w.named) ps all_written
-
-  pub all_calls : Each (λ u. Each (CallHasNone ps u) (statements u.body)) ps
-  all_calls =
-      each_more (λ u. flat_map (λ s. faults_of_call ps u s.0 s.1) (statements u.body) ≡ []) (λ u. Each (CallHasNone ps u) (statements u.body)) (λ u h. none_each (λ s. faults_of_call ps u s.0 s.1) (statements u.body) h) ps
-      (none_each (λ u. flat_map (λ s. faults_of_call ps u s.0 s.1) (statements u.body)) ps none.calls)
-
-  -- no variable has a reserved name
-  unreserved : (u : Procedure) → faults_of_names rules ps u ≡ [] → (x : List ℕ) → has_name x (variables u) ≡ true → has_name x reserved ≡ false
-  unreserved u h x k = of_each (λ y. has_name y reserved ≡ false) (names_at (places u)) (named_places (places u) each) x (sym (variables_stand u x) ∙ k)
-    where
-      of_places : reserved_variables ps u ≡ []
-      of_places = none_front (reserved_variables ps u) _ (none_behind (bad_extents u) _ (none_behind (misused rules u) _ (none_behind (declared_twice u) _ (none_behind (undeclared u) _ h))))
-
-      each : Each (λ (p : At (List ℕ)). has_name p.1 reserved ≡ false) (places u)
-      each =
-          each_more (λ (p : At (List ℕ)). faults_if (is_reserved p.1 || is_some (find_unit ps p.1)) (fault 18 p.0) ≡ []) (λ p. has_name p.1 reserved ≡ false)
-          (λ p e. (or_false (is_reserved p.1) (is_some (find_unit ps p.1)) (none_if (is_reserved p.1 || is_some (find_unit ps p.1)) (fault 18 p.0) e)).0) (places u)
-          (none_each (λ (p : At (List ℕ)). faults_if (is_reserved p.1 || is_some (find_unit ps p.1)) (fault 18 p.0)) (places u) of_places)
-
-      named_places : (qs : List (At (List ℕ))) → Each (λ (p : At (List ℕ)). has_name p.1 reserved ≡ false) qs → Each (λ y. has_name y reserved ≡ false) (names_at qs)
-      named_places [] e = tt
-      named_places (q ∷ qs) e = (e.0, named_places qs e.1)
-
-  unit_sound : (m : ProgramMarks) (u : Procedure) → IsWrittenProcedure u → IsKernelCode u.body → faults_of_names rules ps u ≡ [] → Each (CallHasNone ps u) (statements u.body) → is_unit ps u.name ≡ true → UnitSound m ps u
-  unit_sound m u w k n c t = record {
-    written = w;
-    kernel = k;
-    free = each_name IsFree (variables u) (λ x h. (variable_named u w x h, unreserved u n x h));
-    calls = c;
-    there = t;
-  }
-
-  pub all_sound : (m : ProgramMarks) → Each (UnitSound m ps) ps
-  all_sound m = go ps all_written (each_unit (λ u. IsKernelCode u.body) ps checked.kernel) (none_each (faults_of_names rules ps) ps none.names) all_calls (each_there ps)
-    where
-      go : (us : List Procedure) → Each IsWrittenProcedure us → Each (λ u. IsKernelCode u.body) us → Each (λ u. faults_of_names rules ps u ≡ []) us → Each (λ u. Each (CallHasNone ps u) (statements u.body)) us → Each (λ u. is_unit ps u.name ≡ true) us → Each (UnitSound m ps) us
-      go [] w k n c t = tt
-      go (u ∷ us) w k n c t = (unit_sound m u w.0 k.0 n.0 c.0 t.0, go us w.1 k.1 n.1 c.1 t.1)
+use Rattle.adj_emitted.proofs.Sources.{each_name, UnitSound, all_named, all_sound}
+use Rattle.adj_emitted.proofs.Units.{each_marked, unit_written}
 
 -- ---- the emitted units
 
 module _ (m : ProgramMarks) (ps : List Procedure) (head : Procedure) (vars outvars : List Bool) (named : Each (λ u. IsName u.name) ps) where
   -- what is cleared: marked dummies
-  cleared : (u : Procedure) (marks : List Bool) → Each (λ x. (has_name x (variables u) ≡ true) × (m.shadowed u.name (plain x) ≡ true)) (names_in (m.shadowed u.name) (unmarked u.dummies marks))
+  pub cleared : (u : Procedure) (marks : List Bool) → Each (λ x. (has_name x (variables u) ≡ true) × (m.shadowed u.name (plain x) ≡ true)) (names_in (m.shadowed u.name) (unmarked u.dummies marks))
   cleared u marks =
       each_marked (λ x. has_name x (variables u) ≡ true) (m.shadowed u.name) (unmarked u.dummies marks)
       (each_name (λ x. has_name x (variables u) ≡ true) (unmarked u.dummies marks) (λ x h. dummy_among u x (unmarked_in x u.dummies marks h)))
 
-  adjoint_written : (u : Procedure) → UnitSound m ps u → HasShadows (plan_in m ps u) (first_statement ps u.name) u.body → IsWrittenProcedure (emitted_adjoint m ps head vars outvars u)
+  adjoint_written : (u : Procedure) → UnitSound ps u → HasShadows (plan_in m ps u) (first_statement ps u.name) u.body → IsWrittenProcedure (emitted_adjoint m ps head vars outvars u)
   adjoint_written u s h = go (name_eq head.name u.name)
     where
       written : (at_turn at_end : List (List ℕ)) → Each (λ x. (has_name x (variables u) ≡ true) × (m.shadowed u.name (plain x) ≡ true)) at_turn → Each (λ x. (has_name x (variables u) ≡ true) × (m.shadowed u.name (plain x) ≡ true)) at_end → IsWrittenProcedure (adjoint_unit m ps (all_units m ps head) u at_turn at_end)
@@ -121,7 +59,7 @@ module _ (m : ProgramMarks) (ps : List Procedure) (head : Procedure) (vars outva
       go true = written _ _ (cleared u outvars) (cleared u vars)
       go false = written [] [] tt tt
 
-  units_written : (us : List Procedure) → Each (UnitSound m ps) us → AllHaveShadows m ps us → IsWritten (emitted_units m ps head vars outvars us)
+  units_written : (us : List Procedure) → Each (UnitSound ps) us → AllHaveShadows m ps us → IsWritten (emitted_units m ps head vars outvars us)
   units_written [] s h = All-nil IsWrittenProcedure
   units_written (u ∷ us) s h = carried (is_carried m ps head u.name) (made (has_adjoint m ps head u.name) (units_written us s.1 h.1))
     where
@@ -139,7 +77,7 @@ marked_written rules ps checked m shadowed head vars outvars = go (unit_at head 
   where
     go : (us : List Procedure) → IsWritten (emitted_for m ps vars outvars us)
     go [] = All-nil IsWrittenProcedure
-    go (u ∷ us) = units_written m ps u vars outvars (all_named rules ps checked) ps (all_sound rules ps checked m) shadowed
+    go (u ∷ us) = units_written m ps u vars outvars (all_named rules ps checked) ps (all_sound rules ps checked) shadowed
 
 -- ---- full marks
 

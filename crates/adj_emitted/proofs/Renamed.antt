@@ -66,7 +66,7 @@ renamed_literal r (pow a k) = renamed_literal r a
 renamed_literal r (power_of a b) = λ i. renamed_literal r a i && renamed_literal r b i
 renamed_literal r (abs a) = refl
 
-module _ (Q : Var → Option ℕ → Type 0) (A : Var → Type 0) (r : Var → Var) (named : (v : Var) (n : Option ℕ) → Q v n → IsIndexed (r v)) where
+module _ (Q : Var → Option ℕ → Type 0) (A : Var → Type 0) (C : List ℕ → Terms → Type 0) (r : Var → Var) (named : (v : Var) (n : Option ℕ) → Q v n → IsIndexed (r v)) where
   variable : (v : Var) (n : Option ℕ) → Q v n → IsVariable (r v)
   variable v n q = indexed_variable (r v) (named v n q)
 
@@ -132,14 +132,14 @@ module _ (Q : Var → Option ℕ → Type 0) (A : Var → Type 0) (r : Var → V
   written_mark (count_from x) o = variable x (Some 0) o
 
   mutual
-    written_act : (a : Act) → OverAct Q A a → IsWrittenAct (rename_act r a)
+    written_act : (a : Act) → OverAct Q A C a → IsWrittenAct (rename_act r a)
     written_act (assign x s e) o = (written_place x s o.0, written_term e o.1)
     written_act (choose c a b) o = (written_test c o.0, written_code a o.1.0, written_code b o.1.1)
     written_act (loop x a b c body m) o = (variable x (Some 0) o.0, written_term a o.1.0, written_term b o.1.1.0, written_term c o.1.1.1.0, written_code body o.1.1.1.1.0, written_mark m o.1.1.1.1.1)
     written_act (during c body) o = (written_test c o.0, written_code body o.1)
-    written_act (call name args) o = (o.0, written_actuals args o.1.0, no_runtime_call name (rename_terms r args) o.1.1)
+    written_act (call name args) o = (o.0, written_actuals args o.1.0, no_runtime_call name (rename_terms r args) o.1.1.0)
     written_act (runtime c) o = written_runtime c o
 
-    pub written_code : (c : Code) → OverCode Q A c → IsWrittenCode (rename r c)
+    pub written_code : (c : Code) → OverCode Q A C c → IsWrittenCode (rename r c)
     written_code stop o = tt
     written_code (step line a rest) o = (written_act a o.0, written_code rest o.1)

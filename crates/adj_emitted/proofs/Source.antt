@@ -13,7 +13,7 @@ use Rattle.adj_names.specs.CallFaults.{faults_of_unit_call}
 use Rattle.adj_kernel.specs.Form.{IsKernelAct, IsKernelCode}
 use Rattle.adj_checked.proofs.Lists.{Each, each_front, each_behind}
 use Rattle.adj_checked.proofs.Statements.{CallHasNone}
-use Rattle.adj_emitted.proofs.Over.{OverTerm, OverTerms, OverTest, OverPlace, OverActual, OverActuals, OverMark, OverAct, OverCode}
+use Rattle.adj_emitted.proofs.Over.{OverTerm, OverTerms, OverTest, OverPlace, OverActual, OverActuals, OverMark, OverAct, OverCode, Any}
 
 -- a CALL without a fault names no call of the runtime
 no_runtime_name : (b : Bool) (r : Refusal) (others : List Refusal) → (if b then r ∷ [] else others) ≡ [] → b ≡ false
@@ -79,7 +79,7 @@ module _ (Q : Var → Option ℕ → Type 0) (A : Var → Type 0) (S : Standing 
   source_mark (count_from x) w h = source_scalar x w h
 
   -- the bounds of a DO stand behind its mark and its variable
-  source_loop : (x : Var) (a b c : Term) (body : Code) (m : Mark) → IsWrittenAct (loop x a b c body m) → Each S (in_act (loop x a b c body m)) → OverCode Q A body → OverAct Q A (loop x a b c body m)
+  source_loop : (x : Var) (a b c : Term) (body : Code) (m : Mark) → IsWrittenAct (loop x a b c body m) → Each S (in_act (loop x a b c body m)) → OverCode Q A Any body → OverAct Q A Any (loop x a b c body m)
   source_loop x a b c body m w h inside =
       let behind = each_behind S (in_mark m) (scalar x ++ (in_term a ++ (in_term b ++ in_term c))) h in
       let bounds = each_behind S (scalar x) (in_term a ++ (in_term b ++ in_term c)) behind in
@@ -98,7 +98,7 @@ module _ (Q : Var → Option ℕ → Type 0) (A : Var → Type 0) (S : Standing 
   Stands s = Each S (in_act s.1)
 
   mutual
-    source_act : (line : ℕ) (a : Act) → IsWrittenAct a → IsKernelAct a → Stands (line, a) → CallHasNone ps u (line, a) → Each Stands (inner a) → Each (CallHasNone ps u) (inner a) → OverAct Q A a
+    source_act : (line : ℕ) (a : Act) → IsWrittenAct a → IsKernelAct a → Stands (line, a) → CallHasNone ps u (line, a) → Each Stands (inner a) → Each (CallHasNone ps u) (inner a) → OverAct Q A Any a
     source_act line (assign x s e) w k h c inside calls = (source_place x s w.0 (each_front S (in_place x s) (in_term e) h), source_term e w.1 (each_behind S (in_place x s) (in_term e) h))
     source_act line (choose t a b) w k h c inside calls = (
       source_test t w.0 h,
@@ -106,10 +106,10 @@ module _ (Q : Var → Option ℕ → Type 0) (A : Var → Type 0) (S : Standing 
     )
     source_act line (loop x a b c body m) w k h d inside calls = source_loop x a b c body m w h (source_code body w.4 k.1 inside calls)
     source_act line (during t body) w k h c inside calls = (source_test t w.0 h, source_code body w.1 k inside calls)
-    source_act line (call name args) w k h c inside calls = (w.0, (source_actuals args w.1 h, no_runtime_name (is_runtime name) (fault 15 line) (faults_of_unit_call u (find_unit ps name) line args) c))
+    source_act line (call name args) w k h c inside calls = (w.0, (source_actuals args w.1 h, (no_runtime_name (is_runtime name) (fault 15 line) (faults_of_unit_call u (find_unit ps name) line args) c, tt)))
     source_act line (runtime r) w k h c inside calls = absurd k
 
-    pub source_code : (c : Code) → IsWrittenCode c → IsKernelCode c → Each Stands (statements c) → Each (CallHasNone ps u) (statements c) → OverCode Q A c
+    pub source_code : (c : Code) → IsWrittenCode c → IsKernelCode c → Each Stands (statements c) → Each (CallHasNone ps u) (statements c) → OverCode Q A Any c
     source_code stop w k h c = tt
     source_code (step line a rest) w k h c = (
       source_act line a w.0 k.0 h.0 c.0 (each_front Stands (inner a) (statements rest) h.1) (each_front (CallHasNone ps u) (inner a) (statements rest) c.1),

@@ -16,7 +16,7 @@ use Rattle.adj_reverse.specs.Program.{works_act, works_used, temps_act, temps_us
 use Rattle.adj_checked.proofs.Lists.{Each}
 use Rattle.adj_emitted.specs.Shadowed.{AreCarried}
 use Rattle.adj_emitted.proofs.Follows.{FollowsAct, Follows}
-use Rattle.adj_emitted.proofs.Over.{OverTerm, OverTerms, OverPlace, OverTest, OverActual, OverActuals, OverAct, OverCode, over_append, over_if, place_stands, place_other}
+use Rattle.adj_emitted.proofs.Over.{OverTerm, OverTerms, OverPlace, OverTest, OverActual, OverActuals, OverAct, OverCode, Any, over_append, over_if, place_stands, place_other}
 use Rattle.adj_emitted.proofs.Terms.{adjoint_over}
 use Rattle.adj_emitted.proofs.Helpers.{HelpedAct, Helped, helped_front, helped_rest, idle_parts, tells_here, helped_first, helped_other, idle_body, helped_body, loop_counts, loop_bounds, helped_turns, while_counts}
 
@@ -71,7 +71,7 @@ pub record Allows (Q : Var → Option ℕ → Type 0) (A : Var → Type 0) (shad
   pub whole_shadows : (x : List ℕ) → shadowed (plain x) ≡ true → arrays (plain x) ≡ true → Q (plain x) None → A (shadow x)
   pub scalars : (x : List ℕ) → arrays (plain x) ≡ false → Q (plain x) None → Q (plain x) (Some 0)
 
-module _ (Q : Var → Option ℕ → Type 0) (A : Var → Type 0) (p : Plan) (allows : Allows Q A p.marks.shadowed p.arrays) (works temps : ℕ)
+module _ (Q : Var → Option ℕ → Type 0) (A : Var → Type 0) (C : List ℕ → Terms → Type 0) (p : Plan) (allows : Allows Q A p.marks.shadowed p.arrays) (works temps : ℕ)
     (work_stands : (k : ℕ) → 1 ≤ k → k ≤ works → Q (helper work k) (Some 0)) (temp_stands : (j : ℕ) → 1 ≤ j → j ≤ temps → Q (helper temp j) (Some 0)) where
   abbrev Stands : List (List ℕ) → Type 0
   Stands xs = Each (λ x. Q (plain x) None) xs
@@ -82,11 +82,11 @@ module _ (Q : Var → Option ℕ → Type 0) (A : Var → Type 0) (p : Plan) (al
   zero_word : 0 < 2 ^ 63
   zero_word = omega arith
 
-  join : (c d : Code) → OverCode Q A c → OverCode Q A d → OverCode Q A (c +++ d)
-  join c d h g = over_append Q A c d h g
+  join : (c d : Code) → OverCode Q A C c → OverCode Q A C d → OverCode Q A C (c +++ d)
+  join c d h g = over_append Q A C c d h g
 
-  guard : (b : Bool) (c : Code) → (b ≡ true → OverCode Q A c) → OverCode Q A (code_if b c)
-  guard b c h = over_if Q A b c h
+  guard : (b : Bool) (c : Code) → (b ≡ true → OverCode Q A C c) → OverCode Q A C (code_if b c)
+  guard b c h = over_if Q A C b c h
 
   -- ---- groups
 
@@ -112,25 +112,25 @@ module _ (Q : Var → Option ℕ → Type 0) (A : Var → Type 0) (p : Plan) (al
       go true ih = (h.0, ih)
       go false ih = ih
 
-  push_over : (line : ℕ) (x : List ℕ) → Q (plain x) None → OverCode Q A (push p line x)
+  push_over : (line : ℕ) (x : List ℕ) → Q (plain x) None → OverCode Q A C (push p line x)
   push_over line x h = go (p.arrays (plain x)) refl
     where
-      go : (b : Bool) → p.arrays (plain x) ≡ b → OverCode Q A (one line (runtime (if b then push_array (plain x) else push_word (plain x) none)))
+      go : (b : Bool) → p.arrays (plain x) ≡ b → OverCode Q A C (one line (runtime (if b then push_array (plain x) else push_word (plain x) none)))
       go true e = ((h, allows.whole x e h), tt)
       go false e = (allows.scalars x e h, tt)
 
-  pop_over : (line : ℕ) (x : List ℕ) → Q (plain x) None → OverCode Q A (pop p line x)
+  pop_over : (line : ℕ) (x : List ℕ) → Q (plain x) None → OverCode Q A C (pop p line x)
   pop_over line x h = go (p.arrays (plain x)) refl
     where
-      go : (b : Bool) → p.arrays (plain x) ≡ b → OverCode Q A (one line (runtime (if b then pop_array (plain x) else pop_word (plain x) none)))
+      go : (b : Bool) → p.arrays (plain x) ≡ b → OverCode Q A C (one line (runtime (if b then pop_array (plain x) else pop_word (plain x) none)))
       go true e = ((h, allows.whole x e h), tt)
       go false e = (allows.scalars x e h, tt)
 
-  pushes_over : (line : ℕ) (xs : List (List ℕ)) → Stands xs → OverCode Q A (pushes p line xs)
+  pushes_over : (line : ℕ) (xs : List (List ℕ)) → Stands xs → OverCode Q A C (pushes p line xs)
   pushes_over line [] h = tt
   pushes_over line (x ∷ xs) h = join (push p line x) (pushes p line xs) (push_over line x h.0) (pushes_over line xs h.1)
 
-  pops_over : (line : ℕ) (xs : List (List ℕ)) → Stands xs → OverCode Q A (pops p line xs)
+  pops_over : (line : ℕ) (xs : List (List ℕ)) → Stands xs → OverCode Q A C (pops p line xs)
   pops_over line [] h = tt
   pops_over line (x ∷ xs) h = join (pops p line xs) (pop p line x) (pops_over line xs h.1) (pop_over line x h.0)
 
@@ -145,9 +145,9 @@ module _ (Q : Var → Option ℕ → Type 0) (A : Var → Type 0) (p : Plan) (al
       go true e ih = (h.0, (allows.shadows a None (c.0 e) h.0, ih))
       go false e ih = (h.0, ih)
 
-  call_forward : (i line : ℕ) (g : Callee) (name : List ℕ) (args : Terms) → OverAct Q A (call name args) →
-      OverCode Q A (code_if (is_emitted p.marks i) (pushes p line (save_group p.marks i g (names_of args)) +++ (code_if (p.marks.adjointed i) (pushes p line (snapshot_group g (names_of args))) +++ code_if (p.marks.kept i) (one line (call name args)))))
-  call_forward i line g name args o =
+  call_forward : (i line : ℕ) (g : Callee) (name : List ℕ) (args : Terms) → OverAct Q A Any (call name args) → (p.marks.kept i ≡ true → C name args) →
+      OverCode Q A C (code_if (is_emitted p.marks i) (pushes p line (save_group p.marks i g (names_of args)) +++ (code_if (p.marks.adjointed i) (pushes p line (snapshot_group g (names_of args))) +++ code_if (p.marks.kept i) (one line (call name args)))))
+  call_forward i line g name args o f =
       let given = names_of args in
       let stand = names_stand args o.1.0 in
       let saves = save_group p.marks i g given in
@@ -156,10 +156,10 @@ module _ (Q : Var → Option ℕ → Type 0) (A : Var → Type 0) (p : Plan) (al
       (λ emitted. join (pushes p line saves) _ (pushes_over line saves (group_stands g.written (p.marks.saved i) g.dummies given stand))
       (join (code_if (p.marks.adjointed i) (pushes p line members)) _
       (guard (p.marks.adjointed i) (pushes p line members) (λ t. pushes_over line members (group_stands (λ d. g.written d && g.members d) everything g.dummies given stand)))
-      (guard (p.marks.kept i) (one line (call name args)) (λ t. (o, tt)))))
+      (guard (p.marks.kept i) (one line (call name args)) (λ t. ((o.0, (o.1.0, (o.1.1.0, f t))), tt)))))
 
-  call_backward : (i line : ℕ) (g : Callee) (args : Terms) → OverActuals Q A args → (p.marks.adjointed i ≡ true → IsName g.adjoint × ((is_runtime g.adjoint ≡ false) × AreCarried g.shadowed p.marks.shadowed g.dummies (names_of args))) →
-      OverCode Q A (code_if (is_emitted p.marks i) (code_if (p.marks.adjointed i) (pops p line (snapshot_group g (names_of args)) +++ one line (adjoint_call g (names_of args))) +++ pops p line (save_group p.marks i g (names_of args))))
+  call_backward : (i line : ℕ) (g : Callee) (args : Terms) → OverActuals Q A args → (p.marks.adjointed i ≡ true → IsName g.adjoint × ((is_runtime g.adjoint ≡ false) × (AreCarried g.shadowed p.marks.shadowed g.dummies (names_of args) × C g.adjoint (with_shadows g.shadowed g.dummies (names_of args))))) →
+      OverCode Q A C (code_if (is_emitted p.marks i) (code_if (p.marks.adjointed i) (pops p line (snapshot_group g (names_of args)) +++ one line (adjoint_call g (names_of args))) +++ pops p line (save_group p.marks i g (names_of args))))
   call_backward i line g args o f =
       let given = names_of args in
       let stand = names_stand args o in
@@ -169,16 +169,16 @@ module _ (Q : Var → Option ℕ → Type 0) (A : Var → Type 0) (p : Plan) (al
       (λ emitted. join (code_if (p.marks.adjointed i) (pops p line members +++ one line (adjoint_call g given))) _
       (guard (p.marks.adjointed i) (pops p line members +++ one line (adjoint_call g given))
       (λ t. join (pops p line members) (one line (adjoint_call g given)) (pops_over line members (group_stands (λ d. g.written d && g.members d) everything g.dummies given stand))
-      (let known = f t in ((known.0, (given_over g.shadowed g.dummies given known.1.1 stand, known.1.0)), tt))))
+      (let known = f t in ((known.0, (given_over g.shadowed g.dummies given known.1.1.0 stand, (known.1.0, known.1.1.1))), tt))))
       (pops_over line saves (group_stands g.written (p.marks.saved i) g.dummies given stand)))
 
   -- ---- rows
 
-  told_forward_over : (idle : Bool) (line n : ℕ) (c : Code) → n < 2 ^ 63 → OverCode Q A c → OverCode Q A (told_forward idle line c n)
+  told_forward_over : (idle : Bool) (line n : ℕ) (c : Code) → n < 2 ^ 63 → OverCode Q A C c → OverCode Q A C (told_forward idle line c n)
   told_forward_over true line n c w h = h
   told_forward_over false line n c w h = join c (one line (runtime (push_control (literal n)))) h (w, tt)
 
-  told_backward_over : (idle : Bool) (line : ℕ) (a b : Code) → (idle ≡ false → Q (helper control 0) (Some 0)) → OverCode Q A a → OverCode Q A b → OverCode Q A (told_backward idle line a b)
+  told_backward_over : (idle : Bool) (line : ℕ) (a b : Code) → (idle ≡ false → Q (helper control 0) (Some 0)) → OverCode Q A C a → OverCode Q A C b → OverCode Q A C (told_backward idle line a b)
   told_backward_over true line a b h ha hb = tt
   told_backward_over false line a b h ha hb = (h refl, (((h refl, one_word), (ha, hb)), tt))
 
@@ -189,10 +189,10 @@ module _ (Q : Var → Option ℕ → Type 0) (A : Var → Type 0) (p : Plan) (al
   Bounds k = Q (helper first k) (Some 0) × Q (helper stride k) (Some 0)
 
   -- the count goes up
-  count_over : (k line : ℕ) → Q (helper count k) (Some 0) → OverCode Q A (one line (assign (helper count k) none (bin plus (var (helper count k)) (literal 1))))
+  count_over : (k line : ℕ) → Q (helper count k) (Some 0) → OverCode Q A C (one line (assign (helper count k) none (bin plus (var (helper count k)) (literal 1))))
   count_over k line h = ((h, (h, one_word)), tt)
 
-  loop_forward_over : (idle : Bool) (k line : ℕ) (x : Var) (a b c : Term) (body : Code) → (idle ≡ false → Counts k × Bounds k) → Q x (Some 0) → OverTerm Q A a → OverTerm Q A b → OverTerm Q A c → OverCode Q A body → OverCode Q A (loop_forward idle k line x a b c body)
+  loop_forward_over : (idle : Bool) (k line : ℕ) (x : Var) (a b c : Term) (body : Code) → (idle ≡ false → Counts k × Bounds k) → Q x (Some 0) → OverTerm Q A a → OverTerm Q A b → OverTerm Q A c → OverCode Q A C body → OverCode Q A C (loop_forward idle k line x a b c body)
   loop_forward_over true k line x a b c body h q ha hb hc body_over = ((q, (ha, (hb, (hc, (body_over, tt))))), tt)
   loop_forward_over false k line x a b c body h q ha hb hc body_over =
       let counts = (h refl).0 in
@@ -207,7 +207,7 @@ module _ (Q : Var → Option ℕ → Type 0) (A : Var → Type 0) (p : Plan) (al
         ),
       )
 
-  loop_backward_over : (idle : Bool) (k line : ℕ) (x : Var) (body : Code) → (idle ≡ false → Counts k × Bounds k) → Q x (Some 0) → OverCode Q A body → OverCode Q A (loop_backward idle k line x body)
+  loop_backward_over : (idle : Bool) (k line : ℕ) (x : Var) (body : Code) → (idle ≡ false → Counts k × Bounds k) → Q x (Some 0) → OverCode Q A C body → OverCode Q A C (loop_backward idle k line x body)
   loop_backward_over true k line x body h q body_over = tt
   loop_backward_over false k line x body h q body_over =
       let counts = (h refl).0 in
@@ -222,15 +222,15 @@ module _ (Q : Var → Option ℕ → Type 0) (A : Var → Type 0) (p : Plan) (al
         ),
       )
 
-  while_forward_over : (idle : Bool) (k line : ℕ) (c : Test) (body : Code) → (idle ≡ false → Counts k) → OverTest Q A c → OverCode Q A body → OverCode Q A (while_forward idle k line c body)
+  while_forward_over : (idle : Bool) (k line : ℕ) (c : Test) (body : Code) → (idle ≡ false → Counts k) → OverTest Q A c → OverCode Q A C body → OverCode Q A C (while_forward idle k line c body)
   while_forward_over true k line c body h t body_over = ((t, body_over), tt)
   while_forward_over false k line c body h t body_over = let counts = h refl in ((counts.0, zero_word), ((t, join body _ body_over (count_over k line counts.0)), (counts.0, tt)))
 
-  while_backward_over : (idle : Bool) (k line : ℕ) (body : Code) → (idle ≡ false → Counts k) → OverCode Q A body → OverCode Q A (while_backward idle k line body)
+  while_backward_over : (idle : Bool) (k line : ℕ) (body : Code) → (idle ≡ false → Counts k) → OverCode Q A C body → OverCode Q A C (while_backward idle k line body)
   while_backward_over true k line body h body_over = tt
   while_backward_over false k line body h body_over = let counts = h refl in (counts.0, ((counts.1, ((counts.0, one_word), (zero_word, (one_word, (body_over, tt))))), tt))
 
-  reset_over : (i line : ℕ) (x : List ℕ) → Q (plain x) (Some 0) → OverCode Q A (reset p.marks i line x)
+  reset_over : (i line : ℕ) (x : List ℕ) → Q (plain x) (Some 0) → OverCode Q A C (reset p.marks i line x)
   reset_over i line x h =
       guard (resets p.marks i x) (one line (assign (shadow x) none (literal 0)))
       (λ t. let marked = and_true (p.marks.shadowed (plain x)) (p.marks.varied (point_before i) (plain x)) t in ((allows.shadows x (Some 0) marked.0 h, zero_word), tt))
@@ -242,18 +242,18 @@ module _ (Q : Var → Option ℕ → Type 0) (A : Var → Type 0) (p : Plan) (al
   bounded true n m h le = le
   bounded false n m h le = cc
 
-  assign_forward : (i line : ℕ) (x : List ℕ) (subs : Terms) (e : Term) → OverPlace Q A (plain x) subs → OverTerm Q A e → OverCode Q A (code_if (p.marks.kept i) (code_if (p.marks.saved i (plain x)) (one line (runtime (push_word (plain x) subs))) +++ one line (assign (plain x) subs e)))
+  assign_forward : (i line : ℕ) (x : List ℕ) (subs : Terms) (e : Term) → OverPlace Q A (plain x) subs → OverTerm Q A e → OverCode Q A C (code_if (p.marks.kept i) (code_if (p.marks.saved i (plain x)) (one line (runtime (push_word (plain x) subs))) +++ one line (assign (plain x) subs e)))
   assign_forward i line x subs e here w =
       guard (p.marks.kept i) (code_if (p.marks.saved i (plain x)) (one line (runtime (push_word (plain x) subs))) +++ one line (assign (plain x) subs e))
       (λ t. join (code_if (p.marks.saved i (plain x)) (one line (runtime (push_word (plain x) subs)))) (one line (assign (plain x) subs e)) (guard (p.marks.saved i (plain x)) (one line (runtime (push_word (plain x) subs))) (λ s. (here, tt))) ((here, w), tt))
 
   assign_backward : (i line : ℕ) (x : List ℕ) (subs : Terms) (e : Term) → OverPlace Q A (plain x) subs → OverTerm Q A e → (p.marks.adjointed i ≡ true → p.marks.shadowed (plain x) ≡ true) → works_act p.marks i (assign (plain x) subs e) ≤ works → temps_act p.marks i (assign (plain x) subs e) ≤ temps →
-      OverCode Q A (code_if (p.marks.kept i && p.marks.saved i (plain x)) (one line (runtime (pop_word (plain x) subs))) +++ code_if (p.marks.adjointed i) (adjoint_where (active_at p.marks i) x subs e line))
+      OverCode Q A C (code_if (p.marks.kept i && p.marks.saved i (plain x)) (one line (runtime (pop_word (plain x) subs))) +++ code_if (p.marks.adjointed i) (adjoint_where (active_at p.marks i) x subs e line))
   assign_backward i line x subs e here w f most all =
       join (code_if (p.marks.kept i && p.marks.saved i (plain x)) (one line (runtime (pop_word (plain x) subs)))) (code_if (p.marks.adjointed i) (adjoint_where (active_at p.marks i) x subs e line))
       (guard (p.marks.kept i && p.marks.saved i (plain x)) (one line (runtime (pop_word (plain x) subs))) (λ t. (here, tt)))
       (guard (p.marks.adjointed i) (adjoint_where (active_at p.marks i) x subs e line)
-      (λ t. adjoint_over (active_at p.marks i) Q A works temps work_stands temp_stands
+      (λ t. adjoint_over (active_at p.marks i) Q A C works temps work_stands temp_stands
       (λ y n on q. let marked = and_true (p.marks.varied (point_before i) (plain y)) (p.marks.shadowed (plain y)) on in allows.shadows y (Some n) marked.1 q) x subs e line
       (place_other Q A (plain x) (shadow x) subs (λ q. allows.shadows x (Some (standing.count_of subs)) (f t) q) here) w
       (bounded (p.marks.adjointed i) (works_in_where (active_at p.marks i) e 1) works t most) (bounded (p.marks.adjointed i) (temps_in_where (active_at p.marks i) e) temps t all)))
@@ -261,10 +261,10 @@ module _ (Q : Var → Option ℕ → Type 0) (A : Var → Type 0) (p : Plan) (al
   -- ---- statements and lists
 
   abbrev BothOf : ℕ → ℕ → ℕ → Act → Type 0
-  BothOf i d line a = OverCode Q A (forward_act p i d line a) × OverCode Q A (backward_act p i d line a)
+  BothOf i d line a = OverCode Q A C (forward_act p i d line a) × OverCode Q A C (backward_act p i d line a)
 
   abbrev Both : ℕ → ℕ → Code → Type 0
-  Both i d c = OverCode Q A (forward p i d c) × OverCode Q A (backward p i d c)
+  Both i d c = OverCode Q A C (forward p i d c) × OverCode Q A C (backward p i d c)
 
   -- the helpers of a list that has a backward sweep stand
   abbrev IsHelped : ℕ → ℕ → Code → Type 0
@@ -273,9 +273,9 @@ module _ (Q : Var → Option ℕ → Type 0) (A : Var → Type 0) (p : Plan) (al
   choose_over : (i d line : ℕ) (c : Test) (a b : Code) → OverTest Q A c → (is_empty (backward_act p i d line (choose c a b)) ≡ false → HelpedAct Q p i d (choose c a b)) → (IsHelped (suc i) d a → Both (suc i) d a) → (IsHelped (behind (suc i) a) d b → Both (behind (suc i) a) d b) → BothOf i d line (choose c a b)
   choose_over i d line c a b o h one_part other_part = (
     guard (is_emitted p.marks i) (one line (choose c (told_forward (idle_parts Q p i d a b) line (forward p (suc i) d a) 1) (told_forward (idle_parts Q p i d a b) line (forward p (behind (suc i) a) d b) 0)))
-    (λ t. ((o, (told_forward_over (idle_parts Q p i d a b) line 1 (forward p (suc i) d a) one_word (inside t).0, told_forward_over (idle_parts Q p i d a b) line 0 (forward p (behind (suc i) a) d b) zero_word (outside t).0)), tt)),
+        (λ t. ((o, (told_forward_over (idle_parts Q p i d a b) line 1 (forward p (suc i) d a) one_word (inside t).0, told_forward_over (idle_parts Q p i d a b) line 0 (forward p (behind (suc i) a) d b) zero_word (outside t).0)), tt)),
     guard (is_emitted p.marks i) (told_backward (idle_parts Q p i d a b) line (backward p (suc i) d a) (backward p (behind (suc i) a) d b))
-    (λ t. told_backward_over (idle_parts Q p i d a b) line (backward p (suc i) d a) (backward p (behind (suc i) a) d b) (λ e. let there = told t e in there.controls (tells_here Q p i d c a b e)) (inside t).1 (outside t).1),
+        (λ t. told_backward_over (idle_parts Q p i d a b) line (backward p (suc i) d a) (backward p (behind (suc i) a) d b) (λ e. let there = told t e in there.controls (tells_here Q p i d c a b e)) (inside t).1 (outside t).1),
   )
     where
       told : is_emitted p.marks i ≡ true → idle_parts Q p i d a b ≡ false → HelpedAct Q p i d (choose c a b)
@@ -290,11 +290,11 @@ module _ (Q : Var → Option ℕ → Type 0) (A : Var → Type 0) (p : Plan) (al
   loop_over : (i d line : ℕ) (x : List ℕ) (a b c : Term) (body : Code) (m : Mark) → Q (plain x) (Some 0) → OverTerm Q A a → OverTerm Q A b → OverTerm Q A c → (is_empty (backward_act p i d line (loop (plain x) a b c body m)) ≡ false → HelpedAct Q p i d (loop (plain x) a b c body m)) → (IsHelped (suc i) (suc d) body → Both (suc i) (suc d) body) → BothOf i d line (loop (plain x) a b c body m)
   loop_over i d line x a b c body m q oa ob oc h whole = (
     guard (is_emitted p.marks i) (code_if (p.marks.saved i (plain x)) (one line (runtime (push_word (plain x) none))) +++ loop_forward (idle_body Q p i d body) (suc d) line (plain x) a b c (forward p (suc i) (suc d) body))
-    (λ t. join (code_if (p.marks.saved i (plain x)) (one line (runtime (push_word (plain x) none)))) _ (guard (p.marks.saved i (plain x)) (one line (runtime (push_word (plain x) none))) (λ s. (q, tt)))
-    (loop_forward_over (idle_body Q p i d body) (suc d) line (plain x) a b c (forward p (suc i) (suc d) body) (helpers t) q oa ob oc (inside t).0)),
+        (λ t. join (code_if (p.marks.saved i (plain x)) (one line (runtime (push_word (plain x) none)))) _ (guard (p.marks.saved i (plain x)) (one line (runtime (push_word (plain x) none))) (λ s. (q, tt)))
+        (loop_forward_over (idle_body Q p i d body) (suc d) line (plain x) a b c (forward p (suc i) (suc d) body) (helpers t) q oa ob oc (inside t).0)),
     guard (is_emitted p.marks i) (loop_backward (idle_body Q p i d body) (suc d) line (plain x) (backward p (suc i) (suc d) body) +++ (code_if (p.marks.saved i (plain x)) (one line (runtime (pop_word (plain x) none))) +++ reset p.marks i line x))
-    (λ t. join (loop_backward (idle_body Q p i d body) (suc d) line (plain x) (backward p (suc i) (suc d) body)) _ (loop_backward_over (idle_body Q p i d body) (suc d) line (plain x) (backward p (suc i) (suc d) body) (helpers t) q (inside t).1)
-    (join (code_if (p.marks.saved i (plain x)) (one line (runtime (pop_word (plain x) none)))) (reset p.marks i line x) (guard (p.marks.saved i (plain x)) (one line (runtime (pop_word (plain x) none))) (λ s. (q, tt))) (reset_over i line x q))),
+        (λ t. join (loop_backward (idle_body Q p i d body) (suc d) line (plain x) (backward p (suc i) (suc d) body)) _ (loop_backward_over (idle_body Q p i d body) (suc d) line (plain x) (backward p (suc i) (suc d) body) (helpers t) q (inside t).1)
+        (join (code_if (p.marks.saved i (plain x)) (one line (runtime (pop_word (plain x) none)))) (reset p.marks i line x) (guard (p.marks.saved i (plain x)) (one line (runtime (pop_word (plain x) none))) (λ s. (q, tt))) (reset_over i line x q))),
   )
     where
       told : is_emitted p.marks i ≡ true → idle_body Q p i d body ≡ false → HelpedAct Q p i d (loop (plain x) a b c body m)
@@ -309,9 +309,9 @@ module _ (Q : Var → Option ℕ → Type 0) (A : Var → Type 0) (p : Plan) (al
   while_over : (i d line : ℕ) (c : Test) (body : Code) → OverTest Q A c → (is_empty (backward_act p i d line (during c body)) ≡ false → HelpedAct Q p i d (during c body)) → (IsHelped (suc i) (suc d) body → Both (suc i) (suc d) body) → BothOf i d line (during c body)
   while_over i d line c body o h whole = (
     guard (is_emitted p.marks i) (while_forward (idle_body Q p i d body) (suc d) line c (forward p (suc i) (suc d) body))
-    (λ t. while_forward_over (idle_body Q p i d body) (suc d) line c (forward p (suc i) (suc d) body) (λ e. while_counts Q p i d c body e (told t e)) o (inside t).0),
+        (λ t. while_forward_over (idle_body Q p i d body) (suc d) line c (forward p (suc i) (suc d) body) (λ e. while_counts Q p i d c body e (told t e)) o (inside t).0),
     guard (is_emitted p.marks i) (while_backward (idle_body Q p i d body) (suc d) line (backward p (suc i) (suc d) body))
-    (λ t. while_backward_over (idle_body Q p i d body) (suc d) line (backward p (suc i) (suc d) body) (λ e. while_counts Q p i d c body e (told t e)) (inside t).1),
+        (λ t. while_backward_over (idle_body Q p i d body) (suc d) line (backward p (suc i) (suc d) body) (λ e. while_counts Q p i d c body e (told t e)) (inside t).1),
   )
     where
       told : is_emitted p.marks i ≡ true → idle_body Q p i d body ≡ false → HelpedAct Q p i d (during c body)
@@ -333,7 +333,7 @@ module _ (Q : Var → Option ℕ → Type 0) (A : Var → Type 0) (p : Plan) (al
       later = others (λ e. helped_rest Q p i d line a rest (h (empty_first (backward p (next i a) d rest) (backward_act p i d line a) e)))
 
   mutual
-    act_over : (i d line : ℕ) (a : Act) → FollowsAct p i a → OverAct Q A a → (is_empty (backward_act p i d line a) ≡ false → HelpedAct Q p i d a) → works_act p.marks i a ≤ works → temps_act p.marks i a ≤ temps → BothOf i d line a
+    act_over : (i d line : ℕ) (a : Act) → FollowsAct C p i a → OverAct Q A Any a → (is_empty (backward_act p i d line a) ≡ false → HelpedAct Q p i d a) → works_act p.marks i a ≤ works → temps_act p.marks i a ≤ temps → BothOf i d line a
     act_over i d line (assign (plain x) subs e) f o h most all = (assign_forward i line x subs e o.0 o.1, assign_backward i line x subs e o.0 o.1 f most all)
     act_over i d line (assign (shadow x) subs e) f o h most all = (tt, tt)
     act_over i d line (assign (helper r k) subs e) f o h most all = (tt, tt)
@@ -342,26 +342,26 @@ module _ (Q : Var → Option ℕ → Type 0) (A : Var → Type 0) (p : Plan) (al
     act_over i d line (loop (shadow x) a b c body m) f o h most all = (tt, tt)
     act_over i d line (loop (helper r k) a b c body m) f o h most all = (tt, tt)
     act_over i d line (during c body) f o h most all = while_over i d line c body o.0 h (λ g. code_over (suc i) (suc d) body f o.1 g most all)
-    act_over i d line (call name args) f o h most all = (call_forward i line (p.callees name) name args o, call_backward i line (p.callees name) args o.1.0 f)
+    act_over i d line (call name args) f o h most all = (call_forward i line (p.callees name) name args o f.0, call_backward i line (p.callees name) args o.1.0 f.1)
     act_over i d line (runtime r) f o h most all = (tt, tt)
 
-    code_over : (i d : ℕ) (c : Code) → Follows p i c → OverCode Q A c → IsHelped i d c → works_used p.marks i c ≤ works → temps_used p.marks i c ≤ temps → Both i d c
+    code_over : (i d : ℕ) (c : Code) → Follows C p i c → OverCode Q A Any c → IsHelped i d c → works_used p.marks i c ≤ works → temps_used p.marks i c ≤ temps → Both i d c
     code_over i d stop f o h most all = (tt, tt)
     code_over i d (step line a rest) f o h most all = list_over i d line a rest (λ g. act_over i d line a f.0 o.0 g (omega arith) (omega arith)) (λ g. code_over (next i a) d rest f.1 o.1 g (omega arith) (omega arith)) h
 
   -- ---- a unit's body
 
-  cleared_over : (line : ℕ) (xs : List (List ℕ)) → Each (λ x. Q (plain x) None × (p.marks.shadowed (plain x) ≡ true)) xs → OverCode Q A (cleared p line xs)
+  cleared_over : (line : ℕ) (xs : List (List ℕ)) → Each (λ x. Q (plain x) None × (p.marks.shadowed (plain x) ≡ true)) xs → OverCode Q A C (cleared p line xs)
   cleared_over line [] h = tt
   cleared_over line (x ∷ xs) h =
       join (if p.arrays (plain x) then one line (runtime (zero_array (shadow x))) else one line (assign (shadow x) none (literal 0))) (cleared p line xs) (go (p.arrays (plain x)) refl) (cleared_over line xs h.1)
     where
-      go : (b : Bool) → p.arrays (plain x) ≡ b → OverCode Q A (if b then one line (runtime (zero_array (shadow x))) else one line (assign (shadow x) none (literal 0)))
+      go : (b : Bool) → p.arrays (plain x) ≡ b → OverCode Q A C (if b then one line (runtime (zero_array (shadow x))) else one line (assign (shadow x) none (literal 0)))
       go true e = ((allows.shadows x None h.0.1 h.0.0, allows.whole_shadows x h.0.1 e h.0.0), tt)
       go false e = ((allows.shadows x (Some 0) h.0.1 (allows.scalars x e h.0.0), zero_word), tt)
 
-  pub body_over : (i line : ℕ) (c : Code) (at_turn at_end : List (List ℕ)) → Follows p i c → OverCode Q A c → Helped Q p i 0 c → works_used p.marks i c ≤ works → temps_used p.marks i c ≤ temps →
-      Each (λ x. Q (plain x) None × (p.marks.shadowed (plain x) ≡ true)) at_turn → Each (λ x. Q (plain x) None × (p.marks.shadowed (plain x) ≡ true)) at_end → OverCode Q A (adjoint_body p i line c at_turn at_end)
+  pub body_over : (i line : ℕ) (c : Code) (at_turn at_end : List (List ℕ)) → Follows C p i c → OverCode Q A Any c → Helped Q p i 0 c → works_used p.marks i c ≤ works → temps_used p.marks i c ≤ temps →
+      Each (λ x. Q (plain x) None × (p.marks.shadowed (plain x) ≡ true)) at_turn → Each (λ x. Q (plain x) None × (p.marks.shadowed (plain x) ≡ true)) at_end → OverCode Q A C (adjoint_body p i line c at_turn at_end)
   body_over i line c at_turn at_end f o h most all turned ended =
       let both = code_over i 0 c f o (λ e. h) most all in
       join (forward p i 0 c) _ both.0 (join (cleared p line at_turn) _ (cleared_over line at_turn turned) (join (backward p i 0 c) (cleared p line at_end) both.1 (cleared_over line at_end ended)))

@@ -29,7 +29,7 @@ abbrev pub among : Var → List Var → Bool
 among v [] = false
 among v (w ∷ ws) = var_eq v w || among v ws
 
-has_var-append : (v : Var) (ps qs : List Named) → has_var v (ps ++ qs) ≡ (has_var v ps || has_var v qs)
+pub has_var-append : (v : Var) (ps qs : List Named) → has_var v (ps ++ qs) ≡ (has_var v ps || has_var v qs)
 has_var-append v [] qs = refl
 has_var-append v (p ∷ ps) qs = ap (λ b. var_eq v p.variable || b) (has_var-append v ps qs) ∙ sym (or_assoc (var_eq v p.variable) (has_var v ps) (has_var v qs))
 
@@ -37,19 +37,19 @@ pub among-append : (v : Var) (vs ws : List Var) → among v (vs ++ ws) ≡ (amon
 among-append v [] ws = refl
 among-append v (w ∷ vs) ws = ap (λ b. var_eq v w || b) (among-append v vs ws) ∙ sym (or_assoc (var_eq v w) (among v vs) (among v ws))
 
-has_made : (v : Var) (taken : List (List ℕ)) (ws : List Var) → has_var v (named taken ws) ≡ among v ws
+pub has_made : (v : Var) (taken : List (List ℕ)) (ws : List Var) → has_var v (named taken ws) ≡ among v ws
 has_made v taken [] = refl
 has_made v taken (w ∷ ws) = ap (λ b. var_eq v w || b) (has_made v (taken ++ (fresh (wanted w) taken ∷ [])) ws)
 
-has_own : (x : List ℕ) (xs : List (List ℕ)) → has_var (plain x) (map own xs) ≡ has_name x xs
+pub has_own : (x : List ℕ) (xs : List (List ℕ)) → has_var (plain x) (map own xs) ≡ has_name x xs
 has_own x [] = refl
 has_own x (y ∷ xs) = ap (λ b. name_eq x y || b) (has_own x xs)
 
-among_shadows : (x : List ℕ) (xs : List (List ℕ)) → among (shadow x) (map shadow xs) ≡ has_name x xs
+pub among_shadows : (x : List ℕ) (xs : List (List ℕ)) → among (shadow x) (map shadow xs) ≡ has_name x xs
 among_shadows x [] = refl
 among_shadows x (y ∷ xs) = ap (λ b. name_eq x y || b) (among_shadows x xs)
 
-plain_no_shadow : (x : List ℕ) (xs : List (List ℕ)) → among (plain x) (map shadow xs) ≡ false
+pub plain_no_shadow : (x : List ℕ) (xs : List (List ℕ)) → among (plain x) (map shadow xs) ≡ false
 plain_no_shadow x [] = refl
 plain_no_shadow x (y ∷ xs) = plain_no_shadow x xs
 
@@ -80,11 +80,17 @@ helpers_append (plain x ∷ vs) ws h g = absurd h
 helpers_append (shadow x ∷ vs) ws h g = absurd h
 helpers_append (helper r k ∷ vs) ws h g = helpers_append vs ws h g
 
-plain_no_helper : (x : List ℕ) (vs : List Var) → AreHelpers vs → among (plain x) vs ≡ false
+pub plain_no_helper : (x : List ℕ) (vs : List Var) → AreHelpers vs → among (plain x) vs ≡ false
 plain_no_helper x [] h = refl
 plain_no_helper x (plain y ∷ vs) h = absurd h
 plain_no_helper x (shadow y ∷ vs) h = absurd h
 plain_no_helper x (helper r k ∷ vs) h = plain_no_helper x vs h
+
+pub shadow_no_helper : (x : List ℕ) (vs : List Var) → AreHelpers vs → among (shadow x) vs ≡ false
+shadow_no_helper x [] h = refl
+shadow_no_helper x (plain y ∷ vs) h = absurd h
+shadow_no_helper x (shadow y ∷ vs) h = absurd h
+shadow_no_helper x (helper r k ∷ vs) h = shadow_no_helper x vs h
 
 pub from_helpers : (r : Role) (k n : ℕ) → AreHelpers (helpers_from r k n)
 from_helpers r k zero = tt
@@ -199,6 +205,23 @@ made_free taken [] h t = tt
 made_free taken (v ∷ vs) h t =
     ((fresh-name (wanted v) taken h.0, t (fresh (wanted v) taken) (fresh-is_free (wanted v) taken)), made_free (taken ++ (fresh (wanted v) taken ∷ [])) vs h.1 (λ x n. t x (or_false (has_name x taken) (has_name x (fresh (wanted v) taken ∷ [])) (sym (has-append x taken (fresh (wanted v) taken ∷ [])) ∙ n)).0))
 
+-- a name that was made wasn't taken
+made_untaken : (taken : List (List ℕ)) (ws : List Var) (v : Var) → has_var v (named taken ws) ≡ true → has_name (name_in (named taken ws) v) taken ≡ false
+made_untaken taken [] v h = absurd cc
+made_untaken taken (w ∷ ws) v h = go (var_eq v w) h (made_untaken (taken ++ (fresh (wanted w) taken ∷ [])) ws v)
+  where
+    go : (b : Bool) → (b || has_var v (named (taken ++ (fresh (wanted w) taken ∷ [])) ws)) ≡ true → (has_var v (named (taken ++ (fresh (wanted w) taken ∷ [])) ws) ≡ true → has_name (name_in (named (taken ++ (fresh (wanted w) taken ∷ [])) ws) v) (taken ++ (fresh (wanted w) taken ∷ [])) ≡ false) →
+        has_name (if b then fresh (wanted w) taken else name_in (named (taken ++ (fresh (wanted w) taken ∷ [])) ws) v) taken ≡ false
+    go true h ih = fresh-is_free (wanted w) taken
+    go false h ih =
+        let z = name_in (named (taken ++ (fresh (wanted w) taken ∷ [])) ws) v in
+        (or_false (has_name z taken) (has_name z (fresh (wanted w) taken ∷ [])) (sym (has-append z taken (fresh (wanted w) taken ∷ [])) ∙ ih h)).0
+
+-- a variable that isn't of the text is looked for behind the own names
+behind_own : (xs : List (List ℕ)) (qs : List Named) (v : Var) → has_var v (map own xs) ≡ false → name_in (map own xs ++ qs) v ≡ name_in qs v
+behind_own [] qs v h = refl
+behind_own (x ∷ xs) qs v h = let p = or_false (var_eq v (plain x)) (has_var v (map own xs)) h in ap (λ b. if b then x else name_in (map own xs ++ qs) v) p.0 ∙ behind_own xs qs v p.1
+
 -- ---- the table of a unit with these variables, of which some have shadows, and these helpers
 
 module _ (vs units : List (List ℕ)) (a : Vars) (hs : List Var) (free : Each IsFree vs) (helpers : AreHelpers hs) where
@@ -248,3 +271,13 @@ module _ (vs units : List (List ℕ)) (a : Vars) (hs : List Var) (free : Each Is
   -- and the helpers
   pub has_helper : (v : Var) → among v hs ≡ true → has_var v table ≡ true
   has_helper v h = has_other v (among-append v (map shadow (names_in a vs)) hs ∙ or_right (among v (map shadow (names_in a vs))) (among v hs) h)
+
+  -- whose names aren't those of units
+  pub made_no_unit : (v : Var) → has_var v (map own vs) ≡ false → has_var v table ≡ true → has_name (name_in table v) units ≡ false
+  made_no_unit v n h =
+      let taken = vs ++ (units ++ reserved) in
+      let z = name_in (named (vs ++ (units ++ reserved)) made) v in
+      let inside : has_var v (named (vs ++ (units ++ reserved)) made) ≡ true = sym (ap (λ b. b || has_var v (named (vs ++ (units ++ reserved)) made)) n) ∙ (sym (has_var-append v (map own vs) (named (vs ++ (units ++ reserved)) made)) ∙ h) in
+      let free : has_name z (vs ++ (units ++ reserved)) ≡ false = made_untaken (vs ++ (units ++ reserved)) made v inside in
+      let behind : has_name z (units ++ reserved) ≡ false = (or_false (has_name z vs) (has_name z (units ++ reserved)) (sym (has-append z vs (units ++ reserved)) ∙ free)).1 in
+      ap (λ y. has_name y units) (behind_own vs (named (vs ++ (units ++ reserved)) made) v n) ∙ (or_false (has_name z units) (has_name z reserved) (sym (has-append z units reserved) ∙ behind)).0

@@ -28,7 +28,7 @@ use Rattle.adj_checked.proofs.Lists.{Each, each_more, none_front, none_behind, n
 use Rattle.adj_checked.proofs.Units.{unit_names}
 use Rattle.adj_emitted.specs.Emitted.{UnitsHaveNone}
 use Rattle.adj_emitted.proofs.MadeNames.{adjoint_named, made_unreserved}
-use Rattle.adj_emitted.proofs.Programs.{all_named, each_there}
+use Rattle.adj_emitted.proofs.Sources.{all_named, each_there}
 
 -- ---- lists without faults
 
@@ -82,20 +82,20 @@ module _ (m : ProgramMarks) (ps : List Procedure) (head : Procedure) (vars outva
   -- ---- they have names of their own
 
   -- a name that neither the units nor their adjoints have is none of those emitted
-  not_emitted : (z : List ℕ) (us : List Procedure) → Each (λ u. (name_eq z u.name ≡ false) × (name_eq z (adj u.name) ≡ false)) us → has_name z (map unit_name (emitted_units m ps head vars outvars us)) ≡ false
+  pub not_emitted : (z : List ℕ) (us : List Procedure) → Each (λ u. (name_eq z u.name ≡ false) × (has_adjoint m ps head u.name ≡ true → name_eq z (adj u.name) ≡ false)) us → has_name z (map unit_name (emitted_units m ps head vars outvars us)) ≡ false
   not_emitted z [] h = refl
-  not_emitted z (u ∷ us) h = carried (is_carried m ps head u.name) (made (has_adjoint m ps head u.name) (not_emitted z us h.1))
+  not_emitted z (u ∷ us) h = carried (is_carried m ps head u.name) (made (has_adjoint m ps head u.name) h.0.1 (not_emitted z us h.1))
     where
-      made : (b : Bool) → has_name z (map unit_name (emitted_units m ps head vars outvars us)) ≡ false → has_name z (map unit_name ((if b then emitted_adjoint m ps head vars outvars u ∷ [] else []) ++ emitted_units m ps head vars outvars us)) ≡ false
-      made true ih = rw (ap (name_eq z) (made_name u) ∙ h.0.1, ih) refl
-      made false ih = ih
+      made : (b : Bool) → (b ≡ true → name_eq z (adj u.name) ≡ false) → has_name z (map unit_name (emitted_units m ps head vars outvars us)) ≡ false → has_name z (map unit_name ((if b then emitted_adjoint m ps head vars outvars u ∷ [] else []) ++ emitted_units m ps head vars outvars us)) ≡ false
+      made true f ih = rw (ap (name_eq z) (made_name u) ∙ f refl, ih) refl
+      made false f ih = ih
 
       carried : (b : Bool) → has_name z (map unit_name ((if has_adjoint m ps head u.name then emitted_adjoint m ps head vars outvars u ∷ [] else []) ++ emitted_units m ps head vars outvars us)) ≡ false → has_name z (map unit_name ((if b then u ∷ [] else []) ++ ((if has_adjoint m ps head u.name then emitted_adjoint m ps head vars outvars u ∷ [] else []) ++ emitted_units m ps head vars outvars us))) ≡ false
       carried true ih = rw (h.0.0, ih) refl
       carried false ih = ih
 
   -- a unit that stands in a list is none of whose names the list hasn't
-  others_apart : (us : List Procedure) (z : List ℕ) → has_name z (map unit_name us) ≡ false → Each (λ u. name_eq z u.name ≡ false) us
+  pub others_apart : (us : List Procedure) (z : List ℕ) → has_name z (map unit_name us) ≡ false → Each (λ u. name_eq z u.name ≡ false) us
   others_apart [] z h = tt
   others_apart (u ∷ us) z h = let p = or_false (name_eq z u.name) (has_name z (map unit_name us)) h in (p.0, others_apart us z p.1)
 
@@ -112,13 +112,13 @@ module _ (m : ProgramMarks) (ps : List Procedure) (head : Procedure) (vars outva
 
       -- neither its name nor that of its adjoint is among the others
       own_free : has_name u.name (map unit_name (emitted_units m ps head vars outvars us)) ≡ false
-      own_free = not_emitted u.name us (each_more (λ v. (name_eq u.name v.name ≡ false) × (is_unit ps v.name ≡ true)) (λ v. (name_eq u.name v.name ≡ false) × (name_eq u.name (adj v.name) ≡ false)) (λ v k. (k.0, apart_source m ps head vars outvars u.name v.name t.0 k.1)) us other)
+      own_free = not_emitted u.name us (each_more (λ v. (name_eq u.name v.name ≡ false) × (is_unit ps v.name ≡ true)) (λ v. (name_eq u.name v.name ≡ false) × (has_adjoint m ps head v.name ≡ true → name_eq u.name (adj v.name) ≡ false)) (λ v k. (k.0, λ h. apart_source m ps head vars outvars u.name v.name t.0 k.1)) us other)
 
       made_free : has_name (adj u.name) (map unit_name (emitted_units m ps head vars outvars us)) ≡ false
       made_free =
           not_emitted (adj u.name) us
-          (each_more (λ v. (name_eq u.name v.name ≡ false) × (is_unit ps v.name ≡ true)) (λ v. (name_eq (adj u.name) v.name ≡ false) × (name_eq (adj u.name) (adj v.name) ≡ false))
-          (λ v k. (name_comm v.name (adj u.name) (apart_source m ps head vars outvars v.name u.name k.1 t.0), adjoints_apart (source_names ps) ps u.name v.name t.0 k.1 k.0)) us other)
+          (each_more (λ v. (name_eq u.name v.name ≡ false) × (is_unit ps v.name ≡ true)) (λ v. (name_eq (adj u.name) v.name ≡ false) × (has_adjoint m ps head v.name ≡ true → name_eq (adj u.name) (adj v.name) ≡ false))
+          (λ v k. (name_comm v.name (adj u.name) (apart_source m ps head vars outvars v.name u.name k.1 t.0), λ h. adjoints_apart (source_names ps) ps u.name v.name t.0 k.1 k.0)) us other)
 
       made : (b : Bool) → AreApart (map unit_name (emitted_units m ps head vars outvars us)) → AreApart (map unit_name ((if b then emitted_adjoint m ps head vars outvars u ∷ [] else []) ++ emitted_units m ps head vars outvars us))
       made true ih = (ap (λ z. has_name z (map unit_name (emitted_units m ps head vars outvars us))) (made_name u) ∙ made_free, ih)

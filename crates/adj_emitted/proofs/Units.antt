@@ -28,26 +28,14 @@ use Rattle.adj_checked.proofs.Lists.{Each, each_more}
 use Rattle.adj_checked.proofs.Texts.{Known}
 use Rattle.adj_checked.proofs.Statements.{CallHasNone}
 use Rattle.adj_checked.proofs.Units.{names_known}
-use Rattle.adj_emitted.proofs.Over.{OverCode}
+use Rattle.adj_emitted.proofs.Over.{OverCode, Any}
 use Rattle.adj_emitted.proofs.Follows.{Follows}
 use Rattle.adj_emitted.proofs.Sweeps.{Allows, body_over}
 use Rattle.adj_emitted.proofs.Renamed.{written_code}
 use Rattle.adj_emitted.proofs.Source.{source_code}
 use Rattle.adj_emitted.proofs.Used.{used_helpers, used_works, used_temps, all_helped}
+use Rattle.adj_emitted.proofs.Sources.{each_name, of_each}
 use Rattle.adj_emitted.proofs.Tables.{IsFree, has_var, among, named_free, named_indexed, has_plain, plain_known, has_shadow, has_helper}
-
--- what holds of each name of a list
-pub each_name : (P : List ℕ → Type 0) (xs : List (List ℕ)) → ((x : List ℕ) → has_name x xs ≡ true → P x) → Each P xs
-each_name P [] f = tt
-each_name P (x ∷ xs) f = (f x (or_left (name_eq x x) (has_name x xs) (name_refl x)), each_name P xs (λ y h. f y (or_right (name_eq y x) (has_name y xs) h)))
-
-pub of_each : (P : List ℕ → Type 0) (xs : List (List ℕ)) → Each P xs → (x : List ℕ) → has_name x xs ≡ true → P x
-of_each P [] e x h = absurd cc
-of_each P (y ∷ xs) e x h = go (name_eq x y) refl h (of_each P xs e.1 x)
-  where
-    go : (b : Bool) → name_eq x y ≡ b → (b || has_name x xs) ≡ true → (has_name x xs ≡ true → P x) → P x
-    go true d h ih = subst P (sym (name_same x y d)) e.0
-    go false d h ih = ih h
 
 -- the marked ones of a list
 pub each_marked : (P : List ℕ → Type 0) (a : Vars) (xs : List (List ℕ)) → Each P xs → Each (λ x. P x × (a (plain x) ≡ true)) (names_in a xs)
@@ -63,7 +51,7 @@ all_each P [] h = All-nil P
 all_each P (x ∷ xs) h = All-cons P x xs h.0 (all_each P xs h.1)
 
 -- each variable of a list stands in it
-each_var : (P : Var → Type 0) (vs : List Var) → ((v : Var) → among v vs ≡ true → P v) → Each P vs
+pub each_var : (P : Var → Type 0) (vs : List Var) → ((v : Var) → among v vs ≡ true → P v) → Each P vs
 each_var P [] f = tt
 each_var P (v ∷ vs) f = (f v (or_left (var_eq v v) (among v vs) (var_refl v)), each_var P vs (λ w h. f w (or_right (var_eq w v) (among w vs) h)))
 
@@ -86,7 +74,7 @@ other_written d x h w = record { named = h; few_extents = w.few_extents; extents
 
 -- ---- the adjoint of a unit
 
-module _ (m : ProgramMarks) (ps : List Procedure) (units : List (List ℕ)) (u : Procedure) (written : IsWrittenProcedure u) (kernel : IsKernelCode u.body) (free : Each IsFree (variables u)) (calls : Each (CallHasNone ps u) (statements u.body)) (follows : Follows (plan_in m ps u) (first_statement ps u.name) u.body) where
+module _ (m : ProgramMarks) (ps : List Procedure) (units : List (List ℕ)) (u : Procedure) (written : IsWrittenProcedure u) (kernel : IsKernelCode u.body) (free : Each IsFree (variables u)) (calls : Each (CallHasNone ps u) (statements u.body)) (follows : Follows Any (plan_in m ps u) (first_statement ps u.name) u.body) where
   abbrev p : Plan
   p = plan_in m ps u
 
@@ -117,15 +105,15 @@ module _ (m : ProgramMarks) (ps : List Procedure) (units : List (List ℕ)) (u :
     scalars = λ x e q. q;
   }
 
-  source : OverCode Q A u.body
+  source : OverCode Q A Any u.body
   source = source_code Q A (Known (variables u)) (λ x n k. has_plain (variables u) units a hs free (used_helpers p i u.body) x k) ps u u.body written.body kernel (names_known u) calls
 
   helper_stands : (v : Var) → among v hs ≡ true → Q v (Some 0)
   helper_stands v h = has_helper (variables u) units a hs free (used_helpers p i u.body) v h
 
-  body_written : (line : ℕ) (at_turn at_end : List (List ℕ)) → Each (λ x. (has_name x (variables u) ≡ true) × (a (plain x) ≡ true)) at_turn → Each (λ x. (has_name x (variables u) ≡ true) × (a (plain x) ≡ true)) at_end → OverCode Q A (adjoint_body p i line u.body at_turn at_end)
+  body_written : (line : ℕ) (at_turn at_end : List (List ℕ)) → Each (λ x. (has_name x (variables u) ≡ true) × (a (plain x) ≡ true)) at_turn → Each (λ x. (has_name x (variables u) ≡ true) × (a (plain x) ≡ true)) at_end → OverCode Q A Any (adjoint_body p i line u.body at_turn at_end)
   body_written line at_turn at_end turned ended =
-      body_over Q A p allows (works_used p.marks i u.body) (temps_used p.marks i u.body) (λ k low high. helper_stands (helper work k) (used_works p i u.body k low high)) (λ k low high. helper_stands (helper temp k) (used_temps p i u.body k low high)) i line u.body at_turn at_end follows source (all_helped p i u.body Q helper_stands) (omega arith) (omega arith) (stand at_turn turned) (stand at_end ended)
+      body_over Q A Any p allows (works_used p.marks i u.body) (temps_used p.marks i u.body) (λ k low high. helper_stands (helper work k) (used_works p i u.body k low high)) (λ k low high. helper_stands (helper temp k) (used_temps p i u.body k low high)) i line u.body at_turn at_end follows source (all_helped p i u.body Q helper_stands) (omega arith) (omega arith) (stand at_turn turned) (stand at_end ended)
     where
       stand : (xs : List (List ℕ)) → Each (λ x. (has_name x (variables u) ≡ true) × (a (plain x) ≡ true)) xs → Each (λ x. Q (plain x) None × (a (plain x) ≡ true)) xs
       stand xs h = each_more (λ x. (has_name x (variables u) ≡ true) × (a (plain x) ≡ true)) (λ x. Q (plain x) None × (a (plain x) ≡ true)) (λ x k. (has_plain (variables u) units a hs free (used_helpers p i u.body) x k.0, k.1)) xs h
@@ -173,5 +161,5 @@ module _ (m : ProgramMarks) (ps : List Procedure) (units : List (List ℕ)) (u :
     named = named;
     dummies = all_each IsName (shadows_behind a ns u.dummies) (dummies_written u.dummies dummies_known);
     declarations = All-append IsWrittenDeclaration (declared_behind a ns u (variables u)) (declared_helpers ns u.line hs) (declared_written (variables u) variables_known) (helpers_written u.line hs helper_names);
-    body = written_code Q A (naming ns) (λ v n q. named_indexed (variables u) units a hs free (used_helpers p i u.body) v q) (adjoint_body p i u.line u.body at_turn at_end) (body_written u.line at_turn at_end turned ended);
+    body = written_code Q A Any (naming ns) (λ v n q. named_indexed (variables u) units a hs free (used_helpers p i u.body) v q) (adjoint_body p i u.line u.body at_turn at_end) (body_written u.line at_turn at_end turned ended);
   }

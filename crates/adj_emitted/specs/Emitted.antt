@@ -2,8 +2,10 @@
 use Rattle.std.specs.Prelude.{◌≡◌, ℕ, List, [], Bool}
 use Rattle.adj_tree.specs.Code.{Procedure}
 use Rattle.adj_text.specs.Written.{IsWritten}
-use Rattle.adj_names.specs.Fault.{Rules}
+use Rattle.adj_names.specs.Fault.{Rules, run_rules}
 use Rattle.adj_names.specs.UnitFaults.{unit_faults}
+use Rattle.adj_names.specs.NameFaults.{name_faults}
+use Rattle.adj_names.specs.CallFaults.{call_faults}
 use Rattle.adj_reverse.specs.Marking.{ProgramMarks, full_marks}
 use Rattle.adj_reverse.specs.Program.{emitted_program}
 use Rattle.adj_checked.specs.Checked.{IsChecked}
@@ -24,3 +26,15 @@ EmittedIsWritten = (rules : Rules) (ps : List Procedure) → IsChecked rules ps 
 -- the names of its units are apart, and none is reserved
 abbrev pub UnitsHaveNone : Type 0
 UnitsHaveNone = (rules : Rules) (ps : List Procedure) → IsChecked rules ps → (m : ProgramMarks) (head : ℕ) (vars outvars : List Bool) → unit_faults (emitted_program m ps head vars outvars) ≡ []
+
+-- its variables are declared once and stand with as many subscripts as they have extents, and their names are their own
+abbrev pub NamesHaveNone : Type 0
+NamesHaveNone =
+    (rules : Rules) (ps : List Procedure) → IsChecked rules ps → (m : ProgramMarks) → AllHaveShadows m ps ps → (head : ℕ) (vars outvars : List Bool) →
+    name_faults run_rules (emitted_program m ps head vars outvars) ≡ []
+
+-- each of its CALLs is of a unit that it has, with an actual for each dummy, of its rank; and calls of the runtime take arrays where they should
+abbrev pub CallsHaveNone : Type 0
+CallsHaveNone =
+    (rules : Rules) (ps : List Procedure) → IsChecked rules ps → (m : ProgramMarks) → AllHaveShadows m ps ps → (head : ℕ) (vars outvars : List Bool) →
+    call_faults (emitted_program m ps head vars outvars) ≡ []

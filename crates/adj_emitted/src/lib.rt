@@ -5,7 +5,7 @@
 //! the text that is written for an adjoint reads as that adjoint.
 #![tactic(auto)]
 
-ghost use Rattle.adj_emitted.specs.Emitted.{MarkedIsWritten, EmittedIsWritten, UnitsHaveNone};
+ghost use Rattle.adj_emitted.specs.Emitted.{MarkedIsWritten, EmittedIsWritten, UnitsHaveNone, NamesHaveNone, CallsHaveNone};
 
 /// What is emitted can be written as a text, by any marks whose shadows are there, and so by full marks.
 pub fn written_law()
@@ -16,4 +16,14 @@ pub fn written_law()
 /// It has no faults of units, by any marks: their names are apart, and none is reserved.
 pub fn units_law()
     ensures { UnitsHaveNone }
+{}
+
+/// It has no faults of names as a text that is run: variables are declared once, have their ranks, and names of their own.
+pub fn names_law()
+    ensures { NamesHaveNone }
+{}
+
+/// It has no faults of calls: each is of a unit that is there, and its actuals fit.
+pub fn calls_law()
+    ensures { CallsHaveNone }
 {}
