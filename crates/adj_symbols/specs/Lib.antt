@@ -2,3 +2,5 @@
 pub mod Table
 pub mod View
 pub mod Outline
+pub mod Scope
+pub mod Rules

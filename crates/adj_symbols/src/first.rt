@@ -3,6 +3,7 @@
 ghost use Rattle.std.specs.Prelude.{◌≡◌, Option, Some, None};
 ghost use Rattle.adj_tree.specs.declared.fault.Refusal.{Refusal};
 ghost use Rattle.adj_names.specs.Fault.{is_before, fault, faults_if, first_of, sooner};
+ghost use Rattle.adj_symbols.specs.Scope.{faults_with};
 
 use adj_tree::Refusal;
 use std::marker::Model;
@@ -57,6 +58,19 @@ impl First {
         ensures added { self.new ≡ sooner self.old (first_of (faults_if is_fault (fault code line))) }
     {
         if is_fault {
+            self.add(Refusal {
+                code,
+                line,
+                number: 0,
+            });
+        }
+    }
+
+    /// One more fault at a line, where there is a code.
+    pub(crate) fn add_some(&mut self, code: Option<u8>, line: u32)
+        ensures added { self.new ≡ sooner self.old (first_of (faults_with code line)) }
+    {
+        if let Some(code) = code {
             self.add(Refusal {
                 code,
                 line,
