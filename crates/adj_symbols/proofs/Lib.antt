@@ -7,3 +7,4 @@ pub mod FirstPlaces
 pub mod Products
 pub mod Names
 pub mod Ends
+pub mod Lengths

@@ -4,3 +4,4 @@ pub mod View
 pub mod Outline
 pub mod Scope
 pub mod Rules
+pub mod Chain

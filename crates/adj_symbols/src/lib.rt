@@ -6,6 +6,7 @@
 #![tactic(auto)]
 
 mod calls;
+mod chains;
 mod extents;
 mod first;
 mod name_faults;
