@@ -76,13 +76,13 @@ module _ (rules : Rules) (ps : List Procedure) (checked : IsChecked rules ps) wh
   none : HasNone rules ps
   none = sound_has_none rules ps checked.sound
 
-  units_apart : AreApart (map unit_name ps)
+  pub units_apart : AreApart (map unit_name ps)
   units_apart = subst AreApart (unit_names ps) (apart_places 19 [] (unit_places ps) (none_behind (reserved_units ps) (repeated_units ps) none.units))
 
   found : Each (Found ps) ps
   found = all_found ps units_apart
 
-  all_calls : Each (λ u. Each (CallHasNone ps u) (statements u.body)) ps
+  pub all_calls : Each (λ u. Each (CallHasNone ps u) (statements u.body)) ps
   all_calls =
       each_more (λ u. flat_map (λ s. faults_of_call ps u s.0 s.1) (statements u.body) ≡ []) (λ u. Each (CallHasNone ps u) (statements u.body)) (λ u h. none_each (λ s. faults_of_call ps u s.0 s.1) (statements u.body) h) ps
       (none_each (λ u. flat_map (λ s. faults_of_call ps u s.0 s.1) (statements u.body)) ps none.calls)
@@ -110,10 +110,10 @@ module _ (rules : Rules) (ps : List Procedure) (checked : IsChecked rules ps) wh
     extended : bad_extents u ≡ []
     extended = none_front (bad_extents u) _ (none_behind (misused rules u) _ (none_behind (declared_twice u) _ (none_behind (undeclared u) _ of_names)))
 
-    written : IsWrittenProcedure u
+    pub written : IsWrittenProcedure u
     written = each_found IsWrittenProcedure ps (each_all IsWrittenProcedure ps checked.written) name u f
 
-    kernel : IsKernelCode u.body
+    pub kernel : IsKernelCode u.body
     kernel = each_found (λ u. IsKernelCode u.body) ps (each_unit (λ u. IsKernelCode u.body) ps checked.kernel) name u f
 
     of_writes : faults_of_writes (handed_back ps) u ≡ []
@@ -130,7 +130,7 @@ module _ (rules : Rules) (ps : List Procedure) (checked : IsChecked rules ps) wh
     dummies_apart : AreApart u.dummies
     dummies_apart = subst AreApart (dummy_names u.line u.dummies) (apart_places 8 [] (named.dummy_places u) (none_front (again 8 [] (named.dummy_places u)) (again 8 [] (named.declared_places u)) once))
 
-    extent_is_dummy : (d : List ℕ) → is_extent d u.declarations ≡ true → has_name d u.dummies ≡ true
+    pub extent_is_dummy : (d : List ℕ) → is_extent d u.declarations ≡ true → has_name d u.dummies ≡ true
     extent_is_dummy d h =
         extents_dummies u d u.declarations
         (each_more (λ d. faults_if (has_bad_extents u d) (fault 12 d.line) ≡ []) (λ d. has_bad_extents u d ≡ false) (λ d e. none_if (has_bad_extents u d) (fault 12 d.line) e) u.declarations
