@@ -5,3 +5,5 @@ pub mod Numbers
 pub mod Given
 pub mod Calls
 pub mod Meets
+pub mod Checked
+pub mod Adjoint

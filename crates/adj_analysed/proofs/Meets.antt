@@ -26,10 +26,10 @@ use Rattle.adj_analysed.proofs.Lists.{ends, passes, list_meets}
 use Rattle.adj_analysed.proofs.Numbers.{Placed, placed, has_part}
 use Rattle.adj_analysed.proofs.Calls as calls
 
-some_same : {A : Type 0} (x y : A) → (let o : Option A = Some x in o ≡ Some y) → x ≡ y
+pub some_same : {A : Type 0} (x y : A) → (let o : Option A = Some x in o ≡ Some y) → x ≡ y
 some_same x y h = cc
 
-has_contains : (d : List ℕ) (ds : List (List ℕ)) → has_name d ds ≡ true → Contains ds d
+pub has_contains : (d : List ℕ) (ds : List (List ℕ)) → has_name d ds ≡ true → Contains ds d
 has_contains d [] h = absurd cc
 has_contains d (x ∷ ds) h = go (name_eq d x) refl h (has_contains d ds)
   where

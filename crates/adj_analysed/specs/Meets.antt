@@ -1,9 +1,15 @@
 -- The marks of exact analyses as marks of a whole program, and that they meet the laws that the theorem on sweeps asks of each unit.
 -- (docs/THEOREMS.md, "Sweeps of every statement")
-use Rattle.std.specs.Prelude.{◌≡◌, ℕ, List, Some}
+use Rattle.std.specs.Prelude.{◌≡◌, ℕ, List, [], ◌∷◌, false, Some, Contains}
 use Rattle.adj_tree.specs.Code.{Terms, unmarked, Act, assign, choose, loop, during, call, runtime, Code, stop, step, Procedure}
 use Rattle.adj_meaning.specs.Written.{find_unit}
 use Rattle.adj_transpose.specs.Marks.{Vars}
+use Rattle.adj_names.specs.Fault.{Rules}
+use Rattle.adj_kernel.specs.Kernel.{EachUnit}
+use Rattle.adj_transpose.specs.Program.{unit_at}
+use Rattle.adj_reverse.specs.Program.{emitted_program}
+use Rattle.adj_reverse.specs.Adjoint.{IsAdjoint}
+use Rattle.adj_checked.specs.Checked.{IsChecked}
 use Rattle.adj_reverse.specs.Plan.{actuals_named}
 use Rattle.adj_reverse.specs.Kernel.{AsMany}
 use Rattle.adj_reverse.specs.Laws.{UnitLaws}
@@ -53,7 +59,21 @@ abbrev mutual
   IsPlainCode units stop = Unit {0}
   IsPlainCode units (step line a rest) = IsPlainAct units a × IsPlainCode units rest
 
--- ---- the law
+-- no loop is marked
+abbrev mutual
+  pub IsUnmarkedAct : Act → Type 0
+  IsUnmarkedAct (assign x subs e) = Unit {0}
+  IsUnmarkedAct (choose c a b) = IsUnmarked a × IsUnmarked b
+  IsUnmarkedAct (loop x first last by body m) = (m ≡ unmarked) × IsUnmarked body
+  IsUnmarkedAct (during c body) = IsUnmarked body
+  IsUnmarkedAct (call name args) = Unit {0}
+  IsUnmarkedAct (runtime r) = Unit {0}
+
+  pub IsUnmarked : Code → Type 0
+  IsUnmarked stop = Unit {0}
+  IsUnmarked (step line a rest) = IsUnmarkedAct a × IsUnmarked rest
+
+-- ---- the laws
 
 -- each unit that takes part, is found under its name and is such code meets the laws with the facts of exact analyses
 abbrev pub AnalysedMeets : Type 0
@@ -61,3 +81,11 @@ AnalysedMeets =
     (k : Problem) (a : Activity) (l : Liveness) (saved held : ℕ → Vars) → Analysed k a l saved held →
     (g : Part) → TakesPart k g → find_part (parts k.units) g.unit.name ≡ Some g → IsPlainCode k.units g.unit.body →
     let facts = callee_facts (program_facts k.units a l saved held) k.units in UnitLaws facts (facts g.unit.name) (first_statement k.units g.unit.name) g.unit.body
+
+-- So what is emitted by their marks is an adjoint: for a checked program in kernel form whose units all take part, and in which no loop is
+-- marked.
+abbrev pub AnalysedIsAdjoint : Type 0
+AnalysedIsAdjoint =
+    (rules : Rules) (k : Problem) → IsChecked rules k.units → EachUnit (λ u. IsUnmarked u.body) k.units → ((g : Part) → Contains (parts k.units) g → TakesPart k g) →
+    (a : Activity) (l : Liveness) (saved held : ℕ → Vars) → Analysed k a l saved held → (u : Procedure) → unit_at k.head k.units ≡ u ∷ [] →
+    let marks = (program_facts k.units a l saved held).marks in IsAdjoint (λ line. false) marks k.units k.head k.vars k.outvars (emitted_program marks k.units k.head k.vars k.outvars)

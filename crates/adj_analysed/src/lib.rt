@@ -2,12 +2,17 @@
 //!
 //! `specs/Meets` takes what the analyses of `adj_facts` say as marks and facts of a whole program, as the theorem of `adj_reverse` does.
 //! The crate joins the two: what is said there way by way and statement by statement is here said of lists, units and calls.
-//! The layer above uses `meets_law` for the premise on laws of `emitted_law`.
+//! `meets_law` gives the premise on laws of `emitted_law`; the layer above uses `analysed_law`.
 #![tactic(auto)]
 
-ghost use Rattle.adj_analysed.specs.Meets.{AnalysedMeets};
+ghost use Rattle.adj_analysed.specs.Meets.{AnalysedMeets, AnalysedIsAdjoint};
 
 /// What exact analyses say of a program in kernel form whose loops aren't marked meets the laws of each unit that takes part.
 pub fn meets_law()
     ensures { AnalysedMeets }
+{}
+
+/// What is emitted by their marks for a checked program in kernel form is its adjoint, where all units take part and no loop is marked.
+pub fn analysed_law()
+    ensures { AnalysedIsAdjoint }
 {}

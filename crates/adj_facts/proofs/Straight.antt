@@ -56,7 +56,7 @@ no_call (step line (runtime r) rest) at i o s c name args e = o
 -- ---- the head
 
 -- a dummy that is marked is among those that are flagged
-flagged_has : (ds : List (List ℕ)) (bs : List Bool) (x : List ℕ) → IsMarked ds bs x → Contains (flagged bs ds) x
+pub flagged_has : (ds : List (List ℕ)) (bs : List Bool) (x : List ℕ) → IsMarked ds bs x → Contains (flagged bs ds) x
 flagged_has [] bs x m = absurd (let h : false ≡ true = m.0 in cc)
 flagged_has (d ∷ ds) [] x m = absurd (let e : has_name x (d ∷ unmarked ds []) ≡ false = m.1 in let f : has_name x (d ∷ ds) ≡ true = m.0 in let g : unmarked ds [] ≡ ds = all_unmarked ds in let h : has_name x (d ∷ unmarked ds []) ≡ has_name x (d ∷ ds) = ap (λ zs. has_name x (d ∷ zs)) g in cc)
   where
@@ -75,7 +75,7 @@ flagged_has (d ∷ ds) (false ∷ bs) x m = go (name_eq x d) refl m.0 m.1 (λ h 
     go false e h n r = r h (ap (λ b. b || has_name x (unmarked ds bs)) (sym e) ∙ n)
 
 -- the unit of the head's number
-head_part : (t u i : ℕ) (ps : List Procedure) (n : ℕ) (p : Procedure) → unit_at n ps ≡ p ∷ [] → (g : Part) × (slice_get (parts_from t u i ps) n ≡ Some g) × (g.unit ≡ p)
+pub head_part : (t u i : ℕ) (ps : List Procedure) (n : ℕ) (p : Procedure) → unit_at n ps ≡ p ∷ [] → (g : Part) × (slice_get (parts_from t u i ps) n ≡ Some g) × (g.unit ≡ p)
 head_part t u i [] n p e = absurd cc
 head_part t u i (q ∷ qs) zero p e = (part t u i q, refl, cc)
 head_part t u i (q ∷ qs) (suc n) p e = head_part t (suc u) (behind i q.body) qs n p e

@@ -1,9 +1,10 @@
 -- Programs and what is emitted for them by the marks that spare what they can, statement by statement. (docs/EMITTED.md)
-use Rattle.std.specs.Prelude.{ℕ, ℤ, pos, negsuc, List, [], ◌∷◌, ◌++◌, map, ◌==◌, ◌||◌, not, Bool, true, false, None, codes}
+use Rattle.std.specs.Prelude.{ℕ, ℤ, pos, negsuc, List, [], ◌∷◌, ◌++◌, map, ◌==◌, ◌||◌, not, Bool, true, false, None, codes, Option, Some}
 use Rattle.adj_tree.specs.Code.{plain, shadow, helper, plus, minus, times, greater, Term, lit, elem, bin, power_of, none, more, is_less, is_same, is_greater, compare, unmarked, Act, assign, choose, loop, during, call, runtime, push_control, pop_control, zero_array, Code, stop, step, given, Declaration, Procedure}
 use Rattle.adj_meaning.specs.Numbers.{words}
 use Rattle.adj_meaning.specs.Scene.{Outcome, Done, Trapped, More, Full}
 use Rattle.adj_meaning.specs.Store.{scalar}
+use Rattle.adj_meaning.specs.Written.{find_unit}
 use Rattle.adj_meaning.specs.Units.{Slot, Output, run_unit}
 use Rattle.adj_transpose.specs.Adjoint.{cells_of}
 use Rattle.adj_transpose.specs.Examples.{use_of, declare, set_to, grow, multiply, push, pop, zero_of}
@@ -271,3 +272,11 @@ words_after qs a input k = held_after (run_unit words qs a input [] None k)
 -- of scalars
 abbrev pub scalars_after : List Procedure → Procedure → List ℤ → ℕ → List (List ℤ)
 scalars_after qs a zs k = words_after qs a (map word zs) k
+
+-- of scalars, for the unit of a name
+abbrev after_unit : Option Procedure → List Procedure → List ℤ → ℕ → List (List ℤ)
+after_unit None qs zs k = []
+after_unit (Some a) qs zs k = scalars_after qs a zs k
+
+abbrev pub named_after : List Procedure → List ℕ → List ℤ → ℕ → List (List ℤ)
+named_after qs name zs k = after_unit (find_unit qs name) qs zs k

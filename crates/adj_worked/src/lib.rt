@@ -10,7 +10,8 @@ ghost use Rattle.std.specs.Prelude.{◌≡◌, ℕ, pos, List, ◌∷◌, [], Bo
 ghost use Rattle.adj_tree.specs.Code.{Procedure};
 ghost use Rattle.adj_reverse.specs.Marking.{ProgramMarks, full_marks};
 ghost use Rattle.adj_reverse.specs.Program.{emitted_program};
-ghost use Rattle.adj_worked.specs.Programs.{array_sum, sum_marks, sum_adjoint, resetting, resetting_marks, resetting_adjoint, calling, squaring_itself, calling_marks, calling_adjoint, squaring_adjoint, repeating, repeating_marks, repeating_adjoint, powered, powered_marks, powered_adjoint, word, three_words, words_after, scalars_after};
+ghost use Rattle.adj_worked.specs.Programs.{array_sum, sum_marks, sum_adjoint, resetting, resetting_marks, resetting_adjoint, calling, squaring_itself, calling_marks, calling_adjoint, squaring_adjoint, repeating, repeating_marks, repeating_adjoint, powered, powered_marks, powered_adjoint, word, three_words, words_after, scalars_after, named_after};
+ghost use Rattle.adj_worked.specs.Sources.{sparing, raising, calls_after};
 
 /// What is emitted, statement by statement, for the sum of an array by a loop whose variable is implicit, for a branch that resets a shadow, for
 /// a checkpointed call, for a DO WHILE and for a power with a variable exponent, by marks that spare what they can.
@@ -32,11 +33,12 @@ pub fn worked_runs()
     ensures fourth_power { scalars_after (powered_adjoint ∷ []) powered_adjoint (pos 3 ∷ pos 5 ∷ pos 4 ∷ pos 0 ∷ pos 1 ∷ []) 90 ≡ (pos 3 ∷ []) ∷ (pos 108 ∷ []) ∷ (pos 4 ∷ []) ∷ (pos 0 ∷ []) ∷ (pos 0 ∷ []) ∷ [] }
     ensures power_of_zero { scalars_after (powered_adjoint ∷ []) powered_adjoint (pos 3 ∷ pos 5 ∷ pos 0 ∷ pos 0 ∷ pos 1 ∷ []) 90 ≡ (pos 3 ∷ []) ∷ (pos 0 ∷ []) ∷ (pos 0 ∷ []) ∷ (pos 0 ∷ []) ∷ (pos 0 ∷ []) ∷ [] }
     ensures zero_to_one { scalars_after (powered_adjoint ∷ []) powered_adjoint (pos 0 ∷ pos 5 ∷ pos 1 ∷ pos 0 ∷ pos 1 ∷ []) 90 ≡ (pos 0 ∷ []) ∷ (pos 1 ∷ []) ∷ (pos 1 ∷ []) ∷ (pos 0 ∷ []) ∷ (pos 0 ∷ []) ∷ [] }
+    ensures saved_by_the_call { named_after (emitted_program sparing (raising ∷ calls_after ∷ []) 1 (true ∷ false ∷ []) (false ∷ true ∷ [])) (codes "P_B") (pos 3 ∷ pos 4 ∷ pos 0 ∷ pos 1 ∷ []) 90 ≡ (pos 3 ∷ []) ∷ (pos 6 ∷ []) ∷ (pos 0 ∷ []) ∷ (pos 0 ∷ []) ∷ [] }
 {}
 
 ghost use Rattle.adj_reverse.specs.Examples.{branch, powers, power};
 ghost use Rattle.adj_worked.specs.Faulty.{faulty_program, Serve, Fail, unchanged, untold, unturned, unrestored, unreset, uncounted, unsnapped, popped_before, unguarded};
-ghost use Rattle.adj_worked.specs.Sources.{sums, scaled, counted, squaring, raising, caller, calls_after, calls_before, sparing, unsaved, unsaved_call, unvaried, memberless, unadjointed, unkept, left_out};
+ghost use Rattle.adj_worked.specs.Sources.{sums, scaled, counted, squaring, caller, calls_before, unsaved, unsaved_call, unvaried, memberless, unadjointed, unkept, left_out};
 
 /// Emitted programs with a fault are no adjoints: the definition of an adjoint tells them from the emitted one.
 pub fn wrong_adjoints()

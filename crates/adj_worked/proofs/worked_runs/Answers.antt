@@ -34,3 +34,7 @@ returns-clause-fourth_power c = refl
 pub returns-clause-zero_to_one : goal.returns-clause-zero_to_one
 unfolding int_wrap most_tests
 returns-clause-zero_to_one c = refl
+
+pub returns-clause-saved_by_the_call : goal.returns-clause-saved_by_the_call
+unfolding int_wrap most_tests
+returns-clause-saved_by_the_call c = refl

@@ -1,0 +1,59 @@
+-- The code of a checked program in kernel form, whose loops aren't marked, is plain; and its units are found by their numbers.
+use Rattle.std.proofs.Common.{◌≡◌, ℕ, zero, suc, List, [], ◌∷◌, true, false, map, ap, ◌∙◌, subst, if◌then◌else◌}
+use Rattle.std.specs.Prelude.{Some, slice_get}
+use Rattle.adj_tree.specs.Code.{name_eq, Act, assign, choose, loop, during, call, runtime, Code, stop, step, Procedure}
+use Rattle.adj_tree.proofs.Names.{name_refl}
+use Rattle.adj_text.specs.Written.{IsWrittenAct, IsWrittenCode}
+use Rattle.adj_names.specs.Statements.{inner, statements}
+use Rattle.adj_names.specs.CallFaults.{are_actuals_for}
+use Rattle.adj_kernel.specs.Form.{IsKernelAct, IsKernelCode}
+use Rattle.adj_transpose.specs.Marks.{behind}
+use Rattle.adj_transpose.specs.Fresh.{has_name}
+use Rattle.adj_transpose.specs.Naming.{AreApart}
+use Rattle.adj_transpose.specs.Program.{unit_name}
+use Rattle.adj_transpose.proofs.Variables.{or_left, or_right, name_comm, has_apart}
+use Rattle.adj_checked.proofs.Lists.{Each, each_front, each_behind}
+use Rattle.adj_checked.proofs.Texts.{actuals_given, actuals_many}
+use Rattle.adj_checked.proofs.Statements.{CallHasNone, call_of_unit}
+use Rattle.adj_facts.specs.Parts.{Part, part, parts_from, find_part}
+use Rattle.adj_analysed.specs.Meets.{IsPlainAct, IsPlainCode, IsUnmarkedAct, IsUnmarked}
+use Rattle.adj_analysed.proofs.Meets.{some_same}
+
+mutual
+  plain_act : (ps : List Procedure) (u : Procedure) (line : ℕ) (a : Act) → IsWrittenAct a → IsKernelAct a → CallHasNone ps u (line, a) → Each (CallHasNone ps u) (inner a) → IsUnmarkedAct a → IsPlainAct ps a
+  plain_act ps u line (assign x subs e) w k h s m = tt
+  plain_act ps u line (choose c a b) w k h s m = (plain_code ps u a w.1 k.0 (each_front (CallHasNone ps u) (statements a) (statements b) s) m.0, plain_code ps u b w.2 k.1 (each_behind (CallHasNone ps u) (statements a) (statements b) s) m.1)
+  plain_act ps u line (loop x first last by body mark) w k h s m = (m.0, plain_code ps u body w.4 k.1 s m.1)
+  plain_act ps u line (during c body) w k h s m = plain_code ps u body w.1 k s m
+  plain_act ps u line (call name args) w k h s m =
+      let c = call_of_unit ps u line name args h in
+      let g = actuals_given args k w.1 in
+      record { unit = c.unit; found = c.found; given = g.0; named = g.1; many = actuals_many u c.unit c.unit.dummies g.0 (subst (λ es. are_actuals_for u c.unit c.unit.dummies es ≡ true) g.1 c.fit) }
+  plain_act ps u line (runtime r) w k h s m = absurd k
+
+  pub plain_code : (ps : List Procedure) (u : Procedure) (c : Code) → IsWrittenCode c → IsKernelCode c → Each (CallHasNone ps u) (statements c) → IsUnmarked c → IsPlainCode ps c
+  plain_code ps u stop w k s m = tt
+  plain_code ps u (step line a rest) w k s m = (
+    plain_act ps u line a w.0 k.0 s.0 (each_front (CallHasNone ps u) (inner a) (statements rest) s.1) m.0,
+    plain_code ps u rest w.1 k.1 (each_behind (CallHasNone ps u) (inner a) (statements rest) s.1) m.1,
+  )
+
+-- ---- units by their numbers
+
+part_named : (t u i : ℕ) (ps : List Procedure) (n : ℕ) (g : Part) → slice_get (parts_from t u i ps) n ≡ Some g → has_name g.unit.name (map unit_name ps) ≡ true
+part_named t u i [] n g h = absurd cc
+part_named t u i (p ∷ ps) zero g h =
+    let same : part t u i p ≡ g = some_same (part t u i p) g h in
+    or_left (name_eq g.unit.name p.name) (has_name g.unit.name (map unit_name ps)) (subst (λ z. name_eq z.unit.name p.name ≡ true) same (name_refl p.name))
+part_named t u i (p ∷ ps) (suc n) g h = or_right (name_eq g.unit.name p.name) (has_name g.unit.name (map unit_name ps)) (part_named t (suc u) (behind i p.body) ps n g h)
+
+-- where names are apart, the unit of a number is found under its name
+pub part_found : (t u i : ℕ) (ps : List Procedure) → AreApart (map unit_name ps) → (n : ℕ) (g : Part) → slice_get (parts_from t u i ps) n ≡ Some g → find_part (parts_from t u i ps) g.unit.name ≡ Some g
+part_found t u i [] a n g h = absurd cc
+part_found t u i (p ∷ ps) a zero g h =
+    let same : part t u i p ≡ g = some_same (part t u i p) g h in
+    let e : name_eq p.name g.unit.name ≡ true = subst (λ z. name_eq p.name z.unit.name ≡ true) same (name_refl p.name) in
+    ap (λ b. if b then Some (part t u i p) else find_part (parts_from t (suc u) (behind i p.body) ps) g.unit.name) e ∙ ap Some same
+part_found t u i (p ∷ ps) a (suc n) g h =
+    let e : name_eq p.name g.unit.name ≡ false = name_comm g.unit.name p.name (has_apart g.unit.name p.name (map unit_name ps) (part_named t (suc u) (behind i p.body) ps n g h) a.0) in
+    ap (λ b. if b then Some (part t u i p) else find_part (parts_from t (suc u) (behind i p.body) ps) g.unit.name) e ∙ part_found t (suc u) (behind i p.body) ps a.1 n g h
