@@ -246,10 +246,12 @@ of_place [] h = tt
 of_place (u ∷ us) h = (if_none (is_reserved u.name) (fault 18 u.line) h.0, of_place us h.1)
 
 module _ (units : List Procedure) (sound : IsSound source_rules units) where
+  pub source_distinct : Distinct (map unit_name units)
+  source_distinct = subst Distinct (placed_names units) (distinct_of 19 [] (unit_places units) (none_behind (reserved_units units) (repeated_units units) (sound_has_none source_rules units sound).units))
+
   pub stepped_distinct : Distinct (map unit_name (stepped_program units))
   stepped_distinct =
-      distinct_stepped units (names_of_source units)
-      (subst Distinct (placed_names units) (distinct_of 19 [] (unit_places units) (none_behind (reserved_units units) (repeated_units units) (sound_has_none source_rules units sound).units)))
+      distinct_stepped units (names_of_source units) source_distinct
       (λ x h. has_first x (map unit_name units) (flat_map names_of units) h)
 
   pub stepped_free : Each IsFreeUnit (stepped_program units)
