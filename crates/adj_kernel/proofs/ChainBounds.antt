@@ -10,6 +10,7 @@ use Rattle.adj_meaning.proofs.Booleans.{or_false, or_first, or_second}
 use Rattle.adj_names.specs.Variables.{Name}
 use Rattle.adj_names.specs.Calls.{leads, with_mark, act_chain, chain, chain_found, chain_within}
 use Rattle.adj_transpose.proofs.Variables.{not_true}
+use Rattle.adj_kernel.proofs.Faultless.{not_back}
 use Rattle.adj_kernel.proofs.Shortening.{callees_in, callees, on_from, leads_next, without, found_without, none_without, leads_with, fewer, any_join, some_of}
 
 -- ---- longer from the called units, longer in all
@@ -87,10 +88,6 @@ chain_with a ps (suc k) x = go (name_eq x a) refl (chain_with a ps k)
 -- no calls of a unit lead back to it
 abbrev pub NoWayBack : List Procedure → Type 0
 NoWayBack ps = (x : Name) (u : Procedure) → find_unit ps x ≡ Some u → (c : Name) → list_any (name_eq c) (callees u.body) ≡ true → (k : ℕ) → leads ps k c x ≡ false
-
-not_back : (a b : Bool) → (a ≡ true → b ≡ true) → b ≡ false → a ≡ false
-not_back true b f e = absurd (let z : true ≡ false = sym (f refl) ∙ e in cc)
-not_back false b f e = refl
 
 no_way_without : (a : Name) (ps : List Procedure) → NoWayBack ps → NoWayBack (without a ps)
 no_way_without a ps n x u f c m k = go (name_eq x a) refl

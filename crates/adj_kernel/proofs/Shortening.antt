@@ -11,6 +11,7 @@ use Rattle.adj_meaning.proofs.Booleans.{or_first, or_second}
 use Rattle.adj_names.specs.Statements.{At, inner, statements}
 use Rattle.adj_names.specs.Variables.{Name}
 use Rattle.adj_names.specs.Calls.{Call, call_in, calls, calls_found, leads}
+use Rattle.adj_kernel.proofs.Faultless.{either_way}
 
 -- ---- the units that a list calls
 
@@ -168,10 +169,6 @@ leads_none ps (suc k) from to h = leads_next ps k from to ∙ ap (λ o. name_eq 
 any_more : (f g : Name → Bool) (xs : List Name) → ((x : Name) → f x ≡ true → g x ≡ true) → list_any f xs ≡ true → list_any g xs ≡ true
 any_more f g xs h k = let s = some_of f xs k in of_some g xs s.one s.among (h s.one s.is)
 
-abbrev by_cases : {A B D : Type 0} → (A → D) → (B → D) → A ⊎ B → D
-by_cases f g (inl a) = f a
-by_cases f g (inr b) = g b
-
 -- with more calls they lead as far
 pub leads_longer : (ps : List Procedure) (j k : ℕ) (from to : Name) → j ≤ k → leads ps j from to ≡ true → leads ps k from to ≡ true
 leads_longer ps zero zero from to l h = h
@@ -179,7 +176,7 @@ leads_longer ps zero (suc k) from to l h = leads_next ps k from to ∙ or_first 
 leads_longer ps (suc j) zero from to l h = absurd (omega (arith, l))
 leads_longer ps (suc j) (suc k) from to l h =
     leads_next ps k from to
-    ∙ by_cases (λ e. or_first (name_eq from to) _ e) (λ e. or_second (name_eq from to) (on_from (λ c. leads ps k c to) (find_unit ps from)) (go (find_unit ps from) (λ c g. leads_longer ps j k c to (omega (arith, l)) g) e))
+    ∙ either_way (λ e. or_first (name_eq from to) _ e) (λ e. or_second (name_eq from to) (on_from (λ c. leads ps k c to) (find_unit ps from)) (go (find_unit ps from) (λ c g. leads_longer ps j k c to (omega (arith, l)) g) e))
     (or_cases (name_eq from to) (on_from (λ c. leads ps j c to) (find_unit ps from)) (sym (leads_next ps j from to) ∙ h))
   where
     go : (o : Option Procedure) → ((c : Name) → leads ps j c to ≡ true → leads ps k c to ≡ true) → on_from (λ c. leads ps j c to) o ≡ true → on_from (λ c. leads ps k c to) o ≡ true
@@ -191,7 +188,7 @@ pub leads_with : (a : Name) (ps : List Procedure) (k : ℕ) (from to : Name) →
 leads_with a ps zero from to h = h
 leads_with a ps (suc k) from to h =
     leads_next ps k from to
-    ∙ by_cases (λ e. or_first (name_eq from to) _ e) (λ e. or_second (name_eq from to) _ (go (name_eq from a) refl (λ c g. leads_with a ps k c to g) e)) (or_cases (name_eq from to) (on_from (λ c. leads (without a ps) k c to) (find_unit (without a ps) from)) (sym (leads_next (without a ps) k from to) ∙ h))
+    ∙ either_way (λ e. or_first (name_eq from to) _ e) (λ e. or_second (name_eq from to) _ (go (name_eq from a) refl (λ c g. leads_with a ps k c to g) e)) (or_cases (name_eq from to) (on_from (λ c. leads (without a ps) k c to) (find_unit (without a ps) from)) (sym (leads_next (without a ps) k from to) ∙ h))
   where
     step_on : (o : Option Procedure) → ((c : Name) → leads (without a ps) k c to ≡ true → leads ps k c to ≡ true) → on_from (λ c. leads (without a ps) k c to) o ≡ true → on_from (λ c. leads ps k c to) o ≡ true
     step_on None f g = g
@@ -206,14 +203,14 @@ leads_with a ps (suc k) from to h =
 -- calls that lead there do so without a unit, or from it on
 enter : (ps : List Procedure) (a b : Name) (j : ℕ) (x : Name) → leads ps j x b ≡ true → (leads (without a ps) j x b ≡ true) ⊎ (leads ps j a b ≡ true)
 enter ps a b zero x h = inl h
-enter ps a b (suc j) x h = by_cases (λ e. inl (leads_next (without a ps) j x b ∙ or_first (name_eq x b) _ e)) (λ e. go (name_eq x a) refl (find_unit ps x) refl e (enter ps a b j)) (or_cases (name_eq x b) (on_from (λ c. leads ps j c b) (find_unit ps x)) (sym (leads_next ps j x b) ∙ h))
+enter ps a b (suc j) x h = either_way (λ e. inl (leads_next (without a ps) j x b ∙ or_first (name_eq x b) _ e)) (λ e. go (name_eq x a) refl (find_unit ps x) refl e (enter ps a b j)) (or_cases (name_eq x b) (on_from (λ c. leads ps j c b) (find_unit ps x)) (sym (leads_next ps j x b) ∙ h))
   where
     go : (t : Bool) → name_eq x a ≡ t → (o : Option Procedure) → find_unit ps x ≡ o → on_from (λ c. leads ps j c b) o ≡ true → ((c : Name) → leads ps j c b ≡ true → (leads (without a ps) j c b ≡ true) ⊎ (leads ps j a b ≡ true)) → (leads (without a ps) (suc j) x b ≡ true) ⊎ (leads ps (suc j) a b ≡ true)
     go true e o f g ih = inr (ap (λ y. leads ps (suc j) y b) (sym (name_same x a e)) ∙ h)
     go false e None f g ih = absurd cc
     go false e (Some u) f g ih =
         let s = some_of (λ c. leads ps j c b) (callees u.body) g in
-        by_cases (λ l. inl (leads_next (without a ps) j x b ∙ or_second (name_eq x b) _ (ap (on_from (λ c. leads (without a ps) j c b)) (found_without a x ps e ∙ f) ∙ of_some (λ c. leads (without a ps) j c b) (callees u.body) s.one s.among l))) (λ r. inr (leads_longer ps j (suc j) a b (omega arith) r)) (ih s.one s.is)
+        either_way (λ l. inl (leads_next (without a ps) j x b ∙ or_second (name_eq x b) _ (ap (on_from (λ c. leads (without a ps) j c b)) (found_without a x ps e ∙ f) ∙ of_some (λ c. leads (without a ps) j c b) (callees u.body) s.one s.among l))) (λ r. inr (leads_longer ps j (suc j) a b (omega arith) r)) (ih s.one s.is)
 
 -- a first call, from which others lead there without the unit
 record First (ps : List Procedure) (a b : Name) : Type 0 where
@@ -232,7 +229,7 @@ first_call ps a b n (suc k) h = go (find_unit ps a) refl (sym (ap (λ t. t || on
     go None f g ih = absurd (let z : false ≡ true = sym (ap (on_from (λ c. leads ps k c b)) f) ∙ g in cc)
     go (Some u) f g ih =
         let s = some_of (λ c. leads ps k c b) (callees u.body) (sym (ap (on_from (λ c. leads ps k c b)) f) ∙ g) in
-        by_cases (λ l. record { unit = u; found = f; next = s.one; among = s.among; steps = k; on = l }) ih (enter ps a b k s.one s.is)
+        either_way (λ l. record { unit = u; found = f; next = s.one; among = s.among; steps = k; on = l }) ih (enter ps a b k s.one s.is)
 
 pub shorter : (n : ℕ) (ps : List Procedure) → length ps ≤ n → (k : ℕ) (a b : Name) → leads ps k a b ≡ true → leads ps n a b ≡ true
 shorter zero [] l k a b h = sym (leads_none [] k a b refl) ∙ h
