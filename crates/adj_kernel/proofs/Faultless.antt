@@ -1,6 +1,6 @@
 -- Lists without faults, and what holds of each member of a list.
-use Rattle.std.proofs.Common.{◌≡◌, ℕ, Bool, true, false, List, [], ◌∷◌, ◌++◌, map, refl, sym, ap, ◌∙◌, subst, if◌then◌else◌}
-use Rattle.std.specs.Prelude.{◌||◌, not, flat_map, Some}
+use Rattle.std.proofs.Common.{◌≡◌, ℕ, ◌⊎◌, inl, inr, Bool, true, false, List, [], ◌∷◌, ◌++◌, refl, sym, ap, ◌∙◌, subst, if◌then◌else◌}
+use Rattle.std.specs.Prelude.{◌||◌, ◌&&◌, not, flat_map, Some}
 use Rattle.std.specs.List.{All, list_any}
 use Rattle.std.proofs.lemmas.List.Elements.{All-head, All-tail}
 use Rattle.adj_tree.specs.Code.{name_eq, Procedure}
@@ -42,10 +42,6 @@ pub each_all : {A : Type 0} (P : A → Type 0) (xs : List A) → All P xs → Ea
 each_all P [] h = tt
 each_all P (x ∷ xs) h = (All-head P x xs h, each_all P xs (All-tail P x xs h))
 
-pub each_map : {A B : Type 0} (P : B → Type 0) (f : A → B) (xs : List A) → Each P (map f xs) → Each (λ x. P (f x)) xs
-each_map P f [] h = tt
-each_map P f (x ∷ xs) h = (h.0, each_map P f xs h.1)
-
 pub each_flat : {A B : Type 0} (P : B → Type 0) (f : A → List B) (xs : List A) → Each P (flat_map f xs) → Each (λ x. Each P (f x)) xs
 each_flat P f [] h = tt
 each_flat P f (x ∷ xs) h = (each_front P (f x) (flat_map f xs) h, each_flat P f xs (each_behind P (f x) (flat_map f xs) h))
@@ -57,6 +53,11 @@ flat_each P f (x ∷ xs) h = each_join P (f x) (flat_map f xs) h.0 (flat_each P 
 pub unit_each : (P : Procedure → Type 0) (us : List Procedure) → EachUnit P us → Each P us
 unit_each P [] h = tt
 unit_each P (u ∷ us) h = (h.0, unit_each P us h.1)
+
+-- units of two lists
+pub join_units : (P : Procedure → Type 0) (ps qs : List Procedure) → EachUnit P ps → EachUnit P qs → EachUnit P (ps ++ qs)
+join_units P [] qs h g = g
+join_units P (p ∷ ps) qs h g = (h.0, join_units P ps qs h.1 g)
 
 -- units one by one
 pub of_each : (P : Procedure → Type 0) (us : List Procedure) → Each P us → EachUnit P us
@@ -71,6 +72,26 @@ each_found P (v ∷ us) h name u f = go (name_eq v.name name) f (each_found P us
     go : (b : Bool) → (if b then Some v else find_unit us name) ≡ Some u → (find_unit us name ≡ Some u → P u) → P u
     go true f ih = let same : v ≡ u = cc in subst P same h.0
     go false f ih = ih f
+
+-- ---- truth values
+
+-- from either
+pub either_way : {A B D : Type 0} → (A → D) → (B → D) → A ⊎ B → D
+either_way f g (inl a) = f a
+either_way f g (inr b) = g b
+
+-- neither
+pub both_false : (a b : Bool) → a ≡ false → b ≡ false → (a || b) ≡ false
+both_false a b h g = ap (λ z. z || b) h ∙ g
+
+-- what isn't so doesn't follow
+pub not_back : (a b : Bool) → (a ≡ true → b ≡ true) → b ≡ false → a ≡ false
+not_back true b f e = absurd (let z : true ≡ false = sym (f refl) ∙ e in cc)
+not_back false b f e = refl
+
+pub and_none : (b : Bool) → (b && false) ≡ false
+and_none true = refl
+and_none false = refl
 
 -- ---- no faults
 

@@ -58,3 +58,7 @@ pub mod LoweredNames
 pub mod StandingNames
 pub mod LoweredStands
 pub mod SoundNames
+pub mod Shortening
+pub mod ChainBounds
+pub mod SoundChains
+pub mod SoundKernels

@@ -1,5 +1,5 @@
 -- The names of a lowered unit stand as they should where those of the unit do.
-use Rattle.std.proofs.Common.{◌≡◌, ℕ, zero, suc, ◌<◌, ◌⊎◌, inl, inr, Bool, true, false, List, [], ◌∷◌, ◌++◌, map, refl, sym, ap, ◌∙◌, arith, subst}
+use Rattle.std.proofs.Common.{◌≡◌, ℕ, zero, suc, ◌<◌, ◌⊎◌, inl, inr, true, false, List, [], ◌∷◌, ◌++◌, map, refl, sym, ap, ◌∙◌, arith, subst}
 use Rattle.std.proofs.lemmas.Bool.{or_cases}
 use Rattle.std.specs.Prelude.{pos, int_lt, ◌&&◌, ◌||◌, ◌==◌, not, length}
 use Rattle.std.specs.List.{list_any}
@@ -19,14 +19,14 @@ use Rattle.adj_kernel.specs.Apart.{EachCall', EachCall}
 use Rattle.adj_kernel.specs.Calls.{is_name_of, is_scalar, ArraysStandOnce}
 use Rattle.adj_kernel.specs.Kernel.{names_of, names_in_code, unit_name, local_names, taken_in, local_in, scalar_at, locals_count, lowered_unit, IsFitCall}
 use Rattle.adj_kernel.specs.Kernel as kernel
-use Rattle.adj_kernel.proofs.Faultless.{Each, each_front, each_behind, each_join, each_more, same_has}
+use Rattle.adj_kernel.proofs.Faultless.{Each, each_front, each_behind, each_join, each_more, same_has, and_none}
 use Rattle.adj_kernel.proofs.Holding.{HoldsIn, Holds, holds_more}
 use Rattle.adj_kernel.proofs.Locals.{name_at, earlier_there, not_taken, not_first, not_second, has_second, local_undeclared, scalars_behind}
 use Rattle.adj_kernel.proofs.Repeated.{Once}
 use Rattle.adj_kernel.proofs.LoweredNames.{lowered_names}
 use Rattle.adj_kernel.proofs.StepFitting.{Distinct}
 use Rattle.adj_kernel.proofs.SoundUnits.{distinct_join}
-use Rattle.adj_kernel.proofs.StandingNames.{IsFree, IsGood, Stands}
+use Rattle.adj_kernel.proofs.StandingNames.{IsFree, IsGood, Stands, same_declared}
 
 -- names with scalars behind
 names_behind : (ds : List Declaration) (line : ℕ) (xs : List Name) → map (λ (d : Declaration). d.name) (ds ++ map (scalar_at line) xs) ≡ map (λ d. d.name) ds ++ xs
@@ -160,19 +160,11 @@ module _ (all : List Procedure) (v : Procedure) (stands : Stands (map unit_name 
 
   new_extents : (line : ℕ) (xs : List Name) → Each (λ d. has_bad_extents low d ≡ false) (map (scalar_at line) xs)
   new_extents line [] = tt
-  new_extents line (x ∷ xs) = (no (not (is_dummy v x)), new_extents line xs)
-    where
-      no : (b : Bool) → (b && false) ≡ false
-      no true = refl
-      no false = refl
+  new_extents line (x ∷ xs) = (and_none (not (is_dummy v x)), new_extents line xs)
 
   free_locals : (line : ℕ) (xs : List Name) → ((x : Name) → has_name x xs ≡ true → IsFree names x) → Each (λ (d : Declaration). IsFree names d.name) (map (scalar_at line) xs)
   free_locals line [] h = tt
   free_locals line (x ∷ xs) h = (h x (or_first (name_eq x x) (has_name x xs) (name_refl x)), free_locals line xs (λ y k. h y (or_second (name_eq y x) (has_name y xs) k)))
-
-  same_declared : (ds : List Declaration) → kernel.declared_names ds ≡ map (λ (d : Declaration). d.name) ds
-  same_declared [] = refl
-  same_declared (d ∷ ds) = ap (λ z. d.name ∷ z) (same_declared ds)
 
   -- a local isn't declared by the unit
   not_declared : (k : ℕ) → has_name (name_at taken k) (map (λ (d : Declaration). d.name) v.declarations) ≡ false

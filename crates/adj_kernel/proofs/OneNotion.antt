@@ -134,7 +134,7 @@ at_line : (line : ℕ) (ns : List Standing) → map (λ (p : At Name). p.1) (map
 at_line line [] = refl
 at_line line (n ∷ ns) = ap (λ z. n.name ∷ z) (at_line line ns)
 
-at_dummies : (line : ℕ) (ds : List Name) → map (λ (p : At Name). p.1) (map (λ d. (line, d)) ds) ≡ ds
+pub at_dummies : (line : ℕ) (ds : List Name) → map (λ (p : At Name). p.1) (map (λ d. (line, d)) ds) ≡ ds
 at_dummies line [] = refl
 at_dummies line (d ∷ ds) = ap (λ z. d ∷ z) (at_dummies line ds)
 

@@ -6,6 +6,7 @@ use Rattle.adj_meaning.proofs.Booleans.{or_first, or_second}
 use Rattle.adj_meaning.proofs.Variables.{var_same}
 use Rattle.adj_kernel.specs.Lowered.{locals_in, locals_in_all, length_of, reduced, reduced_all, is_among, passing, passing_name, passing_element, locals_passing, passed}
 use Rattle.adj_kernel.specs.Calls.{is_name_of, stands_whole}
+use Rattle.adj_kernel.proofs.Faultless.{either_way}
 
 module _ (R : Var → Type 0) where
   -- it holds of each name that stands twice as a whole
@@ -39,28 +40,24 @@ module _ (R : Var → Type 0) where
     reduced_name x j (power_of a b) le h = absurd cc
     reduced_name x j (abs a) le h = inr (is_local x (j + locals_in a) (omega (arith, le)) h)
 
-    either : {A B D : Type 0} → (A → D) → (B → D) → A ⊎ B → D
-    either f g (inl a) = f a
-    either f g (inr b) = g b
-
     -- so does one among reduced actuals
     reduced_stands : (x : Var) (j : ℕ) (es : Terms) → j + locals_in_all es ≤ bound → stands_whole x (reduced_all local j es) ≡ true → (stands_whole x es ≡ true) ⊎ R x
     reduced_stands x j none le h = absurd cc
     reduced_stands x j (more e es) le h =
-        either (λ g. either (λ k. inl (or_first (is_name_of x e) (stands_whole x es) k)) inr (reduced_name x j e (omega (arith, le)) g)) (λ g. either (λ k. inl (or_second (is_name_of x e) (stands_whole x es) k)) inr (reduced_stands x (j + locals_in e) es (omega (arith, le)) g))
+        either_way (λ g. either_way (λ k. inl (or_first (is_name_of x e) (stands_whole x es) k)) inr (reduced_name x j e (omega (arith, le)) g)) (λ g. either_way (λ k. inl (or_second (is_name_of x e) (stands_whole x es) k)) inr (reduced_stands x (j + locals_in e) es (omega (arith, le)) g))
         (or_cases (is_name_of x (reduced local j e)) (stands_whole x (reduced_all local (j + locals_in e) es)) h)
 
     -- it holds of names that stand twice among reduced actuals
     pub reduced_once : (j : ℕ) (es : Terms) → j + locals_in_all es ≤ bound → Once es → Once (reduced_all local j es)
     reduced_once j none le o = tt
     reduced_once j (more e es) le o = (
-      (λ x n s. either (λ g. either (λ k. o.0 x g k) (λ r. r) (reduced_stands x (j + locals_in e) es (omega (arith, le)) s)) (λ r. r) (reduced_name x j e (omega (arith, le)) n)),
+      (λ x n s. either_way (λ g. either_way (λ k. o.0 x g k) (λ r. r) (reduced_stands x (j + locals_in e) es (omega (arith, le)) s)) (λ r. r) (reduced_name x j e (omega (arith, le)) n)),
       reduced_once (j + locals_in e) es (omega (arith, le)) o.1,
     )
 
     -- the name that an actual becomes stands earlier for those behind it
     pub next_earlier : (w : Bool) (earlier : List Var) (j : ℕ) (e : Term) (es : Terms) → j + locals_passing (passing w earlier e) ≤ bound → Once (more e es) → Earlier earlier (more e es) → Earlier (passed local j (passing w earlier e) ∷ earlier) es
-    next_earlier w earlier j e es le o h x a s = either (λ g. own e le (λ n. o.0 x n s) g) (λ g. h x g (or_second (is_name_of x e) (stands_whole x es) s)) (or_cases (var_eq x (passed local j (passing w earlier e))) (is_among x earlier) a)
+    next_earlier w earlier j e es le o h x a s = either_way (λ g. own e le (λ n. o.0 x n s) g) (λ g. h x g (or_second (is_name_of x e) (stands_whole x es) s)) (or_cases (var_eq x (passed local j (passing w earlier e))) (is_among x earlier) a)
       where
         own : (e : Term) → j + locals_passing (passing w earlier e) ≤ bound → (is_name_of x e ≡ true → R x) → var_eq x (passed local j (passing w earlier e)) ≡ true → R x
         own (lit z) le f g = is_local x j (omega (arith, le)) g

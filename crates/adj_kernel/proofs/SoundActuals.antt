@@ -22,7 +22,7 @@ use Rattle.adj_kernel.specs.Calls.{is_name_of, stands_whole, is_scalar}
 use Rattle.adj_kernel.specs.Kernel.{is_named, local_in, lowered_unit, lowered_program, PlainCode, EachUnit, IsFitCall}
 use Rattle.adj_kernel.specs.Stepped.{marked_in, step_dummies, as_actuals, step_name, step_names, step_unit, cut, stepped_from, stepped_unit, names_of_source, stepped_program, kernel_of}
 use Rattle.adj_kernel.specs.StepTheorem.{IsSource, HasExtents}
-use Rattle.adj_kernel.proofs.Faultless.{Each, none_flat, if_none}
+use Rattle.adj_kernel.proofs.Faultless.{Each, none_flat, if_none, join_units}
 use Rattle.adj_kernel.proofs.Locals.{local_undeclared, scalars_behind}
 use Rattle.adj_kernel.proofs.Programs.{found_lowered}
 use Rattle.adj_kernel.proofs.Holding.{HoldsIn, Holds, listed, lowered_holds}
@@ -105,14 +105,10 @@ module _ (units : List Procedure) (written : IsWritten units) (sound : IsSound s
   IsCalledThere : Procedure → List ℕ → Terms → Type 0
   IsCalledThere v = Called (stepped_program units) v
 
-  join_called : (ps qs : List Procedure) → EachUnit (λ v. EachCall (Called (stepped_program units) v) v.body) ps → EachUnit (λ v. EachCall (Called (stepped_program units) v) v.body) qs → EachUnit (λ v. EachCall (Called (stepped_program units) v) v.body) (ps ++ qs)
-  join_called [] qs h g = g
-  join_called (p ∷ ps) qs h g = (h.0, join_called ps qs h.1 g)
-
   all_called : (us : List Procedure) (taken : List (List ℕ)) → EachUnit (λ u. PlainCode u.body) us → EachUnit (λ u. EachCall (Called units u) u.body) us → EachUnit (HasExtents ℤ units) us → AllThere (stepped_program units) taken us → EachUnit (λ v. EachCall (Called (stepped_program units) v) v.body) (stepped_from taken us)
   all_called [] taken pl c x t = tt
   all_called (u ∷ us) taken pl c x t =
-      join_called (stepped_unit taken u) (stepped_from (taken ++ step_names taken u.name (marked_in u.body)) us)
+      join_units (λ v. EachCall (Called (stepped_program units) v) v.body) (stepped_unit taken u) (stepped_from (taken ++ step_names taken u.name (marked_in u.body)) us)
       (calls_stepped u (Called units u) x.0.own x.0.flat (stepped_program units) taken (Called (stepped_program units)) (source_called u) (step_called taken u) pl.0 c.0 t.0)
       (all_called us (taken ++ step_names taken u.name (marked_in u.body)) pl.1 c.1 x.1 t.1)
 

@@ -18,7 +18,7 @@ use Rattle.adj_names.specs.Variables.{is_dummy, is_scalar}
 use Rattle.adj_names.specs.NameFaults.{extent_names, literal_product, is_bad_extent, has_bad_extents}
 use Rattle.adj_names.specs.WriteFaults.{may_write}
 use Rattle.adj_kernel.specs.Stepped.{names_extent}
-use Rattle.adj_kernel.proofs.Faultless.{Each, each_front, each_behind, each_join, isn't_not}
+use Rattle.adj_kernel.proofs.Faultless.{Each, each_front, each_behind, each_join, isn't_not, both_false}
 
 -- ---- names of extents
 
@@ -66,9 +66,6 @@ extent_of_unit x (d ∷ ds) v h = go (var_eq v (plain d.name)) (extent_of_unit x
 -- ---- writing
 
 module _ (handed : Dummies) (x : Var) where
-  both_false : (a b : Bool) → a ≡ false → b ≡ false → (a || b) ≡ false
-  both_false a b e f = ap (λ z. z || b) e ∙ f
-
   mutual
     -- what no statement may write is not written
     act_unwritten : (line : ℕ) (a : Act) → may_write handed x a ≡ false → Each (λ (s : At Act). may_write handed x s.1 ≡ false) (inner a) → act_writes handed x a ≡ false

@@ -24,16 +24,16 @@ use Rattle.adj_kernel.specs.Kernel.{named, names_in_code, names_of, unit_name, i
 use Rattle.adj_kernel.specs.Kernel as kernel
 use Rattle.adj_kernel.specs.Stepped.{marked_in, marked_in_act, variables_of, names_extent, step_dummies, as_actuals, step_declarations, step_names, cut_act, cut, step_unit, step_units_in_act, step_units_in, stepped_unit, stepped_from, names_of_source, stepped_program, kernel_of}
 use Rattle.adj_kernel.specs.StepTheorem.{HasExtents, IsSource}
-use Rattle.adj_kernel.proofs.Faultless.{Each, each_front, each_behind, each_more, each_both, of_each, unit_each, none_front, none_behind, none_each, none_if, none_flat, isn't_not, same_has}
+use Rattle.adj_kernel.proofs.Faultless.{Each, each_front, each_behind, each_more, each_both, of_each, unit_each, none_front, none_behind, none_each, none_if, none_flat, isn't_not, same_has, join_units}
 use Rattle.adj_kernel.proofs.Holding.{HoldsIn, Holds, holding, holds_more, holds_both, cut_holds}
 use Rattle.adj_kernel.proofs.Locals.{has_first, has_second, own_body}
-use Rattle.adj_kernel.proofs.OneNotion.{names_standing, stated, stated_code, names_placed}
+use Rattle.adj_kernel.proofs.OneNotion.{names_standing, stated, stated_code, names_placed, at_dummies}
 use Rattle.adj_kernel.proofs.StepNames.{code_named, declared_step}
 use Rattle.adj_kernel.proofs.StepUnits.{step_body_inside}
 use Rattle.adj_kernel.proofs.StepCalls.{ExtentsIn, in_hand, extents_in}
 use Rattle.adj_kernel.proofs.StepFitting.{Distinct, dummies_distinct}
 use Rattle.adj_kernel.proofs.StepsWritten.{once_from, used_from}
-use Rattle.adj_kernel.proofs.StandingNames.{IsFree, IsGood, Stands, each_member, no_name_faults}
+use Rattle.adj_kernel.proofs.StandingNames.{IsFree, IsGood, Stands, each_member, no_name_faults, at_declared, same_declared}
 use Rattle.adj_kernel.proofs.LoweredStands.{lowered_stands}
 use Rattle.adj_kernel.proofs.SoundUnits.{distinct_of, of_source}
 use Rattle.adj_kernel.proofs.WholeKernels.{good}
@@ -124,14 +124,6 @@ own_names ps u h = record {
     n5 : runtime_calls source_rules u ++ too_many_variables source_rules u ≡ []
     n5 = none_behind (reserved_variables ps u) _ n4
 
-    at_dummies : (line : ℕ) (ds : List Name) → map (λ (p : At Name). p.1) (map (λ d. (line, d)) ds) ≡ ds
-    at_dummies line [] = refl
-    at_dummies line (d ∷ ds) = ap (λ z. d ∷ z) (at_dummies line ds)
-
-    at_declared : (ds : List Declaration) → map (λ (p : At Name). p.1) (map (λ d. (d.line, d.name)) ds) ≡ map (λ d. d.name) ds
-    at_declared [] = refl
-    at_declared (d ∷ ds) = ap (λ z. d.name ∷ z) (at_declared ds)
-
     each_place : Each (λ (p : At Name). (is_integer u p.1 ≡ true) × IsFree (map unit_name ps) p.1) (places u)
     each_place =
         each_both (λ (p : At Name). is_integer u p.1 ≡ true) (λ (p : At Name). IsFree (map unit_name ps) p.1) (places u)
@@ -206,10 +198,6 @@ module _ (names : List Name) (u : Procedure) (known : OwnNames names u) (P : Lis
         (holds_both (λ line a. Each (λ n. (has_rank u n ≡ true) × (has_name n.name ns ≡ true)) (in_act a)) (λ line a. StepsWithin u ns a) c
         (holds_more (λ line a. Each (λ n. has_rank u n ≡ true) (in_act a) × Each (λ n. has_name n.name ns ≡ true) (in_act a)) (λ line a. Each (λ n. (has_rank u n ≡ true) × (has_name n.name ns ≡ true)) (in_act a)) (λ line a h. each_both (λ n. has_rank u n ≡ true) (λ n. has_name n.name ns ≡ true) (in_act a) h.0 h.1) c
         (holds_both (λ line a. Each (λ n. has_rank u n ≡ true) (in_act a)) (λ line a. Each (λ n. has_name n.name ns ≡ true) (in_act a)) c r n)) w)
-
-  same_declared : (ds : List Declaration) → kernel.declared_names ds ≡ map (λ (d : Declaration). d.name) ds
-  same_declared [] = refl
-  same_declared (d ∷ ds) = ap (λ z. d.name ∷ z) (same_declared ds)
 
   each_declaration : (ds : List Declaration) → ((x : Name) → has_name x (kernel.declared_names ds) ≡ true → IsFree names x) → Each (λ (d : Declaration). IsFree names d.name) ds
   each_declaration [] h = tt
@@ -309,15 +297,11 @@ module _ (names : List Name) (u : Procedure) (known : OwnNames names u) (P : Lis
 
   -- ---- all step units
 
-  join_stands : (ps qs : List Procedure) → EachUnit (Stands names) ps → EachUnit (Stands names) qs → EachUnit (Stands names) (ps ++ qs)
-  join_stands [] qs h g = g
-  join_stands (p ∷ ps) qs h g = (h.0, join_stands ps qs h.1 g)
-
   module _ (taken : List Name) where
     mutual
       steps_stand_act : (k line : ℕ) (a : Act) → ActInside (is_of u) a → PlainAct a → EachCall' P a → HoldsIn (λ line a. Each (λ n. has_rank u n ≡ true) (in_act a)) a → EachUnit (Stands names) (step_units_in_act taken u k line a)
       steps_stand_act k line (assign x subs e) o pl p r = tt
-      steps_stand_act k line (choose c a b) o pl p r = join_stands (step_units_in taken u k a) (step_units_in taken u (k + marked_in a) b) (steps_stand k a o.1.0 pl.1.0 p.0 r.0) (steps_stand (k + marked_in a) b o.1.1 pl.1.1 p.1 r.1)
+      steps_stand_act k line (choose c a b) o pl p r = join_units (Stands names) (step_units_in taken u k a) (step_units_in taken u (k + marked_in a) b) (steps_stand k a o.1.0 pl.1.0 p.0 r.0) (steps_stand (k + marked_in a) b o.1.1 pl.1.1 p.1 r.1)
       steps_stand_act k line (loop x first last by body unmarked) o pl p r = steps_stand k body o.1.1 pl.1.1 p r
       steps_stand_act k line (loop x first last by body (with_count m)) o pl p r = (step_stands taken k line x body pl.1.1 p o.0 o.1.1 r, steps_stand (suc k) body o.1.1 pl.1.1 p r)
       steps_stand_act k line (loop x first last by body (count_from y)) o pl p r = (step_stands taken k line x body pl.1.1 p o.0 o.1.1 r, steps_stand (suc k) body o.1.1 pl.1.1 p r)
@@ -327,7 +311,7 @@ module _ (names : List Name) (u : Procedure) (known : OwnNames names u) (P : Lis
 
       steps_stand : (k : ℕ) (c : Code) → CodeInside (is_of u) c → PlainCode c → EachCall P c → Holds (λ line a. Each (λ n. has_rank u n ≡ true) (in_act a)) c → EachUnit (Stands names) (step_units_in taken u k c)
       steps_stand k stop o pl p r = tt
-      steps_stand k (step line a rest) o pl p r = join_stands (step_units_in_act taken u k line a) (step_units_in taken u (k + marked_in_act a) rest) (steps_stand_act k line a o.0 pl.0 p.0 r.1.0) (steps_stand (k + marked_in_act a) rest o.1 pl.1 p.1 r.1.1)
+      steps_stand k (step line a rest) o pl p r = join_units (Stands names) (step_units_in_act taken u k line a) (step_units_in taken u (k + marked_in_act a) rest) (steps_stand_act k line a o.0 pl.0 p.0 r.1.0) (steps_stand (k + marked_in_act a) rest o.1 pl.1 p.1 r.1.1)
 
     -- the unit and its step units stand
     unit_stands : PlainCode u.body → EachCall P u.body → EachUnit (Stands names) (stepped_unit taken u)
@@ -354,14 +338,10 @@ module _ (units : List Procedure) (written : IsWritten units) (sound : IsSound s
   names_there : (u : Procedure) → OwnNames (map unit_name units) u → ((x : Name) → has_name x (names_of u) ≡ true → has_name x (flat_map names_of units) ≡ true) → OwnNames (map unit_name (stepped_program units)) u
   names_there u n w = record { own = λ x h. let k = n.own x h in (k.0, free_there x k.1 (w x h)); ranks = n.ranks; dummies_once = n.dummies_once; declared_once = n.declared_once; extents = n.extents }
 
-  join_units : (ps qs : List Procedure) → EachUnit (Stands (map unit_name (stepped_program units))) ps → EachUnit (Stands (map unit_name (stepped_program units))) qs → EachUnit (Stands (map unit_name (stepped_program units))) (ps ++ qs)
-  join_units [] qs h g = g
-  join_units (p ∷ ps) qs h g = (h.0, join_units ps qs h.1 g)
-
   all_stand : (us : List Procedure) (taken : List Name) → Each (OwnNames (map unit_name units)) us → EachUnit (λ u. (x : Name) → has_name x (names_of u) ≡ true → has_name x (flat_map names_of units) ≡ true) us → EachUnit (λ u. PlainCode u.body) us → EachUnit (λ u. EachCall (IsFitCall units u) u.body) us → EachUnit (HasExtents ℤ units) us → EachUnit (Stands (map unit_name (stepped_program units))) (stepped_from taken us)
   all_stand [] taken n w pl c x = tt
   all_stand (u ∷ us) taken n w pl c x =
-      join_units (stepped_unit taken u) (stepped_from (taken ++ step_names taken u.name (marked_in u.body)) us) (unit_stands (map unit_name (stepped_program units)) u (names_there u n.0 w.0) (IsFitCall units u) x.0.own x.0.flat taken pl.0 c.0)
+      join_units (Stands (map unit_name (stepped_program units))) (stepped_unit taken u) (stepped_from (taken ++ step_names taken u.name (marked_in u.body)) us) (unit_stands (map unit_name (stepped_program units)) u (names_there u n.0 w.0) (IsFitCall units u) x.0.own x.0.flat taken pl.0 c.0)
       (all_stand us (taken ++ step_names taken u.name (marked_in u.body)) n.1 w.1 pl.1 c.1 x.1)
 
   source : IsSource ℤ units

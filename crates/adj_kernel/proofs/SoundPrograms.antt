@@ -1,34 +1,31 @@
 -- A written program without faults is a source, and its CALLs are of units that aren't named like runtime calls.
-use Rattle.std.proofs.Common.{◌≡◌, ℕ, true, false, List, [], ◌∷◌, ◌++◌, map, refl, sym, ap, ◌∙◌}
+use Rattle.std.proofs.Common.{◌≡◌, ℕ, true, false, List, [], ◌∷◌, ◌++◌, map, refl, sym, ◌∙◌}
 use Rattle.std.specs.Prelude.{None, not, ◌&&◌, flat_map, codes}
-use Rattle.std.specs.List.{list_any}
 use Rattle.adj_tree.specs.Code.{plain, name_eq, Terms, Runtime, Act, call, runtime, Procedure}
-use Rattle.adj_tree.proofs.Names.{name_same}
 use Rattle.adj_text.specs.Statement.{runtime_call}
 use Rattle.adj_text.specs.Written.{IsWrittenProcedure, IsWritten}
 use Rattle.adj_meaning.specs.Written.{handed_back}
-use Rattle.adj_meaning.specs.Read.{is_extent}
 use Rattle.adj_meaning.specs.Units.{declared}
 use Rattle.adj_meaning.proofs.Booleans.{or_false}
 use Rattle.adj_names.specs.Statements.{At, statements}
 use Rattle.adj_names.specs.Reserved.{is_runtime}
-use Rattle.adj_names.specs.Variables.{is_dummy}
 use Rattle.adj_names.specs.Calls.{Call, call_in, calls}
 use Rattle.adj_names.specs.Fault.{source_rules, fault, faults_if}
 use Rattle.adj_names.specs.NameFaults.{undeclared, declared_twice, misused, bad_extents, has_bad_extents, reserved_variables, calls_runtime, runtime_calls, too_many_variables, faults_of_names}
 use Rattle.adj_names.specs.CallFaults.{faults_of_call}
-use Rattle.adj_names.specs.WriteFaults.{may_write, written_variables, written_extents, have_clash, shared_variables, written_values, faults_of_writes}
+use Rattle.adj_names.specs.WriteFaults.{written_variables, written_extents, have_clash, shared_variables, written_values, faults_of_writes}
 use Rattle.adj_names.specs.Check.{IsSound}
 use Rattle.adj_names.proofs.Sound.{sound_has_none}
 use Rattle.adj_kernel.specs.Apart.{EachCall}
 use Rattle.adj_kernel.specs.Kernel.{EachUnit, PlainCode, IsFitCall}
 use Rattle.adj_kernel.specs.StepTheorem.{IsCounted, HasExtents, IsSource}
 use Rattle.adj_kernel.specs.WrittenTheorem.{CallsUnits}
-use Rattle.adj_kernel.proofs.Faultless.{Each, each_more, each_all, each_flat, of_each, none_front, none_behind, none_each, none_if, any_none, same_has}
+use Rattle.adj_kernel.proofs.Sparing.{KeepsExtents, kept_of}
+use Rattle.adj_kernel.proofs.Faultless.{Each, each_more, each_all, each_flat, of_each, none_front, none_behind, none_each, none_if, same_has}
 use Rattle.adj_kernel.proofs.Locals.{has_first}
 use Rattle.adj_kernel.proofs.SoundCalls.{each_in_code, plain_code}
 use Rattle.adj_kernel.proofs.SoundFits.{Called, is_called, counted_of, fit_of}
-use Rattle.adj_kernel.proofs.SoundExtents.{of_declared, no_extents, extent_of_unit, unwritten, declared_fit}
+use Rattle.adj_kernel.proofs.SoundExtents.{of_declared, no_extents, extent_of_unit, declared_fit}
 
 -- ---- names of runtime calls
 
@@ -108,23 +105,17 @@ module _ (ps : List Procedure) (u : Procedure) where
         (none_each (λ d. faults_if (has_bad_extents u d) (fault 12 d.line)) u.declarations
         (none_front (bad_extents u) (reserved_variables ps u ++ (runtime_calls source_rules u ++ too_many_variables source_rules u)) n3))
 
-    -- no statement may write a dummy that is an extent
-    unwritten_extent : (d : List ℕ) → is_dummy u d ≡ true → is_extent d u.declarations ≡ true → Each (λ (s : At Act). may_write (handed_back ps) (plain d) s.1 ≡ false) (statements u.body)
-    unwritten_extent d k e =
+    -- the unit doesn't write its dummies that are extents
+    keeps_extents : KeepsExtents (handed_back ps) u
+    keeps_extents =
         let w1 = none_behind (written_variables (handed_back ps) u) (written_extents (handed_back ps) u ++ (shared_variables (handed_back ps) u ++ written_values (handed_back ps) u)) wrote in
-        let w2 = none_front (written_extents (handed_back ps) u) (shared_variables (handed_back ps) u ++ written_values (handed_back ps) u) w1 in
-        each_more (λ s. faults_if (list_any (λ d. is_extent d u.declarations && may_write (handed_back ps) (plain d) s.1) u.dummies) (fault 13 s.0) ≡ []) (λ s. may_write (handed_back ps) (plain d) s.1 ≡ false)
-        (λ s h.
-        ap (λ b. b && may_write (handed_back ps) (plain d) s.1) (sym e)
-        ∙ any_none (λ d. is_extent d u.declarations && may_write (handed_back ps) (plain d) s.1) u.dummies (none_if (list_any (λ d. is_extent d u.declarations && may_write (handed_back ps) (plain d) s.1) u.dummies) (fault 13 s.0) h) d k
-        (λ y q. ap (λ z. is_extent z u.declarations && may_write (handed_back ps) (plain z) s.1) (sym (name_same d y q))))
-        (statements u.body) (none_each (λ s. faults_if (list_any (λ d. is_extent d u.declarations && may_write (handed_back ps) (plain d) s.1) u.dummies) (fault 13 s.0)) (statements u.body) w2)
+        kept_of (handed_back ps) u (none_front (written_extents (handed_back ps) u) (shared_variables (handed_back ps) u ++ written_values (handed_back ps) u) w1)
 
     pub has_extents : (C : Type 0) → HasExtents C ps u
     has_extents C = record {
       own = λ x d h. has_first d u.dummies _ (sym (same_has d u.dummies) ∙ (of_declared u d u.declarations x good_extents h).0);
       flat = λ x d h. no_extents (declared u.declarations (plain d)) (of_declared u d u.declarations x good_extents h).1;
-      kept = λ x d h. unwritten (handed_back ps) (plain d) u.body (unwritten_extent d (of_declared u d u.declarations x good_extents h).0 (extent_of_unit d u.declarations x h));
+      kept = λ x d h. keeps_extents d (of_declared u d u.declarations x good_extents h).0 (extent_of_unit d u.declarations x h);
       locals_fit = λ n s d h. declared_fit n s u u.declarations d (same_has d u.dummies ∙ h) good_extents;
     }
 

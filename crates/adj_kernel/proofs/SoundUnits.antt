@@ -18,7 +18,7 @@ use Rattle.adj_transpose.proofs.Naming.{has-append}
 use Rattle.adj_transpose.proofs.Variables.{not_true}
 use Rattle.adj_kernel.specs.Kernel.{unit_name, names_of, lowered_unit}
 use Rattle.adj_kernel.specs.Stepped.{marked_in, marked_in_act, step_names, step_name, step_unit, step_units_in_act, step_units_in, stepped_from, names_of_source, stepped_program, kernel_of}
-use Rattle.adj_kernel.proofs.Faultless.{Each, each_join, none_front, none_behind, none_each, none_if, none_flat, if_none, none_both, same_has}
+use Rattle.adj_kernel.proofs.Faultless.{Each, each_join, none_front, none_behind, none_each, none_if, none_flat, if_none, none_both, same_has, either_way}
 use Rattle.adj_kernel.proofs.Locals.{has_first, has_second}
 use Rattle.adj_kernel.proofs.StepLookups.{not_taken, later_apart, later_act, later_code, listed_code}
 use Rattle.adj_kernel.proofs.StepFitting.{Distinct}
@@ -84,10 +84,6 @@ module _ (taken : List (List ℕ)) (u : Procedure) where
 
   later : (j k : ℕ) (x : List ℕ) → j ≤ k → IsNumbered k x → IsNumbered j x
   later j k x le n = record { number = n.number; from = let f = n.from in omega (arith, f, le); is = n.is }
-
-  either_way : {A B D : Type 0} → (A → D) → (B → D) → A ⊎ B → D
-  either_way f g (inl a) = f a
-  either_way f g (inr b) = g b
 
   own : (k : ℕ) (x : List ℕ) (line : ℕ) (y : Var) (body : Code) → (has_name x (map unit_name (step_units_in taken u (suc k) body)) ≡ true → IsNumbered (suc k) x) → has_name x (map unit_name (step_unit taken u k line y body ∷ step_units_in taken u (suc k) body)) ≡ true → IsNumbered k x
   own k x line y body ih h =
@@ -246,10 +242,12 @@ of_place [] h = tt
 of_place (u ∷ us) h = (if_none (is_reserved u.name) (fault 18 u.line) h.0, of_place us h.1)
 
 module _ (units : List Procedure) (sound : IsSound source_rules units) where
+  pub source_distinct : Distinct (map unit_name units)
+  source_distinct = subst Distinct (placed_names units) (distinct_of 19 [] (unit_places units) (none_behind (reserved_units units) (repeated_units units) (sound_has_none source_rules units sound).units))
+
   pub stepped_distinct : Distinct (map unit_name (stepped_program units))
   stepped_distinct =
-      distinct_stepped units (names_of_source units)
-      (subst Distinct (placed_names units) (distinct_of 19 [] (unit_places units) (none_behind (reserved_units units) (repeated_units units) (sound_has_none source_rules units sound).units)))
+      distinct_stepped units (names_of_source units) source_distinct
       (λ x h. has_first x (map unit_name units) (flat_map names_of units) h)
 
   pub stepped_free : Each IsFreeUnit (stepped_program units)

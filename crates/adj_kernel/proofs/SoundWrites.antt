@@ -1,5 +1,5 @@
 -- The kernel of a program without faults has no fault of writes.
-use Rattle.std.proofs.Common.{◌≡◌, ℕ, Bool, true, false, List, [], ◌∷◌, ◌++◌, map, refl, ap, ◌∙◌}
+use Rattle.std.proofs.Common.{◌≡◌, ℕ, Bool, false, List, [], ◌∷◌, ◌++◌, map, refl, ap, ◌∙◌}
 use Rattle.std.specs.Prelude.{ℤ, ◌&&◌, ◌||◌}
 use Rattle.adj_tree.specs.Code.{Var, var_eq, lit, var, elem, neg, bin, pow, power_of, abs, Terms, none, more, Act, assign, choose, loop, during, call, runtime, Code, stop, step, Procedure}
 use Rattle.adj_text.specs.Written.{IsWritten}
@@ -17,7 +17,7 @@ use Rattle.adj_kernel.specs.Kernel.{EachUnit, lowered_unit}
 use Rattle.adj_kernel.specs.Form.{AreDistinctNames, IsKernelAct, IsKernelCode}
 use Rattle.adj_kernel.specs.Stepped.{names_of_source, stepped_program, kernel_of}
 use Rattle.adj_kernel.specs.StepTheorem.{IsSource}
-use Rattle.adj_kernel.proofs.Faultless.{Each, each_more, flat_each, of_each, none_front, none_behind, none_each, none_flat, if_none, none_both}
+use Rattle.adj_kernel.proofs.Faultless.{Each, each_more, flat_each, of_each, none_front, none_behind, none_each, none_flat, if_none, none_both, and_none}
 use Rattle.adj_kernel.proofs.Holding.{HoldsIn, Holds, listed}
 use Rattle.adj_kernel.proofs.Sparing.{AreSpared, KeepsExtents, spared_of, of_spared, kept_of, of_kept, spared_lowered, kept_lowered}
 use Rattle.adj_kernel.proofs.StepLookups.{program_there}
@@ -59,11 +59,7 @@ distinct_clash u (w ∷ ws) (more (abs a) es) d = absurd d
 distinct_places : (ws : List Bool) (es : Terms) → AreDistinctNames es → hands_back_values ws es ≡ false
 distinct_places [] es d = refl
 distinct_places (w ∷ ws) none d = refl
-distinct_places (w ∷ ws) (more (var x) es) d = ap (λ b. b || hands_back_values ws es) (no w) ∙ distinct_places ws es d.1
-  where
-    no : (w : Bool) → (w && false) ≡ false
-    no true = refl
-    no false = refl
+distinct_places (w ∷ ws) (more (var x) es) d = ap (λ b. b || hands_back_values ws es) (and_none w) ∙ distinct_places ws es d.1
 distinct_places (w ∷ ws) (more (lit z) es) d = absurd d
 distinct_places (w ∷ ws) (more (elem y subs) es) d = absurd d
 distinct_places (w ∷ ws) (more (neg a) es) d = absurd d

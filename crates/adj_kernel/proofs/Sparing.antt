@@ -13,7 +13,7 @@ use Rattle.adj_names.specs.Fault.{fault, faults_if}
 use Rattle.adj_names.specs.WriteFaults.{may_write, writes_of_variable, written_variables, written_extents}
 use Rattle.adj_kernel.specs.Apart.{ActInside, CodeInside, EachCall', EachCall}
 use Rattle.adj_kernel.specs.Kernel.{is_of, local_in, scalar_at, lowered_unit, lowered_program, PlainCode, IsFitCall, IsFit}
-use Rattle.adj_kernel.proofs.Faultless.{Each, each_more, each_swap, none_each, none_if, none_flat, if_none, any_none, none_any, same_has}
+use Rattle.adj_kernel.proofs.Faultless.{Each, each_more, each_swap, none_each, none_if, none_flat, if_none, any_none, none_any, same_has, and_none}
 use Rattle.adj_kernel.proofs.Locals.{own_body, own_dummies}
 use Rattle.adj_kernel.proofs.SameWritten.{statements_same}
 use Rattle.adj_kernel.proofs.SoundExtents.{unwritten, spared}
@@ -85,10 +85,6 @@ module _ (handed : Dummies) where
       (λ s k. if_none (list_any (λ d. is_extent d u.declarations && may_write handed (plain d) s.1) u.dummies) (fault 13 s.0) (none_any (λ d. is_extent d u.declarations && may_write handed (plain d) s.1) u.dummies k)) (statements u.body)
       (each_swap (λ d (s : At Act). is_dummy u d ≡ true → (is_extent d u.declarations && may_write handed (plain d) s.1) ≡ false) (statements u.body) (λ d. one d)))
     where
-      none : (b : Bool) → (b && false) ≡ false
-      none true = refl
-      none false = refl
-
       always : (d : List ℕ) (ss : List (At Act)) → is_extent d u.declarations ≡ false → Each (λ (s : At Act). is_dummy u d ≡ true → (is_extent d u.declarations && may_write handed (plain d) s.1) ≡ false) ss
       always d [] e = tt
       always d (s ∷ ss) e = ((λ k. ap (λ b. b && may_write handed (plain d) s.1) e), always d ss e)
@@ -102,7 +98,7 @@ module _ (handed : Dummies) where
         where
           by : (a b : Bool) → is_extent d u.declarations ≡ a → is_dummy u d ≡ b → Each (λ (s : At Act). is_dummy u d ≡ true → (is_extent d u.declarations && may_write handed (plain d) s.1) ≡ false) (statements u.body)
           by true true e k =
-              each_more (λ (s : At Act). may_write handed (plain d) s.1 ≡ false) (λ s. is_dummy u d ≡ true → (is_extent d u.declarations && may_write handed (plain d) s.1) ≡ false) (λ s g q. ap (λ b. is_extent d u.declarations && b) g ∙ none (is_extent d u.declarations)) (statements u.body)
+              each_more (λ (s : At Act). may_write handed (plain d) s.1 ≡ false) (λ s. is_dummy u d ≡ true → (is_extent d u.declarations && may_write handed (plain d) s.1) ≡ false) (λ s g q. ap (λ b. is_extent d u.declarations && b) g ∙ and_none (is_extent d u.declarations)) (statements u.body)
               (spared handed (plain d) u.body (h d k e))
           by true false e k = never d (statements u.body) k
           by false b e k = always d (statements u.body) e

@@ -1,5 +1,5 @@
 -- Units whose names stand as they should: the names have types, ranks and extents, and are free.
-use Rattle.std.proofs.Common.{◌≡◌, ℕ, Bool, true, false, List, [], ◌∷◌, ◌++◌, map, ◌⊎◌, inl, inr, refl, sym, ap, ◌∙◌, subst, if◌then◌else◌}
+use Rattle.std.proofs.Common.{◌≡◌, ℕ, true, false, List, [], ◌∷◌, ◌++◌, map, ◌⊎◌, inl, inr, refl, sym, ap, ◌∙◌, subst, if◌then◌else◌}
 use Rattle.std.proofs.lemmas.Bool.{or_cases}
 use Rattle.std.specs.Prelude.{◌&&◌, ◌||◌, not, flat_map, Some, is_some}
 use Rattle.std.specs.List.{list_any}
@@ -16,8 +16,10 @@ use Rattle.adj_names.specs.Fault.{run_rules, fault, faults_if, again}
 use Rattle.adj_names.specs.NameFaults.{extent_names, extent_places, undeclared, declared_twice, has_rank, taken_in, misused, is_bad_extent, has_bad_extents, bad_extents, reserved_variables, calls_runtime, runtime_calls, faults_of_names}
 use Rattle.adj_transpose.specs.Fresh.{has_name, reserved}
 use Rattle.adj_transpose.proofs.Variables.{name_comm}
+use Rattle.adj_kernel.specs.Kernel as kernel
 use Rattle.adj_kernel.specs.Kernel.{unit_name}
-use Rattle.adj_kernel.proofs.Faultless.{Each, each_join, each_more, flat_each, none_flat, if_none, none_both, isn't_not, same_has}
+use Rattle.adj_kernel.proofs.OneNotion.{at_dummies}
+use Rattle.adj_kernel.proofs.Faultless.{Each, each_join, each_more, flat_each, none_flat, if_none, none_both, isn't_not, same_has, both_false}
 use Rattle.adj_kernel.proofs.Holding.{Holds, listed, holds_more}
 use Rattle.adj_kernel.proofs.StepFitting.{Distinct}
 use Rattle.adj_kernel.proofs.SoundUnits.{once}
@@ -78,9 +80,6 @@ none_found : (us : List Procedure) (x : Name) → has_name x (map unit_name us) 
 none_found [] x h = refl
 none_found (u ∷ us) x h = let p = or_false (name_eq x u.name) (has_name x (map unit_name us)) h in ap (λ b. is_some (if b then Some u else find_unit us x)) (name_comm x u.name p.0) ∙ none_found us x p.1
 
-both_false : (a b : Bool) → a ≡ false → b ≡ false → (a || b) ≡ false
-both_false a b h g = ap (λ z. z || b) h ∙ g
-
 taken_same : (a : Act) → taken_in true a ≡ in_act a
 taken_same (assign x subs e) = refl
 taken_same (choose c a b) = refl
@@ -88,6 +87,15 @@ taken_same (loop x first last by body m) = refl
 taken_same (during c body) = refl
 taken_same (call name args) = refl
 taken_same (runtime r) = refl
+
+-- the names of declarations, and where they are declared
+pub at_declared : (ds : List Declaration) → map (λ (p : At Name). p.1) (map (λ d. (d.line, d.name)) ds) ≡ map (λ d. d.name) ds
+at_declared [] = refl
+at_declared (d ∷ ds) = ap (λ z. d.name ∷ z) (at_declared ds)
+
+pub same_declared : (ds : List Declaration) → kernel.declared_names ds ≡ map (λ (d : Declaration). d.name) ds
+same_declared [] = refl
+same_declared (d ∷ ds) = ap (λ z. d.name ∷ z) (same_declared ds)
 
 module _ (ps : List Procedure) (v : Procedure) (stands : Stands (map unit_name ps) v) where
   abbrev IsKnown : At Name → Type 0
@@ -132,14 +140,6 @@ module _ (ps : List Procedure) (v : Procedure) (stands : Stands (map unit_name p
   no_twice =
       none_both (again 8 [] (dummy_places v)) (again 8 [] (declared_places v)) (once 8 (dummy_places v) (subst Distinct (sym (at_dummies v.line v.dummies)) stands.dummies_once))
       (once 8 (declared_places v) (subst Distinct (sym (at_declared v.declarations)) stands.declared_once))
-    where
-      at_dummies : (line : ℕ) (ds : List Name) → map (λ (p : At Name). p.1) (map (λ d. (line, d)) ds) ≡ ds
-      at_dummies line [] = refl
-      at_dummies line (d ∷ ds) = ap (λ z. d ∷ z) (at_dummies line ds)
-
-      at_declared : (ds : List Declaration) → map (λ (p : At Name). p.1) (map (λ d. (d.line, d.name)) ds) ≡ map (λ d. d.name) ds
-      at_declared [] = refl
-      at_declared (d ∷ ds) = ap (λ z. d.name ∷ z) (at_declared ds)
 
   no_misuse : misused run_rules v ≡ []
   no_misuse =

@@ -1,5 +1,5 @@
 -- The CALLs of the stepped program are as they should be, where those of the source and those of step units are.
-use Rattle.std.proofs.Common.{◌≡◌, ℕ, suc, ◌+◌, ◌⊎◌, inl, inr, true, List, [], ◌∷◌, ◌++◌, refl, sym, ap, ◌∙◌}
+use Rattle.std.proofs.Common.{◌≡◌, ℕ, suc, ◌+◌, ◌⊎◌, inl, inr, true, List, [], ◌++◌, refl, sym, ap, ◌∙◌}
 use Rattle.std.proofs.lemmas.Bool.{or_cases}
 use Rattle.adj_tree.specs.Code.{Var, plain, shadow, helper, Terms, unmarked, with_count, count_from, Act, assign, choose, loop, during, call, runtime, Code, stop, step, Procedure}
 use Rattle.adj_meaning.specs.Read.{reads_terms}
@@ -10,6 +10,7 @@ use Rattle.adj_kernel.specs.Apart.{TermsInside, ActInside, CodeInside, EachCall'
 use Rattle.adj_kernel.specs.Kernel.{named, names_in_code, names_of, is_named, is_of, PlainAct, PlainCode, EachUnit}
 use Rattle.adj_kernel.specs.Stepped.{marked_in, marked_in_act, variables_of, names_extent, is_extent_of, step_dummies, as_actuals, step_name, cut_act, cut, step_unit, step_units_in_act, step_units_in, stepped_unit}
 use Rattle.adj_kernel.specs.StepTheorem.{IsStepThere, StepsThereAct, StepsThere}
+use Rattle.adj_kernel.proofs.Faultless.{join_units}
 use Rattle.adj_kernel.proofs.Locals.{own_body}
 use Rattle.adj_kernel.proofs.StepNames.{loop_named, listed_once, used_has, used_is, extent_among, among_extent, declared_step}
 use Rattle.adj_kernel.proofs.StepUnits.{step_body_inside}
@@ -84,14 +85,10 @@ module _ (u : Procedure) where
       calls_own pl p st = calls_code 0 u.body (record u { body = cut taken u 0 u.body }) (names_of u) (λ y h. refl) (own_body u pl) p st (λ y d h g. own_extents (plain y) d g)
 
       -- those of its step units
-      join_calls : (ps qs : List Procedure) → EachUnit (λ v. EachCall (Q v) v.body) ps → EachUnit (λ v. EachCall (Q v) v.body) qs → EachUnit (λ v. EachCall (Q v) v.body) (ps ++ qs)
-      join_calls [] qs h g = g
-      join_calls (p ∷ ps) qs h g = (h.0, join_calls ps qs h.1 g)
-
       mutual
         calls_units_act : (k line : ℕ) (a : Act) → ActInside (is_of u) a → PlainAct a → EachCall' P a → StepsThereAct units' taken u k line a → EachUnit (λ v. EachCall (Q v) v.body) (step_units_in_act taken u k line a)
         calls_units_act k line (assign x subs e) o pl p st = tt
-        calls_units_act k line (choose c a b) o pl p st = join_calls (step_units_in taken u k a) (step_units_in taken u (k + marked_in a) b) (calls_units k a o.1.0 pl.1.0 p.0 st.0) (calls_units (k + marked_in a) b o.1.1 pl.1.1 p.1 st.1)
+        calls_units_act k line (choose c a b) o pl p st = join_units (λ v. EachCall (Q v) v.body) (step_units_in taken u k a) (step_units_in taken u (k + marked_in a) b) (calls_units k a o.1.0 pl.1.0 p.0 st.0) (calls_units (k + marked_in a) b o.1.1 pl.1.1 p.1 st.1)
         calls_units_act k line (loop x first last by body unmarked) o pl p st = calls_units k body o.1.1 pl.1.1 p st
         calls_units_act k line (loop x first last by body (with_count m)) o pl p st = (calls_step k line x body pl.1.1 o.0 o.1.1 p st.1, calls_units (suc k) body o.1.1 pl.1.1 p st.1)
         calls_units_act k line (loop x first last by body (count_from counter)) o pl p st = (calls_step k line x body pl.1.1 o.0 o.1.1 p st.1, calls_units (suc k) body o.1.1 pl.1.1 p st.1)
@@ -101,7 +98,7 @@ module _ (u : Procedure) where
 
         calls_units : (k : ℕ) (c : Code) → CodeInside (is_of u) c → PlainCode c → EachCall P c → StepsThere units' taken u k c → EachUnit (λ v. EachCall (Q v) v.body) (step_units_in taken u k c)
         calls_units k stop o pl p st = tt
-        calls_units k (step line a rest) o pl p st = join_calls (step_units_in_act taken u k line a) (step_units_in taken u (k + marked_in_act a) rest) (calls_units_act k line a o.0 pl.0 p.0 st.0) (calls_units (k + marked_in_act a) rest o.1 pl.1 p.1 st.1)
+        calls_units k (step line a rest) o pl p st = join_units (λ v. EachCall (Q v) v.body) (step_units_in_act taken u k line a) (step_units_in taken u (k + marked_in_act a) rest) (calls_units_act k line a o.0 pl.0 p.0 st.0) (calls_units (k + marked_in_act a) rest o.1 pl.1 p.1 st.1)
 
       -- and so of the unit with its step units
       pub calls_stepped : PlainCode u.body → EachCall P u.body → StepsThere units' taken u 0 u.body → EachUnit (λ v. EachCall (Q v) v.body) (stepped_unit taken u)

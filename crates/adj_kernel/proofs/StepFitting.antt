@@ -16,6 +16,7 @@ use Rattle.adj_kernel.specs.Kernel.{named, names_in_code, names_of, is_named, is
 use Rattle.adj_kernel.specs.Form.{AreDistinctNames, IsSteppedAct, IsStepped}
 use Rattle.adj_kernel.specs.Stepped.{marked_in, marked_in_act, once_each, variables_of, names_extent, used_among, step_dummies, as_actuals, step_declarations, step_name, cut_act, cut, step_unit, step_units_in_act, step_units_in, stepped_unit}
 use Rattle.adj_kernel.specs.StepTheorem.{StepsThereAct, StepsThere, IsStepFor}
+use Rattle.adj_kernel.proofs.Faultless.{join_units, and_none}
 use Rattle.adj_kernel.proofs.Locals.{own_body}
 use Rattle.adj_kernel.proofs.StepNames.{is_used, declared_step}
 use Rattle.adj_kernel.proofs.StepCalls.{Declares, declares_read, calls_step, calls_own}
@@ -80,11 +81,7 @@ handed_named : (y : List ℕ) (ws : List Bool) (vs : List (List ℕ)) → has_na
 handed_named y [] vs h = refl
 handed_named y (w ∷ ws) [] h = refl
 handed_named y (w ∷ ws) (v ∷ vs) h =
-    let p = or_false (name_eq y v) (has_name y vs) h in either_false (w && name_eq y v) (is_handed_back (plain y) ws (as_actuals vs)) (ap (λ z. w && z) p.0 ∙ and_false w) (handed_named y ws vs p.1)
-  where
-    and_false : (b : Bool) → (b && false) ≡ false
-    and_false true = refl
-    and_false false = refl
+    let p = or_false (name_eq y v) (has_name y vs) h in either_false (w && name_eq y v) (is_handed_back (plain y) ws (as_actuals vs)) (ap (λ z. w && z) p.0 ∙ and_none w) (handed_named y ws vs p.1)
 
 -- so are the actuals of its call
 distinct_names : (vs : List (List ℕ)) → Distinct vs → AreDistinctNames (as_actuals vs)
@@ -216,15 +213,11 @@ module _ (units units' : List Procedure) (stepped : (name : List ℕ) (v : Proce
   abbrev pub Good : Procedure → Type 0
   Good p = PlainCode p.body × (EachCall (IsFitCall units' p) p.body × IsStepped p.body)
 
-  pub each_append : (ps qs : List Procedure) → EachUnit Good ps → EachUnit Good qs → EachUnit Good (ps ++ qs)
-  each_append [] qs h g = g
-  each_append (p ∷ ps) qs h g = (h.0, each_append ps qs h.1 g)
-
   mutual
     -- the step units of a statement fit
     good_act : (k line : ℕ) (a : Act) → ActInside (is_of u) a → PlainAct a → EachCall' (IsFitCall units u) a → StepsThereAct units' taken u k line a → EachUnit Good (step_units_in_act taken u k line a)
     good_act k line (assign x subs e) o pl p st = tt
-    good_act k line (choose c a b) o pl p st = each_append (step_units_in taken u k a) (step_units_in taken u (k + marked_in a) b) (good_code k a o.1.0 pl.1.0 p.0 st.0) (good_code (k + marked_in a) b o.1.1 pl.1.1 p.1 st.1)
+    good_act k line (choose c a b) o pl p st = join_units Good (step_units_in taken u k a) (step_units_in taken u (k + marked_in a) b) (good_code k a o.1.0 pl.1.0 p.0 st.0) (good_code (k + marked_in a) b o.1.1 pl.1.1 p.1 st.1)
     good_act k line (loop x first last by body unmarked) o pl p st = good_code k body o.1.1 pl.1.1 p st
     good_act k line (loop x first last by body (with_count m)) o pl p st = (
       (
@@ -253,7 +246,7 @@ module _ (units units' : List Procedure) (stepped : (name : List ℕ) (v : Proce
     -- and those of a list
     good_code : (k : ℕ) (c : Code) → CodeInside (is_of u) c → PlainCode c → EachCall (IsFitCall units u) c → StepsThere units' taken u k c → EachUnit Good (step_units_in taken u k c)
     good_code k stop o pl p st = tt
-    good_code k (step line a rest) o pl p st = each_append (step_units_in_act taken u k line a) (step_units_in taken u (k + marked_in_act a) rest) (good_act k line a o.0 pl.0 p.0 st.0) (good_code (k + marked_in_act a) rest o.1 pl.1 p.1 st.1)
+    good_code k (step line a rest) o pl p st = join_units Good (step_units_in_act taken u k line a) (step_units_in taken u (k + marked_in_act a) rest) (good_act k line a o.0 pl.0 p.0 st.0) (good_code (k + marked_in_act a) rest o.1 pl.1 p.1 st.1)
 
   -- the unit and its step units
   pub good_unit : PlainCode u.body → EachCall (IsFitCall units u) u.body → StepsThere units' taken u 0 u.body → EachUnit Good (stepped_unit taken u)

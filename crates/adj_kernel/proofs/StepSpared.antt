@@ -1,5 +1,5 @@
 -- In the stepped program no body of a loop writes its variable, and no unit its extents, where that is so in the program.
-use Rattle.std.proofs.Common.{◌≡◌, ℕ, suc, ◌+◌, ◌⊎◌, inl, inr, Bool, true, false, List, [], ◌∷◌, ◌++◌, refl, sym, ap, ◌∙◌}
+use Rattle.std.proofs.Common.{◌≡◌, ℕ, suc, ◌+◌, ◌⊎◌, inl, inr, true, false, List, [], ◌∷◌, ◌++◌, ap, ◌∙◌}
 use Rattle.std.proofs.lemmas.Bool.{or_cases}
 use Rattle.std.specs.Prelude.{◌||◌, Some}
 use Rattle.adj_tree.specs.Code.{Var, plain, shadow, helper, name_eq, unmarked, with_count, count_from, Act, assign, choose, loop, during, call, runtime, Code, stop, step, Declaration, Procedure}
@@ -13,17 +13,13 @@ use Rattle.adj_kernel.specs.Apart.{EachCall', EachCall}
 use Rattle.adj_kernel.specs.Kernel.{PlainVar, PlainAct, PlainCode, EachUnit}
 use Rattle.adj_kernel.specs.Stepped.{marked_in, marked_in_act, names_extent, step_dummies, as_actuals, step_declarations, step_name, step_names, cut_act, cut, step_unit, step_units_in_act, step_units_in, stepped_unit, stepped_from}
 use Rattle.adj_kernel.specs.StepTheorem.{StepsThereAct, StepsThere, IsStepFor, IsCounted, HasExtents}
+use Rattle.adj_kernel.proofs.Faultless.{join_units, not_back}
 use Rattle.adj_kernel.proofs.SoundExtents.{is_among-named}
 use Rattle.adj_kernel.proofs.StepNames.{ExtentOf}
 use Rattle.adj_kernel.proofs.StepLookups.{AllThere}
 use Rattle.adj_kernel.proofs.StepWritten.{cut_back, step_back}
 use Rattle.adj_kernel.proofs.Holding.{HoldsIn}
 use Rattle.adj_kernel.proofs.Sparing.{Spares, AreSpared, KeepsExtents}
-
--- what isn't so doesn't follow
-not_back : (a b : Bool) → (a ≡ true → b ≡ true) → b ≡ false → a ≡ false
-not_back true b f e = absurd (let z : true ≡ false = sym (f refl) ∙ e in cc)
-not_back false b f e = refl
 
 -- an extent of a step unit is one of a variable of its list
 step_extent : (ds : List Declaration) (line : ℕ) (d : List ℕ) (vs : List (List ℕ)) → is_extent d (step_declarations ds line vs) ≡ true → ExtentOf ds d vs
@@ -93,15 +89,11 @@ module _ (units units' : List Procedure) (plainly : (name : List ℕ) (v : Proce
       (λ d g e. let f = step_extent u.declarations line d (step_dummies u x body) e in not_back (writes (handed_back units') (plain d) (cut taken u (suc k) body)) (writes (handed_back units) (plain d) body) (cut_back units units' plainly each stepped taken u (suc k) body p st d) (kept (plain f.of) d f.is)),
     )
 
-    pub join_spared : (ps qs : List Procedure) → EachUnit IsSpared ps → EachUnit IsSpared qs → EachUnit IsSpared (ps ++ qs)
-    join_spared [] qs h g = g
-    join_spared (p ∷ ps) qs h g = (h.0, join_spared ps qs h.1 g)
-
     mutual
       steps_spared_act : (k line : ℕ) (a : Act) → PlainAct a → EachCall' (IsCounted units) a → StepsThereAct units' taken u k line a → HoldsIn (λ l c. Spares (handed_back units) c) a → KeepsAct a → EachUnit IsSpared (step_units_in_act taken u k line a)
       steps_spared_act k line (assign x subs e) pl p st s kept = tt
       steps_spared_act k line (choose c a b) pl p st s kept =
-          join_spared (step_units_in taken u k a) (step_units_in taken u (k + marked_in a) b) (steps_spared k a pl.1.0 p.0 st.0 s.0 (λ x d e. (or_false (writes (handed_back units) (plain d) a) (writes (handed_back units) (plain d) b) (kept x d e)).0))
+          join_units IsSpared (step_units_in taken u k a) (step_units_in taken u (k + marked_in a) b) (steps_spared k a pl.1.0 p.0 st.0 s.0 (λ x d e. (or_false (writes (handed_back units) (plain d) a) (writes (handed_back units) (plain d) b) (kept x d e)).0))
           (steps_spared (k + marked_in a) b pl.1.1 p.1 st.1 s.1 (λ x d e. (or_false (writes (handed_back units) (plain d) a) (writes (handed_back units) (plain d) b) (kept x d e)).1))
       steps_spared_act k line (loop x first last by body unmarked) pl p st s kept = steps_spared k body pl.1.1 p st s (λ z d e. (or_false _ (writes (handed_back units) (plain d) body) (kept z d e)).1)
       steps_spared_act k line (loop x first last by body (with_count m)) pl p st s kept =
@@ -118,7 +110,7 @@ module _ (units units' : List Procedure) (plainly : (name : List ℕ) (v : Proce
       steps_spared : (k : ℕ) (c : Code) → PlainCode c → EachCall (IsCounted units) c → StepsThere units' taken u k c → AreSpared (handed_back units) c → Keeps c → EachUnit IsSpared (step_units_in taken u k c)
       steps_spared k stop pl p st s kept = tt
       steps_spared k (step line a rest) pl p st s kept =
-          join_spared (step_units_in_act taken u k line a) (step_units_in taken u (k + marked_in_act a) rest) (steps_spared_act k line a pl.0 p.0 st.0 s.1.0 (λ x d e. (or_false (act_writes (handed_back units) (plain d) a) (writes (handed_back units) (plain d) rest) (kept x d e)).0))
+          join_units IsSpared (step_units_in_act taken u k line a) (step_units_in taken u (k + marked_in_act a) rest) (steps_spared_act k line a pl.0 p.0 st.0 s.1.0 (λ x d e. (or_false (act_writes (handed_back units) (plain d) a) (writes (handed_back units) (plain d) rest) (kept x d e)).0))
           (steps_spared (k + marked_in_act a) rest pl.1 p.1 st.1 s.1.1 (λ x d e. (or_false (act_writes (handed_back units) (plain d) a) (writes (handed_back units) (plain d) rest) (kept x d e)).1))
 
     -- and in the unit and its step units
@@ -132,5 +124,5 @@ module _ (units units' : List Procedure) (plainly : (name : List ℕ) (v : Proce
   pub all_spared : (C : Type 0) (us : List Procedure) (taken : List (List ℕ)) → EachUnit (λ u. PlainCode u.body) us → EachUnit (λ u. EachCall (IsCounted units) u.body) us → EachUnit (HasExtents C units) us → EachUnit (λ u. AreSpared (handed_back units) u.body × KeepsExtents (handed_back units) u) us → AllThere units' taken us → EachUnit IsSpared (stepped_from taken us)
   all_spared C [] taken pl p x s st = tt
   all_spared C (u ∷ us) taken pl p x s st =
-      join_spared taken u (stepped_unit taken u) (stepped_from (taken ++ step_names taken u.name (marked_in u.body)) us) (unit_spared taken u pl.0 p.0 st.0 s.0.0 s.0.1 x.0.kept)
+      join_units IsSpared (stepped_unit taken u) (stepped_from (taken ++ step_names taken u.name (marked_in u.body)) us) (unit_spared taken u pl.0 p.0 st.0 s.0.0 s.0.1 x.0.kept)
       (all_spared C us (taken ++ step_names taken u.name (marked_in u.body)) pl.1 p.1 x.1 s.1 st.1)

@@ -12,6 +12,7 @@ use Rattle.adj_kernel.specs.Stepped.{marked_in, step_names, cut, stepped_unit, s
 use Rattle.adj_kernel.specs.StepTheorem.{nest, deepest, IsStepFor, IsCounted, HasExtents, StepFits, IsSource}
 use Rattle.adj_kernel.specs.Means.{MeansAlike, MeansTheSame}
 use Rattle.adj_kernel.specs.StepMeans.{SameButCalls, WholeKernelHasUnits, WholeKernelMeansAlike}
+use Rattle.adj_kernel.proofs.Faultless.{join_units}
 use Rattle.adj_kernel.proofs.Programs.{found_in, found_lowered}
 use Rattle.adj_kernel.specs.Weights.{WeighsAtMost}
 use Rattle.adj_kernel.proofs.Costs.{lowered_means}
@@ -58,13 +59,9 @@ module _ (C : Type 0) (units : List Procedure) (source : IsSource C units) where
   abbrev pub IsGood : Procedure → Type 0
   IsGood p = PlainCode p.body × (EachCall (IsFitCall units' p) p.body × IsStepped p.body)
 
-  append_good : (ps qs : List Procedure) → EachUnit IsGood ps → EachUnit IsGood qs → EachUnit IsGood (ps ++ qs)
-  append_good [] qs h g = g
-  append_good (p ∷ ps) qs h g = (h.0, append_good ps qs h.1 g)
-
   all_good : (us : List Procedure) (taken : List (List ℕ)) → EachUnit (λ u. PlainCode u.body) us → EachUnit (λ u. EachCall (IsFitCall units u) u.body) us → EachUnit (HasExtents C units) us → AllThere units' taken us → EachUnit IsGood (stepped_from taken us)
   all_good [] taken p c x t = tt
-  all_good (u ∷ us) taken p c x t = append_good (stepped_unit taken u) (stepped_from (taken ++ step_names taken u.name (marked_in u.body)) us) (good_unit units units' stepped written taken u x.0.own x.0.flat p.0 c.0 t.0) (all_good us (taken ++ step_names taken u.name (marked_in u.body)) p.1 c.1 x.1 t.1)
+  all_good (u ∷ us) taken p c x t = join_units IsGood (stepped_unit taken u) (stepped_from (taken ++ step_names taken u.name (marked_in u.body)) us) (good_unit units units' stepped written taken u x.0.own x.0.flat p.0 c.0 t.0) (all_good us (taken ++ step_names taken u.name (marked_in u.body)) p.1 c.1 x.1 t.1)
 
   -- the units of the stepped program are as they should be
   pub good : EachUnit IsGood units'

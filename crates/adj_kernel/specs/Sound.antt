@@ -10,6 +10,7 @@ use Rattle.adj_names.specs.Fault.{source_rules, run_rules}
 use Rattle.adj_names.specs.UnitFaults.{unit_faults}
 use Rattle.adj_names.specs.NameFaults.{name_faults}
 use Rattle.adj_names.specs.CallFaults.{call_faults}
+use Rattle.adj_names.specs.ChainFaults.{chain_faults}
 use Rattle.adj_names.specs.WriteFaults.{write_faults}
 use Rattle.adj_names.specs.Check.{IsSound}
 use Rattle.adj_kernel.specs.Weights.{WeighsAtMost}
@@ -73,6 +74,14 @@ KernelNamesStand = (units : List Procedure) → IsAccepted units → name_faults
 abbrev pub KernelCallsStand : Type 0
 KernelCallsStand = (units : List Procedure) → IsAccepted units → call_faults (kernel_of units) ≡ []
 
+-- none of its CALLs lies on a cycle, and its chains have at most 80 units, marked loops counted
+abbrev pub KernelChainsStand : Type 0
+KernelChainsStand = (units : List Procedure) → IsAccepted units → chain_faults run_rules (kernel_of units) ≡ []
+
 -- no statement of it writes what it may not
 abbrev pub KernelWritesStand : Type 0
 KernelWritesStand = (units : List Procedure) → IsAccepted units → write_faults (kernel_of units) ≡ []
+
+-- so a check never refuses it
+abbrev pub KernelIsSound : Type 0
+KernelIsSound = (units : List Procedure) → IsAccepted units → IsSound run_rules (kernel_of units)

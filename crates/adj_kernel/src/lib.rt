@@ -10,7 +10,7 @@ ghost use Rattle.adj_meaning.specs.Laws.{ForBoth};
 ghost use Rattle.adj_kernel.specs.Theorem.{BothShowWords, KernelMeansTheSame, KernelFitsTheSame, KernelWritesTheSame, KernelStatementsWriteTheSame, KernelHasItsForm};
 ghost use Rattle.adj_kernel.specs.StepMeans.{WholeKernelHasUnits, WholeKernelMeansAlike, WholeKernelHasItsForm, WholeKernelWritesTheSame};
 ghost use Rattle.adj_kernel.specs.WrittenTheorem.{KernelIsWritten, WholeKernelIsWritten};
-ghost use Rattle.adj_kernel.specs.Sound.{AcceptedIsSource, AcceptedMeansAlike, AcceptedHasItsForm, AcceptedIsWritten, AcceptedWritesTheSame, AcceptedCostsItsWeight, VariablesAreThose, KernelUnitsStand, KernelNamesStand, KernelCallsStand, KernelWritesStand};
+ghost use Rattle.adj_kernel.specs.Sound.{AcceptedIsSource, AcceptedMeansAlike, AcceptedHasItsForm, AcceptedIsWritten, AcceptedWritesTheSame, AcceptedCostsItsWeight, VariablesAreThose, KernelUnitsStand, KernelNamesStand, KernelCallsStand, KernelChainsStand, KernelWritesStand, KernelIsSound};
 ghost use Rattle.adj_kernel.specs.Worked.{OneEach, MaximumInMaximum, InOperations, LeftAlone, InPowers, TargetsApart, NamesOfCalls, ElementsOfCalls, ValuesOfCalls, BodiesLowered, LocalsNamed, WorkedExample, StepUnits};
 ghost use Rattle.adj_kernel.specs.WeighTheorem.{StatementsWeigh, ListsWeigh, TowersWeigh, NothingToStep, KernelCostsItsWeight, CappedAreWeights};
 
@@ -68,7 +68,9 @@ pub fn kernel_stands()
     ensures units { KernelUnitsStand }
     ensures names { KernelNamesStand }
     ensures calls { KernelCallsStand }
+    ensures chains { KernelChainsStand }
     ensures writes { KernelWritesStand }
+    ensures sound { KernelIsSound }
 {}
 
 /// The kernels of statements and programs that were worked out by hand.
