@@ -24,15 +24,16 @@ use Rattle.adj_kernel.specs.Form.{IsKernelCode}
 use Rattle.adj_transpose.specs.Fresh.{has_name}
 use Rattle.adj_transpose.specs.Naming.{AreApart, AreInside}
 use Rattle.adj_transpose.specs.Program.{unit_name, unit_at}
-use Rattle.adj_reverse.specs.Marking.{full_marks, full_facts, marks_in, callee_of, callee_facts, read_by, plain_by, arrays_of, first_statement, entry_point}
+use Rattle.adj_reverse.specs.Laws.{UnitLaws}
+use Rattle.adj_reverse.specs.Marking.{ProgramMarks, ProgramFacts, full_marks, full_facts, marks_in, callee_of, callee_facts, read_by, plain_by, arrays_of, first_statement, entry_point}
 use Rattle.adj_reverse.specs.Program.{calls_in, has_adjoint, answers, is_kept, is_carried}
 use Rattle.adj_reverse.specs.Environment.{UnitFits}
 use Rattle.adj_reverse.specs.Source.{CallUnits, SourceFits}
 use Rattle.adj_reverse.proofs.Full.{list_laws, way}
 use Rattle.adj_reverse.proofs.Variables.{variables_apart, dummy_among}
 use Rattle.adj_reverse.proofs.EmittedUnits.{found_there}
-use Rattle.adj_reverse.proofs.Adjoint.{full_is_adjoint}
-use Rattle.adj_checked.specs.Checked.{IsChecked, CheckedFits, CheckedIsAdjoint}
+use Rattle.adj_reverse.proofs.Adjoint.{emitted_is_adjoint, full_is_adjoint}
+use Rattle.adj_checked.specs.Checked.{IsChecked, AreLawful, LawfulFits, LawfulIsAdjoint, CheckedFits, CheckedIsAdjoint}
 use Rattle.adj_checked.proofs.Lists.{Each, each_more, each_all, each_unit, each_found, none_front, none_behind, none_each, none_if, apart_places, apart_same}
 use Rattle.adj_checked.proofs.Texts.{Known}
 use Rattle.adj_checked.proofs.Statements.{names_given, CallHasNone, calls_inside, StatementSound, list_fits}
@@ -45,14 +46,19 @@ no_extents : (l : List Extent) → not (length l == 0) ≡ false → l ≡ []
 no_extents [] h = refl
 no_extents (e ∷ l) h = absurd (let x : length l ≡ length l = refl in grind arith)
 
--- every dummy is a member and has a shadow
+-- every dummy is a member
 all_members : (ps : List Procedure) (name d : List ℕ) (o : Option Procedure) → (callee_of full_marks ps name o).members (plain d) ≡ true
 all_members ps name d None = refl
 all_members ps name d (Some u) = refl
 
-all_shadowed : (ps : List Procedure) (name : List ℕ) (v : Var) (o : Option Procedure) → (callee_of full_marks ps name o).shadowed v ≡ true
-all_shadowed ps name v None = refl
-all_shadowed ps name v (Some u) = refl
+-- members and shadows of a unit are those of the marks, whatever is found
+members_said : (m : ProgramMarks) (ps : List Procedure) (name d : List ℕ) (o : Option Procedure) → m.members name (plain d) ≡ true → (callee_of m ps name o).members (plain d) ≡ true
+members_said m ps name d None h = h
+members_said m ps name d (Some u) h = h
+
+shadows_said : (m : ProgramMarks) (ps : List Procedure) (name : List ℕ) (v : Var) (o : Option Procedure) → (callee_of m ps name o).shadowed v ≡ m.shadowed name v
+shadows_said m ps name v None = refl
+shadows_said m ps name v (Some u) = refl
 
 each_sound : (rules : Rules) (ps : List Procedure) (u : Procedure) (ss : List (At Act)) → Each (λ s. flat_map (λ n. faults_if (not (has_rank u n)) (fault 9 s.0)) (taken_in rules.takes_runtime s.1) ≡ []) ss → Each (CallHasNone ps u) ss → Each (λ s. writes_of_variable (handed_back ps) s.1 ≡ []) ss → Each (λ s. Each (Known (variables u)) (in_act s.1)) ss → Each (StatementSound rules ps u) ss
 each_sound rules ps u [] a b c d = tt
@@ -130,54 +136,78 @@ module _ (rules : Rules) (ps : List Procedure) (checked : IsChecked rules ps) wh
         (each_more (λ d. faults_if (has_bad_extents u d) (fault 12 d.line) ≡ []) (λ d. has_bad_extents u d ≡ false) (λ d e. none_if (has_bad_extents u d) (fault 12 d.line) e) u.declarations
         (none_each (λ d. faults_if (has_bad_extents u d) (fault 12 d.line)) u.declarations extended)) h
 
-    same_dummies : (callee_facts full_facts ps name).callee.dummies ≡ u.dummies
-    same_dummies = ap (λ o. (callee_of full_marks ps name o).dummies) f
-
-    -- what a unit with an adjoint calls has an adjoint that is called, and is carried
-    served : (head : Procedure) (n : List ℕ) → calls_in full_marks.adjointed n (first_statement ps name) u.body ≡ true → has_adjoint full_marks ps head name ≡ true → (answers full_marks ps head n ≡ true) × (is_carried full_marks ps head n ≡ true)
-    served head n c there =
-        let same : u.name ≡ name = (found_there ps name u f).1 in
-        let inside : has_adjoint full_marks ps head u.name ≡ true = ap (has_adjoint full_marks ps head) same ∙ there in
-        let answered : answers full_marks ps head n ≡ true = calls_found_some (has_adjoint full_marks ps head) full_marks.adjointed n 0 ps name u f inside c in
-        (answered, roots_reached (is_kept full_marks ps head) (λ i. true) ps name u f n answered)
-
-    unit_fits : (head : Procedure) → UnitFits (λ line. false) ps (callee_facts full_facts ps) (has_adjoint full_marks ps head) (answers full_marks ps head) (is_carried full_marks ps head) name u (first_statement ps name) (variables u) (arrays_of u)
-    unit_fits head = record {
-      dummies = sym same_dummies;
-      dummies_apart = subst AreApart (sym same_dummies) dummies_apart;
-      vars_apart = variables_apart u;
-      dummies_among = λ d h. dummy_among u d (subst (λ ds. has_name d ds ≡ true) same_dummies h);
-      scalars = λ x h. no_extents (declared u.declarations (plain x)) h;
-      wrote = λ d. ap (λ o. (callee_of full_marks ps name o).written (plain d)) f;
-      reads = λ d. ap (λ o. read_by ps o d) f;
-      shadowed = λ v. all_shadowed ps name v (find_unit ps name);
-      inert = λ h. sym (ap (λ o. plain_by (marks_in full_marks name) (first_statement ps name) o) f) ∙ h;
-      laws = record {
-        laws = list_laws ps name (entry_point ps name) (first_statement ps name) u.body (names_given u.body written.body kernel);
-        ends = way ps name _ _;
-        shadows = λ v a b. refl;
-        members = λ d a b. all_members ps name d (find_unit ps name);
-      };
-      extents = λ d h. all_members ps name d (find_unit ps name);
-      code = list_fits rules ps name u (has_adjoint full_marks ps head name) (answers full_marks ps head) (is_carried full_marks ps head) (first_statement ps name) u.body written.body kernel sound (λ n c there. served head n c there);
-    }
-
     inside_text : AreInside (variables u)
     inside_text = variables_inside u written
 
-  pub source_fits : (head : ℕ) (u : Procedure) → unit_at head ps ≡ u ∷ [] → SourceFits (λ line. false) full_facts ps u
-  source_fits head u is = record {
-    units = λ name v f. unit_fits name v f u;
-    apart = λ name v f. apart_same v.dummies (dummies_apart name v f);
-    inside = λ name v f. inside_text name v f;
-    extents = λ name v f d h. extent_is_dummy name v f d h;
-    known = calls_known ps ps all_calls;
-    there = (each_at (Found ps) head ps u found is).0;
-    uncalled = head_uncalled ps found full_marks.adjointed u.name no_cycle;
-  }
+    -- full marks meet the laws
+    full_laws : UnitLaws (callee_facts full_facts ps) (callee_facts full_facts ps name) (first_statement ps name) u.body
+    full_laws = record {
+      laws = list_laws ps name (entry_point ps name) (first_statement ps name) u.body (names_given u.body written.body kernel);
+      ends = way ps name _ _;
+      shadows = λ v a b. refl;
+      members = λ d a b. all_members ps name d (find_unit ps name);
+    }
+
+  -- ---- with facts that meet the laws
+
+  module _ (w : ProgramFacts) (lawful : AreLawful w ps) where
+    abbrev m : ProgramMarks
+    m = w.marks
+
+    module _ (head : Procedure) (name : List ℕ) (u : Procedure) (f : find_unit ps name ≡ Some u) where
+      same_dummies : (callee_facts w ps name).callee.dummies ≡ u.dummies
+      same_dummies = ap (λ o. (callee_of m ps name o).dummies) f
+
+      with_adjoint : has_adjoint m ps head name ≡ true → has_adjoint m ps head u.name ≡ true
+      with_adjoint there = let same : u.name ≡ name = (found_there ps name u f).1 in ap (has_adjoint m ps head) same ∙ there
+
+      -- what a unit with an adjoint calls has an adjoint that is called, where the call is adjointed, and is carried, where it is kept
+      answered : (n : List ℕ) → calls_in m.adjointed n (first_statement ps name) u.body ≡ true → has_adjoint m ps head name ≡ true → answers m ps head n ≡ true
+      answered n c there = calls_found_some (has_adjoint m ps head) m.adjointed n 0 ps name u f (with_adjoint there) c
+
+      carried : (n : List ℕ) → calls_in m.kept n (first_statement ps name) u.body ≡ true → has_adjoint m ps head name ≡ true → is_carried m ps head n ≡ true
+      carried n c there = roots_reached (is_kept m ps head) (λ i. true) ps name u f n (calls_found_some (has_adjoint m ps head) m.kept n 0 ps name u f (with_adjoint there) c)
+
+      unit_fits : UnitFits (λ line. false) ps (callee_facts w ps) (has_adjoint m ps head) (answers m ps head) (is_carried m ps head) name u (first_statement ps name) (variables u) (arrays_of u)
+      unit_fits = record {
+        dummies = sym same_dummies;
+        dummies_apart = subst AreApart (sym same_dummies) (dummies_apart name u f);
+        vars_apart = variables_apart u;
+        dummies_among = λ d h. dummy_among u d (subst (λ ds. has_name d ds ≡ true) same_dummies h);
+        scalars = λ x h. no_extents (declared u.declarations (plain x)) h;
+        wrote = λ d. ap (λ o. (callee_of m ps name o).written (plain d)) f;
+        reads = λ d. ap (λ o. read_by ps o d) f;
+        shadowed = λ v. shadows_said m ps name v (find_unit ps name);
+        inert = λ h. sym (ap (λ o. plain_by (marks_in m name) (first_statement ps name) o) f) ∙ h;
+        laws = lawful.laws name u f;
+        extents = λ d h. members_said m ps name d (find_unit ps name) (lawful.extents name u f d h);
+        code =
+            (let written_unit = written name u f in
+            list_fits rules w ps name u (has_adjoint m ps head name) (answers m ps head) (is_carried m ps head) (first_statement ps name) u.body written_unit.body (kernel name u f) (sound name u f) (λ n c there. answered n c there) (λ n c there. carried n c there));
+      }
+
+    pub source_fits : (head : ℕ) (u : Procedure) → unit_at head ps ≡ u ∷ [] → SourceFits (λ line. false) w ps u
+    source_fits head u is = record {
+      units = λ name v f. unit_fits u name v f;
+      apart = λ name v f. apart_same v.dummies (dummies_apart name v f);
+      inside = λ name v f. inside_text name v f;
+      extents = λ name v f d h. extent_is_dummy name v f d h;
+      known = calls_known ps ps all_calls;
+      there = (each_at (Found ps) head ps u found is).0;
+      uncalled = head_uncalled ps found m.adjointed u.name no_cycle;
+    }
+
+  pub full_lawful : AreLawful full_facts ps
+  full_lawful = record { laws = λ name u f. full_laws name u f; extents = λ name u f d h. refl }
+
+pub lawful_fits : LawfulFits
+lawful_fits rules ps checked w lawful head u is = source_fits rules ps checked w lawful head u is
+
+pub lawful_is_adjoint : LawfulIsAdjoint
+lawful_is_adjoint rules ps checked w lawful head vars outvars u is suits = emitted_is_adjoint (λ line. false) w ps head vars outvars u is (source_fits rules ps checked w lawful head u is) suits
 
 pub checked_fits : CheckedFits
-checked_fits = source_fits
+checked_fits rules ps checked head u is = source_fits rules ps checked full_facts (full_lawful rules ps checked) head u is
 
 pub checked_is_adjoint : CheckedIsAdjoint
-checked_is_adjoint rules ps checked head vars outvars u is = full_is_adjoint ps head vars outvars u is (source_fits rules ps checked head u is)
+checked_is_adjoint rules ps checked head vars outvars u is = full_is_adjoint ps head vars outvars u is (checked_fits rules ps checked head u is)

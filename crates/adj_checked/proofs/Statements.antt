@@ -1,7 +1,7 @@
 -- Statements of a unit that has no faults fit.
 use Rattle.std.proofs.Common.{◌≡◌, ℕ, suc, Bool, true, false, List, [], ◌∷◌, ◌++◌, refl, sym, ap, ◌∙◌, subst, if◌then◌else◌}
-use Rattle.std.specs.Prelude.{◌||◌, ◌==◌, not, length, flat_map, Option, Some, None}
-use Rattle.adj_tree.specs.Code.{Var, plain, shadow, helper, Term, Terms, none, more, Mark, Act, assign, choose, loop, during, call, runtime, Code, stop, step, Procedure}
+use Rattle.std.specs.Prelude.{◌&&◌, ◌||◌, ◌==◌, not, length, flat_map, Option, Some, None}
+use Rattle.adj_tree.specs.Code.{Var, name_eq, plain, shadow, helper, Term, Terms, none, more, Mark, Act, assign, choose, loop, during, call, runtime, Code, stop, step, Procedure}
 use Rattle.adj_tree.proofs.Names.{nat_same, name_refl}
 use Rattle.adj_meaning.specs.LeastSet.{Dummies}
 use Rattle.adj_meaning.specs.Written.{find_unit, writes, act_writes, handed_back}
@@ -22,7 +22,7 @@ use Rattle.adj_transpose.proofs.Variables.{or_left, or_right}
 use Rattle.adj_reverse.specs.Plan.{beside, actuals_named}
 use Rattle.adj_reverse.specs.Laws.{CalleeFacts}
 use Rattle.adj_reverse.specs.Kernel.{AsMany, CallFits, Fits', FitsList}
-use Rattle.adj_reverse.specs.Marking.{full_marks, full_facts, marks_in, callee_of, callee_facts, arrays_of}
+use Rattle.adj_reverse.specs.Marking.{ProgramMarks, ProgramFacts, marks_in, callee_of, callee_facts, arrays_of}
 use Rattle.adj_reverse.specs.Program.{calls_act, calls_in}
 use Rattle.adj_reverse.specs.Source.{is_unit}
 use Rattle.adj_reverse.proofs.Full.{GivesNames', GivesNames}
@@ -121,22 +121,28 @@ pub record StatementSound (rules : Rules) (ps : List Procedure) (u : Procedure) 
   pub spared : writes_of_variable (handed_back ps) s.1 ≡ []
   pub known : Each (Known (variables u)) (in_act s.1)
 
-module _ (rules : Rules) (ps : List Procedure) (name : List ℕ) (u : Procedure) (present : Bool) (answers carried : List ℕ → Bool) where
+module _ (rules : Rules) (facts : ProgramFacts) (ps : List Procedure) (name : List ℕ) (u : Procedure) (present : Bool) (answers carried : List ℕ → Bool) where
   abbrev g : List ℕ → CalleeFacts
-  g = callee_facts full_facts ps
+  g = callee_facts facts ps
+
+  abbrev m : ProgramMarks
+  m = facts.marks
 
   abbrev Sound : At Act → Type 0
   Sound s = StatementSound rules ps u s
 
-  -- what is called has an adjoint that is called, and is carried
-  abbrev pub Served : List ℕ → Type 0
-  Served n = present ≡ true → (answers n ≡ true) × (carried n ≡ true)
+  -- what an adjointed call names has an adjoint that is called, and what a kept call names is carried
+  abbrev pub Answered : List ℕ → Type 0
+  Answered n = present ≡ true → answers n ≡ true
+
+  abbrev pub Carried : List ℕ → Type 0
+  Carried n = present ≡ true → carried n ≡ true
 
   abbrev pub FitsHere : ℕ → ℕ → Act → Type 0
-  FitsHere i line a = Fits' (λ l. false) ps g answers carried present (marks_in full_marks name) (variables u) (arrays_of u) (handed_back ps) i line a
+  FitsHere i line a = Fits' (λ l. false) ps g answers carried present (marks_in m name) (variables u) (arrays_of u) (handed_back ps) i line a
 
   abbrev pub ListFits : ℕ → Code → Type 0
-  ListFits i c = FitsList (λ l. false) ps g answers carried present (marks_in full_marks name) (variables u) (arrays_of u) (handed_back ps) i c
+  ListFits i c = FitsList (λ l. false) ps g answers carried present (marks_in m name) (variables u) (arrays_of u) (handed_back ps) i c
 
   -- a name that stands as a scalar is no array
   no_array : (x : List ℕ) (line : ℕ) (b : Bool) → b ≡ has_rank u (record { name = x; subscripts = Some 0 }) → faults_if (not b) (fault 9 line) ≡ [] → arrays_of u (plain x) ≡ false
@@ -177,14 +183,14 @@ module _ (rules : Rules) (ps : List Procedure) (name : List ℕ) (u : Procedure)
   }
     where
       dummies : (g other).callee.dummies ≡ c.unit.dummies
-      dummies = ap (λ o. (callee_of full_marks ps other o).dummies) c.found
+      dummies = ap (λ o. (callee_of m ps other o).dummies) c.found
 
       fit : are_actuals_for u c.unit c.unit.dummies (actuals_named given) ≡ true
       fit = subst (λ l. are_actuals_for u c.unit c.unit.dummies l ≡ true) e c.fit
 
   mutual
-    act_fits : (i line : ℕ) (a : Act) → IsWrittenAct a → IsKernelAct a → Sound (line, a) → Each Sound (inner a) → ((n : List ℕ) → calls_act full_marks.adjointed n i a ≡ true → Served n) → FitsHere i line a
-    act_fits i line (assign (plain x) subs e) w k s inside c = record {
+    act_fits : (i line : ℕ) (a : Act) → IsWrittenAct a → IsKernelAct a → Sound (line, a) → Each Sound (inner a) → ((n : List ℕ) → calls_act m.adjointed n i a ≡ true → Answered n) → ((n : List ℕ) → calls_act m.kept n i a ≡ true → Carried n) → FitsHere i line a
+    act_fits i line (assign (plain x) subs e) w k s inside c d = record {
       variable = (let known = s.known in known.0);
       rank = target_scalar x subs e line s.ranks;
       apart = k.0;
@@ -193,39 +199,39 @@ module _ (rules : Rules) (ps : List Procedure) (name : List ℕ) (u : Procedure)
       treated = treated e k.1;
       known = λ y h. known_term (variables u) y e (each_behind (Known (variables u)) (in_place (plain x) subs) (in_term e) s.known) h;
     }
-    act_fits i line (assign (shadow x) subs e) w k s inside c = absurd (place_variable (shadow x) subs w.0)
-    act_fits i line (assign (helper r j) subs e) w k s inside c = absurd (place_variable (helper r j) subs w.0)
-    act_fits i line (choose t a b) w k s inside c = (
+    act_fits i line (assign (shadow x) subs e) w k s inside c d = absurd (place_variable (shadow x) subs w.0)
+    act_fits i line (assign (helper r j) subs e) w k s inside c d = absurd (place_variable (helper r j) subs w.0)
+    act_fits i line (choose t a b) w k s inside c d = (
       λ v h. text_test v t w.0 h,
       (
-        list_fits (suc i) a w.1 k.0 (each_front Sound (statements a) (statements b) inside) (λ n h. c n (or_left (calls_in full_marks.adjointed n (suc i) a) (calls_in full_marks.adjointed n (behind (suc i) a) b) h)),
-        list_fits (behind (suc i) a) b w.2 k.1 (each_behind Sound (statements a) (statements b) inside) (λ n h. c n (or_right (calls_in full_marks.adjointed n (suc i) a) (calls_in full_marks.adjointed n (behind (suc i) a) b) h)),
+        list_fits (suc i) a w.1 k.0 (each_front Sound (statements a) (statements b) inside) (λ n h. c n (or_left (calls_in m.adjointed n (suc i) a) (calls_in m.adjointed n (behind (suc i) a) b) h)) (λ n h. d n (or_left (calls_in m.kept n (suc i) a) (calls_in m.kept n (behind (suc i) a) b) h)),
+        list_fits (behind (suc i) a) b w.2 k.1 (each_behind Sound (statements a) (statements b) inside) (λ n h. c n (or_right (calls_in m.adjointed n (suc i) a) (calls_in m.adjointed n (behind (suc i) a) b) h)) (λ n h. d n (or_right (calls_in m.kept n (suc i) a) (calls_in m.kept n (behind (suc i) a) b) h)),
       ),
     )
-    act_fits i line (loop (plain x) first last by body m) w k s inside c = (
+    act_fits i line (loop (plain x) first last by body mark) w k s inside c d = (
       record {
         told = λ h. refl;
-        variable = (each_behind (Known (variables u)) (in_mark m) (scalar (plain x) ++ (in_term first ++ (in_term last ++ in_term by))) s.known).0;
-        scalar = loop_scalar x first last by body m line s.ranks;
-        spares = body_spares (plain x) first last by body m s.spared;
+        variable = (each_behind (Known (variables u)) (in_mark mark) (scalar (plain x) ++ (in_term first ++ (in_term last ++ in_term by))) s.known).0;
+        scalar = loop_scalar x first last by body mark line s.ranks;
+        spares = body_spares (plain x) first last by body mark s.spared;
         text_first = λ v h. text_term v first w.1 h;
         text_last = λ v h. text_term v last w.2 h;
         text_step = λ v h. text_term v by w.3 h;
       },
-      list_fits (suc i) body w.4 k.1 inside c,
+      list_fits (suc i) body w.4 k.1 inside c d,
     )
-    act_fits i line (loop (shadow x) first last by body m) w k s inside c = absurd w.0
-    act_fits i line (loop (helper r j) first last by body m) w k s inside c = absurd w.0
-    act_fits i line (during t body) w k s inside c = (λ v h. text_test v t w.0 h, list_fits (suc i) body w.1 k inside c)
-    act_fits i line (call other args) w k s inside c = (
+    act_fits i line (loop (shadow x) first last by body mark) w k s inside c d = absurd w.0
+    act_fits i line (loop (helper r j) first last by body mark) w k s inside c d = absurd w.0
+    act_fits i line (during t body) w k s inside c d = (λ v h. text_test v t w.0 h, list_fits (suc i) body w.1 k inside c d)
+    act_fits i line (call other args) w k s inside c d = (
       call_fits other args k (call_of_unit ps u line other args s.called) s.known,
-      (λ pr a. (c other (name_refl other) pr).0, λ pr a. (c other (name_refl other) pr).1),
+      (λ pr a. c other (ap (λ b. b && name_eq other other) a ∙ name_refl other) pr, λ pr a. d other (ap (λ b. b && name_eq other other) a ∙ name_refl other) pr),
     )
-    act_fits i line (runtime r) w k s inside c = absurd k
+    act_fits i line (runtime r) w k s inside c d = absurd k
 
-    pub list_fits : (i : ℕ) (l : Code) → IsWrittenCode l → IsKernelCode l → Each Sound (statements l) → ((n : List ℕ) → calls_in full_marks.adjointed n i l ≡ true → Served n) → ListFits i l
-    list_fits i stop w k s c = tt
-    list_fits i (step line a rest) w k s c = (
-      act_fits i line a w.0 k.0 s.0 (each_front Sound (inner a) (statements rest) s.1) (λ n h. c n (or_left (calls_act full_marks.adjointed n i a) (calls_in full_marks.adjointed n (next i a) rest) h)),
-      list_fits (next i a) rest w.1 k.1 (each_behind Sound (inner a) (statements rest) s.1) (λ n h. c n (or_right (calls_act full_marks.adjointed n i a) (calls_in full_marks.adjointed n (next i a) rest) h)),
+    pub list_fits : (i : ℕ) (l : Code) → IsWrittenCode l → IsKernelCode l → Each Sound (statements l) → ((n : List ℕ) → calls_in m.adjointed n i l ≡ true → Answered n) → ((n : List ℕ) → calls_in m.kept n i l ≡ true → Carried n) → ListFits i l
+    list_fits i stop w k s c d = tt
+    list_fits i (step line a rest) w k s c d = (
+      act_fits i line a w.0 k.0 s.0 (each_front Sound (inner a) (statements rest) s.1) (λ n h. c n (or_left (calls_act m.adjointed n i a) (calls_in m.adjointed n (next i a) rest) h)) (λ n h. d n (or_left (calls_act m.kept n i a) (calls_in m.kept n (next i a) rest) h)),
+      list_fits (next i a) rest w.1 k.1 (each_behind Sound (inner a) (statements rest) s.1) (λ n h. c n (or_right (calls_act m.adjointed n i a) (calls_in m.adjointed n (next i a) rest) h)) (λ n h. d n (or_right (calls_act m.kept n i a) (calls_in m.kept n (next i a) rest) h)),
     )

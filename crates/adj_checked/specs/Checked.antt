@@ -1,21 +1,45 @@
--- That what is emitted for a checked program in kernel form, with full marks, is its adjoint. (docs/THEOREMS.md, "Adjoints")
-use Rattle.std.specs.Prelude.{◌≡◌, ℕ, List, [], ◌∷◌, Bool, false}
-use Rattle.adj_tree.specs.Code.{Procedure}
+-- That what is emitted for a checked program in kernel form, with full marks or by others that meet the laws, is its adjoint. (docs/THEOREMS.md, "Adjoints")
+use Rattle.std.specs.Prelude.{◌≡◌, ℕ, List, [], ◌∷◌, Bool, true, false, Some}
+use Rattle.adj_tree.specs.Code.{plain, Procedure}
+use Rattle.adj_meaning.specs.Written.{find_unit}
+use Rattle.adj_meaning.specs.Read.{is_extent}
 use Rattle.adj_text.specs.Written.{IsWritten}
 use Rattle.adj_names.specs.Fault.{Rules}
 use Rattle.adj_names.specs.Check.{IsSound}
 use Rattle.adj_kernel.specs.Form.{IsKernel}
 use Rattle.adj_transpose.specs.Program.{unit_at}
-use Rattle.adj_reverse.specs.Marking.{full_marks, full_facts}
+use Rattle.adj_transpose.specs.Facts.{In}
+use Rattle.adj_transpose.specs.MarkedAdjoint.{SuitHead}
+use Rattle.adj_reverse.specs.Laws.{UnitLaws}
+use Rattle.adj_reverse.specs.Marking.{full_marks, full_facts, ProgramFacts, callee_facts, facts_in, first_statement, entry_point, end_point}
 use Rattle.adj_reverse.specs.Program.{emitted_program}
 use Rattle.adj_reverse.specs.Source.{SourceFits}
-use Rattle.adj_reverse.specs.Adjoint.{IsFullAdjoint}
+use Rattle.adj_reverse.specs.Adjoint.{IsAdjoint, IsFullAdjoint}
 
 -- a program that can be written as a text, that has no fault of names, calls, chains and writes, and that is in kernel form
 pub record IsChecked (rules : Rules) (ps : List Procedure) : Type 0 where
   pub written : IsWritten ps
   pub sound : IsSound rules ps
   pub kernel : IsKernel ps
+
+-- ---- by facts that meet the laws
+
+-- facts that meet the laws of each unit, and have the extents of its arrays among what its adjoint needs
+pub record AreLawful (w : ProgramFacts) (ps : List Procedure) : Type 0 where
+  pub laws : (name : List ℕ) (u : Procedure) → find_unit ps name ≡ Some u → UnitLaws (callee_facts w ps) (callee_facts w ps name) (first_statement ps name) u.body
+  pub extents : (name : List ℕ) (u : Procedure) → find_unit ps name ≡ Some u → (d : List ℕ) → is_extent d u.declarations ≡ true → In (plain d) (w.marks.members name)
+
+-- such a program meets with them all that the law on emitted programs asks of a source, for each of its units as the head
+abbrev pub LawfulFits : Type 0
+LawfulFits = (rules : Rules) (ps : List Procedure) → IsChecked rules ps → (w : ProgramFacts) → AreLawful w ps → (head : ℕ) (u : Procedure) → unit_at head ps ≡ u ∷ [] → SourceFits (λ line. false) w ps u
+
+-- so what is emitted for it by them is its adjoint, where they suit the head
+abbrev pub LawfulIsAdjoint : Type 0
+LawfulIsAdjoint =
+    (rules : Rules) (ps : List Procedure) → IsChecked rules ps → (w : ProgramFacts) → AreLawful w ps → (head : ℕ) (vars outvars : List Bool) (u : Procedure) → unit_at head ps ≡ u ∷ [] →
+    SuitHead (facts_in w u.name).marks (entry_point ps u.name) (end_point ps u.name) u vars outvars → IsAdjoint (λ line. false) w.marks ps head vars outvars (emitted_program w.marks ps head vars outvars)
+
+-- ---- with full marks
 
 -- such a program meets all that the law on emitted programs asks of a source, for each of its units as the head
 abbrev pub CheckedFits : Type 0

@@ -1,0 +1,132 @@
+-- What exact analyses say meets the laws of calls.
+use Rattle.std.proofs.Common.{◌≡◌, inl, inr, ℕ, List, [], Bool, true, false, refl, sym, ap, ◌∙◌, subst}
+use Rattle.std.specs.Prelude.{Contains, ◌&&◌, Option, Some}
+use Rattle.adj_tree.specs.Code.{Var, plain, call, Procedure}
+use Rattle.adj_meaning.specs.Written.{is_written, handed_back, is_handed_back}
+use Rattle.adj_meaning.specs.Read.{is_read, read_rule, looked_at, reads_actuals}
+use Rattle.adj_meaning.proofs.LeastSets.{least_row}
+use Rattle.adj_meaning.proofs.WriteSets.{handed_written}
+use Rattle.adj_meaning.proofs.ReadSets.{read_rises}
+use Rattle.adj_transpose.specs.Marks.{Vars, point_before, point_after}
+use Rattle.adj_transpose.specs.Facts.{In, without, Facts}
+use Rattle.adj_transpose.proofs.Variables.{or_left, not_true}
+use Rattle.adj_reverse.specs.Plan.{IsActual, actuals_named}
+use Rattle.adj_reverse.specs.Kernel.{AsMany}
+use Rattle.adj_reverse.specs.Laws.{CalleeFacts, CallLaws, is_plain, among}
+use Rattle.adj_reverse.specs.Marking.{ProgramFacts, facts_in, marks_in, callee_of, callee_facts, dummy_set, read_by, plain_by, place_from, first_statement, entry_point, end_point}
+use Rattle.adj_facts.specs.Parts.{Part, parts, find_part}
+use Rattle.adj_facts.specs.Ways.{calling, way, is_actual, assigned_on, passed_on}
+use Rattle.adj_facts.specs.Standing.{Place, outermost, part_of, turn_of, Standing}
+use Rattle.adj_facts.specs.Problem.{Problem, statements_of, ways_of, CallsUnit, TakesPart}
+use Rattle.adj_facts.specs.Activity.{Activity, IsPoint}
+use Rattle.adj_facts.specs.Live.{Liveness}
+use Rattle.adj_facts.specs.Uses.{site, turned_by, is_turn}
+use Rattle.adj_facts.specs.Laws.{facts_of, Analysed, AtCall, AtStatement, InUnit}
+use Rattle.adj_facts.proofs.Members.{is_first}
+use Rattle.adj_facts.proofs.Placed.{way_of_statement}
+use Rattle.adj_facts.proofs.Sets.{left_in, left_out, left_make}
+use Rattle.adj_facts.proofs.Statements.{analysed_is_closed, statements_are_closed, calls_are_closed}
+use Rattle.adj_analysed.specs.Meets.{program_facts}
+use Rattle.adj_analysed.proofs.Given.{bound_has, handed_named, read_named, passed_among, plain_list}
+use Rattle.adj_analysed.proofs.Lists.{values}
+use Rattle.adj_analysed.proofs.Numbers.{Placed}
+
+-- outside of marked loops a call does its work at itself
+site_same : (at : Place) → is_turn at ≡ false → (b : Bool) (n : ℕ) → site b n at ≡ n
+site_same outermost h b n = refl
+site_same (part_of i) h b n = refl
+site_same (turn_of i x) h b n = absurd cc
+
+turned_none : (at : Place) → is_turn at ≡ false → (v : Var) → turned_by at v ≡ false
+turned_none outermost h v = refl
+turned_none (part_of i) h v = refl
+turned_none (turn_of i x) h v = absurd cc
+
+module _ (k : Problem) (a : Activity) (l : Liveness) (saved held : ℕ → Vars) (y : Analysed k a l saved held) (f : Part) (part : TakesPart k f) where
+  abbrev w : Facts
+  w = facts_of a l saved held f.number
+
+  abbrev pub facts : ProgramFacts
+  facts = program_facts k.units a l saved held
+
+  pub unit : InUnit w f
+  unit = analysed_is_closed k a l saved held y f part
+
+  pub stated : (s : Standing) → Contains (statements_of f) s → AtStatement k.units w s
+  stated s c = statements_are_closed k a l saved held y f part s c
+
+  -- what the laws of calls know of the unit of a name, where `o` is what is found under it
+  abbrev pub known : List ℕ → Option Procedure → CalleeFacts
+  known name o = record {
+    callee = callee_of facts.marks k.units name o;
+    facts = facts_in facts name;
+    entry = entry_point k.units name;
+    end = end_point k.units name;
+    read = dummy_set (read_by k.units o);
+    plain_unit = plain_by (marks_in facts.marks name) (first_statement k.units name) o;
+  }
+
+  -- the call of the unit g under its name
+  module _ (i : ℕ) (at : Place) (name : List ℕ) (given : List (List ℕ)) (ordinary : is_turn at ≡ false) (own : Contains (statements_of f) (record { number = i; place = at; act = call name (actuals_named given) })) (g : Part) (finds : find_part (parts k.units) name ≡ Some g) (there : Placed k.units name g) (many : AsMany g.unit.dummies given) where
+    abbrev s : Standing
+    s = record { number = i; place = at; act = call name (actuals_named given) }
+
+    abbrev ds : List (List ℕ)
+    ds = g.unit.dummies
+
+    calls : CallsUnit k f g s (actuals_named given)
+    calls = record { name = name; stands = own; act = refl; finds = finds }
+
+    said : AtCall k (l.wanted (place_from 0 k.units name)) (a.shadowed (place_from 0 k.units name)) w g s (actuals_named given)
+    said = subst (λ n. AtCall k (l.wanted n) (a.shadowed n) w g s (actuals_named given)) there.number (calls_are_closed k a l saved held y f g part s (actuals_named given) calls)
+
+    over : Contains (ways_of f) (way (point_before i) (point_after i) (calling (actuals_named given)))
+    over = way_of_statement f s (way (point_before i) (point_after i) (calling (actuals_named given))) own (is_first _ _ [] refl)
+
+    writes_it : (d x : List ℕ) → IsActual ds given d x → is_written k.units g.unit d ≡ true → is_handed_back (plain x) (handed_back k.units name) (actuals_named given) ≡ true
+    writes_it d x act h = subst (λ ws. is_handed_back (plain x) ws (actuals_named given) ≡ true) (sym (handed_written k.units name g.unit there.found)) (handed_named (is_written k.units g.unit) ds given d x act h)
+
+    reads_it : (d x : List ℕ) → IsActual ds given d x → is_read k.units g.unit d ≡ true → reads_actuals (plain x) (looked_at k.units name) (actuals_named given) ≡ true
+    reads_it d x act h = subst (λ ws. reads_actuals (plain x) ws (actuals_named given) ≡ true) (sym (least_row read_rule read_rises k.units name g.unit there.found)) (read_named (is_read k.units g.unit) ds given d x act h)
+
+    -- what isn't the actual of a dummy isn't passed
+    not_passed : (v : Var) → among ds given v ≡ false → is_actual v (actuals_named given) ≡ false
+    not_passed v h = not_true (is_actual v (actuals_named given)) (λ e. let p : true ≡ false = sym (passed_among ds given many v e) ∙ h in cc)
+
+    plain_unit : a.adjointed i ≡ false → is_plain (marks_in facts.marks name) (first_statement k.units name) g.unit.body ≡ true
+    plain_unit h =
+        subst (λ n. is_plain (marks_in facts.marks name) n g.unit.body ≡ true) there.first
+        (plain_list (marks_in facts.marks name) outermost g.first g.unit.body (λ t c. not_true (a.adjointed t.number) (λ e. let p : true ≡ false = sym (said.adjoints t c e) ∙ h in cc)))
+
+    pub call_laws : CallLaws w i (known name (Some g.unit)) given
+    call_laws =
+        let o = unit.ways (way (point_before i) (point_after i) (calling (actuals_named given))) over in
+        let here = site_same at ordinary in
+        record {
+          values = values k.units (callee_facts facts k.units) w f unit stated (point_before i) (point_after i) (calling (actuals_named given)) over;
+          tangents = record {
+            varies = λ v h.
+                o.varies v
+                (left_make (without (a.varied (point_before i)) (assigned_on (calling (actuals_named given)))) (passed_on (calling (actuals_named given))) v
+                (left_make (a.varied (point_before i)) (assigned_on (calling (actuals_named given))) v (left_in (a.varied (point_before i)) (among ds given) v h) refl) (not_passed v (left_out (a.varied (point_before i)) (among ds given) v h)));
+            serves = λ v h.
+                o.serves v
+                (left_make (without (a.useful (point_after i)) (assigned_on (calling (actuals_named given)))) (passed_on (calling (actuals_named given))) v
+                (left_make (a.useful (point_after i)) (assigned_on (calling (actuals_named given))) v (left_in (a.useful (point_after i)) (among ds given) v h) refl) (not_passed v (left_out (a.useful (point_after i)) (among ds given) v h)));
+            shadows = λ v. let p : IsPoint f (point_after i) = (way (point_before i) (point_after i) (calling (actuals_named given)), over, inr refl) in unit.shadows (point_after i) (point_after i) v p p;
+          };
+          needs_members = λ h d x act m. subst (λ n. In (plain x) (l.needed (point_before n))) (here true i) (said.members h d (plain x) (bound_has ds given d x act) (turned_none at ordinary (plain x)) (inl m));
+          needs_uses = λ h d x act m. (stated s own).kept h (plain x) (reads_it d x act m);
+          keeps = λ d x act m h. said.keeps (plain x) (writes_it d x act m) (subst (λ n. In (plain x) (l.needed (point_after n))) (sym (here (a.adjointed i) i)) h);
+          holds_reads = λ h d x act m n.
+              said.holds h d (plain x) (bound_has ds given d x act) (turned_none at ordinary (plain x)) (or_left (l.wanted (place_from 0 k.units name) d) (is_turn at && is_read k.units g.unit d) m) n f part (way (point_before i) (point_after i) (calling (actuals_named given))) over (ap point_before (sym (here true i))) refl;
+          saves = λ h d x act m e.
+              subst (λ n. In (plain x) (saved n)) (here (a.adjointed i) i) (said.saves h (plain x) (writes_it d x act m) (subst (λ n. In (plain x) (held (point_before n))) (sym (here (a.adjointed i) i)) e));
+          varies_in = λ d x act h. subst (λ p. In (plain d) (a.varied p)) there.entry (said.enters d (plain x) (bound_has ds given d x act) h);
+          serves_in = λ d x act h. said.serves d (plain x) (bound_has ds given d x act) (subst (λ p. In (plain d) (a.useful p)) (sym there.entry) h);
+          varies_out = λ d x act h. said.leaves d (plain x) (bound_has ds given d x act) (subst (λ p. In (plain d) (a.varied p)) (sym there.end) h);
+          serves_out = λ d x act h. subst (λ p. In (plain d) (a.useful p)) there.end (said.asks d (plain x) (bound_has ds given d x act) h);
+          shadows_actual = λ d x act h. said.lends d (plain x) (bound_has ds given d x act) h;
+          shadows_dummy = λ d x act h e. said.borrows d (plain x) (bound_has ds given d x act) e (subst (λ p. In (plain d) (a.varied p)) (sym there.entry) h);
+          adjoints = plain_unit;
+        }

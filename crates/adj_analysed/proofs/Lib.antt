@@ -1,0 +1,7 @@
+-- The proofs that the marks of exact analyses meet the laws.
+pub mod Occurring
+pub mod Lists
+pub mod Numbers
+pub mod Given
+pub mod Calls
+pub mod Meets

@@ -1,0 +1,256 @@
+-- What meets the laws way by way and statement by statement meets those of lists, of every kind of statement.
+use Rattle.std.proofs.Common.{◌≡◌, inl, inr, ℕ, suc, List, [], ◌∷◌, ◌++◌, Bool, true, false, refl, sym, ◌∙◌, subst}
+use Rattle.std.specs.Prelude.{Contains, ◌||◌, ◌&&◌, not}
+use Rattle.std.proofs.lemmas.List.Elements.{Contains-append_left, Contains-append_right}
+use Rattle.adj_tree.specs.Code.{Var, Term, Terms, none, more, Mark, unmarked, with_count, count_from, Act, assign, choose, loop, during, call, runtime, Code, stop, step, Procedure}
+use Rattle.adj_meaning.specs.Read.{reads_term}
+use Rattle.adj_transpose.specs.Marks.{next, behind, point_before, point_after}
+use Rattle.adj_transpose.specs.Facts.{In, without, vars_if, whole, Facts}
+use Rattle.adj_transpose.proofs.Variables.{and_true, not_true}
+use Rattle.adj_reverse.specs.Laws.{point_inside, nothing, just, ValueLaws, TangentLaws, WayLaws, AssignmentLaws, IsIdle', IsIdle, last_point, CalleeFacts, ActLaws, ListLaws}
+use Rattle.adj_facts.specs.Parts.{Part}
+use Rattle.adj_facts.specs.Ways.{Deed, passing, assigning, Way, way, act_ways, ways, assigned_on, passed_on}
+use Rattle.adj_facts.specs.Standing.{Place, part_of, body_of, Standing, held_in, standing}
+use Rattle.adj_facts.specs.Problem.{statements_of, ways_of}
+use Rattle.adj_facts.specs.Activity.{Holds}
+use Rattle.adj_facts.specs.Held.{replaced_on}
+use Rattle.adj_facts.specs.Uses.{is_turn}
+use Rattle.adj_facts.specs.Laws.{AtAssignment, AtBranch, AtLoop, AtStatement, InUnit}
+use Rattle.adj_facts.proofs.Members.{is_first, is_later}
+use Rattle.adj_facts.proofs.OwnPoints.{own_before}
+use Rattle.adj_facts.proofs.Sets.{left_in, left_make}
+use Rattle.adj_analysed.specs.Meets.{IsPlainAct, IsPlainCode, GivesNames}
+use Rattle.adj_analysed.proofs.Occurring.{same_occurring, same_reads_at}
+
+-- the last way of a list leads from its last point
+pub ends : (i p q : ℕ) (last : Deed) (c : Code) → Contains (ways i p q last c) (way (last_point p i c) q last)
+ends i p q last stop = is_first (way p q last) (way p q last) [] refl
+ends i p q last (step line a rest) =
+    let w = way (last_point (point_after i) (next i a) rest) q last in
+    is_later w (way p (point_before i) passing) (act_ways i a ++ ways (next i a) (point_after i) q last rest)
+    (Contains-append_right (act_ways i a) (ways (next i a) (point_after i) q last rest) w (ends (next i a) (point_after i) q last rest))
+
+-- what stands in the body of a loop is held by it
+holds_body : (i : ℕ) (x : Var) (m : Mark) → Holds i (body_of i x m)
+holds_body i x unmarked = refl
+holds_body i x (with_count n) = refl
+holds_body i x (count_from y) = refl
+
+-- a DO that isn't marked uses its bounds alone
+bounds : (a b c : Bool) → (a || (b || c)) ≡ true → (a || (b || (c || false))) ≡ true
+bounds true b c h = refl
+bounds false true c h = refl
+bounds false false true h = refl
+bounds false false false h = absurd cc
+
+module _ (units : List Procedure) (gf : List ℕ → CalleeFacts) (w : Facts) (g : Part) (unit : InUnit w g) (stated : (s : Standing) → Contains (statements_of g) s → AtStatement units w s) where
+  abbrev Own : ℕ → Place → Act → Type 0
+  Own i at a = Contains (statements_of g) (record { number = i; place = at; act = a })
+
+  abbrev OwnWay : ℕ → ℕ → Deed → Type 0
+  OwnWay p q d = Contains (ways_of g) (way p q d)
+
+  abbrev AllOwn : List Standing → Type 0
+  AllOwn ss = (s : Standing) → Contains ss s → Contains (statements_of g) s
+
+  abbrev AllOwnWays : List Way → Type 0
+  AllOwnWays xs = (x : Way) → Contains xs x → Contains (ways_of g) x
+
+  own_first : (s : Standing) (ss : List Standing) → AllOwn (s ∷ ss) → Contains (statements_of g) s
+  own_first s ss h = h s (is_first s s ss refl)
+
+  -- ---- ways
+
+  shadows_at : (p q : ℕ) (d : Deed) → OwnWay p q d → (v : Var) → In v (w.marks.varied q) → In v (w.marks.useful q) → In v w.marks.shadowed
+  shadows_at p q d c v = unit.shadows q q v (way p q d, c, inr refl) (way p q d, c, inr refl)
+
+  pub values : (p q : ℕ) (d : Deed) → OwnWay p q d → ValueLaws w (assigned_on d) (replaced_on w.marks.kept d) p q
+  values p q d c = let o = unit.ways (way p q d) c in record { needs = o.needs; holds = o.holds }
+
+  pub tangents_passing : (p q : ℕ) → OwnWay p q passing → TangentLaws w.marks nothing p q
+  tangents_passing p q c =
+      let o = unit.ways (way p q passing) c in
+      record {
+        varies = λ v h. o.varies v (left_make (without (w.marks.varied p) (assigned_on passing)) (passed_on passing) v h refl);
+        serves = λ v h. o.serves v (left_make (without (w.marks.useful q) (assigned_on passing)) (passed_on passing) v h refl);
+        shadows = shadows_at p q passing c;
+      }
+
+  pub tangents_assigning : (p q i : ℕ) (x : Var) → OwnWay p q (assigning i x) → TangentLaws w.marks (just x) p q
+  tangents_assigning p q i x c =
+      let o = unit.ways (way p q (assigning i x)) c in
+      record {
+        varies = λ v h. o.varies v (left_make (without (w.marks.varied p) (assigned_on (assigning i x))) (passed_on (assigning i x)) v h refl);
+        serves = λ v h. o.serves v (left_make (without (w.marks.useful q) (assigned_on (assigning i x))) (passed_on (assigning i x)) v h refl);
+        shadows = shadows_at p q (assigning i x) c;
+      }
+
+  pub passes : (p q : ℕ) → OwnWay p q passing → WayLaws w p q
+  passes p q c = record { values = values p q passing c; tangents = tangents_passing p q c }
+
+  -- ---- what isn't kept holds nothing that is kept or adjointed
+
+  spare : (n : ℕ) (s : Standing) → Contains (statements_of g) s → Holds n s.place → w.marks.kept n ≡ false → (w.marks.kept s.number ≡ false) × (w.marks.adjointed s.number ≡ false)
+  spare n s c h k =
+      let o = unit.holders s c in (
+        not_true (w.marks.kept s.number) (λ e. let p : true ≡ false = sym (o.keeps n h (inl e)) ∙ k in cc),
+        not_true (w.marks.adjointed s.number) (λ e. let p : true ≡ false = sym (o.keeps n h (inr e)) ∙ k in cc),
+      )
+
+  mutual
+    idle_act : (i : ℕ) (a : Act) → w.marks.kept i ≡ false → w.marks.adjointed i ≡ false → AllOwn (held_in i a) → IsIdle' w.marks i a
+    idle_act i (assign x subs e) k d h = (k, d)
+    idle_act i (choose c a b) k d h = (
+      (k, d),
+      (
+        idle i (part_of i) (suc i) a k refl (λ s m. h s (Contains-append_left (standing (part_of i) (suc i) a) (standing (part_of i) (behind (suc i) a) b) s m)),
+        idle i (part_of i) (behind (suc i) a) b k refl (λ s m. h s (Contains-append_right (standing (part_of i) (suc i) a) (standing (part_of i) (behind (suc i) a) b) s m)),
+      ),
+    )
+    idle_act i (loop x first last by body m) k d h = ((k, d), idle i (body_of i x m) (suc i) body k (holds_body i x m) h)
+    idle_act i (during c body) k d h = ((k, d), idle i (part_of i) (suc i) body k refl h)
+    idle_act i (call name args) k d h = (k, d)
+    idle_act i (runtime r) k d h = (k, d)
+
+    idle : (n : ℕ) (at : Place) (i : ℕ) (c : Code) → w.marks.kept n ≡ false → Holds n at → AllOwn (standing at i c) → IsIdle w.marks i c
+    idle n at i stop k o h = tt
+    idle n at i (step line a rest) k o h =
+        let self : Standing = record { number = i; place = at; act = a } in
+        let none = spare n self (own_first self (held_in i a ++ standing at (next i a) rest) h) o k in (
+          idle_act i a none.0 none.1 (λ s m. h s (is_later s self (held_in i a ++ standing at (next i a) rest) (Contains-append_left (held_in i a) (standing at (next i a) rest) s m))),
+          idle n at (next i a) rest k o (λ s m. h s (is_later s self (held_in i a ++ standing at (next i a) rest) (Contains-append_right (held_in i a) (standing at (next i a) rest) s m))),
+        )
+
+  -- ---- assignments
+
+  module _ (i : ℕ) (at : Place) (x : Var) (subs : Terms) (e : Term) (own : Own i at (assign x subs e)) where
+    abbrev here : AtStatement units w (record { number = i; place = at; act = assign x subs e })
+    here = stated (record { number = i; place = at; act = assign x subs e }) own
+
+    abbrev said : AtAssignment w i x subs e
+    said = here.act
+
+    assignment : ValueLaws w (whole x subs) (vars_if (w.marks.kept i) (whole x subs)) (point_before i) (point_after i) → TangentLaws w.marks (whole x subs) (point_before i) (point_after i) → AssignmentLaws w i x subs e
+    assignment v t =
+        let o : AtAssignment w i x subs e = here.act in
+        record {
+          values = v;
+          tangents = t;
+          needs_reads = λ y h. o.needs y (sym (same_reads_at w.marks i subs e y) ∙ h);
+          needs_uses = here.kept;
+          keeps = o.keeps;
+          holds_reads = λ y h. o.holds y (subst (λ b. (b && not (vars_if (w.marks.kept i) (whole x subs) y)) ≡ true) (same_reads_at w.marks i subs e y) h);
+          saves = λ k h. o.saves k (subst (λ b. (w.held (point_before i) x || b) ≡ true) (same_reads_at w.marks i subs e x) h);
+          varies_target = λ y h. o.varies y (sym (same_occurring e y) ∙ h);
+          serves_target = λ y h. o.serves y (sym (same_occurring e y) ∙ h);
+          adjoints = o.adjoints;
+          shadows = λ y. let p = own_before g (record { number = i; place = at; act = assign x subs e }) own in unit.shadows (point_before i) (point_before i) y p p;
+        }
+
+  assign_meets : (i : ℕ) (at : Place) (x : Var) (subs : Terms) (e : Term) → AllOwnWays (act_ways i (assign x subs e)) → Own i at (assign x subs e) → AssignmentLaws w i x subs e
+  assign_meets i at x none e f own =
+      let c : OwnWay (point_before i) (point_after i) (assigning i x) = f (way (point_before i) (point_after i) (assigning i x)) (is_first _ _ [] refl) in
+      assignment i at x none e own (values (point_before i) (point_after i) (assigning i x) c) (tangents_assigning (point_before i) (point_after i) i x c)
+  assign_meets i at x (more j js) e f own =
+      let c : OwnWay (point_before i) (point_after i) passing = f (way (point_before i) (point_after i) passing) (is_first _ _ [] refl) in
+      let o = values (point_before i) (point_after i) passing c in
+      assignment i at x (more j js) e own
+      (record {
+        needs = o.needs;
+        holds = λ v h. o.holds v (left_make (w.held (point_before i)) (replaced_on w.marks.kept passing) v (left_in (w.held (point_before i)) (vars_if (w.marks.kept i) (whole x (more j js))) v h) refl);
+      })
+      (tangents_passing (point_before i) (point_after i) c)
+
+  -- ---- every kind of statement, where calls meet theirs
+
+  module _ (calls : (i : ℕ) (at : Place) (name : List ℕ) (args : Terms) → is_turn at ≡ false → Own i at (call name args) → GivesNames units name args → ActLaws gf w i (call name args)) where
+    mutual
+      act_meets : (i : ℕ) (at : Place) (a : Act) → is_turn at ≡ false → IsPlainAct units a → AllOwnWays (act_ways i a) → Own i at a → AllOwn (held_in i a) → ActLaws gf w i a
+      act_meets i at (assign x subs e) ord k f own h = assign_meets i at x subs e f own
+      act_meets i at (choose c a b) ord k f own h =
+          let here = stated (record { number = i; place = at; act = choose c a b }) own in
+          let o : AtBranch w i = here.act in
+          let first = ways (suc i) (point_before i) (point_after i) passing a in
+          let other = ways (behind (suc i) a) (point_before i) (point_after i) passing b in
+          let in_first = standing (part_of i) (suc i) a in
+          let in_other = standing (part_of i) (behind (suc i) a) b in
+          let of_first : AllOwn in_first = λ s m. h s (Contains-append_left in_first in_other s m) in
+          let of_other : AllOwn in_other = λ s m. h s (Contains-append_right in_first in_other s m) in
+          let on_first : AllOwnWays first = λ x m. f x (Contains-append_left first other x m) in
+          let on_other : AllOwnWays other = λ x m. f x (Contains-append_right first other x m) in (
+            record {
+              keeps_adjointed = o.keeps;
+              keeps = λ e. (idle i (part_of i) (suc i) a e refl of_first, idle i (part_of i) (behind (suc i) a) b e refl of_other);
+              needs_uses = here.kept;
+              first_end = passes (last_point (point_before i) (suc i) a) (point_after i) (on_first (way (last_point (point_before i) (suc i) a) (point_after i) passing) (ends (suc i) (point_before i) (point_after i) passing a));
+              other_end =
+                  passes (last_point (point_before i) (behind (suc i) a) b) (point_after i)
+                  (on_other (way (last_point (point_before i) (behind (suc i) a) b) (point_after i) passing) (ends (behind (suc i) a) (point_before i) (point_after i) passing b));
+            },
+            (
+              list_meets (suc i) (point_before i) (point_after i) passing (part_of i) a refl k.0 on_first of_first,
+              list_meets (behind (suc i) a) (point_before i) (point_after i) passing (part_of i) b refl k.1 on_other of_other,
+            ),
+          )
+      act_meets i at (loop x first last by body (with_count n)) ord k f own h = absurd (let e : with_count n ≡ unmarked = k.0 in cc)
+      act_meets i at (loop x first last by body (count_from y)) ord k f own h = absurd (let e : count_from y ≡ unmarked = k.0 in cc)
+      act_meets i at (loop x first last by body unmarked) ord k f own h =
+          let here = stated (record { number = i; place = at; act = loop x first last by body unmarked }) own in
+          let o : AtLoop w i x = here.act in
+          let in_body = ways (suc i) (point_inside i) (point_inside i) (assigning i x) body in
+          let enters = way (point_before i) (point_inside i) (assigning i x) in
+          let leaves = way (point_inside i) (point_after i) passing in
+          let on_body : AllOwnWays in_body = λ y m. f y (is_later y enters (leaves ∷ in_body) (is_later y leaves in_body m)) in
+          let entry : OwnWay (point_before i) (point_inside i) (assigning i x) = f enters (is_first enters enters (leaves ∷ in_body) refl) in
+          let turn : OwnWay (last_point (point_inside i) (suc i) body) (point_inside i) (assigning i x) = on_body (way (last_point (point_inside i) (suc i) body) (point_inside i) (assigning i x)) (ends (suc i) (point_inside i) (point_inside i) (assigning i x) body) in (
+            record {
+              keeps_adjointed = (let b = o.branch in b.keeps);
+              keeps = λ e. idle i (part_of i) (suc i) body e refl h;
+              keeps_reset = λ r. let p = and_true (w.marks.shadowed x) (w.marks.varied (point_before i) x) r in (o.resets p.0 p.1).1;
+              keeps_variable = o.keeps;
+              needs_uses = λ e v r. here.kept e v (bounds (reads_term v first) (reads_term v last) (reads_term v by) r);
+              saves = o.saves;
+              entry_values = values (point_before i) (point_inside i) (assigning i x) entry;
+              entry_tangents = tangents_assigning (point_before i) (point_inside i) i x entry;
+              step_values = values (last_point (point_inside i) (suc i) body) (point_inside i) (assigning i x) turn;
+              step_tangents = tangents_assigning (last_point (point_inside i) (suc i) body) (point_inside i) i x turn;
+              exit = passes (point_inside i) (point_after i) (f leaves (is_later leaves enters (leaves ∷ in_body) (is_first leaves leaves in_body refl)));
+              adjoints_reset = λ r. let p = and_true (w.marks.shadowed x) (w.marks.varied (point_before i) x) r in (o.resets p.0 p.1).0;
+            },
+            list_meets (suc i) (point_inside i) (point_inside i) (assigning i x) (part_of i) body refl k.1 on_body h,
+          )
+      act_meets i at (during c body) ord k f own h =
+          let here = stated (record { number = i; place = at; act = during c body }) own in
+          let o : AtBranch w i = here.act in
+          let in_body = ways (suc i) (point_inside i) (point_inside i) passing body in
+          let enters = way (point_before i) (point_inside i) passing in
+          let leaves = way (point_inside i) (point_after i) passing in
+          let on_body : AllOwnWays in_body = λ y m. f y (is_later y enters (leaves ∷ in_body) (is_later y leaves in_body m)) in (
+            record {
+              keeps_adjointed = o.keeps;
+              keeps = λ e. idle i (part_of i) (suc i) body e refl h;
+              needs_uses = here.kept;
+              entry = passes (point_before i) (point_inside i) (f enters (is_first enters enters (leaves ∷ in_body) refl));
+              again = passes (last_point (point_inside i) (suc i) body) (point_inside i) (on_body (way (last_point (point_inside i) (suc i) body) (point_inside i) passing) (ends (suc i) (point_inside i) (point_inside i) passing body));
+              exit = passes (point_inside i) (point_after i) (f leaves (is_later leaves enters (leaves ∷ in_body) (is_first leaves leaves in_body refl)));
+            },
+            list_meets (suc i) (point_inside i) (point_inside i) passing (part_of i) body refl k on_body h,
+          )
+      act_meets i at (call name args) ord k f own h = calls i at name args ord own k
+      act_meets i at (runtime r) ord k f own h = absurd k
+
+      pub list_meets : (i p q : ℕ) (last : Deed) (at : Place) (c : Code) → is_turn at ≡ false → IsPlainCode units c → AllOwnWays (ways i p q last c) → AllOwn (standing at i c) → ListLaws gf w p i c
+      list_meets i p q last at stop ord k f h = tt
+      list_meets i p q last at (step line a rest) ord k f h =
+          let self : Standing = record { number = i; place = at; act = a } in
+          let first : Way = way p (point_before i) passing in
+          let own = act_ways i a in
+          let others = ways (next i a) (point_after i) q last rest in
+          let inside = held_in i a in
+          let behind_it = standing at (next i a) rest in (
+            passes p (point_before i) (f first (is_first first first (own ++ others) refl)),
+            (
+              act_meets i at a ord k.0 (λ y m. f y (is_later y first (own ++ others) (Contains-append_left own others y m))) (own_first self (inside ++ behind_it) h) (λ s m. h s (is_later s self (inside ++ behind_it) (Contains-append_left inside behind_it s m))),
+              list_meets (next i a) (point_after i) q last at rest ord k.1 (λ y m. f y (is_later y first (own ++ others) (Contains-append_right own others y m))) (λ s m. h s (is_later s self (inside ++ behind_it) (Contains-append_right inside behind_it s m))),
+            ),
+          )

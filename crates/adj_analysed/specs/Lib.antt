@@ -1,0 +1,2 @@
+-- What the contracts of this crate say of the marks of exact analyses.
+pub mod Meets

@@ -1,0 +1,8 @@
+use Rattle.adj_checked.proofs.Premises.{lawful_fits, lawful_is_adjoint}
+use Rattle.adj_checked.proofs.lawful_law.Goals as goal
+
+pub returns-clause-fits : goal.returns-clause-fits
+returns-clause-fits c = lawful_fits
+
+pub returns-clause-adjoint : goal.returns-clause-adjoint
+returns-clause-adjoint c = lawful_is_adjoint

@@ -1,0 +1,4 @@
+-- The trials of faulty programs.
+mod Trying
+mod Trials
+mod Unchanged

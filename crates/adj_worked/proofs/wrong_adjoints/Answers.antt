@@ -1,0 +1,30 @@
+use Rattle.adj_worked.proofs.Unchanged.{without_fault}
+use Rattle.adj_worked.proofs.Trials.{untold_fails, unturned_fails, unrestored_fails, unreset_fails, uncounted_fails, unsnapped_fails, popped_before_fails, unguarded_fails}
+use Rattle.adj_worked.proofs.wrong_adjoints.Goals as goal
+
+pub returns-clause-without_fault : goal.returns-clause-without_fault
+returns-clause-without_fault c = without_fault
+
+pub returns-clause-untold : goal.returns-clause-untold
+returns-clause-untold c = untold_fails
+
+pub returns-clause-unturned : goal.returns-clause-unturned
+returns-clause-unturned c = unturned_fails
+
+pub returns-clause-unrestored : goal.returns-clause-unrestored
+returns-clause-unrestored c = unrestored_fails
+
+pub returns-clause-unreset : goal.returns-clause-unreset
+returns-clause-unreset c = unreset_fails
+
+pub returns-clause-uncounted : goal.returns-clause-uncounted
+returns-clause-uncounted c = uncounted_fails
+
+pub returns-clause-unsnapped : goal.returns-clause-unsnapped
+returns-clause-unsnapped c = unsnapped_fails
+
+pub returns-clause-popped_before : goal.returns-clause-popped_before
+returns-clause-popped_before c = popped_before_fails
+
+pub returns-clause-unguarded : goal.returns-clause-unguarded
+returns-clause-unguarded c = unguarded_fails
