@@ -1,33 +1,22 @@
 -- The actuals of CALLs in the sweeps: distinct variables, which fit the dummies of the emitted units.
-use Rattle.std.proofs.Common.{◌≡◌, ℕ, suc, Bool, true, false, List, [], ◌∷◌, ◌++◌, map, refl, sym, ap, ◌∙◌, subst, if◌then◌else◌}
-use Rattle.std.specs.Prelude.{◌||◌, ◌&&◌, ◌==◌, Option, Some, None}
-use Rattle.adj_tree.specs.Code.{Var, plain, shadow, helper, name_eq, var_eq, Term, var, Terms, none, more, Act, assign, choose, loop, during, call, runtime, Code, stop, step, Procedure}
+use Rattle.std.proofs.Common.{◌≡◌, ℕ, Bool, true, false, List, [], ◌∷◌, map, refl, ap, ◌∙◌, if◌then◌else◌}
+use Rattle.std.specs.Prelude.{◌||◌, ◌==◌, Some}
+use Rattle.adj_tree.specs.Code.{Var, plain, shadow, name_eq, var, Terms, none, more, Procedure}
 use Rattle.adj_tree.proofs.Names.{name_refl}
-use Rattle.adj_text.specs.Written.{IsName, IsWrittenAct, IsWrittenCode}
 use Rattle.adj_meaning.specs.Written.{find_unit}
 use Rattle.adj_meaning.specs.Rename.{rename_terms}
-use Rattle.adj_names.specs.Standing.{in_act}
-use Rattle.adj_names.specs.Statements.{At, inner, statements}
 use Rattle.adj_names.specs.Variables.{rank}
-use Rattle.adj_names.specs.CallFaults.{is_actual_for, are_actuals_for}
-use Rattle.adj_kernel.specs.Form.{IsKernelAct, IsKernelCode}
+use Rattle.adj_names.specs.CallFaults.{are_actuals_for}
 use Rattle.adj_transpose.specs.Fresh.{has_name}
 use Rattle.adj_transpose.specs.Naming.{Named, name_in, AreApart}
 use Rattle.adj_transpose.specs.MarkedProgram.{shadows_behind}
-use Rattle.adj_transpose.specs.Marks.{Vars, next, behind}
+use Rattle.adj_transpose.specs.Marks.{Vars}
 use Rattle.adj_transpose.proofs.Variables.{and_true, or_false, or_left, or_right}
-use Rattle.adj_reverse.specs.Plan.{Plan, names_of, actuals_named}
+use Rattle.adj_reverse.specs.Plan.{names_of, actuals_named}
 use Rattle.adj_reverse.specs.Emission.{with_shadows}
-use Rattle.adj_reverse.specs.Marking.{ProgramMarks, callee_of, callee_in, plan_in}
-use Rattle.adj_reverse.specs.Program.{calls_act, calls_in}
-use Rattle.adj_checked.proofs.Lists.{Each, each_front, each_behind}
-use Rattle.adj_checked.proofs.Texts.{actuals_given, actuals_apart}
-use Rattle.adj_checked.proofs.Statements.{CallHasNone, call_of_unit}
-use Rattle.adj_emitted.specs.Shadowed.{AreCarried, HasShadows', HasShadows}
+use Rattle.adj_emitted.specs.Shadowed.{AreCarried}
 use Rattle.adj_emitted.proofs.Tables.{among}
 use Rattle.adj_emitted.proofs.Apart.{VarsApart}
-use Rattle.adj_emitted.proofs.Follows.{FollowsAct, Follows}
-use Rattle.adj_emitted.proofs.MadeNames.{callee_named, made_no_runtime}
 
 -- variables as actuals
 abbrev pub terms_of : List Var → Terms

@@ -1,18 +1,18 @@
 -- An adjoint unit has no faults of names, those of units left aside.
-use Rattle.std.proofs.Common.{◌≡◌, ℕ, suc, ◌+◌, ◌≤◌, Bool, true, false, List, [], ◌∷◌, ◌++◌, map, length, refl, sym, ap, ◌∙◌, subst, arith, if◌then◌else◌}
+use Rattle.std.proofs.Common.{◌≡◌, ℕ, Bool, true, false, List, [], ◌∷◌, ◌++◌, map, length, refl, sym, ap, ◌∙◌, subst, arith, if◌then◌else◌}
 use Rattle.std.specs.Prelude.{pos, ◌||◌, ◌&&◌, ◌==◌, not, flat_map, int_lt, Option, Some, None}
 use Rattle.std.specs.List.{list_any}
 use Rattle.adj_tree.specs.Code.{Terms, Var, plain, shadow, helper, work, temp, name_eq, var_eq, Runtime, push_word, pop_word, push_array, pop_array, push_control, pop_control, zero_array, begin_reversal, count_actions, give_action, end_reversal, Act, assign, choose, loop, during, call, runtime, Extent, fixed, given, Declaration, Procedure}
 use Rattle.adj_tree.proofs.Names.{name_refl, name_same, nat_same}
 use Rattle.adj_text.specs.Written.{IsWrittenProcedure}
 use Rattle.adj_meaning.specs.Read.{is_extent}
-use Rattle.adj_meaning.specs.Rename.{rename_terms, rename_runtime, rename}
+use Rattle.adj_meaning.specs.Rename.{rename_terms, rename_runtime}
 use Rattle.adj_meaning.specs.Units.{declared}
 use Rattle.adj_names.specs.Fresh as fresh
 use Rattle.adj_names.specs.Standing.{Standing, in_act}
 use Rattle.adj_names.specs.Statements.{At, statements}
 use Rattle.adj_names.specs.Variables.{dummy_places, declared_places, statement_places, places, variables, rank, is_scalar, is_dummy, is_integer, is_integer_name}
-use Rattle.adj_names.specs.Fault.{Rules, run_rules, fault, faults_if, again}
+use Rattle.adj_names.specs.Fault.{run_rules, fault, faults_if}
 use Rattle.adj_names.specs.NameFaults.{extent_names, extent_places, undeclared, declared_twice, is_rank_for, has_rank, taken_in, misused, literal_product, is_bad_extent, has_bad_extents, bad_extents}
 use Rattle.adj_names.specs.Reserved.{is_runtime}
 use Rattle.adj_names.specs.CallFaults.{variable_rank, array_arguments}
@@ -20,13 +20,12 @@ use Rattle.adj_kernel.specs.Form.{IsKernelCode}
 use Rattle.adj_transpose.specs.Fresh.{has_name}
 use Rattle.adj_transpose.specs.Naming.{Named, own as own_name, name_in, naming, AreApart}
 use Rattle.adj_transpose.specs.Marks.{Vars}
-use Rattle.adj_transpose.specs.Marked.{names_in}
 use Rattle.adj_transpose.specs.MarkedProgram.{shadows_behind, declared_behind}
 use Rattle.adj_transpose.specs.Program.{declaration, declared_helpers}
-use Rattle.adj_transpose.proofs.Variables.{or_false, or_left, or_right, and_true, not_true, var_same}
+use Rattle.adj_transpose.proofs.Variables.{or_false, or_left, or_right, and_true, var_same}
 use Rattle.adj_reverse.specs.Plan.{Plan}
 use Rattle.adj_reverse.specs.Emission.{adjoint_body}
-use Rattle.adj_reverse.specs.Marking.{ProgramMarks, first_statement, callee_of, plan_in}
+use Rattle.adj_reverse.specs.Marking.{ProgramMarks, first_statement, plan_in}
 use Rattle.adj_reverse.specs.Program.{works_used, temps_used, helpers_used, adjoint_names, adjoint_unit}
 use Rattle.adj_reverse.proofs.Made.{separates, own, declared_alike}
 use Rattle.adj_reverse.proofs.Variables.{same_has, variables_apart, dummy_among}

@@ -1,5 +1,5 @@
 -- The variables that an adjoint unit declares, in order: they stand once, so their names are apart.
-use Rattle.std.proofs.Common.{◌≡◌, ℕ, zero, suc, ◌+◌, ◌<◌, ◌≤◌, Bool, true, false, List, [], ◌∷◌, ◌++◌, map, refl, sym, ap, ◌∙◌, subst, arith, if◌then◌else◌}
+use Rattle.std.proofs.Common.{◌≡◌, ℕ, zero, suc, ◌<◌, Bool, true, false, List, [], ◌∷◌, ◌++◌, map, refl, sym, ap, ◌∙◌, arith, if◌then◌else◌}
 use Rattle.std.specs.Prelude.{◌&&◌, ◌||◌, ◌==◌, not}
 use Rattle.std.proofs.lemmas.Bool.Decides.{nat_tests}
 use Rattle.adj_tree.specs.Code.{Var, plain, shadow, helper, Role, role_code, work, temp, control, first, stride, count, turn, name_eq, var_eq, Act, Code}
@@ -12,7 +12,6 @@ use Rattle.adj_transpose.specs.Program.{helpers_from}
 use Rattle.adj_transpose.proofs.Variables.{or_false, or_left, or_right, var_refl}
 use Rattle.adj_reverse.specs.Plan.{Plan}
 use Rattle.adj_reverse.specs.Program.{helpers_among, works_used, temps_used, depth_used, tells_some, goes_back, is_do, is_loop, loop_helpers, helpers_used}
-use Rattle.adj_reverse.proofs.Rounds.{either}
 use Rattle.adj_emitted.proofs.Tables.{has_var, among, has_var-append, among-append, has_made, has_own, among_shadows, plain_no_shadow, AreHelpers, plain_no_helper, shadow_no_helper}
 
 -- no variable stands twice

@@ -1,7 +1,7 @@
 -- What is emitted has no faults of calls.
-use Rattle.std.proofs.Common.{◌≡◌, ℕ, suc, Bool, true, false, List, [], ◌∷◌, ◌++◌, map, refl, sym, ap, ◌∙◌, subst, if◌then◌else◌}
-use Rattle.std.specs.Prelude.{◌||◌, ◌&&◌, ◌==◌, not, flat_map, Option, Some, None}
-use Rattle.adj_tree.specs.Code.{Var, plain, shadow, name_eq, Terms, Runtime, Act, assign, choose, loop, during, call, runtime, Code, stop, step, Procedure}
+use Rattle.std.proofs.Common.{◌≡◌, ℕ, suc, Bool, true, false, List, [], ◌∷◌, map, refl, sym, ap, ◌∙◌, subst, if◌then◌else◌}
+use Rattle.std.specs.Prelude.{◌==◌, not, flat_map, Some}
+use Rattle.adj_tree.specs.Code.{plain, shadow, name_eq, Terms, Runtime, Act, assign, choose, loop, during, call, runtime, Code, stop, step, Procedure}
 use Rattle.adj_tree.proofs.Names.{name_refl}
 use Rattle.adj_text.specs.Written.{IsName, IsWrittenAct, IsWrittenCode, IsWrittenProcedure}
 use Rattle.adj_meaning.specs.Written.{find_unit}
@@ -18,29 +18,28 @@ use Rattle.adj_transpose.specs.Naming.{Named, name_in, naming}
 use Rattle.adj_transpose.specs.Marks.{next, behind}
 use Rattle.adj_transpose.specs.Marked.{names_in}
 use Rattle.adj_transpose.specs.MarkedProgram.{shadows_behind}
-use Rattle.adj_transpose.specs.Program.{unit_name, unmarked, unit_at}
-use Rattle.adj_transpose.proofs.Variables.{and_true, or_left, or_right}
-use Rattle.adj_reverse.specs.Names.{source_names, adjoint_name}
+use Rattle.adj_transpose.specs.Program.{unmarked, unit_at}
+use Rattle.adj_transpose.proofs.Variables.{or_left, or_right}
+use Rattle.adj_reverse.specs.Names.{adjoint_name}
 use Rattle.adj_reverse.specs.Plan.{names_of, actuals_named}
 use Rattle.adj_reverse.specs.Emission.{with_shadows}
 use Rattle.adj_reverse.specs.Marking.{ProgramMarks, first_statement, callee_of, callee_in, plan_in}
-use Rattle.adj_reverse.specs.Program.{calls_act, calls_in, calls_some, has_adjoint, answers, is_kept, is_carried, all_units, adjoint_names, adjoint_unit, emitted_adjoint, emitted_units, emitted_for, emitted_program}
-use Rattle.adj_reverse.specs.Source.{is_unit, CallUnits}
+use Rattle.adj_reverse.specs.Program.{calls_act, calls_in, has_adjoint, is_kept, is_carried, all_units, adjoint_names, adjoint_unit, emitted_adjoint, emitted_units, emitted_for}
+use Rattle.adj_reverse.specs.Source.{CallUnits}
 use Rattle.adj_reverse.proofs.EmittedUnits.{found_there, carried_found, adjoint_found, carried_common, answers_there}
 use Rattle.adj_reverse.proofs.Variables.{dummy_among}
 use Rattle.adj_checked.specs.Checked.{IsChecked}
-use Rattle.adj_checked.proofs.Lists.{Each, each_append, each_front, each_behind, each_more, each_found, each_both, none_if}
+use Rattle.adj_checked.proofs.Lists.{Each, each_append, each_front, each_behind, each_more, each_found, each_both}
 use Rattle.adj_checked.proofs.Texts.{actuals_given, actuals_apart}
 use Rattle.adj_checked.proofs.Statements.{CallHasNone, call_of_unit, calls_inside}
 use Rattle.adj_checked.proofs.Callings.{Found, all_found, calls_found_some, roots_reached}
 use Rattle.adj_emitted.specs.Shadowed.{AreCarried, HasShadows', HasShadows, AllHaveShadows}
-
 use Rattle.adj_emitted.specs.Emitted.{CallsHaveNone}
 use Rattle.adj_emitted.proofs.Follows.{FollowsAct, Follows}
 use Rattle.adj_emitted.proofs.MadeNames.{callee_named, made_no_runtime, follows}
 use Rattle.adj_emitted.proofs.Called.{IsOwn}
 use Rattle.adj_emitted.proofs.Actuals.{plain_terms, plain_apart, given_vars, given_terms, given_apart, named_back, Fits, plain_fit, shadow_fit}
-use Rattle.adj_emitted.proofs.Sources.{UnitSound, each_there, all_named, all_calls}
+use Rattle.adj_emitted.proofs.Sources.{UnitSound, all_named, all_calls}
 use Rattle.adj_emitted.proofs.Programs.{cleared}
 use Rattle.adj_emitted.proofs.UnitFaults.{flat_none, if_none, each_emitted, units_apart}
 use Rattle.adj_emitted.proofs.AdjointNames as names
@@ -168,7 +167,7 @@ module _ (m : ProgramMarks) (ps : List Procedure) (head : Procedure) (vars outva
           (
             h t,
             subst (λ o. C (callee_of m ps name o).adjoint (with_shadows (callee_of m ps name o).shadowed (callee_of m ps name o).dummies (names_of args))) (sym unit.found)
-            (adjoint_fits name args unit.unit given.0 unit.found unit.fit given.1 k (adjointed name (rw (t, name_refl name) refl)) (subst (λ o. AreCarried (callee_of m ps name o).shadowed (m.shadowed u.name) (callee_of m ps name o).dummies (names_of args)) unit.found (h t))),
+                (adjoint_fits name args unit.unit given.0 unit.found unit.fit given.1 k (adjointed name (rw (t, name_refl name) refl)) (subst (λ o. AreCarried (callee_of m ps name o).shadowed (m.shadowed u.name) (callee_of m ps name o).dummies (names_of args)) unit.found (h t))),
           ),
         ),
       ),

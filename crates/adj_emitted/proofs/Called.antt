@@ -1,7 +1,7 @@
 -- What holds of each statement of code once its variables have names, by what holds of its CALLs and its calls of the runtime.
-use Rattle.std.proofs.Common.{◌≡◌, ℕ, Bool, true, false, List, [], ◌∷◌, ◌++◌, refl}
-use Rattle.std.specs.Prelude.{Option, Some, None}
-use Rattle.adj_tree.specs.Code.{Var, plain, Term, Terms, none, more, var, Test, Runtime, Mark, Act, assign, choose, loop, during, call, runtime, Code, stop, step}
+use Rattle.std.proofs.Common.{◌≡◌, ℕ, false, List, ◌∷◌}
+use Rattle.std.specs.Prelude.{Option}
+use Rattle.adj_tree.specs.Code.{Var, Terms, Runtime, Act, assign, choose, loop, during, call, runtime, Code, stop, step}
 use Rattle.adj_meaning.specs.Rename.{rename_term, rename_terms, rename_test, rename_runtime, rename_mark, rename_act, rename}
 use Rattle.adj_names.specs.Reserved.{is_runtime}
 use Rattle.adj_names.specs.Statements.{At, inner, statements}

@@ -1,6 +1,6 @@
 -- The helpers of loops and branches that the sweeps of a list use are among those that its unit declares.
-use Rattle.std.proofs.Common.{◌≡◌, ℕ, suc, ◌+◌, ◌<◌, ◌≤◌, max, Bool, true, false, List, refl, sym, ap, ◌∙◌, subst, arith, if◌then◌else◌}
-use Rattle.std.specs.Prelude.{◌&&◌, ◌||◌, ◌==◌, not, Option, Some, None}
+use Rattle.std.proofs.Common.{◌≡◌, ℕ, suc, ◌≤◌, max, Bool, true, false, sym, ap, subst, arith, if◌then◌else◌}
+use Rattle.std.specs.Prelude.{◌&&◌, ◌||◌, ◌==◌, not, Option, Some}
 use Rattle.adj_tree.specs.Code.{Var, helper, control, first, stride, count, turn, Term, Test, Mark, Act, choose, loop, during, Code, step}
 use Rattle.adj_tree.proofs.Names.{nat_refl}
 use Rattle.adj_transpose.specs.Marks.{next, behind}

@@ -23,3 +23,4 @@ pub mod NameFaults
 pub mod Called
 pub mod Actuals
 pub mod CallFaults
+pub mod Lawful

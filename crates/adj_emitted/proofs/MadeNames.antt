@@ -1,25 +1,24 @@
 -- The names of adjoint units: they are written, and have an underscore, so that nothing that is reserved has them.
 use Rattle.std.proofs.Common.{◌≡◌, ℕ, zero, suc, Bool, true, false, List, [], ◌∷◌, ◌++◌, length, refl, sym, ap, ◌∙◌, subst, codes, if◌then◌else◌}
-use Rattle.std.specs.Prelude.{◌||◌, ◌==◌, Option, Some, None}
+use Rattle.std.specs.Prelude.{◌||◌, ◌==◌, Some}
 use Rattle.adj_tree.specs.Code.{name_eq, Act, assign, choose, loop, during, call, runtime, Code, stop, step, Procedure}
 use Rattle.adj_tree.proofs.Names.{name_same}
 use Rattle.adj_text.specs.Written.{IsName}
 use Rattle.adj_meaning.specs.Written.{find_unit}
-use Rattle.adj_names.specs.Reserved.{is_runtime, is_reserved}
-use Rattle.adj_names.specs.Statements.{At, inner, statements}
+use Rattle.adj_names.specs.Reserved.{is_runtime}
+use Rattle.adj_names.specs.Statements.{inner, statements}
 use Rattle.adj_transpose.specs.Fresh.{has_name, digits, candidate, first_free, fresh, reserved}
 use Rattle.adj_transpose.specs.Marks.{next, behind}
-use Rattle.adj_transpose.proofs.Variables.{or_left, or_right, not_true}
+use Rattle.adj_transpose.proofs.Variables.{or_left, or_right}
 use Rattle.adj_kernel.proofs.FreshWritten.{name-append, fresh-name}
-use Rattle.adj_reverse.specs.Names.{adjoint_after, adjoint_name, source_names}
-use Rattle.adj_reverse.specs.Plan.{Callee}
+use Rattle.adj_reverse.specs.Names.{adjoint_after, source_names}
 use Rattle.adj_reverse.specs.Marking.{ProgramMarks, callee_of, callee_in, plan_in}
 use Rattle.adj_reverse.specs.Source.{is_unit}
 use Rattle.adj_reverse.proofs.EmittedUnits.{found_there}
 use Rattle.adj_reverse.proofs.Rounds.{either}
 use Rattle.adj_checked.proofs.Lists.{Each, each_front, each_behind}
 use Rattle.adj_checked.proofs.Statements.{CallHasNone, call_of_unit}
-use Rattle.adj_emitted.specs.Shadowed.{AreCarried, HasShadows', HasShadows}
+use Rattle.adj_emitted.specs.Shadowed.{HasShadows', HasShadows}
 use Rattle.adj_emitted.proofs.Over.{Any}
 use Rattle.adj_emitted.proofs.Follows.{FollowsAct, Follows}
 
@@ -112,10 +111,12 @@ module _ (m : ProgramMarks) (ps : List Procedure) (named : Each (λ u. IsName u.
     )
     follows' i line (loop x a b c body n) d inside h = follows (suc i) body inside h
     follows' i line (during t body) c inside h = follows (suc i) body inside h
-    follows' i line (call name args) c inside h =
-        (λ t. tt, λ t. let unit = call_of_unit ps u line name args c in
-        let made = callee_named name unit.unit unit.found in
-        (made.0, (made_no_runtime (callee_in m ps name).adjoint made, (h t, tt))))
+    follows' i line (call name args) c inside h = (
+      λ t. tt,
+      λ t. let unit = call_of_unit ps u line name args c in
+          let made = callee_named name unit.unit unit.found in
+          (made.0, (made_no_runtime (callee_in m ps name).adjoint made, (h t, tt))),
+    )
     follows' i line (runtime r) c inside h = tt
 
     pub follows : (i : ℕ) (c : Code) → Each (CallHasNone ps u) (statements c) → HasShadows (plan_in m ps u) i c → Follows Any (plan_in m ps u) i c

@@ -1,15 +1,14 @@
 -- What is emitted has no faults of names.
-use Rattle.std.proofs.Common.{◌≡◌, ℕ, zero, suc, Bool, true, false, List, [], ◌∷◌, ◌++◌, map, refl, sym, ap, ◌∙◌, subst, if◌then◌else◌}
-use Rattle.std.specs.Prelude.{◌||◌, ◌&&◌, not, flat_map, Option, Some, None, is_some}
-use Rattle.adj_tree.specs.Code.{plain, name_eq, Act, assign, choose, loop, during, call, runtime, Code, stop, step, Declaration, Procedure}
+use Rattle.std.proofs.Common.{◌≡◌, ℕ, Bool, true, false, List, [], ◌∷◌, ◌++◌, map, refl, sym, ap, ◌∙◌, subst, if◌then◌else◌}
+use Rattle.std.specs.Prelude.{◌||◌, ◌&&◌, not, flat_map, Some, is_some}
+use Rattle.adj_tree.specs.Code.{plain, name_eq, Act, assign, choose, loop, during, call, runtime, Code, stop, step, Procedure}
 use Rattle.adj_tree.specs.declared.fault.Refusal.{Refusal}
-use Rattle.adj_tree.proofs.Names.{name_refl}
 use Rattle.adj_text.specs.Written.{IsName}
 use Rattle.adj_meaning.specs.Written.{find_unit}
 use Rattle.adj_meaning.specs.Read.{is_extent}
 use Rattle.adj_names.specs.Reserved.{is_reserved}
 use Rattle.adj_names.specs.Statements.{At, inner, statements}
-use Rattle.adj_names.specs.Standing.{Standing, in_act}
+use Rattle.adj_names.specs.Standing.{in_act}
 use Rattle.adj_names.specs.Variables.{dummy_places, declared_places, places, variables}
 use Rattle.adj_names.specs.Fault.{Rules, run_rules, fault, faults_if, again}
 use Rattle.adj_names.specs.NameFaults.{undeclared, declared_twice, has_rank, taken_in, misused, has_bad_extents, bad_extents, reserved_variables, calls_runtime, runtime_calls, too_many_variables, faults_of_names, name_faults}
@@ -17,7 +16,7 @@ use Rattle.adj_names.specs.Laws.{HasNone}
 use Rattle.adj_names.proofs.Sound.{sound_has_none}
 use Rattle.adj_names.proofs.Lists.{names_at}
 use Rattle.adj_kernel.specs.Form.{IsKernelAct, IsKernelCode}
-use Rattle.adj_transpose.specs.Fresh.{has_name, reserved}
+use Rattle.adj_transpose.specs.Fresh.{has_name}
 use Rattle.adj_transpose.specs.Naming.{AreApart}
 use Rattle.adj_transpose.specs.Marked.{names_in}
 use Rattle.adj_transpose.specs.Program.{unit_name, unmarked, unit_at}
@@ -25,7 +24,7 @@ use Rattle.adj_transpose.proofs.Naming.{has-append}
 use Rattle.adj_transpose.proofs.Variables.{or_false, or_left, or_right, name_comm, has_apart}
 use Rattle.adj_reverse.specs.Names.{source_names, adjoint_after, adjoint_name}
 use Rattle.adj_reverse.specs.Marking.{ProgramMarks, first_statement, plan_in}
-use Rattle.adj_reverse.specs.Program.{has_adjoint, is_carried, made_names, all_units, adjoint_unit, emitted_adjoint, emitted_units, emitted_for, emitted_program}
+use Rattle.adj_reverse.specs.Program.{has_adjoint, is_carried, made_names, all_units, adjoint_unit, emitted_adjoint, emitted_units, emitted_for}
 use Rattle.adj_reverse.specs.Source.{is_unit}
 use Rattle.adj_reverse.proofs.Names.{adjoint_free}
 use Rattle.adj_reverse.proofs.Variables.{variables_stand}
@@ -41,7 +40,7 @@ use Rattle.adj_emitted.proofs.Tables.{IsFree}
 use Rattle.adj_emitted.proofs.Sources.{each_name, of_each, UnitSound, each_there, all_named, all_sound}
 use Rattle.adj_emitted.proofs.Programs.{cleared}
 use Rattle.adj_emitted.proofs.UnitFaults.{flat_none, if_none, each_emitted, not_emitted, others_apart}
-use Rattle.adj_emitted.proofs.AdjointNames.{unit, places_declared, no_bad_extents, no_misused, no_twice, no_undeclared, each_declared}
+use Rattle.adj_emitted.proofs.AdjointNames.{places_declared, no_bad_extents, no_misused, no_twice, no_undeclared, each_declared}
 
 -- ---- a program in kernel form calls no runtime
 

@@ -1,42 +1,25 @@
 -- What is emitted for a checked program is written.
-use Rattle.std.proofs.Common.{◌≡◌, ℕ, zero, suc, Bool, true, false, List, [], ◌∷◌, ◌++◌, All, map, refl, sym, ap, ◌∙◌, subst, if◌then◌else◌}
-use Rattle.std.specs.Prelude.{◌||◌, flat_map, Option, Some, None, is_some}
-use Rattle.std.proofs.lemmas.List.Elements.{All-nil, All-cons, All-append}
+use Rattle.std.proofs.Common.{◌≡◌, ℕ, suc, Bool, true, false, List, [], ◌∷◌, ◌++◌, refl, if◌then◌else◌}
+use Rattle.std.specs.Prelude.{Option, Some, None}
+use Rattle.std.proofs.lemmas.List.Elements.{All-nil, All-cons}
 use Rattle.adj_tree.specs.Code.{plain, name_eq, Act, assign, choose, loop, during, call, runtime, Code, stop, step, Procedure}
-use Rattle.adj_tree.proofs.Names.{name_refl}
-use Rattle.adj_tree.specs.declared.fault.Refusal.{Refusal}
 use Rattle.adj_text.specs.Written.{IsName, IsWrittenProcedure, IsWritten}
 use Rattle.adj_meaning.specs.Written.{find_unit}
-use Rattle.adj_names.specs.Reserved.{is_reserved}
-use Rattle.adj_names.specs.Statements.{At, statements}
-use Rattle.adj_names.specs.Variables.{places, variables}
-use Rattle.adj_names.specs.Fault.{Rules, fault, faults_if}
-use Rattle.adj_names.specs.NameFaults.{undeclared, declared_twice, misused, bad_extents, reserved_variables, faults_of_names}
-use Rattle.adj_names.specs.CallFaults.{faults_of_call}
-use Rattle.adj_names.specs.Laws.{HasNone}
-use Rattle.adj_names.proofs.Sound.{sound_has_none}
-use Rattle.adj_names.proofs.Lists.{names_at}
-use Rattle.adj_kernel.specs.Form.{IsKernelCode}
-use Rattle.adj_transpose.specs.Fresh.{has_name, reserved}
+use Rattle.adj_names.specs.Variables.{variables}
+use Rattle.adj_transpose.specs.Fresh.{has_name}
 use Rattle.adj_transpose.specs.Marks.{everything, next, behind}
 use Rattle.adj_transpose.specs.Marked.{names_in}
 use Rattle.adj_transpose.specs.Program.{unmarked, unit_at}
-use Rattle.adj_transpose.proofs.Variables.{or_false, or_left, or_right}
-use Rattle.adj_reverse.specs.Names.{source_names, adjoint_name}
+use Rattle.adj_reverse.specs.Names.{source_names}
 use Rattle.adj_reverse.specs.Plan.{names_of}
 use Rattle.adj_reverse.specs.Marking.{ProgramMarks, full_marks, first_statement, callee_of, callee_in, plan_in}
-use Rattle.adj_reverse.specs.Program.{has_adjoint, is_carried, all_units, adjoint_unit, emitted_adjoint, emitted_units, emitted_for, emitted_program}
-use Rattle.adj_reverse.specs.Source.{is_unit}
+use Rattle.adj_reverse.specs.Program.{has_adjoint, is_carried, all_units, adjoint_unit, emitted_adjoint, emitted_units, emitted_for}
 use Rattle.adj_reverse.proofs.HeadNames.{unmarked_in}
-use Rattle.adj_reverse.proofs.Variables.{variables_stand, dummy_among}
-use Rattle.adj_checked.specs.Checked.{IsChecked}
-use Rattle.adj_checked.proofs.Lists.{Each, each_more, each_all, each_unit, each_both, none_front, none_behind, none_each, none_if}
-use Rattle.adj_checked.proofs.Statements.{CallHasNone}
-use Rattle.adj_checked.proofs.Names.{variable_named}
+use Rattle.adj_reverse.proofs.Variables.{dummy_among}
+use Rattle.adj_checked.proofs.Lists.{Each}
 use Rattle.adj_emitted.specs.Shadowed.{AreCarried, HasShadows', HasShadows, AllHaveShadows}
 use Rattle.adj_emitted.specs.Emitted.{MarkedIsWritten, EmittedIsWritten}
 use Rattle.adj_emitted.proofs.MadeNames.{adjoint_named, follows}
-use Rattle.adj_emitted.proofs.Tables.{IsFree}
 use Rattle.adj_emitted.proofs.Sources.{each_name, UnitSound, all_named, all_sound}
 use Rattle.adj_emitted.proofs.Units.{each_marked, unit_written}
 

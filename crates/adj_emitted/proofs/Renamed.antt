@@ -1,13 +1,13 @@
 -- Code that is formed as written code is written once its variables have names.
-use Rattle.std.proofs.Common.{◌≡◌, ℕ, Bool, true, false, List, [], ◌∷◌, ◌++◌, refl, sym, ap, ◌∙◌, subst}
-use Rattle.std.specs.Prelude.{◌||◌, ◌&&◌, Option, Some, None, codes, if◌then◌else◌}
+use Rattle.std.proofs.Common.{◌≡◌, ℕ, false, List, refl, ◌∙◌}
+use Rattle.std.specs.Prelude.{◌&&◌, Option, Some, None, codes}
 use Rattle.adj_tree.specs.Code.{Var, plain, shadow, helper, name_eq, Term, lit, var, elem, neg, bin, pow, power_of, abs, Terms, none, more, Test, compare, negation, conjunction, disjunction, Runtime, push_word, pop_word, push_array, pop_array, push_control, pop_control, zero_array, begin_reversal, count_actions, give_action, end_reversal, Mark, unmarked, with_count, count_from, Act, assign, choose, loop, during, call, runtime, Code, stop, step}
 use Rattle.adj_text.specs.Grammar.{joins_literals}
 use Rattle.adj_text.specs.Statement.{runtime_call}
 use Rattle.adj_text.specs.Written.{IsVariable, IsIndexed, AreSubscripts, is_literal, is_intrinsic, IsWrittenTerm, AreWrittenTerms, IsWrittenTest, IsPlace, IsActualPlace, IsWrittenRuntime, IsWrittenMark, IsWrittenAct, IsWrittenCode}
 use Rattle.adj_meaning.specs.Rename.{rename_term, rename_terms, rename_test, rename_runtime, rename_mark, rename_act, rename}
 use Rattle.adj_names.specs.Fresh.{has_name}
-use Rattle.adj_names.specs.Reserved.{runtime_names, reserved, is_runtime}
+use Rattle.adj_names.specs.Reserved.{reserved, is_runtime}
 use Rattle.adj_transpose.proofs.Variables.{or_false}
 use Rattle.adj_emitted.proofs.Over.{OverTerm, OverTerms, OverTest, OverPlace, OverActual, OverActuals, OverRuntime, OverMark, OverAct, OverCode}
 

@@ -1,13 +1,13 @@
 -- Written statements in kernel form are formed as written code is, where their names stand.
-use Rattle.std.proofs.Common.{◌≡◌, ℕ, Bool, true, false, List, [], ◌∷◌, ◌++◌, refl, sym, ap, ◌∙◌, subst, if◌then◌else◌}
+use Rattle.std.proofs.Common.{◌≡◌, ℕ, Bool, true, false, List, [], ◌∷◌, ◌++◌, refl, if◌then◌else◌}
 use Rattle.std.specs.Prelude.{Option, Some, None}
 use Rattle.adj_tree.specs.Code.{Var, plain, shadow, helper, Term, lit, var, elem, neg, bin, pow, power_of, abs, Terms, none, more, Test, compare, negation, conjunction, disjunction, Mark, unmarked, with_count, count_from, Act, assign, choose, loop, during, call, runtime, Code, stop, step, Procedure}
 use Rattle.adj_tree.specs.declared.fault.Refusal.{Refusal}
 use Rattle.adj_meaning.specs.Written.{find_unit}
-use Rattle.adj_text.specs.Written.{IsVariable, IsIndexed, AreSubscripts, IsWrittenTerm, AreWrittenTerms, IsWrittenTest, IsPlace, IsWrittenMark, IsWrittenAct, IsWrittenCode}
+use Rattle.adj_text.specs.Written.{IsVariable, IsWrittenTerm, AreWrittenTerms, IsWrittenTest, IsPlace, IsWrittenMark, IsWrittenAct, IsWrittenCode}
 use Rattle.adj_names.specs.Reserved.{is_runtime}
 use Rattle.adj_names.specs.Statements.{At, inner, statements}
-use Rattle.adj_names.specs.Standing.{Standing, standing, scalar, count_of, in_term, in_terms, in_test, in_place, in_actual, in_actuals, in_mark, in_act}
+use Rattle.adj_names.specs.Standing.{Standing, scalar, count_of, in_term, in_terms, in_test, in_place, in_actual, in_actuals, in_mark, in_act}
 use Rattle.adj_names.specs.Fault.{fault}
 use Rattle.adj_names.specs.CallFaults.{faults_of_unit_call}
 use Rattle.adj_kernel.specs.Form.{IsKernelAct, IsKernelCode}

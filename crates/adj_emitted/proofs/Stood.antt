@@ -1,10 +1,10 @@
 -- The names that stand in code once its variables have names.
-use Rattle.std.proofs.Common.{◌≡◌, ℕ, suc, Bool, true, false, List, [], ◌∷◌, ◌++◌, refl, sym, ap, ◌∙◌, subst}
+use Rattle.std.proofs.Common.{◌≡◌, ℕ, suc, List, ◌∷◌, ◌++◌, refl, sym, ap, subst}
 use Rattle.std.specs.Prelude.{Option, Some, None}
-use Rattle.adj_tree.specs.Code.{Var, plain, shadow, helper, Term, lit, var, elem, neg, bin, pow, power_of, abs, Terms, none, more, Test, compare, negation, conjunction, disjunction, Runtime, push_word, pop_word, push_array, pop_array, push_control, pop_control, zero_array, begin_reversal, count_actions, give_action, end_reversal, Mark, unmarked, with_count, count_from, Act, assign, choose, loop, during, call, runtime, Code, stop, step}
+use Rattle.adj_tree.specs.Code.{Var, plain, Term, lit, var, elem, neg, bin, pow, power_of, abs, Terms, none, more, Test, compare, negation, conjunction, disjunction, Runtime, push_word, pop_word, push_array, pop_array, push_control, pop_control, zero_array, begin_reversal, count_actions, give_action, end_reversal, Mark, unmarked, with_count, count_from, Act, assign, choose, loop, during, call, runtime, Code, stop, step}
 use Rattle.adj_meaning.specs.Rename.{rename_term, rename_terms, rename_test, rename_runtime, rename_mark, rename_act, rename}
 use Rattle.adj_names.specs.Statements.{At, inner, statements}
-use Rattle.adj_names.specs.Standing.{Standing, standing, scalar, whole, count_of, in_term, in_terms, in_test, in_place, in_actual, in_actuals, in_runtime, in_mark, in_act}
+use Rattle.adj_names.specs.Standing.{Standing, scalar, whole, count_of, in_term, in_terms, in_test, in_place, in_actual, in_actuals, in_runtime, in_mark, in_act}
 use Rattle.adj_checked.proofs.Lists.{Each, each_append}
 use Rattle.adj_emitted.proofs.Over.{OverTerm, OverTerms, OverTest, OverPlace, OverActual, OverActuals, OverRuntime, OverMark, OverAct, OverCode}
 

@@ -1,7 +1,7 @@
 -- Both sweeps of statements are formed as written code is, where what they use stands: shadows, helpers, and arrays in calls of the runtime.
-use Rattle.std.proofs.Common.{◌≡◌, ℕ, suc, ◌+◌, ◌<◌, ◌≤◌, ◌^◌, max, Bool, true, false, List, [], ◌∷◌, refl, sym, ap, ◌∙◌, subst, arith, if◌then◌else◌}
-use Rattle.std.specs.Prelude.{pos, ◌&&◌, ◌||◌, Option, Some, None}
-use Rattle.adj_tree.specs.Code.{Var, plain, shadow, helper, work, temp, control, first, stride, count, turn, plus, minus, times, is_same, Term, lit, var, elem, neg, bin, pow, power_of, abs, Terms, none, more, Test, compare, Mark, unmarked, push_word, pop_word, push_array, pop_array, push_control, pop_control, zero_array, Act, assign, choose, loop, during, call, runtime, Code, stop, step}
+use Rattle.std.proofs.Common.{◌≡◌, ℕ, suc, ◌<◌, ◌≤◌, ◌^◌, Bool, true, false, List, [], ◌∷◌, refl, ap, ◌∙◌, arith, if◌then◌else◌}
+use Rattle.std.specs.Prelude.{◌&&◌, Option, Some, None}
+use Rattle.adj_tree.specs.Code.{Var, plain, shadow, helper, work, temp, control, first, stride, count, turn, plus, Term, lit, var, elem, neg, bin, pow, power_of, abs, Terms, none, more, Test, Mark, push_word, pop_word, push_array, pop_array, push_control, zero_array, Act, assign, choose, loop, during, call, runtime, Code, stop, step}
 use Rattle.adj_text.specs.Written.{IsName}
 use Rattle.adj_meaning.specs.Append.{◌+++◌, one}
 use Rattle.adj_names.specs.Standing as standing
@@ -16,7 +16,7 @@ use Rattle.adj_reverse.specs.Program.{works_act, works_used, temps_act, temps_us
 use Rattle.adj_checked.proofs.Lists.{Each}
 use Rattle.adj_emitted.specs.Shadowed.{AreCarried}
 use Rattle.adj_emitted.proofs.Follows.{FollowsAct, Follows}
-use Rattle.adj_emitted.proofs.Over.{OverTerm, OverTerms, OverPlace, OverTest, OverActual, OverActuals, OverAct, OverCode, Any, over_append, over_if, place_stands, place_other}
+use Rattle.adj_emitted.proofs.Over.{OverTerm, OverPlace, OverTest, OverActuals, OverAct, OverCode, Any, over_append, over_if, place_other}
 use Rattle.adj_emitted.proofs.Terms.{adjoint_over}
 use Rattle.adj_emitted.proofs.Helpers.{HelpedAct, Helped, helped_front, helped_rest, idle_parts, tells_here, helped_first, helped_other, idle_body, helped_body, loop_counts, loop_bounds, helped_turns, while_counts}
 

@@ -1,18 +1,18 @@
 -- The table of names of an adjoint unit: which variables it has, and that their names are written and aren't reserved.
-use Rattle.std.proofs.Common.{◌≡◌, ℕ, zero, suc, ◌+◌, ◌<◌, ◌≤◌, Bool, true, false, List, [], ◌∷◌, ◌++◌, map, refl, sym, ap, ◌∙◌, subst, arith, codes, if◌then◌else◌}
-use Rattle.std.specs.Prelude.{◌&&◌, ◌||◌, ◌==◌}
+use Rattle.std.proofs.Common.{◌≡◌, ℕ, zero, suc, ◌+◌, ◌<◌, ◌≤◌, Bool, true, false, List, [], ◌∷◌, ◌++◌, map, refl, sym, ap, ◌∙◌, arith, codes, if◌then◌else◌}
+use Rattle.std.specs.Prelude.{◌||◌, ◌==◌}
 use Rattle.std.proofs.lemmas.Bool.Decides.{nat_tests}
 use Rattle.adj_tree.specs.Code.{Var, plain, shadow, helper, Role, role_code, work, temp, control, first, stride, count, turn, entry, entries, kind, lower, upper, name_eq, var_eq}
 use Rattle.adj_tree.proofs.Names.{nat_refl, nat_same, name_same}
 use Rattle.adj_text.specs.Written.{IsName, IsIndexed}
 use Rattle.adj_transpose.specs.Fresh.{has_name, digits, fresh, reserved}
-use Rattle.adj_transpose.specs.Naming.{letters, wanted, Named, own, named, unit_names, name_in, naming}
+use Rattle.adj_transpose.specs.Naming.{wanted, Named, own, named, unit_names, name_in, naming}
 use Rattle.adj_transpose.specs.Marks.{Vars}
 use Rattle.adj_transpose.specs.Marked.{names_in}
 use Rattle.adj_transpose.specs.Program.{helpers_from}
 use Rattle.adj_transpose.proofs.Fresh.{fresh-is_free}
 use Rattle.adj_transpose.proofs.Naming.{has-append}
-use Rattle.adj_transpose.proofs.Variables.{or_assoc, or_false, or_left, or_right, and_true}
+use Rattle.adj_transpose.proofs.Variables.{or_assoc, or_false, or_left, or_right}
 use Rattle.adj_kernel.proofs.FreshWritten.{name-append, digits_chars, fresh-name}
 use Rattle.adj_reverse.specs.Program.{helpers_among}
 use Rattle.adj_reverse.proofs.Rounds.{either}

@@ -1,14 +1,14 @@
 -- The adjoint of an assignment is formed as written code is, where the helpers that it uses and the shadows of active variables stand.
-use Rattle.std.proofs.Common.{◌≡◌, ℕ, zero, suc, ◌+◌, ◌<◌, ◌≤◌, ◌^◌, max, Bool, true, false, List, refl, sym, subst, arith, if◌then◌else◌}
-use Rattle.std.specs.Prelude.{pos, ◌||◌, Option, Some, None}
-use Rattle.adj_tree.specs.Code.{Var, plain, shadow, helper, work, temp, plus, minus, times, quot, modulo, greater, lesser, Term, lit, var, elem, neg, bin, pow, power_of, abs, Terms, none, more, assign, Code, stop, step}
+use Rattle.std.proofs.Common.{◌≡◌, ℕ, zero, suc, ◌+◌, ◌<◌, ◌≤◌, ◌^◌, max, Bool, true, false, List, refl, arith, if◌then◌else◌}
+use Rattle.std.specs.Prelude.{pos, ◌||◌, Option, Some}
+use Rattle.adj_tree.specs.Code.{Var, plain, shadow, helper, work, temp, plus, minus, times, quot, modulo, greater, lesser, Term, lit, var, elem, neg, bin, pow, power_of, abs, Terms, none, more, assign, Code, step}
 use Rattle.adj_text.specs.Written.{is_literal}
 use Rattle.adj_meaning.specs.Append.{◌+++◌, one}
 use Rattle.adj_names.specs.Standing as standing
 use Rattle.adj_transpose.specs.Marks.{Vars}
 use Rattle.adj_transpose.specs.Marked.{code_if, count_of, own_or, own_code, work_var, place}
 use Rattle.adj_reverse.specs.AdjointOf.{is_active_where, has_own_where, temps_in_where, shrunk_where, temps_where, times_power, back_where, works_in_where, adjoint_where}
-use Rattle.adj_emitted.proofs.Over.{OverTerm, OverTerms, OverPlace, OverAct, OverCode, over_append, over_if, place_other}
+use Rattle.adj_emitted.proofs.Over.{OverTerm, OverPlace, OverCode, over_append, over_if}
 
 -- one of two holds, and bounds the greater of two numbers
 either_bounds : (p q : Bool) (k m n : ℕ) → (p ≡ true → k ≤ m) → (q ≡ true → k ≤ n) → (p || q) ≡ true → k ≤ max m n

@@ -1,10 +1,8 @@
 -- The names of the emitted units are apart, and aren't reserved.
-use Rattle.std.proofs.Common.{◌≡◌, ℕ, zero, suc, Bool, true, false, List, [], ◌∷◌, ◌++◌, map, refl, sym, ap, ◌∙◌, subst, if◌then◌else◌}
-use Rattle.std.specs.Prelude.{◌||◌, flat_map}
+use Rattle.std.proofs.Common.{◌≡◌, ℕ, Bool, true, false, List, [], ◌∷◌, ◌++◌, map, refl, sym, ap, ◌∙◌, subst, if◌then◌else◌}
+use Rattle.std.specs.Prelude.{flat_map}
 use Rattle.adj_tree.specs.Code.{name_eq, Procedure}
 use Rattle.adj_tree.specs.declared.fault.Refusal.{Refusal}
-use Rattle.adj_tree.proofs.Names.{name_refl, name_same}
-use Rattle.adj_text.specs.Written.{IsName}
 use Rattle.adj_names.specs.Fresh as fresh
 use Rattle.adj_names.specs.Reserved.{is_reserved}
 use Rattle.adj_names.specs.Statements.{At}
@@ -16,10 +14,10 @@ use Rattle.adj_transpose.specs.Fresh.{has_name}
 use Rattle.adj_transpose.specs.Naming.{AreApart}
 use Rattle.adj_transpose.specs.Marked.{names_in}
 use Rattle.adj_transpose.specs.Program.{unit_name, unmarked, unit_at}
-use Rattle.adj_transpose.proofs.Variables.{or_false, or_left, or_right, name_comm, has_apart}
+use Rattle.adj_transpose.proofs.Variables.{or_false, name_comm}
 use Rattle.adj_reverse.specs.Names.{source_names, adjoint_after, adjoint_name}
 use Rattle.adj_reverse.specs.Marking.{ProgramMarks}
-use Rattle.adj_reverse.specs.Program.{has_adjoint, is_carried, all_units, adjoint_unit, emitted_adjoint, emitted_units, emitted_for, emitted_program}
+use Rattle.adj_reverse.specs.Program.{has_adjoint, is_carried, all_units, adjoint_unit, emitted_adjoint, emitted_units, emitted_for}
 use Rattle.adj_reverse.specs.Source.{is_unit}
 use Rattle.adj_reverse.proofs.Names.{adjoints_apart}
 use Rattle.adj_reverse.proofs.EmittedUnits.{apart_source}

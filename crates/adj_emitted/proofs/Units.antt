@@ -1,12 +1,9 @@
 -- An adjoint unit is written.
-use Rattle.std.proofs.Common.{◌≡◌, ℕ, suc, ◌+◌, ◌≤◌, Bool, true, false, List, [], ◌∷◌, ◌++◌, All, map, length, refl, sym, ap, ◌∙◌, subst, arith, if◌then◌else◌}
-use Rattle.std.specs.Prelude.{◌||◌, Option, Some, None}
-use Rattle.std.proofs.lemmas.List.Elements.{All-nil, All-cons, All-head, All-tail, All-append, All-same}
+use Rattle.std.proofs.Common.{◌≡◌, ℕ, Bool, true, false, List, [], ◌∷◌, All, refl, arith, if◌then◌else◌}
+use Rattle.std.specs.Prelude.{Option, Some, None}
+use Rattle.std.proofs.lemmas.List.Elements.{All-nil, All-cons, All-head, All-tail, All-append}
 use Rattle.adj_tree.specs.Code.{Var, plain, shadow, helper, work, temp, name_eq, var_eq, Declaration, Procedure}
-use Rattle.adj_tree.proofs.Names.{name_refl, name_same}
 use Rattle.adj_text.specs.Written.{IsName, IsWrittenExtent, IsWrittenDeclaration, IsWrittenProcedure}
-use Rattle.adj_meaning.specs.Rename.{rename}
-use Rattle.adj_names.specs.Standing.{Standing}
 use Rattle.adj_names.specs.Statements.{statements}
 use Rattle.adj_names.specs.Variables.{variables}
 use Rattle.adj_kernel.specs.Form.{IsKernelCode}
@@ -23,7 +20,6 @@ use Rattle.adj_reverse.specs.Names.{adjoint_name}
 use Rattle.adj_reverse.specs.Marking.{ProgramMarks, first_statement, plan_in}
 use Rattle.adj_reverse.specs.Program.{works_used, temps_used, helpers_used, adjoint_names, adjoint_unit}
 use Rattle.adj_reverse.proofs.Variables.{dummy_among}
-use Rattle.adj_reverse.proofs.Rounds.{either}
 use Rattle.adj_checked.proofs.Lists.{Each, each_more}
 use Rattle.adj_checked.proofs.Texts.{Known}
 use Rattle.adj_checked.proofs.Statements.{CallHasNone}

@@ -1,6 +1,6 @@
 -- The helpers that a unit's adjoint declares are those that its sweeps use.
-use Rattle.std.proofs.Common.{◌≡◌, ℕ, zero, suc, ◌+◌, ◌<◌, ◌≤◌, Bool, true, false, List, [], ◌∷◌, ◌++◌, refl, sym, ap, ◌∙◌, subst, arith, if◌then◌else◌}
-use Rattle.std.specs.Prelude.{◌&&◌, ◌||◌, ◌==◌, not, Option, Some, None}
+use Rattle.std.proofs.Common.{◌≡◌, ℕ, suc, ◌<◌, ◌≤◌, Bool, true, false, List, [], ◌∷◌, ◌++◌, refl, ◌∙◌, arith, if◌then◌else◌}
+use Rattle.std.specs.Prelude.{◌&&◌, ◌||◌, ◌==◌, not, Option, Some}
 use Rattle.adj_tree.specs.Code.{Var, helper, work, temp, control, first, stride, count, turn, Role, Act, assign, choose, loop, during, call, runtime, Code, stop, step}
 use Rattle.adj_tree.proofs.Names.{nat_same}
 use Rattle.adj_transpose.specs.Marks.{next, behind}

@@ -6,9 +6,9 @@ use Rattle.adj_names.specs.Fault.{Rules, run_rules}
 use Rattle.adj_names.specs.UnitFaults.{unit_faults}
 use Rattle.adj_names.specs.NameFaults.{name_faults}
 use Rattle.adj_names.specs.CallFaults.{call_faults}
-use Rattle.adj_reverse.specs.Marking.{ProgramMarks, full_marks}
+use Rattle.adj_reverse.specs.Marking.{ProgramMarks, full_marks, ProgramFacts}
 use Rattle.adj_reverse.specs.Program.{emitted_program}
-use Rattle.adj_checked.specs.Checked.{IsChecked}
+use Rattle.adj_checked.specs.Checked.{IsChecked, AreLawful}
 use Rattle.adj_emitted.specs.Shadowed.{AllHaveShadows}
 
 -- what is emitted for a checked program in kernel form is written, whatever the marks, as long as what they use has shadows
@@ -20,6 +20,10 @@ MarkedIsWritten =
 -- so it is with full marks
 abbrev pub EmittedIsWritten : Type 0
 EmittedIsWritten = (rules : Rules) (ps : List Procedure) → IsChecked rules ps → (head : ℕ) (vars outvars : List Bool) → IsWritten (emitted_program full_marks ps head vars outvars)
+
+-- facts that meet the laws have the shadows that their marks use
+abbrev pub LawfulHaveShadows : Type 0
+LawfulHaveShadows = (rules : Rules) (ps : List Procedure) → IsChecked rules ps → (w : ProgramFacts) → AreLawful w ps → AllHaveShadows w.marks ps ps
 
 -- ---- it has no faults
 

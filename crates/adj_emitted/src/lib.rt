@@ -5,12 +5,17 @@
 //! the text that is written for an adjoint reads as that adjoint.
 #![tactic(auto)]
 
-ghost use Rattle.adj_emitted.specs.Emitted.{MarkedIsWritten, EmittedIsWritten, UnitsHaveNone, NamesHaveNone, CallsHaveNone};
+ghost use Rattle.adj_emitted.specs.Emitted.{MarkedIsWritten, EmittedIsWritten, LawfulHaveShadows, UnitsHaveNone, NamesHaveNone, CallsHaveNone};
 
 /// What is emitted can be written as a text, by any marks whose shadows are there, and so by full marks.
 pub fn written_law()
     ensures marked { MarkedIsWritten }
     ensures full { EmittedIsWritten }
+{}
+
+/// Marks of facts that meet the laws have the shadows that they use.
+pub fn shadows_law()
+    ensures { LawfulHaveShadows }
 {}
 
 /// It has no faults of units, by any marks: their names are apart, and none is reserved.
