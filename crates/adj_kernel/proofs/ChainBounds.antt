@@ -15,20 +15,25 @@ use Rattle.adj_kernel.proofs.Shortening.{callees_in, callees, on_from, leads_nex
 
 -- ---- longer from the called units, longer in all
 
+-- the name is one of some
 abbrev pub IsAmong : Name → List Name → Type 0
 IsAmong x xs = list_any (name_eq x) xs ≡ true
 
+-- in the first of two lists
 among_first : (x : Name) (xs ys : List Name) → IsAmong x xs → IsAmong x (xs ++ ys)
 among_first x xs ys h = any_join (name_eq x) xs ys ∙ or_first (list_any (name_eq x) xs) (list_any (name_eq x) ys) h
 
+-- in the second
 among_second : (x : Name) (xs ys : List Name) → IsAmong x ys → IsAmong x (xs ++ ys)
 among_second x xs ys h = any_join (name_eq x) xs ys ∙ or_second (list_any (name_eq x) xs) (list_any (name_eq x) ys) h
 
+-- with a mark
 marked_more : (m : Mark) (a b : ℕ) → a ≤ b → with_mark m a ≤ with_mark m b
 marked_more unmarked a b l = l
 marked_more (with_count n) a b l = omega (arith, l)
 marked_more (count_from x) a b l = omega (arith, l)
 
+-- a mark makes no chain shorter
 marked_grows : (m : Mark) (a : ℕ) → a ≤ with_mark m a
 marked_grows unmarked a = omega arith
 marked_grows (with_count n) a = omega arith
@@ -44,6 +49,7 @@ module _ (f g : Name → ℕ) where
     chain_act_more (call name args) h = h name (or_first (name_eq name name) false (name_refl name))
     chain_act_more (runtime r) h = omega arith
 
+    -- of a list
     pub chain_more : (c : Code) → ((x : Name) → IsAmong x (callees c) → f x ≤ g x) → chain f c ≤ chain g c
     chain_more stop h = omega arith
     chain_more (step line a rest) h = let p = chain_act_more a (λ x k. h x (among_first x (callees_in a) (callees rest) k)) in let q = chain_more rest (λ x k. h x (among_second x (callees_in a) (callees rest) k)) in omega (arith, p, q)
@@ -89,6 +95,7 @@ chain_with a ps (suc k) x = go (name_eq x a) refl (chain_with a ps k)
 abbrev pub NoWayBack : List Procedure → Type 0
 NoWayBack ps = (x : Name) (u : Procedure) → find_unit ps x ≡ Some u → (c : Name) → list_any (name_eq c) (callees u.body) ≡ true → (k : ℕ) → leads ps k c x ≡ false
 
+-- nor do they without a unit
 no_way_without : (a : Name) (ps : List Procedure) → NoWayBack ps → NoWayBack (without a ps)
 no_way_without a ps n x u f c m k = go (name_eq x a) refl
   where
@@ -96,6 +103,7 @@ no_way_without a ps n x u f c m k = go (name_eq x a) refl
     go true e = absurd (let z : None ≡ Some u = sym (ap (find_unit (without a ps)) (name_same x a e) ∙ none_without a ps) ∙ f in cc)
     go false e = not_back (leads (without a ps) k c x) (leads ps k c x) (leads_with a ps k c x) (n x u (sym (found_without a x ps e) ∙ f) c m k)
 
+-- chains have at most as many units as there are
 bounded : (n : ℕ) (ps : List Procedure) → length ps ≤ n → NoWayBack ps → (k : ℕ) (x : Name) → chain_within ps k x ≤ chain_within ps n x
 bounded n ps l w zero x = omega arith
 bounded zero [] l w (suc k) x = omega arith
@@ -137,6 +145,7 @@ mutual
       go (inr e) = absurd cc
   act_called f (runtime r) x h = absurd cc
 
+  -- of a list
   pub called : (f : Name → ℕ) (c : Code) (x : Name) → IsAmong x (callees c) → f x ≤ chain f c
   called f stop x h = absurd cc
   called f (step line a rest) x h = go (or_cases (list_any (name_eq x) (callees_in a)) (list_any (name_eq x) (callees rest)) (sym (any_join (name_eq x) (callees_in a) (callees rest)) ∙ h)) (act_called f a x) (called f rest x)
@@ -146,6 +155,7 @@ mutual
       go (inr m) p q = let l = q m in omega (arith, l)
 
 module _ (ps : List Procedure) where
+  -- with more units called within one another chains are no shorter
   longer : (j k : ℕ) (x : Name) → j ≤ k → chain_within ps j x ≤ chain_within ps k x
   longer zero k x l = omega arith
   longer (suc j) zero x l = absurd (omega (arith, l))

@@ -18,38 +18,47 @@ abbrev pub Each : {A : Type 0} → (A → Type 0) → List A → Type 0
 Each P [] = Unit {0}
 Each P (x ∷ xs) = P x × Each P xs
 
+-- in the first of two lists
 pub each_front : {A : Type 0} (P : A → Type 0) (xs ys : List A) → Each P (xs ++ ys) → Each P xs
 each_front P [] ys h = tt
 each_front P (x ∷ xs) ys h = (h.0, each_front P xs ys h.1)
 
+-- in the second
 pub each_behind : {A : Type 0} (P : A → Type 0) (xs ys : List A) → Each P (xs ++ ys) → Each P ys
 each_behind P [] ys h = h
 each_behind P (x ∷ xs) ys h = each_behind P xs ys h.1
 
+-- and in both
 pub each_join : {A : Type 0} (P : A → Type 0) (xs ys : List A) → Each P xs → Each P ys → Each P (xs ++ ys)
 each_join P [] ys h g = g
 each_join P (x ∷ xs) ys h g = (h.0, each_join P xs ys h.1 g)
 
+-- what follows for each member
 pub each_more : {A : Type 0} (P Q : A → Type 0) → ((x : A) → P x → Q x) → (xs : List A) → Each P xs → Each Q xs
 each_more P Q f [] h = tt
 each_more P Q f (x ∷ xs) h = (f x h.0, each_more P Q f xs h.1)
 
+-- two things of each member
 pub each_both : {A : Type 0} (P Q : A → Type 0) (xs : List A) → Each P xs → Each Q xs → Each (λ x. P x × Q x) xs
 each_both P Q [] h k = tt
 each_both P Q (x ∷ xs) h k = ((h.0, k.0), each_both P Q xs h.1 k.1)
 
+-- the same as `All`
 pub each_all : {A : Type 0} (P : A → Type 0) (xs : List A) → All P xs → Each P xs
 each_all P [] h = tt
 each_all P (x ∷ xs) h = (All-head P x xs h, each_all P xs (All-tail P x xs h))
 
+-- of lists put together, and of each list
 pub each_flat : {A B : Type 0} (P : B → Type 0) (f : A → List B) (xs : List A) → Each P (flat_map f xs) → Each (λ x. Each P (f x)) xs
 each_flat P f [] h = tt
 each_flat P f (x ∷ xs) h = (each_front P (f x) (flat_map f xs) h, each_flat P f xs (each_behind P (f x) (flat_map f xs) h))
 
+-- and the other way
 pub flat_each : {A B : Type 0} (P : B → Type 0) (f : A → List B) (xs : List A) → Each (λ x. Each P (f x)) xs → Each P (flat_map f xs)
 flat_each P f [] h = tt
 flat_each P f (x ∷ xs) h = each_join P (f x) (flat_map f xs) h.0 (flat_each P f xs h.1)
 
+-- units, as members of a list
 pub unit_each : (P : Procedure → Type 0) (us : List Procedure) → EachUnit P us → Each P us
 unit_each P [] h = tt
 unit_each P (u ∷ us) h = (h.0, unit_each P us h.1)
@@ -95,29 +104,36 @@ and_none false = refl
 
 -- ---- no faults
 
+-- where two lists are empty together the first is empty
 pub none_front : {A : Type 0} (xs ys : List A) → xs ++ ys ≡ [] → xs ≡ []
 none_front [] ys h = refl
 none_front (x ∷ xs) ys h = absurd cc
 
+-- and the second
 pub none_behind : {A : Type 0} (xs ys : List A) → xs ++ ys ≡ [] → ys ≡ []
 none_behind [] ys h = h
 none_behind (x ∷ xs) ys h = absurd cc
 
+-- where lists put together are empty each is
 pub none_each : {A B : Type 0} (f : A → List B) (xs : List A) → flat_map f xs ≡ [] → Each (λ x. f x ≡ []) xs
 none_each f [] h = tt
 none_each f (x ∷ xs) h = (none_front (f x) (flat_map f xs) h, none_each f xs (none_behind (f x) (flat_map f xs) h))
 
+-- no fault where it isn't so
 pub none_if : (b : Bool) (r : Refusal) → faults_if b r ≡ [] → b ≡ false
 none_if true r h = absurd cc
 none_if false r h = refl
 
+-- and the other way
 pub none_flat : {A B : Type 0} (f : A → List B) (xs : List A) → Each (λ x. f x ≡ []) xs → flat_map f xs ≡ []
 none_flat f [] h = refl
 none_flat f (x ∷ xs) h = ap (λ z. z ++ flat_map f xs) h.0 ∙ none_flat f xs h.1
 
+-- and the other way
 pub if_none : (b : Bool) (r : Refusal) → b ≡ false → faults_if b r ≡ []
 if_none b r h = ap (λ z. if z then r ∷ [] else []) h
 
+-- two empty lists
 pub none_both : {A : Type 0} (xs ys : List A) → xs ≡ [] → ys ≡ [] → xs ++ ys ≡ []
 none_both xs ys h g = ap (λ z. z ++ ys) h ∙ g
 
@@ -131,6 +147,7 @@ pub none_any : (f : List ℕ → Bool) (xs : List (List ℕ)) → ((x : List ℕ
 none_any f [] h = refl
 none_any f (x ∷ xs) h = ap (λ b. b || list_any f xs) (h x (or_first (name_eq x x) (fresh.has_name x xs) (name_refl x))) ∙ none_any f xs (λ y k. h y (or_second (name_eq y x) (fresh.has_name y xs) k))
 
+-- what isn't not so is so
 pub isn't_not : (b : Bool) → not b ≡ false → b ≡ true
 isn't_not true h = refl
 isn't_not false h = absurd cc

@@ -95,9 +95,11 @@ module _ (S Q : ℕ → Act → Type 0) where
 -- ---- what a statement becomes, where Q holds of every assignment, IF and DO WHILE
 
 module _ (local : ℕ → Var) (S Q : ℕ → Act → Type 0) (assigned : (line : ℕ) (x : Var) (subs : Terms) (e : Term) → Q line (assign x subs e)) (chosen : (line : ℕ) (c : Test) (a b : Code) → Q line (choose c a b)) where
+  -- an assignment
   hold_set : (line : ℕ) (x : Var) (subs : Terms) (e : Term) → Holds Q (one line (assign x subs e))
   hold_set line x subs e = (assigned line x subs e, (tt, tt))
 
+  -- what is set before an expression
   pub hold_before : (line j : ℕ) (e : Term) → Holds Q (before local line j e)
   hold_before line j (lit z) = tt
   hold_before line j (var y) = tt
@@ -119,9 +121,11 @@ module _ (local : ℕ → Var) (S Q : ℕ → Act → Type 0) (assigned : (line 
   hold_before line j (power_of a b) = hold_before line j a
   hold_before line j (abs a) = holds_join Q (before local line j a) _ (hold_before line j a) (assigned line _ _ _, (tt, (chosen line _ _ _, ((hold_set line _ _ _, tt), tt))))
 
+  -- a local that is set
   hold_local : (line j m : ℕ) (e : Term) → Holds Q (set_local local line j m e)
   hold_local line j m e = holds_join Q (before local line m e) _ (hold_before line m e) (hold_set line _ _ _)
 
+  -- what is set before a target
   pub hold_target : (line : ℕ) (y : Var) (j m : ℕ) (es : Terms) → Holds Q (before_target local line y j m es)
   hold_target line y j m none = tt
   hold_target line y j m (more e es) = go (reads_term y e) (hold_target line y (suc j) (m + locals_in e) es) (hold_target line y j m es)
@@ -130,30 +134,36 @@ module _ (local : ℕ → Var) (S Q : ℕ → Act → Type 0) (assigned : (line 
       go true h g = holds_join Q (set_local local line j m e) _ (hold_local line j m e) h
       go false h g = g
 
+  -- before actuals
   pub hold_all : (line j : ℕ) (es : Terms) → Holds Q (before_all local line j es)
   hold_all line j none = tt
   hold_all line j (more e es) = holds_join Q (before local line j e) _ (hold_before line j e) (hold_all line (j + locals_in e) es)
 
+  -- subscripts that are held
   hold_held : (line j : ℕ) (es : Terms) → Holds Q (before_held local line j es)
   hold_held line j none = tt
   hold_held line j (more e es) = holds_join Q (set_local local line j (suc j) e) _ (hold_local line j (suc j) e) (hold_held line (suc (j + locals_in e)) es)
 
+  -- what is set for one passing
   hold_passing : (line j : ℕ) (p : Passing) → Holds Q (before_passing local line j p)
   hold_passing line j (stays y) = tt
   hold_passing line j (put_back y subs) = holds_join Q (before_held local line j subs) _ (hold_held line j subs) (hold_set line _ _ _)
   hold_passing line j (by_value e) = hold_set line _ _ _
 
+  -- what is put back
   hold_after : (line j : ℕ) (p : Passing) → Holds Q (after_passing local line j p)
   hold_after line j (stays y) = tt
   hold_after line j (put_back y subs) = hold_set line _ _ _
   hold_after line j (by_value e) = tt
 
+  -- for all actuals
   pub hold_passings : (line j : ℕ) (ws : List Bool) (earlier : List Var) (es : Terms) → Holds Q (before_passing_all local line j ws earlier es)
   hold_passings line j ws earlier none = tt
   hold_passings line j ws earlier (more e es) =
       let p = passing (first_flag ws) earlier e in
       holds_join Q (before_passing local line j p) _ (hold_passing line j p) (hold_passings line (j + locals_passing p) (other_flags ws) (passed local j p ∷ earlier) es)
 
+  -- and put back for all
   pub hold_afters : (line j : ℕ) (ws : List Bool) (earlier : List Var) (es : Terms) → Holds Q (after_passing_all local line j ws earlier es)
   hold_afters line j ws earlier none = tt
   hold_afters line j ws earlier (more e es) =

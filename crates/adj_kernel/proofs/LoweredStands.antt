@@ -60,17 +60,21 @@ local_number taken x (suc k) h = go (or_cases (has_name x (local_names taken k))
         last (inr f) = absurd cc
 
 module _ (all : List Procedure) (v : Procedure) (stands : Stands (map unit_name all) v) where
+  -- the lowered unit
   abbrev low : Procedure
   low = lowered_unit all v
 
+  -- the names of the units
   abbrev names : List Name
   names = map unit_name all
 
+  -- the names that its locals don't have
   abbrev taken : List Name
   taken = taken_in all v
 
   -- ---- what was known stays
 
+  -- a name that is an integer stays one
   integer_still : (x : Name) → is_integer v x ≡ true → is_integer low x ≡ true
   integer_still x h = go (or_cases (fresh.has_name x (declared_names v)) (not v.is_none && is_integer_name x) h)
     where
@@ -81,19 +85,23 @@ module _ (all : List Procedure) (v : Procedure) (stands : Stands (map unit_name 
       go (inl e) = or_first (fresh.has_name x (declared_names low)) (not v.is_none && is_integer_name x) (more_declared e)
       go (inr e) = or_second (fresh.has_name x (declared_names low)) (not v.is_none && is_integer_name x) e
 
+  -- with its rank
   rank_still : (x : Name) → rank low x ≡ rank v x
   rank_still x = ap length (scalars_behind v.declarations v.line (local_names taken (locals_count all v)) (plain x))
 
+  -- so a name that stands as it should does so still
   good_still : (n : Standing) → IsGood names v n → IsGood names low n
   good_still n h = (integer_still n.name h.0, (ap (is_rank_for n.subscripts) (rank_still n.name) ∙ h.1.0, h.1.1))
 
   -- ---- locals
 
+  -- a local is declared
   local_declared : (k : ℕ) → k < locals_count all v → is_integer low (name_at taken k) ≡ true
   local_declared k lt =
       or_first (fresh.has_name (name_at taken k) (declared_names low)) (not v.is_none && is_integer_name (name_at taken k))
       (ap (fresh.has_name (name_at taken k)) (names_behind v.declarations v.line (local_names taken (locals_count all v))) ∙ same_has (name_at taken k) (declared_names v ++ local_names taken (locals_count all v)) ∙ has_second (name_at taken k) (declared_names v) (local_names taken (locals_count all v)) (earlier_there taken k (locals_count all v) lt))
 
+  -- as a scalar
   local_rank : (k : ℕ) → rank low (name_at taken k) ≡ 0
   local_rank k = rank_still (name_at taken k) ∙ ap length (local_undeclared all v k)
 
@@ -101,25 +109,31 @@ module _ (all : List Procedure) (v : Procedure) (stands : Stands (map unit_name 
   other_taken : (k : ℕ) → has_name (name_at taken k) (names ++ reserved) ≡ false
   other_taken k = not_second (name_at taken k) (names_of v) (names ++ reserved) (not_taken taken k)
 
+  -- so it is free
   local_free : (k : ℕ) → IsFree names (name_at taken k)
   local_free k = (not_second (name_at taken k) names reserved (other_taken k), not_first (name_at taken k) names reserved (other_taken k))
 
+  -- as names should stand in the lowered unit
   abbrev R : Standing → Type 0
   R = IsGood (map unit_name all) (lowered_unit all v)
 
+  -- a local stands as a scalar
   scalar_local : (k : ℕ) → k < locals_count all v → Each R (scalar (local_in all v k))
   scalar_local k lt = ((local_declared k lt, (ap (λ n. 0 == n) (local_rank k), local_free k)), tt)
 
+  -- and as an actual
   whole_local : (k : ℕ) → k < locals_count all v → Each R (whole (local_in all v k))
   whole_local k lt = ((local_declared k lt, (refl, local_free k)), tt)
 
   -- ---- names that stand twice in a call are scalars
 
+  -- a scalar that stands as an actual may stand alone
   scalar_of : (x : Var) → is_scalar v.declarations x ≡ true → Each R (whole x) → Each R (scalar x)
   scalar_of (plain x) s h = (((h.0).0, (ap (λ n. 0 == n) (rank_still x ∙ nat_same (rank v x) 0 s), (h.0).1.1)), tt)
   scalar_of (shadow x) s h = tt
   scalar_of (helper r k) s h = tt
 
+  -- a name that is an actual stands as a whole
   whole_actual : (x : Var) (e : Term) → is_name_of x e ≡ true → Each R (in_actual e) → Each R (whole x)
   whole_actual x (lit z) n h = absurd cc
   whole_actual x (var y) n h = subst (λ z. Each R (whole z)) (sym (var_same x y n)) h
@@ -130,6 +144,7 @@ module _ (all : List Procedure) (v : Procedure) (stands : Stands (map unit_name 
   whole_actual x (power_of a b) n h = absurd cc
   whole_actual x (abs a) n h = absurd cc
 
+  -- so names that stand twice in a call may
   once_scalars : (args : Terms) → Each R (in_actuals args) → ArraysStandOnce v.declarations args → Once (λ x. Each R (scalar x)) args
   once_scalars none h a = tt
   once_scalars (more e es) h a = ((λ x n s. scalar_of x (a.0 x n s) (whole_actual x e n (each_front R (in_actual e) (in_actuals es) h))), once_scalars es (each_behind R (in_actual e) (in_actuals es) h) a.1)
@@ -143,25 +158,30 @@ module _ (all : List Procedure) (v : Procedure) (stands : Stands (map unit_name 
     once_in line (call name args) n h f = once_scalars args n f.arrays
     once_in line (runtime r) n h f = absurd f
 
+    -- in each call of a list
     once_code : (c : Code) → Holds (λ line a. Each R (in_act a)) c → EachCall (IsFitCall all v) c → EachCall (λ name args. Once (λ x. Each R (scalar x)) args) c
     once_code stop h f = tt
     once_code (step line a rest) h f = (once_in line a h.0 h.1.0 f.0, once_code rest h.1.1 f.1)
 
   -- ---- extents
 
+  -- extents are as good as they were
   same_bad : (es : List Extent) → list_any (is_bad_extent low) es ≡ list_any (is_bad_extent v) es
   same_bad [] = refl
   same_bad (fixed z ∷ es) = ap (λ b. int_lt z (pos 1) || b) (same_bad es)
   same_bad (given x ∷ es) = ap (λ n. not (is_dummy v x && (n == 0)) || list_any (is_bad_extent low) es) (rank_still x) ∙ ap (λ b. not (is_dummy v x && (rank v x == 0)) || b) (same_bad es)
 
+  -- those of declared variables
   old_extents : (ds : List Declaration) → Each (λ d. has_bad_extents v d ≡ false) ds → Each (λ d. has_bad_extents low d ≡ false) ds
   old_extents [] h = tt
   old_extents (d ∷ ds) h = (ap (λ b. b || (int_lt (pos 1048576) (literal_product d.extents) || (not (is_dummy v d.name) && not (length (extent_names d.extents) == 0)))) (same_bad d.extents) ∙ h.0, old_extents ds h.1)
 
+  -- and locals have none
   new_extents : (line : ℕ) (xs : List Name) → Each (λ d. has_bad_extents low d ≡ false) (map (scalar_at line) xs)
   new_extents line [] = tt
   new_extents line (x ∷ xs) = (and_none (not (is_dummy v x)), new_extents line xs)
 
+  -- locals are declared by free names
   free_locals : (line : ℕ) (xs : List Name) → ((x : Name) → has_name x xs ≡ true → IsFree names x) → Each (λ (d : Declaration). IsFree names d.name) (map (scalar_at line) xs)
   free_locals line [] h = tt
   free_locals line (x ∷ xs) h = (h x (or_first (name_eq x x) (has_name x xs) (name_refl x)), free_locals line xs (λ y k. h y (or_second (name_eq y x) (has_name y xs) k)))

@@ -17,11 +17,13 @@ use Rattle.adj_kernel.specs.Stepped.{once_each, variables_of}
 abbrev pub names_standing : List Standing → List Name
 names_standing ns = map (λ n. n.name) ns
 
+-- of one variable
 standing_one : (n : Option ℕ) (x : Var) → names_standing (standing n x) ≡ named x
 standing_one n (plain x) = refl
 standing_one n (shadow x) = refl
 standing_one n (helper r k) = refl
 
+-- of two parts
 two : (ms ns : List Standing) (xs ys : List Name) → names_standing ms ≡ xs → names_standing ns ≡ ys → names_standing (ms ++ ns) ≡ xs ++ ys
 two ms ns xs ys e f = map-append (λ n. n.name) ms ns ∙ ap (λ z. z ++ names_standing ns) e ∙ ap (λ z. xs ++ z) f
 
@@ -36,16 +38,19 @@ mutual
   standing_term (power_of a b) = two (in_term a) (in_term b) (names_in a) (names_in b) (standing_term a) (standing_term b)
   standing_term (abs a) = standing_term a
 
+  -- in several expressions
   standing_terms : (es : Terms) → names_standing (in_terms es) ≡ names_in_all es
   standing_terms none = refl
   standing_terms (more e es) = two (in_term e) (in_terms es) (names_in e) (names_in_all es) (standing_term e) (standing_terms es)
 
+-- in a condition
 standing_test : (c : Test) → names_standing (in_test c) ≡ names_in_test c
 standing_test (compare r a b) = two (in_term a) (in_term b) (names_in a) (names_in b) (standing_term a) (standing_term b)
 standing_test (negation c) = standing_test c
 standing_test (conjunction c d) = two (in_test c) (in_test d) (names_in_test c) (names_in_test d) (standing_test c) (standing_test d)
 standing_test (disjunction c d) = two (in_test c) (in_test d) (names_in_test c) (names_in_test d) (standing_test c) (standing_test d)
 
+-- in an actual
 standing_actual : (e : Term) → names_standing (in_actual e) ≡ names_in e
 standing_actual (var x) = standing_one _ x
 standing_actual (lit z) = refl
@@ -56,13 +61,16 @@ standing_actual (pow a k) = standing_term (pow a k)
 standing_actual (power_of a b) = standing_term (power_of a b)
 standing_actual (abs a) = standing_term (abs a)
 
+-- in all actuals
 standing_actuals : (es : Terms) → names_standing (in_actuals es) ≡ names_in_all es
 standing_actuals none = refl
 standing_actuals (more e es) = two (in_actual e) (in_actuals es) (names_in e) (names_in_all es) (standing_actual e) (standing_actuals es)
 
+-- in a place
 standing_place : (x : Var) (subs : Terms) → names_standing (in_place x subs) ≡ named x ++ names_in_all subs
 standing_place x subs = two (standing _ x) (in_terms subs) (named x) (names_in_all subs) (standing_one _ x) (standing_terms subs)
 
+-- in a runtime call
 standing_runtime : (r : Runtime) → names_standing (in_runtime r) ≡ names_in_runtime r
 standing_runtime (push_word x subs) = standing_place x subs
 standing_runtime (pop_word x subs) = standing_place x subs
@@ -80,11 +88,13 @@ standing_runtime (give_action l s k a f t) =
     (two (standing _ a) (standing _ f ++ standing _ t) (named a) (named f ++ named t) (standing_one _ a) (two (standing _ f) (standing _ t) (named f) (named t) (standing_one _ f) (standing_one _ t)))))
 standing_runtime end_reversal = refl
 
+-- in a mark
 standing_mark : (m : Mark) → names_standing (in_mark m) ≡ names_in_mark m
 standing_mark unmarked = refl
 standing_mark (with_count n) = refl
 standing_mark (count_from x) = standing_one _ x
 
+-- in the head of a DO
 in_loop : (m : Mark) (x : Var) (first last by : Term) → names_standing (in_mark m ++ (standing (Some 0) x ++ (in_term first ++ (in_term last ++ in_term by)))) ≡ names_in_mark m ++ (named x ++ (names_in first ++ (names_in last ++ names_in by)))
 in_loop m x first last by =
     two (in_mark m) (standing (Some 0) x ++ (in_term first ++ (in_term last ++ in_term by))) (names_in_mark m) (named x ++ (names_in first ++ (names_in last ++ names_in by))) (standing_mark m)
@@ -98,6 +108,7 @@ abbrev pub stated : List (At Act) → List Name
 stated [] = []
 stated (s ∷ ss) = names_standing (in_act s.1) ++ stated ss
 
+-- in two lists of statements
 stated-append : (ss ts : List (At Act)) → stated (ss ++ ts) ≡ stated ss ++ stated ts
 stated-append [] ts = refl
 stated-append (s ∷ ss) ts = ap (λ z. names_standing (in_act s.1) ++ z) (stated-append ss ts) ∙ sym (append_assoc (names_standing (in_act s.1)) (stated ss) (stated ts))
@@ -117,6 +128,7 @@ mutual
   stated_act (call name args) = append-nil (names_standing (in_actuals args)) ∙ standing_actuals args
   stated_act (runtime r) = append-nil (names_standing (in_runtime r)) ∙ standing_runtime r
 
+  -- in a list
   pub stated_code : (c : Code) → stated (statements c) ≡ names_in_code c
   stated_code stop = refl
   stated_code (step line a rest) =
@@ -127,21 +139,26 @@ mutual
 
 -- ---- names at places
 
+-- of two lists of places
 names_at-append : (ps qs : List (At Name)) → map (λ p. p.1) (ps ++ qs) ≡ map (λ p. p.1) ps ++ map (λ p. p.1) qs
 names_at-append ps qs = map-append (λ p. p.1) ps qs
 
+-- at one line
 at_line : (line : ℕ) (ns : List Standing) → map (λ (p : At Name). p.1) (map (λ n. (line, n.name)) ns) ≡ names_standing ns
 at_line line [] = refl
 at_line line (n ∷ ns) = ap (λ z. n.name ∷ z) (at_line line ns)
 
+-- of dummies
 pub at_dummies : (line : ℕ) (ds : List Name) → map (λ (p : At Name). p.1) (map (λ d. (line, d)) ds) ≡ ds
 at_dummies line [] = refl
 at_dummies line (d ∷ ds) = ap (λ z. d ∷ z) (at_dummies line ds)
 
+-- of declarations
 at_declared : (ds : List Declaration) → map (λ (p : At Name). p.1) (map (λ d. (d.line, d.name)) ds) ≡ declared_names ds
 at_declared [] = refl
 at_declared (d ∷ ds) = ap (λ z. d.name ∷ z) (at_declared ds)
 
+-- of statements
 at_statements : (ss : List (At Act)) → map (λ (p : At Name). p.1) (flat_map (λ s. map (λ n. (s.0, n.name)) (in_act s.1)) ss) ≡ stated ss
 at_statements [] = refl
 at_statements (s ∷ ss) =
@@ -165,9 +182,11 @@ names_placed u =
 abbrev others : List Name → List (At Name) → List (At Name)
 others before ps = filter (λ q. not (has_name q.1 before)) ps
 
+-- those of other names
 abbrev but : Name → List (At Name) → List (At Name)
 but x ps = filter (λ q. not (name_eq x q.1)) ps
 
+-- names are the same both ways
 turned : (x y : Name) → name_eq x y ≡ name_eq y x
 turned x y = go (name_eq x y) (name_eq y x) refl refl
   where
@@ -196,6 +215,7 @@ but_more x before (q ∷ ps) = go (name_eq x q.1) refl (but_more x before ps)
         ap (λ z. if not (has_name q.1 before) then q ∷ z else z) ih
         ∙ sym (ap (λ c. if not (c || has_name q.1 before) then q ∷ others (x ∷ before) ps else others (x ∷ before) ps) (turned q.1 x ∙ e))
 
+-- each name that isn't among some is listed once
 once_others : (before : List Name) (ps : List (At Name)) → once_each before (map (λ p. p.1) ps) ≡ map (λ p. p.1) (others before (first_places ps))
 once_others before [] = refl
 once_others before (p ∷ ps) = go (has_name p.1 before) refl (once_others before ps) (once_others (p.1 ∷ before) ps)
@@ -205,6 +225,7 @@ once_others before (p ∷ ps) = go (has_name p.1 before) refl (once_others befor
     go true e ih more_ih = ih ∙ ap (map (λ q. q.1)) (sym (but_before p.1 before (first_places ps) e))
     go false e ih more_ih = ap (λ z. p.1 ∷ z) (more_ih ∙ ap (map (λ q. q.1)) (sym (but_more p.1 before (first_places ps))))
 
+-- all names are none of no names
 all_others : (ps : List (At Name)) → others [] ps ≡ ps
 all_others [] = refl
 all_others (p ∷ ps) = ap (λ z. p ∷ z) (all_others ps)

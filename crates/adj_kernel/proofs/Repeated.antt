@@ -19,6 +19,7 @@ module _ (R : Var → Type 0) where
   Earlier earlier es = (x : Var) → is_among x earlier ≡ true → stands_whole x es ≡ true → R x
 
   module _ (local : ℕ → Var) (bound : ℕ) (locals : (k : ℕ) → k < bound → R (local k)) where
+    -- a local is what locals are
     is_local : (x : Var) (k : ℕ) → k < bound → var_eq x (local k) ≡ true → R x
     is_local x k lt e = subst R (sym (var_same x (local k) e)) (locals k lt)
 

@@ -30,6 +30,7 @@ abbrev mutual
   callees stop = []
   callees (step line a rest) = callees_in a ++ callees rest
 
+-- one of two lists
 pub any_join : (f : Name → Bool) (xs ys : List Name) → list_any f (xs ++ ys) ≡ (list_any f xs || list_any f ys)
 any_join f [] ys = refl
 any_join f (x ∷ xs) ys = ap (λ b. f x || b) (any_join f xs ys) ∙ sym (or_assoc (f x) (list_any f xs) (list_any f ys))
@@ -42,6 +43,7 @@ any_join f (x ∷ xs) ys = ap (λ b. f x || b) (any_join f xs ys) ∙ sym (or_as
 abbrev call_names : List (At Call) → List Name
 call_names cs = map (λ c. (c.1).0) cs
 
+-- the names of two lists of calls
 names_join : (cs ds : List (At Call)) → call_names (cs ++ ds) ≡ call_names cs ++ call_names ds
 names_join [] ds = refl
 names_join (c ∷ cs) ds = ap (λ z. (c.1).0 ∷ z) (names_join cs ds)
@@ -50,6 +52,7 @@ names_join (c ∷ cs) ds = ap (λ z. (c.1).0 ∷ z) (names_join cs ds)
 abbrev called_by : List (At Act) → List (At Call)
 called_by ss = flat_map (λ s. map (λ c. (s.0, c)) (call_in s.1)) ss
 
+-- and of two lists of statements
 called_join : (ss ts : List (At Act)) → call_names (called_by (ss ++ ts)) ≡ call_names (called_by ss) ++ call_names (called_by ts)
 called_join [] ts = refl
 called_join (s ∷ ss) ts =
@@ -66,6 +69,7 @@ mutual
   called_act line (call name args) = refl
   called_act line (runtime r) = refl
 
+  -- in a list
   called_code : (c : Code) → call_names (called_by (statements c)) ≡ callees c
   called_code stop = refl
   called_code (step line a rest) = called_join ((line, a) ∷ inner a) (statements rest) ∙ ap (λ z. z ++ call_names (called_by (statements rest))) (called_act line a) ∙ ap (λ z. callees_in a ++ z) (called_code rest)
@@ -74,6 +78,7 @@ mutual
 pub names_called : (u : Procedure) → call_names (calls u) ≡ callees u.body
 names_called u = called_code u.body
 
+-- what holds of a call by its name
 any_named : (f : Name → Bool) (cs : List (At Call)) → list_any (λ (c : At Call). f (c.1).0) cs ≡ list_any f (call_names cs)
 any_named f [] = refl
 any_named f (c ∷ cs) = ap (λ b. f (c.1).0 || b) (any_named f cs)
@@ -98,6 +103,7 @@ pub record Some_of (f : Name → Bool) (xs : List Name) : Type 0 where
   pub among : list_any (name_eq one) xs ≡ true
   pub is : f one ≡ true
 
+-- where it holds of one of them, that one
 pub some_of : (f : Name → Bool) (xs : List Name) → list_any f xs ≡ true → Some_of f xs
 some_of f [] h = absurd cc
 some_of f (x ∷ xs) h = go (or_cases (f x) (list_any f xs) h) (some_of f xs)
@@ -106,6 +112,7 @@ some_of f (x ∷ xs) h = go (or_cases (f x) (list_any f xs) h) (some_of f xs)
     go (inl e) ih = record { one = x; among = or_first (name_eq x x) (list_any (name_eq x) xs) (name_refl x); is = e }
     go (inr e) ih = let r = ih e in record { one = r.one; among = or_second (name_eq r.one x) (list_any (name_eq r.one) xs) r.among; is = r.is }
 
+-- and the other way
 of_some : (f : Name → Bool) (xs : List Name) (x : Name) → list_any (name_eq x) xs ≡ true → f x ≡ true → list_any f xs ≡ true
 of_some f [] x h e = absurd cc
 of_some f (y ∷ ys) x h e = go (or_cases (name_eq x y) (list_any (name_eq x) ys) h) (λ k. of_some f ys x k e)
@@ -139,6 +146,7 @@ none_without a (u ∷ us) = go (name_eq u.name a) refl (none_without a us)
     go true e ih = ih
     go false e ih = ap (λ b. if b then Some u else find_unit (without a us) a) e ∙ ih
 
+-- there aren't more units without it
 no_more : (a : Name) (us : List Procedure) → length (without a us) ≤ length us
 no_more a [] = omega arith
 no_more a (u ∷ us) = go (name_eq u.name a) (no_more a us)
@@ -147,6 +155,7 @@ no_more a (u ∷ us) = go (name_eq u.name a) (no_more a us)
     go true l = omega (arith, l)
     go false l = omega (arith, l)
 
+-- and fewer, where it was there
 pub fewer : (a : Name) (us : List Procedure) (u : Procedure) → find_unit us a ≡ Some u → length (without a us) < length us
 fewer a [] u h = absurd cc
 fewer a (v ∷ us) u h = go (name_eq v.name a) h (no_more a us) (fewer a us u)
@@ -157,6 +166,7 @@ fewer a (v ∷ us) u h = go (name_eq v.name a) h (no_more a us) (fewer a us u)
 
 -- ---- calls lead no farther without a unit
 
+-- a unit that isn't there calls none
 pub leads_none : (ps : List Procedure) (k : ℕ) (from to : Name) → find_unit ps from ≡ None → leads ps k from to ≡ name_eq from to
 leads_none ps zero from to h = refl
 leads_none ps (suc k) from to h = leads_next ps k from to ∙ ap (λ o. name_eq from to || on_from (λ c. leads ps k c to) o) h ∙ or_none (name_eq from to)
@@ -221,6 +231,7 @@ record First (ps : List Procedure) (a b : Name) : Type 0 where
   steps : ℕ
   on : leads (without a ps) steps next b ≡ true
 
+-- there is one, where calls lead to another unit
 first_call : (ps : List Procedure) (a b : Name) → name_eq a b ≡ false → (k : ℕ) → leads ps k a b ≡ true → First ps a b
 first_call ps a b n zero h = absurd (let z : true ≡ false = sym h ∙ n in cc)
 first_call ps a b n (suc k) h = go (find_unit ps a) refl (sym (ap (λ t. t || on_from (λ c. leads ps k c b) (find_unit ps a)) n) ∙ sym (leads_next ps k a b) ∙ h) (first_call ps a b n k)
@@ -231,6 +242,7 @@ first_call ps a b n (suc k) h = go (find_unit ps a) refl (sym (ap (λ t. t || on
         let s = some_of (λ c. leads ps k c b) (callees u.body) (sym (ap (on_from (λ c. leads ps k c b)) f) ∙ g) in
         either_way (λ l. record { unit = u; found = f; next = s.one; among = s.among; steps = k; on = l }) ih (enter ps a b k s.one s.is)
 
+-- so as many calls as there are units lead as far as any number
 pub shorter : (n : ℕ) (ps : List Procedure) → length ps ≤ n → (k : ℕ) (a b : Name) → leads ps k a b ≡ true → leads ps n a b ≡ true
 shorter zero [] l k a b h = sym (leads_none [] k a b refl) ∙ h
 shorter zero (u ∷ us) l k a b h = absurd (omega (arith, l))

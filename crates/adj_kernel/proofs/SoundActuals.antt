@@ -57,6 +57,7 @@ same_actual a b n (pow c k) h = refl
 same_actual a b n (power_of c d) h = refl
 same_actual a b n (abs c) h = refl
 
+-- all of them
 same_actuals : (a b called other : Procedure) (ds : List (List ℕ)) (es : Terms) → ((x : Var) → reads_terms x es ≡ true → variable_rank a x ≡ variable_rank b x) → ((d : List ℕ) → rank called d ≡ rank other d) → are_actuals_for a called ds es ≡ are_actuals_for b other ds es
 same_actuals a b called other [] none h r = refl
 same_actuals a b called other [] (more e es) h r = refl
@@ -81,9 +82,11 @@ names_fit caller called (v ∷ vs) h =
     ∙ names_fit caller called vs (λ y k. h y (or_second _ (has_name y vs) k))
 
 module _ (units : List Procedure) (written : IsWritten units) (sound : IsSound source_rules units) where
+  -- the program is a source
   source : IsSource ℤ units
   source = sound_is_source units written sound ℤ
 
+  -- the call of a step unit is of it, with actuals that fit
   step_called : (taken : List (List ℕ)) (u : Procedure) (k line : ℕ) (x : Var) (body : Code) → find_unit (stepped_program units) (step_name taken u.name k) ≡ Some (step_unit taken u k line x body) → (caller : Procedure) (ns : List (List ℕ)) → Declares u caller ns → ((y : List ℕ) → has_name y (step_dummies u x body) ≡ true → has_name y ns ≡ true) → Called (stepped_program units) caller (step_name taken u.name k) (as_actuals (step_dummies u x body))
   step_called taken u k line x body found caller ns d inside = record {
     called = step_unit taken u k line x body;
@@ -92,6 +95,7 @@ module _ (units : List Procedure) (written : IsWritten units) (sound : IsSound s
     is_unit = step_not_runtime taken u.name k;
   }
 
+  -- a call of a unit of the source is of that unit with its loops cut
   source_called : (u caller : Procedure) (ns : List (List ℕ)) (name : List ℕ) (args : Terms) → Declares u caller ns → TermsInside (is_named ns) args → Called units u name args → Called (stepped_program units) caller name args
   source_called u caller ns name args d h c =
       let s = stepped ℤ units source name c.called c.found in
@@ -102,9 +106,7 @@ module _ (units : List Procedure) (written : IsWritten units) (sound : IsSound s
         is_unit = c.is_unit;
       }
 
-  IsCalledThere : Procedure → List ℕ → Terms → Type 0
-  IsCalledThere v = Called (stepped_program units) v
-
+  -- in all units of the stepped program
   all_called : (us : List Procedure) (taken : List (List ℕ)) → EachUnit (λ u. PlainCode u.body) us → EachUnit (λ u. EachCall (Called units u) u.body) us → EachUnit (HasExtents ℤ units) us → AllThere (stepped_program units) taken us → EachUnit (λ v. EachCall (Called (stepped_program units) v) v.body) (stepped_from taken us)
   all_called [] taken pl c x t = tt
   all_called (u ∷ us) taken pl c x t =
@@ -119,6 +121,7 @@ module _ (units : List Procedure) (written : IsWritten units) (sound : IsSound s
 -- ---- lowered calls
 
 module _ (all : List Procedure) (v : Procedure) where
+  -- the locals of the unit
   abbrev local : ℕ → Var
   local = local_in all v
 
@@ -126,6 +129,7 @@ module _ (all : List Procedure) (v : Procedure) where
   local_scalar : (k : ℕ) → is_scalar v.declarations (local k) ≡ true
   local_scalar k = ap (λ l. length l == 0) (local_undeclared all v k)
 
+  -- a local stands for a scalar dummy
   local_fits : (n k : ℕ) → (n == 0) ≡ true → is_actual_for v n (var (local k)) ≡ true
   local_fits n k h = ap (λ l. length l == n) (local_undeclared all v k) ∙ ap (λ m. 0 == m) (nat_same n 0 h)
 
@@ -147,6 +151,7 @@ module _ (all : List Procedure) (v : Procedure) where
   reduced_fits n j (power_of a b) h = h
   reduced_fits n j (abs a) h = local_fits n (j + locals_in a) h
 
+  -- and so do several
   all_reduced_fit : (called : Procedure) (ds : List (List ℕ)) (j : ℕ) (es : Terms) → are_actuals_for v called ds es ≡ true → are_actuals_for v called ds (reduced_all local j es) ≡ true
   all_reduced_fit called [] j none h = refl
   all_reduced_fit called [] j (more e es) h = absurd cc
@@ -177,9 +182,11 @@ module _ (all : List Procedure) (v : Procedure) where
   passed_fits n w earlier j (power_of a b) h f = local_fits n j h
   passed_fits n w earlier j (abs a) h f = local_fits n j h
 
+  -- a variable without extents
   abbrev IsScalar : Var → Type 0
   IsScalar x = is_scalar v.declarations x ≡ true
 
+  -- the names of a call fit its dummies
   all_passed_fit : (called : Procedure) (ds : List (List ℕ)) (ws : List Bool) (earlier : List Var) (j : ℕ) (es : Terms) → are_actuals_for v called ds es ≡ true → Once IsScalar es → Earlier IsScalar earlier es → are_actuals_for v called ds (all_passed local j ws earlier es) ≡ true
   all_passed_fit called [] ws earlier j none h o f = refl
   all_passed_fit called [] ws earlier j (more e es) h o f = absurd cc
@@ -213,6 +220,7 @@ module _ (all : List Procedure) (v : Procedure) where
     sound_in (call name args) c f = tt
     sound_in (runtime r) c f = tt
 
+    -- in a list
     sound_calls : (c : Code) → EachCall (Called all v) c → EachCall (IsFitCall all v) c → Holds IsSoundCall c
     sound_calls stop c f = tt
     sound_calls (step line a rest) c f = (own line a c.0 f.0, (sound_in a c.0 f.0, sound_calls rest c.1 f.1))
@@ -235,6 +243,7 @@ module _ (all : List Procedure) (v : Procedure) where
       ∙ all_passed_fit c.called c.called.dummies (handed_back all name) [] (locals_in_all args) es (all_reduced_fit c.called c.called.dummies 0 args c.fit)
       (reduced_once IsScalar local (0 + locals_in_all args) (λ k lt. local_scalar k) 0 args (omega arith) (h.1).arrays) (λ x a s. absurd cc))
 
+  -- so no call of the lowered unit has a fault
   pub lowered_calls : EachCall (Called all v) v.body → EachCall (IsFitCall all v) v.body → Each (λ (s : At Act). faults_of_call (lowered_program all) (lowered_unit all v) s.0 s.1 ≡ []) (statements (lowered_unit all v).body)
   lowered_calls c f =
       listed (λ line a. faults_of_call (lowered_program all) (lowered_unit all v) line a ≡ []) (lowered_unit all v).body
@@ -244,6 +253,7 @@ module _ (all : List Procedure) (v : Procedure) where
 -- ---- the kernel
 
 module _ (units : List Procedure) (written : IsWritten units) (sound : IsSound source_rules units) where
+  -- nor one of all lowered units
   kernel_called : (vs : List Procedure) → EachUnit (λ v. EachCall (Called (stepped_program units) v) v.body) vs → EachUnit (IsGood ℤ units (sound_is_source units written sound ℤ)) vs → Each (λ v. flat_map (λ s. faults_of_call (kernel_of units) v s.0 s.1) (statements v.body) ≡ []) (map (lowered_unit (stepped_program units)) vs)
   kernel_called [] c g = tt
   kernel_called (v ∷ vs) c g = (

@@ -27,11 +27,13 @@ module _ (Q : At Act → Type 0) (P : List ℕ → Terms → Type 0) (good : (li
 
 -- ---- variables of the text
 
+-- a written variable is of the text
 plain_var : (x : Var) → IsVariable x → PlainVar x
 plain_var (plain x) h = tt
 plain_var (shadow x) h = absurd h
 plain_var (helper r k) h = absurd h
 
+-- so is one with subscripts
 plain_indexed : (x : Var) → IsIndexed x → PlainVar x
 plain_indexed (plain x) h = tt
 plain_indexed (shadow x) h = absurd h
@@ -49,20 +51,24 @@ mutual
   plain_term (power_of a b) h = (plain_term a h.0, plain_term b h.1)
   plain_term (abs a) h = plain_term a h
 
+  -- in several expressions
   plain_terms : (es : Terms) → AreWrittenTerms es → PlainTerms es
   plain_terms none h = tt
   plain_terms (more e es) h = (plain_term e h.0, plain_terms es h.1)
 
+-- in a condition
 plain_test : (c : Test) → IsWrittenTest c → PlainTest c
 plain_test (compare r a b) h = (plain_term a h.0, plain_term b h.1)
 plain_test (negation c) h = plain_test c h
 plain_test (conjunction c d) h = (plain_test c h.0, plain_test d h.1)
 plain_test (disjunction c d) h = (plain_test c h.0, plain_test d h.1)
 
+-- in a target
 plain_place : (x : Var) (subs : Terms) → IsPlace x subs → PlainVar x × PlainTerms subs
 plain_place x none h = (plain_var x h, tt)
 plain_place x (more e es) h = (plain_var x h.0, plain_terms (more e es) h.2)
 
+-- in a mark
 plain_mark : (m : Mark) → IsWrittenMark m → PlainMark m
 plain_mark unmarked h = tt
 plain_mark (with_count n) h = tt
@@ -78,6 +84,7 @@ mutual
   plain_act (call name args) h = plain_terms args h.1
   plain_act (runtime r) h = tt
 
+  -- and in a list
   pub plain_code : (c : Code) → IsWrittenCode c → PlainCode c
   plain_code stop h = tt
   plain_code (step line a rest) h = (plain_act a h.0, plain_code rest h.1)

@@ -4,7 +4,7 @@ use Rattle.std.proofs.lemmas.Bool.{or_cases}
 use Rattle.std.proofs.lemmas.Bool.Decides.{nat_tests}
 use Rattle.std.specs.Prelude.{ℤ, ◌&&◌, max, nat_lt, flat_map, Some}
 use Rattle.std.specs.List.{list_any}
-use Rattle.adj_tree.specs.Code.{name_eq, Var, Term, Terms, Test, Mark, unmarked, with_count, count_from, Act, assign, choose, loop, during, call, runtime, Code, stop, step, Procedure}
+use Rattle.adj_tree.specs.Code.{name_eq, Var, Term, Terms, Test, unmarked, with_count, count_from, Act, assign, choose, loop, during, call, runtime, Code, stop, step, Procedure}
 use Rattle.adj_tree.specs.declared.fault.Refusal.{Refusal}
 use Rattle.adj_tree.proofs.Names.{name_refl, name_same}
 use Rattle.adj_text.specs.Written.{IsWritten}
@@ -38,6 +38,7 @@ use Rattle.adj_kernel.proofs.SoundPrograms.{sound_is_source}
 
 -- ---- what the source's faults say
 
+-- where there is none of either
 second_none : (xs ys : List Refusal) → or_else xs ys ≡ [] → (xs ≡ []) × (ys ≡ [])
 second_none [] ys h = (refl, h)
 second_none (x ∷ xs) ys h = absurd cc
@@ -72,12 +73,14 @@ each_callee P (c ∷ cs) h x k = go (or_cases (name_eq x (c.1).0) (list_any (nam
     go (inl e) ih = subst P (sym (name_same x (c.1).0 e)) h.0
     go (inr e) ih = ih e
 
+-- and the other way
 callee_each : (P : Name → Type 0) (cs : List (At Call)) → ((x : Name) → list_any (name_eq x) (map (λ (c : At Call). (c.1).0) cs) ≡ true → P x) → Each (λ (c : At Call). P (c.1).0) cs
 callee_each P [] h = tt
 callee_each P (c ∷ cs) h = (h (c.1).0 (or_first (name_eq (c.1).0 (c.1).0) (list_any (name_eq (c.1).0) (map (λ (c : At Call). (c.1).0) cs)) (name_refl (c.1).0)), callee_each P cs (λ x k. h x (or_second (name_eq x (c.1).0) (list_any (name_eq x) (map (λ (c : At Call). (c.1).0) cs)) k)))
 
 -- ---- a statement that begins no chain that is too long
 
+-- where `below` says how long chains are from called units on
 abbrev IsShort : (Name → ℕ) → ℕ → Act → Type 0
 IsShort below most a = (begins_chain a && nat_lt most (suc (act_chain below a))) ≡ false
 
@@ -85,25 +88,26 @@ IsShort below most a = (begins_chain a && nat_lt most (suc (act_chain below a)))
 short_is : (most n : ℕ) → nat_lt most (suc n) ≡ false → suc n ≤ most
 short_is most n h = grind (arith, nat_tests)
 
+-- and the other way
 is_short : (most n : ℕ) → suc n ≤ most → nat_lt most (suc n) ≡ false
 is_short most n l = grind (arith, nat_tests)
 
 -- ---- the program
 
 module _ (units : List Procedure) (written : IsWritten units) (sound : IsSound source_rules units) where
+  -- the program is a source
   source : IsSource ℤ units
   source = sound_is_source units written sound ℤ
-
-  abbrev made : List Procedure
-  made = stepped_program units
 
   -- the longest chain from a unit of the source
   abbrev top : Name → ℕ
   top = chain_from units
 
+  -- no call lies on a cycle, and no chain is too long
   no_faults : (cycles units ≡ []) × (long_chains source_rules units ≡ [])
   no_faults = second_none (cycles units) (long_chains source_rules units) (sound_has_none source_rules units sound).chains
 
+  -- so no calls lead back
   no_way : NoWayBack units
   no_way x u f c m k = back (leads units k c x) refl
     where
@@ -135,10 +139,12 @@ module _ (units : List Procedure) (written : IsWritten units) (sound : IsSound s
       twice_act k line (call name args) p st = of_units name p.called p.found
       twice_act k line (runtime r) p st = absurd p
 
+      -- of a list
       twice : (k : ℕ) (c : Code) → EachCall (IsCounted units) c → StepsThere (stepped_program units) taken u k c → chain below (cut taken u k c) ≤ 2 * chain (chain_from units) c
       twice k stop p st = omega arith
       twice k (step line a rest) p st = let l = twice_act k line a p.0 st.0 in let m = twice (k + marked_in_act a) rest p.1 st.1 in omega (arith, l, m)
 
+  -- calls are of units that are there
   counted : (name : Name) (v : Procedure) → find_unit units name ≡ Some v → EachCall (IsCounted units) v.body
   counted name v f = found_in (λ u. EachCall (IsCounted units) u.body) units name v f source.counted
 
@@ -146,9 +152,11 @@ module _ (units : List Procedure) (written : IsWritten units) (sound : IsSound s
   abbrev UnitsTwice : ℕ → Type 0
   UnitsTwice j = (name : Name) (v : Procedure) → find_unit units name ≡ Some v → chain_within (stepped_program units) j name ≤ 2 * chain_from units name
 
+  -- and step units
   abbrev StepsTwice : ℕ → Type 0
   StepsTwice j = (taken : List Name) (u : Procedure) (k line : ℕ) (x : Var) (body : Code) → EachCall (IsCounted units) body → IsStepThere (stepped_program units) taken u k line x body → StepsThere (stepped_program units) taken u (suc k) body → chain_within (stepped_program units) j (step_name taken u.name k) ≤ suc (2 * chain (chain_from units) body)
 
+  -- so it is, with any number of units called within one another
   both_twice : (j : ℕ) → UnitsTwice j × StepsTwice j
   both_twice zero = ((λ name v f. omega arith), (λ taken u k line x body p here st. omega arith))
   both_twice (suc j) =
@@ -167,13 +175,16 @@ module _ (units : List Procedure) (written : IsWritten units) (sound : IsSound s
 
   -- ---- no chain of the stepped program is too long
 
+  -- the longest chain from a unit of the stepped program
   abbrev below : Name → ℕ
   below = chain_from (stepped_program units)
 
   module _ (taken : List Name) (u : Procedure) where
+    -- of a statement
     of_act : (k line : ℕ) (a : Act) → EachCall' (IsCounted units) a → StepsThereAct (stepped_program units) taken u k line a → act_chain below (cut_act taken u k line a) ≤ 2 * act_chain top a
     of_act k line a p st = let b = both_twice (length (stepped_program units)) in twice_act below b.0 taken u (b.1 taken u) k line a p st
 
+    -- a statement's own chain isn't too long
     short_head : (k line : ℕ) (a : Act) → EachCall' (IsCounted units) a → StepsThereAct (stepped_program units) taken u k line a → IsShort top 40 a → IsShort below 80 (cut_act taken u k line a)
     short_head k line (assign x subs e) p st h = refl
     short_head k line (choose c a b) p st h = refl
@@ -194,20 +205,21 @@ module _ (units : List Procedure) (written : IsWritten units) (sound : IsSound s
     short_head k line (runtime r) p st h = refl
 
     -- the call of a step unit
-    short_step : (k line : ℕ) (x : Var) (body : Code) (m : Mark) → EachCall (IsCounted units) body → IsStepThere (stepped_program units) taken u k line x body → StepsThere (stepped_program units) taken u (suc k) body → suc (suc (chain top body)) ≤ 40 → IsShort below 80 (step_call taken u k x body)
-    short_step k line x body m p here st l = let t = (both_twice (length (stepped_program units))).1 taken u k line x body p here st in is_short 80 (below (step_name taken u.name k)) (omega (arith, l, t))
+    short_step : (k line : ℕ) (x : Var) (body : Code) → EachCall (IsCounted units) body → IsStepThere (stepped_program units) taken u k line x body → StepsThere (stepped_program units) taken u (suc k) body → suc (suc (chain top body)) ≤ 40 → IsShort below 80 (step_call taken u k x body)
+    short_step k line x body p here st l = let t = (both_twice (length (stepped_program units))).1 taken u k line x body p here st in is_short 80 (below (step_name taken u.name k)) (omega (arith, l, t))
 
     mutual
       short_in : (k line : ℕ) (a : Act) → EachCall' (IsCounted units) a → StepsThereAct (stepped_program units) taken u k line a → IsShort top 40 a → HoldsIn (λ l c. IsShort top 40 c) a → HoldsIn (λ l c. IsShort below 80 c) (cut_act taken u k line a)
       short_in k line (assign x subs e) p st s h = tt
       short_in k line (choose c a b) p st s h = (short_cut k a p.0 st.0 h.0, short_cut (k + marked_in a) b p.1 st.1 h.1)
       short_in k line (loop x first last by body unmarked) p st s h = short_cut k body p st h
-      short_in k line (loop x first last by body (with_count m)) p st s h = (short_step k line x body (with_count m) p st.0 st.1 (short_is 40 (act_chain top (loop x first last by body (with_count m))) s), (tt, tt))
-      short_in k line (loop x first last by body (count_from y)) p st s h = (short_step k line x body (count_from y) p st.0 st.1 (short_is 40 (act_chain top (loop x first last by body (count_from y))) s), (tt, tt))
+      short_in k line (loop x first last by body (with_count m)) p st s h = (short_step k line x body p st.0 st.1 (short_is 40 (act_chain top (loop x first last by body (with_count m))) s), (tt, tt))
+      short_in k line (loop x first last by body (count_from y)) p st s h = (short_step k line x body p st.0 st.1 (short_is 40 (act_chain top (loop x first last by body (count_from y))) s), (tt, tt))
       short_in k line (during c body) p st s h = short_cut k body p st h
       short_in k line (call name args) p st s h = tt
       short_in k line (runtime r) p st s h = tt
 
+      -- nor those in a list
       short_cut : (k : ℕ) (c : Code) → EachCall (IsCounted units) c → StepsThere (stepped_program units) taken u k c → Holds (λ l c. IsShort top 40 c) c → Holds (λ l c. IsShort below 80 c) (cut taken u k c)
       short_cut k stop p st h = tt
       short_cut k (step line a rest) p st h = (short_head k line a p.0 st.0 h.0, (short_in k line a p.0 st.0 h.0 h.1.0, short_cut (k + marked_in_act a) rest p.1 st.1 h.1.1))
@@ -217,6 +229,7 @@ module _ (units : List Procedure) (written : IsWritten units) (sound : IsSound s
   IsTame v = ((most : ℕ) × ((k : ℕ) → chain_within (stepped_program units) k v.name ≤ most)) × Holds (λ l c. IsShort (chain_from (stepped_program units)) 80 c) v.body
 
   module _ (taken : List Name) (u : Procedure) where
+    -- a step unit is so
     step_tame : (k line : ℕ) (x : Var) (body : Code) → EachCall (IsCounted units) body → IsStepThere (stepped_program units) taken u k line x body → StepsThere (stepped_program units) taken u (suc k) body → Holds (λ l c. IsShort top 40 c) body → IsTame (step_unit taken u k line x body)
     step_tame k line x body p here st h = ((suc (2 * chain (chain_from units) body), (λ j. (both_twice j).1 taken u k line x body p here st)), short_cut taken u (suc k) body p st h)
 
@@ -231,16 +244,19 @@ module _ (units : List Procedure) (written : IsWritten units) (sound : IsSound s
       steps_tame_act k line (call name args) p st h = tt
       steps_tame_act k line (runtime r) p st h = tt
 
+      -- all those of a list are
       steps_tame : (k : ℕ) (c : Code) → EachCall (IsCounted units) c → StepsThere (stepped_program units) taken u k c → Holds (λ l c. IsShort top 40 c) c → Each IsTame (step_units_in taken u k c)
       steps_tame k stop p st h = tt
       steps_tame k (step line a rest) p st h = each_join IsTame (step_units_in_act taken u k line a) (step_units_in taken u (k + marked_in_act a) rest) (steps_tame_act k line a p.0 st.0 h.1.0) (steps_tame (k + marked_in_act a) rest p.1 st.1 h.1.1)
 
+  -- and all units of a program
   all_tame : (us : List Procedure) (taken : List Name) → Each (λ u. find_unit units u.name ≡ Some u) us → EachUnit (λ u. EachCall (IsCounted units) u.body) us → Each (λ u. Holds (λ l c. IsShort top 40 c) u.body) us → AllThere (stepped_program units) taken us → Each IsTame (stepped_from taken us)
   all_tame [] taken f p h st = tt
   all_tame (u ∷ us) taken f p h st =
       each_join IsTame (stepped_unit taken u) (stepped_from (taken ++ step_names taken u.name (marked_in u.body)) us)
       (((2 * chain_from units u.name, (λ j. (both_twice j).0 u.name u f.0)), short_cut taken u 0 u.body p.0 st.0 h.0), steps_tame taken u 0 u.body p.0 st.0 h.0) (all_tame us (taken ++ step_names taken u.name (marked_in u.body)) f.1 p.1 h.1 st.1)
 
+  -- the source's chains aren't too long
   source_short : Each (λ u. Holds (λ l c. IsShort top 40 c) u.body) units
   source_short =
       each_more (λ u. flat_map (λ s. faults_if (begins_chain s.1 && nat_lt 40 (suc (act_chain (chain_from units) s.1))) (passed 40 s.0)) (statements u.body) ≡ []) (λ u. Holds (λ l c. IsShort top 40 c) u.body)
@@ -250,6 +266,7 @@ module _ (units : List Procedure) (written : IsWritten units) (sound : IsSound s
       (none_each (λ s. faults_if (begins_chain s.1 && nat_lt 40 (suc (act_chain (chain_from units) s.1))) (passed 40 s.0)) (statements u.body) h))) units
       (none_each (λ u. flat_map (λ s. faults_if (begins_chain s.1 && nat_lt 40 (suc (act_chain (chain_from units) s.1))) (passed 40 s.0)) (statements u.body)) units no_faults.1)
 
+  -- so it is in the stepped program
   pub stepped_tame : Each IsTame (stepped_program units)
   stepped_tame = all_tame units (names_of_source units) (own_found units (source_distinct units sound)) source.counted source_short (program_there units)
 
@@ -279,20 +296,25 @@ module _ (f : Name → ℕ) where
     quiet stop h = refl
     quiet (step line a rest) h = let p = quiet_act line a h.0 h.1.0 in let r = quiet rest h.1.1 in omega (arith, p, r)
 
+  -- two lists one after the other
   chain_join : (c d : Code) → chain f (c +++ d) ≡ max (chain f c) (chain f d)
   chain_join stop d = omega arith
   chain_join (step line a c) d = let p = chain_join c d in omega (arith, p)
 
+  -- of which the first begins none
   quiet_front : (c d : Code) → Holds IsQuiet c → chain f (c +++ d) ≡ chain f d
   quiet_front c d h = let p = chain_join c d in let q = quiet c h in omega (arith, p, q)
 
   module _ (local : ℕ → Var) (handed : Dummies) where
+    -- assignments begin none
     abbrev sets : (line : ℕ) (x : Var) (subs : Terms) (e : Term) → IsQuiet line (assign x subs e)
     sets line x subs e = tt
 
+    -- nor do IFs
     abbrev picks : (line : ℕ) (c : Test) (a b : Code) → IsQuiet line (choose c a b)
     picks line c a b = tt
 
+    -- a lowered call begins the chain of the call
     call_chain : (line : ℕ) (name : Name) (args : Terms) → chain f (lowered_call local line (handed name) name args) ≡ f name
     call_chain line name args =
         let es = reduced_all local 0 args in
@@ -314,6 +336,7 @@ module _ (f : Name → ℕ) where
       lowered_chain_act line (call name args) = call_chain line name args
       lowered_chain_act line (runtime r) = refl
 
+      -- so a lowered list has the chain of the list
       pub lowered_chain : (c : Code) → chain f (lowered local handed c) ≡ chain f c
       lowered_chain stop = refl
       lowered_chain (step line a rest) = let p = chain_join (lowered_act local handed line a) (lowered local handed rest) in let q = lowered_chain_act line a in let r = lowered_chain rest in omega (arith, p, q, r)
@@ -321,9 +344,11 @@ module _ (f : Name → ℕ) where
 -- ---- the kernel
 
 module _ (all : List Procedure) where
+  -- the program with all units lowered
   abbrev kernel : List Procedure
   kernel = lowered_program all
 
+  -- and a lowered unit that of the unit
   lowered_found : (us : List Procedure) (f : Name → ℕ) (x : Name) → chain_found f (find_unit (map (lowered_unit all) us) x) ≡ chain_found f (find_unit us x)
   lowered_found [] f x = refl
   lowered_found (u ∷ us) f x = go (name_eq u.name x) (lowered_found us f x)
@@ -337,10 +362,12 @@ module _ (all : List Procedure) where
   within_same zero x = refl
   within_same (suc k) x = lowered_found all (chain_within (lowered_program all) k) x ∙ ap (λ (f : Name → ℕ). chain_found f (find_unit all x)) (λ i y. within_same k y i)
 
+  -- there are as many units
   as_many : (us : List Procedure) → length (map (lowered_unit all) us) ≡ length us
   as_many [] = refl
   as_many (u ∷ us) = ap suc (as_many us)
 
+  -- so has each name
   from_same : (x : Name) → chain_from (lowered_program all) x ≡ chain_from all x
   from_same x = ap (λ n. chain_within (lowered_program all) n x) (as_many all) ∙ within_same (length all) x
 
@@ -352,9 +379,6 @@ module _ (all : List Procedure) where
       (λ line name args s. ap (λ n. nat_lt 80 (suc n)) (from_same name) ∙ s) (λ line r s. refl) v.body h
 
 module _ (units : List Procedure) (written : IsWritten units) (sound : IsSound source_rules units) where
-  abbrev after_first : List Procedure
-  after_first = stepped_program units
-
   -- no call of a lowered unit leads back
   no_cycle : (v : Procedure) → find_unit (stepped_program units) v.name ≡ Some v → IsTame units written sound v → flat_map (λ (c : At Call). faults_if (calls_lead (kernel_of units) (c.1).0 v.name) (fault 16 c.0)) (calls (lowered_unit (stepped_program units) v)) ≡ []
   no_cycle v f t =
@@ -364,16 +388,19 @@ module _ (units : List Procedure) (written : IsWritten units) (sound : IsSound s
       no_way_bounded (kernel_of units) v.name (lowered_unit (stepped_program units) v) (found_lowered (stepped_program units) (stepped_program units) v.name v f) t.0.0 (λ k. subst (λ n. n ≤ t.0.0) (sym (within_same (stepped_program units) k v.name)) (t.0.1 k)) x
       (sym (ap (list_any (name_eq x)) (names_called (lowered_unit (stepped_program units) v))) ∙ h) (length (kernel_of units)))))
 
+  -- nor is any chain in it too long
   no_long : (v : Procedure) → IsTame units written sound v → flat_map (λ (s : At Act). faults_if (begins_chain s.1 && nat_lt 80 (suc (act_chain (chain_from (kernel_of units)) s.1))) (passed 80 s.0)) (statements (lowered_unit (stepped_program units) v).body) ≡ []
   no_long v t =
       none_flat (λ (s : At Act). faults_if (begins_chain s.1 && nat_lt 80 (suc (act_chain (chain_from (kernel_of units)) s.1))) (passed 80 s.0)) (statements (lowered_unit (stepped_program units) v).body)
       (each_more (λ (s : At Act). IsShort (chain_from (kernel_of units)) 80 s.1) (λ s. faults_if (begins_chain s.1 && nat_lt 80 (suc (act_chain (chain_from (kernel_of units)) s.1))) (passed 80 s.0) ≡ []) (λ s h. if_none (begins_chain s.1 && nat_lt 80 (suc (act_chain (chain_from (kernel_of units)) s.1))) (passed 80 s.0) h) (statements (lowered_unit (stepped_program units) v).body)
       (listed (λ l c. IsShort (chain_from (kernel_of units)) 80 c) (lowered_unit (stepped_program units) v).body (short_lowered (stepped_program units) v t.1)))
 
+  -- no call of the kernel lies on a cycle
   no_cycles : (vs : List Procedure) → Each (λ v. find_unit (stepped_program units) v.name ≡ Some v) vs → Each (IsTame units written sound) vs → Each (λ v. flat_map (λ (c : At Call). faults_if (calls_lead (kernel_of units) (c.1).0 v.name) (fault 16 c.0)) (calls v) ≡ []) (map (lowered_unit (stepped_program units)) vs)
   no_cycles [] f t = tt
   no_cycles (v ∷ vs) f t = (no_cycle v f.0 t.0, no_cycles vs f.1 t.1)
 
+  -- and none of its chains is too long
   none_long : (vs : List Procedure) → Each (IsTame units written sound) vs → Each (λ v. flat_map (λ (s : At Act). faults_if (begins_chain s.1 && nat_lt 80 (suc (act_chain (chain_from (kernel_of units)) s.1))) (passed 80 s.0)) (statements v.body) ≡ []) (map (lowered_unit (stepped_program units)) vs)
   none_long [] t = tt
   none_long (v ∷ vs) t = (no_long v t.0, none_long vs t.1)

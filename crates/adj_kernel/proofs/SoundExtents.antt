@@ -55,6 +55,7 @@ is_among-named x [] = refl
 is_among-named x (fixed z ∷ es) = is_among-named x es
 is_among-named x (given y ∷ es) = ap (λ b. name_eq x y || b) (is_among-named x es)
 
+-- so it is one of some declaration
 pub extent_of_unit : (x : List ℕ) (ds : List Declaration) (v : Var) → names_extent x (declared ds v) ≡ true → is_extent x ds ≡ true
 extent_of_unit x [] v h = absurd cc
 extent_of_unit x (d ∷ ds) v h = go (var_eq v (plain d.name)) (extent_of_unit x ds v) h
@@ -76,6 +77,7 @@ module _ (handed : Dummies) (x : Var) where
     act_unwritten line (call name args) h g = h
     act_unwritten line (runtime r) h g = h
 
+    -- in a list
     pub unwritten : (c : Code) → Each (λ (s : At Act). may_write handed x s.1 ≡ false) (statements c) → writes handed x c ≡ false
     unwritten stop h = refl
     unwritten (step line a rest) h =
@@ -92,6 +94,7 @@ module _ (handed : Dummies) (x : Var) where
     act_spared line (call name args) h = (h, tt)
     act_spared line (runtime r) h = (h, tt)
 
+    -- in a list
     pub spared : (c : Code) → writes handed x c ≡ false → Each (λ (s : At Act). may_write handed x s.1 ≡ false) (statements c)
     spared stop h = tt
     spared (step line a rest) h =
@@ -108,16 +111,19 @@ module _ {C : Type 0} (n : Numbers C) (s : Store C) (u : Procedure) where
   literal_elements (fixed z ∷ es) h = ap (λ y. z *ℤ y) (literal_elements es h)
   literal_elements (given x ∷ es) h = absurd (let y = nat_same (length (x ∷ extent_names es)) 0 h in omega arith)
 
+  -- what isn't below 1 is at least 1
   at_least_one : (z : ℤ) → int_lt z (pos 1) ≡ false → int_le (pos 1) z ≡ true
   at_least_one (pos zero) h = absurd cc
   at_least_one (pos (suc m)) h = grind (arith, nat_tests)
   at_least_one (negsuc m) h = absurd cc
 
+  -- so each is at least 1
   literal_extents : (es : List Extent) → (length (extent_names es) == 0) ≡ true → list_any (is_bad_extent u) es ≡ false → are_extents (map (extent_in n s) es) ≡ true
   literal_extents [] h b = refl
   literal_extents (fixed z ∷ es) h b = let p = or_false (is_bad_extent u (fixed z)) (list_any (is_bad_extent u) es) b in ap (λ y. y && are_extents (map (extent_in n s) es)) (at_least_one z p.0) ∙ literal_extents es h p.1
   literal_extents (given x ∷ es) h b = absurd (let y = nat_same (length (x ∷ extent_names es)) 0 h in omega arith)
 
+  -- what isn't above the limit is at most it
   at_most_limit : (z : ℤ) → int_lt (pos 1048576) z ≡ false → int_le z (pos 1048576) ≡ true
   at_most_limit (pos m) h = grind (arith, nat_tests)
   at_most_limit (negsuc m) h = refl

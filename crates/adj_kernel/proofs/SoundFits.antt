@@ -101,6 +101,7 @@ written_clash true true false q h e = absurd cc
 written_clash false true false q h e = refl
 written_clash w false p q h e = absurd cc
 
+-- actuals behind one aren't handed back into it
 apart_behind : (u : Procedure) (x : Var) (v : Bool) (e : Term) (ws : List Bool) (es : Terms) → is_place_of x e ≡ true → clashes u v e ws es ≡ false → is_handed_back x ws es ≡ false
 apart_behind u x v e [] es p h = refl
 apart_behind u x v e (w ∷ ws) none p h = refl
@@ -126,6 +127,7 @@ handed_apart u (w ∷ ws) (more e es) h =
 
 -- ---- whole arrays
 
+-- a name that is an actual, and its array
 named_whole : (u : Procedure) (x : Var) (e : Term) → is_name_of x e ≡ true → (is_place_of x e ≡ true) × (is_whole_array u e ≡ not (variable_rank u x == 0))
 named_whole u x (lit z) h = absurd cc
 named_whole u x (var y) h = (h, ap (λ z. not (variable_rank u z == 0)) (sym (var_same x y h)))
@@ -144,6 +146,7 @@ array_clash false false true true h e = refl
 array_clash false false true false h e = absurd cc
 array_clash v w false p h e = absurd cc
 
+-- an array that stands behind itself has no extents
 once_behind : (u : Procedure) (x : Var) (v : Bool) (e : Term) (ds : List (List ℕ)) (g : List ℕ → Bool) (es : Terms) → is_name_of x e ≡ true → OneFor ds es → clashes u v e (map g ds) es ≡ false → stands_whole x es ≡ true → is_scalar u.declarations x ≡ true
 once_behind u x v e [] g none n o h s = absurd cc
 once_behind u x v e [] g (more f fs) n o h s = absurd o
@@ -159,6 +162,7 @@ once_behind u x v e (d ∷ ds) g (more f fs) n o h s =
         scalar_of_rank u x (array_clash v (g d) (name_one e f) (variable_rank u x == 0) (ap (λ z. name_one e f && ((v || g d) || z)) (ap (λ z. z && not (variable_rank u x == 0)) (sym a.1) ∙ ap (λ z. is_whole_array u e && z) (sym b.1)) ∙ c) (names_one x e f a.0 ∙ b.0))
     go c k (inr m) = k m
 
+-- so no array stands twice as a whole
 arrays_once : (u : Procedure) (ds : List (List ℕ)) (g : List ℕ → Bool) (es : Terms) → OneFor ds es → have_clash u (map g ds) es ≡ false → ArraysStandOnce u.declarations es
 arrays_once u ds g none o h = tt
 arrays_once u [] g (more e es) o h = absurd o

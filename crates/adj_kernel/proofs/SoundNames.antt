@@ -47,6 +47,7 @@ each_from : (Q : Name → Type 0) (xs : List Name) → ((x : Name) → has_name 
 each_from Q [] h = tt
 each_from Q (x ∷ xs) h = (h x (or_first (name_eq x x) (has_name x xs) (name_refl x)), each_from Q xs (λ y k. h y (or_second (name_eq y x) (has_name y xs) k)))
 
+-- the names at places
 each_unmap : (Q : Name → Type 0) (ps : List (At Name)) → Each (λ (p : At Name). Q p.1) ps → Each Q (map (λ p. p.1) ps)
 each_unmap Q [] h = tt
 each_unmap Q (p ∷ ps) h = (h.0, each_unmap Q ps h.1)
@@ -56,10 +57,12 @@ standing_from : (Q : Name → Type 0) (ns : List Standing) → Each Q (names_sta
 standing_from Q [] h = tt
 standing_from Q (n ∷ ns) h = (h.0, standing_from Q ns h.1)
 
+-- in some statements
 statements_from : (Q : Name → Type 0) (ss : List (At Act)) → Each Q (stated ss) → Each (λ (s : At Act). Each (λ n. Q n.name) (in_act s.1)) ss
 statements_from Q [] h = tt
 statements_from Q (s ∷ ss) h = (standing_from Q (in_act s.1) (each_front Q (names_standing (in_act s.1)) (stated ss) h), statements_from Q ss (each_behind Q (names_standing (in_act s.1)) (stated ss) h))
 
+-- so what holds of the names in a list holds of each where it stands
 named_holds : (Q : Name → Type 0) (c : Code) → ((x : Name) → has_name x (names_in_code c) ≡ true → Q x) → Holds (λ line a. Each (λ n. Q n.name) (in_act a)) c
 named_holds Q c h = holding (λ line a. Each (λ n. Q n.name) (in_act a)) c (statements_from Q (statements c) (subst (Each Q) (sym (stated_code c)) (each_from Q (names_in_code c) h)))
 
@@ -82,6 +85,7 @@ record OwnNames (names : List Name) (u : Procedure) : Type 0 where
   declared_once : Distinct (map (λ d. d.name) u.declarations)
   extents : Each (λ d. has_bad_extents u d ≡ false) u.declarations
 
+-- a statement that is no runtime call
 not_runtime : (a : Act) → calls_runtime a ≡ false → taken_in false a ≡ in_act a
 not_runtime (assign x subs e) h = refl
 not_runtime (choose c a b) h = refl
@@ -90,6 +94,7 @@ not_runtime (during c body) h = refl
 not_runtime (call name args) h = refl
 not_runtime (runtime r) h = absurd cc
 
+-- that is known of a unit without faults of names
 own_names : (ps : List Procedure) (u : Procedure) → faults_of_names source_rules ps u ≡ [] → OwnNames (map unit_name ps) u
 own_names ps u h = record {
   own = λ x k.
@@ -176,12 +181,15 @@ module _ (names : List Name) (u : Procedure) (known : OwnNames names u) (P : Lis
 
   -- a list within some names, as it should be for a unit that has them
   module _ (taken : List Name) (v : Procedure) (ns : List Name) (good_name : (n : Standing) → has_rank u n ≡ true → has_name n.name ns ≡ true → IsGood names v n) (good_whole : (y : Name) → has_name y ns ≡ true → IsGood names v (record { name = y; subscripts = None })) where
+    -- as the names in a list are given
     abbrev Given : ℕ → Act → Type 0
     Given line a = Each (λ n. (has_rank u n ≡ true) × (has_name n.name ns ≡ true)) (in_act a) × StepsWithin u ns a
 
+    -- each of some names
     good_each : (xs : List Standing) → Each (λ n. (has_rank u n ≡ true) × (has_name n.name ns ≡ true)) xs → Each (IsGood names v) xs
     good_each xs h = each_more (λ n. (has_rank u n ≡ true) × (has_name n.name ns ≡ true)) (IsGood names v) (λ n k. good_name n k.0 k.1) xs h
 
+    -- those in a statement
     good_head : (k line : ℕ) (a : Act) → Given line a → Each (IsGood names v) (in_act (cut_act taken u k line a))
     good_head k line (assign x subs e) h = good_each (in_act (assign x subs e)) h.0
     good_head k line (choose c a b) h = good_each (in_act (choose c a b)) h.0
@@ -192,6 +200,7 @@ module _ (names : List Name) (u : Procedure) (known : OwnNames names u) (P : Lis
     good_head k line (call name args) h = good_each (in_act (call name args)) h.0
     good_head k line (runtime r) h = good_each (in_act (runtime r)) h.0
 
+    -- in a list with its marked loops cut
     cut_good : (k : ℕ) (c : Code) → Holds (λ line a. Each (λ n. has_rank u n ≡ true) (in_act a)) c → Holds (λ line a. Each (λ n. has_name n.name ns ≡ true) (in_act a)) c → Holds (λ line a. StepsWithin u ns a) c → Holds (λ line a. Each (IsGood names v) (in_act a)) (cut taken u k c)
     cut_good k c r n w =
         cut_holds taken u Given (λ line a. Each (IsGood names v) (in_act a)) good_head (λ j line x first last by body m h. each_actual (IsGood names v) (step_dummies u x body) (λ y g. good_whole y (h.1 y g))) k c
@@ -199,6 +208,7 @@ module _ (names : List Name) (u : Procedure) (known : OwnNames names u) (P : Lis
         (holds_more (λ line a. Each (λ n. has_rank u n ≡ true) (in_act a) × Each (λ n. has_name n.name ns ≡ true) (in_act a)) (λ line a. Each (λ n. (has_rank u n ≡ true) × (has_name n.name ns ≡ true)) (in_act a)) (λ line a h. each_both (λ n. has_rank u n ≡ true) (λ n. has_name n.name ns ≡ true) (in_act a) h.0 h.1) c
         (holds_both (λ line a. Each (λ n. has_rank u n ≡ true) (in_act a)) (λ line a. Each (λ n. has_name n.name ns ≡ true) (in_act a)) c r n)) w)
 
+  -- what holds of declared names holds of each declaration
   each_declaration : (ds : List Declaration) → ((x : Name) → has_name x (kernel.declared_names ds) ≡ true → IsFree names x) → Each (λ (d : Declaration). IsFree names d.name) ds
   each_declaration [] h = tt
   each_declaration (d ∷ ds) h = (h d.name (or_first (name_eq d.name d.name) (has_name d.name (kernel.declared_names ds)) (name_refl d.name)), each_declaration ds (λ x k. h x (or_second (name_eq x d.name) (has_name x (kernel.declared_names ds)) k)))
@@ -219,9 +229,11 @@ module _ (names : List Name) (u : Procedure) (known : OwnNames names u) (P : Lis
   -- ---- a step unit
 
   module _ (taken : List Name) (k line : ℕ) (x : Var) (body : Code) where
+    -- its dummies
     abbrev vs : List Name
     vs = step_dummies u x body
 
+    -- the step unit
     abbrev unit : Procedure
     unit = step_unit taken u k line x body
 
@@ -229,16 +241,20 @@ module _ (names : List Name) (u : Procedure) (known : OwnNames names u) (P : Lis
     of_unit : (y : Name) → has_name y vs ≡ true → has_name y (names_of u) ≡ true
     of_unit y h = once_from y [] (names_of u) (used_from u.declarations (named x ++ names_in_code body) (variables_of u) y h)
 
+    -- its declarations are of its dummies
     declared_all : (ds : List Declaration) (ys : List Name) → map (λ (d : Declaration). d.name) (step_declarations ds line ys) ≡ ys
     declared_all ds [] = refl
     declared_all ds (y ∷ ys) = ap (λ z. y ∷ z) (declared_all ds ys)
 
+    -- its names are integers
     step_integer : (y : Name) → has_name y vs ≡ true → is_integer unit y ≡ true
     step_integer y h = or_first (fresh.has_name y (map (λ (d : Declaration). d.name) (step_declarations u.declarations line vs))) (not false && is_integer_name y) (ap (fresh.has_name y) (declared_all u.declarations vs) ∙ same_has y vs ∙ h)
 
+    -- with the ranks of the unit's
     step_rank : (y : Name) → has_name y vs ≡ true → rank unit y ≡ rank u y
     step_rank y h = ap length (declared_step u.declarations line vs y h)
 
+    -- so a name of the unit stands in it as it should
     good_of : (n : Standing) → has_rank u n ≡ true → has_name n.name vs ≡ true → IsGood names unit n
     good_of n r h = (step_integer n.name h, (ranked n.subscripts r, (known.own n.name (of_unit n.name h)).1))
       where
@@ -246,6 +262,7 @@ module _ (names : List Name) (u : Procedure) (known : OwnNames names u) (P : Lis
         ranked None r = refl
         ranked (Some m) r = ap (λ z. m == z) (step_rank n.name h) ∙ r
 
+    -- and as an actual
     good_whole_of : (y : Name) → has_name y vs ≡ true → IsGood names unit (record { name = y; subscripts = None })
     good_whole_of y h = (step_integer y h, (refl, (known.own y (of_unit y h)).1))
 
@@ -253,6 +270,7 @@ module _ (names : List Name) (u : Procedure) (known : OwnNames names u) (P : Lis
     abbrev GoodExtents : List Extent → Type 0
     GoodExtents es = (list_any (is_bad_extent u) es ≡ false) × (int_lt (pos 1048576) (literal_product es) ≡ false)
 
+    -- those of the unit's variables
     declared_extents : (ds : List Declaration) (v : Var) → Each (λ d. has_bad_extents u d ≡ false) ds → GoodExtents (declared ds v)
     declared_extents [] v h = (refl, refl)
     declared_extents (d ∷ ds) v h = go (var_eq v (plain d.name)) (declared_extents ds v h.1)
@@ -261,6 +279,7 @@ module _ (names : List Name) (u : Procedure) (known : OwnNames names u) (P : Lis
         go true ih = let p = or_false (list_any (is_bad_extent u) d.extents) (int_lt (pos 1048576) (literal_product d.extents) || (not (is_dummy u d.name) && not (length (extent_names d.extents) == 0))) h.0 in (p.0, (or_false (int_lt (pos 1048576) (literal_product d.extents)) _ p.1).0)
         go false ih = ih
 
+    -- are as good in the step unit
     step_bad : (es : List Extent) → ((d : Name) → names_extent d es ≡ true → has_name d vs ≡ true) → list_any (is_bad_extent u) es ≡ false → list_any (is_bad_extent unit) es ≡ false
     step_bad [] w h = refl
     step_bad (fixed z ∷ es) w h = let p = or_false (is_bad_extent u (fixed z)) (list_any (is_bad_extent u) es) h in ap (λ b. b || list_any (is_bad_extent unit) es) p.0 ∙ step_bad es w p.1
@@ -270,6 +289,7 @@ module _ (names : List Name) (u : Procedure) (known : OwnNames names u) (P : Lis
         let scalar = (and_true (is_dummy u d) (is_scalar u d) (isn't_not (is_dummy u d && is_scalar u d) p.0)).1 in
         ap (λ b. not (b && is_scalar unit d) || list_any (is_bad_extent unit) es) (same_has d vs ∙ there) ∙ ap (λ n. not (n == 0) || list_any (is_bad_extent unit) es) (step_rank d there) ∙ ap (λ b. not b || list_any (is_bad_extent unit) es) scalar ∙ step_bad es (λ e g. w e (or_second (name_eq e d) (names_extent e es) g)) p.1
 
+    -- so its declarations have good extents
     step_extents : (ext : ExtentsIn u vs) (ys : List Name) → ((y : Name) → has_name y ys ≡ true → has_name y vs ≡ true) → Each (λ d. has_bad_extents unit d ≡ false) (step_declarations u.declarations line ys)
     step_extents ext [] w = tt
     step_extents ext (y ∷ ys) w =
@@ -282,6 +302,7 @@ module _ (names : List Name) (u : Procedure) (known : OwnNames names u) (P : Lis
           step_extents ext ys (λ z h. w z (or_second (name_eq z y) (has_name z ys) h)),
         )
 
+    -- so the step unit stands
     step_stands : PlainCode body → EachCall P body → is_of u x ≡ true → CodeInside (is_of u) body → Holds (λ line a. Each (λ n. has_rank u n ≡ true) (in_act a)) body → Stands names unit
     step_stands pl p ox o r =
         let inside = step_body_inside u P x body pl p ox o in
@@ -309,6 +330,7 @@ module _ (names : List Name) (u : Procedure) (known : OwnNames names u) (P : Lis
       steps_stand_act k line (call name args) o pl p r = tt
       steps_stand_act k line (runtime rr) o pl p r = tt
 
+      -- in a list
       steps_stand : (k : ℕ) (c : Code) → CodeInside (is_of u) c → PlainCode c → EachCall P c → Holds (λ line a. Each (λ n. has_rank u n ≡ true) (in_act a)) c → EachUnit (Stands names) (step_units_in taken u k c)
       steps_stand k stop o pl p r = tt
       steps_stand k (step line a rest) o pl p r = join_units (Stands names) (step_units_in_act taken u k line a) (step_units_in taken u (k + marked_in_act a) rest) (steps_stand_act k line a o.0 pl.0 p.0 r.1.0) (steps_stand (k + marked_in_act a) rest o.1 pl.1 p.1 r.1.1)
@@ -319,14 +341,12 @@ module _ (names : List Name) (u : Procedure) (known : OwnNames names u) (P : Lis
 
 -- ---- the program
 
+-- the names of units are among those of all
 names_within : (us : List Procedure) → EachUnit (λ u. (x : Name) → has_name x (names_of u) ≡ true → has_name x (flat_map names_of us) ≡ true) us
 names_within [] = tt
 names_within (u ∷ us) = ((λ x h. has_first x (names_of u) (flat_map names_of us) h), of_each (λ u1. (x : Name) → has_name x (names_of u1) ≡ true → has_name x (names_of u ++ flat_map names_of us) ≡ true) us (each_more (λ u1. (x : Name) → has_name x (names_of u1) ≡ true → has_name x (flat_map names_of us) ≡ true) (λ u1. (x : Name) → has_name x (names_of u1) ≡ true → has_name x (names_of u ++ flat_map names_of us) ≡ true) (λ u1 f x h. has_second x (names_of u) (flat_map names_of us) (f x h)) us (unit_each (λ u1. (x : Name) → has_name x (names_of u1) ≡ true → has_name x (flat_map names_of us) ≡ true) us (names_within us))))
 
 module _ (units : List Procedure) (written : IsWritten units) (sound : IsSound source_rules units) where
-  abbrev made : List Name
-  made = map unit_name (stepped_program units)
-
   -- no unit of the stepped program has the name of a variable
   free_there : (x : Name) → IsFree (map unit_name units) x → has_name x (flat_map names_of units) ≡ true → IsFree (map unit_name (stepped_program units)) x
   free_there x f h = (f.0, not_true (has_name x (map unit_name (stepped_program units))) (λ k. go (of_source units (names_of_source units) x k)))
@@ -335,15 +355,18 @@ module _ (units : List Procedure) (written : IsWritten units) (sound : IsSound s
       go (inl k) = let z : true ≡ false = sym k ∙ f.1 in cc
       go (inr k) = let z : true ≡ false = sym (has_second x (map unit_name units) (flat_map names_of units) h) ∙ k in cc
 
+  -- so the names of a unit are free there
   names_there : (u : Procedure) → OwnNames (map unit_name units) u → ((x : Name) → has_name x (names_of u) ≡ true → has_name x (flat_map names_of units) ≡ true) → OwnNames (map unit_name (stepped_program units)) u
   names_there u n w = record { own = λ x h. let k = n.own x h in (k.0, free_there x k.1 (w x h)); ranks = n.ranks; dummies_once = n.dummies_once; declared_once = n.declared_once; extents = n.extents }
 
+  -- units of the program
   all_stand : (us : List Procedure) (taken : List Name) → Each (OwnNames (map unit_name units)) us → EachUnit (λ u. (x : Name) → has_name x (names_of u) ≡ true → has_name x (flat_map names_of units) ≡ true) us → EachUnit (λ u. PlainCode u.body) us → EachUnit (λ u. EachCall (IsFitCall units u) u.body) us → EachUnit (HasExtents ℤ units) us → EachUnit (Stands (map unit_name (stepped_program units))) (stepped_from taken us)
   all_stand [] taken n w pl c x = tt
   all_stand (u ∷ us) taken n w pl c x =
       join_units (Stands (map unit_name (stepped_program units))) (stepped_unit taken u) (stepped_from (taken ++ step_names taken u.name (marked_in u.body)) us) (unit_stands (map unit_name (stepped_program units)) u (names_there u n.0 w.0) (IsFitCall units u) x.0.own x.0.flat taken pl.0 c.0)
       (all_stand us (taken ++ step_names taken u.name (marked_in u.body)) n.1 w.1 pl.1 c.1 x.1)
 
+  -- the program is a source
   source : IsSource ℤ units
   source = sound_is_source units written sound ℤ
 
@@ -358,6 +381,7 @@ module _ (units : List Procedure) (written : IsWritten units) (sound : IsSound s
   lowered_made all [] = refl
   lowered_made all (u ∷ us) = ap (λ z. u.name ∷ z) (lowered_made all us)
 
+  -- lowered units have no fault of names
   kernel_stand : (vs : List Procedure) → EachUnit (Stands (map unit_name (stepped_program units))) vs → EachUnit (whole.IsGood ℤ units (sound_is_source units written sound ℤ)) vs → Each (λ v. faults_of_names run_rules (kernel_of units) v ≡ []) (map (lowered_unit (stepped_program units)) vs)
   kernel_stand [] s g = tt
   kernel_stand (v ∷ vs) s g = (

@@ -54,11 +54,13 @@ module _ (ps : List Procedure) (u : Procedure) where
     pub not_runtime : calls_runtime s.1 ≡ false
     pub apart : Each (λ (c : At Call). have_clash u (handed_back ps (c.1).0) (c.1).1 ≡ false) (map (λ c. (s.0, c)) (call_in s.1))
 
+  -- of each statement
   all_good : (ss : List (At Act)) → Each (λ s. faults_of_call ps u s.0 s.1 ≡ []) ss → Each (λ s. calls_runtime s.1 ≡ false) ss → Each (λ s. Each (λ (c : At Call). have_clash u (handed_back ps (c.1).0) (c.1).1 ≡ false) (map (λ c. (s.0, c)) (call_in s.1))) ss → Each Good ss
   all_good [] a b c = tt
   all_good (s ∷ ss) a b c = (record { called = a.0; not_runtime = b.0; apart = c.0 }, all_good ss a.1 b.1 c.1)
 
   module _ (names : faults_of_names source_rules ps u ≡ []) (called : flat_map (λ s. faults_of_call ps u s.0 s.1) (statements u.body) ≡ []) (wrote : faults_of_writes (handed_back ps) u ≡ []) where
+    -- so it is in a unit without faults
     good : Each Good (statements u.body)
     good =
         let n1 = none_behind (undeclared u) (declared_twice u ++ (misused source_rules u ++ (bad_extents u ++ (reserved_variables ps u ++ (runtime_calls source_rules u ++ too_many_variables source_rules u))))) names in
@@ -81,21 +83,27 @@ module _ (ps : List Procedure) (u : Procedure) where
     no_runtime_there : (line : ℕ) (r : Runtime) → Good (line, runtime r) → ⊥
     no_runtime_there line r g = let h : true ≡ false = g.not_runtime in absurd cc
 
+    -- a CALL is of a unit
     abbrev called_good : (line : ℕ) (name : List ℕ) (args : Terms) → Good (line, call name args) → Called ps u name args
     called_good line name args g = is_called ps u line name args g.called
 
+    -- its calls fit
     pub fit_calls : EachCall (IsFitCall ps u) u.body
     fit_calls = each_in_code Good (IsFitCall ps u) (λ line name args g. fit_of ps u name args (called_good line name args g) (g.apart).0) no_runtime_there u.body good
 
+    -- with as many actuals as dummies
     pub counted_calls : EachCall (IsCounted ps) u.body
     counted_calls = each_in_code Good (IsCounted ps) (λ line name args g. counted_of ps u name args (called_good line name args g)) no_runtime_there u.body good
 
+    -- and are of units that are there
     pub called_calls : EachCall (Called ps u) u.body
     called_calls = each_in_code Good (Called ps u) called_good no_runtime_there u.body good
 
+    -- that aren't named like runtime calls
     pub unit_calls : CallsUnits u
     unit_calls = each_in_code Good (λ name args. (es : Terms) → runtime_call name es ≡ None) (λ line name args g es. no_runtime_call name es (called_good line name args g).is_unit) no_runtime_there u.body good
 
+    -- its extents are as they should be
     good_extents : Each (λ d. has_bad_extents u d ≡ false) u.declarations
     good_extents =
         let n1 = none_behind (undeclared u) (declared_twice u ++ (misused source_rules u ++ (bad_extents u ++ (reserved_variables ps u ++ (runtime_calls source_rules u ++ too_many_variables source_rules u))))) names in
@@ -111,6 +119,7 @@ module _ (ps : List Procedure) (u : Procedure) where
         let w1 = none_behind (written_variables (handed_back ps) u) (written_extents (handed_back ps) u ++ (shared_variables (handed_back ps) u ++ written_values (handed_back ps) u)) wrote in
         kept_of (handed_back ps) u (none_front (written_extents (handed_back ps) u) (shared_variables (handed_back ps) u ++ written_values (handed_back ps) u) w1)
 
+    -- so it is known of them what the first step asks
     pub has_extents : (C : Type 0) → HasExtents C ps u
     has_extents C = record {
       own = λ x d h. has_first d u.dummies _ (sym (same_has d u.dummies) ∙ (of_declared u d u.declarations x good_extents h).0);
@@ -125,11 +134,13 @@ record Faultless (ps : List Procedure) (u : Procedure) : Type 0 where
   called : flat_map (λ s. faults_of_call ps u s.0 s.1) (statements u.body) ≡ []
   wrote : faults_of_writes (handed_back ps) u ≡ []
 
+-- of all units
 all_faultless : (ps us : List Procedure) → Each (λ u. faults_of_names source_rules ps u ≡ []) us → Each (λ u. flat_map (λ s. faults_of_call ps u s.0 s.1) (statements u.body) ≡ []) us → Each (λ u. faults_of_writes (handed_back ps) u ≡ []) us → Each (Faultless ps) us
 all_faultless ps [] a b c = tt
 all_faultless ps (u ∷ us) a b c = (record { names = a.0; called = b.0; wrote = c.0 }, all_faultless ps us a.1 b.1 c.1)
 
 module _ (ps : List Procedure) (sound : IsSound source_rules ps) where
+  -- of the program's
   faultless : Each (Faultless ps) ps
   faultless =
       let h = sound_has_none source_rules ps sound in

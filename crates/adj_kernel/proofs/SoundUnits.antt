@@ -75,13 +75,16 @@ record Numbered (taken : List (List ℕ)) (base : List ℕ) (k : ℕ) (x : List 
   from : k ≤ number
   is : x ≡ step_name taken base number
 
+-- a name of two lists of units is one of the first or of the second
 split_names : (x : List ℕ) (ps qs : List Procedure) → has_name x (map unit_name (ps ++ qs)) ≡ true → (has_name x (map unit_name ps) ≡ true) ⊎ (has_name x (map unit_name qs) ≡ true)
 split_names x ps qs h = or_cases (has_name x (map unit_name ps)) (has_name x (map unit_name qs)) (sym (ap (has_name x) (map-append unit_name ps qs) ∙ has-append x (map unit_name ps) (map unit_name qs)) ∙ h)
 
 module _ (taken : List (List ℕ)) (u : Procedure) where
+  -- a name of a step unit of this unit
   abbrev IsNumbered : ℕ → List ℕ → Type 0
   IsNumbered k x = Numbered taken u.name k x
 
+  -- a number from later on is one from earlier on
   later : (j k : ℕ) (x : List ℕ) → j ≤ k → IsNumbered k x → IsNumbered j x
   later j k x le n = record { number = n.number; from = let f = n.from in omega (arith, f, le); is = n.is }
 
@@ -110,9 +113,11 @@ module _ (taken : List (List ℕ)) (u : Procedure) where
   apart_numbers : (ps qs : List Procedure) (j : ℕ) → ((i : ℕ) → j ≤ i → has_name (step_name taken u.name i) (map unit_name ps) ≡ false) → ((x : List ℕ) → has_name x (map unit_name qs) ≡ true → IsNumbered j x) → (x : List ℕ) → has_name x (map unit_name ps) ≡ true → has_name x (map unit_name qs) ≡ true → ⊥
   apart_numbers ps qs j f g x h k = let n = g x k in let z : true ≡ false = sym h ∙ ap (λ y. has_name y (map unit_name ps)) n.is ∙ f n.number n.from in cc
 
+  -- units of two lists that have no name in common
   join_names : (ps qs : List Procedure) → Distinct (map unit_name ps) → Distinct (map unit_name qs) → ((x : List ℕ) → has_name x (map unit_name ps) ≡ true → has_name x (map unit_name qs) ≡ true → ⊥) → Distinct (map unit_name (ps ++ qs))
   join_names ps qs d e f = subst Distinct (sym (map-append unit_name ps qs)) (distinct_join (map unit_name ps) (map unit_name qs) d e f)
 
+  -- a step unit isn't among those in its body
   first_step : (k line : ℕ) (y : Var) (body : Code) → has_name (step_name taken u.name k) (map unit_name (step_units_in taken u (suc k) body)) ≡ false
   first_step k line y body = not_true (has_name (step_name taken u.name k) (map unit_name (step_units_in taken u (suc k) body))) (λ h. let n = numbered (suc k) body (step_name taken u.name k) h in let f = n.from in let z : true ≡ false = sym (name_refl (step_name taken u.name k)) ∙ ap (λ y. name_eq y (step_name taken u.name k)) n.is ∙ later_apart taken u.name k n.number (omega (arith, f)) in cc)
 
@@ -162,6 +167,7 @@ of_source (u ∷ us) taken x h = go (or_cases (name_eq x u.name) (has_name x (ma
             last (inl g) = inl (or_second (name_eq x u.name) (has_name x (map unit_name us)) g)
             last (inr g) = inr (or_false (has_name x taken) (has_name x (step_names taken u.name (marked_in u.body))) (sym (has-append x taken (step_names taken u.name (marked_in u.body))) ∙ g)).0
 
+-- the units of the stepped program have names that are apart
 distinct_stepped : (us : List Procedure) (taken : List (List ℕ)) → Distinct (map unit_name us) → ((x : List ℕ) → has_name x (map unit_name us) ≡ true → has_name x taken ≡ true) → Distinct (map unit_name (stepped_from taken us))
 distinct_stepped [] taken d h = tt
 distinct_stepped (u ∷ us) taken d h = (
@@ -195,10 +201,12 @@ distinct_stepped (u ∷ us) taken d h = (
 
 -- ---- names that are free
 
+-- a unit that isn't named like an intrinsic or a runtime call
 abbrev IsFreeUnit : Procedure → Type 0
 IsFreeUnit u = is_reserved u.name ≡ false
 
 module _ (taken : List (List ℕ)) (u : Procedure) where
+  -- a step unit's name isn't reserved
   step_free : (k : ℕ) → is_reserved (step_name taken u.name k) ≡ false
   step_free k = same_has (step_name taken u.name k) reserved ∙ step_unreserved taken u.name k
 
@@ -213,10 +221,12 @@ module _ (taken : List (List ℕ)) (u : Procedure) where
     free_act k line (call name args) = tt
     free_act k line (runtime r) = tt
 
+    -- those of a list aren't
     free_steps : (k : ℕ) (c : Code) → Each IsFreeUnit (step_units_in taken u k c)
     free_steps k stop = tt
     free_steps k (step line a rest) = each_join IsFreeUnit (step_units_in_act taken u k line a) _ (free_act k line a) (free_steps (k + marked_in_act a) rest)
 
+-- and those of a program
 free_stepped : (us : List Procedure) (taken : List (List ℕ)) → Each IsFreeUnit us → Each IsFreeUnit (stepped_from taken us)
 free_stepped [] taken h = tt
 free_stepped (u ∷ us) taken h = (h.0, each_join IsFreeUnit (step_units_in taken u 0 u.body) _ (free_steps taken u 0 u.body) (free_stepped us (taken ++ step_names taken u.name (marked_in u.body)) h.1))
@@ -228,6 +238,7 @@ lowered_places : (all us : List Procedure) → unit_places (map (lowered_unit al
 lowered_places all [] = refl
 lowered_places all (u ∷ us) = ap (λ z. (u.line, u.name) ∷ z) (lowered_places all us)
 
+-- the names at the places of units
 placed_names : (us : List Procedure) → map (λ (p : At (List ℕ)). p.1) (unit_places us) ≡ map unit_name us
 placed_names [] = refl
 placed_names (u ∷ us) = ap (λ z. u.name ∷ z) (placed_names us)
@@ -237,19 +248,23 @@ each_place : (us : List Procedure) → Each (λ (p : At (List ℕ)). faults_if (
 each_place [] h = tt
 each_place (u ∷ us) h = (none_if (is_reserved u.name) (fault 18 u.line) h.0, each_place us h.1)
 
+-- and the other way
 of_place : (us : List Procedure) → Each IsFreeUnit us → Each (λ (p : At (List ℕ)). faults_if (is_reserved p.1) (fault 18 p.0) ≡ []) (unit_places us)
 of_place [] h = tt
 of_place (u ∷ us) h = (if_none (is_reserved u.name) (fault 18 u.line) h.0, of_place us h.1)
 
 module _ (units : List Procedure) (sound : IsSound source_rules units) where
+  -- units of the program have names that are apart
   pub source_distinct : Distinct (map unit_name units)
   source_distinct = subst Distinct (placed_names units) (distinct_of 19 [] (unit_places units) (none_behind (reserved_units units) (repeated_units units) (sound_has_none source_rules units sound).units))
 
+  -- so have those of the stepped program
   pub stepped_distinct : Distinct (map unit_name (stepped_program units))
   stepped_distinct =
       distinct_stepped units (names_of_source units) source_distinct
       (λ x h. has_first x (map unit_name units) (flat_map names_of units) h)
 
+  -- none of which is reserved
   pub stepped_free : Each IsFreeUnit (stepped_program units)
   stepped_free =
       free_stepped units (names_of_source units)

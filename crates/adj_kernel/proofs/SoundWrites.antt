@@ -93,6 +93,7 @@ one_call line (during c body) h = tt
 one_call line (call name args) h = (h, tt)
 one_call line (runtime r) h = tt
 
+-- of each call of the unit
 distinct_calls : (u : Procedure) → IsKernelCode u.body → Each (λ (c : At Call). AreDistinctNames (c.1).1) (calls u)
 distinct_calls u h =
     flat_each (λ (c : At Call). AreDistinctNames (c.1).1) (λ (s : At Act). map (λ c. (s.0, c)) (call_in s.1)) (statements u.body)
@@ -100,6 +101,7 @@ distinct_calls u h =
 
 -- ---- a unit without faults of writes
 
+-- a unit in kernel form that spares its loops' variables and its extents
 no_write_faults : (handed : Dummies) (u : Procedure) → AreSpared handed u.body → KeepsExtents handed u → IsKernelCode u.body → faults_of_writes handed u ≡ []
 no_write_faults handed u s k f =
     none_both (written_variables handed u) (written_extents handed u ++ (shared_variables handed u ++ written_values handed u)) (of_spared handed u s)
@@ -113,11 +115,9 @@ no_write_faults handed u s k f =
 -- ---- the program
 
 module _ (units : List Procedure) (written : IsWritten units) (sound : IsSound source_rules units) where
+  -- the program is a source
   source : IsSource ℤ units
   source = sound_is_source units written sound ℤ
-
-  abbrev handed : Dummies
-  handed = handed_back units
 
   -- units of the source
   source_spared : EachUnit (λ u. AreSpared (handed_back units) u.body × KeepsExtents (handed_back units) u) units
@@ -134,6 +134,7 @@ module _ (units : List Procedure) (written : IsWritten units) (sound : IsSound s
   abbrev IsSparedThere : Procedure → Type 0
   IsSparedThere v = AreSpared (handed_back (stepped_program units)) v.body × KeepsExtents (handed_back (stepped_program units)) v
 
+  -- all of them spare them
   stepped_spared : EachUnit IsSparedThere (stepped_program units)
   stepped_spared = all_spared units (stepped_program units) (plainly ℤ units source) (counted ℤ units source) (stepped ℤ units source) ℤ units (names_of_source units) source.fit.plains source.counted source.extents source_spared (program_there units)
 

@@ -46,6 +46,7 @@ module _ (handed : Dummies) where
   spares_of (call name args) h = tt
   spares_of (runtime r) h = tt
 
+  -- and the other way
   of_spares : (a : Act) → Spares handed a → writes_of_variable handed a ≡ []
   of_spares (assign x subs e) h = refl
   of_spares (choose c a b) h = refl
@@ -56,9 +57,11 @@ module _ (handed : Dummies) where
   of_spares (call name args) h = refl
   of_spares (runtime r) h = refl
 
+  -- a unit without that fault
   pub spared_of : (u : Procedure) → written_variables handed u ≡ [] → AreSpared handed u.body
   spared_of u h = holding (λ line a. Spares handed a) u.body (each_more (λ (s : At Act). writes_of_variable handed s.1 ≡ []) (λ s. Spares handed s.1) (λ s k. spares_of s.1 k) (statements u.body) (none_each (λ s. writes_of_variable handed s.1) (statements u.body) h))
 
+  -- and the other way
   pub of_spared : (u : Procedure) → AreSpared handed u.body → written_variables handed u ≡ []
   of_spared u h = none_flat (λ (s : At Act). writes_of_variable handed s.1) (statements u.body) (each_more (λ (s : At Act). Spares handed s.1) (λ s. writes_of_variable handed s.1 ≡ []) (λ s k. of_spares s.1 k) (statements u.body) (listed (λ line a. Spares handed a) u.body h))
 
@@ -68,6 +71,7 @@ module _ (handed : Dummies) where
   abbrev pub KeepsExtents : Procedure → Type 0
   KeepsExtents u = (d : List ℕ) → is_dummy u d ≡ true → is_extent d u.declarations ≡ true → writes handed (plain d) u.body ≡ false
 
+  -- a unit without that fault
   pub kept_of : (u : Procedure) → written_extents handed u ≡ [] → KeepsExtents u
   kept_of u h d k e =
       unwritten handed (plain d) u.body
@@ -78,6 +82,7 @@ module _ (handed : Dummies) where
       (λ y q. ap (λ z. is_extent z u.declarations && may_write handed (plain z) s.1) (sym (name_same d y q))))
       (statements u.body) (none_each (λ s. faults_if (list_any (λ d. is_extent d u.declarations && may_write handed (plain d) s.1) u.dummies) (fault 13 s.0)) (statements u.body) h))
 
+  -- and the other way
   pub of_kept : (u : Procedure) → KeepsExtents u → written_extents handed u ≡ []
   of_kept u h =
       none_flat (λ (s : At Act). faults_if (list_any (λ d. is_extent d u.declarations && may_write handed (plain d) s.1) u.dummies) (fault 13 s.0)) (statements u.body)
@@ -125,6 +130,7 @@ module _ (units : List Procedure) (fit : IsFit units) (u : Procedure) where
     known_in (call name args) s i f = tt
     known_in (runtime r) s i f = tt
 
+    -- of a list
     known : (c : Code) → AreSpared (handed_back units) c → CodeInside (is_of u) c → EachCall (IsFitCall units u) c → Holds Known c
     known stop s i f = tt
     known (step line a rest) s i f = ((s.0, (i.0, f.0)), (known_in a s.1.0 i.0 f.0, known rest s.1.1 i.1 f.1))

@@ -48,10 +48,12 @@ each_at : {A : Type 0} (P : A → Type 0) (line : ℕ) (xs : List A) → Each P 
 each_at P line [] h = tt
 each_at P line (x ∷ xs) h = (h.0, each_at P line xs h.1)
 
+-- of declared names
 each_declared : (P : Name → Type 0) (ds : List Declaration) → Each (λ d. P d.name) ds → Each (λ (p : At Name). P p.1) (map (λ d. (d.line, d.name)) ds)
 each_declared P [] h = tt
 each_declared P (d ∷ ds) h = (h.0, each_declared P ds h.1)
 
+-- and of names in statements
 each_standing : (P : Name → Type 0) (line : ℕ) (ns : List Standing) → Each (λ n. P n.name) ns → Each (λ (p : At Name). P p.1) (map (λ n. (line, n.name)) ns)
 each_standing P line [] h = tt
 each_standing P line (n ∷ ns) h = (h.0, each_standing P line ns h.1)
@@ -80,6 +82,7 @@ none_found : (us : List Procedure) (x : Name) → has_name x (map unit_name us) 
 none_found [] x h = refl
 none_found (u ∷ us) x h = let p = or_false (name_eq x u.name) (has_name x (map unit_name us)) h in ap (λ b. is_some (if b then Some u else find_unit us x)) (name_comm x u.name p.0) ∙ none_found us x p.1
 
+-- where runtime calls are taken names stand as they stand
 taken_same : (a : Act) → taken_in true a ≡ in_act a
 taken_same (assign x subs e) = refl
 taken_same (choose c a b) = refl
@@ -93,19 +96,23 @@ pub at_declared : (ds : List Declaration) → map (λ (p : At Name). p.1) (map (
 at_declared [] = refl
 at_declared (d ∷ ds) = ap (λ z. d.name ∷ z) (at_declared ds)
 
+-- by both lists
 pub same_declared : (ds : List Declaration) → kernel.declared_names ds ≡ map (λ (d : Declaration). d.name) ds
 same_declared [] = refl
 same_declared (d ∷ ds) = ap (λ z. d.name ∷ z) (same_declared ds)
 
 module _ (ps : List Procedure) (v : Procedure) (stands : Stands (map unit_name ps) v) where
+  -- no fault at a place
   abbrev IsKnown : At Name → Type 0
   IsKnown p = faults_if (not (is_integer v p.1)) (fault 7 p.0) ≡ []
 
+  -- an integer's place has no fault
   known : (p : At Name) → is_integer v p.1 ≡ true → IsKnown p
   known p h = if_none (not (is_integer v p.1)) (fault 7 p.0) (ap not h)
 
-  declared_known : (ds : List Declaration) (before : List Declaration) → Each (λ d. fresh.has_name d.name (map (λ d. d.name) (ds)) ≡ true) ds
-  declared_known ds before = tell ds (map (λ d. d.name) ds) (λ x h. h)
+  -- declared names are declared
+  declared_known : (ds : List Declaration) → Each (λ d. fresh.has_name d.name (map (λ d. d.name) (ds)) ≡ true) ds
+  declared_known ds = tell ds (map (λ d. d.name) ds) (λ x h. h)
     where
       tell : (es : List Declaration) (all : List Name) → ((x : Name) → fresh.has_name x (map (λ d. d.name) es) ≡ true → fresh.has_name x all ≡ true) → Each (λ d. fresh.has_name d.name all ≡ true) es
       tell [] all f = tt
@@ -119,13 +126,14 @@ module _ (ps : List Procedure) (v : Procedure) (stands : Stands (map unit_name p
       let p = or_false (is_bad_extent v (given x)) (list_any (is_bad_extent v) es) h in
       ((and_true (is_dummy v x) (is_scalar v x) (isn't_not (is_dummy v x && is_scalar v x) p.0)).0, extent_dummies es p.1)
 
+  -- each name is an integer
   no_undeclared : undeclared v ≡ []
   no_undeclared =
       none_flat (λ p. faults_if (not (is_integer v p.1)) (fault 7 p.0)) (places v ++ extent_places v)
       (each_join IsKnown (places v) (extent_places v)
       (each_more (λ (p : At Name). is_integer v p.1 ≡ true) IsKnown known (places v)
       (every_place (λ x. is_integer v x ≡ true) v (each_more (λ d. (is_integer v d ≡ true) × IsFree (map unit_name ps) d) (λ d. is_integer v d ≡ true) (λ d h. h.0) v.dummies stands.dummies)
-      (each_more (λ d. fresh.has_name d.name (map (λ d. d.name) v.declarations) ≡ true) (λ d. is_integer v d.name ≡ true) (λ d h. or_first (fresh.has_name d.name (declared_names v)) (not v.is_none && is_integer_name d.name) h) v.declarations (declared_known v.declarations []))
+      (each_more (λ d. fresh.has_name d.name (map (λ d. d.name) v.declarations) ≡ true) (λ d. is_integer v d.name ≡ true) (λ d h. or_first (fresh.has_name d.name (declared_names v)) (not v.is_none && is_integer_name d.name) h) v.declarations (declared_known v.declarations))
       (statement_names v.body stands.statements)))
       (flat_each IsKnown (λ (d : Declaration). map (λ x. (d.line, x)) (extent_names d.extents)) v.declarations
       (each_more (λ d. has_bad_extents v d ≡ false) (λ (d : Declaration). Each IsKnown (map (λ x. (d.line, x)) (extent_names d.extents)))
@@ -136,11 +144,13 @@ module _ (ps : List Procedure) (v : Procedure) (stands : Stands (map unit_name p
       statement_names : (c : Code) → Holds (λ line a. Each (IsGood (map unit_name ps) v) (in_act a)) c → Holds (λ line a. Each (λ n. is_integer v n.name ≡ true) (in_act a)) c
       statement_names c h = holds_more (λ line a. Each (IsGood (map unit_name ps) v) (in_act a)) (λ line a. Each (λ n. is_integer v n.name ≡ true) (in_act a)) (λ line a k. each_more (IsGood (map unit_name ps) v) (λ n. is_integer v n.name ≡ true) (λ n g. g.0) (in_act a) k) c h
 
+  -- declared once
   no_twice : declared_twice v ≡ []
   no_twice =
       none_both (again 8 [] (dummy_places v)) (again 8 [] (declared_places v)) (once 8 (dummy_places v) (subst Distinct (sym (at_dummies v.line v.dummies)) stands.dummies_once))
       (once 8 (declared_places v) (subst Distinct (sym (at_declared v.declarations)) stands.declared_once))
 
+  -- stands with its rank
   no_misuse : misused run_rules v ≡ []
   no_misuse =
       none_flat (λ s. flat_map (λ n. faults_if (not (has_rank v n)) (fault 9 s.0)) (taken_in true s.1)) (statements v.body)
@@ -148,9 +158,11 @@ module _ (ps : List Procedure) (v : Procedure) (stands : Stands (map unit_name p
       (λ s h. ap (flat_map (λ n. faults_if (not (has_rank v n)) (fault 9 s.0))) (taken_same s.1) ∙ none_flat (λ n. faults_if (not (has_rank v n)) (fault 9 s.0)) (in_act s.1) (each_more (IsGood (map unit_name ps) v) (λ n. faults_if (not (has_rank v n)) (fault 9 s.0) ≡ []) (λ n g. if_none (not (has_rank v n)) (fault 9 s.0) (ap not (g.1.0))) (in_act s.1) h))
       (statements v.body) (listed (λ line a. Each (IsGood (map unit_name ps) v) (in_act a)) v.body stands.statements))
 
+  -- has extents as they should be
   no_bad_extents : bad_extents v ≡ []
   no_bad_extents = none_flat (λ d. faults_if (has_bad_extents v d) (fault 12 d.line)) v.declarations (each_more (λ d. has_bad_extents v d ≡ false) (λ d. faults_if (has_bad_extents v d) (fault 12 d.line) ≡ []) (λ d h. if_none (has_bad_extents v d) (fault 12 d.line) h) v.declarations stands.extents)
 
+  -- and is free
   no_reserved : reserved_variables ps v ≡ []
   no_reserved =
       none_flat (λ p. faults_if (is_reserved p.1 || is_some (find_unit ps p.1)) (fault 18 p.0)) (places v)
@@ -158,6 +170,7 @@ module _ (ps : List Procedure) (v : Procedure) (stands : Stands (map unit_name p
       (every_place (IsFree (map unit_name ps)) v (each_more (λ d. (is_integer v d ≡ true) × IsFree (map unit_name ps) d) (IsFree (map unit_name ps)) (λ d h. h.1) v.dummies stands.dummies) stands.declared
       (holds_more (λ line a. Each (IsGood (map unit_name ps) v) (in_act a)) (λ line a. Each (λ n. IsFree (map unit_name ps) n.name) (in_act a)) (λ line a k. each_more (IsGood (map unit_name ps) v) (λ n. IsFree (map unit_name ps) n.name) (λ n g. g.1.1) (in_act a) k) v.body stands.statements)))
 
+  -- runtime calls are no fault
   no_runtime : (ss : List (At Act)) → flat_map (λ (s : At Act). faults_if (false && calls_runtime s.1) (fault 18 s.0)) ss ≡ []
   no_runtime [] = refl
   no_runtime (s ∷ ss) = no_runtime ss

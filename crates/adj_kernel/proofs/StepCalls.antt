@@ -36,9 +36,11 @@ module _ (u : Procedure) where
   module _ (P : List ℕ → Terms → Type 0) (own_extents : (x : Var) (d : List ℕ) → names_extent d (declared u.declarations x) ≡ true → has_name d (names_of u) ≡ true)
       (flat_extents : (x : Var) (d : List ℕ) → names_extent d (declared u.declarations x) ≡ true → declared u.declarations (plain d) ≡ []) where
     module _ (x : Var) (body : Code) (each : EachCall P body) where
+      -- the names in the loop
       abbrev used : List (List ℕ)
       used = named x ++ names_in_code body
 
+      -- the dummies of its step unit are among names that hold the loop
       pub in_hand : (ns : List (List ℕ)) → is_named ns x ≡ true → CodeInside (is_named ns) body → ExtentsIn ns → (y : List ℕ) → has_name y (step_dummies u x body) ≡ true → has_name y ns ≡ true
       in_hand ns hx h ext y g = go (or_cases (has_name y used) (is_extent_of u.declarations y used) (used_is u.declarations used (variables_of u) y g))
         where
@@ -46,6 +48,7 @@ module _ (u : Procedure) where
           go (inl k) = loop_named y (is_named ns) P x body hx h each k
           go (inr k) = let f = among_extent u.declarations y used k in ext f.of y (loop_named f.of (is_named ns) P x body hx h each f.among) f.is
 
+      -- and hold their own extents
       pub extents_in : ExtentsIn (step_dummies u x body)
       extents_in y d h g = go (or_cases (has_name y used) (is_extent_of u.declarations y used) (used_is u.declarations used (variables_of u) y h))
         where

@@ -50,6 +50,7 @@ module _ (units units' : List Procedure) (plainly : (name : List ℕ) (v : Proce
     call_spares k line (shadow y) body pl p here st s = absurd pl
     call_spares k line (helper r j) body pl p here st s = absurd pl
 
+    -- a statement with its marked loops cut
     spares_head : (k line : ℕ) (a : Act) → PlainAct a → EachCall' (IsCounted units) a → StepsThereAct units' taken u k line a → Spares (handed_back units) a → Spares (handed_back units') (cut_act taken u k line a)
     spares_head k line (assign x subs e) pl p st s = tt
     spares_head k line (choose c a b) pl p st s = tt
@@ -80,9 +81,11 @@ module _ (units units' : List Procedure) (plainly : (name : List ℕ) (v : Proce
     abbrev Keeps : Code → Type 0
     Keeps c = (x : Var) (d : List ℕ) → names_extent d (declared u.declarations x) ≡ true → writes (handed_back units) (plain d) c ≡ false
 
+    -- nor does the statement
     abbrev KeepsAct : Act → Type 0
     KeepsAct a = (x : Var) (d : List ℕ) → names_extent d (declared u.declarations x) ≡ true → act_writes (handed_back units) (plain d) a ≡ false
 
+    -- a step unit is so
     step_spared : (k line : ℕ) (x : Var) (body : Code) → PlainCode body → EachCall (IsCounted units) body → StepsThere units' taken u (suc k) body → AreSpared (handed_back units) body → Keeps body → IsSpared (step_unit taken u k line x body)
     step_spared k line x body pl p st s kept = (
       spared_cut (suc k) body pl p st s,

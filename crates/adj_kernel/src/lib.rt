@@ -11,7 +11,7 @@ ghost use Rattle.adj_kernel.specs.Theorem.{BothShowWords, KernelMeansTheSame, Ke
 ghost use Rattle.adj_kernel.specs.StepMeans.{WholeKernelHasUnits, WholeKernelMeansAlike, WholeKernelHasItsForm, WholeKernelWritesTheSame};
 ghost use Rattle.adj_kernel.specs.WrittenTheorem.{KernelIsWritten, WholeKernelIsWritten};
 ghost use Rattle.adj_kernel.specs.Sound.{AcceptedIsSource, AcceptedMeansAlike, AcceptedHasItsForm, AcceptedIsWritten, AcceptedWritesTheSame, AcceptedCostsItsWeight, VariablesAreThose, KernelUnitsStand, KernelNamesStand, KernelCallsStand, KernelChainsStand, KernelWritesStand, KernelIsSound};
-ghost use Rattle.adj_kernel.specs.Worked.{OneEach, MaximumInMaximum, InOperations, LeftAlone, InPowers, TargetsApart, NamesOfCalls, ElementsOfCalls, ValuesOfCalls, BodiesLowered, LocalsNamed, WorkedExample, StepUnits};
+ghost use Rattle.adj_kernel.specs.Worked.{OneEach, MaximumInMaximum, InOperations, LeftAlone, InPowers, TargetsApart, NamesOfCalls, ElementsOfCalls, ValuesOfCalls, BodiesLowered, LocalsNamed, WorkedExample, StepUnits, StepUnitsAccepted};
 ghost use Rattle.adj_kernel.specs.WeighTheorem.{StatementsWeigh, ListsWeigh, TowersWeigh, NothingToStep, KernelCostsItsWeight, CappedAreWeights};
 
 /// The kernel by all its steps means what the program means, but for the events of the calls of step units; it is in kernel form.
@@ -88,4 +88,5 @@ pub fn worked_kernels()
     ensures locals_named { LocalsNamed }
     ensures worked_example { WorkedExample }
     ensures step_units { StepUnits }
+    ensures step_units_accepted { StepUnitsAccepted }
 {}
