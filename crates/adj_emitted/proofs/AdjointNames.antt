@@ -65,7 +65,7 @@ each_at_places : (P : List ℕ → Type 0) (line : ℕ) (xs : List (List ℕ)) �
 each_at_places P line [] h = tt
 each_at_places P line (x ∷ xs) h = (h.0, each_at_places P line xs h.1)
 
-each_in_flat : {X Y : Type 0} (P : Y → Type 0) (f : X → List Y) (xs : List X) → Each (λ x. Each P (f x)) xs → Each P (flat_map f xs)
+pub each_in_flat : {X Y : Type 0} (P : Y → Type 0) (f : X → List Y) (xs : List X) → Each (λ x. Each P (f x)) xs → Each P (flat_map f xs)
 each_in_flat P f [] h = tt
 each_in_flat P f (x ∷ xs) h = each_append P (f x) (flat_map f xs) h.0 (each_in_flat P f xs h.1)
 

@@ -24,3 +24,4 @@ pub mod Called
 pub mod Actuals
 pub mod CallFaults
 pub mod Lawful
+pub mod ActualFaults

@@ -1,11 +1,13 @@
 -- That what is emitted for a checked program can be written as a text. (docs/THEOREMS.md, "Emitted programs")
-use Rattle.std.specs.Prelude.{◌≡◌, ℕ, List, [], Bool}
+use Rattle.std.specs.Prelude.{◌≡◌, ℕ, List, [], ◌++◌, flat_map, Bool}
 use Rattle.adj_tree.specs.Code.{Procedure}
 use Rattle.adj_text.specs.Written.{IsWritten}
 use Rattle.adj_names.specs.Fault.{Rules, run_rules}
 use Rattle.adj_names.specs.UnitFaults.{unit_faults}
 use Rattle.adj_names.specs.NameFaults.{name_faults}
 use Rattle.adj_names.specs.CallFaults.{call_faults}
+use Rattle.adj_names.specs.WriteFaults.{shared_variables, written_values}
+use Rattle.adj_meaning.specs.LeastSet.{Dummies}
 use Rattle.adj_reverse.specs.Marking.{ProgramMarks, full_marks, ProgramFacts}
 use Rattle.adj_reverse.specs.Program.{emitted_program}
 use Rattle.adj_checked.specs.Checked.{IsChecked, AreLawful}
@@ -42,3 +44,9 @@ abbrev pub CallsHaveNone : Type 0
 CallsHaveNone =
     (rules : Rules) (ps : List Procedure) → IsChecked rules ps → (m : ProgramMarks) → AllHaveShadows m ps ps → (head : ℕ) (vars outvars : List Bool) →
     call_faults (emitted_program m ps head vars outvars) ≡ []
+
+-- no CALL of it hands one variable to two dummies, and nothing but a name for a dummy that is written, whichever dummies those are
+abbrev pub ActualsHaveNone : Type 0
+ActualsHaveNone =
+    (rules : Rules) (ps : List Procedure) → IsChecked rules ps → (m : ProgramMarks) → AllHaveShadows m ps ps → (head : ℕ) (vars outvars : List Bool) (handed : Dummies) →
+    flat_map (λ u. shared_variables handed u ++ written_values handed u) (emitted_program m ps head vars outvars) ≡ []
