@@ -1,4 +1,4 @@
--- That what is emitted for a checked program can be written as a text. (docs/THEOREMS.md, "Emitted programs")
+-- That what is emitted for a checked program can be written as a text, and has no faults. (docs/THEOREMS.md, "Sweeps of every statement")
 use Rattle.std.specs.Prelude.{◌≡◌, ℕ, List, [], ◌++◌, flat_map, Bool}
 use Rattle.adj_tree.specs.Code.{Procedure}
 use Rattle.adj_text.specs.Written.{IsWritten}
