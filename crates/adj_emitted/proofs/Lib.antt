@@ -25,3 +25,4 @@ pub mod Actuals
 pub mod CallFaults
 pub mod Lawful
 pub mod ActualFaults
+pub mod Nesting

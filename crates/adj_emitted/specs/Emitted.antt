@@ -1,6 +1,7 @@
 -- That what is emitted for a checked program can be written as a text, and has no faults. (docs/THEOREMS.md, "Sweeps of every statement")
-use Rattle.std.specs.Prelude.{◌≡◌, ℕ, List, [], ◌++◌, flat_map, Bool}
+use Rattle.std.specs.Prelude.{◌≡◌, ◌≤◌, ℕ, List, [], ◌∷◌, ◌++◌, flat_map, Bool}
 use Rattle.adj_tree.specs.Code.{Procedure}
+use Rattle.adj_tree.specs.Size.{code_depth}
 use Rattle.adj_text.specs.Written.{IsWritten}
 use Rattle.adj_names.specs.Fault.{Rules, run_rules}
 use Rattle.adj_names.specs.UnitFaults.{unit_faults}
@@ -50,3 +51,14 @@ abbrev pub ActualsHaveNone : Type 0
 ActualsHaveNone =
     (rules : Rules) (ps : List Procedure) → IsChecked rules ps → (m : ProgramMarks) → AllHaveShadows m ps ps → (head : ℕ) (vars outvars : List Bool) (handed : Dummies) →
     flat_map (λ u. shared_variables handed u ++ written_values handed u) (emitted_program m ps head vars outvars) ≡ []
+
+-- ---- it keeps limits
+
+-- no statement of these units is nested deeper
+abbrev pub IsNested : ℕ → List Procedure → Type 0
+IsNested n [] = Unit {0}
+IsNested n (u ∷ us) = (code_depth u.body ≤ n) × IsNested n us
+
+-- what is emitted is nested no deeper than the source
+abbrev pub KeepsNesting : Type 0
+KeepsNesting = (n : ℕ) (ps : List Procedure) → IsNested n ps → (m : ProgramMarks) (head : ℕ) (vars outvars : List Bool) → IsNested n (emitted_program m ps head vars outvars)
