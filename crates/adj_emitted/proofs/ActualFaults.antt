@@ -1,7 +1,7 @@
 -- What is emitted hands no variable to a unit twice, and nothing but names.
-use Rattle.std.proofs.Common.{◌≡◌, ℕ, Bool, true, false, List, [], ◌∷◌, ◌++◌, map, refl, sym, ap, ◌∙◌, subst, if◌then◌else◌}
+use Rattle.std.proofs.Common.{◌≡◌, ℕ, Bool, true, false, List, [], ◌∷◌, ◌++◌, map, refl, sym, ap, ◌∙◌, subst}
 use Rattle.std.specs.Prelude.{◌||◌, ◌&&◌, flat_map, Some}
-use Rattle.adj_tree.specs.Code.{Var, plain, name_eq, var_eq, Term, var, Terms, none, more, Runtime, Act, assign, choose, loop, during, call, runtime, Code, stop, step, Procedure}
+use Rattle.adj_tree.specs.Code.{Var, plain, name_eq, var, Terms, more, Act, assign, choose, loop, during, call, runtime, Code, stop, step, Procedure}
 use Rattle.adj_text.specs.Written.{IsName, IsWrittenAct, IsWrittenCode, IsWrittenProcedure}
 use Rattle.adj_meaning.specs.LeastSet.{Dummies}
 use Rattle.adj_meaning.specs.Written.{find_unit}
@@ -9,25 +9,22 @@ use Rattle.adj_meaning.specs.Rename.{rename_terms}
 use Rattle.adj_names.specs.Reserved.{is_runtime}
 use Rattle.adj_names.specs.Statements.{At, inner, statements}
 use Rattle.adj_names.specs.Calls.{Call, call_in, calls}
-use Rattle.adj_names.specs.Fault.{Rules, fault, faults_if}
-use Rattle.adj_names.specs.CallFaults.{variable_rank, array_arguments}
-use Rattle.adj_names.specs.WriteFaults.{clash, clashes, have_clash, shared_variables, hands_back_values, written_values}
+use Rattle.adj_names.specs.Fault.{fault, faults_if}
+use Rattle.adj_names.specs.WriteFaults.{clashes, have_clash, shared_variables, hands_back_values, written_values}
 use Rattle.adj_kernel.specs.Form.{IsKernelAct, IsKernelCode, AreDistinctNames}
 use Rattle.adj_transpose.specs.Fresh.{has_name}
-use Rattle.adj_transpose.specs.Naming.{Named, name_in, naming, AreApart}
+use Rattle.adj_transpose.specs.Naming.{name_in, naming, AreApart}
 use Rattle.adj_transpose.specs.Program.{unit_at}
 use Rattle.adj_transpose.proofs.Variables.{or_false}
 use Rattle.adj_reverse.specs.Plan.{actuals_named}
 use Rattle.adj_reverse.specs.Marking.{ProgramMarks}
-use Rattle.adj_reverse.specs.Program.{has_adjoint, is_carried, all_units, adjoint_unit, emitted_adjoint, emitted_units, emitted_for, emitted_program}
+use Rattle.adj_reverse.specs.Program.{has_adjoint, is_carried, all_units, adjoint_unit, emitted_adjoint, emitted_units, emitted_for}
 use Rattle.adj_reverse.specs.Source.{CallUnits}
-use Rattle.adj_checked.specs.Checked.{IsChecked}
 use Rattle.adj_checked.proofs.Lists.{Each, each_append, each_more, each_both}
 use Rattle.adj_checked.proofs.Texts.{actuals_given, actuals_apart}
 use Rattle.adj_checked.proofs.Callings.{Found}
-use Rattle.adj_emitted.specs.Shadowed.{AllHaveShadows}
 use Rattle.adj_emitted.specs.Emitted.{ActualsHaveNone}
-use Rattle.adj_emitted.proofs.Apart.{VarsApart, names_apart}
+use Rattle.adj_emitted.proofs.Apart.{names_apart}
 use Rattle.adj_emitted.proofs.Called.{IsOwn}
 use Rattle.adj_emitted.proofs.Actuals.{terms_of, Fits}
 use Rattle.adj_emitted.proofs.Sources.{all_named}
@@ -130,10 +127,9 @@ module _ (handed : Dummies) where
         called : (line : ℕ) (other : List ℕ) (args : Terms) → is_runtime other ≡ false → Fits (emitted_units m ps head vars outvars ps) (adjoint_unit m ps (all_units m ps head) u at_turn at_end) (naming (names_for m ps head vars outvars named known sound u)) other args →
             AllClean (adjoint_unit m ps (all_units m ps head) u at_turn at_end) (line, call other (rename_terms (naming (names_for m ps head vars outvars named known sound u)) args))
         called line other args r f =
-            let ns = names_for m ps head vars outvars named known sound u in
-            (
+            let ns = names_for m ps head vars outvars named known sound u in (
               named_clean (adjoint_unit m ps (all_units m ps head) u at_turn at_end) other (rename_terms (naming ns) args) (map (name_in ns) f.variables) (ap (rename_terms (naming ns)) f.are ∙ renamed_names (name_in ns) f.variables)
-              (names_apart (name_in ns) (name_apart m ps head vars outvars named known sound u s at_turn at_end turned ended) f.variables f.apart),
+                  (names_apart (name_in ns) (name_apart m ps head vars outvars named known sound u s at_turn at_end turned ended) f.variables f.apart),
               tt,
             )
 

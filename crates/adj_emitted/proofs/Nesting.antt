@@ -1,19 +1,19 @@
 -- The sweeps of statements are nested no deeper than these.
-use Rattle.std.proofs.Common.{◌≡◌, ℕ, zero, suc, ◌+◌, ◌≤◌, max, Bool, true, false, List, [], ◌∷◌, ◌++◌, refl, sym, ap, ◌∙◌, subst, arith, if◌then◌else◌}
-use Rattle.std.specs.Prelude.{◌&&◌, ◌||◌}
-use Rattle.adj_tree.specs.Code.{Var, plain, shadow, helper, count, plus, minus, times, quot, modulo, greater, lesser, Term, lit, var, elem, neg, bin, pow, power_of, abs, Terms, none, more, Test, push_word, pop_word, zero_array, name_eq, Act, assign, choose, loop, during, call, runtime, Code, stop, step, Procedure}
+use Rattle.std.proofs.Common.{◌≡◌, ℕ, zero, suc, ◌+◌, ◌≤◌, max, Bool, true, false, List, [], ◌∷◌, refl, sym, subst, arith, if◌then◌else◌}
+use Rattle.std.specs.Prelude.{◌&&◌}
+use Rattle.adj_tree.specs.Code.{Var, plain, shadow, helper, count, plus, minus, times, quot, modulo, greater, lesser, Term, lit, var, elem, neg, bin, pow, power_of, abs, Terms, none, Test, push_word, pop_word, zero_array, name_eq, Act, assign, choose, loop, during, call, runtime, Code, stop, step, Procedure}
 use Rattle.adj_tree.specs.Size.{act_depth, code_depth}
 use Rattle.adj_meaning.specs.Append.{◌+++◌, one}
 use Rattle.adj_meaning.specs.Rename.{rename_act, rename}
 use Rattle.adj_transpose.specs.Marks.{Vars, next, behind, active_at}
-use Rattle.adj_transpose.specs.Marked.{code_if, count_of, own_or, own_code, names_in}
+use Rattle.adj_transpose.specs.Marked.{code_if, count_of, own_code, names_in}
 use Rattle.adj_transpose.specs.Naming.{naming}
 use Rattle.adj_transpose.specs.Program.{unmarked, unit_at}
 use Rattle.adj_reverse.specs.AdjointOf.{is_active_where, has_own_where, temps_in_where, shrunk_where, temps_where, back_where, adjoint_where}
 use Rattle.adj_reverse.specs.Plan.{Plan, is_emitted, names_of, save_group, snapshot_group}
 use Rattle.adj_reverse.specs.Emission.{is_empty, push, pop, pushes, pops, literal, adjoint_call, told_forward, told_backward, loop_forward, loop_backward, while_forward, while_backward, reset, forward_act, forward, backward_act, backward, cleared, adjoint_body}
 use Rattle.adj_reverse.specs.Marking.{ProgramMarks, first_statement, plan_in}
-use Rattle.adj_reverse.specs.Program.{has_adjoint, is_carried, all_units, adjoint_names, adjoint_unit, emitted_adjoint, emitted_units, emitted_for, emitted_program}
+use Rattle.adj_reverse.specs.Program.{has_adjoint, is_carried, all_units, adjoint_names, adjoint_unit, emitted_adjoint, emitted_units, emitted_for}
 use Rattle.adj_checked.proofs.Lists.{Each, each_more}
 use Rattle.adj_emitted.specs.Emitted.{IsNested, KeepsNesting}
 use Rattle.adj_emitted.proofs.UnitFaults.{each_emitted}
@@ -163,10 +163,10 @@ module _ (p : Plan) where
         let inside = list_below (suc i) (suc d) body in
         let idle = is_empty (backward p (suc i) (suc d) body) in (
           below_if (code_depth body + 1) (is_emitted p.marks i) _
-          (below_append (code_depth body + 1) (code_if (p.marks.saved i (plain x)) (one line (runtime (push_word (plain x) none)))) _ (below_if (code_depth body + 1) (p.marks.saved i (plain x)) (one line (runtime (push_word (plain x) none))) (omega arith)) (loop_forward_below (code_depth body) idle (suc d) line (plain x) a b c (forward p (suc i) (suc d) body) inside.0)),
+              (below_append (code_depth body + 1) (code_if (p.marks.saved i (plain x)) (one line (runtime (push_word (plain x) none)))) _ (below_if (code_depth body + 1) (p.marks.saved i (plain x)) (one line (runtime (push_word (plain x) none))) (omega arith)) (loop_forward_below (code_depth body) idle (suc d) line (plain x) a b c (forward p (suc i) (suc d) body) inside.0)),
           below_if (code_depth body + 1) (is_emitted p.marks i) _
-          (below_append (code_depth body + 1) (loop_backward idle (suc d) line (plain x) (backward p (suc i) (suc d) body)) _ (loop_backward_below (code_depth body) idle (suc d) line (plain x) (backward p (suc i) (suc d) body) inside.1)
-          (below_append (code_depth body + 1) (code_if (p.marks.saved i (plain x)) (one line (runtime (pop_word (plain x) none)))) _ (below_if (code_depth body + 1) (p.marks.saved i (plain x)) (one line (runtime (pop_word (plain x) none))) (omega arith)) (flat_reset (code_depth body + 1) i line x))),
+              (below_append (code_depth body + 1) (loop_backward idle (suc d) line (plain x) (backward p (suc i) (suc d) body)) _ (loop_backward_below (code_depth body) idle (suc d) line (plain x) (backward p (suc i) (suc d) body) inside.1)
+              (below_append (code_depth body + 1) (code_if (p.marks.saved i (plain x)) (one line (runtime (pop_word (plain x) none)))) _ (below_if (code_depth body + 1) (p.marks.saved i (plain x)) (one line (runtime (pop_word (plain x) none))) (omega arith)) (flat_reset (code_depth body + 1) i line x))),
         )
     act_below i d line (loop (shadow x) a b c body m) = (omega arith, omega arith)
     act_below i d line (loop (helper r k) a b c body m) = (omega arith, omega arith)
@@ -179,10 +179,10 @@ module _ (p : Plan) where
     act_below i d line (call name args) =
         let g = p.callees name in (
           below_if 0 (is_emitted p.marks i) _
-          (below_append 0 (pushes p line (save_group p.marks i g (names_of args))) _ (flat_pushes 0 line (save_group p.marks i g (names_of args)))
-          (below_append 0 (code_if (p.marks.adjointed i) _) _ (below_if 0 (p.marks.adjointed i) _ (flat_pushes 0 line (snapshot_group g (names_of args)))) (below_if 0 (p.marks.kept i) (one line (call name args)) (omega arith)))),
+              (below_append 0 (pushes p line (save_group p.marks i g (names_of args))) _ (flat_pushes 0 line (save_group p.marks i g (names_of args)))
+              (below_append 0 (code_if (p.marks.adjointed i) _) _ (below_if 0 (p.marks.adjointed i) _ (flat_pushes 0 line (snapshot_group g (names_of args)))) (below_if 0 (p.marks.kept i) (one line (call name args)) (omega arith)))),
           below_if 0 (is_emitted p.marks i) _
-          (below_append 0 (code_if (p.marks.adjointed i) _) _ (below_if 0 (p.marks.adjointed i) _ (below_append 0 (pops p line (snapshot_group g (names_of args))) (one line (adjoint_call g (names_of args))) (flat_pops 0 line (snapshot_group g (names_of args))) (omega arith))) (flat_pops 0 line (save_group p.marks i g (names_of args)))),
+              (below_append 0 (code_if (p.marks.adjointed i) _) _ (below_if 0 (p.marks.adjointed i) _ (below_append 0 (pops p line (snapshot_group g (names_of args))) (one line (adjoint_call g (names_of args))) (flat_pops 0 line (snapshot_group g (names_of args))) (omega arith))) (flat_pops 0 line (save_group p.marks i g (names_of args)))),
         )
     act_below i d line (runtime r) = (omega arith, omega arith)
 
