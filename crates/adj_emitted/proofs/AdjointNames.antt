@@ -179,9 +179,6 @@ module _ (m : ProgramMarks) (ps : List Procedure) (units : List (List ℕ)) (u :
   shadow_in : (x : List ℕ) → has_name x (variables u) ≡ true → a (plain x) ≡ true → among (shadow x) W ≡ true
   shadow_in x h marked = among-append (shadow x) (interleaved a (variables u)) hs ∙ or_left (among (shadow x) (interleaved a (variables u))) (among (shadow x) hs) (shadow_there a x (variables u) ∙ in_set a x (variables u) h marked)
 
-  helper_in : (v : Var) → among v hs ≡ true → among v W ≡ true
-  helper_in v h = among-append v (interleaved a (variables u)) hs ∙ or_right (among v (interleaved a (variables u))) (among v hs) h
-
   -- ---- its dummies
 
   dummy_list : (xs : List (List ℕ)) → ((x : List ℕ) → has_name x xs ≡ true → name (plain x) ≡ x) → shadows_behind a ns xs ≡ map name (interleaved a xs)
