@@ -15,3 +15,4 @@ pub mod MadeNames
 pub mod Source
 pub mod Sources
 pub mod UnitFaults
+pub mod Nesting

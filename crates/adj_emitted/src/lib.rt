@@ -4,9 +4,14 @@
 //! the head. It stands on the theorem on both sweeps and on the names of programs.
 #![tactic(auto)]
 
-ghost use Rattle.adj_emitted.specs.Emitted.{UnitsHaveNone};
+ghost use Rattle.adj_emitted.specs.Emitted.{UnitsHaveNone, KeepsNesting};
 
 /// It has no faults of units, by any marks: their names are apart, and none is reserved.
 pub fn units_law()
     ensures { UnitsHaveNone }
+{}
+
+/// It is nested no deeper than the source.
+pub fn nesting_law()
+    ensures { KeepsNesting }
 {}
