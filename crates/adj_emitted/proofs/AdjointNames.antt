@@ -65,7 +65,7 @@ each_at_places : (P : List ℕ → Type 0) (line : ℕ) (xs : List (List ℕ)) �
 each_at_places P line [] h = tt
 each_at_places P line (x ∷ xs) h = (h.0, each_at_places P line xs h.1)
 
-each_in_flat : {X Y : Type 0} (P : Y → Type 0) (f : X → List Y) (xs : List X) → Each (λ x. Each P (f x)) xs → Each P (flat_map f xs)
+pub each_in_flat : {X Y : Type 0} (P : Y → Type 0) (f : X → List Y) (xs : List X) → Each (λ x. Each P (f x)) xs → Each P (flat_map f xs)
 each_in_flat P f [] h = tt
 each_in_flat P f (x ∷ xs) h = each_append P (f x) (flat_map f xs) h.0 (each_in_flat P f xs h.1)
 
@@ -178,9 +178,6 @@ module _ (m : ProgramMarks) (ps : List Procedure) (units : List (List ℕ)) (u :
 
   shadow_in : (x : List ℕ) → has_name x (variables u) ≡ true → a (plain x) ≡ true → among (shadow x) W ≡ true
   shadow_in x h marked = among-append (shadow x) (interleaved a (variables u)) hs ∙ or_left (among (shadow x) (interleaved a (variables u))) (among (shadow x) hs) (shadow_there a x (variables u) ∙ in_set a x (variables u) h marked)
-
-  helper_in : (v : Var) → among v hs ≡ true → among v W ≡ true
-  helper_in v h = among-append v (interleaved a (variables u)) hs ∙ or_right (among v (interleaved a (variables u))) (among v hs) h
 
   -- ---- its dummies
 

@@ -1,7 +1,7 @@
 -- What is emitted has no faults of calls.
 use Rattle.std.proofs.Common.{◌≡◌, ℕ, suc, Bool, true, false, List, [], ◌∷◌, map, refl, sym, ap, ◌∙◌, subst, if◌then◌else◌}
 use Rattle.std.specs.Prelude.{◌==◌, not, flat_map, Some}
-use Rattle.adj_tree.specs.Code.{plain, shadow, name_eq, Terms, Runtime, Act, assign, choose, loop, during, call, runtime, Code, stop, step, Procedure}
+use Rattle.adj_tree.specs.Code.{Var, var_eq, plain, shadow, name_eq, Terms, Runtime, Act, assign, choose, loop, during, call, runtime, Code, stop, step, Procedure}
 use Rattle.adj_tree.proofs.Names.{name_refl}
 use Rattle.adj_text.specs.Written.{IsName, IsWrittenAct, IsWrittenCode, IsWrittenProcedure}
 use Rattle.adj_meaning.specs.Written.{find_unit}
@@ -55,14 +55,14 @@ shadows_each m ps [] h = tt
 shadows_each m ps (u ∷ us) h = (h.0, shadows_each m ps us h.1)
 
 -- what is asked of a unit
-abbrev IsSound : ProgramMarks → List Procedure → Procedure → Type 0
+abbrev pub IsSound : ProgramMarks → List Procedure → Procedure → Type 0
 IsSound m ps u = (UnitSound ps u × NamesSound ps u) × HasShadows (plan_in m ps u) (first_statement ps u.name) u.body
 
 module _ (m : ProgramMarks) (ps : List Procedure) (head : Procedure) (vars outvars : List Bool) (named : Each (λ u. IsName u.name) ps) (known : CallUnits ps ps) (sound : Each (IsSound m ps) ps) where
   abbrev qs : List Procedure
   qs = emitted_units m ps head vars outvars ps
 
-  abbrev names_for : Procedure → List Named
+  abbrev pub names_for : Procedure → List Named
   names_for w = adjoint_names m ps (all_units m ps head) w
 
   -- the dummies of an adjoint, and their ranks
@@ -72,7 +72,7 @@ module _ (m : ProgramMarks) (ps : List Procedure) (head : Procedure) (vars outva
     shadows : (d : List ℕ) → m.shadowed w.name (plain d) ≡ true → rank adj (name_in (names_for w) (shadow d)) ≡ rank w d
 
   -- the parts of an adjoint that the sweeps of a unit clear
-  abbrev Cleared : Procedure → List (List ℕ) → Type 0
+  abbrev pub Cleared : Procedure → List (List ℕ) → Type 0
   Cleared w xs = Each (λ x. (has_name x (variables w) ≡ true) × (m.shadowed w.name (plain x) ≡ true)) xs
 
   module _ (u : Procedure) (s : IsSound m ps u) (at_turn at_end : List (List ℕ)) (turned : Cleared u at_turn) (ended : Cleared u at_end) where
@@ -91,6 +91,9 @@ module _ (m : ProgramMarks) (ps : List Procedure) (head : Procedure) (vars outva
     keeps : (x : List ℕ) → has_name x (variables u) ≡ true → name_in ns (plain x) ≡ x
     keeps x h = names.keeps m ps (all_units m ps head) u s.0.0.written s.0.0.kernel s.0.0.free s.0.0.calls (follows m ps named u (first_statement ps u.name) u.body s.0.0.calls s.1) s.0.1.dummies_once s.0.1.extent_dummy s.0.1.extents s.0.1.stands at_turn at_end turned ended x h
 
+    pub name_apart : (v w : Var) → name_eq (name_in ns v) (name_in ns w) ≡ var_eq v w
+    name_apart v w = names.apart m ps (all_units m ps head) u s.0.0.written s.0.0.kernel s.0.0.free s.0.0.calls (follows m ps named u (first_statement ps u.name) u.body s.0.0.calls s.1) s.0.1.dummies_once s.0.1.extent_dummy s.0.1.extents s.0.1.stands at_turn at_end turned ended v w
+
     unit_ranks : RanksOf u unit
     unit_ranks = record {
       dummies = refl;
@@ -99,7 +102,7 @@ module _ (m : ProgramMarks) (ps : List Procedure) (head : Procedure) (vars outva
     }
 
   -- the adjoint that is emitted, whether it clears shadows or not
-  emitted_has : (P : Procedure → Procedure → Type 0) → ((u : Procedure) (s : IsSound m ps u) (at_turn at_end : List (List ℕ)) → Cleared u at_turn → Cleared u at_end → P u (adjoint_unit m ps (all_units m ps head) u at_turn at_end)) → (u : Procedure) → IsSound m ps u → P u (emitted_adjoint m ps head vars outvars u)
+  pub emitted_has : (P : Procedure → Procedure → Type 0) → ((u : Procedure) (s : IsSound m ps u) (at_turn at_end : List (List ℕ)) → Cleared u at_turn → Cleared u at_end → P u (adjoint_unit m ps (all_units m ps head) u at_turn at_end)) → (u : Procedure) → IsSound m ps u → P u (emitted_adjoint m ps head vars outvars u)
   emitted_has P f u s = go (name_eq head.name u.name)
     where
       go : (b : Bool) → P u (if b then adjoint_unit m ps (all_units m ps head) u (names_in (m.shadowed u.name) (unmarked u.dummies outvars)) (names_in (m.shadowed u.name) (unmarked u.dummies vars)) else adjoint_unit m ps (all_units m ps head) u [] [])

@@ -1,22 +1,19 @@
 -- Marks of facts that meet the laws have the shadows that they use.
-use Rattle.std.proofs.Common.{◌≡◌, ℕ, suc, Bool, true, false, List, [], ◌∷◌, map, refl, sym, ap, ◌∙◌, subst, if◌then◌else◌}
-use Rattle.std.specs.Prelude.{◌&&◌, Option, Some, None}
-use Rattle.adj_tree.specs.Code.{Var, plain, name_eq, Terms, Act, assign, choose, loop, during, call, runtime, Code, stop, step, Procedure}
+use Rattle.std.proofs.Common.{◌≡◌, ℕ, suc, List, [], ◌∷◌, refl, sym, ap, ◌∙◌, subst, if◌then◌else◌}
+use Rattle.std.specs.Prelude.{Option, Some, None}
+use Rattle.adj_tree.specs.Code.{plain, Act, assign, choose, loop, during, call, runtime, Code, stop, step, Procedure}
 use Rattle.adj_tree.proofs.Names.{name_refl}
 use Rattle.adj_meaning.specs.Written.{find_unit}
-use Rattle.adj_transpose.specs.Facts.{In, is_adjointed}
-use Rattle.adj_transpose.specs.Fresh.{has_name}
+use Rattle.adj_transpose.specs.Facts.{In}
 use Rattle.adj_transpose.specs.Naming.{AreApart}
 use Rattle.adj_transpose.specs.Marks.{Vars, next, behind, point_before, point_after}
 use Rattle.adj_transpose.proofs.Variables.{and_true, has_apart}
-use Rattle.adj_reverse.specs.Plan.{beside, IsActual, names_of, actuals_named}
+use Rattle.adj_reverse.specs.Plan.{beside, IsActual, names_of}
 use Rattle.adj_reverse.specs.Laws.{point_inside, ActLaws, ListLaws}
 use Rattle.adj_reverse.specs.Marking.{ProgramFacts, callee_facts, callee_in, callee_of, facts_in, first_statement, entry_point, plan_in}
 use Rattle.adj_reverse.proofs.Passing.{beside_key}
-use Rattle.adj_checked.specs.Checked.{IsChecked, AreLawful}
-use Rattle.adj_checked.proofs.Lists.{Each, each_more, each_both, each_found}
+use Rattle.adj_checked.proofs.Lists.{Each, each_found}
 use Rattle.adj_checked.proofs.Callings.{Found}
-use Rattle.adj_names.specs.Fault.{Rules}
 use Rattle.adj_emitted.specs.Shadowed.{AreCarried, HasShadows', HasShadows, AllHaveShadows}
 use Rattle.adj_emitted.specs.Emitted.{LawfulHaveShadows}
 use Rattle.adj_emitted.proofs.Actuals.{named_back}

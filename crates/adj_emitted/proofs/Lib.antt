@@ -24,3 +24,5 @@ pub mod Called
 pub mod Actuals
 pub mod CallFaults
 pub mod Lawful
+pub mod ActualFaults
+pub mod Nesting

@@ -8,10 +8,6 @@ use Rattle.adj_names.specs.Standing.{count_of}
 use Rattle.adj_names.specs.Reserved.{is_runtime}
 use Rattle.adj_transpose.specs.Marked.{code_if}
 
--- how a variable stands: with so many subscripts, none for a scalar; or whole
-abbrev pub Stand : Type 1
-Stand = Var → Option ℕ → Type 0
-
 module _ (Q : Var → Option ℕ → Type 0) (A : Var → Type 0) where
   abbrev mutual
     pub OverTerm : Term → Type 0
@@ -72,15 +68,6 @@ module _ (Q : Var → Option ℕ → Type 0) (A : Var → Type 0) where
   OverMark unmarked = Unit {0}
   OverMark (with_count n) = (0 < n) × (n ≤ 64)
   OverMark (count_from x) = Q x (Some 0)
-
-  -- the subscripts of a place, and a place by its parts
-  pub place_terms : (x : Var) (s : Terms) → OverPlace x s → OverTerms s
-  place_terms x none h = tt
-  place_terms x (more e es) h = h.1.1
-
-  pub place_stands : (x : Var) (s : Terms) → OverPlace x s → Q x (Some (count_of s))
-  place_stands x none h = h
-  place_stands x (more e es) h = h.0
 
   -- another variable at the same place
   pub place_other : (x y : Var) (s : Terms) → (Q x (Some (count_of s)) → Q y (Some (count_of s))) → OverPlace x s → OverPlace y s

@@ -5,7 +5,7 @@
 //! the text that is written for an adjoint reads as that adjoint.
 #![tactic(auto)]
 
-ghost use Rattle.adj_emitted.specs.Emitted.{MarkedIsWritten, EmittedIsWritten, LawfulHaveShadows, UnitsHaveNone, NamesHaveNone, CallsHaveNone};
+ghost use Rattle.adj_emitted.specs.Emitted.{MarkedIsWritten, EmittedIsWritten, LawfulHaveShadows, UnitsHaveNone, NamesHaveNone, CallsHaveNone, ActualsHaveNone, KeepsNesting};
 
 /// What is emitted can be written as a text, by any marks whose shadows are there, and so by full marks.
 pub fn written_law()
@@ -31,4 +31,14 @@ pub fn names_law()
 /// It has no faults of calls: each is of a unit that is there, and its actuals fit.
 pub fn calls_law()
     ensures { CallsHaveNone }
+{}
+
+/// It has no faults of actuals: no variable is handed to a unit twice, and what a unit hands back has a name.
+pub fn actuals_law()
+    ensures { ActualsHaveNone }
+{}
+
+/// It is nested no deeper than the source.
+pub fn nesting_law()
+    ensures { KeepsNesting }
 {}
