@@ -7,3 +7,4 @@ pub mod Calls
 pub mod Meets
 pub mod Checked
 pub mod Adjoint
+pub mod Worked

@@ -1,2 +1,3 @@
 -- What the contracts of this crate say of the marks of exact analyses.
 pub mod Meets
+pub mod Worked

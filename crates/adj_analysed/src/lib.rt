@@ -6,6 +6,7 @@
 #![tactic(auto)]
 
 ghost use Rattle.adj_analysed.specs.Meets.{AnalysedMeets, AnalysedIsAdjoint};
+ghost use Rattle.adj_analysed.specs.Worked.{CallingIsAdjoint};
 
 /// What exact analyses say of a program in kernel form whose loops aren't marked meets the laws of each unit that takes part.
 pub fn meets_law()
@@ -15,4 +16,9 @@ pub fn meets_law()
 /// What is emitted by their marks for a checked program in kernel form is its adjoint, where all units take part and no loop is marked.
 pub fn analysed_law()
     ensures { AnalysedIsAdjoint }
+{}
+
+/// All that this asks can be met: by a program with a checkpointed call.
+pub fn premises_met()
+    ensures { CallingIsAdjoint }
 {}
