@@ -10,6 +10,7 @@ mod frame;
 mod laws;
 mod machine;
 mod numbering;
+mod prepare;
 mod slot;
 mod step;
 mod stop;
