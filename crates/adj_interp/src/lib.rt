@@ -16,6 +16,8 @@ mod step;
 mod stop;
 mod tally;
 mod term;
+#[cfg(test)]
+mod tests;
 mod trips;
 
 pub use frame::Frame;
