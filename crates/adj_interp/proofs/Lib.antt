@@ -2,4 +2,5 @@ pub mod Reading
 pub mod Showing
 pub mod Setting
 pub mod Numberings
+pub mod Resolving
 pub mod Driving

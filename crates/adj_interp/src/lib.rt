@@ -10,11 +10,14 @@ mod frame;
 mod laws;
 mod machine;
 mod numbering;
+mod prepare;
 mod slot;
 mod step;
 mod stop;
 mod tally;
 mod term;
+#[cfg(test)]
+mod tests;
 mod trips;
 
 pub use frame::Frame;
