@@ -68,7 +68,7 @@ first_none : (xs ys : List Refusal) → or_else xs ys ≡ [] → xs ≡ []
 first_none [] ys h = refl
 first_none (x ∷ xs) ys h = absurd cc
 
-calls_known : (ps us : List Procedure) → Each (λ u. Each (CallHasNone ps u) (statements u.body)) us → CallUnits ps us
+pub calls_known : (ps us : List Procedure) → Each (λ u. Each (CallHasNone ps u) (statements u.body)) us → CallUnits ps us
 calls_known ps [] h = tt
 calls_known ps (u ∷ us) h = (calls_inside ps u u.body h.0, calls_known ps us h.1)
 
@@ -79,7 +79,7 @@ module _ (rules : Rules) (ps : List Procedure) (checked : IsChecked rules ps) wh
   pub units_apart : AreApart (map unit_name ps)
   units_apart = subst AreApart (unit_names ps) (apart_places 19 [] (unit_places ps) (none_behind (reserved_units ps) (repeated_units ps) none.units))
 
-  found : Each (Found ps) ps
+  pub found : Each (Found ps) ps
   found = all_found ps units_apart
 
   pub all_calls : Each (λ u. Each (CallHasNone ps u) (statements u.body)) ps
