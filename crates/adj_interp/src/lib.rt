@@ -8,10 +8,21 @@
 mod arithmetic;
 mod frame;
 mod laws;
+mod machine;
+mod numbering;
 mod slot;
+mod step;
+mod stop;
+mod tally;
 mod term;
+mod trips;
 
 pub use frame::Frame;
 pub use laws::shown_is_seen;
+pub use machine::Machine;
+pub use numbering::Numbering;
 pub use slot::Slot;
+pub use step::{Bounds, Cell, Marking, Service, Step, Steps, Task};
+pub use stop::Stop;
+pub use tally::{Reversal, Tally};
 pub use term::{Term, Terms, Test};

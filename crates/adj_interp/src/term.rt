@@ -1,6 +1,12 @@
 //! Prepared expressions and conditions: variables are the numbers that their unit gives them.
 
+ghost use Rattle.std.specs.Prelude.{◌≡◌, List, ℕ};
+ghost use Rattle.adj_tree.specs.Code.{none};
+ghost use Rattle.adj_tree.specs.Listed.{terms_turned};
+ghost use Rattle.adj_interp.specs.Prepared.{terms_in, AreTermsBelow};
+
 use adj_tree::{Op, Rel};
+use std::mem;
 
 /// An expression.
 #[cycle(term)]
@@ -24,6 +30,25 @@ pub enum Term {
 pub enum Terms {
     Empty,
     More(Box<Term>, Box<Terms>),
+}
+
+impl Terms {
+    /// Its members in the other order.
+    pub(crate) fn turned(mut self) -> Terms
+        ensures turned { (names : List (List ℕ)) → terms_in names result ≡ terms_turned (terms_in names self) none }
+        ensures below { (count : ℕ) → AreTermsBelow count self → AreTermsBelow count result }
+    {
+        let mut made = Terms::Empty;
+        loop {
+            match self {
+                Terms::Empty => return made,
+                Terms::More(first, mut rest) => {
+                    self = mem::replace(&mut *rest, made);
+                    made = Terms::More(first, rest);
+                }
+            }
+        }
+    }
 }
 
 impl Drop for Terms {

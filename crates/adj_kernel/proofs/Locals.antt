@@ -24,20 +24,20 @@ pub has_second : (x : List ℕ) (xs ys : List (List ℕ)) → has_name x ys ≡ 
 has_second x xs ys h = has-append x xs ys ∙ or_second (has_name x xs) (has_name x ys) h
 
 -- a name that isn't in a list isn't in its parts
-not_first : (x : List ℕ) (xs ys : List (List ℕ)) → has_name x (xs ++ ys) ≡ false → has_name x xs ≡ false
+pub not_first : (x : List ℕ) (xs ys : List (List ℕ)) → has_name x (xs ++ ys) ≡ false → has_name x xs ≡ false
 not_first x xs ys h = (or_false (has_name x xs) (has_name x ys) (sym (has-append x xs ys) ∙ h)).0
 
-not_second : (x : List ℕ) (xs ys : List (List ℕ)) → has_name x (xs ++ ys) ≡ false → has_name x ys ≡ false
+pub not_second : (x : List ℕ) (xs ys : List (List ℕ)) → has_name x (xs ++ ys) ≡ false → has_name x ys ≡ false
 not_second x xs ys h = (or_false (has_name x xs) (has_name x ys) (sym (has-append x xs ys) ∙ h)).1
 
 -- ---- locals
 
 module _ (taken : List (List ℕ)) where
-  abbrev name_at : ℕ → List ℕ
+  abbrev pub name_at : ℕ → List ℕ
   name_at k = fresh (wanted_local k) (taken ++ local_names taken k)
 
   -- an earlier local is among the names before a later one
-  earlier_there : (i j : ℕ) → i < j → has_name (name_at i) (local_names taken j) ≡ true
+  pub earlier_there : (i j : ℕ) → i < j → has_name (name_at i) (local_names taken j) ≡ true
   earlier_there i zero h = absurd (omega arith)
   earlier_there i (suc j) h = go (λ l. earlier_there i j l) (cases_lt i j)
     where
@@ -45,7 +45,7 @@ module _ (taken : List (List ℕ)) where
       go ih (inl l) = has_first (name_at i) (local_names taken j) (name_at j ∷ []) (ih l)
       go ih (inr l) = let e : i ≡ j = omega (arith, l, h) in has_second (name_at i) (local_names taken j) (name_at j ∷ []) (or_first (name_eq (name_at i) (name_at j)) false (ap (λ z. name_eq (name_at i) (name_at z)) (sym e) ∙ name_refl (name_at i)))
 
-  later_apart : (i j : ℕ) → i < j → name_eq (name_at j) (name_at i) ≡ false
+  pub later_apart : (i j : ℕ) → i < j → name_eq (name_at j) (name_at i) ≡ false
   later_apart i j h =
       not_true (name_eq (name_at j) (name_at i)) (λ e.
       let free = not_second (name_at j) taken (local_names taken j) (fresh-is_free (wanted_local j) (taken ++ local_names taken j)) in

@@ -1,8 +1,7 @@
 -- The stepped program fits where the source fits, and the bodies of its marked loops are one CALL of distinct names.
-use Rattle.std.proofs.Common.{◌≡◌, ℕ, suc, ◌+◌, ◌⊎◌, inl, inr, Bool, true, false, List, [], ◌∷◌, ◌++◌, refl, sym, ap, ◌∙◌, subst}
-use Rattle.std.proofs.lemmas.Bool.{or_cases}
+use Rattle.std.proofs.Common.{◌≡◌, ℕ, suc, ◌+◌, Bool, true, false, List, [], ◌∷◌, ◌++◌, refl, sym, ap, ◌∙◌, subst}
 use Rattle.std.specs.Prelude.{◌||◌, ◌&&◌, ◌==◌, length, Some, if◌then◌else◌}
-use Rattle.adj_tree.specs.Code.{Var, plain, shadow, helper, name_eq, Term, lit, var, elem, neg, bin, pow, power_of, abs, Terms, none, more, unmarked, with_count, count_from, Act, assign, choose, loop, during, call, runtime, Code, stop, step, Declaration, Procedure}
+use Rattle.adj_tree.specs.Code.{Var, plain, name_eq, Term, lit, var, elem, neg, bin, pow, power_of, abs, Terms, none, more, unmarked, with_count, count_from, Act, assign, choose, loop, during, call, runtime, Code, stop, step, Declaration, Procedure}
 use Rattle.adj_tree.proofs.Names.{name_refl, name_same}
 use Rattle.adj_meaning.specs.Read.{reads_term, reads_terms}
 use Rattle.adj_meaning.specs.Written.{find_unit, is_handed_back, handed_back}
@@ -15,16 +14,17 @@ use Rattle.adj_kernel.specs.Apart.{TermsInside, ActInside, CodeInside, EachCall'
 use Rattle.adj_kernel.specs.Calls.{is_name_of, stands_whole, AreHandedApart, is_scalar, ArraysStandOnce, ScalarsToScalars}
 use Rattle.adj_kernel.specs.Kernel.{named, names_in_code, names_of, is_named, is_of, PlainTerms, PlainAct, PlainCode, EachUnit, IsFitCall}
 use Rattle.adj_kernel.specs.Form.{AreDistinctNames, IsSteppedAct, IsStepped}
-use Rattle.adj_kernel.specs.Stepped.{marked_in, marked_in_act, once_each, variables_of, names_extent, is_extent_of, used_among, step_dummies, as_actuals, step_declarations, step_name, cut_act, cut, step_unit, step_units_in_act, step_units_in, stepped_unit}
+use Rattle.adj_kernel.specs.Stepped.{marked_in, marked_in_act, once_each, variables_of, names_extent, used_among, step_dummies, as_actuals, step_declarations, step_name, cut_act, cut, step_unit, step_units_in_act, step_units_in, stepped_unit}
 use Rattle.adj_kernel.specs.StepTheorem.{StepsThereAct, StepsThere, IsStepFor}
+use Rattle.adj_kernel.proofs.Faultless.{join_units, and_none}
 use Rattle.adj_kernel.proofs.Locals.{own_body}
-use Rattle.adj_kernel.proofs.StepNames.{loop_named, listed_once, is_used, used_has, used_is, extent_among, among_extent, declared_step}
-use Rattle.adj_kernel.proofs.StepUnits.{step_body_inside}
+use Rattle.adj_kernel.proofs.StepNames.{is_used, declared_step}
+use Rattle.adj_kernel.proofs.StepCalls.{Declares, declares_read, calls_step, calls_own}
 
 -- ---- distinct names
 
 -- no name stands twice
-abbrev Distinct : List (List ℕ) → Type 0
+abbrev pub Distinct : List (List ℕ) → Type 0
 Distinct [] = Unit {0}
 Distinct (x ∷ xs) = (has_name x xs ≡ false) × Distinct xs
 
@@ -68,7 +68,7 @@ used_distinct ds names (v ∷ vs) h = go (is_used ds names v) (used_distinct ds 
     go false ih = ih
 
 -- the dummies of a step unit are distinct
-dummies_distinct : (u : Procedure) (x : Var) (body : Code) → Distinct (step_dummies u x body)
+pub dummies_distinct : (u : Procedure) (x : Var) (body : Code) → Distinct (step_dummies u x body)
 dummies_distinct u x body = used_distinct u.declarations (named x ++ names_in_code body) (variables_of u) (once_distinct [] (names_of u))
 
 -- ---- names as actuals
@@ -81,11 +81,7 @@ handed_named : (y : List ℕ) (ws : List Bool) (vs : List (List ℕ)) → has_na
 handed_named y [] vs h = refl
 handed_named y (w ∷ ws) [] h = refl
 handed_named y (w ∷ ws) (v ∷ vs) h =
-    let p = or_false (name_eq y v) (has_name y vs) h in either_false (w && name_eq y v) (is_handed_back (plain y) ws (as_actuals vs)) (ap (λ z. w && z) p.0 ∙ and_false w) (handed_named y ws vs p.1)
-  where
-    and_false : (b : Bool) → (b && false) ≡ false
-    and_false true = refl
-    and_false false = refl
+    let p = or_false (name_eq y v) (has_name y vs) h in either_false (w && name_eq y v) (is_handed_back (plain y) ws (as_actuals vs)) (ap (λ z. w && z) p.0 ∙ and_none w) (handed_named y ws vs p.1)
 
 -- so are the actuals of its call
 distinct_names : (vs : List (List ℕ)) → Distinct vs → AreDistinctNames (as_actuals vs)
@@ -155,28 +151,12 @@ module _ (units units' : List Procedure) (stepped : (name : List ℕ) (v : Proce
     (taken : List (List ℕ)) (u : Procedure)
     (own_extents : (x : Var) (d : List ℕ) → names_extent d (declared u.declarations x) ≡ true → has_name d (names_of u) ≡ true)
     (flat_extents : (x : Var) (d : List ℕ) → names_extent d (declared u.declarations x) ≡ true → declared u.declarations (plain d) ≡ []) where
-  abbrev ExtentsIn : List (List ℕ) → Type 0
-  ExtentsIn ns = (y d : List ℕ) → has_name y ns ≡ true → names_extent d (declared u.declarations (plain y)) ≡ true → has_name d ns ≡ true
-
-  -- the caller declares these variables as the unit does
-  abbrev Declares : Procedure → List (List ℕ) → Type 0
-  Declares caller ns = (y : List ℕ) → has_name y ns ≡ true → declared caller.declarations (plain y) ≡ declared u.declarations (plain y)
-
-  -- what is inside is of the text
-  declares_read : (caller : Procedure) (ns : List (List ℕ)) (args : Terms) → Declares caller ns → TermsInside (is_named ns) args → (x : Var) → reads_terms x args ≡ true → declared caller.declarations x ≡ declared u.declarations x
-  declares_read caller ns args d h x r = go x (h x r)
-    where
-      go : (z : Var) → is_named ns z ≡ true → declared caller.declarations z ≡ declared u.declarations z
-      go (plain y) g = d y g
-      go (shadow y) g = absurd cc
-      go (helper o k) g = absurd cc
-
   -- a call of a unit of the source
-  fit_source_call : (caller : Procedure) (ns : List (List ℕ)) (name : List ℕ) (args : Terms) → Declares caller ns → TermsInside (is_named ns) args → IsFitCall units u name args → IsFitCall units' caller name args
+  fit_source_call : (caller : Procedure) (ns : List (List ℕ)) (name : List ℕ) (args : Terms) → Declares u caller ns → TermsInside (is_named ns) args → IsFitCall units u name args → IsFitCall units' caller name args
   fit_source_call caller ns name args d h f =
       let s = stepped name f.called f.found in
       let flags = sym (same_written name f.called f.found) in
-      let same = declares_read caller ns args d h in
+      let same = declares_read u caller ns args d h in
       record {
         called = record (f.called) { body = cut s.taken f.called 0 f.called.body };
         found = s.found;
@@ -185,56 +165,17 @@ module _ (units units' : List Procedure) (stepped : (name : List ℕ) (v : Proce
         ranks = subst (λ z. ScalarsToScalars f.called.declarations caller.declarations f.called.dummies z args) flags (ranks_same f.called.declarations u.declarations caller.declarations f.called.dummies (handed_back units name) args same f.ranks);
       }
 
-  module _ (x : Var) (body : Code) (pl : PlainCode body) (each : EachCall (IsFitCall units u) body) (ox : is_of u x ≡ true) (own : CodeInside (is_of u) body) where
-    abbrev vs : List (List ℕ)
-    vs = step_dummies u x body
-
-    abbrev used : List (List ℕ)
-    used = named x ++ names_in_code body
-
-    in_hand : (ns : List (List ℕ)) → is_named ns x ≡ true → CodeInside (is_named ns) body → ExtentsIn ns → (y : List ℕ) → has_name y vs ≡ true → has_name y ns ≡ true
-    in_hand ns hx h ext y g = go (or_cases (has_name y used) (is_extent_of u.declarations y used) (used_is u.declarations used (variables_of u) y g))
-      where
-        go : (has_name y used ≡ true) ⊎ (is_extent_of u.declarations y used ≡ true) → has_name y ns ≡ true
-        go (inl k) = loop_named y (is_named ns) (IsFitCall units u) x body hx h each k
-        go (inr k) = let f = among_extent u.declarations y used k in ext f.of y (loop_named f.of (is_named ns) (IsFitCall units u) x body hx h each f.among) f.is
-
-    extents_in : ExtentsIn vs
-    extents_in y d h g = go (or_cases (has_name y used) (is_extent_of u.declarations y used) (used_is u.declarations used (variables_of u) y h))
-      where
-        go : (has_name y used ≡ true) ⊎ (is_extent_of u.declarations y used ≡ true) → has_name d vs ≡ true
-        go (inl k) = used_has u.declarations used (variables_of u) d (listed_once d (names_of u) (own_extents (plain y) d g)) (or_second (has_name d used) (is_extent_of u.declarations d used) (extent_among u.declarations d y used k g))
-        go (inr k) =
-            let f = among_extent u.declarations y used k in
-            let none : names_extent d [] ≡ true = sym (ap (names_extent d) (flat_extents (plain f.of) y f.is)) ∙ g in
-            absurd cc
-
-    -- the call of a step unit
-    fit_step_call : (k line : ℕ) → find_unit units' (step_name taken u.name k) ≡ Some (step_unit taken u k line x body) → (caller : Procedure) (ns : List (List ℕ)) → Declares caller ns → ((y : List ℕ) → has_name y vs ≡ true → has_name y ns ≡ true) → IsFitCall units' caller (step_name taken u.name k) (as_actuals vs)
-    fit_step_call k line found caller ns d inside = record {
-      called = step_unit taken u k line x body;
-      found = found;
-      once = names_apart (handed_back units' (step_name taken u.name k)) vs (dummies_distinct u x body);
-      arrays = names_once caller.declarations vs (dummies_distinct u x body);
-      ranks = names_ranks (step_declarations u.declarations line vs) caller.declarations (handed_back units' (step_name taken u.name k)) vs (λ y h. declared_step u.declarations line vs y h ∙ sym (d y (inside y h)));
-    }
-
-  mutual
-    -- the calls of a cut statement fit
-    fit_act : (k line : ℕ) (a : Act) (caller : Procedure) (ns : List (List ℕ)) → Declares caller ns → ActInside (is_named ns) a → ActInside (is_of u) a → PlainAct a → EachCall' (IsFitCall units u) a → StepsThereAct units' taken u k line a → ExtentsIn ns → EachCall' (IsFitCall units' caller) (cut_act taken u k line a)
-    fit_act k line (assign x subs e) caller ns d h o pl p st ext = tt
-    fit_act k line (choose c a b) caller ns d h o pl p st ext = (fit_code k a caller ns d h.1.0 o.1.0 pl.1.0 p.0 st.0 ext, fit_code (k + marked_in a) b caller ns d h.1.1 o.1.1 pl.1.1 p.1 st.1 ext)
-    fit_act k line (loop x first last by body unmarked) caller ns d h o pl p st ext = fit_code k body caller ns d h.1.1 o.1.1 pl.1.1 p st ext
-    fit_act k line (loop x first last by body (with_count m)) caller ns d h o pl p st ext = (fit_step_call x body pl.1.1 p o.0 o.1.1 k line st.0 caller ns d (in_hand x body pl.1.1 p o.0 o.1.1 ns h.0 h.1.1 ext), tt)
-    fit_act k line (loop x first last by body (count_from counter)) caller ns d h o pl p st ext = (fit_step_call x body pl.1.1 p o.0 o.1.1 k line st.0 caller ns d (in_hand x body pl.1.1 p o.0 o.1.1 ns h.0 h.1.1 ext), tt)
-    fit_act k line (during c body) caller ns d h o pl p st ext = fit_code k body caller ns d h.1 o.1 pl.1 p st ext
-    fit_act k line (call name args) caller ns d h o pl p st ext = fit_source_call caller ns name args d h p
-    fit_act k line (runtime r) caller ns d h o pl p st ext = absurd p
-
-    -- and those of a list
-    fit_code : (k : ℕ) (c : Code) (caller : Procedure) (ns : List (List ℕ)) → Declares caller ns → CodeInside (is_named ns) c → CodeInside (is_of u) c → PlainCode c → EachCall (IsFitCall units u) c → StepsThere units' taken u k c → ExtentsIn ns → EachCall (IsFitCall units' caller) (cut taken u k c)
-    fit_code k stop caller ns d h o pl p st ext = tt
-    fit_code k (step line a rest) caller ns d h o pl p st ext = (fit_act k line a caller ns d h.0 o.0 pl.0 p.0 st.0 ext, fit_code (k + marked_in_act a) rest caller ns d h.1 o.1 pl.1 p.1 st.1 ext)
+  -- the call of a step unit
+  fit_step_call : (k line : ℕ) (x : Var) (body : Code) → find_unit units' (step_name taken u.name k) ≡ Some (step_unit taken u k line x body) → (caller : Procedure) (ns : List (List ℕ)) → Declares u caller ns → ((y : List ℕ) → has_name y (step_dummies u x body) ≡ true → has_name y ns ≡ true) → IsFitCall units' caller (step_name taken u.name k) (as_actuals (step_dummies u x body))
+  fit_step_call k line x body found caller ns d inside =
+      let vs = step_dummies u x body in
+      record {
+        called = step_unit taken u k line x body;
+        found = found;
+        once = names_apart (handed_back units' (step_name taken u.name k)) vs (dummies_distinct u x body);
+        arrays = names_once caller.declarations vs (dummies_distinct u x body);
+        ranks = names_ranks (step_declarations u.declarations line vs) caller.declarations (handed_back units' (step_name taken u.name k)) vs (λ y h. declared_step u.declarations line vs y h ∙ sym (d y (inside y h)));
+      }
 
   mutual
     -- variables are of the text
@@ -272,38 +213,32 @@ module _ (units units' : List Procedure) (stepped : (name : List ℕ) (v : Proce
   abbrev pub Good : Procedure → Type 0
   Good p = PlainCode p.body × (EachCall (IsFitCall units' p) p.body × IsStepped p.body)
 
-  pub each_append : (ps qs : List Procedure) → EachUnit Good ps → EachUnit Good qs → EachUnit Good (ps ++ qs)
-  each_append [] qs h g = g
-  each_append (p ∷ ps) qs h g = (h.0, each_append ps qs h.1 g)
-
   mutual
     -- the step units of a statement fit
     good_act : (k line : ℕ) (a : Act) → ActInside (is_of u) a → PlainAct a → EachCall' (IsFitCall units u) a → StepsThereAct units' taken u k line a → EachUnit Good (step_units_in_act taken u k line a)
     good_act k line (assign x subs e) o pl p st = tt
-    good_act k line (choose c a b) o pl p st = each_append (step_units_in taken u k a) (step_units_in taken u (k + marked_in a) b) (good_code k a o.1.0 pl.1.0 p.0 st.0) (good_code (k + marked_in a) b o.1.1 pl.1.1 p.1 st.1)
+    good_act k line (choose c a b) o pl p st = join_units Good (step_units_in taken u k a) (step_units_in taken u (k + marked_in a) b) (good_code k a o.1.0 pl.1.0 p.0 st.0) (good_code (k + marked_in a) b o.1.1 pl.1.1 p.1 st.1)
     good_act k line (loop x first last by body unmarked) o pl p st = good_code k body o.1.1 pl.1.1 p st
-    good_act k line (loop x first last by body (with_count m)) o pl p st =
-        let vs = step_dummies u x body in (
-          (
-            plain_code (suc k) body pl.1.1,
-            (
-              fit_code (suc k) body (step_unit taken u k line x body) vs (λ y h. declared_step u.declarations line vs y h) (step_body_inside u (IsFitCall units u) x body pl.1.1 p o.0 o.1.1) o.1.1 pl.1.1 p st.1 (extents_in x body pl.1.1 p o.0 o.1.1),
-              stepped_code (suc k) body,
-            ),
-          ),
-          good_code (suc k) body o.1.1 pl.1.1 p st.1,
-        )
-    good_act k line (loop x first last by body (count_from counter)) o pl p st =
-        let vs = step_dummies u x body in (
-          (
-            plain_code (suc k) body pl.1.1,
-            (
-              fit_code (suc k) body (step_unit taken u k line x body) vs (λ y h. declared_step u.declarations line vs y h) (step_body_inside u (IsFitCall units u) x body pl.1.1 p o.0 o.1.1) o.1.1 pl.1.1 p st.1 (extents_in x body pl.1.1 p o.0 o.1.1),
-              stepped_code (suc k) body,
-            ),
-          ),
-          good_code (suc k) body o.1.1 pl.1.1 p st.1,
-        )
+    good_act k line (loop x first last by body (with_count m)) o pl p st = (
+      (
+        plain_code (suc k) body pl.1.1,
+        (
+          calls_step u (IsFitCall units u) own_extents flat_extents units' taken (IsFitCall units') fit_source_call fit_step_call k line x body pl.1.1 o.0 o.1.1 p st.1,
+          stepped_code (suc k) body,
+        ),
+      ),
+      good_code (suc k) body o.1.1 pl.1.1 p st.1,
+    )
+    good_act k line (loop x first last by body (count_from counter)) o pl p st = (
+      (
+        plain_code (suc k) body pl.1.1,
+        (
+          calls_step u (IsFitCall units u) own_extents flat_extents units' taken (IsFitCall units') fit_source_call fit_step_call k line x body pl.1.1 o.0 o.1.1 p st.1,
+          stepped_code (suc k) body,
+        ),
+      ),
+      good_code (suc k) body o.1.1 pl.1.1 p st.1,
+    )
     good_act k line (during c body) o pl p st = good_code k body o.1 pl.1 p st
     good_act k line (call name args) o pl p st = tt
     good_act k line (runtime r) o pl p st = tt
@@ -311,11 +246,11 @@ module _ (units units' : List Procedure) (stepped : (name : List ℕ) (v : Proce
     -- and those of a list
     good_code : (k : ℕ) (c : Code) → CodeInside (is_of u) c → PlainCode c → EachCall (IsFitCall units u) c → StepsThere units' taken u k c → EachUnit Good (step_units_in taken u k c)
     good_code k stop o pl p st = tt
-    good_code k (step line a rest) o pl p st = each_append (step_units_in_act taken u k line a) (step_units_in taken u (k + marked_in_act a) rest) (good_act k line a o.0 pl.0 p.0 st.0) (good_code (k + marked_in_act a) rest o.1 pl.1 p.1 st.1)
+    good_code k (step line a rest) o pl p st = join_units Good (step_units_in_act taken u k line a) (step_units_in taken u (k + marked_in_act a) rest) (good_act k line a o.0 pl.0 p.0 st.0) (good_code (k + marked_in_act a) rest o.1 pl.1 p.1 st.1)
 
   -- the unit and its step units
   pub good_unit : PlainCode u.body → EachCall (IsFitCall units u) u.body → StepsThere units' taken u 0 u.body → EachUnit Good (stepped_unit taken u)
   good_unit pl p st = (
-    (plain_code 0 u.body pl, (fit_code 0 u.body (record u { body = cut taken u 0 u.body }) (names_of u) (λ y h. refl) (own_body u pl) (own_body u pl) pl p st (λ y d h g. own_extents (plain y) d g), stepped_code 0 u.body)),
+    (plain_code 0 u.body pl, (calls_own u (IsFitCall units u) own_extents flat_extents units' taken (IsFitCall units') fit_source_call fit_step_call pl p st, stepped_code 0 u.body)),
     good_code 0 u.body (own_body u pl) pl p st,
   )

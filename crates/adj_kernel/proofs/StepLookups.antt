@@ -17,7 +17,7 @@ use Rattle.adj_kernel.specs.StepTheorem.{StepsThereAct, StepsThere, IsStepFor}
 use Rattle.adj_kernel.proofs.Locals.{has_first, has_second}
 
 -- neither
-neither : (x : List ℕ) (xs ys : List (List ℕ)) → has_name x xs ≡ false → has_name x ys ≡ false → has_name x (xs ++ ys) ≡ false
+pub neither : (x : List ℕ) (xs ys : List (List ℕ)) → has_name x xs ≡ false → has_name x ys ≡ false → has_name x (xs ++ ys) ≡ false
 neither x xs ys h g = has-append x xs ys ∙ ap (λ z. z || has_name x ys) h ∙ g
 
 -- from either
@@ -42,7 +42,7 @@ module _ (taken : List (List ℕ)) (base : List ℕ) where
       go ih (inl l) = has_first (name_at i) (step_names taken base j) (name_at j ∷ []) (ih l)
       go ih (inr l) = let e : i ≡ j = omega (arith, l, h) in has_second (name_at i) (step_names taken base j) (name_at j ∷ []) (or_first (name_eq (name_at i) (name_at j)) false (ap (λ z. name_eq (name_at i) (name_at z)) (sym e) ∙ name_refl (name_at i)))
 
-  later_apart : (i j : ℕ) → i < j → name_eq (name_at j) (name_at i) ≡ false
+  pub later_apart : (i j : ℕ) → i < j → name_eq (name_at j) (name_at i) ≡ false
   later_apart i j h =
       not_true (name_eq (name_at j) (name_at i)) (λ e.
       let free = (or_false (has_name (name_at j) taken) (has_name (name_at j) (step_names taken base j)) (sym (has-append (name_at j) taken (step_names taken base j)) ∙ fresh-is_free (wanted_step base j) (taken ++ step_names taken base j))).1 in
@@ -50,7 +50,7 @@ module _ (taken : List (List ℕ)) (base : List ℕ) where
       let z : true ≡ false = sym there ∙ free in cc)
 
   -- a name that is taken is no step unit's
-  not_in_names : (x : List ℕ) → has_name x taken ≡ true → (k : ℕ) → has_name x (step_names taken base k) ≡ true → ⊥
+  pub not_in_names : (x : List ℕ) → has_name x taken ≡ true → (k : ℕ) → has_name x (step_names taken base k) ≡ true → ⊥
   not_in_names x t zero h = absurd cc
   not_in_names x t (suc k) h =
       one_of (or_cases (has_name x (step_names taken base k)) (name_eq x (name_at k) || false) (sym (has-append x (step_names taken base k) (name_at k ∷ [])) ∙ h)) (λ g. not_in_names x t k g)
@@ -72,7 +72,7 @@ here u rest = ap (λ b. if b then Some u else find_unit rest u.name) (name_refl 
 module _ (taken : List (List ℕ)) (u : Procedure) where
   mutual
     -- later names aren't those of the step units of a list
-    later_act : (k line : ℕ) (a : Act) (i : ℕ) → k + marked_in_act a ≤ i → has_name (step_name taken u.name i) (map unit_name (step_units_in_act taken u k line a)) ≡ false
+    pub later_act : (k line : ℕ) (a : Act) (i : ℕ) → k + marked_in_act a ≤ i → has_name (step_name taken u.name i) (map unit_name (step_units_in_act taken u k line a)) ≡ false
     later_act k line (assign x subs e) i le = refl
     later_act k line (choose c a b) i le =
         ap (has_name (step_name taken u.name i)) (map-append unit_name (step_units_in taken u k a) (step_units_in taken u (k + marked_in a) b))
@@ -86,7 +86,7 @@ module _ (taken : List (List ℕ)) (u : Procedure) where
     later_act k line (call name args) i le = refl
     later_act k line (runtime r) i le = refl
 
-    later_code : (k : ℕ) (c : Code) (i : ℕ) → k + marked_in c ≤ i → has_name (step_name taken u.name i) (map unit_name (step_units_in taken u k c)) ≡ false
+    pub later_code : (k : ℕ) (c : Code) (i : ℕ) → k + marked_in c ≤ i → has_name (step_name taken u.name i) (map unit_name (step_units_in taken u k c)) ≡ false
     later_code k stop i le = refl
     later_code k (step line a rest) i le =
         ap (has_name (step_name taken u.name i)) (map-append unit_name (step_units_in_act taken u k line a) (step_units_in taken u (k + marked_in_act a) rest))
@@ -168,7 +168,7 @@ module _ (taken : List (List ℕ)) (u : Procedure) (total : ℕ) where
         (λ g. listed_act k line a x (omega (arith, le)) g) (λ g. listed_code (k + marked_in_act a) rest x (omega (arith, le)) g)
 
 -- a name that is found is that of a unit
-found_name : (us : List Procedure) (name : List ℕ) (v : Procedure) → find_unit us name ≡ Some v → has_name name (map unit_name us) ≡ true
+pub found_name : (us : List Procedure) (name : List ℕ) (v : Procedure) → find_unit us name ≡ Some v → has_name name (map unit_name us) ≡ true
 found_name [] name v h = absurd cc
 found_name (u ∷ us) name v h = go (name_eq u.name name) refl h (λ g. found_name us name v g)
   where

@@ -1,8 +1,8 @@
 -- The dummies that a unit of the stepped program writes are those that its source writes.
 use Rattle.std.proofs.Common.{◌≡◌, ℕ, zero, suc, ◌+◌, ◌⊎◌, inl, inr, Bool, true, false, List, [], ◌∷◌, map, refl, sym, ap, ◌∙◌, subst}
 use Rattle.std.proofs.lemmas.Bool.{or_cases}
-use Rattle.std.specs.Prelude.{◌||◌, ◌&&◌, Some}
-use Rattle.adj_tree.specs.Code.{Var, plain, var_eq, name_eq, Terms, none, more, unmarked, with_count, count_from, Act, assign, choose, loop, during, call, runtime, Code, stop, step, Procedure}
+use Rattle.std.specs.Prelude.{◌||◌, ◌&&◌, Some, pos}
+use Rattle.adj_tree.specs.Code.{Var, plain, var_eq, name_eq, lit, Terms, none, more, unmarked, with_count, count_from, Act, assign, choose, loop, during, call, runtime, Code, stop, step, Procedure}
 use Rattle.adj_tree.proofs.Names.{name_same}
 use Rattle.adj_meaning.specs.LeastSet.{Dummies, row_of, no_dummies, by_rule, rounds, dummies_in_all, IsWithin}
 use Rattle.adj_meaning.specs.Written.{find_unit, is_handed_back, act_writes, writes, write_rule, handed_back, is_written}
@@ -12,7 +12,7 @@ use Rattle.adj_meaning.proofs.WriteSets.{handed_written, handed_more}
 use Rattle.adj_kernel.specs.Apart.{EachCall', EachCall}
 use Rattle.adj_kernel.specs.Kernel.{PlainCode}
 use Rattle.adj_kernel.specs.Stepped.{marked_in, marked_in_act, step_dummies, as_actuals, step_name, cut_act, cut, step_unit}
-use Rattle.adj_kernel.specs.StepTheorem.{StepsThereAct, StepsThere, IsStepFor, IsCounted}
+use Rattle.adj_kernel.specs.StepTheorem.{IsStepThere, StepsThereAct, StepsThere, IsStepFor, IsCounted}
 use Rattle.adj_kernel.proofs.Locals.{own_body}
 use Rattle.adj_kernel.proofs.SameWritten.{row_by, same_row}
 use Rattle.adj_kernel.proofs.StepUnits.{covered}
@@ -159,6 +159,20 @@ module _ (units units' : List Procedure) (plainly : (name : List ℕ) (v : Proce
             (row_by v.dummies (write_rule (after j) (record v { body = cut (stepped name v f).taken v 0 v.body })) (is_written units v) (λ d h e. back_code (after j) (stepped name v f).taken v ih.within 0 v.body d (each name v f) (ih.known name v f) e)));
         known = λ name v f. known_next (stepped name v f).taken v j ih.within 0 v.body (each name v f) (stepped name v f).steps (ih.known name v f);
       }
+
+  -- what is known of the step units of a list that are there, after each round
+  module _ (taken : List (List ℕ)) (u : Procedure) where
+    known_after : (k : ℕ) (c : Code) → EachCall (IsCounted units) c → StepsThere units' taken u k c → (j : ℕ) → StepsKnown (after j) taken u k c
+    known_after k c p st zero = known_first taken u k c st
+    known_after k c p st (suc j) = known_next taken u j (each_round j).within k c p st (known_after k c p st j)
+
+    -- so what the cut list writes the list does
+    pub cut_back : (k : ℕ) (c : Code) → EachCall (IsCounted units) c → StepsThere units' taken u k c → (y : List ℕ) → writes (handed_back units') (plain y) (cut taken u k c) ≡ true → writes (handed_back units) (plain y) c ≡ true
+    cut_back k c p st y h = back_code (after (dummies_in_all units')) taken u (each_round (dummies_in_all units')).within k c y p (known_after k c p st (dummies_in_all units')) h
+
+    -- and what the call of a step unit hands back its body writes
+    pub step_back : (k line : ℕ) (x : Var) (body : Code) → EachCall (IsCounted units) body → IsStepThere units' taken u k line x body → StepsThere units' taken u (suc k) body → (y : List ℕ) → is_handed_back (plain y) (handed_back units' (step_name taken u.name k)) (as_actuals (step_dummies u x body)) ≡ true → writes (handed_back units) (plain y) body ≡ true
+    step_back k line x body p here st y h = (known_after k (step line (loop x (lit (pos 0)) (lit (pos 0)) (lit (pos 0)) body (with_count 0)) stop) (p, tt) ((here, st), tt) (dummies_in_all units')).0.0 y h
 
   -- ---- and the source what the kernel writes
 

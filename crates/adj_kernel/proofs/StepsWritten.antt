@@ -10,13 +10,15 @@ use Rattle.adj_text.specs.Written.{IsName, IsVariable, IsIndexed, IsWrittenTerm,
 use Rattle.adj_text.specs.Statement.{runtime_call}
 use Rattle.adj_meaning.specs.Append.{one}
 use Rattle.adj_meaning.specs.Units.{declared}
-use Rattle.adj_meaning.proofs.Booleans.{or_first, or_second}
-use Rattle.adj_transpose.specs.Fresh.{has_name, digits, candidate, first_free}
+use Rattle.adj_meaning.proofs.Booleans.{or_false, or_first, or_second}
+use Rattle.adj_names.specs.Reserved.{runtime_names, is_runtime}
+use Rattle.adj_transpose.specs.Fresh.{has_name, digits, candidate, first_free, reserved}
 use Rattle.adj_transpose.proofs.Naming.{has-append}
 use Rattle.adj_kernel.specs.Apart.{EachCall', EachCall}
 use Rattle.adj_kernel.specs.Kernel.{named, names_in, names_in_all, names_in_test, names_in_mark, names_in_act, names_in_code, declared_names, names_of, EachUnit}
 use Rattle.adj_kernel.specs.WrittenTheorem.{CallsUnits}
 use Rattle.adj_kernel.specs.Stepped.{marked_in, marked_in_act, once_each, variables_of, used_among, step_dummies, as_actuals, step_declarations, wanted_step, step_names, step_name, cut_act, cut, step_units_in_act, step_units_in, stepped_unit, stepped_from, names_of_source, stepped_program, kernel_of}
+use Rattle.adj_kernel.proofs.Faultless.{same_has}
 use Rattle.adj_kernel.proofs.FreshWritten.{name-append, fresh-name, digits_chars}
 use Rattle.adj_kernel.proofs.WrittenKernels.{kernel_written}
 use Rattle.adj_kernel.proofs.StepNames.{is_used}
@@ -77,6 +79,26 @@ unfolding has_underscore
 no_runtime x es h =
     skip_name x (codes "PUSHINTEGER8") _ _ h refl ∙ skip_name x (codes "POPINTEGER8") _ _ h refl ∙ skip_name x (codes "PUSHINTEGER8ARRAY") _ _ h refl ∙ skip_name x (codes "POPINTEGER8ARRAY") _ _ h refl ∙ skip_name x (codes "PUSHCONTROL1B") _ _ h refl
     ∙ skip_name x (codes "POPCONTROL1B") _ _ h refl ∙ skip_name x (codes "ADZERO8") _ _ h refl ∙ skip_name x (codes "ADBEG") _ _ h refl ∙ skip_name x (codes "ADACTN") _ _ h refl ∙ skip_name x (codes "ADACT") _ _ h refl ∙ skip_name x (codes "ADEND") _ _ h refl
+
+-- nor is it any other name without one
+any_underscore : List (List ℕ) → Bool
+any_underscore [] = false
+any_underscore (y ∷ ys) = has_underscore y || any_underscore ys
+
+none_of : (x : List ℕ) (ys : List (List ℕ)) → has_underscore x ≡ true → any_underscore ys ≡ false → has_name x ys ≡ false
+unfolding any_underscore
+none_of x [] h g = refl
+none_of x (y ∷ ys) h g = let p = or_false (has_underscore y) (any_underscore ys) g in ap (λ b. b || has_name x ys) (other_name x y h p.0) ∙ none_of x ys h p.1
+
+-- so it isn't reserved
+pub step_unreserved : (taken : List (List ℕ)) (base : List ℕ) (k : ℕ) → has_name (step_name taken base k) reserved ≡ false
+unfolding has_underscore any_underscore
+step_unreserved taken base k = none_of (step_name taken base k) reserved (step_underscore taken base k) refl
+
+-- nor one of the runtime
+pub step_not_runtime : (taken : List (List ℕ)) (base : List ℕ) (k : ℕ) → is_runtime (step_name taken base k) ≡ false
+unfolding has_underscore any_underscore
+step_not_runtime taken base k = same_has (step_name taken base k) runtime_names ∙ none_of (step_name taken base k) runtime_names (step_underscore taken base k) refl
 
 -- and is a name
 step_named : (taken : List (List ℕ)) (base : List ℕ) (k : ℕ) → IsName base → IsName (step_name taken base k)
@@ -189,7 +211,7 @@ unit_named u h p = both_named u.dummies (declared_names u.declarations ++ names_
 
 -- ---- dummies of step units
 
-once_from : (y : List ℕ) (before xs : List (List ℕ)) → has_name y (once_each before xs) ≡ true → has_name y xs ≡ true
+pub once_from : (y : List ℕ) (before xs : List (List ℕ)) → has_name y (once_each before xs) ≡ true → has_name y xs ≡ true
 once_from y before [] h = h
 once_from y before (x ∷ xs) h = go (has_name x before) h (λ g. once_from y before xs g) (λ g. once_from y (x ∷ before) xs g)
   where
@@ -201,7 +223,7 @@ once_from y before (x ∷ xs) h = go (has_name x before) h (λ g. once_from y be
         one_way (inl e) = or_first (name_eq y x) (has_name y xs) e
         one_way (inr e) = or_second (name_eq y x) (has_name y xs) (ih1 e)
 
-used_from : (ds : List Declaration) (names vs : List (List ℕ)) (y : List ℕ) → has_name y (used_among ds names vs) ≡ true → has_name y vs ≡ true
+pub used_from : (ds : List Declaration) (names vs : List (List ℕ)) (y : List ℕ) → has_name y (used_among ds names vs) ≡ true → has_name y vs ≡ true
 used_from ds names [] y h = h
 used_from ds names (v ∷ vs) y h = go (is_used ds names v) h (λ g. used_from ds names vs y g)
   where

@@ -12,6 +12,7 @@ use Rattle.adj_kernel.specs.Stepped.{marked_in, step_names, cut, stepped_unit, s
 use Rattle.adj_kernel.specs.StepTheorem.{nest, deepest, IsStepFor, IsCounted, HasExtents, StepFits, IsSource}
 use Rattle.adj_kernel.specs.Means.{MeansAlike, MeansTheSame}
 use Rattle.adj_kernel.specs.StepMeans.{SameButCalls, WholeKernelHasUnits, WholeKernelMeansAlike}
+use Rattle.adj_kernel.proofs.Faultless.{join_units}
 use Rattle.adj_kernel.proofs.Programs.{found_in, found_lowered}
 use Rattle.adj_kernel.specs.Weights.{WeighsAtMost}
 use Rattle.adj_kernel.proofs.Costs.{lowered_means}
@@ -33,17 +34,17 @@ found_nest (u ∷ us) name v h = go (name_eq u.name name) h (λ g. found_nest us
     go false g ih = let l = ih g in omega (arith, l)
 
 module _ (C : Type 0) (units : List Procedure) (source : IsSource C units) where
-  abbrev units' : List Procedure
+  abbrev pub units' : List Procedure
   units' = stepped_program units
 
   -- each unit is there, stepped
-  stepped : (name : List ℕ) (v : Procedure) → find_unit units name ≡ Some v → IsStepFor units' name v
+  pub stepped : (name : List ℕ) (v : Procedure) → find_unit units name ≡ Some v → IsStepFor units' name v
   stepped name v f = is_step_for units name v f
 
-  plainly : (name : List ℕ) (v : Procedure) → find_unit units name ≡ Some v → PlainCode v.body
+  pub plainly : (name : List ℕ) (v : Procedure) → find_unit units name ≡ Some v → PlainCode v.body
   plainly name v f = found_in (λ u. PlainCode u.body) units name v f source.fit.plains
 
-  counted : (name : List ℕ) (v : Procedure) → find_unit units name ≡ Some v → EachCall (IsCounted units) v.body
+  pub counted : (name : List ℕ) (v : Procedure) → find_unit units name ≡ Some v → EachCall (IsCounted units) v.body
   counted name v f = found_in (λ u. EachCall (IsCounted units) u.body) units name v f source.counted
 
   -- the first step writes the same
@@ -55,19 +56,15 @@ module _ (C : Type 0) (units : List Procedure) (source : IsSource C units) where
 
   -- ---- the stepped program fits
 
-  abbrev IsGood : Procedure → Type 0
+  abbrev pub IsGood : Procedure → Type 0
   IsGood p = PlainCode p.body × (EachCall (IsFitCall units' p) p.body × IsStepped p.body)
-
-  append_good : (ps qs : List Procedure) → EachUnit IsGood ps → EachUnit IsGood qs → EachUnit IsGood (ps ++ qs)
-  append_good [] qs h g = g
-  append_good (p ∷ ps) qs h g = (h.0, append_good ps qs h.1 g)
 
   all_good : (us : List Procedure) (taken : List (List ℕ)) → EachUnit (λ u. PlainCode u.body) us → EachUnit (λ u. EachCall (IsFitCall units u) u.body) us → EachUnit (HasExtents C units) us → AllThere units' taken us → EachUnit IsGood (stepped_from taken us)
   all_good [] taken p c x t = tt
-  all_good (u ∷ us) taken p c x t = append_good (stepped_unit taken u) (stepped_from (taken ++ step_names taken u.name (marked_in u.body)) us) (good_unit units units' stepped written taken u x.0.own x.0.flat p.0 c.0 t.0) (all_good us (taken ++ step_names taken u.name (marked_in u.body)) p.1 c.1 x.1 t.1)
+  all_good (u ∷ us) taken p c x t = join_units IsGood (stepped_unit taken u) (stepped_from (taken ++ step_names taken u.name (marked_in u.body)) us) (good_unit units units' stepped written taken u x.0.own x.0.flat p.0 c.0 t.0) (all_good us (taken ++ step_names taken u.name (marked_in u.body)) p.1 c.1 x.1 t.1)
 
   -- the units of the stepped program are as they should be
-  good : EachUnit IsGood units'
+  pub good : EachUnit IsGood units'
   good = all_good units (names_of_source units) source.fit.plains source.fit.calls source.extents (program_there units)
 
   firsts : (ps : List Procedure) → EachUnit IsGood ps → EachUnit (λ p. PlainCode p.body) ps

@@ -14,3 +14,4 @@ pub mod WeighTheorem
 pub mod Samples
 pub mod Worked
 pub mod WrittenTheorem
+pub mod Sound

@@ -1,6 +1,8 @@
 -- Statements and programs, and their kernels worked out by hand. (docs/KERNEL.md)
-use Rattle.std.specs.Prelude.{◌≡◌, ℕ, pos, List, [], ◌∷◌, ◌++◌, codes}
+use Rattle.std.specs.Prelude.{◌≡◌, ℕ, pos, List, [], ◌∷◌, ◌++◌, None, codes}
 use Rattle.adj_tree.specs.Code.{plain, abs, bin, pow, power_of, plus, minus, times, quot, modulo, none, more, Test, compare, is_less, is_greater, unmarked, count_from, Act, choose, loop, during, call, Code, stop, step, Extent, fixed, given, Declaration, Procedure}
+use Rattle.adj_names.specs.Fault.{source_rules, run_rules}
+use Rattle.adj_names.specs.Check.{first_fault}
 use Rattle.adj_kernel.specs.Stepped.{kernel_of}
 use Rattle.adj_kernel.specs.Samples.{number, the, at, at_two, larger, smaller, adv, sets, sets_at, sets_at_two, calls, listed, greatest, least, positive, Becomes, declares, unit_at}
 
@@ -215,3 +217,9 @@ StepUnits =
     (declares 4 n [] ∷ declares 4 u by_n ∷ declares 4 s [] ∷ declares 4 w three ∷ declares 4 m [] ∷ declares 4 k [] ∷ declares 4 i [] ∷ []) (outer_body (listed 7 (second_call ∷ [])))
     ∷ unit_at 7 (codes "P_S2") (s ∷ w ∷ i ∷ []) (declares 7 s [] ∷ declares 7 w three ∷ declares 7 i [] ∷ []) inner_body
     ∷ []
+
+-- it is accepted as a text of a user, and its kernel as a text that is run
+abbrev pub StepUnitsAccepted : Type 0
+StepUnitsAccepted =
+    let program = sums (outer_loop (outer_body inner_body)) ∷ [] in
+    (first_fault source_rules program ≡ None) × (first_fault run_rules (kernel_of program) ≡ None)

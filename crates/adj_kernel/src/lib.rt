@@ -10,7 +10,8 @@ ghost use Rattle.adj_meaning.specs.Laws.{ForBoth};
 ghost use Rattle.adj_kernel.specs.Theorem.{BothShowWords, KernelMeansTheSame, KernelFitsTheSame, KernelWritesTheSame, KernelStatementsWriteTheSame, KernelHasItsForm};
 ghost use Rattle.adj_kernel.specs.StepMeans.{WholeKernelHasUnits, WholeKernelMeansAlike, WholeKernelHasItsForm, WholeKernelWritesTheSame};
 ghost use Rattle.adj_kernel.specs.WrittenTheorem.{KernelIsWritten, WholeKernelIsWritten};
-ghost use Rattle.adj_kernel.specs.Worked.{OneEach, MaximumInMaximum, InOperations, LeftAlone, InPowers, TargetsApart, NamesOfCalls, ElementsOfCalls, ValuesOfCalls, BodiesLowered, LocalsNamed, WorkedExample, StepUnits};
+ghost use Rattle.adj_kernel.specs.Sound.{AcceptedIsSource, AcceptedMeansAlike, AcceptedHasItsForm, AcceptedIsWritten, AcceptedWritesTheSame, AcceptedCostsItsWeight, VariablesAreThose, KernelUnitsStand, KernelNamesStand, KernelCallsStand, KernelChainsStand, KernelWritesStand, KernelIsSound};
+ghost use Rattle.adj_kernel.specs.Worked.{OneEach, MaximumInMaximum, InOperations, LeftAlone, InPowers, TargetsApart, NamesOfCalls, ElementsOfCalls, ValuesOfCalls, BodiesLowered, LocalsNamed, WorkedExample, StepUnits, StepUnitsAccepted};
 ghost use Rattle.adj_kernel.specs.WeighTheorem.{StatementsWeigh, ListsWeigh, TowersWeigh, NothingToStep, KernelCostsItsWeight, CappedAreWeights};
 
 /// The kernel by all its steps means what the program means, but for the events of the calls of step units; it is in kernel form.
@@ -51,6 +52,27 @@ pub fn written_laws()
     ensures lowered { KernelIsWritten }
 {}
 
+/// The laws on kernels hold of each program that is accepted as a text of a user: it is what they ask for.
+pub fn accepted_laws()
+    ensures source { ForBoth AcceptedIsSource }
+    ensures means_alike { ForBoth AcceptedMeansAlike }
+    ensures form { AcceptedHasItsForm }
+    ensures written { AcceptedIsWritten }
+    ensures writes { AcceptedWritesTheSame }
+    ensures cost { ForBoth AcceptedCostsItsWeight }
+    ensures variables { VariablesAreThose }
+{}
+
+/// The kernel of an accepted program has no fault itself, pass by pass.
+pub fn kernel_stands()
+    ensures units { KernelUnitsStand }
+    ensures names { KernelNamesStand }
+    ensures calls { KernelCallsStand }
+    ensures chains { KernelChainsStand }
+    ensures writes { KernelWritesStand }
+    ensures sound { KernelIsSound }
+{}
+
 /// The kernels of statements and programs that were worked out by hand.
 pub fn worked_kernels()
     ensures one_each { OneEach }
@@ -66,4 +88,5 @@ pub fn worked_kernels()
     ensures locals_named { LocalsNamed }
     ensures worked_example { WorkedExample }
     ensures step_units { StepUnits }
+    ensures step_units_accepted { StepUnitsAccepted }
 {}

@@ -1,7 +1,7 @@
 -- The rows of a DO in the two sweeps.
 use Rattle.std.proofs.Common.{◌≡◌, ◌<◌, ℕ, suc, ◌+◌, Bool, true, false, List, [], ◌∷◌, ◌++◌, refl, sym, ap, ◌∙◌, subst, arith}
 use Rattle.std.specs.Prelude.{ℤ, pos, negsuc, Ok, ◌||◌}
-use Rattle.adj_tree.specs.Code.{role_code, Var, plain, shadow, helper, first, stride, count, turn, name_eq, minus, Term, lit, var, bin, none, Mark, unmarked, assign, loop, runtime, push_word, pop_word, Code, stop}
+use Rattle.adj_tree.specs.Code.{role_code, Var, plain, shadow, helper, first, stride, count, turn, name_eq, minus, Term, lit, var, neg, bin, none, Mark, unmarked, assign, loop, runtime, push_word, pop_word, Code, stop}
 use Rattle.adj_tree.proofs.Names.{nat_refl, name_refl}
 use Rattle.adj_word.specs.Word.{wrap, sub}
 use Rattle.adj_word.specs.Pairing.{pairing}
@@ -28,7 +28,7 @@ use Rattle.adj_reverse.proofs.Shapes.{AllText}
 use Rattle.adj_reverse.proofs.Evaluations.{value_again}
 use Rattle.adj_reverse.proofs.Idle.{empty_is}
 use Rattle.adj_reverse.proofs.LoopSweeps.{same_set, set_off, other_depth, forward_turn, backward_turn, AtTurn}
-use Rattle.adj_reverse.proofs.Loops.{loop_comes, Turning, turning, trips_back}
+use Rattle.adj_reverse.proofs.Loops.{loop_comes, Turning, turning, trips_back, step_back}
 use Rattle.adj_reverse.proofs.LoopStatements.{Looped}
 
 -- what comes back of a loop in the backward sweep, from the store g
@@ -175,9 +175,9 @@ module _ (p q : Calls ℤ) (lines : ℕ → Bool) (qd : Calls (ℤ × ℤ)) (sh 
             let at : AtTurn (suc d) a0 c0 (0 + m) g4 = record { start = rw (nat_refl (suc d)) refl; step_is = rw (nat_refl (suc d)) refl; number = rw (nat_refl (suc d)) (wrap-wrap _) } in
             let e = r.back b1 g4 (record { at = λ y j lt o. h.at y j lt o }) at in
             let turn_back = backward_turn (suc d) line x Bb in
-            let looping_back = loop_comes q nw line (helper turn (suc d)) (bin minus (var (helper count (suc d))) (literal 1)) (literal 0) (lit (negsuc 0)) turn_back b1 g3 e.after l0 t0 (sub total (pos 1)) (pos 0) (negsuc 0) m
-            (ap (λ z. Ok (sub z (pos 1))) total_is) refl refl (ap (λ z. trips unmarked z (pos 0) (negsuc 0)) sub-first ∙ trips_back m t.small) e.runs in
-            let rest_back = comes_one q nw line (loop (helper turn (suc d)) (bin minus (var (helper count (suc d))) (literal 1)) (literal 0) (lit (negsuc 0)) turn_back unmarked) b1 g3 e.after l0 t0 looping_back in
+            let looping_back = loop_comes q nw line (helper turn (suc d)) (bin minus (var (helper count (suc d))) (literal 1)) (literal 0) (neg (literal 1)) turn_back b1 g3 e.after l0 t0 (sub total (pos 1)) (pos 0) (negsuc 0) m
+            (ap (λ z. Ok (sub z (pos 1))) total_is) refl (ap Ok step_back) (ap (λ z. trips unmarked z (pos 0) (negsuc 0)) sub-first ∙ trips_back m t.small) e.runs in
+            let rest_back = comes_one q nw line (loop (helper turn (suc d)) (bin minus (var (helper count (suc d))) (literal 1)) (literal 0) (neg (literal 1)) turn_back unmarked) b1 g3 e.after l0 t0 looping_back in
             record {
               after = e.after;
               reversals = e.reversals;

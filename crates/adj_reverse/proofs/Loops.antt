@@ -1,9 +1,10 @@
 -- A DO as a statement: its derivative and its sweeps.
-use Rattle.std.proofs.Common.{◌≡◌, ◌<◌, ◌≤◌, ◌^◌, ℕ, Bool, true, false, List, ◌∷◌, refl, sym, ap, ◌∙◌, arith, if◌then◌else◌, int_eq}
+use Rattle.std.proofs.Common.{◌≡◌, ◌<◌, ◌≤◌, ◌^◌, ℕ, Bool, true, false, List, ◌∷◌, refl, sym, ap, ◌∙◌, arith, rules, if◌then◌else◌, int_eq}
 use Rattle.std.specs.Prelude.{ℤ, pos, negsuc, ◌-ℤ◌, nat_le, Result, Ok, Err, Some, None}
 use Rattle.adj_tree.specs.Code.{Var, Term, Mark, unmarked, with_count, count_from, loop, Code}
 use Rattle.adj_word.specs.Word.{wrap, sub, trip_count}
 use Rattle.adj_word.proofs.Counting.{last_of, trips_down}
+use Rattle.adj_word.proofs.Residues.{wrap_word}
 use Rattle.adj_meaning.specs.Trap.{Trap, step_trap}
 use Rattle.adj_meaning.specs.Event.{Marked}
 use Rattle.adj_meaning.specs.Store.{Store, set}
@@ -85,3 +86,7 @@ trips_back m h =
     let n : trip_count (sub (pos m) (pos 1)) (pos 0) (negsuc 0) ≡ m = ap (λ z. trip_count z (pos 0) (negsuc 0)) start ∙ trips_down m in
     let ok : nat_le m 9223372036854775807 ≡ true = grind arith in
     rw n (rw ok refl)
+
+-- the step of the turns that go back
+pub step_back : wrap (negsuc 0) ≡ negsuc 0
+step_back = wrap_word (negsuc 0) (search rules)

@@ -1,7 +1,7 @@
 -- The sweeps of a DO WHILE: told, where its turns are gone through from the last to the first, and silent.
 use Rattle.std.proofs.Common.{◌≡◌, ◌<◌, ◌≤◌, ◌^◌, ℕ, suc, ◌+◌, true, false, List, [], ◌∷◌, ◌++◌, refl, sym, ap, ◌∙◌, subst, arith, append_assoc}
 use Rattle.std.specs.Prelude.{ℤ, pos, negsuc, Bool, Ok}
-use Rattle.adj_tree.specs.Code.{role_code, Var, shadow, helper, count, turn, minus, plus, lit, var, bin, none, Test, unmarked, assign, loop, during, runtime, push_word, pop_word, Code, stop}
+use Rattle.adj_tree.specs.Code.{role_code, Var, shadow, helper, count, turn, minus, plus, lit, var, neg, bin, none, Test, unmarked, assign, loop, during, runtime, push_word, pop_word, Code, stop}
 use Rattle.adj_tree.proofs.Names.{nat_refl}
 use Rattle.adj_word.specs.Word.{add, sub, wrap}
 use Rattle.adj_word.specs.Pairing.{pairing}
@@ -29,7 +29,7 @@ use Rattle.adj_reverse.proofs.Sweeps.{Sweeps, Returns}
 use Rattle.adj_reverse.proofs.Shapes.{AllText}
 use Rattle.adj_reverse.proofs.Evaluations.{holds_again}
 use Rattle.adj_reverse.proofs.Turns.{TurnsCome, turns_none, turns_then}
-use Rattle.adj_reverse.proofs.Loops.{loop_comes, trips_back}
+use Rattle.adj_reverse.proofs.Loops.{loop_comes, trips_back, step_back}
 use Rattle.adj_reverse.proofs.LoopSweeps.{other_depth, forward_turn}
 use Rattle.adj_reverse.proofs.Tests.{TestsCome, tests_none, tests_more, while_comes}
 
@@ -274,9 +274,9 @@ module _ (q : Calls ℤ) (sh : Var → Shape) (level : ℕ) (xs : List Key) (d l
               let g2 = set g1 (helper turn (suc d)) 0 (wrap (sub total (pos 1))) in
               let total_is : g1 (helper count (suc d)) 0 ≡ total = rw (nat_refl (suc d)) refl in
               let e = r.back b1 g2 (record { at = λ y j lt o. h.at y j lt o }) (rw (nat_refl (suc d)) (wrap-wrap _)) in
-              let turning = loop_comes q nw line (helper turn (suc d)) (bin minus (var (helper count (suc d))) (literal 1)) (literal 0) (lit (negsuc 0)) Bb b1 g1 e.after l0 t (sub total (pos 1)) (pos 0) (negsuc 0) m
-              (ap (λ z. Ok (sub z (pos 1))) total_is) refl refl (ap (λ z. trips unmarked z (pos 0) (negsuc 0)) sub_first ∙ trips_back m small) e.runs in
-              let rest_back = comes_one q nw line (loop (helper turn (suc d)) (bin minus (var (helper count (suc d))) (literal 1)) (literal 0) (lit (negsuc 0)) Bb unmarked) b1 g1 e.after l0 t turning in
+              let turning = loop_comes q nw line (helper turn (suc d)) (bin minus (var (helper count (suc d))) (literal 1)) (literal 0) (neg (literal 1)) Bb b1 g1 e.after l0 t (sub total (pos 1)) (pos 0) (negsuc 0) m
+              (ap (λ z. Ok (sub z (pos 1))) total_is) refl (ap Ok step_back) (ap (λ z. trips unmarked z (pos 0) (negsuc 0)) sub_first ∙ trips_back m small) e.runs in
+              let rest_back = comes_one q nw line (loop (helper turn (suc d)) (bin minus (var (helper count (suc d))) (literal 1)) (literal 0) (neg (literal 1)) Bb unmarked) b1 g1 e.after l0 t turning in
               record {
                 after = e.after;
                 reversals = e.reversals;

@@ -1,7 +1,7 @@
 -- The two sweeps of statements of every kind, by the plan of their unit. (docs/EMITTED.md, "Sweeps")
 -- Variables are told apart by what they hold; names come by one renaming of the whole.
-use Rattle.std.specs.Prelude.{ℕ, suc, pos, negsuc, List, [], ◌∷◌, Bool, true, false, ◌&&◌, if◌then◌else◌}
-use Rattle.adj_tree.specs.Code.{Var, plain, shadow, helper, control, first, stride, count, turn, plus, minus, times, is_same, Term, lit, var, bin, Terms, none, more, Test, compare, unmarked, Act, assign, choose, loop, during, call, runtime, push_word, pop_word, push_array, pop_array, push_control, pop_control, zero_array, Code, stop, step}
+use Rattle.std.specs.Prelude.{ℕ, suc, pos, List, [], ◌∷◌, Bool, true, false, ◌&&◌, if◌then◌else◌}
+use Rattle.adj_tree.specs.Code.{Var, plain, shadow, helper, control, first, stride, count, turn, plus, minus, times, is_same, Term, lit, var, neg, bin, Terms, none, more, Test, compare, unmarked, Act, assign, choose, loop, during, call, runtime, push_word, pop_word, push_array, pop_array, push_control, pop_control, zero_array, Code, stop, step}
 use Rattle.adj_meaning.specs.Append.{◌+++◌, one}
 use Rattle.adj_transpose.specs.Marks.{Vars, Marks, next, behind, point_before, active_at}
 use Rattle.adj_transpose.specs.Marked.{code_if}
@@ -77,7 +77,7 @@ loop_backward false d line x body =
     pop_own line (helper count d)
     (pop_own line (helper stride d)
     (pop_own line (helper first d)
-    (one line (loop (helper turn d) (bin minus (var (helper count d)) (literal 1)) (literal 0) (lit (negsuc 0))
+    (one line (loop (helper turn d) (bin minus (var (helper count d)) (literal 1)) (literal 0) (neg (literal 1))
     (set_own line x (bin plus (var (helper first d)) (bin times (var (helper turn d)) (var (helper stride d)))) body) unmarked))))
 
 -- a DO WHILE of depth d whose body has this forward sweep
@@ -93,7 +93,7 @@ abbrev pub while_backward : Bool → ℕ → ℕ → Code → Code
 while_backward true d line body = stop
 while_backward false d line body =
     pop_own line (helper count d)
-    (one line (loop (helper turn d) (bin minus (var (helper count d)) (literal 1)) (literal 0) (lit (negsuc 0)) body unmarked))
+    (one line (loop (helper turn d) (bin minus (var (helper count d)) (literal 1)) (literal 0) (neg (literal 1)) body unmarked))
 
 -- a DO sets the shadow of its variable to 0 where that has one and is varied before it
 abbrev pub resets : Marks → ℕ → List ℕ → Bool

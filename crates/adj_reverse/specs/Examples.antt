@@ -1,6 +1,6 @@
 -- A program with a loop over an array and a call, and the sweeps of its units, written out.
-use Rattle.std.specs.Prelude.{ℕ, pos, negsuc, List, [], ◌∷◌, map, ◌==◌, ◌||◌, not, false, codes}
-use Rattle.adj_tree.specs.Code.{Var, plain, shadow, helper, work, control, first, stride, count, turn, Term, lit, var, elem, bin, plus, minus, times, greater, power_of, Terms, none, more, is_less, is_same, is_greater, compare, unmarked, Act, assign, choose, loop, during, call, runtime, push_control, pop_control, push_word, pop_word, push_array, pop_array, Code, stop, step, given, Procedure}
+use Rattle.std.specs.Prelude.{ℕ, pos, List, [], ◌∷◌, map, ◌==◌, ◌||◌, not, false, codes}
+use Rattle.adj_tree.specs.Code.{Var, plain, shadow, helper, work, control, first, stride, count, turn, Term, lit, var, elem, neg, bin, plus, minus, times, greater, power_of, Terms, none, more, is_less, is_same, is_greater, compare, unmarked, Act, assign, choose, loop, during, call, runtime, push_control, pop_control, push_word, pop_word, push_array, pop_array, Code, stop, step, given, Procedure}
 use Rattle.adj_transpose.specs.Marks.{everything}
 use Rattle.adj_reverse.specs.Marking.{full_marks, ProgramFacts}
 
@@ -67,7 +67,7 @@ squares_backward =
     step 3 (pop_scalar (helper count 1))
     (step 3 (pop_scalar (helper stride 1))
     (step 3 (pop_scalar (helper first 1))
-    (step 3 (loop (helper turn 1) (bin minus (var (helper count 1)) (lit (pos 1))) (lit (pos 0)) (lit (negsuc 0))
+    (step 3 (loop (helper turn 1) (bin minus (var (helper count 1)) (lit (pos 1))) (lit (pos 0)) (neg (lit (pos 1)))
     (step 3 (set (plain (codes "I")) (bin plus (var (helper first 1)) (bin times (var (helper turn 1)) (var (helper stride 1)))))
     (step 4 (runtime (pop_word (plain (codes "A")) (one_of (plain (codes "I")))))
     (step 4 (set (helper work 1) its_shadow)
@@ -187,7 +187,7 @@ powers_forward =
 abbrev pub powers_backward : Code
 powers_backward =
     step 3 (pop_scalar (helper count 1))
-    (step 3 (loop (helper turn 1) (bin minus (var (helper count 1)) (lit (pos 1))) (lit (pos 0)) (lit (negsuc 0))
+    (step 3 (loop (helper turn 1) (bin minus (var (helper count 1)) (lit (pos 1))) (lit (pos 0)) (neg (lit (pos 1)))
     (step 5 (pop_scalar i)
     (step 5 (set (helper work 1) (var (shadow (codes "I"))))
     (step 5 (set (shadow (codes "I")) (lit (pos 0)))

@@ -9,3 +9,5 @@
 
 pub mod parts;
 pub mod share;
+#[cfg(test)]
+mod tests;

@@ -1,11 +1,6 @@
--- Lemmas about names, declarations and tables.
-pub mod NameSets
-pub mod Added
-pub mod Places
-pub mod Tables
+-- Lemmas about names.
 pub mod Locals
-pub mod Making
-pub mod Declarations
+pub mod Named
 -- Lemmas about the sweeps.
 pub mod Plain
 pub mod Onto

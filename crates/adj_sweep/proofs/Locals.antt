@@ -5,9 +5,9 @@ use Rattle.adj_tree.specs.declared.unit.Unit as units
 use Rattle.adj_tree.specs.View.{declaration_of, procedure_of}
 use Rattle.adj_transpose.specs.Fresh.{has_name}
 use Rattle.adj_transpose.specs.Program.{locals_among, variables}
-use Rattle.adj_sweep.specs.Sets.{all_added}
-use Rattle.adj_sweep.proofs.Added.{all_added-append}
-use Rattle.adj_sweep.proofs.Places.{from_here}
+use Rattle.adj_naming.specs.Sets.{all_added}
+use Rattle.adj_naming.proofs.Added.{all_added-append}
+use Rattle.adj_naming.proofs.Places.{from_here}
 
 -- a declared variable that is no dummy is a local
 pub local_kept : (items : List Decl) (dummies made : List (List ℕ)) (i : ℕ) (d : Decl) → i < length items → d ≡ get_or items i d → has_name d.name dummies ≡ false → (made ++ (d.name ∷ [])) ++ locals_among dummies (map declaration_of (drop (i + 1) items)) ≡ made ++ locals_among dummies (map declaration_of (drop i items))

@@ -11,8 +11,8 @@ use Rattle.adj_tree.specs.declared.stmt.Stmts.TheVariants as stmts
 use Rattle.adj_tree.specs.View.{op_of, term_of, terms_of, code_of}
 use Rattle.adj_meaning.specs.Rename.{rename_term, rename_terms, rename}
 use Rattle.adj_transpose.specs.Emit.{forward}
-use Rattle.adj_sweep.specs.declared.names.Names.{Names}
-use Rattle.adj_sweep.specs.Table.{named_by}
+use Rattle.adj_naming.specs.declared.names.Names.{Names}
+use Rattle.adj_naming.specs.Table.{named_by}
 
 mutual
   pub term_plain : (n : Names) (e : Expr) → rename_term (named_by n) (term_of e) ≡ term_of e

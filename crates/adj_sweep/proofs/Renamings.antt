@@ -9,8 +9,8 @@ use Rattle.adj_meaning.proofs.Renamed.{rename-append}
 use Rattle.adj_transpose.specs.Emit.{code_if, is_active, has_own, count_of, temps_in, own_or, own_code, shrunk, temps, work_var, back, adjoint_of, forward, backward_act, backward, zeros, adjoint_body}
 use Rattle.adj_transpose.specs.Naming.{naming}
 use Rattle.adj_transpose.specs.Pairs.{Key, key_eq, IsOver, IsStraight}
-use Rattle.adj_sweep.specs.declared.names.Names.{Names}
-use Rattle.adj_sweep.specs.Table.{table_of, named_by}
+use Rattle.adj_naming.specs.declared.names.Names.{Names}
+use Rattle.adj_naming.specs.Table.{table_of, named_by}
 
 module _ (n : Names) (xs : List Key) (keeps : (x : List ℕ) → stands_in key_eq (x, 0) xs ≡ true → naming (table_of n) (plain x) ≡ plain x) where
   -- both ways of renaming give the same

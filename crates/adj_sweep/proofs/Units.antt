@@ -2,16 +2,16 @@
 use Rattle.std.proofs.Common.{◌≡◌, ℕ, zero, suc, Bool, true, false, List, [], ◌∷◌, ◌++◌, ◌+◌, ◌-◌, ◌<◌, ◌≤◌, map, length, drop, get_or, refl, sym, ap, ◌∙◌, arith, append_assoc, add-one, if◌then◌else◌}
 use Rattle.std.specs.Prelude.{pos}
 use Rattle.std.proofs.lemmas.List.{map_push}
-use Rattle.adj_tree.specs.Code.{Var, shadow, helper, Role, lit, none, assign, Code, step, Declaration}
+use Rattle.adj_tree.specs.Code.{Var, shadow, helper, Role, lit, none, assign, Code, step, Declaration, Procedure}
 use Rattle.adj_tree.specs.View.{declaration_of}
 use Rattle.adj_tree.specs.declared.unit.Decl.{Decl}
 use Rattle.adj_meaning.specs.Append.{◌+++◌}
 use Rattle.adj_meaning.specs.Rename.{rename}
 use Rattle.adj_transpose.specs.Emit.{zeros}
 use Rattle.adj_transpose.specs.Naming.{Named, name_in}
-use Rattle.adj_transpose.specs.Program.{unmarked, scalar, declared_helpers, helpers_from}
-use Rattle.adj_sweep.specs.Table.{mark_at}
-use Rattle.adj_sweep.proofs.Places.{from_here}
+use Rattle.adj_transpose.specs.Program.{unmarked, scalar, declaration, declared_with_shadows, declared_helpers, helpers_from}
+use Rattle.adj_sweep.specs.Parts.{mark_at, with_name, declared_by}
+use Rattle.adj_naming.proofs.Places.{from_here, get_or_any}
 
 -- ---- declarations of helpers
 
@@ -35,12 +35,6 @@ unmarked_at x ys [] (suc j) = refl
 unmarked_at x ys (true ∷ marks) zero = refl
 unmarked_at x ys (false ∷ marks) zero = refl
 unmarked_at x ys (m ∷ marks) (suc j) = unmarked_at x ys marks j
-
--- within a list it is no matter what stands for what is missing
-get_or_any : {A : Type 0} (xs : List A) (j : ℕ) (a b : A) → j < length xs → get_or xs j a ≡ get_or xs j b
-get_or_any [] j a b h = absurd (omega arith)
-get_or_any (x ∷ xs) zero a b h = refl
-get_or_any (x ∷ xs) (suc j) a b h = get_or_any xs j a b (omega arith)
 
 -- what isn't marked is set to 0 before the rest
 pub zeros_more : (r : Var → Var) (line : ℕ) (xs : List (List ℕ)) (marks : List Bool) (i : ℕ) (x : List ℕ) (code code' rest : Code) → 0 < i → i ≤ length xs → x ≡ get_or xs (i - 1) x → mark_at marks (i - 1) ≡ false → code' ≡ step line (assign (r (shadow x)) none (lit (pos 0))) code → code ≡ rename r (zeros line (unmarked (drop i xs) (drop i marks))) +++ rest → code' ≡ rename r (zeros line (unmarked (drop (i - 1) xs) (drop (i - 1) marks))) +++ rest
@@ -83,3 +77,8 @@ all_declared ns line works temps none_yet dummies locals most all d l h0 hd hl h
     let first : dummies ≡ d = hd ∙ ap (λ x. x ++ d) h0 in
     ha ∙ ap (λ x. x ++ z) (hm ∙ ap (λ x. x ++ w) (hl ∙ ap (λ x. x ++ l) first))
     ∙ append_assoc (d ++ l) w z ∙ append_assoc d l (w ++ z) ∙ ap (λ x. d ++ (l ++ x)) (sym (helpers-append ns line works temps))
+
+-- what is found is what the unit declares
+pub declared_same : (find : List ℕ → Declaration) (ns : List Named) (p : Procedure) (xs : List (List ℕ)) → ((x : List ℕ) → find x ≡ declaration p.line p.declarations x) → declared_by find ns xs ≡ declared_with_shadows ns p xs
+declared_same find ns p [] h = refl
+declared_same find ns p (x ∷ xs) h = λ i. h x i ∷ with_name (h x i) (name_in ns (shadow x)) ∷ declared_same find ns p xs h i

@@ -1,3 +1,2 @@
-pub mod Table
+pub mod Parts
 pub mod Steps
-pub mod Sets

@@ -7,12 +7,13 @@ ghost use Rattle.adj_meaning.specs.Append.{◌+++◌};
 ghost use Rattle.adj_meaning.specs.Rename.{rename, rename_term};
 ghost use Rattle.adj_transpose.specs.Emit.{is_active, code_if, work_var, own_or, back};
 ghost use Rattle.adj_sweep.specs.Steps.{power_share, scaled_code};
-ghost use Rattle.adj_sweep.specs.Table.{named_by};
+ghost use Rattle.adj_naming.specs.Table.{named_by};
 
-use crate::names::{Helper, Names};
 use crate::sizes::{count_of, has_own_beside, is_active, measured, plus};
 use crate::step::{assignment, before, scalar_assignment};
 use crate::terms::{multiplied, negated, operand, raised, sum, work_var};
+use adj_naming::names::Names;
+use adj_naming::role::Role;
 use adj_tree::{Expr, Exprs, Memory, Name, Op, Stmts};
 use std::alloc::Global;
 
@@ -163,7 +164,7 @@ fn back_scaled(
     if is_active(e) {
         let next = plus(work, 1)?;
         let tail = back(alloc, n, line, e, next, temp, rest)?;
-        let target = n.helper(alloc, Helper::Work, next)?;
+        let target = n.helper(alloc, Role::Work, next)?;
         before(alloc, scalar_assignment(line, target, value), tail)
     } else {
         Ok(rest)

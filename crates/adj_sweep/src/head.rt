@@ -9,14 +9,16 @@ ghost use Rattle.adj_transpose.specs.Emit.{adjoint_body};
 ghost use Rattle.adj_transpose.specs.Program.{locals, unmarked, declared_with_shadows, declared_helpers, helpers_from, adjoint_unit, unit_at, adjoint_program};
 ghost use Rattle.adj_transpose.specs.Straight.{IsStraightUnit};
 ghost use Rattle.adj_transpose.specs.Adjoint.{IsAdjoint};
-ghost use Rattle.adj_sweep.specs.Table.{table_of, named_by};
+ghost use Rattle.adj_naming.specs.Table.{table_of, named_by};
 
-use crate::declared::first_declarations;
-use crate::names::{Helper, Names};
-use crate::naming::{adjoint_name, locals, names};
+use crate::naming::names;
 use crate::sizes::{Used, helpers_used};
+use crate::source::{adjoint_name, locals};
 use crate::sweeps::{backward, forward};
 use crate::unit::{declare_helpers, declare_variables, with_shadows, zeros};
+use adj_naming::declared::first_declarations;
+use adj_naming::names::Names;
+use adj_naming::role::Role;
 use adj_tree::{Decl, Head, Items, Memory, Program, Stmts, Unit, Units};
 use std::alloc::Global;
 
@@ -30,8 +32,8 @@ fn declarations(alloc: Global, n: &Names, unit: &Unit, used: Used) -> Result<Vec
     declare_variables(alloc, n, unit.line, &declared, dummies, &mut made)?;
     let more = locals(alloc, unit)?;
     declare_variables(alloc, n, unit.line, &declared, more.as_slice(), &mut made)?;
-    declare_helpers(alloc, n, unit.line, Helper::Work, used.works, &mut made)?;
-    declare_helpers(alloc, n, unit.line, Helper::Temp, used.temps, &mut made)?;
+    declare_helpers(alloc, n, unit.line, Role::Work, used.works, &mut made)?;
+    declare_helpers(alloc, n, unit.line, Role::Temp, used.temps, &mut made)?;
     Ok(made)
 }
 

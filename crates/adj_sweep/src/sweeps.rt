@@ -7,14 +7,15 @@ ghost use Rattle.adj_tree.specs.View.{term_of, terms_of, act_of, code_of};
 ghost use Rattle.adj_meaning.specs.Append.{◌+++◌};
 ghost use Rattle.adj_meaning.specs.Rename.{rename};
 ghost use Rattle.adj_transpose.specs.Emit.{adjoint_of, forward_act, forward, backward_act, backward};
-ghost use Rattle.adj_sweep.specs.Table.{named_by};
+ghost use Rattle.adj_naming.specs.Table.{named_by};
 
 use crate::back::back;
-use crate::names::{Helper, Names};
 use crate::sizes::is_active;
 use crate::step::{all_before, assignment, before, pop, push, scalar_assignment};
 use crate::temps::shrink;
 use crate::terms::shadow_of;
+use adj_naming::names::Names;
+use adj_naming::role::Role;
 use adj_tree::{Act, Expr, Memory, Place, Stmt, Stmts};
 use std::alloc::Global;
 
@@ -46,7 +47,7 @@ fn adjoint_of(
     }
     let mut steps = Vec::new(alloc);
     let _ = shrink(alloc, n, line, e, 1, &mut steps)?;
-    let first = n.helper(alloc, Helper::Work, 1)?;
+    let first = n.helper(alloc, Role::Work, 1)?;
     let adjoint = shadow_of(alloc, n, target)?;
     steps.push(scalar_assignment(line, first, adjoint))?;
     steps.push(cleared)?;

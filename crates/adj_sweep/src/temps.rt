@@ -6,13 +6,14 @@ ghost use Rattle.adj_tree.specs.View.{op_of, term_of};
 ghost use Rattle.adj_meaning.specs.Append.{◌+++◌};
 ghost use Rattle.adj_meaning.specs.Rename.{rename, rename_term};
 ghost use Rattle.adj_transpose.specs.Emit.{temps_in, shrunk, temps, own_or, own_code, count_of};
-ghost use Rattle.adj_sweep.specs.Table.{named_by};
+ghost use Rattle.adj_naming.specs.Table.{named_by};
 ghost use Rattle.adj_sweep.specs.Steps.{steps_onto};
 
-use crate::names::{Helper, Names};
 use crate::sizes::{has_own, plus};
 use crate::step::scalar_assignment;
 use crate::terms::{negated, raised, temp_var};
+use adj_naming::names::Names;
+use adj_naming::role::Role;
 use adj_tree::{Expr, Memory, Op, Stmt};
 use std::alloc::Global;
 
@@ -88,7 +89,7 @@ fn operand(
     if !own {
         return Ok(e);
     }
-    let name = n.helper(alloc, Helper::Temp, e.next)?;
+    let name = n.helper(alloc, Role::Temp, e.next)?;
     steps.push(scalar_assignment(line, name, e.term))?;
     let term = temp_var(alloc, n, e.next)?;
     let next = plus(e.next, 1)?;

@@ -5,9 +5,10 @@ ghost use Rattle.adj_tree.specs.Code.{shadow, helper, work, temp, var, neg, bin,
 ghost use Rattle.adj_tree.specs.View.{term_of, terms_of};
 ghost use Rattle.adj_meaning.specs.Rename.{rename_term};
 ghost use Rattle.adj_transpose.specs.Emit.{own_or, place};
-ghost use Rattle.adj_sweep.specs.Table.{named_by};
+ghost use Rattle.adj_naming.specs.Table.{named_by};
 
-use crate::names::{Helper, Names};
+use adj_naming::names::Names;
+use adj_naming::role::Role;
 use adj_tree::{Expr, Exprs, Memory, Name, Op, Place};
 use std::alloc::Global;
 
@@ -15,7 +16,7 @@ use std::alloc::Global;
 pub fn work_var(alloc: Global, n: &Names, number: usize) -> Result<Expr, Memory>
     ensures variable { IfOk result (λ e. term_of e ≡ var (named_by n.now (helper work number))) }
 {
-    let name = n.helper(alloc, Helper::Work, number)?;
+    let name = n.helper(alloc, Role::Work, number)?;
     Ok(Expr::Var(name))
 }
 
@@ -23,7 +24,7 @@ pub fn work_var(alloc: Global, n: &Names, number: usize) -> Result<Expr, Memory>
 pub fn temp_var(alloc: Global, n: &Names, number: usize) -> Result<Expr, Memory>
     ensures variable { IfOk result (λ e. term_of e ≡ var (named_by n.now (helper temp number))) }
 {
-    let name = n.helper(alloc, Helper::Temp, number)?;
+    let name = n.helper(alloc, Role::Temp, number)?;
     Ok(Expr::Var(name))
 }
 

@@ -1,11 +1,12 @@
 //! The sweeps of small lists of assignments, against statements that were worked out by the rules of docs/EMITTED.md.
 
-use crate::fresh::fresh;
-use crate::name_set::NameSet;
-use crate::names::Names;
 use crate::step::scalar_assignment;
 use crate::sweeps::{backward, forward};
-use adj_tree::{Act, Expr, Memory, Name, Op, RunCall, Stmt, Stmts};
+use adj_naming::helper_set::HelperSet;
+use adj_naming::name_set::NameSet;
+use adj_naming::names::Names;
+use adj_naming::role::{Helper, Role};
+use adj_tree::{Act, Expr, Items, Memory, Name, Op, RunCall, Stmt, Stmts};
 use std::alloc::Global;
 use std::test::Fail;
 
@@ -33,16 +34,34 @@ fn listed(alloc: Global, texts: &[&[u8]]) -> Result<Vec<Name>, Memory> {
     Ok(made)
 }
 
+// The helpers of a role with the first numbers, from 1.
+fn add_helpers(set: &mut HelperSet, role: Role, count: usize) -> Result<(), Memory> {
+    for done in 0..count {
+        set.add(Helper {
+            role,
+            number: done + 1,
+        })?;
+    }
+    Ok(())
+}
+
 // Names where X and Y are the variables.
 fn plain_names(alloc: Global) -> Result<Names, Memory> {
-    let mut variables = NameSet::new(alloc);
-    variables.add(alloc, b"X")?;
-    variables.add(alloc, b"Y")?;
+    let mut shadowed = NameSet::new(alloc);
+    shadowed.add(alloc, b"X")?;
+    shadowed.add(alloc, b"Y")?;
+    let mut helpers = HelperSet::new(alloc);
+    add_helpers(&mut helpers, Role::Work, 4)?;
+    add_helpers(&mut helpers, Role::Temp, 3)?;
+    let texts: [&[u8]; 7] = [
+        b"ADW1", b"ADW2", b"ADW3", b"ADW4", b"ADZ1", b"ADZ2", b"ADZ3",
+    ];
     Ok(Names {
-        variables,
-        shadows: listed(alloc, &[b"XB", b"YB"])?,
-        works: listed(alloc, &[b"ADW1", b"ADW2", b"ADW3", b"ADW4"])?,
-        temps: listed(alloc, &[b"ADZ1", b"ADZ2", b"ADZ3"])?,
+        variables: Items::new(listed(alloc, &[b"X", b"Y"])?),
+        shadowed,
+        shadows: Items::new(listed(alloc, &[b"XB", b"YB"])?),
+        helpers,
+        helper_names: Items::new(listed(alloc, &texts)?),
     })
 }
 
@@ -174,21 +193,5 @@ fn operands_come_before_what_holds_them(rt: HostRuntime) -> Result<(), Fail> {
     let expected: &[u8] =
         b"pop Y;ADZ1=(X*Y);ADZ2=(Y+1);ADZ3=(X*ADZ2);ADW1=YB;YB=0;ADW2=(ADW1*ADZ3);ADW3=(ADW2*Y);XB=(XB+ADW3);ADW3=(ADW2*X);YB=(YB+ADW3);ADW2=(ADW1*ADZ1);ADW3=(ADW2*ADZ2);XB=(XB+ADW3);ADW3=(ADW2*X);YB=(YB+ADW3);";
     assert!(rt; text_of(alloc, &back)?.as_slice() == expected);
-    Ok(())
-}
-
-#[test]
-fn a_name_of_the_source_is_not_given_again(rt: HostRuntime) -> Result<(), Fail> {
-    let alloc = rt.alloc();
-    let mut taken = NameSet::new(alloc);
-    taken.add(alloc, b"XB")?;
-    taken.add(alloc, b"XB_1")?;
-    taken.add(alloc, b"ADW1")?;
-    let shadow: &[u8] = b"XB_2";
-    assert!(rt; fresh(alloc, b"XB", &taken)?.bytes() == shadow);
-    let helper: &[u8] = b"ADW1_1";
-    assert!(rt; fresh(alloc, b"ADW1", &taken)?.bytes() == helper);
-    let free: &[u8] = b"YB";
-    assert!(rt; fresh(alloc, b"YB", &taken)?.bytes() == free);
     Ok(())
 }

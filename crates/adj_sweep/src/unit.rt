@@ -8,11 +8,14 @@ ghost use Rattle.adj_meaning.specs.Rename.{rename};
 ghost use Rattle.adj_transpose.specs.Emit.{zeros};
 ghost use Rattle.adj_transpose.specs.Program.{unmarked, with_shadows, declaration, declared_helpers, helpers_from};
 ghost use Rattle.adj_transpose.specs.Naming.{name_in};
-ghost use Rattle.adj_sweep.specs.Table.{table_of, named_by, role_of, mark_at, with_name, declared_by};
+ghost use Rattle.adj_naming.specs.Roles.{role_of};
+ghost use Rattle.adj_naming.specs.Table.{table_of, named_by};
+ghost use Rattle.adj_sweep.specs.Parts.{mark_at, with_name, declared_by};
 
-use crate::declared::{Declared, declaration, scalar};
-use crate::names::{Helper, Names};
 use crate::step::{before, scalar_assignment};
+use adj_naming::declared::{Declared, declaration, scalar};
+use adj_naming::names::Names;
+use adj_naming::role::Role;
 use adj_tree::{Decl, Expr, Memory, Name, Stmts};
 use std::alloc::Global;
 
@@ -99,7 +102,7 @@ pub fn declare_helpers(
     alloc: Global,
     n: &Names,
     line: u32,
-    role: Helper,
+    role: Role,
     count: usize,
     made: &mut Vec<Decl>,
 ) -> Result<(), Memory>

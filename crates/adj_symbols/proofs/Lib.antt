@@ -2,3 +2,9 @@ pub mod Tables
 pub mod Repeats
 pub mod Outlines
 pub mod Onces
+pub mod Scopes
+pub mod FirstPlaces
+pub mod Products
+pub mod Names
+pub mod Ends
+pub mod Lengths

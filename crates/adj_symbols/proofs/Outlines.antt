@@ -20,21 +20,21 @@ value_of-behind x y n (e ∷ es) = go (name_eq x e.0) (value_of-behind x y n es)
     go true ih = refl
     go false ih = ih
 
--- what is known of the declarations passed and of those that are left
-pub ranks_more : (x : Name) (es made : List (Name × ℕ)) (ds : List Declaration) (y : Name) (n : ℕ) → made ≡ with_value es y n → option_or (value_of x made) (declared_rank ds x) ≡ option_or (value_of x es) (if name_eq x y then Some n else declared_rank ds x)
-ranks_more x es made ds y n m = ap (λ z. option_or (value_of x z) (declared_rank ds x)) m ∙ go (value_of y es) refl
+-- what is known of the names passed and of those that are left
+pub numbers_more : (x : Name) (es made : List (Name × ℕ)) (later : Option ℕ) (y : Name) (n : ℕ) → made ≡ with_value es y n → option_or (value_of x made) later ≡ option_or (value_of x es) (if name_eq x y then Some n else later)
+numbers_more x es made later y n m = ap (λ z. option_or (value_of x z) later) m ∙ go (value_of y es) refl
   where
-    joined : (a : Option ℕ) (b : Bool) → option_or (option_or a (if b then Some n else None)) (declared_rank ds x) ≡ option_or a (if b then Some n else declared_rank ds x)
+    joined : (a : Option ℕ) (b : Bool) → option_or (option_or a (if b then Some n else None)) later ≡ option_or a (if b then Some n else later)
     joined None true = refl
     joined None false = refl
     joined (Some m) b = refl
 
-    there : (k : ℕ) (b : Bool) → name_eq x y ≡ b → value_of y es ≡ Some k → option_or (value_of x es) (declared_rank ds x) ≡ option_or (value_of x es) (if b then Some n else declared_rank ds x)
+    there : (k : ℕ) (b : Bool) → name_eq x y ≡ b → value_of y es ≡ Some k → option_or (value_of x es) later ≡ option_or (value_of x es) (if b then Some n else later)
     there k true e f = let same = ap (λ z. value_of z es) (name_same x y e) ∙ f in rw same refl
     there k false e f = refl
 
-    go : (f : Option ℕ) → value_of y es ≡ f → option_or (value_of x (if is_some f then es else es ++ (y, n) ∷ [])) (declared_rank ds x) ≡ option_or (value_of x es) (if name_eq x y then Some n else declared_rank ds x)
-    go None f = ap (λ z. option_or z (declared_rank ds x)) (value_of-behind x y n es) ∙ joined (value_of x es) (name_eq x y)
+    go : (f : Option ℕ) → value_of y es ≡ f → option_or (value_of x (if is_some f then es else es ++ (y, n) ∷ [])) later ≡ option_or (value_of x es) (if name_eq x y then Some n else later)
+    go None f = ap (λ z. option_or z later) (value_of-behind x y n es) ∙ joined (value_of x es) (name_eq x y)
     go (Some k) f = there k (name_eq x y) refl f
 
 -- the rank of a variable is the number of extents that it is first declared with

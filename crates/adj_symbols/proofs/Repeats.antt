@@ -43,7 +43,7 @@ again-same code xs ys (p ∷ ps) h =
     ap₂ (λ b rs. faults_if b (fault code p.0) ++ rs) (h p.1) (again-same code (p.1 ∷ xs) (p.1 ∷ ys) ps (λ x. ap (λ b. name_eq x p.1 || b) (h x)))
 
 -- what is left begins with the place that is looked at
-left : (ps : List Placed) (i : ℕ) (p : Placed) → i < length ps → p ≡ get_or ps i p → p ∷ drop (i + 1) ps ≡ drop i ps
+pub left : (ps : List Placed) (i : ℕ) (p : Placed) → i < length ps → p ≡ get_or ps i p → p ∷ drop (i + 1) ps ≡ drop i ps
 left ps i p lt is = sym (drop_more ps i p lt ∙ ap (λ z. z ∷ drop (i + 1) ps) (sym is))
 
 -- one more name is looked at

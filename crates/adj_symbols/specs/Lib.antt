@@ -2,3 +2,6 @@
 pub mod Table
 pub mod View
 pub mod Outline
+pub mod Scope
+pub mod Rules
+pub mod Chain

@@ -1,5 +1,5 @@
 -- Views: what clauses see of lists of borrowed statements and names.
-use Rattle.std.specs.Prelude.{ℕ, List, map, flat_map, Bool, Option, Some, None}
+use Rattle.std.specs.Prelude.{ℕ, ℤ, pos, List, map, flat_map, Bool, Option, Some, None}
 use Rattle.std.specs.Borrow.{Bor}
 use Rattle.adj_tree.specs.Code as code
 use Rattle.adj_tree.specs.Listed.{statement_of}
@@ -53,3 +53,8 @@ names_at ps = map (λ p. p.1) ps
 -- where a name stands that is used
 abbrev pub used_place : At Standing → At Name
 used_place u = (u.0, u.1.name)
+
+-- a literal extent, and 1 for a name
+abbrev pub literal_of : code.Extent → ℤ
+literal_of (code.fixed z) = z
+literal_of (code.given x) = pos 1

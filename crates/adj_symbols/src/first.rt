@@ -2,7 +2,8 @@
 
 ghost use Rattle.std.specs.Prelude.{◌≡◌, Option, Some, None};
 ghost use Rattle.adj_tree.specs.declared.fault.Refusal.{Refusal};
-ghost use Rattle.adj_names.specs.Fault.{is_before, fault, faults_if, first_of, sooner};
+ghost use Rattle.adj_names.specs.Fault.{is_before, fault, passed, faults_if, first_of, sooner};
+ghost use Rattle.adj_symbols.specs.Scope.{faults_with};
 
 use adj_tree::Refusal;
 use std::marker::Model;
@@ -61,6 +62,32 @@ impl First {
                 code,
                 line,
                 number: 0,
+            });
+        }
+    }
+
+    /// One more fault at a line, where there is a code.
+    pub(crate) fn add_some(&mut self, code: Option<u8>, line: u32)
+        ensures added { self.new ≡ sooner self.old (first_of (faults_with code line)) }
+    {
+        if let Some(code) = code {
+            self.add(Refusal {
+                code,
+                line,
+                number: 0,
+            });
+        }
+    }
+
+    /// A limit that is passed at a line, where it is.
+    pub(crate) fn add_passed_if(&mut self, is_passed: bool, limit: usize, line: u32)
+        ensures added { self.new ≡ sooner self.old (first_of (faults_if is_passed (passed limit line))) }
+    {
+        if is_passed {
+            self.add(Refusal {
+                code: 21,
+                line,
+                number: limit as u64,
             });
         }
     }

@@ -5,11 +5,16 @@
 //! `adj_names`, whose definitions say what is a fault and which comes first.
 #![tactic(auto)]
 
+mod calls;
+mod chains;
 mod extents;
 mod first;
 mod name_faults;
 mod outline;
 mod places;
+mod rules;
+mod scope;
 mod standing;
 mod statements;
 mod table;
+mod unit_names;

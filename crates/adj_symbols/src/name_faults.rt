@@ -2,7 +2,7 @@
 
 ghost use Rattle.std.specs.Prelude.{◌≡◌, ◌++◌, ◌==◌, ◌||◌, ◌&&◌, not, is_some, ℕ, List, map, flat_map, IfOk, OnOk, if◌then◌else◌};
 ghost use Rattle.adj_tree.specs.View.{terms_of, act_of, declaration_of, procedure_of};
-ghost use Rattle.adj_names.specs.Fresh.{has_name};
+ghost use Rattle.adj_meaning.specs.Written.{find_unit};
 ghost use Rattle.adj_names.specs.Reserved.{is_reserved};
 ghost use Rattle.adj_names.specs.Standing.{count_of};
 ghost use Rattle.adj_names.specs.Variables.{dummy_places, declared_places, is_integer};
@@ -13,13 +13,13 @@ ghost use Rattle.adj_symbols.specs.View.{seen, use_of, uses_of, used_place, plac
 use crate::first::First;
 use crate::outline::Outline;
 use crate::places::Placed;
+use crate::scope::Scope;
 use crate::standing::{Stands, Use};
-use crate::table::NameSet;
 use adj_names::{is_reserved, is_runtime};
 use adj_tree::{Act, Exprs, Memory, Name, Stmt, Unit};
 
-// Adds the dummies, which stand in the SUBROUTINE.
-fn add_dummies<'a>(unit: &'a Unit, out: &mut Vec<Placed<'a>>) -> Result<(), Memory>
+/// Adds the dummies, which stand in the SUBROUTINE.
+pub(crate) fn add_dummies<'a>(unit: &'a Unit, out: &mut Vec<Placed<'a>>) -> Result<(), Memory>
     ensures { OnOk result (places_of out.new.items ≡ places_of out.old.items ++ dummy_places (procedure_of unit.now)) }
 {
     for name in unit.dummies.as_slice() {
@@ -31,8 +31,8 @@ fn add_dummies<'a>(unit: &'a Unit, out: &mut Vec<Placed<'a>>) -> Result<(), Memo
     Ok(())
 }
 
-// Adds the declared variables.
-fn add_declared<'a>(unit: &'a Unit, out: &mut Vec<Placed<'a>>) -> Result<(), Memory>
+/// Adds the declared variables.
+pub(crate) fn add_declared<'a>(unit: &'a Unit, out: &mut Vec<Placed<'a>>) -> Result<(), Memory>
     ensures { OnOk result (places_of out.new.items ≡ places_of out.old.items ++ declared_places (procedure_of unit.now)) }
 {
     for decl in unit.decls.as_slice() {
@@ -44,8 +44,8 @@ fn add_declared<'a>(unit: &'a Unit, out: &mut Vec<Placed<'a>>) -> Result<(), Mem
     Ok(())
 }
 
-// Adds the names that stand in statements.
-fn add_used<'a>(uses: &[Use<'a>], out: &mut Vec<Placed<'a>>) -> Result<(), Memory>
+/// Adds the names that stand in statements.
+pub(crate) fn add_used<'a>(uses: &[Use<'a>], out: &mut Vec<Placed<'a>>) -> Result<(), Memory>
     ensures { OnOk result (places_of out.new.items ≡ places_of out.old.items ++ map used_place (uses_of uses.now)) }
 {
     for used in uses {
@@ -67,22 +67,18 @@ pub(crate) fn add_undeclared(outline: &Outline<'_>, places: &[Placed<'_>], first
 }
 
 // Whether an intrinsic, a runtime call or a unit has the name.
-fn is_taken(unit_names: &NameSet<'_>, name: &Name) -> bool
-    ensures { result ≡ (is_reserved name.now || has_name name.now unit_names.now) }
+fn is_taken(scope: &Scope<'_>, name: &Name) -> bool
+    ensures { result ≡ (is_reserved name.now || is_some (find_unit (map procedure_of scope.now) name.now)) }
 {
-    is_reserved(name) || unit_names.contains(name)
+    is_reserved(name) || scope.has(name)
 }
 
 /// Adds a fault at each name that an intrinsic, a runtime call or a unit has.
-pub(crate) fn add_reserved_variables(
-    unit_names: &NameSet<'_>,
-    places: &[Placed<'_>],
-    first: &mut First,
-)
-    ensures { first.new ≡ sooner first.old (first_of (flat_map (λ p. faults_if (is_reserved p.1 || has_name p.1 unit_names.now) (fault 18 p.0)) (places_of places.now))) }
+pub(crate) fn add_reserved_variables(scope: &Scope<'_>, places: &[Placed<'_>], first: &mut First)
+    ensures { first.new ≡ sooner first.old (first_of (flat_map (λ p. faults_if (is_reserved p.1 || is_some (find_unit (map procedure_of scope.now) p.1)) (fault 18 p.0)) (places_of places.now))) }
 {
     for place in places {
-        first.add_if(is_taken(unit_names, place.name), 18, place.line);
+        first.add_if(is_taken(scope, place.name), 18, place.line);
     }
 }
 

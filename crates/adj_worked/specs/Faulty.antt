@@ -1,6 +1,6 @@
 -- Emitted programs with a fault: each is what is emitted by some marks, but for one thing. (docs/THEOREMS.md, "Sweeps of every statement")
-use Rattle.std.specs.Prelude.{ℕ, pos, negsuc, List, map, Bool, false, if◌then◌else◌}
-use Rattle.adj_tree.specs.Code.{plain, name_eq, plus, times, greater, lit, bin, power_of, none, Act, assign, choose, loop, during, call, runtime, push_control, push_word, pop_word, Code, stop, step, Procedure}
+use Rattle.std.specs.Prelude.{ℕ, pos, List, map, Bool, false, if◌then◌else◌}
+use Rattle.adj_tree.specs.Code.{plain, name_eq, plus, times, greater, lit, neg, bin, power_of, none, Act, assign, choose, loop, during, call, runtime, push_control, push_word, pop_word, Code, stop, step, Procedure}
 use Rattle.adj_reverse.specs.Marking.{ProgramMarks}
 use Rattle.adj_reverse.specs.Program.{emitted_program}
 use Rattle.adj_reverse.specs.Adjoint.{IsAdjoint}
@@ -51,7 +51,7 @@ untold line a rest = step line a rest
 
 -- DO: the turns are gone through from the first to the last
 abbrev pub unturned : Change
-unturned line (loop x first last (lit (negsuc k)) body m) rest = step line (loop x last first (lit (pos 1)) body m) rest
+unturned line (loop x first last (neg e) body m) rest = step line (loop x last first (lit (pos 1)) body m) rest
 unturned line a rest = step line a rest
 
 -- DO: a scalar, its variable, is neither pushed nor popped

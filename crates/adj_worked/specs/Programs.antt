@@ -1,6 +1,6 @@
 -- Programs and what is emitted for them by the marks that spare what they can, statement by statement. (docs/EMITTED.md)
-use Rattle.std.specs.Prelude.{ℕ, ℤ, pos, negsuc, List, [], ◌∷◌, ◌++◌, map, ◌==◌, ◌||◌, not, Bool, true, false, None, codes, Option, Some}
-use Rattle.adj_tree.specs.Code.{plain, shadow, helper, plus, minus, times, greater, Term, lit, elem, bin, power_of, none, more, is_less, is_same, is_greater, compare, unmarked, Act, assign, choose, loop, during, call, runtime, push_control, pop_control, zero_array, Code, stop, step, given, Declaration, Procedure}
+use Rattle.std.specs.Prelude.{ℕ, ℤ, pos, List, [], ◌∷◌, ◌++◌, map, ◌==◌, ◌||◌, not, Bool, true, false, None, codes, Option, Some}
+use Rattle.adj_tree.specs.Code.{plain, shadow, helper, plus, minus, times, greater, Term, lit, neg, elem, bin, power_of, none, more, is_less, is_same, is_greater, compare, unmarked, Act, assign, choose, loop, during, call, runtime, push_control, pop_control, zero_array, Code, stop, step, given, Declaration, Procedure}
 use Rattle.adj_meaning.specs.Numbers.{words}
 use Rattle.adj_meaning.specs.Scene.{Outcome, Done, Trapped, More, Full}
 use Rattle.adj_meaning.specs.Store.{scalar}
@@ -93,7 +93,7 @@ one_at line a = step line a stop
 
 -- the turns from the last to the first
 abbrev backward_turns : Code → Act
-backward_turns body = loop (plain turn_1) (bin minus (use_of count_1) (number 1)) (number 0) (lit (negsuc 0)) body unmarked
+backward_turns body = loop (plain turn_1) (bin minus (use_of count_1) (number 1)) (number 0) (neg (number 1)) body unmarked
 
 abbrev array : ℕ → List ℕ → Declaration
 array line x = record { line = line; name = x; extents = given N ∷ [] }

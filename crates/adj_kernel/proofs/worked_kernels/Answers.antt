@@ -40,3 +40,6 @@ returns-clause-worked_example c = refl
 
 pub returns-clause-step_units : goal.returns-clause-step_units
 returns-clause-step_units c = refl
+
+pub returns-clause-step_units_accepted : goal.returns-clause-step_units_accepted
+returns-clause-step_units_accepted c = (refl, refl)

@@ -3,7 +3,7 @@ use Rattle.adj_tree.specs.Code.{neg}
 use Rattle.adj_tree.specs.View.{term_of, code_of}
 use Rattle.std.specs.Prelude.{◌&&◌}
 use Rattle.adj_transpose.specs.Emit.{is_compound}
-use Rattle.adj_sweep.specs.Table.{named_by}
+use Rattle.adj_naming.specs.Table.{named_by}
 use Rattle.adj_sweep.proofs.Arms.{sum_arm, difference_arm, product_arm}
 use Rattle.adj_sweep.proofs.back.+backs.Goals as goal
 

@@ -8,7 +8,7 @@ use Rattle.adj_transpose.specs.Pairs.{key_eq}
 use Rattle.adj_transpose.specs.Program.{variables, unit_name, unmarked, with_shadows, helpers_from}
 use Rattle.adj_transpose.specs.Straight.{keys}
 use Rattle.adj_transpose.proofs.Naming.{own-name}
-use Rattle.adj_sweep.specs.Table.{table_of}
+use Rattle.adj_naming.specs.Table.{table_of}
 use Rattle.adj_sweep.proofs.Heads.{stands_has, unit_made}
 use Rattle.adj_sweep.proofs.Renamings.{body_same}
 use Rattle.adj_sweep.proofs.head.adjoint_of_unit.Goals as goal

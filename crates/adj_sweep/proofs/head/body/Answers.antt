@@ -5,7 +5,7 @@ use Rattle.adj_meaning.specs.Append.{◌+++◌}
 use Rattle.adj_meaning.specs.Rename.{rename}
 use Rattle.adj_transpose.specs.Emit.{forward, backward, zeros}
 use Rattle.adj_transpose.specs.Program.{unmarked}
-use Rattle.adj_sweep.specs.Table.{named_by}
+use Rattle.adj_naming.specs.Table.{named_by}
 use Rattle.adj_sweep.proofs.Arms.{four_joined}
 use Rattle.adj_sweep.proofs.Plain.{forward_plain}
 use Rattle.adj_sweep.proofs.head.body.Goals as goal

@@ -2,8 +2,9 @@ use Rattle.std.proofs.Common.{◌++◌, ℕ, List, map, ap, ◌∙◌}
 use Rattle.adj_tree.specs.Code.{work, temp}
 use Rattle.adj_tree.specs.View.{declaration_of, procedure_of}
 use Rattle.adj_transpose.specs.Program.{locals, declaration, declared_with_shadows, helpers_from}
-use Rattle.adj_sweep.specs.Table.{table_of, declared_by}
-use Rattle.adj_sweep.proofs.Declarations.{declared_same}
+use Rattle.adj_naming.specs.Table.{table_of}
+use Rattle.adj_sweep.specs.Parts.{declared_by}
+use Rattle.adj_sweep.proofs.Units.{declared_same}
 use Rattle.adj_sweep.proofs.Units.{all_declared}
 use Rattle.adj_sweep.proofs.head.declarations.Goals as goal
 

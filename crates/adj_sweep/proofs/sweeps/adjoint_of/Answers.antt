@@ -5,7 +5,7 @@ use Rattle.adj_tree.specs.View.{term_of, terms_of, act_of, code_of}
 use Rattle.adj_meaning.specs.Append.{◌+++◌}
 use Rattle.adj_meaning.specs.Rename.{rename, rename_term, rename_terms}
 use Rattle.adj_transpose.specs.Emit.{temps, back, place}
-use Rattle.adj_sweep.specs.Table.{named_by}
+use Rattle.adj_naming.specs.Table.{named_by}
 use Rattle.adj_sweep.specs.Steps.{steps_onto}
 use Rattle.adj_sweep.proofs.Plain.{terms_plain}
 use Rattle.adj_sweep.proofs.Onto.{steps_pushed}

@@ -4,7 +4,7 @@ use Rattle.adj_tree.specs.View.{act_of, code_of}
 use Rattle.adj_meaning.specs.Append.{◌+++◌}
 use Rattle.adj_meaning.specs.Rename.{rename}
 use Rattle.adj_transpose.specs.Emit.{backward}
-use Rattle.adj_sweep.specs.Table.{named_by}
+use Rattle.adj_naming.specs.Table.{named_by}
 use Rattle.adj_sweep.proofs.Assignments.{backward_more}
 use Rattle.adj_sweep.proofs.sweeps.backward.Goals as goal
 

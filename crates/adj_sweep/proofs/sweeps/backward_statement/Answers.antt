@@ -4,7 +4,7 @@ use Rattle.adj_tree.specs.View.{term_of, terms_of, act_of, code_of}
 use Rattle.adj_meaning.specs.Append.{◌+++◌}
 use Rattle.adj_meaning.specs.Rename.{rename, rename_terms}
 use Rattle.adj_transpose.specs.Emit.{backward_act}
-use Rattle.adj_sweep.specs.Table.{named_by}
+use Rattle.adj_naming.specs.Table.{named_by}
 use Rattle.adj_sweep.proofs.Plain.{terms_plain}
 use Rattle.adj_sweep.proofs.sweeps.backward_statement.Goals as goal
 

@@ -4,7 +4,7 @@ use Rattle.adj_tree.specs.View.{op_of, term_of}
 use Rattle.adj_meaning.specs.Append.{◌+++◌}
 use Rattle.adj_meaning.specs.Rename.{rename, rename_term}
 use Rattle.adj_transpose.specs.Emit.{has_own, temps_in, shrunk, temps, own_or, own_code, count_of}
-use Rattle.adj_sweep.specs.Table.{named_by}
+use Rattle.adj_naming.specs.Table.{named_by}
 use Rattle.adj_sweep.specs.Steps.{steps_onto}
 use Rattle.adj_sweep.proofs.Onto.{written_both, product_written}
 use Rattle.adj_sweep.proofs.Operands.{leaf_whole, operation_whole, sum_shrunk, sum_temps, power_written}

@@ -1,6 +1,6 @@
 use Rattle.std.proofs.Common.{◌∙◌}
 use Rattle.adj_tree.specs.Code.{plain, none, assign}
-use Rattle.adj_sweep.specs.Table.{named_by}
+use Rattle.adj_naming.specs.Table.{named_by}
 use Rattle.adj_sweep.proofs.Onto.{own_pushed}
 use Rattle.adj_sweep.proofs.temps.operand.Goals as goal
 

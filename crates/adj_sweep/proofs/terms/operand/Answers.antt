@@ -2,7 +2,7 @@ use Rattle.std.proofs.Common.{sym, ap, ◌∙◌}
 use Rattle.adj_tree.specs.View.{term_of}
 use Rattle.adj_meaning.specs.Rename.{rename_term}
 use Rattle.adj_transpose.specs.Emit.{own_or}
-use Rattle.adj_sweep.specs.Table.{named_by}
+use Rattle.adj_naming.specs.Table.{named_by}
 use Rattle.adj_sweep.proofs.Plain.{term_plain}
 use Rattle.adj_sweep.proofs.terms.operand.Goals as goal
 

@@ -2,7 +2,8 @@
 use Rattle.std.proofs.Common.{◌≡◌, ◌++◌, ◌-◌, suc, map}
 use Rattle.adj_tree.specs.View.{declaration_of}
 use Rattle.adj_transpose.specs.Program.{declared_helpers, helpers_from}
-use Rattle.adj_sweep.specs.Table.{table_of, role_of}
+use Rattle.adj_naming.specs.Roles.{role_of}
+use Rattle.adj_naming.specs.Table.{table_of}
 use Rattle.adj_sweep.proofs.unit.declare_helpers.Given as goal
 
 abbrev pub invariant-loop-done : goal.invariant-loop-done

@@ -2,7 +2,8 @@
 use Rattle.std.proofs.Common.{◌≡◌, ◌++◌, map, drop}
 use Rattle.adj_tree.specs.View.{declaration_of}
 use Rattle.adj_transpose.specs.Program.{declaration}
-use Rattle.adj_sweep.specs.Table.{table_of, declared_by}
+use Rattle.adj_naming.specs.Table.{table_of}
+use Rattle.adj_sweep.specs.Parts.{declared_by}
 use Rattle.adj_sweep.proofs.unit.declare_variables.Given as goal
 
 abbrev pub invariant-loop-x : goal.invariant-loop-x

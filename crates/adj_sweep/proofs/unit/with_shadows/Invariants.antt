@@ -1,7 +1,7 @@
 -- The names passed and their shadows' are made.
 use Rattle.std.proofs.Common.{◌≡◌, ◌++◌, drop}
 use Rattle.adj_transpose.specs.Program.{with_shadows}
-use Rattle.adj_sweep.specs.Table.{table_of}
+use Rattle.adj_naming.specs.Table.{table_of}
 use Rattle.adj_sweep.proofs.unit.with_shadows.Given as goal
 
 abbrev pub invariant-loop-name : goal.invariant-loop-name

@@ -2,7 +2,7 @@ use Rattle.std.proofs.Common.{sym, ap, ◌∙◌, arith}
 use Rattle.std.specs.Prelude.{pos}
 use Rattle.adj_tree.specs.Code.{plain, none, lit, assign, step}
 use Rattle.adj_tree.specs.View.{code_of}
-use Rattle.adj_sweep.specs.Table.{named_by}
+use Rattle.adj_naming.specs.Table.{named_by}
 use Rattle.adj_sweep.proofs.Units.{zeros_more, zeros_same}
 use Rattle.adj_sweep.proofs.unit.zeros.Goals as goal
 

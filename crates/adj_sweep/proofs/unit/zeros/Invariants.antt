@@ -5,7 +5,7 @@ use Rattle.adj_meaning.specs.Append.{◌+++◌}
 use Rattle.adj_meaning.specs.Rename.{rename}
 use Rattle.adj_transpose.specs.Emit.{zeros}
 use Rattle.adj_transpose.specs.Program.{unmarked}
-use Rattle.adj_sweep.specs.Table.{named_by}
+use Rattle.adj_naming.specs.Table.{named_by}
 use Rattle.adj_sweep.proofs.unit.zeros.Given as goal
 
 abbrev pub invariant-loop-i : goal.invariant-loop-i

@@ -4,7 +4,7 @@ use Rattle.std.proofs.lemmas.List.{drop_more, length-map}
 use Rattle.adj_tree.specs.View.{extent_of, declaration_of}
 use Rattle.adj_symbols.specs.Outline.{declared_rank}
 use Rattle.adj_symbols.specs.Table.{value_of, with_value}
-use Rattle.adj_symbols.proofs.Outlines.{ranks_more}
+use Rattle.adj_symbols.proofs.Outlines.{numbers_more}
 use Rattle.adj_symbols.proofs.outline.declared_ranks.Goals as goal
 
 pub loop-decl-preserved : goal.loop-decl-preserved
@@ -13,6 +13,6 @@ loop-decl-preserved c x =
     let i = c.loop-decl.decl-index in
     let d = c.decl-item.result in
     let first = drop_more ds i d c.loop-decl-test.true ∙ ap (λ z. z ∷ drop (i + 1) ds) (sym c.decl-item.is) in
-    ranks_more x c.loop-decl.ranks c.add.new.self (map declaration_of (drop (i + 1) ds)) d.name (length (declaration_of d).extents) (c.in_ok-add.ensures.added ∙ ap (with_value c.loop-decl.ranks d.name) (ap length c.as_slice.ensures.members ∙ sym (length-map d.extents extent_of)))
+    numbers_more x c.loop-decl.ranks c.add.new.self (declared_rank (map declaration_of (drop (i + 1) ds)) x) d.name (length (declaration_of d).extents) (c.in_ok-add.ensures.added ∙ ap (with_value c.loop-decl.ranks d.name) (ap length c.as_slice.ensures.members ∙ sym (length-map d.extents extent_of)))
     ∙ ap (λ z. option_or (value_of x c.loop-decl.ranks) (declared_rank (map declaration_of z) x)) (sym first)
     ∙ c.loop-decl.invariant x

@@ -1,0 +1,110 @@
+-- The helpers of loops and branches that the sweeps of a list use are among those that its unit declares.
+use Rattle.std.proofs.Common.{◌≡◌, ℕ, suc, ◌≤◌, max, Bool, true, false, sym, ap, subst, arith, if◌then◌else◌}
+use Rattle.std.specs.Prelude.{◌&&◌, ◌||◌, ◌==◌, not, Option, Some}
+use Rattle.adj_tree.specs.Code.{Var, helper, control, first, stride, count, turn, Term, Test, Mark, Act, choose, loop, during, Code, step}
+use Rattle.adj_tree.proofs.Names.{nat_refl}
+use Rattle.adj_transpose.specs.Marks.{next, behind}
+use Rattle.adj_transpose.proofs.Variables.{or_left, or_right}
+use Rattle.adj_reverse.specs.Plan.{Plan}
+use Rattle.adj_reverse.specs.Emission.{is_empty, backward}
+use Rattle.adj_reverse.specs.Program.{depth_act, depth_used, tells_act, tells_some, goes_back_act, goes_back, is_do, is_loop}
+
+module _ (Q : Var → Option ℕ → Type 0) (p : Plan) where
+  abbrev Scalar : Var → Type 0
+  Scalar x = Q x (Some 0)
+
+  -- the control word of a statement, and the helpers of its loops up to its depth, stand as scalars
+  pub record HelpedAct (i d : ℕ) (a : Act) : Type 0 where
+    pub controls : tells_act p i d a ≡ true → Scalar (helper control 0)
+    pub counts : (k : ℕ) → goes_back_act is_loop k p i d a ≡ true → k ≤ depth_act p i d a → Scalar (helper count k) × Scalar (helper turn k)
+    pub bounds : (k : ℕ) → goes_back_act is_do k p i d a ≡ true → k ≤ depth_act p i d a → Scalar (helper first k) × Scalar (helper stride k)
+
+  -- the same of a list
+  pub record Helped (i d : ℕ) (c : Code) : Type 0 where
+    pub controls : tells_some p i d c ≡ true → Scalar (helper control 0)
+    pub counts : (k : ℕ) → goes_back is_loop k p i d c ≡ true → k ≤ depth_used p i d c → Scalar (helper count k) × Scalar (helper turn k)
+    pub bounds : (k : ℕ) → goes_back is_do k p i d c ≡ true → k ≤ depth_used p i d c → Scalar (helper first k) × Scalar (helper stride k)
+
+  -- ---- a list's statements
+
+  pub helped_front : (i d line : ℕ) (a : Act) (rest : Code) → Helped i d (step line a rest) → HelpedAct i d a
+  helped_front i d line a rest h = record {
+    controls = λ e. h.controls (or_left (tells_act p i d a) (tells_some p (next i a) d rest) e);
+    counts = λ k e le. h.counts k (or_left (goes_back_act is_loop k p i d a) (goes_back is_loop k p (next i a) d rest) e) (omega arith);
+    bounds = λ k e le. h.bounds k (or_left (goes_back_act is_do k p i d a) (goes_back is_do k p (next i a) d rest) e) (omega arith);
+  }
+
+  pub helped_rest : (i d line : ℕ) (a : Act) (rest : Code) → Helped i d (step line a rest) → Helped (next i a) d rest
+  helped_rest i d line a rest h = record {
+    controls = λ e. h.controls (or_right (tells_act p i d a) (tells_some p (next i a) d rest) e);
+    counts = λ k e le. h.counts k (or_right (goes_back_act is_loop k p i d a) (goes_back is_loop k p (next i a) d rest) e) (omega arith);
+    bounds = λ k e le. h.bounds k (or_right (goes_back_act is_do k p i d a) (goes_back is_do k p (next i a) d rest) e) (omega arith);
+  }
+
+  -- ---- the parts of an IF that tells which of them ran
+
+  abbrev pub idle_parts : ℕ → ℕ → Code → Code → Bool
+  idle_parts i d a b = is_empty (backward p (suc i) d a) && is_empty (backward p (behind (suc i) a) d b)
+
+  pub tells_here : (i d : ℕ) (c : Test) (a b : Code) → idle_parts i d a b ≡ false → tells_act p i d (choose c a b) ≡ true
+  tells_here i d c a b e = ap not e
+
+  pub helped_first : (i d : ℕ) (c : Test) (a b : Code) → idle_parts i d a b ≡ false → HelpedAct i d (choose c a b) → Helped (suc i) d a
+  helped_first i d c a b e h = record {
+    controls = λ t. h.controls (tells_here i d c a b e);
+    counts = λ k g le. h.counts k (or_left (goes_back is_loop k p (suc i) d a) (goes_back is_loop k p (behind (suc i) a) d b) g) (omega arith);
+    bounds = λ k g le. h.bounds k (or_left (goes_back is_do k p (suc i) d a) (goes_back is_do k p (behind (suc i) a) d b) g) (omega arith);
+  }
+
+  pub helped_other : (i d : ℕ) (c : Test) (a b : Code) → idle_parts i d a b ≡ false → HelpedAct i d (choose c a b) → Helped (behind (suc i) a) d b
+  helped_other i d c a b e h = record {
+    controls = λ t. h.controls (tells_here i d c a b e);
+    counts = λ k g le. h.counts k (or_right (goes_back is_loop k p (suc i) d a) (goes_back is_loop k p (behind (suc i) a) d b) g) (omega arith);
+    bounds = λ k g le. h.bounds k (or_right (goes_back is_do k p (suc i) d a) (goes_back is_do k p (behind (suc i) a) d b) g) (omega arith);
+  }
+
+  -- ---- the body of a loop whose turns are gone through backward
+
+  abbrev pub idle_body : ℕ → ℕ → Code → Bool
+  idle_body i d body = is_empty (backward p (suc i) (suc d) body)
+
+  -- how deep its loops are, then
+  body_depth : (i d : ℕ) (body : Code) → idle_body i d body ≡ false → (if idle_body i d body then 0 else max (suc d) (depth_used p (suc i) (suc d) body)) ≡ max (suc d) (depth_used p (suc i) (suc d) body)
+  body_depth i d body e = ap (λ b. if b then 0 else max (suc d) (depth_used p (suc i) (suc d) body)) e
+
+  -- it goes back itself
+  here : (d : ℕ) (idle others : Bool) → idle ≡ false → ((true && ((suc d == suc d) && not idle)) || others) ≡ true
+  here d true others e = cc
+  here d false others e = ap (λ t. (true && (t && true)) || others) (nat_refl (suc d))
+
+  within : (k m n : ℕ) → n ≡ m → k ≤ m → k ≤ n
+  within k m n e h = subst (λ z. k ≤ z) (sym e) h
+
+  pub helped_body : (i d : ℕ) (x : Var) (a b c : Term) (body : Code) (m : Mark) → idle_body i d body ≡ false → HelpedAct i d (loop x a b c body m) → Helped (suc i) (suc d) body
+  helped_body i d x a b c body m e h = record {
+    controls = h.controls;
+    counts = λ k g le. h.counts k (or_right _ (goes_back is_loop k p (suc i) (suc d) body) g) (within k (max (suc d) (depth_used p (suc i) (suc d) body)) (depth_act p i d (loop x a b c body m)) (body_depth i d body e) (omega arith));
+    bounds = λ k g le. h.bounds k (or_right _ (goes_back is_do k p (suc i) (suc d) body) g) (within k (max (suc d) (depth_used p (suc i) (suc d) body)) (depth_act p i d (loop x a b c body m)) (body_depth i d body e) (omega arith));
+  }
+
+  pub loop_counts : (i d : ℕ) (x : Var) (a b c : Term) (body : Code) (m : Mark) → idle_body i d body ≡ false → HelpedAct i d (loop x a b c body m) → Scalar (helper count (suc d)) × Scalar (helper turn (suc d))
+  loop_counts i d x a b c body m e h =
+      h.counts (suc d) (here d (idle_body i d body) (goes_back is_loop (suc d) p (suc i) (suc d) body) e)
+      (within (suc d) (max (suc d) (depth_used p (suc i) (suc d) body)) (depth_act p i d (loop x a b c body m)) (body_depth i d body e) (omega arith))
+
+  pub loop_bounds : (i d : ℕ) (x : Var) (a b c : Term) (body : Code) (m : Mark) → idle_body i d body ≡ false → HelpedAct i d (loop x a b c body m) → Scalar (helper first (suc d)) × Scalar (helper stride (suc d))
+  loop_bounds i d x a b c body m e h =
+      h.bounds (suc d) (here d (idle_body i d body) (goes_back is_do (suc d) p (suc i) (suc d) body) e)
+      (within (suc d) (max (suc d) (depth_used p (suc i) (suc d) body)) (depth_act p i d (loop x a b c body m)) (body_depth i d body e) (omega arith))
+
+  pub helped_turns : (i d : ℕ) (c : Test) (body : Code) → idle_body i d body ≡ false → HelpedAct i d (during c body) → Helped (suc i) (suc d) body
+  helped_turns i d c body e h = record {
+    controls = h.controls;
+    counts = λ k g le. h.counts k (or_right (is_loop (during c body) && ((k == suc d) && not (idle_body i d body))) (goes_back is_loop k p (suc i) (suc d) body) g) (within k (max (suc d) (depth_used p (suc i) (suc d) body)) (depth_act p i d (during c body)) (body_depth i d body e) (omega arith));
+    bounds = λ k g le. h.bounds k (or_right (is_do (during c body) && ((k == suc d) && not (idle_body i d body))) (goes_back is_do k p (suc i) (suc d) body) g) (within k (max (suc d) (depth_used p (suc i) (suc d) body)) (depth_act p i d (during c body)) (body_depth i d body e) (omega arith));
+  }
+
+  pub while_counts : (i d : ℕ) (c : Test) (body : Code) → idle_body i d body ≡ false → HelpedAct i d (during c body) → Scalar (helper count (suc d)) × Scalar (helper turn (suc d))
+  while_counts i d c body e h =
+      h.counts (suc d) (here d (idle_body i d body) (goes_back is_loop (suc d) p (suc i) (suc d) body) e)
+      (within (suc d) (max (suc d) (depth_used p (suc i) (suc d) body)) (depth_act p i d (during c body)) (body_depth i d body e) (omega arith))

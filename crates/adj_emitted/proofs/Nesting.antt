@@ -1,0 +1,256 @@
+-- The sweeps of statements are nested no deeper than these.
+use Rattle.std.proofs.Common.{◌≡◌, ℕ, zero, suc, ◌+◌, ◌≤◌, max, Bool, true, false, List, [], ◌∷◌, refl, sym, subst, arith, if◌then◌else◌}
+use Rattle.std.specs.Prelude.{◌&&◌}
+use Rattle.adj_tree.specs.Code.{Var, plain, shadow, helper, count, plus, minus, times, quot, modulo, greater, lesser, Term, lit, var, elem, neg, bin, pow, power_of, abs, Terms, none, Test, push_word, pop_word, zero_array, name_eq, Act, assign, choose, loop, during, call, runtime, Code, stop, step, Procedure}
+use Rattle.adj_tree.specs.Size.{act_depth, code_depth}
+use Rattle.adj_meaning.specs.Append.{◌+++◌, one}
+use Rattle.adj_meaning.specs.Rename.{rename_act, rename}
+use Rattle.adj_transpose.specs.Marks.{Vars, next, behind, active_at}
+use Rattle.adj_transpose.specs.Marked.{code_if, count_of, own_code, names_in}
+use Rattle.adj_transpose.specs.Naming.{naming}
+use Rattle.adj_transpose.specs.Program.{unmarked, unit_at}
+use Rattle.adj_reverse.specs.AdjointOf.{is_active_where, has_own_where, temps_in_where, shrunk_where, temps_where, back_where, adjoint_where}
+use Rattle.adj_reverse.specs.Plan.{Plan, is_emitted, names_of, save_group, snapshot_group}
+use Rattle.adj_reverse.specs.Emission.{is_empty, push, pop, pushes, pops, literal, adjoint_call, told_forward, told_backward, loop_forward, loop_backward, while_forward, while_backward, reset, forward_act, forward, backward_act, backward, cleared, adjoint_body}
+use Rattle.adj_reverse.specs.Marking.{ProgramMarks, first_statement, plan_in}
+use Rattle.adj_reverse.specs.Program.{has_adjoint, is_carried, all_units, adjoint_names, adjoint_unit, emitted_adjoint, emitted_units, emitted_for}
+use Rattle.adj_checked.proofs.Lists.{Each, each_more}
+use Rattle.adj_emitted.specs.Emitted.{IsNested, KeepsNesting}
+use Rattle.adj_emitted.proofs.UnitFaults.{each_emitted}
+
+-- ---- lists
+
+below_append : (n : ℕ) (c d : Code) → code_depth c ≤ n → code_depth d ≤ n → code_depth (c +++ d) ≤ n
+below_append n stop d h g = g
+below_append n (step line a c) d h g = let rest = below_append n c d (omega arith) g in omega arith
+
+below_if : (n : ℕ) (b : Bool) (c : Code) → code_depth c ≤ n → code_depth (code_if b c) ≤ n
+below_if n true c h = h
+below_if n false c h = omega arith
+
+-- ---- assignments
+
+flat_own : (n : ℕ) (t : Bool) (line j : ℕ) (e : Term) → code_depth (own_code t line j e) ≤ n
+flat_own n true line j e = omega arith
+flat_own n false line j e = omega arith
+
+module _ (on : Vars) (n : ℕ) where
+  flat_temps : (e : Term) (j line : ℕ) → code_depth (temps_where on e j line) ≤ n
+  flat_temps (lit z) j line = omega arith
+  flat_temps (var x) j line = omega arith
+  flat_temps (elem x subs) j line = omega arith
+  flat_temps (neg a) j line = flat_temps a j line
+  flat_temps (bin plus a b) j line = below_append n (temps_where on a j line) _ (flat_temps a j line) (flat_temps b (j + temps_in_where on a) line)
+  flat_temps (bin minus a b) j line = below_append n (temps_where on a j line) _ (flat_temps a j line) (flat_temps b (j + temps_in_where on a) line)
+  flat_temps (bin times a b) j line =
+      let m = j + temps_in_where on a + count_of (has_own_where on a b) in
+      below_append n (temps_where on a j line) _ (flat_temps a j line)
+      (below_append n (own_code (has_own_where on a b) line (j + temps_in_where on a) (shrunk_where on a j)) _ (flat_own n (has_own_where on a b) line (j + temps_in_where on a) (shrunk_where on a j))
+      (below_append n (temps_where on b m line) _ (flat_temps b m line) (flat_own n (has_own_where on b a) line (m + temps_in_where on b) (shrunk_where on b m))))
+  flat_temps (bin quot a b) j line = omega arith
+  flat_temps (bin modulo a b) j line = omega arith
+  flat_temps (bin greater a b) j line = omega arith
+  flat_temps (bin lesser a b) j line = omega arith
+  flat_temps (pow a zero) j line = omega arith
+  flat_temps (pow a (suc zero)) j line = flat_temps a j line
+  flat_temps (pow a (suc (suc k))) j line = below_append n (temps_where on a j line) _ (flat_temps a j line) (flat_own n (has_own_where on a a) line (j + temps_in_where on a) (shrunk_where on a j))
+  flat_temps (power_of a b) j line =
+      below_append n (temps_where on a j line) _ (flat_temps a j line)
+      (below_append n (own_code (has_own_where on a a) line (j + temps_in_where on a) (shrunk_where on a j)) _ (flat_own n (has_own_where on a a) line (j + temps_in_where on a) (shrunk_where on a j)) (flat_own n (has_own_where on b a) line (j + temps_in_where on a + count_of (has_own_where on a a)) b))
+  flat_temps (abs a) j line = omega arith
+
+  -- an assignment and more
+  flat_more : (t : Bool) (line : ℕ) (x : Var) (v : Term) (c : Code) → code_depth c ≤ n → code_depth (code_if t (step line (assign x none v) c)) ≤ n
+  flat_more t line x v c h = below_if n t (step line (assign x none v) c) (omega arith)
+
+  flat_back : (e : Term) (k j line : ℕ) → code_depth (back_where on e k j line) ≤ n
+  flat_back (lit z) k j line = omega arith
+  flat_back (var (plain x)) k j line = omega arith
+  flat_back (var (shadow x)) k j line = omega arith
+  flat_back (var (helper r i)) k j line = omega arith
+  flat_back (elem (plain x) subs) k j line = omega arith
+  flat_back (elem (shadow x) subs) k j line = omega arith
+  flat_back (elem (helper r i) subs) k j line = omega arith
+  flat_back (neg a) k j line = flat_more (is_active_where on a) line _ _ (back_where on a (suc k) j line) (flat_back a (suc k) j line)
+  flat_back (bin plus a b) k j line =
+      below_append n (code_if (is_active_where on a) (back_where on a k j line)) _ (below_if n (is_active_where on a) (back_where on a k j line) (flat_back a k j line)) (below_if n (is_active_where on b) (back_where on b k (j + temps_in_where on a) line) (flat_back b k (j + temps_in_where on a) line))
+  flat_back (bin minus a b) k j line =
+      below_append n (code_if (is_active_where on a) (back_where on a k j line)) _ (below_if n (is_active_where on a) (back_where on a k j line) (flat_back a k j line)) (flat_more (is_active_where on b) line _ _ (back_where on b (suc k) (j + temps_in_where on a) line) (flat_back b (suc k) (j + temps_in_where on a) line))
+  flat_back (bin times a b) k j line =
+      let m = j + temps_in_where on a + count_of (has_own_where on a b) in
+      below_append n (code_if (is_active_where on a) _) _ (flat_more (is_active_where on a) line _ _ (back_where on a (suc k) j line) (flat_back a (suc k) j line)) (flat_more (is_active_where on b) line _ _ (back_where on b (suc k) m line) (flat_back b (suc k) m line))
+  flat_back (bin quot a b) k j line = omega arith
+  flat_back (bin modulo a b) k j line = omega arith
+  flat_back (bin greater a b) k j line = omega arith
+  flat_back (bin lesser a b) k j line = omega arith
+  flat_back (pow a zero) k j line = omega arith
+  flat_back (pow a (suc zero)) k j line = below_if n (is_active_where on a) (back_where on a k j line) (flat_back a k j line)
+  flat_back (pow a (suc (suc i))) k j line = flat_more (is_active_where on a) line _ _ (back_where on a (suc k) j line) (flat_back a (suc k) j line)
+  flat_back (power_of a b) k j line = flat_more (is_active_where on a) line _ _ (back_where on a (suc k) j line) (flat_back a (suc k) j line)
+  flat_back (abs a) k j line = omega arith
+
+  flat_adjoint : (t : List ℕ) (subs : Terms) (e : Term) (line : ℕ) → code_depth (adjoint_where on t subs e line) ≤ n
+  flat_adjoint t subs e line =
+      let later = below_if n (is_active_where on e) (back_where on e 1 1 line) (flat_back e 1 1 line) in
+      below_append n (code_if (is_active_where on e) _) _ (below_if n (is_active_where on e) _ (below_append n (temps_where on e 1 line) _ (flat_temps e 1 line) (omega arith))) (omega arith)
+
+-- ---- the sweeps of a unit
+
+module _ (p : Plan) where
+  flat_push : (n line : ℕ) (x : List ℕ) → code_depth (push p line x) ≤ n
+  flat_push n line x = omega arith
+
+  flat_pop : (n line : ℕ) (x : List ℕ) → code_depth (pop p line x) ≤ n
+  flat_pop n line x = omega arith
+
+  flat_pushes : (n line : ℕ) (xs : List (List ℕ)) → code_depth (pushes p line xs) ≤ n
+  flat_pushes n line [] = omega arith
+  flat_pushes n line (x ∷ xs) = below_append n (push p line x) (pushes p line xs) (flat_push n line x) (flat_pushes n line xs)
+
+  flat_pops : (n line : ℕ) (xs : List (List ℕ)) → code_depth (pops p line xs) ≤ n
+  flat_pops n line [] = omega arith
+  flat_pops n line (x ∷ xs) = below_append n (pops p line xs) (pop p line x) (flat_pops n line xs) (flat_pop n line x)
+
+  flat_reset : (n i line : ℕ) (x : List ℕ) → code_depth (reset p.marks i line x) ≤ n
+  flat_reset n i line x = below_if n _ (one line (assign (shadow x) none _)) (omega arith)
+
+  told_forward_below : (n : ℕ) (idle : Bool) (line : ℕ) (c : Code) (k : ℕ) → code_depth c ≤ n → code_depth (told_forward idle line c k) ≤ n
+  told_forward_below n true line c k h = h
+  told_forward_below n false line c k h = below_append n c _ h (omega arith)
+
+  told_backward_below : (n : ℕ) (idle : Bool) (line : ℕ) (a b : Code) → code_depth a ≤ n → code_depth b ≤ n → code_depth (told_backward idle line a b) ≤ n + 1
+  told_backward_below n true line a b h g = omega arith
+  told_backward_below n false line a b h g = omega arith
+
+  -- the count goes up
+  abbrev raised : ℕ → ℕ → Code
+  raised k line = one line (assign (helper count k) none (bin plus (var (helper count k)) (literal 1)))
+
+  loop_forward_below : (n : ℕ) (idle : Bool) (k line : ℕ) (x : Var) (a b c : Term) (body : Code) → code_depth body ≤ n → code_depth (loop_forward idle k line x a b c body) ≤ n + 1
+  loop_forward_below n true k line x a b c body h = omega arith
+  loop_forward_below n false k line x a b c body h = let inside = below_append n body (raised k line) h (omega arith) in omega arith
+
+  loop_backward_below : (n : ℕ) (idle : Bool) (k line : ℕ) (x : Var) (body : Code) → code_depth body ≤ n → code_depth (loop_backward idle k line x body) ≤ n + 1
+  loop_backward_below n true k line x body h = omega arith
+  loop_backward_below n false k line x body h = omega arith
+
+  while_forward_below : (n : ℕ) (idle : Bool) (k line : ℕ) (c : Test) (body : Code) → code_depth body ≤ n → code_depth (while_forward idle k line c body) ≤ n + 1
+  while_forward_below n true k line c body h = omega arith
+  while_forward_below n false k line c body h = let inside = below_append n body (raised k line) h (omega arith) in omega arith
+
+  while_backward_below : (n : ℕ) (idle : Bool) (k line : ℕ) (body : Code) → code_depth body ≤ n → code_depth (while_backward idle k line body) ≤ n + 1
+  while_backward_below n true k line body h = omega arith
+  while_backward_below n false k line body h = omega arith
+
+  mutual
+    act_below : (i d line : ℕ) (a : Act) → (code_depth (forward_act p i d line a) ≤ act_depth a) × (code_depth (backward_act p i d line a) ≤ act_depth a)
+    act_below i d line (assign (plain x) subs e) = (
+      below_if 0 (p.marks.kept i) _ (below_append 0 (code_if (p.marks.saved i (plain x)) (one line (runtime (push_word (plain x) subs)))) (one line (assign (plain x) subs e)) (below_if 0 (p.marks.saved i (plain x)) (one line (runtime (push_word (plain x) subs))) (omega arith)) (omega arith)),
+      below_append 0 (code_if (p.marks.kept i && p.marks.saved i (plain x)) (one line (runtime (pop_word (plain x) subs)))) (code_if (p.marks.adjointed i) (adjoint_where (active_at p.marks i) x subs e line)) (below_if 0 (p.marks.kept i && p.marks.saved i (plain x)) (one line (runtime (pop_word (plain x) subs))) (omega arith)) (below_if 0 (p.marks.adjointed i) (adjoint_where (active_at p.marks i) x subs e line) (flat_adjoint (active_at p.marks i) 0 x subs e line)),
+    )
+    act_below i d line (assign (shadow x) subs e) = (omega arith, omega arith)
+    act_below i d line (assign (helper r k) subs e) = (omega arith, omega arith)
+    act_below i d line (choose c a b) =
+        let first = list_below (suc i) d a in
+        let other = list_below (behind (suc i) a) d b in
+        let idle = is_empty (backward p (suc i) d a) && is_empty (backward p (behind (suc i) a) d b) in
+        let fa = told_forward_below (max (code_depth a) (code_depth b)) idle line (forward p (suc i) d a) 1 (omega arith) in
+        let fb = told_forward_below (max (code_depth a) (code_depth b)) idle line (forward p (behind (suc i) a) d b) 0 (omega arith) in (
+          below_if (max (code_depth a) (code_depth b) + 1) (is_emitted p.marks i) (one line (choose c (told_forward idle line (forward p (suc i) d a) 1) (told_forward idle line (forward p (behind (suc i) a) d b) 0))) (omega arith),
+          below_if (max (code_depth a) (code_depth b) + 1) (is_emitted p.marks i) _ (told_backward_below (max (code_depth a) (code_depth b)) idle line (backward p (suc i) d a) (backward p (behind (suc i) a) d b) (omega arith) (omega arith)),
+        )
+    act_below i d line (loop (plain x) a b c body m) =
+        let inside = list_below (suc i) (suc d) body in
+        let idle = is_empty (backward p (suc i) (suc d) body) in (
+          below_if (code_depth body + 1) (is_emitted p.marks i) _
+              (below_append (code_depth body + 1) (code_if (p.marks.saved i (plain x)) (one line (runtime (push_word (plain x) none)))) _ (below_if (code_depth body + 1) (p.marks.saved i (plain x)) (one line (runtime (push_word (plain x) none))) (omega arith)) (loop_forward_below (code_depth body) idle (suc d) line (plain x) a b c (forward p (suc i) (suc d) body) inside.0)),
+          below_if (code_depth body + 1) (is_emitted p.marks i) _
+              (below_append (code_depth body + 1) (loop_backward idle (suc d) line (plain x) (backward p (suc i) (suc d) body)) _ (loop_backward_below (code_depth body) idle (suc d) line (plain x) (backward p (suc i) (suc d) body) inside.1)
+              (below_append (code_depth body + 1) (code_if (p.marks.saved i (plain x)) (one line (runtime (pop_word (plain x) none)))) _ (below_if (code_depth body + 1) (p.marks.saved i (plain x)) (one line (runtime (pop_word (plain x) none))) (omega arith)) (flat_reset (code_depth body + 1) i line x))),
+        )
+    act_below i d line (loop (shadow x) a b c body m) = (omega arith, omega arith)
+    act_below i d line (loop (helper r k) a b c body m) = (omega arith, omega arith)
+    act_below i d line (during c body) =
+        let inside = list_below (suc i) (suc d) body in
+        let idle = is_empty (backward p (suc i) (suc d) body) in (
+          below_if (code_depth body + 1) (is_emitted p.marks i) _ (while_forward_below (code_depth body) idle (suc d) line c (forward p (suc i) (suc d) body) inside.0),
+          below_if (code_depth body + 1) (is_emitted p.marks i) _ (while_backward_below (code_depth body) idle (suc d) line (backward p (suc i) (suc d) body) inside.1),
+        )
+    act_below i d line (call name args) =
+        let g = p.callees name in (
+          below_if 0 (is_emitted p.marks i) _
+              (below_append 0 (pushes p line (save_group p.marks i g (names_of args))) _ (flat_pushes 0 line (save_group p.marks i g (names_of args)))
+              (below_append 0 (code_if (p.marks.adjointed i) _) _ (below_if 0 (p.marks.adjointed i) _ (flat_pushes 0 line (snapshot_group g (names_of args)))) (below_if 0 (p.marks.kept i) (one line (call name args)) (omega arith)))),
+          below_if 0 (is_emitted p.marks i) _
+              (below_append 0 (code_if (p.marks.adjointed i) _) _ (below_if 0 (p.marks.adjointed i) _ (below_append 0 (pops p line (snapshot_group g (names_of args))) (one line (adjoint_call g (names_of args))) (flat_pops 0 line (snapshot_group g (names_of args))) (omega arith))) (flat_pops 0 line (save_group p.marks i g (names_of args)))),
+        )
+    act_below i d line (runtime r) = (omega arith, omega arith)
+
+    list_below : (i d : ℕ) (c : Code) → (code_depth (forward p i d c) ≤ code_depth c) × (code_depth (backward p i d c) ≤ code_depth c)
+    list_below i d stop = (omega arith, omega arith)
+    list_below i d (step line a rest) =
+        let here = act_below i d line a in
+        let later = list_below (next i a) d rest in (
+          below_append (code_depth (step line a rest)) (forward_act p i d line a) (forward p (next i a) d rest) (omega arith) (omega arith),
+          below_append (code_depth (step line a rest)) (backward p (next i a) d rest) (backward_act p i d line a) (omega arith) (omega arith),
+        )
+
+  cleared_below : (n line : ℕ) (xs : List (List ℕ)) → code_depth (cleared p line xs) ≤ n
+  cleared_below n line [] = omega arith
+  cleared_below n line (x ∷ xs) = below_append n (if p.arrays (plain x) then one line (runtime (zero_array (shadow x))) else one line (assign (shadow x) none (literal 0))) (cleared p line xs) (go (p.arrays (plain x))) (cleared_below n line xs)
+    where
+      go : (b : Bool) → code_depth (if b then one line (runtime (zero_array (shadow x))) else one line (assign (shadow x) none (literal 0))) ≤ n
+      go true = omega arith
+      go false = omega arith
+
+  body_below : (n i line : ℕ) (c : Code) (at_turn at_end : List (List ℕ)) → code_depth c ≤ n → code_depth (adjoint_body p i line c at_turn at_end) ≤ n
+  body_below n i line c at_turn at_end h =
+      let both = list_below i 0 c in
+      below_append n (forward p i 0 c) _ (omega arith) (below_append n (cleared p line at_turn) _ (cleared_below n line at_turn) (below_append n (backward p i 0 c) (cleared p line at_end) (omega arith) (cleared_below n line at_end)))
+
+-- ---- renaming keeps it
+
+mutual
+  renamed_act : (r : Var → Var) (a : Act) → act_depth (rename_act r a) ≡ act_depth a
+  renamed_act r (assign x s e) = refl
+  renamed_act r (choose c a b) = λ i. max (renamed_depth r a i) (renamed_depth r b i) + 1
+  renamed_act r (loop x a b c body m) = λ i. renamed_depth r body i + 1
+  renamed_act r (during c body) = λ i. renamed_depth r body i + 1
+  renamed_act r (call name args) = refl
+  renamed_act r (runtime c) = refl
+
+  renamed_depth : (r : Var → Var) (c : Code) → code_depth (rename r c) ≡ code_depth c
+  renamed_depth r stop = refl
+  renamed_depth r (step line a rest) = λ i. max (renamed_act r a i) (renamed_depth r rest i)
+
+-- ---- the emitted program
+
+nested_each : (n : ℕ) (us : List Procedure) → IsNested n us → Each (λ u. code_depth u.body ≤ n) us
+nested_each n [] h = tt
+nested_each n (u ∷ us) h = (h.0, nested_each n us h.1)
+
+each_nested : (n : ℕ) (us : List Procedure) → Each (λ u. code_depth u.body ≤ n) us → IsNested n us
+each_nested n [] h = tt
+each_nested n (u ∷ us) h = (h.0, each_nested n us h.1)
+
+adjoint_below : (n : ℕ) (m : ProgramMarks) (ps : List Procedure) (head : Procedure) (vars outvars : List Bool) (u : Procedure) → code_depth u.body ≤ n → code_depth (emitted_adjoint m ps head vars outvars u).body ≤ n
+adjoint_below n m ps head vars outvars u h = go (name_eq head.name u.name)
+  where
+    below : (at_turn at_end : List (List ℕ)) → code_depth (adjoint_unit m ps (all_units m ps head) u at_turn at_end).body ≤ n
+    below at_turn at_end =
+        subst (λ k. k ≤ n) (sym (renamed_depth (naming (adjoint_names m ps (all_units m ps head) u)) (adjoint_body (plan_in m ps u) (first_statement ps u.name) u.line u.body at_turn at_end)))
+        (body_below (plan_in m ps u) n (first_statement ps u.name) u.line u.body at_turn at_end h)
+
+    go : (b : Bool) → code_depth (if b then adjoint_unit m ps (all_units m ps head) u (names_in (m.shadowed u.name) (unmarked u.dummies outvars)) (names_in (m.shadowed u.name) (unmarked u.dummies vars)) else adjoint_unit m ps (all_units m ps head) u [] []).body ≤ n
+    go true = below _ _
+    go false = below [] []
+
+pub keeps_nesting : KeepsNesting
+keeps_nesting n ps h m head vars outvars = go (unit_at head ps)
+  where
+    go : (us : List Procedure) → IsNested n (emitted_for m ps vars outvars us)
+    go [] = tt
+    go (u ∷ us) =
+        each_nested n (emitted_units m ps u vars outvars ps)
+        (each_emitted m ps u vars outvars (λ v. code_depth v.body ≤ n) ps (each_more (λ v. code_depth v.body ≤ n) (λ v. is_carried m ps u v.name ≡ true → code_depth v.body ≤ n) (λ v k t. k) ps (nested_each n ps h))
+        (each_more (λ v. code_depth v.body ≤ n) (λ v. has_adjoint m ps u v.name ≡ true → code_depth (emitted_adjoint m ps u vars outvars v).body ≤ n) (λ v k t. adjoint_below n m ps u vars outvars v k) ps (nested_each n ps h)))

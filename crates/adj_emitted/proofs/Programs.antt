@@ -1,0 +1,100 @@
+-- What is emitted for a checked program is written.
+use Rattle.std.proofs.Common.{◌≡◌, ℕ, suc, Bool, true, false, List, [], ◌∷◌, ◌++◌, refl, if◌then◌else◌}
+use Rattle.std.specs.Prelude.{Option, Some, None}
+use Rattle.std.proofs.lemmas.List.Elements.{All-nil, All-cons}
+use Rattle.adj_tree.specs.Code.{plain, name_eq, Act, assign, choose, loop, during, call, runtime, Code, stop, step, Procedure}
+use Rattle.adj_text.specs.Written.{IsName, IsWrittenProcedure, IsWritten}
+use Rattle.adj_meaning.specs.Written.{find_unit}
+use Rattle.adj_names.specs.Variables.{variables}
+use Rattle.adj_transpose.specs.Fresh.{has_name}
+use Rattle.adj_transpose.specs.Marks.{everything, next, behind}
+use Rattle.adj_transpose.specs.Marked.{names_in}
+use Rattle.adj_transpose.specs.Program.{unmarked, unit_at}
+use Rattle.adj_reverse.specs.Names.{source_names}
+use Rattle.adj_reverse.specs.Plan.{names_of}
+use Rattle.adj_reverse.specs.Marking.{ProgramMarks, full_marks, first_statement, callee_of, callee_in, plan_in}
+use Rattle.adj_reverse.specs.Program.{has_adjoint, is_carried, all_units, adjoint_unit, emitted_adjoint, emitted_units, emitted_for}
+use Rattle.adj_reverse.proofs.HeadNames.{unmarked_in}
+use Rattle.adj_reverse.proofs.Variables.{dummy_among}
+use Rattle.adj_checked.proofs.Lists.{Each}
+use Rattle.adj_emitted.specs.Shadowed.{AreCarried, HasShadows', HasShadows, AllHaveShadows}
+use Rattle.adj_emitted.specs.Emitted.{MarkedIsWritten, EmittedIsWritten}
+use Rattle.adj_emitted.proofs.MadeNames.{adjoint_named, follows}
+use Rattle.adj_emitted.proofs.Sources.{each_name, UnitSound, all_named, all_sound}
+use Rattle.adj_emitted.proofs.Units.{each_marked, unit_written}
+
+-- ---- the emitted units
+
+module _ (m : ProgramMarks) (ps : List Procedure) (head : Procedure) (vars outvars : List Bool) (named : Each (λ u. IsName u.name) ps) where
+  -- what is cleared: marked dummies
+  pub cleared : (u : Procedure) (marks : List Bool) → Each (λ x. (has_name x (variables u) ≡ true) × (m.shadowed u.name (plain x) ≡ true)) (names_in (m.shadowed u.name) (unmarked u.dummies marks))
+  cleared u marks =
+      each_marked (λ x. has_name x (variables u) ≡ true) (m.shadowed u.name) (unmarked u.dummies marks)
+      (each_name (λ x. has_name x (variables u) ≡ true) (unmarked u.dummies marks) (λ x h. dummy_among u x (unmarked_in x u.dummies marks h)))
+
+  adjoint_written : (u : Procedure) → UnitSound ps u → HasShadows (plan_in m ps u) (first_statement ps u.name) u.body → IsWrittenProcedure (emitted_adjoint m ps head vars outvars u)
+  adjoint_written u s h = go (name_eq head.name u.name)
+    where
+      written : (at_turn at_end : List (List ℕ)) → Each (λ x. (has_name x (variables u) ≡ true) × (m.shadowed u.name (plain x) ≡ true)) at_turn → Each (λ x. (has_name x (variables u) ≡ true) × (m.shadowed u.name (plain x) ≡ true)) at_end → IsWrittenProcedure (adjoint_unit m ps (all_units m ps head) u at_turn at_end)
+      written at_turn at_end turned ended = unit_written m ps (all_units m ps head) u s.written s.kernel s.free s.calls (follows m ps named u (first_statement ps u.name) u.body s.calls h) at_turn at_end (adjoint_named (source_names ps) ps u.name named s.there).0 turned ended
+
+      go : (b : Bool) → IsWrittenProcedure (if b then adjoint_unit m ps (all_units m ps head) u (names_in (m.shadowed u.name) (unmarked u.dummies outvars)) (names_in (m.shadowed u.name) (unmarked u.dummies vars)) else adjoint_unit m ps (all_units m ps head) u [] [])
+      go true = written _ _ (cleared u outvars) (cleared u vars)
+      go false = written [] [] tt tt
+
+  units_written : (us : List Procedure) → Each (UnitSound ps) us → AllHaveShadows m ps us → IsWritten (emitted_units m ps head vars outvars us)
+  units_written [] s h = All-nil IsWrittenProcedure
+  units_written (u ∷ us) s h = carried (is_carried m ps head u.name) (made (has_adjoint m ps head u.name) (units_written us s.1 h.1))
+    where
+      made : (b : Bool) → IsWritten (emitted_units m ps head vars outvars us) → IsWritten ((if b then emitted_adjoint m ps head vars outvars u ∷ [] else []) ++ emitted_units m ps head vars outvars us)
+      made true ih = All-cons IsWrittenProcedure (emitted_adjoint m ps head vars outvars u) (emitted_units m ps head vars outvars us) (adjoint_written u s.0 h.0) ih
+      made false ih = ih
+
+      carried : (b : Bool) → IsWritten ((if has_adjoint m ps head u.name then emitted_adjoint m ps head vars outvars u ∷ [] else []) ++ emitted_units m ps head vars outvars us) → IsWritten ((if b then u ∷ [] else []) ++ ((if has_adjoint m ps head u.name then emitted_adjoint m ps head vars outvars u ∷ [] else []) ++ emitted_units m ps head vars outvars us))
+      carried true ih = let sound = s.0 in All-cons IsWrittenProcedure u _ sound.written ih
+      carried false ih = ih
+
+-- what is emitted by marks with shadows is written
+pub marked_written : MarkedIsWritten
+marked_written rules ps checked m shadowed head vars outvars = go (unit_at head ps)
+  where
+    go : (us : List Procedure) → IsWritten (emitted_for m ps vars outvars us)
+    go [] = All-nil IsWrittenProcedure
+    go (u ∷ us) = units_written m ps u vars outvars (all_named rules ps checked) ps (all_sound rules ps checked) shadowed
+
+-- ---- full marks
+
+full_carried : (ds given : List (List ℕ)) → AreCarried everything everything ds given
+full_carried [] given = tt
+full_carried (d ∷ ds) [] = tt
+full_carried (d ∷ ds) (a ∷ given) = (λ h. refl, full_carried ds given)
+
+module _ (ps : List Procedure) (u : Procedure) where
+  -- the shadows of a callee
+  full_callee : (name : List ℕ) (given : List (List ℕ)) → AreCarried (callee_in full_marks ps name).shadowed everything (callee_in full_marks ps name).dummies given
+  full_callee name given = go (find_unit ps name)
+    where
+      go : (o : Option Procedure) → AreCarried (callee_of full_marks ps name o).shadowed everything (callee_of full_marks ps name o).dummies given
+      go None = tt
+      go (Some v) = full_carried v.dummies given
+
+  mutual
+    full_act : (i : ℕ) (a : Act) → HasShadows' (plan_in full_marks ps u) i a
+    full_act i (assign x subs e) = λ h. refl
+    full_act i (choose c a b) = (full_list (suc i) a, full_list (behind (suc i) a) b)
+    full_act i (loop x a b c body n) = full_list (suc i) body
+    full_act i (during c body) = full_list (suc i) body
+    full_act i (call name args) = λ h. full_callee name (names_of args)
+    full_act i (runtime r) = tt
+
+    full_list : (i : ℕ) (c : Code) → HasShadows (plan_in full_marks ps u) i c
+    full_list i stop = tt
+    full_list i (step line a rest) = (full_act i a, full_list (next i a) rest)
+
+-- everything has a shadow with full marks
+pub full_shadows : (ps us : List Procedure) → AllHaveShadows full_marks ps us
+full_shadows ps [] = tt
+full_shadows ps (u ∷ us) = (full_list ps u (first_statement ps u.name) u.body, full_shadows ps us)
+
+pub emitted_written : EmittedIsWritten
+emitted_written rules ps checked head vars outvars = marked_written rules ps checked full_marks (full_shadows ps ps) head vars outvars

@@ -1,0 +1,64 @@
+-- That what is emitted for a checked program can be written as a text, and has no faults. (docs/THEOREMS.md, "Sweeps of every statement")
+use Rattle.std.specs.Prelude.{◌≡◌, ◌≤◌, ℕ, List, [], ◌∷◌, ◌++◌, flat_map, Bool}
+use Rattle.adj_tree.specs.Code.{Procedure}
+use Rattle.adj_tree.specs.Size.{code_depth}
+use Rattle.adj_text.specs.Written.{IsWritten}
+use Rattle.adj_names.specs.Fault.{Rules, run_rules}
+use Rattle.adj_names.specs.UnitFaults.{unit_faults}
+use Rattle.adj_names.specs.NameFaults.{name_faults}
+use Rattle.adj_names.specs.CallFaults.{call_faults}
+use Rattle.adj_names.specs.WriteFaults.{shared_variables, written_values}
+use Rattle.adj_meaning.specs.LeastSet.{Dummies}
+use Rattle.adj_reverse.specs.Marking.{ProgramMarks, full_marks, ProgramFacts}
+use Rattle.adj_reverse.specs.Program.{emitted_program}
+use Rattle.adj_checked.specs.Checked.{IsChecked, AreLawful}
+use Rattle.adj_emitted.specs.Shadowed.{AllHaveShadows}
+
+-- what is emitted for a checked program in kernel form is written, whatever the marks, as long as what they use has shadows
+abbrev pub MarkedIsWritten : Type 0
+MarkedIsWritten =
+    (rules : Rules) (ps : List Procedure) → IsChecked rules ps → (m : ProgramMarks) → AllHaveShadows m ps ps → (head : ℕ) (vars outvars : List Bool) →
+    IsWritten (emitted_program m ps head vars outvars)
+
+-- so it is with full marks
+abbrev pub EmittedIsWritten : Type 0
+EmittedIsWritten = (rules : Rules) (ps : List Procedure) → IsChecked rules ps → (head : ℕ) (vars outvars : List Bool) → IsWritten (emitted_program full_marks ps head vars outvars)
+
+-- facts that meet the laws have the shadows that their marks use
+abbrev pub LawfulHaveShadows : Type 0
+LawfulHaveShadows = (rules : Rules) (ps : List Procedure) → IsChecked rules ps → (w : ProgramFacts) → AreLawful w ps → AllHaveShadows w.marks ps ps
+
+-- ---- it has no faults
+
+-- the names of its units are apart, and none is reserved
+abbrev pub UnitsHaveNone : Type 0
+UnitsHaveNone = (rules : Rules) (ps : List Procedure) → IsChecked rules ps → (m : ProgramMarks) (head : ℕ) (vars outvars : List Bool) → unit_faults (emitted_program m ps head vars outvars) ≡ []
+
+-- its variables are declared once and stand with as many subscripts as they have extents, and their names are their own
+abbrev pub NamesHaveNone : Type 0
+NamesHaveNone =
+    (rules : Rules) (ps : List Procedure) → IsChecked rules ps → (m : ProgramMarks) → AllHaveShadows m ps ps → (head : ℕ) (vars outvars : List Bool) →
+    name_faults run_rules (emitted_program m ps head vars outvars) ≡ []
+
+-- each of its CALLs is of a unit that it has, with an actual for each dummy, of its rank; and calls of the runtime take arrays where they should
+abbrev pub CallsHaveNone : Type 0
+CallsHaveNone =
+    (rules : Rules) (ps : List Procedure) → IsChecked rules ps → (m : ProgramMarks) → AllHaveShadows m ps ps → (head : ℕ) (vars outvars : List Bool) →
+    call_faults (emitted_program m ps head vars outvars) ≡ []
+
+-- no CALL of it hands one variable to two dummies, and nothing but a name for a dummy that is written, whichever dummies those are
+abbrev pub ActualsHaveNone : Type 0
+ActualsHaveNone =
+    (rules : Rules) (ps : List Procedure) → IsChecked rules ps → (m : ProgramMarks) → AllHaveShadows m ps ps → (head : ℕ) (vars outvars : List Bool) (handed : Dummies) →
+    flat_map (λ u. shared_variables handed u ++ written_values handed u) (emitted_program m ps head vars outvars) ≡ []
+
+-- ---- it keeps limits
+
+-- no statement of these units is nested deeper
+abbrev pub IsNested : ℕ → List Procedure → Type 0
+IsNested n [] = Unit {0}
+IsNested n (u ∷ us) = (code_depth u.body ≤ n) × IsNested n us
+
+-- what is emitted is nested no deeper than the source
+abbrev pub KeepsNesting : Type 0
+KeepsNesting = (n : ℕ) (ps : List Procedure) → IsNested n ps → (m : ProgramMarks) (head : ℕ) (vars outvars : List Bool) → IsNested n (emitted_program m ps head vars outvars)

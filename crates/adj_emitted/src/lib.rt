@@ -1,0 +1,44 @@
+//! What is emitted for a checked program can be written as a text and has no fault: definitions and laws, no code.
+//!
+//! `specs/Emitted` says what holds of the program that is emitted for a checked program in kernel form, for each of its units as
+//! the head. It stands on the theorem on both sweeps and on the names of programs. The layer above uses `written_law`, so that
+//! the text that is written for an adjoint reads as that adjoint.
+#![tactic(auto)]
+
+ghost use Rattle.adj_emitted.specs.Emitted.{MarkedIsWritten, EmittedIsWritten, LawfulHaveShadows, UnitsHaveNone, NamesHaveNone, CallsHaveNone, ActualsHaveNone, KeepsNesting};
+
+/// What is emitted can be written as a text, by any marks whose shadows are there, and so by full marks.
+pub fn written_law()
+    ensures marked { MarkedIsWritten }
+    ensures full { EmittedIsWritten }
+{}
+
+/// Marks of facts that meet the laws have the shadows that they use.
+pub fn shadows_law()
+    ensures { LawfulHaveShadows }
+{}
+
+/// It has no faults of units, by any marks: their names are apart, and none is reserved.
+pub fn units_law()
+    ensures { UnitsHaveNone }
+{}
+
+/// It has no faults of names as a text that is run: variables are declared once, have their ranks, and names of their own.
+pub fn names_law()
+    ensures { NamesHaveNone }
+{}
+
+/// It has no faults of calls: each is of a unit that is there, and its actuals fit.
+pub fn calls_law()
+    ensures { CallsHaveNone }
+{}
+
+/// It has no faults of actuals: no variable is handed to a unit twice, and what a unit hands back has a name.
+pub fn actuals_law()
+    ensures { ActualsHaveNone }
+{}
+
+/// It is nested no deeper than the source.
+pub fn nesting_law()
+    ensures { KeepsNesting }
+{}

@@ -1,0 +1,46 @@
+-- What is left to do is what the run from the start comes to.
+use Rattle.std.proofs.Common.{◌≡◌, ◌≤◌, ℤ, length}
+use Rattle.adj_meaning.specs.Scene.{Scene}
+use Rattle.adj_meaning.specs.Value.{holds}
+use Rattle.adj_meaning.specs.Run.{Calls, run, turns, stepped, tests}
+use Rattle.adj_interp.specs.declared.step.Steps.{size-Steps}
+use Rattle.adj_interp.specs.Prepared.{var_at, test_in}
+use Rattle.adj_interp.specs.Instructed.{steps_in, AreStepsBelow, ArePlain}
+use Rattle.adj_interp.specs.Framed.{IsFrame}
+use Rattle.adj_interp.specs.Held.{Entry, setting_at, Holds, Reaches}
+use Rattle.adj_interp.proofs.machine.Machine.+run.Given as goal
+
+abbrev pub invariant-run-loop-current : goal.invariant-run-loop-current
+invariant-run-loop-current l = record {
+  no_deeper : size-Steps l.current ≤ size-Steps l.initial.current;
+  names : l.self.frame.names.now ≡ l.initial.self.frame.names.now;
+  framed : IsFrame l.initial.self.frame.names.now l.self.frame.slots.items;
+  below : AreStepsBelow (length l.initial.self.frame.names.now) l.current;
+  plain : ArePlain l.current;
+  reached : (q : Calls ℤ) (e : Entry) (s : Scene ℤ) → Holds e l.initial.self s →
+      Reaches e (run q (setting_at e) (steps_in l.initial.self.frame.names.now l.initial.current) s l.initial.self.left) (run q (setting_at e) (steps_in l.initial.self.frame.names.now l.current)) l.self;
+}
+
+abbrev pub invariant-turns-loop-remaining : goal.invariant-turns-loop-remaining
+invariant-turns-loop-remaining l = record {
+  names : l.self.frame.names.now ≡ l.initial.self.frame.names.now;
+  framed : IsFrame l.initial.self.frame.names.now l.self.frame.slots.items;
+  reached : (q : Calls ℤ) (e : Entry) (s : Scene ℤ) → Holds e l.initial.self s →
+      Reaches e (turns (setting_at e) l.initial.remaining (run q (setting_at e) (steps_in l.initial.self.frame.names.now l.body)) (stepped (setting_at e) (var_at l.initial.self.frame.names.now l.course.variable) l.course.by) s l.initial.self.left)
+      (turns (setting_at e) l.remaining (run q (setting_at e) (steps_in l.initial.self.frame.names.now l.body)) (stepped (setting_at e) (var_at l.initial.self.frame.names.now l.course.variable) l.course.by)) l.self;
+}
+
+abbrev pub decreases-turns-loop-remaining : goal.decreases-turns-loop-remaining
+decreases-turns-loop-remaining l = l.remaining
+
+abbrev pub invariant-tests-loop-self : goal.invariant-tests-loop-self
+invariant-tests-loop-self l = record {
+  names : l.self.frame.names.now ≡ l.initial.self.frame.names.now;
+  framed : IsFrame l.initial.self.frame.names.now l.self.frame.slots.items;
+  reached : (q : Calls ℤ) (e : Entry) (s : Scene ℤ) → Holds e l.initial.self s →
+      Reaches e (tests (setting_at e) l.initial.remaining (λ s1. holds (setting_at e) (test_in l.initial.self.frame.names.now l.test) s1.store) l.line (run q (setting_at e) (steps_in l.initial.self.frame.names.now l.body)) s l.initial.self.left)
+      (tests (setting_at e) l.remaining (λ s1. holds (setting_at e) (test_in l.initial.self.frame.names.now l.test) s1.store) l.line (run q (setting_at e) (steps_in l.initial.self.frame.names.now l.body))) l.self;
+}
+
+abbrev pub decreases-tests-loop-self : goal.decreases-tests-loop-self
+decreases-tests-loop-self l = l.remaining

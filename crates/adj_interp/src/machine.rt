@@ -1,0 +1,251 @@
+//! The machine that executes prepared statements.
+
+ghost use Rattle.std.specs.Prelude.{◌≡◌, ◌<◌, ℤ, suc, true, false, length, slice_index_or, IfOk};
+ghost use Rattle.adj_meaning.specs.Scene.{Scene};
+ghost use Rattle.adj_meaning.specs.Store.{set};
+ghost use Rattle.adj_meaning.specs.Value.{value, target, holds};
+ghost use Rattle.adj_meaning.specs.Run.{Calls, act, run, turns, with_turn, stepped, tests, most_tests};
+ghost use Rattle.adj_interp.specs.declared.slot.Slot.{Slot};
+ghost use Rattle.adj_interp.specs.Prepared.{var_at, term_in, test_in, terms_in, IsTermBelow, IsTestBelow};
+ghost use Rattle.adj_interp.specs.Instructed.{task_in, steps_in, marking_in, IsCellBelow, AreBoundsBelow, IsTaskBelow, AreStepsBelow, IsPlainTask, ArePlain};
+ghost use Rattle.adj_interp.specs.Framed.{IsFrame};
+ghost use Rattle.adj_interp.specs.Held.{Entry, setting_at, Holds, Ends, Finds, bounds_in};
+
+use crate::frame::Frame;
+use crate::step::{Bounds, Cell, Marking, Steps, Task};
+use crate::stop::Stop;
+use crate::tally::Tally;
+use crate::term::{Term, Test};
+use crate::trips::{most_tests, turns_of};
+use adj_tape::Tape;
+use adj_tree::Trap;
+use adj_word::add;
+
+/// What a run has in hand: the entry of the unit that runs, with the reversals that it has open and its level, the
+/// tape, the statements that are left, and what was counted.
+#[derive(Drop)]
+pub struct Machine<'a> {
+    pub frame: Frame<'a>,
+    pub opened: u64,
+    pub level: u64,
+    pub tape: Tape,
+    pub left: u64,
+    pub tally: Tally,
+}
+
+// The variable of a DO and its step.
+#[derive(Drop)]
+struct Course {
+    variable: usize,
+    by: i64,
+}
+
+impl<'a> Machine<'a> {
+    // The value of an expression in a statement at a line.
+    fn value(&self, term: &Term, line: u32) -> Result<i64, Stop>
+        requires framed { IsFrame self.now.frame.names.now self.now.frame.slots.items }
+        requires below { IsTermBelow (length self.now.frame.names.now) term.now }
+        ensures value { (e : Entry) (s : Scene ℤ) → Holds e self.now s → Finds line (value (setting_at e) (term_in self.now.frame.names.now term.now) s.store) result }
+    {
+        match self.frame.value(term) {
+            Ok(word) => Ok(word),
+            Err(trap) => Err(Stop::Trap(trap, line)),
+        }
+    }
+
+    // Whether a condition holds.
+    fn holds(&self, test: &Test, line: u32) -> Result<bool, Stop>
+        requires framed { IsFrame self.now.frame.names.now self.now.frame.slots.items }
+        requires below { IsTestBelow (length self.now.frame.names.now) test.now }
+        ensures holds { (e : Entry) (s : Scene ℤ) → Holds e self.now s → Finds line (holds (setting_at e) (test_in self.now.frame.names.now test.now) s.store) result }
+    {
+        match self.frame.holds(test) {
+            Ok(holds) => Ok(holds),
+            Err(trap) => Err(Stop::Trap(trap, line)),
+        }
+    }
+
+    // The cell of a target.
+    fn target(&self, cell: &Cell, line: u32) -> Result<usize, Stop>
+        requires framed { IsFrame self.now.frame.names.now self.now.frame.slots.items }
+        requires below { IsCellBelow (length self.now.frame.names.now) cell.now }
+        ensures target { (e : Entry) (s : Scene ℤ) → Holds e self.now s → Finds line (target (setting_at e) (var_at self.now.frame.names.now cell.now.variable) (terms_in self.now.frame.names.now cell.now.subs) s.store) result }
+        ensures within { IfOk result (λ j. (d : Slot) → j < length (slice_index_or self.now.frame.slots.items cell.now.variable d).cells.items) }
+    {
+        match self.frame.target(cell.variable, &cell.subs) {
+            Ok(place) => Ok(place),
+            Err(trap) => Err(Stop::Trap(trap, line)),
+        }
+    }
+
+    // First value, step and number of turns of a DO.
+    fn bounds(&self, bounds: &Bounds, marking: &Marking, line: u32) -> Result<(i64, i64, u64), Stop>
+        requires framed { IsFrame self.now.frame.names.now self.now.frame.slots.items }
+        requires below { AreBoundsBelow (length self.now.frame.names.now) bounds.now }
+        ensures bounds { (e : Entry) (s : Scene ℤ) → Holds e self.now s → Finds line (bounds_in (setting_at e) (term_in self.now.frame.names.now bounds.now.first) (term_in self.now.frame.names.now bounds.now.last) (term_in self.now.frame.names.now bounds.now.by) (marking_in self.now.frame.names.now marking.now) s.store) result }
+    {
+        let first = self.value(&bounds.first, line)?;
+        let last = self.value(&bounds.last, line)?;
+        let by = self.value(&bounds.by, line)?;
+        let turns = turns_of(marking, first, last, by).map_err(|trap| Stop::Trap(trap, line))?;
+        Ok((first, by, turns))
+    }
+
+    // Puts a word into a cell.
+    fn put(&mut self, variable: usize, cell: usize, word: i64)
+        requires framed { IsFrame self.old.frame.names.now self.old.frame.slots.items }
+        requires there { variable < length self.old.frame.names.now }
+        requires within { (d : Slot) → cell < length (slice_index_or self.old.frame.slots.items variable d).cells.items }
+        ensures names { self.new.frame.names.now ≡ self.old.frame.names.now }
+        ensures framed { IsFrame self.old.frame.names.now self.new.frame.slots.items }
+        ensures left { self.new.left ≡ self.old.left }
+        ensures holds { (e : Entry) (s : Scene ℤ) → Holds e self.old s → Holds e self.new (record s { store = set s.store (var_at self.old.frame.names.now variable) cell word }) }
+    {
+        self.frame.set(variable, cell, word);
+    }
+
+    // Sets the variable of a DO.
+    fn turn(&mut self, variable: usize, word: i64)
+        requires framed { IsFrame self.old.frame.names.now self.old.frame.slots.items }
+        requires there { variable < length self.old.frame.names.now }
+        ensures names { self.new.frame.names.now ≡ self.old.frame.names.now }
+        ensures framed { IsFrame self.old.frame.names.now self.new.frame.slots.items }
+        ensures left { self.new.left ≡ self.old.left }
+        ensures holds { (e : Entry) (s : Scene ℤ) → Holds e self.old s → Holds e self.new (with_turn (setting_at e) (var_at self.old.frame.names.now variable) word s) }
+    {
+        self.put(variable, 0, word);
+    }
+
+    // Adds the step to the variable of a DO.
+    fn advance(&mut self, course: &Course)
+        requires framed { IsFrame self.old.frame.names.now self.old.frame.slots.items }
+        requires there { course.now.variable < length self.old.frame.names.now }
+        ensures names { self.new.frame.names.now ≡ self.old.frame.names.now }
+        ensures framed { IsFrame self.old.frame.names.now self.new.frame.slots.items }
+        ensures left { self.new.left ≡ self.old.left }
+        ensures holds { (e : Entry) (s : Scene ℤ) → Holds e self.old s → Holds e self.new (stepped (setting_at e) (var_at self.old.frame.names.now course.now.variable) course.now.by s) }
+    {
+        let word = add(self.frame.slots[course.variable].first(), course.by);
+        self.turn(course.variable, word);
+    }
+
+    // Counts a statement, where one is left.
+    fn count(&mut self) -> bool
+        ensures none { result ≡ false → (self.new ≡ self.old) × (self.old.left ≡ 0) }
+        ensures some { result ≡ true → self.old ≡ record self.new { left = suc self.new.left } }
+    {
+        if self.left == 0 {
+            return false;
+        }
+        self.left -= 1;
+        true
+    }
+
+    /// Executes statements in order, each counted before it is done. It ends as the run of the statements that they
+    /// stand for.
+    #[cycle(run)]
+    pub fn run(&mut self, steps: &Steps) -> Result<(), Stop>
+        requires framed { IsFrame self.old.frame.names.now self.old.frame.slots.items }
+        requires below { AreStepsBelow (length self.old.frame.names.now) steps.now }
+        requires plain { ArePlain steps.now }
+        ensures names { self.new.frame.names.now ≡ self.old.frame.names.now }
+        ensures framed { IsFrame self.old.frame.names.now self.new.frame.slots.items }
+        ensures ends { (q : Calls ℤ) (e : Entry) (s : Scene ℤ) → Holds e self.old s → Ends e (run q (setting_at e) (steps_in self.old.frame.names.now steps.now) s self.old.left) result self.new }
+    {
+        let mut current = steps;
+        while let Steps::More(step, rest) = current {
+            if !self.count() {
+                return Err(Stop::Budget);
+            }
+            self.perform(&step.task, step.line)?;
+            current = rest;
+        }
+        Ok(())
+    }
+
+    // Does one statement, which was counted.
+    #[cycle(run)]
+    fn perform(&mut self, task: &Task, line: u32) -> Result<(), Stop>
+        requires framed { IsFrame self.old.frame.names.now self.old.frame.slots.items }
+        requires below { IsTaskBelow (length self.old.frame.names.now) task.now }
+        requires plain { IsPlainTask task.now }
+        ensures names { self.new.frame.names.now ≡ self.old.frame.names.now }
+        ensures framed { IsFrame self.old.frame.names.now self.new.frame.slots.items }
+        ensures ends { (q : Calls ℤ) (e : Entry) (s : Scene ℤ) → Holds e self.old s → Ends e (act q (setting_at e) (task_in self.old.frame.names.now task.now) line s self.old.left) result self.new }
+    {
+        match task {
+            Task::Assign(cell, term) => {
+                let word = self.value(term, line)?;
+                let place = self.target(cell, line)?;
+                self.put(cell.variable, place, word);
+                Ok(())
+            }
+            Task::If(test, first, second) => {
+                if self.holds(test, line)? {
+                    self.run(first)
+                } else {
+                    self.run(second)
+                }
+            }
+            Task::Loop(variable, bounds, body, marking) => {
+                let (first, by, turns) = self.bounds(bounds, marking, line)?;
+                self.turn(*variable, first);
+                let course = Course {
+                    variable: *variable,
+                    by,
+                };
+                self.turns(&course, turns, body)
+            }
+            Task::While(test, body) => self.tests(body, test, line),
+            Task::Call(_, _) | Task::Run(_) => unreachable!(),
+        }
+    }
+
+    // Makes some turns of a DO, each counted, with the step after each.
+    #[cycle(run)]
+    fn turns(&mut self, course: &Course, count: u64, body: &Steps) -> Result<(), Stop>
+        requires framed { IsFrame self.old.frame.names.now self.old.frame.slots.items }
+        requires there { course.now.variable < length self.old.frame.names.now }
+        requires below { AreStepsBelow (length self.old.frame.names.now) body.now }
+        requires plain { ArePlain body.now }
+        ensures names { self.new.frame.names.now ≡ self.old.frame.names.now }
+        ensures framed { IsFrame self.old.frame.names.now self.new.frame.slots.items }
+        ensures ends { (q : Calls ℤ) (e : Entry) (s : Scene ℤ) → Holds e self.old s → Ends e (turns (setting_at e) count (run q (setting_at e) (steps_in self.old.frame.names.now body.now)) (stepped (setting_at e) (var_at self.old.frame.names.now course.now.variable) course.now.by) s self.old.left) result self.new }
+    {
+        let mut remaining = count;
+        while remaining > 0 {
+            if !self.count() {
+                return Err(Stop::Budget);
+            }
+            self.run(body)?;
+            self.advance(course);
+            remaining -= 1;
+        }
+        Ok(())
+    }
+
+    // Makes the turns of a DO WHILE, whose first test was counted.
+    #[cycle(run)]
+    fn tests(&mut self, body: &Steps, test: &Test, line: u32) -> Result<(), Stop>
+        requires framed { IsFrame self.old.frame.names.now self.old.frame.slots.items }
+        requires test { IsTestBelow (length self.old.frame.names.now) test.now }
+        requires below { AreStepsBelow (length self.old.frame.names.now) body.now }
+        requires plain { ArePlain body.now }
+        ensures names { self.new.frame.names.now ≡ self.old.frame.names.now }
+        ensures framed { IsFrame self.old.frame.names.now self.new.frame.slots.items }
+        ensures ends { (q : Calls ℤ) (e : Entry) (s : Scene ℤ) → Holds e self.old s → Ends e (tests (setting_at e) most_tests (λ s1. holds (setting_at e) (test_in self.old.frame.names.now test.now) s1.store) line (run q (setting_at e) (steps_in self.old.frame.names.now body.now)) s self.old.left) result self.new }
+    {
+        let mut remaining = most_tests();
+        while self.holds(test, line)? {
+            if remaining == 0 {
+                return Err(Stop::Trap(Trap::Step, line));
+            }
+            self.run(body)?;
+            if !self.count() {
+                return Err(Stop::Budget);
+            }
+            remaining -= 1;
+        }
+        Ok(())
+    }
+}

@@ -1,0 +1,121 @@
+//! Giving the variables of an emitted unit their names (docs/EMITTED.md, "Fresh names").
+
+ghost use Rattle.std.specs.Prelude.{◌≡◌, ◌++◌, [], List, ℕ, IfOk, OnOk, map};
+ghost use Rattle.adj_tree.specs.Code.{Var, shadow};
+ghost use Rattle.adj_transpose.specs.Fresh.{reserved};
+ghost use Rattle.adj_transpose.specs.Naming.{AreApart, named, unit_names};
+ghost use Rattle.adj_naming.specs.Roles.{variable_of};
+ghost use Rattle.adj_naming.specs.Sets.{all_added, AreDifferent};
+ghost use Rattle.adj_naming.specs.Table.{paired, table_of};
+
+use crate::helper_set::helper_set;
+use crate::joining::joined;
+use crate::name_set::{NameSet, add_names, add_texts};
+use crate::names::Names;
+use crate::role::Helper;
+use crate::taken::Taken;
+use adj_tree::{Items, Memory, Name};
+use std::alloc::Global;
+
+// Adds the names of intrinsics and of runtime calls to a set.
+fn add_reserved(alloc: Global, set: &mut NameSet) -> Result<(), Memory>
+    ensures added { OnOk result (set.new ≡ all_added set.old reserved) }
+{
+    let texts: [&[u8]; 18] = [
+        b"ABS",
+        b"IABS",
+        b"MAX",
+        b"MAX0",
+        b"MIN",
+        b"MIN0",
+        b"MOD",
+        b"PUSHINTEGER8",
+        b"POPINTEGER8",
+        b"PUSHINTEGER8ARRAY",
+        b"POPINTEGER8ARRAY",
+        b"PUSHCONTROL1B",
+        b"POPCONTROL1B",
+        b"ADZERO8",
+        b"ADBEG",
+        b"ADEND",
+        b"ADACTN",
+        b"ADACT",
+    ];
+    add_texts(alloc, set, &texts)?;
+    Ok(())
+}
+
+/// What no variable made for an emitted unit may be called: the units of these names, and what is reserved.
+pub fn not_free(alloc: Global, units: &[Name]) -> Result<NameSet, Memory>
+    ensures names { IfOk result (λ s. s ≡ all_added [] (units.now ++ reserved)) }
+{
+    let mut set = NameSet::new(alloc);
+    add_names(alloc, &mut set, units)?;
+    add_reserved(alloc, &mut set)?;
+    Ok(set)
+}
+
+// The name of the shadow of each variable, which is taken from then on.
+fn shadow_names(alloc: Global, shadowed: &[Name], taken: &mut Taken) -> Result<Vec<Name>, Memory>
+    ensures shadows { IfOk result (λ v. (rest : List Var) → paired (map shadow shadowed.now) v.items ++ named taken.new rest ≡ named taken.old (map shadow shadowed.now ++ rest)) }
+{
+    let mut made = Vec::new(alloc);
+    for x in shadowed {
+        let base = joined(alloc, x.bytes(), b"B")?;
+        let name = taken.give(alloc, base.bytes())?;
+        made.push(name)?;
+    }
+    Ok(made)
+}
+
+// The name of each helper, which is taken from then on.
+fn helper_names(alloc: Global, helpers: &[Helper], taken: &mut Taken) -> Result<Vec<Name>, Memory>
+    ensures helpers { IfOk result (λ v. (rest : List Var) → paired (map variable_of helpers.now) v.items ++ named taken.new rest ≡ named taken.old (map variable_of helpers.now ++ rest)) }
+{
+    let mut made = Vec::new(alloc);
+    for helper in helpers {
+        let base = helper.wanted(alloc)?;
+        let name = taken.give(alloc, base.bytes())?;
+        made.push(name)?;
+    }
+    Ok(made)
+}
+
+// The same names once more.
+fn copied(alloc: Global, names: &[Name]) -> Result<Vec<Name>, Memory>
+    ensures same { IfOk result (λ v. v.items ≡ names.now) }
+{
+    let mut made = Vec::new(alloc);
+    for name in names {
+        made.push(name.copy(alloc)?)?;
+    }
+    Ok(made)
+}
+
+/// The names in an emitted unit that has these variables, shadows of those that are to have one, and these helpers. What units
+/// and reserved names leave free is told by `taken`, the set that `not_free` makes once for all units.
+pub fn names(
+    alloc: Global,
+    taken: &NameSet,
+    variables: &[Name],
+    shadowed: &[Name],
+    helpers: &[Helper],
+) -> Result<Names, Memory>
+    requires shadowed { AreApart shadowed.now }
+    requires helpers { AreDifferent (map variable_of helpers.now) }
+    ensures names { IfOk result (λ n. (units : List (List ℕ)) → taken.now ≡ all_added [] (units ++ reserved) → table_of n ≡ unit_names variables.now units (map shadow shadowed.now ++ map variable_of helpers.now)) }
+{
+    let mut all = Taken::new(alloc, taken, variables)?;
+    let own = copied(alloc, variables)?;
+    let mut places = NameSet::new(alloc);
+    add_names(alloc, &mut places, shadowed)?;
+    let shadows = shadow_names(alloc, shadowed, &mut all)?;
+    let given = helper_names(alloc, helpers, &mut all)?;
+    Ok(Names {
+        variables: Items::new(own),
+        shadowed: places,
+        shadows: Items::new(shadows),
+        helpers: helper_set(alloc, helpers)?,
+        helper_names: Items::new(given),
+    })
+}
