@@ -6,5 +6,6 @@ pub mod Given
 pub mod Calls
 pub mod Meets
 pub mod Checked
+pub mod Reaching
 pub mod Adjoint
 pub mod Worked

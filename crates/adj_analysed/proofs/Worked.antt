@@ -1,20 +1,13 @@
 -- The program with a checkpointed call is as the law on analysed programs asks.
-use Rattle.std.proofs.Common.{◌≡◌, ◌⊎◌, inl, inr, ℕ, List, [], ◌∷◌, refl, subst, arith, codes}
-use Rattle.std.specs.Prelude.{Contains}
+use Rattle.std.proofs.Common.{ℕ, List, [], ◌∷◌, refl, arith, codes}
 use Rattle.std.proofs.lemmas.List.Elements.{All-nil, All-cons}
-use Rattle.adj_tree.specs.Code.{plain, var, none, more, call}
 use Rattle.adj_text.specs.Written.{IsName, IsWrittenExtent, IsWrittenDeclaration, IsWrittenProcedure}
 use Rattle.adj_names.specs.Fault.{source_rules}
 use Rattle.adj_transpose.specs.Examples.{declare}
 use Rattle.adj_checked.specs.Checked.{IsChecked}
 use Rattle.adj_worked.specs.Programs.{calling, squaring_itself}
-use Rattle.adj_facts.specs.Reached.{begins, leads}
-use Rattle.adj_facts.specs.Parts.{Part, parts, part}
-use Rattle.adj_facts.specs.Standing.{outermost, Standing}
-use Rattle.adj_facts.specs.Problem.{CallsUnit, TakesPart}
 use Rattle.adj_facts.specs.Computed.{HasTable}
 use Rattle.adj_facts.proofs.Computing.{computed_table}
-use Rattle.adj_facts.proofs.Members.{is_among, is_none}
 use Rattle.adj_analysed.specs.Worked.{calling_problem, calling_table, CallingIsAdjoint}
 use Rattle.adj_analysed.proofs.Adjoint.{analysed_is_adjoint}
 
@@ -46,34 +39,6 @@ checked = record {
   kernel = (((refl, tt), ((refl, tt), ((refl, (tt, tt)), tt))), (((refl, (tt, tt)), tt), tt));
 }
 
--- ---- both its units take part
-
-abbrev head_part : Part
-head_part = part 4 0 0 calling
-
-abbrev other_part : Part
-other_part = part 4 1 3 squaring_itself
-
-head_takes : TakesPart calling_problem head_part
-head_takes = begins (record { is = refl })
-
-abbrev the_call : Standing
-the_call = record { number = 1; place = outermost; act = call (codes "SQ") (more (var (plain (codes "Y"))) none) }
-
-calls : CallsUnit calling_problem head_part other_part the_call (more (var (plain (codes "Y"))) none)
-calls = record { name = codes "SQ"; stands = (1, omega arith, refl); act = refl; finds = refl }
-
-all_take : (g : Part) → Contains (parts calling_problem.units) g → TakesPart calling_problem g
-all_take g c = first (is_among g head_part (other_part ∷ []) c)
-  where
-    second : (other_part ≡ g) ⊎ Contains [] g → TakesPart calling_problem g
-    second (inl e) = subst (TakesPart calling_problem) e (leads head_takes (the_call, more (var (plain (codes "Y"))) none, calls))
-    second (inr d) = absurd (is_none g d)
-
-    first : (head_part ≡ g) ⊎ Contains (other_part ∷ []) g → TakesPart calling_problem g
-    first (inl e) = subst (TakesPart calling_problem) e head_takes
-    first (inr d) = second (is_among g other_part [] d)
-
 -- ---- so it is an adjoint
 
 table : HasTable calling_problem calling_table
@@ -82,5 +47,5 @@ table = computed_table calling_problem 12 calling_table refl refl
 pub calling_is_adjoint : CallingIsAdjoint
 calling_is_adjoint = (
   table,
-  analysed_is_adjoint source_rules calling_problem checked ((tt, (tt, (tt, tt))), ((tt, tt), tt)) all_take table.activity table.live table.saved table.held table.analysed calling refl,
+  analysed_is_adjoint source_rules calling_problem checked ((tt, (tt, (tt, tt))), ((tt, tt), tt)) table.activity table.live table.saved table.held table.analysed calling refl,
 )

@@ -13,7 +13,7 @@ pub fn meets_law()
     ensures { AnalysedMeets }
 {}
 
-/// What is emitted by their marks for a checked program in kernel form is its adjoint, where all units take part and no loop is marked.
+/// What is emitted by their marks for a checked program in kernel form is its adjoint, where no loop is marked.
 pub fn analysed_law()
     ensures { AnalysedIsAdjoint }
 {}

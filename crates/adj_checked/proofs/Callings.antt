@@ -137,14 +137,14 @@ each_at P zero (v ∷ us) u h e = let same : v ≡ u = cc in subst P same h.0
 each_at P (suc k) (v ∷ us) u h e = each_at P k us u h.1 e
 
 -- a unit of a set that calls a name
-record Caller (ps : List Procedure) (among : List ℕ → Bool) (f : ℕ → Bool) (n : List ℕ) : Type 0 where
-  unit : Procedure
-  found : find_unit ps unit.name ≡ Some unit
-  inside : among unit.name ≡ true
-  number : ℕ
-  calling : calls_in f n number unit.body ≡ true
+pub record Caller (ps : List Procedure) (among : List ℕ → Bool) (f : ℕ → Bool) (n : List ℕ) : Type 0 where
+  pub unit : Procedure
+  pub found : find_unit ps unit.name ≡ Some unit
+  pub inside : among unit.name ≡ true
+  pub number : ℕ
+  pub calling : calls_in f n number unit.body ≡ true
 
-caller_of : (ps : List Procedure) (among : List ℕ → Bool) (f : ℕ → Bool) (n : List ℕ) (i : ℕ) (us : List Procedure) → Each (Found ps) us → calls_some among f n i us ≡ true → Caller ps among f n
+pub caller_of : (ps : List Procedure) (among : List ℕ → Bool) (f : ℕ → Bool) (n : List ℕ) (i : ℕ) (us : List Procedure) → Each (Found ps) us → calls_some among f n i us ≡ true → Caller ps among f n
 caller_of ps among f n i [] h c = absurd cc
 caller_of ps among f n i (v ∷ us) h c = go (among v.name && calls_in f n i v.body) refl c (caller_of ps among f n (behind i v.body) us h.1)
   where

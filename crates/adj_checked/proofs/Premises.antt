@@ -1,6 +1,6 @@
 -- A checked program meets all that the law on emitted programs asks, and so what is emitted for it is its adjoint.
 use Rattle.std.proofs.Common.{◌≡◌, ℕ, true, false, List, [], ◌∷◌, map, refl, sym, ap, ◌∙◌, subst, arith}
-use Rattle.std.specs.Prelude.{◌==◌, not, length, flat_map, Option, Some, None}
+use Rattle.std.specs.Prelude.{◌==◌, not, length, flat_map, Option, Some, None, IsTrue}
 use Rattle.adj_tree.specs.Code.{Var, plain, Act, Extent, Procedure}
 use Rattle.adj_tree.specs.declared.fault.Refusal.{Refusal}
 use Rattle.adj_meaning.specs.Written.{find_unit, handed_back}
@@ -28,12 +28,12 @@ use Rattle.adj_reverse.specs.Laws.{UnitLaws}
 use Rattle.adj_reverse.specs.Marking.{ProgramMarks, ProgramFacts, full_marks, full_facts, marks_in, callee_of, callee_facts, read_by, plain_by, arrays_of, first_statement, entry_point}
 use Rattle.adj_reverse.specs.Program.{calls_in, has_adjoint, answers, is_kept, is_carried}
 use Rattle.adj_reverse.specs.Environment.{UnitFits}
-use Rattle.adj_reverse.specs.Source.{CallUnits, SourceFits}
+use Rattle.adj_reverse.specs.Source.{is_unit, CallUnits, SourceFits}
 use Rattle.adj_reverse.proofs.Full.{list_laws, way}
 use Rattle.adj_reverse.proofs.Variables.{variables_apart, dummy_among}
 use Rattle.adj_reverse.proofs.EmittedUnits.{found_there}
 use Rattle.adj_reverse.proofs.Adjoint.{emitted_is_adjoint, full_is_adjoint}
-use Rattle.adj_checked.specs.Checked.{IsChecked, AreLawful, LawfulFits, LawfulIsAdjoint, CheckedFits, CheckedIsAdjoint}
+use Rattle.adj_checked.specs.Checked.{IsChecked, AreLawful, AreLawfulFor, LawfulFits, LawfulIsAdjoint, ReachedIsAdjoint, CheckedFits, CheckedIsAdjoint}
 use Rattle.adj_checked.proofs.Lists.{Each, each_more, each_all, each_unit, each_found, none_front, none_behind, none_each, none_if, apart_places, apart_same}
 use Rattle.adj_checked.proofs.Texts.{Known}
 use Rattle.adj_checked.proofs.Statements.{names_given, CallHasNone, calls_inside, StatementSound, list_fits}
@@ -68,7 +68,7 @@ first_none : (xs ys : List Refusal) → or_else xs ys ≡ [] → xs ≡ []
 first_none [] ys h = refl
 first_none (x ∷ xs) ys h = absurd cc
 
-calls_known : (ps us : List Procedure) → Each (λ u. Each (CallHasNone ps u) (statements u.body)) us → CallUnits ps us
+pub calls_known : (ps us : List Procedure) → Each (λ u. Each (CallHasNone ps u) (statements u.body)) us → CallUnits ps us
 calls_known ps [] h = tt
 calls_known ps (u ∷ us) h = (calls_inside ps u u.body h.0, calls_known ps us h.1)
 
@@ -79,7 +79,7 @@ module _ (rules : Rules) (ps : List Procedure) (checked : IsChecked rules ps) wh
   pub units_apart : AreApart (map unit_name ps)
   units_apart = subst AreApart (unit_names ps) (apart_places 19 [] (unit_places ps) (none_behind (reserved_units ps) (repeated_units ps) none.units))
 
-  found : Each (Found ps) ps
+  pub found : Each (Found ps) ps
   found = all_found ps units_apart
 
   pub all_calls : Each (λ u. Each (CallHasNone ps u) (statements u.body)) ps
@@ -150,11 +150,11 @@ module _ (rules : Rules) (ps : List Procedure) (checked : IsChecked rules ps) wh
 
   -- ---- with facts that meet the laws
 
-  module _ (w : ProgramFacts) (lawful : AreLawful w ps) where
+  module _ (w : ProgramFacts) (head : Procedure) (lawful : AreLawfulFor w ps head) where
     abbrev m : ProgramMarks
     m = w.marks
 
-    module _ (head : Procedure) (name : List ℕ) (u : Procedure) (f : find_unit ps name ≡ Some u) where
+    module _ (name : List ℕ) (u : Procedure) (f : find_unit ps name ≡ Some u) (ins : IsTrue (lawful.reached name)) where
       same_dummies : (callee_facts w ps name).callee.dummies ≡ u.dummies
       same_dummies = ap (λ o. (callee_of m ps name o).dummies) f
 
@@ -179,35 +179,51 @@ module _ (rules : Rules) (ps : List Procedure) (checked : IsChecked rules ps) wh
         reads = λ d. ap (λ o. read_by ps o d) f;
         shadowed = λ v. shadows_said m ps name v (find_unit ps name);
         inert = λ h. sym (ap (λ o. plain_by (marks_in m name) (first_statement ps name) o) f) ∙ h;
-        laws = lawful.laws name u f;
-        extents = λ d h. members_said m ps name d (find_unit ps name) (lawful.extents name u f d h);
+        laws = lawful.laws name u f ins;
+        extents = λ d h. members_said m ps name d (find_unit ps name) (lawful.extents name u f ins d h);
         code =
             (let written_unit = written name u f in
             list_fits rules w ps name u (has_adjoint m ps head name) (answers m ps head) (is_carried m ps head) (first_statement ps name) u.body written_unit.body (kernel name u f) (sound name u f) (λ n c there. answered n c there) (λ n c there. carried n c there));
       }
 
-    pub source_fits : (head : ℕ) (u : Procedure) → unit_at head ps ≡ u ∷ [] → SourceFits (λ line. false) w ps u
-    source_fits head u is = record {
-      units = λ name v f. unit_fits u name v f;
+    pub source_fits : (number : ℕ) → unit_at number ps ≡ head ∷ [] → SourceFits (λ line. false) w ps head
+    source_fits number is = record {
+      reached = lawful.reached;
+      head_reached = lawful.head_reached;
+      closed = lawful.closed;
+      units = λ name v f c. unit_fits name v f c;
       apart = λ name v f. apart_same v.dummies (dummies_apart name v f);
       inside = λ name v f. inside_text name v f;
       extents = λ name v f d h. extent_is_dummy name v f d h;
       known = calls_known ps ps all_calls;
-      there = (each_at (Found ps) head ps u found is).0;
-      uncalled = head_uncalled ps found m.adjointed u.name no_cycle;
+      there = (each_at (Found ps) number ps head found is).0;
+      uncalled = head_uncalled ps found m.adjointed head.name no_cycle;
     }
+
+  -- what meets the laws of all units does so for each head
+  pub lawful_for : (w : ProgramFacts) → AreLawful w ps → (number : ℕ) (head : Procedure) → unit_at number ps ≡ head ∷ [] → AreLawfulFor w ps head
+  lawful_for w lawful number head is = record {
+    reached = is_unit ps;
+    head_reached = (found_there ps head.name head (each_at (Found ps) number ps head found is).0).0;
+    closed = λ name u f c. calls_inside ps u u.body (each_found (λ u. Each (CallHasNone ps u) (statements u.body)) ps all_calls name u f);
+    laws = λ name u f c. lawful.laws name u f;
+    extents = λ name u f c. lawful.extents name u f;
+  }
 
   pub full_lawful : AreLawful full_facts ps
   full_lawful = record { laws = λ name u f. full_laws name u f; extents = λ name u f d h. refl }
 
 pub lawful_fits : LawfulFits
-lawful_fits rules ps checked w lawful head u is = source_fits rules ps checked w lawful head u is
+lawful_fits rules ps checked w lawful head u is = source_fits rules ps checked w u (lawful_for rules ps checked w lawful head u is) head is
 
 pub lawful_is_adjoint : LawfulIsAdjoint
-lawful_is_adjoint rules ps checked w lawful head vars outvars u is suits = emitted_is_adjoint (λ line. false) w ps head vars outvars u is (source_fits rules ps checked w lawful head u is) suits
+lawful_is_adjoint rules ps checked w lawful head vars outvars u is suits = emitted_is_adjoint (λ line. false) w ps head vars outvars u is (lawful_fits rules ps checked w lawful head u is) suits
+
+pub reached_is_adjoint : ReachedIsAdjoint
+reached_is_adjoint rules ps checked w head vars outvars u is lawful suits = emitted_is_adjoint (λ line. false) w ps head vars outvars u is (source_fits rules ps checked w u lawful head is) suits
 
 pub checked_fits : CheckedFits
-checked_fits rules ps checked head u is = source_fits rules ps checked full_facts (full_lawful rules ps checked) head u is
+checked_fits rules ps checked head u is = lawful_fits rules ps checked full_facts (full_lawful rules ps checked) head u is
 
 pub checked_is_adjoint : CheckedIsAdjoint
 checked_is_adjoint rules ps checked head vars outvars u is = full_is_adjoint ps head vars outvars u is (checked_fits rules ps checked head u is)

@@ -1,6 +1,7 @@
 -- That what is emitted for a checked program in kernel form, with full marks or by others that meet the laws, is its adjoint. (docs/THEOREMS.md, "Adjoints")
-use Rattle.std.specs.Prelude.{◌≡◌, ℕ, List, [], ◌∷◌, Bool, true, false, Some}
+use Rattle.std.specs.Prelude.{◌≡◌, ℕ, List, [], ◌∷◌, Bool, true, false, IsTrue, Some}
 use Rattle.adj_tree.specs.Code.{plain, Procedure}
+use Rattle.adj_meaning.specs.Common.{CallsInside}
 use Rattle.adj_meaning.specs.Written.{find_unit}
 use Rattle.adj_meaning.specs.Read.{is_extent}
 use Rattle.adj_text.specs.Written.{IsWritten}
@@ -29,6 +30,15 @@ pub record AreLawful (w : ProgramFacts) (ps : List Procedure) : Type 0 where
   pub laws : (name : List ℕ) (u : Procedure) → find_unit ps name ≡ Some u → UnitLaws (callee_facts w ps) (callee_facts w ps name) (first_statement ps name) u.body
   pub extents : (name : List ℕ) (u : Procedure) → find_unit ps name ≡ Some u → (d : List ℕ) → is_extent d u.declarations ≡ true → In (plain d) (w.marks.members name)
 
+-- Facts that meet the laws of the units of a set, which holds the head and calls no others: of units that the head doesn't reach nothing
+-- need be known.
+pub record AreLawfulFor (w : ProgramFacts) (ps : List Procedure) (head : Procedure) : Type 0 where
+  pub reached : List ℕ → Bool
+  pub head_reached : IsTrue (reached head.name)
+  pub closed : (name : List ℕ) (u : Procedure) → find_unit ps name ≡ Some u → IsTrue (reached name) → CallsInside reached u.body
+  pub laws : (name : List ℕ) (u : Procedure) → find_unit ps name ≡ Some u → IsTrue (reached name) → UnitLaws (callee_facts w ps) (callee_facts w ps name) (first_statement ps name) u.body
+  pub extents : (name : List ℕ) (u : Procedure) → find_unit ps name ≡ Some u → IsTrue (reached name) → (d : List ℕ) → is_extent d u.declarations ≡ true → In (plain d) (w.marks.members name)
+
 -- such a program meets with them all that the law on emitted programs asks of a source, for each of its units as the head
 abbrev pub LawfulFits : Type 0
 LawfulFits = (rules : Rules) (ps : List Procedure) → IsChecked rules ps → (w : ProgramFacts) → AreLawful w ps → (head : ℕ) (u : Procedure) → unit_at head ps ≡ u ∷ [] → SourceFits (λ line. false) w ps u
@@ -37,6 +47,12 @@ LawfulFits = (rules : Rules) (ps : List Procedure) → IsChecked rules ps → (w
 abbrev pub LawfulIsAdjoint : Type 0
 LawfulIsAdjoint =
     (rules : Rules) (ps : List Procedure) → IsChecked rules ps → (w : ProgramFacts) → AreLawful w ps → (head : ℕ) (vars outvars : List Bool) (u : Procedure) → unit_at head ps ≡ u ∷ [] →
+    SuitHead (facts_in w u.name).marks (entry_point ps u.name) (end_point ps u.name) u vars outvars → IsAdjoint (λ line. false) w.marks ps head vars outvars (emitted_program w.marks ps head vars outvars)
+
+-- the same where they meet the laws of the units that the head reaches
+abbrev pub ReachedIsAdjoint : Type 0
+ReachedIsAdjoint =
+    (rules : Rules) (ps : List Procedure) → IsChecked rules ps → (w : ProgramFacts) (head : ℕ) (vars outvars : List Bool) (u : Procedure) → unit_at head ps ≡ u ∷ [] → AreLawfulFor w ps u →
     SuitHead (facts_in w u.name).marks (entry_point ps u.name) (end_point ps u.name) u vars outvars → IsAdjoint (λ line. false) w.marks ps head vars outvars (emitted_program w.marks ps head vars outvars)
 
 -- ---- with full marks

@@ -6,7 +6,7 @@
 //! and `lawful_law` with any others.
 #![tactic(auto)]
 
-ghost use Rattle.adj_checked.specs.Checked.{LawfulFits, LawfulIsAdjoint, CheckedFits, CheckedIsAdjoint};
+ghost use Rattle.adj_checked.specs.Checked.{LawfulFits, LawfulIsAdjoint, ReachedIsAdjoint, CheckedFits, CheckedIsAdjoint};
 
 /// A checked program in kernel form meets all that the law on emitted programs asks.
 pub fn premises_law()
@@ -18,8 +18,9 @@ pub fn checked_law()
     ensures { CheckedIsAdjoint }
 {}
 
-/// The same with any facts that meet the laws, where these suit the head.
+/// The same with any facts that meet the laws, of all units or of those that the head reaches, where these suit the head.
 pub fn lawful_law()
     ensures fits { LawfulFits }
     ensures adjoint { LawfulIsAdjoint }
+    ensures reached { ReachedIsAdjoint }
 {}

@@ -139,17 +139,17 @@ mutual
   inside_act p i (call other args) h = h other (name_refl other)
   inside_act p i (runtime r) h = tt
 
-  inside_in : (p : List ℕ → Bool) (i : ℕ) (c : Code) → ((n : List ℕ) → calls_in (λ j. true) n i c ≡ true → p n ≡ true) → CallsInside p c
+  pub inside_in : (p : List ℕ → Bool) (i : ℕ) (c : Code) → ((n : List ℕ) → calls_in (λ j. true) n i c ≡ true → p n ≡ true) → CallsInside p c
   inside_in p i stop h = tt
   inside_in p i (step line a rest) h =
       (inside_act p i a (λ n g. h n (or_left (calls_act (λ j. true) n i a) (calls_in (λ j. true) n (next i a) rest) g)), inside_in p (next i a) rest (λ n g. h n (or_right (calls_act (λ j. true) n i a) (calls_in (λ j. true) n (next i a) rest) g)))
 
 -- what a unit calls is called by some of those in a set, if it is in it
-record Counts (f : List ℕ → Bool) (s : ℕ → Bool) (i : ℕ) (us : List Procedure) (u : Procedure) : Type 0 where
-  at : ℕ
-  by : (n : List ℕ) → calls_in s n at u.body ≡ true → calls_some f s n i us ≡ true
+pub record Counts (f : List ℕ → Bool) (s : ℕ → Bool) (i : ℕ) (us : List Procedure) (u : Procedure) : Type 0 where
+  pub at : ℕ
+  pub by : (n : List ℕ) → calls_in s n at u.body ≡ true → calls_some f s n i us ≡ true
 
-counts : (f : List ℕ → Bool) (s : ℕ → Bool) (i : ℕ) (us : List Procedure) (name : List ℕ) (u : Procedure) → find_unit us name ≡ Some u → f name ≡ true → Counts f s i us u
+pub counts : (f : List ℕ → Bool) (s : ℕ → Bool) (i : ℕ) (us : List Procedure) (name : List ℕ) (u : Procedure) → find_unit us name ≡ Some u → f name ≡ true → Counts f s i us u
 counts f s i [] name u h k = absurd cc
 counts f s i (v ∷ us) name u h k = go (name_eq v.name name) refl h (counts f s (behind i v.body) us name u)
   where
@@ -160,7 +160,7 @@ counts f s i (v ∷ us) name u h k = go (name_eq v.name name) refl h (counts f s
         record { at = i; by = λ n g. or_left (f v.name && calls_in s n i v.body) (calls_some f s n (behind i v.body) us) (rw (here, ap (λ z. calls_in s n i z.body) same ∙ g) refl) }
     go false e h ih = let c = ih h k in record { at = c.at; by = λ n g. or_right (f v.name && calls_in s n i v.body) (calls_some f s n (behind i v.body) us) (c.by n g) }
 
-some_there : (ps us : List Procedure) → CallUnits ps us → (f : List ℕ → Bool) (s : ℕ → Bool) (name : List ℕ) (i : ℕ) → calls_some f s name i us ≡ true → is_unit ps name ≡ true
+pub some_there : (ps us : List Procedure) → CallUnits ps us → (f : List ℕ → Bool) (s : ℕ → Bool) (name : List ℕ) (i : ℕ) → calls_some f s name i us ≡ true → is_unit ps name ≡ true
 some_there ps [] k f s name i h = absurd cc
 some_there ps (u ∷ us) k f s name i h =
     either (f u.name && calls_in s name i u.body) (calls_some f s name (behind i u.body) us) (is_unit ps name) h

@@ -105,7 +105,7 @@ module _ (lines : ℕ → Bool) (w : ProgramFacts) (ps : List Procedure) (u : Pr
   g = callee_of m ps u.name (Some u)
 
   abbrev pub fitting : UnitFits lines ps (callee_facts w ps) (has_adjoint m ps u) (answers m ps u) (is_carried m ps u) u.name u (first_statement ps u.name) (variables u) (arrays_of u)
-  fitting = good.units u.name u good.there
+  fitting = good.units u.name u good.there good.head_reached
 
   abbrev pub separates : (v w : Var) → var_eq (naming ns v) (naming ns w) ≡ var_eq v w
   separates = made.separates m ps (all_units m ps u) u fitting.vars_apart (good.inside u.name u good.there) (good.extents u.name u good.there)
@@ -176,7 +176,7 @@ module _ (lines : ℕ → Bool) (w : ProgramFacts) (ps : List Procedure) (u : Pr
   list =
       subst Transposed good.there
       (units_transpose lines ps qs (callee_facts w ps) (has_adjoint m ps u) (answers m ps u) (is_carried m ps u) (first_statement ps) (emitted.vars_of lines w ps u vars outvars good) (emitted.arrays lines w ps u vars outvars good) (emitted.emitted_fits lines w ps u vars outvars good)
-      k u.name u good.there (head_there m ps u vars outvars good.known (found_there ps u.name u good.there).0) sh 1
+      k u.name u good.there (emitted.head_within lines w ps u vars outvars good) (head_there m ps u vars outvars good.known (found_there ps u.name u good.there).0) sh 1
       (subst (λ o. ShapesFit (plan_of (callee_facts w ps) own (arrays_in o)) sh) (sym good.there) shapes_fit)
       (begin words ps u input) body.end k body.left (ap (λ n. run (calls_of ps k) n u.body (begin words ps u input) k) (sym setting_plain) ∙ body.is))
 

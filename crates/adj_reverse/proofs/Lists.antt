@@ -1,6 +1,6 @@
 -- The sweeps of a list of statements transpose its derivative along each run that is done: one statement after the other.
 use Rattle.std.proofs.Common.{◌≡◌, ◌<◌, ◌^◌, ℕ, suc, ◌+◌, Bool, true, false, List, [], ◌∷◌, map, refl, sym, ap, ◌∙◌, subst, arith, if◌then◌else◌}
-use Rattle.std.specs.Prelude.{ℤ, pos, not, ◌&&◌, ◌||◌, Ok, Option, Some, None}
+use Rattle.std.specs.Prelude.{ℤ, pos, not, ◌&&◌, ◌||◌, Ok, Option, Some, None, IsTrue}
 use Rattle.adj_tree.specs.Code.{Var, plain, shadow, helper, name_eq, var_eq, Term, Terms, Test, Mark, Act, assign, choose, loop, during, call, runtime, Code, stop, step, Procedure}
 use Rattle.adj_tree.proofs.Names.{name_refl}
 use Rattle.adj_word.specs.Word.{wrap, add, mul}
@@ -12,6 +12,7 @@ use Rattle.adj_meaning.specs.Value.{Setting, value, holds}
 use Rattle.adj_meaning.specs.Scene.{Scene, Done, then_do}
 use Rattle.adj_meaning.specs.Run.{Calls, act, run, turns, stepped, with_turn, trips, in_force, after_loop}
 use Rattle.adj_meaning.specs.Read.{reads_test}
+use Rattle.adj_meaning.specs.Common.{CallsInside', CallsInside}
 use Rattle.adj_meaning.specs.Written.{find_unit, is_handed_back, act_writes, writes}
 use Rattle.adj_meaning.proofs.Inversions.{then_done, value_done, count_done, done_same}
 use Rattle.adj_transpose.specs.Marks.{Vars, Marks, next, behind, point_before, point_after}
@@ -51,13 +52,13 @@ unwritten_actual f x (d ∷ ds) (a ∷ given) m h = go (name_eq x a) refl (f d) 
     go true e false t o ih = t
     go false e t et o ih = ih o.1
 
-module _ (p q : Calls ℤ) (lines : ℕ → Bool) (qd : Calls (ℤ × ℤ)) (ps : List Procedure) (handed : Dummies) (callees : List ℕ → CalleeFacts) (answers carried : List ℕ → Bool) (w : Facts) (present : Bool) (vars : List (List ℕ)) (arrays : Vars) (apart : AreApart vars) (sh : Var → Shape) (level : ℕ) (known : KnowsArrays (plan_of callees w arrays) sh)
+module _ (p q : Calls ℤ) (lines : ℕ → Bool) (qd : Calls (ℤ × ℤ)) (ps : List Procedure) (handed : Dummies) (callees : List ℕ → CalleeFacts) (answers carried inside : List ℕ → Bool) (w : Facts) (present : Bool) (vars : List (List ℕ)) (arrays : Vars) (apart : AreApart vars) (sh : Var → Shape) (level : ℕ) (known : KnowsArrays (plan_of callees w arrays) sh)
     -- the units of the program: their names of dummies, what they hand back, and that what is varied and useful at their ends has a shadow
-    (own : (name : List ℕ) (u : Procedure) → find_unit ps name ≡ Some u → (v : Var) → (callees name).callee.shadowed v ≡ (callees name).facts.marks.shadowed v)
-    (dummies_apart : (name : List ℕ) (u : Procedure) → find_unit ps name ≡ Some u → AreApart (callees name).callee.dummies)
-    (flags : (name : List ℕ) (u : Procedure) → find_unit ps name ≡ Some u → handed name ≡ map (λ d. (callees name).callee.written (plain d)) (callees name).callee.dummies)
-    (entry_shadows : (name : List ℕ) (u : Procedure) → find_unit ps name ≡ Some u → (v : Var) → In v ((callees name).facts.marks.varied (callees name).entry) → In v ((callees name).facts.marks.useful (callees name).entry) → In v (callees name).facts.marks.shadowed)
-    (end_shadows : (name : List ℕ) (u : Procedure) → find_unit ps name ≡ Some u → (v : Var) → In v ((callees name).facts.marks.varied (callees name).end) → In v ((callees name).facts.marks.useful (callees name).end) → In v (callees name).facts.marks.shadowed)
+    (own : (name : List ℕ) (u : Procedure) → find_unit ps name ≡ Some u → IsTrue (inside name) → (v : Var) → (callees name).callee.shadowed v ≡ (callees name).facts.marks.shadowed v)
+    (dummies_apart : (name : List ℕ) (u : Procedure) → find_unit ps name ≡ Some u → IsTrue (inside name) → AreApart (callees name).callee.dummies)
+    (flags : (name : List ℕ) (u : Procedure) → find_unit ps name ≡ Some u → IsTrue (inside name) → handed name ≡ map (λ d. (callees name).callee.written (plain d)) (callees name).callee.dummies)
+    (entry_shadows : (name : List ℕ) (u : Procedure) → find_unit ps name ≡ Some u → IsTrue (inside name) → (v : Var) → In v ((callees name).facts.marks.varied (callees name).entry) → In v ((callees name).facts.marks.useful (callees name).entry) → In v (callees name).facts.marks.shadowed)
+    (end_shadows : (name : List ℕ) (u : Procedure) → find_unit ps name ≡ Some u → IsTrue (inside name) → (v : Var) → In v ((callees name).facts.marks.varied (callees name).end) → In v ((callees name).facts.marks.useful (callees name).end) → In v (callees name).facts.marks.shadowed)
     -- a run changes nothing that it may not write
     (keeps : (c : Code) (s e : Scene ℤ) (k left : ℕ) → run p (on_words (plainly sh) level) c s k ≡ Done e left → (x : Var) → writes handed x c ≡ false → (j : ℕ) → e.store x j ≡ s.store x j) where
   abbrev plan : Plan
@@ -77,16 +78,16 @@ module _ (p q : Calls ℤ) (lines : ℕ → Bool) (qd : Calls (ℤ × ℤ)) (ps 
   ActDone i d line a s e = Transposed q lines qd sh level xs w d present (λ x. act_writes handed x a) (is_plain' m i a) (point_before i) (point_after i) (one line a) (forward_act plan i d line a) (backward_act plan i d line a) s.store e.store
 
   module _
-      (calls : (name given : _) (i line : ℕ) (s e : Scene ℤ) (k left : ℕ) → CallLaws w i (callees name) given → CallFits ps vars arrays (callees name) name given → (present ≡ true → m.adjointed i ≡ true → answers name ≡ true) → (present ≡ true → m.kept i ≡ true → carried name ≡ true) → p np name (actuals_named given) line s k ≡ Done e left → CallTransposed q lines qd sh level xs (callees name) given name line (m.kept i) (m.adjointed i) present s.store e.store)
+      (calls : (name given : _) (i line : ℕ) (s e : Scene ℤ) (k left : ℕ) → IsTrue (inside name) → CallLaws w i (callees name) given → CallFits ps vars arrays (callees name) name given → (present ≡ true → m.adjointed i ≡ true → answers name ≡ true) → (present ≡ true → m.kept i ≡ true → carried name ≡ true) → p np name (actuals_named given) line s k ≡ Done e left → CallTransposed q lines qd sh level xs (callees name) given name line (m.kept i) (m.adjointed i) present s.store e.store)
       (assigns : (x : List ℕ) (subs : Terms) (a : Term) (i d line : ℕ) (s e : Scene ℤ) (k left : ℕ) → AssignmentLaws w i (plain x) subs a → AssignmentFits vars arrays x subs a → act p np (assign (plain x) subs a) line s k ≡ Done e left → ActDone i d line (assign (plain x) subs a) s e) where
     -- the call of a unit
-    call_done : (name given : _) (i d line : ℕ) (s e : Scene ℤ) (k left : ℕ) → CallLaws w i (callees name) given → CallFits ps vars arrays (callees name) name given → (present ≡ true → m.adjointed i ≡ true → answers name ≡ true) → (present ≡ true → m.kept i ≡ true → carried name ≡ true) → p np name (actuals_named given) line s k ≡ Done e left → ActDone i d line (call name (actuals_named given)) s e
-    call_done name given i d line s e k left laws fits t c h =
-        let apart_ds = dummies_apart name fits.unit fits.found in
+    call_done : (name given : _) (i d line : ℕ) (s e : Scene ℤ) (k left : ℕ) → IsTrue (inside name) → CallLaws w i (callees name) given → CallFits ps vars arrays (callees name) name given → (present ≡ true → m.adjointed i ≡ true → answers name ≡ true) → (present ≡ true → m.kept i ≡ true → carried name ≡ true) → p np name (actuals_named given) line s k ≡ Done e left → ActDone i d line (call name (actuals_named given)) s e
+    call_done name given i d line s e k left ins laws fits t c h =
+        let apart_ds = dummies_apart name fits.unit fits.found ins in
         transposed_more q lines qd sh level xs w d present (writes_actual (callees name).callee given) (λ x. is_handed_back x (handed name) (actuals_named given)) (not (m.adjointed i)) (not (m.adjointed i)) (point_before i) (point_after i) (one line (call name (actuals_named given))) (forward_act plan i d line (call name (actuals_named given))) (backward_act plan i d line (call name (actuals_named given))) s.store e.store
-        (λ x n. unwritten_actual (λ d. (callees name).callee.written (plain d)) x (callees name).callee.dummies given fits.many (ap (λ ws. is_handed_back (plain x) ws (actuals_named given)) (sym (flags name fits.unit fits.found)) ∙ n))
+        (λ x n. unwritten_actual (λ d. (callees name).callee.written (plain d)) x (callees name).callee.dummies given fits.many (ap (λ ws. is_handed_back (plain x) ws (actuals_named given)) (sym (flags name fits.unit fits.found ins)) ∙ n))
         (λ o. o)
-        (transposed_call q lines qd sh level xs w d present callees arrays known i name given laws (own name fits.unit fits.found) apart_ds fits.apart (entry_shadows name fits.unit fits.found) (end_shadows name fits.unit fits.found) line s.store e.store (calls name given i line s e k left laws fits t c h))
+        (transposed_call q lines qd sh level xs w d present callees arrays known i name given laws (own name fits.unit fits.found ins) apart_ds fits.apart (entry_shadows name fits.unit fits.found ins) (end_shadows name fits.unit fits.found ins) line s.store e.store (calls name given i line s e k left ins laws fits t c h))
 
     same_loop_store : (line n : ℕ) (mark : Option ℕ) (s1 e : Scene ℤ) → after_loop line n mark s1 ≡ e → s1.store ≡ e.store
     same_loop_store line n None s1 e h = ap (λ (z : Scene ℤ). z.store) h
@@ -144,36 +145,36 @@ module _ (p q : Calls ℤ) (lines : ℕ → Bool) (qd : Calls (ℤ × ℤ)) (ps 
         (turns_swept x a b c body mark i d line s o.scene k o.left va.value vb.value vc.value n.value f laws va.is vb.is vc.is n.is o.first each)
 
     mutual
-      act_swept : (a : Act) (i d line : ℕ) (s e : Scene ℤ) (k left : ℕ) → Fits' lines ps callees answers carried present m vars arrays handed i line a → ActLaws callees w i a → act p np a line s k ≡ Done e left → ActDone i d line a s e
-      act_swept (assign (plain x) subs a) i d line s e k left f laws h = assigns x subs a i d line s e k left laws f h
-      act_swept (assign (shadow x) subs a) i d line s e k left f laws h = absurd f
-      act_swept (assign (helper r x) subs a) i d line s e k left f laws h = absurd f
-      act_swept (choose c a b) i d line s e k left f laws h =
+      act_swept : (a : Act) (i d line : ℕ) (s e : Scene ℤ) (k left : ℕ) → CallsInside' inside a → Fits' lines ps callees answers carried present m vars arrays handed i line a → ActLaws callees w i a → act p np a line s k ≡ Done e left → ActDone i d line a s e
+      act_swept (assign (plain x) subs a) i d line s e k left n f laws h = assigns x subs a i d line s e k left laws f h
+      act_swept (assign (shadow x) subs a) i d line s e k left n f laws h = absurd f
+      act_swept (assign (helper r x) subs a) i d line s e k left n f laws h = absurd f
+      act_swept (choose c a b) i d line s e k left n f laws h =
           let v = value_done (holds np c s.store) line _ (λ t. if t then run p np a s k else run p np b s k) e left h in
           choice_swept c a b i d line s e k left v.value f.0 laws.0 v.is v.goes
-          (λ g. list_swept a (suc i) d (point_before i) s e k left f.1.0 laws.1.0 g)
-          (λ g. list_swept b (behind (suc i) a) d (point_before i) s e k left f.1.1 laws.1.1 g)
-      act_swept (loop (plain x) a b c body mark) i d line s e k left f laws h =
-          loop_swept x a b c body mark i d line s e k left f.0 laws.0 h (λ s0 e0 k0 l0 g. list_swept body (suc i) (suc d) (point_inside i) s0 e0 k0 l0 f.1 laws.1 g)
-      act_swept (loop (shadow x) a b c body mark) i d line s e k left f laws h = absurd f
-      act_swept (loop (helper r x) a b c body mark) i d line s e k left f laws h = absurd f
-      act_swept (during c body) i d line s e k left f laws h =
+          (λ g. list_swept a (suc i) d (point_before i) s e k left n.0 f.1.0 laws.1.0 g)
+          (λ g. list_swept b (behind (suc i) a) d (point_before i) s e k left n.1 f.1.1 laws.1.1 g)
+      act_swept (loop (plain x) a b c body mark) i d line s e k left n f laws h =
+          loop_swept x a b c body mark i d line s e k left f.0 laws.0 h (λ s0 e0 k0 l0 g. list_swept body (suc i) (suc d) (point_inside i) s0 e0 k0 l0 n f.1 laws.1 g)
+      act_swept (loop (shadow x) a b c body mark) i d line s e k left n f laws h = absurd f
+      act_swept (loop (helper r x) a b c body mark) i d line s e k left n f laws h = absurd f
+      act_swept (during c body) i d line s e k left n f laws h =
           transposed_while p q lines qd sh level xs w d present callees arrays i line c body laws.0 f.0 (λ x. writes handed x body) (is_plain m (suc i) body)
-          (λ s0 e0 k0 l0 g. list_swept body (suc i) (suc d) (point_inside i) s0 e0 k0 l0 f.1 laws.1 g) s e k left h
-      act_swept (call name args) i d line s e k left f laws h =
+          (λ s0 e0 k0 l0 g. list_swept body (suc i) (suc d) (point_inside i) s0 e0 k0 l0 n f.1 laws.1 g) s e k left h
+      act_swept (call name args) i d line s e k left n f laws h =
           let given = laws.0 in
           let is : args ≡ actuals_named given = laws.1.0 in
-          subst (λ es. ActDone i d line (call name es) s e) (sym is) (call_done name given i d line s e k left laws.1.1 (f.0 given is) f.1.0 f.1.1 (ap (λ es. p np name es line s k) (sym is) ∙ h))
-      act_swept (runtime r) i d line s e k left f laws h = absurd f
+          subst (λ es. ActDone i d line (call name es) s e) (sym is) (call_done name given i d line s e k left n laws.1.1 (f.0 given is) f.1.0 f.1.1 (ap (λ es. p np name es line s k) (sym is) ∙ h))
+      act_swept (runtime r) i d line s e k left n f laws h = absurd f
 
-      pub list_swept : (c : Code) (i d from : ℕ) (s e : Scene ℤ) (k left : ℕ) → FitsList lines ps callees answers carried present m vars arrays handed i c → ListLaws callees w from i c → run p np c s k ≡ Done e left → Transposed q lines qd sh level xs w d present (λ x. writes handed x c) (is_plain m i c) from (last_point from i c) c (forward plan i d c) (backward plan i d c) s.store e.store
-      list_swept stop i d from s e k left f laws h =
+      pub list_swept : (c : Code) (i d from : ℕ) (s e : Scene ℤ) (k left : ℕ) → CallsInside inside c → FitsList lines ps callees answers carried present m vars arrays handed i c → ListLaws callees w from i c → run p np c s k ≡ Done e left → Transposed q lines qd sh level xs w d present (λ x. writes handed x c) (is_plain m i c) from (last_point from i c) c (forward plan i d c) (backward plan i d c) s.store e.store
+      list_swept stop i d from s e k left n f laws h =
           subst (λ (z : Scene ℤ). Transposed q lines qd sh level xs w d present nothing true from from stop stop stop s.store z.store) (done_same s e k left h) (transposed_none q lines qd sh level xs w d present from s.store)
-      list_swept (step line a rest) i d from s e k left f laws h =
+      list_swept (step line a rest) i d from s e k left n f laws h =
           let r = count_done _ k (λ j. then_do (act p np a line s j) (run p np rest)) e left h in
           let o = then_done (act p np a line s r.left) (run p np rest) e left r.goes in
-          let first = act_swept a i d line s o.scene r.left o.left f.0 laws.1.0 o.first in
-          let others = list_swept rest (next i a) d (point_after i) o.scene e o.left left f.1 laws.1.1 o.second in
+          let first = act_swept a i d line s o.scene r.left o.left n.0 f.0 laws.1.0 o.first in
+          let others = list_swept rest (next i a) d (point_after i) o.scene e o.left left n.1 f.1 laws.1.1 o.second in
           transposed_append q lines qd sh level xs w d present (λ x. act_writes handed x a) (λ x. writes handed x rest) (is_plain' m i a) (is_plain m (next i a) rest) from (point_after i) (last_point (point_after i) (next i a) rest) (one line a) rest (forward_act plan i d line a) (forward plan (next i a) d rest) (backward_act plan i d line a) (backward plan (next i a) d rest) s.store o.scene.store e.store
           (transposed_from q lines qd sh level xs w d present (λ x. act_writes handed x a) (is_plain' m i a) from (point_before i) (point_after i) (one line a) (forward_act plan i d line a) (backward_act plan i d line a) s.store o.scene.store laws.0 first)
           others

@@ -1,4 +1,4 @@
-use Rattle.adj_checked.proofs.Premises.{lawful_fits, lawful_is_adjoint}
+use Rattle.adj_checked.proofs.Premises.{lawful_fits, lawful_is_adjoint, reached_is_adjoint}
 use Rattle.adj_checked.proofs.lawful_law.Goals as goal
 
 pub returns-clause-fits : goal.returns-clause-fits
@@ -6,3 +6,6 @@ returns-clause-fits c = lawful_fits
 
 pub returns-clause-adjoint : goal.returns-clause-adjoint
 returns-clause-adjoint c = lawful_is_adjoint
+
+pub returns-clause-reached : goal.returns-clause-reached
+returns-clause-reached c = reached_is_adjoint
