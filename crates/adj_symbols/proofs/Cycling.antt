@@ -217,3 +217,9 @@ module _ (ps : List Procedure) where
 pub if_ok : {E : Type 0} (P Q : Bool → Type 0) (r : Result Bool E) → ((b : Bool) → P b → Q b) → IfOk r P → IfOk r Q
 if_ok P Q (Ok b) f h = f b h
 if_ok P Q (Err e) f h = h
+
+-- a member that is looked at
+pub in_mapped : {X Y : Type 0} (f : X → Y) (x : X) (xs : List X) → IsIn x xs → IsIn (f x) (map f xs)
+in_mapped f x [] h = absurd h
+in_mapped f x (y ∷ xs) (inl p) = inl (ap f p)
+in_mapped f x (y ∷ xs) (inr h) = inr (in_mapped f x xs h)

@@ -137,11 +137,7 @@ fn add_unit_cycles(
 }
 
 /// Adds a fault at each CALL that lies on a cycle.
-pub(crate) fn add_cycles(
-    alloc: Global,
-    scope: &Scope<'_>,
-    first: &mut First,
-) -> Result<(), Memory>
+pub(crate) fn add_cycles(alloc: Global, scope: &Scope<'_>, first: &mut First) -> Result<(), Memory>
     ensures { OnOk result (first.new ≡ sooner first.old (first_of (cycles (map procedure_of scope.now)))) }
 {
     let edges = all_edges(alloc, scope)?;

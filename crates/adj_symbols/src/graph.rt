@@ -57,11 +57,7 @@ fn are_sinking(labels: &[usize], edges: &[(usize, usize)]) -> bool
 }
 
 // These labels where no edge leads to a greater one, and else one label for all.
-fn sinking(
-    alloc: Global,
-    labels: Vec<usize>,
-    edges: &[(usize, usize)],
-) -> Vec<usize>
+fn sinking(alloc: Global, labels: Vec<usize>, edges: &[(usize, usize)]) -> Vec<usize>
     ensures { AreSinking result.items edges.now }
 {
     if are_sinking(labels.as_slice(), edges) {

@@ -15,7 +15,7 @@ loop-edge-preserved c =
     let i = c.loop-edge.edge-index in
     let lt = c.loop-edge-test.true in
     elim c.if-number_at.branch [
-      then-number_at+in_ok-push w ↦
+      | then-number_at+in_ok-push w ↦
           let e = ap (λ v. v.items) w.chosen-is ∙ w.in_ok-push.ensures.items in
           record {
             below = chosen_push (λ d. (d.0 < c.args.nodes) × (d.1 < c.args.nodes)) old made _ e c.loop-edge.invariant.below (c.requires i _ lt);
@@ -28,4 +28,5 @@ loop-edge-preserved c =
             below = subst (AreBelow c.args.nodes) (sym e) c.loop-edge.invariant.below;
             same = subst (All (λ d. slice_index labels d.0 ≡ slice_index labels d.1)) (sym e) c.loop-edge.invariant.same;
             within = subst (All (Contains edges)) (sym e) c.loop-edge.invariant.within;
-          } ]
+          }
+    ]
