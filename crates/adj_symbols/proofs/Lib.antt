@@ -8,3 +8,8 @@ pub mod Products
 pub mod Names
 pub mod Ends
 pub mod Lengths
+pub mod Leading
+pub mod Graphs
+pub mod Cycling
+pub mod Members
+pub mod CallsListed

@@ -5,3 +5,4 @@ pub mod Outline
 pub mod Scope
 pub mod Rules
 pub mod Chain
+pub mod Graph

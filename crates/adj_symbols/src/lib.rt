@@ -7,8 +7,11 @@
 
 mod calls;
 mod chains;
+mod components;
+mod cycles;
 mod extents;
 mod first;
+mod graph;
 mod name_faults;
 mod outline;
 mod places;
