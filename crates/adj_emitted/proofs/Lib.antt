@@ -26,3 +26,6 @@ pub mod CallFaults
 pub mod Lawful
 pub mod ActualFaults
 pub mod Nesting
+pub mod Assigned
+pub mod Chains
+pub mod ChainFaults

@@ -97,7 +97,7 @@ module _ (m : ProgramMarks) (ps : List Procedure) (head : Procedure) (vars outva
   others_apart [] z h = tt
   others_apart (u ∷ us) z h = let p = or_false (name_eq z u.name) (has_name z (map unit_name us)) h in (p.0, others_apart us z p.1)
 
-  emitted_apart : (us : List Procedure) → AreApart (map unit_name us) → Each (λ u. is_unit ps u.name ≡ true) us → AreApart (map unit_name (emitted_units m ps head vars outvars us))
+  pub emitted_apart : (us : List Procedure) → AreApart (map unit_name us) → Each (λ u. is_unit ps u.name ≡ true) us → AreApart (map unit_name (emitted_units m ps head vars outvars us))
   emitted_apart [] a t = tt
   emitted_apart (u ∷ us) a t = carried (is_carried m ps head u.name) (made (has_adjoint m ps head u.name) (emitted_apart us a.1 t.1))
     where

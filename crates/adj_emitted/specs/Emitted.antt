@@ -7,6 +7,7 @@ use Rattle.adj_names.specs.Fault.{Rules, run_rules}
 use Rattle.adj_names.specs.UnitFaults.{unit_faults}
 use Rattle.adj_names.specs.NameFaults.{name_faults}
 use Rattle.adj_names.specs.CallFaults.{call_faults}
+use Rattle.adj_names.specs.ChainFaults.{chain_faults}
 use Rattle.adj_names.specs.WriteFaults.{shared_variables, written_values}
 use Rattle.adj_meaning.specs.LeastSet.{Dummies}
 use Rattle.adj_reverse.specs.Marking.{ProgramMarks, full_marks, ProgramFacts}
@@ -51,6 +52,12 @@ abbrev pub ActualsHaveNone : Type 0
 ActualsHaveNone =
     (rules : Rules) (ps : List Procedure) → IsChecked rules ps → (m : ProgramMarks) → AllHaveShadows m ps ps → (head : ℕ) (vars outvars : List Bool) (handed : Dummies) →
     flat_map (λ u. shared_variables handed u ++ written_values handed u) (emitted_program m ps head vars outvars) ≡ []
+
+-- no calls of it lead back to their unit, and no chain of them is longer than one of the source, which a run takes
+abbrev pub ChainsHaveNone : Type 0
+ChainsHaveNone =
+    (rules : Rules) (ps : List Procedure) → IsChecked rules ps → rules.chain ≤ run_rules.chain → (m : ProgramMarks) (head : ℕ) (vars outvars : List Bool) →
+    chain_faults run_rules (emitted_program m ps head vars outvars) ≡ []
 
 -- ---- it keeps limits
 

@@ -5,7 +5,7 @@
 //! the text that is written for an adjoint reads as that adjoint.
 #![tactic(auto)]
 
-ghost use Rattle.adj_emitted.specs.Emitted.{MarkedIsWritten, EmittedIsWritten, LawfulHaveShadows, UnitsHaveNone, NamesHaveNone, CallsHaveNone, ActualsHaveNone, KeepsNesting};
+ghost use Rattle.adj_emitted.specs.Emitted.{MarkedIsWritten, EmittedIsWritten, LawfulHaveShadows, UnitsHaveNone, NamesHaveNone, CallsHaveNone, ActualsHaveNone, ChainsHaveNone, KeepsNesting};
 
 /// What is emitted can be written as a text, by any marks whose shadows are there, and so by full marks.
 pub fn written_law()
@@ -36,6 +36,11 @@ pub fn calls_law()
 /// It has no faults of actuals: no variable is handed to a unit twice, and what a unit hands back has a name.
 pub fn actuals_law()
     ensures { ActualsHaveNone }
+{}
+
+/// It has no faults of chains: no calls lead back, and chains are no longer than in a source that keeps the limit of a run.
+pub fn chains_law()
+    ensures { ChainsHaveNone }
 {}
 
 /// It is nested no deeper than the source.
