@@ -9,5 +9,3 @@
 
 pub mod parts;
 pub mod share;
-#[cfg(test)]
-mod tests;
