@@ -133,7 +133,7 @@ module _ (handed : Dummies) where
               tt,
             )
 
-    emitted_clean : Each (Found ps) ps → flat_map (λ u. shared_variables handed u ++ written_values handed u) (emitted_units m ps head vars outvars ps) ≡ []
+    pub emitted_clean : Each (Found ps) ps → flat_map (λ u. shared_variables handed u ++ written_values handed u) (emitted_units m ps head vars outvars ps) ≡ []
     emitted_clean found =
         flat_none (λ u. shared_variables handed u ++ written_values handed u) (emitted_units m ps head vars outvars ps)
         (each_emitted m ps head vars outvars (λ u. shared_variables handed u ++ written_values handed u ≡ []) ps

@@ -88,7 +88,7 @@ module _ (m : ProgramMarks) (ps : List Procedure) (head : Procedure) (vars outva
     shadow_rank : (x : List ℕ) → m.shadowed u.name (plain x) ≡ true → rank unit (name_in ns (shadow x)) ≡ rank u x
     shadow_rank x marked = names.shadow_rank m ps (all_units m ps head) u s.0.0.written s.0.0.kernel s.0.0.free s.0.0.calls (follows m ps named u (first_statement ps u.name) u.body s.0.0.calls s.1) s.0.1.dummies_once s.0.1.extent_dummy s.0.1.extents s.0.1.stands at_turn at_end turned ended x marked
 
-    keeps : (x : List ℕ) → has_name x (variables u) ≡ true → name_in ns (plain x) ≡ x
+    pub keeps : (x : List ℕ) → has_name x (variables u) ≡ true → name_in ns (plain x) ≡ x
     keeps x h = names.keeps m ps (all_units m ps head) u s.0.0.written s.0.0.kernel s.0.0.free s.0.0.calls (follows m ps named u (first_statement ps u.name) u.body s.0.0.calls s.1) s.0.1.dummies_once s.0.1.extent_dummy s.0.1.extents s.0.1.stands at_turn at_end turned ended x h
 
     pub name_apart : (v w : Var) → name_eq (name_in ns v) (name_in ns w) ≡ var_eq v w

@@ -29,3 +29,9 @@ pub mod Nesting
 pub mod Assigned
 pub mod Chains
 pub mod ChainFaults
+pub mod Writing
+pub mod SparedLoops
+pub mod RenamedWrites
+pub mod HandedBack
+pub mod WriteFaults
+pub mod SoundPrograms

@@ -8,7 +8,8 @@ use Rattle.adj_names.specs.UnitFaults.{unit_faults}
 use Rattle.adj_names.specs.NameFaults.{name_faults}
 use Rattle.adj_names.specs.CallFaults.{call_faults}
 use Rattle.adj_names.specs.ChainFaults.{chain_faults}
-use Rattle.adj_names.specs.WriteFaults.{shared_variables, written_values}
+use Rattle.adj_names.specs.WriteFaults.{shared_variables, written_values, write_faults}
+use Rattle.adj_names.specs.Check.{IsSound}
 use Rattle.adj_meaning.specs.LeastSet.{Dummies}
 use Rattle.adj_reverse.specs.Marking.{ProgramMarks, full_marks, ProgramFacts}
 use Rattle.adj_reverse.specs.Program.{emitted_program}
@@ -58,6 +59,22 @@ abbrev pub ChainsHaveNone : Type 0
 ChainsHaveNone =
     (rules : Rules) (ps : List Procedure) → IsChecked rules ps → rules.chain ≤ run_rules.chain → (m : ProgramMarks) (head : ℕ) (vars outvars : List Bool) →
     chain_faults run_rules (emitted_program m ps head vars outvars) ≡ []
+
+-- no statement of it writes the variable of a DO in whose body it stands, or an extent, and its CALLs have none of those faults
+abbrev pub WritesHaveNone : Type 0
+WritesHaveNone =
+    (rules : Rules) (ps : List Procedure) → IsChecked rules ps → (m : ProgramMarks) → AllHaveShadows m ps ps → (head : ℕ) (vars outvars : List Bool) →
+    write_faults (emitted_program m ps head vars outvars) ≡ []
+
+-- so it has no fault as a text that is run, where the source's chains of calls are no longer than a run takes
+abbrev pub MarkedIsSound : Type 0
+MarkedIsSound =
+    (rules : Rules) (ps : List Procedure) → IsChecked rules ps → rules.chain ≤ run_rules.chain → (m : ProgramMarks) → AllHaveShadows m ps ps → (head : ℕ) (vars outvars : List Bool) →
+    IsSound run_rules (emitted_program m ps head vars outvars)
+
+-- so it is with full marks
+abbrev pub EmittedIsSound : Type 0
+EmittedIsSound = (rules : Rules) (ps : List Procedure) → IsChecked rules ps → rules.chain ≤ run_rules.chain → (head : ℕ) (vars outvars : List Bool) → IsSound run_rules (emitted_program full_marks ps head vars outvars)
 
 -- ---- it keeps limits
 

@@ -5,7 +5,7 @@
 //! the text that is written for an adjoint reads as that adjoint.
 #![tactic(auto)]
 
-ghost use Rattle.adj_emitted.specs.Emitted.{MarkedIsWritten, EmittedIsWritten, LawfulHaveShadows, UnitsHaveNone, NamesHaveNone, CallsHaveNone, ActualsHaveNone, ChainsHaveNone, KeepsNesting};
+ghost use Rattle.adj_emitted.specs.Emitted.{MarkedIsWritten, EmittedIsWritten, LawfulHaveShadows, UnitsHaveNone, NamesHaveNone, CallsHaveNone, ActualsHaveNone, ChainsHaveNone, WritesHaveNone, MarkedIsSound, EmittedIsSound, KeepsNesting};
 
 /// What is emitted can be written as a text, by any marks whose shadows are there, and so by full marks.
 pub fn written_law()
@@ -41,6 +41,17 @@ pub fn actuals_law()
 /// It has no faults of chains: no calls lead back, and chains are no longer than in a source that keeps the limit of a run.
 pub fn chains_law()
     ensures { ChainsHaveNone }
+{}
+
+/// It has no faults of writes: no variable of a DO is written in its body, and no extent.
+pub fn writes_law()
+    ensures { WritesHaveNone }
+{}
+
+/// So it has no fault as a text that is run, by any marks whose shadows are there, and so by full marks.
+pub fn sound_law()
+    ensures marked { MarkedIsSound }
+    ensures full { EmittedIsSound }
 {}
 
 /// It is nested no deeper than the source.
