@@ -1,0 +1,3 @@
+-- The counts.
+pub mod Counting
+pub mod Nests
