@@ -1,3 +1,6 @@
 -- The counts.
 pub mod Counting
 pub mod Nests
+pub mod Runs
+pub mod Along
+pub mod AlongAssignments

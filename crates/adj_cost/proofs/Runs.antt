@@ -1,0 +1,157 @@
+-- What runs that are done say of their parts, and what straight code takes.
+use Rattle.std.proofs.Common.{◌≡◌, ℕ, zero, suc, ◌+◌, Bool, true, false, List, [], ◌∷◌, refl, sym, ap, ◌∙◌, arith}
+use Rattle.std.specs.Prelude.{Ok, length, if◌then◌else◌}
+use Rattle.adj_tree.specs.Code.{Var, Term, Terms, Test, Runtime, Act, assign, choose, loop, during, call, runtime, push_word, pop_word, push_array, pop_array, push_control, pop_control, zero_array, begin_reversal, count_actions, give_action, end_reversal, Code, stop, step, Procedure}
+use Rattle.adj_meaning.specs.Append.{◌+++◌, one}
+use Rattle.adj_meaning.specs.Store.{size_of, set}
+use Rattle.adj_meaning.specs.Value.{Setting, value, target, holds}
+use Rattle.adj_meaning.specs.Scene.{Scene, Stand, stand, Outcome, Done, Full, then_do, with_value, counted, has_room, pushed, pushed_all, popped, popped_all}
+use Rattle.adj_meaning.specs.Run.{Calls, act, run}
+use Rattle.adj_meaning.specs.Runtime.{runtime_act, ended, steps_of, snapshots_of, actions_of, action_at}
+use Rattle.adj_meaning.specs.Units.{calls_of}
+use Rattle.adj_meaning.specs.Leads.{Leads}
+use Rattle.adj_meaning.proofs.Appends.{run_append}
+use Rattle.adj_meaning.proofs.Costs.{leads_where_done}
+use Rattle.adj_meaning.proofs.Inversions.{Halves, then_done, value_done, top_done, count_done, done_same}
+use Rattle.adj_transpose.specs.Marked.{code_if}
+use Rattle.adj_reverse.proofs.Choices.{part}
+use Rattle.adj_cost.specs.Sweeps.{statements_of}
+
+-- a run from a scene comes to one end
+pub one_end : {C : Type 0} (units : List Procedure) (depth : ℕ) (n : Setting C) (c : Code) (s s1 e : Scene C) (k left : ℕ) → Leads (calls_of units depth) n c s s1 → run (calls_of units depth) n c s k ≡ Done e left → e ≡ s1
+one_end units depth n c s s1 e k left l h =
+    let m = leads_where_done units depth n c s e k left h in
+    let same : m.cost + (l.cost + 0) ≡ l.cost + (m.cost + 0) = omega arith in
+    done_same e s1 (l.cost + 0) (m.cost + 0) (sym (m.by (l.cost + 0)) ∙ ap (run (calls_of units depth) n c s) same ∙ l.by (m.cost + 0))
+
+pub left_same : {B : Type 0} (b c : B) (j k : ℕ) → (let o : Outcome B = Done b j in o ≡ Done c k) → j ≡ k
+left_same b c j k h = cc
+
+-- pushes and pops alone
+abbrev pub IsShift : Runtime → Type 0
+IsShift (push_word x subs) = Unit {0}
+IsShift (pop_word x subs) = Unit {0}
+IsShift (push_array x) = Unit {0}
+IsShift (pop_array x) = Unit {0}
+IsShift _ = ⊥
+
+-- assignments, pushes and pops
+abbrev pub IsStraight : Code → Type 0
+IsStraight stop = Unit {0}
+IsStraight (step line (assign x subs e) c) = IsStraight c
+IsStraight (step line (runtime r) c) = IsShift r × IsStraight c
+IsStraight (step line _ c) = ⊥
+
+pub straight_append : (c d : Code) → IsStraight c → IsStraight d → IsStraight (c +++ d)
+straight_append stop d i j = j
+straight_append (step line (assign x subs e) c) d i j = straight_append c d i j
+straight_append (step line (runtime r) c) d i j = (i.0, straight_append c d i.1 j)
+straight_append (step line (choose t a b) c) d i j = absurd i
+straight_append (step line (loop x a b t body m) c) d i j = absurd i
+straight_append (step line (during t body) c) d i j = absurd i
+straight_append (step line (call name args) c) d i j = absurd i
+
+pub straight_if : (b : Bool) (c : Code) → IsStraight c → IsStraight (code_if b c)
+straight_if true c i = i
+straight_if false c i = tt
+
+module _ {C : Type 0} (q : Calls C) (n : Setting C) where
+  -- a list after another
+  pub append_done : (c d : Code) (s e : Scene C) (k left : ℕ) → run q n (c +++ d) s k ≡ Done e left → Halves (run q n c s k) (run q n d) e left
+  append_done c d s e k left h = then_done (run q n c s k) (run q n d) e left (sym (run_append q n c d s k) ∙ h)
+
+  -- a statement that was counted and done, and those after it
+  pub record Stepped (line : ℕ) (a : Act) (c : Code) (s e : Scene C) (k left : ℕ) : Type 0 where
+    pub before : ℕ
+    pub is : k ≡ suc before
+    pub scene : Scene C
+    pub after : ℕ
+    pub first : act q n a line s before ≡ Done scene after
+    pub others : run q n c scene after ≡ Done e left
+
+  pub step_done : (line : ℕ) (a : Act) (c : Code) (s e : Scene C) (k left : ℕ) → run q n (step line a c) s k ≡ Done e left → Stepped line a c s e k left
+  step_done line a c s e k left h =
+      let r = count_done (stand n s) k (λ j. then_do (act q n a line s j) (run q n c)) e left h in
+      let o = then_done (act q n a line s r.left) (run q n c) e left r.goes in
+      record { before = r.left; is = r.is; scene = o.scene; after = o.left; first = o.first; others = o.second }
+
+  -- one statement
+  pub record Once (line : ℕ) (a : Act) (s e : Scene C) (k left : ℕ) : Type 0 where
+    pub before : ℕ
+    pub is : k ≡ suc before
+    pub done : act q n a line s before ≡ Done e left
+
+  pub one_done : (line : ℕ) (a : Act) (s e : Scene C) (k left : ℕ) → run q n (one line a) s k ≡ Done e left → Once line a s e k left
+  one_done line a s e k left h = let o = step_done line a stop s e k left h in record { before = o.before; is = o.is; done = o.first ∙ o.others }
+
+  -- an IF whose condition has this value
+  pub record Chosen (ran : Bool) (a b : Code) (s e : Scene C) (k left : ℕ) : Type 0 where
+    pub before : ℕ
+    pub is : k ≡ suc before
+    pub done : run q n (part ran a b) s before ≡ Done e left
+
+  pub chosen : (line : ℕ) (ran : Bool) (c : Test) (a b : Code) (s e : Scene C) (k left : ℕ) → holds n c s.store ≡ Ok ran → run q n (one line (choose c a b)) s k ≡ Done e left → Chosen ran a b s e k left
+  chosen line ran c a b s e k left is h =
+      let o = one_done line (choose c a b) s e k left h in
+      record { before = o.before; is = o.is; done = go ran o.before (ap (λ z. with_value z line (stand n s) (λ p. if p then run q n a s o.before else run q n b s o.before)) (sym is) ∙ o.done) }
+    where
+      go : (ran : Bool) (j : ℕ) → (if ran then run q n a s j else run q n b s j) ≡ Done e left → run q n (part ran a b) s j ≡ Done e left
+      go true j g = g
+      go false j g = g
+
+  -- ---- straight code
+
+  -- runtime calls take no statements besides themselves
+  pushed_left : (c : C) (s e : Scene C) (k left : ℕ) → pushed n c s k ≡ Done e left → k ≡ left
+  pushed_left c s e k left h = go (has_room n.room (length s.tape)) h
+    where
+      go : (b : Bool) → (if b then Done (record s { tape = c ∷ s.tape }) k else Full (stand n s)) ≡ Done e left → k ≡ left
+      go true g = left_same _ e k left g
+      go false g = cc
+
+  all_pushed_left : (cs : List C) (s e : Scene C) (k left : ℕ) → pushed_all n cs s k ≡ Done e left → k ≡ left
+  all_pushed_left [] s e k left h = left_same s e k left h
+  all_pushed_left (c ∷ cs) s e k left h =
+      let o = then_done (pushed n c s k) (pushed_all n cs) e left h in
+      pushed_left c s o.scene k o.left o.first ∙ all_pushed_left cs o.scene e o.left left o.second
+
+  popped_left : (x : Var) (i line : ℕ) (s e : Scene C) (k left : ℕ) → popped n x i line s k ≡ Done e left → k ≡ left
+  popped_left x i line s e k left h = let o = top_done s.tape line (stand n s) _ e left h in left_same _ e k left o.goes
+
+  all_popped_left : (x : Var) (i line : ℕ) (s e : Scene C) (k left : ℕ) → popped_all n x i line s k ≡ Done e left → k ≡ left
+  all_popped_left x zero line s e k left h = left_same s e k left h
+  all_popped_left x (suc i) line s e k left h =
+      let o = then_done (popped n x i line s k) (popped_all n x i line) e left h in
+      popped_left x i line s o.scene k o.left o.first ∙ all_popped_left x i line o.scene e o.left left o.second
+
+  shift_left : (r : Runtime) → IsShift r → (line : ℕ) (s e : Scene C) (k left : ℕ) → runtime_act n r line s k ≡ Done e left → k ≡ left
+  shift_left (push_word x subs) i line s e k left h = let v = value_done (target n x subs s.store) line (stand n s) _ e left h in pushed_left (s.store x v.value) s e k left v.goes
+  shift_left (pop_word x subs) i line s e k left h = let v = value_done (target n x subs s.store) line (stand n s) _ e left h in popped_left x v.value line s e k left v.goes
+  shift_left (push_array x) i line s e k left h = all_pushed_left _ s e k left h
+  shift_left (pop_array x) i line s e k left h = all_popped_left x (size_of (n.shape x)) line s e k left h
+  shift_left (push_control e0) i line s e k left h = absurd i
+  shift_left (pop_control x) i line s e k left h = absurd i
+  shift_left (zero_array x) i line s e k left h = absurd i
+  shift_left (begin_reversal a b) i line s e k left h = absurd i
+  shift_left (count_actions a b x) i line s e k left h = absurd i
+  shift_left (give_action a b x y z w) i line s e k left h = absurd i
+  shift_left end_reversal i line s e k left h = absurd i
+
+  -- it takes each of its statements once
+  pub straight_cost : (c : Code) → IsStraight c → (s e : Scene C) (k left : ℕ) → run q n c s k ≡ Done e left → k ≡ left + statements_of c
+  straight_cost stop i s e k left h = let x = left_same s e k left h in omega (arith, x)
+  straight_cost (step line (assign x subs a) c) i s e k left h =
+      let o = step_done line (assign x subs a) c s e k left h in
+      let v = value_done (value n a s.store) line (stand n s) _ o.scene o.after o.first in
+      let t = value_done (target n x subs s.store) line (stand n s) _ o.scene o.after v.goes in
+      let l = left_same _ o.scene o.before o.after t.goes in
+      let is = o.is in
+      omega (arith, is, l, straight_cost c i o.scene e o.after left o.others)
+  straight_cost (step line (runtime r) c) i s e k left h =
+      let o = step_done line (runtime r) c s e k left h in
+      let is = o.is in
+      omega (arith, is, shift_left r i.0 line s o.scene o.before o.after o.first, straight_cost c i.1 o.scene e o.after left o.others)
+  straight_cost (step line (choose t a b) c) i s e k left h = absurd i
+  straight_cost (step line (loop x a b t body m) c) i s e k left h = absurd i
+  straight_cost (step line (during t body) c) i s e k left h = absurd i
+  straight_cost (step line (call name args) c) i s e k left h = absurd i
