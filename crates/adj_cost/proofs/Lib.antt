@@ -4,3 +4,4 @@ pub mod Nests
 pub mod Runs
 pub mod Along
 pub mod AlongAssignments
+pub mod AlongTurns

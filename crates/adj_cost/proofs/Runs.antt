@@ -1,17 +1,18 @@
 -- What runs that are done say of their parts, and what straight code takes.
 use Rattle.std.proofs.Common.{◌≡◌, ℕ, zero, suc, ◌+◌, Bool, true, false, List, [], ◌∷◌, refl, sym, ap, ◌∙◌, arith}
 use Rattle.std.specs.Prelude.{Ok, length, if◌then◌else◌}
-use Rattle.adj_tree.specs.Code.{Var, Term, Terms, Test, Runtime, Act, assign, choose, loop, during, call, runtime, push_word, pop_word, push_array, pop_array, push_control, pop_control, zero_array, begin_reversal, count_actions, give_action, end_reversal, Code, stop, step, Procedure}
+use Rattle.adj_tree.specs.Code.{Var, Term, Terms, Test, Runtime, Act, assign, choose, loop, during, call, runtime, unmarked, push_word, pop_word, push_array, pop_array, push_control, pop_control, zero_array, begin_reversal, count_actions, give_action, end_reversal, Code, stop, step, Procedure}
+use Rattle.adj_word.specs.Word.{wrap}
 use Rattle.adj_meaning.specs.Append.{◌+++◌, one}
 use Rattle.adj_meaning.specs.Store.{size_of, set}
 use Rattle.adj_meaning.specs.Value.{Setting, value, target, holds}
-use Rattle.adj_meaning.specs.Scene.{Scene, Stand, stand, Outcome, Done, Full, then_do, with_value, counted, has_room, pushed, pushed_all, popped, popped_all}
-use Rattle.adj_meaning.specs.Run.{Calls, act, run}
+use Rattle.adj_meaning.specs.Scene.{Scene, Go, Stand, stand, Outcome, Done, Full, then_do, with_value, counted, has_room, pushed, pushed_all, popped, popped_all}
+use Rattle.adj_meaning.specs.Run.{Calls, trips, turns, stepped, with_turn, act, run}
 use Rattle.adj_meaning.specs.Runtime.{runtime_act, ended, steps_of, snapshots_of, actions_of, action_at}
 use Rattle.adj_meaning.specs.Units.{calls_of}
 use Rattle.adj_meaning.specs.Leads.{Leads}
 use Rattle.adj_meaning.proofs.Appends.{run_append}
-use Rattle.adj_meaning.proofs.Costs.{leads_where_done}
+use Rattle.adj_meaning.proofs.Costs.{leads_where_done, run_later}
 use Rattle.adj_meaning.proofs.Inversions.{Halves, then_done, value_done, top_done, count_done, done_same}
 use Rattle.adj_transpose.specs.Marked.{code_if}
 use Rattle.adj_reverse.proofs.Choices.{part}
@@ -155,3 +156,99 @@ module _ {C : Type 0} (q : Calls C) (n : Setting C) where
   straight_cost (step line (loop x a b t body m) c) i s e k left h = absurd i
   straight_cost (step line (during t body) c) i s e k left h = absurd i
   straight_cost (step line (call name args) c) i s e k left h = absurd i
+
+  -- ---- loops
+
+  -- a loop that isn't marked, whose bounds have these values, and what comes after it
+  pub record Looping (x : Var) (m : ℕ) (a c : C) (body rest : Code) (s e : Scene C) (k left : ℕ) : Type 0 where
+    pub before : ℕ
+    pub is : k ≡ suc before
+    pub scene : Scene C
+    pub after : ℕ
+    pub turned : turns n m (run q n body) (stepped n x (n.numbers.shown c)) (with_turn n x (wrap (n.numbers.shown a)) s) before ≡ Done scene after
+    pub others : run q n rest scene after ≡ Done e left
+
+  pub looping : (line : ℕ) (x : Var) (ea eb ec : Term) (body rest : Code) (s e : Scene C) (k left : ℕ) (a b c : C) (m : ℕ) → value n ea s.store ≡ Ok a → value n eb s.store ≡ Ok b → value n ec s.store ≡ Ok c → trips unmarked (n.numbers.shown a) (n.numbers.shown b) (n.numbers.shown c) ≡ Ok m → run q n (step line (loop x ea eb ec body unmarked) rest) s k ≡ Done e left → Looping x m a c body rest s e k left
+  looping line x ea eb ec body rest s e k left a b c m ha hb hc hm h =
+      let o = step_done line (loop x ea eb ec body unmarked) rest s e k left h in
+      let ended : Scene C → ℕ → Outcome (Scene C) = λ s1 j. Done s1 j in
+      let g : then_do (turns n m (run q n body) (stepped n x (n.numbers.shown c)) (with_turn n x (wrap (n.numbers.shown a)) s) o.before) ended ≡ Done o.scene o.after = sym (rw (ha, hb, hc, hm) refl) ∙ o.first in
+      let t = then_done (turns n m (run q n body) (stepped n x (n.numbers.shown c)) (with_turn n x (wrap (n.numbers.shown a)) s) o.before) ended o.scene o.after g in
+      record { before = o.before; is = o.is; scene = o.scene; after = o.after; turned = t.first ∙ t.second; others = o.others }
+
+  -- the turns before the last, and the last
+  pub record LastTurn (m : ℕ) (go : Go C) (after : Scene C → Scene C) (s e : Scene C) (k left : ℕ) : Type 0 where
+    pub middle : Scene C
+    pub rest : ℕ
+    pub others : turns n m go after s k ≡ Done middle rest
+    pub before : ℕ
+    pub is : rest ≡ suc before
+    pub end : Scene C
+    pub turn : go middle before ≡ Done end left
+    pub ends : after end ≡ e
+
+  pub last_turn : (m : ℕ) (go : Go C) (after : Scene C → Scene C) (s e : Scene C) (k left : ℕ) → turns n (suc m) go after s k ≡ Done e left → LastTurn m go after s e k left
+  last_turn zero go after s e k left h =
+      let r = count_done (stand n s) k (λ j. then_do (go s j) (λ s1 i. turns n 0 go after (after s1) i)) e left h in
+      let o = then_done (go s r.left) (λ s1 i. turns n 0 go after (after s1) i) e left r.goes in
+      record { middle = s; rest = k; others = refl; before = r.left; is = r.is; end = o.scene; turn = o.first ∙ ap (Done o.scene) (left_same (after o.scene) e o.left left o.second); ends = done_same (after o.scene) e o.left left o.second }
+  last_turn (suc m) go after s e k left h =
+      let r = count_done (stand n s) k (λ j. then_do (go s j) (λ s1 i. turns n (suc m) go after (after s1) i)) e left h in
+      let o = then_done (go s r.left) (λ s1 i. turns n (suc m) go after (after s1) i) e left r.goes in
+      let l = last_turn m go after (after o.scene) e o.left left o.second in
+      record {
+        middle = l.middle;
+        rest = l.rest;
+        others = ap (turns n (suc m) go after s) r.is ∙ ap (λ z. then_do z (λ s1 i. turns n m go after (after s1) i)) o.first ∙ l.others;
+        before = l.before;
+        is = l.is;
+        end = l.end;
+        turn = l.turn;
+        ends = l.ends;
+      }
+
+  -- the first turn, and the others
+  pub record FirstTurn (m : ℕ) (go : Go C) (after : Scene C → Scene C) (s e : Scene C) (k left : ℕ) : Type 0 where
+    pub before : ℕ
+    pub is : k ≡ suc before
+    pub end : Scene C
+    pub rest : ℕ
+    pub turn : go s before ≡ Done end rest
+    pub others : turns n m go after (after end) rest ≡ Done e left
+
+  pub first_turn : (m : ℕ) (go : Go C) (after : Scene C → Scene C) (s e : Scene C) (k left : ℕ) → turns n (suc m) go after s k ≡ Done e left → FirstTurn m go after s e k left
+  first_turn m go after s e k left h =
+      let r = count_done (stand n s) k (λ j. then_do (go s j) (λ s1 i. turns n m go after (after s1) i)) e left h in
+      let o = then_done (go s r.left) (λ s1 i. turns n m go after (after s1) i) e left r.goes in
+      record { before = r.left; is = r.is; end = o.scene; rest = o.left; turn = o.first; others = o.second }
+
+  -- ---- single statements
+
+  -- what is done after a statement that takes no other
+  pub record After (c : Code) (s1 e : Scene C) (k left : ℕ) : Type 0 where
+    pub before : ℕ
+    pub is : k ≡ suc before
+    pub done : run q n c s1 before ≡ Done e left
+
+  pub after_one : (line : ℕ) (a : Act) (c : Code) (s s1 e : Scene C) (k left : ℕ) → ((j : ℕ) → act q n a line s j ≡ Done s1 j) → run q n (step line a c) s k ≡ Done e left → After c s1 e k left
+  after_one line a c s s1 e k left known h =
+      let o = step_done line a c s e k left h in
+      let both : Done s1 o.before ≡ Done o.scene o.after = sym (known o.before) ∙ o.first in
+      record { before = o.before; is = o.is; done = (λ i. run q n c (done_same s1 o.scene o.before o.after both i) (left_same s1 o.scene o.before o.after both i)) ∙ o.others }
+
+-- the turns of a program's loop come to one end
+pub turns_later : {C : Type 0} (units : List Procedure) (depth : ℕ) (n : Setting C) (body : Code) (after : Scene C → Scene C) (m : ℕ) (s e : Scene C) (k left j : ℕ) → turns n m (run (calls_of units depth) n body) after s k ≡ Done e left → turns n m (run (calls_of units depth) n body) after s (k + j) ≡ Done e (left + j)
+turns_later units depth n body after zero s e k left j h = λ i. Done (done_same s e k left h i) (left_same s e k left h i + j)
+turns_later units depth n body after (suc m) s e k left j h =
+    let q = calls_of units depth in
+    let r = first_turn q n m (run q n body) after s e k left h in
+    let is = r.is in
+    let same : k + j ≡ suc (r.before + j) = omega (arith, is) in
+    ap (turns n (suc m) (run q n body) after s) same
+    ∙ ap (λ z. then_do z (λ s1 i. turns n m (run q n body) after (after s1) i)) (run_later units depth depth (omega arith) n body s r.end r.before r.rest j r.turn)
+    ∙ turns_later units depth n body after m (after r.end) e r.rest left j r.others
+
+pub turns_end : {C : Type 0} (units : List Procedure) (depth : ℕ) (n : Setting C) (body : Code) (after : Scene C → Scene C) (m : ℕ) (s s1 e : Scene C) (k left cost : ℕ) → ((j : ℕ) → turns n m (run (calls_of units depth) n body) after s (cost + j) ≡ Done s1 j) → turns n m (run (calls_of units depth) n body) after s k ≡ Done e left → e ≡ s1
+turns_end units depth n body after m s s1 e k left cost by h =
+    let same : k + cost ≡ cost + k = omega arith in
+    done_same e s1 (left + cost) k (sym (turns_later units depth n body after m s e k left cost h) ∙ ap (turns n m (run (calls_of units depth) n body) after s) same ∙ by k)
