@@ -5,3 +5,4 @@ pub mod Runs
 pub mod Along
 pub mod AlongAssignments
 pub mod AlongTurns
+pub mod AlongLoops
