@@ -21,7 +21,7 @@ use Rattle.adj_reverse.proofs.Runs.{same_refl, same_within}
 use Rattle.adj_reverse.proofs.Sweeps.{Sweeps}
 use Rattle.adj_cost.specs.Sweeps.{statements_of}
 use Rattle.adj_cost.specs.Along.{BothCost}
-use Rattle.adj_cost.proofs.Runs.{one_end, left_same, append_done, step_done, one_done, chosen, IsStraight, straight_cost}
+use Rattle.adj_cost.proofs.Runs.{one_end, left_same, append_done, step_done, one_done, chosen, IsStraight, straight_cost, IsPushing, pushing_keeps}
 
 -- what a scene keeps besides store and tape
 abbrev pub kept_of : Scene ℤ → Kept
@@ -140,3 +140,16 @@ module _ (qs : List Procedure) (depth : ℕ) (sh : Var → Shape) (level : ℕ) 
         word_tells : (r : Bool) (g : Store ℤ) → holds nw (compare is_same (var (helper control 0)) (literal 1)) (set g (helper control 0) 0 (pos (ran_word r))) ≡ Ok r
         word_tells true g = refl
         word_tells false g = refl
+
+  -- ---- pushes before it, and straight code behind
+
+  pub cost_around : (before behind forth back : Code) (n h : Vars) (u : Store ℤ) (m : ℕ) → IsPushing before → IsStraight behind → BothCost q sh level forth back n h u m → BothCost q sh level (before +++ forth) (back +++ behind) n h u (m + (statements_of before + statements_of behind))
+  cost_around before behind forth back n h u m i j x = record {
+    at = λ base f t a s k left r later g b e k1 left1 r1.
+        let o = append_done q nw before forth (scene base f t) s k left r in
+        let p = append_done q nw back behind (scene later g s.tape) e k1 left1 r1 in
+        let kept = pushing_keeps q nw refl before i (scene base f t) o.scene k o.left o.first in
+        let a1 : SameOn sh n u o.scene.store = subst (λ (z : Store ℤ). SameOn sh n u z) (sym kept.0) a in
+        let cost1 = kept.1 in
+        omega (arith, cost1, straight_cost q nw behind j p.scene e p.left left1 p.second, x.at (kept_of o.scene) o.scene.store o.scene.tape a1 s o.left left o.second later g b p.scene k1 p.left p.first);
+  }

@@ -1,7 +1,7 @@
 -- What both sweeps take of a DO.
 use Rattle.std.proofs.Common.{◌≡◌, ◌<◌, ◌≤◌, ◌^◌, ℕ, suc, ◌+◌, Bool, true, false, List, [], ◌∷◌, ◌++◌, refl, sym, ap, ◌∙◌, subst, arith}
 use Rattle.std.specs.Prelude.{ℤ, pos, negsuc, Ok}
-use Rattle.adj_tree.specs.Code.{Var, plain, shadow, helper, first, stride, count, turn, name_eq, minus, Term, lit, var, neg, bin, none, unmarked, assign, loop, runtime, push_word, pop_word, push_array, Runtime, Act, choose, during, call, Code, stop, step, Procedure}
+use Rattle.adj_tree.specs.Code.{Var, plain, shadow, helper, first, stride, count, turn, name_eq, minus, Term, lit, var, neg, bin, none, unmarked, assign, loop, runtime, push_word, pop_word, Code, stop, step, Procedure}
 use Rattle.adj_tree.proofs.Names.{nat_refl, name_refl}
 use Rattle.adj_word.specs.Word.{wrap, sub}
 use Rattle.adj_word.proofs.Residues.{wrap-wrap}
@@ -21,9 +21,8 @@ use Rattle.adj_reverse.specs.Reversals.{LoopRun}
 use Rattle.adj_reverse.specs.Runs.{SameOn}
 use Rattle.adj_reverse.proofs.LoopSweeps.{same_set, forward_turn, backward_turn, AtTurn, LoopSwept}
 use Rattle.adj_reverse.proofs.Loops.{trips_back, step_back}
-use Rattle.adj_cost.specs.Sweeps.{statements_of}
 use Rattle.adj_cost.specs.Along.{BothCost}
-use Rattle.adj_cost.proofs.Runs.{left_same, append_done, after_one, looping, turns_end, IsStraight, straight_cost}
+use Rattle.adj_cost.proofs.Runs.{left_same, after_one, looping, turns_end}
 use Rattle.adj_cost.proofs.Along.{kept_of}
 use Rattle.adj_cost.proofs.AlongTurns.{ToldTurns, SilentTurns}
 
@@ -190,12 +189,3 @@ module _ (qs : List Procedure) (depth : ℕ) (sh : Var → Shape) (level : ℕ) 
         where
           sum : (k left before after k1 left1 before1 : ℕ) → k + after ≡ before + left + 7 → k1 ≡ before1 + 4 → before + before1 ≤ after + left1 + most → k + k1 ≤ left + left1 + (most + 11)
           sum k left before after k1 left1 before1 i1 i2 i3 = omega (arith, i1, i2, i3)
-
--- ---- what stands around it
-
--- pushes alone
-abbrev pub IsPushing : Code → Type 0
-IsPushing stop = Unit {0}
-IsPushing (step line (runtime (push_word x subs)) c) = IsPushing c
-IsPushing (step line (runtime (push_array x)) c) = IsPushing c
-IsPushing (step line _ c) = ⊥

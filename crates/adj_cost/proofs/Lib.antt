@@ -6,3 +6,4 @@ pub mod Along
 pub mod AlongAssignments
 pub mod AlongTurns
 pub mod AlongLoops
+pub mod AlongWhiles

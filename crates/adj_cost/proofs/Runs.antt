@@ -1,13 +1,14 @@
 -- What runs that are done say of their parts, and what straight code takes.
 use Rattle.std.proofs.Common.{◌≡◌, ℕ, zero, suc, ◌+◌, Bool, true, false, List, [], ◌∷◌, refl, sym, ap, ◌∙◌, arith}
-use Rattle.std.specs.Prelude.{Ok, length, if◌then◌else◌}
+use Rattle.std.specs.Prelude.{Result, Ok, Err, Option, None, length, if◌then◌else◌}
 use Rattle.adj_tree.specs.Code.{Var, Term, Terms, Test, Runtime, Act, assign, choose, loop, during, call, runtime, unmarked, push_word, pop_word, push_array, pop_array, push_control, pop_control, zero_array, begin_reversal, count_actions, give_action, end_reversal, Code, stop, step, Procedure}
 use Rattle.adj_word.specs.Word.{wrap}
 use Rattle.adj_meaning.specs.Append.{◌+++◌, one}
-use Rattle.adj_meaning.specs.Store.{size_of, set}
+use Rattle.adj_meaning.specs.Trap.{Trap, step_trap}
+use Rattle.adj_meaning.specs.Store.{size_of, cells_from, set}
 use Rattle.adj_meaning.specs.Value.{Setting, value, target, holds}
-use Rattle.adj_meaning.specs.Scene.{Scene, Go, Stand, stand, Outcome, Done, Full, then_do, with_value, counted, has_room, pushed, pushed_all, popped, popped_all}
-use Rattle.adj_meaning.specs.Run.{Calls, trips, turns, stepped, with_turn, act, run}
+use Rattle.adj_meaning.specs.Scene.{Scene, Go, Stand, stand, Outcome, Done, Trapped, Full, then_do, with_value, counted, has_room, pushed, pushed_all, popped, popped_all}
+use Rattle.adj_meaning.specs.Run.{Calls, trips, turns, stepped, with_turn, tests, act, run}
 use Rattle.adj_meaning.specs.Runtime.{runtime_act, ended, steps_of, snapshots_of, actions_of, action_at}
 use Rattle.adj_meaning.specs.Units.{calls_of}
 use Rattle.adj_meaning.specs.Leads.{Leads}
@@ -252,3 +253,134 @@ pub turns_end : {C : Type 0} (units : List Procedure) (depth : ℕ) (n : Setting
 turns_end units depth n body after m s s1 e k left cost by h =
     let same : k + cost ≡ cost + k = omega arith in
     done_same e s1 (left + cost) k (sym (turns_later units depth n body after m s e k left cost h) ∙ ap (turns n m (run (calls_of units depth) n body) after s) same ∙ by k)
+
+-- ---- DO WHILE
+
+module _ {C : Type 0} (q : Calls C) (n : Setting C) (c : Test) (line : ℕ) where
+  -- what the tests and turns of a loop do
+  abbrev pub tested : ℕ → Code → Go C
+  tested m body = tests n m (λ (z : Scene C). holds n c z.store) line (run q n body)
+
+  abbrev pub next_tests : ℕ → Code → Go C
+  next_tests m body s1 j = counted (stand n s1) j (λ i. tested m body s1 i)
+
+  -- a test that failed
+  pub test_failed : (m : ℕ) (body : Code) (s e : Scene C) (k left : ℕ) → holds n c s.store ≡ Ok false → tested m body s k ≡ Done e left → (let o : Outcome (Scene C) = Done s k in o ≡ Done e left)
+  test_failed zero body s e k left is h = sym (rw is refl) ∙ h
+  test_failed (suc m) body s e k left is h = sym (rw is refl) ∙ h
+
+  -- a test that held: a turn, and the tests after it, of which the first is counted
+  pub record TestHeld (m : ℕ) (body : Code) (s e : Scene C) (k left : ℕ) : Type 0 where
+    pub end : Scene C
+    pub rest : ℕ
+    pub turn : run q n body s k ≡ Done end rest
+    pub before : ℕ
+    pub is : rest ≡ suc before
+    pub others : tested m body end before ≡ Done e left
+
+  pub test_held : (m : ℕ) (body : Code) (s e : Scene C) (k left : ℕ) → holds n c s.store ≡ Ok true → tested (suc m) body s k ≡ Done e left → TestHeld m body s e k left
+  test_held m body s e k left is h =
+      let g : then_do (run q n body s k) (next_tests m body) ≡ Done e left = sym (rw is refl) ∙ h in
+      let o = then_done (run q n body s k) (next_tests m body) e left g in
+      let r = count_done (stand n o.scene) o.left (λ i. tested m body o.scene i) e left o.second in
+      record { end = o.scene; rest = o.left; turn = o.first; before = r.left; is = r.is; others = r.goes }
+
+  pub no_test_held : (body : Code) (s e : Scene C) (k left : ℕ) → holds n c s.store ≡ Ok true → tested 0 body s k ≡ Done e left → ⊥
+  no_test_held body s e k left is h = let g : Trapped step_trap line (stand n s) ≡ Done e left = sym (rw is refl) ∙ h in absurd (cc)
+
+-- the tests of a program's loop come to one end
+pub tests_later : {C : Type 0} (units : List Procedure) (depth : ℕ) (n : Setting C) (c : Test) (line : ℕ) (body : Code) (m : ℕ) (s e : Scene C) (k left j : ℕ) → tested (calls_of units depth) n c line m body s k ≡ Done e left → tested (calls_of units depth) n c line m body s (k + j) ≡ Done e (left + j)
+tests_later {C} units depth n c line body zero s e k left j h = go (holds n c s.store) refl
+  where
+    go : (r : Result Bool Trap) → holds n c s.store ≡ r → tested (calls_of units depth) n c line 0 body s (k + j) ≡ Done e (left + j)
+    go (Err t) is = let g : (let o : Outcome (Scene C) = Trapped t line (stand n s) in o ≡ Done e left) = sym (rw is refl) ∙ h in absurd (cc)
+    go (Ok true) is = absurd (no_test_held (calls_of units depth) n c line body s e k left is h)
+    go (Ok false) is = let g = test_failed (calls_of units depth) n c line 0 body s e k left is h in rw is (λ i. Done (done_same s e k left g i) (left_same s e k left g i + j))
+tests_later {C} units depth n c line body (suc m) s e k left j h = go (holds n c s.store) refl (λ s1 k1 g. tests_later units depth n c line body m s1 e k1 left j g)
+  where
+    go : (r : Result Bool Trap) → holds n c s.store ≡ r → ((s1 : Scene C) (k1 : ℕ) → tested (calls_of units depth) n c line m body s1 k1 ≡ Done e left → tested (calls_of units depth) n c line m body s1 (k1 + j) ≡ Done e (left + j)) → tested (calls_of units depth) n c line (suc m) body s (k + j) ≡ Done e (left + j)
+    go (Err t) is later = let g : (let o : Outcome (Scene C) = Trapped t line (stand n s) in o ≡ Done e left) = sym (rw is refl) ∙ h in absurd (cc)
+    go (Ok true) is later =
+        let q = calls_of units depth in
+        let r = test_held q n c line m body s e k left is h in
+        let rest_is = r.is in
+        let same : r.rest + j ≡ suc (r.before + j) = omega (arith, rest_is) in
+        rw is
+        (ap (λ z. then_do z (next_tests q n c line m body)) (run_later units depth depth (omega arith) n body s r.end k r.rest j r.turn)
+        ∙ ap (next_tests q n c line m body r.end) same
+        ∙ later r.end r.before r.others)
+    go (Ok false) is later = let g = test_failed (calls_of units depth) n c line (suc m) body s e k left is h in rw is (λ i. Done (done_same s e k left g i) (left_same s e k left g i + j))
+
+pub tests_end : {C : Type 0} (units : List Procedure) (depth : ℕ) (n : Setting C) (c : Test) (line : ℕ) (body : Code) (m : ℕ) (s s1 e : Scene C) (k left cost : ℕ) → ((j : ℕ) → tested (calls_of units depth) n c line m body s (cost + j) ≡ Done s1 j) → tested (calls_of units depth) n c line m body s k ≡ Done e left → e ≡ s1
+tests_end units depth n c line body m s s1 e k left cost by h =
+    let same : k + cost ≡ cost + k = omega arith in
+    done_same e s1 (left + cost) k (sym (tests_later units depth n c line body m s e k left cost h) ∙ ap (tested (calls_of units depth) n c line m body s) same ∙ by k)
+
+-- ---- pushes
+
+-- pushes alone
+abbrev pub IsPushing : Code → Type 0
+IsPushing stop = Unit {0}
+IsPushing (step line (runtime (push_word x subs)) c) = IsPushing c
+IsPushing (step line (runtime (push_array x)) c) = IsPushing c
+IsPushing (step line _ c) = ⊥
+
+pub pushing_append : (c d : Code) → IsPushing c → IsPushing d → IsPushing (c +++ d)
+pushing_append stop d i j = j
+pushing_append (step line (runtime (push_word x subs)) c) d i j = pushing_append c d i j
+pushing_append (step line (runtime (push_array x)) c) d i j = pushing_append c d i j
+pushing_append (step line (assign x subs e) c) d i j = absurd i
+pushing_append (step line (choose t a b) c) d i j = absurd i
+pushing_append (step line (loop x a b t body m) c) d i j = absurd i
+pushing_append (step line (during t body) c) d i j = absurd i
+pushing_append (step line (call name args) c) d i j = absurd i
+pushing_append (step line (runtime (pop_word x subs)) c) d i j = absurd i
+pushing_append (step line (runtime (pop_array x)) c) d i j = absurd i
+pushing_append (step line (runtime (push_control e)) c) d i j = absurd i
+pushing_append (step line (runtime (pop_control x)) c) d i j = absurd i
+pushing_append (step line (runtime (zero_array x)) c) d i j = absurd i
+pushing_append (step line (runtime (begin_reversal a b)) c) d i j = absurd i
+pushing_append (step line (runtime (count_actions a b x)) c) d i j = absurd i
+pushing_append (step line (runtime (give_action a b x y z w)) c) d i j = absurd i
+pushing_append (step line (runtime end_reversal) c) d i j = absurd i
+
+module _ {C : Type 0} (q : Calls C) (n : Setting C) (no_limit : n.room ≡ None) where
+  pushed_keeps : (c : C) (s e : Scene C) (k left : ℕ) → pushed n c s k ≡ Done e left → e.store ≡ s.store
+  pushed_keeps c s e k left h =
+      let g : (let o : Outcome (Scene C) = Done (record s { tape = c ∷ s.tape }) k in o ≡ Done e left) = sym (ap (λ r. if has_room r (length s.tape) then Done (record s { tape = c ∷ s.tape }) k else Full (stand n s)) no_limit) ∙ h in
+      ap (λ (z : Scene C). z.store) (sym (done_same (record s { tape = c ∷ s.tape }) e k left g))
+
+  all_pushed_keep : (cs : List C) (s e : Scene C) (k left : ℕ) → pushed_all n cs s k ≡ Done e left → e.store ≡ s.store
+  all_pushed_keep [] s e k left h = ap (λ (z : Scene C). z.store) (sym (done_same s e k left h))
+  all_pushed_keep (c ∷ cs) s e k left h =
+      let o = then_done (pushed n c s k) (pushed_all n cs) e left h in
+      all_pushed_keep cs o.scene e o.left left o.second ∙ pushed_keeps c s o.scene k o.left o.first
+
+  -- they keep the store, and take each of them once
+  pub pushing_keeps : (c : Code) → IsPushing c → (s e : Scene C) (k left : ℕ) → run q n c s k ≡ Done e left → (e.store ≡ s.store) × (k ≡ left + statements_of c)
+  pushing_keeps stop i s e k left h = (ap (λ (z : Scene C). z.store) (sym (done_same s e k left h)), (let l = left_same s e k left h in omega (arith, l)))
+  pushing_keeps (step line (runtime (push_word x subs)) c) i s e k left h =
+      let o = step_done q n line (runtime (push_word x subs)) c s e k left h in
+      let v = value_done (target n x subs s.store) line (stand n s) (λ i. pushed n (s.store x i) s o.before) o.scene o.after o.first in
+      let r = pushing_keeps c i o.scene e o.after left o.others in
+      let is = o.is in
+      (r.0 ∙ pushed_keeps (s.store x v.value) s o.scene o.before o.after v.goes, (let l = shift_left q n (push_word x subs) tt line s o.scene o.before o.after o.first in let r1 = r.1 in omega (arith, is, l, r1)))
+  pushing_keeps (step line (runtime (push_array x)) c) i s e k left h =
+      let o = step_done q n line (runtime (push_array x)) c s e k left h in
+      let r = pushing_keeps c i o.scene e o.after left o.others in
+      let is = o.is in
+      (r.0 ∙ all_pushed_keep (cells_from (s.store x) 0 (size_of (n.shape x))) s o.scene o.before o.after o.first, (let l = shift_left q n (push_array x) tt line s o.scene o.before o.after o.first in let r1 = r.1 in omega (arith, is, l, r1)))
+  pushing_keeps (step line (assign x subs a) c) i s e k left h = absurd i
+  pushing_keeps (step line (choose t a b) c) i s e k left h = absurd i
+  pushing_keeps (step line (loop x a b t body m) c) i s e k left h = absurd i
+  pushing_keeps (step line (during t body) c) i s e k left h = absurd i
+  pushing_keeps (step line (call name args) c) i s e k left h = absurd i
+  pushing_keeps (step line (runtime (pop_word x subs)) c) i s e k left h = absurd i
+  pushing_keeps (step line (runtime (pop_array x)) c) i s e k left h = absurd i
+  pushing_keeps (step line (runtime (push_control a)) c) i s e k left h = absurd i
+  pushing_keeps (step line (runtime (pop_control x)) c) i s e k left h = absurd i
+  pushing_keeps (step line (runtime (zero_array x)) c) i s e k left h = absurd i
+  pushing_keeps (step line (runtime (begin_reversal a b)) c) i s e k left h = absurd i
+  pushing_keeps (step line (runtime (count_actions a b x)) c) i s e k left h = absurd i
+  pushing_keeps (step line (runtime (give_action a b x y z w)) c) i s e k left h = absurd i
+  pushing_keeps (step line (runtime end_reversal) c) i s e k left h = absurd i
