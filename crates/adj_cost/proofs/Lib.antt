@@ -7,3 +7,5 @@ pub mod AlongAssignments
 pub mod AlongTurns
 pub mod AlongLoops
 pub mod AlongWhiles
+pub mod Prices
+pub mod AlongLists

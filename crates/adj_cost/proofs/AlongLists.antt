@@ -1,0 +1,236 @@
+-- What both sweeps take of lists of statements, along a run that is done and at its price.
+use Rattle.std.proofs.Common.{◌≡◌, ◌<◌, ◌≤◌, ◌^◌, ℕ, zero, suc, ◌+◌, ◌*◌, ◌⊎◌, inl, inr, Bool, true, false, List, [], refl, sym, ap, ◌∙◌, subst, arith}
+use Rattle.std.specs.Prelude.{ℤ, pos, ◌&&◌, ◌||◌, Ok, if◌then◌else◌}
+use Rattle.adj_tree.specs.Code.{Var, plain, shadow, helper, name_eq, Term, Terms, Test, Mark, unmarked, Act, assign, choose, loop, during, call, runtime, push_word, pop_word, Code, stop, step, none, Procedure}
+use Rattle.adj_tree.proofs.Names.{name_refl}
+use Rattle.adj_word.specs.Word.{wrap, add, mul}
+use Rattle.adj_word.proofs.Counting.{start_step, one_step}
+use Rattle.adj_meaning.specs.Append.{◌+++◌, one}
+use Rattle.adj_meaning.specs.LeastSet.{Dummies}
+use Rattle.adj_meaning.specs.Padded.{own_nodes, padded_program}
+use Rattle.adj_meaning.specs.Store.{Shape, size_of, Store, set}
+use Rattle.adj_meaning.specs.Value.{Setting, value, holds}
+use Rattle.adj_meaning.specs.Scene.{Scene, Done, then_do}
+use Rattle.adj_meaning.specs.Run.{Calls, act, run, turns, stepped, with_turn, trips, in_force, after_loop, most_tests}
+use Rattle.adj_meaning.specs.Units.{calls_of}
+use Rattle.adj_meaning.specs.Read.{reads_term, reads_test}
+use Rattle.adj_meaning.specs.Written.{writes}
+use Rattle.adj_meaning.proofs.Appends.{append-stop}
+use Rattle.adj_meaning.proofs.Inversions.{then_done, value_done, count_done, done_same}
+use Rattle.adj_transpose.specs.Marks.{Vars, Marks, next, behind, point_before, point_after}
+use Rattle.adj_transpose.specs.Marked.{code_if}
+use Rattle.adj_transpose.specs.Facts.{In, Within, without, Facts}
+use Rattle.adj_transpose.specs.Pairs.{Key, on_words}
+use Rattle.adj_transpose.proofs.Variables.{or_left, or_right, and_true}
+use Rattle.adj_kernel.specs.Weights.{weight}
+use Rattle.adj_reverse.specs.Plan.{Plan, actuals_named}
+use Rattle.adj_reverse.specs.Emission.{is_empty, told_forward, told_backward, loop_forward, loop_backward, while_forward, while_backward, reset, literal, forward_act, forward, backward_act, backward}
+use Rattle.adj_reverse.specs.Laws.{nothing, point_inside, last_point, is_plain, CalleeFacts, ChoiceLaws, LoopLaws, WhileLaws, CallLaws, ActLaws, ListLaws}
+use Rattle.adj_reverse.specs.Passing.{plainly}
+use Rattle.adj_reverse.specs.Kernel.{CallFits, LoopFits, Fits', FitsList, AllText}
+use Rattle.adj_reverse.specs.Theorem.{plan_of}
+use Rattle.adj_reverse.proofs.Choices.{part}
+use Rattle.adj_reverse.proofs.Evaluations.{value_again, holds_again}
+use Rattle.adj_reverse.proofs.Groups.{KnowsArrays}
+use Rattle.adj_reverse.proofs.Idle.{empty_is}
+use Rattle.adj_reverse.proofs.LoopStatements as turned
+use Rattle.adj_reverse.proofs.LoopStatements.{Looped, looped_none, looped_more}
+use Rattle.adj_reverse.proofs.Loops.{turning}
+use Rattle.adj_reverse.proofs.Sweeps.{Sweeps}
+use Rattle.adj_reverse.proofs.Tests.{most_small}
+use Rattle.adj_reverse.proofs.Transposed.{Transposed, transposed_to}
+use Rattle.adj_reverse.proofs.WhileSweeps as whiles
+use Rattle.adj_reverse.proofs.WhileSweeps.{TestsSwept}
+use Rattle.adj_cost.specs.Sweeps.{statements_of}
+use Rattle.adj_cost.specs.Along.{BothCost}
+use Rattle.adj_cost.proofs.Counting.{some_nodes, three_nodes, if_few}
+use Rattle.adj_cost.proofs.Runs.{tested, test_failed, test_held, no_test_held, left_same, IsPushing, IsStraight, straight_append}
+use Rattle.adj_cost.proofs.Along.{cost_stop, cost_more, cost_append, cost_silent, cost_told, cost_around}
+use Rattle.adj_cost.proofs.AlongAssignments.{cost_assign}
+use Rattle.adj_cost.proofs.AlongTurns.{ToldTurns, told_none, told_more, SilentTurns, silent_none, silent_more}
+use Rattle.adj_cost.proofs.AlongLoops as loops
+use Rattle.adj_cost.proofs.AlongWhiles as tests
+use Rattle.adj_cost.proofs.AlongWhiles.{ToldTests, SilentTests}
+use Rattle.adj_cost.proofs.Prices.{at_rate, rate_sum, Pays, ActPays, TurnsPay, TestsPay, pays_stop, pays_step, pays_choose, turns_pay_none, turns_pay_more, pays_loop, tests_pay_none, tests_pay_more, pays_assign}
+
+module _ (ps qs : List Procedure) (depth : ℕ) (lines : ℕ → Bool) (handed : Dummies) (callees : List ℕ → CalleeFacts) (answers carried : List ℕ → Bool) (w : Facts) (present : Bool) (vars : List (List ℕ)) (arrays : Vars) (sh : Var → Shape) (level : ℕ) (xs : List Key) (known : KnowsArrays (plan_of callees w arrays) sh) (rate : ℕ) (four : 4 ≤ rate) where
+  abbrev p : Calls ℤ
+  p = calls_of ps depth
+
+  abbrev q : Calls ℤ
+  q = calls_of qs depth
+
+  abbrev dual : Calls (ℤ × ℤ)
+  dual = calls_of ps depth
+
+  abbrev weighed : Calls ℤ
+  weighed = calls_of (padded_program own_nodes ps) depth
+
+  abbrev plan : Plan
+  plan = plan_of callees w arrays
+
+  abbrev np : Setting ℤ
+  np = on_words (plainly sh) level
+
+  abbrev nw : Setting ℤ
+  nw = on_words sh level
+
+  abbrev m : Marks
+  m = w.marks
+
+  -- a statement that was done: its price, and what its sweeps take
+  pub record ActCosts (i d line : ℕ) (a : Act) (s e : Scene ℤ) : Type 0 where
+    pub price : ℕ
+    pub pays : ActPays weighed np line a s e price
+    pub most : ℕ
+    pub fair : most ≤ rate * (weight a + price)
+    pub cost : present ≡ true → BothCost q sh level (forward_act plan i d line a) (backward_act plan i d line a) (w.needed (point_before i)) (w.held (point_after i)) s.store most
+
+  -- a list
+  pub record ListCosts (from i d : ℕ) (c : Code) (s e : Scene ℤ) : Type 0 where
+    pub price : ℕ
+    pub pays : Pays weighed np c s e price
+    pub most : ℕ
+    pub fair : most ≤ rate * price
+    pub cost : present ≡ true → BothCost q sh level (forward plan i d c) (backward plan i d c) (w.needed from) (w.held (last_point from i c)) s.store most
+
+  without_none : (a : Vars) (v : Var) → In v a → In v (without a nothing)
+  without_none a v h = rw h refl
+
+  -- what the bounds come to
+  fair_act : (x pr extra most : ℕ) → extra ≤ 4 * x → most ≤ rate * pr → most + extra ≤ rate * (x + pr)
+  fair_act x pr extra most le h = let l = at_rate rate x four in let e = rate_sum rate x pr in omega (arith, le, h, l, e)
+
+  -- an IF
+  choice_costs : (c : Test) (a b : Code) (i d line : ℕ) (s e : Scene ℤ) (ran : Bool) → AllText (λ v. reads_test v c) → ChoiceLaws w i c a b → holds np c s.store ≡ Ok ran → (price : ℕ) → Pays weighed np (part ran a b) s e price → (most : ℕ) → most ≤ rate * price →
+      (present ≡ true → BothCost q sh level (part ran (forward plan (suc i) d a) (forward plan (behind (suc i) a) d b)) (part ran (backward plan (suc i) d a) (backward plan (behind (suc i) a) d b)) (w.needed (point_before i)) (w.held (point_after i)) s.store most) → ActCosts i d line (choose c a b) s e
+  choice_costs c a b i d line s e ran text laws is price pays most fair cost =
+      let nodes = three_nodes c in
+      record {
+        price = price;
+        pays = pays_choose weighed np line c a b s e ran price is pays;
+        most = most + 4;
+        fair = fair_act (weight (choose c a b)) price 4 most (omega (arith, nodes)) fair;
+        cost = λ pr. emitted (cost pr) (m.kept i) refl (m.adjointed i) refl;
+      }
+    where
+      fa : Code
+      fa = forward plan (suc i) d a
+
+      fb : Code
+      fb = forward plan (behind (suc i) a) d b
+
+      ba : Code
+      ba = backward plan (suc i) d a
+
+      bb : Code
+      bb = backward plan (behind (suc i) a) d b
+
+      n : Vars
+      n = w.needed (point_before i)
+
+      h : Vars
+      h = w.held (point_after i)
+
+      rows : BothCost q sh level (part ran fa fb) (part ran ba bb) n h s.store most → m.kept i ≡ true → (idle : Bool) → (is_empty ba && is_empty bb) ≡ idle → BothCost q sh level (one line (choose c (told_forward idle line fa 1) (told_forward idle line fb 0))) (told_backward idle line ba bb) n h s.store (most + 4)
+      rows x k true o =
+          let o2 = and_true (is_empty ba) (is_empty bb) o in
+          cost_more qs depth sh level (one line (choose c fa fb)) stop n n h h s.store (most + 1) (most + 4) (λ v z. z) (λ v z. z) (omega arith)
+          (cost_silent qs depth sh level line c ran fa fb ba bb n h s.store most (λ f g. holds_again sh level n s.store f g c text (laws.needs_uses k) ∙ is) x (empty_is ba o2.0) (empty_is bb o2.1))
+      rows x k false o = cost_told qs depth sh level line c ran fa fb ba bb n h s.store most (λ f g. holds_again sh level n s.store f g c text (laws.needs_uses k) ∙ is) x
+
+      emitted : BothCost q sh level (part ran fa fb) (part ran ba bb) n h s.store most → (k : Bool) → m.kept i ≡ k → (t : Bool) → m.adjointed i ≡ t → BothCost q sh level (code_if (k || t) (one line (choose c (told_forward (is_empty ba && is_empty bb) line fa 1) (told_forward (is_empty ba && is_empty bb) line fb 0)))) (code_if (k || t) (told_backward (is_empty ba && is_empty bb) line ba bb)) n h s.store (most + 4)
+      emitted x true ek t et = rows x ek (is_empty ba && is_empty bb) refl
+      emitted x false ek true et = absurd (let r : true ≡ false = sym (laws.keeps_adjointed et) ∙ ek in cc)
+      emitted x false ek false et = cost_more qs depth sh level stop stop n n h h s.store 0 (most + 4) (λ v z. z) (λ v z. z) (omega arith) (cost_stop qs depth sh level n h s.store)
+
+
+  -- ---- a DO
+
+  module _ (i d line : ℕ) (x : List ℕ) (one_cell : size_of (sh (plain x)) ≡ 1) (ea eb ec : Term) (body : Code) (laws : LoopLaws w i (plain x) ea eb ec body) (spares : writes handed (plain x) body ≡ false) (a0 c0 : ℤ) where
+    abbrev Fb : Code
+    Fb = forward plan (suc i) (suc d) body
+
+    abbrev Bb : Code
+    Bb = backward plan (suc i) (suc d) body
+
+    abbrev n_in : ℕ
+    n_in = point_inside i
+
+    abbrev n_last : ℕ
+    n_last = last_point n_in (suc i) body
+
+    abbrev wr : Vars
+    wr = λ v. writes handed v body
+
+    abbrev inert : Bool
+    inert = is_plain m (suc i) body
+
+    abbrev IsLooped : ℕ → ℕ → Store ℤ → Store ℤ → Type 0
+    IsLooped t j u u' = Looped p q lines dual sh level xs w d present i line x one_cell ea eb ec body Fb Bb laws wr spares inert a0 c0 t j u u'
+
+    abbrev IsTold : ℕ → ℕ → Store ℤ → ℕ → Type 0
+    IsTold t j u most = ToldTurns qs depth sh level xs d line x one_cell a0 c0 (w.needed n_in) (w.needed n_last) (w.held n_in) (w.held n_last) (turned.needs p q lines dual sh level xs w d present i line x one_cell ea eb ec body Fb Bb laws wr spares inert a0 c0) (turned.holds p q lines dual sh level xs w d present i line x one_cell ea eb ec body Fb Bb laws wr spares inert a0 c0) Fb Bb wr spares t j u most
+
+    abbrev IsSilent : ℕ → Store ℤ → ℕ → Type 0
+    IsSilent t u most = SilentTurns qs depth sh level xs d line x one_cell a0 c0 (w.needed n_in) (w.needed n_last) (w.held n_in) (w.held n_last) (turned.needs p q lines dual sh level xs w d present i line x one_cell ea eb ec body Fb Bb laws wr spares inert a0 c0) (turned.holds p q lines dual sh level xs w d present i line x one_cell ea eb ec body Fb Bb laws wr spares inert a0 c0) Fb Bb wr spares t u most
+
+    -- t turns from the j-th on
+    pub record LoopCosts (t j : ℕ) (s e : Scene ℤ) : Type 0 where
+      pub looped : IsLooped t j s.store e.store
+      pub price : ℕ
+      pub pays : TurnsPay weighed np t body (stepped np (plain x) c0) s e price
+      pub most : ℕ
+      pub fair : most ≤ rate * price
+      pub told : present ≡ true → IsTold t j s.store most
+      pub silent : present ≡ true → Bb ≡ stop → IsSilent t s.store most
+
+    costs_none : (j : ℕ) (s : Scene ℤ) → LoopCosts 0 j s s
+    costs_none j s = record {
+      looped = looped_none p q lines dual sh level xs w d present i line x one_cell ea eb ec body Fb Bb laws wr spares inert a0 c0 j s.store;
+      price = 0;
+      pays = turns_pay_none weighed np body (stepped np (plain x) c0) s;
+      most = 0;
+      fair = omega arith;
+      told = λ pr. told_none qs depth sh level xs d line x one_cell a0 c0 (w.needed n_in) (w.needed n_last) (w.held n_in) (w.held n_last) (turned.needs p q lines dual sh level xs w d present i line x one_cell ea eb ec body Fb Bb laws wr spares inert a0 c0) (turned.holds p q lines dual sh level xs w d present i line x one_cell ea eb ec body Fb Bb laws wr spares inert a0 c0) Fb Bb wr spares j s.store;
+      silent = λ pr n. silent_none qs depth sh level xs d line x one_cell a0 c0 (w.needed n_in) (w.needed n_last) (w.held n_in) (w.held n_last) (turned.needs p q lines dual sh level xs w d present i line x one_cell ea eb ec body Fb Bb laws wr spares inert a0 c0) (turned.holds p q lines dual sh level xs w d present i line x one_cell ea eb ec body Fb Bb laws wr spares inert a0 c0) Fb Bb wr spares s.store;
+    }
+
+    -- what a turn does and takes
+    pub record TurnCosts (s e : Scene ℤ) : Type 0 where
+      pub transposed : Transposed q lines dual sh level xs w (suc d) present wr inert n_in n_last body Fb Bb s.store e.store
+      pub keeps : e.store (plain x) 0 ≡ s.store (plain x) 0
+      pub costs : ListCosts n_in (suc i) (suc d) body s e
+
+    fair_turn : (pb pr mb mr : ℕ) → mb ≤ rate * pb → mr ≤ rate * pr → mb + mr + 4 ≤ rate * (pb + pr + 1)
+    fair_turn pb pr mb mr hb hr = let l = at_rate rate 1 four in let e = rate_sum rate (pb + pr) 1 in let f = rate_sum rate pb pr in omega (arith, hb, hr, l, e, f)
+
+    costs_more : (t j : ℕ) (s s1 e : Scene ℤ) → suc j < 2 ^ 63 → s.store (plain x) 0 ≡ add a0 (mul (pos j) c0) → TurnCosts s s1 → LoopCosts t (suc j) (stepped np (plain x) c0 s1) e → LoopCosts (suc t) j s e
+    costs_more t j s s1 e small value_is turn rest =
+        let c = turn.costs in
+        record {
+          looped = looped_more p q lines dual sh level xs w d present i line x one_cell ea eb ec body Fb Bb laws wr spares inert a0 c0 t j s.store s1.store e.store small value_is turn.keeps turn.transposed rest.looped;
+          price = c.price + rest.price + 1;
+          pays = turns_pay_more weighed np t body (stepped np (plain x) c0) s s1 e c.price rest.price c.pays rest.pays;
+          most = c.most + rest.most + 4;
+          fair = fair_turn c.price rest.price c.most rest.most c.fair rest.fair;
+          told = λ pr.
+              told_more qs depth sh level xs d line x one_cell a0 c0 (w.needed n_in) (w.needed n_last) (w.held n_in) (w.held n_last) (turned.needs p q lines dual sh level xs w d present i line x one_cell ea eb ec body Fb Bb laws wr spares inert a0 c0) (turned.holds p q lines dual sh level xs w d present i line x one_cell ea eb ec body Fb Bb laws wr spares inert a0 c0) Fb Bb wr spares
+              t j s.store s1.store e.store turn.transposed.change rest.looped.tangents.change turn.transposed.loops rest.looped.tangents.loops c.most rest.most small value_is turn.keeps (turn.transposed.sweeps pr) (rest.looped.told pr) (c.cost pr) (rest.told pr);
+          silent = λ pr n. higher (suc t) s.store (c.most + rest.most + 1) (c.most + rest.most + 4) (omega arith)
+              (silent_more qs depth sh level xs d line x one_cell a0 c0 (w.needed n_in) (w.needed n_last) (w.held n_in) (w.held n_last) (turned.needs p q lines dual sh level xs w d present i line x one_cell ea eb ec body Fb Bb laws wr spares inert a0 c0) (turned.holds p q lines dual sh level xs w d present i line x one_cell ea eb ec body Fb Bb laws wr spares inert a0 c0) Fb Bb wr spares
+              t s.store s1.store turn.transposed.change turn.transposed.loops c.most rest.most turn.keeps n (turn.transposed.sweeps pr) (c.cost pr) (rest.silent pr n));
+        }
+      where
+        higher : (t : ℕ) (u : Store ℤ) (a b : ℕ) → a ≤ b → IsSilent t u a → IsSilent t u b
+        higher t u a b le h = record { at = λ base f l same v s k left r. let z = h.at base f l same v s k left r in omega (arith, le, z) }
+
+    -- all turns of a run
+    pub loop_costs : ((s e : Scene ℤ) (k left : ℕ) → run p np body s k ≡ Done e left → TurnCosts s e) → (t j : ℕ) (s e : Scene ℤ) (k left : ℕ) → j + t < 2 ^ 63 → s.store (plain x) 0 ≡ add a0 (mul (pos j) c0) → turns np t (run p np body) (stepped np (plain x) c0) s k ≡ Done e left → LoopCosts t j s e
+    loop_costs each zero j s e k left small is h = subst (λ (z : Scene ℤ). LoopCosts 0 j s z) (done_same s e k left h) (costs_none j s)
+    loop_costs each (suc t) j s e k left small is h =
+        let r = count_done _ k (λ l. then_do (run p np body s l) (λ s1 o. turns np t (run p np body) (stepped np (plain x) c0) (stepped np (plain x) c0 s1) o)) e left h in
+        let o = then_done (run p np body s r.left) (λ s1 o. turns np t (run p np body) (stepped np (plain x) c0) (stepped np (plain x) c0 s1) o) e left r.goes in
+        let turn = each s o.scene r.left o.left o.first in
+        let next_is : set o.scene.store (plain x) 0 (add (o.scene.store (plain x) 0) c0) (plain x) 0 ≡ add a0 (mul (pos (suc j)) c0) = rw (name_refl x) (ap (λ v. add v c0) (turn.keeps ∙ is) ∙ one_step a0 c0 j) in
+        costs_more t j s o.scene e (omega arith) is turn (loop_costs each t (suc j) (stepped np (plain x) c0 o.scene) e o.left left (omega arith) next_is o.second)
