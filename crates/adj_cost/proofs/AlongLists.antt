@@ -28,6 +28,7 @@ use Rattle.adj_reverse.specs.Emission.{is_empty, told_forward, told_backward, lo
 use Rattle.adj_reverse.specs.Laws.{nothing, point_inside, last_point, is_plain, CalleeFacts, ChoiceLaws, LoopLaws, WhileLaws, CallLaws, ActLaws, ListLaws}
 use Rattle.adj_reverse.specs.Passing.{plainly}
 use Rattle.adj_reverse.specs.Kernel.{CallFits, LoopFits, Fits', FitsList, AllText}
+use Rattle.adj_reverse.specs.Runs.{SameOn}
 use Rattle.adj_reverse.specs.Theorem.{plan_of}
 use Rattle.adj_reverse.proofs.Choices.{part}
 use Rattle.adj_reverse.proofs.Evaluations.{value_again, holds_again}
@@ -234,3 +235,94 @@ module _ (ps qs : List Procedure) (depth : ℕ) (lines : ℕ → Bool) (handed :
         let turn = each s o.scene r.left o.left o.first in
         let next_is : set o.scene.store (plain x) 0 (add (o.scene.store (plain x) 0) c0) (plain x) 0 ≡ add a0 (mul (pos (suc j)) c0) = rw (name_refl x) (ap (λ v. add v c0) (turn.keeps ∙ is) ∙ one_step a0 c0 j) in
         costs_more t j s o.scene e (omega arith) is turn (loop_costs each t (suc j) (stepped np (plain x) c0 o.scene) e o.left left (omega arith) next_is o.second)
+
+    -- what stands around the loop in both sweeps
+    around_few : (v r : Bool) → statements_of (code_if v (one line (runtime (push_word (plain x) none)))) + statements_of (code_if v (one line (runtime (pop_word (plain x) none))) +++ code_if r (one line (assign (shadow x) none (literal 0)))) ≤ 3
+    around_few true true = omega arith
+    around_few true false = omega arith
+    around_few false true = omega arith
+    around_few false false = omega arith
+
+    pushes_before : (v : Bool) → IsPushing (code_if v (one line (runtime (push_word (plain x) none))))
+    pushes_before true = tt
+    pushes_before false = tt
+
+    straight_behind : (v r : Bool) → IsStraight (code_if v (one line (runtime (pop_word (plain x) none))) +++ code_if r (one line (assign (shadow x) none (literal 0))))
+    straight_behind true true = (tt, tt)
+    straight_behind true false = (tt, tt)
+    straight_behind false true = tt
+    straight_behind false false = tt
+
+    module _ (b0 : ℤ) (mark : Mark) (t : ℕ) (s e : Scene ℤ) (is_a : value np ea s.store ≡ Ok a0) (is_b : value np eb s.store ≡ Ok b0) (is_c : value np ec s.store ≡ Ok c0) (turns_is : trips mark a0 b0 c0 ≡ Ok t) (text_a : AllText (λ v. reads_term v ea)) (text_b : AllText (λ v. reads_term v eb)) (text_c : AllText (λ v. reads_term v ec)) (l : LoopCosts t 0 (with_turn np (plain x) (wrap a0) s) e) where
+      abbrev n : Vars
+      n = w.needed (point_before i)
+
+      needs_in : (y : List ℕ) → name_eq y x ≡ false → In (plain y) (w.needed n_in) → In (plain y) n
+      needs_in y f h = laws.entry_values.needs (plain y) (rw (h, f) refl)
+
+      first_again : m.kept i ≡ true → (f : Store ℤ) → SameOn sh n s.store f → value nw ea f ≡ Ok a0
+      first_again k f g = value_again sh level n s.store f g ea text_a (λ v h. laws.needs_uses k v (or_left (reads_term v ea) (reads_term v eb || reads_term v ec) h)) ∙ is_a
+
+      last_again : m.kept i ≡ true → (f : Store ℤ) → SameOn sh n s.store f → value nw eb f ≡ Ok b0
+      last_again k f g = value_again sh level n s.store f g eb text_b (λ v h. laws.needs_uses k v (or_right (reads_term v ea) (reads_term v eb || reads_term v ec) (or_left (reads_term v eb) (reads_term v ec) h))) ∙ is_b
+
+      step_again : m.kept i ≡ true → (f : Store ℤ) → SameOn sh n s.store f → value nw ec f ≡ Ok c0
+      step_again k f g = value_again sh level n s.store f g ec text_c (λ v h. laws.needs_uses k v (or_right (reads_term v ea) (reads_term v eb || reads_term v ec) (or_right (reads_term v eb) (reads_term v ec) h))) ∙ is_c
+
+      -- the loop itself in both sweeps
+      row : present ≡ true → m.kept i ≡ true → (idle : Bool) → is_empty Bb ≡ idle → BothCost q sh level (loop_forward idle (suc d) line (plain x) ea eb ec Fb) (loop_backward idle (suc d) line (plain x) Bb) n (w.held n_in) s.store (l.most + 11)
+      row pr k true o =
+          cost_more qs depth sh level (loop_forward true (suc d) line (plain x) ea eb ec Fb) (loop_backward true (suc d) line (plain x) Bb) n n (w.held n_in) (w.held n_in) s.store (l.most + 1) (l.most + 11) (λ v z. z) (λ v z. z) (omega arith)
+          (loops.cost_silent qs depth sh level xs d line x one_cell a0 b0 c0 n (w.needed n_in) (w.needed n_last) (w.held n_in) (w.held n_last) (turned.needs p q lines dual sh level xs w d present i line x one_cell ea eb ec body Fb Bb laws wr spares inert a0 c0) (turned.holds p q lines dual sh level xs w d present i line x one_cell ea eb ec body Fb Bb laws wr spares inert a0 c0) needs_in ea eb ec Fb Bb wr spares t
+          (turning mark a0 b0 c0 t turns_is).small (turning mark a0 b0 c0 t turns_is).plainly s.store e.store (first_again k) (last_again k) (step_again k) l.most (l.silent pr (empty_is Bb o)))
+      row pr k false o =
+          loops.cost_told qs depth sh level xs d line x one_cell a0 b0 c0 n (w.needed n_in) (w.needed n_last) (w.held n_in) (w.held n_last) (turned.needs p q lines dual sh level xs w d present i line x one_cell ea eb ec body Fb Bb laws wr spares inert a0 c0) (turned.holds p q lines dual sh level xs w d present i line x one_cell ea eb ec body Fb Bb laws wr spares inert a0 c0) needs_in ea eb ec Fb Bb wr spares t
+          (turning mark a0 b0 c0 t turns_is).small (turning mark a0 b0 c0 t turns_is).plainly s.store e.store (first_again k) (last_again k) (step_again k) l.looped.tangents.change l.looped.tangents.loops l.most (l.looped.told pr) (l.told pr)
+
+      abbrev pushing : Code
+      pushing = code_if (m.saved i (plain x)) (one line (runtime (push_word (plain x) none)))
+
+      abbrev behind_it : Code
+      behind_it = code_if (m.saved i (plain x)) (one line (runtime (pop_word (plain x) none))) +++ reset m i line x
+
+      pub kept_cost : present ≡ true → m.kept i ≡ true → BothCost q sh level (pushing +++ loop_forward (is_empty Bb) (suc d) line (plain x) ea eb ec Fb) (loop_backward (is_empty Bb) (suc d) line (plain x) Bb +++ behind_it) n (w.held (point_after i)) s.store (l.most + 14)
+      kept_cost pr k =
+          let r = m.shadowed (plain x) && m.varied (point_before i) (plain x) in
+          let few = around_few (m.saved i (plain x)) r in
+          cost_more qs depth sh level (pushing +++ loop_forward (is_empty Bb) (suc d) line (plain x) ea eb ec Fb) (loop_backward (is_empty Bb) (suc d) line (plain x) Bb +++ behind_it) n n (w.held (point_after i)) (w.held n_in) s.store (l.most + 11 + (statements_of pushing + statements_of behind_it)) (l.most + 14) (λ v z. z) (λ v h. laws.exit.values.holds v (without_none (w.held n_in) v h)) (omega (arith, few))
+          (cost_around qs depth sh level pushing behind_it (loop_forward (is_empty Bb) (suc d) line (plain x) ea eb ec Fb) (loop_backward (is_empty Bb) (suc d) line (plain x) Bb) n (w.held n_in) s.store (l.most + 11) (pushes_before (m.saved i (plain x))) (straight_behind (m.saved i (plain x)) r) (row pr k (is_empty Bb) refl))
+
+      pub emitted_cost : present ≡ true → (k : Bool) → m.kept i ≡ k → (a : Bool) → m.adjointed i ≡ a → BothCost q sh level (code_if (k || a) (pushing +++ loop_forward (is_empty Bb) (suc d) line (plain x) ea eb ec Fb)) (code_if (k || a) (loop_backward (is_empty Bb) (suc d) line (plain x) Bb +++ behind_it)) n (w.held (point_after i)) s.store (l.most + 14)
+      emitted_cost pr true ek a ea' = kept_cost pr ek
+      emitted_cost pr false ek true ea' = absurd (let c : true ≡ false = sym (laws.keeps_adjointed ea') ∙ ek in cc)
+      emitted_cost pr false ek false ea' = cost_more qs depth sh level stop stop n n (w.held (point_after i)) (w.held (point_after i)) s.store 0 (l.most + 14) (λ v z. z) (λ v z. z) (omega arith) (cost_stop qs depth sh level n (w.held (point_after i)) s.store)
+
+  zero_more : (n : ℕ) → n < 2 ^ 63 → 0 + n < 2 ^ 63
+  zero_more n h = omega arith
+
+  -- a DO that was done
+  do_costs : (x : List ℕ) (a b c : Term) (body : Code) (mark : Mark) (i d line : ℕ) (s e : Scene ℤ) (k left : ℕ) → (fits : LoopFits lines line mark vars arrays handed x a b c body) → (laws : LoopLaws w i (plain x) a b c body) → act p np (loop (plain x) a b c body mark) line s k ≡ Done e left →
+      ((a0 c0 : ℤ) (s0 e0 : Scene ℤ) (k0 l0 : ℕ) → run p np body s0 k0 ≡ Done e0 l0 → TurnCosts i d line x (known x fits.scalar) a b c body laws fits.spares a0 c0 s0 e0) → ActCosts i d line (loop (plain x) a b c body mark) s e
+  do_costs x a b c body mark i d line s e k left fits laws h each =
+      let va = value_done (value np a s.store) line _ _ e left h in
+      let vb = value_done (value np b s.store) line _ _ e left va.goes in
+      let vc = value_done (value np c s.store) line _ _ e left vb.goes in
+      let t = value_done (trips mark va.value vb.value vc.value) line _ _ e left vc.goes in
+      let o = then_done (turns np t.value (run p np body) (stepped np (plain x) vc.value) (with_turn np (plain x) (wrap va.value) s) k) (λ s1 j. Done (after_loop line t.value (in_force np mark s.store) s1) j) e left t.goes in
+      subst (λ (z : Scene ℤ). ActCosts i d line (loop (plain x) a b c body mark) s z) (done_same (after_loop line t.value (in_force np mark s.store) o.scene) e o.left left o.second)
+      (of_turns va.value vb.value vc.value t.value o.scene o.left va.is vb.is vc.is t.is o.first)
+    where
+      of_turns : (a0 b0 c0 : ℤ) (t : ℕ) (o : Scene ℤ) (l : ℕ) → value np a s.store ≡ Ok a0 → value np b s.store ≡ Ok b0 → value np c s.store ≡ Ok c0 → trips mark a0 b0 c0 ≡ Ok t → turns np t (run p np body) (stepped np (plain x) c0) (with_turn np (plain x) (wrap a0) s) k ≡ Done o l →
+          ActCosts i d line (loop (plain x) a b c body mark) s (after_loop line t (in_force np mark s.store) o)
+      of_turns a0 b0 c0 t o l is_a is_b is_c is_t g =
+          let start = with_turn np (plain x) (wrap a0) s in
+          let at_first : start.store (plain x) 0 ≡ add a0 (mul (pos 0) c0) = rw (name_refl x) (start_step a0 c0) in
+          let costs = loop_costs i d line x (known x fits.scalar) a b c body laws fits.spares a0 c0 (λ s0 e0 k0 l0 r. each a0 c0 s0 e0 k0 l0 r) t 0 start o k l (zero_more t (turning mark a0 b0 c0 t is_t).small) at_first g in
+          let n1 = some_nodes a in let n2 = some_nodes b in let n3 = some_nodes c in
+          record {
+            price = costs.price;
+            pays = pays_loop weighed np line (plain x) a b c body mark s o a0 b0 c0 t costs.price is_a is_b is_c is_t costs.pays;
+            most = costs.most + 14;
+            fair = fair_act (weight (loop (plain x) a b c body mark)) costs.price 14 costs.most (omega (arith, n1, n2, n3)) costs.fair;
+            cost = λ pr. emitted_cost i d line x (known x fits.scalar) a b c body laws fits.spares a0 c0 b0 mark t s o is_a is_b is_c is_t fits.text_first fits.text_last fits.text_step costs pr (m.kept i) refl (m.adjointed i) refl;
+          }
