@@ -1,6 +1,6 @@
 -- What both sweeps take of lists of statements, along a run that is done and at its price.
-use Rattle.std.proofs.Common.{◌≡◌, ◌<◌, ◌≤◌, ◌^◌, ℕ, zero, suc, ◌+◌, ◌*◌, ◌⊎◌, inl, inr, Bool, true, false, List, [], refl, sym, ap, ◌∙◌, subst, arith}
-use Rattle.std.specs.Prelude.{ℤ, pos, ◌&&◌, ◌||◌, Ok, if◌then◌else◌}
+use Rattle.std.proofs.Common.{◌≡◌, ◌<◌, ◌≤◌, ◌^◌, ℕ, zero, suc, ◌+◌, ◌*◌, ◌⊎◌, inl, inr, Bool, true, false, List, [], ◌++◌, refl, sym, ap, ◌∙◌, subst, arith}
+use Rattle.std.specs.Prelude.{ℤ, pos, ◌&&◌, ◌||◌, Result, Ok, Err, if◌then◌else◌}
 use Rattle.adj_tree.specs.Code.{Var, plain, shadow, helper, name_eq, Term, Terms, Test, Mark, unmarked, Act, assign, choose, loop, during, call, runtime, push_word, pop_word, Code, stop, step, none, Procedure}
 use Rattle.adj_tree.proofs.Names.{name_refl}
 use Rattle.adj_word.specs.Word.{wrap, add, mul}
@@ -8,9 +8,10 @@ use Rattle.adj_word.proofs.Counting.{start_step, one_step}
 use Rattle.adj_meaning.specs.Append.{◌+++◌, one}
 use Rattle.adj_meaning.specs.LeastSet.{Dummies}
 use Rattle.adj_meaning.specs.Padded.{own_nodes, padded_program}
+use Rattle.adj_meaning.specs.Trap.{Trap}
 use Rattle.adj_meaning.specs.Store.{Shape, size_of, Store, set}
 use Rattle.adj_meaning.specs.Value.{Setting, value, holds}
-use Rattle.adj_meaning.specs.Scene.{Scene, Done, then_do}
+use Rattle.adj_meaning.specs.Scene.{Scene, Outcome, Done, Trapped, stand, then_do}
 use Rattle.adj_meaning.specs.Run.{Calls, act, run, turns, stepped, with_turn, trips, in_force, after_loop, most_tests}
 use Rattle.adj_meaning.specs.Units.{calls_of}
 use Rattle.adj_meaning.specs.Read.{reads_term, reads_test}
@@ -20,14 +21,15 @@ use Rattle.adj_meaning.proofs.Inversions.{then_done, value_done, count_done, don
 use Rattle.adj_transpose.specs.Marks.{Vars, Marks, next, behind, point_before, point_after}
 use Rattle.adj_transpose.specs.Marked.{code_if}
 use Rattle.adj_transpose.specs.Facts.{In, Within, without, Facts}
-use Rattle.adj_transpose.specs.Pairs.{Key, on_words}
+use Rattle.adj_transpose.specs.Pairs.{Key, Words, on_words}
 use Rattle.adj_transpose.proofs.Variables.{or_left, or_right, and_true}
 use Rattle.adj_kernel.specs.Weights.{weight}
 use Rattle.adj_reverse.specs.Plan.{Plan, actuals_named}
 use Rattle.adj_reverse.specs.Emission.{is_empty, told_forward, told_backward, loop_forward, loop_backward, while_forward, while_backward, reset, literal, forward_act, forward, backward_act, backward}
-use Rattle.adj_reverse.specs.Laws.{nothing, point_inside, last_point, is_plain, CalleeFacts, ChoiceLaws, LoopLaws, WhileLaws, CallLaws, ActLaws, ListLaws}
+use Rattle.adj_reverse.specs.Laws.{nothing, WayLaws, point_inside, last_point, is_plain, CalleeFacts, ChoiceLaws, LoopLaws, WhileLaws, CallLaws, ActLaws, ListLaws}
 use Rattle.adj_reverse.specs.Passing.{plainly}
 use Rattle.adj_reverse.specs.Kernel.{CallFits, LoopFits, Fits', FitsList, AllText}
+use Rattle.adj_reverse.specs.Reversals.{LoopRun}
 use Rattle.adj_reverse.specs.Runs.{SameOn}
 use Rattle.adj_reverse.specs.Theorem.{plan_of}
 use Rattle.adj_reverse.proofs.Choices.{part}
@@ -326,3 +328,215 @@ module _ (ps qs : List Procedure) (depth : ℕ) (lines : ℕ → Bool) (handed :
             fair = fair_act (weight (loop (plain x) a b c body mark)) costs.price 14 costs.most (omega (arith, n1, n2, n3)) costs.fair;
             cost = λ pr. emitted_cost i d line x (known x fits.scalar) a b c body laws fits.spares a0 c0 b0 mark t s o is_a is_b is_c is_t fits.text_first fits.text_last fits.text_step costs pr (m.kept i) refl (m.adjointed i) refl;
           }
+
+  -- ---- a DO WHILE
+
+  module _ (i d line : ℕ) (c : Test) (body : Code) (laws : WhileLaws w i c body) (text : AllText (λ v. reads_test v c)) where
+    abbrev Fw : Code
+    Fw = forward plan (suc i) (suc d) body
+
+    abbrev Bw : Code
+    Bw = backward plan (suc i) (suc d) body
+
+    abbrev n_test : ℕ
+    n_test = point_inside i
+
+    abbrev ww : Vars
+    ww = λ v. writes handed v body
+
+    -- the tests that are left, and their turns from the j-th on
+    pub record TestsCosts (left j : ℕ) (s e : Scene ℤ) : Type 0 where
+      pub change : Words → Words
+      pub reversed : List LoopRun
+      pub swept : present ≡ true → m.kept i ≡ true → TestsSwept q sh level xs d line c (w.needed n_test) (w.held n_test) Fw Bw ww left j s.store e.store change reversed
+      pub price : ℕ
+      pub pays : TestsPay weighed np c line left body s e price
+      pub most : ℕ
+      pub fair : most ≤ rate * price
+      pub told : (pr : present ≡ true) (k : m.kept i ≡ true) → ToldTests qs depth sh level xs d line c (w.needed n_test) (w.held n_test) Fw Bw ww text (laws.needs_uses k) left j s.store e.store change reversed (swept pr k) most
+      pub silent : (pr : present ≡ true) (k : m.kept i ≡ true) → Bw ≡ stop → SilentTests qs depth sh level xs d line c (w.needed n_test) (w.held n_test) Fw Bw ww text (laws.needs_uses k) left s.store most
+
+    costs_failed : (left j : ℕ) (s : Scene ℤ) → j < 2 ^ 63 → holds np c s.store ≡ Ok false → TestsCosts left j s s
+    costs_failed left j s small fails = record {
+      change = λ z. z;
+      reversed = [];
+      swept = λ pr k. whiles.swept_none q sh level xs d line c (w.needed n_test) (w.held n_test) Fw Bw ww text (laws.needs_uses k) left j s.store small fails;
+      price = 0;
+      pays = tests_pay_none weighed np c line left body s fails;
+      most = 0;
+      fair = omega arith;
+      told = λ pr k. tests.told_none qs depth sh level xs d line c (w.needed n_test) (w.held n_test) Fw Bw ww text (laws.needs_uses k) left j s.store s.store (λ z. z) [] (whiles.swept_none q sh level xs d line c (w.needed n_test) (w.held n_test) Fw Bw ww text (laws.needs_uses k) left j s.store small fails) fails;
+      silent = λ pr k n. tests.silent_none qs depth sh level xs d line c (w.needed n_test) (w.held n_test) Fw Bw ww text (laws.needs_uses k) left s.store fails;
+    }
+
+    -- what a turn does and takes, from test to test
+    pub record WhileTurn (s e : Scene ℤ) : Type 0 where
+      pub transposed : Transposed q lines dual sh level xs w (suc d) present ww (is_plain m (suc i) body) n_test n_test body Fw Bw s.store e.store
+      pub price : ℕ
+      pub pays : Pays weighed np body s e price
+      pub most : ℕ
+      pub fair : most ≤ rate * price
+      pub cost : present ≡ true → BothCost q sh level Fw Bw (w.needed n_test) (w.held n_test) s.store most
+
+    fair_test : (pb pr mb mr : ℕ) → mb ≤ rate * pb → mr ≤ rate * pr → mb + mr + 3 ≤ rate * (pb + pr + 1)
+    fair_test pb pr mb mr hb hr = let l = at_rate rate 1 four in let e = rate_sum rate (pb + pr) 1 in let f = rate_sum rate pb pr in omega (arith, hb, hr, l, e, f)
+
+    costs_held : (left j : ℕ) (s s1 e : Scene ℤ) → suc j < 2 ^ 63 → holds np c s.store ≡ Ok true → WhileTurn s s1 → TestsCosts left (suc j) s1 e → TestsCosts (suc left) j s e
+    costs_held left j s s1 e small held_there turn rest =
+        let t = turn.transposed in
+        record {
+          change = λ z. rest.change (t.change z);
+          reversed = rest.reversed ++ t.loops;
+          swept = λ pr k. whiles.swept_more q sh level xs d line c (w.needed n_test) (w.held n_test) Fw Bw ww text (laws.needs_uses k) left j s.store s1.store e.store t.change rest.change t.loops rest.reversed small held_there (t.sweeps pr) (rest.swept pr k);
+          price = turn.price + rest.price + 1;
+          pays = tests_pay_more weighed np c line left body s s1 e turn.price rest.price held_there turn.pays rest.pays;
+          most = turn.most + rest.most + 3;
+          fair = fair_test turn.price rest.price turn.most rest.most turn.fair rest.fair;
+          told = λ pr k.
+              tests.told_more qs depth sh level xs d line c (w.needed n_test) (w.held n_test) Fw Bw ww text (laws.needs_uses k) left j s.store s1.store e.store t.change rest.change (λ z. rest.change (t.change z)) t.loops rest.reversed (rest.reversed ++ t.loops) turn.most rest.most small held_there (t.sweeps pr) (rest.swept pr k)
+              (whiles.swept_more q sh level xs d line c (w.needed n_test) (w.held n_test) Fw Bw ww text (laws.needs_uses k) left j s.store s1.store e.store t.change rest.change t.loops rest.reversed small held_there (t.sweeps pr) (rest.swept pr k)) (turn.cost pr) (rest.told pr k);
+          silent = λ pr k n.
+              let x = tests.silent_more qs depth sh level xs d line c (w.needed n_test) (w.held n_test) Fw Bw ww text (laws.needs_uses k) left s.store s1.store t.change t.loops turn.most rest.most n held_there (t.sweeps pr) (turn.cost pr) (rest.silent pr k n) in
+              record { at = λ base f l same z k1 left1 r. let y = x.at base f l same z k1 left1 r in omega (arith, y) };
+        }
+
+    -- all tests of a run
+    tests_costs : ((s e : Scene ℤ) (k left : ℕ) → run p np body s k ≡ Done e left → WhileTurn s e) → (left j : ℕ) (s e : Scene ℤ) (k k1 : ℕ) → j + left < 2 ^ 63 → tested p np c line left body s k ≡ Done e k1 → TestsCosts left j s e
+    tests_costs each zero j s e k k1 small h = go (holds np c s.store) refl
+      where
+        go : (r : Result Bool Trap) → holds np c s.store ≡ r → TestsCosts 0 j s e
+        go (Err t) is = let g : (let o : Outcome (Scene ℤ) = Trapped t line (stand np s) in o ≡ Done e k1) = sym (rw is refl) ∙ h in absurd (cc)
+        go (Ok true) is = absurd (no_test_held p np c line body s e k k1 is h)
+        go (Ok false) is = subst (λ (z : Scene ℤ). TestsCosts 0 j s z) (done_same s e k k1 (test_failed p np c line 0 body s e k k1 is h)) (costs_failed 0 j s (omega arith) is)
+    tests_costs each (suc left) j s e k k1 small h = go (holds np c s.store) refl (λ s1 l g. tests_costs each left (suc j) s1 e l k1 (omega arith) g)
+      where
+        go : (r : Result Bool Trap) → holds np c s.store ≡ r → ((s1 : Scene ℤ) (l : ℕ) → tested p np c line left body s1 l ≡ Done e k1 → TestsCosts left (suc j) s1 e) → TestsCosts (suc left) j s e
+        go (Err t) is later = let g : (let o : Outcome (Scene ℤ) = Trapped t line (stand np s) in o ≡ Done e k1) = sym (rw is refl) ∙ h in absurd (cc)
+        go (Ok true) is later =
+            let r = test_held p np c line left body s e k k1 is h in
+            costs_held left j s r.end e (omega arith) is (each s r.end k r.rest r.turn) (later r.end r.before r.others)
+        go (Ok false) is later = subst (λ (z : Scene ℤ). TestsCosts (suc left) j s z) (done_same s e k k1 (test_failed p np c line (suc left) body s e k k1 is h)) (costs_failed (suc left) j s (omega arith) is)
+
+    -- a DO WHILE that was done
+    while_costs : ((s e : Scene ℤ) (k left : ℕ) → run p np body s k ≡ Done e left → WhileTurn s e) → (s e : Scene ℤ) (k left : ℕ) → act p np (during c body) line s k ≡ Done e left → ActCosts i d line (during c body) s e
+    while_costs each s e k left h =
+        let t = tests_costs each most_tests 0 s e k left (zero_more most_tests most_small) h in
+        let nodes = three_nodes c in
+        record {
+          price = t.price;
+          pays = t.pays;
+          most = t.most + 5;
+          fair = fair_act (weight (during c body)) t.price 5 t.most (omega (arith, nodes)) t.fair;
+          cost = λ pr.
+              cost_more qs depth sh level (forward_act plan i d line (during c body)) (backward_act plan i d line (during c body)) (w.needed (point_before i)) (w.needed n_test) (w.held (point_after i)) (w.held n_test) s.store (t.most + 5) (t.most + 5)
+              (λ v o. laws.entry.values.needs v (without_none (w.needed n_test) v o)) (λ v o. laws.exit.values.holds v (without_none (w.held n_test) v o)) (omega arith) (emitted pr t (m.kept i) refl (m.adjointed i) refl);
+        }
+      where
+        row : present ≡ true → (t : TestsCosts most_tests 0 s e) → m.kept i ≡ true → (idle : Bool) → is_empty Bw ≡ idle → BothCost q sh level (while_forward idle (suc d) line c Fw) (while_backward idle (suc d) line Bw) (w.needed n_test) (w.held n_test) s.store (t.most + 5)
+        row pr t k true o =
+            cost_more qs depth sh level (while_forward true (suc d) line c Fw) (while_backward true (suc d) line Bw) (w.needed n_test) (w.needed n_test) (w.held n_test) (w.held n_test) s.store (t.most + 1) (t.most + 5) (λ v z. z) (λ v z. z) (omega arith)
+            (tests.cost_silent qs depth sh level xs d line c (w.needed n_test) (w.held n_test) Fw Bw ww text (laws.needs_uses k) s.store t.most (t.silent pr k (empty_is Bw o)))
+        row pr t k false o = tests.cost_told qs depth sh level xs d line c (w.needed n_test) (w.held n_test) Fw Bw ww text (laws.needs_uses k) s.store e.store t.change t.reversed (t.swept pr k) t.most (t.told pr k)
+
+        emitted : present ≡ true → (t : TestsCosts most_tests 0 s e) → (k : Bool) → m.kept i ≡ k → (a : Bool) → m.adjointed i ≡ a → BothCost q sh level (code_if (k || a) (while_forward (is_empty Bw) (suc d) line c Fw)) (code_if (k || a) (while_backward (is_empty Bw) (suc d) line Bw)) (w.needed n_test) (w.held n_test) s.store (t.most + 5)
+        emitted pr t true ek a ea = row pr t ek (is_empty Bw) refl
+        emitted pr t false ek true ea = absurd (let f : true ≡ false = sym (laws.keeps_adjointed ea) ∙ ek in cc)
+        emitted pr t false ek false ea = cost_more qs depth sh level stop stop (w.needed n_test) (w.needed n_test) (w.held n_test) (w.held n_test) s.store 0 (t.most + 5) (λ v z. z) (λ v z. z) (omega arith) (cost_stop qs depth sh level (w.needed n_test) (w.held n_test) s.store)
+
+  -- ---- lists
+
+  -- an IF, by the part that ran
+  part_costs : (c : Test) (a b : Code) (i d line : ℕ) (s e : Scene ℤ) (k left : ℕ) (ran : Bool) → AllText (λ v. reads_test v c) → ChoiceLaws w i c a b → holds np c s.store ≡ Ok ran → (if ran then run p np a s k else run p np b s k) ≡ Done e left →
+      (run p np a s k ≡ Done e left → ListCosts (point_before i) (suc i) d a s e) → (run p np b s k ≡ Done e left → ListCosts (point_before i) (behind (suc i) a) d b s e) → ActCosts i d line (choose c a b) s e
+  part_costs c a b i d line s e k left true text laws is h first other =
+      let x = first h in
+      choice_costs c a b i d line s e true text laws is x.price x.pays x.most x.fair
+      (λ pr. cost_more qs depth sh level (forward plan (suc i) d a) (backward plan (suc i) d a) (w.needed (point_before i)) (w.needed (point_before i)) (w.held (point_after i)) (w.held (last_point (point_before i) (suc i) a)) s.store x.most x.most (λ v z. z) (λ v o. laws.first_end.values.holds v (without_none (w.held (last_point (point_before i) (suc i) a)) v o)) (omega arith) (x.cost pr))
+  part_costs c a b i d line s e k left false text laws is h first other =
+      let x = other h in
+      choice_costs c a b i d line s e false text laws is x.price x.pays x.most x.fair
+      (λ pr. cost_more qs depth sh level (forward plan (behind (suc i) a) d b) (backward plan (behind (suc i) a) d b) (w.needed (point_before i)) (w.needed (point_before i)) (w.held (point_after i)) (w.held (last_point (point_before i) (behind (suc i) a) b)) s.store x.most x.most (λ v z. z) (λ v o. laws.other_end.values.holds v (without_none (w.held (last_point (point_before i) (behind (suc i) a) b)) v o)) (omega arith) (x.cost pr))
+
+  -- a turn of a DO WHILE, from test to test
+  while_turn : (c : Test) (body : Code) (i d : ℕ) (s e : Scene ℤ) (laws : WhileLaws w i c body) → Transposed q lines dual sh level xs w (suc d) present (λ v. writes handed v body) (is_plain m (suc i) body) (point_inside i) (last_point (point_inside i) (suc i) body) body (forward plan (suc i) (suc d) body) (backward plan (suc i) (suc d) body) s.store e.store →
+      ListCosts (point_inside i) (suc i) (suc d) body s e → (line : ℕ) (text : AllText (λ v. reads_test v c)) → WhileTurn i d line c body laws text s e
+  while_turn c body i d s e laws t x line text = record {
+    transposed = transposed_to q lines dual sh level xs w (suc d) present (λ v. writes handed v body) (is_plain m (suc i) body) (point_inside i) (last_point (point_inside i) (suc i) body) (point_inside i) body (forward plan (suc i) (suc d) body) (backward plan (suc i) (suc d) body) s.store e.store laws.again t;
+    price = x.price;
+    pays = x.pays;
+    most = x.most;
+    fair = x.fair;
+    cost = λ pr. cost_more qs depth sh level (forward plan (suc i) (suc d) body) (backward plan (suc i) (suc d) body) (w.needed (point_inside i)) (w.needed (point_inside i)) (w.held (point_inside i)) (w.held (last_point (point_inside i) (suc i) body)) s.store x.most x.most (λ v z. z) (λ v o. laws.again.values.holds v (without_none (w.held (last_point (point_inside i) (suc i) body)) v o)) (omega arith) (x.cost pr);
+  }
+
+  -- a statement, and those after it
+  joined_costs : (line : ℕ) (a : Act) (rest : Code) (i d from : ℕ) (s s1 e : Scene ℤ) → WayLaws w from (point_before i) → ActCosts i d line a s s1 → ListCosts (point_after i) (next i a) d rest s1 e →
+      Transposed q lines dual sh level xs w d present (λ x. writes handed x (one line a)) (is_plain m i (one line a)) from (point_after i) (one line a) (forward plan i d (one line a)) (backward plan i d (one line a)) s.store s1.store →
+      Transposed q lines dual sh level xs w d present (λ x. writes handed x rest) (is_plain m (next i a) rest) (point_after i) (last_point (point_after i) (next i a) rest) rest (forward plan (next i a) d rest) (backward plan (next i a) d rest) s1.store e.store → ListCosts from i d (step line a rest) s e
+  joined_costs line a rest i d from s s1 e way x y t1 t2 =
+      let sum = rate_sum rate (weight a + x.price) y.price in
+      let fx = x.fair in let fy = y.fair in
+      record {
+        price = own_nodes a + 1 + x.price + y.price;
+        pays = pays_step weighed np line a rest s s1 e x.price y.price x.pays y.pays;
+        most = x.most + y.most;
+        fair = omega (arith, sum, fx, fy);
+        cost = λ pr.
+            cost_append qs depth sh level xs d (forward_act plan i d line a) (forward plan (next i a) d rest) (backward_act plan i d line a) (backward plan (next i a) d rest) (w.needed from) (w.needed (point_after i)) (w.needed (last_point (point_after i) (next i a) rest)) (w.held from) (w.held (point_after i)) (w.held (last_point (point_after i) (next i a) rest)) (λ v. writes handed v (one line a)) (λ v. writes handed v rest)
+            s.store s1.store e.store t1.change t2.change t1.loops t2.loops x.most y.most
+            (subst (λ f. Sweeps q sh level xs d f (backward_act plan i d line a) (w.needed from) (w.needed (point_after i)) (w.held from) (w.held (point_after i)) (λ v. writes handed v (one line a)) s.store s1.store t1.change t1.loops) (append-stop (forward_act plan i d line a)) (t1.sweeps pr)) (t2.sweeps pr)
+            (cost_more qs depth sh level (forward_act plan i d line a) (backward_act plan i d line a) (w.needed from) (w.needed (point_before i)) (w.held (point_after i)) (w.held (point_after i)) s.store x.most x.most (λ v o. way.values.needs v (without_none (w.needed (point_before i)) v o)) (λ v z. z) (omega arith) (x.cost pr)) (y.cost pr);
+      }
+
+  -- what lists transpose, and calls that were done
+  module _
+      (lists : (c : Code) (i d from : ℕ) (s e : Scene ℤ) (k left : ℕ) → FitsList lines ps callees answers carried present m vars arrays handed i c → ListLaws callees w from i c → run p np c s k ≡ Done e left → Transposed q lines dual sh level xs w d present (λ x. writes handed x c) (is_plain m i c) from (last_point from i c) c (forward plan i d c) (backward plan i d c) s.store e.store)
+      (keeps : (c : Code) (s e : Scene ℤ) (k left : ℕ) → run p np c s k ≡ Done e left → (x : Var) → writes handed x c ≡ false → (j : ℕ) → e.store x j ≡ s.store x j)
+      (calls : (name given : _) (i d line : ℕ) (s e : Scene ℤ) (k left : ℕ) → CallLaws w i (callees name) given → CallFits ps vars arrays (callees name) name given → (present ≡ true → m.adjointed i ≡ true → answers name ≡ true) → (present ≡ true → m.kept i ≡ true → carried name ≡ true) → p np name (actuals_named given) line s k ≡ Done e left → ActCosts i d line (call name (actuals_named given)) s e) where
+    mutual
+      act_costs : (a : Act) (i d line : ℕ) (s e : Scene ℤ) (k left : ℕ) → Fits' lines ps callees answers carried present m vars arrays handed i line a → ActLaws callees w i a → act p np a line s k ≡ Done e left → ActCosts i d line a s e
+      act_costs (assign (plain x) subs a) i d line s e k left f laws h =
+          let l = at_rate rate (weight (assign (plain x) subs a)) four in
+          let z : weight (assign (plain x) subs a) + 0 ≡ weight (assign (plain x) subs a) = omega arith in
+          record {
+            price = 0;
+            pays = pays_assign weighed np p line (plain x) subs a s e k left h;
+            most = 4 * weight (assign (plain x) subs a);
+            fair = subst (λ y. 4 * weight (assign (plain x) subs a) ≤ rate * y) (sym z) l;
+            cost = λ pr. cost_assign plan i d line x subs a qs depth sh level (w.needed (point_before i)) (w.held (point_after i)) s.store;
+          }
+      act_costs (assign (shadow x) subs a) i d line s e k left f laws h = absurd f
+      act_costs (assign (helper r x) subs a) i d line s e k left f laws h = absurd f
+      act_costs (choose c a b) i d line s e k left f laws h =
+          let v = value_done (holds np c s.store) line _ (λ t. if t then run p np a s k else run p np b s k) e left h in
+          part_costs c a b i d line s e k left v.value f.0 laws.0 v.is v.goes
+          (λ g. list_costs a (suc i) d (point_before i) s e k left f.1.0 laws.1.0 g)
+          (λ g. list_costs b (behind (suc i) a) d (point_before i) s e k left f.1.1 laws.1.1 g)
+      act_costs (loop (plain x) a b c body mark) i d line s e k left f laws h =
+          do_costs x a b c body mark i d line s e k left f.0 laws.0 h
+          (λ a0 c0 s0 e0 k0 l0 g. record {
+            transposed = lists body (suc i) (suc d) (point_inside i) s0 e0 k0 l0 f.1 laws.1 g;
+            keeps = keeps body s0 e0 k0 l0 g (plain x) f.0.spares 0;
+            costs = list_costs body (suc i) (suc d) (point_inside i) s0 e0 k0 l0 f.1 laws.1 g;
+          })
+      act_costs (loop (shadow x) a b c body mark) i d line s e k left f laws h = absurd f
+      act_costs (loop (helper r x) a b c body mark) i d line s e k left f laws h = absurd f
+      act_costs (during c body) i d line s e k left f laws h =
+          while_costs i d line c body laws.0 f.0
+          (λ s0 e0 k0 l0 g. while_turn c body i d s0 e0 (laws.0) (lists body (suc i) (suc d) (point_inside i) s0 e0 k0 l0 f.1 laws.1 g) (list_costs body (suc i) (suc d) (point_inside i) s0 e0 k0 l0 f.1 laws.1 g) line f.0) s e k left h
+      act_costs (call name args) i d line s e k left f laws h =
+          let given = laws.0 in
+          let is : args ≡ actuals_named given = laws.1.0 in
+          subst (λ es. ActCosts i d line (call name es) s e) (sym is) (calls name given i d line s e k left laws.1.1 (f.0 given is) f.1.0 f.1.1 (ap (λ es. p np name es line s k) (sym is) ∙ h))
+      act_costs (runtime r) i d line s e k left f laws h = absurd f
+
+      pub list_costs : (c : Code) (i d from : ℕ) (s e : Scene ℤ) (k left : ℕ) → FitsList lines ps callees answers carried present m vars arrays handed i c → ListLaws callees w from i c → run p np c s k ≡ Done e left → ListCosts from i d c s e
+      list_costs stop i d from s e k left f laws h =
+          subst (λ (z : Scene ℤ). ListCosts from i d stop s z) (done_same s e k left h) (record { price = 0; pays = pays_stop weighed np s; most = 0; fair = omega arith; cost = λ pr. cost_stop qs depth sh level (w.needed from) (w.held from) s.store })
+      list_costs (step line a rest) i d from s e k left f laws h =
+          let r = count_done _ k (λ j. then_do (act p np a line s j) (run p np rest)) e left h in
+          let o = then_done (act p np a line s r.left) (run p np rest) e left r.goes in
+          joined_costs line a rest i d from s o.scene e laws.0
+          (act_costs a i d line s o.scene r.left o.left f.0 laws.1.0 o.first) (list_costs rest (next i a) d (point_after i) o.scene e o.left left f.1 laws.1.1 o.second)
+          (lists (one line a) i d from s o.scene (suc r.left) o.left (f.0, tt) (laws.0, (laws.1.0, tt)) (ap (λ z. then_do z (run p np stop)) o.first))
+          (lists rest (next i a) d (point_after i) o.scene e o.left left f.1 laws.1.1 o.second)
