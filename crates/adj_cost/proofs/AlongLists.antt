@@ -150,7 +150,6 @@ module _ (ps qs : List Procedure) (depth : ℕ) (lines : ℕ → Bool) (handed :
       emitted x false ek true et = absurd (let r : true ≡ false = sym (laws.keeps_adjointed et) ∙ ek in cc)
       emitted x false ek false et = cost_more qs depth sh level stop stop n n h h s.store 0 (most + 4) (λ v z. z) (λ v z. z) (omega arith) (cost_stop qs depth sh level n h s.store)
 
-
   -- ---- a DO
 
   module _ (i d line : ℕ) (x : List ℕ) (one_cell : size_of (sh (plain x)) ≡ 1) (ea eb ec : Term) (body : Code) (laws : LoopLaws w i (plain x) ea eb ec body) (spares : writes handed (plain x) body ≡ false) (a0 c0 : ℤ) where
