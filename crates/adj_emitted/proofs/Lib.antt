@@ -35,3 +35,4 @@ pub mod RenamedWrites
 pub mod HandedBack
 pub mod WriteFaults
 pub mod SoundPrograms
+pub mod Depths

@@ -1,7 +1,7 @@
 -- That what is emitted for a checked program can be written as a text, and has no faults. (docs/THEOREMS.md, "Sweeps of every statement")
-use Rattle.std.specs.Prelude.{◌≡◌, ◌≤◌, ℕ, List, [], ◌∷◌, ◌++◌, flat_map, Bool}
-use Rattle.adj_tree.specs.Code.{Procedure}
-use Rattle.adj_tree.specs.Size.{code_depth}
+use Rattle.std.specs.Prelude.{◌≡◌, ◌≤◌, ℕ, ◌+◌, max, List, [], ◌∷◌, ◌++◌, flat_map, Bool}
+use Rattle.adj_tree.specs.Code.{Runtime, push_word, pop_word, push_array, pop_array, push_control, pop_control, zero_array, begin_reversal, count_actions, give_action, end_reversal, Act, assign, choose, loop, during, call, runtime, Code, stop, step, Procedure}
+use Rattle.adj_tree.specs.Size.{term_depth, terms_depth, test_depth, code_depth}
 use Rattle.adj_text.specs.Written.{IsWritten}
 use Rattle.adj_names.specs.Fault.{Rules, run_rules}
 use Rattle.adj_names.specs.UnitFaults.{unit_faults}
@@ -86,3 +86,40 @@ IsNested n (u ∷ us) = (code_depth u.body ≤ n) × IsNested n us
 -- what is emitted is nested no deeper than the source
 abbrev pub KeepsNesting : Type 0
 KeepsNesting = (n : ℕ) (ps : List Procedure) → IsNested n ps → (m : ProgramMarks) (head : ℕ) (vars outvars : List Bool) → IsNested n (emitted_program m ps head vars outvars)
+
+-- the depth of the deepest expression or condition in a statement, whose bodies count too
+abbrev pub runtime_deepest : Runtime → ℕ
+runtime_deepest (push_word x s) = terms_depth s
+runtime_deepest (pop_word x s) = terms_depth s
+runtime_deepest (push_array x) = 0
+runtime_deepest (pop_array x) = 0
+runtime_deepest (push_control e) = term_depth e
+runtime_deepest (pop_control x) = 0
+runtime_deepest (zero_array x) = 0
+runtime_deepest (begin_reversal l s) = max (term_depth l) (term_depth s)
+runtime_deepest (count_actions l s n) = max (term_depth l) (term_depth s)
+runtime_deepest (give_action l s k a f t) = max (term_depth l) (max (term_depth s) (term_depth k))
+runtime_deepest end_reversal = 0
+
+abbrev mutual
+  pub act_deepest : Act → ℕ
+  act_deepest (assign x s e) = max (terms_depth s) (term_depth e)
+  act_deepest (choose c a b) = max (test_depth c) (max (deepest a) (deepest b))
+  act_deepest (loop x a b c body m) = max (term_depth a) (max (term_depth b) (max (term_depth c) (deepest body)))
+  act_deepest (during c body) = max (test_depth c) (deepest body)
+  act_deepest (call name es) = terms_depth es
+  act_deepest (runtime r) = runtime_deepest r
+
+  -- in a list
+  pub deepest : Code → ℕ
+  deepest stop = 0
+  deepest (step line a rest) = max (act_deepest a) (deepest rest)
+
+-- no expression and no condition of these units is deeper
+abbrev pub AreShallow : ℕ → List Procedure → Type 0
+AreShallow n [] = Unit {0}
+AreShallow n (u ∷ us) = (deepest u.body ≤ n) × AreShallow n us
+
+-- what is emitted has expressions that are at most 3 deeper than those of the source
+abbrev pub KeepsDepth : Type 0
+KeepsDepth = (n : ℕ) (ps : List Procedure) → AreShallow n ps → (m : ProgramMarks) (head : ℕ) (vars outvars : List Bool) → AreShallow (n + 3) (emitted_program m ps head vars outvars)

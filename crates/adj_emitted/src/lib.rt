@@ -5,7 +5,7 @@
 //! the text that is written for an adjoint reads as that adjoint.
 #![tactic(auto)]
 
-ghost use Rattle.adj_emitted.specs.Emitted.{MarkedIsWritten, EmittedIsWritten, LawfulHaveShadows, UnitsHaveNone, NamesHaveNone, CallsHaveNone, ActualsHaveNone, ChainsHaveNone, WritesHaveNone, MarkedIsSound, EmittedIsSound, KeepsNesting};
+ghost use Rattle.adj_emitted.specs.Emitted.{MarkedIsWritten, EmittedIsWritten, LawfulHaveShadows, UnitsHaveNone, NamesHaveNone, CallsHaveNone, ActualsHaveNone, ChainsHaveNone, WritesHaveNone, MarkedIsSound, EmittedIsSound, KeepsNesting, KeepsDepth};
 
 /// What is emitted can be written as a text, by any marks whose shadows are there, and so by full marks.
 pub fn written_law()
@@ -57,4 +57,9 @@ pub fn sound_law()
 /// It is nested no deeper than the source.
 pub fn nesting_law()
     ensures { KeepsNesting }
+{}
+
+/// Its expressions and conditions are at most 3 deeper than those of the source.
+pub fn depth_law()
+    ensures { KeepsDepth }
 {}
