@@ -1,11 +1,3 @@
 -- The counts.
 pub mod Counting
 pub mod Nests
-pub mod Runs
-pub mod Along
-pub mod AlongAssignments
-pub mod AlongTurns
-pub mod AlongLoops
-pub mod AlongWhiles
-pub mod Prices
-pub mod AlongLists
