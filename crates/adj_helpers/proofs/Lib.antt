@@ -1,0 +1,7 @@
+pub mod Flags
+mod Idle
+mod Saved
+mod Branches
+mod Passed
+mod Added
+mod Among

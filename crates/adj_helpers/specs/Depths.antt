@@ -1,0 +1,28 @@
+-- Sets of depths, and those at which loops go back.
+use Rattle.std.specs.Prelude.{◌≡◌, ℕ, List, Bool, false, ◌||◌, ◌&&◌, ◌==◌, not, get_or}
+use Rattle.adj_tree.specs.Code.{Act, Code}
+use Rattle.adj_reverse.specs.Plan.{Plan}
+use Rattle.adj_reverse.specs.Program.{is_do, is_loop, goes_back_act, goes_back}
+use Rattle.adj_helpers.specs.declared.depths.Depths.{Depths}
+
+-- whether the depth is in the set, which has a flag for each depth that it knows
+abbrev pub has_depth : List Bool → ℕ → Bool
+has_depth flags k = get_or flags k false
+
+-- a depth is added, unless the loop that has it is idle
+abbrev pub IsAdded : ℕ → Bool → List Bool → List Bool → Type 0
+IsAdded depth idle old new = (k : ℕ) → has_depth new k ≡ (has_depth old k || ((k == depth) && not idle))
+
+-- the same depths
+abbrev pub IsSame : List Bool → List Bool → Type 0
+IsSame old new = (k : ℕ) → has_depth new k ≡ has_depth old k
+
+-- the depths of a statement's loops that go back are added
+pub record AddsAct (p : Plan) (d i : ℕ) (a : Act) (old new : Depths) : Type 0 where
+  pub dos : (k : ℕ) → has_depth new.dos.items k ≡ (has_depth old.dos.items k || goes_back_act is_do k p i d a)
+  pub loops : (k : ℕ) → has_depth new.loops.items k ≡ (has_depth old.loops.items k || goes_back_act is_loop k p i d a)
+
+-- those of a list
+pub record AddsList (p : Plan) (d i : ℕ) (c : Code) (old new : Depths) : Type 0 where
+  pub dos : (k : ℕ) → has_depth new.dos.items k ≡ (has_depth old.dos.items k || goes_back is_do k p i d c)
+  pub loops : (k : ℕ) → has_depth new.loops.items k ≡ (has_depth old.loops.items k || goes_back is_loop k p i d c)

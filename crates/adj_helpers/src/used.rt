@@ -1,0 +1,125 @@
+//! The helpers that the adjoint of a unit uses (docs/EMITTED.md, "The unit"). Lists are gone through by loops.
+
+ghost use Rattle.std.specs.Prelude.{◌≡◌, ℕ, List, map, IfOk, OnOk};
+ghost use Rattle.adj_tree.specs.View.{act_of, code_of};
+ghost use Rattle.adj_transpose.specs.Marks.{Vars};
+ghost use Rattle.adj_reverse.specs.Plan.{Callee};
+ghost use Rattle.adj_reverse.specs.Program.{helpers_used};
+ghost use Rattle.adj_naming.specs.Roles.{variable_of};
+ghost use Rattle.adj_helpers.specs.Callees.{KnowsAll};
+ghost use Rattle.adj_helpers.specs.Depths.{AddsAct, AddsList};
+ghost use Rattle.adj_helpers.specs.Uses.{plan_by, UsesAct, UsesList, helpers_of};
+
+use crate::depths::{Depths, push_among};
+use crate::measure::plus;
+use crate::uses::{Known, Used};
+use adj_naming::role::{Helper, Role, push_helpers};
+use adj_tree::{Act, Memory, Stmt, Stmts};
+use std::alloc::Global;
+
+impl<'a> Known<'a> {
+    // What a statement uses, in as many loops as the depth says. The depths of its loops that go back are added.
+    #[cycle(walk)]
+    fn statement(
+        &self,
+        stmt: &Stmt,
+        number: usize,
+        depth: usize,
+        depths: &mut Depths,
+    ) -> Result<Used, Memory>
+        ensures uses { IfOk result (λ u. (arrays : Vars) (callees : List ℕ → Callee) → KnowsAll self.now.callees.now callees → UsesAct (plan_by self.now arrays callees) depth number (act_of stmt.now.act) u) }
+        ensures adds { OnOk result ((arrays : Vars) (callees : List ℕ → Callee) → KnowsAll self.now.callees.now callees → AddsAct (plan_by self.now arrays callees) depth number (act_of stmt.now.act) depths.old depths.new) }
+    {
+        match &stmt.act {
+            Act::Assign(place, e) => {
+                let used = self.assignment(number, place, e)?;
+                Ok(used)
+            }
+            Act::If(_, a, b) => {
+                let begun = plus(number, 1)?;
+                let first = self.list(a, begun, depth, depths)?;
+                let second = self.list(b, first.number, depth, depths)?;
+                Ok(self.branch(number, first, second))
+            }
+            Act::Loop(x, _, _, _, body, _) => {
+                let begun = plus(number, 1)?;
+                let inside = plus(depth, 1)?;
+                let inner = self.list(body, begun, inside, depths)?;
+                depths.add_do(inside, inner.idle)?;
+                Ok(self.do_loop(number, inside, x, inner))
+            }
+            Act::While(_, body) => {
+                let begun = plus(number, 1)?;
+                let inside = plus(depth, 1)?;
+                let inner = self.list(body, begun, inside, depths)?;
+                depths.add_while(inside, inner.idle)?;
+                Ok(self.while_loop(number, inside, inner))
+            }
+            Act::Call(name, actuals) => {
+                let used = self.call(number, name, actuals)?;
+                Ok(used)
+            }
+            Act::Run(_) => {
+                let next = plus(number, 1)?;
+                Ok(Used::nothing(next))
+            }
+        }
+    }
+
+    // The same of a list whose first statement has this number.
+    #[cycle(walk)]
+    fn list(
+        &self,
+        body: &Stmts,
+        number: usize,
+        depth: usize,
+        depths: &mut Depths,
+    ) -> Result<Used, Memory>
+        ensures uses { IfOk result (λ u. (arrays : Vars) (callees : List ℕ → Callee) → KnowsAll self.now.callees.now callees → UsesList (plan_by self.now arrays callees) depth number (code_of body.now) u) }
+        ensures adds { OnOk result ((arrays : Vars) (callees : List ℕ → Callee) → KnowsAll self.now.callees.now callees → AddsList (plan_by self.now arrays callees) depth number (code_of body.now) depths.old depths.new) }
+    {
+        let mut made = Used::nothing(number);
+        let mut current = body;
+        while let Stmts::More(stmt, left) = current {
+            let used = self.statement(stmt, made.number, depth, depths)?;
+            made = made.with_next(used);
+            current = left;
+        }
+        Ok(made)
+    }
+}
+
+// The helpers of what is used, in the order of their declarations.
+fn helpers(alloc: Global, used: &Used, depths: &Depths) -> Result<Vec<Helper>, Memory>
+    ensures helpers { IfOk result (λ v. map variable_of v.items ≡ helpers_of used.now depths.now) }
+{
+    let mut made = Vec::new(alloc);
+    if used.tells {
+        made.push(Helper {
+            role: Role::Control,
+            number: 0,
+        })?;
+    }
+    push_among(&mut made, Role::Count, depths.loops.as_slice(), used.depth)?;
+    push_among(&mut made, Role::First, depths.dos.as_slice(), used.depth)?;
+    push_among(&mut made, Role::Stride, depths.dos.as_slice(), used.depth)?;
+    push_among(&mut made, Role::Turn, depths.loops.as_slice(), used.depth)?;
+    push_helpers(&mut made, Role::Work, used.works)?;
+    push_helpers(&mut made, Role::Temp, used.temps)?;
+    Ok(made)
+}
+
+/// The helpers that the adjoint of a unit uses, in the order of their declarations, where the first statement of its body has this number.
+pub fn helpers_used(
+    alloc: Global,
+    known: &Known,
+    number: usize,
+    body: &Stmts,
+) -> Result<Vec<Helper>, Memory>
+    ensures helpers { IfOk result (λ v. (arrays : Vars) (callees : List ℕ → Callee) → KnowsAll known.now.callees.now callees → map variable_of v.items ≡ helpers_used (plan_by known.now arrays callees) number (code_of body.now)) }
+{
+    let mut depths = Depths::new(alloc);
+    let used = known.list(body, number, 0, &mut depths)?;
+    let made = helpers(alloc, &used, &depths)?;
+    Ok(made)
+}
