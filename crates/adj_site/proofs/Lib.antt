@@ -1,0 +1,6 @@
+pub mod Plain
+pub mod Onto
+mod Idle
+mod Behind
+mod Elements
+mod Adjoints

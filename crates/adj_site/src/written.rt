@@ -1,0 +1,99 @@
+//! What becomes of an adjoint, written (docs/EMITTED.md, "The adjoint of an assignment").
+
+ghost use Rattle.std.specs.Prelude.{◌≡◌, IfOk};
+ghost use Rattle.adj_tree.specs.Code.{plain, helper, work, var, elem, bin, plus, none, assign};
+ghost use Rattle.adj_tree.specs.View.{terms_of, code_of};
+ghost use Rattle.adj_meaning.specs.Append.{◌+++◌, one};
+ghost use Rattle.adj_share.specs.Shares.{scaled_by, share_code};
+ghost use Rattle.adj_site.specs.Sites.{naming_of};
+
+use crate::site::Site;
+use crate::sizes::plus;
+use crate::step::{assignment, before, scalar_assignment};
+use crate::terms::sum;
+use adj_naming::role::Role;
+use adj_share::share::{Factor, Share};
+use adj_tree::{Expr, Exprs, Memory, Name, Stmts};
+use std::alloc::Global;
+
+impl<'a> Site<'a> {
+    // The work variable is added to a shadow of a scalar.
+    fn grow_scalar(
+        &self,
+        alloc: Global,
+        shadow: &Name,
+        number: usize,
+        rest: Stmts,
+    ) -> Result<Stmts, Memory>
+        ensures step { IfOk result (λ c. code_of c ≡ one self.now.line (assign (plain shadow.now) none (bin plus (var (plain shadow.now)) (var (naming_of self.now (helper work number))))) +++ code_of rest) }
+    {
+        let old = Expr::Var(shadow.copy(alloc)?);
+        let more = sum(alloc, old, self.work_var(alloc, number)?)?;
+        let target = shadow.copy(alloc)?;
+        let code = before(alloc, scalar_assignment(self.line, target, more), rest)?;
+        Ok(code)
+    }
+
+    // The work variable is added to an element of a shadow.
+    fn grow_element(
+        &self,
+        alloc: Global,
+        shadow: &Name,
+        subs: &Exprs,
+        number: usize,
+        rest: Stmts,
+    ) -> Result<Stmts, Memory>
+        ensures step { IfOk result (λ c. code_of c ≡ one self.now.line (assign (plain shadow.now) (terms_of subs.now) (bin plus (elem (plain shadow.now) (terms_of subs.now)) (var (naming_of self.now (helper work number))))) +++ code_of rest) }
+    {
+        let old = Expr::Elem(shadow.copy(alloc)?, subs.copy(alloc)?);
+        let more = sum(alloc, old, self.work_var(alloc, number)?)?;
+        let target = shadow.copy(alloc)?;
+        let places = subs.copy(alloc)?;
+        let code = before(alloc, assignment(self.line, target, places, more), rest)?;
+        Ok(code)
+    }
+
+    // The next work variable becomes the product of the work variable with a factor.
+    fn scale(
+        &self,
+        alloc: Global,
+        factor: &Factor,
+        number: usize,
+        next: usize,
+        rest: Stmts,
+    ) -> Result<Stmts, Memory>
+        ensures step { IfOk result (λ c. code_of c ≡ one self.now.line (assign (naming_of self.now (helper work next)) none (scaled_by factor.now (var (naming_of self.now (helper work number))))) +++ code_of rest) }
+    {
+        let value = factor.times(alloc, self.work_var(alloc, number)?)?;
+        let target = self.names.helper(alloc, Role::Work, next)?;
+        let code = before(alloc, scalar_assignment(self.line, target, value), rest)?;
+        Ok(code)
+    }
+
+    /// What becomes of the adjoint in the work variable of this number, and then the rest.
+    pub(crate) fn write_share(
+        &self,
+        alloc: Global,
+        share: &Share,
+        number: usize,
+        rest: Stmts,
+    ) -> Result<Stmts, Memory>
+        ensures steps { IfOk result (λ c. code_of c ≡ share_code (naming_of self.now) self.now.line share.now number +++ code_of rest) }
+    {
+        match share {
+            Share::Nothing => Ok(rest),
+            Share::Scalar(x) => self.grow_scalar(alloc, x, number, rest),
+            Share::Element(x, subs) => self.grow_element(alloc, x, subs, number, rest),
+            Share::Both(a, b) => {
+                let second = self.write_share(alloc, b, number, rest)?;
+                let code = self.write_share(alloc, a, number, second)?;
+                Ok(code)
+            }
+            Share::Scaled(factor, inner) => {
+                let next = plus(number, 1)?;
+                let tail = self.write_share(alloc, inner, next, rest)?;
+                self.scale(alloc, factor, number, next, tail)
+            }
+        }
+    }
+}
