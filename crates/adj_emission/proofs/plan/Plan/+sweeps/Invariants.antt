@@ -1,0 +1,15 @@
+-- The sweeps of the statements before those that are left are made.
+use Rattle.std.proofs.Common.{◌≤◌, ℕ, List}
+use Rattle.adj_tree.specs.declared.stmt.Stmts.{size-Stmts}
+use Rattle.adj_tree.specs.View.{code_of}
+use Rattle.adj_reverse.specs.Plan.{Callee}
+use Rattle.adj_helpers.specs.Callees.{KnowsAll}
+use Rattle.adj_emission.specs.Plans.{naming_in, plan_of}
+use Rattle.adj_emission.proofs.Passed.{Passed}
+use Rattle.adj_emission.proofs.plan.Plan.+sweeps.Given as goal
+
+abbrev pub invariant-list-loop-current : goal.invariant-list-loop-current
+invariant-list-loop-current l = record {
+  no_deeper : size-Stmts l.current ≤ size-Stmts l.initial.current;
+  passed : (callees : List ℕ → Callee) → KnowsAll l.self.callees.now callees → Passed (naming_in l.self) (plan_of l.self callees) l.depth l.number (code_of l.body) (code_of l.fn.rest) (code_of l.current) l.made;
+}

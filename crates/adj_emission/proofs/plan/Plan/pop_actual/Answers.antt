@@ -1,0 +1,21 @@
+use Rattle.std.proofs.Common.{◌∙◌, sym, ap, ◌∷◌, []}
+use Rattle.std.specs.Prelude.{if◌then◌else◌}
+use Rattle.adj_tree.specs.View.{code_of}
+use Rattle.adj_meaning.specs.Append.{◌+++◌}
+use Rattle.adj_reverse.specs.Emission.{pops}
+use Rattle.adj_emission.specs.Plans.{plan_of}
+use Rattle.adj_emission.proofs.plan.Plan.pop_actual.Goals as goal
+
+pub returns-then-not-is_in : goal.returns-then-not-is_in
+returns-then-not-is_in c =
+    let a = c.args.actual.now in
+    record {
+      popped = λ callees. ap (λ b. pops (plan_of c.args.self.now callees) c.args.line (if b then a.name ∷ [] else []) +++ code_of c.args.rest) (sym (sym c.is_in.ensures.member ∙ c.if-not-is_in.true));
+    }
+
+pub returns : goal.returns
+returns c =
+    let a = c.args.actual.now in
+    record {
+      popped = λ callees. c.in_ok-code.ensures.popped callees ∙ ap (λ b. pops (plan_of c.args.self.now callees) c.args.line (if b then a.name ∷ [] else []) +++ code_of c.args.rest) (sym (sym c.is_in.ensures.member ∙ c.if-not-is_in.false));
+    }

@@ -1,0 +1,23 @@
+use Rattle.std.proofs.Common.{◌∙◌, sym, ap, ◌∷◌, []}
+use Rattle.std.specs.Prelude.{if◌then◌else◌}
+use Rattle.adj_tree.specs.View.{code_of}
+use Rattle.adj_meaning.specs.Append.{◌+++◌}
+use Rattle.adj_meaning.proofs.Appends.{append-stop}
+use Rattle.adj_reverse.specs.Emission.{pushes}
+use Rattle.adj_emission.specs.Plans.{plan_of}
+use Rattle.adj_emission.specs.Swept.{in_order}
+use Rattle.adj_emission.proofs.plan.Plan.push_actual.Goals as goal
+
+pub returns-then-not-is_in : goal.returns-then-not-is_in
+returns-then-not-is_in c =
+    let a = c.args.actual.now in
+    record {
+      pushed = λ callees. sym (append-stop (in_order (code_of c.args.turned))) ∙ ap (λ b. in_order (code_of c.args.turned) +++ pushes (plan_of c.args.self.now callees) c.args.line (if b then a.name ∷ [] else [])) (sym (sym c.is_in.ensures.member ∙ c.if-not-is_in.true));
+    }
+
+pub returns : goal.returns
+returns c =
+    let a = c.args.actual.now in
+    record {
+      pushed = λ callees. c.in_ok-code.ensures.pushed callees ∙ ap (λ b. in_order (code_of c.args.turned) +++ pushes (plan_of c.args.self.now callees) c.args.line (if b then a.name ∷ [] else [])) (sym (sym c.is_in.ensures.member ∙ c.if-not-is_in.false));
+    }

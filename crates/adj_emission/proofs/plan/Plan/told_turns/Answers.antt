@@ -1,0 +1,32 @@
+use Rattle.std.proofs.Common.{◌≡◌, ◌∙◌, refl, ap}
+use Rattle.std.specs.Prelude.{pos}
+use Rattle.adj_tree.specs.Code.{plain, helper, first, stride, count, plus, var, lit, bin, none, assign, loop, runtime, push_word, unmarked, step, Code}
+use Rattle.adj_tree.specs.Listed.{code_turned}
+use Rattle.adj_tree.specs.View.{term_of, code_of}
+use Rattle.adj_meaning.specs.Append.{◌+++◌, one}
+use Rattle.adj_emission.specs.Plans.{naming_in}
+use Rattle.adj_emission.specs.Swept.{in_order}
+use Rattle.adj_emission.proofs.Turned.{turned_before}
+use Rattle.adj_emission.proofs.Rows.{counted_named, told_turns_named}
+use Rattle.adj_emission.proofs.plan.Plan.told_turns.Goals as goal
+
+pub returns : goal.returns
+returns c =
+    let r = naming_in c.args.self.now in
+    let at = c.args.at in
+    let d = at.depth in
+    let line = at.line in
+    let b = c.args.bounds.now in
+    let x = b.variable.now in
+    let t = code_of c.args.turned in
+    let body = code_turned (code_of c.args.body) (one line (assign (r (helper count d)) none (bin plus (var (r (helper count d))) (lit (pos 1))))) in
+    let turns = loop (plain x) (var (r (helper first d))) (term_of b.limit.now) (var (r (helper stride d))) body unmarked in
+    let opened = step line (assign (r (helper count d)) none (lit (pos 0))) (step line (assign (r (helper stride d)) none (term_of b.step.now)) (step line (assign (r (helper first d)) none (term_of b.first.now)) t)) in
+    let close = λ (z : Code). step line (runtime (push_word (r (helper count d)) none)) (step line (runtime (push_word (r (helper stride d)) none)) (step line (runtime (push_word (r (helper first d)) none)) z)) in
+    let gone : code_of c.in_ok-gone.gone ≡ step line turns opened = c.in_ok-gone.ensures.step ∙ (λ i. step (c.in_ok-turns.ensures.line i) (c.in_ok-turns.ensures.act i) (c.in_ok-opened.ensures.opened i)) in
+    record {
+      told = λ inner h.
+          ap in_order (c.in_ok-code.ensures.closed ∙ ap close gone)
+          ∙ turned_before t _
+          ∙ ap (λ z. in_order t +++ z) (told_turns_named r (λ y. refl) d line x b.first.now b.limit.now b.step.now body inner (counted_named r (λ y. refl) d line (code_of c.args.body) inner h));
+    }

@@ -1,0 +1,4 @@
+pub mod Plans
+pub mod Rows
+pub mod Swept
+pub mod Actuals

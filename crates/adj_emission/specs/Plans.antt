@@ -1,0 +1,22 @@
+-- What a plan of the code says: the naming of the unit, and the plan that its sweeps follow.
+use Rattle.std.specs.Prelude.{ℕ, List, false}
+use Rattle.adj_tree.specs.Code.{Var, plain}
+use Rattle.adj_transpose.specs.Fresh.{has_name}
+use Rattle.adj_transpose.specs.Marks.{Vars}
+use Rattle.adj_reverse.specs.Plan as sweeps
+use Rattle.adj_naming.specs.Table.{named_by}
+use Rattle.adj_marking.specs.View.{marks_of}
+use Rattle.adj_emission.specs.declared.plan.Plan.{Plan}
+
+-- the variables under the names of the unit
+abbrev pub naming_in : Plan → Var → Var
+naming_in p = named_by p.names.now
+
+-- the variables of these names
+abbrev pub named_among : List (List ℕ) → Vars
+named_among xs (plain x) = has_name x xs
+named_among xs v = false
+
+-- the plan, where this is known of the units that are called
+abbrev pub plan_of : Plan → (List ℕ → sweeps.Callee) → sweeps.Plan
+plan_of p callees = record { marks = marks_of p.marks.now; arrays = named_among p.arrays.now; callees = callees }

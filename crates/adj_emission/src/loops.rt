@@ -1,0 +1,244 @@
+//! The turns of loops, forward and backward (docs/EMITTED.md, "Sweeps of every statement").
+
+ghost use Rattle.std.specs.Prelude.{◌≡◌, IfOk, pos, false};
+ghost use Rattle.adj_tree.specs.Code.{Code, plain, helper, first, stride, count, turn, plus, minus, times, var, lit, neg, bin, none, assign, runtime, push_word, step};
+ghost use Rattle.adj_tree.specs.Listed.{code_turned};
+ghost use Rattle.adj_tree.specs.View.{term_of, act_of, code_of};
+ghost use Rattle.adj_meaning.specs.Append.{◌+++◌, one};
+ghost use Rattle.adj_meaning.specs.Rename.{rename};
+ghost use Rattle.adj_reverse.specs.Emission.{loop_forward, loop_backward, resets, reset};
+ghost use Rattle.adj_marking.specs.View.{marks_of};
+ghost use Rattle.adj_emission.specs.Plans.{naming_in};
+ghost use Rattle.adj_emission.specs.Rows.{turns};
+ghost use Rattle.adj_emission.specs.Swept.{in_order};
+
+use crate::plan::{At, Plan};
+use adj_naming::role::{Helper, Role};
+use adj_site::step::{before, scalar_assignment};
+use adj_site::terms::sum;
+use adj_tree::{Act, Expr, Mark, Memory, Name, Op, Stmt, Stmts};
+use std::alloc::Global;
+
+/// The variable of a DO, its first value, its limit and its step.
+#[derive(Clone, Copy)]
+pub struct Bounds<'b> {
+    pub variable: &'b Name,
+    pub first: &'b Expr,
+    pub limit: &'b Expr,
+    pub step: &'b Expr,
+}
+
+/// The helper of a role for loops of a depth.
+pub fn of_depth(role: Role, depth: usize) -> Helper
+    ensures role { result.role ≡ role }
+    ensures number { result.number ≡ depth }
+{
+    Helper {
+        role,
+        number: depth,
+    }
+}
+
+// A DO as it is, with its forward sweep, behind what is turned round.
+fn plain_turns(
+    alloc: Global,
+    line: u32,
+    bounds: &Bounds,
+    body: Stmts,
+    turned: Stmts,
+) -> Result<Stmts, Memory>
+    ensures forward { IfOk result (λ c. in_order (code_of c) ≡ in_order (code_of turned) +++ one line (turns (plain bounds.now.variable.now) (term_of bounds.now.first.now) (term_of bounds.now.limit.now) (term_of bounds.now.step.now) (in_order (code_of body)))) }
+{
+    let variable = bounds.variable.copy(alloc)?;
+    let first = bounds.first.copy(alloc)?;
+    let limit = bounds.limit.copy(alloc)?;
+    let step = bounds.step.copy(alloc)?;
+    let act = Act::Loop(variable, first, limit, step, body.turned(), Mark::Plain);
+    let code = before(alloc, Stmt { line, act }, turned)?;
+    Ok(code)
+}
+
+impl<'a> Plan<'a> {
+    // The first value, the step and the number of turns are set, behind what is turned round.
+    fn open_turns(
+        &self,
+        alloc: Global,
+        at: At,
+        bounds: &Bounds,
+        turned: Stmts,
+    ) -> Result<Stmts, Memory>
+        ensures opened { IfOk result (λ c. code_of c ≡ step at.line (assign (naming_in self.now (helper count at.depth)) none (lit (pos 0))) (step at.line (assign (naming_in self.now (helper stride at.depth)) none (term_of bounds.now.step.now)) (step at.line (assign (naming_in self.now (helper first at.depth)) none (term_of bounds.now.first.now)) (code_of turned)))) }
+    {
+        let first = of_depth(Role::First, at.depth);
+        let stride = of_depth(Role::Stride, at.depth);
+        let count = of_depth(Role::Count, at.depth);
+        let begun = self.set_own(alloc, at.line, first, bounds.first.copy(alloc)?, turned)?;
+        let stepped = self.set_own(alloc, at.line, stride, bounds.step.copy(alloc)?, begun)?;
+        let code = self.set_own(alloc, at.line, count, Expr::Lit(0), stepped)?;
+        Ok(code)
+    }
+
+    /// The body of a loop, which is turned round, and at its end a turn is counted.
+    pub fn counted(&self, alloc: Global, at: At, body: Stmts) -> Result<Stmts, Memory>
+        ensures counted { IfOk result (λ c. code_of c ≡ code_turned (code_of body) (one at.line (assign (naming_in self.now (helper count at.depth)) none (bin plus (var (naming_in self.now (helper count at.depth))) (lit (pos 1)))))) }
+    {
+        let count = of_depth(Role::Count, at.depth);
+        let more = sum(alloc, self.own(alloc, count)?, Expr::Lit(1))?;
+        let code = self.set_own(alloc, at.line, count, more, body)?;
+        Ok(code.turned())
+    }
+
+    // The DO over what was set.
+    fn counted_turns(
+        &self,
+        alloc: Global,
+        at: At,
+        bounds: &Bounds,
+        body: Stmts,
+    ) -> Result<Stmt, Memory>
+        ensures line { IfOk result (λ s. s.line ≡ at.line) }
+        ensures act { IfOk result (λ s. act_of s.act ≡ turns (plain bounds.now.variable.now) (var (naming_in self.now (helper first at.depth))) (term_of bounds.now.limit.now) (var (naming_in self.now (helper stride at.depth))) (code_turned (code_of body) (one at.line (assign (naming_in self.now (helper count at.depth)) none (bin plus (var (naming_in self.now (helper count at.depth))) (lit (pos 1))))))) }
+    {
+        let body = self.counted(alloc, at, body)?;
+        let variable = bounds.variable.copy(alloc)?;
+        let first = self.own(alloc, of_depth(Role::First, at.depth))?;
+        let limit = bounds.limit.copy(alloc)?;
+        let stride = self.own(alloc, of_depth(Role::Stride, at.depth))?;
+        Ok(Stmt {
+            line: at.line,
+            act: Act::Loop(variable, first, limit, stride, body, Mark::Plain),
+        })
+    }
+
+    // What was set is pushed, behind what is turned round.
+    fn close_turns(&self, alloc: Global, at: At, turned: Stmts) -> Result<Stmts, Memory>
+        ensures closed { IfOk result (λ c. code_of c ≡ step at.line (runtime (push_word (naming_in self.now (helper count at.depth)) none)) (step at.line (runtime (push_word (naming_in self.now (helper stride at.depth)) none)) (step at.line (runtime (push_word (naming_in self.now (helper first at.depth)) none)) (code_of turned)))) }
+    {
+        let first = of_depth(Role::First, at.depth);
+        let stride = of_depth(Role::Stride, at.depth);
+        let count = of_depth(Role::Count, at.depth);
+        let begun = self.push_own(alloc, at.line, first, turned)?;
+        let stepped = self.push_own(alloc, at.line, stride, begun)?;
+        let code = self.push_own(alloc, at.line, count, stepped)?;
+        Ok(code)
+    }
+
+    // The forward sweep of a DO whose turns are gone through backward, behind what is turned round.
+    fn told_turns(
+        &self,
+        alloc: Global,
+        at: At,
+        bounds: &Bounds,
+        body: Stmts,
+        turned: Stmts,
+    ) -> Result<Stmts, Memory>
+        ensures told { IfOk result (λ c. (inner : Code) → in_order (code_of body) ≡ rename (naming_in self.now) inner → in_order (code_of c) ≡ in_order (code_of turned) +++ rename (naming_in self.now) (loop_forward false at.depth at.line (plain bounds.now.variable.now) (term_of bounds.now.first.now) (term_of bounds.now.limit.now) (term_of bounds.now.step.now) inner)) }
+    {
+        let opened = self.open_turns(alloc, at, bounds, turned)?;
+        let turns = self.counted_turns(alloc, at, bounds, body)?;
+        let gone = before(alloc, turns, opened)?;
+        let code = self.close_turns(alloc, at, gone)?;
+        Ok(code)
+    }
+
+    /// The forward sweep of a DO, behind what is turned round.
+    pub fn loop_forward(
+        &self,
+        alloc: Global,
+        at: At,
+        bounds: &Bounds,
+        idle: bool,
+        body: Stmts,
+        turned: Stmts,
+    ) -> Result<Stmts, Memory>
+        ensures forward { IfOk result (λ c. (inner : Code) → in_order (code_of body) ≡ rename (naming_in self.now) inner → in_order (code_of c) ≡ in_order (code_of turned) +++ rename (naming_in self.now) (loop_forward idle at.depth at.line (plain bounds.now.variable.now) (term_of bounds.now.first.now) (term_of bounds.now.limit.now) (term_of bounds.now.step.now) inner)) }
+    {
+        if idle {
+            let plain = plain_turns(alloc, at.line, bounds, body, turned)?;
+            return Ok(plain);
+        }
+        let code = self.told_turns(alloc, at, bounds, body, turned)?;
+        Ok(code)
+    }
+
+    /// The loop over the turns from the last to the first.
+    pub fn turns_back(&self, alloc: Global, at: At, body: Stmts) -> Result<Stmt, Memory>
+        ensures line { IfOk result (λ s. s.line ≡ at.line) }
+        ensures act { IfOk result (λ s. act_of s.act ≡ turns (naming_in self.now (helper turn at.depth)) (bin minus (var (naming_in self.now (helper count at.depth))) (lit (pos 1))) (lit (pos 0)) (neg (lit (pos 1))) (code_of body)) }
+    {
+        let turn = self.names.helper(alloc, Role::Turn, at.depth)?;
+        let count = self.own(alloc, of_depth(Role::Count, at.depth))?;
+        let left = Box::new(alloc, count)?;
+        let last = Expr::Bin(Op::Sub, left, Box::new(alloc, Expr::Lit(1))?);
+        let back = Expr::Neg(Box::new(alloc, Expr::Lit(1))?);
+        Ok(Stmt {
+            line: at.line,
+            act: Act::Loop(turn, last, Expr::Lit(0), back, body, Mark::Plain),
+        })
+    }
+
+    // The value that the variable of a DO has in a turn.
+    fn value_at_turn(&self, alloc: Global, at: At) -> Result<Expr, Memory>
+        ensures value { IfOk result (λ e. term_of e ≡ bin plus (var (naming_in self.now (helper first at.depth))) (bin times (var (naming_in self.now (helper turn at.depth))) (var (naming_in self.now (helper stride at.depth))))) }
+    {
+        let first = self.own(alloc, of_depth(Role::First, at.depth))?;
+        let turn = self.own(alloc, of_depth(Role::Turn, at.depth))?;
+        let stride = self.own(alloc, of_depth(Role::Stride, at.depth))?;
+        let left = Box::new(alloc, turn)?;
+        let steps = Expr::Bin(Op::Mul, left, Box::new(alloc, stride)?);
+        let value = sum(alloc, first, steps)?;
+        Ok(value)
+    }
+
+    /// The backward sweep of a DO, and then the rest.
+    pub fn loop_backward(
+        &self,
+        alloc: Global,
+        at: At,
+        variable: &Name,
+        idle: bool,
+        body: Stmts,
+        rest: Stmts,
+    ) -> Result<Stmts, Memory>
+        ensures backward { IfOk result (λ c. (inner : Code) → code_of body ≡ rename (naming_in self.now) inner → code_of c ≡ rename (naming_in self.now) (loop_backward idle at.depth at.line (plain variable.now) inner) +++ code_of rest) }
+    {
+        if idle {
+            return Ok(rest);
+        }
+        let value = self.value_at_turn(alloc, at)?;
+        let set = scalar_assignment(at.line, variable.copy(alloc)?, value);
+        let turned = before(alloc, set, body)?;
+        let turns = self.turns_back(alloc, at, turned)?;
+        let gone = before(alloc, turns, rest)?;
+        let begun = self.pop_own(alloc, at.line, of_depth(Role::First, at.depth), gone)?;
+        let stepped = self.pop_own(alloc, at.line, of_depth(Role::Stride, at.depth), begun)?;
+        let code = self.pop_own(alloc, at.line, of_depth(Role::Count, at.depth), stepped)?;
+        Ok(code)
+    }
+
+    // Whether a DO sets the shadow of its variable to 0.
+    fn resets(&self, number: usize, x: &Name) -> bool
+        ensures resets { result ≡ resets (marks_of self.now.marks.now) number x.now }
+    {
+        self.marks.shadowed(x) && self.marks.varied(number, x)
+    }
+
+    /// The shadow of the variable of a DO becomes 0 where it has one and is varied before the DO, and then the rest.
+    pub fn reset(
+        &self,
+        alloc: Global,
+        number: usize,
+        line: u32,
+        x: &Name,
+        rest: Stmts,
+    ) -> Result<Stmts, Memory>
+        ensures reset { IfOk result (λ c. code_of c ≡ rename (naming_in self.now) (reset (marks_of self.now.marks.now) number line x.now) +++ code_of rest) }
+    {
+        if !self.resets(number, x) {
+            return Ok(rest);
+        }
+        let name = self.names.shadow(alloc, x)?;
+        let code = before(alloc, scalar_assignment(line, name, Expr::Lit(0)), rest)?;
+        Ok(code)
+    }
+}

@@ -1,0 +1,97 @@
+//! What the sweeps of a unit follow, and the statements that they write for themselves.
+
+ghost use Rattle.std.specs.Prelude.{◌≡◌, IfOk};
+ghost use Rattle.adj_tree.specs.Code.{var, none, assign, runtime, push_word, pop_word, step};
+ghost use Rattle.adj_tree.specs.View.{term_of, code_of};
+ghost use Rattle.adj_naming.specs.Roles.{variable_of};
+ghost use Rattle.adj_emission.specs.Plans.{naming_in};
+
+use adj_helpers::callees::Callees;
+use adj_marking::Marking;
+use adj_naming::name_set::NameSet;
+use adj_naming::names::Names;
+use adj_naming::role::Helper;
+use adj_site::step::{before, pop, push, scalar_assignment};
+use adj_tree::{Expr, Exprs, Memory, Place, Stmts};
+use std::alloc::Global;
+
+/// The names of a unit and its marks, which of its variables are arrays, and what is known of the units that it calls.
+#[derive(Clone, Copy)]
+pub struct Plan<'a> {
+    pub names: &'a Names,
+    pub marks: &'a Marking,
+    pub arrays: &'a NameSet,
+    pub callees: &'a Callees,
+}
+
+/// Where a statement stands: its number, the depth of the loops around it (for a loop its own), and its line.
+#[derive(Clone, Copy, PartialEq, Eq, Debug)]
+pub struct At {
+    pub number: usize,
+    pub depth: usize,
+    pub line: u32,
+}
+
+impl<'a> Plan<'a> {
+    /// A helper as a term.
+    pub fn own(&self, alloc: Global, own: Helper) -> Result<Expr, Memory>
+        ensures term { IfOk result (λ e. term_of e ≡ var (naming_in self.now (variable_of own))) }
+    {
+        let name = self.names.helper(alloc, own.role, own.number)?;
+        Ok(Expr::Var(name))
+    }
+
+    /// A helper that becomes a value, and then the rest.
+    pub fn set_own(
+        &self,
+        alloc: Global,
+        line: u32,
+        own: Helper,
+        e: Expr,
+        rest: Stmts,
+    ) -> Result<Stmts, Memory>
+        ensures step { IfOk result (λ c. code_of c ≡ step line (assign (naming_in self.now (variable_of own)) none (term_of e)) (code_of rest)) }
+    {
+        let name = self.names.helper(alloc, own.role, own.number)?;
+        let code = before(alloc, scalar_assignment(line, name, e), rest)?;
+        Ok(code)
+    }
+
+    /// A helper that is pushed, and then the rest.
+    pub fn push_own(
+        &self,
+        alloc: Global,
+        line: u32,
+        own: Helper,
+        rest: Stmts,
+    ) -> Result<Stmts, Memory>
+        ensures step { IfOk result (λ c. code_of c ≡ step line (runtime (push_word (naming_in self.now (variable_of own)) none)) (code_of rest)) }
+    {
+        let name = self.names.helper(alloc, own.role, own.number)?;
+        let place = Place {
+            name,
+            subs: Exprs::Empty,
+        };
+        let code = before(alloc, push(line, place), rest)?;
+        Ok(code)
+    }
+
+    /// A helper that is popped, and then the rest.
+    pub fn pop_own(
+        &self,
+        alloc: Global,
+        line: u32,
+        own: Helper,
+        rest: Stmts,
+    ) -> Result<Stmts, Memory>
+        ensures step { IfOk result (λ c. code_of c ≡ step line (runtime (pop_word (naming_in self.now (variable_of own)) none)) (code_of rest)) }
+    {
+        let name = self.names.helper(alloc, own.role, own.number)?;
+        let place = Place {
+            name,
+            subs: Exprs::Empty,
+        };
+        let code = before(alloc, pop(line, place), rest)?;
+        Ok(code)
+    }
+}

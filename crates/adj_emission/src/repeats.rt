@@ -1,0 +1,204 @@
+//! Both sweeps of a DO and of a DO WHILE, from those of their bodies (docs/EMITTED.md, "Sweeps of every statement").
+
+ghost use Rattle.std.specs.Prelude.{◌≡◌, ℕ, List, IfOk, suc};
+ghost use Rattle.adj_tree.specs.Code.{Code, Mark, plain, none, during, runtime, push_word, pop_word, stop};
+ghost use Rattle.adj_tree.specs.View.{term_of, test_of, code_of};
+ghost use Rattle.adj_meaning.specs.Append.{◌+++◌, one};
+ghost use Rattle.adj_meaning.specs.Rename.{rename};
+ghost use Rattle.adj_transpose.specs.Marked.{code_if};
+ghost use Rattle.adj_reverse.specs.Plan.{Callee};
+ghost use Rattle.adj_reverse.specs.Emission.{loop_forward, loop_backward, while_forward, while_backward, reset};
+ghost use Rattle.adj_marking.specs.View.{marks_of};
+ghost use Rattle.adj_emission.specs.Plans.{naming_in, plan_of};
+ghost use Rattle.adj_emission.specs.Rows.{text_turns};
+ghost use Rattle.adj_emission.specs.Swept.{in_order, SweepsAct, SweepsList};
+
+use crate::loops::{Bounds, of_depth};
+use crate::plan::{At, Plan};
+use crate::sweeps::Sweeps;
+use adj_naming::role::Role;
+use adj_site::step::before;
+use adj_tree::{Act, Cond, Expr, Exprs, Memory, Name, Place, Stmt, Stmts};
+use std::alloc::Global;
+
+// A DO WHILE as it is, with its forward sweep, behind what is turned round.
+fn plain_while(
+    alloc: Global,
+    line: u32,
+    c: &Cond,
+    body: Stmts,
+    turned: Stmts,
+) -> Result<Stmts, Memory>
+    ensures forward { IfOk result (λ s. in_order (code_of s) ≡ in_order (code_of turned) +++ one line (during (test_of c.now) (in_order (code_of body)))) }
+{
+    let act = Act::While(c.copy(alloc)?, body.turned());
+    let code = before(alloc, Stmt { line, act }, turned)?;
+    Ok(code)
+}
+
+impl<'a> Plan<'a> {
+    // The forward sweep of a DO with its variable, behind what is turned round.
+    fn do_forward(
+        &self,
+        alloc: Global,
+        at: At,
+        bounds: &Bounds,
+        idle: bool,
+        body: Stmts,
+        turned: Stmts,
+    ) -> Result<Stmts, Memory>
+        ensures forward { IfOk result (λ c. (inner : Code) → in_order (code_of body) ≡ rename (naming_in self.now) inner → in_order (code_of c) ≡ in_order (code_of turned) +++ (code_if ((marks_of self.now.marks.now).saved at.number (plain bounds.now.variable.now)) (one at.line (runtime (push_word (plain bounds.now.variable.now) none))) +++ rename (naming_in self.now) (loop_forward idle at.depth at.line (plain bounds.now.variable.now) (term_of bounds.now.first.now) (term_of bounds.now.limit.now) (term_of bounds.now.step.now) inner))) }
+    {
+        let variable = Place {
+            name: bounds.variable.copy(alloc)?,
+            subs: Exprs::Empty,
+        };
+        let pushed = self.push_saved(alloc, at.number, at.line, &variable, turned)?;
+        let code = self.loop_forward(alloc, at, bounds, idle, body, pushed)?;
+        Ok(code)
+    }
+
+    // The backward sweep of a DO with its variable, and then the rest.
+    fn do_backward(
+        &self,
+        alloc: Global,
+        at: At,
+        variable: &Name,
+        idle: bool,
+        body: Stmts,
+        rest: Stmts,
+    ) -> Result<Stmts, Memory>
+        ensures backward { IfOk result (λ c. (inner : Code) → code_of body ≡ rename (naming_in self.now) inner → code_of c ≡ rename (naming_in self.now) (loop_backward idle at.depth at.line (plain variable.now) inner) +++ (code_if ((marks_of self.now.marks.now).saved at.number (plain variable.now)) (one at.line (runtime (pop_word (plain variable.now) none))) +++ (rename (naming_in self.now) (reset (marks_of self.now.marks.now) at.number at.line variable.now) +++ code_of rest))) }
+    {
+        let cleared = self.reset(alloc, at.number, at.line, variable, rest)?;
+        let place = Place {
+            name: variable.copy(alloc)?,
+            subs: Exprs::Empty,
+        };
+        let popped = self.pop_saved(alloc, at.number, at.line, &place, cleared)?;
+        let code = self.loop_backward(alloc, at, variable, idle, body, popped)?;
+        Ok(code)
+    }
+
+    /// Both sweeps of a DO of this depth, from those of its body.
+    pub fn do_loop(
+        &self,
+        alloc: Global,
+        depth: usize,
+        line: u32,
+        bounds: &Bounds,
+        inner: Sweeps,
+        sweeps: Sweeps,
+    ) -> Result<Sweeps, Memory>
+        ensures sweeps { IfOk result (λ s. (callees : List ℕ → Callee) (d : ℕ) (body : Code) (m : Mark) → depth ≡ suc d → SweepsList (naming_in self.now) (plan_of self.now callees) (suc d) (suc sweeps.number) body stop inner → SweepsAct (naming_in self.now) (plan_of self.now callees) d line (text_turns (plain bounds.now.variable.now) (term_of bounds.now.first.now) (term_of bounds.now.limit.now) (term_of bounds.now.step.now) body m) sweeps s) }
+    {
+        let idle = inner.is_idle();
+        let number = inner.number;
+        if !self.marks.emitted(sweeps.number) {
+            return Ok(Sweeps {
+                forward: sweeps.forward,
+                backward: sweeps.backward,
+                number,
+            });
+        }
+        let at = At {
+            number: sweeps.number,
+            depth,
+            line,
+        };
+        let forward = self.do_forward(alloc, at, bounds, idle, inner.forward, sweeps.forward)?;
+        let backward = self.do_backward(
+            alloc,
+            at,
+            bounds.variable,
+            idle,
+            inner.backward,
+            sweeps.backward,
+        )?;
+        Ok(Sweeps {
+            forward,
+            backward,
+            number,
+        })
+    }
+
+    // The forward sweep of a DO WHILE, behind what is turned round.
+    fn while_forward(
+        &self,
+        alloc: Global,
+        at: At,
+        c: &Cond,
+        idle: bool,
+        body: Stmts,
+        turned: Stmts,
+    ) -> Result<Stmts, Memory>
+        ensures forward { IfOk result (λ s. (inner : Code) → in_order (code_of body) ≡ rename (naming_in self.now) inner → in_order (code_of s) ≡ in_order (code_of turned) +++ rename (naming_in self.now) (while_forward idle at.depth at.line (test_of c.now) inner)) }
+    {
+        if idle {
+            let plain = plain_while(alloc, at.line, c, body, turned)?;
+            return Ok(plain);
+        }
+        let count = of_depth(Role::Count, at.depth);
+        let opened = self.set_own(alloc, at.line, count, Expr::Lit(0), turned)?;
+        let body = self.counted(alloc, at, body)?;
+        let act = Act::While(c.copy(alloc)?, body);
+        let gone = before(alloc, Stmt { line: at.line, act }, opened)?;
+        let code = self.push_own(alloc, at.line, count, gone)?;
+        Ok(code)
+    }
+
+    // The backward sweep of a DO WHILE, and then the rest.
+    fn while_backward(
+        &self,
+        alloc: Global,
+        at: At,
+        idle: bool,
+        body: Stmts,
+        rest: Stmts,
+    ) -> Result<Stmts, Memory>
+        ensures backward { IfOk result (λ c. (inner : Code) → code_of body ≡ rename (naming_in self.now) inner → code_of c ≡ rename (naming_in self.now) (while_backward idle at.depth at.line inner) +++ code_of rest) }
+    {
+        if idle {
+            return Ok(rest);
+        }
+        let turns = self.turns_back(alloc, at, body)?;
+        let gone = before(alloc, turns, rest)?;
+        let code = self.pop_own(alloc, at.line, of_depth(Role::Count, at.depth), gone)?;
+        Ok(code)
+    }
+
+    /// Both sweeps of a DO WHILE of this depth, from those of its body.
+    pub fn while_loop(
+        &self,
+        alloc: Global,
+        depth: usize,
+        line: u32,
+        c: &Cond,
+        inner: Sweeps,
+        sweeps: Sweeps,
+    ) -> Result<Sweeps, Memory>
+        ensures sweeps { IfOk result (λ s. (callees : List ℕ → Callee) (d : ℕ) (body : Code) → depth ≡ suc d → SweepsList (naming_in self.now) (plan_of self.now callees) (suc d) (suc sweeps.number) body stop inner → SweepsAct (naming_in self.now) (plan_of self.now callees) d line (during (test_of c.now) body) sweeps s) }
+    {
+        let idle = inner.is_idle();
+        let number = inner.number;
+        if !self.marks.emitted(sweeps.number) {
+            return Ok(Sweeps {
+                forward: sweeps.forward,
+                backward: sweeps.backward,
+                number,
+            });
+        }
+        let at = At {
+            number: sweeps.number,
+            depth,
+            line,
+        };
+        let forward = self.while_forward(alloc, at, c, idle, inner.forward, sweeps.forward)?;
+        let backward = self.while_backward(alloc, at, idle, inner.backward, sweeps.backward)?;
+        Ok(Sweeps {
+            forward,
+            backward,
+            number,
+        })
+    }
+}

@@ -1,0 +1,129 @@
+//! Both sweeps of a list (docs/EMITTED.md, "Sweeps of every statement"). Lists are gone through by loops.
+
+ghost use Rattle.std.specs.Prelude.{◌≡◌, ℕ, List, IfOk, suc};
+ghost use Rattle.adj_tree.specs.View.{act_of, code_of};
+ghost use Rattle.adj_reverse.specs.Plan.{Callee};
+ghost use Rattle.adj_reverse.specs.Emission.{is_empty};
+ghost use Rattle.adj_helpers.specs.Callees.{KnowsAll};
+ghost use Rattle.adj_emission.specs.Plans.{naming_in, plan_of};
+ghost use Rattle.adj_emission.specs.Swept.{SweepsAct, SweepsList};
+
+use crate::loops::Bounds;
+use crate::plan::Plan;
+use adj_site::sizes::plus;
+use adj_tree::{Act, Memory, Stmt, Stmts};
+use std::alloc::Global;
+
+/// Both sweeps of some statements: the forward sweep from its last statement to its first, and the number of the next statement.
+#[derive(Drop)]
+pub struct Sweeps {
+    pub forward: Stmts,
+    pub backward: Stmts,
+    pub number: usize,
+}
+
+impl Sweeps {
+    /// Whether there is no backward sweep.
+    pub fn is_idle(&self) -> bool
+        ensures idle { result ≡ is_empty (code_of self.now.backward) }
+    {
+        matches!(self.backward, Stmts::Empty)
+    }
+}
+
+/// The number that comes after another.
+pub fn next(number: usize) -> Result<usize, Memory>
+    ensures next { IfOk result (λ k. k ≡ suc number) }
+{
+    plus(number, 1)
+}
+
+impl<'a> Plan<'a> {
+    /// The sweeps of a statement, behind the forward and before the backward sweep of those before it. `depth` counts the loops around it.
+    #[cycle(sweeps)]
+    pub fn statement(
+        &self,
+        alloc: Global,
+        depth: usize,
+        stmt: &Stmt,
+        sweeps: Sweeps,
+    ) -> Result<Sweeps, Memory>
+        ensures sweeps { IfOk result (λ s. (callees : List ℕ → Callee) → KnowsAll self.now.callees.now callees → SweepsAct (naming_in self.now) (plan_of self.now callees) depth stmt.now.line (act_of stmt.now.act) sweeps s) }
+    {
+        match &stmt.act {
+            Act::Assign(place, e) => {
+                let made = self.assignment(alloc, stmt.line, place, e, sweeps)?;
+                Ok(made)
+            }
+            Act::If(c, a, b) => {
+                let number = next(sweeps.number)?;
+                let first = self.list(alloc, depth, a, number, Stmts::Empty)?;
+                let second = self.list(alloc, depth, b, first.number, Stmts::Empty)?;
+                let made = self.branch(alloc, stmt.line, c, first, second, sweeps)?;
+                Ok(made)
+            }
+            Act::Loop(x, a, b, c, body, _) => {
+                let number = next(sweeps.number)?;
+                let inside = next(depth)?;
+                let inner = self.list(alloc, inside, body, number, Stmts::Empty)?;
+                let bounds = Bounds {
+                    variable: x,
+                    first: a,
+                    limit: b,
+                    step: c,
+                };
+                let made = self.do_loop(alloc, inside, stmt.line, &bounds, inner, sweeps)?;
+                Ok(made)
+            }
+            Act::While(c, body) => {
+                let number = next(sweeps.number)?;
+                let inside = next(depth)?;
+                let inner = self.list(alloc, inside, body, number, Stmts::Empty)?;
+                let made = self.while_loop(alloc, inside, stmt.line, c, inner, sweeps)?;
+                Ok(made)
+            }
+            Act::Call(name, actuals) => {
+                let made = self.call(alloc, stmt.line, name, actuals, sweeps)?;
+                Ok(made)
+            }
+            Act::Run(_) => {
+                let Sweeps {
+                    forward,
+                    backward,
+                    number,
+                } = sweeps;
+                let number = next(number)?;
+                Ok(Sweeps {
+                    forward,
+                    backward,
+                    number,
+                })
+            }
+        }
+    }
+
+    /// The sweeps of a list whose first statement has this number, and then the rest behind the backward sweep.
+    #[cycle(sweeps)]
+    pub fn list(
+        &self,
+        alloc: Global,
+        depth: usize,
+        body: &Stmts,
+        number: usize,
+        rest: Stmts,
+    ) -> Result<Sweeps, Memory>
+        ensures sweeps { IfOk result (λ s. (callees : List ℕ → Callee) → KnowsAll self.now.callees.now callees → SweepsList (naming_in self.now) (plan_of self.now callees) depth number (code_of body.now) (code_of rest) s) }
+    {
+        let mut made = Sweeps {
+            forward: Stmts::Empty,
+            backward: rest,
+            number,
+        };
+        let mut current = body;
+        while let Stmts::More(stmt, left) = current {
+            made = self.statement(alloc, depth, stmt, made)?;
+            current = left;
+        }
+        Ok(made)
+    }
+}
