@@ -1,17 +1,16 @@
 -- Calls lead from unit to unit just where paths in the graph of calls do.
-use Rattle.std.proofs.Common.{◌≡◌, ℕ, zero, suc, ◌+◌, ◌<◌, ◌≤◌, ◌⊎◌, inl, inr, Bool, true, false, List, [], ◌∷◌, ◌++◌, map, length, get_or, refl, sym, ap, ap₂, ◌∙◌, subst, Option, Some, None, arith, IsTrue, ◌↔◌, Result, Ok, Err, IfOk, if◌then◌else◌}
+use Rattle.std.proofs.Common.{◌≡◌, ℕ, zero, suc, ◌<◌, ◌⊎◌, inl, inr, Bool, true, false, List, [], ◌∷◌, ◌++◌, map, length, get_or, refl, sym, ap, ap₂, ◌∙◌, subst, Option, Some, None, arith, IsTrue, ◌↔◌, Result, Ok, Err, IfOk, if◌then◌else◌}
 use Rattle.std.specs.Prelude.{◌||◌, is_some}
-use Rattle.std.specs.List.{list_any, flat_map, slice_get, All, Contains}
+use Rattle.std.specs.List.{list_any, flat_map, slice_get, Contains}
 use Rattle.std.proofs.lemmas.Option.{slice_get_within}
 use Rattle.adj_tree.specs.Code.{name_eq, Procedure}
 use Rattle.adj_tree.proofs.Names.{name_same, name_refl}
 use Rattle.adj_meaning.specs.Written.{find_unit}
-use Rattle.adj_names.specs.Statements.{At}
 use Rattle.adj_names.specs.Variables.{Name}
-use Rattle.adj_names.specs.Calls.{Call, calls_from, leads, calls_lead}
+use Rattle.adj_names.specs.Calls.{calls_from, leads, calls_lead}
 use Rattle.adj_names.specs.Laws.{IsIn}
 use Rattle.adj_facts.specs.Reached as reached
-use Rattle.adj_reach.specs.Edges.{Edges, ReachedFrom, AreBelow}
+use Rattle.adj_reach.specs.Edges.{ReachedFrom, AreBelow}
 use Rattle.adj_symbols.specs.Scope.{number_from}
 use Rattle.adj_symbols.specs.Graph.{edge_of, edges_from, call_edges}
 use Rattle.adj_symbols.proofs.Scopes.{found_at, number_found, number_has}

@@ -1,11 +1,11 @@
 -- Paths in graphs by labels and roots.
-use Rattle.std.proofs.Common.{◌≡◌, ℕ, ◌+◌, ◌<◌, ◌≤◌, List, [], ◌∷◌, ◌++◌, length, Option, Some, Bool, true, false, get_or, refl, sym, ap, ◌∙◌, subst, arith, IsTrue, ◌↔◌}
+use Rattle.std.proofs.Common.{◌≡◌, ℕ, ◌<◌, ◌≤◌, List, [], ◌∷◌, ◌++◌, length, Some, get_or, refl, sym, ap, ◌∙◌, subst, arith}
 use Rattle.std.specs.Prelude.{slice_index}
 use Rattle.std.specs.List.{All, Contains}
 use Rattle.std.proofs.lemmas.List.Elements.{All-contains, All-push}
 use Rattle.std.proofs.lemmas.Option.{slice_get-get_or}
-use Rattle.adj_facts.specs.Reached.{Reached, begins, leads}
-use Rattle.adj_reach.specs.Edges.{Edges, ReachedFrom, ReachedBack, flag}
+use Rattle.adj_facts.specs.Reached.{begins, leads}
+use Rattle.adj_reach.specs.Edges.{Edges, ReachedFrom, ReachedBack}
 use Rattle.adj_symbols.specs.Graph.{AreSinking, root_at}
 
 -- a list of one member has no other

@@ -1,13 +1,12 @@
 -- Which units calls lead to: a way of any length is found among those with as many calls as there are units.
-use Rattle.std.proofs.Common.{◌≡◌, ℕ, zero, suc, ◌+◌, ◌<◌, ◌≤◌, ◌⊎◌, inl, inr, Bool, true, false, List, [], ◌∷◌, map, length, refl, sym, ap, ◌∙◌, subst, Option, Some, None, arith, if◌then◌else◌}
+use Rattle.std.proofs.Common.{◌≡◌, ℕ, zero, suc, ◌+◌, ◌<◌, ◌≤◌, ◌⊎◌, inl, inr, Bool, true, false, List, [], ◌∷◌, length, refl, sym, ap, ◌∙◌, subst, Some, None, arith, if◌then◌else◌}
 use Rattle.std.specs.Prelude.{◌||◌}
 use Rattle.std.specs.List.{list_any}
 use Rattle.adj_tree.specs.Code.{name_eq, Procedure}
 use Rattle.adj_tree.proofs.Names.{name_same, name_refl}
 use Rattle.adj_meaning.specs.Written.{find_unit}
-use Rattle.adj_names.specs.Statements.{At}
 use Rattle.adj_names.specs.Variables.{Name}
-use Rattle.adj_names.specs.Calls.{Call, calls_found, calls_from, leads, calls_lead}
+use Rattle.adj_names.specs.Calls.{calls_found, calls_from, leads, calls_lead}
 use Rattle.adj_names.specs.Laws.{IsIn}
 
 -- ---- tests

@@ -13,3 +13,10 @@ pub mod Graphs
 pub mod Cycling
 pub mod Members
 pub mod CallsListed
+pub mod Writing
+pub mod Rounds
+pub mod Opening
+pub mod Clashing
+pub mod Rows
+pub mod Meeting
+pub mod Passing

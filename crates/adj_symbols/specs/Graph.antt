@@ -1,5 +1,5 @@
 -- Graphs of units, with what is known of which of their nodes lead to which.
-use Rattle.std.specs.Prelude.{◌≡◌, ℕ, ◌+◌, ◌<◌, ◌≤◌, ◌^◌, List, [], ◌∷◌, Bool, Option, Some, None, All, Contains, IsTrue, slice_index}
+use Rattle.std.specs.Prelude.{ℕ, ◌+◌, ◌<◌, ◌≤◌, ◌^◌, List, [], ◌∷◌, Bool, Option, Some, None, All, IsTrue, slice_index}
 use Rattle.std.specs.List.{flat_map}
 use Rattle.adj_tree.specs.Code.{Procedure}
 use Rattle.adj_names.specs.Statements.{At}

@@ -6,3 +6,7 @@ pub mod Scope
 pub mod Rules
 pub mod Chain
 pub mod Graph
+pub mod Writes
+pub mod Opening
+pub mod Sharing
+pub mod Checked

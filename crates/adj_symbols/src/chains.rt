@@ -4,13 +4,14 @@ ghost use Rattle.std.specs.Prelude.{◌≡◌, ◌&&◌, [], ◌∷◌, ℕ, suc
 ghost use Rattle.adj_tree.specs.Code.{Code};
 ghost use Rattle.adj_tree.specs.View.{mark_of, act_of, code_of, procedure_of};
 ghost use Rattle.adj_names.specs.Calls.{is_marked, with_mark, act_chain, chain, chain_from};
-ghost use Rattle.adj_names.specs.ChainFaults.{begins_chain, long_chains};
+ghost use Rattle.adj_names.specs.ChainFaults.{begins_chain, long_chains, chain_faults};
 ghost use Rattle.adj_names.specs.Fault.{passed, faults_if, first_of, sooner};
 ghost use Rattle.adj_names.specs.Statements.{inner, statements};
 ghost use Rattle.adj_names.specs.Variables.{Name};
 ghost use Rattle.adj_symbols.specs.Chain.{length_of, faults_of_chain, longer};
 ghost use Rattle.adj_symbols.specs.Rules.{rules_of};
 
+use crate::cycles::add_cycles;
 use crate::first::First;
 use crate::outline::Outline;
 use crate::rules::Rules;
@@ -183,4 +184,22 @@ pub(crate) fn add_long_chains(
         let _length = add_list(scope, lengths, rules.chain, &outline.unit().body, first);
     }
     Ok(())
+}
+
+/// The first fault of chains of calls. The length of chains is looked at only where no CALL lies on a cycle.
+pub(crate) fn chain_fault(
+    alloc: Global,
+    rules: Rules,
+    scope: &Scope<'_>,
+) -> Result<Option<Refusal>, Memory>
+    ensures { IfOk result (λ f. f ≡ first_of (chain_faults (rules_of rules) (map procedure_of scope.now))) }
+{
+    let mut cycles = First::new();
+    add_cycles(alloc, scope, &mut cycles)?;
+    if cycles.fault().is_some() {
+        return Ok(cycles.fault());
+    }
+    let mut chains = First::new();
+    add_long_chains(alloc, rules, scope, &mut chains)?;
+    Ok(chains.fault())
 }

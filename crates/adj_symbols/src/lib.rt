@@ -1,23 +1,38 @@
 //! Names, calls and writes of a program, checked.
 //!
-//! `check` gives the program with its variables and with the dummies that its units write and read, or the first fault of its
+//! `check` gives the program with its variables and with the dummies that its units write, or the first fault of its
 //! units, names, calls, chains and writes; `head` finds the unit to be differentiated. The crate stands on the trees and on
-//! `adj_names`, whose definitions say what is a fault and which comes first.
+//! `adj_names`, whose definitions say what is a fault and which comes first; the layers above use that both are exact.
 #![tactic(auto)]
 
 mod calls;
 mod chains;
+mod checked;
 mod components;
 mod cycles;
 mod extents;
 mod first;
 mod graph;
+mod heads;
+mod loop_writes;
 mod name_faults;
 mod outline;
+mod passes;
 mod places;
 mod rules;
 mod scope;
+mod sharing;
 mod standing;
 mod statements;
 mod table;
+#[cfg(test)]
+mod tests;
 mod unit_names;
+mod write_faults;
+mod written;
+
+pub use checked::Checked;
+pub use heads::head;
+pub use passes::check;
+pub use unit_names::variables;
+pub use written::written_dummies;

@@ -62,6 +62,15 @@ impl<'a> NameSet<'a> {
         let added = self.names.insert(name.bytes())?;
         Ok(added)
     }
+
+    /// Takes the name back that was inserted last, if that added it.
+    pub(crate) fn take_back(&mut self, added: bool)
+        ensures back { (xs : List Name) (x : Name) → self.old ≡ with_name xs x → added ≡ not (has_name x xs) → self.new ≡ xs }
+    {
+        if added {
+            self.names.pop();
+        }
+    }
 }
 
 /// A number for each of some different names, seen as their list in the order in which they were added.

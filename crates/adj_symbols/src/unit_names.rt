@@ -137,6 +137,17 @@ fn add_too_many(limit: Option<usize>, variables: &[Placed<'_>], first: &mut Firs
     }
 }
 
+/// The variables of a unit: dummies, then declared locals, then implicit locals by first appearance.
+pub fn variables(alloc: Global, unit: &Unit) -> Result<NameList, Memory>
+    ensures variables { IfOk result (λ v. v ≡ variables (procedure_of unit.now)) }
+{
+    let outline = Outline::new(alloc, unit)?;
+    let found = unit_places(alloc, &outline)?;
+    let chosen = first_places(alloc, found.as_slice())?;
+    let names = names_of(alloc, chosen.as_slice())?;
+    Ok(names)
+}
+
 // Adds the faults of the names in a unit, and gives its variables.
 fn add_unit_names(
     alloc: Global,

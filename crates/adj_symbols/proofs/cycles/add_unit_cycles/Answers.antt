@@ -1,4 +1,4 @@
-use Rattle.std.proofs.Common.{ap, sym, ◌∙◌, map}
+use Rattle.std.proofs.Common.{ap, ◌∙◌, map}
 use Rattle.std.specs.List.{flat_map}
 use Rattle.adj_tree.specs.Code.{Act}
 use Rattle.adj_tree.specs.Listed.{statement_of}

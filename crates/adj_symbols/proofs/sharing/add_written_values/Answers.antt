@@ -1,0 +1,33 @@
+use Rattle.std.proofs.Common.{ap, ◌∙◌, map}
+use Rattle.std.specs.List.{flat_map}
+use Rattle.adj_tree.specs.Code.{Act}
+use Rattle.adj_tree.specs.Listed.{statement_of}
+use Rattle.adj_tree.specs.View.{procedure_of, code_of}
+use Rattle.adj_meaning.specs.LeastSet.{row_of}
+use Rattle.adj_names.specs.Statements.{At, statements}
+use Rattle.adj_names.specs.Calls.{call_in}
+use Rattle.adj_names.specs.Fault.{fault, faults_if, first_of, sooner}
+use Rattle.adj_names.specs.WriteFaults.{hands_back_values}
+use Rattle.adj_names.proofs.Order.{sooner_mapped}
+use Rattle.adj_symbols.specs.View.{seen}
+use Rattle.adj_symbols.proofs.CallsListed.{calls_listed}
+use Rattle.adj_symbols.proofs.Ends.{sooner_end}
+use Rattle.adj_symbols.proofs.sharing.add_written_values.Goals as goal
+
+pub loop-stmt-preserved : goal.loop-stmt-preserved
+loop-stmt-preserved c =
+    let h = row_of (map procedure_of c.args.scope.now) c.args.written.now in
+    let p = c.stmt-item.result in
+    let f0 = c.loop-stmt.first in
+    sooner_mapped (λ t. statement_of t.now) (λ s. flat_map (λ b. faults_if (hands_back_values (h b.0) b.1) (fault 24 s.0)) (call_in s.1)) c.statements-stmt-items.result.now c.loop-stmt.stmt-index p f0 c.add_if.new.self c.loop-stmt-test.true c.stmt-item.is
+    (c.add_if.ensures.added ∙ ap (λ rs. sooner f0 (first_of rs)) (c.writes_values.ensures p.now.line))
+    ∙ c.loop-stmt.invariant
+
+pub returns : goal.returns
+returns c =
+    let h = row_of (map procedure_of c.args.scope.now) c.args.written.now in
+    let f = λ (s : At Act). flat_map (λ b. faults_if (hands_back_values (h b.0) b.1) (fault 24 s.0)) (call_in s.1) in
+    let ss = c.statements-stmt-items.result.now in
+    sooner_end (λ t. statement_of t.now) f ss c.loop-stmt.stmt-index c.loop-stmt.first (sooner c.args.first.now (first_of (flat_map f (seen ss)))) c.loop-stmt-test.false c.loop-stmt.invariant
+    ∙ ap (λ z. sooner c.args.first.now (first_of (flat_map f z))) c.statements-stmt-items.ensures.statements
+    ∙ ap (λ z. sooner c.args.first.now (first_of z)) (calls_listed (λ b. faults_if (hands_back_values (h (b.1).0) (b.1).1) (fault 24 b.0)) (statements (code_of c.args.caller.now.body)))

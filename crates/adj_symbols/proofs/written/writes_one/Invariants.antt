@@ -1,0 +1,9 @@
+-- None of the names passed is chosen.
+use Rattle.std.proofs.Common.{◌≡◌, drop}
+use Rattle.std.specs.List.{list_any}
+use Rattle.adj_names.specs.Fresh.{has_name}
+use Rattle.adj_symbols.specs.Writes.{names_seen}
+use Rattle.adj_symbols.proofs.written.writes_one.Given as goal
+
+abbrev pub invariant-loop-name : goal.invariant-loop-name
+invariant-loop-name l = list_any (λ x. has_name x l.chosen) (names_seen (drop l.name-index l.name-items)) ≡ list_any (λ x. has_name x l.chosen) (names_seen l.name-items)
