@@ -1,2 +1,7 @@
--- What the contracts of this crate say.
 pub mod Form
+pub mod Made
+pub mod Locals
+pub mod Steps
+pub mod Operations
+pub mod Targets
+pub mod Passings

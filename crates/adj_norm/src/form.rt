@@ -19,7 +19,7 @@ fn same_name(name: &Name, other: &Name) -> bool
 
 /// Whether the variable of a name stands in an expression.
 #[cycle(reads)]
-fn stands_in(name: &Name, e: &Expr) -> bool
+pub(crate) fn stands_in(name: &Name, e: &Expr) -> bool
     ensures stands { result ≡ reads_term (plain name.now) (term_of e.now) }
 {
     match e {

@@ -1,10 +1,19 @@
 //! The kernel of a program, as code.
 //!
-//! `form` tests whether a program is in kernel form. What the kernel is, and that it means what the program means, stands in
-//! `adj_kernel`; the contracts here say that the code gives exactly that.
+//! `form` tests whether a program is in kernel form. `locals` names the locals of a unit; `target` and `call` write what becomes of
+//! an assignment and of a CALL in a kernel, by `expression` and `passing`. What the kernel is, and that it means what the program
+//! means, stands in `adj_kernel`; the contracts here say that the code gives exactly that. Bodies, units and programs are to come.
 #![tactic(auto)]
 
+pub mod call;
+pub mod expression;
 pub mod form;
+pub mod locals;
+#[cfg(test)]
+mod lowering_tests;
+pub mod passing;
+pub mod step;
+pub mod target;
 #[cfg(test)]
 mod tests;
 

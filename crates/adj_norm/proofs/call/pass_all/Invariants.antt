@@ -1,0 +1,19 @@
+-- The actuals passed are names.
+use Rattle.std.proofs.Common.{◌≡◌, ◌+◌, []}
+use Rattle.adj_tree.specs.Listed.{terms_turned}
+use Rattle.adj_tree.specs.View.{terms_of}
+use Rattle.adj_kernel.specs.Lowered.{all_passed, before_passing_all, after_passing_all, locals_passing_all}
+use Rattle.adj_norm.specs.Locals.{local_by}
+use Rattle.adj_norm.specs.Passings.{HasNamesOf, vars_in}
+use Rattle.adj_norm.specs.Steps.{Leaves}
+use Rattle.adj_norm.proofs.call.pass_all.Given as goal
+
+abbrev pub invariant-loop-current : goal.invariant-loop-current
+invariant-loop-current l = record {
+  earlier : HasNamesOf l.named.earlier (vars_in (terms_of l.named.turned));
+  next : l.named.next + locals_passing_all (local_by l.fn.locals) l.named.next l.flags (vars_in (terms_of l.named.turned)) (terms_of l.current) ≡ l.first + locals_passing_all (local_by l.fn.locals) l.first l.written [] (terms_of l.actuals);
+  names : terms_turned (terms_of l.named.turned) (all_passed (local_by l.fn.locals) l.named.next l.flags (vars_in (terms_of l.named.turned)) (terms_of l.current)) ≡ all_passed (local_by l.fn.locals) l.first l.written [] (terms_of l.actuals);
+  steps : Leaves l.fn.steps.items (before_passing_all (local_by l.fn.locals) l.line l.first l.written [] (terms_of l.actuals)) l.steps.items (before_passing_all (local_by l.fn.locals) l.line l.named.next l.flags (vars_in (terms_of l.named.turned)) (terms_of l.current));
+  after : Leaves [] (after_passing_all (local_by l.fn.locals) l.line l.first l.written [] (terms_of l.actuals)) l.named.after.items (after_passing_all (local_by l.fn.locals) l.line l.named.next l.flags (vars_in (terms_of l.named.turned)) (terms_of l.current));
+  locals : local_by l.locals ≡ local_by l.fn.locals;
+}

@@ -1,0 +1,9 @@
+-- The locals of a unit, by number.
+use Rattle.std.specs.Prelude.{ℕ, take}
+use Rattle.adj_tree.specs.Code.{Var}
+use Rattle.adj_kernel.specs.Kernel.{local_of}
+use Rattle.adj_norm.specs.declared.locals.Locals.{Locals}
+
+-- the variable that is the local of each number
+abbrev pub local_by : Locals → ℕ → Var
+local_by l = local_of (take l.before l.taken)
