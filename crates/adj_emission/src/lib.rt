@@ -15,5 +15,3 @@ pub mod loops;
 pub mod plan;
 pub mod repeats;
 pub mod sweeps;
-#[cfg(test)]
-mod tests;

@@ -25,8 +25,6 @@ mod sharing;
 mod standing;
 mod statements;
 mod table;
-#[cfg(test)]
-mod tests;
 mod unit_names;
 mod write_faults;
 mod written;
