@@ -6,8 +6,6 @@
 #![tactic(auto)]
 
 mod application;
-#[cfg(test)]
-mod condition_tests;
 mod conditions;
 mod constant;
 mod expressions;
@@ -19,8 +17,6 @@ mod laws;
 mod machine;
 mod operand;
 mod proposition;
-#[cfg(test)]
-mod tests;
 mod waiting;
 
 pub use conditions::condition;

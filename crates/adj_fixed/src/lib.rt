@@ -17,6 +17,3 @@ pub use adj_text::{Kind, Mode, Stated, Token, TokenKind, Tokens};
 pub use data::data_part;
 pub use line::{next_number, split_line, without_cr};
 pub use statement::statements;
-
-#[cfg(test)]
-mod tests;

@@ -8,7 +8,5 @@
 pub mod callees;
 pub mod depths;
 pub mod measure;
-#[cfg(test)]
-mod tests;
 pub mod used;
 pub mod uses;

@@ -16,8 +16,6 @@ mod step;
 mod stop;
 mod tally;
 mod term;
-#[cfg(test)]
-mod tests;
 mod trips;
 
 pub use frame::Frame;

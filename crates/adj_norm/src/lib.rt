@@ -9,12 +9,8 @@ pub mod call;
 pub mod expression;
 pub mod form;
 pub mod locals;
-#[cfg(test)]
-mod lowering_tests;
 pub mod passing;
 pub mod step;
 pub mod target;
-#[cfg(test)]
-mod tests;
 
 pub use form::is_kernel;

@@ -11,8 +11,6 @@ mod layout;
 mod list;
 mod runtime;
 mod statement;
-#[cfg(test)]
-mod tests;
 mod unit;
 
 pub use unit::text;

@@ -11,6 +11,4 @@ pub mod site;
 pub mod sizes;
 pub mod step;
 pub mod terms;
-#[cfg(test)]
-mod tests;
 mod written;
