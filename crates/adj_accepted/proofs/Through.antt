@@ -1,0 +1,148 @@
+-- An adjoint of the kernel of an accepted program is one of the program.
+use Rattle.std.proofs.Common.{arith, ◌≡◌, ℕ, ◌≤◌, Bool, true, false, List, [], ◌∷◌, ◌++◌, refl, sym, ap, ◌∙◌, subst}
+use mathlib.Core.List.{reverse-cons}
+use Rattle.std.proofs.lemmas.List.{append-nil}
+use Rattle.std.specs.Prelude.{ℤ, ◌*◌, Some, None, reverse, if◌then◌else◌}
+use Rattle.adj_tree.specs.Code.{Procedure}
+use Rattle.adj_meaning.specs.Numbers.{words, duals}
+use Rattle.adj_meaning.specs.Event.{Event, Enter, Begin, End, Marked}
+use Rattle.adj_meaning.specs.Scene.{Done}
+use Rattle.adj_meaning.specs.Written.{find_unit}
+use Rattle.adj_meaning.specs.Units.{Slot, Output, fits, run_unit}
+use Rattle.adj_transpose.specs.Adjoint.{IsDirection, Agrees, with_direction, tangents_of, cells_of, product}
+use Rattle.adj_transpose.specs.MarkedProgram.{shadows_behind}
+use Rattle.adj_transpose.specs.MarkedAdjoint.{shadow_flags}
+use Rattle.adj_names.specs.Fault.{run_rules}
+use Rattle.adj_names.specs.HeadFaults.{unit_number}
+use Rattle.adj_reverse.specs.Reversals.{marks_in, MarkedRun}
+use Rattle.adj_reverse.specs.Marking.{full_marks}
+use Rattle.adj_reverse.specs.Program.{adjoint_names, all_units}
+use Rattle.adj_reverse.specs.Adjoint.{TransposesBy}
+use Rattle.adj_kernel.specs.Stepped.{stepped_program, kernel_of}
+use Rattle.adj_kernel.specs.StepTheorem.{marked_of}
+use Rattle.adj_kernel.specs.Means.{MeansAlike}
+use Rattle.adj_kernel.specs.StepMeans.{SameButCalls}
+use Rattle.adj_kernel.specs.Sound.{IsAccepted}
+use Rattle.adj_kernel.proofs.SoundPrograms.{sound_is_source}
+use Rattle.adj_reverse.proofs.Told.{marks_in-append}
+use Rattle.adj_kernel.proofs.WholeKernels.{whole_units, whole_means_alike}
+use Rattle.adj_checked.proofs.Premises.{checked_is_adjoint}
+use Rattle.adj_emitted.proofs.Programs.{emitted_written}
+use Rattle.adj_emitted.proofs.SoundPrograms.{emitted_sound}
+use Rattle.adj_accepted.specs.Accepted.{KernelsAdjoint, EmittedIsAdjoint, EmittedIsWritten, EmittedIsSound}
+use Rattle.adj_accepted.proofs.Heaviest.{heaviest_in, all_weigh}
+use Rattle.adj_accepted.proofs.Directions.{direction_fits}
+use Rattle.adj_accepted.proofs.Kernels.{kernel_checked, numbered, found_name, IsKernelUnit, becomes}
+
+-- ---- marked loops that were told
+
+-- they are told by the events of marked loops alone
+marks_told : (at : ℕ → Bool) (es : List Event) → marks_in at es ≡ marks_in at (marked_of es)
+marks_told at [] = refl
+marks_told at (Enter name l height shapes ∷ es) = marks_told at es
+marks_told at (Begin steps snapshots level height ∷ es) = marks_told at es
+marks_told at (End l ∷ es) = marks_told at es
+marks_told at (Marked line turns snapshots ∷ es) = go (at line) (marks_told at es)
+  where
+    go : (b : Bool) → marks_in at es ≡ marks_in at (marked_of es) → (if b then record { line = line; turns = turns; snapshots = snapshots } ∷ marks_in at es else marks_in at es) ≡ (if b then record { line = line; turns = turns; snapshots = snapshots } ∷ marks_in at (marked_of es) else marks_in at (marked_of es))
+    go true ih = ap (λ l. record { line = line; turns = turns; snapshots = snapshots } ∷ l) ih
+    go false ih = ih
+
+-- they are told in the other order
+marks_reverse : (at : ℕ → Bool) (es : List Event) → marks_in at (reverse es) ≡ reverse (marks_in at es)
+marks_reverse at [] = refl
+marks_reverse at (Enter name l height shapes ∷ es) = ap (marks_in at) (reverse-cons (Enter name l height shapes) es) ∙ marks_in-append at (reverse es) (Enter name l height shapes ∷ []) ∙ append-nil (marks_in at (reverse es)) ∙ marks_reverse at es
+marks_reverse at (Begin steps snapshots level height ∷ es) = ap (marks_in at) (reverse-cons (Begin steps snapshots level height) es) ∙ marks_in-append at (reverse es) (Begin steps snapshots level height ∷ []) ∙ append-nil (marks_in at (reverse es)) ∙ marks_reverse at es
+marks_reverse at (End l ∷ es) = ap (marks_in at) (reverse-cons (End l) es) ∙ marks_in-append at (reverse es) (End l ∷ []) ∙ append-nil (marks_in at (reverse es)) ∙ marks_reverse at es
+marks_reverse at (Marked line turns snapshots ∷ es) =
+    ap (marks_in at) (reverse-cons (Marked line turns snapshots) es) ∙ marks_in-append at (reverse es) (Marked line turns snapshots ∷ []) ∙ ap (λ z. z ++ marks_in at (Marked line turns snapshots ∷ [])) (marks_reverse at es) ∙ go (at line)
+  where
+    here : MarkedRun
+    here = record { line = line; turns = turns; snapshots = snapshots }
+
+    go : (b : Bool) → reverse (marks_in at es) ++ (if b then here ∷ [] else []) ≡ reverse (if b then here ∷ marks_in at es else marks_in at es)
+    go true = sym (reverse-cons here (marks_in at es))
+    go false = append-nil (reverse (marks_in at es))
+
+-- the same marked loops, told in the other order
+same_marks : (at : ℕ → Bool) (es fs : List Event) → marked_of es ≡ marked_of fs → marks_in at (reverse es) ≡ marks_in at (reverse fs)
+same_marks at es fs h = marks_reverse at es ∙ ap reverse (marks_told at es ∙ ap (marks_in at) h ∙ sym (marks_told at fs)) ∙ sym (marks_reverse at fs)
+
+-- ---- runs
+
+module _ (ps : List Procedure) (a : IsAccepted ps) (name : List ℕ) (u v : Procedure) (found : find_unit ps name ≡ Some u) (kernel : find_unit (kernel_of ps) name ≡ Some v) where
+  abbrev ks : List Procedure
+  ks = kernel_of ps
+
+  like : IsKernelUnit u v
+  like = becomes ps name u v found kernel
+
+  on_words : (input : List (Slot ℤ)) → fits words u input ≡ true → MeansAlike SameButCalls (run_unit words ps u input [] None) (run_unit words ks v input [] None) (18 * heaviest_in (stepped_program ps))
+  on_words input f = whole_means_alike {C = ℤ} words (record { shows = λ z. refl }) ps (sound_is_source ps a.written a.sound ℤ) (heaviest_in (stepped_program ps)) (all_weigh (stepped_program ps)) name u v found kernel input f [] None
+
+  on_duals : (input : List (Slot (ℤ × ℤ))) → fits duals u input ≡ true → MeansAlike SameButCalls (run_unit duals ps u input [] None) (run_unit duals ks v input [] None) (18 * heaviest_in (stepped_program ps))
+  on_duals input f = whole_means_alike {C = ℤ × ℤ} duals (record { shows = λ z. refl }) ps (sound_is_source ps a.written a.sound (ℤ × ℤ)) (heaviest_in (stepped_program ps)) (all_weigh (stepped_program ps)) name u v found kernel input f [] None
+
+  module _ (vars outvars : List Bool) (input : List (Slot ℤ)) (f : fits words u input ≡ true) where
+    -- a dual run of the kernel is one of the program
+    agrees : (before after : List (List ℤ)) (d : List (List ℤ)) → IsDirection vars input d → Agrees ks v vars outvars input before after d → Agrees ps u vars outvars input before after d
+    agrees before after d is g =
+        let means = on_duals (with_direction input d) (direction_fits u input d is.tangents ∙ f) in
+        let least : g.dual.enough ≤ g.dual.enough = omega arith in
+        let was = means.done_back g.dual.enough g.dual.used g.dual.output (g.dual.runs g.dual.enough least) in
+        record {
+          dual = record { enough = was.ends.enough; output = was.first; used = was.ends.used; runs = was.ends.runs };
+          products = g.products ∙ ap (λ z. product outvars before (tangents_of (cells_of z))) (sym was.related.slots);
+        }
+
+    -- what an adjoint of the kernel does for a run of the kernel, it does for the program's
+    transposes : (lines : ℕ → Bool) (flags : List Bool) (qs : List Procedure) (q : Procedure) (shadows : List (Slot ℤ)) (k used : ℕ) (output : Output ℤ) → run_unit words ps u input [] None k ≡ Done output used →
+        ((k used : ℕ) (output : Output ℤ) → run_unit words ks v input [] None k ≡ Done output used → TransposesBy lines flags ks v vars outvars qs q input shadows output.events) → TransposesBy lines flags ps u vars outvars qs q input shadows output.events
+    transposes lines flags qs q shadows k used output done h =
+        let other = (on_words input f).done k used output done in
+        let least : other.ends.enough ≤ other.ends.enough = omega arith in
+        let t = h other.ends.enough other.ends.used other.other (other.ends.runs other.ends.enough least) in
+        record {
+          fits = t.fits;
+          run = t.run;
+          empties = t.empties;
+          reverses = record { loops = t.reverses.loops; marks = same_marks lines output.events other.other.events other.related.marked ∙ t.reverses.marks; reversed = t.reverses.reversed };
+          products = λ d is. agrees _ _ d is (t.products d is);
+          others = t.others;
+        }
+
+-- ---- adjoints
+
+-- an adjoint of the kernel is one of the program
+pub kernels_adjoint : KernelsAdjoint
+kernels_adjoint lines m ps a name u found vars outvars qs h =
+    let k = whole_units ps name u found in
+    let one : k.becomes ∷ [] ≡ h.unit ∷ [] = sym (numbered (kernel_of ps) name k.becomes k.found) ∙ h.is_head in
+    let same : k.becomes ≡ h.unit = cc in
+    let there : find_unit (kernel_of ps) name ≡ Some h.unit = k.found ∙ ap Some same in
+    let like = becomes ps name u h.unit found there in
+    let named : h.unit.name ≡ name = found_name (kernel_of ps) name h.unit there in
+    record {
+      unit = u;
+      is_head = found;
+      kernel = h.unit;
+      becomes = there;
+      adjoint = h.adjoint;
+      is_there = h.is_there;
+      dummies = h.dummies ∙ (λ i. shadows_behind (m.shadowed (named i)) (adjoint_names m (kernel_of ps) (all_units m (kernel_of ps) h.unit) h.unit) (like.same_dummies i));
+      transposes = λ input shadows fit alike k used output done.
+          transposes ps a name u h.unit found there vars outvars input fit lines (shadow_flags (m.shadowed name) u.dummies) qs h.adjoint shadows k used output done
+          (λ k used output done. subst (λ fl. TransposesBy lines fl (kernel_of ps) h.unit vars outvars qs h.adjoint input shadows output.events) (λ i. shadow_flags (m.shadowed (named i)) (like.same_dummies i)) (h.transposes input shadows (like.same_fits input ∙ fit) alike k used output done));
+    }
+
+-- what is emitted for the kernel is an adjoint of the program
+pub emitted_is_adjoint : EmittedIsAdjoint
+emitted_is_adjoint ps a name u found vars outvars =
+    let k = whole_units ps name u found in
+    kernels_adjoint (λ line. false) full_marks ps a name u found vars outvars _ (checked_is_adjoint run_rules (kernel_of ps) (kernel_checked ps a) (unit_number (kernel_of ps) name) vars outvars k.becomes (numbered (kernel_of ps) name k.becomes k.found))
+
+pub is_written : EmittedIsWritten
+is_written ps a name vars outvars = emitted_written run_rules (kernel_of ps) (kernel_checked ps a) (unit_number (kernel_of ps) name) vars outvars
+
+pub is_sound : EmittedIsSound
+is_sound ps a name vars outvars = let few : run_rules.chain ≤ run_rules.chain = omega arith in emitted_sound run_rules (kernel_of ps) (kernel_checked ps a) few (unit_number (kernel_of ps) name) vars outvars
