@@ -1,0 +1,14 @@
+-- Lists passed one by one, and units at their places.
+pub mod Walks
+pub mod Places
+-- The names, numbers and calls of units in their order.
+pub mod Ordered
+pub mod Edges
+pub mod Reached
+-- What is known of units that are called, and which variables are arrays.
+pub mod Known
+pub mod Declared
+-- The adjoint of a unit.
+pub mod Renamed
+pub mod Units
+pub mod Program

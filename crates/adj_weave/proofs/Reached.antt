@@ -1,0 +1,187 @@
+-- The units that are reached are the nodes that paths along calls meet.
+use Rattle.std.proofs.Common.{◌≡◌, ℕ, zero, suc, ◌+◌, ◌<◌, ◌⊎◌, inl, inr, Bool, true, false, List, [], ◌∷◌, map, length, get_or, refl, sym, ap, ◌∙◌, subst, arith, if◌then◌else◌}
+use Rattle.std.specs.Prelude.{◌↔◌, Contains, IsTrue}
+use Rattle.std.specs.List.{All}
+use Rattle.std.proofs.lemmas.List.{length-map}
+use Rattle.std.proofs.lemmas.List.Elements.{Contains-get_or, All-contains}
+use Rattle.adj_tree.specs.Code.{name_eq, Procedure}
+use Rattle.adj_tree.proofs.Names.{name_refl, name_same}
+use Rattle.adj_transpose.specs.Naming.{AreApart}
+use Rattle.adj_transpose.specs.Program.{unit_name, unit_at}
+use Rattle.adj_transpose.proofs.Variables.{or_right}
+use Rattle.adj_reverse.specs.Marking.{full_marks, first_from}
+use Rattle.adj_reverse.specs.Program.{calls_in, calls_some, reached_after, is_reached, has_adjoint, is_kept, is_carried}
+use Rattle.adj_reverse.specs.Source.{is_unit}
+use Rattle.adj_reverse.proofs.Rounds.{reached_last}
+use Rattle.adj_reverse.proofs.EmittedUnits.{found_there}
+use Rattle.adj_checked.proofs.Lists.{Each}
+use Rattle.adj_checked.proofs.Callings.{Found, all_found, caller_of, calls_found_some, roots_reached}
+use Rattle.adj_facts.specs.Reached.{begins, leads}
+use Rattle.adj_facts.proofs.Members.{is_first, is_later, is_among, is_none, is_only}
+use Rattle.adj_reach.specs.Edges.{Edges, ReachedFrom, AreBelow, flag}
+use Rattle.adj_naming.proofs.Places.{get_or_any}
+use Rattle.adj_weave.specs.Orders.{edges_from, ends_of}
+use Rattle.adj_weave.proofs.Places.{At, at_there, at_one, at_map, at_place, place_at, one_place, found_at, find_at, same_lists, number_at}
+use Rattle.adj_weave.proofs.Edges.{any, either_of, from_one, edge_has, edge_only}
+
+-- ---- the ends of edges from flagged nodes
+
+pub ends_has : (flags : List Bool) (es : Edges) (e : ℕ × ℕ) → Contains es e → flag flags e.0 ≡ true → Contains (ends_of flags es) e.1
+ends_has flags [] e c f = absurd (is_none e c)
+ends_has flags (d ∷ es) e c f = go (is_among e d es c) (λ r. ends_has flags es e r f)
+  where
+    later : (b : Bool) → Contains (ends_of flags es) e.1 → Contains (if b then d.1 ∷ ends_of flags es else ends_of flags es) e.1
+    later true r = is_later e.1 d.1 (ends_of flags es) r
+    later false r = r
+
+    go : (d ≡ e) ⊎ Contains es e → (Contains es e → Contains (ends_of flags es) e.1) → Contains (if flag flags d.0 then d.1 ∷ ends_of flags es else ends_of flags es) e.1
+    go (inl s) ih = subst (λ b. Contains (if b then d.1 ∷ ends_of flags es else ends_of flags es) e.1) (sym (ap (λ z. flag flags z.0) s ∙ f)) (is_first e.1 d.1 (ends_of flags es) (ap (λ z. z.1) s))
+    go (inr r) ih = later (flag flags d.0) (ih r)
+
+pub ends_only : (flags : List Bool) (es : Edges) (j : ℕ) → Contains (ends_of flags es) j → (e : ℕ × ℕ) × Contains es e × (e.1 ≡ j) × (flag flags e.0 ≡ true)
+ends_only flags [] j c = absurd (is_none j c)
+ends_only flags (d ∷ es) j c = go (flag flags d.0) refl c (ends_only flags es j)
+  where
+    go : (b : Bool) → flag flags d.0 ≡ b → Contains (if b then d.1 ∷ ends_of flags es else ends_of flags es) j → (Contains (ends_of flags es) j → (e : ℕ × ℕ) × Contains es e × (e.1 ≡ j) × (flag flags e.0 ≡ true)) →
+        (e : ℕ × ℕ) × Contains (d ∷ es) e × (e.1 ≡ j) × (flag flags e.0 ≡ true)
+    go true f m ih = pick (is_among j d.1 (ends_of flags es) m)
+      where
+        pick : (d.1 ≡ j) ⊎ Contains (ends_of flags es) j → (e : ℕ × ℕ) × Contains (d ∷ es) e × (e.1 ≡ j) × (flag flags e.0 ≡ true)
+        pick (inl s) = (d, is_first d d es refl, s, f)
+        pick (inr r) = let o = ih r in (o.0, is_later o.0 d es o.1, o.2, o.3)
+    go false f m ih = let o = ih m in (o.0, is_later o.0 d es o.1, o.2, o.3)
+
+-- what is true where the other is, and the other way round, is the same
+same_truth : (a b : Bool) → (a ≡ true → b ≡ true) → (b ≡ true → a ≡ true) → a ≡ b
+same_truth true b f g = sym (f refl)
+same_truth false true f g = g refl
+same_truth false false f g = refl
+
+-- ---- what is reached
+
+module _ (ps : List Procedure) (apart : AreApart (map unit_name ps)) where
+  abbrev names : List (List ℕ)
+  names = map unit_name ps
+
+  abbrev pub edges : Edges
+  edges = edges_from (map unit_name ps) 0 ps
+
+  all : Each (Found ps) ps
+  all = all_found ps apart
+
+  -- an edge leads from a unit to one that it calls
+  pub record Step (e : ℕ × ℕ) : Type 0 where
+    pub from : Procedure
+    pub from_at : At ps e.0 from
+    pub to : Procedure
+    pub to_at : At ps e.1 to
+    pub calls : (m : ℕ) → calls_in any to.name m from.body ≡ true
+
+  pub step_of : (e : ℕ × ℕ) → Contains edges e → Step e
+  step_of e c =
+      let o = edge_only names 0 ps e c in
+      let same : o.place ≡ e.0 = let f = o.from in omega arith in
+      let named : At names e.1 o.callee = at_place names e.1 o.callee o.to in
+      let many : length names ≡ length ps = length-map ps unit_name in
+      let inside : e.1 < length ps = let l = named.within in omega arith in
+      let u = at_there ps e.1 inside in
+      let called : o.callee ≡ (u.0).name = at_one names e.1 o.callee (u.0).name named (at_map unit_name ps e.1 u.0 u.1) in
+      record {
+        from = o.unit;
+        from_at = subst (λ z. At ps z o.unit) same o.at;
+        to = u.0;
+        to_at = u.1;
+        calls = λ m. subst (λ z. calls_in any z m o.unit.body ≡ true) called (o.calls m);
+      }
+
+  pub of_step : (i j : ℕ) (u v : Procedure) (m : ℕ) → At ps i u → At ps j v → calls_in any v.name m u.body ≡ true → Contains edges (i, j)
+  of_step i j u v m h g c =
+      let same : 0 + i ≡ i = omega arith in
+      subst (λ z. Contains edges (z, j)) same (edge_has names 0 ps i u v.name j m h (place_at names j v.name apart (at_map unit_name ps j v g)) c)
+
+  -- each edge is between units
+  pub edges_below : AreBelow (length ps) edges
+  edges_below k d lt = let s = step_of (get_or edges k d) (Contains-get_or edges k d lt) in let a = s.from_at in let b = s.to_at in (a.within, b.within)
+
+  module _ (roots : List ℕ → Bool) (start : List ℕ) (only : (j : ℕ) → Contains start j → (u : Procedure) × At ps j u × (roots u.name ≡ true)) (whole : (j : ℕ) (u : Procedure) → At ps j u → roots u.name ≡ true → Contains start j) where
+    abbrev after : ℕ → List ℕ → Bool
+    after k = reached_after roots any ps k
+
+    there : (j : ℕ) (u : Procedure) → At ps j u → is_unit ps u.name ≡ true
+    there j u h = let f = found_there ps u.name u (find_at ps j u apart h) in f.0
+
+    paths : (j : ℕ) → ReachedFrom edges start j → (u : Procedure) × At ps j u × (after (length ps) u.name ≡ true)
+    paths j (begins c) = let o = only j c in (o.0, o.1, roots_reached roots any ps (o.0).name o.0 (find_at ps j o.0 apart o.1) (o.0).name o.2)
+    paths j (leads {x = i} r c) =
+        let o : (u : Procedure) × At ps i u × (after (length ps) u.name ≡ true) = paths i r in
+        let s = step_of (i, j) c in
+        let same : o.0 ≡ s.from = at_one ps i o.0 s.from o.1 s.from_at in
+        let inside : after (length ps) s.from.name ≡ true = ap (λ (z : Procedure). after (length ps) z.name) (sym same) ∙ o.2 in
+        let called : calls_some (after (length ps)) any s.to.name 0 ps ≡ true =
+        calls_found_some (after (length ps)) any s.to.name 0 ps s.from.name s.from (find_at ps i s.from apart s.from_at) inside (s.calls (first_from 0 ps s.from.name)) in
+        (s.to, s.to_at, reached_last roots any ps s.to.name (there j s.to s.to_at) (or_right (roots s.to.name) (calls_some (after (length ps)) any s.to.name 0 ps) called))
+
+    rounds : (k j : ℕ) (u : Procedure) → At ps j u → after k u.name ≡ true → ReachedFrom edges start j
+    rounds zero j u h r = absurd cc
+    rounds (suc k) j u h r =
+        from_one (either_of (roots u.name) (calls_some (after k) any u.name 0 ps) r)
+        (λ e. begins (whole j u h e))
+        (λ e.
+        let d = caller_of ps (after k) any u.name 0 ps all e in
+        let i = found_at ps d.unit.name d.unit d.found in
+        leads (rounds k i.0 d.unit i.1 d.inside) (of_step i.0 j d.unit u d.number i.1 h d.calling))
+
+    -- flags that say of each node whether a path meets it say of each unit whether it is reached
+    pub flags_are : (flags : List Bool) → length flags ≡ length ps → ((x : ℕ) → IsTrue (flag flags x) ↔ ReachedFrom edges start x) → flags ≡ map (λ u. is_reached roots any ps u.name) ps
+    flags_are flags many exact = same_lists (λ (u : Procedure). is_reached roots any ps u.name) ps flags many one
+      where
+        one : (j : ℕ) (u : Procedure) (b : Bool) → At ps j u → At flags j b → b ≡ is_reached roots any ps u.name
+        one j u b h g = same_truth b (after (length ps) u.name)
+            (λ t. let o = paths j ((exact j).0 (sym seen ∙ t)) in let s : o.0 ≡ u = at_one ps j o.0 u o.1 h in ap (λ (z : Procedure). after (length ps) z.name) (sym s) ∙ o.2)
+            (λ t. seen ∙ (exact j).1 (rounds (length ps) j u h t))
+          where
+            seen : b ≡ flag flags j
+            seen = g.is ∙ get_or_any flags j b false g.within
+
+  -- ---- the units that are emitted
+
+  module _ (number : ℕ) (head : Procedure) (at : unit_at number ps ≡ head ∷ []) where
+    head_at : At ps number head
+    head_at = number_at ps number head at
+
+    pub adjointed_are : (flags : List Bool) → length flags ≡ length ps → ((x : ℕ) → IsTrue (flag flags x) ↔ ReachedFrom edges (number ∷ []) x) → flags ≡ map (λ u. has_adjoint full_marks ps head u.name) ps
+    adjointed_are flags many exact =
+        flags_are (name_eq head.name) (number ∷ [])
+        (λ j c. let s : number ≡ j = is_only j number c in (head, subst (λ z. At ps z head) s head_at, name_refl head.name))
+        (λ j u h e.
+        let same : head.name ≡ u.name = name_same head.name u.name e in
+        let place : number ≡ j = one_place names number j u.name apart (subst (At names number) same (at_map unit_name ps number head head_at)) (at_map unit_name ps j u h) in
+        is_first j number [] place)
+        flags many exact
+
+    -- a flag says whether its unit is reached
+    flag_at : (flags : List Bool) → flags ≡ map (λ u. has_adjoint full_marks ps head u.name) ps → (j : ℕ) (u : Procedure) → At ps j u → flag flags j ≡ has_adjoint full_marks ps head u.name
+    flag_at flags are j u h =
+        let a = at_map (λ (u : Procedure). has_adjoint full_marks ps head u.name) ps j u h in
+        ap (λ fs. flag fs j) are ∙ get_or_any (map (λ (u : Procedure). has_adjoint full_marks ps head u.name) ps) j false (has_adjoint full_marks ps head u.name) a.within ∙ sym a.is
+
+    pub carried_are : (adjointed flags : List Bool) → adjointed ≡ map (λ u. has_adjoint full_marks ps head u.name) ps → length flags ≡ length ps → ((x : ℕ) → IsTrue (flag flags x) ↔ ReachedFrom edges (ends_of adjointed edges) x) → flags ≡ map (λ u. is_carried full_marks ps head u.name) ps
+    carried_are adjointed flags are many exact =
+        flags_are (is_kept full_marks ps head) (ends_of adjointed edges)
+        (λ j c.
+        let o = ends_only adjointed edges j c in
+        let s = step_of o.0 o.1 in
+        let inside : has_adjoint full_marks ps head s.from.name ≡ true = sym (flag_at adjointed are (o.0).0 s.from s.from_at) ∙ o.3 in
+        (s.to, subst (λ z. At ps z s.to) o.2 s.to_at, calls_found_some (has_adjoint full_marks ps head) any s.to.name 0 ps s.from.name s.from (find_at ps (o.0).0 s.from apart s.from_at) inside (s.calls (first_from 0 ps s.from.name))))
+        (λ j u h e.
+        let d = caller_of ps (has_adjoint full_marks ps head) any u.name 0 ps all e in
+        let i = found_at ps d.unit.name d.unit d.found in
+        ends_has adjointed edges (i.0, j) (of_step i.0 j d.unit u d.number i.1 h d.calling) (flag_at adjointed are i.0 d.unit i.1 ∙ d.inside))
+        flags many exact
+
+-- the ends of edges are nodes
+pub ends_below : (n : ℕ) (flags : List Bool) (es : Edges) → AreBelow n es → All (λ x. x < n) (ends_of flags es)
+ends_below n flags es h k d lt =
+    let o = ends_only flags es (get_or (ends_of flags es) k d) (Contains-get_or (ends_of flags es) k d lt) in
+    let b = All-contains (λ (e : ℕ × ℕ). (e.0 < n) × (e.1 < n)) es o.0 h o.1 in
+    subst (λ z. z < n) o.2 b.1

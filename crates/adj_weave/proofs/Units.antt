@@ -1,0 +1,138 @@
+-- The adjoint of a unit is put together.
+use Rattle.std.proofs.Common.{◌≡◌, ℕ, true, false, List, [], ◌∷◌, ◌++◌, map, refl, sym, ap, ◌∙◌}
+use Rattle.std.specs.Prelude.{◌||◌, ◌==◌, not, length, Option, Some}
+use Rattle.adj_tree.specs.Code.{Var, plain, shadow, helper, Code, Declaration, Procedure, var_eq}
+use Rattle.adj_meaning.specs.Rename.{rename}
+use Rattle.adj_meaning.specs.Written.{find_unit}
+use Rattle.adj_names.specs.Fault.{source_rules}
+use Rattle.adj_names.specs.NameFaults.{is_rank_for}
+use Rattle.adj_names.specs.Variables.{variables, rank}
+use Rattle.adj_transpose.specs.Fresh.{has_name, reserved}
+use Rattle.adj_transpose.specs.Marks.{everything, full}
+use Rattle.adj_transpose.specs.Marked.{names_in}
+use Rattle.adj_transpose.specs.Naming.{Named, named, name_in, naming}
+use Rattle.adj_transpose.specs.Program.{declared_helpers}
+use Rattle.adj_transpose.specs.MarkedProgram.{shadows_behind, declared_behind}
+use Rattle.adj_transpose.proofs.Naming.{own-name}
+use Rattle.adj_reverse.specs.Plan.{Plan}
+use Rattle.adj_reverse.specs.Names.{adjoint_name}
+use Rattle.adj_reverse.specs.Marking.{full_marks, first_statement, plan_in, arrays_of, callee_in}
+use Rattle.adj_reverse.specs.Program.{helpers_used, adjoint_names, adjoint_unit}
+use Rattle.adj_reverse.specs.Emission.{adjoint_body}
+use Rattle.adj_checked.specs.Checked.{IsChecked}
+use Rattle.adj_checked.proofs.Lists.{Each, each_found}
+use Rattle.adj_emitted.specs.Shadowed.{HasShadows, AllHaveShadows}
+use Rattle.adj_emitted.proofs.Over.{OverCode, Any}
+use Rattle.adj_emitted.proofs.Tables.{among, has_var, plain_known}
+use Rattle.adj_emitted.proofs.Used.{used_helpers}
+use Rattle.adj_emitted.proofs.Apart.{VarsApart, used_apart}
+use Rattle.adj_emitted.proofs.MadeNames.{follows}
+use Rattle.adj_emitted.proofs.Sources.{each_name, UnitSound, all_named}
+use Rattle.adj_emitted.proofs.Programs.{full_shadows}
+use Rattle.adj_emitted.proofs.NameFaults.{NamesSound, all_names_sound}
+use Rattle.adj_emitted.proofs.AdjointNames.{body_with}
+use Rattle.adj_naming.specs.declared.names.Names.{Names}
+use Rattle.adj_naming.specs.Sets.{has_variable, AreDifferent}
+use Rattle.adj_naming.specs.Table.{table_of, named_by}
+use Rattle.adj_emission.specs.Plans.{named_among}
+use Rattle.adj_weave.specs.Shared.{AreOf}
+use Rattle.adj_weave.proofs.Declared.{shadow_undeclared, helper_undeclared}
+use Rattle.adj_weave.proofs.Renamed.{code_same}
+
+-- ---- helpers
+
+same_among : (v : Var) (vs : List Var) → has_variable v vs ≡ among v vs
+same_among v [] = refl
+same_among v (w ∷ vs) = ap (λ b. var_eq v w || b) (same_among v vs)
+
+different : (vs : List Var) → VarsApart vs → AreDifferent vs
+different [] h = tt
+different (v ∷ vs) h = (same_among v vs ∙ h.0, different vs h.1)
+
+-- the helpers of a unit stand once
+pub helpers_different : (p : Plan) (i : ℕ) (c : Code) → AreDifferent (helpers_used p i c)
+helpers_different p i c = different (helpers_used p i c) (used_apart p i c)
+
+-- ---- the plan
+
+-- everything has a shadow
+pub all_shadowed : (xs : List (List ℕ)) → names_in everything xs ≡ xs
+all_shadowed [] = refl
+all_shadowed (x ∷ xs) = ap (λ l. x ∷ l) (all_shadowed xs)
+
+-- a plan that knows the arrays of a unit is the unit's
+pub plan_is : (ps : List Procedure) (u : Procedure) (arrays : List (List ℕ)) → ((x : List ℕ) → has_name x arrays ≡ arrays_of u (plain x)) →
+    (let p : Plan = record { marks = full; arrays = named_among arrays; callees = callee_in full_marks ps } in p ≡ plan_in full_marks ps u)
+plan_is ps u arrays h = λ i. record { marks = full; arrays = λ v. same v i; callees = callee_in full_marks ps }
+  where
+    same : (v : Var) → named_among arrays v ≡ arrays_of u v
+    same (plain x) = h x
+    same (shadow x) = sym (ap (λ (l : List _). not (length l == 0)) (shadow_undeclared u.declarations x))
+    same (helper r k) = sym (ap (λ (l : List _). not (length l == 0)) (helper_undeclared u.declarations r k))
+
+-- ---- the body
+
+shadows_each : (ps us : List Procedure) → AllHaveShadows full_marks ps us → Each (λ u. HasShadows (plan_in full_marks ps u) (first_statement ps u.name) u.body) us
+shadows_each ps [] h = tt
+shadows_each ps (u ∷ us) h = (h.0, shadows_each ps us h.1)
+
+module _ (ps : List Procedure) (checked : IsChecked source_rules ps) (u : Procedure) (found : find_unit ps u.name ≡ Some u) (units at_turn at_end : List (List ℕ)) (turned : AreOf (variables u) at_turn) (ended : AreOf (variables u) at_end) where
+  abbrev pub i : ℕ
+  i = first_statement ps u.name
+
+  abbrev pub p : Plan
+  p = plan_in full_marks ps u
+
+  abbrev pub ns : List Named
+  ns = adjoint_names full_marks ps units u
+
+  abbrev pub body : Code
+  body = adjoint_body (plan_in full_marks ps u) (first_statement ps u.name) u.line u.body at_turn at_end
+
+  abbrev Q : Var → Option ℕ → Type 0
+  Q v n = (has_var v ns ≡ true) × (is_rank_for n (rank (adjoint_unit full_marks ps units u at_turn at_end) (name_in ns v)) ≡ true)
+
+  abbrev A : Var → Type 0
+  A v = (rank (adjoint_unit full_marks ps units u at_turn at_end) (name_in ns v) == 0) ≡ false
+
+  sound : UnitSound ps u × NamesSound ps u
+  sound = each_found (λ u. UnitSound ps u × NamesSound ps u) ps (all_names_sound source_rules ps checked) u.name u found
+
+  shadows : HasShadows (plan_in full_marks ps u) (first_statement ps u.name) u.body
+  shadows = each_found (λ u. HasShadows (plan_in full_marks ps u) (first_statement ps u.name) u.body) ps (shadows_each ps ps (full_shadows ps ps)) u.name u found
+
+  marked : (xs : List (List ℕ)) → AreOf (variables u) xs → Each (λ x. (has_name x (variables u) ≡ true) × (full_marks.shadowed u.name (plain x) ≡ true)) xs
+  marked xs h = each_name (λ x. (has_name x (variables u) ≡ true) × (full_marks.shadowed u.name (plain x) ≡ true)) xs (λ x k. (h x k, refl))
+
+  over : OverCode Q A Any body
+  over =
+      let s = sound.0 in
+      let n = sound.1 in
+      let f = follows full_marks ps (all_named source_rules ps checked) u (first_statement ps u.name) u.body s.calls shadows in
+      body_with full_marks ps units u s.written s.kernel s.free s.calls f n.dummies_once n.extent_dummy n.extents n.stands at_turn at_end (marked at_turn turned) (marked at_end ended) Any f
+
+  -- the names of the text are kept
+  pub body_same : (n : Names) → table_of n ≡ ns → rename (named_by n) body ≡ rename (naming ns) body
+  body_same n t = code_same Q A Any (named_by n) (naming ns) same body over
+    where
+      same : (v : Var) (k : Option ℕ) → Q v k → named_by n v ≡ naming ns v
+      same (plain x) k q =
+          let s = sound.0 in
+          let h : has_name x (variables u) ≡ true = plain_known (variables u) units everything (helpers_used p i u.body) s.free (used_helpers p i u.body) x q.0 in
+          ap plain (sym (own-name (variables u) (named (variables u ++ (units ++ reserved)) (map shadow (names_in everything (variables u)) ++ helpers_used p i u.body)) x h))
+      same (shadow x) k q = ap (λ z. naming z (shadow x)) t
+      same (helper r j) k q = ap (λ z. naming z (helper r j)) t
+
+  -- the parts make the adjoint unit
+  pub unit_is : (name : List ℕ) (t : List Named) (dummies : List (List ℕ)) (hs : List Var) (declarations : List Declaration) (code : Code) → name ≡ adjoint_name ps u → t ≡ ns → dummies ≡ shadows_behind everything t u.dummies → hs ≡ helpers_used p i u.body →
+      declarations ≡ declared_behind everything t u (variables u) ++ declared_helpers t u.line hs → code ≡ rename (naming ns) body →
+      (let made : Procedure = record { line = u.line; name = name; dummies = dummies; is_none = false; declarations = declarations; body = code } in made ≡ adjoint_unit full_marks ps units u at_turn at_end)
+  unit_is name t dummies hs declarations code hn ht hd hh hc hb =
+      λ j. record {
+        line = u.line;
+        name = hn j;
+        dummies = (hd ∙ ap (λ z. shadows_behind everything z u.dummies) ht) j;
+        is_none = false;
+        declarations = (hc ∙ (λ k. declared_behind everything (ht k) u (variables u) ++ declared_helpers (ht k) u.line (hh k))) j;
+        body = hb j;
+      }

@@ -1,0 +1,26 @@
+use Rattle.std.proofs.Common.{◌++◌, [], ℕ, List, map, ap, subst, ◌∙◌}
+use Rattle.std.specs.Prelude.{flat_map}
+use Rattle.adj_tree.specs.View.{procedure_of}
+use Rattle.adj_transpose.specs.Naming.{AreApart}
+use Rattle.adj_transpose.specs.Program.{unit_name}
+use Rattle.adj_naming.specs.Sets.{all_added}
+use Rattle.adj_weave.specs.Orders.{adjoints_from}
+use Rattle.adj_weave.proofs.Ordered.{first_numbers, adjoint_list, all_joined}
+use Rattle.adj_weave.proofs.weave.tabulated.Goals as goal
+
+pub returns : goal.returns
+returns c =
+    let ps = map procedure_of c.args.units.now in
+    let apart : AreApart (map unit_name ps) = subst AreApart c.requires.names c.requires.apart in
+    let rows = c.as_slice.ensures.value ∙ c.in_ok-variables.ensures.variables in
+    let joined = λ (xss : List (List (List ℕ))). flat_map (λ (xs : List (List ℕ)). xs) xss in
+    let source = c.in_ok-source.ensures.names ∙ (λ i. all_added [] (c.requires.names i ++ joined (rows i))) ∙ ap (λ xs. all_added [] (map unit_name ps ++ xs)) (all_joined ps) in
+    record {
+      table = λ h at. record {
+        variables = c.in_ok-variables.ensures.variables;
+        adjoints = c.in_ok-adjoints.ensures.names ∙ ap (λ s. adjoints_from s ps) source ∙ adjoint_list ps apart;
+        numbers = c.in_ok-numbers.ensures.numbers ∙ first_numbers ps apart;
+        adjointed = c.in_ok-found.ensures.adjointed h at;
+        carried = c.in_ok-found.ensures.carried h at;
+      };
+    }

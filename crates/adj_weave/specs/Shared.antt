@@ -1,0 +1,36 @@
+-- What is known where the adjoint of a unit is written.
+use Rattle.std.specs.Prelude.{◌≡◌, ℕ, List, [], ◌++◌, map, Some, true}
+use Rattle.adj_tree.specs.Code.{Procedure}
+use Rattle.adj_tree.specs.View.{procedure_of}
+use Rattle.adj_meaning.specs.Written.{find_unit}
+use Rattle.adj_names.specs.Fault.{source_rules}
+use Rattle.adj_names.specs.Variables.{variables}
+use Rattle.adj_transpose.specs.Fresh.{has_name, reserved}
+use Rattle.adj_reverse.specs.Names.{adjoint_name}
+use Rattle.adj_reverse.specs.Marking.{full_marks, callee_in, first_statement}
+use Rattle.adj_checked.specs.Checked.{IsChecked}
+use Rattle.adj_naming.specs.Sets.{all_added}
+use Rattle.adj_helpers.specs.Callees.{KnowsAll}
+use Rattle.adj_weave.specs.declared.unit.Shared.{Shared}
+use Rattle.adj_weave.specs.declared.unit.Part.{Part}
+
+-- the units of the source
+abbrev pub sources : Shared → List Procedure
+sources s = map procedure_of s.units.now
+
+-- what all units share is that of a checked program
+pub record IsShared (s : Shared) : Type 0 where
+  pub checked : IsChecked source_rules (sources s)
+  pub callees : KnowsAll s.callees.now (callee_in full_marks (sources s))
+  pub taken : s.taken.now ≡ all_added [] (s.names.now ++ reserved)
+
+-- a unit of the program, and what is known of it
+pub record IsPart (ps : List Procedure) (p : Part) : Type 0 where
+  pub found : find_unit ps (procedure_of p.unit.now).name ≡ Some (procedure_of p.unit.now)
+  pub variables : p.variables.now ≡ variables (procedure_of p.unit.now)
+  pub adjoint : p.adjoint.now ≡ adjoint_name ps (procedure_of p.unit.now)
+  pub number : p.number ≡ first_statement ps (procedure_of p.unit.now).name
+
+-- names of a list
+abbrev pub AreOf : List (List ℕ) → List (List ℕ) → Type 0
+AreOf own xs = (x : List ℕ) → has_name x xs ≡ true → has_name x own ≡ true

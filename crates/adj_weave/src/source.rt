@@ -1,0 +1,93 @@
+//! The names of the source, and those of the adjoints (docs/EMITTED.md, "Names").
+
+ghost use Rattle.std.specs.Prelude.{◌≡◌, ◌++◌, ◌∷◌, [], ℕ, List, IfOk, OnOk, map, flat_map, length};
+ghost use Rattle.adj_tree.specs.View.{procedure_of};
+ghost use Rattle.adj_names.specs.Variables.{variables};
+ghost use Rattle.adj_transpose.specs.Program.{unit_name};
+ghost use Rattle.adj_naming.specs.Sets.{all_added};
+ghost use Rattle.adj_weave.specs.Orders.{adjoints_from, flagged};
+
+use adj_naming::joining::joined;
+use adj_naming::name_set::{NameSet, add_names};
+use adj_naming::taken::Taken;
+use adj_symbols::variables;
+use adj_tree::{Memory, Name, NameList, Unit};
+use std::alloc::Global;
+
+/// The variables of each unit.
+pub fn all_variables(alloc: Global, units: &[Unit]) -> Result<Vec<NameList>, Memory>
+    ensures variables { IfOk result (λ v. v.items ≡ map variables (map procedure_of units.now)) }
+{
+    let mut made = Vec::new(alloc);
+    for unit in units {
+        made.push(variables(alloc, unit)?)?;
+    }
+    Ok(made)
+}
+
+/// The names of the units.
+pub fn unit_names(alloc: Global, units: &[Unit]) -> Result<Vec<Name>, Memory>
+    ensures names { IfOk result (λ v. v.items ≡ map unit_name (map procedure_of units.now)) }
+{
+    let mut made = Vec::new(alloc);
+    for unit in units {
+        made.push(unit.name.copy(alloc)?)?;
+    }
+    Ok(made)
+}
+
+/// The names of units, and those of the variables of all units.
+pub fn source_names(
+    alloc: Global,
+    units: &[Name],
+    variables: &[NameList],
+) -> Result<NameSet, Memory>
+    ensures names { IfOk result (λ s. s ≡ all_added [] (units.now ++ flat_map (λ (xs : List (List ℕ)). xs) variables.now)) }
+{
+    let mut taken = NameSet::new(alloc);
+    add_names(alloc, &mut taken, units)?;
+    for names in variables {
+        add_names(alloc, &mut taken, names.as_slice())?;
+    }
+    Ok(taken)
+}
+
+/// The name of the adjoint of each unit, in order, where the names of the source are taken.
+pub fn adjoint_names(alloc: Global, units: &[Unit], source: &NameSet) -> Result<Vec<Name>, Memory>
+    ensures names { IfOk result (λ v. v.items ≡ adjoints_from source.now (map procedure_of units.now)) }
+{
+    let mut taken = Taken::new(alloc, source, &[])?;
+    let mut made = Vec::new(alloc);
+    for unit in units {
+        let base = joined(alloc, unit.name.bytes(), b"_B")?;
+        let name = taken.give(alloc, base.bytes())?;
+        made.push(name)?;
+    }
+    Ok(made)
+}
+
+// Adds the name, if it is flagged.
+fn add_flagged(alloc: Global, flag: bool, name: &Name, made: &mut Vec<Name>) -> Result<(), Memory>
+    ensures names { OnOk result (made.new.items ≡ made.old.items ++ flagged (flag ∷ []) (name.now ∷ [])) }
+{
+    if flag {
+        made.push(name.copy(alloc)?)?;
+    }
+    Ok(())
+}
+
+/// Adds the names that are flagged.
+pub fn add_all_flagged(
+    alloc: Global,
+    flags: &[bool],
+    names: &[Name],
+    made: &mut Vec<Name>,
+) -> Result<(), Memory>
+    requires same { length flags.now ≡ length names.now }
+    ensures names { OnOk result (made.new.items ≡ made.old.items ++ flagged flags.now names.now) }
+{
+    for (k, name) in names.iter().enumerate() {
+        add_flagged(alloc, flags[k], name, made)?;
+    }
+    Ok(())
+}
