@@ -1,6 +1,6 @@
 //! A tape of words.
 
-ghost use Rattle.std.specs.Prelude.{◌≡◌, ◌≤◌, [], ◌∷◌, length, reverse, vec_len, vec_capacity, IfOk, IsErr, OnErr, OnOk, ◌↔◌, MatchOption};
+ghost use Rattle.std.specs.Prelude.{◌≡◌, ◌≤◌, ◌<◌, [], ◌∷◌, length, reverse, vec_len, vec_capacity, IfOk, IsOk, IsErr, OnErr, OnOk, ◌↔◌, MatchOption};
 ghost use Rattle.adj_tape.specs.Held.{Held};
 
 use std::alloc::{AllocError, Global};
@@ -52,6 +52,7 @@ impl Tape {
     /// Puts a word on top. `Full` where the room is used up; the tape is then as it was.
     pub fn push(&mut self, word: i64) -> Result<(), Full>
         ensures full { IsErr result ↔ (length self.old.words ≡ self.old.room) }
+        ensures room { IsOk result ↔ (length self.old.words < self.old.room) }
         ensures pushed { OnOk result (self.new ≡ record self.old { words = word ∷ self.old.words }) }
         ensures unchanged { OnErr result (self.new ≡ self.old) }
     {
