@@ -119,7 +119,7 @@ fn holds_one_call(mark: &Mark, body: &Stmts) -> bool
 
 /// Whether a statement is one of a kernel.
 #[cycle(kernel_form)]
-fn is_kernel_statement(s: &Stmt) -> bool
+pub fn is_kernel_statement(s: &Stmt) -> bool
     ensures form { result ≡ form.is_kernel_act (act_of s.now.act) }
 {
     match &s.act {

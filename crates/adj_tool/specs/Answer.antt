@@ -3,6 +3,9 @@ use Rattle.std.specs.Prelude.{ℕ, ◌==◌, nat_lt, Bool, ◌&&◌, List, [], �
 use Rattle.adj_tree.specs.Code.{Procedure}
 use Rattle.adj_tree.specs.declared.fault.Refusal.{Refusal}
 use Rattle.adj_tree.specs.declared.marks.Head.{Head}
+use Rattle.adj_names.specs.Fault.{source_rules}
+use Rattle.adj_names.specs.Check.{first_fault}
+use Rattle.adj_names.specs.HeadFaults.{first_head_fault, head_of}
 use Rattle.adj_text.specs.Limits.{limits_of}
 use Rattle.adj_text.specs.Refused.{◌>>=◌}
 use Rattle.adj_text.specs.Stated.{statements_of}
@@ -10,14 +13,14 @@ use Rattle.adj_text.specs.Text.{text_of}
 use Rattle.adj_text.specs.declared.mode.Mode.{Mode}
 use Rattle.adj_text.specs.declared.mode.Mode.TheVariants.{Source}
 use Rattle.adj_parse.specs.Trees.{trees_of}
-use Rattle.adj_transpose.specs.Fresh.{has_name}
-use Rattle.adj_transpose.specs.Program.{adjoint_program}
+use Rattle.adj_reverse.specs.Marking.{full_marks}
+use Rattle.adj_reverse.specs.Program.{emitted_program}
 use Rattle.adj_revolve.specs.declared.machine.Action.{Action}
 use Rattle.adj_revolve.specs.declared.machine.Action.TheVariants.{Store, Advance, Turn, Keep, Drop}
 use Rattle.adj_revolve.specs.Schedule.{schedule_of}
 use Rattle.adj_revolve.specs.LeastCost.{least_cost}
 use Rattle.adj_tool.specs.Words.{Request}
-use Rattle.adj_tool.specs.Profile.{first_untreated, are_distinct, are_among, is_well_named}
+use Rattle.adj_tool.specs.Profile.{first_untreated}
 
 pub record Answer : Type 0 where
   pub status : ℕ
@@ -69,49 +72,34 @@ too_long = refused (record { code = 21; line = 0; number = most_bytes })
 abbrev pub program_of : Mode → List ℕ → Result (List Procedure) Refusal
 program_of mode bytes = statements_of (limits_of mode) bytes >>= trees_of mode
 
--- a statement at this line isn't treated yet; names, the head and the listed names have no line
+-- a statement at this line isn't treated yet
 abbrev pub untreated : ℕ → Answer
 untreated line = refused (record { code = 3; line = line; number = 0 })
 
--- which of these names are listed
-abbrev pub flags_of : List (List ℕ) → List (List ℕ) → List Bool
-flags_of listed names = map (λ x. has_name x listed) names
-
--- each listed name is a dummy, and stands once in its list
-abbrev pub are_listed : List (List ℕ) → List (List ℕ) → Bool
-are_listed dummies listed = are_distinct listed && are_among dummies listed
-
--- the unit is the head that is asked for, and has the listed names among its dummies
-abbrev pub is_asked : Request → Procedure → Bool
-is_asked r u = bytes_eq u.name r.head && (are_listed u.dummies r.vars && are_listed u.dummies r.outvars)
-
--- the only unit as the head, with its independents and its dependents
-abbrev pub head_of : Request → Procedure → Head
-head_of r u = record { unit = 0; vars = flags_of r.vars u.dummies; outvars = flags_of r.outvars u.dummies }
-
 -- the adjoint of a program for a head, as a program
 abbrev pub emitted : List Procedure → Head → List Procedure
-emitted ps h = adjoint_program ps h.unit h.vars h.outvars
+emitted ps h = emitted_program full_marks ps h.unit h.vars h.outvars
 
 abbrev pub written : List Procedure → Head → Answer
 written ps h = record { status = 0; text = text_of (emitted ps h) }
 
--- the answer for a program of one unit whose statements are all treated
-abbrev pub unit_answer : Request → Procedure → Answer
-unit_answer r u = if is_well_named u && is_asked r u then written (u ∷ []) (head_of r u) else untreated 0
+-- the answer for a program and its head, where a statement at a line isn't treated yet, or none
+abbrev pub treated_answer : Option ℕ → List Procedure → Head → Answer
+treated_answer (Some line) ps h = untreated line
+treated_answer None ps h = written ps h
 
--- the answer for a program whose statements are all treated
-abbrev pub treated_answer : Request → List Procedure → Answer
-treated_answer r (u ∷ []) = unit_answer r u
-treated_answer r _ = untreated 0
+-- the answer for a program in which names, calls and writes have no fault, where the head or a listed name has one, or none
+abbrev pub headed_answer : Option Refusal → Request → List Procedure → Answer
+headed_answer (Some e) r ps = refused e
+headed_answer None r ps = treated_answer (first_untreated ps) ps (head_of ps r.head r.vars r.outvars)
 
--- the answer for a program, where a statement at a line isn't treated yet, or none
-abbrev pub answer_behind : Option ℕ → Request → List Procedure → Answer
-answer_behind (Some line) r ps = untreated line
-answer_behind None r ps = treated_answer r ps
+-- the answer for a program, where its names, calls and writes have a fault, or none
+abbrev pub checked_answer : Option Refusal → Request → List Procedure → Answer
+checked_answer (Some e) r ps = refused e
+checked_answer None r ps = headed_answer (first_head_fault ps r.head r.vars r.outvars) r ps
 
 abbrev pub program_answer : Request → List Procedure → Answer
-program_answer r ps = answer_behind (first_untreated ps) r ps
+program_answer r ps = checked_answer (first_fault source_rules ps) r ps
 
 -- the answer for a text that reads as a program, or is refused
 abbrev pub text_answer : Request → Result (List Procedure) Refusal → Answer

@@ -1,12 +1,17 @@
 -- Headline: what the written text is.
-use Rattle.std.specs.Prelude.{◌≡◌, ℕ, List, [], ◌∷◌}
+use Rattle.std.specs.Prelude.{◌≡◌, ℕ, List, [], ◌∷◌, map, Bool}
 use Rattle.adj_tree.specs.Code.{Procedure}
 use Rattle.adj_text.specs.Reads.{Reads}
 use Rattle.adj_text.specs.Text.{text_of}
+use Rattle.adj_names.specs.Fresh.{has_name}
 use Rattle.adj_transpose.specs.Program.{unit_at}
-use Rattle.adj_transpose.specs.Adjoint.{IsAdjoint}
+use Rattle.adj_reverse.specs.Adjoint.{IsFullAdjoint}
 use Rattle.adj_tool.specs.Words.{Request}
-use Rattle.adj_tool.specs.Answer.{Answer, flags_of}
+use Rattle.adj_tool.specs.Answer.{Answer}
+
+-- which of these names are listed
+abbrev pub flags_of : List (List ℕ) → List (List ℕ) → List Bool
+flags_of listed names = map (λ x. has_name x listed) names
 
 -- the bytes that were read are a program, whose unit of the name asked for is the head; the bytes that were written are a program too, and the
 -- canonical text of that program, and it is an adjoint of the first one for the head with its independents and dependents
@@ -22,7 +27,7 @@ pub record WritesAdjoint (r : Request) (bytes written : List ℕ) : Type 0 where
   pub adjoint : List Procedure
   pub reads_back : Reads written adjoint
   pub text : written ≡ text_of adjoint
-  pub is_adjoint : IsAdjoint source head (flags_of r.vars unit.dummies) (flags_of r.outvars unit.dummies) adjoint
+  pub is_adjoint : IsFullAdjoint source head (flags_of r.vars unit.dummies) (flags_of r.outvars unit.dummies) adjoint
 
 -- where the answer to these bytes is done, its text is that of an adjoint
 abbrev pub IsAdjoined : Request → List ℕ → Answer → Type 0

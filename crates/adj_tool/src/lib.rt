@@ -3,17 +3,13 @@
 
 mod adjoint;
 mod answer;
-mod name_set;
 mod read;
 mod schedule;
 mod task;
-#[cfg(test)]
-mod tests;
 mod text;
 mod top;
 mod untreated;
 mod values;
-mod well_named;
 mod words;
 
 pub use text::Text;

@@ -1,8 +1,0 @@
--- The names of the units passed are made.
-use Rattle.std.proofs.Common.{◌≡◌, ◌++◌, map, drop}
-use Rattle.adj_tree.specs.View.{procedure_of, procedures_of}
-use Rattle.adj_transpose.specs.Program.{unit_name}
-use Rattle.adj_sweep.proofs.naming.units_with.Given as goal
-
-abbrev pub invariant-loop-unit : goal.invariant-loop-unit
-invariant-loop-unit l = l.made.items ++ map unit_name (map procedure_of (drop l.unit-index l.unit-items)) ≡ map unit_name (procedures_of l.p)
