@@ -1,0 +1,31 @@
+//! Tests of the program's calls, whole: what words and texts come to.
+//!
+//! `calls`, `read` and `texts` are what the tests share: calls of `adj_tool::tool` with streams in memory, the reading of texts by
+//! `adj_fixed::statements` and `adj_parse::program`, and the writing of texts. The crate stands on the public calls of the layers
+//! alone, and offers nothing.
+#![tactic(auto)]
+
+#[cfg(test)]
+mod calls;
+#[cfg(test)]
+mod commands;
+#[cfg(test)]
+mod emitted;
+#[cfg(test)]
+mod limits;
+#[cfg(test)]
+mod long;
+#[cfg(test)]
+mod names;
+#[cfg(test)]
+mod printed;
+#[cfg(test)]
+mod read;
+#[cfg(test)]
+mod readings;
+#[cfg(test)]
+mod refused;
+#[cfg(test)]
+mod sweeps;
+#[cfg(test)]
+mod texts;

@@ -1,0 +1,206 @@
+//! Long texts and long statements.
+
+ghost use Rattle.adj_tree.specs.View.{procedures_of};
+ghost use Rattle.adj_text.specs.Written.{IsWritten};
+
+use crate::calls::{WORDS, writes};
+use crate::read::read;
+use crate::texts::{push_statement, push_times};
+use adj_fixed::Mode;
+use adj_norm::is_kernel;
+use adj_print::text;
+use adj_symbols::{check, head};
+use adj_tree::{Fault, Memory, Name, NameList, Program};
+use adj_weave::adjoint;
+use std::alloc::Global;
+
+#[test]
+fn twenty_thousand_assignments(rt: HostRuntime) -> Result<(), Memory> {
+    let alloc = rt.alloc();
+    let count = 20_000;
+    let mut text = Vec::from_slice(alloc, b"      SUBROUTINE P(X,Y)\n      INTEGER*8 X,Y\n")?;
+    push_times(&mut text, b"      Y=Y*X\n", count)?;
+    push_times(&mut text, b"      END\n", 1)?;
+    let mut adjoint = Vec::from_slice(
+        alloc,
+        b"      SUBROUTINE P_B(X,XB,Y,YB)
+      INTEGER*8 X
+      INTEGER*8 XB
+      INTEGER*8 Y
+      INTEGER*8 YB
+      INTEGER*8 ADW1
+      INTEGER*8 ADW2
+",
+    )?;
+    push_times(
+        &mut adjoint,
+        b"      CALL PUSHINTEGER8(Y)
+      Y=Y*X
+",
+        count,
+    )?;
+    push_times(&mut adjoint, b"      XB=0\n", 1)?;
+    push_times(
+        &mut adjoint,
+        b"      CALL POPINTEGER8(Y)
+      ADW1=YB
+      YB=0
+      ADW2=ADW1*X
+      YB=YB+ADW2
+      ADW2=ADW1*Y
+      XB=XB+ADW2
+",
+        count,
+    )?;
+    push_times(&mut adjoint, b"      YB=0\n      END\n", 1)?;
+    assert!(rt; writes(alloc, WORDS, text.as_slice(), adjoint.as_slice())?);
+    Ok(())
+}
+
+/// How many dummies of 31 characters a SUBROUTINE statement with 19 continuation lines has room for.
+const MOST_IN_A_SOURCE: u8 = 40;
+
+// Writes a dummy's name of 31 characters.
+fn push_name(all: &mut Vec<u8>, number: u8) -> Result<(), Memory> {
+    all.extend_from_slice(b"DUMMY_WITH_A_VERY_LONG_NAME_A")?;
+    all.push(b'0' + number / 10 % 10)?;
+    all.push(b'0' + number % 10)?;
+    Ok(())
+}
+
+// A statement in which `@` stands for the first dummy, `#` for the second and `&` for the third.
+fn push_named(all: &mut Vec<u8>, form: &[u8]) -> Result<(), Memory> {
+    for character in form {
+        match *character {
+            b'@' => push_name(all, 0)?,
+            b'#' => push_name(all, 1)?,
+            b'&' => push_name(all, 2)?,
+            other => all.push(other)?,
+        }
+    }
+    Ok(())
+}
+
+// Writes a statement with the names of the first three dummies.
+fn push_form(alloc: Global, all: &mut Vec<u8>, form: &[u8]) -> Result<(), Memory> {
+    let mut statement = Vec::new(alloc);
+    push_named(&mut statement, form)?;
+    push_statement(all, statement.as_slice())
+}
+
+// The source: the first of so many dummies becomes the product of the second and the third.
+fn long_source(alloc: Global, dummies: u8) -> Result<Vec<u8>, Memory> {
+    let mut heading = Vec::from_slice(alloc, b"SUBROUTINE P")?;
+    for number in 0..dummies {
+        heading.push(if number == 0 { b'(' } else { b',' })?;
+        push_name(&mut heading, number)?;
+    }
+    heading.push(b')')?;
+    let mut text = Vec::new(alloc);
+    push_statement(&mut text, heading.as_slice())?;
+    for number in 0..dummies {
+        text.extend_from_slice(b"      INTEGER*8 ")?;
+        push_name(&mut text, number)?;
+        text.push(b'\n')?;
+    }
+    push_form(alloc, &mut text, b"@=#*&")?;
+    push_form(alloc, &mut text, b"END")?;
+    Ok(text)
+}
+
+// Writes a zeroing of the shadow of each dummy but one.
+fn push_zeros(all: &mut Vec<u8>, dummies: u8, but: u8) -> Result<(), Memory> {
+    for number in 0..dummies {
+        if number != but {
+            all.extend_from_slice(b"      ")?;
+            push_name(all, number)?;
+            all.extend_from_slice(b"B=0\n")?;
+        }
+    }
+    Ok(())
+}
+
+// Its adjoint.
+fn long_adjoint(alloc: Global, dummies: u8) -> Result<Vec<u8>, Memory> {
+    let mut heading = Vec::from_slice(alloc, b"SUBROUTINE P_B")?;
+    for number in 0..dummies {
+        heading.push(if number == 0 { b'(' } else { b',' })?;
+        push_name(&mut heading, number)?;
+        heading.push(b',')?;
+        push_name(&mut heading, number)?;
+        heading.push(b'B')?;
+    }
+    heading.push(b')')?;
+    let mut text = Vec::new(alloc);
+    push_statement(&mut text, heading.as_slice())?;
+    for number in 0..dummies {
+        text.extend_from_slice(b"      INTEGER*8 ")?;
+        push_name(&mut text, number)?;
+        text.extend_from_slice(b"\n      INTEGER*8 ")?;
+        push_name(&mut text, number)?;
+        text.extend_from_slice(b"B\n")?;
+    }
+    text.extend_from_slice(b"      INTEGER*8 ADW1\n      INTEGER*8 ADW2\n")?;
+    push_form(alloc, &mut text, b"CALL PUSHINTEGER8(@)")?;
+    push_form(alloc, &mut text, b"@=#*&")?;
+    push_zeros(&mut text, dummies, 0)?;
+    push_form(alloc, &mut text, b"CALL POPINTEGER8(@)")?;
+    push_form(alloc, &mut text, b"ADW1=@B")?;
+    push_form(alloc, &mut text, b"@B=0")?;
+    push_form(alloc, &mut text, b"ADW2=ADW1*&")?;
+    push_form(alloc, &mut text, b"#B=#B+ADW2")?;
+    push_form(alloc, &mut text, b"ADW2=ADW1*#")?;
+    push_form(alloc, &mut text, b"&B=&B+ADW2")?;
+    push_zeros(&mut text, dummies, 1)?;
+    push_form(alloc, &mut text, b"END")?;
+    Ok(text)
+}
+
+#[test]
+fn long_names_fill_statements_of_many_lines(rt: HostRuntime) -> Result<(), Memory> {
+    let alloc = rt.alloc();
+    let words =
+        "adjoint --head P --vars DUMMY_WITH_A_VERY_LONG_NAME_A01 --outvars DUMMY_WITH_A_VERY_LONG_NAME_A00";
+    let text = long_source(alloc, MOST_IN_A_SOURCE)?;
+    let adjoint = long_adjoint(alloc, MOST_IN_A_SOURCE)?;
+    assert!(rt; writes(alloc, words, text.as_slice(), adjoint.as_slice())?);
+    Ok(())
+}
+
+// A list of one dummy's name.
+fn one_name(alloc: Global, number: u8) -> Result<NameList, Memory> {
+    let mut bytes = Vec::new(alloc);
+    push_name(&mut bytes, number)?;
+    let mut names = Vec::new(alloc);
+    names.push(Name::from_slice(alloc, bytes.as_slice())?)?;
+    Ok(NameList::new(names))
+}
+
+// The text of what is emitted for the head P of a program, where it is in kernel form.
+fn adjoint_text(alloc: Global, program: Program) -> Result<Option<Vec<u8>>, Fault>
+    requires { IsWritten (procedures_of program) }
+{
+    if !is_kernel(&program) {
+        return Ok(None);
+    }
+    let checked = check(alloc, program, Mode::Source)?;
+    let name = Name::from_slice(alloc, b"P")?;
+    let vars = one_name(alloc, 1)?;
+    let outvars = one_name(alloc, 0)?;
+    let head = head(alloc, &checked, &name, vars.as_slice(), outvars.as_slice())?;
+    let emitted = adjoint(alloc, checked.program(), &head)?;
+    let text = text(alloc, &emitted)?;
+    Ok(Some(text))
+}
+
+#[test]
+fn a_hundred_long_dummies(rt: HostRuntime) -> Result<(), Fault> {
+    let alloc = rt.alloc();
+    // a statement of a source has no room for so many
+    let source = long_source(alloc, 100)?;
+    let program = read(alloc, source.as_slice(), Mode::Run)?;
+    let text = adjoint_text(alloc, program)?;
+    let adjoint = long_adjoint(alloc, 100)?;
+    assert!(rt; text.is_some_and(|text| text == adjoint));
+    Ok(())
+}

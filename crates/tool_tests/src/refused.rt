@@ -1,0 +1,241 @@
+//! Texts that are refused, and where.
+
+use crate::calls::{SQUARE, WORDS, comes_to};
+use adj_tree::Memory;
+
+// Texts, and the line of the first statement that isn't treated yet: one that isn't one of a kernel.
+const UNTREATED: [(&[u8], &str); 12] = [
+    (
+        b"      SUBROUTINE P(X,Y)\n      INTEGER*8 X,Y\n      Y=MAX0(X,Y)\n      END\n",
+        "REFUSED 3 LINE 3\n",
+    ),
+    (
+        b"      SUBROUTINE P(X,Y)\n      INTEGER*8 X,Y\n      Y=X/2\n      Y=1+2*(-MIN(X,Y))\n      END\n",
+        "REFUSED 3 LINE 4\n",
+    ),
+    (
+        b"      SUBROUTINE P(X,Y)\n      INTEGER*8 X,Y\n      Y=IABS(X)**2\n      END\n",
+        "REFUSED 3 LINE 3\n",
+    ),
+    (
+        b"      SUBROUTINE P(X,Y)\n      INTEGER*8 X,Y\n      Y=ABS(X)**(X+1)\n      END\n",
+        "REFUSED 3 LINE 3\n",
+    ),
+    (
+        b"      SUBROUTINE P(X,Y)\n      INTEGER*8 X,Y(2)\n      Y(Y(1))=X\n      END\n",
+        "REFUSED 3 LINE 3\n",
+    ),
+    (
+        b"      SUBROUTINE P(X,Y)\n      INTEGER*8 X,Y\n      IF (X.GT.0) THEN\n      Y=X\n      ELSE\n      Y=ABS(X)\n      END IF\n      END\n",
+        "REFUSED 3 LINE 6\n",
+    ),
+    (
+        b"      SUBROUTINE P(X,Y)\n      INTEGER*8 X,Y\n      DO 10 I=1,3\n      DO WHILE (Y.LT.5)\n      Y=ABS(X)\n      END DO\n   10 CONTINUE\n      END\n",
+        "REFUSED 3 LINE 5\n",
+    ),
+    (
+        b"      SUBROUTINE P(X,Y)\n      INTEGER*8 X,Y\nC$AD BINOMIAL-CKP 2\n      DO I=1,3\n      Y=ABS(X)\n      END DO\n      END\n",
+        "REFUSED 3 LINE 4\n",
+    ),
+    (
+        b"      SUBROUTINE P(X,Y)\n      INTEGER*8 X,Y\n      IF (X.GT.0) THEN\nC$AD BINOMIAL-CKP X\n      DO I=1,3\n      Y=Y*X\n      END DO\n      END IF\n      END\n",
+        "REFUSED 3 LINE 5\n",
+    ),
+    (
+        b"      SUBROUTINE P(X,Y)\n      INTEGER*8 X,Y\n      Y=X\n      END\n      SUBROUTINE Q(A)\n      INTEGER*8 A\n      A=ABS(A)\n      END\n",
+        "REFUSED 3 LINE 7\n",
+    ),
+    (
+        b"      SUBROUTINE Q(A)\n      INTEGER*8 A\n      A=ABS(A)\n      END\n      SUBROUTINE P(X,Y)\n      INTEGER*8 X,Y\n      Y=ABS(X)\n      END\n",
+        "REFUSED 3 LINE 3\n",
+    ),
+    (
+        b"      SUBROUTINE P(X,Y)\n      INTEGER*8 X,Y\n      IF (ABS(X).GT.0) Y=X\n      Y=MAX(X,Y)\n      END\n",
+        "REFUSED 3 LINE 4\n",
+    ),
+];
+
+// Texts with a CALL at line 3 whose actuals aren't different names.
+const CALLS: [&[u8]; 6] = [
+    b"      SUBROUTINE P(X,Y)\n      INTEGER*8 X,Y\n      CALL Q(X+1,Y)\n      END\n      SUBROUTINE Q(A,B)\n      INTEGER*8 A,B\n      B=A\n      END\n",
+    b"      SUBROUTINE P(X,Y)\n      INTEGER*8 X,Y\n      CALL Q(1,Y)\n      END\n      SUBROUTINE Q(A,B)\n      INTEGER*8 A,B\n      B=A\n      END\n",
+    b"      SUBROUTINE P(X,Y)\n      INTEGER*8 X(2),Y\n      CALL Q(Y,X(1))\n      END\n      SUBROUTINE Q(A,B)\n      INTEGER*8 A,B\n      B=A\n      END\n",
+    b"      SUBROUTINE P(X,Y)\n      INTEGER*8 X,Y\n      CALL Q(X,-X,Y)\n      END\n      SUBROUTINE Q(A,B,C)\n      INTEGER*8 A,B,C\n      C=A*B\n      END\n",
+    b"      SUBROUTINE P(X,Y)\n      INTEGER*8 X,Y\n      CALL Q(X,X,Y)\n      END\n      SUBROUTINE Q(A,B,C)\n      INTEGER*8 A,B,C\n      C=A*B\n      END\n",
+    b"      SUBROUTINE P(X,Y)\n      INTEGER*8 X,Y\n      CALL Q(X,Y,X)\n      CALL Q(X,Y,1)\n      END\n      SUBROUTINE Q(A,B,C)\n      INTEGER*8 A,B,C\n      B=A*C\n      END\n",
+];
+
+#[test]
+fn what_is_not_treated_yet_is_refused_at_its_first_statement(
+    rt: HostRuntime,
+) -> Result<(), Memory> {
+    for (index, (text, answer)) in UNTREATED.iter().enumerate() {
+        assert!(rt; comes_to(rt.alloc(), WORDS, text, 2, answer)?, "{index}");
+    }
+    Ok(())
+}
+
+#[test]
+fn a_call_of_other_actuals_than_different_names_is_not_treated_yet(
+    rt: HostRuntime,
+) -> Result<(), Memory> {
+    for (index, text) in CALLS.iter().enumerate() {
+        assert!(rt;
+            comes_to(rt.alloc(), WORDS, text, 2, "REFUSED 3 LINE 3\n")?,
+            "{index}"
+        );
+    }
+    Ok(())
+}
+
+// A text that isn't treated at line 3, and has a fault of its names at line 4.
+const MISNAMED: &[u8] =
+    b"      SUBROUTINE P(X,Y)\n      INTEGER*8 X,Y\n      Y=ABS(X)\n      Y=X*Z\n      END\n";
+
+// A text that isn't treated at line 3.
+const ABSOLUTE: &[u8] =
+    b"      SUBROUTINE P(X,Y)\n      INTEGER*8 X,Y\n      Y=ABS(X)\n      END\n";
+
+#[test]
+fn faults_of_names_come_first_then_those_of_the_head_then_what_is_not_treated(
+    rt: HostRuntime,
+) -> Result<(), Memory> {
+    let alloc = rt.alloc();
+    let other = "adjoint --head Q --vars X --outvars Y";
+    assert!(rt; comes_to(alloc, other, MISNAMED, 2, "REFUSED 7 LINE 4\n")?);
+    assert!(rt; comes_to(alloc, other, ABSOLUTE, 2, "REFUSED 22 LINE 0\n")?);
+    assert!(rt; comes_to(alloc, WORDS, ABSOLUTE, 2, "REFUSED 3 LINE 3\n")?);
+    assert!(rt; comes_to(alloc, WORDS, b"", 2, "REFUSED 22 LINE 0\n")?);
+    Ok(())
+}
+
+#[test]
+fn another_head_and_other_dummies_are_refused_without_a_line(
+    rt: HostRuntime,
+) -> Result<(), Memory> {
+    let lines = [
+        (
+            "adjoint --head Q --vars X --outvars Y",
+            "REFUSED 22 LINE 0\n",
+        ),
+        (
+            "adjoint --head X --vars X --outvars Y",
+            "REFUSED 22 LINE 0\n",
+        ),
+        (
+            "adjoint --head P --vars Z --outvars Y",
+            "REFUSED 23 LINE 0\n",
+        ),
+        (
+            "adjoint --head P --vars X,Z --outvars Y",
+            "REFUSED 23 LINE 0\n",
+        ),
+        (
+            "adjoint --head P --vars X --outvars P",
+            "REFUSED 23 LINE 0\n",
+        ),
+        (
+            "adjoint --head P --vars X,X --outvars Y",
+            "REFUSED 23 LINE 0\n",
+        ),
+        (
+            "adjoint --head P --vars X --outvars Y,X,Y",
+            "REFUSED 23 LINE 0\n",
+        ),
+        (
+            "adjoint --head Q --vars Z --outvars Y",
+            "REFUSED 22 LINE 0\n",
+        ),
+    ];
+    for (line, answer) in lines {
+        assert!(rt; comes_to(rt.alloc(), line, SQUARE, 2, answer)?, "{line}");
+    }
+    Ok(())
+}
+
+// A local of the head is none of its dummies.
+const LOCAL: &[u8] =
+    b"      SUBROUTINE P(X,Y)\n      INTEGER*8 X,Y,Z\n      Z=X\n      Y=Z*I\n      END\n";
+
+#[test]
+fn locals_are_no_dummies(rt: HostRuntime) -> Result<(), Memory> {
+    for line in [
+        "adjoint --head P --vars Z --outvars Y",
+        "adjoint --head P --vars X --outvars I",
+    ] {
+        assert!(rt;
+            comes_to(rt.alloc(), line, LOCAL, 2, "REFUSED 23 LINE 0\n")?,
+            "{line}"
+        );
+    }
+    Ok(())
+}
+
+// Texts with a fault of their lines, their statements or their trees.
+const FAULTS: [(&[u8], &str); 12] = [
+    (
+        b"      SUBROUTINE P(X,Y)\n  A   INTEGER*8 X,Y\n      Y=ABS(X)\n      END\n",
+        "REFUSED 1 LINE 2\n",
+    ),
+    (
+        b"      SUBROUTINE P(X,Y)\n      INTEGER*8 X,Y\n      Y=ABS(X)\n      Y=X;\n      END\n",
+        "REFUSED 2 LINE 4\n",
+    ),
+    (
+        b"      SUBROUTINE P(X,Y)\n      INTEGER*8 X,Y\n      GOTO 10\n      END\n",
+        "REFUSED 3 LINE 3\n",
+    ),
+    (
+        b"      SUBROUTINE P(X,Y)\n      REAL X\n      Y=ABS(X)\n      END\n",
+        "REFUSED 3 LINE 2\n",
+    ),
+    (
+        b"      SUBROUTINE P(X,Y)\n      INTEGER*8 X,Y\n      Y=X*X\n",
+        "REFUSED 4 LINE 3\n",
+    ),
+    (
+        b"      SUBROUTINE P(X,Y)\n      INTEGER*8 X,Y\n      Y=ABS(X)\n      Y=X*\n      END\n",
+        "REFUSED 4 LINE 4\n",
+    ),
+    (
+        b"      SUBROUTINE P(X,Y)\n      INTEGER*8 X,Y\n      Y=9223372036854775808\n      END\n",
+        "REFUSED 5 LINE 3\n",
+    ),
+    (
+        b"      SUBROUTINE P(X,Y)\n      INTEGER*8 X,Y\n      A2345678901234567890123456789012=X\n      END\n",
+        "REFUSED 6 LINE 3\n",
+    ),
+    (
+        b"      SUBROUTINE P(X,Y)\n      INTEGER*8 X,Y\n      DO 10 I=1,2\n      IF (X.GT.0) THEN\n   10 CONTINUE\n      END IF\n      END\n",
+        "REFUSED 10 LINE 5\n",
+    ),
+    (
+        b"      SUBROUTINE P(X,Y)\n      INTEGER*8 X,Y\nC$AD BINOMIAL-CKP 2\n      Y=ABS(X)\n      END\n",
+        "REFUSED 20 LINE 3\n",
+    ),
+    (
+        b"      SUBROUTINE P(X,Y)\n      INTEGER*8 X,Y\n      Y=X\n     +\n     +\n     +\n     +\n     +\n     +\n     +\n     +\n     +\n     +\n     +\n     +\n     +\n     +\n     +\n     +\n     +\n     +\n     +\n     +\n      END\n",
+        "REFUSED 21 LINE 23 LIMIT 19\n",
+    ),
+    (
+        b"      SUBROUTINE P(X,Y)\n      INTEGER*8 X,Y\n      Y=X**64\n      END\n",
+        "REFUSED 25 LINE 3\n",
+    ),
+];
+
+#[test]
+fn a_fault_of_the_text_comes_before_what_is_not_treated_yet(rt: HostRuntime) -> Result<(), Memory> {
+    for (index, (text, answer)) in FAULTS.iter().enumerate() {
+        assert!(rt; comes_to(rt.alloc(), WORDS, text, 2, answer)?, "{index}");
+    }
+    Ok(())
+}
+
+#[test]
+fn an_input_above_the_limit_is_refused(rt: HostRuntime) -> Result<(), Memory> {
+    let alloc = rt.alloc();
+    let long = vec![in alloc; b' '; 4_194_305]?;
+    let answer = "REFUSED 21 LINE 0 LIMIT 4194304\n";
+    assert!(rt; comes_to(alloc, WORDS, long.as_slice(), 2, answer)?);
+    Ok(())
+}
