@@ -1,4 +1,4 @@
-use Rattle.std.proofs.Common.{◌∷◌, [], ◌++◌, map, refl, ap, ◌∙◌}
+use Rattle.std.proofs.Common.{ℕ, List, ◌∷◌, [], ◌++◌, map, refl, ap, ◌∙◌}
 use Rattle.adj_tree.specs.View.{procedure_of}
 use Rattle.adj_transpose.specs.Program.{unit_name}
 use Rattle.adj_weave.proofs.Walks.{walked_on}
@@ -9,5 +9,5 @@ loop-unit-preserved c =
     let u = c.unit-item.result in
     let made = c.loop-unit.made.items in
     walked_on procedure_of (map unit_name) (map unit_name) c.args.units.now made c.push.new.self.items (u.name ∷ []) c.loop-unit.unit-index u c.loop-unit-test.true c.unit-item.is
-    (c.in_ok-push.ensures.items ∙ ap (λ v. made ++ (v ∷ [])) c.in_ok-copy.ensures.same) refl
+    (◌∙◌ {A = List (List ℕ)} c.in_ok-push.ensures.items (ap (λ v. made ++ (v ∷ [])) c.in_ok-copy.ensures.same)) refl
     ∙ c.loop-unit.invariant
