@@ -5,3 +5,4 @@ pub mod Steps
 pub mod Operations
 pub mod Targets
 pub mod Passings
+pub mod Handed

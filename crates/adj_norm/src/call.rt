@@ -31,7 +31,7 @@ struct Values {
 // One more actual.
 fn reduce_next(
     alloc: Global,
-    locals: &mut Locals,
+    locals: &mut Locals<'_>,
     line: u32,
     e: &Expr,
     values: Values,
@@ -52,7 +52,7 @@ fn reduce_next(
 // Writes the statements that set these locals.
 fn reduce_all(
     alloc: Global,
-    locals: &mut Locals,
+    locals: &mut Locals<'_>,
     line: u32,
     actuals: &Exprs,
     steps: &mut Vec<Stmt>,
@@ -110,7 +110,7 @@ struct Named {
 // One more actual.
 fn pass_one(
     alloc: Global,
-    locals: &mut Locals,
+    locals: &mut Locals<'_>,
     line: u32,
     written: bool,
     e: &Expr,
@@ -146,7 +146,7 @@ fn pass_one(
 // The names that the actuals become.
 fn pass_all(
     alloc: Global,
-    locals: &mut Locals,
+    locals: &mut Locals<'_>,
     line: u32,
     written: &[bool],
     actuals: &Exprs,
@@ -178,7 +178,7 @@ fn pass_all(
 /// Writes what becomes of a CALL, where it is known which dummies are written, and gives the number of locals that it takes.
 pub fn lower_call(
     alloc: Global,
-    locals: &mut Locals,
+    locals: &mut Locals<'_>,
     line: u32,
     written: &[bool],
     unit: &Name,

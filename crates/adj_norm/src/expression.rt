@@ -118,7 +118,7 @@ fn pick(
 // `MAX` of two operands.
 fn larger(
     alloc: Global,
-    locals: &mut Locals,
+    locals: &mut Locals<'_>,
     line: u32,
     operands: Operands,
     steps: &mut Vec<Stmt>,
@@ -143,7 +143,7 @@ fn larger(
 // `MIN` of two operands.
 fn smaller(
     alloc: Global,
-    locals: &mut Locals,
+    locals: &mut Locals<'_>,
     line: u32,
     operands: Operands,
     steps: &mut Vec<Stmt>,
@@ -184,7 +184,7 @@ fn turn_up(
 // `ABS` of an operand.
 fn absolute(
     alloc: Global,
-    locals: &mut Locals,
+    locals: &mut Locals<'_>,
     line: u32,
     operand: Reduced,
     steps: &mut Vec<Stmt>,
@@ -207,7 +207,7 @@ fn absolute(
 // An operation on two operands, where `MAX` and `MIN` become a local.
 fn combine(
     alloc: Global,
-    locals: &mut Locals,
+    locals: &mut Locals<'_>,
     line: u32,
     op: Op,
     operands: Operands,
@@ -239,7 +239,7 @@ fn combine(
 #[cycle(reduces)]
 pub fn reduce(
     alloc: Global,
-    locals: &mut Locals,
+    locals: &mut Locals<'_>,
     line: u32,
     e: &Expr,
     first: usize,
@@ -297,7 +297,7 @@ pub fn reduce(
 #[cycle(reduces)]
 fn reduce_both(
     alloc: Global,
-    locals: &mut Locals,
+    locals: &mut Locals<'_>,
     line: u32,
     a: &Expr,
     b: &Expr,

@@ -1,7 +1,5 @@
 //! The locals of a unit (docs/KERNEL.md, "The steps").
 
-ghost use Rattle.std.specs.Prelude.{◌≡◌, ◌+◌, ◌<◌, IfOk, OnOk, vec_len};
-ghost use Rattle.adj_transpose.specs.Fresh.{fresh};
 ghost use Rattle.adj_norm.specs.Made.{AreMade};
 
 use adj_naming::joining::with_number;
@@ -13,38 +11,32 @@ use std::mem;
 
 /// The names of a unit's locals, by number, counted from 0. Each is made where it is first asked for.
 #[derive(Drop)]
-pub struct Locals {
-    taken: NameSet,
-    /// How many names were taken before any local had one.
-    before: usize,
+pub struct Locals<'a> {
+    /// The names that no local of any unit may have.
+    shared: &'a NameSet,
+    taken: Taken<'a>,
     names: Vec<Name>,
-    ghost made: { AreMade taken before names.items },
+    ghost made: { AreMade taken names.items },
 }
 
-// The wanted name, or the first with a number behind it that isn't taken.
-fn free_name(alloc: Global, wanted: &[u8], taken: &NameSet) -> Result<Name, Memory>
-    ensures name { IfOk result (λ y. y ≡ fresh wanted.now taken.now) }
-{
-    let all = Taken::new(alloc, taken, &[])?;
-    let name = all.fresh(alloc, wanted)?;
-    Ok(name)
-}
-
-impl Locals {
-    ghost use Rattle.std.specs.Prelude.{◌≡◌, ◌+◌, ◌<◌, IfOk, OnOk, vec_len, slice_index};
+impl<'a> Locals<'a> {
+    ghost use Rattle.std.specs.Prelude.{◌≡◌, ◌+◌, ◌++◌, [], IfOk, OnOk, vec_len};
     ghost use Rattle.adj_tree.specs.Code.{plain};
     ghost use Rattle.adj_kernel.specs.Kernel.{local_of};
+    ghost use Rattle.adj_naming.specs.Sets.{all_added};
     ghost use Rattle.adj_norm.specs.Locals.{local_by};
 
-    /// Locals that may not have the names of a set.
-    pub fn new(alloc: Global, taken: NameSet) -> Locals
-        ensures locals { local_by result ≡ local_of taken }
+    /// Locals that may not have the names of a set, nor those of the unit's variables.
+    pub fn new(alloc: Global, shared: &'a NameSet, variables: &[Name]) -> Result<Locals<'a>, Memory>
+        ensures locals { IfOk result (λ l. local_by l ≡ local_of (shared.now ++ all_added [] variables.now)) }
     {
-        Locals {
-            before: taken.len(),
+        let taken = Taken::new(alloc, shared, variables)?;
+        let names = Vec::new(alloc);
+        Ok(Locals {
+            shared,
             taken,
-            names: Vec::new(alloc),
-        }
+            names,
+        })
     }
 
     /// The name of the local of a number.
@@ -64,29 +56,28 @@ impl Locals {
         ensures grown { OnOk result (vec_len self.new.names ≡ vec_len self.old.names + 1) }
         ensures same { OnOk result (local_by self.new ≡ local_by self.old) }
     {
-        let none = Locals::new(alloc, NameSet::new(alloc));
+        let none = Locals::new(alloc, self.shared, &[])?;
         let old = mem::replace(self, none);
         *self = old.grown(alloc)?;
         Ok(())
     }
 
     // With one more local.
-    fn grown(self, alloc: Global) -> Result<Locals, Memory>
-        ensures grown { IfOk result (λ l. vec_len l.names ≡ vec_len self.names + 1) }
-        ensures same { IfOk result (λ l. local_by l ≡ local_by self) }
+    fn grown(self, alloc: Global) -> Result<Locals<'a>, Memory>
+        ensures grown { IfOk result (λ l. vec_len l.names ≡ vec_len self.entry.names + 1) }
+        ensures same { IfOk result (λ l. local_by l ≡ local_by self.entry) }
     {
         let Locals {
+            shared,
             mut taken,
-            before,
             mut names,
         } = self;
         let base = with_number(alloc, b"ADV", names.len() + 1)?;
-        let name = free_name(alloc, base.bytes(), &taken)?;
-        taken.add(alloc, name.bytes())?;
+        let name = taken.give(alloc, base.bytes())?;
         names.push(name)?;
         Ok(Locals {
+            shared,
             taken,
-            before,
             names,
         })
     }

@@ -75,7 +75,7 @@ struct Held {
 // One more subscript.
 fn hold_next(
     alloc: Global,
-    locals: &mut Locals,
+    locals: &mut Locals<'_>,
     line: u32,
     e: &Expr,
     held: Held,
@@ -97,7 +97,7 @@ fn hold_next(
 // Writes the statements that set the locals of subscripts.
 fn hold_all(
     alloc: Global,
-    locals: &mut Locals,
+    locals: &mut Locals<'_>,
     line: u32,
     subs: &Exprs,
     first: usize,
@@ -130,7 +130,7 @@ pub struct Passed {
 /// Writes what sets the name of an actual before the call, and apart from that what puts it back after the call.
 pub fn pass(
     alloc: Global,
-    locals: &mut Locals,
+    locals: &mut Locals<'_>,
     line: u32,
     actual: Passing,
     first: usize,
@@ -160,7 +160,7 @@ pub fn pass(
 // A local gets the value before the call.
 fn by_value(
     alloc: Global,
-    locals: &mut Locals,
+    locals: &mut Locals<'_>,
     line: u32,
     e: Expr,
     first: usize,
@@ -181,7 +181,7 @@ fn by_value(
 // The element of an array at held subscripts gets a local before the call, and the local's value after it.
 fn put_back(
     alloc: Global,
-    locals: &mut Locals,
+    locals: &mut Locals<'_>,
     line: u32,
     array: Name,
     held: Held,

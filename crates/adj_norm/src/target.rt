@@ -19,7 +19,7 @@ use std::alloc::Global;
 /// Writes the statements by which the local of a number gets the value of an expression, and gives the number of the next local.
 pub fn hold(
     alloc: Global,
-    locals: &mut Locals,
+    locals: &mut Locals<'_>,
     line: u32,
     number: usize,
     e: &Expr,
@@ -65,7 +65,7 @@ struct Apart {
 // One more subscript.
 fn set_apart(
     alloc: Global,
-    locals: &mut Locals,
+    locals: &mut Locals<'_>,
     line: u32,
     name: &Name,
     e: &Expr,
@@ -113,7 +113,7 @@ struct Target {
 // The subscripts of the target with locals for those that mention its array, where other locals are taken from a number on.
 fn separate(
     alloc: Global,
-    locals: &mut Locals,
+    locals: &mut Locals<'_>,
     line: u32,
     place: &Place,
     first: usize,
@@ -146,7 +146,7 @@ fn separate(
 /// Writes what becomes of an assignment, and gives the number of locals that it takes.
 pub fn lower_assignment(
     alloc: Global,
-    locals: &mut Locals,
+    locals: &mut Locals<'_>,
     line: u32,
     place: &Place,
     e: &Expr,

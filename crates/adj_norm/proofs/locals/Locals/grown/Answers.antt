@@ -1,7 +1,6 @@
 use Rattle.std.proofs.Common.{◌≡◌, ◌++◌, ◌+◌, suc, length, ap, ◌∙◌, arith, codes}
 use Rattle.adj_transpose.specs.Fresh.{fresh, digits}
 use Rattle.adj_kernel.specs.Kernel.{wanted_local}
-use Rattle.adj_naming.specs.Sets.{with_added}
 use Rattle.adj_norm.proofs.Made.{one_made, same_made}
 use Rattle.adj_norm.proofs.locals.Locals.grown.Goals as goal
 
@@ -12,8 +11,7 @@ invariant_of-result c =
     let more : c.len.result + 1 ≡ suc k = omega arith in
     let is : c.in_ok-name.name ≡ fresh (wanted_local k) l.taken =
     c.in_ok-name.ensures.name ∙ ap (λ b. fresh b l.taken) (c.bytes.ensures.bytes ∙ c.in_ok-base.ensures.name ∙ ap (λ n. codes "ADV" ++ digits n) more) in
-    let added : c.add.new.self ≡ with_added c.in_ok-name.name l.taken = c.in_ok-add.ensures.added ∙ ap (λ z. with_added z l.taken) c.bytes-2.ensures.bytes in
-    record { made = one_made l.taken c.add.new.self l.before l.names.items c.in_ok-name.name l.made is added c.push.new.self.items c.in_ok-push.ensures.items }
+    record { made = one_made l.taken c.give.new.self l.names.items c.in_ok-name.name l.made is c.in_ok-name.ensures.taken c.push.new.self.items c.in_ok-push.ensures.items }
 
 pub returns-clause-same : goal.returns-clause-same
 returns-clause-same c =
@@ -22,5 +20,4 @@ returns-clause-same c =
     let more : c.len.result + 1 ≡ suc k = omega arith in
     let is : c.in_ok-name.name ≡ fresh (wanted_local k) l.taken =
     c.in_ok-name.ensures.name ∙ ap (λ b. fresh b l.taken) (c.bytes.ensures.bytes ∙ c.in_ok-base.ensures.name ∙ ap (λ n. codes "ADV" ++ digits n) more) in
-    let added : c.add.new.self ≡ with_added c.in_ok-name.name l.taken = c.in_ok-add.ensures.added ∙ ap (λ z. with_added z l.taken) c.bytes-2.ensures.bytes in
-    same_made l.taken c.add.new.self l.before l.names.items c.in_ok-name.name l.made is added
+    same_made l.taken c.give.new.self l.names.items c.in_ok-name.name l.made is c.in_ok-name.ensures.taken c.push.new.self.items c.in_ok-push.ensures.items

@@ -7,4 +7,4 @@ pub returns-clause-name : goal.returns-clause-name
 returns-clause-name c =
     let l = c.loop-self.self in
     let within : c.args.number < length l.names.items = omega arith in
-    ap plain (c.in_ok-name.ensures.same ∙ c.index.ensures) ∙ made_at l.taken l.before l.names.items c.args.number c.index.result.now l.made within ∙ (λ i. (c.loop-self.invariant i) c.args.number)
+    ap plain (c.in_ok-name.ensures.same ∙ c.index.ensures) ∙ made_at l.taken l.names.items c.args.number c.index.result.now l.made within ∙ (λ i. (c.loop-self.invariant i) c.args.number)

@@ -1,0 +1,121 @@
+//! Statements and lists of them, lowered (docs/KERNEL.md, "The steps"). Lists are gone through by loops.
+
+ghost use Rattle.std.specs.Prelude.{◌≡◌, IfOk, OnOk};
+ghost use Rattle.adj_tree.specs.View.{act_of, code_of};
+ghost use Rattle.adj_kernel.specs.Lowered.{lowered_act, lowered, locals_of_act, locals_of};
+ghost use Rattle.adj_norm.specs.Handed.{handed_by};
+ghost use Rattle.adj_norm.specs.Locals.{local_by};
+ghost use Rattle.adj_norm.specs.Steps.{Writes};
+
+use crate::call::lower_call;
+use crate::handed::Handed;
+use crate::locals::Locals;
+use crate::step::write;
+use crate::target::lower_assignment;
+use adj_tree::{Act, Cond, Memory, Stmt, Stmts};
+use std::alloc::Global;
+
+/// A list of statements that was lowered, and the most locals that one of them takes.
+#[derive(Drop)]
+pub struct Lowered {
+    pub code: Stmts,
+    pub most: usize,
+}
+
+/// Writes what becomes of a statement, and gives the most locals that one statement in it takes.
+#[cycle(lowers)]
+fn lower_statement(
+    alloc: Global,
+    locals: &mut Locals<'_>,
+    handed: &Handed,
+    stmt: &Stmt,
+    steps: &mut Vec<Stmt>,
+) -> Result<usize, Memory>
+    ensures most { IfOk result (λ n. n ≡ locals_of_act (local_by locals.old) (handed_by handed.now) (act_of stmt.now.act)) }
+    ensures steps { OnOk result (Writes steps.old.items steps.new.items (lowered_act (local_by locals.old) (handed_by handed.now) stmt.now.line (act_of stmt.now.act))) }
+    ensures locals { OnOk result (local_by locals.new ≡ local_by locals.old) }
+{
+    let line = stmt.line;
+    match &stmt.act {
+        Act::Assign(place, e) => {
+            let most = lower_assignment(alloc, locals, line, place, e, steps)?;
+            Ok(most)
+        }
+        Act::If(c, a, b) => {
+            let first = lower(alloc, locals, handed, a)?;
+            let second = lower(alloc, locals, handed, b)?;
+            let condition = c.copy(alloc)?;
+            write(line, Act::If(condition, first.code, second.code), steps)?;
+            let most = first.most.max(second.most);
+            Ok(most)
+        }
+        Act::Loop(x, first, last, by, body, mark) => {
+            let inner = lower(alloc, locals, handed, body)?;
+            let name = x.copy(alloc)?;
+            let from = first.copy(alloc)?;
+            let limit = last.copy(alloc)?;
+            let stride = by.copy(alloc)?;
+            let snapshots = mark.copy(alloc)?;
+            let act = Act::Loop(name, from, limit, stride, inner.code, snapshots);
+            write(line, act, steps)?;
+            Ok(inner.most)
+        }
+        Act::While(c, body) => {
+            let inner = lower(alloc, locals, handed, body)?;
+            let condition = c.copy(alloc)?;
+            write(line, Act::While(condition, inner.code), steps)?;
+            Ok(inner.most)
+        }
+        Act::Call(unit, actuals) => {
+            let written = handed.written(unit);
+            let most = lower_call(alloc, locals, line, written, unit, actuals, steps)?;
+            Ok(most)
+        }
+        Act::Run(call) => {
+            let same = call.copy(alloc)?;
+            write(line, Act::Run(same), steps)?;
+            Ok(0)
+        }
+    }
+}
+
+/// A list of statements lowered.
+#[cycle(lowers)]
+pub fn lower(
+    alloc: Global,
+    locals: &mut Locals<'_>,
+    handed: &Handed,
+    code: &Stmts,
+) -> Result<Lowered, Memory>
+    ensures code { IfOk result (λ l. code_of l.code ≡ lowered (local_by locals.old) (handed_by handed.now) (code_of code.now)) }
+    ensures most { IfOk result (λ l. l.most ≡ locals_of (local_by locals.old) (handed_by handed.now) (code_of code.now)) }
+    ensures locals { OnOk result (local_by locals.new ≡ local_by locals.old) }
+{
+    let mut steps = Vec::new(alloc);
+    let most = lower_onto(alloc, locals, handed, code, &mut steps)?;
+    let code = Stmts::from_vec(alloc, steps)?;
+    Ok(Lowered { code, most })
+}
+
+// Writes what becomes of the statements of a list.
+#[cycle(lowers)]
+fn lower_onto(
+    alloc: Global,
+    locals: &mut Locals<'_>,
+    handed: &Handed,
+    code: &Stmts,
+    steps: &mut Vec<Stmt>,
+) -> Result<usize, Memory>
+    ensures most { IfOk result (λ n. n ≡ locals_of (local_by locals.old) (handed_by handed.now) (code_of code.now)) }
+    ensures steps { OnOk result (Writes steps.old.items steps.new.items (lowered (local_by locals.old) (handed_by handed.now) (code_of code.now))) }
+    ensures locals { OnOk result (local_by locals.new ≡ local_by locals.old) }
+{
+    let mut most: usize = 0;
+    let mut current = code;
+    while let Stmts::More(stmt, rest) = current {
+        let taken = lower_statement(alloc, locals, handed, stmt, steps)?;
+        most = most.max(taken);
+        current = rest;
+    }
+    Ok(most)
+}
