@@ -14,9 +14,9 @@ pub mod Cycling
 pub mod Members
 pub mod CallsListed
 pub mod Writing
-pub mod Rounds
 pub mod Opening
 pub mod Clashing
 pub mod Rows
 pub mod Meeting
 pub mod Passing
+pub mod Laxer

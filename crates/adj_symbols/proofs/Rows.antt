@@ -82,11 +82,3 @@ number_or us x u h = go (number_from 0 us x) refl
     go : (r : Option ℕ) → number_from 0 us x ≡ r → unwrap_or r 0 ≡ unit_number us x
     go None e = absurd (let p : false ≡ true = ap is_some (sym e) ∙ number_has 0 us x ∙ ap is_some h in cc)
     go (Some n) e = unit_numbered us x n e
-
--- ---- rows of two lists
-
-pub take_same : (xs ys : List (List Bool)) (i : ℕ) (x y : List Bool) → i < length xs → length xs ≡ length ys → x ≡ get_or xs i x → y ≡ get_or ys i y → x ≡ y → take i xs ≡ take i ys → take (i + 1) xs ≡ take (i + 1) ys
-take_same xs ys i x y lt same a b e h =
-    take_more xs i x lt
-    ∙ ap₂ (λ zs z. zs ++ z ∷ []) h (sym a ∙ e ∙ b)
-    ∙ sym (take_more ys i y (omega arith))

@@ -1,12 +1,10 @@
 -- What statements may write, by the names in a list.
 use Rattle.std.proofs.Common.{◌≡◌, Bool, true, false, List, [], ◌∷◌, ◌++◌, refl, sym, ap, ap₂, ◌∙◌, if◌then◌else◌}
 use Rattle.std.specs.Prelude.{◌||◌, ◌&&◌}
-use Rattle.std.specs.List.{flat_map, list_any}
-use Rattle.adj_tree.specs.Code.{Var, plain, shadow, helper, name_eq, var_eq, Term, lit, var, elem, neg, bin, pow, power_of, abs, Terms, none, more, Runtime, push_word, pop_word, push_array, pop_array, push_control, pop_control, zero_array, begin_reversal, count_actions, give_action, end_reversal, Act, assign, choose, loop, during, call, runtime, Code, stop, step}
+use Rattle.adj_tree.specs.Code.{Var, plain, shadow, helper, name_eq, var_eq, Term, lit, var, elem, neg, bin, pow, power_of, abs, Terms, none, more, Runtime, push_word, pop_word, push_array, pop_array, push_control, pop_control, zero_array, begin_reversal, count_actions, give_action, end_reversal, Act, assign, choose, loop, during, call, runtime}
 use Rattle.adj_meaning.specs.LeastSet.{Dummies}
-use Rattle.adj_meaning.specs.Written.{is_place_of, is_handed_back, runtime_writes, act_writes, writes}
+use Rattle.adj_meaning.specs.Written.{is_place_of, is_handed_back, runtime_writes}
 use Rattle.adj_names.specs.Fresh.{has_name}
-use Rattle.adj_names.specs.Statements.{At, inner, statements}
 use Rattle.adj_names.specs.Variables.{Name}
 use Rattle.adj_names.specs.WriteFaults.{may_write, named_by}
 use Rattle.adj_symbols.specs.Writes.{var_names, names_if, handed_names, changed_names, written_names}
@@ -79,40 +77,3 @@ may_write_name handed x (loop y first last by body m) = var_name x y
 may_write_name handed x (during c body) = refl
 may_write_name handed x (call name args) = handed_name x (handed name) args
 may_write_name handed x (runtime r) = changed_name x r
-
--- ---- statements at any depth
-
-abbrev some_write : Dummies → Name → List (At Act) → Bool
-some_write handed x ss = list_any (λ s. may_write handed (plain x) s.1) ss
-
-any_append : {X : Type 0} (f : X → Bool) (xs ys : List X) → list_any f (xs ++ ys) ≡ (list_any f xs || list_any f ys)
-any_append f [] ys = refl
-any_append f (x ∷ xs) ys = ap (λ b. f x || b) (any_append f xs ys) ∙ sym (or_assoc (f x) (list_any f xs) (list_any f ys))
-
-module _ (handed : Dummies) (x : Name) where
-  mutual
-    -- a statement writes what it may write itself and what those in it may write
-    act_written : (a : Act) → act_writes handed (plain x) a ≡ (may_write handed (plain x) a || some_write handed x (inner a))
-    act_written (assign y subs e) = or_none (var_eq (plain x) y)
-    act_written (choose c a b) = ap₂ (λ p q. p || q) (code_written a) (code_written b) ∙ sym (any_append (λ s. may_write handed (plain x) s.1) (statements a) (statements b))
-    act_written (loop y first last by body m) = ap (λ b. var_eq (plain x) y || b) (code_written body)
-    act_written (during c body) = code_written body
-    act_written (call name args) = or_none (is_handed_back (plain x) (handed name) args)
-    act_written (runtime r) = or_none (runtime_writes (plain x) r)
-
-    code_written : (c : Code) → writes handed (plain x) c ≡ some_write handed x (statements c)
-    code_written stop = refl
-    code_written (step line a rest) =
-        ap₂ (λ p q. p || q) (act_written a) (code_written rest)
-        ∙ or_assoc (may_write handed (plain x) a) (some_write handed x (inner a)) (some_write handed x (statements rest))
-        ∙ ap (λ b. may_write handed (plain x) a || b) (sym (any_append (λ s. may_write handed (plain x) s.1) (inner a) (statements rest)))
-
-  names_written : (ss : List (At Act)) → some_write handed x ss ≡ has_name x (flat_map (λ s. written_names handed s.1) ss)
-  names_written [] = refl
-  names_written (s ∷ ss) =
-      ap₂ (λ p q. p || q) (may_write_name handed x s.1) (names_written ss)
-      ∙ sym (has_append x (written_names handed s.1) (flat_map (λ t. written_names handed t.1) ss))
-
-  -- a list writes the variables that its statements at any depth may write
-  pub writes_name : (c : Code) → writes handed (plain x) c ≡ has_name x (flat_map (λ s. written_names handed s.1) (statements c))
-  writes_name c = code_written c ∙ names_written (statements c)

@@ -29,8 +29,8 @@ mod unit_names;
 mod write_faults;
 mod written;
 
+pub use adj_writes::written_dummies;
 pub use checked::Checked;
 pub use heads::head;
 pub use passes::check;
 pub use unit_names::variables;
-pub use written::written_dummies;

@@ -3,7 +3,9 @@
 ghost use Rattle.std.specs.Prelude.{◌≡◌, Some, None, map, IfOk, IfErr};
 ghost use Rattle.adj_tree.specs.View.{procedure_of, procedures_of};
 ghost use Rattle.adj_meaning.specs.LeastSet.{least_rows};
+ghost use Rattle.adj_meaning.specs.Read.{read_rule};
 ghost use Rattle.adj_meaning.specs.Written.{write_rule};
+ghost use Rattle.adj_text.specs.Written.{IsWritten};
 ghost use Rattle.adj_names.specs.CallFaults.{call_faults};
 ghost use Rattle.adj_names.specs.ChainFaults.{chain_faults};
 ghost use Rattle.adj_names.specs.Check.{first_fault, IsSound};
@@ -27,6 +29,7 @@ use crate::write_faults::add_writes;
 use crate::written::{Written, handed_back};
 use adj_text::Mode;
 use adj_tree::{Fault, Flags, NameList, Program, Refusal, Unit};
+use adj_writes::read_dummies;
 use std::alloc::Global;
 
 /// Stops at a fault, where there is one.
@@ -82,23 +85,25 @@ fn check_chains(alloc: Global, rules: Rules, scope: &Scope<'_>) -> Result<(), Fa
 }
 
 // What statements write, and so which of their dummies units write.
-fn check_writes(alloc: Global, scope: &Scope<'_>) -> Result<Written, Fault>
+fn check_writes(alloc: Global, scope: &Scope<'_>, units: &[Unit]) -> Result<Written, Fault>
+    requires units { units.now ≡ scope.now }
     ensures passes { IfOk result (λ _. first_of (write_faults (map procedure_of scope.now)) ≡ None) }
     ensures writes { IfOk result (λ w. w ≡ least_rows write_rule (map procedure_of scope.now)) }
     ensures refused { IfErr result (λ f. IfRefused f (λ e. first_of (write_faults (map procedure_of scope.now)) ≡ Some e)) }
 {
-    let written = handed_back(alloc, scope)?;
+    let written = handed_back(alloc, units)?;
     let mut first = First::new();
     add_writes(alloc, scope, &written, &mut first)?;
     stop_at(first.fault())?;
     Ok(written)
 }
 
-// What is known of checked units: their variables, and which of their dummies they write.
+// What is known of checked units: their variables, and which of their dummies they write and read.
 #[derive(Drop)]
 struct Facts {
     variables: Vec<NameList>,
     writes: Vec<Flags>,
+    reads: Vec<Flags>,
 }
 
 // All passes over the units. A later one is looked at only where the earlier ones have no fault.
@@ -106,6 +111,7 @@ fn check_all(alloc: Global, rules: Rules, units: &[Unit]) -> Result<Facts, Fault
     ensures sound { IfOk result (λ _. IsSound (rules_of rules) (map procedure_of units.now)) }
     ensures variables { IfOk result (λ f. f.variables.items ≡ map variables (map procedure_of units.now)) }
     ensures writes { IfOk result (λ f. f.writes.items ≡ least_rows write_rule (map procedure_of units.now)) }
+    ensures reads { IfOk result (λ f. f.reads.items ≡ least_rows read_rule (map procedure_of units.now)) }
     ensures refused { IfErr result (λ f. IfRefused f (λ e. first_fault (rules_of rules) (map procedure_of units.now) ≡ Some e)) }
 {
     let scope = Scope::new(alloc, units)?;
@@ -113,23 +119,27 @@ fn check_all(alloc: Global, rules: Rules, units: &[Unit]) -> Result<Facts, Fault
     let variables = check_names(alloc, rules, &scope)?;
     check_calls(&scope)?;
     check_chains(alloc, rules, &scope)?;
-    let written = check_writes(alloc, &scope)?;
+    let written = check_writes(alloc, &scope, units)?;
+    let reads = read_dummies(alloc, units)?;
     Ok(Facts {
         variables,
         writes: written.into_rows(),
+        reads,
     })
 }
 
-/// The program with its variables and with the dummies that its units write, or the first fault of its units (codes 18 and 19),
+/// The program with its variables and with the dummies that its units write and read, or the first fault of its units (codes 18 and 19),
 /// names (7, 8, 9, 12, 18 and 21), calls (14 and 15), chains (16 and 21) and writes (11, 13, 17 and 24). docs/REFUSALS.md says each in words.
 pub fn check(alloc: Global, program: Program, mode: Mode) -> Result<Checked, Fault>
+    requires written { IsWritten (procedures_of program) }
     ensures sound { IfOk result (λ _. IsSound (rules_for mode) (procedures_of program)) }
     ensures program { IfOk result (λ c. c.program ≡ program) }
     ensures variables { IfOk result (λ c. c.variables ≡ map variables (procedures_of program)) }
     ensures writes { IfOk result (λ c. c.writes ≡ least_rows write_rule (procedures_of program)) }
+    ensures reads { IfOk result (λ c. c.reads ≡ least_rows read_rule (procedures_of program)) }
     ensures refused { IfErr result (λ f. IfRefused f (λ e. first_fault (rules_for mode) (procedures_of program) ≡ Some e)) }
 {
     let rules = Rules::new(mode);
     let facts = check_all(alloc, rules, program.units.as_slice())?;
-    Ok(Checked::new(program, facts.variables, facts.writes))
+    Ok(Checked::new(program, facts.variables, facts.writes, facts.reads))
 }

@@ -1,22 +1,19 @@
 //! The variables that statements may write, and which of their dummies units write.
 
-ghost use Rattle.std.specs.Prelude.{◌≡◌, ◌↔◌, ◌++◌, ◌+◌, [], Bool, false, List, Some, None, map, flat_map, length, IfOk, OnOk, IsTrue, MatchOption, if◌then◌else◌};
+ghost use Rattle.std.specs.Prelude.{◌≡◌, ◌++◌, [], Bool, List, Some, None, map, IfOk, OnOk, MatchOption, if◌then◌else◌};
 ghost use Rattle.adj_tree.specs.Code.{plain};
-ghost use Rattle.adj_tree.specs.View.{term_of, terms_of, runtime_of, act_of, code_of, procedure_of};
-ghost use Rattle.adj_meaning.specs.LeastSet.{row_of, no_dummies, by_rule, rounds, least_rows, dummies_in_all};
-ghost use Rattle.adj_meaning.specs.Written.{writes, write_rule};
+ghost use Rattle.adj_tree.specs.View.{term_of, terms_of, runtime_of, act_of, procedure_of};
+ghost use Rattle.adj_meaning.specs.LeastSet.{row_of, least_rows};
+ghost use Rattle.adj_meaning.specs.Written.{write_rule};
 ghost use Rattle.adj_names.specs.Fresh.{has_name};
 ghost use Rattle.adj_names.specs.Variables.{Name};
 ghost use Rattle.adj_names.specs.WriteFaults.{named_by};
-ghost use Rattle.adj_names.specs.Statements.{statements};
-ghost use Rattle.adj_symbols.specs.Table.{once};
-ghost use Rattle.adj_symbols.specs.View.{seen};
 ghost use Rattle.adj_symbols.specs.Writes.{handed_names, changed_names, written_names, names_if, names_seen, writes_one};
 
-use crate::outline::Outline;
 use crate::scope::Scope;
 use crate::table::NameSet;
-use adj_tree::{Act, Expr, Exprs, Flags, Memory, Name, RunCall, Stmt, Unit};
+use adj_tree::{Act, Expr, Exprs, Flags, Memory, Name, RunCall, Unit};
+use adj_writes::written_dummies;
 use std::alloc::Global;
 use std::marker::Model;
 
@@ -44,13 +41,6 @@ impl Written {
             },
             None => &[],
         }
-    }
-
-    // Whether the same dummies are written.
-    fn is_same(&self, other: &Written) -> bool
-        ensures same { IsTrue result → self.now ≡ other.now }
-    {
-        are_same(self.rows.as_slice(), other.rows.as_slice())
     }
 
     /// The rows of all units.
@@ -191,33 +181,6 @@ pub(crate) fn writes_one(
     Ok(false)
 }
 
-// Borrowed names, each once.
-fn borrowed_once<'a>(alloc: Global, names: &[&'a Name]) -> Result<NameSet<'a>, Memory>
-    ensures { IfOk result (λ s. s ≡ once (names_seen names.now)) }
-{
-    let mut set = NameSet::new(alloc);
-    for name in names {
-        set.insert(name)?;
-    }
-    Ok(set)
-}
-
-// All variables that statements may write themselves.
-fn all_written<'a>(
-    alloc: Global,
-    scope: &Scope<'_>,
-    written: &Written,
-    stmts: &[&'a Stmt],
-) -> Result<Vec<&'a Name>, Memory>
-    ensures { IfOk result (λ v. names_seen v.items ≡ flat_map (λ s. written_names (row_of (map procedure_of scope.now) written.now) s.1) (seen stmts.now)) }
-{
-    let mut names = Vec::new(alloc);
-    for stmt in stmts {
-        add_written(scope, written, &stmt.act, &mut names)?;
-    }
-    Ok(names)
-}
-
 /// Which of some names are in a set.
 pub(crate) fn flags_of(alloc: Global, names: &[Name], chosen: &NameSet<'_>) -> Result<Flags, Memory>
     ensures { IfOk result (λ f. f ≡ map (λ x. has_name x chosen.now) names.now) }
@@ -229,128 +192,10 @@ pub(crate) fn flags_of(alloc: Global, names: &[Name], chosen: &NameSet<'_>) -> R
     Ok(Flags::new(flags))
 }
 
-// Which of its dummies a unit writes, where it is known which dummies of called units are written.
-fn row_by_rule(
-    alloc: Global,
-    scope: &Scope<'_>,
-    written: &Written,
-    outline: &Outline<'_>,
-) -> Result<Flags, Memory>
-    ensures { IfOk result (λ f. f ≡ map (write_rule (row_of (map procedure_of scope.now) written.now) (procedure_of outline.now)) outline.now.dummies) }
+/// Which dummies of each unit are written, and so handed back at the end of a call.
+pub(crate) fn handed_back(alloc: Global, units: &[Unit]) -> Result<Written, Memory>
+    ensures { IfOk result (λ w. w ≡ least_rows write_rule (map procedure_of units.now)) }
 {
-    let names = all_written(alloc, scope, written, outline.statements())?;
-    let borrowed = names.as_slice();
-    let set = borrowed_once(alloc, borrowed)?;
-    let dummies = outline.unit().dummies.as_slice();
-    let row = flags_of(alloc, dummies, &set)?;
-    Ok(row)
-}
-
-// The same for all units.
-fn one_round(alloc: Global, scope: &Scope<'_>, written: &Written) -> Result<Written, Memory>
-    ensures { IfOk result (λ w. w ≡ by_rule write_rule (map procedure_of scope.now) written.now) }
-{
-    let mut rows = Vec::new(alloc);
-    for outline in scope.outlines() {
-        rows.push(row_by_rule(alloc, scope, written, outline)?)?;
-    }
+    let rows = written_dummies(alloc, units)?;
     Ok(Written { rows })
-}
-
-// No dummy of a unit.
-fn empty_row(alloc: Global, outline: &Outline<'_>) -> Result<Flags, Memory>
-    ensures { IfOk result (λ f. f ≡ map (λ d. false) outline.now.dummies) }
-{
-    let nothing = NameSet::new(alloc);
-    let dummies = outline.unit().dummies.as_slice();
-    let row = flags_of(alloc, dummies, &nothing)?;
-    Ok(row)
-}
-
-// No dummy of any unit.
-fn none_written(alloc: Global, scope: &Scope<'_>) -> Result<Written, Memory>
-    ensures { IfOk result (λ w. w ≡ no_dummies (map procedure_of scope.now)) }
-{
-    let mut rows = Vec::new(alloc);
-    for outline in scope.outlines() {
-        rows.push(empty_row(alloc, outline)?)?;
-    }
-    Ok(Written { rows })
-}
-
-// Whether a row is the same as another.
-fn equals(row: &[bool], other: &[bool]) -> bool
-    ensures { IsTrue result ↔ (row.now ≡ other.now) }
-{
-    row == other
-}
-
-// Whether it differs from it.
-fn differs(row: &[bool], other: &[bool]) -> bool
-    ensures { result ≡ false → row.now ≡ other.now }
-{
-    !equals(row, other)
-}
-
-// Whether all rows are the same.
-fn are_same(before: &[Flags], after: &[Flags]) -> bool
-    ensures { IsTrue result → before.now ≡ after.now }
-{
-    if before.len() != after.len() {
-        return false;
-    }
-    for i in 0..before.len() {
-        if differs(before[i].as_slice(), after[i].as_slice()) {
-            return false;
-        }
-    }
-    true
-}
-
-// Adds the dummies of a unit.
-fn add_dummies<'a>(outline: &Outline<'a>, out: &mut Vec<&'a Name>) -> Result<(), Memory>
-    ensures { OnOk result (length out.new.items ≡ length out.old.items + length outline.now.dummies) }
-{
-    for name in outline.unit().dummies.as_slice() {
-        out.push(name)?;
-    }
-    Ok(())
-}
-
-// The dummies of all units.
-fn all_dummies<'a>(alloc: Global, scope: &Scope<'a>) -> Result<Vec<&'a Name>, Memory>
-    ensures { IfOk result (λ v. length v.items ≡ dummies_in_all (map procedure_of scope.now)) }
-{
-    let mut dummies = Vec::new(alloc);
-    for outline in scope.outlines() {
-        add_dummies(outline, &mut dummies)?;
-    }
-    Ok(dummies)
-}
-
-/// Which dummies of each unit are written, and so handed back at the end of a call. A round looks at all units, and finds what
-/// calls of one more unit within one another write; one that finds no more is the last. So where no CALL lies on a cycle there are no more rounds than
-/// units in the longest chain, and one.
-pub(crate) fn handed_back(alloc: Global, scope: &Scope<'_>) -> Result<Written, Memory>
-    ensures { IfOk result (λ w. w ≡ least_rows write_rule (map procedure_of scope.now)) }
-{
-    let dummies = all_dummies(alloc, scope)?;
-    let mut written = none_written(alloc, scope)?;
-    for _dummy in dummies.as_slice() {
-        let next = one_round(alloc, scope, &written)?;
-        if next.is_same(&written) {
-            return Ok(next);
-        }
-        written = next;
-    }
-    Ok(written)
-}
-
-/// Which of its dummies each unit writes, in order.
-pub fn written_dummies(alloc: Global, units: &[Unit]) -> Result<Vec<Flags>, Memory>
-    ensures written { IfOk result (λ v. v.items ≡ least_rows write_rule (map procedure_of units.now)) }
-{
-    let scope = Scope::new(alloc, units)?;
-    let written = handed_back(alloc, &scope)?;
-    Ok(written.into_rows())
 }

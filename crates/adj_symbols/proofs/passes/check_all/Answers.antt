@@ -81,3 +81,6 @@ returns-clause-sound c =
     let calls = ap (λ z. first_of (call_faults (map procedure_of z))) same ∙ c.in_ok-check_calls.ensures.passes in
     let chains = ap (λ z. first_of (chain_faults m (map procedure_of z))) same ∙ c.in_ok-check_chains.ensures.passes in
     in_writes m ps c.in_ok-check_units.ensures.passes names calls None chains (ap (λ z. first_of (write_faults (map procedure_of z))) same ∙ c.in_ok-written.ensures.passes)
+
+pub check_writes-requires : goal.check_writes-requires
+check_writes-requires c = record { units = sym c.in_ok-scope.ensures.units }
