@@ -1,5 +1,5 @@
 -- A machine that does part after part ends as the run does that does part after part.
-use Rattle.std.proofs.Common.{◌≡◌, ℕ, zero, suc, ◌-◌, ◌<◌, List, [], ◌∷◌, ◌++◌, map, refl, sym, ap, subst, ◌∙◌, arith}
+use Rattle.std.proofs.Common.{◌≡◌, ℕ, zero, suc, ◌-◌, ◌<◌, List, [], ◌∷◌, ◌++◌, refl, sym, ap, subst, ◌∙◌, arith}
 use Rattle.std.specs.Prelude.{ℤ, reverse, Result, Ok, Err, Option, Some, None, Bool, true, false, if◌then◌else◌}
 use Rattle.std.proofs.lemmas.List.{append-nil, append_assoc, map-id, reverse-append}
 use Rattle.adj_tree.specs.Code.{Term, Mark, Act, Code, step}
@@ -7,17 +7,17 @@ use Rattle.adj_tree.specs.declared.value.Trap.TheVariants as trap
 use Rattle.adj_meaning.specs.Trap.{Trap, step_trap, then_ok}
 use Rattle.adj_meaning.specs.Store.{Store}
 use Rattle.adj_meaning.specs.Value.{Setting, value}
-use Rattle.adj_meaning.specs.Event.{Event, Marked}
+use Rattle.adj_meaning.specs.Event.{Event, Enter, Begin, End, Marked}
 use Rattle.adj_meaning.specs.Log.{Reversal, Log, log_from, log_of}
 use Rattle.adj_meaning.specs.Scene.{Scene, Stand, stand, Outcome, Done, Trapped, More, Full, Go, then_do, with_value, counted}
 use Rattle.adj_meaning.specs.Run.{Calls, act, run, trips, turns, tests, after_loop}
 use Rattle.adj_interp.specs.declared.step.Step.{Step}
 use Rattle.adj_interp.specs.declared.stop.Stop.{Stop}
 use Rattle.adj_interp.specs.declared.stop.Stop.TheVariants as stop
-use Rattle.adj_interp.specs.declared.tally.Tally.{Tally}
 use Rattle.adj_interp.specs.declared.machine.Machine.{Machine}
 use Rattle.adj_interp.specs.Instructed.{task_in}
-use Rattle.adj_interp.specs.Held.{reversal_of, log_in, Tells, Entry, setting_at, Holds, Stands, IsTrapped, HasMore, Ends, Reaches, Finds, bounds_in}
+use Rattle.adj_interp.specs.Counted.{Counted, with_event}
+use Rattle.adj_interp.specs.Held.{Tells, Entry, setting_at, Holds, Stands, IsTrapped, HasMore, Ends, Reaches, Finds, bounds_in}
 
 -- ---- what stands
 
@@ -26,25 +26,31 @@ none_later : (rs : List Reversal) (log : Log) → log_from rs log [] ≡ log
 none_later [] log = refl
 none_later (r ∷ rs) log = refl
 
--- the end of a marked loop is told and not counted
-marked_later : (rs : List Reversal) (log : Log) (line m k : ℕ) (es : List Event) → log_from rs log (Marked line m k ∷ es) ≡ log_from rs log es
-marked_later [] log line m k es = refl
-marked_later (r ∷ rs) log line m k es = refl
+-- what happens is counted event by event
+one_later : (rs : List Reversal) (log : Log) (v : Event) (later : List Event) → log_from rs log (v ∷ later) ≡ (let c = with_event (record { begun = rs; log = log }) v in log_from c.begun c.log later)
+one_later [] log (Enter name level height shapes) later = refl
+one_later (r ∷ rs) log (Enter name level height shapes) later = refl
+one_later [] log (Begin steps snapshots level height) later = refl
+one_later (r ∷ rs) log (Begin steps snapshots level height) later = refl
+one_later [] log (End level) later = refl
+one_later (r ∷ rs) log (End level) later = refl
+one_later [] log (Marked line m k) later = refl
+one_later (r ∷ rs) log (Marked line m k) later = refl
 
 -- the last event comes first of those that are left
 one_earlier : (e : Event) (es later : List Event) → reverse (e ∷ es) ++ later ≡ reverse es ++ (e ∷ later)
 one_earlier e es later = ap (λ z. z ++ later) (reverse-append (e ∷ []) es) ∙ append_assoc (reverse es) (e ∷ []) later
 
--- so the tally that tells of a run goes on telling of it
-pub told_marked : (t : Tally) (es : List Event) (line m k : ℕ) → Tells t es → Tells t (Marked line m k ∷ es)
-told_marked t es line m k h later = ap log_of (one_earlier (Marked line m k) es later) ∙ h (Marked line m k ∷ later) ∙ marked_later (map reversal_of t.begun.items) (log_in t) line m k later
+-- so what was counted tells of the run with one event more
+pub told_next : (c : Counted) (v : Event) (es : List Event) → Tells c es → Tells (with_event c v) (v ∷ es)
+told_next c v es h later = ap log_of (one_earlier v es later) ∙ h (v ∷ later) ∙ one_later c.begun c.log v later
 
 module _ (e : Entry) where
   -- a machine that has a scene in hand stands as the run does that stops there
   pub holds_stand : (m : Machine) (s : Scene ℤ) → Holds e m s → Stands m (stand (setting_at e) s)
   holds_stand m s h = record {
     tape = map-id s.tape ∙ h.tape;
-    log = ap log_of (sym (append-nil (reverse s.events))) ∙ h.told [] ∙ none_later (map reversal_of m.tally.begun.items) (log_in m.tally);
+    log = ap log_of (sym (append-nil (reverse s.events))) ∙ h.told [] ∙ none_later m.tally.begun m.tally.log;
   }
 
   -- ---- values
@@ -247,7 +253,7 @@ module _ (e : Entry) where
   ends_loop (Done s k) line i None (Ok u) m h = h
   ends_loop (Done s k) line i (Some c) (Ok u) m h =
       let d = h.0 in
-      (record { room = d.room; level = d.level; shown = d.shown; tape = d.tape; opened = d.opened; told = told_marked m.tally s.events line i c d.told }, h.1)
+      (record { room = d.room; level = d.level; shown = d.shown; tape = d.tape; opened = d.opened; told = told_next m.tally (Marked line i c) s.events d.told }, h.1)
   ends_loop (Trapped t l w) line i f (Ok u) m h = absurd h
   ends_loop (More w) line i f (Ok u) m h = absurd h
   ends_loop (Full w) line i f (Ok u) m h = absurd h

@@ -4,3 +4,5 @@ pub mod Setting
 pub mod Numberings
 pub mod Resolving
 pub mod Driving
+pub mod Serving
+pub mod Plans

@@ -3,6 +3,7 @@ use Rattle.std.proofs.Common.{◌≡◌, ◌≢◌, ℕ, zero, suc, ◌<◌, Boo
 use Rattle.std.specs.Prelude.{ℤ, pos, ◌==◌, ◌&&◌}
 use Rattle.std.proofs.Math.ListN.{set, length-set}
 use Rattle.std.proofs.lemmas.Grind.{get_or-set_at}
+use Rattle.std.proofs.lemmas.List.{get_or_default}
 use Rattle.adj_tree.specs.Code.{Var, plain, shadow, helper, name_eq}
 use Rattle.adj_tree.proofs.Names.{name_same}
 use Rattle.adj_meaning.specs.Store as store
@@ -62,6 +63,16 @@ kept_frame names vs i e f lt h = record { apart = f.apart; each = f.each ∙ sym
         let n = length-set vs i e in
         subst IsSlot (sym (get_or-set_other vs i k e g s)) (f.sized k g (omega (arith, l, n)))
 
+-- where a slot keeps its number of cells, each does
+pub kept_sizes : (vs : List Slot) (i : ℕ) (e d : Slot) → i < length vs → length e.cells.items ≡ length (get_or vs i d).cells.items → (k : ℕ) (g : Slot) → length (get_or (set vs i e) k g).cells.items ≡ length (get_or vs k g).cells.items
+kept_sizes vs i e d lt h k g = go (k == i) refl
+  where
+    go : (b : Bool) → (k == i) ≡ b → length (get_or (set vs i e) k g).cells.items ≡ length (get_or vs k g).cells.items
+    go true q =
+        let s : k ≡ i = grind arith in
+        ap (λ (v : Slot). length v.cells.items) (get_or-set_at vs i k e g s lt) ∙ h ∙ ap (λ (v : Slot). length v.cells.items) (get_or_default vs i d g lt) ∙ ap (λ j. length (get_or vs j g).cells.items) (sym s)
+    go false q = let s : k ≢ i = grind arith in ap (λ (v : Slot). length v.cells.items) (get_or-set_other vs i k e g s)
+
 module _ (names : List (List ℕ)) (vs : List Slot) (i : ℕ) (e d : Slot) (cell : ℕ) (w : ℤ) (f : IsFrame names vs) (there : i < length vs) (shapes : slot_shape e ≡ slot_shape (get_or vs i d)) (cells : e.cells.items ≡ set (get_or vs i d).cells.items cell w) (within : cell < length (get_or vs i d).cells.items) (shape : Var → Shape) (s : Store ℤ) (h : Shows names vs shape s) where
   cells_plain : (y : List ℕ) (j : ℕ) → j < size_of (shape (plain y)) → (if name_eq y (get_or names i []) && (j == cell) then w else s (plain y) j) ≡ in_slot (pos 0) (λ v. get_or v.cells.items j (pos 0)) names (set vs i e) y
   cells_plain y j l = go (name_eq y (get_or names i [])) refl ∙ sym (said_now (pos 0) (λ v. get_or v.cells.items j (pos 0)) e d names vs i y f.apart f.each there)
@@ -84,5 +95,30 @@ module _ (names : List (List ℕ)) (vs : List Slot) (i : ℕ) (e d : Slot) (cell
 
       hold : (x : Var) (j : ℕ) → j < size_of (shape x) → store.set s (var_at names i) cell w x j ≡ store_in names (set vs i e) x j
       hold (plain y) j l = cells_plain y j l
+      hold (shadow y) j l = h.cells (shadow y) j l
+      hold (helper r k) j l = h.cells (helper r k) j l
+
+module _ (names : List (List ℕ)) (vs : List Slot) (i : ℕ) (e d : Slot) (cs : ℕ → ℤ) (f : IsFrame names vs) (there : i < length vs) (shapes : slot_shape e ≡ slot_shape (get_or vs i d)) (cells : (j : ℕ) → j < size_of (slot_shape e) → cs j ≡ get_or e.cells.items j (pos 0)) (shape : Var → Shape) (s : Store ℤ) (h : Shows names vs shape s) where
+  all_plain : (y : List ℕ) (j : ℕ) → j < size_of (shape (plain y)) → (if name_eq y (get_or names i []) then cs j else s (plain y) j) ≡ in_slot (pos 0) (λ v. get_or v.cells.items j (pos 0)) names (set vs i e) y
+  all_plain y j l = go (name_eq y (get_or names i [])) refl ∙ sym (said_now (pos 0) (λ v. get_or v.cells.items j (pos 0)) e d names vs i y f.apart f.each there)
+    where
+      size : name_eq y (get_or names i []) ≡ true → size_of (shape (plain y)) ≡ size_of (slot_shape e)
+      size g = ap size_of (h.shapes (plain y) ∙ ap (in_slot scalar slot_shape names vs) (name_same y (get_or names i []) g) ∙ at_number scalar slot_shape names vs i d f.apart f.each there ∙ sym shapes)
+
+      go : (b : Bool) → name_eq y (get_or names i []) ≡ b → (if b then cs j else s (plain y) j) ≡ (if b then get_or e.cells.items j (pos 0) else in_slot (pos 0) (λ v. get_or v.cells.items j (pos 0)) names vs y)
+      go true g = cells j (subst (λ z. j < z) (size g) l)
+      go false g = h.cells (plain y) j l
+
+  -- where slots show a store, they go on showing it when all cells of a variable become others in both
+  pub shown_set_all : Shows names (set vs i e) shape (store.set_all s (var_at names i) cs)
+  shown_set_all = record { shapes = look; cells = hold }
+    where
+      look : (x : Var) → shape x ≡ shapes_in names (set vs i e) x
+      look (plain y) = h.shapes (plain y) ∙ sym (said_before scalar slot_shape e d names vs i y there shapes)
+      look (shadow y) = h.shapes (shadow y)
+      look (helper r k) = h.shapes (helper r k)
+
+      hold : (x : Var) (j : ℕ) → j < size_of (shape x) → store.set_all s (var_at names i) cs x j ≡ store_in names (set vs i e) x j
+      hold (plain y) j l = all_plain y j l
       hold (shadow y) j l = h.cells (shadow y) j l
       hold (helper r k) j l = h.cells (helper r k) j l

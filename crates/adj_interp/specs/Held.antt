@@ -1,33 +1,26 @@
 -- Held: what a machine has in hand of a run, and how it ends.
-use Rattle.std.specs.Prelude.{◌≡◌, ℕ, ℤ, List, ◌++◌, map, reverse, Result, Ok, Err, Some}
+use Rattle.std.specs.Prelude.{◌≡◌, ℕ, ◌+◌, ℤ, pos, List, ◌++◌, length, reverse, Result, Ok, Err, Some}
 use Rattle.adj_tree.specs.declared.value.Trap.{Trap as CodeTrap}
 use Rattle.adj_tree.specs.Code.{Var, Term, Mark}
 use Rattle.adj_meaning.specs.Trap.{Trap, then_ok}
 use Rattle.adj_meaning.specs.Store.{Shape, Store}
-use Rattle.adj_meaning.specs.Run.{trips}
+use Rattle.adj_meaning.specs.Run.{trips, with_turn}
+use Rattle.adj_meaning.specs.Runtime.{steps_of, snapshots_of, actions_of, action_at, kind_of, lower_of, upper_of}
+use Rattle.adj_revolve.specs.declared.machine.Action.{Action}
 use Rattle.adj_meaning.specs.Event.{Event}
-use Rattle.adj_meaning.specs.Log.{Reversal, Log, log_from, log_of}
+use Rattle.adj_meaning.specs.Log.{log_from, log_of}
 use Rattle.adj_meaning.specs.Value.{Setting, value}
 use Rattle.adj_meaning.specs.Scene.{Scene, Stand, Outcome, Done, Trapped, More, Full, Go}
 use Rattle.adj_interp.specs.declared.stop.Stop.{Stop}
 use Rattle.adj_interp.specs.declared.stop.Stop.TheVariants as stop
-use Rattle.adj_interp.specs.declared.tally.Reversal.{Reversal as OpenReversal}
-use Rattle.adj_interp.specs.declared.tally.Tally.{Tally}
 use Rattle.adj_interp.specs.declared.machine.Machine.{Machine}
+use Rattle.adj_interp.specs.Counted.{Counted}
 use Rattle.adj_interp.specs.Framed.{trap_of}
 use Rattle.adj_interp.specs.Shown.{on_words, Shows}
 
--- a reversal that is open
-abbrev pub reversal_of : OpenReversal → Reversal
-reversal_of r = record { level = r.level; steps = r.steps; start = r.start; calls = r.calls }
-
--- what was counted
-abbrev pub log_in : Tally → Log
-log_in t = record { reversals = t.reversals; advances = t.advances; height = t.height }
-
--- whatever happens later is counted on from the tally of what happened, the last first
-abbrev pub Tells : Tally → List Event → Type 0
-Tells t es = (later : List Event) → log_of (reverse es ++ later) ≡ log_from (map reversal_of t.begun.items) (log_in t) later
+-- whatever happens later is counted on from what was counted of what happened, the last first
+abbrev pub Tells : Counted → List Event → Type 0
+Tells c es = (later : List Event) → log_of (reverse es ++ later) ≡ log_from c.begun c.log later
 
 -- an entry of a unit: the shapes of its variables, how many words the tape can hold, and its level
 pub record Entry : Type 0 where
@@ -44,13 +37,13 @@ pub record Holds (e : Entry) (m : Machine) (s : Scene ℤ) : Type 0 where
   pub level : m.level ≡ e.level
   pub shown : Shows m.frame.names.now m.frame.slots.items e.shape s.store
   pub tape : s.tape ≡ m.tape.words
-  pub opened : s.opened ≡ m.opened
+  pub opened : s.opened + m.base ≡ length m.tally.begun
   pub told : Tells m.tally s.events
 
 -- a machine stands as a run stands that stopped
 pub record Stands (m : Machine) (w : Stand) : Type 0 where
   pub tape : w.tape ≡ m.tape.words
-  pub log : log_of w.events ≡ log_in m.tally
+  pub log : log_of w.events ≡ m.tally.log
 
 -- a machine is done as a run is
 abbrev pub IsDone : Entry → Machine → Outcome (Scene ℤ) → Type 0
@@ -106,3 +99,17 @@ Finds line r (Err stop.Memory) = ⊥
 abbrev pub bounds_in : Setting ℤ → Term → Term → Term → Mark → Store ℤ → Result (ℤ × ℤ × ℕ) Trap
 bounds_in n first last by mark s =
     then_ok (value n first s) (λ a. then_ok (value n last s) (λ b. then_ok (value n by s) (λ c. then_ok (trips mark a b c) (λ m. Ok (a, c, m)))))
+
+-- ---- schedules
+
+-- the steps and snapshots of a schedule
+abbrev pub plan_in : Setting ℤ → Term → Term → Store ℤ → Result (ℕ × ℕ) Trap
+plan_in n l m s = then_ok (value n l s) (λ u. then_ok (value n m s) (λ v. then_ok (steps_of u) (λ a. then_ok (snapshots_of v) (λ b. Ok (a, b)))))
+
+-- the action of a schedule that is asked for
+abbrev pub action_in : Setting ℤ → Term → Term → Term → Store ℤ → Result Action Trap
+action_in n l m e s = then_ok (value n l s) (λ u. then_ok (value n m s) (λ v. then_ok (value n e s) (λ w. then_ok (actions_of u v) (λ list. action_at w list))))
+
+-- the scene with three variables set to the kind and the places of an action
+abbrev pub given_in : Setting ℤ → Var → Var → Var → Action → Scene ℤ → Scene ℤ
+given_in n x y z a s = with_turn n z (pos (upper_of a)) (with_turn n y (pos (lower_of a)) (with_turn n x (pos (kind_of a)) s))

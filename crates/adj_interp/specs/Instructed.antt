@@ -87,17 +87,17 @@ abbrev mutual
   AreStepsBelow count steps.Empty = Unit {0}
   AreStepsBelow count (steps.More' p line t q rest) = IsTaskBelow count t × AreStepsBelow count rest
 
--- ---- no calls
+-- ---- no calls of units
 
 abbrev mutual
-  -- neither the statement nor those in it are calls
+  -- neither the statement nor those in it are calls of units
   pub IsPlainTask : Task → Type 0
   IsPlainTask (task.Assign c e) = Unit {0}
   IsPlainTask (task.If t a b) = ArePlain a × ArePlain b
   IsPlainTask (task.Loop i b body m) = ArePlain body
   IsPlainTask (task.While t body) = ArePlain body
   IsPlainTask (task.Call x args) = ⊥
-  IsPlainTask (task.Run r) = ⊥
+  IsPlainTask (task.Run r) = Unit {0}
 
   pub ArePlain : Steps → Type 0
   ArePlain steps.Empty = Unit {0}

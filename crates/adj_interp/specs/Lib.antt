@@ -4,4 +4,5 @@ pub mod Instructed
 pub mod Numbered
 pub mod Framed
 pub mod Shown
+pub mod Counted
 pub mod Held

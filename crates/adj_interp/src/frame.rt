@@ -1,8 +1,8 @@
 //! An entry of a unit: a slot for each of its variables.
 
-ghost use Rattle.std.specs.Prelude.{◌≡◌, ◌<◌, ◌∷◌, ℤ, IfOk, length, slice_index_or};
+ghost use Rattle.std.specs.Prelude.{◌≡◌, ◌<◌, ◌∷◌, ℕ, ℤ, pos, IfOk, length, slice_index_or};
 ghost use Rattle.adj_tree.specs.Code.{Var};
-ghost use Rattle.adj_meaning.specs.Store.{Shape, Store, set};
+ghost use Rattle.adj_meaning.specs.Store.{Shape, Store, set, set_all};
 ghost use Rattle.adj_meaning.specs.Trap.{then_ok};
 ghost use Rattle.adj_meaning.specs.Value.{value, values, cell_at, target, holds};
 ghost use Rattle.adj_interp.specs.Prepared.{var_at, term_in, terms_in, test_in, IsTermBelow, AreTermsBelow, IsTestBelow};
@@ -162,10 +162,22 @@ impl<'a> Frame<'a> {
         requires within { (d : Slot) → cell < length (slice_index_or self.old.slots.items i d).cells.items }
         ensures names { self.new.names.now ≡ self.old.names.now }
         ensures framed { IsFrame self.old.names.now self.new.slots.items }
+        ensures sized { (j : ℕ) (d : Slot) → length (slice_index_or self.new.slots.items j d).cells.items ≡ length (slice_index_or self.old.slots.items j d).cells.items }
         ensures shown { (shape : Var → Shape) (s : Store ℤ) → Shows self.old.names.now self.old.slots.items shape s
             → Shows self.old.names.now self.new.slots.items shape (set s (var_at self.old.names.now i) cell word) }
     {
         let slot = &mut self.slots[i];
         slot.cells[cell] = word;
+    }
+    /// Puts 0 into each cell of a variable.
+    pub fn clear(&mut self, i: usize)
+        requires framed { IsFrame self.old.names.now self.old.slots.items }
+        requires there { i < length self.old.slots.items }
+        ensures names { self.new.names.now ≡ self.old.names.now }
+        ensures framed { IsFrame self.old.names.now self.new.slots.items }
+        ensures shown { (shape : Var → Shape) (s : Store ℤ) → Shows self.old.names.now self.old.slots.items shape s
+            → Shows self.old.names.now self.new.slots.items shape (set_all s (var_at self.old.names.now i) (λ j. pos 0)) }
+    {
+        self.slots[i].clear();
     }
 }

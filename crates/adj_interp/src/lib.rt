@@ -6,11 +6,14 @@
 #![tactic(auto)]
 
 mod arithmetic;
+mod cursor;
 mod frame;
 mod laws;
 mod machine;
 mod numbering;
+mod planning;
 mod prepare;
+mod runtime;
 mod slot;
 mod step;
 mod stop;
@@ -18,6 +21,7 @@ mod tally;
 mod term;
 mod trips;
 
+pub use cursor::Cursor;
 pub use frame::Frame;
 pub use laws::shown_is_seen;
 pub use machine::Machine;

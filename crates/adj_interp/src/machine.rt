@@ -1,6 +1,6 @@
 //! The machine that executes prepared statements.
 
-ghost use Rattle.std.specs.Prelude.{◌≡◌, ◌<◌, ℤ, suc, true, false, length, slice_index_or, IfOk};
+ghost use Rattle.std.specs.Prelude.{◌≡◌, ◌<◌, ℕ, ℤ, suc, true, false, length, slice_index_or, IfOk};
 ghost use Rattle.adj_meaning.specs.Scene.{Scene};
 ghost use Rattle.adj_meaning.specs.Store.{set};
 ghost use Rattle.adj_meaning.specs.Value.{value, target, holds};
@@ -11,6 +11,7 @@ ghost use Rattle.adj_interp.specs.Instructed.{task_in, steps_in, marking_in, IsC
 ghost use Rattle.adj_interp.specs.Framed.{IsFrame};
 ghost use Rattle.adj_interp.specs.Held.{Entry, setting_at, Holds, Ends, Finds, bounds_in};
 
+use crate::cursor::Cursor;
 use crate::frame::Frame;
 use crate::step::{Bounds, Cell, Marking, Steps, Task};
 use crate::stop::Stop;
@@ -21,16 +22,17 @@ use adj_tape::Tape;
 use adj_tree::Trap;
 use adj_word::add;
 
-/// What a run has in hand: the entry of the unit that runs, with the reversals that it has open and its level, the
-/// tape, the statements that are left, and what was counted.
+/// What a run has in hand: the entry of the unit that runs, how many reversals were open when it began, its level, the
+/// tape, the statements that are left, what was counted, and the schedule that the entry asked last.
 #[derive(Drop)]
 pub struct Machine<'a> {
     pub frame: Frame<'a>,
-    pub opened: u64,
+    pub base: usize,
     pub level: u64,
     pub tape: Tape,
     pub left: u64,
     pub tally: Tally,
+    pub cursor: Option<Cursor>,
 }
 
 // The variable of a DO and its step.
@@ -42,7 +44,7 @@ struct Course {
 
 impl<'a> Machine<'a> {
     // The value of an expression in a statement at a line.
-    fn value(&self, term: &Term, line: u32) -> Result<i64, Stop>
+    pub(crate) fn value(&self, term: &Term, line: u32) -> Result<i64, Stop>
         requires framed { IsFrame self.now.frame.names.now self.now.frame.slots.items }
         requires below { IsTermBelow (length self.now.frame.names.now) term.now }
         ensures value { (e : Entry) (s : Scene ℤ) → Holds e self.now s → Finds line (value (setting_at e) (term_in self.now.frame.names.now term.now) s.store) result }
@@ -66,7 +68,7 @@ impl<'a> Machine<'a> {
     }
 
     // The cell of a target.
-    fn target(&self, cell: &Cell, line: u32) -> Result<usize, Stop>
+    pub(crate) fn target(&self, cell: &Cell, line: u32) -> Result<usize, Stop>
         requires framed { IsFrame self.now.frame.names.now self.now.frame.slots.items }
         requires below { IsCellBelow (length self.now.frame.names.now) cell.now }
         ensures target { (e : Entry) (s : Scene ℤ) → Holds e self.now s → Finds line (target (setting_at e) (var_at self.now.frame.names.now cell.now.variable) (terms_in self.now.frame.names.now cell.now.subs) s.store) result }
@@ -92,20 +94,21 @@ impl<'a> Machine<'a> {
     }
 
     // Puts a word into a cell.
-    fn put(&mut self, variable: usize, cell: usize, word: i64)
+    pub(crate) fn put(&mut self, variable: usize, cell: usize, word: i64)
         requires framed { IsFrame self.old.frame.names.now self.old.frame.slots.items }
         requires there { variable < length self.old.frame.names.now }
         requires within { (d : Slot) → cell < length (slice_index_or self.old.frame.slots.items variable d).cells.items }
         ensures names { self.new.frame.names.now ≡ self.old.frame.names.now }
         ensures framed { IsFrame self.old.frame.names.now self.new.frame.slots.items }
+        ensures sized { (j : ℕ) (d : Slot) → length (slice_index_or self.new.frame.slots.items j d).cells.items ≡ length (slice_index_or self.old.frame.slots.items j d).cells.items }
         ensures left { self.new.left ≡ self.old.left }
         ensures holds { (e : Entry) (s : Scene ℤ) → Holds e self.old s → Holds e self.new (record s { store = set s.store (var_at self.old.frame.names.now variable) cell word }) }
     {
         self.frame.set(variable, cell, word);
     }
 
-    // Sets the variable of a DO.
-    fn turn(&mut self, variable: usize, word: i64)
+    // Sets a scalar, as the variable of a DO.
+    pub(crate) fn turn(&mut self, variable: usize, word: i64)
         requires framed { IsFrame self.old.frame.names.now self.old.frame.slots.items }
         requires there { variable < length self.old.frame.names.now }
         ensures names { self.new.frame.names.now ≡ self.old.frame.names.now }
@@ -197,7 +200,8 @@ impl<'a> Machine<'a> {
                 self.turns(&course, turns, body)
             }
             Task::While(test, body) => self.tests(body, test, line),
-            Task::Call(_, _) | Task::Run(_) => unreachable!(),
+            Task::Run(service) => self.serve(service, line),
+            Task::Call(_, _) => unreachable!(),
         }
     }
 

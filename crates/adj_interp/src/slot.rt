@@ -1,6 +1,6 @@
 //! What a variable holds.
 
-ghost use Rattle.std.specs.Prelude.{◌≡◌, ◌<◌, ◌∷◌, [], pos, length, slice_index_or, IfOk};
+ghost use Rattle.std.specs.Prelude.{◌≡◌, ◌<◌, ◌∷◌, [], pos, length, replicate, slice_index_or, IfOk};
 ghost use Rattle.adj_meaning.specs.Trap.{index, or_trap};
 ghost use Rattle.adj_meaning.specs.Store.{within, cell_of};
 ghost use Rattle.adj_interp.specs.Framed.{result_of, slot_shape, IsSlot};
@@ -50,5 +50,12 @@ impl Slot {
             return Err(Trap::Index);
         };
         Ok(i + j * self.rows)
+    }
+    /// Puts 0 into each cell.
+    pub fn clear(&mut self)
+        ensures shape { slot_shape self.new ≡ slot_shape self.old }
+        ensures cells { self.new.cells.items ≡ replicate (length self.old.cells.items) (pos 0) }
+    {
+        self.cells.fill(0);
     }
 }

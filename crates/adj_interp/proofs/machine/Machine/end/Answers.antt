@@ -1,0 +1,21 @@
+use Rattle.std.proofs.Common.{rules, ◌≡◌, length, refl, sym, ◌∙◌}
+use Rattle.adj_meaning.specs.Event.{End}
+use Rattle.adj_interp.specs.Counted.{Counted, with_event}
+use Rattle.adj_interp.specs.declared.machine.Machine.{Machine}
+use Rattle.adj_interp.proofs.Serving.{ended_none, ended_ok}
+use Rattle.adj_interp.proofs.machine.Machine.end.Goals as goal
+
+pub returns-then-open-self-clause-ends : goal.returns-then-open-self-clause-ends
+returns-then-open-self-clause-ends c e s h =
+    let m = c.args.self.now in
+    let same : length m.tally.begun ≡ m.base = search rules in
+    ended_none e m s c.args.line h same
+
+pub returns-in-Ok-clause-ends : goal.returns-in-Ok-clause-ends
+returns-in-Ok-clause-ends c e s h =
+    let m = c.args.self.now in
+    let t : Counted = c.end.new.self in
+    let m1 : Machine = record m { tally = t } in
+    let told : t ≡ with_event m.tally (End e.level) = c.in-Ok.ensures e.level in
+    let some : length m.tally.begun ≡ m.base → ⊥ = search rules in
+    ended_ok e m m1 t s c.args.line h some refl told

@@ -1,0 +1,61 @@
+use Rattle.std.proofs.Common.{rules, ◌≡◌, ◌<◌, ◌≤◌, ◌-◌, ℕ, ℤ, length, get_or, sym, ap, subst, ◌∙◌, arith}
+use Rattle.std.specs.Prelude.{Ok, Err}
+use Rattle.adj_meaning.specs.Store.{size_of}
+use Rattle.adj_meaning.specs.Scene.{Scene, Outcome, popped, popped_all}
+use Rattle.adj_interp.specs.declared.slot.Slot.{Slot}
+use Rattle.adj_interp.specs.declared.machine.Machine.{Machine}
+use Rattle.adj_interp.specs.Prepared.{var_at}
+use Rattle.adj_interp.specs.Framed.{IsFrame}
+use Rattle.adj_interp.specs.Held.{Entry, setting_at, Holds, Ends, IsDone}
+use Rattle.adj_interp.proofs.Serving.{counted_cells, back_next, back_break, back_end}
+use Rattle.adj_interp.proofs.machine.Machine.pop_array.Goals as goal
+
+pub loop-remaining-preserved : goal.loop-remaining-preserved
+loop-remaining-preserved c =
+    let inv = c.loop-remaining.invariant in
+    record {
+      names = c.in_ok-pop.ensures.names ∙ inv.names;
+      framed = subst (λ ns. IsFrame ns c.pop.new.self.frame.slots.items) inv.names c.in_ok-pop.ensures.framed;
+      within = λ d. let a = c.in_ok-pop.ensures.sized c.args.variable d in let b = inv.within d in omega (arith, a, b);
+      reached = λ e s h.
+          let m = c.args.self.now in
+          let x = var_at m.frame.names.now c.args.variable in
+          let o = popped_all (setting_at e) x c.len-remaining.result c.args.line s m.left in
+          back_next e x c.args.line c.loop-remaining.remaining o c.in_ok-pop.field-0 c.loop-remaining.self c.pop.new.self c.loop-remaining-test.true (inv.reached e s h)
+          (λ z g. subst (λ ns. Ends e (popped (setting_at e) (var_at ns c.args.variable) (c.loop-remaining.remaining - 1) c.args.line z c.loop-remaining.self.left) (Ok c.in_ok-pop.field-0) c.pop.new.self) inv.names (c.in_ok-pop.ensures.ends e z g));
+    }
+
+pub returns-in_err-pop-clause-ends : goal.returns-in_err-pop-clause-ends
+returns-in_err-pop-clause-ends c e s h =
+    let m = c.args.self.now in
+    let inv = c.loop-remaining.invariant in
+    let x = var_at m.frame.names.now c.args.variable in
+    let d = c.index.result.now in
+    let framed = c.requires.framed in
+    let each = framed.each in
+    let below = c.requires.there in
+    let there : c.args.variable < length m.frame.slots.items = omega (arith, each, below) in
+    let count = c.len-remaining.result in
+    let counted : count ≡ length d.cells.items = search rules in
+    let o = popped_all (setting_at e) x count c.args.line s m.left in
+    let r : c.from_residual.result ≡ Err c.in_err-pop.field-0.0 = search rules in
+    subst (λ j. Ends e (popped_all (setting_at e) x j c.args.line s m.left) c.from_residual.result c.pop.new.self) (counted_cells e m s c.args.variable d h c.requires.framed there count c.index.ensures counted)
+    (subst (λ z. Ends e o z c.pop.new.self) (sym r)
+    (back_break e x c.args.line c.loop-remaining.remaining o c.in_err-pop.field-0.0 c.loop-remaining.self c.pop.new.self c.loop-remaining-test.true (inv.reached e s h)
+    (λ z g. subst (λ ns. Ends e (popped (setting_at e) (var_at ns c.args.variable) (c.loop-remaining.remaining - 1) c.args.line z c.loop-remaining.self.left) (Err c.in_err-pop.field-0.0) c.pop.new.self) inv.names (c.in_err-pop.ensures.ends e z g))))
+
+pub returns-clause-ends : goal.returns-clause-ends
+returns-clause-ends c e s h =
+    let m = c.args.self.now in
+    let x = var_at m.frame.names.now c.args.variable in
+    let d = c.index.result.now in
+    let framed = c.requires.framed in
+    let each = framed.each in
+    let below = c.requires.there in
+    let there : c.args.variable < length m.frame.slots.items = omega (arith, each, below) in
+    let count = c.len-remaining.result in
+    let counted : count ≡ length d.cells.items = search rules in
+    let o = popped_all (setting_at e) x count c.args.line s m.left in
+    let none : c.loop-remaining.remaining ≡ 0 = omega arith in
+    subst (λ j. IsDone e c.loop-remaining.self (popped_all (setting_at e) x j c.args.line s m.left)) (counted_cells e m s c.args.variable d h c.requires.framed there count c.index.ensures counted)
+    (back_end e x c.args.line c.loop-remaining.remaining o tt c.loop-remaining.self none (c.loop-remaining.invariant.reached e s h))

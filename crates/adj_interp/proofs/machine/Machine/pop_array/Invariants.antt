@@ -1,0 +1,21 @@
+-- What is left to pop is what the pop of all comes to.
+use Rattle.std.proofs.Common.{◌≡◌, ◌≤◌, ℤ, length, get_or}
+use Rattle.adj_meaning.specs.Scene.{Scene, popped_all}
+use Rattle.adj_interp.specs.declared.slot.Slot.{Slot}
+use Rattle.adj_interp.specs.Prepared.{var_at}
+use Rattle.adj_interp.specs.Framed.{IsFrame}
+use Rattle.adj_interp.specs.Held.{Entry, setting_at, Holds, Reaches}
+use Rattle.adj_interp.proofs.machine.Machine.pop_array.Given as goal
+
+abbrev pub invariant-loop-remaining : goal.invariant-loop-remaining
+invariant-loop-remaining l = record {
+  names : l.self.frame.names.now ≡ l.initial.self.frame.names.now;
+  framed : IsFrame l.initial.self.frame.names.now l.self.frame.slots.items;
+  within : (d : Slot) → l.remaining ≤ length (get_or l.self.frame.slots.items l.variable d).cells.items;
+  reached : (e : Entry) (s : Scene ℤ) → Holds e l.initial.self s →
+      Reaches e (popped_all (setting_at e) (var_at l.initial.self.frame.names.now l.variable) l.initial.remaining l.line s l.initial.self.left)
+      (popped_all (setting_at e) (var_at l.initial.self.frame.names.now l.variable) l.remaining l.line) l.self;
+}
+
+abbrev pub decreases-loop-remaining : goal.decreases-loop-remaining
+decreases-loop-remaining l = l.remaining

@@ -1,0 +1,13 @@
+use Rattle.std.proofs.Common.{rules, ◌≡◌, length, ap}
+use Rattle.adj_tape.specs.Held.{Held}
+use Rattle.adj_interp.specs.declared.machine.Machine.{Machine}
+use Rattle.adj_interp.proofs.Serving.{pushed_full}
+use Rattle.adj_interp.proofs.machine.Machine.push.Goals as goal
+
+pub returns-in-Err-clause-ends : goal.returns-in-Err-clause-ends
+returns-in-Err-clause-ends c e s h =
+    let m = c.args.self.now in
+    let full : length m.tape.words ≡ m.tape.room = search rules in
+    let same : c.push.new.self ≡ m.tape = search rules in
+    let put : Held → Machine = λ t. record m { tape = t } in
+    pushed_full e m (put c.push.new.self) s c.args.word h full (ap put same)

@@ -1,0 +1,98 @@
+//! How far a run has come in a schedule.
+
+ghost use Rattle.std.specs.Prelude.{◌≡◌, ◌<◌, ◌≤◌, ◌^◌, ◌-◌, ◌==◌, ◌&&◌, drop, slice_get};
+ghost use Rattle.adj_revolve.specs.Schedule.{schedule_of};
+ghost use Rattle.adj_interp.specs.Counted.{Plan, planned};
+
+use adj_revolve::{Action, Schedule};
+use std::marker::Model;
+
+/// The actions of a schedule that come behind those that were given, seen as the schedule. An action that lies further
+/// back begins it anew.
+#[derive(Drop)]
+pub struct Cursor {
+    steps: u64,
+    snapshots: u32,
+    given: u64,
+    rest: Schedule,
+}
+
+impl Model for Cursor {
+    ghost Value = { Plan };
+
+    ghost view = { λ c. record { steps = c.steps; snapshots = c.snapshots } };
+
+    ghost invariant = { λ c. (0 < c.snapshots) × (c.snapshots ≤ 64) × (c.steps ≤ 2 ^ 40) × (c.rest ≡ drop c.given (schedule_of 0 c.steps c.snapshots)) };
+}
+
+// Leaves actions out, as far as there are any.
+#[tactic(auto, using(crate::proofs::Plans::drop_one, crate::proofs::Plans::drop_none))]
+fn skip(schedule: &mut Schedule, count: u64)
+    ensures { schedule.new ≡ drop count schedule.old }
+{
+    let mut left = count;
+    'each: while left > 0 {
+        let Some(_action) = schedule.next() else {
+            return;
+        };
+        left -= 1;
+    }
+}
+
+// Begins a schedule anew, where the action of a number was given already, and says how many come before that action.
+#[tactic(auto, using(crate::proofs::Plans::dropped_more))]
+fn resume(rest: &mut Schedule, plan: (u64, u32), given: u64, number: u64) -> u64
+    requires some { 0 < plan.1 }
+    requires few { plan.1 ≤ 64 }
+    requires within { plan.0 ≤ 2 ^ 40 }
+    requires at { rest.old ≡ drop given (schedule_of 0 plan.0 plan.1) }
+    requires counted { 0 < number }
+    ensures { drop result rest.new ≡ drop (number - 1) (schedule_of 0 plan.0 plan.1) }
+{
+    if given < number {
+        return number - 1 - given;
+    }
+    *rest = Schedule::new(plan.0, plan.1);
+    number - 1
+}
+
+impl Cursor {
+    /// Before the first action.
+    pub fn new(steps: u64, snapshots: u32) -> Cursor
+        requires some { 0 < snapshots }
+        requires few { snapshots ≤ 64 }
+        requires within { steps ≤ 2 ^ 40 }
+        ensures { result ≡ record { steps = steps; snapshots = snapshots } }
+    {
+        Cursor {
+            steps,
+            snapshots,
+            given: 0,
+            rest: Schedule::new(steps, snapshots),
+        }
+    }
+
+    /// Whether it goes through the schedule of so many steps and snapshots.
+    pub fn is_of(&self, steps: u64, snapshots: u32) -> bool
+        ensures { result ≡ (self.now.steps == steps && self.now.snapshots == snapshots) }
+    {
+        self.steps == steps && self.snapshots == snapshots
+    }
+
+    /// The action of a number, counted from 1.
+    pub fn action(&mut self, number: u64) -> Option<Action>
+        requires { 0 < number }
+        ensures same { self.new ≡ self.old }
+        ensures action { result ≡ slice_get (planned self.old) (number - 1) }
+    {
+        let before = resume(
+            &mut self.rest,
+            (self.steps, self.snapshots),
+            self.given,
+            number,
+        );
+        skip(&mut self.rest, before);
+        self.given = number;
+        self.rest.next()
+    }
+}
