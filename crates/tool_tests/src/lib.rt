@@ -12,6 +12,8 @@ mod commands;
 #[cfg(test)]
 mod emitted;
 #[cfg(test)]
+mod heads;
+#[cfg(test)]
 mod limits;
 #[cfg(test)]
 mod long;

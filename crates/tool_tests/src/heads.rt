@@ -1,0 +1,35 @@
+//! A program of two units that is checked, and its head that is found.
+
+use crate::read::read;
+use adj_fixed::Mode;
+use adj_symbols::{check, head};
+use adj_tree::{Memory, Name};
+use std::alloc::Global;
+use std::test::Fail;
+
+const TWO_UNITS: &[u8] = b"      SUBROUTINE P(I,J)
+      CALL G(I,J)
+      END
+      SUBROUTINE G(K,L)
+      L=K
+      END
+";
+
+fn named(alloc: Global, text: &str) -> Result<Name, Memory> {
+    Name::from_slice(alloc, text.as_bytes())
+}
+
+#[test]
+fn a_program_is_checked_and_its_head_found(rt: HostRuntime) -> Result<(), Fail> {
+    let alloc = rt.alloc();
+    let program = read(alloc, TWO_UNITS, Mode::Source)?;
+    let checked = check(alloc, program, Mode::Source)?;
+    let name = named(alloc, "G")?;
+    let first = named(alloc, "K")?;
+    let second = named(alloc, "L")?;
+    let found = head(alloc, &checked, &name, &[first], &[second])?;
+    assert_eq!(rt; found.unit, 1);
+    assert_eq!(rt; found.vars.as_slice(), [true, false].as_slice());
+    assert_eq!(rt; found.outvars.as_slice(), [false, true].as_slice());
+    Ok(())
+}
