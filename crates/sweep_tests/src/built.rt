@@ -1,0 +1,134 @@
+//! Statements in code, the names of a unit, and the text of what is emitted.
+
+use adj_helpers::callees::{Callee, Callees};
+use adj_naming::helper_set::HelperSet;
+use adj_naming::name_set::{NameSet, add_texts};
+use adj_naming::names::Names;
+use adj_naming::role::{Helper, Role};
+use adj_print::text;
+use adj_tree::{
+    Act, Expr, Exprs, Items, Mark, Memory, Name, Op, Place, Program, Stmt, Stmts, Unit,
+};
+use std::alloc::Global;
+
+pub(crate) fn name(alloc: Global, text: &[u8]) -> Result<Name, Memory> {
+    Name::from_slice(alloc, text)
+}
+
+pub(crate) fn var(alloc: Global, text: &[u8]) -> Result<Expr, Memory> {
+    Ok(Expr::Var(name(alloc, text)?))
+}
+
+pub(crate) fn binary(alloc: Global, a: Expr, op: Op, b: Expr) -> Result<Expr, Memory> {
+    Ok(Expr::Bin(op, Box::new(alloc, a)?, Box::new(alloc, b)?))
+}
+
+pub(crate) fn scalar(alloc: Global, text: &[u8]) -> Result<Place, Memory> {
+    Ok(Place {
+        name: name(alloc, text)?,
+        subs: Exprs::Empty,
+    })
+}
+
+/// A list of one statement.
+pub(crate) fn only(alloc: Global, act: Act) -> Result<Stmts, Memory> {
+    let stmt = Box::new(alloc, Stmt { line: 1, act })?;
+    Ok(Stmts::More(stmt, Box::new(alloc, Stmts::Empty)?))
+}
+
+/// DO I = 1, 3, step over a body.
+pub(crate) fn counted(alloc: Global, step: i64, body: Stmts) -> Result<Stmts, Memory> {
+    let act = Act::Loop(
+        name(alloc, b"I")?,
+        Expr::Lit(1),
+        Expr::Lit(3),
+        Expr::Lit(step),
+        body,
+        Mark::Plain,
+    );
+    only(alloc, act)
+}
+
+pub(crate) fn listed(alloc: Global, texts: &[&[u8]]) -> Result<Vec<Name>, Memory> {
+    let mut made = Vec::new(alloc);
+    for text in texts {
+        made.push(name(alloc, text)?)?;
+    }
+    Ok(made)
+}
+
+fn set_of(alloc: Global, texts: &[&[u8]]) -> Result<NameSet, Memory> {
+    let mut set = NameSet::new(alloc);
+    add_texts(alloc, &mut set, texts)?;
+    Ok(set)
+}
+
+fn helper_set_of(alloc: Global, helpers: &[(Role, usize)]) -> Result<HelperSet, Memory> {
+    let mut set = HelperSet::new(alloc);
+    for (role, number) in helpers {
+        set.add(Helper {
+            role: *role,
+            number: *number,
+        })?;
+    }
+    Ok(set)
+}
+
+/// What a unit's variables, their shadows and its helpers are called.
+#[derive(Clone, Copy)]
+pub(crate) struct Called<'a> {
+    pub variables: &'a [&'a [u8]],
+    pub shadows: &'a [&'a [u8]],
+    pub helpers: &'a [(Role, usize)],
+    pub helper_names: &'a [&'a [u8]],
+}
+
+pub(crate) fn names(alloc: Global, called: &Called) -> Result<Names, Memory> {
+    let variables = Items::new(listed(alloc, called.variables)?);
+    let shadowed = set_of(alloc, called.variables)?;
+    let shadows = Items::new(listed(alloc, called.shadows)?);
+    let helpers = helper_set_of(alloc, called.helpers)?;
+    let helper_names = Items::new(listed(alloc, called.helper_names)?);
+    Ok(Names {
+        variables,
+        shadowed,
+        shadows,
+        helpers,
+        helper_names,
+    })
+}
+
+/// No unit is known.
+pub(crate) fn no_callees(alloc: Global) -> Result<Callees, Memory> {
+    Ok(Callees {
+        names: NameSet::new(alloc),
+        known: Vec::new(alloc),
+        other: Callee {
+            adjoint: name(alloc, b"")?,
+            dummies: Vec::new(alloc),
+        },
+    })
+}
+
+fn unit(alloc: Global, body: Stmts) -> Result<Unit, Memory> {
+    Ok(Unit {
+        line: 1,
+        name: name(alloc, b"P")?,
+        dummies: Items::new(Vec::new(alloc)),
+        none: false,
+        decls: Items::new(Vec::new(alloc)),
+        body,
+    })
+}
+
+/// Whether statements are printed as these lines.
+pub(crate) fn is_text(alloc: Global, code: Stmts, lines: &str) -> Result<bool, Memory> {
+    let mut units = Vec::new(alloc);
+    units.push(unit(alloc, code)?)?;
+    let program = Program {
+        units: Items::new(units),
+    };
+    let printed = text(alloc, &program)?;
+    let wanted = format!(in alloc; "      SUBROUTINE P\n{lines}      END\n")?;
+    Ok(printed.as_slice() == wanted.as_bytes())
+}
