@@ -1,10 +1,12 @@
-//! Tests of what becomes of statements in a kernel, and of the test of kernel form, by the public calls of `adj_norm`.
+//! Tests of the code of the kernel, by the public calls of `adj_norm` and `adj_kernels`.
 //!
-//! `forms` has programs that are and aren't in kernel form, and `lowering` statements and what becomes of them, worked out by hand by
-//! docs/KERNEL.md. No code stands on this crate.
+//! `forms` has programs that are and aren't in kernel form, `lowering` statements and what becomes of them, and `kernels` texts and the
+//! kernels of their programs, both worked out by hand by docs/KERNEL.md. No code stands on this crate.
 #![tactic(auto)]
 
 #[cfg(test)]
 mod forms;
+#[cfg(test)]
+mod kernels;
 #[cfg(test)]
 mod lowering;

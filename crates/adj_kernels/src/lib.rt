@@ -1,0 +1,18 @@
+//! The kernel of a program, as code: names, units and programs.
+//!
+//! `names` finds the variables of a unit, `unit` lowers it and declares its locals; `source`, `cutting` and `steps` make units of the
+//! bodies of marked loops, and `program` does all for a program. The crate stands on `adj_norm`, which lowers statements, and on
+//! `adj_symbols` for the dummies that units write; the layers above use that `kernel` gives exactly the kernel of `adj_kernel`.
+#![tactic(auto)]
+
+pub mod cutting;
+pub mod handing;
+pub mod marked;
+pub mod names;
+pub mod once;
+pub mod program;
+pub mod source;
+pub mod steps;
+pub mod unit;
+
+pub use program::kernel;
