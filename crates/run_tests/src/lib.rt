@@ -1,0 +1,7 @@
+//! Tests of the crate that runs programs, by its public calls alone.
+//!
+//! `doubling` runs prepared statements of an entry of scalars. No code stands on this crate.
+#![tactic(auto)]
+
+#[cfg(test)]
+mod doubling;
