@@ -20,3 +20,5 @@ pub mod Rows
 pub mod Meeting
 pub mod Passing
 pub mod Laxer
+pub mod Counts
+pub mod Widths

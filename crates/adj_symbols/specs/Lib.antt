@@ -10,3 +10,4 @@ pub mod Writes
 pub mod Opening
 pub mod Sharing
 pub mod Checked
+pub mod Numbers

@@ -5,8 +5,9 @@ use Rattle.adj_tree.specs.Code.{name_eq, Declaration, Procedure}
 use Rattle.adj_tree.specs.declared.stmt.Stmt.{Stmt}
 use Rattle.adj_names.specs.Statements.{statements}
 use Rattle.adj_names.specs.Variables.{Name}
-use Rattle.adj_symbols.specs.Table.{once, value_of}
-use Rattle.adj_symbols.specs.View.{seen}
+use Rattle.adj_writes.specs.Table.{value_of}
+use Rattle.adj_writes.specs.View.{seen}
+use Rattle.adj_symbols.specs.Table.{once}
 
 -- the number of extents that a name is first declared with
 abbrev pub declared_rank : List Declaration → Name → Option ℕ

@@ -4,7 +4,7 @@ use Rattle.adj_tree.specs.Code.{name_eq, Procedure}
 use Rattle.adj_tree.specs.declared.fault.Refusal.{Refusal}
 use Rattle.adj_names.specs.Fault.{fault}
 use Rattle.adj_names.specs.Variables.{Name}
-use Rattle.adj_symbols.specs.Table.{value_of}
+use Rattle.adj_writes.specs.Table.{value_of}
 
 -- the number of the first unit of a name, where they are numbered from k on
 abbrev pub number_from : ℕ → List Procedure → Name → Option ℕ

@@ -1,10 +1,7 @@
--- Views: what clauses see of lists of borrowed statements and names.
+-- Views: what clauses see of lists of names.
 use Rattle.std.specs.Prelude.{ℕ, ℤ, pos, List, map, flat_map, Bool, Option, Some, None}
-use Rattle.std.specs.Borrow.{Bor}
 use Rattle.adj_tree.specs.Code as code
-use Rattle.adj_tree.specs.Listed.{statement_of}
 use Rattle.adj_tree.specs.View.{terms_of}
-use Rattle.adj_tree.specs.declared.stmt.Stmt.{Stmt}
 use Rattle.adj_names.specs.Statements.{At}
 use Rattle.adj_names.specs.Standing.{Standing, count_of}
 use Rattle.adj_names.specs.NameFaults.{taken_in}
@@ -13,10 +10,6 @@ use Rattle.adj_symbols.specs.declared.places.Placed.{Placed}
 use Rattle.adj_symbols.specs.declared.standing.Stands.{Stands}
 use Rattle.adj_symbols.specs.declared.standing.Stands.TheVariants.{Scalar, Element, Whole}
 use Rattle.adj_symbols.specs.declared.standing.Use.{Use}
-
--- the statements that are borrowed
-abbrev pub seen : List (Bor Stmt) → List (At code.Act)
-seen bs = map (λ b. statement_of b.now) bs
 
 -- how a name stands
 abbrev pub stands_of : Stands → Option ℕ

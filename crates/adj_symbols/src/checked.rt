@@ -1,6 +1,6 @@
 //! A checked program.
 
-ghost use Rattle.std.specs.Prelude.{◌≡◌, ◌<◌, List, Bool, length, slice_index_or, [], map};
+ghost use Rattle.std.specs.Prelude.{◌≡◌, ◌+◌, ◌*◌, ◌<◌, ◌↔◌, IsTrue, List, Bool, length, slice_index_or, [], map};
 ghost use Rattle.std.specs.Coded.{codes};
 ghost use Rattle.adj_tree.specs.contracts.unit.Program as program_row;
 ghost use Rattle.adj_tree.specs.View.{procedures_of};
@@ -11,10 +11,17 @@ ghost use Rattle.adj_meaning.specs.Written.{write_rule};
 ghost use Rattle.adj_names.specs.Check.{IsSound};
 ghost use Rattle.adj_names.specs.Fault.{run_rules};
 ghost use Rattle.adj_names.specs.Variables as names;
+ghost use Rattle.adj_facts.specs.Parts.{point_inside};
+ghost use Rattle.adj_transpose.specs.Marks.{point_before, point_after};
 ghost use Rattle.adj_symbols.specs.Checked.{Known, AreFacts};
+ghost use Rattle.adj_symbols.specs.Numbers.{Fits, IsCounted, points_in, statements_in, units_in, width_of};
 
+use crate::counting::{statement_count, widest};
 use adj_tree::{Flags, NameList, Program};
 use std::marker::Model;
+
+// The numbers of units, of statements and of variables of a unit are below it where all numbers of nodes are those of 64 bits.
+const MOST: usize = 1 << 30;
 
 /// A program that is written and in which no name, call, chain or write is refused where it is run, with the variables of each
 /// unit and the dummies that each unit writes and reads.
@@ -24,6 +31,9 @@ pub struct Checked {
     variables: Vec<NameList>,
     writes: Vec<Flags>,
     reads: Vec<Flags>,
+    // How many statements there are, and how many variables a unit has at most.
+    statements: usize,
+    width: usize,
 }
 
 impl Model for Checked {
@@ -33,7 +43,7 @@ impl Model for Checked {
 
     ghost view = { λ c. record { program = c.program; variables = c.variables.items; writes = c.writes.items; reads = c.reads.items } };
 
-    ghost invariant = { λ c. AreFacts (record { program = c.program; variables = c.variables.items; writes = c.writes.items; reads = c.reads.items }) };
+    ghost invariant = { λ c. IsCounted (record { program = c.program; variables = c.variables.items; writes = c.writes.items; reads = c.reads.items }) c.statements c.width };
 }
 
 impl Checked {
@@ -52,11 +62,15 @@ impl Checked {
         requires reads { reads.items ≡ least_rows read_rule (procedures_of program) }
         ensures known { result ≡ record { program = program; variables = variables.items; writes = writes.items; reads = reads.items } }
     {
+        let statements = statement_count(program.units.as_slice());
+        let width = widest(variables.as_slice());
         Checked {
             program,
             variables,
             writes,
             reads,
+            statements,
+            width,
         }
     }
 
@@ -90,5 +104,83 @@ impl Checked {
         ensures reads { result.now ≡ slice_index_or self.now.reads unit [] }
     {
         &self.reads[unit]
+    }
+
+    /// Whether the program has fewer than 2^30 units, fewer than 2^30 statements, and fewer than 2^30 variables in each unit.
+    pub fn fits(&self) -> bool
+        ensures fits { IsTrue result ↔ Fits self.now }
+    {
+        self.program.units.as_slice().len() < MOST && self.statements < MOST && self.width < MOST
+    }
+
+    /// How many points there are.
+    fn point_count(&self) -> usize
+        requires fits { Fits self.now }
+        ensures count { result ≡ points_in self.now }
+    {
+        3 * self.statements + 2 * self.program.units.as_slice().len()
+    }
+
+    /// How many nodes there are: a node is a point with a variable.
+    pub fn node_count(&self) -> usize
+        requires fits { Fits self.now }
+        ensures count { result ≡ points_in self.now * width_of self.now }
+    {
+        self.point_count() * self.width
+    }
+
+    /// The node of a point and a variable, both numbers.
+    pub fn node(&self, point: usize, variable: usize) -> usize
+        requires fits { Fits self.now }
+        requires point { point < points_in self.now }
+        requires variable { variable < width_of self.now }
+        ensures node { result ≡ point * width_of self.now + variable }
+    {
+        point * self.width + variable
+    }
+
+    /// The point before a statement.
+    pub fn before(&self, stmt: usize) -> usize
+        requires fits { Fits self.now }
+        requires stmt { stmt < statements_in self.now }
+        ensures before { result ≡ point_before stmt }
+    {
+        3 * stmt
+    }
+
+    /// The point after a statement.
+    pub fn after(&self, stmt: usize) -> usize
+        requires fits { Fits self.now }
+        requires stmt { stmt < statements_in self.now }
+        ensures after { result ≡ point_after stmt }
+    {
+        3 * stmt + 1
+    }
+
+    /// The point inside a DO, or at the test of a DO WHILE; a statement of another kind has none.
+    pub fn inside(&self, stmt: usize) -> usize
+        requires fits { Fits self.now }
+        requires stmt { stmt < statements_in self.now }
+        ensures inside { result ≡ point_inside stmt }
+    {
+        3 * stmt + 2
+    }
+
+    /// The point of entry of a unit.
+    pub fn entry(&self, unit: usize) -> usize
+        requires fits { Fits self.now }
+        requires unit { unit < units_in self.now }
+        ensures entry { result ≡ 3 * statements_in self.now + 2 * unit }
+    {
+        3 * self.statements + 2 * unit
+    }
+
+    /// The point of end of a unit.
+    pub fn end(&self, unit: usize) -> usize
+        requires fits { Fits self.now }
+        requires unit { unit < units_in self.now }
+        ensures end { result ≡ 3 * statements_in self.now + 2 * unit + 1 }
+    {
+        3 * self.statements + 2 * unit + 1
     }
 }

@@ -8,7 +8,8 @@ ghost use Rattle.adj_names.specs.Standing.{count_of};
 ghost use Rattle.adj_names.specs.Variables.{dummy_places, declared_places, is_integer};
 ghost use Rattle.adj_names.specs.NameFaults.{has_rank, calls_runtime};
 ghost use Rattle.adj_names.specs.Fault.{fault, faults_if, first_of, sooner};
-ghost use Rattle.adj_symbols.specs.View.{seen, use_of, uses_of, used_place, place_of, places_of};
+ghost use Rattle.adj_writes.specs.View.{seen};
+ghost use Rattle.adj_symbols.specs.View.{use_of, uses_of, used_place, place_of, places_of};
 
 use crate::first::First;
 use crate::outline::Outline;

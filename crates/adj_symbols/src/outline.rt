@@ -8,13 +8,15 @@ ghost use Rattle.adj_tree.specs.View.{code_of, declaration_of, procedure_of};
 ghost use Rattle.adj_names.specs.Fresh.{has_name};
 ghost use Rattle.adj_names.specs.Statements.{statements};
 ghost use Rattle.adj_names.specs.Variables.{Name, declared_names, is_integer_name, is_integer, rank, is_dummy};
+ghost use Rattle.adj_writes.specs.Table.{value_of};
+ghost use Rattle.adj_writes.specs.View.{seen};
 ghost use Rattle.adj_symbols.specs.Outline.{declared_rank, AreTables};
-ghost use Rattle.adj_symbols.specs.Table.{once, value_of};
-ghost use Rattle.adj_symbols.specs.View.{seen};
+ghost use Rattle.adj_symbols.specs.Table.{once};
 
-use crate::statements::statements;
-use crate::table::{NameSet, Numbers};
+use crate::table::NameSet;
 use adj_tree::{Decl, Memory, Name, Stmt, Unit};
+use adj_writes::statements::statements;
+use adj_writes::table::Numbers;
 use std::alloc::Global;
 use std::marker::Model;
 

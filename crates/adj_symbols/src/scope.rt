@@ -7,12 +7,12 @@ ghost use Rattle.adj_tree.specs.contracts.unit.Unit as unit_row;
 ghost use Rattle.adj_tree.specs.View.{procedure_of};
 ghost use Rattle.adj_meaning.specs.Written.{find_unit};
 ghost use Rattle.adj_names.specs.Variables.{Name};
+ghost use Rattle.adj_writes.specs.Table.{value_of};
 ghost use Rattle.adj_symbols.specs.Scope.{number_from, AreNumbers};
-ghost use Rattle.adj_symbols.specs.Table.{value_of};
 
 use crate::outline::Outline;
-use crate::table::Numbers;
 use adj_tree::{Memory, Name, Unit};
+use adj_writes::table::Numbers;
 use std::alloc::Global;
 use std::marker::Model;
 

@@ -1,13 +1,13 @@
 //! Names looked up in constant time.
 
-ghost use Rattle.std.specs.Prelude.{◌≡◌, ◌++◌, ◌∷◌, [], ℕ, List, Option, not, map, length, position, is_some, unwrap_or, IfOk, OnOk, if◌then◌else◌, Some, None};
+ghost use Rattle.std.specs.Prelude.{◌≡◌, [], ℕ, List, not, map, length, position, IfOk, OnOk};
 ghost use Rattle.adj_tree.specs.Code.{name_eq};
 ghost use Rattle.adj_names.specs.Fresh.{has_name};
 ghost use Rattle.adj_names.specs.Variables.{Name};
-ghost use Rattle.adj_symbols.specs.Table.{value_of, with_name, with_value};
+ghost use Rattle.adj_symbols.specs.Table.{with_name};
 
 use adj_tree::{Memory, Name};
-use indexmap::{IndexMap, IndexSet};
+use indexmap::IndexSet;
 use std::alloc::Global;
 use std::marker::Model;
 
@@ -70,45 +70,5 @@ impl<'a> NameSet<'a> {
         if added {
             self.names.pop();
         }
-    }
-}
-
-/// A number for each of some different names, seen as their list in the order in which they were added.
-#[derive(Drop)]
-pub(crate) struct Numbers<'a> {
-    numbers: IndexMap<&'a [u8], usize>,
-}
-
-impl<'a> Model for Numbers<'a> {
-    ghost Value = { List (List ℕ × ℕ) };
-
-    ghost view = { λ s. map (λ e. (e.0.now, e.1)) s.numbers.entries };
-}
-
-impl<'a> Numbers<'a> {
-    /// No names.
-    pub(crate) fn new(alloc: Global) -> Numbers<'a>
-        ensures empty { result ≡ [] }
-    {
-        Numbers {
-            numbers: IndexMap::new(alloc),
-        }
-    }
-
-    /// The number of a name.
-    pub(crate) fn get(&self, name: &Name) -> Option<usize>
-        ensures number { result ≡ value_of name.now self.now }
-    {
-        self.numbers.get(name.bytes()).copied()
-    }
-
-    /// Adds a number where the name has none.
-    pub(crate) fn add(&mut self, name: &'a Name, number: usize) -> Result<(), Memory>
-        ensures added { OnOk result (self.new ≡ with_value self.old name.now number) }
-    {
-        if self.get(name).is_none() {
-            self.numbers.insert(name.bytes(), number)?;
-        }
-        Ok(())
     }
 }

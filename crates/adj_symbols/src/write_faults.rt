@@ -9,7 +9,7 @@ ghost use Rattle.adj_names.specs.Fault.{fault, faults_if, first_of, sooner};
 ghost use Rattle.adj_names.specs.Fresh.{has_name};
 ghost use Rattle.adj_names.specs.Variables.{Name, is_dummy};
 ghost use Rattle.adj_names.specs.WriteFaults.{written_extents, faults_of_writes, write_faults};
-ghost use Rattle.adj_symbols.specs.View.{seen};
+ghost use Rattle.adj_writes.specs.View.{seen};
 ghost use Rattle.adj_symbols.specs.Writes.{writes_one};
 
 use crate::extents::add_extent_places;

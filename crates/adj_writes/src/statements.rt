@@ -40,7 +40,7 @@ fn add_statements<'a>(list: &'a Stmts, out: &mut Vec<&'a Stmt>) -> Result<(), Me
 }
 
 /// The statements of a list at any depth in text order, an outer one before those in it.
-pub(crate) fn statements<'a>(alloc: Global, list: &'a Stmts) -> Result<Vec<&'a Stmt>, Memory>
+pub fn statements<'a>(alloc: Global, list: &'a Stmts) -> Result<Vec<&'a Stmt>, Memory>
     ensures { IfOk result (λ v. seen v.items ≡ statements (code_of list.now)) }
 {
     let mut out = Vec::new(alloc);

@@ -10,7 +10,7 @@ use std::marker::Model;
 
 /// A number for each of some different names, seen as their list in the order in which they were added.
 #[derive(Drop)]
-pub(crate) struct Numbers<'a> {
+pub struct Numbers<'a> {
     numbers: IndexMap<&'a [u8], usize>,
 }
 
@@ -22,7 +22,7 @@ impl<'a> Model for Numbers<'a> {
 
 impl<'a> Numbers<'a> {
     /// No names.
-    pub(crate) fn new(alloc: Global) -> Numbers<'a>
+    pub fn new(alloc: Global) -> Numbers<'a>
         ensures empty { result ≡ [] }
     {
         Numbers {
@@ -31,14 +31,14 @@ impl<'a> Numbers<'a> {
     }
 
     /// The number of a name.
-    pub(crate) fn get(&self, name: &Name) -> Option<usize>
+    pub fn get(&self, name: &Name) -> Option<usize>
         ensures number { result ≡ value_of name.now self.now }
     {
         self.numbers.get(name.bytes()).copied()
     }
 
     /// Adds a number where the name has none.
-    pub(crate) fn add(&mut self, name: &'a Name, number: usize) -> Result<(), Memory>
+    pub fn add(&mut self, name: &'a Name, number: usize) -> Result<(), Memory>
         ensures added { OnOk result (self.new ≡ with_value self.old name.now number) }
     {
         if self.get(name).is_none() {

@@ -7,7 +7,7 @@ use Rattle.adj_names.specs.Fault.{first_of, sooner}
 use Rattle.adj_tree.specs.Code.{Act}
 use Rattle.adj_names.specs.Statements.{At}
 use Rattle.adj_names.proofs.Order.{sooner_mapped}
-use Rattle.adj_symbols.specs.View.{seen}
+use Rattle.adj_writes.specs.View.{seen}
 use Rattle.adj_symbols.proofs.Ends.{sooner_end}
 use Rattle.adj_symbols.proofs.calls.add_unit_calls.Goals as goal
 

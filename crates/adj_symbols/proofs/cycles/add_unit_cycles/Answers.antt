@@ -7,7 +7,7 @@ use Rattle.adj_names.specs.Statements.{At, statements}
 use Rattle.adj_names.specs.Calls.{call_in, calls_lead}
 use Rattle.adj_names.specs.Fault.{fault, faults_if, first_of, sooner}
 use Rattle.adj_names.proofs.Order.{sooner_mapped}
-use Rattle.adj_symbols.specs.View.{seen}
+use Rattle.adj_writes.specs.View.{seen}
 use Rattle.adj_symbols.proofs.CallsListed.{calls_listed}
 use Rattle.adj_symbols.proofs.Ends.{sooner_end}
 use Rattle.adj_symbols.proofs.cycles.add_unit_cycles.Goals as goal

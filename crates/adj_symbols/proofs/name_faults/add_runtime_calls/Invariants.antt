@@ -3,7 +3,7 @@ use Rattle.std.proofs.Common.{◌≡◌, drop}
 use Rattle.std.specs.Prelude.{flat_map, not, ◌&&◌}
 use Rattle.adj_names.specs.Fault.{fault, faults_if, first_of, sooner}
 use Rattle.adj_names.specs.NameFaults.{calls_runtime}
-use Rattle.adj_symbols.specs.View.{seen}
+use Rattle.adj_writes.specs.View.{seen}
 use Rattle.adj_symbols.proofs.name_faults.add_runtime_calls.Given as goal
 
 abbrev pub invariant-loop-stmt : goal.invariant-loop-stmt

@@ -2,9 +2,9 @@ use Rattle.std.proofs.Common.{ap, sym, map, ◌∙◌, ◌∷◌, ◌+◌, drop}
 use Rattle.std.specs.Option.{option_or}
 use Rattle.std.proofs.lemmas.List.{drop_more}
 use Rattle.adj_tree.specs.View.{procedure_of}
+use Rattle.adj_writes.specs.Table.{value_of}
+use Rattle.adj_writes.proofs.Numbers.{numbers_more}
 use Rattle.adj_symbols.specs.Scope.{number_from}
-use Rattle.adj_symbols.specs.Table.{value_of}
-use Rattle.adj_symbols.proofs.Outlines.{numbers_more}
 use Rattle.adj_symbols.proofs.Scopes.{number_more}
 use Rattle.adj_symbols.proofs.scope.numbers_of.Goals as goal
 

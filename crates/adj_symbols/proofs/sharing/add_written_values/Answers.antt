@@ -9,7 +9,7 @@ use Rattle.adj_names.specs.Calls.{call_in}
 use Rattle.adj_names.specs.Fault.{fault, faults_if, first_of, sooner}
 use Rattle.adj_names.specs.WriteFaults.{hands_back_values}
 use Rattle.adj_names.proofs.Order.{sooner_mapped}
-use Rattle.adj_symbols.specs.View.{seen}
+use Rattle.adj_writes.specs.View.{seen}
 use Rattle.adj_symbols.proofs.CallsListed.{calls_listed}
 use Rattle.adj_symbols.proofs.Ends.{sooner_end}
 use Rattle.adj_symbols.proofs.sharing.add_written_values.Goals as goal

@@ -7,7 +7,7 @@ use Rattle.adj_meaning.specs.LeastSet.{row_of}
 use Rattle.adj_names.specs.Statements.{At}
 use Rattle.adj_names.specs.Fault.{fault, faults_if, first_of, sooner}
 use Rattle.adj_names.proofs.Order.{sooner_mapped}
-use Rattle.adj_symbols.specs.View.{seen}
+use Rattle.adj_writes.specs.View.{seen}
 use Rattle.adj_symbols.specs.Writes.{writes_one}
 use Rattle.adj_symbols.proofs.Ends.{sooner_end}
 use Rattle.adj_symbols.proofs.write_faults.add_writes_of.Goals as goal
