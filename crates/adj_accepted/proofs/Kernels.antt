@@ -1,5 +1,5 @@
 -- The kernel of an accepted program: it is checked, and its units are where their names are.
-use Rattle.std.proofs.Common.{◌≡◌, ℕ, suc, Bool, true, false, List, [], ◌∷◌, refl, sym, ap, ◌∙◌, subst}
+use Rattle.std.proofs.Common.{arith, ◌≡◌, ◌<◌, length, ℕ, suc, Bool, true, false, List, [], ◌∷◌, refl, sym, ap, ◌∙◌, subst}
 use Rattle.std.specs.Prelude.{ℤ, Some, if◌then◌else◌}
 use Rattle.adj_tree.specs.Code.{name_eq, Procedure}
 use Rattle.adj_tree.proofs.Names.{name_same}
@@ -16,7 +16,7 @@ use Rattle.adj_kernel.proofs.Inputs.{inputs_same}
 use Rattle.adj_kernel.proofs.SoundPrograms.{sound_is_source, sound_calls}
 use Rattle.adj_kernel.proofs.SoundKernels.{kernel_is_sound}
 use Rattle.adj_kernel.proofs.StepsWritten.{whole_kernel_written}
-use Rattle.adj_kernel.proofs.WholeKernels.{whole_kernel_form}
+use Rattle.adj_kernel.proofs.WholeKernels.{whole_units, whole_kernel_form}
 use Rattle.adj_accepted.specs.Accepted.{KernelIsChecked}
 
 -- the kernel is checked
@@ -27,14 +27,18 @@ kernel_checked ps a = record {
   kernel = whole_kernel_form ℤ ps (sound_is_source ps a.written a.sound ℤ);
 }
 
--- the unit of a name has its number
-pub numbered : (ps : List Procedure) (name : List ℕ) (u : Procedure) → find_unit ps name ≡ Some u → unit_at (unit_number ps name) ps ≡ u ∷ []
+-- the unit of a name has its number, which is that of a unit
+pub numbered : (ps : List Procedure) (name : List ℕ) (u : Procedure) → find_unit ps name ≡ Some u → (unit_number ps name < length ps) × (unit_at (unit_number ps name) ps ≡ u ∷ [])
 numbered [] name u f = absurd cc
 numbered (p ∷ ps) name u f = go (name_eq p.name name) refl f (numbered ps name u)
   where
-    go : (b : Bool) → name_eq p.name name ≡ b → (if b then Some p else find_unit ps name) ≡ Some u → (find_unit ps name ≡ Some u → unit_at (unit_number ps name) ps ≡ u ∷ []) → unit_at (if b then 0 else suc (unit_number ps name)) (p ∷ ps) ≡ u ∷ []
-    go true e f ih = let same : p ≡ u = cc in ap (λ v. v ∷ []) same
-    go false e f ih = ih f
+    go : (b : Bool) → name_eq p.name name ≡ b → (if b then Some p else find_unit ps name) ≡ Some u → (find_unit ps name ≡ Some u → (unit_number ps name < length ps) × (unit_at (unit_number ps name) ps ≡ u ∷ [])) → ((if b then 0 else suc (unit_number ps name)) < suc (length ps)) × (unit_at (if b then 0 else suc (unit_number ps name)) (p ∷ ps) ≡ u ∷ [])
+    go true e f ih = let same : p ≡ u = cc in (omega arith, ap (λ v. v ∷ []) same)
+    go false e f ih = let rest = ih f in (let lt = rest.0 in omega arith, rest.1)
+
+-- so the head of the kernel is one of its units
+pub head_within : (ps : List Procedure) (name : List ℕ) (u : Procedure) → find_unit ps name ≡ Some u → unit_number (kernel_of ps) name < length (kernel_of ps)
+head_within ps name u found = let k = whole_units ps name u found in (numbered (kernel_of ps) name k.becomes k.found).0
 
 -- what a unit becomes takes the same inputs, and has its name and its dummies
 pub record IsKernelUnit (u v : Procedure) : Type 0 where

@@ -18,6 +18,7 @@ use Rattle.adj_reverse.specs.Reversals.{marks_in, MarkedRun}
 use Rattle.adj_reverse.specs.Marking.{full_marks}
 use Rattle.adj_reverse.specs.Program.{adjoint_names, all_units}
 use Rattle.adj_reverse.specs.Adjoint.{TransposesBy}
+use Rattle.adj_reverse.proofs.Lines.{other_lines}
 use Rattle.adj_kernel.specs.Stepped.{stepped_program, kernel_of}
 use Rattle.adj_kernel.specs.StepTheorem.{marked_of}
 use Rattle.adj_kernel.specs.Means.{MeansAlike}
@@ -29,7 +30,8 @@ use Rattle.adj_kernel.proofs.WholeKernels.{whole_units, whole_means_alike}
 use Rattle.adj_checked.proofs.Premises.{checked_is_adjoint}
 use Rattle.adj_emitted.proofs.Programs.{emitted_written}
 use Rattle.adj_emitted.proofs.SoundPrograms.{emitted_sound}
-use Rattle.adj_accepted.specs.Accepted.{KernelsAdjoint, EmittedIsAdjoint, EmittedIsWritten, EmittedIsSound}
+use Rattle.adj_accepted.specs.Accepted.{emitted_for, KernelsAdjoint, EmittedIsAdjoint, EmittedIsWritten, EmittedIsSound}
+use Rattle.adj_accepted.proofs.FaultLines.{sound_lines}
 use Rattle.adj_accepted.proofs.Heaviest.{heaviest_in, all_weigh}
 use Rattle.adj_accepted.proofs.Directions.{direction_fits}
 use Rattle.adj_accepted.proofs.Kernels.{kernel_checked, numbered, found_name, IsKernelUnit, becomes}
@@ -117,7 +119,7 @@ module _ (ps : List Procedure) (a : IsAccepted ps) (name : List ℕ) (u v : Proc
 pub kernels_adjoint : KernelsAdjoint
 kernels_adjoint lines m ps a name u found vars outvars qs h =
     let k = whole_units ps name u found in
-    let one : k.becomes ∷ [] ≡ h.unit ∷ [] = sym (numbered (kernel_of ps) name k.becomes k.found) ∙ h.is_head in
+    let one : k.becomes ∷ [] ≡ h.unit ∷ [] = sym (numbered (kernel_of ps) name k.becomes k.found).1 ∙ h.is_head in
     let same : k.becomes ≡ h.unit = cc in
     let there : find_unit (kernel_of ps) name ≡ Some h.unit = k.found ∙ ap Some same in
     let like = becomes ps name u h.unit found there in
@@ -135,14 +137,19 @@ kernels_adjoint lines m ps a name u found vars outvars qs h =
           (λ k used output done. subst (λ fl. TransposesBy lines fl (kernel_of ps) h.unit vars outvars qs h.adjoint input shadows output.events) (λ i. shadow_flags (m.shadowed (named i)) (like.same_dummies i)) (h.transposes input shadows (like.same_fits input ∙ fit) alike k used output done));
     }
 
--- what is emitted for the kernel is an adjoint of the program
+-- what is emitted for the kernel, whatever its lines, is an adjoint of the program
 pub emitted_is_adjoint : EmittedIsAdjoint
-emitted_is_adjoint ps a name u found vars outvars =
+emitted_is_adjoint ps a name u found vars outvars qs same =
     let k = whole_units ps name u found in
-    kernels_adjoint (λ line. false) full_marks ps a name u found vars outvars _ (checked_is_adjoint run_rules (kernel_of ps) (kernel_checked ps a) (unit_number (kernel_of ps) name) vars outvars k.becomes (numbered (kernel_of ps) name k.becomes k.found))
+    let n = unit_number (kernel_of ps) name in
+    kernels_adjoint (λ line. false) full_marks ps a name u found vars outvars qs
+    (other_lines (λ line. false) full_marks (kernel_of ps) (emitted_for ps name vars outvars) qs n vars outvars same
+    (checked_is_adjoint run_rules (kernel_of ps) (kernel_checked ps a) n vars outvars k.becomes (numbered (kernel_of ps) name k.becomes k.found).1))
 
 pub is_written : EmittedIsWritten
 is_written ps a name vars outvars = emitted_written run_rules (kernel_of ps) (kernel_checked ps a) (unit_number (kernel_of ps) name) vars outvars
 
 pub is_sound : EmittedIsSound
-is_sound ps a name vars outvars = let few : run_rules.chain ≤ run_rules.chain = omega arith in emitted_sound run_rules (kernel_of ps) (kernel_checked ps a) few (unit_number (kernel_of ps) name) vars outvars
+is_sound ps a name vars outvars qs same =
+    let few : run_rules.chain ≤ run_rules.chain = omega arith in
+    sound_lines run_rules (emitted_for ps name vars outvars) qs same (emitted_sound run_rules (kernel_of ps) (kernel_checked ps a) few (unit_number (kernel_of ps) name) vars outvars)

@@ -1,6 +1,7 @@
 -- What it means that a program is the adjoint of one that isn't in kernel form, and that what is emitted for the kernel is it. (docs/THEOREMS.md, "Adjoints")
 use Rattle.std.specs.Prelude.{◌≡◌, ℕ, ℤ, List, [], Bool, true, false, Some, None}
 use Rattle.adj_tree.specs.Code.{Procedure}
+use Rattle.adj_tree.specs.Lines.{unlined}
 use Rattle.adj_meaning.specs.Numbers.{words}
 use Rattle.adj_meaning.specs.Scene.{Done}
 use Rattle.adj_meaning.specs.Written.{find_unit}
@@ -54,16 +55,17 @@ KernelsAdjoint =
     (lines : ℕ → Bool) (m : ProgramMarks) (ps : List Procedure) → IsAccepted ps → (name : List ℕ) (u : Procedure) → find_unit ps name ≡ Some u → (vars outvars : List Bool) (qs : List Procedure) →
     IsAdjoint lines m (kernel_of ps) (unit_number (kernel_of ps) name) vars outvars qs → IsAdjointOf lines m ps name vars outvars qs
 
--- so what is emitted for the kernel is an adjoint of the program, with each of its units as the head
+-- so what is emitted for the kernel is an adjoint of the program, with each of its units as the head, and so is what differs from it in
+-- line numbers alone
 abbrev pub EmittedIsAdjoint : Type 0
 EmittedIsAdjoint =
-    (ps : List Procedure) → IsAccepted ps → (name : List ℕ) (u : Procedure) → find_unit ps name ≡ Some u → (vars outvars : List Bool) →
-    IsFullAdjointOf ps name vars outvars (emitted_for ps name vars outvars)
+    (ps : List Procedure) → IsAccepted ps → (name : List ℕ) (u : Procedure) → find_unit ps name ≡ Some u → (vars outvars : List Bool) (qs : List Procedure) →
+    unlined (emitted_for ps name vars outvars) ≡ unlined qs → IsFullAdjointOf ps name vars outvars qs
 
 -- it can be written as a text
 abbrev pub EmittedIsWritten : Type 0
 EmittedIsWritten = (ps : List Procedure) → IsAccepted ps → (name : List ℕ) (vars outvars : List Bool) → IsWritten (emitted_for ps name vars outvars)
 
--- and has no fault as a text that is run
+-- and has no fault as a text that is run, nor has what differs from it in line numbers alone
 abbrev pub EmittedIsSound : Type 0
-EmittedIsSound = (ps : List Procedure) → IsAccepted ps → (name : List ℕ) (vars outvars : List Bool) → IsSound run_rules (emitted_for ps name vars outvars)
+EmittedIsSound = (ps : List Procedure) → IsAccepted ps → (name : List ℕ) (vars outvars : List Bool) (qs : List Procedure) → unlined (emitted_for ps name vars outvars) ≡ unlined qs → IsSound run_rules qs

@@ -13,8 +13,7 @@ use Rattle.adj_text.specs.Text.{text_of}
 use Rattle.adj_text.specs.declared.mode.Mode.{Mode}
 use Rattle.adj_text.specs.declared.mode.Mode.TheVariants.{Source}
 use Rattle.adj_parse.specs.Trees.{trees_of}
-use Rattle.adj_reverse.specs.Marking.{full_marks}
-use Rattle.adj_reverse.specs.Program.{emitted_program}
+use Rattle.adj_accepted.specs.Accepted.{emitted_for}
 use Rattle.adj_revolve.specs.declared.machine.Action.{Action}
 use Rattle.adj_revolve.specs.declared.machine.Action.TheVariants.{Store, Advance, Turn, Keep, Drop}
 use Rattle.adj_revolve.specs.Schedule.{schedule_of}
@@ -76,22 +75,22 @@ program_of mode bytes = statements_of (limits_of mode) bytes >>= trees_of mode
 abbrev pub untreated : ℕ → Answer
 untreated line = refused (record { code = 3; line = line; number = 0 })
 
--- the adjoint of a program for a head, as a program
-abbrev pub emitted : List Procedure → Head → List Procedure
-emitted ps h = emitted_program full_marks ps h.unit h.vars h.outvars
+-- the adjoint of a program for the unit of a name as its head, as a program: what is emitted for the kernel
+abbrev pub emitted : List Procedure → List ℕ → Head → List Procedure
+emitted ps name h = emitted_for ps name h.vars h.outvars
 
-abbrev pub written : List Procedure → Head → Answer
-written ps h = record { status = 0; text = text_of (emitted ps h) }
+abbrev pub written : List Procedure → List ℕ → Head → Answer
+written ps name h = record { status = 0; text = text_of (emitted ps name h) }
 
 -- the answer for a program and its head, where a statement at a line isn't treated yet, or none
-abbrev pub treated_answer : Option ℕ → List Procedure → Head → Answer
-treated_answer (Some line) ps h = untreated line
-treated_answer None ps h = written ps h
+abbrev pub treated_answer : Option ℕ → List Procedure → List ℕ → Head → Answer
+treated_answer (Some line) ps name h = untreated line
+treated_answer None ps name h = written ps name h
 
 -- the answer for a program in which names, calls and writes have no fault, where the head or a listed name has one, or none
 abbrev pub headed_answer : Option Refusal → Request → List Procedure → Answer
 headed_answer (Some e) r ps = refused e
-headed_answer None r ps = treated_answer (first_untreated ps) ps (head_of ps r.head r.vars r.outvars)
+headed_answer None r ps = treated_answer (first_untreated ps) ps r.head (head_of ps r.head r.vars r.outvars)
 
 -- the answer for a program, where its names, calls and writes have a fault, or none
 abbrev pub checked_answer : Option Refusal → Request → List Procedure → Answer

@@ -1,33 +1,39 @@
 -- Headline: what the written text is.
-use Rattle.std.specs.Prelude.{◌≡◌, ℕ, List, [], ◌∷◌, map, Bool}
+use Rattle.std.specs.Prelude.{◌≡◌, ℕ, List, map, Bool, Some}
 use Rattle.adj_tree.specs.Code.{Procedure}
 use Rattle.adj_text.specs.Reads.{Reads}
 use Rattle.adj_text.specs.Text.{text_of}
+use Rattle.adj_meaning.specs.Written.{find_unit}
 use Rattle.adj_names.specs.Fresh.{has_name}
-use Rattle.adj_transpose.specs.Program.{unit_at}
-use Rattle.adj_reverse.specs.Adjoint.{IsFullAdjoint}
+use Rattle.adj_names.specs.Fault.{run_rules}
+use Rattle.adj_names.specs.Check.{IsSound}
+use Rattle.adj_accepted.specs.Accepted.{IsFullAdjointOf}
 use Rattle.adj_tool.specs.Words.{Request}
 use Rattle.adj_tool.specs.Answer.{Answer}
+
+-- a unit of the name is there
+pub record IsUnit (ps : List Procedure) (name : List ℕ) : Type 0 where
+  pub unit : Procedure
+  pub found : find_unit ps name ≡ Some unit
 
 -- which of these names are listed
 abbrev pub flags_of : List (List ℕ) → List (List ℕ) → List Bool
 flags_of listed names = map (λ x. has_name x listed) names
 
 -- the bytes that were read are a program, whose unit of the name asked for is the head; the bytes that were written are a program too, and the
--- canonical text of that program, and it is an adjoint of the first one for the head with its independents and dependents
+-- canonical text of that program; it has no fault as one that is run; and it is an adjoint of the first one for the head with its independents and dependents
 pub record WritesAdjoint (r : Request) (bytes written : List ℕ) : Type 0 where
   pub source : List Procedure
   pub reads : Reads bytes source
-  -- the number of the head among the units
-  pub head : ℕ
   pub unit : Procedure
-  pub is_head : unit_at head source ≡ unit ∷ []
-  pub named : unit.name ≡ r.head
+  pub is_head : find_unit source r.head ≡ Some unit
   -- what the written bytes are, with the lines at which its units and statements stand there
   pub adjoint : List Procedure
   pub reads_back : Reads written adjoint
   pub text : written ≡ text_of adjoint
-  pub is_adjoint : IsFullAdjoint source head (flags_of r.vars unit.dummies) (flags_of r.outvars unit.dummies) adjoint
+  -- as a text that is run, it has no fault of units, names, calls, chains and writes
+  pub sound : IsSound run_rules adjoint
+  pub is_adjoint : IsFullAdjointOf source r.head (flags_of r.vars unit.dummies) (flags_of r.outvars unit.dummies) adjoint
 
 -- where the answer to these bytes is done, its text is that of an adjoint
 abbrev pub IsAdjoined : Request → List ℕ → Answer → Type 0

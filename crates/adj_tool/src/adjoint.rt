@@ -1,17 +1,17 @@
 //! The command `adjoint`.
 
-ghost use Rattle.std.specs.Prelude.{◌≡◌, ◌<◌, ◌≤◌, ◌∷◌, [], ℕ, List, None, length, IfOk};
+ghost use Rattle.std.specs.Prelude.{◌≡◌, ◌≤◌, ◌∷◌, [], ℕ, List, None, length, IfOk};
 ghost use Rattle.adj_tree.specs.View.{procedures_of};
 ghost use Rattle.adj_text.specs.Reads.{Reads};
 ghost use Rattle.adj_text.specs.ReadsAs.{ReadsAs};
 ghost use Rattle.adj_text.specs.Written.{IsWritten};
 ghost use Rattle.adj_names.specs.Check.{IsSound};
 ghost use Rattle.adj_names.specs.Fault.{source_rules};
-ghost use Rattle.adj_names.specs.HeadFaults.{first_head_fault, head_of};
-ghost use Rattle.adj_checked.specs.Checked.{IsChecked};
+ghost use Rattle.adj_names.specs.HeadFaults.{first_head_fault, head_of, unit_number};
+ghost use Rattle.adj_kernel.specs.Sound.{IsAccepted};
 ghost use Rattle.adj_tool.specs.Profile.{first_untreated};
 ghost use Rattle.adj_tool.specs.Answer.{adjoint_answer, checked_answer, emitted, headed_answer, most_bytes, program_answer, treated_answer, untreated, written};
-ghost use Rattle.adj_tool.specs.Headline.{IsAdjoined};
+ghost use Rattle.adj_tool.specs.Headline.{IsAdjoined, IsUnit};
 ghost use Rattle.adj_tool.specs.Views.{answer_of, request_of};
 
 use crate::answer::{Answer, Status, refused};
@@ -19,9 +19,10 @@ use crate::read::read;
 use crate::task::Request;
 use crate::untreated::first_untreated;
 use adj_fixed::Mode;
+use adj_kernels::kernel;
 use adj_print::text;
 use adj_symbols::{Checked, check, head};
-use adj_tree::{Fault, Head, Memory, Program, Refusal};
+use adj_tree::{Fault, Head, Memory, Name, Program, Refusal};
 use adj_weave::adjoint as emit;
 use std::alloc::Global;
 
@@ -37,14 +38,36 @@ fn untreated(alloc: Global, line: u32) -> Result<Answer, Memory>
     refused(alloc, refusal)
 }
 
-// The text of the adjoint of a program.
-fn written(alloc: Global, program: &Program, head: &Head) -> Result<Answer, Memory>
-    requires head { head.now.unit < length program.now.units }
-    requires checked { IsChecked source_rules (procedures_of program.now) }
-    ensures answer { IfOk result (λ a. answer_of a ≡ written (procedures_of program.now) head.now) }
-    ensures reads_back { IfOk result (λ a. ReadsAs a.text.items (emitted (procedures_of program.now) head.now)) }
+// The number of the unit of a name.
+fn unit_number(program: &Program, name: &Name) -> usize
+    ensures { result ≡ unit_number (procedures_of program.now) name.now }
 {
-    let emitted = emit(alloc, program, head)?;
+    let units = program.units.as_slice();
+    for (number, unit) in units.iter().enumerate() {
+        if unit.name.equals(name) {
+            return number;
+        }
+    }
+    units.len()
+}
+
+// The text of the adjoint of a program, for the unit of a name as its head.
+fn written(alloc: Global, program: &Program, name: &Name, head: Head) -> Result<Answer, Memory>
+    requires accepted { IsAccepted (procedures_of program.now) }
+    requires there { IsUnit (procedures_of program.now) name.now }
+    ensures answer { IfOk result (λ a. answer_of a ≡ written (procedures_of program.now) name.now head) }
+    ensures reads_back { IfOk result (λ a. ReadsAs a.text.items (emitted (procedures_of program.now) name.now head)) }
+{
+    let lowered = kernel(alloc, program)?;
+    let unit = unit_number(&lowered, name);
+    let vars = head.vars;
+    let outvars = head.outvars;
+    let own = Head {
+        unit,
+        vars,
+        outvars,
+    };
+    let emitted = emit(alloc, &lowered, &own)?;
     let text = text(alloc, &emitted)?;
     Ok(Answer {
         status: Status::Done,
@@ -57,19 +80,19 @@ fn answer_head(
     alloc: Global,
     request: &Request,
     program: &Program,
-    head: &Head,
+    head: Head,
 ) -> Result<Answer, Memory>
     requires written { IsWritten (procedures_of program.now) }
     requires sound { IsSound source_rules (procedures_of program.now) }
     requires sound_head { let r = request_of request.now in first_head_fault (procedures_of program.now) r.head r.vars r.outvars ≡ None }
-    requires head { let r = request_of request.now in head.now ≡ head_of (procedures_of program.now) r.head r.vars r.outvars }
-    ensures answer { IfOk result (λ a. answer_of a ≡ treated_answer (first_untreated (procedures_of program.now)) (procedures_of program.now) head.now) }
+    requires head { let r = request_of request.now in head ≡ head_of (procedures_of program.now) r.head r.vars r.outvars }
+    ensures answer { IfOk result (λ a. answer_of a ≡ treated_answer (first_untreated (procedures_of program.now)) (procedures_of program.now) request.now.head head) }
     ensures adjoint { IfOk result (λ a. (bytes : List ℕ) → Reads bytes (procedures_of program.now) → IsAdjoined (request_of request.now) bytes (answer_of a)) }
 {
     if let Some(line) = first_untreated(program) {
         return untreated(alloc, line);
     }
-    let answer = written(alloc, program, head)?;
+    let answer = written(alloc, program, &request.head, head)?;
     Ok(answer)
 }
 
@@ -83,7 +106,7 @@ fn answer_checked(alloc: Global, request: &Request, checked: &Checked) -> Result
     let vars = request.vars.as_slice();
     let outvars = request.outvars.as_slice();
     match head(alloc, checked, &request.head, vars, outvars) {
-        Ok(head) => answer_head(alloc, request, checked.program(), &head),
+        Ok(head) => answer_head(alloc, request, checked.program(), head),
         Err(Fault::Refused(refusal)) => refused(alloc, refusal),
         Err(Fault::Memory) => Err(Memory),
     }

@@ -2,19 +2,11 @@
 
 ghost use Rattle.std.specs.Prelude.{◌≡◌};
 ghost use Rattle.adj_tree.specs.View.{act_of, code_of, procedures_of};
-ghost use Rattle.adj_tool.specs.Profile.{line_unless, untreated_act, untreated_code, first_untreated};
+ghost use Rattle.adj_tool.specs.Profile.{untreated_act, untreated_code, first_untreated};
 
-use adj_norm::form::is_kernel_statement;
 use adj_tree::{Act, Mark, Program, Stmt, Stmts};
 
-// A line, where something fails.
-fn line_unless(holds: bool, line: u32) -> Option<u32>
-    ensures { result ≡ line_unless holds line }
-{
-    if holds { None } else { Some(line) }
-}
-
-// The line of the first that isn't one of a kernel, or is a marked loop, of this statement and those in it.
+// The line of the first marked loop, of this statement and those in it.
 #[cycle(untreated)]
 fn untreated_statement(statement: &Stmt) -> Option<u32>
     ensures { result ≡ untreated_act statement.now.line (act_of statement.now.act) }
@@ -26,9 +18,7 @@ fn untreated_statement(statement: &Stmt) -> Option<u32>
         },
         Act::Loop(_, _, _, _, body, Mark::Plain) | Act::While(_, body) => untreated_list(body),
         Act::Loop(_, _, _, _, _, Mark::Count(_) | Mark::From(_)) => Some(statement.line),
-        Act::Assign(_, _) | Act::Call(_, _) | Act::Run(_) => {
-            line_unless(is_kernel_statement(statement), statement.line)
-        }
+        Act::Assign(_, _) | Act::Call(_, _) | Act::Run(_) => None,
     }
 }
 

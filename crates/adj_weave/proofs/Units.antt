@@ -4,7 +4,6 @@ use Rattle.std.specs.Prelude.{◌||◌, ◌==◌, not, length, Option, Some}
 use Rattle.adj_tree.specs.Code.{Var, plain, shadow, helper, Code, Declaration, Procedure, var_eq}
 use Rattle.adj_meaning.specs.Rename.{rename}
 use Rattle.adj_meaning.specs.Written.{find_unit}
-use Rattle.adj_names.specs.Fault.{source_rules}
 use Rattle.adj_names.specs.NameFaults.{is_rank_for}
 use Rattle.adj_names.specs.Variables.{variables, rank}
 use Rattle.adj_transpose.specs.Fresh.{has_name, reserved}
@@ -19,7 +18,6 @@ use Rattle.adj_reverse.specs.Names.{adjoint_name}
 use Rattle.adj_reverse.specs.Marking.{full_marks, first_statement, plan_in, arrays_of, callee_in}
 use Rattle.adj_reverse.specs.Program.{helpers_used, adjoint_names, adjoint_unit}
 use Rattle.adj_reverse.specs.Emission.{adjoint_body}
-use Rattle.adj_checked.specs.Checked.{IsChecked}
 use Rattle.adj_checked.proofs.Lists.{Each, each_found}
 use Rattle.adj_emitted.specs.Shadowed.{HasShadows, AllHaveShadows}
 use Rattle.adj_emitted.proofs.Over.{OverCode, Any}
@@ -35,7 +33,7 @@ use Rattle.adj_naming.specs.declared.names.Names.{Names}
 use Rattle.adj_naming.specs.Sets.{has_variable, AreDifferent}
 use Rattle.adj_naming.specs.Table.{table_of, named_by}
 use Rattle.adj_emission.specs.Plans.{named_among}
-use Rattle.adj_weave.specs.Shared.{AreOf}
+use Rattle.adj_weave.specs.Shared.{IsCheckedBySome, AreOf}
 use Rattle.adj_weave.proofs.Declared.{shadow_undeclared, helper_undeclared}
 use Rattle.adj_weave.proofs.Renamed.{code_same}
 
@@ -76,7 +74,7 @@ shadows_each : (ps us : List Procedure) → AllHaveShadows full_marks ps us → 
 shadows_each ps [] h = tt
 shadows_each ps (u ∷ us) h = (h.0, shadows_each ps us h.1)
 
-module _ (ps : List Procedure) (checked : IsChecked source_rules ps) (u : Procedure) (found : find_unit ps u.name ≡ Some u) (units at_turn at_end : List (List ℕ)) (turned : AreOf (variables u) at_turn) (ended : AreOf (variables u) at_end) where
+module _ (ps : List Procedure) (checked : IsCheckedBySome ps) (u : Procedure) (found : find_unit ps u.name ≡ Some u) (units at_turn at_end : List (List ℕ)) (turned : AreOf (variables u) at_turn) (ended : AreOf (variables u) at_end) where
   abbrev pub i : ℕ
   i = first_statement ps u.name
 
@@ -96,7 +94,7 @@ module _ (ps : List Procedure) (checked : IsChecked source_rules ps) (u : Proced
   A v = (rank (adjoint_unit full_marks ps units u at_turn at_end) (name_in ns v) == 0) ≡ false
 
   sound : UnitSound ps u × NamesSound ps u
-  sound = each_found (λ u. UnitSound ps u × NamesSound ps u) ps (all_names_sound source_rules ps checked) u.name u found
+  sound = each_found (λ u. UnitSound ps u × NamesSound ps u) ps (all_names_sound checked.rules ps checked.checked) u.name u found
 
   shadows : HasShadows (plan_in full_marks ps u) (first_statement ps u.name) u.body
   shadows = each_found (λ u. HasShadows (plan_in full_marks ps u) (first_statement ps u.name) u.body) ps (shadows_each ps ps (full_shadows ps ps)) u.name u found
@@ -108,7 +106,7 @@ module _ (ps : List Procedure) (checked : IsChecked source_rules ps) (u : Proced
   over =
       let s = sound.0 in
       let n = sound.1 in
-      let f = follows full_marks ps (all_named source_rules ps checked) u (first_statement ps u.name) u.body s.calls shadows in
+      let f = follows full_marks ps (all_named checked.rules ps checked.checked) u (first_statement ps u.name) u.body s.calls shadows in
       body_with full_marks ps units u s.written s.kernel s.free s.calls f n.dummies_once n.extent_dummy n.extents n.stands at_turn at_end (marked at_turn turned) (marked at_end ended) Any f
 
   -- the names of the text are kept

@@ -3,7 +3,7 @@ use Rattle.std.specs.Prelude.{◌≡◌, ℕ, List, [], ◌++◌, map, Some, tru
 use Rattle.adj_tree.specs.Code.{Procedure}
 use Rattle.adj_tree.specs.View.{procedure_of}
 use Rattle.adj_meaning.specs.Written.{find_unit}
-use Rattle.adj_names.specs.Fault.{source_rules}
+use Rattle.adj_names.specs.Fault.{Rules}
 use Rattle.adj_names.specs.Variables.{variables}
 use Rattle.adj_transpose.specs.Fresh.{has_name, reserved}
 use Rattle.adj_reverse.specs.Names.{adjoint_name}
@@ -14,13 +14,18 @@ use Rattle.adj_helpers.specs.Callees.{KnowsAll}
 use Rattle.adj_weave.specs.declared.unit.Shared.{Shared}
 use Rattle.adj_weave.specs.declared.unit.Part.{Part}
 
+-- a checked program in kernel form, by the rules of a text that a user writes or by those of one that is run
+pub record IsCheckedBySome (ps : List Procedure) : Type 0 where
+  pub rules : Rules
+  pub checked : IsChecked rules ps
+
 -- the units of the source
 abbrev pub sources : Shared → List Procedure
 sources s = map procedure_of s.units.now
 
 -- what all units share is that of a checked program
 pub record IsShared (s : Shared) : Type 0 where
-  pub checked : IsChecked source_rules (sources s)
+  pub checked : IsCheckedBySome (sources s)
   pub callees : KnowsAll s.callees.now (callee_in full_marks (sources s))
   pub taken : s.taken.now ≡ all_added [] (s.names.now ++ reserved)
 

@@ -3,14 +3,12 @@
 ghost use Rattle.std.specs.Prelude.{◌≡◌, ◌++◌, ◌∷◌, [], ◌<◌, IfOk, OnOk, map, length};
 ghost use Rattle.adj_tree.specs.Code.{Procedure};
 ghost use Rattle.adj_tree.specs.View.{procedure_of, procedures_of};
-ghost use Rattle.adj_names.specs.Fault.{source_rules};
 ghost use Rattle.adj_transpose.specs.Naming.{AreApart};
 ghost use Rattle.adj_transpose.specs.Program.{unit_name, unit_at};
 ghost use Rattle.adj_reverse.specs.Marking.{full_marks};
 ghost use Rattle.adj_reverse.specs.Program.{has_adjoint, is_carried, emitted_adjoint, emitted_units, emitted_program};
-ghost use Rattle.adj_checked.specs.Checked.{IsChecked};
 ghost use Rattle.adj_weave.specs.Orders.{flagged};
-ghost use Rattle.adj_weave.specs.Shared.{sources, IsPart};
+ghost use Rattle.adj_weave.specs.Shared.{sources, IsCheckedBySome, IsPart};
 ghost use Rattle.adj_weave.specs.Woven.{IsTable, IsReady, head_of, only_if, emitted_for};
 
 use crate::called::known_callees;
@@ -203,7 +201,7 @@ fn emitted(alloc: Global, shared: &Shared, table: &Table, aim: &Aim) -> Result<V
 /// The program that is emitted for a head of a checked program in kernel form, with full marks.
 pub fn adjoint(alloc: Global, program: &Program, head: &Head) -> Result<Program, Memory>
     requires head { head.now.unit < length program.now.units }
-    requires checked { IsChecked source_rules (procedures_of program.now) }
+    requires checked { IsCheckedBySome (procedures_of program.now) }
     ensures emitted { IfOk result (λ p. procedures_of p ≡ emitted_program full_marks (procedures_of program.now) head.now.unit head.now.vars head.now.outvars) }
 {
     let units = program.units.as_slice();

@@ -18,7 +18,11 @@ mod limits;
 #[cfg(test)]
 mod long;
 #[cfg(test)]
+mod lowered;
+#[cfg(test)]
 mod names;
+#[cfg(test)]
+mod points;
 #[cfg(test)]
 mod printed;
 #[cfg(test)]

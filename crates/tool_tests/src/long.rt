@@ -1,17 +1,8 @@
 //! Long texts and long statements.
 
-ghost use Rattle.adj_tree.specs.View.{procedures_of};
-ghost use Rattle.adj_text.specs.Written.{IsWritten};
-
 use crate::calls::{WORDS, writes};
-use crate::read::read;
 use crate::texts::{push_statement, push_times};
-use adj_fixed::Mode;
-use adj_norm::is_kernel;
-use adj_print::text;
-use adj_symbols::{check, head};
-use adj_tree::{Fault, Memory, Name, NameList, Program};
-use adj_weave::adjoint;
+use adj_tree::Memory;
 use std::alloc::Global;
 
 #[test]
@@ -164,43 +155,5 @@ fn long_names_fill_statements_of_many_lines(rt: HostRuntime) -> Result<(), Memor
     let text = long_source(alloc, MOST_IN_A_SOURCE)?;
     let adjoint = long_adjoint(alloc, MOST_IN_A_SOURCE)?;
     assert!(rt; writes(alloc, words, text.as_slice(), adjoint.as_slice())?);
-    Ok(())
-}
-
-// A list of one dummy's name.
-fn one_name(alloc: Global, number: u8) -> Result<NameList, Memory> {
-    let mut bytes = Vec::new(alloc);
-    push_name(&mut bytes, number)?;
-    let mut names = Vec::new(alloc);
-    names.push(Name::from_slice(alloc, bytes.as_slice())?)?;
-    Ok(NameList::new(names))
-}
-
-// The text of what is emitted for the head P of a program, where it is in kernel form.
-fn adjoint_text(alloc: Global, program: Program) -> Result<Option<Vec<u8>>, Fault>
-    requires { IsWritten (procedures_of program) }
-{
-    if !is_kernel(&program) {
-        return Ok(None);
-    }
-    let checked = check(alloc, program, Mode::Source)?;
-    let name = Name::from_slice(alloc, b"P")?;
-    let vars = one_name(alloc, 1)?;
-    let outvars = one_name(alloc, 0)?;
-    let head = head(alloc, &checked, &name, vars.as_slice(), outvars.as_slice())?;
-    let emitted = adjoint(alloc, checked.program(), &head)?;
-    let text = text(alloc, &emitted)?;
-    Ok(Some(text))
-}
-
-#[test]
-fn a_hundred_long_dummies(rt: HostRuntime) -> Result<(), Fault> {
-    let alloc = rt.alloc();
-    // a statement of a source has no room for so many
-    let source = long_source(alloc, 100)?;
-    let program = read(alloc, source.as_slice(), Mode::Run)?;
-    let text = adjoint_text(alloc, program)?;
-    let adjoint = long_adjoint(alloc, 100)?;
-    assert!(rt; text.is_some_and(|text| text == adjoint));
     Ok(())
 }

@@ -3,36 +3,8 @@
 use crate::calls::{SQUARE, WORDS, comes_to};
 use adj_tree::Memory;
 
-// Texts, and the line of the first statement that isn't treated yet: one that isn't one of a kernel.
-const UNTREATED: [(&[u8], &str); 12] = [
-    (
-        b"      SUBROUTINE P(X,Y)\n      INTEGER*8 X,Y\n      Y=MAX0(X,Y)\n      END\n",
-        "REFUSED 3 LINE 3\n",
-    ),
-    (
-        b"      SUBROUTINE P(X,Y)\n      INTEGER*8 X,Y\n      Y=X/2\n      Y=1+2*(-MIN(X,Y))\n      END\n",
-        "REFUSED 3 LINE 4\n",
-    ),
-    (
-        b"      SUBROUTINE P(X,Y)\n      INTEGER*8 X,Y\n      Y=IABS(X)**2\n      END\n",
-        "REFUSED 3 LINE 3\n",
-    ),
-    (
-        b"      SUBROUTINE P(X,Y)\n      INTEGER*8 X,Y\n      Y=ABS(X)**(X+1)\n      END\n",
-        "REFUSED 3 LINE 3\n",
-    ),
-    (
-        b"      SUBROUTINE P(X,Y)\n      INTEGER*8 X,Y(2)\n      Y(Y(1))=X\n      END\n",
-        "REFUSED 3 LINE 3\n",
-    ),
-    (
-        b"      SUBROUTINE P(X,Y)\n      INTEGER*8 X,Y\n      IF (X.GT.0) THEN\n      Y=X\n      ELSE\n      Y=ABS(X)\n      END IF\n      END\n",
-        "REFUSED 3 LINE 6\n",
-    ),
-    (
-        b"      SUBROUTINE P(X,Y)\n      INTEGER*8 X,Y\n      DO 10 I=1,3\n      DO WHILE (Y.LT.5)\n      Y=ABS(X)\n      END DO\n   10 CONTINUE\n      END\n",
-        "REFUSED 3 LINE 5\n",
-    ),
+// Texts with marked loops, which aren't treated yet, and the line of the first of them.
+const UNTREATED: [(&[u8], &str); 8] = [
     (
         b"      SUBROUTINE P(X,Y)\n      INTEGER*8 X,Y\nC$AD BINOMIAL-CKP 2\n      DO I=1,3\n      Y=ABS(X)\n      END DO\n      END\n",
         "REFUSED 3 LINE 4\n",
@@ -42,59 +14,46 @@ const UNTREATED: [(&[u8], &str); 12] = [
         "REFUSED 3 LINE 5\n",
     ),
     (
-        b"      SUBROUTINE P(X,Y)\n      INTEGER*8 X,Y\n      Y=X\n      END\n      SUBROUTINE Q(A)\n      INTEGER*8 A\n      A=ABS(A)\n      END\n",
+        b"      SUBROUTINE P(X,Y)\n      INTEGER*8 X,Y\n      IF (X.GT.0) THEN\n      Y=X\n      ELSE\nC$AD BINOMIAL-CKP 3\n      DO I=1,3\n      Y=Y*X\n      END DO\n      END IF\n      END\n",
         "REFUSED 3 LINE 7\n",
     ),
     (
-        b"      SUBROUTINE Q(A)\n      INTEGER*8 A\n      A=ABS(A)\n      END\n      SUBROUTINE P(X,Y)\n      INTEGER*8 X,Y\n      Y=ABS(X)\n      END\n",
-        "REFUSED 3 LINE 3\n",
+        b"      SUBROUTINE P(X,Y)\n      INTEGER*8 X,Y\n      DO 10 I=1,3\n      DO WHILE (Y.LT.5)\nC$AD BINOMIAL-CKP 3\n      DO J=1,3\n      Y=Y*X\n      END DO\n      END DO\n   10 CONTINUE\n      END\n",
+        "REFUSED 3 LINE 6\n",
     ),
     (
-        b"      SUBROUTINE P(X,Y)\n      INTEGER*8 X,Y\n      IF (ABS(X).GT.0) Y=X\n      Y=MAX(X,Y)\n      END\n",
+        b"      SUBROUTINE P(X,Y)\n      INTEGER*8 X,Y\n      Y=MAX(X,Y)\nC$AD BINOMIAL-CKP 3\n      DO I=1,3\nC$AD BINOMIAL-CKP 4\n      DO J=1,3\n      Y=Y*X\n      END DO\n      END DO\n      END\n",
+        "REFUSED 3 LINE 5\n",
+    ),
+    (
+        b"      SUBROUTINE P(X,Y)\n      INTEGER*8 X,Y\n      DO I=1,3\n      Y=Y*X\n      END DO\nC$AD BINOMIAL-CKP 3\n      DO I=1,3\n      Y=Y*X\n      END DO\n      END\n",
+        "REFUSED 3 LINE 7\n",
+    ),
+    (
+        b"      SUBROUTINE P(X,Y)\n      INTEGER*8 X,Y\n      CALL Q(Y)\n      END\n      SUBROUTINE Q(A)\n      INTEGER*8 A\nC$AD BINOMIAL-CKP 64\n      DO I=1,3\n      A=A*I\n      END DO\n      END\n",
+        "REFUSED 3 LINE 8\n",
+    ),
+    (
+        b"      SUBROUTINE Q(A)\n      INTEGER*8 A\nC$AD BINOMIAL-CKP 64\n      DO I=1,3\n      A=A*I\n      END DO\n      END\n      SUBROUTINE P(X,Y)\n      INTEGER*8 X,Y\nC$AD BINOMIAL-CKP 64\n      DO I=1,3\n      Y=X*I\n      END DO\n      END\n",
         "REFUSED 3 LINE 4\n",
     ),
 ];
 
-// Texts with a CALL at line 3 whose actuals aren't different names.
-const CALLS: [&[u8]; 6] = [
-    b"      SUBROUTINE P(X,Y)\n      INTEGER*8 X,Y\n      CALL Q(X+1,Y)\n      END\n      SUBROUTINE Q(A,B)\n      INTEGER*8 A,B\n      B=A\n      END\n",
-    b"      SUBROUTINE P(X,Y)\n      INTEGER*8 X,Y\n      CALL Q(1,Y)\n      END\n      SUBROUTINE Q(A,B)\n      INTEGER*8 A,B\n      B=A\n      END\n",
-    b"      SUBROUTINE P(X,Y)\n      INTEGER*8 X(2),Y\n      CALL Q(Y,X(1))\n      END\n      SUBROUTINE Q(A,B)\n      INTEGER*8 A,B\n      B=A\n      END\n",
-    b"      SUBROUTINE P(X,Y)\n      INTEGER*8 X,Y\n      CALL Q(X,-X,Y)\n      END\n      SUBROUTINE Q(A,B,C)\n      INTEGER*8 A,B,C\n      C=A*B\n      END\n",
-    b"      SUBROUTINE P(X,Y)\n      INTEGER*8 X,Y\n      CALL Q(X,X,Y)\n      END\n      SUBROUTINE Q(A,B,C)\n      INTEGER*8 A,B,C\n      C=A*B\n      END\n",
-    b"      SUBROUTINE P(X,Y)\n      INTEGER*8 X,Y\n      CALL Q(X,Y,X)\n      CALL Q(X,Y,1)\n      END\n      SUBROUTINE Q(A,B,C)\n      INTEGER*8 A,B,C\n      B=A*C\n      END\n",
-];
-
 #[test]
-fn what_is_not_treated_yet_is_refused_at_its_first_statement(
-    rt: HostRuntime,
-) -> Result<(), Memory> {
+fn a_marked_loop_is_not_treated_yet(rt: HostRuntime) -> Result<(), Memory> {
     for (index, (text, answer)) in UNTREATED.iter().enumerate() {
         assert!(rt; comes_to(rt.alloc(), WORDS, text, 2, answer)?, "{index}");
     }
     Ok(())
 }
 
-#[test]
-fn a_call_of_other_actuals_than_different_names_is_not_treated_yet(
-    rt: HostRuntime,
-) -> Result<(), Memory> {
-    for (index, text) in CALLS.iter().enumerate() {
-        assert!(rt;
-            comes_to(rt.alloc(), WORDS, text, 2, "REFUSED 3 LINE 3\n")?,
-            "{index}"
-        );
-    }
-    Ok(())
-}
-
-// A text that isn't treated at line 3, and has a fault of its names at line 4.
+// A text that isn't treated at line 4, and has a fault of its names at line 5.
 const MISNAMED: &[u8] =
-    b"      SUBROUTINE P(X,Y)\n      INTEGER*8 X,Y\n      Y=ABS(X)\n      Y=X*Z\n      END\n";
+    b"      SUBROUTINE P(X,Y)\n      INTEGER*8 X,Y\nC$AD BINOMIAL-CKP 2\n      DO I=1,2\n      Y=X*Z\n      END DO\n      END\n";
 
-// A text that isn't treated at line 3.
-const ABSOLUTE: &[u8] =
-    b"      SUBROUTINE P(X,Y)\n      INTEGER*8 X,Y\n      Y=ABS(X)\n      END\n";
+// A text that isn't treated at line 4.
+const MARKED: &[u8] =
+    b"      SUBROUTINE P(X,Y)\n      INTEGER*8 X,Y\nC$AD BINOMIAL-CKP 2\n      DO I=1,2\n      Y=X*Y\n      END DO\n      END\n";
 
 #[test]
 fn faults_of_names_come_first_then_those_of_the_head_then_what_is_not_treated(
@@ -102,9 +61,9 @@ fn faults_of_names_come_first_then_those_of_the_head_then_what_is_not_treated(
 ) -> Result<(), Memory> {
     let alloc = rt.alloc();
     let other = "adjoint --head Q --vars X --outvars Y";
-    assert!(rt; comes_to(alloc, other, MISNAMED, 2, "REFUSED 7 LINE 4\n")?);
-    assert!(rt; comes_to(alloc, other, ABSOLUTE, 2, "REFUSED 22 LINE 0\n")?);
-    assert!(rt; comes_to(alloc, WORDS, ABSOLUTE, 2, "REFUSED 3 LINE 3\n")?);
+    assert!(rt; comes_to(alloc, other, MISNAMED, 2, "REFUSED 7 LINE 5\n")?);
+    assert!(rt; comes_to(alloc, other, MARKED, 2, "REFUSED 22 LINE 0\n")?);
+    assert!(rt; comes_to(alloc, WORDS, MARKED, 2, "REFUSED 3 LINE 4\n")?);
     assert!(rt; comes_to(alloc, WORDS, b"", 2, "REFUSED 22 LINE 0\n")?);
     Ok(())
 }
@@ -224,7 +183,7 @@ const FAULTS: [(&[u8], &str); 12] = [
 ];
 
 #[test]
-fn a_fault_of_the_text_comes_before_what_is_not_treated_yet(rt: HostRuntime) -> Result<(), Memory> {
+fn a_fault_of_the_text_is_refused(rt: HostRuntime) -> Result<(), Memory> {
     for (index, (text, answer)) in FAULTS.iter().enumerate() {
         assert!(rt; comes_to(rt.alloc(), WORDS, text, 2, answer)?, "{index}");
     }

@@ -1,17 +1,17 @@
-use Rattle.std.proofs.Common.{sym, ◌∙◌}
 use Rattle.adj_tree.specs.View.{procedures_of}
+use Rattle.adj_kernel.specs.Sound.{IsAccepted}
 use Rattle.adj_tool.specs.Views.{answer_of, request_of}
-use Rattle.adj_tool.proofs.Heads.{head_unit, treated_checked, head_adjoins}
+use Rattle.adj_tool.proofs.Heads.{head_there, head_adjoins}
 use Rattle.adj_tool.proofs.adjoint.answer_head.Goals as goal
 
-pub written-requires-clause-head : goal.written-requires-clause-head
-written-requires-clause-head c = head_unit (request_of c.args.request.now) c.args.program.now c.args.head.now c.requires.sound_head c.requires.head
+pub written-requires-clause-accepted : goal.written-requires-clause-accepted
+written-requires-clause-accepted c = record { written = c.requires.written; sound = c.requires.sound }
 
-pub written-requires-clause-checked : goal.written-requires-clause-checked
-written-requires-clause-checked c = treated_checked (procedures_of c.args.program.now) c.requires.written c.requires.sound (sym c.first_untreated.ensures ∙ c.in_default.is)
+pub written-requires-clause-there : goal.written-requires-clause-there
+written-requires-clause-there c = let r = request_of c.args.request.now in head_there (procedures_of c.args.program.now) r.head r.vars r.outvars c.requires.sound_head
 
 pub returns-clause-adjoint : goal.returns-clause-adjoint
 returns-clause-adjoint c =
     let ps = procedures_of c.args.program.now in
-    let checked = treated_checked ps c.requires.written c.requires.sound (sym c.first_untreated.ensures ∙ c.in_default.is) in
-    λ bytes reads done. head_adjoins (request_of c.args.request.now) ps c.args.head.now c.requires.sound_head c.requires.head checked (answer_of c.in_ok-answer.answer) c.in_ok-answer.ensures.answer c.in_ok-answer.ensures.reads_back bytes reads
+    let accepted : IsAccepted ps = record { written = c.requires.written; sound = c.requires.sound } in
+    λ bytes reads done. head_adjoins (request_of c.args.request.now) ps c.args.head c.requires.sound_head c.requires.head accepted (answer_of c.in_ok-answer.answer) c.in_ok-answer.ensures.answer c.in_ok-answer.ensures.reads_back bytes reads

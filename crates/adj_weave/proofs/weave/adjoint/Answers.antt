@@ -1,12 +1,11 @@
 use Rattle.std.proofs.Common.{◌<◌, map, length, ap, sym, subst, ◌∙◌}
 use Rattle.adj_tree.specs.View.{procedure_of, procedures_of}
-use Rattle.adj_names.specs.Fault.{source_rules}
 use Rattle.adj_transpose.specs.Naming.{AreApart}
 use Rattle.adj_transpose.specs.Program.{unit_name}
 use Rattle.adj_reverse.specs.Marking.{full_marks}
 use Rattle.adj_reverse.specs.Program.{emitted_program}
-use Rattle.adj_checked.specs.Checked.{IsChecked}
 use Rattle.adj_checked.proofs.Premises.{units_apart}
+use Rattle.adj_weave.specs.Shared.{IsCheckedBySome}
 use Rattle.adj_weave.proofs.Program.{program_emitted, unit_stands, head_there, same_length, all_are}
 use Rattle.adj_weave.proofs.Places.{at_number}
 use Rattle.adj_weave.proofs.weave.adjoint.Goals as goal
@@ -21,7 +20,7 @@ pub tabulated-requires-clause-apart : goal.tabulated-requires-clause-apart
 tabulated-requires-clause-apart c =
     let ps = procedures_of c.args.program.now in
     let names = c.as_slice-names.ensures.value ∙ c.in_ok-own.ensures.names ∙ ap (λ us. map unit_name (map procedure_of us)) c.as_slice-units.ensures.members in
-    subst AreApart (sym names) (units_apart source_rules ps c.requires.checked)
+    subst AreApart (sym names) (units_apart c.requires.checked.rules ps c.requires.checked.checked)
 
 pub known_callees-requires-clause-names : goal.known_callees-requires-clause-names
 known_callees-requires-clause-names c = c.as_slice-names.ensures.value ∙ c.in_ok-own.ensures.names
@@ -30,7 +29,7 @@ pub known_callees-requires-clause-apart : goal.known_callees-requires-clause-apa
 known_callees-requires-clause-apart c =
     let ps = procedures_of c.args.program.now in
     let names = c.as_slice-names.ensures.value ∙ c.in_ok-own.ensures.names ∙ ap (λ us. map unit_name (map procedure_of us)) c.as_slice-units.ensures.members in
-    subst AreApart (sym names) (units_apart source_rules ps c.requires.checked)
+    subst AreApart (sym names) (units_apart c.requires.checked.rules ps c.requires.checked.checked)
 
 pub known_callees-requires-clause-adjoints : goal.known_callees-requires-clause-adjoints
 known_callees-requires-clause-adjoints c =
@@ -63,7 +62,7 @@ emitted-requires-clause-ready c =
     let told = c.in_ok-table.ensures.table (procedure_of h) at in
     record {
       shared = record {
-        checked = subst (λ xs. IsChecked source_rules (map procedure_of xs)) (sym c.as_slice-units.ensures.members) c.requires.checked;
+        checked = subst (λ xs. IsCheckedBySome (map procedure_of xs)) (sym c.as_slice-units.ensures.members) c.requires.checked;
         callees = c.in_ok-callees.ensures.known;
         taken = c.in_ok-taken.ensures.names;
       };

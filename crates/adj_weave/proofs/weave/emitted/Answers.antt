@@ -1,7 +1,6 @@
 use Rattle.std.proofs.Common.{false, get_or, refl, ◌∙◌}
 use Rattle.adj_tree.specs.View.{procedure_of}
 use Rattle.adj_tree.specs.Code.{Procedure}
-use Rattle.adj_names.specs.Fault.{source_rules}
 use Rattle.adj_names.specs.Variables.{variables}
 use Rattle.adj_reverse.specs.Names.{adjoint_name}
 use Rattle.adj_reverse.specs.Marking.{full_marks, first_statement}
@@ -46,7 +45,7 @@ add_unit-requires c =
     record {
       ready = c.requires.ready;
       part = record {
-        found = find_at ps k (procedure_of u) (units_apart source_rules ps c.requires.ready.shared.checked) at;
+        found = find_at ps k (procedure_of u) (units_apart c.requires.ready.shared.checked.rules ps c.requires.ready.shared.checked.checked) at;
         variables = c.as_slice.ensures.members ∙ told_at variables ps k (procedure_of u) c.as_slice-variables.result.now c.index-variables-k.result at (c.as_slice-variables.ensures.value ∙ c.requires.table.variables) c.index-variables-k.is;
         adjoint = told_at (adjoint_name ps) ps k (procedure_of u) c.as_slice-adjoints.result.now c.index-adjoints-k.result at (c.as_slice-adjoints.ensures.value ∙ c.requires.table.adjoints) c.index-adjoints-k.is;
         number = told_number (λ (v : Procedure). first_statement ps v.name) ps k (procedure_of u) c.as_slice-numbers.result.now (get_or c.as_slice-numbers.result.now k 0) at (c.as_slice-numbers.ensures.value ∙ c.requires.table.numbers) refl;
