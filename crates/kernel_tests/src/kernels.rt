@@ -18,7 +18,7 @@ fn kernel_text(alloc: Global, source: &[u8]) -> Result<Vec<u8>, Fault> {
 }
 
 // Whether the kernel of the program of a text has another text.
-fn becomes(alloc: Global, source: &[u8], expected: &[u8]) -> Result<bool, Fault> {
+pub(crate) fn becomes(alloc: Global, source: &[u8], expected: &[u8]) -> Result<bool, Fault> {
     let made = kernel_text(alloc, source)?;
     Ok(made.as_slice() == expected)
 }

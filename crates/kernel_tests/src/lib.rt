@@ -1,7 +1,7 @@
 //! Tests of the code of the kernel, by the public calls of `adj_norm` and `adj_kernels`.
 //!
-//! `forms` has programs that are and aren't in kernel form, `lowering` statements and what becomes of them, and `kernels` texts and the
-//! kernels of their programs, both worked out by hand by docs/KERNEL.md. No code stands on this crate.
+//! `forms` has programs that are and aren't in kernel form, `lowering` and `statements` have statements and what becomes of them, and
+//! `kernels` texts and the kernels of their programs, all worked out by hand by docs/KERNEL.md. No code stands on this crate.
 #![tactic(auto)]
 
 #[cfg(test)]
@@ -10,3 +10,5 @@ mod forms;
 mod kernels;
 #[cfg(test)]
 mod lowering;
+#[cfg(test)]
+mod statements;
