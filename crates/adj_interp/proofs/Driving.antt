@@ -11,11 +11,11 @@ use Rattle.adj_meaning.specs.Event.{Event, Enter, Begin, End, Marked}
 use Rattle.adj_meaning.specs.Log.{Reversal, Log, log_from, log_of}
 use Rattle.adj_meaning.specs.Scene.{Scene, Stand, stand, Outcome, Done, Trapped, More, Full, Go, then_do, with_value, counted}
 use Rattle.adj_meaning.specs.Run.{Calls, act, run, trips, turns, tests, after_loop}
-use Rattle.adj_interp.specs.declared.step.Step.{Step}
+use Rattle.adj_frame.specs.declared.step.Step.{Step}
 use Rattle.adj_interp.specs.declared.stop.Stop.{Stop}
 use Rattle.adj_interp.specs.declared.stop.Stop.TheVariants as stop
 use Rattle.adj_interp.specs.declared.machine.Machine.{Machine}
-use Rattle.adj_interp.specs.Instructed.{task_in}
+use Rattle.adj_frame.specs.Instructed.{task_in}
 use Rattle.adj_interp.specs.Counted.{Counted, with_event}
 use Rattle.adj_interp.specs.Held.{Tells, Entry, setting_at, Holds, Stands, IsTrapped, HasMore, Ends, Reaches, Finds, bounds_in}
 

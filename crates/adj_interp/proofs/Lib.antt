@@ -1,8 +1,3 @@
-pub mod Reading
-pub mod Showing
-pub mod Setting
-pub mod Numberings
-pub mod Resolving
 pub mod Driving
 pub mod Serving
 pub mod Plans

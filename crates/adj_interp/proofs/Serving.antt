@@ -10,15 +10,15 @@ use Rattle.adj_meaning.specs.Event.{Begin, End}
 use Rattle.adj_meaning.specs.Log.{Reversal, Log}
 use Rattle.adj_meaning.specs.Runtime.{begun, ended}
 use Rattle.adj_tape.specs.Held.{Held}
-use Rattle.adj_interp.specs.declared.slot.Slot.{Slot}
+use Rattle.adj_frame.specs.declared.slot.Slot.{Slot}
 use Rattle.adj_interp.specs.declared.stop.Stop.{Stop}
 use Rattle.adj_interp.specs.declared.stop.Stop.TheVariants as stop
 use Rattle.adj_interp.specs.declared.machine.Machine.{Machine}
-use Rattle.adj_interp.specs.Prepared.{var_at}
-use Rattle.adj_interp.specs.Framed.{slot_shape, IsFrame}
+use Rattle.adj_frame.specs.Prepared.{var_at}
+use Rattle.adj_frame.specs.Framed.{slot_shape, IsFrame}
 use Rattle.adj_interp.specs.Counted.{Counted, Plan, with_end, with_event}
 use Rattle.adj_interp.specs.Held.{Tells, Entry, setting_at, Holds, IsDone, IsTrapped, IsFull, Ends, Reaches}
-use Rattle.adj_interp.proofs.Reading.{read_cell, read_shape}
+use Rattle.adj_frame.proofs.Reading.{read_cell, read_shape}
 use Rattle.adj_interp.proofs.Driving.{told_next, holds_stand, reaches_end, reaches_next, reaches_break}
 
 is_below : (a b : ℕ) → a < b → nat_lt a b ≡ true

@@ -15,8 +15,8 @@ use Rattle.adj_interp.specs.declared.stop.Stop.{Stop}
 use Rattle.adj_interp.specs.declared.stop.Stop.TheVariants as stop
 use Rattle.adj_interp.specs.declared.machine.Machine.{Machine}
 use Rattle.adj_interp.specs.Counted.{Counted}
-use Rattle.adj_interp.specs.Framed.{trap_of}
-use Rattle.adj_interp.specs.Shown.{on_words, Shows}
+use Rattle.adj_frame.specs.Framed.{trap_of}
+use Rattle.adj_frame.specs.Shown.{on_words, Shows}
 
 -- whatever happens later is counted on from what was counted of what happened, the last first
 abbrev pub Tells : Counted → List Event → Type 0

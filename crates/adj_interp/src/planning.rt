@@ -7,14 +7,14 @@ ghost use Rattle.adj_tree.specs.Code.{begin_reversal, count_actions, give_action
 ghost use Rattle.adj_meaning.specs.Trap.{schedule_trap, then_ok, or_trap};
 ghost use Rattle.adj_meaning.specs.Scene.{Scene};
 ghost use Rattle.adj_meaning.specs.Runtime.{steps_of, snapshots_of, actions_of, action_at, kind_of, lower_of, upper_of, runtime_act};
-ghost use Rattle.adj_interp.specs.Prepared.{var_at, term_in, IsTermBelow};
-ghost use Rattle.adj_interp.specs.Framed.{result_of, IsFrame};
+ghost use Rattle.adj_frame.specs.Prepared.{var_at, term_in, IsTermBelow};
+ghost use Rattle.adj_frame.specs.Framed.{result_of, IsFrame};
 ghost use Rattle.adj_interp.specs.Held.{Entry, setting_at, Holds, Ends, Finds, plan_in, action_in, given_in};
 
 use crate::cursor::Cursor;
 use crate::machine::Machine;
 use crate::stop::Stop;
-use crate::term::Term;
+use adj_frame::Term;
 use adj_revolve::{Action, Schedule};
 use adj_tree::Trap;
 

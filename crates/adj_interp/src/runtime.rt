@@ -5,16 +5,15 @@ ghost use Rattle.adj_tree.specs.Code.{push_word, pop_word, push_array, pop_array
 ghost use Rattle.adj_meaning.specs.Scene.{Scene, pushed, popped};
 ghost use Rattle.adj_meaning.specs.Store.{set_all};
 ghost use Rattle.adj_meaning.specs.Runtime.{runtime_act};
-ghost use Rattle.adj_interp.specs.declared.slot.Slot.{Slot};
-ghost use Rattle.adj_interp.specs.Prepared.{var_at, term_in, terms_in, IsTermBelow};
-ghost use Rattle.adj_interp.specs.Instructed.{service_in, IsCellBelow, IsServiceBelow};
-ghost use Rattle.adj_interp.specs.Framed.{IsFrame};
+ghost use Rattle.adj_frame.specs.declared.slot.Slot.{Slot};
+ghost use Rattle.adj_frame.specs.Prepared.{var_at, term_in, terms_in, IsTermBelow};
+ghost use Rattle.adj_frame.specs.Instructed.{service_in, IsCellBelow, IsServiceBelow};
+ghost use Rattle.adj_frame.specs.Framed.{IsFrame};
 ghost use Rattle.adj_interp.specs.Held.{Entry, setting_at, Holds, Ends};
 
 use crate::machine::Machine;
-use crate::step::{Cell, Service};
 use crate::stop::Stop;
-use crate::term::Term;
+use adj_frame::{Cell, Service, Term};
 use adj_tree::Trap;
 
 impl<'a> Machine<'a> {

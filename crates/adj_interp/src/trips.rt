@@ -2,10 +2,10 @@
 
 ghost use Rattle.std.specs.Prelude.{◌≡◌, List, ℕ};
 ghost use Rattle.adj_meaning.specs.Run.{trips, most_turns, most_tests};
-ghost use Rattle.adj_interp.specs.Instructed.{marking_in};
-ghost use Rattle.adj_interp.specs.Framed.{result_of};
+ghost use Rattle.adj_frame.specs.Instructed.{marking_in};
+ghost use Rattle.adj_frame.specs.Framed.{result_of};
 
-use crate::step::Marking;
+use adj_frame::Marking;
 use adj_tree::Trap;
 use adj_word::trips;
 

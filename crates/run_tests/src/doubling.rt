@@ -2,11 +2,12 @@
 
 ghost use Rattle.std.specs.Prelude.{◌≡◌, ◌<◌, ◌∷◌, [], IfOk, length};
 ghost use Rattle.adj_meaning.specs.Agree.{AreApart};
-ghost use Rattle.adj_interp.specs.Prepared.{IsTermBelow};
-ghost use Rattle.adj_interp.specs.Instructed.{IsTaskBelow, IsPlainTask, AreStepsBelow, ArePlain};
-ghost use Rattle.adj_interp.specs.Framed.{IsFrame};
+ghost use Rattle.adj_frame.specs.Prepared.{IsTermBelow};
+ghost use Rattle.adj_frame.specs.Instructed.{IsTaskBelow, IsPlainTask, AreStepsBelow, ArePlain};
+ghost use Rattle.adj_frame.specs.Framed.{IsFrame};
 
-use adj_interp::{Cell, Frame, Machine, Slot, Step, Steps, Stop, Tally, Task, Term, Terms, Test};
+use adj_frame::{Cell, Frame, Slot, Step, Steps, Task, Term, Terms, Test};
+use adj_interp::{Machine, Stop, Tally};
 use adj_tape::Tape;
 use adj_tree::{Items, Memory, Name, NameList, Op, Rel};
 use std::alloc::Global;

@@ -1,7 +1,7 @@
 -- Each slot so far is that of a scalar.
 use Rattle.std.proofs.Common.{ℕ, ◌≤◌, ◌<◌, ◌-◌, length, get_or}
-use Rattle.adj_interp.specs.declared.slot.Slot.{Slot}
-use Rattle.adj_interp.specs.Framed.{IsSlot}
+use Rattle.adj_frame.specs.declared.slot.Slot.{Slot}
+use Rattle.adj_frame.specs.Framed.{IsSlot}
 use Rattle.run_tests.proofs.doubling.machine.Given as goal
 
 abbrev pub invariant-each : goal.invariant-each

@@ -10,12 +10,12 @@ use Rattle.adj_meaning.specs.Value.{target, holds}
 use Rattle.adj_meaning.specs.Run.{run, turns, with_turn, stepped, tests, in_force, after_loop}
 use Rattle.adj_tree.specs.declared.value.Trap.TheVariants as trap
 use Rattle.adj_interp.specs.declared.machine.Machine.{Machine}
-use Rattle.adj_interp.specs.declared.step.Steps.{size-Steps}
-use Rattle.adj_interp.specs.declared.step.Steps.TheViews.{sized-More}
-use Rattle.adj_interp.specs.declared.step.Steps.TheVariants as steps
-use Rattle.adj_interp.specs.Prepared.{var_at, term_in, terms_in, test_in}
-use Rattle.adj_interp.specs.Instructed.{task_in, steps_in, marking_in}
-use Rattle.adj_interp.specs.Framed.{IsFrame}
+use Rattle.adj_frame.specs.declared.step.Steps.{size-Steps}
+use Rattle.adj_frame.specs.declared.step.Steps.TheViews.{sized-More}
+use Rattle.adj_frame.specs.declared.step.Steps.TheVariants as steps
+use Rattle.adj_frame.specs.Prepared.{var_at, term_in, terms_in, test_in}
+use Rattle.adj_frame.specs.Instructed.{task_in, steps_in, marking_in}
+use Rattle.adj_frame.specs.Framed.{IsFrame}
 use Rattle.adj_interp.specs.Held.{setting_at, Holds, Ends, Finds, IsDone, IsTrapped, HasMore}
 use Rattle.adj_interp.proofs.Driving.{reaches_start, reaches_end, ends_ok, ends_err, list_budget, list_next, list_break, same_act, turn_budget, turn_next, turn_break, turn_end, test_err, test_end, test_last, test_break, test_budget, test_next, ends_loop, bounds_chain}
 use Rattle.adj_interp.proofs.machine.Machine.+run.Goals as goal

@@ -3,10 +3,10 @@ use Rattle.std.proofs.Common.{◌≡◌, ◌≤◌, ℤ, length}
 use Rattle.adj_meaning.specs.Scene.{Scene}
 use Rattle.adj_meaning.specs.Value.{holds}
 use Rattle.adj_meaning.specs.Run.{Calls, run, turns, stepped, tests}
-use Rattle.adj_interp.specs.declared.step.Steps.{size-Steps}
-use Rattle.adj_interp.specs.Prepared.{var_at, test_in}
-use Rattle.adj_interp.specs.Instructed.{steps_in, AreStepsBelow, ArePlain}
-use Rattle.adj_interp.specs.Framed.{IsFrame}
+use Rattle.adj_frame.specs.declared.step.Steps.{size-Steps}
+use Rattle.adj_frame.specs.Prepared.{var_at, test_in}
+use Rattle.adj_frame.specs.Instructed.{steps_in, AreStepsBelow, ArePlain}
+use Rattle.adj_frame.specs.Framed.{IsFrame}
 use Rattle.adj_interp.specs.Held.{Entry, setting_at, Holds, Reaches}
 use Rattle.adj_interp.proofs.machine.Machine.+run.Given as goal
 

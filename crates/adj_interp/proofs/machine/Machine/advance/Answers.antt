@@ -3,10 +3,10 @@ use Rattle.std.proofs.lemmas.Int.{to_z-of_z}
 use Rattle.adj_word.specs.Word.{add}
 use Rattle.adj_meaning.specs.Run.{with_turn}
 use Rattle.adj_meaning.proofs.Cells.{size_positive}
-use Rattle.adj_interp.specs.declared.slot.Slot.{Slot}
-use Rattle.adj_interp.specs.Prepared.{var_at}
+use Rattle.adj_frame.specs.declared.slot.Slot.{Slot}
+use Rattle.adj_frame.specs.Prepared.{var_at}
 use Rattle.adj_interp.specs.Held.{setting_at, Holds}
-use Rattle.adj_interp.proofs.Reading.{read_cell}
+use Rattle.adj_frame.proofs.Reading.{read_cell}
 use Rattle.adj_interp.proofs.machine.Machine.advance.Goals as goal
 
 pub returns-clause-holds : goal.returns-clause-holds

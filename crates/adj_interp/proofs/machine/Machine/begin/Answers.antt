@@ -5,7 +5,7 @@ use Rattle.adj_meaning.specs.Scene.{Scene, Outcome, Done, stand}
 use Rattle.adj_meaning.specs.Runtime.{begun}
 use Rattle.adj_interp.specs.Counted.{Counted, with_event}
 use Rattle.adj_interp.specs.declared.machine.Machine.{Machine}
-use Rattle.adj_interp.specs.Prepared.{term_in}
+use Rattle.adj_frame.specs.Prepared.{term_in}
 use Rattle.adj_interp.specs.Held.{setting_at, Ends, IsDone}
 use Rattle.adj_interp.proofs.Driving.{ends_ok, ends_err}
 use Rattle.adj_interp.proofs.Plans.{plan_chain}

@@ -1,8 +1,8 @@
 use Rattle.std.proofs.Common.{refl, sym, ap, ◌∙◌}
 use Rattle.std.specs.Prelude.{Some}
-use Rattle.adj_interp.specs.Framed.{result_of}
-use Rattle.adj_interp.specs.Prepared.{test_in}
-use Rattle.adj_interp.proofs.Showing.{holds_shown}
+use Rattle.adj_frame.specs.Framed.{result_of}
+use Rattle.adj_frame.specs.Prepared.{test_in}
+use Rattle.adj_frame.proofs.Showing.{holds_shown}
 use Rattle.adj_interp.proofs.machine.Machine.holds.Goals as goal
 
 pub returns-in-Ok : goal.returns-in-Ok

@@ -3,7 +3,7 @@ use Rattle.std.proofs.lemmas.Int.{to_z-of_z}
 use Rattle.adj_meaning.specs.Store.{set}
 use Rattle.adj_tape.specs.Held.{Held}
 use Rattle.adj_interp.specs.declared.machine.Machine.{Machine}
-use Rattle.adj_interp.specs.Prepared.{var_at}
+use Rattle.adj_frame.specs.Prepared.{var_at}
 use Rattle.adj_interp.specs.Held.{Holds}
 use Rattle.adj_interp.proofs.Serving.{popped_ok, popped_none}
 use Rattle.adj_interp.proofs.machine.Machine.pop.Goals as goal

@@ -4,11 +4,11 @@ use Rattle.std.proofs.lemmas.List.{get_or_default}
 use Rattle.std.proofs.lemmas.Int.{to_z-of_z}
 use Rattle.adj_meaning.specs.Store.{size_of, cells_from}
 use Rattle.adj_meaning.specs.Scene.{Scene, Outcome, pushed, pushed_all}
-use Rattle.adj_interp.specs.declared.slot.Slot.{Slot}
-use Rattle.adj_interp.specs.declared.frame.Frame.{Frame}
+use Rattle.adj_frame.specs.declared.slot.Slot.{Slot}
+use Rattle.adj_frame.specs.declared.frame.Frame.{Frame}
 use Rattle.adj_interp.specs.declared.machine.Machine.{Machine}
-use Rattle.adj_interp.specs.Prepared.{var_at}
-use Rattle.adj_interp.specs.Framed.{IsFrame}
+use Rattle.adj_frame.specs.Prepared.{var_at}
+use Rattle.adj_frame.specs.Framed.{IsFrame}
 use Rattle.adj_interp.specs.Held.{Entry, setting_at, Holds, Ends, IsDone}
 use Rattle.adj_interp.proofs.Serving.{counted_cells, held_cell, all_next, all_break, all_end}
 use Rattle.adj_interp.proofs.machine.Machine.push_array.Goals as goal

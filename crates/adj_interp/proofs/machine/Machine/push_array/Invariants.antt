@@ -2,7 +2,7 @@
 use Rattle.std.proofs.Common.{◌≡◌, ◌-◌, ℤ}
 use Rattle.adj_meaning.specs.Store.{cells_from}
 use Rattle.adj_meaning.specs.Scene.{Scene, pushed_all}
-use Rattle.adj_interp.specs.Prepared.{var_at}
+use Rattle.adj_frame.specs.Prepared.{var_at}
 use Rattle.adj_interp.specs.Held.{Entry, setting_at, Holds, Reaches}
 use Rattle.adj_interp.proofs.machine.Machine.push_array.Given as goal
 

@@ -3,8 +3,8 @@ use Rattle.std.specs.Prelude.{Err}
 use Rattle.std.proofs.lemmas.List.{get_or_default}
 use Rattle.std.proofs.lemmas.Int.{to_z-of_z}
 use Rattle.adj_meaning.specs.Scene.{Scene, Outcome, stand, pushed}
-use Rattle.adj_interp.specs.declared.slot.Slot.{Slot}
-use Rattle.adj_interp.specs.Prepared.{var_at}
+use Rattle.adj_frame.specs.declared.slot.Slot.{Slot}
+use Rattle.adj_frame.specs.Prepared.{var_at}
 use Rattle.adj_interp.specs.Held.{setting_at, Ends}
 use Rattle.adj_interp.proofs.Driving.{ends_ok, ends_err}
 use Rattle.adj_interp.proofs.Serving.{held_cell}

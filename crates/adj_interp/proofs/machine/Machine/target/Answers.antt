@@ -1,8 +1,8 @@
 use Rattle.std.proofs.Common.{refl, sym, ap, ◌∙◌}
 use Rattle.std.specs.Prelude.{Some}
-use Rattle.adj_interp.specs.Framed.{result_of}
-use Rattle.adj_interp.specs.Prepared.{var_at, terms_in}
-use Rattle.adj_interp.proofs.Showing.{target_shown}
+use Rattle.adj_frame.specs.Framed.{result_of}
+use Rattle.adj_frame.specs.Prepared.{var_at, terms_in}
+use Rattle.adj_frame.proofs.Showing.{target_shown}
 use Rattle.adj_interp.proofs.machine.Machine.target.Goals as goal
 
 pub returns-in-Ok-clause-target : goal.returns-in-Ok-clause-target

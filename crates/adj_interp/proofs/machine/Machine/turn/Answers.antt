@@ -1,5 +1,5 @@
 use Rattle.std.proofs.Common.{get_or, arith}
-use Rattle.adj_interp.proofs.Reading.{has_first}
+use Rattle.adj_frame.proofs.Reading.{has_first}
 use Rattle.adj_interp.proofs.machine.Machine.turn.Goals as goal
 
 pub put-requires-clause-within : goal.put-requires-clause-within

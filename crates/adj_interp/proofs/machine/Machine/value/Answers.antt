@@ -1,9 +1,9 @@
 use Rattle.std.proofs.Common.{rules, FitsSigned, w64, refl, sym, ap, ◌∙◌}
 use Rattle.std.specs.Prelude.{Ok, Some}
 use Rattle.std.proofs.lemmas.Int.{to_z-of_z}
-use Rattle.adj_interp.specs.Framed.{result_of}
-use Rattle.adj_interp.specs.Prepared.{term_in}
-use Rattle.adj_interp.proofs.Showing.{value_shown}
+use Rattle.adj_frame.specs.Framed.{result_of}
+use Rattle.adj_frame.specs.Prepared.{term_in}
+use Rattle.adj_frame.proofs.Showing.{value_shown}
 use Rattle.adj_interp.proofs.machine.Machine.value.Goals as goal
 
 pub returns-in-Ok : goal.returns-in-Ok

@@ -1,0 +1,5 @@
+pub mod Reading
+pub mod Showing
+pub mod Setting
+pub mod Numberings
+pub mod Resolving

@@ -1,0 +1,28 @@
+-- The measures, and what a list of expressions has left.
+use Rattle.std.proofs.Common.{◌≡◌, ◌≤◌, Ok, length}
+use Rattle.adj_meaning.specs.Trap.{then_ok}
+use Rattle.adj_meaning.specs.Value.{values}
+use Rattle.adj_frame.specs.declared.term.Terms.{size-Terms}
+use Rattle.adj_frame.specs.Prepared.{terms_in, AreTermsBelow}
+use Rattle.adj_frame.specs.Framed.{store_in, setting_in_slots}
+use Rattle.adj_frame.proofs.frame.Frame.+value.Given as goal
+
+abbrev pub decreases-cell : goal.decreases-cell
+decreases-cell l = goal.size-cell l
+
+abbrev pub decreases-cell_behind : goal.decreases-cell_behind
+decreases-cell_behind l = goal.size-cell_behind l
+
+abbrev pub decreases-each_value : goal.decreases-each_value
+decreases-each_value l = goal.size-each_value l
+
+abbrev pub decreases-value : goal.decreases-value
+decreases-value l = goal.size-value l
+
+abbrev pub invariant-each_value-loop-current : goal.invariant-each_value-loop-current
+invariant-each_value-loop-current l = record {
+  no_deeper : size-Terms l.current ≤ size-Terms l.initial.current;
+  below : AreTermsBelow (length l.self.slots.items) l.current;
+  traps : then_ok (values (setting_in_slots l.self.names.now l.self.slots.items) (terms_in l.self.names.now l.current) (store_in l.self.names.now l.self.slots.items)) (λ is. Ok (tt {0}))
+      ≡ then_ok (values (setting_in_slots l.self.names.now l.self.slots.items) (terms_in l.self.names.now l.terms) (store_in l.self.names.now l.self.slots.items)) (λ is. Ok (tt {0}));
+}

@@ -1,0 +1,92 @@
+use Rattle.std.proofs.Common.{rules, ◌≡◌, length, refl, sym, ap, subst, ◌∙◌, arith}
+use Rattle.adj_tree.specs.declared.stmt.Stmts.{size-Stmts}
+use Rattle.adj_tree.specs.declared.stmt.Act.TheViews.{sized-More}
+use Rattle.adj_tree.specs.declared.stmt.Stmts.TheVariants as stmts
+use Rattle.adj_tree.specs.Code.{step, choose, loop}
+use Rattle.adj_tree.specs.View.{act_of, code_of}
+use Rattle.adj_tree.specs.Listed.{code_turned}
+use Rattle.adj_frame.specs.declared.step.Step.{Step}
+use Rattle.adj_frame.specs.Instructed.{task_in, steps_in, IsTaskBelow, AreStepsBelow}
+use Rattle.adj_frame.proofs.Resolving.{extends_self, extends_on}
+use Rattle.adj_frame.proofs.numbering.Numbering.+prepare_steps.Goals as goal
+
+pub steps-loop-current-init : goal.steps-loop-current-init
+steps-loop-current-init t c = record {
+  no_deeper = omega arith;
+  extends = extends_self c.args.self.now;
+  resolves = record { stands_for = λ ls f. refl; below = λ ls f. tt };
+}
+
+pub steps-loop-current-preserved : goal.steps-loop-current-preserved
+steps-loop-current-preserved t c =
+    let made = c.loop-current.made in
+    let rest = c.in-More.rest.value in
+    let before = c.loop-current.self in
+    let after = c.task.new.self in
+    let inv = c.loop-current.invariant in
+    let e = c.in_ok-task.ensures.extends in
+    let r = c.in_ok-task.ensures.resolves in
+    let ok1 = c.in_ok-new.ensures.ok in
+    let ok2 = c.in_ok-new-2.ensures.ok in
+    record {
+      no_deeper =
+          let whole = sized-More c.in-More.first c.in-More.rest in
+          let was = ap size-Stmts c.in-More.is in
+          let left = ap size-Stmts c.deref-current.ensures in
+          let earlier = inv.no_deeper in
+          first_of (omega (arith, whole, was, left, earlier), grind (arith, whole, was, left, earlier));
+      extends = extends_on c.args.self.now before after inv.extends e;
+      resolves = record {
+        stands_for = λ ls f.
+            (λ i. code_turned (steps_in ls (ok2 i)) (step (ok1 i).line (task_in ls (ok1 i).task) (code_of (c.deref-current.ensures i))))
+            ∙ (λ i. code_turned (steps_in ls made) (step (c.deref-in-More.ensures i).line (r.stands_for ls f i) (code_of rest)))
+            ∙ ap (λ z. code_turned (steps_in ls made) (step c.in-More.first.value.line (act_of z.act) (code_of rest))) c.deref.ensures
+            ∙ ap (λ z. code_turned (steps_in ls made) (code_of z)) (sym c.in-More.is)
+            ∙ inv.resolves.stands_for ls (extends_on before after ls e f);
+        below = λ ls f. (subst (λ (v : Step). IsTaskBelow (length ls) v.task) (sym ok1) (r.below ls f), subst (AreStepsBelow (length ls)) (sym ok2) (inv.resolves.below ls (extends_on before after ls e f)));
+      };
+    }
+
+pub steps-returns-clause-extends : goal.steps-returns-clause-extends
+steps-returns-clause-extends t c = c.loop-current.invariant.extends
+
+pub steps-returns-clause-resolves : goal.steps-returns-clause-resolves
+steps-returns-clause-resolves t c =
+    let inv = c.loop-current.invariant.resolves in
+    let empty : c.loop-current.current.now ≡ stmts.Empty = search rules in
+    record {
+      stands_for = λ ls f. c.turned-all.ensures.turned ls ∙ ap (λ z. code_turned (steps_in ls c.loop-current.made) (code_of z)) (sym empty) ∙ inv.stands_for ls f;
+      below = λ ls f. c.turned-all.ensures.below (length ls) (inv.below ls f);
+    }
+
+-- ---- statements of several parts
+
+pub task-returns-in_ok-steps-in-If-clause-resolves : goal.task-returns-in_ok-steps-in-If-clause-resolves
+task-returns-in_ok-steps-in-If-clause-resolves t c =
+    let r1 = c.in_ok-test-in-If.ensures.resolves in
+    let r2 = c.in_ok-first-in-If.ensures.resolves in
+    let r3 = c.in_ok-steps-in-If.ensures.resolves in
+    let e2 = c.in_ok-first-in-If.ensures.extends in
+    let e3 = c.in_ok-steps-in-If.ensures.extends in
+    rw c.in-If.is (record {
+      stands_for = λ ls f i. choose (r1.stands_for ls (extends_on _ _ _ e2 (extends_on _ _ _ e3 f)) i) (r2.stands_for ls (extends_on _ _ _ e3 f) i) (r3.stands_for ls f i);
+      below = λ ls f. (r1.below ls (extends_on _ _ _ e2 (extends_on _ _ _ e3 f)), r2.below ls (extends_on _ _ _ e3 f), r3.below ls f);
+    })
+
+pub task-returns-in_ok-marking-in-Loop-clause-resolves : goal.task-returns-in_ok-marking-in-Loop-clause-resolves
+task-returns-in_ok-marking-in-Loop-clause-resolves t c =
+    let r1 = c.in_ok-variable-in-Loop.ensures.resolves in
+    let r2 = c.in_ok-first-in-Loop.ensures.resolves in
+    let r3 = c.in_ok-last-in-Loop.ensures.resolves in
+    let r4 = c.in_ok-by-in-Loop.ensures.resolves in
+    let r5 = c.in_ok-inner-in-Loop.ensures.resolves in
+    let r6 = c.in_ok-marking-in-Loop.ensures.resolves in
+    let e6 = c.in_ok-marking-in-Loop.ensures.extends in
+    let e5 = extends_on _ _ _ c.in_ok-inner-in-Loop.ensures.extends e6 in
+    let e4 = extends_on _ _ _ c.in_ok-by-in-Loop.ensures.extends e5 in
+    let e3 = extends_on _ _ _ c.in_ok-last-in-Loop.ensures.extends e4 in
+    let e2 = extends_on _ _ _ c.in_ok-first-in-Loop.ensures.extends e3 in
+    rw c.in-Loop.is (record {
+      stands_for = λ ls f i. loop (r1.stands_for ls (extends_on _ _ _ e2 f) i) (r2.stands_for ls (extends_on _ _ _ e3 f) i) (r3.stands_for ls (extends_on _ _ _ e4 f) i) (r4.stands_for ls (extends_on _ _ _ e5 f) i) (r5.stands_for ls (extends_on _ _ _ e6 f) i) (r6.stands_for ls f i);
+      below = λ ls f. (r1.below ls (extends_on _ _ _ e2 f), (r2.below ls (extends_on _ _ _ e3 f), r3.below ls (extends_on _ _ _ e4 f), r4.below ls (extends_on _ _ _ e5 f)), r5.below ls (extends_on _ _ _ e6 f), r6.below ls f);
+    })

@@ -1,0 +1,6 @@
+-- What the contracts of this crate say of prepared units and their entries.
+pub mod Prepared
+pub mod Instructed
+pub mod Numbered
+pub mod Framed
+pub mod Shown

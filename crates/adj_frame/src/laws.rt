@@ -1,0 +1,8 @@
+//! A law of slots and stores.
+
+ghost use Rattle.adj_frame.specs.Shown.{ShownIsSeen};
+
+/// Where slots show a store, what is evaluated in the one is evaluated alike in the other.
+pub fn shown_is_seen()
+    ensures seen { ShownIsSeen }
+{}

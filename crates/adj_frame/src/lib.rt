@@ -1,0 +1,23 @@
+//! Units that are prepared for a run, and their entries.
+//!
+//! A unit is prepared once: its variables get numbers, and its trees name them by these. An entry of a unit has one slot
+//! for each variable, whose cells change in place. What prepared trees do is defined by the trees that they stand for
+//! (`specs/Prepared.antt`, `specs/Instructed.antt`) and the values of `adj_meaning`. The layer above uses: a prepared
+//! tree stands for its tree, and an expression has in the slots the value that it has in the store that they show.
+#![tactic(auto)]
+
+mod arithmetic;
+mod frame;
+mod laws;
+mod numbering;
+mod prepare;
+mod slot;
+mod step;
+mod term;
+
+pub use frame::Frame;
+pub use laws::shown_is_seen;
+pub use numbering::Numbering;
+pub use slot::Slot;
+pub use step::{Bounds, Cell, Marking, Service, Step, Steps, Task};
+pub use term::{Term, Terms, Test};

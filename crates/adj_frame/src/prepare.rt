@@ -1,0 +1,240 @@
+//! Trees with numbers for their variables. Lists are gone through by loops.
+
+ghost use Rattle.std.specs.Prelude.{IfOk, OnOk};
+ghost use Rattle.adj_tree.specs.View.{term_of, terms_of, test_of, runtime_of, mark_of, act_of, code_of};
+ghost use Rattle.adj_tree.specs.Code.{plain};
+ghost use Rattle.adj_frame.specs.Prepared.{var_at, term_in, terms_in, test_in, IsTermBelow, AreTermsBelow, IsTestBelow};
+ghost use Rattle.adj_frame.specs.Instructed.{service_in, marking_in, task_in, steps_in, IsNumberBelow, IsServiceBelow, IsMarkingBelow, IsTaskBelow, AreStepsBelow};
+ghost use Rattle.adj_frame.specs.Numbered.{Extends, Resolves};
+
+use crate::numbering::Numbering;
+use crate::step::{Bounds, Cell, Marking, Service, Step, Steps, Task};
+use crate::term::{Term, Terms, Test};
+use adj_tree::{Act, Cond, Expr, Exprs, Mark, Memory, Name, Place, RunCall, Stmt, Stmts};
+use std::alloc::Global;
+
+impl<'a> Numbering<'a> {
+    // A variable.
+    fn variable(&mut self, name: &'a Name) -> Result<usize, Memory>
+        ensures extends { OnOk result (Extends self.old self.new) }
+        ensures resolves { IfOk result (λ i. Resolves var_at IsNumberBelow self.new i (plain name.now)) }
+    {
+        self.number(name)
+    }
+
+    /// An expression.
+    #[cycle(prepare_term)]
+    pub fn term(&mut self, alloc: Global, expr: &'a Expr) -> Result<Term, Memory>
+        ensures extends { OnOk result (Extends self.old self.new) }
+        ensures resolves { IfOk result (λ e. Resolves term_in IsTermBelow self.new e (term_of expr.now)) }
+    {
+        match expr {
+            Expr::Lit(n) => Ok(Term::Lit(*n)),
+            Expr::Var(x) => {
+                let variable = self.variable(x)?;
+                Ok(Term::Var(variable))
+            }
+            Expr::Elem(x, subs) => {
+                let variable = self.variable(x)?;
+                let subs = self.terms(alloc, subs)?;
+                Ok(Term::Elem(variable, subs))
+            }
+            Expr::Neg(a) => {
+                let term = self.term(alloc, a)?;
+                let operand = Box::new(alloc, term)?;
+                Ok(Term::Neg(operand))
+            }
+            Expr::Bin(op, a, b) => {
+                let first = self.term(alloc, a)?;
+                let second = self.term(alloc, b)?;
+                let left = Box::new(alloc, first)?;
+                let right = Box::new(alloc, second)?;
+                Ok(Term::Bin(*op, left, right))
+            }
+            Expr::Pow(a, k) => {
+                let term = self.term(alloc, a)?;
+                let operand = Box::new(alloc, term)?;
+                Ok(Term::Pow(operand, *k))
+            }
+            Expr::Power(a, b) => {
+                let first = self.term(alloc, a)?;
+                let second = self.term(alloc, b)?;
+                let base = Box::new(alloc, first)?;
+                let power = Box::new(alloc, second)?;
+                Ok(Term::Power(base, power))
+            }
+            Expr::Abs(a) => {
+                let term = self.term(alloc, a)?;
+                let operand = Box::new(alloc, term)?;
+                Ok(Term::Abs(operand))
+            }
+        }
+    }
+
+    /// Expressions in order.
+    #[cycle(prepare_term)]
+    pub fn terms(&mut self, alloc: Global, exprs: &'a Exprs) -> Result<Terms, Memory>
+        ensures extends { OnOk result (Extends self.old self.new) }
+        ensures resolves { IfOk result (λ es. Resolves terms_in AreTermsBelow self.new es (terms_of exprs.now)) }
+    {
+        let mut made = Terms::Empty;
+        let mut current = exprs;
+        while let Exprs::More(first, rest) = current {
+            let term = self.term(alloc, first)?;
+            made = Terms::More(Box::new(alloc, term)?, Box::new(alloc, made)?);
+            current = rest;
+        }
+        let all = made.turned();
+        Ok(all)
+    }
+
+    /// A condition.
+    pub fn test(&mut self, alloc: Global, cond: &'a Cond) -> Result<Test, Memory>
+        ensures extends { OnOk result (Extends self.old self.new) }
+        ensures resolves { IfOk result (λ t. Resolves test_in IsTestBelow self.new t (test_of cond.now)) }
+    {
+        match cond {
+            Cond::Cmp(rel, a, b) => {
+                let first = self.term(alloc, a)?;
+                let second = self.term(alloc, b)?;
+                let left = Box::new(alloc, first)?;
+                let right = Box::new(alloc, second)?;
+                Ok(Test::Cmp(*rel, left, right))
+            }
+            Cond::Not(c) => {
+                let test = self.test(alloc, c)?;
+                let operand = Box::new(alloc, test)?;
+                Ok(Test::Not(operand))
+            }
+            Cond::And(c, d) => {
+                let first = self.test(alloc, c)?;
+                let second = self.test(alloc, d)?;
+                let left = Box::new(alloc, first)?;
+                let right = Box::new(alloc, second)?;
+                Ok(Test::And(left, right))
+            }
+            Cond::Or(c, d) => {
+                let first = self.test(alloc, c)?;
+                let second = self.test(alloc, d)?;
+                let left = Box::new(alloc, first)?;
+                let right = Box::new(alloc, second)?;
+                Ok(Test::Or(left, right))
+            }
+        }
+    }
+
+    // A scalar or an element.
+    fn cell(&mut self, alloc: Global, place: &'a Place) -> Result<Cell, Memory>
+        ensures extends { OnOk result (Extends self.old self.new) }
+        ensures variable { IfOk result (λ c. Resolves var_at IsNumberBelow self.new c.variable (plain place.now.name)) }
+        ensures subs { IfOk result (λ c. Resolves terms_in AreTermsBelow self.new c.subs (terms_of place.now.subs)) }
+    {
+        let variable = self.variable(&place.name)?;
+        let subs = self.terms(alloc, &place.subs)?;
+        Ok(Cell { variable, subs })
+    }
+
+    // A mark of a DO.
+    fn marking(&mut self, mark: &'a Mark) -> Result<Marking, Memory>
+        ensures extends { OnOk result (Extends self.old self.new) }
+        ensures resolves { IfOk result (λ m. Resolves marking_in IsMarkingBelow self.new m (mark_of mark.now)) }
+    {
+        match mark {
+            Mark::Plain => Ok(Marking::Plain),
+            Mark::Count(n) => Ok(Marking::Count(*n)),
+            Mark::From(x) => Ok(Marking::From(self.variable(x)?)),
+        }
+    }
+
+    // A call of the runtime.
+    fn service(&mut self, alloc: Global, call: &'a RunCall) -> Result<Service, Memory>
+        ensures extends { OnOk result (Extends self.old self.new) }
+        ensures resolves { IfOk result (λ r. Resolves service_in IsServiceBelow self.new r (runtime_of call.now)) }
+    {
+        match call {
+            RunCall::PushWord(place) => Ok(Service::PushWord(self.cell(alloc, place)?)),
+            RunCall::PopWord(place) => Ok(Service::PopWord(self.cell(alloc, place)?)),
+            RunCall::PushArray(x) => Ok(Service::PushArray(self.variable(x)?)),
+            RunCall::PopArray(x) => Ok(Service::PopArray(self.variable(x)?)),
+            RunCall::PushControl(e) => Ok(Service::PushControl(self.term(alloc, e)?)),
+            RunCall::PopControl(x) => Ok(Service::PopControl(self.variable(x)?)),
+            RunCall::Zero(x) => Ok(Service::Zero(self.variable(x)?)),
+            RunCall::Begin(l, s) => {
+                let steps = self.term(alloc, l)?;
+                Ok(Service::Begin(steps, self.term(alloc, s)?))
+            }
+            RunCall::Actions(l, s, n) => {
+                let steps = self.term(alloc, l)?;
+                let snapshots = self.term(alloc, s)?;
+                Ok(Service::Actions(steps, snapshots, self.variable(n)?))
+            }
+            RunCall::Action(l, s, k, a, f, t) => {
+                let steps = self.term(alloc, l)?;
+                let snapshots = self.term(alloc, s)?;
+                let number = self.term(alloc, k)?;
+                let kind = self.variable(a)?;
+                let lower = self.variable(f)?;
+                Ok(Service::Action(steps, snapshots, number, kind, lower, self.variable(t)?))
+            }
+            RunCall::End => Ok(Service::End),
+        }
+    }
+
+    // What a statement does.
+    #[cycle(prepare_steps)]
+    fn task(&mut self, alloc: Global, act: &'a Act) -> Result<Task, Memory>
+        ensures extends { OnOk result (Extends self.old self.new) }
+        ensures resolves { IfOk result (λ t. Resolves task_in IsTaskBelow self.new t (act_of act.now)) }
+    {
+        match act {
+            Act::Assign(place, e) => {
+                let cell = self.cell(alloc, place)?;
+                Ok(Task::Assign(cell, self.term(alloc, e)?))
+            }
+            Act::If(c, a, b) => {
+                let test = self.test(alloc, c)?;
+                let first = self.steps(alloc, a)?;
+                Ok(Task::If(test, first, self.steps(alloc, b)?))
+            }
+            Act::Loop(x, a, b, c, body, mark) => {
+                let variable = self.variable(x)?;
+                let first = self.term(alloc, a)?;
+                let last = self.term(alloc, b)?;
+                let by = self.term(alloc, c)?;
+                let inner = self.steps(alloc, body)?;
+                let bounds = Bounds { first, last, by };
+                Ok(Task::Loop(variable, bounds, inner, self.marking(mark)?))
+            }
+            Act::While(c, body) => {
+                let test = self.test(alloc, c)?;
+                Ok(Task::While(test, self.steps(alloc, body)?))
+            }
+            Act::Call(name, actuals) => {
+                let unit = name.copy(alloc)?;
+                Ok(Task::Call(unit, self.terms(alloc, actuals)?))
+            }
+            Act::Run(call) => Ok(Task::Run(self.service(alloc, call)?)),
+        }
+    }
+
+    /// Statements in order.
+    #[cycle(prepare_steps)]
+    pub fn steps(&mut self, alloc: Global, stmts: &'a Stmts) -> Result<Steps, Memory>
+        ensures extends { OnOk result (Extends self.old self.new) }
+        ensures resolves { IfOk result (λ all. Resolves steps_in AreStepsBelow self.new all (code_of stmts.now)) }
+    {
+        let mut made = Steps::Empty;
+        let mut current = stmts;
+        while let Stmts::More(first, rest) = current {
+            let task = self.task(alloc, &first.act)?;
+            let step = Step {
+                line: first.line,
+                task,
+            };
+            made = Steps::More(Box::new(alloc, step)?, Box::new(alloc, made)?);
+            current = rest;
+        }
+        let all = made.turned();
+        Ok(all)
+    }
+}

@@ -1,0 +1,61 @@
+//! What a variable holds.
+
+ghost use Rattle.std.specs.Prelude.{◌≡◌, ◌<◌, ◌∷◌, [], pos, length, replicate, slice_index_or, IfOk};
+ghost use Rattle.adj_meaning.specs.Trap.{index, or_trap};
+ghost use Rattle.adj_meaning.specs.Store.{within, cell_of};
+ghost use Rattle.adj_frame.specs.Framed.{result_of, slot_shape, IsSlot};
+
+use adj_tree::Trap;
+
+/// Rows, columns and cells, column by column. A scalar has no rows, no columns and one cell, a list no columns.
+#[derive(Drop)]
+pub struct Slot {
+    pub rows: usize,
+    pub cols: usize,
+    pub cells: Vec<i64>,
+}
+
+// A subscript that lies within its extent, counted from 0.
+fn within(subscript: i64, extent: usize) -> Option<usize>
+    ensures { result ≡ within subscript extent }
+{
+    match usize::try_from(subscript) {
+        Ok(i) if i > 0 && i <= extent => Some(i - 1),
+        _ => None,
+    }
+}
+
+impl Slot {
+    /// The value of a scalar.
+    pub fn first(&self) -> i64
+        requires { IsSlot self.now }
+        ensures { result ≡ slice_index_or self.now.cells.items 0 (pos 0) }
+    {
+        self.cells[0]
+    }
+
+    /// The cell of one subscript.
+    pub fn in_list(&self, row: i64) -> Result<usize, Trap>
+        ensures { result_of result ≡ or_trap index (cell_of (slot_shape self.now) (row ∷ [])) }
+    {
+        within(row, self.rows).ok_or(Trap::Index)
+    }
+
+    /// The cell of two subscripts.
+    pub fn in_table(&self, row: i64, column: i64) -> Result<usize, Trap>
+        requires { IsSlot self.now }
+        ensures { result_of result ≡ or_trap index (cell_of (slot_shape self.now) (row ∷ column ∷ [])) }
+    {
+        let (Some(i), Some(j)) = (within(row, self.rows), within(column, self.cols)) else {
+            return Err(Trap::Index);
+        };
+        Ok(i + j * self.rows)
+    }
+    /// Puts 0 into each cell.
+    pub fn clear(&mut self)
+        ensures shape { slot_shape self.new ≡ slot_shape self.old }
+        ensures cells { self.new.cells.items ≡ replicate (length self.old.cells.items) (pos 0) }
+    {
+        self.cells.fill(0);
+    }
+}

@@ -1,8 +1,0 @@
-//! A law of slots and stores.
-
-ghost use Rattle.adj_interp.specs.Shown.{ShownIsSeen};
-
-/// Where slots show a store, what is evaluated in the one is evaluated alike in the other.
-pub fn shown_is_seen()
-    ensures seen { ShownIsSeen }
-{}
