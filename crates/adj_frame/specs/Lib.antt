@@ -4,3 +4,4 @@ pub mod Instructed
 pub mod Numbered
 pub mod Framed
 pub mod Shown
+pub mod Called

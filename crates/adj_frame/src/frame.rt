@@ -57,7 +57,7 @@ impl<'a> Frame<'a> {
 
     /// The cell that subscripts of a variable name.
     #[cycle(value)]
-    fn cell(&self, i: usize, subs: &Terms) -> Result<usize, Trap>
+    pub(crate) fn cell(&self, i: usize, subs: &Terms) -> Result<usize, Trap>
         requires framed { IsFrame self.now.names.now self.now.slots.items }
         requires there { i < length self.now.slots.items }
         requires below { AreTermsBelow (length self.now.slots.items) subs.now }

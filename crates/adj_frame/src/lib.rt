@@ -6,18 +6,26 @@
 //! tree stands for its tree, and an expression has in the slots the value that it has in the store that they show.
 #![tactic(auto)]
 
+mod actual;
 mod arithmetic;
+mod entry;
 mod frame;
 mod laws;
+mod layout;
 mod numbering;
 mod prepare;
+mod routine;
 mod slot;
 mod step;
 mod term;
 
+pub use actual::Actual;
+pub use entry::Unfit;
 pub use frame::Frame;
 pub use laws::shown_is_seen;
+pub use layout::{Bound, Layout};
 pub use numbering::Numbering;
+pub use routine::Routine;
 pub use slot::Slot;
 pub use step::{Bounds, Cell, Marking, Service, Step, Steps, Task};
 pub use term::{Term, Terms, Test};

@@ -1,11 +1,11 @@
 //! What a variable holds.
 
-ghost use Rattle.std.specs.Prelude.{◌≡◌, ◌<◌, ◌∷◌, [], pos, length, replicate, slice_index_or, IfOk};
+ghost use Rattle.std.specs.Prelude.{◌≡◌, ◌<◌, ◌∷◌, [], pos, length, replicate, slice_index_or, IfOk, OnOk};
 ghost use Rattle.adj_meaning.specs.Trap.{index, or_trap};
 ghost use Rattle.adj_meaning.specs.Store.{within, cell_of};
 ghost use Rattle.adj_frame.specs.Framed.{result_of, slot_shape, IsSlot};
 
-use adj_tree::Trap;
+use adj_tree::{Memory, Trap};
 
 /// Rows, columns and cells, column by column. A scalar has no rows, no columns and one cell, a list no columns.
 #[derive(Drop)]
@@ -51,6 +51,33 @@ impl Slot {
         };
         Ok(i + j * self.rows)
     }
+
+    /// The same slot once more.
+    pub(crate) fn copy(&self) -> Result<Slot, Memory>
+        ensures shape { IfOk result (λ v. slot_shape v ≡ slot_shape self.now) }
+        ensures cells { IfOk result (λ v. v.cells.items ≡ self.now.cells.items) }
+    {
+        let cells = self.cells.clone()?;
+        Ok(Slot {
+            rows: self.rows,
+            cols: self.cols,
+            cells,
+        })
+    }
+
+    /// Takes the cells of another slot, where there are as many.
+    pub(crate) fn take(&mut self, other: &Slot) -> Result<(), Memory>
+        ensures shape { slot_shape self.new ≡ slot_shape self.old }
+        ensures count { length self.new.cells.items ≡ length self.old.cells.items }
+        ensures cells { OnOk result (self.new.cells.items ≡ other.now.cells.items) }
+    {
+        if self.cells.len() != other.cells.len() {
+            return Err(Memory);
+        }
+        self.cells.copy_from_slice(other.cells.as_slice());
+        Ok(())
+    }
+
     /// Puts 0 into each cell.
     pub fn clear(&mut self)
         ensures shape { slot_shape self.new ≡ slot_shape self.old }
