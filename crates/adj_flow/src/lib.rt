@@ -6,10 +6,18 @@
 
 mod outline;
 mod part;
+mod row;
+mod rows;
 mod standing;
+mod table;
+mod units;
 mod way;
 
 pub use outline::Outline;
 pub use part::taking_part;
+pub use row::Part;
+pub use rows::parts;
 pub use standing::{Place, Standing};
+pub use table::Numbers;
+pub use units::Flow;
 pub use way::{Deed, Point, Way};

@@ -1,0 +1,38 @@
+-- A unit's row, and those of the units that are left.
+use Rattle.std.proofs.Common.{◌≡◌, ◌+◌, ◌++◌, ◌∷◌, [], suc, drop, length, map, ap, sym, ◌∙◌, arith}
+use Rattle.std.specs.Prelude.{slice_index_or}
+use Rattle.std.proofs.lemmas.List.{append_assoc, map-append, length-map, get_or_default}
+use Rattle.std.proofs.Math.ListN.{get_or-map}
+use Rattle.adj_tree.specs.View.{procedure_of, code_of}
+use Rattle.adj_transpose.specs.Marks.{behind}
+use Rattle.adj_facts.specs.Parts.{part, parts_from}
+use Rattle.adj_flow.specs.Rows.{row_of, row_at, row_in}
+use Rattle.adj_flow.proofs.Stepping.{drop_mapped}
+use Rattle.adj_flow.proofs.rows.parts.Goals as goal
+
+pub loop-number-preserved : goal.loop-number-preserved
+loop-number-preserved c =
+    let ps = map procedure_of c.args.units.now in
+    let vs = c.args.variables.now in
+    let vss = map (λ b. b.now) c.args.variables.now in
+    let n = c.loop-number.number in
+    let u = c.index-units-number.result in
+    let i = length c.loop-number.outline.statements.items in
+    let t = c.args.count in
+    let g = part c.args.count c.loop-number.number (length c.loop-number.outline.statements.items) (procedure_of c.index-units-number.result) in
+    let rest = drop (c.loop-number.number + 1) (map procedure_of c.args.units.now) in
+    let d : drop c.loop-number.number (map procedure_of c.args.units.now) ≡ procedure_of c.index-units-number.result ∷ drop (c.loop-number.number + 1) (map procedure_of c.args.units.now) = drop_mapped procedure_of c.args.units.now n u c.loop-number-test.true c.index-units-number.is in
+    let k : c.loop-number.number + 1 ≡ suc c.loop-number.number = omega arith in
+    let v : c.index-variables-number.result.now ≡ slice_index_or (map (λ b. b.now) c.args.variables.now) c.loop-number.number [] =
+    sym (get_or_default vss n [] c.index-variables-number.result.now (omega (arith, length-map vs (λ b. b.now), c.requires.variables, c.loop-number-test.true)) ∙ get_or-map (λ b. b.now) vs n c.index-variables-number.result ∙ ap (λ z. z.now) (sym c.index-variables-number.is)) in
+    let r : row_of c.in_ok-part.part ≡ row_in (map (λ b. b.now) c.args.variables.now) (part c.args.count c.loop-number.number (length c.loop-number.outline.statements.items) (procedure_of c.index-units-number.result)) = c.in_ok-part.ensures.row ∙ ap (λ z. row_at z g) v in
+    let p : map row_of c.push.new.self.items ≡ map row_of c.loop-number.parts.items ++ row_of c.in_ok-part.part ∷ [] = ap (map row_of) c.in_ok-push.ensures.items ∙ map-append row_of c.loop-number.parts.items (c.in_ok-part.part ∷ []) in
+    record {
+      none = c.in_ok-part.ensures.ways;
+      rows =
+          (λ j. p j ++ map (row_in vss) (parts_from t (k j) (c.in_ok-part.ensures.statements j) rest))
+          ∙ append_assoc (map row_of c.loop-number.parts.items) (row_of c.in_ok-part.part ∷ []) (map (row_in vss) (parts_from t (suc n) (behind i (code_of u.body)) rest))
+          ∙ ap (λ z. map row_of c.loop-number.parts.items ++ z ∷ map (row_in vss) (parts_from t (suc n) (behind i (code_of u.body)) rest)) r
+          ∙ ap (λ z. map row_of c.loop-number.parts.items ++ map (row_in vss) (parts_from t n i z)) (sym d)
+          ∙ c.loop-number.invariant.rows;
+    }

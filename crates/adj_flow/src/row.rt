@@ -1,0 +1,35 @@
+//! A unit as the analyses see it.
+
+ghost use Rattle.std.specs.Prelude.{◌≡◌, ℕ, List};
+ghost use Rattle.adj_flow.specs.Table.{value_of};
+ghost use Rattle.adj_flow.specs.Places.{place_from};
+
+use crate::standing::Standing;
+use crate::table::Numbers;
+use crate::way::Way;
+use adj_tree::{Name, NameList, Unit};
+
+/// A unit with the numbers of itself, of its first statement and of its points of entry and end; with its statements and ways;
+/// and with its variables and their places among them.
+#[derive(Drop)]
+pub struct Part<'a> {
+    pub number: usize,
+    pub unit: &'a Unit,
+    pub first: usize,
+    pub entry: usize,
+    pub end: usize,
+    pub statements: Vec<Standing<'a>>,
+    pub ways: Vec<Way<'a>>,
+    pub variables: &'a NameList,
+    pub places: Numbers<'a>,
+    pub ghost known: { (x : List ℕ) → value_of x places ≡ place_from 0 variables.now x },
+}
+
+impl Part<'_> {
+    /// The place of a variable.
+    pub fn place(&self, name: &Name) -> Option<usize>
+        ensures place { result ≡ place_from 0 self.now.variables.now name.now }
+    {
+        self.places.get(name)
+    }
+}

@@ -1,0 +1,49 @@
+//! Names looked up in constant time.
+
+ghost use Rattle.std.specs.Prelude.{◌≡◌, [], ℕ, List, map, OnOk};
+ghost use Rattle.adj_flow.specs.Table.{value_of, with_value};
+
+use adj_tree::{Memory, Name};
+use indexmap::IndexMap;
+use std::alloc::Global;
+use std::marker::Model;
+
+/// A number for each of some different names, seen as their list in the order in which they were added.
+#[derive(Drop)]
+pub struct Numbers<'a> {
+    numbers: IndexMap<&'a [u8], usize>,
+}
+
+impl<'a> Model for Numbers<'a> {
+    ghost Value = { List (List ℕ × ℕ) };
+
+    ghost view = { λ s. map (λ e. (e.0.now, e.1)) s.numbers.entries };
+}
+
+impl<'a> Numbers<'a> {
+    /// No names.
+    pub fn new(alloc: Global) -> Numbers<'a>
+        ensures empty { result ≡ [] }
+    {
+        Numbers {
+            numbers: IndexMap::new(alloc),
+        }
+    }
+
+    /// The number of a name.
+    pub fn get(&self, name: &Name) -> Option<usize>
+        ensures number { result ≡ value_of name.now self.now }
+    {
+        self.numbers.get(name.bytes()).copied()
+    }
+
+    /// Adds a number where the name has none.
+    pub fn add(&mut self, name: &'a Name, number: usize) -> Result<(), Memory>
+        ensures added { OnOk result (self.new ≡ with_value self.old name.now number) }
+    {
+        if self.get(name).is_none() {
+            self.numbers.insert(name.bytes(), number)?;
+        }
+        Ok(())
+    }
+}

@@ -1,0 +1,113 @@
+//! What the analyses go over: all units of a program, and which of them take part.
+
+ghost use Rattle.std.specs.Prelude.{◌≡◌, ◌↔◌, ◌+◌, ◌<◌, ◌≤◌, ◌^◌, ℕ, List, [], All, Contains, IfOk, IsTrue, OnOk, length, map};
+ghost use Rattle.adj_tree.specs.View.{code_of, procedure_of};
+ghost use Rattle.adj_transpose.specs.Marks.{behind};
+ghost use Rattle.adj_facts.specs.Parts as spec;
+ghost use Rattle.adj_facts.specs.Parts.{statements_in};
+ghost use Rattle.adj_facts.specs.Problem.{TakesPart};
+ghost use Rattle.adj_reach.specs.Edges.{flag};
+ghost use Rattle.adj_flow.specs.Table.{value_of};
+ghost use Rattle.adj_flow.specs.Places.{place_from};
+ghost use Rattle.adj_flow.specs.Rows.{row_of, rows};
+
+use crate::outline::{Outline, add_list};
+use crate::part::taking_part;
+use crate::row::Part;
+use crate::rows::parts;
+use crate::standing::Place;
+use crate::table::Numbers;
+use crate::way::{Deed, Point};
+use adj_tree::{Flags, Memory, NameList, Unit};
+use std::alloc::Global;
+
+/// The units of a program with their numbers by name, which of them take part, and a number that no unit has more variables than.
+#[derive(Drop)]
+pub struct Flow<'a> {
+    pub parts: Vec<Part<'a>>,
+    pub numbers: Numbers<'a>,
+    pub taking: Flags,
+    pub width: usize,
+}
+
+// Adds the statements of a unit.
+fn add_statements<'a>(outline: &mut Outline<'a>, unit: &'a Unit) -> Result<(), Memory>
+    ensures count { OnOk result (length outline.new.statements.items ≡ behind (length outline.old.statements.items) (code_of unit.now.body)) }
+{
+    let deed = Deed::Passing;
+    add_list(
+        outline,
+        Place::Outermost,
+        Point::At(0),
+        Point::At(0),
+        deed,
+        &unit.body,
+    )?;
+    Ok(())
+}
+
+// How many statements the units have.
+fn count(alloc: Global, units: &[Unit]) -> Result<usize, Memory>
+    ensures count { IfOk result (λ n. n ≡ statements_in 0 (map procedure_of units.now)) }
+{
+    let mut outline = Outline {
+        statements: Vec::new(alloc),
+        ways: Vec::new(alloc),
+    };
+    for unit in units {
+        add_statements(&mut outline, unit)?;
+    }
+    Ok(outline.statements.len())
+}
+
+// The number of the first unit of each name.
+fn numbers<'a>(alloc: Global, units: &'a [Unit]) -> Result<Numbers<'a>, Memory>
+    ensures numbers { IfOk result (λ r. (x : List ℕ) → value_of x r ≡ place_from 0 (map (λ u. u.name) units.now) x) }
+{
+    let mut numbers = Numbers::new(alloc);
+    for (number, unit) in units.iter().enumerate() {
+        numbers.add(&unit.name, number)?;
+    }
+    Ok(numbers)
+}
+
+// The most variables that a unit has.
+fn width(variables: &[&NameList]) -> usize
+    ensures width { All (λ v. length v.now ≤ result) variables.now }
+{
+    let mut width = 0;
+    for names in variables {
+        width = width.max(names.as_slice().len());
+    }
+    width
+}
+
+impl<'a> Flow<'a> {
+    /// The units, whose variables are these, where the unit of the number `head` is the head.
+    pub fn new(
+        alloc: Global,
+        units: &'a [Unit],
+        variables: &[&'a NameList],
+        head: usize,
+    ) -> Result<Flow<'a>, Memory>
+        requires variables { length variables.now ≡ length units.now }
+        requires room { length units.now + 1 < 2 ^ 64 }
+        requires head { head < length units.now }
+        ensures rows { IfOk result (λ f. map row_of f.parts.items ≡ rows (map (λ b. b.now) variables.now) (map procedure_of units.now)) }
+        ensures numbers { IfOk result (λ f. (x : List ℕ) → value_of x f.numbers ≡ place_from 0 (map (λ u. u.name) units.now) x) }
+        ensures taking { IfOk result (λ f. (g : spec.Part) → Contains (spec.parts (map procedure_of units.now)) g →
+            (IsTrue (flag f.taking g.number) ↔ TakesPart (record { units = map procedure_of units.now; head = head; vars = []; outvars = [] }) g)) }
+        ensures width { IfOk result (λ f. All (λ v. length v.now ≤ f.width) variables.now) }
+    {
+        let taking = taking_part(alloc, units, head)?;
+        let count = count(alloc, units)?;
+        let parts = parts(alloc, units, variables, count)?;
+        let numbers = numbers(alloc, units)?;
+        Ok(Flow {
+            parts,
+            numbers,
+            taking,
+            width: width(variables),
+        })
+    }
+}
