@@ -1,0 +1,21 @@
+-- What the numbers reach is what activity is to be.
+use Rattle.std.specs.Prelude.{List, ℕ, ◌↔◌, Bool, IsTrue}
+use Rattle.adj_facts.specs.Problem.{Problem}
+use Rattle.adj_facts.specs.Activity.{IsActivity}
+use Rattle.adj_facts.specs.Rules.{Scope, Covers}
+use Rattle.adj_reach.specs.Edges.{ReachedFrom, ReachedBack, flag}
+use Rattle.adj_activity.specs.Nodes.{IsWide}
+use Rattle.adj_activity.specs.Edges.{flow_edges, entry_nodes, end_nodes, shadow_edges, shadow_nodes, adjoint_edges, adjoint_nodes}
+use Rattle.adj_activity.specs.Told.{told, activity_told}
+
+-- the flags are those of what the edges of each rule reach from where it begins
+pub record AreFlags (k : Problem) (o : Scope) (w : ℕ) (varied useful shadowed adjointed : List Bool) : Type 0 where
+  pub varied_by : (m : ℕ) → IsTrue (flag varied m) ↔ ReachedFrom (flow_edges k o w) (entry_nodes k o w) m
+  pub useful_by : (m : ℕ) → IsTrue (flag useful m) ↔ ReachedBack (flow_edges k o w) (end_nodes k o w) m
+  pub shadowed_by : (m : ℕ) → IsTrue (flag shadowed m) ↔ ReachedFrom (shadow_edges k o w (told varied o w)) (shadow_nodes k o w (told varied o w) (told useful o w)) m
+  pub adjointed_by : (m : ℕ) → IsTrue (flag adjointed m) ↔ ReachedFrom (adjoint_edges k o) (adjoint_nodes (activity_told varied useful shadowed adjointed o w) o) m
+
+-- then what they tell is the activity
+abbrev pub ActivityIsTold : Type 0
+ActivityIsTold = (k : Problem) (o : Scope) (w : ℕ) (varied useful shadowed adjointed : List Bool) → Covers k o → IsWide k o w → AreFlags k o w varied useful shadowed adjointed →
+    IsActivity k (activity_told varied useful shadowed adjointed o w)

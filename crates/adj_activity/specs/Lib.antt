@@ -1,0 +1,5 @@
+-- the definitions of the crate, a module a subject
+pub mod Nodes
+pub mod Edges
+pub mod Told
+pub mod Laws

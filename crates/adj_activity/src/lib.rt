@@ -1,0 +1,13 @@
+//! Activity: which variables are varied and useful, which have a shadow, and which statements an adjoint.
+//!
+//! Variables at points, variables of units, and statements and units are nodes with numbers; edges between them are the steps of
+//! each rule (`specs/Edges.antt`). The crate stands on the definitions of `adj_facts` and on `adj_reach`; the layers above use
+//! that what these edges reach is exactly the activity.
+#![tactic(auto)]
+
+ghost use Rattle.adj_activity.specs.Laws.{ActivityIsTold};
+
+/// Flags of what the edges of each rule reach from where it begins tell exactly the activity.
+pub fn activity_law()
+    ensures told { ActivityIsTold }
+{}
