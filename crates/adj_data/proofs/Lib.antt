@@ -5,3 +5,4 @@ mod Found
 mod Elements
 mod Declarations
 mod Extents
+pub mod Fitted

@@ -3,4 +3,5 @@ pub mod Words
 pub mod Entries
 pub mod Faults
 pub mod Given
+pub mod Fitting
 pub mod Printed

@@ -2,13 +2,14 @@
 //!
 //! `values` gives the input of a unit that data are, or exactly their first fault; `print_values` writes values as lines.
 //! docs/DATA.md has the rules. The crate cuts lines by `adj_fixed`, and its extents and slots are those of `adj_meaning`.
-//! The layer above uses: the values are the input that is given, and a fault is the first one.
+//! The layer above uses: the values are the input that is given, which fits the unit (`data_fit`), and a fault is the first one.
 #![tactic(auto)]
 
 mod data_error;
 mod declared;
 mod entries;
 mod input;
+mod laws;
 mod name_set;
 mod numbers;
 mod print;
@@ -19,4 +20,5 @@ mod words;
 
 pub use data_error::DataError;
 pub use input::values;
+pub use laws::data_fit;
 pub use print::print_values;

@@ -1,0 +1,26 @@
+-- Fitting: data without a fault are an input that fits. (docs/DATA.md, "Entries")
+use Rattle.std.specs.Prelude.{◌≡◌, ℕ, ◌≤◌, List, [], length, None, true}
+use Rattle.std.specs.List.{All}
+use Rattle.adj_tree.specs.Code.{plain, Extent, fixed, given, Procedure}
+use Rattle.adj_meaning.specs.Numbers.{words}
+use Rattle.adj_meaning.specs.Units.{declared, fits}
+use Rattle.adj_data.specs.Faults.{stands_in, data_fault}
+use Rattle.adj_data.specs.Given.{input_given}
+
+-- the extents that a unit declares for a variable
+abbrev pub extents_in : Procedure → List ℕ → List Extent
+extents_in u x = declared u.declarations (plain x)
+
+-- an extent that is a number or a scalar dummy
+abbrev pub IsSize : Procedure → Extent → Type 0
+IsSize u (fixed z) = Unit {0}
+IsSize u (given x) = (stands_in x u.dummies ≡ true) × (extents_in u x ≡ [])
+
+-- each variable has at most two extents, and each of these is a number or a scalar dummy: so it is in every program that was checked
+pub record IsSized (u : Procedure) : Type 0 where
+  pub few : (x : List ℕ) → length (extents_in u x) ≤ 2
+  pub sizes : (x : List ℕ) → All (IsSize u) (extents_in u x)
+
+-- the input that data without a fault are fits the unit
+abbrev pub DataFit : Type 0
+DataFit = (line : ℕ) (bytes : List ℕ) (u : Procedure) → IsSized u → data_fault line bytes u ≡ None → fits words u (input_given line bytes u) ≡ true
