@@ -14,8 +14,6 @@ mod name_set;
 mod numbers;
 mod print;
 mod slots;
-#[cfg(test)]
-mod tests;
 mod words;
 
 pub use data_error::DataError;

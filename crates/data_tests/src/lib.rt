@@ -1,0 +1,7 @@
+//! Tests of the data of a run, by the public calls of `adj_data` alone.
+//!
+//! `entries` reads data and writes values, and has a table of their faults. No code stands on this crate.
+#![tactic(auto)]
+
+#[cfg(test)]
+mod entries;
