@@ -1,5 +1,4 @@
 -- The proofs that what is emitted for a kernel is an adjoint of the program.
-pub mod FaultLines
 pub mod Heaviest
 pub mod Directions
 pub mod Kernels

@@ -14,6 +14,7 @@ use Rattle.adj_transpose.specs.MarkedProgram.{shadows_behind}
 use Rattle.adj_transpose.specs.MarkedAdjoint.{shadow_flags}
 use Rattle.adj_names.specs.Fault.{run_rules}
 use Rattle.adj_names.specs.HeadFaults.{unit_number}
+use Rattle.adj_names.proofs.Lines.{sound_lines}
 use Rattle.adj_reverse.specs.Reversals.{marks_in, MarkedRun}
 use Rattle.adj_reverse.specs.Marking.{full_marks}
 use Rattle.adj_reverse.specs.Program.{adjoint_names, all_units}
@@ -31,7 +32,6 @@ use Rattle.adj_checked.proofs.Premises.{checked_is_adjoint}
 use Rattle.adj_emitted.proofs.Programs.{emitted_written}
 use Rattle.adj_emitted.proofs.SoundPrograms.{emitted_sound}
 use Rattle.adj_accepted.specs.Accepted.{emitted_for, KernelsAdjoint, EmittedIsAdjoint, EmittedIsWritten, EmittedIsSound}
-use Rattle.adj_accepted.proofs.FaultLines.{sound_lines}
 use Rattle.adj_accepted.proofs.Heaviest.{heaviest_in, all_weigh}
 use Rattle.adj_accepted.proofs.Directions.{direction_fits}
 use Rattle.adj_accepted.proofs.Kernels.{kernel_checked, numbered, found_name, IsKernelUnit, becomes}

@@ -3,3 +3,4 @@ pub mod Fresh
 pub mod Order
 pub mod Sound
 pub mod Samples
+pub mod Lines

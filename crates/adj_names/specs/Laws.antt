@@ -1,6 +1,7 @@
 -- What holds of faults and of names.
 use Rattle.std.specs.Prelude.{◌≡◌, ◌⊎◌, ℕ, List, [], ◌∷◌, map, false, Some, None}
 use Rattle.adj_tree.specs.Code.{Procedure}
+use Rattle.adj_tree.specs.Lines.{unlined}
 use Rattle.adj_tree.specs.declared.fault.Refusal.{Refusal}
 use Rattle.adj_names.specs.Fresh.{has_name, candidate, fresh}
 use Rattle.adj_names.specs.Variables.{Name, places, variables}
@@ -41,6 +42,10 @@ pub record HasNone (m : Rules) (ps : List Procedure) : Type 0 where
 
 abbrev pub SoundHasNone : Type 0
 SoundHasNone = (m : Rules) (ps : List Procedure) → IsSound m ps → HasNone m ps
+
+-- of programs that are the same up to line numbers both have a fault, or neither
+abbrev pub SoundByLines : Type 0
+SoundByLines = (m : Rules) (ps qs : List Procedure) → unlined ps ≡ unlined qs → IsSound m ps → IsSound m qs
 
 -- ---- variables
 

@@ -1,13 +1,15 @@
 //! Laws of faults and of names, each the contract of an empty function.
 
-ghost use Rattle.adj_names.specs.Laws.{FirstIsFirst, NoFirst, FirstOfSame, SoundHasNone, VariablesApart, VariablesStand, FreshIsFree, FreshAsWanted, FreshNumbered};
+ghost use Rattle.adj_names.specs.Laws.{FirstIsFirst, NoFirst, FirstOfSame, SoundHasNone, SoundByLines, VariablesApart, VariablesStand, FreshIsFree, FreshAsWanted, FreshNumbered};
 
-/// The first of some faults is before all others, however they are listed; and what has none is free of faults.
+/// The first of some faults is before all others, however they are listed; and what has none is free of faults. Whether a program
+/// has one doesn't depend on its line numbers.
 pub fn fault_laws()
     ensures is_first { FirstIsFirst }
     ensures no_first { NoFirst }
     ensures of_same { FirstOfSame }
     ensures sound { SoundHasNone }
+    ensures lines { SoundByLines }
 {}
 
 /// The variables of a unit are apart, and just the names that stand in it.

@@ -1,5 +1,6 @@
 use Rattle.adj_names.proofs.Order.{first_is_first, no_first, first_of_same}
 use Rattle.adj_names.proofs.Sound.{sound_has_none}
+use Rattle.adj_names.proofs.Lines.{sound_lines}
 use Rattle.adj_names.proofs.laws.fault_laws.Goals as goal
 
 pub returns-clause-is_first : goal.returns-clause-is_first
@@ -13,3 +14,6 @@ returns-clause-of_same c = first_of_same
 
 pub returns-clause-sound : goal.returns-clause-sound
 returns-clause-sound c = sound_has_none
+
+pub returns-clause-lines : goal.returns-clause-lines
+returns-clause-lines c = sound_lines
