@@ -1,5 +1,5 @@
 -- A program without a fault in a text that a user writes has none where it is run: the rules of runs refuse less.
-use Rattle.std.proofs.Common.{◌≡◌, ℕ, suc, nat_lt, Bool, true, false, List, [], ◌∷◌, ◌++◌, refl, ap, ap₂, ◌∙◌, arith, Option, Some, None, if◌then◌else◌}
+use Rattle.std.proofs.Common.{◌≡◌, ℕ, suc, nat_lt, Bool, true, false, List, [], ◌∷◌, ◌++◌, refl, ap, ap₂, ◌∙◌, arith, None}
 use Rattle.std.specs.Prelude.{◌&&◌, not}
 use Rattle.std.specs.List.{flat_map}
 use Rattle.std.proofs.lemmas.Bool.Decides.{nat_tests}
@@ -9,9 +9,8 @@ use Rattle.adj_names.specs.Calls.{act_chain, chain_from}
 use Rattle.adj_names.specs.CallFaults.{call_faults}
 use Rattle.adj_names.specs.ChainFaults.{begins_chain, cycles, long_chains, or_else, chain_faults}
 use Rattle.adj_names.specs.Check.{IsSound}
-use Rattle.adj_names.specs.Fault.{Rules, source_rules, run_rules, fault, passed, faults_if, first_of}
-use Rattle.adj_names.specs.Laws.{HasNone}
-use Rattle.adj_names.specs.NameFaults.{undeclared, declared_twice, taken_in, misused, has_rank, bad_extents, reserved_variables, calls_runtime, runtime_calls, too_many_variables, faults_of_names, name_faults}
+use Rattle.adj_names.specs.Fault.{source_rules, run_rules, fault, passed, faults_if, first_of}
+use Rattle.adj_names.specs.NameFaults.{undeclared, declared_twice, taken_in, misused, has_rank, bad_extents, reserved_variables, calls_runtime, runtime_calls, faults_of_names, name_faults}
 use Rattle.adj_names.specs.Statements.{At, statements}
 use Rattle.adj_names.specs.UnitFaults.{unit_faults}
 use Rattle.adj_names.specs.WriteFaults.{write_faults}

@@ -1,5 +1,5 @@
 -- What tables of a unit say.
-use Rattle.std.proofs.Common.{◌≡◌, ℕ, Bool, true, false, List, [], ◌∷◌, map, length, refl, ap, ◌∙◌, Some, if◌then◌else◌}
+use Rattle.std.proofs.Common.{◌≡◌, Bool, true, false, List, [], ◌∷◌, map, length, refl, ap, ◌∙◌, Some, if◌then◌else◌}
 use Rattle.std.specs.Prelude.{◌||◌, is_some, unwrap_or, fold}
 use Rattle.adj_tree.specs.Code.{plain, name_eq, Declaration, Procedure}
 use Rattle.adj_meaning.specs.Units.{declared}

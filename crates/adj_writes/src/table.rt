@@ -1,6 +1,6 @@
 //! Names looked up in constant time.
 
-ghost use Rattle.std.specs.Prelude.{◌≡◌, [], ℕ, List, map, OnOk};
+ghost use Rattle.std.specs.Prelude.{◌≡◌, [], ℕ, List, map, OnErr, OnOk};
 ghost use Rattle.adj_writes.specs.Table.{value_of, with_value};
 
 use adj_tree::{Memory, Name};
@@ -39,6 +39,7 @@ impl<'a> Numbers<'a> {
 
     /// Adds a number where the name has none.
     pub fn add(&mut self, name: &'a Name, number: usize) -> Result<(), Memory>
+        ensures unchanged { OnErr result (self.new ≡ self.old) }
         ensures added { OnOk result (self.new ≡ with_value self.old name.now number) }
     {
         if self.get(name).is_none() {
