@@ -5,7 +5,7 @@ use Rattle.std.specs.Option.{option_or}
 use Rattle.adj_tree.specs.Code.{name_eq}
 use Rattle.adj_tree.proofs.Names.{name_same}
 use Rattle.adj_flow.specs.Places.{place_from}
-use Rattle.adj_flow.specs.Table.{value_of, with_value}
+use Rattle.adj_writes.specs.Table.{value_of, with_value}
 
 -- the number of a name among numbers with one more
 value_of-behind : (x y : List ℕ) (n : ℕ) (es : List (List ℕ × ℕ)) → value_of x (es ++ (y, n) ∷ []) ≡ option_or (value_of x es) (if name_eq x y then Some n else None)

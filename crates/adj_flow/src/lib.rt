@@ -9,7 +9,6 @@ mod part;
 mod row;
 mod rows;
 mod standing;
-mod table;
 mod units;
 mod way;
 
@@ -18,6 +17,5 @@ pub use part::taking_part;
 pub use row::Part;
 pub use rows::parts;
 pub use standing::{Place, Standing};
-pub use table::Numbers;
 pub use units::Flow;
 pub use way::{Deed, Point, Way};

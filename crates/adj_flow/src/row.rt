@@ -1,11 +1,11 @@
 //! A unit as the analyses see it.
 
 ghost use Rattle.std.specs.Prelude.{◌≡◌, ℕ, List};
-ghost use Rattle.adj_flow.specs.Table.{value_of};
+ghost use Rattle.adj_writes.specs.Table.{value_of};
 ghost use Rattle.adj_flow.specs.Places.{place_from};
 
 use crate::standing::Standing;
-use crate::table::Numbers;
+use adj_writes::table::Numbers;
 use crate::way::Way;
 use adj_tree::{Name, NameList, Unit};
 

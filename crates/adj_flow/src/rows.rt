@@ -4,14 +4,14 @@ ghost use Rattle.std.specs.Prelude.{◌≡◌, ◌+◌, ◌*◌, ◌<◌, ◌^�
 ghost use Rattle.adj_tree.specs.View.{code_of, procedure_of};
 ghost use Rattle.adj_transpose.specs.Marks.{behind};
 ghost use Rattle.adj_facts.specs.Parts.{part, statements_in};
-ghost use Rattle.adj_flow.specs.Table.{value_of};
+ghost use Rattle.adj_writes.specs.Table.{value_of};
 ghost use Rattle.adj_flow.specs.Places.{place_from};
 ghost use Rattle.adj_flow.specs.Rows.{row_of, row_at, rows};
 
 use crate::outline::{Outline, add_list};
 use crate::row::Part;
 use crate::standing::{Place, Standing};
-use crate::table::Numbers;
+use adj_writes::table::Numbers;
 use crate::way::{Deed, Point};
 use adj_tree::{Memory, NameList, Unit};
 use std::alloc::Global;

@@ -7,7 +7,7 @@ ghost use Rattle.adj_facts.specs.Parts as spec;
 ghost use Rattle.adj_facts.specs.Parts.{statements_in};
 ghost use Rattle.adj_facts.specs.Problem.{TakesPart};
 ghost use Rattle.adj_reach.specs.Edges.{flag};
-ghost use Rattle.adj_flow.specs.Table.{value_of};
+ghost use Rattle.adj_writes.specs.Table.{value_of};
 ghost use Rattle.adj_flow.specs.Places.{place_from};
 ghost use Rattle.adj_flow.specs.Rows.{row_of, rows};
 
@@ -16,7 +16,7 @@ use crate::part::taking_part;
 use crate::row::Part;
 use crate::rows::parts;
 use crate::standing::Place;
-use crate::table::Numbers;
+use adj_writes::table::Numbers;
 use crate::way::{Deed, Point};
 use adj_tree::{Flags, Memory, NameList, Unit};
 use std::alloc::Global;

@@ -19,7 +19,8 @@ use Rattle.adj_symbols.specs.Writes.{written_names, writes_one}
 use Rattle.adj_symbols.proofs.Repeats.{with_name-has}
 use Rattle.adj_symbols.proofs.Scopes.{name_comm}
 use Rattle.adj_symbols.proofs.Clashing.{both_ways}
-use Rattle.adj_symbols.proofs.Writing.{has_append, may_write_name}
+use Rattle.adj_writes.proofs.Naming.{has_append}
+use Rattle.adj_symbols.proofs.Writing.{may_write_name}
 
 any_in : (f : Name → Bool) (xs : List Name) (x : Name) → has_name x xs ≡ true → f x ≡ true → list_any f xs ≡ true
 any_in f [] x h e = h

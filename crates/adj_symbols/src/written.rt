@@ -2,17 +2,20 @@
 
 ghost use Rattle.std.specs.Prelude.{◌≡◌, ◌++◌, [], Bool, List, Some, None, map, IfOk, OnOk, MatchOption, if◌then◌else◌};
 ghost use Rattle.adj_tree.specs.Code.{plain};
-ghost use Rattle.adj_tree.specs.View.{term_of, terms_of, runtime_of, act_of, procedure_of};
+ghost use Rattle.adj_tree.specs.View.{term_of, terms_of, act_of, procedure_of};
 ghost use Rattle.adj_meaning.specs.LeastSet.{row_of, least_rows};
 ghost use Rattle.adj_meaning.specs.Written.{write_rule};
 ghost use Rattle.adj_names.specs.Fresh.{has_name};
 ghost use Rattle.adj_names.specs.Variables.{Name};
 ghost use Rattle.adj_names.specs.WriteFaults.{named_by};
-ghost use Rattle.adj_symbols.specs.Writes.{handed_names, changed_names, written_names, names_if, names_seen, writes_one};
+ghost use Rattle.adj_writes.specs.Names.{names_if};
+ghost use Rattle.adj_writes.specs.View.{names_seen};
+ghost use Rattle.adj_symbols.specs.Writes.{handed_names, written_names, writes_one};
 
 use crate::scope::Scope;
 use crate::table::NameSet;
-use adj_tree::{Act, Expr, Exprs, Flags, Memory, Name, RunCall, Unit};
+use adj_tree::{Act, Expr, Exprs, Flags, Memory, Name, Unit};
+use adj_writes::names::add_changed;
 use adj_writes::written_dummies;
 use std::alloc::Global;
 use std::marker::Model;
@@ -96,30 +99,6 @@ fn add_all_handed<'a>(
                 rest = next;
             }
         }
-    }
-    Ok(())
-}
-
-// Adds what a runtime call changes.
-fn add_changed<'a>(call: &'a RunCall, out: &mut Vec<&'a Name>) -> Result<(), Memory>
-    ensures { OnOk result (names_seen out.new.items ≡ names_seen out.old.items ++ changed_names (runtime_of call.now)) }
-{
-    match call {
-        RunCall::PopWord(place) => out.push(&place.name)?,
-        RunCall::PopArray(name)
-        | RunCall::PopControl(name)
-        | RunCall::Zero(name)
-        | RunCall::Actions(_, _, name) => out.push(name)?,
-        RunCall::Action(_, _, _, action, from, to) => {
-            out.push(action)?;
-            out.push(from)?;
-            out.push(to)?;
-        }
-        RunCall::PushWord(_)
-        | RunCall::PushArray(_)
-        | RunCall::PushControl(_)
-        | RunCall::Begin(_, _)
-        | RunCall::End => {}
     }
     Ok(())
 }

@@ -3,13 +3,13 @@
 //! Both are least sets: what a unit writes or reads itself, and the actuals of such dummies of the units that it calls. The
 //! dummies of all units are the nodes of a graph, an edge for each actual leads back to the calling unit, and one search
 //! along the edges finds the set. The crate stands on the trees, on the definitions of both sets in `adj_meaning` and on
-//! `adj_reach`; the layers above use that `written_dummies` and `read_dummies` give exactly these sets, and the list of
-//! statements and the numbers of names that it is made with.
+//! `adj_reach`; the layers above use that `written_dummies` and `read_dummies` give exactly these sets, and what it is
+//! made with: the list of statements, the numbers of names, and the names that a runtime call changes.
 #![tactic(auto)]
 
 mod dummies;
 mod links;
-mod names;
+pub mod names;
 mod sets;
 mod side;
 pub mod statements;

@@ -115,8 +115,8 @@ fn add_looked<'a>(call: &'a RunCall, out: &mut Vec<&'a Name>) -> Result<(), Memo
     }
 }
 
-// Adds what a runtime call changes.
-fn add_changed<'a>(call: &'a RunCall, out: &mut Vec<&'a Name>) -> Result<(), Memory>
+/// Adds what a runtime call changes.
+pub fn add_changed<'a>(call: &'a RunCall, out: &mut Vec<&'a Name>) -> Result<(), Memory>
     ensures added { OnOk result (names_seen out.new.items ≡ names_seen out.old.items ++ changed_names (runtime_of call.now)) }
 {
     match call {

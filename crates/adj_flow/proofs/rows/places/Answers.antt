@@ -2,7 +2,7 @@ use Rattle.std.proofs.Common.{◌≡◌, ℕ, List, ap, sym, ◌∙◌, ◌∷�
 use Rattle.std.specs.Option.{option_or}
 use Rattle.std.proofs.lemmas.List.{drop_more}
 use Rattle.adj_flow.specs.Places.{place_from}
-use Rattle.adj_flow.specs.Table.{value_of}
+use Rattle.adj_writes.specs.Table.{value_of}
 use Rattle.adj_flow.proofs.Placing.{numbers_more, place_more}
 use Rattle.adj_flow.proofs.rows.places.Goals as goal
 

@@ -2,7 +2,7 @@
 use Rattle.std.proofs.Common.{◌≡◌, ℕ, List, drop, map}
 use Rattle.std.specs.Option.{option_or}
 use Rattle.adj_flow.specs.Places.{place_from}
-use Rattle.adj_flow.specs.Table.{value_of}
+use Rattle.adj_writes.specs.Table.{value_of}
 use Rattle.adj_flow.proofs.units.numbers.Given as goal
 
 abbrev pub invariant-loop-number : goal.invariant-loop-number

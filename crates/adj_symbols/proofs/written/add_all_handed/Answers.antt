@@ -1,7 +1,8 @@
 use Rattle.std.proofs.Common.{ap, sym, ◌∙◌, ◌++◌, drop}
 use Rattle.std.proofs.lemmas.List.{append-nil}
 use Rattle.adj_tree.specs.View.{terms_of}
-use Rattle.adj_symbols.specs.Writes.{handed_names, names_seen}
+use Rattle.adj_writes.specs.View.{names_seen}
+use Rattle.adj_symbols.specs.Writes.{handed_names}
 use Rattle.adj_symbols.proofs.Writing.{no_names}
 use Rattle.adj_symbols.proofs.written.add_all_handed.Goals as goal
 
