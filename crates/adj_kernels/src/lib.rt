@@ -1,10 +1,12 @@
 //! The kernel of a program, as code: names, units and programs.
 //!
 //! `names` finds the variables of a unit, `unit` lowers it and declares its locals; `source`, `cutting` and `steps` make units of the
-//! bodies of marked loops, and `program` does all for a program. The crate stands on `adj_norm`, which lowers statements, and on
-//! `adj_symbols` for the dummies that units write; the layers above use that `kernel` gives exactly the kernel of `adj_kernel`.
+//! bodies of marked loops, `program` does all for a program, and `checked` checks what that gives. The crate stands on `adj_norm`,
+//! which lowers statements, and on `adj_symbols` for the dummies that units write; the layers above use that `kernel` gives exactly the
+//! kernel of `adj_kernel`, and `checked_kernel` the same with what is known of it.
 #![tactic(auto)]
 
+mod checked;
 pub mod cutting;
 pub mod handing;
 pub mod marked;
@@ -15,4 +17,5 @@ pub mod source;
 pub mod steps;
 pub mod unit;
 
+pub use checked::checked_kernel;
 pub use program::kernel;
