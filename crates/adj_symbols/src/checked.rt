@@ -113,6 +113,21 @@ impl Checked {
         self.program.units.as_slice().len() < MOST && self.statements < MOST && self.width < MOST
     }
 
+    /// How many statements there are, over all units and at any depth.
+    pub fn statement_count(&self) -> usize
+        requires fits { Fits self.now }
+        ensures count { result ≡ statements_in self.now }
+    {
+        self.statements
+    }
+
+    /// The greatest number of variables of a unit.
+    pub fn width(&self) -> usize
+        ensures width { result ≡ width_of self.now }
+    {
+        self.width
+    }
+
     /// How many points there are.
     fn point_count(&self) -> usize
         requires fits { Fits self.now }
