@@ -22,8 +22,6 @@ mod lowered;
 #[cfg(test)]
 mod names;
 #[cfg(test)]
-mod points;
-#[cfg(test)]
 mod printed;
 #[cfg(test)]
 mod read;
