@@ -5,9 +5,9 @@ ghost use Rattle.adj_writes.specs.Table.{value_of};
 ghost use Rattle.adj_flow.specs.Places.{place_from};
 
 use crate::standing::Standing;
-use adj_writes::table::Numbers;
 use crate::way::Way;
 use adj_tree::{Name, NameList, Unit};
+use adj_writes::table::Numbers;
 
 /// A unit with the numbers of itself, of its first statement and of its points of entry and end; with its statements and ways;
 /// and with its variables and their places among them.

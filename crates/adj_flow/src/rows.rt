@@ -11,9 +11,9 @@ ghost use Rattle.adj_flow.specs.Rows.{row_of, row_at, rows};
 use crate::outline::{Outline, add_list};
 use crate::row::Part;
 use crate::standing::{Place, Standing};
-use adj_writes::table::Numbers;
 use crate::way::{Deed, Point};
 use adj_tree::{Memory, NameList, Unit};
+use adj_writes::table::Numbers;
 use std::alloc::Global;
 use std::mem;
 

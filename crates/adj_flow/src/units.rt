@@ -16,9 +16,9 @@ use crate::part::taking_part;
 use crate::row::Part;
 use crate::rows::parts;
 use crate::standing::Place;
-use adj_writes::table::Numbers;
 use crate::way::{Deed, Point};
 use adj_tree::{Flags, Memory, NameList, Unit};
+use adj_writes::table::Numbers;
 use std::alloc::Global;
 
 /// The units of a program with their numbers by name, which of them take part, and a number that no unit has more variables than.
