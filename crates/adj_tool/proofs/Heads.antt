@@ -1,7 +1,7 @@
 -- The head that is asked for, and what the text of its adjoint is.
-use Rattle.std.proofs.Common.{◌≡◌, ℕ, ◌<◌, List, [], ◌∷◌, length, Option, Some, None, refl, sym, ap, ◌∙◌, subst}
+use Rattle.std.proofs.Common.{arith, ◌≡◌, ℕ, ◌<◌, List, length, Option, Some, None, refl, sym, ap, ◌∙◌, subst}
 use Rattle.std.proofs.lemmas.List.{length-map}
-use Rattle.std.specs.Prelude.{Bool}
+use Rattle.std.specs.Prelude.{Bool, true, false}
 use Rattle.adj_tree.specs.Code.{Procedure}
 use Rattle.adj_tree.specs.View.{procedure_of, procedures_of}
 use Rattle.adj_tree.specs.declared.unit.Program.{Program}
@@ -11,7 +11,7 @@ use Rattle.adj_text.specs.Reads.{Reads}
 use Rattle.adj_text.specs.ReadsAs.{ReadsAs}
 use Rattle.adj_text.specs.Written.{IsWritten}
 use Rattle.adj_text.proofs.TextUnlined.{one_text}
-use Rattle.adj_names.specs.Fault.{source_rules, run_rules, first_of}
+use Rattle.adj_names.specs.Fault.{run_rules, first_of}
 use Rattle.adj_names.specs.HeadFaults.{first_head_fault, faults_of_head, flags_found, unit_number, head_of}
 use Rattle.adj_reverse.specs.Marking.{full_marks}
 use Rattle.adj_reverse.specs.Program.{emitted_program}
@@ -22,8 +22,8 @@ use Rattle.adj_accepted.proofs.Kernels.{kernel_checked, head_within}
 use Rattle.adj_accepted.proofs.Through.{emitted_is_adjoint, is_written, is_sound}
 use Rattle.adj_weave.specs.Shared.{IsCheckedBySome}
 use Rattle.adj_tool.specs.Words.{Request}
-use Rattle.adj_tool.specs.Answer.{Answer, emitted, written}
-use Rattle.adj_tool.specs.Headline.{WritesAdjoint, IsUnit, flags_of}
+use Rattle.adj_tool.specs.Answer.{Answer, emitted, fitted_answer, written}
+use Rattle.adj_tool.specs.Headline.{IsAdjoined, IsUnit, ReadsBack, WritesAdjoint, flags_of}
 
 -- where the head has no fault, it is there
 pub head_there : (ps : List Procedure) (name : List ℕ) (vars outvars : List (List ℕ)) → first_head_fault ps name vars outvars ≡ None → IsUnit ps name
@@ -32,6 +32,9 @@ head_there ps name vars outvars h = go (find_unit ps name) refl h
     go : (o : Option Procedure) → find_unit ps name ≡ o → first_of (faults_of_head o vars outvars) ≡ None → IsUnit ps name
     go None e k = absurd cc
     go (Some u) e k = record { unit = u; found = e }
+
+refused_is_not_done : (n : ℕ) → n ≡ 2 → n ≡ 0 → ⊥
+refused_is_not_done n e k = omega (arith, e, k)
 
 module _ (r : Request) (ps : List Procedure) (h : Head) (sound : first_head_fault ps r.head r.vars r.outvars ≡ None) (is : h ≡ head_of ps r.head r.vars r.outvars) where
   there : IsUnit ps r.head
@@ -59,6 +62,11 @@ module _ (r : Request) (ps : List Procedure) (h : Head) (sound : first_head_faul
 
       outvars_is : h.outvars ≡ flags_of r.outvars there.unit.dummies
       outvars_is = ap (λ (z : Head). z.outvars) is ∙ ap (λ o. flags_found o r.outvars) there.found
+
+  -- and so where the kernel fits, or is too large and refused
+  pub fitted_adjoins : IsAccepted ps → (b : Bool) (a : Answer) → a ≡ fitted_answer b ps r.head h → ReadsBack a (emitted ps r.head h) → (bytes : List ℕ) → Reads bytes ps → IsAdjoined r bytes a
+  fitted_adjoins accepted true a answers back bytes reads done = head_adjoins accepted a answers (back done) bytes reads
+  fitted_adjoins accepted false a answers back bytes reads done = absurd (refused_is_not_done a.status (ap (λ z. z.status) answers) done)
 
 -- ---- the kernel as code gives it
 

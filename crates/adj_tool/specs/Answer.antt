@@ -1,5 +1,5 @@
 -- Answer: what a command writes, and the status that goes with it.
-use Rattle.std.specs.Prelude.{ℕ, ◌==◌, nat_lt, Bool, ◌&&◌, List, [], ◌∷◌, ◌++◌, length, map, flat_map, bytes_eq, Option, Some, None, Result, Ok, Err, codes, decimal, if◌then◌else◌}
+use Rattle.std.specs.Prelude.{ℕ, ◌==◌, nat_lt, Bool, true, false, List, [], ◌++◌, length, flat_map, Option, Some, None, Result, Ok, Err, codes, decimal, if◌then◌else◌}
 use Rattle.adj_tree.specs.Code.{Procedure}
 use Rattle.adj_tree.specs.declared.fault.Refusal.{Refusal}
 use Rattle.adj_tree.specs.declared.marks.Head.{Head}
@@ -13,6 +13,7 @@ use Rattle.adj_text.specs.Text.{text_of}
 use Rattle.adj_text.specs.declared.mode.Mode.{Mode}
 use Rattle.adj_text.specs.declared.mode.Mode.TheVariants.{Source}
 use Rattle.adj_parse.specs.Trees.{trees_of}
+use Rattle.adj_kernel.specs.Stepped.{kernel_of}
 use Rattle.adj_accepted.specs.Accepted.{emitted_for}
 use Rattle.adj_revolve.specs.declared.machine.Action.{Action}
 use Rattle.adj_revolve.specs.declared.machine.Action.TheVariants.{Store, Advance, Turn, Keep, Drop}
@@ -20,6 +21,7 @@ use Rattle.adj_revolve.specs.Schedule.{schedule_of}
 use Rattle.adj_revolve.specs.LeastCost.{least_cost}
 use Rattle.adj_tool.specs.Words.{Request}
 use Rattle.adj_tool.specs.Profile.{first_untreated}
+use Rattle.adj_tool.specs.Fitting.{most_counted, kernel_fits}
 
 pub record Answer : Type 0 where
   pub status : ℕ
@@ -82,10 +84,19 @@ emitted ps name h = emitted_for ps name h.vars h.outvars
 abbrev pub written : List Procedure → List ℕ → Head → Answer
 written ps name h = record { status = 0; text = text_of (emitted ps name h) }
 
+-- a kernel is too large
+abbrev pub too_large : Answer
+too_large = refused (record { code = 21; line = 0; number = most_counted })
+
+-- the answer for a program and its head, where the kernel fits, or not
+abbrev pub fitted_answer : Bool → List Procedure → List ℕ → Head → Answer
+fitted_answer true ps name h = written ps name h
+fitted_answer false ps name h = too_large
+
 -- the answer for a program and its head, where a statement at a line isn't treated yet, or none
 abbrev pub treated_answer : Option ℕ → List Procedure → List ℕ → Head → Answer
 treated_answer (Some line) ps name h = untreated line
-treated_answer None ps name h = written ps name h
+treated_answer None ps name h = fitted_answer (kernel_fits (kernel_of ps)) ps name h
 
 -- the answer for a program in which names, calls and writes have no fault, where the head or a listed name has one, or none
 abbrev pub headed_answer : Option Refusal → Request → List Procedure → Answer

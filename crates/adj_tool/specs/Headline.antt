@@ -2,6 +2,7 @@
 use Rattle.std.specs.Prelude.{◌≡◌, ℕ, List, map, Bool, Some}
 use Rattle.adj_tree.specs.Code.{Procedure}
 use Rattle.adj_text.specs.Reads.{Reads}
+use Rattle.adj_text.specs.ReadsAs.{ReadsAs}
 use Rattle.adj_text.specs.Text.{text_of}
 use Rattle.adj_meaning.specs.Written.{find_unit}
 use Rattle.adj_names.specs.Fresh.{has_name}
@@ -34,6 +35,10 @@ pub record WritesAdjoint (r : Request) (bytes written : List ℕ) : Type 0 where
   -- as a text that is run, it has no fault of units, names, calls, chains and writes
   pub sound : IsSound run_rules adjoint
   pub is_adjoint : IsFullAdjointOf source r.head (flags_of r.vars unit.dummies) (flags_of r.outvars unit.dummies) adjoint
+
+-- where the answer is done, its text reads as a program
+abbrev pub ReadsBack : Answer → List Procedure → Type 0
+ReadsBack a ps = a.status ≡ 0 → ReadsAs a.text ps
 
 -- where the answer to these bytes is done, its text is that of an adjoint
 abbrev pub IsAdjoined : Request → List ℕ → Answer → Type 0

@@ -1,4 +1,5 @@
 pub mod Profile
+pub mod Fitting
 pub mod Words
 pub mod Answer
 pub mod Headline

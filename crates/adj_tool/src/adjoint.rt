@@ -3,15 +3,16 @@
 ghost use Rattle.std.specs.Prelude.{◌≡◌, ◌≤◌, ◌∷◌, [], ℕ, List, None, length, IfOk};
 ghost use Rattle.adj_tree.specs.View.{procedures_of};
 ghost use Rattle.adj_text.specs.Reads.{Reads};
-ghost use Rattle.adj_text.specs.ReadsAs.{ReadsAs};
 ghost use Rattle.adj_text.specs.Written.{IsWritten};
 ghost use Rattle.adj_names.specs.Check.{IsSound};
 ghost use Rattle.adj_names.specs.Fault.{source_rules};
 ghost use Rattle.adj_names.specs.HeadFaults.{first_head_fault, head_of, unit_number};
 ghost use Rattle.adj_kernel.specs.Sound.{IsAccepted};
+ghost use Rattle.adj_kernel.specs.Stepped.{kernel_of};
 ghost use Rattle.adj_tool.specs.Profile.{first_untreated};
-ghost use Rattle.adj_tool.specs.Answer.{adjoint_answer, checked_answer, emitted, headed_answer, most_bytes, program_answer, treated_answer, untreated, written};
-ghost use Rattle.adj_tool.specs.Headline.{IsAdjoined, IsUnit};
+ghost use Rattle.adj_tool.specs.Answer.{adjoint_answer, checked_answer, emitted, fitted_answer, headed_answer, most_bytes, program_answer, too_large, treated_answer, untreated};
+ghost use Rattle.adj_tool.specs.Fitting.{kernel_fits};
+ghost use Rattle.adj_tool.specs.Headline.{IsAdjoined, IsUnit, ReadsBack};
 ghost use Rattle.adj_tool.specs.Views.{answer_of, request_of};
 
 use crate::answer::{Answer, Status, refused};
@@ -19,7 +20,7 @@ use crate::read::read;
 use crate::task::Request;
 use crate::untreated::first_untreated;
 use adj_fixed::Mode;
-use adj_kernels::kernel;
+use adj_kernels::checked_kernel;
 use adj_print::text;
 use adj_symbols::{Checked, check, head};
 use adj_tree::{Fault, Head, Memory, Name, Program, Refusal};
@@ -38,6 +39,18 @@ fn untreated(alloc: Global, line: u32) -> Result<Answer, Memory>
     refused(alloc, refusal)
 }
 
+// The refusal of a kernel that is too large.
+fn too_large(alloc: Global) -> Result<Answer, Memory>
+    ensures { IfOk result (λ a. answer_of a ≡ too_large) }
+{
+    let refusal = Refusal {
+        code: 21,
+        line: 0,
+        number: 1_073_741_823,
+    };
+    refused(alloc, refusal)
+}
+
 // The number of the unit of a name.
 fn unit_number(program: &Program, name: &Name) -> usize
     ensures { result ≡ unit_number (procedures_of program.now) name.now }
@@ -51,15 +64,19 @@ fn unit_number(program: &Program, name: &Name) -> usize
     units.len()
 }
 
-// The text of the adjoint of a program, for the unit of a name as its head.
+// The text of the adjoint of a program, for the unit of a name as its head, or the refusal of its kernel.
 fn written(alloc: Global, program: &Program, name: &Name, head: Head) -> Result<Answer, Memory>
     requires accepted { IsAccepted (procedures_of program.now) }
     requires there { IsUnit (procedures_of program.now) name.now }
-    ensures answer { IfOk result (λ a. answer_of a ≡ written (procedures_of program.now) name.now head) }
-    ensures reads_back { IfOk result (λ a. ReadsAs a.text.items (emitted (procedures_of program.now) name.now head)) }
+    ensures answer { IfOk result (λ a. answer_of a ≡ fitted_answer (kernel_fits (kernel_of (procedures_of program.now))) (procedures_of program.now) name.now head) }
+    ensures reads_back { IfOk result (λ a. ReadsBack (answer_of a) (emitted (procedures_of program.now) name.now head)) }
 {
-    let lowered = kernel(alloc, program)?;
-    let unit = unit_number(&lowered, name);
+    let kernel = checked_kernel(alloc, program)?;
+    let lowered = kernel.program();
+    if !kernel.fits() {
+        return too_large(alloc);
+    }
+    let unit = unit_number(lowered, name);
     let vars = head.vars;
     let outvars = head.outvars;
     let own = Head {
@@ -67,7 +84,7 @@ fn written(alloc: Global, program: &Program, name: &Name, head: Head) -> Result<
         vars,
         outvars,
     };
-    let emitted = emit(alloc, &lowered, &own)?;
+    let emitted = emit(alloc, lowered, &own)?;
     let text = text(alloc, &emitted)?;
     Ok(Answer {
         status: Status::Done,

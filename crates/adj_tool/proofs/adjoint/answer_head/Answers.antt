@@ -1,7 +1,9 @@
 use Rattle.adj_tree.specs.View.{procedures_of}
 use Rattle.adj_kernel.specs.Sound.{IsAccepted}
 use Rattle.adj_tool.specs.Views.{answer_of, request_of}
-use Rattle.adj_tool.proofs.Heads.{head_there, head_adjoins}
+use Rattle.adj_kernel.specs.Stepped.{kernel_of}
+use Rattle.adj_tool.specs.Fitting.{kernel_fits}
+use Rattle.adj_tool.proofs.Heads.{head_there, fitted_adjoins}
 use Rattle.adj_tool.proofs.adjoint.answer_head.Goals as goal
 
 pub written-requires-clause-accepted : goal.written-requires-clause-accepted
@@ -14,4 +16,4 @@ pub returns-clause-adjoint : goal.returns-clause-adjoint
 returns-clause-adjoint c =
     let ps = procedures_of c.args.program.now in
     let accepted : IsAccepted ps = record { written = c.requires.written; sound = c.requires.sound } in
-    λ bytes reads done. head_adjoins (request_of c.args.request.now) ps c.args.head c.requires.sound_head c.requires.head accepted (answer_of c.in_ok-answer.answer) c.in_ok-answer.ensures.answer c.in_ok-answer.ensures.reads_back bytes reads
+    fitted_adjoins (request_of c.args.request.now) ps c.args.head c.requires.sound_head c.requires.head accepted (kernel_fits (kernel_of ps)) (answer_of c.in_ok-answer.answer) c.in_ok-answer.ensures.answer c.in_ok-answer.ensures.reads_back

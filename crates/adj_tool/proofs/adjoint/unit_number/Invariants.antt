@@ -1,6 +1,6 @@
 -- The units passed have other names.
 use Rattle.std.proofs.Common.{◌≡◌, ◌+◌, map, drop}
-use Rattle.adj_tree.specs.View.{procedure_of, procedures_of}
+use Rattle.adj_tree.specs.View.{procedure_of}
 use Rattle.adj_names.specs.HeadFaults.{unit_number}
 use Rattle.adj_tool.proofs.adjoint.unit_number.Given as goal
 

@@ -1,0 +1,17 @@
+-- Fitting: kernels that are not too large to number their points and nodes.
+use Rattle.std.specs.Prelude.{ℕ, nat_lt, Bool, not, ◌&&◌, List, length, map}
+use Rattle.adj_tree.specs.Code.{Procedure}
+use Rattle.adj_names.specs.Variables.{variables}
+use Rattle.adj_facts.specs.Parts.{statements_in}
+use Rattle.adj_symbols.specs.Numbers.{widest}
+
+-- the most units, statements and variables of a unit that a kernel may have
+abbrev pub most_counted : ℕ
+most_counted = 1073741823
+
+abbrev pub is_counted : ℕ → Bool
+is_counted n = not (nat_lt most_counted n)
+
+-- whether a kernel has no more units, statements at any depth and variables of a unit
+abbrev pub kernel_fits : List Procedure → Bool
+kernel_fits ps = is_counted (length ps) && (is_counted (statements_in 0 ps) && is_counted (widest (map variables ps)))
