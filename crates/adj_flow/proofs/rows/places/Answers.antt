@@ -3,7 +3,8 @@ use Rattle.std.specs.Option.{option_or}
 use Rattle.std.proofs.lemmas.List.{drop_more}
 use Rattle.adj_flow.specs.Places.{place_from}
 use Rattle.adj_writes.specs.Table.{value_of}
-use Rattle.adj_flow.proofs.Placing.{numbers_more, place_more}
+use Rattle.adj_writes.proofs.Numbers.{numbers_more}
+use Rattle.adj_flow.proofs.Placing.{place_more}
 use Rattle.adj_flow.proofs.rows.places.Goals as goal
 
 pub loop-place-preserved : goal.loop-place-preserved

@@ -2,7 +2,8 @@ use Rattle.std.proofs.Common.{ap, sym, ◌∙◌, ◌+◌, drop, map}
 use Rattle.std.specs.Option.{option_or}
 use Rattle.adj_flow.specs.Places.{place_from}
 use Rattle.adj_writes.specs.Table.{value_of}
-use Rattle.adj_flow.proofs.Placing.{numbers_more, place_more}
+use Rattle.adj_writes.proofs.Numbers.{numbers_more}
+use Rattle.adj_flow.proofs.Placing.{place_more}
 use Rattle.adj_flow.proofs.Stepping.{drop_mapped}
 use Rattle.adj_flow.proofs.units.numbers.Goals as goal
 
