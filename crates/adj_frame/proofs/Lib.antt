@@ -5,3 +5,6 @@ pub mod Numberings
 pub mod Resolving
 pub mod Giving
 pub mod Entering
+pub mod Returning
+pub mod Listing
+pub mod Declarations

@@ -1,11 +1,12 @@
 -- Names with a name more, which gets a number.
-use Rattle.std.proofs.Common.{◌≡◌, ℕ, suc, ◌+◌, ◌<◌, Bool, true, false, List, [], ◌∷◌, ◌++◌, map, length, get_or, cond, Bor, refl, sym, ap, ap₂, ◌∙◌, arith, if◌then◌else◌}
+use Rattle.std.proofs.Common.{◌≡◌, ℕ, suc, ◌+◌, ◌<◌, ◌≤◌, Bool, true, false, List, [], ◌∷◌, ◌++◌, map, length, get_or, cond, Bor, refl, sym, ap, ap₂, ◌∙◌, arith, if◌then◌else◌}
 use Rattle.std.specs.Prelude.{◌||◌, not}
-use Rattle.std.specs.List.{list_any, position_or_len}
+use Rattle.std.specs.List.{list_any, position_or_len, AllByRecursion, IsDistinct}
+use Rattle.std.proofs.lemmas.Map.Keys.{IsDistinct-head, IsDistinct-tail}
 use Rattle.std.specs.Str.{bytes_eq}
 use Rattle.std.proofs.lemmas.List.{map_push, length-append, get_or_push, get_or_append_left}
 use Rattle.adj_tree.specs.Code.{name_eq}
-use Rattle.adj_tree.proofs.Names.{name_eq-bytes, name_same}
+use Rattle.adj_tree.proofs.Names.{name_eq-bytes, name_refl, name_same}
 use Rattle.adj_meaning.specs.Agree.{stands_among, AreApart}
 use Rattle.adj_meaning.proofs.Booleans.{or_false}
 use Rattle.adj_frame.specs.Numbered.{Extends}
@@ -74,6 +75,14 @@ module _ (x : List ℕ) where
           let l = length-append ns (x ∷ []) in
           (omega (arith, m, l), get_or_push ns x [] (place_in ns x) (sym m))
 
+  -- there is at most one more
+  pub few_more : (ns : List (List ℕ)) → length (with_name ns x) ≤ length ns + 1
+  few_more ns = go (list_any (name_eq x) ns)
+    where
+      go : (b : Bool) → length (if b then ns else ns ++ x ∷ []) ≤ length ns + 1
+      go true = omega arith
+      go false = let l = length-append ns (x ∷ []) in omega (arith, l)
+
   -- the other names keep theirs
   pub extended : (ns : List (List ℕ)) → Extends ns (with_name ns x)
   extended ns = go (list_any (name_eq x) ns)
@@ -97,3 +106,21 @@ module _ (x : List ℕ) where
       go : (b : Bool) → list_any (name_eq x) ns ≡ b → AreApart (if b then ns else ns ++ x ∷ [])
       go true h = a
       go false h = apart_behind ns a h
+
+-- ---- keys that are distinct
+
+not_same : (x y : List ℕ) → bytes_eq x y ≡ false → name_eq y x ≡ false
+not_same x y h = go (name_eq y x) refl
+  where
+    go : (b : Bool) → name_eq y x ≡ b → b ≡ false
+    go true e = let s = name_same y x e in let bad : true ≡ false = sym (name_refl x) ∙ ap (name_eq x) (sym s) ∙ name_eq-bytes x y ∙ h in cc
+    go false e = refl
+
+not_among : (k : Bor (List ℕ)) (ks : List (Bor (List ℕ))) → AllByRecursion (λ y. bytes_eq k.now y.now ≡ false) ks → stands_among k.now (names_of ks) ≡ false
+not_among k [] h = refl
+not_among k (y ∷ ks) h = rw (not_same k.now y.now h.0) (not_among k ks h.1)
+
+-- the names of distinct keys are apart
+pub distinct_apart : (ks : List (Bor (List ℕ))) → IsDistinct (λ (a b : Bor (List ℕ)). bytes_eq a.now b.now) ks → AreApart (names_of ks)
+distinct_apart [] h = tt
+distinct_apart (k ∷ ks) h = (not_among k ks (IsDistinct-head (λ (a b : Bor (List ℕ)). bytes_eq a.now b.now) k ks h), distinct_apart ks (IsDistinct-tail (λ (a b : Bor (List ℕ)). bytes_eq a.now b.now) k ks h))

@@ -1,5 +1,5 @@
 -- Called: the actuals of a call, the units that are prepared, and what stands at the entry of one.
-use Rattle.std.specs.Prelude.{◌≡◌, ℕ, ◌<◌, ℤ, pos, List, [], ◌∷◌, ◌++◌, map, length, slice_index_or, drop, Bool, false, ◌==◌, ◌||◌, Result, Ok, Err, Option, None, slice_get, nat_lt, if◌then◌else◌}
+use Rattle.std.specs.Prelude.{◌≡◌, ℕ, ◌<◌, ℤ, pos, List, [], ◌∷◌, ◌++◌, map, length, slice_index_or, drop, Bool, false, ◌==◌, ◌&&◌, ◌||◌, Result, Ok, Err, Option, None, slice_get, nat_lt, if◌then◌else◌}
 use Rattle.adj_tree.specs.Code.{Var, plain, Term, Extent, fixed, given}
 use Rattle.adj_tree.specs.View.{procedure_of}
 use Rattle.adj_tree.specs.declared.value.Trap.{Trap as CodeTrap}
@@ -8,7 +8,7 @@ use Rattle.adj_meaning.specs.Numbers.{words}
 use Rattle.adj_meaning.specs.Store.{Shape, size_of, Store}
 use Rattle.adj_meaning.specs.Value.{Setting, value}
 use Rattle.adj_meaning.specs.Agree.{stands_among, AreApart}
-use Rattle.adj_meaning.specs.Units.{declared, extents_of, shape_of, Actual, one_word, whole, cell, nowhere, entry_store, shape_fits, dummies_fit}
+use Rattle.adj_meaning.specs.Units.{declared, extents_of, shape_of, Place, put, Actual, one_word, whole, cell, nowhere, entry_store, shape_fits, dummies_fit}
 use Rattle.adj_frame.specs.declared.slot.Slot.{Slot}
 use Rattle.adj_frame.specs.declared.actual.Actual.{Actual as CodeActual}
 use Rattle.adj_frame.specs.declared.actual.Actual.TheVariants as actual
@@ -114,3 +114,19 @@ is_fit zs sh = length zs == 0 || shape_fits zs sh
 -- whether the dummies from the one of a number on fit
 abbrev pub fit_from : Routine → List (Actual ℤ) → ℕ → Bool
 fit_from r got i = dummies_fit words (procedure_of r.unit.now) (entered_with r got) (drop i r.unit.now.dummies) (drop i got)
+
+-- ---- what is handed back
+
+-- where a dummy is handed back to
+abbrev pub place_of : List (List ℕ) → CodeActual → Place
+place_of names (actual.Whole i) = whole (var_at names i)
+place_of names (actual.Cell i j w) = cell (var_at names i) j
+place_of names (actual.Word w) = nowhere
+
+-- whether the variable of a number is a dummy that is written
+abbrev pub is_written_at : Routine → ℕ → Bool
+is_written_at r i = nat_lt i (length r.unit.now.dummies) && (nat_lt i (length r.writes.now) && slice_index_or r.writes.now i false)
+
+-- the caller's store with the variable of a number copied out to a place, where it is a dummy that is written
+abbrev pub handed : Routine → ℕ → Place → Store ℤ → Store ℤ → Store ℤ
+handed r i p t s = if is_written_at r i then put p (t (var_at r.names i)) s else s

@@ -38,7 +38,7 @@ abbrev mutual
   task_in names (task.If t a b) = choose (test_in names t) (steps_in names a) (steps_in names b)
   task_in names (task.Loop i b body m) = loop (var_at names i) (term_in names b.first) (term_in names b.last) (term_in names b.by) (steps_in names body) (marking_in names m)
   task_in names (task.While t body) = during (test_in names t) (steps_in names body)
-  task_in names (task.Call x args) = call x (terms_in names args)
+  task_in names (task.Call i x args) = call x (terms_in names args)
   task_in names (task.Run r) = runtime (service_in names r)
 
   pub steps_in : List (List ℕ) → Steps → Code
@@ -80,25 +80,9 @@ abbrev mutual
   IsTaskBelow count (task.If t a b) = IsTestBelow count t × AreStepsBelow count a × AreStepsBelow count b
   IsTaskBelow count (task.Loop i b body m) = (i < count) × AreBoundsBelow count b × AreStepsBelow count body × IsMarkingBelow count m
   IsTaskBelow count (task.While t body) = IsTestBelow count t × AreStepsBelow count body
-  IsTaskBelow count (task.Call x args) = AreTermsBelow count args
+  IsTaskBelow count (task.Call i x args) = AreTermsBelow count args
   IsTaskBelow count (task.Run r) = IsServiceBelow count r
 
   pub AreStepsBelow : ℕ → Steps → Type 0
   AreStepsBelow count steps.Empty = Unit {0}
   AreStepsBelow count (steps.More' p line t q rest) = IsTaskBelow count t × AreStepsBelow count rest
-
--- ---- no calls of units
-
-abbrev mutual
-  -- neither the statement nor those in it are calls of units
-  pub IsPlainTask : Task → Type 0
-  IsPlainTask (task.Assign c e) = Unit {0}
-  IsPlainTask (task.If t a b) = ArePlain a × ArePlain b
-  IsPlainTask (task.Loop i b body m) = ArePlain body
-  IsPlainTask (task.While t body) = ArePlain body
-  IsPlainTask (task.Call x args) = ⊥
-  IsPlainTask (task.Run r) = Unit {0}
-
-  pub ArePlain : Steps → Type 0
-  ArePlain steps.Empty = Unit {0}
-  ArePlain (steps.More' p line t q rest) = IsPlainTask t × ArePlain rest

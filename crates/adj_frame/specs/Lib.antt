@@ -5,3 +5,6 @@ pub mod Numbered
 pub mod Framed
 pub mod Shown
 pub mod Called
+pub mod Linked
+pub mod Listed
+pub mod Declaring

@@ -8,11 +8,15 @@
 
 mod actual;
 mod arithmetic;
+mod declaring;
+mod directory;
 mod entry;
 mod frame;
+mod handing;
 mod laws;
 mod layout;
 mod numbering;
+mod preparation;
 mod prepare;
 mod routine;
 mod slot;
@@ -20,11 +24,13 @@ mod step;
 mod term;
 
 pub use actual::Actual;
+pub use directory::Directory;
 pub use entry::Unfit;
 pub use frame::Frame;
 pub use laws::shown_is_seen;
 pub use layout::{Bound, Layout};
 pub use numbering::Numbering;
+pub use preparation::routine_of;
 pub use routine::Routine;
 pub use slot::Slot;
 pub use step::{Bounds, Cell, Marking, Service, Step, Steps, Task};

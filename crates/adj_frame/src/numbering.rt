@@ -1,10 +1,10 @@
 //! Numbers for names.
 
-ghost use Rattle.std.specs.Prelude.{◌≡◌, ◌<◌, List, ℕ, [], map, length, slice_index_or, IfOk, OnOk};
+ghost use Rattle.std.specs.Prelude.{◌≡◌, ◌<◌, ◌≤◌, ◌+◌, List, ℕ, [], map, length, slice_index_or, IfOk, OnOk};
 ghost use Rattle.adj_meaning.specs.Agree.{AreApart};
 ghost use Rattle.adj_frame.specs.Numbered.{Extends};
 
-use adj_tree::{Memory, Name};
+use adj_tree::{Items, Memory, Name, NameList};
 use indexmap::IndexSet;
 use std::alloc::Global;
 use std::marker::Model;
@@ -35,10 +35,30 @@ impl<'a> Numbering<'a> {
     pub fn number(&mut self, name: &'a Name) -> Result<usize, Memory>
         ensures extends { OnOk result (Extends self.old self.new) }
         ensures within { IfOk result (λ i. i < length self.new) }
+        ensures few { OnOk result (length self.new ≤ length self.old + 1) }
         ensures named { IfOk result (λ i. slice_index_or self.new i [] ≡ name.now) }
         ensures apart { OnOk result (AreApart self.old → AreApart self.new) }
     {
         let (number, _) = self.names.insert_full(name.bytes())?;
         Ok(number)
+    }
+
+    /// How many names there are.
+    pub(crate) fn len(&self) -> usize
+        ensures { result ≡ length self.now }
+    {
+        self.names.len()
+    }
+
+    /// The names, with copies of their bytes.
+    pub(crate) fn list(&self, alloc: Global) -> Result<NameList, Memory>
+        ensures same { IfOk result (λ names. names ≡ self.now) }
+        ensures apart { IfOk result (λ names. AreApart names) }
+    {
+        let mut names = Vec::new(alloc);
+        for name in self.names.as_slice() {
+            names.push(Name::from_slice(alloc, name)?)?;
+        }
+        Ok(Items::new(names))
     }
 }

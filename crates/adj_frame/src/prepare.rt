@@ -1,12 +1,15 @@
 //! Trees with numbers for their variables. Lists are gone through by loops.
 
-ghost use Rattle.std.specs.Prelude.{IfOk, OnOk};
-ghost use Rattle.adj_tree.specs.View.{term_of, terms_of, test_of, runtime_of, mark_of, act_of, code_of};
+ghost use Rattle.std.specs.Prelude.{◌≡◌, IfOk, OnOk, map};
+ghost use Rattle.adj_tree.specs.View.{term_of, terms_of, test_of, runtime_of, mark_of, act_of, code_of, procedure_of};
 ghost use Rattle.adj_tree.specs.Code.{plain};
 ghost use Rattle.adj_frame.specs.Prepared.{var_at, term_in, terms_in, test_in, IsTermBelow, AreTermsBelow, IsTestBelow};
 ghost use Rattle.adj_frame.specs.Instructed.{service_in, marking_in, task_in, steps_in, IsNumberBelow, IsServiceBelow, IsMarkingBelow, IsTaskBelow, AreStepsBelow};
+ghost use Rattle.adj_frame.specs.Linked.{IsTaskLinked, AreLinked};
+ghost use Rattle.adj_frame.specs.Listed.{IsDirectory};
 ghost use Rattle.adj_frame.specs.Numbered.{Extends, Resolves};
 
+use crate::directory::Directory;
 use crate::numbering::Numbering;
 use crate::step::{Bounds, Cell, Marking, Service, Step, Steps, Task};
 use crate::term::{Term, Terms, Test};
@@ -182,8 +185,17 @@ impl<'a> Numbering<'a> {
 
     // What a statement does.
     #[cycle(prepare_steps)]
-    fn task(&mut self, alloc: Global, act: &'a Act) -> Result<Task, Memory>
+    fn task(
+        &mut self,
+        alloc: Global,
+        units: &mut Directory<'a>,
+        act: &'a Act,
+    ) -> Result<Task, Memory>
+        requires { IsDirectory units.old }
         ensures extends { OnOk result (Extends self.old self.new) }
+        ensures units { units.new.units.now ≡ units.old.units.now }
+        ensures directory { OnOk result (IsDirectory units.new) }
+        ensures linked { IfOk result (λ t. IsTaskLinked (map procedure_of units.old.units.now) t) }
         ensures resolves { IfOk result (λ t. Resolves task_in IsTaskBelow self.new t (act_of act.now)) }
     {
         match act {
@@ -193,25 +205,26 @@ impl<'a> Numbering<'a> {
             }
             Act::If(c, a, b) => {
                 let test = self.test(alloc, c)?;
-                let first = self.steps(alloc, a)?;
-                Ok(Task::If(test, first, self.steps(alloc, b)?))
+                let first = self.steps(alloc, units, a)?;
+                Ok(Task::If(test, first, self.steps(alloc, units, b)?))
             }
             Act::Loop(x, a, b, c, body, mark) => {
                 let variable = self.variable(x)?;
                 let first = self.term(alloc, a)?;
                 let last = self.term(alloc, b)?;
                 let by = self.term(alloc, c)?;
-                let inner = self.steps(alloc, body)?;
+                let inner = self.steps(alloc, units, body)?;
                 let bounds = Bounds { first, last, by };
                 Ok(Task::Loop(variable, bounds, inner, self.marking(mark)?))
             }
             Act::While(c, body) => {
                 let test = self.test(alloc, c)?;
-                Ok(Task::While(test, self.steps(alloc, body)?))
+                Ok(Task::While(test, self.steps(alloc, units, body)?))
             }
             Act::Call(name, actuals) => {
+                let number = units.number(name)?;
                 let unit = name.copy(alloc)?;
-                Ok(Task::Call(unit, self.terms(alloc, actuals)?))
+                Ok(Task::Call(number, unit, self.terms(alloc, actuals)?))
             }
             Act::Run(call) => Ok(Task::Run(self.service(alloc, call)?)),
         }
@@ -219,14 +232,23 @@ impl<'a> Numbering<'a> {
 
     /// Statements in order.
     #[cycle(prepare_steps)]
-    pub fn steps(&mut self, alloc: Global, stmts: &'a Stmts) -> Result<Steps, Memory>
+    pub fn steps(
+        &mut self,
+        alloc: Global,
+        units: &mut Directory<'a>,
+        stmts: &'a Stmts,
+    ) -> Result<Steps, Memory>
+        requires { IsDirectory units.old }
         ensures extends { OnOk result (Extends self.old self.new) }
+        ensures units { units.new.units.now ≡ units.old.units.now }
+        ensures directory { OnOk result (IsDirectory units.new) }
+        ensures linked { IfOk result (λ all. AreLinked (map procedure_of units.old.units.now) all) }
         ensures resolves { IfOk result (λ all. Resolves steps_in AreStepsBelow self.new all (code_of stmts.now)) }
     {
         let mut made = Steps::Empty;
         let mut current = stmts;
         while let Stmts::More(first, rest) = current {
-            let task = self.task(alloc, &first.act)?;
+            let task = self.task(alloc, units, &first.act)?;
             let step = Step {
                 line: first.line,
                 task,

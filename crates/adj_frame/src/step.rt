@@ -1,9 +1,10 @@
 //! Prepared statements: variables are the numbers that their unit gives them.
 
 ghost use Rattle.std.specs.Prelude.{◌≡◌, List, ℕ};
-ghost use Rattle.adj_tree.specs.Code.{stop};
+ghost use Rattle.adj_tree.specs.Code.{stop, Procedure};
 ghost use Rattle.adj_tree.specs.Listed.{code_turned};
 ghost use Rattle.adj_frame.specs.Instructed.{steps_in, AreStepsBelow};
+ghost use Rattle.adj_frame.specs.Linked.{AreLinked};
 
 use crate::term::{Term, Terms, Test};
 use adj_tree::Name;
@@ -61,7 +62,8 @@ pub enum Task {
     Loop(usize, Bounds, Steps, Marking),
     /// A DO WHILE: condition and body.
     While(Test, Steps),
-    Call(Name, Terms),
+    /// A call: the number of the unit and its name, and the actuals.
+    Call(usize, Name, Terms),
     Run(Service),
 }
 
@@ -85,6 +87,7 @@ impl Steps {
     pub(crate) fn turned(mut self) -> Steps
         ensures turned { (names : List (List ℕ)) → steps_in names result ≡ code_turned (steps_in names self) stop }
         ensures below { (count : ℕ) → AreStepsBelow count self → AreStepsBelow count result }
+        ensures linked { (units : List Procedure) → AreLinked units self → AreLinked units result }
     {
         let mut made = Steps::Empty;
         loop {

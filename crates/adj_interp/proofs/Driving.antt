@@ -129,7 +129,7 @@ module _ (e : Entry) where
 
   -- what a machine has in hand has nothing to do with what is left
   pub holds_left : (m m' : Machine) (k : ℕ) (s : Scene ℤ) → m ≡ record m' { left = k } → Holds e m s → Holds e m' s
-  holds_left m m' k s p h = let g = subst (λ z. Holds e z s) p h in record { room = g.room; level = g.level; shown = g.shown; tape = g.tape; opened = g.opened; told = g.told }
+  holds_left m m' k s p h = let g = subst (λ z. Holds e z s) p h in record { room = g.room; level = g.level; base = g.base; shown = g.shown; tape = g.tape; opened = g.opened; told = g.told }
 
   -- a statement that is counted
   pub reaches_counted : (o : Outcome (Scene ℤ)) (f : Go ℤ) (m m' : Machine) → m ≡ record m' { left = suc m'.left } → Reaches e o (λ s k. counted (stand (setting_at e) s) k (f s)) m → Reaches e o f m'
@@ -253,7 +253,7 @@ module _ (e : Entry) where
   ends_loop (Done s k) line i None (Ok u) m h = h
   ends_loop (Done s k) line i (Some c) (Ok u) m h =
       let d = h.0 in
-      (record { room = d.room; level = d.level; shown = d.shown; tape = d.tape; opened = d.opened; told = told_next m.tally (Marked line i c) s.events d.told }, h.1)
+      (record { room = d.room; level = d.level; base = d.base; shown = d.shown; tape = d.tape; opened = d.opened; told = told_next m.tally (Marked line i c) s.events d.told }, h.1)
   ends_loop (Trapped t l w) line i f (Ok u) m h = absurd h
   ends_loop (More w) line i f (Ok u) m h = absurd h
   ends_loop (Full w) line i f (Ok u) m h = absurd h

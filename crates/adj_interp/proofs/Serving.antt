@@ -47,7 +47,7 @@ module _ (e : Entry) where
 
   -- a tape with other words
   pub holds_taped : (m m' : Machine) (t : Held) (s : Scene ℤ) → m' ≡ record m { tape = t } → t.room ≡ m.tape.room → Holds e m s → Holds e m' (record s { tape = t.words })
-  holds_taped m m' t s p r h = subst (λ (z : Machine). Holds e z (record s { tape = t.words })) (sym p) (record { room = r ∙ h.room; level = h.level; shown = h.shown; tape = refl; opened = h.opened; told = h.told })
+  holds_taped m m' t s p r h = subst (λ (z : Machine). Holds e z (record s { tape = t.words })) (sym p) (record { room = r ∙ h.room; level = h.level; base = h.base; shown = h.shown; tape = refl; opened = h.opened; told = h.told })
 
   -- a word that finds room
   pub pushed_ok : (m m' : Machine) (s : Scene ℤ) (w : ℤ) → Holds e m s → length m.tape.words < m.tape.room → m' ≡ record m { tape = record m.tape { words = w ∷ m.tape.words } } → IsDone e m' (pushed (setting_at e) w s m.left)
@@ -141,6 +141,7 @@ module _ (e : Entry) where
       let held : Holds e (record m { tally = t }) (begun (setting_at e) l k s) = record {
         room = h.room;
         level = h.level;
+        base = h.base;
         shown = h.shown;
         tape = h.tape;
         opened = omega (arith, opened, more);
@@ -150,7 +151,7 @@ module _ (e : Entry) where
 
   -- what a machine has in hand has nothing to do with the schedule that was asked
   pub holds_cursor : (m m' : Machine) (o : Option Plan) (s : Scene ℤ) → m' ≡ record m { cursor = o } → Holds e m s → Holds e m' s
-  holds_cursor m m' o s p h = subst (λ (z : Machine). Holds e z s) (sym p) (record { room = h.room; level = h.level; shown = h.shown; tape = h.tape; opened = h.opened; told = h.told })
+  holds_cursor m m' o s p h = subst (λ (z : Machine). Holds e z s) (sym p) (record { room = h.room; level = h.level; base = h.base; shown = h.shown; tape = h.tape; opened = h.opened; told = h.told })
 
   -- none is open
   pub ended_none : (m : Machine) (s : Scene ℤ) (line : ℕ) → Holds e m s → length m.tally.begun ≡ m.base → IsTrapped m trap.Schedule line (ended (setting_at e) s.opened line s m.left)
@@ -172,6 +173,7 @@ module _ (e : Entry) where
           let held : Holds e (record m { tally = t }) (record s { opened = i; events = End e.level ∷ s.events }) = record {
             room = h.room;
             level = h.level;
+            base = h.base;
             shown = h.shown;
             tape = h.tape;
             opened = omega (arith, o, z, less);

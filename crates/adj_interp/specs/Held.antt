@@ -22,11 +22,12 @@ use Rattle.adj_frame.specs.Shown.{on_words, Shows}
 abbrev pub Tells : Counted → List Event → Type 0
 Tells c es = (later : List Event) → log_of (reverse es ++ later) ≡ log_from c.begun c.log later
 
--- an entry of a unit: the shapes of its variables, how many words the tape can hold, and its level
+-- an entry of a unit: the shapes of its variables, how many words the tape can hold, its level, and how many reversals were open before
 pub record Entry : Type 0 where
   pub shape : Var → Shape
   pub room : ℕ
   pub level : ℕ
+  pub base : ℕ
 
 abbrev pub setting_at : Entry → Setting ℤ
 setting_at e = on_words e.shape (Some e.room) e.level
@@ -35,6 +36,7 @@ setting_at e = on_words e.shape (Some e.room) e.level
 pub record Holds (e : Entry) (m : Machine) (s : Scene ℤ) : Type 0 where
   pub room : m.tape.room ≡ e.room
   pub level : m.level ≡ e.level
+  pub base : m.base ≡ e.base
   pub shown : Shows m.frame.names.now m.frame.slots.items e.shape s.store
   pub tape : s.tape ≡ m.tape.words
   pub opened : s.opened + m.base ≡ length m.tally.begun

@@ -1,3 +1,6 @@
 -- What the contracts of this crate say of running.
 pub mod Counted
 pub mod Held
+pub mod Entered
+pub mod Concludes
+pub mod Inputs

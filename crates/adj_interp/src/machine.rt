@@ -1,13 +1,16 @@
 //! The machine that executes prepared statements.
 
-ghost use Rattle.std.specs.Prelude.{◌≡◌, ◌<◌, ℕ, ℤ, suc, true, false, length, slice_index_or, IfOk};
+ghost use Rattle.std.specs.Prelude.{◌≡◌, ◌<◌, List, ℕ, ℤ, suc, true, false, length, slice_get, slice_index_or, IfOk};
 ghost use Rattle.adj_meaning.specs.Scene.{Scene};
 ghost use Rattle.adj_meaning.specs.Store.{set};
 ghost use Rattle.adj_meaning.specs.Value.{value, target, holds};
+ghost use Rattle.adj_meaning.specs.Units.{calls_of};
+ghost use Rattle.adj_meaning.specs.Written.{find_unit};
 ghost use Rattle.adj_meaning.specs.Run.{Calls, act, run, turns, with_turn, stepped, tests, most_tests};
 ghost use Rattle.adj_frame.specs.declared.slot.Slot.{Slot};
-ghost use Rattle.adj_frame.specs.Prepared.{var_at, term_in, test_in, terms_in, IsTermBelow, IsTestBelow};
-ghost use Rattle.adj_frame.specs.Instructed.{task_in, steps_in, marking_in, IsCellBelow, AreBoundsBelow, IsTaskBelow, AreStepsBelow, IsPlainTask, ArePlain};
+ghost use Rattle.adj_frame.specs.Prepared.{var_at, term_in, test_in, terms_in, IsTermBelow, AreTermsBelow, IsTestBelow};
+ghost use Rattle.adj_frame.specs.Instructed.{task_in, steps_in, marking_in, IsCellBelow, AreBoundsBelow, IsTaskBelow, AreStepsBelow};
+ghost use Rattle.adj_frame.specs.Linked.{IsTaskLinked, AreLinked, units_in, AreRoutines};
 ghost use Rattle.adj_frame.specs.Framed.{IsFrame};
 ghost use Rattle.adj_interp.specs.Held.{Entry, setting_at, Holds, Ends, Finds, bounds_in};
 
@@ -15,10 +18,11 @@ use crate::cursor::Cursor;
 use crate::stop::Stop;
 use crate::tally::Tally;
 use crate::trips::{most_tests, turns_of};
-use adj_frame::{Bounds, Cell, Frame, Marking, Steps, Task, Term, Test};
+use adj_frame::{Bounds, Cell, Frame, Marking, Routine, Steps, Task, Term, Terms, Test};
 use adj_tape::Tape;
 use adj_tree::Trap;
 use adj_word::add;
+use std::alloc::Global;
 
 /// What a run has in hand: the entry of the unit that runs, how many reversals were open when it began, its level, the
 /// tape, the statements that are left, what was counted, and the schedule that the entry asked last.
@@ -31,6 +35,7 @@ pub struct Machine<'a> {
     pub left: u64,
     pub tally: Tally,
     pub cursor: Option<Cursor>,
+    pub alloc: Global,
 }
 
 // The variable of a DO and its step.
@@ -100,6 +105,7 @@ impl<'a> Machine<'a> {
         ensures framed { IsFrame self.old.frame.names.now self.new.frame.slots.items }
         ensures sized { (j : ℕ) (d : Slot) → length (slice_index_or self.new.frame.slots.items j d).cells.items ≡ length (slice_index_or self.old.frame.slots.items j d).cells.items }
         ensures left { self.new.left ≡ self.old.left }
+        ensures room { self.new.tape.room ≡ self.old.tape.room }
         ensures holds { (e : Entry) (s : Scene ℤ) → Holds e self.old s → Holds e self.new (record s { store = set s.store (var_at self.old.frame.names.now variable) cell word }) }
     {
         self.frame.set(variable, cell, word);
@@ -112,6 +118,7 @@ impl<'a> Machine<'a> {
         ensures names { self.new.frame.names.now ≡ self.old.frame.names.now }
         ensures framed { IsFrame self.old.frame.names.now self.new.frame.slots.items }
         ensures left { self.new.left ≡ self.old.left }
+        ensures room { self.new.tape.room ≡ self.old.tape.room }
         ensures holds { (e : Entry) (s : Scene ℤ) → Holds e self.old s → Holds e self.new (with_turn (setting_at e) (var_at self.old.frame.names.now variable) word s) }
     {
         self.put(variable, 0, word);
@@ -124,6 +131,7 @@ impl<'a> Machine<'a> {
         ensures names { self.new.frame.names.now ≡ self.old.frame.names.now }
         ensures framed { IsFrame self.old.frame.names.now self.new.frame.slots.items }
         ensures left { self.new.left ≡ self.old.left }
+        ensures room { self.new.tape.room ≡ self.old.tape.room }
         ensures holds { (e : Entry) (s : Scene ℤ) → Holds e self.old s → Holds e self.new (stepped (setting_at e) (var_at self.old.frame.names.now course.now.variable) course.now.by s) }
     {
         let word = add(self.frame.slots[course.variable].first(), course.by);
@@ -145,20 +153,22 @@ impl<'a> Machine<'a> {
     /// Executes statements in order, each counted before it is done. It ends as the run of the statements that they
     /// stand for.
     #[cycle(run)]
-    pub fn run(&mut self, steps: &Steps) -> Result<(), Stop>
+    pub fn run(&mut self, program: &'a [Routine<'a>], depth: u64, steps: &Steps) -> Result<(), Stop>
         requires framed { IsFrame self.old.frame.names.now self.old.frame.slots.items }
         requires below { AreStepsBelow (length self.old.frame.names.now) steps.now }
-        requires plain { ArePlain steps.now }
+        requires program { AreRoutines program.now }
+        requires linked { AreLinked (units_in program.now) steps.now }
         ensures names { self.new.frame.names.now ≡ self.old.frame.names.now }
         ensures framed { IsFrame self.old.frame.names.now self.new.frame.slots.items }
-        ensures ends { (q : Calls ℤ) (e : Entry) (s : Scene ℤ) → Holds e self.old s → Ends e (run q (setting_at e) (steps_in self.old.frame.names.now steps.now) s self.old.left) result self.new }
+        ensures room { self.new.tape.room ≡ self.old.tape.room }
+        ensures ends { let q : Calls ℤ = calls_of (units_in program.now) depth in (e : Entry) (s : Scene ℤ) → Holds e self.old s → Ends e (run q (setting_at e) (steps_in self.old.frame.names.now steps.now) s self.old.left) result self.new }
     {
         let mut current = steps;
         while let Steps::More(step, rest) = current {
             if !self.count() {
                 return Err(Stop::Budget);
             }
-            self.perform(&step.task, step.line)?;
+            self.perform(program, depth, &step.task, step.line)?;
             current = rest;
         }
         Ok(())
@@ -166,13 +176,21 @@ impl<'a> Machine<'a> {
 
     // Does one statement, which was counted.
     #[cycle(run)]
-    fn perform(&mut self, task: &Task, line: u32) -> Result<(), Stop>
+    fn perform(
+        &mut self,
+        program: &'a [Routine<'a>],
+        depth: u64,
+        task: &Task,
+        line: u32,
+    ) -> Result<(), Stop>
         requires framed { IsFrame self.old.frame.names.now self.old.frame.slots.items }
         requires below { IsTaskBelow (length self.old.frame.names.now) task.now }
-        requires plain { IsPlainTask task.now }
+        requires program { AreRoutines program.now }
+        requires linked { IsTaskLinked (units_in program.now) task.now }
         ensures names { self.new.frame.names.now ≡ self.old.frame.names.now }
         ensures framed { IsFrame self.old.frame.names.now self.new.frame.slots.items }
-        ensures ends { (q : Calls ℤ) (e : Entry) (s : Scene ℤ) → Holds e self.old s → Ends e (act q (setting_at e) (task_in self.old.frame.names.now task.now) line s self.old.left) result self.new }
+        ensures room { self.new.tape.room ≡ self.old.tape.room }
+        ensures ends { let q : Calls ℤ = calls_of (units_in program.now) depth in (e : Entry) (s : Scene ℤ) → Holds e self.old s → Ends e (act q (setting_at e) (task_in self.old.frame.names.now task.now) line s self.old.left) result self.new }
     {
         match task {
             Task::Assign(cell, term) => {
@@ -183,9 +201,9 @@ impl<'a> Machine<'a> {
             }
             Task::If(test, first, second) => {
                 if self.holds(test, line)? {
-                    self.run(first)
+                    self.run(program, depth, first)
                 } else {
-                    self.run(second)
+                    self.run(program, depth, second)
                 }
             }
             Task::Loop(variable, bounds, body, marking) => {
@@ -195,31 +213,78 @@ impl<'a> Machine<'a> {
                     variable: *variable,
                     by,
                 };
-                self.turns(&course, turns, body)
+                self.turns(program, depth, &course, turns, body)
             }
-            Task::While(test, body) => self.tests(body, test, line),
+            Task::While(test, body) => self.tests(program, depth, body, test, line),
             Task::Run(service) => self.serve(service, line),
-            Task::Call(_, _) => unreachable!(),
+            Task::Call(number, _name, terms) => self.call(program, depth, *number, terms, line),
         }
+    }
+
+    // Does a call of the unit of a number, where calls may go so deep.
+    #[cycle(run)]
+    fn call(
+        &mut self,
+        program: &'a [Routine<'a>],
+        depth: u64,
+        number: usize,
+        terms: &Terms,
+        line: u32,
+    ) -> Result<(), Stop>
+        requires framed { IsFrame self.old.frame.names.now self.old.frame.slots.items }
+        requires below { AreTermsBelow (length self.old.frame.names.now) terms.now }
+        requires program { AreRoutines program.now }
+        ensures names { self.new.frame.names.now ≡ self.old.frame.names.now }
+        ensures framed { IsFrame self.old.frame.names.now self.new.frame.slots.items }
+        ensures room { self.new.tape.room ≡ self.old.tape.room }
+        ensures ends { (name : List ℕ) → find_unit (units_in program.now) name ≡ slice_get (units_in program.now) number → (e : Entry) (s : Scene ℤ) → Holds e self.old s
+            → Ends e (calls_of (units_in program.now) depth (setting_at e) name (terms_in self.old.frame.names.now terms.now) line s self.old.left) result self.new }
+    {
+        if depth == 0 {
+            return Err(Stop::Budget);
+        }
+        if number >= program.len() {
+            return Err(Stop::Trap(Trap::Shape, line));
+        }
+        let routine = &program[number];
+        let actuals = self.actuals(terms, line)?;
+        let frame = self.entry(routine, actuals.as_slice(), line)?;
+        let outer = self.enter(frame)?;
+        let ended = self.run(program, depth - 1, &routine.body);
+        let (inner, is_closed) = self.leave(outer);
+        ended?;
+        if !is_closed {
+            return Err(Stop::Trap(Trap::Schedule, line));
+        }
+        self.hand_back(routine, actuals.as_slice(), &inner)
     }
 
     // Makes some turns of a DO, each counted, with the step after each.
     #[cycle(run)]
-    fn turns(&mut self, course: &Course, count: u64, body: &Steps) -> Result<(), Stop>
+    fn turns(
+        &mut self,
+        program: &'a [Routine<'a>],
+        depth: u64,
+        course: &Course,
+        count: u64,
+        body: &Steps,
+    ) -> Result<(), Stop>
         requires framed { IsFrame self.old.frame.names.now self.old.frame.slots.items }
         requires there { course.now.variable < length self.old.frame.names.now }
         requires below { AreStepsBelow (length self.old.frame.names.now) body.now }
-        requires plain { ArePlain body.now }
+        requires program { AreRoutines program.now }
+        requires linked { AreLinked (units_in program.now) body.now }
         ensures names { self.new.frame.names.now ≡ self.old.frame.names.now }
         ensures framed { IsFrame self.old.frame.names.now self.new.frame.slots.items }
-        ensures ends { (q : Calls ℤ) (e : Entry) (s : Scene ℤ) → Holds e self.old s → Ends e (turns (setting_at e) count (run q (setting_at e) (steps_in self.old.frame.names.now body.now)) (stepped (setting_at e) (var_at self.old.frame.names.now course.now.variable) course.now.by) s self.old.left) result self.new }
+        ensures room { self.new.tape.room ≡ self.old.tape.room }
+        ensures ends { let q : Calls ℤ = calls_of (units_in program.now) depth in (e : Entry) (s : Scene ℤ) → Holds e self.old s → Ends e (turns (setting_at e) count (run q (setting_at e) (steps_in self.old.frame.names.now body.now)) (stepped (setting_at e) (var_at self.old.frame.names.now course.now.variable) course.now.by) s self.old.left) result self.new }
     {
         let mut remaining = count;
         while remaining > 0 {
             if !self.count() {
                 return Err(Stop::Budget);
             }
-            self.run(body)?;
+            self.run(program, depth, body)?;
             self.advance(course);
             remaining -= 1;
         }
@@ -228,21 +293,30 @@ impl<'a> Machine<'a> {
 
     // Makes the turns of a DO WHILE, whose first test was counted.
     #[cycle(run)]
-    fn tests(&mut self, body: &Steps, test: &Test, line: u32) -> Result<(), Stop>
+    fn tests(
+        &mut self,
+        program: &'a [Routine<'a>],
+        depth: u64,
+        body: &Steps,
+        test: &Test,
+        line: u32,
+    ) -> Result<(), Stop>
         requires framed { IsFrame self.old.frame.names.now self.old.frame.slots.items }
         requires test { IsTestBelow (length self.old.frame.names.now) test.now }
         requires below { AreStepsBelow (length self.old.frame.names.now) body.now }
-        requires plain { ArePlain body.now }
+        requires program { AreRoutines program.now }
+        requires linked { AreLinked (units_in program.now) body.now }
         ensures names { self.new.frame.names.now ≡ self.old.frame.names.now }
         ensures framed { IsFrame self.old.frame.names.now self.new.frame.slots.items }
-        ensures ends { (q : Calls ℤ) (e : Entry) (s : Scene ℤ) → Holds e self.old s → Ends e (tests (setting_at e) most_tests (λ s1. holds (setting_at e) (test_in self.old.frame.names.now test.now) s1.store) line (run q (setting_at e) (steps_in self.old.frame.names.now body.now)) s self.old.left) result self.new }
+        ensures room { self.new.tape.room ≡ self.old.tape.room }
+        ensures ends { let q : Calls ℤ = calls_of (units_in program.now) depth in (e : Entry) (s : Scene ℤ) → Holds e self.old s → Ends e (tests (setting_at e) most_tests (λ s1. holds (setting_at e) (test_in self.old.frame.names.now test.now) s1.store) line (run q (setting_at e) (steps_in self.old.frame.names.now body.now)) s self.old.left) result self.new }
     {
         let mut remaining = most_tests();
         while self.holds(test, line)? {
             if remaining == 0 {
                 return Err(Stop::Trap(Trap::Step, line));
             }
-            self.run(body)?;
+            self.run(program, depth, body)?;
             if !self.count() {
                 return Err(Stop::Budget);
             }

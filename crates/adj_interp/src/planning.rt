@@ -184,6 +184,7 @@ impl<'a> Machine<'a> {
         requires steps_below { IsTermBelow (length self.old.frame.names.now) steps.now }
         requires snapshots_below { IsTermBelow (length self.old.frame.names.now) snapshots.now }
         ensures frame { self.new.frame ≡ self.old.frame }
+        ensures room { self.new.tape.room ≡ self.old.tape.room }
         ensures ends { (e : Entry) (s : Scene ℤ) → Holds e self.old s
             → Ends e (runtime_act (setting_at e) (begin_reversal (term_in self.old.frame.names.now steps.now) (term_in self.old.frame.names.now snapshots.now)) line s self.old.left) result self.new }
     {
@@ -198,6 +199,7 @@ impl<'a> Machine<'a> {
     /// Ends the innermost reversal of the entry.
     pub(crate) fn end(&mut self, line: u32) -> Result<(), Stop>
         ensures frame { self.new.frame ≡ self.old.frame }
+        ensures room { self.new.tape.room ≡ self.old.tape.room }
         ensures ends { (e : Entry) (s : Scene ℤ) → Holds e self.old s
             → Ends e (runtime_act (setting_at e) end_reversal line s self.old.left) result self.new }
     {
@@ -224,6 +226,7 @@ impl<'a> Machine<'a> {
         requires there { variable < length self.old.frame.names.now }
         ensures names { self.new.frame.names.now ≡ self.old.frame.names.now }
         ensures framed { IsFrame self.old.frame.names.now self.new.frame.slots.items }
+        ensures room { self.new.tape.room ≡ self.old.tape.room }
         ensures ends { (e : Entry) (s : Scene ℤ) → Holds e self.old s
             → Ends e (runtime_act (setting_at e) (count_actions (term_in self.old.frame.names.now steps.now) (term_in self.old.frame.names.now snapshots.now) (var_at self.old.frame.names.now variable)) line s self.old.left) result self.new }
     {
@@ -243,6 +246,7 @@ impl<'a> Machine<'a> {
         ensures names { self.new.frame.names.now ≡ self.old.frame.names.now }
         ensures framed { IsFrame self.old.frame.names.now self.new.frame.slots.items }
         ensures left { self.new.left ≡ self.old.left }
+        ensures room { self.new.tape.room ≡ self.old.tape.room }
         ensures holds { (e : Entry) (s : Scene ℤ) → Holds e self.old s → Holds e self.new (given_in (setting_at e) (var_at self.old.frame.names.now kind) (var_at self.old.frame.names.now lower) (var_at self.old.frame.names.now upper) action.now s) }
     {
         self.turn(kind, kind_of(action));
@@ -268,6 +272,7 @@ impl<'a> Machine<'a> {
         requires upper_there { targets.2 < length self.old.frame.names.now }
         ensures names { self.new.frame.names.now ≡ self.old.frame.names.now }
         ensures framed { IsFrame self.old.frame.names.now self.new.frame.slots.items }
+        ensures room { self.new.tape.room ≡ self.old.tape.room }
         ensures ends { (e : Entry) (s : Scene ℤ) → Holds e self.old s
             → Ends e (runtime_act (setting_at e) (give_action (term_in self.old.frame.names.now steps.now) (term_in self.old.frame.names.now snapshots.now) (term_in self.old.frame.names.now number.now) (var_at self.old.frame.names.now targets.0) (var_at self.old.frame.names.now targets.1) (var_at self.old.frame.names.now targets.2)) line s self.old.left) result self.new }
     {

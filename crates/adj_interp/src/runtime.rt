@@ -20,6 +20,7 @@ impl<'a> Machine<'a> {
     // Pushes a word, where the tape has room for it.
     fn push(&mut self, word: i64) -> Result<(), Stop>
         ensures frame { self.new.frame ≡ self.old.frame }
+        ensures room { self.new.tape.room ≡ self.old.tape.room }
         ensures ends { (e : Entry) (s : Scene ℤ) → Holds e self.old s → Ends e (pushed (setting_at e) word s self.old.left) result self.new }
     {
         match self.tape.push(word) {
@@ -36,6 +37,7 @@ impl<'a> Machine<'a> {
         ensures names { self.new.frame.names.now ≡ self.old.frame.names.now }
         ensures framed { IsFrame self.old.frame.names.now self.new.frame.slots.items }
         ensures sized { (j : ℕ) (d : Slot) → length (slice_index_or self.new.frame.slots.items j d).cells.items ≡ length (slice_index_or self.old.frame.slots.items j d).cells.items }
+        ensures room { self.new.tape.room ≡ self.old.tape.room }
         ensures ends { (e : Entry) (s : Scene ℤ) → Holds e self.old s → Ends e (popped (setting_at e) (var_at self.old.frame.names.now variable) cell line s self.old.left) result self.new }
     {
         match self.tape.pop() {
@@ -53,6 +55,7 @@ impl<'a> Machine<'a> {
         requires below { IsCellBelow (length self.old.frame.names.now) cell.now }
         ensures names { self.new.frame.names.now ≡ self.old.frame.names.now }
         ensures framed { IsFrame self.old.frame.names.now self.new.frame.slots.items }
+        ensures room { self.new.tape.room ≡ self.old.tape.room }
         ensures ends { (e : Entry) (s : Scene ℤ) → Holds e self.old s
             → Ends e (runtime_act (setting_at e) (push_word (var_at self.old.frame.names.now cell.now.variable) (terms_in self.old.frame.names.now cell.now.subs)) line s self.old.left) result self.new }
     {
@@ -67,6 +70,7 @@ impl<'a> Machine<'a> {
         requires below { IsCellBelow (length self.old.frame.names.now) cell.now }
         ensures names { self.new.frame.names.now ≡ self.old.frame.names.now }
         ensures framed { IsFrame self.old.frame.names.now self.new.frame.slots.items }
+        ensures room { self.new.tape.room ≡ self.old.tape.room }
         ensures ends { (e : Entry) (s : Scene ℤ) → Holds e self.old s
             → Ends e (runtime_act (setting_at e) (pop_word (var_at self.old.frame.names.now cell.now.variable) (terms_in self.old.frame.names.now cell.now.subs)) line s self.old.left) result self.new }
     {
@@ -79,6 +83,7 @@ impl<'a> Machine<'a> {
         requires framed { IsFrame self.old.frame.names.now self.old.frame.slots.items }
         requires there { variable < length self.old.frame.names.now }
         ensures frame { self.new.frame ≡ self.old.frame }
+        ensures room { self.new.tape.room ≡ self.old.tape.room }
         ensures ends { (line : ℕ) (e : Entry) (s : Scene ℤ) → Holds e self.old s
             → Ends e (runtime_act (setting_at e) (push_array (var_at self.old.frame.names.now variable)) line s self.old.left) result self.new }
     {
@@ -96,6 +101,7 @@ impl<'a> Machine<'a> {
         requires there { variable < length self.old.frame.names.now }
         ensures names { self.new.frame.names.now ≡ self.old.frame.names.now }
         ensures framed { IsFrame self.old.frame.names.now self.new.frame.slots.items }
+        ensures room { self.new.tape.room ≡ self.old.tape.room }
         ensures ends { (e : Entry) (s : Scene ℤ) → Holds e self.old s
             → Ends e (runtime_act (setting_at e) (pop_array (var_at self.old.frame.names.now variable)) line s self.old.left) result self.new }
     {
@@ -112,6 +118,7 @@ impl<'a> Machine<'a> {
         requires framed { IsFrame self.old.frame.names.now self.old.frame.slots.items }
         requires below { IsTermBelow (length self.old.frame.names.now) term.now }
         ensures frame { self.new.frame ≡ self.old.frame }
+        ensures room { self.new.tape.room ≡ self.old.tape.room }
         ensures ends { (e : Entry) (s : Scene ℤ) → Holds e self.old s
             → Ends e (runtime_act (setting_at e) (push_control (term_in self.old.frame.names.now term.now)) line s self.old.left) result self.new }
     {
@@ -126,6 +133,7 @@ impl<'a> Machine<'a> {
         ensures names { self.new.frame.names.now ≡ self.old.frame.names.now }
         ensures framed { IsFrame self.old.frame.names.now self.new.frame.slots.items }
         ensures left { self.new.left ≡ self.old.left }
+        ensures room { self.new.tape.room ≡ self.old.tape.room }
         ensures holds { (e : Entry) (s : Scene ℤ) → Holds e self.old s → Holds e self.new (record s { store = set_all s.store (var_at self.old.frame.names.now variable) (λ j. pos 0) }) }
     {
         self.frame.clear(variable);
@@ -137,6 +145,7 @@ impl<'a> Machine<'a> {
         requires below { IsServiceBelow (length self.old.frame.names.now) service.now }
         ensures names { self.new.frame.names.now ≡ self.old.frame.names.now }
         ensures framed { IsFrame self.old.frame.names.now self.new.frame.slots.items }
+        ensures room { self.new.tape.room ≡ self.old.tape.room }
         ensures ends { (e : Entry) (s : Scene ℤ) → Holds e self.old s
             → Ends e (runtime_act (setting_at e) (service_in self.old.frame.names.now service.now) line s self.old.left) result self.new }
     {

@@ -1,6 +1,9 @@
 //! Why a run stops.
 
-use adj_tree::Trap;
+ghost use Rattle.std.specs.Prelude.{◌≡◌};
+ghost use Rattle.adj_interp.specs.declared.stop.Stop.TheVariants as stop;
+
+use adj_tree::{Memory, Trap};
 
 /// Why a run stops before its end.
 #[derive(Clone, Copy, Debug, PartialEq, Eq)]
@@ -12,4 +15,20 @@ pub enum Stop {
     /// A word is to be pushed, and the tape is full.
     TapeFull,
     Memory,
+}
+
+impl From<Memory> for Stop {
+    ghost from_gives = { λ _ e. e ≡ stop.Memory };
+
+    fn from(_error: Memory) -> Stop {
+        Stop::Memory
+    }
+}
+
+impl From<adj_tape::Memory> for Stop {
+    ghost from_gives = { λ _ e. e ≡ stop.Memory };
+
+    fn from(_error: adj_tape::Memory) -> Stop {
+        Stop::Memory
+    }
 }

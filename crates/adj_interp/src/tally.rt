@@ -1,11 +1,15 @@
 //! What a run counts of its reversals.
 
-ghost use Rattle.std.specs.Prelude.{◌≡◌, ℕ, [], map, reverse, length, OnOk};
-ghost use Rattle.adj_meaning.specs.Event.{Begin, End};
+ghost use Rattle.std.specs.Prelude.{◌≡◌, List, ℕ, [], map, reverse, length, OnOk};
+ghost use Rattle.adj_meaning.specs.Event.{Enter, Begin, End};
+ghost use Rattle.adj_meaning.specs.Store.{Shape};
+ghost use Rattle.adj_interp.specs.Concludes.{counted_in};
 ghost use Rattle.adj_interp.specs.Counted.{Counted, with_event, reversal_of};
 
+use crate::log::Log;
 use adj_tree::Memory;
 use std::alloc::Global;
+use std::cmp;
 use std::marker::Model;
 
 /// A reversal that is open: the level of its unit, its steps, the words on the tape when it began, and the calls directly in it so far.
@@ -72,6 +76,23 @@ impl Tally {
         Ok(())
     }
 
+    /// A unit is entered at a level, with so many words on the tape.
+    pub fn enter(&mut self, level: u64, height: u64) -> Result<(), Memory>
+        ensures { OnOk result ((name : List ℕ) (shapes : List Shape) → self.new ≡ with_event self.old (Enter name level height shapes)) }
+    {
+        let Some(last) = self.begun.pop() else {
+            return Ok(());
+        };
+        if last.level < level && level - last.level == 1 {
+            self.height = cmp::max(self.height, height.saturating_sub(last.start));
+            let calls = last.calls.checked_add(1).ok_or(Memory)?;
+            self.begun.push(Reversal { calls, ..last })?;
+        } else {
+            self.begun.push(last)?;
+        }
+        Ok(())
+    }
+
     /// The innermost reversal ends, where one is open.
     pub fn end(&mut self) -> Result<(), Memory>
         ensures { OnOk result ((level : ℕ) → self.new ≡ with_event self.old (End level)) }
@@ -81,5 +102,18 @@ impl Tally {
             self.advances = self.advances.checked_add(advances).ok_or(Memory)?;
         }
         Ok(())
+    }
+
+    /// What was counted, with the statements that were used.
+    pub(crate) fn log(&self, used: u64) -> Log
+        ensures counted { counted_in result ≡ self.now.log }
+        ensures used { result.used ≡ used }
+    {
+        Log {
+            used,
+            reversals: self.reversals,
+            advances: self.advances,
+            height: self.height,
+        }
     }
 }

@@ -3,7 +3,8 @@
 ghost use Rattle.std.specs.Prelude.{◌≡◌, ◌<◌, ◌∷◌, [], IfOk, length};
 ghost use Rattle.adj_meaning.specs.Agree.{AreApart};
 ghost use Rattle.adj_frame.specs.Prepared.{IsTermBelow};
-ghost use Rattle.adj_frame.specs.Instructed.{IsTaskBelow, IsPlainTask, AreStepsBelow, ArePlain};
+ghost use Rattle.adj_frame.specs.Instructed.{IsTaskBelow, AreStepsBelow};
+ghost use Rattle.adj_frame.specs.Linked.{IsTaskLinked, AreLinked};
 ghost use Rattle.adj_frame.specs.Framed.{IsFrame};
 
 use adj_frame::{Cell, Frame, Slot, Step, Steps, Task, Term, Terms, Test};
@@ -46,17 +47,18 @@ fn machine<'a>(alloc: Global, names: &'a NameList, left: u64) -> Result<Machine<
         left,
         tally: Tally::new(alloc),
         cursor: None,
+        alloc,
     })
 }
 
 // A statement and the others.
 fn step(alloc: Global, task: Task, rest: Steps) -> Result<Steps, Memory>
     requires below { IsTaskBelow 3 task }
-    requires plain { IsPlainTask task }
+    requires linked { IsTaskLinked [] task }
     requires rest_below { AreStepsBelow 3 rest }
-    requires rest_plain { ArePlain rest }
+    requires rest_linked { AreLinked [] rest }
     ensures below { IfOk result (λ steps. AreStepsBelow 3 steps) }
-    ensures plain { IfOk result (λ steps. ArePlain steps) }
+    ensures linked { IfOk result (λ steps. AreLinked [] steps) }
 {
     let first = Box::new(alloc, Step { line: 2, task })?;
     Ok(Steps::More(first, Box::new(alloc, rest)?))
@@ -67,9 +69,9 @@ fn assign(alloc: Global, variable: usize, term: Term, rest: Steps) -> Result<Ste
     requires there { variable < 3 }
     requires below { IsTermBelow 3 term }
     requires rest_below { AreStepsBelow 3 rest }
-    requires rest_plain { ArePlain rest }
+    requires rest_linked { AreLinked [] rest }
     ensures below { IfOk result (λ steps. AreStepsBelow 3 steps) }
-    ensures plain { IfOk result (λ steps. ArePlain steps) }
+    ensures linked { IfOk result (λ steps. AreLinked [] steps) }
 {
     let cell = Cell {
         variable,
@@ -90,7 +92,7 @@ fn with_number(alloc: Global, op: Op, variable: usize, number: i64) -> Result<Te
 // R = 1, I = 0, and while I is below N: R = R * 2, I = I + 1.
 fn doubling(alloc: Global) -> Result<Steps, Memory>
     ensures below { IfOk result (λ steps. AreStepsBelow 3 steps) }
-    ensures plain { IfOk result (λ steps. ArePlain steps) }
+    ensures linked { IfOk result (λ steps. AreLinked [] steps) }
 {
     let next = assign(alloc, 1, with_number(alloc, Op::Add, 1, 1)?, Steps::Empty)?;
     let body = assign(alloc, 0, with_number(alloc, Op::Mul, 0, 2)?, next)?;
@@ -106,10 +108,10 @@ fn a_do_while_counts_each_test(rt: HostRuntime) -> Result<(), Fail> {
     let names = names(rt.alloc())?;
     let steps = assign(rt.alloc(), 2, Term::Lit(5), doubling(rt.alloc())?)?;
     let mut enough = machine(rt.alloc(), &names, 19)?;
-    assert_eq!(rt; enough.run(&steps), Ok(()));
+    assert_eq!(rt; enough.run(&[], 0, &steps), Ok(()));
     assert_eq!(rt; enough.left, 0);
     assert_eq!(rt; enough.frame.value(&Term::Var(0)), Ok(32));
     let mut short = machine(rt.alloc(), &names, 18)?;
-    assert_eq!(rt; short.run(&steps), Err(Stop::Budget));
+    assert_eq!(rt; short.run(&[], 0, &steps), Err(Stop::Budget));
     Ok(())
 }

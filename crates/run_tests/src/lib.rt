@@ -1,7 +1,10 @@
 //! Tests of the crate that runs programs, by its public calls alone.
 //!
-//! `doubling` runs prepared statements of an entry of scalars. No code stands on this crate.
+//! `doubling` runs prepared statements of an entry of scalars, `running` the first units of texts. No code stands on this
+//! crate.
 #![tactic(auto)]
 
 #[cfg(test)]
 mod doubling;
+#[cfg(test)]
+mod running;

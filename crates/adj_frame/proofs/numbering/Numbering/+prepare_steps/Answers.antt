@@ -1,11 +1,12 @@
-use Rattle.std.proofs.Common.{rules, ◌≡◌, length, refl, sym, ap, subst, ◌∙◌, arith}
+use Rattle.std.proofs.Common.{rules, ◌≡◌, length, map, refl, sym, ap, subst, ◌∙◌, arith}
 use Rattle.adj_tree.specs.declared.stmt.Stmts.{size-Stmts}
 use Rattle.adj_tree.specs.declared.stmt.Act.TheViews.{sized-More}
 use Rattle.adj_tree.specs.declared.stmt.Stmts.TheVariants as stmts
 use Rattle.adj_tree.specs.Code.{step, choose, loop}
-use Rattle.adj_tree.specs.View.{act_of, code_of}
+use Rattle.adj_tree.specs.View.{act_of, code_of, procedure_of}
 use Rattle.adj_tree.specs.Listed.{code_turned}
 use Rattle.adj_frame.specs.declared.step.Step.{Step}
+use Rattle.adj_frame.specs.Linked.{IsTaskLinked, AreLinked}
 use Rattle.adj_frame.specs.Instructed.{task_in, steps_in, IsTaskBelow, AreStepsBelow}
 use Rattle.adj_frame.proofs.Resolving.{extends_self, extends_on}
 use Rattle.adj_frame.proofs.numbering.Numbering.+prepare_steps.Goals as goal
@@ -13,6 +14,9 @@ use Rattle.adj_frame.proofs.numbering.Numbering.+prepare_steps.Goals as goal
 pub steps-loop-current-init : goal.steps-loop-current-init
 steps-loop-current-init t c = record {
   no_deeper = omega arith;
+  units = refl;
+  directory = c.requires;
+  linked = tt;
   extends = extends_self c.args.self.now;
   resolves = record { stands_for = λ ls f. refl; below = λ ls f. tt };
 }
@@ -35,6 +39,9 @@ steps-loop-current-preserved t c =
           let left = ap size-Stmts c.deref-current.ensures in
           let earlier = inv.no_deeper in
           first_of (omega (arith, whole, was, left, earlier), grind (arith, whole, was, left, earlier));
+      units = c.in_ok-task.ensures.units ∙ inv.units;
+      directory = c.in_ok-task.ensures.directory;
+      linked = (subst (λ (v : Step). IsTaskLinked (map procedure_of c.args.units.now.units.now) v.task) (sym ok1) (subst (λ us. IsTaskLinked (map procedure_of us) c.in_ok-task.task) inv.units c.in_ok-task.ensures.linked), subst (AreLinked (map procedure_of c.args.units.now.units.now)) (sym ok2) inv.linked);
       extends = extends_on c.args.self.now before after inv.extends e;
       resolves = record {
         stands_for = λ ls f.

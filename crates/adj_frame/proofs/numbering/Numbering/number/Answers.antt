@@ -1,6 +1,6 @@
-use Rattle.std.proofs.Common.{[], get_or, sym, ap, ap₂, subst, ◌∙◌}
+use Rattle.std.proofs.Common.{◌+◌, ◌≤◌, [], length, get_or, sym, ap, ap₂, subst, ◌∙◌}
 use Rattle.adj_meaning.specs.Agree.{AreApart}
-use Rattle.adj_frame.proofs.Numberings.{names_of, place_in, place_named, added_named, placed, apart_with}
+use Rattle.adj_frame.proofs.Numberings.{names_of, with_name, place_in, place_named, added_named, placed, few_more, apart_with}
 use Rattle.adj_frame.proofs.numbering.Numbering.number.Goals as goal
 
 pub returns-clause-named : goal.returns-clause-named
@@ -17,3 +17,10 @@ returns-clause-apart c a =
     let x = c.args.name.now in
     let all = ap names_of c.in_ok-number.ensures.keys ∙ added_named c.bytes.result ks x c.bytes.ensures.bytes in
     subst AreApart (sym all) (apart_with x (names_of ks) (subst AreApart (sym c.self.view_is) a))
+
+pub returns-clause-few : goal.returns-clause-few
+returns-clause-few c =
+    let ks = c.self.inside.names.keys in
+    let x = c.args.name.now in
+    let all = ap names_of c.in_ok-number.ensures.keys ∙ added_named c.bytes.result ks x c.bytes.ensures.bytes in
+    subst (λ ns. length ns ≤ length c.args.self.now + 1) (sym all) (subst (λ ns. length (with_name (names_of ks) x) ≤ length ns + 1) c.self.view_is (few_more x (names_of ks)))

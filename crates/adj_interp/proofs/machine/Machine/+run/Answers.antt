@@ -1,4 +1,4 @@
-use Rattle.std.proofs.Common.{rules, ◌≡◌, ◌<◌, ℕ, ℤ, FitsSigned, w64, length, refl, sym, ap, subst, ◌∙◌, arith}
+use Rattle.std.proofs.Common.{rules, ◌≡◌, ◌*◌, ◌-◌, ◌<◌, ℕ, suc, ℤ, List, FitsSigned, w64, length, refl, sym, ap, subst, ◌∙◌, arith, Vec, Global}
 use Rattle.std.specs.Prelude.{Result, Ok, Err, Bool, true, false}
 use Rattle.adj_meaning.specs.Trap.{Trap}
 use Rattle.std.proofs.lemmas.Int.{to_z-of_z}
@@ -7,6 +7,7 @@ use Rattle.adj_word.proofs.Residues.{wrap_word}
 use Rattle.adj_meaning.specs.Scene.{Scene, Outcome, then_do, with_value, Done, stand}
 use Rattle.adj_meaning.specs.Store.{set}
 use Rattle.adj_meaning.specs.Value.{target, holds}
+use Rattle.adj_meaning.specs.Units.{calls_of, copied_out}
 use Rattle.adj_meaning.specs.Run.{run, turns, with_turn, stepped, tests, in_force, after_loop}
 use Rattle.adj_tree.specs.declared.value.Trap.TheVariants as trap
 use Rattle.adj_interp.specs.declared.machine.Machine.{Machine}
@@ -14,45 +15,57 @@ use Rattle.adj_frame.specs.declared.step.Steps.{size-Steps}
 use Rattle.adj_frame.specs.declared.step.Steps.TheViews.{sized-More}
 use Rattle.adj_frame.specs.declared.step.Steps.TheVariants as steps
 use Rattle.adj_frame.specs.Prepared.{var_at, term_in, terms_in, test_in}
-use Rattle.adj_frame.specs.Instructed.{task_in, steps_in, marking_in}
+use Rattle.adj_frame.specs.Instructed.{task_in, steps_in, marking_in, AreStepsBelow}
+use Rattle.adj_frame.specs.declared.actual.Actual.{Actual}
+use Rattle.adj_frame.specs.declared.frame.Frame.{Frame}
+use Rattle.adj_frame.specs.declared.routine.Routine.{Routine}
+use Rattle.adj_frame.specs.Linked.{IsRoutine, units_in}
+use Rattle.adj_frame.specs.Shown.{Shows}
+use Rattle.adj_frame.specs.Called.{actuals_in, entered_with, shapes_with, fit_from}
+use Rattle.adj_interp.specs.declared.call.Outer.{Outer}
+use Rattle.adj_interp.specs.Entered.{inside}
+use Rattle.adj_interp.proofs.Calling.{all_sizes, size_within, less_deep, positive, call_past, call_at, call_err, misfit_at, call_misfit, unit_ends, call_break, call_open, call_done, done_back}
 use Rattle.adj_frame.specs.Framed.{IsFrame}
 use Rattle.adj_interp.specs.Held.{setting_at, Holds, Ends, Finds, IsDone, IsTrapped, HasMore}
-use Rattle.adj_interp.proofs.Driving.{reaches_start, reaches_end, ends_ok, ends_err, list_budget, list_next, list_break, same_act, turn_budget, turn_next, turn_break, turn_end, test_err, test_end, test_last, test_break, test_budget, test_next, ends_loop, bounds_chain}
+use Rattle.adj_interp.proofs.Driving.{holds_stand, reaches_start, reaches_end, ends_ok, ends_err, list_budget, list_next, list_break, same_act, turn_budget, turn_next, turn_break, turn_end, test_err, test_end, test_last, test_break, test_budget, test_next, ends_loop, bounds_chain}
 use Rattle.adj_interp.proofs.machine.Machine.+run.Goals as goal
 
 -- ---- lists
 
 pub run-loop-current-init : goal.run-loop-current-init
 run-loop-current-init t c = record {
+  room = refl;
   no_deeper = omega arith;
   names = refl;
   framed = c.requires.framed;
   below = c.requires.below;
-  plain = c.requires.plain;
-  reached = λ q e s h. reaches_start e (run q (setting_at e) (steps_in c.args.self.now.frame.names.now c.args.steps.now)) c.args.self.now s h;
+  linked = c.requires.linked;
+  reached = λ e s h. let q = calls_of {C = ℤ} (units_in c.args.program.now) c.args.depth in reaches_start e (run q (setting_at e) (steps_in c.args.self.now.frame.names.now c.args.steps.now)) c.args.self.now s h;
 }
 
 pub run-returns-then-not-count-clause-ends : goal.run-returns-then-not-count-clause-ends
-run-returns-then-not-count-clause-ends t c q e s h =
+run-returns-then-not-count-clause-ends t c e s h =
+    let q = calls_of {C = ℤ} (units_in c.args.program.now) c.args.depth in
     let names = c.args.self.now.frame.names.now in
     let v = c.in-More.step.value in
     let none = c.count.ensures.none c.if-not-count.true in
-    let at = rw c.in-More.is at (c.loop-current.invariant.reached q e s h) in
+    let at = rw c.in-More.is at (c.loop-current.invariant.reached e s h) in
     subst (λ m. HasMore m (run q (setting_at e) (steps_in names c.args.steps.now) s c.args.self.now.left)) (sym none.0)
     (list_budget e q v.line (task_in names v.task) (steps_in names c.in-More.rest.value) (run q (setting_at e) (steps_in names c.args.steps.now) s c.args.self.now.left) c.loop-current.self none.1 at)
 
 pub run-returns-in_err-perform-clause-ends : goal.run-returns-in_err-perform-clause-ends
-run-returns-in_err-perform-clause-ends t c q e s h =
+run-returns-in_err-perform-clause-ends t c e s h =
+    let q = calls_of {C = ℤ} (units_in c.args.program.now) c.args.depth in
     let names = c.args.self.now.frame.names.now in
     let v = c.in-More.step.value in
     let some = c.count.ensures.some c.if-not-count.false in
-    let at = rw c.in-More.is at (c.loop-current.invariant.reached q e s h) in
+    let at = rw c.in-More.is at (c.loop-current.invariant.reached e s h) in
     let same = ap (λ (m : Machine). m.frame.names.now) (sym some) ∙ c.loop-current.invariant.names in
     let r : c.from_residual.result ≡ Err c.in_err-perform.field-0.0 = search rules in
     let o = run q (setting_at e) (steps_in names c.args.steps.now) s c.args.self.now.left in
     subst (λ z. Ends e o z c.perform.new.self) (sym r)
     (list_break e q v.line (task_in names v.task) (steps_in names c.in-More.rest.value) o c.in_err-perform.field-0.0 c.loop-current.self c.count.new.self c.perform.new.self some
-    (λ z g. same_act e q names c.count.new.self.frame.names.now c.deref.result.now c.deref-in-More.result.now v z c.count.new.self.left (Err c.in_err-perform.field-0.0) c.perform.new.self same c.deref.ensures c.deref-in-More.ensures (c.in_err-perform.ensures.ends q e z g))
+    (λ z g. same_act e q names c.count.new.self.frame.names.now c.deref.result.now c.deref-in-More.result.now v z c.count.new.self.left (Err c.in_err-perform.field-0.0) c.perform.new.self same c.deref.ensures c.deref-in-More.ensures (c.in_err-perform.ensures.ends e z g))
     at)
 
 pub run-loop-current-preserved : goal.run-loop-current-preserved
@@ -62,7 +75,7 @@ run-loop-current-preserved t c =
     let some = c.count.ensures.some c.if-not-count.false in
     let same = ap (λ (m : Machine). m.frame.names.now) (sym some) ∙ c.loop-current.invariant.names in
     let below = rw c.in-More.is at c.loop-current.invariant.below in
-    let plain = rw c.in-More.is at c.loop-current.invariant.plain in
+    let linked = rw c.in-More.is at c.loop-current.invariant.linked in
     let rest = c.deref-current.ensures in
     record {
       no_deeper =
@@ -71,33 +84,37 @@ run-loop-current-preserved t c =
           let left = ap size-Steps c.deref-current.ensures in
           let before = c.loop-current.invariant.no_deeper in
           first_of (omega (arith, whole, was, left, before), grind (arith, whole, was, left, before));
+      room = c.in_ok-perform.ensures.room ∙ ap (λ (m : Machine). m.tape.room) (sym some) ∙ c.loop-current.invariant.room;
       names = c.in_ok-perform.ensures.names ∙ same;
       framed = rw (sym same) c.in_ok-perform.ensures.framed;
       below = rw rest below.1;
-      plain = rw rest plain.1;
-      reached = λ q e s h. rw rest
+      linked = rw rest linked.1;
+      reached = λ e s h. let q = calls_of {C = ℤ} (units_in c.args.program.now) c.args.depth in rw rest
           (list_next e q v.line (task_in names v.task) (steps_in names c.in-More.rest.value) (run q (setting_at e) (steps_in names c.args.steps.now) s c.args.self.now.left) c.in_ok-perform.field-0 c.loop-current.self c.count.new.self c.perform.new.self some
-          (λ z g. same_act e q names c.count.new.self.frame.names.now c.deref.result.now c.deref-in-More.result.now v z c.count.new.self.left (Ok c.in_ok-perform.field-0) c.perform.new.self same c.deref.ensures c.deref-in-More.ensures (c.in_ok-perform.ensures.ends q e z g))
-          (rw c.in-More.is at (c.loop-current.invariant.reached q e s h)));
+          (λ z g. same_act e q names c.count.new.self.frame.names.now c.deref.result.now c.deref-in-More.result.now v z c.count.new.self.left (Ok c.in_ok-perform.field-0) c.perform.new.self same c.deref.ensures c.deref-in-More.ensures (c.in_ok-perform.ensures.ends e z g))
+          (rw c.in-More.is at (c.loop-current.invariant.reached e s h)));
     }
 
 pub run-returns-clause-ends : goal.run-returns-clause-ends
-run-returns-clause-ends t c q e s h =
+run-returns-clause-ends t c e s h =
+    let q = calls_of {C = ℤ} (units_in c.args.program.now) c.args.depth in
     let names = c.args.self.now.frame.names.now in
     let o = run q (setting_at e) (steps_in names c.args.steps.now) s c.args.self.now.left in
-    let at = c.loop-current.invariant.reached q e s h in
+    let at = c.loop-current.invariant.reached e s h in
     let empty : c.loop-current.current.now ≡ steps.Empty = search rules in
     reaches_end e o tt c.loop-current.self (rw empty at at)
 
 -- ---- statements
 
 pub perform-returns-in_err-word-in-Assign-clause-ends : goal.perform-returns-in_err-word-in-Assign-clause-ends
-perform-returns-in_err-word-in-Assign-clause-ends t c q e s h =
+perform-returns-in_err-word-in-Assign-clause-ends t c e s h =
+    let q = calls_of {C = ℤ} (units_in c.args.program.now) c.args.depth in
     let r : c.from_residual.result ≡ Err c.in_err-word-in-Assign.field-0.0 = search rules in
     rw (c.in-Assign.is, r) (ends_err e _ c.args.line c.in_err-word-in-Assign.field-0.0 c.args.self.now s _ (c.in_err-word-in-Assign.ensures.value e s h) h)
 
 pub perform-returns-in_err-place-in-Assign-clause-ends : goal.perform-returns-in_err-place-in-Assign-clause-ends
-perform-returns-in_err-place-in-Assign-clause-ends t c q e s h =
+perform-returns-in_err-place-in-Assign-clause-ends t c e s h =
+    let q = calls_of {C = ℤ} (units_in c.args.program.now) c.args.depth in
     let r : c.from_residual-in_err-place-in-Assign.result ≡ Err c.in_err-place-in-Assign.field-0.0 = search rules in
     let names = c.args.self.now.frame.names.now in
     let x = var_at names c.in-Assign.cell.variable in
@@ -106,12 +123,14 @@ perform-returns-in_err-place-in-Assign-clause-ends t c q e s h =
     rw (c.in-Assign.is, r) (ends_ok e _ c.args.line c.in_ok-word-in-Assign.word (stand (setting_at e) s) go (Err c.in_err-place-in-Assign.field-0.0) c.args.self.now (c.in_ok-word-in-Assign.ensures.value e s h) (ends_err e _ c.args.line c.in_err-place-in-Assign.field-0.0 c.args.self.now s (put c.in_ok-word-in-Assign.word) (c.in_err-place-in-Assign.ensures.target e s h) h))
 
 pub perform-returns-in_err-holds-in-If-clause-ends : goal.perform-returns-in_err-holds-in-If-clause-ends
-perform-returns-in_err-holds-in-If-clause-ends t c q e s h =
+perform-returns-in_err-holds-in-If-clause-ends t c e s h =
+    let q = calls_of {C = ℤ} (units_in c.args.program.now) c.args.depth in
     let r : c.from_residual-in_err-holds-in-If.result ≡ Err c.in_err-holds-in-If.field-0.0 = search rules in
     rw (c.in-If.is, r) (ends_err e _ c.args.line c.in_err-holds-in-If.field-0.0 c.args.self.now s _ (c.in_err-holds-in-If.ensures.holds e s h) h)
 
 pub perform-returns-in_err-first-in-Loop-clause-ends : goal.perform-returns-in_err-first-in-Loop-clause-ends
-perform-returns-in_err-first-in-Loop-clause-ends t c q e s h =
+perform-returns-in_err-first-in-Loop-clause-ends t c e s h =
+    let q = calls_of {C = ℤ} (units_in c.args.program.now) c.args.depth in
     let names = c.args.self.now.frame.names.now in
     let b = c.in-Loop.bounds in
     let n = setting_at e in
@@ -125,7 +144,8 @@ perform-returns-in_err-first-in-Loop-clause-ends t c q e s h =
     (ends_err e _ c.args.line x c.args.self.now s (λ (p : ℤ × ℤ × ℕ). go p.0 p.1 p.2) (c.in_err-first-in-Loop.ensures.bounds e s h) h))
 
 pub perform-returns-in_ok-first-in-Loop-clause-ends : goal.perform-returns-in_ok-first-in-Loop-clause-ends
-perform-returns-in_ok-first-in-Loop-clause-ends t c q e s h =
+perform-returns-in_ok-first-in-Loop-clause-ends t c e s h =
+    let q = calls_of {C = ℤ} (units_in c.args.program.now) c.args.depth in
     let names = c.args.self.now.frame.names.now in
     let b = c.in-Loop.bounds in
     let n = setting_at e in
@@ -140,35 +160,40 @@ perform-returns-in_ok-first-in-Loop-clause-ends t c q e s h =
     let word = to_z-of_z w64 first fits ∙ sym (wrap_word first fits) in
     let go : ℤ → ℤ → ℕ → Outcome (Scene ℤ) = λ u z i. then_do (turns n i (run q n (steps_in names c.in-Loop.body)) (stepped n at z) (with_turn n at (wrap u) s) c.args.self.now.left) (λ s1 j. Done (after_loop c.args.line i (in_force n mark s.store) s1) j) in
     let done = subst (λ z. z) (λ i. Ends e (turns n count (run q n (steps_in (c.turn.ensures.names i) c.in-Loop.body)) (stepped n (var_at (c.turn.ensures.names i) c.in-Loop.variable) (bys i)) (with_turn n at (word i) s) (c.turn.ensures.left i)) c.turns.result c.turns.new.self)
-    (c.turns.ensures.ends q e _ (c.turn.ensures.holds e s h)) in
+    (c.turns.ensures.ends e _ (c.turn.ensures.holds e s h)) in
     rw c.in-Loop.is
     (subst (λ z. Ends e z c.turns.result c.turns.new.self) (bounds_chain n (term_in names b.first) (term_in names b.last) (term_in names b.by) mark s.store c.args.line (stand n s) go)
     (ends_ok e _ c.args.line (first, by, count) (stand n s) (λ (p : ℤ × ℤ × ℕ). go p.0 p.1 p.2) c.turns.result c.turns.new.self (c.in_ok-first-in-Loop.ensures.bounds e s h)
     (ends_loop e _ c.args.line count (in_force n mark s.store) c.turns.result c.turns.new.self done)))
 
 pub perform-returns-in-While-clause-ends : goal.perform-returns-in-While-clause-ends
-perform-returns-in-While-clause-ends t c q e s h = rw c.in-While.is (c.tests.ensures.ends q e s h)
+perform-returns-in-While-clause-ends t c e s h =
+    let q = calls_of {C = ℤ} (units_in c.args.program.now) c.args.depth in
+    rw c.in-While.is (c.tests.ensures.ends e s h)
 
 -- ---- turns
 
 pub turns-loop-remaining-init : goal.turns-loop-remaining-init
 turns-loop-remaining-init t c = record {
+  room = refl;
   names = refl;
   framed = c.requires.framed;
-  reached = λ q e s h. reaches_start e (turns (setting_at e) c.args.count (run q (setting_at e) (steps_in c.args.self.now.frame.names.now c.args.body.now)) (stepped (setting_at e) (var_at c.args.self.now.frame.names.now c.args.course.now.variable) c.args.course.now.by)) c.args.self.now s h;
+  reached = λ e s h. let q = calls_of {C = ℤ} (units_in c.args.program.now) c.args.depth in reaches_start e (turns (setting_at e) c.args.count (run q (setting_at e) (steps_in c.args.self.now.frame.names.now c.args.body.now)) (stepped (setting_at e) (var_at c.args.self.now.frame.names.now c.args.course.now.variable) c.args.course.now.by)) c.args.self.now s h;
 }
 
 pub turns-returns-then-not-count-clause-ends : goal.turns-returns-then-not-count-clause-ends
-turns-returns-then-not-count-clause-ends t c q e s h =
+turns-returns-then-not-count-clause-ends t c e s h =
+    let q = calls_of {C = ℤ} (units_in c.args.program.now) c.args.depth in
     let names = c.args.self.now.frame.names.now in
     let body = run q (setting_at e) (steps_in names c.args.body.now) in
     let after = stepped (setting_at e) (var_at names c.args.course.now.variable) c.args.course.now.by in
     let o = turns (setting_at e) c.args.count body after s c.args.self.now.left in
     let none = c.count.ensures.none c.if-not-count.true in
-    subst (λ m. HasMore m o) (sym none.0) (turn_budget e body after c.loop-remaining.remaining o c.loop-remaining.self c.loop-remaining-test.true none.1 (c.loop-remaining.invariant.reached q e s h))
+    subst (λ m. HasMore m o) (sym none.0) (turn_budget e body after c.loop-remaining.remaining o c.loop-remaining.self c.loop-remaining-test.true none.1 (c.loop-remaining.invariant.reached e s h))
 
 pub turns-returns-in_err-run-clause-ends : goal.turns-returns-in_err-run-clause-ends
-turns-returns-in_err-run-clause-ends t c q e s h =
+turns-returns-in_err-run-clause-ends t c e s h =
+    let q = calls_of {C = ℤ} (units_in c.args.program.now) c.args.depth in
     let names = c.args.self.now.frame.names.now in
     let body = run q (setting_at e) (steps_in names c.args.body.now) in
     let after = stepped (setting_at e) (var_at names c.args.course.now.variable) c.args.course.now.by in
@@ -179,8 +204,8 @@ turns-returns-in_err-run-clause-ends t c q e s h =
     let r : c.from_residual.result ≡ Err c.in_err-run.field-0.0 = search rules in
     subst (λ z. Ends e o z c.run.new.self) (sym r)
     (turn_break e body after c.loop-remaining.remaining o x c.loop-remaining.self c.count.new.self c.run.new.self c.loop-remaining-test.true some
-    (λ z g. subst (λ ns. Ends e (run q (setting_at e) (steps_in ns c.args.body.now) z c.count.new.self.left) (Err x) c.run.new.self) same (c.in_err-run.ensures.ends q e z g))
-    (c.loop-remaining.invariant.reached q e s h))
+    (λ z g. subst (λ ns. Ends e (run q (setting_at e) (steps_in ns c.args.body.now) z c.count.new.self.left) (Err x) c.run.new.self) same (c.in_err-run.ensures.ends e z g))
+    (c.loop-remaining.invariant.reached e s h))
 
 pub turns-advance-requires-clause-there : goal.turns-advance-requires-clause-there
 turns-advance-requires-clause-there t c =
@@ -194,39 +219,44 @@ turns-loop-remaining-preserved t c =
     let same = ap (λ (m : Machine). m.frame.names.now) (sym some) ∙ c.loop-remaining.invariant.names in
     let still = c.in_ok-run.ensures.names ∙ same in
     record {
+      room = c.advance.ensures.room ∙ c.in_ok-run.ensures.room ∙ ap (λ (m : Machine). m.tape.room) (sym some) ∙ c.loop-remaining.invariant.room;
       names = c.advance.ensures.names ∙ still;
       framed = subst (λ ns. IsFrame ns c.advance.new.self.frame.slots.items) still c.advance.ensures.framed;
-      reached = λ q e s h.
+      reached = λ e s h.
+          let q = calls_of {C = ℤ} (units_in c.args.program.now) c.args.depth in
           let body = run q (setting_at e) (steps_in names c.args.body.now) in
           let after = stepped (setting_at e) (var_at names c.args.course.now.variable) c.args.course.now.by in
           let o = turns (setting_at e) c.args.count body after s c.args.self.now.left in
           turn_next e body after c.loop-remaining.remaining o c.in_ok-run.field-0 c.loop-remaining.self c.count.new.self c.run.new.self c.advance.new.self c.loop-remaining-test.true some
-          (λ z g. subst (λ ns. Ends e (run q (setting_at e) (steps_in ns c.args.body.now) z c.count.new.self.left) (Ok c.in_ok-run.field-0) c.run.new.self) same (c.in_ok-run.ensures.ends q e z g))
+          (λ z g. subst (λ ns. Ends e (run q (setting_at e) (steps_in ns c.args.body.now) z c.count.new.self.left) (Ok c.in_ok-run.field-0) c.run.new.self) same (c.in_ok-run.ensures.ends e z g))
           c.advance.ensures.left
           (λ z g. subst (λ ns. Holds e c.advance.new.self (stepped (setting_at e) (var_at ns c.args.course.now.variable) c.args.course.now.by z)) still (c.advance.ensures.holds e z g))
-          (c.loop-remaining.invariant.reached q e s h);
+          (c.loop-remaining.invariant.reached e s h);
     }
 
 pub turns-returns-clause-ends : goal.turns-returns-clause-ends
-turns-returns-clause-ends t c q e s h =
+turns-returns-clause-ends t c e s h =
+    let q = calls_of {C = ℤ} (units_in c.args.program.now) c.args.depth in
     let names = c.args.self.now.frame.names.now in
     let body = run q (setting_at e) (steps_in names c.args.body.now) in
     let after = stepped (setting_at e) (var_at names c.args.course.now.variable) c.args.course.now.by in
     let o = turns (setting_at e) c.args.count body after s c.args.self.now.left in
     let none : c.loop-remaining.remaining ≡ 0 = search rules in
-    turn_end e body after c.loop-remaining.remaining o tt c.loop-remaining.self none (c.loop-remaining.invariant.reached q e s h)
+    turn_end e body after c.loop-remaining.remaining o tt c.loop-remaining.self none (c.loop-remaining.invariant.reached e s h)
 
 -- ---- tests
 
 pub tests-loop-self-init : goal.tests-loop-self-init
 tests-loop-self-init t c = record {
+  room = refl;
   names = refl;
   framed = c.requires.framed;
-  reached = λ q e s h. reaches_start e (tests (setting_at e) c.most_tests-remaining.result (λ s1. holds (setting_at e) (test_in c.args.self.now.frame.names.now c.args.test.now) s1.store) c.args.line (run q (setting_at e) (steps_in c.args.self.now.frame.names.now c.args.body.now))) c.args.self.now s h;
+  reached = λ e s h. let q = calls_of {C = ℤ} (units_in c.args.program.now) c.args.depth in reaches_start e (tests (setting_at e) c.most_tests-remaining.result (λ s1. holds (setting_at e) (test_in c.args.self.now.frame.names.now c.args.test.now) s1.store) c.args.line (run q (setting_at e) (steps_in c.args.self.now.frame.names.now c.args.body.now))) c.args.self.now s h;
 }
 
 pub tests-returns-in_err-holds-clause-ends : goal.tests-returns-in_err-holds-clause-ends
-tests-returns-in_err-holds-clause-ends t c q e s h =
+tests-returns-in_err-holds-clause-ends t c e s h =
+    let q = calls_of {C = ℤ} (units_in c.args.program.now) c.args.depth in
     let names = c.args.self.now.frame.names.now in
     let line = c.args.line in
     let i = c.loop-self.remaining in
@@ -235,7 +265,7 @@ tests-returns-in_err-holds-clause-ends t c q e s h =
     let o = tests (setting_at e) c.most_tests-remaining.result test line body s c.args.self.now.left in
     let whole = ap (λ j. tests (setting_at e) j test line body s c.args.self.now.left) c.most_tests-remaining.ensures in
     let same = c.loop-self.invariant.names in
-    let reached = c.loop-self.invariant.reached q e s h in
+    let reached = c.loop-self.invariant.reached e s h in
     let x = c.in_err-holds.field-0.0 in
     let r : c.from_residual.result ≡ Err c.in_err-holds.field-0.0 = search rules in
     subst (λ z. Ends e z c.from_residual.result c.loop-self.self) whole
@@ -243,7 +273,8 @@ tests-returns-in_err-holds-clause-ends t c q e s h =
     (test_err e test line body i o x c.loop-self.self (λ z g. subst (λ ns. Finds line (holds (setting_at e) (test_in ns c.args.test.now) z.store) (Err x)) same (c.in_err-holds.ensures.holds e z g)) reached))
 
 pub tests-returns-then-remaining-eq0-clause-ends : goal.tests-returns-then-remaining-eq0-clause-ends
-tests-returns-then-remaining-eq0-clause-ends t c q e s h =
+tests-returns-then-remaining-eq0-clause-ends t c e s h =
+    let q = calls_of {C = ℤ} (units_in c.args.program.now) c.args.depth in
     let names = c.args.self.now.frame.names.now in
     let line = c.args.line in
     let i = c.loop-self.remaining in
@@ -252,13 +283,14 @@ tests-returns-then-remaining-eq0-clause-ends t c q e s h =
     let o = tests (setting_at e) c.most_tests-remaining.result test line body s c.args.self.now.left in
     let whole = ap (λ j. tests (setting_at e) j test line body s c.args.self.now.left) c.most_tests-remaining.ensures in
     let same = c.loop-self.invariant.names in
-    let reached = c.loop-self.invariant.reached q e s h in
+    let reached = c.loop-self.invariant.reached e s h in
     let found : (z : Scene ℤ) → Holds e c.loop-self.self z → Finds {A = Bool} line (test z) (Ok true) = λ z g. ap (λ ns. holds (setting_at e) (test_in ns c.args.test.now) z.store) (sym same) ∙ c.in_ok-holds.ensures.holds e z g ∙ ap Ok c.if-branch.true in
     subst (λ z. IsTrapped c.loop-self.self trap.Step line z) whole
     (test_last e test line body i o c.loop-self.self c.if-remaining-eq0.true found reached)
 
 pub tests-returns-in_err-run-clause-ends : goal.tests-returns-in_err-run-clause-ends
-tests-returns-in_err-run-clause-ends t c q e s h =
+tests-returns-in_err-run-clause-ends t c e s h =
+    let q = calls_of {C = ℤ} (units_in c.args.program.now) c.args.depth in
     let names = c.args.self.now.frame.names.now in
     let line = c.args.line in
     let i = c.loop-self.remaining in
@@ -267,7 +299,7 @@ tests-returns-in_err-run-clause-ends t c q e s h =
     let o = tests (setting_at e) c.most_tests-remaining.result test line body s c.args.self.now.left in
     let whole = ap (λ j. tests (setting_at e) j test line body s c.args.self.now.left) c.most_tests-remaining.ensures in
     let same = c.loop-self.invariant.names in
-    let reached = c.loop-self.invariant.reached q e s h in
+    let reached = c.loop-self.invariant.reached e s h in
     let found : (z : Scene ℤ) → Holds e c.loop-self.self z → Finds {A = Bool} line (test z) (Ok true) = λ z g. ap (λ ns. holds (setting_at e) (test_in ns c.args.test.now) z.store) (sym same) ∙ c.in_ok-holds.ensures.holds e z g ∙ ap Ok c.if-branch.true in
     let x = c.in_err-run.field-0.0 in
     let some : 0 < c.loop-self.remaining = search rules in
@@ -275,11 +307,12 @@ tests-returns-in_err-run-clause-ends t c q e s h =
     subst (λ z. Ends e z c.from_residual-in_err-run.result c.run.new.self) whole
     (subst (λ z. Ends e o z c.run.new.self) (sym r)
     (test_break e test line body i o x c.loop-self.self c.run.new.self some found
-    (λ z g. subst (λ ns. Ends e (run q (setting_at e) (steps_in ns c.args.body.now) z c.loop-self.self.left) (Err x) c.run.new.self) same (c.in_err-run.ensures.ends q e z g))
+    (λ z g. subst (λ ns. Ends e (run q (setting_at e) (steps_in ns c.args.body.now) z c.loop-self.self.left) (Err x) c.run.new.self) same (c.in_err-run.ensures.ends e z g))
     reached))
 
 pub tests-returns-then-not-count-clause-ends : goal.tests-returns-then-not-count-clause-ends
-tests-returns-then-not-count-clause-ends t c q e s h =
+tests-returns-then-not-count-clause-ends t c e s h =
+    let q = calls_of {C = ℤ} (units_in c.args.program.now) c.args.depth in
     let names = c.args.self.now.frame.names.now in
     let line = c.args.line in
     let i = c.loop-self.remaining in
@@ -288,14 +321,14 @@ tests-returns-then-not-count-clause-ends t c q e s h =
     let o = tests (setting_at e) c.most_tests-remaining.result test line body s c.args.self.now.left in
     let whole = ap (λ j. tests (setting_at e) j test line body s c.args.self.now.left) c.most_tests-remaining.ensures in
     let same = c.loop-self.invariant.names in
-    let reached = c.loop-self.invariant.reached q e s h in
+    let reached = c.loop-self.invariant.reached e s h in
     let found : (z : Scene ℤ) → Holds e c.loop-self.self z → Finds {A = Bool} line (test z) (Ok true) = λ z g. ap (λ ns. holds (setting_at e) (test_in ns c.args.test.now) z.store) (sym same) ∙ c.in_ok-holds.ensures.holds e z g ∙ ap Ok c.if-branch.true in
     let none = c.count.ensures.none c.if-not-count.true in
     let some : 0 < c.loop-self.remaining = search rules in
     subst (λ z. HasMore c.count.new.self z) whole
     (subst (λ m. HasMore m o) (sym none.0)
     (test_budget e test line body i o c.in_ok-run.field-0 c.loop-self.self c.run.new.self some found
-    (λ z g. subst (λ ns. Ends e (run q (setting_at e) (steps_in ns c.args.body.now) z c.loop-self.self.left) (Ok c.in_ok-run.field-0) c.run.new.self) same (c.in_ok-run.ensures.ends q e z g))
+    (λ z g. subst (λ ns. Ends e (run q (setting_at e) (steps_in ns c.args.body.now) z c.loop-self.self.left) (Ok c.in_ok-run.field-0) c.run.new.self) same (c.in_ok-run.ensures.ends e z g))
     none.1 reached))
 
 pub tests-loop-self-preserved : goal.tests-loop-self-preserved
@@ -309,21 +342,24 @@ tests-loop-self-preserved t c =
     let framed = subst (λ ns. IsFrame ns c.run.new.self.frame.slots.items) same c.in_ok-run.ensures.framed in
     let positive : 0 < c.loop-self.remaining = search rules in
     record {
+      room = ap (λ (m : Machine). m.tape.room) (sym some) ∙ c.in_ok-run.ensures.room ∙ c.loop-self.invariant.room;
       names = after ∙ still;
       framed = subst (λ (m : Machine). IsFrame names m.frame.slots.items) some framed;
-      reached = λ q e s h.
+      reached = λ e s h.
+          let q = calls_of {C = ℤ} (units_in c.args.program.now) c.args.depth in
           let test : Scene ℤ → Result Bool Trap = λ s1. holds (setting_at e) (test_in names c.args.test.now) s1.store in
           let body = run q (setting_at e) (steps_in names c.args.body.now) in
           let o = tests (setting_at e) c.most_tests-remaining.result test line body s c.args.self.now.left in
           test_next e test line body c.loop-self.remaining o c.in_ok-run.field-0 c.loop-self.self c.run.new.self c.count.new.self positive
           (λ (z : Scene ℤ) g. ap (λ ns. holds (setting_at e) (test_in ns c.args.test.now) z.store) (sym same) ∙ c.in_ok-holds.ensures.holds e z g ∙ ap Ok c.if-branch.true)
-          (λ z g. subst (λ ns. Ends e (run q (setting_at e) (steps_in ns c.args.body.now) z c.loop-self.self.left) (Ok c.in_ok-run.field-0) c.run.new.self) same (c.in_ok-run.ensures.ends q e z g))
+          (λ z g. subst (λ ns. Ends e (run q (setting_at e) (steps_in ns c.args.body.now) z c.loop-self.self.left) (Ok c.in_ok-run.field-0) c.run.new.self) same (c.in_ok-run.ensures.ends e z g))
           some
-          (c.loop-self.invariant.reached q e s h);
+          (c.loop-self.invariant.reached e s h);
     }
 
 pub tests-returns-clause-ends : goal.tests-returns-clause-ends
-tests-returns-clause-ends t c q e s h =
+tests-returns-clause-ends t c e s h =
+    let q = calls_of {C = ℤ} (units_in c.args.program.now) c.args.depth in
     let names = c.args.self.now.frame.names.now in
     let line = c.args.line in
     let i = c.loop-self.remaining in
@@ -332,7 +368,187 @@ tests-returns-clause-ends t c q e s h =
     let o = tests (setting_at e) c.most_tests-remaining.result test line body s c.args.self.now.left in
     let whole = ap (λ j. tests (setting_at e) j test line body s c.args.self.now.left) c.most_tests-remaining.ensures in
     let same = c.loop-self.invariant.names in
-    let reached = c.loop-self.invariant.reached q e s h in
+    let reached = c.loop-self.invariant.reached e s h in
     let found : (z : Scene ℤ) → Holds e c.loop-self.self z → Finds {A = Bool} line (test z) (Ok false) = λ z g. ap (λ ns. holds (setting_at e) (test_in ns c.args.test.now) z.store) (sym same) ∙ c.in_ok-holds.ensures.holds e z g ∙ ap Ok c.if-branch.false in
     subst (λ z. IsDone e c.loop-self.self z) whole
     (test_end e test line body i o tt c.loop-self.self found reached)
+
+-- ---- calls
+
+pub perform-call-requires : goal.perform-call-requires
+perform-call-requires t c =
+    let below = rw c.in-Call.is at c.requires.below in
+    (omega (arith, c.decreases), (c.requires.framed, (below, c.requires.program)))
+
+pub tests-run-requires : goal.tests-run-requires
+tests-run-requires t c =
+    let inv = c.loop-self.invariant in
+    (omega (arith, c.decreases), (subst (λ ns. IsFrame ns c.loop-self.self.frame.slots.items) (sym inv.names) inv.framed, (subst (λ ns. AreStepsBelow (length ns) c.args.body.now) (sym inv.names) c.requires.below, (c.requires.program, c.requires.linked))))
+
+pub turns-run-requires : goal.turns-run-requires
+turns-run-requires t c =
+    let inv = c.loop-remaining.invariant in
+    let some = c.count.ensures.some c.if-not-count.false in
+    let same = ap (λ (m : Machine). m.frame.names.now) (sym some) ∙ inv.names in
+    let framed = subst (λ (m : Machine). IsFrame c.args.self.now.frame.names.now m.frame.slots.items) some inv.framed in
+    (omega (arith, c.decreases), (subst (λ ns. IsFrame ns c.count.new.self.frame.slots.items) (sym same) framed, (subst (λ ns. AreStepsBelow (length ns) c.args.body.now) (sym same) c.requires.below, (c.requires.program, c.requires.linked))))
+
+pub perform-returns-in-Call-clause-ends : goal.perform-returns-in-Call-clause-ends
+perform-returns-in-Call-clause-ends t c e s h =
+    let linked = rw c.in-Call.is at c.requires.linked in
+    rw c.in-Call.is (c.call.ensures.ends c.in-Call._name linked e s h)
+
+pub call-returns-then-depth-eq0-clause-ends : goal.call-returns-then-depth-eq0-clause-ends
+call-returns-then-depth-eq0-clause-ends t c name found e s h =
+    subst (λ d. HasMore c.args.self.now (calls_of {C = ℤ} (units_in c.args.program.now) d (setting_at e) name (terms_in c.args.self.now.frame.names.now c.args.terms.now) c.args.line s c.args.self.now.left)) (sym c.if-depth-eq0.true) (holds_stand e c.args.self.now s h)
+
+pub call-returns-then-number-program-clause-ends : goal.call-returns-then-number-program-clause-ends
+call-returns-then-number-program-clause-ends t c name found e s h =
+    let m = c.args.self.now in
+    let past = call_past c.args.program.now c.args.depth c.args.number name (positive c.args.depth c.if-depth-eq0.false) found (setting_at e) (terms_in m.frame.names.now c.args.terms.now) c.args.line s m.left c.if-number-program.true in
+    subst (IsTrapped m trap.Shape c.args.line) (sym past) (refl, refl, holds_stand e m s h)
+
+pub call-returns-in_err-actuals-clause-ends : goal.call-returns-in_err-actuals-clause-ends
+call-returns-in_err-actuals-clause-ends t c name found e s h =
+    let rs = c.args.program.now in
+    let m = c.args.self.now in
+    let names = m.frame.names.now in
+    let args = terms_in names c.args.terms.now in
+    let r = c.index-program-number.result in
+    let lt = c.if-number-program.false in
+    let k = subst (IsRoutine (units_in rs)) (sym c.index-program-number.is) (c.requires.program c.args.number r lt) in
+    let at = call_at rs c.args.depth c.args.number name (positive c.args.depth c.if-depth-eq0.false) found (setting_at e) args c.args.line s m.left r r.writes.now lt c.index-program-number.is k.writes in
+    let x = c.in_err-actuals.field-0.0 in
+    let err : c.from_residual.result ≡ Err c.in_err-actuals.field-0.0 = search rules in
+    let o = calls_of {C = ℤ} (units_in rs) c.args.depth (setting_at e) name args c.args.line s m.left in
+    subst (λ z. Ends e o z m) (sym err)
+    (subst (λ z. Ends e z (Err x) m) (sym at) (call_err (calls_of {C = ℤ} (units_in rs) (c.args.depth - 1)) e s r r.writes.now args c.args.line m.left m h (λ (v : Vec Actual Global). actuals_in names e.shape s.store v.items) x (c.in_err-actuals.ensures.actuals e s h)))
+
+pub call-returns-in_err-frame-clause-ends : goal.call-returns-in_err-frame-clause-ends
+call-returns-in_err-frame-clause-ends t c name found e s h =
+    let rs = c.args.program.now in
+    let m = c.args.self.now in
+    let names = m.frame.names.now in
+    let args = terms_in names c.args.terms.now in
+    let r = c.index-program-number.result in
+    let lt = c.if-number-program.false in
+    let k = subst (IsRoutine (units_in rs)) (sym c.index-program-number.is) (c.requires.program c.args.number r lt) in
+    let at = call_at rs c.args.depth c.args.number name (positive c.args.depth c.if-depth-eq0.false) found (setting_at e) args c.args.line s m.left r r.writes.now lt c.index-program-number.is k.writes in
+    let x = c.in_err-frame.field-0.0 in
+    let err : c.from_residual-in_err-frame.result ≡ Err c.in_err-frame.field-0.0 = search rules in
+    let o = calls_of {C = ℤ} (units_in rs) c.args.depth (setting_at e) name args c.args.line s m.left in
+    let got = actuals_in names e.shape s.store c.in_ok-actuals.actuals.items in
+    let misfit = misfit_at x c.args.line (λ f. ap (λ all. fit_from r (actuals_in names e.shape s.store all) 0) (sym c.as_slice.ensures.value) ∙ f e s h) c.in_err-frame.ensures.misfit in
+    subst (λ z. Ends e o z m) (sym err)
+    (subst (λ z. Ends e z (Err x) m) (sym at) (call_misfit (calls_of {C = ℤ} (units_in rs) (c.args.depth - 1)) e s r r.writes.now args c.args.line m.left m h got (c.in_ok-actuals.ensures.actuals e s h) x misfit))
+
+pub call-run-ended-requires : goal.call-run-ended-requires
+call-run-ended-requires t c =
+    let rs = c.args.program.now in
+    let r = c.index-program-number.result in
+    let lt = c.if-number-program.false in
+    let k = subst (IsRoutine (units_in rs)) (sym c.index-program-number.is) (c.requires.program c.args.number r lt) in
+    let frame = c.in_ok-outer.ensures.frame in
+    let f = c.in_ok-frame.ensures in
+    let names = ap (λ (z : Frame). z.names.now) frame ∙ f.names in
+    let framed = subst (λ (z : Frame). IsFrame r.names z.slots.items) (sym frame) f.framed in
+    let size = ap (λ (z : Routine). size-Steps z.body) c.index-program-number.is in
+    let within = size_within rs c.args.number r lt in
+    let less = less_deep c.args.depth (suc (2 * all_sizes rs)) (2 * size-Steps r.body) 0 (positive c.args.depth c.if-depth-eq0.false) (omega (arith, size, within)) in
+    (omega (arith, c.decreases, less), (subst (λ ns. IsFrame ns c.enter.new.self.frame.slots.items) (sym names) framed, (subst (λ ns. AreStepsBelow (length ns) r.body) (sym names) k.below, (c.requires.program, k.linked))))
+
+pub call-returns-in_err-ended-clause-ends : goal.call-returns-in_err-ended-clause-ends
+call-returns-in_err-ended-clause-ends t c name found e s h =
+    let rs = c.args.program.now in
+    let m = c.args.self.now in
+    let names = m.frame.names.now in
+    let args = terms_in names c.args.terms.now in
+    let r = c.index-program-number.result in
+    let lt = c.if-number-program.false in
+    let k = subst (IsRoutine (units_in rs)) (sym c.index-program-number.is) (c.requires.program c.args.number r lt) in
+    let at = call_at rs c.args.depth c.args.number name (positive c.args.depth c.if-depth-eq0.false) found (setting_at e) args c.args.line s m.left r r.writes.now lt c.index-program-number.is k.writes in
+    let x = c.in_err-ended.field-0.0 in
+    let err : c.from_residual-in_err-ended.result ≡ Err c.in_err-ended.field-0.0 = search rules in
+    let o = calls_of {C = ℤ} (units_in rs) c.args.depth (setting_at e) name args c.args.line s m.left in
+    let q = calls_of {C = ℤ} (units_in rs) (c.args.depth - 1) in
+    let got = actuals_in names e.shape s.store c.in_ok-actuals.actuals.items in
+    let value = c.as_slice.ensures.value in
+    let f = c.in_ok-frame.ensures in
+    let fit = ap (λ all. fit_from r (actuals_in names e.shape s.store all) 0) (sym value) ∙ f.fits e s h in
+    let shown = subst (λ all. Shows r.names c.in_ok-frame.frame.slots.items (shapes_with r (actuals_in names e.shape s.store all)) (entered_with r (actuals_in names e.shape s.store all))) value (f.shown e s h) in
+    let here = subst (λ ns. Shows ns c.in_ok-frame.frame.slots.items (shapes_with r got) (entered_with r got)) (sym f.names) shown in
+    let holds = c.in_ok-outer.ensures.holds e s (shapes_with r got) (entered_with r got) r.unit.now.name _ h here in
+    let ends = unit_ends q (inside e (shapes_with r got) (length m.tally.begun)) _ r c.enter.new.self.frame.names.now m.left c.enter.new.self.left (Err x) c.run-ended.new.self (ap (λ (z : Frame). z.names.now) c.in_ok-outer.ensures.frame ∙ f.names) k.body c.in_ok-outer.ensures.left (c.in_err-ended.ensures.ends (inside e (shapes_with r got) (length m.tally.begun)) _ holds) in
+    let back = c.leave-inner.ensures.back in
+    subst (λ z. Ends e o z c.leave-inner.new.self) (sym err)
+    (subst (λ z. Ends e z (Err x) c.leave-inner.new.self) (sym at)
+    (call_break q e s r r.writes.now args c.args.line m.left m h got (c.in_ok-actuals.ensures.actuals e s h) fit c.run-ended.new.self x c.leave-inner.new.self ends (ap (λ (z : Machine). z.tape) back) (ap (λ (z : Machine). z.tally) back)))
+
+pub call-returns-then-not-is_closed-clause-ends : goal.call-returns-then-not-is_closed-clause-ends
+call-returns-then-not-is_closed-clause-ends t c name found e s h =
+    let rs = c.args.program.now in
+    let m = c.args.self.now in
+    let names = m.frame.names.now in
+    let args = terms_in names c.args.terms.now in
+    let r = c.index-program-number.result in
+    let lt = c.if-number-program.false in
+    let k = subst (IsRoutine (units_in rs)) (sym c.index-program-number.is) (c.requires.program c.args.number r lt) in
+    let at = call_at rs c.args.depth c.args.number name (positive c.args.depth c.if-depth-eq0.false) found (setting_at e) args c.args.line s m.left r r.writes.now lt c.index-program-number.is k.writes in
+    let q = calls_of {C = ℤ} (units_in rs) (c.args.depth - 1) in
+    let got = actuals_in names e.shape s.store c.in_ok-actuals.actuals.items in
+    let value = c.as_slice.ensures.value in
+    let f = c.in_ok-frame.ensures in
+    let fit = ap (λ all. fit_from r (actuals_in names e.shape s.store all) 0) (sym value) ∙ f.fits e s h in
+    let shown = subst (λ all. Shows r.names c.in_ok-frame.frame.slots.items (shapes_with r (actuals_in names e.shape s.store all)) (entered_with r (actuals_in names e.shape s.store all))) value (f.shown e s h) in
+    let here = subst (λ ns. Shows ns c.in_ok-frame.frame.slots.items (shapes_with r got) (entered_with r got)) (sym f.names) shown in
+    let holds = c.in_ok-outer.ensures.holds e s (shapes_with r got) (entered_with r got) r.unit.now.name _ h here in
+    let ends = unit_ends q (inside e (shapes_with r got) (length m.tally.begun)) _ r c.enter.new.self.frame.names.now m.left c.enter.new.self.left (Ok tt) c.run-ended.new.self (ap (λ (z : Frame). z.names.now) c.in_ok-outer.ensures.frame ∙ f.names) k.body c.in_ok-outer.ensures.left (c.in_ok-ended.ensures.ends (inside e (shapes_with r got) (length m.tally.begun)) _ holds) in
+    let back = c.leave-inner.ensures.back in
+    subst (IsTrapped c.leave-inner.new.self trap.Schedule c.args.line) (sym at)
+    (call_open q e s r r.writes.now args c.args.line m.left m h got (c.in_ok-actuals.ensures.actuals e s h) fit c.run-ended.new.self c.leave-inner.new.self ends (sym c.leave-inner.ensures.closed ∙ c.if-not-is_closed.true) (ap (λ (z : Machine). z.tape) back) (ap (λ (z : Machine). z.tally) back))
+
+pub call-returns-clause-ends : goal.call-returns-clause-ends
+call-returns-clause-ends t c name found e s h =
+    let rs = c.args.program.now in
+    let m = c.args.self.now in
+    let names = m.frame.names.now in
+    let args = terms_in names c.args.terms.now in
+    let r = c.index-program-number.result in
+    let lt = c.if-number-program.false in
+    let k = subst (IsRoutine (units_in rs)) (sym c.index-program-number.is) (c.requires.program c.args.number r lt) in
+    let at = call_at rs c.args.depth c.args.number name (positive c.args.depth c.if-depth-eq0.false) found (setting_at e) args c.args.line s m.left r r.writes.now lt c.index-program-number.is k.writes in
+    let o = calls_of {C = ℤ} (units_in rs) c.args.depth (setting_at e) name args c.args.line s m.left in
+    let q = calls_of {C = ℤ} (units_in rs) (c.args.depth - 1) in
+    let got = actuals_in names e.shape s.store c.in_ok-actuals.actuals.items in
+    let value = c.as_slice.ensures.value in
+    let f = c.in_ok-frame.ensures in
+    let fit = ap (λ all. fit_from r (actuals_in names e.shape s.store all) 0) (sym value) ∙ f.fits e s h in
+    let shown = subst (λ all. Shows r.names c.in_ok-frame.frame.slots.items (shapes_with r (actuals_in names e.shape s.store all)) (entered_with r (actuals_in names e.shape s.store all))) value (f.shown e s h) in
+    let here = subst (λ ns. Shows ns c.in_ok-frame.frame.slots.items (shapes_with r got) (entered_with r got)) (sym f.names) shown in
+    let holds = c.in_ok-outer.ensures.holds e s (shapes_with r got) (entered_with r got) r.unit.now.name _ h here in
+    let entered_names = ap (λ (z : Frame). z.names.now) c.in_ok-outer.ensures.frame ∙ f.names in
+    let ends = unit_ends q (inside e (shapes_with r got) (length m.tally.begun)) _ r c.enter.new.self.frame.names.now m.left c.enter.new.self.left (Ok tt) c.run-ended.new.self entered_names k.body c.in_ok-outer.ensures.left (c.in_ok-ended.ensures.ends (inside e (shapes_with r got) (length m.tally.begun)) _ holds) in
+    let m1 = c.run-ended.new.self in
+    let m2 = c.leave-inner.new.self in
+    let m3 = c.hand_back.new.self in
+    let back = c.leave-inner.ensures.back in
+    let outer = c.in_ok-outer.ensures.outer in
+    let same = c.hand_back.ensures.same in
+    let frame = ap (λ (z : Machine). z.frame) back ∙ ap (λ (z : Outer). z.frame) outer in
+    let inner = c.leave-inner.ensures.frame in
+    let inner_names = ap (λ (z : Frame). z.names.now) inner ∙ c.in_ok-ended.ensures.names ∙ entered_names in
+    done_back e o c.hand_back.result m3 c.hand_back.ensures.memory c.hand_back.ensures.handed
+    (λ handed. subst (IsDone e m3) (sym at)
+    (call_done q e s r r.writes.now args c.args.line m.left m h got (c.in_ok-actuals.ensures.actuals e s h) fit m1 m3 ends (sym c.leave-inner.ensures.closed ∙ c.if-not-is_closed.false)
+    (ap (λ (z : Machine). z.tape) same ∙ ap (λ (z : Machine). z.tape) back)
+    (ap (λ (z : Machine). z.tally) same ∙ ap (λ (z : Machine). z.tally) back)
+    (ap (λ (z : Machine). z.left) same ∙ ap (λ (z : Machine). z.left) back)
+    (ap (λ (z : Machine). z.level) same ∙ ap (λ (z : Machine). z.level) back ∙ ap (λ (z : Outer). z.level) outer)
+    (ap (λ (z : Machine). z.base) same ∙ ap (λ (z : Machine). z.base) back ∙ ap (λ (z : Outer). z.base) outer)
+    (λ u g.
+        let mine = subst (λ (z : Frame). Shows z.names.now z.slots.items e.shape s.store) (sym frame) h.shown in
+        let theirs = subst (λ (z : Frame). Shows z.names.now z.slots.items (shapes_with r got) u) (sym inner) g in
+        let named = subst (λ ns. Shows ns c.leave-inner.result.0.slots.items (shapes_with r got) u) inner_names theirs in
+        let out = handed e.shape (shapes_with r got) s.store s.store u mine named in
+        let copied = subst (λ (p : Frame × List Actual). Shows m2.frame.names.now m3.frame.slots.items e.shape (copied_out r.unit.now.dummies r.writes.now (actuals_in p.0.names.now e.shape s.store p.1) u s.store)) (λ i. (frame i, c.as_slice-2.ensures.value i)) out in
+        subst (λ ns. Shows ns m3.frame.slots.items e.shape (copied_out r.unit.now.dummies r.writes.now got u s.store)) (sym c.hand_back.ensures.names) copied)))

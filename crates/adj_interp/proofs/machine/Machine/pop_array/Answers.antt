@@ -14,6 +14,7 @@ pub loop-remaining-preserved : goal.loop-remaining-preserved
 loop-remaining-preserved c =
     let inv = c.loop-remaining.invariant in
     record {
+      room = c.in_ok-pop.ensures.room ∙ inv.room;
       names = c.in_ok-pop.ensures.names ∙ inv.names;
       framed = subst (λ ns. IsFrame ns c.pop.new.self.frame.slots.items) inv.names c.in_ok-pop.ensures.framed;
       within = λ d. let a = c.in_ok-pop.ensures.sized c.args.variable d in let b = inv.within d in omega (arith, a, b);

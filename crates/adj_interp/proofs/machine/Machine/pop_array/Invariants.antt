@@ -9,6 +9,7 @@ use Rattle.adj_interp.proofs.machine.Machine.pop_array.Given as goal
 
 abbrev pub invariant-loop-remaining : goal.invariant-loop-remaining
 invariant-loop-remaining l = record {
+  room : l.self.tape.room ≡ l.initial.self.tape.room;
   names : l.self.frame.names.now ≡ l.initial.self.frame.names.now;
   framed : IsFrame l.initial.self.frame.names.now l.self.frame.slots.items;
   within : (d : Slot) → l.remaining ≤ length (get_or l.self.frame.slots.items l.variable d).cells.items;

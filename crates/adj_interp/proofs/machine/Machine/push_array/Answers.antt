@@ -49,6 +49,7 @@ returns-in_err-push-clause-ends c line e s h =
 
 pub loop-cell-preserved : goal.loop-cell-preserved
 loop-cell-preserved c = record {
+  room = c.in_ok-push.ensures.room ∙ c.loop-cell.invariant.room;
   frame = c.in_ok-push.ensures.frame ∙ c.loop-cell.invariant.frame;
   reached = λ e s h.
       let m = c.args.self.now in

@@ -8,6 +8,7 @@ use Rattle.adj_interp.proofs.machine.Machine.push_array.Given as goal
 
 abbrev pub invariant-loop-cell : goal.invariant-loop-cell
 invariant-loop-cell l = record {
+  room : l.self.tape.room ≡ l.initial.self.tape.room;
   frame : l.self.frame ≡ l.initial.self.frame;
   reached : (e : Entry) (s : Scene ℤ) → Holds e l.initial.self s →
       Reaches e (pushed_all (setting_at e) (cells_from (s.store (var_at l.initial.self.frame.names.now l.variable)) 0 l.count) s l.initial.self.left)

@@ -1,0 +1,51 @@
+use Rattle.std.proofs.Common.{◌≡◌, ℤ, ◌+◌, ◌≤◌, ◌<◌, length, get_or, sym, ap, subst, ◌∙◌, arith}
+use Rattle.std.proofs.lemmas.List.{length-map, get_or-map}
+use Rattle.adj_frame.specs.declared.actual.Actual.TheVariants as actual
+use Rattle.adj_frame.specs.Framed.{IsFrame}
+use Rattle.adj_frame.specs.Shown.{Shows}
+use Rattle.adj_frame.specs.Called.{actual_in, actuals_in, place_of, handed}
+use Rattle.adj_frame.proofs.Returning.{from_on, out_next, out_end, place_is}
+use Rattle.adj_meaning.specs.Units.{Actual}
+use Rattle.adj_frame.proofs.frame.Frame.hand_back.Goals as goal
+
+pub loop-i-preserved : goal.loop-i-preserved
+loop-i-preserved c =
+    let inv = c.loop-i.invariant in
+    let k = c.in_ok-hand_next.ensures in
+    let names = c.args.self.now.names.now in
+    let i = c.loop-i.i in
+    let same = inv.names in
+    let few = k.count in
+    let was = inv.count in
+    record {
+      names = k.names ∙ same;
+      framed = subst (λ ns. IsFrame ns c.hand_next.new.self.slots.items) same k.framed;
+      count = few ∙ was;
+      cells = λ j d. k.cells j d ∙ inv.cells j d;
+      handed = λ shape inside s s0 t h g.
+          let r = c.args.routine.now in
+          let all = c.args.actuals.now in
+          let a = get_or all i (actual.Whole 0) in
+          let got = actuals_in names shape s0 all in
+          let before = inv.handed shape inside s s0 t h g in
+          let lt = c.loop-i-test.true in
+          let n = length-map all (actual_in names shape s0) in
+          let there : c.loop-i.i < length (actuals_in names shape s0 c.args.actuals.now) = omega (arith, n, lt) in
+          let b = actual_in names shape s0 a in
+          let place = ap (λ (z : Actual ℤ). z.place) (get_or-map (actual_in names shape s0) all i (actual.Whole 0) b lt) ∙ place_is names shape s0 a in
+          let shown = subst (λ ns. Shows ns c.hand_next.new.self.slots.items shape (handed r i (place_of ns a) t before.store)) same (k.handed shape inside before.store t (subst (λ ns. Shows ns c.loop-i.self.slots.items shape before.store) (sym same) before.shown) g) in
+          record {
+            store = handed r i (place_of names a) t before.store;
+            shown = shown;
+            same = before.same ∙ out_next r got t c.requires.laid i b before.store there ∙ ap (λ p. from_on r got t (i + 1) (handed r i p t before.store)) place;
+          };
+    }
+
+pub returns-clause-handed : goal.returns-clause-handed
+returns-clause-handed c shape inside s s0 t h g =
+    let names = c.args.self.now.names.now in
+    let got = actuals_in names shape s0 c.args.actuals.now in
+    let k = c.loop-i.invariant.handed shape inside s s0 t h g in
+    let n = length-map c.args.actuals.now (actual_in names shape s0) in
+    let past = c.loop-i-test.false in
+    subst (Shows names c.loop-i.self.slots.items shape) (sym (k.same ∙ out_end c.args.routine.now got t c.loop-i.i k.store (omega (arith, n, past)))) k.shown

@@ -1,0 +1,32 @@
+use Rattle.std.proofs.Common.{rules, ◌<◌, FitsSigned, w64, length, get_or, pos, sym, ap, subst, ◌∙◌}
+use Rattle.std.proofs.lemmas.Int.{to_z-of_z}
+use Rattle.adj_meaning.specs.Store.{size_of, set}
+use Rattle.adj_meaning.proofs.Cells.{size_positive}
+use Rattle.adj_frame.specs.declared.slot.Slot.{Slot}
+use Rattle.adj_frame.specs.Prepared.{var_at}
+use Rattle.adj_frame.specs.Framed.{IsSlot, slot_shape}
+use Rattle.adj_frame.specs.Shown.{Shows}
+use Rattle.adj_frame.proofs.Setting.{shown_set_all}
+use Rattle.adj_frame.proofs.frame.Frame.hand_one.Goals as goal
+
+pub returns-in_ok-take-in-Whole-clause-put : goal.returns-in_ok-take-in-Whole-clause-put
+returns-in_ok-take-in-Whole-clause-put c shape s cs h given =
+    let names = c.args.self.now.names.now in
+    let vs = c.args.self.now.slots.items in
+    let i = c.in-Whole.i in
+    let r = c.index_mut-target.result.now in
+    let e = c.take.new.self in
+    let k = c.in_ok-take-in-Whole.ensures in
+    let below = rw c.in-Whole.is at c.requires.below in
+    let was = subst IsSlot (sym c.index_mut-target.ensures.value) (c.requires.framed.sized i r below) in
+    let size = ap size_of (k.shape) ∙ sym was ∙ sym k.count ∙ ap length k.cells ∙ c.requires.sized in
+    rw c.in-Whole.is (shown_set_all names vs i e r cs c.requires.framed below (k.shape ∙ ap slot_shape c.index_mut-target.ensures.value)
+    (λ j lt. given j (subst (λ n. j < n) size lt) ∙ sym (ap (λ z. get_or z j (pos 0)) k.cells))
+    shape s h)
+
+pub returns-in-Cell-clause-put : goal.returns-in-Cell-clause-put
+returns-in-Cell-clause-put c shape s cs h given =
+    let names = c.args.self.now.names.now in
+    let fits : FitsSigned w64 c.first.result = search rules in
+    let word = to_z-of_z w64 c.first.result fits ∙ c.first.ensures ∙ sym (given 0 (size_positive (slot_shape c.args.slot.now))) in
+    rw c.in-Cell.is (subst (λ w. Shows names c.set.new.self.slots.items shape (set s (var_at names c.in-Cell.i) c.in-Cell.cell w)) word (c.set.ensures.shown shape s h))

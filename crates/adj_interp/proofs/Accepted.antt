@@ -1,0 +1,157 @@
+-- What holds of the units of a checked program.
+use Rattle.std.proofs.Common.{◌≡◌, ℕ, zero, suc, ◌+◌, ◌<◌, ◌≤◌, Bool, true, false, List, [], ◌∷◌, ◌++◌, map, length, get_or, refl, sym, ap, ap₂, subst, ◌∙◌, arith, if◌then◌else◌}
+use Rattle.std.specs.Prelude.{◌||◌, flat_map, nat_lt}
+use Rattle.std.specs.List.{All}
+use Rattle.std.proofs.lemmas.List.{length-map, get_or_append_left, get_or_push}
+use Rattle.std.proofs.lemmas.List.Elements.{All-head, All-tail}
+use Rattle.adj_tree.specs.Code.{name_eq, Declaration, Procedure}
+use Rattle.adj_tree.specs.View.{declaration_of, procedure_of, extent_of}
+use Rattle.adj_tree.specs.declared.fault.Refusal.{Refusal}
+use Rattle.adj_tree.specs.declared.unit.Decl.{Decl}
+use Rattle.adj_tree.specs.declared.unit.Unit.{Unit}
+use Rattle.adj_tree.proofs.Names.{name_refl, name_same}
+use Rattle.adj_text.specs.Written.{IsWritten, IsWrittenProcedure, IsWrittenDeclaration}
+use Rattle.adj_meaning.specs.Agree.{stands_among, AreApart}
+use Rattle.adj_meaning.specs.LeastSet.{Rule, row_of, rounds, least_rows, dummies_in_all}
+use Rattle.adj_meaning.specs.Written.{write_rule, handed_back}
+use Rattle.adj_meaning.proofs.Booleans.{or_false, or_first, or_second}
+use Rattle.adj_names.specs.Check.{IsSound}
+use Rattle.adj_names.specs.Fault.{Rules, run_rules, faults_if, fault, again}
+use Rattle.adj_names.specs.Fresh.{has_name}
+use Rattle.adj_names.specs.NameFaults.{faults_of_names, undeclared, declared_twice, misused}
+use Rattle.adj_names.specs.Statements.{At}
+use Rattle.adj_names.specs.UnitFaults.{reserved_units, repeated_units, unit_places}
+use Rattle.adj_names.specs.Variables.{dummy_places, declared_places}
+use Rattle.adj_names.proofs.Sound.{sound_has_none}
+
+-- ---- lists without faults
+
+front : {A : Type 0} (xs ys : List A) → xs ++ ys ≡ [] → xs ≡ []
+front [] ys h = refl
+front (x ∷ xs) ys h = absurd cc
+
+behind : {A : Type 0} (xs ys : List A) → xs ++ ys ≡ [] → ys ≡ []
+behind [] ys h = h
+behind (x ∷ xs) ys h = absurd cc
+
+none_at : {A B : Type 0} (f : A → List B) (xs : List A) (i : ℕ) (d : A) → flat_map f xs ≡ [] → i < length xs → f (get_or xs i d) ≡ []
+none_at f [] i d h l = absurd (omega arith)
+none_at f (x ∷ xs) zero d h l = front (f x) (flat_map f xs) h
+none_at f (x ∷ xs) (suc i) d h l = none_at f xs i d (behind (f x) (flat_map f xs) h) (omega arith)
+
+not_faulty : (b : Bool) (r : Refusal) → faults_if b r ≡ [] → b ≡ false
+not_faulty true r h = absurd cc
+not_faulty false r h = refl
+
+-- ---- names that are apart
+
+-- a name that stood before doesn't stand again
+not_again : (code : ℕ) (before : List (List ℕ)) (ps : List (At (List ℕ))) → again code before ps ≡ [] → (x : List ℕ) → has_name x before ≡ true → stands_among x (map (λ p. p.1) ps) ≡ false
+not_again code before [] h x k = refl
+not_again code before (p ∷ ps) h x k = go (name_eq p.1 x) refl (not_again code (p.1 ∷ before) ps (behind (faults_if (has_name p.1 before) (fault code p.0)) (again code (p.1 ∷ before) ps) h) x (or_second (name_eq x p.1) (has_name x before) k))
+  where
+    first : has_name p.1 before ≡ false
+    first = not_faulty (has_name p.1 before) (fault code p.0) (front (faults_if (has_name p.1 before) (fault code p.0)) (again code (p.1 ∷ before) ps) h)
+
+    go : (b : Bool) → name_eq p.1 x ≡ b → stands_among x (map (λ p. p.1) ps) ≡ false → (b || stands_among x (map (λ p. p.1) ps)) ≡ false
+    go true e ih = absurd (let q : true ≡ false = sym k ∙ ap (λ z. has_name z before) (sym (name_same p.1 x e)) ∙ first in cc)
+    go false e ih = ih
+
+-- places without a fault of that kind have names that are apart
+apart_places : (code : ℕ) (before : List (List ℕ)) (ps : List (At (List ℕ))) → again code before ps ≡ [] → AreApart (map (λ p. p.1) ps)
+apart_places code before [] h = tt
+apart_places code before (p ∷ ps) h =
+    let later : again code (p.1 ∷ before) ps ≡ [] = behind (faults_if (has_name p.1 before) (fault code p.0)) (again code (p.1 ∷ before) ps) h in
+    (not_again code (p.1 ∷ before) ps later p.1 (or_first (name_eq p.1 p.1) (has_name p.1 before) (name_refl p.1)), apart_places code (p.1 ∷ before) ps later)
+
+unit_names : (us : List Unit) → map (λ p. p.1) (unit_places (map procedure_of us)) ≡ map (λ (u : Unit). u.name) us
+unit_names [] = refl
+unit_names (u ∷ us) = ap (λ z. u.name ∷ z) (unit_names us)
+
+dummy_names : (line : ℕ) (ds : List (List ℕ)) → map (λ (p : At (List ℕ)). p.1) (map (λ d. (line, d)) ds) ≡ ds
+dummy_names line [] = refl
+dummy_names line (d ∷ ds) = ap (λ z. d ∷ z) (dummy_names line ds)
+
+-- the units of a program without a fault have names that are apart
+pub units_apart : (us : List Unit) → IsSound run_rules (map procedure_of us) → AreApart (map (λ (u : Unit). u.name) us)
+units_apart us h =
+    let none = sound_has_none run_rules (map procedure_of us) h in
+    subst AreApart (unit_names us) (apart_places 19 [] (unit_places (map procedure_of us)) (behind (reserved_units (map procedure_of us)) (repeated_units (map procedure_of us)) none.units))
+
+get_mapped : (us : List Unit) (i : ℕ) (d : Unit) → i < length us → get_or (map procedure_of us) i (procedure_of d) ≡ procedure_of (get_or us i d)
+get_mapped [] i d l = absurd (omega arith)
+get_mapped (u ∷ us) zero d l = refl
+get_mapped (u ∷ us) (suc i) d l = get_mapped us i d (omega arith)
+
+-- and so have the dummies of each unit
+pub dummies_apart : (us : List Unit) (i : ℕ) (d : Unit) → IsSound run_rules (map procedure_of us) → i < length us → AreApart (get_or us i d).dummies
+dummies_apart us i d h l =
+    let ps = map procedure_of us in
+    let none = sound_has_none run_rules ps h in
+    let n = length-map us procedure_of in
+    let v = get_or us i d in
+    let u = procedure_of v in
+    let at : faults_of_names run_rules ps u ≡ [] = ap (faults_of_names run_rules ps) (sym (get_mapped us i d l)) ∙ none_at (faults_of_names run_rules ps) ps i (procedure_of d) none.names (omega (arith, n, l)) in
+    let once : declared_twice u ≡ [] = front (declared_twice u) _ (behind (undeclared u) _ at) in
+    subst AreApart (dummy_names u.line u.dummies) (apart_places 8 [] (dummy_places u) (front (again 8 [] (dummy_places u)) (again 8 [] (declared_places u)) once))
+
+-- ---- extents
+
+all_at : {A : Type 0} (P : A → Type 0) (xs : List A) (i : ℕ) (d : A) → All P xs → i < length xs → P (get_or xs i d)
+all_at P [] i d h l = absurd (omega arith)
+all_at P (x ∷ xs) zero d h l = All-head P x xs h
+all_at P (x ∷ xs) (suc i) d h l = all_at P xs i d (All-tail P x xs h) (omega arith)
+
+get_declared : (ds : List Decl) (i : ℕ) (d : Decl) → i < length ds → get_or (map declaration_of ds) i (declaration_of d) ≡ declaration_of (get_or ds i d)
+get_declared [] i d l = absurd (omega arith)
+get_declared (x ∷ ds) zero d l = refl
+get_declared (x ∷ ds) (suc i) d l = get_declared ds i d (omega arith)
+
+-- a written unit declares at most two extents for a variable
+pub extents_few : (us : List Unit) (i : ℕ) (v : Unit) → IsWritten (map procedure_of us) → i < length us → (j : ℕ) (d : Decl) → j < length (get_or us i v).decls → length (get_or (get_or us i v).decls j d).extents ≤ 2
+extents_few us i v h l j d m =
+    let n = length-map us procedure_of in
+    let unit = get_or us i v in
+    let w : IsWrittenProcedure (procedure_of unit) = subst IsWrittenProcedure (get_mapped us i v l) (all_at IsWrittenProcedure (map procedure_of us) i (procedure_of v) h (omega (arith, n, l))) in
+    let k = length-map unit.decls declaration_of in
+    let e : IsWrittenDeclaration (declaration_of (get_or unit.decls j d)) = subst IsWrittenDeclaration (get_declared unit.decls j d m) (all_at IsWrittenDeclaration (map declaration_of unit.decls) j (declaration_of d) w.declarations (omega (arith, k, m))) in
+    let few = e.few_extents in
+    let same = length-map (get_or unit.decls j d).extents extent_of in
+    omega (arith, few, same)
+
+-- ---- what units write
+
+rows_counted : (rule : Rule) (ps : List Procedure) (k : ℕ) → length (rounds rule ps k) ≡ length ps
+rows_counted rule ps zero = length-map ps _
+rows_counted rule ps (suc k) = length-map ps _
+
+-- each unit has a row
+pub rows_each : (ps : List Procedure) → length (least_rows write_rule ps) ≡ length ps
+rows_each ps = rows_counted write_rule ps (dummies_in_all ps)
+
+differs : (x : List ℕ) (us : List Unit) (i : ℕ) (d : Unit) → stands_among x (map (λ (u : Unit). u.name) us) ≡ false → i < length us → name_eq x (get_or us i d).name ≡ false
+differs x [] i d h l = absurd (omega arith)
+differs x (u ∷ us) zero d h l = turned (name_eq x u.name) refl
+  where
+    turned : (b : Bool) → name_eq x u.name ≡ b → b ≡ false
+    turned true e = let o = (or_false (name_eq u.name x) (stands_among x (map (λ (u : Unit). u.name) us)) h).0 in let s = name_same x u.name e in let bad : true ≡ false = sym (name_refl u.name) ∙ ap (name_eq u.name) (sym s) ∙ o in cc
+    turned false e = refl
+differs x (u ∷ us) (suc i) d h l = differs x us i d (or_false (name_eq u.name x) (stands_among x (map (λ (u : Unit). u.name) us)) h).1 (omega arith)
+
+-- the row of a unit's place is that of its name, where names are apart
+pub row_at : (us : List Unit) (rows : List (List Bool)) (i : ℕ) (d : Unit) → AreApart (map (λ (u : Unit). u.name) us) → i < length us → get_or rows i [] ≡ row_of (map procedure_of us) rows (get_or us i d).name
+row_at [] rows i d a l = absurd (omega arith)
+row_at (u ∷ us) [] i d a l = refl
+row_at (u ∷ us) (ws ∷ rows) zero d a l = ap (λ b. if b then ws else row_of (map procedure_of us) rows u.name) (sym (name_refl u.name))
+row_at (u ∷ us) (ws ∷ rows) (suc i) d a l = row_at us rows i d a.1 (omega arith) ∙ ap (λ b. if b then ws else row_of (map procedure_of us) rows (get_or us i d).name) (sym (differs u.name us i d a.0 (omega arith)))
+
+-- what holds of each so far and of the next holds of each with the next behind
+pub pushed_each : {A : Type 0} (P : A → Type 0) (xs : List A) (x : A) (i : ℕ) → length xs ≡ i → ((k : ℕ) (d : A) → k < i → P (get_or xs k d)) → P x → (k : ℕ) (d : A) → k < i + 1 → P (get_or (xs ++ x ∷ []) k d)
+pushed_each P xs x i n h here k d lt = go (nat_lt k i) refl
+  where
+    go : (b : Bool) → nat_lt k i ≡ b → P (get_or (xs ++ x ∷ []) k d)
+    go true e = let m : k < i = grind arith in subst P (sym (get_or_append_left xs (x ∷ []) d k (omega (arith, m, n)))) (h k d m)
+    go false e =
+        let ge : i ≤ k = grind arith in
+        let s : i ≡ k = omega (arith, ge, lt) in
+        subst (λ z. P (get_or (xs ++ x ∷ []) z d)) s (subst P (sym (get_or_push xs x d i n)) here)

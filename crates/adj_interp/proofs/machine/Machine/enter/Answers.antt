@@ -1,0 +1,29 @@
+use Rattle.std.proofs.Common.{◌≡◌, ◌+◌, ℕ, suc, ◌∷◌, length, ap, ap₂, sym, subst, ◌∙◌, arith}
+use Rattle.adj_meaning.specs.Event.{Enter}
+use Rattle.adj_frame.specs.declared.frame.Frame.{Frame}
+use Rattle.adj_frame.specs.Shown.{Shows}
+use Rattle.adj_interp.specs.Counted.{Counted, with_entry}
+use Rattle.adj_interp.specs.Held.{Tells}
+use Rattle.adj_interp.proofs.Calling.{entry_count}
+use Rattle.adj_interp.proofs.Driving.{told_next}
+use Rattle.adj_interp.proofs.machine.Machine.enter.Goals as goal
+
+pub returns-clause-holds : goal.returns-clause-holds
+returns-clause-holds c e s shape t name shapes h g =
+    let m = c.args.self.now in
+    let one = c.in-Some.ensures.1 in
+    let was = h.level in
+    let level : c.in-Some.level ≡ suc e.level = omega (arith, one, was) in
+    let height : c.len-height.result ≡ length s.tape = c.len-height.ensures ∙ ap length (sym h.tape) in
+    let counted = c.in_ok-enter.ensures name shapes in
+    let told = counted ∙ ap₂ (λ a b. with_entry a b m.tally.log m.tally.begun) level height in
+    let based = c.replace-2.ensures.after ∙ c.open-open.ensures in
+    record {
+      room = h.room;
+      level = c.replace-3.ensures.after ∙ level;
+      base = based ∙ ap (λ (z : Counted). length z.begun) counted ∙ entry_count c.in-Some.level c.len-height.result m.tally.log m.tally.begun;
+      shown = subst (λ (f : Frame). Shows f.names.now f.slots.items shape t) (sym c.replace.ensures.after) g;
+      tape = h.tape;
+      opened = omega (arith, based);
+      told = subst (λ z. Tells z (Enter name (suc e.level) (length s.tape) shapes ∷ s.events)) (sym told) (told_next m.tally (Enter name (suc e.level) (length s.tape) shapes) s.events h.told);
+    }

@@ -1,0 +1,104 @@
+use Rattle.std.proofs.Common.{rules, ◌≡◌, ◌<◌, ◌++◌, List, map, take, length, get_or, refl, sym, ap, subst, ◌∙◌, arith, Some}
+use Rattle.std.specs.Prelude.{ℤ, slice_get, Result, Err, Ok}
+use Rattle.std.proofs.lemmas.List.{length-map}
+use Rattle.adj_tree.specs.Code.{Procedure}
+use Rattle.adj_tree.specs.View.{procedure_of, procedures_of}
+use Rattle.adj_meaning.specs.Numbers.{words}
+use Rattle.adj_meaning.specs.Scene.{Outcome}
+use Rattle.adj_meaning.specs.Units.{Output, fits, input_store, run_unit}
+use Rattle.adj_frame.specs.declared.routine.Routine.{Routine}
+use Rattle.adj_frame.specs.Framed.{IsFrame}
+use Rattle.adj_frame.specs.Linked.{IsRoutine, units_in}
+use Rattle.adj_frame.specs.Shown.{Shows}
+use Rattle.adj_interp.specs.Concludes.{Concludes, slot_seen}
+use Rattle.adj_interp.specs.Inputs.{entry_seen, input_shape}
+use Rattle.adj_interp.proofs.Calling.{unit_at}
+use Rattle.adj_interp.proofs.Concluding.{values_shown}
+use Rattle.adj_interp.proofs.Running.{first_store, first_entry, first_scene, starts, stopped, done}
+use Rattle.adj_interp.proofs.runs.run.Goals as goal
+
+same_unit : (a b : Procedure) → Some a ≡ Some b → a ≡ b
+same_unit a b h = cc
+
+-- a run is of the unit and the program that it is of
+turned : (us ps : List Procedure) (v u : Procedure) (go : List Procedure → Procedure → Outcome (Output ℤ)) (P : Outcome (Output ℤ) → Type 0) → us ≡ ps → v ≡ u → P (go us v) → P (go ps u)
+turned us ps v u go P p q h = subst P (λ i. go (p i) (q i)) h
+
+pub first_entry-requires-clause-fits : goal.first_entry-requires-clause-fits
+first_entry-requires-clause-fits c =
+    let rs = c.in_ok-routines.routines.items in
+    let r = c.index-routine.result.now in
+    let units = c.in_ok-routines.ensures.units in
+    let n = length-map rs (λ (z : Routine). procedure_of z.unit.now) in
+    let there = c.requires.there in
+    let many = ap length units in
+    let lt : c.args.unit < length c.in_ok-routines.routines.items = omega (arith, n, there, many) in
+    let at = ap (λ ps. slice_get ps c.args.unit) (sym units) ∙ unit_at rs c.args.unit r lt ∙ ap (λ (z : Routine). Some (procedure_of z.unit.now)) (sym c.index-routine.ensures) in
+    c.requires.fits (procedure_of r.unit.now) at
+
+pub finish-ended-requires-clause-routine : goal.finish-ended-requires-clause-routine
+finish-ended-requires-clause-routine c =
+    let rs = c.in_ok-routines.routines.items in
+    let r = c.index-routine.result.now in
+    let units = c.in_ok-routines.ensures.units in
+    let n = length-map rs (λ (z : Routine). procedure_of z.unit.now) in
+    let there = c.requires.there in
+    let many = ap length units in
+    let lt : c.args.unit < length c.in_ok-routines.routines.items = omega (arith, n, there, many) in
+    subst (λ all. IsRoutine (units_in all) r) (sym c.as_slice.ensures.value) (subst (IsRoutine (units_in rs)) (sym c.index-routine.ensures) (c.in_ok-routines.ensures.routines c.args.unit r lt))
+
+pub returns-in_err-ended-clause-ends : goal.returns-in_err-ended-clause-ends
+returns-in_err-ended-clause-ends c u asked =
+    let rs = c.in_ok-routines.routines.items in
+    let r = c.index-routine.result.now in
+    let units = c.in_ok-routines.ensures.units in
+    let n = length-map rs (λ (z : Routine). procedure_of z.unit.now) in
+    let there = c.requires.there in
+    let many = ap length units in
+    let lt : c.args.unit < length c.in_ok-routines.routines.items = omega (arith, n, there, many) in
+    let at = ap (λ ps. slice_get ps c.args.unit) (sym units) ∙ unit_at rs c.args.unit r lt ∙ ap (λ (z : Routine). Some (procedure_of z.unit.now)) (sym c.index-routine.ensures) in
+    let v = procedure_of r.unit.now in
+    let us = units_in c.as_slice.result.now in
+    let held = c.args.tape.now in
+    let input = map slot_seen c.args.input in
+    let x = c.in_err-ended.field-0.0 in
+    let err : c.from_residual-in_err-ended.result ≡ Err c.in_err-ended.field-0.0 = search rules in
+    let k = c.in_ok-frame.ensures in
+    let shown = subst (λ ns. Shows ns c.in_ok-frame.frame.slots.items (input_shape v (input_store words v input)) (input_store words v input)) (sym k.names) k.shown in
+    let holds = starts us v input held c.args.budget _ c.replace.ensures.value refl refl c.new.ensures shown in
+    let ends = c.in_err-ended.ensures.ends (first_entry us v input held c.args.budget) (first_scene us v input held c.args.budget) holds in
+    subst (λ z. Concludes (run_unit words (procedures_of c.args.program.now.program) u input held.words (Some held.room) c.args.budget) z c.finish-ended.new.self.tape c.log.result) (sym err)
+    (turned us (procedures_of c.args.program.now.program) v u (λ ps w. run_unit words ps w input held.words (Some held.room) c.args.budget) (λ o. Concludes o (Err x) c.finish-ended.new.self.tape c.log.result)
+    (ap units_in c.as_slice.ensures.value ∙ units) (same_unit v u (sym at ∙ asked))
+    (stopped us v input held c.args.budget x c.finish-ended.new.self c.log.result ends c.log.ensures.counted))
+
+pub returns-clause-ends : goal.returns-clause-ends
+returns-clause-ends c u asked =
+    let rs = c.in_ok-routines.routines.items in
+    let r = c.index-routine.result.now in
+    let units = c.in_ok-routines.ensures.units in
+    let n = length-map rs (λ (z : Routine). procedure_of z.unit.now) in
+    let there = c.requires.there in
+    let many = ap length units in
+    let lt : c.args.unit < length c.in_ok-routines.routines.items = omega (arith, n, there, many) in
+    let at = ap (λ ps. slice_get ps c.args.unit) (sym units) ∙ unit_at rs c.args.unit r lt ∙ ap (λ (z : Routine). Some (procedure_of z.unit.now)) (sym c.index-routine.ensures) in
+    let routine = subst (IsRoutine (units_in rs)) (sym c.index-routine.ensures) (c.in_ok-routines.ensures.routines c.args.unit r lt) in
+    let v = procedure_of r.unit.now in
+    let us = units_in c.as_slice.result.now in
+    let held = c.args.tape.now in
+    let input = map slot_seen c.args.input in
+    let k = c.in_ok-frame.ensures in
+    let shown = subst (λ ns. Shows ns c.in_ok-frame.frame.slots.items (input_shape v (input_store words v input)) (input_store words v input)) (sym k.names) k.shown in
+    let holds = starts us v input held c.args.budget _ c.replace.ensures.value refl refl c.new.ensures shown in
+    let ends = c.in_ok-ended.ensures.ends (first_entry us v input held c.args.budget) (first_scene us v input held c.args.budget) holds in
+    let m = c.finish-ended.new.self in
+    let f = c.in_ok-ended.ensures in
+    let names = f.names ∙ k.names in
+    let framed = subst (λ ns. IsFrame ns m.frame.slots.items) (sym f.names) f.framed in
+    let count = ap length c.as_slice-count.ensures.members in
+    let front = c.in_ok-values.ensures ∙ ap (map entry_seen) (c.truncate.ensures.items ∙ ap (λ j. take j m.frame.slots.items) count) in
+    turned us (procedures_of c.args.program.now.program) v u (λ ps w. run_unit words ps w input held.words (Some held.room) c.args.budget) (λ o. Concludes o (Ok c.in_ok-values.values) m.tape c.log.result)
+    (ap units_in c.as_slice.ensures.value ∙ units) (same_unit v u (sym at ∙ asked))
+    (done us v input held c.args.budget c.in_ok-values.values m c.log.result ends
+    (λ s g. front ∙ values_shown r.unit.now.dummies routine.laid.others m.frame.names.now m.frame.slots.items (input_shape v (input_store words v input)) s.store (names ∙ routine.laid.names) framed g.shown)
+    c.log.ensures.counted (c.log.ensures.used ∙ c.saturating_sub.ensures))

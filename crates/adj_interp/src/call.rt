@@ -1,0 +1,160 @@
+//! What a call does before the unit that is called runs, and after. (docs/RUNNING.md, "Calls")
+
+ghost use Rattle.std.specs.Prelude.{◌≡◌, ◌==◌, ◌∷◌, List, ℕ, ℤ, suc, IfOk, IfErr, OnOk, OnErr, length, true, false};
+ghost use Rattle.adj_tree.specs.Code.{Var};
+ghost use Rattle.adj_meaning.specs.Event.{Enter};
+ghost use Rattle.adj_meaning.specs.Scene.{Scene};
+ghost use Rattle.adj_meaning.specs.Store.{Shape, Store};
+ghost use Rattle.adj_meaning.specs.Units.{actual_of, actuals, copied_out};
+ghost use Rattle.adj_frame.specs.Prepared.{term_in, terms_in, IsTermBelow, AreTermsBelow};
+ghost use Rattle.adj_frame.specs.Framed.{IsFrame};
+ghost use Rattle.adj_frame.specs.Shown.{Shows};
+ghost use Rattle.adj_frame.specs.Called.{actual_in, actuals_in, IsActualBelow, AreActualsBelow, IsLaidOut, entered_with, shapes_with, fit_from};
+ghost use Rattle.adj_interp.specs.declared.stop.Stop.TheVariants as stop;
+ghost use Rattle.adj_interp.specs.Held.{Entry, setting_at, Holds};
+ghost use Rattle.adj_interp.specs.Entered.{Gets, IsMisfit, inside};
+
+use crate::cursor::Cursor;
+use crate::machine::Machine;
+use crate::stop::Stop;
+use adj_frame::{Actual, Frame, Routine, Term, Terms, Unfit};
+use adj_tree::Trap;
+use std::mem;
+
+/// What a caller has in hand while a unit runs that it called.
+#[derive(Drop)]
+pub(crate) struct Outer<'a> {
+    pub frame: Frame<'a>,
+    pub base: usize,
+    pub level: u64,
+    pub cursor: Option<Cursor>,
+}
+
+impl<'a> Machine<'a> {
+    /// The actuals of a call, from left to right.
+    pub(crate) fn actuals(&self, terms: &Terms, line: u32) -> Result<Vec<Actual>, Stop>
+        requires framed { IsFrame self.now.frame.names.now self.now.frame.slots.items }
+        requires below { AreTermsBelow (length self.now.frame.names.now) terms.now }
+        ensures actuals { (e : Entry) (s : Scene ℤ) → Holds e self.now s
+            → Gets (λ v. actuals_in self.now.frame.names.now e.shape s.store v.items) line (actuals (setting_at e) (terms_in self.now.frame.names.now terms.now) s.store) result }
+        ensures below { IfOk result (λ v. AreActualsBelow self.now.frame.slots.items v.items) }
+    {
+        let mut found = Vec::new(self.alloc);
+        let mut current = terms;
+        while let Terms::More(first, rest) = current {
+            let actual = self.actual(first, line)?;
+            if found.push(actual).is_err() {
+                return Err(Stop::Memory);
+            }
+            current = rest;
+        }
+        Ok(found)
+    }
+
+    // An actual.
+    fn actual(&self, term: &Term, line: u32) -> Result<Actual, Stop>
+        requires framed { IsFrame self.now.frame.names.now self.now.frame.slots.items }
+        requires below { IsTermBelow (length self.now.frame.names.now) term.now }
+        ensures actual { (e : Entry) (s : Scene ℤ) → Holds e self.now s
+            → Gets (actual_in self.now.frame.names.now e.shape s.store) line (actual_of (setting_at e) (term_in self.now.frame.names.now term.now) s.store) result }
+        ensures below { IfOk result (λ a. IsActualBelow self.now.frame.slots.items a) }
+    {
+        match self.frame.actual(term) {
+            Ok(actual) => Ok(actual),
+            Err(trap) => Err(Stop::Trap(trap, line)),
+        }
+    }
+
+    /// The entry of a unit that gets actuals.
+    pub(crate) fn entry(
+        &self,
+        routine: &'a Routine<'a>,
+        actuals: &[Actual],
+        line: u32,
+    ) -> Result<Frame<'a>, Stop>
+        requires framed { IsFrame self.now.frame.names.now self.now.frame.slots.items }
+        requires below { AreActualsBelow self.now.frame.slots.items actuals.now }
+        requires laid { IsLaidOut routine.now }
+        ensures names { IfOk result (λ f. f.names.now ≡ routine.now.names) }
+        ensures framed { IfOk result (λ f. IsFrame routine.now.names f.slots.items) }
+        ensures fits { IfOk result (λ f. (e : Entry) (s : Scene ℤ) → Holds e self.now s → fit_from routine.now (actuals_in self.now.frame.names.now e.shape s.store actuals.now) 0 ≡ true) }
+        ensures shown { IfOk result (λ f. (e : Entry) (s : Scene ℤ) → Holds e self.now s
+            → Shows routine.now.names f.slots.items (shapes_with routine.now (actuals_in self.now.frame.names.now e.shape s.store actuals.now)) (entered_with routine.now (actuals_in self.now.frame.names.now e.shape s.store actuals.now))) }
+        ensures misfit { IfErr result (λ x. IsMisfit x line ((e : Entry) (s : Scene ℤ) → Holds e self.now s → fit_from routine.now (actuals_in self.now.frame.names.now e.shape s.store actuals.now) 0 ≡ false)) }
+    {
+        match self.frame.entry(self.alloc, routine, actuals) {
+            Ok(slots) => Ok(Frame {
+                names: &routine.names,
+                slots,
+            }),
+            Err(Unfit::Shape) => Err(Stop::Trap(Trap::Shape, line)),
+            Err(Unfit::Memory) => Err(Stop::Memory),
+        }
+    }
+
+    /// Goes into a unit that is called; gives what the caller has in hand.
+    pub(crate) fn enter(&mut self, frame: Frame<'a>) -> Result<Outer<'a>, Stop>
+        ensures memory { IfErr result (λ x. x ≡ stop.Memory) }
+        ensures kept { OnErr result (self.new.frame ≡ self.old.frame) }
+        ensures frame { OnOk result (self.new.frame ≡ frame.entry) }
+        ensures left { OnOk result (self.new.left ≡ self.old.left) }
+        ensures outer { IfOk result (λ o. o ≡ record { frame = self.old.frame; base = self.old.base; level = self.old.level; cursor = self.old.cursor }) }
+        ensures room { self.new.tape.room ≡ self.old.tape.room }
+        ensures holds { OnOk result ((e : Entry) (s : Scene ℤ) (shape : Var → Shape) (t : Store ℤ) (name : List ℕ) (shapes : List Shape) → Holds e self.old s → Shows frame.entry.names.now frame.entry.slots.items shape t
+            → Holds (inside e shape (length self.old.tally.begun)) self.new (record { store = t; tape = s.tape; opened = 0; events = Enter name (suc e.level) (length s.tape) shapes ∷ s.events })) }
+    {
+        let Some(level) = self.level.checked_add(1) else {
+            return Err(Stop::Memory);
+        };
+        let height = self.tape.len();
+        self.tally.enter(level, height)?;
+        let open = self.tally.open();
+        Ok(Outer {
+            frame: mem::replace(&mut self.frame, frame),
+            base: mem::replace(&mut self.base, open),
+            level: mem::replace(&mut self.level, level),
+            cursor: self.cursor.take(),
+        })
+    }
+
+    /// Goes back to the caller; gives the entry of the unit that was called, and whether none of its reversals is open.
+    pub(crate) fn leave(&mut self, outer: Outer<'a>) -> (Frame<'a>, bool)
+        ensures frame { result.0 ≡ self.old.frame }
+        ensures closed { result.1 ≡ (length self.old.tally.begun == self.old.base) }
+        ensures back { self.new ≡ record self.old { frame = outer.entry.frame; base = outer.entry.base; level = outer.entry.level; cursor = outer.entry.cursor } }
+    {
+        let is_closed = self.tally.open() == self.base;
+        self.base = outer.base;
+        self.level = outer.level;
+        self.cursor = outer.cursor;
+        (mem::replace(&mut self.frame, outer.frame), is_closed)
+    }
+
+    /// Copies the dummies that are written out to their actuals.
+    pub(crate) fn hand_back(
+        &mut self,
+        routine: &Routine<'a>,
+        actuals: &[Actual],
+        inner: &Frame<'a>,
+    ) -> Result<(), Stop>
+        requires framed { IsFrame self.old.frame.names.now self.old.frame.slots.items }
+        requires below { AreActualsBelow self.old.frame.slots.items actuals.now }
+        requires laid { IsLaidOut routine.now }
+        requires inner { IsFrame routine.now.names inner.now.slots.items }
+        ensures memory { IfErr result (λ x. x ≡ stop.Memory) }
+        ensures names { self.new.frame.names.now ≡ self.old.frame.names.now }
+        ensures framed { IsFrame self.old.frame.names.now self.new.frame.slots.items }
+        ensures left { self.new.left ≡ self.old.left }
+        ensures same { self.new ≡ record self.old { frame = self.new.frame } }
+        ensures handed { OnOk result ((shape within : Var → Shape) (s s0 t : Store ℤ) → Shows self.old.frame.names.now self.old.frame.slots.items shape s → Shows routine.now.names inner.now.slots.items within t
+            → Shows self.old.frame.names.now self.new.frame.slots.items shape (copied_out routine.now.unit.now.dummies routine.now.writes.now (actuals_in self.old.frame.names.now shape s0 actuals.now) t s)) }
+    {
+        match self
+            .frame
+            .hand_back(routine, actuals, inner.slots.as_slice())
+        {
+            Ok(()) => Ok(()),
+            Err(_) => Err(Stop::Memory),
+        }
+    }
+}

@@ -1,0 +1,24 @@
+//! What a unit's run gives.
+
+ghost use Rattle.std.specs.Prelude.{◌≡◌, IfOk, map};
+ghost use Rattle.adj_interp.specs.Concludes.{slot_seen};
+ghost use Rattle.adj_interp.specs.Inputs.{entry_seen};
+
+use adj_frame::Slot;
+use adj_tree::{Items, Memory, Slot as Value, Values};
+use std::alloc::Global;
+
+/// Slots as values, whose cells they keep.
+pub(crate) fn values_of(alloc: Global, slots: Vec<Slot>) -> Result<Values, Memory>
+    ensures { IfOk result (λ values. map slot_seen values ≡ map entry_seen slots.items) }
+{
+    let mut values = Vec::new(alloc);
+    for slot in slots {
+        values.push(Value {
+            rows: slot.rows as u64,
+            cols: slot.cols as u64,
+            cells: Items::new(slot.cells),
+        })?;
+    }
+    Ok(Items::new(values))
+}

@@ -1,0 +1,97 @@
+//! Runs of a unit of a program on an input.
+
+ghost use Rattle.std.specs.Prelude.{◌≡◌, ◌<◌, ℕ, ℤ, Some, length, map, slice_get, true};
+ghost use Rattle.adj_tree.specs.Code.{Procedure};
+ghost use Rattle.adj_tree.specs.View.{procedure_of, procedures_of};
+ghost use Rattle.adj_meaning.specs.Numbers.{words};
+ghost use Rattle.adj_meaning.specs.Scene.{Scene, then_do};
+ghost use Rattle.adj_meaning.specs.Run.{Calls, run};
+ghost use Rattle.adj_meaning.specs.Units.{calls_of, fits, run_unit};
+ghost use Rattle.adj_frame.specs.Framed.{IsFrame};
+ghost use Rattle.adj_frame.specs.Linked.{IsRoutine, units_in, AreRoutines};
+ghost use Rattle.adj_interp.specs.Concludes.{Concludes, slot_seen};
+ghost use Rattle.adj_interp.specs.Entered.{closed};
+ghost use Rattle.adj_interp.specs.Held.{Entry, setting_at, Holds, Ends};
+
+use crate::input::first_entry;
+use crate::log::Log;
+use crate::machine::Machine;
+use crate::output::values_of;
+use crate::preparing::prepared;
+use crate::stop::Stop;
+use crate::tally::Tally;
+use adj_frame::{Frame, Routine};
+use adj_symbols::Checked;
+use adj_tape::Tape;
+use adj_tree::{Trap, Values};
+use std::alloc::Global;
+use std::mem;
+
+impl<'a> Machine<'a> {
+    // Runs the unit whose entry it has in hand to its end, where no reversal may be open.
+    fn finish(
+        &mut self,
+        program: &'a [Routine<'a>],
+        depth: u64,
+        routine: &Routine<'a>,
+    ) -> Result<(), Stop>
+        requires framed { IsFrame self.old.frame.names.now self.old.frame.slots.items }
+        requires names { self.old.frame.names.now ≡ routine.now.names }
+        requires program { AreRoutines program.now }
+        requires routine { IsRoutine (units_in program.now) routine.now }
+        ensures names { self.new.frame.names.now ≡ self.old.frame.names.now }
+        ensures framed { IsFrame self.old.frame.names.now self.new.frame.slots.items }
+        ensures room { self.new.tape.room ≡ self.old.tape.room }
+        ensures ends { let q : Calls ℤ = calls_of (units_in program.now) depth in (e : Entry) (s : Scene ℤ) → Holds e self.old s
+            → Ends e (then_do (run q (setting_at e) (procedure_of routine.now.unit.now).body s self.old.left) (closed (setting_at e) routine.now.unit.now.line)) result self.new }
+    {
+        self.run(program, depth, &routine.body)?;
+        if self.tally.open() != self.base {
+            return Err(Stop::Trap(Trap::Schedule, routine.unit.line));
+        }
+        Ok(())
+    }
+}
+
+/// The run of a unit of a checked program on an input that fits it, from the words on a tape, with at most so many
+/// statements. The tape has then the words that the run leaves, and the log says what the run counted, unless memory ran out.
+pub fn run(
+    alloc: Global,
+    program: &Checked,
+    unit: usize,
+    input: Values,
+    budget: u64,
+    tape: &mut Tape,
+    log: &mut Log,
+) -> Result<Values, Stop>
+    requires there { unit < length (procedures_of program.now.program) }
+    requires fits { (u : Procedure) → slice_get (procedures_of program.now.program) unit ≡ Some u → fits words u (map slot_seen input) ≡ true }
+    requires fresh { log.old ≡ record { used = 0; reversals = 0; advances = 0; height = 0 } }
+    ensures room { tape.new.room ≡ tape.old.room }
+    ensures ends { (u : Procedure) → slice_get (procedures_of program.now.program) unit ≡ Some u
+        → Concludes (run_unit words (procedures_of program.now.program) u (map slot_seen input) tape.old.words (Some tape.old.room) budget) result tape.new log.new }
+{
+    let routines = prepared(alloc, program)?;
+    let routine = &routines[unit];
+    let frame = first_entry(alloc, routine, &input)?;
+    let empty = Tape::with_room(alloc, 0)?;
+    let mut machine = Machine {
+        frame,
+        base: 0,
+        level: 1,
+        tape: mem::replace(tape, empty),
+        left: budget,
+        tally: Tally::new(alloc),
+        cursor: None,
+        alloc,
+    };
+    let ended = machine.finish(routines.as_slice(), budget, routine);
+    *log = machine.tally.log(budget.saturating_sub(machine.left));
+    *tape = machine.tape;
+    ended?;
+    let count = routine.unit.dummies.as_slice().len();
+    let mut slots = machine.frame.slots;
+    slots.truncate(count);
+    let values = values_of(alloc, slots)?;
+    Ok(values)
+}

@@ -1,0 +1,2 @@
+-- What the tests say of inputs.
+pub mod Scalars
