@@ -51,7 +51,7 @@ module _ (ds others names : List (List ℕ)) (vs : List EntrySlot) (shape : Var 
       let sh : shape x ≡ slot_shape v = ap (λ y. shape (plain y)) (sym name) ∙ h.shapes (var_at names i) ∙ read_shape names vs i d f there in
       let size : size_of (shape x) ≡ length v.cells.items = ap size_of sh ∙ sym (f.sized i d there) in
       let cell : (j : ℕ) → j < length v.cells.items → s x j ≡ get_or v.cells.items j (pos 0) = λ j lt.
-          ap (λ y. s (plain y) j) (sym name) ∙ h.cells (var_at names i) j (subst (λ y. j < size_of (shape (plain y))) (sym name) (subst (λ k. j < k) (sym size) lt)) ∙ read_cell names vs i d j f there in
+      ap (λ y. s (plain y) j) (sym name) ∙ h.cells (var_at names i) j (subst (λ y. j < size_of (shape (plain y))) (sym name) (subst (λ k. j < k) (sym size) lt)) ∙ read_cell names vs i d j f there in
       let cells : cells_from (s x) 0 (size_of (shape x)) ≡ v.cells.items = ap (cells_from (s x) 0) size ∙ cells_are (s x) v.cells.items 0 (λ j lt. ap (s x) (omega arith) ∙ cell j lt) in
       λ k. record { shape = sym sh k; cells = sym cells k }
 

@@ -87,8 +87,8 @@ module _ (u : Procedure) (input : List (Slot ℤ)) (vs : List EntrySlot) (all : 
       let n = length-map vs entry_seen in
       let there : k < length input = subst (λ (ws : List (Slot ℤ)). k < length ws) same (omega (arith, n, l)) in
       let at : get_or given k a ≡ actual_in u.dummies (shapes_in u.dummies vs) (store_in u.dummies vs) (actual.Whole k) =
-          get_or-map (actual_in u.dummies (shapes_in u.dummies vs) (store_in u.dummies vs)) all k (actual.Whole k) a (omega (arith, l, count))
-          ∙ ap (actual_in u.dummies (shapes_in u.dummies vs) (store_in u.dummies vs)) (each k (actual.Whole k) l) in
+      get_or-map (actual_in u.dummies (shapes_in u.dummies vs) (store_in u.dummies vs)) all k (actual.Whole k) a (omega (arith, l, count))
+      ∙ ap (actual_in u.dummies (shapes_in u.dummies vs) (store_in u.dummies vs)) (each k (actual.Whole k) l) in
       let slot : get_or input k (entry_seen d) ≡ entry_seen (get_or vs k d) = ap (λ (ws : List (Slot ℤ)). get_or ws k (entry_seen d)) (sym same) ∙ get_or-map entry_seen vs k d (entry_seen d) l in
       let between : store_in u.dummies vs (var_at u.dummies k) ≡ nth_cell words (get_or vs k d).cells.items = λ i j. (read_cell u.dummies vs k d j f l ∙ sym (nth_is (get_or vs k d).cells.items j)) i in
       ap (λ (z : Actual ℤ). z.cells) at

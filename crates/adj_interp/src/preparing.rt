@@ -11,10 +11,7 @@ use adj_tree::Memory;
 use std::alloc::Global;
 
 /// Each unit of a checked program is prepared, in order.
-pub(crate) fn prepared<'a>(
-    alloc: Global,
-    program: &'a Checked,
-) -> Result<Vec<Routine<'a>>, Memory>
+pub(crate) fn prepared<'a>(alloc: Global, program: &'a Checked) -> Result<Vec<Routine<'a>>, Memory>
     ensures routines { IfOk result (λ rs. AreRoutines rs.items) }
     ensures units { IfOk result (λ rs. units_in rs.items ≡ procedures_of program.now.program) }
 {

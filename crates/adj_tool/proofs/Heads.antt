@@ -22,7 +22,8 @@ use Rattle.adj_accepted.proofs.Kernels.{kernel_checked, head_within}
 use Rattle.adj_accepted.proofs.Through.{emitted_is_adjoint, is_written, is_sound}
 use Rattle.adj_weave.specs.Shared.{IsCheckedBySome}
 use Rattle.adj_tool.specs.Words.{Request}
-use Rattle.adj_tool.specs.Answer.{Answer, emitted, fitted_answer, written}
+use Rattle.adj_answer.specs.Answer.{Answer}
+use Rattle.adj_tool.specs.Answer.{emitted, fitted_answer, written}
 use Rattle.adj_tool.specs.Headline.{IsAdjoined, IsUnit, ReadsBack, WritesAdjoint, flags_of}
 
 -- where the head has no fault, it is there

@@ -1,18 +1,15 @@
 -- Answer: what a command writes, and the status that goes with it.
-use Rattle.std.specs.Prelude.{ℕ, ◌==◌, nat_lt, Bool, true, false, List, [], ◌++◌, length, flat_map, Option, Some, None, Result, Ok, Err, codes, decimal, if◌then◌else◌}
+use Rattle.std.specs.Prelude.{ℕ, nat_lt, Bool, true, false, List, ◌++◌, length, flat_map, Option, Some, None, Result, Ok, Err, codes, decimal, if◌then◌else◌}
 use Rattle.adj_tree.specs.Code.{Procedure}
 use Rattle.adj_tree.specs.declared.fault.Refusal.{Refusal}
 use Rattle.adj_tree.specs.declared.marks.Head.{Head}
 use Rattle.adj_names.specs.Fault.{source_rules}
 use Rattle.adj_names.specs.Check.{first_fault}
 use Rattle.adj_names.specs.HeadFaults.{first_head_fault, head_of}
-use Rattle.adj_text.specs.Limits.{limits_of}
-use Rattle.adj_text.specs.Refused.{◌>>=◌}
-use Rattle.adj_text.specs.Stated.{statements_of}
 use Rattle.adj_text.specs.Text.{text_of}
-use Rattle.adj_text.specs.declared.mode.Mode.{Mode}
 use Rattle.adj_text.specs.declared.mode.Mode.TheVariants.{Source}
-use Rattle.adj_parse.specs.Trees.{trees_of}
+use Rattle.adj_answer.specs.Answer.{Answer, line_of_one, refused, too_long}
+use Rattle.adj_answer.specs.Programs.{program_of}
 use Rattle.adj_kernel.specs.Stepped.{kernel_of}
 use Rattle.adj_accepted.specs.Accepted.{emitted_for}
 use Rattle.adj_revolve.specs.declared.machine.Action.{Action}
@@ -23,26 +20,7 @@ use Rattle.adj_tool.specs.Words.{Request}
 use Rattle.adj_tool.specs.Profile.{first_untreated}
 use Rattle.adj_tool.specs.Fitting.{most_counted, kernel_fits}
 
-pub record Answer : Type 0 where
-  pub status : ℕ
-  pub text : List ℕ
-
--- ---- words that are no command, and refusals
-
-abbrev pub usage : Answer
-usage = record { status = 1; text = codes "USAGE\n" }
-
--- the limit that was passed, which code 21 alone has
-abbrev pub limit_text : Refusal → List ℕ
-limit_text r = if r.code == 21 then codes " LIMIT " ++ decimal r.number else []
-
-abbrev pub refused : Refusal → Answer
-refused r = record { status = 2; text = codes "REFUSED " ++ decimal r.code ++ codes " LINE " ++ decimal r.line ++ limit_text r ++ codes "\n" }
-
 -- ---- schedules
-
-abbrev pub line_of_one : List ℕ → ℕ → List ℕ
-line_of_one word p = word ++ decimal p ++ codes "\n"
 
 -- the line of an action
 abbrev pub action_line : Action → List ℕ
@@ -64,14 +42,6 @@ schedule_answer steps snapshots = record {
 -- the most bytes of an input
 abbrev pub most_bytes : ℕ
 most_bytes = 4194304
-
--- an input of more bytes
-abbrev pub too_long : Answer
-too_long = refused (record { code = 21; line = 0; number = most_bytes })
-
--- the program of a text in this mode, or the first fault of its lines, its statements or its trees
-abbrev pub program_of : Mode → List ℕ → Result (List Procedure) Refusal
-program_of mode bytes = statements_of (limits_of mode) bytes >>= trees_of mode
 
 -- a statement at this line isn't treated yet
 abbrev pub untreated : ℕ → Answer
@@ -117,4 +87,4 @@ text_answer r (Err e) = refused e
 text_answer r (Ok ps) = program_answer r ps
 
 abbrev pub adjoint_answer : Request → List ℕ → Answer
-adjoint_answer r bytes = if nat_lt most_bytes (length bytes) then too_long else text_answer r (program_of Source bytes)
+adjoint_answer r bytes = if nat_lt most_bytes (length bytes) then too_long most_bytes else text_answer r (program_of Source bytes)

@@ -10,7 +10,7 @@ use Rattle.adj_names.specs.Fault.{run_rules}
 use Rattle.adj_names.specs.Check.{IsSound}
 use Rattle.adj_accepted.specs.Accepted.{IsFullAdjointOf}
 use Rattle.adj_tool.specs.Words.{Request}
-use Rattle.adj_tool.specs.Answer.{Answer}
+use Rattle.adj_answer.specs.Answer.{Answer}
 
 -- a unit of the name is there
 pub record IsUnit (ps : List Procedure) (name : List ℕ) : Type 0 where

@@ -1,27 +1,32 @@
 -- Tool: what a call of the program comes to.
 use Rattle.std.specs.Prelude.{◌≡◌, ◌⊎◌, ◌+◌, ◌<◌, ℕ, List, length, take, Option, Some, None}
 use Rattle.adj_io.specs.Bytes.{IsAtEnd, extended_by, followed_by}
-use Rattle.adj_tool.specs.Words.{Command, Request, Adjoint, Schedule}
+use Rattle.adj_answer.specs.Answer.{Answer, usage}
+use Rattle.adj_running.specs.Running as running
+use Rattle.adj_tool.specs.Words.{Command, Request, Adjoint, Run, Schedule}
 use Rattle.adj_tool.specs.Headline.{WritesAdjoint}
-use Rattle.adj_tool.specs.Answer.{Answer, usage, schedule_answer, adjoint_answer, most_bytes}
+use Rattle.adj_tool.specs.Answer.{schedule_answer, adjoint_answer, most_bytes}
 
--- the answer to an input, of which some bytes were read: it was read to its end, or one byte more than the limit was
-pub record AnswersInput (r : Request) (before after : Option (List ℕ)) (a : Answer) : Type 0 where
+-- the answer to an input of at most so many bytes, of which some were read: it was read to its end, or one byte more than the limit was
+pub record AnswersInput (most : ℕ) (answer_to : List ℕ → Answer) (before after : Option (List ℕ)) (a : Answer) : Type 0 where
   pub bytes : List ℕ
   pub were_left : before ≡ followed_by bytes after
-  pub enough : IsAtEnd after ⊎ (length bytes ≡ most_bytes + 1)
-  pub answers : a ≡ adjoint_answer r bytes
+  pub enough : IsAtEnd after ⊎ (length bytes ≡ most + 1)
+  pub answers : a ≡ answer_to bytes
 
 -- the answer to what the words ask for, where `before` and `after` are the bytes that the source had left before the call and has left after it
 abbrev pub IsAnswer : Option Command → Option (List ℕ) → Option (List ℕ) → Answer → Type 0
 IsAnswer None before after a = (a ≡ usage) × (after ≡ before)
 IsAnswer (Some (Schedule l s)) before after a = (a ≡ schedule_answer l s) × (after ≡ before)
-IsAnswer (Some (Adjoint r)) before after a = AnswersInput r before after a
+IsAnswer (Some (Adjoint r)) before after a = AnswersInput most_bytes (adjoint_answer r) before after a
+IsAnswer (Some (Run r)) before after a = AnswersInput running.most_bytes (running.run_answer r) before after a
 
 -- the words ask for a command that reads
 abbrev pub ReadsInput : Option Command → Type 0
 ReadsInput (Some (Adjoint r)) = Unit {0}
-ReadsInput _ = ⊥
+ReadsInput (Some (Run r)) = Unit {0}
+ReadsInput (Some (Schedule l s)) = ⊥
+ReadsInput None = ⊥
 
 -- the answer was written whole, and the status is its own
 pub record WritesAll (asked : Option Command) (before after written_before written_after : Option (List ℕ)) (status : ℕ) : Type 0 where

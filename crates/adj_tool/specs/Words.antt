@@ -6,6 +6,7 @@ use Rattle.clap.specs.Kinds.{Kinds}
 use Rattle.clap.specs.Walk.{Row, Rule, Text, all_of, first_of}
 use Rattle.clap.specs.Simple.{App, matches_of, new_app, new_rule, on_top, with_rule}
 use Rattle.clap.specs.Faults.{fault_of}
+use Rattle.adj_running.specs.Running.{Asked}
 
 -- ---- the command line
 
@@ -96,6 +97,7 @@ pub record Request : Type 0 where
 -- the commands
 pub data Command : Type 0 where
   Adjoint : Request → Command
+  Run : Asked → Command
   -- steps and snapshots
   Schedule : ℕ → ℕ → Command
 
@@ -112,6 +114,22 @@ abbrev pub adjoint_asked : List Row → Option Command
 adjoint_asked rows =
     if lacks (codes "numbers" ∷ codes "budget" ∷ codes "tape" ∷ []) rows
     then with_request (option_and_then name_of (first_of (codes "head") rows)) (option_and_then names_of (first_of (codes "vars") rows)) (option_and_then names_of (first_of (codes "outvars") rows))
+    else None
+
+-- the number of an option, or another where the option is absent
+abbrev pub number_or : ℕ → ℕ → ℕ → Option Text → Option ℕ
+number_or other least most None = Some other
+number_or other least most (Some w) = number_in least most w
+
+abbrev pub with_limits : Option Text → Option ℕ → Option ℕ → Option Command
+with_limits (Some head) (Some budget) (Some room) = Some (Run (record { head = head; budget = budget; room = room }))
+with_limits _ _ _ = None
+
+-- run --head NAME, with at most 100000000 statements or --budget N, and a tape for 16777216 words or --tape N
+abbrev pub run_asked : List Row → Option Command
+run_asked rows =
+    if lacks (codes "numbers" ∷ codes "vars" ∷ codes "outvars" ∷ []) rows
+    then with_limits (option_and_then name_of (first_of (codes "head") rows)) (number_or 100000000 1 9223372036854775807 (first_of (codes "budget") rows)) (number_or 16777216 0 134217728 (first_of (codes "tape") rows))
     else None
 
 -- steps and snapshots
@@ -134,8 +152,9 @@ schedule_asked rows =
 abbrev pub command_asked : Text → List Row → Option Command
 command_asked name rows =
     if bytes_eq name (codes "adjoint") then adjoint_asked rows
+    else (if bytes_eq name (codes "run") then run_asked rows
     else (if bytes_eq name (codes "schedule") then schedule_asked rows
-    else None)
+    else None))
 
 abbrev pub asked : List Row → Option Command
 asked rows = option_and_then (λ name. command_asked name rows) (first_of (codes "command") rows)

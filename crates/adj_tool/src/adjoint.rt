@@ -10,15 +10,15 @@ ghost use Rattle.adj_names.specs.HeadFaults.{first_head_fault, head_of, unit_num
 ghost use Rattle.adj_kernel.specs.Sound.{IsAccepted};
 ghost use Rattle.adj_kernel.specs.Stepped.{kernel_of};
 ghost use Rattle.adj_tool.specs.Profile.{first_untreated};
+ghost use Rattle.adj_answer.specs.Views.{answer_of};
 ghost use Rattle.adj_tool.specs.Answer.{adjoint_answer, checked_answer, emitted, fitted_answer, headed_answer, most_bytes, program_answer, too_large, treated_answer, untreated};
 ghost use Rattle.adj_tool.specs.Fitting.{kernel_fits};
 ghost use Rattle.adj_tool.specs.Headline.{IsAdjoined, IsUnit, ReadsBack};
-ghost use Rattle.adj_tool.specs.Views.{answer_of, request_of};
+ghost use Rattle.adj_tool.specs.Views.{request_of};
 
-use crate::answer::{Answer, Status, refused};
-use crate::read::read;
 use crate::task::Request;
 use crate::untreated::first_untreated;
+use adj_answer::{Answer, Status, read, refused};
 use adj_fixed::Mode;
 use adj_kernels::checked_kernel;
 use adj_print::text;

@@ -2,9 +2,9 @@
 #![tactic(auto)]
 
 mod adjoint;
-mod answer;
-mod read;
+mod running;
 mod schedule;
+mod stop;
 mod task;
 mod text;
 mod top;

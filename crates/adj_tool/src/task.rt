@@ -2,6 +2,7 @@
 
 ghost use Rattle.std.specs.Prelude.{◌<◌, ◌≤◌};
 
+use adj_running::RunRequest;
 use adj_tree::{Name, NameList};
 
 /// A head with its independents and its dependents.
@@ -27,6 +28,8 @@ pub struct Reversal {
 pub enum Task {
     /// Write the adjoint of a unit.
     Adjoint(Request),
+    /// Run a unit on data.
+    Run(RunRequest),
     /// Write the schedule of a reversal.
     Schedule(Reversal),
 }

@@ -1,45 +1,31 @@
 //! The call that does all that the program does.
 
 ghost use Rattle.std.specs.Prelude.{◌≡◌, ◌<◌, ◌⊎◌, IfOk, IsErrOf};
-ghost use Rattle.adj_tool.specs.declared.top.Stop.TheVariants as stop;
 ghost use Rattle.adj_io.specs.Faults.{Rose};
 ghost use Rattle.adj_tool.specs.Words.{taken};
-ghost use Rattle.adj_tool.specs.Views.{answer_of, request_of};
+ghost use Rattle.adj_answer.specs.Views.{answer_of};
+ghost use Rattle.adj_tool.specs.Answer.{adjoint_answer, most_bytes};
+ghost use Rattle.adj_tool.specs.Views.{request_of};
 ghost use Rattle.adj_tool.specs.Tool.{AdjoinsInput, AnswersInput, IsAdjoinedTo, IsAnswer, IsHeadline, ReadsInput, WritesAll, WritesFront};
 
 use crate::adjoint::adjoint;
-use crate::answer::{Answer, refused, usage};
+use crate::running::run_input;
 use crate::schedule::schedule;
+use crate::stop::Stop;
 use crate::task::{Request, Task};
 use crate::text::Text;
 use crate::words::take;
+use adj_answer::{Answer, refused, usage};
 use adj_io::{ReadError, Sink, Source, WriteFault, read_all, write_all};
-use adj_tree::{Memory, Refusal};
+use adj_tree::Refusal;
 use std::alloc::Global;
 
 /// The most bytes of an input.
 const MOST_BYTES: usize = 4_194_304;
 
-/// Why there is no answer.
-#[derive(Clone, Copy, Debug)]
-pub enum Stop {
-    /// A read failed.
-    ReadFault,
-    /// Memory ran out.
-    Memory,
-}
-
-impl From<Memory> for Stop {
-    ghost from_gives = { λ _ e. e ≡ stop.Memory };
-
-    fn from(_error: Memory) -> Stop {
-        Stop::Memory
-    }
-}
-
 // The answer of `adjoint` to an input.
 fn answer_input<S: Source>(alloc: Global, request: &Request, input: &mut S) -> Result<Answer, Stop>
-    ensures answer { IfOk result (λ a. AnswersInput (request_of request.now) (S.left input.old) (S.left input.new) (answer_of a)) }
+    ensures answer { IfOk result (λ a. AnswersInput most_bytes (adjoint_answer (request_of request.now)) (S.left input.old) (S.left input.new) (answer_of a)) }
     ensures adjoint { IfOk result (λ a. (answer_of a).status ≡ 0 → AdjoinsInput (request_of request.now) (S.left input.old) (S.left input.new) a.text.items) }
     ensures fault { IsErrOf result Stop.ReadFault → Rose (S.faults input.old) (S.faults input.new) }
 {
@@ -79,6 +65,10 @@ fn answer_words<S: Source>(alloc: Global, words: &[Text], input: &mut S) -> Resu
             let answer = answer_input(alloc, &request, input)?;
             Ok(answer)
         }
+        Task::Run(request) => {
+            let answer = run_input(alloc, &request, input)?;
+            Ok(answer)
+        }
         Task::Schedule(reversal) => {
             let answer = schedule(alloc, &reversal)?;
             Ok(answer)
@@ -88,7 +78,8 @@ fn answer_words<S: Source>(alloc: Global, words: &[Text], input: &mut S) -> Resu
 
 /// Does what the words ask for, and answers the status of the program.
 ///
-/// 0: done. 1: the words are no command. 2: the text is refused. 7: a read failed. 8: a write failed. 9: memory ran out.
+/// 0: done. 1: the words are no command. 2: the text is refused. 3: the data have a fault. 4: a run trapped. 5: a run used up its
+/// statements. 6: a run found its tape full. 7: a read failed. 8: a write failed. 9: memory ran out.
 pub fn tool<S: Source, K: Sink>(alloc: Global, words: &[Text], input: &mut S, output: &mut K) -> u8
     ensures answer { result < 7 → WritesAll (taken words.now) (S.left input.old) (S.left input.new) (K.taken output.old) (K.taken output.new) result }
     ensures read_fault { result ≡ 7 → Rose (S.faults input.old) (S.faults input.new) }
@@ -100,7 +91,7 @@ pub fn tool<S: Source, K: Sink>(alloc: Global, words: &[Text], input: &mut S, ou
     ensures unwritten { (result ≡ 7) ⊎ (result ≡ 9) → K.taken output.new ≡ K.taken output.old }
     // Where `adjoint` is done, what was written is an adjoint of what was read.
     ensures headline { result ≡ 0 → IsHeadline (taken words.now) (S.left input.old) (S.left input.new) (K.taken output.old) (K.taken output.new) }
-    ensures status { (result < 3) ⊎ ((result ≡ 7) ⊎ ((result ≡ 8) ⊎ (result ≡ 9))) }
+    ensures status { result < 10 }
 {
     match answer_words(alloc, words, input) {
         Ok(answer) => match write_all(output, answer.text.as_slice()) {

@@ -1,7 +1,7 @@
 //! The words of a command, as `clap` reads them.
 
-ghost use Rattle.std.specs.Prelude.{◌≡◌, false, not, is_some, ℕ, List, ◌∷◌, IfOk, Option, option_map, option_and_then, map, codes};
-ghost use Rattle.adj_tool.specs.Words.{bare_program, program, command_rule, numbers_rule, option_rule, lacks, name_of, names_of, adjoint_asked, schedule_asked, numbers_asked, command_asked, asked, taken};
+ghost use Rattle.std.specs.Prelude.{◌≡◌, ◌≤◌, false, not, is_some, ℕ, List, ◌∷◌, IfOk, IfSome, Option, option_map, option_and_then, map, codes};
+ghost use Rattle.adj_tool.specs.Words.{bare_program, program, command_rule, numbers_rule, option_rule, lacks, name_of, names_of, adjoint_asked, number_or, run_asked, schedule_asked, numbers_asked, command_asked, asked, taken};
 ghost use Rattle.adj_tool.specs.Views.{command_of};
 ghost use Rattle.clap.specs.Simple.{app_of, with_rule};
 ghost use Rattle.clap.specs.Matches.{found_of};
@@ -10,6 +10,7 @@ ghost use Rattle.clap.specs.Walk.{rows_of, rule_of, first_of, all_of};
 use crate::task::{Request, Reversal, Task};
 use crate::text::Text;
 use crate::values::{name_of, names_of, number_in};
+use adj_running::RunRequest;
 use adj_tree::{Memory, Name, NameList};
 use clap::error::ErrorKind;
 use clap::{Arg, ArgMatches, Command};
@@ -135,6 +136,45 @@ fn adjoint_task(alloc: Global, matches: &ArgMatches<'_>) -> Result<Option<Task>,
     }
 }
 
+// The number of an option, or another where the option is absent.
+fn number_option(
+    matches: &ArgMatches<'_>,
+    id: &str,
+    other: u64,
+    least: u64,
+    most: u64,
+) -> Option<u64>
+    requires { other ≤ most }
+    ensures value { result ≡ number_or other least most (first_of id.now (rows_of (found_of matches.now))) }
+    ensures within { IfSome result (λ n. n ≤ most) }
+{
+    match value(matches, id) {
+        Some(word) => number_in(least, most, word.as_bytes()),
+        None => Some(other),
+    }
+}
+
+// run --head NAME, with --budget N and --tape N or neither
+fn run_task(alloc: Global, matches: &ArgMatches<'_>) -> Result<Option<Task>, Memory>
+    ensures { IfOk result (λ r. option_map command_of r ≡ run_asked (rows_of (found_of matches.now))) }
+{
+    let lacks = is_absent(matches, "numbers")
+        && is_absent(matches, "vars")
+        && is_absent(matches, "outvars");
+    if !lacks {
+        return Ok(None);
+    }
+    let head = name_option(alloc, matches, "head")?;
+    let budget = number_option(matches, "budget", 100_000_000, 1, 9_223_372_036_854_775_807);
+    let room = number_option(matches, "tape", 16_777_216, 0, 134_217_728);
+    match (head, budget, room) {
+        (Some(head), Some(budget), Some(room)) => {
+            Ok(Some(Task::Run(RunRequest { head, budget, room })))
+        }
+        _ => Ok(None),
+    }
+}
+
 fn schedule_numbers(numbers: &[&str]) -> Option<Task>
     ensures { option_map command_of result ≡ numbers_asked (map (λ v. v.now) numbers.now) }
 {
@@ -176,6 +216,10 @@ fn task_asked(alloc: Global, matches: &ArgMatches<'_>) -> Result<Option<Task>, M
     };
     if name == "adjoint" {
         let task = adjoint_task(alloc, matches)?;
+        return Ok(task);
+    }
+    if name == "run" {
+        let task = run_task(alloc, matches)?;
         return Ok(task);
     }
     if name == "schedule" {

@@ -30,6 +30,10 @@ mod readings;
 #[cfg(test)]
 mod refused;
 #[cfg(test)]
+mod running;
+#[cfg(test)]
 mod sweeps;
 #[cfg(test)]
 mod texts;
+#[cfg(test)]
+mod worked_runs;

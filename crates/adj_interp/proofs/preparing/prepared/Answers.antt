@@ -80,8 +80,8 @@ loop-i-preserved c =
       units = e.units ∙ inv.units;
       count = ap length pushed ∙ omega (arith, n, longer);
       made = ap units_in pushed ∙ map_push (λ (z : Routine). procedure_of z.unit.now) old r
-      ∙ (λ k. inv.made k ++ ap procedure_of (e.unit ∙ is) k ∷ [])
-      ∙ sym (map_more procedure_of us c.loop-i.i d lt);
+          ∙ (λ k. inv.made k ++ ap procedure_of (e.unit ∙ is) k ∷ [])
+          ∙ sym (map_more procedure_of us c.loop-i.i d lt);
       each = subst (λ (xs : List Routine). (k : ℕ) (d : Routine) → k < c.loop-i.i + 1 → IsRoutine (procedures_of c.args.program.now.program) (get_or xs k d)) (sym pushed) (pushed_each (IsRoutine (procedures_of c.args.program.now.program)) old r c.loop-i.i n inv.each own);
     }
 

@@ -1,7 +1,8 @@
 use Rattle.adj_tree.specs.View.{procedures_of}
 use Rattle.adj_kernel.specs.Sound.{IsAccepted}
-use Rattle.adj_tool.specs.Views.{answer_of, request_of}
 use Rattle.adj_kernel.specs.Stepped.{kernel_of}
+use Rattle.adj_answer.specs.Views.{answer_of}
+use Rattle.adj_tool.specs.Views.{request_of}
 use Rattle.adj_tool.specs.Fitting.{kernel_fits}
 use Rattle.adj_tool.proofs.Heads.{head_there, fitted_adjoins}
 use Rattle.adj_tool.proofs.adjoint.answer_head.Goals as goal

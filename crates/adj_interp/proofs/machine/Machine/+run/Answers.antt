@@ -546,9 +546,9 @@ call-returns-clause-ends t c name found e s h =
     (ap (λ (z : Machine). z.level) same ∙ ap (λ (z : Machine). z.level) back ∙ ap (λ (z : Outer). z.level) outer)
     (ap (λ (z : Machine). z.base) same ∙ ap (λ (z : Machine). z.base) back ∙ ap (λ (z : Outer). z.base) outer)
     (λ u g.
-        let mine = subst (λ (z : Frame). Shows z.names.now z.slots.items e.shape s.store) (sym frame) h.shown in
-        let theirs = subst (λ (z : Frame). Shows z.names.now z.slots.items (shapes_with r got) u) (sym inner) g in
-        let named = subst (λ ns. Shows ns c.leave-inner.result.0.slots.items (shapes_with r got) u) inner_names theirs in
-        let out = handed e.shape (shapes_with r got) s.store s.store u mine named in
-        let copied = subst (λ (p : Frame × List Actual). Shows m2.frame.names.now m3.frame.slots.items e.shape (copied_out r.unit.now.dummies r.writes.now (actuals_in p.0.names.now e.shape s.store p.1) u s.store)) (λ i. (frame i, c.as_slice-2.ensures.value i)) out in
-        subst (λ ns. Shows ns m3.frame.slots.items e.shape (copied_out r.unit.now.dummies r.writes.now got u s.store)) (sym c.hand_back.ensures.names) copied)))
+    let mine = subst (λ (z : Frame). Shows z.names.now z.slots.items e.shape s.store) (sym frame) h.shown in
+    let theirs = subst (λ (z : Frame). Shows z.names.now z.slots.items (shapes_with r got) u) (sym inner) g in
+    let named = subst (λ ns. Shows ns c.leave-inner.result.0.slots.items (shapes_with r got) u) inner_names theirs in
+    let out = handed e.shape (shapes_with r got) s.store s.store u mine named in
+    let copied = subst (λ (p : Frame × List Actual). Shows m2.frame.names.now m3.frame.slots.items e.shape (copied_out r.unit.now.dummies r.writes.now (actuals_in p.0.names.now e.shape s.store p.1) u s.store)) (λ i. (frame i, c.as_slice-2.ensures.value i)) out in
+    subst (λ ns. Shows ns m3.frame.slots.items e.shape (copied_out r.unit.now.dummies r.writes.now got u s.store)) (sym c.hand_back.ensures.names) copied)))

@@ -1,8 +1,8 @@
 //! What is written, and the status that goes with it.
 
 ghost use Rattle.std.specs.Prelude.{◌≡◌, ◌<◌, ◌++◌, ℕ, List, IfOk, OnOk, decimal, codes};
-ghost use Rattle.adj_tool.specs.Answer.{limit_text, refused, usage};
-ghost use Rattle.adj_tool.specs.Views.{answer_of, status_of};
+ghost use Rattle.adj_answer.specs.Answer.{limit_text, refused, usage};
+ghost use Rattle.adj_answer.specs.Views.{answer_of, status_of};
 
 use adj_tree::{Memory, Refusal};
 use itoa::Buffer;
@@ -17,18 +17,30 @@ pub enum Status {
     Usage,
     /// The text is refused.
     Refused,
+    /// The data have a fault.
+    Data,
+    /// A run trapped.
+    Trap,
+    /// A run used up its statements, and there was more to do.
+    Budget,
+    /// A word was to be pushed on a full tape.
+    Tape,
 }
 
 impl Status {
     /// The status of the program.
-    pub(crate) fn number(&self) -> u8
+    pub fn number(&self) -> u8
         ensures value { result ≡ status_of self.now }
-        ensures few { result < 3 }
+        ensures few { result < 7 }
     {
         match self {
             Status::Done => 0,
             Status::Usage => 1,
             Status::Refused => 2,
+            Status::Data => 3,
+            Status::Trap => 4,
+            Status::Budget => 5,
+            Status::Tape => 6,
         }
     }
 }
@@ -41,7 +53,7 @@ pub struct Answer {
 }
 
 /// Writes the decimal digits of a number behind a word.
-pub(crate) fn push_number(text: &mut Vec<u8>, word: &[u8], number: u128) -> Result<(), Memory>
+pub fn push_number(text: &mut Vec<u8>, word: &[u8], number: u128) -> Result<(), Memory>
     ensures { OnOk result (text.new.items ≡ text.old.items ++ word.now ++ decimal number) }
 {
     let mut buffer = Buffer::new();
@@ -51,7 +63,7 @@ pub(crate) fn push_number(text: &mut Vec<u8>, word: &[u8], number: u128) -> Resu
 }
 
 /// The answer to words that are no command.
-pub(crate) fn usage(alloc: Global) -> Result<Answer, Memory>
+pub fn usage(alloc: Global) -> Result<Answer, Memory>
     ensures { IfOk result (λ a. answer_of a ≡ usage) }
 {
     let text = Vec::from_slice(alloc, b"USAGE\n")?;
@@ -62,7 +74,7 @@ pub(crate) fn usage(alloc: Global) -> Result<Answer, Memory>
 }
 
 /// The answer to a text that is refused.
-pub(crate) fn refused(alloc: Global, refusal: Refusal) -> Result<Answer, Memory>
+pub fn refused(alloc: Global, refusal: Refusal) -> Result<Answer, Memory>
     ensures { IfOk result (λ a. answer_of a ≡ refused refusal) }
 {
     let mut text = Vec::new(alloc);

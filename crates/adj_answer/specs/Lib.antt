@@ -1,0 +1,4 @@
+-- What the contracts of this crate say of answers and of the programs that texts are.
+pub mod Answer
+pub mod Programs
+pub mod Views

@@ -1,0 +1,3 @@
+mod Sized
+mod Heads
+mod Endings

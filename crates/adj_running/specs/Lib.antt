@@ -1,0 +1,3 @@
+-- What the contracts of this crate say of the command `run`.
+pub mod Running
+pub mod Views

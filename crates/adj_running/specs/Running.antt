@@ -1,0 +1,99 @@
+-- Running: the answer of the command `run` to an input. (docs/COMMANDS.md, "`run`")
+use Rattle.std.specs.Prelude.{ℕ, nat_lt, ℤ, List, [], ◌++◌, length, drop, Option, Some, None, Result, Ok, Err, codes, decimal, if◌then◌else◌}
+use Rattle.adj_tree.specs.Code.{Procedure}
+use Rattle.adj_tree.specs.declared.fault.Refusal.{Refusal}
+use Rattle.adj_text.specs.Data.{data_of}
+use Rattle.adj_text.specs.declared.mode.Mode.TheVariants as mode
+use Rattle.adj_meaning.specs.Numbers.{words}
+use Rattle.adj_meaning.specs.Scene.{Outcome, Done, Trapped, More, Full}
+use Rattle.adj_meaning.specs.Trap.{Trap, division, index, step_trap, shape_trap, tape_trap, schedule_trap, power_trap}
+use Rattle.adj_meaning.specs.Units.{Slot, Output, run_unit}
+use Rattle.adj_meaning.specs.Written.{find_unit}
+use Rattle.adj_names.specs.Check.{first_fault}
+use Rattle.adj_names.specs.Fault.{run_rules, fault}
+use Rattle.adj_data.specs.Faults.{Fault, data_fault}
+use Rattle.adj_data.specs.Given.{input_given}
+use Rattle.adj_data.specs.Printed.{values_text}
+use Rattle.adj_answer.specs.Answer.{Answer, line_of_one, refused, too_long}
+use Rattle.adj_answer.specs.Programs.{program_of}
+
+-- what is asked for: the unit that is run, the most statements that it may execute, and the most words that its tape may hold
+pub record Asked : Type 0 where
+  pub head : List ℕ
+  pub budget : ℕ
+  pub room : ℕ
+
+-- the most bytes of an input
+abbrev pub most_bytes : ℕ
+most_bytes = 67108864
+
+-- ---- what is written
+
+-- a line of a word, another word or number, and the line where it stands
+abbrev pub line_of_two : List ℕ → List ℕ → ℕ → List ℕ
+line_of_two word what line = word ++ what ++ codes " LINE " ++ decimal line ++ codes "\n"
+
+abbrev pub bad_data : Fault → Answer
+bad_data f = record { status = 3; text = line_of_two (codes "DATA ") (decimal f.code) f.line }
+
+abbrev pub kind_text : Trap → List ℕ
+kind_text division = codes "DIVISION"
+kind_text index = codes "INDEX"
+kind_text step_trap = codes "STEP"
+kind_text shape_trap = codes "SHAPE"
+kind_text tape_trap = codes "TAPE"
+kind_text schedule_trap = codes "SCHEDULE"
+kind_text power_trap = codes "POWER"
+
+abbrev pub trapped : Trap → ℕ → Answer
+trapped t line = record { status = 4; text = line_of_two (codes "TRAP ") (kind_text t) line }
+
+-- the statements were used up, and there is more to do
+abbrev pub used_up : ℕ → Answer
+used_up budget = record { status = 5; text = line_of_one (codes "BUDGET ") budget }
+
+abbrev pub tape_full : ℕ → Answer
+tape_full room = record { status = 6; text = line_of_one (codes "TAPE ROOM ") room }
+
+-- a line for each dummy, the words that are left on the tape, and the statements that were executed
+abbrev pub done : List (List ℕ) → List (Slot ℤ) → ℕ → ℕ → Answer
+done names slots words used = record { status = 0; text = values_text names slots ++ line_of_one (codes "TAPE ") words ++ line_of_one (codes "USED ") used }
+
+-- ---- runs
+
+-- the answer to how a run of a unit with these dummies ends
+abbrev pub ended : Asked → List (List ℕ) → Outcome (Output ℤ) → Answer
+ended r names (Done out used) = done names out.slots (length out.tape) used
+ended r names (Trapped t line w) = trapped t line
+ended r names (More w) = used_up r.budget
+ended r names (Full w) = tape_full r.room
+
+-- the run that is asked for, of a unit on an input, from an empty tape
+abbrev pub run_asked : Asked → List Procedure → Procedure → List (Slot ℤ) → Outcome (Output ℤ)
+run_asked r ps u input = run_unit words ps u input [] (Some r.room) r.budget
+
+-- ---- the answer, where a fault of the data, of the head, of names, calls and writes, or of the text comes first, in the order from the text on
+
+abbrev pub input_answer : Option Fault → Asked → List Procedure → Procedure → List (Slot ℤ) → Answer
+input_answer (Some f) r ps u input = bad_data f
+input_answer None r ps u input = ended r u.dummies (run_asked r ps u input)
+
+-- the answer for a unit, where data stand behind the line of a number
+abbrev pub data_answer : Asked → List Procedure → Procedure → ℕ → List ℕ → Answer
+data_answer r ps u line bytes = input_answer (data_fault line bytes u) r ps u (input_given line bytes u)
+
+-- the answer for the head, where the text has it
+abbrev pub head_answer : Asked → List ℕ → List Procedure → Option Procedure → Answer
+head_answer r bytes ps None = refused (fault 22 0)
+head_answer r bytes ps (Some u) = data_answer r ps u (data_of bytes).1 (drop (data_of bytes).0 bytes)
+
+abbrev pub checked_answer : Option Refusal → Asked → List ℕ → List Procedure → Answer
+checked_answer (Some e) r bytes ps = refused e
+checked_answer None r bytes ps = head_answer r bytes ps (find_unit ps r.head)
+
+abbrev pub text_answer : Asked → List ℕ → Result (List Procedure) Refusal → Answer
+text_answer r bytes (Err e) = refused e
+text_answer r bytes (Ok ps) = checked_answer (first_fault run_rules ps) r bytes ps
+
+abbrev pub run_answer : Asked → List ℕ → Answer
+run_answer r bytes = if nat_lt most_bytes (length bytes) then too_long most_bytes else text_answer r bytes (program_of mode.Run bytes)

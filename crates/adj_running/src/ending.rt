@@ -1,0 +1,128 @@
+//! What is written of data that have a fault, and of runs that ended.
+
+ghost use Rattle.std.specs.Prelude.{◌≡◌, ◌++◌, ℕ, List, length, map, codes, decimal, Some, IfOk, OnOk};
+ghost use Rattle.adj_frame.specs.Framed.{trap_of};
+ghost use Rattle.adj_data.specs.Given.{slot_seen};
+ghost use Rattle.adj_answer.specs.Views.{answer_of};
+ghost use Rattle.adj_running.specs.Running.{bad_data, done, kind_text, tape_full, trapped, used_up};
+ghost use Rattle.adj_running.specs.Views.{asked_of, error_answer, stop_answer};
+
+use crate::request::RunRequest;
+use adj_answer::{Answer, Status, push_number};
+use adj_data::{DataError, print_values};
+use adj_interp::Stop;
+use adj_tree::{Memory, NameList, Trap, Values};
+use std::alloc::Global;
+
+// The answer to data that have a fault.
+fn bad_data(alloc: Global, code: u8, line: u32) -> Result<Answer, Memory>
+    ensures { IfOk result (λ a. answer_of a ≡ bad_data (record { code = code; line = line })) }
+{
+    let mut text = Vec::new(alloc);
+    push_number(&mut text, b"DATA ", u128::from(code))?;
+    push_number(&mut text, b" LINE ", u128::from(line))?;
+    text.push(b'\n')?;
+    Ok(Answer {
+        status: Status::Data,
+        text,
+    })
+}
+
+/// The answer to data that give no input.
+pub(crate) fn no_input(alloc: Global, error: DataError) -> Result<Answer, Memory>
+    ensures { IfOk result (λ a. Some (answer_of a) ≡ error_answer error) }
+{
+    match error {
+        DataError::Data(code, line) => bad_data(alloc, code, line),
+        DataError::Memory => Err(Memory),
+    }
+}
+
+// The word of a kind of trap.
+fn kind_word(kind: Trap) -> &'static [u8]
+    ensures { result.now ≡ kind_text (trap_of kind) }
+{
+    match kind {
+        Trap::Division => b"DIVISION",
+        Trap::Index => b"INDEX",
+        Trap::Step => b"STEP",
+        Trap::Shape => b"SHAPE",
+        Trap::Tape => b"TAPE",
+        Trap::Schedule => b"SCHEDULE",
+        Trap::Power => b"POWER",
+    }
+}
+
+// The answer to a run that trapped at a line.
+fn trapped(alloc: Global, kind: Trap, line: u32) -> Result<Answer, Memory>
+    ensures { IfOk result (λ a. answer_of a ≡ trapped (trap_of kind) line) }
+{
+    let mut text = Vec::new(alloc);
+    text.extend_from_slice(b"TRAP ")?;
+    text.extend_from_slice(kind_word(kind))?;
+    push_number(&mut text, b" LINE ", u128::from(line))?;
+    text.push(b'\n')?;
+    Ok(Answer {
+        status: Status::Trap,
+        text,
+    })
+}
+
+// The answer to a run that used up its statements.
+fn used_up(alloc: Global, budget: u64) -> Result<Answer, Memory>
+    ensures { IfOk result (λ a. answer_of a ≡ used_up budget) }
+{
+    let mut text = Vec::new(alloc);
+    push_number(&mut text, b"BUDGET ", u128::from(budget))?;
+    text.push(b'\n')?;
+    Ok(Answer {
+        status: Status::Budget,
+        text,
+    })
+}
+
+// The answer to a run that found its tape full.
+fn tape_full(alloc: Global, room: u64) -> Result<Answer, Memory>
+    ensures { IfOk result (λ a. answer_of a ≡ tape_full room) }
+{
+    let mut text = Vec::new(alloc);
+    push_number(&mut text, b"TAPE ROOM ", u128::from(room))?;
+    text.push(b'\n')?;
+    Ok(Answer {
+        status: Status::Tape,
+        text,
+    })
+}
+
+/// The answer to a run that stopped before its end.
+pub(crate) fn stopped(alloc: Global, request: &RunRequest, stop: Stop) -> Result<Answer, Memory>
+    ensures { IfOk result (λ a. Some (answer_of a) ≡ stop_answer (asked_of request.now) stop) }
+{
+    match stop {
+        Stop::Trap(kind, line) => trapped(alloc, kind, line),
+        Stop::Budget => used_up(alloc, request.budget),
+        Stop::TapeFull => tape_full(alloc, request.room),
+        Stop::Memory => Err(Memory),
+    }
+}
+
+/// The answer to a run that is done, with so many words left on its tape and so many statements executed.
+pub(crate) fn done(
+    alloc: Global,
+    names: &NameList,
+    values: &Values,
+    words: u64,
+    used: u64,
+) -> Result<Answer, Memory>
+    requires { length names.now ≡ length values.now }
+    ensures { IfOk result (λ a. answer_of a ≡ done names.now (map slot_seen values.now) words used) }
+{
+    let mut text = print_values(alloc, names, values)?;
+    push_number(&mut text, b"TAPE ", u128::from(words))?;
+    push_number(&mut text, b"\nUSED ", u128::from(used))?;
+    text.push(b'\n')?;
+    Ok(Answer {
+        status: Status::Done,
+        text,
+    })
+}
