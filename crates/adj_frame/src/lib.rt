@@ -3,7 +3,8 @@
 //! A unit is prepared once: its variables get numbers, and its trees name them by these. An entry of a unit has one slot
 //! for each variable, whose cells change in place. What prepared trees do is defined by the trees that they stand for
 //! (`specs/Prepared.antt`, `specs/Instructed.antt`) and the values of `adj_meaning`. The layer above uses: a prepared
-//! tree stands for its tree, and an expression has in the slots the value that it has in the store that they show.
+//! unit stands for its unit, an expression has in the slots the value that it has in the store that they show, and the
+//! entry of a unit and what it hands back are those of a call.
 #![tactic(auto)]
 
 mod actual;

@@ -1,10 +1,10 @@
 -- What holds of the units of a checked program.
-use Rattle.std.proofs.Common.{◌≡◌, ℕ, zero, suc, ◌+◌, ◌<◌, ◌≤◌, Bool, true, false, List, [], ◌∷◌, ◌++◌, map, length, get_or, refl, sym, ap, ap₂, subst, ◌∙◌, arith, if◌then◌else◌}
+use Rattle.std.proofs.Common.{◌≡◌, ℕ, zero, suc, ◌+◌, ◌<◌, ◌≤◌, Bool, true, false, List, [], ◌∷◌, ◌++◌, map, length, get_or, refl, sym, ap, subst, ◌∙◌, arith, if◌then◌else◌}
 use Rattle.std.specs.Prelude.{◌||◌, flat_map, nat_lt}
 use Rattle.std.specs.List.{All}
 use Rattle.std.proofs.lemmas.List.{length-map, get_or_append_left, get_or_push}
 use Rattle.std.proofs.lemmas.List.Elements.{All-head, All-tail}
-use Rattle.adj_tree.specs.Code.{name_eq, Declaration, Procedure}
+use Rattle.adj_tree.specs.Code.{name_eq, Procedure}
 use Rattle.adj_tree.specs.View.{declaration_of, procedure_of, extent_of}
 use Rattle.adj_tree.specs.declared.fault.Refusal.{Refusal}
 use Rattle.adj_tree.specs.declared.unit.Decl.{Decl}
@@ -13,12 +13,12 @@ use Rattle.adj_tree.proofs.Names.{name_refl, name_same}
 use Rattle.adj_text.specs.Written.{IsWritten, IsWrittenProcedure, IsWrittenDeclaration}
 use Rattle.adj_meaning.specs.Agree.{stands_among, AreApart}
 use Rattle.adj_meaning.specs.LeastSet.{Rule, row_of, rounds, least_rows, dummies_in_all}
-use Rattle.adj_meaning.specs.Written.{write_rule, handed_back}
+use Rattle.adj_meaning.specs.Written.{write_rule}
 use Rattle.adj_meaning.proofs.Booleans.{or_false, or_first, or_second}
 use Rattle.adj_names.specs.Check.{IsSound}
-use Rattle.adj_names.specs.Fault.{Rules, run_rules, faults_if, fault, again}
+use Rattle.adj_names.specs.Fault.{run_rules, faults_if, fault, again}
 use Rattle.adj_names.specs.Fresh.{has_name}
-use Rattle.adj_names.specs.NameFaults.{faults_of_names, undeclared, declared_twice, misused}
+use Rattle.adj_names.specs.NameFaults.{faults_of_names, undeclared, declared_twice}
 use Rattle.adj_names.specs.Statements.{At}
 use Rattle.adj_names.specs.UnitFaults.{reserved_units, repeated_units, unit_places}
 use Rattle.adj_names.specs.Variables.{dummy_places, declared_places}

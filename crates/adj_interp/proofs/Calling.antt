@@ -1,20 +1,20 @@
 -- A machine that does a call ends as the call does.
-use Rattle.std.proofs.Common.{◌≡◌, ℕ, zero, suc, ◌+◌, ◌*◌, ◌-◌, ◌<◌, ◌≤◌, Bool, true, false, List, [], ◌∷◌, map, length, get_or, refl, sym, ap, subst, ◌∙◌, arith, if◌then◌else◌}
+use Rattle.std.proofs.Common.{◌≡◌, ℕ, zero, suc, ◌+◌, ◌*◌, ◌-◌, ◌<◌, ◌≤◌, Bool, true, false, List, [], ◌∷◌, length, get_or, refl, sym, ap, subst, ◌∙◌, arith, if◌then◌else◌}
 use Rattle.std.specs.Prelude.{ℤ, slice_get, nat_lt, ◌==◌, ◌++◌, IfErr, OnOk, Result, Ok, Err, Option, Some, None}
 use Rattle.std.proofs.lemmas.List.{append_assoc, get_or_append_left, get_or_push, length-append}
-use Rattle.adj_tree.specs.Code.{Var, Terms, Code, name_eq, Procedure}
+use Rattle.adj_tree.specs.Code.{Terms, Code, name_eq, Procedure}
 use Rattle.adj_tree.specs.View.{code_of, procedure_of}
 use Rattle.adj_tree.specs.declared.value.Trap.TheVariants as trap
 use Rattle.adj_tree.proofs.Names.{nat_same, nat_refl, name_same}
 use Rattle.adj_meaning.specs.Trap.{Trap, shape_trap, schedule_trap, then_ok}
 use Rattle.adj_meaning.specs.Log.{Reversal, Log}
-use Rattle.adj_meaning.specs.Store.{Shape, Store}
+use Rattle.adj_meaning.specs.Store.{Store}
 use Rattle.adj_meaning.specs.Numbers.{words}
 use Rattle.adj_meaning.specs.Value.{Setting}
-use Rattle.adj_meaning.specs.Scene.{Scene, Stand, stand, Outcome, Done, Trapped, More, Full, Go, then_do, with_value}
+use Rattle.adj_meaning.specs.Scene.{Scene, Stand, stand, Outcome, Done, Trapped, More, Full, then_do, with_value}
 use Rattle.adj_meaning.specs.Run.{Calls, run}
 use Rattle.adj_meaning.specs.Written.{find_unit, handed_back}
-use Rattle.adj_meaning.specs.Units.{Actual, actuals, copied_out, dummies_fit, entry_store, setting_in, entered, unit_run, call_in, calls_of}
+use Rattle.adj_meaning.specs.Units.{Actual, actuals, copied_out, dummies_fit, entered, unit_run, call_in, calls_of}
 use Rattle.adj_frame.specs.declared.routine.Routine.{Routine}
 use Rattle.adj_frame.specs.declared.step.Steps.{size-Steps}
 use Rattle.adj_tape.specs.Held.{Held}
@@ -28,9 +28,9 @@ use Rattle.adj_interp.specs.declared.stop.Stop.{Stop}
 use Rattle.adj_interp.specs.declared.stop.Stop.TheVariants as stop
 use Rattle.adj_interp.specs.declared.machine.Machine.{Machine}
 use Rattle.adj_interp.specs.Counted.{Counted, with_entry}
-use Rattle.adj_interp.specs.Held.{Tells, Entry, setting_at, Holds, Stands, IsDone, IsTrapped, HasMore, IsFull, Ends}
+use Rattle.adj_interp.specs.Held.{Tells, Entry, setting_at, Holds, Stands, IsDone, IsTrapped, Ends}
 use Rattle.adj_interp.specs.Entered.{Gets, IsMisfit, inside, closed}
-use Rattle.adj_interp.proofs.Driving.{holds_stand, ends_break, Finished, finished}
+use Rattle.adj_interp.proofs.Driving.{holds_stand, ends_break, finished}
 
 -- ---- how deep calls go
 

@@ -1,10 +1,9 @@
 -- How a run of a unit concludes.
-use Rattle.std.proofs.Common.{◌≡◌, ℕ, zero, suc, ◌+◌, ◌-◌, ◌<◌, ◌≤◌, Bool, true, false, List, [], ◌∷◌, ◌++◌, map, take, length, get_or, refl, sym, ap, ap₂, subst, ◌∙◌, arith, if◌then◌else◌}
-use Rattle.std.specs.Prelude.{ℤ, pos, reverse, Result, Ok, Err}
+use Rattle.std.proofs.Common.{◌≡◌, ℕ, suc, ◌+◌, ◌-◌, ◌<◌, ◌≤◌, List, [], ◌∷◌, ◌++◌, map, take, length, get_or, refl, sym, ap, ap₂, subst, ◌∙◌, arith}
+use Rattle.std.specs.Prelude.{ℤ, pos, reverse, Ok, Err}
 use Rattle.std.proofs.lemmas.List.{get_or_append_left, length-append}
 use Rattle.adj_tree.specs.Code.{Var, plain}
 use Rattle.adj_tree.specs.declared.value.Slot.{Slot as CodeSlot}
-use Rattle.adj_meaning.specs.Log.{log_of}
 use Rattle.adj_meaning.specs.Store.{Shape, size_of, Store, cells_from}
 use Rattle.adj_meaning.specs.Scene.{Scene, Stand, Outcome, Done, Trapped, More, Full, then_do}
 use Rattle.adj_meaning.specs.Units.{Slot, slot_of, Output}
@@ -17,7 +16,6 @@ use Rattle.adj_interp.specs.declared.log.Log.{Log}
 use Rattle.adj_interp.specs.declared.stop.Stop.{Stop}
 use Rattle.adj_interp.specs.declared.stop.Stop.TheVariants as stop
 use Rattle.adj_interp.specs.declared.machine.Machine.{Machine}
-use Rattle.adj_interp.specs.Counted.{Counted}
 use Rattle.adj_interp.specs.Held.{Entry, Holds, Stands, Ends}
 use Rattle.adj_interp.specs.Concludes.{Concludes, StandsSo, slot_seen, counted_in}
 use Rattle.adj_interp.specs.Inputs.{entry_seen}

@@ -1,6 +1,6 @@
 -- The entry of a unit that gets an input.
-use Rattle.std.proofs.Common.{◌≡◌, ℕ, zero, suc, ◌<◌, ◌≤◌, Bool, true, false, List, [], ◌∷◌, ◌++◌, map, length, get_or, refl, sym, ap, ap₂, subst, ◌∙◌, arith}
-use Rattle.std.specs.Prelude.{ℤ, pos, ◌==◌, ◌&&◌}
+use Rattle.std.proofs.Common.{◌≡◌, ℕ, zero, suc, ◌<◌, true, false, List, [], ◌∷◌, ◌++◌, map, length, get_or, refl, sym, ap, ap₂, subst, ◌∙◌, arith}
+use Rattle.std.specs.Prelude.{ℤ, pos, ◌==◌}
 use Rattle.std.proofs.lemmas.List.{length-map, get_or-map}
 use Rattle.adj_tree.specs.Code.{plain, name_eq, Procedure}
 use Rattle.adj_tree.proofs.Names.{nat_same}
@@ -13,7 +13,7 @@ use Rattle.adj_frame.specs.declared.slot.Slot.{Slot as EntrySlot}
 use Rattle.adj_frame.specs.declared.actual.Actual.{Actual as CodeActual}
 use Rattle.adj_frame.specs.declared.actual.Actual.TheVariants as actual
 use Rattle.adj_frame.specs.Prepared.{var_at}
-use Rattle.adj_frame.specs.Framed.{IsSlot, IsFrame, shapes_in, store_in}
+use Rattle.adj_frame.specs.Framed.{IsFrame, shapes_in, store_in}
 use Rattle.adj_frame.specs.Shown.{Shows}
 use Rattle.adj_frame.specs.Called.{actual_in, actuals_in}
 use Rattle.adj_frame.proofs.Reading.{read_cell}

@@ -1,6 +1,6 @@
 -- Schedules: their actions one by one, and the words that ask for them.
 use Rattle.std.proofs.Common.{◌≡◌, ℕ, zero, suc, ◌+◌, ◌-◌, ◌<◌, ◌≤◌, ◌^◌, ◌⊎◌, inl, inr, Bool, true, false, List, [], ◌∷◌, drop, refl, sym, ap, subst, ◌∙◌, arith, if◌then◌else◌}
-use Rattle.std.specs.Prelude.{ℤ, pos, ◌==◌, ◌&&◌, slice_get, Result, Ok, Err, Option, Some, None, IfOk, MatchOption}
+use Rattle.std.specs.Prelude.{ℤ, ◌==◌, ◌&&◌, slice_get, Result, Ok, Err, Option, Some, None, IfOk, MatchOption}
 use Rattle.std.specs.Result.{result_ok}
 use Rattle.adj_revolve.specs.declared.machine.Action.{Action}
 use Rattle.adj_revolve.specs.declared.machine.Action.TheVariants.{Store, Advance, Turn, Keep, Drop}

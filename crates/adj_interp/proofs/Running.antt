@@ -1,8 +1,7 @@
 -- A machine at the start of a run of a unit, and at its end.
-use Rattle.std.proofs.Common.{◌≡◌, ℕ, ◌+◌, ◌-◌, List, [], ◌∷◌, length, refl, sym, ap, subst, ◌∙◌, arith}
-use Rattle.std.specs.Prelude.{ℤ, reverse, map, Some, Result, Ok, Err}
-use Rattle.adj_tree.specs.Code.{plain, Procedure}
-use Rattle.adj_tree.specs.View.{procedure_of}
+use Rattle.std.proofs.Common.{◌≡◌, ℕ, ◌+◌, ◌-◌, List, [], length, refl, sym, ap, subst, ◌∙◌, arith}
+use Rattle.std.specs.Prelude.{ℤ, reverse, map, Some, Ok, Err}
+use Rattle.adj_tree.specs.Code.{Procedure}
 use Rattle.adj_tree.specs.declared.value.Slot.{Slot as CodeSlot}
 use Rattle.adj_tape.specs.Held.{Held}
 use Rattle.adj_meaning.specs.Event.{Enter}
@@ -12,10 +11,7 @@ use Rattle.adj_meaning.specs.Value.{Setting}
 use Rattle.adj_meaning.specs.Scene.{Scene, Outcome, Done, then_do}
 use Rattle.adj_meaning.specs.Run.{run}
 use Rattle.adj_meaning.specs.Units.{Slot, Output, calls_of, input_store, setting_in, entered, dummy_shapes, dummy_slots, run_unit}
-use Rattle.adj_frame.specs.declared.routine.Routine.{Routine}
 use Rattle.adj_frame.specs.Shown.{Shows}
-use Rattle.adj_frame.specs.Called.{IsLaidOut}
-use Rattle.adj_frame.specs.Framed.{IsFrame}
 use Rattle.adj_interp.specs.declared.log.Log.{Log}
 use Rattle.adj_interp.specs.declared.stop.Stop.{Stop}
 use Rattle.adj_interp.specs.declared.machine.Machine.{Machine}
@@ -23,9 +19,9 @@ use Rattle.adj_interp.specs.Counted.{Counted}
 use Rattle.adj_interp.specs.Held.{Tells, Entry, setting_at, Holds, Ends}
 use Rattle.adj_interp.specs.Entered.{closed}
 use Rattle.adj_interp.specs.Concludes.{Concludes, slot_seen, counted_in}
-use Rattle.adj_interp.specs.Inputs.{entry_seen, input_shape}
+use Rattle.adj_interp.specs.Inputs.{input_shape}
 use Rattle.adj_interp.proofs.Driving.{told_next}
-use Rattle.adj_interp.proofs.Concluding.{values_shown, concludes_stop, concludes_done}
+use Rattle.adj_interp.proofs.Concluding.{concludes_stop, concludes_done}
 
 none_more : (n : ℕ) → 0 + n ≡ n
 none_more n = omega arith

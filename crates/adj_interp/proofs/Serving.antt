@@ -1,21 +1,19 @@
 -- A machine that pushes and pops words ends as the run does.
-use Rattle.std.proofs.Common.{◌≡◌, ℕ, zero, suc, ◌+◌, ◌-◌, ◌<◌, ◌≤◌, Bool, true, false, List, [], ◌∷◌, length, get_or, refl, sym, ap, subst, ◌∙◌, arith, if◌then◌else◌}
-use Rattle.std.specs.Prelude.{ℤ, pos, nat_lt, Result, Ok, Err, Option, Some}
+use Rattle.std.proofs.Common.{◌≡◌, ℕ, zero, suc, ◌+◌, ◌-◌, ◌<◌, ◌≤◌, true, false, List, [], ◌∷◌, length, get_or, refl, sym, ap, subst, ◌∙◌, arith, if◌then◌else◌}
+use Rattle.std.specs.Prelude.{ℤ, pos, nat_lt, Ok, Err, Option}
 use Rattle.adj_tree.specs.Code.{Var}
 use Rattle.adj_tree.specs.declared.value.Trap.TheVariants as trap
-use Rattle.adj_meaning.specs.Trap.{tape_trap}
 use Rattle.adj_meaning.specs.Store.{size_of, set, cells_from}
-use Rattle.adj_meaning.specs.Scene.{Scene, Stand, stand, Outcome, Done, Trapped, Full, with_top, pushed, pushed_all, popped, popped_all}
+use Rattle.adj_meaning.specs.Scene.{Scene, stand, Outcome, Done, Full, with_top, pushed, pushed_all, popped, popped_all}
 use Rattle.adj_meaning.specs.Event.{Begin, End}
 use Rattle.adj_meaning.specs.Log.{Reversal, Log}
 use Rattle.adj_meaning.specs.Runtime.{begun, ended}
 use Rattle.adj_tape.specs.Held.{Held}
 use Rattle.adj_frame.specs.declared.slot.Slot.{Slot}
 use Rattle.adj_interp.specs.declared.stop.Stop.{Stop}
-use Rattle.adj_interp.specs.declared.stop.Stop.TheVariants as stop
 use Rattle.adj_interp.specs.declared.machine.Machine.{Machine}
 use Rattle.adj_frame.specs.Prepared.{var_at}
-use Rattle.adj_frame.specs.Framed.{slot_shape, IsFrame}
+use Rattle.adj_frame.specs.Framed.{IsFrame}
 use Rattle.adj_interp.specs.Counted.{Counted, Plan, with_end, with_event}
 use Rattle.adj_interp.specs.Held.{Tells, Entry, setting_at, Holds, IsDone, IsTrapped, IsFull, Ends, Reaches}
 use Rattle.adj_frame.proofs.Reading.{read_cell, read_shape}

@@ -3,7 +3,7 @@ use Rattle.std.specs.Prelude.{◌≡◌, ℕ, suc, ◌==◌, ℤ, Result, Ok, Er
 use Rattle.adj_tree.specs.declared.value.Trap.TheVariants as trap
 use Rattle.adj_meaning.specs.Trap.{Trap, schedule_trap}
 use Rattle.adj_meaning.specs.Value.{Setting}
-use Rattle.adj_meaning.specs.Scene.{Scene, Done, Trapped, Go, stand}
+use Rattle.adj_meaning.specs.Scene.{Done, Trapped, Go, stand}
 use Rattle.adj_meaning.specs.Store.{Shape}
 use Rattle.adj_tree.specs.Code.{Var}
 use Rattle.adj_frame.specs.Framed.{trap_of}

@@ -1,5 +1,5 @@
 -- Inputs: what the entry of a unit has of an input, and what becomes of it.
-use Rattle.std.specs.Prelude.{ℕ, ℤ, List}
+use Rattle.std.specs.Prelude.{ℤ}
 use Rattle.adj_tree.specs.Code.{Var, Procedure}
 use Rattle.adj_meaning.specs.Numbers.{words}
 use Rattle.adj_meaning.specs.Store.{Shape, Store}

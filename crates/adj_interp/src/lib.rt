@@ -1,7 +1,8 @@
 //! The interpreter: runs of a unit of a program on words.
 //!
-//! A machine executes the prepared statements of `adj_frame`. What they do is defined by the runs of `adj_meaning` of the
-//! statements that they stand for. docs/RUNNING.md says what programs do.
+//! `run` prepares the units of a checked program of `adj_symbols`, and a machine executes the prepared statements of
+//! `adj_frame`, calls included. The layer above uses: a run concludes as the run of `adj_meaning`, with the tape and the
+//! log that it leaves (`specs/Concludes.antt`). docs/RUNNING.md says what programs do.
 #![tactic(auto)]
 
 mod call;

@@ -128,12 +128,10 @@ fn holds(alloc: Global, case: &Case) -> Result<bool, Memory> {
         return Ok(false);
     };
     let ended = ended(alloc, &checked, case.words, case.budget, case.room)?;
-    Ok(
-        ended.stop == case.stop
-            && ended.words.as_slice() == case.ends
-            && ended.tape.as_slice() == case.tape
-            && (case.stop.is_some() || ended.log.used == case.used),
-    )
+    Ok(ended.stop == case.stop
+        && ended.words.as_slice() == case.ends
+        && ended.tape.as_slice() == case.tape
+        && (case.stop.is_some() || ended.log.used == case.used))
 }
 
 const CALLS: [Case; 6] = [
@@ -381,8 +379,7 @@ fn the_runtime_serves(rt: HostRuntime) -> Result<(), Fail> {
 // Calls directly in a reversal are counted, less its steps, and the words above its start.
 #[test]
 fn reversals_are_counted(rt: HostRuntime) -> Result<(), Fail> {
-    let text =
-        "SUBROUTINE P(I)\nCALL PUSHINTEGER8(I)\nCALL ADBEG(1,1)\nCALL Q(I)\nCALL PUSHINTEGER8(I)\nCALL Q(I)\nCALL Q(I)\nCALL ADEND\nEND\nSUBROUTINE Q(K)\nK=K+1\nEND";
+    let text = "SUBROUTINE P(I)\nCALL PUSHINTEGER8(I)\nCALL ADBEG(1,1)\nCALL Q(I)\nCALL PUSHINTEGER8(I)\nCALL Q(I)\nCALL Q(I)\nCALL ADEND\nEND\nSUBROUTINE Q(K)\nK=K+1\nEND";
     let checked = checked(rt.alloc(), text).map_err(|_| Memory)?;
     let ended = ended(rt.alloc(), &checked, &[0], 20, 9)?;
     assert_eq!(rt; ended.stop, None);

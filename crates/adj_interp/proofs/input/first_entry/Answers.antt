@@ -1,4 +1,4 @@
-use Rattle.std.proofs.Common.{◌≡◌, ◌<◌, map, length, subst, sym, ◌∙◌, arith}
+use Rattle.std.proofs.Common.{◌≡◌, map, length, subst, ◌∙◌, arith}
 use Rattle.adj_tree.specs.View.{procedure_of}
 use Rattle.adj_meaning.specs.Agree.{AreApart}
 use Rattle.adj_frame.specs.Framed.{shapes_in, store_in}

@@ -1,4 +1,4 @@
-use Rattle.std.proofs.Common.{◌≡◌, ℕ, ◌+◌, ◌<◌, ◌≤◌, ◌∷◌, ◌++◌, [], List, map, take, length, get_or, sym, ap, subst, ◌∙◌, arith}
+use Rattle.std.proofs.Common.{ℕ, ◌+◌, ◌<◌, ◌≤◌, ◌∷◌, ◌++◌, [], List, map, length, get_or, sym, ap, subst, ◌∙◌, arith}
 use Rattle.std.proofs.lemmas.List.{length-map, length-append, map_push, map_more, take_all}
 use Rattle.adj_tree.specs.declared.unit.Program.{Program}
 use Rattle.adj_tree.specs.declared.unit.Decl.{Decl}

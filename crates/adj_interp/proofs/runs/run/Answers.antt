@@ -1,11 +1,11 @@
-use Rattle.std.proofs.Common.{rules, ◌≡◌, ◌<◌, ◌++◌, List, map, take, length, get_or, refl, sym, ap, subst, ◌∙◌, arith, Some}
-use Rattle.std.specs.Prelude.{ℤ, slice_get, Result, Err, Ok}
+use Rattle.std.proofs.Common.{rules, ◌≡◌, ◌<◌, List, map, take, length, refl, sym, ap, subst, ◌∙◌, arith, Some}
+use Rattle.std.specs.Prelude.{ℤ, slice_get, Err, Ok}
 use Rattle.std.proofs.lemmas.List.{length-map}
 use Rattle.adj_tree.specs.Code.{Procedure}
 use Rattle.adj_tree.specs.View.{procedure_of, procedures_of}
 use Rattle.adj_meaning.specs.Numbers.{words}
 use Rattle.adj_meaning.specs.Scene.{Outcome}
-use Rattle.adj_meaning.specs.Units.{Output, fits, input_store, run_unit}
+use Rattle.adj_meaning.specs.Units.{Output, input_store, run_unit}
 use Rattle.adj_frame.specs.declared.routine.Routine.{Routine}
 use Rattle.adj_frame.specs.Framed.{IsFrame}
 use Rattle.adj_frame.specs.Linked.{IsRoutine, units_in}
@@ -14,7 +14,7 @@ use Rattle.adj_interp.specs.Concludes.{Concludes, slot_seen}
 use Rattle.adj_interp.specs.Inputs.{entry_seen, input_shape}
 use Rattle.adj_interp.proofs.Calling.{unit_at}
 use Rattle.adj_interp.proofs.Concluding.{values_shown}
-use Rattle.adj_interp.proofs.Running.{first_store, first_entry, first_scene, starts, stopped, done}
+use Rattle.adj_interp.proofs.Running.{first_entry, first_scene, starts, stopped, done}
 use Rattle.adj_interp.proofs.runs.run.Goals as goal
 
 same_unit : (a b : Procedure) → Some a ≡ Some b → a ≡ b

@@ -1,4 +1,4 @@
-use Rattle.std.proofs.Common.{rules, ◌≡◌, length, refl, sym, ◌∙◌}
+use Rattle.std.proofs.Common.{rules, ◌≡◌, length, refl}
 use Rattle.adj_meaning.specs.Event.{End}
 use Rattle.adj_interp.specs.Counted.{Counted, with_event}
 use Rattle.adj_interp.specs.declared.machine.Machine.{Machine}

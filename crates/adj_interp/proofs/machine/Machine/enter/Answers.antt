@@ -1,4 +1,4 @@
-use Rattle.std.proofs.Common.{◌≡◌, ◌+◌, ℕ, suc, ◌∷◌, length, ap, ap₂, sym, subst, ◌∙◌, arith}
+use Rattle.std.proofs.Common.{◌≡◌, suc, ◌∷◌, length, ap, ap₂, sym, subst, ◌∙◌, arith}
 use Rattle.adj_meaning.specs.Event.{Enter}
 use Rattle.adj_frame.specs.declared.frame.Frame.{Frame}
 use Rattle.adj_frame.specs.Shown.{Shows}

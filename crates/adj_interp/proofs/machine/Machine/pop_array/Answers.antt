@@ -1,12 +1,9 @@
-use Rattle.std.proofs.Common.{rules, ◌≡◌, ◌<◌, ◌≤◌, ◌-◌, ℕ, ℤ, length, get_or, sym, ap, subst, ◌∙◌, arith}
+use Rattle.std.proofs.Common.{rules, ◌≡◌, ◌<◌, ◌-◌, length, sym, subst, ◌∙◌, arith}
 use Rattle.std.specs.Prelude.{Ok, Err}
-use Rattle.adj_meaning.specs.Store.{size_of}
-use Rattle.adj_meaning.specs.Scene.{Scene, Outcome, popped, popped_all}
-use Rattle.adj_frame.specs.declared.slot.Slot.{Slot}
-use Rattle.adj_interp.specs.declared.machine.Machine.{Machine}
+use Rattle.adj_meaning.specs.Scene.{popped, popped_all}
 use Rattle.adj_frame.specs.Prepared.{var_at}
 use Rattle.adj_frame.specs.Framed.{IsFrame}
-use Rattle.adj_interp.specs.Held.{Entry, setting_at, Holds, Ends, IsDone}
+use Rattle.adj_interp.specs.Held.{setting_at, Ends, IsDone}
 use Rattle.adj_interp.proofs.Serving.{counted_cells, back_next, back_break, back_end}
 use Rattle.adj_interp.proofs.machine.Machine.pop_array.Goals as goal
 

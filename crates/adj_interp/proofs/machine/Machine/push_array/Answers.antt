@@ -2,8 +2,8 @@ use Rattle.std.proofs.Common.{rules, ◌≡◌, ◌<◌, ◌≤◌, ℕ, ℤ, po
 use Rattle.std.specs.Prelude.{Ok, Err}
 use Rattle.std.proofs.lemmas.List.{get_or_default}
 use Rattle.std.proofs.lemmas.Int.{to_z-of_z}
-use Rattle.adj_meaning.specs.Store.{size_of, cells_from}
-use Rattle.adj_meaning.specs.Scene.{Scene, Outcome, pushed, pushed_all}
+use Rattle.adj_meaning.specs.Store.{cells_from}
+use Rattle.adj_meaning.specs.Scene.{Scene, pushed, pushed_all}
 use Rattle.adj_frame.specs.declared.slot.Slot.{Slot}
 use Rattle.adj_frame.specs.declared.frame.Frame.{Frame}
 use Rattle.adj_interp.specs.declared.machine.Machine.{Machine}

@@ -1,4 +1,4 @@
-use Rattle.std.proofs.Common.{◌<◌, length, get_or, arith}
+use Rattle.std.proofs.Common.{get_or, arith}
 use Rattle.adj_frame.proofs.Reading.{has_first}
 use Rattle.adj_interp.proofs.machine.Machine.serve.Goals as goal
 
