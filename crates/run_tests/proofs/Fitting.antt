@@ -1,7 +1,10 @@
 -- Scalars fit a unit that declares no variable.
-use Rattle.std.proofs.Common.{◌≡◌, true, List, [], ◌∷◌, map, length, refl, ap, subst, sym, ◌∙◌, arith}
-use Rattle.std.specs.Prelude.{ℤ, ◌&&◌}
-use Rattle.adj_tree.specs.Code.{Procedure}
+use Rattle.std.proofs.Common.{◌≡◌, ℕ, zero, suc, true, List, [], ◌∷◌, map, length, refl, ap, subst, sym, ◌∙◌, arith, Some}
+use Rattle.std.specs.Prelude.{ℤ, slice_get}
+use Rattle.adj_tree.specs.Code.{Declaration, Procedure}
+use Rattle.adj_tree.specs.View.{declaration_of, procedure_of}
+use Rattle.adj_tree.specs.declared.unit.Decl.{Decl}
+use Rattle.adj_tree.specs.declared.unit.Unit.{Unit as CodeUnit}
 use Rattle.adj_meaning.specs.Numbers.{words}
 use Rattle.adj_meaning.specs.Store.{Store}
 use Rattle.adj_meaning.specs.Units.{fits, slots_fit, input_store}
@@ -13,5 +16,16 @@ each_fits u s none [] (w ∷ ws) n = absurd (omega arith)
 each_fits u s none (d ∷ ds) [] n = absurd (omega arith)
 each_fits u s none (d ∷ ds) (w ∷ ws) n = rw none (each_fits u s none ds ws (omega arith))
 
-pub scalars_fit : (u : Procedure) (ws : List ℤ) → u.declarations ≡ [] → length u.dummies ≡ length ws → fits words u (map scalar_of ws) ≡ true
-scalars_fit u ws none n = each_fits u (input_store words u (map scalar_of ws)) none u.dummies ws n
+none_declared : (ds : List Decl) → length ds ≡ 0 → map declaration_of ds ≡ []
+none_declared [] h = refl
+none_declared (d ∷ ds) h = absurd (omega arith)
+
+-- and so the first unit of a program
+pub first_fits : (us : List CodeUnit) (unit : CodeUnit) (u : Procedure) (ws : List ℤ) → Some unit ≡ slice_get us 0 → slice_get (map procedure_of us) 0 ≡ Some u → (length unit.decls ≡ 0) × (length unit.dummies ≡ length ws) → fits words u (map scalar_of ws) ≡ true
+first_fits [] unit u ws h k p = absurd cc
+first_fits (v ∷ us) unit u ws h k p =
+    let same : procedure_of v ≡ u = cc in
+    let first : unit ≡ v = cc in
+    let q = subst (λ (z : CodeUnit). (length z.decls ≡ 0) × (length z.dummies ≡ length ws)) first p in
+    subst (λ (z : Procedure). fits words z (map scalar_of ws) ≡ true) same
+    (each_fits (procedure_of v) (input_store words (procedure_of v) (map scalar_of ws)) (none_declared v.decls q.0) v.dummies ws q.1)

@@ -1,6 +1,6 @@
 //! Runs of the first unit of a text. (docs/RUNNING.md)
 
-ghost use Rattle.std.specs.Prelude.{◌≡◌, IfOk, map};
+ghost use Rattle.std.specs.Prelude.{◌≡◌, IfOk, length, map, true};
 ghost use Rattle.run_tests.specs.Scalars.{scalar_of};
 ghost use Rattle.adj_interp.specs.Concludes.{slot_seen};
 
@@ -9,7 +9,7 @@ use adj_interp::{Log, Stop, run};
 use adj_parse::program;
 use adj_symbols::{Checked, check};
 use adj_tape::Tape;
-use adj_tree::{Fault, Items, Memory, Slot, Trap, Values};
+use adj_tree::{Fault, Items, Memory, Slot, Trap, Unit, Values};
 use std::alloc::Global;
 use std::test::Fail;
 
@@ -73,20 +73,25 @@ fn taken(alloc: Global, tape: &mut Tape) -> Result<Vec<i64>, Memory> {
     Ok(words)
 }
 
+// Whether a unit declares no variable, and has so many dummies.
+fn suits(unit: &Unit, count: usize) -> bool
+    ensures { result ≡ true → (length unit.now.decls ≡ 0) × (length unit.now.dummies ≡ count) }
+{
+    unit.decls.as_slice().len() == 0 && unit.dummies.as_slice().len() == count
+}
+
 // A run of the first unit, where it has as many dummies as there are words, and declares no variable.
-fn ended(
+fn run_first(
     alloc: Global,
     checked: &Checked,
     words: &[i64],
     budget: u64,
     room: u64,
 ) -> Result<Ended, Memory> {
-    let units = checked.program().units.as_slice();
-    if units.is_empty()
-        || units[0].dummies.as_slice().len() != words.len()
-        || !units[0].decls.as_slice().is_empty()
-        || room > 1000
-    {
+    let Some(unit) = checked.program().units.as_slice().first() else {
+        return Err(Memory);
+    };
+    if !suits(unit, words.len()) || room > 1000 {
         return Err(Memory);
     }
     let mut tape = Tape::with_room(alloc, room).map_err(|_| Memory)?;
@@ -127,11 +132,13 @@ fn holds(alloc: Global, case: &Case) -> Result<bool, Memory> {
     let Ok(checked) = checked(alloc, case.text) else {
         return Ok(false);
     };
-    let ended = ended(alloc, &checked, case.words, case.budget, case.room)?;
-    Ok(ended.stop == case.stop
-        && ended.words.as_slice() == case.ends
-        && ended.tape.as_slice() == case.tape
-        && (case.stop.is_some() || ended.log.used == case.used))
+    let ended = run_first(alloc, &checked, case.words, case.budget, case.room)?;
+    Ok(
+        ended.stop == case.stop
+            && ended.words.as_slice() == case.ends
+            && ended.tape.as_slice() == case.tape
+            && (case.stop.is_some() || ended.log.used == case.used),
+    )
 }
 
 const CALLS: [Case; 6] = [
@@ -379,9 +386,10 @@ fn the_runtime_serves(rt: HostRuntime) -> Result<(), Fail> {
 // Calls directly in a reversal are counted, less its steps, and the words above its start.
 #[test]
 fn reversals_are_counted(rt: HostRuntime) -> Result<(), Fail> {
-    let text = "SUBROUTINE P(I)\nCALL PUSHINTEGER8(I)\nCALL ADBEG(1,1)\nCALL Q(I)\nCALL PUSHINTEGER8(I)\nCALL Q(I)\nCALL Q(I)\nCALL ADEND\nEND\nSUBROUTINE Q(K)\nK=K+1\nEND";
+    let text =
+        "SUBROUTINE P(I)\nCALL PUSHINTEGER8(I)\nCALL ADBEG(1,1)\nCALL Q(I)\nCALL PUSHINTEGER8(I)\nCALL Q(I)\nCALL Q(I)\nCALL ADEND\nEND\nSUBROUTINE Q(K)\nK=K+1\nEND";
     let checked = checked(rt.alloc(), text).map_err(|_| Memory)?;
-    let ended = ended(rt.alloc(), &checked, &[0], 20, 9)?;
+    let ended = run_first(rt.alloc(), &checked, &[0], 20, 9)?;
     assert_eq!(rt; ended.stop, None);
     assert_eq!(rt; ended.log.used, 10);
     assert_eq!(rt; ended.log.reversals, 1);
