@@ -30,10 +30,10 @@ module _ (k : Problem) (o : Scope) (y : Covers k o) (w : ℕ) (wide : IsWide k o
   abbrev At : (n : Node) → Type 0
   At n = IsHere k o w wide IsPoint (one_point k) n
 
-  abbrev Edge : Node × Node → ℕ × ℕ → Type 0
+  abbrev pub Edge : Node × Node → ℕ × ℕ → Type 0
   Edge = IsEdge k o w wide IsPoint (one_point k)
 
-  abbrev Has : Node → ℕ → Type 0
+  abbrev pub Has : Node → ℕ → Type 0
   Has = HasNode k o w
 
   step : (n r : Node) (a : At n) (b : At r) → Images Edge ((n, r) ∷ []) (linked (node_in w (o.variables a.0) n) (node_in w (o.variables b.0) r))
@@ -94,13 +94,13 @@ module _ (k : Problem) (o : Scope) (y : Covers k o) (w : ℕ) (wide : IsWide k o
       (λ g c. images_append (images_flat (flow_stays (o.variables g)) (way_edges w (o.variables g)) (ways_of g) (λ r m. on_way g r ((y.parts g).0 c) m))
       (images_flat (flow_at k) (statement_edges k o w g) (statements_of g) (λ s m. at_statement g s ((y.parts g).0 c) m)))
 
-  entry_images : Images Has (varied_starts k) (entry_nodes k o w)
+  pub entry_images : Images Has (varied_starts k) (entry_nodes k o w)
   entry_images =
       images_flat (λ g. map (λ d. (g.entry, plain d)) (flagged k.vars g.unit.dummies)) (λ g. flat_map (λ d. list_of (node_in w (o.variables g) (g.entry, plain d))) (flagged k.vars g.unit.dummies)) (head_parts k)
       (λ g c. images_map (λ d. (g.entry, plain d)) (λ d. list_of (node_in w (o.variables g) (g.entry, plain d))) (flagged k.vars g.unit.dummies)
       (λ d m. start (g.entry, plain d) ((g, begins (head_only k g c), entry_point g, y.dummies g (begins (head_only k g c)) d (flagged_stands k.vars g.unit.dummies d m)))))
 
-  end_images : Images Has (useful_starts k) (end_nodes k o w)
+  pub end_images : Images Has (useful_starts k) (end_nodes k o w)
   end_images =
       images_flat (λ g. map (λ d. (g.end, plain d)) (flagged k.outvars g.unit.dummies)) (λ g. flat_map (λ d. list_of (node_in w (o.variables g) (g.end, plain d))) (flagged k.outvars g.unit.dummies)) (head_parts k)
       (λ g c. images_map (λ d. (g.end, plain d)) (λ d. list_of (node_in w (o.variables g) (g.end, plain d))) (flagged k.outvars g.unit.dummies)

@@ -27,10 +27,10 @@ module _ (k : Problem) (o : Scope) (y : Covers k o) (w : ℕ) (wide : IsWide k o
   abbrev Of : (n : Node) → Type 0
   Of n = IsHere k o w wide IsNumbered (one_unit k) n
 
-  abbrev Edge : Node × Node → ℕ × ℕ → Type 0
+  abbrev pub Edge : Node × Node → ℕ × ℕ → Type 0
   Edge = IsEdge k o w wide IsNumbered (one_unit k)
 
-  abbrev Has : Node → ℕ → Type 0
+  abbrev pub Has : Node → ℕ → Type 0
   Has = HasVariable k o w
 
   step : (n r : Node) (a : Of n) (b : Of r) → Images Edge ((n, r) ∷ []) (linked (node_in w (o.variables a.0) n) (node_in w (o.variables b.0) r))
@@ -56,8 +56,8 @@ module _ (k : Problem) (o : Scope) (y : Covers k o) (w : ℕ) (wide : IsWide k o
       (λ v. list_if (somewhere (ways_of g) (λ p. varied p v) && somewhere (ways_of g) (λ p. useful p v)) (list_of (node_in w (o.variables g) (g.number, v)))) (o.variables g)
       (λ v m. images_if (somewhere (ways_of g) (λ p. varied p v) && somewhere (ways_of g) (λ p. useful p v)) (start (g.number, v) (g, (y.parts g).0 c, refl, m)))
 
-  start_images : Images Has (shadow_starts k o varied useful) (shadow_nodes k o w varied useful)
-  start_images =
+  pub outright_images : Images Has (shadow_starts k o varied useful) (shadow_nodes k o w varied useful)
+  outright_images =
       images_append
       (images_flat (λ g. map (λ d. (g.number, plain d)) (flagged k.vars g.unit.dummies) ++ map (λ d. (g.number, plain d)) (flagged k.outvars g.unit.dummies)) (head_shadows k o w) (head_parts k) of_head)
       (images_flat (λ g. flat_map (λ v. list_if (somewhere (ways_of g) (λ p. varied p v) && somewhere (ways_of g) (λ p. useful p v)) ((g.number, v) ∷ [])) (o.variables g)) (active_shadows o w varied useful) o.parts of_unit)
@@ -74,8 +74,8 @@ module _ (k : Problem) (o : Scope) (y : Covers k o) (w : ℕ) (wide : IsWide k o
       (step (g.number, plain d) (f.number, a) (g, u, refl, dummy) (f, t, refl, actual))
       (images_if (varied g.entry (plain d)) (step (f.number, a) (g.number, plain d) (f, t, refl, actual) (g, u, refl, dummy)))
 
-  step_images : Images Edge (shadow_steps k o varied) (shadow_edges k o w varied)
-  step_images =
+  pub lent_images : Images Edge (shadow_steps k o varied) (shadow_edges k o w varied)
+  lent_images =
       images_flat (λ f. flat_map (λ s. flat_map (at_actuals (shadow_called f.number varied)) (called (parts k.units) s.act)) (statements_of f)) (unit_shadows k o w varied) o.parts
       (λ f c. images_flat (λ s. flat_map (at_actuals (shadow_called f.number varied)) (called (parts k.units) s.act)) (λ s. flat_map (at_actuals (lent_edges w (o.variables f) o.variables varied f.number)) (called (parts k.units) s.act)) (statements_of f)
       (λ s m. images_flat (at_actuals (shadow_called f.number varied)) (at_actuals (lent_edges w (o.variables f) o.variables varied f.number)) (called (parts k.units) s.act)
@@ -84,5 +84,5 @@ module _ (k : Problem) (o : Scope) (y : Covers k o) (w : ℕ) (wide : IsWide k o
 
   pub shadow_listed : IsListed (HasShadow k varied useful) (LendsShadow k varied) Has (λ n. Contains (shadow_nodes k o w varied useful) n) (λ m n. Contains (shadow_edges k o w varied) (m, n))
   shadow_listed =
-      listed_along (one_number k o w wide IsNumbered (one_unit k)) (own_number k o w wide IsNumbered (one_unit k)) (here_has k o w wide IsNumbered (one_unit k)) (has_here k o w wide IsNumbered (one_unit k)) start_images step_images
+      listed_along (one_number k o w wide IsNumbered (one_unit k)) (own_number k o w wide IsNumbered (one_unit k)) (here_has k o w wide IsNumbered (one_unit k)) (has_here k o w wide IsNumbered (one_unit k)) outright_images lent_images
       (shadowing.shadow_lists k o y varied useful within)

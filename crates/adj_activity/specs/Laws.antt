@@ -1,5 +1,8 @@
 -- What the numbers reach is what activity is to be.
-use Rattle.std.specs.Prelude.{List, ℕ, ◌↔◌, Bool, IsTrue}
+use Rattle.std.specs.Prelude.{List, ℕ, map, ◌↔◌, Bool, IsTrue}
+use Rattle.adj_tree.specs.Code.{Procedure}
+use Rattle.adj_text.specs.Written.{IsWritten}
+use Rattle.adj_names.specs.Variables.{variables}
 use Rattle.adj_facts.specs.Problem.{Problem}
 use Rattle.adj_facts.specs.Activity.{IsActivity}
 use Rattle.adj_facts.specs.Rules.{Scope, Covers}
@@ -7,6 +10,7 @@ use Rattle.adj_reach.specs.Edges.{ReachedFrom, ReachedBack, flag}
 use Rattle.adj_activity.specs.Nodes.{IsWide}
 use Rattle.adj_activity.specs.Edges.{flow_edges, entry_nodes, end_nodes, shadow_edges, shadow_nodes, adjoint_edges, adjoint_nodes}
 use Rattle.adj_activity.specs.Told.{told, activity_told}
+use Rattle.adj_activity.specs.View.{HoldVariables}
 
 -- the flags are those of what the edges of each rule reach from where it begins
 pub record AreFlags (k : Problem) (o : Scope) (w : ℕ) (varied useful shadowed adjointed : List Bool) : Type 0 where
@@ -19,3 +23,7 @@ pub record AreFlags (k : Problem) (o : Scope) (w : ℕ) (varied useful shadowed 
 abbrev pub ActivityIsTold : Type 0
 ActivityIsTold = (k : Problem) (o : Scope) (w : ℕ) (varied useful shadowed adjointed : List Bool) → Covers k o → IsWide k o w → AreFlags k o w varied useful shadowed adjointed →
     IsActivity k (activity_told varied useful shadowed adjointed o w)
+
+-- the variables of each unit of a written program hold its dummies and what stands in its statements
+abbrev pub VariablesHold : Type 0
+VariablesHold = (ps : List Procedure) → IsWritten ps → HoldVariables (map variables ps) ps

@@ -2,4 +2,7 @@
 pub mod Nodes
 pub mod Edges
 pub mod Told
+pub mod View
+pub mod Starts
+pub mod Asked
 pub mod Laws

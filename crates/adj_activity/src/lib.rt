@@ -5,9 +5,31 @@
 //! that what these edges reach is exactly the activity.
 #![tactic(auto)]
 
-ghost use Rattle.adj_activity.specs.Laws.{ActivityIsTold};
+mod adjointed;
+mod adjoints;
+mod calls;
+mod finding;
+mod found;
+mod listing;
+mod nodes;
+mod program_flow;
+mod search;
+mod starts;
+mod statements;
+mod steps;
+mod ways;
+
+ghost use Rattle.adj_activity.specs.Laws.{ActivityIsTold, VariablesHold};
+
+pub use finding::activity;
+pub use program_flow::flow;
 
 /// Flags of what the edges of each rule reach from where it begins tell exactly the activity.
 pub fn activity_law()
     ensures told { ActivityIsTold }
+{}
+
+/// The variables of each unit of a written program are among them its dummies and what stands in its statements.
+pub fn variables_law()
+    ensures hold { VariablesHold }
 {}

@@ -1,0 +1,89 @@
+-- Flags of what the listed edges reach from the listed beginnings tell the activity.
+use Rattle.std.proofs.Common.{◌≡◌, ℕ, zero, suc, ◌<◌, ◌≤◌, List, [], ◌∷◌, ◌++◌, Bool, map, length, get_or, refl, sym, ap, ◌∙◌, subst, arith}
+use Rattle.std.specs.Prelude.{◌↔◌, IsTrue, All, Contains, Some, slice_get}
+use Rattle.std.specs.Option.{option_map}
+use Rattle.std.proofs.lemmas.Option.{slice_get-map, get_or_from_slice_get}
+use Rattle.adj_tree.specs.Code.{Procedure}
+use Rattle.adj_facts.specs.Reached.{begins, leads}
+use Rattle.adj_transpose.specs.Marks.{behind}
+use Rattle.adj_facts.specs.Parts.{Part, parts, parts_from, statements_in, find_part}
+use Rattle.adj_facts.specs.Problem.{Problem, TakesPart}
+use Rattle.adj_facts.specs.Activity.{IsActivity}
+use Rattle.adj_facts.specs.Rules.{Scope, Covers}
+use Rattle.adj_writes.specs.Table.{value_of}
+use Rattle.adj_flow.specs.Places.{place_from}
+use Rattle.adj_flow.specs.Rows.{Row, row_in, rows}
+use Rattle.adj_reach.specs.Edges.{ReachedFrom, ReachedBack, flag}
+use Rattle.adj_activity.specs.Nodes.{IsWide}
+use Rattle.adj_activity.specs.Edges.{flow_edges, entry_nodes, end_nodes, shadow_edges, shadow_nodes, adjoint_edges, adjoint_nodes}
+use Rattle.adj_activity.specs.Told.{told, activity_told}
+use Rattle.adj_activity.specs.View.{found_at, flow_listed, shadows_listed, adjoints_listed, scope_by, HoldVariables}
+use Rattle.adj_activity.specs.Starts.{point_nodes, all_active, all_outright}
+use Rattle.adj_activity.specs.declared.found.Found.{Found}
+use Rattle.adj_activity.proofs.Covering.{scope_covers, scope_wide}
+use Rattle.adj_activity.proofs.Rowed.{found_unit, all_flow, all_shadows, all_adjoints}
+use Rattle.adj_activity.proofs.Started.{entry_same, end_same, shadows_same, outright_same}
+use Rattle.adj_activity.proofs.Told.{is_activity}
+
+-- which units take part doesn't depend on what is flagged
+takes_same : (ps : List Procedure) (h : ℕ) (a b c d : List Bool) (g : Part) → TakesPart (record { units = ps; head = h; vars = a; outvars = b }) g → TakesPart (record { units = ps; head = h; vars = c; outvars = d }) g
+takes_same ps h a b c d g (begins e) = begins (record { is = e.is })
+takes_same ps h a b c d g (leads {x = f} t q) = leads (takes_same ps h a b c d f t) (q.0, q.1, record { name = q.2.name; stands = q.2.stands; act = q.2.act; finds = q.2.finds })
+
+-- a place of a list has a member
+got : {X : Type 0} (xs : List X) (i : ℕ) → i < length xs → (x : X) × (slice_get xs i ≡ Some x)
+got [] i l = absurd (omega arith)
+got (x ∷ xs) zero l = (x, refl)
+got (x ∷ xs) (suc i) l = got xs i (omega arith)
+
+parts_length : (t u i : ℕ) (ps : List Procedure) → length (parts_from t u i ps) ≡ length ps
+parts_length t u i [] = refl
+parts_length t u i (p ∷ ps) = ap suc (parts_length t (suc u) (behind i p.body) ps)
+
+module _ (k : Problem) (vss : List (List (List ℕ))) (numbers : List (List ℕ × ℕ)) (taking : List Bool) (w : ℕ) (known : (x : List ℕ) → value_of x numbers ≡ place_from 0 (map (λ p. p.name) k.units) x)
+    (takes : (g : Part) → Contains (parts k.units) g → IsTrue (flag taking g.number) ↔ TakesPart (record { units = k.units; head = k.head; vars = []; outvars = [] }) g) (lengths : length vss ≡ length k.units) (narrow : All (λ vs. length vs ≤ w) vss)
+    (hold : HoldVariables vss k.units) (rs : List Row) (same : rs ≡ rows vss k.units) where
+  abbrev o : Scope
+  o = scope_by vss (flag taking) k.units
+
+  finds : (x : List ℕ) → found_at (rows vss k.units) (value_of x numbers) ≡ option_map (row_in vss) (find_part (parts k.units) x)
+  finds x = ap (found_at (rows vss k.units)) (known x) ∙ found_unit vss k.units x
+
+  covers : Covers k o
+  covers =
+      scope_covers k vss (flag taking) hold
+      (λ q c. (λ t. takes_same k.units k.head [] [] k.vars k.outvars q ((takes q c).0 t), λ t. (takes q c).1 (takes_same k.units k.head k.vars k.outvars [] [] q t)))
+
+  wide : IsWide k o w
+  wide = scope_wide k vss (flag taking) w lengths narrow
+
+  -- the row of the head
+  module _ (r : Row) (f : Found) (adjointed : List Bool) (a : (m : ℕ) → IsTrue (flag f.varied.now m) ↔ ReachedFrom (flow_listed rs numbers taking w) (point_nodes w r r.part.entry k.vars) m)
+      (b : (m : ℕ) → IsTrue (flag f.useful.now m) ↔ ReachedBack (flow_listed rs numbers taking w) (point_nodes w r r.part.end k.outvars) m)
+      (c : (m : ℕ) → IsTrue (flag f.shadowed.now m) ↔ ReachedFrom (shadows_listed f.varied rs numbers taking w) ((point_nodes w r r.part.number k.vars ++ point_nodes w r r.part.number k.outvars) ++ all_active f.varied.now f.useful.now rs taking w) m)
+      (d : (m : ℕ) → IsTrue (flag adjointed m) ↔ ReachedFrom (adjoints_listed rs numbers taking w) (all_outright f rs taking w) m) where
+    told_at_head : (g : Part) → slice_get (parts k.units) k.head ≡ Some g → r ≡ row_in vss g → IsActivity k (activity_told f.varied.now f.useful.now f.shadowed.now adjointed o w)
+    told_at_head g is q =
+        let find = λ (x : List ℕ). found_at (rows vss k.units) (value_of x numbers) in
+        let flow : flow_listed rs numbers taking w ≡ flow_edges k o w = ap (λ z. flow_listed z numbers taking w) same ∙ all_flow k vss taking w find finds covers in
+        let shadows : shadows_listed f.varied rs numbers taking w ≡ shadow_edges k o w (told f.varied.now o w) = ap (λ z. shadows_listed f.varied z numbers taking w) same ∙ all_shadows k vss taking w find finds covers f.varied in
+        let adjoints : adjoints_listed rs numbers taking w ≡ adjoint_edges k o = ap (λ z. adjoints_listed z numbers taking w) same ∙ all_adjoints k vss taking w find finds in
+        let entry : point_nodes w r r.part.entry k.vars ≡ entry_nodes k o w = ap (λ z. point_nodes w z z.part.entry k.vars) q ∙ entry_same k vss taking w covers g is in
+        let end : point_nodes w r r.part.end k.outvars ≡ end_nodes k o w = ap (λ z. point_nodes w z z.part.end k.outvars) q ∙ end_same k vss taking w covers g is in
+        let lent : (point_nodes w r r.part.number k.vars ++ point_nodes w r r.part.number k.outvars) ++ all_active f.varied.now f.useful.now rs taking w ≡ shadow_nodes k o w (told f.varied.now o w) (told f.useful.now o w) =
+        (λ i. (point_nodes w (q i) (q i).part.number k.vars ++ point_nodes w (q i) (q i).part.number k.outvars) ++ all_active f.varied.now f.useful.now (same i) taking w) ∙ shadows_same k vss taking w covers g is f.varied.now f.useful.now in
+        let made : all_outright f rs taking w ≡ adjoint_nodes (activity_told f.varied.now f.useful.now f.shadowed.now adjointed o w) o = ap (λ z. all_outright f z taking w) same ∙ outright_same k vss taking w covers f adjointed in
+        is_activity k o w f.varied.now f.useful.now f.shadowed.now adjointed covers wide
+        (record {
+          varied_by = λ m. subst (λ z. IsTrue (flag f.varied.now m) ↔ ReachedFrom z (entry_nodes k o w) m) flow (subst (λ z. IsTrue (flag f.varied.now m) ↔ ReachedFrom (flow_listed rs numbers taking w) z m) entry (a m));
+          useful_by = λ m. subst (λ z. IsTrue (flag f.useful.now m) ↔ ReachedBack z (end_nodes k o w) m) flow (subst (λ z. IsTrue (flag f.useful.now m) ↔ ReachedBack (flow_listed rs numbers taking w) z m) end (b m));
+          shadowed_by = λ m. subst (λ z. IsTrue (flag f.shadowed.now m) ↔ ReachedFrom z (shadow_nodes k o w (told f.varied.now o w) (told f.useful.now o w)) m) shadows (subst (λ z. IsTrue (flag f.shadowed.now m) ↔ ReachedFrom (shadows_listed f.varied rs numbers taking w) z m) lent (c m));
+          adjointed_by = λ m. subst (λ z. IsTrue (flag adjointed m) ↔ ReachedFrom z (adjoint_nodes (activity_told f.varied.now f.useful.now f.shadowed.now adjointed o w) o) m) adjoints
+              (subst (λ z. IsTrue (flag adjointed m) ↔ ReachedFrom (adjoints_listed rs numbers taking w) z m) made (d m));
+        })
+
+    pub told_activity : k.head < length k.units → r ≡ get_or rs k.head r → IsActivity k (activity_told f.varied.now f.useful.now f.shadowed.now adjointed o w)
+    told_activity l e =
+        let g = got (parts k.units) k.head (subst (λ n. k.head < n) (sym (parts_length (statements_in 0 k.units) 0 0 k.units)) l) in
+        let s : slice_get (rows vss k.units) k.head ≡ Some (row_in vss g.0) = slice_get-map (row_in vss) (parts k.units) k.head ∙ ap (option_map (row_in vss)) g.1 in
+        told_at_head g.0 g.1 (e ∙ ap (λ z. get_or z k.head r) same ∙ get_or_from_slice_get (rows vss k.units) k.head (row_in vss g.0) r s)

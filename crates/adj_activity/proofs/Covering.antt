@@ -1,0 +1,30 @@
+-- The scope that flags and lists of variables make covers the problem.
+use Rattle.std.proofs.Common.{◌≡◌, ℕ, ◌+◌, ◌≤◌, ◌<◌, List, [], Bool, true, subst, sym, length, arith}
+use Rattle.std.specs.Prelude.{Contains, ◌↔◌, All, slice_index_or}
+use Rattle.std.proofs.lemmas.List.{length-map}
+use Rattle.adj_tree.specs.Code.{plain}
+use Rattle.adj_facts.specs.Parts.{Part, parts, statements_in}
+use Rattle.adj_facts.specs.Problem.{Problem, TakesPart}
+use Rattle.adj_facts.specs.Rules.{Covers}
+use Rattle.adj_facts.proofs.Members.{map_has, filter_has, filter_only}
+use Rattle.adj_facts.proofs.Numbers.{part_is_there}
+use Rattle.adj_facts.proofs.PartsListed.{part_above}
+use Rattle.adj_activity.specs.Nodes.{IsWide}
+use Rattle.adj_activity.specs.View.{scope_by, HoldVariables}
+
+module _ (k : Problem) (vss : List (List (List ℕ))) (takes : ℕ → Bool) where
+  pub scope_covers : HoldVariables vss k.units → ((g : Part) → Contains (parts k.units) g → (takes g.number ≡ true) ↔ TakesPart k g) → Covers k (scope_by vss takes k.units)
+  scope_covers h exact = record {
+    parts = λ g. (
+      λ c. let f = filter_only (λ (z : Part). takes z.number) (parts k.units) g c in (exact g f.0).0 f.1,
+      λ t. let c = part_is_there k g t in filter_has (λ (z : Part). takes z.number) (parts k.units) g c ((exact g c).1 t),
+    );
+    dummies = λ g t d c. map_has plain (slice_index_or vss g.number []) d (h.dummies g (part_is_there k g t) d c);
+    standing = λ g t s c v m. h.standing g (part_is_there k g t) s c v m;
+  }
+
+  pub scope_wide : (w : ℕ) → length vss ≡ length k.units → All (λ vs. length vs ≤ w) vss → IsWide k (scope_by vss takes k.units) w
+  scope_wide w n all g t =
+      let b : g.number < 0 + length k.units = (part_above (statements_in 0 k.units) 0 0 k.units g (part_is_there k g t)).1 in
+      let l : length (slice_index_or vss g.number []) ≤ w = all g.number [] (omega arith) in
+      subst (λ z. z ≤ w) (sym (length-map (slice_index_or vss g.number []) plain)) l

@@ -1,0 +1,200 @@
+-- The edges of the rows of units that take part are those of the definitions.
+use Rattle.std.proofs.Common.{◌≡◌, ℕ, suc, ◌+◌, ◌-◌, ◌*◌, ◌≤◌, List, [], ◌∷◌, ◌++◌, Bool, true, false, map, refl, sym, ap, ◌∙◌, arith, append-nil}
+use Rattle.std.specs.Prelude.{Contains, Option, Some, None, filter, flat_map, slice_get, if◌then◌else◌, slice_index_or}
+use Rattle.std.specs.Borrow.{Bor}
+use Rattle.std.specs.Option.{option_map}
+use Rattle.std.proofs.lemmas.List.{map-append}
+use Rattle.std.proofs.lemmas.List.Concat.{flat_map-cons}
+use Rattle.std.proofs.lemmas.List.Folds.{flat_map-map}
+use Rattle.adj_tree.specs.Code.{Var, plain, name_eq, Terms, Act, assign, choose, loop, during, call, runtime, Procedure}
+use Rattle.adj_tree.proofs.Names.{name_same, name_refl}
+use Rattle.adj_transpose.specs.Marks.{behind}
+use Rattle.adj_facts.specs.Reached.{leads}
+use Rattle.adj_facts.specs.Parts.{Part, part, parts_from, statements_in, parts, find_part}
+use Rattle.adj_facts.specs.Standing.{Standing}
+use Rattle.adj_facts.specs.Variables.{list_if}
+use Rattle.adj_facts.specs.Problem.{Problem, statements_of, ways_of, TakesPart, bound}
+use Rattle.adj_facts.specs.Activity.{Adjoint, statement, unit, IsPoint}
+use Rattle.adj_facts.specs.Rules.{Scope, Covers, with_args, called, at_actuals, holders, adjoint_steps_at}
+use Rattle.adj_facts.proofs.Members.{is_first, is_later}
+use Rattle.adj_facts.proofs.OwnPoints.{entry_point}
+use Rattle.adj_facts.proofs.Sets.{same_truth}
+use Rattle.adj_flow.specs.Places.{place_from}
+use Rattle.adj_flow.specs.Rows.{Row, row_at, row_in, rows}
+use Rattle.adj_reach.specs.Edges.{Edges, flag}
+use Rattle.adj_activity.specs.Nodes.{node_in}
+use Rattle.adj_activity.specs.Edges.{linked, way_edges, assigned_edges, called_edges, statement_edges, unit_edges, flow_edges, lent_edges, unit_shadows, shadow_edges, adjoint_number, adjoint_edges}
+use Rattle.adj_activity.specs.Told.{flag_at, told_in, told}
+use Rattle.adj_activity.specs.View.{told_at, found_at, pair_edges, found_edges, call_edges, maker_edge, maker_edges, made_edges, standing_edges, row_edges, scope_by}
+use Rattle.adj_activity.specs.declared.steps.Steps.{Steps}
+use Rattle.adj_activity.specs.declared.steps.Steps.TheVariants.{Flow, Shadows, Adjoints}
+use Rattle.adj_activity.proofs.Telling.{point_found}
+
+-- ---- lists
+
+-- what is made of the members is the same where it is of each
+pub flat_same : {X Y : Type 0} (f g : X → List Y) (xs : List X) → ((x : X) → Contains xs x → f x ≡ g x) → flat_map f xs ≡ flat_map g xs
+flat_same f g [] h = refl
+flat_same f g (x ∷ xs) h =
+    let first : f x ≡ g x = h x (is_first x x xs refl) in
+    let later : flat_map f xs ≡ flat_map g xs = flat_same f g xs (λ z c. h z (is_later z x xs c)) in
+    flat_map-cons f x xs ∙ (λ i. first i ++ later i) ∙ sym (flat_map-cons g x xs)
+
+-- what is made of the chosen members
+pub flat_chosen : {X Y : Type 0} (b : X → Bool) (f : X → List Y) (xs : List X) → flat_map (λ x. list_if (b x) (f x)) xs ≡ flat_map f (filter b xs)
+flat_chosen b f [] = refl
+flat_chosen b f (x ∷ xs) = flat_map-cons (λ y. list_if (b y) (f y)) x xs ∙ go (b x) (flat_chosen b f xs)
+  where
+    go : (c : Bool) → flat_map (λ y. list_if (b y) (f y)) xs ≡ flat_map f (filter b xs) → list_if c (f x) ++ flat_map (λ y. list_if (b y) (f y)) xs ≡ flat_map f (if c then x ∷ filter b xs else filter b xs)
+    go true h = ap (λ z. f x ++ z) h ∙ sym (flat_map-cons f x (filter b xs))
+    go false h = h
+
+-- an image of all that is made
+pub map_flat : {X Y Z : Type 0} (h : Y → Z) (f : X → List Y) (xs : List X) → flat_map (λ x. map h (f x)) xs ≡ map h (flat_map f xs)
+map_flat h f [] = refl
+map_flat h f (x ∷ xs) = flat_map-cons (λ z. map h (f z)) x xs ∙ ap (λ z. map h (f x) ++ z) (map_flat h f xs) ∙ sym (map-append h (f x) (flat_map f xs)) ∙ ap (map h) (sym (flat_map-cons f x xs))
+
+-- ---- the unit of a name
+
+name_turned : (x y : List ℕ) → name_eq x y ≡ name_eq y x
+name_turned x y = same_truth (name_eq x y) (name_eq y x) (λ h. ap (λ z. name_eq y z) (name_same x y h) ∙ name_refl y) (λ h. ap (λ z. name_eq x z) (name_same y x h) ∙ name_refl x)
+
+abbrev found_behind : ℕ → List Row → Option ℕ → Option Row
+found_behind k rs None = None
+found_behind k rs (Some n) = slice_get rs (n - k)
+
+-- among the units from the k-th on
+found_from : (vss : List (List (List ℕ))) (t u i k : ℕ) (ps : List Procedure) (x : List ℕ) → found_behind k (map (row_in vss) (parts_from t u i ps)) (place_from k (map (λ p. p.name) ps) x) ≡ option_map (row_in vss) (find_part (parts_from t u i ps) x)
+found_from vss t u i k [] x = refl
+found_from vss t u i k (p ∷ ps) x =
+    go (name_eq x p.name) (found_from vss t (suc u) (behind i p.body) (suc k) ps x) ∙ ap (λ b. option_map (row_in vss) (if b then Some (part t u i p) else find_part (parts_from t (suc u) (behind i p.body) ps) x)) (name_turned x p.name)
+  where
+    rest : List Row
+    rest = map (row_in vss) (parts_from t (suc u) (behind i p.body) ps)
+
+    here : (j : ℕ) → j ≡ 0 → slice_get (row_in vss (part t u i p) ∷ rest) j ≡ Some (row_in vss (part t u i p))
+    here j e = ap (λ z. slice_get (row_in vss (part t u i p) ∷ rest) z) e
+
+    above : (j : ℕ) (xs : List (List ℕ)) (n : ℕ) → place_from j xs x ≡ Some n → j ≤ n
+    above j [] n e = absurd cc
+    above j (y ∷ ys) n e = at (name_eq x y) e (above (suc j) ys n)
+      where
+        at : (b : Bool) → (if b then Some j else place_from (suc j) ys x) ≡ Some n → (place_from (suc j) ys x ≡ Some n → suc j ≤ n) → j ≤ n
+        at true f r = let h : j ≡ n = cc in omega arith
+        at false f r = omega (arith, r f)
+
+    deeper : (o : Option ℕ) → place_from (suc k) (map (λ q. q.name) ps) x ≡ o → found_behind k (row_in vss (part t u i p) ∷ rest) o ≡ found_behind (suc k) rest o
+    deeper None e = refl
+    deeper (Some n) e = let l : suc k ≤ n = above (suc k) (map (λ q. q.name) ps) n e in let h : n - k ≡ suc (n - suc k) = omega arith in ap (λ z. slice_get (row_in vss (part t u i p) ∷ rest) z) h
+
+    go : (b : Bool) → found_behind (suc k) rest (place_from (suc k) (map (λ q. q.name) ps) x) ≡ option_map (row_in vss) (find_part (parts_from t (suc u) (behind i p.body) ps) x) →
+        found_behind k (row_in vss (part t u i p) ∷ rest) (if b then Some k else place_from (suc k) (map (λ q. q.name) ps) x) ≡ option_map (row_in vss) (if b then Some (part t u i p) else find_part (parts_from t (suc u) (behind i p.body) ps) x)
+    go true r = here (k - k) (omega arith)
+    go false r = deeper (place_from (suc k) (map (λ q. q.name) ps) x) refl ∙ r
+
+unmoved : (rs : List Row) (o : Option ℕ) → found_behind 0 rs o ≡ found_at rs o
+unmoved rs None = refl
+unmoved rs (Some n) = let h : n - 0 ≡ n = omega arith in ap (slice_get rs) h
+
+pub found_unit : (vss : List (List (List ℕ))) (ps : List Procedure) (x : List ℕ) → found_at (rows vss ps) (place_from 0 (map (λ p. p.name) ps) x) ≡ option_map (row_in vss) (find_part (parts ps) x)
+found_unit vss ps x = sym (unmoved (rows vss ps) (place_from 0 (map (λ p. p.name) ps) x)) ∙ found_from vss (statements_in 0 ps) 0 0 0 ps x
+
+-- ---- edges
+
+module _ (k : Problem) (vss : List (List (List ℕ))) (flags : List Bool) where
+  abbrev taking_part : Scope
+  taking_part = scope_by vss (flag flags) k.units
+
+  -- all units that take part
+  pub scoped : {Y : Type 0} (f : Row → List Y) (g : Part → List Y) → ((p : Part) → Contains taking_part.parts p → f (row_in vss p) ≡ g p) → flat_map (λ r. list_if (flag flags r.part.number) (f r)) (rows vss k.units) ≡ flat_map g taking_part.parts
+  scoped f g h =
+      flat_map-map (λ r. list_if (flag flags r.part.number) (f r)) (row_in vss) (parts k.units)
+      ∙ flat_chosen (λ (p : Part). flag flags p.number) (λ p. f (row_in vss p)) (parts k.units)
+      ∙ flat_same (λ p. f (row_in vss p)) g (filter (λ (p : Part). flag flags p.number) (parts k.units)) h
+
+-- what is told of a unit at its points
+pub told_there : (k : Problem) (o : Scope) (y : Covers k o) (by : List Bool) (w : ℕ) (vs : List (List ℕ)) (g : Part) (p : ℕ) → TakesPart k g → IsPoint g p → map plain vs ≡ o.variables g → (v : Var) → told_at by w (row_at vs g) p v ≡ told by o w p v
+told_there k o y by w vs g p u i e v = ap (λ z. flag_at by (node_in w z (p, v))) e ∙ sym (ap (λ z. told_in by o w p z v) (point_found k o y g p u i))
+
+module _ (k : Problem) (vss : List (List (List ℕ))) (flags : List Bool) (w : ℕ) (find : List ℕ → Option Row) (finds : (x : List ℕ) → find x ≡ option_map (row_in vss) (find_part (parts k.units) x)) where
+  abbrev o : Scope
+  o = scope_by vss (flag flags) k.units
+
+  -- ---- calls, by what is said of a dummy with its actual
+
+  module _ (t : Steps) (f : Part) (s : Standing) (F : Part → List ℕ → Var → Edges) (taking : TakesPart k f) (stands : Contains (statements_of f) s)
+      (same : (g : Part) → TakesPart k g → (d : List ℕ) (a : Var) → pair_edges t w (row_in vss f) s.number (row_in vss g) d a ≡ F g d a) where
+    found_same : (name : List ℕ) (args : Terms) → s.act ≡ call name args → (g : Option Part) → find_part (parts k.units) name ≡ g → found_edges t w (row_in vss f) s.number args (option_map (row_in vss) g) ≡ flat_map (at_actuals F) (with_args args g)
+    found_same name args e None p = refl
+    found_same name args e (Some g) p =
+        let u : TakesPart k g = leads taking (s, args, record { name = name; stands = stands; act = e; finds = p }) in
+        flat_same (λ (b : List ℕ × Var). pair_edges t w (row_in vss f) s.number (row_in vss g) b.0 b.1) (λ (b : List ℕ × Var). F g b.0 b.1) (bound g.unit.dummies args) (λ b c. same g u b.0 b.1)
+        ∙ sym (append-nil (at_actuals F (g, args))) ∙ sym (flat_map-cons (at_actuals F) (g, args) [])
+
+    act_same : (a : Act) → s.act ≡ a → call_edges t find w (row_in vss f) s.number a ≡ flat_map (at_actuals F) (called (parts k.units) a)
+    act_same (assign x subs e) p = refl
+    act_same (choose c a b) p = refl
+    act_same (loop x first last by body m) p = refl
+    act_same (during c body) p = refl
+    act_same (call name args) p = ap (found_edges t w (row_in vss f) s.number args) (finds name) ∙ found_same name args p (find_part (parts k.units) name) refl
+    act_same (runtime r) p = refl
+
+    call_same : call_edges t find w (row_in vss f) s.number s.act ≡ flat_map (at_actuals F) (called (parts k.units) s.act)
+    call_same = act_same s.act refl
+
+  -- ---- flow, and shadows
+
+  module _ (y : Covers k o) where
+    flow_same : (g : Part) → TakesPart k g → row_edges Flow find w (row_in vss g) ≡ unit_edges k o w g
+    flow_same g u =
+        ap (λ z. flat_map (way_edges w (o.variables g)) (ways_of g) ++ z)
+        (flat_same (standing_edges Flow find w (row_in vss g)) (statement_edges k o w g) (statements_of g)
+        (λ s c. ap (λ z. assigned_edges w (o.variables g) s.number s.act ++ z) (call_same Flow g s (called_edges w (o.variables g) o.variables s.number) u c (λ q v d a. refl))))
+
+    pub all_flow : flat_map (λ r. list_if (flag flags r.part.number) (row_edges Flow find w r)) (rows vss k.units) ≡ flow_edges k o w
+    all_flow = scoped k vss flags (row_edges Flow find w) (unit_edges k o w) (λ g c. flow_same g ((y.parts g).0 c))
+
+    shadow_same : (varied : Bor (List Bool)) (g : Part) → TakesPart k g → row_edges (Shadows varied) find w (row_in vss g) ≡ unit_shadows k o w (told varied.now o w) g
+    shadow_same varied g u =
+        flat_same (standing_edges (Shadows varied) find w (row_in vss g)) (λ s. flat_map (at_actuals (lent_edges w (o.variables g) o.variables (told varied.now o w) g.number)) (called (parts k.units) s.act)) (statements_of g)
+        (λ s c. call_same (Shadows varied) g s (lent_edges w (o.variables g) o.variables (told varied.now o w) g.number) u c
+        (λ q v d a. ap (λ b. linked (node_in w (o.variables q) (q.number, plain d)) (node_in w (o.variables g) (g.number, a)) ++ list_if b (linked (node_in w (o.variables g) (g.number, a)) (node_in w (o.variables q) (q.number, plain d)))) (told_there k o y varied.now w (slice_index_or vss q.number []) q q.entry v (entry_point q) refl (plain d))))
+
+    pub all_shadows : (varied : Bor (List Bool)) → flat_map (λ r. list_if (flag flags r.part.number) (row_edges (Shadows varied) find w r)) (rows vss k.units) ≡ shadow_edges k o w (told varied.now o w)
+    all_shadows varied = scoped k vss flags (row_edges (Shadows varied) find w) (unit_shadows k o w (told varied.now o w)) (λ g c. shadow_same varied g ((y.parts g).0 c))
+
+  -- ---- adjoints
+
+  abbrev by_number : Adjoint × Adjoint → ℕ × ℕ
+  by_number e = (adjoint_number e.0, adjoint_number e.1)
+
+  one_maker : (n : ℕ) (args : Terms) (g : Option Part) → maker_edge (2 * n) (option_map (row_in vss) g) ≡ map by_number (map (λ (c : Part × Terms). (unit c.0.number, statement n)) (with_args args g))
+  one_maker n args None = refl
+  one_maker n args (Some g) = refl
+
+  maker_same : (n : ℕ) (a : Act) → maker_edges find (2 * n) a ≡ map by_number (map (λ (c : Part × Terms). (unit c.0.number, statement n)) (called (parts k.units) a))
+  maker_same n (assign x subs e) = refl
+  maker_same n (choose c a b) = refl
+  maker_same n (loop x first last by body m) = refl
+  maker_same n (during c body) = refl
+  maker_same n (call name args) = ap (maker_edge (2 * n)) (finds name) ∙ one_maker n args (find_part (parts k.units) name)
+  maker_same n (runtime r) = refl
+
+  held_same : (n : ℕ) (hs : List ℕ) (es : Edges) (xs : List (Adjoint × Adjoint)) → es ≡ map by_number xs → map (λ i. (2 * n, 2 * i)) hs ++ es ≡ map by_number (map (λ i. (statement n, statement i)) hs ++ xs)
+  held_same n [] es xs e = e
+  held_same n (h ∷ hs) es xs e = ap (λ z. (2 * n, 2 * h) ∷ z) (held_same n hs es xs e)
+
+  made_same : (u : ℕ) (s : Standing) → made_edges find u s ≡ map by_number (adjoint_steps_at k u s)
+  made_same u s =
+      held_same s.number (holders s.place) ((2 * s.number, 2 * u + 1) ∷ maker_edges find (2 * s.number) s.act) ((statement s.number, unit u) ∷ map (λ c. (unit c.0.number, statement s.number)) (called (parts k.units) s.act))
+      (ap (λ z. (2 * s.number, 2 * u + 1) ∷ z) (maker_same s.number s.act))
+
+  unit_made : (g : Part) → row_edges Adjoints find w (row_in vss g) ≡ map by_number (flat_map (adjoint_steps_at k g.number) (statements_of g))
+  unit_made g =
+      flat_same (standing_edges Adjoints find w (row_in vss g)) (λ s. map by_number (adjoint_steps_at k g.number s)) (statements_of g) (λ s c. made_same g.number s)
+      ∙ map_flat by_number (adjoint_steps_at k g.number) (statements_of g)
+
+  pub all_adjoints : flat_map (λ r. list_if (flag flags r.part.number) (row_edges Adjoints find w r)) (rows vss k.units) ≡ adjoint_edges k o
+  all_adjoints =
+      scoped k vss flags (row_edges Adjoints find w) (λ g. map by_number (flat_map (adjoint_steps_at k g.number) (statements_of g))) (λ g c. unit_made g)
+      ∙ map_flat by_number (λ (g : Part). flat_map (adjoint_steps_at k g.number) (statements_of g)) o.parts

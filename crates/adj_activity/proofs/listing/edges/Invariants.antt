@@ -1,0 +1,15 @@
+-- The edges of the units passed, and of those that are left.
+use Rattle.std.proofs.Common.{◌≡◌, ◌++◌, map, drop}
+use Rattle.std.specs.List.{flat_map}
+use Rattle.adj_facts.specs.Variables.{list_if}
+use Rattle.adj_flow.specs.Rows.{row_of}
+use Rattle.adj_writes.specs.Table.{value_of}
+use Rattle.adj_reach.specs.Edges.{flag}
+use Rattle.adj_activity.specs.View.{found_at, row_edges, all_edges}
+use Rattle.adj_activity.proofs.listing.edges.Given as goal
+
+abbrev pub invariant-loop-part : goal.invariant-loop-part
+invariant-loop-part l =
+    l.edges.items
+    ++ flat_map (λ r. list_if (flag l.flow.taking r.part.number) (row_edges l.steps (λ x. found_at (map row_of l.flow.parts.items) (value_of x l.flow.numbers)) l.flow.width r)) (map row_of (drop l.part-index l.parts))
+    ≡ all_edges l.steps (map row_of l.flow.parts.items) l.flow.numbers l.flow.taking l.flow.width

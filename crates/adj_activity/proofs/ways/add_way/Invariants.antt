@@ -1,0 +1,19 @@
+-- The edges of the variables passed, and of those that are left.
+use Rattle.std.proofs.Common.{◌≡◌, ◌++◌, map, drop}
+use Rattle.std.specs.Prelude.{not, ◌&&◌}
+use Rattle.std.specs.List.{flat_map}
+use Rattle.adj_tree.specs.Code.{plain}
+use Rattle.adj_facts.specs.Ways.{assigned_on, passed_on}
+use Rattle.adj_facts.specs.Variables.{list_if}
+use Rattle.adj_flow.specs.Rows.{row_of}
+use Rattle.adj_flow.specs.WayView.{number_of, way_of, deed_of}
+use Rattle.adj_activity.specs.Edges.{linked, way_edges}
+use Rattle.adj_activity.specs.Nodes.{node_in}
+use Rattle.adj_activity.specs.View.{vars_of}
+use Rattle.adj_activity.proofs.ways.add_way.Given as goal
+
+abbrev pub invariant-loop-name : goal.invariant-loop-name
+invariant-loop-name l =
+    l.edges.items
+    ++ flat_map (λ v. list_if (not (assigned_on (deed_of l.way.deed) v) && not (passed_on (deed_of l.way.deed) v)) (linked (node_in l.width (vars_of (row_of l.part)) (number_of l.way.from, v)) (node_in l.width (vars_of (row_of l.part)) (number_of l.way.to, v)))) (map (λ n. plain n) (drop l.name-index l.name-items))
+    ≡ l.initial.edges.items ++ way_edges l.width (vars_of (row_of l.part)) (way_of l.way)

@@ -1,0 +1,180 @@
+//! Which statements are adjointed by themselves.
+
+ghost use Rattle.std.specs.Prelude.{◌≡◌, ◌++◌, ◌∷◌, ◌&&◌, ◌||◌, [], not, IfOk, OnOk, map};
+ghost use Rattle.adj_tree.specs.Code.{plain};
+ghost use Rattle.adj_tree.specs.View.{act_of, terms_of};
+ghost use Rattle.adj_transpose.specs.Facts.{whole, is_adjointed};
+ghost use Rattle.adj_facts.specs.Activity.{activity_marks, resets, statement};
+ghost use Rattle.adj_facts.specs.Variables.{list_if};
+ghost use Rattle.adj_flow.specs.Rows.{row_of};
+ghost use Rattle.adj_flow.specs.View.{standing_of};
+ghost use Rattle.adj_reach.specs.Edges.{flag};
+ghost use Rattle.adj_activity.specs.Edges.{adjoint_number};
+ghost use Rattle.adj_activity.specs.Starts.{row_activity, outright_at, outright_in, all_outright};
+
+use crate::adjoints::statement;
+use crate::found::Found;
+use crate::nodes::{End, flag_at, number, told};
+use adj_flow::{Flow, Part, Point, Standing};
+use adj_tree::{Act, Exprs, Memory, Name, Place};
+use std::alloc::Global;
+
+// Whether a variable of a unit has a shadow.
+fn is_shadowed(found: Found<'_>, width: usize, part: &Part<'_>, name: &Name) -> Result<bool, Memory>
+    ensures is { IfOk result (λ b. b ≡ (row_activity found.entry width (row_of part.now)).shadowed (row_of part.now).part.number (plain name.now)) }
+{
+    let unit = End {
+        part,
+        point: part.number,
+        name,
+    };
+    told(found.shadowed, width, unit)
+}
+
+// Whether an assignment to a place assigns its variable whole.
+fn is_whole(target: &Place) -> bool
+    ensures whole { result ≡ whole (plain target.now.name) (terms_of target.now.subs) (plain target.now.name) }
+{
+    match target.subs {
+        Exprs::Empty => true,
+        Exprs::More(_, _) => false,
+    }
+}
+
+// Whether an assignment has an adjoint, by whether its target has a shadow and is assigned whole, was varied before it, and is varied and useful after it.
+fn decided(shadowed: bool, whole: bool, before: bool, after: bool, useful: bool) -> bool
+    ensures decided { result ≡ (shadowed && ((after && useful) || (whole && (before && not after)))) }
+{
+    shadowed && (after && useful || whole && before && !after)
+}
+
+// Whether the assignment of a number has an adjoint.
+fn is_adjointed(
+    found: Found<'_>,
+    width: usize,
+    part: &Part<'_>,
+    number_of: usize,
+    target: &Place,
+) -> Result<bool, Memory>
+    ensures is { IfOk result (λ b. b ≡ is_adjointed (activity_marks (row_activity found.entry width (row_of part.now)) (row_of part.now).part.number) number_of (plain target.now.name) (terms_of target.now.subs)) }
+{
+    let name = &target.name;
+    let before = End {
+        part,
+        point: number(Point::Before(number_of))?,
+        name,
+    };
+    let after = End {
+        part,
+        point: number(Point::After(number_of))?,
+        name,
+    };
+    let has_shadow = is_shadowed(found, width, part, name)?;
+    let was_varied = told(found.varied, width, before)?;
+    let is_varied = told(found.varied, width, after)?;
+    let is_useful = told(found.useful, width, after)?;
+    let whole = is_whole(target);
+    Ok(decided(has_shadow, whole, was_varied, is_varied, is_useful))
+}
+
+// Whether the DO of a number resets the shadow of its variable.
+fn resets(
+    found: Found<'_>,
+    width: usize,
+    part: &Part<'_>,
+    number_of: usize,
+    name: &Name,
+) -> Result<bool, Memory>
+    ensures resets { IfOk result (λ b. b ≡ resets (row_activity found.entry width (row_of part.now)) (row_of part.now).part.number number_of (plain name.now)) }
+{
+    let before = End {
+        part,
+        point: number(Point::Before(number_of))?,
+        name,
+    };
+    let has_shadow = is_shadowed(found, width, part, name)?;
+    let was_varied = told(found.varied, width, before)?;
+    Ok(has_shadow && was_varied)
+}
+
+// Adds the number of a statement, if it is adjointed.
+fn add_if(nodes: &mut Vec<usize>, number: usize, is_adjointed: bool) -> Result<(), Memory>
+    ensures added { OnOk result (nodes.new.items ≡ nodes.old.items ++ map adjoint_number (list_if is_adjointed (statement number ∷ []))) }
+{
+    if is_adjointed {
+        nodes.push(statement(number)?)?;
+    }
+    Ok(())
+}
+
+// Adds the number of a statement, if it is adjointed by itself.
+fn add_standing(
+    nodes: &mut Vec<usize>,
+    found: Found<'_>,
+    width: usize,
+    part: &Part<'_>,
+    standing: &Standing<'_>,
+) -> Result<(), Memory>
+    ensures added { OnOk result (nodes.new.items ≡ nodes.old.items ++ outright_at found.entry width (row_of part.now) (standing_of standing.now)) }
+{
+    let number = standing.number;
+    match standing.act {
+        Act::Assign(target, _) => {
+            let is_adjointed = is_adjointed(found, width, part, number, target)?;
+            add_if(nodes, number, is_adjointed)
+        }
+        Act::Loop(x, _, _, _, _, _) => {
+            let is_adjointed = resets(found, width, part, number, x)?;
+            add_if(nodes, number, is_adjointed)
+        }
+        Act::If(_, _, _) | Act::While(_, _) | Act::Call(_, _) | Act::Run(_) => Ok(()),
+    }
+}
+
+// Adds the numbers of the statements of a unit that are adjointed by themselves.
+fn add_unit(
+    nodes: &mut Vec<usize>,
+    found: Found<'_>,
+    width: usize,
+    part: &Part<'_>,
+) -> Result<(), Memory>
+    ensures added { OnOk result (nodes.new.items ≡ nodes.old.items ++ outright_in found.entry width (row_of part.now)) }
+{
+    for standing in part.statements.as_slice() {
+        add_standing(nodes, found, width, part, standing)?;
+    }
+    Ok(())
+}
+
+// The same, if the unit takes part.
+fn add_taking(
+    nodes: &mut Vec<usize>,
+    found: Found<'_>,
+    width: usize,
+    part: &Part<'_>,
+    takes_part: bool,
+) -> Result<(), Memory>
+    ensures added { OnOk result (nodes.new.items ≡ nodes.old.items ++ list_if takes_part (outright_in found.entry width (row_of part.now))) }
+{
+    if takes_part {
+        add_unit(nodes, found, width, part)?;
+    }
+    Ok(())
+}
+
+/// The numbers of all statements that are adjointed by themselves.
+pub(crate) fn outright(
+    alloc: Global,
+    flow: &Flow<'_>,
+    found: Found<'_>,
+) -> Result<Vec<usize>, Memory>
+    ensures outright { IfOk result (λ v. v.items ≡ all_outright found.entry (map row_of flow.now.parts.items) flow.now.taking flow.now.width) }
+{
+    let mut nodes = Vec::new(alloc);
+    let taking = flow.taking.as_slice();
+    for part in flow.parts.as_slice() {
+        let takes_part = flag_at(taking, part.number);
+        add_taking(&mut nodes, found, flow.width, part, takes_part)?;
+    }
+    Ok(nodes)
+}

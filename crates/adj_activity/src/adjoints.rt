@@ -1,0 +1,86 @@
+//! The edges between what has an adjoint: statements, which have the even numbers, and units, which have the odd ones.
+
+ghost use Rattle.std.specs.Prelude.{◌≡◌, ◌+◌, ◌*◌, ◌++◌, IfOk, OnOk, map};
+ghost use Rattle.adj_tree.specs.View.{act_of};
+ghost use Rattle.adj_facts.specs.Rules.{holders};
+ghost use Rattle.adj_writes.specs.Table.{value_of};
+ghost use Rattle.adj_flow.specs.Rows.{row_of};
+ghost use Rattle.adj_flow.specs.View.{place_of, standing_of};
+ghost use Rattle.adj_activity.specs.View.{found_at, maker_edges, made_edges};
+
+use crate::calls::Units;
+use adj_flow::{Part, Place, Standing};
+use adj_tree::{Act, Memory};
+
+/// The number of a statement.
+pub(crate) fn statement(number: usize) -> Result<usize, Memory>
+    ensures number { IfOk result (λ n. n ≡ 2 * number) }
+{
+    let even = number.checked_mul(2).ok_or(Memory)?;
+    Ok(even)
+}
+
+// The number of a unit.
+fn unit(number: usize) -> Result<usize, Memory>
+    ensures number { IfOk result (λ n. n ≡ 2 * number + 1) }
+{
+    let even = number.checked_mul(2).ok_or(Memory)?;
+    let odd = even.checked_add(1).ok_or(Memory)?;
+    Ok(odd)
+}
+
+// Adds the edge to the statement that holds what stands at a place.
+fn add_holder(edges: &mut Vec<(usize, usize)>, from: usize, place: Place<'_>) -> Result<(), Memory>
+    ensures added { OnOk result (edges.new.items ≡ edges.old.items ++ map (λ i. (from, 2 * i)) (holders (place_of place.entry))) }
+{
+    match place {
+        Place::Outermost => Ok(()),
+        Place::PartOf(holder) | Place::TurnOf(holder, _) => {
+            let to = statement(holder)?;
+            edges.push((from, to))?;
+            Ok(())
+        }
+    }
+}
+
+// Adds the edge from the unit that a statement calls.
+fn add_maker(
+    edges: &mut Vec<(usize, usize)>,
+    units: Units<'_, '_>,
+    to: usize,
+    act: &Act,
+) -> Result<(), Memory>
+    ensures added { OnOk result (edges.new.items ≡ edges.old.items ++ maker_edges (λ x. found_at (map row_of units.entry.parts.now) (value_of x units.entry.numbers.now)) to (act_of act.now)) }
+{
+    match act {
+        Act::Call(name, _) => match units.find(name) {
+            Some(called) => {
+                let from = unit(called.number)?;
+                edges.push((from, to))?;
+                Ok(())
+            }
+            None => Ok(()),
+        },
+        Act::Assign(_, _)
+        | Act::If(_, _, _)
+        | Act::Loop(_, _, _, _, _, _)
+        | Act::While(_, _)
+        | Act::Run(_) => Ok(()),
+    }
+}
+
+/// Adds the edges of a statement in a unit.
+pub(crate) fn add_made(
+    edges: &mut Vec<(usize, usize)>,
+    units: Units<'_, '_>,
+    part: &Part<'_>,
+    standing: &Standing<'_>,
+) -> Result<(), Memory>
+    ensures added { OnOk result (edges.new.items ≡ edges.old.items ++ made_edges (λ x. found_at (map row_of units.entry.parts.now) (value_of x units.entry.numbers.now)) (row_of part.now).part.number (standing_of standing.now)) }
+{
+    let at = statement(standing.number)?;
+    add_holder(edges, at, standing.place)?;
+    let unit = unit(part.number)?;
+    edges.push((at, unit))?;
+    add_maker(edges, units, at, standing.act)
+}

@@ -1,0 +1,125 @@
+//! The activity of a program.
+
+ghost use Rattle.std.specs.Prelude.{◌≡◌, ◌↔◌, ◌++◌, ℕ, IfOk, IsTrue, map};
+ghost use Rattle.adj_facts.specs.Activity.{IsActivity};
+ghost use Rattle.adj_flow.specs.Rows.{row_of};
+ghost use Rattle.adj_reach.specs.Edges.{ReachedFrom, ReachedBack, flag};
+ghost use Rattle.adj_activity.specs.View.{flow_listed, shadows_listed, adjoints_listed};
+ghost use Rattle.adj_activity.specs.Starts.{point_nodes, all_active, all_outright};
+ghost use Rattle.adj_activity.specs.Asked.{IsFlow, problem_of, activity_of};
+
+use crate::adjointed::outright;
+use crate::found::{Found, Sets};
+use crate::listing::edges;
+use crate::search::{reached, reached_back};
+use crate::starts::{add_all_active, add_flagged};
+use crate::steps::Steps;
+use adj_flow::{Flow, Part};
+use adj_tree::{Activity, Flags, Head, Memory};
+use std::alloc::Global;
+
+// Where flow begins or ends: the flagged dummies of the head at a point.
+fn point_nodes(
+    alloc: Global,
+    width: usize,
+    part: &Part<'_>,
+    point: usize,
+    flags: &[bool],
+) -> Result<Vec<usize>, Memory>
+    ensures nodes { IfOk result (λ v. v.items ≡ point_nodes width (row_of part.now) point flags.now) }
+{
+    let mut nodes = Vec::new(alloc);
+    add_flagged(&mut nodes, width, part, point, flags)?;
+    Ok(nodes)
+}
+
+// The varied and the useful variables.
+fn flowing(
+    alloc: Global,
+    flow: &Flow<'_>,
+    part: &Part<'_>,
+    head: &Head,
+) -> Result<(Flags, Flags), Memory>
+    ensures varied { IfOk result (λ f. (m : ℕ) → IsTrue (flag f.0 m) ↔ ReachedFrom (flow_listed (map row_of flow.now.parts.items) flow.now.numbers flow.now.taking flow.now.width) (point_nodes flow.now.width (row_of part.now) (row_of part.now).part.entry head.now.vars) m) }
+    ensures useful { IfOk result (λ f. (m : ℕ) → IsTrue (flag f.1 m) ↔ ReachedBack (flow_listed (map row_of flow.now.parts.items) flow.now.numbers flow.now.taking flow.now.width) (point_nodes flow.now.width (row_of part.now) (row_of part.now).part.end head.now.outvars) m) }
+{
+    let edges = edges(alloc, flow, Steps::Flow)?;
+    let entry = point_nodes(alloc, flow.width, part, part.entry, head.vars.as_slice())?;
+    let varied = reached(alloc, edges.as_slice(), entry.as_slice())?;
+    let end = point_nodes(alloc, flow.width, part, part.end, head.outvars.as_slice())?;
+    let useful = reached_back(alloc, edges.as_slice(), end.as_slice())?;
+    Ok((varied, useful))
+}
+
+// The variables that have a shadow outright.
+fn shadow_nodes(
+    alloc: Global,
+    flow: &Flow<'_>,
+    part: &Part<'_>,
+    head: &Head,
+    sets: Sets<'_>,
+) -> Result<Vec<usize>, Memory>
+    ensures nodes { IfOk result (λ v. v.items ≡ (point_nodes flow.now.width (row_of part.now) (row_of part.now).part.number head.now.vars ++ point_nodes flow.now.width (row_of part.now) (row_of part.now).part.number head.now.outvars) ++ all_active sets.entry.varied.now sets.entry.useful.now (map row_of flow.now.parts.items) flow.now.taking flow.now.width) }
+{
+    let mut nodes = point_nodes(alloc, flow.width, part, part.number, head.vars.as_slice())?;
+    add_flagged(
+        &mut nodes,
+        flow.width,
+        part,
+        part.number,
+        head.outvars.as_slice(),
+    )?;
+    add_all_active(&mut nodes, flow, sets)?;
+    Ok(nodes)
+}
+
+// The variables that have a shadow.
+fn shadowed(
+    alloc: Global,
+    flow: &Flow<'_>,
+    part: &Part<'_>,
+    head: &Head,
+    sets: Sets<'_>,
+) -> Result<Flags, Memory>
+    ensures shadowed { IfOk result (λ f. (m : ℕ) → IsTrue (flag f m) ↔ ReachedFrom (shadows_listed sets.entry.varied (map row_of flow.now.parts.items) flow.now.numbers flow.now.taking flow.now.width) ((point_nodes flow.now.width (row_of part.now) (row_of part.now).part.number head.now.vars ++ point_nodes flow.now.width (row_of part.now) (row_of part.now).part.number head.now.outvars) ++ all_active sets.entry.varied.now sets.entry.useful.now (map row_of flow.now.parts.items) flow.now.taking flow.now.width) m) }
+{
+    let edges = edges(alloc, flow, Steps::Shadows(sets.varied))?;
+    let nodes = shadow_nodes(alloc, flow, part, head, sets)?;
+    reached(alloc, edges.as_slice(), nodes.as_slice())
+}
+
+// The statements that have an adjoint, and the units that hold one.
+fn adjointed(alloc: Global, flow: &Flow<'_>, found: Found<'_>) -> Result<Flags, Memory>
+    ensures adjointed { IfOk result (λ f. (m : ℕ) → IsTrue (flag f m) ↔ ReachedFrom (adjoints_listed (map row_of flow.now.parts.items) flow.now.numbers flow.now.taking flow.now.width) (all_outright found.entry (map row_of flow.now.parts.items) flow.now.taking flow.now.width) m) }
+{
+    let edges = edges(alloc, flow, Steps::Adjoints)?;
+    let nodes = outright(alloc, flow, found)?;
+    reached(alloc, edges.as_slice(), nodes.as_slice())
+}
+
+/// The activity of the program of which this is the flow, for a head: varied and useful variables by node, which statements have an
+/// adjoint (with the even numbers; units that hold one have the odd ones), and which variables of units a shadow.
+pub fn activity(alloc: Global, flow: &Flow<'_>, head: &Head) -> Result<Activity, Memory>
+    requires flow { IsFlow flow.now head.now.unit }
+    ensures activity { IfOk result (λ a. IsActivity (problem_of flow.now head.now) (activity_of flow.now a)) }
+{
+    let part = &flow.parts.as_slice()[head.unit];
+    let (varied, useful) = flowing(alloc, flow, part, head)?;
+    let sets = Sets {
+        varied: varied.as_slice(),
+        useful: useful.as_slice(),
+    };
+    let shadowed = shadowed(alloc, flow, part, head, sets)?;
+    let found = Found {
+        varied: sets.varied,
+        useful: sets.useful,
+        shadowed: shadowed.as_slice(),
+    };
+    let adjointed = adjointed(alloc, flow, found)?;
+    Ok(Activity {
+        varied,
+        useful,
+        adjointed,
+        shadowed,
+    })
+}

@@ -1,0 +1,118 @@
+//! Numbers of variables at points, and edges between them.
+
+ghost use Rattle.std.specs.Prelude.{◌≡◌, ◌+◌, ◌*◌, ◌++◌, IfOk, OnOk};
+ghost use Rattle.adj_tree.specs.Code.{plain};
+ghost use Rattle.adj_facts.specs.Rules.{list_of};
+ghost use Rattle.adj_facts.specs.Variables.{list_if};
+ghost use Rattle.adj_flow.specs.Rows.{row_of};
+ghost use Rattle.adj_flow.specs.WayView.{number_of};
+ghost use Rattle.adj_reach.specs.Edges.{flag};
+ghost use Rattle.adj_activity.specs.Edges.{linked};
+ghost use Rattle.adj_activity.specs.View.{end_node, told_at};
+
+use adj_flow::{Part, Point};
+use adj_tree::{Memory, Name};
+
+/// A variable of a unit at a point.
+#[derive(Clone, Copy)]
+pub(crate) struct End<'p, 'a> {
+    pub part: &'p Part<'a>,
+    pub point: usize,
+    pub name: &'p Name,
+}
+
+// The number of the variable at a place, at a point.
+fn node_at(point: usize, width: usize, place: usize) -> Result<usize, Memory>
+    ensures node { IfOk result (λ n. n ≡ point * width + place) }
+{
+    let first = point.checked_mul(width).ok_or(Memory)?;
+    let node = first.checked_add(place).ok_or(Memory)?;
+    Ok(node)
+}
+
+impl End<'_, '_> {
+    /// Its number. An error means that numbers don't reach so far.
+    pub(crate) fn node(self, width: usize) -> Result<Option<usize>, Memory>
+        ensures node { IfOk result (λ n. n ≡ end_node width self.entry) }
+    {
+        match self.part.place(self.name) {
+            None => Ok(None),
+            Some(place) => Ok(Some(node_at(self.point, width, place)?)),
+        }
+    }
+}
+
+// A point of the statement of a number.
+fn point_of(statement: usize, place: usize) -> Result<usize, Memory>
+    ensures point { IfOk result (λ p. p ≡ 3 * statement + place) }
+{
+    let first = statement.checked_mul(3).ok_or(Memory)?;
+    let point = first.checked_add(place).ok_or(Memory)?;
+    Ok(point)
+}
+
+/// The number of a point.
+pub(crate) fn number(point: Point) -> Result<usize, Memory>
+    ensures number { IfOk result (λ p. p ≡ number_of point) }
+{
+    match point {
+        Point::Before(i) => point_of(i, 0),
+        Point::After(i) => point_of(i, 1),
+        Point::Inside(i) => point_of(i, 2),
+        Point::At(p) => Ok(p),
+    }
+}
+
+/// The flag at a place.
+pub(crate) fn flag_at(flags: &[bool], place: usize) -> bool
+    ensures { result ≡ flag flags.now place }
+{
+    flags.get(place).copied().unwrap_or(false)
+}
+
+/// The flag of a variable at a point.
+pub(crate) fn told(flags: &[bool], width: usize, end: End<'_, '_>) -> Result<bool, Memory>
+    ensures told { IfOk result (λ b. b ≡ told_at flags.now width (row_of end.entry.part.now) end.entry.point (plain end.entry.name.now)) }
+{
+    match end.node(width)? {
+        Some(node) => Ok(flag_at(flags, node)),
+        None => Ok(false),
+    }
+}
+
+/// Adds an edge between two variables at points.
+pub(crate) fn add_edge(
+    edges: &mut Vec<(usize, usize)>,
+    width: usize,
+    from: End<'_, '_>,
+    to: End<'_, '_>,
+) -> Result<(), Memory>
+    ensures added { OnOk result (edges.new.items ≡ edges.old.items ++ linked (end_node width from.entry) (end_node width to.entry)) }
+{
+    let from = from.node(width)?;
+    let to = to.node(width)?;
+    match (from, to) {
+        (Some(from), Some(to)) => {
+            edges.push((from, to))?;
+            Ok(())
+        }
+        (Some(_), None) | (None, _) => Ok(()),
+    }
+}
+
+/// Adds the number of a variable at a point, if it is wanted.
+pub(crate) fn add_node(
+    nodes: &mut Vec<usize>,
+    width: usize,
+    end: End<'_, '_>,
+    is_wanted: bool,
+) -> Result<(), Memory>
+    ensures added { OnOk result (nodes.new.items ≡ nodes.old.items ++ list_if is_wanted (list_of (end_node width end.entry))) }
+{
+    if is_wanted {
+        if let Some(node) = end.node(width)? {
+            nodes.push(node)?;
+        }
+    }
+    Ok(())
+}

@@ -1,0 +1,8 @@
+//! Tests of the code of the analyses, by the public calls of `adj_flow` and `adj_activity`.
+//!
+//! `activities` has texts, and which of their statements have an adjoint and which of their variables a shadow, worked out by hand by
+//! docs/ANALYSES.md. No code stands on this crate.
+#![tactic(auto)]
+
+#[cfg(test)]
+mod activities;
