@@ -8,7 +8,7 @@ use Rattle.adj_facts.proofs.Members.{map_has, map_only}
 use Rattle.adj_facts.proofs.Numbered.{IsListed}
 use Rattle.adj_facts.proofs.AdjointListed as listing
 use Rattle.adj_activity.specs.Edges.{adjoint_number, adjoint_nodes, adjoint_edges}
-use Rattle.adj_activity.proofs.Images.{Images, listed_along}
+use Rattle.adj_flow.proofs.Images.{Images, listed_along}
 
 -- numbers of statements are even, and those of units odd
 adjoint_own : (x z : Adjoint) → adjoint_number x ≡ adjoint_number z → x ≡ z

@@ -14,14 +14,18 @@ use Rattle.adj_writes.specs.Table.{value_of}
 use Rattle.adj_flow.specs.Places.{place_from}
 use Rattle.adj_flow.specs.Rows.{Row, row_in, rows}
 use Rattle.adj_reach.specs.Edges.{ReachedFrom, ReachedBack, flag}
-use Rattle.adj_activity.specs.Nodes.{IsWide}
+use Rattle.adj_flow.specs.Nodes.{IsWide}
 use Rattle.adj_activity.specs.Edges.{flow_edges, entry_nodes, end_nodes, shadow_edges, shadow_nodes, adjoint_edges, adjoint_nodes}
-use Rattle.adj_activity.specs.Told.{told, activity_told}
-use Rattle.adj_activity.specs.View.{found_at, flow_listed, shadows_listed, adjoints_listed, scope_by, HoldVariables}
+use Rattle.adj_flow.specs.Told.{told}
+use Rattle.adj_activity.specs.Told.{activity_told}
+use Rattle.adj_flow.specs.NodeView.{found_at}
+use Rattle.adj_activity.specs.View.{flow_listed, shadows_listed, adjoints_listed}
+use Rattle.adj_flow.specs.Scoped.{scope_by, HoldVariables}
 use Rattle.adj_activity.specs.Starts.{point_nodes, all_active, all_outright}
 use Rattle.adj_activity.specs.declared.found.Found.{Found}
-use Rattle.adj_activity.proofs.Covering.{scope_covers, scope_wide}
-use Rattle.adj_activity.proofs.Rowed.{found_unit, all_flow, all_shadows, all_adjoints}
+use Rattle.adj_flow.proofs.Covering.{scope_covers, scope_wide}
+use Rattle.adj_flow.proofs.Scoping.{found_unit}
+use Rattle.adj_activity.proofs.Rowed.{all_flow, all_shadows, all_adjoints}
 use Rattle.adj_activity.proofs.Started.{entry_same, end_same, shadows_same, outright_same}
 use Rattle.adj_activity.proofs.Told.{is_activity}
 

@@ -20,10 +20,10 @@ use Rattle.adj_facts.proofs.FlowListed as flowing
 use Rattle.adj_facts.proofs.Points.{one_point}
 use Rattle.adj_facts.proofs.OwnPoints.{entry_point, end_point, own_before, own_after}
 use Rattle.adj_facts.proofs.Variables.{occurs_stands}
-use Rattle.adj_activity.specs.Nodes.{node_in, IsWide, HasNode}
-use Rattle.adj_activity.specs.Edges.{linked, way_edges, assigned_edges, called_edges, statement_edges, unit_edges, flow_edges, entry_nodes, end_nodes}
-use Rattle.adj_activity.proofs.Images.{Images, images_none, images_append, images_flat, images_map, images_if, listed_along, listed_back}
-use Rattle.adj_activity.proofs.Places.{IsHere, IsEdge, one_number, own_number, here_has, has_here, link, single}
+use Rattle.adj_flow.specs.Nodes.{node_in, IsWide, HasNode, linked}
+use Rattle.adj_activity.specs.Edges.{way_edges, assigned_edges, called_edges, statement_edges, unit_edges, flow_edges, entry_nodes, end_nodes}
+use Rattle.adj_flow.proofs.Images.{Images, images_none, images_append, images_flat, images_map, images_if, listed_along, listed_back}
+use Rattle.adj_flow.proofs.Places.{IsHere, IsEdge, one_number, own_number, here_has, has_here, link, single}
 
 module _ (k : Problem) (o : Scope) (y : Covers k o) (w : ℕ) (wide : IsWide k o w) where
   -- a variable of a unit at a point

@@ -14,8 +14,8 @@ use Rattle.adj_flow.specs.Places.{place_from}
 use Rattle.adj_flow.specs.Rows.{Row, row_of, row_in, rows}
 use Rattle.adj_flow.specs.declared.units.Flow.{Flow}
 use Rattle.adj_reach.specs.Edges.{flag}
-use Rattle.adj_activity.specs.Asked.{IsFlow, units_of, variables_of}
-use Rattle.adj_activity.specs.View.{HoldVariables}
+use Rattle.adj_flow.specs.Asked.{IsFlow, units_of, variables_of}
+use Rattle.adj_flow.specs.Scoped.{HoldVariables}
 use Rattle.adj_activity.proofs.Holding.{numbered_variables, written_hold}
 
 -- two views that agree on the members

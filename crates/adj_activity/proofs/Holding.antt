@@ -16,7 +16,7 @@ use Rattle.adj_facts.specs.Parts.{Part, part, parts, parts_from, statements_in}
 use Rattle.adj_facts.specs.Standing.{Place, part_of, body_of, Standing, outermost, held_in, standing}
 use Rattle.adj_facts.specs.Variables.{vars_in, vars_in_terms, vars_in_test, vars_in_mark, standing_in}
 use Rattle.adj_facts.proofs.Members.{is_first, is_later, is_among, is_none, is_only, map_has, map_only, flat_has}
-use Rattle.adj_activity.specs.View.{HoldVariables}
+use Rattle.adj_flow.specs.Scoped.{HoldVariables}
 use Rattle.adj_activity.specs.Laws.{VariablesHold}
 
 -- ---- names in a statement

@@ -22,99 +22,17 @@ use Rattle.adj_facts.proofs.Sets.{same_truth}
 use Rattle.adj_flow.specs.Places.{place_from}
 use Rattle.adj_flow.specs.Rows.{Row, row_at, row_in, rows}
 use Rattle.adj_reach.specs.Edges.{Edges, flag}
-use Rattle.adj_activity.specs.Nodes.{node_in}
-use Rattle.adj_activity.specs.Edges.{linked, way_edges, assigned_edges, called_edges, statement_edges, unit_edges, flow_edges, lent_edges, unit_shadows, shadow_edges, adjoint_number, adjoint_edges}
-use Rattle.adj_activity.specs.Told.{flag_at, told_in, told}
-use Rattle.adj_activity.specs.View.{told_at, found_at, pair_edges, found_edges, call_edges, maker_edge, maker_edges, made_edges, standing_edges, row_edges, scope_by}
+use Rattle.adj_flow.specs.Nodes.{node_in, linked}
+use Rattle.adj_activity.specs.Edges.{way_edges, assigned_edges, called_edges, statement_edges, unit_edges, flow_edges, lent_edges, unit_shadows, shadow_edges, adjoint_number, adjoint_edges}
+use Rattle.adj_flow.specs.Told.{flag_at, told_in, told}
+use Rattle.adj_flow.specs.NodeView.{told_at, found_at}
+use Rattle.adj_activity.specs.View.{pair_edges, found_edges, call_edges, maker_edge, maker_edges, made_edges, standing_edges, row_edges}
+use Rattle.adj_flow.specs.Scoped.{scope_by}
 use Rattle.adj_activity.specs.declared.steps.Steps.{Steps}
 use Rattle.adj_activity.specs.declared.steps.Steps.TheVariants.{Flow, Shadows, Adjoints}
-use Rattle.adj_activity.proofs.Telling.{point_found}
-
--- ---- lists
-
--- what is made of the members is the same where it is of each
-pub flat_same : {X Y : Type 0} (f g : X → List Y) (xs : List X) → ((x : X) → Contains xs x → f x ≡ g x) → flat_map f xs ≡ flat_map g xs
-flat_same f g [] h = refl
-flat_same f g (x ∷ xs) h =
-    let first : f x ≡ g x = h x (is_first x x xs refl) in
-    let later : flat_map f xs ≡ flat_map g xs = flat_same f g xs (λ z c. h z (is_later z x xs c)) in
-    flat_map-cons f x xs ∙ (λ i. first i ++ later i) ∙ sym (flat_map-cons g x xs)
-
--- what is made of the chosen members
-pub flat_chosen : {X Y : Type 0} (b : X → Bool) (f : X → List Y) (xs : List X) → flat_map (λ x. list_if (b x) (f x)) xs ≡ flat_map f (filter b xs)
-flat_chosen b f [] = refl
-flat_chosen b f (x ∷ xs) = flat_map-cons (λ y. list_if (b y) (f y)) x xs ∙ go (b x) (flat_chosen b f xs)
-  where
-    go : (c : Bool) → flat_map (λ y. list_if (b y) (f y)) xs ≡ flat_map f (filter b xs) → list_if c (f x) ++ flat_map (λ y. list_if (b y) (f y)) xs ≡ flat_map f (if c then x ∷ filter b xs else filter b xs)
-    go true h = ap (λ z. f x ++ z) h ∙ sym (flat_map-cons f x (filter b xs))
-    go false h = h
-
--- an image of all that is made
-pub map_flat : {X Y Z : Type 0} (h : Y → Z) (f : X → List Y) (xs : List X) → flat_map (λ x. map h (f x)) xs ≡ map h (flat_map f xs)
-map_flat h f [] = refl
-map_flat h f (x ∷ xs) = flat_map-cons (λ z. map h (f z)) x xs ∙ ap (λ z. map h (f x) ++ z) (map_flat h f xs) ∙ sym (map-append h (f x) (flat_map f xs)) ∙ ap (map h) (sym (flat_map-cons f x xs))
-
--- ---- the unit of a name
-
-name_turned : (x y : List ℕ) → name_eq x y ≡ name_eq y x
-name_turned x y = same_truth (name_eq x y) (name_eq y x) (λ h. ap (λ z. name_eq y z) (name_same x y h) ∙ name_refl y) (λ h. ap (λ z. name_eq x z) (name_same y x h) ∙ name_refl x)
-
-abbrev found_behind : ℕ → List Row → Option ℕ → Option Row
-found_behind k rs None = None
-found_behind k rs (Some n) = slice_get rs (n - k)
-
--- among the units from the k-th on
-found_from : (vss : List (List (List ℕ))) (t u i k : ℕ) (ps : List Procedure) (x : List ℕ) → found_behind k (map (row_in vss) (parts_from t u i ps)) (place_from k (map (λ p. p.name) ps) x) ≡ option_map (row_in vss) (find_part (parts_from t u i ps) x)
-found_from vss t u i k [] x = refl
-found_from vss t u i k (p ∷ ps) x =
-    go (name_eq x p.name) (found_from vss t (suc u) (behind i p.body) (suc k) ps x) ∙ ap (λ b. option_map (row_in vss) (if b then Some (part t u i p) else find_part (parts_from t (suc u) (behind i p.body) ps) x)) (name_turned x p.name)
-  where
-    rest : List Row
-    rest = map (row_in vss) (parts_from t (suc u) (behind i p.body) ps)
-
-    here : (j : ℕ) → j ≡ 0 → slice_get (row_in vss (part t u i p) ∷ rest) j ≡ Some (row_in vss (part t u i p))
-    here j e = ap (λ z. slice_get (row_in vss (part t u i p) ∷ rest) z) e
-
-    above : (j : ℕ) (xs : List (List ℕ)) (n : ℕ) → place_from j xs x ≡ Some n → j ≤ n
-    above j [] n e = absurd cc
-    above j (y ∷ ys) n e = at (name_eq x y) e (above (suc j) ys n)
-      where
-        at : (b : Bool) → (if b then Some j else place_from (suc j) ys x) ≡ Some n → (place_from (suc j) ys x ≡ Some n → suc j ≤ n) → j ≤ n
-        at true f r = let h : j ≡ n = cc in omega arith
-        at false f r = omega (arith, r f)
-
-    deeper : (o : Option ℕ) → place_from (suc k) (map (λ q. q.name) ps) x ≡ o → found_behind k (row_in vss (part t u i p) ∷ rest) o ≡ found_behind (suc k) rest o
-    deeper None e = refl
-    deeper (Some n) e = let l : suc k ≤ n = above (suc k) (map (λ q. q.name) ps) n e in let h : n - k ≡ suc (n - suc k) = omega arith in ap (λ z. slice_get (row_in vss (part t u i p) ∷ rest) z) h
-
-    go : (b : Bool) → found_behind (suc k) rest (place_from (suc k) (map (λ q. q.name) ps) x) ≡ option_map (row_in vss) (find_part (parts_from t (suc u) (behind i p.body) ps) x) →
-        found_behind k (row_in vss (part t u i p) ∷ rest) (if b then Some k else place_from (suc k) (map (λ q. q.name) ps) x) ≡ option_map (row_in vss) (if b then Some (part t u i p) else find_part (parts_from t (suc u) (behind i p.body) ps) x)
-    go true r = here (k - k) (omega arith)
-    go false r = deeper (place_from (suc k) (map (λ q. q.name) ps) x) refl ∙ r
-
-unmoved : (rs : List Row) (o : Option ℕ) → found_behind 0 rs o ≡ found_at rs o
-unmoved rs None = refl
-unmoved rs (Some n) = let h : n - 0 ≡ n = omega arith in ap (slice_get rs) h
-
-pub found_unit : (vss : List (List (List ℕ))) (ps : List Procedure) (x : List ℕ) → found_at (rows vss ps) (place_from 0 (map (λ p. p.name) ps) x) ≡ option_map (row_in vss) (find_part (parts ps) x)
-found_unit vss ps x = sym (unmoved (rows vss ps) (place_from 0 (map (λ p. p.name) ps) x)) ∙ found_from vss (statements_in 0 ps) 0 0 0 ps x
+use Rattle.adj_flow.proofs.Scoping.{flat_same, map_flat, scoped, told_there}
 
 -- ---- edges
-
-module _ (k : Problem) (vss : List (List (List ℕ))) (flags : List Bool) where
-  abbrev taking_part : Scope
-  taking_part = scope_by vss (flag flags) k.units
-
-  -- all units that take part
-  pub scoped : {Y : Type 0} (f : Row → List Y) (g : Part → List Y) → ((p : Part) → Contains taking_part.parts p → f (row_in vss p) ≡ g p) → flat_map (λ r. list_if (flag flags r.part.number) (f r)) (rows vss k.units) ≡ flat_map g taking_part.parts
-  scoped f g h =
-      flat_map-map (λ r. list_if (flag flags r.part.number) (f r)) (row_in vss) (parts k.units)
-      ∙ flat_chosen (λ (p : Part). flag flags p.number) (λ p. f (row_in vss p)) (parts k.units)
-      ∙ flat_same (λ p. f (row_in vss p)) g (filter (λ (p : Part). flag flags p.number) (parts k.units)) h
-
--- what is told of a unit at its points
-pub told_there : (k : Problem) (o : Scope) (y : Covers k o) (by : List Bool) (w : ℕ) (vs : List (List ℕ)) (g : Part) (p : ℕ) → TakesPart k g → IsPoint g p → map plain vs ≡ o.variables g → (v : Var) → told_at by w (row_at vs g) p v ≡ told by o w p v
-told_there k o y by w vs g p u i e v = ap (λ z. flag_at by (node_in w z (p, v))) e ∙ sym (ap (λ z. told_in by o w p z v) (point_found k o y g p u i))
 
 module _ (k : Problem) (vss : List (List (List ℕ))) (flags : List Bool) (w : ℕ) (find : List ℕ → Option Row) (finds : (x : List ℕ) → find x ≡ option_map (row_in vss) (find_part (parts k.units) x)) where
   abbrev o : Scope

@@ -16,11 +16,11 @@ use Rattle.adj_facts.proofs.Numbered.{IsListed}
 use Rattle.adj_facts.proofs.Scoped.{called_only, head_only, flagged_stands}
 use Rattle.adj_facts.proofs.FlowListed as flowing
 use Rattle.adj_facts.proofs.ShadowListed as shadowing
-use Rattle.adj_activity.specs.Nodes.{node_in, IsWide, IsNumbered, HasVariable}
-use Rattle.adj_activity.specs.Edges.{linked, head_shadows, active_shadows, shadow_nodes, lent_edges, unit_shadows, shadow_edges}
-use Rattle.adj_activity.proofs.Images.{Images, images_append, images_flat, images_map, images_if, listed_along}
-use Rattle.adj_activity.proofs.Places.{IsHere, IsEdge, one_number, own_number, here_has, has_here, link, single}
-use Rattle.adj_activity.proofs.Telling.{one_unit}
+use Rattle.adj_flow.specs.Nodes.{node_in, IsWide, IsNumbered, HasVariable, linked}
+use Rattle.adj_activity.specs.Edges.{head_shadows, active_shadows, shadow_nodes, lent_edges, unit_shadows, shadow_edges}
+use Rattle.adj_flow.proofs.Images.{Images, images_append, images_flat, images_map, images_if, listed_along}
+use Rattle.adj_flow.proofs.Places.{IsHere, IsEdge, one_number, own_number, here_has, has_here, link, single}
+use Rattle.adj_flow.proofs.Telling.{one_unit}
 
 module _ (k : Problem) (o : Scope) (y : Covers k o) (w : ℕ) (wide : IsWide k o w) (varied useful : ℕ → Vars) (within : (p : ℕ) (v : Var) → In v (varied p) → flowing.IsKnown k o y (p, v)) where
   -- a variable of a unit

@@ -15,14 +15,16 @@ use Rattle.adj_facts.proofs.Members.{is_first, is_later}
 use Rattle.adj_facts.proofs.OwnPoints.{own_before, own_after}
 use Rattle.adj_flow.specs.Rows.{row_in, rows}
 use Rattle.adj_reach.specs.Edges.{flag}
-use Rattle.adj_activity.specs.Nodes.{node_in}
+use Rattle.adj_flow.specs.Nodes.{node_in}
 use Rattle.adj_activity.specs.Edges.{entry_nodes, end_nodes, head_shadows, active_shadows, shadow_nodes, adjoint_number, adjoint_nodes}
-use Rattle.adj_activity.specs.Told.{told_in, told, told_of, activity_told}
-use Rattle.adj_activity.specs.View.{told_at, scope_by}
+use Rattle.adj_flow.specs.Told.{told_in, told, told_of}
+use Rattle.adj_activity.specs.Told.{activity_told}
+use Rattle.adj_flow.specs.NodeView.{told_at}
+use Rattle.adj_flow.specs.Scoped.{scope_by}
 use Rattle.adj_activity.specs.Starts.{point_nodes, active_nodes, all_active, row_activity, outright_at, outright_in, all_outright}
 use Rattle.adj_activity.specs.declared.found.Found.{Found}
-use Rattle.adj_activity.proofs.Rowed.{flat_same, map_flat, scoped, told_there}
-use Rattle.adj_activity.proofs.Telling.{number_found}
+use Rattle.adj_flow.proofs.Scoping.{flat_same, map_flat, scoped, told_there}
+use Rattle.adj_flow.proofs.Telling.{number_found}
 
 -- two tests that agree at the ends of each way agree somewhere
 somewhere_same : (f g : ℕ → Bool) (ws : List Way) → ((w : Way) → Contains ws w → (f w.from ≡ g w.from) × (f w.to ≡ g w.to)) → somewhere ws f ≡ somewhere ws g

@@ -10,14 +10,15 @@ use Rattle.adj_facts.specs.Rules.{Scope, Covers}
 use Rattle.adj_facts.proofs.FlowListed as flowing
 use Rattle.adj_facts.proofs.AsLists.{reached_known}
 use Rattle.adj_facts.proofs.Numbered.{exact_by_number}
-use Rattle.adj_activity.specs.Nodes.{IsWide, IsNumbered}
+use Rattle.adj_flow.specs.Nodes.{IsWide, IsNumbered}
 use Rattle.adj_facts.specs.Activity.{IsPoint}
 use Rattle.adj_activity.specs.Laws.{AreFlags}
-use Rattle.adj_activity.specs.Told.{unit_at, unit_of, told, told_of, activity_told}
+use Rattle.adj_flow.specs.Told.{unit_at, unit_of, told, told_of}
+use Rattle.adj_activity.specs.Told.{activity_told}
 use Rattle.adj_activity.proofs.FlowNumbered.{varied_listed, useful_listed}
 use Rattle.adj_activity.proofs.ShadowNumbered.{shadow_listed}
 use Rattle.adj_activity.proofs.AdjointNumbered.{adjoint_listed}
-use Rattle.adj_activity.proofs.Telling.{told_exact, point_found, point_finds, number_found, number_finds}
+use Rattle.adj_flow.proofs.Telling.{told_exact, point_found, point_finds, number_found, number_finds}
 
 module _ (k : Problem) (o : Scope) (w : ℕ) (varied useful shadowed adjointed : List Bool) (y : Covers k o) (wide : IsWide k o w) (f : AreFlags k o w varied useful shadowed adjointed) where
   is_varied : (p : ℕ) (v : Var) → In v (told varied o w p) ↔ Varied k (p, v)

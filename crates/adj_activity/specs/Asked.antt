@@ -1,39 +1,11 @@
--- What is asked of the analysis, and what is known of what it goes over.
-use Rattle.std.specs.Prelude.{◌≡◌, ◌↔◌, ◌<◌, ◌≤◌, ℕ, List, [], map, length, All, Contains, IsTrue}
-use Rattle.adj_tree.specs.Code.{Procedure}
-use Rattle.adj_tree.specs.View.{procedure_of}
-use Rattle.adj_tree.specs.declared.marks.Head.{Head}
+-- What the flags that the analysis gives say.
 use Rattle.adj_tree.specs.declared.marks.Activity as flags
-use Rattle.adj_facts.specs.Parts.{Part, parts}
-use Rattle.adj_facts.specs.Problem.{Problem, TakesPart}
 use Rattle.adj_facts.specs.Activity.{Activity}
-use Rattle.adj_writes.specs.Table.{value_of}
-use Rattle.adj_flow.specs.Places.{place_from}
-use Rattle.adj_flow.specs.Rows.{row_of, rows}
-use Rattle.adj_flow.specs.declared.units.Flow.{Flow}
 use Rattle.adj_reach.specs.Edges.{flag}
+use Rattle.adj_flow.specs.Scoped.{scope_by}
+use Rattle.adj_flow.specs.Asked.{units_of, variables_of}
+use Rattle.adj_flow.specs.declared.units.Flow.{Flow}
 use Rattle.adj_activity.specs.Told.{activity_told}
-use Rattle.adj_activity.specs.View.{scope_by, HoldVariables}
-
--- the units, and the variables of each
-abbrev pub units_of : Flow → List Procedure
-units_of f = map (λ p. procedure_of p.unit.now) f.parts.items
-
-abbrev pub variables_of : Flow → List (List (List ℕ))
-variables_of f = map (λ p. p.variables.now) f.parts.items
-
-abbrev pub problem_of : Flow → Head → Problem
-problem_of f h = record { units = units_of f; head = h.unit; vars = h.vars; outvars = h.outvars }
-
--- it is the flow of a program, of which the unit of a number is the head: each unit has its numbers, statements and ways; names give the numbers of units;
--- the units that take part are flagged; no unit has more variables than the width; and the variables of each hold its dummies and what stands in its statements
-pub record IsFlow (f : Flow) (h : ℕ) : Type 0 where
-  pub head : h < length (units_of f)
-  pub rows : map row_of f.parts.items ≡ rows (variables_of f) (units_of f)
-  pub numbers : (x : List ℕ) → value_of x f.numbers ≡ place_from 0 (map (λ p. p.name) (units_of f)) x
-  pub taking : (g : Part) → Contains (parts (units_of f)) g → IsTrue (flag f.taking g.number) ↔ TakesPart (record { units = units_of f; head = h; vars = []; outvars = [] }) g
-  pub width : All (λ vs. length vs ≤ f.width) (variables_of f)
-  pub variables : HoldVariables (variables_of f) (units_of f)
 
 -- what the flags that are given say
 abbrev pub activity_of : Flow → flags.Activity → Activity

@@ -1,5 +1,5 @@
 -- The steps of flow between numbers.
-use Rattle.std.specs.Prelude.{ℕ, ◌+◌, ◌*◌, List, [], ◌∷◌, ◌++◌, map, flat_map, Option, Some, None, not, ◌&&◌}
+use Rattle.std.specs.Prelude.{ℕ, ◌+◌, ◌*◌, List, [], ◌∷◌, ◌++◌, map, flat_map, not, ◌&&◌}
 use Rattle.adj_tree.specs.Code.{Var, plain, Act, assign, choose, loop, during, call, runtime}
 use Rattle.adj_transpose.specs.Marks.{Vars, point_before, point_after}
 use Rattle.adj_facts.specs.Parts.{Part, parts}
@@ -10,13 +10,7 @@ use Rattle.adj_facts.specs.Problem.{Problem, statements_of, ways_of, flagged}
 use Rattle.adj_facts.specs.Activity.{Activity, Adjoint, statement, unit}
 use Rattle.adj_facts.specs.Rules.{Scope, list_of, called, at_actuals, head_parts, somewhere, adjoint_starts, adjoint_steps}
 use Rattle.adj_reach.specs.Edges.{Edges}
-use Rattle.adj_activity.specs.Nodes.{node_in}
-
--- an edge between two numbers, where both are there
-abbrev pub linked : Option ℕ → Option ℕ → Edges
-linked None n = []
-linked (Some m) None = []
-linked (Some m) (Some n) = (m, n) ∷ []
+use Rattle.adj_flow.specs.Nodes.{node_in, linked}
 
 -- a way carries each variable but those that are assigned or passed on it
 abbrev pub way_edges : ℕ → List Var → Way → Edges

@@ -7,10 +7,11 @@ use Rattle.adj_facts.specs.Problem.{Problem}
 use Rattle.adj_facts.specs.Activity.{IsActivity}
 use Rattle.adj_facts.specs.Rules.{Scope, Covers}
 use Rattle.adj_reach.specs.Edges.{ReachedFrom, ReachedBack, flag}
-use Rattle.adj_activity.specs.Nodes.{IsWide}
+use Rattle.adj_flow.specs.Nodes.{IsWide}
 use Rattle.adj_activity.specs.Edges.{flow_edges, entry_nodes, end_nodes, shadow_edges, shadow_nodes, adjoint_edges, adjoint_nodes}
-use Rattle.adj_activity.specs.Told.{told, activity_told}
-use Rattle.adj_activity.specs.View.{HoldVariables}
+use Rattle.adj_flow.specs.Told.{told}
+use Rattle.adj_activity.specs.Told.{activity_told}
+use Rattle.adj_flow.specs.Scoped.{HoldVariables}
 
 -- the flags are those of what the edges of each rule reach from where it begins
 pub record AreFlags (k : Problem) (o : Scope) (w : ℕ) (varied useful shadowed adjointed : List Bool) : Type 0 where

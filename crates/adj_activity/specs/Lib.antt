@@ -1,5 +1,4 @@
 -- the definitions of the crate, a module a subject
-pub mod Nodes
 pub mod Edges
 pub mod Told
 pub mod View

@@ -8,9 +8,9 @@ use Rattle.adj_facts.specs.Activity.{Activity}
 use Rattle.adj_facts.specs.Rules.{list_of, somewhere, adjoint_starts_at}
 use Rattle.adj_flow.specs.Rows.{Row}
 use Rattle.adj_reach.specs.Edges.{flag}
-use Rattle.adj_activity.specs.Nodes.{node_in}
+use Rattle.adj_flow.specs.Nodes.{node_in}
 use Rattle.adj_activity.specs.Edges.{adjoint_number}
-use Rattle.adj_activity.specs.View.{vars_of, told_at}
+use Rattle.adj_flow.specs.NodeView.{vars_of, told_at}
 use Rattle.adj_activity.specs.declared.found.Found.{Found}
 
 -- the flagged dummies of a unit at a point

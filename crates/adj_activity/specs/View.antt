@@ -1,47 +1,23 @@
 -- What the code goes over, as clauses see it.
-use Rattle.std.specs.Prelude.{ℕ, ◌+◌, ◌*◌, List, [], ◌∷◌, ◌++◌, map, flat_map, filter, Bool, Contains, Option, Some, None, slice_get, slice_index_or}
+use Rattle.std.specs.Prelude.{ℕ, ◌+◌, ◌*◌, List, [], ◌∷◌, ◌++◌, map, flat_map, Bool, Option, Some, None}
 use Rattle.std.specs.Borrow.{Bor}
-use Rattle.adj_tree.specs.Code.{Var, plain, Terms, Act, assign, choose, loop, during, call, runtime, Procedure}
+use Rattle.adj_tree.specs.Code.{Var, plain, Terms, Act, assign, choose, loop, during, call, runtime}
 use Rattle.adj_tree.specs.declared.name.Name.{Name}
-use Rattle.adj_facts.specs.Parts as parts
 use Rattle.adj_facts.specs.Standing.{Standing}
-use Rattle.adj_facts.specs.Variables.{list_if, standing_in}
-use Rattle.adj_facts.specs.Problem.{bound, statements_of}
-use Rattle.adj_facts.specs.Rules.{Scope, holders}
-use Rattle.adj_flow.specs.Rows.{Row, row_of}
+use Rattle.adj_facts.specs.Variables.{list_if}
+use Rattle.adj_facts.specs.Problem.{bound}
+use Rattle.adj_facts.specs.Rules.{holders}
+use Rattle.adj_flow.specs.Rows.{Row}
 use Rattle.adj_reach.specs.Edges.{Edges, flag}
-use Rattle.adj_transpose.specs.Marks.{Vars}
 use Rattle.adj_writes.specs.Table.{value_of}
-use Rattle.adj_activity.specs.Nodes.{node_in}
-use Rattle.adj_activity.specs.Told.{flag_at}
+use Rattle.adj_flow.specs.NodeView.{vars_of, found_at, told_at}
 use Rattle.adj_activity.specs.Edges.{way_edges, assigned_edges, called_edges, lent_edges}
-use Rattle.adj_activity.specs.declared.nodes.End.{End}
 use Rattle.adj_activity.specs.declared.steps.Steps.{Steps}
 use Rattle.adj_activity.specs.declared.steps.Steps.TheVariants.{Flow, Shadows, Adjoints}
-
--- the variables of a row
-abbrev pub vars_of : Row → List Var
-vars_of r = map plain r.variables
-
-abbrev pub names_of : List (Bor Name) → List Var
-names_of bs = map (λ b. plain b.now) bs
 
 -- a dummy and its actual
 abbrev pub pair_of : Bor Name × Bor Name → List ℕ × Var
 pair_of p = (p.0.now, plain p.1.now)
-
--- the number of a variable at a point of a unit
-abbrev pub end_node : ℕ → End → Option ℕ
-end_node w e = node_in w (vars_of (row_of e.part.now)) (e.point, plain e.name.now)
-
--- the unit of a number, where there is one
-abbrev pub found_at : List Row → Option ℕ → Option Row
-found_at rs None = None
-found_at rs (Some n) = slice_get rs n
-
--- the set of a unit at a point, by flags of nodes
-abbrev pub told_at : List Bool → ℕ → Row → ℕ → Vars
-told_at flags w r p v = flag_at flags (node_in w (vars_of r) (p, v))
 
 -- a dummy of a unit that is called, and its actual; adjoints don't go by actuals
 abbrev pub pair_edges : Steps → ℕ → Row → ℕ → Row → List ℕ → Var → Edges
@@ -106,13 +82,3 @@ shadows_listed varied = all_edges (Shadows varied)
 
 abbrev pub adjoints_listed : List Row → List (List ℕ × ℕ) → List Bool → ℕ → Edges
 adjoints_listed = all_edges Adjoints
-
--- ---- the scope that flags and lists of variables make
-
-abbrev pub scope_by : List (List (List ℕ)) → (ℕ → Bool) → List Procedure → Scope
-scope_by vss takes ps = record { parts = filter (λ g. takes g.number) (parts.parts ps); variables = λ g. map plain (slice_index_or vss g.number []) }
-
--- the variables of each unit hold its dummies and what stands in its statements
-pub record HoldVariables (vss : List (List (List ℕ))) (ps : List Procedure) : Type 0 where
-  pub dummies : (g : parts.Part) → Contains (parts.parts ps) g → (d : List ℕ) → Contains g.unit.dummies d → Contains (slice_index_or vss g.number []) d
-  pub standing : (g : parts.Part) → Contains (parts.parts ps) g → (s : Standing) → Contains (statements_of g) s → (v : Var) → Contains (standing_in s.act) v → Contains (map plain (slice_index_or vss g.number [])) v

@@ -14,8 +14,7 @@ ghost use Rattle.adj_activity.specs.Starts.{row_activity, outright_at, outright_
 
 use crate::adjoints::statement;
 use crate::found::Found;
-use crate::nodes::{End, flag_at, number, told};
-use adj_flow::{Flow, Part, Point, Standing};
+use adj_flow::{End, Flow, Part, Point, Standing, flag_at, number, told};
 use adj_tree::{Act, Exprs, Memory, Name, Place};
 use std::alloc::Global;
 

@@ -6,7 +6,8 @@ ghost use Rattle.adj_facts.specs.Rules.{holders};
 ghost use Rattle.adj_writes.specs.Table.{value_of};
 ghost use Rattle.adj_flow.specs.Rows.{row_of};
 ghost use Rattle.adj_flow.specs.View.{place_of, standing_of};
-ghost use Rattle.adj_activity.specs.View.{found_at, maker_edges, made_edges};
+ghost use Rattle.adj_flow.specs.NodeView.{found_at};
+ghost use Rattle.adj_activity.specs.View.{maker_edges, made_edges};
 
 use crate::calls::Units;
 use adj_flow::{Part, Place, Standing};

@@ -7,11 +7,11 @@ ghost use Rattle.adj_facts.specs.Problem.{bound, name_of, with_actual};
 ghost use Rattle.adj_flow.specs.Rows.{row_of};
 ghost use Rattle.adj_writes.specs.Table.{value_of};
 ghost use Rattle.adj_activity.specs.Edges.{called_edges, lent_edges};
-ghost use Rattle.adj_activity.specs.View.{vars_of, told_at, pair_of, found_at, pair_edges, found_edges, call_edges};
+ghost use Rattle.adj_flow.specs.NodeView.{vars_of, told_at, found_at};
+ghost use Rattle.adj_activity.specs.View.{pair_of, pair_edges, found_edges, call_edges};
 
-use crate::nodes::{End, add_edge, number, told};
 use crate::steps::{Site, Steps};
-use adj_flow::{Part, Point};
+use adj_flow::{End, Part, Point, add_edge, number, told};
 use adj_tree::{Act, Expr, Exprs, Memory, Name};
 use adj_writes::table::Numbers;
 use std::alloc::Global;

@@ -6,15 +6,16 @@ ghost use Rattle.adj_flow.specs.Rows.{row_of};
 ghost use Rattle.adj_reach.specs.Edges.{ReachedFrom, ReachedBack, flag};
 ghost use Rattle.adj_activity.specs.View.{flow_listed, shadows_listed, adjoints_listed};
 ghost use Rattle.adj_activity.specs.Starts.{point_nodes, all_active, all_outright};
-ghost use Rattle.adj_activity.specs.Asked.{IsFlow, problem_of, activity_of};
+ghost use Rattle.adj_flow.specs.Asked.{IsFlow, problem_of};
+ghost use Rattle.adj_activity.specs.Asked.{activity_of};
 
 use crate::adjointed::outright;
 use crate::found::{Found, Sets};
 use crate::listing::edges;
-use crate::search::{reached, reached_back};
 use crate::starts::{add_all_active, add_flagged};
 use crate::steps::Steps;
 use adj_flow::{Flow, Part};
+use adj_reach::{reached, reached_back};
 use adj_tree::{Activity, Flags, Head, Memory};
 use std::alloc::Global;
 

@@ -1,8 +1,8 @@
 //! Activity: which variables are varied and useful, which have a shadow, and which statements an adjoint.
 //!
 //! Variables at points, variables of units, and statements and units are nodes with numbers; edges between them are the steps of
-//! each rule (`specs/Edges.antt`). The crate stands on the definitions of `adj_facts` and on `adj_reach`; the layers above use
-//! that what these edges reach is exactly the activity.
+//! each rule (`specs/Edges.antt`), and one search finds what they reach. The crate stands on the definitions of `adj_facts`, on
+//! `adj_flow` and on `adj_reach`; the layers above use that `activity` gives exactly the activity of a program.
 #![tactic(auto)]
 
 mod adjointed;
@@ -11,9 +11,7 @@ mod calls;
 mod finding;
 mod found;
 mod listing;
-mod nodes;
 mod program_flow;
-mod search;
 mod starts;
 mod statements;
 mod steps;

@@ -5,15 +5,15 @@ ghost use Rattle.adj_facts.specs.Variables.{list_if};
 ghost use Rattle.adj_flow.specs.Rows.{row_of};
 ghost use Rattle.adj_writes.specs.Table.{value_of};
 ghost use Rattle.adj_flow.specs.View.{standing_of};
-ghost use Rattle.adj_activity.specs.View.{found_at, along_ways, standing_edges, row_edges, all_edges};
+ghost use Rattle.adj_flow.specs.NodeView.{found_at};
+ghost use Rattle.adj_activity.specs.View.{along_ways, standing_edges, row_edges, all_edges};
 
 use crate::adjoints::add_made;
 use crate::calls::{Units, add_call};
-use crate::nodes::flag_at;
 use crate::statements::add_assignment;
 use crate::steps::{Site, Steps};
 use crate::ways::add_ways;
-use adj_flow::{Flow, Standing};
+use adj_flow::{Flow, Standing, flag_at};
 use adj_tree::Memory;
 use std::alloc::Global;
 

@@ -4,7 +4,7 @@ ghost use Rattle.std.specs.Prelude.{◌≡◌, ◌+◌, ◌<◌, ◌^◌, IfOk, 
 ghost use Rattle.adj_tree.specs.View.{procedure_of};
 ghost use Rattle.adj_text.specs.Written.{IsWritten};
 ghost use Rattle.adj_names.specs.Variables as names;
-ghost use Rattle.adj_activity.specs.Asked.{IsFlow, units_of};
+ghost use Rattle.adj_flow.specs.Asked.{IsFlow, units_of};
 
 use adj_flow::Flow;
 use adj_tree::{Memory, NameList, Unit};

@@ -7,12 +7,11 @@ ghost use Rattle.adj_facts.specs.Variables.{list_if};
 ghost use Rattle.adj_flow.specs.Rows.{row_of};
 ghost use Rattle.adj_flow.specs.WayView.{way_of};
 ghost use Rattle.adj_reach.specs.Edges.{flag};
-ghost use Rattle.adj_activity.specs.View.{told_at};
+ghost use Rattle.adj_flow.specs.NodeView.{told_at};
 ghost use Rattle.adj_activity.specs.Starts.{point_nodes, active_nodes, all_active};
 
 use crate::found::Sets;
-use crate::nodes::{End, add_node, flag_at, number, told};
-use adj_flow::{Flow, Part, Way};
+use adj_flow::{End, Flow, Part, Way, add_node, flag_at, number, told};
 use adj_tree::{Memory, Name};
 
 /// Adds the numbers at a point of those dummies of a unit that are flagged.

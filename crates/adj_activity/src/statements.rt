@@ -5,12 +5,11 @@ ghost use Rattle.adj_tree.specs.Code.{plain};
 ghost use Rattle.adj_tree.specs.View.{term_of, act_of};
 ghost use Rattle.adj_facts.specs.Variables.{occurring_in};
 ghost use Rattle.adj_flow.specs.Rows.{row_of};
-ghost use Rattle.adj_activity.specs.Edges.{linked, assigned_edges};
-ghost use Rattle.adj_activity.specs.Nodes.{node_in};
-ghost use Rattle.adj_activity.specs.View.{vars_of, names_of};
+ghost use Rattle.adj_flow.specs.Nodes.{linked, node_in};
+ghost use Rattle.adj_activity.specs.Edges.{assigned_edges};
+ghost use Rattle.adj_flow.specs.NodeView.{vars_of, names_of};
 
-use crate::nodes::{End, add_edge, number};
-use adj_flow::{Part, Point};
+use adj_flow::{End, Part, Point, add_edge, number};
 use adj_tree::{Act, Expr, Memory, Name, Op};
 use std::alloc::Global;
 

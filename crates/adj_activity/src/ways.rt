@@ -8,12 +8,11 @@ ghost use Rattle.adj_facts.specs.Ways.{is_name, is_actual, assigned_on, passed_o
 ghost use Rattle.adj_facts.specs.Variables.{list_if};
 ghost use Rattle.adj_flow.specs.Rows.{row_of};
 ghost use Rattle.adj_flow.specs.WayView.{deed_of, way_of};
-ghost use Rattle.adj_activity.specs.Edges.{linked, way_edges};
-ghost use Rattle.adj_activity.specs.Nodes.{node_in};
-ghost use Rattle.adj_activity.specs.View.{vars_of};
+ghost use Rattle.adj_flow.specs.Nodes.{linked, node_in};
+ghost use Rattle.adj_activity.specs.Edges.{way_edges};
+ghost use Rattle.adj_flow.specs.NodeView.{vars_of};
 
-use crate::nodes::{End, add_edge, number};
-use adj_flow::{Deed, Part, Way};
+use adj_flow::{Deed, End, Part, Way, add_edge, number};
 use adj_tree::{Expr, Exprs, Memory, Name};
 use adj_writes::table::Numbers;
 use std::alloc::Global;

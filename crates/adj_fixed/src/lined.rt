@@ -14,7 +14,7 @@ use crate::line::{
     push_folded, split_line, without_cr,
 };
 use adj_text::Mode;
-use adj_tree::{Fault, Mark, Refusal};
+use adj_tree::{Fault, Mark};
 use std::alloc::Global;
 
 /// A statement: its lines, joined.
@@ -44,28 +44,6 @@ struct Reader {
     pending: Option<Directive>,
 }
 
-/// The refusal with a code, at a line.
-pub(crate) fn refused(code: u8, line: u32) -> Fault
-    ensures { result ≡ Fault.Refused (record { code = code; line = line; number = 0 }) }
-{
-    Fault::Refused(Refusal {
-        code,
-        line,
-        number: 0,
-    })
-}
-
-// The refusal of one continuation line too many, at its line.
-fn limited(limit: u32, line: u32) -> Fault
-    ensures { result ≡ Fault.Refused (record { code = 21; line = line; number = limit }) }
-{
-    Fault::Refused(Refusal {
-        code: 21,
-        line,
-        number: u64::from(limit),
-    })
-}
-
 // How many continuation lines a statement may have, where that is limited.
 fn continuation_lines(mode: Mode) -> Option<u32>
     ensures { result ≡ (limits_of mode).continuations }
@@ -91,7 +69,7 @@ impl Reader {
         ensures { Gives (λ _. pass_of self.new) result (with_directive (pass_of self.old) number (operand_of line.now)) }
     {
         let Some(mark) = operand_of(alloc, line)? else {
-            return Err(refused(20, number));
+            return Err(Fault::refused(20, number));
         };
         self.flush()?;
         self.pending = Some(Directive { mark, line: number });
@@ -102,13 +80,13 @@ impl Reader {
         ensures { Gives (λ _. pass_of self.new) result (with_initial (limits_of mode) (pass_of self.old) number line.now (label_of line.now)) }
     {
         let Some(label) = label_of(line) else {
-            return Err(refused(1, number));
+            return Err(Fault::refused(1, number));
         };
         if !matches!(column(line, 6), b' ' | b'0') {
-            return Err(refused(1, number));
+            return Err(Fault::refused(1, number));
         }
         if !are_allowed(body(line)) {
-            return Err(refused(2, number));
+            return Err(Fault::refused(2, number));
         }
         let mut text = Vec::new(alloc);
         push_folded(&mut text, body(line))?;
@@ -133,13 +111,13 @@ impl Reader {
         ensures { Gives (λ _. pass_of self.new) result (with_continuation (limits_of mode) (pass_of self.old) number line.now (pass_of self.old).current) }
     {
         let Some(mut statement) = self.current.take() else {
-            return Err(refused(1, number));
+            return Err(Fault::refused(1, number));
         };
         if !(matches!(column(line, 6), 33..=126) && are_allowed(body(line))) {
-            return Err(refused(2, number));
+            return Err(Fault::refused(2, number));
         }
         if !has_room(statement.room) {
-            return Err(limited(continuation_lines(mode).unwrap_or(0), number));
+            return Err(Fault::limited(u64::from(continuation_lines(mode).unwrap_or(0)), number));
         }
         push_folded(&mut statement.text, body(line))?;
         statement.room = one_less(statement.room);
@@ -154,14 +132,14 @@ impl Reader {
     {
         if is_directive(line) {
             match &self.pending {
-                Some(directive) => Err(refused(20, directive.line)),
+                Some(directive) => Err(Fault::refused(20, directive.line)),
                 None => self.directive(alloc, number, line),
             }
         } else if is_comment(line) {
             Ok(())
         } else if is_continuation(line) {
             match &self.pending {
-                Some(directive) => Err(refused(20, directive.line)),
+                Some(directive) => Err(Fault::refused(20, directive.line)),
                 None => self.continuation(mode, number, line),
             }
         } else {
@@ -175,7 +153,7 @@ impl Reader {
     {
         let mut reader = self;
         if let Some(directive) = &reader.pending {
-            return Err(refused(20, directive.line));
+            return Err(Fault::refused(20, directive.line));
         }
         reader.flush()?;
         Ok(reader.done)

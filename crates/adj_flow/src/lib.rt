@@ -1,9 +1,11 @@
-//! What the analyses go over: the statements of a program where they stand, the ways between its points, and the units that take part.
+//! What the analyses go over: the statements of a program where they stand, the ways between its points, the units that take part,
+//! and its variables at points as nodes with numbers.
 //!
 //! It stands on the trees, the definitions of `adj_facts` and on `adj_reach`. The layers above use that `taking_part` gives
-//! exactly the units that calls reach from the head.
+//! exactly the units that calls reach from the head, and that a flag of a node tells of the variable at the point.
 #![tactic(auto)]
 
+mod nodes;
 mod outline;
 mod part;
 mod row;
@@ -12,6 +14,7 @@ mod standing;
 mod units;
 mod way;
 
+pub use nodes::{End, add_edge, add_node, flag_at, number, told};
 pub use outline::Outline;
 pub use part::taking_part;
 pub use row::Part;

@@ -19,7 +19,7 @@ use crate::current::Current;
 use adj_expression::Flaw;
 use adj_statement::{Said, said};
 use adj_text::{Kind, Mode, Stated};
-use adj_tree::{Fault, Mark, Memory, Program, Refusal, Unit, Units};
+use adj_tree::{Fault, Mark, Memory, Program, Unit, Units};
 use std::alloc::Global;
 
 /// The units so far, and how many more statements the text may have.
@@ -28,28 +28,6 @@ pub(crate) struct Parser {
     units: Vec<Unit>,
     current: Option<Current>,
     room: u32,
-}
-
-// The refusal with a code, at a line.
-fn refused(code: u8, line: u32) -> Fault
-    ensures { result ≡ Fault.Refused (record { code = code; line = line; number = 0 }) }
-{
-    Fault::Refused(Refusal {
-        code,
-        line,
-        number: 0,
-    })
-}
-
-// The refusal of what passes a limit, at a line.
-fn limited(limit: u64, line: u32) -> Fault
-    ensures { result ≡ Fault.Refused (record { code = 21; line = line; number = limit }) }
-{
-    Fault::Refused(Refusal {
-        code: 21,
-        line,
-        number: limit,
-    })
 }
 
 fn opens_block(kind: Kind) -> bool
@@ -84,7 +62,7 @@ fn with_form(found: Option<Result<Said, Flaw>>, line: u32) -> Result<Said, Fault
 {
     match found {
         Some(Ok(said)) => Ok(said),
-        _ => Err(refused(25, line)),
+        _ => Err(Fault::refused(25, line)),
     }
 }
 
@@ -219,16 +197,16 @@ impl Parser {
     {
         let line = stated.line;
         if stated.kind == Kind::Subroutine && is_full(bounds.units, self.units.len()) {
-            return Err(limited(bounds.units.unwrap_or(0) as u64, line));
+            return Err(Fault::limited(bounds.units.unwrap_or(0) as u64, line));
         }
         if self.room == 0 {
-            return Err(limited(u64::from(bounds.statements), line));
+            return Err(Fault::limited(u64::from(bounds.statements), line));
         }
         if is_deep(&found) {
-            return Err(limited(u64::from(bounds.depth), line));
+            return Err(Fault::limited(u64::from(bounds.depth), line));
         }
         if opens_block(stated.kind) && bounds.nesting <= self.depth() {
-            return Err(limited(bounds.nesting as u64, line));
+            return Err(Fault::limited(bounds.nesting as u64, line));
         }
         with_form(found, line)
     }
@@ -244,16 +222,16 @@ impl Parser {
         ensures { Gives (λ said. said) result (checked bounds (state_of self.now) stated.now left found) }
     {
         if is_marked(&stated.mark) && stated.kind != Kind::Do {
-            return Err(refused(20, stated.mark_line));
+            return Err(Fault::refused(20, stated.mark_line));
         }
         if found.is_none() || self.is_astray(stated, left) {
-            return Err(refused(4, stated.line));
+            return Err(Fault::refused(4, stated.line));
         }
         if is_large(&found) {
-            return Err(refused(5, stated.line));
+            return Err(Fault::refused(5, stated.line));
         }
         if self.breaks_loop(stated.kind, stated.label) {
-            return Err(refused(10, stated.line));
+            return Err(Fault::refused(10, stated.line));
         }
         self.limited_by(bounds, stated, found)
     }

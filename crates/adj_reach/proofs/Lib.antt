@@ -5,3 +5,4 @@ pub mod Sums
 pub mod Marking
 pub mod Searching
 pub mod Spreading
+pub mod Greatest

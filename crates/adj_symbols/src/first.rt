@@ -58,11 +58,7 @@ impl First {
         ensures added { self.new ≡ sooner self.old (first_of (faults_if is_fault (fault code line))) }
     {
         if is_fault {
-            self.add(Refusal {
-                code,
-                line,
-                number: 0,
-            });
+            self.add(Refusal::new(code, line));
         }
     }
 
@@ -71,11 +67,7 @@ impl First {
         ensures added { self.new ≡ sooner self.old (first_of (faults_with code line)) }
     {
         if let Some(code) = code {
-            self.add(Refusal {
-                code,
-                line,
-                number: 0,
-            });
+            self.add(Refusal::new(code, line));
         }
     }
 
@@ -84,11 +76,7 @@ impl First {
         ensures added { self.new ≡ sooner self.old (first_of (faults_if is_passed (passed limit line))) }
     {
         if is_passed {
-            self.add(Refusal {
-                code: 21,
-                line,
-                number: limit as u64,
-            });
+            self.add(Refusal::passed(limit as u64, line));
         }
     }
 }

@@ -16,7 +16,7 @@ use crate::passes::stop_at;
 use crate::places::{Placed, add_again};
 use crate::scope::Scope;
 use crate::written::flags_of;
-use adj_tree::{Fault, Flags, Head, Memory, Name, Refusal};
+use adj_tree::{Fault, Flags, Head, Memory, Name};
 use std::alloc::Global;
 
 // Names that stand at no line.
@@ -113,11 +113,7 @@ pub fn head(
     let scope = Scope::new(alloc, checked.program().units.as_slice())?;
     let unit = scope.number(name).unwrap_or(0);
     match scope.find(name) {
-        None => Err(Fault::Refused(Refusal {
-            code: 22,
-            line: 0,
-            number: 0,
-        })),
+        None => Err(Fault::refused(22, 0)),
         Some(outline) => {
             let found = head_in(alloc, outline, unit, vars, outvars)?;
             Ok(found)

@@ -129,11 +129,7 @@ fn add_too_many(limit: Option<usize>, variables: &[Placed<'_>], first: &mut Firs
 {
     let Some(limit) = limit else { return };
     if let Some(place) = variables.get(limit) {
-        first.add(Refusal {
-            code: 21,
-            line: place.line,
-            number: limit as u64,
-        });
+        first.add(Refusal::passed(limit as u64, place.line));
     }
 }
 

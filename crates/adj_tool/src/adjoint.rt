@@ -31,24 +31,14 @@ use std::alloc::Global;
 fn untreated(alloc: Global, line: u32) -> Result<Answer, Memory>
     ensures { IfOk result (λ a. answer_of a ≡ untreated line) }
 {
-    let refusal = Refusal {
-        code: 3,
-        line,
-        number: 0,
-    };
-    refused(alloc, refusal)
+    refused(alloc, Refusal::new(3, line))
 }
 
 // The refusal of a kernel that is too large.
 fn too_large(alloc: Global) -> Result<Answer, Memory>
     ensures { IfOk result (λ a. answer_of a ≡ too_large) }
 {
-    let refusal = Refusal {
-        code: 21,
-        line: 0,
-        number: 1_073_741_823,
-    };
-    refused(alloc, refusal)
+    refused(alloc, Refusal::passed(1_073_741_823, 0))
 }
 
 // The number of the unit of a name.

@@ -32,12 +32,7 @@ pub(crate) fn run_input<S: Source>(
             Ok(answer)
         }
         Err(ReadError::TooLong) => {
-            let limit = Refusal {
-                code: 21,
-                line: 0,
-                number: 67_108_864,
-            };
-            let answer = refused(alloc, limit)?;
+            let answer = refused(alloc, Refusal::passed(67_108_864, 0))?;
             Ok(answer)
         }
         Err(ReadError::ReadFault) => Err(Stop::ReadFault),

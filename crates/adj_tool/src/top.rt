@@ -35,12 +35,7 @@ fn answer_input<S: Source>(alloc: Global, request: &Request, input: &mut S) -> R
             Ok(answer)
         }
         Err(ReadError::TooLong) => {
-            let limit = Refusal {
-                code: 21,
-                line: 0,
-                number: 4_194_304,
-            };
-            let answer = refused(alloc, limit)?;
+            let answer = refused(alloc, Refusal::passed(4_194_304, 0))?;
             Ok(answer)
         }
         Err(ReadError::ReadFault) => Err(Stop::ReadFault),

@@ -30,11 +30,51 @@ pub struct Refusal {
     pub number: u64,
 }
 
+impl Refusal {
+    /// The refusal with a code, at a line.
+    pub fn new(code: u8, line: u32) -> Refusal
+        ensures { result ≡ record { code = code; line = line; number = 0 } }
+    {
+        Refusal {
+            code,
+            line,
+            number: 0,
+        }
+    }
+
+    /// The refusal of what passes a limit, at a line.
+    pub fn passed(limit: u64, line: u32) -> Refusal
+        ensures { result ≡ record { code = 21; line = line; number = limit } }
+    {
+        Refusal {
+            code: 21,
+            line,
+            number: limit,
+        }
+    }
+}
+
 /// Why a call on a text gave nothing: the text is refused, or memory ran out.
 #[derive(Clone, Copy, Debug, PartialEq, Eq)]
 pub enum Fault {
     Refused(Refusal),
     Memory,
+}
+
+impl Fault {
+    /// The refusal with a code, at a line.
+    pub fn refused(code: u8, line: u32) -> Fault
+        ensures { result ≡ fault.Refused (record { code = code; line = line; number = 0 }) }
+    {
+        Fault::Refused(Refusal::new(code, line))
+    }
+
+    /// The refusal of what passes a limit, at a line.
+    pub fn limited(limit: u64, line: u32) -> Fault
+        ensures { result ≡ fault.Refused (record { code = 21; line = line; number = limit }) }
+    {
+        Fault::Refused(Refusal::passed(limit, line))
+    }
 }
 
 impl From<AllocError> for Fault {

@@ -2,7 +2,7 @@ use Rattle.std.proofs.Common.{ap, ◌∙◌}
 use Rattle.std.specs.Prelude.{not, ◌&&◌, ◌||◌}
 use Rattle.adj_tree.specs.Code.{plain}
 use Rattle.adj_flow.specs.Rows.{row_of}
-use Rattle.adj_activity.specs.View.{told_at}
+use Rattle.adj_flow.specs.NodeView.{told_at}
 use Rattle.adj_activity.proofs.adjointed.is_adjointed.Goals as goal
 
 pub returns : goal.returns

@@ -7,9 +7,10 @@ use Rattle.adj_tree.specs.View.{procedure_of}
 use Rattle.adj_facts.specs.Activity.{IsActivity}
 use Rattle.adj_flow.specs.Rows.{row_of}
 use Rattle.adj_reach.specs.Edges.{ReachedFrom, ReachedBack, flag}
-use Rattle.adj_activity.specs.Asked.{units_of, variables_of, problem_of}
+use Rattle.adj_flow.specs.Asked.{units_of, variables_of, problem_of}
 use Rattle.adj_activity.specs.Told.{activity_told}
-use Rattle.adj_activity.specs.View.{scope_by, flow_listed, shadows_listed}
+use Rattle.adj_flow.specs.Scoped.{scope_by}
+use Rattle.adj_activity.specs.View.{flow_listed, shadows_listed}
 use Rattle.adj_activity.specs.Starts.{point_nodes, all_active}
 use Rattle.adj_activity.specs.declared.found.Found.{Found}
 use Rattle.adj_activity.proofs.Answering.{told_activity}

@@ -4,7 +4,8 @@ use Rattle.std.specs.List.{flat_map}
 use Rattle.adj_flow.specs.Rows.{row_of}
 use Rattle.adj_writes.specs.Table.{value_of}
 use Rattle.adj_flow.specs.View.{standing_of}
-use Rattle.adj_activity.specs.View.{found_at, standing_edges}
+use Rattle.adj_flow.specs.NodeView.{found_at}
+use Rattle.adj_activity.specs.View.{standing_edges}
 use Rattle.adj_activity.proofs.listing.add_statements.Given as goal
 
 abbrev pub invariant-loop-standing : goal.invariant-loop-standing

@@ -4,7 +4,8 @@ use Rattle.adj_flow.specs.Rows.{Row, row_of}
 use Rattle.adj_reach.specs.Edges.{flag}
 use Rattle.adj_writes.specs.Table.{value_of}
 use Rattle.adj_writes.proofs.Stepping.{flat_more}
-use Rattle.adj_activity.specs.View.{found_at, row_edges}
+use Rattle.adj_flow.specs.NodeView.{found_at}
+use Rattle.adj_activity.specs.View.{row_edges}
 use Rattle.adj_activity.proofs.listing.edges.Goals as goal
 
 pub loop-part-preserved : goal.loop-part-preserved

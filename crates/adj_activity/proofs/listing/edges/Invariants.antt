@@ -5,7 +5,8 @@ use Rattle.adj_facts.specs.Variables.{list_if}
 use Rattle.adj_flow.specs.Rows.{row_of}
 use Rattle.adj_writes.specs.Table.{value_of}
 use Rattle.adj_reach.specs.Edges.{flag}
-use Rattle.adj_activity.specs.View.{found_at, row_edges, all_edges}
+use Rattle.adj_flow.specs.NodeView.{found_at}
+use Rattle.adj_activity.specs.View.{row_edges, all_edges}
 use Rattle.adj_activity.proofs.listing.edges.Given as goal
 
 abbrev pub invariant-loop-part : goal.invariant-loop-part

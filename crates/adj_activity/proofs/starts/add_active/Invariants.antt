@@ -7,8 +7,8 @@ use Rattle.adj_facts.specs.Rules.{list_of, somewhere}
 use Rattle.adj_facts.specs.Variables.{list_if}
 use Rattle.adj_flow.specs.Rows.{row_of}
 use Rattle.adj_flow.specs.WayView.{way_of}
-use Rattle.adj_activity.specs.Nodes.{node_in}
-use Rattle.adj_activity.specs.View.{vars_of, told_at}
+use Rattle.adj_flow.specs.Nodes.{node_in}
+use Rattle.adj_flow.specs.NodeView.{vars_of, told_at}
 use Rattle.adj_activity.specs.Starts.{active_nodes}
 use Rattle.adj_activity.proofs.starts.add_active.Given as goal
 

@@ -2,8 +2,8 @@ use Rattle.std.proofs.Common.{ℕ, List, ◌++◌}
 use Rattle.adj_tree.specs.Code.{plain}
 use Rattle.adj_facts.specs.Rules.{list_of}
 use Rattle.adj_flow.specs.Rows.{row_of}
-use Rattle.adj_activity.specs.Nodes.{node_in}
-use Rattle.adj_activity.specs.View.{vars_of}
+use Rattle.adj_flow.specs.Nodes.{node_in}
+use Rattle.adj_flow.specs.NodeView.{vars_of}
 use Rattle.adj_activity.specs.Starts.{point_nodes}
 use Rattle.adj_activity.proofs.Flagging.{flagged_end}
 use Rattle.adj_activity.proofs.starts.add_flagged.Goals as goal

@@ -5,8 +5,8 @@ use Rattle.adj_tree.specs.Code.{plain}
 use Rattle.adj_facts.specs.Problem.{flagged}
 use Rattle.adj_facts.specs.Rules.{list_of}
 use Rattle.adj_flow.specs.Rows.{row_of}
-use Rattle.adj_activity.specs.Nodes.{node_in}
-use Rattle.adj_activity.specs.View.{vars_of}
+use Rattle.adj_flow.specs.Nodes.{node_in}
+use Rattle.adj_flow.specs.NodeView.{vars_of}
 use Rattle.adj_activity.specs.Starts.{point_nodes}
 use Rattle.adj_activity.proofs.starts.add_flagged.Given as goal
 

@@ -4,7 +4,7 @@ use Rattle.adj_tree.specs.Code.{plain}
 use Rattle.adj_facts.specs.Rules.{somewhere}
 use Rattle.adj_flow.specs.Rows.{row_of}
 use Rattle.adj_flow.specs.WayView.{way_of}
-use Rattle.adj_activity.specs.View.{told_at}
+use Rattle.adj_flow.specs.NodeView.{told_at}
 use Rattle.adj_activity.proofs.starts.somewhere.Given as goal
 
 abbrev pub invariant-loop-way : goal.invariant-loop-way

@@ -3,9 +3,8 @@ use Rattle.std.proofs.Common.{◌≡◌, ◌+◌, ◌*◌, ◌++◌, drop}
 use Rattle.std.specs.List.{flat_map}
 use Rattle.adj_tree.specs.Code.{plain}
 use Rattle.adj_flow.specs.Rows.{row_of}
-use Rattle.adj_activity.specs.Edges.{linked}
-use Rattle.adj_activity.specs.Nodes.{node_in}
-use Rattle.adj_activity.specs.View.{vars_of, names_of}
+use Rattle.adj_flow.specs.Nodes.{linked, node_in}
+use Rattle.adj_flow.specs.NodeView.{vars_of, names_of}
 use Rattle.adj_activity.proofs.statements.add_assigned.Given as goal
 
 abbrev pub invariant-loop-name : goal.invariant-loop-name

@@ -6,9 +6,8 @@ use Rattle.adj_facts.specs.Variables.{list_if}
 use Rattle.adj_flow.specs.Rows.{row_of}
 use Rattle.adj_flow.specs.WayView.{number_of, deed_of}
 use Rattle.adj_writes.proofs.Stepping.{flat_more}
-use Rattle.adj_activity.specs.Edges.{linked}
-use Rattle.adj_activity.specs.Nodes.{node_in}
-use Rattle.adj_activity.specs.View.{vars_of}
+use Rattle.adj_flow.specs.Nodes.{linked, node_in}
+use Rattle.adj_flow.specs.NodeView.{vars_of}
 use Rattle.adj_activity.proofs.ways.add_way.Goals as goal
 
 pub loop-name-preserved : goal.loop-name-preserved

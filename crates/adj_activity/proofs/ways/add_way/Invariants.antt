@@ -7,9 +7,9 @@ use Rattle.adj_facts.specs.Ways.{assigned_on, passed_on}
 use Rattle.adj_facts.specs.Variables.{list_if}
 use Rattle.adj_flow.specs.Rows.{row_of}
 use Rattle.adj_flow.specs.WayView.{number_of, way_of, deed_of}
-use Rattle.adj_activity.specs.Edges.{linked, way_edges}
-use Rattle.adj_activity.specs.Nodes.{node_in}
-use Rattle.adj_activity.specs.View.{vars_of}
+use Rattle.adj_flow.specs.Nodes.{linked, node_in}
+use Rattle.adj_activity.specs.Edges.{way_edges}
+use Rattle.adj_flow.specs.NodeView.{vars_of}
 use Rattle.adj_activity.proofs.ways.add_way.Given as goal
 
 abbrev pub invariant-loop-name : goal.invariant-loop-name

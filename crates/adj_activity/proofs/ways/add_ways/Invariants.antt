@@ -4,7 +4,7 @@ use Rattle.std.specs.List.{flat_map}
 use Rattle.adj_flow.specs.Rows.{row_of}
 use Rattle.adj_flow.specs.WayView.{way_of}
 use Rattle.adj_activity.specs.Edges.{way_edges}
-use Rattle.adj_activity.specs.View.{vars_of}
+use Rattle.adj_flow.specs.NodeView.{vars_of}
 use Rattle.adj_activity.proofs.ways.add_ways.Given as goal
 
 abbrev pub invariant-loop-way : goal.invariant-loop-way

@@ -2,7 +2,7 @@ use Rattle.std.proofs.Common.{ap, sym, ◌∙◌}
 use Rattle.adj_tree.specs.Code.{plain}
 use Rattle.adj_facts.specs.Ways.{assigned_on}
 use Rattle.adj_flow.specs.WayView.{deed_of}
-use Rattle.adj_activity.proofs.Naming.{named}
+use Rattle.adj_flow.proofs.Naming.{named}
 use Rattle.adj_activity.proofs.ways.is_assigned.Goals as goal
 
 pub returns-in-Assigning : goal.returns-in-Assigning

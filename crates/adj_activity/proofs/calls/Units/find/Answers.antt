@@ -1,7 +1,7 @@
 use Rattle.std.proofs.Common.{map, ap, sym, ◌∙◌}
 use Rattle.adj_flow.specs.Rows.{row_of}
 use Rattle.adj_writes.specs.Table.{value_of}
-use Rattle.adj_activity.specs.View.{found_at}
+use Rattle.adj_flow.specs.NodeView.{found_at}
 use Rattle.adj_writes.proofs.Lookups.{found_by}
 use Rattle.adj_activity.proofs.calls.Units.find.Goals as goal
 

@@ -6,6 +6,7 @@ use Rattle.adj_facts.specs.Problem.{Problem, TakesPart}
 use Rattle.adj_facts.specs.Activity.{IsPoint}
 use Rattle.adj_facts.specs.Rules.{Scope}
 use Rattle.adj_facts.specs.Flow.{Node}
+use Rattle.adj_reach.specs.Edges.{Edges}
 
 -- the place of a variable in a list, the first place being k
 abbrev pub place_in : ℕ → List Var → Var → Option ℕ
@@ -42,3 +43,9 @@ IsNumbered g u = g.number ≡ u
 
 abbrev pub HasVariable : Problem → Scope → ℕ → Node → ℕ → Type 0
 HasVariable k o w = HasNumber k o w IsNumbered
+
+-- an edge between two numbers, where both are there
+abbrev pub linked : Option ℕ → Option ℕ → Edges
+linked None n = []
+linked (Some m) None = []
+linked (Some m) (Some n) = (m, n) ∷ []

@@ -1,8 +1,8 @@
 -- The number of the place of the name.
 use Rattle.std.proofs.Common.{Some, ap, sym, ◌∙◌}
-use Rattle.adj_activity.specs.Nodes.{number_at}
-use Rattle.adj_activity.proofs.Naming.{placed}
-use Rattle.adj_activity.proofs.nodes.End.node.Goals as goal
+use Rattle.adj_flow.specs.Nodes.{number_at}
+use Rattle.adj_flow.proofs.Naming.{placed}
+use Rattle.adj_flow.proofs.nodes.End.node.Goals as goal
 
 pub returns-in-None : goal.returns-in-None
 returns-in-None c = record { node = ap (number_at c.args.width c.args.self.point) (sym c.in-None.is ∙ c.place.ensures.place ∙ sym (placed 0 c.args.self.part.now.variables.now c.args.self.name.now)) }

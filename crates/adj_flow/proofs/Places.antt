@@ -9,9 +9,8 @@ use Rattle.adj_facts.specs.Problem.{Problem, TakesPart}
 use Rattle.adj_facts.specs.Flow.{Node}
 use Rattle.adj_facts.specs.Rules.{Scope, list_of}
 use Rattle.adj_facts.proofs.Members.{is_first, is_later, is_among, is_none}
-use Rattle.adj_activity.specs.Nodes.{place_in, number_at, node_in, IsWide, HasNumber}
-use Rattle.adj_activity.specs.Edges.{linked}
-use Rattle.adj_activity.proofs.Images.{Images, images_one}
+use Rattle.adj_flow.specs.Nodes.{place_in, number_at, node_in, IsWide, HasNumber, linked}
+use Rattle.adj_flow.proofs.Images.{Images, images_one}
 
 -- ---- places
 

@@ -1,9 +1,9 @@
-//! What edges reach.
+//! What edges reach, where nobody says how many nodes there are.
 
 ghost use Rattle.std.specs.Prelude.{◌≡◌, ◌↔◌, ◌+◌, ◌<◌, ◌≤◌, ◌^◌, ℕ, All, IfOk, IsTrue};
 ghost use Rattle.adj_reach.specs.Edges.{AreBelow, ReachedFrom, ReachedBack, flag};
 
-use adj_reach::{reach, reach_back};
+use crate::paths::{reach, reach_back};
 use adj_tree::{Flags, Memory};
 use std::alloc::Global;
 
@@ -49,20 +49,18 @@ fn past(edges: &[(usize, usize)], start: &[usize]) -> Result<usize, Memory>
     Ok(past)
 }
 
-/// The nodes that paths from some nodes meet.
-pub(crate) fn reached(
-    alloc: Global,
-    edges: &[(usize, usize)],
-    start: &[usize],
-) -> Result<Flags, Memory>
+/// Which nodes a path from one of `start` meets, `start` itself included, whatever numbers the nodes have. A flag past the end
+/// counts as false.
+pub fn reached(alloc: Global, edges: &[(usize, usize)], start: &[usize]) -> Result<Flags, Memory>
     ensures exact { IfOk result (λ flags. (x : ℕ) → IsTrue (flag flags x) ↔ ReachedFrom edges.now start.now x) }
 {
     let nodes = past(edges, start)?;
     reach(alloc, nodes, edges, start)
 }
 
-/// The nodes that paths to some nodes meet.
-pub(crate) fn reached_back(
+/// Which nodes a path to one of `start` meets, `start` itself included, whatever numbers the nodes have. A flag past the end
+/// counts as false.
+pub fn reached_back(
     alloc: Global,
     edges: &[(usize, usize)],
     start: &[usize],

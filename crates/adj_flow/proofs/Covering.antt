@@ -9,8 +9,8 @@ use Rattle.adj_facts.specs.Rules.{Covers}
 use Rattle.adj_facts.proofs.Members.{map_has, filter_has, filter_only}
 use Rattle.adj_facts.proofs.Numbers.{part_is_there}
 use Rattle.adj_facts.proofs.PartsListed.{part_above}
-use Rattle.adj_activity.specs.Nodes.{IsWide}
-use Rattle.adj_activity.specs.View.{scope_by, HoldVariables}
+use Rattle.adj_flow.specs.Nodes.{IsWide}
+use Rattle.adj_flow.specs.Scoped.{scope_by, HoldVariables}
 
 module _ (k : Problem) (vss : List (List (List ℕ))) (takes : ℕ → Bool) where
   pub scope_covers : HoldVariables vss k.units → ((g : Part) → Contains (parts k.units) g → (takes g.number ≡ true) ↔ TakesPart k g) → Covers k (scope_by vss takes k.units)

@@ -1,6 +1,6 @@
 use Rattle.std.proofs.Common.{◌≤◌, arith}
-use Rattle.adj_activity.proofs.Greatest.{all_more, all_end}
-use Rattle.adj_activity.proofs.search.greatest_end.Goals as goal
+use Rattle.adj_reach.proofs.Greatest.{all_more, all_end}
+use Rattle.adj_reach.proofs.bounded.greatest_end.Goals as goal
 
 pub loop-edge-preserved : goal.loop-edge-preserved
 loop-edge-preserved c =

@@ -20,8 +20,8 @@ use Rattle.adj_facts.proofs.Numbers.{part_is_there}
 use Rattle.adj_facts.proofs.PartsListed.{part_own}
 use Rattle.adj_facts.proofs.Points.{one_point}
 use Rattle.adj_reach.specs.Edges.{flag}
-use Rattle.adj_activity.specs.Nodes.{node_in, IsNumbered, HasNumber}
-use Rattle.adj_activity.specs.Told.{points_of, unit_at, unit_of, flag_at, told_in}
+use Rattle.adj_flow.specs.Nodes.{node_in, IsNumbered, HasNumber}
+use Rattle.adj_flow.specs.Told.{points_of, unit_at, unit_of, flag_at, told_in}
 
 -- ---- the unit of a point
 

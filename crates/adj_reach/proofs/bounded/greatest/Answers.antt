@@ -1,6 +1,6 @@
 use Rattle.std.proofs.Common.{◌≤◌, arith}
-use Rattle.adj_activity.proofs.Greatest.{all_more, all_end}
-use Rattle.adj_activity.proofs.search.greatest.Goals as goal
+use Rattle.adj_reach.proofs.Greatest.{all_more, all_end}
+use Rattle.adj_reach.proofs.bounded.greatest.Goals as goal
 
 pub loop-number-preserved : goal.loop-number-preserved
 loop-number-preserved c =

@@ -7,10 +7,11 @@ ghost use Rattle.adj_facts.specs.Variables.{list_if};
 ghost use Rattle.adj_flow.specs.Rows.{row_of};
 ghost use Rattle.adj_flow.specs.WayView.{number_of};
 ghost use Rattle.adj_reach.specs.Edges.{flag};
-ghost use Rattle.adj_activity.specs.Edges.{linked};
-ghost use Rattle.adj_activity.specs.View.{end_node, told_at};
+ghost use Rattle.adj_flow.specs.Nodes.{linked};
+ghost use Rattle.adj_flow.specs.NodeView.{end_node, told_at};
 
-use adj_flow::{Part, Point};
+use crate::row::Part;
+use crate::way::Point;
 use adj_tree::{Memory, Name};
 
 /// A variable of a unit at a point.
@@ -32,7 +33,7 @@ fn node_at(point: usize, width: usize, place: usize) -> Result<usize, Memory>
 
 impl End<'_, '_> {
     /// Its number. An error means that numbers don't reach so far.
-    pub(crate) fn node(self, width: usize) -> Result<Option<usize>, Memory>
+    pub fn node(self, width: usize) -> Result<Option<usize>, Memory>
         ensures node { IfOk result (λ n. n ≡ end_node width self.entry) }
     {
         match self.part.place(self.name) {
@@ -52,7 +53,7 @@ fn point_of(statement: usize, place: usize) -> Result<usize, Memory>
 }
 
 /// The number of a point.
-pub(crate) fn number(point: Point) -> Result<usize, Memory>
+pub fn number(point: Point) -> Result<usize, Memory>
     ensures number { IfOk result (λ p. p ≡ number_of point) }
 {
     match point {
@@ -64,14 +65,14 @@ pub(crate) fn number(point: Point) -> Result<usize, Memory>
 }
 
 /// The flag at a place.
-pub(crate) fn flag_at(flags: &[bool], place: usize) -> bool
+pub fn flag_at(flags: &[bool], place: usize) -> bool
     ensures { result ≡ flag flags.now place }
 {
     flags.get(place).copied().unwrap_or(false)
 }
 
 /// The flag of a variable at a point.
-pub(crate) fn told(flags: &[bool], width: usize, end: End<'_, '_>) -> Result<bool, Memory>
+pub fn told(flags: &[bool], width: usize, end: End<'_, '_>) -> Result<bool, Memory>
     ensures told { IfOk result (λ b. b ≡ told_at flags.now width (row_of end.entry.part.now) end.entry.point (plain end.entry.name.now)) }
 {
     match end.node(width)? {
@@ -81,7 +82,7 @@ pub(crate) fn told(flags: &[bool], width: usize, end: End<'_, '_>) -> Result<boo
 }
 
 /// Adds an edge between two variables at points.
-pub(crate) fn add_edge(
+pub fn add_edge(
     edges: &mut Vec<(usize, usize)>,
     width: usize,
     from: End<'_, '_>,
@@ -101,7 +102,7 @@ pub(crate) fn add_edge(
 }
 
 /// Adds the number of a variable at a point, if it is wanted.
-pub(crate) fn add_node(
+pub fn add_node(
     nodes: &mut Vec<usize>,
     width: usize,
     end: End<'_, '_>,

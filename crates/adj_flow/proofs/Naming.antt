@@ -5,7 +5,7 @@ use Rattle.adj_tree.specs.Code.{plain, name_eq}
 use Rattle.adj_tree.proofs.Names.{name_same, name_refl}
 use Rattle.adj_facts.proofs.Sets.{same_truth}
 use Rattle.adj_flow.specs.Places.{place_from}
-use Rattle.adj_activity.specs.Nodes.{place_in}
+use Rattle.adj_flow.specs.Nodes.{place_in}
 
 -- the place of a name is that of its variable
 pub placed : (k : ℕ) (ys : List (List ℕ)) (x : List ℕ) → place_in k (map (λ y. plain y) ys) (plain x) ≡ place_from k ys x
