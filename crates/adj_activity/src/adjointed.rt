@@ -14,7 +14,8 @@ ghost use Rattle.adj_activity.specs.Starts.{row_activity, outright_at, outright_
 
 use crate::adjoints::statement;
 use crate::found::Found;
-use adj_flow::{End, Flow, Part, Point, Standing, flag_at, number, told};
+use adj_flow::{End, Flow, Part, Point, Standing, number, told};
+use adj_reach::flag_at;
 use adj_tree::{Act, Exprs, Memory, Name, Place};
 use std::alloc::Global;
 

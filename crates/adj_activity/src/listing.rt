@@ -13,7 +13,8 @@ use crate::calls::{Units, add_call};
 use crate::statements::add_assignment;
 use crate::steps::{Site, Steps};
 use crate::ways::add_ways;
-use adj_flow::{Flow, Standing, flag_at};
+use adj_flow::{Flow, Standing};
+use adj_reach::flag_at;
 use adj_tree::Memory;
 use std::alloc::Global;
 

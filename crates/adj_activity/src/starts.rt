@@ -11,7 +11,8 @@ ghost use Rattle.adj_flow.specs.NodeView.{told_at};
 ghost use Rattle.adj_activity.specs.Starts.{point_nodes, active_nodes, all_active};
 
 use crate::found::Sets;
-use adj_flow::{End, Flow, Part, Way, add_node, flag_at, number, told};
+use adj_flow::{End, Flow, Part, Way, add_node, number, told};
+use adj_reach::flag_at;
 use adj_tree::{Memory, Name};
 
 /// Adds the numbers at a point of those dummies of a unit that are flagged.

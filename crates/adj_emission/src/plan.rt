@@ -19,7 +19,7 @@ use std::alloc::Global;
 #[derive(Clone, Copy)]
 pub struct Plan<'a> {
     pub names: &'a Names,
-    pub marks: &'a Marking,
+    pub marks: &'a Marking<'a>,
     pub arrays: &'a NameSet,
     pub callees: &'a Callees,
 }

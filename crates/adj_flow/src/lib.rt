@@ -14,7 +14,7 @@ mod standing;
 mod units;
 mod way;
 
-pub use nodes::{End, add_edge, add_node, flag_at, number, told};
+pub use nodes::{End, add_edge, add_node, number, told};
 pub use outline::Outline;
 pub use part::taking_part;
 pub use row::Part;

@@ -6,12 +6,12 @@ ghost use Rattle.adj_facts.specs.Rules.{list_of};
 ghost use Rattle.adj_facts.specs.Variables.{list_if};
 ghost use Rattle.adj_flow.specs.Rows.{row_of};
 ghost use Rattle.adj_flow.specs.WayView.{number_of};
-ghost use Rattle.adj_reach.specs.Edges.{flag};
 ghost use Rattle.adj_flow.specs.Nodes.{linked};
 ghost use Rattle.adj_flow.specs.NodeView.{end_node, told_at};
 
 use crate::row::Part;
 use crate::way::Point;
+use adj_reach::flag_at;
 use adj_tree::{Memory, Name};
 
 /// A variable of a unit at a point.
@@ -62,13 +62,6 @@ pub fn number(point: Point) -> Result<usize, Memory>
         Point::Inside(i) => point_of(i, 2),
         Point::At(p) => Ok(p),
     }
-}
-
-/// The flag at a place.
-pub fn flag_at(flags: &[bool], place: usize) -> bool
-    ensures { result ≡ flag flags.now place }
-{
-    flags.get(place).copied().unwrap_or(false)
 }
 
 /// The flag of a variable at a point.

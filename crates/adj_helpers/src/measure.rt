@@ -122,7 +122,12 @@ fn with_own(base: Measure, own: bool) -> Result<Measure, Memory>
 }
 
 /// The measure of a term of a statement, in one pass, where its own adjoint stands in the work variable of this number.
-pub fn measured(marks: &Marking, number: usize, e: &Expr, work: usize) -> Result<Measure, Memory>
+pub fn measured(
+    marks: &Marking<'_>,
+    number: usize,
+    e: &Expr,
+    work: usize,
+) -> Result<Measure, Memory>
     ensures active { IfOk result (λ m. m.active ≡ is_active_where (active_at (marks_of marks.now) number) (term_of e.now)) }
     ensures temps { IfOk result (λ m. m.temps ≡ temps_in_where (active_at (marks_of marks.now) number) (term_of e.now)) }
     ensures works { IfOk result (λ m. m.works ≡ works_in_where (active_at (marks_of marks.now) number) (term_of e.now) work) }

@@ -18,7 +18,7 @@ use adj_tree::{Expr, Exprs, Memory, Name, Place};
 /// The marks of a unit, and what is known of the units that it calls.
 #[derive(Clone, Copy)]
 pub struct Known<'a> {
-    pub marks: &'a Marking,
+    pub marks: &'a Marking<'a>,
     pub callees: &'a Callees,
 }
 

@@ -7,6 +7,13 @@ use crate::paths::{reach, reach_back};
 use adj_tree::{Flags, Memory};
 use std::alloc::Global;
 
+/// The flag at a place. Past the end it is false.
+pub fn flag_at(flags: &[bool], place: usize) -> bool
+    ensures { result ≡ flag flags.now place }
+{
+    flags.get(place).copied().unwrap_or(false)
+}
+
 // The greater of two numbers.
 fn greater(a: usize, b: usize) -> usize
     ensures first { a ≤ result }

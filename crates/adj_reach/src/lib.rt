@@ -16,6 +16,6 @@ mod tests;
 mod variables;
 
 pub use arc::{Arc, Kind};
-pub use bounded::{reached, reached_back};
+pub use bounded::{flag_at, reached, reached_back};
 pub use paths::{reach, reach_back};
 pub use variables::spread;

@@ -18,7 +18,7 @@ use std::alloc::Global;
 #[derive(Clone, Copy)]
 pub struct Site<'a> {
     pub names: &'a Names,
-    pub marks: &'a Marking,
+    pub marks: &'a Marking<'a>,
     pub number: usize,
     pub line: u32,
 }

@@ -35,7 +35,7 @@ fn shadow_declaration(alloc: Global, n: &Names, decl: &Decl, x: &Name) -> Result
 fn declare_variable(
     alloc: Global,
     n: &Names,
-    marking: &Marking,
+    marking: &Marking<'_>,
     own: Decl,
     x: &Name,
     made: &mut Vec<Decl>,
@@ -56,7 +56,7 @@ fn declare_variable(
 pub fn declare_variables(
     alloc: Global,
     n: &Names,
-    marking: &Marking,
+    marking: &Marking<'_>,
     line: u32,
     declared: &Declared,
     names: &[Name],
@@ -92,7 +92,7 @@ pub fn declare_helpers(
 pub fn declarations(
     alloc: Global,
     n: &Names,
-    marking: &Marking,
+    marking: &Marking<'_>,
     unit: &Unit,
     variables: &[Name],
     helpers: &[Helper],

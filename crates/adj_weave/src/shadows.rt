@@ -15,7 +15,7 @@ use std::alloc::Global;
 // The name behind the others, if it has a shadow.
 fn push_shadowed(
     alloc: Global,
-    marking: &Marking,
+    marking: &Marking<'_>,
     x: &Name,
     made: &mut Vec<Name>,
 ) -> Result<(), Memory>
@@ -28,7 +28,11 @@ fn push_shadowed(
 }
 
 /// Those of the variables that have a shadow, in order.
-pub fn shadowed(alloc: Global, marking: &Marking, variables: &[Name]) -> Result<Vec<Name>, Memory>
+pub fn shadowed(
+    alloc: Global,
+    marking: &Marking<'_>,
+    variables: &[Name],
+) -> Result<Vec<Name>, Memory>
     ensures names { IfOk result (λ v. v.items ≡ names_in (marks_of marking.now).shadowed variables.now) }
 {
     let mut made = Vec::new(alloc);
@@ -42,7 +46,7 @@ pub fn shadowed(alloc: Global, marking: &Marking, variables: &[Name]) -> Result<
 fn push_with_shadow(
     alloc: Global,
     n: &Names,
-    marking: &Marking,
+    marking: &Marking<'_>,
     x: &Name,
     made: &mut Vec<Name>,
 ) -> Result<(), Memory>
@@ -59,7 +63,7 @@ fn push_with_shadow(
 pub fn with_shadows(
     alloc: Global,
     n: &Names,
-    marking: &Marking,
+    marking: &Marking<'_>,
     dummies: &[Name],
 ) -> Result<Vec<Name>, Memory>
     ensures names { IfOk result (λ v. v.items ≡ shadows_behind (marks_of marking.now).shadowed (table_of n.now) dummies.now) }
