@@ -18,14 +18,14 @@ use std::alloc::Global;
 
 /// The units of a program, with their numbers by name.
 #[derive(Clone, Copy)]
-pub(crate) struct Units<'p, 'a> {
+pub struct Units<'p, 'a> {
     pub parts: &'p [Part<'a>],
     pub numbers: &'p Numbers<'a>,
 }
 
 impl<'p, 'a> Units<'p, 'a> {
     /// The first unit of a name.
-    pub(crate) fn find(self, name: &Name) -> Option<&'p Part<'a>>
+    pub fn find(self, name: &Name) -> Option<&'p Part<'a>>
         ensures found { MatchOption result (found_at (map row_of self.entry.parts.now) (value_of name.now self.entry.numbers.now) ≡ None) (λ p. found_at (map row_of self.entry.parts.now) (value_of name.now self.entry.numbers.now) ≡ Some (row_of p.now)) }
     {
         match self.numbers.get(name) {
@@ -58,8 +58,8 @@ fn add_pair<'a>(
     }
 }
 
-// The dummies with their actuals that are variables.
-fn pairs<'a>(
+/// The dummies with their actuals that are variables.
+pub fn pairs<'a>(
     alloc: Global,
     dummies: &'a [Name],
     actuals: &'a Exprs,

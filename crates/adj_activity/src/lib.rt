@@ -19,6 +19,7 @@ mod ways;
 
 ghost use Rattle.adj_activity.specs.Laws.{ActivityIsTold, VariablesHold};
 
+pub use calls::{Units, pairs};
 pub use finding::activity;
 pub use program_flow::flow;
 

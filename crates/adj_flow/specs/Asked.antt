@@ -3,16 +3,13 @@ use Rattle.std.specs.Prelude.{◌≡◌, ◌↔◌, ◌<◌, ◌≤◌, ℕ, Lis
 use Rattle.adj_tree.specs.Code.{Procedure}
 use Rattle.adj_tree.specs.View.{procedure_of}
 use Rattle.adj_tree.specs.declared.marks.Head.{Head}
-use Rattle.adj_tree.specs.declared.marks.Activity as flags
 use Rattle.adj_facts.specs.Parts.{Part, parts}
 use Rattle.adj_facts.specs.Problem.{Problem, TakesPart}
-use Rattle.adj_facts.specs.Activity.{Activity}
 use Rattle.adj_writes.specs.Table.{value_of}
 use Rattle.adj_flow.specs.Places.{place_from}
 use Rattle.adj_flow.specs.Rows.{row_of, rows}
 use Rattle.adj_flow.specs.declared.units.Flow.{Flow}
 use Rattle.adj_reach.specs.Edges.{flag}
-use Rattle.adj_activity.specs.Told.{activity_told}
 use Rattle.adj_flow.specs.Scoped.{scope_by, HoldVariables}
 
 -- the units, and the variables of each
