@@ -1,6 +1,6 @@
 //! Where the marks come from, and what they say (docs/EMITTED.md, "Sweeps of every statement").
 
-ghost use Rattle.std.specs.Prelude.{◌≡◌, ◌||◌};
+ghost use Rattle.std.specs.Prelude.{◌≡◌, ◌*◌, ◌||◌};
 ghost use Rattle.adj_tree.specs.Code.{plain};
 ghost use Rattle.adj_transpose.specs.Marks.{active_at, point_before};
 ghost use Rattle.adj_reach.specs.Edges.{flag};
@@ -35,6 +35,31 @@ fn flag_of(flags: &[bool], width: usize, number: usize, place: Option<usize>) ->
     }
 }
 
+// The same where the point before a statement has three times its number.
+fn flag_before(flags: &[bool], width: usize, number: usize, place: Option<usize>) -> bool
+    ensures { result ≡ flag_of flags.now width (3 * number) place }
+{
+    let Some(place) = place else { return false };
+    let node = number
+        .checked_mul(width)
+        .and_then(|first| first.checked_mul(3))
+        .and_then(|first| first.checked_add(place));
+    match node {
+        Some(node) => flag_at(flags, node),
+        None => false,
+    }
+}
+
+// The flag at twice a number.
+fn flag_at_twice(flags: &[bool], number: usize) -> bool
+    ensures { result ≡ flag flags.now (2 * number) }
+{
+    match number.checked_mul(2) {
+        Some(node) => flag_at(flags, node),
+        None => false,
+    }
+}
+
 impl Found<'_> {
     // Whether the forward sweep repeats the statement.
     fn kept(&self, number: usize) -> bool
@@ -47,10 +72,7 @@ impl Found<'_> {
     fn adjointed(&self, number: usize) -> bool
         ensures { result ≡ flag self.now.marks.now.activity.adjointed (2 * number) }
     {
-        match number.checked_mul(2) {
-            Some(node) => flag_at(self.marks.activity.adjointed.as_slice(), node),
-            None => false,
-        }
+        flag_at_twice(self.marks.activity.adjointed.as_slice(), number)
     }
 
     // Whether the value of the variable is saved where the statement overwrites it.
@@ -81,15 +103,12 @@ impl Found<'_> {
     fn varied(&self, number: usize, x: &Name) -> bool
         ensures { result ≡ flag_of self.now.marks.now.activity.varied self.now.width (point_before number) (place_of self.now.places.now (plain x.now)) }
     {
-        match number.checked_mul(3) {
-            Some(point) => flag_of(
-                self.marks.activity.varied.as_slice(),
-                self.width,
-                point,
-                self.places.get(x),
-            ),
-            None => false,
-        }
+        flag_before(
+            self.marks.activity.varied.as_slice(),
+            self.width,
+            number,
+            self.places.get(x),
+        )
     }
 }
 
