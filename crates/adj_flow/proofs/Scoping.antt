@@ -1,28 +1,24 @@
 -- The rows of the units that take part are those of the definitions, and so is what is told of them.
-use Rattle.std.proofs.Common.{◌≡◌, ℕ, suc, ◌+◌, ◌-◌, ◌*◌, ◌≤◌, List, [], ◌∷◌, ◌++◌, Bool, true, false, map, refl, sym, ap, ◌∙◌, arith, append-nil}
-use Rattle.std.specs.Prelude.{Contains, Option, Some, None, filter, flat_map, slice_get, if◌then◌else◌, slice_index_or}
-use Rattle.std.specs.Borrow.{Bor}
+use Rattle.std.proofs.Common.{◌≡◌, ℕ, suc, ◌-◌, ◌≤◌, List, [], ◌∷◌, ◌++◌, Bool, true, false, map, refl, sym, ap, ◌∙◌, arith}
+use Rattle.std.specs.Prelude.{Contains, Option, Some, None, filter, flat_map, slice_get, if◌then◌else◌}
 use Rattle.std.specs.Option.{option_map}
 use Rattle.std.proofs.lemmas.List.{map-append}
 use Rattle.std.proofs.lemmas.List.Concat.{flat_map-cons}
 use Rattle.std.proofs.lemmas.List.Folds.{flat_map-map}
-use Rattle.adj_tree.specs.Code.{Var, plain, name_eq, Terms, Act, assign, choose, loop, during, call, runtime, Procedure}
+use Rattle.adj_tree.specs.Code.{Var, plain, name_eq, Procedure}
 use Rattle.adj_tree.proofs.Names.{name_same, name_refl}
 use Rattle.adj_transpose.specs.Marks.{behind}
-use Rattle.adj_facts.specs.Reached.{leads}
 use Rattle.adj_facts.specs.Parts.{Part, part, parts_from, statements_in, parts, find_part}
-use Rattle.adj_facts.specs.Standing.{Standing}
 use Rattle.adj_facts.specs.Variables.{list_if}
-use Rattle.adj_facts.specs.Problem.{Problem, statements_of, ways_of, TakesPart, bound}
-use Rattle.adj_facts.specs.Activity.{Adjoint, statement, unit, IsPoint}
-use Rattle.adj_facts.specs.Rules.{Scope, Covers, with_args, called, at_actuals, holders, adjoint_steps_at}
+use Rattle.adj_facts.specs.Problem.{Problem, TakesPart}
+use Rattle.adj_facts.specs.Activity.{IsPoint}
+use Rattle.adj_facts.specs.Rules.{Scope, Covers}
 use Rattle.adj_facts.proofs.Members.{is_first, is_later}
-use Rattle.adj_facts.proofs.OwnPoints.{entry_point}
 use Rattle.adj_facts.proofs.Sets.{same_truth}
 use Rattle.adj_flow.specs.Places.{place_from}
 use Rattle.adj_flow.specs.Rows.{Row, row_at, row_in, rows}
-use Rattle.adj_reach.specs.Edges.{Edges, flag}
-use Rattle.adj_flow.specs.Nodes.{node_in, linked}
+use Rattle.adj_reach.specs.Edges.{flag}
+use Rattle.adj_flow.specs.Nodes.{node_in}
 use Rattle.adj_flow.specs.Told.{flag_at, told_in, told}
 use Rattle.adj_flow.specs.NodeView.{told_at, found_at}
 use Rattle.adj_flow.specs.Scoped.{scope_by}

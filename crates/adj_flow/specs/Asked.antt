@@ -10,7 +10,7 @@ use Rattle.adj_flow.specs.Places.{place_from}
 use Rattle.adj_flow.specs.Rows.{row_of, rows}
 use Rattle.adj_flow.specs.declared.units.Flow.{Flow}
 use Rattle.adj_reach.specs.Edges.{flag}
-use Rattle.adj_flow.specs.Scoped.{scope_by, HoldVariables}
+use Rattle.adj_flow.specs.Scoped.{HoldVariables}
 
 -- the units, and the variables of each
 abbrev pub units_of : Flow → List Procedure

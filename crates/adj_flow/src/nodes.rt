@@ -16,7 +16,7 @@ use adj_tree::{Memory, Name};
 
 /// A variable of a unit at a point.
 #[derive(Clone, Copy)]
-pub(crate) struct End<'p, 'a> {
+pub struct End<'p, 'a> {
     pub part: &'p Part<'a>,
     pub point: usize,
     pub name: &'p Name,
