@@ -3,11 +3,12 @@ use Rattle.std.specs.Prelude.{ℕ}
 use Rattle.adj_tree.specs.Code.{plain}
 use Rattle.adj_tree.specs.declared.marks.Activity as flags
 use Rattle.adj_tree.specs.declared.marks.Kept.{Kept}
-use Rattle.adj_transpose.specs.Marks.{Vars}
+use Rattle.adj_tree.specs.declared.marks.Saved.{Saved}
+use Rattle.adj_transpose.specs.Marks.{Vars, point_before}
 use Rattle.adj_facts.specs.Activity.{Activity}
 use Rattle.adj_facts.specs.Live.{Liveness}
 use Rattle.adj_reach.specs.Edges.{flag}
-use Rattle.adj_flow.specs.Told.{told_of}
+use Rattle.adj_flow.specs.Told.{unit_at, told_in, told_of}
 use Rattle.adj_flow.specs.Scoped.{scope_by}
 use Rattle.adj_flow.specs.Asked.{units_of, variables_of}
 use Rattle.adj_flow.specs.declared.units.Flow.{Flow}
@@ -24,3 +25,8 @@ liveness_of needed f t = record {
   kept = flag t.kept;
   wanted = λ u d. told_of t.entry (scope_by (variables_of f) (flag f.taking) (units_of f)) f.width u (plain d);
 }
+
+-- the variables that the i-th statement saves: those of its unit whose flags are set at i
+abbrev pub saved_of : Flow → Saved → ℕ → Vars
+saved_of f s i =
+    told_in s.saved (scope_by (variables_of f) (flag f.taking) (units_of f)) f.width i (unit_at (scope_by (variables_of f) (flag f.taking) (units_of f)).parts (point_before i))
