@@ -1,10 +1,11 @@
 -- Where backward sweeps are empty.
-use Rattle.std.proofs.Common.{◌≡◌, ℕ, Bool, true, false, not, List, [], ◌∷◌, map, refl, ap, ◌∙◌}
+use Rattle.std.proofs.Common.{◌≡◌, ℕ, Bool, true, false, not, List, [], ◌∷◌, map, pos, refl, ap, ◌∙◌}
 use Rattle.std.specs.Prelude.{◌&&◌, ◌||◌, if◌then◌else◌}
-use Rattle.adj_tree.specs.Code.{plain, Act, Code, stop, step}
+use Rattle.adj_tree.specs.Code.{plain, shadow, helper, work, Term, lit, Terms, none, Act, assign, Code, stop, step}
 use Rattle.adj_meaning.specs.Append.{◌+++◌, one}
 use Rattle.adj_transpose.specs.Marks.{Vars}
-use Rattle.adj_transpose.specs.Marked.{code_if}
+use Rattle.adj_transpose.specs.Marked.{code_if, place}
+use Rattle.adj_reverse.specs.AdjointOf.{is_active_where, temps_where, back_where, adjoint_where}
 use Rattle.adj_reverse.specs.Plan.{Callee, Plan, group}
 use Rattle.adj_reverse.specs.Emission.{is_empty, pop, pops, told_backward, backward_act, backward}
 use Rattle.adj_helpers.specs.Callees.{seen}
@@ -58,3 +59,13 @@ pub told_there : (b idle : Bool) (line : ℕ) (c d : Code) → is_empty (code_if
 told_there true true line c d = refl
 told_there true false line c d = refl
 told_there false idle line c d = refl
+
+-- an adjointed assignment has its adjoint
+pub adjoint_assigned : (on : Vars) (t : List ℕ) (subs : Terms) (e : Term) (line : ℕ) (first : Code) (b : Bool) → b ≡ true → is_empty (first +++ code_if b (adjoint_where on t subs e line)) ≡ false
+adjoint_assigned on t subs e line first b h =
+    let front = code_if (is_active_where on e) (temps_where on e 1 line +++ one line (assign (helper work 1) none (place (shadow t) subs))) in
+    let back = one line (assign (shadow t) subs (lit (pos 0))) +++ code_if (is_active_where on e) (back_where on e 1 1 line) in
+    empty_append first (code_if b (adjoint_where on t subs e line))
+    ∙ ap (λ z. is_empty first && is_empty (code_if z (adjoint_where on t subs e line))) h
+    ∙ ap (λ z. is_empty first && z) (empty_append front back ∙ and_false (is_empty front))
+    ∙ and_false (is_empty first)
