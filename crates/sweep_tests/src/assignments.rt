@@ -35,9 +35,10 @@ fn element(alloc: Global) -> Result<Place, Memory> {
 // Whether these lines are the adjoint of the assignment.
 fn has_adjoint(alloc: Global, target: &Place, e: &Expr, lines: &str) -> Result<bool, Memory> {
     let names = names(alloc, &PLAIN)?;
+    let marks: Marking<'static> = Marking::Full;
     let site = Site {
         names: &names,
-        marks: &Marking::Full,
+        marks: &marks,
         number: 0,
         line: 1,
     };

@@ -24,7 +24,7 @@ fn assigned(alloc: Global) -> Result<Stmts, Memory> {
 }
 
 fn used_in(alloc: Global, body: &Stmts) -> Result<Vec<Helper>, Memory> {
-    let marks = Marking::Full;
+    let marks: Marking<'static> = Marking::Full;
     let callees = no_callees(alloc)?;
     let known = Known {
         marks: &marks,

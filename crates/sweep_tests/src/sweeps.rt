@@ -29,9 +29,10 @@ fn adjoint_of(alloc: Global, statements: &Stmts) -> Result<Stmts, Memory> {
     let names = names(alloc, &SCALARS)?;
     let arrays = NameSet::new(alloc);
     let callees = no_callees(alloc)?;
+    let marks: Marking<'static> = Marking::Full;
     let plan = Plan {
         names: &names,
-        marks: &Marking::Full,
+        marks: &marks,
         arrays: &arrays,
         callees: &callees,
     };
