@@ -1,9 +1,9 @@
 -- Units are found by their numbers.
 use Rattle.std.proofs.Common.{◌≡◌, ℕ, zero, suc, ◌+◌, ◌<◌, ◌≤◌, Bool, true, false, List, [], ◌∷◌, map, length, get_or, refl, sym, ap, ◌∙◌, arith, if◌then◌else◌}
-use Rattle.std.specs.Prelude.{slice_get, nat_lt, Option, Some, None}
+use Rattle.std.specs.Prelude.{slice_get, nat_lt, Some}
 use Rattle.adj_tree.specs.Code.{name_eq, Procedure}
 use Rattle.adj_tree.proofs.Names.{name_refl, name_same}
-use Rattle.adj_meaning.specs.Agree.{stands_among, AreApart}
+use Rattle.adj_meaning.specs.Agree.{AreApart}
 use Rattle.adj_meaning.specs.Written.{find_unit}
 use Rattle.adj_tree.specs.View.{procedure_of}
 use Rattle.adj_tree.specs.declared.unit.Unit.{Unit}

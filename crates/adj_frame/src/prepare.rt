@@ -13,7 +13,7 @@ use crate::directory::Directory;
 use crate::numbering::Numbering;
 use crate::step::{Bounds, Cell, Marking, Service, Step, Steps, Task};
 use crate::term::{Term, Terms, Test};
-use adj_tree::{Act, Cond, Expr, Exprs, Mark, Memory, Name, Place, RunCall, Stmt, Stmts};
+use adj_tree::{Act, Cond, Expr, Exprs, Mark, Memory, Name, Place, RunCall, Stmts};
 use std::alloc::Global;
 
 impl<'a> Numbering<'a> {

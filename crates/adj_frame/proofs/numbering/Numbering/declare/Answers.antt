@@ -1,4 +1,4 @@
-use Rattle.std.proofs.Common.{◌≤◌, map, length, sym, ap, subst, ◌∙◌, arith}
+use Rattle.std.proofs.Common.{map, length, subst, ◌∙◌, arith}
 use Rattle.adj_tree.specs.View.{extent_of, declaration_of}
 use Rattle.adj_frame.specs.Numbered.{Resolves}
 use Rattle.adj_frame.specs.Called.{extents_at, IsLayoutBelow}
