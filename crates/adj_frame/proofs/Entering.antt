@@ -69,7 +69,7 @@ entered_helper [] got x j h = refl
 entered_helper (d ∷ ds) [] x j h = refl
 entered_helper (d ∷ ds) (g ∷ got) x j h = ap (λ b. if b then g.cells j else entry_store words ds got x j) (h d) ∙ entered_helper ds got x j h
 
-undeclared : (ds : List Declaration) (x : Var) → ((y : List ℕ) → var_eq x (plain y) ≡ false) → declared ds x ≡ []
+pub undeclared : (ds : List Declaration) (x : Var) → ((y : List ℕ) → var_eq x (plain y) ≡ false) → declared ds x ≡ []
 undeclared [] x h = refl
 undeclared (d ∷ ds) x h = ap (λ b. if b then d.extents else declared ds x) (h d.name) ∙ undeclared ds x h
 

@@ -5,6 +5,7 @@ pub mod Numberings
 pub mod Resolving
 pub mod Giving
 pub mod Entering
+pub mod Suiting
 pub mod Returning
 pub mod Listing
 pub mod Declarations

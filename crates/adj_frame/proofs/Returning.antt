@@ -1,10 +1,10 @@
 -- What is handed back, dummy by dummy.
-use Rattle.std.proofs.Common.{◌≡◌, ℕ, zero, suc, ◌+◌, ◌<◌, ◌≤◌, Bool, true, false, List, [], ◌∷◌, length, get_or, drop, refl, sym, ap, subst, ◌∙◌, arith, if◌then◌else◌}
+use Rattle.std.proofs.Common.{◌≡◌, ℕ, ◌+◌, ◌<◌, ◌≤◌, Bool, true, false, List, [], ◌∷◌, length, get_or, drop, refl, sym, ap, subst, ◌∙◌, arith, if◌then◌else◌}
 use Rattle.std.specs.Prelude.{ℤ, nat_lt, ◌&&◌}
 use Rattle.std.proofs.lemmas.List.{drop_all, drop_more, get_or_append_left, length-append}
 use Rattle.adj_tree.specs.Code.{Var, plain}
 use Rattle.adj_meaning.specs.Store.{Shape, Store}
-use Rattle.adj_meaning.specs.Units.{Place, put, Actual, copied_out}
+use Rattle.adj_meaning.specs.Units.{put, Actual, copied_out}
 use Rattle.adj_meaning.proofs.Booleans.{and_true}
 use Rattle.adj_frame.specs.declared.slot.Slot.{Slot}
 use Rattle.adj_frame.specs.declared.actual.Actual.{Actual as CodeActual}

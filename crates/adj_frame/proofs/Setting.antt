@@ -13,6 +13,7 @@ use Rattle.adj_frame.specs.declared.slot.Slot.{Slot}
 use Rattle.adj_frame.specs.Prepared.{var_at}
 use Rattle.adj_frame.specs.Framed.{in_slot, slot_shape, IsSlot, IsFrame, shapes_in, store_in}
 use Rattle.adj_frame.specs.Shown.{Shows}
+use Rattle.adj_frame.specs.Suited.{counts_in}
 use Rattle.adj_frame.proofs.Reading.{other_name, at_number}
 
 module _ {A : Type 0} (other : A) (f : Slot → A) (e d : Slot) where
@@ -72,6 +73,11 @@ kept_sizes vs i e d lt h k g = go (k == i) refl
         let s : k ≡ i = grind arith in
         ap (λ (v : Slot). length v.cells.items) (get_or-set_at vs i k e g s lt) ∙ h ∙ ap (λ (v : Slot). length v.cells.items) (get_or_default vs i d g lt) ∙ ap (λ j. length (get_or vs j g).cells.items) (sym s)
     go false q = let s : k ≢ i = grind arith in ap (λ (v : Slot). length v.cells.items) (get_or-set_other vs i k e g s)
+
+pub kept_counts : (vs : List Slot) (i : ℕ) (e d : Slot) → i < length vs → length e.cells.items ≡ length (get_or vs i d).cells.items → counts_in (set vs i e) ≡ counts_in vs
+kept_counts [] i e d lt h = absurd (omega arith)
+kept_counts (v ∷ vs) zero e d lt h = ap (λ n. n ∷ counts_in vs) h
+kept_counts (v ∷ vs) (suc i) e d lt h = ap (λ ns. length v.cells.items ∷ ns) (kept_counts vs i e d (omega arith) h)
 
 module _ (names : List (List ℕ)) (vs : List Slot) (i : ℕ) (e d : Slot) (cell : ℕ) (w : ℤ) (f : IsFrame names vs) (there : i < length vs) (shapes : slot_shape e ≡ slot_shape (get_or vs i d)) (cells : e.cells.items ≡ set (get_or vs i d).cells.items cell w) (within : cell < length (get_or vs i d).cells.items) (shape : Var → Shape) (s : Store ℤ) (h : Shows names vs shape s) where
   cells_plain : (y : List ℕ) (j : ℕ) → j < size_of (shape (plain y)) → (if name_eq y (get_or names i []) && (j == cell) then w else s (plain y) j) ≡ in_slot (pos 0) (λ v. get_or v.cells.items j (pos 0)) names (set vs i e) y

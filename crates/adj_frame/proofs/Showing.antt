@@ -8,13 +8,17 @@ use Rattle.adj_meaning.specs.Store.{Shape, size_of, Store, cell_of}
 use Rattle.adj_meaning.specs.Value.{Setting, exponent_of, value, values, cell_at, target, holds}
 use Rattle.adj_meaning.proofs.Cells.{size_positive, cell_below}
 use Rattle.adj_frame.specs.declared.slot.Slot.{Slot}
-use Rattle.adj_frame.specs.Framed.{store_in, setting_in_slots}
+use Rattle.adj_frame.specs.Framed.{shapes_in, store_in, setting_in_slots}
 use Rattle.adj_frame.specs.Shown.{on_words, Shows}
 
 -- what goes on alike from the same first result
 same_ok : {A B : Type 0} (v w : Result A Trap) (f g : A → Result B Trap) → v ≡ w → ((a : A) → v ≡ Ok a → f a ≡ g a) → then_ok v f ≡ then_ok w g
 same_ok (Ok a) w f g e h = h a refl ∙ ap (λ z. then_ok z g) e
 same_ok (Err t) w f g e h = ap (λ z. then_ok z g) e
+
+-- slots show what they hold
+pub shows_itself : (names : List (List ℕ)) (vs : List Slot) → Shows names vs (shapes_in names vs) (store_in names vs)
+shows_itself names vs = record { shapes = λ x. refl; cells = λ x j l. refl }
 
 -- a cell that subscripts name is one of the variable's
 cell_bound : (n : Setting ℤ) (x : Var) (is : List ℤ) (i : ℕ) → cell_at n x is ≡ Ok i → i < size_of (n.shape x)

@@ -5,6 +5,7 @@ pub mod Numbered
 pub mod Framed
 pub mod Shown
 pub mod Called
+pub mod Suited
 pub mod Linked
 pub mod Listed
 pub mod Declaring

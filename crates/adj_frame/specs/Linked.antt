@@ -10,6 +10,7 @@ use Rattle.adj_frame.specs.declared.step.Steps.TheVariants as steps
 use Rattle.adj_frame.specs.declared.routine.Routine.{Routine}
 use Rattle.adj_frame.specs.Instructed.{steps_in, AreStepsBelow}
 use Rattle.adj_frame.specs.Called.{IsLaidOut}
+use Rattle.adj_frame.specs.Suited.{IsScalarIn, AreSuited}
 
 abbrev mutual
   -- calls in the statement bear the numbers of the units of their names
@@ -29,12 +30,14 @@ abbrev mutual
 abbrev pub units_in : List Routine → List Procedure
 units_in rs = map (λ (r : Routine). procedure_of r.unit.now) rs
 
--- a unit of a program is prepared: its statements stand for those of the unit, and it hands back what the unit writes
+-- a unit of a program is prepared: its statements stand for those of the unit, which hand whole scalars alone to scalars, and it hands
+-- back what the unit writes
 pub record IsRoutine (units : List Procedure) (r : Routine) : Type 0 where
   pub laid : IsLaidOut r
   pub body : steps_in r.names r.body ≡ code_of r.unit.now.body
   pub below : AreStepsBelow (length r.names) r.body
   pub linked : AreLinked units r.body
+  pub suited : AreSuited units (IsScalarIn (procedure_of r.unit.now)) (code_of r.unit.now.body)
   pub writes : r.writes.now ≡ handed_back units r.unit.now.name
 
 -- all units of a program are prepared

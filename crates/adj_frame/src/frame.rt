@@ -9,6 +9,7 @@ ghost use Rattle.adj_frame.specs.Prepared.{var_at, term_in, terms_in, test_in, I
 ghost use Rattle.adj_frame.specs.declared.slot.Slot.{Slot};
 ghost use Rattle.adj_frame.specs.Framed.{result_of, IsFrame, store_in, setting_in_slots};
 ghost use Rattle.adj_frame.specs.Shown.{Shows};
+ghost use Rattle.adj_frame.specs.Suited.{counts_in};
 
 use crate::arithmetic::{absolute, compares, exponent, operation};
 use crate::slot::Slot;
@@ -163,18 +164,21 @@ impl<'a> Frame<'a> {
         ensures names { self.new.names.now ≡ self.old.names.now }
         ensures framed { IsFrame self.old.names.now self.new.slots.items }
         ensures sized { (j : ℕ) (d : Slot) → length (slice_index_or self.new.slots.items j d).cells.items ≡ length (slice_index_or self.old.slots.items j d).cells.items }
+        ensures counts { counts_in self.new.slots.items ≡ counts_in self.old.slots.items }
         ensures shown { (shape : Var → Shape) (s : Store ℤ) → Shows self.old.names.now self.old.slots.items shape s
             → Shows self.old.names.now self.new.slots.items shape (set s (var_at self.old.names.now i) cell word) }
     {
         let slot = &mut self.slots[i];
         slot.cells[cell] = word;
     }
+
     /// Puts 0 into each cell of a variable.
     pub fn clear(&mut self, i: usize)
         requires framed { IsFrame self.old.names.now self.old.slots.items }
         requires there { i < length self.old.slots.items }
         ensures names { self.new.names.now ≡ self.old.names.now }
         ensures framed { IsFrame self.old.names.now self.new.slots.items }
+        ensures counts { counts_in self.new.slots.items ≡ counts_in self.old.slots.items }
         ensures shown { (shape : Var → Shape) (s : Store ℤ) → Shows self.old.names.now self.old.slots.items shape s
             → Shows self.old.names.now self.new.slots.items shape (set_all s (var_at self.old.names.now i) (λ j. pos 0)) }
     {

@@ -1,13 +1,14 @@
 //! Units that are prepared.
 
 ghost use Rattle.std.specs.Prelude.{◌≡◌, ◌<◌, ◌≤◌, ℕ, length, map, slice_index_or, IfOk, OnOk};
-ghost use Rattle.adj_tree.specs.View.{declaration_of, procedure_of};
+ghost use Rattle.adj_tree.specs.View.{code_of, declaration_of, procedure_of};
 ghost use Rattle.adj_tree.specs.declared.unit.Decl.{Decl as ADecl};
 ghost use Rattle.adj_meaning.specs.Agree.{AreApart};
 ghost use Rattle.adj_meaning.specs.Written.{handed_back};
 ghost use Rattle.adj_frame.specs.Numbered.{Extends};
 ghost use Rattle.adj_frame.specs.Listed.{IsDirectory};
 ghost use Rattle.adj_frame.specs.Linked.{IsRoutine};
+ghost use Rattle.adj_frame.specs.Suited.{IsScalarIn, AreSuited};
 ghost use Rattle.adj_frame.specs.Declaring.{Declares};
 
 use crate::declaring::fill;
@@ -52,7 +53,7 @@ fn layouts<'a>(
     Ok(found)
 }
 
-/// A unit is prepared, of which it is known what it hands back.
+/// A unit is prepared, of which it is known what it hands back. Its calls hand whole scalars alone to scalars.
 pub fn routine_of<'a>(
     alloc: Global,
     units: &mut Directory<'a>,
@@ -62,6 +63,7 @@ pub fn routine_of<'a>(
     requires directory { IsDirectory units.old }
     requires apart { AreApart unit.now.dummies }
     requires few { (i : ℕ) (d : ADecl) → i < length unit.now.decls → length (slice_index_or unit.now.decls i d).extents ≤ 2 }
+    requires suited { AreSuited (map procedure_of units.old.units.now) (IsScalarIn (procedure_of unit.now)) (code_of unit.now.body) }
     requires writes { writes.now ≡ handed_back (map procedure_of units.old.units.now) unit.now.name }
     ensures units { units.new.units.now ≡ units.old.units.now }
     ensures directory { OnOk result (IsDirectory units.new) }

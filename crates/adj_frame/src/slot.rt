@@ -1,6 +1,6 @@
 //! What a variable holds.
 
-ghost use Rattle.std.specs.Prelude.{◌≡◌, ◌<◌, ◌∷◌, [], pos, length, replicate, slice_index_or, IfOk, OnOk};
+ghost use Rattle.std.specs.Prelude.{◌≡◌, ◌<◌, ◌∷◌, [], pos, length, replicate, slice_index_or, IfOk};
 ghost use Rattle.adj_meaning.specs.Trap.{index, or_trap};
 ghost use Rattle.adj_meaning.specs.Store.{within, cell_of};
 ghost use Rattle.adj_frame.specs.Framed.{result_of, slot_shape, IsSlot};
@@ -65,17 +65,13 @@ impl Slot {
         })
     }
 
-    /// Takes the cells of another slot, where there are as many.
-    pub(crate) fn take(&mut self, other: &Slot) -> Result<(), Memory>
+    /// Takes the cells of another slot, which are as many.
+    pub(crate) fn take(&mut self, other: &Slot)
+        requires { length self.old.cells.items ≡ length other.now.cells.items }
         ensures shape { slot_shape self.new ≡ slot_shape self.old }
-        ensures count { length self.new.cells.items ≡ length self.old.cells.items }
-        ensures cells { OnOk result (self.new.cells.items ≡ other.now.cells.items) }
+        ensures cells { self.new.cells.items ≡ other.now.cells.items }
     {
-        if self.cells.len() != other.cells.len() {
-            return Err(Memory);
-        }
         self.cells.copy_from_slice(other.cells.as_slice());
-        Ok(())
     }
 
     /// Puts 0 into each cell.

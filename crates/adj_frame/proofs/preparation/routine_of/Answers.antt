@@ -1,6 +1,5 @@
-use Rattle.std.proofs.Common.{◌≡◌, map, length, ap, sym, subst, ◌∙◌, arith}
-use Rattle.adj_tree.specs.View.{code_of, declaration_of}
-use Rattle.adj_frame.specs.declared.routine.Routine.{Routine}
+use Rattle.std.proofs.Common.{map, length, ap, sym, subst, ◌∙◌, arith}
+use Rattle.adj_tree.specs.View.{declaration_of}
 use Rattle.adj_frame.specs.Instructed.{steps_in, AreStepsBelow}
 use Rattle.adj_frame.specs.Numbered.{Extends}
 use Rattle.adj_frame.specs.Declaring.{Declares}
@@ -31,5 +30,6 @@ returns-clause-routine c =
       body = ap (λ ns. steps_in ns c.in_ok-body.body) same ∙ k.stands_for ms (extends_self ms);
       below = subst (λ ns. AreStepsBelow (length ns) c.in_ok-body.body) (sym same) (k.below ms (extends_self ms));
       linked = c.in_ok-body.ensures.linked;
+      suited = c.requires.suited;
       writes = c.requires.writes;
     }

@@ -4,7 +4,7 @@ use Rattle.std.proofs.lemmas.List.{get_or-replicate, length-replicate}
 use Rattle.adj_meaning.specs.Store.{size_of}
 use Rattle.adj_frame.specs.declared.slot.Slot.{Slot}
 use Rattle.adj_frame.specs.Framed.{IsSlot, slot_shape}
-use Rattle.adj_frame.proofs.Setting.{kept_frame, shown_set_all}
+use Rattle.adj_frame.proofs.Setting.{kept_frame, kept_counts, shown_set_all}
 use Rattle.adj_frame.proofs.frame.Frame.clear.Goals as goal
 
 -- a cleared slot has its cells
@@ -18,6 +18,11 @@ returns-clause-framed c =
     let was = subst IsSlot (sym c.index_mut.ensures.value) (c.requires.framed.sized c.args.i r c.requires.there) in
     let cells = ap length c.clear.ensures.cells ∙ length-replicate (length r.cells.items) (pos 0) in
     kept_frame c.args.self.now.names.now vs c.args.i c.clear.new.self c.requires.framed c.requires.there (cleared r c.clear.new.self was c.clear.ensures.shape cells)
+
+pub returns-clause-counts : goal.returns-clause-counts
+returns-clause-counts c =
+    let r = c.index_mut.result.now in
+    kept_counts c.args.self.now.slots.items c.args.i c.clear.new.self r c.requires.there (ap length c.clear.ensures.cells ∙ length-replicate (length r.cells.items) (pos 0) ∙ ap (λ (v : Slot). length v.cells.items) c.index_mut.ensures.value)
 
 pub returns-clause-shown : goal.returns-clause-shown
 returns-clause-shown c shape s h =

@@ -1,17 +1,28 @@
-use Rattle.std.proofs.Common.{◌≡◌, ℤ, ◌+◌, ◌≤◌, ◌<◌, length, get_or, sym, ap, subst, ◌∙◌, arith}
+use Rattle.std.proofs.Common.{ℤ, ◌+◌, ◌<◌, length, get_or, sym, ap, subst, ◌∙◌, arith}
+use Rattle.std.specs.Prelude.{false, nat_lt, ◌&&◌}
 use Rattle.std.proofs.lemmas.List.{length-map, get_or-map}
+use Rattle.adj_meaning.proofs.Booleans.{and_true}
 use Rattle.adj_frame.specs.declared.actual.Actual.TheVariants as actual
 use Rattle.adj_frame.specs.Framed.{IsFrame}
 use Rattle.adj_frame.specs.Shown.{Shows}
 use Rattle.adj_frame.specs.Called.{actual_in, actuals_in, place_of, handed}
+use Rattle.adj_frame.specs.Suited.{counts_in, HasCells}
 use Rattle.adj_frame.proofs.Returning.{from_on, out_next, out_end, place_is}
 use Rattle.adj_meaning.specs.Units.{Actual}
 use Rattle.adj_frame.proofs.frame.Frame.hand_back.Goals as goal
 
+pub hand_next-requires-clause-large : goal.hand_next-requires-clause-large
+hand_next-requires-clause-large c written =
+    let r = c.args.routine.now in
+    let i = c.loop-i.i in
+    let p = and_true (nat_lt i (length r.unit.now.dummies)) (nat_lt i (length r.writes.now) && get_or r.writes.now i false) written in
+    let m : c.loop-i.i < length c.args.routine.now.unit.now.dummies = grind (arith, p.0) in
+    subst (λ ns. HasCells ns (get_or c.args.actuals.now i (actual.Whole 0)) (get_or (counts_in c.args.slots.now) i 0)) (sym c.loop-i.invariant.counts) (c.requires.large i (actual.Whole 0) m c.loop-i-test.true)
+
 pub loop-i-preserved : goal.loop-i-preserved
 loop-i-preserved c =
     let inv = c.loop-i.invariant in
-    let k = c.in_ok-hand_next.ensures in
+    let k = c.hand_next.ensures in
     let names = c.args.self.now.names.now in
     let i = c.loop-i.i in
     let same = inv.names in
@@ -22,6 +33,7 @@ loop-i-preserved c =
       framed = subst (λ ns. IsFrame ns c.hand_next.new.self.slots.items) same k.framed;
       count = few ∙ was;
       cells = λ j d. k.cells j d ∙ inv.cells j d;
+      counts = k.counts ∙ inv.counts;
       handed = λ shape inside s s0 t h g.
           let r = c.args.routine.now in
           let all = c.args.actuals.now in

@@ -6,20 +6,41 @@ use Rattle.adj_frame.specs.declared.slot.Slot.{Slot}
 use Rattle.adj_frame.specs.Prepared.{var_at}
 use Rattle.adj_frame.specs.Framed.{IsSlot, slot_shape}
 use Rattle.adj_frame.specs.Shown.{Shows}
-use Rattle.adj_frame.proofs.Setting.{shown_set_all}
+use Rattle.adj_frame.proofs.Setting.{kept_counts, shown_set_all}
+use Rattle.adj_frame.proofs.Suiting.{count_at}
 use Rattle.adj_frame.proofs.frame.Frame.hand_one.Goals as goal
 
-pub returns-in_ok-take-in-Whole-clause-put : goal.returns-in_ok-take-in-Whole-clause-put
-returns-in_ok-take-in-Whole-clause-put c shape s cs h given =
+-- the cells of the variable, which are as many as the dummy's
+pub take-requires : goal.take-requires
+take-requires c =
+    let i = c.in-Whole.i in
+    let r = c.index_mut-target.result.now in
+    let below = rw c.in-Whole.is at c.requires.below in
+    let large = rw c.in-Whole.is at c.requires.large in
+    ap (λ (v : Slot). length v.cells.items) c.index_mut-target.ensures.value ∙ sym (count_at c.args.self.now.slots.items i r below) ∙ large
+
+pub returns-in-Whole-clause-counts : goal.returns-in-Whole-clause-counts
+returns-in-Whole-clause-counts c =
+    let vs = c.args.self.now.slots.items in
+    let i = c.in-Whole.i in
+    let r = c.index_mut-target.result.now in
+    let below = rw c.in-Whole.is at c.requires.below in
+    let large = rw c.in-Whole.is at c.requires.large in
+    kept_counts vs i c.take.new.self r below (ap length c.take.ensures.cells ∙ sym large ∙ count_at vs i r below)
+
+pub returns-in-Whole-clause-put : goal.returns-in-Whole-clause-put
+returns-in-Whole-clause-put c shape s cs h given =
     let names = c.args.self.now.names.now in
     let vs = c.args.self.now.slots.items in
     let i = c.in-Whole.i in
     let r = c.index_mut-target.result.now in
     let e = c.take.new.self in
-    let k = c.in_ok-take-in-Whole.ensures in
+    let k = c.take.ensures in
     let below = rw c.in-Whole.is at c.requires.below in
+    let large = rw c.in-Whole.is at c.requires.large in
     let was = subst IsSlot (sym c.index_mut-target.ensures.value) (c.requires.framed.sized i r below) in
-    let size = ap size_of (k.shape) ∙ sym was ∙ sym k.count ∙ ap length k.cells ∙ c.requires.sized in
+    let same = ap (λ (v : Slot). length v.cells.items) c.index_mut-target.ensures.value ∙ sym (count_at vs i r below) ∙ large in
+    let size = ap size_of k.shape ∙ sym was ∙ same ∙ c.requires.sized in
     rw c.in-Whole.is (shown_set_all names vs i e r cs c.requires.framed below (k.shape ∙ ap slot_shape c.index_mut-target.ensures.value)
     (λ j lt. given j (subst (λ n. j < n) size lt) ∙ sym (ap (λ z. get_or z j (pos 0)) k.cells))
     shape s h)

@@ -4,7 +4,7 @@ use Rattle.std.proofs.lemmas.Int.{to_z-of_z}
 use Rattle.adj_meaning.specs.Store.{size_of}
 use Rattle.adj_frame.specs.declared.slot.Slot.{Slot}
 use Rattle.adj_frame.specs.Framed.{slot_shape}
-use Rattle.adj_frame.proofs.Setting.{kept_frame, kept_sizes, shown_set}
+use Rattle.adj_frame.proofs.Setting.{kept_frame, kept_sizes, kept_counts, shown_set}
 use Rattle.adj_frame.proofs.frame.Frame.set.Goals as goal
 
 pub returns-clause-framed : goal.returns-clause-framed
@@ -20,6 +20,12 @@ returns-clause-shown c shape s h =
     let at = c.index_mut-slot.ensures.value in
     let cast = to_z-of_z w64 c.args.word c.ranges.word in
     shown_set c.args.self.now.names.now c.args.self.now.slots.items c.args.i _ r c.args.cell c.args.word c.requires.framed c.requires.there (ap (λ (v : Slot). slot_shape v) at) (λ k. set (at k).cells.items c.args.cell (cast k)) (c.requires.within r) shape s h
+
+pub returns-clause-counts : goal.returns-clause-counts
+returns-clause-counts c =
+    let r = c.index_mut-slot.result.now in
+    let at = c.index_mut-slot.ensures.value in
+    kept_counts c.args.self.now.slots.items c.args.i _ r c.requires.there (length-set r.cells.items c.args.cell _ ∙ ap (λ (v : Slot). length v.cells.items) at)
 
 pub returns-clause-sized : goal.returns-clause-sized
 returns-clause-sized c =
