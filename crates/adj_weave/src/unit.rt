@@ -56,7 +56,7 @@ pub fn adjoint_unit(
     ensures unit { IfOk result (λ u. procedure_of u ≡ adjoint_unit full_marks (sources shared.now) shared.now.names.now (procedure_of part.now.unit.now) at_turn.now at_end.now) }
 {
     let unit = part.unit;
-    let marks = Marking::Full;
+    let marks: Marking<'static> = Marking::Full;
     let known = Known {
         marks: &marks,
         callees: shared.callees,
