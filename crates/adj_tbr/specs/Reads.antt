@@ -1,5 +1,5 @@
 -- The adjoint reads, as the code goes over the units.
-use Rattle.std.specs.Prelude.{ℕ, List, [], ◌++◌, flat_map, Bool, Option, Some, None, not, ◌&&◌, ◌||◌}
+use Rattle.std.specs.Prelude.{ℕ, List, [], ◌++◌, flat_map, Bool, true, Option, Some, None, not, ◌&&◌, ◌||◌}
 use Rattle.adj_tree.specs.Code.{Var, plain, Terms, Act, assign, choose, loop, during, call, runtime}
 use Rattle.adj_transpose.specs.Marks.{point_before}
 use Rattle.adj_facts.specs.Standing.{Place, Standing}
