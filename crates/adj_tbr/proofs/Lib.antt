@@ -7,5 +7,5 @@ pub mod Given
 pub mod Ways
 pub mod Reading
 pub mod Saving
-pub mod Held
+pub mod Behind
 pub mod Answering

@@ -1,7 +1,6 @@
 //! What is found before, by flags.
 
 ghost use Rattle.std.specs.Prelude.{◌≡◌, IfOk};
-ghost use Rattle.adj_reach.specs.Edges.{flag};
 ghost use Rattle.adj_tbr.specs.View.{adjointed_by, kept_by};
 
 use adj_reach::flag_at;

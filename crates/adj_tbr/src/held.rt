@@ -1,6 +1,6 @@
 //! The edges along which variables are held: those of ways, but for what kept statements replace there.
 
-ghost use Rattle.std.specs.Prelude.{◌≡◌, ◌++◌, not, IfOk, OnOk, map, flat_map};
+ghost use Rattle.std.specs.Prelude.{◌≡◌, ◌++◌, not, IfOk, OnOk, map};
 ghost use Rattle.adj_tree.specs.Code.{plain};
 ghost use Rattle.adj_facts.specs.Held.{replaced_on};
 ghost use Rattle.adj_facts.specs.Variables.{list_if};
@@ -8,7 +8,6 @@ ghost use Rattle.adj_flow.specs.Nodes.{node_in, linked};
 ghost use Rattle.adj_flow.specs.NodeView.{vars_of};
 ghost use Rattle.adj_flow.specs.Rows.{row_of};
 ghost use Rattle.adj_flow.specs.WayView.{deed_of, way_of};
-ghost use Rattle.adj_reach.specs.Edges.{flag};
 ghost use Rattle.adj_tbr.specs.View.{kept_by, way_edges, unit_edges, held_edges};
 
 use crate::found::Found;

@@ -1,15 +1,16 @@
 //! The adjoint reads of statements, as numbers of variables before them.
 
-ghost use Rattle.std.specs.Prelude.{◌≡◌, ◌++◌, IfOk, OnOk, map, flat_map};
+ghost use Rattle.std.specs.Prelude.{◌≡◌, ◌++◌, ◌&&◌, ◌||◌, true, Some, IfOk, OnOk, map, flat_map};
+ghost use Rattle.adj_tree.specs.Code.{plain};
 ghost use Rattle.adj_tree.specs.View.{act_of, terms_of};
-ghost use Rattle.adj_facts.specs.Uses.{site};
+ghost use Rattle.adj_facts.specs.Uses.{site, is_turn};
 ghost use Rattle.adj_facts.specs.Variables.{list_if};
-ghost use Rattle.adj_flow.specs.NodeView.{names_of};
+ghost use Rattle.adj_flow.specs.NodeView.{names_of, told_at};
 ghost use Rattle.adj_flow.specs.Rows.{row_of};
 ghost use Rattle.adj_flow.specs.View.{place_of, standing_of};
 ghost use Rattle.adj_reach.specs.Edges.{flag};
-ghost use Rattle.adj_tbr.specs.Bound.{passed_of, bound_from};
-ghost use Rattle.adj_tbr.specs.View.{find, adjointed_by};
+ghost use Rattle.adj_tbr.specs.Bound.{passed_of, dummies_at};
+ghost use Rattle.adj_tbr.specs.View.{find};
 ghost use Rattle.adj_tbr.specs.Reads.{node_before, assigned_reads, is_wanted, found_reads, call_reads, standing_reads, unit_reads, read_nodes};
 
 use crate::bound::{Bound, bounds};

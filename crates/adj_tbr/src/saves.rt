@@ -7,7 +7,7 @@ ghost use Rattle.adj_facts.specs.Variables.{list_if};
 ghost use Rattle.adj_flow.specs.NodeView.{names_of};
 ghost use Rattle.adj_flow.specs.Rows.{row_of};
 ghost use Rattle.adj_flow.specs.View.{standing_of};
-ghost use Rattle.adj_tbr.specs.View.{find};
+ghost use Rattle.adj_tbr.specs.View.{find, kept_by};
 ghost use Rattle.adj_tbr.specs.Saves.{saved_node, own_saves, found_saves, call_saves, standing_saves, unit_saves, save_nodes};
 
 use crate::bound::handed;
@@ -91,9 +91,7 @@ fn add_own(
     let number = standing.number;
     match standing.act {
         Act::Assign(target, _) => add_kept(nodes, held, setting, part, number, &target.name),
-        Act::Loop(variable, _, _, _, _, _) => add_kept(
-            nodes, held, setting, part, number, variable,
-        ),
+        Act::Loop(x, _, _, _, _, _) => add_kept(nodes, held, setting, part, number, x),
         Act::If(_, _, _) | Act::While(_, _) | Act::Call(_, _) | Act::Run(_) => Ok(()),
     }
 }
