@@ -1,7 +1,7 @@
 //! The edges along which variables are held: those of ways, but for what kept statements replace there.
 
 ghost use Rattle.std.specs.Prelude.{◌≡◌, ◌++◌, not, IfOk, OnOk, map};
-ghost use Rattle.adj_tree.specs.Code.{plain};
+ghost use Rattle.adj_tree.specs.Code.{plain, var_eq};
 ghost use Rattle.adj_facts.specs.Held.{replaced_on};
 ghost use Rattle.adj_facts.specs.Variables.{list_if};
 ghost use Rattle.adj_flow.specs.Nodes.{node_in, linked};
@@ -16,6 +16,13 @@ use adj_reach::flag_at;
 use adj_tree::{Memory, Name};
 use std::alloc::Global;
 
+// Whether both are the same variable.
+fn is_same(name: &Name, other: &Name) -> bool
+    ensures same { result ≡ var_eq (plain name.now) (plain other.now) }
+{
+    other.equals(name)
+}
+
 // Whether a kept statement assigns the whole variable on a way.
 fn is_replaced(found: Found<'_>, deed: Deed<'_>, name: &Name) -> bool
     ensures replaced { result ≡ replaced_on (kept_by found.entry) (deed_of deed.entry) (plain name.now) }
@@ -23,7 +30,8 @@ fn is_replaced(found: Found<'_>, deed: Deed<'_>, name: &Name) -> bool
     match deed {
         Deed::Assigning(statement, other) => {
             let is_kept = found.is_kept(statement);
-            is_kept && other.equals(name)
+            let is_same = is_same(name, other);
+            is_kept && is_same
         }
         Deed::Passing | Deed::Calling(_) => false,
     }

@@ -170,7 +170,8 @@ fn add_found(
 ) -> Result<(), Memory>
     ensures added { OnOk result (nodes.new.items ≡ nodes.old.items ++ found_reads setting.entry.found setting.entry.sides setting.entry.width (row_of part.now) (standing_of standing.now) (terms_of actuals.now) (Some (row_of called.now))) }
 {
-    if setting.found.is_adjointed(standing.number)? {
+    let is_adjointed = setting.found.is_adjointed(standing.number)?;
+    if is_adjointed {
         let bounds = bounds(alloc, called.unit.dummies.as_slice(), actuals)?;
         add_actuals(nodes, setting, part, standing, called, bounds.as_slice())?;
     }
