@@ -1,5 +1,5 @@
 -- Dummies with their places are the dummies that are bound to actuals.
-use Rattle.std.proofs.Common.{◌≡◌, ◌⊎◌, inl, inr, ℕ, suc, ◌+◌, List, [], ◌∷◌, map, refl, ap, ◌∙◌, arith}
+use Rattle.std.proofs.Common.{◌≡◌, ◌⊎◌, inl, inr, ℕ, suc, ◌+◌, List, [], ◌∷◌, map, refl, ap, arith}
 use Rattle.std.specs.Prelude.{Contains, Option, Some, None, slice_get}
 use Rattle.adj_tree.specs.Code.{Var, Terms, none, more}
 use Rattle.adj_facts.specs.Problem.{name_of, with_actual, bound}

@@ -1,5 +1,5 @@
 -- The numbers of adjoint reads are those of the definitions.
-use Rattle.std.proofs.Common.{◌≡◌, ℕ, ◌+◌, List, [], ◌∷◌, ◌++◌, Bool, true, false, map, refl, sym, ap, ◌∙◌, subst, append-nil, arith}
+use Rattle.std.proofs.Common.{◌≡◌, ℕ, List, [], ◌∷◌, ◌++◌, Bool, true, false, map, refl, sym, ap, ◌∙◌, subst, append-nil, arith}
 use Rattle.std.specs.Prelude.{Contains, Option, Some, None, not, ◌&&◌, ◌||◌, flat_map, slice_index_or}
 use Rattle.std.specs.Option.{option_map}
 use Rattle.std.proofs.lemmas.List.Concat.{flat_map-cons}
@@ -14,13 +14,12 @@ use Rattle.adj_transpose.specs.Marks.{Vars, point_before}
 use Rattle.adj_facts.specs.Reached.{leads}
 use Rattle.adj_facts.specs.Parts.{Part, parts, find_part}
 use Rattle.adj_facts.specs.Standing.{Standing}
-use Rattle.adj_facts.specs.Problem.{Problem, statements_of, TakesPart, CallsUnit, bound}
+use Rattle.adj_facts.specs.Problem.{Problem, statements_of, TakesPart}
 use Rattle.adj_facts.specs.Activity.{Activity, IsPoint}
 use Rattle.adj_facts.specs.Live.{Liveness}
 use Rattle.adj_facts.specs.Uses.{site, turned_by, is_turn}
-use Rattle.adj_facts.specs.Rules.{Scope, Covers, list_of, with_args, called, at_actuals, reads_by, reads_called, reads_list}
+use Rattle.adj_facts.specs.Rules.{Scope, Covers, with_args, called, at_actuals, reads_by, reads_called, reads_list}
 use Rattle.adj_facts.specs.Variables.{list_if, vars_in_terms, adjoint_reads_in}
-use Rattle.adj_facts.proofs.Members.{is_first, is_later}
 use Rattle.adj_facts.proofs.Numbers.{part_is_there}
 use Rattle.adj_facts.proofs.OwnPoints.{own_before}
 use Rattle.adj_facts.proofs.Points.{one_point}

@@ -5,7 +5,7 @@ use Rattle.std.specs.Option.{option_map}
 use Rattle.std.proofs.lemmas.List.Concat.{flat_map-cons}
 use Rattle.adj_tree.specs.Code.{Var, Terms, Act, assign, choose, loop, during, call, runtime}
 use Rattle.adj_meaning.specs.LeastSet.{least_rows}
-use Rattle.adj_meaning.specs.Written.{write_rule, handed_back}
+use Rattle.adj_meaning.specs.Written.{write_rule}
 use Rattle.adj_meaning.proofs.WriteSets.{write_rises}
 use Rattle.adj_transpose.specs.Marks.{Vars, point_before}
 use Rattle.adj_facts.specs.Reached.{leads}
@@ -16,7 +16,7 @@ use Rattle.adj_facts.specs.Activity.{Activity, IsPoint}
 use Rattle.adj_facts.specs.Live.{Liveness}
 use Rattle.adj_facts.specs.Uses.{site}
 use Rattle.adj_facts.specs.Rules.{Scope, Covers, list_of, with_args, called, may_save_by, may_save_called, may_save_list}
-use Rattle.adj_facts.specs.Variables.{list_if, handed_in, handed_in_actuals}
+use Rattle.adj_facts.specs.Variables.{handed_in, handed_in_actuals}
 use Rattle.adj_facts.proofs.Members.{if_has, if_only}
 use Rattle.adj_facts.proofs.Numbers.{part_is_there}
 use Rattle.adj_facts.proofs.OwnPoints.{own_before}

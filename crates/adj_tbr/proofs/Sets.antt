@@ -1,6 +1,6 @@
 -- Which dummies of a unit are in a least set, by the number and by the name of the unit.
-use Rattle.std.proofs.Common.{◌≡◌, ◌⊎◌, inl, inr, ℕ, zero, suc, ◌+◌, List, [], ◌∷◌, Bool, true, false, map, refl, sym, ap, ◌∙◌, arith}
-use Rattle.std.specs.Prelude.{Contains, Option, Some, None, slice_get, slice_index_or, if◌then◌else◌}
+use Rattle.std.proofs.Common.{◌≡◌, ◌⊎◌, inl, inr, ℕ, zero, suc, ◌+◌, List, [], ◌∷◌, Bool, true, false, map, sym, ap, ◌∙◌, arith}
+use Rattle.std.specs.Prelude.{Contains, Some, slice_get, slice_index_or, if◌then◌else◌}
 use Rattle.adj_tree.specs.Code.{name_eq, Procedure}
 use Rattle.adj_meaning.specs.LeastSet.{Rule, least_rows, in_least}
 use Rattle.adj_meaning.specs.Written.{find_unit}

@@ -1,6 +1,6 @@
 -- What is held or read at a point is reached from the adjoint reads along the ways.
-use Rattle.std.proofs.Common.{◌≡◌, ◌⊎◌, inl, inr, ℕ, List, refl, sym, ap, subst, arith}
-use Rattle.std.specs.Prelude.{◌↔◌, Bool, false, Contains, map}
+use Rattle.std.proofs.Common.{◌≡◌, ◌⊎◌, inl, inr, ℕ, refl, sym, ap, subst, arith}
+use Rattle.std.specs.Prelude.{◌↔◌, false, Contains, map}
 use Rattle.adj_tree.specs.Code.{Var}
 use Rattle.adj_transpose.specs.Marks.{point_before}
 use Rattle.adj_facts.specs.Reached.{Reached, begins, leads}
@@ -10,7 +10,7 @@ use Rattle.adj_facts.specs.Problem.{Problem, ways_of, TakesPart}
 use Rattle.adj_facts.specs.Flow.{Node}
 use Rattle.adj_facts.specs.Activity.{Activity}
 use Rattle.adj_facts.specs.Live.{Liveness}
-use Rattle.adj_facts.specs.Held.{AdjointReads, HeldBegins, HeldLeads, Held, replaced_on, read, stays}
+use Rattle.adj_facts.specs.Held.{AdjointReads, HeldLeads, Held, replaced_on, read, stays}
 use Rattle.adj_facts.specs.Rules.{Scope, Covers, reads_list, held_steps}
 use Rattle.adj_facts.proofs.Members.{map_has, map_only}
 use Rattle.adj_facts.proofs.AsLists.{AreLists}

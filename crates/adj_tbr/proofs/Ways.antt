@@ -1,5 +1,5 @@
 -- The edges of ways are the steps along which variables are held, by numbers.
-use Rattle.std.proofs.Common.{◌≡◌, inl, inr, ℕ, List, [], ◌∷◌, Bool, refl, sym, subst}
+use Rattle.std.proofs.Common.{inl, inr, ℕ, List, [], ◌∷◌, Bool, refl, sym, subst}
 use Rattle.std.specs.Prelude.{Contains, not, flat_map}
 use Rattle.adj_transpose.specs.Marks.{Vars}
 use Rattle.adj_facts.specs.Parts.{Part}

@@ -1,10 +1,9 @@
 -- What the flags tell is what is held and saved.
-use Rattle.std.proofs.Common.{◌≡◌, ℕ, List, [], Bool, map, length, sym, subst, ◌∙◌}
+use Rattle.std.proofs.Common.{◌≡◌, ℕ, [], map, length, sym, subst, ◌∙◌}
 use Rattle.std.specs.Prelude.{◌↔◌, IsTrue}
 use Rattle.std.proofs.lemmas.List.{length-map}
 use Rattle.adj_tree.specs.Code.{plain}
 use Rattle.adj_tree.specs.View.{procedure_of}
-use Rattle.adj_transpose.specs.Marks.{Vars}
 use Rattle.adj_facts.specs.Activity.{Activity}
 use Rattle.adj_facts.specs.Held.{IsSaved}
 use Rattle.adj_facts.specs.Laws.{IsHeld}
@@ -15,7 +14,7 @@ use Rattle.adj_flow.specs.Rows.{row_of}
 use Rattle.adj_flow.specs.Scoped.{scope_by}
 use Rattle.adj_flow.specs.Told.{told, told_of}
 use Rattle.adj_reach.specs.Edges.{ReachedFrom, flag}
-use Rattle.adj_activity.specs.Asked.{activity_of, liveness_of, saved_of}
+use Rattle.adj_activity.specs.Asked.{saved_of}
 use Rattle.adj_activity.specs.Told.{activity_told}
 use Rattle.adj_tbr.specs.View.{find, held_edges}
 use Rattle.adj_tbr.specs.Reads.{read_nodes}
@@ -45,8 +44,16 @@ returns c =
     let found = subst (λ z. (m : ℕ) → IsTrue (flag saved m) ↔ ReachedFrom [] z m) (λ i. save_nodes (flags i) f t (find (map row_of (parts i)) fl.numbers) rs fl.taking w) c.in_ok-saved.ensures.saved in
     let x : Answer (problem_of c.args.flow.now c.args.head.now) (variables_of c.args.flow.now) c.args.flow.now.numbers c.args.flow.now.taking c.args.flow.now.width (map row_of c.args.flow.now.parts.items) f c.args.sides c.in_ok-held.held c.in_ok-saved.saved =
     record {
-      known = is.numbers; takes = is.taking; lengths = lengths; narrow = is.width; hold = is.variables; same = is.rows;
-      read = c.requires.read; written = c.requires.written; reached = reached; found = found;
+      known = is.numbers;
+      takes = is.taking;
+      lengths = lengths;
+      narrow = is.width;
+      hold = is.variables;
+      same = is.rows;
+      read = c.requires.read;
+      written = c.requires.written;
+      reached = reached;
+      found = found;
     } in
     record {
       saved = record {
