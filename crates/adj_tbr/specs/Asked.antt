@@ -1,0 +1,17 @@
+-- What is asked of the analysis.
+use Rattle.std.specs.Prelude.{ℕ}
+use Rattle.adj_tree.specs.declared.marks.Kept.{Kept}
+use Rattle.adj_tree.specs.declared.marks.Saved.{Saved}
+use Rattle.adj_transpose.specs.Marks.{Vars}
+use Rattle.adj_facts.specs.Problem.{Problem}
+use Rattle.adj_facts.specs.Activity.{Activity}
+use Rattle.adj_facts.specs.Held.{IsSaved}
+use Rattle.adj_facts.specs.Laws.{IsHeld}
+use Rattle.adj_flow.specs.declared.units.Flow.{Flow}
+use Rattle.adj_activity.specs.Asked.{liveness_of, saved_of}
+
+-- whatever is needed, the flags say just what is saved, and some variables at points are just those that are held
+pub record TellsSaved (f : Flow) (k : Problem) (a : Activity) (t : Kept) (s : Saved) : Type 0 where
+  pub held : ℕ → Vars
+  pub holds : (needed : ℕ → Vars) → IsHeld k a (liveness_of needed f t) held
+  pub saves : (needed : ℕ → Vars) → IsSaved k a (liveness_of needed f t) (saved_of f s)

@@ -1,0 +1,40 @@
+-- What the code goes over, as clauses see it.
+use Rattle.std.specs.Prelude.{ℕ, ◌*◌, List, flat_map, Bool, Option, not, ◌&&◌}
+use Rattle.adj_transpose.specs.Marks.{Vars, point_before}
+use Rattle.adj_facts.specs.Ways.{Way}
+use Rattle.adj_facts.specs.Held.{replaced_on}
+use Rattle.adj_facts.specs.Variables.{list_if}
+use Rattle.adj_flow.specs.Nodes.{node_in, linked}
+use Rattle.adj_flow.specs.NodeView.{vars_of, told_at, found_at}
+use Rattle.adj_flow.specs.Rows.{Row}
+use Rattle.adj_reach.specs.Edges.{Edges, flag}
+use Rattle.adj_writes.specs.Table.{value_of}
+use Rattle.adj_tbr.specs.declared.found.Found.{Found}
+
+-- the unit of a name, by the numbers of names
+abbrev pub find : List Row → List (List ℕ × ℕ) → List ℕ → Option Row
+find rs numbers x = found_at rs (value_of x numbers)
+
+-- whether the statement of a number is adjointed, and whether it is kept
+abbrev pub adjointed_by : Found → ℕ → Bool
+adjointed_by f i = flag f.adjointed.now (2 * i)
+
+abbrev pub kept_by : Found → ℕ → Bool
+kept_by f i = flag f.kept.now i
+
+-- the variables whose occurrences are active in the statement of a number
+abbrev pub active_by : Found → ℕ → Row → ℕ → Vars
+active_by f w r i v = told_at f.varied.now w r (point_before i) v && told_at f.shadowed.now w r r.part.number v
+
+-- ---- ways
+
+-- a way holds each variable that no kept statement replaces on it
+abbrev pub way_edges : Found → ℕ → Row → Way → Edges
+way_edges f w r x = flat_map (λ v. list_if (not (replaced_on (kept_by f) x.deed v)) (linked (node_in w (vars_of r) (x.from, v)) (node_in w (vars_of r) (x.to, v)))) (vars_of r)
+
+abbrev pub unit_edges : Found → ℕ → Row → Edges
+unit_edges f w r = flat_map (way_edges f w r) r.ways
+
+-- those of all units that take part
+abbrev pub held_edges : Found → List Row → List Bool → ℕ → Edges
+held_edges f rs taking w = flat_map (λ r. list_if (flag taking r.part.number) (unit_edges f w r)) rs

@@ -1,0 +1,132 @@
+//! The edges along which variables are held: those of ways, but for what kept statements replace there.
+
+ghost use Rattle.std.specs.Prelude.{◌≡◌, ◌++◌, not, IfOk, OnOk, map};
+ghost use Rattle.adj_tree.specs.Code.{plain, var_eq};
+ghost use Rattle.adj_facts.specs.Held.{replaced_on};
+ghost use Rattle.adj_facts.specs.Variables.{list_if};
+ghost use Rattle.adj_flow.specs.Nodes.{node_in, linked};
+ghost use Rattle.adj_flow.specs.NodeView.{vars_of};
+ghost use Rattle.adj_flow.specs.Rows.{row_of};
+ghost use Rattle.adj_flow.specs.WayView.{deed_of, way_of};
+ghost use Rattle.adj_tbr.specs.View.{kept_by, way_edges, unit_edges, held_edges};
+
+use crate::found::Found;
+use adj_flow::{Deed, End, Flow, Part, Way, add_edge, number};
+use adj_reach::flag_at;
+use adj_tree::{Memory, Name};
+use std::alloc::Global;
+
+// Whether both are the same variable.
+fn is_same(name: &Name, other: &Name) -> bool
+    ensures same { result ≡ var_eq (plain name.now) (plain other.now) }
+{
+    other.equals(name)
+}
+
+// Whether a kept statement assigns the whole variable on a way.
+fn is_replaced(found: Found<'_>, deed: Deed<'_>, name: &Name) -> bool
+    ensures replaced { result ≡ replaced_on (kept_by found.entry) (deed_of deed.entry) (plain name.now) }
+{
+    match deed {
+        Deed::Assigning(statement, other) => {
+            let is_kept = found.is_kept(statement);
+            let is_same = is_same(name, other);
+            is_kept && is_same
+        }
+        Deed::Passing | Deed::Calling(_) => false,
+    }
+}
+
+// Adds the edge of a variable on a way, from the point of one number to that of another, if it isn't replaced.
+fn add_variable(
+    edges: &mut Vec<(usize, usize)>,
+    width: usize,
+    part: &Part<'_>,
+    points: (usize, usize),
+    name: &Name,
+    is_replaced: bool,
+) -> Result<(), Memory>
+    ensures added { OnOk result (edges.new.items ≡ edges.old.items ++ list_if (not is_replaced) (linked (node_in width (vars_of (row_of part.now)) (points.0, plain name.now)) (node_in width (vars_of (row_of part.now)) (points.1, plain name.now)))) }
+{
+    if !is_replaced {
+        let (from, to) = points;
+        let before = End {
+            part,
+            point: from,
+            name,
+        };
+        let after = End {
+            part,
+            point: to,
+            name,
+        };
+        add_edge(edges, width, before, after)?;
+    }
+    Ok(())
+}
+
+// Adds the edges of a way.
+fn add_way(
+    edges: &mut Vec<(usize, usize)>,
+    found: Found<'_>,
+    width: usize,
+    part: &Part<'_>,
+    way: Way<'_>,
+) -> Result<(), Memory>
+    ensures added { OnOk result (edges.new.items ≡ edges.old.items ++ way_edges found.entry width (row_of part.now) (way_of way.entry)) }
+{
+    let points = (number(way.from)?, number(way.to)?);
+    for name in part.variables.as_slice() {
+        let is_replaced = is_replaced(found, way.deed, name);
+        add_variable(edges, width, part, points, name, is_replaced)?;
+    }
+    Ok(())
+}
+
+// Adds the edges of a unit.
+fn add_unit(
+    edges: &mut Vec<(usize, usize)>,
+    found: Found<'_>,
+    width: usize,
+    part: &Part<'_>,
+) -> Result<(), Memory>
+    ensures added { OnOk result (edges.new.items ≡ edges.old.items ++ unit_edges found.entry width (row_of part.now)) }
+{
+    for way in part.ways.as_slice() {
+        add_way(edges, found, width, part, *way)?;
+    }
+    Ok(())
+}
+
+// The same, if the unit takes part.
+fn add_taking(
+    edges: &mut Vec<(usize, usize)>,
+    found: Found<'_>,
+    width: usize,
+    part: &Part<'_>,
+    takes_part: bool,
+) -> Result<(), Memory>
+    ensures added { OnOk result (edges.new.items ≡ edges.old.items ++ list_if takes_part (unit_edges found.entry width (row_of part.now))) }
+{
+    if takes_part {
+        add_unit(edges, found, width, part)?;
+    }
+    Ok(())
+}
+
+/// The edges of all units that take part.
+pub(crate) fn held_edges(
+    alloc: Global,
+    flow: &Flow<'_>,
+    found: Found<'_>,
+) -> Result<Vec<(usize, usize)>, Memory>
+    ensures edges { IfOk result (λ v. v.items ≡ held_edges found.entry (map row_of flow.now.parts.items) flow.now.taking flow.now.width) }
+{
+    let mut edges = Vec::new(alloc);
+    let taking = flow.taking.as_slice();
+    for part in flow.parts.as_slice() {
+        let takes_part = flag_at(taking, part.number);
+        add_taking(&mut edges, found, flow.width, part, takes_part)?;
+    }
+    Ok(edges)
+}

@@ -1,0 +1,266 @@
+//! The adjoint reads of statements, as numbers of variables before them.
+
+ghost use Rattle.std.specs.Prelude.{◌≡◌, ◌++◌, ◌&&◌, ◌||◌, true, Some, IfOk, OnOk, map, flat_map};
+ghost use Rattle.adj_tree.specs.Code.{plain};
+ghost use Rattle.adj_tree.specs.View.{act_of, terms_of};
+ghost use Rattle.adj_facts.specs.Uses.{site, is_turn};
+ghost use Rattle.adj_facts.specs.Variables.{list_if};
+ghost use Rattle.adj_flow.specs.NodeView.{names_of, told_at};
+ghost use Rattle.adj_flow.specs.Rows.{row_of};
+ghost use Rattle.adj_flow.specs.View.{place_of, standing_of};
+ghost use Rattle.adj_reach.specs.Edges.{flag};
+ghost use Rattle.adj_tbr.specs.Bound.{passed_of, dummies_at};
+ghost use Rattle.adj_tbr.specs.View.{find};
+ghost use Rattle.adj_tbr.specs.Reads.{node_before, assigned_reads, is_wanted, found_reads, call_reads, standing_reads, unit_reads, read_nodes};
+
+use crate::bound::{Bound, bounds};
+use crate::setting::Setting;
+use crate::sides::dummies_of;
+use crate::terms::{Site, add_terms_if};
+use crate::turns::{is_turn, is_turned, site};
+use adj_flow::{End, Flow, Part, Place, Point, Standing, add_node, number, told};
+use adj_reach::flag_at;
+use adj_tree::{Act, Exprs, Memory, Name};
+use std::alloc::Global;
+
+// ---- assignments
+
+// The adjoint reads of a statement that is an assignment.
+fn assigned<'t>(
+    alloc: Global,
+    site: Site<'_, '_, '_>,
+    act: &'t Act,
+) -> Result<Vec<&'t Name>, Memory>
+    ensures reads { IfOk result (λ v. names_of v.items ≡ assigned_reads site.entry.found site.entry.width (row_of site.entry.part.now) site.entry.number (act_of act.now)) }
+{
+    let mut names = Vec::new(alloc);
+    match act {
+        Act::Assign(target, right) => {
+            let is_adjointed = site.found.is_adjointed(site.number)?;
+            let is_kept = site.found.is_kept(site.number);
+            site.add_reads_if(is_adjointed, right, &mut names)?;
+            add_terms_if(is_kept || is_adjointed, &target.subs, &mut names)?;
+            Ok(names)
+        }
+        Act::If(_, _, _)
+        | Act::Loop(_, _, _, _, _, _)
+        | Act::While(_, _)
+        | Act::Call(_, _)
+        | Act::Run(_) => Ok(names),
+    }
+}
+
+// Adds the numbers of variables of a unit before the statement of a number.
+fn add_before(
+    nodes: &mut Vec<usize>,
+    width: usize,
+    part: &Part<'_>,
+    statement: usize,
+    names: &[&Name],
+) -> Result<(), Memory>
+    ensures added { OnOk result (nodes.new.items ≡ nodes.old.items ++ flat_map (node_before width (row_of part.now) statement) (names_of names.now)) }
+{
+    let point = number(Point::Before(statement))?;
+    for name in names {
+        let end = End { part, point, name };
+        add_node(nodes, width, end, true)?;
+    }
+    Ok(())
+}
+
+// Adds the adjoint reads of a statement that is an assignment.
+fn add_assigned(
+    alloc: Global,
+    nodes: &mut Vec<usize>,
+    setting: Setting<'_, '_>,
+    part: &Part<'_>,
+    standing: &Standing<'_>,
+) -> Result<(), Memory>
+    ensures added { OnOk result (nodes.new.items ≡ nodes.old.items ++ flat_map (node_before setting.entry.width (row_of part.now) standing.now.number) (assigned_reads setting.entry.found setting.entry.width (row_of part.now) standing.now.number (act_of standing.now.act.now))) }
+{
+    let site = Site {
+        found: setting.found,
+        width: setting.width,
+        part,
+        number: standing.number,
+    };
+    let names = assigned(alloc, site, standing.act)?;
+    add_before(
+        nodes,
+        setting.width,
+        part,
+        standing.number,
+        names.as_slice(),
+    )
+}
+
+// ---- calls
+
+// Whether the dummy of a call's unit is in the entry set or read in a turn.
+fn is_looked_at(
+    setting: Setting<'_, '_>,
+    place: Place<'_>,
+    called: &Part<'_>,
+    bound: Bound<'_>,
+) -> Result<bool, Memory>
+    ensures looked { IfOk result (λ b. b ≡ (told_at setting.entry.found.entry.now setting.entry.width (row_of called.now) (row_of called.now).part.number (plain bound.entry.dummy.now) || (is_turn (place_of place.entry) && flag (dummies_at setting.entry.sides.read.now (row_of called.now)) bound.entry.place))) }
+{
+    let dummy = End {
+        part: called,
+        point: called.number,
+        name: bound.dummy,
+    };
+    let is_wanted = told(setting.found.entry, setting.width, dummy)?;
+    let read = dummies_of(setting.sides.read, called.number);
+    let is_read = flag_at(read, bound.place);
+    let is_turn = is_turn(place);
+    Ok(is_wanted || is_turn && is_read)
+}
+
+// Whether an adjointed call at a place reads the actual of a dummy.
+fn is_wanted(
+    setting: Setting<'_, '_>,
+    place: Place<'_>,
+    called: &Part<'_>,
+    bound: Bound<'_>,
+) -> Result<bool, Memory>
+    ensures wanted { IfOk result (λ b. b ≡ is_wanted setting.entry.found setting.entry.sides setting.entry.width (place_of place.entry) (row_of called.now) (passed_of bound.entry)) }
+{
+    let is_looked_at = is_looked_at(setting, place, called, bound)?;
+    let written = dummies_of(setting.sides.written, called.number);
+    let is_written = flag_at(written, bound.place);
+    let is_turned = is_turned(place, bound.actual);
+    Ok(!is_turned && (is_looked_at && !is_written))
+}
+
+// Adds the adjoint reads among the actuals of an adjointed call.
+fn add_actuals(
+    nodes: &mut Vec<usize>,
+    setting: Setting<'_, '_>,
+    part: &Part<'_>,
+    standing: &Standing<'_>,
+    called: &Part<'_>,
+    bounds: &[Bound<'_>],
+) -> Result<(), Memory>
+    ensures added { OnOk result (nodes.new.items ≡ nodes.old.items ++ flat_map (λ b. list_if (is_wanted setting.entry.found setting.entry.sides setting.entry.width (place_of standing.now.place) (row_of called.now) b) (node_before setting.entry.width (row_of part.now) (site true standing.now.number (place_of standing.now.place)) b.2)) (map passed_of bounds.now)) }
+{
+    let place = standing.place;
+    let point = number(Point::Before(site(true, standing.number, place)))?;
+    for bound in bounds {
+        let is_wanted = is_wanted(setting, place, called, *bound)?;
+        let end = End {
+            part,
+            point,
+            name: bound.actual,
+        };
+        add_node(nodes, setting.width, end, is_wanted)?;
+    }
+    Ok(())
+}
+
+// Adds the adjoint reads of a call of a unit, if it is adjointed.
+fn add_found(
+    alloc: Global,
+    nodes: &mut Vec<usize>,
+    setting: Setting<'_, '_>,
+    part: &Part<'_>,
+    standing: &Standing<'_>,
+    actuals: &Exprs,
+    called: &Part<'_>,
+) -> Result<(), Memory>
+    ensures added { OnOk result (nodes.new.items ≡ nodes.old.items ++ found_reads setting.entry.found setting.entry.sides setting.entry.width (row_of part.now) (standing_of standing.now) (terms_of actuals.now) (Some (row_of called.now))) }
+{
+    let is_adjointed = setting.found.is_adjointed(standing.number)?;
+    if is_adjointed {
+        let bounds = bounds(alloc, called.unit.dummies.as_slice(), actuals)?;
+        add_actuals(nodes, setting, part, standing, called, bounds.as_slice())?;
+    }
+    Ok(())
+}
+
+// Adds the adjoint reads of a statement that is a call.
+fn add_call(
+    alloc: Global,
+    nodes: &mut Vec<usize>,
+    setting: Setting<'_, '_>,
+    part: &Part<'_>,
+    standing: &Standing<'_>,
+) -> Result<(), Memory>
+    ensures added { OnOk result (nodes.new.items ≡ nodes.old.items ++ call_reads setting.entry.found setting.entry.sides (find (map row_of setting.entry.units.parts.now) setting.entry.units.numbers.now) setting.entry.width (row_of part.now) (standing_of standing.now) (act_of standing.now.act.now)) }
+{
+    match standing.act {
+        Act::Call(name, actuals) => match setting.units.find(name) {
+            Some(called) => add_found(alloc, nodes, setting, part, standing, actuals, called),
+            None => Ok(()),
+        },
+        Act::Assign(_, _)
+        | Act::If(_, _, _)
+        | Act::Loop(_, _, _, _, _, _)
+        | Act::While(_, _)
+        | Act::Run(_) => Ok(()),
+    }
+}
+
+// ---- all
+
+// Adds the adjoint reads of a statement.
+fn add_standing(
+    alloc: Global,
+    nodes: &mut Vec<usize>,
+    setting: Setting<'_, '_>,
+    part: &Part<'_>,
+    standing: &Standing<'_>,
+) -> Result<(), Memory>
+    ensures added { OnOk result (nodes.new.items ≡ nodes.old.items ++ standing_reads setting.entry.found setting.entry.sides (find (map row_of setting.entry.units.parts.now) setting.entry.units.numbers.now) setting.entry.width (row_of part.now) (standing_of standing.now)) }
+{
+    add_assigned(alloc, nodes, setting, part, standing)?;
+    add_call(alloc, nodes, setting, part, standing)
+}
+
+// Adds the adjoint reads of a unit.
+fn add_unit(
+    alloc: Global,
+    nodes: &mut Vec<usize>,
+    setting: Setting<'_, '_>,
+    part: &Part<'_>,
+) -> Result<(), Memory>
+    ensures added { OnOk result (nodes.new.items ≡ nodes.old.items ++ unit_reads setting.entry.found setting.entry.sides (find (map row_of setting.entry.units.parts.now) setting.entry.units.numbers.now) setting.entry.width (row_of part.now)) }
+{
+    for standing in part.statements.as_slice() {
+        add_standing(alloc, nodes, setting, part, standing)?;
+    }
+    Ok(())
+}
+
+// The same, if the unit takes part.
+fn add_taking(
+    alloc: Global,
+    nodes: &mut Vec<usize>,
+    setting: Setting<'_, '_>,
+    part: &Part<'_>,
+    takes_part: bool,
+) -> Result<(), Memory>
+    ensures added { OnOk result (nodes.new.items ≡ nodes.old.items ++ list_if takes_part (unit_reads setting.entry.found setting.entry.sides (find (map row_of setting.entry.units.parts.now) setting.entry.units.numbers.now) setting.entry.width (row_of part.now))) }
+{
+    if takes_part {
+        add_unit(alloc, nodes, setting, part)?;
+    }
+    Ok(())
+}
+
+/// The adjoint reads of all units that take part.
+pub(crate) fn read_nodes(
+    alloc: Global,
+    flow: &Flow<'_>,
+    setting: Setting<'_, '_>,
+) -> Result<Vec<usize>, Memory>
+    ensures nodes { IfOk result (λ v. v.items ≡ read_nodes setting.entry.found setting.entry.sides (find (map row_of setting.entry.units.parts.now) setting.entry.units.numbers.now) (map row_of flow.now.parts.items) flow.now.taking setting.entry.width) }
+{
+    let mut nodes = Vec::new(alloc);
+    let taking = flow.taking.as_slice();
+    for part in flow.parts.as_slice() {
+        let takes_part = flag_at(taking, part.number);
+        add_taking(alloc, &mut nodes, setting, part, takes_part)?;
+    }
+    Ok(nodes)
+}

@@ -1,0 +1,211 @@
+//! The values that statements save, as numbers of variables at statements.
+
+ghost use Rattle.std.specs.Prelude.{◌≡◌, ◌++◌, ◌||◌, IfOk, OnOk, Some, map, flat_map};
+ghost use Rattle.adj_tree.specs.Code.{plain};
+ghost use Rattle.adj_tree.specs.View.{act_of, terms_of};
+ghost use Rattle.adj_facts.specs.Variables.{list_if};
+ghost use Rattle.adj_flow.specs.NodeView.{names_of};
+ghost use Rattle.adj_flow.specs.Rows.{row_of};
+ghost use Rattle.adj_flow.specs.View.{standing_of};
+ghost use Rattle.adj_tbr.specs.View.{find, kept_by};
+ghost use Rattle.adj_tbr.specs.Saves.{saved_node, own_saves, found_saves, call_saves, standing_saves, unit_saves, save_nodes};
+
+use crate::bound::handed;
+use crate::setting::Setting;
+use crate::sides::dummies_of;
+use crate::turns::site;
+use adj_flow::{End, Flow, Part, Point, Standing, add_node, number, told};
+use adj_reach::flag_at;
+use adj_tree::{Act, Exprs, Memory, Name};
+use std::alloc::Global;
+
+// Adds a variable that the statement of a number replaces, if it is held before it.
+fn add_saved(
+    nodes: &mut Vec<usize>,
+    held: &[bool],
+    width: usize,
+    part: &Part<'_>,
+    statement: usize,
+    name: &Name,
+) -> Result<(), Memory>
+    ensures added { OnOk result (nodes.new.items ≡ nodes.old.items ++ saved_node held.now width (row_of part.now) statement (plain name.now)) }
+{
+    let before = End {
+        part,
+        point: number(Point::Before(statement))?,
+        name,
+    };
+    let at = End {
+        part,
+        point: statement,
+        name,
+    };
+    let is_held = told(held, width, before)?;
+    add_node(nodes, width, at, is_held)
+}
+
+// The same of some variables.
+fn add_all_saved(
+    nodes: &mut Vec<usize>,
+    held: &[bool],
+    width: usize,
+    part: &Part<'_>,
+    statement: usize,
+    names: &[&Name],
+) -> Result<(), Memory>
+    ensures added { OnOk result (nodes.new.items ≡ nodes.old.items ++ flat_map (saved_node held.now width (row_of part.now) statement) (names_of names.now)) }
+{
+    for name in names {
+        add_saved(nodes, held, width, part, statement, name)?;
+    }
+    Ok(())
+}
+
+// Adds the variable of a statement, if the statement is kept.
+fn add_kept(
+    nodes: &mut Vec<usize>,
+    held: &[bool],
+    setting: Setting<'_, '_>,
+    part: &Part<'_>,
+    statement: usize,
+    name: &Name,
+) -> Result<(), Memory>
+    ensures added { OnOk result (nodes.new.items ≡ nodes.old.items ++ list_if (kept_by setting.entry.found statement) (saved_node held.now setting.entry.width (row_of part.now) statement (plain name.now))) }
+{
+    if setting.found.is_kept(statement) {
+        add_saved(nodes, held, setting.width, part, statement, name)?;
+    }
+    Ok(())
+}
+
+// Adds what an assignment or a DO saves.
+fn add_own(
+    nodes: &mut Vec<usize>,
+    held: &[bool],
+    setting: Setting<'_, '_>,
+    part: &Part<'_>,
+    standing: &Standing<'_>,
+) -> Result<(), Memory>
+    ensures added { OnOk result (nodes.new.items ≡ nodes.old.items ++ own_saves held.now setting.entry.found setting.entry.width (row_of part.now) standing.now.number (act_of standing.now.act.now)) }
+{
+    let number = standing.number;
+    match standing.act {
+        Act::Assign(target, _) => add_kept(nodes, held, setting, part, number, &target.name),
+        Act::Loop(x, _, _, _, _, _) => add_kept(nodes, held, setting, part, number, x),
+        Act::If(_, _, _) | Act::While(_, _) | Act::Call(_, _) | Act::Run(_) => Ok(()),
+    }
+}
+
+// Adds what a call of a unit saves.
+fn add_found(
+    alloc: Global,
+    nodes: &mut Vec<usize>,
+    held: &[bool],
+    setting: Setting<'_, '_>,
+    part: &Part<'_>,
+    standing: &Standing<'_>,
+    actuals: &Exprs,
+    called: &Part<'_>,
+) -> Result<(), Memory>
+    ensures added { OnOk result (nodes.new.items ≡ nodes.old.items ++ found_saves held.now setting.entry.found setting.entry.sides setting.entry.width (row_of part.now) (standing_of standing.now) (terms_of actuals.now) (Some (row_of called.now))) }
+{
+    let is_adjointed = setting.found.is_adjointed(standing.number)?;
+    let is_kept = setting.found.is_kept(standing.number);
+    if is_kept || is_adjointed {
+        let written = dummies_of(setting.sides.written, called.number);
+        let names = handed(alloc, written, actuals)?;
+        let at = site(is_adjointed, standing.number, standing.place);
+        add_all_saved(nodes, held, setting.width, part, at, names.as_slice())?;
+    }
+    Ok(())
+}
+
+// Adds what a statement saves that is a call.
+fn add_call(
+    alloc: Global,
+    nodes: &mut Vec<usize>,
+    held: &[bool],
+    setting: Setting<'_, '_>,
+    part: &Part<'_>,
+    standing: &Standing<'_>,
+) -> Result<(), Memory>
+    ensures added { OnOk result (nodes.new.items ≡ nodes.old.items ++ call_saves held.now setting.entry.found setting.entry.sides (find (map row_of setting.entry.units.parts.now) setting.entry.units.numbers.now) setting.entry.width (row_of part.now) (standing_of standing.now) (act_of standing.now.act.now)) }
+{
+    match standing.act {
+        Act::Call(name, actuals) => match setting.units.find(name) {
+            Some(called) => add_found(alloc, nodes, held, setting, part, standing, actuals, called),
+            None => Ok(()),
+        },
+        Act::Assign(_, _)
+        | Act::If(_, _, _)
+        | Act::Loop(_, _, _, _, _, _)
+        | Act::While(_, _)
+        | Act::Run(_) => Ok(()),
+    }
+}
+
+// Adds what a statement saves.
+fn add_standing(
+    alloc: Global,
+    nodes: &mut Vec<usize>,
+    held: &[bool],
+    setting: Setting<'_, '_>,
+    part: &Part<'_>,
+    standing: &Standing<'_>,
+) -> Result<(), Memory>
+    ensures added { OnOk result (nodes.new.items ≡ nodes.old.items ++ standing_saves held.now setting.entry.found setting.entry.sides (find (map row_of setting.entry.units.parts.now) setting.entry.units.numbers.now) setting.entry.width (row_of part.now) (standing_of standing.now)) }
+{
+    add_own(nodes, held, setting, part, standing)?;
+    add_call(alloc, nodes, held, setting, part, standing)
+}
+
+// Adds what the statements of a unit save.
+fn add_unit(
+    alloc: Global,
+    nodes: &mut Vec<usize>,
+    held: &[bool],
+    setting: Setting<'_, '_>,
+    part: &Part<'_>,
+) -> Result<(), Memory>
+    ensures added { OnOk result (nodes.new.items ≡ nodes.old.items ++ unit_saves held.now setting.entry.found setting.entry.sides (find (map row_of setting.entry.units.parts.now) setting.entry.units.numbers.now) setting.entry.width (row_of part.now)) }
+{
+    for standing in part.statements.as_slice() {
+        add_standing(alloc, nodes, held, setting, part, standing)?;
+    }
+    Ok(())
+}
+
+// The same, if the unit takes part.
+fn add_taking(
+    alloc: Global,
+    nodes: &mut Vec<usize>,
+    held: &[bool],
+    setting: Setting<'_, '_>,
+    part: &Part<'_>,
+    takes_part: bool,
+) -> Result<(), Memory>
+    ensures added { OnOk result (nodes.new.items ≡ nodes.old.items ++ list_if takes_part (unit_saves held.now setting.entry.found setting.entry.sides (find (map row_of setting.entry.units.parts.now) setting.entry.units.numbers.now) setting.entry.width (row_of part.now))) }
+{
+    if takes_part {
+        add_unit(alloc, nodes, held, setting, part)?;
+    }
+    Ok(())
+}
+
+/// What the statements of all units save that take part, by the flags of what is held or read.
+pub(crate) fn save_nodes(
+    alloc: Global,
+    flow: &Flow<'_>,
+    held: &[bool],
+    setting: Setting<'_, '_>,
+) -> Result<Vec<usize>, Memory>
+    ensures nodes { IfOk result (λ v. v.items ≡ save_nodes held.now setting.entry.found setting.entry.sides (find (map row_of setting.entry.units.parts.now) setting.entry.units.numbers.now) (map row_of flow.now.parts.items) flow.now.taking setting.entry.width) }
+{
+    let mut nodes = Vec::new(alloc);
+    let taking = flow.taking.as_slice();
+    for part in flow.parts.as_slice() {
+        let takes_part = flag_at(taking, part.number);
+        add_taking(alloc, &mut nodes, held, setting, part, takes_part)?;
+    }
+    Ok(nodes)
+}
