@@ -14,7 +14,7 @@ use std::alloc::Global;
 use std::test::Fail;
 
 // The program of a text.
-fn read(alloc: Global, source: &[u8]) -> Result<Program, Fault>
+pub(crate) fn read(alloc: Global, source: &[u8]) -> Result<Program, Fault>
     ensures written { IfOk result (λ p. IsWritten (procedures_of p)) }
 {
     let stated = statements(alloc, source, Mode::Source)?;
@@ -23,7 +23,7 @@ fn read(alloc: Global, source: &[u8]) -> Result<Program, Fault>
 }
 
 // The variables of each unit.
-fn variables<'c>(alloc: Global, checked: &'c Checked) -> Result<Vec<&'c NameList>, Memory>
+pub(crate) fn variables<'c>(alloc: Global, checked: &'c Checked) -> Result<Vec<&'c NameList>, Memory>
     ensures all { IfOk result (λ v. map (λ b. b.now) v.items ≡ checked.now.variables) }
 {
     let count = checked.program().units.as_slice().len();
@@ -35,7 +35,7 @@ fn variables<'c>(alloc: Global, checked: &'c Checked) -> Result<Vec<&'c NameList
 }
 
 // A flag for each digit.
-fn flags(alloc: Global, digits: &[u8]) -> Result<Flags, Memory> {
+pub(crate) fn flags(alloc: Global, digits: &[u8]) -> Result<Flags, Memory> {
     let mut flags = Vec::new(alloc);
     for digit in digits {
         flags.push(*digit == b'1')?;
@@ -44,7 +44,7 @@ fn flags(alloc: Global, digits: &[u8]) -> Result<Flags, Memory> {
 }
 
 // The letter of a flag.
-fn letter(flags: &[bool], place: usize, yes: u8, not: u8) -> u8 {
+pub(crate) fn letter(flags: &[bool], place: usize, yes: u8, not: u8) -> u8 {
     if flags.get(place).copied().unwrap_or(false) {
         yes
     } else {
