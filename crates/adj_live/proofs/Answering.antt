@@ -1,6 +1,6 @@
 -- Flags of what the listed edges reach from the listed beginnings tell what is live.
 use Rattle.std.proofs.Common.{◌≡◌, ℕ, zero, suc, ◌+◌, ◌-◌, ◌*◌, ◌<◌, ◌≤◌, List, [], ◌∷◌, ◌++◌, Bool, true, false, map, length, refl, sym, ap, ◌∙◌, subst, arith}
-use Rattle.std.specs.Prelude.{◌↔◌, IsTrue, All, Contains, Option, Some, None, slice_index_or, if◌then◌else◌}
+use Rattle.std.specs.Prelude.{◌↔◌, IsTrue, All, Contains, Option, Some, None, slice_index_or, flat_map, if◌then◌else◌}
 use Rattle.std.specs.Option.{option_map}
 use Rattle.adj_tree.specs.Code.{plain, name_eq, Procedure}
 use Rattle.adj_tree.specs.declared.marks.Activity as flags
@@ -25,10 +25,10 @@ use Rattle.adj_flow.specs.Told.{told, told_of}
 use Rattle.adj_flow.proofs.Covering.{scope_covers, scope_wide}
 use Rattle.adj_flow.proofs.Scoping.{found_unit}
 use Rattle.adj_activity.specs.Told.{activity_told}
-use Rattle.adj_live.specs.Listed.{Here, all_nodes, all_edges}
+use Rattle.adj_live.specs.Listed.{Here, unit_nodes, all_nodes, unit_edges, all_edges}
 use Rattle.adj_live.specs.Passed.{row_by}
 use Rattle.adj_live.specs.View.{activity_in}
-use Rattle.adj_live.proofs.Imaged.{start_images, step_images}
+use Rattle.adj_live.proofs.Imaged.{here_of, start_images, step_images}
 use Rattle.adj_live.proofs.Rowed.{nodes_same, edges_same}
 use Rattle.adj_live.proofs.Telling.{is_live}
 
@@ -80,6 +80,17 @@ row_named ps rows x = unmoved rows (place_from 0 (map (λ p. p.name) ps) x) ∙ 
 
 -- ---- all together
 
+-- a unit by its row, among these
+abbrev pub seen_by : List (List ℕ × ℕ) → ℕ → List (List Bool) → List (List Bool) → flags.Activity → List Row → Row → Here
+seen_by numbers w reads writes b us r = record {
+  width = w;
+  find = λ x. found_at us (value_of x numbers);
+  read = λ x. row_by reads (value_of x numbers);
+  written = λ x. row_by writes (value_of x numbers);
+  activity = activity_in b w r;
+  row = r;
+}
+
 -- which units take part doesn't depend on what is flagged
 takes_same : (ps : List Procedure) (h : ℕ) (a b c d : List Bool) (g : Part) → TakesPart (record { units = ps; head = h; vars = a; outvars = b }) g → TakesPart (record { units = ps; head = h; vars = c; outvars = d }) g
 takes_same ps h a b c d g (begins e) = begins (record { is = e.is })
@@ -117,9 +128,8 @@ module _ (k : Problem) (vss : List (List (List ℕ))) (numbers : List (List ℕ 
   is_written : (x : List ℕ) → written x ≡ handed_back k.units x
   is_written x = ap (row_by writes) (known x) ∙ row_named k.units writes x ∙ ap (λ z. row_of k.units z x) writes_are
 
-  -- a unit by its row, among these
   abbrev seen : List Row → Row → Here
-  seen us r = record { width = w; find = find us; read = read; written = written; activity = activity_in b w r; row = r }
+  seen = seen_by numbers w reads writes b
 
   module _ (facts kepts entries : List Bool) (exact : (m : ℕ) → IsTrue (flag facts m) ↔ ReachedFrom (all_edges (seen rs) rs taking) (all_nodes (seen rs) rs taking) m)
       (kept_by : (n : ℕ) → flag kepts n ≡ flag facts (n * (w + 2) + w)) (entry_by : (n : ℕ) → flag entries n ≡ flag facts (n * (w + 2) + (w + 1))) where
@@ -131,6 +141,8 @@ module _ (k : Problem) (vss : List (List (List ℕ))) (numbers : List (List ℕ 
         subst (λ (z : List Row). (m : ℕ) → IsTrue (flag facts m) ↔ ReachedFrom (all_edges (seen z) z taking) (all_nodes (seen z) z taking) m) same exact in
         let edges = edges_same k vss taking w covers b (find us) read written in
         let nodes = nodes_same k vss taking w covers b (find us) read written in
-        is_live k o covers w wide a _ _ (start_images k vss taking w covers wide a (find us) finds read is_read written is_written) (step_images k vss taking w covers wide a (find us) finds read is_read written is_written) facts kepts entries
-        (λ m. subst (λ z. IsTrue (flag facts m) ↔ ReachedFrom z _ m) edges (subst (λ z. IsTrue (flag facts m) ↔ ReachedFrom (all_edges (seen us) us taking) z m) nodes (exact' m)))
+        let es = flat_map (λ g. unit_edges (here_of vss w a (find us) read written g)) (scope_by vss (flag taking) k.units).parts in
+        let ss = flat_map (λ g. unit_nodes (here_of vss w a (find us) read written g)) (scope_by vss (flag taking) k.units).parts in
+        is_live k o covers w wide a ss es (start_images k vss taking w covers wide a (find us) finds read is_read written is_written) (step_images k vss taking w covers wide a (find us) finds read is_read written is_written) facts kepts entries
+        (λ m. subst (λ z. IsTrue (flag facts m) ↔ ReachedFrom z ss m) edges (subst (λ z. IsTrue (flag facts m) ↔ ReachedFrom (all_edges (seen us) us taking) z m) nodes (exact' m)))
         kept_by entry_by

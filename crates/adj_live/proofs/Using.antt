@@ -17,6 +17,16 @@ use Rattle.adj_facts.specs.Rules.{list_of}
 use Rattle.adj_facts.proofs.Members.{is_first, is_none, is_only, if_only}
 use Rattle.adj_live.specs.Passed.{passed_in, used_by, handed_by, passed_by}
 
+-- ---- without actuals nothing is handed or passed
+
+pub no_handed : (ws : List Bool) → handed_in_actuals ws none ≡ []
+no_handed [] = refl
+no_handed (w ∷ ws) = refl
+
+pub no_passed : (ws : List Bool) → passed_in ws none ≡ []
+no_passed [] = refl
+no_passed (w ∷ ws) = refl
+
 -- ---- by the rows of the least sets
 
 pub used_same : (units : List Procedure) (read : List ℕ → List Bool) → ((x : List ℕ) → read x ≡ looked_at units x) → (a : Act) → used_by read a ≡ used_in units a

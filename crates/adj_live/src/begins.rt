@@ -13,15 +13,14 @@ ghost use Rattle.adj_live.specs.Numbers.{kept_at, wanted_at};
 ghost use Rattle.adj_live.specs.Listed.{needed_here, needed_nodes, own_nodes, turned_nodes, held_nodes, statement_nodes, extent_nodes, unit_nodes, all_nodes};
 ghost use Rattle.adj_live.specs.View.{here_at, here_in};
 
-use crate::passing::add_passed_by;
-use crate::extents::extents;
+use crate::extents::{extents, is_among};
 use crate::names::add_terms;
+use crate::passing::add_passed_by;
 use crate::reads::{add_reads, resets};
 use crate::site::{Known, Site, add_number, kept, wanted};
 use adj_flow::{Flow, Place, Point, Standing, number};
 use adj_reach::flag_at;
-use adj_tree::{Act, Expr, Memory, Name};
-use adj_tree::Place as Target;
+use adj_tree::{Act, Expr, Memory, Name, Place as Target};
 use std::alloc::Global;
 
 /// Whether a place turns a variable: that of the marked loop whose turns a call makes.
@@ -217,7 +216,7 @@ fn add_extents(alloc: Global, nodes: &mut Vec<usize>, site: Site<'_, '_>) -> Res
 {
     let extents = extents(alloc, site.part.unit.decls.as_slice())?;
     for dummy in site.part.unit.dummies.as_slice() {
-        let is_extent = extents.get(dummy).is_some();
+        let is_extent = is_among(&extents, dummy);
         add_extent(nodes, site, dummy, is_extent)?;
     }
     Ok(())

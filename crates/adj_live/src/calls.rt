@@ -27,13 +27,7 @@ pub(crate) fn site_of(is_adjointed: bool, statement: usize, place: Place<'_>) ->
     ensures is { result ≡ site is_adjointed statement (place_of place.entry) }
 {
     match place {
-        Place::TurnOf(holder, _) => {
-            if is_adjointed {
-                holder
-            } else {
-                statement
-            }
-        }
+        Place::TurnOf(holder, _) => { if is_adjointed { holder } else { statement } }
         Place::Outermost | Place::PartOf(_) => statement,
     }
 }

@@ -6,7 +6,7 @@ ghost use Rattle.adj_meaning.specs.Read.{is_among, is_extent};
 ghost use Rattle.adj_writes.specs.Table.{value_of};
 ghost use Rattle.adj_live.specs.Extents.{is_named};
 
-use adj_tree::{Decl, Extent, Memory};
+use adj_tree::{Decl, Extent, Memory, Name};
 use adj_writes::table::Numbers;
 use std::alloc::Global;
 
@@ -42,4 +42,11 @@ pub(crate) fn extents<'a>(alloc: Global, decls: &'a [Decl]) -> Result<Numbers<'a
         add_names(&mut names, decl.extents.as_slice())?;
     }
     Ok(names)
+}
+
+/// Whether a name is among these.
+pub(crate) fn is_among(names: &Numbers<'_>, name: &Name) -> bool
+    ensures is { result ≡ is_some (value_of name.now names.now) }
+{
+    names.get(name).is_some()
 }

@@ -15,7 +15,7 @@ ghost use Rattle.adj_live.specs.Asked.{TellsLive};
 use crate::begins::nodes;
 use crate::picked::picked;
 use crate::sides::Sides;
-use crate::site::Known;
+use crate::site::{Known, stride};
 use crate::steps::edges;
 use adj_activity::Units;
 use adj_flow::Flow;
@@ -57,7 +57,7 @@ pub fn live(
         activity,
     };
     let facts = facts(alloc, flow, known)?;
-    let stride = flow.width.checked_add(2).ok_or(Memory)?;
+    let stride = stride(flow.width)?;
     let kept = picked(alloc, facts.as_slice(), stride, flow.width)?;
     let entry = picked(alloc, facts.as_slice(), stride, stride - 1)?;
     Ok(Kept { kept, entry })

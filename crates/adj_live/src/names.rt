@@ -170,11 +170,7 @@ pub(crate) fn add_read<'a>(
 }
 
 // Adds the variable that an actual is or has as its element, if its dummy is written.
-fn add_place<'a>(
-    actual: &'a Expr,
-    is_written: bool,
-    out: &mut Vec<&'a Name>,
-) -> Result<(), Memory>
+fn add_place<'a>(actual: &'a Expr, is_written: bool, out: &mut Vec<&'a Name>) -> Result<(), Memory>
     ensures added { OnOk result (names_of out.new.items ≡ names_of out.old.items ++ list_if is_written (place_of_actual (term_of actual.now))) }
 {
     match actual {

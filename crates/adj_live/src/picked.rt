@@ -6,6 +6,14 @@ ghost use Rattle.adj_reach.specs.Edges.{flag};
 use adj_tree::{Flags, Memory};
 use std::alloc::Global;
 
+// The place so many further on.
+fn further(place: usize, stride: usize) -> Result<usize, Memory>
+    ensures further { IfOk result (λ n. n ≡ place + stride) }
+{
+    let next = place.checked_add(stride).ok_or(Memory)?;
+    Ok(next)
+}
+
 /// Of so many flags each the one at a place.
 pub(crate) fn picked(
     alloc: Global,
@@ -20,7 +28,7 @@ pub(crate) fn picked(
     let mut next = place;
     while next < flags.len() {
         picked.push(flags[next])?;
-        next = next.checked_add(stride).ok_or(Memory)?;
+        next = further(next, stride)?;
     }
     Ok(Flags::new(picked))
 }

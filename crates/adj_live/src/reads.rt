@@ -25,7 +25,11 @@ fn has_shadow(site: Site<'_, '_>, name: &Name) -> Result<bool, Memory>
         point: site.part.number,
         name,
     };
-    told(site.known.activity.shadowed.as_slice(), site.known.width, unit)
+    told(
+        site.known.activity.shadowed.as_slice(),
+        site.known.width,
+        unit,
+    )
 }
 
 // Whether a variable is varied before a statement.
@@ -37,7 +41,11 @@ fn was_varied(site: Site<'_, '_>, statement: usize, name: &Name) -> Result<bool,
         point: number(Point::Before(statement))?,
         name,
     };
-    told(site.known.activity.varied.as_slice(), site.known.width, before)
+    told(
+        site.known.activity.varied.as_slice(),
+        site.known.width,
+        before,
+    )
 }
 
 /// Whether a DO resets the shadow of its variable.

@@ -33,8 +33,8 @@ pub(crate) struct Site<'p, 'a> {
     pub part: &'p Part<'a>,
 }
 
-// How many numbers there are at each point and for each statement.
-fn stride(width: usize) -> Result<usize, Memory>
+/// How many numbers there are at each point and for each statement.
+pub(crate) fn stride(width: usize) -> Result<usize, Memory>
     ensures stride { IfOk result (λ n. n ≡ width + 2) }
 {
     let stride = width.checked_add(2).ok_or(Memory)?;

@@ -247,7 +247,11 @@ fn add_ways(edges: &mut Vec<(usize, usize)>, site: Site<'_, '_>) -> Result<(), M
 }
 
 // Adds the edge from a dummy that is needed at the entry of its unit to that it is wanted.
-fn add_dummy(edges: &mut Vec<(usize, usize)>, site: Site<'_, '_>, dummy: &Name) -> Result<(), Memory>
+fn add_dummy(
+    edges: &mut Vec<(usize, usize)>,
+    site: Site<'_, '_>,
+    dummy: &Name,
+) -> Result<(), Memory>
     ensures added { OnOk result (edges.new.items ≡ edges.old.items ++ linked (needed_here (here_at site.entry) (row_of site.entry.part.now).part.entry (plain dummy.now)) (wanted_at site.entry.known.width (vars_of (row_of site.entry.part.now)) (row_of site.entry.part.now).part.number dummy.now)) }
 {
     let from = site.needed(site.part.entry, dummy)?;

@@ -23,7 +23,10 @@ pub(crate) fn read(alloc: Global, source: &[u8]) -> Result<Program, Fault>
 }
 
 // The variables of each unit.
-pub(crate) fn variables<'c>(alloc: Global, checked: &'c Checked) -> Result<Vec<&'c NameList>, Memory>
+pub(crate) fn variables<'c>(
+    alloc: Global,
+    checked: &'c Checked,
+) -> Result<Vec<&'c NameList>, Memory>
     ensures all { IfOk result (λ v. map (λ b. b.now) v.items ≡ checked.now.variables) }
 {
     let count = checked.program().units.as_slice().len();

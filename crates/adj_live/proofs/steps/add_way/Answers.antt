@@ -17,7 +17,7 @@ loop-name-preserved c =
     let x = c.name-item.result in
     let from = c.in_ok-number-2.ensures.number in
     let to = c.in_ok-number.ensures.number in
-    let carried = c.is_assigned.ensures.is in
+    let carried = c.is_assigned-is_carried.ensures.is in
     flat_more (λ n. plain n) f c.as_slice-name-items.result.now c.loop-name.name-index c.name-item.result c.loop-name.edges.items c.add_carried.new.edges.items c.loop-name-test.true c.name-item.is
     (c.in_ok-add_carried.ensures.added ∙ (λ i. c.loop-name.edges.items ++ list_if (not (carried i)) (linked (needed_here h (to i) (plain x)) (needed_here h (from i) (plain x)))))
     ∙ c.loop-name.invariant
