@@ -1,6 +1,6 @@
 -- Facts and their numbers: each fact that is known has one, and no two share one.
 use Rattle.std.proofs.Common.{◌≡◌, ℕ, ◌+◌, ◌*◌, ◌/◌, ◌%◌, ◌<◌, ◌≤◌, List, [], ◌∷◌, length, refl, sym, ap, ◌∙◌, subst, arith}
-use Rattle.std.specs.Prelude.{Contains, Option, Some, None}
+use Rattle.std.specs.Prelude.{Contains, Some}
 use Rattle.std.proofs.lemmas.Nat.{div-mul-add, mod-mul-add}
 use Rattle.adj_tree.specs.Code.{Var, plain}
 use Rattle.adj_facts.specs.Parts.{Part}
@@ -12,7 +12,7 @@ use Rattle.adj_facts.specs.Rules.{Scope, list_of}
 use Rattle.adj_facts.proofs.Points.{one_point}
 use Rattle.adj_flow.specs.Nodes.{node_in, place_in, IsWide, IsNumbered, HasNode, HasVariable, linked}
 use Rattle.adj_flow.proofs.Images.{Images, images_one}
-use Rattle.adj_flow.proofs.Places.{IsHere, place_range, number_is, one_number, own_number, here_has, has_here}
+use Rattle.adj_flow.proofs.Places.{place_range, number_is, one_number, own_number, here_has, has_here}
 use Rattle.adj_flow.proofs.Telling.{one_unit}
 use Rattle.adj_live.specs.Numbers.{kept_at, wanted_number, fact_at}
 

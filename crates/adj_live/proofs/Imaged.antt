@@ -1,6 +1,6 @@
 -- What the code lists are the numbers of what the rules list.
-use Rattle.std.proofs.Common.{◌≡◌, ◌⊎◌, inl, inr, ℕ, suc, ◌+◌, ◌*◌, List, [], ◌∷◌, ◌++◌, Bool, true, false, map, refl, sym, ap, ◌∙◌, subst, append-nil}
-use Rattle.std.specs.Prelude.{Contains, Option, Some, None, not, ◌&&◌, flat_map, filter, slice_index_or}
+use Rattle.std.proofs.Common.{◌≡◌, ◌⊎◌, inl, inr, ℕ, suc, List, [], ◌∷◌, ◌++◌, Bool, true, false, map, refl, sym, ap, ◌∙◌, subst, append-nil}
+use Rattle.std.specs.Prelude.{Contains, Option, Some, None, not, ◌&&◌, flat_map, filter}
 use Rattle.std.specs.Option.{option_map}
 use Rattle.std.proofs.lemmas.List.Concat.{flat_map-cons}
 use Rattle.std.proofs.lemmas.List.Elements.{Contains-append_left, Contains-append_right, Contains-append_cases}
@@ -19,7 +19,6 @@ use Rattle.adj_facts.specs.Uses.{use_point, site, turned_by}
 use Rattle.adj_facts.specs.Live.{Fact, needed, kept, wanted}
 use Rattle.adj_facts.specs.Rules.{Scope, Covers, list_of, with_args, called, at_actuals, holders, live_starts_by, live_turned, live_starts_at, live_starts, live_stays, live_assigned, live_member, live_called, live_steps_at, live_steps}
 use Rattle.adj_facts.proofs.Members.{is_first, is_later, is_none, flat_only, filter_only}
-use Rattle.adj_facts.proofs.Scoped.{called_only}
 use Rattle.adj_facts.proofs.Holders.{holder_of}
 use Rattle.adj_facts.proofs.Placed.{way_of_statement}
 use Rattle.adj_facts.proofs.OwnPoints.{entry_point, own_before, own_after, use_is_point}
@@ -32,10 +31,10 @@ use Rattle.adj_flow.specs.Scoped.{scope_by}
 use Rattle.adj_flow.proofs.Scoping.{flat_chosen}
 use Rattle.adj_flow.proofs.Images.{Images, images_none, images_append, images_flat, images_map, images_if}
 use Rattle.adj_reach.specs.Edges.{flag}
-use Rattle.adj_live.specs.Numbers.{kept_at, needed_at, wanted_at}
-use Rattle.adj_live.specs.Passed.{passed_in, passed_by, used_by, handed_by}
-use Rattle.adj_live.specs.Listed.{Here, active_here, needed_here, needed_nodes, own_nodes, turned_nodes, held_nodes, statement_nodes, extent_nodes, unit_nodes, entry_edges, way_edges, used_edges, assigned_edges, held_edges, handed_edges, member_edges, found_edges, call_edges, statement_edges, unit_edges}
-use Rattle.adj_live.proofs.Facts.{HasFact, HasStep, IsOf, single, link}
+use Rattle.adj_live.specs.Numbers.{kept_at, wanted_at}
+use Rattle.adj_live.specs.Passed.{passed_in, handed_by}
+use Rattle.adj_live.specs.Listed.{Here, active_here, needed_here, needed_nodes, own_nodes, turned_nodes, statement_nodes, extent_nodes, unit_nodes, entry_edges, way_edges, used_edges, assigned_edges, held_edges, handed_edges, member_edges, found_edges, call_edges, statement_edges, unit_edges}
+use Rattle.adj_live.proofs.Facts.{HasFact, HasStep, single, link}
 use Rattle.adj_live.proofs.Using.{used_same, handed_same, handed_stands, no_dummies, read_row, passed_bound}
 
 -- a list without members has no images

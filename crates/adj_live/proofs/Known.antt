@@ -1,6 +1,5 @@
 -- What the lists of the rules have are facts that are known, a dummy that is wanted being one of its unit.
-use Rattle.std.proofs.Common.{◌≡◌, ℕ, refl}
-use Rattle.adj_tree.specs.Code.{plain}
+use Rattle.std.proofs.Common.{ℕ, refl}
 use Rattle.adj_facts.specs.Problem.{Problem}
 use Rattle.adj_facts.specs.Activity.{Activity}
 use Rattle.adj_facts.specs.Live as live

@@ -1,8 +1,8 @@
 -- The names among extents, told by a table.
 use Rattle.std.proofs.Common.{◌≡◌, ℕ, ◌+◌, ◌<◌, ◌≤◌, Bool, true, false, List, [], ◌∷◌, map, length, get_or, drop, refl, sym, ap, ◌∙◌}
-use Rattle.std.specs.Prelude.{is_some, ◌||◌}
+use Rattle.std.specs.Prelude.{◌||◌}
 use Rattle.std.proofs.lemmas.List.{drop_more, drop_all}
-use Rattle.adj_tree.specs.Code.{Extent, fixed, given, name_eq, Declaration}
+use Rattle.adj_tree.specs.Code.{Extent, fixed, given, Declaration}
 use Rattle.adj_meaning.specs.Read.{is_among, is_extent}
 use Rattle.adj_live.specs.Extents.{is_named}
 

@@ -1,5 +1,5 @@
 -- The lists of the rows of units that take part are those of the units, by what the flags of the activity tell.
-use Rattle.std.proofs.Common.{◌≡◌, ℕ, ◌*◌, List, [], ◌∷◌, ◌++◌, Bool, refl, sym, ap, ◌∙◌}
+use Rattle.std.proofs.Common.{◌≡◌, ℕ, ◌*◌, List, [], ◌∷◌, ◌++◌, Bool, refl, sym, ap}
 use Rattle.std.specs.Prelude.{Contains, Option, ◌&&◌, flat_map, slice_index_or}
 use Rattle.adj_tree.specs.Code.{Var, Act, assign, choose, loop, during, call, runtime}
 use Rattle.adj_tree.specs.declared.marks.Activity as flags

@@ -1,11 +1,11 @@
 -- Flags of the numbers that are reached tell what is live.
-use Rattle.std.proofs.Common.{◌≡◌, ℕ, ◌+◌, ◌*◌, List, Bool, true, false, refl, sym, ap, ◌∙◌, subst}
+use Rattle.std.proofs.Common.{◌≡◌, ℕ, ◌+◌, ◌*◌, List, Bool, true, refl, sym, ap, ◌∙◌}
 use Rattle.std.specs.Prelude.{Contains, ◌↔◌, IsTrue, Option, Some, None}
 use Rattle.adj_tree.specs.Code.{Var, plain}
 use Rattle.adj_facts.specs.Parts.{Part}
 use Rattle.adj_facts.specs.Problem.{Problem, TakesPart}
 use Rattle.adj_facts.specs.Activity.{Activity, IsPoint}
-use Rattle.adj_facts.specs.Live.{Fact, needed, kept, wanted, LiveBegins, LiveLeads, Live, Liveness, says, IsLive}
+use Rattle.adj_facts.specs.Live.{Fact, needed, kept, wanted, LiveBegins, LiveLeads, Live, says, IsLive}
 use Rattle.adj_facts.specs.Rules.{Scope, Covers, live_starts, live_steps}
 use Rattle.adj_facts.proofs.Numbered.{IsListed, reached_has, exact_by_number}
 use Rattle.adj_reach.specs.Edges.{ReachedFrom, flag}

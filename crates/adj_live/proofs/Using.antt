@@ -1,5 +1,5 @@
 -- What statements use, hand back and pass, by which dummies units read and write.
-use Rattle.std.proofs.Common.{◌≡◌, ◌⊎◌, inl, inr, ℕ, suc, List, [], ◌∷◌, ◌++◌, Bool, true, false, map, refl, sym, ap, ◌∙◌, subst}
+use Rattle.std.proofs.Common.{◌≡◌, ◌⊎◌, inl, inr, ℕ, suc, List, [], ◌∷◌, ◌++◌, Bool, true, false, map, refl, sym, ap, ◌∙◌}
 use Rattle.std.specs.Prelude.{Contains, Option, Some, None, ◌&&◌, flat_map, if◌then◌else◌}
 use Rattle.std.proofs.lemmas.List.Concat.{flat_map-cons}
 use Rattle.std.proofs.lemmas.List.Elements.{Contains-append_left, Contains-append_right, Contains-append_cases}
@@ -15,7 +15,7 @@ use Rattle.adj_facts.specs.Variables.{list_if, vars_in, vars_in_terms, used_in, 
 use Rattle.adj_facts.specs.Problem.{bound, name_of, with_actual}
 use Rattle.adj_facts.specs.Rules.{list_of}
 use Rattle.adj_facts.proofs.Members.{is_first, is_none, is_only, if_only}
-use Rattle.adj_live.specs.Passed.{passed_in, used_by, handed_by, passed_by}
+use Rattle.adj_live.specs.Passed.{passed_in, used_by, handed_by}
 
 -- ---- without actuals nothing is handed or passed
 

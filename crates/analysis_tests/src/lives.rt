@@ -13,6 +13,7 @@ use std::alloc::Global;
 use std::test::Fail;
 
 // Which dummies each unit reads.
+#[tactic(auto, using(crate::proofs::Rows::reads_each))]
 fn reads<'c>(alloc: Global, checked: &'c Checked) -> Result<Vec<&'c Flags>, Memory>
     ensures all { IfOk result (λ v. map (λ b. b.now) v.items ≡ checked.now.reads) }
 {
@@ -25,6 +26,7 @@ fn reads<'c>(alloc: Global, checked: &'c Checked) -> Result<Vec<&'c Flags>, Memo
 }
 
 // Which dummies each unit writes.
+#[tactic(auto, using(crate::proofs::Rows::writes_each))]
 fn writes<'c>(alloc: Global, checked: &'c Checked) -> Result<Vec<&'c Flags>, Memory>
     ensures all { IfOk result (λ v. map (λ b. b.now) v.items ≡ checked.now.writes) }
 {

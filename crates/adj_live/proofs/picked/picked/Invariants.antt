@@ -1,5 +1,5 @@
 -- How many are left, and those picked so far.
-use Rattle.std.proofs.Common.{◌≡◌, ℕ, ◌+◌, ◌-◌, ◌*◌, ◌<◌, length, get_or, false}
+use Rattle.std.proofs.Common.{◌≡◌, ℕ, ◌+◌, ◌-◌, ◌*◌, ◌<◌, length}
 use Rattle.adj_reach.specs.Edges.{flag}
 use Rattle.adj_live.proofs.picked.picked.Given as goal
 

@@ -1,4 +1,4 @@
-use Rattle.std.proofs.Common.{ap, ◌∙◌, ◌++◌}
+use Rattle.std.proofs.Common.{◌∙◌, ◌++◌}
 use Rattle.std.specs.Prelude.{not}
 use Rattle.adj_tree.specs.Code.{Var, plain}
 use Rattle.adj_facts.specs.Ways.{assigned_on}
