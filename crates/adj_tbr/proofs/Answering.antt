@@ -40,7 +40,7 @@ use Rattle.adj_tbr.specs.View.{find, held_edges}
 use Rattle.adj_tbr.specs.Reads.{read_nodes}
 use Rattle.adj_tbr.specs.Saves.{save_nodes}
 use Rattle.adj_tbr.specs.declared.found.Found.{Found}
-use Rattle.adj_tbr.specs.declared.sides.Sides.{Sides}
+use Rattle.adj_live.specs.declared.sides.Sides.{Sides}
 use Rattle.adj_tbr.proofs.Given.{activity_by, liveness_by}
 use Rattle.adj_tbr.proofs.Behind.{held_by, held_exact}
 use Rattle.adj_tbr.proofs.Numbering.{images_made}

@@ -34,7 +34,7 @@ use Rattle.adj_tbr.specs.Bound.{Passed, bound_from, dummies_at, seen}
 use Rattle.adj_tbr.specs.View.{adjointed_by, kept_by}
 use Rattle.adj_tbr.specs.Reads.{node_before, assigned_reads, is_wanted, found_reads, call_reads, standing_reads, unit_reads, read_nodes}
 use Rattle.adj_tbr.specs.declared.found.Found.{Found}
-use Rattle.adj_tbr.specs.declared.sides.Sides.{Sides}
+use Rattle.adj_live.specs.declared.sides.Sides.{Sides}
 use Rattle.adj_tbr.proofs.Given.{activity_by, liveness_by, told_here, active_same}
 use Rattle.adj_tbr.proofs.Numbering.{images_at, number_has, number_only}
 use Rattle.adj_tbr.proofs.Passing.{pair, pairs_bound, bound_place}

@@ -34,7 +34,7 @@ use Rattle.adj_tbr.specs.Bound.{dummies_at, seen}
 use Rattle.adj_tbr.specs.View.{adjointed_by, kept_by}
 use Rattle.adj_tbr.specs.Saves.{saved_node, own_saves, found_saves, call_saves, standing_saves, unit_saves, save_nodes}
 use Rattle.adj_tbr.specs.declared.found.Found.{Found}
-use Rattle.adj_tbr.specs.declared.sides.Sides.{Sides}
+use Rattle.adj_live.specs.declared.sides.Sides.{Sides}
 use Rattle.adj_tbr.proofs.Given.{activity_by, liveness_by}
 use Rattle.adj_tbr.proofs.Numbering.{images_at, number_has, number_only}
 use Rattle.adj_tbr.proofs.Sets.{named_row}

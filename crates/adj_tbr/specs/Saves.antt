@@ -13,7 +13,7 @@ use Rattle.adj_reach.specs.Edges.{flag}
 use Rattle.adj_tbr.specs.Bound.{dummies_at}
 use Rattle.adj_tbr.specs.View.{adjointed_by, kept_by}
 use Rattle.adj_tbr.specs.declared.found.Found.{Found}
-use Rattle.adj_tbr.specs.declared.sides.Sides.{Sides}
+use Rattle.adj_live.specs.declared.sides.Sides.{Sides}
 
 -- a variable that a statement replaces, if it is held before it
 abbrev pub saved_node : List Bool → ℕ → Row → ℕ → Var → List ℕ

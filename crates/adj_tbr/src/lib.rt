@@ -17,4 +17,3 @@ mod terms;
 mod turns;
 
 pub use finding::tbr;
-pub use sides::Sides;

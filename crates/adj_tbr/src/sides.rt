@@ -5,13 +5,6 @@ ghost use Rattle.adj_tbr.specs.Bound.{seen};
 
 use adj_tree::Flags;
 
-/// Which of its dummies each unit reads, and which it writes.
-#[derive(Clone, Copy)]
-pub struct Sides<'t> {
-    pub read: &'t [&'t Flags],
-    pub written: &'t [&'t Flags],
-}
-
 /// The flags of the dummies of the unit of a number; none where there is no such unit.
 pub(crate) fn dummies_of<'t>(side: &'t [&'t Flags], unit: usize) -> &'t [bool]
     ensures dummies { result.now ≡ slice_index_or (seen side.now) unit [] }

@@ -47,7 +47,7 @@ pub(crate) fn flags(alloc: Global, digits: &[u8]) -> Result<Flags, Memory> {
 }
 
 // The letter of a flag.
-pub(crate) fn letter(flags: &[bool], place: usize, yes: u8, not: u8) -> u8 {
+fn letter(flags: &[bool], place: usize, yes: u8, not: u8) -> u8 {
     if flags.get(place).copied().unwrap_or(false) {
         yes
     } else {

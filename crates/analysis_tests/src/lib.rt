@@ -1,10 +1,12 @@
-//! Tests of the code of the analyses, by the public calls of `adj_flow`, `adj_activity` and `adj_tbr`.
+//! Tests of the code of the analyses, by the public calls of `adj_flow`, `adj_activity` and `adj_plan`.
 //!
-//! `activities` has texts, and which of their statements have an adjoint and which of their variables a shadow, worked out by hand by
-//! docs/ANALYSES.md; `saves` has what their statements save. No code stands on this crate.
+//! `activities` has texts, and which of their statements have an adjoint and which of their variables a shadow; `plans` has a table of
+//! programs with all their marks. All are worked out by hand by docs/ANALYSES.md. No code stands on this crate.
 #![tactic(auto)]
 
 #[cfg(test)]
 mod activities;
 #[cfg(test)]
-mod saves;
+mod plans;
+#[cfg(test)]
+mod sides;

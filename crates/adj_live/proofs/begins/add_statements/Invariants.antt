@@ -1,0 +1,10 @@
+-- The statements passed, and those that are left.
+use Rattle.std.proofs.Common.{◌≡◌, ◌++◌, map, drop}
+use Rattle.std.specs.List.{flat_map}
+use Rattle.adj_flow.specs.View.{standing_of}
+use Rattle.adj_live.specs.Listed.{statement_nodes}
+use Rattle.adj_live.specs.View.{here_at}
+use Rattle.adj_live.proofs.begins.add_statements.Given as goal
+
+abbrev pub invariant-loop-standing : goal.invariant-loop-standing
+invariant-loop-standing l = l.nodes.items ++ flat_map (statement_nodes (here_at l.site)) (map standing_of (drop l.standing-index l.standing-items)) ≡ l.initial.nodes.items ++ flat_map (statement_nodes (here_at l.site)) (map standing_of l.site.part.now.statements.items)

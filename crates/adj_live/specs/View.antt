@@ -1,0 +1,30 @@
+-- What the code goes over, as clauses see it.
+use Rattle.std.specs.Prelude.{ℕ, ◌*◌, map}
+use Rattle.adj_tree.specs.declared.marks.Activity as flags
+use Rattle.adj_facts.specs.Activity.{Activity}
+use Rattle.adj_reach.specs.Edges.{flag}
+use Rattle.adj_writes.specs.Table.{value_of}
+use Rattle.adj_flow.specs.Rows.{Row, row_of}
+use Rattle.adj_flow.specs.NodeView.{found_at, told_at}
+use Rattle.adj_live.specs.Passed.{row_by}
+use Rattle.adj_live.specs.Listed.{Here}
+use Rattle.adj_live.specs.declared.site.Known.{Known}
+use Rattle.adj_live.specs.declared.site.Site.{Site}
+
+-- the activity of a unit, by flags
+abbrev pub activity_in : flags.Activity → ℕ → Row → Activity
+activity_in a w r = record { varied = told_at a.varied w r; useful = told_at a.useful w r; adjointed = λ i. flag a.adjointed (2 * i); shadowed = told_at a.shadowed w r }
+
+-- a unit with what is known of the program
+abbrev pub here_in : Known → Row → Here
+here_in k r = record {
+  width = k.width;
+  find = λ x. found_at (map row_of k.units.parts.now) (value_of x k.units.numbers.now);
+  read = λ x. row_by (map (λ b. b.now) k.sides.read.now) (value_of x k.units.numbers.now);
+  written = λ x. row_by (map (λ b. b.now) k.sides.written.now) (value_of x k.units.numbers.now);
+  activity = activity_in k.activity.now k.width r;
+  row = r;
+}
+
+abbrev pub here_at : Site → Here
+here_at s = here_in s.known (row_of s.part.now)

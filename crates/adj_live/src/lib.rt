@@ -1,0 +1,22 @@
+//! Adjoint liveness: which values the sweeps need, which statements the forward sweep keeps, and which dummies each adjoint unit needs
+//! when it begins.
+//!
+//! These three are one set of facts. Each fact has a number, and the steps of the rules are edges between numbers
+//! (`specs/Listed.antt`), so that one search finds them all, in time linear in facts and edges. The crate stands on the definitions of
+//! `adj_facts`, on `adj_reach`, and on the activity; the layers above use that the flags of `live` tell exactly what is live.
+#![tactic(auto)]
+
+mod begins;
+mod calls;
+mod extents;
+mod finding;
+mod names;
+mod passing;
+mod picked;
+mod reads;
+mod sides;
+mod site;
+mod steps;
+
+pub use finding::live;
+pub use sides::Sides;

@@ -1,0 +1,292 @@
+//! A table of texts with all marks of their programs, worked out by hand (docs/ANALYSES.md).
+
+use crate::activities::{flags, read, variables};
+use crate::sides::{reads, writes};
+use adj_activity::flow;
+use adj_fixed::Mode;
+use adj_flow::{Flow, Part};
+use adj_live::Sides;
+use adj_plan::plan;
+use adj_symbols::{Checked, check};
+use adj_tree::{Fault, Flags, Head, Marks, Memory, Name};
+use std::alloc::Global;
+use std::test::Fail;
+
+// The statements of P(X,N,Y), X being independent and Y dependent; those of another unit; and the marks: each statement's K where it
+// is kept and A where it has an adjoint, and the variables that it saves; then of each unit the variables that have a shadow; and then
+// of each the dummies that are wanted at its entry.
+const PROGRAMS: [(&str, &str, &str); 32] = [
+    // Y=X*X: its adjoint reads X.
+    ("Y=X*X", "", "-A | XY | X"),
+    // Nothing varies, so nothing is adjointed.
+    ("Y=2", "", "-- | XY | -"),
+    // The constant of a branch has nothing to set to 0.
+    (
+        "IF (N.LT.1) THEN;Y=X*X;ELSE;Y=2;END IF",
+        "",
+        "KA -A -- | XY | XN",
+    ),
+    // The second sets the derivative to 0, and the first serves nothing.
+    ("Y=X;Y=1", "", "-- -A | XY | -"),
+    // The adjoint reads the other factor alone.
+    ("Y=X*N", "", "-A | XY | N"),
+    // T serves nothing.
+    ("T=X+1;Y=X*X", "", "-- -A | XY | X"),
+    // T is read by the adjoint, so it is kept.
+    ("T=N+1;Y=X*T", "", "K- -A | XY | N"),
+    // T is saved where it is overwritten by what reads it.
+    ("T=X*X;T=T*T;Y=T*T", "", "KA KA:T -A | XYT | X"),
+    // N is held from its first read on.
+    ("Y=X*N;N=N+1;Y=Y*N", "", "-A K-:N -A | XY | N"),
+    // N is saved once, where it is first overwritten.
+    ("Y=X*N;N=N+1;N=N*2;Y=Y*N", "", "-A K-:N K- -A | XY | N"),
+    // What is dropped overwrites nothing.
+    ("Y=X*N;N=2;N=3;Y=Y*N", "", "-A -- K-:N -A | XY | N"),
+    // Y varies by the turn before.
+    ("DO I=1,N;Y=Y+T;T=X;END DO", "", "KA -A -A | XYT | N"),
+    // Y is read and overwritten in each turn.
+    ("Y=1;DO I=1,N;Y=Y*X;END DO", "", "K- KA KA:Y | XY | XN"),
+    // The element and its subscript are read.
+    (
+        "INTEGER*8 A(5);DO I=1,N;Y=Y+A(I)*X;END DO",
+        "",
+        "KA -A | XY | N",
+    ),
+    // The entry of the loop overwrites an I that is held.
+    ("Y=X*I;DO I=1,N;Y=Y*2;END DO", "", "-A KA:I -A | XY | N"),
+    // The DO sets the derivative of I to 0.
+    ("I=X;Y=I;DO I=1,N;K=K+1;END DO", "", "-A -A KA -- | XYI | N"),
+    // The IF is kept for what it holds.
+    (
+        "T=1;IF (N.LT.1) THEN;T=2;END IF;Y=X*T",
+        "",
+        "K- K- K- -A | XY | N",
+    ),
+    // No derivative goes through a quotient.
+    ("Y=X/N", "", "-- | XY | -"),
+    // The adjoint reads nothing.
+    ("Y=X**1", "", "-A | XY | -"),
+    // The adjoint reads the base.
+    ("Y=X**3", "", "-A | XY | X"),
+    // This power is a constant.
+    ("Y=X**0", "", "-- | XY | -"),
+    // The adjoint reads base and exponent.
+    ("Y=X**N", "", "-A | XY | XN"),
+    // The exponent carries no derivative.
+    ("Y=N**X", "", "-- | XY | -"),
+    // The condition is used at each test.
+    (
+        "Y=1;K=0;DO WHILE (K.LT.N);Y=Y*X;K=K+1;END DO",
+        "",
+        "K- K- KA KA:Y K- | XY | XN",
+    ),
+    // The unit wants its dummy as it was.
+    (
+        "Y=X;CALL Q(Y)",
+        "SUBROUTINE Q(A);A=A*A;END",
+        "KA -A -A | XY A | X A",
+    ),
+    // The unit overwrites a dummy that varies.
+    (
+        "Y=X;CALL Q(Y)",
+        "SUBROUTINE Q(A);A=1;END",
+        "-- -A -A | XY A | - -",
+    ),
+    // The call is kept and has no adjoint.
+    (
+        "CALL Q(N);Y=X*N",
+        "SUBROUTINE Q(A);A=A+1;END",
+        "K- -A -- | XY - | N -",
+    ),
+    // The call overwrites an N that is held.
+    (
+        "Y=X*N;CALL Q(N);Y=Y*N",
+        "SUBROUTINE Q(A);A=A+1;END",
+        "-A K-:N -A -- | XY - | N -",
+    ),
+    // A unit that isn't called.
+    ("Y=X", "SUBROUTINE R(A);A=A*A;END", "-A -- | XY - | - -"),
+    // Extents are wanted.
+    (
+        "INTEGER*8 X(N);CALL Q(X,N);Y=X(1)",
+        "SUBROUTINE Q(A,M);INTEGER*8 A(M);A(1)=A(1)*2;END",
+        "-A -A -A | XY A | N M",
+    ),
+    // The loop is reversed, and its members are needed before it.
+    (
+        "C$AD BINOMIAL-CKP 2;DO I=1,N;CALL Q(I,X,Y);END DO",
+        "SUBROUTINE Q(J,A,B);B=B*A;END",
+        "KA -A -A | XY AB | XNY AB",
+    ),
+    // A kept DO uses the name of its number of snapshots.
+    (
+        "K=2;C$AD BINOMIAL-CKP K;DO I=1,N;CALL Q(I,X,Y);END DO",
+        "SUBROUTINE Q(J,A,B);B=B*A;END",
+        "K- KA -A -A | XY AB | XNY AB",
+    ),
+];
+
+// Adds lines with these statements.
+fn add_lines(text: &mut Vec<u8>, statements: &[u8]) -> Result<(), Memory> {
+    for line in statements.split(|c| *c == b';') {
+        if !line.starts_with(b"C$AD") {
+            text.extend_from_slice(b"      ")?;
+        }
+        text.extend_from_slice(line)?;
+        text.push(b'\n')?;
+    }
+    Ok(())
+}
+
+// The text of P with these statements, and of another unit.
+fn text_of(alloc: Global, statements: &str, other: &str) -> Result<Vec<u8>, Memory> {
+    let mut text = Vec::new(alloc);
+    add_lines(&mut text, b"SUBROUTINE P(X,N,Y)")?;
+    add_lines(&mut text, statements.as_bytes())?;
+    add_lines(&mut text, b"END")?;
+    if !other.is_empty() {
+        add_lines(&mut text, other.as_bytes())?;
+    }
+    Ok(text)
+}
+
+fn is_set(flags: &Flags, place: usize) -> bool {
+    flags.as_slice().get(place).copied().unwrap_or(false)
+}
+
+// Adds the names whose flags are set, the first at a place.
+fn add_names(out: &mut Vec<u8>, names: &[Name], flags: &Flags, first: usize) -> Result<(), Memory> {
+    for (number, name) in names.iter().enumerate() {
+        let place = first.checked_add(number).ok_or(Memory)?;
+        if is_set(flags, place) {
+            out.extend_from_slice(name.bytes())?;
+        }
+    }
+    Ok(())
+}
+
+// The same, or a `-` if none is.
+fn add_set(out: &mut Vec<u8>, names: &[Name], flags: &Flags, first: usize) -> Result<(), Memory> {
+    let before = out.len();
+    add_names(out, names, flags, first)?;
+    if out.len() == before {
+        out.push(b'-')?;
+    }
+    Ok(())
+}
+
+// Adds the variables that a statement saves, behind a colon, if it saves any.
+fn add_saved(out: &mut Vec<u8>, names: &[Name], flags: &Flags, first: usize) -> Result<(), Memory> {
+    out.push(b':')?;
+    let before = out.len();
+    add_names(out, names, flags, first)?;
+    if out.len() == before {
+        out.pop();
+    }
+    Ok(())
+}
+
+// Adds the marks of the statement of a number.
+fn add_statement(
+    out: &mut Vec<u8>,
+    width: usize,
+    part: &Part<'_>,
+    number: usize,
+    marks: &Marks,
+) -> Result<(), Memory> {
+    let node = number.checked_mul(2).ok_or(Memory)?;
+    let first = number.checked_mul(width).ok_or(Memory)?;
+    let kept = is_set(&marks.kept.kept, number);
+    let adjointed = is_set(&marks.activity.adjointed, node);
+    out.push(if kept { b'K' } else { b'-' })?;
+    out.push(if adjointed { b'A' } else { b'-' })?;
+    add_saved(out, part.variables.as_slice(), &marks.saved.saved, first)?;
+    out.push(b' ')?;
+    Ok(())
+}
+
+// Adds those of the statements of a unit.
+fn add_statements(
+    out: &mut Vec<u8>,
+    width: usize,
+    part: &Part<'_>,
+    marks: &Marks,
+) -> Result<(), Memory> {
+    for standing in part.statements.as_slice() {
+        add_statement(out, width, part, standing.number, marks)?;
+    }
+    Ok(())
+}
+
+// The marks of a program, as the table has them.
+fn shown(alloc: Global, flow: &Flow<'_>, marks: &Marks) -> Result<Vec<u8>, Memory> {
+    let mut out = Vec::new(alloc);
+    for part in flow.parts.as_slice() {
+        add_statements(&mut out, flow.width, part, marks)?;
+    }
+    out.push(b'|')?;
+    for part in flow.parts.as_slice() {
+        let first = part.number.checked_mul(flow.width).ok_or(Memory)?;
+        out.push(b' ')?;
+        add_set(
+            &mut out,
+            part.variables.as_slice(),
+            &marks.activity.shadowed,
+            first,
+        )?;
+    }
+    out.extend_from_slice(b" |")?;
+    for part in flow.parts.as_slice() {
+        let first = part.number.checked_mul(flow.width).ok_or(Memory)?;
+        out.push(b' ')?;
+        add_set(
+            &mut out,
+            part.unit.dummies.as_slice(),
+            &marks.kept.entry,
+            first,
+        )?;
+    }
+    Ok(out)
+}
+
+// The marks of a checked program, whose first unit is the head.
+fn answer(alloc: Global, checked: &Checked, head: &Head) -> Result<Vec<u8>, Memory> {
+    let variables = variables(alloc, checked)?;
+    let reads = reads(alloc, checked)?;
+    let writes = writes(alloc, checked)?;
+    let units = checked.program().units.as_slice();
+    if head.unit >= units.len() || units.len() == usize::MAX {
+        return Ok(Vec::new(alloc));
+    }
+    let flow = flow(alloc, units, variables.as_slice(), head.unit)?;
+    let sides = Sides {
+        read: reads.as_slice(),
+        written: writes.as_slice(),
+    };
+    let marks = plan(alloc, &flow, sides, head)?;
+    shown(alloc, &flow, &marks)
+}
+
+// The marks of the program of a text.
+fn marks_of(alloc: Global, source: &[u8]) -> Result<Vec<u8>, Fault> {
+    let program = read(alloc, source)?;
+    let checked = check(alloc, program, Mode::Source)?;
+    let head = Head {
+        unit: 0,
+        vars: flags(alloc, b"100")?,
+        outvars: flags(alloc, b"001")?,
+    };
+    let answer = answer(alloc, &checked, &head)?;
+    Ok(answer)
+}
+
+#[test]
+fn the_marks_are_those_worked_out_by_hand(rt: HostRuntime) -> Result<(), Fail> {
+    let alloc = rt.alloc();
+    for (statements, other, expected) in PROGRAMS {
+        let text = text_of(alloc, statements, other)?;
+        let marks = marks_of(alloc, text.as_slice())?;
+        assert_eq!(rt; marks.as_slice(), expected.as_bytes(), "{statements}");
+    }
+    Ok(())
+}
