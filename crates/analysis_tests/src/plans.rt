@@ -12,7 +12,7 @@ use adj_tree::{Fault, Flags, Head, Marks, Memory, Name};
 use std::alloc::Global;
 use std::test::Fail;
 
-// The statements of P(X,N,Y), X being independent and Y dependent; those of another unit; and the marks: each statement's K where it
+// The statements of P(X,N,Y), X being independent and Y dependent, behind declarations of X, Y and T; those of another unit; and the marks: each statement's K where it
 // is kept and A where it has an adjoint, and the variables that it saves; then of each unit the variables that have a shadow; and then
 // of each the dummies that are wanted at its entry.
 const PROGRAMS: [(&str, &str, &str); 32] = [
@@ -48,7 +48,7 @@ const PROGRAMS: [(&str, &str, &str); 32] = [
     ("Y=1;DO I=1,N;Y=Y*X;END DO", "", "K- KA KA:Y | XY | XN"),
     // The element and its subscript are read.
     (
-        "INTEGER*8 A(5);DO I=1,N;Y=Y+A(I)*X;END DO",
+        "INTEGER*8 X,A(5);DO I=1,N;Y=Y+A(I)*X;END DO",
         "",
         "KA -A | XY | N",
     ),
@@ -83,29 +83,33 @@ const PROGRAMS: [(&str, &str, &str); 32] = [
     // The unit wants its dummy as it was.
     (
         "Y=X;CALL Q(Y)",
-        "SUBROUTINE Q(A);A=A*A;END",
+        "SUBROUTINE Q(A);INTEGER*8 A;A=A*A;END",
         "KA -A -A | XY A | X A",
     ),
     // The unit overwrites a dummy that varies.
     (
         "Y=X;CALL Q(Y)",
-        "SUBROUTINE Q(A);A=1;END",
+        "SUBROUTINE Q(A);INTEGER*8 A;A=1;END",
         "-- -A -A | XY A | - -",
     ),
     // The call is kept and has no adjoint.
     (
         "CALL Q(N);Y=X*N",
-        "SUBROUTINE Q(A);A=A+1;END",
+        "SUBROUTINE Q(A);INTEGER*8 A;A=A+1;END",
         "K- -A -- | XY - | N -",
     ),
     // The call overwrites an N that is held.
     (
         "Y=X*N;CALL Q(N);Y=Y*N",
-        "SUBROUTINE Q(A);A=A+1;END",
+        "SUBROUTINE Q(A);INTEGER*8 A;A=A+1;END",
         "-A K-:N -A -- | XY - | N -",
     ),
     // A unit that isn't called.
-    ("Y=X", "SUBROUTINE R(A);A=A*A;END", "-A -- | XY - | - -"),
+    (
+        "Y=X",
+        "SUBROUTINE R(A);INTEGER*8 A;A=A*A;END",
+        "-A -- | XY - | - -",
+    ),
     // Extents are wanted.
     (
         "INTEGER*8 X(N);CALL Q(X,N);Y=X(1)",
@@ -115,13 +119,13 @@ const PROGRAMS: [(&str, &str, &str); 32] = [
     // The loop is reversed, and its members are needed before it.
     (
         "C$AD BINOMIAL-CKP 2;DO I=1,N;CALL Q(I,X,Y);END DO",
-        "SUBROUTINE Q(J,A,B);B=B*A;END",
+        "SUBROUTINE Q(J,A,B);INTEGER*8 A,B;B=B*A;END",
         "KA -A -A | XY AB | XNY AB",
     ),
     // A kept DO uses the name of its number of snapshots.
     (
         "K=2;C$AD BINOMIAL-CKP K;DO I=1,N;CALL Q(I,X,Y);END DO",
-        "SUBROUTINE Q(J,A,B);B=B*A;END",
+        "SUBROUTINE Q(J,A,B);INTEGER*8 A,B;B=B*A;END",
         "K- KA -A -A | XY AB | XNY AB",
     ),
 ];
@@ -141,7 +145,10 @@ fn add_lines(text: &mut Vec<u8>, statements: &[u8]) -> Result<(), Memory> {
 // The text of P with these statements, and of another unit.
 fn text_of(alloc: Global, statements: &str, other: &str) -> Result<Vec<u8>, Memory> {
     let mut text = Vec::new(alloc);
-    add_lines(&mut text, b"SUBROUTINE P(X,N,Y)")?;
+    add_lines(&mut text, b"SUBROUTINE P(X,N,Y);INTEGER*8 Y,T")?;
+    if !statements.starts_with("INTEGER*8") {
+        add_lines(&mut text, b"INTEGER*8 X")?;
+    }
     add_lines(&mut text, statements.as_bytes())?;
     add_lines(&mut text, b"END")?;
     if !other.is_empty() {
