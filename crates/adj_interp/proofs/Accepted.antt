@@ -1,28 +1,34 @@
 -- What holds of the units of a checked program.
 use Rattle.std.proofs.Common.{◌≡◌, ℕ, zero, suc, ◌+◌, ◌<◌, ◌≤◌, Bool, true, false, List, [], ◌∷◌, ◌++◌, map, length, get_or, refl, sym, ap, subst, ◌∙◌, arith, if◌then◌else◌}
-use Rattle.std.specs.Prelude.{◌||◌, flat_map, nat_lt}
+use Rattle.std.specs.Prelude.{◌||◌, not, flat_map, nat_lt, Some}
 use Rattle.std.specs.List.{All}
 use Rattle.std.proofs.lemmas.List.{length-map, get_or_append_left, get_or_push}
+use Rattle.std.proofs.lemmas.Grind.{flat_map-append}
 use Rattle.std.proofs.lemmas.List.Elements.{All-head, All-tail}
-use Rattle.adj_tree.specs.Code.{name_eq, Procedure}
-use Rattle.adj_tree.specs.View.{declaration_of, procedure_of, extent_of}
+use Rattle.adj_tree.specs.Code.{Var, plain, shadow, helper, name_eq, Term, lit, var, elem, neg, bin, pow, power_of, abs, Terms, none, more, Act, assign, choose, loop, during, call, runtime, Code, stop, step, Procedure}
+use Rattle.adj_tree.specs.View.{code_of, declaration_of, procedure_of, extent_of}
 use Rattle.adj_tree.specs.declared.fault.Refusal.{Refusal}
 use Rattle.adj_tree.specs.declared.unit.Decl.{Decl}
 use Rattle.adj_tree.specs.declared.unit.Unit.{Unit}
-use Rattle.adj_tree.proofs.Names.{name_refl, name_same}
+use Rattle.adj_tree.proofs.Names.{name_refl, name_same, nat_same}
 use Rattle.adj_text.specs.Written.{IsWritten, IsWrittenProcedure, IsWrittenDeclaration}
 use Rattle.adj_meaning.specs.Agree.{stands_among, AreApart}
 use Rattle.adj_meaning.specs.LeastSet.{Rule, row_of, rounds, least_rows, dummies_in_all}
-use Rattle.adj_meaning.specs.Written.{write_rule}
-use Rattle.adj_meaning.proofs.Booleans.{or_false, or_first, or_second}
+use Rattle.adj_meaning.specs.Units.{declared}
+use Rattle.adj_meaning.specs.Written.{find_unit, write_rule}
+use Rattle.adj_meaning.proofs.Booleans.{and_true, or_false, or_first, or_second}
+use Rattle.adj_names.specs.CallFaults.{variable_rank, is_actual_for, are_actuals_for, faults_of_unit_call, faults_of_call}
 use Rattle.adj_names.specs.Check.{IsSound}
 use Rattle.adj_names.specs.Fault.{run_rules, faults_if, fault, again}
 use Rattle.adj_names.specs.Fresh.{has_name}
 use Rattle.adj_names.specs.NameFaults.{faults_of_names, undeclared, declared_twice}
-use Rattle.adj_names.specs.Statements.{At}
+use Rattle.adj_names.specs.Reserved.{is_runtime}
+use Rattle.adj_names.specs.Statements.{At, inner, statements}
 use Rattle.adj_names.specs.UnitFaults.{reserved_units, repeated_units, unit_places}
-use Rattle.adj_names.specs.Variables.{dummy_places, declared_places}
+use Rattle.adj_names.specs.Variables.{dummy_places, declared_places, rank}
 use Rattle.adj_names.proofs.Sound.{sound_has_none}
+use Rattle.adj_frame.proofs.Entering.{undeclared as declared_nowhere}
+use Rattle.adj_frame.specs.Suited.{IsScalarIn, HoldsIfWhole, AreTermsSuited, IsSuited, AreSuited}
 
 -- ---- lists without faults
 
@@ -75,8 +81,8 @@ dummy_names line (d ∷ ds) = ap (λ z. d ∷ z) (dummy_names line ds)
 -- the units of a program without a fault have names that are apart
 pub units_apart : (us : List Unit) → IsSound run_rules (map procedure_of us) → AreApart (map (λ (u : Unit). u.name) us)
 units_apart us h =
-    let none = sound_has_none run_rules (map procedure_of us) h in
-    subst AreApart (unit_names us) (apart_places 19 [] (unit_places (map procedure_of us)) (behind (reserved_units (map procedure_of us)) (repeated_units (map procedure_of us)) none.units))
+    let faultless = sound_has_none run_rules (map procedure_of us) h in
+    subst AreApart (unit_names us) (apart_places 19 [] (unit_places (map procedure_of us)) (behind (reserved_units (map procedure_of us)) (repeated_units (map procedure_of us)) faultless.units))
 
 get_mapped : (us : List Unit) (i : ℕ) (d : Unit) → i < length us → get_or (map procedure_of us) i (procedure_of d) ≡ procedure_of (get_or us i d)
 get_mapped [] i d l = absurd (omega arith)
@@ -87,11 +93,11 @@ get_mapped (u ∷ us) (suc i) d l = get_mapped us i d (omega arith)
 pub dummies_apart : (us : List Unit) (i : ℕ) (d : Unit) → IsSound run_rules (map procedure_of us) → i < length us → AreApart (get_or us i d).dummies
 dummies_apart us i d h l =
     let ps = map procedure_of us in
-    let none = sound_has_none run_rules ps h in
+    let faultless = sound_has_none run_rules ps h in
     let n = length-map us procedure_of in
     let v = get_or us i d in
     let u = procedure_of v in
-    let at : faults_of_names run_rules ps u ≡ [] = ap (faults_of_names run_rules ps) (sym (get_mapped us i d l)) ∙ none_at (faults_of_names run_rules ps) ps i (procedure_of d) none.names (omega (arith, n, l)) in
+    let at : faults_of_names run_rules ps u ≡ [] = ap (faults_of_names run_rules ps) (sym (get_mapped us i d l)) ∙ none_at (faults_of_names run_rules ps) ps i (procedure_of d) faultless.names (omega (arith, n, l)) in
     let once : declared_twice u ≡ [] = front (declared_twice u) _ (behind (undeclared u) _ at) in
     subst AreApart (dummy_names u.line u.dummies) (apart_places 8 [] (dummy_places u) (front (again 8 [] (dummy_places u)) (again 8 [] (declared_places u)) once))
 
@@ -118,6 +124,80 @@ extents_few us i v h l j d m =
     let few = e.few_extents in
     let same = length-map (get_or unit.decls j d).extents extent_of in
     omega (arith, few, same)
+
+-- ---- calls
+
+none_long : {A : Type 0} (xs : List A) → length xs ≡ 0 → xs ≡ []
+none_long [] h = refl
+none_long (x ∷ xs) h = absurd (omega (arith, h))
+
+-- a variable without a rank is a scalar
+rankless : (u : Procedure) (x : Var) → variable_rank u x ≡ 0 → IsScalarIn u x
+rankless u (plain x) h = none_long (declared u.declarations (plain x)) h
+rankless u (shadow x) h = declared_nowhere u.declarations (shadow x) (λ y. refl)
+rankless u (helper r k) h = declared_nowhere u.declarations (helper r k) (λ y. refl)
+
+actual_suits : (caller called : Procedure) (d : List ℕ) (e : Term) → is_actual_for caller (rank called d) e ≡ true → IsScalarIn called (plain d) → HoldsIfWhole (IsScalarIn caller) e
+actual_suits caller called d (var x) h s = rankless caller x (nat_same (variable_rank caller x) (rank called d) h ∙ ap length s)
+actual_suits caller called d (elem x subs) h s = tt
+actual_suits caller called d (lit z) h s = tt
+actual_suits caller called d (neg a) h s = tt
+actual_suits caller called d (bin op a b) h s = tt
+actual_suits caller called d (pow a k) h s = tt
+actual_suits caller called d (power_of a b) h s = tt
+actual_suits caller called d (abs a) h s = tt
+
+actuals_suit : (caller called : Procedure) (ds : List (List ℕ)) (es : Terms) → are_actuals_for caller called ds es ≡ true → AreTermsSuited (IsScalarIn caller) called ds es
+actuals_suit caller called [] es h = tt
+actuals_suit caller called (d ∷ ds) none h = tt
+actuals_suit caller called (d ∷ ds) (more e es) h =
+    let p = and_true (is_actual_for caller (rank called d) e) (are_actuals_for caller called ds es) h in
+    (actual_suits caller called d e p.0, actuals_suit caller called ds es p.1)
+
+isn't_not : (b : Bool) → not b ≡ false → b ≡ true
+isn't_not true h = refl
+isn't_not false h = absurd cc
+
+module _ (ps : List Procedure) (u : Procedure) where
+  abbrev faults_at : At Act → List Refusal
+  faults_at s = faults_of_call ps u s.0 s.1
+
+  call_suits : (line : ℕ) (name : List ℕ) (args : Terms) (v : Procedure) → faults_of_call ps u line (call name args) ≡ [] → find_unit ps name ≡ Some v → AreTermsSuited (IsScalarIn u) v v.dummies args
+  call_suits line name args v h e = go (is_runtime name) h
+    where
+      go : (b : Bool) → (if b then fault 15 line ∷ [] else faults_of_unit_call u (find_unit ps name) line args) ≡ [] → AreTermsSuited (IsScalarIn u) v v.dummies args
+      go true g = absurd cc
+      go false g = actuals_suit u v v.dummies args (isn't_not (are_actuals_for u v v.dummies args) (not_faulty (not (are_actuals_for u v v.dummies args)) (fault 15 line) (subst (λ o. faults_of_unit_call u o line args ≡ []) e g)))
+
+  mutual
+    act_suits : (line : ℕ) (a : Act) → faults_of_call ps u line a ≡ [] → flat_map faults_at (inner a) ≡ [] → IsSuited ps (IsScalarIn u) a
+    act_suits line (assign x subs e) h k = tt
+    act_suits line (choose c a b) h k =
+        let g = sym (flat_map-append faults_at (statements a) (statements b)) ∙ k in
+        (code_suits a (front (flat_map faults_at (statements a)) (flat_map faults_at (statements b)) g), code_suits b (behind (flat_map faults_at (statements a)) (flat_map faults_at (statements b)) g))
+    act_suits line (loop x first last by body m) h k = code_suits body k
+    act_suits line (during c body) h k = code_suits body k
+    act_suits line (call name args) h k = λ v e. call_suits line name args v h e
+    act_suits line (runtime r) h k = tt
+
+    code_suits : (c : Code) → flat_map faults_at (statements c) ≡ [] → AreSuited ps (IsScalarIn u) c
+    code_suits stop h = tt
+    code_suits (step line a rest) h =
+        let here = faults_of_call ps u line a in
+        let g = sym (flat_map-append faults_at (inner a) (statements rest)) ∙ behind here (flat_map faults_at (inner a ++ statements rest)) h in (
+          act_suits line a (front here (flat_map faults_at (inner a ++ statements rest)) h) (front (flat_map faults_at (inner a)) (flat_map faults_at (statements rest)) g),
+          code_suits rest (behind (flat_map faults_at (inner a)) (flat_map faults_at (statements rest)) g),
+        )
+
+-- the calls of a unit hand scalars alone to scalars
+pub calls_suit : (us : List Unit) (i : ℕ) (d : Unit) → IsSound run_rules (map procedure_of us) → i < length us → AreSuited (map procedure_of us) (IsScalarIn (procedure_of (get_or us i d))) (code_of (get_or us i d).body)
+calls_suit us i d h l =
+    let ps = map procedure_of us in
+    let u = procedure_of (get_or us i d) in
+    let n = length-map us procedure_of in
+    let faultless = sound_has_none run_rules ps h in
+    let each : Procedure → List Refusal = λ v. flat_map (λ s. faults_of_call ps v s.0 s.1) (statements v.body) in
+    code_suits ps u u.body (ap each (sym (get_mapped us i d l)) ∙ none_at each ps i (procedure_of d) faultless.calls (omega (arith, n, l)))
 
 -- ---- what units write
 

@@ -1,20 +1,20 @@
 -- A machine that does a call ends as the call does.
 use Rattle.std.proofs.Common.{◌≡◌, ℕ, zero, suc, ◌+◌, ◌*◌, ◌-◌, ◌<◌, ◌≤◌, Bool, true, false, List, [], ◌∷◌, length, get_or, refl, sym, ap, subst, ◌∙◌, arith, if◌then◌else◌}
-use Rattle.std.specs.Prelude.{ℤ, slice_get, nat_lt, ◌==◌, ◌++◌, IfErr, OnOk, Result, Ok, Err, Option, Some, None}
+use Rattle.std.specs.Prelude.{ℤ, slice_get, nat_lt, ◌==◌, ◌++◌, Result, Ok, Err, Option, Some, None}
 use Rattle.std.proofs.lemmas.List.{append_assoc, get_or_append_left, get_or_push, length-append}
-use Rattle.adj_tree.specs.Code.{Terms, Code, name_eq, Procedure}
+use Rattle.adj_tree.specs.Code.{Var, Terms, Code, name_eq, Procedure}
 use Rattle.adj_tree.specs.View.{code_of, procedure_of}
 use Rattle.adj_tree.specs.declared.value.Trap.TheVariants as trap
 use Rattle.adj_tree.proofs.Names.{nat_same, nat_refl, name_same}
 use Rattle.adj_meaning.specs.Trap.{Trap, shape_trap, schedule_trap, then_ok}
 use Rattle.adj_meaning.specs.Log.{Reversal, Log}
-use Rattle.adj_meaning.specs.Store.{Store}
+use Rattle.adj_meaning.specs.Store.{Shape, Store}
 use Rattle.adj_meaning.specs.Numbers.{words}
 use Rattle.adj_meaning.specs.Value.{Setting}
 use Rattle.adj_meaning.specs.Scene.{Scene, Stand, stand, Outcome, Done, Trapped, More, Full, then_do, with_value}
 use Rattle.adj_meaning.specs.Run.{Calls, run}
 use Rattle.adj_meaning.specs.Written.{find_unit, handed_back}
-use Rattle.adj_meaning.specs.Units.{Actual, actuals, copied_out, dummies_fit, entered, unit_run, call_in, calls_of}
+use Rattle.adj_meaning.specs.Units.{extents_of, shape_of, Actual, actuals, copied_out, dummies_fit, entered, unit_run, call_in, calls_of}
 use Rattle.adj_frame.specs.declared.routine.Routine.{Routine}
 use Rattle.adj_frame.specs.declared.step.Steps.{size-Steps}
 use Rattle.adj_tape.specs.Held.{Held}
@@ -23,7 +23,11 @@ use Rattle.adj_frame.specs.declared.slot.Slot.{Slot}
 use Rattle.adj_frame.specs.declared.actual.Actual.{Actual as CodeActual}
 use Rattle.adj_frame.specs.Called.{IsActualBelow, AreActualsBelow, entered_with, shapes_with, fit_from}
 use Rattle.adj_frame.specs.Instructed.{steps_in}
-use Rattle.adj_frame.specs.Linked.{units_in}
+use Rattle.adj_frame.specs.declared.frame.Frame.{Frame}
+use Rattle.adj_frame.specs.Framed.{IsFrame}
+use Rattle.adj_frame.specs.Suited.{IsScalarIn, AreSuited, counts_in, HasOneCell}
+use Rattle.adj_frame.specs.Linked.{IsRoutine, units_in}
+use Rattle.adj_frame.proofs.Suiting.{one_cell, suited_on}
 use Rattle.adj_interp.specs.declared.stop.Stop.{Stop}
 use Rattle.adj_interp.specs.declared.stop.Stop.TheVariants as stop
 use Rattle.adj_interp.specs.declared.machine.Machine.{Machine}
@@ -289,7 +293,9 @@ misfit_at stop.Memory line f h = h
 pub unit_ends : (q : Calls ℤ) (within : Entry) (s : Scene ℤ) (r : Routine) (names : List (List ℕ)) (k j : ℕ) (x : Result (Unit {0}) Stop) (m : Machine) → names ≡ r.names → steps_in r.names r.body ≡ code_of r.unit.now.body → j ≡ k → Ends within (run q (setting_at within) (steps_in names r.body) s j) x m → Ends within (run q (setting_at within) (code_of r.unit.now.body) s k) x m
 unit_ends q within s r names k j x m named body left h = subst (λ (p : Code × ℕ). Ends within (run q (setting_at within) p.0 s p.1) x m) (λ i. ((ap (λ ns. steps_in ns r.body) named ∙ body) i, left i)) h
 
--- what is handed back ends the call, unless memory ran out
-pub done_back : {P : Type 0} (e : Entry) (o : Outcome (Scene ℤ)) (r : Result (Unit {0}) Stop) (m : Machine) → IfErr r (λ x. x ≡ stop.Memory) → OnOk r P → (P → IsDone e m o) → Ends e o r m
-done_back e o (Ok u) m a b f = f b
-done_back e o (Err x) m a b f = subst (λ z. Ends e o (Err z) m) (sym a) tt
+-- the calls of a unit hand variables of one cell alone to scalars, with the cells that the slots of its entry have
+pub entered_suited : (units : List Procedure) (r : Routine) (t : Store ℤ) (shape : Var → Shape) (s : Store ℤ) (f : Frame) → IsRoutine units r → f.names.now ≡ r.names → IsFrame r.names f.slots.items → Shows r.names f.slots.items shape s → ((x : Var) → shape x ≡ shape_of (extents_of words (procedure_of r.unit.now) t x)) → AreSuited units (HasOneCell f.names.now (counts_in f.slots.items)) (steps_in f.names.now r.body)
+entered_suited units r t shape s f k named framed shown e =
+    let one = one_cell (procedure_of r.unit.now) t r.names f.slots.items shape s framed shown e in
+    let suited = suited_on (IsScalarIn (procedure_of r.unit.now)) (HasOneCell r.names (counts_in f.slots.items)) one units (code_of r.unit.now.body) k.suited in
+    subst (λ ns. AreSuited units (HasOneCell ns (counts_in f.slots.items)) (steps_in ns r.body)) (sym named) (subst (AreSuited units (HasOneCell r.names (counts_in f.slots.items))) (sym k.body) suited)

@@ -1,8 +1,9 @@
 -- A machine that does part after part ends as the run does that does part after part.
 use Rattle.std.proofs.Common.{◌≡◌, ℕ, zero, suc, ◌-◌, ◌<◌, List, [], ◌∷◌, ◌++◌, refl, sym, ap, subst, ◌∙◌, arith}
-use Rattle.std.specs.Prelude.{ℤ, reverse, Result, Ok, Err, Option, Some, None, Bool, true, false, if◌then◌else◌}
+use Rattle.std.specs.Prelude.{ℤ, reverse, Result, Ok, Err, Option, Some, None, IfOk, Bool, true, false, if◌then◌else◌}
 use Rattle.std.proofs.lemmas.List.{append-nil, append_assoc, map-id, reverse-append}
 use Rattle.adj_tree.specs.Code.{Term, Mark, Act, Code, step}
+use Rattle.adj_tree.specs.declared.value.Trap.{Trap as CodeTrap}
 use Rattle.adj_tree.specs.declared.value.Trap.TheVariants as trap
 use Rattle.adj_meaning.specs.Trap.{Trap, step_trap, then_ok}
 use Rattle.adj_meaning.specs.Store.{Store}
@@ -15,9 +16,22 @@ use Rattle.adj_frame.specs.declared.step.Step.{Step}
 use Rattle.adj_interp.specs.declared.stop.Stop.{Stop}
 use Rattle.adj_interp.specs.declared.stop.Stop.TheVariants as stop
 use Rattle.adj_interp.specs.declared.machine.Machine.{Machine}
+use Rattle.adj_frame.specs.Framed.{result_of}
 use Rattle.adj_frame.specs.Instructed.{task_in}
 use Rattle.adj_interp.specs.Counted.{Counted, with_event}
-use Rattle.adj_interp.specs.Held.{Tells, Entry, setting_at, Holds, Stands, IsTrapped, HasMore, Ends, Reaches, Finds, bounds_in}
+use Rattle.adj_interp.specs.Held.{Tells, Entry, setting_at, Holds, Stands, IsTrapped, HasMore, Ends, Reaches, Finds, stopped_at, bounds_in}
+
+-- ---- what is found
+
+-- what is found as it is defined, or its trap at the line
+pub finds_at : {A : Type 0} (line : ℕ) (r : Result A CodeTrap) (v : Result A Trap) → v ≡ result_of r → Finds line v (stopped_at line r)
+finds_at line (Ok a) v h = h
+finds_at line (Err t) v h = (h, refl)
+
+-- what holds of it where there is no trap
+pub found_at : {A : Type 0} (P : A → Type 0) (line : ℕ) (r : Result A CodeTrap) → IfOk r P → IfOk (stopped_at line r) P
+found_at P line (Ok a) h = h
+found_at P line (Err t) h = tt
 
 -- ---- what stands
 

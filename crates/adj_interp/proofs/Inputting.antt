@@ -1,22 +1,21 @@
 -- The entry of a unit that gets an input.
 use Rattle.std.proofs.Common.{◌≡◌, ℕ, zero, suc, ◌<◌, true, false, List, [], ◌∷◌, ◌++◌, map, length, get_or, refl, sym, ap, ap₂, subst, ◌∙◌, arith}
-use Rattle.std.specs.Prelude.{ℤ, pos, ◌==◌}
+use Rattle.std.specs.Prelude.{ℤ, pos, ◌==◌, ◌&&◌}
 use Rattle.std.proofs.lemmas.List.{length-map, get_or-map}
 use Rattle.adj_tree.specs.Code.{plain, name_eq, Procedure}
 use Rattle.adj_tree.proofs.Names.{nat_same}
 use Rattle.adj_meaning.specs.Agree.{stands_among, AreApart}
 use Rattle.adj_meaning.specs.Numbers.{words}
 use Rattle.adj_meaning.specs.Store.{size_of, Store, set_all}
-use Rattle.adj_meaning.specs.Units.{Slot, Actual, entry_store, input_store, from_slot, nth_cell, extents_of, shape_fits, slot_fits, slots_fit, fits}
-use Rattle.adj_meaning.proofs.Booleans.{and_true, or_false}
+use Rattle.adj_meaning.specs.Units.{Slot, Actual, declared, dummies_fit, entry_store, input_store, from_slot, nth_cell, extents_of, shape_fits, slot_fits, slots_fit, fits}
+use Rattle.adj_meaning.proofs.Booleans.{and_true, or_false, or_second}
 use Rattle.adj_frame.specs.declared.slot.Slot.{Slot as EntrySlot}
 use Rattle.adj_frame.specs.declared.actual.Actual.{Actual as CodeActual}
 use Rattle.adj_frame.specs.declared.actual.Actual.TheVariants as actual
 use Rattle.adj_frame.specs.Prepared.{var_at}
 use Rattle.adj_frame.specs.Framed.{IsFrame, shapes_in, store_in}
-use Rattle.adj_frame.specs.Shown.{Shows}
 use Rattle.adj_frame.specs.Called.{actual_in, actuals_in}
-use Rattle.adj_frame.proofs.Reading.{read_cell}
+use Rattle.adj_frame.proofs.Reading.{read_cell, read_shape}
 use Rattle.adj_interp.specs.Inputs.{entry_seen}
 
 -- ---- names
@@ -62,6 +61,19 @@ input_framed u input vs a h same =
           subst (λ (w : Slot ℤ). length w.cells ≡ size_of w.shape) at k;
     }
 
+-- actuals of the same shapes fit the dummies
+fits_alike : (u : Procedure) (s : Store ℤ) (ds : List (List ℕ)) (got : List (Actual ℤ)) (vs : List (Slot ℤ)) → slots_fit words u s ds vs ≡ true → ((k : ℕ) (a : Actual ℤ) (b : Slot ℤ) → k < length got → (get_or got k a).shape ≡ (get_or vs k b).shape) → dummies_fit words u s ds got ≡ true
+fits_alike u s [] got vs h e = refl
+fits_alike u s (d ∷ ds) [] vs h e = refl
+fits_alike u s (d ∷ ds) (a ∷ got) [] h e = absurd cc
+fits_alike u s (d ∷ ds) (a ∷ got) (v ∷ vs) h e =
+    let zs = extents_of words u s (plain d) in
+    let p = and_true (slot_fits zs v) (slots_fit words u s ds vs) h in
+    let q = and_true (shape_fits zs v.shape) (length v.cells == size_of v.shape) p.0 in
+    let here = or_second (length (declared u.declarations (plain d)) == 0) (shape_fits zs a.shape) (ap (shape_fits zs) (e 0 a v (omega arith)) ∙ q.0) in
+    let rest = fits_alike u s ds got vs p.1 (λ k b w l. e (suc k) b w (omega (arith, l))) in
+    (λ i. here i && rest i)
+
 -- ---- the store at the entry
 
 -- the cell of a list
@@ -100,6 +112,19 @@ module _ (u : Procedure) (input : List (Slot ℤ)) (vs : List EntrySlot) (all : 
   cells_alike [] n k a b l = let m = length-map all (actual_in u.dummies (shapes_in u.dummies vs) (store_in u.dummies vs)) in absurd (omega (arith, n, m, l, count))
   cells_alike (w ∷ ws) n k a b l = let m = length-map all (actual_in u.dummies (shapes_in u.dummies vs) (store_in u.dummies vs)) in cells_at w k a b (omega (arith, m, l, count))
 
+  shape_at : (d : EntrySlot) (k : ℕ) (a : Actual ℤ) (b : Slot ℤ) → k < length vs → (get_or given k a).shape ≡ (get_or input k b).shape
+  shape_at d k a b l =
+      let n = length-map vs entry_seen in
+      let at : get_or given k a ≡ actual_in u.dummies (shapes_in u.dummies vs) (store_in u.dummies vs) (actual.Whole k) =
+      get_or-map (actual_in u.dummies (shapes_in u.dummies vs) (store_in u.dummies vs)) all k (actual.Whole k) a (omega (arith, l, count))
+      ∙ ap (actual_in u.dummies (shapes_in u.dummies vs) (store_in u.dummies vs)) (each k (actual.Whole k) l) in
+      let slot : get_or input k b ≡ entry_seen (get_or vs k d) = ap (λ (ws : List (Slot ℤ)). get_or ws k b) (sym same) ∙ get_or-map entry_seen vs k d b l in
+      ap (λ (z : Actual ℤ). z.shape) at ∙ read_shape u.dummies vs k d f l ∙ ap (λ (z : Slot ℤ). z.shape) (sym slot)
+
+  shapes_alike : (ws : List EntrySlot) → length ws ≡ length vs → (k : ℕ) (a : Actual ℤ) (b : Slot ℤ) → k < length given → (get_or given k a).shape ≡ (get_or input k b).shape
+  shapes_alike [] n k a b l = let m = length-map all (actual_in u.dummies (shapes_in u.dummies vs) (store_in u.dummies vs)) in absurd (omega (arith, n, m, l, count))
+  shapes_alike (w ∷ ws) n k a b l = let m = length-map all (actual_in u.dummies (shapes_in u.dummies vs) (store_in u.dummies vs)) in shape_at w k a b (omega (arith, m, l, count))
+
   -- where whole dummies are the actuals, the store is that of the input
   pub input_entered : entry_store words u.dummies given ≡ input_store words u input
   input_entered =
@@ -109,6 +134,6 @@ module _ (u : Procedure) (input : List (Slot ℤ)) (vs : List EntrySlot) (all : 
       let z = ap length same in
       entry_alike u.dummies given (map (from_slot words) input) (omega (arith, m, n, k, z, count)) (λ j a b l. cells_alike vs refl j a b l)
 
--- a frame's slots show what they hold
-pub shows_itself : (names : List (List ℕ)) (vs : List EntrySlot) → Shows names vs (shapes_in names vs) (store_in names vs)
-shows_itself names vs = record { shapes = λ x. refl; cells = λ x j l. refl }
+  -- where the input fits, they fit the dummies
+  pub input_fits : fits words u input ≡ true → dummies_fit words u (entry_store words u.dummies given) u.dummies given ≡ true
+  input_fits h = ap (λ s. dummies_fit words u s u.dummies given) input_entered ∙ fits_alike u (input_store words u input) u.dummies given input h (λ k a b l. shapes_alike vs refl k a b l)

@@ -17,6 +17,7 @@ use Rattle.adj_interp.specs.declared.machine.Machine.{Machine}
 use Rattle.adj_interp.specs.Counted.{Counted}
 use Rattle.adj_frame.specs.Framed.{trap_of}
 use Rattle.adj_frame.specs.Shown.{on_words, Shows}
+use Rattle.adj_frame.specs.Suited.{counts_in, HasOneCell}
 
 -- whatever happens later is counted on from what was counted of what happened, the last first
 abbrev pub Tells : Counted → List Event → Type 0
@@ -41,6 +42,10 @@ pub record Holds (e : Entry) (m : Machine) (s : Scene ℤ) : Type 0 where
   pub tape : s.tape ≡ m.tape.words
   pub opened : s.opened + m.base ≡ length m.tally.begun
   pub told : Tells m.tally s.events
+
+-- a variable has one cell in the entry that a machine has in hand
+abbrev pub OneCelled : Machine → Var → Type 0
+OneCelled m = HasOneCell m.frame.names.now (counts_in m.frame.slots.items)
 
 -- a machine stands as a run stands that stopped
 pub record Stands (m : Machine) (w : Stand) : Type 0 where
@@ -96,6 +101,11 @@ Finds line r (Err (stop.Trap t l)) = (r ≡ Err (trap_of t)) × (l ≡ line)
 Finds line r (Err stop.Budget) = ⊥
 Finds line r (Err stop.TapeFull) = ⊥
 Finds line r (Err stop.Memory) = ⊥
+
+-- what was found, or a stop by its trap at the line
+abbrev pub stopped_at : {A : Type 0} → ℕ → Result A CodeTrap → Result A Stop
+stopped_at line (Ok a) = Ok a
+stopped_at line (Err t) = Err (stop.Trap t line)
 
 -- first value, step and number of turns of a DO
 abbrev pub bounds_in : Setting ℤ → Term → Term → Term → Mark → Store ℤ → Result (ℤ × ℤ × ℕ) Trap

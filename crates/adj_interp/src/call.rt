@@ -1,6 +1,6 @@
 //! What a call does before the unit that is called runs, and after. (docs/RUNNING.md, "Calls")
 
-ghost use Rattle.std.specs.Prelude.{◌≡◌, ◌==◌, ◌∷◌, List, ℕ, ℤ, suc, IfOk, IfErr, OnOk, OnErr, length, true, false};
+ghost use Rattle.std.specs.Prelude.{◌≡◌, ◌==◌, ◌∷◌, List, ℕ, ℤ, suc, Option, IfOk, IfErr, OnOk, OnErr, length, true, false};
 ghost use Rattle.adj_tree.specs.Code.{Var};
 ghost use Rattle.adj_meaning.specs.Event.{Enter};
 ghost use Rattle.adj_meaning.specs.Scene.{Scene};
@@ -8,10 +8,11 @@ ghost use Rattle.adj_meaning.specs.Store.{Shape, Store};
 ghost use Rattle.adj_meaning.specs.Units.{actual_of, actuals, copied_out};
 ghost use Rattle.adj_frame.specs.Prepared.{term_in, terms_in, IsTermBelow, AreTermsBelow};
 ghost use Rattle.adj_frame.specs.Framed.{IsFrame};
-ghost use Rattle.adj_frame.specs.Shown.{Shows};
+ghost use Rattle.adj_frame.specs.Shown.{on_words, Shows};
+ghost use Rattle.adj_frame.specs.Suited.{counts_in, AreAsLarge};
 ghost use Rattle.adj_frame.specs.Called.{actual_in, actuals_in, IsActualBelow, AreActualsBelow, IsLaidOut, entered_with, shapes_with, fit_from};
 ghost use Rattle.adj_interp.specs.declared.stop.Stop.TheVariants as stop;
-ghost use Rattle.adj_interp.specs.Held.{Entry, setting_at, Holds};
+ghost use Rattle.adj_interp.specs.Held.{Entry, Holds};
 ghost use Rattle.adj_interp.specs.Entered.{Gets, IsMisfit, inside};
 
 use crate::cursor::Cursor;
@@ -35,8 +36,8 @@ impl<'a> Machine<'a> {
     pub(crate) fn actuals(&self, terms: &Terms, line: u32) -> Result<Vec<Actual>, Stop>
         requires framed { IsFrame self.now.frame.names.now self.now.frame.slots.items }
         requires below { AreTermsBelow (length self.now.frame.names.now) terms.now }
-        ensures actuals { (e : Entry) (s : Scene ℤ) → Holds e self.now s
-            → Gets (λ v. actuals_in self.now.frame.names.now e.shape s.store v.items) line (actuals (setting_at e) (terms_in self.now.frame.names.now terms.now) s.store) result }
+        ensures actuals { (shape : Var → Shape) (room : Option ℕ) (level : ℕ) (s : Store ℤ) → Shows self.now.frame.names.now self.now.frame.slots.items shape s
+            → Gets (λ v. actuals_in self.now.frame.names.now shape s v.items) line (actuals (on_words shape room level) (terms_in self.now.frame.names.now terms.now) s) result }
         ensures below { IfOk result (λ v. AreActualsBelow self.now.frame.slots.items v.items) }
     {
         let mut found = Vec::new(self.alloc);
@@ -55,8 +56,8 @@ impl<'a> Machine<'a> {
     fn actual(&self, term: &Term, line: u32) -> Result<Actual, Stop>
         requires framed { IsFrame self.now.frame.names.now self.now.frame.slots.items }
         requires below { IsTermBelow (length self.now.frame.names.now) term.now }
-        ensures actual { (e : Entry) (s : Scene ℤ) → Holds e self.now s
-            → Gets (actual_in self.now.frame.names.now e.shape s.store) line (actual_of (setting_at e) (term_in self.now.frame.names.now term.now) s.store) result }
+        ensures actual { (shape : Var → Shape) (room : Option ℕ) (level : ℕ) (s : Store ℤ) → Shows self.now.frame.names.now self.now.frame.slots.items shape s
+            → Gets (actual_in self.now.frame.names.now shape s) line (actual_of (on_words shape room level) (term_in self.now.frame.names.now term.now) s) result }
         ensures below { IfOk result (λ a. IsActualBelow self.now.frame.slots.items a) }
     {
         match self.frame.actual(term) {
@@ -77,10 +78,12 @@ impl<'a> Machine<'a> {
         requires laid { IsLaidOut routine.now }
         ensures names { IfOk result (λ f. f.names.now ≡ routine.now.names) }
         ensures framed { IfOk result (λ f. IsFrame routine.now.names f.slots.items) }
-        ensures fits { IfOk result (λ f. (e : Entry) (s : Scene ℤ) → Holds e self.now s → fit_from routine.now (actuals_in self.now.frame.names.now e.shape s.store actuals.now) 0 ≡ true) }
-        ensures shown { IfOk result (λ f. (e : Entry) (s : Scene ℤ) → Holds e self.now s
-            → Shows routine.now.names f.slots.items (shapes_with routine.now (actuals_in self.now.frame.names.now e.shape s.store actuals.now)) (entered_with routine.now (actuals_in self.now.frame.names.now e.shape s.store actuals.now))) }
-        ensures misfit { IfErr result (λ x. IsMisfit x line ((e : Entry) (s : Scene ℤ) → Holds e self.now s → fit_from routine.now (actuals_in self.now.frame.names.now e.shape s.store actuals.now) 0 ≡ false)) }
+        ensures fits { IfOk result (λ f. (shape : Var → Shape) (s : Store ℤ) → Shows self.now.frame.names.now self.now.frame.slots.items shape s
+            → fit_from routine.now (actuals_in self.now.frame.names.now shape s actuals.now) 0 ≡ true) }
+        ensures shown { IfOk result (λ f. (shape : Var → Shape) (s : Store ℤ) → Shows self.now.frame.names.now self.now.frame.slots.items shape s
+            → Shows routine.now.names f.slots.items (shapes_with routine.now (actuals_in self.now.frame.names.now shape s actuals.now)) (entered_with routine.now (actuals_in self.now.frame.names.now shape s actuals.now))) }
+        ensures misfit { IfErr result (λ x. IsMisfit x line ((shape : Var → Shape) (s : Store ℤ) → Shows self.now.frame.names.now self.now.frame.slots.items shape s
+            → fit_from routine.now (actuals_in self.now.frame.names.now shape s actuals.now) 0 ≡ false)) }
     {
         match self.frame.entry(self.alloc, routine, actuals) {
             Ok(slots) => Ok(Frame {
@@ -130,31 +133,22 @@ impl<'a> Machine<'a> {
         (mem::replace(&mut self.frame, outer.frame), is_closed)
     }
 
-    /// Copies the dummies that are written out to their actuals.
-    pub(crate) fn hand_back(
-        &mut self,
-        routine: &Routine<'a>,
-        actuals: &[Actual],
-        inner: &Frame<'a>,
-    ) -> Result<(), Stop>
+    /// Copies the dummies that are written out to their actuals. A whole variable has as many cells as its dummy.
+    pub(crate) fn hand_back(&mut self, routine: &Routine<'a>, actuals: &[Actual], inner: &Frame<'a>)
         requires framed { IsFrame self.old.frame.names.now self.old.frame.slots.items }
         requires below { AreActualsBelow self.old.frame.slots.items actuals.now }
         requires laid { IsLaidOut routine.now }
         requires inner { IsFrame routine.now.names inner.now.slots.items }
-        ensures memory { IfErr result (λ x. x ≡ stop.Memory) }
+        requires large { AreAsLarge (length routine.now.unit.now.dummies) (counts_in self.old.frame.slots.items) actuals.now (counts_in inner.now.slots.items) }
         ensures names { self.new.frame.names.now ≡ self.old.frame.names.now }
         ensures framed { IsFrame self.old.frame.names.now self.new.frame.slots.items }
+        ensures counts { counts_in self.new.frame.slots.items ≡ counts_in self.old.frame.slots.items }
         ensures left { self.new.left ≡ self.old.left }
         ensures same { self.new ≡ record self.old { frame = self.new.frame } }
-        ensures handed { OnOk result ((shape within : Var → Shape) (s s0 t : Store ℤ) → Shows self.old.frame.names.now self.old.frame.slots.items shape s → Shows routine.now.names inner.now.slots.items within t
-            → Shows self.old.frame.names.now self.new.frame.slots.items shape (copied_out routine.now.unit.now.dummies routine.now.writes.now (actuals_in self.old.frame.names.now shape s0 actuals.now) t s)) }
+        ensures handed { (shape within : Var → Shape) (s s0 t : Store ℤ) → Shows self.old.frame.names.now self.old.frame.slots.items shape s → Shows routine.now.names inner.now.slots.items within t
+            → Shows self.old.frame.names.now self.new.frame.slots.items shape (copied_out routine.now.unit.now.dummies routine.now.writes.now (actuals_in self.old.frame.names.now shape s0 actuals.now) t s) }
     {
-        match self
-            .frame
-            .hand_back(routine, actuals, inner.slots.as_slice())
-        {
-            Ok(()) => Ok(()),
-            Err(_) => Err(Stop::Memory),
-        }
+        self.frame
+            .hand_back(routine, actuals, inner.slots.as_slice());
     }
 }

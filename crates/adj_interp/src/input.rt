@@ -1,10 +1,10 @@
 //! The entry of a unit that gets an input.
 
-ghost use Rattle.std.specs.Prelude.{◌≡◌, ◌<◌, ℕ, ℤ, [], IfOk, length, map, slice_index_or, true};
+ghost use Rattle.std.specs.Prelude.{◌≡◌, ◌<◌, ℕ, IfOk, length, map, slice_index_or, true};
 ghost use Rattle.adj_tree.specs.View.{procedure_of};
 ghost use Rattle.adj_meaning.specs.Agree.{AreApart};
 ghost use Rattle.adj_meaning.specs.Numbers.{words};
-ghost use Rattle.adj_meaning.specs.Units.{fits, input_store, extents_of, shape_of};
+ghost use Rattle.adj_meaning.specs.Units.{fits, input_store};
 ghost use Rattle.adj_frame.specs.declared.actual.Actual.{Actual as AnActual};
 ghost use Rattle.adj_frame.specs.declared.actual.Actual.TheVariants as actual;
 ghost use Rattle.adj_frame.specs.Framed.{IsFrame};
@@ -13,7 +13,7 @@ ghost use Rattle.adj_frame.specs.Called.{IsLaidOut};
 ghost use Rattle.adj_interp.specs.Concludes.{slot_seen};
 ghost use Rattle.adj_interp.specs.Inputs.{entry_seen, input_shape};
 
-use adj_frame::{Actual, Frame, Routine, Slot};
+use adj_frame::{Actual, Frame, Routine, Slot, Unfit};
 use adj_tree::{Memory, Unit, Values};
 use std::alloc::Global;
 
@@ -80,6 +80,7 @@ pub(crate) fn first_entry<'a>(
             names: &routine.names,
             slots,
         }),
-        Err(_) => Err(Memory),
+        Err(Unfit::Shape) => unreachable!(),
+        Err(Unfit::Memory) => Err(Memory),
     }
 }

@@ -1,6 +1,7 @@
 //! The machine that executes prepared statements.
 
-ghost use Rattle.std.specs.Prelude.{◌≡◌, ◌<◌, List, ℕ, ℤ, suc, true, false, length, slice_get, slice_index_or, IfOk};
+ghost use Rattle.std.specs.Prelude.{◌≡◌, ◌<◌, List, ℕ, ℤ, Some, suc, true, false, length, slice_get, slice_index_or, IfOk};
+ghost use Rattle.adj_tree.specs.Code.{Procedure};
 ghost use Rattle.adj_meaning.specs.Scene.{Scene};
 ghost use Rattle.adj_meaning.specs.Store.{set};
 ghost use Rattle.adj_meaning.specs.Value.{value, target, holds};
@@ -12,7 +13,8 @@ ghost use Rattle.adj_frame.specs.Prepared.{var_at, term_in, test_in, terms_in, I
 ghost use Rattle.adj_frame.specs.Instructed.{task_in, steps_in, marking_in, IsCellBelow, AreBoundsBelow, IsTaskBelow, AreStepsBelow};
 ghost use Rattle.adj_frame.specs.Linked.{IsTaskLinked, AreLinked, units_in, AreRoutines};
 ghost use Rattle.adj_frame.specs.Framed.{IsFrame};
-ghost use Rattle.adj_interp.specs.Held.{Entry, setting_at, Holds, Ends, Finds, bounds_in};
+ghost use Rattle.adj_frame.specs.Suited.{AreTermsSuited, IsSuited, AreSuited, counts_in};
+ghost use Rattle.adj_interp.specs.Held.{Entry, setting_at, Holds, OneCelled, Ends, Finds, stopped_at, bounds_in};
 
 use crate::cursor::Cursor;
 use crate::stop::Stop;
@@ -45,6 +47,16 @@ struct Course {
     by: i64,
 }
 
+// What was found in an entry. A trap stops the run at the line of the statement.
+fn at_line<T>(found: Result<T, Trap>, line: u32) -> Result<T, Stop>
+    ensures { result ≡ stopped_at line found }
+{
+    match found {
+        Ok(value) => Ok(value),
+        Err(trap) => Err(Stop::Trap(trap, line)),
+    }
+}
+
 impl<'a> Machine<'a> {
     // The value of an expression in a statement at a line.
     pub(crate) fn value(&self, term: &Term, line: u32) -> Result<i64, Stop>
@@ -52,10 +64,7 @@ impl<'a> Machine<'a> {
         requires below { IsTermBelow (length self.now.frame.names.now) term.now }
         ensures value { (e : Entry) (s : Scene ℤ) → Holds e self.now s → Finds line (value (setting_at e) (term_in self.now.frame.names.now term.now) s.store) result }
     {
-        match self.frame.value(term) {
-            Ok(word) => Ok(word),
-            Err(trap) => Err(Stop::Trap(trap, line)),
-        }
+        at_line(self.frame.value(term), line)
     }
 
     // Whether a condition holds.
@@ -64,10 +73,7 @@ impl<'a> Machine<'a> {
         requires below { IsTestBelow (length self.now.frame.names.now) test.now }
         ensures holds { (e : Entry) (s : Scene ℤ) → Holds e self.now s → Finds line (holds (setting_at e) (test_in self.now.frame.names.now test.now) s.store) result }
     {
-        match self.frame.holds(test) {
-            Ok(holds) => Ok(holds),
-            Err(trap) => Err(Stop::Trap(trap, line)),
-        }
+        at_line(self.frame.holds(test), line)
     }
 
     // The cell of a target.
@@ -77,10 +83,7 @@ impl<'a> Machine<'a> {
         ensures target { (e : Entry) (s : Scene ℤ) → Holds e self.now s → Finds line (target (setting_at e) (var_at self.now.frame.names.now cell.now.variable) (terms_in self.now.frame.names.now cell.now.subs) s.store) result }
         ensures within { IfOk result (λ j. (d : Slot) → j < length (slice_index_or self.now.frame.slots.items cell.now.variable d).cells.items) }
     {
-        match self.frame.target(cell.variable, &cell.subs) {
-            Ok(place) => Ok(place),
-            Err(trap) => Err(Stop::Trap(trap, line)),
-        }
+        at_line(self.frame.target(cell.variable, &cell.subs), line)
     }
 
     // First value, step and number of turns of a DO.
@@ -103,6 +106,7 @@ impl<'a> Machine<'a> {
         requires within { (d : Slot) → cell < length (slice_index_or self.old.frame.slots.items variable d).cells.items }
         ensures names { self.new.frame.names.now ≡ self.old.frame.names.now }
         ensures framed { IsFrame self.old.frame.names.now self.new.frame.slots.items }
+        ensures counts { counts_in self.new.frame.slots.items ≡ counts_in self.old.frame.slots.items }
         ensures sized { (j : ℕ) (d : Slot) → length (slice_index_or self.new.frame.slots.items j d).cells.items ≡ length (slice_index_or self.old.frame.slots.items j d).cells.items }
         ensures left { self.new.left ≡ self.old.left }
         ensures room { self.new.tape.room ≡ self.old.tape.room }
@@ -117,6 +121,7 @@ impl<'a> Machine<'a> {
         requires there { variable < length self.old.frame.names.now }
         ensures names { self.new.frame.names.now ≡ self.old.frame.names.now }
         ensures framed { IsFrame self.old.frame.names.now self.new.frame.slots.items }
+        ensures counts { counts_in self.new.frame.slots.items ≡ counts_in self.old.frame.slots.items }
         ensures left { self.new.left ≡ self.old.left }
         ensures room { self.new.tape.room ≡ self.old.tape.room }
         ensures holds { (e : Entry) (s : Scene ℤ) → Holds e self.old s → Holds e self.new (with_turn (setting_at e) (var_at self.old.frame.names.now variable) word s) }
@@ -130,6 +135,7 @@ impl<'a> Machine<'a> {
         requires there { course.now.variable < length self.old.frame.names.now }
         ensures names { self.new.frame.names.now ≡ self.old.frame.names.now }
         ensures framed { IsFrame self.old.frame.names.now self.new.frame.slots.items }
+        ensures counts { counts_in self.new.frame.slots.items ≡ counts_in self.old.frame.slots.items }
         ensures left { self.new.left ≡ self.old.left }
         ensures room { self.new.tape.room ≡ self.old.tape.room }
         ensures holds { (e : Entry) (s : Scene ℤ) → Holds e self.old s → Holds e self.new (stepped (setting_at e) (var_at self.old.frame.names.now course.now.variable) course.now.by s) }
@@ -158,8 +164,10 @@ impl<'a> Machine<'a> {
         requires below { AreStepsBelow (length self.old.frame.names.now) steps.now }
         requires program { AreRoutines program.now }
         requires linked { AreLinked (units_in program.now) steps.now }
+        requires suited { AreSuited (units_in program.now) (OneCelled self.old) (steps_in self.old.frame.names.now steps.now) }
         ensures names { self.new.frame.names.now ≡ self.old.frame.names.now }
         ensures framed { IsFrame self.old.frame.names.now self.new.frame.slots.items }
+        ensures counts { counts_in self.new.frame.slots.items ≡ counts_in self.old.frame.slots.items }
         ensures room { self.new.tape.room ≡ self.old.tape.room }
         ensures ends { let q : Calls ℤ = calls_of (units_in program.now) depth in (e : Entry) (s : Scene ℤ) → Holds e self.old s → Ends e (run q (setting_at e) (steps_in self.old.frame.names.now steps.now) s self.old.left) result self.new }
     {
@@ -187,8 +195,10 @@ impl<'a> Machine<'a> {
         requires below { IsTaskBelow (length self.old.frame.names.now) task.now }
         requires program { AreRoutines program.now }
         requires linked { IsTaskLinked (units_in program.now) task.now }
+        requires suited { IsSuited (units_in program.now) (OneCelled self.old) (task_in self.old.frame.names.now task.now) }
         ensures names { self.new.frame.names.now ≡ self.old.frame.names.now }
         ensures framed { IsFrame self.old.frame.names.now self.new.frame.slots.items }
+        ensures counts { counts_in self.new.frame.slots.items ≡ counts_in self.old.frame.slots.items }
         ensures room { self.new.tape.room ≡ self.old.tape.room }
         ensures ends { let q : Calls ℤ = calls_of (units_in program.now) depth in (e : Entry) (s : Scene ℤ) → Holds e self.old s → Ends e (act q (setting_at e) (task_in self.old.frame.names.now task.now) line s self.old.left) result self.new }
     {
@@ -234,8 +244,10 @@ impl<'a> Machine<'a> {
         requires framed { IsFrame self.old.frame.names.now self.old.frame.slots.items }
         requires below { AreTermsBelow (length self.old.frame.names.now) terms.now }
         requires program { AreRoutines program.now }
+        requires suited { (u : Procedure) → slice_get (units_in program.now) number ≡ Some u → AreTermsSuited (OneCelled self.old) u u.dummies (terms_in self.old.frame.names.now terms.now) }
         ensures names { self.new.frame.names.now ≡ self.old.frame.names.now }
         ensures framed { IsFrame self.old.frame.names.now self.new.frame.slots.items }
+        ensures counts { counts_in self.new.frame.slots.items ≡ counts_in self.old.frame.slots.items }
         ensures room { self.new.tape.room ≡ self.old.tape.room }
         ensures ends { (name : List ℕ) → find_unit (units_in program.now) name ≡ slice_get (units_in program.now) number → (e : Entry) (s : Scene ℤ) → Holds e self.old s
             → Ends e (calls_of (units_in program.now) depth (setting_at e) name (terms_in self.old.frame.names.now terms.now) line s self.old.left) result self.new }
@@ -256,7 +268,8 @@ impl<'a> Machine<'a> {
         if !is_closed {
             return Err(Stop::Trap(Trap::Schedule, line));
         }
-        self.hand_back(routine, actuals.as_slice(), &inner)
+        self.hand_back(routine, actuals.as_slice(), &inner);
+        Ok(())
     }
 
     // Makes some turns of a DO, each counted, with the step after each.
@@ -274,8 +287,10 @@ impl<'a> Machine<'a> {
         requires below { AreStepsBelow (length self.old.frame.names.now) body.now }
         requires program { AreRoutines program.now }
         requires linked { AreLinked (units_in program.now) body.now }
+        requires suited { AreSuited (units_in program.now) (OneCelled self.old) (steps_in self.old.frame.names.now body.now) }
         ensures names { self.new.frame.names.now ≡ self.old.frame.names.now }
         ensures framed { IsFrame self.old.frame.names.now self.new.frame.slots.items }
+        ensures counts { counts_in self.new.frame.slots.items ≡ counts_in self.old.frame.slots.items }
         ensures room { self.new.tape.room ≡ self.old.tape.room }
         ensures ends { let q : Calls ℤ = calls_of (units_in program.now) depth in (e : Entry) (s : Scene ℤ) → Holds e self.old s → Ends e (turns (setting_at e) count (run q (setting_at e) (steps_in self.old.frame.names.now body.now)) (stepped (setting_at e) (var_at self.old.frame.names.now course.now.variable) course.now.by) s self.old.left) result self.new }
     {
@@ -306,8 +321,10 @@ impl<'a> Machine<'a> {
         requires below { AreStepsBelow (length self.old.frame.names.now) body.now }
         requires program { AreRoutines program.now }
         requires linked { AreLinked (units_in program.now) body.now }
+        requires suited { AreSuited (units_in program.now) (OneCelled self.old) (steps_in self.old.frame.names.now body.now) }
         ensures names { self.new.frame.names.now ≡ self.old.frame.names.now }
         ensures framed { IsFrame self.old.frame.names.now self.new.frame.slots.items }
+        ensures counts { counts_in self.new.frame.slots.items ≡ counts_in self.old.frame.slots.items }
         ensures room { self.new.tape.room ≡ self.old.tape.room }
         ensures ends { let q : Calls ℤ = calls_of (units_in program.now) depth in (e : Entry) (s : Scene ℤ) → Holds e self.old s → Ends e (tests (setting_at e) most_tests (λ s1. holds (setting_at e) (test_in self.old.frame.names.now test.now) s1.store) line (run q (setting_at e) (steps_in self.old.frame.names.now body.now)) s self.old.left) result self.new }
     {

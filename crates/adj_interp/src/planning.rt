@@ -1,6 +1,6 @@
 //! Calls of the runtime that speak of schedules. (docs/RUNNING.md, "Runtime calls")
 
-ghost use Rattle.std.specs.Prelude.{◌≡◌, ◌<◌, ◌≤◌, ◌-◌, ◌^◌, List, ℕ, ℤ, IfOk, pos, length, slice_get};
+ghost use Rattle.std.specs.Prelude.{◌≡◌, ◌<◌, ◌≤◌, ◌-◌, ◌^◌, List, ℤ, IfOk, pos, length, slice_get};
 ghost use Rattle.adj_revolve.specs.declared.machine.Action.{Action as AnAction};
 ghost use Rattle.adj_revolve.specs.Schedule.{schedule_of};
 ghost use Rattle.adj_tree.specs.Code.{begin_reversal, count_actions, give_action, end_reversal};
@@ -9,6 +9,7 @@ ghost use Rattle.adj_meaning.specs.Scene.{Scene};
 ghost use Rattle.adj_meaning.specs.Runtime.{steps_of, snapshots_of, actions_of, action_at, kind_of, lower_of, upper_of, runtime_act};
 ghost use Rattle.adj_frame.specs.Prepared.{var_at, term_in, IsTermBelow};
 ghost use Rattle.adj_frame.specs.Framed.{result_of, IsFrame};
+ghost use Rattle.adj_frame.specs.Suited.{counts_in};
 ghost use Rattle.adj_interp.specs.Held.{Entry, setting_at, Holds, Ends, Finds, plan_in, action_in, given_in};
 
 use crate::cursor::Cursor;
@@ -226,6 +227,7 @@ impl<'a> Machine<'a> {
         requires there { variable < length self.old.frame.names.now }
         ensures names { self.new.frame.names.now ≡ self.old.frame.names.now }
         ensures framed { IsFrame self.old.frame.names.now self.new.frame.slots.items }
+        ensures counts { counts_in self.new.frame.slots.items ≡ counts_in self.old.frame.slots.items }
         ensures room { self.new.tape.room ≡ self.old.tape.room }
         ensures ends { (e : Entry) (s : Scene ℤ) → Holds e self.old s
             → Ends e (runtime_act (setting_at e) (count_actions (term_in self.old.frame.names.now steps.now) (term_in self.old.frame.names.now snapshots.now) (var_at self.old.frame.names.now variable)) line s self.old.left) result self.new }
@@ -245,6 +247,7 @@ impl<'a> Machine<'a> {
         requires within { (lower_of action.now ≤ 2 ^ 40) × (upper_of action.now ≤ 2 ^ 40) }
         ensures names { self.new.frame.names.now ≡ self.old.frame.names.now }
         ensures framed { IsFrame self.old.frame.names.now self.new.frame.slots.items }
+        ensures counts { counts_in self.new.frame.slots.items ≡ counts_in self.old.frame.slots.items }
         ensures left { self.new.left ≡ self.old.left }
         ensures room { self.new.tape.room ≡ self.old.tape.room }
         ensures holds { (e : Entry) (s : Scene ℤ) → Holds e self.old s → Holds e self.new (given_in (setting_at e) (var_at self.old.frame.names.now kind) (var_at self.old.frame.names.now lower) (var_at self.old.frame.names.now upper) action.now s) }
@@ -272,6 +275,7 @@ impl<'a> Machine<'a> {
         requires upper_there { targets.2 < length self.old.frame.names.now }
         ensures names { self.new.frame.names.now ≡ self.old.frame.names.now }
         ensures framed { IsFrame self.old.frame.names.now self.new.frame.slots.items }
+        ensures counts { counts_in self.new.frame.slots.items ≡ counts_in self.old.frame.slots.items }
         ensures room { self.new.tape.room ≡ self.old.tape.room }
         ensures ends { (e : Entry) (s : Scene ℤ) → Holds e self.old s
             → Ends e (runtime_act (setting_at e) (give_action (term_in self.old.frame.names.now steps.now) (term_in self.old.frame.names.now snapshots.now) (term_in self.old.frame.names.now number.now) (var_at self.old.frame.names.now targets.0) (var_at self.old.frame.names.now targets.1) (var_at self.old.frame.names.now targets.2)) line s self.old.left) result self.new }

@@ -1,9 +1,8 @@
 //! The units of a program, prepared.
 
-ghost use Rattle.std.specs.Prelude.{◌≡◌, ◌<◌, ℕ, [], IfOk, length, map, slice_index_or};
+ghost use Rattle.std.specs.Prelude.{◌≡◌, ◌<◌, IfOk};
 ghost use Rattle.adj_tree.specs.View.{procedures_of};
-ghost use Rattle.adj_frame.specs.Linked.{IsRoutine, units_in, AreRoutines};
-ghost use Rattle.adj_frame.specs.Listed.{IsDirectory};
+ghost use Rattle.adj_frame.specs.Linked.{units_in, AreRoutines};
 
 use adj_frame::{Directory, Routine, routine_of};
 use adj_symbols::Checked;

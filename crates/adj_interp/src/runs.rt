@@ -1,17 +1,20 @@
 //! Runs of a unit of a program on an input.
 
-ghost use Rattle.std.specs.Prelude.{◌≡◌, ◌<◌, ℕ, ℤ, Some, length, map, slice_get, true};
+ghost use Rattle.std.specs.Prelude.{◌≡◌, ◌<◌, ◌-◌, ℤ, Some, Err, MatchResult, length, map, slice_get, true};
 ghost use Rattle.adj_tree.specs.Code.{Procedure};
 ghost use Rattle.adj_tree.specs.View.{procedure_of, procedures_of};
 ghost use Rattle.adj_meaning.specs.Numbers.{words};
 ghost use Rattle.adj_meaning.specs.Scene.{Scene, then_do};
 ghost use Rattle.adj_meaning.specs.Run.{Calls, run};
 ghost use Rattle.adj_meaning.specs.Units.{calls_of, fits, run_unit};
+ghost use Rattle.adj_frame.specs.Instructed.{steps_in};
 ghost use Rattle.adj_frame.specs.Framed.{IsFrame};
 ghost use Rattle.adj_frame.specs.Linked.{IsRoutine, units_in, AreRoutines};
+ghost use Rattle.adj_frame.specs.Suited.{AreSuited};
+ghost use Rattle.adj_interp.specs.declared.stop.Stop.TheVariants as stop;
 ghost use Rattle.adj_interp.specs.Concludes.{Concludes, slot_seen};
 ghost use Rattle.adj_interp.specs.Entered.{closed};
-ghost use Rattle.adj_interp.specs.Held.{Entry, setting_at, Holds, Ends};
+ghost use Rattle.adj_interp.specs.Held.{Entry, setting_at, Holds, OneCelled, Ends};
 
 use crate::input::first_entry;
 use crate::log::Log;
@@ -20,7 +23,7 @@ use crate::output::values_of;
 use crate::preparing::prepared;
 use crate::stop::Stop;
 use crate::tally::Tally;
-use adj_frame::{Frame, Routine};
+use adj_frame::Routine;
 use adj_symbols::Checked;
 use adj_tape::Tape;
 use adj_tree::{Trap, Values};
@@ -39,6 +42,7 @@ impl<'a> Machine<'a> {
         requires names { self.old.frame.names.now ≡ routine.now.names }
         requires program { AreRoutines program.now }
         requires routine { IsRoutine (units_in program.now) routine.now }
+        requires suited { AreSuited (units_in program.now) (OneCelled self.old) (steps_in self.old.frame.names.now routine.now.body) }
         ensures names { self.new.frame.names.now ≡ self.old.frame.names.now }
         ensures framed { IsFrame self.old.frame.names.now self.new.frame.slots.items }
         ensures room { self.new.tape.room ≡ self.old.tape.room }
@@ -53,8 +57,19 @@ impl<'a> Machine<'a> {
     }
 }
 
+// The statements that a run used: all of them where there is more to do.
+fn used(budget: u64, left: u64, ended: &Result<(), Stop>) -> u64
+    ensures { MatchResult ended.now (λ done. result ≡ budget - left) (λ x. x ≡ stop.Budget → result ≡ budget) }
+{
+    match ended {
+        Err(Stop::Budget) => budget,
+        _ => budget.saturating_sub(left),
+    }
+}
+
 /// The run of a unit of a checked program on an input that fits it, from the words on a tape, with at most so many
 /// statements. The tape has then the words that the run leaves, and the log says what the run counted, unless memory ran out.
+/// The log tells the statements that were used of a run that is done, and of one that has more to do: all of them.
 pub fn run(
     alloc: Global,
     program: &Checked,
@@ -70,6 +85,7 @@ pub fn run(
     ensures room { tape.new.room ≡ tape.old.room }
     ensures ends { (u : Procedure) → slice_get (procedures_of program.now.program) unit ≡ Some u
         → Concludes (run_unit words (procedures_of program.now.program) u (map slot_seen input) tape.old.words (Some tape.old.room) budget) result tape.new log.new }
+    ensures spent { result ≡ Err stop.Budget → log.new.used ≡ budget }
 {
     let routines = prepared(alloc, program)?;
     let routine = &routines[unit];
@@ -86,7 +102,7 @@ pub fn run(
         alloc,
     };
     let ended = machine.finish(routines.as_slice(), budget, routine);
-    *log = machine.tally.log(budget.saturating_sub(machine.left));
+    *log = machine.tally.log(used(budget, machine.left, &ended));
     *tape = machine.tape;
     ended?;
     let count = routine.unit.dummies.as_slice().len();

@@ -9,6 +9,7 @@ ghost use Rattle.adj_frame.specs.declared.slot.Slot.{Slot};
 ghost use Rattle.adj_frame.specs.Prepared.{var_at, term_in, terms_in, IsTermBelow};
 ghost use Rattle.adj_frame.specs.Instructed.{service_in, IsCellBelow, IsServiceBelow};
 ghost use Rattle.adj_frame.specs.Framed.{IsFrame};
+ghost use Rattle.adj_frame.specs.Suited.{counts_in};
 ghost use Rattle.adj_interp.specs.Held.{Entry, setting_at, Holds, Ends};
 
 use crate::machine::Machine;
@@ -36,6 +37,7 @@ impl<'a> Machine<'a> {
         requires within { (d : Slot) → cell < length (slice_index_or self.old.frame.slots.items variable d).cells.items }
         ensures names { self.new.frame.names.now ≡ self.old.frame.names.now }
         ensures framed { IsFrame self.old.frame.names.now self.new.frame.slots.items }
+        ensures counts { counts_in self.new.frame.slots.items ≡ counts_in self.old.frame.slots.items }
         ensures sized { (j : ℕ) (d : Slot) → length (slice_index_or self.new.frame.slots.items j d).cells.items ≡ length (slice_index_or self.old.frame.slots.items j d).cells.items }
         ensures room { self.new.tape.room ≡ self.old.tape.room }
         ensures ends { (e : Entry) (s : Scene ℤ) → Holds e self.old s → Ends e (popped (setting_at e) (var_at self.old.frame.names.now variable) cell line s self.old.left) result self.new }
@@ -55,6 +57,7 @@ impl<'a> Machine<'a> {
         requires below { IsCellBelow (length self.old.frame.names.now) cell.now }
         ensures names { self.new.frame.names.now ≡ self.old.frame.names.now }
         ensures framed { IsFrame self.old.frame.names.now self.new.frame.slots.items }
+        ensures counts { counts_in self.new.frame.slots.items ≡ counts_in self.old.frame.slots.items }
         ensures room { self.new.tape.room ≡ self.old.tape.room }
         ensures ends { (e : Entry) (s : Scene ℤ) → Holds e self.old s
             → Ends e (runtime_act (setting_at e) (push_word (var_at self.old.frame.names.now cell.now.variable) (terms_in self.old.frame.names.now cell.now.subs)) line s self.old.left) result self.new }
@@ -70,6 +73,7 @@ impl<'a> Machine<'a> {
         requires below { IsCellBelow (length self.old.frame.names.now) cell.now }
         ensures names { self.new.frame.names.now ≡ self.old.frame.names.now }
         ensures framed { IsFrame self.old.frame.names.now self.new.frame.slots.items }
+        ensures counts { counts_in self.new.frame.slots.items ≡ counts_in self.old.frame.slots.items }
         ensures room { self.new.tape.room ≡ self.old.tape.room }
         ensures ends { (e : Entry) (s : Scene ℤ) → Holds e self.old s
             → Ends e (runtime_act (setting_at e) (pop_word (var_at self.old.frame.names.now cell.now.variable) (terms_in self.old.frame.names.now cell.now.subs)) line s self.old.left) result self.new }
@@ -101,6 +105,7 @@ impl<'a> Machine<'a> {
         requires there { variable < length self.old.frame.names.now }
         ensures names { self.new.frame.names.now ≡ self.old.frame.names.now }
         ensures framed { IsFrame self.old.frame.names.now self.new.frame.slots.items }
+        ensures counts { counts_in self.new.frame.slots.items ≡ counts_in self.old.frame.slots.items }
         ensures room { self.new.tape.room ≡ self.old.tape.room }
         ensures ends { (e : Entry) (s : Scene ℤ) → Holds e self.old s
             → Ends e (runtime_act (setting_at e) (pop_array (var_at self.old.frame.names.now variable)) line s self.old.left) result self.new }
@@ -132,6 +137,7 @@ impl<'a> Machine<'a> {
         requires there { variable < length self.old.frame.names.now }
         ensures names { self.new.frame.names.now ≡ self.old.frame.names.now }
         ensures framed { IsFrame self.old.frame.names.now self.new.frame.slots.items }
+        ensures counts { counts_in self.new.frame.slots.items ≡ counts_in self.old.frame.slots.items }
         ensures left { self.new.left ≡ self.old.left }
         ensures room { self.new.tape.room ≡ self.old.tape.room }
         ensures holds { (e : Entry) (s : Scene ℤ) → Holds e self.old s → Holds e self.new (record s { store = set_all s.store (var_at self.old.frame.names.now variable) (λ j. pos 0) }) }
@@ -145,6 +151,7 @@ impl<'a> Machine<'a> {
         requires below { IsServiceBelow (length self.old.frame.names.now) service.now }
         ensures names { self.new.frame.names.now ≡ self.old.frame.names.now }
         ensures framed { IsFrame self.old.frame.names.now self.new.frame.slots.items }
+        ensures counts { counts_in self.new.frame.slots.items ≡ counts_in self.old.frame.slots.items }
         ensures room { self.new.tape.room ≡ self.old.tape.room }
         ensures ends { (e : Entry) (s : Scene ℤ) → Holds e self.old s
             → Ends e (runtime_act (setting_at e) (service_in self.old.frame.names.now service.now) line s self.old.left) result self.new }

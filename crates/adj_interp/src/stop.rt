@@ -14,6 +14,7 @@ pub enum Stop {
     Budget,
     /// A word is to be pushed, and the tape is full.
     TapeFull,
+    /// Memory ran out. A count that would pass the end of its type is said to be that, to which no run comes.
     Memory,
 }
 

@@ -1,11 +1,12 @@
 //! Statements of an entry of scalars.
 
-ghost use Rattle.std.specs.Prelude.{◌≡◌, ◌<◌, ◌∷◌, [], IfOk, length};
+ghost use Rattle.std.specs.Prelude.{◌≡◌, ◌<◌, ◌∷◌, List, ℕ, [], IfOk};
 ghost use Rattle.adj_meaning.specs.Agree.{AreApart};
 ghost use Rattle.adj_frame.specs.Prepared.{IsTermBelow};
-ghost use Rattle.adj_frame.specs.Instructed.{IsTaskBelow, AreStepsBelow};
+ghost use Rattle.adj_frame.specs.Instructed.{task_in, steps_in, IsTaskBelow, AreStepsBelow};
 ghost use Rattle.adj_frame.specs.Linked.{IsTaskLinked, AreLinked};
 ghost use Rattle.adj_frame.specs.Framed.{IsFrame};
+ghost use Rattle.adj_frame.specs.Suited.{HasOneCell, IsSuited, AreSuited};
 
 use adj_frame::{Cell, Frame, Slot, Step, Steps, Task, Term, Terms, Test};
 use adj_interp::{Machine, Stop, Tally};
@@ -55,10 +56,13 @@ fn machine<'a>(alloc: Global, names: &'a NameList, left: u64) -> Result<Machine<
 fn step(alloc: Global, task: Task, rest: Steps) -> Result<Steps, Memory>
     requires below { IsTaskBelow 3 task }
     requires linked { IsTaskLinked [] task }
+    requires suited { (names : List (List ℕ)) (counts : List ℕ) → IsSuited [] (HasOneCell names counts) (task_in names task) }
     requires rest_below { AreStepsBelow 3 rest }
     requires rest_linked { AreLinked [] rest }
+    requires rest_suited { (names : List (List ℕ)) (counts : List ℕ) → AreSuited [] (HasOneCell names counts) (steps_in names rest) }
     ensures below { IfOk result (λ steps. AreStepsBelow 3 steps) }
     ensures linked { IfOk result (λ steps. AreLinked [] steps) }
+    ensures suited { IfOk result (λ steps. (names : List (List ℕ)) (counts : List ℕ) → AreSuited [] (HasOneCell names counts) (steps_in names steps)) }
 {
     let first = Box::new(alloc, Step { line: 2, task })?;
     Ok(Steps::More(first, Box::new(alloc, rest)?))
@@ -70,8 +74,10 @@ fn assign(alloc: Global, variable: usize, term: Term, rest: Steps) -> Result<Ste
     requires below { IsTermBelow 3 term }
     requires rest_below { AreStepsBelow 3 rest }
     requires rest_linked { AreLinked [] rest }
+    requires rest_suited { (names : List (List ℕ)) (counts : List ℕ) → AreSuited [] (HasOneCell names counts) (steps_in names rest) }
     ensures below { IfOk result (λ steps. AreStepsBelow 3 steps) }
     ensures linked { IfOk result (λ steps. AreLinked [] steps) }
+    ensures suited { IfOk result (λ steps. (names : List (List ℕ)) (counts : List ℕ) → AreSuited [] (HasOneCell names counts) (steps_in names steps)) }
 {
     let cell = Cell {
         variable,
@@ -93,6 +99,7 @@ fn with_number(alloc: Global, op: Op, variable: usize, number: i64) -> Result<Te
 fn doubling(alloc: Global) -> Result<Steps, Memory>
     ensures below { IfOk result (λ steps. AreStepsBelow 3 steps) }
     ensures linked { IfOk result (λ steps. AreLinked [] steps) }
+    ensures suited { IfOk result (λ steps. (names : List (List ℕ)) (counts : List ℕ) → AreSuited [] (HasOneCell names counts) (steps_in names steps)) }
 {
     let next = assign(alloc, 1, with_number(alloc, Op::Add, 1, 1)?, Steps::Empty)?;
     let body = assign(alloc, 0, with_number(alloc, Op::Mul, 0, 2)?, next)?;

@@ -3,14 +3,15 @@ use Rattle.std.proofs.lemmas.List.{length-map, length-append, map_push, map_more
 use Rattle.adj_tree.specs.declared.unit.Program.{Program}
 use Rattle.adj_tree.specs.declared.unit.Decl.{Decl}
 use Rattle.adj_tree.specs.declared.unit.Unit.{Unit}
-use Rattle.adj_tree.specs.View.{procedure_of, procedures_of}
+use Rattle.adj_tree.specs.View.{code_of, procedure_of, procedures_of}
 use Rattle.adj_meaning.specs.Agree.{AreApart}
 use Rattle.adj_meaning.specs.LeastSet.{least_rows}
 use Rattle.adj_meaning.specs.Written.{write_rule, handed_back}
 use Rattle.adj_frame.specs.declared.routine.Routine.{Routine}
 use Rattle.adj_frame.specs.Linked.{IsRoutine, units_in}
 use Rattle.adj_frame.specs.Listed.{names_of}
-use Rattle.adj_interp.proofs.Accepted.{units_apart, dummies_apart, extents_few, rows_each, row_at, pushed_each}
+use Rattle.adj_frame.specs.Suited.{IsScalarIn, AreSuited}
+use Rattle.adj_interp.proofs.Accepted.{units_apart, dummies_apart, extents_few, calls_suit, rows_each, row_at, pushed_each}
 use Rattle.adj_interp.proofs.preparing.prepared.Goals as goal
 
 pub new-requires : goal.new-requires
@@ -43,6 +44,17 @@ routine_of-requires-clause-few c =
     let d = c.index-units-i.result in
     let is = c.index-units-i.is ∙ ap (λ xs. get_or xs c.loop-i.i d) all in
     subst (λ (u : Unit). (j : ℕ) (e : Decl) → j < length u.decls → length (get_or u.decls j e).extents ≤ 2) (sym is) (extents_few us c.loop-i.i d c.program.ensures.facts.written lt)
+
+pub routine_of-requires-clause-suited : goal.routine_of-requires-clause-suited
+routine_of-requires-clause-suited c =
+    let us = c.args.program.now.program.units in
+    let ps = procedures_of c.args.program.now.program in
+    let all = c.as_slice-units.ensures.members ∙ ap (λ (p : Program). p.units) c.program.ensures.program in
+    let lt = subst (λ (xs : List Unit). c.loop-i.i < length xs) all c.loop-i-test.true in
+    let d = c.index-units-i.result in
+    let is = c.index-units-i.is ∙ ap (λ xs. get_or xs c.loop-i.i d) all in
+    subst (λ xs. AreSuited (map procedure_of xs) (IsScalarIn (procedure_of d)) (code_of d.body)) (sym c.loop-i.invariant.units)
+    (subst (λ (u : Unit). AreSuited ps (IsScalarIn (procedure_of u)) (code_of u.body)) (sym is) (calls_suit us c.loop-i.i d c.program.ensures.facts.sound lt))
 
 pub routine_of-requires-clause-writes : goal.routine_of-requires-clause-writes
 routine_of-requires-clause-writes c =

@@ -10,9 +10,10 @@ use Rattle.adj_frame.specs.declared.routine.Routine.{Routine}
 use Rattle.adj_frame.specs.Framed.{IsFrame}
 use Rattle.adj_frame.specs.Linked.{IsRoutine, units_in}
 use Rattle.adj_frame.specs.Shown.{Shows}
+use Rattle.adj_interp.specs.declared.stop.Stop.TheVariants as stop
 use Rattle.adj_interp.specs.Concludes.{Concludes, slot_seen}
 use Rattle.adj_interp.specs.Inputs.{entry_seen, input_shape}
-use Rattle.adj_interp.proofs.Calling.{unit_at}
+use Rattle.adj_interp.proofs.Calling.{unit_at, entered_suited}
 use Rattle.adj_interp.proofs.Concluding.{values_shown}
 use Rattle.adj_interp.proofs.Running.{first_entry, first_scene, starts, stopped, done}
 use Rattle.adj_interp.proofs.runs.run.Goals as goal
@@ -47,6 +48,28 @@ finish-ended-requires-clause-routine c =
     let lt : c.args.unit < length c.in_ok-routines.routines.items = omega (arith, n, there, many) in
     subst (λ all. IsRoutine (units_in all) r) (sym c.as_slice.ensures.value) (subst (IsRoutine (units_in rs)) (sym c.index-routine.ensures) (c.in_ok-routines.ensures.routines c.args.unit r lt))
 
+pub finish-ended-requires-clause-suited : goal.finish-ended-requires-clause-suited
+finish-ended-requires-clause-suited c =
+    let rs = c.in_ok-routines.routines.items in
+    let r = c.index-routine.result.now in
+    let units = c.in_ok-routines.ensures.units in
+    let n = length-map rs (λ (z : Routine). procedure_of z.unit.now) in
+    let there = c.requires.there in
+    let many = ap length units in
+    let lt : c.args.unit < length c.in_ok-routines.routines.items = omega (arith, n, there, many) in
+    let routine = subst (λ all. IsRoutine (units_in all) r) (sym c.as_slice.ensures.value) (subst (IsRoutine (units_in rs)) (sym c.index-routine.ensures) (c.in_ok-routines.ensures.routines c.args.unit r lt)) in
+    let u = procedure_of r.unit.now in
+    let store = input_store words u (map slot_seen c.args.input) in
+    let k = c.in_ok-frame.ensures in
+    entered_suited (units_in c.as_slice.result.now) r store (input_shape u store) store c.in_ok-frame.frame routine k.names k.framed k.shown (λ x. refl)
+
+pub returns-in_err-ended-clause-spent : goal.returns-in_err-ended-clause-spent
+returns-in_err-ended-clause-spent c budget =
+    let err : c.from_residual-in_err-ended.result ≡ Err c.in_err-ended.field-0.0 = search rules in
+    let both : Err c.in_err-ended.field-0.0 ≡ Err stop.Budget = sym err ∙ budget in
+    let is : c.in_err-ended.field-0.0 ≡ stop.Budget = cc in
+    c.log.ensures.used ∙ (rw c.in_err-ended.was at c.used.ensures) is
+
 pub returns-in_err-ended-clause-ends : goal.returns-in_err-ended-clause-ends
 returns-in_err-ended-clause-ends c u asked =
     let rs = c.in_ok-routines.routines.items in
@@ -66,7 +89,7 @@ returns-in_err-ended-clause-ends c u asked =
     let k = c.in_ok-frame.ensures in
     let shown = subst (λ ns. Shows ns c.in_ok-frame.frame.slots.items (input_shape v (input_store words v input)) (input_store words v input)) (sym k.names) k.shown in
     let holds = starts us v input held c.args.budget _ c.replace.ensures.value refl refl c.new.ensures shown in
-    let ends = c.in_err-ended.ensures.ends (first_entry us v input held c.args.budget) (first_scene us v input held c.args.budget) holds in
+    let ends = rw c.in_err-ended.was at (c.finish-ended.ensures.ends (first_entry us v input held c.args.budget) (first_scene us v input held c.args.budget) holds) in
     subst (λ z. Concludes (run_unit words (procedures_of c.args.program.now.program) u input held.words (Some held.room) c.args.budget) z c.finish-ended.new.self.tape c.log.result) (sym err)
     (turned us (procedures_of c.args.program.now.program) v u (λ ps w. run_unit words ps w input held.words (Some held.room) c.args.budget) (λ o. Concludes o (Err x) c.finish-ended.new.self.tape c.log.result)
     (ap units_in c.as_slice.ensures.value ∙ units) (same_unit v u (sym at ∙ asked))
@@ -90,9 +113,9 @@ returns-clause-ends c u asked =
     let k = c.in_ok-frame.ensures in
     let shown = subst (λ ns. Shows ns c.in_ok-frame.frame.slots.items (input_shape v (input_store words v input)) (input_store words v input)) (sym k.names) k.shown in
     let holds = starts us v input held c.args.budget _ c.replace.ensures.value refl refl c.new.ensures shown in
-    let ends = c.in_ok-ended.ensures.ends (first_entry us v input held c.args.budget) (first_scene us v input held c.args.budget) holds in
+    let ends = rw c.in_ok-ended.was at (c.finish-ended.ensures.ends (first_entry us v input held c.args.budget) (first_scene us v input held c.args.budget) holds) in
     let m = c.finish-ended.new.self in
-    let f = c.in_ok-ended.ensures in
+    let f = c.finish-ended.ensures in
     let names = f.names ∙ k.names in
     let framed = subst (λ ns. IsFrame ns m.frame.slots.items) (sym f.names) f.framed in
     let count = ap length c.as_slice-count.ensures.members in
@@ -101,4 +124,4 @@ returns-clause-ends c u asked =
     (ap units_in c.as_slice.ensures.value ∙ units) (same_unit v u (sym at ∙ asked))
     (done us v input held c.args.budget c.in_ok-values.values m c.log.result ends
     (λ s g. front ∙ values_shown r.unit.now.dummies routine.laid.others m.frame.names.now m.frame.slots.items (input_shape v (input_store words v input)) s.store (names ∙ routine.laid.names) framed g.shown)
-    c.log.ensures.counted (c.log.ensures.used ∙ c.saturating_sub.ensures))
+    c.log.ensures.counted (c.log.ensures.used ∙ (rw c.in_ok-ended.was at c.used.ensures)))

@@ -1,5 +1,5 @@
 use Rattle.std.proofs.Common.{rules, ◌≡◌, ◌*◌, ◌-◌, ◌<◌, ℕ, suc, ℤ, List, FitsSigned, w64, length, refl, sym, ap, subst, ◌∙◌, arith, Vec, Global}
-use Rattle.std.specs.Prelude.{Result, Ok, Err, Bool, true, false}
+use Rattle.std.specs.Prelude.{Result, Ok, Err, Some, None, Bool, true, false}
 use Rattle.adj_meaning.specs.Trap.{Trap}
 use Rattle.std.proofs.lemmas.Int.{to_z-of_z}
 use Rattle.adj_word.specs.Word.{wrap}
@@ -20,12 +20,16 @@ use Rattle.adj_frame.specs.declared.actual.Actual.{Actual}
 use Rattle.adj_frame.specs.declared.frame.Frame.{Frame}
 use Rattle.adj_frame.specs.declared.routine.Routine.{Routine}
 use Rattle.adj_frame.specs.Linked.{IsRoutine, units_in}
-use Rattle.adj_frame.specs.Shown.{Shows}
+use Rattle.adj_frame.specs.Shown.{on_words, Shows}
 use Rattle.adj_frame.specs.Called.{actuals_in, entered_with, shapes_with, fit_from}
 use Rattle.adj_interp.specs.declared.call.Outer.{Outer}
 use Rattle.adj_interp.specs.Entered.{inside}
-use Rattle.adj_interp.proofs.Calling.{all_sizes, size_within, less_deep, positive, call_past, call_at, call_err, misfit_at, call_misfit, unit_ends, call_break, call_open, call_done, done_back}
-use Rattle.adj_frame.specs.Framed.{IsFrame}
+use Rattle.adj_tree.specs.View.{procedure_of}
+use Rattle.adj_interp.proofs.Calling.{all_sizes, unit_at, size_within, less_deep, positive, call_past, call_at, call_err, misfit_at, call_misfit, unit_ends, call_break, call_open, call_done, entered_suited}
+use Rattle.adj_frame.specs.Framed.{IsFrame, shapes_in, store_in}
+use Rattle.adj_frame.specs.Suited.{AreSuited, counts_in, HasOneCell, AreAsLarge}
+use Rattle.adj_frame.proofs.Showing.{shows_itself}
+use Rattle.adj_frame.proofs.Suiting.{got_suited, as_large}
 use Rattle.adj_interp.specs.Held.{setting_at, Holds, Ends, Finds, IsDone, IsTrapped, HasMore}
 use Rattle.adj_interp.proofs.Driving.{holds_stand, reaches_start, reaches_end, ends_ok, ends_err, list_budget, list_next, list_break, same_act, turn_budget, turn_next, turn_break, turn_end, test_err, test_end, test_last, test_break, test_budget, test_next, ends_loop, bounds_chain}
 use Rattle.adj_interp.proofs.machine.Machine.+run.Goals as goal
@@ -38,8 +42,10 @@ run-loop-current-init t c = record {
   no_deeper = omega arith;
   names = refl;
   framed = c.requires.framed;
+  counts = refl;
   below = c.requires.below;
   linked = c.requires.linked;
+  suited = c.requires.suited;
   reached = λ e s h. let q = calls_of {C = ℤ} (units_in c.args.program.now) c.args.depth in reaches_start e (run q (setting_at e) (steps_in c.args.self.now.frame.names.now c.args.steps.now)) c.args.self.now s h;
 }
 
@@ -76,6 +82,7 @@ run-loop-current-preserved t c =
     let same = ap (λ (m : Machine). m.frame.names.now) (sym some) ∙ c.loop-current.invariant.names in
     let below = rw c.in-More.is at c.loop-current.invariant.below in
     let linked = rw c.in-More.is at c.loop-current.invariant.linked in
+    let suited = rw c.in-More.is at c.loop-current.invariant.suited in
     let rest = c.deref-current.ensures in
     record {
       no_deeper =
@@ -87,8 +94,10 @@ run-loop-current-preserved t c =
       room = c.in_ok-perform.ensures.room ∙ ap (λ (m : Machine). m.tape.room) (sym some) ∙ c.loop-current.invariant.room;
       names = c.in_ok-perform.ensures.names ∙ same;
       framed = rw (sym same) c.in_ok-perform.ensures.framed;
+      counts = c.in_ok-perform.ensures.counts ∙ ap (λ (m : Machine). counts_in m.frame.slots.items) (sym some) ∙ c.loop-current.invariant.counts;
       below = rw rest below.1;
       linked = rw rest linked.1;
+      suited = rw rest suited.1;
       reached = λ e s h. let q = calls_of {C = ℤ} (units_in c.args.program.now) c.args.depth in rw rest
           (list_next e q v.line (task_in names v.task) (steps_in names c.in-More.rest.value) (run q (setting_at e) (steps_in names c.args.steps.now) s c.args.self.now.left) c.in_ok-perform.field-0 c.loop-current.self c.count.new.self c.perform.new.self some
           (λ z g. same_act e q names c.count.new.self.frame.names.now c.deref.result.now c.deref-in-More.result.now v z c.count.new.self.left (Ok c.in_ok-perform.field-0) c.perform.new.self same c.deref.ensures c.deref-in-More.ensures (c.in_ok-perform.ensures.ends e z g))
@@ -178,6 +187,7 @@ turns-loop-remaining-init t c = record {
   room = refl;
   names = refl;
   framed = c.requires.framed;
+  counts = refl;
   reached = λ e s h. let q = calls_of {C = ℤ} (units_in c.args.program.now) c.args.depth in reaches_start e (turns (setting_at e) c.args.count (run q (setting_at e) (steps_in c.args.self.now.frame.names.now c.args.body.now)) (stepped (setting_at e) (var_at c.args.self.now.frame.names.now c.args.course.now.variable) c.args.course.now.by)) c.args.self.now s h;
 }
 
@@ -222,6 +232,7 @@ turns-loop-remaining-preserved t c =
       room = c.advance.ensures.room ∙ c.in_ok-run.ensures.room ∙ ap (λ (m : Machine). m.tape.room) (sym some) ∙ c.loop-remaining.invariant.room;
       names = c.advance.ensures.names ∙ still;
       framed = subst (λ ns. IsFrame ns c.advance.new.self.frame.slots.items) still c.advance.ensures.framed;
+      counts = c.advance.ensures.counts ∙ c.in_ok-run.ensures.counts ∙ ap (λ (m : Machine). counts_in m.frame.slots.items) (sym some) ∙ c.loop-remaining.invariant.counts;
       reached = λ e s h.
           let q = calls_of {C = ℤ} (units_in c.args.program.now) c.args.depth in
           let body = run q (setting_at e) (steps_in names c.args.body.now) in
@@ -251,6 +262,7 @@ tests-loop-self-init t c = record {
   room = refl;
   names = refl;
   framed = c.requires.framed;
+  counts = refl;
   reached = λ e s h. let q = calls_of {C = ℤ} (units_in c.args.program.now) c.args.depth in reaches_start e (tests (setting_at e) c.most_tests-remaining.result (λ s1. holds (setting_at e) (test_in c.args.self.now.frame.names.now c.args.test.now) s1.store) c.args.line (run q (setting_at e) (steps_in c.args.self.now.frame.names.now c.args.body.now))) c.args.self.now s h;
 }
 
@@ -345,6 +357,7 @@ tests-loop-self-preserved t c =
       room = ap (λ (m : Machine). m.tape.room) (sym some) ∙ c.in_ok-run.ensures.room ∙ c.loop-self.invariant.room;
       names = after ∙ still;
       framed = subst (λ (m : Machine). IsFrame names m.frame.slots.items) some framed;
+      counts = ap (λ (m : Machine). counts_in m.frame.slots.items) (sym some) ∙ c.in_ok-run.ensures.counts ∙ c.loop-self.invariant.counts;
       reached = λ e s h.
           let q = calls_of {C = ℤ} (units_in c.args.program.now) c.args.depth in
           let test : Scene ℤ → Result Bool Trap = λ s1. holds (setting_at e) (test_in names c.args.test.now) s1.store in
@@ -378,12 +391,15 @@ tests-returns-clause-ends t c e s h =
 pub perform-call-requires : goal.perform-call-requires
 perform-call-requires t c =
     let below = rw c.in-Call.is at c.requires.below in
-    (omega (arith, c.decreases), (c.requires.framed, (below, c.requires.program)))
+    let linked = rw c.in-Call.is at c.requires.linked in
+    let suited = rw c.in-Call.is at c.requires.suited in
+    (omega (arith, c.decreases), (c.requires.framed, (below, (c.requires.program, (λ u e. suited u (linked ∙ e))))))
 
 pub tests-run-requires : goal.tests-run-requires
 tests-run-requires t c =
     let inv = c.loop-self.invariant in
-    (omega (arith, c.decreases), (subst (λ ns. IsFrame ns c.loop-self.self.frame.slots.items) (sym inv.names) inv.framed, (subst (λ ns. AreStepsBelow (length ns) c.args.body.now) (sym inv.names) c.requires.below, (c.requires.program, c.requires.linked))))
+    let suited = subst (λ z. z) (λ i. AreSuited (units_in c.args.program.now) (HasOneCell (sym inv.names i) (sym inv.counts i)) (steps_in (sym inv.names i) c.args.body.now)) c.requires.suited in
+    (omega (arith, c.decreases), (subst (λ ns. IsFrame ns c.loop-self.self.frame.slots.items) (sym inv.names) inv.framed, (subst (λ ns. AreStepsBelow (length ns) c.args.body.now) (sym inv.names) c.requires.below, (c.requires.program, (c.requires.linked, suited)))))
 
 pub turns-run-requires : goal.turns-run-requires
 turns-run-requires t c =
@@ -391,7 +407,9 @@ turns-run-requires t c =
     let some = c.count.ensures.some c.if-not-count.false in
     let same = ap (λ (m : Machine). m.frame.names.now) (sym some) ∙ inv.names in
     let framed = subst (λ (m : Machine). IsFrame c.args.self.now.frame.names.now m.frame.slots.items) some inv.framed in
-    (omega (arith, c.decreases), (subst (λ ns. IsFrame ns c.count.new.self.frame.slots.items) (sym same) framed, (subst (λ ns. AreStepsBelow (length ns) c.args.body.now) (sym same) c.requires.below, (c.requires.program, c.requires.linked))))
+    let counts = ap (λ (m : Machine). counts_in m.frame.slots.items) (sym some) ∙ inv.counts in
+    let suited = subst (λ z. z) (λ i. AreSuited (units_in c.args.program.now) (HasOneCell (sym same i) (sym counts i)) (steps_in (sym same i) c.args.body.now)) c.requires.suited in
+    (omega (arith, c.decreases), (subst (λ ns. IsFrame ns c.count.new.self.frame.slots.items) (sym same) framed, (subst (λ ns. AreStepsBelow (length ns) c.args.body.now) (sym same) c.requires.below, (c.requires.program, (c.requires.linked, suited)))))
 
 pub perform-returns-in-Call-clause-ends : goal.perform-returns-in-Call-clause-ends
 perform-returns-in-Call-clause-ends t c e s h =
@@ -422,7 +440,7 @@ call-returns-in_err-actuals-clause-ends t c name found e s h =
     let err : c.from_residual.result ≡ Err c.in_err-actuals.field-0.0 = search rules in
     let o = calls_of {C = ℤ} (units_in rs) c.args.depth (setting_at e) name args c.args.line s m.left in
     subst (λ z. Ends e o z m) (sym err)
-    (subst (λ z. Ends e z (Err x) m) (sym at) (call_err (calls_of {C = ℤ} (units_in rs) (c.args.depth - 1)) e s r r.writes.now args c.args.line m.left m h (λ (v : Vec Actual Global). actuals_in names e.shape s.store v.items) x (c.in_err-actuals.ensures.actuals e s h)))
+    (subst (λ z. Ends e z (Err x) m) (sym at) (call_err (calls_of {C = ℤ} (units_in rs) (c.args.depth - 1)) e s r r.writes.now args c.args.line m.left m h (λ (v : Vec Actual Global). actuals_in names e.shape s.store v.items) x (c.in_err-actuals.ensures.actuals e.shape (Some e.room) e.level s.store h.shown)))
 
 pub call-returns-in_err-frame-clause-ends : goal.call-returns-in_err-frame-clause-ends
 call-returns-in_err-frame-clause-ends t c name found e s h =
@@ -438,9 +456,9 @@ call-returns-in_err-frame-clause-ends t c name found e s h =
     let err : c.from_residual-in_err-frame.result ≡ Err c.in_err-frame.field-0.0 = search rules in
     let o = calls_of {C = ℤ} (units_in rs) c.args.depth (setting_at e) name args c.args.line s m.left in
     let got = actuals_in names e.shape s.store c.in_ok-actuals.actuals.items in
-    let misfit = misfit_at x c.args.line (λ f. ap (λ all. fit_from r (actuals_in names e.shape s.store all) 0) (sym c.as_slice.ensures.value) ∙ f e s h) c.in_err-frame.ensures.misfit in
+    let misfit = misfit_at x c.args.line (λ f. ap (λ all. fit_from r (actuals_in names e.shape s.store all) 0) (sym c.as_slice.ensures.value) ∙ f e.shape s.store h.shown) c.in_err-frame.ensures.misfit in
     subst (λ z. Ends e o z m) (sym err)
-    (subst (λ z. Ends e z (Err x) m) (sym at) (call_misfit (calls_of {C = ℤ} (units_in rs) (c.args.depth - 1)) e s r r.writes.now args c.args.line m.left m h got (c.in_ok-actuals.ensures.actuals e s h) x misfit))
+    (subst (λ z. Ends e z (Err x) m) (sym at) (call_misfit (calls_of {C = ℤ} (units_in rs) (c.args.depth - 1)) e s r r.writes.now args c.args.line m.left m h got (c.in_ok-actuals.ensures.actuals e.shape (Some e.room) e.level s.store h.shown) x misfit))
 
 pub call-run-ended-requires : goal.call-run-ended-requires
 call-run-ended-requires t c =
@@ -455,7 +473,39 @@ call-run-ended-requires t c =
     let size = ap (λ (z : Routine). size-Steps z.body) c.index-program-number.is in
     let within = size_within rs c.args.number r lt in
     let less = less_deep c.args.depth (suc (2 * all_sizes rs)) (2 * size-Steps r.body) 0 (positive c.args.depth c.if-depth-eq0.false) (omega (arith, size, within)) in
-    (omega (arith, c.decreases, less), (subst (λ ns. IsFrame ns c.enter.new.self.frame.slots.items) (sym names) framed, (subst (λ ns. AreStepsBelow (length ns) r.body) (sym names) k.below, (c.requires.program, k.linked))))
+    let m = c.args.self.now.frame in
+    let mine = shapes_in m.names.now m.slots.items in
+    let held = store_in m.names.now m.slots.items in
+    let got = actuals_in m.names.now mine held c.as_slice.result.now in
+    let shown = f.shown mine held (shows_itself m.names.now m.slots.items) in
+    let inside_suited = entered_suited (units_in rs) r (entered_with r got) (shapes_with r got) (entered_with r got) c.in_ok-frame.frame k f.names f.framed shown (λ x. refl) in
+    let suited = subst (λ (z : Frame). AreSuited (units_in rs) (HasOneCell z.names.now (counts_in z.slots.items)) (steps_in z.names.now r.body)) (sym frame) inside_suited in
+    (omega (arith, c.decreases, less), (subst (λ ns. IsFrame ns c.enter.new.self.frame.slots.items) (sym names) framed, (subst (λ ns. AreStepsBelow (length ns) r.body) (sym names) k.below, (c.requires.program, (k.linked, suited)))))
+
+-- what is handed back has the cells of the actuals
+pub call-hand_back-requires-clause-large : goal.call-hand_back-requires-clause-large
+call-hand_back-requires-clause-large t c =
+    let rs = c.args.program.now in
+    let r = c.index-program-number.result in
+    let lt = c.if-number-program.false in
+    let k = subst (IsRoutine (units_in rs)) (sym c.index-program-number.is) (c.requires.program c.args.number r lt) in
+    let m = c.args.self.now.frame in
+    let mine = shapes_in m.names.now m.slots.items in
+    let held = store_in m.names.now m.slots.items in
+    let f = c.in_ok-frame.ensures in
+    let itself = shows_itself m.names.now m.slots.items in
+    let found = c.in_ok-actuals.ensures.actuals mine None 0 held itself in
+    let value = c.as_slice.ensures.value in
+    let all = c.in_ok-actuals.actuals.items in
+    let got = actuals_in m.names.now mine held all in
+    let is = unit_at rs c.args.number r lt ∙ ap (λ (z : Routine). Some (procedure_of z.unit.now)) (sym c.index-program-number.is) in
+    let suited = got_suited (HasOneCell m.names.now (counts_in m.slots.items)) (on_words mine None 0) held (procedure_of r.unit.now) r.unit.now.dummies (terms_in m.names.now c.args.terms.now) got found (c.requires.suited (procedure_of r.unit.now) is) in
+    let fit = subst (λ (xs : List Actual). fit_from r (actuals_in m.names.now mine held xs) 0 ≡ true) value (f.fits mine held itself) in
+    let shown = subst (λ (xs : List Actual). Shows r.names c.in_ok-frame.frame.slots.items (shapes_with r (actuals_in m.names.now mine held xs)) (entered_with r (actuals_in m.names.now mine held xs))) value (f.shown mine held itself) in
+    let large = as_large r k.laid m.names.now m.slots.items c.in_ok-frame.frame.slots.items all c.requires.framed f.framed c.in_ok-actuals.ensures.below fit shown suited in
+    let frame = ap (λ (z : Machine). z.frame) c.leave-inner.ensures.back ∙ ap (λ (z : Outer). z.frame) c.in_ok-outer.ensures.outer in
+    let inner = ap (λ (z : Frame). counts_in z.slots.items) c.leave-inner.ensures.frame ∙ c.in_ok-ended.ensures.counts ∙ ap (λ (z : Frame). counts_in z.slots.items) c.in_ok-outer.ensures.frame in
+    subst (λ z. z) (λ i. AreAsLarge (length r.unit.now.dummies) (counts_in (sym frame i).slots.items) (sym c.as_slice-2.ensures.value i) (sym inner i)) large
 
 pub call-returns-in_err-ended-clause-ends : goal.call-returns-in_err-ended-clause-ends
 call-returns-in_err-ended-clause-ends t c name found e s h =
@@ -474,15 +524,15 @@ call-returns-in_err-ended-clause-ends t c name found e s h =
     let got = actuals_in names e.shape s.store c.in_ok-actuals.actuals.items in
     let value = c.as_slice.ensures.value in
     let f = c.in_ok-frame.ensures in
-    let fit = ap (λ all. fit_from r (actuals_in names e.shape s.store all) 0) (sym value) ∙ f.fits e s h in
-    let shown = subst (λ all. Shows r.names c.in_ok-frame.frame.slots.items (shapes_with r (actuals_in names e.shape s.store all)) (entered_with r (actuals_in names e.shape s.store all))) value (f.shown e s h) in
+    let fit = ap (λ all. fit_from r (actuals_in names e.shape s.store all) 0) (sym value) ∙ f.fits e.shape s.store h.shown in
+    let shown = subst (λ all. Shows r.names c.in_ok-frame.frame.slots.items (shapes_with r (actuals_in names e.shape s.store all)) (entered_with r (actuals_in names e.shape s.store all))) value (f.shown e.shape s.store h.shown) in
     let here = subst (λ ns. Shows ns c.in_ok-frame.frame.slots.items (shapes_with r got) (entered_with r got)) (sym f.names) shown in
     let holds = c.in_ok-outer.ensures.holds e s (shapes_with r got) (entered_with r got) r.unit.now.name _ h here in
     let ends = unit_ends q (inside e (shapes_with r got) (length m.tally.begun)) _ r c.enter.new.self.frame.names.now m.left c.enter.new.self.left (Err x) c.run-ended.new.self (ap (λ (z : Frame). z.names.now) c.in_ok-outer.ensures.frame ∙ f.names) k.body c.in_ok-outer.ensures.left (c.in_err-ended.ensures.ends (inside e (shapes_with r got) (length m.tally.begun)) _ holds) in
     let back = c.leave-inner.ensures.back in
     subst (λ z. Ends e o z c.leave-inner.new.self) (sym err)
     (subst (λ z. Ends e z (Err x) c.leave-inner.new.self) (sym at)
-    (call_break q e s r r.writes.now args c.args.line m.left m h got (c.in_ok-actuals.ensures.actuals e s h) fit c.run-ended.new.self x c.leave-inner.new.self ends (ap (λ (z : Machine). z.tape) back) (ap (λ (z : Machine). z.tally) back)))
+    (call_break q e s r r.writes.now args c.args.line m.left m h got (c.in_ok-actuals.ensures.actuals e.shape (Some e.room) e.level s.store h.shown) fit c.run-ended.new.self x c.leave-inner.new.self ends (ap (λ (z : Machine). z.tape) back) (ap (λ (z : Machine). z.tally) back)))
 
 pub call-returns-then-not-is_closed-clause-ends : goal.call-returns-then-not-is_closed-clause-ends
 call-returns-then-not-is_closed-clause-ends t c name found e s h =
@@ -498,14 +548,14 @@ call-returns-then-not-is_closed-clause-ends t c name found e s h =
     let got = actuals_in names e.shape s.store c.in_ok-actuals.actuals.items in
     let value = c.as_slice.ensures.value in
     let f = c.in_ok-frame.ensures in
-    let fit = ap (λ all. fit_from r (actuals_in names e.shape s.store all) 0) (sym value) ∙ f.fits e s h in
-    let shown = subst (λ all. Shows r.names c.in_ok-frame.frame.slots.items (shapes_with r (actuals_in names e.shape s.store all)) (entered_with r (actuals_in names e.shape s.store all))) value (f.shown e s h) in
+    let fit = ap (λ all. fit_from r (actuals_in names e.shape s.store all) 0) (sym value) ∙ f.fits e.shape s.store h.shown in
+    let shown = subst (λ all. Shows r.names c.in_ok-frame.frame.slots.items (shapes_with r (actuals_in names e.shape s.store all)) (entered_with r (actuals_in names e.shape s.store all))) value (f.shown e.shape s.store h.shown) in
     let here = subst (λ ns. Shows ns c.in_ok-frame.frame.slots.items (shapes_with r got) (entered_with r got)) (sym f.names) shown in
     let holds = c.in_ok-outer.ensures.holds e s (shapes_with r got) (entered_with r got) r.unit.now.name _ h here in
     let ends = unit_ends q (inside e (shapes_with r got) (length m.tally.begun)) _ r c.enter.new.self.frame.names.now m.left c.enter.new.self.left (Ok tt) c.run-ended.new.self (ap (λ (z : Frame). z.names.now) c.in_ok-outer.ensures.frame ∙ f.names) k.body c.in_ok-outer.ensures.left (c.in_ok-ended.ensures.ends (inside e (shapes_with r got) (length m.tally.begun)) _ holds) in
     let back = c.leave-inner.ensures.back in
     subst (IsTrapped c.leave-inner.new.self trap.Schedule c.args.line) (sym at)
-    (call_open q e s r r.writes.now args c.args.line m.left m h got (c.in_ok-actuals.ensures.actuals e s h) fit c.run-ended.new.self c.leave-inner.new.self ends (sym c.leave-inner.ensures.closed ∙ c.if-not-is_closed.true) (ap (λ (z : Machine). z.tape) back) (ap (λ (z : Machine). z.tally) back))
+    (call_open q e s r r.writes.now args c.args.line m.left m h got (c.in_ok-actuals.ensures.actuals e.shape (Some e.room) e.level s.store h.shown) fit c.run-ended.new.self c.leave-inner.new.self ends (sym c.leave-inner.ensures.closed ∙ c.if-not-is_closed.true) (ap (λ (z : Machine). z.tape) back) (ap (λ (z : Machine). z.tally) back))
 
 pub call-returns-clause-ends : goal.call-returns-clause-ends
 call-returns-clause-ends t c name found e s h =
@@ -522,8 +572,8 @@ call-returns-clause-ends t c name found e s h =
     let got = actuals_in names e.shape s.store c.in_ok-actuals.actuals.items in
     let value = c.as_slice.ensures.value in
     let f = c.in_ok-frame.ensures in
-    let fit = ap (λ all. fit_from r (actuals_in names e.shape s.store all) 0) (sym value) ∙ f.fits e s h in
-    let shown = subst (λ all. Shows r.names c.in_ok-frame.frame.slots.items (shapes_with r (actuals_in names e.shape s.store all)) (entered_with r (actuals_in names e.shape s.store all))) value (f.shown e s h) in
+    let fit = ap (λ all. fit_from r (actuals_in names e.shape s.store all) 0) (sym value) ∙ f.fits e.shape s.store h.shown in
+    let shown = subst (λ all. Shows r.names c.in_ok-frame.frame.slots.items (shapes_with r (actuals_in names e.shape s.store all)) (entered_with r (actuals_in names e.shape s.store all))) value (f.shown e.shape s.store h.shown) in
     let here = subst (λ ns. Shows ns c.in_ok-frame.frame.slots.items (shapes_with r got) (entered_with r got)) (sym f.names) shown in
     let holds = c.in_ok-outer.ensures.holds e s (shapes_with r got) (entered_with r got) r.unit.now.name _ h here in
     let entered_names = ap (λ (z : Frame). z.names.now) c.in_ok-outer.ensures.frame ∙ f.names in
@@ -537,9 +587,9 @@ call-returns-clause-ends t c name found e s h =
     let frame = ap (λ (z : Machine). z.frame) back ∙ ap (λ (z : Outer). z.frame) outer in
     let inner = c.leave-inner.ensures.frame in
     let inner_names = ap (λ (z : Frame). z.names.now) inner ∙ c.in_ok-ended.ensures.names ∙ entered_names in
-    done_back e o c.hand_back.result m3 c.hand_back.ensures.memory c.hand_back.ensures.handed
-    (λ handed. subst (IsDone e m3) (sym at)
-    (call_done q e s r r.writes.now args c.args.line m.left m h got (c.in_ok-actuals.ensures.actuals e s h) fit m1 m3 ends (sym c.leave-inner.ensures.closed ∙ c.if-not-is_closed.false)
+    let handed = c.hand_back.ensures.handed in
+    subst (IsDone e m3) (sym at)
+    (call_done q e s r r.writes.now args c.args.line m.left m h got (c.in_ok-actuals.ensures.actuals e.shape (Some e.room) e.level s.store h.shown) fit m1 m3 ends (sym c.leave-inner.ensures.closed ∙ c.if-not-is_closed.false)
     (ap (λ (z : Machine). z.tape) same ∙ ap (λ (z : Machine). z.tape) back)
     (ap (λ (z : Machine). z.tally) same ∙ ap (λ (z : Machine). z.tally) back)
     (ap (λ (z : Machine). z.left) same ∙ ap (λ (z : Machine). z.left) back)
@@ -551,4 +601,4 @@ call-returns-clause-ends t c name found e s h =
     let named = subst (λ ns. Shows ns c.leave-inner.result.0.slots.items (shapes_with r got) u) inner_names theirs in
     let out = handed e.shape (shapes_with r got) s.store s.store u mine named in
     let copied = subst (λ (p : Frame × List Actual). Shows m2.frame.names.now m3.frame.slots.items e.shape (copied_out r.unit.now.dummies r.writes.now (actuals_in p.0.names.now e.shape s.store p.1) u s.store)) (λ i. (frame i, c.as_slice-2.ensures.value i)) out in
-    subst (λ ns. Shows ns m3.frame.slots.items e.shape (copied_out r.unit.now.dummies r.writes.now got u s.store)) (sym c.hand_back.ensures.names) copied)))
+    subst (λ ns. Shows ns m3.frame.slots.items e.shape (copied_out r.unit.now.dummies r.writes.now got u s.store)) (sym c.hand_back.ensures.names) copied))

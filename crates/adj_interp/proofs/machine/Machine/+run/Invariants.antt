@@ -9,7 +9,8 @@ use Rattle.adj_frame.specs.Prepared.{var_at, test_in}
 use Rattle.adj_frame.specs.Instructed.{steps_in, AreStepsBelow}
 use Rattle.adj_frame.specs.Linked.{AreLinked, units_in}
 use Rattle.adj_frame.specs.Framed.{IsFrame}
-use Rattle.adj_interp.specs.Held.{Entry, setting_at, Holds, Reaches}
+use Rattle.adj_frame.specs.Suited.{AreSuited, counts_in}
+use Rattle.adj_interp.specs.Held.{Entry, setting_at, Holds, OneCelled, Reaches}
 use Rattle.adj_interp.proofs.Calling.{all_sizes}
 use Rattle.adj_interp.proofs.machine.Machine.+run.Given as goal
 
@@ -19,8 +20,10 @@ invariant-run-loop-current l = record {
   no_deeper : size-Steps l.current ≤ size-Steps l.initial.current;
   names : l.self.frame.names.now ≡ l.initial.self.frame.names.now;
   framed : IsFrame l.initial.self.frame.names.now l.self.frame.slots.items;
+  counts : counts_in l.self.frame.slots.items ≡ counts_in l.initial.self.frame.slots.items;
   below : AreStepsBelow (length l.initial.self.frame.names.now) l.current;
   linked : AreLinked (units_in l.program) l.current;
+  suited : AreSuited (units_in l.program) (OneCelled l.initial.self) (steps_in l.initial.self.frame.names.now l.current);
   reached : (e : Entry) (s : Scene ℤ) → Holds e l.initial.self s →
       Reaches e (run (calls_of (units_in l.program) l.depth) (setting_at e) (steps_in l.initial.self.frame.names.now l.initial.current) s l.initial.self.left) (run (calls_of (units_in l.program) l.depth) (setting_at e) (steps_in l.initial.self.frame.names.now l.current)) l.self;
 }
@@ -30,6 +33,7 @@ invariant-turns-loop-remaining l = record {
   room : l.self.tape.room ≡ l.initial.self.tape.room;
   names : l.self.frame.names.now ≡ l.initial.self.frame.names.now;
   framed : IsFrame l.initial.self.frame.names.now l.self.frame.slots.items;
+  counts : counts_in l.self.frame.slots.items ≡ counts_in l.initial.self.frame.slots.items;
   reached : (e : Entry) (s : Scene ℤ) → Holds e l.initial.self s →
       Reaches e (turns (setting_at e) l.initial.remaining (run (calls_of (units_in l.program) l.depth) (setting_at e) (steps_in l.initial.self.frame.names.now l.body)) (stepped (setting_at e) (var_at l.initial.self.frame.names.now l.course.variable) l.course.by) s l.initial.self.left)
       (turns (setting_at e) l.remaining (run (calls_of (units_in l.program) l.depth) (setting_at e) (steps_in l.initial.self.frame.names.now l.body)) (stepped (setting_at e) (var_at l.initial.self.frame.names.now l.course.variable) l.course.by)) l.self;
@@ -43,6 +47,7 @@ invariant-tests-loop-self l = record {
   room : l.self.tape.room ≡ l.initial.self.tape.room;
   names : l.self.frame.names.now ≡ l.initial.self.frame.names.now;
   framed : IsFrame l.initial.self.frame.names.now l.self.frame.slots.items;
+  counts : counts_in l.self.frame.slots.items ≡ counts_in l.initial.self.frame.slots.items;
   reached : (e : Entry) (s : Scene ℤ) → Holds e l.initial.self s →
       Reaches e (tests (setting_at e) l.initial.remaining (λ s1. holds (setting_at e) (test_in l.initial.self.frame.names.now l.test) s1.store) l.line (run (calls_of (units_in l.program) l.depth) (setting_at e) (steps_in l.initial.self.frame.names.now l.body)) s l.initial.self.left)
       (tests (setting_at e) l.remaining (λ s1. holds (setting_at e) (test_in l.initial.self.frame.names.now l.test) s1.store) l.line (run (calls_of (units_in l.program) l.depth) (setting_at e) (steps_in l.initial.self.frame.names.now l.body))) l.self;

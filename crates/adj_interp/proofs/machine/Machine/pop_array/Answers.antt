@@ -14,6 +14,7 @@ loop-remaining-preserved c =
       room = c.in_ok-pop.ensures.room ∙ inv.room;
       names = c.in_ok-pop.ensures.names ∙ inv.names;
       framed = subst (λ ns. IsFrame ns c.pop.new.self.frame.slots.items) inv.names c.in_ok-pop.ensures.framed;
+      counts = c.in_ok-pop.ensures.counts ∙ inv.counts;
       within = λ d. let a = c.in_ok-pop.ensures.sized c.args.variable d in let b = inv.within d in omega (arith, a, b);
       reached = λ e s h.
           let m = c.args.self.now in

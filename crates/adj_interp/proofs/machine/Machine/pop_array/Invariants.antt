@@ -4,6 +4,7 @@ use Rattle.adj_meaning.specs.Scene.{Scene, popped_all}
 use Rattle.adj_frame.specs.declared.slot.Slot.{Slot}
 use Rattle.adj_frame.specs.Prepared.{var_at}
 use Rattle.adj_frame.specs.Framed.{IsFrame}
+use Rattle.adj_frame.specs.Suited.{counts_in}
 use Rattle.adj_interp.specs.Held.{Entry, setting_at, Holds, Reaches}
 use Rattle.adj_interp.proofs.machine.Machine.pop_array.Given as goal
 
@@ -12,6 +13,7 @@ invariant-loop-remaining l = record {
   room : l.self.tape.room ≡ l.initial.self.tape.room;
   names : l.self.frame.names.now ≡ l.initial.self.frame.names.now;
   framed : IsFrame l.initial.self.frame.names.now l.self.frame.slots.items;
+  counts : counts_in l.self.frame.slots.items ≡ counts_in l.initial.self.frame.slots.items;
   within : (d : Slot) → l.remaining ≤ length (get_or l.self.frame.slots.items l.variable d).cells.items;
   reached : (e : Entry) (s : Scene ℤ) → Holds e l.initial.self s →
       Reaches e (popped_all (setting_at e) (var_at l.initial.self.frame.names.now l.variable) l.initial.remaining l.line s l.initial.self.left)
