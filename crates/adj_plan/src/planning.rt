@@ -18,8 +18,8 @@ use std::alloc::Global;
 /// dummies that are wanted at entries, and the values that are saved.
 pub fn plan(alloc: Global, flow: &Flow<'_>, sides: Sides<'_>, head: &Head) -> Result<Marks, Memory>
     requires flow { IsFlow flow.now head.now.unit }
-    requires read { map (λ b. b.now) sides.entry.read.now ≡ least_rows read_rule (units_of flow.now) }
-    requires written { map (λ b. b.now) sides.entry.written.now ≡ least_rows write_rule (units_of flow.now) }
+    requires read { map (λ b. b.now) sides.read.now ≡ least_rows read_rule (units_of flow.now) }
+    requires written { map (λ b. b.now) sides.written.now ≡ least_rows write_rule (units_of flow.now) }
     ensures plan { IfOk result (λ m. IsPlan flow.now (problem_of flow.now head.now) m) }
 {
     let activity = activity(alloc, flow, head)?;
