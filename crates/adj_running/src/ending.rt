@@ -1,10 +1,11 @@
 //! What is written of data that have a fault, and of runs that ended.
 
-ghost use Rattle.std.specs.Prelude.{◌≡◌, ◌++◌, ℕ, List, length, map, codes, decimal, Some, IfOk, OnOk};
+ghost use Rattle.std.specs.Prelude.{◌≡◌, length, map, Some, IfOk};
 ghost use Rattle.adj_frame.specs.Framed.{trap_of};
 ghost use Rattle.adj_data.specs.Given.{slot_seen};
-ghost use Rattle.adj_answer.specs.Views.{answer_of};
-ghost use Rattle.adj_running.specs.Running.{bad_data, done, kind_text, tape_full, trapped, used_up};
+ghost use Rattle.adj_answer.specs.Answer.{line_of_one};
+ghost use Rattle.adj_answer.specs.Views.{answer_of, status_of};
+ghost use Rattle.adj_running.specs.Running.{bad_data, done, kind_text, trapped};
 ghost use Rattle.adj_running.specs.Views.{asked_of, error_answer, stop_answer};
 
 use crate::request::RunRequest;
@@ -68,30 +69,14 @@ fn trapped(alloc: Global, kind: Trap, line: u32) -> Result<Answer, Memory>
     })
 }
 
-// The answer to a run that used up its statements.
-fn used_up(alloc: Global, budget: u64) -> Result<Answer, Memory>
-    ensures { IfOk result (λ a. answer_of a ≡ used_up budget) }
+// A line of a word and a number.
+fn line_of_one(alloc: Global, status: Status, word: &[u8], number: u64) -> Result<Answer, Memory>
+    ensures { IfOk result (λ a. answer_of a ≡ record { status = status_of status; text = line_of_one word.now number }) }
 {
     let mut text = Vec::new(alloc);
-    push_number(&mut text, b"BUDGET ", u128::from(budget))?;
+    push_number(&mut text, word, u128::from(number))?;
     text.push(b'\n')?;
-    Ok(Answer {
-        status: Status::Budget,
-        text,
-    })
-}
-
-// The answer to a run that found its tape full.
-fn tape_full(alloc: Global, room: u64) -> Result<Answer, Memory>
-    ensures { IfOk result (λ a. answer_of a ≡ tape_full room) }
-{
-    let mut text = Vec::new(alloc);
-    push_number(&mut text, b"TAPE ROOM ", u128::from(room))?;
-    text.push(b'\n')?;
-    Ok(Answer {
-        status: Status::Tape,
-        text,
-    })
+    Ok(Answer { status, text })
 }
 
 /// The answer to a run that stopped before its end.
@@ -100,8 +85,8 @@ pub(crate) fn stopped(alloc: Global, request: &RunRequest, stop: Stop) -> Result
 {
     match stop {
         Stop::Trap(kind, line) => trapped(alloc, kind, line),
-        Stop::Budget => used_up(alloc, request.budget),
-        Stop::TapeFull => tape_full(alloc, request.room),
+        Stop::Budget => line_of_one(alloc, Status::Budget, b"BUDGET ", request.budget),
+        Stop::TapeFull => line_of_one(alloc, Status::Tape, b"TAPE ROOM ", request.room),
         Stop::Memory => Err(Memory),
     }
 }

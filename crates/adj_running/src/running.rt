@@ -1,6 +1,6 @@
 //! The run that is asked for, from the bytes of its text and data on.
 
-ghost use Rattle.std.specs.Prelude.{◌≡◌, ◌<◌, ◌≤◌, ℕ, List, None, Some, Ok, length, map, slice_get, true, IfOk};
+ghost use Rattle.std.specs.Prelude.{◌≡◌, ◌<◌, ◌≤◌, None, Some, Ok, length, map, slice_get, true, IfOk};
 ghost use Rattle.adj_tree.specs.Code.{Procedure};
 ghost use Rattle.adj_tree.specs.View.{procedures_of};
 ghost use Rattle.adj_text.specs.Written.{IsWritten};
