@@ -24,7 +24,7 @@ use adj_kernels::checked_kernel;
 use adj_print::text;
 use adj_symbols::{Checked, check, head};
 use adj_tree::{Fault, Head, Memory, Name, Program, Refusal};
-use adj_weave::adjoint as emit;
+use adj_weave::{Marked, adjoint as emit};
 use std::alloc::Global;
 
 // The refusal of what isn't treated yet.
@@ -74,7 +74,7 @@ fn written(alloc: Global, program: &Program, name: &Name, head: Head) -> Result<
         vars,
         outvars,
     };
-    let emitted = emit(alloc, lowered, &own)?;
+    let emitted = emit(alloc, lowered, &own, Marked::Full)?;
     let text = text(alloc, &emitted)?;
     Ok(Answer {
         status: Status::Done,

@@ -1,116 +1,221 @@
--- The edges that are listed are the calls of the units.
-use Rattle.std.proofs.Common.{◌≡◌, ℕ, zero, suc, ◌+◌, ◌⊎◌, inl, inr, Bool, true, false, List, [], ◌∷◌, ◌++◌, Some, None, refl, sym, ap, ◌∙◌, subst, arith}
-use Rattle.std.specs.Prelude.{◌||◌, position, Option, Contains}
+-- The calls that are listed are those of the units, and the edges those of the calls that count.
+use Rattle.std.proofs.Common.{◌≡◌, ℕ, zero, suc, ◌+◌, ◌⊎◌, inl, inr, Bool, true, false, List, [], ◌∷◌, ◌++◌, Some, None, refl, sym, ap, ◌∙◌, subst, arith, if◌then◌else◌}
+use Rattle.std.specs.Prelude.{◌||◌, ◌&&◌, position, Option, Contains}
 use Rattle.std.proofs.lemmas.List.Elements.{Contains-append_left, Contains-append_right, Contains-append_cases}
 use Rattle.adj_tree.specs.Code.{name_eq, Act, assign, choose, loop, during, call, runtime, Code, stop, step, Procedure}
 use Rattle.adj_tree.proofs.Names.{name_refl, name_same}
 use Rattle.adj_transpose.specs.Marks.{next, behind}
-use Rattle.adj_transpose.proofs.Variables.{or_left, or_right}
-use Rattle.adj_reverse.specs.Program.{calls_act, calls_in}
-use Rattle.adj_facts.proofs.Members.{is_first, is_none, is_only}
-use Rattle.adj_weave.specs.Orders.{edge_to, edges_act, edges_in, edges_from}
-use Rattle.adj_weave.proofs.Places.{At, at_first, at_next, at_rest}
-
--- every statement counts
-abbrev pub any : ℕ → Bool
-any i = true
+use Rattle.adj_transpose.proofs.Variables.{and_true, or_left, or_right}
+use Rattle.adj_reverse.specs.Program.{calls_act, calls_in, calls_some}
+use Rattle.adj_facts.proofs.Members.{is_first, is_later, is_among, is_none, is_only}
+use Rattle.adj_weave.specs.declared.calls.Call.{Call}
+use Rattle.adj_weave.specs.Orders.{call_to, listed_act, listed_in, listed_from, edges_of}
+use Rattle.adj_weave.proofs.Places.{At, at_first, at_next}
 
 pub either_of : (a b : Bool) → (a || b) ≡ true → (a ≡ true) ⊎ (b ≡ true)
 either_of true b h = inl refl
 either_of false b h = inr h
-
--- what is in one of two lists is in both together
-one_of : {A B : Type 0} (xs ys : List (ℕ × ℕ)) (e : ℕ × ℕ) → A ⊎ B → (A → Contains xs e) → (B → Contains ys e) → Contains (xs ++ ys) e
-one_of xs ys e (inl a) f g = Contains-append_left xs ys e (f a)
-one_of xs ys e (inr b) f g = Contains-append_right xs ys e (g b)
 
 -- of one of two
 pub from_one : {A B C : Type 0} → A ⊎ B → (A → C) → (B → C) → C
 from_one (inl a) f g = f a
 from_one (inr b) f g = g b
 
+both : (a b : Bool) → a ≡ true → b ≡ true → (a && b) ≡ true
+both true b h g = g
+both false b h g = absurd cc
+
+-- a call from a unit to another
+abbrev pub call_by : ℕ → ℕ → ℕ → Call
+call_by i k j = record { number = i; from = k; to = j }
+
+-- ---- calls of one unit
+
+-- a call from k to j is listed, in a statement of the set
+record Lists (f : ℕ → Bool) (k : ℕ) (cs : List Call) (j : ℕ) : Type 0 where
+  number : ℕ
+  counts : f number ≡ true
+  listed : Contains cs (call_by number k j)
+
+in_first : (f : ℕ → Bool) (k : ℕ) (cs ds : List Call) (j : ℕ) → Lists f k cs j → Lists f k (cs ++ ds) j
+in_first f k cs ds j l = record { number = l.number; counts = l.counts; listed = Contains-append_left cs ds (call_by l.number k j) l.listed }
+
+in_other : (f : ℕ → Bool) (k : ℕ) (cs ds : List Call) (j : ℕ) → Lists f k ds j → Lists f k (cs ++ ds) j
+in_other f k cs ds j l = record { number = l.number; counts = l.counts; listed = Contains-append_right cs ds (call_by l.number k j) l.listed }
+
 module _ (names : List (List ℕ)) (k : ℕ) where
+  module _ (f : ℕ → Bool) (n : List ℕ) (j : ℕ) (there : position (name_eq n) names ≡ Some j) where
+    mutual
+      -- a call is listed
+      act_has : (i : ℕ) (a : Act) → calls_act f n i a ≡ true → Lists f k (listed_act names k i a) j
+      act_has i (assign x subs e) h = absurd cc
+      act_has i (choose c a b) h =
+          let first = listed_in names k (suc i) a in
+          let other = listed_in names k (behind (suc i) a) b in
+          from_one (either_of (calls_in f n (suc i) a) (calls_in f n (behind (suc i) a) b) h)
+          (λ e. in_first f k first other j (list_has (suc i) a e)) (λ e. in_other f k first other j (list_has (behind (suc i) a) b e))
+      act_has i (loop x a b c body m) h = list_has (suc i) body h
+      act_has i (during c body) h = list_has (suc i) body h
+      act_has i (call other args) h =
+          let p = and_true (f i) (name_eq n other) h in
+          let same : n ≡ other = name_same n other p.1 in
+          let self : Contains (call_to i k (Some j)) (call_by i k j) = is_first (call_by i k j) (call_by i k j) [] refl in
+          record { number = i; counts = p.0; listed = subst (λ o. Contains (call_to i k o) (call_by i k j)) (sym there ∙ ap (λ z. position (name_eq z) names) same) self }
+      act_has i (runtime r) h = absurd cc
+
+      list_has : (i : ℕ) (c : Code) → calls_in f n i c ≡ true → Lists f k (listed_in names k i c) j
+      list_has i stop h = absurd cc
+      list_has i (step line a rest) h =
+          let first = listed_act names k i a in
+          let other = listed_in names k (next i a) rest in
+          from_one (either_of (calls_act f n i a) (calls_in f n (next i a) rest) h)
+          (λ e. in_first f k first other j (act_has i a e)) (λ e. in_other f k first other j (list_has (next i a) rest e))
+
+  -- a call that is listed comes from the unit
+  abbrev OfAct : Call → ℕ → Act → Type 0
+  OfAct d i a = (d.from ≡ k) × ((n : List ℕ) × (position (name_eq n) names ≡ Some d.to) × ((f : ℕ → Bool) → f d.number ≡ true → calls_act f n i a ≡ true))
+
+  abbrev OfCode : Call → ℕ → Code → Type 0
+  OfCode d i c = (d.from ≡ k) × ((n : List ℕ) × (position (name_eq n) names ≡ Some d.to) × ((f : ℕ → Bool) → f d.number ≡ true → calls_in f n i c ≡ true))
+
   mutual
-    -- a call has its edge
-    act_has : (n : List ℕ) (j : ℕ) → position (name_eq n) names ≡ Some j → (i : ℕ) (a : Act) → calls_act any n i a ≡ true → Contains (edges_act names k a) (k, j)
-    act_has n j p i (assign x subs e) h = absurd cc
-    act_has n j p i (choose c a b) h = one_of (edges_in names k a) (edges_in names k b) (k, j) (either_of (calls_in any n (suc i) a) (calls_in any n (behind (suc i) a) b) h) (list_has n j p (suc i) a) (list_has n j p (behind (suc i) a) b)
-    act_has n j p i (loop x a b c body m) h = list_has n j p (suc i) body h
-    act_has n j p i (during c body) h = list_has n j p (suc i) body h
-    act_has n j p i (call other args) h =
-        let same : n ≡ other = name_same n other h in
-        subst (λ o. Contains (edge_to k o) (k, j)) (sym p ∙ ap (λ z. position (name_eq z) names) same) (is_first (k, j) (k, j) [] refl)
-    act_has n j p i (runtime r) h = absurd cc
-
-    pub list_has : (n : List ℕ) (j : ℕ) → position (name_eq n) names ≡ Some j → (i : ℕ) (c : Code) → calls_in any n i c ≡ true → Contains (edges_in names k c) (k, j)
-    list_has n j p i stop h = absurd cc
-    list_has n j p i (step line a rest) h = one_of (edges_act names k a) (edges_in names k rest) (k, j) (either_of (calls_act any n i a) (calls_in any n (next i a) rest) h) (act_has n j p i a) (list_has n j p (next i a) rest)
-
-  -- an edge comes from the unit, and is that of a call
-  abbrev OfAct : ℕ × ℕ → Act → Type 0
-  OfAct e a = (e.0 ≡ k) × ((n : List ℕ) × (position (name_eq n) names ≡ Some e.1) × ((i : ℕ) → calls_act any n i a ≡ true))
-
-  abbrev OfCode : ℕ × ℕ → Code → Type 0
-  OfCode e c = (e.0 ≡ k) × ((n : List ℕ) × (position (name_eq n) names ≡ Some e.1) × ((i : ℕ) → calls_in any n i c ≡ true))
-
-  mutual
-    act_only : (e : ℕ × ℕ) (a : Act) → Contains (edges_act names k a) e → OfAct e a
-    act_only e (assign x subs t) h = absurd (is_none e h)
-    act_only e (choose c a b) h =
-        from_one (Contains-append_cases (edges_in names k a) (edges_in names k b) e h)
-        (λ d. let r = list_only e a d in (r.0, (r.1.0, r.1.1, λ i. or_left (calls_in any r.1.0 (suc i) a) (calls_in any r.1.0 (behind (suc i) a) b) (r.1.2 (suc i)))))
-        (λ d. let r = list_only e b d in (r.0, (r.1.0, r.1.1, λ i. or_right (calls_in any r.1.0 (suc i) a) (calls_in any r.1.0 (behind (suc i) a) b) (r.1.2 (behind (suc i) a)))))
-    act_only e (loop x a b c body m) h = let r = list_only e body h in (r.0, (r.1.0, r.1.1, λ i. r.1.2 (suc i)))
-    act_only e (during c body) h = let r = list_only e body h in (r.0, (r.1.0, r.1.1, λ i. r.1.2 (suc i)))
-    act_only e (call other args) h = go (position (name_eq other) names) refl h
+    act_only : (d : Call) (i : ℕ) (a : Act) → Contains (listed_act names k i a) d → OfAct d i a
+    act_only d i (assign x subs t) h = absurd (is_none d h)
+    act_only d i (choose c a b) h =
+        let j = behind (suc i) a in
+        from_one (Contains-append_cases (listed_in names k (suc i) a) (listed_in names k j b) d h)
+        (λ e. let r = list_only d (suc i) a e in (r.0, (r.1.0, r.1.1, λ f t. or_left (calls_in f r.1.0 (suc i) a) (calls_in f r.1.0 j b) (r.1.2 f t))))
+        (λ e. let r = list_only d j b e in (r.0, (r.1.0, r.1.1, λ f t. or_right (calls_in f r.1.0 (suc i) a) (calls_in f r.1.0 j b) (r.1.2 f t))))
+    act_only d i (loop x a b c body m) h = list_only d (suc i) body h
+    act_only d i (during c body) h = list_only d (suc i) body h
+    act_only d i (call other args) h = go (position (name_eq other) names) refl h
       where
-        go : (o : Option ℕ) → position (name_eq other) names ≡ o → Contains (edge_to k o) e → OfAct e (call other args)
-        go None p d = absurd (is_none e d)
-        go (Some j) p d =
-            let s : (k, j) ≡ e = is_only e (k, j) d in
-            (sym (ap (λ z. z.0) s), (other, p ∙ ap (λ z. Some z.1) s, λ i. name_refl other))
-    act_only e (runtime r) h = absurd (is_none e h)
+        go : (o : Option ℕ) → position (name_eq other) names ≡ o → Contains (call_to i k o) d → OfAct d i (call other args)
+        go None p e = absurd (is_none d e)
+        go (Some j) p e =
+            let s : call_by i k j ≡ d = is_only d (call_by i k j) e in
+            (sym (ap (λ z. z.from) s), (other, p ∙ ap (λ z. Some z.to) s, λ f t. both (f i) (name_eq other other) (ap (λ z. f z.number) s ∙ t) (name_refl other)))
+    act_only d i (runtime r) h = absurd (is_none d h)
 
-    pub list_only : (e : ℕ × ℕ) (c : Code) → Contains (edges_in names k c) e → OfCode e c
-    list_only e stop h = absurd (is_none e h)
-    list_only e (step line a rest) h =
-        from_one (Contains-append_cases (edges_act names k a) (edges_in names k rest) e h)
-        (λ d. let r = act_only e a d in (r.0, (r.1.0, r.1.1, λ i. or_left (calls_act any r.1.0 i a) (calls_in any r.1.0 (next i a) rest) (r.1.2 i))))
-        (λ d. let r = list_only e rest d in (r.0, (r.1.0, r.1.1, λ i. or_right (calls_act any r.1.0 i a) (calls_in any r.1.0 (next i a) rest) (r.1.2 (next i a)))))
+    list_only : (d : Call) (i : ℕ) (c : Code) → Contains (listed_in names k i c) d → OfCode d i c
+    list_only d i stop h = absurd (is_none d h)
+    list_only d i (step line a rest) h =
+        let j = next i a in
+        from_one (Contains-append_cases (listed_act names k i a) (listed_in names k j rest) d h)
+        (λ e. let r = act_only d i a e in (r.0, (r.1.0, r.1.1, λ f t. or_left (calls_act f r.1.0 i a) (calls_in f r.1.0 j rest) (r.1.2 f t))))
+        (λ e. let r = list_only d j rest e in (r.0, (r.1.0, r.1.1, λ f t. or_right (calls_act f r.1.0 i a) (calls_in f r.1.0 j rest) (r.1.2 f t))))
 
--- ---- of all units, of which the first is the k-th
+-- ---- of all units, of which the first is the k-th and begins with the i-th statement
 
--- a unit that calls another has its edge
-pub edge_has : (names : List (List ℕ)) (k : ℕ) (us : List Procedure) (i : ℕ) (u : Procedure) (n : List ℕ) (j m : ℕ) → At us i u → position (name_eq n) names ≡ Some j → calls_in any n m u.body ≡ true → Contains (edges_from names k us) (k + i, j)
-edge_has names k [] i u n j m h p c = absurd (let l = h.within in omega arith)
-edge_has names k (v ∷ us) zero u n j m h p c =
-    let here : Contains (edges_in names k v.body) (k, j) = list_has names k n j p m v.body (subst (λ (w : Procedure). calls_in any n m w.body ≡ true) h.is c) in
-    let same : k ≡ k + 0 = omega arith in
-    Contains-append_left (edges_in names k v.body) (edges_from names (suc k) us) (k + 0, j) (subst (λ z. Contains (edges_in names k v.body) (z, j)) same here)
-edge_has names k (v ∷ us) (suc i) u n j m h p c =
-    let same : suc k + i ≡ k + suc i = omega arith in
-    Contains-append_right (edges_in names k v.body) (edges_from names (suc k) us) (k + suc i, j) (subst (λ z. Contains (edges_from names (suc k) us) (z, j)) same (edge_has names (suc k) us i u n j m (at_rest v u us i h) p c))
-
--- and each edge is that of a call
-pub record OfCall (names : List (List ℕ)) (k : ℕ) (us : List Procedure) (e : ℕ × ℕ) : Type 0 where
+-- a unit of a set that calls another has its call listed
+pub record SomeLists (names : List (List ℕ)) (among : List ℕ → Bool) (f : ℕ → Bool) (k i : ℕ) (us : List Procedure) (j : ℕ) : Type 0 where
   pub place : ℕ
   pub unit : Procedure
   pub at : At us place unit
-  pub from : e.0 ≡ k + place
-  pub callee : List ℕ
-  pub to : position (name_eq callee) names ≡ Some e.1
-  pub calls : (m : ℕ) → calls_in any callee m unit.body ≡ true
+  pub inside : among unit.name ≡ true
+  pub number : ℕ
+  pub counts : f number ≡ true
+  pub listed : Contains (listed_from names k i us) (call_by number (k + place) j)
 
-pub edge_only : (names : List (List ℕ)) (k : ℕ) (us : List Procedure) (e : ℕ × ℕ) → Contains (edges_from names k us) e → OfCall names k us e
-edge_only names k [] e h = absurd (is_none e h)
-edge_only names k (v ∷ us) e h = go (Contains-append_cases (edges_in names k v.body) (edges_from names (suc k) us) e h) (edge_only names (suc k) us e)
+pub some_listed : (names : List (List ℕ)) (among : List ℕ → Bool) (f : ℕ → Bool) (n : List ℕ) (j : ℕ) → position (name_eq n) names ≡ Some j → (k i : ℕ) (us : List Procedure) → calls_some among f n i us ≡ true → SomeLists names among f k i us j
+some_listed names among f n j p k i [] h = absurd cc
+some_listed names among f n j p k i (v ∷ us) h =
+    from_one (either_of (among v.name && calls_in f n i v.body) (calls_some among f n (behind i v.body) us) h) here
+    (λ e. later (some_listed names among f n j p (suc k) (behind i v.body) us e))
   where
-    go : Contains (edges_in names k v.body) e ⊎ Contains (edges_from names (suc k) us) e → (Contains (edges_from names (suc k) us) e → OfCall names (suc k) us e) → OfCall names k (v ∷ us) e
-    go (inl d) ih =
-        let r = list_only names k e v.body d in
-        let f : e.0 ≡ k = r.0 in
-        record { place = 0; unit = v; at = at_first v us; from = omega arith; callee = r.1.0; to = r.1.1; calls = r.1.2 }
-    go (inr d) ih =
-        let r = ih d in
-        let f : e.0 ≡ suc k + r.place = r.from in
-        record { place = suc r.place; unit = r.unit; at = at_next v r.unit us r.place r.at; from = omega arith; callee = r.callee; to = r.to; calls = r.calls }
+    own : List Call
+    own = listed_in names k i v.body
+
+    here : (among v.name && calls_in f n i v.body) ≡ true → SomeLists names among f k i (v ∷ us) j
+    here e =
+        let b = and_true (among v.name) (calls_in f n i v.body) e in
+        let l = list_has names k f n j p i v.body b.1 in
+        let same : k ≡ k + 0 = omega arith in
+        let there : Contains (listed_from names k i (v ∷ us)) (call_by l.number k j) = Contains-append_left (listed_in names k i v.body) (listed_from names (suc k) (behind i v.body) us) (call_by l.number k j) l.listed in
+        record { place = 0; unit = v; at = at_first v us; inside = b.0; number = l.number; counts = l.counts; listed = subst (λ z. Contains (listed_from names k i (v ∷ us)) (call_by l.number z j)) same there }
+
+    later : SomeLists names among f (suc k) (behind i v.body) us j → SomeLists names among f k i (v ∷ us) j
+    later l =
+        let same : suc k + l.place ≡ k + suc l.place = omega arith in
+        let there : Contains (listed_from names k i (v ∷ us)) (call_by l.number (suc k + l.place) j) = Contains-append_right (listed_in names k i v.body) (listed_from names (suc k) (behind i v.body) us) (call_by l.number (suc k + l.place) j) l.listed in
+        record {
+          place = suc l.place;
+          unit = l.unit;
+          at = at_next v l.unit us l.place l.at;
+          inside = l.inside;
+          number = l.number;
+          counts = l.counts;
+          listed = subst (λ z. Contains (listed_from names k i (v ∷ us)) (call_by l.number z j)) same there;
+        }
+
+-- and each call that is listed is one of a unit
+pub record OfCall (names : List (List ℕ)) (k i : ℕ) (us : List Procedure) (d : Call) : Type 0 where
+  pub place : ℕ
+  pub unit : Procedure
+  pub at : At us place unit
+  pub from : d.from ≡ k + place
+  pub callee : List ℕ
+  pub to : position (name_eq callee) names ≡ Some d.to
+  pub calls : (among : List ℕ → Bool) (f : ℕ → Bool) → among unit.name ≡ true → f d.number ≡ true → calls_some among f callee i us ≡ true
+
+pub listed_only : (names : List (List ℕ)) (k i : ℕ) (us : List Procedure) (d : Call) → Contains (listed_from names k i us) d → OfCall names k i us d
+listed_only names k i [] d h = absurd (is_none d h)
+listed_only names k i (v ∷ us) d h =
+    from_one (Contains-append_cases (listed_in names k i v.body) (listed_from names (suc k) (behind i v.body) us) d h) here (λ e. later (listed_only names (suc k) (behind i v.body) us d e))
+  where
+    here : Contains (listed_in names k i v.body) d → OfCall names k i (v ∷ us) d
+    here e =
+        let r = list_only names k d i v.body e in
+        let f : d.from ≡ k = r.0 in
+        record {
+          place = 0;
+          unit = v;
+          at = at_first v us;
+          from = omega arith;
+          callee = r.1.0;
+          to = r.1.1;
+          calls = λ among f a t. or_left (among v.name && calls_in f r.1.0 i v.body) (calls_some among f r.1.0 (behind i v.body) us) (both (among v.name) (calls_in f r.1.0 i v.body) a (r.1.2 f t));
+        }
+
+    later : OfCall names (suc k) (behind i v.body) us d → OfCall names k i (v ∷ us) d
+    later r =
+        let f : d.from ≡ suc k + r.place = r.from in
+        record {
+          place = suc r.place;
+          unit = r.unit;
+          at = at_next v r.unit us r.place r.at;
+          from = omega arith;
+          callee = r.callee;
+          to = r.to;
+          calls = λ among f a t. or_right (among v.name && calls_in f r.callee i v.body) (calls_some among f r.callee (behind i v.body) us) (r.calls among f a t);
+        }
+
+-- ---- edges
+
+abbrev ends : Call → ℕ × ℕ
+ends d = (d.from, d.to)
+
+pub edges_has : (f : ℕ → Bool) (cs : List Call) (d : Call) → Contains cs d → f d.number ≡ true → Contains (edges_of f cs) (d.from, d.to)
+edges_has f [] d c t = absurd (is_none d c)
+edges_has f (b ∷ cs) d c t = go (is_among d b cs c) (λ r. edges_has f cs d r t)
+  where
+    later : (x : Bool) → Contains (edges_of f cs) (ends d) → Contains (if x then ends b ∷ edges_of f cs else edges_of f cs) (ends d)
+    later true r = is_later (ends d) (ends b) (edges_of f cs) r
+    later false r = r
+
+    go : (b ≡ d) ⊎ Contains cs d → (Contains cs d → Contains (edges_of f cs) (ends d)) → Contains (if f b.number then ends b ∷ edges_of f cs else edges_of f cs) (ends d)
+    go (inl s) ih = subst (λ x. Contains (if x then ends b ∷ edges_of f cs else edges_of f cs) (ends d)) (sym (ap (λ z. f z.number) s ∙ t)) (is_first (ends d) (ends b) (edges_of f cs) (ap ends s))
+    go (inr r) ih = later (f b.number) (ih r)
+
+pub edges_only : (f : ℕ → Bool) (cs : List Call) (e : ℕ × ℕ) → Contains (edges_of f cs) e → (d : Call) × Contains cs d × (ends d ≡ e) × (f d.number ≡ true)
+edges_only f [] e c = absurd (is_none e c)
+edges_only f (b ∷ cs) e c = go (f b.number) refl c (edges_only f cs e)
+  where
+    go : (x : Bool) → f b.number ≡ x → Contains (if x then ends b ∷ edges_of f cs else edges_of f cs) e → (Contains (edges_of f cs) e → (d : Call) × Contains cs d × (ends d ≡ e) × (f d.number ≡ true)) →
+        (d : Call) × Contains (b ∷ cs) d × (ends d ≡ e) × (f d.number ≡ true)
+    go true t m ih = pick (is_among e (ends b) (edges_of f cs) m)
+      where
+        pick : (ends b ≡ e) ⊎ Contains (edges_of f cs) e → (d : Call) × Contains (b ∷ cs) d × (ends d ≡ e) × (f d.number ≡ true)
+        pick (inl s) = (b, is_first b b cs refl, s, t)
+        pick (inr r) = let o = ih r in (o.0, is_later o.0 b cs o.1, o.2, o.3)
+    go false t m ih = let o = ih m in (o.0, is_later o.0 b cs o.1, o.2, o.3)

@@ -8,6 +8,12 @@ pub mod Reached
 -- What is known of units that are called, and which variables are arrays.
 pub mod Known
 pub mod Declared
+-- What analyses found, as units see it.
+pub mod Taking
+pub mod Flagged
+pub mod UnitMarks
+pub mod Alike
+pub mod Lending
 -- The adjoint of a unit.
 pub mod Renamed
 pub mod Units

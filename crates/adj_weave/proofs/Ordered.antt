@@ -1,5 +1,5 @@
 -- What units get in their order is what each gets by its name.
-use Rattle.std.proofs.Common.{◌≡◌, ℕ, Bool, true, false, List, [], ◌∷◌, ◌++◌, map, refl, sym, ap, ◌∙◌, if◌then◌else◌, codes}
+use Rattle.std.proofs.Common.{◌≡◌, ℕ, zero, suc, ◌+◌, arith, Bool, true, false, List, [], ◌∷◌, ◌++◌, map, refl, sym, ap, ◌∙◌, if◌then◌else◌, codes}
 use Rattle.std.specs.Prelude.{◌||◌, flat_map}
 use Rattle.adj_tree.specs.Code.{name_eq, Procedure}
 use Rattle.adj_tree.proofs.Names.{name_refl, name_same}
@@ -9,11 +9,12 @@ use Rattle.adj_transpose.specs.Naming.{AreApart}
 use Rattle.adj_transpose.specs.Program.{unit_name}
 use Rattle.adj_names.specs.Variables.{variables}
 use Rattle.adj_reverse.specs.Names.{source_names, adjoint_after, adjoint_name}
-use Rattle.adj_reverse.specs.Marking.{ProgramMarks, first_from, first_statement}
+use Rattle.adj_reverse.specs.Marking.{ProgramMarks, first_from, first_statement, place_from}
 use Rattle.adj_reverse.specs.Program.{has_adjoint, made_names}
 use Rattle.adj_naming.specs.Sets.{all_added}
 use Rattle.adj_naming.proofs.Added.{has-behind, SameNames, fresh_alike, once_same}
 use Rattle.adj_weave.specs.Orders.{numbers_from, adjoints_from, flagged}
+use Rattle.adj_weave.proofs.Places.{At, at_map, at_rest, at_has}
 
 -- what is the same of each unit is the same of all
 map_same : {B : Type 0} (f g : Procedure → B) (us : List Procedure) → ((u : Procedure) → has_name u.name (map unit_name us) ≡ true → f u ≡ g u) → map f us ≡ map g us
@@ -34,6 +35,18 @@ other_name u v us n h = go (name_eq u.name v.name) refl
     go : (b : Bool) → name_eq u.name v.name ≡ b → b ≡ false
     go true e = absurd (let p : true ≡ false = sym h ∙ ap (λ z. has_name z (map unit_name us)) (sym (name_same u.name v.name e)) ∙ n in cc)
     go false e = refl
+
+-- the place of a unit is that of its name
+pub unit_place : (k : ℕ) (us : List Procedure) (j : ℕ) (u : Procedure) → AreApart (map unit_name us) → At us j u → place_from k us u.name ≡ k + j
+unit_place k [] j u a h = absurd (let l = h.within in omega arith)
+unit_place k (v ∷ us) zero u a h =
+    let first : place_from k (v ∷ us) v.name ≡ k = ap (λ b. if b then k else place_from (suc k) us v.name) (name_refl v.name) in
+    ap (λ (w : Procedure). place_from k (v ∷ us) w.name) h.is ∙ first ∙ omega arith
+unit_place k (v ∷ us) (suc j) u a h =
+    let rest : At us j u = at_rest v u us j h in
+    let other : name_eq v.name u.name ≡ false = other_name v u us a.0 (at_has (map unit_name us) j u.name (at_map unit_name us j u rest)) in
+    let later : place_from (suc k) us u.name ≡ suc k + j = unit_place (suc k) us j u a.1 rest in
+    ap (λ b. if b then k else place_from (suc k) us u.name) other ∙ later ∙ omega arith
 
 -- ---- numbers
 

@@ -1,16 +1,19 @@
 -- Units emitted one by one.
-use Rattle.std.proofs.Common.{◌≡◌, ℕ, ◌+◌, ◌<◌, Bool, true, false, List, [], ◌∷◌, ◌++◌, map, length, drop, get_or, sym, ap, ◌∙◌, subst, append_assoc, if◌then◌else◌}
+use Rattle.std.proofs.Common.{◌≡◌, ℕ, ◌+◌, ◌<◌, Bool, true, false, List, [], ◌∷◌, ◌++◌, map, length, drop, get_or, refl, sym, ap, ◌∙◌, subst, append_assoc, if◌then◌else◌}
+use Rattle.std.specs.Prelude.{◌||◌}
 use Rattle.std.proofs.lemmas.List.{length-map}
-use Rattle.adj_tree.specs.Code.{name_eq, Procedure}
+use Rattle.adj_tree.specs.Code.{plain, name_eq, Procedure}
+use Rattle.adj_tree.proofs.Names.{name_same}
 use Rattle.adj_tree.specs.View.{procedure_of}
 use Rattle.adj_tree.specs.declared.unit.Unit as units
 use Rattle.adj_names.specs.Variables.{variables}
 use Rattle.adj_transpose.specs.Fresh.{has_name}
-use Rattle.adj_transpose.specs.Marks.{everything}
+use Rattle.adj_transpose.specs.Marks.{Vars}
 use Rattle.adj_transpose.specs.Marked.{names_in}
 use Rattle.adj_transpose.specs.Program.{unit_name, unit_at, unmarked}
+use Rattle.adj_transpose.proofs.Variables.{or_right}
 use Rattle.adj_reverse.specs.Names.{adjoint_name}
-use Rattle.adj_reverse.specs.Marking.{full_marks}
+use Rattle.adj_reverse.specs.Marking.{ProgramMarks}
 use Rattle.adj_reverse.specs.Program as program
 use Rattle.adj_reverse.specs.Program.{has_adjoint, is_carried, all_units, adjoint_unit, emitted_adjoint, emitted_units, emitted_program}
 use Rattle.adj_reverse.proofs.HeadNames.{unmarked_in}
@@ -20,12 +23,11 @@ use Rattle.adj_weave.specs.declared.weave.Aim.{Aim}
 use Rattle.adj_weave.specs.declared.weave.Emits.{Emits}
 use Rattle.adj_weave.specs.declared.weave.Table.{Table}
 use Rattle.adj_weave.specs.Orders.{flagged}
-use Rattle.adj_weave.specs.Shared.{AreOf}
+use Rattle.adj_weave.specs.Shared.{HaveShadows}
 use Rattle.adj_weave.specs.Woven.{IsTable, head_of, emitted_for}
 use Rattle.adj_weave.proofs.Ordered.{made_flagged}
 use Rattle.adj_weave.proofs.Places.{At, at_there, at_one, at_map, at_number}
 use Rattle.adj_weave.proofs.Walks.{walked_on}
-use Rattle.adj_weave.proofs.Units.{all_shadowed}
 
 -- what is said of each unit is said of that at a place
 pub told_at : {B : Type 0} (f : Procedure → B) (ps : List Procedure) (k : ℕ) (u : Procedure) (xs : List B) (x : B) → At ps k u → xs ≡ map f ps → x ≡ get_or xs k x → x ≡ f u
@@ -48,49 +50,61 @@ told_flag f ps k u xs x h e at =
 pub unit_stands : (us : List units.Unit) (k : ℕ) (u : units.Unit) → k < length us → u ≡ get_or us k u → At (map procedure_of us) k (procedure_of u)
 unit_stands us k u lt at = at_map procedure_of us k u (record { within = lt; is = at })
 
--- dummies whose mark is missing are variables of the unit
-pub cleared_of : (u : Procedure) (marks : List Bool) → AreOf (variables u) (names_in everything (unmarked u.dummies marks))
-cleared_of u marks x h = dummy_among u x (unmarked_in x u.dummies marks (subst (λ z. has_name x z ≡ true) (all_shadowed (unmarked u.dummies marks)) h))
+-- dummies whose mark is missing, and that have a shadow, are variables of the unit
+named_marked : (a : Vars) (x : List ℕ) (xs : List (List ℕ)) → has_name x (names_in a xs) ≡ true → (has_name x xs ≡ true) × (a (plain x) ≡ true)
+named_marked a x [] h = absurd cc
+named_marked a x (y ∷ xs) h = go (a (plain y)) refl h (named_marked a x xs)
+  where
+    here : (b : Bool) → name_eq x y ≡ b → a (plain y) ≡ true → (b || has_name x (names_in a xs)) ≡ true → (has_name x (names_in a xs) ≡ true → (has_name x xs ≡ true) × (a (plain x) ≡ true)) → ((b || has_name x xs) ≡ true) × (a (plain x) ≡ true)
+    here true e p k ih = (refl, ap (λ z. a (plain z)) (name_same x y e) ∙ p)
+    here false e p k ih = ih k
+
+    go : (b : Bool) → a (plain y) ≡ b → has_name x (if b then y ∷ names_in a xs else names_in a xs) ≡ true → (has_name x (names_in a xs) ≡ true → (has_name x xs ≡ true) × (a (plain x) ≡ true)) → ((name_eq x y || has_name x xs) ≡ true) × (a (plain x) ≡ true)
+    go true p k ih = here (name_eq x y) refl p k ih
+    go false p k ih = let r = ih k in (or_right (name_eq x y) (has_name x xs) r.0, r.1)
+
+pub cleared_have : (m : ProgramMarks) (u : Procedure) (marks : List Bool) → HaveShadows m u (names_in (m.shadowed u.name) (unmarked u.dummies marks))
+cleared_have m u marks x h = let r = named_marked (m.shadowed u.name) x (unmarked u.dummies marks) h in (dummy_among u x (unmarked_in x u.dummies marks r.0), r.1)
 
 -- what is emitted for a unit comes before what is emitted for those behind it
-pub unit_emitted : (ps : List Procedure) (a : Aim) (e : Emits) (u : Procedure) (us : List Procedure) → e.carried ≡ is_carried full_marks ps (head_of a) u.name → e.adjointed ≡ has_adjoint full_marks ps (head_of a) u.name →
-    emitted_units full_marks ps (head_of a) a.vars.now a.outvars.now (u ∷ us) ≡ emitted_for e ps a u ++ emitted_units full_marks ps (head_of a) a.vars.now a.outvars.now us
-unit_emitted ps a e u us c d =
+pub unit_emitted : (m : ProgramMarks) (ps : List Procedure) (a : Aim) (e : Emits) (u : Procedure) (us : List Procedure) → e.carried ≡ is_carried m ps (head_of a) u.name → e.adjointed ≡ has_adjoint m ps (head_of a) u.name →
+    emitted_units m ps (head_of a) a.vars.now a.outvars.now (u ∷ us) ≡ emitted_for m e ps a u ++ emitted_units m ps (head_of a) a.vars.now a.outvars.now us
+unit_emitted m ps a e u us c d =
     let own = λ (b : Bool). if b then u ∷ [] else [] in
-    let made = λ (b : Bool). if b then emitted_adjoint full_marks ps (head_of a) a.vars.now a.outvars.now u ∷ [] else [] in
-    let rest = emitted_units full_marks ps (head_of a) a.vars.now a.outvars.now us in
+    let made = λ (b : Bool). if b then emitted_adjoint m ps (head_of a) a.vars.now a.outvars.now u ∷ [] else [] in
+    let rest = emitted_units m ps (head_of a) a.vars.now a.outvars.now us in
     (λ i. own (sym c i) ++ (made (sym d i) ++ rest)) ∙ sym (append_assoc (own e.carried) (made e.adjointed) rest)
 
 -- what is emitted for the units passed and for the next stands before what is emitted for those behind it
-pub emitted_on : (ps : List Procedure) (a : Aim) (us made longer : List units.Unit) (k : ℕ) (u : units.Unit) (e : Emits) → k < length us → u ≡ get_or us k u →
-    map procedure_of longer ≡ map procedure_of made ++ emitted_for e ps a (procedure_of u) → e.carried ≡ is_carried full_marks ps (head_of a) u.name → e.adjointed ≡ has_adjoint full_marks ps (head_of a) u.name →
-    map procedure_of longer ++ emitted_units full_marks ps (head_of a) a.vars.now a.outvars.now (map procedure_of (drop (k + 1) us)) ≡ map procedure_of made ++ emitted_units full_marks ps (head_of a) a.vars.now a.outvars.now (map procedure_of (drop k us))
-emitted_on ps a us made longer k u e lt at is c d =
-    walked_on procedure_of (emitted_units full_marks ps (head_of a) a.vars.now a.outvars.now) (emitted_units full_marks ps (head_of a) a.vars.now a.outvars.now) us (map procedure_of made) (map procedure_of longer) (emitted_for e ps a (procedure_of u)) k u lt at is
-    (unit_emitted ps a e (procedure_of u) (map procedure_of (drop (k + 1) us)) c d)
+pub emitted_on : (m : ProgramMarks) (ps : List Procedure) (a : Aim) (us made longer : List units.Unit) (k : ℕ) (u : units.Unit) (e : Emits) → k < length us → u ≡ get_or us k u →
+    map procedure_of longer ≡ map procedure_of made ++ emitted_for m e ps a (procedure_of u) → e.carried ≡ is_carried m ps (head_of a) u.name → e.adjointed ≡ has_adjoint m ps (head_of a) u.name →
+    map procedure_of longer ++ emitted_units m ps (head_of a) a.vars.now a.outvars.now (map procedure_of (drop (k + 1) us)) ≡ map procedure_of made ++ emitted_units m ps (head_of a) a.vars.now a.outvars.now (map procedure_of (drop k us))
+emitted_on m ps a us made longer k u e lt at is c d =
+    walked_on procedure_of (emitted_units m ps (head_of a) a.vars.now a.outvars.now) (emitted_units m ps (head_of a) a.vars.now a.outvars.now) us (map procedure_of made) (map procedure_of longer) (emitted_for m e ps a (procedure_of u)) k u lt at is
+    (unit_emitted m ps a e (procedure_of u) (map procedure_of (drop (k + 1) us)) c d)
 
 -- only the head's adjoint sets shadows to 0
-pub other_adjoint : (ps : List Procedure) (head : Procedure) (vars outvars : List Bool) (u : Procedure) → name_eq head.name u.name ≡ false → adjoint_unit full_marks ps (all_units full_marks ps head) u [] [] ≡ emitted_adjoint full_marks ps head vars outvars u
-other_adjoint ps head vars outvars u h =
-    sym (ap (λ b. if b then adjoint_unit full_marks ps (all_units full_marks ps head) u (names_in everything (unmarked u.dummies outvars)) (names_in everything (unmarked u.dummies vars)) else adjoint_unit full_marks ps (all_units full_marks ps head) u [] []) h)
+pub other_adjoint : (m : ProgramMarks) (ps : List Procedure) (head : Procedure) (vars outvars : List Bool) (u : Procedure) → name_eq head.name u.name ≡ false → adjoint_unit m ps (all_units m ps head) u [] [] ≡ emitted_adjoint m ps head vars outvars u
+other_adjoint m ps head vars outvars u h =
+    sym (ap (λ b. if b then adjoint_unit m ps (all_units m ps head) u (names_in (m.shadowed u.name) (unmarked u.dummies outvars)) (names_in (m.shadowed u.name) (unmarked u.dummies vars)) else adjoint_unit m ps (all_units m ps head) u [] []) h)
 
-pub head_adjoint : (ps : List Procedure) (head : Procedure) (vars outvars : List Bool) (u : Procedure) → name_eq head.name u.name ≡ true → adjoint_unit full_marks ps (all_units full_marks ps head) u (names_in everything (unmarked u.dummies outvars)) (names_in everything (unmarked u.dummies vars)) ≡ emitted_adjoint full_marks ps head vars outvars u
-head_adjoint ps head vars outvars u h =
-    sym (ap (λ b. if b then adjoint_unit full_marks ps (all_units full_marks ps head) u (names_in everything (unmarked u.dummies outvars)) (names_in everything (unmarked u.dummies vars)) else adjoint_unit full_marks ps (all_units full_marks ps head) u [] []) h)
+pub head_adjoint : (m : ProgramMarks) (ps : List Procedure) (head : Procedure) (vars outvars : List Bool) (u : Procedure) → name_eq head.name u.name ≡ true → adjoint_unit m ps (all_units m ps head) u (names_in (m.shadowed u.name) (unmarked u.dummies outvars)) (names_in (m.shadowed u.name) (unmarked u.dummies vars)) ≡ emitted_adjoint m ps head vars outvars u
+head_adjoint m ps head vars outvars u h =
+    sym (ap (λ b. if b then adjoint_unit m ps (all_units m ps head) u (names_in (m.shadowed u.name) (unmarked u.dummies outvars)) (names_in (m.shadowed u.name) (unmarked u.dummies vars)) else adjoint_unit m ps (all_units m ps head) u [] []) h)
 
 -- what is emitted for the head of a number
-pub program_emitted : (ps : List Procedure) (number : ℕ) (head : Procedure) (vars outvars : List Bool) → unit_at number ps ≡ head ∷ [] → emitted_units full_marks ps head vars outvars ps ≡ emitted_program full_marks ps number vars outvars
-program_emitted ps number head vars outvars h = ap (program.emitted_for full_marks ps vars outvars) (sym h)
+pub program_emitted : (m : ProgramMarks) (ps : List Procedure) (number : ℕ) (head : Procedure) (vars outvars : List Bool) → unit_at number ps ≡ head ∷ [] → emitted_units m ps head vars outvars ps ≡ emitted_program m ps number vars outvars
+program_emitted m ps number head vars outvars h = ap (program.emitted_for m ps vars outvars) (sym h)
 
 -- as many flags as names
-pub same_length : (ps : List Procedure) (h : Procedure) (t : Table) → IsTable ps h t → length t.found.adjointed ≡ length t.adjoints.items
-same_length ps h t told =
-    ap length told.adjointed ∙ length-map ps (λ (u : Procedure). has_adjoint full_marks ps h u.name) ∙ sym (length-map ps (adjoint_name ps)) ∙ sym (ap length told.adjoints)
+pub same_length : (m : ProgramMarks) (ps : List Procedure) (h : Procedure) (t : Table) → IsTable m ps h t → length t.found.adjointed ≡ length t.adjoints.items
+same_length m ps h t told =
+    ap length told.adjointed ∙ length-map ps (λ (u : Procedure). has_adjoint m ps h u.name) ∙ sym (length-map ps (adjoint_name ps)) ∙ sym (ap length told.adjoints)
 
 -- the names of all units
-pub all_are : (ps : List Procedure) (h : Procedure) (t : Table) → IsTable ps h t → (all : List (List ℕ)) → all ≡ map unit_name ps ++ flagged t.found.adjointed t.adjoints.items → all ≡ all_units full_marks ps h
-all_are ps h t told all is =
-    is ∙ (λ i. map unit_name ps ++ flagged (told.adjointed i) (told.adjoints i)) ∙ ap (λ z. map unit_name ps ++ z) (made_flagged full_marks ps h ps)
+pub all_are : (m : ProgramMarks) (ps : List Procedure) (h : Procedure) (t : Table) → IsTable m ps h t → (all : List (List ℕ)) → all ≡ map unit_name ps ++ flagged t.found.adjointed t.adjoints.items → all ≡ all_units m ps h
+all_are m ps h t told all is =
+    is ∙ (λ i. map unit_name ps ++ flagged (told.adjointed i) (told.adjoints i)) ∙ ap (λ z. map unit_name ps ++ z) (made_flagged m ps h ps)
 
 -- what is told of each unit is told of each place of the units
 pub reaches : {B : Type 0} (f : Procedure → B) (us : List units.Unit) (xs : List B) (k : ℕ) → k < length us → xs ≡ map f (map procedure_of us) → k < length xs

@@ -1,21 +1,22 @@
 -- The adjoint of a unit is put together.
-use Rattle.std.proofs.Common.{◌≡◌, ℕ, true, false, List, [], ◌∷◌, ◌++◌, map, refl, sym, ap, ◌∙◌}
+use Rattle.std.proofs.Common.{◌≡◌, ℕ, Bool, true, false, if◌then◌else◌, List, [], ◌∷◌, ◌++◌, map, refl, sym, ap, ◌∙◌}
 use Rattle.std.specs.Prelude.{◌||◌, ◌==◌, not, length, Option, Some}
-use Rattle.adj_tree.specs.Code.{Var, plain, shadow, helper, Code, Declaration, Procedure, var_eq}
+use Rattle.adj_tree.specs.Code.{Var, plain, shadow, helper, Code, Declaration, Procedure, var_eq, name_eq}
 use Rattle.adj_meaning.specs.Rename.{rename}
 use Rattle.adj_meaning.specs.Written.{find_unit}
 use Rattle.adj_names.specs.NameFaults.{is_rank_for}
 use Rattle.adj_names.specs.Variables.{variables, rank}
 use Rattle.adj_transpose.specs.Fresh.{has_name, reserved}
-use Rattle.adj_transpose.specs.Marks.{everything, full}
+use Rattle.adj_transpose.specs.Marks.{Vars}
 use Rattle.adj_transpose.specs.Marked.{names_in}
-use Rattle.adj_transpose.specs.Naming.{Named, named, name_in, naming}
+use Rattle.adj_transpose.specs.Naming.{Named, AreApart, named, name_in, naming}
 use Rattle.adj_transpose.specs.Program.{declared_helpers}
 use Rattle.adj_transpose.specs.MarkedProgram.{shadows_behind, declared_behind}
 use Rattle.adj_transpose.proofs.Naming.{own-name}
+use Rattle.adj_transpose.proofs.Variables.{or_false}
 use Rattle.adj_reverse.specs.Plan.{Plan}
 use Rattle.adj_reverse.specs.Names.{adjoint_name}
-use Rattle.adj_reverse.specs.Marking.{full_marks, first_statement, plan_in, arrays_of, callee_in}
+use Rattle.adj_reverse.specs.Marking.{ProgramMarks, first_statement, plan_in, arrays_of}
 use Rattle.adj_reverse.specs.Program.{helpers_used, adjoint_names, adjoint_unit}
 use Rattle.adj_reverse.specs.Emission.{adjoint_body}
 use Rattle.adj_checked.proofs.Lists.{Each, each_found}
@@ -26,14 +27,13 @@ use Rattle.adj_emitted.proofs.Used.{used_helpers}
 use Rattle.adj_emitted.proofs.Apart.{VarsApart, used_apart}
 use Rattle.adj_emitted.proofs.MadeNames.{follows}
 use Rattle.adj_emitted.proofs.Sources.{each_name, UnitSound, all_named}
-use Rattle.adj_emitted.proofs.Programs.{full_shadows}
 use Rattle.adj_emitted.proofs.NameFaults.{NamesSound, all_names_sound}
 use Rattle.adj_emitted.proofs.AdjointNames.{body_with}
 use Rattle.adj_naming.specs.declared.names.Names.{Names}
 use Rattle.adj_naming.specs.Sets.{has_variable, AreDifferent}
 use Rattle.adj_naming.specs.Table.{table_of, named_by}
 use Rattle.adj_emission.specs.Plans.{named_among}
-use Rattle.adj_weave.specs.Shared.{IsCheckedBySome, AreOf}
+use Rattle.adj_weave.specs.Shared.{IsCheckedBySome, HaveShadows}
 use Rattle.adj_weave.proofs.Declared.{shadow_undeclared, helper_undeclared}
 use Rattle.adj_weave.proofs.Renamed.{code_same}
 
@@ -53,15 +53,26 @@ helpers_different p i c = different (helpers_used p i c) (used_apart p i c)
 
 -- ---- the plan
 
--- everything has a shadow
-pub all_shadowed : (xs : List (List ℕ)) → names_in everything xs ≡ xs
-all_shadowed [] = refl
-all_shadowed (x ∷ xs) = ap (λ l. x ∷ l) (all_shadowed xs)
+-- those of the variables that have a shadow are apart
+not_named : (a : Vars) (x : List ℕ) (xs : List (List ℕ)) → has_name x xs ≡ false → has_name x (names_in a xs) ≡ false
+not_named a x [] h = refl
+not_named a x (y ∷ xs) h = let p = or_false (name_eq x y) (has_name x xs) h in go (a (plain y)) p.0 (not_named a x xs p.1)
+  where
+    go : (b : Bool) → name_eq x y ≡ false → has_name x (names_in a xs) ≡ false → has_name x (if b then y ∷ names_in a xs else names_in a xs) ≡ false
+    go true d e = rw (d, e) refl
+    go false d e = e
 
--- a plan that knows the arrays of a unit is the unit's
-pub plan_is : (ps : List Procedure) (u : Procedure) (arrays : List (List ℕ)) → ((x : List ℕ) → has_name x arrays ≡ arrays_of u (plain x)) →
-    (let p : Plan = record { marks = full; arrays = named_among arrays; callees = callee_in full_marks ps } in p ≡ plan_in full_marks ps u)
-plan_is ps u arrays h = λ i. record { marks = full; arrays = λ v. same v i; callees = callee_in full_marks ps }
+pub shadowed_apart : (a : Vars) (xs : List (List ℕ)) → AreApart xs → AreApart (names_in a xs)
+shadowed_apart a [] h = tt
+shadowed_apart a (x ∷ xs) h = go (a (plain x)) (shadowed_apart a xs h.1)
+  where
+    go : (b : Bool) → AreApart (names_in a xs) → AreApart (if b then x ∷ names_in a xs else names_in a xs)
+    go true ih = (not_named a x xs h.0, ih)
+    go false ih = ih
+
+-- the variables that are known as arrays are those that the unit declares with extents
+pub arrays_are : (u : Procedure) (arrays : List (List ℕ)) → ((x : List ℕ) → has_name x arrays ≡ arrays_of u (plain x)) → named_among arrays ≡ arrays_of u
+arrays_are u arrays h = λ i v. same v i
   where
     same : (v : Var) → named_among arrays v ≡ arrays_of u v
     same (plain x) = h x
@@ -70,44 +81,47 @@ plan_is ps u arrays h = λ i. record { marks = full; arrays = λ v. same v i; ca
 
 -- ---- the body
 
-shadows_each : (ps us : List Procedure) → AllHaveShadows full_marks ps us → Each (λ u. HasShadows (plan_in full_marks ps u) (first_statement ps u.name) u.body) us
-shadows_each ps [] h = tt
-shadows_each ps (u ∷ us) h = (h.0, shadows_each ps us h.1)
+shadows_each : (m : ProgramMarks) (ps us : List Procedure) → AllHaveShadows m ps us → Each (λ u. HasShadows (plan_in m ps u) (first_statement ps u.name) u.body) us
+shadows_each m ps [] h = tt
+shadows_each m ps (u ∷ us) h = (h.0, shadows_each m ps us h.1)
 
-module _ (ps : List Procedure) (checked : IsCheckedBySome ps) (u : Procedure) (found : find_unit ps u.name ≡ Some u) (units at_turn at_end : List (List ℕ)) (turned : AreOf (variables u) at_turn) (ended : AreOf (variables u) at_end) where
+module _ (m : ProgramMarks) (ps : List Procedure) (checked : IsCheckedBySome ps) (shadowed : AllHaveShadows m ps ps) (u : Procedure) (found : find_unit ps u.name ≡ Some u) (units at_turn at_end : List (List ℕ)) (turned : HaveShadows m u at_turn) (ended : HaveShadows m u at_end) where
+  abbrev a : Vars
+  a = m.shadowed u.name
+
   abbrev pub i : ℕ
   i = first_statement ps u.name
 
   abbrev pub p : Plan
-  p = plan_in full_marks ps u
+  p = plan_in m ps u
 
   abbrev pub ns : List Named
-  ns = adjoint_names full_marks ps units u
+  ns = adjoint_names m ps units u
 
   abbrev pub body : Code
-  body = adjoint_body (plan_in full_marks ps u) (first_statement ps u.name) u.line u.body at_turn at_end
+  body = adjoint_body (plan_in m ps u) (first_statement ps u.name) u.line u.body at_turn at_end
 
   abbrev Q : Var → Option ℕ → Type 0
-  Q v n = (has_var v ns ≡ true) × (is_rank_for n (rank (adjoint_unit full_marks ps units u at_turn at_end) (name_in ns v)) ≡ true)
+  Q v n = (has_var v ns ≡ true) × (is_rank_for n (rank (adjoint_unit m ps units u at_turn at_end) (name_in ns v)) ≡ true)
 
   abbrev A : Var → Type 0
-  A v = (rank (adjoint_unit full_marks ps units u at_turn at_end) (name_in ns v) == 0) ≡ false
+  A v = (rank (adjoint_unit m ps units u at_turn at_end) (name_in ns v) == 0) ≡ false
 
   sound : UnitSound ps u × NamesSound ps u
   sound = each_found (λ u. UnitSound ps u × NamesSound ps u) ps (all_names_sound checked.rules ps checked.checked) u.name u found
 
-  shadows : HasShadows (plan_in full_marks ps u) (first_statement ps u.name) u.body
-  shadows = each_found (λ u. HasShadows (plan_in full_marks ps u) (first_statement ps u.name) u.body) ps (shadows_each ps ps (full_shadows ps ps)) u.name u found
+  shadows : HasShadows (plan_in m ps u) (first_statement ps u.name) u.body
+  shadows = each_found (λ u. HasShadows (plan_in m ps u) (first_statement ps u.name) u.body) ps (shadows_each m ps ps shadowed) u.name u found
 
-  marked : (xs : List (List ℕ)) → AreOf (variables u) xs → Each (λ x. (has_name x (variables u) ≡ true) × (full_marks.shadowed u.name (plain x) ≡ true)) xs
-  marked xs h = each_name (λ x. (has_name x (variables u) ≡ true) × (full_marks.shadowed u.name (plain x) ≡ true)) xs (λ x k. (h x k, refl))
+  marked : (xs : List (List ℕ)) → HaveShadows m u xs → Each (λ x. (has_name x (variables u) ≡ true) × (m.shadowed u.name (plain x) ≡ true)) xs
+  marked xs h = each_name (λ x. (has_name x (variables u) ≡ true) × (m.shadowed u.name (plain x) ≡ true)) xs h
 
   over : OverCode Q A Any body
   over =
       let s = sound.0 in
       let n = sound.1 in
-      let f = follows full_marks ps (all_named checked.rules ps checked.checked) u (first_statement ps u.name) u.body s.calls shadows in
-      body_with full_marks ps units u s.written s.kernel s.free s.calls f n.dummies_once n.extent_dummy n.extents n.stands at_turn at_end (marked at_turn turned) (marked at_end ended) Any f
+      let f = follows m ps (all_named checked.rules ps checked.checked) u (first_statement ps u.name) u.body s.calls shadows in
+      body_with m ps units u s.written s.kernel s.free s.calls f n.dummies_once n.extent_dummy n.extents n.stands at_turn at_end (marked at_turn turned) (marked at_end ended) Any f
 
   -- the names of the text are kept
   pub body_same : (n : Names) → table_of n ≡ ns → rename (named_by n) body ≡ rename (naming ns) body
@@ -116,21 +130,21 @@ module _ (ps : List Procedure) (checked : IsCheckedBySome ps) (u : Procedure) (f
       same : (v : Var) (k : Option ℕ) → Q v k → named_by n v ≡ naming ns v
       same (plain x) k q =
           let s = sound.0 in
-          let h : has_name x (variables u) ≡ true = plain_known (variables u) units everything (helpers_used p i u.body) s.free (used_helpers p i u.body) x q.0 in
-          ap plain (sym (own-name (variables u) (named (variables u ++ (units ++ reserved)) (map shadow (names_in everything (variables u)) ++ helpers_used p i u.body)) x h))
+          let h : has_name x (variables u) ≡ true = plain_known (variables u) units a (helpers_used p i u.body) s.free (used_helpers p i u.body) x q.0 in
+          ap plain (sym (own-name (variables u) (named (variables u ++ (units ++ reserved)) (map shadow (names_in a (variables u)) ++ helpers_used p i u.body)) x h))
       same (shadow x) k q = ap (λ z. naming z (shadow x)) t
       same (helper r j) k q = ap (λ z. naming z (helper r j)) t
 
   -- the parts make the adjoint unit
-  pub unit_is : (name : List ℕ) (t : List Named) (dummies : List (List ℕ)) (hs : List Var) (declarations : List Declaration) (code : Code) → name ≡ adjoint_name ps u → t ≡ ns → dummies ≡ shadows_behind everything t u.dummies → hs ≡ helpers_used p i u.body →
-      declarations ≡ declared_behind everything t u (variables u) ++ declared_helpers t u.line hs → code ≡ rename (naming ns) body →
-      (let made : Procedure = record { line = u.line; name = name; dummies = dummies; is_none = false; declarations = declarations; body = code } in made ≡ adjoint_unit full_marks ps units u at_turn at_end)
+  pub unit_is : (name : List ℕ) (t : List Named) (dummies : List (List ℕ)) (hs : List Var) (declarations : List Declaration) (code : Code) → name ≡ adjoint_name ps u → t ≡ ns → dummies ≡ shadows_behind a t u.dummies → hs ≡ helpers_used p i u.body →
+      declarations ≡ declared_behind a t u (variables u) ++ declared_helpers t u.line hs → code ≡ rename (naming ns) body →
+      (let made : Procedure = record { line = u.line; name = name; dummies = dummies; is_none = false; declarations = declarations; body = code } in made ≡ adjoint_unit m ps units u at_turn at_end)
   unit_is name t dummies hs declarations code hn ht hd hh hc hb =
       λ j. record {
         line = u.line;
         name = hn j;
-        dummies = (hd ∙ ap (λ z. shadows_behind everything z u.dummies) ht) j;
+        dummies = (hd ∙ ap (λ z. shadows_behind a z u.dummies) ht) j;
         is_none = false;
-        declarations = (hc ∙ (λ k. declared_behind everything (ht k) u (variables u) ++ declared_helpers (ht k) u.line (hh k))) j;
+        declarations = (hc ∙ (λ k. declared_behind a (ht k) u (variables u) ++ declared_helpers (ht k) u.line (hh k))) j;
         body = hb j;
       }

@@ -1,11 +1,16 @@
 -- What units get in their order: numbers of statements, names of adjoints, calls between them, and what is known of their dummies.
-use Rattle.std.specs.Prelude.{ℕ, suc, List, [], ◌∷◌, ◌++◌, map, Bool, true, Option, Some, None, if◌then◌else◌, position, codes}
+use Rattle.std.specs.Prelude.{ℕ, suc, List, [], ◌∷◌, ◌++◌, Bool, true, false, Option, Some, None, if◌then◌else◌, position, codes}
 use Rattle.adj_tree.specs.Code.{name_eq, Act, assign, choose, loop, during, call, runtime, Code, stop, step, Procedure}
 use Rattle.adj_transpose.specs.Fresh.{fresh}
-use Rattle.adj_transpose.specs.Marks.{behind}
+use Rattle.adj_transpose.specs.Marks.{next, behind}
 use Rattle.adj_reach.specs.Edges.{Edges, flag}
 use Rattle.adj_helpers.specs.declared.callees.Dummy.{Dummy}
 use Rattle.adj_helpers.specs.declared.callees.Callee.{Callee}
+use Rattle.adj_weave.specs.declared.calls.Call.{Call}
+use Rattle.adj_weave.specs.declared.calls.Counting as counting
+use Rattle.adj_weave.specs.declared.calls.Counting.TheVariants as which
+use Rattle.adj_weave.specs.declared.marks.Marked.{Marked}
+use Rattle.adj_weave.specs.Marked.{program_marks, unit_dummy}
 
 -- the numbers of the first statements of units, where that of the first unit is i
 abbrev pub numbers_from : ℕ → List Procedure → List ℕ
@@ -19,29 +24,40 @@ adjoints_from taken (u ∷ us) = fresh (u.name ++ codes "_B") taken ∷ adjoints
 
 -- ---- calls
 
--- an edge from a unit to one that is found
-abbrev pub edge_to : ℕ → Option ℕ → Edges
-edge_to k None = []
-edge_to k (Some j) = (k, j) ∷ []
+-- a call in the i-th statement, from a unit to one that is found
+abbrev pub call_to : ℕ → ℕ → Option ℕ → List Call
+call_to i k None = []
+call_to i k (Some j) = record { number = i; from = k; to = j } ∷ []
 
--- an edge for each call in a statement or a list of the k-th unit, where the units have these names
+-- the calls in the i-th statement, or in a list that begins with it, of the k-th unit, where the units have these names
 abbrev mutual
-  pub edges_act : List (List ℕ) → ℕ → Act → Edges
-  edges_act names k (assign x subs e) = []
-  edges_act names k (choose c a b) = edges_in names k a ++ edges_in names k b
-  edges_act names k (loop x a b c body m) = edges_in names k body
-  edges_act names k (during c body) = edges_in names k body
-  edges_act names k (call name args) = edge_to k (position (name_eq name) names)
-  edges_act names k (runtime r) = []
+  pub listed_act : List (List ℕ) → ℕ → ℕ → Act → List Call
+  listed_act names k i (assign x subs e) = []
+  listed_act names k i (choose c a b) = listed_in names k (suc i) a ++ listed_in names k (behind (suc i) a) b
+  listed_act names k i (loop x a b c body m) = listed_in names k (suc i) body
+  listed_act names k i (during c body) = listed_in names k (suc i) body
+  listed_act names k i (call name args) = call_to i k (position (name_eq name) names)
+  listed_act names k i (runtime r) = []
 
-  pub edges_in : List (List ℕ) → ℕ → Code → Edges
-  edges_in names k stop = []
-  edges_in names k (step line a rest) = edges_act names k a ++ edges_in names k rest
+  pub listed_in : List (List ℕ) → ℕ → ℕ → Code → List Call
+  listed_in names k i stop = []
+  listed_in names k i (step line a rest) = listed_act names k i a ++ listed_in names k (next i a) rest
 
--- those of units of which the first is the k-th
-abbrev pub edges_from : List (List ℕ) → ℕ → List Procedure → Edges
-edges_from names k [] = []
-edges_from names k (u ∷ us) = edges_in names k u.body ++ edges_from names (suc k) us
+-- those of units of which the first is the k-th and begins with the i-th statement
+abbrev pub listed_from : List (List ℕ) → ℕ → ℕ → List Procedure → List Call
+listed_from names k i [] = []
+listed_from names k i (u ∷ us) = listed_in names k i u.body ++ listed_from names (suc k) (behind i u.body) us
+
+-- the statements whose calls count
+abbrev pub counted : Marked → counting.Counting → ℕ → Bool
+counted m which.All i = true
+counted m which.Kept i = (program_marks m).kept i
+counted m which.Adjointed i = (program_marks m).adjointed i
+
+-- an edge for each call in a statement of a set
+abbrev pub edges_of : (ℕ → Bool) → List Call → Edges
+edges_of f [] = []
+edges_of f (c ∷ cs) = if f c.number then (c.from, c.to) ∷ edges_of f cs else edges_of f cs
 
 -- the ends of the edges that come from flagged nodes
 abbrev pub ends_of : List Bool → Edges → List ℕ
@@ -56,16 +72,19 @@ flagged (f ∷ fs) (x ∷ xs) = if f then x ∷ flagged fs xs else flagged fs xs
 
 -- ---- callees
 
--- a dummy with full marks
-abbrev pub dummy_with : Bool → Dummy
-dummy_with w = record { written = w; member = true; shadowed = true }
-
 -- a name and dummies
 abbrev pub said : Callee → List ℕ × List Dummy
 said k = (k.adjoint, k.dummies.items)
 
--- names and the dummies that stand beside them
-abbrev pub said_of : List (List ℕ) → List (List Bool) → List (List ℕ × List Dummy)
-said_of [] rows = []
-said_of (x ∷ xs) [] = []
-said_of (x ∷ xs) (ws ∷ rows) = (x, map dummy_with ws) ∷ said_of xs rows
+-- the dummies of the k-th unit, of which flags say whether it writes them
+abbrev pub dummies_said : Marked → ℕ → List (List ℕ) → List Bool → List Dummy
+dummies_said m k [] ws = []
+dummies_said m k (d ∷ ds) [] = unit_dummy m k d false ∷ dummies_said m k ds []
+dummies_said m k (d ∷ ds) (w ∷ ws) = unit_dummy m k d w ∷ dummies_said m k ds ws
+
+-- what is said of units of which the first is the k-th, by the names of their adjoints and by the flags of their dummies
+abbrev pub said_of : Marked → ℕ → List Procedure → List (List ℕ) → List (List Bool) → List (List ℕ × List Dummy)
+said_of m k [] xs rows = []
+said_of m k (u ∷ us) [] rows = []
+said_of m k (u ∷ us) (x ∷ xs) [] = []
+said_of m k (u ∷ us) (x ∷ xs) (ws ∷ rows) = (x, dummies_said m k u.dummies ws) ∷ said_of m (suc k) us xs rows

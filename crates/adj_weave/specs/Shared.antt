@@ -1,18 +1,22 @@
 -- What is known where the adjoint of a unit is written.
 use Rattle.std.specs.Prelude.{◌≡◌, ℕ, List, [], ◌++◌, map, Some, true}
-use Rattle.adj_tree.specs.Code.{Procedure}
+use Rattle.adj_tree.specs.Code.{plain, Procedure}
 use Rattle.adj_tree.specs.View.{procedure_of}
 use Rattle.adj_meaning.specs.Written.{find_unit}
 use Rattle.adj_names.specs.Fault.{Rules}
 use Rattle.adj_names.specs.Variables.{variables}
 use Rattle.adj_transpose.specs.Fresh.{has_name, reserved}
 use Rattle.adj_reverse.specs.Names.{adjoint_name}
-use Rattle.adj_reverse.specs.Marking.{full_marks, callee_in, first_statement}
+use Rattle.adj_reverse.specs.Marking.{ProgramMarks, marks_in, callee_in, first_statement}
 use Rattle.adj_checked.specs.Checked.{IsChecked}
+use Rattle.adj_emitted.specs.Shadowed.{AllHaveShadows}
 use Rattle.adj_naming.specs.Sets.{all_added}
+use Rattle.adj_marking.specs.View.{marks_of}
 use Rattle.adj_helpers.specs.Callees.{KnowsAll}
 use Rattle.adj_weave.specs.declared.unit.Shared.{Shared}
 use Rattle.adj_weave.specs.declared.unit.Part.{Part}
+use Rattle.adj_weave.specs.Marked.{program_marks}
+use Rattle.adj_weave.specs.Alike.{AreAlike}
 
 -- a checked program in kernel form, by the rules of a text that a user writes or by those of one that is run
 pub record IsCheckedBySome (ps : List Procedure) : Type 0 where
@@ -23,19 +27,25 @@ pub record IsCheckedBySome (ps : List Procedure) : Type 0 where
 abbrev pub sources : Shared → List Procedure
 sources s = map procedure_of s.units.now
 
--- what all units share is that of a checked program
+-- the marks of the program
+abbrev pub marks_for : Shared → ProgramMarks
+marks_for s = program_marks s.marked
+
+-- what all units share is that of a checked program, whose marks have the shadows that they use
 pub record IsShared (s : Shared) : Type 0 where
   pub checked : IsCheckedBySome (sources s)
-  pub callees : KnowsAll s.callees.now (callee_in full_marks (sources s))
+  pub shadows : AllHaveShadows (marks_for s) (sources s) (sources s)
+  pub callees : KnowsAll s.callees.now (callee_in (marks_for s) (sources s))
   pub taken : s.taken.now ≡ all_added [] (s.names.now ++ reserved)
 
--- a unit of the program, and what is known of it
-pub record IsPart (ps : List Procedure) (p : Part) : Type 0 where
+-- a unit of the program, and what is known of it; of its statements and variables its marks say what those of the program do
+pub record IsPart (m : ProgramMarks) (ps : List Procedure) (p : Part) : Type 0 where
   pub found : find_unit ps (procedure_of p.unit.now).name ≡ Some (procedure_of p.unit.now)
+  pub marks : let u = procedure_of p.unit.now in AreAlike (marks_of p.marking) (marks_in m u.name) (first_statement ps u.name) u.body
   pub variables : p.variables.now ≡ variables (procedure_of p.unit.now)
   pub adjoint : p.adjoint.now ≡ adjoint_name ps (procedure_of p.unit.now)
   pub number : p.number ≡ first_statement ps (procedure_of p.unit.now).name
 
--- names of a list
-abbrev pub AreOf : List (List ℕ) → List (List ℕ) → Type 0
-AreOf own xs = (x : List ℕ) → has_name x xs ≡ true → has_name x own ≡ true
+-- variables of a unit that have a shadow
+abbrev pub HaveShadows : ProgramMarks → Procedure → List (List ℕ) → Type 0
+HaveShadows m u xs = (x : List ℕ) → has_name x xs ≡ true → (has_name x (variables u) ≡ true) × (m.shadowed u.name (plain x) ≡ true)

@@ -4,21 +4,21 @@ use Rattle.adj_tree.specs.Code.{Procedure}
 use Rattle.adj_tree.specs.View.{procedure_of}
 use Rattle.adj_names.specs.Variables.{variables}
 use Rattle.adj_reverse.specs.Names.{adjoint_name}
-use Rattle.adj_reverse.specs.Marking.{full_marks, first_statement}
+use Rattle.adj_reverse.specs.Marking.{ProgramMarks, first_statement}
 use Rattle.adj_reverse.specs.Program.{has_adjoint, is_carried, all_units, emitted_adjoint}
 use Rattle.adj_weave.specs.declared.weave.Aim.{Aim}
 use Rattle.adj_weave.specs.declared.weave.Emits.{Emits}
 use Rattle.adj_weave.specs.declared.weave.Table.{Table}
 use Rattle.adj_weave.specs.declared.unit.Shared.{Shared}
-use Rattle.adj_weave.specs.Shared.{sources, IsShared}
+use Rattle.adj_weave.specs.Shared.{sources, marks_for, IsShared}
 
--- a table tells of each unit of the program, where h is the head
-pub record IsTable (ps : List Procedure) (h : Procedure) (t : Table) : Type 0 where
+-- by these marks a table tells of each unit of the program, where h is the head
+pub record IsTable (m : ProgramMarks) (ps : List Procedure) (h : Procedure) (t : Table) : Type 0 where
   pub variables : t.variables.items ≡ map variables ps
   pub adjoints : t.adjoints.items ≡ map (adjoint_name ps) ps
   pub numbers : t.numbers.items ≡ map (λ u. first_statement ps u.name) ps
-  pub adjointed : t.found.adjointed ≡ map (λ u. has_adjoint full_marks ps h u.name) ps
-  pub carried : t.found.carried ≡ map (λ u. is_carried full_marks ps h u.name) ps
+  pub adjointed : t.found.adjointed ≡ map (λ u. has_adjoint m ps h u.name) ps
+  pub carried : t.found.carried ≡ map (λ u. is_carried m ps h u.name) ps
 
 -- the head that is aimed at
 abbrev pub head_of : Aim → Procedure
@@ -27,12 +27,12 @@ head_of a = procedure_of a.head.now
 -- all is known that the adjoints of units need
 pub record IsReady (s : Shared) (a : Aim) : Type 0 where
   pub shared : IsShared s
-  pub names : s.names.now ≡ all_units full_marks (sources s) (head_of a)
+  pub names : s.names.now ≡ all_units (marks_for s) (sources s) (head_of a)
 
 -- a unit, if it is emitted
 abbrev pub only_if : Bool → Procedure → List Procedure
 only_if b u = if b then u ∷ [] else []
 
 -- what is emitted for a unit
-abbrev pub emitted_for : Emits → List Procedure → Aim → Procedure → List Procedure
-emitted_for e ps a u = only_if e.carried u ++ only_if e.adjointed (emitted_adjoint full_marks ps (head_of a) a.vars.now a.outvars.now u)
+abbrev pub emitted_for : ProgramMarks → Emits → List Procedure → Aim → Procedure → List Procedure
+emitted_for m e ps a u = only_if e.carried u ++ only_if e.adjointed (emitted_adjoint m ps (head_of a) a.vars.now a.outvars.now u)

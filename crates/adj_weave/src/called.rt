@@ -1,46 +1,61 @@
-//! What the sweeps of calls know of the units of a program, with full marks.
+//! What the sweeps of calls know of the units of a program.
 
-ghost use Rattle.std.specs.Prelude.{◌≡◌, ◌∷◌, [], ℕ, IfOk, map, length};
+ghost use Rattle.std.specs.Prelude.{◌≡◌, ◌+◌, IfOk, map, length};
 ghost use Rattle.adj_tree.specs.View.{procedure_of};
-ghost use Rattle.adj_meaning.specs.Written.{is_written};
 ghost use Rattle.adj_transpose.specs.Naming.{AreApart};
 ghost use Rattle.adj_transpose.specs.Program.{unit_name};
 ghost use Rattle.adj_reverse.specs.Names.{adjoint_name};
-ghost use Rattle.adj_reverse.specs.Marking.{full_marks, callee_in};
+ghost use Rattle.adj_reverse.specs.Marking.{callee_in};
 ghost use Rattle.adj_helpers.specs.Callees.{KnowsAll};
-ghost use Rattle.adj_weave.specs.Orders.{dummy_with, said, said_of};
+ghost use Rattle.adj_weave.specs.Marked.{program_marks, HasUnits, KnowsUnits};
+ghost use Rattle.adj_weave.specs.Orders.{dummies_said, said, said_of};
 
+use crate::marks::Marked;
 use adj_helpers::callees::{Callee, Callees, Dummy};
 use adj_naming::name_set::{NameSet, add_names};
 use adj_symbols::written_dummies;
 use adj_tree::{Flags, Memory, Name, Unit};
 use std::alloc::Global;
 
-// Dummies of which it is known whether the unit writes them.
-fn dummies_of(alloc: Global, written: &[bool]) -> Result<Vec<Dummy>, Memory>
-    ensures dummies { IfOk result (λ v. v.items ≡ map dummy_with written.now) }
+// What the sweeps of calls know of the dummies of the unit at a place, of which flags say whether it writes them.
+fn dummies_of(
+    alloc: Global,
+    marked: &Marked<'_>,
+    place: usize,
+    names: &[Name],
+    written: &[bool],
+) -> Result<Vec<Dummy>, Memory>
+    requires unit { HasUnits marked.now (place + 1) }
+    ensures dummies { IfOk result (λ v. v.items ≡ dummies_said marked.now place names.now written.now) }
 {
     let mut made = Vec::new(alloc);
-    for written in written {
-        made.push(Dummy {
-            written: *written,
-            member: true,
-            shadowed: true,
-        })?;
+    for (k, name) in names.iter().enumerate() {
+        let flag = written.get(k).copied().unwrap_or(false);
+        let dummy = marked.dummy(place, name, flag)?;
+        made.push(dummy)?;
     }
     Ok(made)
 }
 
 // What is known of each unit, by the names of their adjoints and by the dummies that they write.
-fn known_units(alloc: Global, adjoints: &[Name], written: &[Flags]) -> Result<Vec<Callee>, Memory>
-    requires same { length adjoints.now ≡ length written.now }
-    ensures known { IfOk result (λ v. map said v.items ≡ said_of adjoints.now written.now) }
+fn known_units(
+    alloc: Global,
+    marked: &Marked<'_>,
+    units: &[Unit],
+    adjoints: &[Name],
+    written: &[Flags],
+) -> Result<Vec<Callee>, Memory>
+    requires units { HasUnits marked.now (length units.now) }
+    requires named { length adjoints.now ≡ length units.now }
+    requires told { length written.now ≡ length units.now }
+    ensures known { IfOk result (λ v. map said v.items ≡ said_of marked.now 0 (map procedure_of units.now) adjoints.now written.now) }
 {
     let mut made = Vec::new(alloc);
-    for (k, adjoint) in adjoints.iter().enumerate() {
-        let dummies = dummies_of(alloc, written[k].as_slice())?;
+    for (k, unit) in units.iter().enumerate() {
+        let names = unit.dummies.as_slice();
+        let dummies = dummies_of(alloc, marked, k, names, written[k].as_slice())?;
         made.push(Callee {
-            adjoint: adjoint.copy(alloc)?,
+            adjoint: adjoints[k].copy(alloc)?,
             dummies,
         })?;
     }
@@ -50,19 +65,21 @@ fn known_units(alloc: Global, adjoints: &[Name], written: &[Flags]) -> Result<Ve
 /// What the sweeps of calls know of the units of a program, by the names of the units and of their adjoints.
 pub fn known_callees(
     alloc: Global,
+    marked: &Marked<'_>,
     units: &[Unit],
     names: &[Name],
     adjoints: &[Name],
 ) -> Result<Callees, Memory>
+    requires units { KnowsUnits marked.now (map procedure_of units.now) }
     requires names { names.now ≡ map unit_name (map procedure_of units.now) }
     requires apart { AreApart names.now }
     requires adjoints { adjoints.now ≡ map (adjoint_name (map procedure_of units.now)) (map procedure_of units.now) }
-    ensures known { IfOk result (λ c. KnowsAll c (callee_in full_marks (map procedure_of units.now))) }
+    ensures known { IfOk result (λ c. KnowsAll c (callee_in (program_marks marked.now) (map procedure_of units.now))) }
 {
     let mut set = NameSet::new(alloc);
     add_names(alloc, &mut set, names)?;
     let written = written_dummies(alloc, units)?;
-    let known = known_units(alloc, adjoints, written.as_slice())?;
+    let known = known_units(alloc, marked, units, adjoints, written.as_slice())?;
     let other = Callee {
         adjoint: Name::from_slice(alloc, b"")?,
         dummies: Vec::new(alloc),

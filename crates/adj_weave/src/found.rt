@@ -5,14 +5,14 @@ ghost use Rattle.adj_tree.specs.Code.{Procedure};
 ghost use Rattle.adj_tree.specs.View.{procedure_of};
 ghost use Rattle.adj_transpose.specs.Naming.{AreApart};
 ghost use Rattle.adj_transpose.specs.Program.{unit_name, unit_at};
-ghost use Rattle.adj_reverse.specs.Marking.{full_marks};
 ghost use Rattle.adj_reverse.specs.Program.{has_adjoint, is_carried};
-ghost use Rattle.adj_reach.specs.Edges.{flag};
+ghost use Rattle.adj_weave.specs.Marked.{program_marks};
 ghost use Rattle.adj_weave.specs.Orders.{ends_of};
 
-use crate::calls::call_edges;
+use crate::calls::{Counting, edges, listed_calls};
+use crate::marks::Marked;
 use adj_naming::name_set::NameSet;
-use adj_reach::reach;
+use adj_reach::{flag_at, reach};
 use adj_tree::{Flags, Memory, Unit};
 use std::alloc::Global;
 
@@ -21,13 +21,6 @@ use std::alloc::Global;
 pub struct Found {
     pub adjointed: Flags,
     pub carried: Flags,
-}
-
-// The flag at a place.
-fn flag_at(flags: &[bool], place: usize) -> bool
-    ensures { result ≡ flag flags.now place }
-{
-    flags.get(place).copied().unwrap_or(false)
 }
 
 // The ends of the edges that come from flagged nodes.
@@ -54,9 +47,10 @@ fn fits(count: usize) -> Result<(), Memory>
     }
 }
 
-/// The units that are emitted for a head with full marks.
+/// The units that are emitted for a head by these marks.
 pub fn found_units(
     alloc: Global,
+    marked: &Marked<'_>,
     units: &[Unit],
     names: &NameSet,
     head: usize,
@@ -64,16 +58,19 @@ pub fn found_units(
     requires head { head < length units.now }
     requires names { names.now ≡ map unit_name (map procedure_of units.now) }
     requires apart { AreApart names.now }
-    ensures adjointed { IfOk result (λ f. (h : Procedure) → unit_at head (map procedure_of units.now) ≡ h ∷ [] → f.adjointed ≡ map (λ u. has_adjoint full_marks (map procedure_of units.now) h u.name) (map procedure_of units.now)) }
-    ensures carried { IfOk result (λ f. (h : Procedure) → unit_at head (map procedure_of units.now) ≡ h ∷ [] → f.carried ≡ map (λ u. is_carried full_marks (map procedure_of units.now) h u.name) (map procedure_of units.now)) }
+    ensures adjointed { IfOk result (λ f. (h : Procedure) → unit_at head (map procedure_of units.now) ≡ h ∷ [] → f.adjointed ≡ map (λ u. has_adjoint (program_marks marked.now) (map procedure_of units.now) h u.name) (map procedure_of units.now)) }
+    ensures carried { IfOk result (λ f. (h : Procedure) → unit_at head (map procedure_of units.now) ≡ h ∷ [] → f.carried ≡ map (λ u. is_carried (program_marks marked.now) (map procedure_of units.now) h u.name) (map procedure_of units.now)) }
 {
     let count = units.len();
     fits(count)?;
-    let edges = call_edges(alloc, units, names)?;
-    let calls = edges.as_slice();
+    let listed = listed_calls(alloc, units, names)?;
+    let calls = listed.as_slice();
+    let adjoint_edges = edges(alloc, marked, Counting::Adjointed, calls)?;
+    let kept_edges = edges(alloc, marked, Counting::Kept, calls)?;
+    let all_edges = edges(alloc, marked, Counting::All, calls)?;
     let start = [head];
-    let adjointed = reach(alloc, count, calls, &start)?;
-    let called = ends_of(alloc, adjointed.as_slice(), calls)?;
-    let carried = reach(alloc, count, calls, called.as_slice())?;
+    let adjointed = reach(alloc, count, adjoint_edges.as_slice(), &start)?;
+    let called = ends_of(alloc, adjointed.as_slice(), kept_edges.as_slice())?;
+    let carried = reach(alloc, count, all_edges.as_slice(), called.as_slice())?;
     Ok(Found { adjointed, carried })
 }

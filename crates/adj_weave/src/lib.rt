@@ -1,10 +1,11 @@
-//! The emitted program of a checked program in kernel form, with full marks.
+//! The emitted program of a checked program in kernel form, with full marks or with those that analyses found.
 //!
 //! `weave` puts the program together and `unit` an adjoint unit, of `shadows`, `declarations` and `arrays`; `source` has the names,
-//! `numbers` those of statements, `calls` and `found` the units that are emitted, and `called` what the sweeps of calls know of
-//! units. Each clause says that the result is that of the emission's definition (`adj_reverse/specs/Program.antt`), unless memory
-//! runs out. The crate stands on those definitions, on the sweeps (adj_emission), helpers (adj_helpers), names (adj_naming) and
-//! variables (adj_symbols). The layer above uses `adjoint`.
+//! `numbers` those of statements, `marks` what is marked, `calls` and `found` the units that are emitted, and `called` what the
+//! sweeps of calls know of units. Each clause says that the result is that of the emission's definition
+//! (`adj_reverse/specs/Program.antt`), unless memory runs out. The crate stands on those definitions, on the sweeps (adj_emission),
+//! helpers (adj_helpers), names (adj_naming), variables (adj_symbols) and the flow of a program (adj_flow). The layer above uses
+//! `adjoint`.
 #![tactic(auto)]
 
 pub mod arrays;
@@ -12,10 +13,12 @@ pub mod called;
 pub mod calls;
 pub mod declarations;
 pub mod found;
+pub mod marks;
 pub mod numbers;
 pub mod shadows;
 pub mod source;
 pub mod unit;
 mod weave;
 
+pub use marks::{FoundMarks, Marked, shadows_law};
 pub use weave::adjoint;

@@ -9,7 +9,7 @@ use adj_tree::{Act, Memory, Stmts, Unit};
 use std::alloc::Global;
 
 // The number that comes after another. Statements whose count doesn't fit a word would not fit the memory.
-fn after(number: usize) -> Result<usize, Memory>
+pub(crate) fn after(number: usize) -> Result<usize, Memory>
     ensures after { IfOk result (λ n. n ≡ number + 1) }
 {
     match number.checked_add(1) {

@@ -2,13 +2,12 @@
 
 ghost use Rattle.std.specs.Prelude.{◌≡◌, IfOk};
 ghost use Rattle.adj_tree.specs.View.{procedure_of};
-ghost use Rattle.adj_names.specs.Variables.{variables};
-ghost use Rattle.adj_reverse.specs.Marking.{full_marks};
 ghost use Rattle.adj_reverse.specs.Program.{adjoint_unit};
-ghost use Rattle.adj_weave.specs.Shared.{sources, IsShared, IsPart, AreOf};
+ghost use Rattle.adj_weave.specs.Shared.{sources, marks_for, IsShared, IsPart, HaveShadows};
 
 use crate::arrays::arrays_of;
 use crate::declarations::declarations;
+use crate::marks::Marked;
 use crate::shadows::{shadowed, with_shadows};
 use adj_emission::bodies::Body;
 use adj_emission::plan::Plan;
@@ -21,27 +20,28 @@ use adj_naming::naming::names;
 use adj_tree::{Items, Memory, Name, Unit};
 use std::alloc::Global;
 
-/// What the adjoints of the units of a program share: the units, what is known where one is called, the names of all units
-/// and of all adjoints that are emitted, and what no variable that is made may be called.
+/// What the adjoints of the units of a program share: the units, the marks, what is known where one is called, the names of all
+/// units and of all adjoints that are emitted, and what no variable that is made may be called.
 #[derive(Clone, Copy)]
 pub struct Shared<'a> {
     pub units: &'a [Unit],
+    pub marked: Marked<'a>,
     pub callees: &'a Callees,
     pub names: &'a [Name],
     pub taken: &'a NameSet,
 }
 
-/// A unit, its variables, the name of its adjoint and the number of its first statement.
+/// A unit, its marks, its variables, the name of its adjoint and the number of its first statement.
 #[derive(Clone, Copy)]
 pub struct Part<'a> {
     pub unit: &'a Unit,
+    pub marking: Marking<'a>,
     pub variables: &'a [Name],
     pub adjoint: &'a Name,
     pub number: usize,
 }
 
-/// The adjoint of a unit with full marks, in which the shadows of some variables are set to 0 between the sweeps, and of some at
-/// the end.
+/// The adjoint of a unit, in which the shadows of some variables are set to 0 between the sweeps, and of some at the end.
 pub fn adjoint_unit(
     alloc: Global,
     shared: &Shared,
@@ -50,30 +50,30 @@ pub fn adjoint_unit(
     at_end: &[Name],
 ) -> Result<Unit, Memory>
     requires shared { IsShared shared.now }
-    requires part { IsPart (sources shared.now) part.now }
-    requires at_turn { AreOf (variables (procedure_of part.now.unit.now)) at_turn.now }
-    requires at_end { AreOf (variables (procedure_of part.now.unit.now)) at_end.now }
-    ensures unit { IfOk result (λ u. procedure_of u ≡ adjoint_unit full_marks (sources shared.now) shared.now.names.now (procedure_of part.now.unit.now) at_turn.now at_end.now) }
+    requires part { IsPart (marks_for shared.now) (sources shared.now) part.now }
+    requires at_turn { HaveShadows (marks_for shared.now) (procedure_of part.now.unit.now) at_turn.now }
+    requires at_end { HaveShadows (marks_for shared.now) (procedure_of part.now.unit.now) at_end.now }
+    ensures unit { IfOk result (λ u. procedure_of u ≡ adjoint_unit (marks_for shared.now) (sources shared.now) shared.now.names.now (procedure_of part.now.unit.now) at_turn.now at_end.now) }
 {
     let unit = part.unit;
-    let marks: Marking<'static> = Marking::Full;
+    let marks = &part.marking;
     let known = Known {
-        marks: &marks,
+        marks,
         callees: shared.callees,
     };
     let used = helpers_used(alloc, &known, part.number, &unit.body)?;
     let helpers = used.as_slice();
-    let own = shadowed(alloc, &marks, part.variables)?;
+    let own = shadowed(alloc, marks, part.variables)?;
     let all = names(alloc, shared.taken, part.variables, own.as_slice(), helpers)?;
     let arrays = arrays_of(alloc, unit)?;
     let plan = Plan {
         names: &all,
-        marks: &marks,
+        marks,
         arrays: &arrays,
         callees: shared.callees,
     };
-    let dummies = with_shadows(alloc, &all, &marks, unit.dummies.as_slice())?;
-    let decls = declarations(alloc, &all, &marks, unit, part.variables, helpers)?;
+    let dummies = with_shadows(alloc, &all, marks, unit.dummies.as_slice())?;
+    let decls = declarations(alloc, &all, marks, unit, part.variables, helpers)?;
     let given = Body {
         statements: &unit.body,
         number: part.number,

@@ -1,23 +1,24 @@
 //! The emitted program (docs/EMITTED.md, "The program").
 
-ghost use Rattle.std.specs.Prelude.{◌≡◌, ◌++◌, ◌∷◌, [], ◌<◌, IfOk, OnOk, map, length};
+ghost use Rattle.std.specs.Prelude.{◌≡◌, ◌++◌, ◌∷◌, [], ◌<◌, true, IfOk, OnOk, map, length};
 ghost use Rattle.adj_tree.specs.Code.{Procedure};
 ghost use Rattle.adj_tree.specs.View.{procedure_of, procedures_of};
 ghost use Rattle.adj_transpose.specs.Naming.{AreApart};
 ghost use Rattle.adj_transpose.specs.Program.{unit_name, unit_at};
-ghost use Rattle.adj_reverse.specs.Marking.{full_marks};
 ghost use Rattle.adj_reverse.specs.Program.{has_adjoint, is_carried, emitted_adjoint, emitted_units, emitted_program};
+ghost use Rattle.adj_emitted.specs.Shadowed.{AllHaveShadows};
+ghost use Rattle.adj_weave.specs.Marked.{program_marks, IsOver};
 ghost use Rattle.adj_weave.specs.Orders.{flagged};
-ghost use Rattle.adj_weave.specs.Shared.{sources, IsCheckedBySome, IsPart};
+ghost use Rattle.adj_weave.specs.Shared.{sources, marks_for, IsCheckedBySome, IsPart};
 ghost use Rattle.adj_weave.specs.Woven.{IsTable, IsReady, head_of, only_if, emitted_for};
 
 use crate::called::known_callees;
 use crate::found::{Found, found_units};
+use crate::marks::Marked;
 use crate::numbers::first_statements;
 use crate::shadows::{shadowed, unmarked};
 use crate::source::{add_all_flagged, adjoint_names, all_variables, source_names, unit_names};
 use crate::unit::{Part, Shared, adjoint_unit};
-use adj_marking::Marking;
 use adj_naming::name_set::{NameSet, add_names};
 use adj_naming::naming::not_free;
 use adj_tree::{Head, Items, Memory, Name, NameList, Program, Unit, Units};
@@ -33,9 +34,10 @@ pub struct Table {
     pub found: Found,
 }
 
-/// The head, and for each of its dummies whether it is independent and whether it is dependent.
+/// The head with its number, and for each of its dummies whether it is independent and whether it is dependent.
 #[derive(Clone, Copy)]
 pub struct Aim<'a> {
+    pub number: usize,
     pub head: &'a Unit,
     pub vars: &'a [bool],
     pub outvars: &'a [bool],
@@ -51,6 +53,7 @@ pub struct Emits {
 // The units that are emitted for a head, found by the names of units.
 fn found_by_names(
     alloc: Global,
+    marked: &Marked<'_>,
     units: &[Unit],
     names: &[Name],
     head: usize,
@@ -58,27 +61,33 @@ fn found_by_names(
     requires head { head < length units.now }
     requires names { names.now ≡ map unit_name (map procedure_of units.now) }
     requires apart { AreApart names.now }
-    ensures adjointed { IfOk result (λ f. (h : Procedure) → unit_at head (map procedure_of units.now) ≡ h ∷ [] → f.adjointed ≡ map (λ u. has_adjoint full_marks (map procedure_of units.now) h u.name) (map procedure_of units.now)) }
-    ensures carried { IfOk result (λ f. (h : Procedure) → unit_at head (map procedure_of units.now) ≡ h ∷ [] → f.carried ≡ map (λ u. is_carried full_marks (map procedure_of units.now) h u.name) (map procedure_of units.now)) }
+    ensures adjointed { IfOk result (λ f. (h : Procedure) → unit_at head (map procedure_of units.now) ≡ h ∷ [] → f.adjointed ≡ map (λ u. has_adjoint (program_marks marked.now) (map procedure_of units.now) h u.name) (map procedure_of units.now)) }
+    ensures carried { IfOk result (λ f. (h : Procedure) → unit_at head (map procedure_of units.now) ≡ h ∷ [] → f.carried ≡ map (λ u. is_carried (program_marks marked.now) (map procedure_of units.now) h u.name) (map procedure_of units.now)) }
 {
     let mut set = NameSet::new(alloc);
     add_names(alloc, &mut set, names)?;
-    let found = found_units(alloc, units, &set, head)?;
+    let found = found_units(alloc, marked, units, &set, head)?;
     Ok(found)
 }
 
 // What is known of the units of a program before any is emitted.
-fn tabulated(alloc: Global, units: &[Unit], names: &[Name], head: usize) -> Result<Table, Memory>
+fn tabulated(
+    alloc: Global,
+    marked: &Marked<'_>,
+    units: &[Unit],
+    names: &[Name],
+    head: usize,
+) -> Result<Table, Memory>
     requires head { head < length units.now }
     requires names { names.now ≡ map unit_name (map procedure_of units.now) }
     requires apart { AreApart names.now }
-    ensures table { IfOk result (λ t. (h : Procedure) → unit_at head (map procedure_of units.now) ≡ h ∷ [] → IsTable (map procedure_of units.now) h t) }
+    ensures table { IfOk result (λ t. (h : Procedure) → unit_at head (map procedure_of units.now) ≡ h ∷ [] → IsTable (program_marks marked.now) (map procedure_of units.now) h t) }
 {
     let variables = all_variables(alloc, units)?;
     let source = source_names(alloc, names, variables.as_slice())?;
     let adjoints = adjoint_names(alloc, units, &source)?;
     let numbers = first_statements(alloc, units)?;
-    let found = found_by_names(alloc, units, names, head)?;
+    let found = found_by_names(alloc, marked, units, names, head)?;
     Ok(Table {
         variables,
         adjoints,
@@ -101,8 +110,8 @@ fn all_names(alloc: Global, units: &[Unit], table: &Table) -> Result<Vec<Name>, 
 // The adjoint of a unit as it is emitted: only the head's sets shadows to 0.
 fn emitted_adjoint(alloc: Global, shared: &Shared, part: &Part, aim: &Aim) -> Result<Unit, Memory>
     requires ready { IsReady shared.now aim.now }
-    requires part { IsPart (sources shared.now) part.now }
-    ensures unit { IfOk result (λ u. procedure_of u ≡ emitted_adjoint full_marks (sources shared.now) (head_of aim.now) aim.now.vars.now aim.now.outvars.now (procedure_of part.now.unit.now)) }
+    requires part { IsPart (marks_for shared.now) (sources shared.now) part.now }
+    ensures unit { IfOk result (λ u. procedure_of u ≡ emitted_adjoint (marks_for shared.now) (sources shared.now) (head_of aim.now) aim.now.vars.now aim.now.outvars.now (procedure_of part.now.unit.now)) }
 {
     if !aim.head.name.equals(&part.unit.name) {
         let other = adjoint_unit(alloc, shared, part, &[], &[])?;
@@ -110,9 +119,9 @@ fn emitted_adjoint(alloc: Global, shared: &Shared, part: &Part, aim: &Aim) -> Re
     }
     let dummies = part.unit.dummies.as_slice();
     let turned = unmarked(alloc, dummies, aim.outvars)?;
-    let at_turn = shadowed(alloc, &Marking::Full, turned.as_slice())?;
+    let at_turn = shadowed(alloc, &part.marking, turned.as_slice())?;
     let ended = unmarked(alloc, dummies, aim.vars)?;
-    let at_end = shadowed(alloc, &Marking::Full, ended.as_slice())?;
+    let at_end = shadowed(alloc, &part.marking, ended.as_slice())?;
     let made = adjoint_unit(alloc, shared, part, at_turn.as_slice(), at_end.as_slice())?;
     Ok(made)
 }
@@ -142,8 +151,8 @@ fn add_adjoint(
     made: &mut Vec<Unit>,
 ) -> Result<(), Memory>
     requires ready { IsReady shared.now aim.now }
-    requires part { IsPart (sources shared.now) part.now }
-    ensures units { OnOk result (map procedure_of made.new.items ≡ map procedure_of made.old.items ++ only_if adjointed (emitted_adjoint full_marks (sources shared.now) (head_of aim.now) aim.now.vars.now aim.now.outvars.now (procedure_of part.now.unit.now))) }
+    requires part { adjointed ≡ true → IsPart (marks_for shared.now) (sources shared.now) part.now }
+    ensures units { OnOk result (map procedure_of made.new.items ≡ map procedure_of made.old.items ++ only_if adjointed (emitted_adjoint (marks_for shared.now) (sources shared.now) (head_of aim.now) aim.now.vars.now aim.now.outvars.now (procedure_of part.now.unit.now))) }
 {
     if adjointed {
         made.push(emitted_adjoint(alloc, shared, part, aim)?)?;
@@ -161,8 +170,8 @@ fn add_unit(
     made: &mut Vec<Unit>,
 ) -> Result<(), Memory>
     requires ready { IsReady shared.now aim.now }
-    requires part { IsPart (sources shared.now) part.now }
-    ensures units { OnOk result (map procedure_of made.new.items ≡ map procedure_of made.old.items ++ emitted_for emits (sources shared.now) aim.now (procedure_of part.now.unit.now)) }
+    requires part { emits.adjointed ≡ true → IsPart (marks_for shared.now) (sources shared.now) part.now }
+    ensures units { OnOk result (map procedure_of made.new.items ≡ map procedure_of made.old.items ++ emitted_for (marks_for shared.now) emits (sources shared.now) aim.now (procedure_of part.now.unit.now)) }
 {
     add_carried(alloc, part.unit, emits.carried, made)?;
     add_adjoint(alloc, shared, part, aim, emits.adjointed, made)?;
@@ -172,8 +181,10 @@ fn add_unit(
 // Each unit as it is, where it is carried, and then its adjoint, where it has one.
 fn emitted(alloc: Global, shared: &Shared, table: &Table, aim: &Aim) -> Result<Vec<Unit>, Memory>
     requires ready { IsReady shared.now aim.now }
-    requires table { IsTable (sources shared.now) (head_of aim.now) table.now }
-    ensures units { IfOk result (λ v. map procedure_of v.items ≡ emitted_units full_marks (sources shared.now) (head_of aim.now) aim.now.vars.now aim.now.outvars.now (sources shared.now)) }
+    requires flow { IsOver shared.now.marked (sources shared.now) aim.now.number }
+    requires head { unit_at aim.now.number (sources shared.now) ≡ head_of aim.now ∷ [] }
+    requires table { IsTable (marks_for shared.now) (sources shared.now) (head_of aim.now) table.now }
+    ensures units { IfOk result (λ v. map procedure_of v.items ≡ emitted_units (marks_for shared.now) (sources shared.now) (head_of aim.now) aim.now.vars.now aim.now.outvars.now (sources shared.now)) }
 {
     let units = shared.units;
     let carried = table.found.carried.as_slice();
@@ -185,6 +196,7 @@ fn emitted(alloc: Global, shared: &Shared, table: &Table, aim: &Aim) -> Result<V
     for (k, unit) in units.iter().enumerate() {
         let part = Part {
             unit,
+            marking: shared.marked.of_unit(k),
             variables: variables[k].as_slice(),
             adjoint: &adjoints[k],
             number: numbers[k],
@@ -198,24 +210,33 @@ fn emitted(alloc: Global, shared: &Shared, table: &Table, aim: &Aim) -> Result<V
     Ok(made)
 }
 
-/// The program that is emitted for a head of a checked program in kernel form, with full marks.
-pub fn adjoint(alloc: Global, program: &Program, head: &Head) -> Result<Program, Memory>
+/// The program that is emitted for a head of a checked program in kernel form, by these marks, whose shadows are there: with full
+/// marks they are.
+pub fn adjoint(
+    alloc: Global,
+    program: &Program,
+    head: &Head,
+    marked: Marked<'_>,
+) -> Result<Program, Memory>
     requires head { head.now.unit < length program.now.units }
     requires checked { IsCheckedBySome (procedures_of program.now) }
-    ensures emitted { IfOk result (λ p. procedures_of p ≡ emitted_program full_marks (procedures_of program.now) head.now.unit head.now.vars head.now.outvars) }
+    requires flow { IsOver marked (procedures_of program.now) head.now.unit }
+    requires shadows { AllHaveShadows (program_marks marked) (procedures_of program.now) (procedures_of program.now) }
+    ensures emitted { IfOk result (λ p. procedures_of p ≡ emitted_program (program_marks marked.entry) (procedures_of program.now) head.now.unit head.now.vars head.now.outvars) }
 {
     let units = program.units.as_slice();
     let number = head.unit;
     let own = unit_names(alloc, units)?;
     let names = own.as_slice();
-    let table = tabulated(alloc, units, names, number)?;
+    let table = tabulated(alloc, &marked, units, names, number)?;
     let adjoints = table.adjoints.as_slice();
-    let callees = known_callees(alloc, units, names, adjoints)?;
+    let callees = known_callees(alloc, &marked, units, names, adjoints)?;
     let all = all_names(alloc, units, &table)?;
     let listed = all.as_slice();
     let taken = not_free(alloc, listed)?;
     let shared = Shared {
         units,
+        marked,
         callees: &callees,
         names: listed,
         taken: &taken,
@@ -223,6 +244,7 @@ pub fn adjoint(alloc: Global, program: &Program, head: &Head) -> Result<Program,
     let vars = head.vars.as_slice();
     let outvars = head.outvars.as_slice();
     let aim = Aim {
+        number,
         head: &units[number],
         vars,
         outvars,

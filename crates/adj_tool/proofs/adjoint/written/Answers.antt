@@ -1,5 +1,6 @@
 use Rattle.std.proofs.Common.{ap, ◌∙◌}
 use Rattle.adj_tree.specs.View.{procedures_of}
+use Rattle.adj_emitted.proofs.Programs.{full_shadows}
 use Rattle.adj_tool.proofs.Heads.{kernel_head, kernel_is_checked, emitted_same, emitted_reads}
 use Rattle.adj_tool.proofs.adjoint.written.Goals as goal
 
@@ -11,6 +12,9 @@ adjoint-requires-clause-head c =
 pub adjoint-requires-clause-checked : goal.adjoint-requires-clause-checked
 adjoint-requires-clause-checked c =
     kernel_is_checked (procedures_of c.args.program.now) c.program-lowered.result.now (ap procedures_of c.program-lowered.ensures.program ∙ c.in_ok-kernel.ensures.kernel) c.requires.accepted
+
+pub adjoint-requires-clause-shadows : goal.adjoint-requires-clause-shadows
+adjoint-requires-clause-shadows c = let ps = procedures_of c.program-lowered.result.now in full_shadows ps ps
 
 pub returns-clause-reads_back : goal.returns-clause-reads_back
 returns-clause-reads_back c =

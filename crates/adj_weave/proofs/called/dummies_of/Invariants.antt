@@ -1,7 +1,7 @@
 -- The dummies passed are made.
-use Rattle.std.proofs.Common.{◌≡◌, ◌++◌, map, drop}
-use Rattle.adj_weave.specs.Orders.{dummy_with}
+use Rattle.std.proofs.Common.{◌≡◌, ◌++◌, drop}
+use Rattle.adj_weave.specs.Orders.{dummies_said}
 use Rattle.adj_weave.proofs.called.dummies_of.Given as goal
 
-abbrev pub invariant-loop-written : goal.invariant-loop-written
-invariant-loop-written l = l.made.items ++ map dummy_with (drop l.written-index l.written) ≡ map dummy_with l.written
+abbrev pub invariant-loop-k : goal.invariant-loop-k
+invariant-loop-k l = l.made.items ++ dummies_said l.marked l.place (drop l.k l.names) (drop l.k l.written) ≡ dummies_said l.marked l.place l.names l.written

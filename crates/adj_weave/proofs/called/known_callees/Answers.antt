@@ -10,14 +10,19 @@ use Rattle.adj_naming.specs.Sets.{all_added}
 use Rattle.adj_naming.proofs.Added.{all_once}
 use Rattle.adj_helpers.specs.declared.callees.Callees.{Callees}
 use Rattle.adj_weave.specs.Orders.{said_of}
-use Rattle.adj_weave.proofs.Known.{all_known, rows_written}
+use Rattle.adj_weave.proofs.Known.{all_known, knows_has, rows_written}
 use Rattle.adj_weave.proofs.called.known_callees.Goals as goal
 
 pub known_units-requires : goal.known_units-requires
 known_units-requires c =
     let ps = map procedure_of c.args.units.now in
     let rows = c.as_slice.ensures.value ∙ c.in_ok-written.ensures.written ∙ rows_written ps in
-    record { same = ap length c.requires.adjoints ∙ length-map ps (adjoint_name ps) ∙ sym (length-map ps (λ (u : Procedure). map (is_written ps u) u.dummies)) ∙ sym (ap length rows) }
+    let many : length ps ≡ length c.args.units.now = length-map c.args.units.now procedure_of in
+    record {
+      units = knows_has c.args.marked.now c.args.units.now c.requires.units;
+      named = ap length c.requires.adjoints ∙ length-map ps (adjoint_name ps) ∙ many;
+      told = ap length rows ∙ length-map ps (λ (u : Procedure). map (is_written ps u) u.dummies) ∙ many;
+    }
 
 pub returns : goal.returns
 returns c =
@@ -27,7 +32,7 @@ returns c =
     c.in_ok-add_names.ensures.added ∙ ap (λ s. all_added s c.args.names.now) c.new-set.ensures.empty ∙ all_once c.args.names.now c.requires.apart ∙ c.requires.names in
     let all : Callees = record { names = c.add_names.new.set; known = c.in_ok-known.known; other = record { adjoint = c.in_ok-from_slice.field-0; dummies = c.new.result } } in
     record {
-      known = all_known ps (subst AreApart c.requires.names c.requires.apart) all set
-          (c.in_ok-known.ensures.known ∙ (λ i. said_of (c.requires.adjoints i) (rows i)))
+      known = all_known c.args.marked.now ps c.requires.units (subst AreApart c.requires.names c.requires.apart) all set
+          (c.in_ok-known.ensures.known ∙ (λ i. said_of c.args.marked.now 0 ps (c.requires.adjoints i) (rows i)))
           c.in_ok-from_slice.ensures.bytes c.new.ensures.items;
     }

@@ -1,0 +1,144 @@
+//! By which marks a program's adjoint is emitted (docs/EMITTED.md, "Sweeps of every statement").
+
+ghost use Rattle.std.specs.Prelude.{◌≡◌, ◌+◌, ◌*◌, ◌<◌, IfOk, length};
+ghost use Rattle.adj_tree.specs.Code.{plain};
+ghost use Rattle.adj_reach.specs.Edges.{flag};
+ghost use Rattle.adj_flow.specs.Told.{told_of};
+ghost use Rattle.adj_marking.specs.View.{found_marks, marks_of};
+ghost use Rattle.adj_weave.specs.Lending.{ExactHaveShadows};
+ghost use Rattle.adj_weave.specs.Marked.{scope_in, marks_at, dummy_told, program_marks, unit_marks, unit_dummy, HasUnits};
+
+use adj_flow::{End, Flow, told};
+use adj_helpers::callees::Dummy;
+use adj_marking::{Found, Marking};
+use adj_reach::flag_at;
+use adj_tree::{Marks, Memory, Name};
+
+/// What analyses found, by flags over the flow of the program.
+#[derive(Clone, Copy)]
+pub struct FoundMarks<'a> {
+    pub marks: &'a Marks,
+    pub flow: &'a Flow<'a>,
+}
+
+// The flag at twice a number.
+fn flag_at_twice(flags: &[bool], number: usize) -> bool
+    ensures { result ≡ flag flags.now (2 * number) }
+{
+    match number.checked_mul(2) {
+        Some(node) => flag_at(flags, node),
+        None => false,
+    }
+}
+
+impl<'a> FoundMarks<'a> {
+    // Whether the flag of a variable of a unit is set, and the unit takes part.
+    fn told(&self, flags: &[bool], unit: usize, name: &Name) -> Result<bool, Memory>
+        requires unit { unit < length self.now.flow.now.parts.items }
+        ensures told { IfOk result (λ b. b ≡ told_of flags.now (scope_in self.now.flow.now) self.now.flow.now.width unit (plain name.now)) }
+    {
+        if !flag_at(self.flow.taking.as_slice(), unit) {
+            return Ok(false);
+        }
+        let parts = self.flow.parts.as_slice();
+        let end = End {
+            part: &parts[unit],
+            point: unit,
+            name,
+        };
+        let flag = told(flags, self.flow.width, end)?;
+        Ok(flag)
+    }
+
+    // What the sweeps of calls know of a dummy of a unit.
+    fn dummy(&self, unit: usize, name: &Name, written: bool) -> Result<Dummy, Memory>
+        requires unit { unit < length self.now.flow.now.parts.items }
+        ensures dummy { IfOk result (λ d. d ≡ dummy_told self.now.flow.now self.now.marks.now unit name.now written) }
+    {
+        let member = self.told(self.marks.kept.entry.as_slice(), unit, name)?;
+        let shadowed = self.told(self.marks.activity.shadowed.as_slice(), unit, name)?;
+        Ok(Dummy {
+            written,
+            member,
+            shadowed,
+        })
+    }
+
+    // The marks as a unit sees them.
+    fn of_unit(&self, unit: usize) -> Found<'a>
+        requires unit { unit < length self.now.flow.now.parts.items }
+        ensures marks { found_marks result ≡ marks_at self.now.flow.now self.now.marks.now unit }
+    {
+        let parts = self.flow.parts.as_slice();
+        Found {
+            marks: self.marks,
+            unit,
+            places: &parts[unit].places,
+            width: self.flow.width,
+        }
+    }
+}
+
+/// By which marks a program's adjoint is emitted.
+#[derive(Clone, Copy)]
+pub enum Marked<'a> {
+    /// Everything is marked.
+    Full,
+    /// What analyses found is marked.
+    Found(FoundMarks<'a>),
+}
+
+impl<'a> Marked<'a> {
+    /// Whether the forward sweep repeats the statement.
+    pub fn kept(&self, number: usize) -> bool
+        ensures kept { result ≡ (program_marks self.now).kept number }
+    {
+        match self {
+            Marked::Full => true,
+            Marked::Found(found) => flag_at(found.marks.kept.kept.as_slice(), number),
+        }
+    }
+
+    /// Whether the backward sweep has the adjoint of the statement.
+    pub fn adjointed(&self, number: usize) -> bool
+        ensures adjointed { result ≡ (program_marks self.now).adjointed number }
+    {
+        match self {
+            Marked::Full => true,
+            Marked::Found(found) => {
+                flag_at_twice(found.marks.activity.adjointed.as_slice(), number)
+            }
+        }
+    }
+
+    /// The marks as the unit of a number sees them.
+    pub fn of_unit(&self, unit: usize) -> Marking<'a>
+        requires unit { HasUnits self.now (unit + 1) }
+        ensures marks { marks_of result ≡ unit_marks self.now unit }
+    {
+        match self {
+            Marked::Full => Marking::Full,
+            Marked::Found(found) => Marking::Found(found.of_unit(unit)),
+        }
+    }
+
+    /// What the sweeps of calls know of a dummy of the unit of a number, which the unit writes or not.
+    pub fn dummy(&self, unit: usize, name: &Name, written: bool) -> Result<Dummy, Memory>
+        requires unit { HasUnits self.now (unit + 1) }
+        ensures dummy { IfOk result (λ d. d ≡ unit_dummy self.now unit name.now written) }
+    {
+        match self {
+            Marked::Full => Ok(Dummy {
+                written,
+                member: true,
+                shadowed: true,
+            }),
+            Marked::Found(found) => found.dummy(unit, name, written),
+        }
+    }
+}
+
+/// By the adjoints and shadows of an exact activity, the shadows that are used are there.
+pub fn shadows_law()
+    ensures shadows { ExactHaveShadows }
+{}
