@@ -1,16 +1,16 @@
 -- What is emitted for a unit is the same by marks that say the same of it.
 use Rattle.std.proofs.Common.{◌≡◌, ℕ, suc, List, [], ◌∷◌, ◌++◌, Bool, refl, ap, if◌then◌else◌}
 use Rattle.std.specs.Prelude.{◌&&◌, ◌||◌, ◌==◌, not, max}
-use Rattle.adj_tree.specs.Code.{Var, plain, shadow, helper, Role, work, temp, control, first, stride, count, turn, none, Act, assign, choose, loop, during, call, runtime, push_word, pop_word, zero_array, Code, stop, step}
+use Rattle.adj_tree.specs.Code.{plain, shadow, helper, Role, work, temp, control, first, stride, count, turn, none, Act, assign, choose, loop, during, call, runtime, push_word, pop_word, zero_array, Code, stop, step}
 use Rattle.adj_meaning.specs.Append.{◌+++◌, one}
-use Rattle.adj_transpose.specs.Marks.{Vars, Marks, next, behind, point_before}
+use Rattle.adj_transpose.specs.Marks.{Vars, Marks, next, behind}
 use Rattle.adj_transpose.specs.Marked.{code_if}
 use Rattle.adj_transpose.specs.Program.{helpers_from}
 use Rattle.adj_reverse.specs.AdjointOf.{adjoint_where, works_in_where, temps_in_where}
 use Rattle.adj_reverse.specs.Plan.{Callee, Plan, names_of, group, snapshot_group}
 use Rattle.adj_reverse.specs.Emission.{is_empty, push, pop, pushes, pops, literal, told_forward, told_backward, loop_forward, loop_backward, while_forward, while_backward, adjoint_call, forward_act, forward, backward_act, backward, cleared, adjoint_body}
 use Rattle.adj_reverse.specs.Program.{works_act, works_used, temps_act, temps_used, depth_act, depth_used, tells_act, tells_some, goes_back_act, goes_back, is_do, is_loop, helpers_among, loop_helpers, helpers_used}
-use Rattle.adj_weave.specs.Alike.{AreSameAt, AreSameIn, AreSameOver, AreAlike}
+use Rattle.adj_weave.specs.Alike.{AreSameAt, AreSameIn, AreSameOver}
 
 module _ (m n : Marks) (shadows : m.shadowed ≡ n.shadowed) where
   -- ---- work variables and temporaries

@@ -1,5 +1,5 @@
 -- What flags tell of a unit is what they tell of the program there.
-use Rattle.std.proofs.Common.{◌≡◌, ◌⊎◌, inl, inr, ℕ, suc, ◌+◌, ◌*◌, ◌<◌, ◌≤◌, ◌==◌, Bool, true, false, List, [], ◌∷◌, ◌++◌, map, length, get_or, refl, sym, ap, ◌∙◌, subst, arith, if◌then◌else◌}
+use Rattle.std.proofs.Common.{◌≡◌, ◌⊎◌, inl, inr, ℕ, suc, ◌+◌, ◌*◌, ◌<◌, ◌≤◌, ◌==◌, Bool, true, false, List, [], ◌∷◌, ◌++◌, map, length, refl, sym, ap, ◌∙◌, subst, arith, if◌then◌else◌}
 use Rattle.std.specs.Prelude.{Contains, filter, Option, Some, None, slice_index_or}
 use Rattle.std.proofs.lemmas.List.Elements.{Contains-append_left, Contains-append_right}
 use Rattle.adj_tree.specs.Code.{Role, Var, plain, shadow, helper, Act, assign, choose, loop, during, call, runtime, Code, stop, step, Procedure}
@@ -13,7 +13,7 @@ use Rattle.adj_reverse.specs.Program.{has_adjoint}
 use Rattle.adj_facts.specs.Parts.{Part, part, parts_from, parts, statements_in}
 use Rattle.adj_facts.specs.Standing.{Place, outermost, part_of, body_of, Standing, held_in, standing}
 use Rattle.adj_facts.specs.Problem.{statements_of}
-use Rattle.adj_facts.specs.Rules.{Scope, Covers}
+use Rattle.adj_facts.specs.Rules.{Covers}
 use Rattle.adj_facts.proofs.Members.{is_first, is_later, is_among, is_none}
 use Rattle.adj_facts.proofs.OwnPoints.{own_before}
 use Rattle.adj_facts.proofs.Sameness.{numbers_same}

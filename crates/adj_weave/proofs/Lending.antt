@@ -20,7 +20,7 @@ use Rattle.adj_checked.proofs.Statements.{CallHasNone, call_of_unit}
 use Rattle.adj_emitted.specs.Shadowed.{AreCarried, HasShadows', HasShadows, AllHaveShadows}
 use Rattle.adj_emitted.proofs.Actuals.{named_back}
 use Rattle.adj_facts.specs.Reached.{begins, leads}
-use Rattle.adj_facts.specs.Parts.{Part, part, parts_from, parts, statements_in, find_part}
+use Rattle.adj_facts.specs.Parts.{Part, part, parts_from, parts, statements_in}
 use Rattle.adj_facts.specs.Standing.{Place, outermost, part_of, body_of, Standing, held_in, standing}
 use Rattle.adj_facts.specs.Problem.{Problem, statements_of, CallsUnit, TakesPart, bound}
 use Rattle.adj_facts.specs.Activity as activity

@@ -9,7 +9,7 @@ use Rattle.adj_reverse.specs.Marking.{marks_in, first_statement, place_from}
 use Rattle.adj_reverse.specs.Program.{has_adjoint}
 use Rattle.adj_weave.specs.declared.marks.Marked.{Marked}
 use Rattle.adj_weave.specs.declared.marks.Marked.TheVariants as by
-use Rattle.adj_weave.specs.Alike.{AreSameAt, AreSameIn, AreSameOver, AreAlike}
+use Rattle.adj_weave.specs.Alike.{AreSameIn, AreSameOver, AreAlike}
 use Rattle.adj_weave.specs.Marked.{program_marks, unit_marks, IsOver}
 use Rattle.adj_weave.proofs.Flagged.{unit_alike}
 

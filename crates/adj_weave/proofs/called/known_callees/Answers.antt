@@ -1,4 +1,4 @@
-use Rattle.std.proofs.Common.{◌≡◌, ◌∙◌, map, length, ap, sym, subst}
+use Rattle.std.proofs.Common.{◌≡◌, ◌∙◌, map, length, ap, subst}
 use Rattle.std.proofs.lemmas.List.{length-map}
 use Rattle.adj_tree.specs.Code.{Procedure}
 use Rattle.adj_tree.specs.View.{procedure_of}
