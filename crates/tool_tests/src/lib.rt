@@ -14,6 +14,8 @@ mod emitted;
 #[cfg(test)]
 mod heads;
 #[cfg(test)]
+mod hostile_runs;
+#[cfg(test)]
 mod limits;
 #[cfg(test)]
 mod long;
