@@ -1,0 +1,3 @@
+-- the lemmas of the crate
+pub mod Unmarked
+pub mod Planned

@@ -1,0 +1,47 @@
+-- What holds of what is emitted by the marks of exact analyses.
+use Rattle.std.proofs.Common.{arith, ℕ, ◌≤◌, List, Bool, false, refl}
+use Rattle.adj_tree.specs.Code.{Procedure}
+use Rattle.adj_transpose.specs.Marks.{Vars}
+use Rattle.adj_names.specs.Fault.{run_rules}
+use Rattle.adj_names.specs.HeadFaults.{unit_number}
+use Rattle.adj_names.proofs.Lines.{sound_lines}
+use Rattle.adj_reverse.proofs.Lines.{other_lines}
+use Rattle.adj_kernel.specs.Stepped.{kernel_of}
+use Rattle.adj_kernel.specs.Sound.{IsAccepted}
+use Rattle.adj_kernel.proofs.WholeKernels.{whole_units}
+use Rattle.adj_emitted.specs.Shadowed.{AllHaveShadows}
+use Rattle.adj_emitted.proofs.Programs.{marked_written}
+use Rattle.adj_emitted.proofs.SoundPrograms.{marked_sound}
+use Rattle.adj_accepted.proofs.Kernels.{kernel_checked, numbered}
+use Rattle.adj_accepted.proofs.Through.{kernels_adjoint}
+use Rattle.adj_facts.specs.Activity.{Activity}
+use Rattle.adj_facts.specs.Live.{Liveness}
+use Rattle.adj_facts.specs.Laws.{Analysed}
+use Rattle.adj_analysed.proofs.Adjoint.{analysed_is_adjoint}
+use Rattle.adj_weave.proofs.Lending.{exact_shadows}
+use Rattle.adj_planned.specs.Planned.{kernel_problem, planned_for, marks_by, PlannedIsAdjoint, PlannedIsWritten, PlannedIsSound}
+use Rattle.adj_planned.proofs.Unmarked.{kernel_unmarked}
+
+shadows : (ps : List Procedure) → IsAccepted ps → (name : List ℕ) (vars outvars : List Bool) (a : Activity) (l : Liveness) (saved held : ℕ → Vars) → Analysed (kernel_problem ps name vars outvars) a l saved held →
+    AllHaveShadows (marks_by ps a l saved held) (kernel_of ps) (kernel_of ps)
+shadows ps y name vars outvars a l saved held x = exact_shadows run_rules (kernel_problem ps name vars outvars) (kernel_checked ps y) a x.active (marks_by ps a l saved held) refl (λ n. refl)
+
+pub is_adjoint : PlannedIsAdjoint
+is_adjoint ps y none name u found vars outvars a l saved held x qs same =
+    let k = whole_units ps name u found in
+    let n = unit_number (kernel_of ps) name in
+    let m = marks_by ps a l saved held in
+    kernels_adjoint (λ line. false) m ps y name u found vars outvars qs
+    (other_lines (λ line. false) m (kernel_of ps) (planned_for ps name vars outvars m) qs n vars outvars same
+    (analysed_is_adjoint run_rules (kernel_problem ps name vars outvars) (kernel_checked ps y) (kernel_unmarked ps none) a l saved held x k.becomes (numbered (kernel_of ps) name k.becomes k.found).1))
+
+pub is_written : PlannedIsWritten
+is_written ps y name vars outvars a l saved held x =
+    marked_written run_rules (kernel_of ps) (kernel_checked ps y) (marks_by ps a l saved held) (shadows ps y name vars outvars a l saved held x) (unit_number (kernel_of ps) name) vars outvars
+
+pub is_sound : PlannedIsSound
+is_sound ps y name vars outvars a l saved held x qs same =
+    let few : run_rules.chain ≤ run_rules.chain = omega arith in
+    let m = marks_by ps a l saved held in
+    sound_lines run_rules (planned_for ps name vars outvars m) qs same
+    (marked_sound run_rules (kernel_of ps) (kernel_checked ps y) few m (shadows ps y name vars outvars a l saved held x) (unit_number (kernel_of ps) name) vars outvars)

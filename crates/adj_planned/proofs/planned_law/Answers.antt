@@ -1,0 +1,11 @@
+use Rattle.adj_planned.proofs.Planned.{is_adjoint, is_written, is_sound}
+use Rattle.adj_planned.proofs.planned_law.Goals as goal
+
+pub returns-clause-adjoint : goal.returns-clause-adjoint
+returns-clause-adjoint c = is_adjoint
+
+pub returns-clause-written : goal.returns-clause-written
+returns-clause-written c = is_written
+
+pub returns-clause-sound : goal.returns-clause-sound
+returns-clause-sound c = is_sound
