@@ -1,9 +1,11 @@
 //! The marks of a program: what all analyses say of it.
 //!
-//! `plan` finds what is active, then what is live by that, then what is to be recorded by both. The crate stands on the three analyses;
-//! the layers above use that together they are exact (`specs/Asked.antt`), so that they meet the laws that the sweeps ask for.
+//! `plan` makes the flow of a checked program, finds what is active, then what is live by that, then what is to be recorded by both.
+//! The crate stands on the three analyses and on checked programs; the layers above use that together the marks are exact
+//! (`specs/Asked.antt`), so that they meet the laws that the sweeps ask for.
 #![tactic(auto)]
 
+mod lists;
 mod planning;
 
-pub use planning::plan;
+pub use planning::{Planned, plan};

@@ -1,22 +1,32 @@
 //! All marks of a program.
 
-ghost use Rattle.std.specs.Prelude.{◌≡◌, IfOk, map};
+ghost use Rattle.std.specs.Prelude.{◌≡◌, ◌<◌, IfOk, length, map};
+ghost use Rattle.adj_tree.specs.View.{procedures_of};
 ghost use Rattle.adj_meaning.specs.LeastSet.{least_rows};
 ghost use Rattle.adj_meaning.specs.Read.{read_rule};
 ghost use Rattle.adj_meaning.specs.Written.{write_rule};
+ghost use Rattle.adj_symbols.specs.Numbers.{Fits};
 ghost use Rattle.adj_flow.specs.Asked.{IsFlow, problem_of, units_of};
 ghost use Rattle.adj_plan.specs.Asked.{IsPlan};
 
-use adj_activity::activity;
+use crate::lists::{reads, variables, writes};
+use adj_activity::{activity, flow};
 use adj_flow::Flow;
 use adj_live::{Sides, live};
+use adj_symbols::Checked;
 use adj_tbr::tbr;
 use adj_tree::{Head, Marks, Memory};
 use std::alloc::Global;
 
-/// The marks of the program of which this is the flow, for a head: its activity, the statements that the forward sweep keeps with the
-/// dummies that are wanted at entries, and the values that are saved.
-pub fn plan(alloc: Global, flow: &Flow<'_>, sides: Sides<'_>, head: &Head) -> Result<Marks, Memory>
+/// The marks of a program, and its flow, over which their flags are numbered.
+#[derive(Drop)]
+pub struct Planned<'c> {
+    pub flow: Flow<'c>,
+    pub marks: Marks,
+}
+
+// The marks of the program of which this is the flow.
+fn marks(alloc: Global, flow: &Flow<'_>, sides: Sides<'_>, head: &Head) -> Result<Marks, Memory>
     requires flow { IsFlow flow.now head.now.unit }
     requires read { map (λ b. b.now) sides.read.now ≡ least_rows read_rule (units_of flow.now) }
     requires written { map (λ b. b.now) sides.written.now ≡ least_rows write_rule (units_of flow.now) }
@@ -30,4 +40,26 @@ pub fn plan(alloc: Global, flow: &Flow<'_>, sides: Sides<'_>, head: &Head) -> Re
         kept,
         saved,
     })
+}
+
+/// The marks of a checked program that fits, for a head: its activity, the statements that the forward sweep keeps with the dummies that
+/// are wanted at entries, and the values that are saved.
+pub fn plan<'c>(alloc: Global, checked: &'c Checked, head: &Head) -> Result<Planned<'c>, Memory>
+    requires fits { Fits checked.now }
+    requires head { head.now.unit < length checked.now.program.units }
+    ensures units { IfOk result (λ p. units_of p.flow ≡ procedures_of checked.now.program) }
+    ensures flow { IfOk result (λ p. IsFlow p.flow head.now.unit) }
+    ensures plan { IfOk result (λ p. IsPlan p.flow (problem_of p.flow head.now) p.marks) }
+{
+    let variables = variables(alloc, checked)?;
+    let reads = reads(alloc, checked)?;
+    let writes = writes(alloc, checked)?;
+    let units = checked.program().units.as_slice();
+    let flow = flow(alloc, units, variables.as_slice(), head.unit)?;
+    let sides = Sides {
+        read: reads.as_slice(),
+        written: writes.as_slice(),
+    };
+    let marks = marks(alloc, &flow, sides, head)?;
+    Ok(Planned { flow, marks })
 }

@@ -8,5 +8,3 @@
 mod activities;
 #[cfg(test)]
 mod plans;
-#[cfg(test)]
-mod sides;

@@ -1,11 +1,8 @@
 //! A table of texts with all marks of their programs, worked out by hand (docs/ANALYSES.md).
 
-use crate::activities::{flags, read, variables};
-use crate::sides::{reads, writes};
-use adj_activity::flow;
+use crate::activities::{flags, read};
 use adj_fixed::Mode;
 use adj_flow::{Flow, Part};
-use adj_live::Sides;
 use adj_plan::plan;
 use adj_symbols::{Checked, check};
 use adj_tree::{Fault, Flags, Head, Marks, Memory, Name};
@@ -258,20 +255,11 @@ fn shown(alloc: Global, flow: &Flow<'_>, marks: &Marks) -> Result<Vec<u8>, Memor
 
 // The marks of a checked program, whose first unit is the head.
 fn answer(alloc: Global, checked: &Checked, head: &Head) -> Result<Vec<u8>, Memory> {
-    let variables = variables(alloc, checked)?;
-    let reads = reads(alloc, checked)?;
-    let writes = writes(alloc, checked)?;
-    let units = checked.program().units.as_slice();
-    if head.unit >= units.len() || units.len() == usize::MAX {
+    if head.unit >= checked.program().units.as_slice().len() || !checked.fits() {
         return Ok(Vec::new(alloc));
     }
-    let flow = flow(alloc, units, variables.as_slice(), head.unit)?;
-    let sides = Sides {
-        read: reads.as_slice(),
-        written: writes.as_slice(),
-    };
-    let marks = plan(alloc, &flow, sides, head)?;
-    shown(alloc, &flow, &marks)
+    let planned = plan(alloc, checked, head)?;
+    shown(alloc, &planned.flow, &planned.marks)
 }
 
 // The marks of the program of a text.

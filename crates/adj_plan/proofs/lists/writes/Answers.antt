@@ -1,8 +1,8 @@
 use Rattle.std.proofs.Common.{◌≡◌, ◌<◌, ◌≤◌, ◌++◌, ◌∷◌, [], length, map, take, ap, sym, ◌∙◌, subst, add-one}
 use Rattle.std.proofs.Math.Seq.{take-suc}
 use Rattle.std.proofs.lemmas.List.{map-append, take_all}
-use Rattle.analysis_tests.proofs.Rows.{writes_each}
-use Rattle.analysis_tests.proofs.sides.writes.Goals as goal
+use Rattle.adj_plan.proofs.Rows.{writes_each}
+use Rattle.adj_plan.proofs.lists.writes.Goals as goal
 
 pub loop-unit-preserved : goal.loop-unit-preserved
 loop-unit-preserved c =

@@ -1,8 +1,8 @@
 use Rattle.std.proofs.Common.{◌≡◌, ◌<◌, ◌≤◌, ◌++◌, ◌∷◌, [], length, map, take, ap, sym, ◌∙◌, subst, add-one}
 use Rattle.std.proofs.Math.Seq.{take-suc}
 use Rattle.std.proofs.lemmas.List.{map-append, take_all}
-use Rattle.analysis_tests.proofs.Rows.{reads_each}
-use Rattle.analysis_tests.proofs.sides.reads.Goals as goal
+use Rattle.adj_plan.proofs.Rows.{reads_each}
+use Rattle.adj_plan.proofs.lists.reads.Goals as goal
 
 pub loop-unit-preserved : goal.loop-unit-preserved
 loop-unit-preserved c =

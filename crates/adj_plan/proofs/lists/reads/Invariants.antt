@@ -1,6 +1,6 @@
 -- The rows of the units passed.
 use Rattle.std.proofs.Common.{◌≡◌, map, take}
-use Rattle.analysis_tests.proofs.sides.reads.Given as goal
+use Rattle.adj_plan.proofs.lists.reads.Given as goal
 
 abbrev pub invariant-loop-unit : goal.invariant-loop-unit
 invariant-loop-unit l = map (λ b. b.now) l.reads.items ≡ take l.unit l.checked.reads

@@ -1,4 +1,4 @@
--- Each unit has a row of dummies that it reads, and one of those that it writes.
+-- Each unit has its variables, a row of dummies that it reads, and one of those that it writes.
 use Rattle.std.proofs.Common.{◌≡◌, ℕ, zero, suc, false, length, map, ap, ◌∙◌}
 use Rattle.std.specs.Prelude.{List}
 use Rattle.std.proofs.lemmas.List.{length-map}
@@ -7,6 +7,7 @@ use Rattle.adj_tree.specs.View.{procedure_of, procedures_of}
 use Rattle.adj_meaning.specs.LeastSet.{Rule, row_of, rounds, dummies_in_all, least_rows}
 use Rattle.adj_meaning.specs.Read.{read_rule}
 use Rattle.adj_meaning.specs.Written.{write_rule}
+use Rattle.adj_names.specs.Variables.{variables}
 use Rattle.adj_symbols.specs.Checked.{Known, AreFacts}
 
 rounds_each : (rule : Rule) (ps : List Procedure) (n : ℕ) → length (rounds rule ps n) ≡ length ps
@@ -21,3 +22,6 @@ reads_each k f = ap length f.reads ∙ rows_each read_rule (procedures_of k.prog
 
 pub writes_each : (k : Known) → AreFacts k → length k.writes ≡ length k.program.units
 writes_each k f = ap length f.writes ∙ rows_each write_rule (procedures_of k.program) ∙ length-map k.program.units procedure_of
+
+pub variables_each : (k : Known) → AreFacts k → length k.variables ≡ length k.program.units
+variables_each k f = ap length f.variables ∙ length-map (procedures_of k.program) variables ∙ length-map k.program.units procedure_of
