@@ -17,6 +17,3 @@ pub use laws::{fault_laws, reading_laws};
 pub use standard::{StdSink, StdSource};
 pub use streams::{Failed, Sink, Source};
 pub use whole::{ReadError, WriteFault, read_all, write_all};
-
-#[cfg(test)]
-mod tests;

@@ -14,5 +14,3 @@ pub mod names;
 pub mod naming;
 pub mod role;
 pub mod taken;
-#[cfg(test)]
-mod tests;

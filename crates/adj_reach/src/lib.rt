@@ -11,8 +11,6 @@ mod direction;
 mod paths;
 mod rows;
 mod search;
-#[cfg(test)]
-mod tests;
 mod variables;
 
 pub use arc::{Arc, Kind};

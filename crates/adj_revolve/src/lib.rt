@@ -12,8 +12,6 @@ mod law;
 mod least_cost;
 mod list;
 mod machine;
-#[cfg(test)]
-mod tests;
 
 pub use binomial::beta;
 pub use frames::Schedule;

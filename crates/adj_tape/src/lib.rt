@@ -6,7 +6,5 @@
 #![tactic(auto)]
 
 mod tape;
-#[cfg(test)]
-mod tests;
 
 pub use tape::{Full, Memory, Tape};

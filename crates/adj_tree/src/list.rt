@@ -34,6 +34,14 @@ impl<T> Items<T> {
     {
         self.members.as_slice()
     }
+
+    /// Its members, of which none is copied.
+    pub fn into_vec(self) -> Vec<T>
+        ensures members { result.items ≡ self }
+    {
+        let Items { members } = self;
+        members
+    }
 }
 
 /// Bytes in order.

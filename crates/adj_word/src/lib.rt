@@ -12,6 +12,3 @@ mod laws;
 pub use arithmetic::{add, mul, neg, pow, quot, rem, sub, trips};
 pub use dots::dot;
 pub use laws::{dot_laws, pairing_laws, quotient_laws, ring_laws};
-
-#[cfg(test)]
-mod tests;

@@ -4,7 +4,7 @@ use Rattle.std.specs.Prelude.{All}
 use Rattle.std.proofs.lemmas.List.Elements.{All-push}
 use Rattle.adj_reach.specs.Arcs.{IsWithin}
 use Rattle.adj_reach.proofs.Spreading.{keep_within}
-use Rattle.adj_reach.proofs.tests.ways_backwards.Goals as goal
+use Rattle.foundation_tests.proofs.reaching.ways_backwards.Goals as goal
 
 pub loop-i-preserved : goal.loop-i-preserved
 loop-i-preserved c =

@@ -1,4 +1,6 @@
-use super::*;
+//! Words, at the ends of their range.
+
+use adj_word::{add, dot, mul, neg, pow, quot, rem, sub, trips};
 
 #[test]
 fn sums_and_products_wrap(rt: HostRuntime) {

@@ -1,6 +1,10 @@
+//! Streams in memory, and those of std.
+
 ghost use Rattle.std.specs.Prelude.{◌≡◌, IfOk};
 
-use super::*;
+use adj_io::{
+    Failed, MemSink, MemSource, ReadError, Sink, StdSink, StdSource, WriteFault, read_all, write_all,
+};
 use std::alloc::{AllocError, Global};
 use std::io::{self, ErrorKind, Read, Write};
 

@@ -1,6 +1,6 @@
 use Rattle.std.proofs.Common.{◌<◌}
 use Rattle.std.specs.Prelude.{All}
-use Rattle.adj_reach.proofs.tests.numbers.Given as goal
+use Rattle.foundation_tests.proofs.reaching.numbers.Given as goal
 
 abbrev pub invariant-loop-i : goal.invariant-loop-i
 invariant-loop-i l = All (λ x. x < l.count) l.numbers.items

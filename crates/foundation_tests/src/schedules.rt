@@ -1,6 +1,6 @@
 //! Worked schedules, costs and plays.
 
-use super::*;
+use adj_revolve::{Action, Schedule, actions, beta, least, play, split};
 use std::test::Fail;
 
 #[test]

@@ -1,6 +1,6 @@
 //! A tape at work.
 
-use super::*;
+use adj_tape::{Full, Tape};
 use std::test::Fail;
 
 #[test]

@@ -1,6 +1,6 @@
 //! Small trees, counted and copied.
 
-use crate::{Expr, Items, Memory, Name, Program};
+use adj_tree::{Expr, Items, Memory, Name, Program};
 use std::alloc::Global;
 use std::test::Fail;
 

@@ -4,7 +4,7 @@ ghost use Rattle.std.specs.Prelude.{◌<◌, All, IfOk};
 ghost use Rattle.adj_reach.specs.Edges.{AreBelow};
 ghost use Rattle.adj_reach.specs.Arcs.{IsWithin};
 
-use super::*;
+use adj_reach::{Arc, Kind, reach, reach_back, spread};
 use adj_tree::Memory;
 use std::alloc::Global;
 use std::test::Fail;
