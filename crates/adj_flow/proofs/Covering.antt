@@ -1,14 +1,16 @@
 -- The scope that flags and lists of variables make covers the problem.
 use Rattle.std.proofs.Common.{◌≡◌, ℕ, ◌+◌, ◌≤◌, ◌<◌, List, [], Bool, true, subst, sym, length, arith}
-use Rattle.std.specs.Prelude.{Contains, ◌↔◌, All, slice_index_or}
+use Rattle.std.specs.Prelude.{Contains, ◌↔◌, IsTrue, All, slice_index_or}
 use Rattle.std.proofs.lemmas.List.{length-map}
-use Rattle.adj_tree.specs.Code.{plain}
+use Rattle.adj_tree.specs.Code.{plain, Procedure}
+use Rattle.adj_facts.specs.Reached.{begins, leads}
 use Rattle.adj_facts.specs.Parts.{Part, parts, statements_in}
 use Rattle.adj_facts.specs.Problem.{Problem, TakesPart}
 use Rattle.adj_facts.specs.Rules.{Covers}
 use Rattle.adj_facts.proofs.Members.{map_has, filter_has, filter_only}
 use Rattle.adj_facts.proofs.Numbers.{part_is_there}
 use Rattle.adj_facts.proofs.PartsListed.{part_above}
+use Rattle.adj_reach.specs.Edges.{flag}
 use Rattle.adj_flow.specs.Nodes.{IsWide}
 use Rattle.adj_flow.specs.Scoped.{scope_by, HoldVariables}
 
@@ -28,3 +30,14 @@ module _ (k : Problem) (vss : List (List (List ℕ))) (takes : ℕ → Bool) whe
       let b : g.number < 0 + length k.units = (part_above (statements_in 0 k.units) 0 0 k.units g (part_is_there k g t)).1 in
       let l : length (slice_index_or vss g.number []) ≤ w = all g.number [] (omega arith) in
       subst (λ z. z ≤ w) (sym (length-map (slice_index_or vss g.number []) plain)) l
+
+-- which units take part doesn't depend on what is flagged
+takes_same : (ps : List Procedure) (h : ℕ) (a b c d : List Bool) (g : Part) → TakesPart (record { units = ps; head = h; vars = a; outvars = b }) g → TakesPart (record { units = ps; head = h; vars = c; outvars = d }) g
+takes_same ps h a b c d g (begins e) = begins (record { is = e.is })
+takes_same ps h a b c d g (leads {x = f} t q) = leads (takes_same ps h a b c d f t) (q.0, q.1, record { name = q.2.name; stands = q.2.stands; act = q.2.act; finds = q.2.finds })
+
+-- so flags that say which units take part where nothing is flagged will do
+pub flags_cover : (k : Problem) (vss : List (List (List ℕ))) (taking : List Bool) → HoldVariables vss k.units →
+    ((g : Part) → Contains (parts k.units) g → IsTrue (flag taking g.number) ↔ TakesPart (record { units = k.units; head = k.head; vars = []; outvars = [] }) g) → Covers k (scope_by vss (flag taking) k.units)
+flags_cover k vss taking hold takes =
+    scope_covers k vss (flag taking) hold (λ g c. (λ t. takes_same k.units k.head [] [] k.vars k.outvars g ((takes g c).0 t), λ t. (takes g c).1 (takes_same k.units k.head k.vars k.outvars [] [] g t)))

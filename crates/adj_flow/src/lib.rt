@@ -1,4 +1,4 @@
-//! What the analyses go over: the statements of a program where they stand, the ways between its points, the units that take part,
+//! What the analyses go over: the statements of a program where they stand, the variables in them, the ways between its points, the units that take part,
 //! and its variables at points as nodes with numbers.
 //!
 //! It stands on the trees, the definitions of `adj_facts` and on `adj_reach`. The layers above use that `taking_part` gives
@@ -6,15 +6,18 @@
 #![tactic(auto)]
 
 mod nodes;
+mod occurrences;
 mod outline;
 mod part;
 mod row;
 mod rows;
 mod standing;
 mod units;
+pub mod variables;
 mod way;
 
-pub use nodes::{End, add_edge, add_node, number, told};
+pub use nodes::{End, add_carried, add_edge, add_link, add_node, number, told};
+pub use occurrences::Occurrences;
 pub use outline::Outline;
 pub use part::taking_part;
 pub use row::Part;

@@ -6,8 +6,8 @@ ghost use Rattle.adj_facts.specs.Rules.{list_of};
 ghost use Rattle.adj_facts.specs.Variables.{list_if};
 ghost use Rattle.adj_flow.specs.Rows.{row_of};
 ghost use Rattle.adj_flow.specs.WayView.{number_of};
-ghost use Rattle.adj_flow.specs.Nodes.{linked};
-ghost use Rattle.adj_flow.specs.NodeView.{end_node, told_at};
+ghost use Rattle.adj_flow.specs.Nodes.{linked, node_in};
+ghost use Rattle.adj_flow.specs.NodeView.{end_node, told_at, vars_of};
 
 use crate::row::Part;
 use crate::way::Point;
@@ -74,6 +74,23 @@ pub fn told(flags: &[bool], width: usize, end: End<'_, '_>) -> Result<bool, Memo
     }
 }
 
+/// Adds an edge between two numbers, if both are there.
+pub fn add_link(
+    edges: &mut Vec<(usize, usize)>,
+    from: Option<usize>,
+    to: Option<usize>,
+) -> Result<(), Memory>
+    ensures added { OnOk result (edges.new.items ≡ edges.old.items ++ linked from to) }
+{
+    match (from, to) {
+        (Some(from), Some(to)) => {
+            edges.push((from, to))?;
+            Ok(())
+        }
+        (Some(_), None) | (None, _) => Ok(()),
+    }
+}
+
 /// Adds an edge between two variables at points.
 pub fn add_edge(
     edges: &mut Vec<(usize, usize)>,
@@ -85,13 +102,35 @@ pub fn add_edge(
 {
     let from = from.node(width)?;
     let to = to.node(width)?;
-    match (from, to) {
-        (Some(from), Some(to)) => {
-            edges.push((from, to))?;
-            Ok(())
-        }
-        (Some(_), None) | (None, _) => Ok(()),
+    add_link(edges, from, to)
+}
+
+/// Adds the edge of a variable of a unit from the point of one number to that of another, if it is carried.
+pub fn add_carried(
+    edges: &mut Vec<(usize, usize)>,
+    width: usize,
+    part: &Part<'_>,
+    points: (usize, usize),
+    name: &Name,
+    is_carried: bool,
+) -> Result<(), Memory>
+    ensures added { OnOk result (edges.new.items ≡ edges.old.items ++ list_if is_carried (linked (node_in width (vars_of (row_of part.now)) (points.0, plain name.now)) (node_in width (vars_of (row_of part.now)) (points.1, plain name.now)))) }
+{
+    if is_carried {
+        let (from, to) = points;
+        let before = End {
+            part,
+            point: from,
+            name,
+        };
+        let after = End {
+            part,
+            point: to,
+            name,
+        };
+        add_edge(edges, width, before, after)?;
     }
+    Ok(())
 }
 
 /// Adds the number of a variable at a point, if it is wanted.

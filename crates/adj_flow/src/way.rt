@@ -1,5 +1,10 @@
 //! Ways between points.
 
+ghost use Rattle.std.specs.Prelude.{◌≡◌};
+ghost use Rattle.adj_tree.specs.Code.{plain};
+ghost use Rattle.adj_facts.specs.Ways.{assigned_on};
+ghost use Rattle.adj_flow.specs.WayView.{deed_of};
+
 use adj_tree::{Exprs, Name};
 
 /// A point of a program.
@@ -21,6 +26,18 @@ pub enum Deed<'a> {
     Assigning(usize, &'a Name),
     /// A unit is called with these actuals.
     Calling(&'a Exprs),
+}
+
+impl Deed<'_> {
+    /// Whether it assigns the whole of this variable.
+    pub fn assigns(self, name: &Name) -> bool
+        ensures is { result ≡ assigned_on (deed_of self.entry) (plain name.now) }
+    {
+        match self {
+            Deed::Assigning(_, other) => other.equals(name),
+            Deed::Passing | Deed::Calling(_) => false,
+        }
+    }
 }
 
 /// A way from a point to a next one.

@@ -1,0 +1,177 @@
+//! Which variables are active in a statement, and whose values the adjoint of its right side reads.
+
+ghost use Rattle.std.specs.Prelude.{◌≡◌, ◌++◌, ◌&&◌, IfOk, OnOk};
+ghost use Rattle.adj_tree.specs.Code.{plain};
+ghost use Rattle.adj_tree.specs.View.{term_of, terms_of};
+ghost use Rattle.adj_facts.specs.Occurrences.{is_active};
+ghost use Rattle.adj_facts.specs.Variables.{list_if, vars_in, vars_in_terms, adjoint_reads_in};
+ghost use Rattle.adj_flow.specs.NodeView.{names_of};
+ghost use Rattle.adj_flow.specs.Active.{varied_by, shadowed_by, active_by};
+
+use crate::nodes::{End, number, told};
+use crate::row::Part;
+use crate::variables::{add_term, add_terms_if};
+use crate::way::Point;
+use adj_tree::{Expr, Exprs, Memory, Name, Op};
+
+/// The occurrences of variables in the statement of a number of a unit, by the flags of varied variables at points and of the variables
+/// of units that have a shadow, where no unit has more variables than the width.
+#[derive(Clone, Copy)]
+pub struct Occurrences<'f, 'p, 'a> {
+    pub varied: &'f [bool],
+    pub shadowed: &'f [bool],
+    pub width: usize,
+    pub part: &'p Part<'a>,
+    pub statement: usize,
+}
+
+impl Occurrences<'_, '_, '_> {
+    /// Whether a variable is varied before the statement.
+    pub fn was_varied(self, name: &Name) -> Result<bool, Memory>
+        ensures was { IfOk result (λ b. b ≡ varied_by self.entry (plain name.now)) }
+    {
+        let before = End {
+            part: self.part,
+            point: number(Point::Before(self.statement))?,
+            name,
+        };
+        told(self.varied, self.width, before)
+    }
+
+    /// Whether a variable has a shadow.
+    pub fn has_shadow(self, name: &Name) -> Result<bool, Memory>
+        ensures has { IfOk result (λ b. b ≡ shadowed_by self.entry (plain name.now)) }
+    {
+        let unit = End {
+            part: self.part,
+            point: self.part.number,
+            name,
+        };
+        told(self.shadowed, self.width, unit)
+    }
+
+    /// Whether the statement, a DO with this variable, resets its shadow.
+    pub fn resets(self, name: &Name) -> Result<bool, Memory>
+        ensures resets { IfOk result (λ b. b ≡ (shadowed_by self.entry (plain name.now) && varied_by self.entry (plain name.now))) }
+    {
+        let has_shadow = self.has_shadow(name)?;
+        let was_varied = self.was_varied(name)?;
+        Ok(has_shadow && was_varied)
+    }
+
+    // Whether a variable is active: varied before the statement, and with a shadow.
+    fn is_on(self, name: &Name) -> Result<bool, Memory>
+        ensures on { IfOk result (λ b. b ≡ active_by self.entry (plain name.now)) }
+    {
+        let was_varied = self.was_varied(name)?;
+        let has_shadow = self.has_shadow(name)?;
+        Ok(was_varied && has_shadow)
+    }
+
+    // Whether an active variable stands at a differentiable occurrence.
+    fn is_active(self, term: &Expr) -> Result<bool, Memory>
+        ensures active { IfOk result (λ b. b ≡ is_active (active_by self.entry) (term_of term.now)) }
+    {
+        match term {
+            Expr::Var(name) | Expr::Elem(name, _) => self.is_on(name),
+            Expr::Neg(a) | Expr::Power(a, _) => self.is_active(a),
+            Expr::Pow(a, exponent) => {
+                if *exponent == 0 {
+                    Ok(false)
+                } else {
+                    self.is_active(a)
+                }
+            }
+            Expr::Bin(op, a, b) => match op {
+                Op::Add | Op::Sub | Op::Mul => {
+                    let first = self.is_active(a)?;
+                    let second = self.is_active(b)?;
+                    Ok(first || second)
+                }
+                Op::Quot | Op::Mod | Op::Max | Op::Min => Ok(false),
+            },
+            Expr::Lit(_) | Expr::Abs(_) => Ok(false),
+        }
+    }
+
+    // Adds what stands in an expression, if another one is active.
+    fn add_where<'t>(
+        self,
+        active: &Expr,
+        term: &'t Expr,
+        out: &mut Vec<&'t Name>,
+    ) -> Result<(), Memory>
+        ensures added { OnOk result (names_of out.new.items ≡ names_of out.old.items ++ list_if (is_active (active_by self.entry) (term_of active.now)) (vars_in (term_of term.now))) }
+    {
+        if self.is_active(active)? {
+            add_term(term, out)?;
+        }
+        Ok(())
+    }
+
+    // Adds what stands in the base and in the exponent of a power, if its base is active.
+    fn add_power<'t>(
+        self,
+        base: &'t Expr,
+        exponent: &'t Expr,
+        out: &mut Vec<&'t Name>,
+    ) -> Result<(), Memory>
+        ensures added { OnOk result (names_of out.new.items ≡ names_of out.old.items ++ list_if (is_active (active_by self.entry) (term_of base.now)) (vars_in (term_of base.now) ++ vars_in (term_of exponent.now))) }
+    {
+        if self.is_active(base)? {
+            add_term(base, out)?;
+            add_term(exponent, out)?;
+        }
+        Ok(())
+    }
+
+    // Adds what stands in the subscripts of an element, if its array is active.
+    fn add_subscripts<'t>(
+        self,
+        name: &Name,
+        subs: &'t Exprs,
+        out: &mut Vec<&'t Name>,
+    ) -> Result<(), Memory>
+        ensures added { OnOk result (names_of out.new.items ≡ names_of out.old.items ++ list_if (active_by self.entry (plain name.now)) (vars_in_terms (terms_of subs.now))) }
+    {
+        let is_on = self.is_on(name)?;
+        add_terms_if(subs, is_on, out)
+    }
+
+    /// Adds the variables whose values the adjoint of a right side reads: those in the other factor of an active factor, in the base of an
+    /// active power of at least 2, in the base and the exponent of an active power by an expression, and in subscripts of active occurrences.
+    pub fn add_reads<'t>(self, term: &'t Expr, out: &mut Vec<&'t Name>) -> Result<(), Memory>
+        ensures added { OnOk result (names_of out.new.items ≡ names_of out.old.items ++ adjoint_reads_in (active_by self.entry) (term_of term.now)) }
+    {
+        match term {
+            Expr::Lit(_) | Expr::Var(_) | Expr::Abs(_) => Ok(()),
+            Expr::Elem(name, subs) => self.add_subscripts(name, subs, out),
+            Expr::Neg(a) => self.add_reads(a, out),
+            Expr::Pow(a, exponent) => match *exponent {
+                0 => Ok(()),
+                1 => self.add_reads(a, out),
+                _ => {
+                    self.add_where(a, a, out)?;
+                    self.add_reads(a, out)
+                }
+            },
+            Expr::Power(a, b) => {
+                self.add_power(a, b, out)?;
+                self.add_reads(a, out)
+            }
+            Expr::Bin(op, a, b) => match op {
+                Op::Add | Op::Sub => {
+                    self.add_reads(a, out)?;
+                    self.add_reads(b, out)
+                }
+                Op::Mul => {
+                    self.add_where(a, b, out)?;
+                    self.add_where(b, a, out)?;
+                    self.add_reads(a, out)?;
+                    self.add_reads(b, out)
+                }
+                Op::Quot | Op::Mod | Op::Max | Op::Min => Ok(()),
+            },
+        }
+    }
+}
