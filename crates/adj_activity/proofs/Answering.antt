@@ -4,7 +4,6 @@ use Rattle.std.specs.Prelude.{◌↔◌, IsTrue, All, Contains, Some, slice_get}
 use Rattle.std.specs.Option.{option_map}
 use Rattle.std.proofs.lemmas.Option.{slice_get-map, get_or_from_slice_get}
 use Rattle.adj_tree.specs.Code.{Procedure}
-use Rattle.adj_facts.specs.Reached.{begins, leads}
 use Rattle.adj_transpose.specs.Marks.{behind}
 use Rattle.adj_facts.specs.Parts.{Part, parts, parts_from, statements_in, find_part}
 use Rattle.adj_facts.specs.Problem.{Problem, TakesPart}
@@ -23,16 +22,11 @@ use Rattle.adj_activity.specs.View.{flow_listed, shadows_listed, adjoints_listed
 use Rattle.adj_flow.specs.Scoped.{scope_by, HoldVariables}
 use Rattle.adj_activity.specs.Starts.{point_nodes, all_active, all_outright}
 use Rattle.adj_activity.specs.declared.found.Found.{Found}
-use Rattle.adj_flow.proofs.Covering.{scope_covers, scope_wide}
+use Rattle.adj_flow.proofs.Covering.{flags_cover, scope_wide}
 use Rattle.adj_flow.proofs.Scoping.{found_unit}
 use Rattle.adj_activity.proofs.Rowed.{all_flow, all_shadows, all_adjoints}
 use Rattle.adj_activity.proofs.Started.{entry_same, end_same, shadows_same, outright_same}
 use Rattle.adj_activity.proofs.Told.{is_activity}
-
--- which units take part doesn't depend on what is flagged
-takes_same : (ps : List Procedure) (h : ℕ) (a b c d : List Bool) (g : Part) → TakesPart (record { units = ps; head = h; vars = a; outvars = b }) g → TakesPart (record { units = ps; head = h; vars = c; outvars = d }) g
-takes_same ps h a b c d g (begins e) = begins (record { is = e.is })
-takes_same ps h a b c d g (leads {x = f} t q) = leads (takes_same ps h a b c d f t) (q.0, q.1, record { name = q.2.name; stands = q.2.stands; act = q.2.act; finds = q.2.finds })
 
 -- a place of a list has a member
 got : {X : Type 0} (xs : List X) (i : ℕ) → i < length xs → (x : X) × (slice_get xs i ≡ Some x)
@@ -54,9 +48,7 @@ module _ (k : Problem) (vss : List (List (List ℕ))) (numbers : List (List ℕ 
   finds x = ap (found_at (rows vss k.units)) (known x) ∙ found_unit vss k.units x
 
   covers : Covers k o
-  covers =
-      scope_covers k vss (flag taking) hold
-      (λ q c. (λ t. takes_same k.units k.head [] [] k.vars k.outvars q ((takes q c).0 t), λ t. (takes q c).1 (takes_same k.units k.head k.vars k.outvars [] [] q t)))
+  covers = flags_cover k vss taking hold takes
 
   wide : IsWide k o w
   wide = scope_wide k vss (flag taking) w lengths narrow

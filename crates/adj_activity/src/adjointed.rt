@@ -4,7 +4,7 @@ ghost use Rattle.std.specs.Prelude.{◌≡◌, ◌++◌, ◌∷◌, ◌&&◌, �
 ghost use Rattle.adj_tree.specs.Code.{plain};
 ghost use Rattle.adj_tree.specs.View.{act_of, terms_of};
 ghost use Rattle.adj_transpose.specs.Facts.{whole, is_adjointed};
-ghost use Rattle.adj_facts.specs.Activity.{activity_marks, resets, statement};
+ghost use Rattle.adj_facts.specs.Activity.{activity_marks, statement};
 ghost use Rattle.adj_facts.specs.Variables.{list_if};
 ghost use Rattle.adj_flow.specs.Rows.{row_of};
 ghost use Rattle.adj_flow.specs.View.{standing_of};
@@ -14,22 +14,10 @@ ghost use Rattle.adj_activity.specs.Starts.{row_activity, outright_at, outright_
 
 use crate::adjoints::statement;
 use crate::found::Found;
-use adj_flow::{End, Flow, Part, Point, Standing, number, told};
+use adj_flow::{End, Flow, Occurrences, Part, Point, Standing, number, told};
 use adj_reach::flag_at;
 use adj_tree::{Act, Exprs, Memory, Name, Place};
 use std::alloc::Global;
-
-// Whether a variable of a unit has a shadow.
-fn is_shadowed(found: Found<'_>, width: usize, part: &Part<'_>, name: &Name) -> Result<bool, Memory>
-    ensures is { IfOk result (λ b. b ≡ (row_activity found.entry width (row_of part.now)).shadowed (row_of part.now).part.number (plain name.now)) }
-{
-    let unit = End {
-        part,
-        point: part.number,
-        name,
-    };
-    told(found.shadowed, width, unit)
-}
 
 // Whether an assignment to a place assigns its variable whole.
 fn is_whole(target: &Place) -> bool
@@ -59,42 +47,24 @@ fn is_adjointed(
     ensures is { IfOk result (λ b. b ≡ is_adjointed (activity_marks (row_activity found.entry width (row_of part.now)) (row_of part.now).part.number) number_of (plain target.now.name) (terms_of target.now.subs)) }
 {
     let name = &target.name;
-    let before = End {
+    let occurrences = Occurrences {
+        varied: found.varied,
+        shadowed: found.shadowed,
+        width,
         part,
-        point: number(Point::Before(number_of))?,
-        name,
+        statement: number_of,
     };
     let after = End {
         part,
         point: number(Point::After(number_of))?,
         name,
     };
-    let has_shadow = is_shadowed(found, width, part, name)?;
-    let was_varied = told(found.varied, width, before)?;
+    let has_shadow = occurrences.has_shadow(name)?;
+    let was_varied = occurrences.was_varied(name)?;
     let is_varied = told(found.varied, width, after)?;
     let is_useful = told(found.useful, width, after)?;
     let whole = is_whole(target);
     Ok(decided(has_shadow, whole, was_varied, is_varied, is_useful))
-}
-
-// Whether the DO of a number resets the shadow of its variable.
-fn resets(
-    found: Found<'_>,
-    width: usize,
-    part: &Part<'_>,
-    number_of: usize,
-    name: &Name,
-) -> Result<bool, Memory>
-    ensures resets { IfOk result (λ b. b ≡ resets (row_activity found.entry width (row_of part.now)) (row_of part.now).part.number number_of (plain name.now)) }
-{
-    let before = End {
-        part,
-        point: number(Point::Before(number_of))?,
-        name,
-    };
-    let has_shadow = is_shadowed(found, width, part, name)?;
-    let was_varied = told(found.varied, width, before)?;
-    Ok(has_shadow && was_varied)
 }
 
 // Adds the number of a statement, if it is adjointed.
@@ -124,7 +94,14 @@ fn add_standing(
             add_if(nodes, number, is_adjointed)
         }
         Act::Loop(x, _, _, _, _, _) => {
-            let is_adjointed = resets(found, width, part, number, x)?;
+            let occurrences = Occurrences {
+                varied: found.varied,
+                shadowed: found.shadowed,
+                width,
+                part,
+                statement: number,
+            };
+            let is_adjointed = occurrences.resets(x)?;
             add_if(nodes, number, is_adjointed)
         }
         Act::If(_, _, _) | Act::While(_, _) | Act::Call(_, _) | Act::Run(_) => Ok(()),

@@ -5,14 +5,12 @@ ghost use Rattle.adj_tree.specs.Code.{plain};
 ghost use Rattle.adj_tree.specs.View.{term_of, terms_of};
 ghost use Rattle.adj_writes.specs.Table.{value_of};
 ghost use Rattle.adj_facts.specs.Ways.{is_name, is_actual, assigned_on, passed_on};
-ghost use Rattle.adj_facts.specs.Variables.{list_if};
 ghost use Rattle.adj_flow.specs.Rows.{row_of};
 ghost use Rattle.adj_flow.specs.WayView.{deed_of, way_of};
-ghost use Rattle.adj_flow.specs.Nodes.{linked, node_in};
 ghost use Rattle.adj_activity.specs.Edges.{way_edges};
 ghost use Rattle.adj_flow.specs.NodeView.{vars_of};
 
-use adj_flow::{Deed, End, Part, Way, add_edge, number};
+use adj_flow::{Deed, Part, Way, add_carried, number};
 use adj_tree::{Expr, Exprs, Memory, Name};
 use adj_writes::table::Numbers;
 use std::alloc::Global;
@@ -59,49 +57,11 @@ fn passed<'a>(alloc: Global, deed: Deed<'a>) -> Result<Numbers<'a>, Memory>
     Ok(passed)
 }
 
-// Whether a variable is assigned whole on a way.
-fn is_assigned(deed: Deed<'_>, name: &Name) -> bool
-    ensures is { result ≡ assigned_on (deed_of deed.entry) (plain name.now) }
-{
-    match deed {
-        Deed::Assigning(_, other) => other.equals(name),
-        Deed::Passing | Deed::Calling(_) => false,
-    }
-}
-
 // Whether a way carries a variable, where these names are passed on it.
 fn is_carried(deed: Deed<'_>, passed: &Numbers<'_>, name: &Name) -> bool
     ensures carried { result ≡ (not (assigned_on (deed_of deed.entry) (plain name.now)) && not (is_some (value_of name.now passed.now))) }
 {
-    !is_assigned(deed, name) && passed.get(name).is_none()
-}
-
-// Adds the edge of a variable on a way, from the point of one number to that of another, if it is carried.
-fn add_variable(
-    edges: &mut Vec<(usize, usize)>,
-    width: usize,
-    part: &Part<'_>,
-    points: (usize, usize),
-    name: &Name,
-    is_carried: bool,
-) -> Result<(), Memory>
-    ensures added { OnOk result (edges.new.items ≡ edges.old.items ++ list_if is_carried (linked (node_in width (vars_of (row_of part.now)) (points.0, plain name.now)) (node_in width (vars_of (row_of part.now)) (points.1, plain name.now)))) }
-{
-    if is_carried {
-        let (from, to) = points;
-        let before = End {
-            part,
-            point: from,
-            name,
-        };
-        let after = End {
-            part,
-            point: to,
-            name,
-        };
-        add_edge(edges, width, before, after)?;
-    }
-    Ok(())
+    !deed.assigns(name) && passed.get(name).is_none()
 }
 
 // Adds the edges of a way.
@@ -118,7 +78,7 @@ fn add_way(
     let passed = passed(alloc, way.deed)?;
     for name in part.variables.as_slice() {
         let is_carried = is_carried(way.deed, &passed, name);
-        add_variable(edges, width, part, points, name, is_carried)?;
+        add_carried(edges, width, part, points, name, is_carried)?;
     }
     Ok(())
 }
