@@ -1,2 +1,3 @@
 -- the lemmas of the crate
 pub mod Rows
+pub mod Saying

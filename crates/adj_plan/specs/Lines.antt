@@ -1,0 +1,71 @@
+-- The lines of a plan: one for each statement of the units that take part. (docs/COMMANDS.md, "plan")
+use Rattle.std.specs.Prelude.{◌≡◌, ◌↔◌, ℕ, suc, List, [], ◌∷◌, ◌++◌, flat_map, Bool, true, false, Contains, codes, decimal}
+use Rattle.adj_tree.specs.Code.{Var, Mark, unmarked, with_count, count_from, Act, assign, choose, loop, during, call, runtime, Procedure}
+use Rattle.adj_names.specs.Statements.{At, statements}
+use Rattle.adj_transpose.specs.Marks.{Vars}
+use Rattle.adj_transpose.specs.Facts.{In}
+use Rattle.adj_facts.specs.Parts.{Part, parts}
+use Rattle.adj_facts.specs.Standing.{Standing}
+use Rattle.adj_facts.specs.Problem.{Problem, TakesPart, statements_of}
+use Rattle.adj_facts.specs.Activity.{Activity}
+use Rattle.adj_facts.specs.Live.{Liveness}
+use Rattle.adj_facts.specs.Laws.{Analysed}
+use Rattle.adj_facts.specs.Variables.{list_if}
+use Rattle.adj_plan.specs.declared.lines.Said.{Said}
+
+-- the word for a loop
+abbrev pub loop_word : Mark → List ℕ
+loop_word unmarked = codes "DO"
+loop_word (with_count m) = codes "MARKED"
+loop_word (count_from x) = codes "MARKED"
+
+-- the word for a statement
+abbrev pub word_of : Act → List ℕ
+word_of (assign x subs e) = codes "ASSIGN"
+word_of (choose c a b) = codes "IF"
+word_of (loop x first last by body m) = loop_word m
+word_of (during c body) = codes "WHILE"
+word_of (call name args) = codes "CALL"
+word_of (runtime r) = codes "CALL"
+
+-- a letter where something holds, and - where it doesn't
+abbrev pub letter : ℕ → Bool → ℕ
+letter c true = c
+letter c false = 45
+
+-- K for kept, A for adjointed, P for something saved
+abbrev pub letters : Said → List ℕ
+letters s = letter 75 s.kept ∷ letter 65 s.adjointed ∷ letter 80 s.saves ∷ []
+
+-- the line of a statement of the unit of a name: the unit, the line in the text, the word, and the three letters
+abbrev pub plan_line : List ℕ → Said → At Act → List ℕ
+plan_line name said s = name ++ (codes " " ++ decimal s.0) ++ (codes " " ++ word_of s.1) ++ (codes " " ++ letters said) ++ codes "\n"
+
+-- those of statements, the first of which has the number i
+abbrev pub lines_from : (ℕ → Said) → List ℕ → ℕ → List (At Act) → List ℕ
+lines_from said name i [] = []
+lines_from said name i (s ∷ rest) = plan_line name (said i) s ++ lines_from said name (suc i) rest
+
+-- those of a unit
+abbrev pub unit_lines : (ℕ → Said) → Part → List ℕ
+unit_lines said g = lines_from said g.unit.name g.first (statements g.unit.body)
+
+-- those of all units that take part, by what is said of each statement of each unit
+abbrev pub plan_lines : (ℕ → ℕ → Said) → (ℕ → Bool) → List Procedure → List ℕ
+plan_lines said takes ps = flat_map (λ g. list_if (takes g.number) (unit_lines (said g.number) g)) (parts ps)
+
+-- what is said of a statement is what analyses say
+pub record TellsStatement (activity : Activity) (liveness : Liveness) (saved : ℕ → Vars) (i : ℕ) (said : Said) : Type 0 where
+  pub kept : said.kept ≡ liveness.kept i
+  pub adjointed : said.adjointed ≡ activity.adjointed i
+  pub saves : said.saves ≡ true ↔ ((v : Var) × In v (saved i))
+
+-- what is said of the statements of a kernel, and of which units take part, is what exact analyses say
+pub record TellsPlan (k : Problem) (said : ℕ → ℕ → Said) (takes : ℕ → Bool) : Type 0 where
+  pub activity : Activity
+  pub liveness : Liveness
+  pub saved : ℕ → Vars
+  pub held : ℕ → Vars
+  pub analysed : Analysed k activity liveness saved held
+  pub units : (g : Part) → Contains (parts k.units) g → takes g.number ≡ true ↔ TakesPart k g
+  pub statements : (g : Part) → TakesPart k g → (s : Standing) → Contains (statements_of g) s → TellsStatement activity liveness saved s.number (said g.number s.number)
