@@ -1,0 +1,19 @@
+-- the lemmas of the crate
+pub mod Truths
+pub mod Keeping
+pub mod Reserved
+pub mod ShortTerms
+pub mod TermDepths
+pub mod FittingTerms
+pub mod Actuals
+pub mod ShortForms
+pub mod ShortStatements
+pub mod Unlined
+pub mod WrittenFits
+pub mod ShallowForms
+pub mod FittingForms
+pub mod SaidForms
+pub mod Heights
+pub mod Nesting
+pub mod Chain
+pub mod KeptReads

@@ -1,0 +1,54 @@
+-- What a statement is found to say within a depth.
+use Rattle.std.proofs.Common.{◌≡◌, ◌≤◌, ℕ, Bool, true, false, List, Option, Some, None, option_map, Ok, IfSome, refl, sym, ap, subst, ◌∙◌}
+use Rattle.std.specs.Prelude.{not}
+use Rattle.adj_tree.specs.Code.{Mark}
+use Rattle.adj_text.specs.Form.{Form, ReadsForm}
+use Rattle.adj_text.specs.Word.{Word}
+use Rattle.adj_text.specs.declared.stated.Kind.{Kind}
+use Rattle.adj_text.proofs.Parts.{map_some}
+use Rattle.adj_expression.specs.Judged.{judged_by}
+use Rattle.adj_statement.specs.Phrase.{Phrase, Says}
+use Rattle.adj_statement.specs.Phrases.{phrase_of}
+use Rattle.adj_statement.specs.Said.{phrase_large, phrase_deep, form, judged_phrase, said}
+use Rattle.adj_readable.specs.Kept.{shallow}
+use Rattle.adj_readable.proofs.Truths.{not_not}
+use Rattle.adj_readable.proofs.Keeping.{form_keeps}
+use Rattle.adj_readable.proofs.FittingTerms.{fitting}
+use Rattle.adj_readable.proofs.ShallowForms.{form_shallow}
+use Rattle.adj_readable.proofs.FittingForms.{form_small}
+
+-- the laws on what statements say
+pub record Laws : Type 0 where
+  pub complete : (kind : Kind) (words : List Word) (p : Phrase) → Says kind words p → phrase_of kind words ≡ Some p
+  pub sound : (kind : Kind) (words : List Word) → IfSome (phrase_of kind words) (Says kind words)
+  pub phrases : (mark : Mark) (kind : Kind) (words : List Word) (f : Form) → ReadsForm mark kind words f → (p : Phrase) × Says kind words p × (form mark p ≡ Some f)
+
+phrase_found : (o : Option Phrase) (P : Phrase → Type 0) (p : Phrase) → o ≡ Some p → IfSome o P → P p
+phrase_found None P p e h = absurd cc
+phrase_found (Some q) P p e h = let k : q ≡ p = cc in subst P k h
+
+judged_ok : (large deep : Bool) (o : Option Form) (f : Form) → judged_by large deep o ≡ Ok f → (deep ≡ false) × (o ≡ Some f)
+judged_ok true deep o f h = absurd cc
+judged_ok false true o f h = absurd cc
+judged_ok false false None f h = absurd cc
+judged_ok false false (Some g) f h = (refl, cc)
+
+module _ (laws : Laws) (d : ℕ) (some : 1 ≤ d) where
+  -- a form that is no deeper, and whose literals and extents are words, is found
+  pub said_right : (mark : Mark) (kind : Kind) (words : List Word) (f : Form) → ReadsForm mark kind words f → form_keeps (shallow d) f ≡ true → form_keeps fitting f ≡ true → said d mark kind words ≡ Some (Ok f)
+  unfolding said
+  said_right mark kind words f r h g =
+      let p = laws.phrases mark kind words f r in
+      let deep : phrase_deep d p.0 ≡ false = not_not (phrase_deep d p.0) (sym (form_shallow d some p.1 mark f p.2) ∙ h) in
+      let large = form_small p.1 mark f p.2 g in
+      ap (option_map (judged_phrase d mark)) (laws.complete kind words p.0 p.1) ∙ ap (λ o. Some (judged_by (phrase_large p.0) (phrase_deep d p.0) o)) p.2
+      ∙ ap (λ b. Some (judged_by b (phrase_deep d p.0) (Some f))) large ∙ ap (λ b. Some (judged_by false b (Some f))) deep
+
+  -- and what is found is no deeper
+  pub said_shallow : (mark : Mark) (kind : Kind) (words : List Word) (f : Form) → said d mark kind words ≡ Some (Ok f) → form_keeps (shallow d) f ≡ true
+  unfolding said
+  said_shallow mark kind words f h =
+      let k = map_some (judged_phrase d mark) (phrase_of kind words) (Ok f) h in
+      let says = phrase_found (phrase_of kind words) (Says kind words) k.0 k.1 (laws.sound kind words) in
+      let j = judged_ok (phrase_large k.0) (phrase_deep d k.0) (form mark k.0) f k.2 in
+      form_shallow d some says mark f j.1 ∙ ap not j.0
