@@ -3,7 +3,7 @@ use Rattle.std.proofs.Common.{◌≡◌, ◌≤◌, ◌<◌, ◌⊎◌, inl, inr
 use Rattle.std.proofs.Math.Dec.{eqb-suc-zero}
 use Rattle.std.proofs.lemmas.Bool.{and_parts}
 use Rattle.std.specs.Prelude.{◌&&◌, ◌||◌, ◌==◌, not, nat_le, is_none, unwrap_or}
-use Rattle.adj_tree.specs.Code.{Mark, Procedure}
+use Rattle.adj_tree.specs.Code.{Mark, unmarked, with_count, count_from, Procedure}
 use Rattle.adj_tree.specs.View.{mark_of}
 use Rattle.adj_tree.specs.declared.fault.Refusal.{Refusal}
 use Rattle.adj_expression.specs.declared.flaw.Flaw.{Flaw}
@@ -15,7 +15,7 @@ use Rattle.adj_text.specs.Refused.{◌>>=◌, limited}
 use Rattle.adj_text.specs.Word.{Word, words_of}
 use Rattle.adj_text.specs.declared.mode.Mode.TheVariants.{Run}
 use Rattle.adj_text.specs.declared.stated.Kind.{Kind}
-use Rattle.adj_text.specs.declared.stated.Kind.TheVariants.{Assign, Call}
+use Rattle.adj_text.specs.declared.stated.Kind.TheVariants.{Do, Assign, Call}
 use Rattle.adj_text.specs.declared.stated.Stated.{Stated}
 use Rattle.adj_parse.specs.Order.{breaks_loop, is_end, is_heading, opens_block}
 use Rattle.adj_parse.specs.Trees.{bounds_of, State, is_marked, is_do, has_stray_mark, is_full, is_astray, checked, behind, follow, trees_from}
@@ -31,7 +31,7 @@ use Rattle.adj_readable.proofs.Nesting.{run_nested, too_nested}
 
 -- ---- a statement stands as its form does
 
-calls_place : (l : ℕ) (c : Option Current) → stands Call l c ≡ stands Assign l c
+pub calls_place : (l : ℕ) (c : Option Current) → stands Call l c ≡ stands Assign l c
 calls_place l None = refl
 calls_place l (Some c) = refl
 
@@ -72,6 +72,23 @@ led_form (forms.ReadsForm.tests_again d) = refl
 led_form forms.ReadsForm.closed = refl
 led_form forms.ReadsForm.returned = refl
 led_form forms.ReadsForm.ended = refl
+
+either : (a b : Bool) → (a && not b) ≡ false → (a ≡ false) ⊎ (b ≡ true)
+either false b h = inl refl
+either true true h = inr refl
+either true false h = absurd cc
+
+no_mark : (m : Mark) → is_marked m ≡ false → m ≡ unmarked
+no_mark unmarked h = refl
+no_mark (with_count n) h = absurd cc
+no_mark (count_from x) h = absurd cc
+
+is_do_is : (kind : Kind) → is_do kind ≡ true → kind ≡ Do
+is_do_is Do h = refl
+is_do_is kind h = absurd cc
+
+pub led_by : (t : Stated) → has_stray_mark t ≡ false → (mark_of t.mark ≡ unmarked) ⊎ (t.kind ≡ Do)
+led_by t h = elim (either (is_marked (mark_of t.mark)) (is_do t.kind) h) [ inl e ↦ inl (no_mark (mark_of t.mark) e) | inr e ↦ inr (is_do_is t.kind e) ]
 
 not_both : (a b : Bool) → (not a && not b) ≡ true → (a ≡ false) × (b ≡ false)
 not_both true b h = absurd cc

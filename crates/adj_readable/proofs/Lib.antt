@@ -17,3 +17,5 @@ pub mod Heights
 pub mod Nesting
 pub mod Chain
 pub mod KeptReads
+pub mod Counts
+pub mod SourceKept

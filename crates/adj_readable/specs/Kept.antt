@@ -1,7 +1,7 @@
 -- Kept: the limits on names, on depth and on nesting that a program keeps. (docs/LANGUAGE.md, "Limits")
-use Rattle.std.specs.Prelude.{◌≡◌, ◌≤◌, ℕ, Bool, true, ◌&&◌, nat_le, List, [], ◌∷◌, length}
+use Rattle.std.specs.Prelude.{◌≡◌, ◌≤◌, ℕ, ◌+◌, Bool, true, ◌&&◌, nat_le, List, [], ◌∷◌, length}
 use Rattle.std.specs.List.{list_all}
-use Rattle.adj_tree.specs.Code.{Var, plain, shadow, helper, Term, Terms, lit, var, elem, neg, bin, pow, power_of, abs, none, more, Test, compare, negation, conjunction, disjunction, Runtime, push_word, pop_word, push_array, pop_array, push_control, pop_control, zero_array, begin_reversal, count_actions, give_action, end_reversal, Mark, unmarked, with_count, count_from, Act, assign, choose, loop, during, call, runtime, Extent, fixed, given, Procedure}
+use Rattle.adj_tree.specs.Code.{Var, plain, shadow, helper, Term, Terms, lit, var, elem, neg, bin, pow, power_of, abs, none, more, Test, compare, negation, conjunction, disjunction, Runtime, push_word, pop_word, push_array, pop_array, push_control, pop_control, zero_array, begin_reversal, count_actions, give_action, end_reversal, Mark, unmarked, with_count, count_from, Act, assign, choose, loop, during, call, runtime, Code, stop, step, Extent, fixed, given, Procedure}
 use Rattle.adj_tree.specs.Size.{term_depth, test_depth, code_depth}
 use Rattle.adj_text.specs.Statement.{Range}
 use Rattle.adj_readable.specs.Rule.{Rule, keeps}
@@ -109,6 +109,27 @@ shallow n = record {
 abbrev pub IsNested : ℕ → List Procedure → Type 0
 IsNested n [] = Unit {0}
 IsNested n (p ∷ ps) = (code_depth p.body ≤ n) × IsNested n ps
+
+-- ---- how many statements there are, those in IF and DO included
+
+abbrev mutual
+  pub acts_in : Act → ℕ
+  acts_in (assign x s e) = 1
+  acts_in (choose c a b) = 1 + (acts_in_code a + acts_in_code b)
+  acts_in (loop x a b c body m) = 1 + acts_in_code body
+  acts_in (during c body) = 1 + acts_in_code body
+  acts_in (call x es) = 1
+  acts_in (runtime r) = 1
+
+  pub acts_in_code : Code → ℕ
+  acts_in_code stop = 0
+  acts_in_code (step line a rest) = acts_in a + acts_in_code rest
+
+abbrev pub statements_in : List Procedure → ℕ
+statements_in [] = 0
+statements_in (p ∷ ps) = acts_in_code p.body + statements_in ps
+
+-- ---- all limits
 
 -- a program whose names have at most so many characters, whose expressions and conditions are at most so deep, and whose statements are nested at most so deep
 pub record IsKept (name depth nesting : ℕ) (ps : List Procedure) : Type 0 where

@@ -5,7 +5,7 @@
 //! for the text that is written.
 #![tactic(auto)]
 
-ghost use Rattle.adj_readable.specs.Reading.{KeptReads};
+ghost use Rattle.adj_readable.specs.Reading.{KeptReads, SourceIsKept};
 
 use adj_statement::statements_are_said;
 
@@ -13,6 +13,13 @@ use adj_statement::statements_are_said;
 /// or it has too many statements.
 pub fn kept_law()
     ensures { KeptReads }
+{
+    statements_are_said();
+}
+
+/// The program that a text gives in Source mode keeps the limits of that mode.
+pub fn source_law()
+    ensures { SourceIsKept }
 {
     statements_are_said();
 }
