@@ -1,0 +1,37 @@
+-- Limits: how deep kernels and emitted programs are, and that what is emitted for the program of a text in Source mode reads in Run mode. (docs/LANGUAGE.md, "Limits")
+use Rattle.std.specs.Prelude.{◌≡◌, ◌≤◌, ℕ, ◌+◌, true, List, Bool, Ok}
+use Rattle.adj_tree.specs.Code.{Procedure}
+use Rattle.adj_tree.specs.Lines.{unlined}
+use Rattle.adj_text.specs.Text.{text_of}
+use Rattle.adj_text.specs.Written.{IsWritten}
+use Rattle.adj_reverse.specs.Marking.{ProgramMarks}
+use Rattle.adj_reverse.specs.Program.{emitted_program}
+use Rattle.adj_kernel.specs.Stepped.{kernel_of}
+use Rattle.adj_emitted.specs.Emitted.{IsNested, AreShallow}
+use Rattle.adj_readable.specs.Rule.{keeps}
+use Rattle.adj_readable.specs.Kept.{short_names, shallow}
+use Rattle.adj_readable.specs.Kept as kept
+use Rattle.adj_readable.specs.Reading.{OrTooMany, run_program_of, source_program_of}
+
+-- the kernel is nested at most one deeper than the program
+abbrev pub KernelKeepsNesting : Type 0
+KernelKeepsNesting = (n : ℕ) (ps : List Procedure) → IsNested n ps → IsNested (n + 1) (kernel_of ps)
+
+-- its expressions and conditions are no deeper than those of the program, or 2 deep
+abbrev pub KernelKeepsDepth : Type 0
+KernelKeepsDepth = (n : ℕ) → 2 ≤ n → (ps : List Procedure) → AreShallow n ps → AreShallow n (kernel_of ps)
+
+-- what is emitted by any marks for the kernel of a program that a text gives in Source mode is no deeper, and nested no deeper, than a run takes
+pub record IsShallow (qs : List Procedure) : Type 0 where
+  pub depths : keeps (shallow 120) qs ≡ true
+  pub nested : kept.IsNested 45 qs
+
+abbrev pub EmittedIsShallow : Type 0
+EmittedIsShallow = (bytes : List ℕ) (ps : List Procedure) → source_program_of bytes ≡ Ok ps → (m : ProgramMarks) (head : ℕ) (vars outvars : List Bool) → IsShallow (emitted_program m (kernel_of ps) head vars outvars)
+
+-- so where it can be written and its names are short enough, its text reads in Run mode as it, up to line numbers, or has too many statements
+abbrev pub EmittedIsReadable : Type 0
+EmittedIsReadable =
+    (bytes : List ℕ) (ps : List Procedure) → source_program_of bytes ≡ Ok ps → (m : ProgramMarks) (head : ℕ) (vars outvars : List Bool) →
+    IsWritten (emitted_program m (kernel_of ps) head vars outvars) → keeps (short_names 63) (emitted_program m (kernel_of ps) head vars outvars) ≡ true →
+    OrTooMany (λ found. unlined found ≡ unlined (emitted_program m (kernel_of ps) head vars outvars)) (run_program_of (text_of (emitted_program m (kernel_of ps) head vars outvars)))

@@ -1,0 +1,25 @@
+//! What is emitted for the kernel of a program keeps the limits of a run: definitions and laws, no code.
+//!
+//! `specs/Limits` says how deep a kernel is, and what is emitted for it. The crate joins that with the law on texts in Run mode. The
+//! layer above uses `emitted_law` for the text that is written.
+#![tactic(auto)]
+
+ghost use Rattle.adj_limits.specs.Limits.{KernelKeepsNesting, KernelKeepsDepth, EmittedIsShallow, EmittedIsReadable};
+
+use adj_readable::{kept_law, source_law};
+
+/// The kernel of a program is nested at most one deeper than the program, and its expressions are no deeper, or 2 deep.
+pub fn kernel_law()
+    ensures nesting { KernelKeepsNesting }
+    ensures depth { KernelKeepsDepth }
+{}
+
+/// What is emitted for the kernel of a program that a text gives in Source mode is no deeper than a run takes; and where it can be written and
+/// its names are short enough, its text reads in Run mode as it, or has too many statements.
+pub fn emitted_law()
+    ensures shallow { EmittedIsShallow }
+    ensures readable { EmittedIsReadable }
+{
+    kept_law();
+    source_law();
+}
