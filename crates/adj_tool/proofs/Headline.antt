@@ -1,11 +1,12 @@
 -- A call whose answer is the text of an adjoint has the property of the headline.
 use Rattle.std.proofs.Common.{◌≡◌, ℕ, List, Option, Some, None}
 use Rattle.adj_io.specs.Bytes.{extended_by}
-use Rattle.adj_tool.specs.Words.{Command, Adjoint, Run, Schedule}
+use Rattle.adj_tool.specs.Words.{Command, Adjoint, Plan, Run, Schedule}
 use Rattle.adj_tool.specs.Tool.{IsAdjoinedTo, IsHeadline}
 
 pub headline : (asked : Option Command) (before after written_before written_after : Option (List ℕ)) (text : List ℕ) → IsAdjoinedTo asked before after text → written_after ≡ extended_by written_before text → IsHeadline asked before after written_before written_after
 headline None before after wb wa text h w = tt
+headline (Some (Plan r)) before after wb wa text h w = tt
 headline (Some (Run r)) before after wb wa text h w = tt
 headline (Some (Schedule l m)) before after wb wa text h w = tt
 headline (Some (Adjoint r)) before after wb wa text h w = record {

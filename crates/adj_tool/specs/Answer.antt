@@ -1,5 +1,5 @@
 -- Answer: what a command writes, and the status that goes with it.
-use Rattle.std.specs.Prelude.{ℕ, nat_lt, Bool, true, false, List, ◌++◌, length, flat_map, Option, Some, None, Result, Ok, Err, codes, decimal, if◌then◌else◌}
+use Rattle.std.specs.Prelude.{◌≡◌, ℕ, nat_lt, Bool, true, false, List, ◌++◌, length, flat_map, Option, Some, None, Result, Ok, Err, codes, decimal}
 use Rattle.adj_tree.specs.Code.{Procedure}
 use Rattle.adj_tree.specs.declared.fault.Refusal.{Refusal}
 use Rattle.adj_tree.specs.declared.marks.Head.{Head}
@@ -11,12 +11,18 @@ use Rattle.adj_text.specs.declared.mode.Mode.TheVariants.{Source}
 use Rattle.adj_answer.specs.Answer.{Answer, line_of_one, refused, too_long}
 use Rattle.adj_answer.specs.Programs.{program_of}
 use Rattle.adj_kernel.specs.Stepped.{kernel_of}
-use Rattle.adj_accepted.specs.Accepted.{emitted_for}
+use Rattle.adj_reverse.specs.Marking.{ProgramMarks}
+use Rattle.adj_plan.specs.Lines.{plan_lines, TellsPlan}
+use Rattle.adj_plan.specs.declared.lines.Said.{Said}
+use Rattle.adj_planned.specs.Planned.{kernel_problem, planned_for}
 use Rattle.adj_revolve.specs.declared.machine.Action.{Action}
 use Rattle.adj_revolve.specs.declared.machine.Action.TheVariants.{Store, Advance, Turn, Keep, Drop}
 use Rattle.adj_revolve.specs.Schedule.{schedule_of}
 use Rattle.adj_revolve.specs.LeastCost.{least_cost}
 use Rattle.adj_tool.specs.Words.{Request}
+use Rattle.adj_tool.specs.declared.task.Wanted.{Wanted}
+use Rattle.adj_tool.specs.declared.task.Wanted.TheVariants as wanted
+use Rattle.adj_tool.specs.Planned.{AreExact}
 use Rattle.adj_tool.specs.Profile.{first_untreated}
 use Rattle.adj_tool.specs.Fitting.{most_counted, kernel_fits}
 
@@ -37,7 +43,7 @@ schedule_answer steps snapshots = record {
   text = flat_map action_line (schedule_of 0 steps snapshots) ++ line_of_one (codes "ADVANCES ") (least_cost steps snapshots);
 }
 
--- ---- adjoints
+-- ---- adjoints and plans
 
 -- the most bytes of an input
 abbrev pub most_bytes : ℕ
@@ -47,44 +53,65 @@ most_bytes = 4194304
 abbrev pub untreated : ℕ → Answer
 untreated line = refused (record { code = 3; line = line; number = 0 })
 
--- the adjoint of a program for the unit of a name as its head, as a program: what is emitted for the kernel
-abbrev pub emitted : List Procedure → List ℕ → Head → List Procedure
-emitted ps name h = emitted_for ps name h.vars h.outvars
-
-abbrev pub written : List Procedure → List ℕ → Head → Answer
-written ps name h = record { status = 0; text = text_of (emitted ps name h) }
-
 -- a kernel is too large
 abbrev pub too_large : Answer
 too_large = refused (record { code = 21; line = 0; number = most_counted })
 
--- the answer for a program and its head, where the kernel fits, or not
-abbrev pub fitted_answer : Bool → List Procedure → List ℕ → Head → Answer
-fitted_answer true ps name h = written ps name h
-fitted_answer false ps name h = too_large
+-- the text of the adjoint of a program for the unit of a name as its head: what is emitted for the kernel by the marks of exact analyses
+pub record IsWritten (ps : List Procedure) (name : List ℕ) (h : Head) (a : Answer) : Type 0 where
+  pub marks : ProgramMarks
+  pub exact : AreExact ps name h marks
+  pub text : a ≡ record { status = 0; text = text_of (planned_for ps name h.vars h.outvars marks) }
 
--- the answer for a program and its head, where a statement at a line isn't treated yet, or none
-abbrev pub treated_answer : Option ℕ → List Procedure → List ℕ → Head → Answer
-treated_answer (Some line) ps name h = untreated line
-treated_answer None ps name h = fitted_answer (kernel_fits (kernel_of ps)) ps name h
+-- the plan of a program for the unit of a name as its head: a line for each statement of the kernel, with the letters that exact analyses say
+pub record IsPlanned (ps : List Procedure) (name : List ℕ) (h : Head) (a : Answer) : Type 0 where
+  pub said : ℕ → ℕ → Said
+  pub takes : ℕ → Bool
+  pub tells : TellsPlan (kernel_problem ps name h.vars h.outvars) said takes
+  pub text : a ≡ record { status = 0; text = plan_lines said takes (kernel_of ps) }
+
+abbrev pub IsGiven : Wanted → List Procedure → List ℕ → Head → Answer → Type 0
+IsGiven wanted.Adjoint ps name h a = IsWritten ps name h a
+IsGiven wanted.Plan ps name h a = IsPlanned ps name h a
+
+-- the answer for a program and its head, where the kernel fits, or not
+abbrev pub AnswersFitted : Bool → Wanted → List Procedure → List ℕ → Head → Answer → Type 0
+AnswersFitted true w ps name h a = IsGiven w ps name h a
+AnswersFitted false w ps name h a = a ≡ too_large
+
+-- the answer of `adjoint` for a program and its head, where a statement at a line isn't treated yet, or none
+abbrev pub AnswersTreated : Option ℕ → List Procedure → List ℕ → Head → Answer → Type 0
+AnswersTreated (Some line) ps name h a = a ≡ untreated line
+AnswersTreated None ps name h a = AnswersFitted (kernel_fits (kernel_of ps)) wanted.Adjoint ps name h a
+
+-- the answer for a program and its head; `plan` treats all statements
+abbrev pub AnswersAccepted : Wanted → List Procedure → List ℕ → Head → Answer → Type 0
+AnswersAccepted wanted.Adjoint ps name h a = AnswersTreated (first_untreated ps) ps name h a
+AnswersAccepted wanted.Plan ps name h a = AnswersFitted (kernel_fits (kernel_of ps)) wanted.Plan ps name h a
 
 -- the answer for a program in which names, calls and writes have no fault, where the head or a listed name has one, or none
-abbrev pub headed_answer : Option Refusal → Request → List Procedure → Answer
-headed_answer (Some e) r ps = refused e
-headed_answer None r ps = treated_answer (first_untreated ps) ps r.head (head_of ps r.head r.vars r.outvars)
+abbrev pub AnswersHeaded : Option Refusal → Wanted → Request → List Procedure → Answer → Type 0
+AnswersHeaded (Some e) w r ps a = a ≡ refused e
+AnswersHeaded None w r ps a = AnswersAccepted w ps r.head (head_of ps r.head r.vars r.outvars) a
 
 -- the answer for a program, where its names, calls and writes have a fault, or none
-abbrev pub checked_answer : Option Refusal → Request → List Procedure → Answer
-checked_answer (Some e) r ps = refused e
-checked_answer None r ps = headed_answer (first_head_fault ps r.head r.vars r.outvars) r ps
+abbrev pub AnswersChecked : Option Refusal → Wanted → Request → List Procedure → Answer → Type 0
+AnswersChecked (Some e) w r ps a = a ≡ refused e
+AnswersChecked None w r ps a = AnswersHeaded (first_head_fault ps r.head r.vars r.outvars) w r ps a
 
-abbrev pub program_answer : Request → List Procedure → Answer
-program_answer r ps = checked_answer (first_fault source_rules ps) r ps
+abbrev pub AnswersProgram : Wanted → Request → List Procedure → Answer → Type 0
+AnswersProgram w r ps a = AnswersChecked (first_fault source_rules ps) w r ps a
 
 -- the answer for a text that reads as a program, or is refused
-abbrev pub text_answer : Request → Result (List Procedure) Refusal → Answer
-text_answer r (Err e) = refused e
-text_answer r (Ok ps) = program_answer r ps
+abbrev pub AnswersText : Wanted → Request → Result (List Procedure) Refusal → Answer → Type 0
+AnswersText w r (Err e) a = a ≡ refused e
+AnswersText w r (Ok ps) a = AnswersProgram w r ps a
 
-abbrev pub adjoint_answer : Request → List ℕ → Answer
-adjoint_answer r bytes = if nat_lt most_bytes (length bytes) then too_long most_bytes else text_answer r (program_of Source bytes)
+-- the answer for an input that is too long, or not
+abbrev pub AnswersSized : Bool → Wanted → Request → List ℕ → Answer → Type 0
+AnswersSized true w r bytes a = a ≡ too_long most_bytes
+AnswersSized false w r bytes a = AnswersText w r (program_of Source bytes) a
+
+-- the answer of `adjoint`, or of `plan`
+abbrev pub AnswersWanted : Wanted → Request → List ℕ → Answer → Type 0
+AnswersWanted w r bytes a = AnswersSized (nat_lt most_bytes (length bytes)) w r bytes a

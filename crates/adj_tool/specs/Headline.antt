@@ -1,5 +1,5 @@
 -- Headline: what the written text is.
-use Rattle.std.specs.Prelude.{◌≡◌, ℕ, List, map, Bool, Some}
+use Rattle.std.specs.Prelude.{◌≡◌, ℕ, List, map, Bool, false, Some}
 use Rattle.adj_tree.specs.Code.{Procedure}
 use Rattle.adj_text.specs.Reads.{Reads}
 use Rattle.adj_text.specs.ReadsAs.{ReadsAs}
@@ -8,7 +8,12 @@ use Rattle.adj_meaning.specs.Written.{find_unit}
 use Rattle.adj_names.specs.Fresh.{has_name}
 use Rattle.adj_names.specs.Fault.{run_rules}
 use Rattle.adj_names.specs.Check.{IsSound}
-use Rattle.adj_accepted.specs.Accepted.{IsFullAdjointOf}
+use Rattle.adj_names.specs.HeadFaults.{head_of}
+use Rattle.adj_reverse.specs.Marking.{ProgramMarks}
+use Rattle.adj_accepted.specs.Accepted.{IsAdjointOf}
+use Rattle.adj_planned.specs.Planned.{planned_for}
+use Rattle.adj_tree.specs.declared.marks.Head.{Head}
+use Rattle.adj_tool.specs.Planned.{AreExact}
 use Rattle.adj_tool.specs.Words.{Request}
 use Rattle.adj_answer.specs.Answer.{Answer}
 
@@ -34,11 +39,20 @@ pub record WritesAdjoint (r : Request) (bytes written : List ℕ) : Type 0 where
   pub text : written ≡ text_of adjoint
   -- as a text that is run, it has no fault of units, names, calls, chains and writes
   pub sound : IsSound run_rules adjoint
-  pub is_adjoint : IsFullAdjointOf source r.head (flags_of r.vars unit.dummies) (flags_of r.outvars unit.dummies) adjoint
+  -- by the marks that exact analyses of the kernel give
+  pub marks : ProgramMarks
+  pub exact : AreExact source r.head (head_of source r.head r.vars r.outvars) marks
+  pub is_adjoint : IsAdjointOf (λ line. false) marks source r.head (flags_of r.vars unit.dummies) (flags_of r.outvars unit.dummies) adjoint
 
--- where the answer is done, its text reads as a program
-abbrev pub ReadsBack : Answer → List Procedure → Type 0
-ReadsBack a ps = a.status ≡ 0 → ReadsAs a.text ps
+-- where the answer is done, its text reads as the program that is emitted by the marks of exact analyses
+pub record ReadsWritten (ps : List Procedure) (name : List ℕ) (h : Head) (text : List ℕ) : Type 0 where
+  pub marks : ProgramMarks
+  pub exact : AreExact ps name h marks
+  pub is_text : text ≡ text_of (planned_for ps name h.vars h.outvars marks)
+  pub reads : ReadsAs text (planned_for ps name h.vars h.outvars marks)
+
+abbrev pub ReadsBack : Answer → List Procedure → List ℕ → Head → Type 0
+ReadsBack a ps name h = a.status ≡ 0 → ReadsWritten ps name h a.text
 
 -- where the answer to these bytes is done, its text is that of an adjoint
 abbrev pub IsAdjoined : Request → List ℕ → Answer → Type 0

@@ -1,6 +1,7 @@
 pub mod Profile
 pub mod Fitting
 pub mod Words
+pub mod Planned
 pub mod Answer
 pub mod Headline
 pub mod Views

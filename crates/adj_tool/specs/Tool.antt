@@ -3,27 +3,35 @@ use Rattle.std.specs.Prelude.{◌≡◌, ◌⊎◌, ◌+◌, ◌<◌, ℕ, List,
 use Rattle.adj_io.specs.Bytes.{IsAtEnd, extended_by, followed_by}
 use Rattle.adj_answer.specs.Answer.{Answer, usage}
 use Rattle.adj_running.specs.Running as running
-use Rattle.adj_tool.specs.Words.{Command, Request, Adjoint, Run, Schedule}
+use Rattle.adj_running.specs.Running.{Asked}
+use Rattle.adj_tool.specs.Words.{Command, Request, Adjoint, Plan, Run, Schedule}
 use Rattle.adj_tool.specs.Headline.{WritesAdjoint}
-use Rattle.adj_tool.specs.Answer.{schedule_answer, adjoint_answer, most_bytes}
+use Rattle.adj_tool.specs.Answer.{schedule_answer, AnswersWanted, most_bytes}
+use Rattle.adj_tool.specs.declared.task.Wanted.TheVariants as wanted
 
 -- the answer to an input of at most so many bytes, of which some were read: it was read to its end, or one byte more than the limit was
-pub record AnswersInput (most : ℕ) (answer_to : List ℕ → Answer) (before after : Option (List ℕ)) (a : Answer) : Type 0 where
+pub record AnswersInput (most : ℕ) (Answers : List ℕ → Answer → Type 0) (before after : Option (List ℕ)) (a : Answer) : Type 0 where
   pub bytes : List ℕ
   pub were_left : before ≡ followed_by bytes after
   pub enough : IsAtEnd after ⊎ (length bytes ≡ most + 1)
-  pub answers : a ≡ answer_to bytes
+  pub answers : Answers bytes a
+
+-- the answer of `run`
+abbrev pub AnswersRun : Asked → List ℕ → Answer → Type 0
+AnswersRun r bytes a = a ≡ running.run_answer r bytes
 
 -- the answer to what the words ask for, where `before` and `after` are the bytes that the source had left before the call and has left after it
 abbrev pub IsAnswer : Option Command → Option (List ℕ) → Option (List ℕ) → Answer → Type 0
 IsAnswer None before after a = (a ≡ usage) × (after ≡ before)
 IsAnswer (Some (Schedule l s)) before after a = (a ≡ schedule_answer l s) × (after ≡ before)
-IsAnswer (Some (Adjoint r)) before after a = AnswersInput most_bytes (adjoint_answer r) before after a
-IsAnswer (Some (Run r)) before after a = AnswersInput running.most_bytes (running.run_answer r) before after a
+IsAnswer (Some (Adjoint r)) before after a = AnswersInput most_bytes (AnswersWanted wanted.Adjoint r) before after a
+IsAnswer (Some (Plan r)) before after a = AnswersInput most_bytes (AnswersWanted wanted.Plan r) before after a
+IsAnswer (Some (Run r)) before after a = AnswersInput running.most_bytes (AnswersRun r) before after a
 
 -- the words ask for a command that reads
 abbrev pub ReadsInput : Option Command → Type 0
 ReadsInput (Some (Adjoint r)) = Unit {0}
+ReadsInput (Some (Plan r)) = Unit {0}
 ReadsInput (Some (Run r)) = Unit {0}
 ReadsInput (Some (Schedule l s)) = ⊥
 ReadsInput None = ⊥

@@ -1,5 +1,5 @@
 -- Words: what the program is asked to do.
-use Rattle.std.specs.Prelude.{ℕ, ◌-◌, ◌+◌, ◌*◌, ◌^◌, ◌==◌, nat_le, List, [], ◌∷◌, length, map, fold, Bool, true, false, not, ◌&&◌, ◌||◌, if◌then◌else◌, Option, Some, None, is_some, option_and_then, codes}
+use Rattle.std.specs.Prelude.{ℕ, ◌-◌, ◌+◌, ◌*◌, ◌^◌, ◌==◌, nat_le, List, [], ◌∷◌, length, map, fold, Bool, true, false, not, ◌&&◌, ◌||◌, if◌then◌else◌, Option, Some, None, is_some, option_map, option_and_then, codes}
 use Rattle.std.specs.List.{list_all}
 use Rattle.std.specs.Str.{bytes_eq}
 use Rattle.clap.specs.Kinds.{Kinds}
@@ -97,6 +97,7 @@ pub record Request : Type 0 where
 -- the commands
 pub data Command : Type 0 where
   Adjoint : Request → Command
+  Plan : Request → Command
   Run : Asked → Command
   -- steps and snapshots
   Schedule : ℕ → ℕ → Command
@@ -105,16 +106,24 @@ pub data Command : Type 0 where
 abbrev pub lacks : List Text → List Row → Bool
 lacks ids rows = list_all (λ id. not (is_some (first_of id rows))) ids
 
-abbrev pub with_request : Option Text → Option (List Text) → Option (List Text) → Option Command
-with_request (Some head) (Some vars) (Some outvars) = Some (Adjoint (record { head = head; vars = vars; outvars = outvars }))
+abbrev pub with_request : Option Text → Option (List Text) → Option (List Text) → Option Request
+with_request (Some head) (Some vars) (Some outvars) = Some (record { head = head; vars = vars; outvars = outvars })
 with_request _ _ _ = None
 
--- adjoint --head NAME --vars LIST --outvars LIST
-abbrev pub adjoint_asked : List Row → Option Command
-adjoint_asked rows =
+-- --head NAME --vars LIST --outvars LIST
+abbrev pub request_asked : List Row → Option Request
+request_asked rows =
     if lacks (codes "numbers" ∷ codes "budget" ∷ codes "tape" ∷ []) rows
     then with_request (option_and_then name_of (first_of (codes "head") rows)) (option_and_then names_of (first_of (codes "vars") rows)) (option_and_then names_of (first_of (codes "outvars") rows))
     else None
+
+-- adjoint with these
+abbrev pub adjoint_asked : List Row → Option Command
+adjoint_asked rows = option_map Adjoint (request_asked rows)
+
+-- plan with these
+abbrev pub plan_asked : List Row → Option Command
+plan_asked rows = option_map Plan (request_asked rows)
 
 -- the number of an option, or another where the option is absent
 abbrev pub number_or : ℕ → ℕ → ℕ → Option Text → Option ℕ
@@ -152,9 +161,10 @@ schedule_asked rows =
 abbrev pub command_asked : Text → List Row → Option Command
 command_asked name rows =
     if bytes_eq name (codes "adjoint") then adjoint_asked rows
+    else (if bytes_eq name (codes "plan") then plan_asked rows
     else (if bytes_eq name (codes "run") then run_asked rows
     else (if bytes_eq name (codes "schedule") then schedule_asked rows
-    else None))
+    else None)))
 
 abbrev pub asked : List Row → Option Command
 asked rows = option_and_then (λ name. command_asked name rows) (first_of (codes "command") rows)

@@ -1,7 +1,8 @@
 //! The top call: what the program does for its words, its input and its output.
 #![tactic(auto)]
 
-mod adjoint;
+mod answering;
+mod planned;
 mod running;
 mod schedule;
 mod stop;

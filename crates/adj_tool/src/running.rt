@@ -5,7 +5,7 @@ ghost use Rattle.adj_io.specs.Faults.{Rose};
 ghost use Rattle.adj_answer.specs.Views.{answer_of};
 ghost use Rattle.adj_running.specs.Running.{most_bytes, run_answer};
 ghost use Rattle.adj_running.specs.Views.{asked_of};
-ghost use Rattle.adj_tool.specs.Tool.{AnswersInput};
+ghost use Rattle.adj_tool.specs.Tool.{AnswersInput, AnswersRun};
 
 use crate::stop::Stop;
 use adj_answer::{Answer, refused};
@@ -23,7 +23,7 @@ pub(crate) fn run_input<S: Source>(
     request: &RunRequest,
     input: &mut S,
 ) -> Result<Answer, Stop>
-    ensures answer { IfOk result (λ a. AnswersInput most_bytes (run_answer (asked_of request.now)) (S.left input.old) (S.left input.new) (answer_of a)) }
+    ensures answer { IfOk result (λ a. AnswersInput most_bytes (AnswersRun (asked_of request.now)) (S.left input.old) (S.left input.new) (answer_of a)) }
     ensures fault { IsErrOf result Stop.ReadFault → Rose (S.faults input.old) (S.faults input.new) }
 {
     match read_all(alloc, input, MOST_BYTES) {

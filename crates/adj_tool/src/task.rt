@@ -13,6 +13,13 @@ pub struct Request {
     pub outvars: NameList,
 }
 
+/// What is wanted of a head: its adjoint, or the marks by which that is written.
+#[derive(Clone, Copy, Debug)]
+pub enum Wanted {
+    Adjoint,
+    Plan,
+}
+
 /// A number of steps that is to be reversed with a number of snapshots.
 #[derive(Clone, Copy, Debug)]
 pub struct Reversal {
@@ -28,6 +35,8 @@ pub struct Reversal {
 pub enum Task {
     /// Write the adjoint of a unit.
     Adjoint(Request),
+    /// Write the marks of the kernel.
+    Plan(Request),
     /// Run a unit on data.
     Run(RunRequest),
     /// Write the schedule of a reversal.

@@ -4,15 +4,15 @@ ghost use Rattle.std.specs.Prelude.{◌≡◌, ◌<◌, ◌⊎◌, IfOk, IsErrOf
 ghost use Rattle.adj_io.specs.Faults.{Rose};
 ghost use Rattle.adj_tool.specs.Words.{taken};
 ghost use Rattle.adj_answer.specs.Views.{answer_of};
-ghost use Rattle.adj_tool.specs.Answer.{adjoint_answer, most_bytes};
+ghost use Rattle.adj_tool.specs.Answer.{AnswersWanted, most_bytes};
 ghost use Rattle.adj_tool.specs.Views.{request_of};
 ghost use Rattle.adj_tool.specs.Tool.{AdjoinsInput, AnswersInput, IsAdjoinedTo, IsAnswer, IsHeadline, ReadsInput, WritesAll, WritesFront};
 
-use crate::adjoint::adjoint;
+use crate::answering::answer_wanted;
 use crate::running::run_input;
 use crate::schedule::schedule;
 use crate::stop::Stop;
-use crate::task::{Request, Task};
+use crate::task::{Request, Task, Wanted};
 use crate::text::Text;
 use crate::words::take;
 use adj_answer::{Answer, refused, usage};
@@ -23,15 +23,20 @@ use std::alloc::Global;
 /// The most bytes of an input.
 const MOST_BYTES: usize = 4_194_304;
 
-// The answer of `adjoint` to an input.
-fn answer_input<S: Source>(alloc: Global, request: &Request, input: &mut S) -> Result<Answer, Stop>
-    ensures answer { IfOk result (λ a. AnswersInput most_bytes (adjoint_answer (request_of request.now)) (S.left input.old) (S.left input.new) (answer_of a)) }
-    ensures adjoint { IfOk result (λ a. (answer_of a).status ≡ 0 → AdjoinsInput (request_of request.now) (S.left input.old) (S.left input.new) a.text.items) }
+// The answer to an input of a command that is asked for a head.
+fn answer_input<S: Source>(
+    alloc: Global,
+    wanted: Wanted,
+    request: &Request,
+    input: &mut S,
+) -> Result<Answer, Stop>
+    ensures answer { IfOk result (λ a. AnswersInput most_bytes (AnswersWanted wanted (request_of request.now)) (S.left input.old) (S.left input.new) (answer_of a)) }
+    ensures adjoint { wanted ≡ Wanted.Adjoint → IfOk result (λ a. (answer_of a).status ≡ 0 → AdjoinsInput (request_of request.now) (S.left input.old) (S.left input.new) a.text.items) }
     ensures fault { IsErrOf result Stop.ReadFault → Rose (S.faults input.old) (S.faults input.new) }
 {
     match read_all(alloc, input, MOST_BYTES) {
         Ok(bytes) => {
-            let answer = adjoint(alloc, request, bytes.as_slice())?;
+            let answer = answer_wanted(alloc, wanted, request, bytes.as_slice())?;
             Ok(answer)
         }
         Err(ReadError::TooLong) => {
@@ -57,7 +62,11 @@ fn answer_words<S: Source>(alloc: Global, words: &[Text], input: &mut S) -> Resu
     };
     match task {
         Task::Adjoint(request) => {
-            let answer = answer_input(alloc, &request, input)?;
+            let answer = answer_input(alloc, Wanted::Adjoint, &request, input)?;
+            Ok(answer)
+        }
+        Task::Plan(request) => {
+            let answer = answer_input(alloc, Wanted::Plan, &request, input)?;
             Ok(answer)
         }
         Task::Run(request) => {

@@ -1,8 +1,8 @@
 //! The words of a command, as `clap` reads them.
 
 ghost use Rattle.std.specs.Prelude.{◌≡◌, ◌≤◌, false, not, is_some, ℕ, List, ◌∷◌, IfOk, IfSome, Option, option_map, option_and_then, map, codes};
-ghost use Rattle.adj_tool.specs.Words.{bare_program, program, command_rule, numbers_rule, option_rule, lacks, name_of, names_of, adjoint_asked, number_or, run_asked, schedule_asked, numbers_asked, command_asked, asked, taken};
-ghost use Rattle.adj_tool.specs.Views.{command_of};
+ghost use Rattle.adj_tool.specs.Words.{bare_program, program, command_rule, numbers_rule, option_rule, lacks, name_of, names_of, request_asked, adjoint_asked, plan_asked, number_or, run_asked, schedule_asked, numbers_asked, command_asked, asked, taken};
+ghost use Rattle.adj_tool.specs.Views.{command_of, some_request};
 ghost use Rattle.clap.specs.Simple.{app_of, with_rule};
 ghost use Rattle.clap.specs.Matches.{found_of};
 ghost use Rattle.clap.specs.Walk.{rows_of, rule_of, first_of, all_of};
@@ -113,9 +113,9 @@ fn list_option(
     }
 }
 
-// adjoint --head NAME --vars LIST --outvars LIST
-fn adjoint_task(alloc: Global, matches: &ArgMatches<'_>) -> Result<Option<Task>, Memory>
-    ensures { IfOk result (λ r. option_map command_of r ≡ adjoint_asked (rows_of (found_of matches.now))) }
+// --head NAME --vars LIST --outvars LIST
+fn request_asked(alloc: Global, matches: &ArgMatches<'_>) -> Result<Option<Request>, Memory>
+    ensures { IfOk result (λ r. some_request r ≡ request_asked (rows_of (found_of matches.now))) }
 {
     let lacks = is_absent(matches, "numbers")
         && is_absent(matches, "budget")
@@ -127,12 +127,32 @@ fn adjoint_task(alloc: Global, matches: &ArgMatches<'_>) -> Result<Option<Task>,
     let vars = list_option(alloc, matches, "vars")?;
     let outvars = list_option(alloc, matches, "outvars")?;
     match (head, vars, outvars) {
-        (Some(head), Some(vars), Some(outvars)) => Ok(Some(Task::Adjoint(Request {
+        (Some(head), Some(vars), Some(outvars)) => Ok(Some(Request {
             head,
             vars,
             outvars,
-        }))),
+        })),
         _ => Ok(None),
+    }
+}
+
+// adjoint with these
+fn adjoint_task(alloc: Global, matches: &ArgMatches<'_>) -> Result<Option<Task>, Memory>
+    ensures { IfOk result (λ r. option_map command_of r ≡ adjoint_asked (rows_of (found_of matches.now))) }
+{
+    match request_asked(alloc, matches)? {
+        Some(request) => Ok(Some(Task::Adjoint(request))),
+        None => Ok(None),
+    }
+}
+
+// plan with these
+fn plan_task(alloc: Global, matches: &ArgMatches<'_>) -> Result<Option<Task>, Memory>
+    ensures { IfOk result (λ r. option_map command_of r ≡ plan_asked (rows_of (found_of matches.now))) }
+{
+    match request_asked(alloc, matches)? {
+        Some(request) => Ok(Some(Task::Plan(request))),
+        None => Ok(None),
     }
 }
 
@@ -216,6 +236,10 @@ fn task_asked(alloc: Global, matches: &ArgMatches<'_>) -> Result<Option<Task>, M
     };
     if name == "adjoint" {
         let task = adjoint_task(alloc, matches)?;
+        return Ok(task);
+    }
+    if name == "plan" {
+        let task = plan_task(alloc, matches)?;
         return Ok(task);
     }
     if name == "run" {

@@ -1,11 +1,10 @@
+use Rattle.std.proofs.Common.{sym, refl, ◌∙◌}
 use Rattle.adj_tree.specs.View.{procedures_of}
 use Rattle.adj_kernel.specs.Sound.{IsAccepted}
-use Rattle.adj_kernel.specs.Stepped.{kernel_of}
-use Rattle.adj_answer.specs.Views.{answer_of}
 use Rattle.adj_tool.specs.Views.{request_of}
-use Rattle.adj_tool.specs.Fitting.{kernel_fits}
-use Rattle.adj_tool.proofs.Heads.{head_there, fitted_adjoins}
-use Rattle.adj_tool.proofs.adjoint.answer_head.Goals as goal
+use Rattle.adj_tool.proofs.Heads.{head_there, head_adjoins}
+use Rattle.adj_tool.proofs.Spared.{none_marked}
+use Rattle.adj_tool.proofs.answering.answer_adjoint.Goals as goal
 
 pub written-requires-clause-accepted : goal.written-requires-clause-accepted
 written-requires-clause-accepted c = record { written = c.requires.written; sound = c.requires.sound }
@@ -17,4 +16,6 @@ pub returns-clause-adjoint : goal.returns-clause-adjoint
 returns-clause-adjoint c =
     let ps = procedures_of c.args.program.now in
     let accepted : IsAccepted ps = record { written = c.requires.written; sound = c.requires.sound } in
-    fitted_adjoins (request_of c.args.request.now) ps c.args.head c.requires.sound_head c.requires.head accepted (kernel_fits (kernel_of ps)) (answer_of c.in_ok-answer.answer) c.in_ok-answer.ensures.answer c.in_ok-answer.ensures.reads_back
+    λ bytes reads done.
+    head_adjoins (request_of c.args.request.now) ps c.args.head c.requires.sound_head c.requires.head accepted (none_marked ps (sym c.first_untreated.ensures ∙ c.in_default.is)) c.in_ok-answer.answer.text.items
+    (c.in_ok-answer.ensures.reads_back refl done) bytes reads

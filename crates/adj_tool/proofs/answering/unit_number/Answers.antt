@@ -3,7 +3,7 @@ use Rattle.std.specs.Prelude.{length, map}
 use Rattle.adj_tree.specs.View.{procedure_of}
 use Rattle.adj_names.specs.HeadFaults.{unit_number}
 use Rattle.adj_tool.proofs.Numbers.{passed, found, none}
-use Rattle.adj_tool.proofs.adjoint.unit_number.Goals as goal
+use Rattle.adj_tool.proofs.answering.unit_number.Goals as goal
 
 pub returns-then-equals : goal.returns-then-equals
 returns-then-equals c =

@@ -1,0 +1,35 @@
+-- What is emitted for a kernel by the marks of its plan.
+use Rattle.std.proofs.Common.{◌≡◌, List, refl, sym, ap, ◌∙◌, subst}
+use Rattle.adj_tree.specs.Code.{Procedure}
+use Rattle.adj_tree.specs.declared.marks.Head.{Head}
+use Rattle.adj_tree.specs.declared.marks.Marks as flags
+use Rattle.adj_names.specs.Fault.{Rules}
+use Rattle.adj_reverse.specs.Program.{emitted_program}
+use Rattle.adj_checked.specs.Checked.{IsChecked}
+use Rattle.adj_emitted.specs.Shadowed.{AllHaveShadows}
+use Rattle.adj_flow.specs.Asked.{problem_of, units_of}
+use Rattle.adj_flow.specs.declared.units.Flow.{Flow}
+use Rattle.adj_activity.specs.Asked.{activity_of, liveness_of, saved_of}
+use Rattle.adj_plan.specs.Asked.{IsPlan}
+use Rattle.adj_weave.specs.Marked.{marks_told}
+use Rattle.adj_weave.proofs.Lending.{exact_shadows}
+use Rattle.adj_tool.specs.Planned.{IsEmittedFor}
+
+module _ (us : List Procedure) (f : Flow) (h : Head) (t : flags.Marks) (same : units_of f ≡ us) (x : IsPlan f (problem_of f h) t) where
+  -- the shadows that the marks use are there
+  pub shadows_there : (rules : Rules) → IsChecked rules us → AllHaveShadows (marks_told f t) us us
+  shadows_there rules checked =
+      subst (λ vs. AllHaveShadows (marks_told f t) vs vs) same
+      (exact_shadows rules (problem_of f h) (subst (IsChecked rules) (sym same) checked) (activity_of f t.activity) x.analysed.active (marks_told f t) refl (λ n. refl))
+
+  -- it is what exact analyses have emitted
+  pub emitted_for_units : (qs : List Procedure) → qs ≡ emitted_program (marks_told f t) us h.unit h.vars h.outvars → IsEmittedFor us h qs
+  emitted_for_units qs e =
+      subst (λ vs. IsEmittedFor vs h qs) same (record {
+        activity = activity_of f t.activity;
+        liveness = liveness_of x.needed f t.kept;
+        saved = saved_of f t.saved;
+        held = x.held;
+        analysed = x.analysed;
+        emitted = e ∙ ap (λ vs. emitted_program (marks_told f t) vs h.unit h.vars h.outvars) (sym same);
+      })

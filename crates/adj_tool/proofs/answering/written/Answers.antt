@@ -1,0 +1,40 @@
+use Rattle.std.proofs.Common.{rules, ◌≡◌, ◌∙◌, ap, sym, refl, subst, true}
+use Rattle.adj_tree.specs.View.{procedures_of}
+use Rattle.adj_names.specs.HeadFaults.{unit_number}
+use Rattle.adj_kernel.specs.Stepped.{kernel_of}
+use Rattle.adj_answer.specs.Answer.{Answer}
+use Rattle.adj_tool.specs.Answer.{AnswersFitted}
+use Rattle.adj_tool.specs.Fitting.{kernel_fits}
+use Rattle.adj_tool.specs.Planned.{IsTextFor}
+use Rattle.adj_tool.proofs.Heads.{kernel_head, kernel_is_checked, for_kernel, text_given, text_reads}
+use Rattle.adj_tool.proofs.answering.written.Goals as goal
+
+pub text_wanted-requires-clause-head : goal.text_wanted-requires-clause-head
+text_wanted-requires-clause-head c =
+    kernel_head (procedures_of c.args.program.now) c.in_ok-kernel.kernel.program c.in_ok-kernel.ensures.kernel c.args.name.now c.requires.there c.unit_number-unit.result
+    (c.unit_number-unit.ensures ∙ ap (λ q. unit_number (procedures_of q) c.args.name.now) c.program.ensures.program)
+
+pub text_wanted-requires-clause-checked : goal.text_wanted-requires-clause-checked
+text_wanted-requires-clause-checked c = kernel_is_checked (procedures_of c.args.program.now) c.in_ok-kernel.kernel.program c.in_ok-kernel.ensures.kernel c.requires.accepted
+
+pub returns-clause-answer : goal.returns-clause-answer
+returns-clause-answer c =
+    let ps = procedures_of c.args.program.now in
+    let h = c.args.head in
+    let w = c.args.wanted in
+    let text = c.in_ok-text.text.items in
+    let is = c.unit_number-unit.ensures ∙ ap (λ q. unit_number (procedures_of q) c.args.name.now) c.program.ensures.program in
+    let x = for_kernel ps c.in_ok-kernel.kernel.program c.in_ok-kernel.ensures.kernel (λ us k. IsTextFor w us k text) c.args.name.now c.unit_number-unit.result is h.vars h.outvars c.in_ok-text.ensures.text in
+    let a : Answer = record { status = 0; text = c.in_ok-text.text.items } in
+    let fits : kernel_fits (kernel_of ps) ≡ true = search rules in
+    subst (λ b. AnswersFitted b w ps c.args.name.now h a) (sym fits) (text_given ps c.args.name.now h c.requires.accepted w text x a refl refl)
+
+pub returns-clause-reads_back : goal.returns-clause-reads_back
+returns-clause-reads_back c =
+    let ps = procedures_of c.args.program.now in
+    let h = c.args.head in
+    let w = c.args.wanted in
+    let text = c.in_ok-text.text.items in
+    let is = c.unit_number-unit.ensures ∙ ap (λ q. unit_number (procedures_of q) c.args.name.now) c.program.ensures.program in
+    let x = for_kernel ps c.in_ok-kernel.kernel.program c.in_ok-kernel.ensures.kernel (λ us k. IsTextFor w us k text) c.args.name.now c.unit_number-unit.result is h.vars h.outvars c.in_ok-text.ensures.text in
+    λ adjoint done. text_reads ps c.args.name.now h c.requires.accepted w adjoint text x

@@ -1,0 +1,60 @@
+-- What `adjoint` and `plan` write by the analyses of a kernel. (docs/ANALYSES.md)
+use Rattle.std.specs.Prelude.{◌≡◌, ℕ, List, Bool}
+use Rattle.adj_tree.specs.Code.{Procedure}
+use Rattle.adj_tree.specs.declared.marks.Head.{Head}
+use Rattle.adj_text.specs.ReadsAs.{ReadsAs}
+use Rattle.adj_text.specs.Text.{text_of}
+use Rattle.adj_text.specs.Written.{IsWritten}
+use Rattle.adj_transpose.specs.Marks.{Vars}
+use Rattle.adj_reverse.specs.Marking.{ProgramMarks}
+use Rattle.adj_reverse.specs.Program.{emitted_program}
+use Rattle.adj_facts.specs.Problem.{Problem}
+use Rattle.adj_facts.specs.Activity.{Activity}
+use Rattle.adj_facts.specs.Live.{Liveness}
+use Rattle.adj_facts.specs.Laws.{Analysed}
+use Rattle.adj_analysed.specs.Meets.{program_facts}
+use Rattle.adj_plan.specs.Lines.{plan_lines, TellsPlan}
+use Rattle.adj_plan.specs.declared.lines.Said.{Said}
+use Rattle.adj_planned.specs.Planned.{kernel_problem, marks_by}
+use Rattle.adj_tool.specs.declared.task.Wanted.{Wanted}
+use Rattle.adj_tool.specs.declared.task.Wanted.TheVariants as wanted
+
+-- a program is asked for a head
+abbrev pub problem_for : List Procedure → Head → Problem
+problem_for us h = record { units = us; head = h.unit; vars = h.vars; outvars = h.outvars }
+
+-- it is what is emitted for some units by the marks that exact analyses give
+pub record IsEmittedFor (us : List Procedure) (h : Head) (qs : List Procedure) : Type 0 where
+  pub activity : Activity
+  pub liveness : Liveness
+  pub saved : ℕ → Vars
+  pub held : ℕ → Vars
+  pub analysed : Analysed (problem_for us h) activity liveness saved held
+  pub emitted : qs ≡ emitted_program (program_facts us activity liveness saved held).marks us h.unit h.vars h.outvars
+
+-- these are the marks that exact analyses of a program's kernel give, for the unit of a name as its head
+pub record AreExact (ps : List Procedure) (name : List ℕ) (h : Head) (m : ProgramMarks) : Type 0 where
+  pub activity : Activity
+  pub liveness : Liveness
+  pub saved : ℕ → Vars
+  pub held : ℕ → Vars
+  pub analysed : Analysed (kernel_problem ps name h.vars h.outvars) activity liveness saved held
+  pub are : m ≡ marks_by ps activity liveness saved held
+
+-- it is the canonical text of what is emitted for some units
+pub record IsAdjointText (us : List Procedure) (h : Head) (text : List ℕ) : Type 0 where
+  pub program : List Procedure
+  pub emitted : IsEmittedFor us h program
+  pub is_text : text ≡ text_of program
+  pub reads : IsWritten program → ReadsAs text program
+
+-- it is the text of their plan: a line for each statement, with the letters that exact analyses say
+pub record IsPlanText (us : List Procedure) (h : Head) (text : List ℕ) : Type 0 where
+  pub said : ℕ → ℕ → Said
+  pub takes : ℕ → Bool
+  pub tells : TellsPlan (problem_for us h) said takes
+  pub is_text : text ≡ plan_lines said takes us
+
+abbrev pub IsTextFor : Wanted → List Procedure → Head → List ℕ → Type 0
+IsTextFor wanted.Adjoint us h text = IsAdjointText us h text
+IsTextFor wanted.Plan us h text = IsPlanText us h text

@@ -1,0 +1,200 @@
+//! The commands that are asked for a head: `adjoint` and `plan`.
+
+ghost use Rattle.std.specs.Prelude.{◌≡◌, ◌≤◌, ◌∷◌, [], ℕ, List, None, length, IfOk};
+ghost use Rattle.adj_tree.specs.View.{procedures_of};
+ghost use Rattle.adj_text.specs.Reads.{Reads};
+ghost use Rattle.adj_text.specs.Written.{IsWritten};
+ghost use Rattle.adj_names.specs.Check.{IsSound};
+ghost use Rattle.adj_names.specs.Fault.{source_rules};
+ghost use Rattle.adj_names.specs.HeadFaults.{first_head_fault, head_of, unit_number};
+ghost use Rattle.adj_kernel.specs.Sound.{IsAccepted};
+ghost use Rattle.adj_kernel.specs.Stepped.{kernel_of};
+ghost use Rattle.adj_tool.specs.Profile.{first_untreated};
+ghost use Rattle.adj_answer.specs.Views.{answer_of};
+ghost use Rattle.adj_tool.specs.Answer.{AnswersAccepted, AnswersChecked, AnswersFitted, AnswersProgram, AnswersTreated, AnswersWanted, most_bytes, too_large, untreated};
+ghost use Rattle.adj_tool.specs.Fitting.{kernel_fits};
+ghost use Rattle.adj_tool.specs.Headline.{IsAdjoined, IsUnit, ReadsBack};
+ghost use Rattle.adj_tool.specs.Views.{request_of};
+
+use crate::planned::text_wanted;
+use crate::task::{Request, Wanted};
+use crate::untreated::first_untreated;
+use adj_answer::{Answer, Status, read, refused};
+use adj_fixed::Mode;
+use adj_kernels::checked_kernel;
+use adj_symbols::{Checked, check, head};
+use adj_tree::{Fault, Head, Memory, Name, Program, Refusal};
+use std::alloc::Global;
+
+// The refusal of what isn't treated yet.
+fn untreated(alloc: Global, line: u32) -> Result<Answer, Memory>
+    ensures { IfOk result (λ a. answer_of a ≡ untreated line) }
+{
+    refused(alloc, Refusal::new(3, line))
+}
+
+// The refusal of a kernel that is too large.
+fn too_large(alloc: Global) -> Result<Answer, Memory>
+    ensures { IfOk result (λ a. answer_of a ≡ too_large) }
+{
+    refused(alloc, Refusal::passed(1_073_741_823, 0))
+}
+
+// The number of the unit of a name.
+fn unit_number(program: &Program, name: &Name) -> usize
+    ensures { result ≡ unit_number (procedures_of program.now) name.now }
+{
+    let units = program.units.as_slice();
+    for (number, unit) in units.iter().enumerate() {
+        if unit.name.equals(name) {
+            return number;
+        }
+    }
+    units.len()
+}
+
+// The text that is wanted of a program, for the unit of a name as its head, or the refusal of its kernel.
+fn written(
+    alloc: Global,
+    wanted: Wanted,
+    program: &Program,
+    name: &Name,
+    head: Head,
+) -> Result<Answer, Memory>
+    requires accepted { IsAccepted (procedures_of program.now) }
+    requires there { IsUnit (procedures_of program.now) name.now }
+    ensures answer { IfOk result (λ a. AnswersFitted (kernel_fits (kernel_of (procedures_of program.now))) wanted (procedures_of program.now) name.now head (answer_of a)) }
+    ensures reads_back { wanted ≡ Wanted.Adjoint → IfOk result (λ a. ReadsBack (answer_of a) (procedures_of program.now) name.now head) }
+{
+    let kernel = checked_kernel(alloc, program)?;
+    if !kernel.fits() {
+        return too_large(alloc);
+    }
+    let unit = unit_number(kernel.program(), name);
+    let vars = head.vars;
+    let outvars = head.outvars;
+    let own = Head {
+        unit,
+        vars,
+        outvars,
+    };
+    let text = text_wanted(alloc, wanted, &kernel, &own)?;
+    Ok(Answer {
+        status: Status::Done,
+        text,
+    })
+}
+
+// The answer of `adjoint` for a program without faults of names, calls and writes, and for its head.
+fn answer_adjoint(
+    alloc: Global,
+    request: &Request,
+    program: &Program,
+    head: Head,
+) -> Result<Answer, Memory>
+    requires written { IsWritten (procedures_of program.now) }
+    requires sound { IsSound source_rules (procedures_of program.now) }
+    requires sound_head { let r = request_of request.now in first_head_fault (procedures_of program.now) r.head r.vars r.outvars ≡ None }
+    requires head { let r = request_of request.now in head ≡ head_of (procedures_of program.now) r.head r.vars r.outvars }
+    ensures answer { IfOk result (λ a. AnswersTreated (first_untreated (procedures_of program.now)) (procedures_of program.now) request.now.head head (answer_of a)) }
+    ensures adjoint { IfOk result (λ a. (bytes : List ℕ) → Reads bytes (procedures_of program.now) → IsAdjoined (request_of request.now) bytes (answer_of a)) }
+{
+    if let Some(line) = first_untreated(program) {
+        return untreated(alloc, line);
+    }
+    let answer = written(alloc, Wanted::Adjoint, program, &request.head, head)?;
+    Ok(answer)
+}
+
+// The answer of `plan`.
+fn answer_plan(
+    alloc: Global,
+    request: &Request,
+    program: &Program,
+    head: Head,
+) -> Result<Answer, Memory>
+    requires written { IsWritten (procedures_of program.now) }
+    requires sound { IsSound source_rules (procedures_of program.now) }
+    requires sound_head { let r = request_of request.now in first_head_fault (procedures_of program.now) r.head r.vars r.outvars ≡ None }
+    ensures answer { IfOk result (λ a. AnswersAccepted Wanted.Plan (procedures_of program.now) request.now.head head (answer_of a)) }
+{
+    written(alloc, Wanted::Plan, program, &request.head, head)
+}
+
+// The answer for a program without faults of names, calls and writes, and for its head.
+fn answer_head(
+    alloc: Global,
+    wanted: Wanted,
+    request: &Request,
+    program: &Program,
+    head: Head,
+) -> Result<Answer, Memory>
+    requires written { IsWritten (procedures_of program.now) }
+    requires sound { IsSound source_rules (procedures_of program.now) }
+    requires sound_head { let r = request_of request.now in first_head_fault (procedures_of program.now) r.head r.vars r.outvars ≡ None }
+    requires head { let r = request_of request.now in head ≡ head_of (procedures_of program.now) r.head r.vars r.outvars }
+    ensures answer { IfOk result (λ a. AnswersAccepted wanted (procedures_of program.now) request.now.head head (answer_of a)) }
+    ensures adjoint { wanted ≡ Wanted.Adjoint → IfOk result (λ a. (bytes : List ℕ) → Reads bytes (procedures_of program.now) → IsAdjoined (request_of request.now) bytes (answer_of a)) }
+{
+    match wanted {
+        Wanted::Adjoint => answer_adjoint(alloc, request, program, head),
+        Wanted::Plan => answer_plan(alloc, request, program, head),
+    }
+}
+
+// The answer for a program without faults of names, calls and writes.
+fn answer_checked(
+    alloc: Global,
+    wanted: Wanted,
+    request: &Request,
+    checked: &Checked,
+) -> Result<Answer, Memory>
+    requires written { IsWritten (procedures_of checked.now.program) }
+    requires sound { IsSound source_rules (procedures_of checked.now.program) }
+    ensures answer { IfOk result (λ a. AnswersChecked None wanted (request_of request.now) (procedures_of checked.now.program) (answer_of a)) }
+    ensures adjoint { wanted ≡ Wanted.Adjoint → IfOk result (λ a. (bytes : List ℕ) → Reads bytes (procedures_of checked.now.program) → IsAdjoined (request_of request.now) bytes (answer_of a)) }
+{
+    let vars = request.vars.as_slice();
+    let outvars = request.outvars.as_slice();
+    match head(alloc, checked, &request.head, vars, outvars) {
+        Ok(head) => answer_head(alloc, wanted, request, checked.program(), head),
+        Err(Fault::Refused(refusal)) => refused(alloc, refusal),
+        Err(Fault::Memory) => Err(Memory),
+    }
+}
+
+/// The answer for a program.
+pub(crate) fn answer_program(
+    alloc: Global,
+    wanted: Wanted,
+    request: &Request,
+    program: Program,
+) -> Result<Answer, Memory>
+    requires { IsWritten (procedures_of program) }
+    ensures answer { IfOk result (λ a. AnswersProgram wanted (request_of request.now) (procedures_of program) (answer_of a)) }
+    ensures adjoint { wanted ≡ Wanted.Adjoint → IfOk result (λ a. (bytes : List ℕ) → Reads bytes (procedures_of program) → IsAdjoined (request_of request.now) bytes (answer_of a)) }
+{
+    match check(alloc, program, Mode::Source) {
+        Ok(checked) => answer_checked(alloc, wanted, request, &checked),
+        Err(Fault::Refused(refusal)) => refused(alloc, refusal),
+        Err(Fault::Memory) => Err(Memory),
+    }
+}
+
+/// The answer to an input within the limit.
+pub(crate) fn answer_wanted(
+    alloc: Global,
+    wanted: Wanted,
+    request: &Request,
+    bytes: &[u8],
+) -> Result<Answer, Memory>
+    requires { length bytes.now ≤ most_bytes }
+    ensures answer { IfOk result (λ a. AnswersWanted wanted (request_of request.now) bytes.now (answer_of a)) }
+    ensures adjoint { wanted ≡ Wanted.Adjoint → IfOk result (λ a. IsAdjoined (request_of request.now) bytes.now (answer_of a)) }
+{
+    match read(alloc, bytes, Mode::Source) {
+        Ok(program) => answer_program(alloc, wanted, request, program),
+        Err(Fault::Refused(refusal)) => refused(alloc, refusal),
+        Err(Fault::Memory) => Err(Memory),
+    }
+}

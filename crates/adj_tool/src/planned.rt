@@ -1,0 +1,93 @@
+//! What is written of a kernel: what is emitted for it, or its plan.
+
+ghost use Rattle.std.specs.Prelude.{◌≡◌, ◌<◌, IfOk, length};
+ghost use Rattle.adj_tree.specs.View.{procedures_of};
+ghost use Rattle.adj_symbols.specs.Numbers.{Fits};
+ghost use Rattle.adj_flow.specs.Asked.{IsFlow, problem_of, units_of};
+ghost use Rattle.adj_plan.specs.Asked.{IsPlan};
+ghost use Rattle.adj_weave.specs.Shared.{IsCheckedBySome};
+ghost use Rattle.adj_tool.specs.Planned.{IsAdjointText, IsEmittedFor, IsPlanText, IsTextFor};
+
+use crate::task::Wanted;
+use adj_plan::{Planned, plan, plan_text};
+use adj_print::text;
+use adj_symbols::Checked;
+use adj_tree::{Head, Memory, Program};
+use adj_weave::{FoundMarks, Marked, adjoint as emit};
+use std::alloc::Global;
+
+// The program that is emitted for a kernel by the marks of its plan.
+fn emitted(
+    alloc: Global,
+    kernel: &Checked,
+    head: &Head,
+    found: &Planned<'_>,
+) -> Result<Program, Memory>
+    requires head { head.now.unit < length kernel.now.program.units }
+    requires checked { IsCheckedBySome (procedures_of kernel.now.program) }
+    requires units { units_of found.now.flow ≡ procedures_of kernel.now.program }
+    requires flow { IsFlow found.now.flow head.now.unit }
+    requires plan { IsPlan found.now.flow (problem_of found.now.flow head.now) found.now.marks }
+    ensures emitted { IfOk result (λ p. IsEmittedFor (procedures_of kernel.now.program) head.now (procedures_of p)) }
+{
+    let marked = Marked::Found(FoundMarks {
+        marks: &found.marks,
+        flow: &found.flow,
+    });
+    emit(alloc, kernel.program(), head, marked)
+}
+
+// The text of what is emitted by the marks of a plan.
+fn adjoint_text(
+    alloc: Global,
+    kernel: &Checked,
+    head: &Head,
+    found: &Planned<'_>,
+) -> Result<Vec<u8>, Memory>
+    requires head { head.now.unit < length kernel.now.program.units }
+    requires checked { IsCheckedBySome (procedures_of kernel.now.program) }
+    requires units { units_of found.now.flow ≡ procedures_of kernel.now.program }
+    requires flow { IsFlow found.now.flow head.now.unit }
+    requires plan { IsPlan found.now.flow (problem_of found.now.flow head.now) found.now.marks }
+    ensures text { IfOk result (λ v. IsAdjointText (procedures_of kernel.now.program) head.now v.items) }
+{
+    let emitted = emitted(alloc, kernel, head, found)?;
+    let text = text(alloc, &emitted)?;
+    Ok(text)
+}
+
+// The text of a plan.
+fn marks_text(
+    alloc: Global,
+    kernel: &Checked,
+    head: &Head,
+    found: &Planned<'_>,
+) -> Result<Vec<u8>, Memory>
+    requires units { units_of found.now.flow ≡ procedures_of kernel.now.program }
+    requires flow { IsFlow found.now.flow head.now.unit }
+    requires plan { IsPlan found.now.flow (problem_of found.now.flow head.now) found.now.marks }
+    ensures text { IfOk result (λ v. IsPlanText (procedures_of kernel.now.program) head.now v.items) }
+{
+    let (_kernel, _head) = (kernel, head);
+    let text = plan_text(alloc, found)?;
+    Ok(text)
+}
+
+/// The text that is wanted of a kernel and its head, by the marks that its analyses find.
+pub(crate) fn text_wanted(
+    alloc: Global,
+    wanted: Wanted,
+    kernel: &Checked,
+    head: &Head,
+) -> Result<Vec<u8>, Memory>
+    requires fits { Fits kernel.now }
+    requires head { head.now.unit < length kernel.now.program.units }
+    requires checked { IsCheckedBySome (procedures_of kernel.now.program) }
+    ensures text { IfOk result (λ v. IsTextFor wanted (procedures_of kernel.now.program) head.now v.items) }
+{
+    let found = plan(alloc, kernel, head)?;
+    match wanted {
+        Wanted::Adjoint => adjoint_text(alloc, kernel, head, &found),
+        Wanted::Plan => marks_text(alloc, kernel, head, &found),
+    }
+}
