@@ -3,7 +3,8 @@
 ghost use Rattle.std.specs.Prelude.{◌≡◌, IfOk};
 
 use adj_io::{
-    Failed, MemSink, MemSource, ReadError, Sink, StdSink, StdSource, WriteFault, read_all, write_all,
+    Failed, MemSink, MemSource, ReadError, Sink, StdSink, StdSource, WriteFault, read_all,
+    write_all,
 };
 use std::alloc::{AllocError, Global};
 use std::io::{self, ErrorKind, Read, Write};

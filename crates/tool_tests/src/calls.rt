@@ -17,10 +17,7 @@ pub(crate) const ADJOINT: &str = "      SUBROUTINE P_B(X,XB,Y,YB)
       INTEGER*8 YB
       INTEGER*8 ADW1
       INTEGER*8 ADW2
-      CALL PUSHINTEGER8(Y)
-      Y=X*X
       XB=0
-      CALL POPINTEGER8(Y)
       ADW1=YB
       YB=0
       ADW2=ADW1*X
@@ -30,6 +27,9 @@ pub(crate) const ADJOINT: &str = "      SUBROUTINE P_B(X,XB,Y,YB)
       YB=0
       END
 ";
+
+/// What a case shows, the words, a program and its adjoint.
+pub(crate) type Case = (&'static str, &'static str, &'static [u8], &'static str);
 
 /// What a call came to.
 #[derive(Drop)]

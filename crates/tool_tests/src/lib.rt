@@ -6,6 +6,8 @@
 #![tactic(auto)]
 
 #[cfg(test)]
+mod called;
+#[cfg(test)]
 mod calls;
 #[cfg(test)]
 mod commands;
@@ -23,6 +25,8 @@ mod long;
 mod lowered;
 #[cfg(test)]
 mod names;
+#[cfg(test)]
+mod plans;
 #[cfg(test)]
 mod printed;
 #[cfg(test)]

@@ -260,7 +260,7 @@ fn emitted_texts(rt: HostRuntime) -> Result<(), Memory> {
     }
     // What `adjoint` writes for a square.
     let square = format!(in alloc; "{ADJOINT}$DATA\nX 3\nXB 0\nY 0\nYB 1\n")?;
-    let written = "X 3\nXB 6\nY 0\nYB 0\nTAPE 0\nUSED 11\n";
+    let written = "X 3\nXB 6\nY 0\nYB 0\nTAPE 0\nUSED 8\n";
     assert!(rt; comes_to(alloc, "run --head P_B", square.as_bytes(), 0, written)?);
     Ok(())
 }
