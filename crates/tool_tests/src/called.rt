@@ -3,8 +3,12 @@
 use crate::calls::{Case, WORDS, comes_to};
 use adj_tree::Memory;
 
-// What the called unit overwrites is needed by its adjoint alone.
-const CALLING: &[u8] = b"      SUBROUTINE P(X,Y)
+const CASES: [Case; 6] = [
+    // What the called unit overwrites is needed by its adjoint alone.
+    (
+        "a call",
+        WORDS,
+        b"      SUBROUTINE P(X,Y)
       INTEGER*8 X,Y
       Y=X
       CALL SQ(Y)
@@ -14,9 +18,8 @@ const CALLING: &[u8] = b"      SUBROUTINE P(X,Y)
       INTEGER*8 A
       A=A*A
       END
-";
-
-const CALLING_ADJOINT: &str = "      SUBROUTINE P_B(X,XB,Y,YB)
+",
+        "      SUBROUTINE P_B(X,XB,Y,YB)
       INTEGER*8 X
       INTEGER*8 XB
       INTEGER*8 Y
@@ -56,10 +59,13 @@ const CALLING_ADJOINT: &str = "      SUBROUTINE P_B(X,XB,Y,YB)
       ADW2=ADW1*A
       AB=AB+ADW2
       END
-";
-
-// The array that the call overwrites is needed by the adjoint of the unit, and before the call.
-const NESTED: &[u8] = b"      SUBROUTINE Q(B,N)
+",
+    ),
+    // The array that the call overwrites is needed by the adjoint of the unit, and before the call.
+    (
+        "nested loops in a unit that is called",
+        "adjoint --head P --vars A --outvars S",
+        b"      SUBROUTINE Q(B,N)
       INTEGER*8 N,B(N)
       DO I=1,N
       DO J=1,I
@@ -76,9 +82,8 @@ const NESTED: &[u8] = b"      SUBROUTINE Q(B,N)
       CALL Q(A,N)
       S=S*A(1)
       END
-";
-
-const NESTED_ADJOINT: &str = "      SUBROUTINE Q(B,N)
+",
+        "      SUBROUTINE Q(B,N)
       INTEGER*8 N
       INTEGER*8 B(N)
       DO I=1,N
@@ -173,10 +178,13 @@ const NESTED_ADJOINT: &str = "      SUBROUTINE Q(B,N)
       AB(2)=AB(2)+ADW2
       SB=0
       END
-";
-
-// A call that no derivative passes through, and that overwrites what is needed before it.
-const COUNTING: &[u8] = b"      SUBROUTINE P(X,Y)
+",
+    ),
+    // A call that no derivative passes through, and that overwrites what is needed before it.
+    (
+        "a call without a derivative",
+        WORDS,
+        b"      SUBROUTINE P(X,Y)
       INTEGER*8 X,Y
       K=2
       Y=X*K
@@ -186,9 +194,8 @@ const COUNTING: &[u8] = b"      SUBROUTINE P(X,Y)
       SUBROUTINE NEXT(L)
       L=L+1
       END
-";
-
-const COUNTING_ADJOINT: &str = "      SUBROUTINE P_B(X,XB,Y,YB)
+",
+        "      SUBROUTINE P_B(X,XB,Y,YB)
       INTEGER*8 X
       INTEGER*8 XB
       INTEGER*8 Y
@@ -214,10 +221,13 @@ const COUNTING_ADJOINT: &str = "      SUBROUTINE P_B(X,XB,Y,YB)
       SUBROUTINE NEXT(L)
       L=L+1
       END
-";
-
-// A called unit that overwrites an argument with a derivative, which nothing needs after it.
-const OVERWRITING: &[u8] = b"      SUBROUTINE P(X,C,Y,Z)
+",
+    ),
+    // A called unit that overwrites an argument with a derivative, which nothing needs after it.
+    (
+        "a call that overwrites an argument",
+        "adjoint --head P --vars X --outvars Y,Z",
+        b"      SUBROUTINE P(X,C,Y,Z)
       INTEGER*8 X,C,Y,Z
       Y=X
       IF (C.GT.0) THEN
@@ -230,9 +240,8 @@ const OVERWRITING: &[u8] = b"      SUBROUTINE P(X,C,Y,Z)
       INTEGER*8 A
       A=0
       END
-";
-
-const OVERWRITING_ADJOINT: &str = "      SUBROUTINE P_B(X,XB,C,Y,YB,Z,ZB)
+",
+        "      SUBROUTINE P_B(X,XB,C,Y,YB,Z,ZB)
       INTEGER*8 X
       INTEGER*8 XB
       INTEGER*8 C
@@ -266,10 +275,13 @@ const OVERWRITING_ADJOINT: &str = "      SUBROUTINE P_B(X,XB,C,Y,YB,Z,ZB)
       INTEGER*8 AB
       AB=0
       END
-";
-
-// A second unit, with a dummy that it doesn't declare, and whose adjoint's name is taken.
-const SECOND: &[u8] = b"      SUBROUTINE Q(P_B)
+",
+    ),
+    // A second unit, with a dummy that it doesn't declare, and whose adjoint's name is taken.
+    (
+        "a second unit",
+        "adjoint --head P --vars X,N --outvars X",
+        b"      SUBROUTINE Q(P_B)
       INTEGER*8 P_B
       P_B=1
       END
@@ -277,9 +289,8 @@ const SECOND: &[u8] = b"      SUBROUTINE Q(P_B)
       INTEGER*8 X
       X=X*N
       END
-";
-
-const SECOND_ADJOINT: &str = "      SUBROUTINE P_B_1(X,XB,N,NB)
+",
+        "      SUBROUTINE P_B_1(X,XB,N,NB)
       INTEGER*8 X
       INTEGER*8 XB
       INTEGER*8 N
@@ -294,33 +305,104 @@ const SECOND_ADJOINT: &str = "      SUBROUTINE P_B_1(X,XB,N,NB)
       ADW2=ADW1*X
       NB=NB+ADW2
       END
-";
-
-const CASES: [Case; 5] = [
-    ("a call", WORDS, CALLING, CALLING_ADJOINT),
+",
+    ),
+    // the worked program of docs/EMITTED.md
     (
-        "nested loops in a unit that is called",
+        "a loop, a branch and a call",
         "adjoint --head P --vars A --outvars S",
-        NESTED,
-        NESTED_ADJOINT,
-    ),
-    (
-        "a call without a derivative",
-        WORDS,
-        COUNTING,
-        COUNTING_ADJOINT,
-    ),
-    (
-        "a call that overwrites an argument",
-        "adjoint --head P --vars X --outvars Y,Z",
-        OVERWRITING,
-        OVERWRITING_ADJOINT,
-    ),
-    (
-        "a second unit",
-        "adjoint --head P --vars X,N --outvars X",
-        SECOND,
-        SECOND_ADJOINT,
+        b"      SUBROUTINE P(N,A,S)
+      INTEGER*8 N,A(N),S,T
+      S=0
+      DO I=1,N
+      T=A(I)
+      IF (T.GT.0) THEN
+      CALL SQ(T)
+      END IF
+      S=S+T*T
+      END DO
+      END
+      SUBROUTINE SQ(X)
+      INTEGER*8 X
+      X=X*X
+      END
+",
+        "      SUBROUTINE P_B(N,A,AB,S,SB)
+      INTEGER*8 N
+      INTEGER*8 A(N)
+      INTEGER*8 AB(N)
+      INTEGER*8 S
+      INTEGER*8 SB
+      INTEGER*8 T
+      INTEGER*8 TB
+      INTEGER*8 I
+      INTEGER*8 ADC
+      INTEGER*8 ADL1
+      INTEGER*8 ADM1
+      INTEGER*8 ADI1
+      INTEGER*8 ADJ1
+      INTEGER*8 ADW1
+      INTEGER*8 ADW2
+      ADM1=1
+      ADI1=1
+      ADL1=0
+      DO I=ADM1,N,ADI1
+      CALL PUSHINTEGER8(T)
+      T=A(I)
+      IF (T.GT.0) THEN
+      CALL PUSHINTEGER8(T)
+      CALL SQ(T)
+      CALL PUSHCONTROL1B(1)
+      ELSE
+      CALL PUSHCONTROL1B(0)
+      END IF
+      ADL1=ADL1+1
+      END DO
+      CALL PUSHINTEGER8(ADM1)
+      CALL PUSHINTEGER8(ADI1)
+      CALL PUSHINTEGER8(ADL1)
+      CALL ADZERO8(AB)
+      CALL POPINTEGER8(ADL1)
+      CALL POPINTEGER8(ADI1)
+      CALL POPINTEGER8(ADM1)
+      DO ADJ1=ADL1-1,0,-1
+      I=ADM1+ADJ1*ADI1
+      ADW1=SB
+      SB=0
+      SB=SB+ADW1
+      ADW2=ADW1*T
+      TB=TB+ADW2
+      ADW2=ADW1*T
+      TB=TB+ADW2
+      CALL POPCONTROL1B(ADC)
+      IF (ADC.EQ.1) THEN
+      CALL POPINTEGER8(T)
+      CALL SQ_B(T,TB)
+      END IF
+      CALL POPINTEGER8(T)
+      ADW1=TB
+      TB=0
+      AB(I)=AB(I)+ADW1
+      END DO
+      SB=0
+      END
+      SUBROUTINE SQ(X)
+      INTEGER*8 X
+      X=X*X
+      END
+      SUBROUTINE SQ_B(X,XB)
+      INTEGER*8 X
+      INTEGER*8 XB
+      INTEGER*8 ADW1
+      INTEGER*8 ADW2
+      ADW1=XB
+      XB=0
+      ADW2=ADW1*X
+      XB=XB+ADW2
+      ADW2=ADW1*X
+      XB=XB+ADW2
+      END
+",
     ),
 ];
 

@@ -31,6 +31,9 @@ pub(crate) const ADJOINT: &str = "      SUBROUTINE P_B(X,XB,Y,YB)
 /// What a case shows, the words, a program and its adjoint.
 pub(crate) type Case = (&'static str, &'static str, &'static [u8], &'static str);
 
+/// The words of a run, a text, the data behind it, the status and what is written.
+pub(crate) type Run = (&'static str, &'static str, &'static str, u8, &'static str);
+
 /// What a call came to.
 #[derive(Drop)]
 pub(crate) struct Ended {
@@ -96,4 +99,11 @@ pub(crate) fn comes_to(
 ) -> Result<bool, Memory> {
     let ended = call(alloc, line, input, &NONE)?;
     Ok(ended.status == status && ended.sink.bytes() == text.as_bytes())
+}
+
+/// Whether a run ends so.
+pub(crate) fn runs_to(alloc: Global, run: &Run) -> Result<bool, Memory> {
+    let (words, text, data, status, written) = *run;
+    let input = format!(in alloc; "{text}{data}")?;
+    comes_to(alloc, words, input.as_bytes(), status, written)
 }

@@ -3,13 +3,24 @@
 use crate::calls::{ADJOINT, Case, WORDS, comes_to};
 use adj_tree::Memory;
 
-const CONSTANT: &[u8] = b"      SUBROUTINE P(X,Y)
-      INTEGER*8 X,Y
-      Y=5
+const TAKEN: &[u8] = b"      SUBROUTINE P(X,XB,Y)
+      INTEGER*8 X,XB,XB_1,ADW1,Y
+      XB_1=X*XB
+      ADW1=XB_1+X
+      Y=ADW1*XB
       END
 ";
 
-const CONSTANT_ADJOINT: &str = "      SUBROUTINE P_B(X,XB,Y,YB)
+const CASES: [Case; 11] = [
+    (
+        "a constant",
+        WORDS,
+        b"      SUBROUTINE P(X,Y)
+      INTEGER*8 X,Y
+      Y=5
+      END
+",
+        "      SUBROUTINE P_B(X,XB,Y,YB)
       INTEGER*8 X
       INTEGER*8 XB
       INTEGER*8 Y
@@ -17,18 +28,20 @@ const CONSTANT_ADJOINT: &str = "      SUBROUTINE P_B(X,XB,Y,YB)
       XB=0
       YB=0
       END
-";
-
-// The first two are needed, and the second overwrites what its own adjoint needs.
-const OVERWRITTEN: &[u8] = b"      SUBROUTINE P(X,Y)
+",
+    ),
+    // The first two are needed, and the second overwrites what its own adjoint needs.
+    (
+        "one name overwritten",
+        WORDS,
+        b"      SUBROUTINE P(X,Y)
       INTEGER*8 X,Y
       Y=X*X
       Y=Y*X
       Y=Y*Y
       END
-";
-
-const OVERWRITTEN_ADJOINT: &str = "      SUBROUTINE P_B(X,XB,Y,YB)
+",
+        "      SUBROUTINE P_B(X,XB,Y,YB)
       INTEGER*8 X
       INTEGER*8 XB
       INTEGER*8 Y
@@ -60,16 +73,18 @@ const OVERWRITTEN_ADJOINT: &str = "      SUBROUTINE P_B(X,XB,Y,YB)
       XB=XB+ADW2
       YB=0
       END
-";
-
-const TWICE: &[u8] = b"      SUBROUTINE P(X)
+",
+    ),
+    (
+        "a dummy that is independent and dependent",
+        "adjoint --head P --vars X --outvars X",
+        b"      SUBROUTINE P(X)
       INTEGER*8 X
       X=X*X
       X=X*X
       END
-";
-
-const TWICE_ADJOINT: &str = "      SUBROUTINE P_B(X,XB)
+",
+        "      SUBROUTINE P_B(X,XB)
       INTEGER*8 X
       INTEGER*8 XB
       INTEGER*8 ADW1
@@ -90,16 +105,18 @@ const TWICE_ADJOINT: &str = "      SUBROUTINE P_B(X,XB)
       ADW2=ADW1*X
       XB=XB+ADW2
       END
-";
-
-const DROPPED: &[u8] = b"      SUBROUTINE P(X,Y)
+",
+    ),
+    (
+        "an assignment that nothing needs",
+        WORDS,
+        b"      SUBROUTINE P(X,Y)
       INTEGER*8 X,Y
       K=X+1
       Y=X*3
       END
-";
-
-const DROPPED_ADJOINT: &str = "      SUBROUTINE P_B(X,XB,Y,YB)
+",
+        "      SUBROUTINE P_B(X,XB,Y,YB)
       INTEGER*8 X
       INTEGER*8 XB
       INTEGER*8 Y
@@ -114,15 +131,17 @@ const DROPPED_ADJOINT: &str = "      SUBROUTINE P_B(X,XB,Y,YB)
       XB=XB+ADW2
       YB=0
       END
-";
-
-const SIGNS: &[u8] = b"      SUBROUTINE P(X,Y,Z)
+",
+    ),
+    (
+        "signs and sums",
+        "adjoint --head P --vars X,Y --outvars Z",
+        b"      SUBROUTINE P(X,Y,Z)
       INTEGER*8 X,Y,Z
       Z=-(X-Y)*(X+Y)
       END
-";
-
-const SIGNS_ADJOINT: &str = "      SUBROUTINE P_B(X,XB,Y,YB,Z,ZB)
+",
+        "      SUBROUTINE P_B(X,XB,Y,YB,Z,ZB)
       INTEGER*8 X
       INTEGER*8 XB
       INTEGER*8 Y
@@ -151,15 +170,17 @@ const SIGNS_ADJOINT: &str = "      SUBROUTINE P_B(X,XB,Y,YB,Z,ZB)
       YB=YB+ADW3
       ZB=0
       END
-";
-
-const NESTED: &[u8] = b"      SUBROUTINE P(A,B,C)
+",
+    ),
+    (
+        "products of products",
+        "adjoint --head P --vars A,B --outvars C",
+        b"      SUBROUTINE P(A,B,C)
       INTEGER*8 A,B,C
       C=(A+B)*(A-B)*(A*B)
       END
-";
-
-const NESTED_ADJOINT: &str = "      SUBROUTINE P_B(A,AB,B,BB,C,CB)
+",
+        "      SUBROUTINE P_B(A,AB,B,BB,C,CB)
       INTEGER*8 A
       INTEGER*8 AB
       INTEGER*8 B
@@ -197,17 +218,13 @@ const NESTED_ADJOINT: &str = "      SUBROUTINE P_B(A,AB,B,BB,C,CB)
       BB=BB+ADW3
       CB=0
       END
-";
-
-const TAKEN: &[u8] = b"      SUBROUTINE P(X,XB,Y)
-      INTEGER*8 X,XB,XB_1,ADW1,Y
-      XB_1=X*XB
-      ADW1=XB_1+X
-      Y=ADW1*XB
-      END
-";
-
-const TAKEN_ADJOINT: &str = "      SUBROUTINE P_B(X,XB_2,XB,XBB,Y,YB)
+",
+    ),
+    (
+        "wanted names that are taken",
+        "adjoint --head P --vars X,XB --outvars Y",
+        TAKEN,
+        "      SUBROUTINE P_B(X,XB_2,XB,XBB,Y,YB)
       INTEGER*8 X
       INTEGER*8 XB_2
       INTEGER*8 XB
@@ -242,10 +259,14 @@ const TAKEN_ADJOINT: &str = "      SUBROUTINE P_B(X,XB_2,XB,XBB,Y,YB)
       XBB=XBB+ADW2
       YB=0
       END
-";
-
-// XB is no independent here: it has no shadow, and the values of the locals aren't needed.
-const UNSHADOWED_ADJOINT: &str = "      SUBROUTINE P_B(X,XB_2,XB,Y,YB)
+",
+    ),
+    // XB is no independent here: it has no shadow, and the values of the locals aren't needed.
+    (
+        "a dummy without a shadow",
+        WORDS,
+        TAKEN,
+        "      SUBROUTINE P_B(X,XB_2,XB,Y,YB)
       INTEGER*8 X
       INTEGER*8 XB_2
       INTEGER*8 XB
@@ -272,65 +293,27 @@ const UNSHADOWED_ADJOINT: &str = "      SUBROUTINE P_B(X,XB_2,XB,Y,YB)
       XB_2=XB_2+ADW2
       YB=0
       END
-";
-
-// The square in other layouts.
-const FREE: &[u8] =
-    b"c of x, its square\n      subroutine p(x,\n* and y\n     +y)\n\n      integer*8 x, y\n      y = x\n     1 * x\n      end\n$DATA\nnot FORTRAN!\n";
-
-const STATED: &[u8] =
-    b"      SUBROUTINE P(X,Y)\n      IMPLICIT NONE\n      INTEGER X\n      INTEGER*8 Y\n      Y=+(X)*X\n   10 CONTINUE\n      RETURN\n      END";
-
-const BLANKS: &[u8] =
-    b"   1  SUB ROUTINE P ( X , Y )                                            SQUARE\r\n      INTEGER * 8 X , Y\r\n      Y = X * X\r\n      E N D\r\n";
-
-const CASES: [Case; 11] = [
-    ("a constant", WORDS, CONSTANT, CONSTANT_ADJOINT),
-    (
-        "one name overwritten",
-        WORDS,
-        OVERWRITTEN,
-        OVERWRITTEN_ADJOINT,
+",
     ),
-    (
-        "a dummy that is independent and dependent",
-        "adjoint --head P --vars X --outvars X",
-        TWICE,
-        TWICE_ADJOINT,
-    ),
-    (
-        "an assignment that nothing needs",
-        WORDS,
-        DROPPED,
-        DROPPED_ADJOINT,
-    ),
-    (
-        "signs and sums",
-        "adjoint --head P --vars X,Y --outvars Z",
-        SIGNS,
-        SIGNS_ADJOINT,
-    ),
-    (
-        "products of products",
-        "adjoint --head P --vars A,B --outvars C",
-        NESTED,
-        NESTED_ADJOINT,
-    ),
-    (
-        "wanted names that are taken",
-        "adjoint --head P --vars X,XB --outvars Y",
-        TAKEN,
-        TAKEN_ADJOINT,
-    ),
-    ("a dummy without a shadow", WORDS, TAKEN, UNSHADOWED_ADJOINT),
+    // The square in other layouts.
     (
         "small letters, comments and continuation lines",
         WORDS,
-        FREE,
+        b"c of x, its square\n      subroutine p(x,\n* and y\n     +y)\n\n      integer*8 x, y\n      y = x\n     1 * x\n      end\n$DATA\nnot FORTRAN!\n",
         ADJOINT,
     ),
-    ("statements without trees", WORDS, STATED, ADJOINT),
-    ("blanks and line ends", WORDS, BLANKS, ADJOINT),
+    (
+        "statements without trees",
+        WORDS,
+        b"      SUBROUTINE P(X,Y)\n      IMPLICIT NONE\n      INTEGER X\n      INTEGER*8 Y\n      Y=+(X)*X\n   10 CONTINUE\n      RETURN\n      END",
+        ADJOINT,
+    ),
+    (
+        "blanks and line ends",
+        WORDS,
+        b"   1  SUB ROUTINE P ( X , Y )                                            SQUARE\r\n      INTEGER * 8 X , Y\r\n      Y = X * X\r\n      E N D\r\n",
+        ADJOINT,
+    ),
 ];
 
 #[test]

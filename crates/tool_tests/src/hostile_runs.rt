@@ -1,6 +1,6 @@
 //! Runs of texts that were cut off or changed, and of streams that fail.
 
-use crate::calls::{Ended, Faults, NONE, call};
+use crate::calls::{Ended, Faults, NONE, SQUARE, WORDS, call};
 use adj_tree::Memory;
 use std::alloc::Global;
 
@@ -83,43 +83,37 @@ fn a_text_with_another_byte(rt: HostRuntime) -> Result<(), Memory> {
     Ok(())
 }
 
-// A text of 80 bytes is read in eight pieces, and a ninth read finds its end.
-#[test]
-fn a_read_that_fails(rt: HostRuntime) -> Result<(), Memory> {
-    for number in 1..11 {
-        let faults = Faults {
-            reads: &[number],
-            writes: &[],
-        };
-        let ended = call(rt.alloc(), LINE, TEXT, &faults)?;
-        if number < 10 {
-            assert_eq!(rt; ended.status, 7, "{number}");
-            assert!(rt; ended.sink.bytes().is_empty(), "{number}");
-        } else {
-            assert_eq!(rt; ended.status, 0);
-            assert!(rt; ended.sink.bytes() == WRITTEN);
-        }
-    }
-    Ok(())
-}
+// Words, an input, the reads and the writes that fail, the status and what was written.
+const FAILING: [(&str, &[u8], &[u64], &[u64], u8, &[u8]); 16] = [
+    // a text of 80 bytes is read in eight pieces, and a ninth read finds its end
+    (LINE, TEXT, &[1], &[], 7, b""),
+    (LINE, TEXT, &[2], &[], 7, b""),
+    (LINE, TEXT, &[3], &[], 7, b""),
+    (LINE, TEXT, &[4], &[], 7, b""),
+    (LINE, TEXT, &[5], &[], 7, b""),
+    (LINE, TEXT, &[6], &[], 7, b""),
+    (LINE, TEXT, &[7], &[], 7, b""),
+    (LINE, TEXT, &[8], &[], 7, b""),
+    (LINE, TEXT, &[9], &[], 7, b""),
+    (LINE, TEXT, &[10], &[], 0, WRITTEN),
+    // what is written has 23 bytes, in three pieces
+    (LINE, TEXT, &[], &[1], 8, b""),
+    (LINE, TEXT, &[], &[2], 8, b"X 7\nY 49\nT"),
+    (LINE, TEXT, &[], &[3], 8, b"X 7\nY 49\nTAPE 0\nUSED"),
+    (LINE, TEXT, &[], &[4], 0, WRITTEN),
+    // another command
+    (WORDS, SQUARE, &[2], &[], 7, b""),
+    (WORDS, SQUARE, &[], &[2], 8, b"      SUBR"),
+];
 
-// What is written has 23 bytes, in three pieces.
 #[test]
-fn a_write_that_fails(rt: HostRuntime) -> Result<(), Memory> {
-    let fronts: [(u64, u8, &[u8]); 4] = [
-        (1, 8, b""),
-        (2, 8, b"X 7\nY 49\nT"),
-        (3, 8, b"X 7\nY 49\nTAPE 0\nUSED"),
-        (4, 0, WRITTEN),
-    ];
-    for (number, status, front) in fronts {
-        let faults = Faults {
-            reads: &[],
-            writes: &[number],
-        };
-        let ended = call(rt.alloc(), LINE, TEXT, &faults)?;
-        assert_eq!(rt; ended.status, status, "{number}");
-        assert!(rt; ended.sink.bytes() == front, "{number}");
+fn a_read_or_a_write_that_fails(rt: HostRuntime) -> Result<(), Memory> {
+    for (index, row) in FAILING.iter().enumerate() {
+        let (words, input, reads, writes, status, front) = *row;
+        let faults = Faults { reads, writes };
+        let ended = call(rt.alloc(), words, input, &faults)?;
+        assert_eq!(rt; ended.status, status, "{index}");
+        assert!(rt; ended.sink.bytes() == front, "{index}");
     }
     Ok(())
 }

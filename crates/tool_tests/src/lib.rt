@@ -1,8 +1,7 @@
 //! Tests of the program's calls, whole: what words and texts come to.
 //!
-//! `calls`, `read` and `texts` are what the tests share: calls of `adj_tool::tool` with streams in memory, the reading of texts by
-//! `adj_fixed::statements` and `adj_parse::program`, and the writing of texts. The crate stands on the public calls of the layers
-//! alone, and offers nothing.
+//! `calls` and `texts` are what the tests share: calls of `adj_tool::tool` with streams in memory, and the writing of texts. The
+//! crate stands on public calls alone, and offers nothing.
 #![tactic(auto)]
 
 #[cfg(test)]
@@ -14,11 +13,7 @@ mod commands;
 #[cfg(test)]
 mod emitted;
 #[cfg(test)]
-mod heads;
-#[cfg(test)]
 mod hostile_runs;
-#[cfg(test)]
-mod limits;
 #[cfg(test)]
 mod long;
 #[cfg(test)]
@@ -27,12 +22,6 @@ mod lowered;
 mod names;
 #[cfg(test)]
 mod plans;
-#[cfg(test)]
-mod printed;
-#[cfg(test)]
-mod read;
-#[cfg(test)]
-mod readings;
 #[cfg(test)]
 mod refused;
 #[cfg(test)]

@@ -7,8 +7,13 @@ use adj_tree::Memory;
 const GREATER: &[u8] =
     b"      SUBROUTINE P(X,Y)\n      INTEGER*8 X,Y\n      Y=MAX(X,Y)\n      END\n";
 
-// Both are independent.
-const GREATER_ADJOINT: &str = "      SUBROUTINE P_B(X,XB,Y,YB)
+const CASES: [Case; 4] = [
+    // Both are independent.
+    (
+        "the greater of two",
+        "adjoint --head P --vars X,Y --outvars Y",
+        GREATER,
+        "      SUBROUTINE P_B(X,XB,Y,YB)
       INTEGER*8 X
       INTEGER*8 XB
       INTEGER*8 Y
@@ -43,10 +48,14 @@ const GREATER_ADJOINT: &str = "      SUBROUTINE P_B(X,XB,Y,YB)
       ADV1B=0
       XB=XB+ADW1
       END
-";
-
-// The second carries no derivative.
-const ONE_OF_BOTH_ADJOINT: &str = "      SUBROUTINE P_B(X,XB,Y,YB)
+",
+    ),
+    // The second carries no derivative.
+    (
+        "the greater of one and a constant",
+        WORDS,
+        GREATER,
+        "      SUBROUTINE P_B(X,XB,Y,YB)
       INTEGER*8 X
       INTEGER*8 XB
       INTEGER*8 Y
@@ -76,10 +85,13 @@ const ONE_OF_BOTH_ADJOINT: &str = "      SUBROUTINE P_B(X,XB,Y,YB)
       XB=XB+ADW1
       YB=0
       END
-";
-
-// An actual that is no name is set apart in a local. Nothing needs what the call gives, so the unit itself isn't called.
-const NEGATED: &[u8] = b"      SUBROUTINE P(X,Y)
+",
+    ),
+    // An actual that is no name is set apart in a local. Nothing needs what the call gives, so the unit itself isn't called.
+    (
+        "an actual that is no name",
+        WORDS,
+        b"      SUBROUTINE P(X,Y)
       INTEGER*8 X,Y
       CALL Q(X,-X,Y)
       END
@@ -87,9 +99,8 @@ const NEGATED: &[u8] = b"      SUBROUTINE P(X,Y)
       INTEGER*8 A,B,C
       C=A*B
       END
-";
-
-const NEGATED_ADJOINT: &str = "      SUBROUTINE P_B(X,XB,Y,YB)
+",
+        "      SUBROUTINE P_B(X,XB,Y,YB)
       INTEGER*8 X
       INTEGER*8 XB
       INTEGER*8 Y
@@ -123,13 +134,14 @@ const NEGATED_ADJOINT: &str = "      SUBROUTINE P_B(X,XB,Y,YB)
       ADW2=ADW1*A
       BB=BB+ADW2
       END
-";
-
-// A subscript that reads its own array is set apart too.
-const INDIRECT: &[u8] =
-    b"      SUBROUTINE P(X,Y)\n      INTEGER*8 X,Y(2)\n      Y(Y(1))=X\n      END\n";
-
-const INDIRECT_ADJOINT: &str = "      SUBROUTINE P_B(X,XB,Y,YB)
+",
+    ),
+    // A subscript that reads its own array is set apart too.
+    (
+        "a subscript that reads its array",
+        WORDS,
+        b"      SUBROUTINE P(X,Y)\n      INTEGER*8 X,Y(2)\n      Y(Y(1))=X\n      END\n",
+        "      SUBROUTINE P_B(X,XB,Y,YB)
       INTEGER*8 X
       INTEGER*8 XB
       INTEGER*8 Y(2)
@@ -143,27 +155,7 @@ const INDIRECT_ADJOINT: &str = "      SUBROUTINE P_B(X,XB,Y,YB)
       XB=XB+ADW1
       CALL ADZERO8(YB)
       END
-";
-
-const CASES: [Case; 4] = [
-    (
-        "the greater of two",
-        "adjoint --head P --vars X,Y --outvars Y",
-        GREATER,
-        GREATER_ADJOINT,
-    ),
-    (
-        "the greater of one and a constant",
-        WORDS,
-        GREATER,
-        ONE_OF_BOTH_ADJOINT,
-    ),
-    ("an actual that is no name", WORDS, NEGATED, NEGATED_ADJOINT),
-    (
-        "a subscript that reads its array",
-        WORDS,
-        INDIRECT,
-        INDIRECT_ADJOINT,
+",
     ),
 ];
 

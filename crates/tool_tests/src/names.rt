@@ -20,7 +20,9 @@ fn is_refused(alloc: Global, text: &str, answer: &str) -> Result<bool, Memory> {
     comes_to(alloc, WORDS, text.as_slice(), 2, answer)
 }
 
-const UNITS: [(&str, &str); 8] = [
+// Texts of units and their answers.
+const FAULTS: [(&str, &str); 102] = [
+    // units are named once, and like no intrinsic
     ("SUBROUTINE MOD(I)\nEND", "REFUSED 18 LINE 1\n"),
     ("SUBROUTINE ADBEG\nEND", "REFUSED 18 LINE 1\n"),
     ("SUBROUTINE MAX1(I)\nEND", "REFUSED 22 LINE 0\n"),
@@ -45,9 +47,7 @@ const UNITS: [(&str, &str); 8] = [
         "SUBROUTINE Q\nEND\nSUBROUTINE R\nEND",
         "REFUSED 22 LINE 0\n",
     ),
-];
-
-const UNDECLARED: [(&str, &str); 12] = [
+    // names are declared, or begin with I to N
     ("SUBROUTINE P(X)\nEND", "REFUSED 7 LINE 1\n"),
     ("SUBROUTINE P(I)\nI=A+1\nEND", "REFUSED 7 LINE 2\n"),
     ("SUBROUTINE P(I)\nI=H\nEND", "REFUSED 7 LINE 2\n"),
@@ -73,9 +73,7 @@ const UNDECLARED: [(&str, &str); 12] = [
     ),
     // names are looked at before calls
     ("SUBROUTINE P(I)\nCALL Q(X)\nEND", "REFUSED 7 LINE 2\n"),
-];
-
-const TWICE: [(&str, &str); 5] = [
+    // names are declared once
     ("SUBROUTINE P(I,J,I)\nEND", "REFUSED 8 LINE 1\n"),
     ("SUBROUTINE P(X)\nINTEGER*8 X,X\nEND", "REFUSED 8 LINE 2\n"),
     (
@@ -88,9 +86,7 @@ const TWICE: [(&str, &str); 5] = [
     ),
     // at one place the lowest code comes first
     ("SUBROUTINE P(X,X)\nEND", "REFUSED 7 LINE 1\n"),
-];
-
-const RANKS: [(&str, &str); 12] = [
+    // names have as many subscripts as extents
     ("SUBROUTINE P(I)\nI=J(1)\nEND", "REFUSED 9 LINE 2\n"),
     ("SUBROUTINE P(I)\nI(1)=2\nEND", "REFUSED 9 LINE 2\n"),
     (
@@ -129,9 +125,7 @@ const RANKS: [(&str, &str); 12] = [
     ),
     // a target of an intrinsic's name is an element of a scalar, and that code is the lower one
     ("SUBROUTINE P(I)\nMAX(1)=2\nEND", "REFUSED 9 LINE 2\n"),
-];
-
-const EXTENTS: [(&str, &str); 10] = [
+    // extents are numbers or dummies
     (
         "SUBROUTINE P(A)\nINTEGER*8 A(0)\nEND",
         "REFUSED 12 LINE 2\n",
@@ -172,9 +166,7 @@ const EXTENTS: [(&str, &str); 10] = [
         "SUBROUTINE P(A,N)\nINTEGER*8 A(1048577,N)\nEND",
         "REFUSED 12 LINE 2\n",
     ),
-];
-
-const RESERVED: [(&str, &str); 9] = [
+    // variables are named like nothing else
     ("SUBROUTINE P(I)\nINTEGER*8 MOD\nEND", "REFUSED 18 LINE 2\n"),
     ("SUBROUTINE P(MAX)\nEND", "REFUSED 18 LINE 1\n"),
     ("SUBROUTINE P(I)\nI=IABS+1\nEND", "REFUSED 18 LINE 2\n"),
@@ -197,9 +189,7 @@ const RESERVED: [(&str, &str); 9] = [
         "SUBROUTINE P(I)\nINTEGER*8 A(2)\nCALL PUSHINTEGER8(A)\nEND",
         "REFUSED 18 LINE 3\n",
     ),
-];
-
-const CALLS: [(&str, &str); 12] = [
+    // calls are of units with such dummies
     ("SUBROUTINE P(I)\nCALL Q\nEND", "REFUSED 14 LINE 2\n"),
     (
         "SUBROUTINE P(I)\nDO K=1,2\nIF (I.GT.0) CALL Q(I)\nEND DO\nEND",
@@ -246,9 +236,7 @@ const CALLS: [(&str, &str); 12] = [
         "SUBROUTINE P(I)\nCALL P(I)\nEND\nSUBROUTINE Q(I)\nCALL R\nEND",
         "REFUSED 14 LINE 5\n",
     ),
-];
-
-const CYCLES: [(&str, &str); 6] = [
+    // calls don't lead back
     ("SUBROUTINE P(I)\nCALL P(I)\nEND", "REFUSED 16 LINE 2\n"),
     (
         "SUBROUTINE P(I)\nCALL G(I)\nEND\nSUBROUTINE G(I)\nCALL P(I)\nEND",
@@ -271,9 +259,7 @@ const CYCLES: [(&str, &str); 6] = [
         "SUBROUTINE P(I)\nDO I=1,3\nI=2\nCALL P(I)\nEND DO\nEND",
         "REFUSED 16 LINE 4\n",
     ),
-];
-
-const LOOP_VARIABLES: [(&str, &str); 8] = [
+    // the variable of a loop isn't written in it
     (
         "SUBROUTINE P(I)\nDO I=1,3\nI=2\nEND DO\nEND",
         "REFUSED 11 LINE 3\n",
@@ -307,9 +293,7 @@ const LOOP_VARIABLES: [(&str, &str); 8] = [
         "SUBROUTINE P(I)\nCALL Q(2)\nDO I=1,3\nI=2\nEND DO\nEND\nSUBROUTINE Q(J)\nJ=1\nEND",
         "REFUSED 24 LINE 2\n",
     ),
-];
-
-const WRITTEN_EXTENTS: [(&str, &str); 5] = [
+    // an extent isn't written
     (
         "SUBROUTINE P(N,A)\nINTEGER*8 A(N)\nN=1\nEND",
         "REFUSED 13 LINE 3\n",
@@ -331,9 +315,7 @@ const WRITTEN_EXTENTS: [(&str, &str); 5] = [
         "SUBROUTINE P(N,A)\nINTEGER*8 A(N)\nDO K=1,2\nK=1\nN=1\nEND DO\nEND",
         "REFUSED 11 LINE 4\n",
     ),
-];
-
-const ALIASES: [(&str, &str); 9] = [
+    // what is written isn't handed over twice
     (
         "SUBROUTINE P(X)\nINTEGER*8 X(2)\nCALL G(X,X)\nEND\nSUBROUTINE G(A,B)\nINTEGER*8 A(2),B(2)\nA(1)=B(1)\nEND",
         "REFUSED 17 LINE 3\n",
@@ -373,9 +355,7 @@ const ALIASES: [(&str, &str); 9] = [
         "SUBROUTINE P(I)\nCALL G(I,I,1)\nEND\nSUBROUTINE G(I,J,K)\nI=J\nK=1\nEND",
         "REFUSED 17 LINE 2\n",
     ),
-];
-
-const VALUES: [(&str, &str); 6] = [
+    // what is written has a place
     (
         "SUBROUTINE P(I)\nCALL G(I+1)\nEND\nSUBROUTINE G(J)\nJ=1\nEND",
         "REFUSED 24 LINE 2\n",
@@ -403,96 +383,8 @@ const VALUES: [(&str, &str); 6] = [
 ];
 
 #[test]
-fn units_are_named_once_and_like_no_intrinsic(rt: HostRuntime) -> Result<(), Memory> {
-    for (text, answer) in UNITS {
-        assert!(rt; is_refused(rt.alloc(), text, answer)?, "{text}");
-    }
-    Ok(())
-}
-
-#[test]
-fn names_are_declared_or_begin_with_i_to_n(rt: HostRuntime) -> Result<(), Memory> {
-    for (text, answer) in UNDECLARED {
-        assert!(rt; is_refused(rt.alloc(), text, answer)?, "{text}");
-    }
-    Ok(())
-}
-
-#[test]
-fn names_are_declared_once(rt: HostRuntime) -> Result<(), Memory> {
-    for (text, answer) in TWICE {
-        assert!(rt; is_refused(rt.alloc(), text, answer)?, "{text}");
-    }
-    Ok(())
-}
-
-#[test]
-fn names_have_as_many_subscripts_as_extents(rt: HostRuntime) -> Result<(), Memory> {
-    for (text, answer) in RANKS {
-        assert!(rt; is_refused(rt.alloc(), text, answer)?, "{text}");
-    }
-    Ok(())
-}
-
-#[test]
-fn extents_are_numbers_or_dummies(rt: HostRuntime) -> Result<(), Memory> {
-    for (text, answer) in EXTENTS {
-        assert!(rt; is_refused(rt.alloc(), text, answer)?, "{text}");
-    }
-    Ok(())
-}
-
-#[test]
-fn variables_are_named_like_nothing_else(rt: HostRuntime) -> Result<(), Memory> {
-    for (text, answer) in RESERVED {
-        assert!(rt; is_refused(rt.alloc(), text, answer)?, "{text}");
-    }
-    Ok(())
-}
-
-#[test]
-fn calls_are_of_units_with_such_dummies(rt: HostRuntime) -> Result<(), Memory> {
-    for (text, answer) in CALLS {
-        assert!(rt; is_refused(rt.alloc(), text, answer)?, "{text}");
-    }
-    Ok(())
-}
-
-#[test]
-fn calls_do_not_lead_back(rt: HostRuntime) -> Result<(), Memory> {
-    for (text, answer) in CYCLES {
-        assert!(rt; is_refused(rt.alloc(), text, answer)?, "{text}");
-    }
-    Ok(())
-}
-
-#[test]
-fn the_variable_of_a_loop_is_not_written_in_it(rt: HostRuntime) -> Result<(), Memory> {
-    for (text, answer) in LOOP_VARIABLES {
-        assert!(rt; is_refused(rt.alloc(), text, answer)?, "{text}");
-    }
-    Ok(())
-}
-
-#[test]
-fn an_extent_is_not_written(rt: HostRuntime) -> Result<(), Memory> {
-    for (text, answer) in WRITTEN_EXTENTS {
-        assert!(rt; is_refused(rt.alloc(), text, answer)?, "{text}");
-    }
-    Ok(())
-}
-
-#[test]
-fn what_is_written_is_not_handed_over_twice(rt: HostRuntime) -> Result<(), Memory> {
-    for (text, answer) in ALIASES {
-        assert!(rt; is_refused(rt.alloc(), text, answer)?, "{text}");
-    }
-    Ok(())
-}
-
-#[test]
-fn what_is_written_has_a_place(rt: HostRuntime) -> Result<(), Memory> {
-    for (text, answer) in VALUES {
+fn each_text_is_refused_by_its_first_fault(rt: HostRuntime) -> Result<(), Memory> {
+    for (text, answer) in FAULTS {
         assert!(rt; is_refused(rt.alloc(), text, answer)?, "{text}");
     }
     Ok(())

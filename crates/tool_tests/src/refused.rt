@@ -3,50 +3,6 @@
 use crate::calls::{SQUARE, WORDS, comes_to};
 use adj_tree::Memory;
 
-// Texts with marked loops, which aren't treated yet, and the line of the first of them.
-const UNTREATED: [(&[u8], &str); 8] = [
-    (
-        b"      SUBROUTINE P(X,Y)\n      INTEGER*8 X,Y\nC$AD BINOMIAL-CKP 2\n      DO I=1,3\n      Y=ABS(X)\n      END DO\n      END\n",
-        "REFUSED 3 LINE 4\n",
-    ),
-    (
-        b"      SUBROUTINE P(X,Y)\n      INTEGER*8 X,Y\n      IF (X.GT.0) THEN\nC$AD BINOMIAL-CKP X\n      DO I=1,3\n      Y=Y*X\n      END DO\n      END IF\n      END\n",
-        "REFUSED 3 LINE 5\n",
-    ),
-    (
-        b"      SUBROUTINE P(X,Y)\n      INTEGER*8 X,Y\n      IF (X.GT.0) THEN\n      Y=X\n      ELSE\nC$AD BINOMIAL-CKP 3\n      DO I=1,3\n      Y=Y*X\n      END DO\n      END IF\n      END\n",
-        "REFUSED 3 LINE 7\n",
-    ),
-    (
-        b"      SUBROUTINE P(X,Y)\n      INTEGER*8 X,Y\n      DO 10 I=1,3\n      DO WHILE (Y.LT.5)\nC$AD BINOMIAL-CKP 3\n      DO J=1,3\n      Y=Y*X\n      END DO\n      END DO\n   10 CONTINUE\n      END\n",
-        "REFUSED 3 LINE 6\n",
-    ),
-    (
-        b"      SUBROUTINE P(X,Y)\n      INTEGER*8 X,Y\n      Y=MAX(X,Y)\nC$AD BINOMIAL-CKP 3\n      DO I=1,3\nC$AD BINOMIAL-CKP 4\n      DO J=1,3\n      Y=Y*X\n      END DO\n      END DO\n      END\n",
-        "REFUSED 3 LINE 5\n",
-    ),
-    (
-        b"      SUBROUTINE P(X,Y)\n      INTEGER*8 X,Y\n      DO I=1,3\n      Y=Y*X\n      END DO\nC$AD BINOMIAL-CKP 3\n      DO I=1,3\n      Y=Y*X\n      END DO\n      END\n",
-        "REFUSED 3 LINE 7\n",
-    ),
-    (
-        b"      SUBROUTINE P(X,Y)\n      INTEGER*8 X,Y\n      CALL Q(Y)\n      END\n      SUBROUTINE Q(A)\n      INTEGER*8 A\nC$AD BINOMIAL-CKP 64\n      DO I=1,3\n      A=A*I\n      END DO\n      END\n",
-        "REFUSED 3 LINE 8\n",
-    ),
-    (
-        b"      SUBROUTINE Q(A)\n      INTEGER*8 A\nC$AD BINOMIAL-CKP 64\n      DO I=1,3\n      A=A*I\n      END DO\n      END\n      SUBROUTINE P(X,Y)\n      INTEGER*8 X,Y\nC$AD BINOMIAL-CKP 64\n      DO I=1,3\n      Y=X*I\n      END DO\n      END\n",
-        "REFUSED 3 LINE 4\n",
-    ),
-];
-
-#[test]
-fn a_marked_loop_is_not_treated_yet(rt: HostRuntime) -> Result<(), Memory> {
-    for (index, (text, answer)) in UNTREATED.iter().enumerate() {
-        assert!(rt; comes_to(rt.alloc(), WORDS, text, 2, answer)?, "{index}");
-    }
-    Ok(())
-}
-
 // A text that isn't treated at line 4, and has a fault of its names at line 5.
 const MISNAMED: &[u8] =
     b"      SUBROUTINE P(X,Y)\n      INTEGER*8 X,Y\nC$AD BINOMIAL-CKP 2\n      DO I=1,2\n      Y=X*Z\n      END DO\n      END\n";
@@ -55,137 +11,185 @@ const MISNAMED: &[u8] =
 const MARKED: &[u8] =
     b"      SUBROUTINE P(X,Y)\n      INTEGER*8 X,Y\nC$AD BINOMIAL-CKP 2\n      DO I=1,2\n      Y=X*Y\n      END DO\n      END\n";
 
-#[test]
-fn faults_of_names_come_first_then_those_of_the_head_then_what_is_not_treated(
-    rt: HostRuntime,
-) -> Result<(), Memory> {
-    let alloc = rt.alloc();
-    let other = "adjoint --head Q --vars X --outvars Y";
-    assert!(rt; comes_to(alloc, other, MISNAMED, 2, "REFUSED 7 LINE 5\n")?);
-    assert!(rt; comes_to(alloc, other, MARKED, 2, "REFUSED 22 LINE 0\n")?);
-    assert!(rt; comes_to(alloc, WORDS, MARKED, 2, "REFUSED 3 LINE 4\n")?);
-    assert!(rt; comes_to(alloc, WORDS, b"", 2, "REFUSED 22 LINE 0\n")?);
-    Ok(())
-}
-
-#[test]
-fn another_head_and_other_dummies_are_refused_without_a_line(
-    rt: HostRuntime,
-) -> Result<(), Memory> {
-    let lines = [
-        (
-            "adjoint --head Q --vars X --outvars Y",
-            "REFUSED 22 LINE 0\n",
-        ),
-        (
-            "adjoint --head X --vars X --outvars Y",
-            "REFUSED 22 LINE 0\n",
-        ),
-        (
-            "adjoint --head P --vars Z --outvars Y",
-            "REFUSED 23 LINE 0\n",
-        ),
-        (
-            "adjoint --head P --vars X,Z --outvars Y",
-            "REFUSED 23 LINE 0\n",
-        ),
-        (
-            "adjoint --head P --vars X --outvars P",
-            "REFUSED 23 LINE 0\n",
-        ),
-        (
-            "adjoint --head P --vars X,X --outvars Y",
-            "REFUSED 23 LINE 0\n",
-        ),
-        (
-            "adjoint --head P --vars X --outvars Y,X,Y",
-            "REFUSED 23 LINE 0\n",
-        ),
-        (
-            "adjoint --head Q --vars Z --outvars Y",
-            "REFUSED 22 LINE 0\n",
-        ),
-    ];
-    for (line, answer) in lines {
-        assert!(rt; comes_to(rt.alloc(), line, SQUARE, 2, answer)?, "{line}");
-    }
-    Ok(())
-}
-
 // A local of the head is none of its dummies.
 const LOCAL: &[u8] =
     b"      SUBROUTINE P(X,Y)\n      INTEGER*8 X,Y,Z\n      Z=X\n      Y=Z*I\n      END\n";
 
-#[test]
-fn locals_are_no_dummies(rt: HostRuntime) -> Result<(), Memory> {
-    for line in [
-        "adjoint --head P --vars Z --outvars Y",
-        "adjoint --head P --vars X --outvars I",
-    ] {
-        assert!(rt;
-            comes_to(rt.alloc(), line, LOCAL, 2, "REFUSED 23 LINE 0\n")?,
-            "{line}"
-        );
-    }
-    Ok(())
-}
-
-// Texts with a fault of their lines, their statements or their trees.
-const FAULTS: [(&[u8], &str); 12] = [
+// Words, a text that is refused, and where.
+const REFUSED: [(&str, &[u8], &str); 34] = [
+    // marked loops, which aren't treated yet, and the line of the first of them
     (
+        WORDS,
+        b"      SUBROUTINE P(X,Y)\n      INTEGER*8 X,Y\nC$AD BINOMIAL-CKP 2\n      DO I=1,3\n      Y=ABS(X)\n      END DO\n      END\n",
+        "REFUSED 3 LINE 4\n",
+    ),
+    (
+        WORDS,
+        b"      SUBROUTINE P(X,Y)\n      INTEGER*8 X,Y\n      IF (X.GT.0) THEN\nC$AD BINOMIAL-CKP X\n      DO I=1,3\n      Y=Y*X\n      END DO\n      END IF\n      END\n",
+        "REFUSED 3 LINE 5\n",
+    ),
+    (
+        WORDS,
+        b"      SUBROUTINE P(X,Y)\n      INTEGER*8 X,Y\n      IF (X.GT.0) THEN\n      Y=X\n      ELSE\nC$AD BINOMIAL-CKP 3\n      DO I=1,3\n      Y=Y*X\n      END DO\n      END IF\n      END\n",
+        "REFUSED 3 LINE 7\n",
+    ),
+    (
+        WORDS,
+        b"      SUBROUTINE P(X,Y)\n      INTEGER*8 X,Y\n      DO 10 I=1,3\n      DO WHILE (Y.LT.5)\nC$AD BINOMIAL-CKP 3\n      DO J=1,3\n      Y=Y*X\n      END DO\n      END DO\n   10 CONTINUE\n      END\n",
+        "REFUSED 3 LINE 6\n",
+    ),
+    (
+        WORDS,
+        b"      SUBROUTINE P(X,Y)\n      INTEGER*8 X,Y\n      Y=MAX(X,Y)\nC$AD BINOMIAL-CKP 3\n      DO I=1,3\nC$AD BINOMIAL-CKP 4\n      DO J=1,3\n      Y=Y*X\n      END DO\n      END DO\n      END\n",
+        "REFUSED 3 LINE 5\n",
+    ),
+    (
+        WORDS,
+        b"      SUBROUTINE P(X,Y)\n      INTEGER*8 X,Y\n      DO I=1,3\n      Y=Y*X\n      END DO\nC$AD BINOMIAL-CKP 3\n      DO I=1,3\n      Y=Y*X\n      END DO\n      END\n",
+        "REFUSED 3 LINE 7\n",
+    ),
+    (
+        WORDS,
+        b"      SUBROUTINE P(X,Y)\n      INTEGER*8 X,Y\n      CALL Q(Y)\n      END\n      SUBROUTINE Q(A)\n      INTEGER*8 A\nC$AD BINOMIAL-CKP 64\n      DO I=1,3\n      A=A*I\n      END DO\n      END\n",
+        "REFUSED 3 LINE 8\n",
+    ),
+    (
+        WORDS,
+        b"      SUBROUTINE Q(A)\n      INTEGER*8 A\nC$AD BINOMIAL-CKP 64\n      DO I=1,3\n      A=A*I\n      END DO\n      END\n      SUBROUTINE P(X,Y)\n      INTEGER*8 X,Y\nC$AD BINOMIAL-CKP 64\n      DO I=1,3\n      Y=X*I\n      END DO\n      END\n",
+        "REFUSED 3 LINE 4\n",
+    ),
+    // faults of names come first, then those of the head, then what is not treated
+    (
+        "adjoint --head Q --vars X --outvars Y",
+        MISNAMED,
+        "REFUSED 7 LINE 5\n",
+    ),
+    (
+        "adjoint --head Q --vars X --outvars Y",
+        MARKED,
+        "REFUSED 22 LINE 0\n",
+    ),
+    (WORDS, MARKED, "REFUSED 3 LINE 4\n"),
+    (WORDS, b"", "REFUSED 22 LINE 0\n"),
+    // another head, and other dummies: without a line
+    (
+        "adjoint --head Q --vars X --outvars Y",
+        SQUARE,
+        "REFUSED 22 LINE 0\n",
+    ),
+    (
+        "adjoint --head X --vars X --outvars Y",
+        SQUARE,
+        "REFUSED 22 LINE 0\n",
+    ),
+    (
+        "adjoint --head P --vars Z --outvars Y",
+        SQUARE,
+        "REFUSED 23 LINE 0\n",
+    ),
+    (
+        "adjoint --head P --vars X,Z --outvars Y",
+        SQUARE,
+        "REFUSED 23 LINE 0\n",
+    ),
+    (
+        "adjoint --head P --vars X --outvars P",
+        SQUARE,
+        "REFUSED 23 LINE 0\n",
+    ),
+    (
+        "adjoint --head P --vars X,X --outvars Y",
+        SQUARE,
+        "REFUSED 23 LINE 0\n",
+    ),
+    (
+        "adjoint --head P --vars X --outvars Y,X,Y",
+        SQUARE,
+        "REFUSED 23 LINE 0\n",
+    ),
+    (
+        "adjoint --head Q --vars Z --outvars Y",
+        SQUARE,
+        "REFUSED 22 LINE 0\n",
+    ),
+    // locals are no dummies
+    (
+        "adjoint --head P --vars Z --outvars Y",
+        LOCAL,
+        "REFUSED 23 LINE 0\n",
+    ),
+    (
+        "adjoint --head P --vars X --outvars I",
+        LOCAL,
+        "REFUSED 23 LINE 0\n",
+    ),
+    // faults of lines, statements or trees
+    (
+        WORDS,
         b"      SUBROUTINE P(X,Y)\n  A   INTEGER*8 X,Y\n      Y=ABS(X)\n      END\n",
         "REFUSED 1 LINE 2\n",
     ),
     (
+        WORDS,
         b"      SUBROUTINE P(X,Y)\n      INTEGER*8 X,Y\n      Y=ABS(X)\n      Y=X;\n      END\n",
         "REFUSED 2 LINE 4\n",
     ),
     (
+        WORDS,
         b"      SUBROUTINE P(X,Y)\n      INTEGER*8 X,Y\n      GOTO 10\n      END\n",
         "REFUSED 3 LINE 3\n",
     ),
     (
+        WORDS,
         b"      SUBROUTINE P(X,Y)\n      REAL X\n      Y=ABS(X)\n      END\n",
         "REFUSED 3 LINE 2\n",
     ),
     (
+        WORDS,
         b"      SUBROUTINE P(X,Y)\n      INTEGER*8 X,Y\n      Y=X*X\n",
         "REFUSED 4 LINE 3\n",
     ),
     (
+        WORDS,
         b"      SUBROUTINE P(X,Y)\n      INTEGER*8 X,Y\n      Y=ABS(X)\n      Y=X*\n      END\n",
         "REFUSED 4 LINE 4\n",
     ),
     (
+        WORDS,
         b"      SUBROUTINE P(X,Y)\n      INTEGER*8 X,Y\n      Y=9223372036854775808\n      END\n",
         "REFUSED 5 LINE 3\n",
     ),
     (
+        WORDS,
         b"      SUBROUTINE P(X,Y)\n      INTEGER*8 X,Y\n      A2345678901234567890123456789012=X\n      END\n",
         "REFUSED 6 LINE 3\n",
     ),
     (
+        WORDS,
         b"      SUBROUTINE P(X,Y)\n      INTEGER*8 X,Y\n      DO 10 I=1,2\n      IF (X.GT.0) THEN\n   10 CONTINUE\n      END IF\n      END\n",
         "REFUSED 10 LINE 5\n",
     ),
     (
+        WORDS,
         b"      SUBROUTINE P(X,Y)\n      INTEGER*8 X,Y\nC$AD BINOMIAL-CKP 2\n      Y=ABS(X)\n      END\n",
         "REFUSED 20 LINE 3\n",
     ),
     (
+        WORDS,
         b"      SUBROUTINE P(X,Y)\n      INTEGER*8 X,Y\n      Y=X\n     +\n     +\n     +\n     +\n     +\n     +\n     +\n     +\n     +\n     +\n     +\n     +\n     +\n     +\n     +\n     +\n     +\n     +\n     +\n     +\n      END\n",
         "REFUSED 21 LINE 23 LIMIT 19\n",
     ),
     (
+        WORDS,
         b"      SUBROUTINE P(X,Y)\n      INTEGER*8 X,Y\n      Y=X**64\n      END\n",
         "REFUSED 25 LINE 3\n",
     ),
 ];
 
 #[test]
-fn a_fault_of_the_text_is_refused(rt: HostRuntime) -> Result<(), Memory> {
-    for (index, (text, answer)) in FAULTS.iter().enumerate() {
-        assert!(rt; comes_to(rt.alloc(), WORDS, text, 2, answer)?, "{index}");
+fn each_text_is_refused_at_its_line(rt: HostRuntime) -> Result<(), Memory> {
+    for (index, (words, text, answer)) in REFUSED.iter().enumerate() {
+        assert!(rt; comes_to(rt.alloc(), words, text, 2, answer)?, "{index}");
     }
     Ok(())
 }

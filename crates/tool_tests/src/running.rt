@@ -1,7 +1,13 @@
 //! What `run` comes to.
 
-use crate::calls::{SQUARE, comes_to};
+use crate::calls::{Run, comes_to, runs_to};
 use adj_tree::Memory;
+
+const SQUARE: &str = "      SUBROUTINE P(X,Y)
+      INTEGER*8 X,Y
+      Y=X*X
+      END
+";
 
 // P(X,Y,A,N): A has N elements. Lines 1 to 4, and the data begin behind line 5.
 const SUMS: &str = "      SUBROUTINE P(X,Y,A,N)
@@ -11,20 +17,95 @@ const SUMS: &str = "      SUBROUTINE P(X,Y,A,N)
 $DATA
 ";
 
-// Data of P, and what is wrong with them.
-const DATA: [(&str, &str); 12] = [
-    ("", "DATA 4 LINE 0\n"),
-    ("X 1\nY 2\nN 1\n", "DATA 4 LINE 0\n"),
-    ("X 1\nB 2\n", "DATA 2 LINE 7\n"),
-    ("X 1\n\nx 2\n", "DATA 3 LINE 8\n"),
-    ("1\n", "DATA 1 LINE 6\n"),
-    ("X 1 Y 2\n", "DATA 1 LINE 6\n"),
-    ("X 9223372036854775808\nQ\n", "DATA 6 LINE 6\n"),
-    ("X 1\nY 2\nN 0\nA\n", "DATA 7 LINE 9\n"),
-    ("X 1\nY 2\nN 1048577\nA\n", "DATA 7 LINE 9\n"),
-    ("X 1\nY 2\nN 2\nA 1\n", "DATA 5 LINE 9\n"),
-    ("X 1\nY 2\nN 2 2\nA 1\n", "DATA 5 LINE 8\n"),
-    ("X 1 1\nY\nN 1\nA 1\n", "DATA 5 LINE 6\n"),
+const ANSWERS: [Run; 19] = [
+    // texts and heads are refused before data are looked at
+    ("run --head P", "      Y=X\n", "", 2, "REFUSED 4 LINE 1\n"),
+    (
+        "run --head P",
+        "      SUBROUTINE P(X)\n      INTEGER*8 X\n      X=Y(1)\n      END\n$DATA\nQ\n",
+        "",
+        2,
+        "REFUSED 7 LINE 3\n",
+    ),
+    (
+        "run --head P",
+        "      SUBROUTINE P(X)\n      INTEGER*8 X\n      CALL P(X)\n      END\n$DATA\nQ\n",
+        "",
+        2,
+        "REFUSED 16 LINE 3\n",
+    ),
+    ("run --head Q", SQUARE, "", 2, "REFUSED 22 LINE 0\n"),
+    (
+        "adjoint --head P --vars X --outvars X",
+        "      SUBROUTINE P(X)\n      INTEGER*8 X\n      CALL PUSHINTEGER8(X)\n      END\n",
+        "",
+        2,
+        "REFUSED 18 LINE 3\n",
+    ),
+    // data that have a fault
+    ("run --head P", SUMS, "", 3, "DATA 4 LINE 0\n"),
+    (
+        "run --head P",
+        SUMS,
+        "X 1\nY 2\nN 1\n",
+        3,
+        "DATA 4 LINE 0\n",
+    ),
+    ("run --head P", SUMS, "X 1\nB 2\n", 3, "DATA 2 LINE 7\n"),
+    ("run --head P", SUMS, "X 1\n\nx 2\n", 3, "DATA 3 LINE 8\n"),
+    ("run --head P", SUMS, "1\n", 3, "DATA 1 LINE 6\n"),
+    ("run --head P", SUMS, "X 1 Y 2\n", 3, "DATA 1 LINE 6\n"),
+    (
+        "run --head P",
+        SUMS,
+        "X 9223372036854775808\nQ\n",
+        3,
+        "DATA 6 LINE 6\n",
+    ),
+    (
+        "run --head P",
+        SUMS,
+        "X 1\nY 2\nN 0\nA\n",
+        3,
+        "DATA 7 LINE 9\n",
+    ),
+    (
+        "run --head P",
+        SUMS,
+        "X 1\nY 2\nN 1048577\nA\n",
+        3,
+        "DATA 7 LINE 9\n",
+    ),
+    (
+        "run --head P",
+        SUMS,
+        "X 1\nY 2\nN 2\nA 1\n",
+        3,
+        "DATA 5 LINE 9\n",
+    ),
+    (
+        "run --head P",
+        SUMS,
+        "X 1\nY 2\nN 2 2\nA 1\n",
+        3,
+        "DATA 5 LINE 8\n",
+    ),
+    (
+        "run --head P",
+        SUMS,
+        "X 1 1\nY\nN 1\nA 1\n",
+        3,
+        "DATA 5 LINE 6\n",
+    ),
+    ("run --head P", SQUARE, "", 3, "DATA 4 LINE 0\n"),
+    // data in another order, on several lines
+    (
+        "run --head p",
+        SUMS,
+        "N 3\nA -1 2\n 4\nX 5\nY -0\n",
+        0,
+        "X 5\nY -1\nA -1 2 4\nN 3\nTAPE 0\nUSED 1\n",
+    ),
 ];
 
 // Units of X and Y with X 7 and Y 0, the words behind `run --head P`, the status and what is written.
@@ -89,44 +170,10 @@ const RUNS: [(&str, &str, u8, &str); 16] = [
 ];
 
 #[test]
-fn texts_and_heads_are_refused_before_data_are_looked_at(rt: HostRuntime) -> Result<(), Memory> {
-    let alloc = rt.alloc();
-    let cases: [(&[u8], &str, &str); 5] = [
-        (b"      Y=X\n", "run --head P", "REFUSED 4 LINE 1\n"),
-        (
-            b"      SUBROUTINE P(X)\n      INTEGER*8 X\n      X=Y(1)\n      END\n$DATA\nQ\n",
-            "run --head P",
-            "REFUSED 7 LINE 3\n",
-        ),
-        (
-            b"      SUBROUTINE P(X)\n      INTEGER*8 X\n      CALL P(X)\n      END\n$DATA\nQ\n",
-            "run --head P",
-            "REFUSED 16 LINE 3\n",
-        ),
-        (SQUARE, "run --head Q", "REFUSED 22 LINE 0\n"),
-        (
-            b"      SUBROUTINE P(X)\n      INTEGER*8 X\n      CALL PUSHINTEGER8(X)\n      END\n",
-            "adjoint --head P --vars X --outvars X",
-            "REFUSED 18 LINE 3\n",
-        ),
-    ];
-    for (text, line, refusal) in cases {
-        assert!(rt; comes_to(alloc, line, text, 2, refusal)?, "{refusal}");
+fn each_text_with_data_has_its_answer(rt: HostRuntime) -> Result<(), Memory> {
+    for (index, run) in ANSWERS.iter().enumerate() {
+        assert!(rt; runs_to(rt.alloc(), run)?, "{index}");
     }
-    Ok(())
-}
-
-#[test]
-fn data_that_have_a_fault(rt: HostRuntime) -> Result<(), Memory> {
-    let alloc = rt.alloc();
-    for (data, fault) in DATA {
-        let input = format!(in alloc; "{SUMS}{data}")?;
-        assert!(rt;
-            comes_to(alloc, "run --head P", input.as_bytes(), 3, fault)?,
-            "{data}"
-        );
-    }
-    assert!(rt; comes_to(alloc, "run --head P", SQUARE, 3, "DATA 4 LINE 0\n")?);
     Ok(())
 }
 
@@ -141,8 +188,5 @@ fn runs_end(rt: HostRuntime) -> Result<(), Memory> {
         let ended = comes_to(alloc, line.as_str(), input.as_bytes(), status, text)?;
         assert!(rt; ended, "{body}");
     }
-    let input = format!(in alloc; "{SUMS}N 3\nA -1 2\n 4\nX 5\nY -0\n")?;
-    let text = "X 5\nY -1\nA -1 2 4\nN 3\nTAPE 0\nUSED 1\n";
-    assert!(rt; comes_to(alloc, "run --head p", input.as_bytes(), 0, text)?);
     Ok(())
 }

@@ -3,13 +3,16 @@
 use crate::calls::{Case, WORDS, comes_to};
 use adj_tree::Memory;
 
-const QUOTIENT: &[u8] = b"      SUBROUTINE P(X,Y)
+const CASES: [Case; 9] = [
+    (
+        "a quotient",
+        WORDS,
+        b"      SUBROUTINE P(X,Y)
       INTEGER*8 X,Y
       Y=(X/2)*X
       END
-";
-
-const QUOTIENT_ADJOINT: &str = "      SUBROUTINE P_B(X,XB,Y,YB)
+",
+        "      SUBROUTINE P_B(X,XB,Y,YB)
       INTEGER*8 X
       INTEGER*8 XB
       INTEGER*8 Y
@@ -25,15 +28,17 @@ const QUOTIENT_ADJOINT: &str = "      SUBROUTINE P_B(X,XB,Y,YB)
       XB=XB+ADW2
       YB=0
       END
-";
-
-const POWERS: &[u8] = b"      SUBROUTINE P(X,N,Y)
+",
+    ),
+    (
+        "powers",
+        WORDS,
+        b"      SUBROUTINE P(X,N,Y)
       INTEGER*8 X,N,Y
       Y=X**3+X**N
       END
-";
-
-const POWERS_ADJOINT: &str = "      SUBROUTINE P_B(X,XB,N,Y,YB)
+",
+        "      SUBROUTINE P_B(X,XB,N,Y,YB)
       INTEGER*8 X
       INTEGER*8 XB
       INTEGER*8 N
@@ -50,10 +55,13 @@ const POWERS_ADJOINT: &str = "      SUBROUTINE P_B(X,XB,N,Y,YB)
       XB=XB+ADW2
       YB=0
       END
-";
-
-// A branch without a derivative sets the shadow to 0.
-const RESET: &[u8] = b"      SUBROUTINE P(X,C,Y)
+",
+    ),
+    // A branch without a derivative sets the shadow to 0.
+    (
+        "a branch that resets",
+        WORDS,
+        b"      SUBROUTINE P(X,C,Y)
       INTEGER*8 X,C,Y
       Y=X*X
       IF (C.GT.0) THEN
@@ -61,9 +69,8 @@ const RESET: &[u8] = b"      SUBROUTINE P(X,C,Y)
       Y=2
       END IF
       END
-";
-
-const RESET_ADJOINT: &str = "      SUBROUTINE P_B(X,XB,C,Y,YB)
+",
+        "      SUBROUTINE P_B(X,XB,C,Y,YB)
       INTEGER*8 X
       INTEGER*8 XB
       INTEGER*8 C
@@ -90,10 +97,13 @@ const RESET_ADJOINT: &str = "      SUBROUTINE P_B(X,XB,C,Y,YB)
       XB=XB+ADW2
       YB=0
       END
-";
-
-// Both branches overwrite what their own adjoints need.
-const BRANCHES: &[u8] = b"      SUBROUTINE P(X,C,Y)
+",
+    ),
+    // Both branches overwrite what their own adjoints need.
+    (
+        "branches that overwrite",
+        WORDS,
+        b"      SUBROUTINE P(X,C,Y)
       INTEGER*8 X,C,Y
       Y=X*X
       IF (C.GT.0) THEN
@@ -103,9 +113,8 @@ const BRANCHES: &[u8] = b"      SUBROUTINE P(X,C,Y)
       END IF
       Y=Y*Y
       END
-";
-
-const BRANCHES_ADJOINT: &str = "      SUBROUTINE P_B(X,XB,C,Y,YB)
+",
+        "      SUBROUTINE P_B(X,XB,C,Y,YB)
       INTEGER*8 X
       INTEGER*8 XB
       INTEGER*8 C
@@ -157,18 +166,20 @@ const BRANCHES_ADJOINT: &str = "      SUBROUTINE P_B(X,XB,C,Y,YB)
       XB=XB+ADW2
       YB=0
       END
-";
-
-const ARRAY_SUM: &[u8] = b"      SUBROUTINE P(N,A,S)
+",
+    ),
+    (
+        "the sum of an array",
+        "adjoint --head P --vars A --outvars S",
+        b"      SUBROUTINE P(N,A,S)
       INTEGER*8 N,A(N),S
       S=0
       DO 10 I=1,N
       S=S+A(I)
    10 CONTINUE
       END
-";
-
-const ARRAY_SUM_ADJOINT: &str = "      SUBROUTINE P_B(N,A,AB,S,SB)
+",
+        "      SUBROUTINE P_B(N,A,AB,S,SB)
       INTEGER*8 N
       INTEGER*8 A(N)
       INTEGER*8 AB(N)
@@ -202,10 +213,13 @@ const ARRAY_SUM_ADJOINT: &str = "      SUBROUTINE P_B(N,A,AB,S,SB)
       END DO
       SB=0
       END
-";
-
-// The loop's variable held a value that is needed, and a derivative.
-const COUNTED: &[u8] = b"      SUBROUTINE P(X,Y)
+",
+    ),
+    // The loop's variable held a value that is needed, and a derivative.
+    (
+        "a loop's variable",
+        WORDS,
+        b"      SUBROUTINE P(X,Y)
       INTEGER*8 X,Y
       I=X
       Y=I*I
@@ -213,9 +227,8 @@ const COUNTED: &[u8] = b"      SUBROUTINE P(X,Y)
       Y=Y*I
       END DO
       END
-";
-
-const COUNTED_ADJOINT: &str = "      SUBROUTINE P_B(X,XB,Y,YB)
+",
+        "      SUBROUTINE P_B(X,XB,Y,YB)
       INTEGER*8 X
       INTEGER*8 XB
       INTEGER*8 Y
@@ -263,9 +276,12 @@ const COUNTED_ADJOINT: &str = "      SUBROUTINE P_B(X,XB,Y,YB)
       XB=XB+ADW1
       YB=0
       END
-";
-
-const REPEATED: &[u8] = b"      SUBROUTINE P(N,X,R)
+",
+    ),
+    (
+        "a loop that tests first",
+        "adjoint --head P --vars X --outvars R",
+        b"      SUBROUTINE P(N,X,R)
       INTEGER*8 N,X,R,I
       R=1
       I=0
@@ -274,9 +290,8 @@ const REPEATED: &[u8] = b"      SUBROUTINE P(N,X,R)
       I=I+1
       END DO
       END
-";
-
-const REPEATED_ADJOINT: &str = "      SUBROUTINE P_B(N,X,XB,R,RB)
+",
+        "      SUBROUTINE P_B(N,X,XB,R,RB)
       INTEGER*8 N
       INTEGER*8 X
       INTEGER*8 XB
@@ -310,10 +325,13 @@ const REPEATED_ADJOINT: &str = "      SUBROUTINE P_B(N,X,XB,R,RB)
       END DO
       RB=0
       END
-";
-
-// Blocks whose backward sweep is empty, but for the variable of a loop.
-const KEPT: &[u8] = b"      SUBROUTINE P(X,Y)
+",
+    ),
+    // Blocks whose backward sweep is empty, but for the variable of a loop.
+    (
+        "blocks that are only kept",
+        WORDS,
+        b"      SUBROUTINE P(X,Y)
       INTEGER*8 X,Y
       K=0
       IF (X.GT.0) THEN
@@ -328,9 +346,8 @@ const KEPT: &[u8] = b"      SUBROUTINE P(X,Y)
       END DO
       Y=Y*K
       END
-";
-
-const KEPT_ADJOINT: &str = "      SUBROUTINE P_B(X,XB,Y,YB)
+",
+        "      SUBROUTINE P_B(X,XB,Y,YB)
       INTEGER*8 X
       INTEGER*8 XB
       INTEGER*8 Y
@@ -369,10 +386,13 @@ const KEPT_ADJOINT: &str = "      SUBROUTINE P_B(X,XB,Y,YB)
       XB=XB+ADW1
       YB=0
       END
-";
-
-// Nothing is left of blocks that hold nothing.
-const EMPTY: &[u8] = b"      SUBROUTINE P(X,Y)
+",
+    ),
+    // Nothing is left of blocks that hold nothing.
+    (
+        "blocks that hold nothing",
+        WORDS,
+        b"      SUBROUTINE P(X,Y)
       INTEGER*8 X,Y
       IF (X.GT.0) THEN
       END IF
@@ -382,9 +402,8 @@ const EMPTY: &[u8] = b"      SUBROUTINE P(X,Y)
       END DO
       Y=MOD(X,2)
       END
-";
-
-const EMPTY_ADJOINT: &str = "      SUBROUTINE P_B(X,XB,Y,YB)
+",
+        "      SUBROUTINE P_B(X,XB,Y,YB)
       INTEGER*8 X
       INTEGER*8 XB
       INTEGER*8 Y
@@ -393,28 +412,8 @@ const EMPTY_ADJOINT: &str = "      SUBROUTINE P_B(X,XB,Y,YB)
       XB=0
       YB=0
       END
-";
-
-const CASES: [Case; 9] = [
-    ("a quotient", WORDS, QUOTIENT, QUOTIENT_ADJOINT),
-    ("powers", WORDS, POWERS, POWERS_ADJOINT),
-    ("a branch that resets", WORDS, RESET, RESET_ADJOINT),
-    ("branches that overwrite", WORDS, BRANCHES, BRANCHES_ADJOINT),
-    (
-        "the sum of an array",
-        "adjoint --head P --vars A --outvars S",
-        ARRAY_SUM,
-        ARRAY_SUM_ADJOINT,
+",
     ),
-    ("a loop's variable", WORDS, COUNTED, COUNTED_ADJOINT),
-    (
-        "a loop that tests first",
-        "adjoint --head P --vars X --outvars R",
-        REPEATED,
-        REPEATED_ADJOINT,
-    ),
-    ("blocks that are only kept", WORDS, KEPT, KEPT_ADJOINT),
-    ("blocks that hold nothing", WORDS, EMPTY, EMPTY_ADJOINT),
 ];
 
 #[test]

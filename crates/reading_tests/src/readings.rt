@@ -8,7 +8,8 @@ use std::alloc::Global;
 
 // A body that is one statement or more, and its canonical text or its refusal. Line 1 is the SUBROUTINE of the unit round it.
 // A line that begins with a blank or is a directive stands as it is; any other begins in column 7.
-const ASSIGNMENTS: [(&str, &str); 54] = [
+const READINGS: [(&str, &str); 131] = [
+    // assignments
     ("X=A+B*C", "X=A+B*C"),
     ("X=(A+B)*C", "X=(A+B)*C"),
     ("X=A-B-C", "X=A-B-C"),
@@ -66,9 +67,7 @@ const ASSIGNMENTS: [(&str, &str); 54] = [
     ("X=2*-A", "REFUSED 4 LINE 2\n"),
     ("X=A=B", "REFUSED 4 LINE 2\n"),
     ("X=A.LT.B", "REFUSED 4 LINE 2\n"),
-];
-
-const CALLS: [(&str, &str); 8] = [
+    // calls
     ("CALL Q", "CALL Q"),
     ("CALL Q()", "CALL Q"),
     ("CALL Q((A),B(I),-C)", "CALL Q(A,B(I),-C)"),
@@ -77,9 +76,7 @@ const CALLS: [(&str, &str); 8] = [
     ("CALL", "REFUSED 4 LINE 2\n"),
     ("CALL PUSHINTEGER8((X))", "CALL PUSHINTEGER8(X)"),
     ("CALL ADEND(X)", "CALL ADEND(X)"),
-];
-
-const CONDITIONS: [(&str, &str); 14] = [
+    // conditions
     ("IF (A.LT.B) X=1", "IF (A.LT.B) THEN\nX=1\nEND IF"),
     ("IF (A.GE.B) CALL Q", "IF (A.GE.B) THEN\nCALL Q\nEND IF"),
     ("IF (((A.LT.B))) X=1", "IF (A.LT.B) THEN\nX=1\nEND IF"),
@@ -106,9 +103,7 @@ const CONDITIONS: [(&str, &str); 14] = [
     ("IF (A) X=1", "REFUSED 4 LINE 2\n"),
     ("IF (A.LT.B) RETURN", "REFUSED 4 LINE 2\n"),
     ("IF (A.LT.B) GOTO 10", "REFUSED 3 LINE 2\n"),
-];
-
-const BLOCKS: [(&str, &str); 34] = [
+    // blocks
     ("DO I=1,N\nEND DO", "DO I=1,N\nEND DO"),
     ("DO I=1,N,1\nEND DO", "DO I=1,N\nEND DO"),
     ("DO I=N,1,-1\nX=I\nEND DO", "DO I=N,1,-1\nX=I\nEND DO"),
@@ -175,10 +170,7 @@ const BLOCKS: [(&str, &str); 34] = [
     ("X=1\nINTEGER Y", "REFUSED 4 LINE 3\n"),
     ("INTEGER Y\nIMPLICIT NONE", "REFUSED 4 LINE 3\n"),
     ("X=1\nC$AD BINOMIAL-CKP 7\nX=A+", "REFUSED 20 LINE 3\n"),
-];
-
-// DO WHILE, and directives with a number or a name.
-const REPEATED: [(&str, &str); 11] = [
+    // DO WHILE, and directives with a number or a name
     (
         "do while ((I.LT.N))\nI=I+1\nEND DO",
         "DO WHILE (I.LT.N)\nI=I+1\nEND DO",
@@ -214,9 +206,7 @@ const REPEATED: [(&str, &str); 11] = [
         "C$AD BINOMIAL-CKP 0\nDO I=1,N\nEND DO",
         "REFUSED 20 LINE 2\n",
     ),
-];
-
-const DECLARATIONS: [(&str, &str); 10] = [
+    // declarations
     (
         "IMPLICIT NONE\nINTEGER A, B",
         "IMPLICIT NONE\nINTEGER*8 A\nINTEGER*8 B",
@@ -324,43 +314,8 @@ fn reads_as(alloc: Global, body: &str, expected: &str) -> Result<bool, Memory> {
 }
 
 #[test]
-fn each_assignment_reads_as_its_tree(rt: HostRuntime) -> Result<(), Memory> {
-    for (body, expected) in ASSIGNMENTS {
-        assert!(rt; reads_as(rt.alloc(), body, expected)?, "{body}");
-    }
-    Ok(())
-}
-
-#[test]
-fn each_call_and_declaration_reads_as_its_tree(rt: HostRuntime) -> Result<(), Memory> {
-    for (body, expected) in CALLS {
-        assert!(rt; reads_as(rt.alloc(), body, expected)?, "{body}");
-    }
-    for (body, expected) in DECLARATIONS {
-        assert!(rt; reads_as(rt.alloc(), body, expected)?, "{body}");
-    }
-    Ok(())
-}
-
-#[test]
-fn each_condition_reads_as_its_tree(rt: HostRuntime) -> Result<(), Memory> {
-    for (body, expected) in CONDITIONS {
-        assert!(rt; reads_as(rt.alloc(), body, expected)?, "{body}");
-    }
-    Ok(())
-}
-
-#[test]
-fn each_do_while_and_each_directive_reads_as_its_tree(rt: HostRuntime) -> Result<(), Memory> {
-    for (body, expected) in REPEATED {
-        assert!(rt; reads_as(rt.alloc(), body, expected)?, "{body}");
-    }
-    Ok(())
-}
-
-#[test]
-fn each_block_ends_where_its_kind_says(rt: HostRuntime) -> Result<(), Memory> {
-    for (body, expected) in BLOCKS {
+fn each_statement_reads_as_its_tree(rt: HostRuntime) -> Result<(), Memory> {
+    for (body, expected) in READINGS {
         assert!(rt; reads_as(rt.alloc(), body, expected)?, "{body}");
     }
     Ok(())

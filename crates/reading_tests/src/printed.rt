@@ -106,14 +106,9 @@ fn is_canonical(alloc: Global, bytes: &[u8]) -> Result<bool, Fault> {
 }
 
 #[test]
-fn every_statement_is_printed_as_it_was_read(rt: HostRuntime) -> Result<(), Fault> {
-    assert!(rt; is_canonical(rt.alloc(), CANONICAL)?);
-    Ok(())
-}
-
-#[test]
 fn what_is_printed_reads_as_it_was_written(rt: HostRuntime) -> Result<(), Fault> {
     let alloc = rt.alloc();
+    assert!(rt; is_canonical(alloc, CANONICAL)?);
     let text = printed(alloc, FREE)?;
     assert!(rt; is_canonical(alloc, text.as_slice())?);
     Ok(())
