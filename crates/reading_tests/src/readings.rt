@@ -8,7 +8,7 @@ use std::alloc::Global;
 
 // A body that is one statement or more, and its canonical text or its refusal. Line 1 is the SUBROUTINE of the unit round it.
 // A line that begins with a blank or is a directive stands as it is; any other begins in column 7.
-const READINGS: [(&str, &str); 131] = [
+const ASSIGNMENTS: [(&str, &str); 54] = [
     // assignments
     ("X=A+B*C", "X=A+B*C"),
     ("X=(A+B)*C", "X=(A+B)*C"),
@@ -67,6 +67,9 @@ const READINGS: [(&str, &str); 131] = [
     ("X=2*-A", "REFUSED 4 LINE 2\n"),
     ("X=A=B", "REFUSED 4 LINE 2\n"),
     ("X=A.LT.B", "REFUSED 4 LINE 2\n"),
+];
+
+const CONDITIONS: [(&str, &str); 22] = [
     // calls
     ("CALL Q", "CALL Q"),
     ("CALL Q()", "CALL Q"),
@@ -103,6 +106,9 @@ const READINGS: [(&str, &str); 131] = [
     ("IF (A) X=1", "REFUSED 4 LINE 2\n"),
     ("IF (A.LT.B) RETURN", "REFUSED 4 LINE 2\n"),
     ("IF (A.LT.B) GOTO 10", "REFUSED 3 LINE 2\n"),
+];
+
+const BLOCKS: [(&str, &str); 34] = [
     // blocks
     ("DO I=1,N\nEND DO", "DO I=1,N\nEND DO"),
     ("DO I=1,N,1\nEND DO", "DO I=1,N\nEND DO"),
@@ -170,6 +176,9 @@ const READINGS: [(&str, &str); 131] = [
     ("X=1\nINTEGER Y", "REFUSED 4 LINE 3\n"),
     ("INTEGER Y\nIMPLICIT NONE", "REFUSED 4 LINE 3\n"),
     ("X=1\nC$AD BINOMIAL-CKP 7\nX=A+", "REFUSED 20 LINE 3\n"),
+];
+
+const LOOPS: [(&str, &str); 21] = [
     // DO WHILE, and directives with a number or a name
     (
         "do while ((I.LT.N))\nI=I+1\nEND DO",
@@ -314,8 +323,32 @@ fn reads_as(alloc: Global, body: &str, expected: &str) -> Result<bool, Memory> {
 }
 
 #[test]
-fn each_statement_reads_as_its_tree(rt: HostRuntime) -> Result<(), Memory> {
-    for (body, expected) in READINGS {
+fn assignments_read_as_their_trees(rt: HostRuntime) -> Result<(), Memory> {
+    for (body, expected) in ASSIGNMENTS {
+        assert!(rt; reads_as(rt.alloc(), body, expected)?, "{body}");
+    }
+    Ok(())
+}
+
+#[test]
+fn calls_and_conditions_read_as_their_trees(rt: HostRuntime) -> Result<(), Memory> {
+    for (body, expected) in CONDITIONS {
+        assert!(rt; reads_as(rt.alloc(), body, expected)?, "{body}");
+    }
+    Ok(())
+}
+
+#[test]
+fn blocks_read_as_their_trees(rt: HostRuntime) -> Result<(), Memory> {
+    for (body, expected) in BLOCKS {
+        assert!(rt; reads_as(rt.alloc(), body, expected)?, "{body}");
+    }
+    Ok(())
+}
+
+#[test]
+fn loops_and_declarations_read_as_their_trees(rt: HostRuntime) -> Result<(), Memory> {
+    for (body, expected) in LOOPS {
         assert!(rt; reads_as(rt.alloc(), body, expected)?, "{body}");
     }
     Ok(())

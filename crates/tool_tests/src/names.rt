@@ -21,7 +21,7 @@ fn is_refused(alloc: Global, text: &str, answer: &str) -> Result<bool, Memory> {
 }
 
 // Texts of units and their answers.
-const FAULTS: [(&str, &str); 102] = [
+const UNITS: [(&str, &str); 25] = [
     // units are named once, and like no intrinsic
     ("SUBROUTINE MOD(I)\nEND", "REFUSED 18 LINE 1\n"),
     ("SUBROUTINE ADBEG\nEND", "REFUSED 18 LINE 1\n"),
@@ -86,6 +86,9 @@ const FAULTS: [(&str, &str); 102] = [
     ),
     // at one place the lowest code comes first
     ("SUBROUTINE P(X,X)\nEND", "REFUSED 7 LINE 1\n"),
+];
+
+const RANKS: [(&str, &str); 31] = [
     // names have as many subscripts as extents
     ("SUBROUTINE P(I)\nI=J(1)\nEND", "REFUSED 9 LINE 2\n"),
     ("SUBROUTINE P(I)\nI(1)=2\nEND", "REFUSED 9 LINE 2\n"),
@@ -189,6 +192,9 @@ const FAULTS: [(&str, &str); 102] = [
         "SUBROUTINE P(I)\nINTEGER*8 A(2)\nCALL PUSHINTEGER8(A)\nEND",
         "REFUSED 18 LINE 3\n",
     ),
+];
+
+const CALLS: [(&str, &str); 18] = [
     // calls are of units with such dummies
     ("SUBROUTINE P(I)\nCALL Q\nEND", "REFUSED 14 LINE 2\n"),
     (
@@ -259,6 +265,9 @@ const FAULTS: [(&str, &str); 102] = [
         "SUBROUTINE P(I)\nDO I=1,3\nI=2\nCALL P(I)\nEND DO\nEND",
         "REFUSED 16 LINE 4\n",
     ),
+];
+
+const WRITES: [(&str, &str); 28] = [
     // the variable of a loop isn't written in it
     (
         "SUBROUTINE P(I)\nDO I=1,3\nI=2\nEND DO\nEND",
@@ -383,8 +392,32 @@ const FAULTS: [(&str, &str); 102] = [
 ];
 
 #[test]
-fn each_text_is_refused_by_its_first_fault(rt: HostRuntime) -> Result<(), Memory> {
-    for (text, answer) in FAULTS {
+fn units_and_names_that_are_not_declared_or_twice(rt: HostRuntime) -> Result<(), Memory> {
+    for (text, answer) in UNITS {
+        assert!(rt; is_refused(rt.alloc(), text, answer)?, "{text}");
+    }
+    Ok(())
+}
+
+#[test]
+fn ranks_extents_and_reserved_names(rt: HostRuntime) -> Result<(), Memory> {
+    for (text, answer) in RANKS {
+        assert!(rt; is_refused(rt.alloc(), text, answer)?, "{text}");
+    }
+    Ok(())
+}
+
+#[test]
+fn calls_and_chains(rt: HostRuntime) -> Result<(), Memory> {
+    for (text, answer) in CALLS {
+        assert!(rt; is_refused(rt.alloc(), text, answer)?, "{text}");
+    }
+    Ok(())
+}
+
+#[test]
+fn writes_to_loops_extents_and_actuals(rt: HostRuntime) -> Result<(), Memory> {
+    for (text, answer) in WRITES {
         assert!(rt; is_refused(rt.alloc(), text, answer)?, "{text}");
     }
     Ok(())
