@@ -1,0 +1,3 @@
+-- the lemmas of the crate
+pub mod FreshLengths
+pub mod StepLengths

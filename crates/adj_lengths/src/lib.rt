@@ -1,0 +1,17 @@
+//! How long the names are that a kernel brings in: definitions and laws, no code.
+//!
+//! `specs/Lengths` says how long a fresh name is by the names that are taken, and how long the names of the units of a kernel are. The
+//! layer above uses the laws for the limit that a run has on names.
+#![tactic(auto)]
+
+ghost use Rattle.adj_lengths.specs.Lengths.{FreshIsShort, KernelUnitsAreShort};
+
+/// A fresh name is longer than the one that is wanted by an underscore and as many digits as count the candidates that are taken.
+pub fn fresh_law()
+    ensures { FreshIsShort }
+{}
+
+/// The kernel of a program that a text gives in Source mode has at most 402000 units, with names of at most 46 characters.
+pub fn units_law()
+    ensures { KernelUnitsAreShort }
+{}
