@@ -30,7 +30,7 @@ candidate_short k b (suc j) h =
 
 -- ---- a list without a name
 
-abbrev without : List ℕ → List (List ℕ) → List (List ℕ)
+abbrev pub without : List ℕ → List (List ℕ) → List (List ℕ)
 without x [] = []
 without x (y ∷ ys) = if name_eq x y then without x ys else y ∷ without x ys
 
@@ -40,7 +40,7 @@ without-le x (y ∷ ys) =
     let rest = without-le x ys in
     elim (name_eq x y) as (λ b. length (if b then without x ys else y ∷ without x ys) ≤ length (y ∷ ys)) [ true ↦ omega arith | false ↦ omega arith ]
 
-without-shorter : (x : List ℕ) (ys : List (List ℕ)) → has_name x ys ≡ true → length (without x ys) < length ys
+pub without-shorter : (x : List ℕ) (ys : List (List ℕ)) → has_name x ys ≡ true → length (without x ys) < length ys
 without-shorter x [] h = absurd cc
 without-shorter x (y ∷ ys) h =
     let rest = without-le x ys in
@@ -49,11 +49,11 @@ without-shorter x (y ∷ ys) h =
       | false ↦ λ g. let p = without-shorter x ys g in omega arith
     ] h
 
-not_so : (b : Bool) → (b ≡ true → ⊥) → b ≡ false
+pub not_so : (b : Bool) → (b ≡ true → ⊥) → b ≡ false
 not_so true h = absurd (h refl)
 not_so false h = refl
 
-without-has : (x z : List ℕ) (ys : List (List ℕ)) → name_eq z x ≡ false → has_name z (without x ys) ≡ has_name z ys
+pub without-has : (x z : List ℕ) (ys : List (List ℕ)) → name_eq z x ≡ false → has_name z (without x ys) ≡ has_name z ys
 without-has x z [] n = refl
 without-has x z (y ∷ ys) n =
     elim (name_eq x y) as (λ b. name_eq x y ≡ b → has_name z (if b then without x ys else y ∷ without x ys) ≡ (name_eq z y || has_name z ys)) [
@@ -69,17 +69,17 @@ record IsCandidate (i : ℕ) (b : List ℕ) (left : List (List ℕ)) (x : List �
   low : number ≤ i + length left
   is : x ≡ candidate b number
 
-first_found : (tries i : ℕ) (b : List ℕ) (left taken : List (List ℕ)) → ((j : ℕ) → i ≤ j → has_name (candidate b j) left ≡ has_name (candidate b j) taken) → IsCandidate i b left (first_free tries i b taken)
+first_found : (tries i : ℕ) (b : List ℕ) (left taken : List (List ℕ)) → ((j : ℕ) → i ≤ j → has_name (candidate b j) taken ≡ true → has_name (candidate b j) left ≡ true) → IsCandidate i b left (first_free tries i b taken)
 first_found zero i b left taken same = record { number = i; low = omega arith; is = refl }
 first_found (suc tries) i b left taken same =
     elim (has_name (candidate b i) taken) as (λ t. has_name (candidate b i) taken ≡ t → IsCandidate i b left (if t then first_free tries (suc i) b taken else candidate b i)) [
       | true ↦ λ e.
           let here : i ≤ i = omega arith in
-          let shorter = without-shorter (candidate b i) left (same i here ∙ e) in
-          let later = first_found tries (suc i) b (without (candidate b i) left) taken (λ j lt.
+          let shorter = without-shorter (candidate b i) left (same i here e) in
+          let later = first_found tries (suc i) b (without (candidate b i) left) taken (λ j lt h.
           let apart : name_eq (candidate b j) (candidate b i) ≡ false = not_so _ (λ p. candidates_apart b i j lt (sym (name_same (candidate b j) (candidate b i) p))) in
           let le : i ≤ j = omega arith in
-          without-has (candidate b i) (candidate b j) left apart ∙ same j le) in
+          without-has (candidate b i) (candidate b j) left apart ∙ same j le h) in
           let bound = later.low in
           record { number = later.number; low = omega arith; is = later.is }
       | false ↦ λ e. record { number = i; low = omega arith; is = refl }

@@ -34,7 +34,7 @@ short_source us = map unit_name us ++ flat_map variables_of us
 short_same : (x : List ℕ) (us : List Procedure) → has_name x (short_source us) ≡ has_name x (names_of_source us)
 short_same x us = has-append x (map unit_name us) (flat_map variables_of us) ∙ ap (λ b. has_name x (map unit_name us) || b) (all_once x us) ∙ sym (has-append x (map unit_name us) (flat_map names_of us))
 
-named_count : (us : List Procedure) → length (map unit_name us) ≡ length us
+pub named_count : (us : List Procedure) → length (map unit_name us) ≡ length us
 named_count [] = refl
 named_count (u ∷ us) = let rest = named_count us in omega arith
 
@@ -67,10 +67,12 @@ module _ (us : List Procedure) (few : length us ≤ 2000) (known : EachUnit (λ 
       let steps = step_names (names_of_source us ++ made) name k in
       let left = short_source us ++ (made ++ steps) in
       let taken = (names_of_source us ++ made) ++ steps in
-      let same : HasCandidates (wanted_step name k) left taken = λ j.
+      let same : HasCandidates (wanted_step name k) left taken = λ j h.
       let x = candidate (wanted_step name k) j in
+      let all : has_name x left ≡ has_name x taken =
       has-append x (short_source us) (made ++ steps) ∙ ap₂ (λ a b. a || b) (short_same x us) (has-append x made steps) ∙ or_group (has_name x (names_of_source us)) (has_name x made) (has_name x steps)
       ∙ ap (λ b. b || has_name x steps) (sym (has-append x (names_of_source us) made)) ∙ sym (has-append x (names_of_source us ++ made) steps) in
+      all ∙ h in
       let count = steps_count (names_of_source us ++ made) name k in
       let all = length-append (short_source us) (made ++ steps) in
       let inner = length-append made steps in
@@ -126,7 +128,7 @@ module _ (taken : List (List ℕ)) (u : Procedure) (n : ℕ) where
     list_count k stop = refl
     list_count k (step line a rest) = length-append (step_units_in_act taken u k line a) (step_units_in taken u (k + marked_in_act a) rest) ∙ ap₂ (λ m n. m + n) (act_count k line a) (list_count (k + marked_in_act a) rest)
 
-from_count : (taken : List (List ℕ)) (us : List Procedure) → length (stepped_from taken us) ≡ length us + marked_loops us
+pub from_count : (taken : List (List ℕ)) (us : List Procedure) → length (stepped_from taken us) ≡ length us + marked_loops us
 from_count taken [] = refl
 from_count taken (u ∷ us) =
     let here = list_count taken u 0 0 u.body in

@@ -1,15 +1,15 @@
 -- Lengths: how long the names are that a kernel and its adjoints bring in. (docs/KERNEL.md, docs/EMITTED.md)
-use Rattle.std.specs.Prelude.{◌≡◌, ◌≤◌, ◌<◌, ◌+◌, ◌^◌, ℕ, suc, List, [], ◌∷◌, ◌++◌, length}
+use Rattle.std.specs.Prelude.{◌≡◌, ◌≤◌, ◌<◌, ◌+◌, ◌^◌, ℕ, suc, true, List, [], ◌∷◌, length}
 use Rattle.adj_tree.specs.Code.{Procedure}
 use Rattle.adj_names.specs.Variables.{variables}
 use Rattle.adj_transpose.specs.Fresh.{has_name, candidate, fresh}
-use Rattle.adj_kernel.specs.Kernel.{EachUnit}
-use Rattle.adj_kernel.specs.Stepped.{marked_in, kernel_of}
-use Rattle.adj_reverse.specs.Names.{adjoint_name}
+use Rattle.adj_kernel.specs.Kernel.{EachUnit, locals_count, lowered_unit}
+use Rattle.adj_kernel.specs.Sound.{IsAccepted}
+use Rattle.adj_kernel.specs.Stepped.{marked_in, stepped_program, kernel_of}
 
 -- `left` has each candidate for a name that is taken
 abbrev pub HasCandidates : List ℕ → List (List ℕ) → List (List ℕ) → Type 0
-HasCandidates b left taken = (j : ℕ) → has_name (candidate b j) left ≡ has_name (candidate b j) taken
+HasCandidates b left taken = (j : ℕ) → has_name (candidate b j) taken ≡ true → has_name (candidate b j) left ≡ true
 
 -- a fresh name is longer than the one that is wanted by an underscore and as many digits as count the taken candidates
 abbrev pub FreshIsShort : Type 0
@@ -34,3 +34,18 @@ pub record HasShortUnits (ps : List Procedure) : Type 0 where
 
 abbrev pub KernelUnitsAreShort : Type 0
 KernelUnitsAreShort = (ps : List Procedure) → IsSmall ps → HasShortUnits ps
+
+-- each of some names has at most n characters
+abbrev pub AreShort : ℕ → List (List ℕ) → Type 0
+AreShort n [] = Unit {0}
+AreShort n (x ∷ xs) = (length x ≤ n) × AreShort n xs
+
+-- the variables of the kernel of an accepted program have at most 31 characters, where those of the program have, and where it has fewer than ten thousand million locals in a unit
+abbrev pub KernelVariablesAreShort : Type 0
+KernelVariablesAreShort =
+    (ps : List Procedure) → IsAccepted ps → IsSmall ps → EachUnit (λ u. AreShort 31 (variables u)) ps → EachUnit (λ v. locals_count (stepped_program ps) v < 10 ^ 10) (stepped_program ps) →
+    EachUnit (λ v. AreShort 31 (variables v)) (kernel_of ps)
+
+-- a unit of a kernel has no more locals than variables
+abbrev pub LocalsAreVariables : Type 0
+LocalsAreVariables = (all : List Procedure) (v : Procedure) → locals_count all v ≤ length (variables (lowered_unit all v))
