@@ -92,3 +92,7 @@ fresh_short k b left taken same few =
     let short = candidate_short k b found.number (omega arith) in
     let e = ap length found.is in
     omega arith
+
+-- a fresh name is one of the candidates
+pub fresh_candidate : (b : List ℕ) (taken : List (List ℕ)) → (j : ℕ) × (fresh b taken ≡ candidate b j)
+fresh_candidate b taken = let found = first_found (length taken) 0 b taken taken (λ j le h. h) in (found.number, found.is)

@@ -1,12 +1,12 @@
--- What is emitted for the program of a text in Source mode is no deeper than a run takes; and where its names are short enough, it reads.
+-- What is emitted for the program of a text in Source mode is no deeper than a run takes.
 use Rattle.std.proofs.Common.{◌≡◌, ◌≤◌, ◌<◌, ℕ, List, Bool, arith}
 use Rattle.adj_tree.specs.Code.{Procedure}
 use Rattle.adj_kernel.specs.Stepped.{kernel_of}
 use Rattle.adj_reverse.specs.Program.{emitted_program}
 use Rattle.adj_emitted.proofs.Nesting.{keeps_nesting}
 use Rattle.adj_emitted.proofs.Depths.{keeps_depth}
-use Rattle.adj_readable.specs.Reading.{KeptReads, SourceIsKept}
-use Rattle.adj_limits.specs.Limits.{EmittedIsShallow, EmittedIsReadable}
+use Rattle.adj_readable.specs.Reading.{SourceIsKept}
+use Rattle.adj_limits.specs.Limits.{EmittedIsShallow}
 use Rattle.adj_limits.proofs.KernelNesting.{kernel_nesting}
 use Rattle.adj_limits.proofs.KernelDepths.{kernel_depths}
 use Rattle.adj_limits.proofs.Measures.{nested_down, nested_up, program_low, program_fine}
@@ -21,8 +21,3 @@ emitted_shallow source bytes ps h m head vars outvars =
       depths = program_fine 103 120 deep (emitted_program m (kernel_of ps) head vars outvars) (keeps_depth 100 (kernel_of ps) (kernel_depths 100 two ps (program_low 100 ps kept.depths)) m head vars outvars);
       nested = nested_up 31 45 nest (emitted_program m (kernel_of ps) head vars outvars) (keeps_nesting 31 (kernel_of ps) (kernel_nesting 30 ps (nested_down 30 ps kept.nested)) m head vars outvars);
     }
-
-pub emitted_readable : KeptReads → SourceIsKept → EmittedIsReadable
-emitted_readable reads source bytes ps h m head vars outvars written short =
-    let s = emitted_shallow source bytes ps h m head vars outvars in
-    reads (emitted_program m (kernel_of ps) head vars outvars) written (record { names = short; depths = s.depths; nested = s.nested })

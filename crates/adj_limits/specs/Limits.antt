@@ -1,15 +1,18 @@
 -- Limits: how deep kernels and emitted programs are, and that what is emitted for the program of a text in Source mode reads in Run mode. (docs/LANGUAGE.md, "Limits")
-use Rattle.std.specs.Prelude.{◌≡◌, ◌≤◌, ℕ, ◌+◌, true, List, Bool, Ok}
+use Rattle.std.specs.Prelude.{◌≡◌, ◌≤◌, ℕ, ◌+◌, true, List, length, Bool, Ok}
 use Rattle.adj_tree.specs.Code.{Procedure}
 use Rattle.adj_tree.specs.Lines.{unlined}
 use Rattle.adj_text.specs.Text.{text_of}
-use Rattle.adj_text.specs.Written.{IsWritten}
+use Rattle.adj_names.specs.Variables.{variables}
 use Rattle.adj_reverse.specs.Marking.{ProgramMarks}
 use Rattle.adj_reverse.specs.Program.{emitted_program}
+use Rattle.adj_kernel.specs.Kernel.{EachUnit}
 use Rattle.adj_kernel.specs.Stepped.{kernel_of}
+use Rattle.adj_kernel.specs.Sound.{IsAccepted}
+use Rattle.adj_emitted.specs.Shadowed.{AllHaveShadows}
 use Rattle.adj_emitted.specs.Emitted.{IsNested, AreShallow}
 use Rattle.adj_readable.specs.Rule.{keeps}
-use Rattle.adj_readable.specs.Kept.{short_names, shallow}
+use Rattle.adj_readable.specs.Kept.{shallow}
 use Rattle.adj_readable.specs.Kept as kept
 use Rattle.adj_readable.specs.Reading.{OrTooMany, run_program_of, source_program_of}
 
@@ -29,9 +32,10 @@ pub record IsShallow (qs : List Procedure) : Type 0 where
 abbrev pub EmittedIsShallow : Type 0
 EmittedIsShallow = (bytes : List ℕ) (ps : List Procedure) → source_program_of bytes ≡ Ok ps → (m : ProgramMarks) (head : ℕ) (vars outvars : List Bool) → IsShallow (emitted_program m (kernel_of ps) head vars outvars)
 
--- so where it can be written and its names are short enough, its text reads in Run mode as it, up to line numbers, or has too many statements
-abbrev pub EmittedIsReadable : Type 0
-EmittedIsReadable =
-    (bytes : List ℕ) (ps : List Procedure) → source_program_of bytes ≡ Ok ps → (m : ProgramMarks) (head : ℕ) (vars outvars : List Bool) →
-    IsWritten (emitted_program m (kernel_of ps) head vars outvars) → keeps (short_names 63) (emitted_program m (kernel_of ps) head vars outvars) ≡ true →
+-- where each unit of the kernel of an accepted program has fewer than 2^30 variables, the text that is emitted for it by any marks whose shadows are there reads in Run mode
+-- as what was emitted, up to line numbers, or has too many statements
+abbrev pub EmittedIsRunnable : Type 0
+EmittedIsRunnable =
+    (bytes : List ℕ) (ps : List Procedure) → source_program_of bytes ≡ Ok ps → IsAccepted ps → EachUnit (λ v. length (variables v) ≤ 1073741823) (kernel_of ps) →
+    (m : ProgramMarks) → AllHaveShadows m (kernel_of ps) (kernel_of ps) → (head : ℕ) (vars outvars : List Bool) →
     OrTooMany (λ found. unlined found ≡ unlined (emitted_program m (kernel_of ps) head vars outvars)) (run_program_of (text_of (emitted_program m (kernel_of ps) head vars outvars)))

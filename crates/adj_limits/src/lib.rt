@@ -4,7 +4,7 @@
 //! layer above uses `emitted_law` for the text that is written.
 #![tactic(auto)]
 
-ghost use Rattle.adj_limits.specs.Limits.{KernelKeepsNesting, KernelKeepsDepth, EmittedIsShallow, EmittedIsReadable};
+ghost use Rattle.adj_limits.specs.Limits.{KernelKeepsNesting, KernelKeepsDepth, EmittedIsShallow, EmittedIsRunnable};
 
 use adj_readable::{kept_law, source_law};
 
@@ -14,11 +14,11 @@ pub fn kernel_law()
     ensures depth { KernelKeepsDepth }
 {}
 
-/// What is emitted for the kernel of a program that a text gives in Source mode is no deeper than a run takes; and where it can be written and
-/// its names are short enough, its text reads in Run mode as it, or has too many statements.
+/// What is emitted for the kernel of a program that a text gives in Source mode is no deeper than a run takes. Where the program is accepted and its
+/// kernel has no more variables than there are numbers for, the text of what is emitted reads in Run mode as it, or has too many statements.
 pub fn emitted_law()
     ensures shallow { EmittedIsShallow }
-    ensures readable { EmittedIsReadable }
+    ensures runnable { EmittedIsRunnable }
 {
     kept_law();
     source_law();
