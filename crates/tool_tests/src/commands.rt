@@ -74,7 +74,7 @@ const USAGE: [&str; 46] = [
     "adjoint --head P --vars X --outvars _Y",
     "adjoint --head A234567890123456789012345678901234567890123456789012345678901234 --vars X --outvars Y",
     "Adjoint --head P --vars X --outvars Y",
-    "plan --head P --vars X --outvars Y",
+    "plan --head P --vars X --outvars Y --tape 1",
     "run",
     "run --head",
     "run --head 1P",
