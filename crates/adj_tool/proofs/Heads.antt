@@ -1,7 +1,9 @@
 -- The head that is asked for, and what the text of its adjoint is.
-use Rattle.std.proofs.Common.{◌≡◌, ℕ, ◌<◌, List, length, Option, Some, None, refl, sym, ap, ◌∙◌, subst}
+use Rattle.std.proofs.Common.{arith, ◌≡◌, inl, inr, ℕ, ◌<◌, ◌≤◌, List, [], ◌∷◌, length, map, Option, Some, None, refl, sym, ap, ◌∙◌, subst}
+use Rattle.std.proofs.Math.Nat.{le-max_left, le-max_right}
+use Rattle.std.proofs.lemmas.Bool.{ltb-false}
 use Rattle.std.proofs.lemmas.List.{length-map}
-use Rattle.std.specs.Prelude.{Bool, false}
+use Rattle.std.specs.Prelude.{Bool, true, false, not, nat_lt, ◌&&◌, Result, Ok}
 use Rattle.adj_tree.specs.Code.{Procedure}
 use Rattle.adj_tree.specs.View.{procedure_of, procedures_of}
 use Rattle.adj_tree.specs.declared.unit.Program.{Program}
@@ -11,16 +13,27 @@ use Rattle.adj_text.specs.Reads.{Reads}
 use Rattle.adj_text.specs.ReadsAs.{ReadsAs}
 use Rattle.adj_text.specs.Written as texts
 use Rattle.adj_text.specs.Text.{text_of}
+use Rattle.adj_text.specs.declared.mode.Mode.TheVariants.{Source, Run}
+use Rattle.adj_tree.specs.declared.fault.Refusal.{Refusal}
 use Rattle.adj_tree.specs.Lines.{unlined}
 use Rattle.adj_text.proofs.TextUnlined.{one_text}
 use Rattle.adj_names.specs.Fault.{run_rules, first_of}
 use Rattle.adj_names.specs.HeadFaults.{first_head_fault, faults_of_head, flags_found, unit_number, head_of}
 use Rattle.adj_reverse.specs.Marking.{ProgramMarks}
+use Rattle.adj_names.specs.Variables.{variables}
+use Rattle.adj_symbols.specs.Numbers.{widest}
+use Rattle.adj_transpose.proofs.Variables.{and_true}
+use Rattle.adj_facts.specs.Parts.{statements_in}
+use Rattle.adj_emitted.specs.Shadowed.{AllHaveShadows}
+use Rattle.adj_kernel.specs.Kernel.{EachUnit}
 use Rattle.adj_kernel.specs.Stepped.{kernel_of}
 use Rattle.adj_kernel.specs.Sound.{IsAccepted}
 use Rattle.adj_accepted.specs.Accepted.{IsAdjointOf}
 use Rattle.adj_accepted.proofs.Kernels.{kernel_checked, head_within}
-use Rattle.adj_planned.specs.Planned.{HasNoMarks, planned_for, marks_by}
+use Rattle.adj_weave.proofs.Lending.{exact_shadows}
+use Rattle.adj_readable.specs.Reading.{OrTooMany}
+use Rattle.adj_limits.specs.Limits.{EmittedIsRunnable}
+use Rattle.adj_planned.specs.Planned.{HasNoMarks, kernel_problem, planned_for, marks_by}
 use Rattle.adj_planned.proofs.Planned as planned
 use Rattle.adj_tool.specs.Planned.{IsEmittedFor, AreExact, IsAdjointText, IsTextFor}
 use Rattle.adj_tool.specs.declared.task.Wanted.{Wanted}
@@ -28,6 +41,8 @@ use Rattle.adj_tool.specs.declared.task.Wanted.TheVariants as wanted
 use Rattle.adj_weave.specs.Shared.{IsCheckedBySome}
 use Rattle.adj_tool.specs.Words.{Request}
 use Rattle.adj_answer.specs.Answer.{Answer}
+use Rattle.adj_answer.specs.Programs.{program_of}
+use Rattle.adj_tool.specs.Fitting.{most_counted, is_counted, kernel_fits}
 use Rattle.adj_tool.specs.Answer.{IsWritten, IsGiven}
 use Rattle.adj_tool.specs.Headline.{IsUnit, ReadsWritten, WritesAdjoint, flags_of}
 
@@ -39,13 +54,53 @@ head_there ps name vars outvars h = go (find_unit ps name) refl h
     go None e k = absurd cc
     go (Some u) e k = record { unit = u; found = e }
 
+-- ---- a kernel that fits
+
+few_variables : (us : List Procedure) → widest (map variables us) ≤ most_counted → EachUnit (λ v. length (variables v) ≤ most_counted) us
+few_variables [] l = tt
+few_variables (u ∷ us) l =
+    let first = le-max_left (length (variables u)) (widest (map variables us)) in
+    let rest = le-max_right (length (variables u)) (widest (map variables us)) in
+    (omega (arith, first, l), few_variables us (omega (arith, rest, l)))
+
+counted_is : (n : ℕ) → is_counted n ≡ true → n ≤ most_counted
+counted_is n h = go (nat_lt most_counted n) refl h
+  where
+    go : (b : Bool) → nat_lt most_counted n ≡ b → not b ≡ true → n ≤ most_counted
+    go true e k = absurd cc
+    go false e k = ltb-false most_counted n e
+
+fits_widest : (us : List Procedure) → kernel_fits us ≡ true → widest (map variables us) ≤ most_counted
+fits_widest us h =
+    let units = is_counted (length us) in
+    let statements = is_counted (statements_in 0 us) in
+    let wide = is_counted (widest (map variables us)) in
+    counted_is (widest (map variables us)) (and_true statements wide (and_true units (statements && wide) h).1).1
+
+-- what is read as one program is read as one that differs in line numbers alone
+other_lines : (one other : List Procedure) → unlined one ≡ unlined other → (r : Result (List Procedure) Refusal) → OrTooMany (λ found. unlined found ≡ unlined one) r → OrTooMany (λ found. unlined found ≡ unlined other) r
+other_lines one other same r (inl x) = inl (x.0, x.1, x.2 ∙ same)
+other_lines one other same r (inr x) = inr x
+
 module _ (r : Request) (ps : List Procedure) (h : Head) (sound : first_head_fault ps r.head r.vars r.outvars ≡ None) (is : h ≡ head_of ps r.head r.vars r.outvars) where
   there : IsUnit ps r.head
   there = head_there ps r.head r.vars r.outvars sound
 
+  -- in Run mode the text reads as that, up to line numbers, or has too many statements
+  head_runs : IsAccepted ps → EmittedIsRunnable → (text : List ℕ) → (back : ReadsWritten ps r.head h text) → (bytes : List ℕ) → program_of Source bytes ≡ Ok ps →
+      OrTooMany (λ found. unlined found ≡ unlined back.reads.0) (program_of Run text)
+  head_runs accepted runnable text back bytes given =
+      let x = back.exact in
+      let few : EachUnit (λ v. length (variables v) ≤ most_counted) (kernel_of ps) = few_variables (kernel_of ps) (fits_widest (kernel_of ps) back.fits) in
+      let shadows : AllHaveShadows back.marks (kernel_of ps) (kernel_of ps) =
+      subst (λ m. AllHaveShadows m (kernel_of ps) (kernel_of ps)) (sym x.are) (exact_shadows run_rules (kernel_problem ps r.head h.vars h.outvars) (kernel_checked ps accepted) x.activity x.analysed.active (marks_by ps x.activity x.liveness x.saved x.held) refl (λ n. refl)) in
+      let runs = runnable bytes ps given accepted few back.marks shadows (unit_number (kernel_of ps) r.head) h.vars h.outvars in
+      subst (λ (z : List ℕ). OrTooMany (λ found. unlined found ≡ unlined back.reads.0) (program_of Run z)) (sym back.is_text)
+      (other_lines (planned_for ps r.head h.vars h.outvars back.marks) back.reads.0 (sym back.reads.2) (program_of Run (text_of (planned_for ps r.head h.vars h.outvars back.marks))) runs)
+
   -- the program that the text is, which has other lines than the one that was printed, is an adjoint of the text that reads as the program
-  pub head_adjoins : IsAccepted ps → HasNoMarks ps → (text : List ℕ) → ReadsWritten ps r.head h text → (bytes : List ℕ) → Reads bytes ps → WritesAdjoint r bytes text
-  head_adjoins accepted none text back bytes reads =
+  pub head_adjoins : IsAccepted ps → HasNoMarks ps → EmittedIsRunnable → (text : List ℕ) → ReadsWritten ps r.head h text → (bytes : List ℕ) → Reads bytes ps → program_of Source bytes ≡ Ok ps → WritesAdjoint r bytes text
+  head_adjoins accepted none runnable text back bytes reads given =
       let x = back.exact in
       let m = marks_by ps x.activity x.liveness x.saved x.held in
       let same : unlined (planned_for ps r.head h.vars h.outvars m) ≡ unlined back.reads.0 = ap (λ n. unlined (planned_for ps r.head h.vars h.outvars n)) (sym x.are) ∙ sym back.reads.2 in
@@ -56,6 +111,7 @@ module _ (r : Request) (ps : List Procedure) (h : Head) (sound : first_head_faul
         is_head = there.found;
         adjoint = back.reads.0;
         reads_back = back.reads.1;
+        runs = head_runs accepted runnable text back bytes given;
         text = back.is_text ∙ one_text (planned_for ps r.head h.vars h.outvars back.marks) back.reads.0 (sym back.reads.2);
         sound = planned.is_sound ps accepted r.head h.vars h.outvars x.activity x.liveness x.saved x.held x.analysed back.reads.0 same;
         marks = back.marks;
@@ -101,10 +157,10 @@ module _ (ps : List Procedure) (name : List ℕ) (h : Head) (accepted : IsAccept
   pub emitted_text : (a : Answer) → a.status ≡ 0 → a.text ≡ text_of qs → IsWritten ps name h a
   emitted_text a done text = record { marks = m; exact = exact_marks; text = (λ i. record { status = done i; text = (text ∙ ap text_of x.emitted) i }) }
 
-  pub emitted_reads : (bytes : List ℕ) → bytes ≡ text_of qs → (texts.IsWritten qs → ReadsAs bytes qs) → ReadsWritten ps name h bytes
-  emitted_reads bytes text reads =
+  pub emitted_reads : kernel_fits (kernel_of ps) ≡ true → (bytes : List ℕ) → bytes ≡ text_of qs → (texts.IsWritten qs → ReadsAs bytes qs) → ReadsWritten ps name h bytes
+  emitted_reads fits bytes text reads =
       let written : texts.IsWritten qs = subst texts.IsWritten (sym x.emitted) (planned.is_written ps accepted name h.vars h.outvars x.activity x.liveness x.saved x.held x.analysed) in
-      record { marks = m; exact = exact_marks; is_text = text ∙ ap text_of x.emitted; reads = subst (λ z. ReadsAs bytes z) x.emitted (reads written) }
+      record { fits = fits; marks = m; exact = exact_marks; is_text = text ∙ ap text_of x.emitted; reads = subst (λ z. ReadsAs bytes z) x.emitted (reads written) }
 
 -- ---- the text that is wanted
 
@@ -117,7 +173,7 @@ module _ (ps : List Procedure) (name : List ℕ) (h : Head) (accepted : IsAccept
   text_given wanted.Adjoint text x a done is = emitted_text ps name h accepted x.program x.emitted a done (is ∙ x.is_text)
   text_given wanted.Plan text x a done is = record { said = x.said; takes = x.takes; tells = x.tells; text = (λ i. record { status = done i; text = (is ∙ x.is_text) i }) }
 
-  pub text_reads : (w : Wanted) → w ≡ wanted.Adjoint → (text : List ℕ) → IsTextFor w (kernel_of ps) own text → ReadsWritten ps name h text
-  text_reads w e text x =
+  pub text_reads : kernel_fits (kernel_of ps) ≡ true → (w : Wanted) → w ≡ wanted.Adjoint → (text : List ℕ) → IsTextFor w (kernel_of ps) own text → ReadsWritten ps name h text
+  text_reads fits w e text x =
       let y : IsAdjointText (kernel_of ps) own text = subst (λ z. IsTextFor z (kernel_of ps) own text) e x in
-      emitted_reads ps name h accepted y.program y.emitted text y.is_text y.reads
+      emitted_reads ps name h accepted y.program y.emitted fits text y.is_text y.reads

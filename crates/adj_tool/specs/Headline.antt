@@ -1,9 +1,11 @@
 -- Headline: what the written text is.
-use Rattle.std.specs.Prelude.{◌≡◌, ℕ, List, map, Bool, false, Some}
+use Rattle.std.specs.Prelude.{◌≡◌, ℕ, List, map, Bool, true, false, Some}
 use Rattle.adj_tree.specs.Code.{Procedure}
+use Rattle.adj_tree.specs.Lines.{unlined}
 use Rattle.adj_text.specs.Reads.{Reads}
 use Rattle.adj_text.specs.ReadsAs.{ReadsAs}
 use Rattle.adj_text.specs.Text.{text_of}
+use Rattle.adj_text.specs.declared.mode.Mode.TheVariants.{Run}
 use Rattle.adj_meaning.specs.Written.{find_unit}
 use Rattle.adj_names.specs.Fresh.{has_name}
 use Rattle.adj_names.specs.Fault.{run_rules}
@@ -13,9 +15,13 @@ use Rattle.adj_reverse.specs.Marking.{ProgramMarks}
 use Rattle.adj_accepted.specs.Accepted.{IsAdjointOf}
 use Rattle.adj_planned.specs.Planned.{planned_for}
 use Rattle.adj_tree.specs.declared.marks.Head.{Head}
+use Rattle.adj_kernel.specs.Stepped.{kernel_of}
+use Rattle.adj_tool.specs.Fitting.{kernel_fits}
 use Rattle.adj_tool.specs.Planned.{AreExact}
 use Rattle.adj_tool.specs.Words.{Request}
+use Rattle.adj_readable.specs.Reading.{OrTooMany}
 use Rattle.adj_answer.specs.Answer.{Answer}
+use Rattle.adj_answer.specs.Programs.{program_of}
 
 -- a unit of the name is there
 pub record IsUnit (ps : List Procedure) (name : List ℕ) : Type 0 where
@@ -37,15 +43,18 @@ pub record WritesAdjoint (r : Request) (bytes written : List ℕ) : Type 0 where
   pub adjoint : List Procedure
   pub reads_back : Reads written adjoint
   pub text : written ≡ text_of adjoint
-  -- as a text that is run, it has no fault of units, names, calls, chains and writes
+  -- as a text that is run they read as it, up to line numbers, unless they have more statements than a run takes
+  pub runs : OrTooMany (λ found. unlined found ≡ unlined adjoint) (program_of Run written)
+  -- and it has no fault of units, names, calls, chains and writes there
   pub sound : IsSound run_rules adjoint
   -- by the marks that exact analyses of the kernel give
   pub marks : ProgramMarks
   pub exact : AreExact source r.head (head_of source r.head r.vars r.outvars) marks
   pub is_adjoint : IsAdjointOf (λ line. false) marks source r.head (flags_of r.vars unit.dummies) (flags_of r.outvars unit.dummies) adjoint
 
--- where the answer is done, its text reads as the program that is emitted by the marks of exact analyses
+-- where the answer is done, the kernel fits, and its text reads as the program that is emitted by the marks of exact analyses
 pub record ReadsWritten (ps : List Procedure) (name : List ℕ) (h : Head) (text : List ℕ) : Type 0 where
+  pub fits : kernel_fits (kernel_of ps) ≡ true
   pub marks : ProgramMarks
   pub exact : AreExact ps name h marks
   pub is_text : text ≡ text_of (planned_for ps name h.vars h.outvars marks)

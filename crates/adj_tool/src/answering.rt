@@ -1,15 +1,17 @@
 //! The commands that are asked for a head: `adjoint` and `plan`.
 
-ghost use Rattle.std.specs.Prelude.{◌≡◌, ◌≤◌, ◌∷◌, [], ℕ, List, None, length, IfOk};
+ghost use Rattle.std.specs.Prelude.{◌≡◌, ◌≤◌, ◌∷◌, [], ℕ, List, None, Ok, length, IfOk};
 ghost use Rattle.adj_tree.specs.View.{procedures_of};
 ghost use Rattle.adj_text.specs.Reads.{Reads};
 ghost use Rattle.adj_text.specs.Written.{IsWritten};
+ghost use Rattle.adj_text.specs.declared.mode.Mode.TheVariants.{Source};
 ghost use Rattle.adj_names.specs.Check.{IsSound};
 ghost use Rattle.adj_names.specs.Fault.{source_rules};
 ghost use Rattle.adj_names.specs.HeadFaults.{first_head_fault, head_of, unit_number};
 ghost use Rattle.adj_kernel.specs.Sound.{IsAccepted};
 ghost use Rattle.adj_kernel.specs.Stepped.{kernel_of};
 ghost use Rattle.adj_tool.specs.Profile.{first_untreated};
+ghost use Rattle.adj_answer.specs.Programs.{program_of};
 ghost use Rattle.adj_answer.specs.Views.{answer_of};
 ghost use Rattle.adj_tool.specs.Answer.{AnswersAccepted, AnswersChecked, AnswersFitted, AnswersProgram, AnswersTreated, AnswersWanted, most_bytes, too_large, untreated};
 ghost use Rattle.adj_tool.specs.Fitting.{kernel_fits};
@@ -22,6 +24,7 @@ use crate::untreated::first_untreated;
 use adj_answer::{Answer, Status, read, refused};
 use adj_fixed::Mode;
 use adj_kernels::checked_kernel;
+use adj_limits::emitted_law;
 use adj_symbols::{Checked, check, head};
 use adj_tree::{Fault, Head, Memory, Name, Program, Refusal};
 use std::alloc::Global;
@@ -97,8 +100,9 @@ fn answer_adjoint(
     requires sound_head { let r = request_of request.now in first_head_fault (procedures_of program.now) r.head r.vars r.outvars ≡ None }
     requires head { let r = request_of request.now in head ≡ head_of (procedures_of program.now) r.head r.vars r.outvars }
     ensures answer { IfOk result (λ a. AnswersTreated (first_untreated (procedures_of program.now)) (procedures_of program.now) request.now.head head (answer_of a)) }
-    ensures adjoint { IfOk result (λ a. (bytes : List ℕ) → Reads bytes (procedures_of program.now) → IsAdjoined (request_of request.now) bytes (answer_of a)) }
+    ensures adjoint { IfOk result (λ a. (bytes : List ℕ) → Reads bytes (procedures_of program.now) → program_of Source bytes ≡ Ok (procedures_of program.now) → IsAdjoined (request_of request.now) bytes (answer_of a)) }
 {
+    emitted_law();
     if let Some(line) = first_untreated(program) {
         return untreated(alloc, line);
     }
@@ -134,7 +138,7 @@ fn answer_head(
     requires sound_head { let r = request_of request.now in first_head_fault (procedures_of program.now) r.head r.vars r.outvars ≡ None }
     requires head { let r = request_of request.now in head ≡ head_of (procedures_of program.now) r.head r.vars r.outvars }
     ensures answer { IfOk result (λ a. AnswersAccepted wanted (procedures_of program.now) request.now.head head (answer_of a)) }
-    ensures adjoint { wanted ≡ Wanted.Adjoint → IfOk result (λ a. (bytes : List ℕ) → Reads bytes (procedures_of program.now) → IsAdjoined (request_of request.now) bytes (answer_of a)) }
+    ensures adjoint { wanted ≡ Wanted.Adjoint → IfOk result (λ a. (bytes : List ℕ) → Reads bytes (procedures_of program.now) → program_of Source bytes ≡ Ok (procedures_of program.now) → IsAdjoined (request_of request.now) bytes (answer_of a)) }
 {
     match wanted {
         Wanted::Adjoint => answer_adjoint(alloc, request, program, head),
@@ -152,7 +156,7 @@ fn answer_checked(
     requires written { IsWritten (procedures_of checked.now.program) }
     requires sound { IsSound source_rules (procedures_of checked.now.program) }
     ensures answer { IfOk result (λ a. AnswersChecked None wanted (request_of request.now) (procedures_of checked.now.program) (answer_of a)) }
-    ensures adjoint { wanted ≡ Wanted.Adjoint → IfOk result (λ a. (bytes : List ℕ) → Reads bytes (procedures_of checked.now.program) → IsAdjoined (request_of request.now) bytes (answer_of a)) }
+    ensures adjoint { wanted ≡ Wanted.Adjoint → IfOk result (λ a. (bytes : List ℕ) → Reads bytes (procedures_of checked.now.program) → program_of Source bytes ≡ Ok (procedures_of checked.now.program) → IsAdjoined (request_of request.now) bytes (answer_of a)) }
 {
     let vars = request.vars.as_slice();
     let outvars = request.outvars.as_slice();
@@ -172,7 +176,7 @@ pub(crate) fn answer_program(
 ) -> Result<Answer, Memory>
     requires { IsWritten (procedures_of program) }
     ensures answer { IfOk result (λ a. AnswersProgram wanted (request_of request.now) (procedures_of program) (answer_of a)) }
-    ensures adjoint { wanted ≡ Wanted.Adjoint → IfOk result (λ a. (bytes : List ℕ) → Reads bytes (procedures_of program) → IsAdjoined (request_of request.now) bytes (answer_of a)) }
+    ensures adjoint { wanted ≡ Wanted.Adjoint → IfOk result (λ a. (bytes : List ℕ) → Reads bytes (procedures_of program) → program_of Source bytes ≡ Ok (procedures_of program) → IsAdjoined (request_of request.now) bytes (answer_of a)) }
 {
     match check(alloc, program, Mode::Source) {
         Ok(checked) => answer_checked(alloc, wanted, request, &checked),
