@@ -8,7 +8,6 @@ use Rattle.adj_tree.proofs.Names.{name_same, name_refl}
 use Rattle.adj_meaning.specs.LeastSet.{row_of, least_rows}
 use Rattle.adj_meaning.specs.Read.{read_rule, looked_at}
 use Rattle.adj_meaning.specs.Written.{write_rule, handed_back}
-use Rattle.adj_facts.specs.Reached.{begins, leads}
 use Rattle.adj_facts.specs.Parts.{Part, parts, find_part}
 use Rattle.adj_facts.specs.Problem.{Problem, TakesPart}
 use Rattle.adj_facts.specs.Live.{IsLive}
@@ -22,7 +21,7 @@ use Rattle.adj_flow.specs.Nodes.{IsWide}
 use Rattle.adj_flow.specs.NodeView.{found_at}
 use Rattle.adj_flow.specs.Scoped.{scope_by, HoldVariables}
 use Rattle.adj_flow.specs.Told.{told, told_of}
-use Rattle.adj_flow.proofs.Covering.{scope_covers, scope_wide}
+use Rattle.adj_flow.proofs.Covering.{flags_cover, scope_wide}
 use Rattle.adj_flow.proofs.Scoping.{found_unit}
 use Rattle.adj_activity.specs.Told.{activity_told}
 use Rattle.adj_live.specs.Listed.{Here, unit_nodes, all_nodes, unit_edges, all_edges}
@@ -91,11 +90,6 @@ seen_by numbers w reads writes b us r = record {
   row = r;
 }
 
--- which units take part doesn't depend on what is flagged
-takes_same : (ps : List Procedure) (h : ℕ) (a b c d : List Bool) (g : Part) → TakesPart (record { units = ps; head = h; vars = a; outvars = b }) g → TakesPart (record { units = ps; head = h; vars = c; outvars = d }) g
-takes_same ps h a b c d g (begins e) = begins (record { is = e.is })
-takes_same ps h a b c d g (leads {x = f} r q) = leads (takes_same ps h a b c d f r) (q.0, q.1, record { name = q.2.name; stands = q.2.stands; act = q.2.act; finds = q.2.finds })
-
 module _ (k : Problem) (vss : List (List (List ℕ))) (numbers : List (List ℕ × ℕ)) (taking : List Bool) (w : ℕ) (known : (x : List ℕ) → value_of x numbers ≡ place_from 0 (map (λ p. p.name) k.units) x)
     (takes : (g : Part) → Contains (parts k.units) g → IsTrue (flag taking g.number) ↔ TakesPart (record { units = k.units; head = k.head; vars = []; outvars = [] }) g) (lengths : length vss ≡ length k.units) (narrow : All (λ vs. length vs ≤ w) vss)
     (hold : HoldVariables vss k.units) (rs : List Row) (same : rs ≡ rows vss k.units) (reads writes : List (List Bool)) (reads_are : reads ≡ least_rows read_rule k.units) (writes_are : writes ≡ least_rows write_rule k.units) (b : flags.Activity) where
@@ -103,9 +97,7 @@ module _ (k : Problem) (vss : List (List (List ℕ))) (numbers : List (List ℕ 
   o = scope_by vss (flag taking) k.units
 
   covers : Covers k o
-  covers =
-      scope_covers k vss (flag taking) hold
-      (λ q c. (λ t. takes_same k.units k.head [] [] k.vars k.outvars q ((takes q c).0 t), λ t. (takes q c).1 (takes_same k.units k.head k.vars k.outvars [] [] q t)))
+  covers = flags_cover k vss taking hold takes
 
   wide : IsWide k o w
   wide = scope_wide k vss (flag taking) w lengths narrow

@@ -27,12 +27,13 @@ use Rattle.adj_facts.proofs.FlowListed as flowing
 use Rattle.adj_facts.proofs.LiveListed as listing
 use Rattle.adj_flow.specs.Nodes.{IsWide, linked}
 use Rattle.adj_flow.specs.Rows.{Row, row_in}
+use Rattle.adj_flow.specs.Passed.{passed_in}
 use Rattle.adj_flow.specs.Scoped.{scope_by}
 use Rattle.adj_flow.proofs.Scoping.{flat_chosen}
 use Rattle.adj_flow.proofs.Images.{Images, images_none, images_append, images_flat, images_map, images_if}
 use Rattle.adj_reach.specs.Edges.{flag}
 use Rattle.adj_live.specs.Numbers.{kept_at, wanted_at}
-use Rattle.adj_live.specs.Passed.{passed_in, handed_by}
+use Rattle.adj_live.specs.Passed.{handed_by}
 use Rattle.adj_live.specs.Listed.{Here, active_here, needed_here, needed_nodes, own_nodes, turned_nodes, statement_nodes, extent_nodes, unit_nodes, entry_edges, way_edges, used_edges, assigned_edges, held_edges, handed_edges, member_edges, found_edges, call_edges, statement_edges, unit_edges}
 use Rattle.adj_live.proofs.Facts.{HasFact, HasStep, single, link}
 use Rattle.adj_live.proofs.Using.{used_same, handed_same, handed_stands, no_dummies, read_row, passed_bound}

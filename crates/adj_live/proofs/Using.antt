@@ -15,17 +15,8 @@ use Rattle.adj_facts.specs.Variables.{list_if, vars_in, vars_in_terms, used_in, 
 use Rattle.adj_facts.specs.Problem.{bound, name_of, with_actual}
 use Rattle.adj_facts.specs.Rules.{list_of}
 use Rattle.adj_facts.proofs.Members.{is_first, is_none, is_only, if_only}
-use Rattle.adj_live.specs.Passed.{passed_in, used_by, handed_by}
-
--- ---- without actuals nothing is handed or passed
-
-pub no_handed : (ws : List Bool) → handed_in_actuals ws none ≡ []
-no_handed [] = refl
-no_handed (w ∷ ws) = refl
-
-pub no_passed : (ws : List Bool) → passed_in ws none ≡ []
-no_passed [] = refl
-no_passed (w ∷ ws) = refl
+use Rattle.adj_flow.specs.Passed.{passed_in}
+use Rattle.adj_live.specs.Passed.{used_by, handed_by}
 
 -- ---- by the rows of the least sets
 
@@ -61,7 +52,7 @@ pub no_dummies : (rule : Rule) (units : List Procedure) (name : List ℕ) → fi
 no_dummies rule units name e = no_row (statements_in 0 units) 0 0 units (least_rows rule units) name e
 
 -- the unit of a name is that of its part
-unit_found : (t u i : ℕ) (ps : List Procedure) (name : List ℕ) (g : Part) → find_part (parts_from t u i ps) name ≡ Some g → find_unit ps name ≡ Some g.unit
+pub unit_found : (t u i : ℕ) (ps : List Procedure) (name : List ℕ) (g : Part) → find_part (parts_from t u i ps) name ≡ Some g → find_unit ps name ≡ Some g.unit
 unit_found t u i [] name g e = absurd cc
 unit_found t u i (p ∷ ps) name g e = go (name_eq p.name name) e (unit_found t (suc u) (behind i p.body) ps name g)
   where

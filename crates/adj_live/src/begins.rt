@@ -5,7 +5,6 @@ ghost use Rattle.adj_tree.specs.Code.{plain, assign};
 ghost use Rattle.adj_tree.specs.View.{term_of, terms_of, act_of};
 ghost use Rattle.adj_facts.specs.Variables.{list_if};
 ghost use Rattle.adj_facts.specs.Rules.{list_of, holders};
-ghost use Rattle.adj_facts.specs.Uses.{turned_by};
 ghost use Rattle.adj_flow.specs.Rows.{row_of};
 ghost use Rattle.adj_flow.specs.NodeView.{names_of, vars_of};
 ghost use Rattle.adj_flow.specs.View.{place_of, standing_of};
@@ -14,24 +13,14 @@ ghost use Rattle.adj_live.specs.Listed.{needed_here, needed_nodes, own_nodes, tu
 ghost use Rattle.adj_live.specs.View.{here_at, here_in};
 
 use crate::extents::{extents, is_among};
-use crate::names::add_terms;
 use crate::passing::add_passed_by;
 use crate::reads::{add_reads, resets};
 use crate::site::{Known, Site, add_number, kept, wanted};
+use adj_flow::variables::add_terms;
 use adj_flow::{Flow, Place, Point, Standing, number};
 use adj_reach::flag_at;
 use adj_tree::{Act, Expr, Memory, Name, Place as Target};
 use std::alloc::Global;
-
-/// Whether a place turns a variable: that of the marked loop whose turns a call makes.
-pub(crate) fn is_turned(place: Place<'_>, name: &Name) -> bool
-    ensures is { result ≡ turned_by (place_of place.entry) (plain name.now) }
-{
-    match place {
-        Place::TurnOf(_, turned) => turned.equals(name),
-        Place::Outermost | Place::PartOf(_) => false,
-    }
-}
 
 // Adds that a variable is needed at a point, if it is wanted.
 fn add_variable(
@@ -60,7 +49,7 @@ fn add_needed(
     ensures added { OnOk result (nodes.new.items ≡ nodes.old.items ++ needed_nodes (here_at site.entry) point (place_of place.entry) (names_of names.now)) }
 {
     for name in names {
-        let is_wanted = !is_turned(place, name);
+        let is_wanted = !place.turns(name);
         add_variable(nodes, site, point, name, is_wanted)?;
     }
     Ok(())

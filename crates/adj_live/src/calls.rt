@@ -4,33 +4,21 @@ ghost use Rattle.std.specs.Prelude.{◌≡◌, ◌++◌, ◌&&◌, not, true, On
 ghost use Rattle.adj_tree.specs.Code.{plain};
 ghost use Rattle.adj_tree.specs.View.{act_of};
 ghost use Rattle.adj_transpose.specs.Marks.{point_before};
-ghost use Rattle.adj_facts.specs.Uses.{site};
 ghost use Rattle.adj_facts.specs.Variables.{list_if};
 ghost use Rattle.adj_flow.specs.Rows.{row_of};
 ghost use Rattle.adj_flow.specs.NodeView.{vars_of};
 ghost use Rattle.adj_flow.specs.Nodes.{linked};
-ghost use Rattle.adj_flow.specs.View.{place_of, standing_of};
+ghost use Rattle.adj_flow.specs.View.{standing_of};
 ghost use Rattle.adj_activity.specs.View.{pair_of};
 ghost use Rattle.adj_live.specs.Numbers.{wanted_at};
 ghost use Rattle.adj_live.specs.Listed.{needed_here, member_edges, call_edges};
 ghost use Rattle.adj_live.specs.View.{here_at};
 
-use crate::begins::is_turned;
-use crate::site::{Site, add_link, wanted};
+use crate::site::{Site, wanted};
 use adj_activity::pairs;
-use adj_flow::{Part, Place, Point, Standing, number};
+use adj_flow::{Part, Point, Standing, add_link, number};
 use adj_tree::{Act, Memory, Name};
 use std::alloc::Global;
-
-/// The statement at which a call does its work: itself, or the marked loop whose turns it makes, if it is adjointed.
-pub(crate) fn site_of(is_adjointed: bool, statement: usize, place: Place<'_>) -> usize
-    ensures is { result ≡ site is_adjointed statement (place_of place.entry) }
-{
-    match place {
-        Place::TurnOf(holder, _) => { if is_adjointed { holder } else { statement } }
-        Place::Outermost | Place::PartOf(_) => statement,
-    }
-}
 
 // Adds the edge from a dummy of a called unit that is wanted to its actual, which is needed at a point.
 fn add_actual(
@@ -58,9 +46,9 @@ fn add_member(
 ) -> Result<(), Memory>
     ensures added { OnOk result (edges.new.items ≡ edges.old.items ++ member_edges (here_at site.entry) (standing_of standing.now) (row_of called.now) pair.entry.0.now (plain pair.entry.1.now)) }
 {
-    let is_member = site.is_adjointed(standing.number)? && !is_turned(standing.place, pair.1);
+    let is_member = site.is_adjointed(standing.number)? && !standing.place.turns(pair.1);
     if is_member {
-        let at = site_of(true, standing.number, standing.place);
+        let at = standing.place.site(true, standing.number);
         let before = number(Point::Before(at))?;
         add_actual(edges, site, called, before, pair)?;
     }

@@ -10,7 +10,6 @@ mod begins;
 mod calls;
 mod extents;
 mod finding;
-mod names;
 mod passing;
 mod picked;
 mod reads;
@@ -19,4 +18,4 @@ mod site;
 mod steps;
 
 pub use finding::live;
-pub use sides::Sides;
+pub use sides::{Sides, dummies_of};

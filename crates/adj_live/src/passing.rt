@@ -6,9 +6,11 @@ ghost use Rattle.adj_flow.specs.NodeView.{names_of};
 ghost use Rattle.adj_live.specs.Passed.{used_by, handed_by, passed_by};
 ghost use Rattle.adj_live.specs.View.{here_at};
 
-use crate::names::{add_handed, add_mark, add_passed, add_read, add_term, add_terms, add_test};
 use crate::sides::row;
 use crate::site::Site;
+use adj_flow::variables::{
+    add_handed, add_mark, add_passed, add_read, add_term, add_terms, add_test,
+};
 use adj_tree::{Act, Memory, Name};
 
 /// Adds what a statement uses where it is kept.

@@ -19,14 +19,14 @@ pub(crate) fn row<'p>(rows: &'p [&'p Flags], numbers: &Numbers<'_>, name: &Name)
     ensures row { result.now ≡ row_by (map (λ b. b.now) rows.now) (value_of name.now numbers.now) }
 {
     match numbers.get(name) {
-        Some(number) => row_at(rows, number),
+        Some(number) => dummies_of(rows, number),
         None => &[],
     }
 }
 
-// The flags of the dummies of the unit of a number.
-fn row_at<'p>(rows: &'p [&'p Flags], number: usize) -> &'p [bool]
-    ensures row { result.now ≡ slice_index_or (map (λ b. b.now) rows.now) number [] }
+/// The flags of the dummies of the unit of a number; none where there is no such unit.
+pub fn dummies_of<'p>(rows: &'p [&'p Flags], number: usize) -> &'p [bool]
+    ensures dummies { result.now ≡ slice_index_or (map (λ b. b.now) rows.now) number [] }
 {
     match rows.get(number) {
         Some(row) => row.as_slice(),

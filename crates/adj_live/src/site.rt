@@ -5,7 +5,6 @@ ghost use Rattle.adj_tree.specs.Code.{plain};
 ghost use Rattle.adj_facts.specs.Rules.{list_of};
 ghost use Rattle.adj_reach.specs.Edges.{flag};
 ghost use Rattle.adj_flow.specs.Rows.{row_of};
-ghost use Rattle.adj_flow.specs.Nodes.{linked};
 ghost use Rattle.adj_flow.specs.NodeView.{vars_of};
 ghost use Rattle.adj_live.specs.Numbers.{kept_at, wanted_at};
 ghost use Rattle.adj_live.specs.Listed.{needed_here};
@@ -105,21 +104,4 @@ pub(crate) fn add_number(nodes: &mut Vec<usize>, number: Option<usize>) -> Resul
         nodes.push(number)?;
     }
     Ok(())
-}
-
-/// Adds an edge between two numbers, if both are there.
-pub(crate) fn add_link(
-    edges: &mut Vec<(usize, usize)>,
-    from: Option<usize>,
-    to: Option<usize>,
-) -> Result<(), Memory>
-    ensures added { OnOk result (edges.new.items ≡ edges.old.items ++ linked from to) }
-{
-    match (from, to) {
-        (Some(from), Some(to)) => {
-            edges.push((from, to))?;
-            Ok(())
-        }
-        (Some(_), None) | (None, _) => Ok(()),
-    }
 }

@@ -6,20 +6,19 @@ ghost use Rattle.adj_tree.specs.View.{act_of};
 ghost use Rattle.adj_facts.specs.Rules.{holders};
 ghost use Rattle.adj_facts.specs.Uses.{use_point};
 ghost use Rattle.adj_facts.specs.Variables.{list_if};
-ghost use Rattle.adj_facts.specs.Ways.{assigned_on};
 ghost use Rattle.adj_flow.specs.Rows.{row_of};
 ghost use Rattle.adj_flow.specs.NodeView.{names_of, vars_of};
 ghost use Rattle.adj_flow.specs.Nodes.{linked};
 ghost use Rattle.adj_flow.specs.View.{place_of, standing_of};
-ghost use Rattle.adj_flow.specs.WayView.{number_of, deed_of, way_of};
+ghost use Rattle.adj_flow.specs.WayView.{number_of, way_of};
 ghost use Rattle.adj_live.specs.Numbers.{kept_at, wanted_at};
 ghost use Rattle.adj_live.specs.Listed.{needed_here, entry_edges, way_edges, used_edges, assigned_edges, held_edges, handed_edges, statement_edges, unit_edges, all_edges};
 ghost use Rattle.adj_live.specs.View.{here_at, here_in};
 
-use crate::calls::{add_call, site_of};
+use crate::calls::add_call;
 use crate::passing::{add_handed_by, add_used_by};
-use crate::site::{Known, Site, add_link, kept, wanted};
-use adj_flow::{Deed, Flow, Place, Point, Standing, Way, number};
+use crate::site::{Known, Site, kept, stride, wanted};
+use adj_flow::{Flow, Place, Point, Standing, Way, add_carried, add_link, number};
 use adj_reach::flag_at;
 use adj_tree::{Act, Memory, Name};
 use std::alloc::Global;
@@ -158,7 +157,7 @@ fn add_handed(
     let mut names = Vec::new(alloc);
     add_handed_by(site, standing.act, &mut names)?;
     let is_adjointed = site.is_adjointed(standing.number)?;
-    let at = site_of(is_adjointed, standing.number, standing.place);
+    let at = standing.place.site(is_adjointed, standing.number);
     let point = number(Point::After(at))?;
     let to = kept(site.known.width, standing.number)?;
     add_to(edges, site, point, names.as_slice(), to)
@@ -195,43 +194,15 @@ fn add_statements(
     Ok(())
 }
 
-// Whether a variable is assigned whole on a way.
-fn is_assigned(deed: Deed<'_>, name: &Name) -> bool
-    ensures is { result ≡ assigned_on (deed_of deed.entry) (plain name.now) }
-{
-    match deed {
-        Deed::Assigning(_, other) => other.equals(name),
-        Deed::Passing | Deed::Calling(_) => false,
-    }
-}
-
-// Adds the edge of a variable from one point to another, if it is carried back.
-fn add_carried(
-    edges: &mut Vec<(usize, usize)>,
-    site: Site<'_, '_>,
-    points: (usize, usize),
-    name: &Name,
-    is_carried: bool,
-) -> Result<(), Memory>
-    ensures added { OnOk result (edges.new.items ≡ edges.old.items ++ list_if is_carried (linked (needed_here (here_at site.entry) points.0 (plain name.now)) (needed_here (here_at site.entry) points.1 (plain name.now)))) }
-{
-    if is_carried {
-        let (from, to) = points;
-        let behind = site.needed(from, name)?;
-        let before = site.needed(to, name)?;
-        add_link(edges, behind, before)?;
-    }
-    Ok(())
-}
-
 // Adds the edges of a way, which go against it.
 fn add_way(edges: &mut Vec<(usize, usize)>, site: Site<'_, '_>, way: Way<'_>) -> Result<(), Memory>
     ensures added { OnOk result (edges.new.items ≡ edges.old.items ++ way_edges (here_at site.entry) (way_of way.entry)) }
 {
+    let width = stride(site.known.width)?;
     let points = (number(way.to)?, number(way.from)?);
     for name in site.part.variables.as_slice() {
-        let is_carried = !is_assigned(way.deed, name);
-        add_carried(edges, site, points, name, is_carried)?;
+        let is_carried = !way.deed.assigns(name);
+        add_carried(edges, width, site.part, points, name, is_carried)?;
     }
     Ok(())
 }

@@ -2,7 +2,7 @@
 use Rattle.std.proofs.Common.{◌≡◌, ℕ, ◌≤◌, List, [], Bool, map, length, ◌∙◌, subst}
 use Rattle.std.specs.Prelude.{◌↔◌, IsTrue, All, Contains, Option}
 use Rattle.std.specs.Option.{option_map}
-use Rattle.adj_tree.specs.Code.{Var, Procedure}
+use Rattle.adj_tree.specs.Code.{Var}
 use Rattle.adj_meaning.specs.LeastSet.{least_rows}
 use Rattle.adj_meaning.specs.Read.{read_rule}
 use Rattle.adj_meaning.specs.Written.{write_rule}
@@ -29,7 +29,7 @@ use Rattle.adj_flow.specs.Nodes.{IsWide, HasNode, HasNumber}
 use Rattle.adj_flow.specs.Rows.{Row, row_in, rows}
 use Rattle.adj_flow.specs.Scoped.{scope_by, HoldVariables}
 use Rattle.adj_flow.specs.Told.{unit_at, told_in, told}
-use Rattle.adj_flow.proofs.Covering.{scope_covers, scope_wide}
+use Rattle.adj_flow.proofs.Covering.{flags_cover, scope_wide}
 use Rattle.adj_flow.proofs.Images.{listed_along}
 use Rattle.adj_flow.proofs.Places.{one_number, own_number, here_has, has_here}
 use Rattle.adj_flow.proofs.Scoping.{found_unit}
@@ -108,11 +108,6 @@ module _ (k : Problem) (vss : List (List (List ℕ))) (taking : List Bool) (w : 
             (λ h. first (i, v) (e.0 h), λ h. e.1 (begins h));
       }
 
--- which units take part doesn't depend on what is flagged
-taking_same : (ps : List Procedure) (h : ℕ) (b c d e : List Bool) (g : Part) → TakesPart (record { units = ps; head = h; vars = b; outvars = c }) g → TakesPart (record { units = ps; head = h; vars = d; outvars = e }) g
-taking_same ps h b c d e g (begins s) = begins (record { is = s.is })
-taking_same ps h b c d e g (leads {x = f} t q) = leads (taking_same ps h b c d e f t) (q.0, q.1, record { name = q.2.name; stands = q.2.stands; act = q.2.act; finds = q.2.finds })
-
 -- what is known of a flow, of the flags that are given and of those that are found
 pub record Answer (k : Problem) (vss : List (List (List ℕ))) (numbers : List (List ℕ × ℕ)) (taking : List Bool) (w : ℕ) (rs : List Row) (f : Found) (t : Sides) (held saved : List Bool) : Type 0 where
   pub known : (x : List ℕ) → value_of x numbers ≡ place_from 0 (map (λ p. p.name) k.units) x
@@ -134,9 +129,7 @@ module _ (k : Problem) (vss : List (List (List ℕ))) (numbers : List (List ℕ 
   finds n = (λ i. found_at (x.same i) (x.known n i)) ∙ found_unit vss k.units n
 
   covers : Covers k units
-  covers =
-      scope_covers k vss (flag taking) x.hold
-      (λ g c. (λ h. taking_same k.units k.head [] [] k.vars k.outvars g ((x.takes g c).0 h), λ h. (x.takes g c).1 (taking_same k.units k.head k.vars k.outvars [] [] g h)))
+  covers = flags_cover k vss taking x.hold x.takes
 
   wide : IsWide k units w
   wide = scope_wide k vss (flag taking) w x.lengths x.narrow

@@ -1,14 +1,14 @@
 -- Which dummies of a unit are in a least set, by the number and by the name of the unit.
-use Rattle.std.proofs.Common.{◌≡◌, ◌⊎◌, inl, inr, ℕ, zero, suc, ◌+◌, List, [], ◌∷◌, Bool, true, false, map, sym, ap, ◌∙◌, arith}
-use Rattle.std.specs.Prelude.{Contains, Some, slice_get, slice_index_or, if◌then◌else◌}
-use Rattle.adj_tree.specs.Code.{name_eq, Procedure}
+use Rattle.std.proofs.Common.{◌≡◌, ◌⊎◌, inl, inr, ℕ, zero, suc, ◌+◌, List, [], ◌∷◌, Bool, map, sym, ap, ◌∙◌, arith}
+use Rattle.std.specs.Prelude.{Contains, Some, slice_get, slice_index_or}
+use Rattle.adj_tree.specs.Code.{Procedure}
 use Rattle.adj_meaning.specs.LeastSet.{Rule, least_rows, in_least}
-use Rattle.adj_meaning.specs.Written.{find_unit}
 use Rattle.adj_meaning.proofs.LeastSets.{Rises, is_least, least_row}
 use Rattle.adj_transpose.specs.Marks.{behind}
 use Rattle.adj_facts.specs.Parts.{Part, part, parts, parts_from, statements_in, find_part}
 use Rattle.adj_facts.proofs.Members.{is_among, is_none}
 use Rattle.adj_reach.specs.Edges.{flag}
+use Rattle.adj_live.proofs.Using.{unit_found}
 
 -- what is made of the units stands at their numbers
 row_there : (f : Procedure → List Bool) (t u i : ℕ) (ps : List Procedure) (g : Part) → Contains (parts_from t u i ps) g → (j : ℕ) × (g.number ≡ u + j) × (slice_index_or (map f ps) j [] ≡ f g.unit)
@@ -22,16 +22,6 @@ row_there f t u i (p ∷ ps) g c = go (is_among g (part t u i p) (parts_from t (
         let n : u ≡ g.number = ap (λ (z : Part). z.number) e in
         (0, omega arith, ap (λ (z : Part). f z.unit) e)
     go (inr d) r = let o = r d in let h = o.1 in (suc o.0, omega arith, o.2)
-
--- the unit of a name
-found_there : (t u i : ℕ) (ps : List Procedure) (name : List ℕ) (g : Part) → find_part (parts_from t u i ps) name ≡ Some g → find_unit ps name ≡ Some g.unit
-found_there t u i [] name g e = absurd cc
-found_there t u i (p ∷ ps) name g e = go (name_eq p.name name) e (found_there t (suc u) (behind i p.body) ps name g)
-  where
-    go : (b : Bool) → (if b then Some (part t u i p) else find_part (parts_from t (suc u) (behind i p.body) ps) name) ≡ Some g → (find_part (parts_from t (suc u) (behind i p.body) ps) name ≡ Some g → find_unit ps name ≡ Some g.unit) →
-        (if b then Some p else find_unit ps name) ≡ Some g.unit
-    go true h r = let q : part t u i p ≡ g = cc in ap (λ (z : Part). Some z.unit) q
-    go false h r = r h
 
 -- what is made of the members stands at their places
 flag_there : (f : List ℕ → Bool) (ds : List (List ℕ)) (j : ℕ) (d : List ℕ) → slice_get ds j ≡ Some d → flag (map f ds) j ≡ f d
@@ -52,7 +42,7 @@ module _ (rule : Rule) (rises : Rises rule) (ps : List Procedure) where
 
   -- of the unit of a name
   pub named_row : (name : List ℕ) (g : Part) → Contains (parts ps) g → find_part (parts ps) name ≡ Some g → in_least rule ps name ≡ slice_index_or (least_rows rule ps) g.number []
-  named_row name g c e = least_row rule rises ps name g.unit (found_there (statements_in 0 ps) 0 0 ps name g e) ∙ sym (row_at g c)
+  named_row name g c e = least_row rule rises ps name g.unit (unit_found (statements_in 0 ps) 0 0 ps name g e) ∙ sym (row_at g c)
 
   -- of a dummy at its place
   pub dummy_flag : (g : Part) → Contains (parts ps) g → (j : ℕ) (d : List ℕ) → slice_get g.unit.dummies j ≡ Some d → flag (slice_index_or (least_rows rule ps) g.number []) j ≡ rule (in_least rule ps) g.unit d

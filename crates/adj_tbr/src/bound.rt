@@ -3,8 +3,6 @@
 ghost use Rattle.std.specs.Prelude.{◌≡◌, ◌++◌, [], IfOk, OnOk, map};
 ghost use Rattle.adj_tree.specs.View.{term_of, terms_of};
 ghost use Rattle.adj_facts.specs.Problem.{name_of};
-ghost use Rattle.adj_facts.specs.Variables.{list_if, place_of_actual, handed_in_actuals};
-ghost use Rattle.adj_flow.specs.NodeView.{names_of};
 ghost use Rattle.adj_tbr.specs.Bound.{passed_of, with_place, bound_from};
 
 use adj_tree::{Expr, Exprs, Memory, Name};
@@ -66,48 +64,4 @@ pub(crate) fn bounds<'a>(
         }
     }
     Ok(bounds)
-}
-
-// Adds the variable that an actual is, or has as its element, if its dummy is written.
-fn add_handed<'a>(
-    names: &mut Vec<&'a Name>,
-    actual: &'a Expr,
-    is_written: bool,
-) -> Result<(), Memory>
-    ensures added { OnOk result (names_of names.new.items ≡ names_of names.old.items ++ list_if is_written (place_of_actual (term_of actual.now))) }
-{
-    if is_written {
-        match actual {
-            Expr::Var(name) | Expr::Elem(name, _) => names.push(name)?,
-            Expr::Lit(_)
-            | Expr::Neg(_)
-            | Expr::Bin(_, _, _)
-            | Expr::Pow(_, _)
-            | Expr::Power(_, _)
-            | Expr::Abs(_) => {}
-        }
-    }
-    Ok(())
-}
-
-/// What a call may write, by the flags of the dummies that are written.
-pub(crate) fn handed<'a>(
-    alloc: Global,
-    written: &[bool],
-    actuals: &'a Exprs,
-) -> Result<Vec<&'a Name>, Memory>
-    ensures handed { IfOk result (λ v. names_of v.items ≡ handed_in_actuals written.now (terms_of actuals.now)) }
-{
-    let mut names = Vec::new(alloc);
-    let mut rest = actuals;
-    for is_written in written {
-        match rest {
-            Exprs::Empty => return Ok(names),
-            Exprs::More(first, next) => {
-                add_handed(&mut names, first, *is_written)?;
-                rest = next;
-            }
-        }
-    }
-    Ok(names)
 }

@@ -1,68 +1,31 @@
 //! The edges along which variables are held: those of ways, but for what kept statements replace there.
 
 ghost use Rattle.std.specs.Prelude.{◌≡◌, ◌++◌, not, IfOk, OnOk, map};
-ghost use Rattle.adj_tree.specs.Code.{plain, var_eq};
+ghost use Rattle.adj_tree.specs.Code.{plain};
 ghost use Rattle.adj_facts.specs.Held.{replaced_on};
 ghost use Rattle.adj_facts.specs.Variables.{list_if};
-ghost use Rattle.adj_flow.specs.Nodes.{node_in, linked};
-ghost use Rattle.adj_flow.specs.NodeView.{vars_of};
 ghost use Rattle.adj_flow.specs.Rows.{row_of};
 ghost use Rattle.adj_flow.specs.WayView.{deed_of, way_of};
 ghost use Rattle.adj_tbr.specs.View.{kept_by, way_edges, unit_edges, held_edges};
 
 use crate::found::Found;
-use adj_flow::{Deed, End, Flow, Part, Way, add_edge, number};
+use adj_flow::{Deed, Flow, Part, Way, add_carried, number};
 use adj_reach::flag_at;
 use adj_tree::{Memory, Name};
 use std::alloc::Global;
-
-// Whether both are the same variable.
-fn is_same(name: &Name, other: &Name) -> bool
-    ensures same { result ≡ var_eq (plain name.now) (plain other.now) }
-{
-    other.equals(name)
-}
 
 // Whether a kept statement assigns the whole variable on a way.
 fn is_replaced(found: Found<'_>, deed: Deed<'_>, name: &Name) -> bool
     ensures replaced { result ≡ replaced_on (kept_by found.entry) (deed_of deed.entry) (plain name.now) }
 {
     match deed {
-        Deed::Assigning(statement, other) => {
+        Deed::Assigning(statement, _) => {
             let is_kept = found.is_kept(statement);
-            let is_same = is_same(name, other);
-            is_kept && is_same
+            let is_assigned = deed.assigns(name);
+            is_kept && is_assigned
         }
         Deed::Passing | Deed::Calling(_) => false,
     }
-}
-
-// Adds the edge of a variable on a way, from the point of one number to that of another, if it isn't replaced.
-fn add_variable(
-    edges: &mut Vec<(usize, usize)>,
-    width: usize,
-    part: &Part<'_>,
-    points: (usize, usize),
-    name: &Name,
-    is_replaced: bool,
-) -> Result<(), Memory>
-    ensures added { OnOk result (edges.new.items ≡ edges.old.items ++ list_if (not is_replaced) (linked (node_in width (vars_of (row_of part.now)) (points.0, plain name.now)) (node_in width (vars_of (row_of part.now)) (points.1, plain name.now)))) }
-{
-    if !is_replaced {
-        let (from, to) = points;
-        let before = End {
-            part,
-            point: from,
-            name,
-        };
-        let after = End {
-            part,
-            point: to,
-            name,
-        };
-        add_edge(edges, width, before, after)?;
-    }
-    Ok(())
 }
 
 // Adds the edges of a way.
@@ -78,7 +41,7 @@ fn add_way(
     let points = (number(way.from)?, number(way.to)?);
     for name in part.variables.as_slice() {
         let is_replaced = is_replaced(found, way.deed, name);
-        add_variable(edges, width, part, points, name, is_replaced)?;
+        add_carried(edges, width, part, points, name, !is_replaced)?;
     }
     Ok(())
 }

@@ -12,8 +12,5 @@ mod held;
 mod reads;
 mod saves;
 mod setting;
-mod sides;
-mod terms;
-mod turns;
 
 pub use finding::tbr;

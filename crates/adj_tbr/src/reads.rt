@@ -2,9 +2,10 @@
 
 ghost use Rattle.std.specs.Prelude.{◌≡◌, ◌++◌, ◌&&◌, ◌||◌, true, Some, IfOk, OnOk, map, flat_map};
 ghost use Rattle.adj_tree.specs.Code.{plain};
-ghost use Rattle.adj_tree.specs.View.{act_of, terms_of};
+ghost use Rattle.adj_tree.specs.View.{act_of, term_of, terms_of};
 ghost use Rattle.adj_facts.specs.Uses.{site, is_turn};
-ghost use Rattle.adj_facts.specs.Variables.{list_if};
+ghost use Rattle.adj_facts.specs.Variables.{list_if, adjoint_reads_in};
+ghost use Rattle.adj_flow.specs.Active.{active_by};
 ghost use Rattle.adj_flow.specs.NodeView.{names_of, told_at};
 ghost use Rattle.adj_flow.specs.Rows.{row_of};
 ghost use Rattle.adj_flow.specs.View.{place_of, standing_of};
@@ -14,32 +15,57 @@ ghost use Rattle.adj_tbr.specs.View.{find};
 ghost use Rattle.adj_tbr.specs.Reads.{node_before, assigned_reads, is_wanted, found_reads, call_reads, standing_reads, unit_reads, read_nodes};
 
 use crate::bound::{Bound, bounds};
+use crate::found::Found;
 use crate::setting::Setting;
-use crate::sides::dummies_of;
-use crate::terms::{Site, add_terms_if};
-use crate::turns::{is_turn, is_turned, site};
-use adj_flow::{End, Flow, Part, Place, Point, Standing, add_node, number, told};
+use adj_flow::variables::add_terms_if;
+use adj_flow::{End, Flow, Occurrences, Part, Place, Point, Standing, add_node, number, told};
+use adj_live::dummies_of;
 use adj_reach::flag_at;
-use adj_tree::{Act, Exprs, Memory, Name};
+use adj_tree::{Act, Expr, Exprs, Memory, Name};
 use std::alloc::Global;
 
 // ---- assignments
 
+// Adds the variables that the adjoint of a right side reads, if it is wanted.
+fn add_reads_if<'t>(
+    occurrences: Occurrences<'_, '_, '_>,
+    term: &'t Expr,
+    is_wanted: bool,
+    out: &mut Vec<&'t Name>,
+) -> Result<(), Memory>
+    ensures added { OnOk result (names_of out.new.items ≡ names_of out.old.items ++ list_if is_wanted (adjoint_reads_in (active_by occurrences.entry) (term_of term.now))) }
+{
+    if is_wanted {
+        occurrences.add_reads(term, out)?;
+    }
+    Ok(())
+}
+
 // The adjoint reads of a statement that is an assignment.
 fn assigned<'t>(
     alloc: Global,
-    site: Site<'_, '_, '_>,
-    act: &'t Act,
+    found: Found<'_>,
+    width: usize,
+    part: &Part<'_>,
+    standing: &Standing<'t>,
 ) -> Result<Vec<&'t Name>, Memory>
-    ensures reads { IfOk result (λ v. names_of v.items ≡ assigned_reads site.entry.found site.entry.width (row_of site.entry.part.now) site.entry.number (act_of act.now)) }
+    ensures reads { IfOk result (λ v. names_of v.items ≡ assigned_reads found.entry width (row_of part.now) standing.now.number (act_of standing.now.act.now)) }
 {
+    let statement = standing.number;
     let mut names = Vec::new(alloc);
-    match act {
+    match standing.act {
         Act::Assign(target, right) => {
-            let is_adjointed = site.found.is_adjointed(site.number)?;
-            let is_kept = site.found.is_kept(site.number);
-            site.add_reads_if(is_adjointed, right, &mut names)?;
-            add_terms_if(is_kept || is_adjointed, &target.subs, &mut names)?;
+            let occurrences = Occurrences {
+                varied: found.varied,
+                shadowed: found.shadowed,
+                width,
+                part,
+                statement,
+            };
+            let is_adjointed = found.is_adjointed(statement)?;
+            let is_kept = found.is_kept(statement);
+            add_reads_if(occurrences, right, is_adjointed, &mut names)?;
+            add_terms_if(&target.subs, is_kept || is_adjointed, &mut names)?;
             Ok(names)
         }
         Act::If(_, _, _)
@@ -78,13 +104,7 @@ fn add_assigned(
 ) -> Result<(), Memory>
     ensures added { OnOk result (nodes.new.items ≡ nodes.old.items ++ flat_map (node_before setting.entry.width (row_of part.now) standing.now.number) (assigned_reads setting.entry.found setting.entry.width (row_of part.now) standing.now.number (act_of standing.now.act.now))) }
 {
-    let site = Site {
-        found: setting.found,
-        width: setting.width,
-        part,
-        number: standing.number,
-    };
-    let names = assigned(alloc, site, standing.act)?;
+    let names = assigned(alloc, setting.found, setting.width, part, standing)?;
     add_before(
         nodes,
         setting.width,
@@ -113,7 +133,7 @@ fn is_looked_at(
     let is_wanted = told(setting.found.entry, setting.width, dummy)?;
     let read = dummies_of(setting.sides.read, called.number);
     let is_read = flag_at(read, bound.place);
-    let is_turn = is_turn(place);
+    let is_turn = place.is_turn();
     Ok(is_wanted || is_turn && is_read)
 }
 
@@ -129,7 +149,7 @@ fn is_wanted(
     let is_looked_at = is_looked_at(setting, place, called, bound)?;
     let written = dummies_of(setting.sides.written, called.number);
     let is_written = flag_at(written, bound.place);
-    let is_turned = is_turned(place, bound.actual);
+    let is_turned = place.turns(bound.actual);
     Ok(!is_turned && (is_looked_at && !is_written))
 }
 
@@ -145,7 +165,7 @@ fn add_actuals(
     ensures added { OnOk result (nodes.new.items ≡ nodes.old.items ++ flat_map (λ b. list_if (is_wanted setting.entry.found setting.entry.sides setting.entry.width (place_of standing.now.place) (row_of called.now) b) (node_before setting.entry.width (row_of part.now) (site true standing.now.number (place_of standing.now.place)) b.2)) (map passed_of bounds.now)) }
 {
     let place = standing.place;
-    let point = number(Point::Before(site(true, standing.number, place)))?;
+    let point = number(Point::Before(place.site(true, standing.number)))?;
     for bound in bounds {
         let is_wanted = is_wanted(setting, place, called, *bound)?;
         let end = End {

@@ -10,11 +10,10 @@ ghost use Rattle.adj_flow.specs.View.{standing_of};
 ghost use Rattle.adj_tbr.specs.View.{find, kept_by};
 ghost use Rattle.adj_tbr.specs.Saves.{saved_node, own_saves, found_saves, call_saves, standing_saves, unit_saves, save_nodes};
 
-use crate::bound::handed;
 use crate::setting::Setting;
-use crate::sides::dummies_of;
-use crate::turns::site;
+use adj_flow::variables::add_handed;
 use adj_flow::{End, Flow, Part, Point, Standing, add_node, number, told};
+use adj_live::dummies_of;
 use adj_reach::flag_at;
 use adj_tree::{Act, Exprs, Memory, Name};
 use std::alloc::Global;
@@ -113,8 +112,9 @@ fn add_found(
     let is_kept = setting.found.is_kept(standing.number);
     if is_kept || is_adjointed {
         let written = dummies_of(setting.sides.written, called.number);
-        let names = handed(alloc, written, actuals)?;
-        let at = site(is_adjointed, standing.number, standing.place);
+        let mut names = Vec::new(alloc);
+        add_handed(written, actuals, &mut names)?;
+        let at = standing.place.site(is_adjointed, standing.number);
         add_all_saved(nodes, held, setting.width, part, at, names.as_slice())?;
     }
     Ok(())

@@ -16,5 +16,5 @@ loop-name-preserved c =
     let f = λ (v : Var). list_if (not (turned_by (place_of c.args.place) v)) (list_of (needed_here h c.args.point v)) in
     let x = c.name-item.result in
     flat_more (λ b. plain b.now) f c.args.names.now c.loop-name.name-index c.name-item.result c.loop-name.nodes.items c.add_variable.new.nodes.items c.loop-name-test.true c.name-item.is
-    (c.in_ok-add_variable.ensures.added ∙ ap (λ b. c.loop-name.nodes.items ++ list_if (not b) (list_of (needed_here h c.args.point (plain x.now)))) c.is_turned-is_wanted.ensures.is)
+    (c.in_ok-add_variable.ensures.added ∙ ap (λ b. c.loop-name.nodes.items ++ list_if (not b) (list_of (needed_here h c.args.point (plain x.now)))) c.turns-is_wanted.ensures.is)
     ∙ c.loop-name.invariant

@@ -3,7 +3,9 @@ use Rattle.std.specs.Prelude.{not}
 use Rattle.adj_tree.specs.Code.{Var, plain}
 use Rattle.adj_facts.specs.Ways.{assigned_on}
 use Rattle.adj_facts.specs.Variables.{list_if}
-use Rattle.adj_flow.specs.Nodes.{linked}
+use Rattle.adj_flow.specs.Nodes.{node_in, linked}
+use Rattle.adj_flow.specs.NodeView.{vars_of}
+use Rattle.adj_flow.specs.Rows.{row_of}
 use Rattle.adj_flow.specs.WayView.{number_of, deed_of}
 use Rattle.adj_writes.proofs.Stepping.{flat_more}
 use Rattle.adj_live.specs.Listed.{needed_here}
@@ -17,7 +19,9 @@ loop-name-preserved c =
     let x = c.name-item.result in
     let from = c.in_ok-number-2.ensures.number in
     let to = c.in_ok-number.ensures.number in
-    let carried = c.is_assigned-is_carried.ensures.is in
+    let carried = c.assigns-is_carried.ensures.is in
+    let s = c.in_ok-width.ensures.stride in
+    let vs = vars_of (row_of c.args.site.part.now) in
     flat_more (λ n. plain n) f c.as_slice-name-items.result.now c.loop-name.name-index c.name-item.result c.loop-name.edges.items c.add_carried.new.edges.items c.loop-name-test.true c.name-item.is
-    (c.in_ok-add_carried.ensures.added ∙ (λ i. c.loop-name.edges.items ++ list_if (not (carried i)) (linked (needed_here h (to i) (plain x)) (needed_here h (from i) (plain x)))))
+    (c.in_ok-add_carried.ensures.added ∙ (λ i. c.loop-name.edges.items ++ list_if (not (carried i)) (linked (node_in (s i) vs (to i, plain x)) (node_in (s i) vs (from i, plain x)))))
     ∙ c.loop-name.invariant

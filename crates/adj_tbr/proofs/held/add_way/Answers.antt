@@ -19,6 +19,6 @@ loop-name-preserved c =
     let from = c.in_ok-number.ensures.number in
     let to = c.in_ok-number-2.ensures.number in
     let replaced = c.is_replaced-is_replaced.ensures.replaced in
-    flat_more (λ n. plain n) f c.as_slice-name-items.result.now c.loop-name.name-index c.name-item.result c.loop-name.edges.items c.add_variable.new.edges.items c.loop-name-test.true c.name-item.is
-    (c.in_ok-add_variable.ensures.added ∙ (λ i. c.loop-name.edges.items ++ list_if (not (replaced i)) (linked (node_in c.args.width vs (from i, plain x)) (node_in c.args.width vs (to i, plain x)))))
+    flat_more (λ n. plain n) f c.as_slice-name-items.result.now c.loop-name.name-index c.name-item.result c.loop-name.edges.items c.add_carried.new.edges.items c.loop-name-test.true c.name-item.is
+    (c.in_ok-add_carried.ensures.added ∙ (λ i. c.loop-name.edges.items ++ list_if (not (replaced i)) (linked (node_in c.args.width vs (from i, plain x)) (node_in c.args.width vs (to i, plain x)))))
     ∙ c.loop-name.invariant
