@@ -4,34 +4,41 @@ use adj_fixed::{Mode, statements};
 use adj_kernels::kernel;
 use adj_parse::program;
 use adj_print::text;
-use adj_tree::Fault;
+use adj_tree::{Fault, Program};
 use std::alloc::Global;
-use std::test::Fail;
+
+/// The program of a text.
+pub(crate) fn read(alloc: Global, source: &[u8]) -> Result<Program, Fault> {
+    let stated = statements(alloc, source, Mode::Source)?;
+    let read = program(alloc, stated.as_slice(), Mode::Source)?;
+    Ok(read)
+}
 
 // The text of the kernel of a program that is read from a text.
 fn kernel_text(alloc: Global, source: &[u8]) -> Result<Vec<u8>, Fault> {
-    let stated = statements(alloc, source, Mode::Source)?;
-    let read = program(alloc, stated.as_slice(), Mode::Source)?;
+    let read = read(alloc, source)?;
     let made = kernel(alloc, &read)?;
     let printed = text(alloc, &made)?;
     Ok(printed)
 }
 
-// Whether the kernel of the program of a text has another text.
+/// Whether the kernel of the program of a text has another text.
 pub(crate) fn becomes(alloc: Global, source: &[u8], expected: &[u8]) -> Result<bool, Fault> {
     let made = kernel_text(alloc, source)?;
     Ok(made.as_slice() == expected)
 }
 
-#[test]
-fn choices_become_ifs_and_locals_begin_again(rt: HostRuntime) -> Result<(), Fail> {
-    let source: &[u8] = b"      SUBROUTINE P(X,Y,ADV2)
+// What a program shows, its text and that of its kernel.
+const KERNELS: [(&str, &[u8], &[u8]); 3] = [
+    (
+        "choices become IFs, and locals begin again",
+        b"      SUBROUTINE P(X,Y,ADV2)
       INTEGER*8 X,Y,ADV2
       X=MAX(X,Y)
       X=ABS(Y)*MIN(1,Y)
       END
-";
-    let expected: &[u8] = b"      SUBROUTINE P(X,Y,ADV2)
+",
+        b"      SUBROUTINE P(X,Y,ADV2)
       INTEGER*8 X
       INTEGER*8 Y
       INTEGER*8 ADV2
@@ -55,14 +62,11 @@ fn choices_become_ifs_and_locals_begin_again(rt: HostRuntime) -> Result<(), Fail
       END IF
       X=ADV1*ADV2_1
       END
-";
-    assert!(rt; becomes(rt.alloc(), source, expected)?);
-    Ok(())
-}
-
-#[test]
-fn elements_are_set_apart_and_put_back(rt: HostRuntime) -> Result<(), Fail> {
-    let source: &[u8] = b"      SUBROUTINE P(A,I,J)
+",
+    ),
+    (
+        "elements are set apart and put back",
+        b"      SUBROUTINE P(A,I,J)
       INTEGER*8 A(9)
       A(A(I))=A(J)
       CALL G(A(I),A(J))
@@ -71,8 +75,8 @@ fn elements_are_set_apart_and_put_back(rt: HostRuntime) -> Result<(), Fail> {
       SUBROUTINE G(M,N)
       M=M+N
       END
-";
-    let expected: &[u8] = b"      SUBROUTINE P(A,I,J)
+",
+        b"      SUBROUTINE P(A,I,J)
       INTEGER*8 A(9)
       INTEGER*8 ADV1
       INTEGER*8 ADV2
@@ -90,15 +94,12 @@ fn elements_are_set_apart_and_put_back(rt: HostRuntime) -> Result<(), Fail> {
       SUBROUTINE G(M,N)
       M=M+N
       END
-";
-    assert!(rt; becomes(rt.alloc(), source, expected)?);
-    Ok(())
-}
-
-// U's extent is a name, and W, a local, has a literal one.
-#[test]
-fn bodies_of_marked_loops_become_units(rt: HostRuntime) -> Result<(), Fail> {
-    let source: &[u8] = b"      SUBROUTINE P(N,U,S)
+",
+    ),
+    // U's extent is a name, and W, a local, has a literal one.
+    (
+        "bodies of marked loops become units",
+        b"      SUBROUTINE P(N,U,S)
       INTEGER*8 N,U(N),S,W(3)
 C$AD BINOMIAL-CKP 2
       DO K=1,N
@@ -109,8 +110,8 @@ C$AD BINOMIAL-CKP M
       END DO
       END DO
       END
-";
-    let expected: &[u8] = b"      SUBROUTINE P(N,U,S)
+",
+        b"      SUBROUTINE P(N,U,S)
       INTEGER*8 N
       INTEGER*8 U(N)
       INTEGER*8 S
@@ -145,7 +146,14 @@ C$AD BINOMIAL-CKP M
       END IF
       S=S+ADV1
       END
-";
-    assert!(rt; becomes(rt.alloc(), source, expected)?);
+",
+    ),
+];
+
+#[test]
+fn each_program_has_its_kernel(rt: HostRuntime) -> Result<(), Fault> {
+    for (shows, source, expected) in KERNELS {
+        assert!(rt; becomes(rt.alloc(), source, expected)?, "{shows}");
+    }
     Ok(())
 }

@@ -1,63 +1,20 @@
 //! Statements and what becomes of them, worked out by hand by docs/KERNEL.md.
 
+use crate::kernels::read;
 use adj_naming::name_set::NameSet;
 use adj_norm::call::lower_call;
 use adj_norm::locals::Locals;
 use adj_norm::target::lower_assignment;
 use adj_print::text;
-use adj_tree::{Act, Expr, Exprs, Items, Memory, Name, Op, Place, Program, Stmt, Stmts, Unit};
+use adj_tree::{Act, Fault, Items, Memory, Name, Program, Stmt, Stmts, Unit};
 use std::alloc::Global;
-use std::test::Fail;
-
-fn named(alloc: Global, text: &[u8]) -> Result<Name, Memory> {
-    Name::from_slice(alloc, text)
-}
-
-fn scalar(alloc: Global, text: &[u8]) -> Result<Expr, Memory> {
-    Ok(Expr::Var(named(alloc, text)?))
-}
-
-fn only(alloc: Global, e: Expr) -> Result<Exprs, Memory> {
-    let first = Box::new(alloc, e)?;
-    Ok(Exprs::More(first, Box::new(alloc, Exprs::Empty)?))
-}
-
-// A(i)
-fn element(alloc: Global, subscript: Expr) -> Result<Expr, Memory> {
-    Ok(Expr::Elem(named(alloc, b"A")?, only(alloc, subscript)?))
-}
-
-fn binary(alloc: Global, op: Op, a: Expr, b: Expr) -> Result<Expr, Memory> {
-    let left = Box::new(alloc, a)?;
-    Ok(Expr::Bin(op, left, Box::new(alloc, b)?))
-}
-
-fn absolute(alloc: Global, a: Expr) -> Result<Expr, Memory> {
-    Ok(Expr::Abs(Box::new(alloc, a)?))
-}
-
-// X=e
-fn sets(alloc: Global, e: Expr) -> Result<Act, Memory> {
-    let place = Place {
-        name: named(alloc, b"X")?,
-        subs: Exprs::Empty,
-    };
-    Ok(Act::Assign(place, e))
-}
-
-// CALL G(a,b)
-fn calls(alloc: Global, a: Expr, b: Expr) -> Result<Act, Memory> {
-    let last = Box::new(alloc, only(alloc, b)?)?;
-    let actuals = Exprs::More(Box::new(alloc, a)?, last);
-    Ok(Act::Call(named(alloc, b"G")?, actuals))
-}
 
 // The text of a unit P with these statements and nothing else.
 fn written(alloc: Global, body: Stmts) -> Result<Vec<u8>, Memory> {
     let mut units = Vec::new(alloc);
     units.push(Unit {
         line: 1,
-        name: named(alloc, b"P")?,
+        name: Name::from_slice(alloc, b"P")?,
         dummies: Items::new(Vec::new(alloc)),
         none: false,
         decls: Items::new(Vec::new(alloc)),
@@ -85,32 +42,64 @@ fn lower_act(
     }
 }
 
-// What becomes of two statements, where ADV2 is taken.
-fn lowered(alloc: Global, first: Act, second: Act) -> Result<Vec<u8>, Memory> {
+// Writes what becomes of the first two statements of a list.
+fn lower_two(
+    alloc: Global,
+    locals: &mut Locals<'_>,
+    body: &Stmts,
+    steps: &mut Vec<Stmt>,
+) -> Result<(), Memory> {
+    if let Stmts::More(first, rest) = body {
+        let _ = lower_act(alloc, locals, &first.act, steps)?;
+        if let Stmts::More(second, _) = &**rest {
+            let _ = lower_act(alloc, locals, &second.act, steps)?;
+        }
+    }
+    Ok(())
+}
+
+// Writes what becomes of the first two statements of each unit.
+fn lower_units(
+    alloc: Global,
+    locals: &mut Locals<'_>,
+    program: &Program,
+    steps: &mut Vec<Stmt>,
+) -> Result<(), Memory> {
+    for unit in program.units.as_slice() {
+        lower_two(alloc, locals, &unit.body, steps)?;
+    }
+    Ok(())
+}
+
+fn taken(alloc: Global) -> Result<NameSet, Memory> {
     let mut taken = NameSet::new(alloc);
     taken.add(alloc, b"X")?;
     taken.add(alloc, b"ADV2")?;
-    let mut locals = Locals::new(alloc, &taken, &[])?;
-    let mut steps = Vec::new(alloc);
-    let _ = lower_act(alloc, &mut locals, &first, &mut steps)?;
-    let _ = lower_act(alloc, &mut locals, &second, &mut steps)?;
-    written(alloc, Stmts::from_vec(alloc, steps)?)
+    Ok(taken)
 }
 
-#[test]
-fn choices_become_ifs_and_locals_begin_again(rt: HostRuntime) -> Result<(), Fail> {
-    let alloc = rt.alloc();
-    let x = scalar(alloc, b"X")?;
-    let larger = binary(alloc, Op::Max, x, scalar(alloc, b"Y")?)?;
-    let smaller = binary(alloc, Op::Min, Expr::Lit(1), scalar(alloc, b"Y")?)?;
-    let product = binary(
-        alloc,
-        Op::Mul,
-        absolute(alloc, scalar(alloc, b"Y")?)?,
-        smaller,
-    )?;
-    let text = lowered(alloc, sets(alloc, larger)?, sets(alloc, product)?)?;
-    let expected: &[u8] = b"      SUBROUTINE P
+// What the two statements of a unit become, where ADV2 is taken.
+fn lowered(alloc: Global, program: &Program) -> Result<Stmts, Memory> {
+    let taken = taken(alloc)?;
+    let mut locals = Locals::new(alloc, &taken, &[])?;
+    let mut steps = Vec::new(alloc);
+    lower_units(alloc, &mut locals, program, &mut steps)?;
+    Stmts::from_vec(alloc, steps)
+}
+
+// The text of that.
+fn lowered_text(alloc: Global, source: &[u8]) -> Result<Vec<u8>, Fault> {
+    let program = read(alloc, source)?;
+    let body = lowered(alloc, &program)?;
+    Ok(written(alloc, body)?)
+}
+
+// What a unit of two statements shows, its text and that of what they become.
+const STATEMENTS: [(&str, &[u8], &[u8]); 3] = [
+    (
+        "choices become IFs, and locals begin again",
+        b"      SUBROUTINE P\n      X=MAX(X,Y)\n      X=ABS(Y)*MIN(1,Y)\n      END\n",
+        b"      SUBROUTINE P
       ADV1=X
       ADV2_1=Y
       IF (ADV1.LT.ADV2_1) THEN
@@ -128,24 +117,12 @@ fn choices_become_ifs_and_locals_begin_again(rt: HostRuntime) -> Result<(), Fail
       END IF
       X=ADV1*ADV2_1
       END
-";
-    assert!(rt; text.as_slice() == expected);
-    Ok(())
-}
-
-#[test]
-fn elements_are_set_apart_and_put_back(rt: HostRuntime) -> Result<(), Fail> {
-    let alloc = rt.alloc();
-    let inner = element(alloc, scalar(alloc, b"I")?)?;
-    let place = Place {
-        name: named(alloc, b"A")?,
-        subs: only(alloc, inner)?,
-    };
-    let value = element(alloc, scalar(alloc, b"J")?)?;
-    let first = element(alloc, scalar(alloc, b"I")?)?;
-    let call = calls(alloc, first, element(alloc, scalar(alloc, b"J")?)?)?;
-    let text = lowered(alloc, Act::Assign(place, value), call)?;
-    let expected: &[u8] = b"      SUBROUTINE P
+",
+    ),
+    (
+        "elements are set apart and put back",
+        b"      SUBROUTINE P\n      A(A(I))=A(J)\n      CALL G(A(I),A(J))\n      END\n",
+        b"      SUBROUTINE P
       ADV1=A(I)
       A(ADV1)=A(J)
       ADV1=I
@@ -154,18 +131,12 @@ fn elements_are_set_apart_and_put_back(rt: HostRuntime) -> Result<(), Fail> {
       CALL G(ADV2_1,ADV3)
       A(ADV1)=ADV2_1
       END
-";
-    assert!(rt; text.as_slice() == expected);
-    Ok(())
-}
-
-#[test]
-fn a_name_stands_once_in_a_call(rt: HostRuntime) -> Result<(), Fail> {
-    let alloc = rt.alloc();
-    let twice = calls(alloc, scalar(alloc, b"X")?, scalar(alloc, b"X")?)?;
-    let larger = binary(alloc, Op::Max, scalar(alloc, b"X")?, scalar(alloc, b"Y")?)?;
-    let text = lowered(alloc, twice, calls(alloc, larger, scalar(alloc, b"X")?)?)?;
-    let expected: &[u8] = b"      SUBROUTINE P
+",
+    ),
+    (
+        "a name stands once in a call",
+        b"      SUBROUTINE P\n      CALL G(X,X)\n      CALL G(MAX(X,Y),X)\n      END\n",
+        b"      SUBROUTINE P
       ADV1=X
       CALL G(X,ADV1)
       ADV1=X
@@ -175,7 +146,15 @@ fn a_name_stands_once_in_a_call(rt: HostRuntime) -> Result<(), Fail> {
       END IF
       CALL G(ADV1,X)
       END
-";
-    assert!(rt; text.as_slice() == expected);
+",
+    ),
+];
+
+#[test]
+fn each_statement_becomes_others(rt: HostRuntime) -> Result<(), Fault> {
+    for (shows, source, expected) in STATEMENTS {
+        let found = lowered_text(rt.alloc(), source)?;
+        assert!(rt; found.as_slice() == expected, "{shows}");
+    }
     Ok(())
 }

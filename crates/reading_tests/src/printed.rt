@@ -59,6 +59,52 @@ C$AD BINOMIAL-CKP 7
       END
 ";
 
+// The adjoint of a square with full marks.
+const SQUARE: &[u8] = b"      SUBROUTINE P_B(X,XB,Y,YB)
+      INTEGER*8 X
+      INTEGER*8 XB
+      INTEGER*8 Y
+      INTEGER*8 YB
+      INTEGER*8 ADW1
+      INTEGER*8 ADW2
+      CALL PUSHINTEGER8(Y)
+      Y=X*X
+      XB=0
+      CALL POPINTEGER8(Y)
+      ADW1=YB
+      YB=0
+      ADW2=ADW1*X
+      XB=XB+ADW2
+      ADW2=ADW1*X
+      XB=XB+ADW2
+      YB=0
+      END
+";
+
+// Directives with a number and with a name, loops in a loop, and branches of which a part is empty.
+const BLOCKS: &[u8] = b"      SUBROUTINE P_B
+      IMPLICIT NONE
+      DO I=1,N
+      END DO
+C$AD BINOMIAL-CKP 3
+      DO I=1,N,K
+      CALL PUSHINTEGER8(I)
+      END DO
+C$AD BINOMIAL-CKP M
+      DO I=1,N
+      DO WHILE (I.LT.N)
+      END DO
+      END DO
+      IF (A.LT.2) THEN
+      CALL ADEND
+      END IF
+      IF (A.LT.2) THEN
+      ELSE
+      A=3
+      END IF
+      END
+";
+
 // The same program in other words: labels, shared CONTINUE, ELSE IF, logical IF, blanks, small letters and comments.
 const FREE: &[u8] = b"C a comment
       subroutine p(a, n, x)
@@ -108,7 +154,9 @@ fn is_canonical(alloc: Global, bytes: &[u8]) -> Result<bool, Fault> {
 #[test]
 fn what_is_printed_reads_as_it_was_written(rt: HostRuntime) -> Result<(), Fault> {
     let alloc = rt.alloc();
-    assert!(rt; is_canonical(alloc, CANONICAL)?);
+    for text in [CANONICAL, SQUARE, BLOCKS] {
+        assert!(rt; is_canonical(alloc, text)?);
+    }
     let text = printed(alloc, FREE)?;
     assert!(rt; is_canonical(alloc, text.as_slice())?);
     Ok(())

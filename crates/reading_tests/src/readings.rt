@@ -8,8 +8,7 @@ use std::alloc::Global;
 
 // A body that is one statement or more, and its canonical text or its refusal. Line 1 is the SUBROUTINE of the unit round it.
 // A line that begins with a blank or is a directive stands as it is; any other begins in column 7.
-const ASSIGNMENTS: [(&str, &str); 54] = [
-    // assignments
+const SUMS: &[(&str, &str)] = &[
     ("X=A+B*C", "X=A+B*C"),
     ("X=(A+B)*C", "X=(A+B)*C"),
     ("X=A-B-C", "X=A-B-C"),
@@ -18,6 +17,8 @@ const ASSIGNMENTS: [(&str, &str); 54] = [
     ("X=A-(B+C)", "X=A-(B+C)"),
     ("X=A/B*C", "X=A/B*C"),
     ("X=A/(B*C)", "X=A/(B*C)"),
+    ("X=A*(B/C)", "X=A*(B/C)"),
+    ("X=MAX(A+10,B)", "X=MAX(A+10,B)"),
     ("X=A**2**1", "X=A**2"),
     ("X=(A**2)**3", "X=(A**2)**3"),
     ("X=-A+B", "X=-A+B"),
@@ -36,6 +37,9 @@ const ASSIGNMENTS: [(&str, &str); 54] = [
     ("X=A**63", "X=A**63"),
     ("X=A**64", "REFUSED 25 LINE 2\n"),
     ("X=A**(-1)", "REFUSED 25 LINE 2\n"),
+];
+
+const EXPONENTS: &[(&str, &str)] = &[
     ("X=A**N", "X=A**N"),
     ("X=A**(N+1)", "X=A**(N+1)"),
     ("X=A**2**N", "X=A**2**N"),
@@ -69,7 +73,7 @@ const ASSIGNMENTS: [(&str, &str); 54] = [
     ("X=A.LT.B", "REFUSED 4 LINE 2\n"),
 ];
 
-const CONDITIONS: [(&str, &str); 22] = [
+const CONDITIONS: &[(&str, &str)] = &[
     // calls
     ("CALL Q", "CALL Q"),
     ("CALL Q()", "CALL Q"),
@@ -108,7 +112,7 @@ const CONDITIONS: [(&str, &str); 22] = [
     ("IF (A.LT.B) GOTO 10", "REFUSED 3 LINE 2\n"),
 ];
 
-const BLOCKS: [(&str, &str); 34] = [
+const BLOCKS: &[(&str, &str)] = &[
     // blocks
     ("DO I=1,N\nEND DO", "DO I=1,N\nEND DO"),
     ("DO I=1,N,1\nEND DO", "DO I=1,N\nEND DO"),
@@ -178,7 +182,7 @@ const BLOCKS: [(&str, &str); 34] = [
     ("X=1\nC$AD BINOMIAL-CKP 7\nX=A+", "REFUSED 20 LINE 3\n"),
 ];
 
-const LOOPS: [(&str, &str); 21] = [
+const LOOPS: &[(&str, &str)] = &[
     // DO WHILE, and directives with a number or a name
     (
         "do while ((I.LT.N))\nI=I+1\nEND DO",
@@ -323,33 +327,11 @@ fn reads_as(alloc: Global, body: &str, expected: &str) -> Result<bool, Memory> {
 }
 
 #[test]
-fn assignments_read_as_their_trees(rt: HostRuntime) -> Result<(), Memory> {
-    for (body, expected) in ASSIGNMENTS {
-        assert!(rt; reads_as(rt.alloc(), body, expected)?, "{body}");
-    }
-    Ok(())
-}
-
-#[test]
-fn calls_and_conditions_read_as_their_trees(rt: HostRuntime) -> Result<(), Memory> {
-    for (body, expected) in CONDITIONS {
-        assert!(rt; reads_as(rt.alloc(), body, expected)?, "{body}");
-    }
-    Ok(())
-}
-
-#[test]
-fn blocks_read_as_their_trees(rt: HostRuntime) -> Result<(), Memory> {
-    for (body, expected) in BLOCKS {
-        assert!(rt; reads_as(rt.alloc(), body, expected)?, "{body}");
-    }
-    Ok(())
-}
-
-#[test]
-fn loops_and_declarations_read_as_their_trees(rt: HostRuntime) -> Result<(), Memory> {
-    for (body, expected) in LOOPS {
-        assert!(rt; reads_as(rt.alloc(), body, expected)?, "{body}");
+fn each_statement_reads_as_its_tree(rt: HostRuntime) -> Result<(), Memory> {
+    for readings in [SUMS, EXPONENTS, CONDITIONS, BLOCKS, LOOPS] {
+        for (body, expected) in readings {
+            assert!(rt; reads_as(rt.alloc(), body, expected)?, "{body}");
+        }
     }
     Ok(())
 }

@@ -1,52 +1,26 @@
-//! Statements in code, the names of a unit, and the text of what is emitted.
+//! The statements of a text, the names of a unit, and the text of what is emitted.
 
+use adj_fixed::{Mode, statements};
 use adj_helpers::callees::{Callee, Callees};
 use adj_naming::helper_set::HelperSet;
 use adj_naming::name_set::{NameSet, add_texts};
 use adj_naming::names::Names;
 use adj_naming::role::{Helper, Role};
+use adj_parse::program;
 use adj_print::text;
-use adj_tree::{
-    Act, Expr, Exprs, Items, Mark, Memory, Name, Op, Place, Program, Stmt, Stmts, Unit,
-};
+use adj_tree::{Fault, Items, Memory, Name, Program, Stmts, Unit};
 use std::alloc::Global;
 
-pub(crate) fn name(alloc: Global, text: &[u8]) -> Result<Name, Memory> {
+/// A program whose one unit has these statements.
+pub(crate) fn read(alloc: Global, lines: &str) -> Result<Program, Fault> {
+    let all = format!(in alloc; "      SUBROUTINE P\n{lines}      END\n")?;
+    let stated = statements(alloc, all.as_bytes(), Mode::Source)?;
+    let read = program(alloc, stated.as_slice(), Mode::Source)?;
+    Ok(read)
+}
+
+fn name(alloc: Global, text: &[u8]) -> Result<Name, Memory> {
     Name::from_slice(alloc, text)
-}
-
-pub(crate) fn var(alloc: Global, text: &[u8]) -> Result<Expr, Memory> {
-    Ok(Expr::Var(name(alloc, text)?))
-}
-
-pub(crate) fn binary(alloc: Global, a: Expr, op: Op, b: Expr) -> Result<Expr, Memory> {
-    Ok(Expr::Bin(op, Box::new(alloc, a)?, Box::new(alloc, b)?))
-}
-
-pub(crate) fn scalar(alloc: Global, text: &[u8]) -> Result<Place, Memory> {
-    Ok(Place {
-        name: name(alloc, text)?,
-        subs: Exprs::Empty,
-    })
-}
-
-/// A list of one statement.
-pub(crate) fn only(alloc: Global, act: Act) -> Result<Stmts, Memory> {
-    let stmt = Box::new(alloc, Stmt { line: 1, act })?;
-    Ok(Stmts::More(stmt, Box::new(alloc, Stmts::Empty)?))
-}
-
-/// DO I = 1, 3, step over a body.
-pub(crate) fn counted(alloc: Global, step: i64, body: Stmts) -> Result<Stmts, Memory> {
-    let act = Act::Loop(
-        name(alloc, b"I")?,
-        Expr::Lit(1),
-        Expr::Lit(3),
-        Expr::Lit(step),
-        body,
-        Mark::Plain,
-    );
-    only(alloc, act)
 }
 
 pub(crate) fn listed(alloc: Global, texts: &[&[u8]]) -> Result<Vec<Name>, Memory> {

@@ -1,14 +1,13 @@
 //! The sweeps of small bodies with full marks, against statements that were worked out by the rules of docs/EMITTED.md.
 
-use crate::built::{Called, counted, is_text, listed, names, no_callees, only, scalar, var};
+use crate::built::{Called, is_text, listed, names, no_callees, read};
 use adj_emission::bodies::Body;
 use adj_emission::plan::Plan;
 use adj_marking::Marking;
 use adj_naming::name_set::NameSet;
 use adj_naming::role::Role;
-use adj_tree::{Act, Cond, Expr, Memory, Rel, Stmts};
+use adj_tree::{Fault, Memory, Stmts};
 use std::alloc::Global;
-use std::test::Fail;
 
 // The scalars X, Y and I are the variables, and there are an IF and a loop.
 const SCALARS: Called<'static> = Called {
@@ -48,19 +47,12 @@ fn adjoint_of(alloc: Global, statements: &Stmts) -> Result<Stmts, Memory> {
     plan.adjoint_body(alloc, &body)
 }
 
-// X=1
-fn sets(alloc: Global) -> Result<Stmts, Memory> {
-    only(alloc, Act::Assign(scalar(alloc, b"X")?, Expr::Lit(1)))
-}
-
-// IF (Y.GT.0) X=1
-fn branch(alloc: Global) -> Result<Stmts, Memory> {
-    let left = Box::new(alloc, var(alloc, b"Y")?)?;
-    let test = Cond::Cmp(Rel::Gt, left, Box::new(alloc, Expr::Lit(0))?);
-    only(alloc, Act::If(test, sets(alloc)?, Stmts::Empty))
-}
-
-const BRANCH_ADJOINT: &str = "      IF (Y.GT.0) THEN
+// Statements and their adjoint.
+const BODIES: [(&str, &str); 2] = [
+    // the part of an IF that ran is told
+    (
+        "      IF (Y.GT.0) THEN\n      X=1\n      END IF\n",
+        "      IF (Y.GT.0) THEN
       CALL PUSHINTEGER8(X)
       X=1
       CALL PUSHCONTROL1B(1)
@@ -74,17 +66,12 @@ const BRANCH_ADJOINT: &str = "      IF (Y.GT.0) THEN
       XB=0
       END IF
       XB=0
-";
-
-#[test]
-fn the_part_of_an_if_that_ran_is_told(rt: HostRuntime) -> Result<(), Fail> {
-    let alloc = rt.alloc();
-    let code = adjoint_of(alloc, &branch(alloc)?)?;
-    assert!(rt; is_text(alloc, code, BRANCH_ADJOINT)?);
-    Ok(())
-}
-
-const LOOP_ADJOINT: &str = "      CALL PUSHINTEGER8(I)
+",
+    ),
+    // the turns of a loop are counted
+    (
+        "      DO I=1,3,2\n      X=1\n      END DO\n",
+        "      CALL PUSHINTEGER8(I)
       ADM1=1
       ADI1=2
       ADL1=0
@@ -108,12 +95,19 @@ const LOOP_ADJOINT: &str = "      CALL PUSHINTEGER8(I)
       CALL POPINTEGER8(I)
       IB=0
       XB=0
-";
+",
+    ),
+];
 
 #[test]
-fn the_turns_of_a_loop_are_counted(rt: HostRuntime) -> Result<(), Fail> {
+fn each_body_has_its_adjoint(rt: HostRuntime) -> Result<(), Fault> {
     let alloc = rt.alloc();
-    let code = adjoint_of(alloc, &counted(alloc, 2, sets(alloc)?)?)?;
-    assert!(rt; is_text(alloc, code, LOOP_ADJOINT)?);
+    for (statements, lines) in BODIES {
+        let program = read(alloc, statements)?;
+        for unit in program.units.as_slice() {
+            let code = adjoint_of(alloc, &unit.body)?;
+            assert!(rt; is_text(alloc, code, lines)?, "{statements}");
+        }
+    }
     Ok(())
 }

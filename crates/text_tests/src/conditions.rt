@@ -57,59 +57,63 @@ fn shown(alloc: Global, text: &str, limit: u32) -> Result<String, Memory>
     Ok(out)
 }
 
+// Texts, and what is shown of their conditions.
+const CONDITIONS: [(&str, &str); 18] = [
+    ("( A + B ) .LT. C", "(Lt (Add A B) C), 0"),
+    ("( A .LE. B ) ) X", "(Le A B), 2"),
+    ("( ( A ) .GT. ( B ) )", "(Gt A B), 0"),
+    ("( ( A ) * B .GT. C )", "(Gt (Mul A B) C), 0"),
+    (
+        ".NOT. ( A .LT. B .OR. C .LT. D )",
+        "Not (Or (Lt A B) (Lt C D)), 0",
+    ),
+    (
+        "A .LT. B .AND. C .GE. D .OR. E .EQ. F",
+        "(Or (And (Lt A B) (Ge C D)) (Eq E F)), 0",
+    ),
+    (
+        "A .LT. B .OR. .NOT. C .NE. D .AND. E .EQ. F , 1",
+        "(Or (Lt A B) (And Not (Ne C D) (Eq E F))), 2",
+    ),
+    (
+        "A .LT. B .OR. C .LT. D .OR. ( E .LT. F )",
+        "(Or (Or (Lt A B) (Lt C D)) (Lt E F)), 0",
+    ),
+    (
+        "A .LT. B + 1 + 1 + 1",
+        "(Lt A (Add (Add (Add B 1) 1) 1)), 0",
+    ),
+    ("A .LT. B + 1 + 1 + 1 + 1", "Deep, 0"),
+    ("A .LT. 9223372036854775808", "Large, 0"),
+    ("A .LT. B .AND. C .LT. D ** 64", "Exponent, 0"),
+    ("A .LT. B .LT. C", "none"),
+    ("A .LT. ( B .LT. C )", "none"),
+    (".NOT. .NOT. A .LT. B", "none"),
+    ("( A ) .AND. B .LT. C", "none"),
+    ("( A .LT. B", "none"),
+    ("A + B", "none"),
+];
+
 #[test]
 fn a_condition_is_read_at_the_front(rt: HostRuntime) -> Result<(), Fail> {
-    let cases = [
-        ("( A + B ) .LT. C", "(Lt (Add A B) C), 0"),
-        ("( A .LE. B ) ) X", "(Le A B), 2"),
-        ("( ( A ) .GT. ( B ) )", "(Gt A B), 0"),
-        ("( ( A ) * B .GT. C )", "(Gt (Mul A B) C), 0"),
-        (
-            ".NOT. ( A .LT. B .OR. C .LT. D )",
-            "Not (Or (Lt A B) (Lt C D)), 0",
-        ),
-        (
-            "A .LT. B .AND. C .GE. D .OR. E .EQ. F",
-            "(Or (And (Lt A B) (Ge C D)) (Eq E F)), 0",
-        ),
-        (
-            "A .LT. B .OR. .NOT. C .NE. D .AND. E .EQ. F , 1",
-            "(Or (Lt A B) (And Not (Ne C D) (Eq E F))), 2",
-        ),
-        (
-            "A .LT. B .OR. C .LT. D .OR. ( E .LT. F )",
-            "(Or (Or (Lt A B) (Lt C D)) (Lt E F)), 0",
-        ),
-        (
-            "A .LT. B + 1 + 1 + 1",
-            "(Lt A (Add (Add (Add B 1) 1) 1)), 0",
-        ),
-        ("A .LT. B + 1 + 1 + 1 + 1", "Deep, 0"),
-        ("A .LT. 9223372036854775808", "Large, 0"),
-        ("A .LT. B .AND. C .LT. D ** 64", "Exponent, 0"),
-        ("A .LT. B .LT. C", "none"),
-        ("A .LT. ( B .LT. C )", "none"),
-        (".NOT. .NOT. A .LT. B", "none"),
-        ("( A ) .AND. B .LT. C", "none"),
-        ("( A .LT. B", "none"),
-        ("A + B", "none"),
-    ];
-    for (text, want) in cases {
+    for (text, want) in CONDITIONS {
         let found = shown(rt.alloc(), text, 5)?;
         assert_eq!(rt; found.as_str(), want, "{text}");
     }
     Ok(())
 }
 
+// What stands 20,000 times in front, what is in it, what stands as often behind, and what is shown.
+const DEEP: [(&str, &str, &str, &str); 4] = [
+    ("( ", "A .LT. B", " )", "(Lt A B), 0"),
+    ("( ", "A", " ) .LT. B", "none"),
+    (".NOT. ( ", "A .LT. B", " )", "Deep, 0"),
+    ("A .LT. B .AND. ", "A .LT. B", "", "Deep, 0"),
+];
+
 #[test]
 fn a_deep_condition_is_read_without_recursion(rt: HostRuntime) -> Result<(), Fail> {
-    let cases = [
-        ("( ", "A .LT. B", " )", "(Lt A B), 0"),
-        ("( ", "A", " ) .LT. B", "none"),
-        (".NOT. ( ", "A .LT. B", " )", "Deep, 0"),
-        ("A .LT. B .AND. ", "A .LT. B", "", "Deep, 0"),
-    ];
-    for (front, inner, back, want) in cases {
+    for (front, inner, back, want) in DEEP {
         let mut text = String::new(rt.alloc());
         push_times(&mut text, front, 20_000)?;
         text.push_str(inner)?;

@@ -127,43 +127,45 @@ fn shown(alloc: Global, text: &str, limit: u32) -> Result<String, Memory>
     Ok(out)
 }
 
+// Texts, and what is shown of their expressions.
+const EXPRESSIONS: [(&str, &str); 32] = [
+    ("- A + B * C ** 2 ** 1", "(Add Neg A (Mul B (Pow 2 C))), 0"),
+    ("A ** ( 2 * 3 )", "(Pow 6 A), 0"),
+    ("A - B - C", "(Sub (Sub A B) C), 0"),
+    ("+ A / 2 , B", "(Quot A 2), 2"),
+    ("MAX ( A , B ) = 1", "(Max A B), 2"),
+    ("MIN0 ( A , MOD ( B , 3 ) )", "(Min A (Mod B 3)), 0"),
+    ("IABS ( - A )", "Abs Neg A, 0"),
+    ("A ( I , J + 1 ) )", "A@I@(Add J 1), 1"),
+    ("X ** 64", "Exponent, 0"),
+    ("X ** ( 1 - 2 )", "Exponent, 0"),
+    ("X ** ( - 1 ) ** 9223372036854775807", "Exponent, 0"),
+    ("X ** ( - 1 ) ** 9223372036854775806", "(Pow 1 X), 0"),
+    ("9223372036854775807", "9223372036854775807, 0"),
+    ("9223372036854775808", "Large, 0"),
+    ("X ** 9223372036854775808", "Large, 0"),
+    ("X ** N", "(Power X N), 0"),
+    ("X ** ( N + 1 )", "(Power X (Add N 1)), 0"),
+    ("X ** 2 ** N", "(Power X (Power 2 N)), 0"),
+    ("( X ** 2 ) ** N", "(Power (Pow 2 X) N), 0"),
+    ("- X ** N", "Neg (Power X N), 0"),
+    ("X ** ( 4 / 2 )", "(Power X (Quot 4 2)), 0"),
+    ("X ** ( N + 1 + 1 )", "(Power X (Add (Add N 1) 1)), 0"),
+    ("X ** ( N + 1 + 1 + 1 )", "Deep, 0"),
+    ("X ** ( N + 9223372036854775808 )", "Large, 0"),
+    ("X ** N ** 64", "Exponent, 0"),
+    ("A ( B + 1 + 1 )", "A@(Add (Add B 1) 1), 0"),
+    ("A ( B + 1 + 1 + 1 )", "Deep, 0"),
+    ("MOD ( A )", "none"),
+    ("A ( I , J , K )", "none"),
+    ("A ** - 1", "none"),
+    ("A B", "none"),
+    (")", "none"),
+];
+
 #[test]
 fn an_expression_is_read_at_the_front(rt: HostRuntime) -> Result<(), Fail> {
-    let cases = [
-        ("- A + B * C ** 2 ** 1", "(Add Neg A (Mul B (Pow 2 C))), 0"),
-        ("A ** ( 2 * 3 )", "(Pow 6 A), 0"),
-        ("A - B - C", "(Sub (Sub A B) C), 0"),
-        ("+ A / 2 , B", "(Quot A 2), 2"),
-        ("MAX ( A , B ) = 1", "(Max A B), 2"),
-        ("MIN0 ( A , MOD ( B , 3 ) )", "(Min A (Mod B 3)), 0"),
-        ("IABS ( - A )", "Abs Neg A, 0"),
-        ("A ( I , J + 1 ) )", "A@I@(Add J 1), 1"),
-        ("X ** 64", "Exponent, 0"),
-        ("X ** ( 1 - 2 )", "Exponent, 0"),
-        ("X ** ( - 1 ) ** 9223372036854775807", "Exponent, 0"),
-        ("X ** ( - 1 ) ** 9223372036854775806", "(Pow 1 X), 0"),
-        ("9223372036854775807", "9223372036854775807, 0"),
-        ("9223372036854775808", "Large, 0"),
-        ("X ** 9223372036854775808", "Large, 0"),
-        ("X ** N", "(Power X N), 0"),
-        ("X ** ( N + 1 )", "(Power X (Add N 1)), 0"),
-        ("X ** 2 ** N", "(Power X (Power 2 N)), 0"),
-        ("( X ** 2 ) ** N", "(Power (Pow 2 X) N), 0"),
-        ("- X ** N", "Neg (Power X N), 0"),
-        ("X ** ( 4 / 2 )", "(Power X (Quot 4 2)), 0"),
-        ("X ** ( N + 1 + 1 )", "(Power X (Add (Add N 1) 1)), 0"),
-        ("X ** ( N + 1 + 1 + 1 )", "Deep, 0"),
-        ("X ** ( N + 9223372036854775808 )", "Large, 0"),
-        ("X ** N ** 64", "Exponent, 0"),
-        ("A ( B + 1 + 1 )", "A@(Add (Add B 1) 1), 0"),
-        ("A ( B + 1 + 1 + 1 )", "Deep, 0"),
-        ("MOD ( A )", "none"),
-        ("A ( I , J , K )", "none"),
-        ("A ** - 1", "none"),
-        ("A B", "none"),
-        (")", "none"),
-    ];
-    for (text, want) in cases {
+    for (text, want) in EXPRESSIONS {
         let found = shown(rt.alloc(), text, 4)?;
         assert_eq!(rt; found.as_str(), want, "{text}");
     }
@@ -177,21 +179,23 @@ pub(crate) fn push_times(out: &mut String, part: &str, count: usize) -> Result<(
     Ok(())
 }
 
+// What stands 20,000 times in front, what is in it, what stands as often behind, and what is shown.
+const DEEP: [(&str, &str, &str, &str); 10] = [
+    ("( ", "A", " )", "A, 0"),
+    ("ABS ( ", "A", " )", "Deep, 0"),
+    ("MAX ( A , ", "A", " )", "Deep, 0"),
+    ("A + ", "A", "", "Deep, 0"),
+    ("A ** ", "1", "", "Deep, 0"),
+    ("1 ** ", "2", "", "(Pow 1 1), 0"),
+    ("A ** ( ", "B", " )", "Deep, 0"),
+    ("1 ** ( ", "2", " )", "(Pow 1 1), 0"),
+    ("A , ", "A", "", "A, 40000"),
+    ("( A , ", "A", "", "none"),
+];
+
 #[test]
 fn a_deep_expression_is_read_without_recursion(rt: HostRuntime) -> Result<(), Fail> {
-    let cases = [
-        ("( ", "A", " )", "A, 0"),
-        ("ABS ( ", "A", " )", "Deep, 0"),
-        ("MAX ( A , ", "A", " )", "Deep, 0"),
-        ("A + ", "A", "", "Deep, 0"),
-        ("A ** ", "1", "", "Deep, 0"),
-        ("1 ** ", "2", "", "(Pow 1 1), 0"),
-        ("A ** ( ", "B", " )", "Deep, 0"),
-        ("1 ** ( ", "2", " )", "(Pow 1 1), 0"),
-        ("A , ", "A", "", "A, 40000"),
-        ("( A , ", "A", "", "none"),
-    ];
-    for (front, inner, back, want) in cases {
+    for (front, inner, back, want) in DEEP {
         let mut text = String::new(rt.alloc());
         push_times(&mut text, front, 20_000)?;
         text.push_str(inner)?;

@@ -55,7 +55,10 @@ fn fault_of(alloc: Global, text: &str) -> (u8, u32) {
     }
 }
 
-const LOOPS: &str = "      subroutine p(n,k)
+// Texts, and what is shown of their statements.
+const TEXTS: [(&str, &str); 4] = [
+    (
+        "      subroutine p(n,k)
       INTEGER N,K
       K=0                                                               JUNK
       DO10I=1,2
@@ -64,9 +67,8 @@ const LOOPS: &str = "      subroutine p(n,k)
    10 CONTINUE
       RETURN
       END
-";
-
-const LOOPS_SHOWN: &str = "1 0 0 Subroutine: P ( N , K )
+",
+        "1 0 0 Subroutine: P ( N , K )
 2 0 0 Integer: N , K
 3 0 0 Assign: K = 0
 4 0 0 Do: 10 I = 1 , 2
@@ -75,9 +77,10 @@ const LOOPS_SHOWN: &str = "1 0 0 Subroutine: P ( N , K )
 7 10 0 Continue:
 8 0 0 Return:
 9 0 0 End:
-";
-
-const FORMS: &str = "C a comment\r
+",
+    ),
+    (
+        "C a comment\r
       IMPLICIT NONE\r
       INTEGER*08 A_1,B(3)
 c$ad  Binomial-Ckp 07
@@ -100,9 +103,8 @@ C within a statement
       CALL P
       END
 $DATA
-      GOTO 10";
-
-const FORMS_SHOWN: &str = "2 0 0 ImplicitNone:
+      GOTO 10",
+        "2 0 0 ImplicitNone:
 3 0 0 Integer: A_1 , B ( 3 )
 7 0 7 Do: 10 , I = A ( 1 ) , 2
 8 10 0 Continue:
@@ -118,31 +120,29 @@ const FORMS_SHOWN: &str = "2 0 0 ImplicitNone:
 20 0 0 EndDo:
 21 0 0 Call: P
 22 0 0 End:
-";
-
-const WHILES: &str = "C$Ad BINOMIAL-ckp  Max_n1  \r
+",
+    ),
+    (
+        "C$Ad BINOMIAL-ckp  Max_n1  \r
       DO 10, I=1,N
       DO WH ILE (K.LT.(N+1))
       END DO
 c$ad binomial-ckp c
 * another
       CALL P
-";
-
-const WHILES_SHOWN: &str = "2 0 MAX_N1 Do: 10 , I = 1 , N
+",
+        "2 0 MAX_N1 Do: 10 , I = 1 , N
 3 0 0 DoWhile: ( K .LT. ( N + 1 ) )
 4 0 0 EndDo:
 7 0 C Call: P
-";
+",
+    ),
+    ("", ""),
+];
 
 #[test]
 fn texts_give_their_statements(rt: HostRuntime) -> Result<(), Fail> {
-    for (text, want) in [
-        (LOOPS, LOOPS_SHOWN),
-        (FORMS, FORMS_SHOWN),
-        (WHILES, WHILES_SHOWN),
-        ("", ""),
-    ] {
+    for (text, want) in TEXTS {
         assert_eq!(rt; shown(rt.alloc(), text, Mode::Source)?.as_str(), want);
         assert_eq!(rt; shown(rt.alloc(), text, Mode::Run)?.as_str(), want);
     }
@@ -208,7 +208,8 @@ fn names_are_limited_by_mode(rt: HostRuntime) -> Result<(), Fail> {
     Ok(())
 }
 
-const FAULTS: &[(&str, u8, u32)] = &[
+// Texts, and the code and the line of their first fault.
+const LINES: &[(&str, u8, u32)] = &[
     // Code 1: columns 1 to 6, and a continuation of nothing.
     ("A     X=1", 1, 1),
     ("1A    X=1", 1, 1),
@@ -229,6 +230,9 @@ const FAULTS: &[(&str, u8, u32)] = &[
     ("      X=1\n     \u{1}1", 2, 2),
     ("      X=1\n     \u{7f}1", 2, 2),
     ("      X=\u{e9}", 2, 1),
+];
+
+const STATEMENTS: &[(&str, u8, u32)] = &[
     // Code 3: other statements.
     ("      GOTO 10", 3, 1),
     ("      GOTO (10", 3, 1),
@@ -265,6 +269,9 @@ const FAULTS: &[(&str, u8, u32)] = &[
         6,
         2,
     ),
+];
+
+const DIRECTIVES: &[(&str, u8, u32)] = &[
     // Code 20: directives.
     ("C$AD BINOMIAL-CKP 0\n      DOI=1,2", 20, 1),
     ("C$AD BINOMIAL-CKP 65\n      DOI=1,2", 20, 1),
@@ -305,24 +312,28 @@ const FAULTS: &[(&str, u8, u32)] = &[
 
 #[test]
 fn first_faults_stand_at_their_lines(rt: HostRuntime) {
-    for (text, code, line) in FAULTS {
-        assert_eq!(rt; fault_of(rt.alloc(), text), (*code, *line), "of {text:?}");
+    for faults in [LINES, STATEMENTS, DIRECTIVES] {
+        for (text, code, line) in faults {
+            assert_eq!(rt; fault_of(rt.alloc(), text), (*code, *line), "of {text:?}");
+        }
     }
 }
 
+// Texts, and where their data begin: the place and the line.
+const DATA: [(&str, (usize, u32)); 8] = [
+    ("", (0, 0)),
+    ("A", (1, 1)),
+    ("A\n", (2, 1)),
+    ("A\n\nB", (4, 3)),
+    ("$DATA", (5, 1)),
+    ("A\n$DATA\n", (8, 2)),
+    ("A\n$DATA  \r\nX 1\n", (11, 2)),
+    ("$data\n$DATAX\n$DATA\n$DATA\n", (19, 3)),
+];
+
 #[test]
 fn data_begin_behind_their_line(rt: HostRuntime) {
-    let texts = [
-        ("", (0, 0)),
-        ("A", (1, 1)),
-        ("A\n", (2, 1)),
-        ("A\n\nB", (4, 3)),
-        ("$DATA", (5, 1)),
-        ("A\n$DATA\n", (8, 2)),
-        ("A\n$DATA  \r\nX 1\n", (11, 2)),
-        ("$data\n$DATAX\n$DATA\n$DATA\n", (19, 3)),
-    ];
-    for (text, want) in texts {
+    for (text, want) in DATA {
         assert_eq!(rt; data_part(text.as_bytes()), want, "of {text:?}");
     }
 }
