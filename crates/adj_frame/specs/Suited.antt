@@ -49,19 +49,19 @@ abbrev mutual
 -- ---- cells
 
 -- how many cells each slot has
-abbrev pub counts_in : List Slot → List ℕ
-counts_in vs = map (λ (v : Slot). length v.cells.items) vs
+abbrev pub counts_in : {C : Type 0} → List (Slot C) → List ℕ
+counts_in {C} vs = map (λ (v : Slot C). length v.cells.items) vs
 
 -- where the variable has one of these names, it has one cell
 abbrev pub HasOneCell : List (List ℕ) → List ℕ → Var → Type 0
 HasOneCell names counts x = (i : ℕ) → i < length names → x ≡ var_at names i → slice_index_or counts i 0 ≡ 1
 
 -- an actual that is a whole variable has so many cells
-abbrev pub HasCells : List ℕ → CodeActual → ℕ → Type 0
+abbrev pub HasCells : {C : Type 0} → List ℕ → CodeActual C → ℕ → Type 0
 HasCells counts (actual.Whole i) n = slice_index_or counts i 0 ≡ n
 HasCells counts (actual.Cell i j w) n = Unit {0}
 HasCells counts (actual.Word w) n = Unit {0}
 
 -- each of so many dummies has as many cells as the whole variable that it gets
-abbrev pub AreAsLarge : ℕ → List ℕ → List CodeActual → List ℕ → Type 0
-AreAsLarge many counts all inner = (k : ℕ) (d : CodeActual) → k < many → k < length all → HasCells counts (slice_index_or all k d) (slice_index_or inner k 0)
+abbrev pub AreAsLarge : {C : Type 0} → ℕ → List ℕ → List (CodeActual C) → List ℕ → Type 0
+AreAsLarge {C} many counts all inner = (k : ℕ) (d : CodeActual C) → k < many → k < length all → HasCells counts (slice_index_or all k d) (slice_index_or inner k 0)

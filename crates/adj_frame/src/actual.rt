@@ -1,33 +1,34 @@
 //! Actuals of a call.
 
-ghost use Rattle.std.specs.Prelude.{◌≡◌, ℕ, ℤ, Option, IfOk, length};
+ghost use Rattle.std.specs.Prelude.{◌≡◌, ℕ, Option, IfOk, length};
 ghost use Rattle.adj_tree.specs.Code.{Var};
 ghost use Rattle.adj_meaning.specs.Store.{Shape, Store};
 ghost use Rattle.adj_meaning.specs.Units.{actual_of};
 ghost use Rattle.adj_frame.specs.Prepared.{term_in, IsTermBelow};
 ghost use Rattle.adj_frame.specs.Framed.{IsFrame};
-ghost use Rattle.adj_frame.specs.Shown.{on_words, Shows};
+ghost use Rattle.adj_frame.specs.Shown.{on_numbers, Shows};
 ghost use Rattle.adj_frame.specs.Called.{actual_in, word_of, result_as, IsActualBelow};
 
 use crate::frame::Frame;
 use crate::term::Term;
+use adj_number::Number;
 use adj_tree::Trap;
 
-/// What a dummy gets at a call: a whole variable, a cell of an array with its word, or the word of an expression.
+/// What a dummy gets at a call: a whole variable, a cell of an array with its number, or the value of an expression.
 #[derive(Clone, Copy)]
-pub enum Actual {
+pub enum Actual<N: Number> {
     Whole(usize),
-    Cell(usize, usize, i64),
-    Word(i64),
+    Cell(usize, usize, N),
+    Word(N),
 }
 
-impl<'a> Frame<'a> {
-    // The word of an expression, which has no place.
-    fn word(&self, term: &Term) -> Result<Actual, Trap>
+impl<'a, N: Number> Frame<'a, N> {
+    // The value of an expression, which has no place.
+    fn word(&self, term: &Term) -> Result<Actual<N>, Trap>
         requires framed { IsFrame self.now.names.now self.now.slots.items }
         requires below { IsTermBelow (length self.now.slots.items) term.now }
-        ensures word { (shape : Var → Shape) (room : Option ℕ) (level : ℕ) (s : Store ℤ) → Shows self.now.names.now self.now.slots.items shape s
-            → result_as (actual_in self.now.names.now shape s) result ≡ word_of (on_words shape room level) (term_in self.now.names.now term.now) s }
+        ensures word { (shape : Var → Shape) (room : Option ℕ) (level : ℕ) (s : Store N) → Shows N.numbers self.now.names.now self.now.slots.items shape s
+            → result_as (actual_in self.now.names.now shape s) result ≡ word_of (on_numbers N.numbers shape room level) (term_in self.now.names.now term.now) s }
         ensures below { IfOk result (λ a. IsActualBelow self.now.slots.items a) }
     {
         match self.value(term) {
@@ -37,11 +38,11 @@ impl<'a> Frame<'a> {
     }
 
     /// What an actual is. Its subscripts are evaluated here, and never again.
-    pub fn actual(&self, term: &Term) -> Result<Actual, Trap>
+    pub fn actual(&self, term: &Term) -> Result<Actual<N>, Trap>
         requires framed { IsFrame self.now.names.now self.now.slots.items }
         requires below { IsTermBelow (length self.now.slots.items) term.now }
-        ensures actual { (shape : Var → Shape) (room : Option ℕ) (level : ℕ) (s : Store ℤ) → Shows self.now.names.now self.now.slots.items shape s
-            → result_as (actual_in self.now.names.now shape s) result ≡ actual_of (on_words shape room level) (term_in self.now.names.now term.now) s }
+        ensures actual { (shape : Var → Shape) (room : Option ℕ) (level : ℕ) (s : Store N) → Shows N.numbers self.now.names.now self.now.slots.items shape s
+            → result_as (actual_in self.now.names.now shape s) result ≡ actual_of (on_numbers N.numbers shape room level) (term_in self.now.names.now term.now) s }
         ensures below { IfOk result (λ a. IsActualBelow self.now.slots.items a) }
     {
         match term {
@@ -59,11 +60,11 @@ impl<'a> Frame<'a> {
         }
     }
 
-    /// The word in the first cell of an actual.
-    pub(crate) fn first_of(&self, actual: Actual) -> i64
+    /// The number in the first cell of an actual.
+    pub(crate) fn first_of(&self, actual: Actual<N>) -> N
         requires framed { IsFrame self.now.names.now self.now.slots.items }
         requires below { IsActualBelow self.now.slots.items actual }
-        ensures { (shape : Var → Shape) (s : Store ℤ) → Shows self.now.names.now self.now.slots.items shape s
+        ensures { (shape : Var → Shape) (s : Store N) → Shows N.numbers self.now.names.now self.now.slots.items shape s
             → result ≡ (actual_in self.now.names.now shape s actual).cells 0 }
     {
         match actual {

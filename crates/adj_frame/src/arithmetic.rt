@@ -1,34 +1,57 @@
-//! Operations on words that may trap.
+//! Operations on numbers that may trap.
 
 ghost use Rattle.std.specs.Prelude.{◌≡◌};
 ghost use Rattle.adj_tree.specs.View.{op_of, rel_of};
-ghost use Rattle.adj_meaning.specs.Numbers.{words, operation, absolute, compares};
+ghost use Rattle.adj_meaning.specs.Numbers.{operation, absolute, compares};
 ghost use Rattle.adj_meaning.specs.Value.{exponent_of};
-ghost use Rattle.adj_frame.specs.Framed.{result_of};
+ghost use Rattle.adj_frame.specs.Framed.{result_of, number_found};
 
+use adj_number::Number;
 use adj_tree::{Op, Rel, Trap};
-use adj_word::{add, mul, neg, quot, rem, sub};
+use adj_word::{quot, rem};
+
+// A word that was found as a number, which has no tangent.
+fn quotient<N: Number>(found: Option<i64>) -> Result<N, Trap>
+    ensures { result_of result ≡ number_found N.numbers found }
+{
+    match found {
+        Some(word) => Ok(N::of_word(word)),
+        None => Err(Trap::Division),
+    }
+}
 
 /// An operation on its operands.
-pub(crate) fn operation(op: Op, left: i64, right: i64) -> Result<i64, Trap>
-    ensures { result_of result ≡ operation words (op_of op) left right }
+pub(crate) fn operation<N: Number>(op: Op, left: N, right: N) -> Result<N, Trap>
+    ensures { result_of result ≡ operation N.numbers (op_of op) left right }
 {
     match op {
-        Op::Add => Ok(add(left, right)),
-        Op::Sub => Ok(sub(left, right)),
-        Op::Mul => Ok(mul(left, right)),
-        Op::Quot => quot(left, right).ok_or(Trap::Division),
-        Op::Mod => rem(left, right).ok_or(Trap::Division),
-        Op::Max => Ok(if left < right { right } else { left }),
-        Op::Min => Ok(if right < left { right } else { left }),
+        Op::Add => Ok(left.sum(right)),
+        Op::Sub => Ok(left.difference(right)),
+        Op::Mul => Ok(left.product(right)),
+        Op::Quot => quotient(quot(left.word(), right.word())),
+        Op::Mod => quotient(rem(left.word(), right.word())),
+        Op::Max => Ok(if left.word() < right.word() {
+            right
+        } else {
+            left
+        }),
+        Op::Min => Ok(if right.word() < left.word() {
+            right
+        } else {
+            left
+        }),
     }
 }
 
 /// ABS: the negation where the argument is below 0.
-pub(crate) fn absolute(number: i64) -> i64
-    ensures { result ≡ absolute words number }
+pub(crate) fn absolute<N: Number>(number: N) -> N
+    ensures { result ≡ absolute N.numbers number }
 {
-    if number < 0 { neg(number) } else { number }
+    if number.word() < 0 {
+        number.negation()
+    } else {
+        number
+    }
 }
 
 /// An exponent that was evaluated.

@@ -1,56 +1,56 @@
 //! An entry of a unit: a slot for each of its variables.
 
-ghost use Rattle.std.specs.Prelude.{◌≡◌, ◌<◌, ◌∷◌, ℕ, ℤ, pos, IfOk, length, slice_index_or};
+ghost use Rattle.std.specs.Prelude.{◌≡◌, ◌<◌, ◌∷◌, ℕ, IfOk, length, slice_index_or};
 ghost use Rattle.adj_tree.specs.Code.{Var};
 ghost use Rattle.adj_meaning.specs.Store.{Shape, Store, set, set_all};
 ghost use Rattle.adj_meaning.specs.Trap.{then_ok};
 ghost use Rattle.adj_meaning.specs.Value.{value, values, cell_at, target, holds};
 ghost use Rattle.adj_frame.specs.Prepared.{var_at, term_in, terms_in, test_in, IsTermBelow, AreTermsBelow, IsTestBelow};
 ghost use Rattle.adj_frame.specs.declared.slot.Slot.{Slot};
-ghost use Rattle.adj_frame.specs.Framed.{result_of, IsFrame, store_in, setting_in_slots};
+ghost use Rattle.adj_frame.specs.Framed.{result_of, IsFrame, zero_in, store_in, setting_in_slots};
 ghost use Rattle.adj_frame.specs.Shown.{Shows};
 ghost use Rattle.adj_frame.specs.Suited.{counts_in};
 
 use crate::arithmetic::{absolute, compares, exponent, operation};
 use crate::slot::Slot;
 use crate::term::{Term, Terms, Test};
+use adj_number::Number;
 use adj_tree::{NameList, Trap};
-use adj_word::{neg, pow};
 
 /// The slots of an entry, by the numbers of its unit's variables.
 #[derive(Drop)]
-pub struct Frame<'a> {
+pub struct Frame<'a, N: Number> {
     pub names: &'a NameList,
-    pub slots: Vec<Slot>,
+    pub slots: Vec<Slot<N>>,
 }
 
-impl<'a> Frame<'a> {
+impl<'a, N: Number> Frame<'a, N> {
     /// The value of an expression.
     #[cycle(value)]
-    pub fn value(&self, term: &Term) -> Result<i64, Trap>
+    pub fn value(&self, term: &Term) -> Result<N, Trap>
         requires framed { IsFrame self.now.names.now self.now.slots.items }
         requires below { IsTermBelow (length self.now.slots.items) term.now }
-        ensures value { let n = setting_in_slots self.now.names.now self.now.slots.items in
-            result_of result ≡ value n (term_in self.now.names.now term.now) (store_in self.now.names.now self.now.slots.items) }
+        ensures value { let n = setting_in_slots N.numbers self.now.names.now self.now.slots.items in
+            result_of result ≡ value n (term_in self.now.names.now term.now) (store_in N.numbers self.now.names.now self.now.slots.items) }
     {
         match term {
-            Term::Lit(number) => Ok(*number),
+            Term::Lit(word) => Ok(N::of_word(*word)),
             Term::Var(i) => Ok(self.slots[*i].first()),
             Term::Elem(i, subs) => {
                 let cell = self.cell(*i, subs)?;
                 Ok(self.slots[*i].cells[cell])
             }
-            Term::Neg(a) => Ok(neg(self.value(a)?)),
+            Term::Neg(a) => Ok(self.value(a)?.negation()),
             Term::Bin(op, a, b) => {
                 let left = self.value(a)?;
                 let right = self.value(b)?;
                 operation(*op, left, right)
             }
-            Term::Pow(a, power) => Ok(pow(self.value(a)?, *power)),
+            Term::Pow(a, power) => Ok(self.value(a)?.power(*power)),
             Term::Power(a, b) => {
                 let base = self.value(a)?;
-                let power = exponent(self.value(b)?)?;
-                Ok(pow(base, power))
+                let power = exponent(self.value(b)?.word())?;
+                Ok(base.power(power))
             }
             Term::Abs(a) => Ok(absolute(self.value(a)?)),
         }
@@ -62,13 +62,13 @@ impl<'a> Frame<'a> {
         requires framed { IsFrame self.now.names.now self.now.slots.items }
         requires there { i < length self.now.slots.items }
         requires below { AreTermsBelow (length self.now.slots.items) subs.now }
-        ensures cell { let n = setting_in_slots self.now.names.now self.now.slots.items in
-            result_of result ≡ then_ok (values n (terms_in self.now.names.now subs.now) (store_in self.now.names.now self.now.slots.items)) (λ is. cell_at n (var_at self.now.names.now i) is) }
+        ensures cell { let n = setting_in_slots N.numbers self.now.names.now self.now.slots.items in
+            result_of result ≡ then_ok (values n (terms_in self.now.names.now subs.now) (store_in N.numbers self.now.names.now self.now.slots.items)) (λ is. cell_at n (var_at self.now.names.now i) is) }
     {
         match subs {
             Terms::Empty => Err(Trap::Index),
             Terms::More(first, rest) => {
-                let row = self.value(first)?;
+                let row = self.value(first)?.word();
                 self.cell_behind(i, row, rest)
             }
         }
@@ -80,13 +80,13 @@ impl<'a> Frame<'a> {
         requires framed { IsFrame self.now.names.now self.now.slots.items }
         requires there { i < length self.now.slots.items }
         requires below { AreTermsBelow (length self.now.slots.items) rest.now }
-        ensures cell { let n = setting_in_slots self.now.names.now self.now.slots.items in
-            result_of result ≡ then_ok (values n (terms_in self.now.names.now rest.now) (store_in self.now.names.now self.now.slots.items)) (λ is. cell_at n (var_at self.now.names.now i) (row ∷ is)) }
+        ensures cell { let n = setting_in_slots N.numbers self.now.names.now self.now.slots.items in
+            result_of result ≡ then_ok (values n (terms_in self.now.names.now rest.now) (store_in N.numbers self.now.names.now self.now.slots.items)) (λ is. cell_at n (var_at self.now.names.now i) (row ∷ is)) }
     {
         match rest {
             Terms::Empty => self.slots[i].in_list(row),
             Terms::More(second, others) => {
-                let column = self.value(second)?;
+                let column = self.value(second)?.word();
                 match &**others {
                     Terms::Empty => self.slots[i].in_table(row, column),
                     Terms::More(_, _) => {
@@ -103,8 +103,8 @@ impl<'a> Frame<'a> {
     fn each_value(&self, terms: &Terms) -> Result<(), Trap>
         requires framed { IsFrame self.now.names.now self.now.slots.items }
         requires below { AreTermsBelow (length self.now.slots.items) terms.now }
-        ensures traps { let n = setting_in_slots self.now.names.now self.now.slots.items in
-            result_of result ≡ then_ok (values n (terms_in self.now.names.now terms.now) (store_in self.now.names.now self.now.slots.items)) (λ is. Ok (tt {0})) }
+        ensures traps { let n = setting_in_slots N.numbers self.now.names.now self.now.slots.items in
+            result_of result ≡ then_ok (values n (terms_in self.now.names.now terms.now) (store_in N.numbers self.now.names.now self.now.slots.items)) (λ is. Ok (tt {0})) }
     {
         let mut current = terms;
         while let Terms::More(first, rest) = current {
@@ -118,14 +118,14 @@ impl<'a> Frame<'a> {
     pub fn holds(&self, test: &Test) -> Result<bool, Trap>
         requires framed { IsFrame self.now.names.now self.now.slots.items }
         requires below { IsTestBelow (length self.now.slots.items) test.now }
-        ensures holds { let n = setting_in_slots self.now.names.now self.now.slots.items in
-            result_of result ≡ holds n (test_in self.now.names.now test.now) (store_in self.now.names.now self.now.slots.items) }
+        ensures holds { let n = setting_in_slots N.numbers self.now.names.now self.now.slots.items in
+            result_of result ≡ holds n (test_in self.now.names.now test.now) (store_in N.numbers self.now.names.now self.now.slots.items) }
     {
         match test {
             Test::Cmp(rel, a, b) => {
                 let left = self.value(a)?;
                 let right = self.value(b)?;
-                Ok(compares(*rel, left, right))
+                Ok(compares(*rel, left.word(), right.word()))
             }
             Test::Not(c) => Ok(!self.holds(c)?),
             Test::And(c, d) => {
@@ -146,9 +146,9 @@ impl<'a> Frame<'a> {
         requires framed { IsFrame self.now.names.now self.now.slots.items }
         requires there { i < length self.now.slots.items }
         requires below { AreTermsBelow (length self.now.slots.items) subs.now }
-        ensures cell { let n = setting_in_slots self.now.names.now self.now.slots.items in
-            result_of result ≡ target n (var_at self.now.names.now i) (terms_in self.now.names.now subs.now) (store_in self.now.names.now self.now.slots.items) }
-        ensures within { IfOk result (λ j. (d : Slot) → j < length (slice_index_or self.now.slots.items i d).cells.items) }
+        ensures cell { let n = setting_in_slots N.numbers self.now.names.now self.now.slots.items in
+            result_of result ≡ target n (var_at self.now.names.now i) (terms_in self.now.names.now subs.now) (store_in N.numbers self.now.names.now self.now.slots.items) }
+        ensures within { IfOk result (λ j. (d : Slot N) → j < length (slice_index_or self.now.slots.items i d).cells.items) }
     {
         match subs {
             Terms::Empty => Ok(0),
@@ -156,20 +156,20 @@ impl<'a> Frame<'a> {
         }
     }
 
-    /// Puts a word into a cell.
-    pub fn set(&mut self, i: usize, cell: usize, word: i64)
+    /// Puts a number into a cell.
+    pub fn set(&mut self, i: usize, cell: usize, number: N)
         requires framed { IsFrame self.old.names.now self.old.slots.items }
         requires there { i < length self.old.slots.items }
-        requires within { (d : Slot) → cell < length (slice_index_or self.old.slots.items i d).cells.items }
+        requires within { (d : Slot N) → cell < length (slice_index_or self.old.slots.items i d).cells.items }
         ensures names { self.new.names.now ≡ self.old.names.now }
         ensures framed { IsFrame self.old.names.now self.new.slots.items }
-        ensures sized { (j : ℕ) (d : Slot) → length (slice_index_or self.new.slots.items j d).cells.items ≡ length (slice_index_or self.old.slots.items j d).cells.items }
+        ensures sized { (j : ℕ) (d : Slot N) → length (slice_index_or self.new.slots.items j d).cells.items ≡ length (slice_index_or self.old.slots.items j d).cells.items }
         ensures counts { counts_in self.new.slots.items ≡ counts_in self.old.slots.items }
-        ensures shown { (shape : Var → Shape) (s : Store ℤ) → Shows self.old.names.now self.old.slots.items shape s
-            → Shows self.old.names.now self.new.slots.items shape (set s (var_at self.old.names.now i) cell word) }
+        ensures shown { (shape : Var → Shape) (s : Store N) → Shows N.numbers self.old.names.now self.old.slots.items shape s
+            → Shows N.numbers self.old.names.now self.new.slots.items shape (set s (var_at self.old.names.now i) cell number) }
     {
         let slot = &mut self.slots[i];
-        slot.cells[cell] = word;
+        slot.cells[cell] = number;
     }
 
     /// Puts 0 into each cell of a variable.
@@ -179,8 +179,8 @@ impl<'a> Frame<'a> {
         ensures names { self.new.names.now ≡ self.old.names.now }
         ensures framed { IsFrame self.old.names.now self.new.slots.items }
         ensures counts { counts_in self.new.slots.items ≡ counts_in self.old.slots.items }
-        ensures shown { (shape : Var → Shape) (s : Store ℤ) → Shows self.old.names.now self.old.slots.items shape s
-            → Shows self.old.names.now self.new.slots.items shape (set_all s (var_at self.old.names.now i) (λ j. pos 0)) }
+        ensures shown { (shape : Var → Shape) (s : Store N) → Shows N.numbers self.old.names.now self.old.slots.items shape s
+            → Shows N.numbers self.old.names.now self.new.slots.items shape (set_all s (var_at self.old.names.now i) (λ j. zero_in N.numbers)) }
     {
         self.slots[i].clear();
     }

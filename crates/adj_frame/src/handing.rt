@@ -1,11 +1,11 @@
 //! What a unit that was called hands back.
 
-ghost use Rattle.std.specs.Prelude.{◌≡◌, ◌<◌, ℕ, ℤ, pos, length, slice_index_or, true};
+ghost use Rattle.std.specs.Prelude.{◌≡◌, ◌<◌, ℕ, length, slice_index_or, true};
 ghost use Rattle.adj_tree.specs.Code.{Var};
 ghost use Rattle.adj_meaning.specs.Store.{Shape, size_of, Store};
 ghost use Rattle.adj_meaning.specs.Units.{put, copied_out};
 ghost use Rattle.adj_frame.specs.declared.slot.Slot.{Slot as ASlot};
-ghost use Rattle.adj_frame.specs.Framed.{IsSlot, IsFrame, slot_shape};
+ghost use Rattle.adj_frame.specs.Framed.{IsSlot, IsFrame, slot_shape, zero_in};
 ghost use Rattle.adj_frame.specs.Shown.{Shows};
 ghost use Rattle.adj_frame.specs.Called.{actuals_in, place_of, is_written_at, handed, IsActualBelow, AreActualsBelow, IsLaidOut};
 ghost use Rattle.adj_frame.specs.Suited.{counts_in, HasCells, AreAsLarge};
@@ -14,6 +14,7 @@ use crate::actual::Actual;
 use crate::frame::Frame;
 use crate::routine::Routine;
 use crate::slot::Slot;
+use adj_number::Number;
 
 // Whether the variable of a number is a dummy that is written.
 fn is_written(routine: &Routine<'_>, i: usize) -> bool
@@ -23,9 +24,9 @@ fn is_written(routine: &Routine<'_>, i: usize) -> bool
     i < routine.unit.dummies.as_slice().len() && i < writes.len() && writes[i]
 }
 
-impl<'a> Frame<'a> {
+impl<'a, N: Number> Frame<'a, N> {
     // Copies a dummy out to the place of its actual, which has as many cells where it is a whole variable.
-    fn hand_one(&mut self, actual: Actual, slot: &Slot)
+    fn hand_one(&mut self, actual: Actual<N>, slot: &Slot<N>)
         requires framed { IsFrame self.old.names.now self.old.slots.items }
         requires below { IsActualBelow self.old.slots.items actual }
         requires sized { IsSlot slot.now }
@@ -33,11 +34,11 @@ impl<'a> Frame<'a> {
         ensures names { self.new.names.now ≡ self.old.names.now }
         ensures framed { IsFrame self.old.names.now self.new.slots.items }
         ensures count { length self.new.slots.items ≡ length self.old.slots.items }
-        ensures cells { (j : ℕ) (d : ASlot) → length (slice_index_or self.new.slots.items j d).cells.items ≡ length (slice_index_or self.old.slots.items j d).cells.items }
+        ensures cells { (j : ℕ) (d : ASlot N) → length (slice_index_or self.new.slots.items j d).cells.items ≡ length (slice_index_or self.old.slots.items j d).cells.items }
         ensures counts { counts_in self.new.slots.items ≡ counts_in self.old.slots.items }
-        ensures put { (shape : Var → Shape) (s : Store ℤ) (cs : ℕ → ℤ) → Shows self.old.names.now self.old.slots.items shape s
-            → ((j : ℕ) → j < size_of (slot_shape slot.now) → cs j ≡ slice_index_or slot.now.cells.items j (pos 0))
-            → Shows self.old.names.now self.new.slots.items shape (put (place_of self.old.names.now actual) cs s) }
+        ensures put { (shape : Var → Shape) (s : Store N) (cs : ℕ → N) → Shows N.numbers self.old.names.now self.old.slots.items shape s
+            → ((j : ℕ) → j < size_of (slot_shape slot.now) → cs j ≡ slice_index_or slot.now.cells.items j (zero_in N.numbers))
+            → Shows N.numbers self.old.names.now self.new.slots.items shape (put (place_of self.old.names.now actual) cs s) }
     {
         match actual {
             Actual::Whole(i) => {
@@ -50,7 +51,7 @@ impl<'a> Frame<'a> {
     }
 
     // Copies the dummy of a number out, where it is written.
-    fn hand_next(&mut self, routine: &Routine<'_>, actual: Actual, i: usize, slots: &[Slot])
+    fn hand_next(&mut self, routine: &Routine<'_>, actual: Actual<N>, i: usize, slots: &[Slot<N>])
         requires framed { IsFrame self.old.names.now self.old.slots.items }
         requires below { IsActualBelow self.old.slots.items actual }
         requires laid { IsLaidOut routine.now }
@@ -59,10 +60,10 @@ impl<'a> Frame<'a> {
         ensures names { self.new.names.now ≡ self.old.names.now }
         ensures framed { IsFrame self.old.names.now self.new.slots.items }
         ensures count { length self.new.slots.items ≡ length self.old.slots.items }
-        ensures cells { (j : ℕ) (d : ASlot) → length (slice_index_or self.new.slots.items j d).cells.items ≡ length (slice_index_or self.old.slots.items j d).cells.items }
+        ensures cells { (j : ℕ) (d : ASlot N) → length (slice_index_or self.new.slots.items j d).cells.items ≡ length (slice_index_or self.old.slots.items j d).cells.items }
         ensures counts { counts_in self.new.slots.items ≡ counts_in self.old.slots.items }
-        ensures handed { (shape inside : Var → Shape) (s t : Store ℤ) → Shows self.old.names.now self.old.slots.items shape s → Shows routine.now.names slots.now inside t
-            → Shows self.old.names.now self.new.slots.items shape (handed routine.now i (place_of self.old.names.now actual) t s) }
+        ensures handed { (shape inside : Var → Shape) (s t : Store N) → Shows N.numbers self.old.names.now self.old.slots.items shape s → Shows N.numbers routine.now.names slots.now inside t
+            → Shows N.numbers self.old.names.now self.new.slots.items shape (handed routine.now i (place_of self.old.names.now actual) t s) }
     {
         if is_written(routine, i) {
             self.hand_one(actual, &slots[i]);
@@ -70,7 +71,7 @@ impl<'a> Frame<'a> {
     }
 
     /// Copies the dummies that are written out to their actuals, in order. A whole variable has as many cells as its dummy.
-    pub fn hand_back(&mut self, routine: &Routine<'_>, actuals: &[Actual], slots: &[Slot])
+    pub fn hand_back(&mut self, routine: &Routine<'_>, actuals: &[Actual<N>], slots: &[Slot<N>])
         requires framed { IsFrame self.old.names.now self.old.slots.items }
         requires below { AreActualsBelow self.old.slots.items actuals.now }
         requires laid { IsLaidOut routine.now }
@@ -79,8 +80,8 @@ impl<'a> Frame<'a> {
         ensures names { self.new.names.now ≡ self.old.names.now }
         ensures framed { IsFrame self.old.names.now self.new.slots.items }
         ensures counts { counts_in self.new.slots.items ≡ counts_in self.old.slots.items }
-        ensures handed { (shape inside : Var → Shape) (s s0 t : Store ℤ) → Shows self.old.names.now self.old.slots.items shape s → Shows routine.now.names slots.now inside t
-            → Shows self.old.names.now self.new.slots.items shape (copied_out routine.now.unit.now.dummies routine.now.writes.now (actuals_in self.old.names.now shape s0 actuals.now) t s) }
+        ensures handed { (shape inside : Var → Shape) (s s0 t : Store N) → Shows N.numbers self.old.names.now self.old.slots.items shape s → Shows N.numbers routine.now.names slots.now inside t
+            → Shows N.numbers self.old.names.now self.new.slots.items shape (copied_out routine.now.unit.now.dummies routine.now.writes.now (actuals_in self.old.names.now shape s0 actuals.now) t s) }
     {
         for i in 0..actuals.len() {
             let actual = actuals[i];

@@ -1,13 +1,14 @@
 //! The extents of variables.
 
-ghost use Rattle.std.specs.Prelude.{◌≡◌, IfOk, pos, length, replicate};
+ghost use Rattle.std.specs.Prelude.{◌≡◌, IfOk, length, replicate};
 ghost use Rattle.adj_meaning.specs.Store.{size_of};
 ghost use Rattle.adj_word.specs.Word.{at_least_zero};
 ghost use Rattle.adj_meaning.specs.Units.{shape_of, are_extents, shape_fits};
-ghost use Rattle.adj_frame.specs.Framed.{IsSlot, slot_shape};
+ghost use Rattle.adj_frame.specs.Framed.{IsSlot, slot_shape, zero_in};
 ghost use Rattle.adj_frame.specs.Called.{words_in};
 
 use crate::slot::Slot;
+use adj_number::Number;
 use adj_tree::Memory;
 use std::alloc::Global;
 
@@ -65,7 +66,7 @@ impl Area {
     }
 
     /// Whether a dummy array of these extents fits the slot of its actual.
-    pub(crate) fn fits(&self, slot: &Slot) -> bool
+    pub(crate) fn fits<N: Number>(&self, slot: &Slot<N>) -> bool
         requires { IsSlot slot.now }
         ensures { result ≡ shape_fits (words_in self.now) (slot_shape slot.now) }
     {
@@ -75,14 +76,14 @@ impl Area {
     }
 
     /// A slot of these extents whose cells are 0.
-    pub(crate) fn zeros(&self, alloc: Global) -> Result<Slot, Memory>
+    pub(crate) fn zeros<N: Number>(&self, alloc: Global) -> Result<Slot<N>, Memory>
         ensures shape { IfOk result (λ v. slot_shape v ≡ shape_of (words_in self.now)) }
         ensures sized { IfOk result (λ v. IsSlot v) }
-        ensures zeros { IfOk result (λ v. v.cells.items ≡ replicate (length v.cells.items) (pos 0)) }
+        ensures zeros { IfOk result (λ v. v.cells.items ≡ replicate (length v.cells.items) (zero_in N.numbers)) }
     {
         let (rows, cols) = self.shape();
         let count = count_of(rows, cols)?;
-        let cells = vec![in alloc; 0; count]?;
+        let cells = vec![in alloc; N::of_word(0); count]?;
         Ok(Slot { rows, cols, cells })
     }
 }

@@ -1,18 +1,20 @@
 //! What a variable holds.
 
-ghost use Rattle.std.specs.Prelude.{◌≡◌, ◌<◌, ◌∷◌, [], pos, length, replicate, slice_index_or, IfOk};
+ghost use Rattle.std.specs.Prelude.{◌≡◌, ◌<◌, ◌∷◌, [], length, replicate, slice_index_or, IfOk};
 ghost use Rattle.adj_meaning.specs.Trap.{index, or_trap};
 ghost use Rattle.adj_meaning.specs.Store.{within, cell_of};
-ghost use Rattle.adj_frame.specs.Framed.{result_of, slot_shape, IsSlot};
+ghost use Rattle.adj_frame.specs.Framed.{result_of, slot_shape, IsSlot, zero_in};
 
+use adj_number::Number;
 use adj_tree::{Memory, Trap};
+use std::alloc::Global;
 
 /// Rows, columns and cells, column by column. A scalar has no rows, no columns and one cell, a list no columns.
 #[derive(Drop)]
-pub struct Slot {
+pub struct Slot<N: Number> {
     pub rows: usize,
     pub cols: usize,
-    pub cells: Vec<i64>,
+    pub cells: Vec<N>,
 }
 
 // A subscript that lies within its extent, counted from 0.
@@ -25,11 +27,11 @@ fn within(subscript: i64, extent: usize) -> Option<usize>
     }
 }
 
-impl Slot {
+impl<N: Number> Slot<N> {
     /// The value of a scalar.
-    pub fn first(&self) -> i64
+    pub fn first(&self) -> N
         requires { IsSlot self.now }
-        ensures { result ≡ slice_index_or self.now.cells.items 0 (pos 0) }
+        ensures { result ≡ slice_index_or self.now.cells.items 0 (zero_in N.numbers) }
     {
         self.cells[0]
     }
@@ -53,11 +55,11 @@ impl Slot {
     }
 
     /// The same slot once more.
-    pub(crate) fn copy(&self) -> Result<Slot, Memory>
+    pub(crate) fn copy(&self, alloc: Global) -> Result<Slot<N>, Memory>
         ensures shape { IfOk result (λ v. slot_shape v ≡ slot_shape self.now) }
         ensures cells { IfOk result (λ v. v.cells.items ≡ self.now.cells.items) }
     {
-        let cells = self.cells.clone()?;
+        let cells = self.cells.as_slice().to_vec(alloc)?;
         Ok(Slot {
             rows: self.rows,
             cols: self.cols,
@@ -66,7 +68,7 @@ impl Slot {
     }
 
     /// Takes the cells of another slot, which are as many.
-    pub(crate) fn take(&mut self, other: &Slot)
+    pub(crate) fn take(&mut self, other: &Slot<N>)
         requires { length self.old.cells.items ≡ length other.now.cells.items }
         ensures shape { slot_shape self.new ≡ slot_shape self.old }
         ensures cells { self.new.cells.items ≡ other.now.cells.items }
@@ -77,8 +79,8 @@ impl Slot {
     /// Puts 0 into each cell.
     pub fn clear(&mut self)
         ensures shape { slot_shape self.new ≡ slot_shape self.old }
-        ensures cells { self.new.cells.items ≡ replicate (length self.old.cells.items) (pos 0) }
+        ensures cells { self.new.cells.items ≡ replicate (length self.old.cells.items) (zero_in N.numbers) }
     {
-        self.cells.fill(0);
+        self.cells.fill(N::of_word(0));
     }
 }

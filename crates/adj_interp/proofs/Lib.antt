@@ -6,3 +6,4 @@ pub mod Accepted
 pub mod Inputting
 pub mod Concluding
 pub mod Running
+pub mod Worded

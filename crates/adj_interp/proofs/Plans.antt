@@ -144,20 +144,20 @@ found_within l k i o (Err t) lt le p q = tt
 -- ---- the words that ask for them
 
 -- what goes on from a plan goes on from its parts
-chain : {B : Type 0} (a b : Result ℤ Trap) (f g : ℤ → Result ℕ Trap) (line : ℕ) (w : Stand) (go : ℕ → ℕ → Outcome B) →
-    with_value (then_ok a (λ u. then_ok b (λ v. then_ok (f u) (λ x. then_ok (g v) (λ y. Ok (x, y)))))) line w (λ (p : ℕ × ℕ). go p.0 p.1) ≡ with_value a line w (λ u. with_value b line w (λ v. with_value (f u) line w (λ x. with_value (g v) line w (λ y. go x y))))
-chain (Err t) b f g line w go = refl
-chain (Ok u) (Err t) f g line w go = refl
-chain (Ok u) (Ok v) f g line w go = rest (f u) (g v)
+chain : {B C : Type 0} (shown : C → ℤ) (a b : Result C Trap) (f g : ℤ → Result ℕ Trap) (line : ℕ) (w : Stand) (go : ℕ → ℕ → Outcome B) →
+    with_value (then_ok a (λ u. then_ok b (λ v. then_ok (f (shown u)) (λ x. then_ok (g (shown v)) (λ y. Ok (x, y)))))) line w (λ (p : ℕ × ℕ). go p.0 p.1) ≡ with_value a line w (λ u. with_value b line w (λ v. with_value (f (shown u)) line w (λ x. with_value (g (shown v)) line w (λ y. go x y))))
+chain shown (Err t) b f g line w go = refl
+chain shown (Ok u) (Err t) f g line w go = refl
+chain shown (Ok u) (Ok v) f g line w go = rest (f (shown u)) (g (shown v))
   where
     rest : (x y : Result ℕ Trap) → with_value (then_ok x (λ i. then_ok y (λ j. Ok (i, j)))) line w (λ (p : ℕ × ℕ). go p.0 p.1) ≡ with_value x line w (λ i. with_value y line w (λ j. go i j))
     rest (Ok i) (Ok j) = refl
     rest (Ok i) (Err t) = refl
     rest (Err t) y = refl
 
-pub plan_chain : {B : Type 0} (n : Setting ℤ) (l m : Term) (s : Cells ℤ) (line : ℕ) (w : Stand) (go : ℕ → ℕ → Outcome B) →
-    with_value (plan_in n l m s) line w (λ (p : ℕ × ℕ). go p.0 p.1) ≡ with_value (value n l s) line w (λ u. with_value (value n m s) line w (λ v. with_value (steps_of u) line w (λ x. with_value (snapshots_of v) line w (λ y. go x y))))
-plan_chain n l m s line w go = chain (value n l s) (value n m s) steps_of snapshots_of line w go
+pub plan_chain : {B C : Type 0} (n : Setting C) (l m : Term) (s : Cells C) (line : ℕ) (w : Stand) (go : ℕ → ℕ → Outcome B) →
+    with_value (plan_in n l m s) line w (λ (p : ℕ × ℕ). go p.0 p.1) ≡ with_value (value n l s) line w (λ u. with_value (value n m s) line w (λ v. with_value (steps_of (n.numbers.shown u)) line w (λ x. with_value (snapshots_of (n.numbers.shown v)) line w (λ y. go x y))))
+plan_chain n l m s line w go = chain n.numbers.shown (value n l s) (value n m s) steps_of snapshots_of line w go
 
 -- from a list of actions, too
 pub actions_chain : {B : Type 0} (u v : ℤ) (line : ℕ) (w : Stand) (go : List Action → Outcome B) →
@@ -170,30 +170,30 @@ actions_chain u v line w go = rest (steps_of u) (snapshots_of v)
     rest (Err t) y = refl
 
 -- and from how many there are
-pub count_chain : {B : Type 0} (n : Setting ℤ) (l m : Term) (s : Cells ℤ) (line : ℕ) (w : Stand) (go : List Action → Outcome B) →
-    with_value (plan_in n l m s) line w (λ (p : ℕ × ℕ). go (schedule_of 0 p.0 p.1)) ≡ with_value (value n l s) line w (λ u. with_value (value n m s) line w (λ v. with_value (actions_of u v) line w go))
-count_chain n l m s line w go = plan_chain n l m s line w (λ x y. go (schedule_of 0 x y)) ∙ (λ i. with_value (value n l s) line w (λ u. with_value (value n m s) line w (λ v. actions_chain u v line w go i)))
+pub count_chain : {B C : Type 0} (n : Setting C) (l m : Term) (s : Cells C) (line : ℕ) (w : Stand) (go : List Action → Outcome B) →
+    with_value (plan_in n l m s) line w (λ (p : ℕ × ℕ). go (schedule_of 0 p.0 p.1)) ≡ with_value (value n l s) line w (λ u. with_value (value n m s) line w (λ v. with_value (actions_of (n.numbers.shown u) (n.numbers.shown v)) line w go))
+count_chain n l m s line w go = plan_chain n l m s line w (λ x y. go (schedule_of 0 x y)) ∙ (λ i. with_value (value n l s) line w (λ u. with_value (value n m s) line w (λ v. actions_chain (n.numbers.shown u) (n.numbers.shown v) line w go i)))
 
 -- an action that was looked up
 pub looked_up : (u v w : ℤ) (l k : ℕ) (r : Result Action Trap) → Ok l ≡ steps_of u → Ok k ≡ snapshots_of v → r ≡ action_at w (schedule_of 0 l k) → r ≡ then_ok (actions_of u v) (λ list. action_at w list)
 looked_up u v w l k r p q h = h ∙ (λ i. then_ok (then_ok (p i) (λ steps. then_ok (q i) (λ snapshots. Ok (schedule_of 0 steps snapshots)))) (λ list. action_at w list))
 
-pub action_chain : {B : Type 0} (n : Setting ℤ) (l m e : Term) (s : Cells ℤ) (line : ℕ) (w : Stand) (go : Action → Outcome B) →
-    with_value (action_in n l m e s) line w go ≡ with_value (value n l s) line w (λ u. with_value (value n m s) line w (λ v. with_value (value n e s) line w (λ z. with_value (actions_of u v) line w (λ list. with_value (action_at z list) line w go))))
-action_chain n l m e s line w go = first (value n l s)
+pub action_chain : {B C : Type 0} (n : Setting C) (l m e : Term) (s : Cells C) (line : ℕ) (w : Stand) (go : Action → Outcome B) →
+    with_value (action_in n l m e s) line w go ≡ with_value (value n l s) line w (λ u. with_value (value n m s) line w (λ v. with_value (value n e s) line w (λ z. with_value (actions_of (n.numbers.shown u) (n.numbers.shown v)) line w (λ list. with_value (action_at (n.numbers.shown z) list) line w go))))
+action_chain {C = C} n l m e s line w go = first (value n l s)
   where
-    last : (u v z : ℤ) (r : Result (List Action) Trap) → with_value (then_ok r (λ list. action_at z list)) line w go ≡ with_value r line w (λ list. with_value (action_at z list) line w go)
-    last u v z (Ok list) = refl
-    last u v z (Err t) = refl
+    last : (z : ℤ) (r : Result (List Action) Trap) → with_value (then_ok r (λ list. action_at z list)) line w go ≡ with_value r line w (λ list. with_value (action_at z list) line w go)
+    last z (Ok list) = refl
+    last z (Err t) = refl
 
-    third : (u v : ℤ) (c : Result ℤ Trap) → with_value (then_ok c (λ z. then_ok (actions_of u v) (λ list. action_at z list))) line w go ≡ with_value c line w (λ z. with_value (actions_of u v) line w (λ list. with_value (action_at z list) line w go))
-    third u v (Ok z) = last u v z (actions_of u v)
+    third : (u v : C) (c : Result C Trap) → with_value (then_ok c (λ z. then_ok (actions_of (n.numbers.shown u) (n.numbers.shown v)) (λ list. action_at (n.numbers.shown z) list))) line w go ≡ with_value c line w (λ z. with_value (actions_of (n.numbers.shown u) (n.numbers.shown v)) line w (λ list. with_value (action_at (n.numbers.shown z) list) line w go))
+    third u v (Ok z) = last (n.numbers.shown z) (actions_of (n.numbers.shown u) (n.numbers.shown v))
     third u v (Err t) = refl
 
-    second : (u : ℤ) (b : Result ℤ Trap) → with_value (then_ok b (λ v. then_ok (value n e s) (λ z. then_ok (actions_of u v) (λ list. action_at z list)))) line w go ≡ with_value b line w (λ v. with_value (value n e s) line w (λ z. with_value (actions_of u v) line w (λ list. with_value (action_at z list) line w go)))
+    second : (u : C) (b : Result C Trap) → with_value (then_ok b (λ v. then_ok (value n e s) (λ z. then_ok (actions_of (n.numbers.shown u) (n.numbers.shown v)) (λ list. action_at (n.numbers.shown z) list)))) line w go ≡ with_value b line w (λ v. with_value (value n e s) line w (λ z. with_value (actions_of (n.numbers.shown u) (n.numbers.shown v)) line w (λ list. with_value (action_at (n.numbers.shown z) list) line w go)))
     second u (Ok v) = third u v (value n e s)
     second u (Err t) = refl
 
-    first : (a : Result ℤ Trap) → with_value (then_ok a (λ u. then_ok (value n m s) (λ v. then_ok (value n e s) (λ z. then_ok (actions_of u v) (λ list. action_at z list))))) line w go ≡ with_value a line w (λ u. with_value (value n m s) line w (λ v. with_value (value n e s) line w (λ z. with_value (actions_of u v) line w (λ list. with_value (action_at z list) line w go))))
+    first : (a : Result C Trap) → with_value (then_ok a (λ u. then_ok (value n m s) (λ v. then_ok (value n e s) (λ z. then_ok (actions_of (n.numbers.shown u) (n.numbers.shown v)) (λ list. action_at (n.numbers.shown z) list))))) line w go ≡ with_value a line w (λ u. with_value (value n m s) line w (λ v. with_value (value n e s) line w (λ z. with_value (actions_of (n.numbers.shown u) (n.numbers.shown v)) line w (λ list. with_value (action_at (n.numbers.shown z) list) line w go))))
     first (Ok u) = second u (value n m s)
     first (Err t) = refl

@@ -21,39 +21,39 @@ abbrev pub counted_in : Log → meaning.Log
 counted_in l = record { reversals = l.reversals; advances = l.advances; height = l.height }
 
 -- the tape and the log stand as a run stands that stopped
-abbrev pub StandsSo : Stand → Held → Log → Type 0
+abbrev pub StandsSo : Stand → Held ℤ → Log → Type 0
 StandsSo w tape log = (w.tape ≡ tape.words) × (log_of w.events ≡ counted_in log)
 
 -- a run is done with these values
-abbrev pub IsDoneWith : Outcome (Output ℤ) → List CodeSlot → Held → Log → Type 0
+abbrev pub IsDoneWith : Outcome (Output ℤ) → List CodeSlot → Held ℤ → Log → Type 0
 IsDoneWith (Done out used) values tape log = (map slot_seen values ≡ out.slots) × (out.tape ≡ tape.words) × (log.used ≡ used) × (log_of out.events ≡ counted_in log)
 IsDoneWith (Trapped t line w) values tape log = ⊥
 IsDoneWith (More w) values tape log = ⊥
 IsDoneWith (Full w) values tape log = ⊥
 
 -- a run trapped at a line
-abbrev pub TrapsWith : Outcome (Output ℤ) → CodeTrap → ℕ → Held → Log → Type 0
+abbrev pub TrapsWith : Outcome (Output ℤ) → CodeTrap → ℕ → Held ℤ → Log → Type 0
 TrapsWith (Done out used) t line tape log = ⊥
 TrapsWith (Trapped d l w) t line tape log = (d ≡ trap_of t) × (l ≡ line) × StandsSo w tape log
 TrapsWith (More w) t line tape log = ⊥
 TrapsWith (Full w) t line tape log = ⊥
 
 -- a run has more to do
-abbrev pub HasMoreWith : Outcome (Output ℤ) → Held → Log → Type 0
+abbrev pub HasMoreWith : Outcome (Output ℤ) → Held ℤ → Log → Type 0
 HasMoreWith (Done out used) tape log = ⊥
 HasMoreWith (Trapped d l w) tape log = ⊥
 HasMoreWith (More w) tape log = StandsSo w tape log
 HasMoreWith (Full w) tape log = ⊥
 
 -- a run found the tape full
-abbrev pub IsFullWith : Outcome (Output ℤ) → Held → Log → Type 0
+abbrev pub IsFullWith : Outcome (Output ℤ) → Held ℤ → Log → Type 0
 IsFullWith (Done out used) tape log = ⊥
 IsFullWith (Trapped d l w) tape log = ⊥
 IsFullWith (More w) tape log = ⊥
 IsFullWith (Full w) tape log = StandsSo w tape log
 
 -- a run ends with a result as it is defined, and the tape and the log are as it leaves them, unless memory ran out
-abbrev pub Concludes : Outcome (Output ℤ) → Result (List CodeSlot) Stop → Held → Log → Type 0
+abbrev pub Concludes : Outcome (Output ℤ) → Result (List CodeSlot) Stop → Held ℤ → Log → Type 0
 Concludes o (Ok values) tape log = IsDoneWith o values tape log
 Concludes o (Err (stop.Trap t line)) tape log = TrapsWith o t line tape log
 Concludes o (Err stop.Budget) tape log = HasMoreWith o tape log

@@ -1,7 +1,8 @@
 -- Entered: what a call finds before the unit that is called runs.
-use Rattle.std.specs.Prelude.{◌≡◌, ℕ, suc, ◌==◌, ℤ, Result, Ok, Err, if◌then◌else◌}
+use Rattle.std.specs.Prelude.{◌≡◌, ℕ, suc, ◌==◌, Result, Ok, Err, if◌then◌else◌}
 use Rattle.adj_tree.specs.declared.value.Trap.TheVariants as trap
 use Rattle.adj_meaning.specs.Trap.{Trap, schedule_trap}
+use Rattle.adj_meaning.specs.Numbers.{Numbers}
 use Rattle.adj_meaning.specs.Value.{Setting}
 use Rattle.adj_meaning.specs.Scene.{Done, Trapped, Go, stand}
 use Rattle.adj_meaning.specs.Store.{Shape}
@@ -33,9 +34,9 @@ IsMisfit stop.TapeFull line P = ⊥
 IsMisfit stop.Memory line P = Unit {0}
 
 -- the entry of a unit with these shapes, called in another, where so many reversals are open
-abbrev pub inside : Entry → (Var → Shape) → ℕ → Entry
+abbrev pub inside : {C : Type 0} {numbers : Numbers C} → Entry numbers → (Var → Shape) → ℕ → Entry numbers
 inside e shape count = record { shape = shape; room = e.room; level = suc e.level; base = count }
 
 -- the end of a unit, where no reversal may be open
-abbrev pub closed : Setting ℤ → ℕ → Go ℤ
+abbrev pub closed : {C : Type 0} → Setting C → ℕ → Go C
 closed n line s k = if s.opened == 0 then Done s k else Trapped schedule_trap line (stand n s)

@@ -1,8 +1,9 @@
--- Held: what a machine has in hand of a run, and how it ends.
-use Rattle.std.specs.Prelude.{◌≡◌, ℕ, ◌+◌, ℤ, pos, List, ◌++◌, length, reverse, Result, Ok, Err, Some}
+-- Held: what a machine has in hand of a run on any numbers, and how it ends.
+use Rattle.std.specs.Prelude.{◌≡◌, ℕ, ◌+◌, ℤ, pos, List, ◌++◌, map, length, reverse, Result, Ok, Err, Some}
 use Rattle.adj_tree.specs.declared.value.Trap.{Trap as CodeTrap}
 use Rattle.adj_tree.specs.Code.{Var, Term, Mark}
 use Rattle.adj_meaning.specs.Trap.{Trap, then_ok}
+use Rattle.adj_meaning.specs.Numbers.{Numbers}
 use Rattle.adj_meaning.specs.Store.{Shape, Store}
 use Rattle.adj_meaning.specs.Run.{trips, with_turn}
 use Rattle.adj_meaning.specs.Runtime.{steps_of, snapshots_of, actions_of, action_at, kind_of, lower_of, upper_of}
@@ -16,81 +17,82 @@ use Rattle.adj_interp.specs.declared.stop.Stop.TheVariants as stop
 use Rattle.adj_interp.specs.declared.machine.Machine.{Machine}
 use Rattle.adj_interp.specs.Counted.{Counted}
 use Rattle.adj_frame.specs.Framed.{trap_of}
-use Rattle.adj_frame.specs.Shown.{on_words, Shows}
+use Rattle.adj_frame.specs.Shown.{on_numbers, Shows}
 use Rattle.adj_frame.specs.Suited.{counts_in, HasOneCell}
 
 -- whatever happens later is counted on from what was counted of what happened, the last first
 abbrev pub Tells : Counted → List Event → Type 0
 Tells c es = (later : List Event) → log_of (reverse es ++ later) ≡ log_from c.begun c.log later
 
--- an entry of a unit: the shapes of its variables, how many words the tape can hold, its level, and how many reversals were open before
-pub record Entry : Type 0 where
+-- an entry of a unit in a run on some numbers: the shapes of its variables, how many words the tape can hold, its level, and how many
+-- reversals were open before
+pub record Entry {C : Type 0} (numbers : Numbers C) : Type 0 where
   pub shape : Var → Shape
   pub room : ℕ
   pub level : ℕ
   pub base : ℕ
 
-abbrev pub setting_at : Entry → Setting ℤ
-setting_at e = on_words e.shape (Some e.room) e.level
+abbrev pub setting_at : {C : Type 0} {numbers : Numbers C} → Entry numbers → Setting C
+setting_at {numbers = numbers} e = on_numbers numbers e.shape (Some e.room) e.level
 
 -- a machine has a scene of an entry in hand
-pub record Holds (e : Entry) (m : Machine) (s : Scene ℤ) : Type 0 where
+pub record Holds {C : Type 0} {numbers : Numbers C} (e : Entry numbers) (m : Machine C) (s : Scene C) : Type 0 where
   pub room : m.tape.room ≡ e.room
   pub level : m.level ≡ e.level
   pub base : m.base ≡ e.base
-  pub shown : Shows m.frame.names.now m.frame.slots.items e.shape s.store
+  pub shown : Shows numbers m.frame.names.now m.frame.slots.items e.shape s.store
   pub tape : s.tape ≡ m.tape.words
   pub opened : s.opened + m.base ≡ length m.tally.begun
   pub told : Tells m.tally s.events
 
 -- a variable has one cell in the entry that a machine has in hand
-abbrev pub OneCelled : Machine → Var → Type 0
+abbrev pub OneCelled : {C : Type 0} → Machine C → Var → Type 0
 OneCelled m = HasOneCell m.frame.names.now (counts_in m.frame.slots.items)
 
 -- a machine stands as a run stands that stopped
-pub record Stands (m : Machine) (w : Stand) : Type 0 where
-  pub tape : w.tape ≡ m.tape.words
+pub record Stands {C : Type 0} (numbers : Numbers C) (m : Machine C) (w : Stand) : Type 0 where
+  pub tape : w.tape ≡ map numbers.shown m.tape.words
   pub log : log_of w.events ≡ m.tally.log
 
 -- a machine is done as a run is
-abbrev pub IsDone : Entry → Machine → Outcome (Scene ℤ) → Type 0
+abbrev pub IsDone : {C : Type 0} {numbers : Numbers C} → Entry numbers → Machine C → Outcome (Scene C) → Type 0
 IsDone e m (Done s k) = Holds e m s × (k ≡ m.left)
 IsDone e m (Trapped t line w) = ⊥
 IsDone e m (More w) = ⊥
 IsDone e m (Full w) = ⊥
 
 -- a run trapped at a line, and the machine stands so
-abbrev pub IsTrapped : Machine → CodeTrap → ℕ → Outcome (Scene ℤ) → Type 0
-IsTrapped m t line (Trapped d l w) = (d ≡ trap_of t) × (l ≡ line) × Stands m w
-IsTrapped m t line (Done s k) = ⊥
-IsTrapped m t line (More w) = ⊥
-IsTrapped m t line (Full w) = ⊥
+abbrev pub IsTrapped : {C : Type 0} → Numbers C → Machine C → CodeTrap → ℕ → Outcome (Scene C) → Type 0
+IsTrapped numbers m t line (Trapped d l w) = (d ≡ trap_of t) × (l ≡ line) × Stands numbers m w
+IsTrapped numbers m t line (Done s k) = ⊥
+IsTrapped numbers m t line (More w) = ⊥
+IsTrapped numbers m t line (Full w) = ⊥
 
 -- a run has more to do, and the machine stands so
-abbrev pub HasMore : Machine → Outcome (Scene ℤ) → Type 0
-HasMore m (More w) = Stands m w
-HasMore m (Done s k) = ⊥
-HasMore m (Trapped t line w) = ⊥
-HasMore m (Full w) = ⊥
+abbrev pub HasMore : {C : Type 0} → Numbers C → Machine C → Outcome (Scene C) → Type 0
+HasMore numbers m (More w) = Stands numbers m w
+HasMore numbers m (Done s k) = ⊥
+HasMore numbers m (Trapped t line w) = ⊥
+HasMore numbers m (Full w) = ⊥
 
 -- a run found the tape full, and the machine stands so
-abbrev pub IsFull : Machine → Outcome (Scene ℤ) → Type 0
-IsFull m (Full w) = Stands m w
-IsFull m (Done s k) = ⊥
-IsFull m (Trapped t line w) = ⊥
-IsFull m (More w) = ⊥
+abbrev pub IsFull : {C : Type 0} → Numbers C → Machine C → Outcome (Scene C) → Type 0
+IsFull numbers m (Full w) = Stands numbers m w
+IsFull numbers m (Done s k) = ⊥
+IsFull numbers m (Trapped t line w) = ⊥
+IsFull numbers m (More w) = ⊥
 
 -- a machine ends with a result as a run does, unless its memory ran out
-abbrev pub Ends : Entry → Outcome (Scene ℤ) → Result (Unit {0}) Stop → Machine → Type 0
+abbrev pub Ends : {C : Type 0} {numbers : Numbers C} → Entry numbers → Outcome (Scene C) → Result (Unit {0}) Stop → Machine C → Type 0
 Ends e o (Ok done) m = IsDone e m o
-Ends e o (Err (stop.Trap t line)) m = IsTrapped m t line o
-Ends e o (Err stop.Budget) m = HasMore m o
-Ends e o (Err stop.TapeFull) m = IsFull m o
+Ends {numbers = numbers} e o (Err (stop.Trap t line)) m = IsTrapped numbers m t line o
+Ends {numbers = numbers} e o (Err stop.Budget) m = HasMore numbers m o
+Ends {numbers = numbers} e o (Err stop.TapeFull) m = IsFull numbers m o
 Ends e o (Err stop.Memory) m = Unit {0}
 
 -- a run comes to what goes on from a scene that a machine has in hand
-pub record Reaches (e : Entry) (o : Outcome (Scene ℤ)) (go : Go ℤ) (m : Machine) : Type 0 where
-  pub scene : Scene ℤ
+pub record Reaches {C : Type 0} {numbers : Numbers C} (e : Entry numbers) (o : Outcome (Scene C)) (go : Go C) (m : Machine C) : Type 0 where
+  pub scene : Scene C
   pub holds : Holds e m scene
   pub same : o ≡ go scene m.left
 
@@ -107,21 +109,21 @@ abbrev pub stopped_at : {A : Type 0} → ℕ → Result A CodeTrap → Result A 
 stopped_at line (Ok a) = Ok a
 stopped_at line (Err t) = Err (stop.Trap t line)
 
--- first value, step and number of turns of a DO
-abbrev pub bounds_in : Setting ℤ → Term → Term → Term → Mark → Store ℤ → Result (ℤ × ℤ × ℕ) Trap
+-- first value, step and number of turns of a DO, as words
+abbrev pub bounds_in : {C : Type 0} → Setting C → Term → Term → Term → Mark → Store C → Result (ℤ × ℤ × ℕ) Trap
 bounds_in n first last by mark s =
-    then_ok (value n first s) (λ a. then_ok (value n last s) (λ b. then_ok (value n by s) (λ c. then_ok (trips mark a b c) (λ m. Ok (a, c, m)))))
+    then_ok (value n first s) (λ a. then_ok (value n last s) (λ b. then_ok (value n by s) (λ c. then_ok (trips mark (n.numbers.shown a) (n.numbers.shown b) (n.numbers.shown c)) (λ m. Ok (n.numbers.shown a, n.numbers.shown c, m)))))
 
 -- ---- schedules
 
 -- the steps and snapshots of a schedule
-abbrev pub plan_in : Setting ℤ → Term → Term → Store ℤ → Result (ℕ × ℕ) Trap
-plan_in n l m s = then_ok (value n l s) (λ u. then_ok (value n m s) (λ v. then_ok (steps_of u) (λ a. then_ok (snapshots_of v) (λ b. Ok (a, b)))))
+abbrev pub plan_in : {C : Type 0} → Setting C → Term → Term → Store C → Result (ℕ × ℕ) Trap
+plan_in n l m s = then_ok (value n l s) (λ u. then_ok (value n m s) (λ v. then_ok (steps_of (n.numbers.shown u)) (λ a. then_ok (snapshots_of (n.numbers.shown v)) (λ b. Ok (a, b)))))
 
 -- the action of a schedule that is asked for
-abbrev pub action_in : Setting ℤ → Term → Term → Term → Store ℤ → Result Action Trap
-action_in n l m e s = then_ok (value n l s) (λ u. then_ok (value n m s) (λ v. then_ok (value n e s) (λ w. then_ok (actions_of u v) (λ list. action_at w list))))
+abbrev pub action_in : {C : Type 0} → Setting C → Term → Term → Term → Store C → Result Action Trap
+action_in n l m e s = then_ok (value n l s) (λ u. then_ok (value n m s) (λ v. then_ok (value n e s) (λ w. then_ok (actions_of (n.numbers.shown u) (n.numbers.shown v)) (λ list. action_at (n.numbers.shown w) list))))
 
 -- the scene with three variables set to the kind and the places of an action
-abbrev pub given_in : Setting ℤ → Var → Var → Var → Action → Scene ℤ → Scene ℤ
+abbrev pub given_in : {C : Type 0} → Setting C → Var → Var → Var → Action → Scene C → Scene C
 given_in n x y z a s = with_turn n z (pos (upper_of a)) (with_turn n y (pos (lower_of a)) (with_turn n x (pos (kind_of a)) s))

@@ -1,16 +1,15 @@
 -- Inputs: what the entry of a unit has of an input, and what becomes of it.
-use Rattle.std.specs.Prelude.{ℤ}
 use Rattle.adj_tree.specs.Code.{Var, Procedure}
-use Rattle.adj_meaning.specs.Numbers.{words}
+use Rattle.adj_meaning.specs.Numbers.{Numbers}
 use Rattle.adj_meaning.specs.Store.{Shape, Store}
 use Rattle.adj_meaning.specs.Units.{Slot, extents_of, shape_of}
 use Rattle.adj_frame.specs.declared.slot.Slot.{Slot as EntrySlot}
 use Rattle.adj_frame.specs.Framed.{slot_shape}
 
 -- a slot of an entry as what a variable holds
-abbrev pub entry_seen : EntrySlot → Slot ℤ
+abbrev pub entry_seen : {C : Type 0} → EntrySlot C → Slot C
 entry_seen v = record { shape = slot_shape v; cells = v.cells.items }
 
 -- the shapes of a unit's variables by its store at the entry
-abbrev pub input_shape : Procedure → Store ℤ → Var → Shape
-input_shape u s x = shape_of (extents_of words u s x)
+abbrev pub input_shape : {C : Type 0} → Numbers C → Procedure → Store C → Var → Shape
+input_shape numbers u s x = shape_of (extents_of numbers u s x)

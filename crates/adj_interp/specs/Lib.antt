@@ -3,4 +3,6 @@ pub mod Counted
 pub mod Held
 pub mod Entered
 pub mod Concludes
+pub mod Ended
+pub mod Dually
 pub mod Inputs

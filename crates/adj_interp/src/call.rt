@@ -1,6 +1,6 @@
 //! What a call does before the unit that is called runs, and after. (docs/RUNNING.md, "Calls")
 
-ghost use Rattle.std.specs.Prelude.{◌≡◌, ◌==◌, ◌∷◌, List, ℕ, ℤ, suc, Option, IfOk, IfErr, OnOk, OnErr, length, true, false};
+ghost use Rattle.std.specs.Prelude.{◌≡◌, ◌==◌, ◌∷◌, List, ℕ, suc, Option, IfOk, IfErr, OnOk, OnErr, length, true, false};
 ghost use Rattle.adj_tree.specs.Code.{Var};
 ghost use Rattle.adj_meaning.specs.Event.{Enter};
 ghost use Rattle.adj_meaning.specs.Scene.{Scene};
@@ -8,7 +8,7 @@ ghost use Rattle.adj_meaning.specs.Store.{Shape, Store};
 ghost use Rattle.adj_meaning.specs.Units.{actual_of, actuals, copied_out};
 ghost use Rattle.adj_frame.specs.Prepared.{term_in, terms_in, IsTermBelow, AreTermsBelow};
 ghost use Rattle.adj_frame.specs.Framed.{IsFrame};
-ghost use Rattle.adj_frame.specs.Shown.{on_words, Shows};
+ghost use Rattle.adj_frame.specs.Shown.{on_numbers, Shows};
 ghost use Rattle.adj_frame.specs.Suited.{counts_in, AreAsLarge};
 ghost use Rattle.adj_frame.specs.Called.{actual_in, actuals_in, IsActualBelow, AreActualsBelow, IsLaidOut, entered_with, shapes_with, fit_from};
 ghost use Rattle.adj_interp.specs.declared.stop.Stop.TheVariants as stop;
@@ -19,25 +19,26 @@ use crate::cursor::Cursor;
 use crate::machine::Machine;
 use crate::stop::Stop;
 use adj_frame::{Actual, Frame, Routine, Term, Terms, Unfit};
+use adj_number::Number;
 use adj_tree::Trap;
 use std::mem;
 
 /// What a caller has in hand while a unit runs that it called.
 #[derive(Drop)]
-pub(crate) struct Outer<'a> {
-    pub frame: Frame<'a>,
+pub(crate) struct Outer<'a, N: Number> {
+    pub frame: Frame<'a, N>,
     pub base: usize,
     pub level: u64,
     pub cursor: Option<Cursor>,
 }
 
-impl<'a> Machine<'a> {
+impl<'a, N: Number> Machine<'a, N> {
     /// The actuals of a call, from left to right.
-    pub(crate) fn actuals(&self, terms: &Terms, line: u32) -> Result<Vec<Actual>, Stop>
+    pub(crate) fn actuals(&self, terms: &Terms, line: u32) -> Result<Vec<Actual<N>>, Stop>
         requires framed { IsFrame self.now.frame.names.now self.now.frame.slots.items }
         requires below { AreTermsBelow (length self.now.frame.names.now) terms.now }
-        ensures actuals { (shape : Var → Shape) (room : Option ℕ) (level : ℕ) (s : Store ℤ) → Shows self.now.frame.names.now self.now.frame.slots.items shape s
-            → Gets (λ v. actuals_in self.now.frame.names.now shape s v.items) line (actuals (on_words shape room level) (terms_in self.now.frame.names.now terms.now) s) result }
+        ensures actuals { (shape : Var → Shape) (room : Option ℕ) (level : ℕ) (s : Store N) → Shows N.numbers self.now.frame.names.now self.now.frame.slots.items shape s
+            → Gets (λ v. actuals_in self.now.frame.names.now shape s v.items) line (actuals (on_numbers N.numbers shape room level) (terms_in self.now.frame.names.now terms.now) s) result }
         ensures below { IfOk result (λ v. AreActualsBelow self.now.frame.slots.items v.items) }
     {
         let mut found = Vec::new(self.alloc);
@@ -53,11 +54,11 @@ impl<'a> Machine<'a> {
     }
 
     // An actual.
-    fn actual(&self, term: &Term, line: u32) -> Result<Actual, Stop>
+    fn actual(&self, term: &Term, line: u32) -> Result<Actual<N>, Stop>
         requires framed { IsFrame self.now.frame.names.now self.now.frame.slots.items }
         requires below { IsTermBelow (length self.now.frame.names.now) term.now }
-        ensures actual { (shape : Var → Shape) (room : Option ℕ) (level : ℕ) (s : Store ℤ) → Shows self.now.frame.names.now self.now.frame.slots.items shape s
-            → Gets (actual_in self.now.frame.names.now shape s) line (actual_of (on_words shape room level) (term_in self.now.frame.names.now term.now) s) result }
+        ensures actual { (shape : Var → Shape) (room : Option ℕ) (level : ℕ) (s : Store N) → Shows N.numbers self.now.frame.names.now self.now.frame.slots.items shape s
+            → Gets (actual_in self.now.frame.names.now shape s) line (actual_of (on_numbers N.numbers shape room level) (term_in self.now.frame.names.now term.now) s) result }
         ensures below { IfOk result (λ a. IsActualBelow self.now.frame.slots.items a) }
     {
         match self.frame.actual(term) {
@@ -70,20 +71,20 @@ impl<'a> Machine<'a> {
     pub(crate) fn entry(
         &self,
         routine: &'a Routine<'a>,
-        actuals: &[Actual],
+        actuals: &[Actual<N>],
         line: u32,
-    ) -> Result<Frame<'a>, Stop>
+    ) -> Result<Frame<'a, N>, Stop>
         requires framed { IsFrame self.now.frame.names.now self.now.frame.slots.items }
         requires below { AreActualsBelow self.now.frame.slots.items actuals.now }
         requires laid { IsLaidOut routine.now }
         ensures names { IfOk result (λ f. f.names.now ≡ routine.now.names) }
         ensures framed { IfOk result (λ f. IsFrame routine.now.names f.slots.items) }
-        ensures fits { IfOk result (λ f. (shape : Var → Shape) (s : Store ℤ) → Shows self.now.frame.names.now self.now.frame.slots.items shape s
-            → fit_from routine.now (actuals_in self.now.frame.names.now shape s actuals.now) 0 ≡ true) }
-        ensures shown { IfOk result (λ f. (shape : Var → Shape) (s : Store ℤ) → Shows self.now.frame.names.now self.now.frame.slots.items shape s
-            → Shows routine.now.names f.slots.items (shapes_with routine.now (actuals_in self.now.frame.names.now shape s actuals.now)) (entered_with routine.now (actuals_in self.now.frame.names.now shape s actuals.now))) }
-        ensures misfit { IfErr result (λ x. IsMisfit x line ((shape : Var → Shape) (s : Store ℤ) → Shows self.now.frame.names.now self.now.frame.slots.items shape s
-            → fit_from routine.now (actuals_in self.now.frame.names.now shape s actuals.now) 0 ≡ false)) }
+        ensures fits { IfOk result (λ f. (shape : Var → Shape) (s : Store N) → Shows N.numbers self.now.frame.names.now self.now.frame.slots.items shape s
+            → fit_from N.numbers routine.now (actuals_in self.now.frame.names.now shape s actuals.now) 0 ≡ true) }
+        ensures shown { IfOk result (λ f. (shape : Var → Shape) (s : Store N) → Shows N.numbers self.now.frame.names.now self.now.frame.slots.items shape s
+            → Shows N.numbers routine.now.names f.slots.items (shapes_with N.numbers routine.now (actuals_in self.now.frame.names.now shape s actuals.now)) (entered_with N.numbers routine.now (actuals_in self.now.frame.names.now shape s actuals.now))) }
+        ensures misfit { IfErr result (λ x. IsMisfit x line ((shape : Var → Shape) (s : Store N) → Shows N.numbers self.now.frame.names.now self.now.frame.slots.items shape s
+            → fit_from N.numbers routine.now (actuals_in self.now.frame.names.now shape s actuals.now) 0 ≡ false)) }
     {
         match self.frame.entry(self.alloc, routine, actuals) {
             Ok(slots) => Ok(Frame {
@@ -96,14 +97,14 @@ impl<'a> Machine<'a> {
     }
 
     /// Goes into a unit that is called; gives what the caller has in hand.
-    pub(crate) fn enter(&mut self, frame: Frame<'a>) -> Result<Outer<'a>, Stop>
+    pub(crate) fn enter(&mut self, frame: Frame<'a, N>) -> Result<Outer<'a, N>, Stop>
         ensures memory { IfErr result (λ x. x ≡ stop.Memory) }
         ensures kept { OnErr result (self.new.frame ≡ self.old.frame) }
         ensures frame { OnOk result (self.new.frame ≡ frame.entry) }
         ensures left { OnOk result (self.new.left ≡ self.old.left) }
         ensures outer { IfOk result (λ o. o ≡ record { frame = self.old.frame; base = self.old.base; level = self.old.level; cursor = self.old.cursor }) }
         ensures room { self.new.tape.room ≡ self.old.tape.room }
-        ensures holds { OnOk result ((e : Entry) (s : Scene ℤ) (shape : Var → Shape) (t : Store ℤ) (name : List ℕ) (shapes : List Shape) → Holds e self.old s → Shows frame.entry.names.now frame.entry.slots.items shape t
+        ensures holds { OnOk result ((e : Entry N.numbers) (s : Scene N) (shape : Var → Shape) (t : Store N) (name : List ℕ) (shapes : List Shape) → Holds e self.old s → Shows N.numbers frame.entry.names.now frame.entry.slots.items shape t
             → Holds (inside e shape (length self.old.tally.begun)) self.new (record { store = t; tape = s.tape; opened = 0; events = Enter name (suc e.level) (length s.tape) shapes ∷ s.events })) }
     {
         let Some(level) = self.level.checked_add(1) else {
@@ -121,7 +122,7 @@ impl<'a> Machine<'a> {
     }
 
     /// Goes back to the caller; gives the entry of the unit that was called, and whether none of its reversals is open.
-    pub(crate) fn leave(&mut self, outer: Outer<'a>) -> (Frame<'a>, bool)
+    pub(crate) fn leave(&mut self, outer: Outer<'a, N>) -> (Frame<'a, N>, bool)
         ensures frame { result.0 ≡ self.old.frame }
         ensures closed { result.1 ≡ (length self.old.tally.begun == self.old.base) }
         ensures back { self.new ≡ record self.old { frame = outer.entry.frame; base = outer.entry.base; level = outer.entry.level; cursor = outer.entry.cursor } }
@@ -134,7 +135,12 @@ impl<'a> Machine<'a> {
     }
 
     /// Copies the dummies that are written out to their actuals. A whole variable has as many cells as its dummy.
-    pub(crate) fn hand_back(&mut self, routine: &Routine<'a>, actuals: &[Actual], inner: &Frame<'a>)
+    pub(crate) fn hand_back(
+        &mut self,
+        routine: &Routine<'a>,
+        actuals: &[Actual<N>],
+        inner: &Frame<'a, N>,
+    )
         requires framed { IsFrame self.old.frame.names.now self.old.frame.slots.items }
         requires below { AreActualsBelow self.old.frame.slots.items actuals.now }
         requires laid { IsLaidOut routine.now }
@@ -145,8 +151,8 @@ impl<'a> Machine<'a> {
         ensures counts { counts_in self.new.frame.slots.items ≡ counts_in self.old.frame.slots.items }
         ensures left { self.new.left ≡ self.old.left }
         ensures same { self.new ≡ record self.old { frame = self.new.frame } }
-        ensures handed { (shape within : Var → Shape) (s s0 t : Store ℤ) → Shows self.old.frame.names.now self.old.frame.slots.items shape s → Shows routine.now.names inner.now.slots.items within t
-            → Shows self.old.frame.names.now self.new.frame.slots.items shape (copied_out routine.now.unit.now.dummies routine.now.writes.now (actuals_in self.old.frame.names.now shape s0 actuals.now) t s) }
+        ensures handed { (shape within : Var → Shape) (s s0 t : Store N) → Shows N.numbers self.old.frame.names.now self.old.frame.slots.items shape s → Shows N.numbers routine.now.names inner.now.slots.items within t
+            → Shows N.numbers self.old.frame.names.now self.new.frame.slots.items shape (copied_out routine.now.unit.now.dummies routine.now.writes.now (actuals_in self.old.frame.names.now shape s0 actuals.now) t s) }
     {
         self.frame
             .hand_back(routine, actuals, inner.slots.as_slice());

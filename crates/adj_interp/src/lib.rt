@@ -1,4 +1,4 @@
-//! The interpreter: runs of a unit of a program on words.
+//! The interpreter: runs of a unit of a program, on words and on words that carry tangents.
 //!
 //! `run` prepares the units of a checked program of `adj_symbols`, and a machine executes the prepared statements of
 //! `adj_frame`, calls included. The layer above uses: a run concludes as the run of `adj_meaning`, with the tape and the
@@ -7,6 +7,7 @@
 
 mod call;
 mod cursor;
+mod dual;
 mod input;
 mod log;
 mod machine;
@@ -20,6 +21,7 @@ mod tally;
 mod trips;
 
 pub use cursor::Cursor;
+pub use dual::run_dual;
 pub use log::Log;
 pub use machine::Machine;
 pub use runs::run;

@@ -1,6 +1,6 @@
 //! The machine that executes prepared statements.
 
-ghost use Rattle.std.specs.Prelude.{◌≡◌, ◌<◌, List, ℕ, ℤ, Some, suc, true, false, length, slice_get, slice_index_or, IfOk};
+ghost use Rattle.std.specs.Prelude.{◌≡◌, ◌<◌, List, ℕ, Some, suc, true, false, length, slice_get, slice_index_or, IfOk};
 ghost use Rattle.adj_tree.specs.Code.{Procedure};
 ghost use Rattle.adj_meaning.specs.Scene.{Scene};
 ghost use Rattle.adj_meaning.specs.Store.{set};
@@ -21,6 +21,7 @@ use crate::stop::Stop;
 use crate::tally::Tally;
 use crate::trips::{most_tests, turns_of};
 use adj_frame::{Bounds, Cell, Frame, Marking, Routine, Steps, Task, Term, Terms, Test};
+use adj_number::Number;
 use adj_tape::Tape;
 use adj_tree::Trap;
 use adj_word::add;
@@ -29,11 +30,11 @@ use std::alloc::Global;
 /// What a run has in hand: the entry of the unit that runs, how many reversals were open when it began, its level, the
 /// tape, the statements that are left, what was counted, and the schedule that the entry asked last.
 #[derive(Drop)]
-pub struct Machine<'a> {
-    pub frame: Frame<'a>,
+pub struct Machine<'a, N: Number> {
+    pub frame: Frame<'a, N>,
     pub base: usize,
     pub level: u64,
-    pub tape: Tape,
+    pub tape: Tape<N>,
     pub left: u64,
     pub tally: Tally,
     pub cursor: Option<Cursor>,
@@ -57,12 +58,12 @@ fn at_line<T>(found: Result<T, Trap>, line: u32) -> Result<T, Stop>
     }
 }
 
-impl<'a> Machine<'a> {
+impl<'a, N: Number> Machine<'a, N> {
     // The value of an expression in a statement at a line.
-    pub(crate) fn value(&self, term: &Term, line: u32) -> Result<i64, Stop>
+    pub(crate) fn value(&self, term: &Term, line: u32) -> Result<N, Stop>
         requires framed { IsFrame self.now.frame.names.now self.now.frame.slots.items }
         requires below { IsTermBelow (length self.now.frame.names.now) term.now }
-        ensures value { (e : Entry) (s : Scene ℤ) → Holds e self.now s → Finds line (value (setting_at e) (term_in self.now.frame.names.now term.now) s.store) result }
+        ensures value { (e : Entry N.numbers) (s : Scene N) → Holds e self.now s → Finds line (value (setting_at e) (term_in self.now.frame.names.now term.now) s.store) result }
     {
         at_line(self.frame.value(term), line)
     }
@@ -71,7 +72,7 @@ impl<'a> Machine<'a> {
     fn holds(&self, test: &Test, line: u32) -> Result<bool, Stop>
         requires framed { IsFrame self.now.frame.names.now self.now.frame.slots.items }
         requires below { IsTestBelow (length self.now.frame.names.now) test.now }
-        ensures holds { (e : Entry) (s : Scene ℤ) → Holds e self.now s → Finds line (holds (setting_at e) (test_in self.now.frame.names.now test.now) s.store) result }
+        ensures holds { (e : Entry N.numbers) (s : Scene N) → Holds e self.now s → Finds line (holds (setting_at e) (test_in self.now.frame.names.now test.now) s.store) result }
     {
         at_line(self.frame.holds(test), line)
     }
@@ -80,42 +81,42 @@ impl<'a> Machine<'a> {
     pub(crate) fn target(&self, cell: &Cell, line: u32) -> Result<usize, Stop>
         requires framed { IsFrame self.now.frame.names.now self.now.frame.slots.items }
         requires below { IsCellBelow (length self.now.frame.names.now) cell.now }
-        ensures target { (e : Entry) (s : Scene ℤ) → Holds e self.now s → Finds line (target (setting_at e) (var_at self.now.frame.names.now cell.now.variable) (terms_in self.now.frame.names.now cell.now.subs) s.store) result }
-        ensures within { IfOk result (λ j. (d : Slot) → j < length (slice_index_or self.now.frame.slots.items cell.now.variable d).cells.items) }
+        ensures target { (e : Entry N.numbers) (s : Scene N) → Holds e self.now s → Finds line (target (setting_at e) (var_at self.now.frame.names.now cell.now.variable) (terms_in self.now.frame.names.now cell.now.subs) s.store) result }
+        ensures within { IfOk result (λ j. (d : Slot N) → j < length (slice_index_or self.now.frame.slots.items cell.now.variable d).cells.items) }
     {
         at_line(self.frame.target(cell.variable, &cell.subs), line)
     }
 
-    // First value, step and number of turns of a DO.
+    // First value, step and number of turns of a DO, which are words.
     fn bounds(&self, bounds: &Bounds, marking: &Marking, line: u32) -> Result<(i64, i64, u64), Stop>
         requires framed { IsFrame self.now.frame.names.now self.now.frame.slots.items }
         requires below { AreBoundsBelow (length self.now.frame.names.now) bounds.now }
-        ensures bounds { (e : Entry) (s : Scene ℤ) → Holds e self.now s → Finds line (bounds_in (setting_at e) (term_in self.now.frame.names.now bounds.now.first) (term_in self.now.frame.names.now bounds.now.last) (term_in self.now.frame.names.now bounds.now.by) (marking_in self.now.frame.names.now marking.now) s.store) result }
+        ensures bounds { (e : Entry N.numbers) (s : Scene N) → Holds e self.now s → Finds line (bounds_in (setting_at e) (term_in self.now.frame.names.now bounds.now.first) (term_in self.now.frame.names.now bounds.now.last) (term_in self.now.frame.names.now bounds.now.by) (marking_in self.now.frame.names.now marking.now) s.store) result }
     {
-        let first = self.value(&bounds.first, line)?;
-        let last = self.value(&bounds.last, line)?;
-        let by = self.value(&bounds.by, line)?;
+        let first = self.value(&bounds.first, line)?.word();
+        let last = self.value(&bounds.last, line)?.word();
+        let by = self.value(&bounds.by, line)?.word();
         let turns = turns_of(marking, first, last, by).map_err(|trap| Stop::Trap(trap, line))?;
         Ok((first, by, turns))
     }
 
-    // Puts a word into a cell.
-    pub(crate) fn put(&mut self, variable: usize, cell: usize, word: i64)
+    // Puts a number into a cell.
+    pub(crate) fn put(&mut self, variable: usize, cell: usize, number: N)
         requires framed { IsFrame self.old.frame.names.now self.old.frame.slots.items }
         requires there { variable < length self.old.frame.names.now }
-        requires within { (d : Slot) → cell < length (slice_index_or self.old.frame.slots.items variable d).cells.items }
+        requires within { (d : Slot N) → cell < length (slice_index_or self.old.frame.slots.items variable d).cells.items }
         ensures names { self.new.frame.names.now ≡ self.old.frame.names.now }
         ensures framed { IsFrame self.old.frame.names.now self.new.frame.slots.items }
         ensures counts { counts_in self.new.frame.slots.items ≡ counts_in self.old.frame.slots.items }
-        ensures sized { (j : ℕ) (d : Slot) → length (slice_index_or self.new.frame.slots.items j d).cells.items ≡ length (slice_index_or self.old.frame.slots.items j d).cells.items }
+        ensures sized { (j : ℕ) (d : Slot N) → length (slice_index_or self.new.frame.slots.items j d).cells.items ≡ length (slice_index_or self.old.frame.slots.items j d).cells.items }
         ensures left { self.new.left ≡ self.old.left }
         ensures room { self.new.tape.room ≡ self.old.tape.room }
-        ensures holds { (e : Entry) (s : Scene ℤ) → Holds e self.old s → Holds e self.new (record s { store = set s.store (var_at self.old.frame.names.now variable) cell word }) }
+        ensures holds { (e : Entry N.numbers) (s : Scene N) → Holds e self.old s → Holds e self.new (record s { store = set s.store (var_at self.old.frame.names.now variable) cell number }) }
     {
-        self.frame.set(variable, cell, word);
+        self.frame.set(variable, cell, number);
     }
 
-    // Sets a scalar, as the variable of a DO.
+    // Sets a scalar to a word, as the variable of a DO.
     pub(crate) fn turn(&mut self, variable: usize, word: i64)
         requires framed { IsFrame self.old.frame.names.now self.old.frame.slots.items }
         requires there { variable < length self.old.frame.names.now }
@@ -124,9 +125,9 @@ impl<'a> Machine<'a> {
         ensures counts { counts_in self.new.frame.slots.items ≡ counts_in self.old.frame.slots.items }
         ensures left { self.new.left ≡ self.old.left }
         ensures room { self.new.tape.room ≡ self.old.tape.room }
-        ensures holds { (e : Entry) (s : Scene ℤ) → Holds e self.old s → Holds e self.new (with_turn (setting_at e) (var_at self.old.frame.names.now variable) word s) }
+        ensures holds { (e : Entry N.numbers) (s : Scene N) → Holds e self.old s → Holds e self.new (with_turn (setting_at e) (var_at self.old.frame.names.now variable) word s) }
     {
-        self.put(variable, 0, word);
+        self.put(variable, 0, N::of_word(word));
     }
 
     // Adds the step to the variable of a DO.
@@ -138,9 +139,10 @@ impl<'a> Machine<'a> {
         ensures counts { counts_in self.new.frame.slots.items ≡ counts_in self.old.frame.slots.items }
         ensures left { self.new.left ≡ self.old.left }
         ensures room { self.new.tape.room ≡ self.old.tape.room }
-        ensures holds { (e : Entry) (s : Scene ℤ) → Holds e self.old s → Holds e self.new (stepped (setting_at e) (var_at self.old.frame.names.now course.now.variable) course.now.by s) }
+        ensures holds { (e : Entry N.numbers) (s : Scene N) → Holds e self.old s → Holds e self.new (stepped (setting_at e) (var_at self.old.frame.names.now course.now.variable) course.now.by s) }
     {
-        let word = add(self.frame.slots[course.variable].first(), course.by);
+        let value = self.frame.slots[course.variable].first();
+        let word = add(value.word(), course.by);
         self.turn(course.variable, word);
     }
 
@@ -169,7 +171,7 @@ impl<'a> Machine<'a> {
         ensures framed { IsFrame self.old.frame.names.now self.new.frame.slots.items }
         ensures counts { counts_in self.new.frame.slots.items ≡ counts_in self.old.frame.slots.items }
         ensures room { self.new.tape.room ≡ self.old.tape.room }
-        ensures ends { let q : Calls ℤ = calls_of (units_in program.now) depth in (e : Entry) (s : Scene ℤ) → Holds e self.old s → Ends e (run q (setting_at e) (steps_in self.old.frame.names.now steps.now) s self.old.left) result self.new }
+        ensures ends { let q : Calls N = calls_of (units_in program.now) depth in (e : Entry N.numbers) (s : Scene N) → Holds e self.old s → Ends e (run q (setting_at e) (steps_in self.old.frame.names.now steps.now) s self.old.left) result self.new }
     {
         let mut current = steps;
         while let Steps::More(step, rest) = current {
@@ -200,13 +202,13 @@ impl<'a> Machine<'a> {
         ensures framed { IsFrame self.old.frame.names.now self.new.frame.slots.items }
         ensures counts { counts_in self.new.frame.slots.items ≡ counts_in self.old.frame.slots.items }
         ensures room { self.new.tape.room ≡ self.old.tape.room }
-        ensures ends { let q : Calls ℤ = calls_of (units_in program.now) depth in (e : Entry) (s : Scene ℤ) → Holds e self.old s → Ends e (act q (setting_at e) (task_in self.old.frame.names.now task.now) line s self.old.left) result self.new }
+        ensures ends { let q : Calls N = calls_of (units_in program.now) depth in (e : Entry N.numbers) (s : Scene N) → Holds e self.old s → Ends e (act q (setting_at e) (task_in self.old.frame.names.now task.now) line s self.old.left) result self.new }
     {
         match task {
             Task::Assign(cell, term) => {
-                let word = self.value(term, line)?;
+                let number = self.value(term, line)?;
                 let place = self.target(cell, line)?;
-                self.put(cell.variable, place, word);
+                self.put(cell.variable, place, number);
                 Ok(())
             }
             Task::If(test, first, second) => {
@@ -249,7 +251,7 @@ impl<'a> Machine<'a> {
         ensures framed { IsFrame self.old.frame.names.now self.new.frame.slots.items }
         ensures counts { counts_in self.new.frame.slots.items ≡ counts_in self.old.frame.slots.items }
         ensures room { self.new.tape.room ≡ self.old.tape.room }
-        ensures ends { (name : List ℕ) → find_unit (units_in program.now) name ≡ slice_get (units_in program.now) number → (e : Entry) (s : Scene ℤ) → Holds e self.old s
+        ensures ends { (name : List ℕ) → find_unit (units_in program.now) name ≡ slice_get (units_in program.now) number → (e : Entry N.numbers) (s : Scene N) → Holds e self.old s
             → Ends e (calls_of (units_in program.now) depth (setting_at e) name (terms_in self.old.frame.names.now terms.now) line s self.old.left) result self.new }
     {
         if depth == 0 {
@@ -292,7 +294,7 @@ impl<'a> Machine<'a> {
         ensures framed { IsFrame self.old.frame.names.now self.new.frame.slots.items }
         ensures counts { counts_in self.new.frame.slots.items ≡ counts_in self.old.frame.slots.items }
         ensures room { self.new.tape.room ≡ self.old.tape.room }
-        ensures ends { let q : Calls ℤ = calls_of (units_in program.now) depth in (e : Entry) (s : Scene ℤ) → Holds e self.old s → Ends e (turns (setting_at e) count (run q (setting_at e) (steps_in self.old.frame.names.now body.now)) (stepped (setting_at e) (var_at self.old.frame.names.now course.now.variable) course.now.by) s self.old.left) result self.new }
+        ensures ends { let q : Calls N = calls_of (units_in program.now) depth in (e : Entry N.numbers) (s : Scene N) → Holds e self.old s → Ends e (turns (setting_at e) count (run q (setting_at e) (steps_in self.old.frame.names.now body.now)) (stepped (setting_at e) (var_at self.old.frame.names.now course.now.variable) course.now.by) s self.old.left) result self.new }
     {
         let mut remaining = count;
         while remaining > 0 {
@@ -326,7 +328,7 @@ impl<'a> Machine<'a> {
         ensures framed { IsFrame self.old.frame.names.now self.new.frame.slots.items }
         ensures counts { counts_in self.new.frame.slots.items ≡ counts_in self.old.frame.slots.items }
         ensures room { self.new.tape.room ≡ self.old.tape.room }
-        ensures ends { let q : Calls ℤ = calls_of (units_in program.now) depth in (e : Entry) (s : Scene ℤ) → Holds e self.old s → Ends e (tests (setting_at e) most_tests (λ s1. holds (setting_at e) (test_in self.old.frame.names.now test.now) s1.store) line (run q (setting_at e) (steps_in self.old.frame.names.now body.now)) s self.old.left) result self.new }
+        ensures ends { let q : Calls N = calls_of (units_in program.now) depth in (e : Entry N.numbers) (s : Scene N) → Holds e self.old s → Ends e (tests (setting_at e) most_tests (λ s1. holds (setting_at e) (test_in self.old.frame.names.now test.now) s1.store) line (run q (setting_at e) (steps_in self.old.frame.names.now body.now)) s self.old.left) result self.new }
     {
         let mut remaining = most_tests();
         while self.holds(test, line)? {

@@ -1,4 +1,4 @@
-//! What a unit's run gives.
+//! Values and the slots of an entry.
 
 ghost use Rattle.std.specs.Prelude.{◌≡◌, IfOk, map};
 ghost use Rattle.adj_interp.specs.Concludes.{slot_seen};
@@ -8,8 +8,24 @@ use adj_frame::Slot;
 use adj_tree::{Items, Memory, Slot as Value, Values};
 use std::alloc::Global;
 
+/// The slots of an input.
+pub(crate) fn slots_of(alloc: Global, input: &Values) -> Result<Vec<Slot<i64>>, Memory>
+    ensures { IfOk result (λ slots. map entry_seen slots.items ≡ map slot_seen input.now) }
+{
+    let mut slots = Vec::new(alloc);
+    for value in input.as_slice() {
+        let cells = value.cells.as_slice().to_vec(alloc)?;
+        slots.push(Slot {
+            rows: value.rows as usize,
+            cols: value.cols as usize,
+            cells,
+        })?;
+    }
+    Ok(slots)
+}
+
 /// Slots as values, whose cells they keep.
-pub(crate) fn values_of(alloc: Global, slots: Vec<Slot>) -> Result<Values, Memory>
+pub(crate) fn values_of(alloc: Global, slots: Vec<Slot<i64>>) -> Result<Values, Memory>
     ensures { IfOk result (λ values. map slot_seen values ≡ map entry_seen slots.items) }
 {
     let mut values = Vec::new(alloc);

@@ -1,6 +1,6 @@
 //! Calls of the runtime that speak of schedules. (docs/RUNNING.md, "Runtime calls")
 
-ghost use Rattle.std.specs.Prelude.{◌≡◌, ◌<◌, ◌≤◌, ◌-◌, ◌^◌, List, ℤ, IfOk, pos, length, slice_get};
+ghost use Rattle.std.specs.Prelude.{◌≡◌, ◌<◌, ◌≤◌, ◌-◌, ◌^◌, List, IfOk, pos, length, slice_get};
 ghost use Rattle.adj_revolve.specs.declared.machine.Action.{Action as AnAction};
 ghost use Rattle.adj_revolve.specs.Schedule.{schedule_of};
 ghost use Rattle.adj_tree.specs.Code.{begin_reversal, count_actions, give_action, end_reversal};
@@ -16,6 +16,7 @@ use crate::cursor::Cursor;
 use crate::machine::Machine;
 use crate::stop::Stop;
 use adj_frame::Term;
+use adj_number::Number;
 use adj_revolve::{Action, Schedule};
 use adj_tree::Trap;
 
@@ -123,17 +124,17 @@ fn resumed(cursor: Option<Cursor>, steps: u64, snapshots: u32) -> Cursor
     }
 }
 
-impl<'a> Machine<'a> {
+impl<'a, N: Number> Machine<'a, N> {
     // The steps and snapshots of a schedule.
     fn plan(&self, steps: &Term, snapshots: &Term, line: u32) -> Result<(u64, u32), Stop>
         requires framed { IsFrame self.now.frame.names.now self.now.frame.slots.items }
         requires steps_below { IsTermBelow (length self.now.frame.names.now) steps.now }
         requires snapshots_below { IsTermBelow (length self.now.frame.names.now) snapshots.now }
-        ensures plan { (e : Entry) (s : Scene ℤ) → Holds e self.now s → Finds line (plan_in (setting_at e) (term_in self.now.frame.names.now steps.now) (term_in self.now.frame.names.now snapshots.now) s.store) result }
+        ensures plan { (e : Entry N.numbers) (s : Scene N) → Holds e self.now s → Finds line (plan_in (setting_at e) (term_in self.now.frame.names.now steps.now) (term_in self.now.frame.names.now snapshots.now) s.store) result }
         ensures within { IfOk result (λ p. (p.0 ≤ 2 ^ 40) × (0 < p.1) × (p.1 ≤ 64)) }
     {
-        let length = self.value(steps, line)?;
-        let places = self.value(snapshots, line)?;
+        let length = self.value(steps, line)?.word();
+        let places = self.value(snapshots, line)?.word();
         let steps = steps_of(length).map_err(|trap| Stop::Trap(trap, line))?;
         let snapshots = snapshots_of(places).map_err(|trap| Stop::Trap(trap, line))?;
         Ok((steps, snapshots))
@@ -167,12 +168,12 @@ impl<'a> Machine<'a> {
         requires snapshots_below { IsTermBelow (length self.old.frame.names.now) snapshots.now }
         requires number_below { IsTermBelow (length self.old.frame.names.now) number.now }
         ensures rest { self.new ≡ record self.old { cursor = self.new.cursor } }
-        ensures action { (e : Entry) (s : Scene ℤ) → Holds e self.old s → Finds line (action_in (setting_at e) (term_in self.old.frame.names.now steps.now) (term_in self.old.frame.names.now snapshots.now) (term_in self.old.frame.names.now number.now) s.store) result }
+        ensures action { (e : Entry N.numbers) (s : Scene N) → Holds e self.old s → Finds line (action_in (setting_at e) (term_in self.old.frame.names.now steps.now) (term_in self.old.frame.names.now snapshots.now) (term_in self.old.frame.names.now number.now) s.store) result }
         ensures within { IfOk result (λ a. (lower_of a ≤ 2 ^ 40) × (upper_of a ≤ 2 ^ 40)) }
     {
-        let length = self.value(steps, line)?;
-        let places = self.value(snapshots, line)?;
-        let at = self.value(number, line)?;
+        let length = self.value(steps, line)?.word();
+        let places = self.value(snapshots, line)?.word();
+        let at = self.value(number, line)?.word();
         match self.looked_up(length, places, at) {
             Ok(action) => Ok(action),
             Err(trap) => Err(Stop::Trap(trap, line)),
@@ -186,7 +187,7 @@ impl<'a> Machine<'a> {
         requires snapshots_below { IsTermBelow (length self.old.frame.names.now) snapshots.now }
         ensures frame { self.new.frame ≡ self.old.frame }
         ensures room { self.new.tape.room ≡ self.old.tape.room }
-        ensures ends { (e : Entry) (s : Scene ℤ) → Holds e self.old s
+        ensures ends { (e : Entry N.numbers) (s : Scene N) → Holds e self.old s
             → Ends e (runtime_act (setting_at e) (begin_reversal (term_in self.old.frame.names.now steps.now) (term_in self.old.frame.names.now snapshots.now)) line s self.old.left) result self.new }
     {
         let plan = self.plan(steps, snapshots, line)?;
@@ -201,7 +202,7 @@ impl<'a> Machine<'a> {
     pub(crate) fn end(&mut self, line: u32) -> Result<(), Stop>
         ensures frame { self.new.frame ≡ self.old.frame }
         ensures room { self.new.tape.room ≡ self.old.tape.room }
-        ensures ends { (e : Entry) (s : Scene ℤ) → Holds e self.old s
+        ensures ends { (e : Entry N.numbers) (s : Scene N) → Holds e self.old s
             → Ends e (runtime_act (setting_at e) end_reversal line s self.old.left) result self.new }
     {
         if self.tally.open() == self.base {
@@ -229,7 +230,7 @@ impl<'a> Machine<'a> {
         ensures framed { IsFrame self.old.frame.names.now self.new.frame.slots.items }
         ensures counts { counts_in self.new.frame.slots.items ≡ counts_in self.old.frame.slots.items }
         ensures room { self.new.tape.room ≡ self.old.tape.room }
-        ensures ends { (e : Entry) (s : Scene ℤ) → Holds e self.old s
+        ensures ends { (e : Entry N.numbers) (s : Scene N) → Holds e self.old s
             → Ends e (runtime_act (setting_at e) (count_actions (term_in self.old.frame.names.now steps.now) (term_in self.old.frame.names.now snapshots.now) (var_at self.old.frame.names.now variable)) line s self.old.left) result self.new }
     {
         let plan = self.plan(steps, snapshots, line)?;
@@ -250,7 +251,7 @@ impl<'a> Machine<'a> {
         ensures counts { counts_in self.new.frame.slots.items ≡ counts_in self.old.frame.slots.items }
         ensures left { self.new.left ≡ self.old.left }
         ensures room { self.new.tape.room ≡ self.old.tape.room }
-        ensures holds { (e : Entry) (s : Scene ℤ) → Holds e self.old s → Holds e self.new (given_in (setting_at e) (var_at self.old.frame.names.now kind) (var_at self.old.frame.names.now lower) (var_at self.old.frame.names.now upper) action.now s) }
+        ensures holds { (e : Entry N.numbers) (s : Scene N) → Holds e self.old s → Holds e self.new (given_in (setting_at e) (var_at self.old.frame.names.now kind) (var_at self.old.frame.names.now lower) (var_at self.old.frame.names.now upper) action.now s) }
     {
         self.turn(kind, kind_of(action));
         self.turn(lower, lower_of(action));
@@ -277,7 +278,7 @@ impl<'a> Machine<'a> {
         ensures framed { IsFrame self.old.frame.names.now self.new.frame.slots.items }
         ensures counts { counts_in self.new.frame.slots.items ≡ counts_in self.old.frame.slots.items }
         ensures room { self.new.tape.room ≡ self.old.tape.room }
-        ensures ends { (e : Entry) (s : Scene ℤ) → Holds e self.old s
+        ensures ends { (e : Entry N.numbers) (s : Scene N) → Holds e self.old s
             → Ends e (runtime_act (setting_at e) (give_action (term_in self.old.frame.names.now steps.now) (term_in self.old.frame.names.now snapshots.now) (term_in self.old.frame.names.now number.now) (var_at self.old.frame.names.now targets.0) (var_at self.old.frame.names.now targets.1) (var_at self.old.frame.names.now targets.2)) line s self.old.left) result self.new }
     {
         let action = self.asked(steps, snapshots, number, line)?;

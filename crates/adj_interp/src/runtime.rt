@@ -1,6 +1,6 @@
 //! Calls of the runtime. Those of schedules stand in `planning`. (docs/RUNNING.md, "Runtime calls")
 
-ghost use Rattle.std.specs.Prelude.{◌≡◌, ◌<◌, ℕ, ℤ, pos, length, slice_index_or};
+ghost use Rattle.std.specs.Prelude.{◌≡◌, ◌<◌, ℕ, length, slice_index_or};
 ghost use Rattle.adj_tree.specs.Code.{push_word, pop_word, push_array, pop_array, push_control};
 ghost use Rattle.adj_meaning.specs.Scene.{Scene, pushed, popped};
 ghost use Rattle.adj_meaning.specs.Store.{set_all};
@@ -8,43 +8,44 @@ ghost use Rattle.adj_meaning.specs.Runtime.{runtime_act};
 ghost use Rattle.adj_frame.specs.declared.slot.Slot.{Slot};
 ghost use Rattle.adj_frame.specs.Prepared.{var_at, term_in, terms_in, IsTermBelow};
 ghost use Rattle.adj_frame.specs.Instructed.{service_in, IsCellBelow, IsServiceBelow};
-ghost use Rattle.adj_frame.specs.Framed.{IsFrame};
+ghost use Rattle.adj_frame.specs.Framed.{IsFrame, zero_in};
 ghost use Rattle.adj_frame.specs.Suited.{counts_in};
 ghost use Rattle.adj_interp.specs.Held.{Entry, setting_at, Holds, Ends};
 
 use crate::machine::Machine;
 use crate::stop::Stop;
 use adj_frame::{Cell, Service, Term};
+use adj_number::Number;
 use adj_tree::Trap;
 
-impl<'a> Machine<'a> {
-    // Pushes a word, where the tape has room for it.
-    fn push(&mut self, word: i64) -> Result<(), Stop>
+impl<'a, N: Number> Machine<'a, N> {
+    // Pushes a number, where the tape has room for it.
+    fn push(&mut self, number: N) -> Result<(), Stop>
         ensures frame { self.new.frame ≡ self.old.frame }
         ensures room { self.new.tape.room ≡ self.old.tape.room }
-        ensures ends { (e : Entry) (s : Scene ℤ) → Holds e self.old s → Ends e (pushed (setting_at e) word s self.old.left) result self.new }
+        ensures ends { (e : Entry N.numbers) (s : Scene N) → Holds e self.old s → Ends e (pushed (setting_at e) number s self.old.left) result self.new }
     {
-        match self.tape.push(word) {
+        match self.tape.push(number) {
             Ok(()) => Ok(()),
             Err(_) => Err(Stop::TapeFull),
         }
     }
 
-    // Pops a word into a cell.
+    // Pops a number into a cell.
     fn pop(&mut self, variable: usize, cell: usize, line: u32) -> Result<(), Stop>
         requires framed { IsFrame self.old.frame.names.now self.old.frame.slots.items }
         requires there { variable < length self.old.frame.names.now }
-        requires within { (d : Slot) → cell < length (slice_index_or self.old.frame.slots.items variable d).cells.items }
+        requires within { (d : Slot N) → cell < length (slice_index_or self.old.frame.slots.items variable d).cells.items }
         ensures names { self.new.frame.names.now ≡ self.old.frame.names.now }
         ensures framed { IsFrame self.old.frame.names.now self.new.frame.slots.items }
         ensures counts { counts_in self.new.frame.slots.items ≡ counts_in self.old.frame.slots.items }
-        ensures sized { (j : ℕ) (d : Slot) → length (slice_index_or self.new.frame.slots.items j d).cells.items ≡ length (slice_index_or self.old.frame.slots.items j d).cells.items }
+        ensures sized { (j : ℕ) (d : Slot N) → length (slice_index_or self.new.frame.slots.items j d).cells.items ≡ length (slice_index_or self.old.frame.slots.items j d).cells.items }
         ensures room { self.new.tape.room ≡ self.old.tape.room }
-        ensures ends { (e : Entry) (s : Scene ℤ) → Holds e self.old s → Ends e (popped (setting_at e) (var_at self.old.frame.names.now variable) cell line s self.old.left) result self.new }
+        ensures ends { (e : Entry N.numbers) (s : Scene N) → Holds e self.old s → Ends e (popped (setting_at e) (var_at self.old.frame.names.now variable) cell line s self.old.left) result self.new }
     {
         match self.tape.pop() {
-            Some(word) => {
-                self.put(variable, cell, word);
+            Some(number) => {
+                self.put(variable, cell, number);
                 Ok(())
             }
             None => Err(Stop::Trap(Trap::Tape, line)),
@@ -59,12 +60,12 @@ impl<'a> Machine<'a> {
         ensures framed { IsFrame self.old.frame.names.now self.new.frame.slots.items }
         ensures counts { counts_in self.new.frame.slots.items ≡ counts_in self.old.frame.slots.items }
         ensures room { self.new.tape.room ≡ self.old.tape.room }
-        ensures ends { (e : Entry) (s : Scene ℤ) → Holds e self.old s
+        ensures ends { (e : Entry N.numbers) (s : Scene N) → Holds e self.old s
             → Ends e (runtime_act (setting_at e) (push_word (var_at self.old.frame.names.now cell.now.variable) (terms_in self.old.frame.names.now cell.now.subs)) line s self.old.left) result self.new }
     {
         let place = self.target(cell, line)?;
-        let word = self.frame.slots[cell.variable].cells[place];
-        self.push(word)
+        let number = self.frame.slots[cell.variable].cells[place];
+        self.push(number)
     }
 
     // Pops a scalar or an element. Its subscripts come before the tape.
@@ -75,7 +76,7 @@ impl<'a> Machine<'a> {
         ensures framed { IsFrame self.old.frame.names.now self.new.frame.slots.items }
         ensures counts { counts_in self.new.frame.slots.items ≡ counts_in self.old.frame.slots.items }
         ensures room { self.new.tape.room ≡ self.old.tape.room }
-        ensures ends { (e : Entry) (s : Scene ℤ) → Holds e self.old s
+        ensures ends { (e : Entry N.numbers) (s : Scene N) → Holds e self.old s
             → Ends e (runtime_act (setting_at e) (pop_word (var_at self.old.frame.names.now cell.now.variable) (terms_in self.old.frame.names.now cell.now.subs)) line s self.old.left) result self.new }
     {
         let place = self.target(cell, line)?;
@@ -88,13 +89,13 @@ impl<'a> Machine<'a> {
         requires there { variable < length self.old.frame.names.now }
         ensures frame { self.new.frame ≡ self.old.frame }
         ensures room { self.new.tape.room ≡ self.old.tape.room }
-        ensures ends { (line : ℕ) (e : Entry) (s : Scene ℤ) → Holds e self.old s
+        ensures ends { (line : ℕ) (e : Entry N.numbers) (s : Scene N) → Holds e self.old s
             → Ends e (runtime_act (setting_at e) (push_array (var_at self.old.frame.names.now variable)) line s self.old.left) result self.new }
     {
         let count = self.frame.slots[variable].cells.len();
         for cell in 0..count {
-            let word = self.frame.slots[variable].cells[cell];
-            self.push(word)?;
+            let number = self.frame.slots[variable].cells[cell];
+            self.push(number)?;
         }
         Ok(())
     }
@@ -107,7 +108,7 @@ impl<'a> Machine<'a> {
         ensures framed { IsFrame self.old.frame.names.now self.new.frame.slots.items }
         ensures counts { counts_in self.new.frame.slots.items ≡ counts_in self.old.frame.slots.items }
         ensures room { self.new.tape.room ≡ self.old.tape.room }
-        ensures ends { (e : Entry) (s : Scene ℤ) → Holds e self.old s
+        ensures ends { (e : Entry N.numbers) (s : Scene N) → Holds e self.old s
             → Ends e (runtime_act (setting_at e) (pop_array (var_at self.old.frame.names.now variable)) line s self.old.left) result self.new }
     {
         let mut remaining = self.frame.slots[variable].cells.len();
@@ -124,11 +125,11 @@ impl<'a> Machine<'a> {
         requires below { IsTermBelow (length self.old.frame.names.now) term.now }
         ensures frame { self.new.frame ≡ self.old.frame }
         ensures room { self.new.tape.room ≡ self.old.tape.room }
-        ensures ends { (e : Entry) (s : Scene ℤ) → Holds e self.old s
+        ensures ends { (e : Entry N.numbers) (s : Scene N) → Holds e self.old s
             → Ends e (runtime_act (setting_at e) (push_control (term_in self.old.frame.names.now term.now)) line s self.old.left) result self.new }
     {
-        let word = self.value(term, line)?;
-        self.push(word)
+        let number = self.value(term, line)?;
+        self.push(number)
     }
 
     // Puts 0 into each cell of a variable.
@@ -140,7 +141,7 @@ impl<'a> Machine<'a> {
         ensures counts { counts_in self.new.frame.slots.items ≡ counts_in self.old.frame.slots.items }
         ensures left { self.new.left ≡ self.old.left }
         ensures room { self.new.tape.room ≡ self.old.tape.room }
-        ensures holds { (e : Entry) (s : Scene ℤ) → Holds e self.old s → Holds e self.new (record s { store = set_all s.store (var_at self.old.frame.names.now variable) (λ j. pos 0) }) }
+        ensures holds { (e : Entry N.numbers) (s : Scene N) → Holds e self.old s → Holds e self.new (record s { store = set_all s.store (var_at self.old.frame.names.now variable) (λ j. zero_in N.numbers) }) }
     {
         self.frame.clear(variable);
     }
@@ -153,7 +154,7 @@ impl<'a> Machine<'a> {
         ensures framed { IsFrame self.old.frame.names.now self.new.frame.slots.items }
         ensures counts { counts_in self.new.frame.slots.items ≡ counts_in self.old.frame.slots.items }
         ensures room { self.new.tape.room ≡ self.old.tape.room }
-        ensures ends { (e : Entry) (s : Scene ℤ) → Holds e self.old s
+        ensures ends { (e : Entry N.numbers) (s : Scene N) → Holds e self.old s
             → Ends e (runtime_act (setting_at e) (service_in self.old.frame.names.now service.now) line s self.old.left) result self.new }
     {
         match service {

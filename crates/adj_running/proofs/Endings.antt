@@ -21,7 +21,7 @@ use Rattle.adj_answer.specs.Answer.{Answer}
 use Rattle.adj_running.specs.Views.{stop_answer}
 use Rattle.adj_running.specs.Running.{Asked, done, trapped, used_up, tape_full, ended, run_asked}
 
-module _ (r : Asked) (names : List (List ℕ)) (tape : Held) (log : Log) where
+module _ (r : Asked) (names : List (List ℕ)) (tape : Held ℤ) (log : Log) where
   pub when_done : (o : Outcome (Output ℤ)) (values : List CodeSlot) → Concludes o (Ok values) tape log → done names (map slot_seen values) (length tape.words) log.used ≡ ended r names o
   when_done (Done out used) values h = λ i. done names (h.0 i) (length (sym h.1 i)) (h.2 i)
   when_done (Trapped t line w) values h = absurd h
@@ -54,7 +54,7 @@ module _ (r : Asked) (names : List (List ℕ)) (tape : Held) (log : Log) where
   when_stopped o stop.Memory a h is = absurd cc
 
 -- a run that is done gives a slot for each dummy
-slot_each : (u : Procedure) (o : Outcome (Output ℤ)) (values : List CodeSlot) (tape : Held) (log : Log) → Concludes o (Ok values) tape log → ((out : Output ℤ) (used : ℕ) → o ≡ Done out used → length out.slots ≡ length u.dummies) → length u.dummies ≡ length values
+slot_each : (u : Procedure) (o : Outcome (Output ℤ)) (values : List CodeSlot) (tape : Held ℤ) (log : Log) → Concludes o (Ok values) tape log → ((out : Output ℤ) (used : ℕ) → o ≡ Done out used → length out.slots ≡ length u.dummies) → length u.dummies ≡ length values
 slot_each u (Done out used) values tape log h many = sym (many out used refl) ∙ ap length (sym h.0) ∙ length-map values slot_seen
 slot_each u (Trapped t line w) values tape log h many = absurd h
 slot_each u (More w) values tape log h many = absurd h
@@ -78,18 +78,18 @@ module _ (r : Asked) (ps : List Procedure) (u : Procedure) (input : List (Slot �
   gives s k = record { slots = dummy_slots (setting_in outside u start.store) u s.store; tape = s.tape; events = reverse s.events }
 
   -- as many values as dummies
-  pub slots_counted : (values : List CodeSlot) (tape : Held) (log : Log) → Concludes (run_asked r ps u input) (Ok values) tape log → length u.dummies ≡ length values
+  pub slots_counted : (values : List CodeSlot) (tape : Held ℤ) (log : Log) → Concludes (run_asked r ps u input) (Ok values) tape log → length u.dummies ≡ length values
   slots_counted values tape log h =
       slot_each u (run_asked r ps u input) values tape log h
       (λ out used e. from_end u gives (λ k. r.budget - k) (λ s k. length-map u.dummies (λ d. slot_of ((setting_in outside u start.store).shape (plain d)) (s.store (plain d)))) (unit_run (calls_of ps r.budget) outside u u.line start r.budget) out used e)
 
   -- a run from a tape that is empty and has the room that is asked for
-  from_empty : (held : List ℤ) (room : ℕ) → held ≡ [] → room ≡ r.room → (result : Result (List CodeSlot) Stop) (tape : Held) (log : Log) → Concludes (run_unit words ps u input held (Some room) r.budget) result tape log → Concludes (run_asked r ps u input) result tape log
+  from_empty : (held : List ℤ) (room : ℕ) → held ≡ [] → room ≡ r.room → (result : Result (List CodeSlot) Stop) (tape : Held ℤ) (log : Log) → Concludes (run_unit words ps u input held (Some room) r.budget) result tape log → Concludes (run_asked r ps u input) result tape log
   from_empty held room empty taken result tape log h = subst (λ o. Concludes o result tape log) (λ i. run_unit words ps u input (empty i) (Some (taken i)) r.budget) h
 
 -- ---- the answer to a run of the unit of a number, from a tape that is empty and has the room that is asked for
 
-module _ (r : Asked) (ps : List Procedure) (n : ℕ) (input : List (Slot ℤ)) (held : List ℤ) (room : ℕ) (empty : held ≡ []) (taken : room ≡ r.room) (result : Result (List CodeSlot) Stop) (tape : Held) (log : Log) where
+module _ (r : Asked) (ps : List Procedure) (n : ℕ) (input : List (Slot ℤ)) (held : List ℤ) (room : ℕ) (empty : held ≡ []) (taken : room ≡ r.room) (result : Result (List CodeSlot) Stop) (tape : Held ℤ) (log : Log) where
   -- whatever unit it is, its run concludes so
   pub concluded : ((u : Procedure) → slice_get ps n ≡ Some u → Concludes (run_unit words ps u input held (Some room) r.budget) result tape log) → (u : Procedure) → slice_get ps n ≡ Some u → Concludes (run_asked r ps u input) result tape log
   concluded ends u at = from_empty r ps u input held room empty taken result tape log (ends u at)

@@ -1,8 +1,8 @@
 -- What a tape holds. (docs/RUNNING.md, "Runtime calls")
-use Rattle.std.specs.Prelude.{ℕ, ℤ, List}
+use Rattle.std.specs.Prelude.{ℕ, List}
 
-pub record Held : Type 0 where
+pub record Held (C : Type 0) : Type 0 where
   -- the words, from the top down
-  pub words : List ℤ
+  pub words : List C
   -- how many there may be
   pub room : ℕ

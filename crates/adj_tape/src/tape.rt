@@ -20,24 +20,25 @@ impl From<AllocError> for Memory {
 #[derive(Clone, Copy, Debug, PartialEq, Eq)]
 pub struct Full;
 
-/// Words on top of one another, and how many of them there may be.
+/// Words on top of one another, and how many of them there may be. A word is of any type that is copied: in a dual run it
+/// carries a tangent.
 #[derive(Drop)]
-pub struct Tape {
-    words: Vec<i64>,
+pub struct Tape<N: Copy> {
+    words: Vec<N>,
     room: usize,
 }
 
-impl Model for Tape {
-    ghost Value = { Held };
+impl<N: Copy> Model for Tape<N> {
+    ghost Value = { Held N };
 
     ghost view = { λ t. record { words = reverse t.words.items; room = t.room } };
 
     ghost invariant = { λ t. (vec_len t.words ≤ t.room) × (t.room ≤ vec_capacity t.words) };
 }
 
-impl Tape {
+impl<N: Copy> Tape<N> {
     /// An empty tape for so many words, at most 134217728. Their memory is taken here.
-    pub fn with_room(alloc: Global, words: u64) -> Result<Tape, Memory>
+    pub fn with_room(alloc: Global, words: u64) -> Result<Tape<N>, Memory>
         requires { words ≤ 134217728 }
         ensures empty { IfOk result (λ tape. tape.words ≡ []) }
         ensures room { IfOk result (λ tape. tape.room ≡ words) }
@@ -50,7 +51,7 @@ impl Tape {
     }
 
     /// Puts a word on top. `Full` where the room is used up; the tape is then as it was.
-    pub fn push(&mut self, word: i64) -> Result<(), Full>
+    pub fn push(&mut self, word: N) -> Result<(), Full>
         ensures full { IsErr result ↔ (length self.old.words ≡ self.old.room) }
         ensures room { IsOk result ↔ (length self.old.words < self.old.room) }
         ensures pushed { OnOk result (self.new ≡ record self.old { words = word ∷ self.old.words }) }
@@ -64,7 +65,7 @@ impl Tape {
     }
 
     /// Takes the word on top, which is the last that was pushed and not popped. None where there is no word.
-    pub fn pop(&mut self) -> Option<i64>
+    pub fn pop(&mut self) -> Option<N>
         ensures { MatchOption result
             ((self.old.words ≡ []) × (self.new ≡ self.old))
             (λ word. self.old ≡ record self.new { words = word ∷ self.new.words }) }

@@ -16,7 +16,7 @@ each_fits u s none [] (w ∷ ws) n = absurd (omega arith)
 each_fits u s none (d ∷ ds) [] n = absurd (omega arith)
 each_fits u s none (d ∷ ds) (w ∷ ws) n = rw none (each_fits u s none ds ws (omega arith))
 
-none_declared : (ds : List Decl) → length ds ≡ 0 → map declaration_of ds ≡ []
+pub none_declared : (ds : List Decl) → length ds ≡ 0 → map declaration_of ds ≡ []
 none_declared [] h = refl
 none_declared (d ∷ ds) h = absurd (omega arith)
 

@@ -1,2 +1,3 @@
 -- The proofs of the tests.
 pub mod Fitting
+pub mod Pairing

@@ -26,7 +26,7 @@ fn names(alloc: Global) -> Result<NameList, Memory>
 }
 
 // A machine in an entry of scalars that are all 0, with so many statements left.
-fn machine<'a>(alloc: Global, names: &'a NameList, left: u64) -> Result<Machine<'a>, Memory>
+fn machine<'a>(alloc: Global, names: &'a NameList, left: u64) -> Result<Machine<'a, i64>, Memory>
     requires { AreApart names.now }
     ensures names { IfOk result (λ m. m.frame.names.now ≡ names.now) }
     ensures framed { IfOk result (λ m. IsFrame names.now m.frame.slots.items) }

@@ -22,8 +22,8 @@ struct Ended {
     tape: Vec<i64>,
 }
 
-// The program of a text whose lines begin in column 7, checked as one that is run.
-fn checked(alloc: Global, text: &str) -> Result<Checked, Fault> {
+/// The program of a text whose lines begin in column 7, checked as one that is run.
+pub(crate) fn checked(alloc: Global, text: &str) -> Result<Checked, Fault> {
     let mut bytes = Vec::new(alloc);
     for line in text.split('\n') {
         bytes.extend_from_slice(b"      ")?;
@@ -51,8 +51,8 @@ fn scalars(alloc: Global, words: &[i64]) -> Result<Values, Memory>
     Ok(Items::new(slots))
 }
 
-// The first cells of values.
-fn first_words(alloc: Global, values: &Values) -> Result<Vec<i64>, Memory> {
+/// The first cells of values.
+pub(crate) fn first_words(alloc: Global, values: &Values) -> Result<Vec<i64>, Memory> {
     let mut words = Vec::new(alloc);
     for value in values.as_slice() {
         if let Some(word) = value.cells.as_slice().first() {
@@ -63,7 +63,7 @@ fn first_words(alloc: Global, values: &Values) -> Result<Vec<i64>, Memory> {
 }
 
 // The words of a tape, from the top down.
-fn taken(alloc: Global, tape: &mut Tape) -> Result<Vec<i64>, Memory> {
+fn taken(alloc: Global, tape: &mut Tape<i64>) -> Result<Vec<i64>, Memory> {
     let mut words = Vec::new(alloc);
     for _ in 0..tape.len() {
         if let Some(word) = tape.pop() {
@@ -73,8 +73,8 @@ fn taken(alloc: Global, tape: &mut Tape) -> Result<Vec<i64>, Memory> {
     Ok(words)
 }
 
-// Whether a unit declares no variable, and has so many dummies.
-fn suits(unit: &Unit, count: usize) -> bool
+/// Whether a unit declares no variable, and has so many dummies.
+pub(crate) fn suits(unit: &Unit, count: usize) -> bool
     ensures { result ≡ true → (length unit.now.decls ≡ 0) × (length unit.now.dummies ≡ count) }
 {
     unit.decls.as_slice().len() == 0 && unit.dummies.as_slice().len() == count

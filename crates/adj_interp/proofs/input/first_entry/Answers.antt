@@ -1,4 +1,4 @@
-use Rattle.std.proofs.Common.{◌≡◌, true, false, map, length, sym, ap, subst, ◌∙◌, arith}
+use Rattle.std.proofs.Common.{◌≡◌, true, false, map, length, sym, ap, subst, ◌∙◌, arith, Vec, Global}
 use Rattle.adj_tree.specs.View.{procedure_of}
 use Rattle.adj_meaning.specs.Agree.{AreApart}
 use Rattle.std.specs.Prelude.{Err}
@@ -6,52 +6,52 @@ use Rattle.adj_frame.specs.declared.entry.Unfit.TheVariants as unfit
 use Rattle.adj_frame.specs.Framed.{shapes_in, store_in}
 use Rattle.adj_frame.specs.Shown.{Shows}
 use Rattle.adj_frame.specs.Called.{actuals_in, entered_with, fit_from}
-use Rattle.adj_interp.specs.Concludes.{slot_seen}
-use Rattle.adj_interp.specs.Inputs.{input_shape}
+use Rattle.adj_frame.specs.declared.slot.Slot.{Slot as EntrySlot}
+use Rattle.adj_interp.specs.Inputs.{entry_seen, input_shape}
 use Rattle.adj_frame.proofs.Showing.{shows_itself}
 use Rattle.adj_interp.proofs.Inputting.{apart_front, input_entered, input_fits}
 use Rattle.adj_interp.proofs.input.first_entry.Goals as goal
 
 pub outside-requires-clause-apart : goal.outside-requires-clause-apart
-outside-requires-clause-apart c =
+outside-requires-clause-apart g c =
     let l = c.requires.laid in
     apart_front c.args.routine.now.unit.now.dummies l.others (subst AreApart l.names l.apart)
 
 -- dummies of an input that fits fit
 pub unreachable-requires : goal.unreachable-requires
-unreachable-requires c =
+unreachable-requires g c =
     let r = c.args.routine.now in
     let u = procedure_of c.args.routine.now.unit.now in
-    let input = map slot_seen c.args.input.now in
-    let f = c.in_ok-caller.caller in
+    let input = map entry_seen c.args.input.items in
+    let f = c.outside-caller.result in
     let vs = f.slots.items in
-    let k = c.in_ok-caller.ensures in
+    let k = c.outside-caller.ensures in
     let all = c.in_ok-actuals.actuals.items in
     let named = k.names in
     let value = c.as_slice.ensures.value in
     let many = c.in_ok-actuals.ensures.count in
     let len = c.len.ensures in
-    let count : length c.in_ok-actuals.actuals.items ≡ length c.in_ok-caller.caller.slots.items = omega (arith, many, len) in
+    let count : length c.in_ok-actuals.actuals.items ≡ length c.outside-caller.result.slots.items = omega (arith, many, len) in
     let misfit : c.entry.result ≡ Err unfit.Shape = c.in-Err-Shape.is ∙ ap Err c.in-Err-Shape.field-0-is in
-    let bad = c.entry.ensures.unfit misfit (shapes_in f.names.now vs) (store_in f.names.now vs) (shows_itself f.names.now vs) in
-    let good = input_fits u input vs all k.framed k.slots count (λ j d lt. c.in_ok-actuals.ensures.each j d (omega (arith, lt, len))) c.requires.fits in
-    let both : true ≡ false = sym good ∙ sym (λ i. fit_from r (actuals_in (named i) (shapes_in (named i) vs) (store_in (named i) vs) (value i)) 0) ∙ bad in
+    let bad = c.entry.ensures.unfit misfit (shapes_in f.names.now vs) (store_in g.N.Number.numbers f.names.now vs) (shows_itself g.N.Number.numbers f.names.now vs) in
+    let good = input_fits g.N.Number.numbers u input vs all k.framed (ap (λ (z : Vec (EntrySlot _) Global). map entry_seen z.items) k.slots) count (λ j d lt. c.in_ok-actuals.ensures.each j d (omega (arith, lt, len))) c.requires.fits in
+    let both : true ≡ false = sym good ∙ sym (λ i. fit_from g.N.Number.numbers r (actuals_in (named i) (shapes_in (named i) vs) (store_in g.N.Number.numbers (named i) vs) (value i)) 0) ∙ bad in
     absurd cc
 
 pub returns-in-Ok-clause-shown : goal.returns-in-Ok-clause-shown
-returns-in-Ok-clause-shown c =
+returns-in-Ok-clause-shown g c =
     let r = c.args.routine.now in
     let u = procedure_of c.args.routine.now.unit.now in
-    let input = map slot_seen c.args.input.now in
-    let f = c.in_ok-caller.caller in
+    let input = map entry_seen c.args.input.items in
+    let f = c.outside-caller.result in
     let vs = f.slots.items in
-    let k = c.in_ok-caller.ensures in
+    let k = c.outside-caller.ensures in
     let all = c.in_ok-actuals.actuals.items in
     let named = k.names in
     let value = c.as_slice.ensures.value in
     let many = c.in_ok-actuals.ensures.count in
     let len = c.len.ensures in
-    let count : length c.in_ok-actuals.actuals.items ≡ length c.in_ok-caller.caller.slots.items = omega (arith, many, len) in
-    let shown = c.in-Ok.ensures.shown (shapes_in f.names.now vs) (store_in f.names.now vs) (shows_itself f.names.now vs) in
-    let path = (λ i. entered_with r (actuals_in (named i) (shapes_in (named i) vs) (store_in (named i) vs) (value i))) ∙ input_entered u input vs all k.framed k.slots count (λ j d lt. c.in_ok-actuals.ensures.each j d (omega (arith, lt, len))) in
-    subst (λ st. Shows r.names c.in-Ok.slots.items (input_shape u st) st) path shown
+    let count : length c.in_ok-actuals.actuals.items ≡ length c.outside-caller.result.slots.items = omega (arith, many, len) in
+    let shown = c.in-Ok.ensures.shown (shapes_in f.names.now vs) (store_in g.N.Number.numbers f.names.now vs) (shows_itself g.N.Number.numbers f.names.now vs) in
+    let path = (λ i. entered_with g.N.Number.numbers r (actuals_in (named i) (shapes_in (named i) vs) (store_in g.N.Number.numbers (named i) vs) (value i))) ∙ input_entered g.N.Number.numbers u input vs all k.framed (ap (λ (z : Vec (EntrySlot _) Global). map entry_seen z.items) k.slots) count (λ j d lt. c.in_ok-actuals.ensures.each j d (omega (arith, lt, len))) in
+    subst (λ st. Shows g.N.Number.numbers r.names c.in-Ok.slots.items (input_shape g.N.Number.numbers u st) st) path shown

@@ -1,127 +1,35 @@
-use Rattle.std.proofs.Common.{rules, ◌≡◌, ◌<◌, List, map, take, length, refl, sym, ap, subst, ◌∙◌, arith, Some}
-use Rattle.std.specs.Prelude.{ℤ, slice_get, Err, Ok}
-use Rattle.std.proofs.lemmas.List.{length-map}
-use Rattle.adj_tree.specs.Code.{Procedure}
-use Rattle.adj_tree.specs.View.{procedure_of, procedures_of}
+use Rattle.std.proofs.Common.{◌≡◌, true, List, map, sym, subst, Vec, Global}
+use Rattle.std.specs.Prelude.{ℤ, Some, Ok, Err, Result}
+use Rattle.adj_tree.specs.View.{procedures_of}
 use Rattle.adj_meaning.specs.Numbers.{words}
-use Rattle.adj_meaning.specs.Scene.{Outcome}
-use Rattle.adj_meaning.specs.Units.{Output, input_store, run_unit}
-use Rattle.adj_frame.specs.declared.routine.Routine.{Routine}
-use Rattle.adj_frame.specs.Framed.{IsFrame}
-use Rattle.adj_frame.specs.Linked.{IsRoutine, units_in}
-use Rattle.adj_frame.specs.Shown.{Shows}
-use Rattle.adj_interp.specs.declared.stop.Stop.TheVariants as stop
-use Rattle.adj_interp.specs.Concludes.{Concludes, slot_seen}
-use Rattle.adj_interp.specs.Inputs.{entry_seen, input_shape}
-use Rattle.adj_interp.proofs.Calling.{unit_at, entered_suited}
-use Rattle.adj_interp.proofs.Concluding.{values_shown}
-use Rattle.adj_interp.proofs.Running.{first_entry, first_scene, starts, stopped, done}
+use Rattle.adj_meaning.specs.Units.{Slot, fits, run_unit}
+use Rattle.adj_frame.specs.declared.slot.Slot.{Slot as EntrySlot}
+use Rattle.adj_interp.specs.Ended.{EndsWith}
+use Rattle.adj_interp.specs.Inputs.{entry_seen}
+use Rattle.adj_interp.proofs.Worded.{words_stop, words_done}
 use Rattle.adj_interp.proofs.runs.run.Goals as goal
 
-same_unit : (a b : Procedure) → Some a ≡ Some b → a ≡ b
-same_unit a b h = cc
+-- the slots of an entry, as they are seen
+abbrev seen : Vec (EntrySlot ℤ) Global → List (Slot ℤ)
+seen slots = map entry_seen slots.items
 
--- a run is of the unit and the program that it is of
-turned : (us ps : List Procedure) (v u : Procedure) (go : List Procedure → Procedure → Outcome (Output ℤ)) (P : Outcome (Output ℤ) → Type 0) → us ≡ ps → v ≡ u → P (go us v) → P (go ps u)
-turned us ps v u go P p q h = subst P (λ i. go (p i) (q i)) h
+pub run_over-requires-clause-fits : goal.run_over-requires-clause-fits
+run_over-requires-clause-fits c u at = subst (λ vs. fits words u vs ≡ true) (sym c.in_ok-slots.ensures) (c.requires.fits u at)
 
-pub first_entry-requires-clause-fits : goal.first_entry-requires-clause-fits
-first_entry-requires-clause-fits c =
-    let rs = c.in_ok-routines.routines.items in
-    let r = c.index-routine.result.now in
-    let units = c.in_ok-routines.ensures.units in
-    let n = length-map rs (λ (z : Routine). procedure_of z.unit.now) in
-    let there = c.requires.there in
-    let many = ap length units in
-    let lt : c.args.unit < length c.in_ok-routines.routines.items = omega (arith, n, there, many) in
-    let at = ap (λ ps. slice_get ps c.args.unit) (sym units) ∙ unit_at rs c.args.unit r lt ∙ ap (λ (z : Routine). Some (procedure_of z.unit.now)) (sym c.index-routine.ensures) in
-    c.requires.fits (procedure_of r.unit.now) at
-
-pub finish-ended-requires-clause-routine : goal.finish-ended-requires-clause-routine
-finish-ended-requires-clause-routine c =
-    let rs = c.in_ok-routines.routines.items in
-    let r = c.index-routine.result.now in
-    let units = c.in_ok-routines.ensures.units in
-    let n = length-map rs (λ (z : Routine). procedure_of z.unit.now) in
-    let there = c.requires.there in
-    let many = ap length units in
-    let lt : c.args.unit < length c.in_ok-routines.routines.items = omega (arith, n, there, many) in
-    subst (λ all. IsRoutine (units_in all) r) (sym c.as_slice.ensures.value) (subst (IsRoutine (units_in rs)) (sym c.index-routine.ensures) (c.in_ok-routines.ensures.routines c.args.unit r lt))
-
-pub finish-ended-requires-clause-suited : goal.finish-ended-requires-clause-suited
-finish-ended-requires-clause-suited c =
-    let rs = c.in_ok-routines.routines.items in
-    let r = c.index-routine.result.now in
-    let units = c.in_ok-routines.ensures.units in
-    let n = length-map rs (λ (z : Routine). procedure_of z.unit.now) in
-    let there = c.requires.there in
-    let many = ap length units in
-    let lt : c.args.unit < length c.in_ok-routines.routines.items = omega (arith, n, there, many) in
-    let routine = subst (λ all. IsRoutine (units_in all) r) (sym c.as_slice.ensures.value) (subst (IsRoutine (units_in rs)) (sym c.index-routine.ensures) (c.in_ok-routines.ensures.routines c.args.unit r lt)) in
-    let u = procedure_of r.unit.now in
-    let store = input_store words u (map slot_seen c.args.input) in
-    let k = c.in_ok-frame.ensures in
-    entered_suited (units_in c.as_slice.result.now) r store (input_shape u store) store c.in_ok-frame.frame routine k.names k.framed k.shown (λ x. refl)
-
-pub returns-in_err-ended-clause-spent : goal.returns-in_err-ended-clause-spent
-returns-in_err-ended-clause-spent c budget =
-    let err : c.from_residual-in_err-ended.result ≡ Err c.in_err-ended.field-0.0 = search rules in
-    let both : Err c.in_err-ended.field-0.0 ≡ Err stop.Budget = sym err ∙ budget in
-    let is : c.in_err-ended.field-0.0 ≡ stop.Budget = cc in
-    c.log.ensures.used ∙ (rw c.in_err-ended.was at c.used.ensures) is
-
-pub returns-in_err-ended-clause-ends : goal.returns-in_err-ended-clause-ends
-returns-in_err-ended-clause-ends c u asked =
-    let rs = c.in_ok-routines.routines.items in
-    let r = c.index-routine.result.now in
-    let units = c.in_ok-routines.ensures.units in
-    let n = length-map rs (λ (z : Routine). procedure_of z.unit.now) in
-    let there = c.requires.there in
-    let many = ap length units in
-    let lt : c.args.unit < length c.in_ok-routines.routines.items = omega (arith, n, there, many) in
-    let at = ap (λ ps. slice_get ps c.args.unit) (sym units) ∙ unit_at rs c.args.unit r lt ∙ ap (λ (z : Routine). Some (procedure_of z.unit.now)) (sym c.index-routine.ensures) in
-    let v = procedure_of r.unit.now in
-    let us = units_in c.as_slice.result.now in
+pub returns-in_ok-values-in-Ok-clause-ends : goal.returns-in_ok-values-in-Ok-clause-ends
+returns-in_ok-values-in-Ok-clause-ends c u at =
     let held = c.args.tape.now in
-    let input = map slot_seen c.args.input in
-    let x = c.in_err-ended.field-0.0 in
-    let err : c.from_residual-in_err-ended.result ≡ Err c.in_err-ended.field-0.0 = search rules in
-    let k = c.in_ok-frame.ensures in
-    let shown = subst (λ ns. Shows ns c.in_ok-frame.frame.slots.items (input_shape v (input_store words v input)) (input_store words v input)) (sym k.names) k.shown in
-    let holds = starts us v input held c.args.budget _ c.replace.ensures.value refl refl c.new.ensures shown in
-    let ends = rw c.in_err-ended.was at (c.finish-ended.ensures.ends (first_entry us v input held c.args.budget) (first_scene us v input held c.args.budget) holds) in
-    subst (λ z. Concludes (run_unit words (procedures_of c.args.program.now.program) u input held.words (Some held.room) c.args.budget) z c.finish-ended.new.self.tape c.log.result) (sym err)
-    (turned us (procedures_of c.args.program.now.program) v u (λ ps w. run_unit words ps w input held.words (Some held.room) c.args.budget) (λ o. Concludes o (Err x) c.finish-ended.new.self.tape c.log.result)
-    (ap units_in c.as_slice.ensures.value ∙ units) (same_unit v u (sym at ∙ asked))
-    (stopped us v input held c.args.budget x c.finish-ended.new.self c.log.result ends c.log.ensures.counted))
+    let whole = λ (vs : List (Slot ℤ)). run_unit words (procedures_of c.args.program.now.program) u vs held.words (Some held.room) c.args.budget in
+    let tape = c.run_over.new.tape in
+    let log = c.run_over.new.log in
+    words_done seen _ c.in-Ok.slots c.in_ok-values-in-Ok.values tape log c.in_ok-values-in-Ok.ensures
+    (subst (λ vs. EndsWith words seen (whole vs) (Ok c.in-Ok.slots) tape log) c.in_ok-slots.ensures (c.in-Ok.ensures.ends u at))
 
-pub returns-clause-ends : goal.returns-clause-ends
-returns-clause-ends c u asked =
-    let rs = c.in_ok-routines.routines.items in
-    let r = c.index-routine.result.now in
-    let units = c.in_ok-routines.ensures.units in
-    let n = length-map rs (λ (z : Routine). procedure_of z.unit.now) in
-    let there = c.requires.there in
-    let many = ap length units in
-    let lt : c.args.unit < length c.in_ok-routines.routines.items = omega (arith, n, there, many) in
-    let at = ap (λ ps. slice_get ps c.args.unit) (sym units) ∙ unit_at rs c.args.unit r lt ∙ ap (λ (z : Routine). Some (procedure_of z.unit.now)) (sym c.index-routine.ensures) in
-    let routine = subst (IsRoutine (units_in rs)) (sym c.index-routine.ensures) (c.in_ok-routines.ensures.routines c.args.unit r lt) in
-    let v = procedure_of r.unit.now in
-    let us = units_in c.as_slice.result.now in
+pub returns-in-Err-clause-ends : goal.returns-in-Err-clause-ends
+returns-in-Err-clause-ends c u at =
     let held = c.args.tape.now in
-    let input = map slot_seen c.args.input in
-    let k = c.in_ok-frame.ensures in
-    let shown = subst (λ ns. Shows ns c.in_ok-frame.frame.slots.items (input_shape v (input_store words v input)) (input_store words v input)) (sym k.names) k.shown in
-    let holds = starts us v input held c.args.budget _ c.replace.ensures.value refl refl c.new.ensures shown in
-    let ends = rw c.in_ok-ended.was at (c.finish-ended.ensures.ends (first_entry us v input held c.args.budget) (first_scene us v input held c.args.budget) holds) in
-    let m = c.finish-ended.new.self in
-    let f = c.finish-ended.ensures in
-    let names = f.names ∙ k.names in
-    let framed = subst (λ ns. IsFrame ns m.frame.slots.items) (sym f.names) f.framed in
-    let count = ap length c.as_slice-count.ensures.members in
-    let front = c.in_ok-values.ensures ∙ ap (map entry_seen) (c.truncate.ensures.items ∙ ap (λ j. take j m.frame.slots.items) count) in
-    turned us (procedures_of c.args.program.now.program) v u (λ ps w. run_unit words ps w input held.words (Some held.room) c.args.budget) (λ o. Concludes o (Ok c.in_ok-values.values) m.tape c.log.result)
-    (ap units_in c.as_slice.ensures.value ∙ units) (same_unit v u (sym at ∙ asked))
-    (done us v input held c.args.budget c.in_ok-values.values m c.log.result ends
-    (λ s g. front ∙ values_shown r.unit.now.dummies routine.laid.others m.frame.names.now m.frame.slots.items (input_shape v (input_store words v input)) s.store (names ∙ routine.laid.names) framed g.shown)
-    c.log.ensures.counted (c.log.ensures.used ∙ (rw c.in_ok-ended.was at c.used.ensures)))
+    let whole = λ (vs : List (Slot ℤ)). run_unit words (procedures_of c.args.program.now.program) u vs held.words (Some held.room) c.args.budget in
+    let tape = c.run_over.new.tape in
+    let log = c.run_over.new.log in
+    words_stop seen _ c.in-Err.stop tape log
+    (subst (λ vs. EndsWith words seen (whole vs) (Err c.in-Err.stop) tape log) c.in_ok-slots.ensures (c.in-Err.ensures.ends u at))

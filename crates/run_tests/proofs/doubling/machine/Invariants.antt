@@ -1,5 +1,5 @@
 -- Each slot so far is that of a scalar.
-use Rattle.std.proofs.Common.{ℕ, ◌≤◌, ◌<◌, ◌-◌, length, get_or}
+use Rattle.std.proofs.Common.{ℕ, ℤ, ◌≤◌, ◌<◌, ◌-◌, length, get_or}
 use Rattle.adj_frame.specs.declared.slot.Slot.{Slot}
 use Rattle.adj_frame.specs.Framed.{IsSlot}
 use Rattle.run_tests.proofs.doubling.machine.Given as goal
@@ -7,7 +7,7 @@ use Rattle.run_tests.proofs.doubling.machine.Given as goal
 abbrev pub invariant-each : goal.invariant-each
 invariant-each l = record {
   most : length l.slots.items ≤ length l.names;
-  sized : (i : ℕ) (d : Slot) → i < length l.slots.items → IsSlot (get_or l.slots.items i d);
+  sized : (i : ℕ) (d : Slot ℤ) → i < length l.slots.items → IsSlot (get_or l.slots.items i d);
 }
 
 abbrev pub decreases-each : goal.decreases-each

@@ -8,21 +8,21 @@ use Rattle.adj_frame.specs.Framed.{store_in, setting_in_slots}
 use Rattle.adj_frame.proofs.frame.Frame.+value.Given as goal
 
 abbrev pub decreases-cell : goal.decreases-cell
-decreases-cell l = goal.size-cell l
+decreases-cell g l = goal.size-cell g l
 
 abbrev pub decreases-cell_behind : goal.decreases-cell_behind
-decreases-cell_behind l = goal.size-cell_behind l
+decreases-cell_behind g l = goal.size-cell_behind g l
 
 abbrev pub decreases-each_value : goal.decreases-each_value
-decreases-each_value l = goal.size-each_value l
+decreases-each_value g l = goal.size-each_value g l
 
 abbrev pub decreases-value : goal.decreases-value
-decreases-value l = goal.size-value l
+decreases-value g l = goal.size-value g l
 
 abbrev pub invariant-each_value-loop-current : goal.invariant-each_value-loop-current
-invariant-each_value-loop-current l = record {
+invariant-each_value-loop-current g l = record {
   no_deeper : size-Terms l.current ≤ size-Terms l.initial.current;
   below : AreTermsBelow (length l.self.slots.items) l.current;
-  traps : then_ok (values (setting_in_slots l.self.names.now l.self.slots.items) (terms_in l.self.names.now l.current) (store_in l.self.names.now l.self.slots.items)) (λ is. Ok (tt {0}))
-      ≡ then_ok (values (setting_in_slots l.self.names.now l.self.slots.items) (terms_in l.self.names.now l.terms) (store_in l.self.names.now l.self.slots.items)) (λ is. Ok (tt {0}));
+  traps : then_ok (values (setting_in_slots g.N.Number.numbers l.self.names.now l.self.slots.items) (terms_in l.self.names.now l.current) (store_in g.N.Number.numbers l.self.names.now l.self.slots.items)) (λ is. Ok (tt {0}))
+      ≡ then_ok (values (setting_in_slots g.N.Number.numbers l.self.names.now l.self.slots.items) (terms_in l.self.names.now l.terms) (store_in g.N.Number.numbers l.self.names.now l.self.slots.items)) (λ is. Ok (tt {0}));
 }

@@ -1,9 +1,9 @@
-use Rattle.std.proofs.Common.{◌<◌, length, get_or, pos, sym, ap, subst, ◌∙◌}
+use Rattle.std.proofs.Common.{◌<◌, length, get_or, sym, ap, subst, ◌∙◌}
 use Rattle.std.proofs.lemmas.List.{get_or_default}
 use Rattle.adj_meaning.specs.Store.{size_of}
 use Rattle.adj_frame.specs.declared.slot.Slot.{Slot}
 use Rattle.adj_frame.specs.Prepared.{var_at}
-use Rattle.adj_frame.specs.Framed.{IsSlot, slot_shape}
+use Rattle.adj_frame.specs.Framed.{zero_in, IsSlot, slot_shape}
 use Rattle.adj_frame.specs.Called.{actual_in, words_in, is_fit}
 use Rattle.adj_frame.proofs.Reading.{read_shape}
 use Rattle.adj_frame.proofs.Giving.{shown_cell}
@@ -11,7 +11,7 @@ use Rattle.adj_frame.proofs.Entering.{unfit_array, fit_array, fit_shape}
 use Rattle.adj_frame.proofs.frame.Frame.dummy.Goals as goal
 
 pub returns-then-not-fits : goal.returns-then-not-fits
-returns-then-not-fits c =
+returns-then-not-fits g c =
     let names = c.args.self.now.names.now in
     let vs = c.args.self.now.slots.items in
     let i = c.in-Whole.i in
@@ -28,7 +28,7 @@ returns-then-not-fits c =
     }
 
 pub returns : goal.returns
-returns c =
+returns g c =
     let names = c.args.self.now.names.now in
     let vs = c.args.self.now.slots.items in
     let i = c.in-Whole.i in
@@ -45,7 +45,7 @@ returns c =
       shape = shape_kept ∙ ap slot_shape same ∙ fit_shape (words_in c.args.area) (slot_shape v) fit;
       cells = λ shape s h j lt.
           let there : j < length (get_or vs i w).cells.items = subst (λ n. j < n) (ap size_of (shape_kept ∙ ap slot_shape c.index-2.ensures) ∙ sym (c.requires.framed.sized i w below)) lt in
-          ap (λ a. (actual_in names shape s a).cells j) c.in-Whole.is ∙ shown_cell names vs shape s h i w j c.requires.framed below there ∙ ap (λ (z : Slot). get_or z.cells.items j (pos 0)) (sym c.index-2.ensures) ∙ ap (λ z. get_or z j (pos 0)) (sym c.in_ok-copy.ensures.cells);
+          ap (λ a. (actual_in names shape s a).cells j) c.in-Whole.is ∙ shown_cell g.N.Number.numbers names vs shape s h i w j c.requires.framed below there ∙ ap (λ (z : Slot _). get_or z.cells.items j (zero_in g.N.Number.numbers)) (sym c.index-2.ensures) ∙ ap (λ z. get_or z j (zero_in g.N.Number.numbers)) (sym c.in_ok-copy.ensures.cells);
       fits = λ shape s h.
           let shaped = ap (λ a. (actual_in names shape s a).shape) c.in-Whole.is ∙ h.shapes (var_at names i) ∙ read_shape names vs i v c.requires.framed below ∙ ap slot_shape (sym c.index.ensures) in
           ap (is_fit (words_in c.args.area)) shaped ∙ fit_array c.args.area (slot_shape v) fit;

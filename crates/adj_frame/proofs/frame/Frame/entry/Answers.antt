@@ -7,7 +7,7 @@ use Rattle.adj_frame.proofs.Entering.{entered_shown, pushed_each}
 use Rattle.adj_frame.proofs.frame.Frame.entry.Goals as goal
 
 pub loop-i-preserved : goal.loop-i-preserved
-loop-i-preserved c =
+loop-i-preserved g c =
     let inv = c.loop-i.invariant in
     let i = c.loop-i.i in
     let slots = c.loop-i.slots.items in
@@ -20,13 +20,13 @@ loop-i-preserved c =
       sized = λ k d lt. subst (λ xs. IsSlot (get_or xs k d)) (sym pushed) (pushed_each (λ k z. IsSlot z) slots v i n inv.sized c.in_ok-slot.ensures.sized k d lt);
       entered = λ k d lt shape s h.
           let got = actuals_in c.args.self.now.names.now shape s c.args.actuals.now in
-          subst (λ xs. IsEntered c.args.routine.now got k (get_or xs k d)) (sym pushed) (pushed_each (λ k z. IsEntered c.args.routine.now got k z) slots v i n (λ k d lt. inv.entered k d lt shape s h) (c.in_ok-slot.ensures.entered shape s h) k d lt);
+          subst (λ xs. IsEntered g.N.Number.numbers c.args.routine.now got k (get_or xs k d)) (sym pushed) (pushed_each (λ k z. IsEntered g.N.Number.numbers c.args.routine.now got k z) slots v i n (λ k d lt. inv.entered k d lt shape s h) (c.in_ok-slot.ensures.entered shape s h) k d lt);
       fits = λ shape s h. inv.fits shape s h ∙ c.in_ok-slot.ensures.fits shape s h;
     }
 
 pub returns-clause-shown : goal.returns-clause-shown
-returns-clause-shown c shape s h =
+returns-clause-shown g c shape s h =
     let inv = c.loop-i.invariant in
     let each : length c.args.routine.now.names ≡ length c.loop-i.slots.items = first_of (search rules, grind (arith, common_steps)) in
     let count = inv.count in
-    entered_shown c.args.routine.now (actuals_in c.args.self.now.names.now shape s c.args.actuals.now) c.loop-i.slots.items c.requires.laid each (λ k d lt. inv.entered k d (omega (arith, lt, each, count)) shape s h)
+    entered_shown g.N.Number.numbers c.args.routine.now (actuals_in c.args.self.now.names.now shape s c.args.actuals.now) c.loop-i.slots.items c.requires.laid each (λ k d lt. inv.entered k d (omega (arith, lt, each, count)) shape s h)

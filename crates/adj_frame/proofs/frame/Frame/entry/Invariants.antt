@@ -9,9 +9,9 @@ use Rattle.adj_frame.specs.Called.{actuals_in, IsEntered, fit_from}
 use Rattle.adj_frame.proofs.frame.Frame.entry.Given as goal
 
 abbrev pub invariant-loop-i : goal.invariant-loop-i
-invariant-loop-i l = record {
+invariant-loop-i g l = record {
   count : length l.slots.items ≡ l.i;
-  sized : (k : ℕ) (d : Slot) → k < l.i → IsSlot (get_or l.slots.items k d);
-  entered : (k : ℕ) (d : Slot) → k < l.i → (shape : Var → Shape) (s : Store ℤ) → Shows l.self.names.now l.self.slots.items shape s → IsEntered l.routine (actuals_in l.self.names.now shape s l.actuals) k (get_or l.slots.items k d);
-  fits : (shape : Var → Shape) (s : Store ℤ) → Shows l.self.names.now l.self.slots.items shape s → fit_from l.routine (actuals_in l.self.names.now shape s l.actuals) 0 ≡ fit_from l.routine (actuals_in l.self.names.now shape s l.actuals) l.i;
+  sized : (k : ℕ) (d : Slot _) → k < l.i → IsSlot (get_or l.slots.items k d);
+  entered : (k : ℕ) (d : Slot _) → k < l.i → (shape : Var → Shape) (s : Store g.row.N.Denot) → Shows g.N.Number.numbers l.self.names.now l.self.slots.items shape s → IsEntered g.N.Number.numbers l.routine (actuals_in l.self.names.now shape s l.actuals) k (get_or l.slots.items k d);
+  fits : (shape : Var → Shape) (s : Store g.row.N.Denot) → Shows g.N.Number.numbers l.self.names.now l.self.slots.items shape s → fit_from g.N.Number.numbers l.routine (actuals_in l.self.names.now shape s l.actuals) 0 ≡ fit_from g.N.Number.numbers l.routine (actuals_in l.self.names.now shape s l.actuals) l.i;
 }

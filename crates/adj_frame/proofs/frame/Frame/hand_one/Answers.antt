@@ -1,10 +1,9 @@
-use Rattle.std.proofs.Common.{rules, ◌<◌, FitsSigned, w64, length, get_or, pos, sym, ap, subst, ◌∙◌}
-use Rattle.std.proofs.lemmas.Int.{to_z-of_z}
+use Rattle.std.proofs.Common.{◌<◌, length, get_or, sym, ap, subst, ◌∙◌}
 use Rattle.adj_meaning.specs.Store.{size_of, set}
 use Rattle.adj_meaning.proofs.Cells.{size_positive}
 use Rattle.adj_frame.specs.declared.slot.Slot.{Slot}
 use Rattle.adj_frame.specs.Prepared.{var_at}
-use Rattle.adj_frame.specs.Framed.{IsSlot, slot_shape}
+use Rattle.adj_frame.specs.Framed.{zero_in, IsSlot, slot_shape}
 use Rattle.adj_frame.specs.Shown.{Shows}
 use Rattle.adj_frame.proofs.Setting.{kept_counts, shown_set_all}
 use Rattle.adj_frame.proofs.Suiting.{count_at}
@@ -12,15 +11,15 @@ use Rattle.adj_frame.proofs.frame.Frame.hand_one.Goals as goal
 
 -- the cells of the variable, which are as many as the dummy's
 pub take-requires : goal.take-requires
-take-requires c =
+take-requires g c =
     let i = c.in-Whole.i in
     let r = c.index_mut-target.result.now in
     let below = rw c.in-Whole.is at c.requires.below in
     let large = rw c.in-Whole.is at c.requires.large in
-    ap (λ (v : Slot). length v.cells.items) c.index_mut-target.ensures.value ∙ sym (count_at c.args.self.now.slots.items i r below) ∙ large
+    ap (λ (v : Slot _). length v.cells.items) c.index_mut-target.ensures.value ∙ sym (count_at c.args.self.now.slots.items i r below) ∙ large
 
 pub returns-in-Whole-clause-counts : goal.returns-in-Whole-clause-counts
-returns-in-Whole-clause-counts c =
+returns-in-Whole-clause-counts g c =
     let vs = c.args.self.now.slots.items in
     let i = c.in-Whole.i in
     let r = c.index_mut-target.result.now in
@@ -29,7 +28,7 @@ returns-in-Whole-clause-counts c =
     kept_counts vs i c.take.new.self r below (ap length c.take.ensures.cells ∙ sym large ∙ count_at vs i r below)
 
 pub returns-in-Whole-clause-put : goal.returns-in-Whole-clause-put
-returns-in-Whole-clause-put c shape s cs h given =
+returns-in-Whole-clause-put g c shape s cs h given =
     let names = c.args.self.now.names.now in
     let vs = c.args.self.now.slots.items in
     let i = c.in-Whole.i in
@@ -39,15 +38,14 @@ returns-in-Whole-clause-put c shape s cs h given =
     let below = rw c.in-Whole.is at c.requires.below in
     let large = rw c.in-Whole.is at c.requires.large in
     let was = subst IsSlot (sym c.index_mut-target.ensures.value) (c.requires.framed.sized i r below) in
-    let same = ap (λ (v : Slot). length v.cells.items) c.index_mut-target.ensures.value ∙ sym (count_at vs i r below) ∙ large in
+    let same = ap (λ (v : Slot _). length v.cells.items) c.index_mut-target.ensures.value ∙ sym (count_at vs i r below) ∙ large in
     let size = ap size_of k.shape ∙ sym was ∙ same ∙ c.requires.sized in
-    rw c.in-Whole.is (shown_set_all names vs i e r cs c.requires.framed below (k.shape ∙ ap slot_shape c.index_mut-target.ensures.value)
-    (λ j lt. given j (subst (λ n. j < n) size lt) ∙ sym (ap (λ z. get_or z j (pos 0)) k.cells))
+    rw c.in-Whole.is (shown_set_all g.N.Number.numbers names vs i e r cs c.requires.framed below (k.shape ∙ ap slot_shape c.index_mut-target.ensures.value)
+    (λ j lt. given j (subst (λ n. j < n) size lt) ∙ sym (ap (λ z. get_or z j (zero_in g.N.Number.numbers)) k.cells))
     shape s h)
 
 pub returns-in-Cell-clause-put : goal.returns-in-Cell-clause-put
-returns-in-Cell-clause-put c shape s cs h given =
+returns-in-Cell-clause-put g c shape s cs h given =
     let names = c.args.self.now.names.now in
-    let fits : FitsSigned w64 c.first.result = search rules in
-    let word = to_z-of_z w64 c.first.result fits ∙ c.first.ensures ∙ sym (given 0 (size_positive (slot_shape c.args.slot.now))) in
-    rw c.in-Cell.is (subst (λ w. Shows names c.set.new.self.slots.items shape (set s (var_at names c.in-Cell.i) c.in-Cell.cell w)) word (c.set.ensures.shown shape s h))
+    let word = c.first.ensures ∙ sym (given 0 (size_positive (slot_shape c.args.slot.now))) in
+    rw c.in-Cell.is (subst (λ w. Shows g.N.Number.numbers names c.set.new.self.slots.items shape (set s (var_at names c.in-Cell.i) c.in-Cell.cell w)) word (c.set.ensures.shown shape s h))

@@ -6,10 +6,10 @@ use Rattle.adj_frame.proofs.Reading.{has_first, found_there}
 use Rattle.adj_frame.proofs.frame.Frame.target.Goals as goal
 
 pub returns-in-Empty-clause-within : goal.returns-in-Empty-clause-within
-returns-in-Empty-clause-within c d = has_first (get_or c.args.self.now.slots.items c.args.i d) (c.requires.framed.sized c.args.i d c.requires.there)
+returns-in-Empty-clause-within g c d = has_first (get_or c.args.self.now.slots.items c.args.i d) (c.requires.framed.sized c.args.i d c.requires.there)
 
 pub returns-in-More-clause-within : goal.returns-in-More-clause-within
-returns-in-More-clause-within c =
+returns-in-More-clause-within g c =
     let names = c.args.self.now.names.now in
     let vs = c.args.self.now.slots.items in
-    found_there names vs c.args.i (values (setting_in_slots names vs) (terms_in names c.args.subs.now) (store_in names vs)) c.requires.framed c.requires.there c.cell.result c.cell.ensures.cell
+    found_there g.N.Number.numbers names vs c.args.i (values (setting_in_slots g.N.Number.numbers names vs) (terms_in names c.args.subs.now) (store_in g.N.Number.numbers names vs)) c.requires.framed c.requires.there c.cell.result c.cell.ensures.cell

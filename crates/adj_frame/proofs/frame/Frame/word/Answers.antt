@@ -1,6 +1,5 @@
-use Rattle.std.proofs.Common.{rules, FitsSigned, w64, sym, ap, ◌∙◌}
+use Rattle.std.proofs.Common.{sym, ap, ◌∙◌}
 use Rattle.std.specs.Prelude.{Ok}
-use Rattle.std.proofs.lemmas.Int.{to_z-of_z}
 use Rattle.adj_meaning.specs.Trap.{then_ok}
 use Rattle.adj_meaning.specs.Units.{one_word, nowhere}
 use Rattle.adj_frame.specs.Prepared.{term_in}
@@ -9,13 +8,11 @@ use Rattle.adj_frame.proofs.Showing.{value_shown}
 use Rattle.adj_frame.proofs.frame.Frame.word.Goals as goal
 
 pub returns-in-Ok-clause-word : goal.returns-in-Ok-clause-word
-returns-in-Ok-clause-word c shape room level s h =
+returns-in-Ok-clause-word g c shape room level s h =
     let names = c.args.self.now.names.now in
-    let fits : FitsSigned w64 c.in-Ok.word = search rules in
-    ap (λ u. Ok (one_word u nowhere)) (to_z-of_z w64 c.in-Ok.word fits)
-    ∙ sym (ap (λ v. then_ok v (λ u. Ok (one_word u nowhere))) (value_shown names c.args.self.now.slots.items shape room level s h (term_in names c.args.term.now) ∙ sym c.value.ensures.value ∙ ap result_of c.in-Ok.is))
+    sym (ap (λ v. then_ok v (λ u. Ok (one_word u nowhere))) (value_shown g.N.Number.numbers names c.args.self.now.slots.items shape room level s h (term_in names c.args.term.now) ∙ sym c.value.ensures.value ∙ ap result_of c.in-Ok.is))
 
 pub returns-in-Err-clause-word : goal.returns-in-Err-clause-word
-returns-in-Err-clause-word c shape room level s h =
+returns-in-Err-clause-word g c shape room level s h =
     let names = c.args.self.now.names.now in
-    sym (ap (λ v. then_ok v (λ u. Ok (one_word u nowhere))) (value_shown names c.args.self.now.slots.items shape room level s h (term_in names c.args.term.now) ∙ sym c.value.ensures.value ∙ ap result_of c.in-Err.is))
+    sym (ap (λ v. then_ok v (λ u. Ok (one_word u nowhere))) (value_shown g.N.Number.numbers names c.args.self.now.slots.items shape room level s h (term_in names c.args.term.now) ∙ sym c.value.ensures.value ∙ ap result_of c.in-Err.is))

@@ -6,7 +6,7 @@ use Rattle.adj_frame.specs.Framed.{slot_shape}
 use Rattle.adj_frame.proofs.slot.Slot.in_table.Goals as goal
 
 pub overflow_mul-result : goal.overflow_mul-result
-overflow_mul-result c =
+overflow_mul-result g c =
     let v = c.args.self.now in
     let i = c.in-Some-Some.i in
     let j = c.in-Some-Some.j in
@@ -20,7 +20,7 @@ overflow_mul-result c =
     omega (arith, b, small, len, whole)
 
 pub overflow_add-result : goal.overflow_add-result
-overflow_add-result c =
+overflow_add-result g c =
     let v = c.args.self.now in
     let i = c.in-Some-Some.i in
     let j = c.in-Some-Some.j in

@@ -20,7 +20,7 @@ use Rattle.adj_frame.specs.declared.actual.Actual.{Actual}
 use Rattle.adj_frame.specs.declared.frame.Frame.{Frame}
 use Rattle.adj_frame.specs.declared.routine.Routine.{Routine}
 use Rattle.adj_frame.specs.Linked.{IsRoutine, units_in}
-use Rattle.adj_frame.specs.Shown.{on_words, Shows}
+use Rattle.adj_frame.specs.Shown.{on_numbers, Shows}
 use Rattle.adj_frame.specs.Called.{actuals_in, entered_with, shapes_with, fit_from}
 use Rattle.adj_interp.specs.declared.call.Outer.{Outer}
 use Rattle.adj_interp.specs.Entered.{inside}
@@ -37,7 +37,7 @@ use Rattle.adj_interp.proofs.machine.Machine.+run.Goals as goal
 -- ---- lists
 
 pub run-loop-current-init : goal.run-loop-current-init
-run-loop-current-init t c = record {
+run-loop-current-init g t c = record {
   room = refl;
   no_deeper = omega arith;
   names = refl;
@@ -46,27 +46,27 @@ run-loop-current-init t c = record {
   below = c.requires.below;
   linked = c.requires.linked;
   suited = c.requires.suited;
-  reached = λ e s h. let q = calls_of {C = ℤ} (units_in c.args.program.now) c.args.depth in reaches_start e (run q (setting_at e) (steps_in c.args.self.now.frame.names.now c.args.steps.now)) c.args.self.now s h;
+  reached = λ e s h. let q = calls_of {C = g.row.N.Denot} (units_in c.args.program.now) c.args.depth in reaches_start e (run q (setting_at e) (steps_in c.args.self.now.frame.names.now c.args.steps.now)) c.args.self.now s h;
 }
 
 pub run-returns-then-not-count-clause-ends : goal.run-returns-then-not-count-clause-ends
-run-returns-then-not-count-clause-ends t c e s h =
-    let q = calls_of {C = ℤ} (units_in c.args.program.now) c.args.depth in
+run-returns-then-not-count-clause-ends g t c e s h =
+    let q = calls_of {C = g.row.N.Denot} (units_in c.args.program.now) c.args.depth in
     let names = c.args.self.now.frame.names.now in
     let v = c.in-More.step.value in
     let none = c.count.ensures.none c.if-not-count.true in
     let at = rw c.in-More.is at (c.loop-current.invariant.reached e s h) in
-    subst (λ m. HasMore m (run q (setting_at e) (steps_in names c.args.steps.now) s c.args.self.now.left)) (sym none.0)
+    subst (λ m. HasMore g.N.Number.numbers m (run q (setting_at e) (steps_in names c.args.steps.now) s c.args.self.now.left)) (sym none.0)
     (list_budget e q v.line (task_in names v.task) (steps_in names c.in-More.rest.value) (run q (setting_at e) (steps_in names c.args.steps.now) s c.args.self.now.left) c.loop-current.self none.1 at)
 
 pub run-returns-in_err-perform-clause-ends : goal.run-returns-in_err-perform-clause-ends
-run-returns-in_err-perform-clause-ends t c e s h =
-    let q = calls_of {C = ℤ} (units_in c.args.program.now) c.args.depth in
+run-returns-in_err-perform-clause-ends g t c e s h =
+    let q = calls_of {C = g.row.N.Denot} (units_in c.args.program.now) c.args.depth in
     let names = c.args.self.now.frame.names.now in
     let v = c.in-More.step.value in
     let some = c.count.ensures.some c.if-not-count.false in
     let at = rw c.in-More.is at (c.loop-current.invariant.reached e s h) in
-    let same = ap (λ (m : Machine). m.frame.names.now) (sym some) ∙ c.loop-current.invariant.names in
+    let same = ap (λ (m : Machine _). m.frame.names.now) (sym some) ∙ c.loop-current.invariant.names in
     let r : c.from_residual.result ≡ Err c.in_err-perform.field-0.0 = search rules in
     let o = run q (setting_at e) (steps_in names c.args.steps.now) s c.args.self.now.left in
     subst (λ z. Ends e o z c.perform.new.self) (sym r)
@@ -75,11 +75,11 @@ run-returns-in_err-perform-clause-ends t c e s h =
     at)
 
 pub run-loop-current-preserved : goal.run-loop-current-preserved
-run-loop-current-preserved t c =
+run-loop-current-preserved g t c =
     let names = c.args.self.now.frame.names.now in
     let v = c.in-More.step.value in
     let some = c.count.ensures.some c.if-not-count.false in
-    let same = ap (λ (m : Machine). m.frame.names.now) (sym some) ∙ c.loop-current.invariant.names in
+    let same = ap (λ (m : Machine _). m.frame.names.now) (sym some) ∙ c.loop-current.invariant.names in
     let below = rw c.in-More.is at c.loop-current.invariant.below in
     let linked = rw c.in-More.is at c.loop-current.invariant.linked in
     let suited = rw c.in-More.is at c.loop-current.invariant.suited in
@@ -91,22 +91,22 @@ run-loop-current-preserved t c =
           let left = ap size-Steps c.deref-current.ensures in
           let before = c.loop-current.invariant.no_deeper in
           first_of (omega (arith, whole, was, left, before), grind (arith, whole, was, left, before));
-      room = c.in_ok-perform.ensures.room ∙ ap (λ (m : Machine). m.tape.room) (sym some) ∙ c.loop-current.invariant.room;
+      room = c.in_ok-perform.ensures.room ∙ ap (λ (m : Machine _). m.tape.room) (sym some) ∙ c.loop-current.invariant.room;
       names = c.in_ok-perform.ensures.names ∙ same;
       framed = rw (sym same) c.in_ok-perform.ensures.framed;
-      counts = c.in_ok-perform.ensures.counts ∙ ap (λ (m : Machine). counts_in m.frame.slots.items) (sym some) ∙ c.loop-current.invariant.counts;
+      counts = c.in_ok-perform.ensures.counts ∙ ap (λ (m : Machine _). counts_in m.frame.slots.items) (sym some) ∙ c.loop-current.invariant.counts;
       below = rw rest below.1;
       linked = rw rest linked.1;
       suited = rw rest suited.1;
-      reached = λ e s h. let q = calls_of {C = ℤ} (units_in c.args.program.now) c.args.depth in rw rest
+      reached = λ e s h. let q = calls_of {C = g.row.N.Denot} (units_in c.args.program.now) c.args.depth in rw rest
           (list_next e q v.line (task_in names v.task) (steps_in names c.in-More.rest.value) (run q (setting_at e) (steps_in names c.args.steps.now) s c.args.self.now.left) c.in_ok-perform.field-0 c.loop-current.self c.count.new.self c.perform.new.self some
           (λ z g. same_act e q names c.count.new.self.frame.names.now c.deref.result.now c.deref-in-More.result.now v z c.count.new.self.left (Ok c.in_ok-perform.field-0) c.perform.new.self same c.deref.ensures c.deref-in-More.ensures (c.in_ok-perform.ensures.ends e z g))
           (rw c.in-More.is at (c.loop-current.invariant.reached e s h)));
     }
 
 pub run-returns-clause-ends : goal.run-returns-clause-ends
-run-returns-clause-ends t c e s h =
-    let q = calls_of {C = ℤ} (units_in c.args.program.now) c.args.depth in
+run-returns-clause-ends g t c e s h =
+    let q = calls_of {C = g.row.N.Denot} (units_in c.args.program.now) c.args.depth in
     let names = c.args.self.now.frame.names.now in
     let o = run q (setting_at e) (steps_in names c.args.steps.now) s c.args.self.now.left in
     let at = c.loop-current.invariant.reached e s h in
@@ -115,31 +115,31 @@ run-returns-clause-ends t c e s h =
 
 -- ---- statements
 
-pub perform-returns-in_err-word-in-Assign-clause-ends : goal.perform-returns-in_err-word-in-Assign-clause-ends
-perform-returns-in_err-word-in-Assign-clause-ends t c e s h =
-    let q = calls_of {C = ℤ} (units_in c.args.program.now) c.args.depth in
-    let r : c.from_residual.result ≡ Err c.in_err-word-in-Assign.field-0.0 = search rules in
-    rw (c.in-Assign.is, r) (ends_err e _ c.args.line c.in_err-word-in-Assign.field-0.0 c.args.self.now s _ (c.in_err-word-in-Assign.ensures.value e s h) h)
+pub perform-returns-in_err-number-in-Assign-clause-ends : goal.perform-returns-in_err-number-in-Assign-clause-ends
+perform-returns-in_err-number-in-Assign-clause-ends g t c e s h =
+    let q = calls_of {C = g.row.N.Denot} (units_in c.args.program.now) c.args.depth in
+    let r : c.from_residual.result ≡ Err c.in_err-number-in-Assign.field-0.0 = search rules in
+    rw (c.in-Assign.is, r) (ends_err e _ c.args.line c.in_err-number-in-Assign.field-0.0 c.args.self.now s _ (c.in_err-number-in-Assign.ensures.value e s h) h)
 
 pub perform-returns-in_err-place-in-Assign-clause-ends : goal.perform-returns-in_err-place-in-Assign-clause-ends
-perform-returns-in_err-place-in-Assign-clause-ends t c e s h =
-    let q = calls_of {C = ℤ} (units_in c.args.program.now) c.args.depth in
+perform-returns-in_err-place-in-Assign-clause-ends g t c e s h =
+    let q = calls_of {C = g.row.N.Denot} (units_in c.args.program.now) c.args.depth in
     let r : c.from_residual-in_err-place-in-Assign.result ≡ Err c.in_err-place-in-Assign.field-0.0 = search rules in
     let names = c.args.self.now.frame.names.now in
     let x = var_at names c.in-Assign.cell.variable in
-    let put : ℤ → ℕ → Outcome (Scene ℤ) = λ w i. Done (record s { store = set s.store x i w }) c.args.self.now.left in
-    let go : ℤ → Outcome (Scene ℤ) = λ w. with_value (target (setting_at e) x (terms_in names c.in-Assign.cell.subs) s.store) c.args.line (stand (setting_at e) s) (put w) in
-    rw (c.in-Assign.is, r) (ends_ok e _ c.args.line c.in_ok-word-in-Assign.word (stand (setting_at e) s) go (Err c.in_err-place-in-Assign.field-0.0) c.args.self.now (c.in_ok-word-in-Assign.ensures.value e s h) (ends_err e _ c.args.line c.in_err-place-in-Assign.field-0.0 c.args.self.now s (put c.in_ok-word-in-Assign.word) (c.in_err-place-in-Assign.ensures.target e s h) h))
+    let put : g.row.N.Denot → ℕ → Outcome (Scene g.row.N.Denot) = λ w i. Done (record s { store = set s.store x i w }) c.args.self.now.left in
+    let go : g.row.N.Denot → Outcome (Scene g.row.N.Denot) = λ w. with_value (target (setting_at e) x (terms_in names c.in-Assign.cell.subs) s.store) c.args.line (stand (setting_at e) s) (put w) in
+    rw (c.in-Assign.is, r) (ends_ok e _ c.args.line c.in_ok-number-in-Assign.number (stand (setting_at e) s) go (Err c.in_err-place-in-Assign.field-0.0) c.args.self.now (c.in_ok-number-in-Assign.ensures.value e s h) (ends_err e _ c.args.line c.in_err-place-in-Assign.field-0.0 c.args.self.now s (put c.in_ok-number-in-Assign.number) (c.in_err-place-in-Assign.ensures.target e s h) h))
 
 pub perform-returns-in_err-holds-in-If-clause-ends : goal.perform-returns-in_err-holds-in-If-clause-ends
-perform-returns-in_err-holds-in-If-clause-ends t c e s h =
-    let q = calls_of {C = ℤ} (units_in c.args.program.now) c.args.depth in
+perform-returns-in_err-holds-in-If-clause-ends g t c e s h =
+    let q = calls_of {C = g.row.N.Denot} (units_in c.args.program.now) c.args.depth in
     let r : c.from_residual-in_err-holds-in-If.result ≡ Err c.in_err-holds-in-If.field-0.0 = search rules in
     rw (c.in-If.is, r) (ends_err e _ c.args.line c.in_err-holds-in-If.field-0.0 c.args.self.now s _ (c.in_err-holds-in-If.ensures.holds e s h) h)
 
 pub perform-returns-in_err-first-in-Loop-clause-ends : goal.perform-returns-in_err-first-in-Loop-clause-ends
-perform-returns-in_err-first-in-Loop-clause-ends t c e s h =
-    let q = calls_of {C = ℤ} (units_in c.args.program.now) c.args.depth in
+perform-returns-in_err-first-in-Loop-clause-ends g t c e s h =
+    let q = calls_of {C = g.row.N.Denot} (units_in c.args.program.now) c.args.depth in
     let names = c.args.self.now.frame.names.now in
     let b = c.in-Loop.bounds in
     let n = setting_at e in
@@ -147,14 +147,14 @@ perform-returns-in_err-first-in-Loop-clause-ends t c e s h =
     let x = c.in_err-first-in-Loop.field-0.0 in
     let at = var_at names c.in-Loop.variable in
     let r : c.from_residual-in_err-first-in-Loop.result ≡ Err c.in_err-first-in-Loop.field-0.0 = search rules in
-    let go : ℤ → ℤ → ℕ → Outcome (Scene ℤ) = λ u z i. then_do (turns n i (run q n (steps_in names c.in-Loop.body)) (stepped n at z) (with_turn n at (wrap u) s) c.args.self.now.left) (λ s1 j. Done (after_loop c.args.line i (in_force n mark s.store) s1) j) in
+    let go : ℤ → ℤ → ℕ → Outcome (Scene g.row.N.Denot) = λ u z i. then_do (turns n i (run q n (steps_in names c.in-Loop.body)) (stepped n at z) (with_turn n at (wrap u) s) c.args.self.now.left) (λ s1 j. Done (after_loop c.args.line i (in_force n mark s.store) s1) j) in
     rw (c.in-Loop.is, r)
     (subst (λ z. Ends e z (Err x) c.args.self.now) (bounds_chain n (term_in names b.first) (term_in names b.last) (term_in names b.by) mark s.store c.args.line (stand n s) go)
     (ends_err e _ c.args.line x c.args.self.now s (λ (p : ℤ × ℤ × ℕ). go p.0 p.1 p.2) (c.in_err-first-in-Loop.ensures.bounds e s h) h))
 
 pub perform-returns-in_ok-first-in-Loop-clause-ends : goal.perform-returns-in_ok-first-in-Loop-clause-ends
-perform-returns-in_ok-first-in-Loop-clause-ends t c e s h =
-    let q = calls_of {C = ℤ} (units_in c.args.program.now) c.args.depth in
+perform-returns-in_ok-first-in-Loop-clause-ends g t c e s h =
+    let q = calls_of {C = g.row.N.Denot} (units_in c.args.program.now) c.args.depth in
     let names = c.args.self.now.frame.names.now in
     let b = c.in-Loop.bounds in
     let n = setting_at e in
@@ -167,7 +167,7 @@ perform-returns-in_ok-first-in-Loop-clause-ends t c e s h =
     let fits_by : FitsSigned w64 c.in_ok-first-in-Loop.by = search rules in
     let bys = to_z-of_z w64 by fits_by in
     let word = to_z-of_z w64 first fits ∙ sym (wrap_word first fits) in
-    let go : ℤ → ℤ → ℕ → Outcome (Scene ℤ) = λ u z i. then_do (turns n i (run q n (steps_in names c.in-Loop.body)) (stepped n at z) (with_turn n at (wrap u) s) c.args.self.now.left) (λ s1 j. Done (after_loop c.args.line i (in_force n mark s.store) s1) j) in
+    let go : ℤ → ℤ → ℕ → Outcome (Scene g.row.N.Denot) = λ u z i. then_do (turns n i (run q n (steps_in names c.in-Loop.body)) (stepped n at z) (with_turn n at (wrap u) s) c.args.self.now.left) (λ s1 j. Done (after_loop c.args.line i (in_force n mark s.store) s1) j) in
     let done = subst (λ z. z) (λ i. Ends e (turns n count (run q n (steps_in (c.turn.ensures.names i) c.in-Loop.body)) (stepped n (var_at (c.turn.ensures.names i) c.in-Loop.variable) (bys i)) (with_turn n at (word i) s) (c.turn.ensures.left i)) c.turns.result c.turns.new.self)
     (c.turns.ensures.ends e _ (c.turn.ensures.holds e s h)) in
     rw c.in-Loop.is
@@ -176,40 +176,40 @@ perform-returns-in_ok-first-in-Loop-clause-ends t c e s h =
     (ends_loop e _ c.args.line count (in_force n mark s.store) c.turns.result c.turns.new.self done)))
 
 pub perform-returns-in-While-clause-ends : goal.perform-returns-in-While-clause-ends
-perform-returns-in-While-clause-ends t c e s h =
-    let q = calls_of {C = ℤ} (units_in c.args.program.now) c.args.depth in
+perform-returns-in-While-clause-ends g t c e s h =
+    let q = calls_of {C = g.row.N.Denot} (units_in c.args.program.now) c.args.depth in
     rw c.in-While.is (c.tests.ensures.ends e s h)
 
 -- ---- turns
 
 pub turns-loop-remaining-init : goal.turns-loop-remaining-init
-turns-loop-remaining-init t c = record {
+turns-loop-remaining-init g t c = record {
   room = refl;
   names = refl;
   framed = c.requires.framed;
   counts = refl;
-  reached = λ e s h. let q = calls_of {C = ℤ} (units_in c.args.program.now) c.args.depth in reaches_start e (turns (setting_at e) c.args.count (run q (setting_at e) (steps_in c.args.self.now.frame.names.now c.args.body.now)) (stepped (setting_at e) (var_at c.args.self.now.frame.names.now c.args.course.now.variable) c.args.course.now.by)) c.args.self.now s h;
+  reached = λ e s h. let q = calls_of {C = g.row.N.Denot} (units_in c.args.program.now) c.args.depth in reaches_start e (turns (setting_at e) c.args.count (run q (setting_at e) (steps_in c.args.self.now.frame.names.now c.args.body.now)) (stepped (setting_at e) (var_at c.args.self.now.frame.names.now c.args.course.now.variable) c.args.course.now.by)) c.args.self.now s h;
 }
 
 pub turns-returns-then-not-count-clause-ends : goal.turns-returns-then-not-count-clause-ends
-turns-returns-then-not-count-clause-ends t c e s h =
-    let q = calls_of {C = ℤ} (units_in c.args.program.now) c.args.depth in
+turns-returns-then-not-count-clause-ends g t c e s h =
+    let q = calls_of {C = g.row.N.Denot} (units_in c.args.program.now) c.args.depth in
     let names = c.args.self.now.frame.names.now in
     let body = run q (setting_at e) (steps_in names c.args.body.now) in
     let after = stepped (setting_at e) (var_at names c.args.course.now.variable) c.args.course.now.by in
     let o = turns (setting_at e) c.args.count body after s c.args.self.now.left in
     let none = c.count.ensures.none c.if-not-count.true in
-    subst (λ m. HasMore m o) (sym none.0) (turn_budget e body after c.loop-remaining.remaining o c.loop-remaining.self c.loop-remaining-test.true none.1 (c.loop-remaining.invariant.reached e s h))
+    subst (λ m. HasMore g.N.Number.numbers m o) (sym none.0) (turn_budget e body after c.loop-remaining.remaining o c.loop-remaining.self c.loop-remaining-test.true none.1 (c.loop-remaining.invariant.reached e s h))
 
 pub turns-returns-in_err-run-clause-ends : goal.turns-returns-in_err-run-clause-ends
-turns-returns-in_err-run-clause-ends t c e s h =
-    let q = calls_of {C = ℤ} (units_in c.args.program.now) c.args.depth in
+turns-returns-in_err-run-clause-ends g t c e s h =
+    let q = calls_of {C = g.row.N.Denot} (units_in c.args.program.now) c.args.depth in
     let names = c.args.self.now.frame.names.now in
     let body = run q (setting_at e) (steps_in names c.args.body.now) in
     let after = stepped (setting_at e) (var_at names c.args.course.now.variable) c.args.course.now.by in
     let o = turns (setting_at e) c.args.count body after s c.args.self.now.left in
     let some = c.count.ensures.some c.if-not-count.false in
-    let same = ap (λ (m : Machine). m.frame.names.now) (sym some) ∙ c.loop-remaining.invariant.names in
+    let same = ap (λ (m : Machine _). m.frame.names.now) (sym some) ∙ c.loop-remaining.invariant.names in
     let x = c.in_err-run.field-0.0 in
     let r : c.from_residual.result ≡ Err c.in_err-run.field-0.0 = search rules in
     subst (λ z. Ends e o z c.run.new.self) (sym r)
@@ -218,23 +218,23 @@ turns-returns-in_err-run-clause-ends t c e s h =
     (c.loop-remaining.invariant.reached e s h))
 
 pub turns-advance-requires-clause-there : goal.turns-advance-requires-clause-there
-turns-advance-requires-clause-there t c =
-    let same = ap (λ (m : Machine). m.frame.names.now) (sym (c.count.ensures.some c.if-not-count.false)) ∙ c.loop-remaining.invariant.names in
+turns-advance-requires-clause-there g t c =
+    let same = ap (λ (m : Machine _). m.frame.names.now) (sym (c.count.ensures.some c.if-not-count.false)) ∙ c.loop-remaining.invariant.names in
     subst (λ ns. c.args.course.now.variable < length ns) (sym (c.in_ok-run.ensures.names ∙ same)) c.requires.there
 
 pub turns-loop-remaining-preserved : goal.turns-loop-remaining-preserved
-turns-loop-remaining-preserved t c =
+turns-loop-remaining-preserved g t c =
     let names = c.args.self.now.frame.names.now in
     let some = c.count.ensures.some c.if-not-count.false in
-    let same = ap (λ (m : Machine). m.frame.names.now) (sym some) ∙ c.loop-remaining.invariant.names in
+    let same = ap (λ (m : Machine _). m.frame.names.now) (sym some) ∙ c.loop-remaining.invariant.names in
     let still = c.in_ok-run.ensures.names ∙ same in
     record {
-      room = c.advance.ensures.room ∙ c.in_ok-run.ensures.room ∙ ap (λ (m : Machine). m.tape.room) (sym some) ∙ c.loop-remaining.invariant.room;
+      room = c.advance.ensures.room ∙ c.in_ok-run.ensures.room ∙ ap (λ (m : Machine _). m.tape.room) (sym some) ∙ c.loop-remaining.invariant.room;
       names = c.advance.ensures.names ∙ still;
       framed = subst (λ ns. IsFrame ns c.advance.new.self.frame.slots.items) still c.advance.ensures.framed;
-      counts = c.advance.ensures.counts ∙ c.in_ok-run.ensures.counts ∙ ap (λ (m : Machine). counts_in m.frame.slots.items) (sym some) ∙ c.loop-remaining.invariant.counts;
+      counts = c.advance.ensures.counts ∙ c.in_ok-run.ensures.counts ∙ ap (λ (m : Machine _). counts_in m.frame.slots.items) (sym some) ∙ c.loop-remaining.invariant.counts;
       reached = λ e s h.
-          let q = calls_of {C = ℤ} (units_in c.args.program.now) c.args.depth in
+          let q = calls_of {C = g.row.N.Denot} (units_in c.args.program.now) c.args.depth in
           let body = run q (setting_at e) (steps_in names c.args.body.now) in
           let after = stepped (setting_at e) (var_at names c.args.course.now.variable) c.args.course.now.by in
           let o = turns (setting_at e) c.args.count body after s c.args.self.now.left in
@@ -246,8 +246,8 @@ turns-loop-remaining-preserved t c =
     }
 
 pub turns-returns-clause-ends : goal.turns-returns-clause-ends
-turns-returns-clause-ends t c e s h =
-    let q = calls_of {C = ℤ} (units_in c.args.program.now) c.args.depth in
+turns-returns-clause-ends g t c e s h =
+    let q = calls_of {C = g.row.N.Denot} (units_in c.args.program.now) c.args.depth in
     let names = c.args.self.now.frame.names.now in
     let body = run q (setting_at e) (steps_in names c.args.body.now) in
     let after = stepped (setting_at e) (var_at names c.args.course.now.variable) c.args.course.now.by in
@@ -258,21 +258,21 @@ turns-returns-clause-ends t c e s h =
 -- ---- tests
 
 pub tests-loop-self-init : goal.tests-loop-self-init
-tests-loop-self-init t c = record {
+tests-loop-self-init g t c = record {
   room = refl;
   names = refl;
   framed = c.requires.framed;
   counts = refl;
-  reached = λ e s h. let q = calls_of {C = ℤ} (units_in c.args.program.now) c.args.depth in reaches_start e (tests (setting_at e) c.most_tests-remaining.result (λ s1. holds (setting_at e) (test_in c.args.self.now.frame.names.now c.args.test.now) s1.store) c.args.line (run q (setting_at e) (steps_in c.args.self.now.frame.names.now c.args.body.now))) c.args.self.now s h;
+  reached = λ e s h. let q = calls_of {C = g.row.N.Denot} (units_in c.args.program.now) c.args.depth in reaches_start e (tests (setting_at e) c.most_tests-remaining.result (λ s1. holds (setting_at e) (test_in c.args.self.now.frame.names.now c.args.test.now) s1.store) c.args.line (run q (setting_at e) (steps_in c.args.self.now.frame.names.now c.args.body.now))) c.args.self.now s h;
 }
 
 pub tests-returns-in_err-holds-clause-ends : goal.tests-returns-in_err-holds-clause-ends
-tests-returns-in_err-holds-clause-ends t c e s h =
-    let q = calls_of {C = ℤ} (units_in c.args.program.now) c.args.depth in
+tests-returns-in_err-holds-clause-ends g t c e s h =
+    let q = calls_of {C = g.row.N.Denot} (units_in c.args.program.now) c.args.depth in
     let names = c.args.self.now.frame.names.now in
     let line = c.args.line in
     let i = c.loop-self.remaining in
-    let test : Scene ℤ → Result Bool Trap = λ s1. holds (setting_at e) (test_in names c.args.test.now) s1.store in
+    let test : Scene g.row.N.Denot → Result Bool Trap = λ s1. holds (setting_at e) (test_in names c.args.test.now) s1.store in
     let body = run q (setting_at e) (steps_in names c.args.body.now) in
     let o = tests (setting_at e) c.most_tests-remaining.result test line body s c.args.self.now.left in
     let whole = ap (λ j. tests (setting_at e) j test line body s c.args.self.now.left) c.most_tests-remaining.ensures in
@@ -285,34 +285,34 @@ tests-returns-in_err-holds-clause-ends t c e s h =
     (test_err e test line body i o x c.loop-self.self (λ z g. subst (λ ns. Finds line (holds (setting_at e) (test_in ns c.args.test.now) z.store) (Err x)) same (c.in_err-holds.ensures.holds e z g)) reached))
 
 pub tests-returns-then-remaining-eq0-clause-ends : goal.tests-returns-then-remaining-eq0-clause-ends
-tests-returns-then-remaining-eq0-clause-ends t c e s h =
-    let q = calls_of {C = ℤ} (units_in c.args.program.now) c.args.depth in
+tests-returns-then-remaining-eq0-clause-ends g t c e s h =
+    let q = calls_of {C = g.row.N.Denot} (units_in c.args.program.now) c.args.depth in
     let names = c.args.self.now.frame.names.now in
     let line = c.args.line in
     let i = c.loop-self.remaining in
-    let test : Scene ℤ → Result Bool Trap = λ s1. holds (setting_at e) (test_in names c.args.test.now) s1.store in
+    let test : Scene g.row.N.Denot → Result Bool Trap = λ s1. holds (setting_at e) (test_in names c.args.test.now) s1.store in
     let body = run q (setting_at e) (steps_in names c.args.body.now) in
     let o = tests (setting_at e) c.most_tests-remaining.result test line body s c.args.self.now.left in
     let whole = ap (λ j. tests (setting_at e) j test line body s c.args.self.now.left) c.most_tests-remaining.ensures in
     let same = c.loop-self.invariant.names in
     let reached = c.loop-self.invariant.reached e s h in
-    let found : (z : Scene ℤ) → Holds e c.loop-self.self z → Finds {A = Bool} line (test z) (Ok true) = λ z g. ap (λ ns. holds (setting_at e) (test_in ns c.args.test.now) z.store) (sym same) ∙ c.in_ok-holds.ensures.holds e z g ∙ ap Ok c.if-branch.true in
-    subst (λ z. IsTrapped c.loop-self.self trap.Step line z) whole
+    let found : (z : Scene g.row.N.Denot) → Holds e c.loop-self.self z → Finds {A = Bool} line (test z) (Ok true) = λ z g. ap (λ ns. holds (setting_at e) (test_in ns c.args.test.now) z.store) (sym same) ∙ c.in_ok-holds.ensures.holds e z g ∙ ap Ok c.if-branch.true in
+    subst (λ z. IsTrapped g.N.Number.numbers c.loop-self.self trap.Step line z) whole
     (test_last e test line body i o c.loop-self.self c.if-remaining-eq0.true found reached)
 
 pub tests-returns-in_err-run-clause-ends : goal.tests-returns-in_err-run-clause-ends
-tests-returns-in_err-run-clause-ends t c e s h =
-    let q = calls_of {C = ℤ} (units_in c.args.program.now) c.args.depth in
+tests-returns-in_err-run-clause-ends g t c e s h =
+    let q = calls_of {C = g.row.N.Denot} (units_in c.args.program.now) c.args.depth in
     let names = c.args.self.now.frame.names.now in
     let line = c.args.line in
     let i = c.loop-self.remaining in
-    let test : Scene ℤ → Result Bool Trap = λ s1. holds (setting_at e) (test_in names c.args.test.now) s1.store in
+    let test : Scene g.row.N.Denot → Result Bool Trap = λ s1. holds (setting_at e) (test_in names c.args.test.now) s1.store in
     let body = run q (setting_at e) (steps_in names c.args.body.now) in
     let o = tests (setting_at e) c.most_tests-remaining.result test line body s c.args.self.now.left in
     let whole = ap (λ j. tests (setting_at e) j test line body s c.args.self.now.left) c.most_tests-remaining.ensures in
     let same = c.loop-self.invariant.names in
     let reached = c.loop-self.invariant.reached e s h in
-    let found : (z : Scene ℤ) → Holds e c.loop-self.self z → Finds {A = Bool} line (test z) (Ok true) = λ z g. ap (λ ns. holds (setting_at e) (test_in ns c.args.test.now) z.store) (sym same) ∙ c.in_ok-holds.ensures.holds e z g ∙ ap Ok c.if-branch.true in
+    let found : (z : Scene g.row.N.Denot) → Holds e c.loop-self.self z → Finds {A = Bool} line (test z) (Ok true) = λ z g. ap (λ ns. holds (setting_at e) (test_in ns c.args.test.now) z.store) (sym same) ∙ c.in_ok-holds.ensures.holds e z g ∙ ap Ok c.if-branch.true in
     let x = c.in_err-run.field-0.0 in
     let some : 0 < c.loop-self.remaining = search rules in
     let r : c.from_residual-in_err-run.result ≡ Err c.in_err-run.field-0.0 = search rules in
@@ -323,111 +323,111 @@ tests-returns-in_err-run-clause-ends t c e s h =
     reached))
 
 pub tests-returns-then-not-count-clause-ends : goal.tests-returns-then-not-count-clause-ends
-tests-returns-then-not-count-clause-ends t c e s h =
-    let q = calls_of {C = ℤ} (units_in c.args.program.now) c.args.depth in
+tests-returns-then-not-count-clause-ends g t c e s h =
+    let q = calls_of {C = g.row.N.Denot} (units_in c.args.program.now) c.args.depth in
     let names = c.args.self.now.frame.names.now in
     let line = c.args.line in
     let i = c.loop-self.remaining in
-    let test : Scene ℤ → Result Bool Trap = λ s1. holds (setting_at e) (test_in names c.args.test.now) s1.store in
+    let test : Scene g.row.N.Denot → Result Bool Trap = λ s1. holds (setting_at e) (test_in names c.args.test.now) s1.store in
     let body = run q (setting_at e) (steps_in names c.args.body.now) in
     let o = tests (setting_at e) c.most_tests-remaining.result test line body s c.args.self.now.left in
     let whole = ap (λ j. tests (setting_at e) j test line body s c.args.self.now.left) c.most_tests-remaining.ensures in
     let same = c.loop-self.invariant.names in
     let reached = c.loop-self.invariant.reached e s h in
-    let found : (z : Scene ℤ) → Holds e c.loop-self.self z → Finds {A = Bool} line (test z) (Ok true) = λ z g. ap (λ ns. holds (setting_at e) (test_in ns c.args.test.now) z.store) (sym same) ∙ c.in_ok-holds.ensures.holds e z g ∙ ap Ok c.if-branch.true in
+    let found : (z : Scene g.row.N.Denot) → Holds e c.loop-self.self z → Finds {A = Bool} line (test z) (Ok true) = λ z g. ap (λ ns. holds (setting_at e) (test_in ns c.args.test.now) z.store) (sym same) ∙ c.in_ok-holds.ensures.holds e z g ∙ ap Ok c.if-branch.true in
     let none = c.count.ensures.none c.if-not-count.true in
     let some : 0 < c.loop-self.remaining = search rules in
-    subst (λ z. HasMore c.count.new.self z) whole
-    (subst (λ m. HasMore m o) (sym none.0)
+    subst (λ z. HasMore g.N.Number.numbers c.count.new.self z) whole
+    (subst (λ m. HasMore g.N.Number.numbers m o) (sym none.0)
     (test_budget e test line body i o c.in_ok-run.field-0 c.loop-self.self c.run.new.self some found
     (λ z g. subst (λ ns. Ends e (run q (setting_at e) (steps_in ns c.args.body.now) z c.loop-self.self.left) (Ok c.in_ok-run.field-0) c.run.new.self) same (c.in_ok-run.ensures.ends e z g))
     none.1 reached))
 
 pub tests-loop-self-preserved : goal.tests-loop-self-preserved
-tests-loop-self-preserved t c =
+tests-loop-self-preserved g t c =
     let names = c.args.self.now.frame.names.now in
     let line = c.args.line in
     let some = c.count.ensures.some c.if-not-count.false in
     let same = c.loop-self.invariant.names in
     let still = c.in_ok-run.ensures.names ∙ same in
-    let after = ap (λ (m : Machine). m.frame.names.now) (sym some) in
+    let after = ap (λ (m : Machine _). m.frame.names.now) (sym some) in
     let framed = subst (λ ns. IsFrame ns c.run.new.self.frame.slots.items) same c.in_ok-run.ensures.framed in
     let positive : 0 < c.loop-self.remaining = search rules in
     record {
-      room = ap (λ (m : Machine). m.tape.room) (sym some) ∙ c.in_ok-run.ensures.room ∙ c.loop-self.invariant.room;
+      room = ap (λ (m : Machine _). m.tape.room) (sym some) ∙ c.in_ok-run.ensures.room ∙ c.loop-self.invariant.room;
       names = after ∙ still;
-      framed = subst (λ (m : Machine). IsFrame names m.frame.slots.items) some framed;
-      counts = ap (λ (m : Machine). counts_in m.frame.slots.items) (sym some) ∙ c.in_ok-run.ensures.counts ∙ c.loop-self.invariant.counts;
+      framed = subst (λ (m : Machine _). IsFrame names m.frame.slots.items) some framed;
+      counts = ap (λ (m : Machine _). counts_in m.frame.slots.items) (sym some) ∙ c.in_ok-run.ensures.counts ∙ c.loop-self.invariant.counts;
       reached = λ e s h.
-          let q = calls_of {C = ℤ} (units_in c.args.program.now) c.args.depth in
-          let test : Scene ℤ → Result Bool Trap = λ s1. holds (setting_at e) (test_in names c.args.test.now) s1.store in
+          let q = calls_of {C = g.row.N.Denot} (units_in c.args.program.now) c.args.depth in
+          let test : Scene g.row.N.Denot → Result Bool Trap = λ s1. holds (setting_at e) (test_in names c.args.test.now) s1.store in
           let body = run q (setting_at e) (steps_in names c.args.body.now) in
           let o = tests (setting_at e) c.most_tests-remaining.result test line body s c.args.self.now.left in
           test_next e test line body c.loop-self.remaining o c.in_ok-run.field-0 c.loop-self.self c.run.new.self c.count.new.self positive
-          (λ (z : Scene ℤ) g. ap (λ ns. holds (setting_at e) (test_in ns c.args.test.now) z.store) (sym same) ∙ c.in_ok-holds.ensures.holds e z g ∙ ap Ok c.if-branch.true)
+          (λ (z : Scene g.row.N.Denot) g. ap (λ ns. holds (setting_at e) (test_in ns c.args.test.now) z.store) (sym same) ∙ c.in_ok-holds.ensures.holds e z g ∙ ap Ok c.if-branch.true)
           (λ z g. subst (λ ns. Ends e (run q (setting_at e) (steps_in ns c.args.body.now) z c.loop-self.self.left) (Ok c.in_ok-run.field-0) c.run.new.self) same (c.in_ok-run.ensures.ends e z g))
           some
           (c.loop-self.invariant.reached e s h);
     }
 
 pub tests-returns-clause-ends : goal.tests-returns-clause-ends
-tests-returns-clause-ends t c e s h =
-    let q = calls_of {C = ℤ} (units_in c.args.program.now) c.args.depth in
+tests-returns-clause-ends g t c e s h =
+    let q = calls_of {C = g.row.N.Denot} (units_in c.args.program.now) c.args.depth in
     let names = c.args.self.now.frame.names.now in
     let line = c.args.line in
     let i = c.loop-self.remaining in
-    let test : Scene ℤ → Result Bool Trap = λ s1. holds (setting_at e) (test_in names c.args.test.now) s1.store in
+    let test : Scene g.row.N.Denot → Result Bool Trap = λ s1. holds (setting_at e) (test_in names c.args.test.now) s1.store in
     let body = run q (setting_at e) (steps_in names c.args.body.now) in
     let o = tests (setting_at e) c.most_tests-remaining.result test line body s c.args.self.now.left in
     let whole = ap (λ j. tests (setting_at e) j test line body s c.args.self.now.left) c.most_tests-remaining.ensures in
     let same = c.loop-self.invariant.names in
     let reached = c.loop-self.invariant.reached e s h in
-    let found : (z : Scene ℤ) → Holds e c.loop-self.self z → Finds {A = Bool} line (test z) (Ok false) = λ z g. ap (λ ns. holds (setting_at e) (test_in ns c.args.test.now) z.store) (sym same) ∙ c.in_ok-holds.ensures.holds e z g ∙ ap Ok c.if-branch.false in
+    let found : (z : Scene g.row.N.Denot) → Holds e c.loop-self.self z → Finds {A = Bool} line (test z) (Ok false) = λ z g. ap (λ ns. holds (setting_at e) (test_in ns c.args.test.now) z.store) (sym same) ∙ c.in_ok-holds.ensures.holds e z g ∙ ap Ok c.if-branch.false in
     subst (λ z. IsDone e c.loop-self.self z) whole
     (test_end e test line body i o tt c.loop-self.self found reached)
 
 -- ---- calls
 
 pub perform-call-requires : goal.perform-call-requires
-perform-call-requires t c =
+perform-call-requires g t c =
     let below = rw c.in-Call.is at c.requires.below in
     let linked = rw c.in-Call.is at c.requires.linked in
     let suited = rw c.in-Call.is at c.requires.suited in
     (omega (arith, c.decreases), (c.requires.framed, (below, (c.requires.program, (λ u e. suited u (linked ∙ e))))))
 
 pub tests-run-requires : goal.tests-run-requires
-tests-run-requires t c =
+tests-run-requires g t c =
     let inv = c.loop-self.invariant in
     let suited = subst (λ z. z) (λ i. AreSuited (units_in c.args.program.now) (HasOneCell (sym inv.names i) (sym inv.counts i)) (steps_in (sym inv.names i) c.args.body.now)) c.requires.suited in
     (omega (arith, c.decreases), (subst (λ ns. IsFrame ns c.loop-self.self.frame.slots.items) (sym inv.names) inv.framed, (subst (λ ns. AreStepsBelow (length ns) c.args.body.now) (sym inv.names) c.requires.below, (c.requires.program, (c.requires.linked, suited)))))
 
 pub turns-run-requires : goal.turns-run-requires
-turns-run-requires t c =
+turns-run-requires g t c =
     let inv = c.loop-remaining.invariant in
     let some = c.count.ensures.some c.if-not-count.false in
-    let same = ap (λ (m : Machine). m.frame.names.now) (sym some) ∙ inv.names in
-    let framed = subst (λ (m : Machine). IsFrame c.args.self.now.frame.names.now m.frame.slots.items) some inv.framed in
-    let counts = ap (λ (m : Machine). counts_in m.frame.slots.items) (sym some) ∙ inv.counts in
+    let same = ap (λ (m : Machine _). m.frame.names.now) (sym some) ∙ inv.names in
+    let framed = subst (λ (m : Machine _). IsFrame c.args.self.now.frame.names.now m.frame.slots.items) some inv.framed in
+    let counts = ap (λ (m : Machine _). counts_in m.frame.slots.items) (sym some) ∙ inv.counts in
     let suited = subst (λ z. z) (λ i. AreSuited (units_in c.args.program.now) (HasOneCell (sym same i) (sym counts i)) (steps_in (sym same i) c.args.body.now)) c.requires.suited in
     (omega (arith, c.decreases), (subst (λ ns. IsFrame ns c.count.new.self.frame.slots.items) (sym same) framed, (subst (λ ns. AreStepsBelow (length ns) c.args.body.now) (sym same) c.requires.below, (c.requires.program, (c.requires.linked, suited)))))
 
 pub perform-returns-in-Call-clause-ends : goal.perform-returns-in-Call-clause-ends
-perform-returns-in-Call-clause-ends t c e s h =
+perform-returns-in-Call-clause-ends g t c e s h =
     let linked = rw c.in-Call.is at c.requires.linked in
     rw c.in-Call.is (c.call.ensures.ends c.in-Call._name linked e s h)
 
 pub call-returns-then-depth-eq0-clause-ends : goal.call-returns-then-depth-eq0-clause-ends
-call-returns-then-depth-eq0-clause-ends t c name found e s h =
-    subst (λ d. HasMore c.args.self.now (calls_of {C = ℤ} (units_in c.args.program.now) d (setting_at e) name (terms_in c.args.self.now.frame.names.now c.args.terms.now) c.args.line s c.args.self.now.left)) (sym c.if-depth-eq0.true) (holds_stand e c.args.self.now s h)
+call-returns-then-depth-eq0-clause-ends g t c name found e s h =
+    subst (λ d. HasMore g.N.Number.numbers c.args.self.now (calls_of {C = g.row.N.Denot} (units_in c.args.program.now) d (setting_at e) name (terms_in c.args.self.now.frame.names.now c.args.terms.now) c.args.line s c.args.self.now.left)) (sym c.if-depth-eq0.true) (holds_stand e c.args.self.now s h)
 
 pub call-returns-then-number-program-clause-ends : goal.call-returns-then-number-program-clause-ends
-call-returns-then-number-program-clause-ends t c name found e s h =
+call-returns-then-number-program-clause-ends g t c name found e s h =
     let m = c.args.self.now in
     let past = call_past c.args.program.now c.args.depth c.args.number name (positive c.args.depth c.if-depth-eq0.false) found (setting_at e) (terms_in m.frame.names.now c.args.terms.now) c.args.line s m.left c.if-number-program.true in
-    subst (IsTrapped m trap.Shape c.args.line) (sym past) (refl, refl, holds_stand e m s h)
+    subst (IsTrapped g.N.Number.numbers m trap.Shape c.args.line) (sym past) (refl, refl, holds_stand e m s h)
 
 pub call-returns-in_err-actuals-clause-ends : goal.call-returns-in_err-actuals-clause-ends
-call-returns-in_err-actuals-clause-ends t c name found e s h =
+call-returns-in_err-actuals-clause-ends g t c name found e s h =
     let rs = c.args.program.now in
     let m = c.args.self.now in
     let names = m.frame.names.now in
@@ -438,12 +438,12 @@ call-returns-in_err-actuals-clause-ends t c name found e s h =
     let at = call_at rs c.args.depth c.args.number name (positive c.args.depth c.if-depth-eq0.false) found (setting_at e) args c.args.line s m.left r r.writes.now lt c.index-program-number.is k.writes in
     let x = c.in_err-actuals.field-0.0 in
     let err : c.from_residual.result ≡ Err c.in_err-actuals.field-0.0 = search rules in
-    let o = calls_of {C = ℤ} (units_in rs) c.args.depth (setting_at e) name args c.args.line s m.left in
+    let o = calls_of {C = g.row.N.Denot} (units_in rs) c.args.depth (setting_at e) name args c.args.line s m.left in
     subst (λ z. Ends e o z m) (sym err)
-    (subst (λ z. Ends e z (Err x) m) (sym at) (call_err (calls_of {C = ℤ} (units_in rs) (c.args.depth - 1)) e s r r.writes.now args c.args.line m.left m h (λ (v : Vec Actual Global). actuals_in names e.shape s.store v.items) x (c.in_err-actuals.ensures.actuals e.shape (Some e.room) e.level s.store h.shown)))
+    (subst (λ z. Ends e z (Err x) m) (sym at) (call_err (calls_of {C = g.row.N.Denot} (units_in rs) (c.args.depth - 1)) e s r r.writes.now args c.args.line m.left m h (λ (v : Vec (Actual _) Global). actuals_in names e.shape s.store v.items) x (c.in_err-actuals.ensures.actuals e.shape (Some e.room) e.level s.store h.shown)))
 
 pub call-returns-in_err-frame-clause-ends : goal.call-returns-in_err-frame-clause-ends
-call-returns-in_err-frame-clause-ends t c name found e s h =
+call-returns-in_err-frame-clause-ends g t c name found e s h =
     let rs = c.args.program.now in
     let m = c.args.self.now in
     let names = m.frame.names.now in
@@ -454,61 +454,61 @@ call-returns-in_err-frame-clause-ends t c name found e s h =
     let at = call_at rs c.args.depth c.args.number name (positive c.args.depth c.if-depth-eq0.false) found (setting_at e) args c.args.line s m.left r r.writes.now lt c.index-program-number.is k.writes in
     let x = c.in_err-frame.field-0.0 in
     let err : c.from_residual-in_err-frame.result ≡ Err c.in_err-frame.field-0.0 = search rules in
-    let o = calls_of {C = ℤ} (units_in rs) c.args.depth (setting_at e) name args c.args.line s m.left in
+    let o = calls_of {C = g.row.N.Denot} (units_in rs) c.args.depth (setting_at e) name args c.args.line s m.left in
     let got = actuals_in names e.shape s.store c.in_ok-actuals.actuals.items in
-    let misfit = misfit_at x c.args.line (λ f. ap (λ all. fit_from r (actuals_in names e.shape s.store all) 0) (sym c.as_slice.ensures.value) ∙ f e.shape s.store h.shown) c.in_err-frame.ensures.misfit in
+    let misfit = misfit_at x c.args.line (λ f. ap (λ all. fit_from g.N.Number.numbers r (actuals_in names e.shape s.store all) 0) (sym c.as_slice.ensures.value) ∙ f e.shape s.store h.shown) c.in_err-frame.ensures.misfit in
     subst (λ z. Ends e o z m) (sym err)
-    (subst (λ z. Ends e z (Err x) m) (sym at) (call_misfit (calls_of {C = ℤ} (units_in rs) (c.args.depth - 1)) e s r r.writes.now args c.args.line m.left m h got (c.in_ok-actuals.ensures.actuals e.shape (Some e.room) e.level s.store h.shown) x misfit))
+    (subst (λ z. Ends e z (Err x) m) (sym at) (call_misfit (calls_of {C = g.row.N.Denot} (units_in rs) (c.args.depth - 1)) e s r r.writes.now args c.args.line m.left m h got (c.in_ok-actuals.ensures.actuals e.shape (Some e.room) e.level s.store h.shown) x misfit))
 
 pub call-run-ended-requires : goal.call-run-ended-requires
-call-run-ended-requires t c =
+call-run-ended-requires g t c =
     let rs = c.args.program.now in
     let r = c.index-program-number.result in
     let lt = c.if-number-program.false in
     let k = subst (IsRoutine (units_in rs)) (sym c.index-program-number.is) (c.requires.program c.args.number r lt) in
     let frame = c.in_ok-outer.ensures.frame in
     let f = c.in_ok-frame.ensures in
-    let names = ap (λ (z : Frame). z.names.now) frame ∙ f.names in
-    let framed = subst (λ (z : Frame). IsFrame r.names z.slots.items) (sym frame) f.framed in
+    let names = ap (λ (z : Frame _). z.names.now) frame ∙ f.names in
+    let framed = subst (λ (z : Frame _). IsFrame r.names z.slots.items) (sym frame) f.framed in
     let size = ap (λ (z : Routine). size-Steps z.body) c.index-program-number.is in
     let within = size_within rs c.args.number r lt in
     let less = less_deep c.args.depth (suc (2 * all_sizes rs)) (2 * size-Steps r.body) 0 (positive c.args.depth c.if-depth-eq0.false) (omega (arith, size, within)) in
     let m = c.args.self.now.frame in
     let mine = shapes_in m.names.now m.slots.items in
-    let held = store_in m.names.now m.slots.items in
+    let held = store_in g.N.Number.numbers m.names.now m.slots.items in
     let got = actuals_in m.names.now mine held c.as_slice.result.now in
-    let shown = f.shown mine held (shows_itself m.names.now m.slots.items) in
-    let inside_suited = entered_suited (units_in rs) r (entered_with r got) (shapes_with r got) (entered_with r got) c.in_ok-frame.frame k f.names f.framed shown (λ x. refl) in
-    let suited = subst (λ (z : Frame). AreSuited (units_in rs) (HasOneCell z.names.now (counts_in z.slots.items)) (steps_in z.names.now r.body)) (sym frame) inside_suited in
+    let shown = f.shown mine held (shows_itself g.N.Number.numbers m.names.now m.slots.items) in
+    let inside_suited = entered_suited (units_in rs) r (entered_with g.N.Number.numbers r got) (shapes_with g.N.Number.numbers r got) (entered_with g.N.Number.numbers r got) c.in_ok-frame.frame k f.names f.framed shown (λ x. refl) in
+    let suited = subst (λ (z : Frame _). AreSuited (units_in rs) (HasOneCell z.names.now (counts_in z.slots.items)) (steps_in z.names.now r.body)) (sym frame) inside_suited in
     (omega (arith, c.decreases, less), (subst (λ ns. IsFrame ns c.enter.new.self.frame.slots.items) (sym names) framed, (subst (λ ns. AreStepsBelow (length ns) r.body) (sym names) k.below, (c.requires.program, (k.linked, suited)))))
 
 -- what is handed back has the cells of the actuals
 pub call-hand_back-requires-clause-large : goal.call-hand_back-requires-clause-large
-call-hand_back-requires-clause-large t c =
+call-hand_back-requires-clause-large g t c =
     let rs = c.args.program.now in
     let r = c.index-program-number.result in
     let lt = c.if-number-program.false in
     let k = subst (IsRoutine (units_in rs)) (sym c.index-program-number.is) (c.requires.program c.args.number r lt) in
     let m = c.args.self.now.frame in
     let mine = shapes_in m.names.now m.slots.items in
-    let held = store_in m.names.now m.slots.items in
+    let held = store_in g.N.Number.numbers m.names.now m.slots.items in
     let f = c.in_ok-frame.ensures in
-    let itself = shows_itself m.names.now m.slots.items in
+    let itself = shows_itself g.N.Number.numbers m.names.now m.slots.items in
     let found = c.in_ok-actuals.ensures.actuals mine None 0 held itself in
     let value = c.as_slice.ensures.value in
     let all = c.in_ok-actuals.actuals.items in
     let got = actuals_in m.names.now mine held all in
     let is = unit_at rs c.args.number r lt ∙ ap (λ (z : Routine). Some (procedure_of z.unit.now)) (sym c.index-program-number.is) in
-    let suited = got_suited (HasOneCell m.names.now (counts_in m.slots.items)) (on_words mine None 0) held (procedure_of r.unit.now) r.unit.now.dummies (terms_in m.names.now c.args.terms.now) got found (c.requires.suited (procedure_of r.unit.now) is) in
-    let fit = subst (λ (xs : List Actual). fit_from r (actuals_in m.names.now mine held xs) 0 ≡ true) value (f.fits mine held itself) in
-    let shown = subst (λ (xs : List Actual). Shows r.names c.in_ok-frame.frame.slots.items (shapes_with r (actuals_in m.names.now mine held xs)) (entered_with r (actuals_in m.names.now mine held xs))) value (f.shown mine held itself) in
-    let large = as_large r k.laid m.names.now m.slots.items c.in_ok-frame.frame.slots.items all c.requires.framed f.framed c.in_ok-actuals.ensures.below fit shown suited in
-    let frame = ap (λ (z : Machine). z.frame) c.leave-inner.ensures.back ∙ ap (λ (z : Outer). z.frame) c.in_ok-outer.ensures.outer in
-    let inner = ap (λ (z : Frame). counts_in z.slots.items) c.leave-inner.ensures.frame ∙ c.in_ok-ended.ensures.counts ∙ ap (λ (z : Frame). counts_in z.slots.items) c.in_ok-outer.ensures.frame in
+    let suited = got_suited (HasOneCell m.names.now (counts_in m.slots.items)) (on_numbers g.N.Number.numbers mine None 0) held (procedure_of r.unit.now) r.unit.now.dummies (terms_in m.names.now c.args.terms.now) got found (c.requires.suited (procedure_of r.unit.now) is) in
+    let fit = subst (λ (xs : List (Actual _)). fit_from g.N.Number.numbers r (actuals_in m.names.now mine held xs) 0 ≡ true) value (f.fits mine held itself) in
+    let shown = subst (λ (xs : List (Actual _)). Shows g.N.Number.numbers r.names c.in_ok-frame.frame.slots.items (shapes_with g.N.Number.numbers r (actuals_in m.names.now mine held xs)) (entered_with g.N.Number.numbers r (actuals_in m.names.now mine held xs))) value (f.shown mine held itself) in
+    let large = as_large g.N.Number.numbers r k.laid m.names.now m.slots.items c.in_ok-frame.frame.slots.items all c.requires.framed f.framed c.in_ok-actuals.ensures.below fit shown suited in
+    let frame = ap (λ (z : Machine _). z.frame) c.leave-inner.ensures.back ∙ ap (λ (z : Outer _). z.frame) c.in_ok-outer.ensures.outer in
+    let inner = ap (λ (z : Frame _). counts_in z.slots.items) c.leave-inner.ensures.frame ∙ c.in_ok-ended.ensures.counts ∙ ap (λ (z : Frame _). counts_in z.slots.items) c.in_ok-outer.ensures.frame in
     subst (λ z. z) (λ i. AreAsLarge (length r.unit.now.dummies) (counts_in (sym frame i).slots.items) (sym c.as_slice-2.ensures.value i) (sym inner i)) large
 
 pub call-returns-in_err-ended-clause-ends : goal.call-returns-in_err-ended-clause-ends
-call-returns-in_err-ended-clause-ends t c name found e s h =
+call-returns-in_err-ended-clause-ends g t c name found e s h =
     let rs = c.args.program.now in
     let m = c.args.self.now in
     let names = m.frame.names.now in
@@ -519,23 +519,23 @@ call-returns-in_err-ended-clause-ends t c name found e s h =
     let at = call_at rs c.args.depth c.args.number name (positive c.args.depth c.if-depth-eq0.false) found (setting_at e) args c.args.line s m.left r r.writes.now lt c.index-program-number.is k.writes in
     let x = c.in_err-ended.field-0.0 in
     let err : c.from_residual-in_err-ended.result ≡ Err c.in_err-ended.field-0.0 = search rules in
-    let o = calls_of {C = ℤ} (units_in rs) c.args.depth (setting_at e) name args c.args.line s m.left in
-    let q = calls_of {C = ℤ} (units_in rs) (c.args.depth - 1) in
+    let o = calls_of {C = g.row.N.Denot} (units_in rs) c.args.depth (setting_at e) name args c.args.line s m.left in
+    let q = calls_of {C = g.row.N.Denot} (units_in rs) (c.args.depth - 1) in
     let got = actuals_in names e.shape s.store c.in_ok-actuals.actuals.items in
     let value = c.as_slice.ensures.value in
     let f = c.in_ok-frame.ensures in
-    let fit = ap (λ all. fit_from r (actuals_in names e.shape s.store all) 0) (sym value) ∙ f.fits e.shape s.store h.shown in
-    let shown = subst (λ all. Shows r.names c.in_ok-frame.frame.slots.items (shapes_with r (actuals_in names e.shape s.store all)) (entered_with r (actuals_in names e.shape s.store all))) value (f.shown e.shape s.store h.shown) in
-    let here = subst (λ ns. Shows ns c.in_ok-frame.frame.slots.items (shapes_with r got) (entered_with r got)) (sym f.names) shown in
-    let holds = c.in_ok-outer.ensures.holds e s (shapes_with r got) (entered_with r got) r.unit.now.name _ h here in
-    let ends = unit_ends q (inside e (shapes_with r got) (length m.tally.begun)) _ r c.enter.new.self.frame.names.now m.left c.enter.new.self.left (Err x) c.run-ended.new.self (ap (λ (z : Frame). z.names.now) c.in_ok-outer.ensures.frame ∙ f.names) k.body c.in_ok-outer.ensures.left (c.in_err-ended.ensures.ends (inside e (shapes_with r got) (length m.tally.begun)) _ holds) in
+    let fit = ap (λ all. fit_from g.N.Number.numbers r (actuals_in names e.shape s.store all) 0) (sym value) ∙ f.fits e.shape s.store h.shown in
+    let shown = subst (λ all. Shows g.N.Number.numbers r.names c.in_ok-frame.frame.slots.items (shapes_with g.N.Number.numbers r (actuals_in names e.shape s.store all)) (entered_with g.N.Number.numbers r (actuals_in names e.shape s.store all))) value (f.shown e.shape s.store h.shown) in
+    let here = subst (λ ns. Shows g.N.Number.numbers ns c.in_ok-frame.frame.slots.items (shapes_with g.N.Number.numbers r got) (entered_with g.N.Number.numbers r got)) (sym f.names) shown in
+    let holds = c.in_ok-outer.ensures.holds e s (shapes_with g.N.Number.numbers r got) (entered_with g.N.Number.numbers r got) r.unit.now.name _ h here in
+    let ends = unit_ends q (inside e (shapes_with g.N.Number.numbers r got) (length m.tally.begun)) _ r c.enter.new.self.frame.names.now m.left c.enter.new.self.left (Err x) c.run-ended.new.self (ap (λ (z : Frame _). z.names.now) c.in_ok-outer.ensures.frame ∙ f.names) k.body c.in_ok-outer.ensures.left (c.in_err-ended.ensures.ends (inside e (shapes_with g.N.Number.numbers r got) (length m.tally.begun)) _ holds) in
     let back = c.leave-inner.ensures.back in
     subst (λ z. Ends e o z c.leave-inner.new.self) (sym err)
     (subst (λ z. Ends e z (Err x) c.leave-inner.new.self) (sym at)
-    (call_break q e s r r.writes.now args c.args.line m.left m h got (c.in_ok-actuals.ensures.actuals e.shape (Some e.room) e.level s.store h.shown) fit c.run-ended.new.self x c.leave-inner.new.self ends (ap (λ (z : Machine). z.tape) back) (ap (λ (z : Machine). z.tally) back)))
+    (call_break q e s r r.writes.now args c.args.line m.left m h got (c.in_ok-actuals.ensures.actuals e.shape (Some e.room) e.level s.store h.shown) fit c.run-ended.new.self x c.leave-inner.new.self ends (ap (λ (z : Machine _). z.tape) back) (ap (λ (z : Machine _). z.tally) back)))
 
 pub call-returns-then-not-is_closed-clause-ends : goal.call-returns-then-not-is_closed-clause-ends
-call-returns-then-not-is_closed-clause-ends t c name found e s h =
+call-returns-then-not-is_closed-clause-ends g t c name found e s h =
     let rs = c.args.program.now in
     let m = c.args.self.now in
     let names = m.frame.names.now in
@@ -544,21 +544,21 @@ call-returns-then-not-is_closed-clause-ends t c name found e s h =
     let lt = c.if-number-program.false in
     let k = subst (IsRoutine (units_in rs)) (sym c.index-program-number.is) (c.requires.program c.args.number r lt) in
     let at = call_at rs c.args.depth c.args.number name (positive c.args.depth c.if-depth-eq0.false) found (setting_at e) args c.args.line s m.left r r.writes.now lt c.index-program-number.is k.writes in
-    let q = calls_of {C = ℤ} (units_in rs) (c.args.depth - 1) in
+    let q = calls_of {C = g.row.N.Denot} (units_in rs) (c.args.depth - 1) in
     let got = actuals_in names e.shape s.store c.in_ok-actuals.actuals.items in
     let value = c.as_slice.ensures.value in
     let f = c.in_ok-frame.ensures in
-    let fit = ap (λ all. fit_from r (actuals_in names e.shape s.store all) 0) (sym value) ∙ f.fits e.shape s.store h.shown in
-    let shown = subst (λ all. Shows r.names c.in_ok-frame.frame.slots.items (shapes_with r (actuals_in names e.shape s.store all)) (entered_with r (actuals_in names e.shape s.store all))) value (f.shown e.shape s.store h.shown) in
-    let here = subst (λ ns. Shows ns c.in_ok-frame.frame.slots.items (shapes_with r got) (entered_with r got)) (sym f.names) shown in
-    let holds = c.in_ok-outer.ensures.holds e s (shapes_with r got) (entered_with r got) r.unit.now.name _ h here in
-    let ends = unit_ends q (inside e (shapes_with r got) (length m.tally.begun)) _ r c.enter.new.self.frame.names.now m.left c.enter.new.self.left (Ok tt) c.run-ended.new.self (ap (λ (z : Frame). z.names.now) c.in_ok-outer.ensures.frame ∙ f.names) k.body c.in_ok-outer.ensures.left (c.in_ok-ended.ensures.ends (inside e (shapes_with r got) (length m.tally.begun)) _ holds) in
+    let fit = ap (λ all. fit_from g.N.Number.numbers r (actuals_in names e.shape s.store all) 0) (sym value) ∙ f.fits e.shape s.store h.shown in
+    let shown = subst (λ all. Shows g.N.Number.numbers r.names c.in_ok-frame.frame.slots.items (shapes_with g.N.Number.numbers r (actuals_in names e.shape s.store all)) (entered_with g.N.Number.numbers r (actuals_in names e.shape s.store all))) value (f.shown e.shape s.store h.shown) in
+    let here = subst (λ ns. Shows g.N.Number.numbers ns c.in_ok-frame.frame.slots.items (shapes_with g.N.Number.numbers r got) (entered_with g.N.Number.numbers r got)) (sym f.names) shown in
+    let holds = c.in_ok-outer.ensures.holds e s (shapes_with g.N.Number.numbers r got) (entered_with g.N.Number.numbers r got) r.unit.now.name _ h here in
+    let ends = unit_ends q (inside e (shapes_with g.N.Number.numbers r got) (length m.tally.begun)) _ r c.enter.new.self.frame.names.now m.left c.enter.new.self.left (Ok tt) c.run-ended.new.self (ap (λ (z : Frame _). z.names.now) c.in_ok-outer.ensures.frame ∙ f.names) k.body c.in_ok-outer.ensures.left (c.in_ok-ended.ensures.ends (inside e (shapes_with g.N.Number.numbers r got) (length m.tally.begun)) _ holds) in
     let back = c.leave-inner.ensures.back in
-    subst (IsTrapped c.leave-inner.new.self trap.Schedule c.args.line) (sym at)
-    (call_open q e s r r.writes.now args c.args.line m.left m h got (c.in_ok-actuals.ensures.actuals e.shape (Some e.room) e.level s.store h.shown) fit c.run-ended.new.self c.leave-inner.new.self ends (sym c.leave-inner.ensures.closed ∙ c.if-not-is_closed.true) (ap (λ (z : Machine). z.tape) back) (ap (λ (z : Machine). z.tally) back))
+    subst (IsTrapped g.N.Number.numbers c.leave-inner.new.self trap.Schedule c.args.line) (sym at)
+    (call_open q e s r r.writes.now args c.args.line m.left m h got (c.in_ok-actuals.ensures.actuals e.shape (Some e.room) e.level s.store h.shown) fit c.run-ended.new.self c.leave-inner.new.self ends (sym c.leave-inner.ensures.closed ∙ c.if-not-is_closed.true) (ap (λ (z : Machine _). z.tape) back) (ap (λ (z : Machine _). z.tally) back))
 
 pub call-returns-clause-ends : goal.call-returns-clause-ends
-call-returns-clause-ends t c name found e s h =
+call-returns-clause-ends g t c name found e s h =
     let rs = c.args.program.now in
     let m = c.args.self.now in
     let names = m.frame.names.now in
@@ -567,38 +567,38 @@ call-returns-clause-ends t c name found e s h =
     let lt = c.if-number-program.false in
     let k = subst (IsRoutine (units_in rs)) (sym c.index-program-number.is) (c.requires.program c.args.number r lt) in
     let at = call_at rs c.args.depth c.args.number name (positive c.args.depth c.if-depth-eq0.false) found (setting_at e) args c.args.line s m.left r r.writes.now lt c.index-program-number.is k.writes in
-    let o = calls_of {C = ℤ} (units_in rs) c.args.depth (setting_at e) name args c.args.line s m.left in
-    let q = calls_of {C = ℤ} (units_in rs) (c.args.depth - 1) in
+    let o = calls_of {C = g.row.N.Denot} (units_in rs) c.args.depth (setting_at e) name args c.args.line s m.left in
+    let q = calls_of {C = g.row.N.Denot} (units_in rs) (c.args.depth - 1) in
     let got = actuals_in names e.shape s.store c.in_ok-actuals.actuals.items in
     let value = c.as_slice.ensures.value in
     let f = c.in_ok-frame.ensures in
-    let fit = ap (λ all. fit_from r (actuals_in names e.shape s.store all) 0) (sym value) ∙ f.fits e.shape s.store h.shown in
-    let shown = subst (λ all. Shows r.names c.in_ok-frame.frame.slots.items (shapes_with r (actuals_in names e.shape s.store all)) (entered_with r (actuals_in names e.shape s.store all))) value (f.shown e.shape s.store h.shown) in
-    let here = subst (λ ns. Shows ns c.in_ok-frame.frame.slots.items (shapes_with r got) (entered_with r got)) (sym f.names) shown in
-    let holds = c.in_ok-outer.ensures.holds e s (shapes_with r got) (entered_with r got) r.unit.now.name _ h here in
-    let entered_names = ap (λ (z : Frame). z.names.now) c.in_ok-outer.ensures.frame ∙ f.names in
-    let ends = unit_ends q (inside e (shapes_with r got) (length m.tally.begun)) _ r c.enter.new.self.frame.names.now m.left c.enter.new.self.left (Ok tt) c.run-ended.new.self entered_names k.body c.in_ok-outer.ensures.left (c.in_ok-ended.ensures.ends (inside e (shapes_with r got) (length m.tally.begun)) _ holds) in
+    let fit = ap (λ all. fit_from g.N.Number.numbers r (actuals_in names e.shape s.store all) 0) (sym value) ∙ f.fits e.shape s.store h.shown in
+    let shown = subst (λ all. Shows g.N.Number.numbers r.names c.in_ok-frame.frame.slots.items (shapes_with g.N.Number.numbers r (actuals_in names e.shape s.store all)) (entered_with g.N.Number.numbers r (actuals_in names e.shape s.store all))) value (f.shown e.shape s.store h.shown) in
+    let here = subst (λ ns. Shows g.N.Number.numbers ns c.in_ok-frame.frame.slots.items (shapes_with g.N.Number.numbers r got) (entered_with g.N.Number.numbers r got)) (sym f.names) shown in
+    let holds = c.in_ok-outer.ensures.holds e s (shapes_with g.N.Number.numbers r got) (entered_with g.N.Number.numbers r got) r.unit.now.name _ h here in
+    let entered_names = ap (λ (z : Frame _). z.names.now) c.in_ok-outer.ensures.frame ∙ f.names in
+    let ends = unit_ends q (inside e (shapes_with g.N.Number.numbers r got) (length m.tally.begun)) _ r c.enter.new.self.frame.names.now m.left c.enter.new.self.left (Ok tt) c.run-ended.new.self entered_names k.body c.in_ok-outer.ensures.left (c.in_ok-ended.ensures.ends (inside e (shapes_with g.N.Number.numbers r got) (length m.tally.begun)) _ holds) in
     let m1 = c.run-ended.new.self in
     let m2 = c.leave-inner.new.self in
     let m3 = c.hand_back.new.self in
     let back = c.leave-inner.ensures.back in
     let outer = c.in_ok-outer.ensures.outer in
     let same = c.hand_back.ensures.same in
-    let frame = ap (λ (z : Machine). z.frame) back ∙ ap (λ (z : Outer). z.frame) outer in
+    let frame = ap (λ (z : Machine _). z.frame) back ∙ ap (λ (z : Outer _). z.frame) outer in
     let inner = c.leave-inner.ensures.frame in
-    let inner_names = ap (λ (z : Frame). z.names.now) inner ∙ c.in_ok-ended.ensures.names ∙ entered_names in
+    let inner_names = ap (λ (z : Frame _). z.names.now) inner ∙ c.in_ok-ended.ensures.names ∙ entered_names in
     let handed = c.hand_back.ensures.handed in
     subst (IsDone e m3) (sym at)
     (call_done q e s r r.writes.now args c.args.line m.left m h got (c.in_ok-actuals.ensures.actuals e.shape (Some e.room) e.level s.store h.shown) fit m1 m3 ends (sym c.leave-inner.ensures.closed ∙ c.if-not-is_closed.false)
-    (ap (λ (z : Machine). z.tape) same ∙ ap (λ (z : Machine). z.tape) back)
-    (ap (λ (z : Machine). z.tally) same ∙ ap (λ (z : Machine). z.tally) back)
-    (ap (λ (z : Machine). z.left) same ∙ ap (λ (z : Machine). z.left) back)
-    (ap (λ (z : Machine). z.level) same ∙ ap (λ (z : Machine). z.level) back ∙ ap (λ (z : Outer). z.level) outer)
-    (ap (λ (z : Machine). z.base) same ∙ ap (λ (z : Machine). z.base) back ∙ ap (λ (z : Outer). z.base) outer)
-    (λ u g.
-    let mine = subst (λ (z : Frame). Shows z.names.now z.slots.items e.shape s.store) (sym frame) h.shown in
-    let theirs = subst (λ (z : Frame). Shows z.names.now z.slots.items (shapes_with r got) u) (sym inner) g in
-    let named = subst (λ ns. Shows ns c.leave-inner.result.0.slots.items (shapes_with r got) u) inner_names theirs in
-    let out = handed e.shape (shapes_with r got) s.store s.store u mine named in
-    let copied = subst (λ (p : Frame × List Actual). Shows m2.frame.names.now m3.frame.slots.items e.shape (copied_out r.unit.now.dummies r.writes.now (actuals_in p.0.names.now e.shape s.store p.1) u s.store)) (λ i. (frame i, c.as_slice-2.ensures.value i)) out in
-    subst (λ ns. Shows ns m3.frame.slots.items e.shape (copied_out r.unit.now.dummies r.writes.now got u s.store)) (sym c.hand_back.ensures.names) copied))
+    (ap (λ (z : Machine _). z.tape) same ∙ ap (λ (z : Machine _). z.tape) back)
+    (ap (λ (z : Machine _). z.tally) same ∙ ap (λ (z : Machine _). z.tally) back)
+    (ap (λ (z : Machine _). z.left) same ∙ ap (λ (z : Machine _). z.left) back)
+    (ap (λ (z : Machine _). z.level) same ∙ ap (λ (z : Machine _). z.level) back ∙ ap (λ (z : Outer _). z.level) outer)
+    (ap (λ (z : Machine _). z.base) same ∙ ap (λ (z : Machine _). z.base) back ∙ ap (λ (z : Outer _). z.base) outer)
+    (λ u q.
+    let mine = subst (λ (z : Frame _). Shows g.N.Number.numbers z.names.now z.slots.items e.shape s.store) (sym frame) h.shown in
+    let theirs = subst (λ (z : Frame _). Shows g.N.Number.numbers z.names.now z.slots.items (shapes_with g.N.Number.numbers r got) u) (sym inner) q in
+    let named = subst (λ ns. Shows g.N.Number.numbers ns c.leave-inner.result.0.slots.items (shapes_with g.N.Number.numbers r got) u) inner_names theirs in
+    let out = handed e.shape (shapes_with g.N.Number.numbers r got) s.store s.store u mine named in
+    let copied = subst (λ (p : Frame _ × List (Actual _)). Shows g.N.Number.numbers m2.frame.names.now m3.frame.slots.items e.shape (copied_out r.unit.now.dummies r.writes.now (actuals_in p.0.names.now e.shape s.store p.1) u s.store)) (λ i. (frame i, c.as_slice-2.ensures.value i)) out in
+    subst (λ ns. Shows g.N.Number.numbers ns m3.frame.slots.items e.shape (copied_out r.unit.now.dummies r.writes.now got u s.store)) (sym c.hand_back.ensures.names) copied))

@@ -7,13 +7,13 @@ use Rattle.adj_meaning.specs.Trap.{then_ok}
 use Rattle.adj_meaning.specs.Units.{actuals}
 use Rattle.adj_frame.specs.Prepared.{terms_in, AreTermsBelow}
 use Rattle.adj_frame.specs.Called.{actuals_in, AreActualsBelow}
-use Rattle.adj_frame.specs.Shown.{on_words, Shows}
+use Rattle.adj_frame.specs.Shown.{on_numbers, Shows}
 use Rattle.adj_interp.proofs.machine.Machine.actuals.Given as goal
 
 abbrev pub invariant-loop-current : goal.invariant-loop-current
-invariant-loop-current l = record {
+invariant-loop-current g l = record {
   below : AreTermsBelow (length l.self.frame.names.now) l.current;
   there : AreActualsBelow l.self.frame.slots.items l.found.items;
-  got : (shape : Var → Shape) (room : Option ℕ) (level : ℕ) (s : Store ℤ) → Shows l.self.frame.names.now l.self.frame.slots.items shape s →
-      actuals (on_words shape room level) (terms_in l.self.frame.names.now l.terms) s ≡ then_ok (actuals (on_words shape room level) (terms_in l.self.frame.names.now l.current) s) (λ got. Ok (actuals_in l.self.frame.names.now shape s l.found.items ++ got));
+  got : (shape : Var → Shape) (room : Option ℕ) (level : ℕ) (s : Store g.row.N.Denot) → Shows g.N.Number.numbers l.self.frame.names.now l.self.frame.slots.items shape s →
+      actuals (on_numbers g.N.Number.numbers shape room level) (terms_in l.self.frame.names.now l.terms) s ≡ then_ok (actuals (on_numbers g.N.Number.numbers shape room level) (terms_in l.self.frame.names.now l.current) s) (λ got. Ok (actuals_in l.self.frame.names.now shape s l.found.items ++ got));
 }

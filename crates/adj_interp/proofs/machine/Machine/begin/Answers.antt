@@ -13,25 +13,25 @@ use Rattle.adj_interp.proofs.Serving.{begun_ok}
 use Rattle.adj_interp.proofs.machine.Machine.begin.Goals as goal
 
 pub returns-in_err-plan-clause-ends : goal.returns-in_err-plan-clause-ends
-returns-in_err-plan-clause-ends c e s h =
+returns-in_err-plan-clause-ends g c e s h =
     let m = c.args.self.now in
     let names = m.frame.names.now in
     let n = setting_at e in
     let r : c.from_residual.result ≡ Err c.in_err-plan.field-0.0 = search rules in
-    let go : ℕ → ℕ → Outcome (Scene ℤ) = λ a b. Done (begun n a b s) m.left in
+    let go : ℕ → ℕ → Outcome (Scene g.row.N.Denot) = λ a b. Done (begun n a b s) m.left in
     rw r
     (subst (λ z. Ends e z (Err c.in_err-plan.field-0.0) m) (plan_chain n (term_in names c.args.steps.now) (term_in names c.args.snapshots.now) s.store c.args.line (stand n s) go)
     (ends_err e _ c.args.line c.in_err-plan.field-0.0 m s (λ (p : ℕ × ℕ). go p.0 p.1) (c.in_err-plan.ensures.plan e s h) h))
 
 pub returns-in-Ok-clause-ends : goal.returns-in-Ok-clause-ends
-returns-in-Ok-clause-ends c e s h =
+returns-in-Ok-clause-ends g c e s h =
     let m = c.args.self.now in
     let names = m.frame.names.now in
     let n = setting_at e in
     let plan = c.in_ok-plan.plan in
-    let go : ℕ → ℕ → Outcome (Scene ℤ) = λ a b. Done (begun n a b s) m.left in
+    let go : ℕ → ℕ → Outcome (Scene g.row.N.Denot) = λ a b. Done (begun n a b s) m.left in
     let t : Counted = c.begin.new.self in
-    let m1 : Machine = record m { tally = t } in
+    let m1 : Machine g.row.N.Denot = record m { tally = t } in
     let told : t ≡ with_event m.tally (Begin plan.0 plan.1 m.level c.len-height.result) = c.in-Ok.ensures plan.1 in
     subst (λ z. IsDone e m1 z) (plan_chain n (term_in names c.args.steps.now) (term_in names c.args.snapshots.now) s.store c.args.line (stand n s) go)
     (ends_ok e _ c.args.line plan (stand n s) (λ (p : ℕ × ℕ). go p.0 p.1) (Ok tt) m1 (c.in_ok-plan.ensures.plan e s h)

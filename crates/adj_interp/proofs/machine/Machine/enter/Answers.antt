@@ -9,7 +9,7 @@ use Rattle.adj_interp.proofs.Driving.{told_next}
 use Rattle.adj_interp.proofs.machine.Machine.enter.Goals as goal
 
 pub returns-clause-holds : goal.returns-clause-holds
-returns-clause-holds c e s shape t name shapes h g =
+returns-clause-holds g c e s shape t name shapes h q =
     let m = c.args.self.now in
     let one = c.in-Some.ensures.1 in
     let was = h.level in
@@ -22,7 +22,7 @@ returns-clause-holds c e s shape t name shapes h g =
       room = h.room;
       level = c.replace-3.ensures.after ∙ level;
       base = based ∙ ap (λ (z : Counted). length z.begun) counted ∙ entry_count c.in-Some.level c.len-height.result m.tally.log m.tally.begun;
-      shown = subst (λ (f : Frame). Shows f.names.now f.slots.items shape t) (sym c.replace.ensures.after) g;
+      shown = subst (λ (f : Frame _). Shows g.N.Number.numbers f.names.now f.slots.items shape t) (sym c.replace.ensures.after) q;
       tape = h.tape;
       opened = omega (arith, based);
       told = subst (λ z. Tells z (Enter name (suc e.level) (length s.tape) shapes ∷ s.events)) (sym told) (told_next m.tally (Enter name (suc e.level) (length s.tape) shapes) s.events h.told);

@@ -6,7 +6,7 @@ use Rattle.adj_interp.specs.Held.{setting_at, Holds}
 use Rattle.adj_interp.proofs.machine.Machine.give.Goals as goal
 
 pub returns-clause-holds : goal.returns-clause-holds
-returns-clause-holds c e s h =
+returns-clause-holds g c e s h =
     let n = setting_at e in
     let names = c.args.self.now.frame.names.now in
     let fits1 : FitsSigned w64 c.kind_of.result = search rules in

@@ -8,10 +8,10 @@ use Rattle.adj_interp.proofs.Driving.{finds_at}
 use Rattle.adj_interp.proofs.machine.Machine.holds.Goals as goal
 
 pub returns : goal.returns
-returns c =
+returns g c =
     let f = c.args.self.now.frame in
     let t = test_in f.names.now c.args.test.now in
     record {
       holds = λ e s h. subst (Finds c.args.line (holds (setting_at e) t s.store)) (sym c.at_line.ensures)
-          (finds_at c.args.line c.holds.result _ (holds_shown f.names.now f.slots.items e.shape (Some e.room) e.level s.store h.shown t ∙ sym c.holds.ensures.holds));
+          (finds_at c.args.line c.holds.result _ (holds_shown g.N.Number.numbers f.names.now f.slots.items e.shape (Some e.room) e.level s.store h.shown t ∙ sym c.holds.ensures.holds));
     }

@@ -9,7 +9,7 @@ use Rattle.adj_interp.proofs.Plans.{looked_up, found_within}
 use Rattle.adj_interp.proofs.machine.Machine.looked_up.Goals as goal
 
 pub returns-in_err-number-clause-action : goal.returns-in_err-number-clause-action
-returns-in_err-number-clause-action c =
+returns-in_err-number-clause-action g c =
     let r : c.from_residual-in_err-number.result ≡ Err c.in_err-number.field-0.0 = search rules in
     let l = c.in_ok-steps.steps in
     let k = c.in_ok-snapshots.snapshots in
@@ -21,7 +21,7 @@ returns-in_err-number-clause-action c =
     (sym (c.in_err-number.ensures.ordinal (schedule_of 0 l k)) ∙ ap (λ z. action_at z (schedule_of 0 l k)) number)
 
 pub returns-clause-within : goal.returns-clause-within
-returns-clause-within c =
+returns-clause-within g c =
     let l = c.in_ok-steps.steps in
     let k = c.in_ok-snapshots.snapshots in
     let at = c.in_ok-number.number - 1 in

@@ -8,7 +8,7 @@ use Rattle.adj_interp.proofs.Serving.{counted_cells, back_next, back_break, back
 use Rattle.adj_interp.proofs.machine.Machine.pop_array.Goals as goal
 
 pub loop-remaining-preserved : goal.loop-remaining-preserved
-loop-remaining-preserved c =
+loop-remaining-preserved g c =
     let inv = c.loop-remaining.invariant in
     record {
       room = c.in_ok-pop.ensures.room ∙ inv.room;
@@ -25,7 +25,7 @@ loop-remaining-preserved c =
     }
 
 pub returns-in_err-pop-clause-ends : goal.returns-in_err-pop-clause-ends
-returns-in_err-pop-clause-ends c e s h =
+returns-in_err-pop-clause-ends g c e s h =
     let m = c.args.self.now in
     let inv = c.loop-remaining.invariant in
     let x = var_at m.frame.names.now c.args.variable in
@@ -44,7 +44,7 @@ returns-in_err-pop-clause-ends c e s h =
     (λ z g. subst (λ ns. Ends e (popped (setting_at e) (var_at ns c.args.variable) (c.loop-remaining.remaining - 1) c.args.line z c.loop-remaining.self.left) (Err c.in_err-pop.field-0.0) c.pop.new.self) inv.names (c.in_err-pop.ensures.ends e z g))))
 
 pub returns-clause-ends : goal.returns-clause-ends
-returns-clause-ends c e s h =
+returns-clause-ends g c e s h =
     let m = c.args.self.now in
     let x = var_at m.frame.names.now c.args.variable in
     let d = c.index.result.now in

@@ -9,16 +9,16 @@ use Rattle.adj_interp.specs.Held.{Entry, setting_at, Holds, Reaches}
 use Rattle.adj_interp.proofs.machine.Machine.pop_array.Given as goal
 
 abbrev pub invariant-loop-remaining : goal.invariant-loop-remaining
-invariant-loop-remaining l = record {
+invariant-loop-remaining g l = record {
   room : l.self.tape.room ≡ l.initial.self.tape.room;
   names : l.self.frame.names.now ≡ l.initial.self.frame.names.now;
   framed : IsFrame l.initial.self.frame.names.now l.self.frame.slots.items;
   counts : counts_in l.self.frame.slots.items ≡ counts_in l.initial.self.frame.slots.items;
-  within : (d : Slot) → l.remaining ≤ length (get_or l.self.frame.slots.items l.variable d).cells.items;
-  reached : (e : Entry) (s : Scene ℤ) → Holds e l.initial.self s →
+  within : (d : Slot _) → l.remaining ≤ length (get_or l.self.frame.slots.items l.variable d).cells.items;
+  reached : (e : Entry g.N.Number.numbers) (s : Scene g.row.N.Denot) → Holds e l.initial.self s →
       Reaches e (popped_all (setting_at e) (var_at l.initial.self.frame.names.now l.variable) l.initial.remaining l.line s l.initial.self.left)
       (popped_all (setting_at e) (var_at l.initial.self.frame.names.now l.variable) l.remaining l.line) l.self;
 }
 
 abbrev pub decreases-loop-remaining : goal.decreases-loop-remaining
-decreases-loop-remaining l = l.remaining
+decreases-loop-remaining g l = l.remaining

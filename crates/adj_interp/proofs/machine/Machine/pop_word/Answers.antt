@@ -4,6 +4,6 @@ use Rattle.adj_interp.proofs.Driving.{ends_err}
 use Rattle.adj_interp.proofs.machine.Machine.pop_word.Goals as goal
 
 pub returns-in_err-place-clause-ends : goal.returns-in_err-place-clause-ends
-returns-in_err-place-clause-ends c e s h =
+returns-in_err-place-clause-ends g c e s h =
     let r : c.from_residual.result ≡ Err c.in_err-place.field-0.0 = search rules in
     rw r (ends_err e _ c.args.line c.in_err-place.field-0.0 c.args.self.now s _ (c.in_err-place.ensures.target e s h) h)

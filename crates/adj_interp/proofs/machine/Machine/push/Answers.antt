@@ -5,9 +5,9 @@ use Rattle.adj_interp.proofs.Serving.{pushed_full}
 use Rattle.adj_interp.proofs.machine.Machine.push.Goals as goal
 
 pub returns-in-Err-clause-ends : goal.returns-in-Err-clause-ends
-returns-in-Err-clause-ends c e s h =
+returns-in-Err-clause-ends g c e s h =
     let m = c.args.self.now in
     let full : length m.tape.words ≡ m.tape.room = search rules in
     let same : c.push.new.self ≡ m.tape = search rules in
-    let put : Held → Machine = λ t. record m { tape = t } in
-    pushed_full e m (put c.push.new.self) s c.args.word h full (ap put same)
+    let put : Held g.row.N.Denot → Machine g.row.N.Denot = λ t. record m { tape = t } in
+    pushed_full e m (put c.push.new.self) s c.args.number h full (ap put same)

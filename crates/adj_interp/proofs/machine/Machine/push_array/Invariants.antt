@@ -7,10 +7,10 @@ use Rattle.adj_interp.specs.Held.{Entry, setting_at, Holds, Reaches}
 use Rattle.adj_interp.proofs.machine.Machine.push_array.Given as goal
 
 abbrev pub invariant-loop-cell : goal.invariant-loop-cell
-invariant-loop-cell l = record {
+invariant-loop-cell g l = record {
   room : l.self.tape.room ≡ l.initial.self.tape.room;
   frame : l.self.frame ≡ l.initial.self.frame;
-  reached : (e : Entry) (s : Scene ℤ) → Holds e l.initial.self s →
+  reached : (e : Entry g.N.Number.numbers) (s : Scene g.row.N.Denot) → Holds e l.initial.self s →
       Reaches e (pushed_all (setting_at e) (cells_from (s.store (var_at l.initial.self.frame.names.now l.variable)) 0 l.count) s l.initial.self.left)
       (pushed_all (setting_at e) (cells_from (s.store (var_at l.initial.self.frame.names.now l.variable)) l.cell (l.count - l.cell))) l.self;
 }

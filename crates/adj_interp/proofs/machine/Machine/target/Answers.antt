@@ -9,14 +9,14 @@ use Rattle.adj_interp.proofs.Driving.{finds_at, found_at}
 use Rattle.adj_interp.proofs.machine.Machine.target.Goals as goal
 
 pub returns-clause-target : goal.returns-clause-target
-returns-clause-target c e s h =
+returns-clause-target g c e s h =
     let f = c.args.self.now.frame in
     let x = var_at f.names.now c.args.cell.now.variable in
     let subs = terms_in f.names.now c.args.cell.now.subs in
     subst (Finds c.args.line (target (setting_at e) x subs s.store)) (sym c.at_line.ensures)
-    (finds_at c.args.line c.target.result _ (target_shown f.names.now f.slots.items e.shape (Some e.room) e.level s.store h.shown x subs ∙ sym c.target.ensures.cell))
+    (finds_at c.args.line c.target.result _ (target_shown g.N.Number.numbers f.names.now f.slots.items e.shape (Some e.room) e.level s.store h.shown x subs ∙ sym c.target.ensures.cell))
 
 pub returns-clause-within : goal.returns-clause-within
-returns-clause-within c =
-    let within : ℕ → Type 0 = λ j. (d : Slot) → j < length (get_or c.args.self.now.frame.slots.items c.args.cell.now.variable d).cells.items in
+returns-clause-within g c =
+    let within : ℕ → Type 0 = λ j. (d : Slot _) → j < length (get_or c.args.self.now.frame.slots.items c.args.cell.now.variable d).cells.items in
     subst (λ r. IfOk r within) (sym c.at_line.ensures) (found_at within c.args.line c.target.result c.target.ensures.within)

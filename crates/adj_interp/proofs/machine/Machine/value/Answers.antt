@@ -8,10 +8,10 @@ use Rattle.adj_interp.proofs.Driving.{finds_at}
 use Rattle.adj_interp.proofs.machine.Machine.value.Goals as goal
 
 pub returns : goal.returns
-returns c =
+returns g c =
     let f = c.args.self.now.frame in
     let term = term_in f.names.now c.args.term.now in
     record {
       value = λ e s h. subst (Finds c.args.line (value (setting_at e) term s.store)) (sym c.at_line.ensures)
-          (finds_at c.args.line c.value.result _ (value_shown f.names.now f.slots.items e.shape (Some e.room) e.level s.store h.shown term ∙ sym c.value.ensures.value));
+          (finds_at c.args.line c.value.result _ (value_shown g.N.Number.numbers f.names.now f.slots.items e.shape (Some e.room) e.level s.store h.shown term ∙ sym c.value.ensures.value));
     }
