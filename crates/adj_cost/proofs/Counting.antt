@@ -20,7 +20,7 @@ pub append_count : (c d : Code) → statements_of (c +++ d) ≡ statements_of c 
 append_count c d = cost_append (λ a. 0) c d
 
 -- what stands only where something holds is no more than that
-if_few : (b : Bool) (c : Code) → statements_of (code_if b c) ≤ statements_of c
+pub if_few : (b : Bool) (c : Code) → statements_of (code_if b c) ≤ statements_of c
 if_few true c = omega arith
 if_few false c = omega arith
 
@@ -35,7 +35,7 @@ one_at_most true = omega arith
 one_at_most false = omega arith
 
 -- an expression has a node, and a condition three
-some_nodes : (e : Term) → 1 ≤ term_nodes e
+pub some_nodes : (e : Term) → 1 ≤ term_nodes e
 some_nodes (lit z) = omega arith
 some_nodes (var x) = omega arith
 some_nodes (elem x subs) = omega arith
@@ -45,7 +45,7 @@ some_nodes (pow a k) = omega arith
 some_nodes (power_of a b) = omega arith
 some_nodes (abs a) = omega arith
 
-three_nodes : (c : Test) → 3 ≤ test_nodes c
+pub three_nodes : (c : Test) → 3 ≤ test_nodes c
 three_nodes (compare r a b) = omega (arith, some_nodes a, some_nodes b)
 three_nodes (negation c) = omega (arith, three_nodes c)
 three_nodes (conjunction c d) = omega (arith, three_nodes c)
@@ -383,7 +383,7 @@ module _ (p : Plan) where
   -- ---- bodies of adjoints
 
   -- one statement for each shadow that is cleared
-  cleared_count : (line : ℕ) (xs : List (List ℕ)) → statements_of (cleared p line xs) ≡ length xs
+  pub cleared_count : (line : ℕ) (xs : List (List ℕ)) → statements_of (cleared p line xs) ≡ length xs
   cleared_count line [] = refl
   cleared_count line (x ∷ xs) = go (p.arrays (plain x)) (cleared_count line xs)
     where

@@ -1,3 +1,19 @@
--- The counts.
+-- The counts, and what runs take.
 pub mod Counting
 pub mod Nests
+pub mod Runs
+pub mod EachCall
+pub mod Moved
+pub mod Along
+pub mod AlongAssignments
+pub mod AlongTurns
+pub mod AlongLoops
+pub mod AlongWhiles
+pub mod Prices
+pub mod AlongLists
+pub mod AlongCalls
+pub mod CallPrices
+pub mod CallCosts
+pub mod CallFacts
+pub mod AlongUnits
+pub mod Heads

@@ -1,0 +1,67 @@
+-- What a run of both sweeps takes along a run of a unit, and what the emitted program takes. (docs/THEOREMS.md, "What both sweeps cost")
+use Rattle.std.specs.Prelude.{◌≡◌, ℕ, ℤ, suc, ◌+◌, ◌*◌, ◌≤◌, length, List, [], ◌∷◌, Bool, true, Some, None, IsTrue}
+use Rattle.adj_tree.specs.Code.{Var, Code, Procedure}
+use Rattle.adj_meaning.specs.Padded.{own_nodes, padded, padded_program, padded_procedure}
+use Rattle.adj_meaning.specs.Numbers.{words}
+use Rattle.adj_meaning.specs.Store.{Shape}
+use Rattle.adj_meaning.specs.Scene.{Scene, Done}
+use Rattle.adj_meaning.specs.Run.{run}
+use Rattle.adj_meaning.specs.Written.{find_unit}
+use Rattle.adj_meaning.specs.Units.{Slot, Output, fits, calls_of, run_unit}
+use Rattle.adj_names.specs.Calls.{chain_within}
+use Rattle.adj_transpose.specs.Adjoint.{AreAlike, Ends}
+use Rattle.adj_transpose.specs.Marks.{Vars}
+use Rattle.adj_transpose.specs.MarkedAdjoint.{shadow_flags, joined_by}
+use Rattle.adj_transpose.specs.Facts.{Facts}
+use Rattle.adj_transpose.specs.Pairs.{on_words}
+use Rattle.adj_transpose.specs.Program.{unit_at}
+use Rattle.adj_reverse.specs.Plan.{Plan}
+use Rattle.adj_reverse.specs.Emission.{forward, backward}
+use Rattle.adj_reverse.specs.Laws.{CalleeFacts}
+use Rattle.adj_reverse.specs.Marking.{ProgramFacts}
+use Rattle.adj_reverse.specs.Names.{adjoint_name}
+use Rattle.adj_reverse.specs.Passing.{plainly}
+use Rattle.adj_reverse.specs.Program.{emitted_program}
+use Rattle.adj_reverse.specs.Source.{SourceFits}
+use Rattle.adj_reverse.specs.Theorem.{plan_of, ProgramFits, ShapesFit}
+use Rattle.adj_cost.specs.Along.{BothCost}
+
+-- no chain from the unit of a name has more than so many calls, however long one looks; a marked DO counts as one more
+abbrev pub CallsAtMost : List Procedure → List ℕ → ℕ → Type 0
+CallsAtMost ps name calls = (k : ℕ) → chain_within ps k name ≤ suc calls
+
+-- ---- units
+
+-- a list was run from a scene to another: with each statement paid at its weight that takes a price, and both sweeps take at most four
+-- statements to each unit of it, and one more for each call that a chain has
+pub record CostsItsPrice (ps qs : List Procedure) (depth calls : ℕ) (sh : Var → Shape) (level : ℕ) (p : Plan) (w : Facts) (i from to : ℕ) (c : Code) (s e : Scene ℤ) : Type 0 where
+  pub price : ℕ
+  pub pays : (k : ℕ) → run (calls_of (padded_program own_nodes ps) depth) (on_words (plainly sh) level) (padded own_nodes c) s (price + k) ≡ Done e k
+  pub cost : BothCost (calls_of qs depth) sh level (forward p i 0 c) (backward p i 0 c) (w.needed from) (w.held to) s.store ((4 + calls) * price)
+
+-- so is each run that is done of a unit whose adjoint is emitted
+abbrev pub RunsCost : Type 0
+RunsCost =
+    (lines : ℕ → Bool) (ps qs : List Procedure) (g : List ℕ → CalleeFacts) (there answers carried : List ℕ → Bool) (first : List ℕ → ℕ) (vars : List ℕ → List (List ℕ)) (arrays : List ℕ → Vars) → (fits : ProgramFits lines ps qs g there answers carried first vars arrays) →
+    (depth calls : ℕ) (name : List ℕ) (u : Procedure) → find_unit ps name ≡ Some u → IsTrue (fits.inside name) → there name ≡ true → CallsAtMost ps name calls →
+    (sh : Var → Shape) (level : ℕ) → ShapesFit (plan_of g (g name).facts (arrays name)) sh →
+    (s e : Scene ℤ) (k left : ℕ) → run (calls_of ps depth) (on_words (plainly sh) level) u.body s k ≡ Done e left →
+    CostsItsPrice ps qs depth calls sh level (plan_of g (g name).facts (arrays name)) (g name).facts (first name) (g name).entry (g name).end u.body s e
+
+-- ---- the emitted program
+
+-- u ends with each statement paid at its weight, and what was spent is at most four, and one more for each call that a chain has, to each
+-- unit of what that takes, and two for each dummy
+pub record SpendsItsPrice (ps : List Procedure) (u : Procedure) (input : List (Slot ℤ)) (calls spent : ℕ) : Type 0 where
+  pub weighed : Ends words (padded_program own_nodes ps) (padded_procedure own_nodes u) input
+  pub most : spent ≤ (4 + calls) * weighed.used + 2 * length u.dummies
+
+-- so it is with each run that is done of the head's adjoint in the program that is emitted by marks that meet the laws, on an input on
+-- which the head's run is done
+abbrev pub EmittedCosts : Type 0
+EmittedCosts =
+    (lines : ℕ → Bool) (w : ProgramFacts) (ps : List Procedure) (head : ℕ) (vars outvars : List Bool) (u : Procedure) → unit_at head ps ≡ u ∷ [] → SourceFits lines w ps u → (calls : ℕ) → CallsAtMost ps u.name calls →
+    (a : Procedure) → find_unit (emitted_program w.marks ps head vars outvars) (adjoint_name ps u) ≡ Some a →
+    (input shadows : List (Slot ℤ)) → fits words u input ≡ true → AreAlike input shadows → (k used : ℕ) (output : Output ℤ) → run_unit words ps u input [] None k ≡ Done output used →
+    (j spent : ℕ) (end : Output ℤ) → run_unit words (emitted_program w.marks ps head vars outvars) a (joined_by (shadow_flags (w.marks.shadowed u.name) u.dummies) input shadows) [] None j ≡ Done end spent →
+    SpendsItsPrice ps u input calls spent
