@@ -1,0 +1,2 @@
+-- The proofs on what is spent.
+pub mod Spending
