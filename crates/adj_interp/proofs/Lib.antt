@@ -7,3 +7,5 @@ pub mod Inputting
 pub mod Concluding
 pub mod Running
 pub mod Worded
+pub mod Quiet
+pub mod Tangents

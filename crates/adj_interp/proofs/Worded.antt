@@ -1,5 +1,5 @@
 -- What is known of a run over any numbers, told of words and of words with tangents.
-use Rattle.std.proofs.Common.{◌≡◌, ◌+◌, ◌<◌, ℕ, zero, suc, List, [], ◌∷◌, ◌++◌, map, take, length, get_or, refl, sym, ap, ◌∙◌, arith}
+use Rattle.std.proofs.Common.{◌≡◌, ◌+◌, ◌<◌, ℕ, zero, suc, List, [], ◌∷◌, ◌++◌, map, take, length, get_or, refl, sym, ap, subst, ◌∙◌, arith}
 use Rattle.std.specs.Prelude.{ℤ, Ok, Err}
 use Rattle.std.specs.List.{zip}
 use Rattle.std.proofs.lemmas.List.{map-id, map_push}
@@ -76,7 +76,9 @@ pub zip_next : {A B : Type 0} (xs : List A) (ys : List B) (i : ℕ) (x : A) (y :
 zip_next [] ys i x y l m p q = absurd (omega arith)
 zip_next (a ∷ xs) [] i x y l m p q = absurd (omega arith)
 zip_next (a ∷ xs) (b ∷ ys) zero x y l m p q = λ k. (sym p k, sym q k) ∷ []
-zip_next (a ∷ xs) (b ∷ ys) (suc i) x y l m p q = ap (λ zs. (a, b) ∷ zs) (zip_next xs ys i x y (omega (arith, l)) (omega (arith, m)) p q)
+zip_next (a ∷ xs) (b ∷ ys) (suc i) x y l m p q =
+    let next : suc (i + 1) ≡ suc i + 1 = omega arith in
+    subst (λ j. zip (take j (a ∷ xs)) (take j (b ∷ ys)) ≡ (a, b) ∷ (zip (take i xs) (take i ys) ++ (x, y) ∷ [])) next (ap (λ zs. (a, b) ∷ zs) (zip_next xs ys i x y (omega (arith, l)) (omega (arith, m)) p q))
 
 -- one more of each
 pub zip_push : {A B : Type 0} (xs : List A) (ys : List B) (x : A) (y : B) → length ys ≡ length xs → zip (xs ++ x ∷ []) (ys ++ y ∷ []) ≡ zip xs ys ++ (x, y) ∷ []

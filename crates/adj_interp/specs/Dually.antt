@@ -1,8 +1,11 @@
--- Dually: inputs with tangents, and how a dual run of a unit ends.
-use Rattle.std.specs.Prelude.{◌≡◌, ℕ, ℤ, List, map, length, Result, Ok, Err}
-use Rattle.std.specs.List.{zip, AllZip}
+-- Dually: inputs with tangents, programs that call no runtime, and how a dual run of a unit ends.
+use Rattle.std.specs.Prelude.{◌≡◌, ℕ, ℤ, List, map, length, false, Result, Ok, Err}
+use Rattle.std.specs.List.{zip, All, AllZip}
+use Rattle.adj_tree.specs.Code.{Procedure}
 use Rattle.adj_tree.specs.declared.value.Slot.{Slot as CodeSlot}
 use Rattle.adj_tree.specs.declared.value.Trap.{Trap as CodeTrap}
+use Rattle.adj_names.specs.Statements.{statements}
+use Rattle.adj_names.specs.NameFaults.{calls_runtime}
 use Rattle.adj_meaning.specs.Scene.{Outcome, Done, Trapped, More, Full, IsMore}
 use Rattle.adj_meaning.specs.Units.{Slot, Output}
 use Rattle.adj_frame.specs.Framed.{trap_of}
@@ -25,6 +28,10 @@ dual_slot p = record { shape = record { rows = p.0.rows; cols = p.0.cols }; cell
 
 abbrev pub dual_slots : List CodeSlot → List CodeSlot → List (Slot (ℤ × ℤ))
 dual_slots vs ts = map dual_slot (zip vs ts)
+
+-- no call of the runtime stands in a program
+abbrev pub CallsNoRuntime : List Procedure → Type 0
+CallsNoRuntime units = All (λ u. All (λ s. calls_runtime s.1 ≡ false) (statements u.body)) units
 
 -- a dual run is done with these values and tangents
 abbrev pub DualDone : Outcome (Output (ℤ × ℤ)) → List CodeSlot → List CodeSlot → Type 0

@@ -1,12 +1,14 @@
 //! Dual runs of a unit of a program: runs on words that each carry a tangent. (docs/RUNNING.md, "Dual runs")
 
-ghost use Rattle.std.specs.Prelude.{◌≡◌, ◌<◌, [], Some, IfOk, length, map, slice_get, slice_index_or, true};
+ghost use Rattle.std.specs.Prelude.{◌≡◌, ◌<◌, [], Some, Err, IfOk, length, map, slice_get, slice_index_or, true};
 ghost use Rattle.std.specs.List.{zip};
 ghost use Rattle.adj_tree.specs.Code.{Procedure};
 ghost use Rattle.adj_tree.specs.View.{procedures_of};
-ghost use Rattle.adj_meaning.specs.Numbers.{duals};
+ghost use Rattle.adj_meaning.specs.Numbers.{words, duals};
 ghost use Rattle.adj_meaning.specs.Units.{fits, run_unit};
-ghost use Rattle.adj_interp.specs.Dually.{AreTangents, IsTangent, dual_slot, dual_slots, DualEnds};
+ghost use Rattle.adj_interp.specs.declared.stop.Stop.TheVariants as stop;
+ghost use Rattle.adj_interp.specs.Concludes.{slot_seen};
+ghost use Rattle.adj_interp.specs.Dually.{AreTangents, IsTangent, CallsNoRuntime, dual_slot, dual_slots, DualEnds};
 ghost use Rattle.adj_interp.specs.Inputs.{entry_seen};
 
 use crate::log::Log;
@@ -102,7 +104,8 @@ fn values_of(alloc: Global, slots: &[Slot<Dual>]) -> Result<(Values, Values), Me
 }
 
 /// The dual run of a unit of a checked program on an input that fits it, with a tangent for each of its words, with at
-/// most so many statements, on a tape without room: values and tangents of the dummies.
+/// most so many statements, on a tape without room: values and tangents of the dummies. `TapeFull` comes only where a call of
+/// the runtime stands in the program.
 pub fn run_dual(
     alloc: Global,
     program: &Checked,
@@ -113,9 +116,10 @@ pub fn run_dual(
 ) -> Result<(Values, Values), Stop>
     requires there { unit < length (procedures_of program.now.program) }
     requires tangents { AreTangents input tangents }
-    requires fits { (u : Procedure) → slice_get (procedures_of program.now.program) unit ≡ Some u → fits duals u (dual_slots input tangents) ≡ true }
+    requires fits { (u : Procedure) → slice_get (procedures_of program.now.program) unit ≡ Some u → fits words u (map slot_seen input) ≡ true }
     ensures ends { (u : Procedure) → slice_get (procedures_of program.now.program) unit ≡ Some u
         → DualEnds (run_unit duals (procedures_of program.now.program) u (dual_slots input tangents) [] (Some 0) budget) result }
+    ensures full { CallsNoRuntime (procedures_of program.now.program) → result ≡ Err stop.TapeFull → ⊥ }
 {
     let slots = slots_of(alloc, input.as_slice(), tangents.as_slice())?;
     let mut tape = Tape::with_room(alloc, 0)?;

@@ -12,8 +12,8 @@ use Rattle.adj_frame.proofs.Showing.{shows_itself}
 use Rattle.adj_interp.proofs.Inputting.{apart_front, input_entered, input_fits}
 use Rattle.adj_interp.proofs.input.first_entry.Goals as goal
 
-pub outside-requires-clause-apart : goal.outside-requires-clause-apart
-outside-requires-clause-apart g c =
+pub outside-caller-requires-clause-apart : goal.outside-caller-requires-clause-apart
+outside-caller-requires-clause-apart g c =
     let l = c.requires.laid in
     apart_front c.args.routine.now.unit.now.dummies l.others (subst AreApart l.names l.apart)
 

@@ -1,4 +1,4 @@
-use Rattle.std.proofs.Common.{rules, ◌≡◌, ◌<◌, List, map, take, length, refl, sym, ap, subst, ◌∙◌, arith, Some}
+use Rattle.std.proofs.Common.{rules, ◌≡◌, ◌<◌, List, map, take, length, refl, sym, ap, subst, ◌∙◌, arith, Some, Vec, Global}
 use Rattle.std.specs.Prelude.{slice_get, Err, Ok}
 use Rattle.std.proofs.lemmas.List.{length-map}
 use Rattle.adj_tree.specs.Code.{Procedure}
@@ -6,6 +6,7 @@ use Rattle.adj_tree.specs.View.{procedure_of, procedures_of}
 use Rattle.adj_meaning.specs.Scene.{Outcome}
 use Rattle.adj_meaning.specs.Units.{Output, input_store, run_unit}
 use Rattle.adj_frame.specs.declared.routine.Routine.{Routine}
+use Rattle.adj_frame.specs.declared.slot.Slot.{Slot as EntrySlot}
 use Rattle.adj_frame.specs.Framed.{IsFrame}
 use Rattle.adj_frame.specs.Linked.{IsRoutine, units_in}
 use Rattle.adj_frame.specs.Shown.{Shows}
@@ -89,10 +90,10 @@ returns-in_err-ended-clause-ends g c u asked =
     let shown = subst (λ ns. Shows g.N.Number.numbers ns c.in_ok-frame.frame.slots.items (input_shape g.N.Number.numbers v (input_store g.N.Number.numbers v input)) (input_store g.N.Number.numbers v input)) (sym k.names) k.shown in
     let holds = starts g.N.Number.numbers us v input held c.args.budget _ c.replace.ensures.value refl refl c.new.ensures shown in
     let ends = rw c.in_err-ended.was at (c.finish-ended.ensures.ends (first_entry g.N.Number.numbers us v input held c.args.budget) (first_scene g.N.Number.numbers us v input held c.args.budget) holds) in
-    subst (λ z. EndsWith g.N.Number.numbers (λ slots. map entry_seen slots.items) (run_unit g.N.Number.numbers (procedures_of c.args.program.now.program) u input held.words (Some held.room) c.args.budget) z c.finish-ended.new.self.tape c.log.result) (sym err)
-    (turned us (procedures_of c.args.program.now.program) v u (λ ps w. run_unit g.N.Number.numbers ps w input held.words (Some held.room) c.args.budget) (λ o. EndsWith g.N.Number.numbers (λ slots. map entry_seen slots.items) o (Err x) c.finish-ended.new.self.tape c.log.result)
+    subst (λ z. EndsWith g.N.Number.numbers (λ (slots : Vec (EntrySlot _) Global). map entry_seen slots.items) (run_unit g.N.Number.numbers (procedures_of c.args.program.now.program) u input held.words (Some held.room) c.args.budget) z c.finish-ended.new.self.tape c.log.result) (sym err)
+    (turned us (procedures_of c.args.program.now.program) v u (λ ps w. run_unit g.N.Number.numbers ps w input held.words (Some held.room) c.args.budget) (λ o. EndsWith g.N.Number.numbers (λ (slots : Vec (EntrySlot _) Global). map entry_seen slots.items) o (Err x) c.finish-ended.new.self.tape c.log.result)
     (ap units_in c.as_slice.ensures.value ∙ units) (same_unit v u (sym at ∙ asked))
-    (stopped g.N.Number.numbers us v input held c.args.budget (λ slots. map entry_seen slots.items) x c.finish-ended.new.self c.log.result ends c.log.ensures.counted))
+    (stopped g.N.Number.numbers us v input held c.args.budget (λ (slots : Vec (EntrySlot _) Global). map entry_seen slots.items) x c.finish-ended.new.self c.log.result ends c.log.ensures.counted))
 
 pub returns-clause-ends : goal.returns-clause-ends
 returns-clause-ends g c u asked =
@@ -119,8 +120,8 @@ returns-clause-ends g c u asked =
     let framed = subst (λ ns. IsFrame ns m.frame.slots.items) (sym f.names) f.framed in
     let count = ap length c.as_slice-count.ensures.members in
     let front = ap (map entry_seen) (c.truncate.ensures.items ∙ ap (λ j. take j m.frame.slots.items) count) in
-    turned us (procedures_of c.args.program.now.program) v u (λ ps w. run_unit g.N.Number.numbers ps w input held.words (Some held.room) c.args.budget) (λ o. EndsWith g.N.Number.numbers (λ slots. map entry_seen slots.items) o (Ok c.truncate.new.self) m.tape c.log.result)
+    turned us (procedures_of c.args.program.now.program) v u (λ ps w. run_unit g.N.Number.numbers ps w input held.words (Some held.room) c.args.budget) (λ o. EndsWith g.N.Number.numbers (λ (slots : Vec (EntrySlot _) Global). map entry_seen slots.items) o (Ok c.truncate.new.self) m.tape c.log.result)
     (ap units_in c.as_slice.ensures.value ∙ units) (same_unit v u (sym at ∙ asked))
-    (done g.N.Number.numbers us v input held c.args.budget (λ slots. map entry_seen slots.items) c.truncate.new.self m c.log.result ends
+    (done g.N.Number.numbers us v input held c.args.budget (λ (slots : Vec (EntrySlot _) Global). map entry_seen slots.items) c.truncate.new.self m c.log.result ends
     (λ s q. front ∙ values_shown g.N.Number.numbers r.unit.now.dummies routine.laid.others m.frame.names.now m.frame.slots.items (input_shape g.N.Number.numbers v (input_store g.N.Number.numbers v input)) s.store (names ∙ routine.laid.names) framed q.shown)
     c.log.ensures.counted (c.log.ensures.used ∙ (rw c.in_ok-ended.was at c.used.ensures)))

@@ -389,27 +389,27 @@ tests-returns-clause-ends g t c e s h =
 -- ---- calls
 
 pub perform-call-requires : goal.perform-call-requires
-perform-call-requires g t c =
+perform-call-requires g t c κs alive =
     let below = rw c.in-Call.is at c.requires.below in
     let linked = rw c.in-Call.is at c.requires.linked in
     let suited = rw c.in-Call.is at c.requires.suited in
-    (omega (arith, c.decreases), (c.requires.framed, (below, (c.requires.program, (λ u e. suited u (linked ∙ e))))))
+    (omega (arith, c.decreases), (alive, (c.requires.framed, (below, (c.requires.program, (λ u e. suited u (linked ∙ e)))))))
 
 pub tests-run-requires : goal.tests-run-requires
-tests-run-requires g t c =
+tests-run-requires g t c κs alive =
     let inv = c.loop-self.invariant in
     let suited = subst (λ z. z) (λ i. AreSuited (units_in c.args.program.now) (HasOneCell (sym inv.names i) (sym inv.counts i)) (steps_in (sym inv.names i) c.args.body.now)) c.requires.suited in
-    (omega (arith, c.decreases), (subst (λ ns. IsFrame ns c.loop-self.self.frame.slots.items) (sym inv.names) inv.framed, (subst (λ ns. AreStepsBelow (length ns) c.args.body.now) (sym inv.names) c.requires.below, (c.requires.program, (c.requires.linked, suited)))))
+    (omega (arith, c.decreases), (alive, (subst (λ ns. IsFrame ns c.loop-self.self.frame.slots.items) (sym inv.names) inv.framed, (subst (λ ns. AreStepsBelow (length ns) c.args.body.now) (sym inv.names) c.requires.below, (c.requires.program, (c.requires.linked, suited))))))
 
 pub turns-run-requires : goal.turns-run-requires
-turns-run-requires g t c =
+turns-run-requires g t c κs alive =
     let inv = c.loop-remaining.invariant in
     let some = c.count.ensures.some c.if-not-count.false in
     let same = ap (λ (m : Machine _). m.frame.names.now) (sym some) ∙ inv.names in
     let framed = subst (λ (m : Machine _). IsFrame c.args.self.now.frame.names.now m.frame.slots.items) some inv.framed in
     let counts = ap (λ (m : Machine _). counts_in m.frame.slots.items) (sym some) ∙ inv.counts in
     let suited = subst (λ z. z) (λ i. AreSuited (units_in c.args.program.now) (HasOneCell (sym same i) (sym counts i)) (steps_in (sym same i) c.args.body.now)) c.requires.suited in
-    (omega (arith, c.decreases), (subst (λ ns. IsFrame ns c.count.new.self.frame.slots.items) (sym same) framed, (subst (λ ns. AreStepsBelow (length ns) c.args.body.now) (sym same) c.requires.below, (c.requires.program, (c.requires.linked, suited)))))
+    (omega (arith, c.decreases), (alive, (subst (λ ns. IsFrame ns c.count.new.self.frame.slots.items) (sym same) framed, (subst (λ ns. AreStepsBelow (length ns) c.args.body.now) (sym same) c.requires.below, (c.requires.program, (c.requires.linked, suited))))))
 
 pub perform-returns-in-Call-clause-ends : goal.perform-returns-in-Call-clause-ends
 perform-returns-in-Call-clause-ends g t c e s h =
@@ -461,7 +461,7 @@ call-returns-in_err-frame-clause-ends g t c name found e s h =
     (subst (λ z. Ends e z (Err x) m) (sym at) (call_misfit (calls_of {C = g.row.N.Denot} (units_in rs) (c.args.depth - 1)) e s r r.writes.now args c.args.line m.left m h got (c.in_ok-actuals.ensures.actuals e.shape (Some e.room) e.level s.store h.shown) x misfit))
 
 pub call-run-ended-requires : goal.call-run-ended-requires
-call-run-ended-requires g t c =
+call-run-ended-requires g t c κs alive =
     let rs = c.args.program.now in
     let r = c.index-program-number.result in
     let lt = c.if-number-program.false in
@@ -480,7 +480,7 @@ call-run-ended-requires g t c =
     let shown = f.shown mine held (shows_itself g.N.Number.numbers m.names.now m.slots.items) in
     let inside_suited = entered_suited (units_in rs) r (entered_with g.N.Number.numbers r got) (shapes_with g.N.Number.numbers r got) (entered_with g.N.Number.numbers r got) c.in_ok-frame.frame k f.names f.framed shown (λ x. refl) in
     let suited = subst (λ (z : Frame _). AreSuited (units_in rs) (HasOneCell z.names.now (counts_in z.slots.items)) (steps_in z.names.now r.body)) (sym frame) inside_suited in
-    (omega (arith, c.decreases, less), (subst (λ ns. IsFrame ns c.enter.new.self.frame.slots.items) (sym names) framed, (subst (λ ns. AreStepsBelow (length ns) r.body) (sym names) k.below, (c.requires.program, (k.linked, suited)))))
+    (omega (arith, c.decreases, less), (alive, (subst (λ ns. IsFrame ns c.enter.new.self.frame.slots.items) (sym names) framed, (subst (λ ns. AreStepsBelow (length ns) r.body) (sym names) k.below, (c.requires.program, (k.linked, suited))))))
 
 -- what is handed back has the cells of the actuals
 pub call-hand_back-requires-clause-large : goal.call-hand_back-requires-clause-large

@@ -1,5 +1,5 @@
 -- What is left to do is what the run from the start comes to.
-use Rattle.std.proofs.Common.{◌≡◌, ◌+◌, ◌*◌, ◌≤◌, ℤ, suc, length}
+use Rattle.std.proofs.Common.{◌≡◌, ◌+◌, ◌*◌, ◌≤◌, suc, length}
 use Rattle.adj_meaning.specs.Scene.{Scene}
 use Rattle.adj_meaning.specs.Value.{holds}
 use Rattle.adj_meaning.specs.Units.{calls_of}

@@ -1,4 +1,4 @@
-use Rattle.std.proofs.Common.{rules, ◌≡◌, List, ℤ, sym, subst, Vec, Global}
+use Rattle.std.proofs.Common.{rules, ◌≡◌, List, sym, subst, Vec, Global}
 use Rattle.std.specs.Prelude.{Err}
 use Rattle.adj_meaning.specs.Units.{Actual, actual_of, actuals}
 use Rattle.adj_frame.specs.declared.actual.Actual.{Actual as CodeActual}

@@ -1,5 +1,5 @@
 -- The actuals so far, and what the others come to.
-use Rattle.std.proofs.Common.{◌≡◌, ◌++◌, ℕ, ℤ, length}
+use Rattle.std.proofs.Common.{◌≡◌, ◌++◌, ℕ, length}
 use Rattle.std.specs.Prelude.{Ok, Option}
 use Rattle.adj_tree.specs.Code.{Var}
 use Rattle.adj_meaning.specs.Store.{Shape, Store}

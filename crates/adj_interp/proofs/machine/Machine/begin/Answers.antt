@@ -1,4 +1,4 @@
-use Rattle.std.proofs.Common.{rules, ◌≡◌, ℕ, ℤ, refl, subst}
+use Rattle.std.proofs.Common.{rules, ◌≡◌, ℕ, refl, subst}
 use Rattle.std.specs.Prelude.{Ok, Err}
 use Rattle.adj_meaning.specs.Event.{Begin}
 use Rattle.adj_meaning.specs.Scene.{Scene, Outcome, Done, stand}

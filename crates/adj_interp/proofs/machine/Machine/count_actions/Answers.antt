@@ -1,4 +1,4 @@
-use Rattle.std.proofs.Common.{rules, ◌≡◌, ℕ, ℤ, List, pos, length, subst}
+use Rattle.std.proofs.Common.{rules, ◌≡◌, ℕ, List, pos, length, subst}
 use Rattle.std.specs.Prelude.{Err}
 use Rattle.adj_revolve.specs.declared.machine.Action.{Action}
 use Rattle.adj_revolve.specs.Schedule.{schedule_of}

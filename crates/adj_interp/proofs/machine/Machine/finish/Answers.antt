@@ -1,4 +1,4 @@
-use Rattle.std.proofs.Common.{ap, subst, ◌∙◌, ℤ}
+use Rattle.std.proofs.Common.{ap, subst, ◌∙◌}
 use Rattle.adj_tree.specs.View.{code_of}
 use Rattle.adj_meaning.specs.Run.{run}
 use Rattle.adj_meaning.specs.Units.{calls_of}

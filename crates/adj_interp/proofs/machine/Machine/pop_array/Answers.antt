@@ -1,11 +1,36 @@
-use Rattle.std.proofs.Common.{rules, ◌≡◌, ◌<◌, ◌-◌, length, sym, subst, ◌∙◌, arith}
+use Rattle.std.proofs.Common.{rules, ◌≡◌, ◌<◌, ◌-◌, length, get_or, refl, sym, ap, subst, ◌∙◌, arith}
 use Rattle.std.specs.Prelude.{Ok, Err}
+use Rattle.std.proofs.lemmas.List.{get_or_default}
 use Rattle.adj_meaning.specs.Scene.{popped, popped_all}
+use Rattle.adj_frame.specs.declared.slot.Slot.{Slot}
 use Rattle.adj_frame.specs.Prepared.{var_at}
 use Rattle.adj_frame.specs.Framed.{IsFrame}
 use Rattle.adj_interp.specs.Held.{setting_at, Ends, IsDone}
+use Rattle.adj_interp.proofs.Driving.{reaches_start}
 use Rattle.adj_interp.proofs.Serving.{counted_cells, back_next, back_break, back_end}
 use Rattle.adj_interp.proofs.machine.Machine.pop_array.Goals as goal
+
+pub loop-remaining-init : goal.loop-remaining-init
+loop-remaining-init g c =
+    let m = c.args.self.now in
+    let slots = m.frame.slots.items in
+    let i = c.args.variable in
+    let d0 = c.index.result.now in
+    let framed = c.requires.framed in
+    let each = framed.each in
+    let below = c.requires.there in
+    let there : i < length slots = omega (arith, each, below) in
+    let counted : c.len-remaining.result ≡ length d0.cells.items = search rules in
+    record {
+      room = refl;
+      names = refl;
+      framed = framed;
+      counts = refl;
+      within = λ d.
+          let same : length (get_or slots i d).cells.items ≡ length d0.cells.items = ap (λ (z : Slot _). length z.cells.items) (get_or_default slots i d d0 there ∙ sym c.index.ensures) in
+          omega (arith, counted, same);
+      reached = λ e s h. reaches_start e (popped_all (setting_at e) (var_at m.frame.names.now i) c.len-remaining.result c.args.line) m s h;
+    }
 
 pub loop-remaining-preserved : goal.loop-remaining-preserved
 loop-remaining-preserved g c =

@@ -1,5 +1,5 @@
 -- What is left to pop is what the pop of all comes to.
-use Rattle.std.proofs.Common.{◌≡◌, ◌≤◌, ℤ, length, get_or}
+use Rattle.std.proofs.Common.{◌≡◌, ◌≤◌, length, get_or}
 use Rattle.adj_meaning.specs.Scene.{Scene, popped_all}
 use Rattle.adj_frame.specs.declared.slot.Slot.{Slot}
 use Rattle.adj_frame.specs.Prepared.{var_at}

@@ -1,15 +1,16 @@
-use Rattle.std.proofs.Common.{rules, ◌≡◌, ◌<◌, ◌≤◌, ℕ, ℤ, length, get_or, sym, ap, subst, ◌∙◌, arith}
-use Rattle.std.specs.Prelude.{Ok, Err}
+use Rattle.std.proofs.Common.{rules, ◌≡◌, ◌<◌, ◌≤◌, ◌-◌, ℕ, length, get_or, refl, sym, ap, subst, ◌∙◌, arith}
+use Rattle.std.specs.Prelude.{Err}
 use Rattle.std.proofs.lemmas.List.{get_or_default}
 use Rattle.adj_meaning.specs.Numbers.{Numbers}
 use Rattle.adj_meaning.specs.Store.{cells_from}
-use Rattle.adj_meaning.specs.Scene.{Scene, pushed, pushed_all}
+use Rattle.adj_meaning.specs.Scene.{Scene, pushed_all}
 use Rattle.adj_frame.specs.declared.slot.Slot.{Slot}
 use Rattle.adj_frame.specs.declared.frame.Frame.{Frame}
 use Rattle.adj_interp.specs.declared.machine.Machine.{Machine}
 use Rattle.adj_frame.specs.Prepared.{var_at}
 use Rattle.adj_frame.specs.Framed.{zero_in, IsFrame}
-use Rattle.adj_interp.specs.Held.{Entry, setting_at, Holds, Ends, IsDone}
+use Rattle.adj_interp.specs.Held.{Entry, setting_at, Holds, Ends, IsDone, Reaches}
+use Rattle.adj_interp.proofs.Driving.{reaches_start}
 use Rattle.adj_interp.proofs.Serving.{counted_cells, held_cell, all_next, all_break, all_end}
 use Rattle.adj_interp.proofs.machine.Machine.push_array.Goals as goal
 
@@ -22,6 +23,18 @@ cell_read {numbers = numbers} e m fr s i j d d2 w h f below at same at2 lt read 
     let within : j < length (get_or m.frame.slots.items i d).cells.items = subst (λ (v : Slot _). j < length v.cells.items) at lt in
     let in_slot : j < length d2.cells.items = subst (λ (v : Slot _). j < length v.cells.items) one within in
     held_cell e m s i d h f there j within ∙ ap (λ (v : Slot _). get_or v.cells.items j (zero_in numbers)) one ∙ get_or_default d2.cells.items j (zero_in numbers) w in_slot ∙ sym read
+
+pub loop-cell-init : goal.loop-cell-init
+loop-cell-init g c = record {
+  room = refl;
+  frame = refl;
+  reached = λ e s h.
+      let m = c.args.self.now in
+      let f = s.store (var_at m.frame.names.now c.args.variable) in
+      let count = c.len-count.result in
+      let all : count ≡ count - 0 = omega arith in
+      subst (λ j. Reaches e (pushed_all (setting_at e) (cells_from f 0 count) s m.left) (pushed_all (setting_at e) (cells_from f 0 j)) m) all (reaches_start e (pushed_all (setting_at e) (cells_from f 0 count)) m s h);
+}
 
 pub returns-in_err-push-clause-ends : goal.returns-in_err-push-clause-ends
 returns-in_err-push-clause-ends g c line e s h =

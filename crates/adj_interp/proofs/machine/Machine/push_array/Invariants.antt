@@ -1,5 +1,5 @@
 -- What is left to push is what the push of all comes to.
-use Rattle.std.proofs.Common.{◌≡◌, ◌-◌, ℤ}
+use Rattle.std.proofs.Common.{◌≡◌, ◌-◌}
 use Rattle.adj_meaning.specs.Store.{cells_from}
 use Rattle.adj_meaning.specs.Scene.{Scene, pushed_all}
 use Rattle.adj_frame.specs.Prepared.{var_at}
