@@ -1,6 +1,6 @@
 //! Dual runs of a unit of a program: runs on words that each carry a tangent. (docs/RUNNING.md, "Dual runs")
 
-ghost use Rattle.std.specs.Prelude.{◌≡◌, ◌<◌, [], Some, Err, IfOk, length, map, slice_get, slice_index_or, true};
+ghost use Rattle.std.specs.Prelude.{◌≡◌, ◌<◌, [], Some, Err, IfOk, length, map, slice_get, true};
 ghost use Rattle.std.specs.List.{zip};
 ghost use Rattle.adj_tree.specs.Code.{Procedure};
 ghost use Rattle.adj_tree.specs.View.{procedures_of};

@@ -1,30 +1,11 @@
 //! Dual runs of the first unit of a text. (docs/RUNNING.md, "Dual runs")
 
-ghost use Rattle.std.specs.Prelude.{◌≡◌, IfOk, map};
-ghost use Rattle.run_tests.specs.Scalars.{word_slot};
-
-use crate::running::{checked, first_words, suits};
+use crate::running::{checked, first_words, scalars, suits};
 use adj_interp::{Stop, run_dual};
 use adj_symbols::Checked;
-use adj_tree::{Items, Memory, Slot, Trap, Values};
+use adj_tree::{Memory, Trap};
 use std::alloc::Global;
 use std::test::Fail;
-
-// Scalars with these words.
-fn scalars(alloc: Global, words: &[i64]) -> Result<Values, Memory>
-    ensures { IfOk result (λ vs. vs ≡ map word_slot words.now) }
-{
-    let mut slots = Vec::new(alloc);
-    for word in words {
-        let cells = vec![in alloc; *word]?;
-        slots.push(Slot {
-            rows: 0,
-            cols: 0,
-            cells: Items::new(cells),
-        })?;
-    }
-    Ok(Items::new(slots))
-}
 
 // How a dual run ends: its stop, or the words of the dummies and their tangents.
 #[derive(Drop)]
@@ -44,7 +25,10 @@ fn run_first(
     let Some(unit) = checked.program().units.as_slice().first() else {
         return Err(Memory);
     };
-    if !suits(unit, words.len()) || words.len() != tangents.len() {
+    if !suits(unit, words.len()) {
+        return Err(Memory);
+    }
+    if tangents.len() != words.len() {
         return Err(Memory);
     }
     let input = scalars(alloc, words)?;

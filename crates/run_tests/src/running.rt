@@ -2,7 +2,6 @@
 
 ghost use Rattle.std.specs.Prelude.{◌≡◌, IfOk, length, map, true};
 ghost use Rattle.run_tests.specs.Scalars.{scalar_of};
-ghost use Rattle.adj_interp.specs.Concludes.{slot_seen};
 
 use adj_fixed::{Mode, statements};
 use adj_interp::{Log, Stop, run};
@@ -35,9 +34,9 @@ pub(crate) fn checked(alloc: Global, text: &str) -> Result<Checked, Fault> {
     check(alloc, program, Mode::Run)
 }
 
-// Scalars with these words.
-fn scalars(alloc: Global, words: &[i64]) -> Result<Values, Memory>
-    ensures { IfOk result (λ vs. map slot_seen vs ≡ map scalar_of words.now) }
+/// Scalars with these words.
+pub(crate) fn scalars(alloc: Global, words: &[i64]) -> Result<Values, Memory>
+    ensures { IfOk result (λ vs. vs ≡ map scalar_of words.now) }
 {
     let mut slots = Vec::new(alloc);
     for word in words {

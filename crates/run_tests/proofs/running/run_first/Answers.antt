@@ -3,6 +3,7 @@ use Rattle.std.specs.Prelude.{slice_get}
 use Rattle.adj_tree.specs.declared.unit.Program.{Program}
 use Rattle.adj_meaning.specs.Numbers.{words}
 use Rattle.adj_meaning.specs.Units.{fits}
+use Rattle.adj_interp.specs.Concludes.{slot_seen}
 use Rattle.run_tests.proofs.Fitting.{first_fits}
 use Rattle.run_tests.proofs.running.run_first.Goals as goal
 
@@ -10,5 +11,5 @@ pub run-result-requires-clause-fits : goal.run-result-requires-clause-fits
 run-result-requires-clause-fits c u at =
     let all = c.as_slice.ensures.members ∙ ap (λ (p : Program). p.units) c.program.ensures.program in
     let first : Some c.in-Some.unit.now ≡ slice_get c.as_slice.result.now 0 = search rules in
-    subst (λ vs. fits words u vs ≡ true) (sym c.in_ok-input.ensures)
+    subst (λ vs. fits words u (map slot_seen vs) ≡ true) (sym c.in_ok-input.ensures)
     (first_fits c.args.checked.now.program.units c.in-Some.unit.now u c.args.words.now (first ∙ ap (λ us. slice_get us 0) all) at (c.suits.ensures c.if-not-suits.false))

@@ -1,8 +1,7 @@
 -- The scalars so far.
 use Rattle.std.proofs.Common.{◌≡◌, map, take}
 use Rattle.run_tests.specs.Scalars.{scalar_of}
-use Rattle.adj_interp.specs.Concludes.{slot_seen}
 use Rattle.run_tests.proofs.running.scalars.Given as goal
 
 abbrev pub invariant-loop-word : goal.invariant-loop-word
-invariant-loop-word l = map slot_seen l.slots.items ≡ map scalar_of (take l.word-index l.words)
+invariant-loop-word l = l.slots.items ≡ map scalar_of (take l.word-index l.words)
