@@ -1,12 +1,13 @@
 -- What holds of what is emitted by the marks of exact analyses.
-use Rattle.std.proofs.Common.{arith, ℕ, ◌≤◌, List, Bool, false, refl}
-use Rattle.adj_tree.specs.Code.{Procedure}
+use Rattle.std.proofs.Common.{arith, ◌≡◌, ℕ, ◌+◌, ◌≤◌, List, [], ◌∷◌, Bool, false, refl}
+use Rattle.adj_tree.specs.Code.{Act, assign, choose, loop, during, call, runtime, unmarked, with_count, count_from, Code, stop, step, Procedure}
 use Rattle.adj_transpose.specs.Marks.{Vars}
 use Rattle.adj_names.specs.Fault.{run_rules}
 use Rattle.adj_names.specs.HeadFaults.{unit_number}
 use Rattle.adj_names.proofs.Lines.{sound_lines}
 use Rattle.adj_reverse.proofs.Lines.{other_lines}
-use Rattle.adj_kernel.specs.Stepped.{kernel_of}
+use Rattle.adj_kernel.specs.Kernel.{EachUnit}
+use Rattle.adj_kernel.specs.Stepped.{marked_in, marked_in_act, kernel_of}
 use Rattle.adj_kernel.specs.Sound.{IsAccepted}
 use Rattle.adj_kernel.proofs.WholeKernels.{whole_units}
 use Rattle.adj_emitted.specs.Shadowed.{AllHaveShadows}
@@ -19,8 +20,11 @@ use Rattle.adj_facts.specs.Live.{Liveness}
 use Rattle.adj_facts.specs.Laws.{Analysed}
 use Rattle.adj_analysed.proofs.Adjoint.{analysed_is_adjoint}
 use Rattle.adj_weave.proofs.Lending.{exact_shadows}
-use Rattle.adj_planned.specs.Planned.{kernel_problem, planned_for, marks_by, PlannedIsAdjoint, PlannedIsWritten, PlannedIsSound}
+use Rattle.adj_planned.specs.Planned.{HasNoMarks, kernel_problem, planned_for, marks_by, PlannedIsAdjoint, PlannedSpends, PlannedIsWritten, PlannedIsSound}
+use Rattle.adj_analysed.specs.Meets.{program_facts, IsUnmarkedAct, IsUnmarked}
+use Rattle.adj_spent.proofs.Spending.{emitted_spends}
 use Rattle.adj_planned.proofs.Unmarked.{kernel_unmarked}
+use Rattle.adj_planned.proofs.Lawful.{fits}
 
 shadows : (ps : List Procedure) → IsAccepted ps → (name : List ℕ) (vars outvars : List Bool) (a : Activity) (l : Liveness) (saved held : ℕ → Vars) → Analysed (kernel_problem ps name vars outvars) a l saved held →
     AllHaveShadows (marks_by ps a l saved held) (kernel_of ps) (kernel_of ps)
@@ -34,6 +38,33 @@ is_adjoint ps y none name u found vars outvars a l saved held x qs same =
     kernels_adjoint (λ line. false) m ps y name u found vars outvars qs
     (other_lines (λ line. false) m (kernel_of ps) (planned_for ps name vars outvars m) qs n vars outvars same
     (analysed_is_adjoint run_rules (kernel_problem ps name vars outvars) (kernel_checked ps y) (kernel_unmarked ps none) a l saved held x k.becomes (numbered (kernel_of ps) name k.becomes k.found).1))
+
+-- none is counted where none is marked
+mutual
+  none_act : (a : Act) → IsUnmarkedAct a → marked_in_act a ≡ 0
+  none_act (assign x subs e) h = refl
+  none_act (choose c a b) h = λ i. none_list a h.0 i + none_list b h.1 i
+  none_act (loop x first last by body unmarked) h = none_list body h.1
+  none_act (loop x first last by body (with_count m)) h = absurd (let e = h.0 in cc)
+  none_act (loop x first last by body (count_from y)) h = absurd (let e = h.0 in cc)
+  none_act (during c body) h = none_list body h
+  none_act (call name args) h = refl
+  none_act (runtime r) h = refl
+
+  none_list : (c : Code) → IsUnmarked c → marked_in c ≡ 0
+  none_list stop h = refl
+  none_list (step line a rest) h = λ i. none_act a h.0 i + none_list rest h.1 i
+
+none_counted : (ps : List Procedure) → HasNoMarks ps → EachUnit (λ u. marked_in u.body ≡ 0) ps
+none_counted [] h = tt
+none_counted (u ∷ us) h = (none_list u.body h.0, none_counted us h.1)
+
+pub spends : PlannedSpends
+spends ps y none weight weighs name u found calls few vars outvars a l saved held x qs same =
+    let k = whole_units ps name u found in
+    emitted_spends ps y (none_counted ps none) weight weighs name calls few (λ line. false) (program_facts (kernel_of ps) a l saved held) k.becomes k.found
+    (fits run_rules (kernel_problem ps name vars outvars) (kernel_checked ps y) (kernel_unmarked ps none) a l saved held x k.becomes (numbered (kernel_of ps) name k.becomes k.found).1)
+    vars outvars qs same
 
 pub is_written : PlannedIsWritten
 is_written ps y name vars outvars a l saved held x =

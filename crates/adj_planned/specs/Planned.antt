@@ -12,9 +12,12 @@ use Rattle.adj_transpose.specs.Marks.{Vars}
 use Rattle.adj_reverse.specs.Marking.{ProgramMarks}
 use Rattle.adj_reverse.specs.Program.{emitted_program}
 use Rattle.adj_kernel.specs.Kernel.{EachUnit}
+use Rattle.adj_kernel.specs.Weights.{WeighsAtMost}
 use Rattle.adj_kernel.specs.Stepped.{kernel_of}
 use Rattle.adj_kernel.specs.Sound.{IsAccepted}
 use Rattle.adj_accepted.specs.Accepted.{IsAdjointOf}
+use Rattle.adj_cost.specs.RunTheorem.{CallsAtMost}
+use Rattle.adj_spent.specs.Spent.{SpendsAtMost}
 use Rattle.adj_facts.specs.Problem.{Problem}
 use Rattle.adj_facts.specs.Activity.{Activity}
 use Rattle.adj_facts.specs.Live.{Liveness}
@@ -51,6 +54,14 @@ PlannedIsAdjoint =
     (ps : List Procedure) → IsAccepted ps → HasNoMarks ps → (name : List ℕ) (u : Procedure) → find_unit ps name ≡ Some u → (vars outvars : List Bool) →
     (a : Activity) (l : Liveness) (saved held : ℕ → Vars) → Analysed (kernel_problem ps name vars outvars) a l saved held → (qs : List Procedure) →
     unlined (planned_for ps name vars outvars (marks_by ps a l saved held)) ≡ unlined qs → IsAdjointOf (λ line. false) (marks_by ps a l saved held) ps name vars outvars qs
+
+-- Its run takes at most so many statements for each one of the program's own run, by what a statement of the program weighs and how many calls a chain
+-- from the head has; and so does that of what differs from it in line numbers alone.
+abbrev pub PlannedSpends : Type 0
+PlannedSpends =
+    (ps : List Procedure) → IsAccepted ps → HasNoMarks ps → (weight : ℕ) → EachUnit (λ u. WeighsAtMost weight u.body) ps → (name : List ℕ) (u : Procedure) → find_unit ps name ≡ Some u → (calls : ℕ) → CallsAtMost ps name calls → (vars outvars : List Bool) →
+    (a : Activity) (l : Liveness) (saved held : ℕ → Vars) → Analysed (kernel_problem ps name vars outvars) a l saved held → (qs : List Procedure) →
+    unlined (planned_for ps name vars outvars (marks_by ps a l saved held)) ≡ unlined qs → SpendsAtMost (marks_by ps a l saved held) ps name weight calls qs
 
 -- it can be written as a text
 abbrev pub PlannedIsWritten : Type 0

@@ -5,17 +5,18 @@
 //! what is emitted by any marks. The layer above that emits by found marks uses `planned_law`.
 #![tactic(auto)]
 
-ghost use Rattle.adj_planned.specs.Planned.{KernelIsUnmarked, PlannedIsAdjoint, PlannedIsWritten, PlannedIsSound, PlansAreAnalyses};
+ghost use Rattle.adj_planned.specs.Planned.{KernelIsUnmarked, PlannedIsAdjoint, PlannedSpends, PlannedIsWritten, PlannedIsSound, PlansAreAnalyses};
 
 /// In the kernel of a program without marked loops none is marked.
 pub fn unmarked_law()
     ensures { KernelIsUnmarked }
 {}
 
-/// What is emitted by the marks of exact analyses of the kernel of an accepted program without marked loops is an adjoint of the program,
-/// can be written as a text, and has no fault as a text that is run.
+/// What is emitted by the marks of exact analyses of the kernel of an accepted program without marked loops is an adjoint of the program
+/// whose run keeps a bound, can be written as a text, and has no fault as a text that is run.
 pub fn planned_law()
     ensures adjoint { PlannedIsAdjoint }
+    ensures spends { PlannedSpends }
     ensures written { PlannedIsWritten }
     ensures sound { PlannedIsSound }
 {}

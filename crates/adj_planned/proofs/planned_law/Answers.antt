@@ -1,4 +1,4 @@
-use Rattle.adj_planned.proofs.Planned.{is_adjoint, is_written, is_sound}
+use Rattle.adj_planned.proofs.Planned.{is_adjoint, spends, is_written, is_sound}
 use Rattle.adj_planned.proofs.planned_law.Goals as goal
 
 pub returns-clause-adjoint : goal.returns-clause-adjoint
@@ -9,3 +9,6 @@ returns-clause-written c = is_written
 
 pub returns-clause-sound : goal.returns-clause-sound
 returns-clause-sound c = is_sound
+
+pub returns-clause-spends : goal.returns-clause-spends
+returns-clause-spends c = spends
