@@ -1,0 +1,25 @@
+-- What is emitted for the kernel of an accepted program has its shape.
+use Rattle.adj_names.specs.Fault.{run_rules}
+use Rattle.adj_names.specs.HeadFaults.{unit_number}
+use Rattle.adj_kernel.specs.Stepped.{kernel_of}
+use Rattle.adj_kernel.proofs.WholeKernels.{whole_units}
+use Rattle.adj_accepted.proofs.Kernels.{kernel_checked, numbered}
+use Rattle.adj_facts.specs.Problem.{Problem}
+use Rattle.adj_analysed.specs.Meets.{program_facts}
+use Rattle.adj_shape.specs.Accepted.{AcceptedHasShape}
+use Rattle.adj_shape.proofs.Analysed.{analysed_are_closed}
+use Rattle.adj_shape.proofs.Program.{emitted_has_shape}
+
+pub accepted_has_shape : AcceptedHasShape
+accepted_has_shape ps accepted free name u found vars outvars a l saved held analysed qs same =
+    let k = whole_units ps name u found in
+    let at = (numbered (kernel_of ps) name k.becomes k.found).1 in
+    let checked = kernel_checked ps accepted in
+    let problem : Problem = record { units = kernel_of ps; head = unit_number (kernel_of ps) name; vars = vars; outvars = outvars } in
+    record {
+      head = k.becomes;
+      is_head = k.found;
+      shape =
+          emitted_has_shape run_rules (kernel_of ps) checked (program_facts (kernel_of ps) a l saved held).marks (unit_number (kernel_of ps) name) vars outvars k.becomes at
+          (analysed_are_closed run_rules problem checked free a l saved held analysed k.becomes at) qs same;
+    }

@@ -1,0 +1,364 @@
+-- What stands in the rows of a forward sweep: what is kept, what is pushed, and what is called.
+use Rattle.std.proofs.Common.{◌≡◌, ℕ, Bool, true, false, List, [], ◌∷◌, ◌++◌, map, refl, sym, ap, ◌∙◌, append-nil, if◌then◌else◌}
+use Rattle.std.specs.Prelude.{◌||◌, ◌&&◌, pos}
+use Rattle.adj_tree.specs.Code.{Role, Var, plain, shadow, helper, Term, lit, var, elem, neg, bin, pow, power_of, abs, Terms, none, more, Test, compare, negation, conjunction, disjunction, Mark, unmarked, push_word, push_array, Act, assign, choose, loop, during, call, runtime, Code, stop, Procedure}
+use Rattle.adj_meaning.specs.Append.{◌+++◌, one}
+use Rattle.adj_meaning.specs.Rename.{rename_term, rename_terms, rename_test, rename_runtime}
+use Rattle.adj_transpose.specs.Marks.{Vars, everything}
+use Rattle.adj_transpose.specs.Marked.{code_if}
+use Rattle.adj_reverse.specs.Plan.{Plan, is_emitted, names_of, group, save_group, snapshot_group}
+use Rattle.adj_reverse.specs.Emission.{pushes}
+use Rattle.adj_emitted.proofs.Over.{OverTerm, OverTerms, OverTest, OverPlace, OverActual, OverActuals, OverAct, Any}
+use Rattle.adj_shape.specs.Shape.{gathered, is_own, primal, stays, kept_of, pushed, push_whole, due, called}
+use Rattle.adj_shape.proofs.Gathered.{seen, taken_append}
+use Rattle.adj_shape.proofs.Forward.{OwnVar, NoArray, IsRuntime, Rows}
+
+-- ---- the actuals of a call
+
+-- each is a variable of the unit
+abbrev pub AreOwn : Procedure → List (List ℕ) → Type 0
+AreOwn u [] = Unit {0}
+AreOwn u (x ∷ xs) = (is_own u (plain x) ≡ true) × AreOwn u xs
+
+pub names_own : (u : Procedure) (args : Terms) → OverActuals (OwnVar u) NoArray args → AreOwn u (names_of args)
+names_own u none o = tt
+names_own u (more (var (plain x)) es) o = (o.0, names_own u es o.1)
+names_own u (more (var (shadow x)) es) o = names_own u es o.1
+names_own u (more (var (helper r k)) es) o = names_own u es o.1
+names_own u (more (lit z) es) o = names_own u es o.1
+names_own u (more (elem x s) es) o = names_own u es o.1
+names_own u (more (neg a) es) o = names_own u es o.1
+names_own u (more (bin op a b) es) o = names_own u es o.1
+names_own u (more (pow a k) es) o = names_own u es o.1
+names_own u (more (power_of a b) es) o = names_own u es o.1
+names_own u (more (abs a) es) o = names_own u es o.1
+
+pub group_own : (u : Procedure) (f g : Vars) (ds given : List (List ℕ)) → AreOwn u given → AreOwn u (group f g ds given)
+group_own u f g [] given h = tt
+group_own u f g (d ∷ ds) [] h = tt
+group_own u f g (d ∷ ds) (a ∷ given) h = go (f (plain d) && g (plain a)) (group_own u f g ds given h.1)
+  where
+    go : (b : Bool) → AreOwn u (group f g ds given) → AreOwn u (if b then a ∷ group f g ds given else group f g ds given)
+    go true ih = (h.0, ih)
+    go false ih = ih
+
+pub saved_own : (u : Procedure) (p : Plan) (i : ℕ) (name : List ℕ) (args : Terms) → OverActuals (OwnVar u) NoArray args → AreOwn u (save_group p.marks i (p.callees name) (names_of args))
+saved_own u p i name args o = let g = p.callees name in group_own u g.written (p.marks.saved i) g.dummies (names_of args) (names_own u args o)
+
+pub members_own : (u : Procedure) (p : Plan) (name : List ℕ) (args : Terms) → OverActuals (OwnVar u) NoArray args → AreOwn u (snapshot_group (p.callees name) (names_of args))
+members_own u p name args o = let g = p.callees name in group_own u (λ d. g.written d && g.members d) everything g.dummies (names_of args) (names_own u args o)
+
+-- ---- under names that the unit's variables keep
+
+module _ (u : Procedure) (r : Var → Var) (own_kept : (v : Var) → is_own u v ≡ true → r v ≡ v) (own_same : (v : Var) → is_own u (r v) ≡ is_own u v) (p : Plan) where
+  mutual
+    same_term : (e : Term) → OverTerm (OwnVar u) NoArray e → rename_term r e ≡ e
+    same_term (lit z) o = refl
+    same_term (var x) o = ap var (own_kept x o)
+    same_term (elem x s) o = λ j. elem (own_kept x o.0 j) (same_terms s o.1.1 j)
+    same_term (neg a) o = ap neg (same_term a o)
+    same_term (bin op a b) o = λ j. bin op (same_term a o.0 j) (same_term b o.1 j)
+    same_term (pow a k) o = ap (λ z. pow z k) (same_term a o.0)
+    same_term (power_of a b) o = λ j. power_of (same_term a o.0 j) (same_term b o.1.0 j)
+    same_term (abs a) o = ap abs (same_term a o)
+
+    same_terms : (es : Terms) → OverTerms (OwnVar u) NoArray es → rename_terms r es ≡ es
+    same_terms none o = refl
+    same_terms (more e es) o = λ j. more (same_term e o.0 j) (same_terms es o.1 j)
+
+  same_test : (c : Test) → OverTest (OwnVar u) NoArray c → rename_test r c ≡ c
+  same_test (compare q a b) o = λ j. compare q (same_term a o.0 j) (same_term b o.1 j)
+  same_test (negation c) o = ap negation (same_test c o)
+  same_test (conjunction c d) o = λ j. conjunction (same_test c o.0 j) (same_test d o.1 j)
+  same_test (disjunction c d) o = λ j. disjunction (same_test c o.0 j) (same_test d o.1 j)
+
+  place_own : (x : Var) (s : Terms) → OverPlace (OwnVar u) NoArray x s → is_own u x ≡ true
+  place_own x none o = o
+  place_own x (more e es) o = o.0
+
+  same_subscripts : (x : Var) (s : Terms) → OverPlace (OwnVar u) NoArray x s → rename_terms r s ≡ s
+  same_subscripts x none o = refl
+  same_subscripts x (more e es) o = same_terms (more e es) o.1.1
+
+  same_actual : (e : Term) → OverActual (OwnVar u) NoArray e → rename_term r e ≡ e
+  same_actual (var x) o = ap var (own_kept x o)
+  same_actual (lit z) o = refl
+  same_actual (elem x s) o = same_term (elem x s) o
+  same_actual (neg a) o = same_term (neg a) o
+  same_actual (bin op a b) o = same_term (bin op a b) o
+  same_actual (pow a k) o = same_term (pow a k) o
+  same_actual (power_of a b) o = same_term (power_of a b) o
+  same_actual (abs a) o = same_term (abs a) o
+
+  same_actuals : (es : Terms) → OverActuals (OwnVar u) NoArray es → rename_terms r es ≡ es
+  same_actuals none o = refl
+  same_actuals (more e es) o = λ j. more (same_actual e o.0 j) (same_actuals es o.1 j)
+
+  -- ---- what is kept
+
+  abbrev own : Vars
+  own = is_own u
+
+  abbrev kept : ℕ → Act → List Act
+  kept = kept_of p.marks (is_own u)
+
+  -- what doesn't stay gives nothing
+  gone : (i : ℕ) (a : Act) → stays p.marks i a ≡ false → kept i a ≡ []
+  gone i a h = ap (λ b. if b then primal own a else []) h
+
+  there : (i : ℕ) (a : Act) → stays p.marks i a ≡ true → kept i a ≡ primal own a
+  there i a h = ap (λ b. if b then primal own a else []) h
+
+  neither : (i : ℕ) → p.marks.kept i ≡ false → p.marks.adjointed i ≡ false → is_emitted p.marks i ≡ false
+  neither i h g = λ j. h j || g j
+
+  kept_idle : (i : ℕ) (a : Act) → p.marks.kept i ≡ false → p.marks.adjointed i ≡ false → kept i a ≡ []
+  kept_idle i (assign x subs e) h g = gone i (assign x subs e) h
+  kept_idle i (choose c a b) h g = gone i (choose c a b) (neither i h g)
+  kept_idle i (loop x a b c body m) h g = gone i (loop x a b c body m) (neither i h g)
+  kept_idle i (during c body) h g = gone i (during c body) (neither i h g)
+  kept_idle i (call name args) h g = gone i (call name args) h
+  kept_idle i (runtime c) h g = refl
+
+  kept_ran : (i : ℕ) (a : Act) → IsRuntime a → kept i a ≡ []
+  kept_ran i (runtime c) h = refl
+  kept_ran i (assign x subs e) h = absurd h
+  kept_ran i (choose c a b) h = absurd h
+  kept_ran i (loop x a b c body m) h = absurd h
+  kept_ran i (during c body) h = absurd h
+  kept_ran i (call name args) h = absurd h
+
+  kept_assigned : (i line : ℕ) (x : List ℕ) (subs : Terms) (e : Term) → OverAct (OwnVar u) NoArray Any (assign (plain x) subs e) →
+      gathered (primal (is_own u)) (seen r (code_if (p.marks.kept i) (code_if (p.marks.saved i (plain x)) (one line (runtime (push_word (plain x) subs))) +++ one line (assign (plain x) subs e)))) ≡ kept i (assign (plain x) subs e)
+  kept_assigned i line x subs e o = go (p.marks.kept i) (p.marks.saved i (plain x))
+    where
+      same : (if own (r (plain x)) then assign (r (plain x)) (rename_terms r subs) (rename_term r e) ∷ [] else []) ≡ (if own (plain x) then assign (plain x) subs e ∷ [] else [])
+      same = λ j. if own (own_kept (plain x) (place_own (plain x) subs o.0) j) then assign (own_kept (plain x) (place_own (plain x) subs o.0) j) (same_subscripts (plain x) subs o.0 j) (same_term e o.1 j) ∷ [] else []
+
+      go : (k s : Bool) → gathered (primal (is_own u)) (seen r (code_if k (code_if s (one line (runtime (push_word (plain x) subs))) +++ one line (assign (plain x) subs e)))) ≡ (if k then primal own (assign (plain x) subs e) else [])
+      go false s = refl
+      go true true = append-nil (if own (r (plain x)) then assign (r (plain x)) (rename_terms r subs) (rename_term r e) ∷ [] else []) ∙ same
+      go true false = append-nil (if own (r (plain x)) then assign (r (plain x)) (rename_terms r subs) (rename_term r e) ∷ [] else []) ∙ same
+
+  -- the pushes of a call keep nothing
+  kept_pushes : (line : ℕ) (xs : List (List ℕ)) → gathered (primal (is_own u)) (seen r (pushes p line xs)) ≡ []
+  kept_pushes line [] = refl
+  kept_pushes line (x ∷ xs) = kept_pushes line xs
+
+  kept_calls : (i line : ℕ) (name : List ℕ) (args : Terms) → is_emitted p.marks i ≡ true → OverAct (OwnVar u) NoArray Any (call name args) →
+      gathered (primal (is_own u)) (seen r (pushes p line (save_group p.marks i (p.callees name) (names_of args)) +++ (code_if (p.marks.adjointed i) (pushes p line (snapshot_group (p.callees name) (names_of args))) +++ code_if (p.marks.kept i) (one line (call name args))))) ≡ kept i (call name args)
+  kept_calls i line name args e o =
+      taken_append r (primal (is_own u)) (pushes p line saves) (code_if (p.marks.adjointed i) (pushes p line members) +++ code_if (p.marks.kept i) (one line (call name args)))
+      ∙ ap (λ l. l ++ gathered (primal (is_own u)) (seen r (code_if (p.marks.adjointed i) (pushes p line members) +++ code_if (p.marks.kept i) (one line (call name args))))) (kept_pushes line saves)
+      ∙ taken_append r (primal (is_own u)) (code_if (p.marks.adjointed i) (pushes p line members)) (code_if (p.marks.kept i) (one line (call name args)))
+      ∙ ap (λ l. l ++ gathered (primal (is_own u)) (seen r (code_if (p.marks.kept i) (one line (call name args))))) (of_members (p.marks.adjointed i))
+      ∙ of_call (p.marks.kept i)
+    where
+      saves : List (List ℕ)
+      saves = save_group p.marks i (p.callees name) (names_of args)
+
+      members : List (List ℕ)
+      members = snapshot_group (p.callees name) (names_of args)
+
+      of_members : (b : Bool) → gathered (primal (is_own u)) (seen r (code_if b (pushes p line members))) ≡ []
+      of_members true = kept_pushes line members
+      of_members false = refl
+
+      of_call : (b : Bool) → gathered (primal (is_own u)) (seen r (code_if b (one line (call name args)))) ≡ (if b then call name args ∷ [] else [])
+      of_call true = ap (λ es. call name es ∷ []) (same_actuals args o.1.0)
+      of_call false = refl
+
+  kept_loops : (i line : ℕ) (x : List ℕ) (a b c a' c' : Term) (body body' : Code) (m : Mark) → is_emitted p.marks i ≡ true → is_own u (plain x) ≡ true → OverTerm (OwnVar u) NoArray b →
+      gathered (primal (is_own u)) (seen r (code_if (p.marks.saved i (plain x)) (one line (runtime (push_word (plain x) none))))) ++ primal (is_own u) (loop (r (plain x)) a' (rename_term r b) c' body' unmarked) ≡ kept i (loop (plain x) a b c body m)
+  kept_loops i line x a b c a' c' body body' m e o h = go (p.marks.saved i (plain x)) ∙ (λ j. loop (own_kept (plain x) o j) (lit (pos 0)) (same_term b h j) (lit (pos 0)) stop unmarked ∷ []) ∙ sym (there i (loop (plain x) a b c body m) e)
+    where
+      go : (s : Bool) → gathered (primal (is_own u)) (seen r (code_if s (one line (runtime (push_word (plain x) none))))) ++ primal (is_own u) (loop (r (plain x)) a' (rename_term r b) c' body' unmarked) ≡ loop (r (plain x)) (lit (pos 0)) (rename_term r b) (lit (pos 0)) stop unmarked ∷ []
+      go true = refl
+      go false = refl
+
+  not_own : (o : Role) (k : ℕ) → is_own u (r (helper o k)) ≡ false
+  not_own o k = own_same (helper o k)
+
+  pub kept_rows : Rows (primal (is_own u)) (kept_of p.marks (is_own u)) r p u
+  kept_rows = record {
+    set_none = λ o k subs e. ap (λ b. if b then assign (r (helper o k)) subs e ∷ [] else []) (not_own o k);
+    push_none = λ o k subs. refl;
+    control_none = λ e. refl;
+    idle = kept_idle;
+    ran = kept_ran;
+    assigns = kept_assigned;
+    chooses = λ i c a b c' d' e o. ap (λ t. choose t stop stop ∷ []) (same_test c o) ∙ sym (there i (choose c a b) e);
+    loops = kept_loops;
+    whiles = λ i c body body' e o. ap (λ t. during t stop ∷ []) (same_test c o) ∙ sym (there i (during c body) e);
+    calls = kept_calls;
+  }
+
+  -- ---- what is pushed
+
+  due_idle : (i : ℕ) (a : Act) → p.marks.kept i ≡ false → p.marks.adjointed i ≡ false → due p i a ≡ []
+  due_idle i (assign x subs e) h g = ap (λ b. if b && p.marks.saved i x then push_word x subs ∷ [] else []) h
+  due_idle i (choose c a b) h g = refl
+  due_idle i (loop x a b c body m) h g = ap (λ t. if t && p.marks.saved i x then push_word x none ∷ [] else []) (neither i h g)
+  due_idle i (during c body) h g = refl
+  due_idle i (call name args) h g =
+      ap
+      (λ t. if t then map (push_whole p.arrays) (save_group p.marks i (p.callees name) (names_of args)) ++ (if p.marks.adjointed i then map (push_whole p.arrays) (snapshot_group (p.callees name) (names_of args)) else []) else [])
+      (neither i h g)
+  due_idle i (runtime c) h g = refl
+
+  due_ran : (i : ℕ) (a : Act) → IsRuntime a → due p i a ≡ []
+  due_ran i (runtime c) h = refl
+  due_ran i (assign x subs e) h = absurd h
+  due_ran i (choose c a b) h = absurd h
+  due_ran i (loop x a b c body m) h = absurd h
+  due_ran i (during c body) h = absurd h
+  due_ran i (call name args) h = absurd h
+
+  -- a push of a variable of the unit is one
+  word_pushed : (x : List ℕ) (subs : Terms) → is_own u (plain x) ≡ true → rename_terms r subs ≡ subs → pushed (is_own u) (runtime (push_word (r (plain x)) (rename_terms r subs))) ≡ push_word (plain x) subs ∷ []
+  word_pushed x subs o e = (λ j. if own (own_kept (plain x) o j) then push_word (own_kept (plain x) o j) (e j) ∷ [] else []) ∙ ap (λ b. if b then push_word (plain x) subs ∷ [] else []) o
+
+  array_pushed : (x : List ℕ) → is_own u (plain x) ≡ true → pushed (is_own u) (runtime (push_array (r (plain x)))) ≡ push_array (plain x) ∷ []
+  array_pushed x o = (λ j. if own (own_kept (plain x) o j) then push_array (own_kept (plain x) o j) ∷ [] else []) ∙ ap (λ b. if b then push_array (plain x) ∷ [] else []) o
+
+  due_assigned : (i line : ℕ) (x : List ℕ) (subs : Terms) (e : Term) → OverAct (OwnVar u) NoArray Any (assign (plain x) subs e) →
+      gathered (pushed (is_own u)) (seen r (code_if (p.marks.kept i) (code_if (p.marks.saved i (plain x)) (one line (runtime (push_word (plain x) subs))) +++ one line (assign (plain x) subs e)))) ≡ due p i (assign (plain x) subs e)
+  due_assigned i line x subs e o = go (p.marks.kept i) (p.marks.saved i (plain x))
+    where
+      go : (k s : Bool) → gathered (pushed (is_own u)) (seen r (code_if k (code_if s (one line (runtime (push_word (plain x) subs))) +++ one line (assign (plain x) subs e)))) ≡ (if k && s then push_word (plain x) subs ∷ [] else [])
+      go false s = refl
+      go true true = append-nil (pushed (is_own u) (runtime (push_word (r (plain x)) (rename_terms r subs)))) ∙ word_pushed x subs (place_own (plain x) subs o.0) (same_subscripts (plain x) subs o.0)
+      go true false = refl
+
+  due_loops : (i line : ℕ) (x : List ℕ) (a b c a' c' : Term) (body body' : Code) (m : Mark) → is_emitted p.marks i ≡ true → is_own u (plain x) ≡ true → OverTerm (OwnVar u) NoArray b →
+      gathered (pushed (is_own u)) (seen r (code_if (p.marks.saved i (plain x)) (one line (runtime (push_word (plain x) none))))) ++ pushed (is_own u) (loop (r (plain x)) a' (rename_term r b) c' body' unmarked) ≡ due p i (loop (plain x) a b c body m)
+  due_loops i line x a b c a' c' body body' m e o h = go (p.marks.saved i (plain x)) ∙ sym (ap (λ t. if t && p.marks.saved i (plain x) then push_word (plain x) none ∷ [] else []) e)
+    where
+      go : (s : Bool) → gathered (pushed (is_own u)) (seen r (code_if s (one line (runtime (push_word (plain x) none))))) ++ [] ≡ (if s then push_word (plain x) none ∷ [] else [])
+      go true = append-nil _ ∙ append-nil (pushed (is_own u) (runtime (push_word (r (plain x)) none))) ∙ word_pushed x none o refl
+      go false = refl
+
+  -- a group
+  due_pushes : (line : ℕ) (xs : List (List ℕ)) → AreOwn u xs → gathered (pushed (is_own u)) (seen r (pushes p line xs)) ≡ map (push_whole p.arrays) xs
+  due_pushes line [] o = refl
+  due_pushes line (x ∷ xs) o = λ j. go (p.arrays (plain x)) j ++ due_pushes line xs o.1 j
+    where
+      go : (b : Bool) → pushed (is_own u) (runtime (rename_runtime r (if b then push_array (plain x) else push_word (plain x) none))) ≡ (if b then push_array (plain x) else push_word (plain x) none) ∷ []
+      go true = array_pushed x o.0
+      go false = word_pushed x none o.0 refl
+
+  due_calls : (i line : ℕ) (name : List ℕ) (args : Terms) → is_emitted p.marks i ≡ true → OverAct (OwnVar u) NoArray Any (call name args) →
+      gathered (pushed (is_own u)) (seen r (pushes p line (save_group p.marks i (p.callees name) (names_of args)) +++ (code_if (p.marks.adjointed i) (pushes p line (snapshot_group (p.callees name) (names_of args))) +++ code_if (p.marks.kept i) (one line (call name args))))) ≡ due p i (call name args)
+  due_calls i line name args e o =
+      taken_append r (pushed (is_own u)) (pushes p line saves) (code_if (p.marks.adjointed i) (pushes p line members) +++ code_if (p.marks.kept i) (one line (call name args)))
+      ∙ (λ j. due_pushes line saves (saved_own u p i name args o.1.0) j ++ rest j)
+      ∙ sym (ap (λ t. if t then map (push_whole p.arrays) saves ++ (if p.marks.adjointed i then map (push_whole p.arrays) members else []) else []) e)
+    where
+      saves : List (List ℕ)
+      saves = save_group p.marks i (p.callees name) (names_of args)
+
+      members : List (List ℕ)
+      members = snapshot_group (p.callees name) (names_of args)
+
+      of_members : (b : Bool) → gathered (pushed (is_own u)) (seen r (code_if b (pushes p line members))) ≡ (if b then map (push_whole p.arrays) members else [])
+      of_members true = due_pushes line members (members_own u p name args o.1.0)
+      of_members false = refl
+
+      of_call : (b : Bool) → gathered (pushed (is_own u)) (seen r (code_if b (one line (call name args)))) ≡ []
+      of_call true = refl
+      of_call false = refl
+
+      rest : gathered (pushed (is_own u)) (seen r (code_if (p.marks.adjointed i) (pushes p line members) +++ code_if (p.marks.kept i) (one line (call name args)))) ≡ (if p.marks.adjointed i then map (push_whole p.arrays) members else [])
+      rest =
+          taken_append r (pushed (is_own u)) (code_if (p.marks.adjointed i) (pushes p line members)) (code_if (p.marks.kept i) (one line (call name args)))
+          ∙ (λ j. of_members (p.marks.adjointed i) j ++ of_call (p.marks.kept i) j)
+          ∙ append-nil (if p.marks.adjointed i then map (push_whole p.arrays) members else [])
+
+  pub due_rows : Rows (pushed (is_own u)) (due p) r p u
+  due_rows = record {
+    set_none = λ o k subs e. refl;
+    push_none = λ o k subs. ap (λ b. if b then push_word (r (helper o k)) subs ∷ [] else []) (not_own o k);
+    control_none = λ e. refl;
+    idle = due_idle;
+    ran = due_ran;
+    assigns = due_assigned;
+    chooses = λ i c a b c' d' e o. refl;
+    loops = due_loops;
+    whiles = λ i c body body' e o. refl;
+    calls = due_calls;
+  }
+
+  -- ---- what is called
+
+  abbrev pub called_due : ℕ → Act → List (List ℕ)
+  called_due i a = if p.marks.kept i then called a else []
+
+  either_none : (b : Bool) → [] ≡ (if b then (let l : List (List ℕ) = [] in l) else [])
+  either_none true = refl
+  either_none false = refl
+
+  called_ran : (i : ℕ) (a : Act) → IsRuntime a → called_due i a ≡ []
+  called_ran i (runtime c) h = sym (either_none (p.marks.kept i))
+  called_ran i (assign x subs e) h = absurd h
+  called_ran i (choose c a b) h = absurd h
+  called_ran i (loop x a b c body m) h = absurd h
+  called_ran i (during c body) h = absurd h
+  called_ran i (call name args) h = absurd h
+
+  called_assigned : (i line : ℕ) (x : List ℕ) (subs : Terms) (e : Term) → OverAct (OwnVar u) NoArray Any (assign (plain x) subs e) →
+      gathered called (seen r (code_if (p.marks.kept i) (code_if (p.marks.saved i (plain x)) (one line (runtime (push_word (plain x) subs))) +++ one line (assign (plain x) subs e)))) ≡ called_due i (assign (plain x) subs e)
+  called_assigned i line x subs e o = go (p.marks.kept i) (p.marks.saved i (plain x))
+    where
+      go : (k s : Bool) → gathered called (seen r (code_if k (code_if s (one line (runtime (push_word (plain x) subs))) +++ one line (assign (plain x) subs e)))) ≡ (if k then [] else [])
+      go false s = refl
+      go true true = refl
+      go true false = refl
+
+  called_loops : (i line : ℕ) (x : List ℕ) (a b c a' c' : Term) (body body' : Code) (m : Mark) → is_emitted p.marks i ≡ true → is_own u (plain x) ≡ true → OverTerm (OwnVar u) NoArray b →
+      gathered called (seen r (code_if (p.marks.saved i (plain x)) (one line (runtime (push_word (plain x) none))))) ++ called (loop (r (plain x)) a' (rename_term r b) c' body' unmarked) ≡ called_due i (loop (plain x) a b c body m)
+  called_loops i line x a b c a' c' body body' m e o h = go (p.marks.saved i (plain x)) ∙ either_none (p.marks.kept i)
+    where
+      go : (s : Bool) → gathered called (seen r (code_if s (one line (runtime (push_word (plain x) none))))) ++ [] ≡ []
+      go true = refl
+      go false = refl
+
+  called_pushes : (line : ℕ) (xs : List (List ℕ)) → gathered called (seen r (pushes p line xs)) ≡ []
+  called_pushes line [] = refl
+  called_pushes line (x ∷ xs) = called_pushes line xs
+
+  called_calls : (i line : ℕ) (name : List ℕ) (args : Terms) → is_emitted p.marks i ≡ true → OverAct (OwnVar u) NoArray Any (call name args) →
+      gathered called (seen r (pushes p line (save_group p.marks i (p.callees name) (names_of args)) +++ (code_if (p.marks.adjointed i) (pushes p line (snapshot_group (p.callees name) (names_of args))) +++ code_if (p.marks.kept i) (one line (call name args))))) ≡ called_due i (call name args)
+  called_calls i line name args e o =
+      taken_append r called (pushes p line saves) (code_if (p.marks.adjointed i) (pushes p line members) +++ code_if (p.marks.kept i) (one line (call name args)))
+      ∙ ap (λ l. l ++ gathered called (seen r (code_if (p.marks.adjointed i) (pushes p line members) +++ code_if (p.marks.kept i) (one line (call name args))))) (called_pushes line saves)
+      ∙ taken_append r called (code_if (p.marks.adjointed i) (pushes p line members)) (code_if (p.marks.kept i) (one line (call name args)))
+      ∙ ap (λ l. l ++ gathered called (seen r (code_if (p.marks.kept i) (one line (call name args))))) (of_members (p.marks.adjointed i))
+      ∙ of_call (p.marks.kept i)
+    where
+      saves : List (List ℕ)
+      saves = save_group p.marks i (p.callees name) (names_of args)
+
+      members : List (List ℕ)
+      members = snapshot_group (p.callees name) (names_of args)
+
+      of_members : (b : Bool) → gathered called (seen r (code_if b (pushes p line members))) ≡ []
+      of_members true = called_pushes line members
+      of_members false = refl
+
+      of_call : (b : Bool) → gathered called (seen r (code_if b (one line (call name args)))) ≡ (if b then name ∷ [] else [])
+      of_call true = refl
+      of_call false = refl
+
+  pub called_rows : Rows called (λ i a. if p.marks.kept i then called a else []) r p u
+  called_rows = record {
+    set_none = λ o k subs e. refl;
+    push_none = λ o k subs. refl;
+    control_none = λ e. refl;
+    idle = λ i a h g. ap (λ b. if b then called a else []) h;
+    ran = called_ran;
+    assigns = called_assigned;
+    chooses = λ i c a b c' d' e o. either_none (p.marks.kept i);
+    loops = called_loops;
+    whiles = λ i c body body' e o. either_none (p.marks.kept i);
+    calls = called_calls;
+  }

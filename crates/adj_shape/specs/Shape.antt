@@ -1,0 +1,215 @@
+-- What an emitted program looks like: which units it has, and what each adjoint unit keeps, saves, pushes and sets. It is told of the text
+-- alone, statement by statement, whatever its helpers are; its line numbers count for nothing. (docs/EMITTED.md, "What the text looks like")
+use Rattle.std.specs.Prelude.{◌≡◌, ℕ, suc, nat_lt, ◌-◌, pos, List, [], ◌∷◌, ◌++◌, map, flat_map, Bool, true, false, not, ◌&&◌, ◌||◌, Some, if◌then◌else◌}
+use Rattle.std.specs.List.{list_any, list_all}
+use Rattle.adj_tree.specs.Code.{Var, plain, shadow, helper, name_eq, var_eq, lit, Terms, none, more, Runtime, push_word, pop_word, push_array, pop_array, push_control, pop_control, zero_array, count_actions, give_action, unmarked, Act, assign, choose, loop, during, call, runtime, Code, stop, step, Procedure}
+use Rattle.adj_tree.specs.Lines.{unlined_procedure, unlined}
+use Rattle.adj_meaning.specs.Append.{◌+++◌}
+use Rattle.adj_meaning.specs.Written.{find_unit}
+use Rattle.adj_meaning.specs.Units.{declared}
+use Rattle.adj_names.specs.Statements.{At, statements}
+use Rattle.adj_names.specs.Variables.{variables}
+use Rattle.adj_transpose.specs.Fresh.{has_name}
+use Rattle.adj_transpose.specs.Naming.{Named, unit_names, name_in}
+use Rattle.adj_transpose.specs.Marks.{Vars, Marks}
+use Rattle.adj_transpose.specs.Marked.{names_in}
+use Rattle.adj_transpose.specs.MarkedProgram.{shadows_behind}
+use Rattle.adj_transpose.specs.Program.{unit_name, unmarked as unlisted}
+use Rattle.adj_reverse.specs.Plan.{Plan, is_emitted, names_of, save_group, snapshot_group}
+use Rattle.adj_reverse.specs.Names.{adjoint_name}
+use Rattle.adj_reverse.specs.Marking.{ProgramMarks, marks_in, first_statement, plan_in}
+use Rattle.adj_reverse.specs.Program.{has_adjoint, all_units}
+
+-- ---- statements, at any depth, in text order
+
+-- what a function gives of each
+abbrev pub gathered : {X : Type 0} → (Act → List X) → Code → List X
+gathered f c = flat_map (λ s. f s.1) (statements c)
+
+-- the same by the numbers of the statements, of which the first is i
+abbrev pub gathered_from : {X : Type 0} → (ℕ → Act → List X) → ℕ → List (At Act) → List X
+gathered_from f i [] = []
+gathered_from f i (s ∷ ss) = f i s.1 ++ gathered_from f (suc i) ss
+
+-- ---- the names in an adjoint unit
+
+-- the names of the unit's variables and of their shadows
+abbrev pub shadow_table : ProgramMarks → List Procedure → Procedure → Procedure → List Named
+shadow_table m ps head u = unit_names (variables u) (all_units m ps head) (map shadow (names_in (m.shadowed u.name) (variables u)))
+
+-- a variable of the kernel unit
+abbrev pub is_own : Procedure → Vars
+is_own u (plain x) = has_name x (variables u)
+is_own u (shadow x) = false
+is_own u (helper r k) = false
+
+-- the shadow of one
+abbrev pub is_shadow : ProgramMarks → List Procedure → Procedure → Procedure → Vars
+is_shadow m ps head u (plain x) = has_name x (map (λ y. name_in (shadow_table m ps head u) (shadow y)) (names_in (m.shadowed u.name) (variables u)))
+is_shadow m ps head u (shadow x) = false
+is_shadow m ps head u (helper r k) = false
+
+-- ---- what the forward sweep keeps
+
+-- the statements of the unit's own: assignments to its variables, calls, and IFs and loops without what stands in them. The first value and
+-- the step of a DO may be held by helpers, and its mark is dropped.
+abbrev pub primal : Vars → Act → List Act
+primal own (assign x subs e) = if own x then assign x subs e ∷ [] else []
+primal own (choose c a b) = choose c stop stop ∷ []
+primal own (loop x first last by body m) = loop x (lit (pos 0)) last (lit (pos 0)) stop unmarked ∷ []
+primal own (during c body) = during c stop ∷ []
+primal own (call name args) = call name args ∷ []
+primal own (runtime r) = []
+
+-- an assignment or a call stays where it is kept; an IF or a loop where it is kept or adjointed
+abbrev pub stays : Marks → ℕ → Act → Bool
+stays m i (assign x subs e) = m.kept i
+stays m i (choose c a b) = is_emitted m i
+stays m i (loop x first last by body n) = is_emitted m i
+stays m i (during c body) = is_emitted m i
+stays m i (call name args) = m.kept i
+stays m i (runtime r) = false
+
+abbrev pub kept_of : Marks → Vars → ℕ → Act → List Act
+kept_of m own i a = if stays m i a then primal own a else []
+
+-- ---- what it pushes
+
+-- the pushes of the unit's variables, of their elements and of its arrays
+abbrev pub pushed : Vars → Act → List Runtime
+pushed own (runtime (push_word x subs)) = if own x then push_word x subs ∷ [] else []
+pushed own (runtime (push_array x)) = if own x then push_array x ∷ [] else []
+pushed own _ = []
+
+-- a variable whole
+abbrev pub push_whole : Vars → List ℕ → Runtime
+push_whole arrays x = if arrays (plain x) then push_array (plain x) else push_word (plain x) none
+
+-- those that are due for a statement of the unit: its target or its variable, where that is saved, and the groups of a call
+abbrev pub due : Plan → ℕ → Act → List Runtime
+due p i (assign x subs e) = if p.marks.kept i && p.marks.saved i x then push_word x subs ∷ [] else []
+due p i (choose c a b) = []
+due p i (loop x first last by body m) = if is_emitted p.marks i && p.marks.saved i x then push_word x none ∷ [] else []
+due p i (during c body) = []
+due p i (call name args) =
+    let g = p.callees name in
+    let given = names_of args in
+    if is_emitted p.marks i
+    then map (push_whole p.arrays) (save_group p.marks i g given) ++ (if p.marks.adjointed i then map (push_whole p.arrays) (snapshot_group g given) else [])
+    else []
+due p i (runtime r) = []
+
+-- nothing follows
+abbrev pub is_last : Code → Bool
+is_last stop = true
+is_last (step line a rest) = false
+
+abbrev pub is_bare : Terms → Bool
+is_bare none = true
+is_bare (more e es) = false
+
+-- Whether any other push is of one word: of a control word that ends a part of an IF, or of one of at most four helpers behind a loop. `part`
+-- tells whether the list is a part of an IF, and `room` how many helpers may be pushed before its first statement.
+abbrev pub is_sparing : Vars → Vars → Bool → ℕ → Code → Bool
+is_sparing own made part room stop = true
+is_sparing own made part room (step line (assign x subs e) rest) = is_sparing own made part 0 rest
+is_sparing own made part room (step line (choose c a b) rest) = is_sparing own made true 0 a && (is_sparing own made true 0 b && is_sparing own made part 0 rest)
+is_sparing own made part room (step line (loop x first last by body m) rest) = is_sparing own made false 0 body && is_sparing own made part 4 rest
+is_sparing own made part room (step line (during c body) rest) = is_sparing own made false 0 body && is_sparing own made part 4 rest
+is_sparing own made part room (step line (call name args) rest) = is_sparing own made part 0 rest
+is_sparing own made part room (step line (runtime (push_word x subs)) rest) =
+    if own x then is_sparing own made part 0 rest else (not (made x) && is_bare subs) && (nat_lt 0 room && is_sparing own made part (room - 1) rest)
+is_sparing own made part room (step line (runtime (push_array x)) rest) = own x && is_sparing own made part 0 rest
+is_sparing own made part room (step line (runtime (push_control e)) rest) = part && is_last rest
+is_sparing own made part room (step line (runtime r) rest) = is_sparing own made part 0 rest
+
+-- every push
+abbrev pub all_pushes : Act → List Runtime
+all_pushes (runtime (push_word x subs)) = push_word x subs ∷ []
+all_pushes (runtime (push_array x)) = push_array x ∷ []
+all_pushes (runtime (push_control e)) = push_control e ∷ []
+all_pushes a = []
+
+-- ---- what the sweeps set and call
+
+-- the variables that a statement assigns, as an assignment or a DO
+abbrev pub assigned : Act → List Var
+assigned (assign x subs e) = x ∷ []
+assigned (loop x first last by body m) = x ∷ []
+assigned a = []
+
+-- and those that it changes as a call of the runtime
+abbrev pub changed : Act → List Var
+changed (runtime (pop_word x subs)) = x ∷ []
+changed (runtime (pop_array x)) = x ∷ []
+changed (runtime (pop_control x)) = x ∷ []
+changed (runtime (zero_array x)) = x ∷ []
+changed (runtime (count_actions l s n)) = n ∷ []
+changed (runtime (give_action l s k a f t)) = a ∷ f ∷ t ∷ []
+changed a = []
+
+-- the variables of DOs
+abbrev pub turned : Act → List Var
+turned (loop x first last by body m) = x ∷ []
+turned a = []
+
+-- the names of the units that are called
+abbrev pub called : Act → List (List ℕ)
+called (call name args) = name ∷ []
+called a = []
+
+-- ---- an adjoint unit
+
+-- the shadows of these set to 0
+abbrev pub cleared : Vars → List Named → List (List ℕ) → Code
+cleared arrays table [] = stop
+cleared arrays table (x ∷ xs) =
+    let y = plain (name_in table (shadow x)) in
+    step 0 (if arrays (plain x) then runtime (zero_array y) else assign y none (lit (pos 0))) (cleared arrays table xs)
+
+-- the head's adjoint sets shadows of dummies to 0 at the turn, those of all that aren't dependent, and at the end, those of all that aren't independent
+abbrev pub cleared_dummies : ProgramMarks → Procedure → Procedure → List Bool → List (List ℕ)
+cleared_dummies m head u listed = if name_eq head.name u.name then names_in (m.shadowed u.name) (unlisted u.dummies listed) else []
+
+-- what the adjoint unit a of the kernel unit u looks like, of which the line numbers are 0
+pub record IsAdjointUnit (m : ProgramMarks) (ps : List Procedure) (head : Procedure) (vars outvars : List Bool) (u a : Procedure) : Type 0 where
+  pub name : a.name ≡ adjoint_name ps u
+  -- its dummies are those of u, each followed by its shadow, if it has one
+  pub dummies : a.dummies ≡ shadows_behind (m.shadowed u.name) (shadow_table m ps head u) u.dummies
+  -- a variable that is neither one of u nor a shadow is a scalar
+  pub scalars : (v : Var) → is_own u v ≡ false → is_shadow m ps head u v ≡ false → declared a.declarations v ≡ []
+  -- its body is a forward sweep, shadows that are cleared, a backward sweep, and shadows that are cleared
+  pub forth : Code
+  pub back : Code
+  pub body : let p = plan_in m ps u in a.body ≡ forth +++ (cleared p.arrays (shadow_table m ps head u) (cleared_dummies m head u outvars) +++ (back +++ cleared p.arrays (shadow_table m ps head u) (cleared_dummies m head u vars)))
+  -- forward: the statements of u that stay, in text order, and no others of its own
+  pub keeps : gathered (primal (is_own u)) forth ≡ gathered_from (kept_of (marks_in m u.name) (is_own u)) (first_statement ps u.name) (statements u.body)
+  -- no shadow is assigned
+  pub spares : list_any (is_shadow m ps head u) (gathered (λ a. assigned a ++ changed a) forth) ≡ false
+  -- the pushes that are due, in text order, and besides them single words
+  pub saves : gathered (pushed (is_own u)) forth ≡ gathered_from (due (plan_in m ps u)) (first_statement ps u.name) (statements u.body)
+  pub sparing : is_sparing (is_own u) (is_shadow m ps head u) false 0 forth ≡ true
+  -- backward: nothing is pushed
+  pub pushes_none : gathered all_pushes back ≡ []
+  -- a variable of u is assigned only where it is that of a DO of u
+  pub assigns : list_all (λ v. not (is_own u v) || list_any (var_eq v) (gathered turned u.body)) (gathered assigned back) ≡ true
+  -- and no kernel unit is called
+  pub calls_none : list_any (λ x. has_name x (map unit_name ps)) (gathered called back) ≡ false
+
+-- ---- the program
+
+-- whether a unit calls the one of a name
+abbrev pub is_called : List Procedure → List ℕ → Bool
+is_called qs name = has_name name (flat_map (λ v. gathered called v.body) qs)
+
+-- what the emitted program qs of the kernel ps looks like by some marks, of which the line numbers are 0
+pub record IsShaped (m : ProgramMarks) (ps : List Procedure) (head : Procedure) (vars outvars : List Bool) (qs : List Procedure) : Type 0 where
+  pub made : Procedure → Procedure
+  -- Its units are, in the order of the kernel, each kernel unit that a unit of it calls, and each adjoint unit: of the head, and of what an
+  -- adjointed call of a unit with an adjoint names. There are no others.
+  pub units : qs ≡ flat_map (λ u. (if is_called qs u.name then unlined_procedure u ∷ [] else []) ++ (if has_adjoint m ps head u.name then made u ∷ [] else [])) ps
+  pub adjoints : (u : Procedure) → find_unit ps u.name ≡ Some u → has_adjoint m ps head u.name ≡ true → IsAdjointUnit m ps head vars outvars u (made u)
+
+-- the same of a program with its line numbers
+abbrev pub HasShape : ProgramMarks → List Procedure → Procedure → List Bool → List Bool → List Procedure → Type 0
+HasShape m ps head vars outvars qs = IsShaped m ps head vars outvars (unlined qs)
