@@ -35,6 +35,9 @@ use Rattle.adj_readable.specs.Reading.{OrTooMany}
 use Rattle.adj_limits.specs.Limits.{EmittedIsRunnable}
 use Rattle.adj_planned.specs.Planned.{HasNoMarks, kernel_problem, planned_for, marks_by}
 use Rattle.adj_planned.proofs.Planned as planned
+use Rattle.adj_planned.proofs.Unmarked.{kernel_unmarked}
+use Rattle.adj_shape.specs.Accepted.{HasKernelShape}
+use Rattle.adj_shape.proofs.Accepted.{accepted_has_shape}
 use Rattle.adj_tool.specs.Planned.{IsEmittedFor, AreExact, IsAdjointText, IsTextFor}
 use Rattle.adj_tool.specs.declared.task.Wanted.{Wanted}
 use Rattle.adj_tool.specs.declared.task.Wanted.TheVariants as wanted
@@ -120,6 +123,10 @@ module _ (r : Request) (ps : List Procedure) (h : Head) (sound : first_head_faul
             subst (λ n. IsAdjointOf (λ line. false) n ps r.head (flags_of r.vars there.unit.dummies) (flags_of r.outvars there.unit.dummies) back.reads.0) (sym x.are)
             (subst (λ v. IsAdjointOf (λ line. false) m ps r.head v (flags_of r.outvars there.unit.dummies) back.reads.0) vars_is (subst (λ v. IsAdjointOf (λ line. false) m ps r.head h.vars v back.reads.0) outvars_is
             (planned.is_adjoint ps accepted none r.head there.unit there.found h.vars h.outvars x.activity x.liveness x.saved x.held x.analysed back.reads.0 same)));
+        shape =
+            subst (λ n. HasKernelShape n ps r.head (flags_of r.vars there.unit.dummies) (flags_of r.outvars there.unit.dummies) back.reads.0) (sym x.are)
+            (subst (λ v. HasKernelShape m ps r.head v (flags_of r.outvars there.unit.dummies) back.reads.0) vars_is (subst (λ v. HasKernelShape m ps r.head h.vars v back.reads.0) outvars_is
+            (accepted_has_shape ps accepted (kernel_unmarked ps none) r.head there.unit there.found h.vars h.outvars x.activity x.liveness x.saved x.held x.analysed back.reads.0 same)));
       }
     where
       vars_is : h.vars ≡ flags_of r.vars there.unit.dummies

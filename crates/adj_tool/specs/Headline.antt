@@ -14,6 +14,7 @@ use Rattle.adj_names.specs.HeadFaults.{head_of}
 use Rattle.adj_reverse.specs.Marking.{ProgramMarks}
 use Rattle.adj_accepted.specs.Accepted.{IsAdjointOf}
 use Rattle.adj_planned.specs.Planned.{planned_for}
+use Rattle.adj_shape.specs.Accepted.{HasKernelShape}
 use Rattle.adj_tree.specs.declared.marks.Head.{Head}
 use Rattle.adj_kernel.specs.Stepped.{kernel_of}
 use Rattle.adj_tool.specs.Fitting.{kernel_fits}
@@ -33,7 +34,7 @@ abbrev pub flags_of : List (List ℕ) → List (List ℕ) → List Bool
 flags_of listed names = map (λ x. has_name x listed) names
 
 -- the bytes that were read are a program, whose unit of the name asked for is the head; the bytes that were written are a program too, and the
--- canonical text of that program; it has no fault as one that is run; and it is an adjoint of the first one for the head with its independents and dependents
+-- canonical text of that program; it has no fault as one that is run; it is an adjoint of the first one for the head with its independents and dependents, and looks as one that is emitted
 pub record WritesAdjoint (r : Request) (bytes written : List ℕ) : Type 0 where
   pub source : List Procedure
   pub reads : Reads bytes source
@@ -51,6 +52,8 @@ pub record WritesAdjoint (r : Request) (bytes written : List ℕ) : Type 0 where
   pub marks : ProgramMarks
   pub exact : AreExact source r.head (head_of source r.head r.vars r.outvars) marks
   pub is_adjoint : IsAdjointOf (λ line. false) marks source r.head (flags_of r.vars unit.dummies) (flags_of r.outvars unit.dummies) adjoint
+  -- it has the units, and each of its adjoint units keeps, saves, pushes and sets what these marks say
+  pub shape : HasKernelShape marks source r.head (flags_of r.vars unit.dummies) (flags_of r.outvars unit.dummies) adjoint
 
 -- where the answer is done, the kernel fits, and its text reads as the program that is emitted by the marks of exact analyses
 pub record ReadsWritten (ps : List Procedure) (name : List ℕ) (h : Head) (text : List ℕ) : Type 0 where
