@@ -1,0 +1,5 @@
+-- the definitions of the crate, a module a subject
+pub mod First
+pub mod LineFaults
+pub mod StatementFaults
+pub mod Refusals

@@ -1,0 +1,21 @@
+//! First faults of a text by what they are: definitions and laws, no code.
+//!
+//! `specs/First` says what the first fault of some places is, and the other modules of `specs/` what each code of a refusal is, as a property of
+//! a line, of a statement, or of a statement and those before it. The laws say that the reader's answers are by them. The crate stands on the reader of texts.
+#![tactic(auto)]
+
+ghost use Rattle.adj_refused.specs.Refusals.{LinesAnswer, LinesRefused, LinesAccepted, StatementsAnswer, StatementsRefused, StatementsAccepted};
+
+/// The lines of a text are refused exactly where one has a fault, and then by the first.
+pub fn lines_law()
+    ensures answer { LinesAnswer }
+    ensures refused { LinesRefused }
+    ensures accepted { LinesAccepted }
+{}
+
+/// Statements as their lines give them are refused exactly where one has a fault, and then by the first.
+pub fn statements_law()
+    ensures answer { StatementsAnswer }
+    ensures refused { StatementsRefused }
+    ensures accepted { StatementsAccepted }
+{}
