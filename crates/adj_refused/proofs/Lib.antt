@@ -2,3 +2,9 @@
 pub mod Tests
 pub mod LineTests
 pub mod StatementTests
+pub mod Places
+pub mod Leading
+pub mod Bridged
+pub mod Continuing
+pub mod TreeTests
+pub mod TreeWalk

@@ -13,7 +13,7 @@ use Rattle.adj_text.specs.Refused.{◌>>=◌, refused, limited}
 use Rattle.adj_refused.specs.First.{code_at, limit_at, rank, IsLeast, HasNone, IsAnswer}
 use Rattle.adj_refused.specs.LineFaults.{Line, numbered, lines_in, Sort, directive, comment, continuation, initial, sort, lead_in, continuations, LineFault, unlabelled, shifted, alone, unmarked, foreign, garbled, astray, too_long}
 use Rattle.adj_refused.specs.Refusals.{LinesAnswer, LinesRefused, LinesAccepted}
-use Rattle.adj_refused.proofs.Tests.{chosen, forgotten, when, true_when, when_ranked, test_more, Present, AreRanked, only_where, or_left, or_right, or_either, not_is, AreTested, AreOne, tested, tested_one, answer_behind, answer_more, first_refused, none_answered}
+use Rattle.adj_refused.proofs.Tests.{chosen, forgotten, when, true_when, when_ranked, test_more, Present, AreRanked, only_where, or_left, or_right, or_either, not_is, AreTested, AreOne, tested, tested_one, answer_behind, answer_more, all_single, first_refused, none_answered}
 
 none_is : {A : Type 0} (o : Option A) → is_none o ≡ true → o ≡ None
 none_is None h = refl
@@ -348,7 +348,7 @@ pub lines_answer : LinesAnswer
 lines_answer limits bytes = (walked limits (cut_lines bytes) [] 1).0 start refl tt
 
 pub lines_refused : LinesRefused
-lines_refused limits bytes r f = first_refused (LineFault limits) (one limits) [] (lines_in bytes) (lines_of limits bytes) r (lines_answer limits bytes) f
+lines_refused limits bytes r f = first_refused (LineFault limits) [] (lines_in bytes) (lines_of limits bytes) r (all_single (LineFault limits) (one limits) [] (lines_in bytes)) (lines_answer limits bytes) f
 
 pub lines_accepted : LinesAccepted
 lines_accepted limits bytes f = none_answered (LineFault limits) [] (lines_in bytes) (lines_of limits bytes) (lines_answer limits bytes) f

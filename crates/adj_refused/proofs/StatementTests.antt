@@ -14,7 +14,7 @@ use Rattle.adj_text.specs.declared.token.Token.{Token}
 use Rattle.adj_refused.specs.Refusals.{StatementsAnswer, StatementsRefused, StatementsAccepted}
 use Rattle.adj_refused.specs.First.{code_at, IsAnswer}
 use Rattle.adj_refused.specs.StatementFaults.{StatementFault, unknown, empty, unmatched, untold, long_name, long_mark}
-use Rattle.adj_refused.proofs.Tests.{chosen, forgotten, when, test_more, Present, AreRanked, when_ranked, true_when, only_where, or_left, or_right, or_either, and_both, not_is, AreTested, AreOne, IsJudged, tested, tested_one, answer_more, answer_mapped, first_refused, none_answered}
+use Rattle.adj_refused.proofs.Tests.{chosen, forgotten, when, test_more, Present, AreRanked, when_ranked, true_when, only_where, or_left, or_right, or_either, and_both, not_is, AreTested, AreOne, IsJudged, tested, tested_one, answer_more, answer_mapped, all_single, first_refused, none_answered}
 
 module _ (limits : Limits) (s : Lines) where
   -- the tests in order: no class; no form of words; a long name
@@ -139,7 +139,7 @@ pub statements_answer : StatementsAnswer
 statements_answer limits ss = answered limits [] ss
 
 pub statements_refused : StatementsRefused
-statements_refused limits ss r f = first_refused (StatementFault limits) (one limits) [] ss (all_stated limits ss) r (answered limits [] ss) f
+statements_refused limits ss r f = first_refused (StatementFault limits) [] ss (all_stated limits ss) r (all_single (StatementFault limits) (one limits) [] ss) (answered limits [] ss) f
 
 pub statements_accepted : StatementsAccepted
 statements_accepted limits ss f = none_answered (StatementFault limits) [] ss (all_stated limits ss) (answered limits [] ss) f

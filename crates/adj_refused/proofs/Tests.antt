@@ -159,17 +159,26 @@ AreOne {A} Fault = (before after : List A) (a : A) (r q : Refusal) → Fault bef
 pub tested_one : {Fault : Refusal → Type 0} (cs : List (Option Refusal)) (r q : Refusal) → AreTested Fault cs → Fault r → Fault q → rank r ≡ rank q → r ≡ q
 tested_one cs r q t f g e = present_one 0 cs r q t.ranked (t.present r f) (t.present q g) e
 
+-- faults of one rank are one, at the places up to the first that has a fault
+abbrev pub AreSingle : {A : Type 0} → Faults A → List A → List A → Type 0
+AreSingle Fault before [] = Unit {0}
+AreSingle Fault before (a ∷ after) = ((r q : Refusal) → Fault before a after r → Fault before a after q → rank r ≡ rank q → r ≡ q) × (HasNone (Fault before a after) → AreSingle Fault (a ∷ before) after)
+
+pub all_single : {A : Type 0} (Fault : Faults A) → AreOne Fault → (before all : List A) → AreSingle Fault before all
+all_single Fault one before [] = tt
+all_single Fault one before (a ∷ after) = (λ r q f g e. one before after a r q f g e, λ none. all_single Fault one (a ∷ before) after)
+
 -- there is one first fault
-first_one : {A : Type 0} (Fault : Faults A) (one : AreOne Fault) (before all : List A) (r q : Refusal) → IsFirst Fault before all r → IsFirst Fault before all q → r ≡ q
-first_one Fault one before [] r q f g = absurd f
-first_one Fault one before (a ∷ after) r q f g = elim f [
+first_one : {A : Type 0} (Fault : Faults A) (before all : List A) → AreSingle Fault before all → (r q : Refusal) → IsFirst Fault before all r → IsFirst Fault before all q → r ≡ q
+first_one Fault before [] one r q f g = absurd f
+first_one Fault before (a ∷ after) one r q f g = elim f [
   | inl x ↦ elim g [
-    | inl y ↦ one before after a r q x.stands y.stands (omega (arith, x.least q y.stands, y.least r x.stands))
+    | inl y ↦ one.0 r q x.stands y.stands (omega (arith, x.least q y.stands, y.least r x.stands))
     | inr y ↦ absurd (y.0 r x.stands)
   ]
   | inr x ↦ elim g [
     | inl y ↦ absurd (x.0 q y.stands)
-    | inr y ↦ first_one Fault one (a ∷ before) after r q x.1 y.1
+    | inr y ↦ first_one Fault (a ∷ before) after (one.1 x.0) r q x.1 y.1
   ]
 ]
 
@@ -181,9 +190,9 @@ first_not_none Fault before (a ∷ after) r f n = elim f [
 ]
 
 -- the first fault is the answer's refusal
-pub first_refused : {A B : Type 0} (Fault : Faults A) (one : AreOne Fault) (before all : List A) (answer : Result B Refusal) (r : Refusal) → IsAnswer Fault before all answer → IsFirst Fault before all r → answer ≡ Err r
-first_refused Fault one before all (Ok x) r h f = absurd (first_not_none Fault before all r f h)
-first_refused Fault one before all (Err q) r h f = ap Err (first_one Fault one before all q r h f)
+pub first_refused : {A B : Type 0} (Fault : Faults A) (before all : List A) (answer : Result B Refusal) (r : Refusal) → AreSingle Fault before all → IsAnswer Fault before all answer → IsFirst Fault before all r → answer ≡ Err r
+first_refused Fault before all (Ok x) r one h f = absurd (first_not_none Fault before all r f h)
+first_refused Fault before all (Err q) r one h f = ap Err (first_one Fault before all one q r h f)
 
 -- and where there is none there is an answer
 pub none_answered : {A B : Type 0} (Fault : Faults A) (before all : List A) (answer : Result B Refusal) → IsAnswer Fault before all answer → AreFaultless Fault before all → (x : B) × (answer ≡ Ok x)

@@ -2,4 +2,7 @@
 pub mod First
 pub mod LineFaults
 pub mod StatementFaults
+pub mod Opened
+pub mod Following
+pub mod TreeFaults
 pub mod Refusals

@@ -1,13 +1,17 @@
 -- Refusals: an answer of the reader is a refusal exactly where there is a fault, and then it is the first one.
 use Rattle.std.specs.Prelude.{◌≡◌, ℕ, List, [], Ok, Err}
+use Rattle.adj_tree.specs.Code.{Procedure}
 use Rattle.adj_tree.specs.declared.fault.Refusal.{Refusal}
 use Rattle.adj_text.specs.Limits.{Limits}
 use Rattle.adj_text.specs.Lined.{Lines, lines_of}
 use Rattle.adj_text.specs.Stated.{all_stated}
+use Rattle.adj_text.specs.declared.mode.Mode.{Mode}
 use Rattle.adj_text.specs.declared.stated.Stated.{Stated}
+use Rattle.adj_parse.specs.Trees.{trees_of}
 use Rattle.adj_refused.specs.First.{AreFaultless, IsFirst, IsAnswer}
 use Rattle.adj_refused.specs.LineFaults.{lines_in, LineFault}
 use Rattle.adj_refused.specs.StatementFaults.{StatementFault}
+use Rattle.adj_refused.specs.TreeFaults.{TreeFault}
 
 -- of statements as their lines give them
 abbrev pub StatementsAnswer : Type 0
@@ -28,3 +32,13 @@ LinesRefused = (limits : Limits) (bytes : List ℕ) (r : Refusal) → IsFirst (L
 
 abbrev pub LinesAccepted : Type 0
 LinesAccepted = (limits : Limits) (bytes : List ℕ) → AreFaultless (LineFault limits) [] (lines_in bytes) → (ss : List Lines) × (lines_of limits bytes ≡ Ok ss)
+
+-- of the statements of a text, as units in a mode
+abbrev pub TreesAnswer : Type 0
+TreesAnswer = (mode : Mode) (stated : List Stated) → IsAnswer (TreeFault mode) [] stated (trees_of mode stated)
+
+abbrev pub TreesRefused : Type 0
+TreesRefused = (mode : Mode) (stated : List Stated) (r : Refusal) → IsFirst (TreeFault mode) [] stated r → trees_of mode stated ≡ Err r
+
+abbrev pub TreesAccepted : Type 0
+TreesAccepted = (mode : Mode) (stated : List Stated) → AreFaultless (TreeFault mode) [] stated → (units : List Procedure) × (trees_of mode stated ≡ Ok units)

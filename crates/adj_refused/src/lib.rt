@@ -4,7 +4,9 @@
 //! a line, of a statement, or of a statement and those before it. The laws say that the reader's answers are by them. The crate stands on the reader of texts.
 #![tactic(auto)]
 
-ghost use Rattle.adj_refused.specs.Refusals.{LinesAnswer, LinesRefused, LinesAccepted, StatementsAnswer, StatementsRefused, StatementsAccepted};
+ghost use Rattle.adj_refused.specs.Refusals.{LinesAnswer, LinesRefused, LinesAccepted, StatementsAnswer, StatementsRefused, StatementsAccepted, TreesAnswer, TreesRefused, TreesAccepted};
+
+use adj_statement::statements_are_said;
 
 /// The lines of a text are refused exactly where one has a fault, and then by the first.
 pub fn lines_law()
@@ -19,3 +21,12 @@ pub fn statements_law()
     ensures refused { StatementsRefused }
     ensures accepted { StatementsAccepted }
 {}
+
+/// The statements of a text are refused as units exactly where one has a fault behind those before it, and then by the first.
+pub fn trees_law()
+    ensures answer { TreesAnswer }
+    ensures refused { TreesRefused }
+    ensures accepted { TreesAccepted }
+{
+    statements_are_said();
+}
