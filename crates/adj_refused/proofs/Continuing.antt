@@ -10,7 +10,7 @@ use Rattle.adj_parse.proofs.Machine.{kind_of}
 use Rattle.adj_refused.specs.Following as following
 use Rattle.adj_refused.specs.Following.{with_label, IsFree, Continues, IsOf, CanFollow}
 use Rattle.adj_refused.proofs.Bridged.{reads_accepted, accepted_reads}
-use Rattle.adj_refused.proofs.Leading.{leads_accepted, accepted_leads, leads_one, leads_more, leads_place, renewed_at, stands_kept, relabelled, relabels, same_kind, leads_kept, are_labelled, above, above_free, free_some, free_front}
+use Rattle.adj_refused.proofs.Leading.{leads_accepted, accepted_leads, leads_one, leads_more, leads_place, renewed_at, stands_kept, relabelled, relabels, same_kind, leads_kept, are_labelled, above, above_free, free_some, free_front, free_last}
 use Rattle.adj_refused.proofs.Places.{Inner, stands_at, next_at, accepted, Leads, finishes}
 
 -- statements that lead somewhere have a continuation
@@ -80,23 +80,26 @@ follows kind ss w h s =
     let stands = sym (same_class f.1 0 w) ∙ s in
     record { line = 0; form = f.0; of_kind = f.1; continues = continues (ss ++ at 0 0 f.0 ∷ []) (next_at 0 f.0 w) (leads_more None w ss 0 0 f.0 h stands) }
 
--- and what can follow stands
-pub follows_stands : (kind : Kind) (ss : List Statement) (w : Option Inner) → Leads None ss w → CanFollow kind ss → stands_at kind 0 w ≡ true
-follows_stands kind ss w h c =
-    let k = c.continues.label in
-    let all = ss ++ at c.line 0 c.form ∷ [] in
-    let free = free_front k ss (at c.line 0 c.form ∷ []) c.continues.free in
+-- a statement with which there is a continuation stands
+pub goes_on_stands : (ss : List Statement) (w : Option Inner) (n l : ℕ) (f : Form) → Leads None ss w → Continues (ss ++ at n l f ∷ []) → stands_at (kind_of f) l w ≡ true
+goes_on_stands ss w n l f h c =
+    let k = c.label in
+    let all = ss ++ at n l f ∷ [] in
+    let free = free_front k ss (at n l f ∷ []) c.free in
     let some = free_some k ss free in
-    let g : Form = relabelled k some c.form in
-    let cut : map (with_label k) all ++ c.continues.more ≡ map (with_label k) ss ++ (at c.line 0 g ∷ c.continues.more) =
-    ap (λ xs. xs ++ c.continues.more) (map-append (with_label k) ss (at c.line 0 c.form ∷ []) ∙ ap (λ s. map (with_label k) ss ++ s ∷ []) (relabels k some c.line 0 c.form)) ∙ append_assoc (map (with_label k) ss) (at c.line 0 g ∷ []) c.continues.more in
-    let whole : accepted None (map (with_label k) ss ++ (at c.line 0 g ∷ c.continues.more)) ≡ true = sym (ap (accepted None) cut) ∙ reads_accepted (map (with_label k) all ++ c.continues.more) c.continues.units c.continues.reads in
-    let front = accepted_leads None (map (with_label k) ss) (at c.line 0 g ∷ c.continues.more) whole in
+    let g : Form = relabelled k some f in
+    let cut : map (with_label k) all ++ c.more ≡ map (with_label k) ss ++ (at n l g ∷ c.more) =
+    ap (λ xs. xs ++ c.more) (map-append (with_label k) ss (at n l f ∷ []) ∙ ap (λ s. map (with_label k) ss ++ s ∷ []) (relabels k some n l f)) ∙ append_assoc (map (with_label k) ss) (at n l g ∷ []) c.more in
+    let whole : accepted None (map (with_label k) ss ++ (at n l g ∷ c.more)) ≡ true = sym (ap (accepted None) cut) ∙ reads_accepted (map (with_label k) all ++ c.more) c.units c.reads in
+    let front = accepted_leads None (map (with_label k) ss) (at n l g ∷ c.more) whole in
     let same : front.0 ≡ renewed_at k some w = leads_one None front.0 (renewed_at k some w) (map (with_label k) ss) front.1 (leads_kept k some None w ss free h) in
-    let stands : stands_at (kind_of g) 0 front.0 ≡ true = first _ _ front.2 in
-    let kept : stands_at (kind_of c.form) 0 w ≡ true = sym (stands_kept k some (kind_of c.form) 0 w (λ e. some (sym e))) ∙ ap (λ x. stands_at x 0 (renewed_at k some w)) (sym (same_kind k some c.form)) ∙ ap (stands_at (kind_of g) 0) (sym same) ∙ stands in
-    same_class c.of_kind 0 w ∙ kept
+    let stands : stands_at (kind_of g) l front.0 ≡ true = first _ _ front.2 in
+    sym (stands_kept k some (kind_of f) l w (free_last k ss n l f c.free)) ∙ ap (λ x. stands_at x l (renewed_at k some w)) (sym (same_kind k some f)) ∙ ap (stands_at (kind_of g) l) (sym same) ∙ stands
   where
     first : (a b : Bool) → (a && b) ≡ true → a ≡ true
     first true b h = refl
     first false b h = absurd cc
+
+-- and so does what can follow
+pub follows_stands : (kind : Kind) (ss : List Statement) (w : Option Inner) → Leads None ss w → CanFollow kind ss → stands_at kind 0 w ≡ true
+follows_stands kind ss w h c = same_class c.of_kind 0 w ∙ goes_on_stands ss w c.line 0 c.form h c.continues

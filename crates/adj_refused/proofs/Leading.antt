@@ -247,3 +247,7 @@ free_some k (at n l f ∷ ss) h = free_some k ss h.1
 pub free_front : (k : ℕ) (ss ts : List Statement) → IsFree k (ss ++ ts) → IsFree k ss
 free_front k [] ts h = free_some k ts h
 free_front k (at n l f ∷ ss) ts h = (h.0, free_front k ss ts h.1)
+
+pub free_last : (k : ℕ) (ss : List Statement) (n l : ℕ) (f : Form) → IsFree k (ss ++ at n l f ∷ []) → l ≢ k
+free_last k [] n l f h = h.0
+free_last k (at m j g ∷ ss) n l f h = free_last k ss n l f h.1

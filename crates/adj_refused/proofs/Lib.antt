@@ -8,3 +8,5 @@ pub mod Bridged
 pub mod Continuing
 pub mod TreeTests
 pub mod TreeWalk
+pub mod UpTo
+pub mod WholeText

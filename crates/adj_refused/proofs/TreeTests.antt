@@ -161,7 +161,7 @@ module _ (laws : Laws) (mode : Mode) (before : List Stated) (s : State) (t : Sta
   abbrev is_last : Bool
   is_last = (length after == 0) && not (is_end t.kind)
 
-  abbrev ill : Option Phrase → Bool
+  abbrev pub ill : Option Phrase → Bool
   ill o = is_none o || (misplaced_at t.kind w || is_last)
 
   abbrev big : Option Phrase → Bool
@@ -171,7 +171,7 @@ module _ (laws : Laws) (mode : Mode) (before : List Stated) (s : State) (t : Sta
   abbrev reached : Phrase → Option ℕ
   reached p = passed mode (ends_in before) (length before) (length (blocks_in w)) t.kind p
 
-  abbrev limit_test : Option Phrase → Option Refusal
+  abbrev pub limit_test : Option Phrase → Option Refusal
   limit_test None = None
   limit_test (Some p) = option_map (λ m. limit_at m t.line) (reached p)
 

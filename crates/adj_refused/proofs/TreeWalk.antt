@@ -155,7 +155,7 @@ more_done done (Some c) n l f h = refl
 
 module _ (laws : Laws) (mode : Mode) where
   -- what is known behind the next statement
-  next : (before : List Stated) (s : State) (t : Stated) (left : ℕ) (f : Form) → At mode before s → checked (bounds_of mode) s t left (said (bounds_of mode).depth (mark_of t.mark) t.kind (words t)) ≡ Ok f → At mode (t ∷ before) (behind s t f)
+  pub next : (before : List Stated) (s : State) (t : Stated) (left : ℕ) (f : Form) → At mode before s → checked (bounds_of mode) s t left (said (bounds_of mode).depth (mark_of t.mark) t.kind (words t)) ≡ Ok f → At mode (t ∷ before) (behind s t f)
   next before s t left f here h =
       let thr = through mode s t left f h in
       let reads = said_reads (bounds_of mode).depth (mark_of t.mark) t.kind (words t) f thr.says (led_by t thr.led) in
@@ -194,7 +194,7 @@ module _ (laws : Laws) (mode : Mode) where
       regroup before t ts (Ok f) after h = h
       regroup before t ts (Err e) after h = h
 
-  at_start : At mode [] (start mode)
+  pub at_start : At mode [] (start mode)
   at_start = record { statements = []; say = texts.ReadsAll.none; leads = refl; bare = tt; room = omega arith; done = refl }
 
 pub trees_answer : Laws → TreesAnswer

@@ -5,4 +5,6 @@ pub mod StatementFaults
 pub mod Opened
 pub mod Following
 pub mod TreeFaults
+pub mod Prefixes
+pub mod TextFaults
 pub mod Refusals

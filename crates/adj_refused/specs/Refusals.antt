@@ -10,6 +10,7 @@ use Rattle.adj_text.specs.declared.stated.Stated.{Stated}
 use Rattle.adj_parse.specs.Trees.{trees_of}
 use Rattle.adj_refused.specs.First.{AreFaultless, IsFirst, IsAnswer}
 use Rattle.adj_refused.specs.LineFaults.{lines_in, LineFault}
+use Rattle.adj_refused.specs.Prefixes.{ReadsUpTo}
 use Rattle.adj_refused.specs.StatementFaults.{StatementFault}
 use Rattle.adj_refused.specs.TreeFaults.{TreeFault}
 
@@ -42,3 +43,7 @@ TreesRefused = (mode : Mode) (stated : List Stated) (r : Refusal) → IsFirst (T
 
 abbrev pub TreesAccepted : Type 0
 TreesAccepted = (mode : Mode) (stated : List Stated) → AreFaultless (TreeFault mode) [] stated → (units : List Procedure) × (trees_of mode stated ≡ Ok units)
+
+-- and such a text reads up to the refused statement
+abbrev pub TreesReadUpTo : Type 0
+TreesReadUpTo = (mode : Mode) (stated : List Stated) (r : Refusal) → trees_of mode stated ≡ Err r → ReadsUpTo mode stated r

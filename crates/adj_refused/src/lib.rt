@@ -4,7 +4,8 @@
 //! a line, of a statement, or of a statement and those before it. The laws say that the reader's answers are by them. The crate stands on the reader of texts.
 #![tactic(auto)]
 
-ghost use Rattle.adj_refused.specs.Refusals.{LinesAnswer, LinesRefused, LinesAccepted, StatementsAnswer, StatementsRefused, StatementsAccepted, TreesAnswer, TreesRefused, TreesAccepted};
+ghost use Rattle.adj_refused.specs.Refusals.{LinesAnswer, LinesRefused, LinesAccepted, StatementsAnswer, StatementsRefused, StatementsAccepted, TreesAnswer, TreesRefused, TreesAccepted, TreesReadUpTo};
+ghost use Rattle.adj_refused.specs.TextFaults.{TextRefused, TextFirst, TextAccepted};
 
 use adj_statement::statements_are_said;
 
@@ -27,6 +28,16 @@ pub fn trees_law()
     ensures answer { TreesAnswer }
     ensures refused { TreesRefused }
     ensures accepted { TreesAccepted }
+    ensures up_to { TreesReadUpTo }
+{
+    statements_are_said();
+}
+
+/// A text is refused exactly where it has a fault, and then by the first in the order of passes, of places and of codes.
+pub fn text_law()
+    ensures refused { TextRefused }
+    ensures first { TextFirst }
+    ensures accepted { TextAccepted }
 {
     statements_are_said();
 }
