@@ -37,6 +37,7 @@ use Rattle.adj_planned.specs.Planned.{HasNoMarks, kernel_problem, planned_for, m
 use Rattle.adj_planned.proofs.Planned as planned
 use Rattle.adj_planned.proofs.Unmarked.{kernel_unmarked}
 use Rattle.adj_shape.specs.Accepted.{HasKernelShape}
+use Rattle.adj_spent.specs.Spent.{SpendsAtMost}
 use Rattle.adj_shape.proofs.Accepted.{accepted_has_shape}
 use Rattle.adj_tool.specs.Planned.{IsEmittedFor, AreExact, IsAdjointText, IsTextFor}
 use Rattle.adj_tool.specs.declared.task.Wanted.{Wanted}
@@ -127,6 +128,9 @@ module _ (r : Request) (ps : List Procedure) (h : Head) (sound : first_head_faul
             subst (λ n. HasKernelShape n ps r.head (flags_of r.vars there.unit.dummies) (flags_of r.outvars there.unit.dummies) back.reads.0) (sym x.are)
             (subst (λ v. HasKernelShape m ps r.head v (flags_of r.outvars there.unit.dummies) back.reads.0) vars_is (subst (λ v. HasKernelShape m ps r.head h.vars v back.reads.0) outvars_is
             (accepted_has_shape ps accepted (kernel_unmarked ps none) r.head there.unit there.found h.vars h.outvars x.activity x.liveness x.saved x.held x.analysed back.reads.0 same)));
+        spends = λ weight calls weighs few.
+            subst (λ n. SpendsAtMost n ps r.head weight calls back.reads.0) (sym x.are)
+            (planned.spends ps accepted none weight weighs r.head there.unit there.found calls few h.vars h.outvars x.activity x.liveness x.saved x.held x.analysed back.reads.0 same);
       }
     where
       vars_is : h.vars ≡ flags_of r.vars there.unit.dummies

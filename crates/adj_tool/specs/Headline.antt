@@ -12,6 +12,10 @@ use Rattle.adj_names.specs.Fault.{run_rules}
 use Rattle.adj_names.specs.Check.{IsSound}
 use Rattle.adj_names.specs.HeadFaults.{head_of}
 use Rattle.adj_reverse.specs.Marking.{ProgramMarks}
+use Rattle.adj_kernel.specs.Kernel.{EachUnit}
+use Rattle.adj_kernel.specs.Weights.{WeighsAtMost}
+use Rattle.adj_cost.specs.RunTheorem.{CallsAtMost}
+use Rattle.adj_spent.specs.Spent.{SpendsAtMost}
 use Rattle.adj_accepted.specs.Accepted.{IsAdjointOf}
 use Rattle.adj_planned.specs.Planned.{planned_for}
 use Rattle.adj_shape.specs.Accepted.{HasKernelShape}
@@ -54,6 +58,9 @@ pub record WritesAdjoint (r : Request) (bytes written : List ℕ) : Type 0 where
   pub is_adjoint : IsAdjointOf (λ line. false) marks source r.head (flags_of r.vars unit.dummies) (flags_of r.outvars unit.dummies) adjoint
   -- it has the units, and each of its adjoint units keeps, saves, pushes and sets what these marks say
   pub shape : HasKernelShape marks source r.head (flags_of r.vars unit.dummies) (flags_of r.outvars unit.dummies) adjoint
+  -- by what a statement of the source weighs at most, and by how many calls a chain from the head has at most, its run takes so many statements for
+  -- each one of the source's own run: within 40 * weight * (calls + 2), and two for each dummy of the head
+  pub spends : (weight calls : ℕ) → EachUnit (λ u. WeighsAtMost weight u.body) source → CallsAtMost source r.head calls → SpendsAtMost marks source r.head weight calls adjoint
 
 -- where the answer is done, the kernel fits, and its text reads as the program that is emitted by the marks of exact analyses
 pub record ReadsWritten (ps : List Procedure) (name : List ℕ) (h : Head) (text : List ℕ) : Type 0 where
