@@ -1,2 +1,3 @@
 -- The proofs on what is spent.
+pub mod Chains
 pub mod Spending

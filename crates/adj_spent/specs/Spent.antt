@@ -1,11 +1,12 @@
 -- What the emitted program takes for each statement of the program. (docs/THEOREMS.md, "What both sweeps cost")
-use Rattle.std.specs.Prelude.{◌≡◌, ℕ, ℤ, ◌+◌, ◌*◌, ◌≤◌, length, List, [], Bool, true, Some, None}
+use Rattle.std.specs.Prelude.{◌≡◌, ℕ, ℤ, suc, ◌+◌, ◌*◌, ◌≤◌, length, List, [], Bool, true, Some, None}
 use Rattle.adj_tree.specs.Code.{Procedure}
 use Rattle.adj_tree.specs.Lines.{unlined}
 use Rattle.adj_meaning.specs.Numbers.{words}
 use Rattle.adj_meaning.specs.Scene.{Done}
 use Rattle.adj_meaning.specs.Written.{find_unit}
 use Rattle.adj_meaning.specs.Units.{Slot, Output, fits, run_unit}
+use Rattle.adj_names.specs.Calls.{chain_from}
 use Rattle.adj_names.specs.HeadFaults.{unit_number}
 use Rattle.adj_transpose.specs.Adjoint.{AreAlike}
 use Rattle.adj_transpose.specs.MarkedAdjoint.{shadow_flags, joined_by}
@@ -44,3 +45,7 @@ EmittedSpends =
 -- a round bound
 abbrev pub BoundIsWithin : Type 0
 BoundIsWithin = (weight calls used dummies : ℕ) → most_spent weight calls used dummies ≤ 40 * weight * (calls + 2) * used + 2 * dummies
+
+-- In an accepted program no chain from the unit of a name has more units than are counted where the program is checked: so it has fewer calls.
+abbrev pub ChainsAreCounted : Type 0
+ChainsAreCounted = (ps : List Procedure) → IsAccepted ps → (name : List ℕ) (calls : ℕ) → chain_from ps name ≤ suc calls → CallsAtMost ps name calls
