@@ -1,0 +1,3 @@
+mod Unlimited
+mod Kept
+pub mod Rooms

@@ -1,0 +1,2 @@
+-- What the contract of this crate says of tapes with a room.
+pub mod Rooms
