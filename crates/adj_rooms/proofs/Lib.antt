@@ -1,3 +1,4 @@
 mod Unlimited
 mod Kept
 pub mod Rooms
+pub mod Adjoints

@@ -1,2 +1,3 @@
--- What the contract of this crate says of tapes with a room.
+-- What the contracts of this crate say of runs with limits.
 pub mod Rooms
+pub mod Adjoints
