@@ -1,0 +1,6 @@
+-- The law is a lemma.
+use Rattle.adj_rooms.proofs.Adjoints.{adjoints_balance}
+use Rattle.adj_rooms.proofs.balance_law.Goals as goal
+
+pub returns : goal.returns
+returns c = record { balance = adjoints_balance }
