@@ -9,7 +9,7 @@ use Rattle.adj_text.specs.Line.{cut_lines, without_cr, next_number}
 use Rattle.adj_text.proofs.Cutting.{cut_lines-nil}
 use Rattle.adj_data.specs.declared.data_error.DataError.{DataError}
 use Rattle.adj_data.specs.declared.data_error.DataError.TheVariants as error
-use Rattle.adj_data.specs.Words.{Item, items_with, items_of, words_in, is_name, name_of, is_number, number_in}
+use Rattle.adj_data.specs.Words.{Item, items_with, items_of, words_in, name_of, is_number, number_in}
 use Rattle.adj_data.specs.Entries.{Entry, numbers_before, entries_of, with_number, with_word, with_words}
 use Rattle.adj_data.specs.Faults.{Fault, or_else, stands_in, fault_at, number_code, name_code, word_code, words_fault, entries_fault}
 use Rattle.adj_data.specs.Given.{IsFirstFault}
@@ -17,13 +17,13 @@ use Rattle.adj_data.specs.Given.{IsFirstFault}
 -- ---- one word more
 
 -- a name behind words ends the numbers
-numbers-name : (ws : List Item) (w : Item) → is_name w.text ≡ true → numbers_before (ws ++ (w ∷ [])) ≡ numbers_before ws
+numbers-name : (ws : List Item) (w : Item) → w.begins ≡ true → numbers_before (ws ++ (w ∷ [])) ≡ numbers_before ws
 numbers-name [] w e = ap (λ b. if b then [] else number_in w.text ∷ []) e
-numbers-name (v ∷ ws) w e = ap (λ zs. if is_name v.text then [] else number_in v.text ∷ zs) (numbers-name ws w e)
+numbers-name (v ∷ ws) w e = ap (λ zs. if v.begins then [] else number_in v.text ∷ zs) (numbers-name ws w e)
 
-entries-name : (ws : List Item) (w : Item) → is_name w.text ≡ true → entries_of (ws ++ (w ∷ [])) ≡ entries_of ws ++ (record { name = name_of w.text; line = w.line; numbers = [] } ∷ [])
+entries-name : (ws : List Item) (w : Item) → w.begins ≡ true → entries_of (ws ++ (w ∷ [])) ≡ entries_of ws ++ (record { name = name_of w.text; line = w.line; numbers = [] } ∷ [])
 entries-name [] w e = ap (λ b. if b then record { name = name_of w.text; line = w.line; numbers = [] } ∷ [] else []) e
-entries-name (v ∷ ws) w e = go (entries-name ws w e) (is_name v.text)
+entries-name (v ∷ ws) w e = go (entries-name ws w e) (v.begins)
   where
     go : entries_of (ws ++ (w ∷ [])) ≡ entries_of ws ++ (record { name = name_of w.text; line = w.line; numbers = [] } ∷ []) → (b : Bool) → (if b then record { name = name_of v.text; line = v.line; numbers = numbers_before (ws ++ (w ∷ [])) } ∷ entries_of (ws ++ (w ∷ [])) else entries_of (ws ++ (w ∷ [])))
         ≡ (if b then record { name = name_of v.text; line = v.line; numbers = numbers_before ws } ∷ entries_of ws else entries_of ws) ++ (record { name = name_of w.text; line = w.line; numbers = [] } ∷ [])
@@ -35,11 +35,11 @@ abbrev after : Entry → List Item → List Entry
 after e ws = record e { numbers = e.numbers ++ numbers_before ws } ∷ entries_of ws
 
 -- a number goes on with the last of them
-after-number : (e : Entry) (ws : List Item) (w : Item) → is_name w.text ≡ false → after e (ws ++ (w ∷ [])) ≡ with_number (number_in w.text) (after e ws)
+after-number : (e : Entry) (ws : List Item) (w : Item) → w.begins ≡ false → after e (ws ++ (w ∷ [])) ≡ with_number (number_in w.text) (after e ws)
 after-number e [] w n =
     (λ i. record e { numbers = e.numbers ++ (if n i then [] else number_in w.text ∷ []) } ∷ (if n i then record { name = name_of w.text; line = w.line; numbers = [] } ∷ [] else []))
     ∙ ap (λ zs. record e { numbers = zs ++ (number_in w.text ∷ []) } ∷ []) (sym (append-nil e.numbers))
-after-number e (v ∷ ws) w n = go (λ f. after-number f ws w n) (is_name v.text)
+after-number e (v ∷ ws) w n = go (λ f. after-number f ws w n) (v.begins)
   where
     go : ((f : Entry) → after f (ws ++ (w ∷ [])) ≡ with_number (number_in w.text) (after f ws)) → (b : Bool) → (record e { numbers = e.numbers ++ (if b then [] else number_in v.text ∷ numbers_before (ws ++ (w ∷ []))) } ∷ (if b then record { name = name_of v.text; line = v.line; numbers = numbers_before (ws ++ (w ∷ [])) } ∷ entries_of (ws ++ (w ∷ [])) else entries_of (ws ++ (w ∷ []))))
         ≡ with_number (number_in w.text) (record e { numbers = e.numbers ++ (if b then [] else number_in v.text ∷ numbers_before ws) } ∷ (if b then record { name = name_of v.text; line = v.line; numbers = numbers_before ws } ∷ entries_of ws else entries_of ws))
@@ -49,9 +49,9 @@ after-number e (v ∷ ws) w n = go (λ f. after-number f ws w n) (is_name v.text
         ∙ ih (record e { numbers = e.numbers ++ (number_in v.text ∷ []) })
         ∙ ap (λ zs. with_number (number_in w.text) (record e { numbers = zs } ∷ entries_of ws)) (append_assoc e.numbers (number_in v.text ∷ []) (numbers_before ws))
 
-entries-number : (ws : List Item) (w : Item) → is_name w.text ≡ false → entries_of (ws ++ (w ∷ [])) ≡ with_number (number_in w.text) (entries_of ws)
+entries-number : (ws : List Item) (w : Item) → w.begins ≡ false → entries_of (ws ++ (w ∷ [])) ≡ with_number (number_in w.text) (entries_of ws)
 entries-number [] w n = ap (λ b. if b then record { name = name_of w.text; line = w.line; numbers = [] } ∷ [] else []) n
-entries-number (v ∷ ws) w n = go (entries-number ws w n) (is_name v.text)
+entries-number (v ∷ ws) w n = go (entries-number ws w n) (v.begins)
   where
     go : entries_of (ws ++ (w ∷ [])) ≡ with_number (number_in w.text) (entries_of ws) → (b : Bool) → (if b then record { name = name_of v.text; line = v.line; numbers = numbers_before (ws ++ (w ∷ [])) } ∷ entries_of (ws ++ (w ∷ [])) else entries_of (ws ++ (w ∷ [])))
         ≡ with_number (number_in w.text) (if b then record { name = name_of v.text; line = v.line; numbers = numbers_before ws } ∷ entries_of ws else entries_of ws)
@@ -60,9 +60,9 @@ entries-number (v ∷ ws) w n = go (entries-number ws w n) (is_name v.text)
 
 -- the entries of words and one more
 entries-more : (ws : List Item) (w : Item) → entries_of (ws ++ (w ∷ [])) ≡ with_word (entries_of ws) w
-entries-more ws w = go (is_name w.text) refl
+entries-more ws w = go (w.begins) refl
   where
-    go : (b : Bool) → is_name w.text ≡ b → entries_of (ws ++ (w ∷ [])) ≡ (if b then entries_of ws ++ (record { name = name_of w.text; line = w.line; numbers = [] } ∷ []) else with_number (number_in w.text) (entries_of ws))
+    go : (b : Bool) → w.begins ≡ b → entries_of (ws ++ (w ∷ [])) ≡ (if b then entries_of ws ++ (record { name = name_of w.text; line = w.line; numbers = [] } ∷ []) else with_number (number_in w.text) (entries_of ws))
     go true e = entries-name ws w e
     go false e = entries-number ws w e
 
@@ -104,17 +104,17 @@ fault_made dummies ws = faults-made dummies [] ws
 -- ---- line by line
 
 -- a line without a fault was read
-pub line_passed : (dummies : List (List ℕ)) (es new : List Entry) (n num : ℕ) (text line : List ℕ) (ls lines : List (List ℕ)) → lines ≡ text ∷ ls → num ≡ next_number n → line ≡ without_cr text
-    → entries_fault dummies es (items_with num true (words_in line)) ≡ None → new ≡ with_words es (items_with num true (words_in line))
-    → (entries_fault dummies new (items_of num ls) ≡ entries_fault dummies es (items_of n lines)) × (with_words new (items_of num ls) ≡ with_words es (items_of n lines))
-line_passed dummies es new n num text line ls lines cut number whole none made =
-    let this = items_with (next_number n) true (words_in (without_cr text)) in
-    let later = items_of (next_number n) ls in
-    let same : items_with num true (words_in line) ≡ this = (λ k. items_with (number k) true (words_in (whole k))) in
+pub line_passed : (marks : Bool) (dummies : List (List ℕ)) (es new : List Entry) (n num : ℕ) (text line : List ℕ) (ls lines : List (List ℕ)) → lines ≡ text ∷ ls → num ≡ next_number n → line ≡ without_cr text
+    → entries_fault dummies es (items_with marks num true (words_in line)) ≡ None → new ≡ with_words es (items_with marks num true (words_in line))
+    → (entries_fault dummies new (items_of marks num ls) ≡ entries_fault dummies es (items_of marks n lines)) × (with_words new (items_of marks num ls) ≡ with_words es (items_of marks n lines))
+line_passed marks dummies es new n num text line ls lines cut number whole none made =
+    let this = items_with marks (next_number n) true (words_in (without_cr text)) in
+    let later = items_of marks (next_number n) ls in
+    let same : items_with marks num true (words_in line) ≡ this = (λ k. items_with marks (number k) true (words_in (whole k))) in
     let moved : new ≡ with_words es this = made ∙ ap (with_words es) same in (
-      (λ k. entries_fault dummies (moved k) (items_of (number k) ls)) ∙ ap (λ f. or_else f (entries_fault dummies (with_words es this) later)) (sym none ∙ ap (entries_fault dummies es) same)
-          ∙ sym (fault-append dummies es this later) ∙ ap (λ z. entries_fault dummies es (items_of n z)) (sym cut),
-      (λ k. with_words (moved k) (items_of (number k) ls)) ∙ sym (with-append es this later) ∙ ap (λ z. with_words es (items_of n z)) (sym cut),
+      (λ k. entries_fault dummies (moved k) (items_of marks (number k) ls)) ∙ ap (λ f. or_else f (entries_fault dummies (with_words es this) later)) (sym none ∙ ap (entries_fault dummies es) same)
+          ∙ sym (fault-append dummies es this later) ∙ ap (λ z. entries_fault dummies es (items_of marks n z)) (sym cut),
+      (λ k. with_words (moved k) (items_of marks (number k) ls)) ∙ sym (with-append es this later) ∙ ap (λ z. with_words es (items_of marks n z)) (sym cut),
     )
 
 -- the first of two faults is first
@@ -123,20 +123,20 @@ fault_first (error.Data c n) f other h = ap (λ g. or_else g other) h
 fault_first error.Memory f other h = tt
 
 -- the fault of a line is that of the lines from it on
-pub line_fault : (e : DataError) (dummies : List (List ℕ)) (es : List Entry) (n num : ℕ) (text line : List ℕ) (ls lines : List (List ℕ)) → lines ≡ text ∷ ls → num ≡ next_number n → line ≡ without_cr text
-    → IsFirstFault e (entries_fault dummies es (items_with num true (words_in line))) → IsFirstFault e (entries_fault dummies es (items_of n lines))
-line_fault e dummies es n num text line ls lines cut number whole h =
-    let this = items_with (next_number n) true (words_in (without_cr text)) in
-    let later = items_of (next_number n) ls in
-    let same : items_with num true (words_in line) ≡ this = (λ k. items_with (number k) true (words_in (whole k))) in
+pub line_fault : (marks : Bool) (e : DataError) (dummies : List (List ℕ)) (es : List Entry) (n num : ℕ) (text line : List ℕ) (ls lines : List (List ℕ)) → lines ≡ text ∷ ls → num ≡ next_number n → line ≡ without_cr text
+    → IsFirstFault e (entries_fault dummies es (items_with marks num true (words_in line))) → IsFirstFault e (entries_fault dummies es (items_of marks n lines))
+line_fault marks e dummies es n num text line ls lines cut number whole h =
+    let this = items_with marks (next_number n) true (words_in (without_cr text)) in
+    let later = items_of marks (next_number n) ls in
+    let same : items_with marks num true (words_in line) ≡ this = (λ k. items_with marks (number k) true (words_in (whole k))) in
     let here = subst (λ ws. IsFirstFault e (entries_fault dummies es ws)) same h in
-    let path : or_else (entries_fault dummies es this) (entries_fault dummies (with_words es this) later) ≡ entries_fault dummies es (items_of n lines) = sym (fault-append dummies es this later) ∙ ap (λ z. entries_fault dummies es (items_of n z)) (sym cut) in
+    let path : or_else (entries_fault dummies es this) (entries_fault dummies (with_words es this) later) ≡ entries_fault dummies es (items_of marks n lines) = sym (fault-append dummies es this later) ∙ ap (λ z. entries_fault dummies es (items_of marks n z)) (sym cut) in
     subst (IsFirstFault e) path (fault_first e (entries_fault dummies es this) (entries_fault dummies (with_words es this) later) here)
 
 -- no line, no word
-pub nothing_left : (n : ℕ) (l : List ℕ) → length l ≡ 0 → items_of n (cut_lines l) ≡ []
-nothing_left n [] h = ap (items_of n) cut_lines-nil
-nothing_left n (c ∷ cs) h = absurd (omega arith)
+pub nothing_left : (marks : Bool) (n : ℕ) (l : List ℕ) → length l ≡ 0 → items_of marks n (cut_lines l) ≡ []
+nothing_left marks n [] h = ap (items_of marks n) cut_lines-nil
+nothing_left marks n (c ∷ cs) h = absurd (omega arith)
 
 -- ---- the same names
 
@@ -147,7 +147,7 @@ name_code_same d f h es x = ap (λ b. if not b then Some 2 else (if stands_in x 
 pub faults_same : (d f : List (List ℕ)) → ((x : List ℕ) → stands_in x d ≡ stands_in x f) → (es : List Entry) (ws : List Item) → entries_fault d es ws ≡ entries_fault f es ws
 faults_same d f h es [] = refl
 faults_same d f h es (w ∷ ws) =
-    let code : word_code d es w ≡ word_code f es w = (λ k. if is_name w.text then (if w.leads then name_code_same d f h es (name_of w.text) k else Some 1) else (if is_number w.text then number_code es w.text else Some 1)) in
+    let code : word_code d es w ≡ word_code f es w = (λ k. if w.begins then (if w.leads then name_code_same d f h es (name_of w.text) k else Some 1) else (if is_number w.text then number_code es w.text else Some 1)) in
     (λ k. or_else (fault_at w.line (code k)) (faults_same d f h (with_word es w) ws k))
 
 or_none : (b : Bool) → (b || false) ≡ b

@@ -14,7 +14,8 @@ use Rattle.adj_meaning.proofs.Booleans.{and_true}
 use Rattle.adj_data.specs.Entries.{Entry, entries_of, entry_named}
 use Rattle.adj_data.specs.Faults.{Fault, or_else, stands_in, fault_at, only_number, extent_given, extents_given, with_first, entry_code, given_fault, dummy_fault, dummies_fault, words_of, words_fault}
 use Rattle.adj_data.specs.Given.{slot_in, slot_given}
-use Rattle.adj_data.specs.Fitting.{extents_in, IsSize, IsSized, DataFit}
+use Rattle.adj_data.specs.Marked.{titles_of, entries_check}
+use Rattle.adj_data.specs.Fitting.{extents_in, IsSize, IsSized, DataFit, CheckDataFit}
 
 -- where neither of two is a fault
 neither : (f g : Option Fault) → or_else f g ≡ None → (f ≡ None) × (g ≡ None)
@@ -176,6 +177,13 @@ module _ (es : List Entry) (u : Procedure) (sized : IsSized u) (sound : dummies_
 
 pub data_fit : DataFit
 data_fit line bytes u sized h =
-    let ws = words_of line bytes in
+    let ws = words_of false line bytes in
     let both = neither (words_fault u.dummies [] ws) (dummies_fault (entries_of ws) u u.dummies) h in
     dummies_fit (entries_of ws) u sized both.1 u.dummies both.1
+
+pub check_fit : CheckDataFit
+check_fit line bytes u vars outvars sized h =
+    let ws = words_of true line bytes in
+    let first = neither (words_fault (titles_of u vars outvars) [] ws) (entries_check (entries_of ws) u vars outvars) h in
+    let second = neither (dummies_fault (entries_of ws) u u.dummies) _ first.1 in
+    dummies_fit (entries_of ws) u sized second.0 u.dummies second.0

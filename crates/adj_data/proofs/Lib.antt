@@ -5,4 +5,6 @@ mod Found
 mod Elements
 mod Declarations
 mod Extents
+mod Marking
+mod Checked
 pub mod Fitted

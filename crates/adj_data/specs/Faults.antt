@@ -1,11 +1,11 @@
 -- Faults of data: each has a code and a line. (docs/DATA.md, "Faults")
-use Rattle.std.specs.Prelude.{ℕ, ℤ, pos, negsuc, int_le, Bool, not, ◌&&◌, List, [], ◌∷◌, ◌++◌, map, length, Option, Some, None, if◌then◌else◌}
+use Rattle.std.specs.Prelude.{ℕ, ℤ, pos, negsuc, int_le, Bool, false, not, ◌&&◌, List, [], ◌∷◌, ◌++◌, map, length, Option, Some, None, if◌then◌else◌}
 use Rattle.std.specs.List.{list_any}
 use Rattle.std.specs.Ordering.{int_eq}
 use Rattle.adj_tree.specs.Code.{plain, name_eq, Extent, fixed, given, Procedure}
 use Rattle.adj_text.specs.Line.{cut_lines}
 use Rattle.adj_meaning.specs.Units.{declared, are_extents, elements}
-use Rattle.adj_data.specs.Words.{Item, items_of, is_name, name_of, is_number, number_in}
+use Rattle.adj_data.specs.Words.{Item, items_of, name_of, is_number, number_in}
 use Rattle.adj_data.specs.Entries.{Entry, entries_of, entry_named, with_word}
 
 -- a code, and the line where the fault stands, which is 0 where something isn't there
@@ -40,7 +40,7 @@ name_code dummies before x =
 -- what is wrong with a word, where the words before it made some entries: 1 for a name that doesn't lead its line, and for what is neither a name nor a number
 abbrev pub word_code : List (List ℕ) → List Entry → Item → Option ℕ
 word_code dummies before w =
-    if is_name w.text then (if w.leads then name_code dummies before (name_of w.text) else Some 1)
+    if w.begins then (if w.leads then name_code dummies before (name_of w.text) else Some 1)
     else (if is_number w.text then number_code before w.text else Some 1)
 
 abbrev pub fault_at : ℕ → Option ℕ → Option Fault
@@ -105,9 +105,9 @@ dummies_fault es u (d ∷ ds) = or_else (dummy_fault es u d) (dummies_fault es u
 -- ---- the first fault
 
 -- the words of data that stand behind the line of a number
-abbrev pub words_of : ℕ → List ℕ → List Item
-words_of line bytes = items_of line (cut_lines bytes)
+abbrev pub words_of : Bool → ℕ → List ℕ → List Item
+words_of marks line bytes = items_of marks line (cut_lines bytes)
 
 -- the first fault of the data of a unit: of a word, in the order of the text, and then of a dummy
 abbrev pub data_fault : ℕ → List ℕ → Procedure → Option Fault
-data_fault line bytes u = or_else (words_fault u.dummies [] (words_of line bytes)) (dummies_fault (entries_of (words_of line bytes)) u u.dummies)
+data_fault line bytes u = or_else (words_fault u.dummies [] (words_of false line bytes)) (dummies_fault (entries_of (words_of false line bytes)) u u.dummies)

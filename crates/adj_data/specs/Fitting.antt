@@ -1,11 +1,12 @@
 -- Fitting: data without a fault are an input that fits. (docs/DATA.md, "Entries")
-use Rattle.std.specs.Prelude.{◌≡◌, ℕ, ◌≤◌, List, [], length, None, true}
+use Rattle.std.specs.Prelude.{◌≡◌, ℕ, ◌≤◌, Bool, List, [], length, None, true}
 use Rattle.std.specs.List.{All}
 use Rattle.adj_tree.specs.Code.{plain, Extent, fixed, given, Procedure}
 use Rattle.adj_meaning.specs.Numbers.{words}
 use Rattle.adj_meaning.specs.Units.{declared, fits}
 use Rattle.adj_data.specs.Faults.{stands_in, data_fault}
 use Rattle.adj_data.specs.Given.{input_given}
+use Rattle.adj_data.specs.Marked.{check_fault, inputs_given}
 
 -- the extents that a unit declares for a variable
 abbrev pub extents_in : Procedure → List ℕ → List Extent
@@ -24,3 +25,7 @@ pub record IsSized (u : Procedure) : Type 0 where
 -- the input that data without a fault are fits the unit
 abbrev pub DataFit : Type 0
 DataFit = (line : ℕ) (bytes : List ℕ) (u : Procedure) → IsSized u → data_fault line bytes u ≡ None → fits words u (input_given line bytes u) ≡ true
+
+-- and so are the inputs among the data of `check`
+abbrev pub CheckDataFit : Type 0
+CheckDataFit = (line : ℕ) (bytes : List ℕ) (u : Procedure) (vars outvars : List Bool) → IsSized u → check_fault line bytes u vars outvars ≡ None → fits words u (inputs_given line bytes u) ≡ true

@@ -1,5 +1,5 @@
 -- Given: the input that data without a fault are. (docs/DATA.md, "Entries")
-use Rattle.std.specs.Prelude.{◌≡◌, ℕ, ℤ, List, [], map, Option, Some}
+use Rattle.std.specs.Prelude.{◌≡◌, ℕ, ℤ, false, List, [], map, Option, Some}
 use Rattle.adj_tree.specs.Code.{plain, Procedure}
 use Rattle.adj_tree.specs.declared.value.Slot.{Slot as CodeSlot}
 use Rattle.adj_meaning.specs.Store.{scalar}
@@ -20,7 +20,7 @@ slot_given es u d = slot_in (entry_named d es) (extents_given es (declared u.dec
 
 -- a slot for each dummy
 abbrev pub input_given : ℕ → List ℕ → Procedure → List (Slot ℤ)
-input_given line bytes u = map (slot_given (entries_of (words_of line bytes)) u) u.dummies
+input_given line bytes u = map (slot_given (entries_of (words_of false line bytes)) u) u.dummies
 
 -- what an entry of the code says
 abbrev pub entry_seen : CodeEntry → Entry

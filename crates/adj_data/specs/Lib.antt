@@ -1,7 +1,9 @@
 -- What the contracts of this crate say of data.
 pub mod Words
+pub mod Titles
 pub mod Entries
 pub mod Faults
 pub mod Given
 pub mod Fitting
 pub mod Printed
+pub mod Marked

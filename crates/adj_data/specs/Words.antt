@@ -1,14 +1,15 @@
 -- Words of data: what stands between blanks, line by line. (docs/DATA.md, "Lines")
-use Rattle.std.specs.Prelude.{ℕ, ◌==◌, ℤ, pos, neg_ℤ, Bool, true, false, not, ◌&&◌, ◌||◌, List, [], ◌∷◌, ◌++◌, map, filter, length, if◌then◌else◌}
+use Rattle.std.specs.Prelude.{ℕ, ◌-◌, ◌==◌, ℤ, pos, neg_ℤ, Bool, true, false, not, ◌&&◌, ◌||◌, List, [], ◌∷◌, ◌++◌, map, filter, length, take, drop, if◌then◌else◌}
 use Rattle.std.specs.List.{list_all}
 use Rattle.std.specs.Char.{is_ascii_alphabetic, is_ascii_alphanumeric}
 use Rattle.adj_text.specs.Char.{minus, underscore, is_digit, is_blank, upper, number_of}
 use Rattle.adj_text.specs.Line.{in_front, without_cr, next_number}
 
--- one word with its line; `leads` where it is the first of that line
+-- one word with its line; `leads` where it is the first of that line, and `begins` where it is what begins an entry
 pub record Item : Type 0 where
   pub line : ℕ
   pub leads : Bool
+  pub begins : Bool
   pub text : List ℕ
 
 -- a line is cut at each blank
@@ -23,16 +24,6 @@ has_some w = not (length w == 0)
 abbrev pub words_in : List ℕ → List (List ℕ)
 words_in l = filter has_some (pieces l)
 
--- words as those of a line, of which the first may lead
-abbrev pub items_with : ℕ → Bool → List (List ℕ) → List Item
-items_with line leads [] = []
-items_with line leads (w ∷ ws) = record { line = line; leads = leads; text = w } ∷ items_with line false ws
-
--- the words of some lines, behind the line of a number
-abbrev pub items_of : ℕ → List (List ℕ) → List Item
-items_of n [] = []
-items_of n (l ∷ ls) = items_with (next_number n) true (words_in (without_cr l)) ++ items_of (next_number n) ls
-
 -- ---- names
 
 -- a letter, and then letters, digits and `_`
@@ -40,9 +31,34 @@ abbrev pub is_name : List ℕ → Bool
 is_name [] = false
 is_name (c ∷ cs) = is_ascii_alphabetic c && list_all (λ d. is_ascii_alphanumeric d || d == underscore) cs
 
+-- `.D` or `.B`, in either case
+abbrev pub is_mark : List ℕ → Bool
+is_mark (p ∷ c ∷ []) = (p == 46) && ((upper c == 68) || (upper c == 66))
+is_mark _ = false
+
+-- a name with a mark behind it
+abbrev pub is_marked : List ℕ → Bool
+is_marked w = is_name (take (length w - 2) w) && is_mark (drop (length w - 2) w)
+
+-- what begins an entry: a name, and where marks are taken one with a mark, too
+abbrev pub is_title : Bool → List ℕ → Bool
+is_title marks w = is_name w || (marks && is_marked w)
+
 -- in capitals
 abbrev pub name_of : List ℕ → List ℕ
 name_of w = map upper w
+
+-- ---- lines
+
+-- words as those of a line, of which the first may lead
+abbrev pub items_with : Bool → ℕ → Bool → List (List ℕ) → List Item
+items_with marks line leads [] = []
+items_with marks line leads (w ∷ ws) = record { line = line; leads = leads; begins = is_title marks w; text = w } ∷ items_with marks line false ws
+
+-- the words of some lines, behind the line of a number
+abbrev pub items_of : Bool → ℕ → List (List ℕ) → List Item
+items_of marks n [] = []
+items_of marks n (l ∷ ls) = items_with marks (next_number n) true (words_in (without_cr l)) ++ items_of marks (next_number n) ls
 
 -- ---- numbers
 

@@ -2,15 +2,16 @@
 
 ghost use Rattle.std.specs.Prelude.{◌≡◌, List, ℕ, [], ◌∷◌, ◌++◌, true, map, None, Some, IfErr, IfOk, OnOk, MatchOption};
 ghost use Rattle.adj_text.specs.Line.{cut_lines};
-ghost use Rattle.adj_data.specs.Words.{Item, words_in, items_with, items_of, name_of as capitals, number_in};
+ghost use Rattle.adj_data.specs.Words.{Item, words_in, items_with, items_of, is_title, name_of as capitals, number_in};
 ghost use Rattle.adj_data.specs.Entries.{Entry as AnEntry, entry_named, with_number, with_word, with_words};
 ghost use Rattle.adj_data.specs.Faults.{number_code, name_code, word_code, fault_at, entries_fault};
 ghost use Rattle.adj_data.specs.Given.{IsFirstFault, entry_seen};
+ghost use Rattle.adj_data.specs.Titles.{takes_marks};
 
 use crate::data_error::DataError;
 use crate::name_set::NameSet;
 use crate::numbers::number_in;
-use crate::words::{is_name, is_number, name_of, next_word};
+use crate::words::{Titles, is_number, is_title, name_of, next_word};
 use adj_fixed::{next_number, split_line, without_cr};
 use adj_tree::Memory;
 use std::alloc::Global;
@@ -22,6 +23,13 @@ pub(crate) struct Entry {
     pub(crate) name: Vec<u8>,
     pub(crate) line: u32,
     pub(crate) numbers: Vec<i64>,
+}
+
+/// What entries are read by: the names that they may have, and which words begin them.
+#[derive(Drop)]
+pub(crate) struct Reading {
+    pub(crate) names: NameSet,
+    pub(crate) titles: Titles,
 }
 
 /// The entries that were read so far, in order, which are found by their names.
@@ -112,18 +120,18 @@ impl Entries {
     fn read_word(
         &mut self,
         alloc: Global,
-        dummies: &NameSet,
+        reading: &Reading,
         word: &[u8],
         leads: bool,
         line: u32,
     ) -> Result<(), DataError>
-        ensures ok { OnOk result (word_code dummies.now self.old (record { line = line; leads = leads; text = word.now }) ≡ None) }
-        ensures entries { OnOk result (self.new ≡ with_word self.old (record { line = line; leads = leads; text = word.now })) }
-        ensures fault { IfErr result (λ e. IsFirstFault e (fault_at line (word_code dummies.now self.old (record { line = line; leads = leads; text = word.now })))) }
+        ensures ok { OnOk result (word_code reading.now.names self.old (record { line = line; leads = leads; begins = is_title (takes_marks reading.now.titles) word.now; text = word.now }) ≡ None) }
+        ensures entries { OnOk result (self.new ≡ with_word self.old (record { line = line; leads = leads; begins = is_title (takes_marks reading.now.titles) word.now; text = word.now })) }
+        ensures fault { IfErr result (λ e. IsFirstFault e (fault_at line (word_code reading.now.names self.old (record { line = line; leads = leads; begins = is_title (takes_marks reading.now.titles) word.now; text = word.now })))) }
     {
-        if is_name(word) {
+        if is_title(reading.titles, word) {
             if leads {
-                self.begin(alloc, dummies, word, line)
+                self.begin(alloc, &reading.names, word, line)
             } else {
                 Err(DataError::Data(1, line))
             }
@@ -138,18 +146,18 @@ impl Entries {
     fn read_line(
         &mut self,
         alloc: Global,
-        dummies: &NameSet,
+        reading: &Reading,
         line: &[u8],
         number: u32,
     ) -> Result<(), DataError>
-        ensures ok { OnOk result (entries_fault dummies.now self.old (items_with number true (words_in line.now)) ≡ None) }
-        ensures entries { OnOk result (self.new ≡ with_words self.old (items_with number true (words_in line.now))) }
-        ensures fault { IfErr result (λ e. IsFirstFault e (entries_fault dummies.now self.old (items_with number true (words_in line.now)))) }
+        ensures ok { OnOk result (entries_fault reading.now.names self.old (items_with (takes_marks reading.now.titles) number true (words_in line.now)) ≡ None) }
+        ensures entries { OnOk result (self.new ≡ with_words self.old (items_with (takes_marks reading.now.titles) number true (words_in line.now))) }
+        ensures fault { IfErr result (λ e. IsFirstFault e (entries_fault reading.now.names self.old (items_with (takes_marks reading.now.titles) number true (words_in line.now)))) }
     {
         let mut rest = line;
         let mut leads = true;
         while let Some((word, behind)) = next_word(rest) {
-            self.read_word(alloc, dummies, word, leads, number)?;
+            self.read_word(alloc, reading, word, leads, number)?;
             leads = false;
             rest = behind;
         }
@@ -162,11 +170,11 @@ pub(crate) fn read(
     alloc: Global,
     bytes: &[u8],
     line: u32,
-    dummies: &NameSet,
+    reading: &Reading,
 ) -> Result<Entries, DataError>
-    ensures ok { OnOk result (entries_fault dummies.now [] (items_of line (cut_lines bytes.now)) ≡ None) }
-    ensures entries { IfOk result (λ es. es ≡ with_words [] (items_of line (cut_lines bytes.now))) }
-    ensures fault { IfErr result (λ e. IsFirstFault e (entries_fault dummies.now [] (items_of line (cut_lines bytes.now)))) }
+    ensures ok { OnOk result (entries_fault reading.now.names [] (items_of (takes_marks reading.now.titles) line (cut_lines bytes.now)) ≡ None) }
+    ensures entries { IfOk result (λ es. es ≡ with_words [] (items_of (takes_marks reading.now.titles) line (cut_lines bytes.now))) }
+    ensures fault { IfErr result (λ e. IsFirstFault e (entries_fault reading.now.names [] (items_of (takes_marks reading.now.titles) line (cut_lines bytes.now)))) }
 {
     let mut entries = Entries::new(alloc);
     let mut rest = bytes;
@@ -174,7 +182,7 @@ pub(crate) fn read(
     while !rest.is_empty() {
         let (text, behind) = split_line(rest);
         number = next_number(number);
-        entries.read_line(alloc, dummies, without_cr(text), number)?;
+        entries.read_line(alloc, reading, without_cr(text), number)?;
         rest = behind;
     }
     Ok(entries)

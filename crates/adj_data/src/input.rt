@@ -7,14 +7,15 @@ ghost use Rattle.adj_data.specs.Given.{IsFirstFault, slot_given, input_given, sl
 
 use crate::data_error::DataError;
 use crate::declared::{extents, first_declarations};
-use crate::entries::{Entries, read};
+use crate::entries::{Entries, Reading, read};
 use crate::name_set::NameSet;
 use crate::slots::slot_given;
+use crate::words::Titles;
 use adj_tree::{Items, Memory, NameList, Unit, Values};
 use std::alloc::Global;
 
-// The names as a set.
-fn set_of(alloc: Global, names: &NameList) -> Result<NameSet, Memory>
+/// The names as a set.
+pub(crate) fn set_of(alloc: Global, names: &NameList) -> Result<NameSet, Memory>
     ensures same { IfOk result (λ set. (x : List ℕ) → stands_in x set ≡ stands_in x names.now) }
 {
     let mut set = NameSet::new(alloc);
@@ -24,8 +25,12 @@ fn set_of(alloc: Global, names: &NameList) -> Result<NameSet, Memory>
     Ok(set)
 }
 
-// A slot for each dummy.
-fn slots_given(alloc: Global, entries: &Entries, unit: &Unit) -> Result<Values, DataError>
+/// A slot for each dummy.
+pub(crate) fn slots_given(
+    alloc: Global,
+    entries: &Entries,
+    unit: &Unit,
+) -> Result<Values, DataError>
     ensures ok { OnOk result (dummies_fault entries.now (procedure_of unit.now) unit.now.dummies ≡ None) }
     ensures slots { IfOk result (λ vs. map slot_seen vs ≡ map (slot_given entries.now (procedure_of unit.now)) unit.now.dummies) }
     ensures fault { IfErr result (λ e. IsFirstFault e (dummies_fault entries.now (procedure_of unit.now) unit.now.dummies)) }
@@ -51,6 +56,10 @@ pub fn values(alloc: Global, bytes: &[u8], line: u32, unit: &Unit) -> Result<Val
     ensures fault { IfErr result (λ e. IsFirstFault e (data_fault line bytes.now (procedure_of unit.now))) }
 {
     let dummies = set_of(alloc, &unit.dummies)?;
-    let entries = read(alloc, bytes, line, &dummies)?;
+    let reading = Reading {
+        names: dummies,
+        titles: Titles::Names,
+    };
+    let entries = read(alloc, bytes, line, &reading)?;
     slots_given(alloc, &entries, unit)
 }

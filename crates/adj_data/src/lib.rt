@@ -5,18 +5,22 @@
 //! The layer above uses: the values are the input that is given, which fits the unit (`data_fit`), and a fault is the first one.
 #![tactic(auto)]
 
+mod checking;
 mod data_error;
 mod declared;
 mod entries;
 mod input;
 mod laws;
+mod marks;
 mod name_set;
 mod numbers;
 mod print;
 mod slots;
 mod words;
 
+pub use checking::check_values;
 pub use data_error::DataError;
 pub use input::values;
 pub use laws::data_fit;
-pub use print::print_values;
+pub use marks::zeros_like;
+pub use print::{print_values, push_numbers};

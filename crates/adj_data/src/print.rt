@@ -8,8 +8,8 @@ use adj_tree::{Memory, NameList, Values};
 use itoa::Buffer;
 use std::alloc::Global;
 
-// Adds numbers, each behind a blank.
-fn push_numbers(out: &mut Vec<u8>, numbers: &[i64]) -> Result<(), Memory>
+/// Adds numbers, each behind a blank.
+pub fn push_numbers(out: &mut Vec<u8>, numbers: &[i64]) -> Result<(), Memory>
     ensures text { OnOk result (out.new.items ≡ out.old.items ++ numbers_text numbers.now) }
 {
     for number in numbers {

@@ -4,7 +4,8 @@ ghost use Rattle.std.specs.Prelude.{◌≡◌, ◌∷◌, [], ◌<◌, ◌≤◌
 ghost use Rattle.std.specs.Char.{is_ascii_alphanumeric};
 ghost use Rattle.std.specs.List.{list_all, prefix_len};
 ghost use Rattle.adj_text.specs.Char.{underscore, is_digit, is_blank};
-ghost use Rattle.adj_data.specs.Words.{words_in, is_name, name_of, are_digits, is_number};
+ghost use Rattle.adj_data.specs.Titles.{takes_marks};
+ghost use Rattle.adj_data.specs.Words.{words_in, is_name, is_mark, is_marked, is_title, name_of, are_digits, is_number};
 
 use adj_tree::Memory;
 use std::alloc::Global;
@@ -48,6 +49,15 @@ fn go_on_a_name(chars: &[u8]) -> bool
         .all(|c| c.is_ascii_alphanumeric() || *c == b'_')
 }
 
+/// Which words begin entries.
+#[derive(Clone, Copy, Debug, PartialEq, Eq)]
+pub enum Titles {
+    /// Names.
+    Names,
+    /// Names, and names with `.D` or `.B` behind them.
+    NamesAndMarks,
+}
+
 /// Whether a word is a name.
 pub(crate) fn is_name(word: &[u8]) -> bool
     ensures { result ≡ is_name word.now }
@@ -64,6 +74,37 @@ pub(crate) fn name_of(alloc: Global, word: &[u8]) -> Result<Vec<u8>, Memory>
 {
     let name = word.iter().map(|c| c.to_ascii_uppercase()).collect(alloc)?;
     Ok(name)
+}
+
+// Whether that is `.D` or `.B`.
+fn is_mark(word: &[u8]) -> bool
+    ensures { result ≡ is_mark word.now }
+{
+    match word {
+        [point, kind] => {
+            let kind = kind.to_ascii_uppercase();
+            *point == b'.' && (kind == b'D' || kind == b'B')
+        }
+        _ => false,
+    }
+}
+
+// Whether a word is a name with a mark behind it.
+fn is_marked(word: &[u8]) -> bool
+    ensures { result ≡ is_marked word.now }
+{
+    let end = word.len().saturating_sub(2);
+    is_name(&word[..end]) && is_mark(&word[end..])
+}
+
+/// Whether a word begins an entry.
+pub(crate) fn is_title(titles: Titles, word: &[u8]) -> bool
+    ensures { result ≡ is_title (takes_marks titles) word.now }
+{
+    match titles {
+        Titles::Names => is_name(word),
+        Titles::NamesAndMarks => is_name(word) || is_marked(word),
+    }
 }
 
 fn go_on_a_number(chars: &[u8]) -> bool

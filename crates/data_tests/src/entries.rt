@@ -19,7 +19,7 @@ fn decl(alloc: Global, text: &str, extents: Vec<Extent>) -> Result<Decl, Memory>
 }
 
 // SUBROUTINE P(A,N,K) with INTEGER*8 A(N,2),N,K.
-fn unit(alloc: Global) -> Result<Unit, Memory> {
+pub(crate) fn unit(alloc: Global) -> Result<Unit, Memory> {
     let extents = vec![in alloc; Extent::Dummy(name(alloc, "N")?), Extent::Lit(2)]?;
     let decls = vec![in alloc;
         decl(alloc, "A", extents)?,

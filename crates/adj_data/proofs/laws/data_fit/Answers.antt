@@ -1,5 +1,5 @@
-use Rattle.adj_data.proofs.Fitted.{data_fit}
+use Rattle.adj_data.proofs.Fitted.{data_fit, check_fit}
 use Rattle.adj_data.proofs.laws.data_fit.Goals as goal
 
 pub returns : goal.returns
-returns c = data_fit
+returns c = record { run = data_fit; check = check_fit }
