@@ -20,6 +20,9 @@ fn tangents_and_adjoints_that_are_not_given_are_zeros(rt: HostRuntime) -> Result
     let alloc = rt.alloc();
     let (unit, head) = (unit(alloc)?, head(alloc)?);
     let data = b"k.b 7\nN 1\na.D 5\n -6\nK 3\nA 1 2\n";
+    let count = unit.dummies.as_slice().len();
+    assert!(rt; head.vars.as_slice().len() == count);
+    assert!(rt; head.outvars.as_slice().len() == count);
     let (inputs, tangents, adjoints) = check_values(alloc, data.as_slice(), 4, &unit, &head)?;
     let cases: [(_, &[u8]); 3] = [
         (&inputs, b"A 1 2\nN 1\nK 3\n"),
@@ -27,6 +30,7 @@ fn tangents_and_adjoints_that_are_not_given_are_zeros(rt: HostRuntime) -> Result
         (&adjoints, b"A 0 0\nN 0\nK 7\n"),
     ];
     for (values, text) in cases {
+        assert!(rt; values.as_slice().len() == unit.dummies.as_slice().len());
         let printed = print_values(alloc, &unit.dummies, values)?;
         assert_eq!(rt; printed.as_slice(), text);
     }
@@ -53,6 +57,9 @@ fn the_first_fault_of_marked_data_is_given(rt: HostRuntime) -> Result<(), Fail> 
         ("N 1\nK 3\nA 1 2\nA.D 5 6\nK.B 7 8", 5, 9),
     ];
     for (data, code, line) in faults {
+        let count = unit.dummies.as_slice().len();
+        assert!(rt; head.vars.as_slice().len() == count);
+        assert!(rt; head.outvars.as_slice().len() == count);
         let found = check_values(alloc, data.as_bytes(), 4, &unit, &head);
         assert_eq!(rt; found.err(), Some(DataError::Data(code, line)), "{data}");
     }

@@ -5,6 +5,7 @@ use Rattle.adj_meaning.specs.Numbers.{words}
 use Rattle.adj_meaning.specs.Units.{fits}
 use Rattle.adj_interp.specs.Concludes.{slot_seen}
 use Rattle.adj_interp.specs.Dually.{AreTangents}
+use Rattle.run_tests.specs.Scalars.{scalar_of}
 use Rattle.run_tests.proofs.Fitting.{first_fits}
 use Rattle.run_tests.proofs.Pairing.{scalar_tangents}
 use Rattle.run_tests.proofs.dual.run_first.Goals as goal
@@ -19,4 +20,4 @@ run_dual-requires-clause-fits c u at =
 pub run_dual-requires-clause-tangents : goal.run_dual-requires-clause-tangents
 run_dual-requires-clause-tangents c =
     subst (λ vs. AreTangents vs c.in_ok-given.given) (sym c.in_ok-input.ensures)
-    (subst (AreTangents (map _ c.args.words.now)) (sym c.in_ok-given.ensures) (scalar_tangents c.args.words.now c.args.tangents.now (search rules)))
+    (subst (AreTangents (map scalar_of c.args.words.now)) (sym c.in_ok-given.ensures) (scalar_tangents c.args.words.now c.args.tangents.now (search rules)))
