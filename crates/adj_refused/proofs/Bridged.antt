@@ -16,7 +16,8 @@ use Rattle.adj_parse.proofs.UnitsComplete.{nothing, units_run}
 use Rattle.adj_parse.proofs.UnitsSound.{run_reads}
 use Rattle.adj_refused.specs.Opened as opened
 use Rattle.adj_refused.specs.Opened.{Open, to_label, to_end, first_part, other_part, chained, body_of, outer, closed, is_chained, ends_at, behind, is_innermost, has_label, is_to_end, is_part, awaits_else, closes, leaves_loop, misses_loop}
-use Rattle.adj_refused.proofs.Places.{Stage, may_at, Inner, in_unit, is_first, suits, misplaced_at, broken_at, stands_at, next_at, accepted}
+use Rattle.adj_refused.specs.Ends.{is_first}
+use Rattle.adj_refused.proofs.Places.{Stage, may_at, Inner, in_unit, suits, misplaced_at, broken_at, stands_at, next_at, accepted}
 
 abbrev pub open_of : Part → Open
 open_of (of_loop None r s) = to_end

@@ -10,7 +10,8 @@ use Rattle.adj_text.specs.declared.stated.Kind.TheVariants.{Return, End, EndIf, 
 use Rattle.adj_parse.proofs.Machine.{kind_of}
 use Rattle.adj_refused.specs.Opened.{Open, to_label, to_end, first_part, other_part, chained, body_of, outer, closed, turned, is_chained, ends_at, behind, opened, is_innermost, has_label, is_to_end, is_part, awaits_else, closes, leaves_loop, misses_loop}
 use Rattle.adj_refused.specs.Following.{renumbered, with_label, IsFree}
-use Rattle.adj_refused.proofs.Places.{Inner, acting, may_at, in_unit, blocks_in, suits, stands_at, next_in, next_at, accepted, Leads, is_first, IsPlace, AreLabelled, stood, none_open, next_place}
+use Rattle.adj_refused.specs.Ends.{is_first}
+use Rattle.adj_refused.proofs.Places.{Inner, acting, may_at, in_unit, blocks_in, suits, stands_at, next_in, next_at, accepted, Leads, IsPlace, AreLabelled, stood, none_open, next_place}
 
 both : (a b : Bool) → (a && b) ≡ true → (a ≡ true) × (b ≡ true)
 both true b h = (refl, h)
@@ -227,6 +228,15 @@ module _ (k : ℕ) (some : k ≢ 0) where
       by (opens_do (Some l) r mark) rest = (some_label l (eqb l 0) refl, rest)
       by (opens_do None r mark) rest = (tt, rest)
       by f rest = (tt, rest)
+
+  -- and the other way round
+  pub leads_back : (w v : Option Inner) (ss : List Statement) → IsFree k ss → Leads (renewed_at w) (map (with_label k) ss) v → (u : Option Inner) × Leads w ss u
+  leads_back w v [] free h = (w, refl)
+  leads_back w v (at n l f ∷ ss) free h =
+      let there : Leads (renewed_at w) (at n l (relabelled f) ∷ map (with_label k) ss) v = subst (λ s. Leads (renewed_at w) (s ∷ map (with_label k) ss) v) (relabels n l f) h in
+      let here : stands_at (kind_of f) l w ≡ true = sym (stands_kept (kind_of f) l w free.0) ∙ ap (λ x. stands_at x l (renewed_at w)) (sym (same_kind f)) ∙ there.0 in
+      let rest = leads_back (next_at l f w) v ss free.1 (subst (λ u. Leads u (map (with_label k) ss) v) (next_kept l f w free.0) there.1) in
+      (rest.0, (here, rest.1))
 
 -- a label that no statement has
 abbrev pub above : List Statement → ℕ

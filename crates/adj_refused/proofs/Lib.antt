@@ -10,3 +10,4 @@ pub mod TreeTests
 pub mod TreeWalk
 pub mod UpTo
 pub mod WholeText
+pub mod Ending

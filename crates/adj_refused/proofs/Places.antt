@@ -10,6 +10,7 @@ use Rattle.adj_text.specs.declared.stated.Kind.{Kind}
 use Rattle.adj_text.specs.declared.stated.Kind.TheVariants.{Return, End, EndIf, EndDo, Else, ImplicitNone, ElseIf, Subroutine, Integer}
 use Rattle.adj_parse.specs.Order.{is_heading}
 use Rattle.adj_parse.proofs.Machine.{kind_of}
+use Rattle.adj_refused.specs.Ends.{is_first}
 use Rattle.adj_refused.specs.Opened.{Open, to_label, to_end, first_part, other_part, chained, outer, closed, turned, is_chained, ends_at, behind, is_innermost, has_label, is_to_end, is_part, leaves_loop, misses_loop}
 
 -- how far a unit has come: it has its SUBROUTINE alone, no executable statement, or a RETURN
@@ -49,10 +50,6 @@ in_unit p os = Some (record { stage = p; blocks = os })
 abbrev pub blocks_in : Option Inner → List Open
 blocks_in None = []
 blocks_in (Some i) = i.blocks
-
-abbrev pub is_first : Open → Bool
-is_first first_part = true
-is_first o = false
 
 -- whether the innermost block is the one that a statement of the class ends or turns
 abbrev pub suits : Kind → List Open → Bool

@@ -131,7 +131,7 @@ reads_more t f texts.ReadsAll.none d = texts.ReadsAll.more d texts.ReadsAll.none
 reads_more t f (texts.ReadsAll.more e r) d = texts.ReadsAll.more e (reads_more t f r d)
 
 -- behind a statement that stands, RETURN has no block round it
-next_bare : (l : ℕ) (f : Form) (w : Option Inner) → stands_at (kind_of f) l w ≡ true → IsBare w → IsBare (next_at l f w)
+pub next_bare : (l : ℕ) (f : Form) (w : Option Inner) → stands_at (kind_of f) l w ≡ true → IsBare w → IsBare (next_at l f w)
 next_bare l (subroutine x ds) None h b = λ e. refl
 next_bare l f None h b = tt
 next_bare l f (Some i) h b = inner f (stood (may_at (kind_of f) i.stage) (suits (kind_of f) i.blocks) _ _ h)

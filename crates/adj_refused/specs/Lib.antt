@@ -4,6 +4,7 @@ pub mod LineFaults
 pub mod StatementFaults
 pub mod Opened
 pub mod Following
+pub mod Ends
 pub mod TreeFaults
 pub mod Prefixes
 pub mod TextFaults

@@ -4,6 +4,7 @@
 //! a line, of a statement, or of a statement and those before it. The laws say that the reader's answers are by them. The crate stands on the reader of texts.
 #![tactic(auto)]
 
+ghost use Rattle.adj_refused.specs.Ends.{BlocksEnd};
 ghost use Rattle.adj_refused.specs.Refusals.{LinesAnswer, LinesRefused, LinesAccepted, StatementsAnswer, StatementsRefused, StatementsAccepted, TreesAnswer, TreesRefused, TreesAccepted, TreesReadUpTo};
 ghost use Rattle.adj_refused.specs.TextFaults.{TextRefused, TextFirst, TextAccepted};
 
@@ -41,3 +42,8 @@ pub fn text_law()
 {
     statements_are_said();
 }
+
+/// The open blocks behind statements are those that can end, by the grammar of units.
+pub fn blocks_law()
+    ensures end { BlocksEnd }
+{}
