@@ -2,7 +2,7 @@
 use Rattle.std.proofs.Common.{arith, ◌≡◌, ℕ, ◌≤◌, Bool, true, false, List, [], ◌∷◌, ◌++◌, refl, sym, ap, ◌∙◌, subst}
 use mathlib.Core.List.{reverse-cons}
 use Rattle.std.proofs.lemmas.List.{append-nil}
-use Rattle.std.specs.Prelude.{ℤ, ◌*◌, Some, None, reverse, if◌then◌else◌}
+use Rattle.std.specs.Prelude.{ℤ, ◌*◌, Option, Some, None, reverse}
 use Rattle.adj_tree.specs.Code.{Procedure}
 use Rattle.adj_meaning.specs.Numbers.{words, duals}
 use Rattle.adj_meaning.specs.Event.{Event, Enter, Begin, End, Marked}
@@ -15,9 +15,9 @@ use Rattle.adj_transpose.specs.MarkedAdjoint.{shadow_flags}
 use Rattle.adj_names.specs.Fault.{run_rules}
 use Rattle.adj_names.specs.HeadFaults.{unit_number}
 use Rattle.adj_names.proofs.Lines.{sound_lines}
-use Rattle.adj_reverse.specs.Reversals.{marks_in, MarkedRun}
+use Rattle.adj_reverse.specs.Reversals.{MarkedRun, StepUnits, with_run, runs_in, reversals_in, AreReversed, ReversedLines}
 use Rattle.adj_reverse.specs.Marking.{full_marks}
-use Rattle.adj_reverse.specs.Program.{adjoint_names, all_units}
+use Rattle.adj_reverse.specs.Program.{adjoint_names_with, all_units}
 use Rattle.adj_reverse.specs.Adjoint.{TransposesBy}
 use Rattle.adj_reverse.proofs.Lines.{other_lines}
 use Rattle.adj_kernel.specs.Stepped.{stepped_program, kernel_of}
@@ -26,7 +26,7 @@ use Rattle.adj_kernel.specs.Means.{MeansAlike}
 use Rattle.adj_kernel.specs.StepMeans.{SameButCalls}
 use Rattle.adj_kernel.specs.Sound.{IsAccepted}
 use Rattle.adj_kernel.proofs.SoundPrograms.{sound_is_source}
-use Rattle.adj_reverse.proofs.Told.{marks_in-append}
+use Rattle.adj_reverse.proofs.Told.{runs_in-append}
 use Rattle.adj_kernel.proofs.WholeKernels.{whole_units, whole_means_alike}
 use Rattle.adj_checked.proofs.Premises.{checked_is_adjoint}
 use Rattle.adj_emitted.proofs.Programs.{emitted_written}
@@ -39,36 +39,32 @@ use Rattle.adj_accepted.proofs.Kernels.{kernel_checked, numbered, found_name, Is
 -- ---- marked loops that were told
 
 -- they are told by the events of marked loops alone
-marks_told : (at : ℕ → Bool) (es : List Event) → marks_in at es ≡ marks_in at (marked_of es)
-marks_told at [] = refl
-marks_told at (Enter name l height shapes ∷ es) = marks_told at es
-marks_told at (Begin steps snapshots level height ∷ es) = marks_told at es
-marks_told at (End l ∷ es) = marks_told at es
-marks_told at (Marked line turns snapshots ∷ es) = go (at line) (marks_told at es)
-  where
-    go : (b : Bool) → marks_in at es ≡ marks_in at (marked_of es) → (if b then record { line = line; turns = turns; snapshots = snapshots } ∷ marks_in at es else marks_in at es) ≡ (if b then record { line = line; turns = turns; snapshots = snapshots } ∷ marks_in at (marked_of es) else marks_in at (marked_of es))
-    go true ih = ap (λ l. record { line = line; turns = turns; snapshots = snapshots } ∷ l) ih
-    go false ih = ih
+runs_told : (lines : ReversedLines) (es : List Event) → runs_in lines es ≡ runs_in lines (marked_of es)
+runs_told lines [] = refl
+runs_told lines (Enter name l height shapes ∷ es) = runs_told lines es
+runs_told lines (Begin steps snapshots l height ∷ es) = runs_told lines es
+runs_told lines (End l ∷ es) = runs_told lines es
+runs_told lines (Marked line turns snapshots ∷ es) = ap (with_run (lines line) (record { line = line; turns = turns; snapshots = snapshots })) (runs_told lines es)
 
 -- they are told in the other order
-marks_reverse : (at : ℕ → Bool) (es : List Event) → marks_in at (reverse es) ≡ reverse (marks_in at es)
-marks_reverse at [] = refl
-marks_reverse at (Enter name l height shapes ∷ es) = ap (marks_in at) (reverse-cons (Enter name l height shapes) es) ∙ marks_in-append at (reverse es) (Enter name l height shapes ∷ []) ∙ append-nil (marks_in at (reverse es)) ∙ marks_reverse at es
-marks_reverse at (Begin steps snapshots level height ∷ es) = ap (marks_in at) (reverse-cons (Begin steps snapshots level height) es) ∙ marks_in-append at (reverse es) (Begin steps snapshots level height ∷ []) ∙ append-nil (marks_in at (reverse es)) ∙ marks_reverse at es
-marks_reverse at (End l ∷ es) = ap (marks_in at) (reverse-cons (End l) es) ∙ marks_in-append at (reverse es) (End l ∷ []) ∙ append-nil (marks_in at (reverse es)) ∙ marks_reverse at es
-marks_reverse at (Marked line turns snapshots ∷ es) =
-    ap (marks_in at) (reverse-cons (Marked line turns snapshots) es) ∙ marks_in-append at (reverse es) (Marked line turns snapshots ∷ []) ∙ ap (λ z. z ++ marks_in at (Marked line turns snapshots ∷ [])) (marks_reverse at es) ∙ go (at line)
+runs_reverse : (lines : ReversedLines) (es : List Event) → runs_in lines (reverse es) ≡ reverse (runs_in lines es)
+runs_reverse lines [] = refl
+runs_reverse lines (Enter name l height shapes ∷ es) = ap (runs_in lines) (reverse-cons (Enter name l height shapes) es) ∙ runs_in-append lines (reverse es) (Enter name l height shapes ∷ []) ∙ append-nil (runs_in lines (reverse es)) ∙ runs_reverse lines es
+runs_reverse lines (Begin steps snapshots l height ∷ es) = ap (runs_in lines) (reverse-cons (Begin steps snapshots l height) es) ∙ runs_in-append lines (reverse es) (Begin steps snapshots l height ∷ []) ∙ append-nil (runs_in lines (reverse es)) ∙ runs_reverse lines es
+runs_reverse lines (End l ∷ es) = ap (runs_in lines) (reverse-cons (End l) es) ∙ runs_in-append lines (reverse es) (End l ∷ []) ∙ append-nil (runs_in lines (reverse es)) ∙ runs_reverse lines es
+runs_reverse lines (Marked line turns snapshots ∷ es) =
+    ap (runs_in lines) (reverse-cons (Marked line turns snapshots) es) ∙ runs_in-append lines (reverse es) (Marked line turns snapshots ∷ []) ∙ ap (λ z. z ++ runs_in lines (Marked line turns snapshots ∷ [])) (runs_reverse lines es) ∙ go (lines line)
   where
     here : MarkedRun
     here = record { line = line; turns = turns; snapshots = snapshots }
 
-    go : (b : Bool) → reverse (marks_in at es) ++ (if b then here ∷ [] else []) ≡ reverse (if b then here ∷ marks_in at es else marks_in at es)
-    go true = sym (reverse-cons here (marks_in at es))
-    go false = append-nil (reverse (marks_in at es))
+    go : (o : Option StepUnits) → reverse (runs_in lines es) ++ with_run o here [] ≡ reverse (with_run o here (runs_in lines es))
+    go (Some step) = sym (reverse-cons (record { mark = here; step = step }) (runs_in lines es))
+    go None = append-nil (reverse (runs_in lines es))
 
 -- the same marked loops, told in the other order
-same_marks : (at : ℕ → Bool) (es fs : List Event) → marked_of es ≡ marked_of fs → marks_in at (reverse es) ≡ marks_in at (reverse fs)
-same_marks at es fs h = marks_reverse at es ∙ ap reverse (marks_told at es ∙ ap (marks_in at) h ∙ sym (marks_told at fs)) ∙ sym (marks_reverse at fs)
+same_runs : (lines : ReversedLines) (es fs : List Event) → marked_of es ≡ marked_of fs → runs_in lines (reverse es) ≡ runs_in lines (reverse fs)
+same_runs lines es fs h = runs_reverse lines es ∙ ap reverse (runs_told lines es ∙ ap (runs_in lines) h ∙ sym (runs_told lines fs)) ∙ sym (runs_reverse lines fs)
 
 -- ---- runs
 
@@ -98,7 +94,7 @@ module _ (ps : List Procedure) (a : IsAccepted ps) (name : List ℕ) (u v : Proc
         }
 
     -- what an adjoint of the kernel does for a run of the kernel, it does for the program's
-    transposes : (lines : ℕ → Bool) (flags : List Bool) (qs : List Procedure) (q : Procedure) (shadows : List (Slot ℤ)) (k used : ℕ) (output : Output ℤ) → run_unit words ps u input [] None k ≡ Done output used →
+    transposes : (lines : ReversedLines) (flags : List Bool) (qs : List Procedure) (q : Procedure) (shadows : List (Slot ℤ)) (k used : ℕ) (output : Output ℤ) → run_unit words ps u input [] None k ≡ Done output used →
         ((k used : ℕ) (output : Output ℤ) → run_unit words ks v input [] None k ≡ Done output used → TransposesBy lines flags ks v vars outvars qs q input shadows output.events) → TransposesBy lines flags ps u vars outvars qs q input shadows output.events
     transposes lines flags qs q shadows k used output done h =
         let other = (on_words input f).done k used output done in
@@ -108,7 +104,7 @@ module _ (ps : List Procedure) (a : IsAccepted ps) (name : List ℕ) (u v : Proc
           fits = t.fits;
           run = t.run;
           empties = t.empties;
-          reverses = record { loops = t.reverses.loops; marks = same_marks lines output.events other.other.events other.related.marked ∙ t.reverses.marks; reversed = t.reverses.reversed };
+          reverses = subst (λ z. AreReversed z (reversals_in t.run.output.events)) (sym (same_runs lines output.events other.other.events other.related.marked)) t.reverses;
           products = λ d is. agrees _ _ d is (t.products d is);
           others = t.others;
         }
@@ -117,7 +113,7 @@ module _ (ps : List Procedure) (a : IsAccepted ps) (name : List ℕ) (u v : Proc
 
 -- an adjoint of the kernel is one of the program
 pub kernels_adjoint : KernelsAdjoint
-kernels_adjoint lines m ps a name u found vars outvars qs h =
+kernels_adjoint sc lines m ps a name u found vars outvars qs h =
     let k = whole_units ps name u found in
     let one : k.becomes ∷ [] ≡ h.unit ∷ [] = sym (numbered (kernel_of ps) name k.becomes k.found).1 ∙ h.is_head in
     let same : k.becomes ≡ h.unit = cc in
@@ -131,7 +127,7 @@ kernels_adjoint lines m ps a name u found vars outvars qs h =
       becomes = there;
       adjoint = h.adjoint;
       is_there = h.is_there;
-      dummies = h.dummies ∙ (λ i. shadows_behind (m.shadowed (named i)) (adjoint_names m (kernel_of ps) (all_units m (kernel_of ps) h.unit) h.unit) (like.same_dummies i));
+      dummies = h.dummies ∙ (λ i. shadows_behind (m.shadowed (named i)) (adjoint_names_with sc m (kernel_of ps) (all_units m (kernel_of ps) h.unit) h.unit) (like.same_dummies i));
       transposes = λ input shadows fit alike k used output done.
           transposes ps a name u h.unit found there vars outvars input fit lines (shadow_flags (m.shadowed name) u.dummies) qs h.adjoint shadows k used output done
           (λ k used output done. subst (λ fl. TransposesBy lines fl (kernel_of ps) h.unit vars outvars qs h.adjoint input shadows output.events) (λ i. shadow_flags (m.shadowed (named i)) (like.same_dummies i)) (h.transposes input shadows (like.same_fits input ∙ fit) alike k used output done));
@@ -142,8 +138,8 @@ pub emitted_is_adjoint : EmittedIsAdjoint
 emitted_is_adjoint ps a name u found vars outvars qs same =
     let k = whole_units ps name u found in
     let n = unit_number (kernel_of ps) name in
-    kernels_adjoint (λ line. false) full_marks ps a name u found vars outvars qs
-    (other_lines (λ line. false) full_marks (kernel_of ps) (emitted_for ps name vars outvars) qs n vars outvars same
+    kernels_adjoint false (λ line. None) full_marks ps a name u found vars outvars qs
+    (other_lines false (λ line. None) full_marks (kernel_of ps) (emitted_for ps name vars outvars) qs n vars outvars same
     (checked_is_adjoint run_rules (kernel_of ps) (kernel_checked ps a) n vars outvars k.becomes (numbered (kernel_of ps) name k.becomes k.found).1))
 
 pub is_written : EmittedIsWritten

@@ -1,6 +1,6 @@
 -- The marks of exact analyses as marks of a whole program, and that they meet the laws that the theorem on sweeps asks of each unit.
 -- (docs/THEOREMS.md, "Sweeps of every statement")
-use Rattle.std.specs.Prelude.{◌≡◌, ℕ, List, [], ◌∷◌, false, Some}
+use Rattle.std.specs.Prelude.{◌≡◌, ℕ, List, [], ◌∷◌, false, Some, None}
 use Rattle.adj_tree.specs.Code.{Terms, unmarked, Act, assign, choose, loop, during, call, runtime, Code, stop, step, Procedure}
 use Rattle.adj_meaning.specs.Written.{find_unit}
 use Rattle.adj_transpose.specs.Marks.{Vars}
@@ -87,4 +87,4 @@ abbrev pub AnalysedIsAdjoint : Type 0
 AnalysedIsAdjoint =
     (rules : Rules) (k : Problem) → IsChecked rules k.units → EachUnit (λ u. IsUnmarked u.body) k.units →
     (a : Activity) (l : Liveness) (saved held : ℕ → Vars) → Analysed k a l saved held → (u : Procedure) → unit_at k.head k.units ≡ u ∷ [] →
-    let marks = (program_facts k.units a l saved held).marks in IsAdjoint (λ line. false) marks k.units k.head k.vars k.outvars (emitted_program marks k.units k.head k.vars k.outvars)
+    let marks = (program_facts k.units a l saved held).marks in IsAdjoint (λ line. None) marks k.units k.head k.vars k.outvars (emitted_program marks k.units k.head k.vars k.outvars)

@@ -1,5 +1,5 @@
 -- A program with a checkpointed call, for which all that the law on analysed programs asks is met.
-use Rattle.std.specs.Prelude.{[], ◌∷◌, Bool, true, false, codes}
+use Rattle.std.specs.Prelude.{[], ◌∷◌, Bool, true, false, codes, None}
 use Rattle.adj_tree.specs.Code.{plain}
 use Rattle.adj_reverse.specs.Marking.{ProgramMarks}
 use Rattle.adj_reverse.specs.Program.{emitted_program}
@@ -31,4 +31,4 @@ marks_of t = (program_facts calling_problem.units t.activity t.live t.saved t.he
 
 -- exact analyses say so, and what is emitted by their marks is an adjoint
 abbrev pub CallingIsAdjoint : Type 0
-CallingIsAdjoint = (t : HasTable calling_problem calling_table) × IsAdjoint (λ line. false) (marks_of t) calling_problem.units 0 calling_problem.vars calling_problem.outvars (emitted_program (marks_of t) calling_problem.units 0 calling_problem.vars calling_problem.outvars)
+CallingIsAdjoint = (t : HasTable calling_problem calling_table) × IsAdjoint (λ line. None) (marks_of t) calling_problem.units 0 calling_problem.vars calling_problem.outvars (emitted_program (marks_of t) calling_problem.units 0 calling_problem.vars calling_problem.outvars)

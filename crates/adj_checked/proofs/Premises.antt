@@ -168,7 +168,7 @@ module _ (rules : Rules) (ps : List Procedure) (checked : IsChecked rules ps) wh
       carried : (n : List ℕ) → calls_in m.kept n (first_statement ps name) u.body ≡ true → has_adjoint m ps head name ≡ true → is_carried m ps head n ≡ true
       carried n c there = roots_reached (is_kept m ps head) (λ i. true) ps name u f n (calls_found_some (has_adjoint m ps head) m.kept n 0 ps name u f (with_adjoint there) c)
 
-      unit_fits : UnitFits (λ line. false) ps (callee_facts w ps) (has_adjoint m ps head) (answers m ps head) (is_carried m ps head) name u (first_statement ps name) (variables u) (arrays_of u)
+      unit_fits : UnitFits (λ line. None) ps (callee_facts w ps) (has_adjoint m ps head) (answers m ps head) (is_carried m ps head) name u (first_statement ps name) (variables u) (arrays_of u)
       unit_fits = record {
         dummies = sym same_dummies;
         dummies_apart = subst AreApart (sym same_dummies) (dummies_apart name u f);
@@ -186,7 +186,7 @@ module _ (rules : Rules) (ps : List Procedure) (checked : IsChecked rules ps) wh
             list_fits rules w ps name u (has_adjoint m ps head name) (answers m ps head) (is_carried m ps head) (first_statement ps name) u.body written_unit.body (kernel name u f) (sound name u f) (λ n c there. answered n c there) (λ n c there. carried n c there));
       }
 
-    pub source_fits : (number : ℕ) → unit_at number ps ≡ head ∷ [] → SourceFits (λ line. false) w ps head
+    pub source_fits : (number : ℕ) → unit_at number ps ≡ head ∷ [] → SourceFits (λ line. None) w ps head
     source_fits number is = record {
       reached = lawful.reached;
       head_reached = lawful.head_reached;
@@ -217,10 +217,10 @@ pub lawful_fits : LawfulFits
 lawful_fits rules ps checked w lawful head u is = source_fits rules ps checked w u (lawful_for rules ps checked w lawful head u is) head is
 
 pub lawful_is_adjoint : LawfulIsAdjoint
-lawful_is_adjoint rules ps checked w lawful head vars outvars u is suits = emitted_is_adjoint (λ line. false) w ps head vars outvars u is (lawful_fits rules ps checked w lawful head u is) suits
+lawful_is_adjoint rules ps checked w lawful head vars outvars u is suits = emitted_is_adjoint false (λ line. None) w ps head vars outvars u is (lawful_fits rules ps checked w lawful head u is) suits
 
 pub reached_is_adjoint : ReachedIsAdjoint
-reached_is_adjoint rules ps checked w head vars outvars u is lawful suits = emitted_is_adjoint (λ line. false) w ps head vars outvars u is (source_fits rules ps checked w u lawful head is) suits
+reached_is_adjoint rules ps checked w head vars outvars u is lawful suits = emitted_is_adjoint false (λ line. None) w ps head vars outvars u is (source_fits rules ps checked w u lawful head is) suits
 
 pub checked_fits : CheckedFits
 checked_fits rules ps checked head u is = lawful_fits rules ps checked full_facts (full_lawful rules ps checked) head u is

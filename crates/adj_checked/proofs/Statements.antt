@@ -139,10 +139,10 @@ module _ (rules : Rules) (facts : ProgramFacts) (ps : List Procedure) (name : Li
   Carried n = present ≡ true → carried n ≡ true
 
   abbrev pub FitsHere : ℕ → ℕ → Act → Type 0
-  FitsHere i line a = Fits' (λ l. false) ps g answers carried present (marks_in m name) (variables u) (arrays_of u) (handed_back ps) i line a
+  FitsHere i line a = Fits' (λ l. None) ps g answers carried present (marks_in m name) (variables u) (arrays_of u) (handed_back ps) i line a
 
   abbrev pub ListFits : ℕ → Code → Type 0
-  ListFits i c = FitsList (λ l. false) ps g answers carried present (marks_in m name) (variables u) (arrays_of u) (handed_back ps) i c
+  ListFits i c = FitsList (λ l. None) ps g answers carried present (marks_in m name) (variables u) (arrays_of u) (handed_back ps) i c
 
   -- a name that stands as a scalar is no array
   no_array : (x : List ℕ) (line : ℕ) (b : Bool) → b ≡ has_rank u (record { name = x; subscripts = Some 0 }) → faults_if (not b) (fault 9 line) ≡ [] → arrays_of u (plain x) ≡ false

@@ -1,5 +1,5 @@
 -- That what is emitted for a checked program in kernel form, with full marks or by others that meet the laws, is its adjoint. (docs/THEOREMS.md, "Adjoints")
-use Rattle.std.specs.Prelude.{◌≡◌, ℕ, List, [], ◌∷◌, Bool, true, false, IsTrue, Some}
+use Rattle.std.specs.Prelude.{◌≡◌, ℕ, List, [], ◌∷◌, Bool, true, false, IsTrue, Some, None}
 use Rattle.adj_tree.specs.Code.{plain, Procedure}
 use Rattle.adj_meaning.specs.Common.{CallsInside}
 use Rattle.adj_meaning.specs.Written.{find_unit}
@@ -41,25 +41,25 @@ pub record AreLawfulFor (w : ProgramFacts) (ps : List Procedure) (head : Procedu
 
 -- such a program meets with them all that the law on emitted programs asks of a source, for each of its units as the head
 abbrev pub LawfulFits : Type 0
-LawfulFits = (rules : Rules) (ps : List Procedure) → IsChecked rules ps → (w : ProgramFacts) → AreLawful w ps → (head : ℕ) (u : Procedure) → unit_at head ps ≡ u ∷ [] → SourceFits (λ line. false) w ps u
+LawfulFits = (rules : Rules) (ps : List Procedure) → IsChecked rules ps → (w : ProgramFacts) → AreLawful w ps → (head : ℕ) (u : Procedure) → unit_at head ps ≡ u ∷ [] → SourceFits (λ line. None) w ps u
 
 -- so what is emitted for it by them is its adjoint, where they suit the head
 abbrev pub LawfulIsAdjoint : Type 0
 LawfulIsAdjoint =
     (rules : Rules) (ps : List Procedure) → IsChecked rules ps → (w : ProgramFacts) → AreLawful w ps → (head : ℕ) (vars outvars : List Bool) (u : Procedure) → unit_at head ps ≡ u ∷ [] →
-    SuitHead (facts_in w u.name).marks (entry_point ps u.name) (end_point ps u.name) u vars outvars → IsAdjoint (λ line. false) w.marks ps head vars outvars (emitted_program w.marks ps head vars outvars)
+    SuitHead (facts_in w u.name).marks (entry_point ps u.name) (end_point ps u.name) u vars outvars → IsAdjoint (λ line. None) w.marks ps head vars outvars (emitted_program w.marks ps head vars outvars)
 
 -- the same where they meet the laws of the units that the head reaches
 abbrev pub ReachedIsAdjoint : Type 0
 ReachedIsAdjoint =
     (rules : Rules) (ps : List Procedure) → IsChecked rules ps → (w : ProgramFacts) (head : ℕ) (vars outvars : List Bool) (u : Procedure) → unit_at head ps ≡ u ∷ [] → AreLawfulFor w ps u →
-    SuitHead (facts_in w u.name).marks (entry_point ps u.name) (end_point ps u.name) u vars outvars → IsAdjoint (λ line. false) w.marks ps head vars outvars (emitted_program w.marks ps head vars outvars)
+    SuitHead (facts_in w u.name).marks (entry_point ps u.name) (end_point ps u.name) u vars outvars → IsAdjoint (λ line. None) w.marks ps head vars outvars (emitted_program w.marks ps head vars outvars)
 
 -- ---- with full marks
 
 -- such a program meets all that the law on emitted programs asks of a source, for each of its units as the head
 abbrev pub CheckedFits : Type 0
-CheckedFits = (rules : Rules) (ps : List Procedure) → IsChecked rules ps → (head : ℕ) (u : Procedure) → unit_at head ps ≡ u ∷ [] → SourceFits (λ line. false) full_facts ps u
+CheckedFits = (rules : Rules) (ps : List Procedure) → IsChecked rules ps → (head : ℕ) (u : Procedure) → unit_at head ps ≡ u ∷ [] → SourceFits (λ line. None) full_facts ps u
 
 -- so what is emitted for it is its adjoint
 abbrev pub CheckedIsAdjoint : Type 0

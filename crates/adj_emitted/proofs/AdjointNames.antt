@@ -140,10 +140,10 @@ module _ (m : ProgramMarks) (ps : List Procedure) (units : List (List ℕ)) (u :
   Declared x = has_name x (map (λ d. d.name) unit.declarations) ≡ true
 
   pub apart : (v w : Var) → name_eq (name v) (name w) ≡ var_eq v w
-  apart v w = separates m ps units u (variables_apart u) (variables_inside u written) extent_dummy v w
+  apart v w = separates false m ps units u (variables_apart u) (variables_inside u written) extent_dummy v w
 
   pub keeps : (x : List ℕ) → has_name x (variables u) ≡ true → name (plain x) ≡ x
-  keeps x h = own m ps units u (variables_apart u) (variables_inside u written) extent_dummy x h
+  keeps x h = own false m ps units u (variables_apart u) (variables_inside u written) extent_dummy x h
 
   -- ---- its declarations
 
@@ -219,17 +219,17 @@ module _ (m : ProgramMarks) (ps : List Procedure) (units : List (List ℕ)) (u :
   rank_of v = rank unit (name v)
 
   pub plain_rank : (x : List ℕ) → rank_of (plain x) ≡ rank u x
-  plain_rank x = ap length (let alike = declared_alike m ps units u (variables_apart u) (variables_inside u written) extent_dummy in alike.plains x)
+  plain_rank x = ap length (let alike = declared_alike false m ps units u (variables_apart u) (variables_inside u written) extent_dummy in alike.plains x)
 
   pub shadow_rank : (x : List ℕ) → a (plain x) ≡ true → rank_of (shadow x) ≡ rank u x
   shadow_rank x marked =
-      ap length (let alike = declared_alike m ps units u (variables_apart u) (variables_inside u written) extent_dummy in alike.shadows x)
+      ap length (let alike = declared_alike false m ps units u (variables_apart u) (variables_inside u written) extent_dummy in alike.shadows x)
       ∙ ap (λ b. length (if b then declared u.declarations (plain x) else [])) marked
 
   helper_rank : (v : Var) → among v hs ≡ true → rank_of v ≡ 0
   helper_rank (plain x) h = absurd (let p : true ≡ false = sym h ∙ plain_no_helper x hs (used_helpers p i u.body) in cc)
   helper_rank (shadow x) h = absurd (let p : true ≡ false = sym h ∙ shadow_no_helper x hs (used_helpers p i u.body) in cc)
-  helper_rank (helper r k) h = ap length (let alike = declared_alike m ps units u (variables_apart u) (variables_inside u written) extent_dummy in alike.helpers r k)
+  helper_rank (helper r k) h = ap length (let alike = declared_alike false m ps units u (variables_apart u) (variables_inside u written) extent_dummy in alike.helpers r k)
 
   -- a variable that stands with as many subscripts as it has extents
   abbrev Q : Var → Option ℕ → Type 0

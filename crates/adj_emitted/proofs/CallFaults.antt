@@ -125,7 +125,7 @@ module _ (m : ProgramMarks) (ps : List Procedure) (head : Procedure) (vars outva
     kept_fits : (name : List ℕ) (args : Terms) (w : Procedure) (given : List (List ℕ)) → find_unit ps name ≡ Some w → are_actuals_for u w w.dummies args ≡ true → args ≡ actuals_named given → AreDistinctNames args → is_carried m ps head name ≡ true → C name args
     kept_fits name args w given found fit is distinct carried = record {
       unit = w;
-      found = carried_found m ps head vars outvars name carried (found_there ps name w found).0 ∙ found;
+      found = carried_found false m ps head vars outvars name carried (found_there ps name w found).0 ∙ found;
       fit = subst (λ l. are_actuals_for v w w.dummies (rename_terms (naming (names_for u)) l) ≡ true) (sym is)
           (plain_fit u v (name_in (names_for u)) (m.shadowed u.name) (plain_rank u s at_turn at_end turned ended) (shadow_rank u s at_turn at_end turned ended) w w.dummies given (subst (λ l. are_actuals_for u w w.dummies l ≡ true) is fit));
       variables = map plain given;
@@ -151,7 +151,7 @@ module _ (m : ProgramMarks) (ps : List Procedure) (head : Procedure) (vars outva
         made : C (adjoint_name ps w) (with_shadows (m.shadowed w.name) w.dummies given)
         made = record {
           unit = emitted_adjoint m ps head vars outvars w;
-          found = adjoint_found m ps head vars outvars name w found there;
+          found = adjoint_found false m ps head vars outvars name w found there;
           fit = subst (λ ds. are_actuals_for v (emitted_adjoint m ps head vars outvars w) ds (rename_terms (naming (names_for u)) (with_shadows (m.shadowed w.name) w.dummies given)) ≡ true) (sym ranks.dummies)
               (shadow_fit u v (name_in (names_for u)) (m.shadowed u.name) (plain_rank u s at_turn at_end turned ended) (shadow_rank u s at_turn at_end turned ended) w (emitted_adjoint m ps head vars outvars w) (m.shadowed w.name) (names_for w) ranks.plains ranks.shadows w.dummies given (λ d h. h) (subst (λ l. are_actuals_for u w w.dummies l ≡ true) is fit) carried_given);
           variables = given_vars (m.shadowed w.name) w.dummies given;
@@ -200,7 +200,7 @@ module _ (m : ProgramMarks) (ps : List Procedure) (head : Procedure) (vars outva
     unit_follows found there =
         code_follows (first_statement ps u.name) u.body s.0.0.calls written.body s.0.0.kernel s.1
         (λ n c. roots_reached (is_kept m ps head) (λ i. true) ps u.name u found n (calls_found_some (has_adjoint m ps head) m.kept n 0 ps u.name u found there c))
-        (λ n c. answers_there m ps head vars outvars known n (calls_found_some (has_adjoint m ps head) m.adjointed n 0 ps u.name u found there c))
+        (λ n c. answers_there false m ps head vars outvars known n (calls_found_some (has_adjoint m ps head) m.adjointed n 0 ps u.name u found there c))
       where
         written : IsWrittenProcedure u
         written = s.0.0.written
@@ -243,7 +243,7 @@ module _ (m : ProgramMarks) (ps : List Procedure) (head : Procedure) (vars outva
     carried_act u line (during c body) k h = (refl, carried_code u body k h.1)
     carried_act u line (call name args) k h =
         let unit = call_of_unit ps u line name args h.0 in
-        let same : find_unit qs name ≡ find_unit ps name = carried_found m ps head vars outvars name k (found_there ps name unit.unit unit.found).0 in
+        let same : find_unit qs name ≡ find_unit ps name = carried_found false m ps head vars outvars name k (found_there ps name unit.unit unit.found).0 in
         (ap (λ o. if is_runtime name then fault 15 line ∷ [] else faults_of_unit_call u o line args) same ∙ h.0, tt)
     carried_act u line (runtime r) k h = h
 
@@ -255,7 +255,7 @@ module _ (m : ProgramMarks) (ps : List Procedure) (head : Procedure) (vars outva
 
   carried_none : (u : Procedure) → find_unit ps u.name ≡ Some u → IsSound m ps u → is_carried m ps head u.name ≡ true → flat_map (λ s. faults_of_call qs u s.0 s.1) (statements u.body) ≡ []
   carried_none u found s h =
-      let common = carried_common m ps head vars outvars known in
+      let common = carried_common false m ps head vars outvars known in
       flat_none (λ s. faults_of_call qs u s.0 s.1) (statements u.body) (carried_code u u.body (common.closed u.name u h found) s.0.0.calls)
 
   adjoint_none : (u : Procedure) → find_unit ps u.name ≡ Some u → IsSound m ps u → has_adjoint m ps head u.name ≡ true → flat_map (λ s. faults_of_call qs (emitted_adjoint m ps head vars outvars u) s.0 s.1) (statements (emitted_adjoint m ps head vars outvars u).body) ≡ []

@@ -197,7 +197,7 @@ module _ (rules : Rules) (ps : List Procedure) (checked : IsChecked rules ps) (f
       subst (λ o. chain_found (chain_within qs k) o ≤ chain_within ps (suc k) x) (common.same x h) (go (find_unit ps x) refl)
     where
       common : HaveInCommon (is_carried m ps head) ps qs
-      common = carried_common m ps head vars outvars known
+      common = carried_common false m ps head vars outvars known
 
       go : (o : Option Procedure) → find_unit ps x ≡ o → chain_found (chain_within qs k) o ≤ chain_found (chain_within ps k) o
       go None e = omega arith
@@ -217,11 +217,11 @@ module _ (rules : Rules) (ps : List Procedure) (checked : IsChecked rules ps) (f
           let calls_units = each_found (λ u. Each (CallHasNone ps u) (statements u.body)) ps (all_calls rules ps checked) w.name w found in
           let unit = there_found ps x (calls_all (is_unit ps) m.adjointed x (first_statement ps w.name) w (calls_there ps w calls_units) c) in
           subst (λ o. chain_within qs k (callee_of m ps x o).adjoint ≤ chain_within ps k x) (sym unit.1)
-          (low.adjoint x unit.0 unit.1 (answers_there m ps head vars outvars known x (calls_found_some (has_adjoint m ps head) m.adjointed x 0 ps w.name w found there c)))
+          (low.adjoint x unit.0 unit.1 (answers_there false m ps head vars outvars known x (calls_found_some (has_adjoint m ps head) m.adjointed x 0 ps w.name w found there c)))
 
   adjoint_low : (k : ℕ) → AreLow k → (x : Name) (w : Procedure) → find_unit ps x ≡ Some w → has_adjoint m ps head x ≡ true → chain_within qs (suc k) (adjoint_name ps w) ≤ chain_within ps (suc k) x
   adjoint_low k low x w found there =
-      subst (λ o. chain_found (chain_within qs k) o ≤ chain_within ps (suc k) x) (sym (adjoint_found m ps head vars outvars x w found there))
+      subst (λ o. chain_found (chain_within qs k) o ≤ chain_within ps (suc k) x) (sym (adjoint_found false m ps head vars outvars x w found there))
       (subst (λ o. suc (chain (chain_within qs k) (emitted_adjoint m ps head vars outvars w).body) ≤ chain_found (chain_within ps k) o) (sym found) (let l = go (name_eq head.name w.name) in omega arith))
     where
       same : w.name ≡ x

@@ -137,7 +137,7 @@ module _ (m : ProgramMarks) (ps : List Procedure) (head : Procedure) (vars outva
   made u = emitted_adjoint m ps head vars outvars u
 
   pub common : HaveInCommon (is_carried m ps head) ps qs
-  common = carried_common m ps head vars outvars known
+  common = carried_common false m ps head vars outvars known
 
   -- no more is handed back than in the source
   pub record HandBackNoMore (f : Dummies) : Type 0 where
@@ -185,7 +185,7 @@ module _ (m : ProgramMarks) (ps : List Procedure) (head : Procedure) (vars outva
     pub unit_known : IsSound m ps u → find_unit ps u.name ≡ Some u → has_adjoint m ps head u.name ≡ true → Known f g (plan_in m ps u) (first_statement ps u.name) u.body
     unit_known s found there =
         code_known (first_statement ps u.name) u.body s.0.0.calls written.body s.0.0.kernel (λ n c. roots_reached (is_kept m ps head) (λ i. true) ps u.name u found n (calls_found_some (has_adjoint m ps head) m.kept n 0 ps u.name u found there c))
-        (λ n c. answers_there m ps head vars outvars known n (calls_found_some (has_adjoint m ps head) m.adjointed n 0 ps u.name u found there c))
+        (λ n c. answers_there false m ps head vars outvars known n (calls_found_some (has_adjoint m ps head) m.adjointed n 0 ps u.name u found there c))
       where
         written : IsWrittenProcedure u
         written = s.0.0.written
@@ -246,7 +246,7 @@ module _ (m : ProgramMarks) (ps : List Procedure) (head : Procedure) (vars outva
         subst (λ ws. is_handed_back v ws (actuals_named given) ≡ true) (sym (handed_written ps name w found))
         (with_more v apart (m.shadowed w.name) (adjoint_names m ps (all_units m ps head) w) (t (made w)) (is_written ps w) w.dummies given (of_adjoint w (ap (find_unit ps) same ∙ found) (ap (has_adjoint m ps head) same ∙ h))
         (subst (λ sh. is_handed_back v (map (t (made w)) (shadows_behind (m.shadowed w.name) (adjoint_names m ps (all_units m ps head) w) w.dummies)) (with_shadows sh w.dummies given) ≡ true) (ap m.shadowed (sym same))
-        (subst (λ ws. is_handed_back v ws (with_shadows (m.shadowed name) w.dummies given) ≡ true) (row_map row qs (adjoint_name ps w) ∙ ap (of_found row) (adjoint_found m ps head vars outvars name w found h) ∙ ap (map (t (made w))) (made_dummies w)) e)))
+        (subst (λ ws. is_handed_back v ws (with_shadows (m.shadowed name) w.dummies given) ≡ true) (row_map row qs (adjoint_name ps w) ∙ ap (of_found row) (adjoint_found false m ps head vars outvars name w found h) ∙ ap (map (t (made w))) (made_dummies w)) e)))
       where
         same : w.name ≡ name
         same = (found_there ps name w found).1

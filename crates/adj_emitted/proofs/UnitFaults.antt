@@ -110,20 +110,20 @@ module _ (m : ProgramMarks) (ps : List Procedure) (head : Procedure) (vars outva
 
       -- neither its name nor that of its adjoint is among the others
       own_free : has_name u.name (map unit_name (emitted_units m ps head vars outvars us)) ≡ false
-      own_free = not_emitted u.name us (each_more (λ v. (name_eq u.name v.name ≡ false) × (is_unit ps v.name ≡ true)) (λ v. (name_eq u.name v.name ≡ false) × (has_adjoint m ps head v.name ≡ true → name_eq u.name (adj v.name) ≡ false)) (λ v k. (k.0, λ h. apart_source m ps head vars outvars u.name v.name t.0 k.1)) us other)
+      own_free = not_emitted u.name us (each_more (λ v. (name_eq u.name v.name ≡ false) × (is_unit ps v.name ≡ true)) (λ v. (name_eq u.name v.name ≡ false) × (has_adjoint m ps head v.name ≡ true → name_eq u.name (adj v.name) ≡ false)) (λ v k. (k.0, λ h. apart_source false m ps head vars outvars u.name v.name t.0 k.1)) us other)
 
       made_free : has_name (adj u.name) (map unit_name (emitted_units m ps head vars outvars us)) ≡ false
       made_free =
           not_emitted (adj u.name) us
           (each_more (λ v. (name_eq u.name v.name ≡ false) × (is_unit ps v.name ≡ true)) (λ v. (name_eq (adj u.name) v.name ≡ false) × (has_adjoint m ps head v.name ≡ true → name_eq (adj u.name) (adj v.name) ≡ false))
-          (λ v k. (name_comm v.name (adj u.name) (apart_source m ps head vars outvars v.name u.name k.1 t.0), λ h. adjoints_apart (source_names ps) ps u.name v.name t.0 k.1 k.0)) us other)
+          (λ v k. (name_comm v.name (adj u.name) (apart_source false m ps head vars outvars v.name u.name k.1 t.0), λ h. adjoints_apart (source_names ps) ps u.name v.name t.0 k.1 k.0)) us other)
 
       made : (b : Bool) → AreApart (map unit_name (emitted_units m ps head vars outvars us)) → AreApart (map unit_name ((if b then emitted_adjoint m ps head vars outvars u ∷ [] else []) ++ emitted_units m ps head vars outvars us))
       made true ih = (ap (λ z. has_name z (map unit_name (emitted_units m ps head vars outvars us))) (made_name u) ∙ made_free, ih)
       made false ih = ih
 
       no_own : (b : Bool) → has_name u.name (map unit_name ((if b then emitted_adjoint m ps head vars outvars u ∷ [] else []) ++ emitted_units m ps head vars outvars us)) ≡ false
-      no_own true = rw (ap (name_eq u.name) (made_name u) ∙ apart_source m ps head vars outvars u.name u.name t.0 t.0, own_free) refl
+      no_own true = rw (ap (name_eq u.name) (made_name u) ∙ apart_source false m ps head vars outvars u.name u.name t.0 t.0, own_free) refl
       no_own false = own_free
 
       carried : (b : Bool) → AreApart (map unit_name ((if has_adjoint m ps head u.name then emitted_adjoint m ps head vars outvars u ∷ [] else []) ++ emitted_units m ps head vars outvars us)) → AreApart (map unit_name ((if b then u ∷ [] else []) ++ ((if has_adjoint m ps head u.name then emitted_adjoint m ps head vars outvars u ∷ [] else []) ++ emitted_units m ps head vars outvars us)))

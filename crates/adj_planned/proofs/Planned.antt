@@ -1,4 +1,5 @@
 -- What holds of what is emitted by the marks of exact analyses.
+use Rattle.std.specs.Prelude.{None}
 use Rattle.std.proofs.Common.{arith, ◌≡◌, ℕ, ◌+◌, ◌≤◌, List, [], ◌∷◌, Bool, false, refl}
 use Rattle.adj_tree.specs.Code.{Act, assign, choose, loop, during, call, runtime, unmarked, with_count, count_from, Code, stop, step, Procedure}
 use Rattle.adj_transpose.specs.Marks.{Vars}
@@ -35,8 +36,8 @@ is_adjoint ps y none name u found vars outvars a l saved held x qs same =
     let k = whole_units ps name u found in
     let n = unit_number (kernel_of ps) name in
     let m = marks_by ps a l saved held in
-    kernels_adjoint (λ line. false) m ps y name u found vars outvars qs
-    (other_lines (λ line. false) m (kernel_of ps) (planned_for ps name vars outvars m) qs n vars outvars same
+    kernels_adjoint false (λ line. None) m ps y name u found vars outvars qs
+    (other_lines false (λ line. None) m (kernel_of ps) (planned_for ps name vars outvars m) qs n vars outvars same
     (analysed_is_adjoint run_rules (kernel_problem ps name vars outvars) (kernel_checked ps y) (kernel_unmarked ps none) a l saved held x k.becomes (numbered (kernel_of ps) name k.becomes k.found).1))
 
 -- none is counted where none is marked
@@ -62,7 +63,7 @@ none_counted (u ∷ us) h = (none_list u.body h.0, none_counted us h.1)
 pub spends : PlannedSpends
 spends ps y none weight weighs name u found calls few vars outvars a l saved held x qs same =
     let k = whole_units ps name u found in
-    emitted_spends ps y (none_counted ps none) weight weighs name calls few (λ line. false) (program_facts (kernel_of ps) a l saved held) k.becomes k.found
+    emitted_spends ps y (none_counted ps none) weight weighs name calls few (λ line. None) (program_facts (kernel_of ps) a l saved held) k.becomes k.found
     (fits run_rules (kernel_problem ps name vars outvars) (kernel_checked ps y) (kernel_unmarked ps none) a l saved held x k.becomes (numbered (kernel_of ps) name k.becomes k.found).1)
     vars outvars qs same
 

@@ -1,5 +1,5 @@
 -- What is emitted for the kernel of an accepted program by the marks of exact analyses. (docs/THEOREMS.md, "Adjoints")
-use Rattle.std.specs.Prelude.{◌≡◌, ℕ, List, Bool, false, Some}
+use Rattle.std.specs.Prelude.{◌≡◌, ℕ, List, Bool, false, Some, None}
 use Rattle.adj_tree.specs.Code.{Procedure}
 use Rattle.adj_tree.specs.Lines.{unlined}
 use Rattle.adj_tree.specs.declared.marks.Marks as flags
@@ -53,7 +53,7 @@ abbrev pub PlannedIsAdjoint : Type 0
 PlannedIsAdjoint =
     (ps : List Procedure) → IsAccepted ps → HasNoMarks ps → (name : List ℕ) (u : Procedure) → find_unit ps name ≡ Some u → (vars outvars : List Bool) →
     (a : Activity) (l : Liveness) (saved held : ℕ → Vars) → Analysed (kernel_problem ps name vars outvars) a l saved held → (qs : List Procedure) →
-    unlined (planned_for ps name vars outvars (marks_by ps a l saved held)) ≡ unlined qs → IsAdjointOf (λ line. false) (marks_by ps a l saved held) ps name vars outvars qs
+    unlined (planned_for ps name vars outvars (marks_by ps a l saved held)) ≡ unlined qs → IsAdjointOf (λ line. None) (marks_by ps a l saved held) ps name vars outvars qs
 
 -- Its run takes at most so many statements for each one of the program's own run, by what a statement of the program weighs and how many calls a chain
 -- from the head has; and so does that of what differs from it in line numbers alone.

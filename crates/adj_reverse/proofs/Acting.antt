@@ -1,5 +1,5 @@
 -- What each action of a reversal does, from what the groups and the calls of the step unit and of its adjoint do.
-use Rattle.std.proofs.Common.{◌≡◌, ◌<◌, inl, inr, ◌^◌, ℕ, zero, suc, ◌+◌, ◌-◌, Bool, true, false, List, [], ◌∷◌, ◌++◌, length, Some, refl, sym, ap, ◌∙◌, subst, arith}
+use Rattle.std.proofs.Common.{◌≡◌, ◌<◌, ◌^◌, ℕ, zero, suc, ◌+◌, ◌-◌, Bool, true, false, List, [], ◌∷◌, ◌++◌, length, Some, refl, sym, ap, ◌∙◌, subst, arith}
 use Rattle.std.specs.Prelude.{ℤ, pos, ◌-ℤ◌, nat_le, slice_get, Ok, ◌==◌, ◌&&◌}
 use Rattle.adj_tree.specs.Code.{Role, role_code, Var, plain, shadow, helper, first, stride, count, turn, entry, kind, lower, upper, name_eq, plus, minus, times, var, bin, none, assign, unmarked, loop, runtime, give_action, Code}
 use Rattle.adj_tree.proofs.Names.{nat_refl, name_refl}
@@ -20,9 +20,10 @@ use Rattle.adj_meaning.proofs.Leadings.{leads_append, act_at_once}
 use Rattle.adj_transpose.specs.Pairs.{Key, Words, shadows, on_words}
 use Rattle.adj_transpose.specs.Lists.{Kept, scene}
 use Rattle.adj_reverse.specs.Emission.{literal}
-use Rattle.adj_reverse.specs.Reversals.{Called, Reversal, LoopRun, times as times_called, AreWithin, AreReversed}
+use Rattle.adj_reverse.specs.Reversals.{Called, Reversal, LoopRun, times as times_called, AreReversed}
 use Rattle.adj_reverse.specs.ReversalCode.{at_turn, arms, one_action}
 use Rattle.adj_reverse.proofs.Turns.{next_store}
+use Rattle.adj_reverse.proofs.Told.{AreBetween}
 use Rattle.adj_reverse.proofs.Goings.{Goes, TurnsGo, goes_leads, goes_one, goes_step_before, turns_go-none, turns_go-more, turns_go-one, loop_goes}
 use Rattle.adj_reverse.proofs.Actions.{do_1, do_2, do_3, do_4, do_5}
 use Rattle.adj_reverse.proofs.Playing.{past, Played, Taken, Renewed, Acts}
@@ -59,12 +60,12 @@ fixed_then : (d : ℕ) (f g h : Store ℤ) → SameFixed d f g → SameFixed d g
 fixed_then d f g h a b = record { count_is = b.count_is ∙ a.count_is; first_is = b.first_is ∙ a.first_is; stride_is = b.stride_is ∙ a.stride_is; entry_is = b.entry_is ∙ a.entry_is; kind_is = b.kind_is ∙ a.kind_is }
 
 -- the reversal of a loop of depth d and l turns with m snapshots; `a0` and `c0` are its first value and its step, x its variable
-module _ (q : Calls ℤ) (sh : Var → Shape) (level : ℕ) (cells : List Key) (d line : ℕ) (x : List ℕ) (l m : ℕ) (a0 c0 : ℤ) (unit adj : List ℕ) (words : ℕ) (keep back plain_call adjoint : Code) (Standing : ℕ → Store ℤ → Type 0) (Loose : Store ℤ → Type 0) (Snap : ℕ → List ℤ → Type 0) (change : ℕ → Words → Words) (loops : ℕ → List LoopRun) where
+module _ (q : Calls ℤ) (sh : Var → Shape) (level : ℕ) (cells : List Key) (d line : ℕ) (x : List ℕ) (l m : ℕ) (a0 c0 : ℤ) (unit adj : List ℕ) (Kind : Called → Type 0) (words : ℕ) (keep back plain_call adjoint : Code) (Standing : ℕ → Store ℤ → Type 0) (Loose : Store ℤ → Type 0) (Snap : ℕ → List ℤ → Type 0) (change : ℕ → Words → Words) (loops : ℕ → List LoopRun) where
   abbrev nw : Setting ℤ
   nw = on_words sh level
 
-  abbrev called : List ℕ → ℕ → List Called
-  called name height = record { unit = name; height = height } ∷ []
+  abbrev called : List ℕ → List Shape → ℕ → List Called
+  called name shapes height = record { unit = name; height = height; shapes = shapes } ∷ []
 
   -- the snapshot is pushed
   pub record SnapshotPushed (i : ℕ) (f : Store ℤ) : Type 0 where
@@ -83,7 +84,9 @@ module _ (q : Calls ℤ) (sh : Var → Shape) (level : ℕ) (cells : List Key) (
   -- the step unit is called
   pub record Stepped (i : ℕ) (b : Kept) (f : Store ℤ) (t : List ℤ) : Type 0 where
     pub after : Store ℤ
-    pub goes : Goes q nw plain_call b f after t t (called unit (length t)) []
+    pub shapes : List Shape
+    pub right : (h : ℕ) → Kind (record { unit = unit; height = h; shapes = shapes })
+    pub goes : Goes q nw plain_call b f after t t (called unit shapes (length t)) []
     pub stands : Standing (suc i) after
     pub helpers : SameHelpers f after
     pub shades : (y : List ℕ) (j : ℕ) → after (shadow y) j ≡ f (shadow y) j
@@ -92,7 +95,9 @@ module _ (q : Calls ℤ) (sh : Var → Shape) (level : ℕ) (cells : List Key) (
   pub record TurnedBack (i : ℕ) (b : Kept) (f : Store ℤ) (t : List ℤ) : Type 0 where
     pub after : Store ℤ
     pub rs : List Reversal
-    pub goes : Goes q nw adjoint b f after t t (called adj (length t)) rs
+    pub shapes : List Shape
+    pub right : (h : ℕ) → Kind (record { unit = adj; height = h; shapes = shapes })
+    pub goes : Goes q nw adjoint b f after t t (called adj shapes (length t)) rs
     pub reversed : AreReversed (loops i) rs
     pub loose : Loose after
     pub helpers : SameHelpers f after
@@ -155,17 +160,17 @@ module _ (q : Calls ℤ) (sh : Var → Shape) (level : ℕ) (cells : List Key) (
 
   module _ (steps_fit : steps_of (pos l) ≡ Ok l) (snapshots_fit : snapshots_of (pos m) ≡ Ok m) (few : suc (suc (length all)) < 2 ^ 63) (small : suc l < 2 ^ 63) (differ : name_eq unit adj ≡ false) (differ' : name_eq adj unit ≡ false) (s : Stepping) where
     -- one call, counted
-    same_unit : (h : ℕ) → times_called unit (called unit h) ≡ 1
-    same_unit h = rw (name_refl unit) refl
+    same_unit : (z : List Shape) (h : ℕ) → times_called unit (called unit z h) ≡ 1
+    same_unit z h = rw (name_refl unit) refl
 
-    same_adj : (h : ℕ) → times_called adj (called adj h) ≡ 1
-    same_adj h = rw (name_refl adj) refl
+    same_adj : (z : List Shape) (h : ℕ) → times_called adj (called adj z h) ≡ 1
+    same_adj z h = rw (name_refl adj) refl
 
-    other_unit : (h : ℕ) → times_called unit (called adj h) ≡ 0
-    other_unit h = rw differ refl
+    other_unit : (z : List Shape) (h : ℕ) → times_called unit (called adj z h) ≡ 0
+    other_unit z h = rw differ refl
 
-    other_adj : (h : ℕ) → times_called adj (called unit h) ≡ 0
-    other_adj h = rw differ' refl
+    other_adj : (z : List Shape) (h : ℕ) → times_called adj (called unit z h) ≡ 0
+    other_adj z h = rw differ' refl
 
     gives : (k : ℕ) (a : Action) (rest : List Action) (b : Kept) (f : Store ℤ) (t : List ℤ) → past k all ≡ a ∷ rest → Ready k f → ActLeads q nw (runtime (give_action (var (helper count d)) (literal m) (var (helper entry d)) (helper kind d) (helper lower d) (helper upper d))) line (scene b f t) (scene b (told a f) t)
     gives k a rest b f t at r =
@@ -197,8 +202,8 @@ module _ (q : Calls ℤ) (sh : Var → Shape) (level : ℕ) (cells : List Key) (
 
     done : (k : ℕ) (end : Store ℤ → Type 0) (ch : Words → Words) (ls : List LoopRun) (n o low high : ℕ) (a : Action) (rest : List Action) (b : Kept) (f f1 : Store ℤ) (t t1 : List ℤ) (calls : List Called) (rs : List Reversal) → past k all ≡ a ∷ rest → Ready k f →
         Goes q nw (arms line d (plain x) keep back plain_call adjoint) b (told a f) f1 t t1 calls rs → SameFixed d (told a f) f1 → end (next f1) →
-        ((y : Words) → pairing cells (shadows f1) y ≡ pairing cells (shadows f) (ch y)) → AreReversed ls rs → times_called unit calls ≡ n → times_called adj calls ≡ o → AreWithin unit adj low high calls →
-        Played q sh level cells action (helper entry d) unit adj words Ready 1 k end ch ls n o low high b f t t1
+        ((y : Words) → pairing cells (shadows f1) y ≡ pairing cells (shadows f) (ch y)) → AreReversed ls rs → times_called unit calls ≡ n → times_called adj calls ≡ o → AreBetween Kind low high calls →
+        Played q sh level cells action (helper entry d) unit adj Kind words Ready 1 k end ch ls n o low high b f t t1
     done k end ch ls n o low high a rest b f f1 t t1 calls rs at r g fixed e p v w z i =
         let less = past_less k all a rest at in
         let again : k + 1 ≡ suc k = omega arith in
@@ -237,7 +242,7 @@ module _ (q : Calls ℤ) (sh : Var → Shape) (level : ℕ) (cells : List Key) (
 
     -- ---- snapshots
 
-    puts : (k i low high : ℕ) (rest : List Action) (b : Kept) (f : Store ℤ) (t : List ℤ) → past k all ≡ Put i ∷ rest → Ready k f → Standing i f → Taken q sh level cells action (helper entry d) unit adj words Ready all l Standing Loose Snap change loops k i low high b f t
+    puts : (k i low high : ℕ) (rest : List Action) (b : Kept) (f : Store ℤ) (t : List ℤ) → past k all ≡ Put i ∷ rest → Ready k f → Standing i f → Taken q sh level cells action (helper entry d) unit adj Kind words Ready all l Standing Loose Snap change loops k i low high b f t
     puts k i low high rest b f t at r h =
         let f1 = told (Put i) f in
         let p = s.pushed i f1 (stands_told i (Put i) f h) in
@@ -249,7 +254,7 @@ module _ (q : Calls ℤ) (sh : Var → Shape) (level : ℕ) (cells : List Key) (
               (same_refl f1) (stands_next i f1 (stands_told i (Put i) f h)) (λ y. refl) tt refl refl tt;
         }
 
-    drops : (k i low high : ℕ) (rest : List Action) (b : Kept) (f : Store ℤ) (snap t : List ℤ) → past k all ≡ Drop i ∷ rest → Ready k f → Loose f → Snap i snap → Played q sh level cells action (helper entry d) unit adj words Ready 1 k (Standing i) (λ y. y) [] 0 0 low high b f (snap ++ t) t
+    drops : (k i low high : ℕ) (rest : List Action) (b : Kept) (f : Store ℤ) (snap t : List ℤ) → past k all ≡ Drop i ∷ rest → Ready k f → Loose f → Snap i snap → Played q sh level cells action (helper entry d) unit adj Kind words Ready 1 k (Standing i) (λ y. y) [] 0 0 low high b f (snap ++ t) t
     drops k i low high rest b f snap t at r h is =
         let f1 = told (Drop i) f in
         let p = s.popped i snap f1 is (s.loose f f1 (told_beside (Drop i) f) h) in
@@ -257,7 +262,7 @@ module _ (q : Calls ℤ) (sh : Var → Shape) (level : ℕ) (cells : List Key) (
         (do_5 q sh level line d (plain x) keep back plain_call adjoint b f1 p.after (snap ++ t) t [] [] (told_kind (Drop i) f) (goes_leads q nw back b f1 p.after (snap ++ t) t (p.pops b t)))
         (fixed_of d f1 p.after p.helpers) (stands_next i p.after p.stands) (λ y. ap (λ z. pairing cells z y) (λ i x. p.shades x.0 x.1 i)) tt refl refl tt
 
-    keeps : (k i low high : ℕ) (rest : List Action) (b : Kept) (f : Store ℤ) (snap t : List ℤ) → past k all ≡ Keep i ∷ rest → Ready k f → Loose f → Snap i snap → Renewed q sh level cells action (helper entry d) unit adj words Ready all l Standing Loose Snap change loops k i low high b f (snap ++ t) t
+    keeps : (k i low high : ℕ) (rest : List Action) (b : Kept) (f : Store ℤ) (snap t : List ℤ) → past k all ≡ Keep i ∷ rest → Ready k f → Loose f → Snap i snap → Renewed q sh level cells action (helper entry d) unit adj Kind words Ready all l Standing Loose Snap change loops k i low high b f (snap ++ t) t
     keeps k i low high rest b f snap t at r h is =
         let f1 = told (Keep i) f in
         let p = s.popped i snap f1 is (s.loose f f1 (told_beside (Keep i) f) h) in
@@ -273,7 +278,7 @@ module _ (q : Calls ℤ) (sh : Var → Shape) (level : ℕ) (cells : List Key) (
 
     -- ---- the adjoint of a step
 
-    turns_done : (k i : ℕ) (rest : List Action) (b : Kept) (f : Store ℤ) (t : List ℤ) → past k all ≡ Turn i ∷ rest → i < l → Ready k f → Standing i f → Played q sh level cells action (helper entry d) unit adj words Ready 1 k Loose (change i) (loops i) 0 1 (length t) (length t) b f t t
+    turns_done : (k i : ℕ) (rest : List Action) (b : Kept) (f : Store ℤ) (t : List ℤ) → past k all ≡ Turn i ∷ rest → i < l → Ready k f → Standing i f → Played q sh level cells action (helper entry d) unit adj Kind words Ready 1 k Loose (change i) (loops i) 0 1 (length t) (length t) b f t t
     turns_done k i rest b f t at less r h =
         let f1 = told (Turn i) f in
         let v = add (f1 (helper first d) 0) (mul (f1 (helper lower d) 0) (f1 (helper stride d) 0)) in
@@ -282,11 +287,11 @@ module _ (q : Calls ℤ) (sh : Var → Shape) (level : ℕ) (cells : List Key) (
         let value : AtStep i f2 = rw (name_refl x) v_is in
         let stands2 : Standing i f2 = s.standing i f f2 (beside_then f f1 f2 (told_beside (Turn i) f) (variable_set v f1)) h in
         let c = s.turned i b f2 t less stands2 value in
-        done k Loose (change i) (loops i) 0 1 (length t) (length t) (Turn i) rest b f c.after t t (called adj (length t)) c.rs at r
-        (do_3 q sh level line d (plain x) keep back plain_call adjoint b f1 c.after t t (called adj (length t)) c.rs (told_kind (Turn i) f) (c.helpers.at kind d 0 ∙ told_kind (Turn i) f)
-        (goes_step_before q nw line (assign (plain x) none (bin plus (var (helper first d)) (bin times (var (helper lower d)) (var (helper stride d))))) adjoint b f1 f2 c.after t t t (called adj (length t)) c.rs
+        done k Loose (change i) (loops i) 0 1 (length t) (length t) (Turn i) rest b f c.after t t (called adj c.shapes (length t)) c.rs at r
+        (do_3 q sh level line d (plain x) keep back plain_call adjoint b f1 c.after t t (called adj c.shapes (length t)) c.rs (told_kind (Turn i) f) (c.helpers.at kind d 0 ∙ told_kind (Turn i) f)
+        (goes_step_before q nw line (assign (plain x) none (bin plus (var (helper first d)) (bin times (var (helper lower d)) (var (helper stride d))))) adjoint b f1 f2 c.after t t t (called adj c.shapes (length t)) c.rs
         (act_at_once q nw line (assign (plain x) none (bin plus (var (helper first d)) (bin times (var (helper lower d)) (var (helper stride d))))) (scene b f1 t) (scene b f2 t) (λ j. refl)) c.goes))
-        (fixed_of d f1 c.after (record { at = λ r k n. c.helpers.at r k n })) (loose_next c.after c.loose) (λ y. c.pairs y) c.reversed (other_unit (length t)) (same_adj (length t)) ((inr refl, (omega arith, omega arith)), tt)
+        (fixed_of d f1 c.after (record { at = λ r k n. c.helpers.at r k n })) (loose_next c.after c.loose) (λ y. c.pairs y) c.reversed (other_unit c.shapes (length t)) (same_adj c.shapes (length t)) ((c.right (length t), (omega arith, omega arith)), tt)
 
     -- ---- the calls of an advance
 
@@ -299,7 +304,7 @@ module _ (q : Calls ℤ) (sh : Var → Shape) (level : ℕ) (cells : List Key) (
       shades : (y : List ℕ) (j : ℕ) → after (shadow y) j ≡ f (shadow y) j
       units : times_called unit calls ≡ n
       adjs : times_called adj calls ≡ 0
-      within : AreWithin unit adj (length t) (length t) calls
+      within : AreBetween Kind (length t) (length t) calls
 
     advanced : (n i : ℕ) (b : Kept) (f : Store ℤ) (t : List ℤ) → i + n < l → f (helper turn d) 0 ≡ pos i → f (helper first d) 0 ≡ a0 → f (helper stride d) 0 ≡ c0 → Standing i f → Advanced n i b f t
     advanced zero i b f t less number_is first_is stride_is h = record {
@@ -320,7 +325,7 @@ module _ (q : Calls ℤ) (sh : Var → Shape) (level : ℕ) (cells : List Key) (
         let value : AtStep i f2 = rw (name_refl x) v_is in
         let stands2 : Standing i f2 = s.standing i f f2 (variable_set v f) h in
         let c = s.stepped i b f2 t (omega arith) stands2 value in
-        let g1 = goes_step_before q nw line (assign (plain x) none (bin plus (var (helper first d)) (bin times (var (helper turn d)) (var (helper stride d))))) plain_call b f f2 c.after t t t (called unit (length t)) []
+        let g1 = goes_step_before q nw line (assign (plain x) none (bin plus (var (helper first d)) (bin times (var (helper turn d)) (var (helper stride d))))) plain_call b f f2 c.after t t t (called unit c.shapes (length t)) []
         (act_at_once q nw line (assign (plain x) none (bin plus (var (helper first d)) (bin times (var (helper turn d)) (var (helper stride d))))) (scene b f t) (scene b f2 t) (λ j. refl)) c.goes in
         let f3 = next_store nw (helper turn d) (pos 1) c.after in
         let up : add (pos i) (pos 1) ≡ pos (suc i) = count_up i (omega arith) in
@@ -330,16 +335,16 @@ module _ (q : Calls ℤ) (sh : Var → Shape) (level : ℕ) (cells : List Key) (
         let sum : suc i + n ≡ i + suc n = omega arith in
         record {
           after = r.after;
-          calls = called unit (length t) ++ r.calls;
-          goes = turns_go-more q nw (at_turn line d (plain x) turn plain_call) (helper turn d) (pos 1) n b f c.after r.after t t t (called unit (length t)) r.calls [] []
+          calls = called unit c.shapes (length t) ++ r.calls;
+          goes = turns_go-more q nw (at_turn line d (plain x) turn plain_call) (helper turn d) (pos 1) n b f c.after r.after t t t (called unit c.shapes (length t)) r.calls [] []
               g1
               r.goes;
           stands = subst (λ z. Standing z r.after) sum r.stands;
           fixed = fixed_then d f f3 r.after (record { count_is = c.helpers.at count d 0; first_is = c.helpers.at first d 0; stride_is = c.helpers.at stride d 0; entry_is = c.helpers.at entry d 0; kind_is = c.helpers.at kind d 0 }) r.fixed;
           shades = λ y j. r.shades y j ∙ c.shades y j;
-          units = let one : times_called unit (called unit (length t) ++ r.calls) ≡ suc (times_called unit r.calls) = rw (name_refl unit) (omega arith) in one ∙ ap suc r.units;
-          adjs = let none_here : times_called adj (called unit (length t) ++ r.calls) ≡ times_called adj r.calls = rw differ' (omega arith) in none_here ∙ r.adjs;
-          within = ((inl refl, (omega arith, omega arith)), r.within);
+          units = let one : times_called unit (called unit c.shapes (length t) ++ r.calls) ≡ suc (times_called unit r.calls) = rw (name_refl unit) (omega arith) in one ∙ ap suc r.units;
+          adjs = let none_here : times_called adj (called unit c.shapes (length t) ++ r.calls) ≡ times_called adj r.calls = rw differ' (omega arith) in none_here ∙ r.adjs;
+          within = ((c.right (length t), (omega arith, omega arith)), r.within);
         }
 
     trips_between : (i n : ℕ) → i + n < l → trips unmarked (pos i) (sub (pos (i + n)) (pos 1)) (pos 1) ≡ Ok n
@@ -349,7 +354,7 @@ module _ (q : Calls ℤ) (sh : Var → Shape) (level : ℕ) (cells : List Key) (
         let ok : nat_le n 9223372036854775807 ≡ true = grind arith in
         rw many (rw ok refl)
 
-    advances_done : (k i n : ℕ) (rest : List Action) (b : Kept) (f : Store ℤ) (t : List ℤ) → past k all ≡ Advance i (i + n) ∷ rest → i + n < l → Ready k f → Standing i f → Played q sh level cells action (helper entry d) unit adj words Ready 1 k (Standing (i + n)) (λ y. y) [] n 0 (length t) (length t) b f t t
+    advances_done : (k i n : ℕ) (rest : List Action) (b : Kept) (f : Store ℤ) (t : List ℤ) → past k all ≡ Advance i (i + n) ∷ rest → i + n < l → Ready k f → Standing i f → Played q sh level cells action (helper entry d) unit adj Kind words Ready 1 k (Standing (i + n)) (λ y. y) [] n 0 (length t) (length t) b f t t
     advances_done k i n rest b f t at less r h =
         let f1 = told (Advance i (i + n)) f in
         let word : wrap (pos i) ≡ pos i = wrap_word (pos i) (word-count i (omega arith)) in
@@ -366,5 +371,5 @@ module _ (q : Calls ℤ) (sh : Var → Shape) (level : ℕ) (cells : List Key) (
         (record { count_is = c.fixed.count_is; first_is = c.fixed.first_is; stride_is = c.fixed.stride_is; entry_is = c.fixed.entry_is; kind_is = c.fixed.kind_is })
         (stands_next (i + n) c.after c.stands) (λ y. ap (λ z. pairing cells z y) (λ i x. c.shades x.0 x.1 i)) tt c.units c.adjs c.within
 
-    pub acts : Acts q sh level cells action (helper entry d) unit adj words Ready all l Standing Loose Snap change loops
+    pub acts : Acts q sh level cells action (helper entry d) unit adj Kind words Ready all l Standing Loose Snap change loops
     acts = record { snapshots = s.snapshots; puts = puts; advances = advances_done; turns = turns_done; keeps = keeps; drops = drops }

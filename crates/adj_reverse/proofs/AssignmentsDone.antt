@@ -38,6 +38,7 @@ use Rattle.adj_reverse.proofs.TermTangents.{cell_in_below, changed, assigned_cha
 use Rattle.adj_reverse.proofs.TermUses.{IsOver, text_of, texts_of, over_of}
 use Rattle.adj_reverse.proofs.TurnedOf.{HasTarget}
 use Rattle.adj_reverse.proofs.Assignments.{sweeps_assign, set_both}
+use Rattle.adj_reverse.specs.Reversals.{ReversedLines}
 
 ok_same : {C : Type 0} (a b : C) → (let r : Result C Trap = Ok a in r ≡ Ok b) → a ≡ b
 ok_same a b h = cc
@@ -72,7 +73,7 @@ target_dual : (sh : Var → Shape) (level : ℕ) (x : Var) (subs : Terms) (s : S
 target_dual sh level x none s y h = refl
 target_dual sh level x (more a rest) s y h = ap (λ r. then_ok r (λ is. cell_at (on_duals sh level) x is)) (values_duals sh level (more a rest) s y h.0) ∙ ap (or_trap index) h.1
 
-module _ (p q : Calls ℤ) (lines : ℕ → Bool) (qd : Calls (ℤ × ℤ)) (callees : List ℕ → CalleeFacts) (w : Facts) (arrays : Vars) (vars : List (List ℕ)) (apart : AreApart vars) (present : Bool) (sh : Var → Shape) (level : ℕ) (known : KnowsArrays (plan_of callees w arrays) sh) (shapes : (x : List ℕ) → w.marks.shadowed (plain x) ≡ true → sh (shadow x) ≡ sh (plain x)) (x : List ℕ) (subs : Terms) (e : Term) (i d line : ℕ) (laws : AssignmentLaws w i (plain x) subs e) (fits : AssignmentFits vars arrays x subs e) where
+module _ (p q : Calls ℤ) (lines : ReversedLines) (qd : Calls (ℤ × ℤ)) (callees : List ℕ → CalleeFacts) (w : Facts) (arrays : Vars) (vars : List (List ℕ)) (apart : AreApart vars) (present : Bool) (sh : Var → Shape) (level : ℕ) (known : KnowsArrays (plan_of callees w arrays) sh) (shapes : (x : List ℕ) → w.marks.shadowed (plain x) ≡ true → sh (shadow x) ≡ sh (plain x)) (x : List ℕ) (subs : Terms) (e : Term) (i d line : ℕ) (laws : AssignmentLaws w i (plain x) subs e) (fits : AssignmentFits vars arrays x subs e) where
   abbrev m : Marks
   m = w.marks
 

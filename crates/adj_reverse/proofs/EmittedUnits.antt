@@ -1,7 +1,7 @@
 -- The units of the emitted program: each carried unit, and the adjoint of each unit that has one, are found under their names.
 use Rattle.std.proofs.Common.{◌≡◌, ℕ, zero, suc, Bool, true, false, List, [], ◌∷◌, ◌++◌, map, length, refl, sym, ap, ◌∙◌, if◌then◌else◌}
-use Rattle.std.specs.Prelude.{◌&&◌, ◌||◌, Some, flat_map}
-use Rattle.adj_tree.specs.Code.{name_eq, Act, assign, choose, loop, during, call, runtime, Code, stop, step, Procedure}
+use Rattle.std.specs.Prelude.{◌&&◌, ◌||◌, Option, Some, None, flat_map}
+use Rattle.adj_tree.specs.Code.{name_eq, Mark, Act, assign, choose, loop, during, call, runtime, Code, stop, step, Procedure}
 use Rattle.adj_tree.proofs.Names.{name_refl, name_same}
 use Rattle.adj_meaning.specs.Written.{find_unit}
 use Rattle.adj_meaning.specs.Common.{CallsInside', CallsInside, HaveInCommon}
@@ -13,7 +13,9 @@ use Rattle.adj_transpose.specs.Marks.{next, behind}
 use Rattle.adj_transpose.proofs.Variables.{and_true, or_false, or_left, or_right, name_comm, has_apart}
 use Rattle.adj_reverse.specs.Names.{source_names, adjoint_after, adjoint_name}
 use Rattle.adj_reverse.specs.Marking.{ProgramMarks}
-use Rattle.adj_reverse.specs.Program.{calls_act, calls_in, calls_some, reached_after, has_adjoint, answers, is_kept, is_carried, all_units, adjoint_unit, emitted_adjoint, emitted_units}
+use Rattle.adj_reverse.specs.Plan.{found_or, Schedules, Step, reversed_by}
+use Rattle.adj_reverse.proofs.ByStep.{step_inside}
+use Rattle.adj_reverse.specs.Program.{calls_act, calls_in, calls_some, reached_after, has_adjoint, answers, is_kept_with, is_carried_with, all_units, adjoint_unit_with, emitted_adjoint_with, emitted_units_with, turns_act, turns_in, turns_some, schedules_in}
 use Rattle.adj_reverse.proofs.Names.{is_unit, has-append, adjoint_free, adjoints_apart}
 pub use Rattle.adj_reverse.specs.Source.{CallUnits}
 use Rattle.adj_reverse.proofs.Rounds.{either, reached_last}
@@ -48,21 +50,21 @@ found_there (v ∷ us) name u h = go (name_eq v.name name) refl h (found_there u
 
 -- ---- what is emitted
 
-module _ (m : ProgramMarks) (ps : List Procedure) (head : Procedure) (vars outvars : List Bool) where
+module _ (sc : Bool) (m : ProgramMarks) (ps : List Procedure) (head : Procedure) (vars outvars : List Bool) where
   -- the name of the adjoint of the unit of a name
   abbrev adj : List ℕ → List ℕ
   adj x = adjoint_after (source_names ps) ps x
 
   abbrev made : Procedure → Procedure
-  made u = emitted_adjoint m ps head vars outvars u
+  made u = emitted_adjoint_with sc m ps head vars outvars u
 
   abbrev emitted : List Procedure → List Procedure
-  emitted us = emitted_units m ps head vars outvars us
+  emitted us = emitted_units_with sc m ps head vars outvars us
 
   made_name : (u : Procedure) → (made u).name ≡ adj u.name
   made_name u = go (name_eq head.name u.name)
     where
-      go : (b : Bool) → (if b then adjoint_unit m ps (all_units m ps head) u (names_in (m.shadowed u.name) (unmarked u.dummies outvars)) (names_in (m.shadowed u.name) (unmarked u.dummies vars)) else adjoint_unit m ps (all_units m ps head) u [] []).name ≡ adj u.name
+      go : (b : Bool) → (if b then adjoint_unit_with sc m ps (all_units m ps head) u (names_in (m.shadowed u.name) (unmarked u.dummies outvars)) (names_in (m.shadowed u.name) (unmarked u.dummies vars)) else adjoint_unit_with sc m ps (all_units m ps head) u [] []).name ≡ adj u.name
       go true = refl
       go false = refl
 
@@ -73,21 +75,21 @@ module _ (m : ProgramMarks) (ps : List Procedure) (head : Procedure) (vars outva
       has_apart x (adj y) (map unit_name ps) (unit_named ps x h) (or_false (has_name (adj y) (map unit_name ps)) (has_name (adj y) (flat_map variables ps)) (sym (has-append (adj y) (map unit_name ps) (flat_map variables ps)) ∙ free)).0
 
   -- a carried unit is found as it was
-  carried_in : (us : List Procedure) (name : List ℕ) → is_carried m ps head name ≡ true → ((x : List ℕ) → is_unit us x ≡ true → name_eq (adj x) name ≡ false) → find_unit (emitted us) name ≡ find_unit us name
+  carried_in : (us : List Procedure) (name : List ℕ) → is_carried_with sc m ps head name ≡ true → ((x : List ℕ) → is_unit us x ≡ true → name_eq (adj x) name ≡ false) → find_unit (emitted us) name ≡ find_unit us name
   carried_in [] name c h = refl
   carried_in (u ∷ us) name c h =
-      go (name_eq u.name name) refl (is_carried m ps head u.name) refl (carried_in us name c (λ x g. h x (or_right (name_eq u.name x) (is_unit us x) g)))
+      go (name_eq u.name name) refl (is_carried_with sc m ps head u.name) refl (carried_in us name c (λ x g. h x (or_right (name_eq u.name x) (is_unit us x) g)))
     where
       behind_adjoint : find_unit ((if has_adjoint m ps head u.name then made u ∷ [] else []) ++ emitted us) name ≡ find_unit (emitted us) name
       behind_adjoint = skip_maybe (has_adjoint m ps head u.name) (made u) (emitted us) name (ap (λ z. name_eq z name) (made_name u) ∙ h u.name (or_left (name_eq u.name u.name) (is_unit us u.name) (name_refl u.name)))
 
-      go : (b : Bool) → name_eq u.name name ≡ b → (k : Bool) → is_carried m ps head u.name ≡ k → find_unit (emitted us) name ≡ find_unit us name →
+      go : (b : Bool) → name_eq u.name name ≡ b → (k : Bool) → is_carried_with sc m ps head u.name ≡ k → find_unit (emitted us) name ≡ find_unit us name →
           find_unit ((if k then u ∷ [] else []) ++ ((if has_adjoint m ps head u.name then made u ∷ [] else []) ++ emitted us)) name ≡ (if b then Some u else find_unit us name)
       go true e true k ih = take u ((if has_adjoint m ps head u.name then made u ∷ [] else []) ++ emitted us) name e
-      go true e false k ih = absurd (let p : true ≡ false = sym c ∙ ap (is_carried m ps head) (sym (name_same u.name name e)) ∙ k in cc)
+      go true e false k ih = absurd (let p : true ≡ false = sym c ∙ ap (is_carried_with sc m ps head) (sym (name_same u.name name e)) ∙ k in cc)
       go false e k d ih = skip_maybe k u ((if has_adjoint m ps head u.name then made u ∷ [] else []) ++ emitted us) name e ∙ behind_adjoint ∙ ih
 
-  pub carried_found : (name : List ℕ) → is_carried m ps head name ≡ true → is_unit ps name ≡ true → find_unit (emitted ps) name ≡ find_unit ps name
+  pub carried_found : (name : List ℕ) → is_carried_with sc m ps head name ≡ true → is_unit ps name ≡ true → find_unit (emitted ps) name ≡ find_unit ps name
   carried_found name c h = carried_in ps name c (λ x g. name_comm name (adj x) (apart_source name x h g))
 
   -- the adjoint of a unit is found under its name
@@ -96,7 +98,7 @@ module _ (m : ProgramMarks) (ps : List Procedure) (head : Procedure) (vars outva
   adjoint_in [] u f a free apart = absurd cc
   adjoint_in (v ∷ us) u f a free apart =
       let self : is_unit (v ∷ us) v.name ≡ true = or_left (name_eq v.name v.name) (is_unit us v.name) (name_refl v.name) in
-      skip_maybe (is_carried m ps head v.name) v ((if has_adjoint m ps head v.name then made v ∷ [] else []) ++ emitted us) (adj u.name) (free v.name self)
+      skip_maybe (is_carried_with sc m ps head v.name) v ((if has_adjoint m ps head v.name then made v ∷ [] else []) ++ emitted us) (adj u.name) (free v.name self)
       ∙ go (name_eq v.name u.name) refl f (λ r. adjoint_in us u r a (λ x g. free x (or_right (name_eq v.name x) (is_unit us x) g)) (λ x g. apart x (or_right (name_eq v.name x) (is_unit us x) g))) (apart v.name self)
     where
       go : (b : Bool) → name_eq v.name u.name ≡ b → (if b then Some v else find_unit us u.name) ≡ Some u → (find_unit us u.name ≡ Some u → find_unit (emitted us) (adj u.name) ≡ Some (made u)) → (name_eq v.name u.name ≡ false → name_eq (adj v.name) (adj u.name) ≡ false) →
@@ -167,22 +169,53 @@ some_there ps (u ∷ us) k f s name i h =
     (λ e. called_in (is_unit ps) s name i u.body k.0 (and_true (f u.name) (calls_in s name i u.body) e).1)
     (some_there ps us k.1 f s name (behind i u.body))
 
-module _ (m : ProgramMarks) (ps : List Procedure) (head : Procedure) (vars outvars : List Bool) (known : CallUnits ps ps) where
-  there_after : (k : ℕ) (name : List ℕ) → reached_after (is_kept m ps head) (λ i. true) ps k name ≡ true → is_unit ps name ≡ true
+-- a loop that is reversed by a schedule calls its step unit
+turned_loop : (p : List ℕ → Bool) (r : Schedules) (s : ℕ → Bool) (name : List ℕ) (i : ℕ) (body : Code) (n : Mark) → CallsInside p body → (turns_in r s name (suc i) body ≡ true → p name ≡ true) → (o : Option Step) → reversed_by r s i body n ≡ o → found_or o (turns_in r s name (suc i) body) (λ t. name_eq name t.name) ≡ true → p name ≡ true
+turned_loop p r s name i body n k as_others None e h = as_others h
+turned_loop p r s name i body n k as_others (Some t) e h = ap p (name_same name t.name h) ∙ step_inside p r s i body n t e k
+
+mutual
+  turned_act : (p : List ℕ → Bool) (r : Schedules) (s : ℕ → Bool) (name : List ℕ) (i : ℕ) (a : Act) → CallsInside' p a → turns_act r s name i a ≡ true → p name ≡ true
+  turned_act p r s name i (assign x subs e) k h = absurd cc
+  turned_act p r s name i (choose c a b) k h = either (turns_in r s name (suc i) a) (turns_in r s name (behind (suc i) a) b) (p name) h (turned_in p r s name (suc i) a k.0) (turned_in p r s name (behind (suc i) a) b k.1)
+  turned_act p r s name i (loop x a b c body n) k h = turned_loop p r s name i body n k (turned_in p r s name (suc i) body k) (reversed_by r s i body n) refl h
+  turned_act p r s name i (during c body) k h = turned_in p r s name (suc i) body k h
+  turned_act p r s name i (call other args) k h = absurd cc
+  turned_act p r s name i (runtime c) k h = absurd cc
+
+  turned_in : (p : List ℕ → Bool) (r : Schedules) (s : ℕ → Bool) (name : List ℕ) (i : ℕ) (c : Code) → CallsInside p c → turns_in r s name i c ≡ true → p name ≡ true
+  turned_in p r s name i stop k h = absurd cc
+  turned_in p r s name i (step line a rest) k h = either (turns_act r s name i a) (turns_in r s name (next i a) rest) (p name) h (turned_act p r s name i a k.0) (turned_in p r s name (next i a) rest k.1)
+
+turned_there : (ps us : List Procedure) → CallUnits ps us → (r : Schedules) (f : List ℕ → Bool) (s : ℕ → Bool) (name : List ℕ) (i : ℕ) → turns_some r f s name i us ≡ true → is_unit ps name ≡ true
+turned_there ps [] k r f s name i h = absurd cc
+turned_there ps (u ∷ us) k r f s name i h =
+    either (f u.name && turns_in r s name i u.body) (turns_some r f s name (behind i u.body) us) (is_unit ps name) h
+    (λ e. turned_in (is_unit ps) r s name i u.body k.0 (and_true (f u.name) (turns_in r s name i u.body) e).1)
+    (turned_there ps us k.1 r f s name (behind i u.body))
+
+module _ (sc : Bool) (m : ProgramMarks) (ps : List Procedure) (head : Procedure) (vars outvars : List Bool) (known : CallUnits ps ps) where
+  kept_there : (b : Bool) (name : List ℕ) → is_kept_with b m ps head name ≡ true → is_unit ps name ≡ true
+  kept_there false name h = some_there ps ps known (has_adjoint m ps head) m.kept name 0 h
+  kept_there true name h =
+      either (calls_some (has_adjoint m ps head) m.kept name 0 ps) (turns_some (schedules_in true ps) (has_adjoint m ps head) m.adjointed name 0 ps) (is_unit ps name) h
+      (some_there ps ps known (has_adjoint m ps head) m.kept name 0) (turned_there ps ps known (schedules_in true ps) (has_adjoint m ps head) m.adjointed name 0)
+
+  there_after : (k : ℕ) (name : List ℕ) → reached_after (is_kept_with sc m ps head) (λ i. true) ps k name ≡ true → is_unit ps name ≡ true
   there_after zero name h = absurd cc
   there_after (suc k) name h =
-      either (is_kept m ps head name) (calls_some (reached_after (is_kept m ps head) (λ i. true) ps k) (λ i. true) name 0 ps) (is_unit ps name) h
-      (some_there ps ps known (has_adjoint m ps head) m.kept name 0) (some_there ps ps known (reached_after (is_kept m ps head) (λ i. true) ps k) (λ i. true) name 0)
+      either (is_kept_with sc m ps head name) (calls_some (reached_after (is_kept_with sc m ps head) (λ i. true) ps k) (λ i. true) name 0 ps) (is_unit ps name) h
+      (kept_there sc name) (some_there ps ps known (reached_after (is_kept_with sc m ps head) (λ i. true) ps k) (λ i. true) name 0)
 
   -- the carried units are in the emitted program as in the source, and call carried ones only
-  pub carried_common : HaveInCommon (is_carried m ps head) ps (emitted_units m ps head vars outvars ps)
+  pub carried_common : HaveInCommon (is_carried_with sc m ps head) ps (emitted_units_with sc m ps head vars outvars ps)
   carried_common = record {
-    same = λ name h. sym (carried_found m ps head vars outvars name h (there_after (length ps) name h));
+    same = λ name h. sym (carried_found sc m ps head vars outvars name h (there_after (length ps) name h));
     closed = λ name u h f.
-        let c = counts (is_carried m ps head) (λ i. true) 0 ps name u f h in
-        inside_in (is_carried m ps head) c.at u.body (λ n g.
-        let some : calls_some (is_carried m ps head) (λ i. true) n 0 ps ≡ true = c.by n g in
-        reached_last (is_kept m ps head) (λ i. true) ps n (some_there ps ps known (is_carried m ps head) (λ i. true) n 0 some) (or_right (is_kept m ps head n) (calls_some (is_carried m ps head) (λ i. true) n 0 ps) some));
+        let c = counts (is_carried_with sc m ps head) (λ i. true) 0 ps name u f h in
+        inside_in (is_carried_with sc m ps head) c.at u.body (λ n g.
+        let some : calls_some (is_carried_with sc m ps head) (λ i. true) n 0 ps ≡ true = c.by n g in
+        reached_last (is_kept_with sc m ps head) (λ i. true) ps n (some_there ps ps known (is_carried_with sc m ps head) (λ i. true) n 0 some) (or_right (is_kept_with sc m ps head n) (calls_some (is_carried_with sc m ps head) (λ i. true) n 0 ps) some));
   }
 
   -- a unit whose adjoint is called has one

@@ -1,13 +1,13 @@
 -- A call of a unit and the run of its body, under the unit's own names or under others.
-use Rattle.std.proofs.Common.{◌≡◌, ℕ, suc, ◌+◌, Bool, true, false, List, [], ◌∷◌, map, refl, sym, ap, ◌∙◌}
+use Rattle.std.proofs.Common.{◌≡◌, ℕ, suc, ◌+◌, Bool, true, false, List, [], ◌∷◌, map, refl, sym, ap, ◌∙◌, subst}
 use Rattle.std.specs.Prelude.{pos, length, Ok, Some, ◌==◌, if◌then◌else◌}
-use Rattle.adj_tree.specs.Code.{Var, plain, var_eq, call, Code, Procedure}
+use Rattle.adj_tree.specs.Code.{Var, plain, var_eq, Terms, call, Code, Procedure}
 use Rattle.adj_meaning.specs.Trap.{then_ok, shape_trap, schedule_trap}
 use Rattle.adj_meaning.specs.Store.{Shape, Store, set_all}
 use Rattle.adj_meaning.specs.Value.{Setting}
 use Rattle.adj_meaning.specs.Event.{Enter}
 use Rattle.adj_meaning.specs.Scene.{Scene, stand, Outcome, Done, Trapped, More, Full, then_do, with_value}
-use Rattle.adj_meaning.specs.Run.{run}
+use Rattle.adj_meaning.specs.Run.{Calls, run}
 use Rattle.adj_meaning.specs.Written.{find_unit, handed_back, is_written}
 use Rattle.adj_meaning.specs.Rename.{rename}
 use Rattle.adj_meaning.specs.Seen.{Separates, pulled, pulled_setting, pulled_scene, pulled_outcome}
@@ -20,9 +20,11 @@ use Rattle.adj_meaning.proofs.Frames.{keeps_others}
 use Rattle.adj_meaning.proofs.Costs.{leads_where_done}
 use Rattle.adj_transpose.specs.Marks.{Vars}
 use Rattle.adj_transpose.specs.Lists.{Kept, scene}
-use Rattle.adj_reverse.specs.Reversals.{Reversal, LoopRun}
-use Rattle.adj_reverse.proofs.Told.{tells_called, marks_called}
-use Rattle.adj_reverse.specs.Runs.{Comes, ActComes, Passes, ActPasses}
+use Rattle.adj_reverse.specs.Reversals.{Reversal, LoopRun, TellsCalls, Marks, ReversedLines}
+use Rattle.adj_reverse.proofs.Told.{tells_called, tells_entered, marks_called, tells_of_marks}
+use Rattle.adj_reverse.specs.Runs.{Comes, ActComes, Passes}
+use Rattle.adj_reverse.specs.Steps.{ActGoes}
+use Rattle.adj_reverse.proofs.EmittedUnits.{found_there}
 use Rattle.adj_reverse.specs.Passing.{Bindings, actuals_in, passed_in, passed_out}
 pub use Rattle.adj_reverse.specs.Emitted.{AreNamed, name_of}
 
@@ -76,6 +78,13 @@ pulled_done r (Done e j) s k h = let m : j ≡ k = cc in record { end = e; is = 
 pulled_done r (Trapped t line w) s k h = cc
 pulled_done r (More w) s k h = cc
 pulled_done r (Full w) s k h = cc
+
+-- a call in the program: what it tells of loops, and as a call
+pub record CallPasses {C : Type 0} (lines : ReversedLines) (q : Calls C) (n : Setting C) (name : List ℕ) (args : Terms) (line : ℕ) (base : Kept) (s s' : Store C) (t : List C) (loops : List LoopRun) (shapes : List Shape) : Type 0 where
+  pub later : Kept
+  pub marks : Marks lines n.level base later loops
+  pub calls : TellsCalls n.level base later (record { unit = name; height = length t; shapes = shapes } ∷ []) []
+  pub runs : ActLeads q n (call name args) line (scene base s t) (scene later s' t)
 
 -- what is kept at a unit's entry
 abbrev pub kept_at : {C : Type 0} → Setting C → Procedure → List Shape → Kept → List C → Kept
@@ -140,10 +149,19 @@ module _ {C : Type 0} (units : List Procedure) (depth : ℕ) (n : Setting C) (na
     runs = call_leads c is line base b.later t t' end fit b.tells.opened b.runs;
   }
 
-  pub call_passes : (lines : ℕ → Bool) (loops : List LoopRun) (c : Code) → u.body ≡ rename r c → (line : ℕ) (base : Kept) (t : List C) (end : Store C) → dummies_fit n.numbers u entry u.dummies (actuals_at n s bs) ≡ true → Passes lines (calls_of units depth) (pulled_setting r (setting_in n u entry)) c (entered_at base t) (passed_in (n.numbers.of_word (pos 0)) bs s) end t loops → ActPasses lines (calls_of units (suc depth)) n (call name (actuals_in bs)) line base s (passed_out (writes_as units u r) bs end s) t loops
+  -- the same with what the call tells: one entry, and the reversals of the body
+  pub call_goes : {rs : List Reversal} (c : Code) → u.body ≡ rename r c → (line : ℕ) (base : Kept) (t t' : List C) (end : Store C) → dummies_fit n.numbers u entry u.dummies (actuals_at n s bs) ≡ true → Comes (calls_of units depth) (pulled_setting r (setting_in n u entry)) c (entered_at base t) (passed_in (n.numbers.of_word (pos 0)) bs s) end t t' rs → ActGoes (calls_of units (suc depth)) n (call name (actuals_in bs)) line base s (passed_out (writes_as units u r) bs end s) t t' (record { unit = name; height = length t; shapes = dummy_shapes (setting_in n u entry) u } ∷ []) rs
+  call_goes {rs} c is line base t t' end fit b = record {
+    later = record { opened = base.opened; events = b.later.events };
+    tells = subst (λ z. TellsCalls n.level base (record { opened = base.opened; events = b.later.events }) (record { unit = z; height = length t; shapes = dummy_shapes (setting_in n u entry) u } ∷ []) rs) (found_there units name u found).1 (tells_entered n.level (length t) u.name (dummy_shapes (setting_in n u entry) u) base b.later rs b.tells);
+    runs = call_leads c is line base b.later t t' end fit b.tells.opened b.runs;
+  }
+
+  pub call_passes : (lines : ReversedLines) (loops : List LoopRun) (c : Code) → u.body ≡ rename r c → (line : ℕ) (base : Kept) (t : List C) (end : Store C) → dummies_fit n.numbers u entry u.dummies (actuals_at n s bs) ≡ true → Passes lines (calls_of units depth) (pulled_setting r (setting_in n u entry)) c (entered_at base t) (passed_in (n.numbers.of_word (pos 0)) bs s) end t loops → CallPasses lines (calls_of units (suc depth)) n name (actuals_in bs) line base s (passed_out (writes_as units u r) bs end s) t loops (dummy_shapes (setting_in n u entry) u)
   call_passes lines loops c is line base t end fit b = record {
     later = record { opened = base.opened; events = b.later.events };
-    tells = marks_called lines n.level (length t) u.name (dummy_shapes (setting_in n u entry) u) base b.later loops b.tells;
+    marks = marks_called lines n.level (length t) u.name (dummy_shapes (setting_in n u entry) u) base b.later loops b.tells;
+    calls = subst (λ z. TellsCalls n.level base (record { opened = base.opened; events = b.later.events }) (record { unit = z; height = length t; shapes = dummy_shapes (setting_in n u entry) u } ∷ []) []) (found_there units name u found).1 (tells_entered n.level (length t) u.name (dummy_shapes (setting_in n u entry) u) base b.later [] (tells_of_marks lines (suc n.level) (entered_at base t) b.later loops b.tells));
     runs = call_leads c is line base b.later t t end fit b.tells.opened b.runs;
   }
 

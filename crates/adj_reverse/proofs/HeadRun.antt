@@ -35,17 +35,17 @@ use Rattle.adj_reverse.specs.Passing.{plainly}
 use Rattle.std.proofs.lemmas.List.{append-nil, reverse-reverse}
 use Rattle.std.specs.Prelude.{reverse}
 use Rattle.adj_reverse.specs.Adjoint.{TransposesBy}
-use Rattle.adj_reverse.specs.Reversals.{ReversesLoops, AreReversed, marks_in, reversals_in, in_order}
-use Rattle.adj_reverse.proofs.Told.{marks_in-append, in_order-append, in_order-reverse}
+use Rattle.adj_reverse.specs.Reversals.{ReversesLoops, AreReversed, runs_in, reversals_in, in_order, ReversedLines}
+use Rattle.adj_reverse.proofs.Told.{runs_in-append, in_order-append, in_order-reverse}
 use Rattle.adj_reverse.specs.Runs.{Passes}
-use Rattle.adj_reverse.specs.Emission.{adjoint_body}
+use Rattle.adj_reverse.specs.Emission.{adjoint_body_with}
 use Rattle.adj_reverse.specs.Emitted.{DeclaredAlike}
-use Rattle.adj_reverse.specs.Environment.{UnitFits}
+use Rattle.adj_reverse.specs.Environment.{UnitFitsBy}
 use Rattle.adj_reverse.specs.Lists.{AreVaried, AreReady, TransposesList}
 use Rattle.adj_reverse.specs.Marking.{ProgramMarks, ProgramFacts, facts_in, arrays_of, callee_facts, callee_of, plan_in, first_statement, entry_point, end_point}
-use Rattle.adj_reverse.specs.Program.{adjoint_names, has_adjoint, answers, is_carried, all_units, adjoint_unit}
-use Rattle.adj_reverse.specs.Source.{variables_of, arrays_in, SourceFits}
-use Rattle.adj_reverse.specs.Theorem.{ShapesFit, plan_of}
+use Rattle.adj_reverse.specs.Program.{adjoint_names_with, has_adjoint, answers, is_carried_with, all_units, adjoint_unit_with, schedules_in}
+use Rattle.adj_reverse.specs.Source.{variables_of, arrays_in, SourceFitsWith}
+use Rattle.adj_reverse.specs.Theorem.{ShapesFit, plan_of, schedules_by}
 use Rattle.adj_reverse.proofs.Calls.{shadow_undeclared, helper_undeclared, extents_dual}
 use Rattle.adj_reverse.proofs.Cells.{cells_only}
 use Rattle.adj_reverse.proofs.Variables.{locals, dummies_first, local_apart}
@@ -73,7 +73,7 @@ pulled_done r (Trapped t line w) s k h = cc
 pulled_done r (More w) s k h = cc
 pulled_done r (Full w) s k h = cc
 
-module _ (lines : ℕ → Bool) (w : ProgramFacts) (ps : List Procedure) (u : Procedure) (vars outvars : List Bool) (good : SourceFits lines w ps u) (input given : List (Slot ℤ)) (fit : fits words u input ≡ true) (alike : AreAlike input given) (k used : ℕ) (output : Output ℤ) (done : run_unit words ps u input [] None k ≡ Done output used) where
+module _ (sc : Bool) (lines : ReversedLines) (w : ProgramFacts) (ps : List Procedure) (u : Procedure) (vars outvars : List Bool) (good : SourceFitsWith sc lines w ps u) (input given : List (Slot ℤ)) (fit : fits words u input ≡ true) (alike : AreAlike input given) (k used : ℕ) (output : Output ℤ) (done : run_unit words ps u input [] None k ≡ Done output used) where
   abbrev pub m : ProgramMarks
   m = w.marks
 
@@ -84,7 +84,7 @@ module _ (lines : ℕ → Bool) (w : ProgramFacts) (ps : List Procedure) (u : Pr
   shadowed = m.shadowed u.name
 
   abbrev pub ns : List Named
-  ns = adjoint_names m ps (all_units m ps u) u
+  ns = adjoint_names_with sc m ps (all_units m ps u) u
 
   abbrev pub outs : List (List ℕ)
   outs = names_in shadowed (unmarked u.dummies outvars)
@@ -93,10 +93,10 @@ module _ (lines : ℕ → Bool) (w : ProgramFacts) (ps : List Procedure) (u : Pr
   ins = names_in shadowed (unmarked u.dummies vars)
 
   abbrev pub a : Procedure
-  a = adjoint_unit m ps (all_units m ps u) u outs ins
+  a = adjoint_unit_with sc m ps (all_units m ps u) u outs ins
 
   abbrev pub qs : List Procedure
-  qs = emitted.qs lines w ps u vars outvars good
+  qs = emitted.qs sc lines w ps u vars outvars good
 
   abbrev pub joined : List (Slot ℤ)
   joined = joined_by (shadow_flags shadowed u.dummies) input given
@@ -104,19 +104,19 @@ module _ (lines : ℕ → Bool) (w : ProgramFacts) (ps : List Procedure) (u : Pr
   abbrev g : Callee
   g = callee_of m ps u.name (Some u)
 
-  abbrev pub fitting : UnitFits lines ps (callee_facts w ps) (has_adjoint m ps u) (answers m ps u) (is_carried m ps u) u.name u (first_statement ps u.name) (variables u) (arrays_of u)
+  abbrev pub fitting : UnitFitsBy (schedules_by sc (callee_facts w ps)) lines ps (callee_facts w ps) (has_adjoint m ps u) (answers m ps u) (is_carried_with sc m ps u) u.name u (first_statement ps u.name) (variables u) (arrays_of u)
   fitting = good.units u.name u good.there good.head_reached
 
   abbrev pub separates : (v w : Var) → var_eq (naming ns v) (naming ns w) ≡ var_eq v w
-  separates = made.separates m ps (all_units m ps u) u fitting.vars_apart (good.inside u.name u good.there) (good.extents u.name u good.there)
+  separates = made.separates sc m ps (all_units m ps u) u fitting.vars_apart (good.inside u.name u good.there) (good.extents u.name u good.there)
 
   abbrev declared_alike : DeclaredAlike u a (naming ns) g
   declared_alike =
-      let d = made.declared_alike m ps (all_units m ps u) u fitting.vars_apart (good.inside u.name u good.there) (good.extents u.name u good.there) in
+      let d = made.declared_alike sc m ps (all_units m ps u) u fitting.vars_apart (good.inside u.name u good.there) (good.extents u.name u good.there) in
       record { plains = d.plains; shadows = d.shadows; helpers = d.helpers; extents = d.extents }
 
   abbrev pub own_names : (x : List ℕ) → has_name x u.dummies ≡ true → naming ns (plain x) ≡ plain x
-  own_names x h = ap plain (made.own_dummy m ps (all_units m ps u) u fitting.vars_apart (good.inside u.name u good.there) (good.extents u.name u good.there) x h)
+  own_names x h = ap plain (made.own_dummy sc m ps (all_units m ps u) u fitting.vars_apart (good.inside u.name u good.there) (good.extents u.name u good.there) x h)
 
   abbrev pub before : Store ℤ
   before = input_store words u input
@@ -125,16 +125,16 @@ module _ (lines : ℕ → Bool) (w : ProgramFacts) (ps : List Procedure) (u : Pr
   start = pulled (naming ns) (input_store words a joined)
 
   abbrev sh : Var → Shape
-  sh = entry.shapes u a ns separates g refl declared_alike (made.own_dummy m ps (all_units m ps u) u fitting.vars_apart (good.inside u.name u good.there) (good.extents u.name u good.there)) refl input given fit alike
+  sh = entry.shapes u a ns separates g refl declared_alike (made.own_dummy sc m ps (all_units m ps u) u fitting.vars_apart (good.inside u.name u good.there) (good.extents u.name u good.there)) refl input given fit alike
 
   pub same_plain : (y : List ℕ) (j : ℕ) → start (plain y) j ≡ before (plain y) j
-  same_plain = entry.same_plain u a ns separates g refl declared_alike (made.own_dummy m ps (all_units m ps u) u fitting.vars_apart (good.inside u.name u good.there) (good.extents u.name u good.there)) refl input given fit alike
+  same_plain = entry.same_plain u a ns separates g refl declared_alike (made.own_dummy sc m ps (all_units m ps u) u fitting.vars_apart (good.inside u.name u good.there) (good.extents u.name u good.there)) refl input given fit alike
 
   pub same_shadow : (y : List ℕ) (j : ℕ) → start (shadow y) j ≡ (if shadowed (plain y) then input_store words u given (plain y) j else pos 0)
-  same_shadow = entry.same_shadow u a ns separates g refl declared_alike (made.own_dummy m ps (all_units m ps u) u fitting.vars_apart (good.inside u.name u good.there) (good.extents u.name u good.there)) refl input given fit alike
+  same_shadow = entry.same_shadow u a ns separates g refl declared_alike (made.own_dummy sc m ps (all_units m ps u) u fitting.vars_apart (good.inside u.name u good.there) (good.extents u.name u good.there)) refl input given fit alike
 
   pub adjoint_fits : fits words a joined ≡ true
-  adjoint_fits = entry.adjoint_fits u a ns separates g refl declared_alike (made.own_dummy m ps (all_units m ps u) u fitting.vars_apart (good.inside u.name u good.there) (good.extents u.name u good.there)) refl input given fit alike
+  adjoint_fits = entry.adjoint_fits u a ns separates g refl declared_alike (made.own_dummy sc m ps (all_units m ps u) u fitting.vars_apart (good.inside u.name u good.there) (good.extents u.name u good.there)) refl input given fit alike
 
   abbrev pub body : BodyEnds words ps u input k output
   body = body_ends words ps u input k used output done
@@ -170,19 +170,19 @@ module _ (lines : ℕ → Bool) (w : ProgramFacts) (ps : List Procedure) (u : Pr
   cells = cells_of sh (variables u)
 
   abbrev Transposed : Option Procedure → Type 0
-  Transposed o = TransposesList (calls_of qs k) lines (calls_of ps k) sh 1 (cells_of sh (variables_of o)) (plan_of (callee_facts w ps) own (arrays_in o)) own 0 written (first_statement ps u.name) from to u.body before body.end.store
+  Transposed o = TransposesList (schedules_in sc ps) (calls_of qs k) lines (calls_of ps k) sh 1 (cells_of sh (variables_of o)) (plan_of (callee_facts w ps) own (arrays_in o)) own 0 written (first_statement ps u.name) from to u.body before body.end.store
 
   pub list : Transposed (Some u)
   list =
       subst Transposed good.there
-      (units_transpose lines ps qs (callee_facts w ps) (has_adjoint m ps u) (answers m ps u) (is_carried m ps u) (first_statement ps) (emitted.vars_of lines w ps u vars outvars good) (emitted.arrays lines w ps u vars outvars good) (emitted.emitted_fits lines w ps u vars outvars good)
-      k u.name u good.there (emitted.head_within lines w ps u vars outvars good) (head_there m ps u vars outvars good.known (found_there ps u.name u good.there).0) sh 1
+      (units_transpose sc lines ps qs (callee_facts w ps) (has_adjoint m ps u) (answers m ps u) (is_carried_with sc m ps u) (first_statement ps) (emitted.vars_of sc lines w ps u vars outvars good) (emitted.arrays sc lines w ps u vars outvars good) (emitted.emitted_fits sc lines w ps u vars outvars good)
+      k u.name u good.there (emitted.head_within sc lines w ps u vars outvars good) (head_there sc m ps u vars outvars good.known (found_there ps u.name u good.there).0) sh 1
       (subst (λ o. ShapesFit (plan_of (callee_facts w ps) own (arrays_in o)) sh) (sym good.there) shapes_fit)
       (begin words ps u input) body.end k body.left (ap (λ n. run (calls_of ps k) n u.body (begin words ps u input) k) (sym setting_plain) ∙ body.is))
 
   -- what the body of the adjoint does, under its own names
-  abbrev pub reversed : Reverses (calls_of qs k) lines (calls_of ps k) sh 1 cells p own written (first_statement ps u.name) from to u.line u.body outs ins (kept_in words qs a joined) before body.end.store start []
-  reversed = reverses (calls_of qs k) lines (calls_of ps k) sh 1 cells p knows own written (first_statement ps u.name) from to u.line u.body outs ins (kept_in words qs a joined) before body.end.store start [] list (record { at = λ x j l i. same_plain x j })
+  abbrev pub reversed : Reverses (schedules_in sc ps) (calls_of qs k) lines (calls_of ps k) sh 1 cells p own written (first_statement ps u.name) from to u.line u.body outs ins (kept_in words qs a joined) before body.end.store start []
+  reversed = reverses (schedules_in sc ps) (calls_of qs k) lines (calls_of ps k) sh 1 cells p knows own written (first_statement ps u.name) from to u.line u.body outs ins (kept_in words qs a joined) before body.end.store start [] list (record { at = λ x j l i. same_plain x j })
 
   abbrev seen_setting : Setting ℤ
   seen_setting = unit_setting words qs a joined
@@ -191,9 +191,9 @@ module _ (lines : ℕ → Bool) (w : ProgramFacts) (ps : List Procedure) (u : Pr
   abbrev pub named_run : PulledDone (naming ns) (run (calls_of qs k) seen_setting a.body (begin words qs a joined) (reversed.runs.runs.cost + 0)) (scene reversed.runs.later reversed.end []) 0
   named_run =
       pulled_done (naming ns) (run (calls_of qs k) seen_setting a.body (begin words qs a joined) (reversed.runs.runs.cost + 0)) (scene reversed.runs.later reversed.end []) 0
-      (run_renamed (naming ns) (record { at = separates }) qs k seen_setting (adjoint_body p (first_statement ps u.name) u.line u.body outs ins) (begin words qs a joined) (reversed.runs.runs.cost + 0)
-      ∙ ap (λ n. run (calls_of qs k) n (adjoint_body p (first_statement ps u.name) u.line u.body outs ins) (scene (kept_in words qs a joined) start []) (reversed.runs.runs.cost + 0))
-      (entry.setting_seen u a ns separates g refl declared_alike (made.own_dummy m ps (all_units m ps u) u fitting.vars_apart (good.inside u.name u good.there) (good.extents u.name u good.there)) refl input given fit alike)
+      (run_renamed (naming ns) (record { at = separates }) qs k seen_setting (adjoint_body_with (schedules_in sc ps) p (first_statement ps u.name) u.line u.body outs ins) (begin words qs a joined) (reversed.runs.runs.cost + 0)
+      ∙ ap (λ n. run (calls_of qs k) n (adjoint_body_with (schedules_in sc ps) p (first_statement ps u.name) u.line u.body outs ins) (scene (kept_in words qs a joined) start []) (reversed.runs.runs.cost + 0))
+      (entry.setting_seen u a ns separates g refl declared_alike (made.own_dummy sc m ps (all_units m ps u) u fitting.vars_apart (good.inside u.name u good.there) (good.extents u.name u good.there)) refl input given fit alike)
       ∙ reversed.runs.runs.by 0)
 
   -- its run ends
@@ -210,12 +210,11 @@ module _ (lines : ℕ → Bool) (w : ProgramFacts) (ps : List Procedure) (u : Pr
   told_same = ap (λ (z : Scene ℤ). z.events) (words_end ps k (plainly sh) u.body (kept_in words ps u input) passed.later before body.end.store (λ y. pos 0) (reversed.derivative (λ y. pos 0)) body.end k body.left (ap (λ n. run (calls_of ps k) n u.body (begin words ps u input) k) (sym setting_plain) ∙ body.is) passed.runs)
 
   reverses_loops : ReversesLoops lines output.events ended.output.events
-  reverses_loops = record {
-    loops = reversed.loops;
-    marks = ap (λ (o : Output ℤ). marks_in lines (reverse o.events)) body.gives ∙ ap (marks_in lines) (reverse-reverse body.end.events ∙ told_same ∙ passed.tells.events)
-        ∙ marks_in-append lines passed.tells.told (kept_in words ps u input).events ∙ append-nil (marks_in lines passed.tells.told) ∙ passed.tells.loops_are;
-    reversed = subst (AreReversed reversed.loops) (sym turned_events) reversed.reversed;
-  }
+  reverses_loops =
+      subst (λ z. AreReversed z (reversals_in (reverse named_run.end.events)))
+      (sym (ap (λ (o : Output ℤ). runs_in lines (reverse o.events)) body.gives ∙ ap (runs_in lines) (reverse-reverse body.end.events ∙ told_same ∙ passed.tells.events)
+      ∙ runs_in-append lines passed.tells.told (kept_in words ps u input).events ∙ append-nil (runs_in lines passed.tells.told) ∙ passed.tells.loops_are))
+      (subst (AreReversed reversed.loops) (sym turned_events) reversed.reversed)
     where
       turned_events : reversals_in (reverse named_run.end.events) ≡ reversed.reversals
       turned_events =
@@ -283,12 +282,12 @@ module _ (lines : ℕ → Bool) (w : ProgramFacts) (ps : List Procedure) (u : Pr
     -- the shadows at the end, at the names of the dummies
     shadows_after : shadow_cells (shadow_flags shadowed u.dummies) ended.output.slots ≡ rows sh (by_cells (counted own.marks reversed.end)) u.dummies
     shadows_after =
-        ap (λ ds. shadow_cells (shadow_flags shadowed u.dummies) (map (λ d. slot_of (seen_setting.shape (plain d)) (named_run.end.store (plain d))) ds)) (entry.dummies_named u a ns separates g refl declared_alike (made.own_dummy m ps (all_units m ps u) u fitting.vars_apart (good.inside u.name u good.there) (good.extents u.name u good.there)) refl input given fit alike)
+        ap (λ ds. shadow_cells (shadow_flags shadowed u.dummies) (map (λ d. slot_of (seen_setting.shape (plain d)) (named_run.end.store (plain d))) ds)) (entry.dummies_named u a ns separates g refl declared_alike (made.own_dummy sc m ps (all_units m ps u) u fitting.vars_apart (good.inside u.name u good.there) (good.extents u.name u good.there)) refl input given fit alike)
         ∙ shadow_rows sh seen_setting.shape shadowed named_run.end.store ns u.dummies (λ x. seen (plain x)) (λ x s. seen (shadow x) ∙ ap (λ b. if b then sh (plain x) else scalar) s)
         ∙ ap (λ (z : Scene ℤ). rows sh (λ x j. if shadowed (plain x) then z.store (shadow x) j else pos 0) u.dummies) named_run.same
       where
         seen : (x : Var) → seen_setting.shape (naming ns x) ≡ sh x
-        seen x = entry.shape_seen u a ns separates g refl declared_alike (made.own_dummy m ps (all_units m ps u) u fitting.vars_apart (good.inside u.name u good.there) (good.extents u.name u good.there)) refl input given fit alike x
+        seen x = entry.shape_seen u a ns separates g refl declared_alike (made.own_dummy sc m ps (all_units m ps u) u fitting.vars_apart (good.inside u.name u good.there) (good.extents u.name u good.there)) refl input given fit alike x
 
     module _ (d : List (List ℤ)) (dir : IsDirection vars input d) where
       abbrev along : Words

@@ -1,6 +1,6 @@
 -- An adjoint by marks stays one where its lines bear other numbers.
 use Rattle.std.proofs.Common.{◌≡◌, ℕ, zero, suc, ◌≤◌, List, [], ◌∷◌, refl, sym, ap, ◌∙◌, subst, arith}
-use Rattle.std.specs.Prelude.{ℤ, ◌==◌, ◌&&◌, Bool, true, map, Option, Some, None, if◌then◌else◌}
+use Rattle.std.specs.Prelude.{ℤ, reverse, ◌==◌, ◌&&◌, Bool, true, map, Option, Some, None, if◌then◌else◌}
 use Rattle.adj_tree.specs.Code.{Procedure}
 use Rattle.adj_tree.specs.Lines.{unlined_procedure, unlined}
 use Rattle.adj_meaning.specs.Numbers.{Numbers, words}
@@ -15,7 +15,7 @@ use Rattle.adj_meaning.proofs.Unlined.{runs_alike, fits_alike}
 use Rattle.adj_transpose.specs.Adjoint.{Ends, OthersAreZero, Agrees, cells_of}
 use Rattle.adj_transpose.specs.MarkedAdjoint.{shadow_flags, shadow_cells, joined_by}
 use Rattle.adj_reverse.specs.Names.{adjoint_name}
-use Rattle.adj_reverse.specs.Reversals.{calls_after, ends_after, reversals_in, AreReversed}
+use Rattle.adj_reverse.specs.Reversals.{calls_after, ends_after, reversals_in, runs_in, AreReversed, ReversedLines}
 use Rattle.adj_reverse.specs.Adjoint.{TransposesBy, OtherLines}
 
 -- ---- reversals
@@ -23,7 +23,7 @@ use Rattle.adj_reverse.specs.Adjoint.{TransposesBy, OtherLines}
 -- calls and ends of a reversal are told at no line
 calls_unlined : (level inner : ℕ) (es : List Event) → calls_after level inner (map unlined_event es) ≡ calls_after level inner es
 calls_unlined level inner [] = refl
-calls_unlined level inner (Enter name l height shapes ∷ es) = ap (λ z. if l == suc level && inner == 0 then record { unit = name; height = height } ∷ z else z) (calls_unlined level inner es)
+calls_unlined level inner (Enter name l height shapes ∷ es) = ap (λ z. if l == suc level && inner == 0 then record { unit = name; height = height; shapes = shapes } ∷ z else z) (calls_unlined level inner es)
 calls_unlined level inner (Begin steps snapshots l height ∷ es) = calls_unlined level (if l == level then suc inner else inner) es
 calls_unlined level zero (End l ∷ es) = ap (λ z. if l == level then [] else z) (calls_unlined level 0 es)
 calls_unlined level (suc inner) (End l ∷ es) = calls_unlined level (if l == level then inner else suc inner) es
@@ -95,7 +95,7 @@ ends_alike {C} n ps qs u v input same like e = go (run_unit n qs v input [] None
 -- ---- adjoints
 
 module _ (ps : List Procedure) (vars outvars : List Bool) (qs others : List Procedure) (same : unlined qs ≡ unlined others) where
-  transposes_alike : (lines : ℕ → Bool) (flags : List Bool) (u a b : Procedure) → unlined_procedure a ≡ unlined_procedure b → (input shadows : List (Slot ℤ)) (told : List Event) → TransposesBy lines flags ps u vars outvars qs a input shadows told → TransposesBy lines flags ps u vars outvars others b input shadows told
+  transposes_alike : (lines : ReversedLines) (flags : List Bool) (u a b : Procedure) → unlined_procedure a ≡ unlined_procedure b → (input shadows : List (Slot ℤ)) (told : List Event) → TransposesBy lines flags ps u vars outvars qs a input shadows told → TransposesBy lines flags ps u vars outvars others b input shadows told
   transposes_alike lines flags u a b like input shadows told t =
       let r = ends_alike words qs others a b (joined_by flags input shadows) same like t.run in
       let slots : t.run.output.slots ≡ r.ends.output.slots = ap (λ z. z.slots) (sym r.same) in
@@ -106,7 +106,7 @@ module _ (ps : List Procedure) (vars outvars : List Bool) (qs others : List Proc
         fits = sym (fits_alike a b like words (joined_by flags input shadows)) ∙ t.fits;
         run = r.ends;
         empties = tape ∙ t.empties;
-        reverses = record { loops = t.reverses.loops; marks = t.reverses.marks; reversed = subst (AreReversed t.reverses.loops) reversals t.reverses.reversed };
+        reverses = subst (AreReversed (runs_in lines (reverse told))) reversals t.reverses;
         products = λ d dir. subst (λ z. Agrees ps u vars outvars input (cells_of shadows) (shadow_cells flags z) d) slots (t.products d dir);
         others = subst (λ z. OthersAreZero vars (shadow_cells flags z)) slots t.others;
       }
@@ -131,7 +131,7 @@ there others name a (Some b) is e = record { unit = b; is = is; like = ap (found
 
 -- a program that is the same up to line numbers is an adjoint as well
 pub other_lines : OtherLines
-other_lines lines m ps qs others head vars outvars same h =
+other_lines sc lines m ps qs others head vars outvars same h =
     let name = adjoint_name ps h.unit in
     let t = there others name h.adjoint (find_unit others name) refl (ap unlined_found (sym h.is_there) ∙ found ps vars outvars qs others same name) in
     record {

@@ -1,7 +1,7 @@
 -- The rows of a DO in the two sweeps.
 use Rattle.std.proofs.Common.{◌≡◌, ◌<◌, ℕ, suc, ◌+◌, Bool, true, false, List, [], ◌∷◌, ◌++◌, refl, sym, ap, ◌∙◌, subst, arith}
 use Rattle.std.specs.Prelude.{ℤ, pos, negsuc, Ok, ◌||◌}
-use Rattle.adj_tree.specs.Code.{role_code, Var, plain, shadow, helper, first, stride, count, turn, name_eq, minus, Term, lit, var, neg, bin, none, Mark, unmarked, assign, loop, runtime, push_word, pop_word, Code, stop}
+use Rattle.adj_tree.specs.Code.{role_code, Var, plain, shadow, helper, first, stride, count, turn, name_eq, minus, Term, var, neg, bin, none, Mark, unmarked, assign, loop, runtime, push_word, pop_word, Code, stop}
 use Rattle.adj_tree.proofs.Names.{nat_refl, name_refl}
 use Rattle.adj_word.specs.Word.{wrap, sub}
 use Rattle.adj_word.specs.Pairing.{pairing}
@@ -21,7 +21,7 @@ use Rattle.adj_transpose.proofs.Turned.{SameDepth}
 use Rattle.adj_reverse.specs.Emission.{is_empty, literal, push_own, loop_forward, loop_backward}
 use Rattle.adj_reverse.specs.Laws.{just, point_inside, LoopLaws}
 use Rattle.adj_reverse.specs.Passing.{plainly}
-use Rattle.adj_reverse.specs.Reversals.{Reversal, LoopRun, AreReversed}
+use Rattle.adj_reverse.specs.Reversals.{Reversal, LoopRun, AreReversed, ReversedLines}
 use Rattle.adj_reverse.specs.Runs.{Comes, SameOn, SameOff}
 use Rattle.adj_reverse.proofs.Runs.{comes_stop, comes_leads, comes_one, comes_act}
 use Rattle.adj_reverse.proofs.Shapes.{AllText}
@@ -54,7 +54,7 @@ pub record Row (q : Calls ℤ) (sh : Var → Shape) (level : ℕ) (xs : List Key
   pub depth : SameDepth d f to
   pub returns : (b : Kept) (g : Store ℤ) → SameOn sh held to g → RowBack q sh level xs d x wrote held back b f g (trail ++ t) t change loops
 
-module _ (p q : Calls ℤ) (lines : ℕ → Bool) (qd : Calls (ℤ × ℤ)) (sh : Var → Shape) (level : ℕ) (xs : List Key) (w : Facts) (d : ℕ) (i line : ℕ) (x : List ℕ) (one_cell : size_of (sh (plain x)) ≡ 1) (ea eb ec : Term) (body Fb Bb : Code) (laws : LoopLaws w i (plain x) ea eb ec body) (text_a : AllText (λ v. reads_term v ea)) (text_b : AllText (λ v. reads_term v eb)) (text_c : AllText (λ v. reads_term v ec)) (wr : Vars) (spares : wr (plain x) ≡ false) (inert : Bool) (a0 b0 c0 : ℤ) (m : ℕ) (mark : Mark) (u u' : Store ℤ)
+module _ (p q : Calls ℤ) (lines : ReversedLines) (qd : Calls (ℤ × ℤ)) (sh : Var → Shape) (level : ℕ) (xs : List Key) (w : Facts) (d : ℕ) (i line : ℕ) (x : List ℕ) (one_cell : size_of (sh (plain x)) ≡ 1) (ea eb ec : Term) (body Fb Bb : Code) (laws : LoopLaws w i (plain x) ea eb ec body) (text_a : AllText (λ v. reads_term v ea)) (text_b : AllText (λ v. reads_term v eb)) (text_c : AllText (λ v. reads_term v ec)) (wr : Vars) (spares : wr (plain x) ≡ false) (inert : Bool) (a0 b0 c0 : ℤ) (m : ℕ) (mark : Mark) (u u' : Store ℤ)
     (is_a : value (on_words (plainly sh) level) ea u ≡ Ok a0) (is_b : value (on_words (plainly sh) level) eb u ≡ Ok b0) (is_c : value (on_words (plainly sh) level) ec u ≡ Ok c0) (turns_is : trips mark a0 b0 c0 ≡ Ok m) (kept : w.marks.kept i ≡ true)
     (l : Looped p q lines qd sh level xs w d true i line x one_cell ea eb ec body Fb Bb laws wr spares inert a0 c0 m 0 (set u (plain x) 0 (wrap a0)) u') where
   abbrev nw : Setting ℤ

@@ -20,10 +20,11 @@ use Rattle.adj_reverse.proofs.Transposed.{Transposed}
 use Rattle.adj_reverse.proofs.LoopTangents.{LoopTangents, tangents_none, tangents_more}
 use Rattle.adj_reverse.proofs.LoopSweeps.{LoopSwept, swept_none, swept_more}
 use Rattle.adj_reverse.proofs.LoopSilent.{LoopSilent, silent_none, silent_more, LoopLeft, left_none, left_more}
+use Rattle.adj_reverse.specs.Reversals.{ReversedLines}
 
 -- ---- the turns of a run
 
-module _ (p q : Calls ℤ) (lines : ℕ → Bool) (qd : Calls (ℤ × ℤ)) (sh : Var → Shape) (level : ℕ) (xs : List Key) (w : Facts) (d : ℕ) (present : Bool) (i line : ℕ) (x : List ℕ) (one_cell : size_of (sh (plain x)) ≡ 1) (ea eb ec : Term) (body Fb Bb : Code) (laws : LoopLaws w i (plain x) ea eb ec body) (wr : Vars) (spares : wr (plain x) ≡ false) (inert : Bool) (a0 c0 : ℤ) where
+module _ (p q : Calls ℤ) (lines : ReversedLines) (qd : Calls (ℤ × ℤ)) (sh : Var → Shape) (level : ℕ) (xs : List Key) (w : Facts) (d : ℕ) (present : Bool) (i line : ℕ) (x : List ℕ) (one_cell : size_of (sh (plain x)) ≡ 1) (ea eb ec : Term) (body Fb Bb : Code) (laws : LoopLaws w i (plain x) ea eb ec body) (wr : Vars) (spares : wr (plain x) ≡ false) (inert : Bool) (a0 c0 : ℤ) where
   abbrev n_in : ℕ
   n_in = point_inside i
 

@@ -13,9 +13,9 @@ use Rattle.adj_meaning.specs.Scene.{Done, then_do}
 use Rattle.adj_meaning.specs.Run.{Calls, trips, most_turns, in_force, from_1_to_64, after_loop}
 use Rattle.adj_transpose.specs.Lists.{Kept}
 use Rattle.adj_reverse.specs.Kernel.{is_marked}
-use Rattle.adj_reverse.specs.Reversals.{Reversal, LoopRun}
+use Rattle.adj_reverse.specs.Reversals.{Reversal, LoopRun, ReversedLines, StepUnits}
 use Rattle.adj_reverse.specs.Runs.{ActComes, ActPasses}
-use Rattle.adj_reverse.proofs.Told.{marks_other}
+use Rattle.adj_reverse.proofs.Told.{marks_other, marks_own}
 use Rattle.adj_reverse.proofs.Turns.{TurnsCome, TurnsPass}
 
 -- ---- the run of a loop
@@ -29,17 +29,17 @@ loop_comes q n line x ea eb ec body base s s' t t' a b c m ha hb hc hm l = recor
 }
 
 -- a loop of the program, which isn't one of those that are to be reversed
-pub loop_passes : {C : Type 0} (lines : ℕ → Bool) (loops : List LoopRun) (q : Calls C) (n : Setting C) (line : ℕ) (x : Var) (ea eb ec : Term) (body : Code) (mark : Mark) → (is_marked mark ≡ true → lines line ≡ false) → (base : Kept) (s s' : Store C) (t : List C) (a b c : C) (m : ℕ) → value n ea s ≡ Ok a → value n eb s ≡ Ok b → value n ec s ≡ Ok c → trips mark (n.numbers.shown a) (n.numbers.shown b) (n.numbers.shown c) ≡ Ok m → TurnsPass lines q n m body x (n.numbers.shown c) base (set s x 0 (n.numbers.of_word (wrap (n.numbers.shown a)))) s' t loops → ActPasses lines q n (loop x ea eb ec body mark) line base s s' t loops
+pub loop_passes : {C : Type 0} (lines : ReversedLines) (loops : List LoopRun) (q : Calls C) (n : Setting C) (line : ℕ) (x : Var) (ea eb ec : Term) (body : Code) (mark : Mark) → (is_marked mark ≡ true → lines line ≡ None) → (base : Kept) (s s' : Store C) (t : List C) (a b c : C) (m : ℕ) → value n ea s ≡ Ok a → value n eb s ≡ Ok b → value n ec s ≡ Ok c → trips mark (n.numbers.shown a) (n.numbers.shown b) (n.numbers.shown c) ≡ Ok m → TurnsPass lines q n m body x (n.numbers.shown c) base (set s x 0 (n.numbers.of_word (wrap (n.numbers.shown a)))) s' t loops → ActPasses lines q n (loop x ea eb ec body mark) line base s s' t loops
 loop_passes lines loops q n line x ea eb ec body mark other base s s' t a b c m ha hb hc hm l = go mark other refl
   where
-    told : (snapshots : ℕ) → in_force n mark s ≡ Some snapshots → lines line ≡ false → ActPasses lines q n (loop x ea eb ec body mark) line base s s' t loops
+    told : (snapshots : ℕ) → in_force n mark s ≡ Some snapshots → lines line ≡ None → ActPasses lines q n (loop x ea eb ec body mark) line base s s' t loops
     told snapshots is o = record {
       later = record { opened = l.later.opened; events = Marked line m snapshots ∷ l.later.events };
       tells = marks_other lines n.level line m snapshots base l.later loops o l.tells;
       runs = record { cost = l.cost; by = λ k. rw (ha, hb, hc, hm, is) (ap (λ o. then_do o (λ s1 j. Done (after_loop line m (Some snapshots) s1) j)) (l.by k)) };
     }
 
-    go : (mark1 : Mark) → (is_marked mark1 ≡ true → lines line ≡ false) → mark1 ≡ mark → ActPasses lines q n (loop x ea eb ec body mark) line base s s' t loops
+    go : (mark1 : Mark) → (is_marked mark1 ≡ true → lines line ≡ None) → mark1 ≡ mark → ActPasses lines q n (loop x ea eb ec body mark) line base s s' t loops
     go unmarked o is = record {
       later = l.later;
       tells = l.tells;
@@ -47,6 +47,15 @@ loop_passes lines loops q n line x ea eb ec body mark other base s s' t a b c m 
     }
     go (with_count k) o is = told k (ap (λ z. in_force n z s) (sym is)) (o refl)
     go (count_from y) o is = told (from_1_to_64 (n.numbers.shown (s y 0))) (ap (λ z. in_force n z s) (sym is)) (o refl)
+
+-- one of those that are to be reversed
+pub loop_passes_own : {C : Type 0} (lines : ReversedLines) (loops : List LoopRun) (q : Calls C) (n : Setting C) (line : ℕ) (x : Var) (ea eb ec : Term) (body : Code) (snapshots : ℕ) (step : StepUnits) → lines line ≡ Some step → (base : Kept) (s s' : Store C) (t : List C) (a b c : C) (m : ℕ) → value n ea s ≡ Ok a → value n eb s ≡ Ok b → value n ec s ≡ Ok c → trips (with_count snapshots) (n.numbers.shown a) (n.numbers.shown b) (n.numbers.shown c) ≡ Ok m → TurnsPass lines q n m body x (n.numbers.shown c) base (set s x 0 (n.numbers.of_word (wrap (n.numbers.shown a)))) s' t loops →
+    let run : LoopRun = record { mark = record { line = line; turns = m; snapshots = snapshots }; step = step } in ActPasses lines q n (loop x ea eb ec body (with_count snapshots)) line base s s' t (run ∷ loops)
+loop_passes_own lines loops q n line x ea eb ec body snapshots step own base s s' t a b c m ha hb hc hm l = record {
+  later = record { opened = l.later.opened; events = Marked line m snapshots ∷ l.later.events };
+  tells = marks_own lines n.level (record { mark = record { line = line; turns = m; snapshots = snapshots }; step = step }) base l.later loops own l.tells;
+  runs = record { cost = l.cost; by = λ k. rw (ha, hb, hc, hm) (ap (λ o. then_do o (λ s1 j. Done (after_loop line m (Some snapshots) s1) j)) (l.by k)) };
+}
 
 -- ---- numbers of turns
 

@@ -1,21 +1,21 @@
 -- A call of a unit in the forward sweep: it does what it did in the program, as far as the unit reads the same.
-use Rattle.std.proofs.Common.{◌≡◌, ◌<◌, ℕ, zero, suc, ◌+◌, Bool, true, false, List, [], ◌∷◌, map, refl, sym, ap, ◌∙◌, subst, if◌then◌else◌}
-use Rattle.std.specs.Prelude.{ℤ, pos, IsTrue, ◌&&◌, ◌||◌, Ok, Option, Some, None}
-use Rattle.adj_tree.specs.Code.{Role, Var, plain, shadow, helper, name_eq, call, Code, stop, Procedure}
-use Rattle.adj_meaning.specs.Trap.{shape_trap, then_ok}
+use Rattle.std.proofs.Common.{◌≡◌, ◌<◌, ℕ, zero, suc, ◌+◌, Bool, true, false, List, [], ◌∷◌, map, length, refl, sym, ap, ◌∙◌, subst, arith, if◌then◌else◌}
+use Rattle.std.specs.Prelude.{ℤ, pos, IsTrue, ◌==◌, ◌&&◌, ◌||◌, Result, Ok, Err, Option, Some, None}
+use Rattle.adj_tree.specs.Code.{Role, Var, plain, shadow, helper, name_eq, Terms, Act, call, Code, stop, Procedure}
+use Rattle.adj_meaning.specs.Trap.{Trap, shape_trap, schedule_trap, then_ok}
 use Rattle.adj_meaning.specs.Numbers.{words}
 use Rattle.adj_meaning.specs.Append.{one}
 use Rattle.adj_meaning.specs.Store.{Shape, size_of, Store}
 use Rattle.adj_meaning.specs.Value.{Setting}
 use Rattle.adj_meaning.specs.Scene.{Scene, stand, Outcome, Done, Trapped, More, Full, then_do, with_value}
-use Rattle.adj_meaning.specs.Run.{Calls, run}
+use Rattle.adj_meaning.specs.Run.{Calls, act, run}
 use Rattle.adj_meaning.specs.Written.{find_unit, handed_back, is_handed_back}
 use Rattle.adj_meaning.specs.Read.{reads_actuals, looked_at}
 use Rattle.adj_meaning.specs.Common.{HaveInCommon}
 use Rattle.adj_meaning.specs.Agree.{EndAlike}
 use Rattle.adj_meaning.specs.Seen.{seen_outcome}
-use Rattle.adj_meaning.specs.Units.{whole, actuals, entry_store, dummies_fit, copied_out, unit_run, calls_of, call_in}
-use Rattle.adj_meaning.specs.Leads.{Leads}
+use Rattle.adj_meaning.specs.Units.{Actual, whole, actuals, entry_store, dummies_fit, setting_in, entered, copied_out, unit_run, calls_of, call_in}
+use Rattle.adj_meaning.specs.Leads.{Leads, ActLeads}
 use Rattle.adj_meaning.proofs.Agreements.{Cells, CallsDepend}
 use Rattle.adj_meaning.proofs.Extensions.{calls_same}
 use Rattle.adj_meaning.proofs.Frames.{keeps_others}
@@ -28,12 +28,17 @@ use Rattle.adj_transpose.specs.Naming.{AreApart}
 use Rattle.adj_transpose.specs.Pairs.{Words, with_tangents, on_words, on_duals}
 use Rattle.adj_transpose.specs.Lists.{Kept, scene}
 use Rattle.adj_transpose.proofs.Variables.{or_false}
-use Rattle.adj_reverse.specs.Plan.{Callee, beside, actuals_named}
+use Rattle.adj_reverse.specs.Plan.{Callee, beside, actuals_named, step_snapshot}
 use Rattle.adj_reverse.specs.Passing.{plainly}
 use Rattle.adj_reverse.specs.Kernel.{AsMany}
-use Rattle.adj_reverse.specs.Reversals.{LoopRun}
-use Rattle.adj_reverse.proofs.Told.{tells_of_marks}
-use Rattle.adj_reverse.specs.Runs.{ActComes, ActPasses}
+use Rattle.adj_reverse.specs.Reversals.{LoopRun, ReversedLines}
+use Rattle.adj_reverse.proofs.Told.{tells_of}
+use Rattle.adj_reverse.specs.Reversals.{TellsCalls, words_taken}
+use Rattle.adj_reverse.specs.Steps.{ActGoes, taken_in, words_of}
+use Rattle.adj_transpose.specs.Marks.{Vars}
+use Rattle.adj_reverse.proofs.Entering.{CallPasses}
+use Rattle.std.proofs.lemmas.List.{length-map}
+use Rattle.adj_meaning.proofs.Inversions.{then_done, done_same}
 use Rattle.adj_reverse.proofs.Passing.{found_or}
 use Rattle.adj_reverse.proofs.CallSweeps.{PlainCalled}
 
@@ -42,16 +47,30 @@ untangled : (t : List ℤ) → map (λ (a : ℤ × ℤ). a.0) (map (λ z. (z, po
 untangled [] = refl
 untangled (z ∷ t) = ap (λ l. z ∷ l) (untangled t)
 
+-- a list of one statement that comes to an end is a statement that does
+act_of : {C : Type 0} (q : Calls C) (n : Setting C) (a : Act) (line : ℕ) (s s' : Scene C) → Leads q n (one line a) s s' → ActLeads q n a line s s'
+act_of q n a line s s' l = go l.cost l.by
+  where
+    here : (c k : ℕ) → run q n (one line a) s (suc (c + k)) ≡ Done s' k → act q n a line s (c + k) ≡ Done s' k
+    here c k h =
+        let o = then_done (act q n a line s (c + k)) (run q n stop) s' k h in
+        let left : o.left ≡ k = let e : Done o.scene o.left ≡ Done s' k = o.second in cc in
+        o.first ∙ (λ i. Done (done_same o.scene s' o.left k o.second i) (left i))
+
+    go : (c : ℕ) → ((k : ℕ) → run q n (one line a) s (c + k) ≡ Done s' k) → ActLeads q n a line s s'
+    go zero by = absurd (let e : run q n (one line a) s 0 ≡ Done s' 0 = by 0 in cc)
+    go (suc c) by = record { cost = c; by = λ k. let e : suc c + k ≡ suc (c + k) = omega arith in here c k (ap (run q n (one line a) s) (sym e) ∙ by k) }
+
 -- a dual call that comes to an end is a call that does, from any scene
-pub words_of_dual : (units : List Procedure) (depth : ℕ) (sh : Var → Shape) (level : ℕ) (name : List ℕ) (given : List (List ℕ)) (line : ℕ) (u u' : Store ℤ) (derivative : Words → Words) (lines : ℕ → Bool) (loops : List LoopRun) → ((home : Kept) (y : Words) (t : List (ℤ × ℤ)) → ActPasses lines (calls_of units depth) (on_duals sh level) (call name (actuals_named given)) line home (with_tangents u y) (with_tangents u' (derivative y)) t loops) →
-    (home : Kept) (t : List ℤ) → ActComes (calls_of units depth) (on_words sh level) (call name (actuals_named given)) line home u u' t t []
-words_of_dual units depth sh level name given line u u' derivative lines loops dual home t =
+pub words_of_dual : (units : List Procedure) (depth : ℕ) (sh : Var → Shape) (level : ℕ) (name : List ℕ) (given : List (List ℕ)) (line : ℕ) (u u' : Store ℤ) (derivative : Words → Words) (lines : ReversedLines) (loops : List LoopRun) (shapes : List Shape) → ((home : Kept) (y : Words) (t : List (ℤ × ℤ)) → CallPasses lines (calls_of units depth) (on_duals sh level) name (actuals_named given) line home (with_tangents u y) (with_tangents u' (derivative y)) t loops shapes) →
+    (home : Kept) (t : List ℤ) → ActGoes (calls_of units depth) (on_words sh level) (call name (actuals_named given)) line home u u' t t (record { unit = name; height = length t; shapes = shapes } ∷ []) []
+words_of_dual units depth sh level name given line u u' derivative lines loops shapes dual home t =
     let t2 = map (λ z. (z, pos 0)) t in
     let y : Words = λ k. pos 0 in
     let d = dual home y t2 in
     record {
       later = d.later;
-      tells = tells_of_marks lines level home d.later loops d.tells;
+      tells = subst (λ h. TellsCalls level home d.later (record { unit = name; height = h; shapes = shapes } ∷ []) []) (length-map t (λ (z : ℤ). (z, pos 0))) d.calls;
       runs = record {
         cost = d.runs.cost;
         by = λ k.
@@ -119,7 +138,7 @@ handed_helper r k (w ∷ ws) (a ∷ given) = go w (handed_helper r k ws given)
 -- ---- the call again
 
 module _ (ps qs : List Procedure) (inside : List ℕ → Bool) (common : HaveInCommon inside ps qs) (depth : ℕ) (depend : CallsDepend {C = ℤ} (looked_at ps) (calls_of ps (suc depth))) (sh : Var → Shape) (level : ℕ) (name : List ℕ) (there : IsTrue (inside name)) (g : Callee) (given : List (List ℕ)) (many : AsMany g.dummies given) (apart : AreApart given) (flags : handed_back ps name ≡ map (λ d. g.written (plain d)) g.dummies) (line : ℕ) (u u' : Store ℤ)
-    (from_program : (home : Kept) (t : List ℤ) → ActComes (calls_of ps (suc depth)) (on_words (plainly sh) level) (call name (actuals_named given)) line home u u' t t []) where
+    (shapes : List Shape) (takes : (read : Vars) → words_taken (taken_in g read g.dummies) shapes ≡ words_of sh (step_snapshot g read given)) (from_program : (home : Kept) (t : List ℤ) → ActGoes (calls_of ps (suc depth)) (on_words (plainly sh) level) (call name (actuals_named given)) line home u u' t t (record { unit = name; height = length t; shapes = shapes } ∷ []) []) where
   abbrev nw : Setting ℤ
   nw = on_words sh level
 
@@ -185,9 +204,14 @@ module _ (ps qs : List Procedure) (inside : List ℕ → Bool) (common : HaveInC
         after = a.end;
         runs = record {
           later = c.later;
-          tells = c.tells;
+          tells = tells_of level base c.later (record { unit = name; height = length t; shapes = shapes } ∷ []) [] c.tells;
           runs = record { cost = a.leads.cost; by = λ k. ap (λ z. z) (same_run (scene base f t) (a.leads.cost + k)) ∙ a.leads.by k };
         };
+        shapes = shapes;
+        takes = takes;
+        goes =
+            let l = act_of p nw (call name (actuals_named given)) line (scene base f t) (scene c.later a.end t) a.leads in
+            record { later = c.later; tells = c.tells; runs = record { cost = l.cost; by = λ k. there_same (scene base f t) (l.cost + k) ∙ l.by k } };
         same = λ x j h. a.same (plain x) j h;
         off = record { at = λ x j h. kept_by (plain x) (ap (λ ws. is_handed_back (plain x) ws (actuals_named given)) flags ∙ handed_plain (λ d. g.written (plain d)) x g.dummies given apart h) j };
         shadows = λ x j. kept_by (shadow x) (handed_shadow x (handed_back ps name) given) j;
@@ -197,3 +221,42 @@ module _ (ps qs : List Procedure) (inside : List ℕ → Bool) (common : HaveInC
       same_run : (s : Scene ℤ) (k : ℕ) → run (calls_of qs (suc depth)) nw code s k ≡ run p nw code s k
       same_run s zero = refl
       same_run s (suc k) = ap (λ o. then_do o (λ s1 j. Done s1 j)) (there_same s k)
+
+-- ---- the line of a call
+
+-- a call that is done is done at any line
+pub at_any_line : (units : List Procedure) (depth : ℕ) (n : Setting ℤ) (name : List ℕ) (args : Terms) (one other : ℕ) (s e : Scene ℤ) (k left : ℕ) → calls_of units depth n name args one s k ≡ Done e left → calls_of units depth n name args other s k ≡ Done e left
+at_any_line units zero n name args one other s e k left h = absurd cc
+at_any_line units (suc depth) n name args one other s e k left h = found (find_unit units name) h
+  where
+    back : Procedure → List (Actual ℤ) → Scene ℤ → ℕ → Outcome (Scene ℤ)
+    back u got s1 j = Done (record s { store = copied_out u.dummies (handed_back units name) got s1.store s.store; tape = s1.tape; events = s1.events }) j
+
+    close : ℕ → Scene ℤ → ℕ → Outcome (Scene ℤ)
+    close line s1 j = if s1.opened == 0 then Done s1 j else Trapped schedule_trap line (stand n s1)
+
+    closed : (u : Procedure) (got : List (Actual ℤ)) (s1 : Scene ℤ) (j : ℕ) (b : Bool) → then_do (if b then Done s1 j else Trapped schedule_trap one (stand n s1)) (back u got) ≡ Done e left → then_do (if b then Done s1 j else Trapped schedule_trap other (stand n s1)) (back u got) ≡ Done e left
+    closed u got s1 j true h = h
+    closed u got s1 j false h = absurd cc
+
+    ended : (u : Procedure) (got : List (Actual ℤ)) (o : Outcome (Scene ℤ)) → then_do (then_do o (close one)) (back u got) ≡ Done e left → then_do (then_do o (close other)) (back u got) ≡ Done e left
+    ended u got (Done s1 j) h = closed u got s1 j (s1.opened == 0) h
+    ended u got (Trapped t line w) h = absurd cc
+    ended u got (More w) h = absurd cc
+    ended u got (Full w) h = absurd cc
+
+    entered_so : (u : Procedure) (got : List (Actual ℤ)) (b : Bool) →
+        (if b then then_do (unit_run (calls_of units depth) n u one (record s { store = entry_store n.numbers u.dummies got }) k) (back u got) else Trapped shape_trap one (stand n s)) ≡ Done e left →
+        (if b then then_do (unit_run (calls_of units depth) n u other (record s { store = entry_store n.numbers u.dummies got }) k) (back u got) else Trapped shape_trap other (stand n s)) ≡ Done e left
+    entered_so u got true h = ended u got (run (calls_of units depth) (setting_in n u (entry_store n.numbers u.dummies got)) u.body (entered n u (record s { store = entry_store n.numbers u.dummies got })) k) h
+    entered_so u got false h = absurd cc
+
+    given : (u : Procedure) (r : Result (List (Actual ℤ)) Trap) →
+        with_value r one (stand n s) (λ got. if dummies_fit n.numbers u (entry_store n.numbers u.dummies got) u.dummies got then then_do (unit_run (calls_of units depth) n u one (record s { store = entry_store n.numbers u.dummies got }) k) (back u got) else Trapped shape_trap one (stand n s)) ≡ Done e left →
+        with_value r other (stand n s) (λ got. if dummies_fit n.numbers u (entry_store n.numbers u.dummies got) u.dummies got then then_do (unit_run (calls_of units depth) n u other (record s { store = entry_store n.numbers u.dummies got }) k) (back u got) else Trapped shape_trap other (stand n s)) ≡ Done e left
+    given u (Ok got) h = entered_so u got (dummies_fit n.numbers u (entry_store n.numbers u.dummies got) u.dummies got) h
+    given u (Err t) h = absurd cc
+
+    found : (o : Option Procedure) → call_in (calls_of units depth) n (handed_back units name) o args one s k ≡ Done e left → call_in (calls_of units depth) n (handed_back units name) o args other s k ≡ Done e left
+    found None h = absurd cc
+    found (Some u) h = given u (actuals n args s.store) h

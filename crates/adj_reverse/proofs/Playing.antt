@@ -16,9 +16,9 @@ use Rattle.adj_meaning.specs.Value.{Setting}
 use Rattle.adj_meaning.specs.Run.{Calls}
 use Rattle.adj_transpose.specs.Pairs.{Key, Words, shadows, on_words}
 use Rattle.adj_transpose.specs.Lists.{Kept}
-use Rattle.adj_reverse.specs.Reversals.{Called, Reversal, LoopRun, times, AreWithin, AreReversed}
+use Rattle.adj_reverse.specs.Reversals.{Called, Reversal, LoopRun, times, AreReversed}
 pub use Rattle.adj_reverse.specs.Steps.{changes, loops_of}
-use Rattle.adj_reverse.proofs.Told.{times-append, within_append, within_wider, reversed_append}
+use Rattle.adj_reverse.proofs.Told.{times-append, AreBetween, between_append, between_wider, reversed_append}
 use Rattle.adj_reverse.proofs.Goings.{TurnsGo, turns_go-none, turns_go-append}
 
 -- the actions from the k-th on, counted from 0
@@ -52,7 +52,7 @@ loops-join loops (suc k) lo n =
     sym (append_assoc (loops_of loops (lo + suc k) n) (loops_of loops (suc lo) k) (loops lo))
     ∙ ap (λ z. z ++ loops lo) (ap (λ z. loops_of loops z n ++ loops_of loops (suc lo) k) e ∙ loops-join loops k (suc lo) n) ∙ (let g : suc (k + n) ≡ suc k + n = omega arith in ap (λ z. loops_of loops lo z) g)
 
-module _ (q : Calls ℤ) (sh : Var → Shape) (level : ℕ) (cells : List Key) (action : Code) (entry : Var) (unit adj : List ℕ) (words : ℕ) (Ready : ℕ → Store ℤ → Type 0) where
+module _ (q : Calls ℤ) (sh : Var → Shape) (level : ℕ) (cells : List Key) (action : Code) (entry : Var) (unit adj : List ℕ) (Kind : Called → Type 0) (words : ℕ) (Ready : ℕ → Store ℤ → Type 0) where
   abbrev nw : Setting ℤ
   nw = on_words sh level
 
@@ -68,7 +68,7 @@ module _ (q : Calls ℤ) (sh : Var → Shape) (level : ℕ) (cells : List Key) (
     pub reversed : AreReversed ls rs
     pub advances_are : times unit calls ≡ advances
     pub turns_are : times adj calls ≡ turns
-    pub within : AreWithin unit adj low high calls
+    pub within : AreBetween Kind low high calls
 
   pub played_none : (k : ℕ) (end : Store ℤ → Type 0) (low high : ℕ) (base : Kept) (f : Store ℤ) (t : List ℤ) → Ready k f → end f → Played 0 k end (λ y. y) [] 0 0 low high base f t t
   played_none k end low high base f t r e = record {
@@ -97,7 +97,7 @@ module _ (q : Calls ℤ) (sh : Var → Shape) (level : ℕ) (cells : List Key) (
     reversed = reversed_append l1 l2 p.rs r.rs p.reversed r.reversed;
     advances_are = omega (arith, times-append unit p.calls r.calls, p.advances_are, r.advances_are);
     turns_are = omega (arith, times-append adj p.calls r.calls, p.turns_are, r.turns_are);
-    within = within_append unit adj low high p.calls r.calls p.within r.within;
+    within = between_append Kind low high p.calls r.calls p.within r.within;
   }
 
   pub played_wider : (n k : ℕ) (end : Store ℤ → Type 0) (change : Words → Words) (ls : List LoopRun) (a b low high low' high' : ℕ) (base : Kept) (f : Store ℤ) (t t' : List ℤ) → low' ≤ low → high ≤ high' → Played n k end change ls a b low high base f t t' → Played n k end change ls a b low' high' base f t t'
@@ -112,7 +112,7 @@ module _ (q : Calls ℤ) (sh : Var → Shape) (level : ℕ) (cells : List Key) (
     reversed = p.reversed;
     advances_are = p.advances_are;
     turns_are = p.turns_are;
-    within = within_wider unit adj low high low' high' p.calls l h p.within;
+    within = between_wider Kind low high low' high' p.calls l h p.within;
   }
 
   -- the same by equal numbers and maps

@@ -4,8 +4,8 @@ use Rattle.adj_meaning.specs.Append.{one}
 use Rattle.adj_tree.specs.Code.{call}
 use Rattle.adj_reverse.specs.Plan.{actuals_named}
 use Rattle.adj_reverse.specs.Emission.{pushes, pops, adjoint_call}
-use Rattle.adj_reverse.specs.ReversalCode.{step_snapshot}
-use Rattle.adj_reverse.specs.Steps.{ReversalsTurn, step_words}
+use Rattle.adj_reverse.specs.Plan.{step_snapshot}
+use Rattle.adj_reverse.specs.Steps.{ReversalsTurn, step_words, step_units}
 use Rattle.adj_reverse.proofs.StepRuns.{numbers_few}
 use Rattle.adj_reverse.proofs.StepUnits.{StandingIn, Loose, SnapIn, stepping}
 use Rattle.adj_reverse.proofs.Reversing.{reversing}
@@ -16,7 +16,7 @@ reversals_turn q sh level cells line x g given name p fits d l m few slot most a
     let snapshot = step_snapshot g.callee g.read given in
     let free = fits.keeps_variable in
     let st = stepping q sh level cells d line p fits.scalars x fits.one_cell l m a0 c0 g given fits.dummies_apart fits.given_apart name change loops U U' f s free in
-    let r = reversing q sh level cells (suc d) line x l m a0 c0 name g.callee.adjoint (step_words q sh level cells line x g given name) (pushes p line snapshot) (pops p line snapshot) (one line (call name (actuals_named given))) (one line (adjoint_call g.callee given))
+    let r = reversing q sh level cells (suc d) line x l m a0 c0 (step_units name g.callee g.read) (step_words q sh level cells line x g given name) (pushes p line snapshot) (pops p line snapshot) (one line (call name (actuals_named given))) (one line (adjoint_call g.callee given))
     (StandingIn q sh level cells d line p fits.scalars x fits.one_cell l m a0 c0 g given fits.dummies_apart fits.given_apart name change loops U U' f s free)
     (Loose q sh level cells d line p fits.scalars x fits.one_cell l m a0 c0 g given fits.dummies_apart fits.given_apart name change loops U U' f)
     (SnapIn q sh level cells d line p fits.scalars x fits.one_cell l m a0 c0 g given fits.dummies_apart fits.given_apart name change loops U U' f s free)

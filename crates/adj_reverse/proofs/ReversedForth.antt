@@ -23,7 +23,7 @@ use Rattle.adj_reverse.specs.Emission.{literal}
 use Rattle.adj_reverse.specs.Laws.{just, point_inside, CalleeFacts}
 use Rattle.adj_reverse.specs.Runs.{SameOn, SameOff}
 use Rattle.adj_reverse.specs.Reversals.{Called, LoopRun}
-use Rattle.adj_reverse.specs.ReversedLaws.{ReversedLaws}
+use Rattle.adj_reverse.specs.Laws.{ReversedLaws}
 use Rattle.adj_reverse.proofs.Passing.{beside_back}
 use Rattle.adj_reverse.proofs.CallAdjoints.{writes_actual}
 use Rattle.adj_reverse.proofs.Snapshots.{KnowsArrays}
@@ -64,8 +64,8 @@ module _ (q : Calls ℤ) (sh : Var → Shape) (level : ℕ) (cells : List Key) (
       let c = s.again j base f t less (record { at = λ n a b o c lt. h.at a c lt (laws.call.needs_uses e n a b o) }) in
       record {
         to = c.after;
-        calls = record { unit = name; height = length t } ∷ [];
-        goes = goes_one q nw line (call name (actuals_named given)) base f c.after t t (record { unit = name; height = length t } ∷ []) [] c.runs;
+        calls = record { unit = name; height = length t; shapes = c.shapes } ∷ [];
+        goes = goes_one q nw line (call name (actuals_named given)) base f c.after t t (record { unit = name; height = length t; shapes = c.shapes } ∷ []) [] c.runs;
         same = record { at = λ y n lt o. c.same y n (h.at y n lt (needs_later (plain y) o)) };
         off = c.off;
         shades = c.shades;

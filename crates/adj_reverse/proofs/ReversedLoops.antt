@@ -26,7 +26,7 @@ use Rattle.adj_reverse.specs.Laws.{just, point_inside, CalleeFacts}
 use Rattle.adj_reverse.specs.Passing.{plainly}
 use Rattle.adj_reverse.specs.Runs.{SameOn, SameOff}
 use Rattle.adj_reverse.specs.Reversals.{LoopRun}
-use Rattle.adj_reverse.specs.ReversedLaws.{ReversedLaws}
+use Rattle.adj_reverse.specs.Laws.{ReversedLaws}
 use Rattle.adj_reverse.specs.ReversedRow.{ReversedBack, ReversedRow, ReversedRowsTurn}
 use Rattle.adj_reverse.specs.Theorem.{plan_of}
 use Rattle.adj_reverse.proofs.Shapes.{AllText}

@@ -25,7 +25,7 @@ use Rattle.adj_reverse.specs.ReversalCode.{reversal, reversed_backward}
 use Rattle.adj_reverse.specs.Laws.{just, CalleeFacts}
 use Rattle.adj_reverse.specs.Runs.{SameOn, SameOff}
 use Rattle.adj_reverse.specs.Reversals.{LoopRun}
-use Rattle.adj_reverse.specs.ReversedLaws.{ReversedLaws}
+use Rattle.adj_reverse.specs.Laws.{ReversedLaws}
 use Rattle.adj_reverse.specs.ReversedRow.{ReversedBack}
 use Rattle.adj_reverse.proofs.Passing.{beside_back}
 use Rattle.adj_reverse.proofs.CallAdjoints.{writes_actual}
@@ -36,7 +36,7 @@ use Rattle.adj_reverse.proofs.LoopSweeps.{other_depth}
 use Rattle.adj_reverse.proofs.Playing.{changes, loops_of}
 use Rattle.adj_reverse.proofs.Reversing.{reversing}
 use Rattle.adj_reverse.proofs.StepUnits.{Loose, popped_stands, stepping, SnapIn, StandingIn}
-use Rattle.adj_reverse.specs.Steps.{Steps}
+use Rattle.adj_reverse.specs.Steps.{Steps, step_units}
 
 module _ (q : Calls ℤ) (sh : Var → Shape) (level : ℕ) (cells : List Key) (d line : ℕ) (p : Plan) (known : KnowsArrays p sh) (x : List ℕ) (one_cell : size_of (sh (plain x)) ≡ 1) (l m : ℕ) (a0 c0 : ℤ) (g : CalleeFacts) (given : List (List ℕ)) (apart : AreApart g.callee.dummies) (apart' : AreApart given) (name : List ℕ) (change : ℕ → Words → Words) (loops : ℕ → List LoopRun) (U U' : ℕ → Store ℤ)
     (w : Facts) (i : ℕ) (ea eb ec : Term) (laws : ReversedLaws w i x ea eb ec g given)
@@ -65,7 +65,7 @@ module _ (q : Calls ℤ) (sh : Var → Shape) (level : ℕ) (cells : List Key) (
 
   -- the run of the loop whose DO stands at a line
   abbrev pub own_run : ℕ → LoopRun
-  own_run at = record { mark = record { line = at; turns = l; snapshots = m }; unit = name; adjoint = g.callee.adjoint; words = words_of sh snap }
+  own_run at = record { mark = record { line = at; turns = l; snapshots = m }; step = step_units name g.callee g.read }
 
   module _ (x_free : wr (plain x) ≡ false) (f to : Store ℤ) (same : SameOn sh (w.needed (point_before i)) u f) (off : SameOff (joined (just (plain x)) wr) f to) where
     free : (e a : List ℕ) → IsActual ds given e a → g.callee.written (plain e) ≡ false → wr (plain a) ≡ false
@@ -98,7 +98,7 @@ module _ (q : Calls ℤ) (sh : Var → Shape) (level : ℕ) (cells : List Key) (
         } in
         let stands4 = popped_stands q sh level cells d line p known x one_cell l m a0 c0 g given apart apart' name change loops U U' h3 s x_free 0 f h3 h4 (omega arith) stands loose3 k.restored in
         let st = stepping q sh level cells d line p known x one_cell l m a0 c0 g given apart apart' name change loops U U' h3 s x_free in
-        let r = reversing q sh level cells (suc d) line x l m a0 c0 name g.callee.adjoint (words_of sh snap) (pushes p line snap) (pops p line snap) (one line (call name (actuals_named given))) (one line (adjoint_call g.callee given))
+        let r = reversing q sh level cells (suc d) line x l m a0 c0 (step_units name g.callee g.read) (words_of sh snap) (pushes p line snap) (pops p line snap) (one line (call name (actuals_named given))) (one line (adjoint_call g.callee given))
         (StandingIn q sh level cells d line p known x one_cell l m a0 c0 g given apart apart' name change loops U U' h3 s x_free)
         (Loose q sh level cells d line p known x one_cell l m a0 c0 g given apart apart' name change loops U U' h3)
         (SnapIn q sh level cells d line p known x one_cell l m a0 c0 g given apart apart' name change loops U U' h3 s x_free)

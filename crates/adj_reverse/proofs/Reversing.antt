@@ -20,16 +20,25 @@ use Rattle.adj_meaning.proofs.Leadings.{leads_stop, leads_act, leads_step}
 use Rattle.adj_transpose.specs.Pairs.{Key, Words, shadows, on_words}
 use Rattle.adj_transpose.specs.Lists.{Kept, scene}
 use Rattle.adj_reverse.specs.Emission.{literal}
-use Rattle.adj_reverse.specs.Reversals.{Reversal, LoopRun, Reverses, AreReversed, Tells}
+use Rattle.adj_reverse.specs.Reversals.{Reversal, LoopRun, Reverses, AreReversed, Tells, StepUnits, Called}
 use Rattle.adj_reverse.specs.ReversalCode.{reversal}
-use Rattle.adj_reverse.proofs.Told.{reversal_of, tells_reversal}
+use Rattle.adj_reverse.proofs.Told.{reversal_of, tells_reversal, IsOfStep, between_within}
 use Rattle.adj_reverse.proofs.Goings.{loop_goes}
 use Rattle.adj_reverse.proofs.Playing.{changes, loops_of, schedule_played}
 use Rattle.adj_reverse.proofs.Acting.{Stepping, Ready, Beside, own_set, beside_then, action, acts}
 
-module _ (q : Calls ℤ) (sh : Var → Shape) (level : ℕ) (cells : List Key) (d line : ℕ) (x : List ℕ) (l m : ℕ) (a0 c0 : ℤ) (unit adj : List ℕ) (words : ℕ) (keep back plain_call adjoint : Code) (Standing : ℕ → Store ℤ → Type 0) (Loose : Store ℤ → Type 0) (Snap : ℕ → List ℤ → Type 0) (change : ℕ → Words → Words) (loops : ℕ → List LoopRun) where
+module _ (q : Calls ℤ) (sh : Var → Shape) (level : ℕ) (cells : List Key) (d line : ℕ) (x : List ℕ) (l m : ℕ) (a0 c0 : ℤ) (step : StepUnits) (words : ℕ) (keep back plain_call adjoint : Code) (Standing : ℕ → Store ℤ → Type 0) (Loose : Store ℤ → Type 0) (Snap : ℕ → List ℤ → Type 0) (change : ℕ → Words → Words) (loops : ℕ → List LoopRun) where
   abbrev nw : Setting ℤ
   nw = on_words sh level
+
+  abbrev unit : List ℕ
+  unit = step.unit
+
+  abbrev adj : List ℕ
+  adj = step.adjoint
+
+  abbrev Kind : Called → Type 0
+  Kind = IsOfStep step words
 
   -- the reversal of one run of the loop whose DO stands at a line, from the store f and the tape t
   pub record Reversing (at : ℕ) (base : Kept) (f : Store ℤ) (t : List ℤ) : Type 0 where
@@ -40,7 +49,7 @@ module _ (q : Calls ℤ) (sh : Var → Shape) (level : ℕ) (cells : List Key) (
     pub runs : Leads q nw (reversal line d (plain x) m keep back plain_call adjoint) (scene base f t) (scene later after t)
     pub tells : Tells level base later (own ∷ inner)
     -- it is that of the loop
-    pub reverses : Reverses (record { mark = record { line = at; turns = l; snapshots = m }; unit = unit; adjoint = adj; words = words }) own
+    pub reverses : Reverses (record { mark = record { line = at; turns = l; snapshots = m }; step = step }) own
     pub begins : own.start ≡ length t
     -- and within it those that the steps have, from the last to the first
     pub reversed : AreReversed (loops_of loops 0 l) inner
@@ -51,19 +60,19 @@ module _ (q : Calls ℤ) (sh : Var → Shape) (level : ℕ) (cells : List Key) (
   steps = schedule_of 0 l m
 
   pub reversing : 0 < m → steps_of (pos l) ≡ Ok l → snapshots_of (pos m) ≡ Ok m → suc (suc (length steps)) < 2 ^ 63 → suc l < 2 ^ 63 → name_eq unit adj ≡ false → name_eq adj unit ≡ false →
-      Stepping q sh level cells d line x l m a0 c0 unit adj words keep back plain_call adjoint Standing Loose Snap change loops →
+      Stepping q sh level cells d line x l m a0 c0 unit adj Kind words keep back plain_call adjoint Standing Loose Snap change loops →
       (at : ℕ) (base : Kept) (f : Store ℤ) (t : List ℤ) → f (helper count d) 0 ≡ pos l → f (helper first d) 0 ≡ a0 → f (helper stride d) 0 ≡ c0 → Standing 0 f → Reversing at base f t
   reversing slot steps_fit snapshots_fit few small differ differ' s at base f t count_is first_is stride_is h =
       let n = length steps in
       let f1 = set f (helper entries d) 0 (pos n) in
       let f2 = set f1 (helper entry d) 0 (wrap (pos 1)) in
       let b1 : Kept = record { opened = suc base.opened; events = Begin l m level (length t) ∷ base.events } in
-      let a = acts q sh level cells d line x l m a0 c0 unit adj words keep back plain_call adjoint Standing Loose Snap change loops steps_fit snapshots_fit few small differ differ' s in
-      let p = schedule_played q sh level cells (action q sh level cells d line x l m a0 c0 unit adj words keep back plain_call adjoint Standing Loose Snap change loops) (helper entry d) unit adj words
-      (Ready q sh level cells d line x l m a0 c0 unit adj words keep back plain_call adjoint Standing Loose Snap change loops) steps l Standing Loose Snap change loops a m slot refl b1 f2 t
+      let a = acts q sh level cells d line x l m a0 c0 unit adj Kind words keep back plain_call adjoint Standing Loose Snap change loops steps_fit snapshots_fit few small differ differ' s in
+      let p = schedule_played q sh level cells (action q sh level cells d line x l m a0 c0 unit adj Kind words keep back plain_call adjoint Standing Loose Snap change loops) (helper entry d) unit adj Kind words
+      (Ready q sh level cells d line x l m a0 c0 unit adj Kind words keep back plain_call adjoint Standing Loose Snap change loops) steps l Standing Loose Snap change loops a m slot refl b1 f2 t
       (s.standing 0 f f2 (beside f) h) (s.loosen 0 f2)
       (record { count_is = count_is; first_is = first_is; stride_is = stride_is; entry_is = rw (nat_refl d) one_word }) in
-      let looped = loop_goes q nw line (helper entry d) (literal 1) (var (helper entries d)) (literal 1) (action q sh level cells d line x l m a0 c0 unit adj words keep back plain_call adjoint Standing Loose Snap change loops) b1 f1 p.after t t (pos 1) (f1 (helper entries d) 0) (pos 1) n p.calls p.rs
+      let looped = loop_goes q nw line (helper entry d) (literal 1) (var (helper entries d)) (literal 1) (action q sh level cells d line x l m a0 c0 unit adj Kind words keep back plain_call adjoint Standing Loose Snap change loops) b1 f1 p.after t t (pos 1) (f1 (helper entries d) 0) (pos 1) n p.calls p.rs
       refl refl refl (ap (λ z. trips unmarked (pos 1) z (pos 1)) (entries_is f) ∙ trips_all) p.runs in
       let b2 : Kept = record { opened = base.opened; events = End level ∷ looped.later.events } in
       record {
@@ -74,10 +83,10 @@ module _ (q : Calls ℤ) (sh : Var → Shape) (level : ℕ) (cells : List Key) (
         runs =
             leads_step q nw line (runtime (begin_reversal (var (helper count d)) (literal m))) _ (scene base f t) (scene b1 f t) (scene b2 p.after t) (λ k. rw (count_is, steps_fit, snapshots_fit) refl)
             (leads_step q nw line (runtime (count_actions (var (helper count d)) (literal m) (helper entries d))) _ (scene b1 f t) (scene b1 f1 t) (scene b2 p.after t) (λ k. rw (count_is, steps_fit, snapshots_fit) refl)
-            (leads_act q nw line (loop (helper entry d) (literal 1) (var (helper entries d)) (literal 1) (action q sh level cells d line x l m a0 c0 unit adj words keep back plain_call adjoint Standing Loose Snap change loops) unmarked) (one line (runtime end_reversal)) (scene b1 f1 t) (scene looped.later p.after t) (scene b2 p.after t) looped.runs
+            (leads_act q nw line (loop (helper entry d) (literal 1) (var (helper entries d)) (literal 1) (action q sh level cells d line x l m a0 c0 unit adj Kind words keep back plain_call adjoint Standing Loose Snap change loops) unmarked) (one line (runtime end_reversal)) (scene b1 f1 t) (scene looped.later p.after t) (scene b2 p.after t) looped.runs
             (leads_step q nw line (runtime end_reversal) stop (scene looped.later p.after t) (scene b2 p.after t) (scene b2 p.after t) (λ k. rw looped.tells.opened refl) (leads_stop q nw (scene b2 p.after t)))));
         tells = tells_reversal level l m (length t) base looped.later p.calls p.rs looped.tells;
-        reverses = record { steps = refl; snapshots = refl; ended = refl; advances = p.advances_are; adjoints = p.turns_are; within = p.within };
+        reverses = record { steps = refl; snapshots = refl; ended = refl; advances = p.advances_are; adjoints = p.turns_are; within = between_within step words (length t) m p.calls p.within };
         begins = refl;
         reversed = p.reversed;
         loose = p.ends;
@@ -93,9 +102,9 @@ module _ (q : Calls ℤ) (sh : Var → Shape) (level : ℕ) (cells : List Key) (
       trips_all : trips unmarked (pos 1) (pos (length steps)) (pos 1) ≡ Ok (length steps)
       trips_all = let ok : nat_le (length steps) 9223372036854775807 ≡ true = grind arith in rw (trips_through (length steps)) (rw ok refl)
 
-      beside : (f : Store ℤ) → Beside q sh level cells d line x l m a0 c0 unit adj words keep back plain_call adjoint Standing Loose Snap change loops f (set (set f (helper entries d) 0 (pos (length steps))) (helper entry d) 0 (wrap (pos 1)))
+      beside : (f : Store ℤ) → Beside q sh level cells d line x l m a0 c0 unit adj Kind words keep back plain_call adjoint Standing Loose Snap change loops f (set (set f (helper entries d) 0 (pos (length steps))) (helper entry d) 0 (wrap (pos 1)))
       beside f =
           let f1 = set f (helper entries d) 0 (pos (length steps)) in
-          beside_then q sh level cells d line x l m a0 c0 unit adj words keep back plain_call adjoint Standing Loose Snap change loops f f1 (set f1 (helper entry d) 0 (wrap (pos 1)))
-          (own_set q sh level cells d line x l m a0 c0 unit adj words keep back plain_call adjoint Standing Loose Snap change loops entries (pos (length steps)) f)
-          (own_set q sh level cells d line x l m a0 c0 unit adj words keep back plain_call adjoint Standing Loose Snap change loops entry (wrap (pos 1)) f1)
+          beside_then q sh level cells d line x l m a0 c0 unit adj Kind words keep back plain_call adjoint Standing Loose Snap change loops f f1 (set f1 (helper entry d) 0 (wrap (pos 1)))
+          (own_set q sh level cells d line x l m a0 c0 unit adj Kind words keep back plain_call adjoint Standing Loose Snap change loops entries (pos (length steps)) f)
+          (own_set q sh level cells d line x l m a0 c0 unit adj Kind words keep back plain_call adjoint Standing Loose Snap change loops entry (wrap (pos 1)) f1)

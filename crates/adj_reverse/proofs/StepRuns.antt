@@ -112,3 +112,20 @@ steps_run n (suc m) go after s e k k' h =
     between : (i : ℕ) → i < suc m → (a b : Scene _) (f g : ℕ → Scene _) → f 0 ≡ after b → ((i : ℕ) → i < m → f (suc i) ≡ after (g i)) → first_then a f (suc i) ≡ after (first_then b g i)
     between zero less a b f g first rest = first
     between (suc i) less a b f g first rest = rest i (omega arith)
+
+-- ---- something chosen for each step
+
+pub record Chosen {A : Type 0} (P : ℕ → A → Type 0) (m : ℕ) : Type 0 where
+  pub at : ℕ → A
+  pub is : (i : ℕ) → i < m → P i (at i)
+
+pub choose_each : {A : Type 0} (P : ℕ → A → Type 0) (other : A) (m : ℕ) → ((i : ℕ) → i < m → (a : A) × P i a) → Chosen P m
+choose_each P other zero h = record { at = λ i. other; is = λ i less. absurd (omega arith) }
+choose_each P other (suc m) h =
+    let first = h 0 (omega arith) in
+    let rest = choose_each (λ i a. P (suc i) a) other m (λ i less. h (suc i) (omega arith)) in
+    record { at = first_then first.0 rest.at; is = λ i less. each i less first.0 rest.at first.1 rest.is }
+  where
+    each : (i : ℕ) → i < suc m → (a : _) (f : ℕ → _) → P 0 a → ((i : ℕ) → i < m → P (suc i) (f i)) → P i (first_then a f i)
+    each zero less a f first rest = first
+    each (suc i) less a f first rest = rest i (omega arith)

@@ -1,5 +1,5 @@
 -- The calls of a step unit and of its adjoint, and the snapshots of its steps, are what a reversal asks for.
-use Rattle.std.proofs.Common.{◌≡◌, ◌≤◌, ◌<◌, ℕ, zero, suc, Bool, true, false, List, [], ◌∷◌, ◌++◌, length, refl, sym, ap, ◌∙◌, subst, arith}
+use Rattle.std.proofs.Common.{◌≡◌, inl, inr, ◌≤◌, ◌<◌, ℕ, zero, suc, Bool, true, false, List, [], ◌∷◌, ◌++◌, length, refl, sym, ap, ◌∙◌, subst, arith}
 use Rattle.std.specs.Prelude.{ℤ, pos, ◌==◌, ◌&&◌, Option, Some, None}
 use Rattle.adj_tree.specs.Code.{Role, Var, plain, shadow, helper, name_eq, call, Code}
 use Rattle.adj_tree.proofs.Names.{name_same}
@@ -26,6 +26,9 @@ use Rattle.adj_reverse.specs.Steps.{ActualsAgree, Steps}
 use Rattle.adj_reverse.proofs.Passing.{found_or, beside_back}
 use Rattle.adj_reverse.proofs.CallAdjoints.{writes_actual}
 use Rattle.adj_reverse.proofs.CallSweeps.{group_has, group_out}
+use Rattle.adj_reverse.specs.Reversals.{StepUnits}
+use Rattle.adj_reverse.specs.Steps.{step_units}
+use Rattle.adj_reverse.proofs.Told.{IsOfStep}
 use Rattle.adj_reverse.proofs.Snapshots.{KnowsArrays, Restored, Pushed, words_of, group_pushed}
 use Rattle.adj_reverse.proofs.Goings.{goes_one}
 use Rattle.adj_reverse.proofs.Acting.{Stepping, SnapshotPopped}
@@ -153,13 +156,16 @@ module _ (q : Calls ℤ) (sh : Var → Shape) (level : ℕ) (cells : List Key) (
     abbrev pub words : ℕ
     words = words_of sh snapshot
 
+    abbrev pub the_step : StepUnits
+    the_step = step_units name g.callee g.read
+
     abbrev pub SnapIn : ℕ → List ℤ → Type 0
     SnapIn i w = (i ≤ l) × Snap i w
 
     abbrev pub StandingIn : ℕ → Store ℤ → Type 0
     StandingIn i f = (i ≤ l) × Standing i f
 
-    pub stepping : Stepping q sh level cells (suc d) line x l m a0 c0 name g.callee.adjoint words forth_code back_code (one line (call name (actuals_named given))) (one line (adjoint_call g.callee given)) StandingIn Loose SnapIn change loops
+    pub stepping : Stepping q sh level cells (suc d) line x l m a0 c0 name g.callee.adjoint (IsOfStep the_step words) words forth_code back_code (one line (call name (actuals_named given))) (one line (adjoint_call g.callee given)) StandingIn Loose SnapIn change loops
     stepping = record {
       snapshots = λ i w h. ap length h.1.is ∙ h.1.pushed.length_is;
       pushed = λ i f h. record { snap = (group_pushed q sh level p line known snapshot f).trail; is = (h.0, snap_pushed i f h.1); pushes = λ b t. (group_pushed q sh level p line known snapshot f).pushed b t };
@@ -168,7 +174,9 @@ module _ (q : Calls ℤ) (sh : Var → Shape) (level : ℕ) (cells : List Key) (
           let c = s.again i b f t less (agrees i f g.read (λ v n. or_right (g.callee.members v) (g.read v) n) less h.1 at) in
           record {
             after = c.after;
-            goes = goes_one q nw line (call name (actuals_named given)) b f c.after t t (record { unit = name; height = length t } ∷ []) [] c.runs;
+            goes = goes_one q nw line (call name (actuals_named given)) b f c.after t t (record { unit = name; height = length t; shapes = c.shapes } ∷ []) [] c.runs;
+            shapes = c.shapes;
+            right = λ h. inl (refl, c.takes);
             stands = (
               less,
               record {
@@ -184,7 +192,9 @@ module _ (q : Calls ℤ) (sh : Var → Shape) (level : ℕ) (cells : List Key) (
           record {
             after = c.after;
             rs = c.rs;
-            goes = goes_one q nw line (adjoint_call g.callee given) b f c.after t t (record { unit = g.callee.adjoint; height = length t } ∷ []) c.rs c.runs;
+            goes = goes_one q nw line (adjoint_call g.callee given) b f c.after t t (record { unit = g.callee.adjoint; height = length t; shapes = c.shapes } ∷ []) c.rs c.runs;
+            shapes = c.shapes;
+            right = λ h. inr (refl, c.takes);
             reversed = c.reversed;
             loose = record {
               at = λ e a y n w o j lt. c.off.at a j (unwritten e a y w) ∙ h.1.at e a y n o j lt ∙ as_first i a j h.0 o (unwritten e a y w);
@@ -198,7 +208,7 @@ module _ (q : Calls ℤ) (sh : Var → Shape) (level : ℕ) (cells : List Key) (
       loosen = λ i f n. record { at = λ e a y k w o j lt. n.1.at e a y k o j lt ∙ as_first i a j n.0 o (unwritten e a y w); framed = n.1.framed };
     }
       where
-        pop : (i : ℕ) (w : List ℤ) (h : Store ℤ) → i ≤ l → Snap i w → Loose h → SnapshotPopped q sh level cells (suc d) line x l m a0 c0 name g.callee.adjoint words forth_code back_code (one line (call name (actuals_named given))) (one line (adjoint_call g.callee given)) StandingIn Loose SnapIn change loops i w h
+        pop : (i : ℕ) (w : List ℤ) (h : Store ℤ) → i ≤ l → Snap i w → Loose h → SnapshotPopped q sh level cells (suc d) line x l m a0 c0 name g.callee.adjoint (IsOfStep the_step words) words forth_code back_code (one line (call name (actuals_named given))) (one line (adjoint_call g.callee given)) StandingIn Loose SnapIn change loops i w h
         pop i w h fits is loose = record {
           after = (is.pushed.popped h).after;
           pops = λ b t. subst (λ (z : List ℤ). Leads q nw back_code (scene b h (z ++ t)) (scene b (is.pushed.popped h).after t)) (sym is.is) ((is.pushed.popped h).runs b t);

@@ -9,7 +9,7 @@ use Rattle.adj_meaning.specs.Scene.{Scene, stand, Outcome, Done, Trapped, then_d
 use Rattle.adj_meaning.specs.Run.{Calls, run, tests, most_tests}
 use Rattle.adj_meaning.proofs.Inversions.{then_done, value_done, count_done, done_same}
 use Rattle.adj_transpose.specs.Lists.{Kept, scene}
-use Rattle.adj_reverse.specs.Reversals.{Reversal, LoopRun, Tells, Marks}
+use Rattle.adj_reverse.specs.Reversals.{Reversal, LoopRun, Tells, Marks, ReversedLines}
 use Rattle.adj_reverse.specs.Runs.{Comes, ActComes, Passes, ActPasses}
 use Rattle.adj_reverse.proofs.Told.{tells_nothing, tells_then, marks_nothing, marks_then}
 
@@ -26,7 +26,7 @@ pub record TestsCome {C : Type 0} (q : Calls C) (n : Setting C) (m : ℕ) (c : T
   pub by : (k : ℕ) → tests n m (λ (z : Scene C). holds n c z.store) line (run q n body) (scene base s t) (cost + k) ≡ Done (scene later s' t') k
 
 -- the same of the program, which tells its runs of loops
-pub record TestsPass {C : Type 0} (lines : ℕ → Bool) (q : Calls C) (n : Setting C) (m : ℕ) (c : Test) (line : ℕ) (body : Code) (base : Kept) (s s' : Store C) (t : List C) (loops : List LoopRun) : Type 0 where
+pub record TestsPass {C : Type 0} (lines : ReversedLines) (q : Calls C) (n : Setting C) (m : ℕ) (c : Test) (line : ℕ) (body : Code) (base : Kept) (s s' : Store C) (t : List C) (loops : List LoopRun) : Type 0 where
   pub later : Kept
   pub tells : Marks lines n.level base later loops
   pub cost : ℕ
@@ -56,7 +56,7 @@ module _ {C : Type 0} (q : Calls C) (n : Setting C) (c : Test) (line : ℕ) (bod
 
 -- ---- of the program
 
-module _ {C : Type 0} (lines : ℕ → Bool) (q : Calls C) (n : Setting C) (c : Test) (line : ℕ) (body : Code) where
+module _ {C : Type 0} (lines : ReversedLines) (q : Calls C) (n : Setting C) (c : Test) (line : ℕ) (body : Code) where
   pub tests_pass_none : (m : ℕ) (b : Kept) (s : Store C) (t : List C) → holds n c s ≡ Ok false → TestsPass lines q n m c line body b s s t []
   tests_pass_none m b s t h = record { later = b; tells = marks_nothing lines n.level b; cost = 0; by = λ k. let e : 0 + k ≡ k = omega arith in fails m k ∙ ap (Done (scene b s t)) e }
     where

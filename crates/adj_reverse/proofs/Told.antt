@@ -1,12 +1,12 @@
 -- What runs tell of reversals goes together one after another, through calls, and around a reversal.
-use Rattle.std.proofs.Common.{◌≡◌, ◌≤◌, ◌<◌, ℕ, zero, suc, ◌+◌, Bool, true, false, List, [], ◌∷◌, ◌++◌, map, refl, sym, ap, ◌∙◌, subst, arith, append_assoc, if◌then◌else◌}
-use Rattle.std.specs.Prelude.{◌==◌, reverse}
+use Rattle.std.proofs.Common.{◌≡◌, inl, inr, ◌≤◌, ◌<◌, ℕ, zero, suc, ◌+◌, true, false, List, [], ◌∷◌, ◌++◌, refl, sym, ap, ◌∙◌, subst, arith, append_assoc}
+use Rattle.std.specs.Prelude.{◌==◌, ◌*◌, ◌⊎◌, Option, Some, None, reverse}
 use Rattle.std.proofs.lemmas.List.{append-nil, reverse-append}
 use Rattle.adj_tree.proofs.Names.{nat_refl}
 use Rattle.adj_meaning.specs.Event.{Event, Enter, Begin, End, Marked}
 use Rattle.adj_meaning.specs.Store.{Shape}
 use Rattle.adj_transpose.specs.Lists.{Kept}
-use Rattle.adj_reverse.specs.Reversals.{Called, Reversal, calls_after, ends_after, reversals_in, MarkedRun, LoopRun, marks_in, times, AreWithin, AreReversed, in_order, IsTold, IsToldBy, Tells, TellsCalls, Marks}
+use Rattle.adj_reverse.specs.Reversals.{Called, Reversal, calls_after, ends_after, reversals_in, MarkedRun, StepUnits, LoopRun, with_run, runs_in, times, words_taken, AreWithin, AreReversed, in_order, IsTold, IsToldBy, Tells, TellsCalls, Marks, ReversedLines}
 
 -- ---- lists of events
 
@@ -44,7 +44,7 @@ level_below a b h = grind arith
 
 -- ---- a call: the entry of the unit, and what its body tells
 
-pub told_call : (level height : ℕ) (name : List ℕ) (shapes : List Shape) (body : List Event) (rs : List Reversal) → IsTold (suc level) body rs → IsToldBy level (body ++ (Enter name (suc level) height shapes ∷ [])) (record { unit = name; height = height } ∷ []) rs
+pub told_call : (level height : ℕ) (name : List ℕ) (shapes : List Shape) (body : List Event) (rs : List Reversal) → IsTold (suc level) body rs → IsToldBy level (body ++ (Enter name (suc level) height shapes ∷ [])) (record { unit = name; height = height; shapes = shapes } ∷ []) rs
 told_call level height name shapes body rs f = record {
   told_is = record {
     all = λ later. ap reversals_in (in_order-append body (Enter name (suc level) height shapes ∷ []) later) ∙ f.all later;
@@ -53,7 +53,7 @@ told_call level height name shapes body rs f = record {
   };
   own_calls = λ later.
       ap (calls_after level 0) (in_order-append body (Enter name (suc level) height shapes ∷ []) later)
-      ∙ rw (nat_refl (suc level)) (ap (λ z. record { unit = name; height = height } ∷ z) (f.outer_calls level 0 (omega arith) later));
+      ∙ rw (nat_refl (suc level)) (ap (λ z. record { unit = name; height = height; shapes = shapes } ∷ z) (f.outer_calls level 0 (omega arith) later));
   own_ends = λ later. ap (ends_after level 0) (in_order-append body (Enter name (suc level) height shapes ∷ []) later) ∙ f.outer_ends level 0 (omega arith) later;
 }
   where
@@ -169,13 +169,30 @@ pub times-append : (name : List ℕ) (a b : List Called) → times name (a ++ b)
 times-append name [] b = omega arith
 times-append name (c ∷ a) b = omega (arith, times-append name a b)
 
-pub within_append : (u v : List ℕ) (low high : ℕ) (a b : List Called) → AreWithin u v low high a → AreWithin u v low high b → AreWithin u v low high (a ++ b)
-within_append u v low high [] b f g = g
-within_append u v low high (c ∷ a) b f g = (f.0, within_append u v low high a b f.1 g)
+-- each call is of one kind, while the tape is as long as `low` at least and as `high` at most
+abbrev pub AreBetween : (Called → Type 0) → ℕ → ℕ → List Called → Type 0
+AreBetween Kind low high [] = Unit {0}
+AreBetween Kind low high (c ∷ cs) = (Kind c × ((low ≤ c.height) × (c.height ≤ high))) × AreBetween Kind low high cs
 
-pub within_wider : (u v : List ℕ) (low high low' high' : ℕ) (a : List Called) → low' ≤ low → high ≤ high' → AreWithin u v low high a → AreWithin u v low' high' a
-within_wider u v low high low' high' [] l h f = tt
-within_wider u v low high low' high' (c ∷ a) l h f = ((f.0.0, (omega (arith, f.0.1.0), omega (arith, f.0.1.1))), within_wider u v low high low' high' a l h f.1)
+pub between_append : (Kind : Called → Type 0) (low high : ℕ) (a b : List Called) → AreBetween Kind low high a → AreBetween Kind low high b → AreBetween Kind low high (a ++ b)
+between_append Kind low high [] b f g = g
+between_append Kind low high (c ∷ a) b f g = (f.0, between_append Kind low high a b f.1 g)
+
+pub between_wider : (Kind : Called → Type 0) (low high low' high' : ℕ) (a : List Called) → low' ≤ low → high ≤ high' → AreBetween Kind low high a → AreBetween Kind low' high' a
+between_wider Kind low high low' high' [] l h f = tt
+between_wider Kind low high low' high' (c ∷ a) l h f = ((f.0.0, (omega (arith, f.0.1.0), omega (arith, f.0.1.1))), between_wider Kind low high low' high' a l h f.1)
+
+-- a call of the step unit or of its adjoint, where a snapshot has so many words
+abbrev pub IsOfStep : StepUnits → ℕ → Called → Type 0
+IsOfStep step words c = ((c.unit ≡ step.unit) × (words_taken step.taken c.shapes ≡ words)) ⊎ ((c.unit ≡ step.adjoint) × (words_taken step.taken_back c.shapes ≡ words))
+
+pub between_within : (step : StepUnits) (words start snapshots : ℕ) (cs : List Called) → AreBetween (IsOfStep step words) start (start + snapshots * words) cs → AreWithin step start snapshots cs
+between_within step words start snapshots [] h = tt
+between_within step words start snapshots (c ∷ cs) h = ((h.0.1.0, one h.0.0), between_within step words start snapshots cs h.1)
+  where
+    one : IsOfStep step words c → ((c.unit ≡ step.unit) × (c.height ≤ start + snapshots * words_taken step.taken c.shapes)) ⊎ ((c.unit ≡ step.adjoint) × (c.height ≤ start + snapshots * words_taken step.taken_back c.shapes))
+    one (inl k) = inl (k.0, subst (λ z. c.height ≤ start + snapshots * z) (sym k.1) h.0.1.1)
+    one (inr k) = inr (k.0, subst (λ z. c.height ≤ start + snapshots * z) (sym k.1) h.0.1.1)
 
 pub reversed_append : (la lb : List LoopRun) (ra rb : List Reversal) → AreReversed la ra → AreReversed lb rb → AreReversed (la ++ lb) (ra ++ rb)
 reversed_append [] lb [] rb f g = g
@@ -185,53 +202,59 @@ reversed_append (l ∷ la) lb (r ∷ ra) rb f g = (f.0, reversed_append la lb ra
 
 -- ---- what the program tells
 
-pub marks_in-append : (at : ℕ → Bool) (b a : List Event) → marks_in at (b ++ a) ≡ marks_in at b ++ marks_in at a
-marks_in-append at [] a = refl
-marks_in-append at (Enter name l h shapes ∷ b) a = marks_in-append at b a
-marks_in-append at (Begin steps snapshots l h ∷ b) a = marks_in-append at b a
-marks_in-append at (End l ∷ b) a = marks_in-append at b a
-marks_in-append at (Marked line turns snapshots ∷ b) a = go (at line) (marks_in-append at b a)
+pub runs_in-append : (lines : ReversedLines) (b a : List Event) → runs_in lines (b ++ a) ≡ runs_in lines b ++ runs_in lines a
+runs_in-append lines [] a = refl
+runs_in-append lines (Enter name l h shapes ∷ b) a = runs_in-append lines b a
+runs_in-append lines (Begin steps snapshots l h ∷ b) a = runs_in-append lines b a
+runs_in-append lines (End l ∷ b) a = runs_in-append lines b a
+runs_in-append lines (Marked line turns snapshots ∷ b) a = go (lines line) (runs_in-append lines b a)
   where
     here : MarkedRun
     here = record { line = line; turns = turns; snapshots = snapshots }
 
-    go : (o : Bool) → marks_in at (b ++ a) ≡ marks_in at b ++ marks_in at a → (if o then here ∷ marks_in at (b ++ a) else marks_in at (b ++ a)) ≡ (if o then here ∷ marks_in at b else marks_in at b) ++ marks_in at a
-    go true ih = ap (λ z. here ∷ z) ih
-    go false ih = ih
-
-map-append : (a b : List LoopRun) → map (λ (r : LoopRun). r.mark) (a ++ b) ≡ map (λ (r : LoopRun). r.mark) a ++ map (λ (r : LoopRun). r.mark) b
-map-append [] b = refl
-map-append (l ∷ a) b = ap (λ z. l.mark ∷ z) (map-append a b)
+    go : (o : Option StepUnits) → runs_in lines (b ++ a) ≡ runs_in lines b ++ runs_in lines a → with_run o here (runs_in lines (b ++ a)) ≡ with_run o here (runs_in lines b) ++ runs_in lines a
+    go (Some step) ih = ap (λ z. record { mark = here; step = step } ∷ z) ih
+    go None ih = ih
 
 -- nothing is told
 pub tells_nothing : (level : ℕ) (b : Kept) → Tells level b b []
 tells_nothing level b = record { opened = refl; told = []; events = refl; is = told_none level }
 
-pub marks_nothing : (lines : ℕ → Bool) (level : ℕ) (b : Kept) → Marks lines level b b []
+pub marks_nothing : (lines : ReversedLines) (level : ℕ) (b : Kept) → Marks lines level b b []
 marks_nothing lines level b = record { opened = refl; told = []; events = refl; is = told_none level; loops_are = refl }
 
 -- one after the other: the loops of the later one come first
-pub marks_then : (lines : ℕ → Bool) (level : ℕ) (a b c : Kept) (la lb : List LoopRun) → Marks lines level a b la → Marks lines level b c lb → Marks lines level a c (lb ++ la)
+pub marks_then : (lines : ReversedLines) (level : ℕ) (a b c : Kept) (la lb : List LoopRun) → Marks lines level a b la → Marks lines level b c lb → Marks lines level a c (lb ++ la)
 marks_then lines level a b c la lb f g = record {
   opened = g.opened ∙ f.opened;
   told = g.told ++ f.told;
   events = g.events ∙ ap (λ z. g.told ++ z) f.events ∙ sym (append_assoc g.told f.told a.events);
   is = told_append level f.told g.told [] [] f.is g.is;
-  loops_are = marks_in-append lines g.told f.told ∙ (λ i. g.loops_are i ++ f.loops_are i) ∙ sym (map-append lb la);
+  loops_are = runs_in-append lines g.told f.told ∙ (λ i. g.loops_are i ++ f.loops_are i);
 }
 
 -- the program begins no reversal
-pub tells_of_marks : (lines : ℕ → Bool) (level : ℕ) (a b : Kept) (loops : List LoopRun) → Marks lines level a b loops → Tells level a b []
+pub tells_of_marks : (lines : ReversedLines) (level : ℕ) (a b : Kept) (loops : List LoopRun) → Marks lines level a b loops → Tells level a b []
 tells_of_marks lines level a b loops f = record { opened = f.opened; told = f.told; events = f.events; is = f.is }
 
 -- the end of a marked loop at a line that isn't in the set
-pub marks_other : (lines : ℕ → Bool) (level line turns snapshots : ℕ) (a b : Kept) (loops : List LoopRun) → lines line ≡ false → Marks lines level a b loops → Marks lines level a (record { opened = b.opened; events = Marked line turns snapshots ∷ b.events }) loops
+pub marks_other : (lines : ReversedLines) (level line turns snapshots : ℕ) (a b : Kept) (loops : List LoopRun) → lines line ≡ None → Marks lines level a b loops → Marks lines level a (record { opened = b.opened; events = Marked line turns snapshots ∷ b.events }) loops
 marks_other lines level line turns snapshots a b loops other f = record {
   opened = f.opened;
   told = Marked line turns snapshots ∷ f.told;
   events = ap (λ z. Marked line turns snapshots ∷ z) f.events;
   is = told_append level f.told (Marked line turns snapshots ∷ []) [] [] f.is (told_marked level line turns snapshots).told_is;
-  loops_are = ap (λ o. if o then record { line = line; turns = turns; snapshots = snapshots } ∷ marks_in lines f.told else marks_in lines f.told) other ∙ f.loops_are;
+  loops_are = ap (λ o. with_run o (record { line = line; turns = turns; snapshots = snapshots }) (runs_in lines f.told)) other ∙ f.loops_are;
+}
+
+-- the end of a marked loop at a line of the set
+pub marks_own : (lines : ReversedLines) (level : ℕ) (run : LoopRun) (a b : Kept) (loops : List LoopRun) → lines run.mark.line ≡ Some run.step → Marks lines level a b loops → Marks lines level a (record { opened = b.opened; events = Marked run.mark.line run.mark.turns run.mark.snapshots ∷ b.events }) (run ∷ loops)
+marks_own lines level run a b loops own f = record {
+  opened = f.opened;
+  told = Marked run.mark.line run.mark.turns run.mark.snapshots ∷ f.told;
+  events = ap (λ z. Marked run.mark.line run.mark.turns run.mark.snapshots ∷ z) f.events;
+  is = told_append level f.told (Marked run.mark.line run.mark.turns run.mark.snapshots ∷ []) [] [] f.is (told_marked level run.mark.line run.mark.turns run.mark.snapshots).told_is;
+  loops_are = ap (λ o. with_run o run.mark (runs_in lines f.told)) own ∙ ap (λ z. run ∷ z) f.loops_are;
 }
 
 -- and in a sweep
@@ -252,13 +275,22 @@ tells_called level height name shapes base later rs f = record {
   is = (told_call level height name shapes f.told rs f.is).told_is;
 }
 
-pub marks_called : (lines : ℕ → Bool) (level height : ℕ) (name : List ℕ) (shapes : List Shape) (base later : Kept) (loops : List LoopRun) → Marks lines (suc level) (record { opened = 0; events = Enter name (suc level) height shapes ∷ base.events }) later loops → Marks lines level base (record { opened = base.opened; events = later.events }) loops
+-- with the calls that the caller makes by it
+pub tells_entered : (level height : ℕ) (name : List ℕ) (shapes : List Shape) (base later : Kept) (rs : List Reversal) → Tells (suc level) (record { opened = 0; events = Enter name (suc level) height shapes ∷ base.events }) later rs → TellsCalls level base (record { opened = base.opened; events = later.events }) (record { unit = name; height = height; shapes = shapes } ∷ []) rs
+tells_entered level height name shapes base later rs f = record {
+  opened = refl;
+  told = f.told ++ (Enter name (suc level) height shapes ∷ []);
+  events = f.events ∙ sym (append_assoc f.told (Enter name (suc level) height shapes ∷ []) base.events);
+  is = told_call level height name shapes f.told rs f.is;
+}
+
+pub marks_called : (lines : ReversedLines) (level height : ℕ) (name : List ℕ) (shapes : List Shape) (base later : Kept) (loops : List LoopRun) → Marks lines (suc level) (record { opened = 0; events = Enter name (suc level) height shapes ∷ base.events }) later loops → Marks lines level base (record { opened = base.opened; events = later.events }) loops
 marks_called lines level height name shapes base later loops f = record {
   opened = refl;
   told = f.told ++ (Enter name (suc level) height shapes ∷ []);
   events = f.events ∙ sym (append_assoc f.told (Enter name (suc level) height shapes ∷ []) base.events);
   is = (told_call level height name shapes f.told [] f.is).told_is;
-  loops_are = marks_in-append lines f.told (Enter name (suc level) height shapes ∷ []) ∙ append-nil (marks_in lines f.told) ∙ f.loops_are;
+  loops_are = runs_in-append lines f.told (Enter name (suc level) height shapes ∷ []) ∙ append-nil (runs_in lines f.told) ∙ f.loops_are;
 }
 
 -- events in order of time are those of a run turned round

@@ -1,5 +1,5 @@
 -- The turns of a loop, one after another.
-use Rattle.std.proofs.Common.{◌≡◌, ℕ, zero, suc, ◌+◌, refl, sym, ap, ◌∙◌, arith, Bool, List, [], ◌++◌}
+use Rattle.std.proofs.Common.{◌≡◌, ℕ, zero, suc, ◌+◌, refl, sym, ap, ◌∙◌, arith, List, [], ◌++◌}
 use Rattle.adj_tree.specs.Code.{Var, Code}
 use Rattle.adj_meaning.specs.Store.{Store, set}
 use Rattle.adj_meaning.specs.Value.{Setting}
@@ -8,7 +8,7 @@ use Rattle.std.specs.Prelude.{ℤ}
 use Rattle.adj_meaning.specs.Scene.{Scene, Stand, stand, Go, Outcome, Done, Trapped, More, Full, then_do, counted}
 use Rattle.adj_meaning.specs.Run.{Calls, run, turns, stepped}
 use Rattle.adj_transpose.specs.Lists.{Kept, scene}
-use Rattle.adj_reverse.specs.Reversals.{Reversal, LoopRun, Tells, Marks}
+use Rattle.adj_reverse.specs.Reversals.{Reversal, LoopRun, Tells, Marks, ReversedLines}
 use Rattle.adj_reverse.specs.Runs.{Comes, Passes}
 use Rattle.adj_reverse.proofs.Told.{tells_nothing, tells_then, marks_nothing, marks_then}
 
@@ -24,7 +24,7 @@ pub record TurnsCome {C : Type 0} (q : Calls C) (n : Setting C) (m : ℕ) (body 
   pub by : (k : ℕ) → turns n m (run q n body) (stepped n x c) (scene base s t) (cost + k) ≡ Done (scene later s' t') k
 
 -- the same of the program, which tells its runs of loops
-pub record TurnsPass {C : Type 0} (lines : ℕ → Bool) (q : Calls C) (n : Setting C) (m : ℕ) (body : Code) (x : Var) (c : ℤ) (base : Kept) (s s' : Store C) (t : List C) (loops : List LoopRun) : Type 0 where
+pub record TurnsPass {C : Type 0} (lines : ReversedLines) (q : Calls C) (n : Setting C) (m : ℕ) (body : Code) (x : Var) (c : ℤ) (base : Kept) (s s' : Store C) (t : List C) (loops : List LoopRun) : Type 0 where
   pub later : Kept
   pub tells : Marks lines n.level base later loops
   pub cost : ℕ
@@ -78,7 +78,7 @@ module _ {C : Type 0} (q : Calls C) (n : Setting C) (body : Code) (x : Var) (c :
   }
 
   -- the same of the program
-  module _ (lines : ℕ → Bool) where
+  module _ (lines : ReversedLines) where
     pub turns_pass_none : (b : Kept) (s : Store C) (t : List C) → TurnsPass lines q n 0 body x c b s s t []
     turns_pass_none b s t = record { later = b; tells = marks_nothing lines n.level b; cost = 0; by = λ k. let e : 0 + k ≡ k = omega arith in ap (Done (scene b s t)) e }
 

@@ -14,12 +14,12 @@ use Rattle.adj_transpose.specs.Facts.{joined, Facts}
 use Rattle.adj_transpose.specs.Pairs.{Key, Words, with_tangents, on_words, on_duals}
 use Rattle.adj_transpose.specs.Lists.{Kept}
 use Rattle.adj_transpose.proofs.Variables.{and_true}
-use Rattle.adj_reverse.specs.Plan.{Plan}
-use Rattle.adj_reverse.specs.Emission.{is_empty, while_forward, while_backward, forward_act, forward, backward_act, backward}
+use Rattle.adj_reverse.specs.Plan.{Plan, Schedules}
+use Rattle.adj_reverse.specs.Emission.{is_empty, while_forward, while_backward, forward_act_with, forward_with, backward_act_with, backward_with}
 use Rattle.adj_reverse.specs.Laws.{point_inside, last_point, CalleeFacts, WhileLaws}
 use Rattle.adj_reverse.specs.Passing.{plainly}
 use Rattle.adj_reverse.specs.Theorem.{plan_of}
-use Rattle.adj_reverse.specs.Reversals.{LoopRun}
+use Rattle.adj_reverse.specs.Reversals.{LoopRun, ReversedLines}
 use Rattle.adj_reverse.proofs.Runs.{passes_one}
 use Rattle.adj_reverse.proofs.Sweeps.{Matches, Sweeps, sweeps_stop, sweeps_more, sweeps_append}
 use Rattle.adj_reverse.proofs.Transposed.{Transposed, transposed_from, transposed_to}
@@ -29,7 +29,7 @@ use Rattle.adj_reverse.proofs.Idle.{empty_is, idle_list}
 use Rattle.adj_reverse.proofs.Tests.{most_small, TestsPass, tests_pass_none, tests_pass_more, while_passes, Failed, TurnDone, last_test, next_test}
 use Rattle.adj_reverse.proofs.WhileSweeps.{TestsSwept, swept_none, swept_more, TestsSilent, silent_none, silent_more, silent_row, told_row}
 
-module _ (p q : Calls ℤ) (lines : ℕ → Bool) (qd : Calls (ℤ × ℤ)) (sh : Var → Shape) (level : ℕ) (xs : List Key) (w : Facts) (d : ℕ) (present : Bool) (callees : List ℕ → CalleeFacts) (arrays : Vars) (i line : ℕ) (c : Test) (body : Code) (laws : WhileLaws w i c body) (text : AllText (λ v. reads_test v c)) (wr : Vars) (inert : Bool) where
+module _ (sc : Schedules) (p q : Calls ℤ) (lines : ReversedLines) (qd : Calls (ℤ × ℤ)) (sh : Var → Shape) (level : ℕ) (xs : List Key) (w : Facts) (d : ℕ) (present : Bool) (callees : List ℕ → CalleeFacts) (arrays : Vars) (i line : ℕ) (c : Test) (body : Code) (laws : WhileLaws w i c body) (text : AllText (λ v. reads_test v c)) (wr : Vars) (inert : Bool) where
   abbrev plan : Plan
   plan = plan_of callees w arrays
 
@@ -37,10 +37,10 @@ module _ (p q : Calls ℤ) (lines : ℕ → Bool) (qd : Calls (ℤ × ℤ)) (sh 
   m = w.marks
 
   abbrev Fb : Code
-  Fb = forward plan (suc i) (suc d) body
+  Fb = forward_with sc plan (suc i) (suc d) body
 
   abbrev Bb : Code
-  Bb = backward plan (suc i) (suc d) body
+  Bb = backward_with sc plan (suc i) (suc d) body
 
   abbrev n_in : ℕ
   n_in = point_inside i
@@ -151,17 +151,17 @@ module _ (p q : Calls ℤ) (lines : ℕ → Bool) (qd : Calls (ℤ × ℤ)) (sh 
 
   -- the statement
   pub transposed_while : Turned → (s s' : Scene ℤ) (k k' : ℕ) → tests np most_tests (λ (z : Scene ℤ). holds np c z.store) line (run p np body) s k ≡ Done s' k' →
-      Transposed q lines qd sh level xs w d present wr (not (m.adjointed i) && inert) (point_before i) (point_after i) (one line (during c body)) (forward_act plan i d line (during c body)) (backward_act plan i d line (during c body)) s.store s'.store
+      Transposed q lines qd sh level xs w d present wr (not (m.adjointed i) && inert) (point_before i) (point_after i) (one line (during c body)) (forward_act_with sc plan i d line (during c body)) (backward_act_with sc plan i d line (during c body)) s.store s'.store
   transposed_while each s s' k k' h =
       let t = whiled each most_tests 0 s s' k k' (zero_more most_tests most_small) h in
-      transposed_from q lines qd sh level xs w d present wr (not (m.adjointed i) && inert) (point_before i) n_in (point_after i) (one line (during c body)) (forward_act plan i d line (during c body)) (backward_act plan i d line (during c body)) s.store s'.store laws.entry
-      (transposed_to q lines qd sh level xs w d present wr (not (m.adjointed i) && inert) n_in n_in (point_after i) (one line (during c body)) (forward_act plan i d line (during c body)) (backward_act plan i d line (during c body)) s.store s'.store laws.exit (at_test t))
+      transposed_from q lines qd sh level xs w d present wr (not (m.adjointed i) && inert) (point_before i) n_in (point_after i) (one line (during c body)) (forward_act_with sc plan i d line (during c body)) (backward_act_with sc plan i d line (during c body)) s.store s'.store laws.entry
+      (transposed_to q lines qd sh level xs w d present wr (not (m.adjointed i) && inert) n_in n_in (point_after i) (one line (during c body)) (forward_act_with sc plan i d line (during c body)) (backward_act_with sc plan i d line (during c body)) s.store s'.store laws.exit (at_test t))
     where
       zero_more : (n : ℕ) → n < 2 ^ 63 → 0 + n < 2 ^ 63
       zero_more n h = omega arith
 
       -- from test to test
-      at_test : Whiled most_tests 0 s.store s'.store → Transposed q lines qd sh level xs w d present wr (not (m.adjointed i) && inert) n_in n_in (one line (during c body)) (forward_act plan i d line (during c body)) (backward_act plan i d line (during c body)) s.store s'.store
+      at_test : Whiled most_tests 0 s.store s'.store → Transposed q lines qd sh level xs w d present wr (not (m.adjointed i) && inert) n_in n_in (one line (during c body)) (forward_act_with sc plan i d line (during c body)) (backward_act_with sc plan i d line (during c body)) s.store s'.store
       at_test t = record {
         derivative = t.derivative;
         change = t.change;
@@ -186,4 +186,4 @@ module _ (p q : Calls ℤ) (lines : ℕ → Bool) (qd : Calls (ℤ × ℤ)) (sh 
           emitted : present ≡ true → (k : Bool) → m.kept i ≡ k → (a : Bool) → m.adjointed i ≡ a → Row (code_if (k || a) (while_forward (is_empty Bb) (suc d) line c Fb)) (code_if (k || a) (while_backward (is_empty Bb) (suc d) line Bb))
           emitted e true ek a ea = row e ek (is_empty Bb) refl
           emitted e false ek true ea = absurd (let f : true ≡ false = sym (laws.keeps_adjointed ea) ∙ ek in cc)
-          emitted e false ek false ea = let o = idle_list plan (suc i) (suc d) body (laws.keeps ek) in t.left e o.1 o.0
+          emitted e false ek false ea = let o = idle_list sc plan (suc i) (suc d) body (laws.keeps ek) in t.left e o.1 o.0

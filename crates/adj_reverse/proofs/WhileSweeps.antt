@@ -1,7 +1,7 @@
 -- The sweeps of a DO WHILE: told, where its turns are gone through from the last to the first, and silent.
 use Rattle.std.proofs.Common.{◌≡◌, ◌<◌, ◌≤◌, ◌^◌, ℕ, suc, ◌+◌, true, false, List, [], ◌∷◌, ◌++◌, refl, sym, ap, ◌∙◌, subst, arith, append_assoc}
 use Rattle.std.specs.Prelude.{ℤ, pos, negsuc, Bool, Ok}
-use Rattle.adj_tree.specs.Code.{role_code, Var, shadow, helper, count, turn, minus, plus, lit, var, neg, bin, none, Test, unmarked, assign, loop, during, runtime, push_word, pop_word, Code, stop}
+use Rattle.adj_tree.specs.Code.{role_code, Var, shadow, helper, count, turn, minus, plus, var, neg, bin, none, Test, unmarked, assign, loop, during, runtime, push_word, pop_word, Code, stop}
 use Rattle.adj_tree.proofs.Names.{nat_refl}
 use Rattle.adj_word.specs.Word.{add, sub, wrap}
 use Rattle.adj_word.specs.Pairing.{pairing}

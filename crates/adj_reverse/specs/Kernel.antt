@@ -1,6 +1,6 @@
 -- What the theorem asks of the code of a unit: what a program in kernel form that was checked has.
-use Rattle.std.specs.Prelude.{◌≡◌, ℕ, zero, suc, List, [], ◌∷◌, Bool, true, false, Some}
-use Rattle.adj_tree.specs.Code.{Var, plain, shadow, helper, plus, minus, times, quot, modulo, greater, lesser, Term, neg, bin, pow, power_of, abs, Terms, none, Mark, unmarked, with_count, count_from, Act, assign, choose, loop, during, call, runtime, Code, stop, step, Procedure}
+use Rattle.std.specs.Prelude.{◌≡◌, ◌<◌, ◌≤◌, ℕ, zero, suc, List, [], ◌∷◌, Bool, true, false, Option, Some, None}
+use Rattle.adj_tree.specs.Code.{name_eq, Var, plain, shadow, helper, plus, minus, times, quot, modulo, greater, lesser, Term, neg, bin, pow, power_of, abs, Terms, none, Mark, unmarked, with_count, count_from, Act, assign, choose, loop, during, call, runtime, Code, stop, step, Procedure}
 use Rattle.adj_meaning.specs.LeastSet.{Dummies}
 use Rattle.adj_meaning.specs.Written.{find_unit, writes}
 use Rattle.adj_meaning.specs.Read.{reads_term, reads_terms, reads_test}
@@ -8,8 +8,10 @@ use Rattle.adj_meaning.specs.Units.{declared}
 use Rattle.adj_transpose.specs.Marks.{Vars, Marks, next, behind}
 use Rattle.adj_transpose.specs.Fresh.{has_name}
 use Rattle.adj_transpose.specs.Naming.{AreApart}
-use Rattle.adj_reverse.specs.Plan.{IsActual, actuals_named}
+use Rattle.adj_reverse.specs.Plan.{IsActual, actuals_named, Schedules, Step, reversed_by, ByStep}
 use Rattle.adj_reverse.specs.Laws.{CalleeFacts}
+use Rattle.adj_reverse.specs.Steps.{step_units}
+use Rattle.adj_reverse.specs.Reversals.{StepUnits, ReversedLines}
 
 -- a variable of the text
 abbrev pub is_text : Var → Bool
@@ -64,9 +66,9 @@ is_marked unmarked = false
 is_marked (with_count k) = true
 is_marked (count_from y) = true
 
-pub record LoopFits (lines : ℕ → Bool) (line : ℕ) (mark : Mark) (vars : List (List ℕ)) (arrays : Vars) (handed : Dummies) (x : List ℕ) (a b c : Term) (body : Code) : Type 0 where
-  -- where it is marked, its line isn't one of those whose loops are reversed by a schedule
-  pub told : is_marked mark ≡ true → lines line ≡ false
+pub record LoopFits (lines : ReversedLines) (line : ℕ) (mark : Mark) (reversed : Option StepUnits) (vars : List (List ℕ)) (arrays : Vars) (handed : Dummies) (x : List ℕ) (a b c : Term) (body : Code) : Type 0 where
+  -- where it is marked, its line tells whether it is reversed by a schedule
+  pub told : is_marked mark ≡ true → lines line ≡ reversed
   pub variable : has_name x vars ≡ true
   pub scalar : arrays (plain x) ≡ false
   -- the body doesn't write it
@@ -74,6 +76,20 @@ pub record LoopFits (lines : ℕ → Bool) (line : ℕ) (mark : Mark) (vars : Li
   pub text_first : AllText (λ v. reads_term v a)
   pub text_last : AllText (λ v. reads_term v b)
   pub text_step : AllText (λ v. reads_term v c)
+
+-- the units of a loop that is reversed by a schedule
+abbrev pub units_of : (List ℕ → CalleeFacts) → Option Step → Option StepUnits
+units_of g None = None
+units_of g (Some s) = Some (step_units s.name (g s.name).callee s.read)
+
+-- a marked loop that is reversed by a schedule, where g is its step unit: it has some snapshots, and the step unit is emitted itself, and has
+-- another name than its adjoint
+pub record ReversalFits (g : CalleeFacts) (present carried : Bool) (s : Step) : Type 0 where
+  pub some : 0 < s.snapshots
+  pub few : s.snapshots ≤ 64
+  pub other_name : name_eq s.name g.callee.adjoint ≡ false
+  pub other_adjoint : name_eq g.callee.adjoint s.name ≡ false
+  pub emitted : present ≡ true → carried ≡ true
 
 pub record CallFits (ps : List Procedure) (vars : List (List ℕ)) (arrays : Vars) (g : CalleeFacts) (name : List ℕ) (given : List (List ℕ)) : Type 0 where
   pub unit : Procedure
@@ -87,20 +103,30 @@ pub record CallFits (ps : List Procedure) (vars : List (List ℕ)) (arrays : Var
 abbrev mutual
   -- in the order of the statements' numbers; `answers` says of which units the adjoint is called, and `carried` which are emitted
   -- themselves; `present` says whether the adjoint of the unit that this is in is
-  pub Fits' : (lines : ℕ → Bool) (ps : List Procedure) → (List ℕ → CalleeFacts) → (answers carried : List ℕ → Bool) → (present : Bool) → Marks → (vars : List (List ℕ)) → (arrays : Vars) → Dummies → ℕ → ℕ → Act → Type 0
-  Fits' lines ps g answers carried present m vars arrays handed i line (assign (plain x) subs e) = AssignmentFits vars arrays x subs e
-  Fits' lines ps g answers carried present m vars arrays handed i line (assign (shadow x) subs e) = ⊥
-  Fits' lines ps g answers carried present m vars arrays handed i line (assign (helper r x) subs e) = ⊥
-  Fits' lines ps g answers carried present m vars arrays handed i line (choose c a b) =
-      AllText (λ v. reads_test v c) × (FitsList lines ps g answers carried present m vars arrays handed (suc i) a × FitsList lines ps g answers carried present m vars arrays handed (behind (suc i) a) b)
-  Fits' lines ps g answers carried present m vars arrays handed i line (loop (plain x) a b c body n) = LoopFits lines line n vars arrays handed x a b c body × FitsList lines ps g answers carried present m vars arrays handed (suc i) body
-  Fits' lines ps g answers carried present m vars arrays handed i line (loop (shadow x) a b c body n) = ⊥
-  Fits' lines ps g answers carried present m vars arrays handed i line (loop (helper r x) a b c body n) = ⊥
-  Fits' lines ps g answers carried present m vars arrays handed i line (during c body) = AllText (λ v. reads_test v c) × FitsList lines ps g answers carried present m vars arrays handed (suc i) body
-  Fits' lines ps g answers carried present m vars arrays handed i line (call name args) =
+  pub FitsBy : (r : Schedules) → (lines : ReversedLines) (ps : List Procedure) → (List ℕ → CalleeFacts) → (answers carried : List ℕ → Bool) → (present : Bool) → Marks → (vars : List (List ℕ)) → (arrays : Vars) → Dummies → ℕ → ℕ → Act → Type 0
+  FitsBy r lines ps g answers carried present m vars arrays handed i line (assign (plain x) subs e) = AssignmentFits vars arrays x subs e
+  FitsBy r lines ps g answers carried present m vars arrays handed i line (assign (shadow x) subs e) = ⊥
+  FitsBy r lines ps g answers carried present m vars arrays handed i line (assign (helper o x) subs e) = ⊥
+  FitsBy r lines ps g answers carried present m vars arrays handed i line (choose c a b) =
+      AllText (λ v. reads_test v c) × (FitsListBy r lines ps g answers carried present m vars arrays handed (suc i) a × FitsListBy r lines ps g answers carried present m vars arrays handed (behind (suc i) a) b)
+  FitsBy r lines ps g answers carried present m vars arrays handed i line (loop (plain x) a b c body n) =
+      LoopFits lines line n (units_of g (reversed_by r m.adjointed i body n)) vars arrays handed x a b c body
+      × ByStep (reversed_by r m.adjointed i body n) (FitsListBy r lines ps g answers carried present m vars arrays handed (suc i) body)
+      (λ s. ReversalFits (g s.name) present (carried s.name) s × FitsListBy r lines ps g answers carried present m vars arrays handed (suc i) body)
+  FitsBy r lines ps g answers carried present m vars arrays handed i line (loop (shadow x) a b c body n) = ⊥
+  FitsBy r lines ps g answers carried present m vars arrays handed i line (loop (helper o x) a b c body n) = ⊥
+  FitsBy r lines ps g answers carried present m vars arrays handed i line (during c body) = AllText (λ v. reads_test v c) × FitsListBy r lines ps g answers carried present m vars arrays handed (suc i) body
+  FitsBy r lines ps g answers carried present m vars arrays handed i line (call name args) =
       ((given : List (List ℕ)) → args ≡ actuals_named given → CallFits ps vars arrays (g name) name given) × ((present ≡ true → m.adjointed i ≡ true → answers name ≡ true) × (present ≡ true → m.kept i ≡ true → carried name ≡ true))
-  Fits' lines ps g answers carried present m vars arrays handed i line (runtime r) = ⊥
+  FitsBy r lines ps g answers carried present m vars arrays handed i line (runtime c) = ⊥
 
-  pub FitsList : (lines : ℕ → Bool) (ps : List Procedure) → (List ℕ → CalleeFacts) → (answers carried : List ℕ → Bool) → (present : Bool) → Marks → (vars : List (List ℕ)) → (arrays : Vars) → Dummies → ℕ → Code → Type 0
-  FitsList lines ps g answers carried present m vars arrays handed i stop = Unit {0}
-  FitsList lines ps g answers carried present m vars arrays handed i (step line a rest) = Fits' lines ps g answers carried present m vars arrays handed i line a × FitsList lines ps g answers carried present m vars arrays handed (next i a) rest
+  pub FitsListBy : (r : Schedules) → (lines : ReversedLines) (ps : List Procedure) → (List ℕ → CalleeFacts) → (answers carried : List ℕ → Bool) → (present : Bool) → Marks → (vars : List (List ℕ)) → (arrays : Vars) → Dummies → ℕ → Code → Type 0
+  FitsListBy r lines ps g answers carried present m vars arrays handed i stop = Unit {0}
+  FitsListBy r lines ps g answers carried present m vars arrays handed i (step line a rest) = FitsBy r lines ps g answers carried present m vars arrays handed i line a × FitsListBy r lines ps g answers carried present m vars arrays handed (next i a) rest
+
+-- where no loop is reversed by a schedule
+abbrev pub Fits' : (lines : ReversedLines) (ps : List Procedure) → (List ℕ → CalleeFacts) → (answers carried : List ℕ → Bool) → (present : Bool) → Marks → (vars : List (List ℕ)) → (arrays : Vars) → Dummies → ℕ → ℕ → Act → Type 0
+Fits' lines ps g answers carried present m vars arrays handed i line a = FitsBy None lines ps g answers carried present m vars arrays handed i line a
+
+abbrev pub FitsList : (lines : ReversedLines) (ps : List Procedure) → (List ℕ → CalleeFacts) → (answers carried : List ℕ → Bool) → (present : Bool) → Marks → (vars : List (List ℕ)) → (arrays : Vars) → Dummies → ℕ → Code → Type 0
+FitsList lines ps g answers carried present m vars arrays handed i c = FitsListBy None lines ps g answers carried present m vars arrays handed i c

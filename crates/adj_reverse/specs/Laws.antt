@@ -1,13 +1,14 @@
 -- Facts about variables at points, and the laws that join them with marks, for statements of every kind. With marks that have
 -- such facts the sweeps are right. (docs/THEOREMS.md, "Adjoints")
 use Rattle.std.specs.Prelude.{◌≡◌, ℕ, suc, ◌+◌, ◌*◌, Bool, true, false, not, ◌&&◌, ◌||◌, List, Option, Some, None}
-use Rattle.adj_tree.specs.Code.{Var, plain, var_eq, Term, Terms, Test, Act, assign, choose, loop, during, call, runtime, Code, stop, step}
+use Rattle.adj_tree.specs.Code.{Var, plain, name_eq, var_eq, Term, Terms, Test, Act, assign, choose, loop, during, call, runtime, Code, stop, step}
+use Rattle.adj_meaning.specs.Append.{one}
 use Rattle.adj_meaning.specs.Read.{reads_test}
 use Rattle.adj_transpose.specs.Marks.{Vars, Marks, next, behind, point_before, point_after}
 use Rattle.adj_transpose.specs.Facts.{In, Within, without, joined, vars_if, in_term, in_terms, whole, Facts, is_adjointed}
 use Rattle.adj_transpose.specs.Fresh.{has_name}
 use Rattle.adj_reverse.specs.AdjointOf.{occurring, reads_at}
-use Rattle.adj_reverse.specs.Plan.{beside, IsActual, actuals_named, Callee}
+use Rattle.adj_reverse.specs.Plan.{beside, IsActual, actuals_named, Callee, Schedules, Step, reversed_by, ByStep}
 
 -- the point inside the i-th statement, a loop
 abbrev pub point_inside : ℕ → ℕ
@@ -179,26 +180,83 @@ pub record CallLaws (w : Facts) (i : ℕ) (g : CalleeFacts) (given : List (List 
   -- the call of a unit with an adjointed statement is adjointed
   pub adjoints : w.marks.adjointed i ≡ false → g.plain_unit ≡ true
 
+-- ---- marked loops that are reversed by a schedule
+
+-- the laws of a call that are the same whether it is adjointed by its own or as the step of a reversed loop
+pub record PassingLaws (w : Facts) (i : ℕ) (g : CalleeFacts) (given : List (List ℕ)) : Type 0 where
+  -- a call assigns no variable whole, and the tangents of its actuals go through the unit
+  pub values : ValueLaws w nothing nothing (point_before i) (point_after i)
+  pub tangents : TangentLaws w.marks (among g.callee.dummies given) (point_before i) (point_after i)
+  -- needed: what the unit reads, where the call is kept; it is kept where an actual that it writes is needed
+  pub needs_uses : w.marks.kept i ≡ true → (d a : List ℕ) → IsActual g.callee.dummies given d a → In (plain d) g.read → In (plain a) (w.needed (point_before i))
+  pub keeps : (d a : List ℕ) → IsActual g.callee.dummies given d a → In (plain d) g.callee.written → In (plain a) (w.needed (point_after i)) → w.marks.kept i ≡ true
+  -- varied and useful go from actuals to dummies at the entry, and back at the end
+  pub varies_in : (d a : List ℕ) → IsActual g.callee.dummies given d a → In (plain a) (w.marks.varied (point_before i)) → In (plain d) (g.facts.marks.varied g.entry)
+  pub serves_in : (d a : List ℕ) → IsActual g.callee.dummies given d a → In (plain d) (g.facts.marks.useful g.entry) → In (plain a) (w.marks.useful (point_before i))
+  pub varies_out : (d a : List ℕ) → IsActual g.callee.dummies given d a → In (plain d) (g.facts.marks.varied g.end) → In (plain a) (w.marks.varied (point_after i))
+  pub serves_out : (d a : List ℕ) → IsActual g.callee.dummies given d a → In (plain a) (w.marks.useful (point_after i)) → In (plain d) (g.facts.marks.useful g.end)
+  -- the actual of a dummy with a shadow has one; so has a dummy that is varied at the entry, where its actual has one
+  pub shadows_actual : (d a : List ℕ) → IsActual g.callee.dummies given d a → In (plain d) g.callee.shadowed → In (plain a) w.marks.shadowed
+  pub shadows_dummy : (d a : List ℕ) → IsActual g.callee.dummies given d a → In (plain d) (g.facts.marks.varied g.entry) → In (plain a) w.marks.shadowed → In (plain d) g.callee.shadowed
+
+-- The laws of the i-th statement, a marked loop with variable x whose step call is adjointed. The loop has the adjoint reads, the members
+-- of the snapshot and what is saved; the call has none of its own.
+pub record ReversedLaws (w : Facts) (i : ℕ) (x : List ℕ) (a b c : Term) (g : CalleeFacts) (given : List (List ℕ)) : Type 0 where
+  pub kept : w.marks.kept i ≡ true
+  pub adjointed : w.marks.adjointed i ≡ true
+  pub needs_uses : Within (joined (in_term a) (joined (in_term b) (in_term c))) (w.needed (point_before i))
+  -- needed: what the adjoint of the step unit needs at its entry, and what the step unit reads, besides the loop's variable
+  pub needs_members : (d y : List ℕ) → IsActual g.callee.dummies given d y → In (plain d) (joined g.callee.members g.read) → name_eq y x ≡ false → In (plain y) (w.needed (point_before i))
+  -- held: what of it isn't written
+  pub holds_reads : (d y : List ℕ) → IsActual g.callee.dummies given d y → In (plain d) (joined g.callee.members g.read) → g.callee.written (plain d) ≡ false → name_eq y x ≡ false → In (plain y) (w.held (point_after i))
+  -- saved: what is written and held before it, and its variable
+  pub saves : (d y : List ℕ) → IsActual g.callee.dummies given d y → In (plain d) g.callee.written → In (plain y) (w.held (point_before i)) → In (plain y) (w.marks.saved i)
+  pub saves_variable : In (plain x) (w.held (point_before i)) → In (plain x) (w.marks.saved i)
+  -- the ways of a DO
+  pub entry_values : ValueLaws w (just (plain x)) (just (plain x)) (point_before i) (point_inside i)
+  pub entry_tangents : TangentLaws w.marks (just (plain x)) (point_before i) (point_inside i)
+  pub step_values : ValueLaws w (just (plain x)) (just (plain x)) (point_after (suc i)) (point_inside i)
+  pub step_tangents : TangentLaws w.marks (just (plain x)) (point_after (suc i)) (point_inside i)
+  pub exit : WayLaws w (point_inside i) (point_after i)
+  -- and the step call
+  pub inside : WayLaws w (point_inside i) (point_before (suc i))
+  pub call : PassingLaws w (suc i) g given
+
+-- the same of the loop in a list: its body is its step call, of names
+abbrev pub StepLaws : (List ℕ → CalleeFacts) → Facts → ℕ → Var → Term → Term → Term → Code → Step → Type 0
+StepLaws g w i (plain x) a b c body s = (line : ℕ) × ((body ≡ one line (call s.name (actuals_named s.given))) × ReversedLaws w i x a b c (g s.name) s.given)
+StepLaws g w i v a b c body s = ⊥
+
 -- ---- statements and lists
 
--- the laws of the i-th statement of a unit with these facts, where the units called have theirs
+-- the laws of the i-th statement of a unit with these facts, where the units called have theirs, and marked loops are reversed so
 abbrev mutual
-  pub ActLaws : (List ℕ → CalleeFacts) → Facts → ℕ → Act → Type 0
-  ActLaws g w i (assign x subs e) = AssignmentLaws w i x subs e
-  ActLaws g w i (choose c a b) = ChoiceLaws w i c a b × (ListLaws g w (point_before i) (suc i) a × ListLaws g w (point_before i) (behind (suc i) a) b)
-  ActLaws g w i (loop x a b c body m) = LoopLaws w i x a b c body × ListLaws g w (point_inside i) (suc i) body
-  ActLaws g w i (during c body) = WhileLaws w i c body × ListLaws g w (point_inside i) (suc i) body
-  ActLaws g w i (call name args) = (given : List (List ℕ)) × ((args ≡ actuals_named given) × CallLaws w i (g name) given)
-  ActLaws g w i (runtime r) = ⊥
+  pub ActLawsBy : Schedules → (List ℕ → CalleeFacts) → Facts → ℕ → Act → Type 0
+  ActLawsBy r g w i (assign x subs e) = AssignmentLaws w i x subs e
+  ActLawsBy r g w i (choose c a b) = ChoiceLaws w i c a b × (ListLawsBy r g w (point_before i) (suc i) a × ListLawsBy r g w (point_before i) (behind (suc i) a) b)
+  ActLawsBy r g w i (loop x a b c body m) = ByStep (reversed_by r w.marks.adjointed i body m) (LoopLaws w i x a b c body × ListLawsBy r g w (point_inside i) (suc i) body) (StepLaws g w i x a b c body)
+  ActLawsBy r g w i (during c body) = WhileLaws w i c body × ListLawsBy r g w (point_inside i) (suc i) body
+  ActLawsBy r g w i (call name args) = (given : List (List ℕ)) × ((args ≡ actuals_named given) × CallLaws w i (g name) given)
+  ActLawsBy r g w i (runtime c) = ⊥
 
   -- the laws of a list whose first statement has the number i, and to whose begin p leads
-  pub ListLaws : (List ℕ → CalleeFacts) → Facts → ℕ → ℕ → Code → Type 0
-  ListLaws g w p i stop = Unit {0}
-  ListLaws g w p i (step line a rest) = WayLaws w p (point_before i) × (ActLaws g w i a × ListLaws g w (point_after i) (next i a) rest)
+  pub ListLawsBy : Schedules → (List ℕ → CalleeFacts) → Facts → ℕ → ℕ → Code → Type 0
+  ListLawsBy r g w p i stop = Unit {0}
+  ListLawsBy r g w p i (step line a rest) = WayLaws w p (point_before i) × (ActLawsBy r g w i a × ListLawsBy r g w (point_after i) (next i a) rest)
+
+-- where no loop is reversed by a schedule
+abbrev pub ActLaws : (List ℕ → CalleeFacts) → Facts → ℕ → Act → Type 0
+ActLaws g w i a = ActLawsBy None g w i a
+
+abbrev pub ListLaws : (List ℕ → CalleeFacts) → Facts → ℕ → ℕ → Code → Type 0
+ListLaws g w p i c = ListLawsBy None g w p i c
 
 -- the laws of a unit whose first statement has the number i; its dummies that are needed at its entry are members of snapshots
-pub record UnitLaws (g : List ℕ → CalleeFacts) (own : CalleeFacts) (i : ℕ) (body : Code) : Type 0 where
-  pub laws : ListLaws g own.facts own.entry i body
+pub record UnitLawsBy (r : Schedules) (g : List ℕ → CalleeFacts) (own : CalleeFacts) (i : ℕ) (body : Code) : Type 0 where
+  pub laws : ListLawsBy r g own.facts own.entry i body
   pub ends : WayLaws own.facts (last_point own.entry i body) own.end
   pub shadows : (v : Var) → In v (own.facts.marks.varied own.entry) → In v (own.facts.marks.useful own.entry) → In v own.facts.marks.shadowed
   pub members : (d : List ℕ) → has_name d own.callee.dummies ≡ true → In (plain d) (own.facts.needed own.entry) → In (plain d) own.callee.members
+
+abbrev pub UnitLaws : (List ℕ → CalleeFacts) → CalleeFacts → ℕ → Code → Type 0
+UnitLaws g own i body = UnitLawsBy None g own i body

@@ -1,6 +1,7 @@
 -- The program that is emitted for a kernel and its head, by marks. (docs/EMITTED.md)
-use Rattle.std.specs.Prelude.{ℕ, zero, suc, List, [], ◌∷◌, ◌++◌, map, length, max, Bool, true, false, ◌&&◌, ◌||◌, not, ◌==◌, if◌then◌else◌}
-use Rattle.adj_tree.specs.Code.{Role, Var, shadow, helper, work, temp, control, first, stride, count, turn, name_eq, Act, assign, choose, loop, during, call, runtime, Code, stop, step, Procedure}
+use Rattle.std.specs.Prelude.{ℕ, zero, suc, List, [], ◌∷◌, ◌++◌, map, length, max, Bool, true, false, ◌&&◌, ◌||◌, not, ◌==◌, Some, None, if◌then◌else◌}
+use Rattle.adj_tree.specs.Code.{Role, Var, shadow, helper, work, temp, control, first, stride, count, turn, entry, entries, kind, lower, upper, name_eq, Act, assign, choose, loop, during, call, runtime, Code, stop, step, Procedure}
+use Rattle.adj_meaning.specs.Written.{find_unit}
 use Rattle.adj_meaning.specs.Rename.{rename}
 use Rattle.adj_transpose.specs.Naming.{Named, unit_names, naming}
 use Rattle.adj_transpose.specs.Marks.{Marks, next, behind, active_at}
@@ -10,9 +11,9 @@ use Rattle.adj_transpose.specs.Program.{unit_name, helpers_from, unmarked, decla
 use Rattle.adj_reverse.specs.AdjointOf.{works_in_where, temps_in_where}
 use Rattle.adj_reverse.specs.Names.{adjoint_name}
 use Rattle.adj_transpose.specs.MarkedProgram.{shadows_behind, declared_behind}
-use Rattle.adj_reverse.specs.Plan.{Plan}
-use Rattle.adj_reverse.specs.Emission.{is_empty, backward, adjoint_body}
-use Rattle.adj_reverse.specs.Marking.{ProgramMarks, first_statement, plan_in}
+use Rattle.adj_reverse.specs.Plan.{Plan, found_or, Schedules, schedules_from, reversed_by}
+use Rattle.adj_reverse.specs.Emission.{is_empty, backward_with, adjoint_body_with}
+use Rattle.adj_reverse.specs.Marking.{ProgramMarks, first_statement, plan_in, dummy_set, read_by}
 
 -- ---- helpers that a body uses
 
@@ -45,47 +46,82 @@ abbrev mutual
 
 -- how deep the loops are whose turns are gone through backward
 abbrev mutual
-  pub depth_act : Plan → ℕ → ℕ → Act → ℕ
-  depth_act p i d (assign x subs e) = 0
-  depth_act p i d (choose c a b) = max (depth_used p (suc i) d a) (depth_used p (behind (suc i) a) d b)
-  depth_act p i d (loop x a b c body n) = if is_empty (backward p (suc i) (suc d) body) then 0 else max (suc d) (depth_used p (suc i) (suc d) body)
-  depth_act p i d (during c body) = if is_empty (backward p (suc i) (suc d) body) then 0 else max (suc d) (depth_used p (suc i) (suc d) body)
-  depth_act p i d (call name args) = 0
-  depth_act p i d (runtime r) = 0
+  pub depth_act_with : Schedules → Plan → ℕ → ℕ → Act → ℕ
+  depth_act_with r p i d (assign x subs e) = 0
+  depth_act_with r p i d (choose c a b) = max (depth_used_with r p (suc i) d a) (depth_used_with r p (behind (suc i) a) d b)
+  depth_act_with r p i d (loop x a b c body n) = found_or (reversed_by r p.marks.adjointed i body n) (if is_empty (backward_with r p (suc i) (suc d) body) then 0 else max (suc d) (depth_used_with r p (suc i) (suc d) body)) (λ s. suc d)
+  depth_act_with r p i d (during c body) = if is_empty (backward_with r p (suc i) (suc d) body) then 0 else max (suc d) (depth_used_with r p (suc i) (suc d) body)
+  depth_act_with r p i d (call name args) = 0
+  depth_act_with r p i d (runtime c) = 0
 
-  pub depth_used : Plan → ℕ → ℕ → Code → ℕ
-  depth_used p i d stop = 0
-  depth_used p i d (step line a rest) = max (depth_act p i d a) (depth_used p (next i a) d rest)
+  pub depth_used_with : Schedules → Plan → ℕ → ℕ → Code → ℕ
+  depth_used_with r p i d stop = 0
+  depth_used_with r p i d (step line a rest) = max (depth_act_with r p i d a) (depth_used_with r p (next i a) d rest)
 
 -- whether an IF tells which part ran
 abbrev mutual
-  pub tells_act : Plan → ℕ → ℕ → Act → Bool
-  tells_act p i d (assign x subs e) = false
-  tells_act p i d (choose c a b) = not (is_empty (backward p (suc i) d a) && is_empty (backward p (behind (suc i) a) d b))
-  tells_act p i d (loop x a b c body n) = tells_some p (suc i) (suc d) body
-  tells_act p i d (during c body) = tells_some p (suc i) (suc d) body
-  tells_act p i d (call name args) = false
-  tells_act p i d (runtime r) = false
+  pub tells_act_with : Schedules → Plan → ℕ → ℕ → Act → Bool
+  tells_act_with r p i d (assign x subs e) = false
+  tells_act_with r p i d (choose c a b) = not (is_empty (backward_with r p (suc i) d a) && is_empty (backward_with r p (behind (suc i) a) d b))
+  tells_act_with r p i d (loop x a b c body n) = tells_some_with r p (suc i) (suc d) body
+  tells_act_with r p i d (during c body) = tells_some_with r p (suc i) (suc d) body
+  tells_act_with r p i d (call name args) = false
+  tells_act_with r p i d (runtime c) = false
 
-  pub tells_some : Plan → ℕ → ℕ → Code → Bool
-  tells_some p i d stop = false
-  tells_some p i d (step line a rest) = tells_act p i d a || tells_some p (next i a) d rest
+  pub tells_some_with : Schedules → Plan → ℕ → ℕ → Code → Bool
+  tells_some_with r p i d stop = false
+  tells_some_with r p i d (step line a rest) = tells_act_with r p i d a || tells_some_with r p (next i a) d rest
 
 -- whether a loop of depth k that is of a kind has turns that are gone through backward
 abbrev mutual
-  pub goes_back_act : (Act → Bool) → ℕ → Plan → ℕ → ℕ → Act → Bool
-  goes_back_act kind k p i d (assign x subs e) = false
-  goes_back_act kind k p i d (choose c a b) = goes_back kind k p (suc i) d a || goes_back kind k p (behind (suc i) a) d b
-  goes_back_act kind k p i d (loop x a b c body n) =
-      (kind (loop x a b c body n) && ((k == suc d) && not (is_empty (backward p (suc i) (suc d) body)))) || goes_back kind k p (suc i) (suc d) body
-  goes_back_act kind k p i d (during c body) =
-      (kind (during c body) && ((k == suc d) && not (is_empty (backward p (suc i) (suc d) body)))) || goes_back kind k p (suc i) (suc d) body
-  goes_back_act kind k p i d (call name args) = false
-  goes_back_act kind k p i d (runtime r) = false
+  pub goes_back_act_with : Schedules → (Act → Bool) → ℕ → Plan → ℕ → ℕ → Act → Bool
+  goes_back_act_with r sort k p i d (assign x subs e) = false
+  goes_back_act_with r sort k p i d (choose c a b) = goes_back_with r sort k p (suc i) d a || goes_back_with r sort k p (behind (suc i) a) d b
+  goes_back_act_with r sort k p i d (loop x a b c body n) =
+      found_or (reversed_by r p.marks.adjointed i body n)
+      ((sort (loop x a b c body n) && ((k == suc d) && not (is_empty (backward_with r p (suc i) (suc d) body)))) || goes_back_with r sort k p (suc i) (suc d) body)
+      (λ s. sort (loop x a b c body n) && (k == suc d))
+  goes_back_act_with r sort k p i d (during c body) =
+      (sort (during c body) && ((k == suc d) && not (is_empty (backward_with r p (suc i) (suc d) body)))) || goes_back_with r sort k p (suc i) (suc d) body
+  goes_back_act_with r sort k p i d (call name args) = false
+  goes_back_act_with r sort k p i d (runtime c) = false
 
-  pub goes_back : (Act → Bool) → ℕ → Plan → ℕ → ℕ → Code → Bool
-  goes_back kind k p i d stop = false
-  goes_back kind k p i d (step line a rest) = goes_back_act kind k p i d a || goes_back kind k p (next i a) d rest
+  pub goes_back_with : Schedules → (Act → Bool) → ℕ → Plan → ℕ → ℕ → Code → Bool
+  goes_back_with r sort k p i d stop = false
+  goes_back_with r sort k p i d (step line a rest) = goes_back_act_with r sort k p i d a || goes_back_with r sort k p (next i a) d rest
+
+-- whether a loop of depth k is reversed by a schedule
+abbrev mutual
+  pub reverses_act : Schedules → ℕ → Plan → ℕ → ℕ → Act → Bool
+  reverses_act r k p i d (assign x subs e) = false
+  reverses_act r k p i d (choose c a b) = reverses r k p (suc i) d a || reverses r k p (behind (suc i) a) d b
+  reverses_act r k p i d (loop x a b c body n) = found_or (reversed_by r p.marks.adjointed i body n) (reverses r k p (suc i) (suc d) body) (λ s. k == suc d)
+  reverses_act r k p i d (during c body) = reverses r k p (suc i) (suc d) body
+  reverses_act r k p i d (call name args) = false
+  reverses_act r k p i d (runtime c) = false
+
+  pub reverses : Schedules → ℕ → Plan → ℕ → ℕ → Code → Bool
+  reverses r k p i d stop = false
+  reverses r k p i d (step line a rest) = reverses_act r k p i d a || reverses r k p (next i a) d rest
+
+-- where no loop is reversed by a schedule
+abbrev pub depth_act : Plan → ℕ → ℕ → Act → ℕ
+depth_act p i d a = depth_act_with None p i d a
+
+abbrev pub depth_used : Plan → ℕ → ℕ → Code → ℕ
+depth_used p i d c = depth_used_with None p i d c
+
+abbrev pub tells_act : Plan → ℕ → ℕ → Act → Bool
+tells_act p i d a = tells_act_with None p i d a
+
+abbrev pub tells_some : Plan → ℕ → ℕ → Code → Bool
+tells_some p i d c = tells_some_with None p i d c
+
+abbrev pub goes_back_act : (Act → Bool) → ℕ → Plan → ℕ → ℕ → Act → Bool
+goes_back_act sort k p i d a = goes_back_act_with None sort k p i d a
+
+abbrev pub goes_back : (Act → Bool) → ℕ → Plan → ℕ → ℕ → Code → Bool
+goes_back sort k p i d c = goes_back_with None sort k p i d c
 
 -- the kinds of loops
 abbrev pub is_do : Act → Bool
@@ -110,31 +146,57 @@ helpers_among f r k zero = []
 helpers_among f r k (suc n) = if f k then helper r k ∷ helpers_among f r (suc k) n else helpers_among f r (suc k) n
 
 -- the helpers of loops of a kind
+abbrev pub loop_helpers_with : Schedules → (Act → Bool) → Role → Plan → ℕ → Code → List Var
+loop_helpers_with r sort o p i c = helpers_among (λ k. goes_back_with r sort k p i 0 c) o 1 (depth_used_with r p i 0 c)
+
 abbrev pub loop_helpers : (Act → Bool) → Role → Plan → ℕ → Code → List Var
-loop_helpers kind r p i c = helpers_among (λ k. goes_back kind k p i 0 c) r 1 (depth_used p i 0 c)
+loop_helpers sort o p i c = loop_helpers_with None sort o p i c
+
+-- those of loops that are reversed by a schedule
+abbrev pub reversal_helpers : Schedules → Role → Plan → ℕ → Code → List Var
+reversal_helpers r o p i c = helpers_among (λ k. reverses r k p i 0 c) o 1 (depth_used_with r p i 0 c)
+
+abbrev pub all_reversal_helpers : Schedules → Plan → ℕ → Code → List Var
+all_reversal_helpers None p i c = []
+all_reversal_helpers (Some reads) p i c =
+    let r = Some reads in
+    reversal_helpers r entry p i c ++ (reversal_helpers r entries p i c ++ (reversal_helpers r kind p i c ++ (reversal_helpers r lower p i c ++ reversal_helpers r upper p i c)))
 
 -- the helpers, in the order of their declarations
+abbrev pub helpers_used_with : Schedules → Plan → ℕ → Code → List Var
+helpers_used_with r p i c =
+    (if tells_some_with r p i 0 c then helper control 0 ∷ [] else [])
+    ++ (loop_helpers_with r is_loop count p i c ++ (loop_helpers_with r is_do first p i c ++ (loop_helpers_with r is_do stride p i c ++ (loop_helpers_with r is_loop turn p i c
+    ++ (all_reversal_helpers r p i c ++ (helpers_from work 1 (works_used p.marks i c) ++ helpers_from temp 1 (temps_used p.marks i c)))))))
+
 abbrev pub helpers_used : Plan → ℕ → Code → List Var
-helpers_used p i c =
-    (if tells_some p i 0 c then helper control 0 ∷ [] else [])
-    ++ (loop_helpers is_loop count p i c ++ (loop_helpers is_do first p i c ++ (loop_helpers is_do stride p i c ++ (loop_helpers is_loop turn p i c
-    ++ (helpers_from work 1 (works_used p.marks i c) ++ helpers_from temp 1 (temps_used p.marks i c))))))
+helpers_used p i c = helpers_used_with None p i c
 
 -- ---- the adjoint unit
 
+-- what is reversed by schedules in a program: no loop, or each marked one whose step call is adjointed
+abbrev pub schedules_in : Bool → List Procedure → Schedules
+schedules_in b ps = schedules_from b (λ name. dummy_set (read_by ps (find_unit ps name)))
+
 -- the variables that it has besides those of u: a shadow of each that has one, and helpers
+abbrev pub made_for_with : Bool → ProgramMarks → List Procedure → Procedure → List Var
+made_for_with b m ps u = map shadow (names_in (m.shadowed u.name) (variables u)) ++ helpers_used_with (schedules_in b ps) (plan_in m ps u) (first_statement ps u.name) u.body
+
 abbrev pub made_for : ProgramMarks → List Procedure → Procedure → List Var
-made_for m ps u = map shadow (names_in (m.shadowed u.name) (variables u)) ++ helpers_used (plan_in m ps u) (first_statement ps u.name) u.body
+made_for m ps u = made_for_with false m ps u
 
 -- the names of its variables; `units` are the names of all units of the source and of all that are made
+abbrev pub adjoint_names_with : Bool → ProgramMarks → List Procedure → List (List ℕ) → Procedure → List Named
+adjoint_names_with b m ps units u = unit_names (variables u) units (made_for_with b m ps u)
+
 abbrev pub adjoint_names : ProgramMarks → List Procedure → List (List ℕ) → Procedure → List Named
-adjoint_names m ps units u = unit_names (variables u) units (made_for m ps u)
+adjoint_names m ps units u = adjoint_names_with false m ps units u
 
 -- The adjoint of u, in which these shadows are cleared between the sweeps, and these at the end. Each variable of u has a declaration in
 -- it, a scalar where u has none.
-abbrev pub adjoint_unit : ProgramMarks → List Procedure → List (List ℕ) → Procedure → List (List ℕ) → List (List ℕ) → Procedure
-adjoint_unit m ps units u at_turn at_end =
-    let ns = adjoint_names m ps units u in
+abbrev pub adjoint_unit_with : Bool → ProgramMarks → List Procedure → List (List ℕ) → Procedure → List (List ℕ) → List (List ℕ) → Procedure
+adjoint_unit_with b m ps units u at_turn at_end =
+    let ns = adjoint_names_with b m ps units u in
     let p = plan_in m ps u in
     let i = first_statement ps u.name in
     record {
@@ -142,9 +204,12 @@ adjoint_unit m ps units u at_turn at_end =
       name = adjoint_name ps u;
       dummies = shadows_behind (m.shadowed u.name) ns u.dummies;
       is_none = false;
-      declarations = declared_behind (m.shadowed u.name) ns u (variables u) ++ declared_helpers ns u.line (helpers_used p i u.body);
-      body = rename (naming ns) (adjoint_body p i u.line u.body at_turn at_end);
+      declarations = declared_behind (m.shadowed u.name) ns u (variables u) ++ declared_helpers ns u.line (helpers_used_with (schedules_in b ps) p i u.body);
+      body = rename (naming ns) (adjoint_body_with (schedules_in b ps) p i u.line u.body at_turn at_end);
     }
+
+abbrev pub adjoint_unit : ProgramMarks → List Procedure → List (List ℕ) → Procedure → List (List ℕ) → List (List ℕ) → Procedure
+adjoint_unit m ps units u at_turn at_end = adjoint_unit_with false m ps units u at_turn at_end
 
 -- ---- which units are emitted
 
@@ -180,17 +245,43 @@ is_reached roots f ps name = reached_after roots f ps (length ps) name
 abbrev pub has_adjoint : ProgramMarks → List Procedure → Procedure → List ℕ → Bool
 has_adjoint m ps head name = is_reached (name_eq head.name) m.adjointed ps name
 
+-- whether a list has a loop that is reversed by a schedule and whose turns call the unit of a name
+abbrev mutual
+  pub turns_act : Schedules → (ℕ → Bool) → List ℕ → ℕ → Act → Bool
+  turns_act r adjointed name i (assign x subs e) = false
+  turns_act r adjointed name i (choose c a b) = turns_in r adjointed name (suc i) a || turns_in r adjointed name (behind (suc i) a) b
+  turns_act r adjointed name i (loop x a b c body n) = found_or (reversed_by r adjointed i body n) (turns_in r adjointed name (suc i) body) (λ s. name_eq name s.name)
+  turns_act r adjointed name i (during c body) = turns_in r adjointed name (suc i) body
+  turns_act r adjointed name i (call other args) = false
+  turns_act r adjointed name i (runtime c) = false
+
+  pub turns_in : Schedules → (ℕ → Bool) → List ℕ → ℕ → Code → Bool
+  turns_in r adjointed name i stop = false
+  turns_in r adjointed name i (step line a rest) = turns_act r adjointed name i a || turns_in r adjointed name (next i a) rest
+
+-- whether one of the units, of those in a set, does
+abbrev pub turns_some : Schedules → (List ℕ → Bool) → (ℕ → Bool) → List ℕ → ℕ → List Procedure → Bool
+turns_some r among adjointed name i [] = false
+turns_some r among adjointed name i (u ∷ us) = (among u.name && turns_in r adjointed name i u.body) || turns_some r among adjointed name (behind i u.body) us
+
 -- the units whose adjoint is called
 abbrev pub answers : ProgramMarks → List Procedure → Procedure → List ℕ → Bool
 answers m ps head name = calls_some (has_adjoint m ps head) m.adjointed name 0 ps
 
--- those that an adjoint calls as they are, by a kept call
+-- those that an adjoint calls as they are: by a kept call, or in the turns of a loop that is reversed by a schedule
+abbrev pub is_kept_with : Bool → ProgramMarks → List Procedure → Procedure → List ℕ → Bool
+is_kept_with false m ps head name = calls_some (has_adjoint m ps head) m.kept name 0 ps
+is_kept_with true m ps head name = calls_some (has_adjoint m ps head) m.kept name 0 ps || turns_some (schedules_in true ps) (has_adjoint m ps head) m.adjointed name 0 ps
+
 abbrev pub is_kept : ProgramMarks → List Procedure → Procedure → List ℕ → Bool
-is_kept m ps head name = calls_some (has_adjoint m ps head) m.kept name 0 ps
+is_kept m ps head name = is_kept_with false m ps head name
 
 -- the units that are emitted as they are: those, and what they call
+abbrev pub is_carried_with : Bool → ProgramMarks → List Procedure → Procedure → List ℕ → Bool
+is_carried_with b m ps head name = is_reached (is_kept_with b m ps head) (λ i. true) ps name
+
 abbrev pub is_carried : ProgramMarks → List Procedure → Procedure → List ℕ → Bool
-is_carried m ps head name = is_reached (is_kept m ps head) (λ i. true) ps name
+is_carried m ps head name = is_carried_with false m ps head name
 
 -- the names of the adjoints that are emitted
 abbrev pub made_names : ProgramMarks → List Procedure → Procedure → List Procedure → List (List ℕ)
@@ -202,25 +293,38 @@ abbrev pub all_units : ProgramMarks → List Procedure → Procedure → List (L
 all_units m ps head = map unit_name ps ++ made_names m ps head ps
 
 -- the adjoint of a unit as it is emitted: only the head's clears shadows
-abbrev pub emitted_adjoint : ProgramMarks → List Procedure → Procedure → List Bool → List Bool → Procedure → Procedure
-emitted_adjoint m ps head vars outvars u =
+abbrev pub emitted_adjoint_with : Bool → ProgramMarks → List Procedure → Procedure → List Bool → List Bool → Procedure → Procedure
+emitted_adjoint_with b m ps head vars outvars u =
     let shadows = names_in (m.shadowed u.name) in
     if name_eq head.name u.name
-    then adjoint_unit m ps (all_units m ps head) u (shadows (unmarked u.dummies outvars)) (shadows (unmarked u.dummies vars))
-    else adjoint_unit m ps (all_units m ps head) u [] []
+    then adjoint_unit_with b m ps (all_units m ps head) u (shadows (unmarked u.dummies outvars)) (shadows (unmarked u.dummies vars))
+    else adjoint_unit_with b m ps (all_units m ps head) u [] []
+
+abbrev pub emitted_adjoint : ProgramMarks → List Procedure → Procedure → List Bool → List Bool → Procedure → Procedure
+emitted_adjoint m ps head vars outvars u = emitted_adjoint_with false m ps head vars outvars u
 
 -- each unit as it is, where it is carried, and then its adjoint, where it has one
+abbrev pub emitted_units_with : Bool → ProgramMarks → List Procedure → Procedure → List Bool → List Bool → List Procedure → List Procedure
+emitted_units_with b m ps head vars outvars [] = []
+emitted_units_with b m ps head vars outvars (u ∷ us) =
+    (if is_carried_with b m ps head u.name then u ∷ [] else [])
+    ++ ((if has_adjoint m ps head u.name then emitted_adjoint_with b m ps head vars outvars u ∷ [] else []) ++ emitted_units_with b m ps head vars outvars us)
+
 abbrev pub emitted_units : ProgramMarks → List Procedure → Procedure → List Bool → List Bool → List Procedure → List Procedure
-emitted_units m ps head vars outvars [] = []
-emitted_units m ps head vars outvars (u ∷ us) =
-    (if is_carried m ps head u.name then u ∷ [] else [])
-    ++ ((if has_adjoint m ps head u.name then emitted_adjoint m ps head vars outvars u ∷ [] else []) ++ emitted_units m ps head vars outvars us)
+emitted_units m ps head vars outvars us = emitted_units_with false m ps head vars outvars us
 
 -- what is emitted for a head, if there is one
-abbrev pub emitted_for : ProgramMarks → List Procedure → List Bool → List Bool → List Procedure → List Procedure
-emitted_for m ps vars outvars [] = []
-emitted_for m ps vars outvars (u ∷ us) = emitted_units m ps u vars outvars ps
+abbrev pub emitted_for_with : Bool → ProgramMarks → List Procedure → List Bool → List Bool → List Procedure → List Procedure
+emitted_for_with b m ps vars outvars [] = []
+emitted_for_with b m ps vars outvars (u ∷ us) = emitted_units_with b m ps u vars outvars ps
 
--- the program that is emitted for the head of this number, of which the flags tell the independents and the dependents
+abbrev pub emitted_for : ProgramMarks → List Procedure → List Bool → List Bool → List Procedure → List Procedure
+emitted_for m ps vars outvars us = emitted_for_with false m ps vars outvars us
+
+-- the program that is emitted for the head of this number, of which the flags tell the independents and the dependents; whether marked
+-- loops are reversed by schedules
+abbrev pub emitted_program_with : Bool → ProgramMarks → List Procedure → ℕ → List Bool → List Bool → List Procedure
+emitted_program_with b m ps head vars outvars = emitted_for_with b m ps vars outvars (unit_at head ps)
+
 abbrev pub emitted_program : ProgramMarks → List Procedure → ℕ → List Bool → List Bool → List Procedure
-emitted_program m ps head vars outvars = emitted_for m ps vars outvars (unit_at head ps)
+emitted_program m ps head vars outvars = emitted_program_with false m ps head vars outvars

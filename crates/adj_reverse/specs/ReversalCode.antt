@@ -1,13 +1,12 @@
 -- The row of a marked loop whose steps are reversed by a schedule. (docs/EMITTED.md, "Sweeps")
 -- Rows take codes: `save` and `keep` push the two groups of the step call, `unsave` and `back` pop them, `plain_call` calls the step unit,
 -- and `adjoint` its adjoint.
-use Rattle.std.specs.Prelude.{ℕ, suc, List, not, ◌&&◌, ◌||◌, Option, Some, None}
-use Rattle.adj_tree.specs.Code.{Var, helper, first, stride, count, turn, Role, entry, entries, kind, lower, upper, plus, minus, times, is_same, unmarked, Term, var, bin, none, plain, compare, assign, choose, loop, call, runtime, push_word, pop_word, begin_reversal, count_actions, give_action, end_reversal, Code, stop, step}
+use Rattle.std.specs.Prelude.{ℕ, suc, List, not}
+use Rattle.adj_tree.specs.Code.{Var, helper, first, stride, count, turn, Role, entry, entries, kind, lower, upper, plus, minus, times, is_same, unmarked, Term, var, bin, none, plain, compare, assign, choose, loop, call, runtime, begin_reversal, count_actions, give_action, end_reversal, Code, stop, step}
 use Rattle.adj_meaning.specs.Append.{◌+++◌, one}
 use Rattle.adj_transpose.specs.Marked.{code_if}
-use Rattle.adj_transpose.specs.Marks.{Vars, everything}
-use Rattle.adj_reverse.specs.Plan.{Callee, Plan, names_of, actuals_named, group, save_group}
-use Rattle.adj_reverse.specs.Emission.{is_empty, pushes, pops, push_own, pop_own, set_own, literal, adjoint_call, reset}
+use Rattle.adj_reverse.specs.Plan.{Plan, actuals_named, save_group, step_snapshot, Step}
+use Rattle.adj_reverse.specs.Rows.{is_empty, pushes, pops, push_own, pop_own, set_own, literal, adjoint_call}
 
 -- the variable of a loop of depth d gets its value at the turn whose number a helper holds
 abbrev pub at_turn : ℕ → ℕ → Var → Role → Code → Code
@@ -62,31 +61,19 @@ reversed_backward d line x m keep back unsave plain_call adjoint =
     (pop_own line (helper first d)
     (back +++ (reversal line d x m keep back plain_call adjoint +++ unsave))))
 
--- ---- the statement
+-- ---- the rows by a plan
 
--- what a marked loop in kernel form calls: its step unit, and the actuals
-abbrev pub step_call : Code → Option (List ℕ × List (List ℕ))
-step_call (step line (call name args) stop) = Some (name, names_of args)
-step_call c = None
+-- in the forward sweep of the i-th statement, whose step call is the statement after it
+abbrev pub row_forward : Plan → ℕ → ℕ → ℕ → List ℕ → Term → Term → Term → Step → Code
+row_forward p i d line x a b c s =
+    let g = p.callees s.name in
+    reversed_forward d line (plain x) a b c (pushes p line (save_group p.marks i g s.given)) (pushes p line (step_snapshot g s.read s.given))
+    (code_if (p.marks.kept (suc i)) (one line (call s.name (actuals_named s.given))))
 
--- the snapshot of a step: what the adjoint of the step unit needs at its entry or the step unit reads, and the step unit writes
--- (`read` is to be a field of Callee)
-abbrev pub step_snapshot : Callee → Vars → List (List ℕ) → List (List ℕ)
-step_snapshot g read given = group (λ d. g.written d && (g.members d || read d)) everything g.dummies given
-
--- the i-th statement, a marked loop that is reversed, and its step call, the statement after it, in loops of depth d
-abbrev pub forward_reversed : Plan → ℕ → ℕ → ℕ → List ℕ → Term → Term → Term → List ℕ → Vars → List (List ℕ) → Code
-forward_reversed p i d line x a b c name read given =
-    let g = p.callees name in
-    code_if (p.marks.saved i (plain x)) (one line (runtime (push_word (plain x) none)))
-    +++ reversed_forward (suc d) line (plain x) a b c (pushes p line (save_group p.marks i g given)) (pushes p line (step_snapshot g read given))
-    (code_if (p.marks.kept (suc i)) (one line (call name (actuals_named given))))
-
-abbrev pub backward_reversed : Plan → ℕ → ℕ → ℕ → List ℕ → ℕ → List ℕ → Vars → List (List ℕ) → Code
-backward_reversed p i d line x m name read given =
-    let g = p.callees name in
-    let snapshot = step_snapshot g read given in
-    reversed_backward (suc d) line (plain x) m (pushes p line snapshot) (pops p line snapshot) (pops p line (save_group p.marks i g given))
-    (one line (call name (actuals_named given))) (one line (adjoint_call g given))
-    +++ (code_if (p.marks.saved i (plain x)) (one line (runtime (pop_word (plain x) none)))
-    +++ reset p.marks i line x)
+-- and in the backward sweep
+abbrev pub row_backward : Plan → ℕ → ℕ → ℕ → List ℕ → Step → Code
+row_backward p i d line x s =
+    let g = p.callees s.name in
+    let snapshot = step_snapshot g s.read s.given in
+    reversed_backward d line (plain x) s.snapshots (pushes p line snapshot) (pops p line snapshot) (pops p line (save_group p.marks i g s.given))
+    (one line (call s.name (actuals_named s.given))) (one line (adjoint_call g s.given))

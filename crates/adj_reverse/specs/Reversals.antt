@@ -1,16 +1,18 @@
 -- The reversals that a run tells of, and what they are to be for the marked loops of a program. (docs/RUNNING.md, "Events")
-use Rattle.std.specs.Prelude.{◌≡◌, ◌≤◌, ◌<◌, ◌⊎◌, ℕ, zero, suc, ◌+◌, ◌*◌, ◌==◌, ◌&&◌, List, [], ◌∷◌, ◌++◌, map, reverse, Bool, true, false, if◌then◌else◌}
+use Rattle.std.specs.Prelude.{◌≡◌, ◌≤◌, ◌<◌, ◌⊎◌, ℕ, zero, suc, ◌+◌, ◌*◌, ◌==◌, ◌&&◌, List, [], ◌∷◌, ◌++◌, reverse, Bool, true, false, Option, Some, None, if◌then◌else◌}
 use Rattle.adj_tree.specs.Code.{name_eq}
 use Rattle.adj_revolve.specs.LeastCost.{least_cost}
+use Rattle.adj_meaning.specs.Store.{Shape, size_of}
 use Rattle.adj_meaning.specs.Event.{Event, Enter, Begin, End, Marked}
 use Rattle.adj_transpose.specs.Lists.{Kept}
 
 -- ---- reversals by events alone
 
--- a call: the unit, and how many words the tape held at its entry
+-- a call: the unit, how many words the tape held at its entry, and the shapes of its dummies
 pub record Called : Type 0 where
   pub unit : List ℕ
   pub height : ℕ
+  pub shapes : List Shape
 
 -- a reversal: its steps and snapshots, the words on the tape at its begin, the calls directly in it, and whether it came to its end
 pub record Reversal : Type 0 where
@@ -25,7 +27,7 @@ pub record Reversal : Type 0 where
 abbrev pub calls_after : ℕ → ℕ → List Event → List Called
 calls_after level inner [] = []
 calls_after level inner (Enter name l height shapes ∷ es) =
-    if l == suc level && inner == 0 then record { unit = name; height = height } ∷ calls_after level inner es else calls_after level inner es
+    if l == suc level && inner == 0 then record { unit = name; height = height; shapes = shapes } ∷ calls_after level inner es else calls_after level inner es
 calls_after level inner (Begin steps snapshots l height ∷ es) = calls_after level (if l == level then suc inner else inner) es
 calls_after level zero (End l ∷ es) = if l == level then [] else calls_after level 0 es
 calls_after level (suc inner) (End l ∷ es) = calls_after level (if l == level then inner else suc inner) es
@@ -57,32 +59,57 @@ pub record MarkedRun : Type 0 where
   pub turns : ℕ
   pub snapshots : ℕ
 
--- those whose lines are in a set, in the order of the events
-abbrev pub marks_in : (ℕ → Bool) → List Event → List MarkedRun
-marks_in at [] = []
-marks_in at (Enter name l height shapes ∷ es) = marks_in at es
-marks_in at (Begin steps snapshots level height ∷ es) = marks_in at es
-marks_in at (End l ∷ es) = marks_in at es
-marks_in at (Marked line turns snapshots ∷ es) = if at line then record { line = line; turns = turns; snapshots = snapshots } ∷ marks_in at es else marks_in at es
-
 -- ---- what a reversal is to be
 
--- a run of a marked loop that is to be reversed: its step unit, the adjoint of that, and how many words the snapshot of a step takes
-pub record LoopRun : Type 0 where
-  pub mark : MarkedRun
+-- what a marked loop calls that is reversed by a schedule: its step unit, and the adjoint of that; and which of the dummies of the one
+-- and of the other are in the snapshot of a step
+pub record StepUnits : Type 0 where
   pub unit : List ℕ
   pub adjoint : List ℕ
-  pub words : ℕ
+  pub taken : List Bool
+  pub taken_back : List Bool
+
+-- the marked loops that are reversed by a schedule, by the lines of their DOs
+abbrev pub ReversedLines : Type 0
+ReversedLines = ℕ → Option StepUnits
+
+-- a run of such a loop
+pub record LoopRun : Type 0 where
+  pub mark : MarkedRun
+  pub step : StepUnits
+
+abbrev pub with_run : Option StepUnits → MarkedRun → List LoopRun → List LoopRun
+with_run None mark runs = runs
+with_run (Some step) mark runs = record { mark = mark; step = step } ∷ runs
+
+-- those runs, in the order of the events
+abbrev pub runs_in : ReversedLines → List Event → List LoopRun
+runs_in lines [] = []
+runs_in lines (Enter name l height shapes ∷ es) = runs_in lines es
+runs_in lines (Begin steps snapshots level height ∷ es) = runs_in lines es
+runs_in lines (End l ∷ es) = runs_in lines es
+runs_in lines (Marked line turns snapshots ∷ es) = with_run (lines line) (record { line = line; turns = turns; snapshots = snapshots }) (runs_in lines es)
 
 -- how often a unit is called
 abbrev pub times : List ℕ → List Called → ℕ
 times name [] = 0
 times name (c ∷ cs) = (if name_eq name c.unit then 1 else 0) + times name cs
 
--- each call is of one of the two units, while the tape is as long as `low` at least and as `high` at most
-abbrev pub AreWithin : List ℕ → List ℕ → ℕ → ℕ → List Called → Type 0
-AreWithin unit adjoint low high [] = Unit {0}
-AreWithin unit adjoint low high (c ∷ cs) = (((c.unit ≡ unit) ⊎ (c.unit ≡ adjoint)) × ((low ≤ c.height) × (c.height ≤ high))) × AreWithin unit adjoint low high cs
+-- how many words the snapshot takes of dummies of these shapes
+abbrev pub words_taken : List Bool → List Shape → ℕ
+words_taken [] shapes = 0
+words_taken (t ∷ ts) [] = 0
+words_taken (t ∷ ts) (shape ∷ shapes) = (if t then size_of shape else 0) + words_taken ts shapes
+
+-- the call is of one of the two units, while the tape is at most so many snapshots higher than at the start
+abbrev pub IsWithin : StepUnits → ℕ → ℕ → Called → Type 0
+IsWithin step start snapshots c =
+    (start ≤ c.height)
+    × (((c.unit ≡ step.unit) × (c.height ≤ start + snapshots * words_taken step.taken c.shapes)) ⊎ ((c.unit ≡ step.adjoint) × (c.height ≤ start + snapshots * words_taken step.taken_back c.shapes)))
+
+abbrev pub AreWithin : StepUnits → ℕ → ℕ → List Called → Type 0
+AreWithin step start snapshots [] = Unit {0}
+AreWithin step start snapshots (c ∷ cs) = IsWithin step start snapshots c × AreWithin step start snapshots cs
 
 -- the reversal turns the run's steps with the run's snapshots, by as few calls of the step unit as any schedule, and one call of its
 -- adjoint for each step; it calls nothing else, and holds no more snapshots on the tape than it has
@@ -90,9 +117,9 @@ pub record Reverses (run : LoopRun) (r : Reversal) : Type 0 where
   pub steps : r.steps ≡ run.mark.turns
   pub snapshots : r.snapshots ≡ run.mark.snapshots
   pub ended : r.ended ≡ true
-  pub advances : times run.unit r.calls ≡ least_cost r.steps r.snapshots
-  pub adjoints : times run.adjoint r.calls ≡ r.steps
-  pub within : AreWithin run.unit run.adjoint r.start (r.start + r.snapshots * run.words) r.calls
+  pub advances : times run.step.unit r.calls ≡ least_cost r.steps r.snapshots
+  pub adjoints : times run.step.adjoint r.calls ≡ r.steps
+  pub within : AreWithin run.step r.start r.snapshots r.calls
 
 -- one for the other, in order
 abbrev pub AreReversed : List LoopRun → List Reversal → Type 0
@@ -103,10 +130,8 @@ AreReversed (l ∷ ls) (r ∷ rs) = Reverses l r × AreReversed ls rs
 
 -- What the program told in its run and its adjoint in its own, both in order of time: the reversals of the adjoint are those of the
 -- program's runs of the loops at these lines, from the last to the first, and each is right.
-pub record ReversesLoops (lines : ℕ → Bool) (told told' : List Event) : Type 0 where
-  pub loops : List LoopRun
-  pub marks : marks_in lines (reverse told) ≡ map (λ (r : LoopRun). r.mark) loops
-  pub reversed : AreReversed loops (reversals_in told')
+abbrev pub ReversesLoops : ReversedLines → List Event → List Event → Type 0
+ReversesLoops lines told told' = AreReversed (runs_in lines (reverse told)) (reversals_in told')
 
 -- ---- runs within a unit
 
@@ -143,9 +168,9 @@ pub record TellsCalls (level : ℕ) (base later : Kept) (calls : List Called) (r
   pub is : IsToldBy level told calls rs
 
 -- what was kept, and later: no reversal was begun meanwhile, and these runs of loops at lines of a set were told, the last first
-pub record Marks (lines : ℕ → Bool) (level : ℕ) (base later : Kept) (loops : List LoopRun) : Type 0 where
+pub record Marks (lines : ReversedLines) (level : ℕ) (base later : Kept) (loops : List LoopRun) : Type 0 where
   pub opened : later.opened ≡ base.opened
   pub told : List Event
   pub events : later.events ≡ told ++ base.events
   pub is : IsTold level told []
-  pub loops_are : marks_in lines told ≡ map (λ (r : LoopRun). r.mark) loops
+  pub loops_are : runs_in lines told ≡ loops

@@ -1,28 +1,25 @@
 -- The row of a marked loop that is reversed by a schedule, and what it does in both sweeps. (docs/EMITTED.md, "Reversal of a marked loop")
 use Rattle.std.specs.Prelude.{◌≡◌, ◌≤◌, ◌<◌, ℕ, suc, ℤ, List, [], ◌∷◌, ◌++◌, false, Ok}
-use Rattle.adj_tree.specs.Code.{Var, plain, shadow, name_eq, unmarked, Term, call, Code}
+use Rattle.adj_tree.specs.Code.{Var, plain, shadow, name_eq, unmarked, Term, Code}
 use Rattle.adj_word.specs.Word.{wrap, add}
 use Rattle.adj_word.specs.Pairing.{pairing}
-use Rattle.adj_meaning.specs.Append.{one}
 use Rattle.adj_meaning.specs.Read.{reads_term}
 use Rattle.adj_meaning.specs.Store.{Shape, size_of, Store, set}
 use Rattle.adj_meaning.specs.Value.{value}
 use Rattle.adj_meaning.specs.Run.{Calls, trips}
 use Rattle.adj_transpose.specs.Marks.{Vars, point_before, point_after}
-use Rattle.adj_transpose.specs.Marked.{code_if}
 use Rattle.adj_transpose.specs.Facts.{In, joined, Facts}
 use Rattle.adj_transpose.specs.Pairs.{Key, Words, shadows, on_words}
 use Rattle.adj_transpose.specs.Lists.{Kept}
-use Rattle.adj_reverse.specs.Plan.{Plan, actuals_named, save_group, writes_actual}
-use Rattle.adj_reverse.specs.Emission.{pushes, pops, adjoint_call}
-use Rattle.adj_reverse.specs.ReversalCode.{reversed_forward, reversed_backward, step_snapshot}
+use Rattle.adj_reverse.specs.Plan.{Step, writes_actual}
+use Rattle.adj_reverse.specs.ReversalCode.{row_forward, row_backward}
 use Rattle.adj_reverse.specs.Laws.{just, point_inside, CalleeFacts}
-use Rattle.adj_reverse.specs.ReversedLaws.{ReversedLaws}
+use Rattle.adj_reverse.specs.Laws.{ReversedLaws}
 use Rattle.adj_reverse.specs.Kernel.{AllText}
 use Rattle.adj_reverse.specs.Passing.{plainly}
 use Rattle.adj_reverse.specs.Runs.{Comes, SameOn, SameOff}
 use Rattle.adj_reverse.specs.Reversals.{Reversal, LoopRun, AreReversed}
-use Rattle.adj_reverse.specs.Steps.{LeavesHelpers, changes, loops_of, Steps, StepFits, step_words}
+use Rattle.adj_reverse.specs.Steps.{LeavesHelpers, changes, loops_of, Steps, StepFits, step_units}
 use Rattle.adj_reverse.specs.Theorem.{plan_of}
 
 -- what comes back of the loop in the backward sweep, from the store g
@@ -49,17 +46,6 @@ pub record ReversedRow (q : Calls ℤ) (sh : Var → Shape) (level : ℕ) (xs : 
   pub depth : LeavesHelpers d f to
   pub returns : (b : Kept) (h : Store ℤ) → SameOn sh held to h → ReversedBack q sh level xs d x written held' back b f h (trail ++ t) t change loops
 
--- the row in the forward sweep of the i-th statement, whose step call is the statement after it
-abbrev pub row_forward : Plan → ℕ → ℕ → ℕ → List ℕ → Term → Term → Term → CalleeFacts → List (List ℕ) → List ℕ → Code
-row_forward p i d line x a b c g given name =
-    reversed_forward d line (plain x) a b c (pushes p line (save_group p.marks i g.callee given)) (pushes p line (step_snapshot g.callee g.read given)) (code_if (p.marks.kept (suc i)) (one line (call name (actuals_named given))))
-
--- and in the backward sweep, with m snapshots
-abbrev pub row_backward : Plan → ℕ → ℕ → ℕ → List ℕ → ℕ → CalleeFacts → List (List ℕ) → List ℕ → Code
-row_backward p i d line x m g given name =
-    let snapshot = step_snapshot g.callee g.read given in
-    reversed_backward d line (plain x) m (pushes p line snapshot) (pops p line snapshot) (pops p line (save_group p.marks i g.callee given)) (one line (call name (actuals_named given))) (one line (adjoint_call g.callee given))
-
 -- With facts that meet the laws, both sweeps of a marked loop that turned l times do so: from a store with the values that are needed
 -- before it, where the program had u there and U i before its step i.
 abbrev pub ReversedRowsTurn : Type 0
@@ -74,6 +60,7 @@ ReversedRowsTurn =
     (change : ℕ → Words → Words) (loops : ℕ → List LoopRun) (U U' : ℕ → Store ℤ) →
     U 0 ≡ set u (plain x) 0 (wrap a0) → ((j : ℕ) → j < l → U (suc j) ≡ set (U' j) (plain x) 0 (add (U' j (plain x) 0) c0)) → Steps q sh level cells line x g given name l a0 c0 change loops U U' →
     (at : ℕ) (base : Kept) (f : Store ℤ) (t : List ℤ) → SameOn sh (w.needed (point_before i)) u f →
-    let run : LoopRun = record { mark = record { line = at; turns = l; snapshots = m }; unit = name; adjoint = g.callee.adjoint; words = step_words q sh level cells line x g given name } in
+    let s : Step = record { name = name; given = given; read = g.read; snapshots = m } in
+    let run : LoopRun = record { mark = record { line = at; turns = l; snapshots = m }; step = step_units name g.callee g.read } in
     ReversedRow q sh level cells d x (joined (just (plain x)) (writes_actual g.callee given)) (w.needed (point_inside i)) (w.held (point_after i)) (w.held (point_before i))
-    (row_forward p i (suc d) line x a b c g given name) (row_backward p i (suc d) line x m g given name) base (U l) f t (changes change 0 l) (run ∷ loops_of loops 0 l)
+    (row_forward p i (suc d) line x a b c s) (row_backward p i (suc d) line x s) base (U l) f t (changes change 0 l) (run ∷ loops_of loops 0 l)

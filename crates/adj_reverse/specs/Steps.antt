@@ -1,5 +1,5 @@
 -- The steps of a marked loop that was run, and what it means that a reversal turns them. (docs/EMITTED.md, "Reversal of a marked loop")
-use Rattle.std.specs.Prelude.{◌≡◌, ◌≤◌, ◌<◌, ℕ, zero, suc, ◌+◌, ℤ, pos, List, [], ◌∷◌, ◌++◌, length, false}
+use Rattle.std.specs.Prelude.{◌≡◌, ◌≤◌, ◌<◌, ℕ, zero, suc, ◌+◌, ℤ, pos, List, [], ◌∷◌, ◌++◌, length, ◌&&◌, ◌||◌, Bool, false, if◌then◌else◌}
 use Rattle.adj_tree.specs.Code.{Role, role_code, Var, plain, shadow, helper, first, stride, count, name_eq, Act, call, Code}
 use Rattle.adj_word.specs.Word.{add, mul}
 use Rattle.adj_word.specs.Pairing.{pairing}
@@ -13,12 +13,12 @@ use Rattle.adj_transpose.specs.Facts.{In, joined}
 use Rattle.adj_transpose.specs.Naming.{AreApart}
 use Rattle.adj_transpose.specs.Pairs.{Key, Words, shadows, on_words}
 use Rattle.adj_transpose.specs.Lists.{Kept, scene}
-use Rattle.adj_reverse.specs.Plan.{Callee, Plan, IsActual, actuals_named, writes_actual}
+use Rattle.adj_reverse.specs.Plan.{Callee, Plan, IsActual, actuals_named, writes_actual, step_snapshot}
 use Rattle.adj_reverse.specs.Emission.{pushes, pops, adjoint_call}
-use Rattle.adj_reverse.specs.ReversalCode.{reversal, step_snapshot}
+use Rattle.adj_reverse.specs.ReversalCode.{reversal}
 use Rattle.adj_reverse.specs.Laws.{just, CalleeFacts}
 use Rattle.adj_reverse.specs.Runs.{SameOff}
-use Rattle.adj_reverse.specs.Reversals.{Called, Reversal, LoopRun, Reverses, AreReversed, Tells, TellsCalls}
+use Rattle.adj_reverse.specs.Reversals.{Called, Reversal, StepUnits, LoopRun, words_taken, Reverses, AreReversed, Tells, TellsCalls}
 
 -- a statement that was counted comes from a store and a tape to others, and makes these calls and reversals
 pub record ActGoes {C : Type 0} (q : Calls C) (n : Setting C) (a : Act) (line : ℕ) (base : Kept) (s s' : Store C) (t t' : List C) (calls : List Called) (rs : List Reversal) : Type 0 where
@@ -49,6 +49,24 @@ words_of sh (x ∷ xs) = size_of (sh (plain x)) + words_of sh xs
 abbrev pub LeavesHelpers : ℕ → Store ℤ → Store ℤ → Type 0
 LeavesHelpers d f g = (r : Role) (k c : ℕ) → 2 < role_code r → k ≤ d → g (helper r k) c ≡ f (helper r k) c
 
+-- ---- the units that are called
+
+-- whether a dummy of the step unit is in the snapshot of a step
+abbrev pub is_taken : Callee → Vars → List ℕ → Bool
+is_taken g read d = g.written (plain d) && (g.members (plain d) || read (plain d))
+
+abbrev pub taken_in : Callee → Vars → List (List ℕ) → List Bool
+taken_in g read [] = []
+taken_in g read (d ∷ ds) = is_taken g read d ∷ taken_in g read ds
+
+-- and of its adjoint, where shadows stand between; those are in none
+abbrev pub taken_behind : Callee → Vars → List (List ℕ) → List Bool
+taken_behind g read [] = []
+taken_behind g read (d ∷ ds) = if g.shadowed (plain d) then is_taken g read d ∷ false ∷ taken_behind g read ds else is_taken g read d ∷ taken_behind g read ds
+
+abbrev pub step_units : List ℕ → Callee → Vars → StepUnits
+step_units name g read = record { unit = name; adjoint = g.adjoint; taken = taken_in g read g.dummies; taken_back = taken_behind g read g.dummies }
+
 -- ---- the steps
 
 -- The step call of a marked loop with variable x, in a unit with these cells.
@@ -57,10 +75,17 @@ module _ (q : Calls ℤ) (sh : Var → Shape) (level : ℕ) (cells : List Key) (
   abbrev pub reach : Vars
   reach = joined g.callee.members g.read
 
+  -- how many words a snapshot takes
+  abbrev pub step_words : ℕ
+  step_words = words_of sh (step_snapshot g.callee g.read given)
+
   -- the step unit is called from the store f, where the program's step takes u to u'
   pub record StepCalled (base : Kept) (u u' f : Store ℤ) (t : List ℤ) : Type 0 where
     pub after : Store ℤ
-    pub runs : ActGoes q (on_words sh level) (call name (actuals_named given)) line base f after t t (record { unit = name; height = length t } ∷ []) []
+    -- its dummies have these shapes, by which a snapshot has as many words as the actuals say
+    pub shapes : List Shape
+    pub takes : words_taken (taken_in g.callee g.read g.callee.dummies) shapes ≡ step_words
+    pub runs : ActGoes q (on_words sh level) (call name (actuals_named given)) line base f after t t (record { unit = name; height = length t; shapes = shapes } ∷ []) []
     -- where a cell had the value of the program, it has it again
     pub same : (y : List ℕ) (j : ℕ) → f (plain y) j ≡ u (plain y) j → after (plain y) j ≡ u' (plain y) j
     pub off : SameOff (writes_actual g.callee given) f after
@@ -71,7 +96,9 @@ module _ (q : Calls ℤ) (sh : Var → Shape) (level : ℕ) (cells : List Key) (
   pub record AdjointStep (change : Words → Words) (loops : List LoopRun) (base : Kept) (f : Store ℤ) (t : List ℤ) : Type 0 where
     pub after : Store ℤ
     pub rs : List Reversal
-    pub runs : ActGoes q (on_words sh level) (adjoint_call g.callee given) line base f after t t (record { unit = g.callee.adjoint; height = length t } ∷ []) rs
+    pub shapes : List Shape
+    pub takes : words_taken (taken_behind g.callee g.read g.callee.dummies) shapes ≡ step_words
+    pub runs : ActGoes q (on_words sh level) (adjoint_call g.callee given) line base f after t t (record { unit = g.callee.adjoint; height = length t; shapes = shapes } ∷ []) rs
     pub reversed : AreReversed loops rs
     pub off : SameOff (writes_actual g.callee given) f after
     pub helpers : (r : Role) (k c : ℕ) → after (helper r k) c ≡ f (helper r k) c
@@ -107,10 +134,6 @@ module _ (q : Calls ℤ) (sh : Var → Shape) (level : ℕ) (cells : List Key) (
       let snapshot = step_snapshot g.callee g.read given in
       reversal line d (plain x) m (pushes p line snapshot) (pops p line snapshot) (one line (call name (actuals_named given))) (one line (adjoint_call g.callee given))
 
-  -- how many words a snapshot takes
-  abbrev pub step_words : ℕ
-  step_words = words_of sh (step_snapshot g.callee g.read given)
-
   -- The code reverses the l steps with m snapshots, of a loop in others of depth d whose DO stands at a line, from the store f.
   pub record TurnsSteps (c : Code) (d l m at : ℕ) (change : ℕ → Words → Words) (loops : ℕ → List LoopRun) (base : Kept) (f : Store ℤ) (t : List ℤ) : Type 0 where
     pub after : Store ℤ
@@ -122,7 +145,7 @@ module _ (q : Calls ℤ) (sh : Var → Shape) (level : ℕ) (cells : List Key) (
     -- one reversal was begun and ended, and within it those of the steps, from the last step to the first
     pub tells : Tells level base later (own ∷ inner)
     -- by as few step calls as any schedule, one call of the adjoint a step, and at most m snapshots above the tape
-    pub reverses : Reverses (record { mark = record { line = at; turns = l; snapshots = m }; unit = name; adjoint = g.callee.adjoint; words = step_words }) own
+    pub reverses : Reverses (record { mark = record { line = at; turns = l; snapshots = m }; step = step_units name g.callee g.read }) own
     pub begins : own.start ≡ length t
     pub reversed : AreReversed (loops_of loops 0 l) inner
     -- the shadows are transposed through the steps

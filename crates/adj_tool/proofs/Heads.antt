@@ -121,8 +121,8 @@ module _ (r : Request) (ps : List Procedure) (h : Head) (sound : first_head_faul
         marks = back.marks;
         exact = subst (λ z. AreExact ps r.head z back.marks) is x;
         is_adjoint =
-            subst (λ n. IsAdjointOf (λ line. false) n ps r.head (flags_of r.vars there.unit.dummies) (flags_of r.outvars there.unit.dummies) back.reads.0) (sym x.are)
-            (subst (λ v. IsAdjointOf (λ line. false) m ps r.head v (flags_of r.outvars there.unit.dummies) back.reads.0) vars_is (subst (λ v. IsAdjointOf (λ line. false) m ps r.head h.vars v back.reads.0) outvars_is
+            subst (λ n. IsAdjointOf (λ line. None) n ps r.head (flags_of r.vars there.unit.dummies) (flags_of r.outvars there.unit.dummies) back.reads.0) (sym x.are)
+            (subst (λ v. IsAdjointOf (λ line. None) m ps r.head v (flags_of r.outvars there.unit.dummies) back.reads.0) vars_is (subst (λ v. IsAdjointOf (λ line. None) m ps r.head h.vars v back.reads.0) outvars_is
             (planned.is_adjoint ps accepted none r.head there.unit there.found h.vars h.outvars x.activity x.liveness x.saved x.held x.analysed back.reads.0 same)));
         shape =
             subst (λ n. HasKernelShape n ps r.head (flags_of r.vars there.unit.dummies) (flags_of r.outvars there.unit.dummies) back.reads.0) (sym x.are)

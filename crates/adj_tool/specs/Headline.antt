@@ -1,5 +1,5 @@
 -- Headline: what the written text is.
-use Rattle.std.specs.Prelude.{◌≡◌, ℕ, List, map, Bool, true, false, Some}
+use Rattle.std.specs.Prelude.{◌≡◌, ℕ, List, map, Bool, true, false, Some, None}
 use Rattle.adj_tree.specs.Code.{Procedure}
 use Rattle.adj_tree.specs.Lines.{unlined}
 use Rattle.adj_text.specs.Reads.{Reads}
@@ -55,7 +55,7 @@ pub record WritesAdjoint (r : Request) (bytes written : List ℕ) : Type 0 where
   -- by the marks that exact analyses of the kernel give
   pub marks : ProgramMarks
   pub exact : AreExact source r.head (head_of source r.head r.vars r.outvars) marks
-  pub is_adjoint : IsAdjointOf (λ line. false) marks source r.head (flags_of r.vars unit.dummies) (flags_of r.outvars unit.dummies) adjoint
+  pub is_adjoint : IsAdjointOf (λ line. None) marks source r.head (flags_of r.vars unit.dummies) (flags_of r.outvars unit.dummies) adjoint
   -- it has the units, and each of its adjoint units keeps, saves, pushes and sets what these marks say
   pub shape : HasKernelShape marks source r.head (flags_of r.vars unit.dummies) (flags_of r.outvars unit.dummies) adjoint
   -- by what a statement of the source weighs at most, and by how many calls a chain from the head has at most, its run takes so many statements for

@@ -126,12 +126,12 @@ module _ (m : ProgramMarks) (ps : List Procedure) (head : ℕ) (vars outvars : L
   flags_of v = shadow_flags (m.shadowed v.name) v.dummies
 
   abbrev By : Procedure → Procedure → Type 0
-  By v b = (input shadows : List (Slot ℤ)) → fits words v input ≡ true → AreAlike input shadows → (k used : ℕ) (output : Output ℤ) → run_unit words ps v input [] None k ≡ Done output used → TransposesBy (λ line. false) (flags_of v) ps v vars outvars qs b input shadows output.events
+  By v b = (input shadows : List (Slot ℤ)) → fits words v input ≡ true → AreAlike input shadows → (k used : ℕ) (output : Output ℤ) → run_unit words ps v input [] None k ≡ Done output used → TransposesBy (λ line. None) (flags_of v) ps v vars outvars qs b input shadows output.events
 
   abbrev Tried : Type 0
-  Tried = TransposesBy (λ line. false) (flags_of u) ps u vars outvars qs a t.input t.shadows (let o = output_in (run_unit words ps u t.input [] None t.least) in o.events)
+  Tried = TransposesBy (λ line. None) (flags_of u) ps u vars outvars qs a t.input t.shadows (let o = output_in (run_unit words ps u t.input [] None t.least) in o.events)
 
-  transposed : IsAdjoint (λ line. false) m ps head vars outvars qs → Tried
+  transposed : IsAdjoint (λ line. None) m ps head vars outvars qs → Tried
   transposed h =
       let at_head : h.unit ≡ u = one_same h.unit u (sym h.is_head ∙ is_head) in
       let at_adjoint : h.adjoint ≡ a = some_same h.adjoint a (sym h.is_there ∙ ap (λ v. find_unit qs (adjoint_name ps v)) at_head ∙ there) in
@@ -148,7 +148,7 @@ module _ (m : ProgramMarks) (ps : List Procedure) (head : ℕ) (vars outvars : L
   dual = output_in (run_unit duals ps u (with_direction t.input t.direction) [] None t.least)
 
   -- where the products differ it is no adjoint
-  pub differ : IsOver words qs a given t.least → IsOver duals ps u (with_direction t.input t.direction) t.least → (product vars (shadow_cells (flags_of u) result.slots) t.direction ≡ product outvars (cells_of t.shadows) (tangents_of (cells_of dual.slots)) → ⊥) → IsAdjoint (λ line. false) m ps head vars outvars qs → ⊥
+  pub differ : IsOver words qs a given t.least → IsOver duals ps u (with_direction t.input t.direction) t.least → (product vars (shadow_cells (flags_of u) result.slots) t.direction ≡ product outvars (cells_of t.shadows) (tangents_of (cells_of dual.slots)) → ⊥) → IsAdjoint (λ line. None) m ps head vars outvars qs → ⊥
   differ over dual_over apart h =
       let r = transposed h in
       let agrees = r.products t.direction t.directed in
@@ -158,7 +158,7 @@ module _ (m : ProgramMarks) (ps : List Procedure) (head : ℕ) (vars outvars : L
       ∙ ap (λ o. product outvars (cells_of t.shadows) (tangents_of (cells_of (output_in o).slots))) (sym (ends_so duals ps u (with_direction t.input t.direction) t.least agrees.dual dual_over)))
 
   -- nor where its run is over and isn't done
-  pub stuck : IsOver words qs a given t.least → is_done (run_unit words qs a given [] None t.least) ≡ false → IsAdjoint (λ line. false) m ps head vars outvars qs → ⊥
+  pub stuck : IsOver words qs a given t.least → is_done (run_unit words qs a given [] None t.least) ≡ false → IsAdjoint (λ line. None) m ps head vars outvars qs → ⊥
   stuck over traps h =
       let r = transposed h in
       let p : is_done (run_unit words qs a given [] None t.least) ≡ true = ap is_done (ends_so words qs a given t.least r.run over) in

@@ -1,5 +1,5 @@
 -- Emitted programs with a fault: each is what is emitted by some marks, but for one thing. (docs/THEOREMS.md, "Sweeps of every statement")
-use Rattle.std.specs.Prelude.{ℕ, pos, List, map, Bool, false, if◌then◌else◌}
+use Rattle.std.specs.Prelude.{ℕ, pos, List, map, Bool, false, if◌then◌else◌, None}
 use Rattle.adj_tree.specs.Code.{plain, name_eq, plus, times, greater, lit, neg, bin, power_of, none, Act, assign, choose, loop, during, call, runtime, push_control, push_word, pop_word, Code, stop, step, Procedure}
 use Rattle.adj_reverse.specs.Marking.{ProgramMarks}
 use Rattle.adj_reverse.specs.Program.{emitted_program}
@@ -32,11 +32,11 @@ faulty_program f m ps head vars outvars = map (with_change f) (emitted_program m
 
 -- with that change it is an adjoint
 abbrev pub Serve : Change → ProgramMarks → List Procedure → ℕ → List Bool → List Bool → Type 0
-Serve f m ps head vars outvars = IsAdjoint (λ line. false) m ps head vars outvars (faulty_program f m ps head vars outvars)
+Serve f m ps head vars outvars = IsAdjoint (λ line. None) m ps head vars outvars (faulty_program f m ps head vars outvars)
 
 -- what is emitted by marks is no adjoint
 abbrev pub Fail : ProgramMarks → List Procedure → ℕ → List Bool → List Bool → Type 0
-Fail m ps head vars outvars = IsAdjoint (λ line. false) m ps head vars outvars (emitted_program m ps head vars outvars) → ⊥
+Fail m ps head vars outvars = IsAdjoint (λ line. None) m ps head vars outvars (emitted_program m ps head vars outvars) → ⊥
 
 -- ---- changes
 
