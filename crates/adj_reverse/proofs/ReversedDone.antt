@@ -272,10 +272,10 @@ module _ (q : Calls ℤ) (free : AtAnyLine q) (lines : ReversedLines) (qd : Call
       other_adjoint = fits.other_adjoint;
     }
 
-    rows : present ≡ true → (b : Kept) (f : Store ℤ) (t : List ℤ) → SameOn sh (w.needed (point_before i)) u f → ReversedRow q sh level xs d x wrote (w.needed inside) (w.held (point_after i)) (w.held (point_before i)) (row_forward plan i (suc d) line x ea eb ec s) (row_backward plan i (suc d) line x s) b u' f t (changes change_at 0 l) (own_run ∷ all_loops)
+    rows : present ≡ true → (b : Kept) (f : Store ℤ) (t : List ℤ) → SameOn sh (w.needed (point_before i)) u f → ReversedRow q sh level xs d x wrote (w.needed (point_after i)) (w.held (point_after i)) (w.held (point_before i)) (row_forward plan i (suc d) line x ea eb ec s) (row_backward plan i (suc d) line x s) b u' f t (changes change_at 0 l) (own_run ∷ all_loops)
     rows pr b f t same =
-        subst (λ (z : Store ℤ). ReversedRow q sh level xs d x wrote (w.needed inside) (w.held (point_after i)) (w.held (point_before i)) (row_forward plan i (suc d) line x ea eb ec s) (row_backward plan i (suc d) line x s) b z f t (changes change_at 0 l) (own_run ∷ all_loops)) ends
-        (subst (λ (z : Vars). let v : Step = record { name = s.name; given = s.given; read = z; snapshots = s.snapshots } in ReversedRow q sh level xs d x wrote (w.needed inside) (w.held (point_after i)) (w.held (point_before i)) (row_forward plan i (suc d) line x ea eb ec v) (row_backward plan i (suc d) line x v) b (U l) f t (changes change_at 0 l) (own_run ∷ all_loops)) (sym read_is)
+        subst (λ (z : Store ℤ). ReversedRow q sh level xs d x wrote (w.needed (point_after i)) (w.held (point_after i)) (w.held (point_before i)) (row_forward plan i (suc d) line x ea eb ec s) (row_backward plan i (suc d) line x s) b z f t (changes change_at 0 l) (own_run ∷ all_loops)) ends
+        (subst (λ (z : Vars). let v : Step = record { name = s.name; given = s.given; read = z; snapshots = s.snapshots } in ReversedRow q sh level xs d x wrote (w.needed (point_after i)) (w.held (point_after i)) (w.held (point_before i)) (row_forward plan i (suc d) line x ea eb ec v) (row_backward plan i (suc d) line x v) b (U l) f t (changes change_at 0 l) (own_run ∷ all_loops)) (sym read_is)
         (reversed_rows_turn q sh level xs line x callees s.given s.name w arrays step_fits i d ea eb ec laws text_a text_b text_c l s.snapshots (turns_few (with_count s.snapshots) a0 b0 c0 l refl turns_is) fits.some fits.few u a0 b0 c0 is_a is_b is_c (turning (with_count s.snapshots) a0 b0 c0 l turns_is).plainly change_at loops_at U U' starts nexts (steps pr) line b f t same))
 
     abbrev forward_code : Code
@@ -292,8 +292,8 @@ module _ (q : Calls ℤ) (free : AtAnyLine q) (lines : ReversedLines) (qd : Call
       dual = dual_loop;
       sweeps = λ pr.
           rw laws.kept
-          (ended_sweeps q sh level xs apart line x one_cell in_list d (w.needed (point_before i)) (w.needed inside) (w.needed (point_after i)) (w.held (point_before i)) (w.held (point_after i)) wrote (row_forward plan i (suc d) line x ea eb ec s) (row_backward plan i (suc d) line x s) u u' (changes change_at 0 l) (own_run ∷ all_loops) (m.saved i (plain x)) (resets m i x)
-          (λ h. laws.saves_variable h) (λ y h. laws.exit.values.needs y (rw h refl)) (λ y n. (or_false (name_eq y x) (wr (plain y)) n).0) (rows pr));
+          (ended_sweeps q sh level xs apart line x one_cell in_list d (w.needed (point_before i)) (w.needed (point_after i)) (w.needed (point_after i)) (w.held (point_before i)) (w.held (point_after i)) wrote (row_forward plan i (suc d) line x ea eb ec s) (row_backward plan i (suc d) line x s) u u' (changes change_at 0 l) (own_run ∷ all_loops) (m.saved i (plain x)) (resets m i x)
+          (λ h. laws.saves_variable h) (λ y h. h) (λ y n. (or_false (name_eq y x) (wr (plain y)) n).0) (rows pr));
       matches = matches_loop;
       unwritten = unwritten_loop;
       still = λ e. absurd (let n : false ≡ true = ap (λ b. not b && inert) (sym laws.adjointed) ∙ e in cc);

@@ -46,12 +46,41 @@ module _ (q : Calls ℤ) (sh : Var → Shape) (level : ℕ) (cells : List Key) (
   abbrev counting : Code
   counting = one line (assign (helper count (suc d)) none (bin plus (var (helper count (suc d))) (literal 1)))
 
+  -- what is needed on the way: where the step call isn't kept, the loop does nothing to what is needed after it
+  abbrev pub needed_through : Bool → Vars
+  needed_through true = w.needed (point_inside i)
+  needed_through false = w.needed (point_after i)
+
+  abbrev needed_call : Bool → Vars
+  needed_call true = w.needed (point_before (suc i))
+  needed_call false = w.needed (point_after i)
+
+  abbrev needed_step : Bool → Vars
+  needed_step true = w.needed (point_after (suc i))
+  needed_step false = w.needed (point_after i)
+
+  pub enters : (k : Bool) (y : List ℕ) → name_eq y x ≡ false → In (plain y) (needed_through k) → In (plain y) (w.needed (point_before i))
+  enters true y n h = laws.entry_values.needs (plain y) (rw (h, n) refl)
+  enters false y n h = laws.entry_values.needs (plain y) (rw (laws.exit.values.needs (plain y) (rw h refl), n) refl)
+
+  pub leaves : (k : Bool) (v : Var) → In v (w.needed (point_after i)) → In v (needed_through k)
+  leaves true v h = laws.exit.values.needs v (rw h refl)
+  leaves false v h = h
+
+  calls_for : (k : Bool) (v : Var) → In v (needed_call k) → In v (needed_through k)
+  calls_for true v h = laws.inside.values.needs v (rw h refl)
+  calls_for false v h = h
+
+  steps_for : (k : Bool) (y : List ℕ) → name_eq y x ≡ false → In (plain y) (needed_through k) → In (plain y) (needed_step k)
+  steps_for true y n h = laws.step_values.needs (plain y) (rw (h, n) refl)
+  steps_for false y n h = h
+
   -- the step call, where it is kept
   record Mid (k : Bool) (j : ℕ) (base : Kept) (f : Store ℤ) (t : List ℤ) : Type 0 where
     to : Store ℤ
     calls : List Called
     goes : Goes q nw (code_if k plain_call) base f to t t calls []
-    same : SameOn sh (w.needed (point_after (suc i))) (U' j) to
+    same : SameOn sh (needed_step k) (U' j) to
     off : SameOff wr f to
     shades : (y : List ℕ) (c : ℕ) → to (shadow y) c ≡ f (shadow y) c
     helpers : (r : Role) (n c : ℕ) → to (helper r n) c ≡ f (helper r n) c
@@ -59,7 +88,7 @@ module _ (q : Calls ℤ) (sh : Var → Shape) (level : ℕ) (cells : List Key) (
   needs_later : (v : Var) → In v (w.needed (point_after (suc i))) → In v (w.needed (point_before (suc i)))
   needs_later v h = laws.call.values.needs v (rw h refl)
 
-  mid : (k : Bool) → w.marks.kept (suc i) ≡ k → (j : ℕ) → j < l → (base : Kept) (f : Store ℤ) (t : List ℤ) → SameOn sh (w.needed (point_before (suc i))) (U j) f → Mid k j base f t
+  mid : (k : Bool) → w.marks.kept (suc i) ≡ k → (j : ℕ) → j < l → (base : Kept) (f : Store ℤ) (t : List ℤ) → SameOn sh (needed_call k) (U j) f → Mid k j base f t
   mid true e j less base f t h =
       let c = s.again j base f t less (record { at = λ n a b o c lt. h.at a c lt (laws.call.needs_uses e n a b o) }) in
       record {
@@ -75,19 +104,19 @@ module _ (q : Calls ℤ) (sh : Var → Shape) (level : ℕ) (cells : List Key) (
     to = f;
     calls = [];
     goes = goes_stop q nw base f t;
-    same = record { at = λ y n lt o. h.at y n lt (needs_later (plain y) o) ∙ sym ((s.off j less).at y n (idle y o (beside given g.callee.dummies y) refl)) };
+    same = record { at = λ y n lt o. h.at y n lt o ∙ sym ((s.off j less).at y n (idle y o (beside given g.callee.dummies y) refl)) };
     off = record { at = λ y n o. refl };
     shades = λ y c. refl;
     helpers = λ r n c. refl;
   }
     where
       -- a call that isn't kept writes nothing that is needed
-      idle : (y : List ℕ) → In (plain y) (w.needed (point_after (suc i))) → (o : Option (List ℕ)) → beside given g.callee.dummies y ≡ o → wr (plain y) ≡ false
+      idle : (y : List ℕ) → In (plain y) (w.needed (point_after i)) → (o : Option (List ℕ)) → beside given g.callee.dummies y ≡ o → wr (plain y) ≡ false
       idle y h None b = rw b refl
       idle y h (Some n) b = go (g.callee.written (plain n)) refl
         where
           go : (v : Bool) → g.callee.written (plain n) ≡ v → wr (plain y) ≡ false
-          go true v = absurd (let c : true ≡ false = sym (laws.call.keeps n y (beside_back given g.callee.dummies apart' apart y n b) v h) ∙ e in cc)
+          go true v = absurd (let c : true ≡ false = sym (laws.keeps n y (beside_back given g.callee.dummies apart' apart y n b) v h) ∙ e in cc)
           go false v = rw (b, v) refl
 
   -- the turns from the j-th on
@@ -95,7 +124,7 @@ module _ (q : Calls ℤ) (sh : Var → Shape) (level : ℕ) (cells : List Key) (
     pub to : Store ℤ
     pub calls : List Called
     pub runs : TurnsGo q nw n (code_if (w.marks.kept (suc i)) plain_call +++ counting) (plain x) c0 base f to t t calls []
-    pub same : SameOn sh (w.needed (point_inside i)) (U (j + n)) to
+    pub same : SameOn sh (needed_through (w.marks.kept (suc i))) (U (j + n)) to
     pub off : SameOff (joined (just (plain x)) wr) f to
     pub shades : (y : List ℕ) (c : ℕ) → to (shadow y) c ≡ f (shadow y) c
     pub depth : SameDepth d f to
@@ -103,14 +132,14 @@ module _ (q : Calls ℤ) (sh : Var → Shape) (level : ℕ) (cells : List Key) (
     pub first_is : to (helper first (suc d)) 0 ≡ f (helper first (suc d)) 0
     pub stride_is : to (helper stride (suc d)) 0 ≡ f (helper stride (suc d)) 0
 
-  pub turns_forth : wr (plain x) ≡ false → (n j : ℕ) (base : Kept) (f : Store ℤ) (t : List ℤ) → j + n ≤ l → SameOn sh (w.needed (point_inside i)) (U j) f → f (plain x) 0 ≡ U j (plain x) 0 → f (helper count (suc d)) 0 ≡ pos j → TurnsForth n j base f t
+  pub turns_forth : wr (plain x) ≡ false → (n j : ℕ) (base : Kept) (f : Store ℤ) (t : List ℤ) → j + n ≤ l → SameOn sh (needed_through (w.marks.kept (suc i))) (U j) f → f (plain x) 0 ≡ U j (plain x) 0 → f (helper count (suc d)) 0 ≡ pos j → TurnsForth n j base f t
   turns_forth x_free zero j base f t fits h v c =
       let e : j + 0 ≡ j = omega arith in
       record {
         to = f;
         calls = [];
         runs = turns_go-none q nw (code_if (w.marks.kept (suc i)) plain_call +++ counting) (plain x) c0 base f t;
-        same = subst (λ z. SameOn sh (w.needed (point_inside i)) (U z) f) (sym e) h;
+        same = subst (λ z. SameOn sh (needed_through (w.marks.kept (suc i))) (U z) f) (sym e) h;
         off = record { at = λ y n o. refl };
         shades = λ y n. refl;
         depth = record { at = λ r n c lt le. refl };
@@ -120,16 +149,16 @@ module _ (q : Calls ℤ) (sh : Var → Shape) (level : ℕ) (cells : List Key) (
       }
   turns_forth x_free (suc n) j base f t fits h v c =
       let less : j < l = omega arith in
-      let k = mid (w.marks.kept (suc i)) refl j less base f t (record { at = λ y o lt a. h.at y o lt (laws.inside.values.needs (plain y) (rw a refl)) }) in
+      let k = mid (w.marks.kept (suc i)) refl j less base f t (record { at = λ y o lt a. h.at y o lt (calls_for (w.marks.kept (suc i)) (plain y) a) }) in
       let number = add (k.to (helper count (suc d)) 0) (pos 1) in
       let f2 = set k.to (helper count (suc d)) 0 number in
       let f3 = set f2 (plain x) 0 (add (f2 (plain x) 0) c0) in
       let turn = goes_silent_after q nw (code_if (w.marks.kept (suc i)) plain_call) counting base f k.to f2 t t t k.calls [] k.goes
       (λ b. leads_step q nw line (assign (helper count (suc d)) none (bin plus (var (helper count (suc d))) (literal 1))) stop (scene b k.to t) (scene b f2 t) (scene b f2 t) (λ o. refl) (leads_stop q nw (scene b f2 t))) in
       let value : f2 (plain x) 0 ≡ U' j (plain x) 0 = k.off.at x 0 x_free ∙ v ∙ sym ((s.off j less).at x 0 x_free) in
-      let same2 : SameOn sh (w.needed (point_after (suc i))) (U' j) f2 = record { at = λ y o lt a. k.same.at y o lt a } in
-      let same3 = same_set sh x one_cell (w.needed (point_after (suc i))) (w.needed (point_inside i)) (U' j) f2 (add (U' j (plain x) 0) c0) (add (f2 (plain x) 0) c0) (ap (λ z. add z c0) value) (λ y o a. laws.step_values.needs (plain y) (rw (a, o) refl)) same2 in
-      let same4 : SameOn sh (w.needed (point_inside i)) (U (suc j)) f3 = subst (λ (z : Store ℤ). SameOn sh (w.needed (point_inside i)) z f3) (sym (nexts j less)) same3 in
+      let same2 : SameOn sh (needed_step (w.marks.kept (suc i))) (U' j) f2 = record { at = λ y o lt a. k.same.at y o lt a } in
+      let same3 = same_set sh x one_cell (needed_step (w.marks.kept (suc i))) (needed_through (w.marks.kept (suc i))) (U' j) f2 (add (U' j (plain x) 0) c0) (add (f2 (plain x) 0) c0) (ap (λ z. add z c0) value) (λ y o a. steps_for (w.marks.kept (suc i)) y o a) same2 in
+      let same4 : SameOn sh (needed_through (w.marks.kept (suc i))) (U (suc j)) f3 = subst (λ (z : Store ℤ). SameOn sh (needed_through (w.marks.kept (suc i))) z f3) (sym (nexts j less)) same3 in
       let here : f3 (plain x) 0 ≡ U (suc j) (plain x) 0 = rw (name_refl x) (ap (λ z. add z c0) value) ∙ next_value j less in
       let up : f3 (helper count (suc d)) 0 ≡ pos (suc j) = rw (nat_refl (suc d)) (ap (λ z. add z (pos 1)) (k.helpers count (suc d) 0 ∙ c) ∙ count_up j (omega arith)) in
       let r = turns_forth x_free n (suc j) turn.later f3 t (omega arith) same4 here up in
@@ -138,7 +167,7 @@ module _ (q : Calls ℤ) (sh : Var → Shape) (level : ℕ) (cells : List Key) (
         to = r.to;
         calls = k.calls ++ r.calls;
         runs = turns_go-more q nw (code_if (w.marks.kept (suc i)) plain_call +++ counting) (plain x) c0 n base f f2 r.to t t t k.calls r.calls [] [] turn r.runs;
-        same = subst (λ z. SameOn sh (w.needed (point_inside i)) (U z) r.to) e r.same;
+        same = subst (λ z. SameOn sh (needed_through (w.marks.kept (suc i))) (U z) r.to) e r.same;
         off = record { at = λ y o a. let b = or_false (name_eq y x) (wr (plain y)) a in r.off.at y o a ∙ rw b.0 (k.off.at y o b.1) };
         shades = λ y o. r.shades y o ∙ k.shades y o;
         depth = record { at = λ o z a lt le. r.depth.at o z a lt le ∙ rw (other_depth d (role_code o) 5 z le) (k.helpers o z a) };

@@ -39,7 +39,7 @@ use Rattle.adj_reverse.proofs.Goings.{loop_goes}
 use Rattle.adj_reverse.proofs.Playing.{changes, loops_of}
 use Rattle.adj_reverse.specs.Steps.{Steps}
 use Rattle.adj_reverse.proofs.StepRuns.{NumbersFit, numbers_few}
-use Rattle.adj_reverse.proofs.ReversedForth.{turns_forth}
+use Rattle.adj_reverse.proofs.ReversedForth.{needed_through, enters, leaves, turns_forth}
 use Rattle.adj_reverse.proofs.ReversedRows.{reversed_back, own_run, wr, snap, saves}
 
 module _ (q : Calls ℤ) (sh : Var → Shape) (level : ℕ) (cells : List Key) (d line : ℕ) (p : Plan) (known : KnowsArrays p sh) (x : List ℕ) (one_cell : size_of (sh (plain x)) ≡ 1) (l m : ℕ) (a0 b0 c0 : ℤ) (g : CalleeFacts) (given : List (List ℕ)) (apart : AreApart g.callee.dummies) (apart' : AreApart given) (name : List ℕ) (change : ℕ → Words → Words) (loops : ℕ → List LoopRun) (U U' : ℕ → Store ℤ)
@@ -90,7 +90,7 @@ module _ (q : Calls ℤ) (sh : Var → Shape) (level : ℕ) (cells : List Key) (
   uses_c : Within (λ v. reads_term v ec) needed
   uses_c v h = laws.needs_uses v (or_right (reads_term v ea) (reads_term v eb || reads_term v ec) (or_right (reads_term v eb) (reads_term v ec) h))
 
-  pub reversed_row : wrote (plain x) ≡ false → (at : ℕ) (b : Kept) (f : Store ℤ) (t : List ℤ) → SameOn sh needed u f → ReversedRow q sh level cells d x (joined (just (plain x)) wrote) (w.needed (point_inside i)) (w.held (point_after i)) (w.held (point_before i)) forth back b (U l) f t (changes change 0 l) (run_at at ∷ loops_of loops 0 l)
+  pub reversed_row : wrote (plain x) ≡ false → (at : ℕ) (b : Kept) (f : Store ℤ) (t : List ℤ) → SameOn sh needed u f → ReversedRow q sh level cells d x (joined (just (plain x)) wrote) (w.needed (point_after i)) (w.held (point_after i)) (w.held (point_before i)) forth back b (U l) f t (changes change 0 l) (run_at at ∷ loops_of loops 0 l)
   reversed_row x_free at b f t same =
       let f1 = set f (helper first (suc d)) 0 a0 in
       let f2 = set f1 (helper stride (suc d)) 0 c0 in
@@ -106,8 +106,9 @@ module _ (q : Calls ℤ) (sh : Var → Shape) (level : ℕ) (cells : List Key) (
       let taken = group_pushed q sh level p line known snapshot f3 in
       let t1 = saved.trail ++ t in
       let t2 = taken.trail ++ t1 in
-      let same4 : SameOn sh (w.needed (point_inside i)) (U 0) f4 =
-      subst (λ (z : Store ℤ). SameOn sh (w.needed (point_inside i)) z f4) (sym starts) (same_set sh x one_cell needed (w.needed (point_inside i)) u f3 (wrap a0) (wrap a0) refl (λ y n h. laws.entry_values.needs (plain y) (rw (h, n) refl)) same3) in
+      let through = needed_through q sh level cells d line p known x one_cell l m a0 c0 g given apart apart' name change loops U U' w i ea eb ec laws numbers.small s nexts (w.marks.kept (suc i)) in
+      let same4 : SameOn sh through (U 0) f4 =
+      subst (λ (z : Store ℤ). SameOn sh through z f4) (sym starts) (same_set sh x one_cell needed through u f3 (wrap a0) (wrap a0) refl (λ y n h. enters q sh level cells d line p known x one_cell l m a0 c0 g given apart apart' name change loops U U' w i ea eb ec laws numbers.small s nexts (w.marks.kept (suc i)) y n h) same3) in
       let value4 : f4 (plain x) 0 ≡ U 0 (plain x) 0 = rw (name_refl x) (sym (ap (λ (z : Store ℤ). z (plain x) 0) starts ∙ rw (name_refl x) refl)) in
       let r = turns_forth q sh level cells d line p known x one_cell l m a0 c0 g given apart apart' name change loops U U' w i ea eb ec laws numbers.small s nexts x_free l 0 b f4 t2 (omega arith) same4 value4 count_is in
       let looped = loop_goes q nw line (plain x) (var (helper first (suc d))) eb (var (helper stride (suc d))) (kept_call +++ one line (assign (helper count (suc d)) none (bin plus (var (helper count (suc d))) (literal 1)))) b f3 r.to t2 t2 a0 b0 c0 l r.calls []
@@ -138,7 +139,7 @@ module _ (q : Calls ℤ) (sh : Var → Shape) (level : ℕ) (cells : List Key) (
               (leads_append q nw (pushes p line snapshot) _ (scene b f3 t1) (scene b f3 t2) (scene after r.to full) (taken.pushed b t1)
               (leads_act q nw line (loop (plain x) (var (helper first (suc d))) eb (var (helper stride (suc d))) (kept_call +++ one line (assign (helper count (suc d)) none (bin plus (var (helper count (suc d))) (literal 1)))) unmarked) _ (scene b f3 t2) (scene after r.to t2) (scene after r.to full) looped.runs tail))))));
         };
-        same = subst (λ z. SameOn sh (w.needed (point_inside i)) (U z) r.to) none_else r.same;
+        same = subst (λ z. SameOn sh (w.needed (point_after i)) (U z) r.to) none_else (record { at = λ y j lt h. r.same.at y j lt (leaves q sh level cells d line p known x one_cell l m a0 c0 g given apart apart' name change loops U U' w i ea eb ec laws numbers.small s nexts (w.marks.kept (suc i)) (plain y) h) });
         off = off_all;
         shades = λ y j. r.shades y j;
         depth = λ o n c lt le. r.depth.at o n c lt le ∙ rw (other_depth d (role_code o) 5 n le, other_depth d (role_code o) 4 n le, other_depth d (role_code o) 3 n le) refl;

@@ -187,9 +187,8 @@ pub record PassingLaws (w : Facts) (i : ℕ) (g : CalleeFacts) (given : List (Li
   -- a call assigns no variable whole, and the tangents of its actuals go through the unit
   pub values : ValueLaws w nothing nothing (point_before i) (point_after i)
   pub tangents : TangentLaws w.marks (among g.callee.dummies given) (point_before i) (point_after i)
-  -- needed: what the unit reads, where the call is kept; it is kept where an actual that it writes is needed
+  -- needed: what the unit reads, where the call is kept
   pub needs_uses : w.marks.kept i ≡ true → (d a : List ℕ) → IsActual g.callee.dummies given d a → In (plain d) g.read → In (plain a) (w.needed (point_before i))
-  pub keeps : (d a : List ℕ) → IsActual g.callee.dummies given d a → In (plain d) g.callee.written → In (plain a) (w.needed (point_after i)) → w.marks.kept i ≡ true
   -- varied and useful go from actuals to dummies at the entry, and back at the end
   pub varies_in : (d a : List ℕ) → IsActual g.callee.dummies given d a → In (plain a) (w.marks.varied (point_before i)) → In (plain d) (g.facts.marks.varied g.entry)
   pub serves_in : (d a : List ℕ) → IsActual g.callee.dummies given d a → In (plain d) (g.facts.marks.useful g.entry) → In (plain a) (w.marks.useful (point_before i))
@@ -212,6 +211,8 @@ pub record ReversedLaws (w : Facts) (i : ℕ) (x : List ℕ) (a b c : Term) (g :
   -- saved: what is written and held before it, and its variable
   pub saves : (d y : List ℕ) → IsActual g.callee.dummies given d y → In (plain d) g.callee.written → In (plain y) (w.held (point_before i)) → In (plain y) (w.marks.saved i)
   pub saves_variable : In (plain x) (w.held (point_before i)) → In (plain x) (w.marks.saved i)
+  -- the step call is kept where an actual that it writes is needed after the loop
+  pub keeps : (d y : List ℕ) → IsActual g.callee.dummies given d y → In (plain d) g.callee.written → In (plain y) (w.needed (point_after i)) → w.marks.kept (suc i) ≡ true
   -- the ways of a DO
   pub entry_values : ValueLaws w (just (plain x)) (just (plain x)) (point_before i) (point_inside i)
   pub entry_tangents : TangentLaws w.marks (just (plain x)) (point_before i) (point_inside i)

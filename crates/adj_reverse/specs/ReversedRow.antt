@@ -13,7 +13,7 @@ use Rattle.adj_transpose.specs.Pairs.{Key, Words, shadows, on_words}
 use Rattle.adj_transpose.specs.Lists.{Kept}
 use Rattle.adj_reverse.specs.Plan.{Step, writes_actual}
 use Rattle.adj_reverse.specs.ReversalCode.{row_forward, row_backward}
-use Rattle.adj_reverse.specs.Laws.{just, point_inside, CalleeFacts}
+use Rattle.adj_reverse.specs.Laws.{just, CalleeFacts}
 use Rattle.adj_reverse.specs.Laws.{ReversedLaws}
 use Rattle.adj_reverse.specs.Kernel.{AllText}
 use Rattle.adj_reverse.specs.Passing.{plainly}
@@ -62,5 +62,5 @@ ReversedRowsTurn =
     (at : ℕ) (base : Kept) (f : Store ℤ) (t : List ℤ) → SameOn sh (w.needed (point_before i)) u f →
     let s : Step = record { name = name; given = given; read = g.read; snapshots = m } in
     let run : LoopRun = record { mark = record { line = at; turns = l; snapshots = m }; step = step_units name g.callee g.read } in
-    ReversedRow q sh level cells d x (joined (just (plain x)) (writes_actual g.callee given)) (w.needed (point_inside i)) (w.held (point_after i)) (w.held (point_before i))
+    ReversedRow q sh level cells d x (joined (just (plain x)) (writes_actual g.callee given)) (w.needed (point_after i)) (w.held (point_after i)) (w.held (point_before i))
     (row_forward p i (suc d) line x a b c s) (row_backward p i (suc d) line x s) base (U l) f t (changes change 0 l) (run ∷ loops_of loops 0 l)
