@@ -1,6 +1,6 @@
 -- What is emitted by the marks of exact analyses for a checked program in kernel form is its adjoint.
-use Rattle.std.proofs.Common.{◌≡◌, ℕ, List, [], ◌∷◌, Bool, true, sym, ap, ◌∙◌, subst}
-use Rattle.std.specs.Prelude.{Contains, IsTrue, Some, length}
+use Rattle.std.proofs.Common.{◌≡◌, ℕ, List, [], ◌∷◌, Bool, true, false, sym, ap, ◌∙◌, subst}
+use Rattle.std.specs.Prelude.{Contains, IsTrue, Some, None, length}
 use Rattle.adj_tree.specs.Code.{plain, name_eq, Procedure}
 use Rattle.adj_tree.proofs.Names.{name_refl}
 use Rattle.adj_meaning.specs.Written.{find_unit}
@@ -12,15 +12,16 @@ use Rattle.adj_transpose.specs.Marks.{Vars}
 use Rattle.adj_transpose.specs.Facts.{In}
 use Rattle.adj_transpose.specs.Program.{unit_at}
 use Rattle.adj_transpose.specs.MarkedAdjoint.{SuitHead}
-use Rattle.adj_reverse.specs.Laws.{CalleeFacts, UnitLaws}
+use Rattle.adj_reverse.specs.Laws.{CalleeFacts, UnitLawsBy}
+use Rattle.adj_reverse.specs.Theorem.{schedules_by}
 use Rattle.adj_reverse.specs.Marking.{ProgramFacts, callee_facts, facts_in, first_statement, entry_point, end_point}
 use Rattle.adj_reverse.specs.Program.{is_reached}
 use Rattle.adj_reverse.proofs.EmittedUnits.{found_there}
-use Rattle.adj_checked.specs.Checked.{IsChecked, AreLawfulFor}
+use Rattle.adj_checked.specs.Checked.{IsChecked, AreLawfulForWith}
 use Rattle.adj_checked.proofs.Lists.{Each, each_unit, each_found}
 use Rattle.adj_checked.proofs.Statements.{CallHasNone}
 use Rattle.adj_checked.proofs.Callings.{roots_reached}
-use Rattle.adj_checked.proofs.Premises.{units_apart, found, all_calls, calls_known, written, kernel, extent_is_dummy, reached_is_adjoint}
+use Rattle.adj_checked.proofs.Premises.{units_apart, found, all_calls, calls_known, written, kernel, extent_is_dummy, no_lines, reached_is_adjoint}
 use Rattle.adj_facts.specs.Reached.{begins}
 use Rattle.adj_facts.specs.Parts.{Part, parts, statements_in, find_part}
 use Rattle.adj_facts.specs.Problem.{Problem, IsHead, TakesPart, flagged}
@@ -30,13 +31,13 @@ use Rattle.adj_facts.specs.Live.{Liveness}
 use Rattle.adj_facts.specs.Laws.{Analysed}
 use Rattle.adj_facts.proofs.Straight.{flagged_has, head_part}
 use Rattle.adj_facts.proofs.Statements.{entries_are_closed}
-use Rattle.adj_analysed.specs.Meets.{program_facts, IsPlainCode, IsUnmarked, AnalysedIsAdjoint}
+use Rattle.adj_analysed.specs.Meets.{program_facts, IsPlainCode, IsUnmarked, HasLiteralMarks, AnalysedIsAdjoint, AnalysedReverses}
 use Rattle.adj_analysed.proofs.Numbers.{Placed, placed}
 use Rattle.adj_analysed.proofs.Meets.{some_same, has_contains, analysed_meets}
-use Rattle.adj_analysed.proofs.Checked.{plain_code, part_found}
+use Rattle.adj_analysed.proofs.Checked.{MarksFit, unmarked_fit, literal_fit, plain_code, part_found}
 use Rattle.adj_analysed.proofs.Reaching.{taking, reached_closed}
 
-module _ (rules : Rules) (k : Problem) (checked : IsChecked rules k.units) (free : EachUnit (λ u. IsUnmarked u.body) k.units) (a : activity.Activity) (l : Liveness) (saved held : ℕ → Vars) (y : Analysed k a l saved held) where
+module _ (rules : Rules) (k : Problem) (checked : IsChecked rules k.units) (sb : Bool) (free : EachUnit (λ u. MarksFit sb u.body) k.units) (a : activity.Activity) (l : Liveness) (saved held : ℕ → Vars) (y : Analysed k a l saved held) where
   abbrev w : ProgramFacts
   w = program_facts k.units a l saved held
 
@@ -45,11 +46,11 @@ module _ (rules : Rules) (k : Problem) (checked : IsChecked rules k.units) (free
 
   -- ---- each unit
 
-  plain_unit : (name : List ℕ) (u : Procedure) → find_unit k.units name ≡ Some u → IsPlainCode k.units u.body
+  plain_unit : (name : List ℕ) (u : Procedure) → find_unit k.units name ≡ Some u → IsPlainCode sb k.units u.body
   plain_unit name u f =
       let text = written rules k.units checked name u f in
-      plain_code k.units u u.body text.body (kernel rules k.units checked name u f) (each_found (λ u. Each (CallHasNone k.units u) (statements u.body)) k.units (all_calls rules k.units checked) name u f)
-      (each_found (λ u. IsUnmarked u.body) k.units (each_unit (λ u. IsUnmarked u.body) k.units free) name u f)
+      plain_code sb k.units u u.body text.body (kernel rules k.units checked name u f) (each_found (λ u. Each (CallHasNone k.units u) (statements u.body)) k.units (all_calls rules k.units checked) name u f)
+      (each_found (λ u. MarksFit sb u.body) k.units (each_unit (λ u. MarksFit sb u.body) k.units free) name u f)
 
   -- ---- the head
 
@@ -87,13 +88,13 @@ module _ (rules : Rules) (k : Problem) (checked : IsChecked rules k.units) (free
         let there = placed k.units name t.part t.finds in
         record { part = t.part; finds = t.finds; unit = some_same t.part.unit v (sym there.found ∙ f); there = there; takes = t.takes }
 
-    unit_laws : (name : List ℕ) (u : Procedure) → find_unit k.units name ≡ Some u → IsTrue (reached name) → UnitLaws gf (gf name) (first_statement k.units name) u.body
+    unit_laws : (name : List ℕ) (u : Procedure) → find_unit k.units name ≡ Some u → IsTrue (reached name) → UnitLawsBy (schedules_by sb gf) gf (gf name) (first_statement k.units name) u.body
     unit_laws name u f c =
         let p = part_of name u f c in
         let same : p.part.unit.name ≡ name = ap (λ z. z.name) p.unit ∙ (found_there k.units name u f).1 in
-        let laws : UnitLaws gf (gf p.part.unit.name) (first_statement k.units p.part.unit.name) p.part.unit.body =
-        analysed_meets k a l saved held y p.part p.takes (ap (find_part (parts k.units)) same ∙ p.finds) (subst (λ v. IsPlainCode k.units v.body) (sym p.unit) (plain_unit name u f)) in
-        subst (λ v. UnitLaws gf (gf name) (first_statement k.units name) v.body) p.unit (subst (λ n. UnitLaws gf (gf n) (first_statement k.units n) p.part.unit.body) same laws)
+        let laws : UnitLawsBy (schedules_by sb gf) gf (gf p.part.unit.name) (first_statement k.units p.part.unit.name) p.part.unit.body =
+        analysed_meets sb k a l saved held y p.part p.takes (ap (find_part (parts k.units)) same ∙ p.finds) (subst (λ v. IsPlainCode sb k.units v.body) (sym p.unit) (plain_unit name u f)) in
+        subst (λ v. UnitLawsBy (schedules_by sb gf) gf (gf name) (first_statement k.units name) v.body) p.unit (subst (λ n. UnitLawsBy (schedules_by sb gf) gf (gf n) (first_statement k.units n) p.part.unit.body) same laws)
 
     unit_extents : (name : List ℕ) (u : Procedure) → find_unit k.units name ≡ Some u → IsTrue (reached name) → (d : List ℕ) → is_extent d u.declarations ≡ true → In (plain d) (w.marks.members name)
     unit_extents name u f c d h =
@@ -103,7 +104,7 @@ module _ (rules : Rules) (k : Problem) (checked : IsChecked rules k.units) (free
         let among : Contains p.part.unit.dummies d = subst (λ v. Contains v.dummies d) (sym p.unit) (has_contains d u.dummies (extent_is_dummy rules k.units checked name u f d h)) in
         subst (λ n. l.wanted n d ≡ true) there.number (o.extents d among (subst (λ v. is_extent d v.declarations ≡ true) (sym p.unit) h))
 
-    lawful : AreLawfulFor w k.units top
+    lawful : AreLawfulForWith sb w k.units top
     lawful = record {
       reached = reached;
       head_reached = roots_reached (name_eq head.part.unit.name) (λ i. true) k.units top.name top there_is top.name (ap (λ z. name_eq z.name top.name) head.unit ∙ name_refl top.name);
@@ -134,6 +135,18 @@ module _ (rules : Rules) (k : Problem) (checked : IsChecked rules k.units) (free
               ((active.shadowed g.part.number (plain x)).1 (begins (activity.dependent g.is (subst (λ v. Contains (flagged k.outvars v.dummies) x) (sym g.unit) (flagged_has top.dummies k.outvars x m)))));
         }
 
+-- what holds of each unit
+each_more_unit : (P Q : Procedure → Type 0) → ((u : Procedure) → P u → Q u) → (us : List Procedure) → EachUnit P us → EachUnit Q us
+each_more_unit P Q f [] h = tt
+each_more_unit P Q f (u ∷ us) h = (f u h.0, each_more_unit P Q f us h.1)
+
 pub analysed_is_adjoint : AnalysedIsAdjoint
 analysed_is_adjoint rules k checked free a l saved held y u at =
-    reached_is_adjoint rules k.units checked (program_facts k.units a l saved held) k.head k.vars k.outvars u at (lawful rules k checked free a l saved held y u at) (suits rules k checked free a l saved held y u at)
+    let fit = each_more_unit (λ u. IsUnmarked u.body) (λ u. MarksFit false u.body) (λ u h. unmarked_fit u.body h) k.units free in
+    let w = program_facts k.units a l saved held in
+    reached_is_adjoint rules k.units checked w k.head k.vars k.outvars u at false (λ line. None) (lawful rules k checked false fit a l saved held y u at) (no_lines w k.units) (suits rules k checked false fit a l saved held y u at)
+
+pub analysed_reverses : AnalysedReverses
+analysed_reverses rules k checked literal a l saved held y u at lines tells =
+    let fit = each_more_unit (λ u. HasLiteralMarks u.body) (λ u. MarksFit true u.body) (λ u h. literal_fit u.body h) k.units literal in
+    reached_is_adjoint rules k.units checked (program_facts k.units a l saved held) k.head k.vars k.outvars u at true lines (lawful rules k checked true fit a l saved held y u at) tells (suits rules k checked true fit a l saved held y u at)

@@ -1,21 +1,21 @@
 -- What exact analyses say meets the laws of calls.
-use Rattle.std.proofs.Common.{◌≡◌, inl, inr, ℕ, List, [], Bool, true, false, refl, sym, ap, ◌∙◌, subst}
-use Rattle.std.specs.Prelude.{Contains, ◌&&◌, Option, Some}
-use Rattle.adj_tree.specs.Code.{Var, plain, call, Procedure}
+use Rattle.std.proofs.Common.{◌≡◌, ◌⊎◌, inl, inr, ℕ, suc, List, [], Bool, true, false, refl, sym, ap, ◌∙◌, subst}
+use Rattle.std.specs.Prelude.{Contains, ◌&&◌, ◌||◌, Option, Some}
+use Rattle.adj_tree.specs.Code.{Var, plain, name_eq, call, Procedure}
 use Rattle.adj_meaning.specs.Written.{is_written, handed_back, is_handed_back}
 use Rattle.adj_meaning.specs.Read.{is_read, read_rule, looked_at, reads_actuals}
 use Rattle.adj_meaning.proofs.LeastSets.{least_row}
 use Rattle.adj_meaning.proofs.WriteSets.{handed_written}
 use Rattle.adj_meaning.proofs.ReadSets.{read_rises}
 use Rattle.adj_transpose.specs.Marks.{Vars, point_before, point_after}
-use Rattle.adj_transpose.specs.Facts.{In, without, Facts}
-use Rattle.adj_transpose.proofs.Variables.{or_left, not_true}
+use Rattle.adj_transpose.specs.Facts.{In, without, joined, Facts}
+use Rattle.adj_transpose.proofs.Variables.{or_left, or_right, not_true}
 use Rattle.adj_reverse.specs.Plan.{IsActual, actuals_named}
 use Rattle.adj_reverse.specs.Kernel.{AsMany}
-use Rattle.adj_reverse.specs.Laws.{CalleeFacts, CallLaws, is_plain, among}
+use Rattle.adj_reverse.specs.Laws.{point_inside, CalleeFacts, PassingLaws, CallLaws, is_plain, among}
 use Rattle.adj_reverse.specs.Marking.{ProgramFacts, facts_in, marks_in, callee_of, callee_facts, dummy_set, read_by, plain_by, place_from, first_statement, entry_point, end_point}
 use Rattle.adj_facts.specs.Parts.{Part, parts, find_part}
-use Rattle.adj_facts.specs.Ways.{calling, way, is_actual, assigned_on, passed_on}
+use Rattle.adj_facts.specs.Ways.{assigning, calling, way, is_actual, assigned_on, passed_on}
 use Rattle.adj_facts.specs.Standing.{Place, outermost, part_of, turn_of, Standing}
 use Rattle.adj_facts.specs.Problem.{Problem, statements_of, ways_of, CallsUnit, TakesPart}
 use Rattle.adj_facts.specs.Activity.{Activity, IsPoint}
@@ -30,12 +30,13 @@ use Rattle.adj_analysed.specs.Meets.{program_facts}
 use Rattle.adj_analysed.proofs.Given.{bound_has, handed_named, read_named, passed_among, plain_list}
 use Rattle.adj_analysed.proofs.Lists.{values}
 use Rattle.adj_analysed.proofs.Numbers.{Placed}
+use Rattle.adj_analysed.proofs.TurnLaws.{TurnLaws}
 
--- outside of marked loops a call does its work at itself
-site_same : (at : Place) → is_turn at ≡ false → (b : Bool) (n : ℕ) → site b n at ≡ n
-site_same outermost h b n = refl
-site_same (part_of i) h b n = refl
-site_same (turn_of i x) h b n = absurd cc
+-- a call does its work at itself, but where it makes the turns of a marked loop and is adjointed
+site_home : (at : Place) (b : Bool) → (is_turn at ≡ true → b ≡ false) → (n : ℕ) → site b n at ≡ n
+site_home outermost b h n = refl
+site_home (part_of i) b h n = refl
+site_home (turn_of i x) b h n = ap (λ z. site z n (turn_of i x)) (h refl)
 
 turned_none : (at : Place) → is_turn at ≡ false → (v : Var) → turned_by at v ≡ false
 turned_none outermost h v = refl
@@ -67,7 +68,7 @@ module _ (k : Problem) (a : Activity) (l : Liveness) (saved held : ℕ → Vars)
   }
 
   -- the call of the unit g under its name
-  module _ (i : ℕ) (at : Place) (name : List ℕ) (given : List (List ℕ)) (ordinary : is_turn at ≡ false) (own : Contains (statements_of f) (record { number = i; place = at; act = call name (actuals_named given) })) (g : Part) (finds : find_part (parts k.units) name ≡ Some g) (there : Placed k.units name g) (many : AsMany g.unit.dummies given) where
+  module _ (i : ℕ) (at : Place) (name : List ℕ) (given : List (List ℕ)) (own : Contains (statements_of f) (record { number = i; place = at; act = call name (actuals_named given) })) (g : Part) (finds : find_part (parts k.units) name ≡ Some g) (there : Placed k.units name g) (many : AsMany g.unit.dummies given) where
     abbrev s : Standing
     s = record { number = i; place = at; act = call name (actuals_named given) }
 
@@ -98,10 +99,9 @@ module _ (k : Problem) (a : Activity) (l : Liveness) (saved held : ℕ → Vars)
         subst (λ n. is_plain (marks_in facts.marks name) n g.unit.body ≡ true) there.first
         (plain_list (marks_in facts.marks name) outermost g.first g.unit.body (λ t c. not_true (a.adjointed t.number) (λ e. let p : true ≡ false = sym (said.adjoints t c e) ∙ h in cc)))
 
-    pub call_laws : CallLaws w i (known name (Some g.unit)) given
-    call_laws =
+    pub passing_laws : PassingLaws w i (known name (Some g.unit)) given
+    passing_laws =
         let o = unit.ways (way (point_before i) (point_after i) (calling (actuals_named given))) over in
-        let here = site_same at ordinary in
         record {
           values = values k.units (callee_facts facts k.units) w f unit stated (point_before i) (point_after i) (calling (actuals_named given)) over;
           tangents = record {
@@ -115,18 +115,63 @@ module _ (k : Problem) (a : Activity) (l : Liveness) (saved held : ℕ → Vars)
                 (left_make (a.useful (point_after i)) (assigned_on (calling (actuals_named given))) v (left_in (a.useful (point_after i)) (among ds given) v h) refl) (not_passed v (left_out (a.useful (point_after i)) (among ds given) v h)));
             shadows = λ v. let p : IsPoint f (point_after i) = (way (point_before i) (point_after i) (calling (actuals_named given)), over, inr refl) in unit.shadows (point_after i) (point_after i) v p p;
           };
-          needs_members = λ h d x act m. subst (λ n. In (plain x) (l.needed (point_before n))) (here true i) (said.members h d (plain x) (bound_has ds given d x act) (turned_none at ordinary (plain x)) (inl m));
           needs_uses = λ h d x act m. (stated s own).kept h (plain x) (reads_it d x act m);
-          keeps = λ d x act m h. said.keeps (plain x) (writes_it d x act m) (subst (λ n. In (plain x) (l.needed (point_after n))) (sym (here (a.adjointed i) i)) h);
-          holds_reads = λ h d x act m n.
-              said.holds h d (plain x) (bound_has ds given d x act) (turned_none at ordinary (plain x)) (or_left (l.wanted (place_from 0 k.units name) d) (is_turn at && is_read k.units g.unit d) m) n f part (way (point_before i) (point_after i) (calling (actuals_named given))) over (ap point_before (sym (here true i))) refl;
-          saves = λ h d x act m e.
-              subst (λ n. In (plain x) (saved n)) (here (a.adjointed i) i) (said.saves h (plain x) (writes_it d x act m) (subst (λ n. In (plain x) (held (point_before n))) (sym (here (a.adjointed i) i)) e));
           varies_in = λ d x act h. subst (λ p. In (plain d) (a.varied p)) there.entry (said.enters d (plain x) (bound_has ds given d x act) h);
           serves_in = λ d x act h. said.serves d (plain x) (bound_has ds given d x act) (subst (λ p. In (plain d) (a.useful p)) (sym there.entry) h);
           varies_out = λ d x act h. said.leaves d (plain x) (bound_has ds given d x act) (subst (λ p. In (plain d) (a.varied p)) (sym there.end) h);
           serves_out = λ d x act h. subst (λ p. In (plain d) (a.useful p)) there.end (said.asks d (plain x) (bound_has ds given d x act) h);
           shadows_actual = λ d x act h. said.lends d (plain x) (bound_has ds given d x act) h;
           shadows_dummy = λ d x act h e. said.borrows d (plain x) (bound_has ds given d x act) e (subst (λ p. In (plain d) (a.varied p)) (sym there.entry) h);
+        }
+
+    -- a call that does its work at itself
+    pub call_laws : (is_turn at ≡ true → a.adjointed i ≡ false) → CallLaws w i (known name (Some g.unit)) given
+    call_laws home =
+        let p = passing_laws in
+        let here = site_home at (a.adjointed i) home i in
+        let ordinary = λ (h : a.adjointed i ≡ true). not_true (is_turn at) (λ e. let c : true ≡ false = sym h ∙ home e in cc) in
+        let here_adjointed = λ (h : a.adjointed i ≡ true). site_home at true (λ e. let c : true ≡ false = sym e ∙ ordinary h in absurd cc) i in
+        record {
+          values = p.values;
+          tangents = p.tangents;
+          needs_members = λ h d x act m. subst (λ n. In (plain x) (l.needed (point_before n))) (here_adjointed h) (said.members h d (plain x) (bound_has ds given d x act) (turned_none at (ordinary h) (plain x)) (inl m));
+          needs_uses = p.needs_uses;
+          keeps = λ d x act m h. said.keeps (plain x) (writes_it d x act m) (subst (λ n. In (plain x) (l.needed (point_after n))) (sym here) h);
+          holds_reads = λ h d x act m n.
+              said.holds h d (plain x) (bound_has ds given d x act) (turned_none at (ordinary h) (plain x)) (or_left (l.wanted (place_from 0 k.units name) d) (is_turn at && is_read k.units g.unit d) m) n f part (way (point_before i) (point_after i) (calling (actuals_named given))) over (ap point_before (sym (here_adjointed h))) refl;
+          saves = λ h d x act m e.
+              subst (λ n. In (plain x) (saved n)) here (said.saves h (plain x) (writes_it d x act m) (subst (λ n. In (plain x) (held (point_before n))) (sym here) e));
+          varies_in = p.varies_in;
+          serves_in = p.serves_in;
+          varies_out = p.varies_out;
+          serves_out = p.serves_out;
+          shadows_actual = p.shadows_actual;
+          shadows_dummy = p.shadows_dummy;
           adjoints = plain_unit;
         }
+
+  -- the step call of the j-th statement, a marked loop with variable x that is reversed by a schedule
+  module _ (j : ℕ) (x : List ℕ) (name : List ℕ) (given : List (List ℕ)) (own : Contains (statements_of f) (record { number = suc j; place = turn_of j (plain x); act = call name (actuals_named given) })) (g : Part) (finds : find_part (parts k.units) name ≡ Some g) (there : Placed k.units name g) (many : AsMany g.unit.dummies given) where
+    pub turn_laws : a.adjointed (suc j) ≡ true → Contains (ways_of f) (way (point_before j) (point_inside j) (assigning j (plain x))) → TurnLaws w j x (known name (Some g.unit)) given
+    turn_laws adj enters =
+        let s : Standing = record { number = suc j; place = turn_of j (plain x); act = call name (actuals_named given) } in
+        let at = turn_of j (plain x) in
+        let ds = g.unit.dummies in
+        let here : site (a.adjointed (suc j)) (suc j) at ≡ j = ap (λ b. site b (suc j) at) adj in
+        let o = said (suc j) at name given own g finds there many in
+        record {
+          needs_members = λ d y act m n. o.members adj d (plain y) (bound_has ds given d y act) n (either_of (l.wanted (place_from 0 k.units name) d) (is_read k.units g.unit d) m);
+          holds_reads = λ d y act m v n. o.holds adj d (plain y) (bound_has ds given d y act) n m v f part (way (point_before j) (point_inside j) (assigning j (plain x))) enters refl (ap (λ b. l.kept j && b) n ∙ and_none (l.kept j));
+          saves = λ d y act m h.
+              subst (λ n. In (plain y) (saved n)) here (o.saves (or_right (l.kept (suc j)) (a.adjointed (suc j)) adj) (plain y) (writes_it (suc j) at name given own g finds there many d y act m) (subst (λ n. In (plain y) (held (point_before n))) (sym here) h));
+          keeps = λ d y act m h. o.keeps (plain y) (writes_it (suc j) at name given own g finds there many d y act m) (subst (λ n. In (plain y) (l.needed (point_after n))) (sym here) h);
+          call = passing_laws (suc j) at name given own g finds there many;
+        }
+      where
+        and_none : (b : Bool) → (b && false) ≡ false
+        and_none true = refl
+        and_none false = refl
+
+        either_of : (b c : Bool) → (b || c) ≡ true → (b ≡ true) ⊎ ((true ≡ true) × (c ≡ true))
+        either_of true c h = inl refl
+        either_of false c h = inr (refl, h)

@@ -1,5 +1,6 @@
 -- The proofs that the marks of exact analyses meet the laws.
 pub mod Occurring
+pub mod TurnLaws
 pub mod Lists
 pub mod Numbers
 pub mod Given

@@ -1,16 +1,16 @@
 -- What meets the laws way by way and statement by statement meets those of lists, of every kind of statement.
-use Rattle.std.proofs.Common.{◌≡◌, inl, inr, ℕ, suc, List, [], ◌∷◌, ◌++◌, Bool, true, false, refl, sym, ◌∙◌, subst}
-use Rattle.std.specs.Prelude.{Contains, ◌||◌, ◌&&◌, not}
+use Rattle.std.proofs.Common.{◌≡◌, inl, inr, ℕ, suc, List, [], ◌∷◌, ◌++◌, Bool, true, false, refl, sym, ap, ◌∙◌, subst, if◌then◌else◌}
+use Rattle.std.specs.Prelude.{Contains, ◌||◌, ◌&&◌, not, None}
 use Rattle.std.proofs.lemmas.List.Elements.{Contains-append_left, Contains-append_right}
-use Rattle.adj_tree.specs.Code.{Var, Term, Terms, none, more, Mark, unmarked, with_count, count_from, Act, assign, choose, loop, during, call, runtime, Code, stop, step, Procedure}
-use Rattle.adj_meaning.specs.Read.{reads_term}
+use Rattle.adj_tree.specs.Code.{Var, plain, var_eq, Term, Terms, none, more, Mark, unmarked, with_count, count_from, Act, assign, choose, loop, during, call, runtime, Code, stop, step, Procedure}
+use Rattle.adj_meaning.specs.Read.{reads_term, reads_mark}
 use Rattle.adj_transpose.specs.Marks.{next, behind, point_before, point_after}
 use Rattle.adj_transpose.specs.Facts.{In, without, vars_if, whole, Facts}
 use Rattle.adj_transpose.proofs.Variables.{and_true, not_true}
-use Rattle.adj_reverse.specs.Laws.{point_inside, nothing, just, ValueLaws, TangentLaws, WayLaws, AssignmentLaws, IsIdle', IsIdle, last_point, CalleeFacts, ActLaws, ListLaws}
+use Rattle.adj_reverse.specs.Laws.{point_inside, nothing, just, ValueLaws, TangentLaws, WayLaws, AssignmentLaws, LoopLaws, IsIdle', IsIdle, last_point, CalleeFacts, CallLaws, StepLaws, ActLawsBy, ListLawsBy}
 use Rattle.adj_facts.specs.Parts.{Part}
 use Rattle.adj_facts.specs.Ways.{Deed, passing, assigning, Way, way, act_ways, ways, assigned_on, passed_on}
-use Rattle.adj_facts.specs.Standing.{Place, part_of, body_of, Standing, held_in, standing}
+use Rattle.adj_facts.specs.Standing.{Place, part_of, turn_of, body_of, Standing, held_in, standing}
 use Rattle.adj_facts.specs.Problem.{statements_of, ways_of}
 use Rattle.adj_facts.specs.Activity.{Holds}
 use Rattle.adj_facts.specs.Held.{replaced_on}
@@ -19,7 +19,11 @@ use Rattle.adj_facts.specs.Laws.{AtAssignment, AtBranch, AtLoop, AtStatement, In
 use Rattle.adj_facts.proofs.Members.{is_first, is_later}
 use Rattle.adj_facts.proofs.OwnPoints.{own_before}
 use Rattle.adj_facts.proofs.Sets.{left_in, left_make}
-use Rattle.adj_analysed.specs.Meets.{IsPlainAct, IsPlainCode, GivesNames}
+use Rattle.adj_analysed.specs.Meets.{IsPlainAct, IsPlainCode, IsLiteralMark, MarkFits, GivesNames}
+use Rattle.adj_analysed.proofs.TurnLaws.{TurnLaws}
+use Rattle.adj_reverse.specs.Plan.{actuals_named, Schedules, Step, step_in, reversed_by, ByStep}
+use Rattle.adj_reverse.specs.Theorem.{schedules_by}
+use Rattle.adj_reverse.proofs.CallSweeps.{names_are}
 use Rattle.adj_analysed.proofs.Occurring.{same_occurring, same_reads_at}
 
 -- the last way of a list leads from its last point
@@ -42,6 +46,12 @@ bounds true b c h = refl
 bounds false true c h = refl
 bounds false false true h = refl
 bounds false false false h = absurd cc
+
+-- a mark that is literal reads nothing
+no_mark : (m : Mark) → IsLiteralMark m → (v : Var) → reads_mark v m ≡ false
+no_mark unmarked h v = refl
+no_mark (with_count n) h v = refl
+no_mark (count_from y) h v = absurd h
 
 module _ (units : List Procedure) (gf : List ℕ → CalleeFacts) (w : Facts) (g : Part) (unit : InUnit w g) (stated : (s : Standing) → Contains (statements_of g) s → AtStatement units w s) where
   abbrev Own : ℕ → Place → Act → Type 0
@@ -163,9 +173,118 @@ module _ (units : List Procedure) (gf : List ℕ → CalleeFacts) (w : Facts) (g
 
   -- ---- every kind of statement, where calls meet theirs
 
-  module _ (calls : (i : ℕ) (at : Place) (name : List ℕ) (args : Terms) → is_turn at ≡ false → Own i at (call name args) → GivesNames units name args → ActLaws gf w i (call name args)) where
+  module _ (sb : Bool) (calls : (i : ℕ) (at : Place) (name : List ℕ) (args : Terms) → (is_turn at ≡ true → w.marks.adjointed i ≡ false) → Own i at (call name args) → GivesNames units name args → (given : List (List ℕ)) × ((args ≡ actuals_named given) × CallLaws w i (gf name) given))
+      (steps : (i : ℕ) (x name : List ℕ) (given : List (List ℕ)) → w.marks.adjointed (suc i) ≡ true → Own (suc i) (turn_of i (plain x)) (call name (actuals_named given)) → GivesNames units name (actuals_named given) → OwnWay (point_before i) (point_inside i) (assigning i (plain x)) → TurnLaws w i x (gf name) given) where
+    abbrev sc : Schedules
+    sc = schedules_by sb gf
+
+    -- the laws of a DO, beside those of its body
+    loop_laws : (i : ℕ) (at : Place) (x : Var) (first last by : Term) (body : Code) (m : Mark) → IsLiteralMark m → AllOwnWays (act_ways i (loop x first last by body m)) → Own i at (loop x first last by body m) → AllOwn (standing (body_of i x m) (suc i) body) → LoopLaws w i x first last by body
+    loop_laws i at x first last by body m literal f own h =
+        let here = stated (record { number = i; place = at; act = loop x first last by body m }) own in
+        let o : AtLoop w i x = here.act in
+        let in_body = ways (suc i) (point_inside i) (point_inside i) (assigning i x) body in
+        let enters = way (point_before i) (point_inside i) (assigning i x) in
+        let leaves = way (point_inside i) (point_after i) passing in
+        let on_body : AllOwnWays in_body = λ y m. f y (is_later y enters (leaves ∷ in_body) (is_later y leaves in_body m)) in
+        let entry : OwnWay (point_before i) (point_inside i) (assigning i x) = f enters (is_first enters enters (leaves ∷ in_body) refl) in
+        let turn : OwnWay (last_point (point_inside i) (suc i) body) (point_inside i) (assigning i x) = on_body (way (last_point (point_inside i) (suc i) body) (point_inside i) (assigning i x)) (ends (suc i) (point_inside i) (point_inside i) (assigning i x) body) in
+        record {
+          keeps_adjointed = (let b = o.branch in b.keeps);
+          keeps = λ e. idle i (body_of i x m) (suc i) body e (holds_body i x m) h;
+          keeps_reset = λ r. let p = and_true (w.marks.shadowed x) (w.marks.varied (point_before i) x) r in (o.resets p.0 p.1).1;
+          keeps_variable = o.keeps;
+          needs_uses = λ e v r. here.kept e v (ap (λ b. reads_term v first || (reads_term v last || (reads_term v by || b))) (no_mark m literal v) ∙ bounds (reads_term v first) (reads_term v last) (reads_term v by) r);
+          saves = o.saves;
+          entry_values = values (point_before i) (point_inside i) (assigning i x) entry;
+          entry_tangents = tangents_assigning (point_before i) (point_inside i) i x entry;
+          step_values = values (last_point (point_inside i) (suc i) body) (point_inside i) (assigning i x) turn;
+          step_tangents = tangents_assigning (last_point (point_inside i) (suc i) body) (point_inside i) i x turn;
+          exit = passes (point_inside i) (point_after i) (f leaves (is_later leaves enters (leaves ∷ in_body) (is_first leaves leaves in_body refl)));
+          adjoints_reset = λ r. let p = and_true (w.marks.shadowed x) (w.marks.varied (point_before i) x) r in (o.resets p.0 p.1).0;
+        }
+
+    -- a marked loop whose body is the call of names: reversed where that is adjointed, else a loop as others
+    marked_meets : (i : ℕ) (at : Place) (x : List ℕ) (first last by : Term) (n line : ℕ) (name : List ℕ) (given : List (List ℕ)) →
+        let body = step line (call name (actuals_named given)) stop in
+        AllOwnWays (act_ways i (loop (plain x) first last by body (with_count n))) → Own i at (loop (plain x) first last by body (with_count n)) → AllOwn (standing (turn_of i (plain x)) (suc i) body) → GivesNames units name (actuals_named given) →
+        (z : Bool) → w.marks.adjointed (suc i) ≡ z → ByStep (if z then step_in (λ name. (gf name).read) n body else None) (LoopLaws w i (plain x) first last by body × ListLawsBy sc gf w (point_inside i) (suc i) body) (StepLaws gf w i (plain x) first last by body)
+    marked_meets i at x first last by n line name given f own h k z e = go z e
+      where
+        the_call : Own (suc i) (turn_of i (plain x)) (call name (actuals_named given))
+        the_call = own_first (record { number = suc i; place = turn_of i (plain x); act = call name (actuals_named given) }) [] h
+
+        enters_in : OwnWay (point_before i) (point_inside i) (assigning i (plain x))
+        enters_in = f (way (point_before i) (point_inside i) (assigning i (plain x))) (is_first (way (point_before i) (point_inside i) (assigning i (plain x))) (way (point_before i) (point_inside i) (assigning i (plain x))) (way (point_inside i) (point_after i) passing ∷ ways (suc i) (point_inside i) (point_inside i) (assigning i (plain x)) (step line (call name (actuals_named given)) stop)) refl)
+
+        inside_in : OwnWay (point_inside i) (point_before (suc i)) passing
+        inside_in = f (way (point_inside i) (point_before (suc i)) passing) (is_later (way (point_inside i) (point_before (suc i)) passing) (way (point_before i) (point_inside i) (assigning i (plain x))) (way (point_inside i) (point_after i) passing ∷ ways (suc i) (point_inside i) (point_inside i) (assigning i (plain x)) (step line (call name (actuals_named given)) stop)) (is_later (way (point_inside i) (point_before (suc i)) passing) (way (point_inside i) (point_after i) passing) (ways (suc i) (point_inside i) (point_inside i) (assigning i (plain x)) (step line (call name (actuals_named given)) stop)) (is_first (way (point_inside i) (point_before (suc i)) passing) (way (point_inside i) (point_before (suc i)) passing) (act_ways (suc i) (call name (actuals_named given)) ++ ways (next (suc i) (call name (actuals_named given))) (point_after (suc i)) (point_inside i) (assigning i (plain x)) stop) refl)))
+
+        loop_is : LoopLaws w i (plain x) first last by (step line (call name (actuals_named given)) stop)
+        loop_is = loop_laws i at (plain x) first last by (step line (call name (actuals_named given)) stop) (with_count n) tt f own h
+
+        go : (z : Bool) → w.marks.adjointed (suc i) ≡ z → ByStep (if z then step_in (λ name. (gf name).read) n (step line (call name (actuals_named given)) stop) else None) (LoopLaws w i (plain x) first last by (step line (call name (actuals_named given)) stop) × ListLawsBy sc gf w (point_inside i) (suc i) (step line (call name (actuals_named given)) stop)) (StepLaws gf w i (plain x) first last by (step line (call name (actuals_named given)) stop))
+        go false e = (loop_is, (passes (point_inside i) (point_before (suc i)) inside_in, (calls (suc i) (turn_of i (plain x)) name (actuals_named given) (λ t. e) the_call k, tt)))
+        go true e =
+            let t = steps i x name given e the_call k enters_in in
+            let o = unit.holders (record { number = suc i; place = turn_of i (plain x); act = call name (actuals_named given) }) the_call in
+            let l = loop_is in
+            let kept = o.keeps i refl (inr e) in
+            let same = names_are given in
+            subst (λ ys. let s : Step = record { name = name; given = ys; read = (gf name).read; snapshots = n } in StepLaws gf w i (plain x) first last by (step line (call name (actuals_named given)) stop) s) (sym same) (
+              line,
+              (
+                refl,
+                record {
+                  kept = kept;
+                  adjointed = o.adjoints i refl e;
+                  needs_uses = l.needs_uses kept;
+                  needs_members = t.needs_members;
+                  holds_reads = λ d y act m v n. l.exit.values.holds (plain y) (left_make (w.held (point_inside i)) nothing (plain y) (t.holds_reads d y act m v n) refl);
+                  saves = t.saves;
+                  saves_variable = l.saves kept;
+                  keeps = t.keeps;
+                  entry_values = record { needs = l.entry_values.needs; holds = λ v h. l.entry_values.holds v (kept_so kept (point_before i) v h) };
+                  entry_tangents = l.entry_tangents;
+                  step_values = record { needs = l.step_values.needs; holds = λ v h. l.step_values.holds v (kept_so kept (point_after (suc i)) v h) };
+                  step_tangents = l.step_tangents;
+                  exit = l.exit;
+                  inside = passes (point_inside i) (point_before (suc i)) inside_in;
+                  call = t.call;
+                },
+              ),
+            )
+          where
+            kept_so : w.marks.kept i ≡ true → (p : ℕ) (v : Var) → In v (without (w.held p) (just (plain x))) → In v (without (w.held p) (vars_if (w.marks.kept i) (just (plain x))))
+            kept_so e p v h = ap (λ b. w.held p v && not (b && var_eq v (plain x))) e ∙ h
+
+    -- by its body, which is one call
+    counted_meets : (b : Bool) (i : ℕ) (at : Place) (x : Var) (first last by : Term) (body : Code) (n : ℕ) → MarkFits b x body (with_count n) → IsPlainCode sb units body →
+        AllOwnWays (act_ways i (loop x first last by body (with_count n))) → Own i at (loop x first last by body (with_count n)) → AllOwn (standing (turn_of i x) (suc i) body) →
+        ByStep (reversed_by (schedules_by b gf) w.marks.adjointed i body (with_count n)) (LoopLaws w i x first last by body × ListLawsBy sc gf w (point_inside i) (suc i) body) (StepLaws gf w i x first last by body)
+    counted_meets false i at x first last by body n k p f own h = absurd k
+    counted_meets true i at x first last by stop n k p f own h = absurd k.1
+    counted_meets true i at x first last by (step line (assign y subs e) rest) n k p f own h = absurd k.1
+    counted_meets true i at x first last by (step line (choose c a b) rest) n k p f own h = absurd k.1
+    counted_meets true i at x first last by (step line (loop y a b c d m) rest) n k p f own h = absurd k.1
+    counted_meets true i at x first last by (step line (during c a) rest) n k p f own h = absurd k.1
+    counted_meets true i at x first last by (step line (runtime r) rest) n k p f own h = absurd k.1
+    counted_meets true i at x first last by (step line (call name args) (step l a rest)) n k p f own h = absurd k.1
+    counted_meets true i at x first last by (step line (call name args) stop) n k p f own h =
+        let g = p.0 in
+        subst (λ (v : Var). AllOwnWays (act_ways i (loop v first last by (step line (call name args) stop) (with_count n))) → Own i at (loop v first last by (step line (call name args) stop) (with_count n)) → AllOwn (standing (turn_of i v) (suc i) (step line (call name args) stop)) →
+        ByStep (if w.marks.adjointed (suc i) then step_in (λ name. (gf name).read) n (step line (call name args) stop) else None) (LoopLaws w i v first last by (step line (call name args) stop) × ListLawsBy sc gf w (point_inside i) (suc i) (step line (call name args) stop)) (StepLaws gf w i v first last by (step line (call name args) stop))) (sym k.0.1)
+        (subst (λ (es : Terms). GivesNames units name es → AllOwnWays (act_ways i (loop (plain k.0.0) first last by (step line (call name es) stop) (with_count n))) → Own i at (loop (plain k.0.0) first last by (step line (call name es) stop) (with_count n)) → AllOwn (standing (turn_of i (plain k.0.0)) (suc i) (step line (call name es) stop)) →
+        ByStep (if w.marks.adjointed (suc i) then step_in (λ name. (gf name).read) n (step line (call name es) stop) else None) (LoopLaws w i (plain k.0.0) first last by (step line (call name es) stop) × ListLawsBy sc gf w (point_inside i) (suc i) (step line (call name es) stop)) (StepLaws gf w i (plain k.0.0) first last by (step line (call name es) stop))) (sym g.named)
+        (λ gn f own h. marked_meets i at k.0.0 first last by n line name g.given f own h gn (w.marks.adjointed (suc i)) refl) g)
+        f own h
+
+    none_unmarked : (b : Bool) (i : ℕ) (body : Code) → reversed_by (schedules_by b gf) w.marks.adjointed i body unmarked ≡ None
+    none_unmarked true i body = refl
+    none_unmarked false i body = refl
+
     mutual
-      act_meets : (i : ℕ) (at : Place) (a : Act) → is_turn at ≡ false → IsPlainAct units a → AllOwnWays (act_ways i a) → Own i at a → AllOwn (held_in i a) → ActLaws gf w i a
+      act_meets : (i : ℕ) (at : Place) (a : Act) → is_turn at ≡ false → IsPlainAct sb units a → AllOwnWays (act_ways i a) → Own i at a → AllOwn (held_in i a) → ActLawsBy sc gf w i a
       act_meets i at (assign x subs e) ord k f own h = assign_meets i at x subs e f own
       act_meets i at (choose c a b) ord k f own h =
           let here = stated (record { number = i; place = at; act = choose c a b }) own in
@@ -192,33 +311,15 @@ module _ (units : List Procedure) (gf : List ℕ → CalleeFacts) (w : Facts) (g
               list_meets (behind (suc i) a) (point_before i) (point_after i) passing (part_of i) b refl k.1 on_other of_other,
             ),
           )
-      act_meets i at (loop x first last by body (with_count n)) ord k f own h = absurd (let e : with_count n ≡ unmarked = k.0 in cc)
-      act_meets i at (loop x first last by body (count_from y)) ord k f own h = absurd (let e : count_from y ≡ unmarked = k.0 in cc)
+      act_meets i at (loop x first last by body (with_count n)) ord k f own h = counted_meets sb i at x first last by body n k.0 k.1 f own h
+      act_meets i at (loop x first last by body (count_from y)) ord k f own h = absurd k.0
       act_meets i at (loop x first last by body unmarked) ord k f own h =
-          let here = stated (record { number = i; place = at; act = loop x first last by body unmarked }) own in
-          let o : AtLoop w i x = here.act in
           let in_body = ways (suc i) (point_inside i) (point_inside i) (assigning i x) body in
           let enters = way (point_before i) (point_inside i) (assigning i x) in
           let leaves = way (point_inside i) (point_after i) passing in
           let on_body : AllOwnWays in_body = λ y m. f y (is_later y enters (leaves ∷ in_body) (is_later y leaves in_body m)) in
-          let entry : OwnWay (point_before i) (point_inside i) (assigning i x) = f enters (is_first enters enters (leaves ∷ in_body) refl) in
-          let turn : OwnWay (last_point (point_inside i) (suc i) body) (point_inside i) (assigning i x) = on_body (way (last_point (point_inside i) (suc i) body) (point_inside i) (assigning i x)) (ends (suc i) (point_inside i) (point_inside i) (assigning i x) body) in (
-            record {
-              keeps_adjointed = (let b = o.branch in b.keeps);
-              keeps = λ e. idle i (part_of i) (suc i) body e refl h;
-              keeps_reset = λ r. let p = and_true (w.marks.shadowed x) (w.marks.varied (point_before i) x) r in (o.resets p.0 p.1).1;
-              keeps_variable = o.keeps;
-              needs_uses = λ e v r. here.kept e v (bounds (reads_term v first) (reads_term v last) (reads_term v by) r);
-              saves = o.saves;
-              entry_values = values (point_before i) (point_inside i) (assigning i x) entry;
-              entry_tangents = tangents_assigning (point_before i) (point_inside i) i x entry;
-              step_values = values (last_point (point_inside i) (suc i) body) (point_inside i) (assigning i x) turn;
-              step_tangents = tangents_assigning (last_point (point_inside i) (suc i) body) (point_inside i) i x turn;
-              exit = passes (point_inside i) (point_after i) (f leaves (is_later leaves enters (leaves ∷ in_body) (is_first leaves leaves in_body refl)));
-              adjoints_reset = λ r. let p = and_true (w.marks.shadowed x) (w.marks.varied (point_before i) x) r in (o.resets p.0 p.1).0;
-            },
-            list_meets (suc i) (point_inside i) (point_inside i) (assigning i x) (part_of i) body refl k.1 on_body h,
-          )
+          subst (λ o. ByStep o (LoopLaws w i x first last by body × ListLawsBy sc gf w (point_inside i) (suc i) body) (StepLaws gf w i x first last by body)) (sym (none_unmarked sb i body))
+          (loop_laws i at x first last by body unmarked tt f own h, list_meets (suc i) (point_inside i) (point_inside i) (assigning i x) (part_of i) body refl k.1 on_body h)
       act_meets i at (during c body) ord k f own h =
           let here = stated (record { number = i; place = at; act = during c body }) own in
           let o : AtBranch w i = here.act in
@@ -236,10 +337,10 @@ module _ (units : List Procedure) (gf : List ℕ → CalleeFacts) (w : Facts) (g
             },
             list_meets (suc i) (point_inside i) (point_inside i) passing (part_of i) body refl k on_body h,
           )
-      act_meets i at (call name args) ord k f own h = calls i at name args ord own k
+      act_meets i at (call name args) ord k f own h = calls i at name args (λ t. absurd (let c : true ≡ false = sym t ∙ ord in cc)) own k
       act_meets i at (runtime r) ord k f own h = absurd k
 
-      pub list_meets : (i p q : ℕ) (last : Deed) (at : Place) (c : Code) → is_turn at ≡ false → IsPlainCode units c → AllOwnWays (ways i p q last c) → AllOwn (standing at i c) → ListLaws gf w p i c
+      pub list_meets : (i p q : ℕ) (last : Deed) (at : Place) (c : Code) → is_turn at ≡ false → IsPlainCode sb units c → AllOwnWays (ways i p q last c) → AllOwn (standing at i c) → ListLawsBy sc gf w p i c
       list_meets i p q last at stop ord k f h = tt
       list_meets i p q last at (step line a rest) ord k f h =
           let self : Standing = record { number = i; place = at; act = a } in

@@ -1,19 +1,22 @@
 -- What exact analyses say meets the laws of each unit that takes part.
-use Rattle.std.proofs.Common.{◌≡◌, ℕ, List, [], ◌∷◌, Bool, true, false, refl, sym, ap, ◌∙◌, subst}
+use Rattle.std.proofs.Common.{◌≡◌, ℕ, suc, List, [], ◌∷◌, Bool, true, false, refl, sym, ap, ◌∙◌, subst}
 use Rattle.std.specs.Prelude.{Contains, ◌||◌, Option, Some, None}
 use Rattle.adj_tree.specs.Code.{plain, name_eq, Terms, call, Procedure}
 use Rattle.adj_tree.proofs.Names.{name_same}
 use Rattle.adj_meaning.specs.Written.{find_unit}
-use Rattle.adj_transpose.specs.Marks.{Vars}
+use Rattle.adj_transpose.specs.Marks.{Vars, point_before}
 use Rattle.adj_transpose.specs.Fresh.{has_name}
 use Rattle.adj_transpose.specs.Facts.{Facts}
 use Rattle.adj_reverse.specs.Kernel.{AsMany}
-use Rattle.adj_reverse.specs.Laws.{CalleeFacts, CallLaws, ActLaws, ListLaws, last_point, WayLaws, UnitLaws}
+use Rattle.adj_reverse.specs.Laws.{point_inside, CalleeFacts, CallLaws, ListLawsBy, last_point, WayLaws, UnitLawsBy}
+use Rattle.adj_reverse.specs.Plan.{actuals_named, names_of}
+use Rattle.adj_reverse.specs.Theorem.{schedules_by}
+use Rattle.adj_reverse.proofs.CallSweeps.{names_are}
 use Rattle.adj_reverse.specs.Marking.{callee_facts, place_from, first_statement, entry_point, end_point}
 use Rattle.adj_facts.specs.Parts.{Part, statements_in}
-use Rattle.adj_facts.specs.Ways.{passing}
-use Rattle.adj_facts.specs.Standing.{Place, outermost}
-use Rattle.adj_facts.specs.Problem.{Problem, statements_of, TakesPart}
+use Rattle.adj_facts.specs.Ways.{passing, assigning, way}
+use Rattle.adj_facts.specs.Standing.{Place, outermost, turn_of}
+use Rattle.adj_facts.specs.Problem.{Problem, statements_of, ways_of, TakesPart}
 use Rattle.adj_facts.specs.Activity.{Activity}
 use Rattle.adj_facts.specs.Live.{Liveness}
 use Rattle.adj_facts.specs.Uses.{is_turn}
@@ -22,6 +25,7 @@ use Rattle.adj_facts.proofs.Members.{is_first, is_later}
 use Rattle.adj_facts.proofs.OwnPoints as points
 use Rattle.adj_facts.proofs.Statements.{entries_are_closed}
 use Rattle.adj_analysed.specs.Meets.{program_facts, GivesNames, IsPlainCode, AnalysedMeets}
+use Rattle.adj_analysed.proofs.TurnLaws.{TurnLaws}
 use Rattle.adj_analysed.proofs.Lists.{ends, passes, list_meets}
 use Rattle.adj_analysed.proofs.Numbers.{Placed, placed, has_part}
 use Rattle.adj_analysed.proofs.Calls as calls
@@ -43,8 +47,8 @@ module _ (k : Problem) (a : Activity) (l : Liveness) (saved held : ℕ → Vars)
 
   -- ---- calls
 
-  call_meets : (f : Part) → TakesPart k f → (i : ℕ) (at : Place) (name : List ℕ) (args : Terms) → is_turn at ≡ false → Contains (statements_of f) (record { number = i; place = at; act = call name args }) → GivesNames k.units name args → ActLaws gf (facts_of a l saved held f.number) i (call name args)
-  call_meets f part i at name args ord own n =
+  call_meets : (f : Part) → TakesPart k f → (i : ℕ) (at : Place) (name : List ℕ) (args : Terms) → (is_turn at ≡ true → a.adjointed i ≡ false) → Contains (statements_of f) (record { number = i; place = at; act = call name args }) → GivesNames k.units name args → (given : List (List ℕ)) × ((args ≡ actuals_named given) × CallLaws (facts_of a l saved held f.number) i (gf name) given)
+  call_meets f part i at name args home own n =
       let g = has_part (statements_in 0 k.units) 0 0 k.units name n.unit n.found in
       let there = placed k.units name g.0 g.1 in
       let same : n.unit ≡ g.0.unit = some_same n.unit g.0.unit (sym n.found ∙ there.found) in (
@@ -52,19 +56,29 @@ module _ (k : Problem) (a : Activity) (l : Liveness) (saved held : ℕ → Vars)
         (
           n.named,
           subst (λ o. CallLaws (facts_of a l saved held f.number) i (calls.known k a l saved held y f part name o) n.given) (sym there.found)
-              (calls.call_laws k a l saved held y f part i at name n.given ord (subst (λ es. Contains (statements_of f) (record { number = i; place = at; act = call name es })) n.named own) g.0 g.1 there (subst (λ u. AsMany u.dummies n.given) same n.many)),
+              (calls.call_laws k a l saved held y f part i at name n.given (subst (λ es. Contains (statements_of f) (record { number = i; place = at; act = call name es })) n.named own) g.0 g.1 there (subst (λ u. AsMany u.dummies n.given) same n.many) home),
         ),
       )
 
+  -- the step call of a marked loop
+  turn_meets : (f : Part) → TakesPart k f → (i : ℕ) (x name : List ℕ) (given : List (List ℕ)) → a.adjointed (suc i) ≡ true → Contains (statements_of f) (record { number = suc i; place = turn_of i (plain x); act = call name (actuals_named given) }) → GivesNames k.units name (actuals_named given) → Contains (ways_of f) (way (point_before i) (point_inside i) (assigning i (plain x))) → TurnLaws (facts_of a l saved held f.number) i x (gf name) given
+  turn_meets f part i x name given adj own n enters =
+      let g = has_part (statements_in 0 k.units) 0 0 k.units name n.unit n.found in
+      let there = placed k.units name g.0 g.1 in
+      let same : n.unit ≡ g.0.unit = some_same n.unit g.0.unit (sym n.found ∙ there.found) in
+      let one : n.given ≡ given = sym (names_are n.given) ∙ ap names_of (sym n.named) ∙ names_are given in
+      subst (λ o. TurnLaws (facts_of a l saved held f.number) i x (calls.known k a l saved held y f part name o) given) (sym there.found)
+      (calls.turn_laws k a l saved held y f part i x name given own g.0 g.1 there (subst (λ u. AsMany u.dummies given) same (subst (AsMany n.unit.dummies) one n.many)) adj enters)
+
   -- ---- a unit, by its own numbers
 
-  module _ (g : Part) (part : TakesPart k g) (plainly : IsPlainCode k.units g.unit.body) where
+  module _ (sb : Bool) (g : Part) (part : TakesPart k g) (plainly : IsPlainCode sb k.units g.unit.body) where
     abbrev w : Facts
     w = facts_of a l saved held g.number
 
-    laws : ListLaws gf w g.entry g.first g.unit.body
+    laws : ListLawsBy (schedules_by sb gf) gf w g.entry g.first g.unit.body
     laws =
-        list_meets k.units gf w g (calls.unit k a l saved held y g part) (calls.stated k a l saved held y g part) (call_meets g part) g.first g.entry g.end passing outermost g.unit.body refl plainly (λ x c. c) (λ s c. c)
+        list_meets k.units gf w g (calls.unit k a l saved held y g part) (calls.stated k a l saved held y g part) sb (call_meets g part) (turn_meets g part) g.first g.entry g.end passing outermost g.unit.body refl plainly (λ x c. c) (λ s c. c)
 
     at_end : WayLaws w (last_point g.entry g.first g.unit.body) g.end
     at_end = passes k.units gf w g (calls.unit k a l saved held y g part) (calls.stated k a l saved held y g part) (last_point g.entry g.first g.unit.body) g.end (ends g.first g.entry g.end passing g.unit.body)
@@ -77,8 +91,8 @@ module _ (k : Problem) (a : Activity) (l : Liveness) (saved held : ℕ → Vars)
       abbrev known : Facts
       known = facts_of a l saved held (place_from 0 k.units name)
 
-      laws_named : ListLaws gf known (entry_point k.units name) (first_statement k.units name) g.unit.body
-      laws_named = subst (λ n. ListLaws gf known (entry_point k.units name) n g.unit.body) there.first (subst (λ p. ListLaws gf known p g.first g.unit.body) there.entry (subst (λ n. ListLaws gf (facts_of a l saved held n) g.entry g.first g.unit.body) there.number laws))
+      laws_named : ListLawsBy (schedules_by sb gf) gf known (entry_point k.units name) (first_statement k.units name) g.unit.body
+      laws_named = subst (λ n. ListLawsBy (schedules_by sb gf) gf known (entry_point k.units name) n g.unit.body) there.first (subst (λ p. ListLawsBy (schedules_by sb gf) gf known p g.first g.unit.body) there.entry (subst (λ n. ListLawsBy (schedules_by sb gf) gf (facts_of a l saved held n) g.entry g.first g.unit.body) there.number laws))
 
       end_named : WayLaws known (last_point (entry_point k.units name) (first_statement k.units name) g.unit.body) (end_point k.units name)
       end_named =
@@ -87,7 +101,7 @@ module _ (k : Problem) (a : Activity) (l : Liveness) (saved held : ℕ → Vars)
           (subst (λ p. WayLaws known (last_point g.entry g.first g.unit.body) p) there.end
           (subst (λ n. WayLaws (facts_of a l saved held n) (last_point g.entry g.first g.unit.body) g.end) there.number at_end)))
 
-      unit_meets : UnitLaws gf (gf name) (first_statement k.units name) g.unit.body
+      unit_meets : UnitLawsBy (schedules_by sb gf) gf (gf name) (first_statement k.units name) g.unit.body
       unit_meets = record {
         laws = laws_named;
         ends = end_named;
@@ -109,4 +123,4 @@ module _ (k : Problem) (a : Activity) (l : Liveness) (saved held : ℕ → Vars)
           same_members d (Some u) e = e
 
 pub analysed_meets : AnalysedMeets
-analysed_meets k a l saved held y g part finds plainly = unit_meets k a l saved held y g part plainly (placed k.units g.unit.name g finds)
+analysed_meets sb k a l saved held y g part finds plainly = unit_meets k a l saved held y sb g part plainly (placed k.units g.unit.name g finds)

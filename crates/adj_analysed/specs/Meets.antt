@@ -1,18 +1,21 @@
 -- The marks of exact analyses as marks of a whole program, and that they meet the laws that the theorem on sweeps asks of each unit.
 -- (docs/THEOREMS.md, "Sweeps of every statement")
-use Rattle.std.specs.Prelude.{◌≡◌, ℕ, List, [], ◌∷◌, false, Some, None}
-use Rattle.adj_tree.specs.Code.{Terms, unmarked, Act, assign, choose, loop, during, call, runtime, Code, stop, step, Procedure}
+use Rattle.std.specs.Prelude.{◌≡◌, ℕ, List, [], ◌∷◌, Bool, true, false, Some, None}
+use Rattle.adj_tree.specs.Code.{Var, plain, Terms, Mark, unmarked, with_count, count_from, Act, assign, choose, loop, during, call, runtime, Code, stop, step, Procedure}
 use Rattle.adj_meaning.specs.Written.{find_unit}
 use Rattle.adj_transpose.specs.Marks.{Vars}
 use Rattle.adj_names.specs.Fault.{Rules}
 use Rattle.adj_kernel.specs.Kernel.{EachUnit}
 use Rattle.adj_transpose.specs.Program.{unit_at}
-use Rattle.adj_reverse.specs.Program.{emitted_program}
-use Rattle.adj_reverse.specs.Adjoint.{IsAdjoint}
-use Rattle.adj_checked.specs.Checked.{IsChecked}
+use Rattle.adj_reverse.specs.Program.{emitted_program_with, emitted_program}
+use Rattle.adj_reverse.specs.Adjoint.{IsAdjointWith, IsAdjoint}
+use Rattle.adj_checked.specs.Checked.{IsChecked, LinesTell}
+use Rattle.adj_kernel.specs.Form.{IsOneCall}
 use Rattle.adj_reverse.specs.Plan.{actuals_named}
 use Rattle.adj_reverse.specs.Kernel.{AsMany}
-use Rattle.adj_reverse.specs.Laws.{UnitLaws}
+use Rattle.adj_reverse.specs.Laws.{UnitLawsBy}
+use Rattle.adj_reverse.specs.Theorem.{schedules_by}
+use Rattle.adj_reverse.specs.Reversals.{ReversedLines}
 use Rattle.adj_reverse.specs.Marking.{ProgramFacts, dummy_set, place_from, callee_facts, first_statement}
 use Rattle.adj_facts.specs.Parts.{Part, parts, find_part}
 use Rattle.adj_facts.specs.Problem.{Problem, TakesPart}
@@ -36,7 +39,7 @@ program_facts units a l saved held = record {
   held = held;
 }
 
--- ---- code in kernel form whose loops aren't marked
+-- ---- code in kernel form
 
 -- a call gives names, as many as there are dummies, to a unit that is there
 pub record GivesNames (units : List Procedure) (name : List ℕ) (args : Terms) : Type 0 where
@@ -46,18 +49,26 @@ pub record GivesNames (units : List Procedure) (name : List ℕ) (args : Terms) 
   pub named : args ≡ actuals_named given
   pub many : AsMany unit.dummies given
 
-abbrev mutual
-  pub IsPlainAct : List Procedure → Act → Type 0
-  IsPlainAct units (assign x subs e) = Unit {0}
-  IsPlainAct units (choose c a b) = IsPlainCode units a × IsPlainCode units b
-  IsPlainAct units (loop x first last by body m) = (m ≡ unmarked) × IsPlainCode units body
-  IsPlainAct units (during c body) = IsPlainCode units body
-  IsPlainAct units (call name args) = GivesNames units name args
-  IsPlainAct units (runtime r) = ⊥
+-- a mark of a loop with this variable and body: none where no loop is reversed by a schedule; else it has a literal number of snapshots, and
+-- the body is one call
+abbrev pub MarkFits : (schedules : Bool) → Var → Code → Mark → Type 0
+MarkFits schedules x body unmarked = Unit {0}
+MarkFits false x body (with_count n) = ⊥
+MarkFits true x body (with_count n) = ((y : List ℕ) × (x ≡ plain y)) × IsOneCall body
+MarkFits schedules x body (count_from y) = ⊥
 
-  pub IsPlainCode : List Procedure → Code → Type 0
-  IsPlainCode units stop = Unit {0}
-  IsPlainCode units (step line a rest) = IsPlainAct units a × IsPlainCode units rest
+abbrev mutual
+  pub IsPlainAct : (schedules : Bool) → List Procedure → Act → Type 0
+  IsPlainAct schedules units (assign x subs e) = Unit {0}
+  IsPlainAct schedules units (choose c a b) = IsPlainCode schedules units a × IsPlainCode schedules units b
+  IsPlainAct schedules units (loop x first last by body m) = MarkFits schedules x body m × IsPlainCode schedules units body
+  IsPlainAct schedules units (during c body) = IsPlainCode schedules units body
+  IsPlainAct schedules units (call name args) = GivesNames units name args
+  IsPlainAct schedules units (runtime r) = ⊥
+
+  pub IsPlainCode : (schedules : Bool) → List Procedure → Code → Type 0
+  IsPlainCode schedules units stop = Unit {0}
+  IsPlainCode schedules units (step line a rest) = IsPlainAct schedules units a × IsPlainCode schedules units rest
 
 -- no loop is marked
 abbrev mutual
@@ -73,14 +84,34 @@ abbrev mutual
   IsUnmarked stop = Unit {0}
   IsUnmarked (step line a rest) = IsUnmarkedAct a × IsUnmarked rest
 
+abbrev pub IsLiteralMark : Mark → Type 0
+IsLiteralMark unmarked = Unit {0}
+IsLiteralMark (with_count n) = Unit {0}
+IsLiteralMark (count_from x) = ⊥
+
+-- no loop takes its number of snapshots from a variable
+abbrev mutual
+  pub HasLiteralMarks' : Act → Type 0
+  HasLiteralMarks' (assign x subs e) = Unit {0}
+  HasLiteralMarks' (choose c a b) = HasLiteralMarks a × HasLiteralMarks b
+  HasLiteralMarks' (loop x first last by body m) = IsLiteralMark m × HasLiteralMarks body
+  HasLiteralMarks' (during c body) = HasLiteralMarks body
+  HasLiteralMarks' (call name args) = Unit {0}
+  HasLiteralMarks' (runtime r) = Unit {0}
+
+  pub HasLiteralMarks : Code → Type 0
+  HasLiteralMarks stop = Unit {0}
+  HasLiteralMarks (step line a rest) = HasLiteralMarks' a × HasLiteralMarks rest
+
 -- ---- the laws
 
--- each unit that takes part, is found under its name and is such code meets the laws with the facts of exact analyses
+-- each unit that takes part, is found under its name and is such code meets the laws with the facts of exact analyses, whether marked loops
+-- are reversed by schedules or there is none
 abbrev pub AnalysedMeets : Type 0
 AnalysedMeets =
-    (k : Problem) (a : Activity) (l : Liveness) (saved held : ℕ → Vars) → Analysed k a l saved held →
-    (g : Part) → TakesPart k g → find_part (parts k.units) g.unit.name ≡ Some g → IsPlainCode k.units g.unit.body →
-    let facts = callee_facts (program_facts k.units a l saved held) k.units in UnitLaws facts (facts g.unit.name) (first_statement k.units g.unit.name) g.unit.body
+    (schedules : Bool) (k : Problem) (a : Activity) (l : Liveness) (saved held : ℕ → Vars) → Analysed k a l saved held →
+    (g : Part) → TakesPart k g → find_part (parts k.units) g.unit.name ≡ Some g → IsPlainCode schedules k.units g.unit.body →
+    let facts = callee_facts (program_facts k.units a l saved held) k.units in UnitLawsBy (schedules_by schedules facts) facts (facts g.unit.name) (first_statement k.units g.unit.name) g.unit.body
 
 -- so what is emitted by their marks is an adjoint: for a checked program in kernel form in which no loop is marked
 abbrev pub AnalysedIsAdjoint : Type 0
@@ -88,3 +119,12 @@ AnalysedIsAdjoint =
     (rules : Rules) (k : Problem) → IsChecked rules k.units → EachUnit (λ u. IsUnmarked u.body) k.units →
     (a : Activity) (l : Liveness) (saved held : ℕ → Vars) → Analysed k a l saved held → (u : Procedure) → unit_at k.head k.units ≡ u ∷ [] →
     let marks = (program_facts k.units a l saved held).marks in IsAdjoint (λ line. None) marks k.units k.head k.vars k.outvars (emitted_program marks k.units k.head k.vars k.outvars)
+
+-- and where marked loops are reversed by schedules, each whose step call is adjointed: for one whose marks are literal, by the lines at which
+-- they stand
+abbrev pub AnalysedReverses : Type 0
+AnalysedReverses =
+    (rules : Rules) (k : Problem) → IsChecked rules k.units → EachUnit (λ u. HasLiteralMarks u.body) k.units →
+    (a : Activity) (l : Liveness) (saved held : ℕ → Vars) → Analysed k a l saved held → (u : Procedure) → unit_at k.head k.units ≡ u ∷ [] →
+    let w = program_facts k.units a l saved held in
+    (lines : ReversedLines) → LinesTell lines true w k.units → IsAdjointWith true lines w.marks k.units k.head k.vars k.outvars (emitted_program_with true w.marks k.units k.head k.vars k.outvars)

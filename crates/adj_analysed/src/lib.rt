@@ -5,17 +5,20 @@
 //! `meets_law` gives the premise on laws of `emitted_law`; the layer above uses `analysed_law`.
 #![tactic(auto)]
 
-ghost use Rattle.adj_analysed.specs.Meets.{AnalysedMeets, AnalysedIsAdjoint};
+ghost use Rattle.adj_analysed.specs.Meets.{AnalysedMeets, AnalysedIsAdjoint, AnalysedReverses};
 ghost use Rattle.adj_analysed.specs.Worked.{CallingIsAdjoint};
 
-/// What exact analyses say of a program in kernel form whose loops aren't marked meets the laws of each unit that takes part.
+/// What exact analyses say of a program in kernel form meets the laws of each unit that takes part: where no loop is marked, or where marked
+/// loops are reversed by schedules and have literal numbers of snapshots.
 pub fn meets_law()
     ensures { AnalysedMeets }
 {}
 
-/// What is emitted by their marks for a checked program in kernel form is its adjoint, where no loop is marked.
+/// What is emitted by their marks for a checked program in kernel form is its adjoint: where no loop is marked, and where marked loops are reversed
+/// by schedules.
 pub fn analysed_law()
-    ensures { AnalysedIsAdjoint }
+    ensures unmarked { AnalysedIsAdjoint }
+    ensures reversed { AnalysedReverses }
 {}
 
 /// All that this asks can be met: by a program with a checkpointed call.

@@ -1,5 +1,5 @@
 -- A checked program meets all that the law on emitted programs asks, and so what is emitted for it is its adjoint.
-use Rattle.std.proofs.Common.{◌≡◌, ℕ, true, false, List, [], ◌∷◌, map, refl, sym, ap, ◌∙◌, subst, arith}
+use Rattle.std.proofs.Common.{◌≡◌, ℕ, Bool, true, false, List, [], ◌∷◌, map, refl, sym, ap, ◌∙◌, subst, arith}
 use Rattle.std.specs.Prelude.{◌==◌, not, length, flat_map, Option, Some, None, IsTrue}
 use Rattle.adj_tree.specs.Code.{Var, plain, Act, Extent, Procedure}
 use Rattle.adj_tree.specs.declared.fault.Refusal.{Refusal}
@@ -26,14 +26,18 @@ use Rattle.adj_transpose.specs.Naming.{AreApart, AreInside}
 use Rattle.adj_transpose.specs.Program.{unit_name, unit_at}
 use Rattle.adj_reverse.specs.Laws.{UnitLaws}
 use Rattle.adj_reverse.specs.Marking.{ProgramMarks, ProgramFacts, full_marks, full_facts, marks_in, callee_of, callee_facts, read_by, plain_by, arrays_of, first_statement, entry_point}
-use Rattle.adj_reverse.specs.Program.{calls_in, has_adjoint, answers, is_kept, is_carried}
-use Rattle.adj_reverse.specs.Environment.{UnitFits}
-use Rattle.adj_reverse.specs.Source.{is_unit, CallUnits, SourceFits}
+use Rattle.adj_reverse.specs.Program.{calls_in, calls_some, turns_in, turns_some, has_adjoint, answers, is_kept_with, is_carried_with, schedules_in}
+use Rattle.adj_reverse.specs.Environment.{UnitFitsBy}
+use Rattle.adj_reverse.specs.Source.{is_unit, CallUnits, SourceFitsWith}
+use Rattle.adj_reverse.specs.Reversals.{ReversedLines}
+use Rattle.adj_reverse.specs.Theorem.{schedules_by}
+use Rattle.adj_transpose.proofs.Variables.{or_left, or_right}
+use Rattle.adj_checked.proofs.StepCalls.{turns_found_some, never_turned, none_told}
 use Rattle.adj_reverse.proofs.Full.{list_laws, way}
 use Rattle.adj_reverse.proofs.Variables.{variables_apart, dummy_among}
 use Rattle.adj_reverse.proofs.EmittedUnits.{found_there}
 use Rattle.adj_reverse.proofs.Adjoint.{emitted_is_adjoint, full_is_adjoint}
-use Rattle.adj_checked.specs.Checked.{IsChecked, AreLawful, AreLawfulFor, LawfulFits, LawfulIsAdjoint, ReachedIsAdjoint, CheckedFits, CheckedIsAdjoint}
+use Rattle.adj_checked.specs.Checked.{IsChecked, AreLawful, AreLawfulFor, AreLawfulForWith, LinesTell, LawfulFits, LawfulIsAdjoint, ReachedIsAdjoint, CheckedFits, CheckedIsAdjoint}
 use Rattle.adj_checked.proofs.Lists.{Each, each_more, each_all, each_unit, each_found, none_front, none_behind, none_each, none_if, apart_places, apart_same}
 use Rattle.adj_checked.proofs.Texts.{Known}
 use Rattle.adj_checked.proofs.Statements.{names_given, CallHasNone, calls_inside, StatementSound, list_fits}
@@ -150,7 +154,7 @@ module _ (rules : Rules) (ps : List Procedure) (checked : IsChecked rules ps) wh
 
   -- ---- with facts that meet the laws
 
-  module _ (w : ProgramFacts) (head : Procedure) (lawful : AreLawfulFor w ps head) where
+  module _ (sb : Bool) (lines : ReversedLines) (w : ProgramFacts) (head : Procedure) (lawful : AreLawfulForWith sb w ps head) (tells : LinesTell lines sb w ps) where
     abbrev m : ProgramMarks
     m = w.marks
 
@@ -165,10 +169,25 @@ module _ (rules : Rules) (ps : List Procedure) (checked : IsChecked rules ps) wh
       answered : (n : List ℕ) → calls_in m.adjointed n (first_statement ps name) u.body ≡ true → has_adjoint m ps head name ≡ true → answers m ps head n ≡ true
       answered n c there = calls_found_some (has_adjoint m ps head) m.adjointed n 0 ps name u f (with_adjoint there) c
 
-      carried : (n : List ℕ) → calls_in m.kept n (first_statement ps name) u.body ≡ true → has_adjoint m ps head name ≡ true → is_carried m ps head n ≡ true
-      carried n c there = roots_reached (is_kept m ps head) (λ i. true) ps name u f n (calls_found_some (has_adjoint m ps head) m.kept n 0 ps name u f (with_adjoint there) c)
+      carried : (n : List ℕ) → calls_in m.kept n (first_statement ps name) u.body ≡ true → has_adjoint m ps head name ≡ true → is_carried_with sb m ps head n ≡ true
+      carried n c there = roots_reached (is_kept_with sb m ps head) (λ i. true) ps name u f n (kept_so sb (calls_found_some (has_adjoint m ps head) m.kept n 0 ps name u f (with_adjoint there) c))
+        where
+          kept_so : (b : Bool) → calls_some (has_adjoint m ps head) m.kept n 0 ps ≡ true → is_kept_with b m ps head n ≡ true
+          kept_so true h = or_left (calls_some (has_adjoint m ps head) m.kept n 0 ps) (turns_some (schedules_in true ps) (has_adjoint m ps head) m.adjointed n 0 ps) h
+          kept_so false h = h
 
-      unit_fits : UnitFits (λ line. None) ps (callee_facts w ps) (has_adjoint m ps head) (answers m ps head) (is_carried m ps head) name u (first_statement ps name) (variables u) (arrays_of u)
+      -- and so is the step unit of a loop that is reversed by a schedule
+      turned : (n : List ℕ) → turns_in (schedules_by sb (callee_facts w ps)) m.adjointed n (first_statement ps name) u.body ≡ true → has_adjoint m ps head name ≡ true → is_carried_with sb m ps head n ≡ true
+      turned n c there = roots_reached (is_kept_with sb m ps head) (λ i. true) ps name u f n (kept_so sb c)
+        where
+          none_turned : turns_in None m.adjointed n (first_statement ps name) u.body ≡ true → ⊥
+          none_turned h = let c : true ≡ false = sym h ∙ never_turned m.adjointed n (first_statement ps name) u.body in cc
+
+          kept_so : (b : Bool) → turns_in (schedules_by b (callee_facts w ps)) m.adjointed n (first_statement ps name) u.body ≡ true → is_kept_with b m ps head n ≡ true
+          kept_so true h = or_right (calls_some (has_adjoint m ps head) m.kept n 0 ps) (turns_some (schedules_in true ps) (has_adjoint m ps head) m.adjointed n 0 ps) (turns_found_some (schedules_in true ps) (has_adjoint m ps head) m.adjointed n 0 ps name u f (with_adjoint there) h)
+          kept_so false h = absurd (none_turned h)
+
+      unit_fits : UnitFitsBy (schedules_by sb (callee_facts w ps)) lines ps (callee_facts w ps) (has_adjoint m ps head) (answers m ps head) (is_carried_with sb m ps head) name u (first_statement ps name) (variables u) (arrays_of u)
       unit_fits = record {
         dummies = sym same_dummies;
         dummies_apart = subst AreApart (sym same_dummies) (dummies_apart name u f);
@@ -183,10 +202,10 @@ module _ (rules : Rules) (ps : List Procedure) (checked : IsChecked rules ps) wh
         extents = λ d h. members_said m ps name d (find_unit ps name) (lawful.extents name u f ins d h);
         code =
             (let written_unit = written name u f in
-            list_fits rules w ps name u (has_adjoint m ps head name) (answers m ps head) (is_carried m ps head) (first_statement ps name) u.body written_unit.body (kernel name u f) (sound name u f) (λ n c there. answered n c there) (λ n c there. carried n c there));
+            list_fits sb lines rules w ps name u (has_adjoint m ps head name) (answers m ps head) (is_carried_with sb m ps head) (first_statement ps name) u.body written_unit.body (kernel name u f) (sound name u f) (λ n c there. answered n c there) (λ n c there. carried n c there) (λ n c there. turned n c there) (tells name u f));
       }
 
-    pub source_fits : (number : ℕ) → unit_at number ps ≡ head ∷ [] → SourceFits (λ line. None) w ps head
+    pub source_fits : (number : ℕ) → unit_at number ps ≡ head ∷ [] → SourceFitsWith sb lines w ps head
     source_fits number is = record {
       reached = lawful.reached;
       head_reached = lawful.head_reached;
@@ -213,14 +232,18 @@ module _ (rules : Rules) (ps : List Procedure) (checked : IsChecked rules ps) wh
   pub full_lawful : AreLawful full_facts ps
   full_lawful = record { laws = λ name u f. full_laws name u f; extents = λ name u f d h. refl }
 
+-- where no loop is reversed by a schedule
+pub no_lines : (w : ProgramFacts) (ps : List Procedure) → LinesTell (λ line. None) false w ps
+no_lines w ps name u f = none_told (callee_facts w ps) w.marks.adjointed (first_statement ps name) u.body
+
 pub lawful_fits : LawfulFits
-lawful_fits rules ps checked w lawful head u is = source_fits rules ps checked w u (lawful_for rules ps checked w lawful head u is) head is
+lawful_fits rules ps checked w lawful head u is = source_fits rules ps checked false (λ line. None) w u (lawful_for rules ps checked w lawful head u is) (no_lines w ps) head is
 
 pub lawful_is_adjoint : LawfulIsAdjoint
 lawful_is_adjoint rules ps checked w lawful head vars outvars u is suits = emitted_is_adjoint false (λ line. None) w ps head vars outvars u is (lawful_fits rules ps checked w lawful head u is) suits
 
 pub reached_is_adjoint : ReachedIsAdjoint
-reached_is_adjoint rules ps checked w head vars outvars u is lawful suits = emitted_is_adjoint false (λ line. None) w ps head vars outvars u is (source_fits rules ps checked w u lawful head is) suits
+reached_is_adjoint rules ps checked w head vars outvars u is schedules lines lawful tells suits = emitted_is_adjoint schedules lines w ps head vars outvars u is (source_fits rules ps checked schedules lines w u lawful tells head is) suits
 
 pub checked_fits : CheckedFits
 checked_fits rules ps checked head u is = lawful_fits rules ps checked full_facts (full_lawful rules ps checked) head u is

@@ -6,7 +6,7 @@ use Rattle.adj_tree.proofs.Names.{nat_same, name_refl}
 use Rattle.adj_meaning.specs.LeastSet.{Dummies}
 use Rattle.adj_meaning.specs.Written.{find_unit, writes, act_writes, handed_back}
 use Rattle.adj_meaning.specs.Common.{CallsInside', CallsInside}
-use Rattle.adj_text.specs.Written.{IsWrittenAct, IsWrittenCode}
+use Rattle.adj_text.specs.Written.{IsWrittenMark, IsWrittenAct, IsWrittenCode}
 use Rattle.adj_names.specs.Reserved.{is_runtime}
 use Rattle.adj_names.specs.Statements.{At, inner, statements}
 use Rattle.adj_names.specs.Standing.{Standing, scalar, in_term, in_place, in_mark, in_actuals, in_act}
@@ -18,15 +18,21 @@ use Rattle.adj_names.specs.WriteFaults.{may_write, writes_of_variable}
 use Rattle.adj_kernel.specs.Form.{AreDistinctNames, IsKernelAct, IsKernelCode}
 use Rattle.adj_transpose.specs.Marks.{next, behind}
 use Rattle.adj_names.specs.Variables.{variables}
-use Rattle.adj_transpose.proofs.Variables.{or_left, or_right}
-use Rattle.adj_reverse.specs.Plan.{beside, actuals_named}
+use Rattle.adj_transpose.proofs.Variables.{or_left, or_right, name_comm}
+use Rattle.adj_reverse.specs.Plan.{beside, actuals_named, found_or, Schedules, Step, reversed_by, ByStep}
+use Rattle.adj_reverse.specs.Reversals.{ReversedLines}
+use Rattle.adj_reverse.specs.Theorem.{schedules_by}
+use Rattle.adj_reverse.specs.Names.{source_names, adjoint_after}
 use Rattle.adj_reverse.specs.Laws.{CalleeFacts}
-use Rattle.adj_reverse.specs.Kernel.{AsMany, CallFits, Fits', FitsList}
+use Rattle.adj_reverse.specs.Kernel.{AsMany, ReversalFits, CallFits, FitsBy, FitsListBy}
 use Rattle.adj_reverse.specs.Marking.{ProgramMarks, ProgramFacts, marks_in, callee_of, callee_facts, arrays_of}
-use Rattle.adj_reverse.specs.Program.{calls_act, calls_in}
+use Rattle.adj_reverse.specs.Program.{calls_act, calls_in, turns_act, turns_in}
 use Rattle.adj_reverse.specs.Source.{is_unit}
 use Rattle.adj_reverse.proofs.Full.{GivesNames', GivesNames}
-use Rattle.adj_reverse.proofs.EmittedUnits.{found_there}
+use Rattle.adj_reverse.proofs.ByStep.{step_inside, step_known}
+use Rattle.adj_reverse.proofs.EmittedUnits.{found_there, apart_source}
+use Rattle.adj_checked.specs.Checked.{TellsAct, TellsCode}
+use Rattle.adj_checked.proofs.StepCalls.{turned_alone}
 use Rattle.adj_checked.proofs.Lists.{Each, each_front, each_behind, each_more, none_each, none_if}
 use Rattle.adj_checked.proofs.Texts.{Known, text_term, text_terms, text_test, place_variable, place_terms, known_term, treated, actuals_given, actuals_apart, actuals_known, actuals_many, actuals_rank}
 
@@ -121,12 +127,24 @@ pub record StatementSound (rules : Rules) (ps : List Procedure) (u : Procedure) 
   pub spared : writes_of_variable (handed_back ps) s.1 ≡ []
   pub known : Each (Known (variables u)) (in_act s.1)
 
-module _ (rules : Rules) (facts : ProgramFacts) (ps : List Procedure) (name : List ℕ) (u : Procedure) (present : Bool) (answers carried : List ℕ → Bool) where
+-- a unit that is there is found
+unit_found : (ps : List Procedure) (n : List ℕ) → is_unit ps n ≡ true → (u : Procedure) × (find_unit ps n ≡ Some u)
+unit_found [] n h = absurd cc
+unit_found (v ∷ ps) n h = go (name_eq v.name n) h (unit_found ps n)
+  where
+    go : (b : Bool) → (b || is_unit ps n) ≡ true → (is_unit ps n ≡ true → (u : Procedure) × (find_unit ps n ≡ Some u)) → (u : Procedure) × ((if b then Some v else find_unit ps n) ≡ Some u)
+    go true h ih = (v, refl)
+    go false h ih = ih h
+
+module _ (sb : Bool) (lines : ReversedLines) (rules : Rules) (facts : ProgramFacts) (ps : List Procedure) (name : List ℕ) (u : Procedure) (present : Bool) (answers carried : List ℕ → Bool) where
   abbrev g : List ℕ → CalleeFacts
   g = callee_facts facts ps
 
   abbrev m : ProgramMarks
   m = facts.marks
+
+  abbrev sc : Schedules
+  sc = schedules_by sb g
 
   abbrev Sound : At Act → Type 0
   Sound s = StatementSound rules ps u s
@@ -139,10 +157,10 @@ module _ (rules : Rules) (facts : ProgramFacts) (ps : List Procedure) (name : Li
   Carried n = present ≡ true → carried n ≡ true
 
   abbrev pub FitsHere : ℕ → ℕ → Act → Type 0
-  FitsHere i line a = Fits' (λ l. None) ps g answers carried present (marks_in m name) (variables u) (arrays_of u) (handed_back ps) i line a
+  FitsHere i line a = FitsBy sc lines ps g answers carried present (marks_in m name) (variables u) (arrays_of u) (handed_back ps) i line a
 
   abbrev pub ListFits : ℕ → Code → Type 0
-  ListFits i c = FitsList (λ l. None) ps g answers carried present (marks_in m name) (variables u) (arrays_of u) (handed_back ps) i c
+  ListFits i c = FitsListBy sc lines ps g answers carried present (marks_in m name) (variables u) (arrays_of u) (handed_back ps) i c
 
   -- a name that stands as a scalar is no array
   no_array : (x : List ℕ) (line : ℕ) (b : Bool) → b ≡ has_rank u (record { name = x; subscripts = Some 0 }) → faults_if (not b) (fault 9 line) ≡ [] → arrays_of u (plain x) ≡ false
@@ -188,9 +206,28 @@ module _ (rules : Rules) (facts : ProgramFacts) (ps : List Procedure) (name : Li
       fit : are_actuals_for u c.unit c.unit.dummies (actuals_named given) ≡ true
       fit = subst (λ l. are_actuals_for u c.unit c.unit.dummies l ≡ true) e c.fit
 
+  -- a unit has another name than its adjoint
+  own_apart : (n : List ℕ) → is_unit ps n ≡ true → name_eq n (g n).callee.adjoint ≡ false
+  own_apart n h =
+      let f = unit_found ps n h in
+      ap (λ o. name_eq n (callee_of m ps n o).adjoint) f.1 ∙ ap (λ x. name_eq n (adjoint_after (source_names ps) ps x)) (found_there ps n f.0 f.1).1 ∙ apart_source false m ps u [] [] n n h h
+
+  -- the body of a DO, by how it is reversed
+  loop_choice : (i : ℕ) (body : Code) (mark : Mark) → IsWrittenMark mark → Each Sound (statements body) → (((n : List ℕ) → turns_in sc m.adjointed n (suc i) body ≡ true → Carried n) → ListFits (suc i) body) →
+      (o : Option Step) → reversed_by sc m.adjointed i body mark ≡ o → ((n : List ℕ) → found_or o (turns_in sc m.adjointed n (suc i) body) (λ t. name_eq n t.name) ≡ true → Carried n) → ByStep o (ListFits (suc i) body) (λ t. ReversalFits (g t.name) present (carried t.name) t × ListFits (suc i) body)
+  loop_choice i body mark w inside rest None e t = rest t
+  loop_choice i body mark w inside rest (Some r) e t =
+      let known = step_known sb g m.adjointed i body mark r e in
+      let few = subst IsWrittenMark known.marked w in
+      let is_there = step_inside (is_unit ps) sc m.adjointed i body mark r e (calls_inside ps u body (each_more Sound (CallHasNone ps u) (λ s o. (let called = o.called in called)) (statements body) inside)) in
+      let apart = own_apart r.name is_there in (
+        record { some = few.0; few = few.1; other_name = apart; other_adjoint = name_comm r.name (g r.name).callee.adjoint apart; emitted = t r.name (name_refl r.name) },
+        rest (λ n h. absurd (let c : true ≡ false = sym h ∙ turned_alone sc m.adjointed i body mark r n (suc i) e in cc)),
+      )
+
   mutual
-    act_fits : (i line : ℕ) (a : Act) → IsWrittenAct a → IsKernelAct a → Sound (line, a) → Each Sound (inner a) → ((n : List ℕ) → calls_act m.adjointed n i a ≡ true → Answered n) → ((n : List ℕ) → calls_act m.kept n i a ≡ true → Carried n) → FitsHere i line a
-    act_fits i line (assign (plain x) subs e) w k s inside c d = record {
+    act_fits : (i line : ℕ) (a : Act) → IsWrittenAct a → IsKernelAct a → Sound (line, a) → Each Sound (inner a) → ((n : List ℕ) → calls_act m.adjointed n i a ≡ true → Answered n) → ((n : List ℕ) → calls_act m.kept n i a ≡ true → Carried n) → ((n : List ℕ) → turns_act sc m.adjointed n i a ≡ true → Carried n) → TellsAct lines sc g m.adjointed i line a → FitsHere i line a
+    act_fits i line (assign (plain x) subs e) w k s inside c d t z = record {
       variable = (let known = s.known in known.0);
       rank = target_scalar x subs e line s.ranks;
       apart = k.0;
@@ -199,18 +236,18 @@ module _ (rules : Rules) (facts : ProgramFacts) (ps : List Procedure) (name : Li
       treated = treated e k.1;
       known = λ y h. known_term (variables u) y e (each_behind (Known (variables u)) (in_place (plain x) subs) (in_term e) s.known) h;
     }
-    act_fits i line (assign (shadow x) subs e) w k s inside c d = absurd (place_variable (shadow x) subs w.0)
-    act_fits i line (assign (helper r j) subs e) w k s inside c d = absurd (place_variable (helper r j) subs w.0)
-    act_fits i line (choose t a b) w k s inside c d = (
-      λ v h. text_test v t w.0 h,
+    act_fits i line (assign (shadow x) subs e) w k s inside c d t z = absurd (place_variable (shadow x) subs w.0)
+    act_fits i line (assign (helper r j) subs e) w k s inside c d t z = absurd (place_variable (helper r j) subs w.0)
+    act_fits i line (choose o a b) w k s inside c d t z = (
+      λ v h. text_test v o w.0 h,
       (
-        list_fits (suc i) a w.1 k.0 (each_front Sound (statements a) (statements b) inside) (λ n h. c n (or_left (calls_in m.adjointed n (suc i) a) (calls_in m.adjointed n (behind (suc i) a) b) h)) (λ n h. d n (or_left (calls_in m.kept n (suc i) a) (calls_in m.kept n (behind (suc i) a) b) h)),
-        list_fits (behind (suc i) a) b w.2 k.1 (each_behind Sound (statements a) (statements b) inside) (λ n h. c n (or_right (calls_in m.adjointed n (suc i) a) (calls_in m.adjointed n (behind (suc i) a) b) h)) (λ n h. d n (or_right (calls_in m.kept n (suc i) a) (calls_in m.kept n (behind (suc i) a) b) h)),
+        list_fits (suc i) a w.1 k.0 (each_front Sound (statements a) (statements b) inside) (λ n h. c n (or_left (calls_in m.adjointed n (suc i) a) (calls_in m.adjointed n (behind (suc i) a) b) h)) (λ n h. d n (or_left (calls_in m.kept n (suc i) a) (calls_in m.kept n (behind (suc i) a) b) h)) (λ n h. t n (or_left (turns_in sc m.adjointed n (suc i) a) (turns_in sc m.adjointed n (behind (suc i) a) b) h)) z.0,
+        list_fits (behind (suc i) a) b w.2 k.1 (each_behind Sound (statements a) (statements b) inside) (λ n h. c n (or_right (calls_in m.adjointed n (suc i) a) (calls_in m.adjointed n (behind (suc i) a) b) h)) (λ n h. d n (or_right (calls_in m.kept n (suc i) a) (calls_in m.kept n (behind (suc i) a) b) h)) (λ n h. t n (or_right (turns_in sc m.adjointed n (suc i) a) (turns_in sc m.adjointed n (behind (suc i) a) b) h)) z.1,
       ),
     )
-    act_fits i line (loop (plain x) first last by body mark) w k s inside c d = (
+    act_fits i line (loop (plain x) first last by body mark) w k s inside c d t z = (
       record {
-        told = λ h. refl;
+        told = z.0;
         variable = (each_behind (Known (variables u)) (in_mark mark) (scalar (plain x) ++ (in_term first ++ (in_term last ++ in_term by))) s.known).0;
         scalar = loop_scalar x first last by body mark line s.ranks;
         spares = body_spares (plain x) first last by body mark s.spared;
@@ -218,20 +255,20 @@ module _ (rules : Rules) (facts : ProgramFacts) (ps : List Procedure) (name : Li
         text_last = λ v h. text_term v last w.2 h;
         text_step = λ v h. text_term v by w.3 h;
       },
-      list_fits (suc i) body w.4 k.1 inside c d,
+      loop_choice i body mark w.5 inside (λ turned. list_fits (suc i) body w.4 k.1 inside c d turned z.1) (reversed_by sc m.adjointed i body mark) refl t,
     )
-    act_fits i line (loop (shadow x) first last by body mark) w k s inside c d = absurd w.0
-    act_fits i line (loop (helper r j) first last by body mark) w k s inside c d = absurd w.0
-    act_fits i line (during t body) w k s inside c d = (λ v h. text_test v t w.0 h, list_fits (suc i) body w.1 k inside c d)
-    act_fits i line (call other args) w k s inside c d = (
+    act_fits i line (loop (shadow x) first last by body mark) w k s inside c d t z = absurd w.0
+    act_fits i line (loop (helper r j) first last by body mark) w k s inside c d t z = absurd w.0
+    act_fits i line (during o body) w k s inside c d t z = (λ v h. text_test v o w.0 h, list_fits (suc i) body w.1 k inside c d t z)
+    act_fits i line (call other args) w k s inside c d t z = (
       call_fits other args k (call_of_unit ps u line other args s.called) s.known,
       (λ pr a. c other (ap (λ b. b && name_eq other other) a ∙ name_refl other) pr, λ pr a. d other (ap (λ b. b && name_eq other other) a ∙ name_refl other) pr),
     )
-    act_fits i line (runtime r) w k s inside c d = absurd k
+    act_fits i line (runtime r) w k s inside c d t z = absurd k
 
-    pub list_fits : (i : ℕ) (l : Code) → IsWrittenCode l → IsKernelCode l → Each Sound (statements l) → ((n : List ℕ) → calls_in m.adjointed n i l ≡ true → Answered n) → ((n : List ℕ) → calls_in m.kept n i l ≡ true → Carried n) → ListFits i l
-    list_fits i stop w k s c d = tt
-    list_fits i (step line a rest) w k s c d = (
-      act_fits i line a w.0 k.0 s.0 (each_front Sound (inner a) (statements rest) s.1) (λ n h. c n (or_left (calls_act m.adjointed n i a) (calls_in m.adjointed n (next i a) rest) h)) (λ n h. d n (or_left (calls_act m.kept n i a) (calls_in m.kept n (next i a) rest) h)),
-      list_fits (next i a) rest w.1 k.1 (each_behind Sound (inner a) (statements rest) s.1) (λ n h. c n (or_right (calls_act m.adjointed n i a) (calls_in m.adjointed n (next i a) rest) h)) (λ n h. d n (or_right (calls_act m.kept n i a) (calls_in m.kept n (next i a) rest) h)),
+    pub list_fits : (i : ℕ) (l : Code) → IsWrittenCode l → IsKernelCode l → Each Sound (statements l) → ((n : List ℕ) → calls_in m.adjointed n i l ≡ true → Answered n) → ((n : List ℕ) → calls_in m.kept n i l ≡ true → Carried n) → ((n : List ℕ) → turns_in sc m.adjointed n i l ≡ true → Carried n) → TellsCode lines sc g m.adjointed i l → ListFits i l
+    list_fits i stop w k s c d t z = tt
+    list_fits i (step line a rest) w k s c d t z = (
+      act_fits i line a w.0 k.0 s.0 (each_front Sound (inner a) (statements rest) s.1) (λ n h. c n (or_left (calls_act m.adjointed n i a) (calls_in m.adjointed n (next i a) rest) h)) (λ n h. d n (or_left (calls_act m.kept n i a) (calls_in m.kept n (next i a) rest) h)) (λ n h. t n (or_left (turns_act sc m.adjointed n i a) (turns_in sc m.adjointed n (next i a) rest) h)) z.0,
+      list_fits (next i a) rest w.1 k.1 (each_behind Sound (inner a) (statements rest) s.1) (λ n h. c n (or_right (calls_act m.adjointed n i a) (calls_in m.adjointed n (next i a) rest) h)) (λ n h. d n (or_right (calls_act m.kept n i a) (calls_in m.kept n (next i a) rest) h)) (λ n h. t n (or_right (turns_act sc m.adjointed n i a) (turns_in sc m.adjointed n (next i a) rest) h)) z.1,
     )
