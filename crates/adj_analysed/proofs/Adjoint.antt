@@ -35,6 +35,8 @@ use Rattle.adj_analysed.specs.Meets.{program_facts, IsPlainCode, IsUnmarked, Has
 use Rattle.adj_analysed.proofs.Numbers.{Placed, placed}
 use Rattle.adj_analysed.proofs.Meets.{some_same, has_contains, analysed_meets}
 use Rattle.adj_analysed.proofs.Checked.{MarksFit, unmarked_fit, literal_fit, plain_code, part_found}
+use Rattle.adj_analysed.specs.MarkedLines.{reversed_lines}
+use Rattle.adj_analysed.proofs.MarkedLines.{lines_tell}
 use Rattle.adj_analysed.proofs.Reaching.{taking, reached_closed}
 
 module _ (rules : Rules) (k : Problem) (checked : IsChecked rules k.units) (sb : Bool) (free : EachUnit (λ u. MarksFit sb u.body) k.units) (a : activity.Activity) (l : Liveness) (saved held : ℕ → Vars) (y : Analysed k a l saved held) where
@@ -147,6 +149,7 @@ analysed_is_adjoint rules k checked free a l saved held y u at =
     reached_is_adjoint rules k.units checked w k.head k.vars k.outvars u at false (λ line. None) (lawful rules k checked false fit a l saved held y u at) (no_lines w k.units) (suits rules k checked false fit a l saved held y u at)
 
 pub analysed_reverses : AnalysedReverses
-analysed_reverses rules k checked literal a l saved held y u at lines tells =
+analysed_reverses rules k checked literal apart a l saved held y u at =
     let fit = each_more_unit (λ u. HasLiteralMarks u.body) (λ u. MarksFit true u.body) (λ u h. literal_fit u.body h) k.units literal in
-    reached_is_adjoint rules k.units checked (program_facts k.units a l saved held) k.head k.vars k.outvars u at true lines (lawful rules k checked true fit a l saved held y u at) tells (suits rules k checked true fit a l saved held y u at)
+    let w = program_facts k.units a l saved held in
+    reached_is_adjoint rules k.units checked w k.head k.vars k.outvars u at true (reversed_lines w k.units) (lawful rules k checked true fit a l saved held y u at) (lines_tell w k.units apart) (suits rules k checked true fit a l saved held y u at)

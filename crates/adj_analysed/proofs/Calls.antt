@@ -1,14 +1,14 @@
 -- What exact analyses say meets the laws of calls.
 use Rattle.std.proofs.Common.{◌≡◌, ◌⊎◌, inl, inr, ℕ, suc, List, [], Bool, true, false, refl, sym, ap, ◌∙◌, subst}
 use Rattle.std.specs.Prelude.{Contains, ◌&&◌, ◌||◌, Option, Some}
-use Rattle.adj_tree.specs.Code.{Var, plain, name_eq, call, Procedure}
+use Rattle.adj_tree.specs.Code.{Var, plain, call, Procedure}
 use Rattle.adj_meaning.specs.Written.{is_written, handed_back, is_handed_back}
 use Rattle.adj_meaning.specs.Read.{is_read, read_rule, looked_at, reads_actuals}
 use Rattle.adj_meaning.proofs.LeastSets.{least_row}
 use Rattle.adj_meaning.proofs.WriteSets.{handed_written}
 use Rattle.adj_meaning.proofs.ReadSets.{read_rises}
 use Rattle.adj_transpose.specs.Marks.{Vars, point_before, point_after}
-use Rattle.adj_transpose.specs.Facts.{In, without, joined, Facts}
+use Rattle.adj_transpose.specs.Facts.{In, without, Facts}
 use Rattle.adj_transpose.proofs.Variables.{or_left, or_right, not_true}
 use Rattle.adj_reverse.specs.Plan.{IsActual, actuals_named}
 use Rattle.adj_reverse.specs.Kernel.{AsMany}

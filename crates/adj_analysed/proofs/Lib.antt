@@ -7,6 +7,7 @@ pub mod Given
 pub mod Calls
 pub mod Meets
 pub mod Checked
+pub mod MarkedLines
 pub mod Reaching
 pub mod Adjoint
 pub mod Worked

@@ -9,13 +9,13 @@ use Rattle.adj_kernel.specs.Kernel.{EachUnit}
 use Rattle.adj_transpose.specs.Program.{unit_at}
 use Rattle.adj_reverse.specs.Program.{emitted_program_with, emitted_program}
 use Rattle.adj_reverse.specs.Adjoint.{IsAdjointWith, IsAdjoint}
-use Rattle.adj_checked.specs.Checked.{IsChecked, LinesTell}
+use Rattle.adj_checked.specs.Checked.{IsChecked}
+use Rattle.adj_analysed.specs.MarkedLines.{program_lines, AreLinesApart, reversed_lines}
 use Rattle.adj_kernel.specs.Form.{IsOneCall}
 use Rattle.adj_reverse.specs.Plan.{actuals_named}
 use Rattle.adj_reverse.specs.Kernel.{AsMany}
 use Rattle.adj_reverse.specs.Laws.{UnitLawsBy}
 use Rattle.adj_reverse.specs.Theorem.{schedules_by}
-use Rattle.adj_reverse.specs.Reversals.{ReversedLines}
 use Rattle.adj_reverse.specs.Marking.{ProgramFacts, dummy_set, place_from, callee_facts, first_statement}
 use Rattle.adj_facts.specs.Parts.{Part, parts, find_part}
 use Rattle.adj_facts.specs.Problem.{Problem, TakesPart}
@@ -120,11 +120,10 @@ AnalysedIsAdjoint =
     (a : Activity) (l : Liveness) (saved held : ℕ → Vars) → Analysed k a l saved held → (u : Procedure) → unit_at k.head k.units ≡ u ∷ [] →
     let marks = (program_facts k.units a l saved held).marks in IsAdjoint (λ line. None) marks k.units k.head k.vars k.outvars (emitted_program marks k.units k.head k.vars k.outvars)
 
--- and where marked loops are reversed by schedules, each whose step call is adjointed: for one whose marks are literal, by the lines at which
--- they stand
+-- and where marked loops are reversed by schedules, each whose step call is adjointed: for one whose marks are literal, and no two of whose
+-- marked loops stand at one line
 abbrev pub AnalysedReverses : Type 0
 AnalysedReverses =
-    (rules : Rules) (k : Problem) → IsChecked rules k.units → EachUnit (λ u. HasLiteralMarks u.body) k.units →
+    (rules : Rules) (k : Problem) → IsChecked rules k.units → EachUnit (λ u. HasLiteralMarks u.body) k.units → AreLinesApart (program_lines k.units) →
     (a : Activity) (l : Liveness) (saved held : ℕ → Vars) → Analysed k a l saved held → (u : Procedure) → unit_at k.head k.units ≡ u ∷ [] →
-    let w = program_facts k.units a l saved held in
-    (lines : ReversedLines) → LinesTell lines true w k.units → IsAdjointWith true lines w.marks k.units k.head k.vars k.outvars (emitted_program_with true w.marks k.units k.head k.vars k.outvars)
+    let w = program_facts k.units a l saved held in IsAdjointWith true (reversed_lines w k.units) w.marks k.units k.head k.vars k.outvars (emitted_program_with true w.marks k.units k.head k.vars k.outvars)
