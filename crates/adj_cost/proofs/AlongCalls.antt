@@ -29,6 +29,7 @@ use Rattle.adj_cost.specs.Along.{BothCost}
 use Rattle.adj_cost.proofs.Counting.{append_count}
 use Rattle.adj_cost.proofs.Runs.{one_end, left_same, append_done, one_done, IsStraight, straight_append, straight_if, straight_cost}
 use Rattle.adj_cost.proofs.Along.{cost_stop, cost_more}
+use Rattle.adj_reverse.specs.Reversals.{ReversedLines}
 
 -- groups are straight code
 module _ (p : Plan) (line : ℕ) where
@@ -54,7 +55,7 @@ module _ (p : Plan) (line : ℕ) where
   straight_pops [] = tt
   straight_pops (x ∷ xs) = straight_append (pops p line xs) (pop p line x) (straight_pops xs) (straight_pop x)
 
-module _ (qs : List Procedure) (depth : ℕ) (lines : ℕ → Bool) (qd : Calls (ℤ × ℤ)) (sh : Var → Shape) (level : ℕ) (xs : List Key) (p : Plan) (known : KnowsArrays p sh) (w : Facts) (i : ℕ) (g : CalleeFacts) (given : List (List ℕ)) (apart : AreApart g.callee.dummies) (apart' : AreApart given) (laws : CallLaws w i g given) (name : List ℕ) (line : ℕ) (u u' : Store ℤ)
+module _ (qs : List Procedure) (depth : ℕ) (lines : ReversedLines) (qd : Calls (ℤ × ℤ)) (sh : Var → Shape) (level : ℕ) (xs : List Key) (p : Plan) (known : KnowsArrays p sh) (w : Facts) (i : ℕ) (g : CalleeFacts) (given : List (List ℕ)) (apart : AreApart g.callee.dummies) (apart' : AreApart given) (laws : CallLaws w i g given) (name : List ℕ) (line : ℕ) (u u' : Store ℤ)
     (one_call : CallTransposed (calls_of qs depth) lines qd sh level xs g given name line (w.marks.kept i) (w.marks.adjointed i) true u u')
     (P A : ℕ)
     (plain_cost : w.marks.kept i ≡ true → (base : Kept) (f : Store ℤ) (t : List ℤ) → ActualsAgree sh g.callee given g.read u f → (s : Scene ℤ) (k left : ℕ) → act (calls_of qs depth) (on_words sh level) (call name (actuals_named given)) line (scene base f t) k ≡ Done s left → k ≤ left + P)

@@ -1,6 +1,6 @@
 -- What both sweeps take of lists of statements, along a run that is done and at its price.
 use Rattle.std.proofs.Common.{◌≡◌, ◌<◌, ◌≤◌, ◌^◌, ℕ, zero, suc, ◌+◌, ◌*◌, Bool, true, false, List, [], ◌++◌, refl, sym, ap, ◌∙◌, subst, arith}
-use Rattle.std.specs.Prelude.{ℤ, pos, ◌&&◌, ◌||◌, Result, Ok, Err, if◌then◌else◌}
+use Rattle.std.specs.Prelude.{ℤ, pos, ◌&&◌, ◌||◌, None, Result, Ok, Err, if◌then◌else◌}
 use Rattle.adj_tree.specs.Code.{Var, plain, shadow, helper, name_eq, Term, Terms, Test, Mark, Act, assign, choose, loop, during, call, runtime, push_word, pop_word, Code, stop, step, none, Procedure}
 use Rattle.adj_tree.proofs.Names.{name_refl}
 use Rattle.adj_word.specs.Word.{wrap, add, mul}
@@ -29,7 +29,7 @@ use Rattle.adj_reverse.specs.Emission.{is_empty, told_forward, told_backward, lo
 use Rattle.adj_reverse.specs.Laws.{nothing, WayLaws, point_inside, last_point, is_plain, CalleeFacts, ChoiceLaws, LoopLaws, WhileLaws, CallLaws, ActLaws, ListLaws}
 use Rattle.adj_reverse.specs.Passing.{plainly}
 use Rattle.adj_reverse.specs.Kernel.{CallFits, LoopFits, Fits', FitsList, AllText}
-use Rattle.adj_reverse.specs.Reversals.{LoopRun}
+use Rattle.adj_reverse.specs.Reversals.{ReversedLines, LoopRun}
 use Rattle.adj_reverse.specs.Runs.{SameOn}
 use Rattle.adj_reverse.specs.Theorem.{plan_of}
 use Rattle.adj_reverse.proofs.Choices.{part}
@@ -57,7 +57,7 @@ use Rattle.adj_cost.proofs.AlongWhiles as tests
 use Rattle.adj_cost.proofs.AlongWhiles.{ToldTests, SilentTests}
 use Rattle.adj_cost.proofs.Prices.{at_rate, rate_sum, Pays, ActPays, TurnsPay, TestsPay, pays_stop, pays_step, pays_choose, turns_pay_none, turns_pay_more, pays_loop, tests_pay_none, tests_pay_more, pays_assign}
 
-module _ (ps qs : List Procedure) (depth : ℕ) (lines : ℕ → Bool) (handed : Dummies) (callees : List ℕ → CalleeFacts) (answers carried : List ℕ → Bool) (w : Facts) (present : Bool) (vars : List (List ℕ)) (arrays : Vars) (sh : Var → Shape) (level : ℕ) (xs : List Key) (known : KnowsArrays (plan_of callees w arrays) sh) (rate : ℕ) (four : 4 ≤ rate) where
+module _ (ps qs : List Procedure) (depth : ℕ) (lines : ReversedLines) (handed : Dummies) (callees : List ℕ → CalleeFacts) (answers carried : List ℕ → Bool) (w : Facts) (present : Bool) (vars : List (List ℕ)) (arrays : Vars) (sh : Var → Shape) (level : ℕ) (xs : List Key) (known : KnowsArrays (plan_of callees w arrays) sh) (rate : ℕ) (four : 4 ≤ rate) where
   abbrev p : Calls ℤ
   p = calls_of ps depth
 
@@ -310,7 +310,7 @@ module _ (ps qs : List Procedure) (depth : ℕ) (lines : ℕ → Bool) (handed :
   zero_more n h = omega arith
 
   -- a DO that was done
-  do_costs : (x : List ℕ) (a b c : Term) (body : Code) (mark : Mark) (i d line : ℕ) (s e : Scene ℤ) (k left : ℕ) → (fits : LoopFits lines line mark vars arrays handed x a b c body) → (laws : LoopLaws w i (plain x) a b c body) → act p np (loop (plain x) a b c body mark) line s k ≡ Done e left →
+  do_costs : (x : List ℕ) (a b c : Term) (body : Code) (mark : Mark) (i d line : ℕ) (s e : Scene ℤ) (k left : ℕ) → (fits : LoopFits lines line mark None vars arrays handed x a b c body) → (laws : LoopLaws w i (plain x) a b c body) → act p np (loop (plain x) a b c body mark) line s k ≡ Done e left →
       ((a0 c0 : ℤ) (s0 e0 : Scene ℤ) (k0 l0 : ℕ) → run p np body s0 k0 ≡ Done e0 l0 → TurnCosts i d line x (known x fits.scalar) a b c body laws fits.spares a0 c0 s0 e0 k0 l0) → ActCosts i d line (loop (plain x) a b c body mark) s e k left
   do_costs x a b c body mark i d line s e k left fits laws h each =
       let va = value_done (value np a s.store) line _ _ e left h in

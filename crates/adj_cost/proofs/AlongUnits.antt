@@ -1,5 +1,5 @@
 -- What both sweeps of a unit take along a run that is done, called units first.
-use Rattle.std.proofs.Common.{◌≡◌, ◌<◌, ◌≤◌, ℕ, zero, suc, ◌+◌, ◌*◌, Bool, true, List, map, refl, sym, ap, ◌∙◌, subst, arith, if◌then◌else◌}
+use Rattle.std.proofs.Common.{◌≡◌, ◌<◌, ◌≤◌, ℕ, zero, suc, ◌+◌, ◌*◌, Bool, true, false, List, map, refl, sym, ap, ◌∙◌, subst, arith, if◌then◌else◌}
 use Rattle.std.specs.Prelude.{ℤ, pos, IsTrue, Ok, Option, Some, None}
 use Rattle.adj_tree.specs.Code.{Var, plain, shadow, helper, Act, assign, choose, loop, during, call, runtime, Code, stop, step, Procedure}
 use Rattle.adj_meaning.specs.Append.{◌+++◌, one}
@@ -44,6 +44,7 @@ use Rattle.adj_reverse.proofs.Declared as alike
 use Rattle.adj_reverse.proofs.Entering.{AreNamed, actuals_at, actuals_are, entry_pulled}
 use Rattle.adj_reverse.proofs.Lists.{list_swept}
 use Rattle.adj_reverse.proofs.Passing.{found_or, beside_back, beside_key, in_plain}
+use Rattle.adj_reverse.proofs.PlainCalls.{at_any_line}
 use Rattle.adj_reverse.proofs.Units.{assignments_done, unit_swept, call_swept}
 use Rattle.adj_meaning.proofs.SeenCalls.{own_names}
 use Rattle.adj_cost.specs.Sweeps.{statements_of}
@@ -59,9 +60,10 @@ use Rattle.adj_cost.proofs.Counting.{act_few}
 use Rattle.adj_cost.proofs.EachCall.{IsWithin, each_inside, unit_within, some_chain}
 use Rattle.adj_cost.proofs.Moved.{IsBare', IsBare, CallsMove, calls_move}
 use Rattle.adj_cost.proofs.Prices.{Pays, at_rate, rate_sum}
+use Rattle.adj_reverse.specs.Reversals.{ReversedLines}
 
 -- what fits has no runtime calls
-module _ (lines : ℕ → Bool) (ps : List Procedure) (g : List ℕ → CalleeFacts) (answers carried : List ℕ → Bool) (present : Bool) (m : Marks) (vars : List (List ℕ)) (arrays : Vars) (handed : Dummies) (inside : List ℕ → Bool) where
+module _ (lines : ReversedLines) (ps : List Procedure) (g : List ℕ → CalleeFacts) (answers carried : List ℕ → Bool) (present : Bool) (m : Marks) (vars : List (List ℕ)) (arrays : Vars) (handed : Dummies) (inside : List ℕ → Bool) where
   mutual
     bare_act : (i line : ℕ) (a : Act) → Fits' lines ps g answers carried present m vars arrays handed i line a → CallsInside' inside a → IsBare' (λ n. IsTrue (inside n)) a
     bare_act i line (assign x subs e) f h = tt
@@ -97,7 +99,7 @@ fair_call rate w p h =
     let s : suc rate * p ≡ p + rate * p = omega arith in
     omega (arith, l, e, s)
 
-module _ (lines : ℕ → Bool) (ps qs : List Procedure) (g : List ℕ → CalleeFacts) (there answers carried : List ℕ → Bool) (first : List ℕ → ℕ) (vars : List ℕ → List (List ℕ)) (arrays : List ℕ → Vars) (h : ProgramFits lines ps qs g there answers carried first vars arrays) where
+module _ (lines : ReversedLines) (ps qs : List Procedure) (g : List ℕ → CalleeFacts) (there answers carried : List ℕ → Bool) (first : List ℕ → ℕ) (vars : List ℕ → List (List ℕ)) (arrays : List ℕ → Vars) (h : ProgramFits false lines ps qs g there answers carried first vars arrays) where
   abbrev inside : List ℕ → Bool
   inside = h.inside
 
@@ -128,12 +130,12 @@ module _ (lines : ℕ → Bool) (ps qs : List Procedure) (g : List ℕ → Calle
   moves depth = calls_move ps IsInside (λ name u ins found. let f = h.units name u found ins in bare_list lines ps g answers carried (there name) (g name).facts.marks (vars name) (arrays name) (handed_back ps) inside (first name) u.body f.code (h.closed name u found ins)) depth
 
   -- calls are transposed
-  swept_call : (depth : ℕ) (own : List ℕ) (sh : Var → Shape) (level : ℕ) → ShapesFit (plan own) sh → AreApart (vars own) → (n : List ℕ) (given : List (List ℕ)) (i line : ℕ) (s e : Scene ℤ) (k left : ℕ) → IsTrue (inside n) → CallLaws (g own).facts i (g n) given → CallFits ps (vars own) (arrays own) (g n) n given → (there own ≡ true → (g own).facts.marks.adjointed i ≡ true → answers n ≡ true) → (there own ≡ true → (g own).facts.marks.kept i ≡ true → carried n ≡ true) →
-      calls_of ps depth (on_words (plainly sh) level) n (actuals_named given) line s k ≡ Done e left → CallTransposed (calls_of qs depth) lines (calls_of ps depth) sh level (cells_of sh (vars own)) (g n) given n line ((g own).facts.marks.kept i) ((g own).facts.marks.adjointed i) (there own) s.store e.store
-  swept_call zero own sh level shapes apart_vars n given i line s e k left ins laws cf adj kept_in done = absurd cc
-  swept_call (suc depth) own sh level shapes apart_vars n given i line s e k left ins laws cf adj kept_in done =
-      call_swept lines ps qs g there answers carried first vars arrays h.inside h.closed h.units h.apart h.common h.emitted h.adjoints (assignments_done lines ps qs g there answers carried first vars arrays h.inside h.closed h.units h.apart h.common h.emitted h.adjoints) depth
-      (unit_swept lines ps qs g there answers carried first vars arrays h.inside h.closed h.units h.apart h.common h.emitted h.adjoints depth) own sh level (shapes.scalars, shapes.shadows) apart_vars n given i line s e k left ins laws cf adj kept_in done
+  swept_call : (depth : ℕ) (own : List ℕ) (sh : Var → Shape) (level : ℕ) → ShapesFit (plan own) sh → AreApart (vars own) → (n : List ℕ) (given : List (List ℕ)) (line : ℕ) (s e : Scene ℤ) (k left : ℕ) (kept adjointed : Bool) → IsTrue (inside n) → ((d a : List ℕ) → IsActual (g n).callee.dummies given d a → In (plain d) (g n).callee.shadowed → In (plain a) (g own).facts.marks.shadowed) → CallFits ps (vars own) (arrays own) (g n) n given → (there own ≡ true → adjointed ≡ true → answers n ≡ true) → (there own ≡ true → kept ≡ true → carried n ≡ true) →
+      calls_of ps depth (on_words (plainly sh) level) n (actuals_named given) line s k ≡ Done e left → CallTransposed (calls_of qs depth) lines (calls_of ps depth) sh level (cells_of sh (vars own)) (g n) given n line kept adjointed (there own) s.store e.store
+  swept_call zero own sh level shapes apart_vars n given line s e k left kept adjointed ins shadows_actual cf adj kept_in done = absurd cc
+  swept_call (suc depth) own sh level shapes apart_vars n given line s e k left kept adjointed ins shadows_actual cf adj kept_in done =
+      call_swept false lines ps qs g there answers carried first vars arrays h.inside h.closed h.units h.apart h.common h.emitted h.adjoints (assignments_done false lines ps qs g there answers carried first vars arrays h.inside h.closed h.units h.apart h.common h.emitted h.adjoints) depth
+      (unit_swept false lines ps qs g there answers carried first vars arrays h.inside h.closed h.units h.apart h.common h.emitted h.adjoints depth) own sh level (shapes.scalars, shapes.shadows) apart_vars n given line s e k left kept adjointed ins shadows_actual cf adj kept_in done
 
   -- ---- a call
 
@@ -234,7 +236,7 @@ module _ (lines : ℕ → Bool) (ps qs : List Procedure) (g : List ℕ → Calle
         go x j l n (Some y) o = a.at x y o (members x y o n) j (subst (λ n. j < n) (sym (sizes x y o)) l)
 
     one_call : CallTransposed (calls_of qs (suc depth)) lines (calls_of ps (suc depth)) sh level xs (g name) given name line ((g own).facts.marks.kept i) ((g own).facts.marks.adjointed i) (there own) s.store e.store
-    one_call = swept_call (suc depth) own sh level shapes apart_vars name given i line s e k left ins laws cf adj kept_in done
+    one_call = swept_call (suc depth) own sh level shapes apart_vars name given line s e k left ((g own).facts.marks.kept i) ((g own).facts.marks.adjointed i) ins laws.shadows_actual cf adj kept_in done
 
     abbrev most : ℕ
     most = 4 * weight (call name (actuals_named given)) + (unit_cost.price + (rate_of r) * unit_cost.price)
@@ -301,10 +303,10 @@ module _ (lines : ℕ → Bool) (ps qs : List Procedure) (g : List ℕ → Calle
       let w = (g name).facts in
       let c = list_costs ps qs depth lines (handed_back ps) g answers carried w (there name) (vars name) (arrays name) sh level (cells_of sh (vars name)) shapes.scalars (rate_of r) four (IsWithin inside ps r)
       (λ c i d from s0 e0 k0 l0 each fits laws ran.
-      list_swept (calls_of ps depth) (calls_of qs depth) lines (calls_of ps depth) ps (handed_back ps) g answers carried inside w (there name) (vars name) (arrays name) f.vars_apart sh level shapes.scalars
+      list_swept false (calls_of ps depth) (calls_of qs depth) (at_any_line qs depth) lines (calls_of ps depth) ps (handed_back ps) g answers carried inside w (there name) (vars name) (arrays name) f.vars_apart sh level shapes.scalars
       (λ n v o i. (h.units n v o i).shadowed) (λ n v o i. (h.units n v o i).dummies_apart) flags (λ n v o i. (h.units n v o i).laws.shadows) (λ n v o i. (h.units n v o i).laws.ends.tangents.shadows)
       (λ c s0 e0 k0 l0 done x n j. keeps_others ps depth (on_words (plainly sh) level) c s0 e0 k0 l0 done x n j)
-      (swept_call depth name sh level shapes f.vars_apart) (λ x subs a i d line s0 e0 k0 l0 laws af done. assignments_done lines ps qs g there answers carried first vars arrays h.inside h.closed h.units h.apart h.common h.emitted h.adjoints name sh level depth (shapes.scalars, shapes.shadows) f.vars_apart x subs a i d line s0 e0 k0 l0 laws af done)
+      (swept_call depth name sh level shapes f.vars_apart) (λ x subs a i d line s0 e0 k0 l0 laws af done. assignments_done false lines ps qs g there answers carried first vars arrays h.inside h.closed h.units h.apart h.common h.emitted h.adjoints name sh level depth (shapes.scalars, shapes.shadows) f.vars_apart x subs a i d line s0 e0 k0 l0 laws af done)
       c i d from s0 e0 k0 l0 (each_inside inside ps r c each) fits laws ran)
       (λ c s0 e0 k0 l0 done x n j. keeps_others ps depth (on_words (plainly sh) level) c s0 e0 k0 l0 done x n j)
       calls u.body (first name) 0 (g name).entry s e k left (unit_within inside ps r name u found (h.closed name u found ins) chains) f.code f.laws.laws done in

@@ -50,6 +50,7 @@ use Rattle.adj_cost.proofs.Along.{kept_of}
 use Rattle.adj_cost.proofs.AlongUnits.{runs_cost}
 use Rattle.adj_cost.proofs.Counting.{cleared_count}
 use Rattle.adj_cost.proofs.Runs.{one_end, left_same, append_done, IsStraight, straight_append, straight_cost}
+use Rattle.adj_reverse.specs.Reversals.{ReversedLines}
 
 -- ---- counts
 
@@ -131,7 +132,7 @@ module _ (qs : List Procedure) (depth : ℕ) (sh : Var → Shape) (level : ℕ) 
 
 -- ---- the head
 
-module _ (lines : ℕ → Bool) (w : ProgramFacts) (ps : List Procedure) (u : Procedure) (vars outvars : List Bool) (good : SourceFits lines w ps u) (input given : List (Slot ℤ)) (fit : fits words u input ≡ true) (alike : AreAlike input given) (k used : ℕ) (output : Output ℤ) (done : run_unit words ps u input [] None k ≡ Done output used) where
+module _ (lines : ReversedLines) (w : ProgramFacts) (ps : List Procedure) (u : Procedure) (vars outvars : List Bool) (good : SourceFits lines w ps u) (input given : List (Slot ℤ)) (fit : fits words u input ≡ true) (alike : AreAlike input given) (k used : ℕ) (output : Output ℤ) (done : run_unit words ps u input [] None k ≡ Done output used) where
   abbrev m : ProgramMarks
   m = w.marks
 
@@ -139,7 +140,7 @@ module _ (lines : ℕ → Bool) (w : ProgramFacts) (ps : List Procedure) (u : Pr
   own = facts_in w u.name
 
   abbrev ns : List Named
-  ns = head.ns lines w ps u vars outvars good input given fit alike k used output done
+  ns = head.ns false lines w ps u vars outvars good input given fit alike k used output done
 
   abbrev outs : List (List ℕ)
   outs = names_in (m.shadowed u.name) (unmarked u.dummies outvars)
@@ -151,7 +152,7 @@ module _ (lines : ℕ → Bool) (w : ProgramFacts) (ps : List Procedure) (u : Pr
   a = adjoint_unit m ps (all_units m ps u) u outs ins
 
   abbrev qs : List Procedure
-  qs = emitted.qs lines w ps u vars outvars good
+  qs = emitted.qs false lines w ps u vars outvars good
 
   abbrev joined : List (Slot ℤ)
   joined = joined_by (shadow_flags (m.shadowed u.name) u.dummies) input given
@@ -166,16 +167,16 @@ module _ (lines : ℕ → Bool) (w : ProgramFacts) (ps : List Procedure) (u : Pr
   p = plan_in m ps u
 
   abbrev separates : (v w : Var) → var_eq (naming ns v) (naming ns w) ≡ var_eq v w
-  separates = head.separates lines w ps u vars outvars good input given fit alike k used output done
+  separates = head.separates false lines w ps u vars outvars good input given fit alike k used output done
 
   shapes_fit : ShapesFit p sh
-  shapes_fit = record { scalars = head.knows lines w ps u vars outvars good input given fit alike k used output done; shadows = λ x h. ap (λ b. if b then sh (plain x) else scalar) h }
+  shapes_fit = record { scalars = head.knows false lines w ps u vars outvars good input given fit alike k used output done; shadows = λ x h. ap (λ b. if b then sh (plain x) else scalar) h }
 
   seen_is : pulled_setting (naming ns) (unit_setting words qs a joined) ≡ on_words sh 1
   seen_is =
-      let f = head.fitting lines w ps u vars outvars good input given fit alike k used output done in
-      let d = made.declared_alike m ps (all_units m ps u) u f.vars_apart (good.inside u.name u good.there) (good.extents u.name u good.there) in
-      entry.setting_seen u a ns separates (callee_of m ps u.name (Some u)) refl (record { plains = d.plains; shadows = d.shadows; helpers = d.helpers; extents = d.extents }) (made.own_dummy m ps (all_units m ps u) u f.vars_apart (good.inside u.name u good.there) (good.extents u.name u good.there)) refl input given fit alike
+      let f = head.fitting false lines w ps u vars outvars good input given fit alike k used output done in
+      let d = made.declared_alike false m ps (all_units m ps u) u f.vars_apart (good.inside u.name u good.there) (good.extents u.name u good.there) in
+      entry.setting_seen u a ns separates (callee_of m ps u.name (Some u)) refl (record { plains = d.plains; shadows = d.shadows; helpers = d.helpers; extents = d.extents }) (made.own_dummy false m ps (all_units m ps u) u f.vars_apart (good.inside u.name u good.there) (good.extents u.name u good.there)) refl input given fit alike
 
   pub spends : (calls : ℕ) → CallsAtMost ps u.name calls → (j spent : ℕ) (end : Output ℤ) → run_unit words qs a joined [] None j ≡ Done end spent → SpendsItsPrice ps u input calls spent
   spends calls chains j spent end h =
@@ -184,9 +185,9 @@ module _ (lines : ℕ → Bool) (w : ProgramFacts) (ps : List Procedure) (u : Pr
       let c = unit_body words qs a joined j spent end h in
       let g = callee_facts w ps in
       let ran : run (calls_of ps depth) (on_words (plainly sh) 1) u.body (begin words ps u input) (k + 0) ≡ Done b.end (b.left + 0) =
-      run_later ps k depth (omega arith) (on_words (plainly sh) 1) u.body (begin words ps u input) b.end k b.left 0 (ap (λ n. run (calls_of ps k) n u.body (begin words ps u input) k) (sym (head.setting_plain lines w ps u vars outvars good input given fit alike k used output done)) ∙ b.is) in
-      let x = runs_cost lines ps qs g (has_adjoint m ps u) (answers m ps u) (is_carried m ps u) (first_statement ps) (emitted.vars_of lines w ps u vars outvars good) (emitted.arrays lines w ps u vars outvars good) (emitted.emitted_fits lines w ps u vars outvars good)
-      depth calls u.name u good.there (emitted.head_within lines w ps u vars outvars good) (head_there m ps u vars outvars good.known (found_there ps u.name u good.there).0) chains sh 1
+      run_later ps k depth (omega arith) (on_words (plainly sh) 1) u.body (begin words ps u input) b.end k b.left 0 (ap (λ n. run (calls_of ps k) n u.body (begin words ps u input) k) (sym (head.setting_plain false lines w ps u vars outvars good input given fit alike k used output done)) ∙ b.is) in
+      let x = runs_cost lines ps qs g (has_adjoint m ps u) (answers m ps u) (is_carried m ps u) (first_statement ps) (emitted.vars_of false lines w ps u vars outvars good) (emitted.arrays false lines w ps u vars outvars good) (emitted.emitted_fits false lines w ps u vars outvars good)
+      depth calls u.name u good.there (emitted.head_within false lines w ps u vars outvars good) (head_there false m ps u vars outvars good.known (found_there ps u.name u good.there).0) chains sh 1
       (subst (λ o. ShapesFit (plan_of g own (arrays_in o)) sh) (sym good.there) shapes_fit) (begin words ps u input) b.end (k + 0) (b.left + 0) ran in
       let sweeps : BothCost (calls_of qs depth) sh 1 (forward p (first_statement ps u.name) 0 u.body) (backward p (first_statement ps u.name) 0 u.body) (own.needed (entry_point ps u.name)) (own.held (end_point ps u.name)) before ((4 + calls) * x.price) =
       subst (λ o. BothCost (calls_of qs depth) sh 1 (forward (plan_of g own (arrays_in o)) (first_statement ps u.name) 0 u.body) (backward (plan_of g own (arrays_in o)) (first_statement ps u.name) 0 u.body) (own.needed (entry_point ps u.name)) (own.held (end_point ps u.name)) before ((4 + calls) * x.price)) good.there x.cost in
@@ -199,10 +200,10 @@ module _ (lines : ℕ → Bool) (w : ProgramFacts) (ps : List Procedure) (u : Pr
       ∙ ap (pulled_outcome (naming ns)) c.is in
       let deeper = run_later qs j depth (omega arith) (on_words sh 1) code (scene kept start []) (pulled_scene (naming ns) c.end) j c.left 0 turned in
       let few = body_cost qs depth sh 1 p (first_statement ps u.name) u.line u.body outs ins (own.needed (entry_point ps u.name)) (own.held (end_point ps u.name)) before ((4 + calls) * x.price) sweeps kept start []
-      (record { at = λ y i l o. head.same_plain lines w ps u vars outvars good input given fit alike k used output done y i }) (pulled_scene (naming ns) c.end) (j + 0) (c.left + 0) deeper in
+      (record { at = λ y i l o. head.same_plain false lines w ps u vars outvars good input given fit alike k used output done y i }) (pulled_scene (naming ns) c.end) (j + 0) (c.left + 0) deeper in
       let spent_is = c.spent in
       let paid : run (calls_of (padded_program own_nodes ps) depth) (unit_setting words (padded_program own_nodes ps) (padded_procedure own_nodes u) input) (padded own_nodes u.body) (begin words (padded_program own_nodes ps) (padded_procedure own_nodes u) input) (x.price + 0) ≡ Done b.end 0 =
-      ap (λ n. run (calls_of (padded_program own_nodes ps) depth) n (padded own_nodes u.body) (begin words ps u input) (x.price + 0)) (head.setting_plain lines w ps u vars outvars good input given fit alike k used output done) ∙ x.pays 0 in
+      ap (λ n. run (calls_of (padded_program own_nodes ps) depth) n (padded own_nodes u.body) (begin words ps u input) (x.price + 0)) (head.setting_plain false lines w ps u vars outvars good input given fit alike k used output done) ∙ x.pays 0 in
       let price_is : x.price + 0 ≡ x.price = omega arith in
       record {
         weighed = unit_ends words (padded_program own_nodes ps) (padded_procedure own_nodes u) input depth (x.price + 0) b.end paid b.shut;
@@ -213,7 +214,7 @@ module _ (lines : ℕ → Bool) (w : ProgramFacts) (ps : List Procedure) (u : Pr
 pub emitted_costs : EmittedCosts
 emitted_costs lines w ps head vars outvars u is good calls chains a found input given fit alike k used output done j spent end h =
     let it : emitted_adjoint w.marks ps u vars outvars u ≡ cleared = ap (λ b. if b then cleared else adjoint_unit w.marks ps (all_units w.marks ps u) u [] []) (name_refl u.name) in
-    let there = adjoint_found w.marks ps u vars outvars u.name u good.there (head_there w.marks ps u vars outvars good.known (found_there ps u.name u good.there).0) ∙ ap Some it in
+    let there = adjoint_found false w.marks ps u vars outvars u.name u good.there (head_there false w.marks ps u vars outvars good.known (found_there ps u.name u good.there).0) ∙ ap Some it in
     let one : Some cleared ≡ Some a = sym there ∙ ap (λ qs. find_unit qs (adjoint_name ps u)) (sym program) ∙ found in
     let same : cleared ≡ a = cc in
     spends lines w ps u vars outvars good input given fit alike k used output done calls chains j spent end

@@ -1,5 +1,5 @@
 -- What a run of both sweeps takes along a run of a unit, and what the emitted program takes. (docs/THEOREMS.md, "What both sweeps cost")
-use Rattle.std.specs.Prelude.{◌≡◌, ℕ, ℤ, suc, ◌+◌, ◌*◌, ◌≤◌, length, List, [], ◌∷◌, Bool, true, Some, None, IsTrue}
+use Rattle.std.specs.Prelude.{◌≡◌, ℕ, ℤ, suc, ◌+◌, ◌*◌, ◌≤◌, length, List, [], ◌∷◌, Bool, true, false, Some, None, IsTrue}
 use Rattle.adj_tree.specs.Code.{Var, Code, Procedure}
 use Rattle.adj_meaning.specs.Padded.{own_nodes, padded, padded_program, padded_procedure}
 use Rattle.adj_meaning.specs.Numbers.{words}
@@ -25,6 +25,7 @@ use Rattle.adj_reverse.specs.Program.{emitted_program}
 use Rattle.adj_reverse.specs.Source.{SourceFits}
 use Rattle.adj_reverse.specs.Theorem.{plan_of, ProgramFits, ShapesFit}
 use Rattle.adj_cost.specs.Along.{BothCost}
+use Rattle.adj_reverse.specs.Reversals.{ReversedLines}
 
 -- no chain from the unit of a name has more than so many calls, however long one looks; a marked DO counts as one more
 abbrev pub CallsAtMost : List Procedure → List ℕ → ℕ → Type 0
@@ -42,7 +43,7 @@ pub record CostsItsPrice (ps qs : List Procedure) (depth calls : ℕ) (sh : Var 
 -- so is each run that is done of a unit whose adjoint is emitted
 abbrev pub RunsCost : Type 0
 RunsCost =
-    (lines : ℕ → Bool) (ps qs : List Procedure) (g : List ℕ → CalleeFacts) (there answers carried : List ℕ → Bool) (first : List ℕ → ℕ) (vars : List ℕ → List (List ℕ)) (arrays : List ℕ → Vars) → (fits : ProgramFits lines ps qs g there answers carried first vars arrays) →
+    (lines : ReversedLines) (ps qs : List Procedure) (g : List ℕ → CalleeFacts) (there answers carried : List ℕ → Bool) (first : List ℕ → ℕ) (vars : List ℕ → List (List ℕ)) (arrays : List ℕ → Vars) → (fits : ProgramFits false lines ps qs g there answers carried first vars arrays) →
     (depth calls : ℕ) (name : List ℕ) (u : Procedure) → find_unit ps name ≡ Some u → IsTrue (fits.inside name) → there name ≡ true → CallsAtMost ps name calls →
     (sh : Var → Shape) (level : ℕ) → ShapesFit (plan_of g (g name).facts (arrays name)) sh →
     (s e : Scene ℤ) (k left : ℕ) → run (calls_of ps depth) (on_words (plainly sh) level) u.body s k ≡ Done e left →
@@ -60,7 +61,7 @@ pub record SpendsItsPrice (ps : List Procedure) (u : Procedure) (input : List (S
 -- which the head's run is done
 abbrev pub EmittedCosts : Type 0
 EmittedCosts =
-    (lines : ℕ → Bool) (w : ProgramFacts) (ps : List Procedure) (head : ℕ) (vars outvars : List Bool) (u : Procedure) → unit_at head ps ≡ u ∷ [] → SourceFits lines w ps u → (calls : ℕ) → CallsAtMost ps u.name calls →
+    (lines : ReversedLines) (w : ProgramFacts) (ps : List Procedure) (head : ℕ) (vars outvars : List Bool) (u : Procedure) → unit_at head ps ≡ u ∷ [] → SourceFits lines w ps u → (calls : ℕ) → CallsAtMost ps u.name calls →
     (a : Procedure) → find_unit (emitted_program w.marks ps head vars outvars) (adjoint_name ps u) ≡ Some a →
     (input shadows : List (Slot ℤ)) → fits words u input ≡ true → AreAlike input shadows → (k used : ℕ) (output : Output ℤ) → run_unit words ps u input [] None k ≡ Done output used →
     (j spent : ℕ) (end : Output ℤ) → run_unit words (emitted_program w.marks ps head vars outvars) a (joined_by (shadow_flags (w.marks.shadowed u.name) u.dummies) input shadows) [] None j ≡ Done end spent →
