@@ -19,6 +19,7 @@ use Rattle.adj_kernel.specs.Kernel.{EachUnit}
 use Rattle.adj_kernel.specs.Stepped.{marked_in, kernel_of}
 use Rattle.adj_kernel.specs.Sound.{IsAccepted}
 use Rattle.adj_cost.specs.RunTheorem.{CallsAtMost}
+use Rattle.adj_reverse.specs.Reversals.{ReversedLines}
 
 -- the bound on the statements of an adjoint's run, where no statement weighs more than `weight`, no chain has more than `calls` calls, the
 -- head's run takes `used` statements, and the head has so many dummies
@@ -39,7 +40,7 @@ SpendsAtMost m ps name weight calls qs =
 abbrev pub EmittedSpends : Type 0
 EmittedSpends =
     (ps : List Procedure) → IsAccepted ps → EachUnit (λ u. marked_in u.body ≡ 0) ps → (weight : ℕ) → EachUnit (λ u. WeighsAtMost weight u.body) ps → (name : List ℕ) (calls : ℕ) → CallsAtMost ps name calls →
-    (lines : ℕ → Bool) (w : ProgramFacts) (kernel : Procedure) → find_unit (kernel_of ps) name ≡ Some kernel → SourceFits lines w (kernel_of ps) kernel → (vars outvars : List Bool) (qs : List Procedure) →
+    (lines : ReversedLines) (w : ProgramFacts) (kernel : Procedure) → find_unit (kernel_of ps) name ≡ Some kernel → SourceFits lines w (kernel_of ps) kernel → (vars outvars : List Bool) (qs : List Procedure) →
     unlined (emitted_program w.marks (kernel_of ps) (unit_number (kernel_of ps) name) vars outvars) ≡ unlined qs → SpendsAtMost w.marks ps name weight calls qs
 
 -- a round bound
