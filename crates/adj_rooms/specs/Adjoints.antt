@@ -8,6 +8,7 @@ use Rattle.adj_transpose.specs.Adjoint.{AreAlike, IsDirection, cells_of, with_di
 use Rattle.adj_transpose.specs.MarkedAdjoint.{shadow_flags, shadow_cells, joined_by}
 use Rattle.adj_reverse.specs.Marking.{ProgramMarks}
 use Rattle.adj_accepted.specs.Accepted.{IsAdjointOf}
+use Rattle.adj_reverse.specs.Reversals.{ReversedLines}
 
 -- the run traps
 abbrev pub IsTrapped : {R : Type 0} → Outcome R → Type 0
@@ -33,7 +34,7 @@ pub record Balances (flags : List Bool) (ps : List Procedure) (u : Procedure) (v
 -- so it is with the adjoint of a head, on each input on which the head's run is done with some number of statements and on a tape of some room
 abbrev pub AdjointsBalance : Type 0
 AdjointsBalance =
-    (lines : ℕ → Bool) (m : ProgramMarks) (ps : List Procedure) (name : List ℕ) (vars outvars : List Bool) (qs : List Procedure) → (x : IsAdjointOf lines m ps name vars outvars qs) →
+    (lines : ReversedLines) (m : ProgramMarks) (ps : List Procedure) (name : List ℕ) (vars outvars : List Bool) (qs : List Procedure) → (x : IsAdjointOf lines m ps name vars outvars qs) →
     (input shadows : List (Slot ℤ)) → fits words x.unit input ≡ true → AreAlike input shadows → (d : List (List ℤ)) → IsDirection vars input d →
     (room : Option ℕ) (k used : ℕ) (out : Output ℤ) → run_unit words ps x.unit input [] room k ≡ Done out used →
     Balances (shadow_flags (m.shadowed name) x.unit.dummies) ps x.unit vars outvars qs x.adjoint input shadows d
