@@ -90,10 +90,10 @@ module _ (rules : Rules) (ps : List Procedure) (checked : IsChecked rules ps) (m
   helpers = used_helpers (plan_in m ps u) (first_statement ps u.name) u.body
 
   sep : (v w : Var) → var_eq (naming (adjoint_names m ps (all_units m ps head) u) v) (naming (adjoint_names m ps (all_units m ps head) u) w) ≡ var_eq v w
-  sep v w = separates m ps (all_units m ps head) u (variables_apart u) (variables_inside u text) (extent_is_dummy rules ps checked u.name u found) v w
+  sep v w = separates false m ps (all_units m ps head) u (variables_apart u) (variables_inside u text) (extent_is_dummy rules ps checked u.name u found) v w
 
   keeps : (x : List ℕ) → has_name x (variables u) ≡ true → name_in (adjoint_names m ps (all_units m ps head) u) (plain x) ≡ x
-  keeps x h = own m ps (all_units m ps head) u (variables_apart u) (variables_inside u text) (extent_is_dummy rules ps checked u.name u found) x h
+  keeps x h = own false m ps (all_units m ps head) u (variables_apart u) (variables_inside u text) (extent_is_dummy rules ps checked u.name u found) x h
 
   own_kept : (v : Var) → is_own u v ≡ true → r v ≡ v
   own_kept v h = naming_facts.own_kept m ps head u helpers sep keeps v h

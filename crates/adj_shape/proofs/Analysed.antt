@@ -18,7 +18,7 @@ use Rattle.adj_facts.specs.Parts.{parts, statements_in, find_part}
 use Rattle.adj_facts.specs.Problem.{IsHead}
 use Rattle.adj_facts.proofs.Straight.{head_part}
 use Rattle.adj_analysed.specs.Meets.{program_facts, IsPlainCode, IsUnmarked}
-use Rattle.adj_analysed.proofs.Checked.{plain_code, part_found}
+use Rattle.adj_analysed.proofs.Checked.{unmarked_fit, plain_code, part_found}
 use Rattle.adj_analysed.proofs.Meets.{some_same, analysed_meets}
 use Rattle.adj_analysed.proofs.Numbers.{placed}
 use Rattle.adj_analysed.proofs.Reaching.{taking}
@@ -108,11 +108,11 @@ analysed_are_closed rules k checked free a l saved held y top at u f there = law
     gf : List ℕ → CalleeFacts
     gf = callee_facts (program_facts k.units a l saved held) k.units
 
-    plain : IsPlainCode k.units u.body
+    plain : IsPlainCode false k.units u.body
     plain =
         let text = written rules k.units checked u.name u f in
-        plain_code k.units u u.body text.body (kernel rules k.units checked u.name u f) (each_found (λ u. Each (CallHasNone k.units u) (statements u.body)) k.units (all_calls rules k.units checked) u.name u f)
-        (each_found (λ u. IsUnmarked u.body) k.units (each_unit (λ u. IsUnmarked u.body) k.units free) u.name u f)
+        plain_code false k.units u u.body text.body (kernel rules k.units checked u.name u f) (each_found (λ u. Each (CallHasNone k.units u) (statements u.body)) k.units (all_calls rules k.units checked) u.name u f)
+        (unmarked_fit u.body (each_found (λ u. IsUnmarked u.body) k.units (each_unit (λ u. IsUnmarked u.body) k.units free) u.name u f))
 
     laws : UnitLaws gf (gf u.name) (first_statement k.units u.name) u.body
     laws =
@@ -126,5 +126,5 @@ analysed_are_closed rules k checked free a l saved held y top at u f there = law
         let unit : t.part.unit ≡ u = some_same t.part.unit u (sym placed_at.found ∙ f) in
         let same : t.part.unit.name ≡ u.name = ap (λ z. z.name) unit in
         let own : UnitLaws gf (gf t.part.unit.name) (first_statement k.units t.part.unit.name) t.part.unit.body =
-        analysed_meets k a l saved held y t.part t.takes (ap (find_part (parts k.units)) same ∙ t.finds) (subst (λ v. IsPlainCode k.units v.body) (sym unit) plain) in
+        analysed_meets false k a l saved held y t.part t.takes (ap (find_part (parts k.units)) same ∙ t.finds) (subst (λ v. IsPlainCode false k.units v.body) (sym unit) plain) in
         subst (λ v. UnitLaws gf (gf v.name) (first_statement k.units v.name) v.body) unit own

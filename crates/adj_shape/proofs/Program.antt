@@ -78,7 +78,7 @@ module _ (rules : Rules) (ps : List Procedure) (checked : IsChecked rules ps) (m
 
   carried_by_carried : (x : List ℕ) (u : Procedure) → Found ps u → is_carried m ps head u.name ≡ true → has_name x (calls_of (unlined_procedure u)) ≡ true → is_carried m ps head x ≡ true
   carried_by_carried x u f c h =
-      let common = carried_common m ps head vars outvars known in
+      let common = carried_common false m ps head vars outvars known in
       within_code x (is_carried m ps head) 0 u.body (common.closed u.name u c f.0) (sym (all_code x 0 u.body) ∙ h)
 
   carried_by_adjoint : (x : List ℕ) → is_unit ps x ≡ true → (u : Procedure) → Found ps u → has_adjoint m ps head u.name ≡ true → has_name x (calls_of (unlined_procedure (made u))) ≡ true → is_carried m ps head x ≡ true
@@ -101,14 +101,14 @@ module _ (rules : Rules) (ps : List Procedure) (checked : IsChecked rules ps) (m
   by_adjoint : (x : List ℕ) → is_kept m ps head x ≡ true → is_called (map unlined_procedure made_units) x ≡ true
   by_adjoint x h =
       let c = caller (has_adjoint m ps head) m.kept x 0 ps (units_apart rules ps checked) h in
-      called_found x made_units (adjoint_name ps c.unit) (made c.unit) (adjoint_found m ps head vars outvars c.unit.name c.unit c.found c.inside)
+      called_found x made_units (adjoint_name ps c.unit) (made c.unit) (adjoint_found false m ps head vars outvars c.unit.name c.unit c.found c.inside)
       (body_calls rules ps checked m head vars outvars c.unit c.found (closed c.unit c.found c.inside) x (named_there ps x (kept_there x h)) ∙ chosen_code m.kept x (first_statement ps c.unit.name) c.unit.body ∙ c.calling)
 
   by_carried : (k : ℕ) (x : List ℕ) → calls_some (reached_after (is_kept m ps head) (λ i. true) ps k) (λ i. true) x 0 ps ≡ true → is_called (map unlined_procedure made_units) x ≡ true
   by_carried k x h =
       let c = caller (reached_after (is_kept m ps head) (λ i. true) ps k) (λ i. true) x 0 ps (units_apart rules ps checked) h in
       let carried : is_carried m ps head c.unit.name ≡ true = reached_in (is_kept m ps head) (λ i. true) ps kept_there known k c.unit.name c.inside in
-      called_found x made_units c.unit.name c.unit (carried_found m ps head vars outvars c.unit.name carried (found_there ps c.unit.name c.unit c.found).0 ∙ c.found)
+      called_found x made_units c.unit.name c.unit (carried_found false m ps head vars outvars c.unit.name carried (found_there ps c.unit.name c.unit c.found).0 ∙ c.found)
       (all_code x (first_statement ps c.unit.name) c.unit.body ∙ c.calling)
 
   carried_is_called : (k : ℕ) (x : List ℕ) → reached_after (is_kept m ps head) (λ i. true) ps k x ≡ true → is_called (map unlined_procedure made_units) x ≡ true
