@@ -1,6 +1,6 @@
 -- The facts of exact analyses meet the laws of the units that the head reaches, so that the kernel fits as a source of what is emitted.
 use Rattle.std.proofs.Common.{◌≡◌, ℕ, List, [], ◌∷◌, Bool, true, false, sym, ap, ◌∙◌, subst}
-use Rattle.std.specs.Prelude.{Contains, IsTrue, Some, length}
+use Rattle.std.specs.Prelude.{Contains, IsTrue, Some, None, length}
 use Rattle.adj_tree.specs.Code.{plain, name_eq, Procedure}
 use Rattle.adj_tree.proofs.Names.{name_refl}
 use Rattle.adj_meaning.specs.Written.{find_unit}
@@ -20,7 +20,7 @@ use Rattle.adj_checked.specs.Checked.{IsChecked, AreLawfulFor}
 use Rattle.adj_checked.proofs.Lists.{Each, each_unit, each_found}
 use Rattle.adj_checked.proofs.Statements.{CallHasNone}
 use Rattle.adj_checked.proofs.Callings.{roots_reached}
-use Rattle.adj_checked.proofs.Premises.{units_apart, found, all_calls, calls_known, written, kernel, extent_is_dummy, source_fits}
+use Rattle.adj_checked.proofs.Premises.{units_apart, found, all_calls, calls_known, written, kernel, extent_is_dummy, no_lines, source_fits}
 use Rattle.adj_facts.specs.Parts.{Part, parts, statements_in, find_part}
 use Rattle.adj_facts.specs.Problem.{Problem, IsHead, TakesPart}
 use Rattle.adj_facts.specs.Activity as activity
@@ -31,7 +31,7 @@ use Rattle.adj_facts.proofs.Statements.{entries_are_closed}
 use Rattle.adj_analysed.specs.Meets.{program_facts, IsPlainCode, IsUnmarked}
 use Rattle.adj_analysed.proofs.Numbers.{Placed, placed}
 use Rattle.adj_analysed.proofs.Meets.{some_same, has_contains, analysed_meets}
-use Rattle.adj_analysed.proofs.Checked.{plain_code, part_found}
+use Rattle.adj_analysed.proofs.Checked.{unmarked_fit, plain_code, part_found}
 use Rattle.adj_analysed.proofs.Reaching.{taking, reached_closed}
 
 module _ (rules : Rules) (k : Problem) (checked : IsChecked rules k.units) (free : EachUnit (λ u. IsUnmarked u.body) k.units) (a : activity.Activity) (l : Liveness) (saved held : ℕ → Vars) (y : Analysed k a l saved held) where
@@ -43,11 +43,11 @@ module _ (rules : Rules) (k : Problem) (checked : IsChecked rules k.units) (free
 
   -- ---- each unit
 
-  plain_unit : (name : List ℕ) (u : Procedure) → find_unit k.units name ≡ Some u → IsPlainCode k.units u.body
+  plain_unit : (name : List ℕ) (u : Procedure) → find_unit k.units name ≡ Some u → IsPlainCode false k.units u.body
   plain_unit name u f =
       let text = written rules k.units checked name u f in
-      plain_code k.units u u.body text.body (kernel rules k.units checked name u f) (each_found (λ u. Each (CallHasNone k.units u) (statements u.body)) k.units (all_calls rules k.units checked) name u f)
-      (each_found (λ u. IsUnmarked u.body) k.units (each_unit (λ u. IsUnmarked u.body) k.units free) name u f)
+      plain_code false k.units u u.body text.body (kernel rules k.units checked name u f) (each_found (λ u. Each (CallHasNone k.units u) (statements u.body)) k.units (all_calls rules k.units checked) name u f)
+      (unmarked_fit u.body (each_found (λ u. IsUnmarked u.body) k.units (each_unit (λ u. IsUnmarked u.body) k.units free) name u f))
 
   -- ---- the head
 
@@ -90,7 +90,7 @@ module _ (rules : Rules) (k : Problem) (checked : IsChecked rules k.units) (free
         let p = part_of name u f c in
         let same : p.part.unit.name ≡ name = ap (λ z. z.name) p.unit ∙ (found_there k.units name u f).1 in
         let laws : UnitLaws gf (gf p.part.unit.name) (first_statement k.units p.part.unit.name) p.part.unit.body =
-        analysed_meets k a l saved held y p.part p.takes (ap (find_part (parts k.units)) same ∙ p.finds) (subst (λ v. IsPlainCode k.units v.body) (sym p.unit) (plain_unit name u f)) in
+        analysed_meets false k a l saved held y p.part p.takes (ap (find_part (parts k.units)) same ∙ p.finds) (subst (λ v. IsPlainCode false k.units v.body) (sym p.unit) (plain_unit name u f)) in
         subst (λ v. UnitLaws gf (gf name) (first_statement k.units name) v.body) p.unit (subst (λ n. UnitLaws gf (gf n) (first_statement k.units n) p.part.unit.body) same laws)
 
     unit_extents : (name : List ℕ) (u : Procedure) → find_unit k.units name ≡ Some u → IsTrue (reached name) → (d : List ℕ) → is_extent d u.declarations ≡ true → In (plain d) (w.marks.members name)
@@ -113,5 +113,5 @@ module _ (rules : Rules) (k : Problem) (checked : IsChecked rules k.units) (free
         there_is : find_unit k.units top.name ≡ Some top
         there_is = (let there = head.there in there.found) ∙ ap Some head.unit
 
-    pub fits : SourceFits (λ line. false) w k.units top
-    fits = source_fits rules k.units checked w top lawful k.head at
+    pub fits : SourceFits (λ line. None) w k.units top
+    fits = source_fits rules k.units checked false (λ line. None) w top lawful (no_lines w k.units) k.head at
