@@ -29,7 +29,7 @@ use Rattle.adj_facts.specs.Flow as flow
 use Rattle.adj_facts.specs.Activity as activity
 use Rattle.adj_facts.specs.Live.{Liveness}
 use Rattle.adj_facts.specs.Laws.{Analysed}
-use Rattle.adj_facts.proofs.Straight.{flagged_has, head_part}
+use Rattle.adj_facts.proofs.Heads.{flagged_has, head_part}
 use Rattle.adj_facts.proofs.Statements.{entries_are_closed}
 use Rattle.adj_analysed.specs.Meets.{program_facts, IsPlainCode, IsUnmarked, HasLiteralMarks, AnalysedIsAdjoint, AnalysedReverses}
 use Rattle.adj_analysed.proofs.Numbers.{Placed, placed}

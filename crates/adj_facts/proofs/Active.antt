@@ -3,7 +3,7 @@ use Rattle.std.proofs.Common.{◌≡◌, ℕ, [], true, false, refl, sym, ap, �
 use Rattle.std.specs.Prelude.{Contains}
 use Rattle.adj_tree.specs.Code.{Var, Terms, none, more, Term, assign}
 use Rattle.adj_transpose.specs.Marks.{point_before, point_after}
-use Rattle.adj_transpose.specs.Facts.{In, without, whole, is_adjointed, Facts, AssignmentLaws}
+use Rattle.adj_transpose.specs.Facts.{In, without, is_adjointed}
 use Rattle.adj_facts.specs.Reached.{begins, leads}
 use Rattle.adj_facts.specs.Parts.{Part}
 use Rattle.adj_facts.specs.Ways.{Deed, passing, assigning, Way, way, assigned_on, passed_on, act_ways}
@@ -12,23 +12,17 @@ use Rattle.adj_facts.specs.Problem.{Problem, statements_of, ways_of, TakesPart}
 use Rattle.adj_facts.specs.Flow as flow
 use Rattle.adj_facts.specs.Activity as activity
 use Rattle.adj_facts.proofs.Members.{is_first}
-use Rattle.adj_facts.proofs.Sets.{left_in, left_out, left_make, same_truth}
+use Rattle.adj_facts.proofs.Sets.{left_in, left_out, same_truth}
 use Rattle.adj_facts.proofs.Numbers.{one_statement}
 use Rattle.adj_facts.proofs.Holders.{is_block, holder_of}
 use Rattle.adj_facts.proofs.Placed.{way_of_statement}
-use Rattle.adj_transpose.specs.Marks.{everything}
 use Rattle.adj_transpose.specs.Facts.{Within}
 use Rattle.adj_facts.specs.Occurrences.{occurring}
-use Rattle.adj_facts.proofs.Occurring.{occurs_still}
 
 -- what an assignment does on its way
 abbrev pub deed_of : ℕ → Var → Terms → Deed
 deed_of i x none = assigning i x
 deed_of i x (more j js) = passing
-
--- the facts of a unit by the activity alone: everything is needed and held, kept and saved
-abbrev pub active_facts : activity.Activity → ℕ → Facts
-active_facts a u = record { marks = activity.activity_marks a u; needed = λ p. everything; held = λ p. everything }
 
 module _ (k : Problem) (a : activity.Activity) (isa : activity.IsActivity k a) (g : Part) (part : TakesPart k g) where
   pub varies_on : (x : Way) → Contains (ways_of g) x → Within (without (without (a.varied x.from) (assigned_on x.deed)) (passed_on x.deed)) (a.varied x.to)
@@ -57,22 +51,6 @@ module _ (k : Problem) (a : activity.Activity) (isa : activity.IsActivity k a) (
   pub is_way : Contains (ways_of g) (way (point_before i) (point_after i) (deed_of i x subs))
   is_way = way_of_statement g s here c (own_way subs)
 
-  assigned_at : (subs : Terms) (v : Var) → assigned_on (deed_of i x subs) v ≡ whole x subs v
-  assigned_at none v = refl
-  assigned_at (more j js) v = refl
-
-  passed_at : (subs : Terms) (v : Var) → passed_on (deed_of i x subs) v ≡ false
-  passed_at none v = refl
-  passed_at (more j js) v = refl
-
-  pub varies_at : Within (without (a.varied (point_before i)) (whole x subs)) (a.varied (point_after i))
-  varies_at v h = varies_on k a isa g part here is_way v (left_make (without (a.varied (point_before i)) (assigned_on here.deed)) (passed_on here.deed) v
-      (left_make (a.varied (point_before i)) (assigned_on here.deed) v (left_in (a.varied (point_before i)) (whole x subs) v h) (assigned_at subs v ∙ left_out (a.varied (point_before i)) (whole x subs) v h)) (passed_at subs v))
-
-  pub serves_at : Within (without (a.useful (point_after i)) (whole x subs)) (a.useful (point_before i))
-  serves_at v h = serves_on k a isa g part here is_way v (left_make (without (a.useful (point_after i)) (assigned_on here.deed)) (passed_on here.deed) v
-      (left_make (a.useful (point_after i)) (assigned_on here.deed) v (left_in (a.useful (point_after i)) (whole x subs) v h) (assigned_at subs v ∙ left_out (a.useful (point_after i)) (whole x subs) v h)) (passed_at subs v))
-
   -- an assignment is adjointed for its own sake alone: it holds no statement, and isn't a call or a DO
   pub adjointed_test : (n : ℕ) → n ≡ i → activity.Adjointed k a (activity.statement n) → is_adjointed (activity.activity_marks a g.number) i x subs ≡ true
   adjointed_test n q (begins (activity.assignment {g = f} {s = t} {x = y} {subs = js} {e = r} p d ac h)) =
@@ -96,20 +74,3 @@ module _ (k : Problem) (a : activity.Activity) (isa : activity.IsActivity k a) (
 
   pub target_serves : (v : Var) → In v (occurring e) → In x (a.useful (point_after i)) → In v (a.useful (point_before i))
   target_serves v o h = (isa.useful (point_before i) v).1 (leads ((isa.useful (point_after i) x).0 h) (flow.assigned part c refl o))
-
-  -- where everything is kept and saved, that is all that is asked
-  pub active_assignment : AssignmentLaws (active_facts a g.number) i x subs e
-  active_assignment = record {
-    needs_reads = λ v h. refl;
-    needs_uses = λ h v r. refl;
-    needs_later = λ v h. refl;
-    keeps = λ h. refl;
-    holds_reads = λ v h. refl;
-    holds_earlier = λ v h. refl;
-    saves = λ h r. refl;
-    varies = varies_at;
-    varies_target = λ v o. target_varies v (occurs_still v e o);
-    serves = serves_at;
-    serves_target = λ v o. target_serves v (occurs_still v e o);
-    adjoints = adjoints_at;
-  }

@@ -8,7 +8,7 @@ use Rattle.adj_facts.specs.Parts.{Part, parts}
 use Rattle.adj_facts.specs.Standing.{Standing}
 use Rattle.adj_facts.specs.Problem.{Problem, statements_of, TakesPart}
 use Rattle.adj_facts.specs.Activity as activity
-use Rattle.adj_facts.specs.Activity.{Adjoint, Activity, activity_marks, Holds, resets}
+use Rattle.adj_facts.specs.Activity.{Adjoint, Activity, activity_marks, resets}
 use Rattle.adj_facts.specs.Rules.{Scope, Covers, called, holders, adjoint_starts_at, adjoint_starts, adjoint_steps_at, adjoint_steps}
 use Rattle.adj_facts.proofs.Members.{is_first, is_later, is_among, is_none, is_only, if_has, if_only, map_has, map_only, flat_has, flat_only}
 use Rattle.adj_facts.proofs.AsLists.{AreLists}

@@ -6,22 +6,20 @@ use Rattle.adj_tree.specs.Code.{Var, Terms, none, more, Term, assign}
 use Rattle.adj_meaning.specs.Read.{reads_term, reads_terms}
 use Rattle.adj_meaning.proofs.Booleans.{or_first, or_second}
 use Rattle.adj_transpose.specs.Marks.{Vars, point_before, point_after, active_at}
-use Rattle.adj_transpose.specs.Facts.{In, Within, without, vars_if, joined, in_terms, whole, Facts, AssignmentLaws}
-use Rattle.adj_transpose.specs.Facts as straight
+use Rattle.adj_transpose.specs.Facts.{In, without, vars_if, joined, in_terms, whole, Facts}
 use Rattle.adj_facts.specs.Reached.{begins, leads}
 use Rattle.adj_facts.specs.Parts.{Part}
-use Rattle.adj_facts.specs.Ways.{Way, way, assigned_on}
+use Rattle.adj_facts.specs.Ways.{Way, way}
 use Rattle.adj_facts.specs.Standing.{Place, Standing}
 use Rattle.adj_facts.specs.Occurrences.{adjoint_reads, reads_at}
 use Rattle.adj_facts.specs.Problem.{Problem, statements_of, TakesPart}
 use Rattle.adj_facts.specs.Activity as activity
 use Rattle.adj_facts.specs.Live as live
 use Rattle.adj_facts.specs.Held as held
-use Rattle.adj_facts.specs.Laws.{IsHeld, facts_of, OnWay, AtAssignment}
-use Rattle.adj_facts.proofs.Sets.{both, and_both, or_map, left_in, left_out, left_make, and_false}
-use Rattle.adj_facts.proofs.Occurring.{occurs_still, read_still}
-use Rattle.adj_facts.proofs.Active.{deed_of, is_way, varies_at, serves_at, target_varies, target_serves, adjoints_at}
-use Rattle.adj_facts.proofs.Closed.{on_way, at_kept}
+use Rattle.adj_facts.specs.Laws.{IsHeld, facts_of, AtAssignment}
+use Rattle.adj_facts.proofs.Sets.{both, left_in, left_out, and_false}
+use Rattle.adj_facts.proofs.Active.{deed_of, is_way, target_varies, target_serves, adjoints_at}
+use Rattle.adj_facts.proofs.Closed.{at_kept}
 
 module _ (k : Problem) (a : activity.Activity) (l : live.Liveness) (saved kept_held : ℕ → Vars) (isa : activity.IsActivity k a) (isl : live.IsLive k a l) (ish : IsHeld k a l kept_held) (iss : held.IsSaved k a l saved) (g : Part) (part : TakesPart k g)
     (i : ℕ) (at : Place) (x : Var) (subs : Terms) (e : Term) (c : Contains (statements_of g) (record { number = i; place = at; act = assign x subs e })) where
@@ -33,14 +31,6 @@ module _ (k : Problem) (a : activity.Activity) (l : live.Liveness) (saved kept_h
 
   abbrev here : Way
   here = way (point_before i) (point_after i) (deed_of i x subs)
-
-  on_here : OnWay w here
-  on_here = on_way k a l saved kept_held isa isl ish iss g part here (is_way k a isa g part i at x subs e c)
-
-  -- what is done on the way, by the subscripts
-  assigned_here : (subs : Terms) (v : Var) → assigned_on (deed_of i x subs) v ≡ whole x subs v
-  assigned_here none v = refl
-  assigned_here (more j js) v = refl
 
   replaced_here : (subs : Terms) (v : Var) → held.replaced_on l.kept (deed_of i x subs) v ≡ vars_if (l.kept i) (whole x subs) v
   replaced_here none v = refl
@@ -84,28 +74,5 @@ module _ (k : Problem) (a : activity.Activity) (l : live.Liveness) (saved kept_h
     saves = saved_here;
     varies = target_varies k a isa g part i at x subs e c;
     serves = target_serves k a isa g part i at x subs e c;
-    adjoints = adjoints_at k a isa g part i at x subs e c;
-  }
-
-  -- what the adjoint of straight code reads is among its adjoint reads
-  reads_still : Within (straight.reads_at w.marks i subs e) (reads_at w.marks i subs e)
-  reads_still v h = or_map (a.adjointed i && straight.adjoint_reads (active_at w.marks i) e v) ((l.kept i || a.adjointed i) && in_terms subs v) (a.adjointed i && adjoint_reads (active_at w.marks i) e v) ((l.kept i || a.adjointed i) && in_terms subs v)
-      (λ r. let b = both (a.adjointed i) (straight.adjoint_reads (active_at w.marks i) e v) r in and_both b.0 (read_still (active_at w.marks i) v e b.1)) (λ r. r) h
-
-  -- so it meets the laws as the theorem on straight code asks for them
-  pub listed_assignment : AssignmentLaws w i x subs e
-  listed_assignment = record {
-    needs_reads = λ v h. reads_needed v (reads_still v h);
-    needs_uses = λ h. at_kept k a l saved kept_held isa isl ish iss g part s c h;
-    needs_later = λ v h. on_here.needs v (left_make (l.needed (point_after i)) (assigned_on here.deed) v (left_in (l.needed (point_after i)) (whole x subs) v h) (assigned_here subs v ∙ left_out (l.needed (point_after i)) (whole x subs) v h));
-    keeps = at_assignment.keeps;
-    holds_reads = λ v h. reads_held v (left_make (reads_at w.marks i subs e) (vars_if (l.kept i) (whole x subs)) v
-        (reads_still v (left_in (straight.reads_at w.marks i subs e) (vars_if (l.kept i) (whole x subs)) v h)) (left_out (straight.reads_at w.marks i subs e) (vars_if (l.kept i) (whole x subs)) v h));
-    holds_earlier = λ v h. on_here.holds v (left_make (kept_held (point_before i)) (held.replaced_on l.kept here.deed) v (left_in (kept_held (point_before i)) (vars_if (l.kept i) (whole x subs)) v h) (replaced_here subs v ∙ left_out (kept_held (point_before i)) (vars_if (l.kept i) (whole x subs)) v h));
-    saves = λ h r. saved_here h (or_map (kept_held (point_before i) x) (straight.reads_at w.marks i subs e x) (kept_held (point_before i) x) (reads_at w.marks i subs e x) (λ q. q) (reads_still x) r);
-    varies = varies_at k a isa g part i at x subs e c;
-    varies_target = λ v o. at_assignment.varies v (occurs_still v e o);
-    serves = serves_at k a isa g part i at x subs e c;
-    serves_target = λ v o. at_assignment.serves v (occurs_still v e o);
     adjoints = adjoints_at k a isa g part i at x subs e c;
   }

@@ -15,7 +15,6 @@ use Rattle.adj_facts.specs.Activity.{Activity, Adjoint, IsActivity}
 use Rattle.adj_facts.specs.Live as live
 use Rattle.adj_facts.specs.Live.{Fact, Liveness, IsLive}
 use Rattle.adj_facts.specs.Held as held
-use Rattle.adj_facts.specs.Held.{IsSaved}
 use Rattle.adj_facts.specs.Rules.{Scope, Covers, against, head_parts, part_steps, flow_steps, varied_starts, useful_starts, shadow_starts, shadow_steps, adjoint_starts, adjoint_steps, live_starts, live_steps, reads_list, held_starts, held_steps, may_save_list}
 use Rattle.adj_facts.specs.Closure.{is_in, closure, is_closed}
 use Rattle.adj_facts.specs.Computed.{same_number, same_node, same_adjoint, same_fact, scope_of, by_point, activity_of, liveness_of, saved_by, HasTable, with_live, with_activity, with_adjoints, with_useful, with_scope, computed, Table, same_tables}

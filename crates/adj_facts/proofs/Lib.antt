@@ -17,7 +17,6 @@ pub mod Examples
 pub mod Variables
 pub mod Numbers
 pub mod Sets
-pub mod Occurring
 pub mod Holders
 pub mod Placed
 pub mod OwnPoints
@@ -25,7 +24,6 @@ pub mod Active
 pub mod Closed
 pub mod Assigned
 pub mod Called
-pub mod Lists
 pub mod Statements
-pub mod Straight
+pub mod Heads
 pub mod Points

@@ -21,10 +21,6 @@ abbrev Rise : ℕ → ℕ → List (Part × Standing) → Type 0
 Rise i j [] = i ≤ j
 Rise i j (s ∷ ss) = (i ≤ s.1.number) × Rise (suc s.1.number) j ss
 
-rise_le : (i j : ℕ) (xs : List (Part × Standing)) → Rise i j xs → i ≤ j
-rise_le i j [] h = h
-rise_le i j (x ∷ xs) h = let r : suc x.1.number ≤ j = rise_le (suc x.1.number) j xs h.1 in omega (arith, h.0)
-
 rise_from : (i k j : ℕ) (xs : List (Part × Standing)) → i ≤ k → Rise k j xs → Rise i j xs
 rise_from i k j [] l h = omega arith
 rise_from i k j (x ∷ xs) l h = (omega (arith, h.0), h.1)

@@ -3,11 +3,10 @@ use Rattle.std.proofs.Common.{◌≡◌, refl, subst}
 use Rattle.std.specs.Prelude.{Contains}
 use Rattle.adj_tree.specs.Code.{Act, assign, choose, loop, during, call, runtime}
 use Rattle.adj_facts.specs.Problem.{statements_of}
-use Rattle.adj_facts.specs.Laws.{facts_of, ActAt, AnalysedIsClosed, EntriesAreClosed, StatementsAreClosed, CallsAreClosed, StraightIsClosed}
+use Rattle.adj_facts.specs.Laws.{facts_of, ActAt, AnalysedIsClosed, EntriesAreClosed, StatementsAreClosed, CallsAreClosed}
 use Rattle.adj_facts.proofs.Closed.{in_unit, on_entry, at_holder, at_kept, at_branch, at_while, at_loop}
 use Rattle.adj_facts.proofs.Assigned.{at_assignment}
 use Rattle.adj_facts.proofs.Called.{at_call}
-use Rattle.adj_facts.proofs.Lists.{straight_closed}
 
 pub analysed_is_closed : AnalysedIsClosed
 analysed_is_closed k a l saved held y g p = in_unit k a l saved held y.active y.live y.holds y.saves g p
@@ -30,9 +29,6 @@ statements_are_closed k a l saved held y g p s c = record {
 
 pub calls_are_closed : CallsAreClosed
 calls_are_closed k a l saved held y f g p s args c = at_call k a l saved held y.active y.live y.holds y.saves f g p s args c
-
-pub straight_is_closed : StraightIsClosed
-straight_is_closed k a l saved held y g p o = straight_closed k a l saved held y.active y.live y.holds y.saves g p o
 
 pub entries_are_closed : EntriesAreClosed
 entries_are_closed k a l saved held y g p = on_entry k a l saved held y.active y.live y.holds y.saves g p

@@ -261,19 +261,3 @@ used_stands units v (loop x first last by body m) c = is_later v x (vars_in firs
 used_stands units v (during c1 body) c = c
 used_stands units v (call name args) c = reads_stand (looked_at units name) args v c
 used_stands units v (runtime r) c = c
-
--- what a call may write stands in it
-handed_stand : (ws : List Bool) (es : Terms) (v : Var) → Contains (handed_in_actuals ws es) v → Contains (vars_in_terms es) v
-handed_stand [] es v c = absurd (is_none v c)
-handed_stand (w ∷ ws) none v c = c
-handed_stand (w ∷ ws) (more e es) v c = within (list_if w (place_of_actual e)) (handed_in_actuals ws es) (vars_in e) (vars_in_terms es) v (λ d. place e (if_only w (place_of_actual e) v d).1) (handed_stand ws es v) c
-  where
-    place : (e : Term) → Contains (place_of_actual e) v → Contains (vars_in e) v
-    place (lit z) d = d
-    place (var x) d = d
-    place (elem x subs) d = Contains-append_left (x ∷ []) (vars_in_terms subs) v d
-    place (neg a) d = absurd (is_none v d)
-    place (bin op a b) d = absurd (is_none v d)
-    place (pow a k) d = absurd (is_none v d)
-    place (power_of a b) d = absurd (is_none v d)
-    place (abs a) d = absurd (is_none v d)

@@ -13,10 +13,6 @@ use Rattle.adj_facts.specs.Problem.{Problem, statements_of, ways_of, CallsUnit, 
 abbrev pub Node : Type 0
 Node = ℕ × Var
 
--- a value edge: a variable keeps its value on a way that doesn't assign it whole
-pub data Keeps (k : Problem) : Node → Node → Type 0 where
-  keeps : {g : Part} {w : Way} {v : Var} → TakesPart k g → Contains (ways_of g) w → assigned_on w.deed v ≡ false → Keeps k (w.from, v) (w.to, v)
-
 -- a differentiable edge
 pub data Flows (k : Problem) : Node → Node → Type 0 where
   -- a value edge, but for the actuals of a call

@@ -1,20 +1,16 @@
 -- The laws that join facts at neighbouring points of a program, as far as its central theorem uses them. That the analyses meet them is proved in proofs/.
-use Rattle.std.specs.Prelude.{◌≡◌, ◌↔◌, ◌⊎◌, ℕ, List, Bool, true, false, ◌||◌, ◌&&◌, Contains, [], ◌∷◌}
-use Rattle.adj_tree.specs.Code.{Var, plain, Terms, Term, Act, assign, choose, loop, during, call, runtime, Code, stop, step, Procedure}
+use Rattle.std.specs.Prelude.{◌≡◌, ◌↔◌, ◌⊎◌, ℕ, List, Bool, true, false, ◌||◌, ◌&&◌, Contains}
+use Rattle.adj_tree.specs.Code.{Var, plain, Terms, Term, Act, assign, choose, loop, during, call, runtime, Procedure}
 use Rattle.adj_meaning.specs.Read.{is_read, is_extent}
 use Rattle.adj_meaning.specs.Written.{act_writes, handed_back, is_written}
 use Rattle.adj_transpose.specs.Marks.{Vars, point_before, point_after}
-use Rattle.adj_transpose.specs.Facts.{In, Within, without, joined, vars_if, whole, is_adjointed, Facts, ListLaws}
-use Rattle.adj_transpose.specs.Program.{unit_at}
-use Rattle.adj_transpose.specs.Straight.{IsStraightUnit}
-use Rattle.adj_transpose.specs.MarkedAdjoint.{IsAdjointBy}
-use Rattle.adj_transpose.specs.MarkedProgram.{marked_program}
+use Rattle.adj_transpose.specs.Facts.{In, Within, without, joined, vars_if, whole, is_adjointed, Facts}
 use Rattle.adj_facts.specs.Parts.{Part, point_inside}
 use Rattle.adj_facts.specs.Ways.{Way, assigned_on, passed_on}
 use Rattle.adj_facts.specs.Standing.{Standing}
 use Rattle.adj_facts.specs.Occurrences.{occurring, reads_at}
-use Rattle.adj_facts.specs.Problem.{Problem, statements_of, ways_of, CallsUnit, IsHead, TakesPart, bound}
-use Rattle.adj_facts.specs.Activity.{Activity, activity_marks, IsActivity, IsPoint, Holds}
+use Rattle.adj_facts.specs.Problem.{Problem, statements_of, ways_of, CallsUnit, TakesPart, bound}
+use Rattle.adj_facts.specs.Activity.{Activity, IsActivity, IsPoint, Holds}
 use Rattle.adj_facts.specs.Uses.{uses, use_point, site, turned_by, is_turn}
 use Rattle.adj_facts.specs.Live.{Liveness, IsLive}
 use Rattle.adj_facts.specs.Held.{marks_of, replaced_on, Held, IsSaved}
@@ -84,16 +80,6 @@ pub record AtStatement (units : List Procedure) (w : Facts) (s : Standing) : Typ
   pub kept : AtKept units w s
   pub holder : AtHolder w s
 
--- only assignments
-abbrev pub OnlyAssigns : Code → Type 0
-OnlyAssigns stop = Unit {0}
-OnlyAssigns (step line (assign x subs e) rest) = OnlyAssigns rest
-OnlyAssigns (step line (choose c a b) rest) = ⊥
-OnlyAssigns (step line (loop x first last by body m) rest) = ⊥
-OnlyAssigns (step line (during c body) rest) = ⊥
-OnlyAssigns (step line (call name args) rest) = ⊥
-OnlyAssigns (step line (runtime r) rest) = ⊥
-
 -- at a call of the unit g; `wanted` is its entry set
 pub record AtCall (k : Problem) (wanted : List ℕ → Bool) (shadowed : Vars) (w : Facts) (g : Part) (s : Standing) (args : Terms) : Type 0 where
   -- it is kept where something that it may write is needed after it
@@ -154,18 +140,3 @@ StatementsAreClosed = (k : Problem) (a : Activity) (l : Liveness) (saved held : 
 abbrev pub CallsAreClosed : Type 0
 CallsAreClosed = (k : Problem) (a : Activity) (l : Liveness) (saved held : ℕ → Vars) → Analysed k a l saved held → (f g : Part) → TakesPart k f → (s : Standing) (args : Terms) → CallsUnit k f g s args →
     AtCall k (l.wanted g.number) (a.shadowed g.number) (facts_of a l saved held f.number) g s args
-
--- and those of a list of assignments, as the theorem on straight code takes them
-abbrev pub StraightIsClosed : Type 0
-StraightIsClosed = (k : Problem) (a : Activity) (l : Liveness) (saved held : ℕ → Vars) → Analysed k a l saved held → (g : Part) → TakesPart k g → OnlyAssigns g.unit.body →
-    ListLaws (facts_of a l saved held g.number) g.entry g.end g.first g.unit.body
-
--- so the program that is emitted by them is an adjoint, where the head is straight code over scalars
-abbrev pub AnalysedIsAdjoint : Type 0
-AnalysedIsAdjoint = (k : Problem) (a : Activity) (l : Liveness) (saved held : ℕ → Vars) → Analysed k a l saved held → (u : Procedure) → unit_at k.head k.units ≡ u ∷ [] → IsStraightUnit u →
-    (g : Part) × (g.unit ≡ u) × IsHead k g × IsAdjointBy (marks_of a l saved g.number) g.first k.units k.head k.vars k.outvars (marked_program (marks_of a l saved g.number) g.first k.units k.head k.vars k.outvars)
-
--- the same of the activity alone, where everything is kept and saved
-abbrev pub ActiveIsAdjoint : Type 0
-ActiveIsAdjoint = (k : Problem) (a : Activity) → IsActivity k a → (u : Procedure) → unit_at k.head k.units ≡ u ∷ [] → IsStraightUnit u →
-    (g : Part) × (g.unit ≡ u) × IsHead k g × IsAdjointBy (activity_marks a g.number) g.first k.units k.head k.vars k.outvars (marked_program (activity_marks a g.number) g.first k.units k.head k.vars k.outvars)

@@ -3,10 +3,8 @@
 use Rattle.std.specs.Prelude.{ℕ, suc, ◌+◌, ◌*◌, List, [], ◌∷◌, Option, Some, None, if◌then◌else◌}
 use Rattle.adj_tree.specs.Code.{name_eq, Procedure}
 use Rattle.adj_transpose.specs.Marks.{behind}
-
--- the point inside the i-th statement, a DO, or the test of a DO WHILE
-abbrev pub point_inside : ℕ → ℕ
-point_inside i = 3 * i + 2
+-- the point inside a statement: a DO, or the test of a DO WHILE
+pub use Rattle.adj_transpose.specs.Marks.{point_inside}
 
 -- a unit of a program with t statements: its number, its first statement's, and those of its points of entry and end
 pub record Part : Type 0 where

@@ -1,21 +1,21 @@
 -- Slots and stores: what a unit of scalars has at its entry and hands out at its end.
-use Rattle.std.proofs.Common.{◌≡◌, ℕ, zero, suc, Bool, true, false, List, [], ◌∷◌, map, length, refl, sym, ap, ◌∙◌, subst, arith, if◌then◌else◌}
-use Rattle.std.specs.Prelude.{ℤ, pos, ◌==◌, ◌&&◌, ◌||◌}
+use Rattle.std.proofs.Common.{◌≡◌, ℕ, zero, suc, Bool, true, false, List, [], ◌∷◌, map, length, refl, sym, ap, ◌∙◌, if◌then◌else◌}
+use Rattle.std.specs.Prelude.{ℤ, pos, ◌||◌}
 use Rattle.adj_tree.specs.Code.{Role, Var, plain, shadow, helper, name_eq, var_eq, Declaration, Procedure}
-use Rattle.adj_tree.proofs.Names.{nat_same, name_refl, name_same}
+use Rattle.adj_tree.proofs.Names.{name_refl, name_same}
 use Rattle.adj_meaning.specs.Numbers.{Numbers, words, duals}
-use Rattle.adj_meaning.specs.Store.{scalar, Store, set_all, size_of}
+use Rattle.adj_meaning.specs.Store.{scalar, Store, set_all}
 use Rattle.adj_meaning.specs.Value.{Setting}
-use Rattle.adj_meaning.specs.Units.{declared, extent_in, extents_of, shape_of, setting_in, Slot, from_slot, slot_of, Actual, entry_store, nth_cell, slots_fit, slot_fits, shape_fits}
+use Rattle.adj_meaning.specs.Units.{declared, extent_in, shape_of, setting_in, Slot, from_slot, Actual, entry_store, nth_cell}
 use Rattle.adj_transpose.specs.Fresh.{has_name}
 use Rattle.adj_transpose.specs.Naming.{Named, name_in, naming}
 use Rattle.adj_transpose.specs.Marks.{Vars}
 use Rattle.adj_transpose.specs.MarkedProgram.{shadows_behind}
-use Rattle.adj_transpose.specs.MarkedAdjoint.{shadow_flags, joined_by, shadow_cells}
+use Rattle.adj_transpose.specs.MarkedAdjoint.{shadow_flags, joined_by}
 use Rattle.adj_transpose.specs.Straight.{AreScalars}
 use Rattle.adj_transpose.specs.Pairs.{Words, with_tangents}
-use Rattle.adj_transpose.specs.Adjoint.{AreAlike, cells_of, side_by_side, with_direction, AreTangents, tangents_of}
-use Rattle.adj_transpose.proofs.Variables.{and_true, or_right}
+use Rattle.adj_transpose.specs.Adjoint.{AreAlike, side_by_side, with_direction, AreTangents}
+use Rattle.adj_transpose.proofs.Variables.{or_right}
 
 -- ---- shapes
 
@@ -33,42 +33,12 @@ setting-scalars n u s h = λ i. record n { shape = λ x. shape_of (map (extent_i
 
 -- ---- a unit's slots, where each dummy has one word
 
--- each slot has one cell
-abbrev pub AreSingle : {C : Type 0} → List (Slot C) → Type 0
-AreSingle [] = Unit {0}
-AreSingle (v ∷ vs) = (length v.cells ≡ 1) × AreSingle vs
-
 -- so many slots as names
 abbrev pub AreAsMany : {A B : Type 0} → List A → List B → Type 0
 AreAsMany [] [] = Unit {0}
 AreAsMany [] (y ∷ ys) = ⊥
 AreAsMany (x ∷ xs) [] = ⊥
 AreAsMany (x ∷ xs) (y ∷ ys) = AreAsMany xs ys
-
-single_fits : (v : Slot ℤ) → slot_fits [] v ≡ true → length v.cells ≡ 1
-single_fits v h =
-    let p = and_true (shape_fits [] v.shape) (length v.cells == size_of v.shape) h in
-    let q = and_true (0 == v.shape.rows) (0 == v.shape.cols) p.0 in
-    let r : (v.shape.rows == 0) ≡ true = grind arith in
-    nat_same (length v.cells) 1 (rw r at p.1)
-
--- an input that fits a unit of scalars has one word for each dummy
-pub fits_single : (u : Procedure) (s : Store ℤ) (xs : List (List ℕ)) (input : List (Slot ℤ)) → AreScalars u.declarations → slots_fit words u s xs input ≡ true → AreSingle input × AreAsMany xs input
-fits_single u s [] [] h f = (tt, tt)
-fits_single u s [] (v ∷ vs) h f = cc
-fits_single u s (x ∷ xs) [] h f = cc
-fits_single u s (x ∷ xs) (v ∷ vs) h f =
-    let p = and_true (slot_fits (extents_of words u s (plain x)) v) (slots_fit words u s xs vs) f in
-    let e : extents_of words u s (plain x) ≡ [] = ap (map (extent_in words s)) (declared-none u.declarations (plain x) h) in
-    let here = single_fits v (subst (λ zs. slot_fits zs v ≡ true) e p.0) in
-    let rest = fits_single u s xs vs h p.1 in
-    ((here, rest.0), rest.1)
-
-pub single_alike : (vs ws : List (Slot ℤ)) → AreAlike vs ws → AreSingle vs → AreSingle ws
-single_alike [] [] a h = tt
-single_alike [] (w ∷ ws) a h = absurd a
-single_alike (v ∷ vs) [] a h = absurd a
-single_alike (v ∷ vs) (w ∷ ws) a h = (a.1.0 ∙ h.0, single_alike vs ws a.1.1 h.1)
 
 pub many_alike : {A : Type 0} (xs : List A) (vs ws : List (Slot ℤ)) → AreAlike vs ws → AreAsMany xs vs → AreAsMany xs ws
 many_alike [] [] [] a h = tt
@@ -77,54 +47,6 @@ many_alike [] (v ∷ vs) ws a h = absurd h
 many_alike (x ∷ xs) [] ws a h = absurd h
 many_alike (x ∷ xs) (v ∷ vs) [] a h = absurd a
 many_alike (x ∷ xs) (v ∷ vs) (w ∷ ws) a h = many_alike xs vs ws a.1.1 h
-
--- each slot is that of a scalar
-abbrev pub AreOfScalars : List (Slot ℤ) → Type 0
-AreOfScalars [] = Unit {0}
-AreOfScalars (v ∷ vs) = (slot_fits [] v ≡ true) × AreOfScalars vs
-
--- an input that fits a unit of scalars has such slots
-pub fits_scalars : (u : Procedure) (s : Store ℤ) (xs : List (List ℕ)) (input : List (Slot ℤ)) → AreScalars u.declarations → slots_fit words u s xs input ≡ true → AreOfScalars input
-fits_scalars u s [] [] h f = tt
-fits_scalars u s [] (v ∷ vs) h f = cc
-fits_scalars u s (x ∷ xs) [] h f = cc
-fits_scalars u s (x ∷ xs) (v ∷ vs) h f =
-    let p = and_true (slot_fits (extents_of words u s (plain x)) v) (slots_fit words u s xs vs) f in
-    let e : extents_of words u s (plain x) ≡ [] = ap (map (extent_in words s)) (declared-none u.declarations (plain x) h) in
-    (subst (λ zs. slot_fits zs v ≡ true) e p.0, fits_scalars u s xs vs h p.1)
-
--- and such slots, as many as dummies, fit it
-pub scalars_fit : (u : Procedure) (s : Store ℤ) (xs : List (List ℕ)) (vs : List (Slot ℤ)) → AreScalars u.declarations → AreAsMany xs vs → AreOfScalars vs → slots_fit words u s xs vs ≡ true
-scalars_fit u s [] [] h m o = refl
-scalars_fit u s [] (v ∷ vs) h m o = absurd m
-scalars_fit u s (x ∷ xs) [] h m o = absurd m
-scalars_fit u s (x ∷ xs) (v ∷ vs) h m o =
-    let e : extents_of words u s (plain x) ≡ [] = ap (map (extent_in words s)) (declared-none u.declarations (plain x) h) in
-    ap (λ zs. slot_fits zs v && slots_fit words u s xs vs) e ∙ rw (o.0) (scalars_fit u s xs vs h m o.1)
-
-pub scalars_alike : (vs ws : List (Slot ℤ)) → AreAlike vs ws → AreOfScalars vs → AreOfScalars ws
-scalars_alike [] [] a o = tt
-scalars_alike [] (w ∷ ws) a o = absurd a
-scalars_alike (v ∷ vs) [] a o = absurd a
-scalars_alike (v ∷ vs) (w ∷ ws) a o = (rw (a.0, a.1.0) (o.0), scalars_alike vs ws a.1.1 o.1)
-
-pub scalars_joined : (flags : List Bool) (vs ws : List (Slot ℤ)) → AreOfScalars vs → AreOfScalars ws → AreOfScalars (joined_by flags vs ws)
-scalars_joined [] vs ws o p = tt
-scalars_joined (b ∷ flags) [] ws o p = tt
-scalars_joined (b ∷ flags) (v ∷ vs) [] o p = tt
-scalars_joined (true ∷ flags) (v ∷ vs) (w ∷ ws) o p = (o.0, (p.0, scalars_joined flags vs ws o.1 p.1))
-scalars_joined (false ∷ flags) (v ∷ vs) (w ∷ ws) o p = (o.0, scalars_joined flags vs ws o.1 p.1)
-
--- dummies with their shadows are as many as the slots of both
-pub many_joined : (a : Vars) (ns : List Named) (xs : List (List ℕ)) (vs ws : List (Slot ℤ)) → AreAsMany xs vs → AreAsMany xs ws → AreAsMany (shadows_behind a ns xs) (joined_by (shadow_flags a xs) vs ws)
-many_joined a ns [] vs ws m k = tt
-many_joined a ns (x ∷ xs) [] ws m k = absurd m
-many_joined a ns (x ∷ xs) (v ∷ vs) [] m k = absurd k
-many_joined a ns (x ∷ xs) (v ∷ vs) (w ∷ ws) m k = go (a (plain x)) (many_joined a ns xs vs ws m k)
-  where
-    go : (b : Bool) → AreAsMany (shadows_behind a ns xs) (joined_by (shadow_flags a xs) vs ws) → AreAsMany (if b then x ∷ name_in ns (shadow x) ∷ shadows_behind a ns xs else x ∷ shadows_behind a ns xs) (joined_by (b ∷ shadow_flags a xs) (v ∷ vs) (w ∷ ws))
-    go true h = h
-    go false h = h
 
 -- ---- the store at a unit's entry, by the names of its dummies
 
@@ -252,27 +174,3 @@ pub dual_store : (xs : List (List ℕ)) (input : List (Slot ℤ)) (d : List (Lis
 dual_store xs input d h (plain y) j = λ i. (dual_values xs input d h (plain y) j i, direction xs input d (y, j))
 dual_store xs input d h (shadow y) j = λ i. (dual_values xs input d h (shadow y) j i, shadow_none xs (map (from_slot duals) (with_direction input d)) y j i)
 dual_store xs input d h (helper r k) j = λ i. (dual_values xs input d h (helper r k) j i, helper_none xs (map (from_slot duals) (with_direction input d)) r k j i)
-
--- ---- the slots at a unit's end
-
--- one word for each name
-abbrev pub singles : {C : Type 0} → (List ℕ → C) → List (List ℕ) → List (List C)
-singles f [] = []
-singles f (x ∷ xs) = (f x ∷ []) ∷ singles f xs
-
-pub cells-scalars : {C : Type 0} (s : Store C) (xs : List (List ℕ)) → cells_of (map (λ x. slot_of scalar (s (plain x))) xs) ≡ singles (λ x. s (plain x) 0) xs
-cells-scalars s [] = refl
-cells-scalars s (x ∷ xs) = ap (λ z. (s (plain x) 0 ∷ []) ∷ z) (cells-scalars s xs)
-
--- the slots of the shadows, and zeros for what has none
-pub shadows-slots : (a : Vars) (s : Store ℤ) (ns : List Named) (xs : List (List ℕ)) → shadow_cells (shadow_flags a xs) (map (λ x. slot_of scalar (s (plain x))) (map (name_in ns) (paired a xs))) ≡ singles (λ x. if a (plain x) then s (naming ns (shadow x)) 0 else pos 0) xs
-shadows-slots a s ns [] = refl
-shadows-slots a s ns (x ∷ xs) = go (a (plain x)) (shadows-slots a s ns xs)
-  where
-    go : (b : Bool) → shadow_cells (shadow_flags a xs) (map (λ x. slot_of scalar (s (plain x))) (map (name_in ns) (paired a xs))) ≡ singles (λ x. if a (plain x) then s (naming ns (shadow x)) 0 else pos 0) xs → shadow_cells (b ∷ shadow_flags a xs) (map (λ x. slot_of scalar (s (plain x))) (map (name_in ns) (if b then plain x ∷ shadow x ∷ paired a xs else plain x ∷ paired a xs))) ≡ ((if b then s (naming ns (shadow x)) 0 else pos 0) ∷ []) ∷ singles (λ x. if a (plain x) then s (naming ns (shadow x)) 0 else pos 0) xs
-    go true ih = ap (λ z. (s (naming ns (shadow x)) 0 ∷ []) ∷ z) ih
-    go false ih = ap (λ z. (pos 0 ∷ []) ∷ z) ih
-
-pub tangents-singles : (s : Store ℤ) (d : Words) (xs : List (List ℕ)) → tangents_of (singles (λ x. with_tangents s d (plain x) 0) xs) ≡ singles (λ x. d (x, 0)) xs
-tangents-singles s d [] = refl
-tangents-singles s d (x ∷ xs) = ap (λ z. (d (x, 0) ∷ []) ∷ z) (tangents-singles s d xs)

@@ -1,13 +1,11 @@
 -- What it means that a program is the adjoint of another.
-use Rattle.std.specs.Prelude.{◌≡◌, ◌≤◌, ℕ, ℤ, pos, List, [], ◌∷◌, ◌++◌, length, Bool, true, false, Some, None}
+use Rattle.std.specs.Prelude.{◌≡◌, ◌≤◌, ℕ, ℤ, pos, List, [], ◌∷◌, ◌++◌, length, Bool, true, false, None}
 use Rattle.adj_tree.specs.Code.{Procedure}
 use Rattle.adj_word.specs.Dot.{dot}
-use Rattle.adj_meaning.specs.Numbers.{Numbers, words, duals}
+use Rattle.adj_meaning.specs.Numbers.{Numbers, duals}
 use Rattle.adj_meaning.specs.Event.{Event, Begin}
 use Rattle.adj_meaning.specs.Scene.{Done}
-use Rattle.adj_meaning.specs.Written.{find_unit}
-use Rattle.adj_meaning.specs.Units.{Slot, Output, fits, run_unit}
-use Rattle.adj_transpose.specs.Program.{unit_at, adjoint_name, adjoint_names, with_shadows}
+use Rattle.adj_meaning.specs.Units.{Slot, Output, run_unit}
 
 -- ---- runs with enough statements
 
@@ -28,18 +26,6 @@ AreAlike [] [] = Unit {0}
 AreAlike [] (w ∷ ws) = ⊥
 AreAlike (v ∷ vs) [] = ⊥
 AreAlike (v ∷ vs) (w ∷ ws) = (w.shape ≡ v.shape) × ((length w.cells ≡ length v.cells) × AreAlike vs ws)
-
--- each member of the first list followed by that of the second at its place
-abbrev pub interleaved : {A : Type 0} → List A → List A → List A
-interleaved [] ys = []
-interleaved (x ∷ xs) [] = []
-interleaved (x ∷ xs) (y ∷ ys) = x ∷ y ∷ interleaved xs ys
-
--- the second, the fourth, and every other member
-abbrev pub every_second : {A : Type 0} → List A → List A
-every_second [] = []
-every_second (x ∷ []) = []
-every_second (x ∷ y ∷ rest) = y ∷ every_second rest
 
 abbrev pub cells_of : {C : Type 0} → List (Slot C) → List (List C)
 cells_of [] = []
@@ -116,29 +102,3 @@ pub record IsDirection (vars : List Bool) (input : List (Slot ℤ)) (d : List (L
 pub record Agrees (ps : List Procedure) (u : Procedure) (vars outvars : List Bool) (input : List (Slot ℤ)) (before after : List (List ℤ)) (d : List (List ℤ)) : Type 0 where
   pub dual : Ends duals ps u (with_direction input d)
   pub products : product vars after d ≡ product outvars before (tangents_of (cells_of dual.output.slots))
-
--- what the adjoint unit a does for an input of u and shadows of its dummies: those of the dependents are the given adjoints
-pub record Transposes (ps : List Procedure) (u : Procedure) (vars outvars : List Bool) (qs : List Procedure) (a : Procedure) (input shadows : List (Slot ℤ)) : Type 0 where
-  -- they are an input of it
-  pub fits : fits words a (interleaved input shadows) ≡ true
-  -- its run ends
-  pub run : Ends words qs a (interleaved input shadows)
-  -- the tape is empty again
-  pub empties : run.output.tape ≡ []
-  -- no loop was reversed by a schedule
-  pub no_reversals : reversals run.output.events ≡ []
-  -- in each direction the products agree
-  pub products : (d : List (List ℤ)) → IsDirection vars input d → Agrees ps u vars outvars input (cells_of shadows) (cells_of (every_second run.output.slots)) d
-  -- the shadows of the dummies that aren't independent are 0 at the end
-  pub others : OthersAreZero vars (cells_of (every_second run.output.slots))
-
--- the unit of qs that bears the name of the adjoint of the head of ps is its adjoint: it has each dummy of the head followed by its
--- shadow, and transposes the derivative of the head on every input on which the head's run is done.
--- (Where marked loops are reversed by schedules, the reversals will be those loops', and what each calls will stand beside them.)
-pub record IsAdjoint (ps : List Procedure) (head : ℕ) (vars outvars : List Bool) (qs : List Procedure) : Type 0 where
-  pub unit : Procedure
-  pub is_head : unit_at head ps ≡ unit ∷ []
-  pub adjoint : Procedure
-  pub is_there : find_unit qs (adjoint_name ps unit) ≡ Some adjoint
-  pub dummies : adjoint.dummies ≡ with_shadows (adjoint_names ps unit) unit.dummies
-  pub transposes : (input shadows : List (Slot ℤ)) → fits words unit input ≡ true → AreAlike input shadows → (k used : ℕ) (output : Output ℤ) → run_unit words ps unit input [] None k ≡ Done output used → Transposes ps unit vars outvars qs adjoint input shadows

@@ -3,7 +3,6 @@ pub mod Fresh
 pub mod Naming
 pub mod Marks
 pub mod Marked
-pub mod Emit
 pub mod Pairs
 pub mod Facts
 pub mod Lists
@@ -12,7 +11,4 @@ pub mod Examples
 pub mod Adjoint
 pub mod MarkedProgram
 pub mod MarkedAdjoint
-pub mod MarkedExamples
 pub mod Straight
-pub mod Theorem
-pub mod Faulty

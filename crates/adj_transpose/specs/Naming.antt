@@ -1,7 +1,8 @@
 -- The names that the variables of an emitted unit have.
 use Rattle.std.specs.Prelude.{◌≡◌, ℕ, ◌==◌, Bool, false, List, [], ◌∷◌, ◌++◌, map, if◌then◌else◌, codes}
 use Rattle.adj_tree.specs.Code.{Role, role_code, work, temp, control, first, stride, count, turn, entry, entries, kind, lower, upper, Var, plain, shadow, helper, var_eq}
-use Rattle.adj_transpose.specs.Fresh.{has_name, digits, fresh, reserved}
+use Rattle.adj_transpose.specs.Fresh.{digits, fresh, reserved}
+pub use Rattle.adj_names.specs.Laws.{AreApart}
 
 -- how the names of a role's helpers begin
 abbrev pub letters : Role → List ℕ
@@ -69,11 +70,6 @@ begins_outside (a ∷ x) = a == 0
 abbrev pub AreInside : List (List ℕ) → Type 0
 AreInside [] = Unit {0}
 AreInside (x ∷ xs) = (begins_outside x ≡ false) × AreInside xs
-
--- no name stands twice in the list
-abbrev pub AreApart : List (List ℕ) → Type 0
-AreApart [] = Unit {0}
-AreApart (x ∷ xs) = (has_name x xs ≡ false) × AreApart xs
 
 -- the names that a table gives
 abbrev pub names : List Named → List (List ℕ)

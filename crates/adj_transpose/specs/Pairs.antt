@@ -1,7 +1,6 @@
 -- Stores with their shadows and tangents, seen from the cells of the text's variables.
-use Rattle.std.specs.Prelude.{◌≡◌, ℕ, ℤ, pos, List, ◌==◌, ◌&&◌, Bool, true, None}
-use Rattle.adj_tree.specs.Code.{Var, plain, shadow, name_eq, Op, greater, lesser, Term, lit, var, neg, bin, pow, none, assign, Code, stop, step}
-use Rattle.adj_word.specs.Pairing.{stands_in}
+use Rattle.std.specs.Prelude.{◌≡◌, ℕ, ℤ, pos, List, ◌==◌, ◌&&◌, Bool, None}
+use Rattle.adj_tree.specs.Code.{Var, plain, shadow, name_eq}
 use Rattle.adj_meaning.specs.Numbers.{words, duals}
 use Rattle.adj_meaning.specs.Store.{Shape, Store}
 use Rattle.adj_meaning.specs.Value.{Setting}
@@ -42,24 +41,3 @@ abbrev pub on_duals : (Var → Shape) → ℕ → Setting (ℤ × ℤ)
 on_duals sh level = record { numbers = duals; shape = sh; room = None; level = level }
 
 -- ---- straight code
-
--- MAX and MIN aren't differentiable where the arguments are equal: they are taken apart before
-abbrev pub IsTreated : Op → Type 0
-IsTreated greater = ⊥
-IsTreated lesser = ⊥
-IsTreated _ = Unit {0}
-
--- the variables of the term are scalars of the text, and their cells stand in the list
-abbrev pub IsOver : List Key → Term → Type 0
-IsOver xs (lit z) = Unit {0}
-IsOver xs (var (plain x)) = stands_in key_eq (x, 0) xs ≡ true
-IsOver xs (neg a) = IsOver xs a
-IsOver xs (bin op a b) = IsTreated op × (IsOver xs a × IsOver xs b)
-IsOver xs (pow a k) = IsOver xs a
-IsOver xs _ = ⊥
-
--- a list of assignments to scalars of the list, by terms over it
-abbrev pub IsStraight : List Key → Code → Type 0
-IsStraight xs stop = Unit {0}
-IsStraight xs (step line (assign (plain x) none e) rest) = ((stands_in key_eq (x, 0) xs ≡ true) × IsOver xs e) × IsStraight xs rest
-IsStraight xs (step line a rest) = ⊥

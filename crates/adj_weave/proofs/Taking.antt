@@ -13,7 +13,7 @@ use Rattle.adj_reverse.proofs.Rounds.{either}
 use Rattle.adj_checked.proofs.Callings.{all_found}
 use Rattle.adj_facts.specs.Parts.{Part, parts, statements_in, find_part}
 use Rattle.adj_facts.specs.Problem.{Problem, IsHead, TakesPart}
-use Rattle.adj_facts.proofs.Straight.{head_part}
+use Rattle.adj_facts.proofs.Heads.{head_part}
 use Rattle.adj_analysed.proofs.Checked.{part_found}
 use Rattle.adj_analysed.proofs.Meets.{some_same}
 use Rattle.adj_analysed.proofs.Numbers.{placed}
