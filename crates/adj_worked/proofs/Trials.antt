@@ -7,15 +7,71 @@ use Rattle.adj_meaning.specs.Run.{most_tests}
 use Rattle.adj_reverse.specs.Marking.{full_marks}
 use Rattle.adj_reverse.specs.Program.{emitted_program}
 use Rattle.adj_reverse.specs.Examples.{branch, powers, power}
-use Rattle.adj_worked.specs.Faulty.{faulty_program, Serve, Fail, untold, unturned, unrestored, unreset, uncounted, unsnapped, popped_before, unguarded}
-use Rattle.adj_worked.specs.Sources.{sums, scaled, counted, squaring, raising, caller, calls_after, calls_before, sparing, unsaved, unsaved_call, unvaried, memberless, unadjointed, unkept, left_out}
-use Rattle.adj_worked.proofs.Trying.{tried, adjoint_in, differ, stuck}
+use Rattle.adj_worked.specs.Faulty.{faulty_program, Serve, Fail, pushed_after, unreversed, assigned, unsigned, uncleared, unpopped, replayed, untold, unturned, unrestored, unreset, uncounted, unsnapped, popped_before, unguarded}
+use Rattle.adj_worked.specs.Sources.{squared, fourth, square, cube, difference, saving_nothing, keeping_nothing, sums, scaled, counted, squaring, raising, caller, calls_after, calls_before, sparing, unsaved, unsaved_call, unvaried, memberless, unadjointed, unkept, left_out}
+use Rattle.adj_worked.proofs.Trying.{tried, adjoint_in, differ, stuck, left, replays}
 
 -- words of different numbers
 differ_words : (m n : ℕ) → (m == n) ≡ false → pos m ≡ pos n → ⊥
 differ_words m n d h = let e : m ≡ n = cc in let p : true ≡ false = sym (subst (λ k. (m == k) ≡ true) e (nat_refl m)) ∙ d in cc
 
 -- ---- with a change
+
+-- its adjoint reads 9 in place of 3: 18, where the tangent is 6
+pub pushed_after_fails : Serve pushed_after full_marks (squared ∷ []) 0 (true ∷ []) (true ∷ []) → ⊥
+unfolding int_wrap
+pushed_after_fails =
+    differ full_marks (squared ∷ []) 0 (true ∷ []) (true ∷ []) (faulty_program pushed_after full_marks (squared ∷ []) 0 (true ∷ []) (true ∷ [])) squared (adjoint_in (squared ∷ []) squared (faulty_program pushed_after full_marks (squared ∷ []) 0 (true ∷ []) (true ∷ []))) refl refl
+    (tried (squared ∷ []) squared (true ∷ []) (pos 3 ∷ []) (pos 1 ∷ []) 40 refl refl refl)
+    (λ h. h) (λ h. h) (differ_words 18 6 refl)
+
+-- the adjoint of the first assignment has the adjoint of Y: 4, where the tangent is 12
+pub unreversed_fails : Serve unreversed full_marks (cube ∷ []) 0 (true ∷ true ∷ []) (true ∷ true ∷ []) → ⊥
+unfolding int_wrap
+unreversed_fails =
+    differ full_marks (cube ∷ []) 0 (true ∷ true ∷ []) (true ∷ true ∷ []) (faulty_program unreversed full_marks (cube ∷ []) 0 (true ∷ true ∷ []) (true ∷ true ∷ [])) cube (adjoint_in (cube ∷ []) cube (faulty_program unreversed full_marks (cube ∷ []) 0 (true ∷ true ∷ []) (true ∷ true ∷ []))) refl refl
+    (tried (cube ∷ []) cube (true ∷ true ∷ []) (pos 2 ∷ pos 0 ∷ []) (pos 0 ∷ pos 1 ∷ []) 60 refl refl refl)
+    (λ h. h) (λ h. h) (differ_words 4 12 refl)
+
+-- the first of two equal terms is lost: 3, where the tangent is 6
+pub assigned_fails : Serve assigned full_marks (square ∷ []) 0 (true ∷ false ∷ []) (false ∷ true ∷ []) → ⊥
+unfolding int_wrap
+assigned_fails =
+    differ full_marks (square ∷ []) 0 (true ∷ false ∷ []) (false ∷ true ∷ []) (faulty_program assigned full_marks (square ∷ []) 0 (true ∷ false ∷ []) (false ∷ true ∷ [])) square (adjoint_in (square ∷ []) square (faulty_program assigned full_marks (square ∷ []) 0 (true ∷ false ∷ []) (false ∷ true ∷ []))) refl refl
+    (tried (square ∷ []) square (true ∷ false ∷ []) (pos 3 ∷ pos 0 ∷ []) (pos 0 ∷ pos 1 ∷ []) 40 refl refl refl)
+    (λ h. h) (λ h. h) (differ_words 3 6 refl)
+
+-- what is to be taken away is added: 2, where the tangent is 0
+pub unsigned_fails : Serve unsigned full_marks (difference ∷ []) 0 (true ∷ true ∷ []) (false ∷ true ∷ []) → ⊥
+unfolding int_wrap
+unsigned_fails =
+    differ full_marks (difference ∷ []) 0 (true ∷ true ∷ []) (false ∷ true ∷ []) (faulty_program unsigned full_marks (difference ∷ []) 0 (true ∷ true ∷ []) (false ∷ true ∷ [])) difference (adjoint_in (difference ∷ []) difference (faulty_program unsigned full_marks (difference ∷ []) 0 (true ∷ true ∷ []) (false ∷ true ∷ []))) refl refl
+    (tried (difference ∷ []) difference (true ∷ true ∷ []) (pos 3 ∷ pos 5 ∷ []) (pos 0 ∷ pos 1 ∷ []) 40 refl refl refl)
+    (λ h. h) (λ h. h) (differ_words 2 0 refl)
+
+-- the adjoint of what is overwritten stays: 7, where the tangent is 6
+pub uncleared_fails : Serve uncleared full_marks (squared ∷ []) 0 (true ∷ []) (true ∷ []) → ⊥
+unfolding int_wrap
+uncleared_fails =
+    differ full_marks (squared ∷ []) 0 (true ∷ []) (true ∷ []) (faulty_program uncleared full_marks (squared ∷ []) 0 (true ∷ []) (true ∷ [])) squared (adjoint_in (squared ∷ []) squared (faulty_program uncleared full_marks (squared ∷ []) 0 (true ∷ []) (true ∷ []))) refl refl
+    (tried (squared ∷ []) squared (true ∷ []) (pos 3 ∷ []) (pos 1 ∷ []) 40 refl refl refl)
+    (λ h. h) (λ h. h) (differ_words 7 6 refl)
+
+-- a word is left on the tape
+pub unpopped_fails : Serve unpopped full_marks (square ∷ []) 0 (true ∷ false ∷ []) (false ∷ true ∷ []) → ⊥
+unfolding int_wrap
+unpopped_fails =
+    left full_marks (square ∷ []) 0 (true ∷ false ∷ []) (false ∷ true ∷ []) (faulty_program unpopped full_marks (square ∷ []) 0 (true ∷ false ∷ []) (false ∷ true ∷ [])) square (adjoint_in (square ∷ []) square (faulty_program unpopped full_marks (square ∷ []) 0 (true ∷ false ∷ []) (false ∷ true ∷ []))) refl refl
+    (tried (square ∷ []) square (true ∷ false ∷ []) (pos 3 ∷ pos 5 ∷ []) (pos 0 ∷ pos 1 ∷ []) 40 refl refl refl)
+    (λ h. h) refl
+
+-- a reversal of no steps is one too many
+pub replayed_fails : Serve replayed full_marks (square ∷ []) 0 (true ∷ false ∷ []) (false ∷ true ∷ []) → ⊥
+unfolding int_wrap
+replayed_fails =
+    replays full_marks (square ∷ []) 0 (true ∷ false ∷ []) (false ∷ true ∷ []) (faulty_program replayed full_marks (square ∷ []) 0 (true ∷ false ∷ []) (false ∷ true ∷ [])) square (adjoint_in (square ∷ []) square (faulty_program replayed full_marks (square ∷ []) 0 (true ∷ false ∷ []) (false ∷ true ∷ []))) refl refl
+    (tried (square ∷ []) square (true ∷ false ∷ []) (pos 3 ∷ pos 5 ∷ []) (pos 0 ∷ pos 1 ∷ []) 40 refl refl refl)
+    (λ h. h) refl refl
 
 -- the saved value of Y is taken for the control word, and then there is nothing to pop
 pub untold_fails : Serve untold full_marks (branch ∷ []) 0 (true ∷ false ∷ []) (false ∷ true ∷ []) → ⊥
@@ -78,6 +134,22 @@ unguarded_fails =
     stuck full_marks (power ∷ []) 0 (true ∷ false ∷ false ∷ []) (false ∷ false ∷ true ∷ []) (faulty_program unguarded full_marks (power ∷ []) 0 (true ∷ false ∷ false ∷ []) (false ∷ false ∷ true ∷ [])) power (adjoint_in (power ∷ []) power (faulty_program unguarded full_marks (power ∷ []) 0 (true ∷ false ∷ false ∷ []) (false ∷ false ∷ true ∷ []))) refl refl (tried (power ∷ []) power (true ∷ false ∷ false ∷ []) (pos 3 ∷ pos 0 ∷ pos 0 ∷ []) (pos 0 ∷ pos 0 ∷ pos 1 ∷ []) 80 refl refl refl) (λ h. h) refl
 
 -- ---- by marks that break a law
+
+-- both adjoints read 16: 1024, where the tangent is 32
+pub value_unsaved_fails : Fail saving_nothing (fourth ∷ []) 0 (true ∷ []) (true ∷ [])
+unfolding int_wrap
+value_unsaved_fails =
+    differ saving_nothing (fourth ∷ []) 0 (true ∷ []) (true ∷ []) (emitted_program saving_nothing (fourth ∷ []) 0 (true ∷ []) (true ∷ [])) fourth (adjoint_in (fourth ∷ []) fourth (emitted_program saving_nothing (fourth ∷ []) 0 (true ∷ []) (true ∷ []))) refl refl
+    (tried (fourth ∷ []) fourth (true ∷ []) (pos 2 ∷ []) (pos 1 ∷ []) 60 refl refl refl)
+    (λ h. h) (λ h. h) (differ_words 1024 32 refl)
+
+-- both adjoints read 2: 16, where the tangent is 32
+pub assignment_unkept_fails : Fail keeping_nothing (fourth ∷ []) 0 (true ∷ []) (true ∷ [])
+unfolding int_wrap
+assignment_unkept_fails =
+    differ keeping_nothing (fourth ∷ []) 0 (true ∷ []) (true ∷ []) (emitted_program keeping_nothing (fourth ∷ []) 0 (true ∷ []) (true ∷ [])) fourth (adjoint_in (fourth ∷ []) fourth (emitted_program keeping_nothing (fourth ∷ []) 0 (true ∷ []) (true ∷ []))) refl refl
+    (tried (fourth ∷ []) fourth (true ∷ []) (pos 2 ∷ []) (pos 1 ∷ []) 60 refl refl refl)
+    (λ h. h) (λ h. h) (differ_words 16 32 refl)
 
 -- the first assignment has I as in the first turn: 3, where the tangent is 7
 pub variable_unsaved_fails : Fail unsaved (scaled ∷ []) 0 (true ∷ false ∷ false ∷ []) (false ∷ true ∷ false ∷ [])

@@ -1,6 +1,6 @@
 -- What is no adjoint: by one input, adjoints of the dependents and a direction at which it fails.
 use Rattle.std.proofs.Common.{◌≡◌, ℕ, List, [], ◌∷◌, map, Bool, true, false, refl, sym, ap, ◌∙◌, subst, arith}
-use Rattle.std.specs.Prelude.{ℤ, pos, length, Option, Some, None}
+use Rattle.std.specs.Prelude.{ℤ, pos, length, reverse, Option, Some, None}
 use Rattle.adj_tree.specs.Code.{stop, Procedure}
 use Rattle.adj_meaning.specs.Store.{scalar}
 use Rattle.adj_meaning.specs.Numbers.{Numbers, words, duals}
@@ -14,6 +14,7 @@ use Rattle.adj_transpose.specs.Adjoint.{Ends, AreAlike, AreTangents, OthersAreZe
 use Rattle.adj_reverse.specs.Marking.{ProgramMarks}
 use Rattle.adj_reverse.specs.Names.{adjoint_name}
 use Rattle.adj_reverse.specs.Adjoint.{TransposesBy, IsAdjoint}
+use Rattle.adj_reverse.specs.Reversals.{LoopRun, Reversal, AreReversed, marks_in, reversals_in}
 
 -- ---- runs that are computed
 
@@ -52,6 +53,16 @@ some_same a b h = cc
 
 one_same : {A : Type 0} (a b : A) → a ∷ [] ≡ b ∷ [] → a ≡ b
 one_same a b h = cc
+
+abbrev pub is_none : {A : Type 0} → List A → Bool
+is_none [] = true
+is_none (x ∷ xs) = false
+
+-- where no loop is to be reversed nothing is
+none_reversed : (loops : List LoopRun) (rs : List Reversal) → is_none (map (λ (r : LoopRun). r.mark) loops) ≡ true → AreReversed loops rs → is_none rs ≡ false → ⊥
+none_reversed [] [] e x f = let c : true ≡ false = f in cc
+none_reversed [] (r ∷ rs) e x f = x
+none_reversed (l ∷ ls) rs e x f = let c : false ≡ true = e in cc
 
 -- ---- trials
 
@@ -164,3 +175,18 @@ module _ (m : ProgramMarks) (ps : List Procedure) (head : ℕ) (vars outvars : L
       let p : is_done (run_unit words qs a given [] None t.least) ≡ true = ap is_done (ends_so words qs a given t.least r.run over) in
       let c : true ≡ false = sym p ∙ traps in
       cc
+
+  -- nor where words are left on its tape
+  pub left : IsOver words qs a given t.least → is_none result.tape ≡ false → IsAdjoint (λ line. false) m ps head vars outvars qs → ⊥
+  left over some h =
+      let r = transposed h in
+      let p : is_none result.tape ≡ true = ap (λ o. is_none (output_in o).tape) (ends_so words qs a given t.least r.run over) ∙ ap is_none r.empties in
+      let c : true ≡ false = sym p ∙ some in
+      cc
+
+  -- nor where it reverses something by a schedule
+  pub replays : IsOver words qs a given t.least → is_none (reversals_in result.events) ≡ false → is_none (marks_in (λ line. false) (reverse (output_in (run_unit words ps u t.input [] None t.least)).events)) ≡ true → IsAdjoint (λ line. false) m ps head vars outvars qs → ⊥
+  replays over some no_marks h =
+      let r = transposed h in
+      let p : is_none (reversals_in result.events) ≡ is_none (reversals_in r.run.output.events) = ap (λ o. is_none (reversals_in (output_in o).events)) (ends_so words qs a given t.least r.run over) in
+      none_reversed r.reverses.loops (reversals_in r.run.output.events) (sym (ap is_none r.reverses.marks) ∙ no_marks) r.reverses.reversed (sym p ∙ some)

@@ -1,6 +1,6 @@
 -- Emitted programs with a fault: each is what is emitted by some marks, but for one thing. (docs/THEOREMS.md, "Sweeps of every statement")
-use Rattle.std.specs.Prelude.{ℕ, pos, List, map, Bool, false, if◌then◌else◌, None}
-use Rattle.adj_tree.specs.Code.{plain, name_eq, plus, times, greater, lit, neg, bin, power_of, none, Act, assign, choose, loop, during, call, runtime, push_control, push_word, pop_word, Code, stop, step, Procedure}
+use Rattle.std.specs.Prelude.{ℕ, nat_lt, pos, List, map, Bool, false, if◌then◌else◌, None}
+use Rattle.adj_tree.specs.Code.{plain, name_eq, plus, times, greater, lit, var, neg, bin, power_of, none, Act, assign, choose, loop, during, call, runtime, push_control, push_word, pop_word, begin_reversal, end_reversal, Code, stop, step, Procedure}
 use Rattle.adj_reverse.specs.Marking.{ProgramMarks}
 use Rattle.adj_reverse.specs.Program.{emitted_program}
 use Rattle.adj_reverse.specs.Adjoint.{IsAdjoint}
@@ -43,6 +43,41 @@ Fail m ps head vars outvars = IsAdjoint (λ line. None) m ps head vars outvars (
 -- none
 abbrev pub unchanged : Change
 unchanged line a rest = step line a rest
+
+-- assignment: a value is pushed after it
+abbrev pub pushed_after : Change
+pushed_after line (runtime (push_word x subs)) (step at (assign y others e) rest) = step at (assign y others e) (step line (runtime (push_word x subs)) rest)
+pushed_after line a rest = step line a rest
+
+-- assignments: statements stand by their lines, so that the adjoints of assignments come in the order of the text
+abbrev pub unreversed : Change
+unreversed line a stop = step line a stop
+unreversed line a (step at b rest) = if nat_lt at line then step at b (unreversed line a rest) else step line a (step at b rest)
+
+-- assignment: a shadow is set to what it is to grow by
+abbrev pub assigned : Change
+assigned line (assign (plain x) none (bin plus (var (plain y)) b)) rest = if name_eq x y then step line (assign (plain x) none b) rest else step line (assign (plain x) none (bin plus (var (plain y)) b)) rest
+assigned line a rest = step line a rest
+
+-- assignment: the sign of an operand's adjoint is lost
+abbrev pub unsigned : Change
+unsigned line (assign x subs (neg e)) rest = step line (assign x subs e) rest
+unsigned line a rest = step line a rest
+
+-- assignment: the shadow of its target isn't set to 0
+abbrev pub uncleared : Change
+uncleared line (assign x subs (lit z)) rest = rest
+uncleared line a rest = step line a rest
+
+-- assignment: nothing is popped
+abbrev pub unpopped : Change
+unpopped line (runtime (pop_word x subs)) rest = rest
+unpopped line a rest = step line a rest
+
+-- assignment: before a value is pushed a reversal of no steps is begun and ended
+abbrev pub replayed : Change
+replayed line (runtime (push_word x subs)) rest = step line (runtime (begin_reversal (lit (pos 0)) (lit (pos 1)))) (step line (runtime end_reversal) (step line (runtime (push_word x subs)) rest))
+replayed line a rest = step line a rest
 
 -- IF: the control word that tells which part ran is forgotten
 abbrev pub untold : Change

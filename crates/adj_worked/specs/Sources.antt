@@ -1,6 +1,6 @@
 -- The programs whose faulty adjoints are tried, each with a head P over scalars, and the marks that they are tried with.
 use Rattle.std.specs.Prelude.{ℕ, pos, List, [], ◌∷◌, ◌==◌, ◌||◌, not, false, codes}
-use Rattle.adj_tree.specs.Code.{plain, plus, times, Term, lit, var, bin, none, more, unmarked, Act, loop, call, Code, stop, step, Procedure}
+use Rattle.adj_tree.specs.Code.{plain, plus, minus, times, Term, lit, var, bin, none, more, unmarked, Act, loop, call, Code, stop, step, Procedure}
 use Rattle.adj_reverse.specs.Marking.{ProgramMarks, full_marks}
 use Rattle.adj_reverse.specs.Examples.{unit_over, set}
 
@@ -24,6 +24,26 @@ abbrev call_with : List ℕ → Act
 call_with x = call (codes "S") (more (use_of x) none)
 
 -- ---- sources
+
+-- P(X), X=X*X
+abbrev pub squared : Procedure
+squared = unit_over (codes "X" ∷ []) (step 3 (multiply (codes "X") (codes "X") (codes "X")) stop)
+
+-- P(X), X=X*X twice
+abbrev pub fourth : Procedure
+fourth = unit_over (codes "X" ∷ []) (step 3 (multiply (codes "X") (codes "X") (codes "X")) (step 4 (multiply (codes "X") (codes "X") (codes "X")) stop))
+
+-- P(X,Y), Y=X*X
+abbrev pub square : Procedure
+square = unit_over (codes "X" ∷ codes "Y" ∷ []) (step 3 (multiply (codes "Y") (codes "X") (codes "X")) stop)
+
+-- P(X,Y), Y=X*X, Y=Y*X
+abbrev pub cube : Procedure
+cube = unit_over (codes "X" ∷ codes "Y" ∷ []) (step 3 (multiply (codes "Y") (codes "X") (codes "X")) (step 4 (multiply (codes "Y") (codes "Y") (codes "X")) stop))
+
+-- P(X,Y), Y=Y-X
+abbrev pub difference : Procedure
+difference = unit_over (codes "X" ∷ codes "Y" ∷ []) (step 3 (set (plain (codes "Y")) (bin minus (use_of (codes "Y")) (use_of (codes "X")))) stop)
 
 -- P(X,R,I), DO I=1,2, R=R*I+X
 abbrev pub sums : Procedure
@@ -64,6 +84,14 @@ abbrev pub calls_before : Procedure
 calls_before = unit_over (codes "X" ∷ codes "Y" ∷ []) (step 6 (call_with (codes "X")) (step 7 (multiply (codes "Y") (codes "X") (codes "X")) stop))
 
 -- ---- marks
+
+-- nothing is saved
+abbrev pub saving_nothing : ProgramMarks
+saving_nothing = record full_marks { saved = λ i v. false }
+
+-- nothing is kept
+abbrev pub keeping_nothing : ProgramMarks
+keeping_nothing = record full_marks { kept = λ i. false }
 
 -- the first statement saves nothing
 abbrev pub sparing : ProgramMarks

@@ -37,12 +37,19 @@ pub fn worked_runs()
 {}
 
 ghost use Rattle.adj_reverse.specs.Examples.{branch, powers, power};
-ghost use Rattle.adj_worked.specs.Faulty.{faulty_program, Serve, Fail, unchanged, untold, unturned, unrestored, unreset, uncounted, unsnapped, popped_before, unguarded};
-ghost use Rattle.adj_worked.specs.Sources.{sums, scaled, counted, squaring, caller, calls_before, unsaved, unsaved_call, unvaried, memberless, unadjointed, unkept, left_out};
+ghost use Rattle.adj_worked.specs.Faulty.{faulty_program, Serve, Fail, unchanged, pushed_after, unreversed, assigned, unsigned, uncleared, unpopped, replayed, untold, unturned, unrestored, unreset, uncounted, unsnapped, popped_before, unguarded};
+ghost use Rattle.adj_worked.specs.Sources.{squared, fourth, square, cube, difference, saving_nothing, keeping_nothing, sums, scaled, counted, squaring, caller, calls_before, unsaved, unsaved_call, unvaried, memberless, unadjointed, unkept, left_out};
 
 /// Emitted programs with a fault are no adjoints: the definition of an adjoint tells them from the emitted one.
 pub fn wrong_adjoints()
     ensures without_fault { (m : ProgramMarks) (ps : List Procedure) (head : ℕ) (vars outvars : List Bool) → faulty_program unchanged m ps head vars outvars ≡ emitted_program m ps head vars outvars }
+    ensures pushed_after { Serve pushed_after full_marks (squared ∷ []) 0 (true ∷ []) (true ∷ []) → ⊥ }
+    ensures unreversed { Serve unreversed full_marks (cube ∷ []) 0 (true ∷ true ∷ []) (true ∷ true ∷ []) → ⊥ }
+    ensures assigned { Serve assigned full_marks (square ∷ []) 0 (true ∷ false ∷ []) (false ∷ true ∷ []) → ⊥ }
+    ensures unsigned { Serve unsigned full_marks (difference ∷ []) 0 (true ∷ true ∷ []) (false ∷ true ∷ []) → ⊥ }
+    ensures uncleared { Serve uncleared full_marks (squared ∷ []) 0 (true ∷ []) (true ∷ []) → ⊥ }
+    ensures unpopped { Serve unpopped full_marks (square ∷ []) 0 (true ∷ false ∷ []) (false ∷ true ∷ []) → ⊥ }
+    ensures replayed { Serve replayed full_marks (square ∷ []) 0 (true ∷ false ∷ []) (false ∷ true ∷ []) → ⊥ }
     ensures untold { Serve untold full_marks (branch ∷ []) 0 (true ∷ false ∷ []) (false ∷ true ∷ []) → ⊥ }
     ensures unturned { Serve unturned full_marks (sums ∷ []) 0 (true ∷ false ∷ false ∷ []) (false ∷ true ∷ false ∷ []) → ⊥ }
     ensures unrestored { Serve (unrestored (codes "I")) full_marks (scaled ∷ []) 0 (true ∷ false ∷ false ∷ []) (false ∷ true ∷ false ∷ []) → ⊥ }
@@ -53,9 +60,11 @@ pub fn wrong_adjoints()
     ensures unguarded { Serve unguarded full_marks (power ∷ []) 0 (true ∷ false ∷ false ∷ []) (false ∷ false ∷ true ∷ []) → ⊥ }
 {}
 
-/// Marks that break a law give programs that are no adjoints: a DO doesn't save its variable, or isn't known to reset its shadow, a
+/// Marks that break a law give programs that are no adjoints: an assignment doesn't save its value or isn't kept, a DO doesn't save its variable, or isn't known to reset its shadow, a
 /// unit's adjoint has no members, a call isn't adjointed, isn't kept or doesn't save its actual, or an IF is left out.
 pub fn open_marks()
+    ensures value_unsaved { Fail saving_nothing (fourth ∷ []) 0 (true ∷ []) (true ∷ []) }
+    ensures assignment_unkept { Fail keeping_nothing (fourth ∷ []) 0 (true ∷ []) (true ∷ []) }
     ensures variable_unsaved { Fail unsaved (scaled ∷ []) 0 (true ∷ false ∷ false ∷ []) (false ∷ true ∷ false ∷ []) }
     ensures variable_unvaried { Fail unvaried (counted ∷ []) 0 (false ∷ true ∷ []) (true ∷ false ∷ []) }
     ensures memberless { Fail memberless (squaring ∷ caller ∷ []) 1 (true ∷ []) (true ∷ []) }

@@ -1,4 +1,4 @@
-use Rattle.adj_worked.proofs.Trials.{variable_unsaved_fails, variable_unvaried_fails, memberless_fails, call_unadjointed_fails, call_unkept_fails, call_unsaved_fails, branch_left_out_fails}
+use Rattle.adj_worked.proofs.Trials.{value_unsaved_fails, assignment_unkept_fails, variable_unsaved_fails, variable_unvaried_fails, memberless_fails, call_unadjointed_fails, call_unkept_fails, call_unsaved_fails, branch_left_out_fails}
 use Rattle.adj_worked.proofs.open_marks.Goals as goal
 
 pub returns-clause-variable_unsaved : goal.returns-clause-variable_unsaved
@@ -21,3 +21,9 @@ returns-clause-call_unsaved c = call_unsaved_fails
 
 pub returns-clause-branch_left_out : goal.returns-clause-branch_left_out
 returns-clause-branch_left_out c = branch_left_out_fails
+
+pub returns-clause-value_unsaved : goal.returns-clause-value_unsaved
+returns-clause-value_unsaved c = value_unsaved_fails
+
+pub returns-clause-assignment_unkept : goal.returns-clause-assignment_unkept
+returns-clause-assignment_unkept c = assignment_unkept_fails

@@ -1,5 +1,5 @@
 use Rattle.adj_worked.proofs.Unchanged.{without_fault}
-use Rattle.adj_worked.proofs.Trials.{untold_fails, unturned_fails, unrestored_fails, unreset_fails, uncounted_fails, unsnapped_fails, popped_before_fails, unguarded_fails}
+use Rattle.adj_worked.proofs.Trials.{pushed_after_fails, unreversed_fails, assigned_fails, unsigned_fails, uncleared_fails, unpopped_fails, replayed_fails, untold_fails, unturned_fails, unrestored_fails, unreset_fails, uncounted_fails, unsnapped_fails, popped_before_fails, unguarded_fails}
 use Rattle.adj_worked.proofs.wrong_adjoints.Goals as goal
 
 pub returns-clause-without_fault : goal.returns-clause-without_fault
@@ -28,3 +28,24 @@ returns-clause-popped_before c = popped_before_fails
 
 pub returns-clause-unguarded : goal.returns-clause-unguarded
 returns-clause-unguarded c = unguarded_fails
+
+pub returns-clause-pushed_after : goal.returns-clause-pushed_after
+returns-clause-pushed_after c = pushed_after_fails
+
+pub returns-clause-unreversed : goal.returns-clause-unreversed
+returns-clause-unreversed c = unreversed_fails
+
+pub returns-clause-assigned : goal.returns-clause-assigned
+returns-clause-assigned c = assigned_fails
+
+pub returns-clause-unsigned : goal.returns-clause-unsigned
+returns-clause-unsigned c = unsigned_fails
+
+pub returns-clause-uncleared : goal.returns-clause-uncleared
+returns-clause-uncleared c = uncleared_fails
+
+pub returns-clause-unpopped : goal.returns-clause-unpopped
+returns-clause-unpopped c = unpopped_fails
+
+pub returns-clause-replayed : goal.returns-clause-replayed
+returns-clause-replayed c = replayed_fails
