@@ -26,7 +26,7 @@ use Rattle.adj_facts.specs.Problem.{Problem, IsHead, TakesPart}
 use Rattle.adj_facts.specs.Activity as activity
 use Rattle.adj_facts.specs.Live.{Liveness}
 use Rattle.adj_facts.specs.Laws.{Analysed}
-use Rattle.adj_facts.proofs.Straight.{head_part}
+use Rattle.adj_facts.proofs.Heads.{head_part}
 use Rattle.adj_facts.proofs.Statements.{entries_are_closed}
 use Rattle.adj_analysed.specs.Meets.{program_facts, IsPlainCode, IsUnmarked}
 use Rattle.adj_analysed.proofs.Numbers.{Placed, placed}

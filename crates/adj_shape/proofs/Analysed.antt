@@ -16,7 +16,7 @@ use Rattle.adj_checked.proofs.Premises.{units_apart, found, all_calls, written, 
 use Rattle.adj_checked.proofs.Statements.{CallHasNone}
 use Rattle.adj_facts.specs.Parts.{parts, statements_in, find_part}
 use Rattle.adj_facts.specs.Problem.{IsHead}
-use Rattle.adj_facts.proofs.Straight.{head_part}
+use Rattle.adj_facts.proofs.Heads.{head_part}
 use Rattle.adj_analysed.specs.Meets.{program_facts, IsPlainCode, IsUnmarked}
 use Rattle.adj_analysed.proofs.Checked.{unmarked_fit, plain_code, part_found}
 use Rattle.adj_analysed.proofs.Meets.{some_same, analysed_meets}
