@@ -14,7 +14,7 @@ use Rattle.adj_transpose.specs.Adjoint.{Ends, AreAlike, AreTangents, OthersAreZe
 use Rattle.adj_reverse.specs.Marking.{ProgramMarks}
 use Rattle.adj_reverse.specs.Names.{adjoint_name}
 use Rattle.adj_reverse.specs.Adjoint.{TransposesBy, IsAdjoint}
-use Rattle.adj_reverse.specs.Reversals.{LoopRun, Reversal, AreReversed, marks_in, reversals_in}
+use Rattle.adj_reverse.specs.Reversals.{LoopRun, Reversal, AreReversed, runs_in, reversals_in}
 
 -- ---- runs that are computed
 
@@ -59,7 +59,7 @@ is_none [] = true
 is_none (x ∷ xs) = false
 
 -- where no loop is to be reversed nothing is
-none_reversed : (loops : List LoopRun) (rs : List Reversal) → is_none (map (λ (r : LoopRun). r.mark) loops) ≡ true → AreReversed loops rs → is_none rs ≡ false → ⊥
+none_reversed : (loops : List LoopRun) (rs : List Reversal) → is_none loops ≡ true → AreReversed loops rs → is_none rs ≡ false → ⊥
 none_reversed [] [] e x f = let c : true ≡ false = f in cc
 none_reversed [] (r ∷ rs) e x f = x
 none_reversed (l ∷ ls) rs e x f = let c : false ≡ true = e in cc
@@ -177,7 +177,7 @@ module _ (m : ProgramMarks) (ps : List Procedure) (head : ℕ) (vars outvars : L
       cc
 
   -- nor where words are left on its tape
-  pub left : IsOver words qs a given t.least → is_none result.tape ≡ false → IsAdjoint (λ line. false) m ps head vars outvars qs → ⊥
+  pub left : IsOver words qs a given t.least → is_none result.tape ≡ false → IsAdjoint (λ line. None) m ps head vars outvars qs → ⊥
   left over some h =
       let r = transposed h in
       let p : is_none result.tape ≡ true = ap (λ o. is_none (output_in o).tape) (ends_so words qs a given t.least r.run over) ∙ ap is_none r.empties in
@@ -185,8 +185,8 @@ module _ (m : ProgramMarks) (ps : List Procedure) (head : ℕ) (vars outvars : L
       cc
 
   -- nor where it reverses something by a schedule
-  pub replays : IsOver words qs a given t.least → is_none (reversals_in result.events) ≡ false → is_none (marks_in (λ line. false) (reverse (output_in (run_unit words ps u t.input [] None t.least)).events)) ≡ true → IsAdjoint (λ line. false) m ps head vars outvars qs → ⊥
+  pub replays : IsOver words qs a given t.least → is_none (reversals_in result.events) ≡ false → is_none (runs_in (λ line. None) (reverse (output_in (run_unit words ps u t.input [] None t.least)).events)) ≡ true → IsAdjoint (λ line. None) m ps head vars outvars qs → ⊥
   replays over some no_marks h =
       let r = transposed h in
       let p : is_none (reversals_in result.events) ≡ is_none (reversals_in r.run.output.events) = ap (λ o. is_none (reversals_in (output_in o).events)) (ends_so words qs a given t.least r.run over) in
-      none_reversed r.reverses.loops (reversals_in r.run.output.events) (sym (ap is_none r.reverses.marks) ∙ no_marks) r.reverses.reversed (sym p ∙ some)
+      none_reversed (runs_in (λ line. None) (reverse (output_in (run_unit words ps u t.input [] None t.least)).events)) (reversals_in r.run.output.events) no_marks r.reverses (sym p ∙ some)
