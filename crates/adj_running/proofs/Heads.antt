@@ -21,7 +21,7 @@ use Rattle.adj_running.specs.Running.{Asked, bad_data, data_answer, ended, head_
 use Rattle.adj_running.specs.Views.{error_answer}
 
 -- the unit that is found stands at its number
-numbered : (ps : List Procedure) (name : List ℕ) (u : Procedure) → find_unit ps name ≡ Some u → slice_get ps (unit_number ps name) ≡ Some u
+pub numbered : (ps : List Procedure) (name : List ℕ) (u : Procedure) → find_unit ps name ≡ Some u → slice_get ps (unit_number ps name) ≡ Some u
 numbered [] name u h = absurd cc
 numbered (p ∷ ps) name u h = go (name_eq p.name name) h (numbered ps name u)
   where

@@ -1,3 +1,3 @@
-mod Sized
-mod Heads
+pub mod Sized
+pub mod Heads
 mod Endings

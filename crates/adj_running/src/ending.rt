@@ -30,7 +30,7 @@ fn bad_data(alloc: Global, code: u8, line: u32) -> Result<Answer, Memory>
 }
 
 /// The answer to data that give no input.
-pub(crate) fn no_input(alloc: Global, error: DataError) -> Result<Answer, Memory>
+pub fn no_input(alloc: Global, error: DataError) -> Result<Answer, Memory>
     ensures { IfOk result (λ a. Some (answer_of a) ≡ error_answer error) }
 {
     match error {
@@ -80,7 +80,7 @@ fn line_of_one(alloc: Global, status: Status, word: &[u8], number: u64) -> Resul
 }
 
 /// The answer to a run that stopped before its end.
-pub(crate) fn stopped(alloc: Global, request: &RunRequest, stop: Stop) -> Result<Answer, Memory>
+pub fn stopped(alloc: Global, request: &RunRequest, stop: Stop) -> Result<Answer, Memory>
     ensures { IfOk result (λ a. Some (answer_of a) ≡ stop_answer (asked_of request.now) stop) }
 {
     match stop {

@@ -9,5 +9,6 @@ mod ending;
 mod request;
 mod running;
 
+pub use ending::{no_input, stopped};
 pub use request::RunRequest;
 pub use running::run_answer;
