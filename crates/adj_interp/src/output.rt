@@ -8,17 +8,16 @@ use adj_frame::Slot;
 use adj_tree::{Items, Memory, Slot as Value, Values};
 use std::alloc::Global;
 
-/// The slots of an input.
-pub(crate) fn slots_of(alloc: Global, input: &Values) -> Result<Vec<Slot<i64>>, Memory>
-    ensures { IfOk result (λ slots. map entry_seen slots.items ≡ map slot_seen input.now) }
+/// The slots of an input, whose cells they keep.
+pub(crate) fn slots_of(alloc: Global, input: Values) -> Result<Vec<Slot<i64>>, Memory>
+    ensures { IfOk result (λ slots. map entry_seen slots.items ≡ map slot_seen input) }
 {
     let mut slots = Vec::new(alloc);
-    for value in input.as_slice() {
-        let cells = value.cells.as_slice().to_vec(alloc)?;
+    for value in input.into_vec() {
         slots.push(Slot {
             rows: value.rows as usize,
             cols: value.cols as usize,
-            cells,
+            cells: value.cells.into_vec(),
         })?;
     }
     Ok(slots)

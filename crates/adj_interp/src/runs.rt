@@ -133,7 +133,7 @@ pub fn run(
         → Concludes (run_unit words (procedures_of program.now.program) u (map slot_seen input) tape.old.words (Some tape.old.room) budget) result tape.new log.new }
     ensures spent { result ≡ Err stop.Budget → log.new.used ≡ budget }
 {
-    let slots = slots_of(alloc, &input)?;
+    let slots = slots_of(alloc, input)?;
     match run_over(alloc, program, unit, slots, budget, tape, log) {
         Ok(slots) => {
             let values = values_of(alloc, slots)?;

@@ -16,8 +16,8 @@ seen slots = map entry_seen slots.items
 pub run_over-requires-clause-fits : goal.run_over-requires-clause-fits
 run_over-requires-clause-fits c u at = subst (λ vs. fits words u vs ≡ true) (sym c.in_ok-slots.ensures) (c.requires.fits u at)
 
-pub returns-in-Ok-clause-ends : goal.returns-in-Ok-clause-ends
-returns-in-Ok-clause-ends c u at =
+pub returns-in_ok-values-in-Ok-clause-ends : goal.returns-in_ok-values-in-Ok-clause-ends
+returns-in_ok-values-in-Ok-clause-ends c u at =
     let held = c.args.tape.now in
     let whole = λ (vs : List (Slot ℤ)). run_unit words (procedures_of c.args.program.now.program) u vs held.words (Some held.room) c.args.budget in
     let tape = c.run_over.new.tape in
@@ -25,8 +25,8 @@ returns-in-Ok-clause-ends c u at =
     words_done seen _ c.in-Ok.slots c.in_ok-values-in-Ok.values tape log c.in_ok-values-in-Ok.ensures
     (subst (λ vs. EndsWith words seen (whole vs) (Ok c.in-Ok.slots) tape log) c.in_ok-slots.ensures (c.in-Ok.ensures.ends u at))
 
-pub returns-clause-ends : goal.returns-clause-ends
-returns-clause-ends c u at =
+pub returns-in-Err-clause-ends : goal.returns-in-Err-clause-ends
+returns-in-Err-clause-ends c u at =
     let held = c.args.tape.now in
     let whole = λ (vs : List (Slot ℤ)). run_unit words (procedures_of c.args.program.now.program) u vs held.words (Some held.room) c.args.budget in
     let tape = c.run_over.new.tape in
