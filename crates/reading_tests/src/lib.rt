@@ -1,9 +1,11 @@
-//! Tests of what texts read as, and what is printed, by the public calls of `adj_fixed`, `adj_parse`, `adj_print` and `adj_symbols`.
+//! Tests of what texts read as, and what is printed, by the public calls of `adj_fixed`, `adj_parse`, `adj_answer`, `adj_print` and `adj_symbols`.
 //!
 //! `read` and `texts` are what the tests share: the reading of texts by `adj_fixed::statements` and `adj_parse::program`, and the
 //! writing of texts. No code stands on this crate.
 #![tactic(auto)]
 
+#[cfg(test)]
+mod answered;
 #[cfg(test)]
 mod heads;
 #[cfg(test)]

@@ -19,8 +19,8 @@ pub(crate) fn read(alloc: Global, bytes: &[u8], mode: Mode) -> Result<Program, F
     Ok(program)
 }
 
-// The line of a refusal.
-fn refused(alloc: Global, refusal: Refusal) -> Result<Vec<u8>, Memory> {
+/// The line of a refusal.
+pub(crate) fn refused(alloc: Global, refusal: Refusal) -> Result<Vec<u8>, Memory> {
     let Refusal { code, line, number } = refusal;
     let told = if code == 21 {
         format!(in alloc; "REFUSED {code} LINE {line} LIMIT {number}\n")?
