@@ -1,3 +1,4 @@
 pub mod Sized
 pub mod Heads
 mod Endings
+mod Answered

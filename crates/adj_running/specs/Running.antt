@@ -1,5 +1,5 @@
 -- Running: the answer of the command `run` to an input. (docs/COMMANDS.md, "`run`")
-use Rattle.std.specs.Prelude.{ℕ, nat_lt, ℤ, List, [], ◌++◌, length, drop, Option, Some, None, Result, Ok, Err, codes, decimal, if◌then◌else◌}
+use Rattle.std.specs.Prelude.{◌≡◌, ℕ, nat_lt, Bool, true, false, ℤ, List, [], ◌++◌, length, drop, Option, Some, None, Result, Ok, Err, codes, decimal}
 use Rattle.adj_tree.specs.Code.{Procedure}
 use Rattle.adj_tree.specs.declared.fault.Refusal.{Refusal}
 use Rattle.adj_text.specs.Data.{data_of}
@@ -15,7 +15,7 @@ use Rattle.adj_data.specs.Faults.{Fault, data_fault}
 use Rattle.adj_data.specs.Given.{input_given}
 use Rattle.adj_data.specs.Printed.{values_text}
 use Rattle.adj_answer.specs.Answer.{Answer, line_of_one, refused, too_long}
-use Rattle.adj_answer.specs.Programs.{program_of}
+use Rattle.adj_answer.specs.Programs.{TextIs}
 
 -- what is asked for: the unit that is run, the most statements that it may execute, and the most words that its tape may hold
 pub record Asked : Type 0 where
@@ -95,5 +95,11 @@ abbrev pub text_answer : Asked → List ℕ → Result (List Procedure) Refusal 
 text_answer r bytes (Err e) = refused e
 text_answer r bytes (Ok ps) = checked_answer (first_fault run_rules ps) r bytes ps
 
-abbrev pub run_answer : Asked → List ℕ → Answer
-run_answer r bytes = if nat_lt most_bytes (length bytes) then too_long most_bytes else text_answer r bytes (program_of mode.Run bytes)
+-- the answer to an input that is too long, or not
+abbrev pub AnswersSized : Bool → Asked → List ℕ → Answer → Type 0
+AnswersSized true r bytes a = a ≡ too_long most_bytes
+AnswersSized false r bytes a = TextIs mode.Run (λ found. a ≡ text_answer r bytes found) bytes
+
+-- the answer of `run`
+abbrev pub AnswersRun : Asked → List ℕ → Answer → Type 0
+AnswersRun r bytes a = AnswersSized (nat_lt most_bytes (length bytes)) r bytes a

@@ -2,7 +2,7 @@
 //!
 //! `run_answer` reads the text as one that is run, checks it, finds the head, reads its input, runs it by `adj_interp`, and
 //! gives what is written with its status. The crate stands on `adj_answer`, `adj_symbols`, `adj_data`, `adj_tape` and `adj_interp`. The
-//! layer above uses one clause: the answer is `run_answer` of the request and the bytes (docs/COMMANDS.md).
+//! layer above uses one clause: the answer is what `AnswersRun` says of the request and the bytes (docs/COMMANDS.md).
 #![tactic(auto)]
 
 mod ending;

@@ -9,7 +9,7 @@ ghost use Rattle.adj_meaning.specs.Units.{fits};
 ghost use Rattle.adj_meaning.specs.Written.{find_unit};
 ghost use Rattle.adj_data.specs.Given.{slot_seen};
 ghost use Rattle.adj_answer.specs.Views.{answer_of};
-ghost use Rattle.adj_running.specs.Running.{checked_answer, ended, head_answer, most_bytes, run_answer, run_asked, text_answer};
+ghost use Rattle.adj_running.specs.Running.{AnswersRun, checked_answer, ended, head_answer, most_bytes, run_asked, text_answer};
 ghost use Rattle.adj_running.specs.Views.{asked_of};
 
 use crate::ending::{done, no_input, stopped};
@@ -115,7 +115,7 @@ fn answer_program(
 /// The answer of `run` to an input within the limit: a text, and its data behind the line `$DATA`.
 pub fn run_answer(alloc: Global, request: &RunRequest, bytes: &[u8]) -> Result<Answer, Memory>
     requires { length bytes.now ≤ most_bytes }
-    ensures { IfOk result (λ a. answer_of a ≡ run_answer (asked_of request.now) bytes.now) }
+    ensures { IfOk result (λ a. AnswersRun (asked_of request.now) bytes.now (answer_of a)) }
 {
     match read(alloc, bytes, Mode::Run) {
         Ok(program) => answer_program(alloc, request, bytes, program),
