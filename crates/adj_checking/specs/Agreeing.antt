@@ -1,0 +1,87 @@
+-- Agreeing: what holds of the runs of `check`, and where it is done. (docs/THEOREMS.md, "`check`")
+use Rattle.std.specs.Prelude.{◌≡◌, ℕ, ℤ, List, [], ◌++◌, Bool, Option, None, codes, drop, length}
+use Rattle.adj_tree.specs.Code.{Procedure}
+use Rattle.adj_meaning.specs.Numbers.{words}
+use Rattle.adj_text.specs.Data.{data_of}
+use Rattle.adj_meaning.specs.Scene.{Outcome, Done, Trapped, More, Full}
+use Rattle.adj_meaning.specs.Units.{run_unit}
+use Rattle.adj_transpose.specs.MarkedAdjoint.{shadow_flags, joined_by}
+use Rattle.adj_reverse.specs.Marking.{ProgramMarks}
+use Rattle.adj_reverse.specs.Reversals.{ReversedLines}
+use Rattle.adj_accepted.specs.Accepted.{IsAdjointOf}
+use Rattle.adj_data.specs.Fitting.{IsSized}
+use Rattle.adj_data.specs.Marked.{check_fault}
+use Rattle.adj_rooms.specs.Adjoints.{IsTrapped}
+use Rattle.adj_answer.specs.Answer.{Answer, line_of_one}
+use Rattle.adj_running.specs.Running.{Asked, trapped}
+use Rattle.adj_checking.specs.Checking.{Sides, Given, original_run, products_line, check_answer, given_of}
+
+-- the text tells two products, which are equal
+pub record TellsEqual (text : List ℕ) : Type 0 where
+  -- lines of values
+  pub values : List ℕ
+  pub both : ℤ
+  pub advances : ℕ
+  pub is : text ≡ values ++ (products_line both both ++ line_of_one (codes "ADVANCES ") advances)
+
+-- the run of the adjoint on data never traps, with any number of statements and any room of the tape
+abbrev pub NeverTraps : Sides → Given → Type 0
+NeverTraps p d = (room : Option ℕ) (k : ℕ) → IsTrapped (run_unit words p.emitted p.adjoint (joined_by p.shadowed d.inputs d.adjoints) [] room k) → ⊥
+
+-- one side is an adjoint of the other
+pub record IsAdjointSide (p : Sides) : Type 0 where
+  pub lines : ReversedLines
+  pub marks : ProgramMarks
+  pub name : List ℕ
+  pub adjoins : IsAdjointOf lines marks p.source name p.vars p.outvars p.emitted
+  pub is_head : p.head ≡ adjoins.unit
+  pub is_adjoint : p.adjoint ≡ adjoins.adjoint
+  pub shadows : p.shadowed ≡ shadow_flags (marks.shadowed name) p.head.dummies
+
+-- and each extent of the head is a number or a scalar dummy
+pub record AreAdjoint (p : Sides) : Type 0 where
+  pub sized : IsSized p.head
+  pub vars : length p.vars ≡ length p.head.dummies
+  pub outvars : length p.outvars ≡ length p.head.dummies
+  pub side : IsAdjointSide p
+
+-- ---- traps
+
+-- a run is done
+abbrev pub IsDone : {R : Type 0} → Outcome R → Type 0
+IsDone (Done out used) = Unit {0}
+IsDone (Trapped t line w) = ⊥
+IsDone (More w) = ⊥
+IsDone (Full w) = ⊥
+
+-- a run traps, and the answer tells of that trap
+abbrev pub TellsTrap : {R : Type 0} → Outcome R → Answer → Type 0
+TellsTrap (Done out used) a = ⊥
+TellsTrap (Trapped t line w) a = a ≡ trapped t line
+TellsTrap (More w) a = ⊥
+TellsTrap (Full w) a = ⊥
+
+-- the data of a text have no fault
+abbrev pub HasData : Sides → List ℕ → Type 0
+HasData p bytes = check_fault (data_of bytes).1 (drop (data_of bytes).0 bytes) p.head p.vars p.outvars ≡ None
+
+-- Only the original traps: status 4 tells of its trap, and so it is where its run traps on data without a fault. Where that run is done, which
+-- is where the others run, the adjoint's never traps.
+pub record TrapsAlone (r : Asked) (p : Sides) (bytes : List ℕ) : Type 0 where
+  pub told : (check_answer r p bytes).status ≡ 4 → HasData p bytes × TellsTrap (original_run r p (given_of p bytes)) (check_answer r p bytes)
+  pub comes : HasData p bytes → IsTrapped (original_run r p (given_of p bytes)) → (check_answer r p bytes).status ≡ 4
+  pub untrapped : HasData p bytes → IsDone (original_run r p (given_of p bytes)) → NeverTraps p (given_of p bytes)
+
+abbrev pub CheckTraps : Type 0
+CheckTraps = (r : Asked) (p : Sides) → AreAdjoint p → (bytes : List ℕ) → TrapsAlone r p bytes
+
+-- ---- products
+
+-- what the answer says, and what the runs are
+pub record Agrees (p : Sides) (bytes text : List ℕ) : Type 0 where
+  pub equal : TellsEqual text
+  pub untrapped : NeverTraps p (given_of p bytes)
+
+-- so where `check` is done, the products are equal and the adjoint never trapped
+abbrev pub CheckAgrees : Type 0
+CheckAgrees = (r : Asked) (p : Sides) → AreAdjoint p → (bytes : List ℕ) → (check_answer r p bytes).status ≡ 0 → Agrees p bytes (check_answer r p bytes).text
