@@ -1,9 +1,12 @@
 -- What is emitted for a kernel by the marks of its plan.
-use Rattle.std.proofs.Common.{◌≡◌, List, refl, sym, ap, ◌∙◌, subst}
+use Rattle.std.proofs.Common.{◌≡◌, ℕ, Bool, List, Some, refl, sym, ap, ◌∙◌, subst}
+use Rattle.std.specs.List.{slice_get}
 use Rattle.adj_tree.specs.Code.{Procedure}
 use Rattle.adj_tree.specs.declared.marks.Head.{Head}
 use Rattle.adj_tree.specs.declared.marks.Marks as flags
 use Rattle.adj_names.specs.Fault.{Rules}
+use Rattle.adj_transpose.specs.MarkedAdjoint.{shadow_flags}
+use Rattle.adj_reverse.specs.Names.{adjoint_name}
 use Rattle.adj_reverse.specs.Program.{emitted_program}
 use Rattle.adj_checked.specs.Checked.{IsChecked}
 use Rattle.adj_emitted.specs.Shadowed.{AllHaveShadows}
@@ -13,7 +16,7 @@ use Rattle.adj_activity.specs.Asked.{activity_of, liveness_of, saved_of}
 use Rattle.adj_plan.specs.Asked.{IsPlan}
 use Rattle.adj_weave.specs.Marked.{marks_told}
 use Rattle.adj_weave.proofs.Lending.{exact_shadows}
-use Rattle.adj_tool.specs.Planned.{IsEmittedFor}
+use Rattle.adj_tool.specs.Planned.{IsEmittedFor, IsKnownFor}
 
 module _ (us : List Procedure) (f : Flow) (h : Head) (t : flags.Marks) (same : units_of f ≡ us) (x : IsPlan f (problem_of f h) t) where
   -- the shadows that the marks use are there
@@ -32,4 +35,21 @@ module _ (us : List Procedure) (f : Flow) (h : Head) (t : flags.Marks) (same : u
         held = x.held;
         analysed = x.analysed;
         emitted = e ∙ ap (λ vs. emitted_program (marks_told f t) vs h.unit h.vars h.outvars) (sym same);
+      })
+
+  -- with what is known of the adjoint of its head
+  pub known_for_units : (qs : List Procedure) → qs ≡ emitted_program (marks_told f t) us h.unit h.vars h.outvars → (adjoint : List ℕ) (shadowed : List Bool) →
+      ((u : Procedure) → slice_get us h.unit ≡ Some u → adjoint ≡ adjoint_name us u) → ((u : Procedure) → slice_get us h.unit ≡ Some u → shadowed ≡ shadow_flags ((marks_told f t).shadowed u.name) u.dummies) → IsKnownFor us h qs adjoint shadowed
+  known_for_units qs e adjoint shadowed named shadows =
+      subst (λ vs. IsKnownFor vs h qs adjoint shadowed) same (record {
+        emitted = record {
+          activity = activity_of f t.activity;
+          liveness = liveness_of x.needed f t.kept;
+          saved = saved_of f t.saved;
+          held = x.held;
+          analysed = x.analysed;
+          emitted = e ∙ ap (λ vs. emitted_program (marks_told f t) vs h.unit h.vars h.outvars) (sym same);
+        };
+        named = λ u at. named u (ap (λ vs. slice_get vs h.unit) (sym same) ∙ at) ∙ ap (λ vs. adjoint_name vs u) (sym same);
+        shadows = λ u at. shadows u (ap (λ vs. slice_get vs h.unit) (sym same) ∙ at);
       })

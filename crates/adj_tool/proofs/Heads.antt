@@ -45,6 +45,7 @@ use Rattle.adj_tool.specs.declared.task.Wanted.TheVariants as wanted
 use Rattle.adj_weave.specs.Shared.{IsCheckedBySome}
 use Rattle.adj_tool.specs.Words.{Request}
 use Rattle.adj_answer.specs.Answer.{Answer}
+use Rattle.adj_answer.specs.Laws.{ProgramTold}
 use Rattle.adj_answer.specs.Programs.{program_of}
 use Rattle.adj_tool.specs.Fitting.{most_counted, is_counted, kernel_fits}
 use Rattle.adj_tool.specs.Answer.{IsWritten, IsGiven}
@@ -60,7 +61,7 @@ head_there ps name vars outvars h = go (find_unit ps name) refl h
 
 -- ---- a kernel that fits
 
-few_variables : (us : List Procedure) → widest (map variables us) ≤ most_counted → EachUnit (λ v. length (variables v) ≤ most_counted) us
+pub few_variables : (us : List Procedure) → widest (map variables us) ≤ most_counted → EachUnit (λ v. length (variables v) ≤ most_counted) us
 few_variables [] l = tt
 few_variables (u ∷ us) l =
     let first = le-max_left (length (variables u)) (widest (map variables us)) in
@@ -74,7 +75,7 @@ counted_is n h = go (nat_lt most_counted n) refl h
     go true e k = absurd cc
     go false e k = ltb-false most_counted n e
 
-fits_widest : (us : List Procedure) → kernel_fits us ≡ true → widest (map variables us) ≤ most_counted
+pub fits_widest : (us : List Procedure) → kernel_fits us ≡ true → widest (map variables us) ≤ most_counted
 fits_widest us h =
     let units = is_counted (length us) in
     let statements = is_counted (statements_in 0 us) in
@@ -103,8 +104,8 @@ module _ (r : Request) (ps : List Procedure) (h : Head) (sound : first_head_faul
       (other_lines (planned_for ps r.head h.vars h.outvars back.marks) back.reads.0 (sym back.reads.2) (program_of Run (text_of (planned_for ps r.head h.vars h.outvars back.marks))) runs)
 
   -- the program that the text is, which has other lines than the one that was printed, is an adjoint of the text that reads as the program
-  pub head_adjoins : IsAccepted ps → HasNoMarks ps → EmittedIsRunnable → (text : List ℕ) → ReadsWritten ps r.head h text → (bytes : List ℕ) → Reads bytes ps → program_of Source bytes ≡ Ok ps → WritesAdjoint r bytes text
-  head_adjoins accepted none runnable text back bytes reads given =
+  pub head_adjoins : IsAccepted ps → HasNoMarks ps → EmittedIsRunnable → ProgramTold → (text : List ℕ) → ReadsWritten ps r.head h text → (bytes : List ℕ) → Reads bytes ps → program_of Source bytes ≡ Ok ps → WritesAdjoint r bytes text
+  head_adjoins accepted none runnable told text back bytes reads given =
       let x = back.exact in
       let m = marks_by ps x.activity x.liveness x.saved x.held in
       let same : unlined (planned_for ps r.head h.vars h.outvars m) ≡ unlined back.reads.0 = ap (λ n. unlined (planned_for ps r.head h.vars h.outvars n)) (sym x.are) ∙ sym back.reads.2 in
@@ -115,7 +116,7 @@ module _ (r : Request) (ps : List Procedure) (h : Head) (sound : first_head_faul
         is_head = there.found;
         adjoint = back.reads.0;
         reads_back = back.reads.1;
-        runs = head_runs accepted runnable text back bytes given;
+        runs = record { found = program_of Run text; is = told Run text; such = head_runs accepted runnable text back bytes given };
         text = back.is_text ∙ one_text (planned_for ps r.head h.vars h.outvars back.marks) back.reads.0 (sym back.reads.2);
         sound = planned.is_sound ps accepted r.head h.vars h.outvars x.activity x.liveness x.saved x.held x.analysed back.reads.0 same;
         marks = back.marks;

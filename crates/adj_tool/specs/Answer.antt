@@ -9,7 +9,7 @@ use Rattle.adj_names.specs.HeadFaults.{first_head_fault, head_of}
 use Rattle.adj_text.specs.Text.{text_of}
 use Rattle.adj_text.specs.declared.mode.Mode.TheVariants.{Source}
 use Rattle.adj_answer.specs.Answer.{Answer, line_of_one, refused, too_long}
-use Rattle.adj_answer.specs.Programs.{program_of}
+use Rattle.adj_answer.specs.Programs.{TextIs}
 use Rattle.adj_kernel.specs.Stepped.{kernel_of}
 use Rattle.adj_reverse.specs.Marking.{ProgramMarks}
 use Rattle.adj_plan.specs.Lines.{plan_lines, TellsPlan}
@@ -102,7 +102,7 @@ AnswersChecked None w r ps a = AnswersHeaded (first_head_fault ps r.head r.vars 
 abbrev pub AnswersProgram : Wanted → Request → List Procedure → Answer → Type 0
 AnswersProgram w r ps a = AnswersChecked (first_fault source_rules ps) w r ps a
 
--- the answer for a text that reads as a program, or is refused
+-- the answer for a text that is a program, or is refused
 abbrev pub AnswersText : Wanted → Request → Result (List Procedure) Refusal → Answer → Type 0
 AnswersText w r (Err e) a = a ≡ refused e
 AnswersText w r (Ok ps) a = AnswersProgram w r ps a
@@ -110,7 +110,7 @@ AnswersText w r (Ok ps) a = AnswersProgram w r ps a
 -- the answer for an input that is too long, or not
 abbrev pub AnswersSized : Bool → Wanted → Request → List ℕ → Answer → Type 0
 AnswersSized true w r bytes a = a ≡ too_long most_bytes
-AnswersSized false w r bytes a = AnswersText w r (program_of Source bytes) a
+AnswersSized false w r bytes a = TextIs Source (λ found. AnswersText w r found a) bytes
 
 -- the answer of `adjoint`, or of `plan`
 abbrev pub AnswersWanted : Wanted → Request → List ℕ → Answer → Type 0

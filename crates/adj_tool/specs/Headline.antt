@@ -1,5 +1,5 @@
 -- Headline: what the written text is.
-use Rattle.std.specs.Prelude.{◌≡◌, ℕ, List, map, Bool, true, false, Some, None}
+use Rattle.std.specs.Prelude.{◌≡◌, ℕ, List, map, Bool, true, Some, None}
 use Rattle.adj_tree.specs.Code.{Procedure}
 use Rattle.adj_tree.specs.Lines.{unlined}
 use Rattle.adj_text.specs.Reads.{Reads}
@@ -26,7 +26,7 @@ use Rattle.adj_tool.specs.Planned.{AreExact}
 use Rattle.adj_tool.specs.Words.{Request}
 use Rattle.adj_readable.specs.Reading.{OrTooMany}
 use Rattle.adj_answer.specs.Answer.{Answer}
-use Rattle.adj_answer.specs.Programs.{program_of}
+use Rattle.adj_answer.specs.Programs.{TextIs}
 
 -- a unit of the name is there
 pub record IsUnit (ps : List Procedure) (name : List ℕ) : Type 0 where
@@ -49,7 +49,7 @@ pub record WritesAdjoint (r : Request) (bytes written : List ℕ) : Type 0 where
   pub reads_back : Reads written adjoint
   pub text : written ≡ text_of adjoint
   -- as a text that is run they read as it, up to line numbers, unless they have more statements than a run takes
-  pub runs : OrTooMany (λ found. unlined found ≡ unlined adjoint) (program_of Run written)
+  pub runs : TextIs Run (OrTooMany (λ found. unlined found ≡ unlined adjoint)) written
   -- and it has no fault of units, names, calls, chains and writes there
   pub sound : IsSound run_rules adjoint
   -- by the marks that exact analyses of the kernel give

@@ -1,11 +1,13 @@
 -- What `adjoint` and `plan` write by the analyses of a kernel. (docs/ANALYSES.md)
-use Rattle.std.specs.Prelude.{◌≡◌, ℕ, List, Bool}
+use Rattle.std.specs.Prelude.{◌≡◌, ℕ, List, Bool, Some, slice_get}
 use Rattle.adj_tree.specs.Code.{Procedure}
 use Rattle.adj_tree.specs.declared.marks.Head.{Head}
 use Rattle.adj_text.specs.ReadsAs.{ReadsAs}
 use Rattle.adj_text.specs.Text.{text_of}
 use Rattle.adj_text.specs.Written.{IsWritten}
 use Rattle.adj_transpose.specs.Marks.{Vars}
+use Rattle.adj_transpose.specs.MarkedAdjoint.{shadow_flags}
+use Rattle.adj_reverse.specs.Names.{adjoint_name}
 use Rattle.adj_reverse.specs.Marking.{ProgramMarks}
 use Rattle.adj_reverse.specs.Program.{emitted_program}
 use Rattle.adj_facts.specs.Problem.{Problem}
@@ -31,6 +33,12 @@ pub record IsEmittedFor (us : List Procedure) (h : Head) (qs : List Procedure) :
   pub held : ℕ → Vars
   pub analysed : Analysed (problem_for us h) activity liveness saved held
   pub emitted : qs ≡ emitted_program (program_facts us activity liveness saved held).marks us h.unit h.vars h.outvars
+
+-- the same, with the name of the adjoint of the head and the flags of its dummies that have a shadow
+pub record IsKnownFor (us : List Procedure) (h : Head) (qs : List Procedure) (adjoint : List ℕ) (shadowed : List Bool) : Type 0 where
+  pub emitted : IsEmittedFor us h qs
+  pub named : (u : Procedure) → slice_get us h.unit ≡ Some u → adjoint ≡ adjoint_name us u
+  pub shadows : (u : Procedure) → slice_get us h.unit ≡ Some u → shadowed ≡ shadow_flags ((program_facts us emitted.activity emitted.liveness emitted.saved emitted.held).marks.shadowed u.name) u.dummies
 
 -- these are the marks that exact analyses of a program's kernel give, for the unit of a name as its head
 pub record AreExact (ps : List Procedure) (name : List ℕ) (h : Head) (m : ProgramMarks) : Type 0 where

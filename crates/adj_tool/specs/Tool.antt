@@ -3,9 +3,10 @@ use Rattle.std.specs.Prelude.{◌≡◌, ◌⊎◌, ◌+◌, ◌<◌, ℕ, List,
 use Rattle.adj_io.specs.Bytes.{IsAtEnd, extended_by, followed_by}
 use Rattle.adj_answer.specs.Answer.{Answer, usage}
 use Rattle.adj_running.specs.Running as running
-use Rattle.adj_running.specs.Running.{Asked}
-use Rattle.adj_tool.specs.Words.{Command, Request, Adjoint, Plan, Run, Schedule}
+use Rattle.adj_running.specs.Running.{Asked, AnswersRun}
+use Rattle.adj_tool.specs.Words.{Command, Request, Adjoint, Plan, Run, Check, Schedule}
 use Rattle.adj_tool.specs.Headline.{WritesAdjoint}
+use Rattle.adj_tool.specs.Check.{AnswersCheck, ChecksAdjoint}
 use Rattle.adj_tool.specs.Answer.{schedule_answer, AnswersWanted, most_bytes}
 use Rattle.adj_tool.specs.declared.task.Wanted.TheVariants as wanted
 
@@ -16,10 +17,6 @@ pub record AnswersInput (most : ℕ) (Answers : List ℕ → Answer → Type 0) 
   pub enough : IsAtEnd after ⊎ (length bytes ≡ most + 1)
   pub answers : Answers bytes a
 
--- the answer of `run`
-abbrev pub AnswersRun : Asked → List ℕ → Answer → Type 0
-AnswersRun r bytes a = a ≡ running.run_answer r bytes
-
 -- the answer to what the words ask for, where `before` and `after` are the bytes that the source had left before the call and has left after it
 abbrev pub IsAnswer : Option Command → Option (List ℕ) → Option (List ℕ) → Answer → Type 0
 IsAnswer None before after a = (a ≡ usage) × (after ≡ before)
@@ -27,12 +24,14 @@ IsAnswer (Some (Schedule l s)) before after a = (a ≡ schedule_answer l s) × (
 IsAnswer (Some (Adjoint r)) before after a = AnswersInput most_bytes (AnswersWanted wanted.Adjoint r) before after a
 IsAnswer (Some (Plan r)) before after a = AnswersInput most_bytes (AnswersWanted wanted.Plan r) before after a
 IsAnswer (Some (Run r)) before after a = AnswersInput running.most_bytes (AnswersRun r) before after a
+IsAnswer (Some (Check r vars outvars)) before after a = AnswersInput most_bytes (AnswersCheck r vars outvars) before after a
 
 -- the words ask for a command that reads
 abbrev pub ReadsInput : Option Command → Type 0
 ReadsInput (Some (Adjoint r)) = Unit {0}
 ReadsInput (Some (Plan r)) = Unit {0}
 ReadsInput (Some (Run r)) = Unit {0}
+ReadsInput (Some (Check r vars outvars)) = Unit {0}
 ReadsInput (Some (Schedule l s)) = ⊥
 ReadsInput None = ⊥
 
@@ -76,3 +75,29 @@ IsAdjoinedTo _ before after text = Unit {0}
 abbrev pub IsHeadline : Option Command → Option (List ℕ) → Option (List ℕ) → Option (List ℕ) → Option (List ℕ) → Type 0
 IsHeadline (Some (Adjoint r)) before after written_before written_after = Adjoins r before after written_before written_after
 IsHeadline _ before after written_before written_after = Unit {0}
+
+-- the bytes that were read, a program with its data, and those that were written, which tell equal products of its dual run and of its adjoint
+pub record Compares (r : Asked) (vars outvars : List (List ℕ)) (before after written_before written_after : Option (List ℕ)) : Type 0 where
+  pub bytes : List ℕ
+  pub were_left : before ≡ followed_by bytes after
+  pub to_end : IsAtEnd after
+  pub text : List ℕ
+  pub whole : written_after ≡ extended_by written_before text
+  pub checks : ChecksAdjoint r vars outvars bytes text
+
+-- the bytes that were read, all that were left, of which the text tells this
+pub record ComparesInput (r : Asked) (vars outvars : List (List ℕ)) (before after : Option (List ℕ)) (text : List ℕ) : Type 0 where
+  pub bytes : List ℕ
+  pub were_left : before ≡ followed_by bytes after
+  pub to_end : IsAtEnd after
+  pub checks : ChecksAdjoint r vars outvars bytes text
+
+-- the answer's text tells equal products, where they were asked for
+abbrev pub IsComparedTo : Option Command → Option (List ℕ) → Option (List ℕ) → List ℕ → Type 0
+IsComparedTo (Some (Check r vars outvars)) before after text = ComparesInput r vars outvars before after text
+IsComparedTo _ before after text = Unit {0}
+
+-- the theorem of `check`
+abbrev pub IsComparison : Option Command → Option (List ℕ) → Option (List ℕ) → Option (List ℕ) → Option (List ℕ) → Type 0
+IsComparison (Some (Check r vars outvars)) before after written_before written_after = Compares r vars outvars before after written_before written_after
+IsComparison _ before after written_before written_after = Unit {0}

@@ -17,4 +17,5 @@ abbrev pub command_of : Task → words.Command
 command_of (task.Adjoint r) = words.Adjoint (request_of r)
 command_of (task.Plan r) = words.Plan (request_of r)
 command_of (task.Run r) = words.Run (asked_of r)
+command_of (task.Check r) = words.Check (asked_of r.run) r.vars r.outvars
 command_of (task.Schedule r) = words.Schedule r.steps r.snapshots

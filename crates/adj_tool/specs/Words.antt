@@ -99,6 +99,8 @@ pub data Command : Type 0 where
   Adjoint : Request → Command
   Plan : Request → Command
   Run : Asked → Command
+  -- a run, and the independents and the dependents of its head
+  Check : Asked → List (List ℕ) → List (List ℕ) → Command
   -- steps and snapshots
   Schedule : ℕ → ℕ → Command
 
@@ -130,15 +132,27 @@ abbrev pub number_or : ℕ → ℕ → ℕ → Option Text → Option ℕ
 number_or other least most None = Some other
 number_or other least most (Some w) = number_in least most w
 
-abbrev pub with_limits : Option Text → Option ℕ → Option ℕ → Option Command
-with_limits (Some head) (Some budget) (Some room) = Some (Run (record { head = head; budget = budget; room = room }))
+abbrev pub with_limits : Option Text → Option ℕ → Option ℕ → Option Asked
+with_limits (Some head) (Some budget) (Some room) = Some (record { head = head; budget = budget; room = room })
 with_limits _ _ _ = None
 
--- run --head NAME, with at most 100000000 statements or --budget N, and a tape for 16777216 words or --tape N
+-- --head NAME, with at most 100000000 statements or --budget N, and a tape for 16777216 words or --tape N
+abbrev pub limits_asked : List Row → Option Asked
+limits_asked rows = with_limits (option_and_then name_of (first_of (codes "head") rows)) (number_or 100000000 1 9223372036854775807 (first_of (codes "budget") rows)) (number_or 16777216 0 134217728 (first_of (codes "tape") rows))
+
+-- run with these
 abbrev pub run_asked : List Row → Option Command
-run_asked rows =
-    if lacks (codes "numbers" ∷ codes "vars" ∷ codes "outvars" ∷ []) rows
-    then with_limits (option_and_then name_of (first_of (codes "head") rows)) (number_or 100000000 1 9223372036854775807 (first_of (codes "budget") rows)) (number_or 16777216 0 134217728 (first_of (codes "tape") rows))
+run_asked rows = if lacks (codes "numbers" ∷ codes "vars" ∷ codes "outvars" ∷ []) rows then option_map Run (limits_asked rows) else None
+
+abbrev pub with_lists : Option Asked → Option (List Text) → Option (List Text) → Option Command
+with_lists (Some r) (Some vars) (Some outvars) = Some (Check r vars outvars)
+with_lists _ _ _ = None
+
+-- check with these, --vars LIST and --outvars LIST
+abbrev pub check_asked : List Row → Option Command
+check_asked rows =
+    if lacks (codes "numbers" ∷ []) rows
+    then with_lists (limits_asked rows) (option_and_then names_of (first_of (codes "vars") rows)) (option_and_then names_of (first_of (codes "outvars") rows))
     else None
 
 -- steps and snapshots
@@ -163,8 +177,9 @@ command_asked name rows =
     if bytes_eq name (codes "adjoint") then adjoint_asked rows
     else (if bytes_eq name (codes "plan") then plan_asked rows
     else (if bytes_eq name (codes "run") then run_asked rows
+    else (if bytes_eq name (codes "check") then check_asked rows
     else (if bytes_eq name (codes "schedule") then schedule_asked rows
-    else None)))
+    else None))))
 
 abbrev pub asked : List Row → Option Command
 asked rows = option_and_then (λ name. command_asked name rows) (first_of (codes "command") rows)

@@ -21,7 +21,7 @@ ghost use Rattle.adj_tool.specs.Views.{request_of};
 use crate::planned::text_wanted;
 use crate::task::{Request, Wanted};
 use crate::untreated::first_untreated;
-use adj_answer::{Answer, Status, read, refused};
+use adj_answer::{Answer, Status, read, reading_law, refused};
 use adj_fixed::Mode;
 use adj_kernels::checked_kernel;
 use adj_limits::emitted_law;
@@ -29,22 +29,22 @@ use adj_symbols::{Checked, check, head};
 use adj_tree::{Fault, Head, Memory, Name, Program, Refusal};
 use std::alloc::Global;
 
-// The refusal of what isn't treated yet.
-fn untreated(alloc: Global, line: u32) -> Result<Answer, Memory>
+/// The refusal of what isn't treated yet.
+pub(crate) fn untreated(alloc: Global, line: u32) -> Result<Answer, Memory>
     ensures { IfOk result (λ a. answer_of a ≡ untreated line) }
 {
     refused(alloc, Refusal::new(3, line))
 }
 
-// The refusal of a kernel that is too large.
-fn too_large(alloc: Global) -> Result<Answer, Memory>
+/// The refusal of a kernel that is too large.
+pub(crate) fn too_large(alloc: Global) -> Result<Answer, Memory>
     ensures { IfOk result (λ a. answer_of a ≡ too_large) }
 {
     refused(alloc, Refusal::passed(1_073_741_823, 0))
 }
 
-// The number of the unit of a name.
-fn unit_number(program: &Program, name: &Name) -> usize
+/// The number of the unit of a name.
+pub(crate) fn unit_number(program: &Program, name: &Name) -> usize
     ensures { result ≡ unit_number (procedures_of program.now) name.now }
 {
     let units = program.units.as_slice();
@@ -103,6 +103,7 @@ fn answer_adjoint(
     ensures adjoint { IfOk result (λ a. (bytes : List ℕ) → Reads bytes (procedures_of program.now) → program_of Source bytes ≡ Ok (procedures_of program.now) → IsAdjoined (request_of request.now) bytes (answer_of a)) }
 {
     emitted_law();
+    reading_law();
     if let Some(line) = first_untreated(program) {
         return untreated(alloc, line);
     }

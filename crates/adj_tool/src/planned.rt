@@ -6,9 +6,11 @@ ghost use Rattle.adj_symbols.specs.Numbers.{Fits};
 ghost use Rattle.adj_flow.specs.Asked.{IsFlow, problem_of, units_of};
 ghost use Rattle.adj_plan.specs.Asked.{IsPlan};
 ghost use Rattle.adj_weave.specs.Shared.{IsCheckedBySome};
-ghost use Rattle.adj_tool.specs.Planned.{IsAdjointText, IsEmittedFor, IsPlanText, IsTextFor};
+ghost use Rattle.adj_tool.specs.Planned.{IsAdjointText, IsEmittedFor, IsKnownFor, IsPlanText, IsTextFor};
 
 use crate::task::Wanted;
+use adj_checking::Emitted;
+use adj_headed::head_adjoint;
 use adj_plan::{Planned, plan, plan_text};
 use adj_print::text;
 use adj_symbols::Checked;
@@ -35,6 +37,42 @@ fn emitted(
         flow: &found.flow,
     });
     emit(alloc, kernel.program(), head, marked)
+}
+
+// What is emitted for a kernel by the marks of its plan, with what is to be known of the adjoint of its head.
+fn known_by(
+    alloc: Global,
+    kernel: &Checked,
+    head: &Head,
+    found: &Planned<'_>,
+) -> Result<Emitted, Memory>
+    requires head { head.now.unit < length kernel.now.program.units }
+    requires checked { IsCheckedBySome (procedures_of kernel.now.program) }
+    requires units { units_of found.now.flow ≡ procedures_of kernel.now.program }
+    requires flow { IsFlow found.now.flow head.now.unit }
+    requires plan { IsPlan found.now.flow (problem_of found.now.flow head.now) found.now.marks }
+    ensures known { IfOk result (λ e. IsKnownFor (procedures_of kernel.now.program) head.now (procedures_of e.program) e.adjoint e.shadowed) }
+{
+    let (marks, flow) = (&found.marks, &found.flow);
+    let by = Marked::Found(FoundMarks { marks, flow });
+    let program = emit(alloc, kernel.program(), head, by)?;
+    let adjoint = head_adjoint(alloc, kernel.program(), head, by)?;
+    Ok(Emitted {
+        program,
+        adjoint: adjoint.name,
+        shadowed: adjoint.shadowed,
+    })
+}
+
+/// What is emitted for a kernel by the marks that its analyses find, with what is to be known of the adjoint of its head.
+pub(crate) fn known(alloc: Global, kernel: &Checked, head: &Head) -> Result<Emitted, Memory>
+    requires fits { Fits kernel.now }
+    requires head { head.now.unit < length kernel.now.program.units }
+    requires checked { IsCheckedBySome (procedures_of kernel.now.program) }
+    ensures known { IfOk result (λ e. IsKnownFor (procedures_of kernel.now.program) head.now (procedures_of e.program) e.adjoint e.shadowed) }
+{
+    let found = plan(alloc, kernel, head)?;
+    known_by(alloc, kernel, head, &found)
 }
 
 // The text of what is emitted by the marks of a plan.

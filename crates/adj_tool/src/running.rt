@@ -3,9 +3,9 @@
 ghost use Rattle.std.specs.Prelude.{◌≡◌, IfOk, IsErrOf};
 ghost use Rattle.adj_io.specs.Faults.{Rose};
 ghost use Rattle.adj_answer.specs.Views.{answer_of};
-ghost use Rattle.adj_running.specs.Running.{most_bytes, run_answer};
+ghost use Rattle.adj_running.specs.Running.{AnswersRun, most_bytes};
 ghost use Rattle.adj_running.specs.Views.{asked_of};
-ghost use Rattle.adj_tool.specs.Tool.{AnswersInput, AnswersRun};
+ghost use Rattle.adj_tool.specs.Tool.{AnswersInput};
 
 use crate::stop::Stop;
 use adj_answer::{Answer, refused};

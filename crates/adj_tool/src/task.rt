@@ -13,6 +13,14 @@ pub struct Request {
     pub outvars: NameList,
 }
 
+/// A run of a head, with its independents and its dependents.
+#[derive(Drop)]
+pub struct CheckRequest {
+    pub run: RunRequest,
+    pub vars: NameList,
+    pub outvars: NameList,
+}
+
 /// What is wanted of a head: its adjoint, or the marks by which that is written.
 #[derive(Clone, Copy, Debug)]
 pub enum Wanted {
@@ -39,6 +47,8 @@ pub enum Task {
     Plan(Request),
     /// Run a unit on data.
     Run(RunRequest),
+    /// Run a unit, its dual run and its adjoint on data, and compare.
+    Check(CheckRequest),
     /// Write the schedule of a reversal.
     Schedule(Reversal),
 }

@@ -6,9 +6,10 @@ ghost use Rattle.adj_tool.specs.Words.{taken};
 ghost use Rattle.adj_answer.specs.Views.{answer_of};
 ghost use Rattle.adj_tool.specs.Answer.{AnswersWanted, most_bytes};
 ghost use Rattle.adj_tool.specs.Views.{request_of};
-ghost use Rattle.adj_tool.specs.Tool.{AdjoinsInput, AnswersInput, IsAdjoinedTo, IsAnswer, IsHeadline, ReadsInput, WritesAll, WritesFront};
+ghost use Rattle.adj_tool.specs.Tool.{AdjoinsInput, AnswersInput, IsAdjoinedTo, IsAnswer, IsComparedTo, IsComparison, IsHeadline, ReadsInput, WritesAll, WritesFront};
 
 use crate::answering::answer_wanted;
+use crate::checking::check_input;
 use crate::running::run_input;
 use crate::schedule::schedule;
 use crate::stop::Stop;
@@ -52,6 +53,7 @@ fn answer_input<S: Source>(
 fn answer_words<S: Source>(alloc: Global, words: &[Text], input: &mut S) -> Result<Answer, Stop>
     ensures answer { IfOk result (λ a. IsAnswer (taken words.now) (S.left input.old) (S.left input.new) (answer_of a)) }
     ensures adjoint { IfOk result (λ a. (answer_of a).status ≡ 0 → IsAdjoinedTo (taken words.now) (S.left input.old) (S.left input.new) a.text.items) }
+    ensures compared { IfOk result (λ a. (answer_of a).status ≡ 0 → IsComparedTo (taken words.now) (S.left input.old) (S.left input.new) a.text.items) }
     ensures fault { IsErrOf result Stop.ReadFault → Rose (S.faults input.old) (S.faults input.new) }
     ensures reads { IsErrOf result Stop.ReadFault → ReadsInput (taken words.now) }
     ensures unread { (ReadsInput (taken words.now) → ⊥) → S.left input.new ≡ S.left input.old }
@@ -71,6 +73,10 @@ fn answer_words<S: Source>(alloc: Global, words: &[Text], input: &mut S) -> Resu
         }
         Task::Run(request) => {
             let answer = run_input(alloc, &request, input)?;
+            Ok(answer)
+        }
+        Task::Check(request) => {
+            let answer = check_input(alloc, &request, input)?;
             Ok(answer)
         }
         Task::Schedule(reversal) => {
@@ -95,6 +101,8 @@ pub fn tool<S: Source, K: Sink>(alloc: Global, words: &[Text], input: &mut S, ou
     ensures unwritten { (result ≡ 7) ⊎ (result ≡ 9) → K.taken output.new ≡ K.taken output.old }
     // Where `adjoint` is done, what was written is an adjoint of what was read.
     ensures headline { result ≡ 0 → IsHeadline (taken words.now) (S.left input.old) (S.left input.new) (K.taken output.old) (K.taken output.new) }
+    // Where `check` is done, the two products that were written are equal, and the adjoint never trapped.
+    ensures compared { result ≡ 0 → IsComparison (taken words.now) (S.left input.old) (S.left input.new) (K.taken output.old) (K.taken output.new) }
     ensures status { result < 10 }
 {
     match answer_words(alloc, words, input) {

@@ -1,13 +1,14 @@
 //! The words of a command, as `clap` reads them.
 
 ghost use Rattle.std.specs.Prelude.{◌≡◌, ◌≤◌, false, not, is_some, ℕ, List, ◌∷◌, IfOk, IfSome, Option, option_map, option_and_then, map, codes};
-ghost use Rattle.adj_tool.specs.Words.{bare_program, program, command_rule, numbers_rule, option_rule, lacks, name_of, names_of, request_asked, adjoint_asked, plan_asked, number_or, run_asked, schedule_asked, numbers_asked, command_asked, asked, taken};
+ghost use Rattle.adj_tool.specs.Words.{bare_program, program, command_rule, numbers_rule, option_rule, lacks, name_of, names_of, request_asked, adjoint_asked, plan_asked, number_or, limits_asked, run_asked, check_asked, schedule_asked, numbers_asked, command_asked, asked, taken};
+ghost use Rattle.adj_running.specs.Views.{asked_of};
 ghost use Rattle.adj_tool.specs.Views.{command_of, some_request};
 ghost use Rattle.clap.specs.Simple.{app_of, with_rule};
 ghost use Rattle.clap.specs.Matches.{found_of};
 ghost use Rattle.clap.specs.Walk.{rows_of, rule_of, first_of, all_of};
 
-use crate::task::{Request, Reversal, Task};
+use crate::task::{CheckRequest, Request, Reversal, Task};
 use crate::text::Text;
 use crate::values::{name_of, names_of, number_in};
 use adj_running::RunRequest;
@@ -174,7 +175,20 @@ fn number_option(
     }
 }
 
-// run --head NAME, with --budget N and --tape N or neither
+// --head NAME, with --budget N and --tape N or neither
+fn limits_asked(alloc: Global, matches: &ArgMatches<'_>) -> Result<Option<RunRequest>, Memory>
+    ensures { IfOk result (λ r. option_map asked_of r ≡ limits_asked (rows_of (found_of matches.now))) }
+{
+    let head = name_option(alloc, matches, "head")?;
+    let budget = number_option(matches, "budget", 100_000_000, 1, 9_223_372_036_854_775_807);
+    let room = number_option(matches, "tape", 16_777_216, 0, 134_217_728);
+    match (head, budget, room) {
+        (Some(head), Some(budget), Some(room)) => Ok(Some(RunRequest { head, budget, room })),
+        _ => Ok(None),
+    }
+}
+
+// run with these
 fn run_task(alloc: Global, matches: &ArgMatches<'_>) -> Result<Option<Task>, Memory>
     ensures { IfOk result (λ r. option_map command_of r ≡ run_asked (rows_of (found_of matches.now))) }
 {
@@ -184,13 +198,28 @@ fn run_task(alloc: Global, matches: &ArgMatches<'_>) -> Result<Option<Task>, Mem
     if !lacks {
         return Ok(None);
     }
-    let head = name_option(alloc, matches, "head")?;
-    let budget = number_option(matches, "budget", 100_000_000, 1, 9_223_372_036_854_775_807);
-    let room = number_option(matches, "tape", 16_777_216, 0, 134_217_728);
-    match (head, budget, room) {
-        (Some(head), Some(budget), Some(room)) => {
-            Ok(Some(Task::Run(RunRequest { head, budget, room })))
-        }
+    match limits_asked(alloc, matches)? {
+        Some(request) => Ok(Some(Task::Run(request))),
+        None => Ok(None),
+    }
+}
+
+// check with these, --vars LIST and --outvars LIST
+fn check_task(alloc: Global, matches: &ArgMatches<'_>) -> Result<Option<Task>, Memory>
+    ensures { IfOk result (λ r. option_map command_of r ≡ check_asked (rows_of (found_of matches.now))) }
+{
+    if !is_absent(matches, "numbers") {
+        return Ok(None);
+    }
+    let run = limits_asked(alloc, matches)?;
+    let vars = list_option(alloc, matches, "vars")?;
+    let outvars = list_option(alloc, matches, "outvars")?;
+    match (run, vars, outvars) {
+        (Some(run), Some(vars), Some(outvars)) => Ok(Some(Task::Check(CheckRequest {
+            run,
+            vars,
+            outvars,
+        }))),
         _ => Ok(None),
     }
 }
@@ -244,6 +273,10 @@ fn task_asked(alloc: Global, matches: &ArgMatches<'_>) -> Result<Option<Task>, M
     }
     if name == "run" {
         let task = run_task(alloc, matches)?;
+        return Ok(task);
+    }
+    if name == "check" {
+        let task = check_task(alloc, matches)?;
         return Ok(task);
     }
     if name == "schedule" {

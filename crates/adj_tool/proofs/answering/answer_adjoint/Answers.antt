@@ -17,5 +17,5 @@ returns-clause-adjoint c =
     let ps = procedures_of c.args.program.now in
     let accepted : IsAccepted ps = record { written = c.requires.written; sound = c.requires.sound } in
     λ bytes reads given done.
-    head_adjoins (request_of c.args.request.now) ps c.args.head c.requires.sound_head c.requires.head accepted (none_marked ps (sym c.first_untreated.ensures ∙ c.in_default.is)) c.emitted_law.ensures.runnable c.in_ok-answer.answer.text.items
+    head_adjoins (request_of c.args.request.now) ps c.args.head c.requires.sound_head c.requires.head accepted (none_marked ps (sym c.first_untreated.ensures ∙ c.in_default.is)) c.emitted_law.ensures.runnable c.reading_law.ensures.program c.in_ok-answer.answer.text.items
     (c.in_ok-answer.ensures.reads_back refl done) bytes reads given

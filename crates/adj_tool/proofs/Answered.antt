@@ -1,0 +1,25 @@
+-- Answered: the answer to what a text is, is the answer to the text.
+use Rattle.std.proofs.Common.{◌≤◌, ℕ, List, length, Result, Ok, Err, sym, subst}
+use Rattle.std.proofs.lemmas.Bool.{le-ltb}
+use Rattle.std.specs.Prelude.{IfOk}
+use Rattle.adj_tree.specs.Code.{Procedure}
+use Rattle.adj_tree.specs.declared.fault.Refusal.{Refusal}
+use Rattle.adj_text.specs.declared.mode.Mode.TheVariants.{Source}
+use Rattle.adj_answer.specs.Programs.{IsProgram}
+use Rattle.adj_answer.specs.Views.{answer_of}
+use Rattle.adj_answer.specs.declared.answer.Answer.{Answer}
+use Rattle.adj_tool.specs.Answer.{most_bytes, AnswersText, AnswersSized, AnswersWanted}
+use Rattle.adj_running.specs.Running.{Asked}
+use Rattle.adj_tool.specs.Check.{AnswersTextCheck, AnswersSizedCheck, AnswersCheck}
+use Rattle.adj_tool.specs.Words.{Request}
+use Rattle.adj_tool.specs.declared.task.Wanted.{Wanted}
+
+pub answered : {E : Type 0} (w : Wanted) (r : Request) (bytes : List ℕ) → length bytes ≤ most_bytes → (found : Result (List Procedure) Refusal) → IsProgram Source bytes found → (result : Result Answer E) → IfOk result (λ a. AnswersText w r found (answer_of a)) → IfOk result (λ a. AnswersWanted w r bytes (answer_of a))
+answered w r bytes l found is (Ok a) h = subst (λ b. AnswersSized b w r bytes (answer_of a)) (sym (le-ltb most_bytes (length bytes) l)) (record { found = found; is = is; such = h })
+answered w r bytes l found is (Err e) h = tt
+
+-- the same of `check`
+pub checked : {E : Type 0} (r : Asked) (vars outvars : List (List ℕ)) (bytes : List ℕ) → length bytes ≤ most_bytes → (found : Result (List Procedure) Refusal) → IsProgram Source bytes found → (result : Result Answer E) →
+    IfOk result (λ a. AnswersTextCheck r vars outvars bytes found (answer_of a)) → IfOk result (λ a. AnswersCheck r vars outvars bytes (answer_of a))
+checked r vars outvars bytes l found is (Ok a) h = subst (λ b. AnswersSizedCheck b r vars outvars bytes (answer_of a)) (sym (le-ltb most_bytes (length bytes) l)) (record { found = found; is = is; such = h })
+checked r vars outvars bytes l found is (Err e) h = tt

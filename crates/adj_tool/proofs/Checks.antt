@@ -1,0 +1,236 @@
+-- What `check` runs as the emitted program of a head, and what holds of it.
+use Rattle.std.proofs.Common.{◌≡◌, ℕ, ◌≤◌, Bool, true, false, List, [], ◌∷◌, map, length, Some, None, refl, sym, ap, ◌∙◌, subst}
+use Rattle.std.specs.Prelude.{Ok}
+use Rattle.std.specs.List.{slice_get}
+use Rattle.std.proofs.lemmas.List.{length-map}
+use Rattle.adj_tree.specs.Code.{Procedure}
+use Rattle.adj_tree.specs.Lines.{unlined}
+use Rattle.adj_tree.specs.declared.marks.Head.{Head}
+use Rattle.adj_text.specs.Reads.{Reads}
+use Rattle.adj_text.specs.Text.{text_of}
+use Rattle.adj_text.specs.Written.{IsWritten}
+use Rattle.adj_text.specs.declared.mode.Mode.TheVariants.{Source, Run}
+use Rattle.adj_meaning.specs.Written.{find_unit}
+use Rattle.adj_names.specs.Fresh.{has_name}
+use Rattle.adj_names.specs.Check.{IsSound}
+use Rattle.adj_names.specs.Fault.{run_rules}
+use Rattle.adj_names.specs.HeadFaults.{first_head_fault, flags_found, unit_number, head_of}
+use Rattle.adj_names.specs.Variables.{variables}
+use Rattle.adj_transpose.specs.MarkedAdjoint.{shadow_flags}
+use Rattle.adj_reverse.specs.Marking.{ProgramMarks}
+use Rattle.adj_reverse.specs.Names.{adjoint_name}
+use Rattle.adj_emitted.specs.Shadowed.{AllHaveShadows}
+use Rattle.adj_kernel.specs.Kernel.{EachUnit}
+use Rattle.adj_kernel.specs.Stepped.{kernel_of}
+use Rattle.adj_kernel.specs.Sound.{IsAccepted}
+use Rattle.adj_accepted.specs.Accepted.{IsAdjointOf}
+use Rattle.adj_accepted.proofs.Kernels.{kernel_checked, found_name, becomes}
+use Rattle.adj_shape.proofs.Accepted.{accepted_has_shape}
+use Rattle.adj_weave.proofs.Lending.{exact_shadows}
+use Rattle.adj_readable.specs.Reading.{OrTooMany}
+use Rattle.adj_limits.specs.Limits.{EmittedIsRunnable}
+use Rattle.adj_planned.specs.Planned.{HasNoMarks, kernel_problem, planned_for, marks_by}
+use Rattle.adj_planned.proofs.Planned as planned
+use Rattle.adj_planned.proofs.Unmarked.{kernel_unmarked}
+use Rattle.adj_answer.specs.Answer.{Answer}
+use Rattle.adj_answer.specs.Programs.{program_of}
+use Rattle.adj_data.specs.Fitting.{IsSized}
+use Rattle.adj_running.specs.Running.{Asked}
+use Rattle.adj_running.proofs.Heads.{numbered}
+use Rattle.adj_running.proofs.Sized.{sized}
+use Rattle.adj_checking.specs.Checking.{Sides, check_answer}
+use Rattle.adj_checking.specs.Emitted as checking
+use Rattle.adj_checking.specs.Emitted.{IsRunnable, read_back}
+use Rattle.adj_checking.specs.Agreeing.{AreAdjoint, Agrees, TrapsAlone}
+use Rattle.adj_checking.proofs.Readings.{alike_read}
+use Rattle.adj_checking.proofs.Agreeing.{check_agrees, check_traps}
+use Rattle.adj_tool.specs.Check.{AreSides, RunsAdjoint, IsChecked, IsCompared}
+use Rattle.adj_tool.specs.Fitting.{most_counted, kernel_fits}
+use Rattle.adj_tool.specs.Headline.{IsUnit, flags_of}
+use Rattle.adj_tool.specs.Planned.{IsKnownFor, AreExact}
+use Rattle.adj_tool.proofs.Heads.{head_there, few_variables, fits_widest}
+
+module _ (ps : List Procedure) (name : List ℕ) (h : Head) (accepted : IsAccepted ps) (qs : List Procedure) (adjoint : List ℕ) (shadowed : List Bool)
+    (known : IsKnownFor (kernel_of ps) (record { unit = unit_number (kernel_of ps) name; vars = h.vars; outvars = h.outvars }) qs adjoint shadowed) where
+  abbrev m : ProgramMarks
+  m = marks_by ps known.emitted.activity known.emitted.liveness known.emitted.saved known.emitted.held
+
+  -- it is what exact analyses have emitted
+  pub exact : AreExact ps name h m
+  exact = record { activity = known.emitted.activity; liveness = known.emitted.liveness; saved = known.emitted.saved; held = known.emitted.held; analysed = known.emitted.analysed; are = refl }
+
+  -- its text reads as it, or has too many statements
+  reads_as : EmittedIsRunnable → kernel_fits (kernel_of ps) ≡ true → (bytes : List ℕ) → program_of Source bytes ≡ Ok ps → OrTooMany (λ found. unlined found ≡ unlined qs) (program_of Run (text_of qs))
+  reads_as runnable fits bytes given =
+      let x = known.emitted in
+      let few : EachUnit (λ v. length (variables v) ≤ most_counted) (kernel_of ps) = few_variables (kernel_of ps) (fits_widest (kernel_of ps) fits) in
+      let shadows : AllHaveShadows m (kernel_of ps) (kernel_of ps) = exact_shadows run_rules (kernel_problem ps name h.vars h.outvars) (kernel_checked ps accepted) x.activity x.analysed.active m refl (λ n. refl) in
+      subst (λ z. OrTooMany (λ found. unlined found ≡ unlined z) (program_of Run (text_of z))) (sym x.emitted) (runnable bytes ps given accepted few m shadows (unit_number (kernel_of ps) name) h.vars h.outvars)
+
+  module _ (none : HasNoMarks ps) (u : Procedure) (found : find_unit ps name ≡ Some u) where
+    pub adjoins : (others : List Procedure) → unlined qs ≡ unlined others → IsAdjointOf (λ line. None) m ps name h.vars h.outvars others
+    adjoins others same =
+        let x = known.emitted in
+        planned.is_adjoint ps accepted none name u found h.vars h.outvars x.activity x.liveness x.saved x.held x.analysed others (ap unlined (sym x.emitted) ∙ same)
+
+    -- and so are its looks and what its run takes
+    pub runs_for : (others : List Procedure) → unlined qs ≡ unlined others → RunsAdjoint m ps name h.vars h.outvars others
+    runs_for others same =
+        let x = known.emitted in
+        let like = ap unlined (sym x.emitted) ∙ same in
+        record {
+          adjoins = adjoins others same;
+          shape = accepted_has_shape ps accepted (kernel_unmarked ps none) name u found h.vars h.outvars x.activity x.liveness x.saved x.held x.analysed others like;
+          spends = λ weight calls weighs few. planned.spends ps accepted none weight weighs name u found calls few h.vars h.outvars x.activity x.liveness x.saved x.held x.analysed others like;
+        }
+
+    -- the shadows of the head are those of what it becomes
+    pub shadows_are : (v : Procedure) → find_unit ps name ≡ Some v → shadowed ≡ shadow_flags (m.shadowed name) v.dummies
+    shadows_are v there =
+        let a = adjoins qs refl in
+        let like = becomes ps name v a.kernel there a.becomes in
+        known.shadows a.kernel (numbered (kernel_of ps) name a.kernel a.becomes)
+        ∙ (λ i. shadow_flags (m.shadowed (found_name (kernel_of ps) name a.kernel a.becomes i)) (like.same_dummies i))
+
+    pub emitted_for : EmittedIsRunnable → kernel_fits (kernel_of ps) ≡ true → (bytes : List ℕ) → program_of Source bytes ≡ Ok ps → checking.IsEmittedFor ps name h.vars h.outvars qs adjoint shadowed
+    emitted_for runnable fits bytes given =
+        let x = known.emitted in
+        record {
+          runnable = record {
+            written = subst IsWritten (sym x.emitted) (planned.is_written ps accepted name h.vars h.outvars x.activity x.liveness x.saved x.held x.analysed);
+            reads = reads_as runnable fits bytes given;
+            sound = λ others same. planned.is_sound ps accepted name h.vars h.outvars x.activity x.liveness x.saved x.held x.analysed others (ap unlined (sym x.emitted) ∙ same);
+          };
+          marks = m;
+          adjoins = adjoins;
+          named = λ k there. known.named k (numbered (kernel_of ps) name k there);
+          shadows = shadows_are;
+        }
+
+    -- both sides, and what holds of them
+    module _ (runnable : IsRunnable qs) where
+      abbrev back : IsAdjointOf (λ line. None) m ps name h.vars h.outvars (read_back qs)
+      back = adjoins (read_back qs) (alike_read qs runnable)
+
+      abbrev sides : Sides
+      sides = record { source = ps; head = u; vars = h.vars; outvars = h.outvars; emitted = read_back qs; adjoint = back.adjoint; shadowed = shadowed }
+
+      -- the adjoint is found by the name that is known
+      pub adjoint_there : find_unit (read_back qs) adjoint ≡ Some back.adjoint
+      adjoint_there = ap (find_unit (read_back qs)) (known.named back.kernel (numbered (kernel_of ps) name back.kernel back.becomes)) ∙ back.is_there
+
+      abbrev pub are_sides : AreSides ps name h sides
+      are_sides = record {
+        source = refl;
+        is_head = found;
+        vars = refl;
+        outvars = refl;
+        marks = m;
+        exact = exact;
+        emitted = ap read_back known.emitted.emitted;
+        kernel = back.kernel;
+        becomes = back.becomes;
+        is_there = back.is_there;
+        shadows = shadows_are u found;
+      }
+
+      same_head : u ≡ back.unit
+      same_head = let both : Some u ≡ Some back.unit = sym found ∙ back.is_head in cc
+
+      pub are_adjoint : IsSized u → length h.vars ≡ length u.dummies → length h.outvars ≡ length u.dummies → AreAdjoint sides
+      are_adjoint sized vars outvars = record {
+        sized = sized;
+        vars = vars;
+        outvars = outvars;
+        side = record { lines = λ line. None; marks = m; name = name; adjoins = back; is_head = same_head; is_adjoint = refl; shadows = shadows_are u found };
+      }
+
+-- ---- the head that is asked for
+
+module _ (ps : List Procedure) (name : List ℕ) (vars outvars : List (List ℕ)) (sound : first_head_fault ps name vars outvars ≡ None) (h : Head) (is : h ≡ head_of ps name vars outvars) where
+  abbrev there : IsUnit ps name
+  there = head_there ps name vars outvars sound
+
+  -- its number is that of its unit
+  pub unit_at : slice_get ps h.unit ≡ Some there.unit
+  unit_at = ap (λ (z : Head). slice_get ps z.unit) is ∙ numbered ps name there.unit there.found
+
+  pub unit_is : (v : Procedure) → slice_get ps h.unit ≡ Some v → there.unit ≡ v
+  unit_is v at = let both : Some there.unit ≡ Some v = sym unit_at ∙ at in cc
+
+  pub named_there : (v : Procedure) → slice_get ps h.unit ≡ Some v → find_unit ps v.name ≡ Some v
+  named_there v at =
+      let same = unit_is v at in
+      subst (λ w. find_unit ps w.name ≡ Some w) same (ap (find_unit ps) (found_name ps name there.unit there.found) ∙ there.found)
+
+  pub name_is : (v : Procedure) → slice_get ps h.unit ≡ Some v → v.name ≡ name
+  name_is v at = ap (λ (w : Procedure). w.name) (sym (unit_is v at)) ∙ found_name ps name there.unit there.found
+
+  vars_are : h.vars ≡ flags_of vars there.unit.dummies
+  vars_are = ap (λ (z : Head). z.vars) is ∙ ap (λ o. flags_found o vars) there.found
+
+  outvars_are : h.outvars ≡ flags_of outvars there.unit.dummies
+  outvars_are = ap (λ (z : Head). z.outvars) is ∙ ap (λ o. flags_found o outvars) there.found
+
+  -- it has a flag for each dummy
+  pub many_vars : (v : Procedure) → slice_get ps h.unit ≡ Some v → length h.vars ≡ length v.dummies
+  many_vars v at = ap length vars_are ∙ length-map there.unit.dummies (λ d. has_name d vars) ∙ ap (λ (w : Procedure). length w.dummies) (unit_is v at)
+
+  pub many_outvars : (v : Procedure) → slice_get ps h.unit ≡ Some v → length h.outvars ≡ length v.dummies
+  many_outvars v at = ap length outvars_are ∙ length-map there.unit.dummies (λ d. has_name d outvars) ∙ ap (λ (w : Procedure). length w.dummies) (unit_is v at)
+
+-- ---- the answer to data
+
+module _ (r : Asked) (vars outvars : List (List ℕ)) (ps : List Procedure) (accepted : IsAccepted ps) (clean : IsSound run_rules ps) (none : HasNoMarks ps) (sound : first_head_fault ps r.head vars outvars ≡ None) (h : Head) (is : h ≡ head_of ps r.head vars outvars)
+    (qs : List Procedure) (adjoint : List ℕ) (shadowed : List Bool) (known : IsKnownFor (kernel_of ps) (record { unit = unit_number (kernel_of ps) r.head; vars = h.vars; outvars = h.outvars }) qs adjoint shadowed) (runnable : IsRunnable qs) where
+  abbrev head : IsUnit ps r.head
+  head = there ps r.head vars outvars sound h is
+
+  abbrev both : Sides
+  both = sides ps r.head h accepted qs adjoint shadowed known none head.unit head.found runnable
+
+  abbrev are_both : AreSides ps r.head h both
+  are_both = are_sides ps r.head h accepted qs adjoint shadowed known none head.unit head.found runnable
+
+  both_adjoint : AreAdjoint both
+  both_adjoint =
+      let at = unit_at ps r.head vars outvars sound h is in
+      are_adjoint ps r.head h accepted qs adjoint shadowed known none head.unit head.found runnable (sized ps accepted.written clean h.unit head.unit at)
+      (many_vars ps r.head vars outvars sound h is head.unit at) (many_outvars ps r.head vars outvars sound h is head.unit at)
+
+  runs_both : RunsAdjoint are_both.marks ps r.head h.vars h.outvars (read_back qs)
+  runs_both = runs_for ps r.head h accepted qs adjoint shadowed known none head.unit head.found (read_back qs) (alike_read qs runnable)
+
+  pub is_checked : (bytes : List ℕ) (a : Answer) → a ≡ check_answer r both bytes → IsChecked ps h r bytes a
+  is_checked bytes a same = record { sides = both; are_sides = are_both; runs = runs_both; is = same; traps = check_traps r both both_adjoint bytes }
+
+  -- by the names that were asked for
+  abbrev are_asked : AreSides ps r.head (head_of ps r.head vars outvars) both
+  are_asked = record {
+    source = refl;
+    is_head = head.found;
+    vars = ap (λ (z : Head). z.vars) is;
+    outvars = ap (λ (z : Head). z.outvars) is;
+    marks = are_both.marks;
+    exact = subst (λ z. AreExact ps r.head z are_both.marks) is are_both.exact;
+    emitted = are_both.emitted ∙ ap (λ (z : Head). read_back (planned_for ps r.head z.vars z.outvars are_both.marks)) is;
+    kernel = are_both.kernel;
+    becomes = are_both.becomes;
+    is_there = are_both.is_there;
+    shadows = are_both.shadows;
+  }
+
+  runs_asked : RunsAdjoint are_both.marks ps r.head (flags_of vars head.unit.dummies) (flags_of outvars head.unit.dummies) (read_back qs)
+  runs_asked =
+      subst (λ v. RunsAdjoint are_both.marks ps r.head v (flags_of outvars head.unit.dummies) (read_back qs)) (vars_are ps r.head vars outvars sound h is)
+      (subst (λ v. RunsAdjoint are_both.marks ps r.head h.vars v (read_back qs)) (outvars_are ps r.head vars outvars sound h is) runs_both)
+
+  pub is_compared : (bytes : List ℕ) → Reads bytes ps → (a : Answer) → a ≡ check_answer r both bytes → IsCompared r vars outvars bytes a
+  is_compared bytes reads a same = λ done. record {
+    source = ps;
+    reads = reads;
+    sides = both;
+    are_sides = are_asked;
+    runs = runs_asked;
+    agrees = subst (λ (z : Answer). Agrees both bytes z.text) (sym same) (check_agrees r both both_adjoint bytes (ap (λ (z : Answer). z.status) (sym same) ∙ done));
+  }

@@ -1,0 +1,108 @@
+use Rattle.std.proofs.Common.{rules, ◌≡◌, Some, None, true, refl, sym, ap, ◌∙◌, subst, slice_get}
+use Rattle.std.proofs.lemmas.Result.{IfOk-weaker}
+use Rattle.std.proofs.lemmas.Option.{slice_get_within}
+use Rattle.adj_tree.specs.View.{procedures_of}
+use Rattle.adj_tree.specs.declared.marks.Head.{Head}
+use Rattle.adj_names.specs.HeadFaults.{unit_number}
+use Rattle.adj_kernel.specs.Sound.{IsAccepted}
+use Rattle.adj_kernel.specs.Stepped.{kernel_of}
+use Rattle.adj_answer.specs.Views.{answer_of}
+use Rattle.adj_running.specs.Views.{asked_of}
+use Rattle.adj_running.proofs.Sized.{sized}
+use Rattle.adj_checking.specs.Emitted.{IsEmittedFor}
+use Rattle.adj_checking.proofs.Agreeing.{check_agrees}
+use Rattle.adj_tool.specs.Check.{Fitted, IsChecked}
+use Rattle.adj_tool.specs.Fitting.{kernel_fits}
+use Rattle.adj_tool.specs.Headline.{IsUnit}
+use Rattle.adj_tool.specs.Planned.{IsKnownFor}
+use Rattle.adj_tool.proofs.Checks as checks
+use Rattle.adj_tool.proofs.Heads.{head_there, kernel_head, kernel_is_checked, for_kernel}
+use Rattle.adj_tool.proofs.Spared.{none_marked}
+use Rattle.adj_tool.proofs.checking.compared.Goals as goal
+
+pub checked_kernel-requires : goal.checked_kernel-requires
+checked_kernel-requires c =
+    let moved = ap procedures_of c.program.ensures.program in
+    record { accepted = subst IsAccepted (sym moved) (record { written = c.program.ensures.facts.written; sound = c.requires.sound }) }
+
+pub known-requires-clause-head : goal.known-requires-clause-head
+known-requires-clause-head c =
+    let ps = procedures_of c.args.program.now.program in
+    let r = c.args.request.now in
+    let lowered = c.in_ok-kernel.ensures.kernel ∙ ap (λ q. kernel_of (procedures_of q)) c.program.ensures.program in
+    kernel_head ps c.in_ok-kernel.kernel.program lowered r.run.head (head_there ps r.run.head r.vars r.outvars c.requires.sound_head) c.unit_number.result
+    (c.unit_number.ensures ∙ ap (λ q. unit_number (procedures_of q) r.run.head) c.program-2.ensures.program)
+
+pub known-requires-clause-checked : goal.known-requires-clause-checked
+known-requires-clause-checked c =
+    let ps = procedures_of c.args.program.now.program in
+    let lowered = c.in_ok-kernel.ensures.kernel ∙ ap (λ q. kernel_of (procedures_of q)) c.program.ensures.program in
+    kernel_is_checked ps c.in_ok-kernel.kernel.program lowered (record { written = c.program.ensures.facts.written; sound = c.requires.sound })
+
+pub check_answer-requires-clause-there : goal.check_answer-requires-clause-there
+check_answer-requires-clause-there c =
+    let ps = procedures_of c.args.program.now.program in
+    let r = c.args.request.now in
+    let h = c.args.head in
+    slice_get_within ps h.unit (head_there ps r.run.head r.vars r.outvars c.requires.sound_head).unit (checks.unit_at ps r.run.head r.vars r.outvars c.requires.sound_head h c.requires.head)
+
+pub check_answer-requires-clause-vars : goal.check_answer-requires-clause-vars
+check_answer-requires-clause-vars c = let r = c.args.request.now in checks.many_vars (procedures_of c.args.program.now.program) r.run.head r.vars r.outvars c.requires.sound_head c.args.head c.requires.head
+
+pub check_answer-requires-clause-outvars : goal.check_answer-requires-clause-outvars
+check_answer-requires-clause-outvars c = let r = c.args.request.now in checks.many_outvars (procedures_of c.args.program.now.program) r.run.head r.vars r.outvars c.requires.sound_head c.args.head c.requires.head
+
+pub check_answer-requires-clause-found : goal.check_answer-requires-clause-found
+check_answer-requires-clause-found c = let r = c.args.request.now in checks.named_there (procedures_of c.args.program.now.program) r.run.head r.vars r.outvars c.requires.sound_head c.args.head c.requires.head
+
+pub check_answer-requires-clause-emitted : goal.check_answer-requires-clause-emitted
+check_answer-requires-clause-emitted c = λ v at.
+    let ps = procedures_of c.args.program.now.program in
+    let r = c.args.request.now in
+    let h = c.args.head in
+    let accepted : IsAccepted ps = record { written = c.program.ensures.facts.written; sound = c.requires.sound } in
+    let there = head_there ps r.run.head r.vars r.outvars c.requires.sound_head in
+    let lowered = c.in_ok-kernel.ensures.kernel ∙ ap (λ q. kernel_of (procedures_of q)) c.program.ensures.program in
+    let e = c.in_ok-emitted.emitted in
+    let own = for_kernel ps c.in_ok-kernel.kernel.program lowered (λ us k. IsKnownFor us k (procedures_of e.program) e.adjoint e.shadowed) r.run.head c.unit_number.result
+    (c.unit_number.ensures ∙ ap (λ q. unit_number (procedures_of q) r.run.head) c.program-2.ensures.program) h.vars h.outvars c.in_ok-emitted.ensures.known in
+    let fits : kernel_fits (kernel_of ps) ≡ true = search rules in
+    let x = checks.emitted_for ps r.run.head h accepted (procedures_of e.program) e.adjoint e.shadowed own (none_marked ps c.requires.unmarked) there.unit there.found c.emitted_law.ensures.runnable fits c.args.bytes.now c.requires.given in
+    subst (λ n. IsEmittedFor ps n h.vars h.outvars (procedures_of e.program) e.adjoint e.shadowed) (sym (checks.name_is ps r.run.head r.vars r.outvars c.requires.sound_head h c.requires.head v at)) x
+
+pub returns-clause-answer : goal.returns-clause-answer
+returns-clause-answer c =
+    let ps = procedures_of c.args.program.now.program in
+    let r = c.args.request.now in
+    let h = c.args.head in
+    let accepted : IsAccepted ps = record { written = c.program.ensures.facts.written; sound = c.requires.sound } in
+    let there = head_there ps r.run.head r.vars r.outvars c.requires.sound_head in
+    let lowered = c.in_ok-kernel.ensures.kernel ∙ ap (λ q. kernel_of (procedures_of q)) c.program.ensures.program in
+    let e = c.in_ok-emitted.emitted in
+    let own = for_kernel ps c.in_ok-kernel.kernel.program lowered (λ us k. IsKnownFor us k (procedures_of e.program) e.adjoint e.shadowed) r.run.head c.unit_number.result
+    (c.unit_number.ensures ∙ ap (λ q. unit_number (procedures_of q) r.run.head) c.program-2.ensures.program) h.vars h.outvars c.in_ok-emitted.ensures.known in
+    let fits : kernel_fits (kernel_of ps) ≡ true = search rules in
+    let none = none_marked ps c.requires.unmarked in
+    let x = checks.emitted_for ps r.run.head h accepted (procedures_of e.program) e.adjoint e.shadowed own none there.unit there.found c.emitted_law.ensures.runnable fits c.args.bytes.now c.requires.given in
+    let is = c.in_ok-answer.ensures.answer there.unit _ (checks.unit_at ps r.run.head r.vars r.outvars c.requires.sound_head h c.requires.head)
+    (checks.adjoint_there ps r.run.head h accepted (procedures_of e.program) e.adjoint e.shadowed own none there.unit there.found x.runnable) in
+    subst (λ b. Fitted b (IsChecked ps h (asked_of r.run) c.args.bytes.now (answer_of c.in_ok-answer.answer)) (answer_of c.in_ok-answer.answer)) (sym fits)
+    (checks.is_checked (asked_of r.run) r.vars r.outvars ps accepted c.program.ensures.facts.sound none c.requires.sound_head h c.requires.head (procedures_of e.program) e.adjoint e.shadowed own x.runnable c.args.bytes.now (answer_of c.in_ok-answer.answer) is)
+
+pub returns-clause-compared : goal.returns-clause-compared
+returns-clause-compared c = λ reads.
+    let ps = procedures_of c.args.program.now.program in
+    let r = c.args.request.now in
+    let h = c.args.head in
+    let accepted : IsAccepted ps = record { written = c.program.ensures.facts.written; sound = c.requires.sound } in
+    let there = head_there ps r.run.head r.vars r.outvars c.requires.sound_head in
+    let lowered = c.in_ok-kernel.ensures.kernel ∙ ap (λ q. kernel_of (procedures_of q)) c.program.ensures.program in
+    let e = c.in_ok-emitted.emitted in
+    let own = for_kernel ps c.in_ok-kernel.kernel.program lowered (λ us k. IsKnownFor us k (procedures_of e.program) e.adjoint e.shadowed) r.run.head c.unit_number.result
+    (c.unit_number.ensures ∙ ap (λ q. unit_number (procedures_of q) r.run.head) c.program-2.ensures.program) h.vars h.outvars c.in_ok-emitted.ensures.known in
+    let fits : kernel_fits (kernel_of ps) ≡ true = search rules in
+    let none = none_marked ps c.requires.unmarked in
+    let x = checks.emitted_for ps r.run.head h accepted (procedures_of e.program) e.adjoint e.shadowed own none there.unit there.found c.emitted_law.ensures.runnable fits c.args.bytes.now c.requires.given in
+    let is = c.in_ok-answer.ensures.answer there.unit _ (checks.unit_at ps r.run.head r.vars r.outvars c.requires.sound_head h c.requires.head)
+    (checks.adjoint_there ps r.run.head h accepted (procedures_of e.program) e.adjoint e.shadowed own none there.unit there.found x.runnable) in
+    checks.is_compared (asked_of r.run) r.vars r.outvars ps accepted c.program.ensures.facts.sound none c.requires.sound_head h c.requires.head (procedures_of e.program) e.adjoint e.shadowed own x.runnable c.args.bytes.now reads (answer_of c.in_ok-answer.answer) is

@@ -1,0 +1,115 @@
+-- Check: the answer of the command `check`, and what holds where it is done. (docs/COMMANDS.md, "`check`")
+use Rattle.std.specs.Prelude.{◌≡◌, ℕ, nat_lt, Bool, true, false, List, length, Option, Some, None, Result, Ok, Err}
+use Rattle.adj_tree.specs.Code.{Procedure}
+use Rattle.adj_tree.specs.declared.fault.Refusal.{Refusal}
+use Rattle.adj_tree.specs.declared.marks.Head.{Head}
+use Rattle.adj_text.specs.Reads.{Reads}
+use Rattle.adj_text.specs.declared.mode.Mode.TheVariants.{Source}
+use Rattle.adj_meaning.specs.Written.{find_unit}
+use Rattle.adj_names.specs.Fault.{source_rules}
+use Rattle.adj_names.specs.Check.{first_fault}
+use Rattle.adj_names.specs.HeadFaults.{first_head_fault, head_of}
+use Rattle.adj_transpose.specs.MarkedAdjoint.{shadow_flags}
+use Rattle.adj_reverse.specs.Marking.{ProgramMarks}
+use Rattle.adj_reverse.specs.Names.{adjoint_name}
+use Rattle.adj_kernel.specs.Kernel.{EachUnit}
+use Rattle.adj_kernel.specs.Stepped.{kernel_of}
+use Rattle.adj_kernel.specs.Weights.{WeighsAtMost}
+use Rattle.adj_cost.specs.RunTheorem.{CallsAtMost}
+use Rattle.adj_spent.specs.Spent.{SpendsAtMost}
+use Rattle.adj_accepted.specs.Accepted.{IsAdjointOf}
+use Rattle.adj_planned.specs.Planned.{planned_for}
+use Rattle.adj_shape.specs.Accepted.{HasKernelShape}
+use Rattle.adj_answer.specs.Answer.{Answer, refused, too_long}
+use Rattle.adj_answer.specs.Programs.{TextIs}
+use Rattle.adj_running.specs.Running.{Asked}
+use Rattle.adj_checking.specs.Checking.{Sides, check_answer}
+use Rattle.adj_checking.specs.Emitted.{read_back}
+use Rattle.adj_checking.specs.Agreeing.{TrapsAlone, Agrees}
+use Rattle.adj_tool.specs.Planned.{AreExact}
+use Rattle.adj_tool.specs.Profile.{first_untreated}
+use Rattle.adj_tool.specs.Fitting.{kernel_fits}
+use Rattle.adj_tool.specs.Answer.{most_bytes, too_large, untreated}
+use Rattle.adj_tool.specs.Headline.{flags_of}
+
+-- A program and its head, the unit of a name, with what is emitted for its kernel by the marks of exact analyses: printed and read back, and
+-- itself where its text has too many statements.
+pub record AreSides (ps : List Procedure) (name : List ℕ) (h : Head) (p : Sides) : Type 0 where
+  pub source : p.source ≡ ps
+  pub is_head : find_unit ps name ≡ Some p.head
+  pub vars : p.vars ≡ h.vars
+  pub outvars : p.outvars ≡ h.outvars
+  pub marks : ProgramMarks
+  pub exact : AreExact ps name h marks
+  pub emitted : p.emitted ≡ read_back (planned_for ps name h.vars h.outvars marks)
+  -- what the head becomes in the kernel, which gives the name of the adjoint
+  pub kernel : Procedure
+  pub becomes : find_unit (kernel_of ps) name ≡ Some kernel
+  pub is_there : find_unit p.emitted (adjoint_name (kernel_of ps) kernel) ≡ Some p.adjoint
+  pub shadows : p.shadowed ≡ shadow_flags (marks.shadowed name) p.head.dummies
+
+-- What is run as the emitted program is an adjoint of the program for the unit of a name as its head, looks as one that is emitted, and its run
+-- takes at most so many statements for each one of the head's own run, by what a statement of the program weighs and how many calls a chain from
+-- the head has.
+pub record RunsAdjoint (m : ProgramMarks) (ps : List Procedure) (name : List ℕ) (vars outvars : List Bool) (qs : List Procedure) : Type 0 where
+  pub adjoins : IsAdjointOf (λ line. None) m ps name vars outvars qs
+  pub shape : HasKernelShape m ps name vars outvars qs
+  pub spends : (weight calls : ℕ) → EachUnit (λ u. WeighsAtMost weight u.body) ps → CallsAtMost ps name calls → SpendsAtMost m ps name weight calls qs
+
+-- the answer to the data behind a text, which tells of no trap but the head's own
+pub record IsChecked (ps : List Procedure) (h : Head) (r : Asked) (bytes : List ℕ) (a : Answer) : Type 0 where
+  pub sides : Sides
+  pub are_sides : AreSides ps r.head h sides
+  pub runs : RunsAdjoint are_sides.marks ps r.head h.vars h.outvars sides.emitted
+  pub is : a ≡ check_answer r sides bytes
+  pub traps : TrapsAlone r sides bytes
+
+-- ---- faults come first
+
+abbrev pub Unrefused : Option Refusal → Type 0 → Answer → Type 0
+Unrefused (Some e) P a = a ≡ refused e
+Unrefused None P a = P
+
+-- a statement at a line isn't treated yet, or none
+abbrev pub Treated : Option ℕ → Type 0 → Answer → Type 0
+Treated (Some line) P a = a ≡ untreated line
+Treated None P a = P
+
+-- the kernel fits, or not
+abbrev pub Fitted : Bool → Type 0 → Answer → Type 0
+Fitted true P a = P
+Fitted false P a = a ≡ too_large
+
+abbrev pub AnswersAcceptedCheck : Asked → List ℕ → List Procedure → Head → Answer → Type 0
+AnswersAcceptedCheck r bytes ps h a = Treated (first_untreated ps) (Fitted (kernel_fits (kernel_of ps)) (IsChecked ps h r bytes a) a) a
+
+abbrev pub AnswersSoundCheck : Asked → List (List ℕ) → List (List ℕ) → List ℕ → List Procedure → Answer → Type 0
+AnswersSoundCheck r vars outvars bytes ps a = Unrefused (first_head_fault ps r.head vars outvars) (AnswersAcceptedCheck r bytes ps (head_of ps r.head vars outvars) a) a
+
+abbrev pub AnswersTextCheck : Asked → List (List ℕ) → List (List ℕ) → List ℕ → Result (List Procedure) Refusal → Answer → Type 0
+AnswersTextCheck r vars outvars bytes (Err e) a = a ≡ refused e
+AnswersTextCheck r vars outvars bytes (Ok ps) a = Unrefused (first_fault source_rules ps) (AnswersSoundCheck r vars outvars bytes ps a) a
+
+abbrev pub AnswersSizedCheck : Bool → Asked → List (List ℕ) → List (List ℕ) → List ℕ → Answer → Type 0
+AnswersSizedCheck true r vars outvars bytes a = a ≡ too_long most_bytes
+AnswersSizedCheck false r vars outvars bytes a = TextIs Source (λ found. AnswersTextCheck r vars outvars bytes found a) bytes
+
+-- the answer of `check`
+abbrev pub AnswersCheck : Asked → List (List ℕ) → List (List ℕ) → List ℕ → Answer → Type 0
+AnswersCheck r vars outvars bytes a = AnswersSizedCheck (nat_lt most_bytes (length bytes)) r vars outvars bytes a
+
+-- ---- where it is done
+
+-- the bytes that were read are a program with its data; what is run as the emitted program is an adjoint of it, by the names that were asked for; its
+-- run never traps; and the products that are told are equal
+pub record ChecksAdjoint (r : Asked) (vars outvars : List (List ℕ)) (bytes text : List ℕ) : Type 0 where
+  pub source : List Procedure
+  pub reads : Reads bytes source
+  pub sides : Sides
+  pub are_sides : AreSides source r.head (head_of source r.head vars outvars) sides
+  pub runs : RunsAdjoint are_sides.marks source r.head (flags_of vars sides.head.dummies) (flags_of outvars sides.head.dummies) sides.emitted
+  pub agrees : Agrees sides bytes text
+
+-- where the answer to these bytes is done
+abbrev pub IsCompared : Asked → List (List ℕ) → List (List ℕ) → List ℕ → Answer → Type 0
+IsCompared r vars outvars bytes a = a.status ≡ 0 → ChecksAdjoint r vars outvars bytes a.text

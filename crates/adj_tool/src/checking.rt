@@ -1,0 +1,174 @@
+//! The command `check`.
+
+ghost use Rattle.std.specs.Prelude.{◌≡◌, ◌≤◌, None, Ok, length, IfOk, IsErrOf};
+ghost use Rattle.adj_io.specs.Faults.{Rose};
+ghost use Rattle.adj_tree.specs.View.{procedures_of};
+ghost use Rattle.adj_text.specs.Reads.{Reads};
+ghost use Rattle.adj_text.specs.Written.{IsWritten};
+ghost use Rattle.adj_text.specs.declared.mode.Mode.TheVariants.{Source};
+ghost use Rattle.adj_names.specs.Check.{IsSound};
+ghost use Rattle.adj_names.specs.Fault.{source_rules};
+ghost use Rattle.adj_names.specs.HeadFaults.{first_head_fault, head_of};
+ghost use Rattle.adj_kernel.specs.Stepped.{kernel_of};
+ghost use Rattle.adj_answer.specs.Programs.{program_of};
+ghost use Rattle.adj_answer.specs.Views.{answer_of};
+ghost use Rattle.adj_running.specs.Views.{asked_of};
+ghost use Rattle.adj_tool.specs.Answer.{most_bytes};
+ghost use Rattle.adj_tool.specs.Check.{AnswersAcceptedCheck, AnswersCheck, AnswersSoundCheck, AnswersTextCheck, Fitted, IsChecked, IsCompared};
+ghost use Rattle.adj_tool.specs.Fitting.{kernel_fits};
+ghost use Rattle.adj_tool.specs.Profile.{first_untreated};
+ghost use Rattle.adj_tool.specs.Tool.{AnswersInput, ComparesInput};
+
+use crate::answering::{too_large, unit_number, untreated};
+use crate::planned::known;
+use crate::stop::Stop;
+use crate::task::CheckRequest;
+use crate::untreated::first_untreated;
+use adj_answer::{Answer, read, refused};
+use adj_checking::check_answer;
+use adj_fixed::Mode;
+use adj_io::{ReadError, Source, read_all};
+use adj_kernels::checked_kernel;
+use adj_limits::emitted_law;
+use adj_symbols::{Checked, check, head};
+use adj_tree::{Fault, Head, Memory, Program, Refusal};
+use std::alloc::Global;
+
+/// The most bytes of an input.
+const MOST_BYTES: usize = 4_194_304;
+
+// The answer where names, calls and writes have no fault, nor has the head, and no loop is marked.
+fn compared(
+    alloc: Global,
+    request: &CheckRequest,
+    program: &Checked,
+    head: Head,
+    bytes: &[u8],
+) -> Result<Answer, Memory>
+    requires sound { IsSound source_rules (procedures_of program.now.program) }
+    requires unmarked { first_untreated (procedures_of program.now.program) ≡ None }
+    requires sound_head { first_head_fault (procedures_of program.now.program) request.now.run.head request.now.vars request.now.outvars ≡ None }
+    requires head { head ≡ head_of (procedures_of program.now.program) request.now.run.head request.now.vars request.now.outvars }
+    requires given { program_of Source bytes.now ≡ Ok (procedures_of program.now.program) }
+    ensures answer { IfOk result (λ a. Fitted (kernel_fits (kernel_of (procedures_of program.now.program))) (IsChecked (procedures_of program.now.program) head (asked_of request.now.run) bytes.now (answer_of a)) (answer_of a)) }
+    ensures compared { Reads bytes.now (procedures_of program.now.program) → IfOk result (λ a. IsCompared (asked_of request.now.run) request.now.vars request.now.outvars bytes.now (answer_of a)) }
+{
+    emitted_law();
+    let kernel = checked_kernel(alloc, program.program())?;
+    if !kernel.fits() {
+        return too_large(alloc);
+    }
+    let number = head.unit;
+    let own = Head {
+        unit: unit_number(kernel.program(), &request.run.head),
+        vars: head.vars,
+        outvars: head.outvars,
+    };
+    let emitted = known(alloc, &kernel, &own)?;
+    let head = Head {
+        unit: number,
+        vars: own.vars,
+        outvars: own.outvars,
+    };
+    let answer = check_answer(alloc, &request.run, program, &head, emitted, bytes)?;
+    Ok(answer)
+}
+
+// The answer where names, calls and writes have no fault, nor has the head.
+fn answer_head(
+    alloc: Global,
+    request: &CheckRequest,
+    program: &Checked,
+    head: Head,
+    bytes: &[u8],
+) -> Result<Answer, Memory>
+    requires sound { IsSound source_rules (procedures_of program.now.program) }
+    requires sound_head { first_head_fault (procedures_of program.now.program) request.now.run.head request.now.vars request.now.outvars ≡ None }
+    requires head { head ≡ head_of (procedures_of program.now.program) request.now.run.head request.now.vars request.now.outvars }
+    requires given { program_of Source bytes.now ≡ Ok (procedures_of program.now.program) }
+    ensures answer { IfOk result (λ a. AnswersAcceptedCheck (asked_of request.now.run) bytes.now (procedures_of program.now.program) head (answer_of a)) }
+    ensures compared { Reads bytes.now (procedures_of program.now.program) → IfOk result (λ a. IsCompared (asked_of request.now.run) request.now.vars request.now.outvars bytes.now (answer_of a)) }
+{
+    if let Some(line) = first_untreated(program.program()) {
+        return untreated(alloc, line);
+    }
+    let answer = compared(alloc, request, program, head, bytes)?;
+    Ok(answer)
+}
+
+// The answer where names, calls and writes have no fault.
+fn answer_checked(
+    alloc: Global,
+    request: &CheckRequest,
+    program: &Checked,
+    bytes: &[u8],
+) -> Result<Answer, Memory>
+    requires sound { IsSound source_rules (procedures_of program.now.program) }
+    requires given { program_of Source bytes.now ≡ Ok (procedures_of program.now.program) }
+    ensures answer { IfOk result (λ a. AnswersSoundCheck (asked_of request.now.run) request.now.vars request.now.outvars bytes.now (procedures_of program.now.program) (answer_of a)) }
+    ensures compared { Reads bytes.now (procedures_of program.now.program) → IfOk result (λ a. IsCompared (asked_of request.now.run) request.now.vars request.now.outvars bytes.now (answer_of a)) }
+{
+    let vars = request.vars.as_slice();
+    let outvars = request.outvars.as_slice();
+    match head(alloc, program, &request.run.head, vars, outvars) {
+        Ok(head) => answer_head(alloc, request, program, head, bytes),
+        Err(Fault::Refused(refusal)) => refused(alloc, refusal),
+        Err(Fault::Memory) => Err(Memory),
+    }
+}
+
+// The answer for a program.
+fn answer_program(
+    alloc: Global,
+    request: &CheckRequest,
+    program: Program,
+    bytes: &[u8],
+) -> Result<Answer, Memory>
+    requires written { IsWritten (procedures_of program) }
+    requires given { program_of Source bytes.now ≡ Ok (procedures_of program) }
+    ensures answer { IfOk result (λ a. AnswersTextCheck (asked_of request.now.run) request.now.vars request.now.outvars bytes.now (Ok (procedures_of program)) (answer_of a)) }
+    ensures compared { Reads bytes.now (procedures_of program) → IfOk result (λ a. IsCompared (asked_of request.now.run) request.now.vars request.now.outvars bytes.now (answer_of a)) }
+{
+    match check(alloc, program, Mode::Source) {
+        Ok(checked) => answer_checked(alloc, request, &checked, bytes),
+        Err(Fault::Refused(refusal)) => refused(alloc, refusal),
+        Err(Fault::Memory) => Err(Memory),
+    }
+}
+
+// The answer to an input within the limit.
+fn answer_bytes(alloc: Global, request: &CheckRequest, bytes: &[u8]) -> Result<Answer, Memory>
+    requires { length bytes.now ≤ most_bytes }
+    ensures answer { IfOk result (λ a. AnswersCheck (asked_of request.now.run) request.now.vars request.now.outvars bytes.now (answer_of a)) }
+    ensures compared { IfOk result (λ a. IsCompared (asked_of request.now.run) request.now.vars request.now.outvars bytes.now (answer_of a)) }
+{
+    match read(alloc, bytes, Mode::Source) {
+        Ok(program) => answer_program(alloc, request, program, bytes),
+        Err(Fault::Refused(refusal)) => refused(alloc, refusal),
+        Err(Fault::Memory) => Err(Memory),
+    }
+}
+
+/// The answer of `check` to an input.
+pub(crate) fn check_input<S: Source>(
+    alloc: Global,
+    request: &CheckRequest,
+    input: &mut S,
+) -> Result<Answer, Stop>
+    ensures answer { IfOk result (λ a. AnswersInput most_bytes (AnswersCheck (asked_of request.now.run) request.now.vars request.now.outvars) (S.left input.old) (S.left input.new) (answer_of a)) }
+    ensures compared { IfOk result (λ a. (answer_of a).status ≡ 0 → ComparesInput (asked_of request.now.run) request.now.vars request.now.outvars (S.left input.old) (S.left input.new) a.text.items) }
+    ensures fault { IsErrOf result Stop.ReadFault → Rose (S.faults input.old) (S.faults input.new) }
+{
+    match read_all(alloc, input, MOST_BYTES) {
+        Ok(bytes) => {
+            let answer = answer_bytes(alloc, request, bytes.as_slice())?;
+            Ok(answer)
+        }
+        Err(ReadError::TooLong) => {
+            let answer = refused(alloc, Refusal::passed(4_194_304, 0))?;
+            Ok(answer)
+        }
+        Err(ReadError::ReadFault) => Err(Stop::ReadFault),
+        Err(ReadError::Memory) => Err(Stop::Memory),
+    }
+}
