@@ -1,5 +1,5 @@
 -- What `check` runs as the emitted program of a head, and what holds of it.
-use Rattle.std.proofs.Common.{◌≡◌, ℕ, ◌≤◌, Bool, true, false, List, [], ◌∷◌, map, length, Some, None, refl, sym, ap, ◌∙◌, subst}
+use Rattle.std.proofs.Common.{◌≡◌, ℕ, ◌≤◌, Bool, true, List, length, Some, None, refl, sym, ap, ◌∙◌, subst}
 use Rattle.std.specs.Prelude.{Ok}
 use Rattle.std.specs.List.{slice_get}
 use Rattle.std.proofs.lemmas.List.{length-map}
@@ -18,7 +18,6 @@ use Rattle.adj_names.specs.HeadFaults.{first_head_fault, flags_found, unit_numbe
 use Rattle.adj_names.specs.Variables.{variables}
 use Rattle.adj_transpose.specs.MarkedAdjoint.{shadow_flags}
 use Rattle.adj_reverse.specs.Marking.{ProgramMarks}
-use Rattle.adj_reverse.specs.Names.{adjoint_name}
 use Rattle.adj_emitted.specs.Shadowed.{AllHaveShadows}
 use Rattle.adj_kernel.specs.Kernel.{EachUnit}
 use Rattle.adj_kernel.specs.Stepped.{kernel_of}
@@ -33,6 +32,7 @@ use Rattle.adj_planned.specs.Planned.{HasNoMarks, kernel_problem, planned_for, m
 use Rattle.adj_planned.proofs.Planned as planned
 use Rattle.adj_planned.proofs.Unmarked.{kernel_unmarked}
 use Rattle.adj_answer.specs.Answer.{Answer}
+use Rattle.adj_answer.specs.Laws.{ProgramTold}
 use Rattle.adj_answer.specs.Programs.{program_of}
 use Rattle.adj_data.specs.Fitting.{IsSized}
 use Rattle.adj_running.specs.Running.{Asked}
@@ -41,10 +41,10 @@ use Rattle.adj_running.proofs.Sized.{sized}
 use Rattle.adj_checking.specs.Checking.{Sides, check_answer}
 use Rattle.adj_checking.specs.Emitted as checking
 use Rattle.adj_checking.specs.Emitted.{IsRunnable, read_back}
-use Rattle.adj_checking.specs.Agreeing.{AreAdjoint, Agrees, TrapsAlone}
+use Rattle.adj_checking.specs.Agreeing.{AreAdjoint, Agrees}
 use Rattle.adj_checking.proofs.Readings.{alike_read}
 use Rattle.adj_checking.proofs.Agreeing.{check_agrees, check_traps}
-use Rattle.adj_tool.specs.Check.{AreSides, RunsAdjoint, IsChecked, IsCompared}
+use Rattle.adj_tool.specs.Check.{AreSides, IsReadBack, RunsAdjoint, IsChecked, IsCompared}
 use Rattle.adj_tool.specs.Fitting.{most_counted, kernel_fits}
 use Rattle.adj_tool.specs.Headline.{IsUnit, flags_of}
 use Rattle.adj_tool.specs.Planned.{IsKnownFor, AreExact}
@@ -119,15 +119,15 @@ module _ (ps : List Procedure) (name : List ℕ) (h : Head) (accepted : IsAccept
       pub adjoint_there : find_unit (read_back qs) adjoint ≡ Some back.adjoint
       adjoint_there = ap (find_unit (read_back qs)) (known.named back.kernel (numbered (kernel_of ps) name back.kernel back.becomes)) ∙ back.is_there
 
-      abbrev pub are_sides : AreSides ps name h sides
-      are_sides = record {
+      abbrev pub are_sides : ProgramTold → AreSides ps name h sides
+      are_sides told = record {
         source = refl;
         is_head = found;
         vars = refl;
         outvars = refl;
         marks = m;
         exact = exact;
-        emitted = ap read_back known.emitted.emitted;
+        emitted = let planned = planned_for ps name h.vars h.outvars m in record { found = program_of Run (text_of planned); is = told Run (text_of planned); such = ap read_back known.emitted.emitted };
         kernel = back.kernel;
         becomes = back.becomes;
         is_there = back.is_there;
@@ -182,7 +182,7 @@ module _ (ps : List Procedure) (name : List ℕ) (vars outvars : List (List ℕ)
 -- ---- the answer to data
 
 module _ (r : Asked) (vars outvars : List (List ℕ)) (ps : List Procedure) (accepted : IsAccepted ps) (clean : IsSound run_rules ps) (none : HasNoMarks ps) (sound : first_head_fault ps r.head vars outvars ≡ None) (h : Head) (is : h ≡ head_of ps r.head vars outvars)
-    (qs : List Procedure) (adjoint : List ℕ) (shadowed : List Bool) (known : IsKnownFor (kernel_of ps) (record { unit = unit_number (kernel_of ps) r.head; vars = h.vars; outvars = h.outvars }) qs adjoint shadowed) (runnable : IsRunnable qs) where
+    (qs : List Procedure) (adjoint : List ℕ) (shadowed : List Bool) (known : IsKnownFor (kernel_of ps) (record { unit = unit_number (kernel_of ps) r.head; vars = h.vars; outvars = h.outvars }) qs adjoint shadowed) (runnable : IsRunnable qs) (told : ProgramTold) where
   abbrev head : IsUnit ps r.head
   head = there ps r.head vars outvars sound h is
 
@@ -190,7 +190,7 @@ module _ (r : Asked) (vars outvars : List (List ℕ)) (ps : List Procedure) (acc
   both = sides ps r.head h accepted qs adjoint shadowed known none head.unit head.found runnable
 
   abbrev are_both : AreSides ps r.head h both
-  are_both = are_sides ps r.head h accepted qs adjoint shadowed known none head.unit head.found runnable
+  are_both = are_sides ps r.head h accepted qs adjoint shadowed known none head.unit head.found runnable told
 
   both_adjoint : AreAdjoint both
   both_adjoint =
@@ -213,7 +213,7 @@ module _ (r : Asked) (vars outvars : List (List ℕ)) (ps : List Procedure) (acc
     outvars = ap (λ (z : Head). z.outvars) is;
     marks = are_both.marks;
     exact = subst (λ z. AreExact ps r.head z are_both.marks) is are_both.exact;
-    emitted = are_both.emitted ∙ ap (λ (z : Head). read_back (planned_for ps r.head z.vars z.outvars are_both.marks)) is;
+    emitted = subst (λ (z : Head). IsReadBack (planned_for ps r.head z.vars z.outvars are_both.marks) both.emitted) is are_both.emitted;
     kernel = are_both.kernel;
     becomes = are_both.becomes;
     is_there = are_both.is_there;

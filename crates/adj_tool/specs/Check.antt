@@ -4,7 +4,8 @@ use Rattle.adj_tree.specs.Code.{Procedure}
 use Rattle.adj_tree.specs.declared.fault.Refusal.{Refusal}
 use Rattle.adj_tree.specs.declared.marks.Head.{Head}
 use Rattle.adj_text.specs.Reads.{Reads}
-use Rattle.adj_text.specs.declared.mode.Mode.TheVariants.{Source}
+use Rattle.adj_text.specs.Text.{text_of}
+use Rattle.adj_text.specs.declared.mode.Mode.TheVariants.{Source, Run}
 use Rattle.adj_meaning.specs.Written.{find_unit}
 use Rattle.adj_names.specs.Fault.{source_rules}
 use Rattle.adj_names.specs.Check.{first_fault}
@@ -24,13 +25,17 @@ use Rattle.adj_answer.specs.Answer.{Answer, refused, too_long}
 use Rattle.adj_answer.specs.Programs.{TextIs}
 use Rattle.adj_running.specs.Running.{Asked}
 use Rattle.adj_checking.specs.Checking.{Sides, check_answer}
-use Rattle.adj_checking.specs.Emitted.{read_back}
+use Rattle.adj_checking.specs.Emitted.{or_itself}
 use Rattle.adj_checking.specs.Agreeing.{TrapsAlone, Agrees}
 use Rattle.adj_tool.specs.Planned.{AreExact}
 use Rattle.adj_tool.specs.Profile.{first_untreated}
 use Rattle.adj_tool.specs.Fitting.{kernel_fits}
 use Rattle.adj_tool.specs.Answer.{most_bytes, too_large, untreated}
 use Rattle.adj_tool.specs.Headline.{flags_of}
+
+-- what the text of a program is in Run mode, and the program itself where its text is refused
+abbrev pub IsReadBack : List Procedure → List Procedure → Type 0
+IsReadBack qs found = TextIs Run (λ r. found ≡ or_itself qs r) (text_of qs)
 
 -- A program and its head, the unit of a name, with what is emitted for its kernel by the marks of exact analyses: printed and read back, and
 -- itself where its text has too many statements.
@@ -41,7 +46,7 @@ pub record AreSides (ps : List Procedure) (name : List ℕ) (h : Head) (p : Side
   pub outvars : p.outvars ≡ h.outvars
   pub marks : ProgramMarks
   pub exact : AreExact ps name h marks
-  pub emitted : p.emitted ≡ read_back (planned_for ps name h.vars h.outvars marks)
+  pub emitted : IsReadBack (planned_for ps name h.vars h.outvars marks) p.emitted
   -- what the head becomes in the kernel, which gives the name of the adjoint
   pub kernel : Procedure
   pub becomes : find_unit (kernel_of ps) name ≡ Some kernel

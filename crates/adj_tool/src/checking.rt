@@ -24,7 +24,7 @@ use crate::planned::known;
 use crate::stop::Stop;
 use crate::task::CheckRequest;
 use crate::untreated::first_untreated;
-use adj_answer::{Answer, read, refused};
+use adj_answer::{Answer, read, reading_law, refused};
 use adj_checking::check_answer;
 use adj_fixed::Mode;
 use adj_io::{ReadError, Source, read_all};
@@ -54,6 +54,7 @@ fn compared(
     ensures compared { Reads bytes.now (procedures_of program.now.program) → IfOk result (λ a. IsCompared (asked_of request.now.run) request.now.vars request.now.outvars bytes.now (answer_of a)) }
 {
     emitted_law();
+    reading_law();
     let kernel = checked_kernel(alloc, program.program())?;
     if !kernel.fits() {
         return too_large(alloc);

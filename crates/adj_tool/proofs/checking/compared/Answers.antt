@@ -1,19 +1,14 @@
-use Rattle.std.proofs.Common.{rules, ◌≡◌, Some, None, true, refl, sym, ap, ◌∙◌, subst, slice_get}
-use Rattle.std.proofs.lemmas.Result.{IfOk-weaker}
+use Rattle.std.proofs.Common.{rules, ◌≡◌, true, sym, ap, ◌∙◌, subst}
 use Rattle.std.proofs.lemmas.Option.{slice_get_within}
 use Rattle.adj_tree.specs.View.{procedures_of}
-use Rattle.adj_tree.specs.declared.marks.Head.{Head}
 use Rattle.adj_names.specs.HeadFaults.{unit_number}
 use Rattle.adj_kernel.specs.Sound.{IsAccepted}
 use Rattle.adj_kernel.specs.Stepped.{kernel_of}
 use Rattle.adj_answer.specs.Views.{answer_of}
 use Rattle.adj_running.specs.Views.{asked_of}
-use Rattle.adj_running.proofs.Sized.{sized}
 use Rattle.adj_checking.specs.Emitted.{IsEmittedFor}
-use Rattle.adj_checking.proofs.Agreeing.{check_agrees}
 use Rattle.adj_tool.specs.Check.{Fitted, IsChecked}
 use Rattle.adj_tool.specs.Fitting.{kernel_fits}
-use Rattle.adj_tool.specs.Headline.{IsUnit}
 use Rattle.adj_tool.specs.Planned.{IsKnownFor}
 use Rattle.adj_tool.proofs.Checks as checks
 use Rattle.adj_tool.proofs.Heads.{head_there, kernel_head, kernel_is_checked, for_kernel}
@@ -87,7 +82,7 @@ returns-clause-answer c =
     let is = c.in_ok-answer.ensures.answer there.unit _ (checks.unit_at ps r.run.head r.vars r.outvars c.requires.sound_head h c.requires.head)
     (checks.adjoint_there ps r.run.head h accepted (procedures_of e.program) e.adjoint e.shadowed own none there.unit there.found x.runnable) in
     subst (λ b. Fitted b (IsChecked ps h (asked_of r.run) c.args.bytes.now (answer_of c.in_ok-answer.answer)) (answer_of c.in_ok-answer.answer)) (sym fits)
-    (checks.is_checked (asked_of r.run) r.vars r.outvars ps accepted c.program.ensures.facts.sound none c.requires.sound_head h c.requires.head (procedures_of e.program) e.adjoint e.shadowed own x.runnable c.args.bytes.now (answer_of c.in_ok-answer.answer) is)
+    (checks.is_checked (asked_of r.run) r.vars r.outvars ps accepted c.program.ensures.facts.sound none c.requires.sound_head h c.requires.head (procedures_of e.program) e.adjoint e.shadowed own x.runnable c.reading_law.ensures.program c.args.bytes.now (answer_of c.in_ok-answer.answer) is)
 
 pub returns-clause-compared : goal.returns-clause-compared
 returns-clause-compared c = λ reads.
@@ -105,4 +100,4 @@ returns-clause-compared c = λ reads.
     let x = checks.emitted_for ps r.run.head h accepted (procedures_of e.program) e.adjoint e.shadowed own none there.unit there.found c.emitted_law.ensures.runnable fits c.args.bytes.now c.requires.given in
     let is = c.in_ok-answer.ensures.answer there.unit _ (checks.unit_at ps r.run.head r.vars r.outvars c.requires.sound_head h c.requires.head)
     (checks.adjoint_there ps r.run.head h accepted (procedures_of e.program) e.adjoint e.shadowed own none there.unit there.found x.runnable) in
-    checks.is_compared (asked_of r.run) r.vars r.outvars ps accepted c.program.ensures.facts.sound none c.requires.sound_head h c.requires.head (procedures_of e.program) e.adjoint e.shadowed own x.runnable c.args.bytes.now reads (answer_of c.in_ok-answer.answer) is
+    checks.is_compared (asked_of r.run) r.vars r.outvars ps accepted c.program.ensures.facts.sound none c.requires.sound_head h c.requires.head (procedures_of e.program) e.adjoint e.shadowed own x.runnable c.reading_law.ensures.program c.args.bytes.now reads (answer_of c.in_ok-answer.answer) is

@@ -1,6 +1,5 @@
-use Rattle.std.proofs.Common.{◌≡◌, Some, sym, ap, ◌∙◌, subst, slice_get}
+use Rattle.std.proofs.Common.{sym, ap, ◌∙◌, subst, slice_get}
 use Rattle.adj_tree.specs.View.{procedures_of}
-use Rattle.adj_transpose.specs.MarkedAdjoint.{shadow_flags}
 use Rattle.adj_reverse.specs.Names.{adjoint_name}
 use Rattle.adj_reverse.specs.Program.{emitted_program}
 use Rattle.adj_emitted.specs.Shadowed.{AllHaveShadows}
