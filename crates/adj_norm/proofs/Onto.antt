@@ -4,9 +4,10 @@ use Rattle.adj_tree.specs.Code.{Code, stop, step}
 use Rattle.adj_tree.specs.View.{act_of}
 use Rattle.adj_tree.specs.declared.stmt.Stmt.{Stmt}
 use Rattle.adj_tree.proofs.Onto.{code_onto_push}
+use Rattle.adj_tree.specs.Listed.{steps_onto}
 use Rattle.adj_meaning.specs.Append.{◌+++◌, one}
 use Rattle.adj_meaning.proofs.Appends.{append_assoc, append-stop}
-use Rattle.adj_norm.specs.Steps.{steps_onto, Writes, Leaves}
+use Rattle.adj_norm.specs.Steps.{Writes, Leaves}
 
 -- nothing is written
 pub writes_none : (s : List Stmt) → Writes s s stop

@@ -1,13 +1,9 @@
 -- Statements that are written, before others.
-use Rattle.std.specs.Prelude.{◌≡◌, List, map}
+use Rattle.std.specs.Prelude.{◌≡◌, List}
 use Rattle.adj_tree.specs.Code.{Code}
-use Rattle.adj_tree.specs.Listed.{code_onto, statement_of}
+use Rattle.adj_tree.specs.Listed.{steps_onto}
 use Rattle.adj_tree.specs.declared.stmt.Stmt.{Stmt}
 use Rattle.adj_meaning.specs.Append.{◌+++◌}
-
--- these statements in order, and then others
-abbrev pub steps_onto : List Stmt → Code → Code
-steps_onto stmts rest = code_onto (map statement_of stmts) rest
 
 -- behind the first statements stand those of a list in the second
 abbrev pub Writes : List Stmt → List Stmt → Code → Type 0

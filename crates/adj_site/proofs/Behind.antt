@@ -2,6 +2,7 @@
 use Rattle.std.proofs.Common.{◌≡◌, ℕ, Bool, true, List, ◌+◌, sym, ap, ◌∙◌}
 use Rattle.adj_tree.specs.Code.{Var, Term, bin, times, power_of, Code, stop}
 use Rattle.adj_tree.specs.declared.stmt.Stmt.{Stmt}
+use Rattle.adj_tree.specs.Listed.{steps_onto}
 use Rattle.adj_meaning.specs.Append.{◌+++◌}
 use Rattle.adj_meaning.specs.Rename.{rename}
 use Rattle.adj_meaning.proofs.Appends.{append_assoc}
@@ -10,7 +11,6 @@ use Rattle.adj_transpose.specs.Marks.{Vars}
 use Rattle.adj_transpose.specs.Marked.{own_code, count_of}
 use Rattle.adj_reverse.specs.AdjointOf.{has_own_where, temps_in_where, shrunk_where, temps_where}
 use Rattle.adj_share.proofs.Values.{is_idle, idle}
-use Rattle.adj_site.specs.Steps.{steps_onto}
 use Rattle.adj_site.specs.Behind.{AreBehind}
 
 -- nothing

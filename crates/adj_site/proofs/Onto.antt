@@ -5,12 +5,12 @@ use Rattle.adj_tree.specs.Code.{Var, helper, temp, Term, none, assign, Code, ste
 use Rattle.adj_tree.specs.View.{act_of}
 use Rattle.adj_tree.specs.declared.stmt.Stmt.{Stmt}
 use Rattle.adj_tree.proofs.Onto.{code_onto_push}
+use Rattle.adj_tree.specs.Listed.{steps_onto}
 use Rattle.adj_meaning.specs.Append.{◌+++◌}
 use Rattle.adj_meaning.specs.Rename.{rename, rename_term}
 use Rattle.adj_meaning.proofs.Appends.{append_assoc}
 use Rattle.adj_meaning.proofs.Renamed.{rename-append}
 use Rattle.adj_transpose.specs.Marked.{own_code}
-use Rattle.adj_site.specs.Steps.{steps_onto}
 
 -- the statement that was pushed comes directly before the others
 pub steps_pushed : (steps longer : List Stmt) (s : Stmt) (line : ℕ) (a : code.Act) (rest : Code) → longer ≡ steps ++ s ∷ [] → s.line ≡ line → act_of s.act ≡ a → steps_onto longer rest ≡ steps_onto steps (step line a rest)

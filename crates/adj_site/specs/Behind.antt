@@ -2,8 +2,8 @@
 use Rattle.std.specs.Prelude.{◌≡◌, List}
 use Rattle.adj_tree.specs.Code.{Code}
 use Rattle.adj_tree.specs.declared.stmt.Stmt.{Stmt}
+use Rattle.adj_tree.specs.Listed.{steps_onto}
 use Rattle.adj_meaning.specs.Append.{◌+++◌}
-use Rattle.adj_site.specs.Steps.{steps_onto}
 
 -- these statements stand behind the others
 abbrev pub AreBehind : Code → List Stmt → List Stmt → Type 0

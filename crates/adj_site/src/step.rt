@@ -3,7 +3,7 @@
 ghost use Rattle.std.specs.Prelude.{◌≡◌, IfOk};
 ghost use Rattle.adj_tree.specs.Code.{plain, assign, none, step, runtime, push_word, pop_word};
 ghost use Rattle.adj_tree.specs.View.{term_of, terms_of, act_of, code_of};
-ghost use Rattle.adj_site.specs.Steps.{steps_onto};
+ghost use Rattle.adj_tree.specs.Listed.{steps_onto};
 
 use adj_tree::{Act, Expr, Exprs, Memory, Name, Place, RunCall, Stmt, Stmts};
 use std::alloc::Global;

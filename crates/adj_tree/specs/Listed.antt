@@ -1,5 +1,5 @@
 -- The linked lists of the mirror, from and onto lists, and turned round.
-use Rattle.std.specs.Prelude.{ℕ, List, [], ◌∷◌}
+use Rattle.std.specs.Prelude.{ℕ, List, [], ◌∷◌, map}
 use Rattle.adj_tree.specs.Code as code
 use Rattle.adj_tree.specs.Code.{Term, Terms, Code, none, more, stop, step}
 use Rattle.adj_tree.specs.View.{act_of}
@@ -36,3 +36,7 @@ code_listed ss = code_onto ss stop
 abbrev pub code_turned : Code → Code → Code
 code_turned stop made = made
 code_turned (step line a rest) made = code_turned rest (step line a made)
+
+-- statements of the code in order, and then others
+abbrev pub steps_onto : List Stmt → Code → Code
+steps_onto stmts rest = code_onto (map statement_of stmts) rest

@@ -3,10 +3,10 @@ use Rattle.adj_tree.specs.Code.{step, stop}
 use Rattle.adj_tree.specs.View.{act_of, code_of}
 use Rattle.adj_tree.specs.declared.stmt.Act.TheViews.{sized-More}
 use Rattle.adj_tree.specs.declared.stmt.Stmts.{size-Stmts}
+use Rattle.adj_tree.specs.Listed.{steps_onto}
 use Rattle.adj_meaning.specs.Append.{◌+++◌, one}
 use Rattle.adj_meaning.proofs.Appends.{append-stop}
 use Rattle.adj_kernel.specs.Stepped.{marked_in_act, marked_in, cut_act, cut}
-use Rattle.adj_norm.specs.Steps.{steps_onto}
 use Rattle.adj_norm.proofs.Onto.{leaves_less}
 use Rattle.adj_kernels.proofs.cutting.+cuts.Goals as goal
 

@@ -3,12 +3,12 @@ use Rattle.adj_tree.specs.Code.{stop, step}
 use Rattle.adj_tree.specs.View.{act_of, code_of}
 use Rattle.adj_tree.specs.declared.stmt.Act.TheViews.{sized-More}
 use Rattle.adj_tree.specs.declared.stmt.Stmts.{size-Stmts}
+use Rattle.adj_tree.specs.Listed.{steps_onto}
 use Rattle.adj_meaning.specs.Append.{◌+++◌}
 use Rattle.adj_meaning.proofs.Appends.{append-stop}
 use Rattle.adj_kernel.specs.Lowered.{lowered_act, lowered, locals_of_act, locals_of}
 use Rattle.adj_norm.specs.Handed.{handed_by}
 use Rattle.adj_norm.specs.Locals.{local_by}
-use Rattle.adj_norm.specs.Steps.{steps_onto}
 use Rattle.adj_norm.proofs.Onto.{writes_same, leaves_less}
 use Rattle.adj_norm.proofs.statement.+lowers.Goals as goal
 

@@ -1,7 +1,7 @@
 -- What is left in the vector comes before what was made.
 use Rattle.std.proofs.Common.{◌≡◌, vec_len}
 use Rattle.adj_tree.specs.View.{code_of}
-use Rattle.adj_site.specs.Steps.{steps_onto}
+use Rattle.adj_tree.specs.Listed.{steps_onto}
 use Rattle.adj_site.proofs.step.all_before.Given as goal
 
 abbrev pub invariant-loop-last : goal.invariant-loop-last

@@ -2,11 +2,11 @@ use Rattle.std.proofs.Common.{◌≡◌, true, ◌∙◌, suc, ◌+◌, ◌-◌,
 use Rattle.std.specs.Prelude.{◌&&◌, ◌||◌, pos}
 use Rattle.adj_tree.specs.Code.{helper, work, lit, var, neg, bin, plus, minus, times, pow, power_of}
 use Rattle.adj_tree.specs.View.{op_of, term_of}
+use Rattle.adj_tree.specs.Listed.{steps_onto}
 use Rattle.adj_meaning.specs.Append.{◌+++◌}
 use Rattle.adj_meaning.specs.Rename.{rename, rename_term}
 use Rattle.adj_transpose.specs.Marked.{is_compound, count_of, own_or, own_code}
 use Rattle.adj_reverse.specs.AdjointOf.{has_own_where, temps_in_where, shrunk_where, temps_where}
-use Rattle.adj_site.specs.Steps.{steps_onto}
 use Rattle.adj_site.proofs.Plain.{term_kept}
 use Rattle.adj_share.specs.Shares.{scaled_code, guarded_power}
 use Rattle.adj_share.specs.Apart.{IsApart}

@@ -2,11 +2,11 @@ use Rattle.std.proofs.Common.{◌≡◌, ◌∙◌, refl, ap, sym}
 use Rattle.std.specs.Prelude.{pos}
 use Rattle.adj_tree.specs.Code.{Code, plain, shadow, helper, work, lit, none, assign, step}
 use Rattle.adj_tree.specs.View.{term_of, terms_of, act_of, code_of}
+use Rattle.adj_tree.specs.Listed.{steps_onto}
 use Rattle.adj_meaning.specs.Append.{◌+++◌}
 use Rattle.adj_meaning.specs.Rename.{rename, rename_term, rename_terms}
 use Rattle.adj_transpose.specs.Marked.{place}
 use Rattle.adj_reverse.specs.AdjointOf.{temps_where}
-use Rattle.adj_site.specs.Steps.{steps_onto}
 use Rattle.adj_site.proofs.Plain.{terms_kept}
 use Rattle.adj_site.proofs.Onto.{steps_pushed}
 use Rattle.adj_share.specs.Shares.{share_code}
