@@ -11,11 +11,11 @@ use Rattle.adj_names.specs.Calls.{calls_from, leads, calls_lead}
 use Rattle.adj_names.specs.Laws.{IsIn}
 use Rattle.adj_facts.specs.Reached as reached
 use Rattle.adj_reach.specs.Edges.{ReachedFrom, AreBelow}
-use Rattle.adj_symbols.specs.Scope.{number_from}
 use Rattle.adj_symbols.specs.Graph.{edge_of, edges_from, call_edges}
 use Rattle.adj_symbols.proofs.Scopes.{found_at, number_found, number_has}
 use Rattle.adj_symbols.proofs.Leading.{unit_cases, alone, has_call, leads_on, leads_itself}
 use Rattle.adj_symbols.proofs.Graphs.{one_member}
+use Rattle.adj_writes.specs.Graph.{number_from}
 
 -- ---- members
 

@@ -15,9 +15,9 @@ use Rattle.adj_names.specs.ChainFaults.{begins_chain, long_chains}
 use Rattle.adj_names.specs.Fault.{Rules, passed, faults_if, first_of, sooner}
 use Rattle.adj_names.proofs.Order.{sooner_assoc, sooner_comm, first_of-append, sooner-append}
 use Rattle.std.proofs.lemmas.Grind.{flat_map-append}
-use Rattle.adj_symbols.specs.Scope.{number_from}
 use Rattle.adj_symbols.specs.Chain.{length_at, length_of, faults_of_chain, longer}
 use Rattle.adj_symbols.proofs.Scopes.{found_at, number_found}
+use Rattle.adj_writes.specs.Graph.{number_from}
 
 -- a mark counts the same up to a limit
 pub mark_capped : (L : ℕ) (m : Mark) (a b : ℕ) → min L a ≡ min L b → min L (with_mark m a) ≡ min L (with_mark m b)

@@ -9,9 +9,9 @@ use Rattle.adj_meaning.specs.LeastSet.{row_of}
 use Rattle.adj_meaning.specs.Written.{find_unit}
 use Rattle.adj_names.specs.HeadFaults.{unit_number}
 use Rattle.adj_names.specs.Variables.{Name}
-use Rattle.adj_symbols.specs.Scope.{number_from}
 use Rattle.adj_symbols.specs.Writes.{row_at}
 use Rattle.adj_symbols.proofs.Scopes.{name_comm, number_has}
+use Rattle.adj_writes.specs.Graph.{number_from}
 
 -- no number is below the first
 least : (k : ℕ) (us : List Procedure) (x : Name) (n : ℕ) → number_from k us x ≡ Some n → k ≤ n

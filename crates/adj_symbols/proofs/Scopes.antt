@@ -9,7 +9,7 @@ use Rattle.adj_tree.specs.Code.{name_eq, Procedure}
 use Rattle.adj_tree.proofs.Names.{name_same, name_refl}
 use Rattle.adj_meaning.specs.Written.{find_unit}
 use Rattle.adj_names.specs.Variables.{Name}
-use Rattle.adj_symbols.specs.Scope.{number_from}
+use Rattle.adj_writes.specs.Graph.{number_from}
 
 -- two names are compared in either order
 pub name_comm : (x y : Name) → name_eq x y ≡ name_eq y x

@@ -7,7 +7,7 @@ use Rattle.adj_names.specs.Variables.{Name}
 use Rattle.adj_names.specs.Calls.{act_chain, chain}
 use Rattle.adj_names.specs.ChainFaults.{begins_chain}
 use Rattle.adj_names.specs.Fault.{passed, faults_if}
-use Rattle.adj_symbols.specs.Scope.{number_from}
+use Rattle.adj_writes.specs.Graph.{number_from}
 
 -- the length at a number, 0 where there is none
 abbrev pub length_at : List ℕ → Option ℕ → ℕ

@@ -5,7 +5,7 @@ use Rattle.adj_tree.specs.Code.{Procedure}
 use Rattle.adj_names.specs.Statements.{At}
 use Rattle.adj_names.specs.Calls.{Call, calls_from}
 use Rattle.adj_reach.specs.Edges.{Edges, ReachedFrom, AreBelow, flag}
-use Rattle.adj_symbols.specs.Scope.{number_from}
+use Rattle.adj_writes.specs.Graph.{number_from}
 
 pub record Links : Type 0 where
   pub nodes : ℕ

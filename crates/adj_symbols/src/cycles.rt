@@ -6,7 +6,7 @@ ghost use Rattle.adj_names.specs.Calls.{call_in, calls, calls_from, calls_lead};
 ghost use Rattle.adj_names.specs.ChainFaults.{cycles};
 ghost use Rattle.adj_names.specs.Fault.{fault, faults_if, first_of, sooner};
 ghost use Rattle.adj_symbols.specs.Graph.{edge_of, edges_from, call_edges};
-ghost use Rattle.adj_symbols.specs.Scope.{number_from};
+ghost use Rattle.adj_writes.specs.Graph.{number_from};
 
 use crate::first::First;
 use crate::graph::Graph;

@@ -8,7 +8,8 @@ ghost use Rattle.adj_tree.specs.View.{procedure_of};
 ghost use Rattle.adj_meaning.specs.Written.{find_unit};
 ghost use Rattle.adj_names.specs.Variables.{Name};
 ghost use Rattle.adj_writes.specs.Table.{value_of};
-ghost use Rattle.adj_symbols.specs.Scope.{number_from, AreNumbers};
+ghost use Rattle.adj_writes.specs.Graph.{number_from};
+ghost use Rattle.adj_symbols.specs.Scope.{AreNumbers};
 
 use crate::outline::Outline;
 use adj_tree::{Memory, Name, Unit};

@@ -6,8 +6,8 @@ use Rattle.adj_tree.specs.View.{procedure_of, code_of}
 use Rattle.adj_names.specs.Statements.{At, statements}
 use Rattle.adj_names.specs.Calls.{call_in}
 use Rattle.adj_writes.specs.View.{seen}
+use Rattle.adj_writes.specs.Graph.{number_from}
 use Rattle.adj_symbols.specs.Graph.{edge_of}
-use Rattle.adj_symbols.specs.Scope.{number_from}
 use Rattle.adj_symbols.proofs.CallsListed.{calls_listed, flat_more, flat_end}
 use Rattle.adj_symbols.proofs.cycles.add_edges.Goals as goal
 

@@ -4,8 +4,8 @@ use Rattle.std.specs.List.{flat_map}
 use Rattle.adj_tree.specs.View.{procedure_of}
 use Rattle.adj_names.specs.Calls.{call_in}
 use Rattle.adj_writes.specs.View.{seen}
+use Rattle.adj_writes.specs.Graph.{number_from}
 use Rattle.adj_symbols.specs.Graph.{edge_of}
-use Rattle.adj_symbols.specs.Scope.{number_from}
 use Rattle.adj_symbols.proofs.cycles.add_edges.Given as goal
 
 abbrev pub invariant-loop-stmt : goal.invariant-loop-stmt

@@ -4,7 +4,7 @@ use Rattle.std.proofs.lemmas.List.{drop_more}
 use Rattle.adj_tree.specs.View.{procedure_of}
 use Rattle.adj_writes.specs.Table.{value_of}
 use Rattle.adj_writes.proofs.Numbers.{numbers_more}
-use Rattle.adj_symbols.specs.Scope.{number_from}
+use Rattle.adj_writes.specs.Graph.{number_from}
 use Rattle.adj_symbols.proofs.Scopes.{number_more}
 use Rattle.adj_symbols.proofs.scope.numbers_of.Goals as goal
 

@@ -4,7 +4,7 @@ use Rattle.std.specs.Option.{option_or}
 use Rattle.adj_tree.specs.View.{procedure_of}
 use Rattle.adj_names.specs.Variables.{Name}
 use Rattle.adj_writes.specs.Table.{value_of}
-use Rattle.adj_symbols.specs.Scope.{number_from}
+use Rattle.adj_writes.specs.Graph.{number_from}
 use Rattle.adj_symbols.proofs.scope.numbers_of.Given as goal
 
 abbrev pub invariant-loop-number : goal.invariant-loop-number
