@@ -18,7 +18,7 @@ use Rattle.adj_transpose.specs.Program.{unit_at}
 use Rattle.adj_transpose.proofs.Variables.{or_false}
 use Rattle.adj_reverse.specs.Plan.{actuals_named}
 use Rattle.adj_reverse.specs.Marking.{ProgramMarks}
-use Rattle.adj_reverse.specs.Program.{has_adjoint, is_carried, all_units, adjoint_unit, emitted_adjoint, emitted_units, emitted_for}
+use Rattle.adj_reverse.specs.Program.{has_adjoint, is_carried_with, all_units, adjoint_unit_with, emitted_adjoint_with, emitted_units_with, emitted_for_with}
 use Rattle.adj_reverse.specs.Source.{CallUnits}
 use Rattle.adj_checked.proofs.Lists.{Each, each_append, each_more, each_both}
 use Rattle.adj_checked.proofs.Texts.{actuals_given, actuals_apart}
@@ -108,15 +108,15 @@ module _ (handed : Dummies) where
     kernel_code u stop w k = tt
     kernel_code u (step line a rest) w k = let here = kernel_act u line a w.0 k.0 in (here.0, each_append (AllClean u) (inner a) (statements rest) here.1 (kernel_code u rest w.1 k.1))
 
-  module _ (m : ProgramMarks) (ps : List Procedure) (head : Procedure) (vars outvars : List Bool) (named : Each (λ u. IsName u.name) ps) (known : CallUnits ps ps) (sound : Each (IsSound m ps) ps) where
+  module _ (sb : Bool) (m : ProgramMarks) (ps : List Procedure) (head : Procedure) (vars outvars : List Bool) (named : Each (λ u. IsName u.name) ps) (known : CallUnits ps ps) (sound : Each (IsSound m ps) ps) where
     carried_clean : (u : Procedure) → IsSound m ps u → shared_variables handed u ++ written_values handed u ≡ []
     carried_clean u s = let written : IsWrittenProcedure u = s.0.0.written in clean_none u (kernel_code u u.body written.body s.0.0.kernel)
 
-    unit_clean : (u : Procedure) (s : IsSound m ps u) (at_turn at_end : List (List ℕ)) → Cleared m ps head vars outvars named known sound u at_turn → Cleared m ps head vars outvars named known sound u at_end → find_unit ps u.name ≡ Some u → has_adjoint m ps head u.name ≡ true → shared_variables handed (adjoint_unit m ps (all_units m ps head) u at_turn at_end) ++ written_values handed (adjoint_unit m ps (all_units m ps head) u at_turn at_end) ≡ []
+    unit_clean : (u : Procedure) (s : IsSound m ps u) (at_turn at_end : List (List ℕ)) → Cleared sb m ps head vars outvars named known sound u at_turn → Cleared sb m ps head vars outvars named known sound u at_end → find_unit ps u.name ≡ Some u → has_adjoint m ps head u.name ≡ true → shared_variables handed (adjoint_unit_with sb m ps (all_units m ps head) u at_turn at_end) ++ written_values handed (adjoint_unit_with sb m ps (all_units m ps head) u at_turn at_end) ≡ []
     unit_clean u s at_turn at_end turned ended found there =
-        clean_none (adjoint_unit m ps (all_units m ps head) u at_turn at_end) (statements_have m ps head vars outvars named known sound u s at_turn at_end turned ended found there (AllClean (adjoint_unit m ps (all_units m ps head) u at_turn at_end)) own called (λ line c h. tt))
+        clean_none (adjoint_unit_with sb m ps (all_units m ps head) u at_turn at_end) (statements_have sb m ps head vars outvars named known sound u s at_turn at_end turned ended found there (AllClean (adjoint_unit_with sb m ps (all_units m ps head) u at_turn at_end)) own called (λ line c h. tt))
       where
-        own : (line : ℕ) (act : Act) → IsOwn act → AllClean (adjoint_unit m ps (all_units m ps head) u at_turn at_end) (line, act)
+        own : (line : ℕ) (act : Act) → IsOwn act → AllClean (adjoint_unit_with sb m ps (all_units m ps head) u at_turn at_end) (line, act)
         own line (assign x l e) o = tt
         own line (choose c a b) o = tt
         own line (loop x a b c body mark) o = tt
@@ -124,26 +124,26 @@ module _ (handed : Dummies) where
         own line (call name args) o = absurd o
         own line (runtime r) o = absurd o
 
-        called : (line : ℕ) (other : List ℕ) (args : Terms) → is_runtime other ≡ false → Fits (emitted_units m ps head vars outvars ps) (adjoint_unit m ps (all_units m ps head) u at_turn at_end) (naming (names_for m ps head vars outvars named known sound u)) other args →
-            AllClean (adjoint_unit m ps (all_units m ps head) u at_turn at_end) (line, call other (rename_terms (naming (names_for m ps head vars outvars named known sound u)) args))
+        called : (line : ℕ) (other : List ℕ) (args : Terms) → is_runtime other ≡ false → Fits (emitted_units_with sb m ps head vars outvars ps) (adjoint_unit_with sb m ps (all_units m ps head) u at_turn at_end) (naming (names_for sb m ps head vars outvars named known sound u)) other args →
+            AllClean (adjoint_unit_with sb m ps (all_units m ps head) u at_turn at_end) (line, call other (rename_terms (naming (names_for sb m ps head vars outvars named known sound u)) args))
         called line other args r f =
-            let ns = names_for m ps head vars outvars named known sound u in (
-              named_clean (adjoint_unit m ps (all_units m ps head) u at_turn at_end) other (rename_terms (naming ns) args) (map (name_in ns) f.variables) (ap (rename_terms (naming ns)) f.are ∙ renamed_names (name_in ns) f.variables)
-                  (names_apart (name_in ns) (name_apart m ps head vars outvars named known sound u s at_turn at_end turned ended) f.variables f.apart),
+            let ns = names_for sb m ps head vars outvars named known sound u in (
+              named_clean (adjoint_unit_with sb m ps (all_units m ps head) u at_turn at_end) other (rename_terms (naming ns) args) (map (name_in ns) f.variables) (ap (rename_terms (naming ns)) f.are ∙ renamed_names (name_in ns) f.variables)
+                  (names_apart (name_in ns) (name_apart sb m ps head vars outvars named known sound u s at_turn at_end turned ended) f.variables f.apart),
               tt,
             )
 
-    pub emitted_clean : Each (Found ps) ps → flat_map (λ u. shared_variables handed u ++ written_values handed u) (emitted_units m ps head vars outvars ps) ≡ []
+    pub emitted_clean : Each (Found ps) ps → flat_map (λ u. shared_variables handed u ++ written_values handed u) (emitted_units_with sb m ps head vars outvars ps) ≡ []
     emitted_clean found =
-        flat_none (λ u. shared_variables handed u ++ written_values handed u) (emitted_units m ps head vars outvars ps)
-        (each_emitted m ps head vars outvars (λ u. shared_variables handed u ++ written_values handed u ≡ []) ps
-        (each_more (IsSound m ps) (λ u. is_carried m ps head u.name ≡ true → shared_variables handed u ++ written_values handed u ≡ []) (λ u s h. carried_clean u s) ps sound)
-        (each_more (λ u. Found ps u × IsSound m ps u) (λ u. has_adjoint m ps head u.name ≡ true → shared_variables handed (emitted_adjoint m ps head vars outvars u) ++ written_values handed (emitted_adjoint m ps head vars outvars u) ≡ [])
-        (λ u k there. emitted_has m ps head vars outvars named known sound (λ u v. find_unit ps u.name ≡ Some u → has_adjoint m ps head u.name ≡ true → shared_variables handed v ++ written_values handed v ≡ []) unit_clean u k.1 k.0.0 there) ps (each_both (Found ps) (IsSound m ps) ps found sound)))
+        flat_none (λ u. shared_variables handed u ++ written_values handed u) (emitted_units_with sb m ps head vars outvars ps)
+        (each_emitted sb m ps head vars outvars (λ u. shared_variables handed u ++ written_values handed u ≡ []) ps
+        (each_more (IsSound m ps) (λ u. is_carried_with sb m ps head u.name ≡ true → shared_variables handed u ++ written_values handed u ≡ []) (λ u s h. carried_clean u s) ps sound)
+        (each_more (λ u. Found ps u × IsSound m ps u) (λ u. has_adjoint m ps head u.name ≡ true → shared_variables handed (emitted_adjoint_with sb m ps head vars outvars u) ++ written_values handed (emitted_adjoint_with sb m ps head vars outvars u) ≡ [])
+        (λ u k there. emitted_has sb m ps head vars outvars named known sound (λ u v. find_unit ps u.name ≡ Some u → has_adjoint m ps head u.name ≡ true → shared_variables handed v ++ written_values handed v ≡ []) unit_clean u k.1 k.0.0 there) ps (each_both (Found ps) (IsSound m ps) ps found sound)))
 
 pub actuals_have_none : ActualsHaveNone
-actuals_have_none rules ps checked m shadowed head vars outvars handed = go (unit_at head ps)
+actuals_have_none rules ps checked sb m shadowed head vars outvars handed = go (unit_at head ps)
   where
-    go : (us : List Procedure) → flat_map (λ u. shared_variables handed u ++ written_values handed u) (emitted_for m ps vars outvars us) ≡ []
+    go : (us : List Procedure) → flat_map (λ u. shared_variables handed u ++ written_values handed u) (emitted_for_with sb m ps vars outvars us) ≡ []
     go [] = refl
-    go (u ∷ us) = emitted_clean handed m ps u vars outvars (all_named rules ps checked) (all_known rules ps checked) (each_sound rules ps checked m shadowed) (all_there rules ps checked)
+    go (u ∷ us) = emitted_clean handed sb m ps u vars outvars (all_named rules ps checked) (all_known rules ps checked) (each_sound rules ps checked m shadowed) (all_there rules ps checked)

@@ -23,10 +23,10 @@ use Rattle.adj_transpose.specs.Marks.{Vars}
 use Rattle.adj_transpose.specs.MarkedProgram.{shadows_behind, declared_behind}
 use Rattle.adj_transpose.specs.Program.{declaration, declared_helpers}
 use Rattle.adj_transpose.proofs.Variables.{or_false, or_left, or_right, and_true, var_same}
-use Rattle.adj_reverse.specs.Plan.{Plan}
-use Rattle.adj_reverse.specs.Emission.{adjoint_body}
+use Rattle.adj_reverse.specs.Plan.{Plan, Schedules}
+use Rattle.adj_reverse.specs.Emission.{adjoint_body_with, adjoint_body}
 use Rattle.adj_reverse.specs.Marking.{ProgramMarks, first_statement, plan_in}
-use Rattle.adj_reverse.specs.Program.{works_used, temps_used, helpers_used, adjoint_names, adjoint_unit}
+use Rattle.adj_reverse.specs.Program.{works_used, temps_used, helpers_used_with, adjoint_names_with, adjoint_names, adjoint_unit_with, adjoint_unit, schedules_in}
 use Rattle.adj_reverse.proofs.Made.{separates, own, declared_alike}
 use Rattle.adj_reverse.proofs.Variables.{same_has, variables_apart, dummy_among}
 use Rattle.adj_checked.proofs.Lists.{Each, each_append, each_more}
@@ -35,10 +35,10 @@ use Rattle.adj_checked.proofs.Statements.{CallHasNone, not_false}
 use Rattle.adj_checked.proofs.Units.{dummy_names}
 use Rattle.adj_emitted.proofs.Over.{OverRuntime, OverCode, Any}
 use Rattle.adj_emitted.proofs.Called.{IsOwn, each_statement}
-use Rattle.adj_emitted.proofs.Follows.{Follows}
+use Rattle.adj_emitted.proofs.Follows.{FollowsBy, Follows}
 use Rattle.adj_emitted.proofs.Sweeps.{Allows, body_over}
 use Rattle.adj_emitted.proofs.Source.{source_code}
-use Rattle.adj_emitted.proofs.Used.{used_helpers, used_works, used_temps, all_helped}
+use Rattle.adj_emitted.proofs.Used.{used_helpers_with, used_works, used_temps, all_helped}
 use Rattle.adj_emitted.proofs.Tables.{IsFree, has_var, among, among-append, in_set, has_plain, plain_known, has_shadow, has_helper, AreHelpers, plain_no_helper, shadow_no_helper, named_free, made_no_unit}
 use Rattle.adj_emitted.proofs.Sources.{each_name, of_each}
 use Rattle.adj_emitted.proofs.Units.{each_var}
@@ -108,12 +108,15 @@ extents_bad u d h = rw (h.0, h.1.0, h.1.1) refl
 
 -- ---- the adjoint of a unit
 
-module _ (m : ProgramMarks) (ps : List Procedure) (units : List (List ℕ)) (u : Procedure) (written : IsWrittenProcedure u) (kernel : IsKernelCode u.body) (free : Each IsFree (variables u)) (calls : Each (CallHasNone ps u) (statements u.body)) (follows : Follows Any (plan_in m ps u) (first_statement ps u.name) u.body)
+module _ (sb : Bool) (m : ProgramMarks) (ps : List Procedure) (units : List (List ℕ)) (u : Procedure) (written : IsWrittenProcedure u) (kernel : IsKernelCode u.body) (free : Each IsFree (variables u)) (calls : Each (CallHasNone ps u) (statements u.body)) (follows : FollowsBy (schedules_in sb ps) Any (plan_in m ps u) (first_statement ps u.name) u.body)
     (dummies_once : AreApart u.dummies) (extent_dummy : (d : List ℕ) → is_extent d u.declarations ≡ true → has_name d u.dummies ≡ true) (extents : Each (λ d. has_bad_extents u d ≡ false) u.declarations)
     (stands : Each (λ (s : At Act). Each (λ n. (has_name n.name (variables u) ≡ true) × (has_rank u n ≡ true)) (in_act s.1)) (statements u.body))
     (at_turn at_end : List (List ℕ)) (turned : Each (λ x. (has_name x (variables u) ≡ true) × (m.shadowed u.name (plain x) ≡ true)) at_turn) (ended : Each (λ x. (has_name x (variables u) ≡ true) × (m.shadowed u.name (plain x) ≡ true)) at_end) where
   abbrev p : Plan
   p = plan_in m ps u
+
+  abbrev sc : Schedules
+  sc = schedules_in sb ps
 
   abbrev i : ℕ
   i = first_statement ps u.name
@@ -122,13 +125,13 @@ module _ (m : ProgramMarks) (ps : List Procedure) (units : List (List ℕ)) (u :
   a = m.shadowed u.name
 
   abbrev hs : List Var
-  hs = helpers_used p i u.body
+  hs = helpers_used_with sc p i u.body
 
   abbrev ns : List Named
-  ns = adjoint_names m ps units u
+  ns = adjoint_names_with sb m ps units u
 
   abbrev pub unit : Procedure
-  unit = adjoint_unit m ps units u at_turn at_end
+  unit = adjoint_unit_with sb m ps units u at_turn at_end
 
   abbrev name : Var → List ℕ
   name v = name_in ns v
@@ -140,10 +143,10 @@ module _ (m : ProgramMarks) (ps : List Procedure) (units : List (List ℕ)) (u :
   Declared x = has_name x (map (λ d. d.name) unit.declarations) ≡ true
 
   pub apart : (v w : Var) → name_eq (name v) (name w) ≡ var_eq v w
-  apart v w = separates false m ps units u (variables_apart u) (variables_inside u written) extent_dummy v w
+  apart v w = separates sb m ps units u (variables_apart u) (variables_inside u written) extent_dummy v w
 
   pub keeps : (x : List ℕ) → has_name x (variables u) ≡ true → name (plain x) ≡ x
-  keeps x h = own false m ps units u (variables_apart u) (variables_inside u written) extent_dummy x h
+  keeps x h = own sb m ps units u (variables_apart u) (variables_inside u written) extent_dummy x h
 
   -- ---- its declarations
 
@@ -167,7 +170,7 @@ module _ (m : ProgramMarks) (ps : List Procedure) (units : List (List ℕ)) (u :
       ∙ sym (map_append name (interleaved a (variables u)) hs)
 
   declared_once : AreApart (map (λ (d : Declaration). d.name) unit.declarations)
-  declared_once = subst AreApart (sym declared_names) (names_apart name apart W (all_apart p i u.body a (variables u) (variables_apart u) (used_helpers p i u.body)))
+  declared_once = subst AreApart (sym declared_names) (names_apart name apart W (all_apart sc p i u.body a (variables u) (variables_apart u) (used_helpers_with sc p i u.body)))
 
   -- a variable that is declared
   is_declared : (v : Var) → among v W ≡ true → Declared (name v)
@@ -219,17 +222,17 @@ module _ (m : ProgramMarks) (ps : List Procedure) (units : List (List ℕ)) (u :
   rank_of v = rank unit (name v)
 
   pub plain_rank : (x : List ℕ) → rank_of (plain x) ≡ rank u x
-  plain_rank x = ap length (let alike = declared_alike false m ps units u (variables_apart u) (variables_inside u written) extent_dummy in alike.plains x)
+  plain_rank x = ap length (let alike = declared_alike sb m ps units u (variables_apart u) (variables_inside u written) extent_dummy in alike.plains x)
 
   pub shadow_rank : (x : List ℕ) → a (plain x) ≡ true → rank_of (shadow x) ≡ rank u x
   shadow_rank x marked =
-      ap length (let alike = declared_alike false m ps units u (variables_apart u) (variables_inside u written) extent_dummy in alike.shadows x)
+      ap length (let alike = declared_alike sb m ps units u (variables_apart u) (variables_inside u written) extent_dummy in alike.shadows x)
       ∙ ap (λ b. length (if b then declared u.declarations (plain x) else [])) marked
 
   helper_rank : (v : Var) → among v hs ≡ true → rank_of v ≡ 0
-  helper_rank (plain x) h = absurd (let p : true ≡ false = sym h ∙ plain_no_helper x hs (used_helpers p i u.body) in cc)
-  helper_rank (shadow x) h = absurd (let p : true ≡ false = sym h ∙ shadow_no_helper x hs (used_helpers p i u.body) in cc)
-  helper_rank (helper r k) h = ap length (let alike = declared_alike false m ps units u (variables_apart u) (variables_inside u written) extent_dummy in alike.helpers r k)
+  helper_rank (plain x) h = absurd (let p : true ≡ false = sym h ∙ plain_no_helper x hs (used_helpers_with sc p i u.body) in cc)
+  helper_rank (shadow x) h = absurd (let p : true ≡ false = sym h ∙ shadow_no_helper x hs (used_helpers_with sc p i u.body) in cc)
+  helper_rank (helper r k) h = ap length (let alike = declared_alike sb m ps units u (variables_apart u) (variables_inside u written) extent_dummy in alike.helpers r k)
 
   -- a variable that stands with as many subscripts as it has extents
   abbrev Q : Var → Option ℕ → Type 0
@@ -252,7 +255,7 @@ module _ (m : ProgramMarks) (ps : List Procedure) (units : List (List ℕ)) (u :
   allows : Allows Q A a p.arrays
   allows = record {
     shadows = λ x n marked q. (
-      has_shadow (variables u) units a hs free (used_helpers p i u.body) x (plain_known (variables u) units a hs free (used_helpers p i u.body) x q.0) marked,
+      has_shadow (variables u) units a hs free (used_helpers_with sc p i u.body) x (plain_known (variables u) units a hs free (used_helpers_with sc p i u.body) x q.0) marked,
       subst (λ k. is_rank_for n k ≡ true) (plain_rank x ∙ sym (shadow_rank x marked)) q.1,
     );
     whole = λ x e q. array_rank (rank u x) (rank_of (plain x)) (plain_rank x) e;
@@ -266,29 +269,29 @@ module _ (m : ProgramMarks) (ps : List Procedure) (units : List (List ℕ)) (u :
 
   source : OverCode Q A Any u.body
   source =
-      source_code Q A S (λ x n k. (has_plain (variables u) units a hs free (used_helpers p i u.body) x k.0, subst (λ j. is_rank_for n j ≡ true) (sym (plain_rank x)) k.1)) ps u u.body written.body kernel stands calls
+      source_code Q A S (λ x n k. (has_plain (variables u) units a hs free (used_helpers_with sc p i u.body) x k.0, subst (λ j. is_rank_for n j ≡ true) (sym (plain_rank x)) k.1)) ps u u.body written.body kernel stands calls
 
   helper_stands : (v : Var) → among v hs ≡ true → Q v (Some 0)
-  helper_stands v h = (has_helper (variables u) units a hs free (used_helpers p i u.body) v h, ap (λ k. 0 == k) (helper_rank v h))
+  helper_stands v h = (has_helper (variables u) units a hs free (used_helpers_with sc p i u.body) v h, ap (λ k. 0 == k) (helper_rank v h))
 
   -- a dummy that is cleared stands whole
   stand : (xs : List (List ℕ)) → Each (λ x. (has_name x (variables u) ≡ true) × (a (plain x) ≡ true)) xs → Each (λ x. Q (plain x) None × (a (plain x) ≡ true)) xs
-  stand xs h = each_more (λ x. (has_name x (variables u) ≡ true) × (a (plain x) ≡ true)) (λ x. Q (plain x) None × (a (plain x) ≡ true)) (λ x k. ((has_plain (variables u) units a hs free (used_helpers p i u.body) x k.0, refl), k.1)) xs h
+  stand xs h = each_more (λ x. (has_name x (variables u) ≡ true) × (a (plain x) ≡ true)) (λ x. Q (plain x) None × (a (plain x) ≡ true)) (λ x k. ((has_plain (variables u) units a hs free (used_helpers_with sc p i u.body) x k.0, refl), k.1)) xs h
 
   -- its body, where of each CALL holds what is asked of it
-  pub body_with : (C : List ℕ → Terms → Type 0) → Follows C p i u.body → OverCode Q A C (adjoint_body p i u.line u.body at_turn at_end)
-  body_with C f =
-      body_over Q A C p allows (works_used p.marks i u.body) (temps_used p.marks i u.body) (λ k low high. helper_stands (helper work k) (used_works p i u.body k low high)) (λ k low high. helper_stands (helper temp k) (used_temps p i u.body k low high)) i u.line u.body at_turn at_end f source (all_helped p i u.body Q helper_stands) (omega arith) (omega arith) (stand at_turn turned) (stand at_end ended)
+  pub body_holds : (C : List ℕ → Terms → Type 0) → FollowsBy sc C p i u.body → OverCode Q A C (adjoint_body_with sc p i u.line u.body at_turn at_end)
+  body_holds C f =
+      body_over Q A C sc p allows (works_used p.marks i u.body) (temps_used p.marks i u.body) (λ k low high. helper_stands (helper work k) (used_works sc p i u.body k low high)) (λ k low high. helper_stands (helper temp k) (used_temps sc p i u.body k low high)) i u.line u.body at_turn at_end f source (all_helped sc p i u.body Q helper_stands) (omega arith) (omega arith) (stand at_turn turned) (stand at_end ended)
 
   -- each name that stands in a statement is declared, and has its rank
   abbrev T : Standing → Type 0
   T n = Declared n.name × (has_rank unit n ≡ true)
 
   known_declared : (v : Var) → has_var v ns ≡ true → Declared (name v)
-  known_declared v h = is_declared v (table_in (variables u) units a hs (used_helpers p i u.body) v h)
+  known_declared v h = is_declared v (table_in (variables u) units a hs (used_helpers_with sc p i u.body) v h)
 
   standing : Each (λ (s : At Act). Each T (in_act s.1)) (statements unit.body)
-  standing = stands_code Q A Any name T (λ v n q. (known_declared v q.0, q.1)) (adjoint_body p i u.line u.body at_turn at_end) (body_with Any follows)
+  standing = stands_code Q A Any name T (λ v n q. (known_declared v q.0, q.1)) (adjoint_body_with sc p i u.line u.body at_turn at_end) (body_holds Any follows)
 
   -- ---- no faults
 
@@ -422,24 +425,24 @@ module _ (m : ProgramMarks) (ps : List Procedure) (units : List (List ℕ)) (u :
   each_declared P f g x h = of_each P (map (λ d. d.name) unit.declarations) (subst (Each P) (sym declared_names) all) x h
     where
       made : (v : Var) → has_var v (map own_name (variables u)) ≡ false → has_var v ns ≡ true → P (name v)
-      made v n k = g (name v) (named_free (variables u) units a hs free (used_helpers p i u.body) v k) (made_no_unit (variables u) units a hs free (used_helpers p i u.body) v n k)
+      made v n k = g (name v) (named_free (variables u) units a hs free (used_helpers_with sc p i u.body) v k) (made_no_unit (variables u) units a hs free (used_helpers_with sc p i u.body) v n k)
 
       of_helpers : (vs : List Var) → AreHelpers vs → Each (λ v. among v hs ≡ true) vs → Each P (map name vs)
       of_helpers [] l k = tt
       of_helpers (plain y ∷ vs) l k = absurd l
       of_helpers (shadow y ∷ vs) l k = absurd l
-      of_helpers (helper r j ∷ vs) l k = (made (helper r j) (no_helper_own r j (variables u)) (has_helper (variables u) units a hs free (used_helpers p i u.body) (helper r j) k.0), of_helpers vs l k.1)
+      of_helpers (helper r j ∷ vs) l k = (made (helper r j) (no_helper_own r j (variables u)) (has_helper (variables u) units a hs free (used_helpers_with sc p i u.body) (helper r j) k.0), of_helpers vs l k.1)
 
       of_variables : (xs : List (List ℕ)) → Each (λ x. has_name x (variables u) ≡ true) xs → Each P (map name (interleaved a xs))
       of_variables [] k = tt
       of_variables (y ∷ xs) k = at (a (plain y)) refl (of_variables xs k.1)
         where
           at : (b : Bool) → a (plain y) ≡ b → Each P (map name (interleaved a xs)) → Each P (map name (if b then plain y ∷ shadow y ∷ interleaved a xs else plain y ∷ interleaved a xs))
-          at true e ih = (subst P (sym (keeps y k.0)) (f y k.0), (made (shadow y) (no_shadow_own y (variables u)) (has_shadow (variables u) units a hs free (used_helpers p i u.body) y k.0 e), ih))
+          at true e ih = (subst P (sym (keeps y k.0)) (f y k.0), (made (shadow y) (no_shadow_own y (variables u)) (has_shadow (variables u) units a hs free (used_helpers_with sc p i u.body) y k.0 e), ih))
           at false e ih = (subst P (sym (keeps y k.0)) (f y k.0), ih)
 
       all : Each P (map name W)
-      all = subst (Each P) (sym (map_append name (interleaved a (variables u)) hs)) (each_append P (map name (interleaved a (variables u))) (map name hs) (of_variables (variables u) (each_name (λ x. has_name x (variables u) ≡ true) (variables u) (λ x h. h))) (of_helpers hs (used_helpers p i u.body) (each_var (λ v. among v hs ≡ true) hs (λ v h. h))))
+      all = subst (Each P) (sym (map_append name (interleaved a (variables u)) hs)) (each_append P (map name (interleaved a (variables u))) (map name hs) (of_variables (variables u) (each_name (λ x. has_name x (variables u) ≡ true) (variables u) (λ x h. h))) (of_helpers hs (used_helpers_with sc p i u.body) (each_var (λ v. among v hs ≡ true) hs (λ v h. h))))
 
   -- ---- its statements
 
@@ -458,7 +461,17 @@ module _ (m : ProgramMarks) (ps : List Procedure) (units : List (List ℕ)) (u :
   arrays_there end_reversal o = tt
 
   -- each has what CALLs and calls of the runtime have
-  pub statements_have : (C : List ℕ → Terms → Type 0) → Follows C p i u.body → (G : At Act → Type 0) → ((line : ℕ) (act : Act) → IsOwn act → G (line, act)) → ((line : ℕ) (other : List ℕ) (args : Terms) → is_runtime other ≡ false → C other args → G (line, call other (rename_terms (naming ns) args))) →
+  pub statements_have : (C : List ℕ → Terms → Type 0) → FollowsBy sc C p i u.body → (G : At Act → Type 0) → ((line : ℕ) (act : Act) → IsOwn act → G (line, act)) → ((line : ℕ) (other : List ℕ) (args : Terms) → is_runtime other ≡ false → C other args → G (line, call other (rename_terms (naming ns) args))) →
       ((line : ℕ) (c : Runtime) → Each (λ x. (variable_rank unit x == 0) ≡ false) (array_arguments c) → G (line, runtime c)) → Each G (statements unit.body)
   statements_have C f G own called ran =
-      each_statement Q A C (naming ns) G own called (λ line c o. ran line (rename_runtime (naming ns) c) (arrays_there c o)) (adjoint_body p i u.line u.body at_turn at_end) (body_with C f)
+      each_statement Q A C (naming ns) G own called (λ line c o. ran line (rename_runtime (naming ns) c) (arrays_there c o)) (adjoint_body_with sc p i u.line u.body at_turn at_end) (body_holds C f)
+
+-- where no loop is reversed by a schedule
+module _ (m : ProgramMarks) (ps : List Procedure) (units : List (List ℕ)) (u : Procedure) (written : IsWrittenProcedure u) (kernel : IsKernelCode u.body) (free : Each IsFree (variables u)) (calls : Each (CallHasNone ps u) (statements u.body)) (follows : Follows Any (plan_in m ps u) (first_statement ps u.name) u.body)
+    (dummies_once : AreApart u.dummies) (extent_dummy : (d : List ℕ) → is_extent d u.declarations ≡ true → has_name d u.dummies ≡ true) (extents : Each (λ d. has_bad_extents u d ≡ false) u.declarations)
+    (stands : Each (λ (s : At Act). Each (λ n. (has_name n.name (variables u) ≡ true) × (has_rank u n ≡ true)) (in_act s.1)) (statements u.body))
+    (at_turn at_end : List (List ℕ)) (turned : Each (λ x. (has_name x (variables u) ≡ true) × (m.shadowed u.name (plain x) ≡ true)) at_turn) (ended : Each (λ x. (has_name x (variables u) ≡ true) × (m.shadowed u.name (plain x) ≡ true)) at_end) where
+  pub body_with : (C : List ℕ → Terms → Type 0) → Follows C (plan_in m ps u) (first_statement ps u.name) u.body →
+      OverCode (λ v n. (has_var v (adjoint_names m ps units u) ≡ true) × (is_rank_for n (rank (adjoint_unit m ps units u at_turn at_end) (name_in (adjoint_names m ps units u) v)) ≡ true)) (λ v. (rank (adjoint_unit m ps units u at_turn at_end) (name_in (adjoint_names m ps units u) v) == 0) ≡ false) C
+      (adjoint_body (plan_in m ps u) (first_statement ps u.name) u.line u.body at_turn at_end)
+  body_with C f = body_holds false m ps units u written kernel free calls follows dummies_once extent_dummy extents stands at_turn at_end turned ended C f

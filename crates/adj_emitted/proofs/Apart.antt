@@ -1,8 +1,8 @@
 -- The variables that an adjoint unit declares, in order: they stand once, so their names are apart.
 use Rattle.std.proofs.Common.{◌≡◌, ℕ, zero, suc, ◌<◌, Bool, true, false, List, [], ◌∷◌, ◌++◌, map, refl, sym, ap, ◌∙◌, arith, if◌then◌else◌}
-use Rattle.std.specs.Prelude.{◌&&◌, ◌||◌, ◌==◌, not}
+use Rattle.std.specs.Prelude.{◌&&◌, ◌||◌, ◌==◌, not, Some, None}
 use Rattle.std.proofs.lemmas.Bool.Decides.{nat_tests}
-use Rattle.adj_tree.specs.Code.{Var, plain, shadow, helper, Role, role_code, work, temp, control, first, stride, count, turn, name_eq, var_eq, Act, Code}
+use Rattle.adj_tree.specs.Code.{Var, plain, shadow, helper, Role, role_code, work, temp, control, first, stride, count, turn, entry, entries, kind, lower, upper, name_eq, var_eq, Act, Code}
 use Rattle.adj_tree.proofs.Names.{nat_same}
 use Rattle.adj_transpose.specs.Fresh.{has_name, reserved}
 use Rattle.adj_transpose.specs.Naming.{own, named, unit_names, AreApart}
@@ -10,8 +10,8 @@ use Rattle.adj_transpose.specs.Marks.{Vars}
 use Rattle.adj_transpose.specs.Marked.{names_in}
 use Rattle.adj_transpose.specs.Program.{helpers_from}
 use Rattle.adj_transpose.proofs.Variables.{or_false, or_left, or_right, var_refl}
-use Rattle.adj_reverse.specs.Plan.{Plan}
-use Rattle.adj_reverse.specs.Program.{helpers_among, works_used, temps_used, depth_used, tells_some, goes_back, is_do, is_loop, loop_helpers, helpers_used}
+use Rattle.adj_reverse.specs.Plan.{Plan, Schedules}
+use Rattle.adj_reverse.specs.Program.{helpers_among, works_used, temps_used, depth_used_with, tells_some_with, goes_back_with, reverses, is_do, is_loop, loop_helpers_with, reversal_helpers, all_reversal_helpers, helpers_used_with, helpers_used}
 use Rattle.adj_emitted.proofs.Tables.{has_var, among, has_var-append, among-append, has_made, has_own, among_shadows, plain_no_shadow, AreHelpers, plain_no_helper, shadow_no_helper}
 
 -- no variable stands twice
@@ -180,7 +180,7 @@ with_helpers a xs hs h b c = go (interleaved a xs) hs h (λ r k. helper_not_ther
     go (helper r k ∷ vs) ws h n b c = absurd (let p : true ≡ false = sym (or_left (var_eq (helper r k) (helper r k)) (among (helper r k) vs) (var_refl (helper r k))) ∙ n r k in cc)
 
 -- the helpers of a unit stand once
-module _ (p : Plan) (i : ℕ) (c : Code) where
+module _ (sc : Schedules) (p : Plan) (i : ℕ) (c : Code) where
   abbrev is_role : Role → ℕ → Bool
   is_role r k = k == role_code r
 
@@ -192,13 +192,51 @@ module _ (p : Plan) (i : ℕ) (c : Code) where
   of_role r vs ws h k a b = roles_apart (is_role r) (other_than r) (λ n e. ap not e) vs ws h k a b
 
   abbrev loops : (Act → Bool) → Role → List Var
-  loops kind r = loop_helpers kind r p i c
+  loops sort r = loop_helpers_with sc sort r p i c
 
-  loops_roles : (f : ℕ → Bool) (kind : Act → Bool) (r : Role) → f (role_code r) ≡ true → OfRoles f (loops kind r)
-  loops_roles f kind r h = roles_among f (λ k. goes_back kind k p i 0 c) r 1 (depth_used p i 0 c) h
+  loops_roles : (f : ℕ → Bool) (sort : Act → Bool) (r : Role) → f (role_code r) ≡ true → OfRoles f (loops sort r)
+  loops_roles f sort r h = roles_among f (λ k. goes_back_with sc sort k p i 0 c) r 1 (depth_used_with sc p i 0 c) h
 
-  loops_apart : (kind : Act → Bool) (r : Role) → VarsApart (loops kind r)
-  loops_apart kind r = among_apart (λ k. goes_back kind k p i 0 c) r 1 (depth_used p i 0 c)
+  loops_apart : (sort : Act → Bool) (r : Role) → VarsApart (loops sort r)
+  loops_apart sort r = among_apart (λ k. goes_back_with sc sort k p i 0 c) r 1 (depth_used_with sc p i 0 c)
+
+  -- ---- those of reversals
+
+  acts_roles : (f : ℕ → Bool) (z : Schedules) (r : Role) → f (role_code r) ≡ true → OfRoles f (reversal_helpers z r p i c)
+  acts_roles f z r h = roles_among f (λ k. reverses z k p i 0 c) r 1 (depth_used_with z p i 0 c) h
+
+  acts_apart : (z : Schedules) (r : Role) → VarsApart (reversal_helpers z r p i c)
+  acts_apart z r = among_apart (λ k. reverses z k p i 0 c) r 1 (depth_used_with z p i 0 c)
+
+  -- a set of roles that has those of reversals
+  abbrev HasActions : (ℕ → Bool) → Type 0
+  HasActions f = (f (role_code entry) ≡ true) × ((f (role_code entries) ≡ true) × ((f (role_code kind) ≡ true) × ((f (role_code lower) ≡ true) × (f (role_code upper) ≡ true))))
+
+  actions_roles : (f : ℕ → Bool) (z : Schedules) → HasActions f → OfRoles f (all_reversal_helpers z p i c)
+  actions_roles f None h = tt
+  actions_roles f (Some reads) h =
+      let z = Some reads in
+      roles_append f (reversal_helpers z entry p i c) _ (acts_roles f z entry h.0)
+      (roles_append f (reversal_helpers z entries p i c) _ (acts_roles f z entries h.1.0)
+      (roles_append f (reversal_helpers z kind p i c) _ (acts_roles f z kind h.1.1.0)
+      (roles_append f (reversal_helpers z lower p i c) (reversal_helpers z upper p i c) (acts_roles f z lower h.1.1.1.0) (acts_roles f z upper h.1.1.1.1))))
+
+  actions_apart : (z : Schedules) → VarsApart (all_reversal_helpers z p i c)
+  actions_apart None = tt
+  actions_apart (Some reads) =
+      let z = Some reads in
+      let two = reversal_helpers z entries p i c in
+      let three = reversal_helpers z kind p i c in
+      let four = reversal_helpers z lower p i c in
+      let five = reversal_helpers z upper p i c in
+      of_role entry (reversal_helpers z entry p i c) (two ++ (three ++ (four ++ five))) (acts_roles (is_role entry) z entry refl)
+      (roles_append (other_than entry) two _ (acts_roles (other_than entry) z entries refl) (roles_append (other_than entry) three _ (acts_roles (other_than entry) z kind refl) (roles_append (other_than entry) four five (acts_roles (other_than entry) z lower refl) (acts_roles (other_than entry) z upper refl)))) (acts_apart z entry)
+      (of_role entries two (three ++ (four ++ five)) (acts_roles (is_role entries) z entries refl)
+      (roles_append (other_than entries) three _ (acts_roles (other_than entries) z kind refl) (roles_append (other_than entries) four five (acts_roles (other_than entries) z lower refl) (acts_roles (other_than entries) z upper refl))) (acts_apart z entries)
+      (of_role kind three (four ++ five) (acts_roles (is_role kind) z kind refl) (roles_append (other_than kind) four five (acts_roles (other_than kind) z lower refl) (acts_roles (other_than kind) z upper refl)) (acts_apart z kind)
+      (of_role lower four five (acts_roles (is_role lower) z lower refl) (acts_roles (other_than lower) z upper refl) (acts_apart z lower) (acts_apart z upper))))
+
+  -- ---- all of them
 
   abbrev works : List Var
   works = helpers_from work 1 (works_used p.marks i c)
@@ -212,8 +250,11 @@ module _ (p : Plan) (i : ℕ) (c : Code) where
   temps_roles : (f : ℕ → Bool) → f 1 ≡ true → OfRoles f temps
   temps_roles f h = roles_from f temp 1 (temps_used p.marks i c) h
 
+  abbrev sixth : List Var
+  sixth = works ++ temps
+
   abbrev fifth : List Var
-  fifth = works ++ temps
+  fifth = all_reversal_helpers sc p i c ++ sixth
 
   abbrev fourth : List Var
   fourth = loops is_loop turn ++ fifth
@@ -227,39 +268,51 @@ module _ (p : Plan) (i : ℕ) (c : Code) where
   abbrev others : List Var
   others = loops is_loop count ++ second
 
-  fifth_roles : (f : ℕ → Bool) → f 0 ≡ true → f 1 ≡ true → OfRoles f fifth
-  fifth_roles f h0 h1 = roles_append f works temps (works_roles f h0) (temps_roles f h1)
+  sixth_roles : (f : ℕ → Bool) → f 0 ≡ true → f 1 ≡ true → OfRoles f sixth
+  sixth_roles f h0 h1 = roles_append f works temps (works_roles f h0) (temps_roles f h1)
 
-  fourth_roles : (f : ℕ → Bool) → f 0 ≡ true → f 1 ≡ true → f 6 ≡ true → OfRoles f fourth
-  fourth_roles f h0 h1 h6 = roles_append f (loops is_loop turn) fifth (loops_roles f is_loop turn h6) (fifth_roles f h0 h1)
+  fifth_roles : (f : ℕ → Bool) → HasActions f → f 0 ≡ true → f 1 ≡ true → OfRoles f fifth
+  fifth_roles f ha h0 h1 = roles_append f (all_reversal_helpers sc p i c) sixth (actions_roles f sc ha) (sixth_roles f h0 h1)
 
-  third_roles : (f : ℕ → Bool) → f 0 ≡ true → f 1 ≡ true → f 6 ≡ true → f 4 ≡ true → OfRoles f third
-  third_roles f h0 h1 h6 h4 = roles_append f (loops is_do stride) fourth (loops_roles f is_do stride h4) (fourth_roles f h0 h1 h6)
+  fourth_roles : (f : ℕ → Bool) → HasActions f → f 0 ≡ true → f 1 ≡ true → f 6 ≡ true → OfRoles f fourth
+  fourth_roles f ha h0 h1 h6 = roles_append f (loops is_loop turn) fifth (loops_roles f is_loop turn h6) (fifth_roles f ha h0 h1)
 
-  second_roles : (f : ℕ → Bool) → f 0 ≡ true → f 1 ≡ true → f 6 ≡ true → f 4 ≡ true → f 3 ≡ true → OfRoles f second
-  second_roles f h0 h1 h6 h4 h3 = roles_append f (loops is_do first) third (loops_roles f is_do first h3) (third_roles f h0 h1 h6 h4)
+  third_roles : (f : ℕ → Bool) → HasActions f → f 0 ≡ true → f 1 ≡ true → f 6 ≡ true → f 4 ≡ true → OfRoles f third
+  third_roles f ha h0 h1 h6 h4 = roles_append f (loops is_do stride) fourth (loops_roles f is_do stride h4) (fourth_roles f ha h0 h1 h6)
 
-  others_roles : (f : ℕ → Bool) → f 0 ≡ true → f 1 ≡ true → f 6 ≡ true → f 4 ≡ true → f 3 ≡ true → f 5 ≡ true → OfRoles f others
-  others_roles f h0 h1 h6 h4 h3 h5 = roles_append f (loops is_loop count) second (loops_roles f is_loop count h5) (second_roles f h0 h1 h6 h4 h3)
+  second_roles : (f : ℕ → Bool) → HasActions f → f 0 ≡ true → f 1 ≡ true → f 6 ≡ true → f 4 ≡ true → f 3 ≡ true → OfRoles f second
+  second_roles f ha h0 h1 h6 h4 h3 = roles_append f (loops is_do first) third (loops_roles f is_do first h3) (third_roles f ha h0 h1 h6 h4)
+
+  others_roles : (f : ℕ → Bool) → HasActions f → f 0 ≡ true → f 1 ≡ true → f 6 ≡ true → f 4 ≡ true → f 3 ≡ true → f 5 ≡ true → OfRoles f others
+  others_roles f ha h0 h1 h6 h4 h3 h5 = roles_append f (loops is_loop count) second (loops_roles f is_loop count h5) (second_roles f ha h0 h1 h6 h4 h3)
+
+  -- the roles of reversals
+  abbrev is_acting : ℕ → Bool
+  is_acting k = (k == role_code entry) || ((k == role_code entries) || ((k == role_code kind) || ((k == role_code lower) || (k == role_code upper))))
 
   others_apart : VarsApart others
   others_apart =
-      of_role count (loops is_loop count) second (loops_roles (is_role count) is_loop count refl) (second_roles (other_than count) refl refl refl refl refl) (loops_apart is_loop count)
-      (of_role first (loops is_do first) third (loops_roles (is_role first) is_do first refl) (third_roles (other_than first) refl refl refl refl) (loops_apart is_do first)
-      (of_role stride (loops is_do stride) fourth (loops_roles (is_role stride) is_do stride refl) (fourth_roles (other_than stride) refl refl refl) (loops_apart is_do stride)
-      (of_role turn (loops is_loop turn) fifth (loops_roles (is_role turn) is_loop turn refl) (fifth_roles (other_than turn) refl refl) (loops_apart is_loop turn)
-      (of_role work works temps (works_roles (is_role work) refl) (temps_roles (other_than work) refl) (from_apart work 1 (works_used p.marks i c)) (from_apart temp 1 (temps_used p.marks i c))))))
+      of_role count (loops is_loop count) second (loops_roles (is_role count) is_loop count refl) (second_roles (other_than count) (refl, (refl, (refl, (refl, refl)))) refl refl refl refl refl) (loops_apart is_loop count)
+      (of_role first (loops is_do first) third (loops_roles (is_role first) is_do first refl) (third_roles (other_than first) (refl, (refl, (refl, (refl, refl)))) refl refl refl refl) (loops_apart is_do first)
+      (of_role stride (loops is_do stride) fourth (loops_roles (is_role stride) is_do stride refl) (fourth_roles (other_than stride) (refl, (refl, (refl, (refl, refl)))) refl refl refl) (loops_apart is_do stride)
+      (of_role turn (loops is_loop turn) fifth (loops_roles (is_role turn) is_loop turn refl) (fifth_roles (other_than turn) (refl, (refl, (refl, (refl, refl)))) refl refl) (loops_apart is_loop turn)
+      (roles_apart is_acting (λ k. not (is_acting k)) (λ k e. ap not e) (all_reversal_helpers sc p i c) sixth (actions_roles is_acting sc (refl, (refl, (refl, (refl, refl))))) (sixth_roles (λ k. not (is_acting k)) refl refl) (actions_apart sc)
+      (of_role work works temps (works_roles (is_role work) refl) (temps_roles (other_than work) refl) (from_apart work 1 (works_used p.marks i c)) (from_apart temp 1 (temps_used p.marks i c)))))))
 
-  pub used_apart : VarsApart (helpers_used p i c)
-  used_apart = go (tells_some p i 0 c)
+  pub used_apart_with : VarsApart (helpers_used_with sc p i c)
+  used_apart_with = go (tells_some_with sc p i 0 c)
     where
       go : (b : Bool) → VarsApart ((if b then helper control 0 ∷ [] else []) ++ others)
-      go true = of_role control (helper control 0 ∷ []) others (refl, tt) (others_roles (other_than control) refl refl refl refl refl refl) (refl, tt) others_apart
+      go true = of_role control (helper control 0 ∷ []) others (refl, tt) (others_roles (other_than control) (refl, (refl, (refl, (refl, refl)))) refl refl refl refl refl refl) (refl, tt) others_apart
       go false = others_apart
 
   -- and so do all variables of the adjoint
-  pub all_apart : (a : Vars) (xs : List (List ℕ)) → AreApart xs → AreHelpers (helpers_used p i c) → VarsApart (interleaved a xs ++ helpers_used p i c)
-  all_apart a xs h k = with_helpers a xs (helpers_used p i c) k (interleaved_apart a xs h) used_apart
+  pub all_apart : (a : Vars) (xs : List (List ℕ)) → AreApart xs → AreHelpers (helpers_used_with sc p i c) → VarsApart (interleaved a xs ++ helpers_used_with sc p i c)
+  all_apart a xs h k = with_helpers a xs (helpers_used_with sc p i c) k (interleaved_apart a xs h) used_apart_with
+
+-- where no loop is reversed by a schedule
+pub used_apart : (p : Plan) (i : ℕ) (c : Code) → VarsApart (helpers_used p i c)
+used_apart p i c = used_apart_with None p i c
 
 -- ---- the variables that the table of an adjoint has are those that it declares
 

@@ -1,7 +1,7 @@
 -- Chains of calls in what is emitted are no longer than in the source: an adjoint calls adjoints of what its unit calls, and carried units.
 use Rattle.std.proofs.Common.{◌≡◌, ℕ, suc, ◌≤◌, max, Bool, true, false, List, [], ◌∷◌, refl, ap, ◌∙◌, arith, if◌then◌else◌}
-use Rattle.std.specs.Prelude.{◌&&◌}
-use Rattle.adj_tree.specs.Code.{Var, plain, shadow, helper, count, plus, Term, var, bin, Terms, none, Test, push_word, pop_word, zero_array, Mark, unmarked, with_count, count_from, Act, assign, choose, loop, during, call, runtime, Code, stop, step}
+use Rattle.std.specs.Prelude.{◌&&◌, not, Option, Some, None}
+use Rattle.adj_tree.specs.Code.{Var, plain, shadow, helper, first, stride, count, lower, name_eq, plus, Term, var, bin, Terms, none, Test, push_word, pop_word, zero_array, Mark, unmarked, with_count, count_from, Act, assign, choose, loop, during, call, runtime, Code, stop, step}
 use Rattle.adj_tree.proofs.Names.{name_refl}
 use Rattle.adj_meaning.specs.Append.{◌+++◌, one}
 use Rattle.adj_meaning.specs.Common.{CallsInside', CallsInside}
@@ -9,14 +9,16 @@ use Rattle.adj_meaning.specs.Rename.{rename_mark, rename_act, rename}
 use Rattle.adj_names.specs.Statements.{At, inner, statements}
 use Rattle.adj_names.specs.Variables.{Name}
 use Rattle.adj_names.specs.Calls.{with_mark, act_chain, chain}
-use Rattle.adj_transpose.specs.Marks.{next, behind, active_at}
+use Rattle.adj_transpose.specs.Marks.{Vars, next, behind, active_at}
 use Rattle.adj_transpose.specs.Marked.{code_if}
 use Rattle.adj_transpose.proofs.Variables.{or_left, or_right}
 use Rattle.adj_reverse.specs.AdjointOf.{adjoint_where}
-use Rattle.adj_reverse.specs.Plan.{Plan, is_emitted, names_of, save_group, snapshot_group}
-use Rattle.adj_reverse.specs.Emission.{is_empty, push, pop, pushes, pops, literal, adjoint_call, told_forward, told_backward, loop_forward, loop_backward, while_forward, while_backward, forward_act, forward, backward_act, backward, cleared, adjoint_body}
-use Rattle.adj_reverse.specs.Program.{calls_act, calls_in}
+use Rattle.adj_reverse.specs.Plan.{Plan, is_emitted, names_of, actuals_named, save_group, snapshot_group, step_snapshot, found_or, Schedules, Step, reversed_by}
+use Rattle.adj_reverse.specs.ReversalCode.{at_turn, arm, advance, arms, one_action, reversal, reversed_forward, reversed_backward, row_forward, row_backward}
+use Rattle.adj_reverse.specs.Emission.{is_empty, push, pop, pushes, pops, literal, adjoint_call, told_forward, told_backward, loop_forward, loop_backward, while_forward, while_backward, push_own, forward_act_with, forward_with, backward_act_with, backward_with, cleared, adjoint_body_with}
+use Rattle.adj_reverse.specs.Program.{calls_act, calls_in, turns_act, turns_in}
 use Rattle.adj_checked.proofs.Lists.{Each, each_append}
+use Rattle.adj_emitted.proofs.StepCalls.{step_body, step_mark, from_keep, from_turn, from_advance}
 use Rattle.adj_emitted.proofs.Assigned.{AreMaking, making_adjoint}
 
 -- a mark makes no chain shorter
@@ -103,7 +105,7 @@ module _ (f g : Name → ℕ) (inside : Name → Bool) (less : (x : Name) → in
 
 -- ---- the sweeps of a unit
 
-module _ (f g : Name → ℕ) (p : Plan) (n : ℕ) where
+module _ (f g : Name → ℕ) (sc : Schedules) (p : Plan) (n : ℕ) where
   low_push : (line : ℕ) (x : List ℕ) → chain f (push p line x) ≤ n
   low_push line x = omega arith
 
@@ -150,6 +152,38 @@ module _ (f g : Name → ℕ) (p : Plan) (n : ℕ) where
   while_backward_low true k line body h = omega arith
   while_backward_low false k line body h = omega arith
 
+  -- ---- loops that are reversed by schedules
+
+  arm_low : (line k j : ℕ) (c : Code) → chain f c ≤ n → chain f (arm line k j c) ≤ n
+  arm_low line k j c h = low_if f n (not (is_empty c)) _ (λ t. omega arith)
+
+  module _ (line k : ℕ) (x : Var) (j : ℕ) (keep back plain_call adjoint : Code) (low_keep : chain f keep ≤ n) (low_back : chain f back ≤ n) (low_call : chain f plain_call ≤ n) (low_adjoint : chain f adjoint ≤ n) where
+    arms_low : chain f (arms line k x keep back plain_call adjoint) ≤ n
+    arms_low =
+        low_append f n (arm line k 1 keep) (from_advance line k x keep back plain_call adjoint) (arm_low line k 1 keep low_keep)
+        (low_append f n (arm line k 2 (advance line k x plain_call)) (from_turn line k x keep back adjoint) (arm_low line k 2 (advance line k x plain_call) (omega arith))
+        (low_append f n (arm line k 3 (at_turn line k x lower adjoint)) (from_keep line k keep back) (arm_low line k 3 (at_turn line k x lower adjoint) (omega arith))
+        (low_append f n (arm line k 4 (back +++ keep)) (arm line k 5 back) (arm_low line k 4 (back +++ keep) (low_append f n back keep low_back low_keep)) (arm_low line k 5 back low_back))))
+
+    reversal_low : chain f (reversal line k x j keep back plain_call adjoint) ≤ n
+    reversal_low = let inside = arms_low in omega arith
+
+    reversed_backward_low : (unsave : Code) → chain f unsave ≤ n → chain f (reversed_backward k line x j keep back unsave plain_call adjoint) ≤ n
+    reversed_backward_low unsave h =
+        let inside = low_append f n back (reversal line k x j keep back plain_call adjoint +++ unsave) low_back (low_append f n (reversal line k x j keep back plain_call adjoint) unsave reversal_low h) in
+        omega arith
+
+  module _ (k line : ℕ) (x : Var) (a b c : Term) (save keep plain_call : Code) (low_save : chain f save ≤ n) (low_keep : chain f keep ≤ n) (low_call : chain f plain_call ≤ n) where
+    -- the loop and what is pushed behind it
+    abbrev turned : Code
+    turned = step line (loop x (var (helper first k)) b (var (helper stride k)) (plain_call +++ raised k line) unmarked) (push_own line (helper first k) (push_own line (helper stride k) (push_own line (helper count k) stop)))
+
+    turned_low : chain f turned ≤ n
+    turned_low = let inside = low_append f n plain_call (raised k line) low_call (omega arith) in omega arith
+
+    reversed_forward_low : chain f (reversed_forward k line x a b c save keep plain_call) ≤ n
+    reversed_forward_low = let inside = low_append f n save (keep +++ turned) low_save (low_append f n keep turned low_keep turned_low) in omega arith
+
   -- from what kept calls name, and from the adjoints of what adjointed calls name, chains are no longer
   abbrev pub Kept : (Name → Bool) → Type 0
   Kept called = (x : Name) → called x ≡ true → f x ≤ g x
@@ -157,7 +191,7 @@ module _ (f g : Name → ℕ) (p : Plan) (n : ℕ) where
   abbrev pub Adjointed : (Name → Bool) → Type 0
   Adjointed called = (x : Name) → called x ≡ true → f (p.callees x).adjoint ≤ g x
 
-  call_low : (i d line : ℕ) (name : Name) (args : Terms) → g name ≤ n → Kept (λ x. calls_act p.marks.kept x i (call name args)) → Adjointed (λ x. calls_act p.marks.adjointed x i (call name args)) → (chain f (forward_act p i d line (call name args)) ≤ n) × (chain f (backward_act p i d line (call name args)) ≤ n)
+  call_low : (i d line : ℕ) (name : Name) (args : Terms) → g name ≤ n → Kept (λ x. calls_act p.marks.kept x i (call name args)) → Adjointed (λ x. calls_act p.marks.adjointed x i (call name args)) → (chain f (forward_act_with sc p i d line (call name args)) ≤ n) × (chain f (backward_act_with sc p i d line (call name args)) ≤ n)
   call_low i d line name args h kept adjointed =
       let callee = p.callees name in (
         low_if f n (is_emitted p.marks i) _ (λ e.
@@ -172,52 +206,81 @@ module _ (f g : Name → ℕ) (p : Plan) (n : ℕ) where
             (low_pops line (save_group p.marks i callee (names_of args)))),
       )
 
+  -- the rows of a loop, by how it is reversed
+  abbrev rows_forth : ℕ → ℕ → ℕ → Name → Term → Term → Term → Code → Option Step → Code
+  rows_forth i d line x a b c body o = found_or o (loop_forward (is_empty (backward_with sc p (suc i) (suc d) body)) (suc d) line (plain x) a b c (forward_with sc p (suc i) (suc d) body)) (λ s. row_forward p i (suc d) line x a b c s)
+
+  abbrev rows_back : ℕ → ℕ → ℕ → Name → Code → Option Step → Code
+  rows_back i d line x body o = found_or o (loop_backward (is_empty (backward_with sc p (suc i) (suc d) body)) (suc d) line (plain x) (backward_with sc p (suc i) (suc d) body)) (λ s. row_backward p i (suc d) line x s)
+
+  -- the step call of a loop that is reversed
+  step_low : (i : ℕ) (body : Code) (m : Mark) (s : Step) → reversed_by sc p.marks.adjointed i body m ≡ Some s → chain g body ≤ n → Adjointed (λ x. calls_in p.marks.adjointed x (suc i) body) → (g s.name ≤ n) × (f (p.callees s.name).adjoint ≤ n)
+  step_low i body m s e = step_body (λ c s. chain g c ≤ n → Adjointed (λ x. calls_in p.marks.adjointed x (suc i) c) → (g s.name ≤ n) × (f (p.callees s.name).adjoint ≤ n)) there sc p.marks.adjointed i body m s e
+    where
+      there : (l : ℕ) (name : Name) (args : Terms) (read : Vars) (k : ℕ) → chain g (step l (call name args) stop) ≤ n → Adjointed (λ x. calls_in p.marks.adjointed x (suc i) (step l (call name args) stop)) → (g name ≤ n) × (f (p.callees name).adjoint ≤ n)
+      there l name args read k h adjointed = let l = adjointed name (rw ((step_mark sc p.marks.adjointed i body m s e).1, name_refl name) refl) in (omega arith, omega arith)
+
+  rows_low : (i d line : ℕ) (x : Name) (a b c : Term) (body : Code) (m : Mark) (o : Option Step) → reversed_by sc p.marks.adjointed i body m ≡ o → chain g body ≤ n → Kept (λ y. calls_in p.marks.kept y (suc i) body) → Adjointed (λ y. calls_in p.marks.adjointed y (suc i) body) → Kept (λ y. found_or o (turns_in sc p.marks.adjointed y (suc i) body) (λ s. name_eq y s.name)) →
+      (Kept (λ y. turns_in sc p.marks.adjointed y (suc i) body) → (chain f (forward_with sc p (suc i) (suc d) body) ≤ n) × (chain f (backward_with sc p (suc i) (suc d) body) ≤ n)) → (chain f (rows_forth i d line x a b c body o) ≤ n) × (chain f (rows_back i d line x body o) ≤ n)
+  rows_low i d line x a b c body m None e h kept adjointed turned rest =
+      let inside = rest turned in
+      let idle = is_empty (backward_with sc p (suc i) (suc d) body) in
+      (loop_forward_low idle (suc d) line (plain x) a b c (forward_with sc p (suc i) (suc d) body) inside.0, loop_backward_low idle (suc d) line (plain x) (backward_with sc p (suc i) (suc d) body) inside.1)
+  rows_low i d line x a b c body m (Some s) e h kept adjointed turned rest =
+      let callee = p.callees s.name in
+      let known = step_low i body m s e h adjointed in
+      let own = turned s.name (name_refl s.name) in
+      let plain_call = one line (call s.name (actuals_named s.given)) in
+      let saves = save_group p.marks i callee s.given in
+      let shot = step_snapshot callee s.read s.given in (
+        reversed_forward_low (suc d) line (plain x) a b c (pushes p line saves) (pushes p line shot) (code_if (p.marks.kept (suc i)) plain_call) (low_pushes line saves) (low_pushes line shot) (low_if f n (p.marks.kept (suc i)) plain_call (λ t. omega arith)),
+        reversed_backward_low line (suc d) (plain x) s.snapshots (pushes p line shot) (pops p line shot) plain_call (one line (adjoint_call callee s.given)) (low_pushes line shot) (low_pops line shot) (omega arith) (omega arith) (pops p line saves) (low_pops line saves),
+      )
+
   mutual
-    act_low : (i d line : ℕ) (a : Act) → act_chain g a ≤ n → Kept (λ x. calls_act p.marks.kept x i a) → Adjointed (λ x. calls_act p.marks.adjointed x i a) → (chain f (forward_act p i d line a) ≤ n) × (chain f (backward_act p i d line a) ≤ n)
-    act_low i d line (assign (plain x) subs e) h kept adjointed = (
+    act_low : (i d line : ℕ) (a : Act) → act_chain g a ≤ n → Kept (λ x. calls_act p.marks.kept x i a) → Adjointed (λ x. calls_act p.marks.adjointed x i a) → Kept (λ x. turns_act sc p.marks.adjointed x i a) → (chain f (forward_act_with sc p i d line a) ≤ n) × (chain f (backward_act_with sc p i d line a) ≤ n)
+    act_low i d line (assign (plain x) subs e) h kept adjointed turned = (
       low_if f n (p.marks.kept i) _ (λ t. low_append f n (code_if (p.marks.saved i (plain x)) (one line (runtime (push_word (plain x) subs)))) (one line (assign (plain x) subs e)) (low_one (p.marks.saved i (plain x)) line (runtime (push_word (plain x) subs)) refl) (omega arith)),
       low_append f n (code_if (p.marks.kept i && p.marks.saved i (plain x)) (one line (runtime (pop_word (plain x) subs)))) (code_if (p.marks.adjointed i) (adjoint_where (active_at p.marks i) x subs e line)) (low_one (p.marks.kept i && p.marks.saved i (plain x)) line (runtime (pop_word (plain x) subs)) refl)
           (low_if f n (p.marks.adjointed i) (adjoint_where (active_at p.marks i) x subs e line) (λ t. low_making f n (adjoint_where (active_at p.marks i) x subs e line) (making_adjoint (active_at p.marks i) x subs e line))),
     )
-    act_low i d line (assign (shadow x) subs e) h kept adjointed = (omega arith, omega arith)
-    act_low i d line (assign (helper r k) subs e) h kept adjointed = (omega arith, omega arith)
-    act_low i d line (choose c a b) h kept adjointed =
-        let first = list_low (suc i) d a (omega arith) (λ x t. kept x (or_left (calls_in p.marks.kept x (suc i) a) (calls_in p.marks.kept x (behind (suc i) a) b) t)) (λ x t. adjointed x (or_left (calls_in p.marks.adjointed x (suc i) a) (calls_in p.marks.adjointed x (behind (suc i) a) b) t)) in
-        let other = list_low (behind (suc i) a) d b (omega arith) (λ x t. kept x (or_right (calls_in p.marks.kept x (suc i) a) (calls_in p.marks.kept x (behind (suc i) a) b) t)) (λ x t. adjointed x (or_right (calls_in p.marks.adjointed x (suc i) a) (calls_in p.marks.adjointed x (behind (suc i) a) b) t)) in
-        let idle = is_empty (backward p (suc i) d a) && is_empty (backward p (behind (suc i) a) d b) in
-        let there = told_forward_low idle line (forward p (suc i) d a) 1 first.0 in
-        let back = told_forward_low idle line (forward p (behind (suc i) a) d b) 0 other.0 in (
-          low_if f n (is_emitted p.marks i) (one line (choose c (told_forward idle line (forward p (suc i) d a) 1) (told_forward idle line (forward p (behind (suc i) a) d b) 0))) (λ e. omega arith),
-          low_if f n (is_emitted p.marks i) _ (λ e. told_backward_low idle line (backward p (suc i) d a) (backward p (behind (suc i) a) d b) first.1 other.1),
+    act_low i d line (assign (shadow x) subs e) h kept adjointed turned = (omega arith, omega arith)
+    act_low i d line (assign (helper r k) subs e) h kept adjointed turned = (omega arith, omega arith)
+    act_low i d line (choose c a b) h kept adjointed turned =
+        let first = list_low (suc i) d a (omega arith) (λ x t. kept x (or_left (calls_in p.marks.kept x (suc i) a) (calls_in p.marks.kept x (behind (suc i) a) b) t)) (λ x t. adjointed x (or_left (calls_in p.marks.adjointed x (suc i) a) (calls_in p.marks.adjointed x (behind (suc i) a) b) t)) (λ x t. turned x (or_left (turns_in sc p.marks.adjointed x (suc i) a) (turns_in sc p.marks.adjointed x (behind (suc i) a) b) t)) in
+        let other = list_low (behind (suc i) a) d b (omega arith) (λ x t. kept x (or_right (calls_in p.marks.kept x (suc i) a) (calls_in p.marks.kept x (behind (suc i) a) b) t)) (λ x t. adjointed x (or_right (calls_in p.marks.adjointed x (suc i) a) (calls_in p.marks.adjointed x (behind (suc i) a) b) t)) (λ x t. turned x (or_right (turns_in sc p.marks.adjointed x (suc i) a) (turns_in sc p.marks.adjointed x (behind (suc i) a) b) t)) in
+        let idle = is_empty (backward_with sc p (suc i) d a) && is_empty (backward_with sc p (behind (suc i) a) d b) in
+        let there = told_forward_low idle line (forward_with sc p (suc i) d a) 1 first.0 in
+        let back = told_forward_low idle line (forward_with sc p (behind (suc i) a) d b) 0 other.0 in (
+          low_if f n (is_emitted p.marks i) (one line (choose c (told_forward idle line (forward_with sc p (suc i) d a) 1) (told_forward idle line (forward_with sc p (behind (suc i) a) d b) 0))) (λ e. omega arith),
+          low_if f n (is_emitted p.marks i) _ (λ e. told_backward_low idle line (backward_with sc p (suc i) d a) (backward_with sc p (behind (suc i) a) d b) first.1 other.1),
         )
-    act_low i d line (loop (plain x) a b c body m) h kept adjointed =
+    act_low i d line (loop (plain x) a b c body m) h kept adjointed turned =
         let grows = marked_grows m (chain g body) in
-        let inside = list_low (suc i) (suc d) body (omega arith) kept adjointed in
-        let idle = is_empty (backward p (suc i) (suc d) body) in (
+        let rows = rows_low i d line x a b c body m (reversed_by sc p.marks.adjointed i body m) refl (omega arith) kept adjointed turned (λ t. list_low (suc i) (suc d) body (omega arith) kept adjointed t) in (
+          low_if f n (is_emitted p.marks i) _ (λ e. low_append f n (code_if (p.marks.saved i (plain x)) (one line (runtime (push_word (plain x) none)))) _ (low_one (p.marks.saved i (plain x)) line (runtime (push_word (plain x) none)) refl) rows.0),
           low_if f n (is_emitted p.marks i) _ (λ e.
-              low_append f n (code_if (p.marks.saved i (plain x)) (one line (runtime (push_word (plain x) none)))) _ (low_one (p.marks.saved i (plain x)) line (runtime (push_word (plain x) none)) refl) (loop_forward_low idle (suc d) line (plain x) a b c (forward p (suc i) (suc d) body) inside.0)),
-          low_if f n (is_emitted p.marks i) _ (λ e.
-              low_append f n (loop_backward idle (suc d) line (plain x) (backward p (suc i) (suc d) body)) _ (loop_backward_low idle (suc d) line (plain x) (backward p (suc i) (suc d) body) inside.1)
+              low_append f n (rows_back i d line x body (reversed_by sc p.marks.adjointed i body m)) _ rows.1
               (low_append f n (code_if (p.marks.saved i (plain x)) (one line (runtime (pop_word (plain x) none)))) _ (low_one (p.marks.saved i (plain x)) line (runtime (pop_word (plain x) none)) refl) (low_one _ line (assign (shadow x) none (literal 0)) refl))),
         )
-    act_low i d line (loop (shadow x) a b c body m) h kept adjointed = (omega arith, omega arith)
-    act_low i d line (loop (helper r k) a b c body m) h kept adjointed = (omega arith, omega arith)
-    act_low i d line (during c body) h kept adjointed =
-        let inside = list_low (suc i) (suc d) body h kept adjointed in
-        let idle = is_empty (backward p (suc i) (suc d) body) in (
-          low_if f n (is_emitted p.marks i) _ (λ e. while_forward_low idle (suc d) line c (forward p (suc i) (suc d) body) inside.0),
-          low_if f n (is_emitted p.marks i) _ (λ e. while_backward_low idle (suc d) line (backward p (suc i) (suc d) body) inside.1),
+    act_low i d line (loop (shadow x) a b c body m) h kept adjointed turned = (omega arith, omega arith)
+    act_low i d line (loop (helper r k) a b c body m) h kept adjointed turned = (omega arith, omega arith)
+    act_low i d line (during c body) h kept adjointed turned =
+        let inside = list_low (suc i) (suc d) body h kept adjointed turned in
+        let idle = is_empty (backward_with sc p (suc i) (suc d) body) in (
+          low_if f n (is_emitted p.marks i) _ (λ e. while_forward_low idle (suc d) line c (forward_with sc p (suc i) (suc d) body) inside.0),
+          low_if f n (is_emitted p.marks i) _ (λ e. while_backward_low idle (suc d) line (backward_with sc p (suc i) (suc d) body) inside.1),
         )
-    act_low i d line (call name args) h kept adjointed = call_low i d line name args h kept adjointed
-    act_low i d line (runtime r) h kept adjointed = (omega arith, omega arith)
+    act_low i d line (call name args) h kept adjointed turned = call_low i d line name args h kept adjointed
+    act_low i d line (runtime r) h kept adjointed turned = (omega arith, omega arith)
 
-    list_low : (i d : ℕ) (c : Code) → chain g c ≤ n → Kept (λ x. calls_in p.marks.kept x i c) → Adjointed (λ x. calls_in p.marks.adjointed x i c) → (chain f (forward p i d c) ≤ n) × (chain f (backward p i d c) ≤ n)
-    list_low i d stop h kept adjointed = (omega arith, omega arith)
-    list_low i d (step line a rest) h kept adjointed =
-        let here = act_low i d line a (omega arith) (λ x t. kept x (or_left (calls_act p.marks.kept x i a) (calls_in p.marks.kept x (next i a) rest) t)) (λ x t. adjointed x (or_left (calls_act p.marks.adjointed x i a) (calls_in p.marks.adjointed x (next i a) rest) t)) in
-        let later = list_low (next i a) d rest (omega arith) (λ x t. kept x (or_right (calls_act p.marks.kept x i a) (calls_in p.marks.kept x (next i a) rest) t)) (λ x t. adjointed x (or_right (calls_act p.marks.adjointed x i a) (calls_in p.marks.adjointed x (next i a) rest) t)) in (
-          low_append f n (forward_act p i d line a) (forward p (next i a) d rest) here.0 later.0,
-          low_append f n (backward p (next i a) d rest) (backward_act p i d line a) later.1 here.1,
+    list_low : (i d : ℕ) (c : Code) → chain g c ≤ n → Kept (λ x. calls_in p.marks.kept x i c) → Adjointed (λ x. calls_in p.marks.adjointed x i c) → Kept (λ x. turns_in sc p.marks.adjointed x i c) → (chain f (forward_with sc p i d c) ≤ n) × (chain f (backward_with sc p i d c) ≤ n)
+    list_low i d stop h kept adjointed turned = (omega arith, omega arith)
+    list_low i d (step line a rest) h kept adjointed turned =
+        let here = act_low i d line a (omega arith) (λ x t. kept x (or_left (calls_act p.marks.kept x i a) (calls_in p.marks.kept x (next i a) rest) t)) (λ x t. adjointed x (or_left (calls_act p.marks.adjointed x i a) (calls_in p.marks.adjointed x (next i a) rest) t)) (λ x t. turned x (or_left (turns_act sc p.marks.adjointed x i a) (turns_in sc p.marks.adjointed x (next i a) rest) t)) in
+        let later = list_low (next i a) d rest (omega arith) (λ x t. kept x (or_right (calls_act p.marks.kept x i a) (calls_in p.marks.kept x (next i a) rest) t)) (λ x t. adjointed x (or_right (calls_act p.marks.adjointed x i a) (calls_in p.marks.adjointed x (next i a) rest) t)) (λ x t. turned x (or_right (turns_act sc p.marks.adjointed x i a) (turns_in sc p.marks.adjointed x (next i a) rest) t)) in (
+          low_append f n (forward_act_with sc p i d line a) (forward_with sc p (next i a) d rest) here.0 later.0,
+          low_append f n (backward_with sc p (next i a) d rest) (backward_act_with sc p i d line a) later.1 here.1,
         )
 
   cleared_low : (line : ℕ) (xs : List (List ℕ)) → chain f (cleared p line xs) ≤ n
@@ -229,7 +292,7 @@ module _ (f g : Name → ℕ) (p : Plan) (n : ℕ) where
       go false = omega arith
 
   -- so in the body of an adjoint
-  pub body_low : (i line : ℕ) (c : Code) (at_turn at_end : List (List ℕ)) → chain g c ≤ n → Kept (λ x. calls_in p.marks.kept x i c) → Adjointed (λ x. calls_in p.marks.adjointed x i c) → chain f (adjoint_body p i line c at_turn at_end) ≤ n
-  body_low i line c at_turn at_end h kept adjointed =
-      let both = list_low i 0 c h kept adjointed in
-      low_append f n (forward p i 0 c) _ both.0 (low_append f n (cleared p line at_turn) _ (cleared_low line at_turn) (low_append f n (backward p i 0 c) (cleared p line at_end) both.1 (cleared_low line at_end)))
+  pub body_low : (i line : ℕ) (c : Code) (at_turn at_end : List (List ℕ)) → chain g c ≤ n → Kept (λ x. calls_in p.marks.kept x i c) → Adjointed (λ x. calls_in p.marks.adjointed x i c) → Kept (λ x. turns_in sc p.marks.adjointed x i c) → chain f (adjoint_body_with sc p i line c at_turn at_end) ≤ n
+  body_low i line c at_turn at_end h kept adjointed turned =
+      let both = list_low i 0 c h kept adjointed turned in
+      low_append f n (forward_with sc p i 0 c) _ both.0 (low_append f n (cleared p line at_turn) _ (cleared_low line at_turn) (low_append f n (backward_with sc p i 0 c) (cleared p line at_end) both.1 (cleared_low line at_end)))

@@ -1,7 +1,7 @@
 -- The expressions in the sweeps of statements are at most 3 deeper than those in the statements.
 use Rattle.std.proofs.Common.{◌≡◌, ℕ, zero, suc, ◌+◌, ◌≤◌, max, Bool, true, false, List, [], ◌∷◌, refl, sym, subst, arith, if◌then◌else◌}
-use Rattle.std.specs.Prelude.{◌&&◌}
-use Rattle.adj_tree.specs.Code.{Var, plain, shadow, helper, work, count, plus, minus, times, quot, modulo, greater, lesser, Term, lit, var, elem, neg, bin, pow, power_of, abs, Terms, none, more, Test, compare, negation, conjunction, disjunction, Runtime, push_word, pop_word, push_array, pop_array, push_control, pop_control, zero_array, begin_reversal, count_actions, give_action, end_reversal, name_eq, Act, assign, choose, loop, during, call, runtime, Code, stop, step, Procedure}
+use Rattle.std.specs.Prelude.{◌&&◌, not, Option, Some, None}
+use Rattle.adj_tree.specs.Code.{Var, plain, shadow, helper, work, first, stride, count, lower, plus, minus, times, quot, modulo, greater, lesser, Term, lit, var, elem, neg, bin, pow, power_of, abs, Terms, none, more, Test, compare, negation, conjunction, disjunction, Runtime, push_word, pop_word, push_array, pop_array, push_control, pop_control, zero_array, begin_reversal, count_actions, give_action, end_reversal, unmarked as no_mark, name_eq, Act, assign, choose, loop, during, call, runtime, Code, stop, step, Procedure}
 use Rattle.adj_tree.specs.Size.{term_depth, terms_depth, test_depth}
 use Rattle.adj_meaning.specs.Append.{◌+++◌, one}
 use Rattle.adj_meaning.specs.Rename.{rename_term, rename_terms, rename_test, rename_runtime, rename_act, rename}
@@ -10,12 +10,14 @@ use Rattle.adj_transpose.specs.Marked.{code_if, count_of, own_code, own_or, work
 use Rattle.adj_transpose.specs.Naming.{naming}
 use Rattle.adj_transpose.specs.Program.{unmarked, unit_at}
 use Rattle.adj_reverse.specs.AdjointOf.{is_active_where, has_own_where, temps_in_where, shrunk_where, temps_where, back_where, adjoint_where}
-use Rattle.adj_reverse.specs.Plan.{Plan, is_emitted, names_of, save_group, snapshot_group}
-use Rattle.adj_reverse.specs.Emission.{is_empty, push, pop, pushes, pops, literal, with_shadows, adjoint_call, told_forward, told_backward, loop_forward, loop_backward, while_forward, while_backward, resets, reset, forward_act, forward, backward_act, backward, cleared, adjoint_body}
+use Rattle.adj_reverse.specs.Plan.{Plan, is_emitted, names_of, actuals_named, save_group, snapshot_group, step_snapshot, found_or, Schedules, Step, reversed_by}
+use Rattle.adj_reverse.specs.ReversalCode.{at_turn, arm, advance, arms, one_action, reversal, reversed_forward, reversed_backward, row_forward, row_backward}
+use Rattle.adj_reverse.specs.Emission.{is_empty, push, pop, pushes, pops, literal, with_shadows, adjoint_call, told_forward, told_backward, loop_forward, loop_backward, while_forward, while_backward, push_own, resets, reset, forward_act_with, forward_with, backward_act_with, backward_with, cleared, adjoint_body_with}
 use Rattle.adj_reverse.specs.Marking.{ProgramMarks, first_statement, plan_in}
-use Rattle.adj_reverse.specs.Program.{has_adjoint, is_carried, all_units, adjoint_names, adjoint_unit, emitted_adjoint, emitted_units, emitted_for}
+use Rattle.adj_reverse.specs.Program.{has_adjoint, is_carried_with, all_units, adjoint_names_with, adjoint_unit_with, emitted_adjoint_with, emitted_units_with, emitted_for_with, schedules_in}
 use Rattle.adj_checked.proofs.Lists.{Each, each_more}
 use Rattle.adj_emitted.specs.Emitted.{runtime_deepest, act_deepest, deepest, AreShallow, KeepsDepth}
+use Rattle.adj_emitted.proofs.StepCalls.{from_keep, from_turn, from_advance}
 use Rattle.adj_emitted.proofs.UnitFaults.{each_emitted}
 
 -- ---- lists
@@ -166,7 +168,7 @@ module _ (on : Vars) where
 
 -- ---- the sweeps of a unit
 
-module _ (p : Plan) (n : ℕ) where
+module _ (sc : Schedules) (p : Plan) (n : ℕ) where
   deep_pushes : (line : ℕ) (xs : List (List ℕ)) → deepest (pushes p line xs) ≤ n
   deep_pushes line [] = omega arith
   deep_pushes line (x ∷ xs) = deep_append n (push p line x) (pushes p line xs) (go (p.arrays (plain x))) (deep_pushes line xs)
@@ -223,8 +225,66 @@ module _ (p : Plan) (n : ℕ) where
   while_backward_deep true k line body h = omega arith
   while_backward_deep false k line body h = omega arith
 
+  -- ---- loops that are reversed by schedules
+
+  deep_named : (given : List (List ℕ)) → terms_depth (actuals_named given) ≤ n + 3
+  deep_named [] = omega arith
+  deep_named (a ∷ given) = let others = deep_named given in omega arith
+
+  arm_deep : (line k j : ℕ) (c : Code) → deepest c ≤ n + 3 → deepest (arm line k j c) ≤ n + 3
+  arm_deep line k j c h = deep_if (n + 3) (not (is_empty c)) _ (omega arith)
+
+  module _ (line k : ℕ) (x : Var) (j : ℕ) (keep back plain_call adjoint : Code) (deep_keep : deepest keep ≤ n + 3) (deep_back : deepest back ≤ n + 3) (deep_call : deepest plain_call ≤ n + 3) (deep_turned : deepest adjoint ≤ n + 3) where
+    arms_deep : deepest (arms line k x keep back plain_call adjoint) ≤ n + 3
+    arms_deep =
+        deep_append (n + 3) (arm line k 1 keep) (from_advance line k x keep back plain_call adjoint) (arm_deep line k 1 keep deep_keep)
+        (deep_append (n + 3) (arm line k 2 (advance line k x plain_call)) (from_turn line k x keep back adjoint) (arm_deep line k 2 (advance line k x plain_call) (omega arith))
+        (deep_append (n + 3) (arm line k 3 (at_turn line k x lower adjoint)) (from_keep line k keep back) (arm_deep line k 3 (at_turn line k x lower adjoint) (omega arith))
+        (deep_append (n + 3) (arm line k 4 (back +++ keep)) (arm line k 5 back) (arm_deep line k 4 (back +++ keep) (deep_append (n + 3) back keep deep_back deep_keep)) (arm_deep line k 5 back deep_back))))
+
+    reversal_deep : deepest (reversal line k x j keep back plain_call adjoint) ≤ n + 3
+    reversal_deep = let inside = arms_deep in omega arith
+
+    reversed_backward_deep : (unsave : Code) → deepest unsave ≤ n + 3 → deepest (reversed_backward k line x j keep back unsave plain_call adjoint) ≤ n + 3
+    reversed_backward_deep unsave h =
+        let inside = deep_append (n + 3) back (reversal line k x j keep back plain_call adjoint +++ unsave) deep_back (deep_append (n + 3) (reversal line k x j keep back plain_call adjoint) unsave reversal_deep h) in
+        omega arith
+
+  module _ (k line : ℕ) (x : Var) (a b c : Term) (save keep plain_call : Code) (deep_first : term_depth a ≤ n) (deep_last : term_depth b ≤ n) (deep_step : term_depth c ≤ n) (deep_save : deepest save ≤ n + 3) (deep_keep : deepest keep ≤ n + 3) (deep_call : deepest plain_call ≤ n + 3) where
+    -- the loop and what is pushed behind it
+    abbrev turned : Code
+    turned = step line (loop x (var (helper first k)) b (var (helper stride k)) (plain_call +++ raised k line) no_mark) (push_own line (helper first k) (push_own line (helper stride k) (push_own line (helper count k) stop)))
+
+    turned_deep : deepest turned ≤ n + 3
+    turned_deep = let inside = deep_raised k line plain_call deep_call in omega arith
+
+    reversed_forward_deep : deepest (reversed_forward k line x a b c save keep plain_call) ≤ n + 3
+    reversed_forward_deep = let inside = deep_append (n + 3) save (keep +++ turned) deep_save (deep_append (n + 3) keep turned deep_keep turned_deep) in omega arith
+
+  -- the rows of a loop, by how it is reversed
+  rows_deep : (i d line : ℕ) (x : List ℕ) (a b c : Term) (body : Code) (o : Option Step) → term_depth a ≤ n → term_depth b ≤ n → term_depth c ≤ n → (deepest (forward_with sc p (suc i) (suc d) body) ≤ n + 3) × (deepest (backward_with sc p (suc i) (suc d) body) ≤ n + 3) →
+      (deepest (found_or o (loop_forward (is_empty (backward_with sc p (suc i) (suc d) body)) (suc d) line (plain x) a b c (forward_with sc p (suc i) (suc d) body)) (λ s. row_forward p i (suc d) line x a b c s)) ≤ n + 3)
+      × (deepest (found_or o (loop_backward (is_empty (backward_with sc p (suc i) (suc d) body)) (suc d) line (plain x) (backward_with sc p (suc i) (suc d) body)) (λ s. row_backward p i (suc d) line x s)) ≤ n + 3)
+  rows_deep i d line x a b c body None ha hb hc inside =
+      let idle = is_empty (backward_with sc p (suc i) (suc d) body) in
+      (loop_forward_deep idle (suc d) line (plain x) a b c (forward_with sc p (suc i) (suc d) body) ha hb hc inside.0, loop_backward_deep idle (suc d) line (plain x) (backward_with sc p (suc i) (suc d) body) inside.1)
+  rows_deep i d line x a b c body (Some s) ha hb hc inside =
+      let callee = p.callees s.name in
+      let plain_call = one line (call s.name (actuals_named s.given)) in
+      let saves = save_group p.marks i callee s.given in
+      let shot = step_snapshot callee s.read s.given in
+      let saved_pushes = deep_pushes line saves in
+      let saved_pops = deep_pops line saves in
+      let shot_pushes = deep_pushes line shot in
+      let shot_pops = deep_pops line shot in
+      let named = deep_named s.given in
+      let handed = deep_given callee.shadowed callee.dummies s.given in (
+        reversed_forward_deep (suc d) line (plain x) a b c (pushes p line saves) (pushes p line shot) (code_if (p.marks.kept (suc i)) plain_call) ha hb hc (omega arith) (omega arith) (deep_if (n + 3) (p.marks.kept (suc i)) plain_call (omega arith)),
+        reversed_backward_deep line (suc d) (plain x) s.snapshots (pushes p line shot) (pops p line shot) plain_call (one line (adjoint_call callee s.given)) (omega arith) (omega arith) (omega arith) (omega arith) (pops p line saves) (omega arith),
+      )
+
   mutual
-    act_deep : (i d line : ℕ) (a : Act) → act_deepest a ≤ n → (deepest (forward_act p i d line a) ≤ n + 3) × (deepest (backward_act p i d line a) ≤ n + 3)
+    act_deep : (i d line : ℕ) (a : Act) → act_deepest a ≤ n → (deepest (forward_act_with sc p i d line a) ≤ n + 3) × (deepest (backward_act_with sc p i d line a) ≤ n + 3)
     act_deep i d line (assign (plain x) subs e) h =
         let added = deep_adjoint (active_at p.marks i) n x subs e line (omega arith) (omega arith) in (
           deep_if (n + 3) (p.marks.kept i) _ (deep_append (n + 3) (code_if (p.marks.saved i (plain x)) (one line (runtime (push_word (plain x) subs)))) (one line (assign (plain x) subs e)) (deep_if (n + 3) (p.marks.saved i (plain x)) (one line (runtime (push_word (plain x) subs))) (omega arith)) (omega arith)),
@@ -235,29 +295,26 @@ module _ (p : Plan) (n : ℕ) where
     act_deep i d line (choose c a b) h =
         let there = list_deep (suc i) d a (omega arith) in
         let other = list_deep (behind (suc i) a) d b (omega arith) in
-        let idle = is_empty (backward p (suc i) d a) && is_empty (backward p (behind (suc i) a) d b) in
-        let fa = told_forward_deep idle line (forward p (suc i) d a) 1 there.0 in
-        let fb = told_forward_deep idle line (forward p (behind (suc i) a) d b) 0 other.0 in (
-          deep_if (n + 3) (is_emitted p.marks i) (one line (choose c (told_forward idle line (forward p (suc i) d a) 1) (told_forward idle line (forward p (behind (suc i) a) d b) 0))) (omega arith),
-          deep_if (n + 3) (is_emitted p.marks i) _ (told_backward_deep idle line (backward p (suc i) d a) (backward p (behind (suc i) a) d b) there.1 other.1),
+        let idle = is_empty (backward_with sc p (suc i) d a) && is_empty (backward_with sc p (behind (suc i) a) d b) in
+        let fa = told_forward_deep idle line (forward_with sc p (suc i) d a) 1 there.0 in
+        let fb = told_forward_deep idle line (forward_with sc p (behind (suc i) a) d b) 0 other.0 in (
+          deep_if (n + 3) (is_emitted p.marks i) (one line (choose c (told_forward idle line (forward_with sc p (suc i) d a) 1) (told_forward idle line (forward_with sc p (behind (suc i) a) d b) 0))) (omega arith),
+          deep_if (n + 3) (is_emitted p.marks i) _ (told_backward_deep idle line (backward_with sc p (suc i) d a) (backward_with sc p (behind (suc i) a) d b) there.1 other.1),
         )
     act_deep i d line (loop (plain x) a b c body m) h =
-        let inside = list_deep (suc i) (suc d) body (omega arith) in
-        let idle = is_empty (backward p (suc i) (suc d) body) in (
+        let rows = rows_deep i d line x a b c body (reversed_by sc p.marks.adjointed i body m) (omega arith) (omega arith) (omega arith) (list_deep (suc i) (suc d) body (omega arith)) in (
+          deep_if (n + 3) (is_emitted p.marks i) _ (deep_append (n + 3) (code_if (p.marks.saved i (plain x)) (one line (runtime (push_word (plain x) none)))) _ (deep_if (n + 3) (p.marks.saved i (plain x)) (one line (runtime (push_word (plain x) none))) (omega arith)) rows.0),
           deep_if (n + 3) (is_emitted p.marks i) _
-              (deep_append (n + 3) (code_if (p.marks.saved i (plain x)) (one line (runtime (push_word (plain x) none)))) _ (deep_if (n + 3) (p.marks.saved i (plain x)) (one line (runtime (push_word (plain x) none))) (omega arith))
-              (loop_forward_deep idle (suc d) line (plain x) a b c (forward p (suc i) (suc d) body) (omega arith) (omega arith) (omega arith) inside.0)),
-          deep_if (n + 3) (is_emitted p.marks i) _
-              (deep_append (n + 3) (loop_backward idle (suc d) line (plain x) (backward p (suc i) (suc d) body)) _ (loop_backward_deep idle (suc d) line (plain x) (backward p (suc i) (suc d) body) inside.1)
+              (deep_append (n + 3) (found_or (reversed_by sc p.marks.adjointed i body m) (loop_backward (is_empty (backward_with sc p (suc i) (suc d) body)) (suc d) line (plain x) (backward_with sc p (suc i) (suc d) body)) (λ s. row_backward p i (suc d) line x s)) _ rows.1
               (deep_append (n + 3) (code_if (p.marks.saved i (plain x)) (one line (runtime (pop_word (plain x) none)))) (reset p.marks i line x) (deep_if (n + 3) (p.marks.saved i (plain x)) (one line (runtime (pop_word (plain x) none))) (omega arith)) (deep_if (n + 3) (resets p.marks i x) (one line (assign (shadow x) none (literal 0))) (omega arith)))),
         )
     act_deep i d line (loop (shadow x) a b c body m) h = (omega arith, omega arith)
     act_deep i d line (loop (helper r k) a b c body m) h = (omega arith, omega arith)
     act_deep i d line (during c body) h =
         let inside = list_deep (suc i) (suc d) body (omega arith) in
-        let idle = is_empty (backward p (suc i) (suc d) body) in (
-          deep_if (n + 3) (is_emitted p.marks i) _ (while_forward_deep idle (suc d) line c (forward p (suc i) (suc d) body) (omega arith) inside.0),
-          deep_if (n + 3) (is_emitted p.marks i) _ (while_backward_deep idle (suc d) line (backward p (suc i) (suc d) body) inside.1),
+        let idle = is_empty (backward_with sc p (suc i) (suc d) body) in (
+          deep_if (n + 3) (is_emitted p.marks i) _ (while_forward_deep idle (suc d) line c (forward_with sc p (suc i) (suc d) body) (omega arith) inside.0),
+          deep_if (n + 3) (is_emitted p.marks i) _ (while_backward_deep idle (suc d) line (backward_with sc p (suc i) (suc d) body) inside.1),
         )
     act_deep i d line (call name args) h =
         let callee = p.callees name in
@@ -275,13 +332,13 @@ module _ (p : Plan) (n : ℕ) where
         )
     act_deep i d line (runtime r) h = (omega arith, omega arith)
 
-    list_deep : (i d : ℕ) (c : Code) → deepest c ≤ n → (deepest (forward p i d c) ≤ n + 3) × (deepest (backward p i d c) ≤ n + 3)
+    list_deep : (i d : ℕ) (c : Code) → deepest c ≤ n → (deepest (forward_with sc p i d c) ≤ n + 3) × (deepest (backward_with sc p i d c) ≤ n + 3)
     list_deep i d stop h = (omega arith, omega arith)
     list_deep i d (step line a rest) h =
         let here = act_deep i d line a (omega arith) in
         let later = list_deep (next i a) d rest (omega arith) in (
-          deep_append (n + 3) (forward_act p i d line a) (forward p (next i a) d rest) here.0 later.0,
-          deep_append (n + 3) (backward p (next i a) d rest) (backward_act p i d line a) later.1 here.1,
+          deep_append (n + 3) (forward_act_with sc p i d line a) (forward_with sc p (next i a) d rest) here.0 later.0,
+          deep_append (n + 3) (backward_with sc p (next i a) d rest) (backward_act_with sc p i d line a) later.1 here.1,
         )
 
   deep_cleared : (line : ℕ) (xs : List (List ℕ)) → deepest (cleared p line xs) ≤ n + 3
@@ -292,10 +349,10 @@ module _ (p : Plan) (n : ℕ) where
       go true = omega arith
       go false = omega arith
 
-  body_deep : (i line : ℕ) (c : Code) (at_turn at_end : List (List ℕ)) → deepest c ≤ n → deepest (adjoint_body p i line c at_turn at_end) ≤ n + 3
+  body_deep : (i line : ℕ) (c : Code) (at_turn at_end : List (List ℕ)) → deepest c ≤ n → deepest (adjoint_body_with sc p i line c at_turn at_end) ≤ n + 3
   body_deep i line c at_turn at_end h =
       let sweeps = list_deep i 0 c h in
-      deep_append (n + 3) (forward p i 0 c) _ sweeps.0 (deep_append (n + 3) (cleared p line at_turn) _ (deep_cleared line at_turn) (deep_append (n + 3) (backward p i 0 c) (cleared p line at_end) sweeps.1 (deep_cleared line at_end)))
+      deep_append (n + 3) (forward_with sc p i 0 c) _ sweeps.0 (deep_append (n + 3) (cleared p line at_turn) _ (deep_cleared line at_turn) (deep_append (n + 3) (backward_with sc p i 0 c) (cleared p line at_end) sweeps.1 (deep_cleared line at_end)))
 
 -- ---- renaming keeps it
 
@@ -357,24 +414,24 @@ each_shallow : (n : ℕ) (us : List Procedure) → Each (λ u. deepest u.body �
 each_shallow n [] h = tt
 each_shallow n (u ∷ us) h = (h.0, each_shallow n us h.1)
 
-adjoint_deep : (n : ℕ) (m : ProgramMarks) (ps : List Procedure) (head : Procedure) (vars outvars : List Bool) (u : Procedure) → deepest u.body ≤ n → deepest (emitted_adjoint m ps head vars outvars u).body ≤ n + 3
-adjoint_deep n m ps head vars outvars u h = go (name_eq head.name u.name)
+adjoint_deep : (n : ℕ) (sb : Bool) (m : ProgramMarks) (ps : List Procedure) (head : Procedure) (vars outvars : List Bool) (u : Procedure) → deepest u.body ≤ n → deepest (emitted_adjoint_with sb m ps head vars outvars u).body ≤ n + 3
+adjoint_deep n sb m ps head vars outvars u h = go (name_eq head.name u.name)
   where
-    deep : (at_turn at_end : List (List ℕ)) → deepest (adjoint_unit m ps (all_units m ps head) u at_turn at_end).body ≤ n + 3
+    deep : (at_turn at_end : List (List ℕ)) → deepest (adjoint_unit_with sb m ps (all_units m ps head) u at_turn at_end).body ≤ n + 3
     deep at_turn at_end =
-        subst (λ k. k ≤ n + 3) (sym (renamed_list (naming (adjoint_names m ps (all_units m ps head) u)) (adjoint_body (plan_in m ps u) (first_statement ps u.name) u.line u.body at_turn at_end)))
-        (body_deep (plan_in m ps u) n (first_statement ps u.name) u.line u.body at_turn at_end h)
+        subst (λ k. k ≤ n + 3) (sym (renamed_list (naming (adjoint_names_with sb m ps (all_units m ps head) u)) (adjoint_body_with (schedules_in sb ps) (plan_in m ps u) (first_statement ps u.name) u.line u.body at_turn at_end)))
+        (body_deep (schedules_in sb ps) (plan_in m ps u) n (first_statement ps u.name) u.line u.body at_turn at_end h)
 
-    go : (b : Bool) → deepest (if b then adjoint_unit m ps (all_units m ps head) u (names_in (m.shadowed u.name) (unmarked u.dummies outvars)) (names_in (m.shadowed u.name) (unmarked u.dummies vars)) else adjoint_unit m ps (all_units m ps head) u [] []).body ≤ n + 3
+    go : (b : Bool) → deepest (if b then adjoint_unit_with sb m ps (all_units m ps head) u (names_in (m.shadowed u.name) (unmarked u.dummies outvars)) (names_in (m.shadowed u.name) (unmarked u.dummies vars)) else adjoint_unit_with sb m ps (all_units m ps head) u [] []).body ≤ n + 3
     go true = deep _ _
     go false = deep [] []
 
 pub keeps_depth : KeepsDepth
-keeps_depth n ps h m head vars outvars = go (unit_at head ps)
+keeps_depth n ps h sb m head vars outvars = go (unit_at head ps)
   where
-    go : (us : List Procedure) → AreShallow (n + 3) (emitted_for m ps vars outvars us)
+    go : (us : List Procedure) → AreShallow (n + 3) (emitted_for_with sb m ps vars outvars us)
     go [] = tt
     go (u ∷ us) =
-        each_shallow (n + 3) (emitted_units m ps u vars outvars ps)
-        (each_emitted m ps u vars outvars (λ v. deepest v.body ≤ n + 3) ps (each_more (λ v. deepest v.body ≤ n) (λ v. is_carried m ps u v.name ≡ true → deepest v.body ≤ n + 3) (λ v k t. omega arith) ps (shallow_each n ps h))
-        (each_more (λ v. deepest v.body ≤ n) (λ v. has_adjoint m ps u v.name ≡ true → deepest (emitted_adjoint m ps u vars outvars v).body ≤ n + 3) (λ v k t. adjoint_deep n m ps u vars outvars v k) ps (shallow_each n ps h)))
+        each_shallow (n + 3) (emitted_units_with sb m ps u vars outvars ps)
+        (each_emitted sb m ps u vars outvars (λ v. deepest v.body ≤ n + 3) ps (each_more (λ v. deepest v.body ≤ n) (λ v. is_carried_with sb m ps u v.name ≡ true → deepest v.body ≤ n + 3) (λ v k t. omega arith) ps (shallow_each n ps h))
+        (each_more (λ v. deepest v.body ≤ n) (λ v. has_adjoint m ps u v.name ≡ true → deepest (emitted_adjoint_with sb m ps u vars outvars v).body ≤ n + 3) (λ v k t. adjoint_deep n sb m ps u vars outvars v k) ps (shallow_each n ps h)))

@@ -1,7 +1,7 @@
 -- Which dummies emitted units hand back: carried units those that they hand back in the source, and adjoints of their unit's dummies no others.
 use Rattle.std.proofs.Common.{◌≡◌, ℕ, zero, suc, Bool, true, false, List, [], ◌∷◌, map, refl, sym, ap, ◌∙◌, subst, if◌then◌else◌}
 use Rattle.std.specs.Prelude.{◌&&◌, ◌||◌, Option, Some, None}
-use Rattle.adj_tree.specs.Code.{Var, var_eq, plain, shadow, helper, turn, name_eq, var, Terms, none, more, Act, assign, choose, loop, during, call, runtime, Code, stop, step, Procedure}
+use Rattle.adj_tree.specs.Code.{Var, var_eq, plain, shadow, helper, turn, name_eq, var, Terms, none, more, Mark, Act, assign, choose, loop, during, call, runtime, Code, stop, step, Procedure}
 use Rattle.adj_tree.proofs.Names.{name_refl}
 use Rattle.adj_text.specs.Written.{IsName, IsVariable, IsPlace, IsWrittenAct, IsWrittenCode, IsWrittenProcedure}
 use Rattle.adj_meaning.specs.LeastSet.{Dummies, row_of, rounds, dummies_in_all}
@@ -22,21 +22,24 @@ use Rattle.adj_transpose.specs.MarkedProgram.{shadows_behind}
 use Rattle.adj_transpose.specs.Program.{unmarked}
 use Rattle.adj_transpose.proofs.Variables.{and_true, or_left, or_right}
 use Rattle.adj_reverse.specs.Names.{adjoint_name}
-use Rattle.adj_reverse.specs.Plan.{names_of, actuals_named, group}
-use Rattle.adj_reverse.specs.Emission.{with_shadows, adjoint_body}
+use Rattle.adj_reverse.specs.Plan.{names_of, actuals_named, group, found_or, Schedules, Step, reversed_by, ByStep}
+use Rattle.adj_reverse.specs.Emission.{with_shadows, adjoint_body_with}
 use Rattle.adj_reverse.specs.Marking.{ProgramMarks, first_statement, callee_of, plan_in}
-use Rattle.adj_reverse.specs.Program.{calls_act, calls_in, has_adjoint, is_kept, is_carried, all_units, adjoint_names, adjoint_unit, emitted_adjoint, emitted_units}
+use Rattle.adj_reverse.specs.Program.{calls_act, calls_in, turns_act, turns_in, has_adjoint, is_carried_with, all_units, adjoint_names_with, adjoint_unit_with, emitted_adjoint_with, emitted_units_with, schedules_in}
 use Rattle.adj_reverse.specs.Source.{CallUnits}
 use Rattle.adj_reverse.proofs.EmittedUnits.{found_there, adjoint_found, carried_common, answers_there}
 use Rattle.adj_reverse.proofs.Variables.{dummy_among}
 use Rattle.adj_checked.proofs.Lists.{Each, each_front, each_behind, each_found}
 use Rattle.adj_checked.proofs.Texts.{actuals_given}
 use Rattle.adj_checked.proofs.Statements.{CallHasNone, call_of_unit}
-use Rattle.adj_checked.proofs.Callings.{calls_found_some, roots_reached}
+use Rattle.adj_checked.proofs.Callings.{calls_found_some}
+use Rattle.adj_checked.proofs.StepCalls.{turned_alone}
+use Rattle.adj_emitted.proofs.StepCalls.{step_body}
+use Rattle.adj_emitted.proofs.Carried.{kept_carried, turned_carried}
 use Rattle.adj_emitted.proofs.Actuals.{named_back}
 use Rattle.adj_emitted.proofs.CallFaults.{IsSound, Cleared, names_for, keeps, name_apart, emitted_has}
 use Rattle.adj_emitted.proofs.RenamedWrites.{renamed_writes}
-use Rattle.adj_emitted.proofs.Writing.{IsPlain, IsApart, CallWrites, KnownAct, Known, body_writes}
+use Rattle.adj_emitted.proofs.Writing.{IsPlain, IsApart, no_given, CallWrites, Turned, KnownAct, Known, body_writes}
 
 -- ---- what is handed back
 
@@ -87,16 +90,6 @@ group_each v dummies actuals s n (d ∷ ds) (a ∷ given) h k = go (dummies (pla
     go true e ih = ((λ q. k (or_left (s d && var_eq v (plain a)) (is_handed_back v (map s ds) (actuals_named given)) (rw (h d (and_true (dummies (plain d)) (actuals (plain a)) e).0, q) refl))), ih)
     go false e ih = ih
 
--- no helper is a name that is given
-no_helper : (k : ℕ) (ws : List Bool) (given : List (List ℕ)) → is_handed_back (helper turn k) ws (actuals_named given) ≡ false
-no_helper k [] given = refl
-no_helper k (w ∷ ws) [] = refl
-no_helper k (w ∷ ws) (a ∷ given) = go w (no_helper k ws given)
-  where
-    go : (b : Bool) → is_handed_back (helper turn k) ws (actuals_named given) ≡ false → ((b && false) || is_handed_back (helper turn k) ws (actuals_named given)) ≡ false
-    go true h = h
-    go false h = h
-
 place_plain : (x : Var) (s : Terms) → IsPlace x s → IsPlain x
 place_plain (plain x) s h = tt
 place_plain (shadow x) none h = absurd h
@@ -126,28 +119,31 @@ module _ (f g : Dummies) (inside : List ℕ → Bool) (v : Var) (less : (name : 
 
 -- ---- the emitted program
 
-module _ (m : ProgramMarks) (ps : List Procedure) (head : Procedure) (vars outvars : List Bool) (named : Each (λ u. IsName u.name) ps) (known : CallUnits ps ps) (sound : Each (IsSound m ps) ps) where
+module _ (sb : Bool) (m : ProgramMarks) (ps : List Procedure) (head : Procedure) (vars outvars : List Bool) (named : Each (λ u. IsName u.name) ps) (known : CallUnits ps ps) (sound : Each (IsSound m ps) ps) where
   abbrev qs : List Procedure
-  qs = emitted_units m ps head vars outvars ps
+  qs = emitted_units_with sb m ps head vars outvars ps
+
+  abbrev sc : Schedules
+  sc = schedules_in sb ps
 
   abbrev g : Dummies
   g = handed_back ps
 
   abbrev made : Procedure → Procedure
-  made u = emitted_adjoint m ps head vars outvars u
+  made u = emitted_adjoint_with sb m ps head vars outvars u
 
-  pub common : HaveInCommon (is_carried m ps head) ps qs
-  common = carried_common false m ps head vars outvars known
+  pub common : HaveInCommon (is_carried_with sb m ps head) ps qs
+  common = carried_common sb m ps head vars outvars known
 
   -- no more is handed back than in the source
   pub record HandBackNoMore (f : Dummies) : Type 0 where
-    pub carried : (name : List ℕ) → is_carried m ps head name ≡ true → (v : Var) (args : Terms) → is_handed_back v (f name) args ≡ true → is_handed_back v (handed_back ps name) args ≡ true
+    pub carried : (name : List ℕ) → is_carried_with sb m ps head name ≡ true → (v : Var) (args : Terms) → is_handed_back v (f name) args ≡ true → is_handed_back v (handed_back ps name) args ≡ true
     pub adjoint : (name : List ℕ) (w : Procedure) → find_unit ps name ≡ Some w → has_adjoint m ps head name ≡ true → (v : Var) → IsApart v → (given : List (List ℕ)) → is_handed_back v (f (adjoint_name ps w)) (with_shadows (m.shadowed name) w.dummies given) ≡ true → is_handed_back v (handed_back ps name) (actuals_named given) ≡ true
 
   -- ---- what is known of a unit whose adjoint is emitted
 
   module _ (f : Dummies) (back : HandBackNoMore f) (u : Procedure) where
-    named_known : (i : ℕ) (name : List ℕ) (w : Procedure) (given : List (List ℕ)) → find_unit ps name ≡ Some w → (m.kept i ≡ true → is_carried m ps head name ≡ true) → (m.adjointed i ≡ true → has_adjoint m ps head name ≡ true) → CallWrites f g (plan_in m ps u) i name (actuals_named given)
+    named_known : (i : ℕ) (name : List ℕ) (w : Procedure) (given : List (List ℕ)) → find_unit ps name ≡ Some w → (m.kept i ≡ true → is_carried_with sb m ps head name ≡ true) → (m.adjointed i ≡ true → has_adjoint m ps head name ≡ true) → CallWrites f g sc (plan_in m ps u) i name (actuals_named given)
     named_known i name w given found kept adjointed = record {
       kept = λ t v e. back.carried name (kept t) v (actuals_named given) e;
       adjointed = λ t v apart.
@@ -157,35 +153,52 @@ module _ (m : ProgramMarks) (ps : List Procedure) (head : Procedure) (vars outva
           subst (λ o. ((d : Var) → dummies d ≡ true → (callee_of m ps name o).written d ≡ true) → Each (λ a. var_eq v (plain a) ≡ true → is_handed_back v (g name) (actuals_named given) ≡ true) (group dummies actuals (callee_of m ps name o).dummies (names_of (actuals_named given)))) (sym found)
           (λ h. subst (λ l. Each (λ a. var_eq v (plain a) ≡ true → is_handed_back v (g name) (actuals_named given) ≡ true) (group dummies actuals w.dummies l)) (sym (named_back given))
           (group_each v dummies actuals (is_written ps w) (is_handed_back v (g name) (actuals_named given)) w.dummies given (λ d. h (plain d)) (λ e. subst (λ ws. is_handed_back v ws (actuals_named given) ≡ true) (sym (handed_written ps name w found)) e)));
-      own = λ k. no_helper k (g name) given;
+      own = λ k. no_given turn k (g name) given;
     }
 
+    -- the step call of a loop that is reversed by a schedule
+    step_turned : (i : ℕ) (body : Code) (mark : Mark) (s : Step) → reversed_by sc m.adjointed i body mark ≡ Some s → Each (CallHasNone ps u) (statements body) → IsWrittenCode body → IsKernelCode body → is_carried_with sb m ps head s.name ≡ true → Turned f g sc (plan_in m ps u) body s
+    step_turned i body mark s e = step_body (λ c s. Each (CallHasNone ps u) (statements c) → IsWrittenCode c → IsKernelCode c → is_carried_with sb m ps head s.name ≡ true → Turned f g sc (plan_in m ps u) c s) there sc m.adjointed i body mark s e
+      where
+        there : (line : ℕ) (name : List ℕ) (args : Terms) (read : Vars) (n : ℕ) → Each (CallHasNone ps u) (statements (step line (call name args) stop)) → IsWrittenCode (step line (call name args) stop) → IsKernelCode (step line (call name args) stop) → is_carried_with sb m ps head name ≡ true →
+            Turned f g sc (plan_in m ps u) (step line (call name args) stop) (record { name = name; given = names_of args; read = read; snapshots = n })
+        there line name args read n c w k carried v h =
+            let given = actuals_given args k.0 w.0.1 in
+            let same : actuals_named (names_of args) ≡ args = ap actuals_named (ap names_of given.1 ∙ named_back given.0) ∙ sym given.1 in
+            or_left (is_handed_back v (g name) args) false (back.carried name carried v args (subst (λ l. is_handed_back v (f name) l ≡ true) same h))
+
+    loop_known : (i : ℕ) (body : Code) (mark : Mark) → Each (CallHasNone ps u) (statements body) → IsWrittenCode body → IsKernelCode body → (o : Option Step) → reversed_by sc m.adjointed i body mark ≡ o → ((n : List ℕ) → found_or o (turns_in sc m.adjointed n (suc i) body) (λ t. name_eq n t.name) ≡ true → is_carried_with sb m ps head n ≡ true) →
+        ByStep o (Unit {0}) (Turned f g sc (plan_in m ps u) body) × ((n : List ℕ) → turns_in sc m.adjointed n (suc i) body ≡ true → is_carried_with sb m ps head n ≡ true)
+    loop_known i body mark inside w k None e turned = (tt, turned)
+    loop_known i body mark inside w k (Some s) e turned = (step_turned i body mark s e inside w k (turned s.name (name_refl s.name)), λ n h. absurd (let c : true ≡ false = sym h ∙ turned_alone sc m.adjointed i body mark s n (suc i) e in cc))
+
     mutual
-      act_known : (i line : ℕ) (a : Act) → CallHasNone ps u (line, a) → Each (CallHasNone ps u) (inner a) → IsWrittenAct a → IsKernelAct a → ((n : List ℕ) → calls_act m.kept n i a ≡ true → is_carried m ps head n ≡ true) → ((n : List ℕ) → calls_act m.adjointed n i a ≡ true → has_adjoint m ps head n ≡ true) → KnownAct f g (plan_in m ps u) i a
-      act_known i line (assign x subs e) c inside w k kept adjointed = place_plain x subs w.0
-      act_known i line (choose t a b) c inside w k kept adjointed = (
-        code_known (suc i) a (each_front (CallHasNone ps u) (statements a) (statements b) inside) w.1 k.0 (λ n h. kept n (or_left (calls_in m.kept n (suc i) a) (calls_in m.kept n (behind (suc i) a) b) h)) (λ n h. adjointed n (or_left (calls_in m.adjointed n (suc i) a) (calls_in m.adjointed n (behind (suc i) a) b) h)),
-        code_known (behind (suc i) a) b (each_behind (CallHasNone ps u) (statements a) (statements b) inside) w.2 k.1 (λ n h. kept n (or_right (calls_in m.kept n (suc i) a) (calls_in m.kept n (behind (suc i) a) b) h)) (λ n h. adjointed n (or_right (calls_in m.adjointed n (suc i) a) (calls_in m.adjointed n (behind (suc i) a) b) h)),
+      act_known : (i line : ℕ) (a : Act) → CallHasNone ps u (line, a) → Each (CallHasNone ps u) (inner a) → IsWrittenAct a → IsKernelAct a → ((n : List ℕ) → calls_act m.kept n i a ≡ true → is_carried_with sb m ps head n ≡ true) → ((n : List ℕ) → calls_act m.adjointed n i a ≡ true → has_adjoint m ps head n ≡ true) → ((n : List ℕ) → turns_act sc m.adjointed n i a ≡ true → is_carried_with sb m ps head n ≡ true) → KnownAct f g sc (plan_in m ps u) i a
+      act_known i line (assign x subs e) c inside w k kept adjointed turned = place_plain x subs w.0
+      act_known i line (choose t a b) c inside w k kept adjointed turned = (
+        code_known (suc i) a (each_front (CallHasNone ps u) (statements a) (statements b) inside) w.1 k.0 (λ n h. kept n (or_left (calls_in m.kept n (suc i) a) (calls_in m.kept n (behind (suc i) a) b) h)) (λ n h. adjointed n (or_left (calls_in m.adjointed n (suc i) a) (calls_in m.adjointed n (behind (suc i) a) b) h)) (λ n h. turned n (or_left (turns_in sc m.adjointed n (suc i) a) (turns_in sc m.adjointed n (behind (suc i) a) b) h)),
+        code_known (behind (suc i) a) b (each_behind (CallHasNone ps u) (statements a) (statements b) inside) w.2 k.1 (λ n h. kept n (or_right (calls_in m.kept n (suc i) a) (calls_in m.kept n (behind (suc i) a) b) h)) (λ n h. adjointed n (or_right (calls_in m.adjointed n (suc i) a) (calls_in m.adjointed n (behind (suc i) a) b) h)) (λ n h. turned n (or_right (turns_in sc m.adjointed n (suc i) a) (turns_in sc m.adjointed n (behind (suc i) a) b) h)),
       )
-      act_known i line (loop x a b c body mark) d inside w k kept adjointed = (variable_plain x w.0, code_known (suc i) body inside w.4 k.1 kept adjointed)
-      act_known i line (during t body) c inside w k kept adjointed = code_known (suc i) body inside w.1 k kept adjointed
-      act_known i line (call name args) c inside w k kept adjointed =
+      act_known i line (loop x a b c body mark) d inside w k kept adjointed turned =
+          let rows = loop_known i body mark inside w.4 k.1 (reversed_by sc m.adjointed i body mark) refl turned in (variable_plain x w.0, (rows.0, code_known (suc i) body inside w.4 k.1 kept adjointed rows.1))
+      act_known i line (during t body) c inside w k kept adjointed turned = code_known (suc i) body inside w.1 k kept adjointed turned
+      act_known i line (call name args) c inside w k kept adjointed turned =
           let unit = call_of_unit ps u line name args c in
           let given = actuals_given args k w.1 in
-          subst (CallWrites f g (plan_in m ps u) i name) (sym given.1) (named_known i name unit.unit given.0 unit.found (λ t. kept name (rw (t, name_refl name) refl)) (λ t. adjointed name (rw (t, name_refl name) refl)))
-      act_known i line (runtime r) c inside w k kept adjointed = k
+          subst (CallWrites f g sc (plan_in m ps u) i name) (sym given.1) (named_known i name unit.unit given.0 unit.found (λ t. kept name (rw (t, name_refl name) refl)) (λ t. adjointed name (rw (t, name_refl name) refl)))
+      act_known i line (runtime r) c inside w k kept adjointed turned = k
 
-      code_known : (i : ℕ) (c : Code) → Each (CallHasNone ps u) (statements c) → IsWrittenCode c → IsKernelCode c → ((n : List ℕ) → calls_in m.kept n i c ≡ true → is_carried m ps head n ≡ true) → ((n : List ℕ) → calls_in m.adjointed n i c ≡ true → has_adjoint m ps head n ≡ true) → Known f g (plan_in m ps u) i c
-      code_known i stop c w k kept adjointed = tt
-      code_known i (step line a rest) c w k kept adjointed = (
-        act_known i line a c.0 (each_front (CallHasNone ps u) (inner a) (statements rest) c.1) w.0 k.0 (λ n h. kept n (or_left (calls_act m.kept n i a) (calls_in m.kept n (next i a) rest) h)) (λ n h. adjointed n (or_left (calls_act m.adjointed n i a) (calls_in m.adjointed n (next i a) rest) h)),
-        code_known (next i a) rest (each_behind (CallHasNone ps u) (inner a) (statements rest) c.1) w.1 k.1 (λ n h. kept n (or_right (calls_act m.kept n i a) (calls_in m.kept n (next i a) rest) h)) (λ n h. adjointed n (or_right (calls_act m.adjointed n i a) (calls_in m.adjointed n (next i a) rest) h)),
+      code_known : (i : ℕ) (c : Code) → Each (CallHasNone ps u) (statements c) → IsWrittenCode c → IsKernelCode c → ((n : List ℕ) → calls_in m.kept n i c ≡ true → is_carried_with sb m ps head n ≡ true) → ((n : List ℕ) → calls_in m.adjointed n i c ≡ true → has_adjoint m ps head n ≡ true) → ((n : List ℕ) → turns_in sc m.adjointed n i c ≡ true → is_carried_with sb m ps head n ≡ true) → Known f g sc (plan_in m ps u) i c
+      code_known i stop c w k kept adjointed turned = tt
+      code_known i (step line a rest) c w k kept adjointed turned = (
+        act_known i line a c.0 (each_front (CallHasNone ps u) (inner a) (statements rest) c.1) w.0 k.0 (λ n h. kept n (or_left (calls_act m.kept n i a) (calls_in m.kept n (next i a) rest) h)) (λ n h. adjointed n (or_left (calls_act m.adjointed n i a) (calls_in m.adjointed n (next i a) rest) h)) (λ n h. turned n (or_left (turns_act sc m.adjointed n i a) (turns_in sc m.adjointed n (next i a) rest) h)),
+        code_known (next i a) rest (each_behind (CallHasNone ps u) (inner a) (statements rest) c.1) w.1 k.1 (λ n h. kept n (or_right (calls_act m.kept n i a) (calls_in m.kept n (next i a) rest) h)) (λ n h. adjointed n (or_right (calls_act m.adjointed n i a) (calls_in m.adjointed n (next i a) rest) h)) (λ n h. turned n (or_right (turns_act sc m.adjointed n i a) (turns_in sc m.adjointed n (next i a) rest) h)),
       )
 
-    pub unit_known : IsSound m ps u → find_unit ps u.name ≡ Some u → has_adjoint m ps head u.name ≡ true → Known f g (plan_in m ps u) (first_statement ps u.name) u.body
+    pub unit_known : IsSound m ps u → find_unit ps u.name ≡ Some u → has_adjoint m ps head u.name ≡ true → Known f g sc (plan_in m ps u) (first_statement ps u.name) u.body
     unit_known s found there =
-        code_known (first_statement ps u.name) u.body s.0.0.calls written.body s.0.0.kernel (λ n c. roots_reached (is_kept m ps head) (λ i. true) ps u.name u found n (calls_found_some (has_adjoint m ps head) m.kept n 0 ps u.name u found there c))
-        (λ n c. answers_there false m ps head vars outvars known n (calls_found_some (has_adjoint m ps head) m.adjointed n 0 ps u.name u found there c))
+        code_known (first_statement ps u.name) u.body s.0.0.calls written.body s.0.0.kernel (kept_carried sb m ps head u found there)
+        (λ n c. answers_there sb m ps head vars outvars known n (calls_found_some (has_adjoint m ps head) m.adjointed n 0 ps u.name u found there c)) (turned_carried sb m ps head u found there)
       where
         written : IsWrittenProcedure u
         written = s.0.0.written
@@ -194,37 +207,37 @@ module _ (m : ProgramMarks) (ps : List Procedure) (head : Procedure) (vars outva
 
   module _ (f : Dummies) (back : HandBackNoMore f) where
     -- a carried unit
-    pub carried_writes : (u : Procedure) → find_unit ps u.name ≡ Some u → is_carried m ps head u.name ≡ true → (v : Var) → writes f v u.body ≡ true → writes g v u.body ≡ true
-    carried_writes u found h v e = inside_writes f g (is_carried m ps head) v (λ name k args. back.carried name k v args) u.body (common.closed u.name u h found) e
+    pub carried_writes : (u : Procedure) → find_unit ps u.name ≡ Some u → is_carried_with sb m ps head u.name ≡ true → (v : Var) → writes f v u.body ≡ true → writes g v u.body ≡ true
+    carried_writes u found h v e = inside_writes f g (is_carried_with sb m ps head) v (λ name k args. back.carried name k v args) u.body (common.closed u.name u h found) e
 
-    pub unit_writes : (u : Procedure) (s : IsSound m ps u) (at_turn at_end : List (List ℕ)) → Cleared m ps head vars outvars named known sound u at_turn → Cleared m ps head vars outvars named known sound u at_end → find_unit ps u.name ≡ Some u → has_adjoint m ps head u.name ≡ true → (d : List ℕ) → has_name d (variables u) ≡ true →
-        writes f (plain d) (adjoint_unit m ps (all_units m ps head) u at_turn at_end).body ≡ true → writes g (plain d) u.body ≡ true
+    pub unit_writes : (u : Procedure) (s : IsSound m ps u) (at_turn at_end : List (List ℕ)) → Cleared sb m ps head vars outvars named known sound u at_turn → Cleared sb m ps head vars outvars named known sound u at_end → find_unit ps u.name ≡ Some u → has_adjoint m ps head u.name ≡ true → (d : List ℕ) → has_name d (variables u) ≡ true →
+        writes f (plain d) (adjoint_unit_with sb m ps (all_units m ps head) u at_turn at_end).body ≡ true → writes g (plain d) u.body ≡ true
     unit_writes u s at_turn at_end turned ended found there d k e =
-        body_writes f g (plan_in m ps u) d (first_statement ps u.name) u.line u.body at_turn at_end (unit_known f back u s found there)
-        (sym (renamed_writes f (naming ns) (name_apart m ps head vars outvars named known sound u s at_turn at_end turned ended) (plain d) body)
-        ∙ subst (λ z. writes f (plain z) (rename (naming ns) body) ≡ true) (sym (keeps m ps head vars outvars named known sound u s at_turn at_end turned ended d k)) e)
+        body_writes f g sc (plan_in m ps u) d (first_statement ps u.name) u.line u.body at_turn at_end (unit_known f back u s found there)
+        (sym (renamed_writes f (naming ns) (name_apart sb m ps head vars outvars named known sound u s at_turn at_end turned ended) (plain d) body)
+        ∙ subst (λ z. writes f (plain z) (rename (naming ns) body) ≡ true) (sym (keeps sb m ps head vars outvars named known sound u s at_turn at_end turned ended d k)) e)
       where
         ns : List Named
-        ns = names_for m ps head vars outvars named known sound u
+        ns = names_for sb m ps head vars outvars named known sound u
 
         body : Code
-        body = adjoint_body (plan_in m ps u) (first_statement ps u.name) u.line u.body at_turn at_end
+        body = adjoint_body_with (schedules_in sb ps) (plan_in m ps u) (first_statement ps u.name) u.line u.body at_turn at_end
 
     -- of the variables of its unit an adjoint
-    pub made_writes : (u : Procedure) → IsSound m ps u → find_unit ps u.name ≡ Some u → has_adjoint m ps head u.name ≡ true → (d : List ℕ) → has_name d (variables u) ≡ true → writes f (plain d) (emitted_adjoint m ps head vars outvars u).body ≡ true → writes g (plain d) u.body ≡ true
+    pub made_writes : (u : Procedure) → IsSound m ps u → find_unit ps u.name ≡ Some u → has_adjoint m ps head u.name ≡ true → (d : List ℕ) → has_name d (variables u) ≡ true → writes f (plain d) (emitted_adjoint_with sb m ps head vars outvars u).body ≡ true → writes g (plain d) u.body ≡ true
     made_writes u s =
-        emitted_has m ps head vars outvars named known sound (λ u v. find_unit ps u.name ≡ Some u → has_adjoint m ps head u.name ≡ true → (d : List ℕ) → has_name d (variables u) ≡ true → writes f (plain d) v.body ≡ true → writes g (plain d) u.body ≡ true) unit_writes u s
+        emitted_has sb m ps head vars outvars named known sound (λ u v. find_unit ps u.name ≡ Some u → has_adjoint m ps head u.name ≡ true → (d : List ℕ) → has_name d (variables u) ≡ true → writes f (plain d) v.body ≡ true → writes g (plain d) u.body ≡ true) unit_writes u s
 
   -- ---- round by round
 
-  made_dummies : (u : Procedure) → (made u).dummies ≡ shadows_behind (m.shadowed u.name) (adjoint_names m ps (all_units m ps head) u) u.dummies
+  made_dummies : (u : Procedure) → (made u).dummies ≡ shadows_behind (m.shadowed u.name) (adjoint_names_with sb m ps (all_units m ps head) u) u.dummies
   made_dummies u = go (name_eq head.name u.name)
     where
-      go : (b : Bool) → (if b then adjoint_unit m ps (all_units m ps head) u (names_in (m.shadowed u.name) (unmarked u.dummies outvars)) (names_in (m.shadowed u.name) (unmarked u.dummies vars)) else adjoint_unit m ps (all_units m ps head) u [] []).dummies ≡ shadows_behind (m.shadowed u.name) (adjoint_names m ps (all_units m ps head) u) u.dummies
+      go : (b : Bool) → (if b then adjoint_unit_with sb m ps (all_units m ps head) u (names_in (m.shadowed u.name) (unmarked u.dummies outvars)) (names_in (m.shadowed u.name) (unmarked u.dummies vars)) else adjoint_unit_with sb m ps (all_units m ps head) u [] []).dummies ≡ shadows_behind (m.shadowed u.name) (adjoint_names_with sb m ps (all_units m ps head) u) u.dummies
       go true = refl
       go false = refl
 
-  module _ (t : Procedure → List ℕ → Bool) (of_carried : (u : Procedure) → find_unit ps u.name ≡ Some u → is_carried m ps head u.name ≡ true → (d : List ℕ) → t u d ≡ true → is_written ps u d ≡ true)
+  module _ (t : Procedure → List ℕ → Bool) (of_carried : (u : Procedure) → find_unit ps u.name ≡ Some u → is_carried_with sb m ps head u.name ≡ true → (d : List ℕ) → t u d ≡ true → is_written ps u d ≡ true)
       (of_adjoint : (u : Procedure) → find_unit ps u.name ≡ Some u → has_adjoint m ps head u.name ≡ true → (d : List ℕ) → has_name d u.dummies ≡ true → t (made u) d ≡ true → is_written ps u d ≡ true) where
     abbrev row : Procedure → List Bool
     row u = map (t u) u.dummies
@@ -232,21 +245,21 @@ module _ (m : ProgramMarks) (ps : List Procedure) (head : Procedure) (vars outva
     abbrev rows : Dummies
     rows = row_of qs (map row qs)
 
-    carried_no_more : (name : List ℕ) → is_carried m ps head name ≡ true → (v : Var) (args : Terms) → is_handed_back v (rows name) args ≡ true → is_handed_back v (handed_back ps name) args ≡ true
+    carried_no_more : (name : List ℕ) → is_carried_with sb m ps head name ≡ true → (v : Var) (args : Terms) → is_handed_back v (rows name) args ≡ true → is_handed_back v (handed_back ps name) args ≡ true
     carried_no_more name h v args e = go (find_unit ps name) refl (subst (λ ws. is_handed_back v ws args ≡ true) (row_map row qs name ∙ ap (of_found row) (sym (common.same name h))) e)
       where
         go : (o : Option Procedure) → find_unit ps name ≡ o → is_handed_back v (of_found row o) args ≡ true → is_handed_back v (handed_back ps name) args ≡ true
         go None q e = absurd cc
         go (Some u) q e =
             let same : u.name ≡ name = (found_there ps name u q).1 in
-            subst (λ ws. is_handed_back v ws args ≡ true) (sym (handed_written ps name u q)) (flags_more v (t u) (is_written ps u) u.dummies (of_carried u (ap (find_unit ps) same ∙ q) (ap (is_carried m ps head) same ∙ h)) args e)
+            subst (λ ws. is_handed_back v ws args ≡ true) (sym (handed_written ps name u q)) (flags_more v (t u) (is_written ps u) u.dummies (of_carried u (ap (find_unit ps) same ∙ q) (ap (is_carried_with sb m ps head) same ∙ h)) args e)
 
     adjoint_no_more : (name : List ℕ) (w : Procedure) → find_unit ps name ≡ Some w → has_adjoint m ps head name ≡ true → (v : Var) → IsApart v → (given : List (List ℕ)) → is_handed_back v (rows (adjoint_name ps w)) (with_shadows (m.shadowed name) w.dummies given) ≡ true → is_handed_back v (handed_back ps name) (actuals_named given) ≡ true
     adjoint_no_more name w found h v apart given e =
         subst (λ ws. is_handed_back v ws (actuals_named given) ≡ true) (sym (handed_written ps name w found))
-        (with_more v apart (m.shadowed w.name) (adjoint_names m ps (all_units m ps head) w) (t (made w)) (is_written ps w) w.dummies given (of_adjoint w (ap (find_unit ps) same ∙ found) (ap (has_adjoint m ps head) same ∙ h))
-        (subst (λ sh. is_handed_back v (map (t (made w)) (shadows_behind (m.shadowed w.name) (adjoint_names m ps (all_units m ps head) w) w.dummies)) (with_shadows sh w.dummies given) ≡ true) (ap m.shadowed (sym same))
-        (subst (λ ws. is_handed_back v ws (with_shadows (m.shadowed name) w.dummies given) ≡ true) (row_map row qs (adjoint_name ps w) ∙ ap (of_found row) (adjoint_found false m ps head vars outvars name w found h) ∙ ap (map (t (made w))) (made_dummies w)) e)))
+        (with_more v apart (m.shadowed w.name) (adjoint_names_with sb m ps (all_units m ps head) w) (t (made w)) (is_written ps w) w.dummies given (of_adjoint w (ap (find_unit ps) same ∙ found) (ap (has_adjoint m ps head) same ∙ h))
+        (subst (λ sh. is_handed_back v (map (t (made w)) (shadows_behind (m.shadowed w.name) (adjoint_names_with sb m ps (all_units m ps head) w) w.dummies)) (with_shadows sh w.dummies given) ≡ true) (ap m.shadowed (sym same))
+        (subst (λ ws. is_handed_back v ws (with_shadows (m.shadowed name) w.dummies given) ≡ true) (row_map row qs (adjoint_name ps w) ∙ ap (of_found row) (adjoint_found sb m ps head vars outvars name w found h) ∙ ap (map (t (made w))) (made_dummies w)) e)))
       where
         same : w.name ≡ name
         same = (found_there ps name w found).1

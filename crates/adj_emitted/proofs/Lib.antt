@@ -6,6 +6,7 @@ pub mod Stood
 pub mod Terms
 pub mod Helpers
 pub mod Follows
+pub mod StepCalls
 pub mod Sweeps
 -- The names of a unit, and its variables.
 pub mod Tables
@@ -20,6 +21,7 @@ pub mod Units
 pub mod Programs
 pub mod AdjointNames
 pub mod NameFaults
+pub mod Carried
 pub mod Called
 pub mod Actuals
 pub mod CallFaults

@@ -1,6 +1,6 @@
 -- The names of adjoint units: they are written, and have an underscore, so that nothing that is reserved has them.
 use Rattle.std.proofs.Common.{◌≡◌, ℕ, zero, suc, Bool, true, false, List, [], ◌∷◌, ◌++◌, length, refl, sym, ap, ◌∙◌, subst, codes, if◌then◌else◌}
-use Rattle.std.specs.Prelude.{◌||◌, ◌==◌, Some}
+use Rattle.std.specs.Prelude.{◌||◌, ◌==◌, Option, Some, None}
 use Rattle.adj_tree.specs.Code.{name_eq, Act, assign, choose, loop, during, call, runtime, Code, stop, step, Procedure}
 use Rattle.adj_tree.proofs.Names.{name_same}
 use Rattle.adj_text.specs.Written.{IsName}
@@ -11,6 +11,7 @@ use Rattle.adj_transpose.specs.Fresh.{has_name, digits, candidate, first_free, f
 use Rattle.adj_transpose.specs.Marks.{next, behind}
 use Rattle.adj_transpose.proofs.Variables.{or_left, or_right}
 use Rattle.adj_kernel.proofs.FreshWritten.{name-append, fresh-name}
+use Rattle.adj_reverse.specs.Plan.{actuals_named, Schedules, Step, reversed_by, ByStep}
 use Rattle.adj_reverse.specs.Names.{adjoint_after, source_names}
 use Rattle.adj_reverse.specs.Marking.{ProgramMarks, callee_of, callee_in, plan_in}
 use Rattle.adj_reverse.specs.Source.{is_unit}
@@ -20,7 +21,7 @@ use Rattle.adj_checked.proofs.Lists.{Each, each_front, each_behind}
 use Rattle.adj_checked.proofs.Statements.{CallHasNone, call_of_unit}
 use Rattle.adj_emitted.specs.Shadowed.{HasShadows', HasShadows}
 use Rattle.adj_emitted.proofs.Over.{Any}
-use Rattle.adj_emitted.proofs.Follows.{FollowsAct, Follows}
+use Rattle.adj_emitted.proofs.Follows.{FollowsActBy, FollowsBy, Follows}
 
 -- ---- underscores
 
@@ -102,26 +103,35 @@ module _ (m : ProgramMarks) (ps : List Procedure) (named : Each (λ u. IsName u.
       let there = found_there ps name v f in
       subst IsMadeName (sym (ap (λ o. (callee_of m ps name o).adjoint) f)) (adjoint_named (source_names ps) ps v.name named (ap (is_unit ps) there.1 ∙ there.0))
 
+  -- what is asked of a loop is asked of it however it is reversed, where nothing is asked of CALLs
+  any_step : (o : Option Step) (X : Type 0) → X → ByStep o X (λ s. Any s.name (actuals_named s.given) × X)
+  any_step None X h = h
+  any_step (Some s) X h = (tt, h)
+
   mutual
-    follows' : (i line : ℕ) (a : Act) → CallHasNone ps u (line, a) → Each (CallHasNone ps u) (inner a) → HasShadows' (plan_in m ps u) i a → FollowsAct Any (plan_in m ps u) i a
-    follows' i line (assign x subs e) c inside h = h
-    follows' i line (choose t a b) c inside h = (
-      follows (suc i) a (each_front (CallHasNone ps u) (statements a) (statements b) inside) h.0,
-      follows (behind (suc i) a) b (each_behind (CallHasNone ps u) (statements a) (statements b) inside) h.1,
+    follows' : (sc : Schedules) (i line : ℕ) (a : Act) → CallHasNone ps u (line, a) → Each (CallHasNone ps u) (inner a) → HasShadows' (plan_in m ps u) i a → FollowsActBy sc Any (plan_in m ps u) i a
+    follows' sc i line (assign x subs e) c inside h = h
+    follows' sc i line (choose t a b) c inside h = (
+      follows_by sc (suc i) a (each_front (CallHasNone ps u) (statements a) (statements b) inside) h.0,
+      follows_by sc (behind (suc i) a) b (each_behind (CallHasNone ps u) (statements a) (statements b) inside) h.1,
     )
-    follows' i line (loop x a b c body n) d inside h = follows (suc i) body inside h
-    follows' i line (during t body) c inside h = follows (suc i) body inside h
-    follows' i line (call name args) c inside h = (
+    follows' sc i line (loop x a b c body n) d inside h = any_step (reversed_by sc m.adjointed i body n) (FollowsBy sc Any (plan_in m ps u) (suc i) body) (follows_by sc (suc i) body inside h)
+    follows' sc i line (during t body) c inside h = follows_by sc (suc i) body inside h
+    follows' sc i line (call name args) c inside h = (
       λ t. tt,
       λ t. let unit = call_of_unit ps u line name args c in
           let made = callee_named name unit.unit unit.found in
           (made.0, (made_no_runtime (callee_in m ps name).adjoint made, (h t, tt))),
     )
-    follows' i line (runtime r) c inside h = tt
+    follows' sc i line (runtime r) c inside h = tt
 
-    pub follows : (i : ℕ) (c : Code) → Each (CallHasNone ps u) (statements c) → HasShadows (plan_in m ps u) i c → Follows Any (plan_in m ps u) i c
-    follows i stop c h = tt
-    follows i (step line a rest) c h = (
-      follows' i line a c.0 (each_front (CallHasNone ps u) (inner a) (statements rest) c.1) h.0,
-      follows (next i a) rest (each_behind (CallHasNone ps u) (inner a) (statements rest) c.1) h.1,
+    pub follows_by : (sc : Schedules) (i : ℕ) (c : Code) → Each (CallHasNone ps u) (statements c) → HasShadows (plan_in m ps u) i c → FollowsBy sc Any (plan_in m ps u) i c
+    follows_by sc i stop c h = tt
+    follows_by sc i (step line a rest) c h = (
+      follows' sc i line a c.0 (each_front (CallHasNone ps u) (inner a) (statements rest) c.1) h.0,
+      follows_by sc (next i a) rest (each_behind (CallHasNone ps u) (inner a) (statements rest) c.1) h.1,
     )
+
+  -- where no loop is reversed by a schedule
+  pub follows : (i : ℕ) (c : Code) → Each (CallHasNone ps u) (statements c) → HasShadows (plan_in m ps u) i c → Follows Any (plan_in m ps u) i c
+  follows i c d h = follows_by None i c d h

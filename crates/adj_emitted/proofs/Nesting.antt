@@ -1,7 +1,7 @@
 -- The sweeps of statements are nested no deeper than these.
 use Rattle.std.proofs.Common.{◌≡◌, ℕ, zero, suc, ◌+◌, ◌≤◌, max, Bool, true, false, List, [], ◌∷◌, refl, sym, subst, arith, if◌then◌else◌}
-use Rattle.std.specs.Prelude.{◌&&◌}
-use Rattle.adj_tree.specs.Code.{Var, plain, shadow, helper, count, plus, minus, times, quot, modulo, greater, lesser, Term, lit, var, elem, neg, bin, pow, power_of, abs, Terms, none, Test, push_word, pop_word, zero_array, name_eq, Act, assign, choose, loop, during, call, runtime, Code, stop, step, Procedure}
+use Rattle.std.specs.Prelude.{◌&&◌, not, Option, Some, None}
+use Rattle.adj_tree.specs.Code.{Var, plain, shadow, helper, first, stride, count, lower, plus, minus, times, quot, modulo, greater, lesser, Term, lit, var, elem, neg, bin, pow, power_of, abs, Terms, none, Test, Mark, unmarked as no_mark, push_word, pop_word, zero_array, name_eq, Act, assign, choose, loop, during, call, runtime, Code, stop, step, Procedure}
 use Rattle.adj_tree.specs.Size.{act_depth, code_depth}
 use Rattle.adj_meaning.specs.Append.{◌+++◌, one}
 use Rattle.adj_meaning.specs.Rename.{rename_act, rename}
@@ -10,12 +10,14 @@ use Rattle.adj_transpose.specs.Marked.{code_if, count_of, own_code, names_in}
 use Rattle.adj_transpose.specs.Naming.{naming}
 use Rattle.adj_transpose.specs.Program.{unmarked, unit_at}
 use Rattle.adj_reverse.specs.AdjointOf.{is_active_where, has_own_where, temps_in_where, shrunk_where, temps_where, back_where, adjoint_where}
-use Rattle.adj_reverse.specs.Plan.{Plan, is_emitted, names_of, save_group, snapshot_group}
-use Rattle.adj_reverse.specs.Emission.{is_empty, push, pop, pushes, pops, literal, adjoint_call, told_forward, told_backward, loop_forward, loop_backward, while_forward, while_backward, reset, forward_act, forward, backward_act, backward, cleared, adjoint_body}
+use Rattle.adj_reverse.specs.Plan.{Plan, is_emitted, names_of, actuals_named, save_group, snapshot_group, step_snapshot, found_or, Schedules, Step, reversed_by}
+use Rattle.adj_reverse.specs.ReversalCode.{at_turn, arm, advance, arms, one_action, reversal, reversed_forward, reversed_backward, row_forward, row_backward}
+use Rattle.adj_reverse.specs.Emission.{is_empty, push, pop, pushes, pops, literal, adjoint_call, told_forward, told_backward, loop_forward, loop_backward, while_forward, while_backward, push_own, reset, forward_act_with, forward_with, backward_act_with, backward_with, cleared, adjoint_body_with}
 use Rattle.adj_reverse.specs.Marking.{ProgramMarks, first_statement, plan_in}
-use Rattle.adj_reverse.specs.Program.{has_adjoint, is_carried, all_units, adjoint_names, adjoint_unit, emitted_adjoint, emitted_units, emitted_for}
+use Rattle.adj_reverse.specs.Program.{has_adjoint, is_carried_with, all_units, adjoint_names_with, adjoint_unit_with, emitted_adjoint_with, emitted_units_with, emitted_for_with, emitted_program_with, schedules_in}
 use Rattle.adj_checked.proofs.Lists.{Each, each_more}
-use Rattle.adj_emitted.specs.Emitted.{IsNested, KeepsNesting}
+use Rattle.adj_emitted.specs.Emitted.{IsNested, nested_with, KeepsNesting}
+use Rattle.adj_emitted.proofs.StepCalls.{from_keep, from_turn, from_advance}
 use Rattle.adj_emitted.proofs.UnitFaults.{each_emitted}
 
 -- ---- lists
@@ -142,59 +144,6 @@ module _ (p : Plan) where
   while_backward_below n true k line body h = omega arith
   while_backward_below n false k line body h = omega arith
 
-  mutual
-    act_below : (i d line : ℕ) (a : Act) → (code_depth (forward_act p i d line a) ≤ act_depth a) × (code_depth (backward_act p i d line a) ≤ act_depth a)
-    act_below i d line (assign (plain x) subs e) = (
-      below_if 0 (p.marks.kept i) _ (below_append 0 (code_if (p.marks.saved i (plain x)) (one line (runtime (push_word (plain x) subs)))) (one line (assign (plain x) subs e)) (below_if 0 (p.marks.saved i (plain x)) (one line (runtime (push_word (plain x) subs))) (omega arith)) (omega arith)),
-      below_append 0 (code_if (p.marks.kept i && p.marks.saved i (plain x)) (one line (runtime (pop_word (plain x) subs)))) (code_if (p.marks.adjointed i) (adjoint_where (active_at p.marks i) x subs e line)) (below_if 0 (p.marks.kept i && p.marks.saved i (plain x)) (one line (runtime (pop_word (plain x) subs))) (omega arith)) (below_if 0 (p.marks.adjointed i) (adjoint_where (active_at p.marks i) x subs e line) (flat_adjoint (active_at p.marks i) 0 x subs e line)),
-    )
-    act_below i d line (assign (shadow x) subs e) = (omega arith, omega arith)
-    act_below i d line (assign (helper r k) subs e) = (omega arith, omega arith)
-    act_below i d line (choose c a b) =
-        let first = list_below (suc i) d a in
-        let other = list_below (behind (suc i) a) d b in
-        let idle = is_empty (backward p (suc i) d a) && is_empty (backward p (behind (suc i) a) d b) in
-        let fa = told_forward_below (max (code_depth a) (code_depth b)) idle line (forward p (suc i) d a) 1 (omega arith) in
-        let fb = told_forward_below (max (code_depth a) (code_depth b)) idle line (forward p (behind (suc i) a) d b) 0 (omega arith) in (
-          below_if (max (code_depth a) (code_depth b) + 1) (is_emitted p.marks i) (one line (choose c (told_forward idle line (forward p (suc i) d a) 1) (told_forward idle line (forward p (behind (suc i) a) d b) 0))) (omega arith),
-          below_if (max (code_depth a) (code_depth b) + 1) (is_emitted p.marks i) _ (told_backward_below (max (code_depth a) (code_depth b)) idle line (backward p (suc i) d a) (backward p (behind (suc i) a) d b) (omega arith) (omega arith)),
-        )
-    act_below i d line (loop (plain x) a b c body m) =
-        let inside = list_below (suc i) (suc d) body in
-        let idle = is_empty (backward p (suc i) (suc d) body) in (
-          below_if (code_depth body + 1) (is_emitted p.marks i) _
-              (below_append (code_depth body + 1) (code_if (p.marks.saved i (plain x)) (one line (runtime (push_word (plain x) none)))) _ (below_if (code_depth body + 1) (p.marks.saved i (plain x)) (one line (runtime (push_word (plain x) none))) (omega arith)) (loop_forward_below (code_depth body) idle (suc d) line (plain x) a b c (forward p (suc i) (suc d) body) inside.0)),
-          below_if (code_depth body + 1) (is_emitted p.marks i) _
-              (below_append (code_depth body + 1) (loop_backward idle (suc d) line (plain x) (backward p (suc i) (suc d) body)) _ (loop_backward_below (code_depth body) idle (suc d) line (plain x) (backward p (suc i) (suc d) body) inside.1)
-              (below_append (code_depth body + 1) (code_if (p.marks.saved i (plain x)) (one line (runtime (pop_word (plain x) none)))) _ (below_if (code_depth body + 1) (p.marks.saved i (plain x)) (one line (runtime (pop_word (plain x) none))) (omega arith)) (flat_reset (code_depth body + 1) i line x))),
-        )
-    act_below i d line (loop (shadow x) a b c body m) = (omega arith, omega arith)
-    act_below i d line (loop (helper r k) a b c body m) = (omega arith, omega arith)
-    act_below i d line (during c body) =
-        let inside = list_below (suc i) (suc d) body in
-        let idle = is_empty (backward p (suc i) (suc d) body) in (
-          below_if (code_depth body + 1) (is_emitted p.marks i) _ (while_forward_below (code_depth body) idle (suc d) line c (forward p (suc i) (suc d) body) inside.0),
-          below_if (code_depth body + 1) (is_emitted p.marks i) _ (while_backward_below (code_depth body) idle (suc d) line (backward p (suc i) (suc d) body) inside.1),
-        )
-    act_below i d line (call name args) =
-        let g = p.callees name in (
-          below_if 0 (is_emitted p.marks i) _
-              (below_append 0 (pushes p line (save_group p.marks i g (names_of args))) _ (flat_pushes 0 line (save_group p.marks i g (names_of args)))
-              (below_append 0 (code_if (p.marks.adjointed i) _) _ (below_if 0 (p.marks.adjointed i) _ (flat_pushes 0 line (snapshot_group g (names_of args)))) (below_if 0 (p.marks.kept i) (one line (call name args)) (omega arith)))),
-          below_if 0 (is_emitted p.marks i) _
-              (below_append 0 (code_if (p.marks.adjointed i) _) _ (below_if 0 (p.marks.adjointed i) _ (below_append 0 (pops p line (snapshot_group g (names_of args))) (one line (adjoint_call g (names_of args))) (flat_pops 0 line (snapshot_group g (names_of args))) (omega arith))) (flat_pops 0 line (save_group p.marks i g (names_of args)))),
-        )
-    act_below i d line (runtime r) = (omega arith, omega arith)
-
-    list_below : (i d : ℕ) (c : Code) → (code_depth (forward p i d c) ≤ code_depth c) × (code_depth (backward p i d c) ≤ code_depth c)
-    list_below i d stop = (omega arith, omega arith)
-    list_below i d (step line a rest) =
-        let here = act_below i d line a in
-        let later = list_below (next i a) d rest in (
-          below_append (code_depth (step line a rest)) (forward_act p i d line a) (forward p (next i a) d rest) (omega arith) (omega arith),
-          below_append (code_depth (step line a rest)) (backward p (next i a) d rest) (backward_act p i d line a) (omega arith) (omega arith),
-        )
-
   cleared_below : (n line : ℕ) (xs : List (List ℕ)) → code_depth (cleared p line xs) ≤ n
   cleared_below n line [] = omega arith
   cleared_below n line (x ∷ xs) = below_append n (if p.arrays (plain x) then one line (runtime (zero_array (shadow x))) else one line (assign (shadow x) none (literal 0))) (cleared p line xs) (go (p.arrays (plain x))) (cleared_below n line xs)
@@ -203,10 +152,130 @@ module _ (p : Plan) where
       go true = omega arith
       go false = omega arith
 
-  body_below : (n i line : ℕ) (c : Code) (at_turn at_end : List (List ℕ)) → code_depth c ≤ n → code_depth (adjoint_body p i line c at_turn at_end) ≤ n
-  body_below n i line c at_turn at_end h =
-      let both = list_below i 0 c in
-      below_append n (forward p i 0 c) _ (omega arith) (below_append n (cleared p line at_turn) _ (cleared_below n line at_turn) (below_append n (backward p i 0 c) (cleared p line at_end) (omega arith) (cleared_below n line at_end)))
+  -- ---- loops that are reversed by schedules: a loop over the actions, an IF, and a loop over the steps of an advance
+
+  arm_below : (n line k j : ℕ) (c : Code) → code_depth c + 1 ≤ n → code_depth (arm line k j c) ≤ n
+  arm_below n line k j c h = below_if n (not (is_empty c)) _ (omega arith)
+
+  module _ (line k : ℕ) (x : Var) (j : ℕ) (keep back plain_call adjoint : Code) (flat_keep : code_depth keep ≤ 0) (flat_back : code_depth back ≤ 0) (flat_call : code_depth plain_call ≤ 0) (flat_adjoint : code_depth adjoint ≤ 0) where
+    arms_below : code_depth (arms line k x keep back plain_call adjoint) ≤ 2
+    arms_below =
+        let again = below_append 0 back keep flat_back flat_keep in
+        below_append 2 (arm line k 1 keep) (from_advance line k x keep back plain_call adjoint) (arm_below 2 line k 1 keep (omega arith))
+        (below_append 2 (arm line k 2 (advance line k x plain_call)) (from_turn line k x keep back adjoint) (arm_below 2 line k 2 (advance line k x plain_call) (omega arith))
+        (below_append 2 (arm line k 3 (at_turn line k x lower adjoint)) (from_keep line k keep back) (arm_below 2 line k 3 (at_turn line k x lower adjoint) (omega arith))
+        (below_append 2 (arm line k 4 (back +++ keep)) (arm line k 5 back) (arm_below 2 line k 4 (back +++ keep) (omega arith)) (arm_below 2 line k 5 back (omega arith)))))
+
+    reversal_below : code_depth (reversal line k x j keep back plain_call adjoint) ≤ 3
+    reversal_below = let inside = arms_below in omega arith
+
+    reversed_backward_below : (unsave : Code) → code_depth unsave ≤ 0 → code_depth (reversed_backward k line x j keep back unsave plain_call adjoint) ≤ 3
+    reversed_backward_below unsave h =
+        let inside = below_append 3 back (reversal line k x j keep back plain_call adjoint +++ unsave) (omega arith) (below_append 3 (reversal line k x j keep back plain_call adjoint) unsave reversal_below (omega arith)) in
+        omega arith
+
+  module _ (k line : ℕ) (x : Var) (a b c : Term) (save keep plain_call : Code) (flat_save : code_depth save ≤ 0) (flat_keep : code_depth keep ≤ 0) (flat_call : code_depth plain_call ≤ 0) where
+    -- the loop and what is pushed behind it
+    abbrev turned : Code
+    turned = step line (loop x (var (helper first k)) b (var (helper stride k)) (plain_call +++ raised k line) no_mark) (push_own line (helper first k) (push_own line (helper stride k) (push_own line (helper count k) stop)))
+
+    turned_below : code_depth turned ≤ 1
+    turned_below = let inside = below_append 0 plain_call (raised k line) flat_call (omega arith) in omega arith
+
+    reversed_forward_below : code_depth (reversed_forward k line x a b c save keep plain_call) ≤ 1
+    reversed_forward_below = let inside = below_append 1 save (keep +++ turned) (omega arith) (below_append 1 keep turned (omega arith) turned_below) in omega arith
+
+  rows_reversed : (i k line : ℕ) (x : List ℕ) (a b c : Term) (s : Step) → (code_depth (row_forward p i k line x a b c s) ≤ 1) × (code_depth (row_backward p i k line x s) ≤ 3)
+  rows_reversed i k line x a b c s =
+      let callee = p.callees s.name in
+      let plain_call = one line (call s.name (actuals_named s.given)) in
+      let saves = save_group p.marks i callee s.given in
+      let shot = step_snapshot callee s.read s.given in (
+        reversed_forward_below k line (plain x) a b c (pushes p line saves) (pushes p line shot) (code_if (p.marks.kept (suc i)) plain_call) (flat_pushes 0 line saves) (flat_pushes 0 line shot) (below_if 0 (p.marks.kept (suc i)) plain_call (omega arith)),
+        reversed_backward_below line k (plain x) s.snapshots (pushes p line shot) (pops p line shot) plain_call (one line (adjoint_call callee s.given)) (flat_pushes 0 line shot) (flat_pops 0 line shot) (omega arith) (omega arith) (pops p line saves) (flat_pops 0 line saves),
+      )
+
+  -- so many levels more, where loops are reversed by schedules
+  module _ (sc : Schedules) (extra : ℕ) (room : (f : ℕ → Bool) (i : ℕ) (body : Code) (mark : Mark) (s : Step) → reversed_by sc f i body mark ≡ Some s → 2 ≤ extra) where
+    abbrev Below : ℕ → Code → Type 0
+    Below n c = code_depth c ≤ n + extra
+
+    rows_below : (i d line : ℕ) (x : List ℕ) (a b c : Term) (body : Code) (m : Mark) (o : Option Step) → reversed_by sc p.marks.adjointed i body m ≡ o → Below (code_depth body) (forward_with sc p (suc i) (suc d) body) × Below (code_depth body) (backward_with sc p (suc i) (suc d) body) →
+        Below (code_depth body + 1) (found_or o (loop_forward (is_empty (backward_with sc p (suc i) (suc d) body)) (suc d) line (plain x) a b c (forward_with sc p (suc i) (suc d) body)) (λ s. row_forward p i (suc d) line x a b c s))
+        × Below (code_depth body + 1) (found_or o (loop_backward (is_empty (backward_with sc p (suc i) (suc d) body)) (suc d) line (plain x) (backward_with sc p (suc i) (suc d) body)) (λ s. row_backward p i (suc d) line x s))
+    rows_below i d line x a b c body m None e inside =
+        let idle = is_empty (backward_with sc p (suc i) (suc d) body) in
+        let forth = loop_forward_below (code_depth body + extra) idle (suc d) line (plain x) a b c (forward_with sc p (suc i) (suc d) body) inside.0 in
+        let back = loop_backward_below (code_depth body + extra) idle (suc d) line (plain x) (backward_with sc p (suc i) (suc d) body) inside.1 in
+        (omega arith, omega arith)
+    rows_below i d line x a b c body m (Some s) e inside =
+        let enough = room p.marks.adjointed i body m s e in
+        let rows = rows_reversed i (suc d) line x a b c s in
+        (omega arith, omega arith)
+
+    mutual
+      act_below : (i d line : ℕ) (a : Act) → Below (act_depth a) (forward_act_with sc p i d line a) × Below (act_depth a) (backward_act_with sc p i d line a)
+      act_below i d line (assign (plain x) subs e) =
+          let added = flat_adjoint (active_at p.marks i) extra x subs e line in (
+            below_if (0 + extra) (p.marks.kept i) _ (below_append (0 + extra) (code_if (p.marks.saved i (plain x)) (one line (runtime (push_word (plain x) subs)))) (one line (assign (plain x) subs e)) (below_if (0 + extra) (p.marks.saved i (plain x)) (one line (runtime (push_word (plain x) subs))) (omega arith)) (omega arith)),
+            below_append (0 + extra) (code_if (p.marks.kept i && p.marks.saved i (plain x)) (one line (runtime (pop_word (plain x) subs)))) (code_if (p.marks.adjointed i) (adjoint_where (active_at p.marks i) x subs e line)) (below_if (0 + extra) (p.marks.kept i && p.marks.saved i (plain x)) (one line (runtime (pop_word (plain x) subs))) (omega arith)) (below_if (0 + extra) (p.marks.adjointed i) (adjoint_where (active_at p.marks i) x subs e line) (omega arith)),
+          )
+      act_below i d line (assign (shadow x) subs e) = (omega arith, omega arith)
+      act_below i d line (assign (helper r k) subs e) = (omega arith, omega arith)
+      act_below i d line (choose c a b) =
+          let most = max (code_depth a) (code_depth b) in
+          let first = list_below (suc i) d a in
+          let other = list_below (behind (suc i) a) d b in
+          let idle = is_empty (backward_with sc p (suc i) d a) && is_empty (backward_with sc p (behind (suc i) a) d b) in
+          let fa = told_forward_below (most + extra) idle line (forward_with sc p (suc i) d a) 1 (omega arith) in
+          let fb = told_forward_below (most + extra) idle line (forward_with sc p (behind (suc i) a) d b) 0 (omega arith) in
+          let back = told_backward_below (most + extra) idle line (backward_with sc p (suc i) d a) (backward_with sc p (behind (suc i) a) d b) (omega arith) (omega arith) in (
+            below_if (most + 1 + extra) (is_emitted p.marks i) (one line (choose c (told_forward idle line (forward_with sc p (suc i) d a) 1) (told_forward idle line (forward_with sc p (behind (suc i) a) d b) 0))) (omega arith),
+            below_if (most + 1 + extra) (is_emitted p.marks i) (told_backward idle line (backward_with sc p (suc i) d a) (backward_with sc p (behind (suc i) a) d b)) (omega arith),
+          )
+      act_below i d line (loop (plain x) a b c body m) =
+          let rows = rows_below i d line x a b c body m (reversed_by sc p.marks.adjointed i body m) refl (list_below (suc i) (suc d) body) in
+          let high = code_depth body + 1 + extra in (
+            below_if high (is_emitted p.marks i) _ (below_append high (code_if (p.marks.saved i (plain x)) (one line (runtime (push_word (plain x) none)))) _ (below_if high (p.marks.saved i (plain x)) (one line (runtime (push_word (plain x) none))) (omega arith)) rows.0),
+            below_if high (is_emitted p.marks i) _
+                (below_append high (found_or (reversed_by sc p.marks.adjointed i body m) (loop_backward (is_empty (backward_with sc p (suc i) (suc d) body)) (suc d) line (plain x) (backward_with sc p (suc i) (suc d) body)) (λ s. row_backward p i (suc d) line x s)) _ rows.1
+                (below_append high (code_if (p.marks.saved i (plain x)) (one line (runtime (pop_word (plain x) none)))) _ (below_if high (p.marks.saved i (plain x)) (one line (runtime (pop_word (plain x) none))) (omega arith)) (flat_reset high i line x))),
+          )
+      act_below i d line (loop (shadow x) a b c body m) = (omega arith, omega arith)
+      act_below i d line (loop (helper r k) a b c body m) = (omega arith, omega arith)
+      act_below i d line (during c body) =
+          let inside = list_below (suc i) (suc d) body in
+          let idle = is_empty (backward_with sc p (suc i) (suc d) body) in
+          let forth = while_forward_below (code_depth body + extra) idle (suc d) line c (forward_with sc p (suc i) (suc d) body) inside.0 in
+          let back = while_backward_below (code_depth body + extra) idle (suc d) line (backward_with sc p (suc i) (suc d) body) inside.1 in (
+            below_if (code_depth body + 1 + extra) (is_emitted p.marks i) (while_forward idle (suc d) line c (forward_with sc p (suc i) (suc d) body)) (omega arith),
+            below_if (code_depth body + 1 + extra) (is_emitted p.marks i) (while_backward idle (suc d) line (backward_with sc p (suc i) (suc d) body)) (omega arith),
+          )
+      act_below i d line (call name args) =
+          let g = p.callees name in
+          let high = 0 + extra in (
+            below_if high (is_emitted p.marks i) _
+                (below_append high (pushes p line (save_group p.marks i g (names_of args))) _ (flat_pushes high line (save_group p.marks i g (names_of args)))
+                (below_append high (code_if (p.marks.adjointed i) _) _ (below_if high (p.marks.adjointed i) _ (flat_pushes high line (snapshot_group g (names_of args)))) (below_if high (p.marks.kept i) (one line (call name args)) (omega arith)))),
+            below_if high (is_emitted p.marks i) _
+                (below_append high (code_if (p.marks.adjointed i) _) _ (below_if high (p.marks.adjointed i) _ (below_append high (pops p line (snapshot_group g (names_of args))) (one line (adjoint_call g (names_of args))) (flat_pops high line (snapshot_group g (names_of args))) (omega arith))) (flat_pops high line (save_group p.marks i g (names_of args)))),
+          )
+      act_below i d line (runtime r) = (omega arith, omega arith)
+
+      list_below : (i d : ℕ) (c : Code) → Below (code_depth c) (forward_with sc p i d c) × Below (code_depth c) (backward_with sc p i d c)
+      list_below i d stop = (omega arith, omega arith)
+      list_below i d (step line a rest) =
+          let here = act_below i d line a in
+          let later = list_below (next i a) d rest in
+          let high = code_depth (step line a rest) + extra in (
+            below_append high (forward_act_with sc p i d line a) (forward_with sc p (next i a) d rest) (omega arith) (omega arith),
+            below_append high (backward_with sc p (next i a) d rest) (backward_act_with sc p i d line a) (omega arith) (omega arith),
+          )
+
+    body_below : (n i line : ℕ) (c : Code) (at_turn at_end : List (List ℕ)) → code_depth c ≤ n → Below n (adjoint_body_with sc p i line c at_turn at_end)
+    body_below n i line c at_turn at_end h =
+        let both = list_below i 0 c in
+        below_append (n + extra) (forward_with sc p i 0 c) _ (omega arith) (below_append (n + extra) (cleared p line at_turn) _ (cleared_below (n + extra) line at_turn) (below_append (n + extra) (backward_with sc p i 0 c) (cleared p line at_end) (omega arith) (cleared_below (n + extra) line at_end)))
 
 -- ---- renaming keeps it
 
@@ -233,24 +302,37 @@ each_nested : (n : ℕ) (us : List Procedure) → Each (λ u. code_depth u.body 
 each_nested n [] h = tt
 each_nested n (u ∷ us) h = (h.0, each_nested n us h.1)
 
-adjoint_below : (n : ℕ) (m : ProgramMarks) (ps : List Procedure) (head : Procedure) (vars outvars : List Bool) (u : Procedure) → code_depth u.body ≤ n → code_depth (emitted_adjoint m ps head vars outvars u).body ≤ n
-adjoint_below n m ps head vars outvars u h = go (name_eq head.name u.name)
-  where
-    below : (at_turn at_end : List (List ℕ)) → code_depth (adjoint_unit m ps (all_units m ps head) u at_turn at_end).body ≤ n
-    below at_turn at_end =
-        subst (λ k. k ≤ n) (sym (renamed_depth (naming (adjoint_names m ps (all_units m ps head) u)) (adjoint_body (plan_in m ps u) (first_statement ps u.name) u.line u.body at_turn at_end)))
-        (body_below (plan_in m ps u) n (first_statement ps u.name) u.line u.body at_turn at_end h)
+-- so many levels more
+abbrev levels : Bool → ℕ
+levels false = 0
+levels true = 2
 
-    go : (b : Bool) → code_depth (if b then adjoint_unit m ps (all_units m ps head) u (names_in (m.shadowed u.name) (unmarked u.dummies outvars)) (names_in (m.shadowed u.name) (unmarked u.dummies vars)) else adjoint_unit m ps (all_units m ps head) u [] []).body ≤ n
+levels_enough : (sb : Bool) (ps : List Procedure) (f : ℕ → Bool) (i : ℕ) (body : Code) (mark : Mark) (s : Step) → reversed_by (schedules_in sb ps) f i body mark ≡ Some s → 2 ≤ levels sb
+levels_enough false ps f i body mark s e = absurd cc
+levels_enough true ps f i body mark s e = omega arith
+
+adjoint_below : (n : ℕ) (sb : Bool) (m : ProgramMarks) (ps : List Procedure) (head : Procedure) (vars outvars : List Bool) (u : Procedure) → code_depth u.body ≤ n → code_depth (emitted_adjoint_with sb m ps head vars outvars u).body ≤ n + levels sb
+adjoint_below n sb m ps head vars outvars u h = go (name_eq head.name u.name)
+  where
+    below : (at_turn at_end : List (List ℕ)) → code_depth (adjoint_unit_with sb m ps (all_units m ps head) u at_turn at_end).body ≤ n + levels sb
+    below at_turn at_end =
+        subst (λ k. k ≤ n + levels sb) (sym (renamed_depth (naming (adjoint_names_with sb m ps (all_units m ps head) u)) (adjoint_body_with (schedules_in sb ps) (plan_in m ps u) (first_statement ps u.name) u.line u.body at_turn at_end)))
+        (body_below (plan_in m ps u) (schedules_in sb ps) (levels sb) (levels_enough sb ps) n (first_statement ps u.name) u.line u.body at_turn at_end h)
+
+    go : (b : Bool) → code_depth (if b then adjoint_unit_with sb m ps (all_units m ps head) u (names_in (m.shadowed u.name) (unmarked u.dummies outvars)) (names_in (m.shadowed u.name) (unmarked u.dummies vars)) else adjoint_unit_with sb m ps (all_units m ps head) u [] []).body ≤ n + levels sb
     go true = below _ _
     go false = below [] []
 
+levels_are : (sb : Bool) (n : ℕ) → n + levels sb ≡ nested_with sb n
+levels_are false n = omega arith
+levels_are true n = refl
+
 pub keeps_nesting : KeepsNesting
-keeps_nesting n ps h m head vars outvars = go (unit_at head ps)
+keeps_nesting n ps h sb m head vars outvars = subst (λ k. IsNested k (emitted_program_with sb m ps head vars outvars)) (levels_are sb n) (go (unit_at head ps))
   where
-    go : (us : List Procedure) → IsNested n (emitted_for m ps vars outvars us)
+    go : (us : List Procedure) → IsNested (n + levels sb) (emitted_for_with sb m ps vars outvars us)
     go [] = tt
     go (u ∷ us) =
-        each_nested n (emitted_units m ps u vars outvars ps)
-        (each_emitted m ps u vars outvars (λ v. code_depth v.body ≤ n) ps (each_more (λ v. code_depth v.body ≤ n) (λ v. is_carried m ps u v.name ≡ true → code_depth v.body ≤ n) (λ v k t. k) ps (nested_each n ps h))
-        (each_more (λ v. code_depth v.body ≤ n) (λ v. has_adjoint m ps u v.name ≡ true → code_depth (emitted_adjoint m ps u vars outvars v).body ≤ n) (λ v k t. adjoint_below n m ps u vars outvars v k) ps (nested_each n ps h)))
+        each_nested (n + levels sb) (emitted_units_with sb m ps u vars outvars ps)
+        (each_emitted sb m ps u vars outvars (λ v. code_depth v.body ≤ n + levels sb) ps (each_more (λ v. code_depth v.body ≤ n) (λ v. is_carried_with sb m ps u v.name ≡ true → code_depth v.body ≤ n + levels sb) (λ v k t. omega arith) ps (nested_each n ps h))
+        (each_more (λ v. code_depth v.body ≤ n) (λ v. has_adjoint m ps u v.name ≡ true → code_depth (emitted_adjoint_with sb m ps u vars outvars v).body ≤ n + levels sb) (λ v k t. adjoint_below n sb m ps u vars outvars v k) ps (nested_each n ps h)))

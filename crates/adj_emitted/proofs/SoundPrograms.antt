@@ -1,5 +1,5 @@
 -- What is emitted has no fault as a text that is run.
-use Rattle.std.proofs.Common.{◌≡◌, List, [], ◌∷◌}
+use Rattle.std.proofs.Common.{◌≡◌, List, [], ◌∷◌, false}
 use Rattle.adj_tree.specs.Code.{Procedure}
 use Rattle.adj_names.specs.Fault.{run_rules, first_in_passes}
 use Rattle.adj_names.specs.UnitFaults.{unit_faults}
@@ -9,7 +9,7 @@ use Rattle.adj_names.specs.ChainFaults.{chain_faults}
 use Rattle.adj_names.specs.WriteFaults.{write_faults}
 use Rattle.adj_names.specs.Check.{IsSound}
 use Rattle.adj_reverse.specs.Marking.{full_marks}
-use Rattle.adj_reverse.specs.Program.{emitted_program}
+use Rattle.adj_reverse.specs.Program.{emitted_program_with}
 use Rattle.adj_emitted.specs.Emitted.{MarkedIsSound, EmittedIsSound}
 use Rattle.adj_emitted.proofs.Programs.{full_shadows}
 use Rattle.adj_emitted.proofs.UnitFaults.{units_have_none}
@@ -23,9 +23,9 @@ none_first : (qs : List Procedure) → unit_faults qs ≡ [] → name_faults run
 none_first qs units names calls chains writes = λ i. first_in_passes (units i ∷ names i ∷ calls i ∷ chains i ∷ writes i ∷ [])
 
 pub marked_sound : MarkedIsSound
-marked_sound rules ps checked few m shadowed head vars outvars =
-    none_first (emitted_program m ps head vars outvars) (units_have_none rules ps checked m head vars outvars) (names_have_none rules ps checked m shadowed head vars outvars) (calls_have_none rules ps checked m shadowed head vars outvars) (chains_have_none rules ps checked few m head vars outvars)
-    (writes_have_none rules ps checked m shadowed head vars outvars)
+marked_sound rules ps checked few sb m shadowed head vars outvars =
+    none_first (emitted_program_with sb m ps head vars outvars) (units_have_none rules ps checked sb m head vars outvars) (names_have_none rules ps checked sb m shadowed head vars outvars) (calls_have_none rules ps checked sb m shadowed head vars outvars)
+    (chains_have_none rules ps checked few sb m head vars outvars) (writes_have_none rules ps checked sb m shadowed head vars outvars)
 
 pub emitted_sound : EmittedIsSound
-emitted_sound rules ps checked few head vars outvars = marked_sound rules ps checked few full_marks (full_shadows ps ps) head vars outvars
+emitted_sound rules ps checked few head vars outvars = marked_sound rules ps checked few false full_marks (full_shadows ps ps) head vars outvars

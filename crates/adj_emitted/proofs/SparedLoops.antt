@@ -1,23 +1,26 @@
 -- No loop in the sweeps of a unit may write its variable: not in its body.
 use Rattle.std.proofs.Common.{◌≡◌, ℕ, suc, ◌<◌, Bool, true, false, List, [], ◌∷◌, refl, sym, ◌∙◌, arith, if◌then◌else◌}
-use Rattle.std.specs.Prelude.{◌&&◌, ◌||◌, ◌==◌}
-use Rattle.adj_tree.specs.Code.{Var, var_eq, plain, shadow, helper, turn, Term, none, Test, push_word, pop_word, push_control, zero_array, Act, assign, choose, loop, during, call, runtime, Code, stop, step}
+use Rattle.std.specs.Prelude.{◌&&◌, ◌||◌, ◌==◌, not, Option, Some, None}
+use Rattle.adj_tree.specs.Code.{Var, var_eq, plain, shadow, helper, turn, Role, entry, kind, lower, is_same, compare, Term, var, none, Test, Mark, push_array, pop_array, push_word, pop_word, push_control, zero_array, Act, assign, choose, loop, during, call, runtime, Code, stop, step}
 use Rattle.adj_tree.proofs.Names.{nat_same}
 use Rattle.adj_meaning.specs.Append.{◌+++◌, one}
 use Rattle.adj_meaning.specs.LeastSet.{Dummies}
-use Rattle.adj_meaning.specs.Written.{writes}
+use Rattle.adj_meaning.specs.Written.{is_handed_back, writes}
 use Rattle.adj_kernel.proofs.Holding.{HoldsIn, holds_join}
 use Rattle.adj_kernel.proofs.Sparing.{Spares, AreSpared}
+use Rattle.adj_kernel.proofs.Writes.{writes_append}
 use Rattle.adj_transpose.specs.Marks.{next, behind, active_at}
 use Rattle.adj_transpose.specs.Marked.{code_if}
 use Rattle.adj_transpose.proofs.Variables.{not_true}
 use Rattle.adj_reverse.specs.AdjointOf.{adjoint_where}
-use Rattle.adj_reverse.specs.Plan.{Plan, is_emitted, names_of, save_group, snapshot_group}
-use Rattle.adj_reverse.specs.Emission.{is_empty, push, pop, pushes, pops, literal, adjoint_call, told_forward, told_backward, loop_forward, loop_backward, while_forward, while_backward, resets, reset, forward_act, forward, backward_act, backward, cleared, adjoint_body}
+use Rattle.adj_reverse.specs.Plan.{Callee, Plan, is_emitted, names_of, actuals_named, save_group, snapshot_group, step_snapshot, Schedules, Step, reversed_by, ByStep}
+use Rattle.adj_reverse.specs.ReversalCode.{at_turn, arm, advance, arms, one_action, reversal, reversed_forward, reversed_backward, row_forward, row_backward}
+use Rattle.adj_reverse.specs.Emission.{is_empty, push, pop, pushes, pops, literal, with_shadows, adjoint_call, told_forward, told_backward, loop_forward, loop_backward, while_forward, while_backward, resets, reset, forward_act_with, forward_with, backward_act_with, backward_with, cleared, adjoint_body_with}
+use Rattle.adj_emitted.proofs.StepCalls.{from_keep, from_turn, from_advance}
 use Rattle.adj_emitted.proofs.Assigned.{AreMaking, making_adjoint}
-use Rattle.adj_emitted.proofs.Writing.{plain_apart, turn_apart, KnownAct, Known, no_turns, Only, raised, only_raised, list_only}
+use Rattle.adj_emitted.proofs.Writing.{plain_apart, turn_apart, no_given, no_shadows_given, Turned, KnownAct, Known, no_turns, rows_forth, rows_back, neither, Only, raised, only_raised, list_only}
 
-module _ (f g : Dummies) (p : Plan) where
+module _ (f g : Dummies) (sc : Schedules) (p : Plan) where
   abbrev Own : ℕ → Act → Type 0
   Own line a = Spares f a
 
@@ -86,15 +89,159 @@ module _ (f g : Dummies) (p : Plan) where
   outer_turn d k l = not_true (suc d == k) (λ e. let same : suc d ≡ k = nat_same (suc d) k e in absurd (omega arith))
 
   -- the variable of a DO in its forward sweep
-  forward_leaves : (i d : ℕ) (x : List ℕ) (body : Code) → Known f g p i body → writes g (plain x) body ≡ false → Only f g p (plain x) (plain_apart x) false (forward p i d body)
-  forward_leaves i d x body w h = (list_only f g p (plain x) (plain_apart x) false i d body w (λ k l. cc) (λ e. sym h ∙ e)).0
+  forward_leaves : (i d : ℕ) (x : List ℕ) (body : Code) → Known f g sc p i body → writes g (plain x) body ≡ false → Only f g sc p (plain x) (plain_apart x) false (forward_with sc p i d body)
+  forward_leaves i d x body w h = (list_only f g sc p (plain x) (plain_apart x) false i d body w (λ k l. cc) (λ e. sym h ∙ e)).0
 
   -- the turn in the backward sweep
-  backward_leaves : (i d : ℕ) (body : Code) → Known f g p i body → Only f g p (helper turn (suc d)) (turn_apart (suc d)) false (backward p i (suc d) body)
-  backward_leaves i d body w = (list_only f g p (helper turn (suc d)) (turn_apart (suc d)) false i (suc d) body w (outer_turn d) (λ e. sym (no_turns f g p (suc d) i body w) ∙ e)).1
+  backward_leaves : (i d : ℕ) (body : Code) → Known f g sc p i body → Only f g sc p (helper turn (suc d)) (turn_apart (suc d)) false (backward_with sc p i (suc d) body)
+  backward_leaves i d body w = (list_only f g sc p (helper turn (suc d)) (turn_apart (suc d)) false i (suc d) body w (outer_turn d) (λ e. sym (no_turns f g sc p (suc d) i body w) ∙ e)).1
+
+  -- ---- loops that are reversed by schedules
+
+  -- a helper that isn't popped, assigned or given stays
+  module _ (line k : ℕ) (x : List ℕ) (j : ℕ) (keep back plain_call adjoint : Code) (no_keep : writes f (helper entry k) keep ≡ false) (no_back : writes f (helper entry k) back ≡ false) (no_call : writes f (helper entry k) plain_call ≡ false) (no_adjoint : writes f (helper entry k) adjoint ≡ false) where
+    still_append : (c d : Code) → writes f (helper entry k) c ≡ false → writes f (helper entry k) d ≡ false → writes f (helper entry k) (c +++ d) ≡ false
+    still_append c d h e = writes_append f (helper entry k) c d ∙ neither f g sc p (writes f (helper entry k) c) (writes f (helper entry k) d) h e
+
+    still_arm : (n : ℕ) (c : Code) → writes f (helper entry k) c ≡ false → writes f (helper entry k) (arm line k n c) ≡ false
+    still_arm n c h = go (not (is_empty c))
+      where
+        go : (b : Bool) → writes f (helper entry k) (code_if b (one line (choose (compare is_same (var (helper kind k)) (literal n)) c stop))) ≡ false
+        go true = neither f g sc p (writes f (helper entry k) c || false) false (neither f g sc p (writes f (helper entry k) c) false h refl) refl
+        go false = refl
+
+    -- no action sets its own number
+    still_action : writes f (helper entry k) (one_action line k (plain x) j keep back plain_call adjoint) ≡ false
+    still_action =
+        still_append (arm line k 1 keep) (from_advance line k (plain x) keep back plain_call adjoint) (still_arm 1 keep no_keep)
+        (still_append (arm line k 2 (advance line k (plain x) plain_call)) (from_turn line k (plain x) keep back adjoint) (still_arm 2 (advance line k (plain x) plain_call) (neither f g sc p (writes f (helper entry k) plain_call) false no_call refl))
+        (still_append (arm line k 3 (at_turn line k (plain x) lower adjoint)) (from_keep line k keep back) (still_arm 3 (at_turn line k (plain x) lower adjoint) no_adjoint)
+        (still_append (arm line k 4 (back +++ keep)) (arm line k 5 back) (still_arm 4 (back +++ keep) (still_append back keep no_back no_keep)) (still_arm 5 back no_back))))
+
+  still_pushes : (v : Var) (line : ℕ) (xs : List (List ℕ)) → writes f v (pushes p line xs) ≡ false
+  still_pushes v line [] = refl
+  still_pushes v line (x ∷ xs) = writes_append f v (push p line x) (pushes p line xs) ∙ neither f g sc p (writes f v (push p line x)) (writes f v (pushes p line xs)) (go (p.arrays (plain x))) (still_pushes v line xs)
+    where
+      go : (b : Bool) → writes f v (one line (runtime (if b then push_array (plain x) else push_word (plain x) none))) ≡ false
+      go true = refl
+      go false = refl
+
+  still_pops : (r : Role) (k line : ℕ) (xs : List (List ℕ)) → writes f (helper r k) (pops p line xs) ≡ false
+  still_pops r k line [] = refl
+  still_pops r k line (x ∷ xs) = writes_append f (helper r k) (pops p line xs) (pop p line x) ∙ neither f g sc p (writes f (helper r k) (pops p line xs)) (writes f (helper r k) (pop p line x)) (still_pops r k line xs) (go (p.arrays (plain x)))
+    where
+      go : (b : Bool) → writes f (helper r k) (one line (runtime (if b then pop_array (plain x) else pop_word (plain x) none))) ≡ false
+      go true = refl
+      go false = refl
+
+  arm_spared : (line k n : ℕ) (c : Code) → AreSpared f c → AreSpared f (arm line k n c)
+  arm_spared line k n c h = spared_if (not (is_empty c)) (one line (choose (compare is_same (var (helper kind k)) (literal n)) c stop)) (tt, ((h, tt), tt))
+
+  -- the actuals of a call in one statement
+  no_call : (r : Role) (k : ℕ) (line : ℕ) (name : List ℕ) (given : List (List ℕ)) → writes f (helper r k) (one line (call name (actuals_named given))) ≡ false
+  no_call r k line name given = neither f g sc p (is_handed_back (helper r k) (f name) (actuals_named given)) false (no_given r k (f name) given) refl
+
+  no_adjoint : (r : Role) (k : ℕ) (line : ℕ) (callee : Callee) (given : List (List ℕ)) → writes f (helper r k) (one line (adjoint_call callee given)) ≡ false
+  no_adjoint r k line callee given = neither f g sc p (is_handed_back (helper r k) (f callee.adjoint) (with_shadows callee.shadowed callee.dummies given)) false (no_shadows_given r k (f callee.adjoint) callee.shadowed callee.dummies given) refl
+
+  -- the rows of such a loop
+  reversed_spared : (i k line : ℕ) (x : List ℕ) (a b c : Term) (body : Code) (s : Step) → Turned f g sc p body s → writes g (plain x) body ≡ false → AreSpared f (row_forward p i k line x a b c s) × AreSpared f (row_backward p i k line x s)
+  reversed_spared i k line x a b c body s turned own = (
+    (
+      tt,
+      (
+        tt,
+        (
+          tt,
+          (
+            tt,
+            (
+              tt,
+              (
+                tt,
+                join (pushes p line saves) _ (spared_pushes line saves)
+                    (join (pushes p line shot) _ (spared_pushes line shot) (unwritten _ ahead, (counted k line (code_if (p.marks.kept (suc i)) plain_call) (spared_if (p.marks.kept (suc i)) plain_call (tt, (tt, tt))), (tt, (tt, (tt, (tt, (tt, (tt, tt))))))))),
+              ),
+            ),
+          ),
+        ),
+      ),
+    ),
+    (
+      tt,
+      (
+        tt,
+        (
+          tt,
+          (
+            tt,
+            (
+              tt,
+              (
+                tt,
+                join (pops p line shot) _ (spared_pops line shot)
+                    (join (reversal line k (plain x) s.snapshots (pushes p line shot) (pops p line shot) plain_call turned_back) (pops p line saves)
+                    (tt, (tt, (tt, (tt, (still, ((tt, (tt, arms_spared)), (tt, (tt, tt))))))))
+                    (spared_pops line saves)),
+              ),
+            ),
+          ),
+        ),
+      ),
+    ),
+  )
+    where
+      saves : List (List ℕ)
+      saves = save_group p.marks i (p.callees s.name) s.given
+
+      shot : List (List ℕ)
+      shot = step_snapshot (p.callees s.name) s.read s.given
+
+      plain_call : Code
+      plain_call = one line (call s.name (actuals_named s.given))
+
+      turned_back : Code
+      turned_back = one line (adjoint_call (p.callees s.name) s.given)
+
+      -- the variable of the loop isn't handed back by its step call
+      kept_call : (t : Bool) → Only f g sc p (plain x) (plain_apart x) false (code_if t (one line (call s.name (actuals_named s.given))))
+      kept_call true e = sym own ∙ turned (plain x) (handed (is_handed_back (plain x) (f s.name) (actuals_named s.given)) e)
+        where
+          handed : (q : Bool) → (q || false) ≡ true → q ≡ true
+          handed true h = refl
+          handed false h = absurd cc
+      kept_call false e = e
+
+      ahead : Only f g sc p (plain x) (plain_apart x) false (code_if (p.marks.kept (suc i)) (one line (call s.name (actuals_named s.given))) +++ raised k line)
+      ahead = only_raised f g sc p (plain x) (plain_apart x) false k line (code_if (p.marks.kept (suc i)) (one line (call s.name (actuals_named s.given)))) (kept_call (p.marks.kept (suc i)))
+
+      still : writes f (helper entry k) (one_action line k (plain x) s.snapshots (pushes p line shot) (pops p line shot) plain_call turned_back) ≡ false
+      still = still_action line k x s.snapshots (pushes p line shot) (pops p line shot) plain_call turned_back (still_pushes (helper entry k) line shot) (still_pops entry k line shot) (no_call entry k line s.name s.given) (no_adjoint entry k line (p.callees s.name) s.given)
+
+      turns_still : writes f (helper turn k) (at_turn line k (plain x) turn plain_call) ≡ false
+      turns_still = no_call turn k line s.name s.given
+
+      arms_spared : AreSpared f (arms line k (plain x) (pushes p line shot) (pops p line shot) plain_call turned_back)
+      arms_spared =
+          join (arm line k 1 (pushes p line shot)) (from_advance line k (plain x) (pushes p line shot) (pops p line shot) plain_call turned_back) (arm_spared line k 1 (pushes p line shot) (spared_pushes line shot))
+          (join (arm line k 2 (advance line k (plain x) plain_call)) (from_turn line k (plain x) (pushes p line shot) (pops p line shot) turned_back) (arm_spared line k 2 (advance line k (plain x) plain_call) (turns_still, ((tt, (tt, (tt, (tt, tt)))), tt)))
+          (join (arm line k 3 (at_turn line k (plain x) lower turned_back)) (from_keep line k (pushes p line shot) (pops p line shot)) (arm_spared line k 3 (at_turn line k (plain x) lower turned_back) (tt, (tt, (tt, (tt, tt)))))
+          (join (arm line k 4 (pops p line shot +++ pushes p line shot)) (arm line k 5 (pops p line shot)) (arm_spared line k 4 (pops p line shot +++ pushes p line shot) (join (pops p line shot) (pushes p line shot) (spared_pops line shot) (spared_pushes line shot))) (arm_spared line k 5 (pops p line shot) (spared_pops line shot)))))
+
+  -- the rows of a loop, by how it is reversed
+  rows_spared : (i d line : ℕ) (x : List ℕ) (a b c : Term) (body : Code) (m : Mark) (o : Option Step) → ByStep o (Unit {0}) (Turned f g sc p body) → Known f g sc p (suc i) body → writes g (plain x) body ≡ false → AreSpared f (forward_with sc p (suc i) (suc d) body) × AreSpared f (backward_with sc p (suc i) (suc d) body) →
+      AreSpared f (rows_forth f g sc p i d line x a b c body o) × AreSpared f (rows_back f g sc p i d line x body o)
+  rows_spared i d line x a b c body m None turned w own inside =
+      let ahead = forward_leaves (suc i) (suc d) x body w own in
+      let back = backward_leaves (suc i) d body w in
+      let idle = is_empty (backward_with sc p (suc i) (suc d) body) in (
+        loop_forward_spared idle (suc d) line (plain x) a b c (forward_with sc p (suc i) (suc d) body) (unwritten _ ahead) (unwritten _ (only_raised f g sc p (plain x) (plain_apart x) false (suc d) line (forward_with sc p (suc i) (suc d) body) ahead)) inside.0,
+        loop_backward_spared idle (suc d) line (plain x) (backward_with sc p (suc i) (suc d) body) (unwritten _ back) inside.1,
+      )
+  rows_spared i d line x a b c body m (Some s) turned w own inside = reversed_spared i (suc d) line x a b c body s turned own
 
   mutual
-    act_spared : (i d line : ℕ) (a : Act) → KnownAct f g p i a → Spares g a → HoldsIn (λ l b. Spares g b) a → AreSpared f (forward_act p i d line a) × AreSpared f (backward_act p i d line a)
+    act_spared : (i d line : ℕ) (a : Act) → KnownAct f g sc p i a → Spares g a → HoldsIn (λ l b. Spares g b) a → AreSpared f (forward_act_with sc p i d line a) × AreSpared f (backward_act_with sc p i d line a)
     act_spared i d line (assign (plain x) subs e) w s h = (
       spared_if (p.marks.kept i) _ (join (code_if (p.marks.saved i (plain x)) (one line (runtime (push_word (plain x) subs)))) (one line (assign (plain x) subs e)) (spared_if (p.marks.saved i (plain x)) (one line (runtime (push_word (plain x) subs))) (tt, (tt, tt))) (tt, (tt, tt))),
       join (code_if (p.marks.kept i && p.marks.saved i (plain x)) (one line (runtime (pop_word (plain x) subs)))) (code_if (p.marks.adjointed i) (adjoint_where (active_at p.marks i) x subs e line)) (spared_if (p.marks.kept i && p.marks.saved i (plain x)) (one line (runtime (pop_word (plain x) subs))) (tt, (tt, tt)))
@@ -105,20 +252,15 @@ module _ (f g : Dummies) (p : Plan) where
     act_spared i d line (choose c a b) w s h =
         let there = list_spared (suc i) d a w.0 h.0 in
         let other = list_spared (behind (suc i) a) d b w.1 h.1 in
-        let idle = is_empty (backward p (suc i) d a) && is_empty (backward p (behind (suc i) a) d b) in (
-          spared_if (is_emitted p.marks i) (one line (choose c (told_forward idle line (forward p (suc i) d a) 1) (told_forward idle line (forward p (behind (suc i) a) d b) 0))) (tt, ((told_forward_spared idle line (forward p (suc i) d a) 1 there.0, told_forward_spared idle line (forward p (behind (suc i) a) d b) 0 other.0), tt)),
-          spared_if (is_emitted p.marks i) _ (told_backward_spared idle line (backward p (suc i) d a) (backward p (behind (suc i) a) d b) there.1 other.1),
+        let idle = is_empty (backward_with sc p (suc i) d a) && is_empty (backward_with sc p (behind (suc i) a) d b) in (
+          spared_if (is_emitted p.marks i) (one line (choose c (told_forward idle line (forward_with sc p (suc i) d a) 1) (told_forward idle line (forward_with sc p (behind (suc i) a) d b) 0))) (tt, ((told_forward_spared idle line (forward_with sc p (suc i) d a) 1 there.0, told_forward_spared idle line (forward_with sc p (behind (suc i) a) d b) 0 other.0), tt)),
+          spared_if (is_emitted p.marks i) _ (told_backward_spared idle line (backward_with sc p (suc i) d a) (backward_with sc p (behind (suc i) a) d b) there.1 other.1),
         )
     act_spared i d line (loop (plain x) a b c body m) w s h =
-        let inside = list_spared (suc i) (suc d) body w.1 h in
-        let ahead = forward_leaves (suc i) (suc d) x body w.1 s in
-        let back = backward_leaves (suc i) d body w.1 in
-        let idle = is_empty (backward p (suc i) (suc d) body) in (
+        let rows = rows_spared i d line x a b c body m (reversed_by sc p.marks.adjointed i body m) w.1.0 w.1.1 s (list_spared (suc i) (suc d) body w.1.1 h) in (
+          spared_if (is_emitted p.marks i) _ (join (code_if (p.marks.saved i (plain x)) (one line (runtime (push_word (plain x) none)))) _ (spared_if (p.marks.saved i (plain x)) (one line (runtime (push_word (plain x) none))) (tt, (tt, tt))) rows.0),
           spared_if (is_emitted p.marks i) _
-              (join (code_if (p.marks.saved i (plain x)) (one line (runtime (push_word (plain x) none)))) _ (spared_if (p.marks.saved i (plain x)) (one line (runtime (push_word (plain x) none))) (tt, (tt, tt)))
-              (loop_forward_spared idle (suc d) line (plain x) a b c (forward p (suc i) (suc d) body) (unwritten _ ahead) (unwritten _ (only_raised f g p (plain x) (plain_apart x) false (suc d) line (forward p (suc i) (suc d) body) ahead)) inside.0)),
-          spared_if (is_emitted p.marks i) _
-              (join (loop_backward idle (suc d) line (plain x) (backward p (suc i) (suc d) body)) _ (loop_backward_spared idle (suc d) line (plain x) (backward p (suc i) (suc d) body) (unwritten _ back) inside.1)
+              (join (rows_back f g sc p i d line x body (reversed_by sc p.marks.adjointed i body m)) _ rows.1
               (join (code_if (p.marks.saved i (plain x)) (one line (runtime (pop_word (plain x) none)))) (reset p.marks i line x) (spared_if (p.marks.saved i (plain x)) (one line (runtime (pop_word (plain x) none))) (tt, (tt, tt))) (spared_if (resets p.marks i x) (one line (assign (shadow x) none (literal 0))) (tt, (tt, tt))))),
         )
     act_spared i d line (loop (shadow x) a b c body m) w s h = (tt, tt)
@@ -126,9 +268,9 @@ module _ (f g : Dummies) (p : Plan) where
     act_spared i d line (during c body) w s h =
         let inside = list_spared (suc i) (suc d) body w h in
         let back = backward_leaves (suc i) d body w in
-        let idle = is_empty (backward p (suc i) (suc d) body) in (
-          spared_if (is_emitted p.marks i) _ (while_forward_spared idle (suc d) line c (forward p (suc i) (suc d) body) inside.0),
-          spared_if (is_emitted p.marks i) _ (while_backward_spared idle (suc d) line (backward p (suc i) (suc d) body) (unwritten _ back) inside.1),
+        let idle = is_empty (backward_with sc p (suc i) (suc d) body) in (
+          spared_if (is_emitted p.marks i) _ (while_forward_spared idle (suc d) line c (forward_with sc p (suc i) (suc d) body) inside.0),
+          spared_if (is_emitted p.marks i) _ (while_backward_spared idle (suc d) line (backward_with sc p (suc i) (suc d) body) (unwritten _ back) inside.1),
         )
     act_spared i d line (call name args) w s h =
         let callee = p.callees name in
@@ -143,13 +285,13 @@ module _ (f g : Dummies) (p : Plan) where
         )
     act_spared i d line (runtime r) w s h = absurd w
 
-    list_spared : (i d : ℕ) (c : Code) → Known f g p i c → AreSpared g c → AreSpared f (forward p i d c) × AreSpared f (backward p i d c)
+    list_spared : (i d : ℕ) (c : Code) → Known f g sc p i c → AreSpared g c → AreSpared f (forward_with sc p i d c) × AreSpared f (backward_with sc p i d c)
     list_spared i d stop w h = (tt, tt)
     list_spared i d (step line a rest) w h =
         let here = act_spared i d line a w.0 h.0 h.1.0 in
         let later = list_spared (next i a) d rest w.1 h.1.1 in (
-          join (forward_act p i d line a) (forward p (next i a) d rest) here.0 later.0,
-          join (backward p (next i a) d rest) (backward_act p i d line a) later.1 here.1,
+          join (forward_act_with sc p i d line a) (forward_with sc p (next i a) d rest) here.0 later.0,
+          join (backward_with sc p (next i a) d rest) (backward_act_with sc p i d line a) later.1 here.1,
         )
 
   spared_cleared : (line : ℕ) (xs : List (List ℕ)) → AreSpared f (cleared p line xs)
@@ -161,7 +303,7 @@ module _ (f g : Dummies) (p : Plan) where
       go false = (tt, (tt, tt))
 
   -- so in the body of an adjoint
-  pub body_spared : (i line : ℕ) (c : Code) (at_turn at_end : List (List ℕ)) → Known f g p i c → AreSpared g c → AreSpared f (adjoint_body p i line c at_turn at_end)
+  pub body_spared : (i line : ℕ) (c : Code) (at_turn at_end : List (List ℕ)) → Known f g sc p i c → AreSpared g c → AreSpared f (adjoint_body_with sc p i line c at_turn at_end)
   body_spared i line c at_turn at_end w h =
       let sweeps = list_spared i 0 c w h in
-      join (forward p i 0 c) _ sweeps.0 (join (cleared p line at_turn) _ (spared_cleared line at_turn) (join (backward p i 0 c) (cleared p line at_end) sweeps.1 (spared_cleared line at_end)))
+      join (forward_with sc p i 0 c) _ sweeps.0 (join (cleared p line at_turn) _ (spared_cleared line at_turn) (join (backward_with sc p i 0 c) (cleared p line at_end) sweeps.1 (spared_cleared line at_end)))

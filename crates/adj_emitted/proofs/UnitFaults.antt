@@ -17,7 +17,7 @@ use Rattle.adj_transpose.specs.Program.{unit_name, unmarked, unit_at}
 use Rattle.adj_transpose.proofs.Variables.{or_false, name_comm}
 use Rattle.adj_reverse.specs.Names.{source_names, adjoint_after, adjoint_name}
 use Rattle.adj_reverse.specs.Marking.{ProgramMarks}
-use Rattle.adj_reverse.specs.Program.{has_adjoint, is_carried, all_units, adjoint_unit, emitted_adjoint, emitted_units, emitted_for}
+use Rattle.adj_reverse.specs.Program.{has_adjoint, is_carried_with, all_units, adjoint_unit_with, emitted_adjoint_with, emitted_units_with, emitted_for_with}
 use Rattle.adj_reverse.specs.Source.{is_unit}
 use Rattle.adj_reverse.proofs.Names.{adjoints_apart}
 use Rattle.adj_reverse.proofs.EmittedUnits.{apart_source}
@@ -53,42 +53,42 @@ again_none code before (p ∷ ps) a h =
 
 -- ---- what holds of each emitted unit
 
-module _ (m : ProgramMarks) (ps : List Procedure) (head : Procedure) (vars outvars : List Bool) where
+module _ (sb : Bool) (m : ProgramMarks) (ps : List Procedure) (head : Procedure) (vars outvars : List Bool) where
   -- it holds of those that are carried and of the adjoints that there are
-  pub each_emitted : (P : Procedure → Type 0) (us : List Procedure) → Each (λ u. is_carried m ps head u.name ≡ true → P u) us → Each (λ u. has_adjoint m ps head u.name ≡ true → P (emitted_adjoint m ps head vars outvars u)) us → Each P (emitted_units m ps head vars outvars us)
+  pub each_emitted : (P : Procedure → Type 0) (us : List Procedure) → Each (λ u. is_carried_with sb m ps head u.name ≡ true → P u) us → Each (λ u. has_adjoint m ps head u.name ≡ true → P (emitted_adjoint_with sb m ps head vars outvars u)) us → Each P (emitted_units_with sb m ps head vars outvars us)
   each_emitted P [] c a = tt
-  each_emitted P (u ∷ us) c a = carried (is_carried m ps head u.name) c.0 (made (has_adjoint m ps head u.name) a.0 (each_emitted P us c.1 a.1))
+  each_emitted P (u ∷ us) c a = carried (is_carried_with sb m ps head u.name) c.0 (made (has_adjoint m ps head u.name) a.0 (each_emitted P us c.1 a.1))
     where
-      made : (b : Bool) → (b ≡ true → P (emitted_adjoint m ps head vars outvars u)) → Each P (emitted_units m ps head vars outvars us) → Each P ((if b then emitted_adjoint m ps head vars outvars u ∷ [] else []) ++ emitted_units m ps head vars outvars us)
+      made : (b : Bool) → (b ≡ true → P (emitted_adjoint_with sb m ps head vars outvars u)) → Each P (emitted_units_with sb m ps head vars outvars us) → Each P ((if b then emitted_adjoint_with sb m ps head vars outvars u ∷ [] else []) ++ emitted_units_with sb m ps head vars outvars us)
       made true h ih = (h refl, ih)
       made false h ih = ih
 
-      carried : (b : Bool) → (b ≡ true → P u) → Each P ((if has_adjoint m ps head u.name then emitted_adjoint m ps head vars outvars u ∷ [] else []) ++ emitted_units m ps head vars outvars us) → Each P ((if b then u ∷ [] else []) ++ ((if has_adjoint m ps head u.name then emitted_adjoint m ps head vars outvars u ∷ [] else []) ++ emitted_units m ps head vars outvars us))
+      carried : (b : Bool) → (b ≡ true → P u) → Each P ((if has_adjoint m ps head u.name then emitted_adjoint_with sb m ps head vars outvars u ∷ [] else []) ++ emitted_units_with sb m ps head vars outvars us) → Each P ((if b then u ∷ [] else []) ++ ((if has_adjoint m ps head u.name then emitted_adjoint_with sb m ps head vars outvars u ∷ [] else []) ++ emitted_units_with sb m ps head vars outvars us))
       carried true h ih = (h refl, ih)
       carried false h ih = ih
 
   abbrev adj : List ℕ → List ℕ
   adj x = adjoint_after (source_names ps) ps x
 
-  pub made_name : (u : Procedure) → (emitted_adjoint m ps head vars outvars u).name ≡ adjoint_name ps u
+  pub made_name : (u : Procedure) → (emitted_adjoint_with sb m ps head vars outvars u).name ≡ adjoint_name ps u
   made_name u = go (name_eq head.name u.name)
     where
-      go : (b : Bool) → (if b then adjoint_unit m ps (all_units m ps head) u (names_in (m.shadowed u.name) (unmarked u.dummies outvars)) (names_in (m.shadowed u.name) (unmarked u.dummies vars)) else adjoint_unit m ps (all_units m ps head) u [] []).name ≡ adjoint_name ps u
+      go : (b : Bool) → (if b then adjoint_unit_with sb m ps (all_units m ps head) u (names_in (m.shadowed u.name) (unmarked u.dummies outvars)) (names_in (m.shadowed u.name) (unmarked u.dummies vars)) else adjoint_unit_with sb m ps (all_units m ps head) u [] []).name ≡ adjoint_name ps u
       go true = refl
       go false = refl
 
   -- ---- they have names of their own
 
   -- a name that neither the units nor their adjoints have is none of those emitted
-  pub not_emitted : (z : List ℕ) (us : List Procedure) → Each (λ u. (name_eq z u.name ≡ false) × (has_adjoint m ps head u.name ≡ true → name_eq z (adj u.name) ≡ false)) us → has_name z (map unit_name (emitted_units m ps head vars outvars us)) ≡ false
+  pub not_emitted : (z : List ℕ) (us : List Procedure) → Each (λ u. (name_eq z u.name ≡ false) × (has_adjoint m ps head u.name ≡ true → name_eq z (adj u.name) ≡ false)) us → has_name z (map unit_name (emitted_units_with sb m ps head vars outvars us)) ≡ false
   not_emitted z [] h = refl
-  not_emitted z (u ∷ us) h = carried (is_carried m ps head u.name) (made (has_adjoint m ps head u.name) h.0.1 (not_emitted z us h.1))
+  not_emitted z (u ∷ us) h = carried (is_carried_with sb m ps head u.name) (made (has_adjoint m ps head u.name) h.0.1 (not_emitted z us h.1))
     where
-      made : (b : Bool) → (b ≡ true → name_eq z (adj u.name) ≡ false) → has_name z (map unit_name (emitted_units m ps head vars outvars us)) ≡ false → has_name z (map unit_name ((if b then emitted_adjoint m ps head vars outvars u ∷ [] else []) ++ emitted_units m ps head vars outvars us)) ≡ false
+      made : (b : Bool) → (b ≡ true → name_eq z (adj u.name) ≡ false) → has_name z (map unit_name (emitted_units_with sb m ps head vars outvars us)) ≡ false → has_name z (map unit_name ((if b then emitted_adjoint_with sb m ps head vars outvars u ∷ [] else []) ++ emitted_units_with sb m ps head vars outvars us)) ≡ false
       made true f ih = rw (ap (name_eq z) (made_name u) ∙ f refl, ih) refl
       made false f ih = ih
 
-      carried : (b : Bool) → has_name z (map unit_name ((if has_adjoint m ps head u.name then emitted_adjoint m ps head vars outvars u ∷ [] else []) ++ emitted_units m ps head vars outvars us)) ≡ false → has_name z (map unit_name ((if b then u ∷ [] else []) ++ ((if has_adjoint m ps head u.name then emitted_adjoint m ps head vars outvars u ∷ [] else []) ++ emitted_units m ps head vars outvars us))) ≡ false
+      carried : (b : Bool) → has_name z (map unit_name ((if has_adjoint m ps head u.name then emitted_adjoint_with sb m ps head vars outvars u ∷ [] else []) ++ emitted_units_with sb m ps head vars outvars us)) ≡ false → has_name z (map unit_name ((if b then u ∷ [] else []) ++ ((if has_adjoint m ps head u.name then emitted_adjoint_with sb m ps head vars outvars u ∷ [] else []) ++ emitted_units_with sb m ps head vars outvars us))) ≡ false
       carried true ih = rw (h.0.0, ih) refl
       carried false ih = ih
 
@@ -97,9 +97,9 @@ module _ (m : ProgramMarks) (ps : List Procedure) (head : Procedure) (vars outva
   others_apart [] z h = tt
   others_apart (u ∷ us) z h = let p = or_false (name_eq z u.name) (has_name z (map unit_name us)) h in (p.0, others_apart us z p.1)
 
-  pub emitted_apart : (us : List Procedure) → AreApart (map unit_name us) → Each (λ u. is_unit ps u.name ≡ true) us → AreApart (map unit_name (emitted_units m ps head vars outvars us))
+  pub emitted_apart : (us : List Procedure) → AreApart (map unit_name us) → Each (λ u. is_unit ps u.name ≡ true) us → AreApart (map unit_name (emitted_units_with sb m ps head vars outvars us))
   emitted_apart [] a t = tt
-  emitted_apart (u ∷ us) a t = carried (is_carried m ps head u.name) (made (has_adjoint m ps head u.name) (emitted_apart us a.1 t.1))
+  emitted_apart (u ∷ us) a t = carried (is_carried_with sb m ps head u.name) (made (has_adjoint m ps head u.name) (emitted_apart us a.1 t.1))
     where
       other : Each (λ v. (name_eq u.name v.name ≡ false) × (is_unit ps v.name ≡ true)) us
       other = both us (others_apart us u.name a.0) t.1
@@ -109,24 +109,24 @@ module _ (m : ProgramMarks) (ps : List Procedure) (head : Procedure) (vars outva
           both (v ∷ vs) h k = ((h.0, k.0), both vs h.1 k.1)
 
       -- neither its name nor that of its adjoint is among the others
-      own_free : has_name u.name (map unit_name (emitted_units m ps head vars outvars us)) ≡ false
-      own_free = not_emitted u.name us (each_more (λ v. (name_eq u.name v.name ≡ false) × (is_unit ps v.name ≡ true)) (λ v. (name_eq u.name v.name ≡ false) × (has_adjoint m ps head v.name ≡ true → name_eq u.name (adj v.name) ≡ false)) (λ v k. (k.0, λ h. apart_source false m ps head vars outvars u.name v.name t.0 k.1)) us other)
+      own_free : has_name u.name (map unit_name (emitted_units_with sb m ps head vars outvars us)) ≡ false
+      own_free = not_emitted u.name us (each_more (λ v. (name_eq u.name v.name ≡ false) × (is_unit ps v.name ≡ true)) (λ v. (name_eq u.name v.name ≡ false) × (has_adjoint m ps head v.name ≡ true → name_eq u.name (adj v.name) ≡ false)) (λ v k. (k.0, λ h. apart_source sb m ps head vars outvars u.name v.name t.0 k.1)) us other)
 
-      made_free : has_name (adj u.name) (map unit_name (emitted_units m ps head vars outvars us)) ≡ false
+      made_free : has_name (adj u.name) (map unit_name (emitted_units_with sb m ps head vars outvars us)) ≡ false
       made_free =
           not_emitted (adj u.name) us
           (each_more (λ v. (name_eq u.name v.name ≡ false) × (is_unit ps v.name ≡ true)) (λ v. (name_eq (adj u.name) v.name ≡ false) × (has_adjoint m ps head v.name ≡ true → name_eq (adj u.name) (adj v.name) ≡ false))
-          (λ v k. (name_comm v.name (adj u.name) (apart_source false m ps head vars outvars v.name u.name k.1 t.0), λ h. adjoints_apart (source_names ps) ps u.name v.name t.0 k.1 k.0)) us other)
+          (λ v k. (name_comm v.name (adj u.name) (apart_source sb m ps head vars outvars v.name u.name k.1 t.0), λ h. adjoints_apart (source_names ps) ps u.name v.name t.0 k.1 k.0)) us other)
 
-      made : (b : Bool) → AreApart (map unit_name (emitted_units m ps head vars outvars us)) → AreApart (map unit_name ((if b then emitted_adjoint m ps head vars outvars u ∷ [] else []) ++ emitted_units m ps head vars outvars us))
-      made true ih = (ap (λ z. has_name z (map unit_name (emitted_units m ps head vars outvars us))) (made_name u) ∙ made_free, ih)
+      made : (b : Bool) → AreApart (map unit_name (emitted_units_with sb m ps head vars outvars us)) → AreApart (map unit_name ((if b then emitted_adjoint_with sb m ps head vars outvars u ∷ [] else []) ++ emitted_units_with sb m ps head vars outvars us))
+      made true ih = (ap (λ z. has_name z (map unit_name (emitted_units_with sb m ps head vars outvars us))) (made_name u) ∙ made_free, ih)
       made false ih = ih
 
-      no_own : (b : Bool) → has_name u.name (map unit_name ((if b then emitted_adjoint m ps head vars outvars u ∷ [] else []) ++ emitted_units m ps head vars outvars us)) ≡ false
-      no_own true = rw (ap (name_eq u.name) (made_name u) ∙ apart_source false m ps head vars outvars u.name u.name t.0 t.0, own_free) refl
+      no_own : (b : Bool) → has_name u.name (map unit_name ((if b then emitted_adjoint_with sb m ps head vars outvars u ∷ [] else []) ++ emitted_units_with sb m ps head vars outvars us)) ≡ false
+      no_own true = rw (ap (name_eq u.name) (made_name u) ∙ apart_source sb m ps head vars outvars u.name u.name t.0 t.0, own_free) refl
       no_own false = own_free
 
-      carried : (b : Bool) → AreApart (map unit_name ((if has_adjoint m ps head u.name then emitted_adjoint m ps head vars outvars u ∷ [] else []) ++ emitted_units m ps head vars outvars us)) → AreApart (map unit_name ((if b then u ∷ [] else []) ++ ((if has_adjoint m ps head u.name then emitted_adjoint m ps head vars outvars u ∷ [] else []) ++ emitted_units m ps head vars outvars us)))
+      carried : (b : Bool) → AreApart (map unit_name ((if has_adjoint m ps head u.name then emitted_adjoint_with sb m ps head vars outvars u ∷ [] else []) ++ emitted_units_with sb m ps head vars outvars us)) → AreApart (map unit_name ((if b then u ∷ [] else []) ++ ((if has_adjoint m ps head u.name then emitted_adjoint_with sb m ps head vars outvars u ∷ [] else []) ++ emitted_units_with sb m ps head vars outvars us)))
       carried true ih = (no_own (has_adjoint m ps head u.name), ih)
       carried false ih = ih
 
@@ -147,34 +147,34 @@ module _ (rules : Rules) (ps : List Procedure) (checked : IsChecked rules ps) wh
       of_units [] h = tt
       of_units (u ∷ us) h = (none_if (is_reserved u.name) (fault 18 u.line) h.0, of_units us h.1)
 
-  emitted_none : (m : ProgramMarks) (head : Procedure) (vars outvars : List Bool) → unit_faults (emitted_units m ps head vars outvars ps) ≡ []
-  emitted_none m head vars outvars = λ i. free i ++ apart i
+  emitted_none : (sb : Bool) (m : ProgramMarks) (head : Procedure) (vars outvars : List Bool) → unit_faults (emitted_units_with sb m ps head vars outvars ps) ≡ []
+  emitted_none sb m head vars outvars = λ i. free i ++ apart i
     where
       names_free : (us : List Procedure) → Each (λ u. is_reserved u.name ≡ false) us → Each (λ (p : At (List ℕ)). faults_if (is_reserved p.1) (fault 18 p.0) ≡ []) (unit_places us)
       names_free [] h = tt
       names_free (u ∷ us) h = (if_none (is_reserved u.name) (fault 18 u.line) h.0, names_free us h.1)
 
-      adjoints_free : (us : List Procedure) → Each (λ u. is_unit ps u.name ≡ true) us → Each (λ u. has_adjoint m ps head u.name ≡ true → is_reserved (emitted_adjoint m ps head vars outvars u).name ≡ false) us
+      adjoints_free : (us : List Procedure) → Each (λ u. is_unit ps u.name ≡ true) us → Each (λ u. has_adjoint m ps head u.name ≡ true → is_reserved (emitted_adjoint_with sb m ps head vars outvars u).name ≡ false) us
       adjoints_free [] t = tt
-      adjoints_free (u ∷ us) t = (λ h. ap is_reserved (made_name m ps head vars outvars u) ∙ made_unreserved (adjoint_name ps u) (adjoint_named (source_names ps) ps u.name (all_named rules ps checked) t.0), adjoints_free us t.1)
+      adjoints_free (u ∷ us) t = (λ h. ap is_reserved (made_name sb m ps head vars outvars u) ∙ made_unreserved (adjoint_name ps u) (adjoint_named (source_names ps) ps u.name (all_named rules ps checked) t.0), adjoints_free us t.1)
 
-      free : reserved_units (emitted_units m ps head vars outvars ps) ≡ []
+      free : reserved_units (emitted_units_with sb m ps head vars outvars ps) ≡ []
       free =
-          flat_none (λ (p : At (List ℕ)). faults_if (is_reserved p.1) (fault 18 p.0)) (unit_places (emitted_units m ps head vars outvars ps))
-          (names_free (emitted_units m ps head vars outvars ps) (each_emitted m ps head vars outvars (λ u. is_reserved u.name ≡ false) ps (each_more (λ u. is_reserved u.name ≡ false) (λ u. is_carried m ps head u.name ≡ true → is_reserved u.name ≡ false) (λ u f h. f) ps all_free) (adjoints_free ps (each_there ps))))
+          flat_none (λ (p : At (List ℕ)). faults_if (is_reserved p.1) (fault 18 p.0)) (unit_places (emitted_units_with sb m ps head vars outvars ps))
+          (names_free (emitted_units_with sb m ps head vars outvars ps) (each_emitted sb m ps head vars outvars (λ u. is_reserved u.name ≡ false) ps (each_more (λ u. is_reserved u.name ≡ false) (λ u. is_carried_with sb m ps head u.name ≡ true → is_reserved u.name ≡ false) (λ u f h. f) ps all_free) (adjoints_free ps (each_there ps))))
 
       none_before : (qs : List (At (List ℕ))) → Each (λ (p : At (List ℕ)). fresh.has_name p.1 [] ≡ false) qs
       none_before [] = tt
       none_before (q ∷ qs) = (refl, none_before qs)
 
-      apart : repeated_units (emitted_units m ps head vars outvars ps) ≡ []
+      apart : repeated_units (emitted_units_with sb m ps head vars outvars ps) ≡ []
       apart =
-          again_none 19 [] (unit_places (emitted_units m ps head vars outvars ps))
-          (subst AreApart (sym (unit_names (emitted_units m ps head vars outvars ps))) (emitted_apart m ps head vars outvars ps units_apart (each_there ps))) (none_before (unit_places (emitted_units m ps head vars outvars ps)))
+          again_none 19 [] (unit_places (emitted_units_with sb m ps head vars outvars ps))
+          (subst AreApart (sym (unit_names (emitted_units_with sb m ps head vars outvars ps))) (emitted_apart sb m ps head vars outvars ps units_apart (each_there ps))) (none_before (unit_places (emitted_units_with sb m ps head vars outvars ps)))
 
 pub units_have_none : UnitsHaveNone
-units_have_none rules ps checked m head vars outvars = go (unit_at head ps)
+units_have_none rules ps checked sb m head vars outvars = go (unit_at head ps)
   where
-    go : (us : List Procedure) → unit_faults (emitted_for m ps vars outvars us) ≡ []
+    go : (us : List Procedure) → unit_faults (emitted_for_with sb m ps vars outvars us) ≡ []
     go [] = refl
-    go (u ∷ us) = emitted_none rules ps checked m u vars outvars
+    go (u ∷ us) = emitted_none rules ps checked sb m u vars outvars

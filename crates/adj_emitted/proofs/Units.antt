@@ -14,22 +14,22 @@ use Rattle.adj_transpose.specs.Marked.{names_in}
 use Rattle.adj_transpose.specs.MarkedProgram.{shadows_behind, declared_behind}
 use Rattle.adj_transpose.specs.Program.{scalar, declaration, declared_helpers}
 use Rattle.adj_transpose.proofs.Variables.{or_left, or_right, var_refl}
-use Rattle.adj_reverse.specs.Plan.{Plan}
-use Rattle.adj_reverse.specs.Emission.{adjoint_body}
+use Rattle.adj_reverse.specs.Plan.{Plan, Schedules}
+use Rattle.adj_reverse.specs.Emission.{adjoint_body_with}
 use Rattle.adj_reverse.specs.Names.{adjoint_name}
 use Rattle.adj_reverse.specs.Marking.{ProgramMarks, first_statement, plan_in}
-use Rattle.adj_reverse.specs.Program.{works_used, temps_used, helpers_used, adjoint_names, adjoint_unit}
+use Rattle.adj_reverse.specs.Program.{works_used, temps_used, helpers_used_with, adjoint_names_with, adjoint_unit_with, schedules_in}
 use Rattle.adj_reverse.proofs.Variables.{dummy_among}
 use Rattle.adj_checked.proofs.Lists.{Each, each_more}
 use Rattle.adj_checked.proofs.Texts.{Known}
 use Rattle.adj_checked.proofs.Statements.{CallHasNone}
 use Rattle.adj_checked.proofs.Units.{names_known}
 use Rattle.adj_emitted.proofs.Over.{OverCode, Any}
-use Rattle.adj_emitted.proofs.Follows.{Follows}
+use Rattle.adj_emitted.proofs.Follows.{FollowsBy}
 use Rattle.adj_emitted.proofs.Sweeps.{Allows, body_over}
 use Rattle.adj_emitted.proofs.Renamed.{written_code}
 use Rattle.adj_emitted.proofs.Source.{source_code}
-use Rattle.adj_emitted.proofs.Used.{used_helpers, used_works, used_temps, all_helped}
+use Rattle.adj_emitted.proofs.Used.{used_helpers_with, used_works, used_temps, all_helped}
 use Rattle.adj_emitted.proofs.Sources.{each_name, of_each}
 use Rattle.adj_emitted.proofs.Tables.{IsFree, has_var, among, named_free, named_indexed, has_plain, plain_known, has_shadow, has_helper}
 
@@ -70,9 +70,12 @@ other_written d x h w = record { named = h; few_extents = w.few_extents; extents
 
 -- ---- the adjoint of a unit
 
-module _ (m : ProgramMarks) (ps : List Procedure) (units : List (List ℕ)) (u : Procedure) (written : IsWrittenProcedure u) (kernel : IsKernelCode u.body) (free : Each IsFree (variables u)) (calls : Each (CallHasNone ps u) (statements u.body)) (follows : Follows Any (plan_in m ps u) (first_statement ps u.name) u.body) where
+module _ (sb : Bool) (m : ProgramMarks) (ps : List Procedure) (units : List (List ℕ)) (u : Procedure) (written : IsWrittenProcedure u) (kernel : IsKernelCode u.body) (free : Each IsFree (variables u)) (calls : Each (CallHasNone ps u) (statements u.body)) (follows : FollowsBy (schedules_in sb ps) Any (plan_in m ps u) (first_statement ps u.name) u.body) where
   abbrev p : Plan
   p = plan_in m ps u
+
+  abbrev sc : Schedules
+  sc = schedules_in sb ps
 
   abbrev i : ℕ
   i = first_statement ps u.name
@@ -81,10 +84,10 @@ module _ (m : ProgramMarks) (ps : List Procedure) (units : List (List ℕ)) (u :
   a = m.shadowed u.name
 
   abbrev hs : List Var
-  hs = helpers_used p i u.body
+  hs = helpers_used_with sc p i u.body
 
   abbrev ns : List Named
-  ns = adjoint_names m ps units u
+  ns = adjoint_names_with sb m ps units u
 
   -- a variable that has a name
   abbrev Q : Var → Option ℕ → Type 0
@@ -95,27 +98,27 @@ module _ (m : ProgramMarks) (ps : List Procedure) (units : List (List ℕ)) (u :
 
   allows : Allows Q A a p.arrays
   allows = record {
-    shadows = λ x n marked q. has_shadow (variables u) units a hs free (used_helpers p i u.body) x (plain_known (variables u) units a hs free (used_helpers p i u.body) x q) marked;
+    shadows = λ x n marked q. has_shadow (variables u) units a hs free (used_helpers_with sc p i u.body) x (plain_known (variables u) units a hs free (used_helpers_with sc p i u.body) x q) marked;
     whole = λ x e q. tt;
     whole_shadows = λ x marked e q. tt;
     scalars = λ x e q. q;
   }
 
   source : OverCode Q A Any u.body
-  source = source_code Q A (Known (variables u)) (λ x n k. has_plain (variables u) units a hs free (used_helpers p i u.body) x k) ps u u.body written.body kernel (names_known u) calls
+  source = source_code Q A (Known (variables u)) (λ x n k. has_plain (variables u) units a hs free (used_helpers_with sc p i u.body) x k) ps u u.body written.body kernel (names_known u) calls
 
   helper_stands : (v : Var) → among v hs ≡ true → Q v (Some 0)
-  helper_stands v h = has_helper (variables u) units a hs free (used_helpers p i u.body) v h
+  helper_stands v h = has_helper (variables u) units a hs free (used_helpers_with sc p i u.body) v h
 
-  body_written : (line : ℕ) (at_turn at_end : List (List ℕ)) → Each (λ x. (has_name x (variables u) ≡ true) × (a (plain x) ≡ true)) at_turn → Each (λ x. (has_name x (variables u) ≡ true) × (a (plain x) ≡ true)) at_end → OverCode Q A Any (adjoint_body p i line u.body at_turn at_end)
+  body_written : (line : ℕ) (at_turn at_end : List (List ℕ)) → Each (λ x. (has_name x (variables u) ≡ true) × (a (plain x) ≡ true)) at_turn → Each (λ x. (has_name x (variables u) ≡ true) × (a (plain x) ≡ true)) at_end → OverCode Q A Any (adjoint_body_with sc p i line u.body at_turn at_end)
   body_written line at_turn at_end turned ended =
-      body_over Q A Any p allows (works_used p.marks i u.body) (temps_used p.marks i u.body) (λ k low high. helper_stands (helper work k) (used_works p i u.body k low high)) (λ k low high. helper_stands (helper temp k) (used_temps p i u.body k low high)) i line u.body at_turn at_end follows source (all_helped p i u.body Q helper_stands) (omega arith) (omega arith) (stand at_turn turned) (stand at_end ended)
+      body_over Q A Any sc p allows (works_used p.marks i u.body) (temps_used p.marks i u.body) (λ k low high. helper_stands (helper work k) (used_works sc p i u.body k low high)) (λ k low high. helper_stands (helper temp k) (used_temps sc p i u.body k low high)) i line u.body at_turn at_end follows source (all_helped sc p i u.body Q helper_stands) (omega arith) (omega arith) (stand at_turn turned) (stand at_end ended)
     where
       stand : (xs : List (List ℕ)) → Each (λ x. (has_name x (variables u) ≡ true) × (a (plain x) ≡ true)) xs → Each (λ x. Q (plain x) None × (a (plain x) ≡ true)) xs
-      stand xs h = each_more (λ x. (has_name x (variables u) ≡ true) × (a (plain x) ≡ true)) (λ x. Q (plain x) None × (a (plain x) ≡ true)) (λ x k. (has_plain (variables u) units a hs free (used_helpers p i u.body) x k.0, k.1)) xs h
+      stand xs h = each_more (λ x. (has_name x (variables u) ≡ true) × (a (plain x) ≡ true)) (λ x. Q (plain x) None × (a (plain x) ≡ true)) (λ x k. (has_plain (variables u) units a hs free (used_helpers_with sc p i u.body) x k.0, k.1)) xs h
 
   shadow_named : (x : List ℕ) → has_name x (variables u) ≡ true → a (plain x) ≡ true → IsName (name_in ns (shadow x))
-  shadow_named x h marked = (named_free (variables u) units a hs free (used_helpers p i u.body) (shadow x) (has_shadow (variables u) units a hs free (used_helpers p i u.body) x h marked)).0
+  shadow_named x h marked = (named_free (variables u) units a hs free (used_helpers_with sc p i u.body) (shadow x) (has_shadow (variables u) units a hs free (used_helpers_with sc p i u.body) x h marked)).0
 
   dummies_written : (xs : List (List ℕ)) → Each (λ x. IsName x × (has_name x (variables u) ≡ true)) xs → Each IsName (shadows_behind a ns xs)
   dummies_written [] h = tt
@@ -144,7 +147,7 @@ module _ (m : ProgramMarks) (ps : List Procedure) (units : List (List ℕ)) (u :
   helpers_written line (v ∷ vs) h = All-cons IsWrittenDeclaration (scalar line (name_in ns v)) (declared_helpers ns line vs) (scalar_written line (name_in ns v) h.0) (helpers_written line vs h.1)
 
   helper_names : Each (λ v. IsName (name_in ns v)) hs
-  helper_names = each_var (λ v. IsName (name_in ns v)) hs (λ v h. (named_free (variables u) units a hs free (used_helpers p i u.body) v (helper_stands v h)).0)
+  helper_names = each_var (λ v. IsName (name_in ns v)) hs (λ v h. (named_free (variables u) units a hs free (used_helpers_with sc p i u.body) v (helper_stands v h)).0)
 
   dummies_known : Each (λ x. IsName x × (has_name x (variables u) ≡ true)) u.dummies
   dummies_known = each_name (λ x. IsName x × (has_name x (variables u) ≡ true)) u.dummies (λ x h. let k = dummy_among u x h in ((of_each IsFree (variables u) free x k).0, k))
@@ -152,10 +155,10 @@ module _ (m : ProgramMarks) (ps : List Procedure) (units : List (List ℕ)) (u :
   variables_known : Each (λ x. IsName x × (has_name x (variables u) ≡ true)) (variables u)
   variables_known = each_name (λ x. IsName x × (has_name x (variables u) ≡ true)) (variables u) (λ x h. ((of_each IsFree (variables u) free x h).0, h))
 
-  pub unit_written : (at_turn at_end : List (List ℕ)) → IsName (adjoint_name ps u) → Each (λ x. (has_name x (variables u) ≡ true) × (a (plain x) ≡ true)) at_turn → Each (λ x. (has_name x (variables u) ≡ true) × (a (plain x) ≡ true)) at_end → IsWrittenProcedure (adjoint_unit m ps units u at_turn at_end)
+  pub unit_written : (at_turn at_end : List (List ℕ)) → IsName (adjoint_name ps u) → Each (λ x. (has_name x (variables u) ≡ true) × (a (plain x) ≡ true)) at_turn → Each (λ x. (has_name x (variables u) ≡ true) × (a (plain x) ≡ true)) at_end → IsWrittenProcedure (adjoint_unit_with sb m ps units u at_turn at_end)
   unit_written at_turn at_end named turned ended = record {
     named = named;
     dummies = all_each IsName (shadows_behind a ns u.dummies) (dummies_written u.dummies dummies_known);
     declarations = All-append IsWrittenDeclaration (declared_behind a ns u (variables u)) (declared_helpers ns u.line hs) (declared_written (variables u) variables_known) (helpers_written u.line hs helper_names);
-    body = written_code Q A Any (naming ns) (λ v n q. named_indexed (variables u) units a hs free (used_helpers p i u.body) v q) (adjoint_body p i u.line u.body at_turn at_end) (body_written u.line at_turn at_end turned ended);
+    body = written_code Q A Any (naming ns) (λ v n q. named_indexed (variables u) units a hs free (used_helpers_with sc p i u.body) v q) (adjoint_body_with sc p i u.line u.body at_turn at_end) (body_written u.line at_turn at_end turned ended);
   }

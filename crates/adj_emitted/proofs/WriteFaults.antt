@@ -17,9 +17,9 @@ use Rattle.adj_transpose.specs.Marks.{Vars}
 use Rattle.adj_transpose.specs.MarkedProgram.{declared_behind}
 use Rattle.adj_transpose.specs.Program.{declaration, declared_helpers, unit_at}
 use Rattle.adj_transpose.proofs.Variables.{not_true, or_left, or_right}
-use Rattle.adj_reverse.specs.Emission.{adjoint_body}
+use Rattle.adj_reverse.specs.Emission.{adjoint_body_with}
 use Rattle.adj_reverse.specs.Marking.{ProgramMarks, first_statement, plan_in}
-use Rattle.adj_reverse.specs.Program.{helpers_used, has_adjoint, is_carried, all_units, adjoint_unit, emitted_adjoint, emitted_units, emitted_for}
+use Rattle.adj_reverse.specs.Program.{helpers_used_with, has_adjoint, is_carried_with, all_units, adjoint_unit_with, emitted_adjoint_with, emitted_units_with, emitted_for_with, schedules_in}
 use Rattle.adj_reverse.specs.Source.{CallUnits}
 use Rattle.adj_reverse.proofs.Variables.{dummy_among, same_has}
 use Rattle.adj_checked.proofs.Lists.{Each, each_more, each_both, none_each, none_front, none_behind}
@@ -104,9 +104,9 @@ tame_of ps u h = (
   kept_of (handed_back ps) u (none_front (written_extents (handed_back ps) u) _ (none_behind (written_variables (handed_back ps) u) _ h)),
 )
 
-module _ (m : ProgramMarks) (ps : List Procedure) (head : Procedure) (vars outvars : List Bool) (named : Each (λ u. IsName u.name) ps) (known : CallUnits ps ps) (sound : Each (IsSound m ps) ps) where
+module _ (sb : Bool) (m : ProgramMarks) (ps : List Procedure) (head : Procedure) (vars outvars : List Bool) (named : Each (λ u. IsName u.name) ps) (known : CallUnits ps ps) (sound : Each (IsSound m ps) ps) where
   abbrev qs : List Procedure
-  qs = emitted_units m ps head vars outvars ps
+  qs = emitted_units_with sb m ps head vars outvars ps
 
   abbrev f : Dummies
   f = handed_back qs
@@ -118,61 +118,61 @@ module _ (m : ProgramMarks) (ps : List Procedure) (head : Procedure) (vars outva
   abbrev HasNeither : Procedure → Type 0
   HasNeither v = (written_variables f v ≡ []) × (written_extents f v ≡ [])
 
-  back : HandBackNoMore m ps head vars outvars named known sound f
-  back = handed_no_more m ps head vars outvars named known sound
+  back : HandBackNoMore sb m ps head vars outvars named known sound f
+  back = handed_no_more sb m ps head vars outvars named known sound
 
-  carried_neither : (u : Procedure) → find_unit ps u.name ≡ Some u → IsTame ps u → is_carried m ps head u.name ≡ true → HasNeither u
+  carried_neither : (u : Procedure) → find_unit ps u.name ≡ Some u → IsTame ps u → is_carried_with sb m ps head u.name ≡ true → HasNeither u
   carried_neither u found tame h = (
-    of_spared f u (still_spared f g (is_carried m ps head) less u.body closed tame.0),
-    of_kept f u (λ d k e. still f g (is_carried m ps head) less u.body closed (plain d) (tame.1 d k e)),
+    of_spared f u (still_spared f g (is_carried_with sb m ps head) less u.body closed tame.0),
+    of_kept f u (λ d k e. still f g (is_carried_with sb m ps head) less u.body closed (plain d) (tame.1 d k e)),
   )
     where
-      less : (c : Code) → CallsInside (is_carried m ps head) c → (v : Var) → writes f v c ≡ true → writes g v c ≡ true
-      less c k v = inside_writes f g (is_carried m ps head) v (λ name t args. let b = back in b.carried name t v args) c k
+      less : (c : Code) → CallsInside (is_carried_with sb m ps head) c → (v : Var) → writes f v c ≡ true → writes g v c ≡ true
+      less c k v = inside_writes f g (is_carried_with sb m ps head) v (λ name t args. let b = back in b.carried name t v args) c k
 
-      closed : CallsInside (is_carried m ps head) u.body
-      closed = let c = common m ps head vars outvars named known sound in c.closed u.name u h found
+      closed : CallsInside (is_carried_with sb m ps head) u.body
+      closed = let c = common sb m ps head vars outvars named known sound in c.closed u.name u h found
 
-  made_neither : (u : Procedure) (s : IsSound m ps u) (at_turn at_end : List (List ℕ)) → Cleared m ps head vars outvars named known sound u at_turn → Cleared m ps head vars outvars named known sound u at_end → find_unit ps u.name ≡ Some u → IsTame ps u → has_adjoint m ps head u.name ≡ true → HasNeither (adjoint_unit m ps (all_units m ps head) u at_turn at_end)
+  made_neither : (u : Procedure) (s : IsSound m ps u) (at_turn at_end : List (List ℕ)) → Cleared sb m ps head vars outvars named known sound u at_turn → Cleared sb m ps head vars outvars named known sound u at_end → find_unit ps u.name ≡ Some u → IsTame ps u → has_adjoint m ps head u.name ≡ true → HasNeither (adjoint_unit_with sb m ps (all_units m ps head) u at_turn at_end)
   made_neither u s at_turn at_end turned ended found tame there = (
     of_spared f unit
-        (renamed_spared f (naming ns) (name_apart m ps head vars outvars named known sound u s at_turn at_end turned ended) (adjoint_body (plan_in m ps u) (first_statement ps u.name) u.line u.body at_turn at_end)
-        (body_spared f g (plan_in m ps u) (first_statement ps u.name) u.line u.body at_turn at_end (unit_known m ps head vars outvars named known sound f back u s found there) tame.0)),
+        (renamed_spared f (naming ns) (name_apart sb m ps head vars outvars named known sound u s at_turn at_end turned ended) (adjoint_body_with (schedules_in sb ps) (plan_in m ps u) (first_statement ps u.name) u.line u.body at_turn at_end)
+        (body_spared f g (schedules_in sb ps) (plan_in m ps u) (first_statement ps u.name) u.line u.body at_turn at_end (unit_known sb m ps head vars outvars named known sound f back u s found there) tame.0)),
     of_kept f unit unwritten,
   )
     where
       ns : List Named
-      ns = names_for m ps head vars outvars named known sound u
+      ns = names_for sb m ps head vars outvars named known sound u
 
       unit : Procedure
-      unit = adjoint_unit m ps (all_units m ps head) u at_turn at_end
+      unit = adjoint_unit_with sb m ps (all_units m ps head) u at_turn at_end
 
       unwritten : (d : List ℕ) → is_dummy unit d ≡ true → is_extent d unit.declarations ≡ true → writes f (plain d) unit.body ≡ false
       unwritten d k e =
-          let own = made_extent d (m.shadowed u.name) ns u (variables u) (helpers_used (plan_in m ps u) (first_statement ps u.name) u.body) e in
+          let own = made_extent d (m.shadowed u.name) ns u (variables u) (helpers_used_with (schedules_in sb ps) (plan_in m ps u) (first_statement ps u.name) u.body) e in
           let dummy = s.0.1.extent_dummy d own in
           let kept : writes g (plain d) u.body ≡ false = tame.1 d (same_has d u.dummies ∙ dummy) own in
-          not_true (writes f (plain d) unit.body) (λ w. let z : true ≡ false = sym (unit_writes m ps head vars outvars named known sound f back u s at_turn at_end turned ended found there d (dummy_among u d dummy) w) ∙ kept in cc)
+          not_true (writes f (plain d) unit.body) (λ w. let z : true ≡ false = sym (unit_writes sb m ps head vars outvars named known sound f back u s at_turn at_end turned ended found there d (dummy_among u d dummy) w) ∙ kept in cc)
 
   all_neither : Each (Found ps) ps → Each (IsTame ps) ps → Each HasNeither qs
   all_neither found tame =
-      each_emitted m ps head vars outvars HasNeither ps (each_more (λ u. Found ps u × IsTame ps u) (λ u. is_carried m ps head u.name ≡ true → HasNeither u) (λ u k h. carried_neither u k.0.0 k.1 h) ps (each_both (Found ps) (IsTame ps) ps found tame))
-      (each_more (λ u. (Found ps u × IsTame ps u) × IsSound m ps u) (λ u. has_adjoint m ps head u.name ≡ true → HasNeither (emitted_adjoint m ps head vars outvars u))
-      (λ u k there. emitted_has m ps head vars outvars named known sound (λ u v. find_unit ps u.name ≡ Some u → IsTame ps u → has_adjoint m ps head u.name ≡ true → HasNeither v) made_neither u k.1 k.0.0.0 k.0.1 there) ps
+      each_emitted sb m ps head vars outvars HasNeither ps (each_more (λ u. Found ps u × IsTame ps u) (λ u. is_carried_with sb m ps head u.name ≡ true → HasNeither u) (λ u k h. carried_neither u k.0.0 k.1 h) ps (each_both (Found ps) (IsTame ps) ps found tame))
+      (each_more (λ u. (Found ps u × IsTame ps u) × IsSound m ps u) (λ u. has_adjoint m ps head u.name ≡ true → HasNeither (emitted_adjoint_with sb m ps head vars outvars u))
+      (λ u k there. emitted_has sb m ps head vars outvars named known sound (λ u v. find_unit ps u.name ≡ Some u → IsTame ps u → has_adjoint m ps head u.name ≡ true → HasNeither v) made_neither u k.1 k.0.0.0 k.0.1 there) ps
       (each_both (λ u. Found ps u × IsTame ps u) (IsSound m ps) ps (each_both (Found ps) (IsTame ps) ps found tame) sound))
 
   emitted_none : Each (Found ps) ps → Each (IsTame ps) ps → write_faults qs ≡ []
   emitted_none found tame =
       flat_none (faults_of_writes f) qs
       (each_more (λ v. HasNeither v × (shared_variables f v ++ written_values f v ≡ [])) (λ v. faults_of_writes f v ≡ []) (λ v h. λ i. h.0.0 i ++ (h.0.1 i ++ h.1 i)) qs
-      (each_both HasNeither (λ v. shared_variables f v ++ written_values f v ≡ []) qs (all_neither found tame) (none_each (λ v. shared_variables f v ++ written_values f v) qs (emitted_clean f m ps head vars outvars named known sound found))))
+      (each_both HasNeither (λ v. shared_variables f v ++ written_values f v ≡ []) qs (all_neither found tame) (none_each (λ v. shared_variables f v ++ written_values f v) qs (emitted_clean f sb m ps head vars outvars named known sound found))))
 
 pub writes_have_none : WritesHaveNone
-writes_have_none rules ps checked m shadowed head vars outvars = go (unit_at head ps)
+writes_have_none rules ps checked sb m shadowed head vars outvars = go (unit_at head ps)
   where
     tame : Each (IsTame ps) ps
     tame = each_more (λ u. faults_of_writes (handed_back ps) u ≡ []) (IsTame ps) (λ u h. tame_of ps u h) ps (none_each (faults_of_writes (handed_back ps)) ps (sound_has_none rules ps checked.sound).writes)
 
-    go : (us : List Procedure) → write_faults (emitted_for m ps vars outvars us) ≡ []
+    go : (us : List Procedure) → write_faults (emitted_for_with sb m ps vars outvars us) ≡ []
     go [] = refl
-    go (u ∷ us) = emitted_none m ps u vars outvars (all_named rules ps checked) (all_known rules ps checked) (each_sound rules ps checked m shadowed) (all_there rules ps checked) tame
+    go (u ∷ us) = emitted_none sb m ps u vars outvars (all_named rules ps checked) (all_known rules ps checked) (each_sound rules ps checked m shadowed) (all_there rules ps checked) tame

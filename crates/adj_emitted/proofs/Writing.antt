@@ -1,7 +1,7 @@
 -- What the sweeps of a unit may write: of the unit's variables those that the unit may write, and no turn of an outer loop. So no loop writes its variable.
 use Rattle.std.proofs.Common.{◌≡◌, ℕ, suc, ◌<◌, Bool, true, false, List, [], ◌∷◌, refl, sym, ◌∙◌, arith, if◌then◌else◌}
-use Rattle.std.specs.Prelude.{◌&&◌, ◌||◌}
-use Rattle.adj_tree.specs.Code.{work, temp, control, first, stride, count, turn, entry, entries, kind, lower, upper, Var, var_eq, plain, shadow, helper, plus, Term, var, bin, Terms, none, Test, push_word, pop_word, push_array, pop_array, push_control, zero_array, Act, assign, choose, loop, during, call, runtime, Code, stop, step}
+use Rattle.std.specs.Prelude.{◌&&◌, ◌||◌, not, Option, Some, None}
+use Rattle.adj_tree.specs.Code.{Role, work, temp, control, first, stride, count, turn, entry, entries, kind, lower, upper, Var, var_eq, plain, shadow, helper, plus, Term, var, bin, Terms, none, more, Test, Mark, push_word, pop_word, push_array, pop_array, push_control, zero_array, Act, assign, choose, loop, during, call, runtime, Code, stop, step}
 use Rattle.adj_meaning.specs.Append.{◌+++◌, one}
 use Rattle.adj_meaning.specs.LeastSet.{Dummies}
 use Rattle.adj_meaning.specs.Written.{is_handed_back, act_writes, writes}
@@ -10,9 +10,11 @@ use Rattle.adj_transpose.specs.Marks.{Vars, everything, next, behind, active_at}
 use Rattle.adj_transpose.specs.Marked.{code_if}
 use Rattle.adj_transpose.proofs.Variables.{and_true, or_left, or_right}
 use Rattle.adj_reverse.specs.AdjointOf.{adjoint_where}
-use Rattle.adj_reverse.specs.Plan.{Plan, is_emitted, names_of, group, save_group, snapshot_group}
-use Rattle.adj_reverse.specs.Emission.{is_empty, push, pop, pushes, pops, literal, adjoint_call, with_shadows, told_forward, told_backward, loop_forward, loop_backward, while_forward, while_backward, reset, forward_act, forward, backward_act, backward, cleared, adjoint_body}
+use Rattle.adj_reverse.specs.Plan.{Callee, Plan, is_emitted, names_of, actuals_named, group, save_group, snapshot_group, step_snapshot, found_or, Schedules, Step, reversed_by, ByStep}
+use Rattle.adj_reverse.specs.ReversalCode.{at_turn, arm, advance, arms, one_action, reversal, reversed_forward, reversed_backward, row_forward, row_backward}
+use Rattle.adj_reverse.specs.Emission.{is_empty, push, pop, pushes, pops, literal, adjoint_call, with_shadows, told_forward, told_backward, loop_forward, loop_backward, while_forward, while_backward, reset, push_own, pop_own, forward_act_with, forward_with, backward_act_with, backward_with, cleared, adjoint_body_with}
 use Rattle.adj_checked.proofs.Lists.{Each}
+use Rattle.adj_emitted.proofs.StepCalls.{step_body, step_mark, from_keep, from_turn, from_advance}
 use Rattle.adj_emitted.proofs.Assigned.{IsMade, AreMaking, making_adjoint}
 
 -- ---- the variables of a unit and those that are made for it
@@ -71,13 +73,34 @@ turn_apart j (helper kind k) h = refl
 turn_apart j (helper lower k) h = refl
 turn_apart j (helper upper k) h = refl
 
+-- no helper is a name that is given, or the shadow of one
+none_of : (w b : Bool) → b ≡ false → ((w && false) || b) ≡ false
+none_of true b h = h
+none_of false b h = h
+
+pub no_given : (r : Role) (k : ℕ) (ws : List Bool) (given : List (List ℕ)) → is_handed_back (helper r k) ws (actuals_named given) ≡ false
+no_given r k [] given = refl
+no_given r k (w ∷ ws) [] = refl
+no_given r k (w ∷ ws) (a ∷ given) = none_of w (is_handed_back (helper r k) ws (actuals_named given)) (no_given r k ws given)
+
+pub no_shadows_given : (r : Role) (k : ℕ) (ws : List Bool) (sh : Vars) (ds given : List (List ℕ)) → is_handed_back (helper r k) ws (with_shadows sh ds given) ≡ false
+no_shadows_given r k [] sh ds given = refl
+no_shadows_given r k (w ∷ ws) sh [] given = refl
+no_shadows_given r k (w ∷ ws) sh (d ∷ ds) [] = refl
+no_shadows_given r k (w ∷ ws) sh (d ∷ ds) (a ∷ given) = go (sh (plain d)) ws (λ zs. no_shadows_given r k zs sh ds given)
+  where
+    go : (b : Bool) (zs : List Bool) → ((zs : List Bool) → is_handed_back (helper r k) zs (with_shadows sh ds given) ≡ false) → is_handed_back (helper r k) (w ∷ zs) (if b then more (var (plain a)) (more (var (shadow a)) (with_shadows sh ds given)) else more (var (plain a)) (with_shadows sh ds given)) ≡ false
+    go true [] later = none_of w false refl
+    go true (z ∷ zs) later = none_of w ((z && false) || is_handed_back (helper r k) zs (with_shadows sh ds given)) (none_of z (is_handed_back (helper r k) zs (with_shadows sh ds given)) (later zs))
+    go false zs later = none_of w (is_handed_back (helper r k) zs (with_shadows sh ds given)) (later zs)
+
 -- the count of a loop goes up
 abbrev pub raised : ℕ → ℕ → Code
 raised k line = one line (assign (helper count k) none (bin plus (var (helper count k)) (literal 1)))
 
 -- ---- what is known of the source: f says which dummies are written in what is emitted, g which in the source
 
-module _ (f g : Dummies) (p : Plan) where
+module _ (f g : Dummies) (sc : Schedules) (p : Plan) where
   -- of a CALL: what it and the call of the adjoint hand back, and what is pushed and popped for it, the source's CALL hands back
   pub record CallWrites (i : ℕ) (name : List ℕ) (args : Terms) : Type 0 where
     pub kept : p.marks.kept i ≡ true → (v : Var) → is_handed_back v (f name) args ≡ true → is_handed_back v (g name) args ≡ true
@@ -85,11 +108,15 @@ module _ (f g : Dummies) (p : Plan) where
     pub groups : (v : Var) (dummies actuals : Vars) → ((d : Var) → dummies d ≡ true → (p.callees name).written d ≡ true) → Each (λ a. var_eq v (plain a) ≡ true → is_handed_back v (g name) args ≡ true) (group dummies actuals (p.callees name).dummies (names_of args))
     pub own : (k : ℕ) → is_handed_back (helper turn k) (g name) args ≡ false
 
+  -- of the step call of a loop that is reversed: what it hands back the body of the loop may write in the source
+  abbrev pub Turned : Code → Step → Type 0
+  Turned body s = (v : Var) → is_handed_back v (f s.name) (actuals_named s.given) ≡ true → writes g v body ≡ true
+
   abbrev mutual
     pub KnownAct : ℕ → Act → Type 0
     KnownAct i (assign x s e) = IsPlain x
     KnownAct i (choose c a b) = Known (suc i) a × Known (behind (suc i) a) b
-    KnownAct i (loop x a b c body m) = IsPlain x × Known (suc i) body
+    KnownAct i (loop x a b c body m) = IsPlain x × (ByStep (reversed_by sc p.marks.adjointed i body m) (Unit {0}) (Turned body) × Known (suc i) body)
     KnownAct i (during c body) = Known (suc i) body
     KnownAct i (call name args) = CallWrites i name args
     KnownAct i (runtime r) = ⊥
@@ -100,7 +127,7 @@ module _ (f g : Dummies) (p : Plan) where
     Known i (step line a rest) = KnownAct i a × Known (next i a) rest
 
   -- the source writes no turns
-  neither : (a b : Bool) → a ≡ false → b ≡ false → (a || b) ≡ false
+  pub neither : (a b : Bool) → a ≡ false → b ≡ false → (a || b) ≡ false
   neither true b h k = cc
   neither false b h k = k
 
@@ -113,7 +140,7 @@ module _ (f g : Dummies) (p : Plan) where
     no_turn_act : (k i : ℕ) (a : Act) → KnownAct i a → act_writes g (helper turn k) a ≡ false
     no_turn_act k i (assign x s e) h = no_turn k x h
     no_turn_act k i (choose c a b) h = neither (writes g (helper turn k) a) (writes g (helper turn k) b) (no_turns k (suc i) a h.0) (no_turns k (behind (suc i) a) b h.1)
-    no_turn_act k i (loop x a b c body m) h = neither (var_eq (helper turn k) x) (writes g (helper turn k) body) (no_turn k x h.0) (no_turns k (suc i) body h.1)
+    no_turn_act k i (loop x a b c body m) h = neither (var_eq (helper turn k) x) (writes g (helper turn k) body) (no_turn k x h.0) (no_turns k (suc i) body h.1.1)
     no_turn_act k i (during c body) h = no_turns k (suc i) body h
     no_turn_act k i (call name args) h = h.own k
     no_turn_act k i (runtime r) h = absurd h
@@ -121,6 +148,31 @@ module _ (f g : Dummies) (p : Plan) where
     pub no_turns : (k i : ℕ) (c : Code) → Known i c → writes g (helper turn k) c ≡ false
     no_turns k i stop h = refl
     no_turns k i (step line a rest) h = neither (act_writes g (helper turn k) a) (writes g (helper turn k) rest) (no_turn_act k i a h.0) (no_turns k (next i a) rest h.1)
+
+  -- the rows of a loop, by how it is reversed
+  abbrev pub rows_forth : ℕ → ℕ → ℕ → List ℕ → Term → Term → Term → Code → Option Step → Code
+  rows_forth i d line x a b c body o = found_or o (loop_forward (is_empty (backward_with sc p (suc i) (suc d) body)) (suc d) line (plain x) a b c (forward_with sc p (suc i) (suc d) body)) (λ s. row_forward p i (suc d) line x a b c s)
+
+  abbrev pub rows_back : ℕ → ℕ → ℕ → List ℕ → Code → Option Step → Code
+  rows_back i d line x body o = found_or o (loop_backward (is_empty (backward_with sc p (suc i) (suc d) body)) (suc d) line (plain x) (backward_with sc p (suc i) (suc d) body)) (λ s. row_backward p i (suc d) line x s)
+
+  -- what is popped for a step call, and what the call of its adjoint hands back
+  pub record StepWrites (body : Code) (s : Step) : Type 0 where
+    pub adjointed : (v : Var) → IsApart v → is_handed_back v (f (p.callees s.name).adjoint) (with_shadows (p.callees s.name).shadowed (p.callees s.name).dummies s.given) ≡ true → writes g v body ≡ true
+    pub groups : (v : Var) (dummies actuals : Vars) → ((d : Var) → dummies d ≡ true → (p.callees s.name).written d ≡ true) → Each (λ a. var_eq v (plain a) ≡ true → writes g v body ≡ true) (group dummies actuals (p.callees s.name).dummies s.given)
+
+  then_each : (v : Var) (a b : Bool) (xs : List (List ℕ)) → (a ≡ true → b ≡ true) → Each (λ x. var_eq v (plain x) ≡ true → a ≡ true) xs → Each (λ x. var_eq v (plain x) ≡ true → b ≡ true) xs
+  then_each v a b [] h k = tt
+  then_each v a b (x ∷ xs) h k = (λ e. h (k.0 e), then_each v a b xs h k.1)
+
+  pub step_writes : (i : ℕ) (body : Code) (m : Mark) (s : Step) → reversed_by sc p.marks.adjointed i body m ≡ Some s → Known (suc i) body → StepWrites body s
+  step_writes i body m s e = step_body (λ c s. Known (suc i) c → StepWrites c s) there sc p.marks.adjointed i body m s e
+    where
+      there : (l : ℕ) (name : List ℕ) (args : Terms) (read : Vars) (k : ℕ) → Known (suc i) (step l (call name args) stop) → StepWrites (step l (call name args) stop) (record { name = name; given = names_of args; read = read; snapshots = k })
+      there l name args read k w = let own = w.0 in record {
+        adjointed = λ v apart h. or_left (is_handed_back v (g name) args) false (own.adjointed (step_mark sc p.marks.adjointed i body m s e).1 v apart h);
+        groups = λ v dummies actuals h. then_each v (is_handed_back v (g name) args) (is_handed_back v (g name) args || false) (group dummies actuals (p.callees name).dummies (names_of args)) (or_left (is_handed_back v (g name) args) false) (own.groups v dummies actuals h);
+      }
 
   -- ---- what the sweeps may write, of a variable: only where n holds
 
@@ -218,6 +270,55 @@ module _ (f g : Dummies) (p : Plan) where
     while_backward_only true k line body s h = quiet
     while_backward_only false k line body s h = both (beside (helper count k) tt) (both (both (never s) h) quiet)
 
+    -- ---- loops that are reversed by schedules
+
+    arm_only : (line k j : ℕ) (c : Code) → Only c → Only (arm line k j c)
+    arm_only line k j c h = only_if (not (is_empty c)) _ (λ t. both (both h quiet) quiet)
+
+    module _ (line k : ℕ) (x : Var) (j : ℕ) (keep back plain_call adjoint : Code) (outer : var_eq v (helper turn k) ≡ false) (own : var_eq v x ≡ true → n ≡ true) (only_keep : Only keep) (only_back : Only back) (only_call : Only plain_call) (only_adjoint : Only adjoint) where
+      arms_only : Only (arms line k x keep back plain_call adjoint)
+      arms_only =
+          only_append (arm line k 1 keep) (from_advance line k x keep back plain_call adjoint) (arm_only line k 1 keep only_keep)
+          (only_append (arm line k 2 (advance line k x plain_call)) (from_turn line k x keep back adjoint) (arm_only line k 2 (advance line k x plain_call) (both (both (never outer) (both own only_call)) quiet))
+          (only_append (arm line k 3 (at_turn line k x lower adjoint)) (from_keep line k keep back) (arm_only line k 3 (at_turn line k x lower adjoint) (both own only_adjoint))
+          (only_append (arm line k 4 (back +++ keep)) (arm line k 5 back) (arm_only line k 4 (back +++ keep) (only_append back keep only_back only_keep)) (arm_only line k 5 back only_back))))
+
+      reversal_only : Only (reversal line k x j keep back plain_call adjoint)
+      reversal_only = both (beside (helper entries k) tt) (both (both (beside (helper entry k) tt) (both (both (beside (helper kind k) tt) (both (beside (helper lower k) tt) (beside (helper upper k) tt))) arms_only)) quiet)
+
+      reversed_backward_only : (unsave : Code) → Only unsave → Only (reversed_backward k line x j keep back unsave plain_call adjoint)
+      reversed_backward_only unsave h = both (beside (helper count k) tt) (both (beside (helper stride k) tt) (both (beside (helper first k) tt) (only_append back _ only_back (only_append (reversal line k x j keep back plain_call adjoint) unsave reversal_only h))))
+
+    reversed_forward_only : (k line : ℕ) (x : Var) (a b c : Term) (save keep plain_call : Code) → (var_eq v x ≡ true → n ≡ true) → Only save → Only keep → Only plain_call → Only (reversed_forward k line x a b c save keep plain_call)
+    reversed_forward_only k line x a b c save keep plain_call t hs hk hp = both (beside (helper first k) tt) (both (beside (helper stride k) tt) (both (beside (helper count k) tt) (only_append save _ hs (only_append keep _ hk (both (both t (only_raised k line plain_call hp)) quiet)))))
+
+    rows_reversed : (i k line : ℕ) (x : List ℕ) (a b c : Term) (body : Code) (s : Step) → Turned body s → StepWrites body s → var_eq v (helper turn k) ≡ false → (var_eq v (plain x) ≡ true → n ≡ true) → (writes g v body ≡ true → n ≡ true) → Only (row_forward p i k line x a b c s) × Only (row_backward p i k line x s)
+    rows_reversed i k line x a b c body s turned w outer own inside = (
+      reversed_forward_only k line (plain x) a b c (pushes p line saves) (pushes p line shot) (code_if (p.marks.kept (suc i)) plain_call) own (only_pushes line saves) (only_pushes line shot) (only_if (p.marks.kept (suc i)) plain_call (λ t. called)),
+      reversed_backward_only line k (plain x) s.snapshots (pushes p line shot) (pops p line shot) plain_call (one line (adjoint_call callee s.given)) outer own (only_pushes line shot) (only_pops line shot popped) called (both (λ e. inside (w.adjointed v apart e)) quiet) (pops p line saves) (only_pops line saves unsaved),
+    )
+      where
+        callee : Callee
+        callee = p.callees s.name
+
+        saves : List (List ℕ)
+        saves = save_group p.marks i (p.callees s.name) s.given
+
+        shot : List (List ℕ)
+        shot = step_snapshot (p.callees s.name) s.read s.given
+
+        plain_call : Code
+        plain_call = one line (call s.name (actuals_named s.given))
+
+        called : Only (one line (call s.name (actuals_named s.given)))
+        called = both (λ e. inside (turned v e)) quiet
+
+        popped : Each (λ y. var_eq v (plain y) ≡ true → n ≡ true) (step_snapshot (p.callees s.name) s.read s.given)
+        popped = then_each v (writes g v body) n (step_snapshot (p.callees s.name) s.read s.given) inside (w.groups v (λ d. (p.callees s.name).written d && ((p.callees s.name).members d || s.read d)) everything (λ d b. (and_true ((p.callees s.name).written d) ((p.callees s.name).members d || s.read d) b).0))
+
+        unsaved : Each (λ y. var_eq v (plain y) ≡ true → n ≡ true) (save_group p.marks i (p.callees s.name) s.given)
+        unsaved = then_each v (writes g v body) n (save_group p.marks i (p.callees s.name) s.given) inside (w.groups v (p.callees s.name).written (p.marks.saved i) (λ d b. b))
+
     only_reset : (i line : ℕ) (x : List ℕ) → Only (reset p.marks i line x)
     only_reset i line x = only_if _ (one line (assign (shadow x) none (literal 0))) (λ t. both (beside (shadow x) tt) quiet)
 
@@ -230,7 +331,7 @@ module _ (f g : Dummies) (p : Plan) where
     inner_turns : (d : ℕ) → IsOuter d → IsOuter (suc d)
     inner_turns d t k l = t k (omega arith)
 
-    call_only : (i d line : ℕ) (name : List ℕ) (args : Terms) → CallWrites i name args → (is_handed_back v (g name) args ≡ true → n ≡ true) → Only (forward_act p i d line (call name args)) × Only (backward_act p i d line (call name args))
+    call_only : (i d line : ℕ) (name : List ℕ) (args : Terms) → CallWrites i name args → (is_handed_back v (g name) args ≡ true → n ≡ true) → Only (forward_act_with sc p i d line (call name args)) × Only (backward_act_with sc p i d line (call name args))
     call_only i d line name args w h =
         let callee = p.callees name in
         let given = names_of args in (
@@ -241,17 +342,22 @@ module _ (f g : Dummies) (p : Plan) where
           only_if (is_emitted p.marks i) _ (λ e.
               only_append (code_if (p.marks.adjointed i) _) _
               (only_if (p.marks.adjointed i) _ (λ t.
-              only_append (pops p line (snapshot_group callee given)) (one line (adjoint_call callee given)) (only_pops line (snapshot_group callee given) (then_each (snapshot_group callee given) (w.groups v (λ d. callee.written d && callee.members d) everything (λ d b. (and_true (callee.written d) (callee.members d) b).0))))
+              only_append (pops p line (snapshot_group callee given)) (one line (adjoint_call callee given)) (only_pops line (snapshot_group callee given) (then_each v (is_handed_back v (g name) args) n (snapshot_group callee given) h (w.groups v (λ d. callee.written d && callee.members d) everything (λ d b. (and_true (callee.written d) (callee.members d) b).0))))
               (both (λ b. h (w.adjointed t v apart b)) quiet)))
-              (only_pops line (save_group p.marks i callee given) (then_each (save_group p.marks i callee given) (w.groups v callee.written (p.marks.saved i) (λ d b. b))))),
+              (only_pops line (save_group p.marks i callee given) (then_each v (is_handed_back v (g name) args) n (save_group p.marks i callee given) h (w.groups v callee.written (p.marks.saved i) (λ d b. b))))),
         )
-      where
-        then_each : (xs : List (List ℕ)) → Each (λ a. var_eq v (plain a) ≡ true → is_handed_back v (g name) args ≡ true) xs → Each (λ a. var_eq v (plain a) ≡ true → n ≡ true) xs
-        then_each [] k = tt
-        then_each (x ∷ xs) k = ((λ e. h (k.0 e)), then_each xs k.1)
+
+    rows_only : (i d line : ℕ) (x : List ℕ) (a b c : Term) (body : Code) (m : Mark) (o : Option Step) → reversed_by sc p.marks.adjointed i body m ≡ o → ByStep o (Unit {0}) (Turned body) → Known (suc i) body → var_eq v (helper turn (suc d)) ≡ false → (var_eq v (plain x) ≡ true → n ≡ true) → (writes g v body ≡ true → n ≡ true) →
+        Only (forward_with sc p (suc i) (suc d) body) × Only (backward_with sc p (suc i) (suc d) body) → Only (rows_forth i d line x a b c body o) × Only (rows_back i d line x body o)
+    rows_only i d line x a b c body m None e turned w outer own inside both_sweeps =
+        let idle = is_empty (backward_with sc p (suc i) (suc d) body) in (
+          loop_forward_only idle (suc d) line (plain x) a b c (forward_with sc p (suc i) (suc d) body) own both_sweeps.0,
+          loop_backward_only idle (suc d) line (plain x) (backward_with sc p (suc i) (suc d) body) outer own both_sweeps.1,
+        )
+    rows_only i d line x a b c body m (Some s) e turned w outer own inside both_sweeps = rows_reversed i (suc d) line x a b c body s turned (step_writes i body m s e w) outer own inside
 
     mutual
-      act_only : (i d line : ℕ) (a : Act) → KnownAct i a → IsOuter d → (act_writes g v a ≡ true → n ≡ true) → Only (forward_act p i d line a) × Only (backward_act p i d line a)
+      act_only : (i d line : ℕ) (a : Act) → KnownAct i a → IsOuter d → (act_writes g v a ≡ true → n ≡ true) → Only (forward_act_with sc p i d line a) × Only (backward_act_with sc p i d line a)
       act_only i d line (assign (plain x) subs e) w t h = (
         only_if (p.marks.kept i) _ (λ k. only_append (code_if (p.marks.saved i (plain x)) (one line (runtime (push_word (plain x) subs)))) (one line (assign (plain x) subs e)) (only_if (p.marks.saved i (plain x)) (one line (runtime (push_word (plain x) subs))) (λ s. quiet)) (both h quiet)),
         only_append (code_if (p.marks.kept i && p.marks.saved i (plain x)) (one line (runtime (pop_word (plain x) subs)))) (code_if (p.marks.adjointed i) (adjoint_where (active_at p.marks i) x subs e line)) (only_if (p.marks.kept i && p.marks.saved i (plain x)) (one line (runtime (pop_word (plain x) subs))) (λ s. both h quiet))
@@ -262,38 +368,37 @@ module _ (f g : Dummies) (p : Plan) where
       act_only i d line (choose c a b) w t h =
           let there = list_only (suc i) d a w.0 t (λ e. h (or_left (writes g v a) (writes g v b) e)) in
           let other = list_only (behind (suc i) a) d b w.1 t (λ e. h (or_right (writes g v a) (writes g v b) e)) in
-          let idle = is_empty (backward p (suc i) d a) && is_empty (backward p (behind (suc i) a) d b) in (
-            only_if (is_emitted p.marks i) _ (λ e. both (both (told_forward_only idle line (forward p (suc i) d a) 1 there.0) (told_forward_only idle line (forward p (behind (suc i) a) d b) 0 other.0)) quiet),
-            only_if (is_emitted p.marks i) _ (λ e. told_backward_only idle line (backward p (suc i) d a) (backward p (behind (suc i) a) d b) there.1 other.1),
+          let idle = is_empty (backward_with sc p (suc i) d a) && is_empty (backward_with sc p (behind (suc i) a) d b) in (
+            only_if (is_emitted p.marks i) _ (λ e. both (both (told_forward_only idle line (forward_with sc p (suc i) d a) 1 there.0) (told_forward_only idle line (forward_with sc p (behind (suc i) a) d b) 0 other.0)) quiet),
+            only_if (is_emitted p.marks i) _ (λ e. told_backward_only idle line (backward_with sc p (suc i) d a) (backward_with sc p (behind (suc i) a) d b) there.1 other.1),
           )
       act_only i d line (loop (plain x) a b c body m) w t h =
-          let inside = list_only (suc i) (suc d) body w.1 (inner_turns d t) (λ e. h (or_right (var_eq v (plain x)) (writes g v body) e)) in
+          let inside = list_only (suc i) (suc d) body w.1.1 (inner_turns d t) (λ e. h (or_right (var_eq v (plain x)) (writes g v body) e)) in
           let own : (var_eq v (plain x) ≡ true → n ≡ true) = (λ e. h (or_left (var_eq v (plain x)) (writes g v body) e)) in
-          let idle = is_empty (backward p (suc i) (suc d) body) in (
+          let rows = rows_only i d line x a b c body m (reversed_by sc p.marks.adjointed i body m) refl w.1.0 w.1.1 (t (suc d) (omega arith)) own (λ e. h (or_right (var_eq v (plain x)) (writes g v body) e)) inside in (
+            only_if (is_emitted p.marks i) _ (λ e. only_append (code_if (p.marks.saved i (plain x)) (one line (runtime (push_word (plain x) none)))) _ (only_if (p.marks.saved i (plain x)) (one line (runtime (push_word (plain x) none))) (λ s. quiet)) rows.0),
             only_if (is_emitted p.marks i) _ (λ e.
-                only_append (code_if (p.marks.saved i (plain x)) (one line (runtime (push_word (plain x) none)))) _ (only_if (p.marks.saved i (plain x)) (one line (runtime (push_word (plain x) none))) (λ s. quiet)) (loop_forward_only idle (suc d) line (plain x) a b c (forward p (suc i) (suc d) body) own inside.0)),
-            only_if (is_emitted p.marks i) _ (λ e.
-                only_append (loop_backward idle (suc d) line (plain x) (backward p (suc i) (suc d) body)) _ (loop_backward_only idle (suc d) line (plain x) (backward p (suc i) (suc d) body) (t (suc d) (omega arith)) own inside.1)
+                only_append (rows_back i d line x body (reversed_by sc p.marks.adjointed i body m)) _ rows.1
                 (only_append (code_if (p.marks.saved i (plain x)) (one line (runtime (pop_word (plain x) none)))) (reset p.marks i line x) (only_if (p.marks.saved i (plain x)) (one line (runtime (pop_word (plain x) none))) (λ s. both own quiet)) (only_reset i line x))),
           )
       act_only i d line (loop (shadow x) a b c body m) w t h = absurd w.0
       act_only i d line (loop (helper r k) a b c body m) w t h = absurd w.0
       act_only i d line (during c body) w t h =
           let inside = list_only (suc i) (suc d) body w (inner_turns d t) h in
-          let idle = is_empty (backward p (suc i) (suc d) body) in (
-            only_if (is_emitted p.marks i) _ (λ e. while_forward_only idle (suc d) line c (forward p (suc i) (suc d) body) inside.0),
-            only_if (is_emitted p.marks i) _ (λ e. while_backward_only idle (suc d) line (backward p (suc i) (suc d) body) (t (suc d) (omega arith)) inside.1),
+          let idle = is_empty (backward_with sc p (suc i) (suc d) body) in (
+            only_if (is_emitted p.marks i) _ (λ e. while_forward_only idle (suc d) line c (forward_with sc p (suc i) (suc d) body) inside.0),
+            only_if (is_emitted p.marks i) _ (λ e. while_backward_only idle (suc d) line (backward_with sc p (suc i) (suc d) body) (t (suc d) (omega arith)) inside.1),
           )
       act_only i d line (call name args) w t h = call_only i d line name args w h
       act_only i d line (runtime r) w t h = absurd w
 
-      pub list_only : (i d : ℕ) (c : Code) → Known i c → IsOuter d → (writes g v c ≡ true → n ≡ true) → Only (forward p i d c) × Only (backward p i d c)
+      pub list_only : (i d : ℕ) (c : Code) → Known i c → IsOuter d → (writes g v c ≡ true → n ≡ true) → Only (forward_with sc p i d c) × Only (backward_with sc p i d c)
       list_only i d stop w t h = (quiet, quiet)
       list_only i d (step line a rest) w t h =
           let here = act_only i d line a w.0 t (λ e. h (or_left (act_writes g v a) (writes g v rest) e)) in
           let later = list_only (next i a) d rest w.1 t (λ e. h (or_right (act_writes g v a) (writes g v rest) e)) in (
-            only_append (forward_act p i d line a) (forward p (next i a) d rest) here.0 later.0,
-            only_append (backward p (next i a) d rest) (backward_act p i d line a) later.1 here.1,
+            only_append (forward_act_with sc p i d line a) (forward_with sc p (next i a) d rest) here.0 later.0,
+            only_append (backward_with sc p (next i a) d rest) (backward_act_with sc p i d line a) later.1 here.1,
           )
 
     only_cleared : (line : ℕ) (xs : List (List ℕ)) → Only (cleared p line xs)
@@ -304,11 +409,11 @@ module _ (f g : Dummies) (p : Plan) where
         go true = both (beside (shadow x) tt) quiet
         go false = both (beside (shadow x) tt) quiet
 
-    body_only : (i line : ℕ) (c : Code) (at_turn at_end : List (List ℕ)) → Known i c → IsOuter 0 → (writes g v c ≡ true → n ≡ true) → Only (adjoint_body p i line c at_turn at_end)
+    body_only : (i line : ℕ) (c : Code) (at_turn at_end : List (List ℕ)) → Known i c → IsOuter 0 → (writes g v c ≡ true → n ≡ true) → Only (adjoint_body_with sc p i line c at_turn at_end)
     body_only i line c at_turn at_end w t h =
         let both = list_only i 0 c w t h in
-        only_append (forward p i 0 c) _ both.0 (only_append (cleared p line at_turn) _ (only_cleared line at_turn) (only_append (backward p i 0 c) (cleared p line at_end) both.1 (only_cleared line at_end)))
+        only_append (forward_with sc p i 0 c) _ both.0 (only_append (cleared p line at_turn) _ (only_cleared line at_turn) (only_append (backward_with sc p i 0 c) (cleared p line at_end) both.1 (only_cleared line at_end)))
 
   -- what the body of an adjoint may write of the unit's variables the unit may write
-  pub body_writes : (x : List ℕ) (i line : ℕ) (c : Code) (at_turn at_end : List (List ℕ)) → Known i c → writes f (plain x) (adjoint_body p i line c at_turn at_end) ≡ true → writes g (plain x) c ≡ true
+  pub body_writes : (x : List ℕ) (i line : ℕ) (c : Code) (at_turn at_end : List (List ℕ)) → Known i c → writes f (plain x) (adjoint_body_with sc p i line c at_turn at_end) ≡ true → writes g (plain x) c ≡ true
   body_writes x i line c at_turn at_end w = body_only (plain x) (plain_apart x) (writes g (plain x) c) i line c at_turn at_end w (λ k l. refl) (λ e. e)

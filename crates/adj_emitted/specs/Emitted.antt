@@ -1,5 +1,5 @@
 -- That what is emitted for a checked program can be written as a text, and has no faults. (docs/THEOREMS.md, "Sweeps of every statement")
-use Rattle.std.specs.Prelude.{◌≡◌, ◌≤◌, ℕ, ◌+◌, max, List, [], ◌∷◌, ◌++◌, flat_map, Bool}
+use Rattle.std.specs.Prelude.{◌≡◌, ◌≤◌, ℕ, ◌+◌, max, List, [], ◌∷◌, ◌++◌, flat_map, Bool, true, false}
 use Rattle.adj_tree.specs.Code.{Runtime, push_word, pop_word, push_array, pop_array, push_control, pop_control, zero_array, begin_reversal, count_actions, give_action, end_reversal, Act, assign, choose, loop, during, call, runtime, Code, stop, step, Procedure}
 use Rattle.adj_tree.specs.Size.{term_depth, terms_depth, test_depth, code_depth}
 use Rattle.adj_text.specs.Written.{IsWritten}
@@ -12,15 +12,16 @@ use Rattle.adj_names.specs.WriteFaults.{shared_variables, written_values, write_
 use Rattle.adj_names.specs.Check.{IsSound}
 use Rattle.adj_meaning.specs.LeastSet.{Dummies}
 use Rattle.adj_reverse.specs.Marking.{ProgramMarks, full_marks, ProgramFacts}
-use Rattle.adj_reverse.specs.Program.{emitted_program}
+use Rattle.adj_reverse.specs.Program.{emitted_program_with, emitted_program}
 use Rattle.adj_checked.specs.Checked.{IsChecked, AreLawful}
 use Rattle.adj_emitted.specs.Shadowed.{AllHaveShadows}
 
--- what is emitted for a checked program in kernel form is written, whatever the marks, as long as what they use has shadows
+-- what is emitted for a checked program in kernel form is written, whatever the marks, as long as what they use has shadows, and whether marked
+-- loops are reversed by schedules or not
 abbrev pub MarkedIsWritten : Type 0
 MarkedIsWritten =
-    (rules : Rules) (ps : List Procedure) → IsChecked rules ps → (m : ProgramMarks) → AllHaveShadows m ps ps → (head : ℕ) (vars outvars : List Bool) →
-    IsWritten (emitted_program m ps head vars outvars)
+    (rules : Rules) (ps : List Procedure) → IsChecked rules ps → (schedules : Bool) (m : ProgramMarks) → AllHaveShadows m ps ps → (head : ℕ) (vars outvars : List Bool) →
+    IsWritten (emitted_program_with schedules m ps head vars outvars)
 
 -- so it is with full marks
 abbrev pub EmittedIsWritten : Type 0
@@ -34,43 +35,43 @@ LawfulHaveShadows = (rules : Rules) (ps : List Procedure) → IsChecked rules ps
 
 -- the names of its units are apart, and none is reserved
 abbrev pub UnitsHaveNone : Type 0
-UnitsHaveNone = (rules : Rules) (ps : List Procedure) → IsChecked rules ps → (m : ProgramMarks) (head : ℕ) (vars outvars : List Bool) → unit_faults (emitted_program m ps head vars outvars) ≡ []
+UnitsHaveNone = (rules : Rules) (ps : List Procedure) → IsChecked rules ps → (schedules : Bool) (m : ProgramMarks) (head : ℕ) (vars outvars : List Bool) → unit_faults (emitted_program_with schedules m ps head vars outvars) ≡ []
 
 -- its variables are declared once and stand with as many subscripts as they have extents, and their names are their own
 abbrev pub NamesHaveNone : Type 0
 NamesHaveNone =
-    (rules : Rules) (ps : List Procedure) → IsChecked rules ps → (m : ProgramMarks) → AllHaveShadows m ps ps → (head : ℕ) (vars outvars : List Bool) →
-    name_faults run_rules (emitted_program m ps head vars outvars) ≡ []
+    (rules : Rules) (ps : List Procedure) → IsChecked rules ps → (schedules : Bool) (m : ProgramMarks) → AllHaveShadows m ps ps → (head : ℕ) (vars outvars : List Bool) →
+    name_faults run_rules (emitted_program_with schedules m ps head vars outvars) ≡ []
 
 -- each of its CALLs is of a unit that it has, with an actual for each dummy, of its rank; and calls of the runtime take arrays where they should
 abbrev pub CallsHaveNone : Type 0
 CallsHaveNone =
-    (rules : Rules) (ps : List Procedure) → IsChecked rules ps → (m : ProgramMarks) → AllHaveShadows m ps ps → (head : ℕ) (vars outvars : List Bool) →
-    call_faults (emitted_program m ps head vars outvars) ≡ []
+    (rules : Rules) (ps : List Procedure) → IsChecked rules ps → (schedules : Bool) (m : ProgramMarks) → AllHaveShadows m ps ps → (head : ℕ) (vars outvars : List Bool) →
+    call_faults (emitted_program_with schedules m ps head vars outvars) ≡ []
 
 -- no CALL of it hands one variable to two dummies, and nothing but a name for a dummy that is written, whichever dummies those are
 abbrev pub ActualsHaveNone : Type 0
 ActualsHaveNone =
-    (rules : Rules) (ps : List Procedure) → IsChecked rules ps → (m : ProgramMarks) → AllHaveShadows m ps ps → (head : ℕ) (vars outvars : List Bool) (handed : Dummies) →
-    flat_map (λ u. shared_variables handed u ++ written_values handed u) (emitted_program m ps head vars outvars) ≡ []
+    (rules : Rules) (ps : List Procedure) → IsChecked rules ps → (schedules : Bool) (m : ProgramMarks) → AllHaveShadows m ps ps → (head : ℕ) (vars outvars : List Bool) (handed : Dummies) →
+    flat_map (λ u. shared_variables handed u ++ written_values handed u) (emitted_program_with schedules m ps head vars outvars) ≡ []
 
 -- no calls of it lead back to their unit, and no chain of them is longer than one of the source, which a run takes
 abbrev pub ChainsHaveNone : Type 0
 ChainsHaveNone =
-    (rules : Rules) (ps : List Procedure) → IsChecked rules ps → rules.chain ≤ run_rules.chain → (m : ProgramMarks) (head : ℕ) (vars outvars : List Bool) →
-    chain_faults run_rules (emitted_program m ps head vars outvars) ≡ []
+    (rules : Rules) (ps : List Procedure) → IsChecked rules ps → rules.chain ≤ run_rules.chain → (schedules : Bool) (m : ProgramMarks) (head : ℕ) (vars outvars : List Bool) →
+    chain_faults run_rules (emitted_program_with schedules m ps head vars outvars) ≡ []
 
 -- no statement of it writes the variable of a DO in whose body it stands, or an extent, and its CALLs have none of those faults
 abbrev pub WritesHaveNone : Type 0
 WritesHaveNone =
-    (rules : Rules) (ps : List Procedure) → IsChecked rules ps → (m : ProgramMarks) → AllHaveShadows m ps ps → (head : ℕ) (vars outvars : List Bool) →
-    write_faults (emitted_program m ps head vars outvars) ≡ []
+    (rules : Rules) (ps : List Procedure) → IsChecked rules ps → (schedules : Bool) (m : ProgramMarks) → AllHaveShadows m ps ps → (head : ℕ) (vars outvars : List Bool) →
+    write_faults (emitted_program_with schedules m ps head vars outvars) ≡ []
 
 -- so it has no fault as a text that is run, where the source's chains of calls are no longer than a run takes
 abbrev pub MarkedIsSound : Type 0
 MarkedIsSound =
-    (rules : Rules) (ps : List Procedure) → IsChecked rules ps → rules.chain ≤ run_rules.chain → (m : ProgramMarks) → AllHaveShadows m ps ps → (head : ℕ) (vars outvars : List Bool) →
-    IsSound run_rules (emitted_program m ps head vars outvars)
+    (rules : Rules) (ps : List Procedure) → IsChecked rules ps → rules.chain ≤ run_rules.chain → (schedules : Bool) (m : ProgramMarks) → AllHaveShadows m ps ps → (head : ℕ) (vars outvars : List Bool) →
+    IsSound run_rules (emitted_program_with schedules m ps head vars outvars)
 
 -- so it is with full marks
 abbrev pub EmittedIsSound : Type 0
@@ -83,9 +84,14 @@ abbrev pub IsNested : ℕ → List Procedure → Type 0
 IsNested n [] = Unit {0}
 IsNested n (u ∷ us) = (code_depth u.body ≤ n) × IsNested n us
 
--- what is emitted is nested no deeper than the source
+-- what a reversal by a schedule adds to a loop: one for the loop over the actions, one for their kinds, and one for the steps of an advance, in place of its own
+abbrev pub nested_with : Bool → ℕ → ℕ
+nested_with false n = n
+nested_with true n = n + 2
+
+-- what is emitted is nested no deeper than the source, or by two where marked loops are reversed by schedules
 abbrev pub KeepsNesting : Type 0
-KeepsNesting = (n : ℕ) (ps : List Procedure) → IsNested n ps → (m : ProgramMarks) (head : ℕ) (vars outvars : List Bool) → IsNested n (emitted_program m ps head vars outvars)
+KeepsNesting = (n : ℕ) (ps : List Procedure) → IsNested n ps → (schedules : Bool) (m : ProgramMarks) (head : ℕ) (vars outvars : List Bool) → IsNested (nested_with schedules n) (emitted_program_with schedules m ps head vars outvars)
 
 -- the depth of the deepest expression or condition in a statement, whose bodies count too
 abbrev pub runtime_deepest : Runtime → ℕ
@@ -122,4 +128,4 @@ AreShallow n (u ∷ us) = (deepest u.body ≤ n) × AreShallow n us
 
 -- what is emitted has expressions that are at most 3 deeper than those of the source
 abbrev pub KeepsDepth : Type 0
-KeepsDepth = (n : ℕ) (ps : List Procedure) → AreShallow n ps → (m : ProgramMarks) (head : ℕ) (vars outvars : List Bool) → AreShallow (n + 3) (emitted_program m ps head vars outvars)
+KeepsDepth = (n : ℕ) (ps : List Procedure) → AreShallow n ps → (schedules : Bool) (m : ProgramMarks) (head : ℕ) (vars outvars : List Bool) → AreShallow (n + 3) (emitted_program_with schedules m ps head vars outvars)

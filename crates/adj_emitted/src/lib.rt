@@ -1,8 +1,8 @@
 //! What is emitted for a checked program can be written as a text and has no fault: definitions and laws, no code.
 //!
 //! `specs/Emitted` says what holds of the program that is emitted for a checked program in kernel form, for each of its units as
-//! the head. It stands on the theorem on both sweeps and on the names of programs. The layer above uses `written_law`, so that
-//! the text that is written for an adjoint reads as that adjoint.
+//! the head, whether marked loops are reversed by schedules or not. It stands on the theorem on both sweeps and on the names of
+//! programs. The layer above uses `written_law`, so that the text that is written for an adjoint reads as that adjoint.
 #![tactic(auto)]
 
 ghost use Rattle.adj_emitted.specs.Emitted.{MarkedIsWritten, EmittedIsWritten, LawfulHaveShadows, UnitsHaveNone, NamesHaveNone, CallsHaveNone, ActualsHaveNone, ChainsHaveNone, WritesHaveNone, MarkedIsSound, EmittedIsSound, KeepsNesting, KeepsDepth};
@@ -54,7 +54,7 @@ pub fn sound_law()
     ensures full { EmittedIsSound }
 {}
 
-/// It is nested no deeper than the source.
+/// It is nested no deeper than the source, or by two where marked loops are reversed by schedules.
 pub fn nesting_law()
     ensures { KeepsNesting }
 {}
