@@ -1,6 +1,6 @@
 -- What it means that a program is the adjoint of one that isn't in kernel form, and that what is emitted for the kernel is it. (docs/THEOREMS.md, "Adjoints")
 use Rattle.std.specs.Prelude.{◌≡◌, ℕ, ℤ, List, [], Bool, true, false, Some, None}
-use Rattle.adj_tree.specs.Code.{Procedure}
+use Rattle.adj_tree.specs.Code.{name_eq, Procedure}
 use Rattle.adj_tree.specs.Lines.{unlined}
 use Rattle.adj_meaning.specs.Numbers.{words}
 use Rattle.adj_meaning.specs.Scene.{Done}
@@ -13,7 +13,7 @@ use Rattle.adj_names.specs.HeadFaults.{unit_number}
 use Rattle.adj_transpose.specs.Adjoint.{AreAlike}
 use Rattle.adj_transpose.specs.MarkedProgram.{shadows_behind}
 use Rattle.adj_transpose.specs.MarkedAdjoint.{shadow_flags}
-use Rattle.adj_reverse.specs.Reversals.{ReversedLines}
+use Rattle.adj_reverse.specs.Reversals.{StepUnits, ReversedLines}
 use Rattle.adj_reverse.specs.Names.{adjoint_name}
 use Rattle.adj_reverse.specs.Marking.{ProgramMarks, full_marks}
 use Rattle.adj_reverse.specs.Program.{adjoint_names_with, all_units, emitted_program}
@@ -35,6 +35,10 @@ pub record IsAdjointOfWith (schedules : Bool) (lines : ReversedLines) (m : Progr
   pub is_there : find_unit qs (adjoint_name (kernel_of ps) kernel) ≡ Some adjoint
   pub dummies : adjoint.dummies ≡ shadows_behind (m.shadowed name) (adjoint_names_with schedules m (kernel_of ps) (all_units m (kernel_of ps) kernel) kernel) unit.dummies
   pub transposes : (input shadows : List (Slot ℤ)) → fits words unit input ≡ true → AreAlike input shadows → (k used : ℕ) (output : Output ℤ) → run_unit words ps unit input [] None k ≡ Done output used → TransposesBy lines (shadow_flags (m.shadowed name) unit.dummies) ps unit vars outvars qs adjoint input shadows output.events
+
+-- where a loop is reversed by a schedule, its step unit and the adjoint of that have different names
+abbrev pub HaveOwnNames : ReversedLines → Type 0
+HaveOwnNames lines = (line : ℕ) (step : StepUnits) → lines line ≡ Some step → (name_eq step.unit step.adjoint ≡ false) × (name_eq step.adjoint step.unit ≡ false)
 
 -- where no loop is reversed by a schedule
 abbrev pub IsAdjointOf : (lines : ReversedLines) → ProgramMarks → List Procedure → List ℕ → List Bool → List Bool → List Procedure → Type 0
