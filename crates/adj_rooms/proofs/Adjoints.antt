@@ -1,6 +1,6 @@
 -- Runs of an adjoint with limits are those that the theorem on adjoints speaks of, which have none.
 use Rattle.std.proofs.Common.{◌≡◌, ℕ, List, [], sym, ap, ◌∙◌, subst, arith}
-use Rattle.std.specs.Prelude.{ℤ, Option, None}
+use Rattle.std.specs.Prelude.{ℤ, Bool, Option, None}
 use Rattle.adj_tree.specs.Code.{Procedure}
 use Rattle.adj_meaning.specs.Numbers.{Numbers, words, duals}
 use Rattle.adj_meaning.specs.Scene.{IsMore, Outcome, Done, Trapped, More, Full}
@@ -9,11 +9,11 @@ use Rattle.adj_meaning.proofs.Costs.{one_end}
 use Rattle.adj_transpose.specs.Adjoint.{Ends, cells_of, with_direction, tangents_of, product}
 use Rattle.adj_transpose.specs.MarkedAdjoint.{shadow_flags, shadow_cells, joined_by}
 use Rattle.adj_rooms.specs.Rooms.{IsFull}
-use Rattle.adj_rooms.specs.Adjoints.{IsTrapped, AdjointsBalance}
+use Rattle.adj_rooms.specs.Adjoints.{IsTrapped, AdjointsBalanceWith}
 use Rattle.adj_rooms.proofs.Rooms.{room_is_enough}
 
 -- a run that is done, or traps, isn't full and has no more to do
-done_not_full : {R : Type 0} (o : Outcome R) (a : R) (k : ℕ) → o ≡ Done a k → IsFull o → ⊥
+pub done_not_full : {R : Type 0} (o : Outcome R) (a : R) (k : ℕ) → o ≡ Done a k → IsFull o → ⊥
 done_not_full o a k e h = subst IsFull e h
 
 done_not_more : {R : Type 0} (o : Outcome R) (a : R) (k : ℕ) → o ≡ Done a k → IsMore o → ⊥
@@ -52,13 +52,13 @@ module _ {C : Type 0} (n : Numbers C) (ps : List Procedure) (u : Procedure) (inp
       subst IsTrapped (same_end room k (trap_not_full o t) (trap_not_more o t)) t
 
   -- and where it is done, it gives the same
-  output_is : (room : Option ℕ) (k used : ℕ) (out : Output C) → run_unit n ps u input [] room k ≡ Done out used → out ≡ ends.output
+  pub output_is : (room : Option ℕ) (k used : ℕ) (out : Output C) → run_unit n ps u input [] room k ≡ Done out used → out ≡ ends.output
   output_is room k used out e =
       let o = run_unit n ps u input [] room k in
       result_is out ends.output used ends.used (sym e ∙ same_end room k (done_not_full o out used e) (done_not_more o out used e))
 
-pub adjoints_balance : AdjointsBalance
-adjoints_balance lines m ps name vars outvars qs x input shadows fit alike d along room k used out e =
+pub adjoints_balance : (schedules : Bool) → AdjointsBalanceWith schedules
+adjoints_balance schedules lines m ps name vars outvars qs x input shadows fit alike d along room k used out e =
     let o = run_unit words ps x.unit input [] room k in
     let wide = room_is_enough words ps x.unit input [] room k (done_not_full o out used e) in
     let t = x.transposes input shadows fit alike k used out (sym wide ∙ e) in

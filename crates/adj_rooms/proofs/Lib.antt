@@ -2,3 +2,5 @@ mod Unlimited
 mod Kept
 pub mod Rooms
 pub mod Adjoints
+mod Nested
+mod Advances

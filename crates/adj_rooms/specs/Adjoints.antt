@@ -1,5 +1,5 @@
 -- Adjoints: what the runs of an adjoint and the dual runs of its source come to with so many statements and on a tape with a room. (docs/THEOREMS.md, "Adjoints")
-use Rattle.std.specs.Prelude.{◌≡◌, ℕ, ℤ, List, [], Bool, true, Option}
+use Rattle.std.specs.Prelude.{◌≡◌, ℕ, ℤ, List, [], Bool, true, false, Option}
 use Rattle.adj_tree.specs.Code.{Procedure}
 use Rattle.adj_meaning.specs.Numbers.{words, duals}
 use Rattle.adj_meaning.specs.Scene.{Outcome, Done, Trapped, More, Full}
@@ -7,7 +7,7 @@ use Rattle.adj_meaning.specs.Units.{Slot, Output, fits, run_unit}
 use Rattle.adj_transpose.specs.Adjoint.{AreAlike, IsDirection, cells_of, with_direction, tangents_of, product}
 use Rattle.adj_transpose.specs.MarkedAdjoint.{shadow_flags, shadow_cells, joined_by}
 use Rattle.adj_reverse.specs.Marking.{ProgramMarks}
-use Rattle.adj_accepted.specs.Accepted.{IsAdjointOf}
+use Rattle.adj_accepted.specs.Accepted.{IsAdjointOfWith}
 use Rattle.adj_reverse.specs.Reversals.{ReversedLines}
 
 -- the run traps
@@ -32,9 +32,13 @@ pub record Balances (flags : List Bool) (ps : List Procedure) (u : Procedure) (v
       product vars (shadow_cells flags back.slots) d ≡ product outvars (cells_of shadows) (tangents_of (cells_of dual.slots))
 
 -- so it is with the adjoint of a head, on each input on which the head's run is done with some number of statements and on a tape of some room
-abbrev pub AdjointsBalance : Type 0
-AdjointsBalance =
-    (lines : ReversedLines) (m : ProgramMarks) (ps : List Procedure) (name : List ℕ) (vars outvars : List Bool) (qs : List Procedure) → (x : IsAdjointOf lines m ps name vars outvars qs) →
+abbrev pub AdjointsBalanceWith : (schedules : Bool) → Type 0
+AdjointsBalanceWith schedules =
+    (lines : ReversedLines) (m : ProgramMarks) (ps : List Procedure) (name : List ℕ) (vars outvars : List Bool) (qs : List Procedure) → (x : IsAdjointOfWith schedules lines m ps name vars outvars qs) →
     (input shadows : List (Slot ℤ)) → fits words x.unit input ≡ true → AreAlike input shadows → (d : List (List ℤ)) → IsDirection vars input d →
     (room : Option ℕ) (k used : ℕ) (out : Output ℤ) → run_unit words ps x.unit input [] room k ≡ Done out used →
     Balances (shadow_flags (m.shadowed name) x.unit.dummies) ps x.unit vars outvars qs x.adjoint input shadows d
+
+-- where no loop is reversed by a schedule
+abbrev pub AdjointsBalance : Type 0
+AdjointsBalance = AdjointsBalanceWith false

@@ -1,0 +1,28 @@
+-- How many steps the reversals in a run of an adjoint advance. (docs/THEOREMS.md, "Reversals of marked loops")
+use Rattle.std.specs.Prelude.{◌≡◌, ◌+◌, ℕ, ℤ, List, [], ◌∷◌, Bool, true, Option}
+use Rattle.adj_tree.specs.Code.{Procedure}
+use Rattle.adj_revolve.specs.LeastCost.{least_cost}
+use Rattle.adj_meaning.specs.Numbers.{words}
+use Rattle.adj_meaning.specs.Scene.{Done}
+use Rattle.adj_meaning.specs.Log.{log_of}
+use Rattle.adj_meaning.specs.Units.{Slot, Output, fits, run_unit}
+use Rattle.adj_transpose.specs.Adjoint.{AreAlike}
+use Rattle.adj_transpose.specs.MarkedAdjoint.{shadow_flags, joined_by}
+use Rattle.adj_reverse.specs.Marking.{ProgramMarks}
+use Rattle.adj_reverse.specs.Reversals.{ReversedLines, LoopRun, runs_in}
+use Rattle.adj_accepted.specs.Accepted.{HaveOwnNames, IsAdjointOfWith}
+
+-- the least costs of some runs of marked loops, together
+abbrev pub least_costs : List LoopRun → ℕ
+least_costs [] = 0
+least_costs (l ∷ ls) = least_cost l.mark.turns l.mark.snapshots + least_costs ls
+
+-- On each input on which the head's run is done, with any number of statements and on a tape of any room: where its adjoint's run is done, too,
+-- that advances by the least costs of the head's runs of the loops that are reversed by schedules, together.
+abbrev pub AdjointsAdvance : Type 0
+AdjointsAdvance =
+    (schedules : Bool) (lines : ReversedLines) → HaveOwnNames lines → (m : ProgramMarks) (ps : List Procedure) (name : List ℕ) (vars outvars : List Bool) (qs : List Procedure) → (x : IsAdjointOfWith schedules lines m ps name vars outvars qs) →
+    (input shadows : List (Slot ℤ)) → fits words x.unit input ≡ true → AreAlike input shadows →
+    (room room' : Option ℕ) (k k' used used' : ℕ) (out back : Output ℤ) → run_unit words ps x.unit input [] room k ≡ Done out used →
+    run_unit words qs x.adjoint (joined_by (shadow_flags (m.shadowed name) x.unit.dummies) input shadows) [] room' k' ≡ Done back used' →
+    (log_of back.events).advances ≡ least_costs (runs_in lines out.events)
