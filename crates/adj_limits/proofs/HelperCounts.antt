@@ -1,13 +1,14 @@
 -- How many helpers the sweeps of a unit take.
-use Rattle.std.proofs.Common.{◌≡◌, ◌≤◌, ◌^◌, ℕ, zero, suc, ◌+◌, ◌*◌, max, Bool, true, false, List, refl, ap, ◌∙◌, arith, if◌then◌else◌, pow-suc, pow_mono}
-use Rattle.adj_tree.specs.Code.{plus, minus, times, quot, modulo, greater, lesser, Term, Terms, lit, var, elem, neg, bin, pow, power_of, abs, Act, Code, assign, choose, loop, during, call, runtime, stop, step}
+use Rattle.std.proofs.Common.{◌≡◌, ◌≤◌, ◌^◌, ℕ, zero, suc, ◌+◌, ◌*◌, max, Bool, true, false, ap, ◌∙◌, arith, if◌then◌else◌, pow-suc, pow_mono}
+use Rattle.std.specs.Prelude.{Option, Some, None}
+use Rattle.adj_tree.specs.Code.{plus, minus, times, quot, modulo, greater, lesser, Term, lit, var, elem, neg, bin, pow, power_of, abs, Act, Code, assign, choose, loop, during, call, runtime, stop, step}
 use Rattle.adj_tree.specs.Size.{term_depth, act_depth, code_depth}
 use Rattle.adj_transpose.specs.Marks.{Vars, Marks, next, behind, active_at}
 use Rattle.adj_transpose.specs.Marked.{count_of}
 use Rattle.adj_reverse.specs.AdjointOf.{has_own_where, works_in_where, temps_in_where}
-use Rattle.adj_reverse.specs.Plan.{Plan}
-use Rattle.adj_reverse.specs.Emission.{is_empty, backward}
-use Rattle.adj_reverse.specs.Program.{works_act, works_used, temps_act, temps_used, depth_act, depth_used}
+use Rattle.adj_reverse.specs.Plan.{Plan, found_or, Schedules, Step, reversed_by}
+use Rattle.adj_reverse.specs.Emission.{is_empty, backward_with}
+use Rattle.adj_reverse.specs.Program.{works_act, works_used, temps_act, temps_used, depth_act_with, depth_used_with}
 use Rattle.adj_emitted.specs.Emitted.{act_deepest, deepest}
 
 -- ---- loops
@@ -16,17 +17,23 @@ depth_if : (b : Bool) (d k m : ℕ) → suc d ≤ m → k ≤ m → (if b then 0
 depth_if true d k m h g = omega arith
 depth_if false d k m h g = omega arith
 
-module _ (p : Plan) where
+depth_choice : (o : Option Step) (b : Bool) (d k m : ℕ) → suc d ≤ m → k ≤ m → found_or o (if b then 0 else max (suc d) k) (λ s. suc d) ≤ m
+depth_choice None b d k m h g = depth_if b d k m h g
+depth_choice (Some s) b d k m h g = h
+
+module _ (sc : Schedules) (p : Plan) where
   mutual
-    act_loops : (i d : ℕ) (a : Act) → depth_act p i d a ≤ d + act_depth a
+    act_loops : (i d : ℕ) (a : Act) → depth_act_with sc p i d a ≤ d + act_depth a
     act_loops i d (assign x subs e) = omega arith
     act_loops i d (choose c a b) = let l = list_loops (suc i) d a in let r = list_loops (behind (suc i) a) d b in omega arith
-    act_loops i d (loop x a b c body n) = let l = list_loops (suc i) (suc d) body in depth_if (is_empty (backward p (suc i) (suc d) body)) d (depth_used p (suc i) (suc d) body) (d + (code_depth body + 1)) (omega arith) (omega arith)
-    act_loops i d (during c body) = let l = list_loops (suc i) (suc d) body in depth_if (is_empty (backward p (suc i) (suc d) body)) d (depth_used p (suc i) (suc d) body) (d + (code_depth body + 1)) (omega arith) (omega arith)
+    act_loops i d (loop x a b c body n) =
+        let l = list_loops (suc i) (suc d) body in
+        depth_choice (reversed_by sc p.marks.adjointed i body n) (is_empty (backward_with sc p (suc i) (suc d) body)) d (depth_used_with sc p (suc i) (suc d) body) (d + (code_depth body + 1)) (omega arith) (omega arith)
+    act_loops i d (during c body) = let l = list_loops (suc i) (suc d) body in depth_if (is_empty (backward_with sc p (suc i) (suc d) body)) d (depth_used_with sc p (suc i) (suc d) body) (d + (code_depth body + 1)) (omega arith) (omega arith)
     act_loops i d (call name args) = omega arith
     act_loops i d (runtime r) = omega arith
 
-    pub list_loops : (i d : ℕ) (c : Code) → depth_used p i d c ≤ d + code_depth c
+    pub list_loops : (i d : ℕ) (c : Code) → depth_used_with sc p i d c ≤ d + code_depth c
     list_loops i d stop = omega arith
     list_loops i d (step line a rest) = let l = act_loops i d a in let r = list_loops (next i a) d rest in omega arith
 

@@ -1,14 +1,14 @@
 -- The expressions and conditions of a kernel are no deeper than those of the program, or 2 deep.
-use Rattle.std.proofs.Common.{◌≡◌, ◌≤◌, ℕ, zero, suc, ◌+◌, max, Bool, true, false, List, [], ◌∷◌, ◌++◌, map, arith, if◌then◌else◌}
-use Rattle.adj_tree.specs.Code.{Var, plain, plus, minus, times, quot, modulo, greater, lesser, Term, Terms, lit, var, elem, neg, bin, pow, power_of, abs, none, more, Test, is_less, compare, Mark, unmarked, with_count, count_from, Act, Code, assign, choose, loop, during, call, runtime, stop, step, Procedure}
-use Rattle.adj_tree.specs.Size.{term_depth, terms_depth, test_depth}
+use Rattle.std.proofs.Common.{◌≤◌, ℕ, zero, suc, ◌+◌, max, Bool, true, false, List, [], ◌∷◌, ◌++◌, map, arith, if◌then◌else◌}
+use Rattle.adj_tree.specs.Code.{Var, plus, minus, times, quot, modulo, greater, lesser, Term, Terms, lit, var, elem, neg, bin, pow, power_of, abs, none, more, is_less, compare, unmarked, with_count, count_from, Act, Code, assign, choose, loop, during, call, runtime, stop, step, Procedure}
+use Rattle.adj_tree.specs.Size.{term_depth, terms_depth}
 use Rattle.adj_meaning.specs.Append.{◌+++◌, one}
 use Rattle.adj_meaning.specs.LeastSet.{Dummies}
 use Rattle.adj_meaning.specs.Read.{reads_term}
 use Rattle.adj_meaning.specs.Written.{handed_back}
-use Rattle.adj_kernel.specs.Lowered.{locals_in, mentions, locals_in_target, locals_in_all, length_of, is_among, first_flag, other_flags, Passing, stays, put_back, by_value, passing_name, passing_element, passing, locals_passing, reduced, picked, turned_up, before, set_local, apart_from, before_target, lowered_assign, reduced_all, before_all, held, before_held, passed, before_passing, after_passing, before_passing_all, after_passing_all, all_passed, lowered_call, lowered_act, lowered}
+use Rattle.adj_kernel.specs.Lowered.{locals_in, mentions, locals_in_target, locals_in_all, is_among, first_flag, other_flags, Passing, stays, put_back, by_value, passing_name, passing_element, passing, locals_passing, reduced, picked, turned_up, before, set_local, apart_from, before_target, lowered_assign, reduced_all, before_all, held, before_held, passed, before_passing, after_passing, before_passing_all, after_passing_all, all_passed, lowered_call, lowered_act, lowered}
 use Rattle.adj_kernel.specs.Kernel.{lowered_unit, local_in}
-use Rattle.adj_kernel.specs.Stepped.{marked_in, marked_in_act, as_actuals, step_dummies, step_name, step_call, cut_act, cut, step_units_in_act, step_units_in, stepped_unit, stepped_from, stepped_program, kernel_of, step_names, names_of_source}
+use Rattle.adj_kernel.specs.Stepped.{marked_in, marked_in_act, as_actuals, step_dummies, cut_act, cut, step_units_in_act, step_units_in, stepped_unit, stepped_from, stepped_program, step_names, names_of_source}
 use Rattle.adj_emitted.specs.Emitted.{act_deepest, deepest, AreShallow}
 use Rattle.adj_limits.specs.Limits.{KernelKeepsDepth}
 

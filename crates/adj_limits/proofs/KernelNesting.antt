@@ -1,14 +1,14 @@
 -- The kernel of a program is nested at most one deeper than the program.
-use Rattle.std.proofs.Common.{◌≡◌, ◌≤◌, ℕ, zero, suc, ◌+◌, max, Bool, true, false, List, [], ◌∷◌, ◌++◌, map, arith, if◌then◌else◌}
-use Rattle.adj_tree.specs.Code.{Var, plus, minus, times, quot, modulo, greater, lesser, Term, Terms, lit, var, elem, neg, bin, pow, power_of, abs, none, more, Test, is_less, compare, Mark, unmarked, with_count, count_from, Act, Code, assign, choose, loop, during, call, runtime, stop, step, Procedure}
+use Rattle.std.proofs.Common.{◌≤◌, ℕ, zero, suc, ◌+◌, max, Bool, true, false, List, [], ◌∷◌, ◌++◌, map, arith, if◌then◌else◌}
+use Rattle.adj_tree.specs.Code.{Var, plus, minus, times, quot, modulo, greater, lesser, Term, Terms, lit, var, elem, neg, bin, pow, power_of, abs, none, more, unmarked, with_count, count_from, Act, Code, assign, choose, loop, during, call, runtime, stop, step, Procedure}
 use Rattle.adj_tree.specs.Size.{act_depth, code_depth}
-use Rattle.adj_meaning.specs.Append.{◌+++◌, one}
+use Rattle.adj_meaning.specs.Append.{◌+++◌}
 use Rattle.adj_meaning.specs.LeastSet.{Dummies}
 use Rattle.adj_meaning.specs.Read.{reads_term}
-use Rattle.adj_kernel.specs.Lowered.{locals_in, mentions, locals_in_target, locals_in_all, length_of, first_flag, other_flags, Passing, stays, put_back, by_value, passing, locals_passing, reduced, picked, turned_up, before, set_local, before_target, lowered_assign, reduced_all, before_all, held, before_held, passed, before_passing, after_passing, before_passing_all, after_passing_all, all_passed, lowered_call, lowered_act, lowered}
+use Rattle.adj_kernel.specs.Lowered.{locals_in, mentions, locals_in_target, locals_in_all, first_flag, other_flags, Passing, stays, put_back, by_value, passing, locals_passing, before, set_local, before_target, lowered_assign, reduced_all, before_all, before_held, passed, before_passing, after_passing, before_passing_all, after_passing_all, lowered_call, lowered_act, lowered}
 use Rattle.adj_kernel.specs.Kernel.{lowered_unit, local_in}
 use Rattle.adj_meaning.specs.Written.{handed_back}
-use Rattle.adj_kernel.specs.Stepped.{marked_in, marked_in_act, cut_act, cut, step_unit, step_units_in_act, step_units_in, stepped_unit, stepped_from, stepped_program, kernel_of, step_names, names_of_source}
+use Rattle.adj_kernel.specs.Stepped.{marked_in, marked_in_act, cut_act, cut, step_units_in_act, step_units_in, stepped_unit, stepped_from, stepped_program, step_names, names_of_source}
 use Rattle.adj_emitted.specs.Emitted.{IsNested}
 use Rattle.adj_limits.specs.Limits.{KernelKeepsNesting}
 

@@ -1,7 +1,5 @@
 -- What is emitted for the kernel of an accepted program that a text gives in Source mode keeps the limits of a run, and reads in Run mode.
-use Rattle.std.proofs.Common.{◌≡◌, ◌≤◌, ◌<◌, ◌^◌, ℕ, suc, ◌+◌, ◌-◌, Bool, true, List, [], ◌∷◌, ◌++◌, length, map, flat_map, drop, refl, sym, ap, ◌∙◌, arith, length-drop}
-use Rattle.std.specs.Prelude.{◌&&◌}
-use Rattle.std.specs.List.{list_all}
+use Rattle.std.proofs.Common.{◌≡◌, ◌≤◌, ◌<◌, ◌^◌, ℕ, Bool, true, List, [], ◌∷◌, length, map, flat_map, drop, refl, arith, length-drop}
 use Rattle.std.proofs.lemmas.Bool.{and_parts, and_from}
 use Rattle.adj_tree.specs.Code.{unmarked, with_count, count_from, Act, Code, assign, choose, loop, during, call, runtime, stop, step, Procedure}
 use Rattle.adj_names.specs.Fault.{source_rules, run_rules}
@@ -11,17 +9,14 @@ use Rattle.adj_names.specs.NameFaults.{undeclared, declared_twice, misused, bad_
 use Rattle.adj_names.specs.CallFaults.{faults_of_call}
 use Rattle.adj_names.specs.Check.{IsSound}
 use Rattle.adj_names.proofs.Sound.{sound_has_none}
-use Rattle.adj_transpose.specs.Fresh.{has_name}
 use Rattle.adj_transpose.specs.Program.{unit_at}
 use Rattle.adj_reverse.specs.Marking.{ProgramMarks}
 use Rattle.adj_reverse.specs.Names.{adjoint_name}
-use Rattle.adj_reverse.specs.Program.{emitted_units, emitted_for, emitted_program}
+use Rattle.adj_reverse.specs.Program.{emitted_units_with, emitted_for_with, emitted_program_with}
 use Rattle.adj_kernel.specs.Kernel.{locals_count, lowered_unit, EachUnit}
 use Rattle.adj_kernel.specs.Stepped.{marked_in_act, marked_in, stepped_program, kernel_of}
-use Rattle.adj_kernel.specs.Sound.{IsAccepted}
 use Rattle.adj_checked.specs.Checked.{IsChecked}
 use Rattle.adj_checked.proofs.Lists.{Each, none_front, none_behind, none_each}
-use Rattle.adj_checked.proofs.Statements.{CallHasNone}
 use Rattle.adj_emitted.specs.Shadowed.{AllHaveShadows}
 use Rattle.adj_emitted.specs.Emitted.{IsNested, AreShallow}
 use Rattle.adj_emitted.proofs.Sources.{each_name, of_each, UnitSound, all_named}
@@ -36,7 +31,7 @@ use Rattle.adj_readable.specs.Reading.{KeptReads, IsSource, SourceIsKept}
 use Rattle.adj_lengths.specs.Lengths.{AreShort, IsSmall, marked_loops}
 use Rattle.adj_lengths.proofs.StepLengths.{kernel_units_short}
 use Rattle.adj_lengths.proofs.KernelLengths.{kernel_variables_short, locals_few}
-use Rattle.adj_limits.specs.Limits.{EmittedIsRunnable}
+use Rattle.adj_limits.specs.Limits.{EmittedIsRunnableWith}
 use Rattle.adj_limits.proofs.KernelNesting.{kernel_nesting}
 use Rattle.adj_limits.proofs.KernelDepths.{kernel_depths}
 use Rattle.adj_limits.proofs.Measures.{nested_down, program_low}
@@ -158,16 +153,16 @@ module _ (qs : List Procedure) (all : Each HasShortNames qs) where
       let none = sound_has_none run_rules qs sound in
       units_pass qs all (none_each (faults_of_names run_rules qs) qs none.names) (none_each (λ (u : Procedure). flat_map (λ s. faults_of_call qs u s.0 s.1) (statements u.body)) qs none.calls)
 
-module _ (m : ProgramMarks) (ks : List Procedure) (vars outvars : List Bool) (checked : IsChecked run_rules ks) (less : length ks ≤ 402000) (adjoints : (u : Procedure) → length (adjoint_name ks u) ≤ 63) (each : Each (IsModest ks) ks) (shadows : AllHaveShadows m ks ks) where
-  emitted_short : (us : List Procedure) → IsSound run_rules (emitted_for m ks vars outvars us) → keeps (short_names 63) (emitted_for m ks vars outvars us) ≡ true
+module _ (sb : Bool) (m : ProgramMarks) (ks : List Procedure) (vars outvars : List Bool) (checked : IsChecked run_rules ks) (less : length ks ≤ 402000) (adjoints : (u : Procedure) → length (adjoint_name ks u) ≤ 63) (each : Each (IsModest ks) ks) (shadows : AllHaveShadows m ks ks) where
+  emitted_short : (us : List Procedure) → IsSound run_rules (emitted_for_with sb m ks vars outvars us) → keeps (short_names 63) (emitted_for_with sb m ks vars outvars us) ≡ true
   emitted_short [] sound = refl
   emitted_short (u ∷ us) sound =
       let named = all_named run_rules ks checked in
-      program_passes (emitted_units m ks u vars outvars ks)
-      (each_emitted m ks u vars outvars HasShortNames ks (carried_short m ks u vars outvars named less adjoints ks each) (adjoints_short m ks u vars outvars named less adjoints ks each shadows)) sound
+      program_passes (emitted_units_with sb m ks u vars outvars ks)
+      (each_emitted sb m ks u vars outvars HasShortNames ks (carried_short sb m ks u vars outvars named less adjoints ks each) (adjoints_short sb m ks u vars outvars named less adjoints ks each shadows)) sound
 
-pub emitted_runnable : KeptReads → SourceIsKept → EmittedIsRunnable
-emitted_runnable reads source bytes ps h accepted known m shadows head vars outvars =
+pub emitted_runnable : KeptReads → SourceIsKept → (schedules : Bool) → EmittedIsRunnableWith schedules
+emitted_runnable reads source sb bytes ps h accepted known m shadows head vars outvars =
     let s = source bytes ps h in
     let kept = s.kept in
     let ks = kernel_of ps in
@@ -181,7 +176,7 @@ emitted_runnable reads source bytes ps h accepted known m shadows head vars outv
     let few : run_rules.chain ≤ run_rules.chain = omega arith in
     let each = modest ks ks (all_names_sound run_rules ks checked) short known units.names nested shallow in
     let adjoints = adjoint_short ks units.few_units units.names short known in
-    let sound = marked_sound run_rules ks checked few m shadows head vars outvars in
-    let limits = emitted_shallow source bytes ps h m head vars outvars in
-    reads (emitted_program m ks head vars outvars) (marked_written run_rules ks checked m shadows head vars outvars)
-    (record { names = emitted_short m ks vars outvars checked units.few_units adjoints each shadows (unit_at head ks) sound; depths = limits.depths; nested = limits.nested })
+    let sound = marked_sound run_rules ks checked few sb m shadows head vars outvars in
+    let limits = emitted_shallow source sb bytes ps h m head vars outvars in
+    reads (emitted_program_with sb m ks head vars outvars) (marked_written run_rules ks checked sb m shadows head vars outvars)
+    (record { names = emitted_short sb m ks vars outvars checked units.few_units adjoints each shadows (unit_at head ks) sound; depths = limits.depths; nested = limits.nested })

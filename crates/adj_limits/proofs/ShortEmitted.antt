@@ -1,11 +1,7 @@
 -- The names of what is emitted for the kernel of an accepted program are short.
-use Rattle.std.proofs.Common.{◌≡◌, ◌≤◌, ◌<◌, ◌^◌, ℕ, suc, ◌+◌, Bool, true, false, List, [], ◌∷◌, ◌++◌, length, map, flat_map, refl, sym, ap, ◌∙◌, arith, length-append, if◌then◌else◌}
-use Rattle.std.specs.Prelude.{◌&&◌, ◌||◌}
-use Rattle.std.specs.List.{list_all}
-use Rattle.std.proofs.lemmas.Bool.{and_parts}
+use Rattle.std.proofs.Common.{◌≡◌, ◌≤◌, ℕ, Bool, true, false, List, [], ◌∷◌, length, map, refl, sym, ap, ◌∙◌, arith, length-append, if◌then◌else◌}
 use Rattle.adj_tree.specs.Code.{Var, plain, shadow, name_eq, Declaration, Procedure}
 use Rattle.adj_tree.specs.Size.{code_depth}
-use Rattle.adj_tree.specs.declared.fault.Refusal.{Refusal}
 use Rattle.adj_text.specs.Written.{IsName}
 use Rattle.adj_names.specs.Statements.{At}
 use Rattle.adj_names.specs.Variables.{places, variables}
@@ -18,22 +14,21 @@ use Rattle.adj_transpose.specs.Program.{declaration, declared_helpers}
 use Rattle.adj_transpose.specs.Marked.{names_in}
 use Rattle.adj_transpose.specs.Program.{unmarked, unit_name}
 use Rattle.adj_transpose.proofs.Variables.{or_left, or_right, var_refl}
-use Rattle.adj_tree.proofs.Names.{name_same, name_refl}
+use Rattle.adj_tree.proofs.Names.{name_same}
 use Rattle.adj_reverse.specs.Marking.{ProgramMarks, first_statement, plan_in}
 use Rattle.adj_reverse.specs.Names.{adjoint_name}
-use Rattle.adj_reverse.specs.Program.{helpers_used, adjoint_names, adjoint_unit, made_names, all_units, has_adjoint, is_carried, emitted_adjoint, emitted_units}
+use Rattle.adj_reverse.specs.Program.{helpers_used_with, adjoint_names_with, adjoint_unit_with, made_names, all_units, has_adjoint, is_carried_with, emitted_adjoint_with, schedules_in}
 use Rattle.adj_reverse.proofs.Variables.{variables_stand}
-use Rattle.adj_checked.specs.Checked.{IsChecked}
-use Rattle.adj_checked.proofs.Lists.{Each, each_append, each_more}
+use Rattle.adj_checked.proofs.Lists.{Each, each_append}
 use Rattle.adj_emitted.specs.Shadowed.{HasShadows, AllHaveShadows}
 use Rattle.adj_emitted.specs.Emitted.{deepest}
-use Rattle.adj_emitted.proofs.MadeNames.{follows}
+use Rattle.adj_emitted.proofs.MadeNames.{follows_by}
 use Rattle.adj_emitted.proofs.Programs.{cleared}
 use Rattle.adj_emitted.proofs.Sources.{each_name, of_each, UnitSound}
 use Rattle.adj_emitted.proofs.NameFaults.{NamesSound}
 use Rattle.adj_emitted.proofs.AdjointNames.{places_declared}
 use Rattle.adj_emitted.proofs.Tables.{among, has_shadow, has_helper}
-use Rattle.adj_emitted.proofs.Used.{used_helpers}
+use Rattle.adj_emitted.proofs.Used.{used_helpers_with}
 use Rattle.adj_limits.proofs.HelperCounts.{list_loops, list_works, list_temps}
 use Rattle.adj_limits.proofs.TableLengths.{Entry, name_short, table_short}
 
@@ -57,15 +52,15 @@ named_count (u ∷ us) = let rest = named_count us in omega arith
 
 -- ---- the variables of an adjoint unit
 
-module _ (m : ProgramMarks) (ps : List Procedure) (units : List (List ℕ)) (u : Procedure) (s : UnitSound ps u) (n : NamesSound ps u) (ns_short : Each Entry (adjoint_names m ps units u)) (short : (x : List ℕ) → has_name x (variables u) ≡ true → length x ≤ 31) where
+module _ (sb : Bool) (m : ProgramMarks) (ps : List Procedure) (units : List (List ℕ)) (u : Procedure) (s : UnitSound ps u) (n : NamesSound ps u) (ns_short : Each Entry (adjoint_names_with sb m ps units u)) (short : (x : List ℕ) → has_name x (variables u) ≡ true → length x ≤ 31) where
   abbrev a : Vars
   a = m.shadowed u.name
 
   abbrev hs : List Var
-  hs = helpers_used (plan_in m ps u) (first_statement ps u.name) u.body
+  hs = helpers_used_with (schedules_in sb ps) (plan_in m ps u) (first_statement ps u.name) u.body
 
   abbrev ns : List Named
-  ns = adjoint_names m ps units u
+  ns = adjoint_names_with sb m ps units u
 
   abbrev InNames : Declaration → Type 0
   InNames d = Short d.name
@@ -79,14 +74,14 @@ module _ (m : ProgramMarks) (ps : List Procedure) (units : List (List ℕ)) (u :
       let same : length d.name ≡ length x = ap length (declaration_name u.line u.declarations x) in
       let own : length d.name ≤ 63 = omega arith in
       elim (a (plain x)) as (λ b. a (plain x) ≡ b → Each InNames (if b then d ∷ record d { name = name_in ns (shadow x) } ∷ declared_behind a ns u xs else d ∷ declared_behind a ns u xs)) [
-        | true ↦ λ e. (own, (name_short ns (shadow x) ns_short (has_shadow (variables u) units a hs s.free (used_helpers (plan_in m ps u) (first_statement ps u.name) u.body) x h.0 e), rest))
+        | true ↦ λ e. (own, (name_short ns (shadow x) ns_short (has_shadow (variables u) units a hs s.free (used_helpers_with (schedules_in sb ps) (plan_in m ps u) (first_statement ps u.name) u.body) x h.0 e), rest))
         | false ↦ λ e. (own, rest)
       ] refl
 
   helpers_short : (line : ℕ) (vs : List Var) → ((v : Var) → among v vs ≡ true → among v hs ≡ true) → Each InNames (declared_helpers ns line vs)
   helpers_short line [] f = tt
   helpers_short line (v ∷ vs) f = (
-    name_short ns v ns_short (has_helper (variables u) units a hs s.free (used_helpers (plan_in m ps u) (first_statement ps u.name) u.body) v (f v (or_left _ (among v vs) (var_refl v)))),
+    name_short ns v ns_short (has_helper (variables u) units a hs s.free (used_helpers_with (schedules_in sb ps) (plan_in m ps u) (first_statement ps u.name) u.body) v (f v (or_left _ (among v vs) (var_refl v)))),
     helpers_short line vs (λ w h. f w (or_right _ (among w vs) h)),
   )
 
@@ -96,7 +91,7 @@ module _ (m : ProgramMarks) (ps : List Procedure) (units : List (List ℕ)) (u :
 
   module _ (shadows : HasShadows (plan_in m ps u) (first_statement ps u.name) u.body) (named : Each (λ u. IsName u.name) ps) (at_turn at_end : List (List ℕ)) (turned : Each (λ x. (has_name x (variables u) ≡ true) × (m.shadowed u.name (plain x) ≡ true)) at_turn) (ended : Each (λ x. (has_name x (variables u) ≡ true) × (m.shadowed u.name (plain x) ≡ true)) at_end) where
     abbrev v : Procedure
-    v = adjoint_unit m ps units u at_turn at_end
+    v = adjoint_unit_with sb m ps units u at_turn at_end
 
     all_declared : Each Short (map (λ d. d.name) v.declarations)
     all_declared =
@@ -109,7 +104,7 @@ module _ (m : ProgramMarks) (ps : List Procedure) (units : List (List ℕ)) (u :
     pub adjoint_variable : (x : List ℕ) → has_name x (variables v) ≡ true → length x ≤ 63
     adjoint_variable x h =
         of_each Short (names_at (places v))
-        (at_places (places v) (places_declared m ps units u s.written s.kernel s.free s.calls (follows m ps named u (first_statement ps u.name) u.body s.calls shadows) n.dummies_once n.extent_dummy n.extents n.stands at_turn at_end turned ended)) x (sym (variables_stand v x) ∙ h)
+        (at_places (places v) (places_declared sb m ps units u s.written s.kernel s.free s.calls (follows_by m ps named u (schedules_in sb ps) (first_statement ps u.name) u.body s.calls shadows) n.dummies_once n.extent_dummy n.extents n.stands at_turn at_end turned ended)) x (sym (variables_stand v x) ∙ h)
 
 -- ---- the emitted units
 
@@ -131,15 +126,15 @@ pub record HasShortNames (u : Procedure) : Type 0 where
 each_short : (xs : List (List ℕ)) → ((x : List ℕ) → has_name x xs ≡ true → length x ≤ 31) → Each (λ x. length x ≤ 31) xs
 each_short xs f = each_name (λ x. length x ≤ 31) xs f
 
-module _ (m : ProgramMarks) (ps : List Procedure) (head : Procedure) (vars outvars : List Bool) (named : Each (λ u. IsName u.name) ps) (less : length ps ≤ 402000) (adjoints : (u : Procedure) → length (adjoint_name ps u) ≤ 63) where
+module _ (sb : Bool) (m : ProgramMarks) (ps : List Procedure) (head : Procedure) (vars outvars : List Bool) (named : Each (λ u. IsName u.name) ps) (less : length ps ≤ 402000) (adjoints : (u : Procedure) → length (adjoint_name ps u) ≤ 63) where
   abbrev units : List (List ℕ)
   units = all_units m ps head
 
-  table : (u : Procedure) → IsModest ps u → Each Entry (adjoint_names m ps units u)
+  table : (u : Procedure) → IsModest ps u → Each Entry (adjoint_names_with sb m ps units u)
   table u k =
       let p = plan_in m ps u in
       let i = first_statement ps u.name in
-      let loops = list_loops p i 0 u.body in
+      let loops = list_loops (schedules_in sb ps) p i 0 u.body in
       let works = list_works p.marks 100 i u.body k.shallow in
       let temps = list_temps p.marks 100 i u.body k.shallow in
       let nest = k.nested in
@@ -147,22 +142,22 @@ module _ (m : ProgramMarks) (ps : List Procedure) (head : Procedure) (vars outva
       let a = named_count ps in
       let b = made_count m ps head ps in
       let c = length-append (map unit_name ps) (made_names m ps head ps) in
-      table_short p i u.body (omega arith) (omega arith) (omega arith) (m.shadowed u.name) (variables u) units (each_short (variables u) k.short) (omega arith) (omega arith)
+      table_short (schedules_in sb ps) p i u.body (omega arith) (omega arith) (omega arith) (m.shadowed u.name) (variables u) units (each_short (variables u) k.short) (omega arith) (omega arith)
 
-  adjoint_names_short : (u : Procedure) → IsModest ps u → HasShadows (plan_in m ps u) (first_statement ps u.name) u.body → HasShortNames (emitted_adjoint m ps head vars outvars u)
+  adjoint_names_short : (u : Procedure) → IsModest ps u → HasShadows (plan_in m ps u) (first_statement ps u.name) u.body → HasShortNames (emitted_adjoint_with sb m ps head vars outvars u)
   adjoint_names_short u k shadows = go (name_eq head.name u.name)
     where
-      made : (at_turn at_end : List (List ℕ)) → Each (λ x. (has_name x (variables u) ≡ true) × (m.shadowed u.name (plain x) ≡ true)) at_turn → Each (λ x. (has_name x (variables u) ≡ true) × (m.shadowed u.name (plain x) ≡ true)) at_end → HasShortNames (adjoint_unit m ps units u at_turn at_end)
-      made at_turn at_end turned ended = record { name = adjoints u; known = adjoint_variable m ps units u k.sound k.names (table u k) k.short shadows named at_turn at_end turned ended }
+      made : (at_turn at_end : List (List ℕ)) → Each (λ x. (has_name x (variables u) ≡ true) × (m.shadowed u.name (plain x) ≡ true)) at_turn → Each (λ x. (has_name x (variables u) ≡ true) × (m.shadowed u.name (plain x) ≡ true)) at_end → HasShortNames (adjoint_unit_with sb m ps units u at_turn at_end)
+      made at_turn at_end turned ended = record { name = adjoints u; known = adjoint_variable sb m ps units u k.sound k.names (table u k) k.short shadows named at_turn at_end turned ended }
 
-      go : (b : Bool) → HasShortNames (if b then adjoint_unit m ps units u (names_in (m.shadowed u.name) (unmarked u.dummies outvars)) (names_in (m.shadowed u.name) (unmarked u.dummies vars)) else adjoint_unit m ps units u [] [])
+      go : (b : Bool) → HasShortNames (if b then adjoint_unit_with sb m ps units u (names_in (m.shadowed u.name) (unmarked u.dummies outvars)) (names_in (m.shadowed u.name) (unmarked u.dummies vars)) else adjoint_unit_with sb m ps units u [] [])
       go true = made _ _ (cleared m ps head vars outvars named u outvars) (cleared m ps head vars outvars named u vars)
       go false = made [] [] tt tt
 
-  pub carried_short : (us : List Procedure) → Each (IsModest ps) us → Each (λ u. is_carried m ps head u.name ≡ true → HasShortNames u) us
+  pub carried_short : (us : List Procedure) → Each (IsModest ps) us → Each (λ u. is_carried_with sb m ps head u.name ≡ true → HasShortNames u) us
   carried_short [] h = tt
   carried_short (u ∷ us) h = let k = h.0 in let le = k.named in (λ e. record { name = omega arith; known = λ x g. let s = k.short x g in omega arith }, carried_short us h.1)
 
-  pub adjoints_short : (us : List Procedure) → Each (IsModest ps) us → AllHaveShadows m ps us → Each (λ u. has_adjoint m ps head u.name ≡ true → HasShortNames (emitted_adjoint m ps head vars outvars u)) us
+  pub adjoints_short : (us : List Procedure) → Each (IsModest ps) us → AllHaveShadows m ps us → Each (λ u. has_adjoint m ps head u.name ≡ true → HasShortNames (emitted_adjoint_with sb m ps head vars outvars u)) us
   adjoints_short [] h shadows = tt
   adjoints_short (u ∷ us) h shadows = (λ e. adjoint_names_short u h.0 shadows.0, adjoints_short us h.1 shadows.1)

@@ -1,17 +1,16 @@
 -- All names of a unit are short where those of its variables are, and the other way round.
-use Rattle.std.proofs.Common.{◌≡◌, ◌≤◌, ℕ, Bool, true, false, List, [], ◌∷◌, ◌++◌, length, map, flat_map, refl, sym, ◌∙◌, arith, if◌then◌else◌, Some}
-use Rattle.std.specs.Prelude.{◌||◌, ◌&&◌, not, int_lt, pos}
+use Rattle.std.proofs.Common.{◌≡◌, ◌≤◌, ℕ, true, false, List, [], ◌∷◌, ◌++◌, length, map, flat_map, refl, sym, ◌∙◌, arith, if◌then◌else◌, Some}
+use Rattle.std.specs.Prelude.{◌&&◌}
 use Rattle.std.specs.List.{list_any}
 use Rattle.std.proofs.lemmas.Bool.{or_parts, and_parts, not-false}
 use Rattle.adj_tree.specs.Code.{name_eq, Act, assign, choose, loop, during, call, runtime, Extent, fixed, given, Declaration, Procedure}
 use Rattle.adj_meaning.specs.Written.{find_unit}
-use Rattle.adj_names.specs.Fault.{fault, faults_if, run_rules}
+use Rattle.adj_names.specs.Fault.{fault, faults_if}
 use Rattle.adj_names.specs.Standing.{Standing, in_act}
 use Rattle.adj_names.specs.Statements.{At, statements}
 use Rattle.adj_names.specs.Variables.{dummy_places, declared_places, statement_places, places, variables, is_dummy, is_scalar}
 use Rattle.adj_names.specs.NameFaults.{is_bad_extent, has_bad_extents, bad_extents}
 use Rattle.adj_names.specs.CallFaults.{faults_of_call}
-use Rattle.adj_names.specs.Fresh as fresh
 use Rattle.adj_names.proofs.Lists.{names_at}
 use Rattle.adj_transpose.specs.Fresh.{has_name}
 use Rattle.adj_reverse.proofs.Variables.{same_has, variables_stand, dummy_among}

@@ -4,11 +4,11 @@ use Rattle.std.specs.Prelude.{◌&&◌, Option, Some, None}
 use Rattle.std.specs.List.{list_all}
 use Rattle.std.proofs.lemmas.Bool.{le-leb, leb-true, and_from, and_parts}
 use Rattle.adj_tree.specs.Code.{Var, plain, shadow, helper, Term, lit, var, elem, neg, bin, pow, power_of, abs, Terms, none, more, Test, compare, negation, conjunction, disjunction, Runtime, push_word, pop_word, push_array, pop_array, push_control, pop_control, zero_array, begin_reversal, count_actions, give_action, end_reversal, Mark, unmarked, with_count, count_from, Act, assign, choose, loop, during, call, runtime, Code, stop, step, Extent, fixed, given, Declaration, Procedure}
-use Rattle.adj_names.specs.Standing.{Standing, standing, scalar, whole, count_of, in_term, in_terms, in_test, in_place, in_actual, in_actuals, in_runtime, in_mark, in_act}
+use Rattle.adj_names.specs.Standing.{Standing, standing, scalar, count_of, in_term, in_terms, in_test, in_place, in_actual, in_actuals, in_runtime, in_mark, in_act}
 use Rattle.adj_names.specs.Statements.{At, inner, statements}
 use Rattle.adj_kernel.proofs.Faultless.{Each, each_front, each_behind, each_join}
 use Rattle.adj_readable.specs.Rule.{act_keeps, code_keeps, declaration_keeps, procedure_keeps}
-use Rattle.adj_readable.specs.Kept.{actuals_of, is_short, var_short, term_short, terms_short, test_short, mark_short, extent_short, deed_short, short_names}
+use Rattle.adj_readable.specs.Kept.{actuals_of, is_short, var_short, term_short, terms_short, test_short, mark_short, extent_short, short_names}
 
 module _ (n : ℕ) where
   abbrev pub S : Standing → Type 0

@@ -1,20 +1,20 @@
 -- How long the names are that the variables of an adjoint unit get.
-use Rattle.std.proofs.Common.{◌≡◌, ◌≤◌, ◌<◌, ◌^◌, ℕ, zero, suc, ◌+◌, ◌*◌, ◌/◌, ◌%◌, Bool, true, false, List, [], ◌∷◌, ◌++◌, length, map, refl, sym, ap, subst, ◌∙◌, arith, inl, inr, append_assoc, length-append, codes, if◌then◌else◌}
-use Rattle.std.specs.Prelude.{◌||◌, ◌&&◌, ◌==◌, not, nat_lt}
+use Rattle.std.proofs.Common.{◌≡◌, ◌≤◌, ◌<◌, ◌^◌, ℕ, zero, suc, ◌+◌, ◌/◌, ◌%◌, Bool, true, false, List, [], ◌∷◌, ◌++◌, length, map, refl, sym, ap, subst, ◌∙◌, arith, inl, inr, append_assoc, length-append, codes, if◌then◌else◌}
+use Rattle.std.specs.Prelude.{◌||◌, ◌&&◌, ◌==◌, not, nat_lt, Some, None}
 use Rattle.std.proofs.lemmas.Bool.{or_cases, and_parts}
 use Rattle.std.proofs.lemmas.Bool.Decides.{nat_tests}
 use Rattle.std.proofs.lemmas.List.{append-nil}
 use Rattle.adj_tree.specs.Code.{Role, work, temp, control, first, stride, count, turn, entry, entries, kind, lower, upper, Var, plain, shadow, helper, var_eq, Act, Code}
 use Rattle.adj_transpose.specs.Fresh.{has_name, digits_before, digits, candidate, fresh, reserved}
-use Rattle.adj_transpose.specs.Naming.{letters, wanted, Named, own, named, unit_names, name_in}
+use Rattle.adj_transpose.specs.Naming.{wanted, Named, own, named, unit_names, name_in}
 use Rattle.adj_transpose.specs.Marks.{Vars}
 use Rattle.adj_transpose.specs.Marked.{names_in}
 use Rattle.adj_transpose.specs.Program.{helpers_from}
 use Rattle.adj_transpose.proofs.Fresh.{digits_same}
 use Rattle.adj_transpose.proofs.Naming.{has-append}
-use Rattle.adj_reverse.specs.Plan.{Plan}
-use Rattle.adj_reverse.specs.Program.{works_used, temps_used, depth_used, tells_some, goes_back, is_do, is_loop, helpers_among, loop_helpers, helpers_used}
-use Rattle.adj_checked.proofs.Lists.{Each}
+use Rattle.adj_reverse.specs.Plan.{Plan, Schedules}
+use Rattle.adj_reverse.specs.Program.{works_used, temps_used, depth_used_with, tells_some_with, goes_back_with, reverses, is_do, is_loop, helpers_among, loop_helpers_with, reversal_helpers, all_reversal_helpers, helpers_used_with}
+use Rattle.adj_checked.proofs.Lists.{Each, each_append}
 use Rattle.adj_emitted.proofs.Sources.{of_each}
 use Rattle.adj_emitted.proofs.Tables.{has_var}
 use Rattle.adj_lengths.proofs.FreshLengths.{digits_short, fresh_short, fresh_candidate}
@@ -204,30 +204,68 @@ entries_join : (ps qs : List Named) → Each Entry ps → Each Entry qs → Each
 entries_join [] qs h g = g
 entries_join (p ∷ ps) qs h g = (h.0, entries_join ps qs h.1 g)
 
-module _ (p : Plan) (i : ℕ) (c : Code) (loops : depth_used p i 0 c ≤ 45) (works : works_used p.marks i c ≤ 200) (temps : temps_used p.marks i c < 10 ^ 47) where
-  loop_piece : (is_such : Act → Bool) (r : Role) (taken : List (List ℕ)) (ws : List Var) → length taken + 45 ≤ most → ((later : List (List ℕ)) → length later ≤ length taken + 45 → Each Entry (named later ws)) → Each Entry (named taken (loop_helpers is_such r p i c ++ ws))
+module _ (sc : Schedules) (p : Plan) (i : ℕ) (c : Code) (loops : depth_used_with sc p i 0 c ≤ 45) (works : works_used p.marks i c ≤ 200) (temps : temps_used p.marks i c < 10 ^ 47) where
+  loop_piece : (is_such : Act → Bool) (r : Role) (taken : List (List ℕ)) (ws : List Var) → length taken + 45 ≤ most → ((later : List (List ℕ)) → length later ≤ length taken + 45 → Each Entry (named later ws)) → Each Entry (named taken (loop_helpers_with sc is_such r p i c ++ ws))
   loop_piece is_such r taken ws le f =
-      let few = among_count (λ k. goes_back is_such k p i 0 c) r 1 (depth_used p i 0 c) in
-      before taken (loop_helpers is_such r p i c) ws (among_modest (λ k. goes_back is_such k p i 0 c) r 1 (depth_used p i 0 c) (omega arith)) (omega arith) (λ later h. f later (omega arith))
+      let few = among_count (λ k. goes_back_with sc is_such k p i 0 c) r 1 (depth_used_with sc p i 0 c) in
+      before taken (loop_helpers_with sc is_such r p i c) ws (among_modest (λ k. goes_back_with sc is_such k p i 0 c) r 1 (depth_used_with sc p i 0 c) (omega arith)) (omega arith) (λ later h. f later (omega arith))
 
-  helpers_short : (taken : List (List ℕ)) → length taken ≤ 9000000000 → Each Entry (named taken (helpers_used p i c))
+  -- those of reversals by schedules
+  acts_of : (z : Schedules) (r : Role) → depth_used_with z p i 0 c ≤ 45 → Each Modest (reversal_helpers z r p i c)
+  acts_of z r le = among_modest (λ k. reverses z k p i 0 c) r 1 (depth_used_with z p i 0 c) (omega arith)
+
+  acts_modest : (z : Schedules) → depth_used_with z p i 0 c ≤ 45 → Each Modest (all_reversal_helpers z p i c)
+  acts_modest None le = tt
+  acts_modest (Some reads) le =
+      let z = Some reads in
+      each_append Modest (reversal_helpers z entry p i c) _ (acts_of z entry le)
+      (each_append Modest (reversal_helpers z entries p i c) _ (acts_of z entries le)
+      (each_append Modest (reversal_helpers z kind p i c) _ (acts_of z kind le)
+      (each_append Modest (reversal_helpers z lower p i c) (reversal_helpers z upper p i c) (acts_of z lower le) (acts_of z upper le))))
+
+  few_of : (z : Schedules) (r : Role) → depth_used_with z p i 0 c ≤ 45 → length (reversal_helpers z r p i c) ≤ 45
+  few_of z r le = let few = among_count (λ k. reverses z k p i 0 c) r 1 (depth_used_with z p i 0 c) in omega arith
+
+  acts_count : (z : Schedules) → depth_used_with z p i 0 c ≤ 45 → length (all_reversal_helpers z p i c) ≤ 225
+  acts_count None le = omega arith
+  acts_count (Some reads) le =
+      let z = Some reads in
+      let one = reversal_helpers z entry p i c in
+      let two = reversal_helpers z entries p i c in
+      let three = reversal_helpers z kind p i c in
+      let four = reversal_helpers z lower p i c in
+      let five = reversal_helpers z upper p i c in
+      let few_one = few_of z entry le in
+      let few_two = few_of z entries le in
+      let few_three = few_of z kind le in
+      let few_four = few_of z lower le in
+      let few_five = few_of z upper le in
+      let all = length-append one (two ++ (three ++ (four ++ five))) in
+      let from_two = length-append two (three ++ (four ++ five)) in
+      let from_three = length-append three (four ++ five) in
+      let from_four = length-append four five in
+      omega arith
+
+  helpers_short : (taken : List (List ℕ)) → length taken ≤ 9000000000 → Each Entry (named taken (helpers_used_with sc p i c))
   helpers_short taken few =
-      let one = control_count (tells_some p i 0 c) in
+      let one = control_count (tells_some_with sc p i 0 c) in
+      let few_acts = acts_count sc loops in
       let count_works = from_count work 1 (works_used p.marks i c) in
       let power : 10 ^ suc 46 < 10 ^ suc 47 = omega arith in
-      before taken _ _ (control_modest (tells_some p i 0 c)) (omega arith) (λ a ha.
+      before taken _ _ (control_modest (tells_some_with sc p i 0 c)) (omega arith) (λ a ha.
       loop_piece is_loop count a _ (omega arith) (λ b hb.
       loop_piece is_do first b _ (omega arith) (λ d hd.
       loop_piece is_do stride d _ (omega arith) (λ e he.
       loop_piece is_loop turn e _ (omega arith) (λ g hg.
-      before g (helpers_from work 1 (works_used p.marks i c)) (helpers_from temp 1 (temps_used p.marks i c)) (from_modest work 1 (works_used p.marks i c) (omega arith)) (omega arith) (λ h hh.
+      before g (all_reversal_helpers sc p i c) (helpers_from work 1 (works_used p.marks i c) ++ helpers_from temp 1 (temps_used p.marks i c)) (acts_modest sc loops) (omega arith) (λ k hk.
+      before k (helpers_from work 1 (works_used p.marks i c)) (helpers_from temp 1 (temps_used p.marks i c)) (from_modest work 1 (works_used p.marks i c) (omega arith)) (omega arith) (λ h hh.
       let P : List (List ℕ) → Type 0 = λ xs. Each Entry (named xs (helpers_from temp 1 (temps_used p.marks i c))) in
-      subst P (append-nil h) (temps_short h (omega arith) 1 (temps_used p.marks i c) (omega arith) [] tt)))))))
+      subst P (append-nil h) (temps_short h (omega arith) 1 (temps_used p.marks i c) (omega arith) [] tt))))))))
 
-  pub table_short : (a : Vars) (vs units : List (List ℕ)) → Each (λ x. length x ≤ 31) vs → length vs ≤ 2 ^ 30 → length units ≤ 804000 → Each Entry (unit_names vs units (map shadow (names_in a vs) ++ helpers_used p i c))
+  pub table_short : (a : Vars) (vs units : List (List ℕ)) → Each (λ x. length x ≤ 31) vs → length vs ≤ 2 ^ 30 → length units ≤ 804000 → Each Entry (unit_names vs units (map shadow (names_in a vs) ++ helpers_used_with sc p i c))
   table_short a vs units short few some =
       let eighteen : length reserved ≡ 18 = refl in
       let x = length-append vs (units ++ reserved) in
       let y = length-append units reserved in
       let shadows = shadows_count a vs in
-      entries_join (map own vs) _ (own_short vs short) (before (vs ++ (units ++ reserved)) (map shadow (names_in a vs)) (helpers_used p i c) (shadows_modest a vs short) (omega arith) (λ later h. helpers_short later (omega arith)))
+      entries_join (map own vs) _ (own_short vs short) (before (vs ++ (units ++ reserved)) (map shadow (names_in a vs)) (helpers_used_with sc p i c) (shadows_modest a vs short) (omega arith) (λ later h. helpers_short later (omega arith)))

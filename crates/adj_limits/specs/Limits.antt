@@ -1,11 +1,11 @@
 -- Limits: how deep kernels and emitted programs are, and that what is emitted for the program of a text in Source mode reads in Run mode. (docs/LANGUAGE.md, "Limits")
-use Rattle.std.specs.Prelude.{◌≡◌, ◌≤◌, ℕ, ◌+◌, true, List, length, Bool, Ok}
+use Rattle.std.specs.Prelude.{◌≡◌, ◌≤◌, ℕ, ◌+◌, true, false, List, length, Bool, Ok}
 use Rattle.adj_tree.specs.Code.{Procedure}
 use Rattle.adj_tree.specs.Lines.{unlined}
 use Rattle.adj_text.specs.Text.{text_of}
 use Rattle.adj_names.specs.Variables.{variables}
 use Rattle.adj_reverse.specs.Marking.{ProgramMarks}
-use Rattle.adj_reverse.specs.Program.{emitted_program}
+use Rattle.adj_reverse.specs.Program.{emitted_program_with}
 use Rattle.adj_kernel.specs.Kernel.{EachUnit}
 use Rattle.adj_kernel.specs.Stepped.{kernel_of}
 use Rattle.adj_kernel.specs.Sound.{IsAccepted}
@@ -13,7 +13,6 @@ use Rattle.adj_emitted.specs.Shadowed.{AllHaveShadows}
 use Rattle.adj_emitted.specs.Emitted.{IsNested, AreShallow}
 use Rattle.adj_readable.specs.Rule.{keeps}
 use Rattle.adj_readable.specs.Kept.{shallow}
-use Rattle.adj_readable.specs.Kept as kept
 use Rattle.adj_readable.specs.Reading.{OrTooMany, run_program_of, source_program_of}
 
 -- the kernel is nested at most one deeper than the program
@@ -27,15 +26,21 @@ KernelKeepsDepth = (n : ℕ) → 2 ≤ n → (ps : List Procedure) → AreShallo
 -- what is emitted by any marks for the kernel of a program that a text gives in Source mode is no deeper, and nested no deeper, than a run takes
 pub record IsShallow (qs : List Procedure) : Type 0 where
   pub depths : keeps (shallow 120) qs ≡ true
-  pub nested : kept.IsNested 45 qs
+  pub nested : IsNested 45 qs
+
+abbrev pub EmittedIsShallowWith : (schedules : Bool) → Type 0
+EmittedIsShallowWith schedules = (bytes : List ℕ) (ps : List Procedure) → source_program_of bytes ≡ Ok ps → (m : ProgramMarks) (head : ℕ) (vars outvars : List Bool) → IsShallow (emitted_program_with schedules m (kernel_of ps) head vars outvars)
 
 abbrev pub EmittedIsShallow : Type 0
-EmittedIsShallow = (bytes : List ℕ) (ps : List Procedure) → source_program_of bytes ≡ Ok ps → (m : ProgramMarks) (head : ℕ) (vars outvars : List Bool) → IsShallow (emitted_program m (kernel_of ps) head vars outvars)
+EmittedIsShallow = EmittedIsShallowWith false
 
 -- where each unit of the kernel of an accepted program has fewer than 2^30 variables, the text that is emitted for it by any marks whose shadows are there reads in Run mode
 -- as what was emitted, up to line numbers, or has too many statements
-abbrev pub EmittedIsRunnable : Type 0
-EmittedIsRunnable =
+abbrev pub EmittedIsRunnableWith : (schedules : Bool) → Type 0
+EmittedIsRunnableWith schedules =
     (bytes : List ℕ) (ps : List Procedure) → source_program_of bytes ≡ Ok ps → IsAccepted ps → EachUnit (λ v. length (variables v) ≤ 1073741823) (kernel_of ps) →
     (m : ProgramMarks) → AllHaveShadows m (kernel_of ps) (kernel_of ps) → (head : ℕ) (vars outvars : List Bool) →
-    OrTooMany (λ found. unlined found ≡ unlined (emitted_program m (kernel_of ps) head vars outvars)) (run_program_of (text_of (emitted_program m (kernel_of ps) head vars outvars)))
+    OrTooMany (λ found. unlined found ≡ unlined (emitted_program_with schedules m (kernel_of ps) head vars outvars)) (run_program_of (text_of (emitted_program_with schedules m (kernel_of ps) head vars outvars)))
+
+abbrev pub EmittedIsRunnable : Type 0
+EmittedIsRunnable = EmittedIsRunnableWith false

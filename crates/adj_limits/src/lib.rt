@@ -4,7 +4,8 @@
 //! layer above uses `emitted_law` for the text that is written.
 #![tactic(auto)]
 
-ghost use Rattle.adj_limits.specs.Limits.{KernelKeepsNesting, KernelKeepsDepth, EmittedIsShallow, EmittedIsRunnable};
+ghost use Rattle.adj_limits.specs.Limits.{KernelKeepsNesting, KernelKeepsDepth, EmittedIsShallowWith, EmittedIsShallow, EmittedIsRunnableWith, EmittedIsRunnable};
+ghost use Rattle.std.specs.Prelude.{true};
 
 use adj_readable::{kept_law, source_law};
 
@@ -16,9 +17,12 @@ pub fn kernel_law()
 
 /// What is emitted for the kernel of a program that a text gives in Source mode is no deeper than a run takes. Where the program is accepted and its
 /// kernel has no more variables than there are numbers for, the text of what is emitted reads in Run mode as it, or has too many statements.
+/// So it is where marked loops are reversed by schedules.
 pub fn emitted_law()
     ensures shallow { EmittedIsShallow }
     ensures runnable { EmittedIsRunnable }
+    ensures reversed_shallow { EmittedIsShallowWith true }
+    ensures reversed_runnable { EmittedIsRunnableWith true }
 {
     kept_law();
     source_law();
