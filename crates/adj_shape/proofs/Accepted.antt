@@ -11,7 +11,7 @@ use Rattle.adj_shape.proofs.Analysed.{analysed_are_closed}
 use Rattle.adj_shape.proofs.Program.{emitted_has_shape}
 
 pub accepted_has_shape : AcceptedHasShape
-accepted_has_shape ps accepted free name u found vars outvars a l saved held analysed qs same =
+accepted_has_shape schedules ps accepted name u found vars outvars a l saved held analysed qs same =
     let k = whole_units ps name u found in
     let at = (numbered (kernel_of ps) name k.becomes k.found).1 in
     let checked = kernel_checked ps accepted in
@@ -20,6 +20,6 @@ accepted_has_shape ps accepted free name u found vars outvars a l saved held ana
       head = k.becomes;
       is_head = k.found;
       shape =
-          emitted_has_shape run_rules (kernel_of ps) checked (program_facts (kernel_of ps) a l saved held).marks (unit_number (kernel_of ps) name) vars outvars k.becomes at
-          (analysed_are_closed run_rules problem checked free a l saved held analysed k.becomes at) qs same;
+          emitted_has_shape schedules run_rules (kernel_of ps) checked (program_facts (kernel_of ps) a l saved held).marks (unit_number (kernel_of ps) name) vars outvars k.becomes at
+          (analysed_are_closed run_rules problem checked a l saved held analysed k.becomes at) qs same;
     }

@@ -1,25 +1,28 @@
 -- The marks of exact analyses are closed, and so are full marks.
-use Rattle.std.proofs.Common.{◌≡◌, ℕ, zero, suc, List, [], ◌∷◌, Bool, true, false, refl, sym, ap, ◌∙◌, subst}
-use Rattle.std.specs.Prelude.{◌||◌, ◌&&◌, length, ◌+◌, ◌*◌}
-use Rattle.adj_tree.specs.Code.{name_eq, Act, assign, choose, loop, during, call, runtime, Code, stop, step, Procedure}
-use Rattle.adj_names.specs.Statements.{statements}
+use Rattle.std.proofs.Common.{◌≡◌, inl, inr, ℕ, zero, suc, List, [], ◌∷◌, ◌++◌, Bool, true, false, refl, sym, ap, ◌∙◌, subst}
+use Rattle.std.specs.Prelude.{◌||◌, ◌&&◌, length, Contains}
+use Rattle.std.proofs.lemmas.List.Elements.{Contains-append_left, Contains-append_right}
+use Rattle.adj_tree.specs.Code.{name_eq, Var, Mark, unmarked, with_count, count_from, Act, assign, choose, loop, during, call, runtime, Code, stop, step, Procedure}
 use Rattle.adj_transpose.specs.Marks.{Marks, next, behind}
 use Rattle.adj_transpose.specs.Facts.{Facts}
-use Rattle.adj_transpose.proofs.Variables.{and_true, or_false, or_left, or_right}
+use Rattle.adj_transpose.proofs.Variables.{and_true, or_false, or_left, or_right, not_true}
 use Rattle.adj_reverse.specs.Plan.{is_emitted}
-use Rattle.adj_reverse.specs.Laws.{CalleeFacts, ActLaws, ListLaws, UnitLaws}
-use Rattle.adj_reverse.specs.Marking.{full_marks, marks_in, ProgramFacts, callee_facts, first_statement}
+use Rattle.adj_reverse.specs.Laws.{IsIdle', IsIdle}
+use Rattle.adj_reverse.specs.Marking.{full_marks, marks_in, first_statement}
 use Rattle.adj_reverse.specs.Program.{calls_act, calls_in, calls_some, reached_after}
 use Rattle.adj_reverse.proofs.Rounds.{either, calls_rise}
-use Rattle.adj_checked.proofs.Lists.{Each, each_unit, each_found}
-use Rattle.adj_checked.proofs.Premises.{units_apart, found, all_calls, written, kernel}
-use Rattle.adj_checked.proofs.Statements.{CallHasNone}
-use Rattle.adj_facts.specs.Parts.{parts, statements_in, find_part}
-use Rattle.adj_facts.specs.Problem.{IsHead}
+use Rattle.adj_checked.proofs.Premises.{units_apart, found}
+use Rattle.adj_facts.specs.Parts.{Part, statements_in}
+use Rattle.adj_facts.specs.Standing.{Place, outermost, part_of, body_of, Standing, held_in, standing}
+use Rattle.adj_facts.specs.Problem.{IsHead, statements_of}
+use Rattle.adj_facts.specs.Activity.{Holds}
+use Rattle.adj_facts.specs.Held.{marks_of}
+use Rattle.adj_facts.specs.Laws.{InUnit, facts_of}
 use Rattle.adj_facts.proofs.Heads.{head_part}
-use Rattle.adj_analysed.specs.Meets.{program_facts, IsPlainCode, IsUnmarked}
-use Rattle.adj_analysed.proofs.Checked.{unmarked_fit, plain_code, part_found}
-use Rattle.adj_analysed.proofs.Meets.{some_same, analysed_meets}
+use Rattle.adj_facts.proofs.Members.{is_first, is_later}
+use Rattle.adj_facts.proofs.Statements.{analysed_is_closed}
+use Rattle.adj_analysed.proofs.Checked.{part_found}
+use Rattle.adj_analysed.proofs.Meets.{some_same}
 use Rattle.adj_analysed.proofs.Numbers.{placed}
 use Rattle.adj_analysed.proofs.Reaching.{taking}
 use Rattle.adj_shape.specs.Closed.{IsClosed', IsClosed}
@@ -47,21 +50,80 @@ module _ (m : Marks) (all : (i : ℕ) → is_emitted m i ≡ true) where
 pub full_are_closed : FullAreClosed
 full_are_closed ps head u f there = throughout (marks_in full_marks u.name) (λ i. refl) (first_statement ps u.name) u.body
 
--- ---- so is what meets the laws
+-- ---- so is a unit in which each holder is kept where what it holds is kept or adjointed
 
-module _ (g : List ℕ → CalleeFacts) (w : Facts) where
+-- what stands in the body of a loop is held by it
+holds_body : (i : ℕ) (x : Var) (m : Mark) → Holds i (body_of i x m)
+holds_body i x unmarked = refl
+holds_body i x (with_count n) = refl
+holds_body i x (count_from y) = refl
+
+module _ (w : Facts) (g : Part) (unit : InUnit w g) where
+  -- statements of the unit
+  abbrev AllOwn : List Standing → Type 0
+  AllOwn ss = (s : Standing) → Contains ss s → Contains (statements_of g) s
+
+  -- what isn't kept holds nothing that is kept or adjointed
+  spare : (n : ℕ) (s : Standing) → Contains (statements_of g) s → Holds n s.place → w.marks.kept n ≡ false → (w.marks.kept s.number ≡ false) × (w.marks.adjointed s.number ≡ false)
+  spare n s c h k =
+      let o = unit.holders s c in (
+        not_true (w.marks.kept s.number) (λ e. let p : true ≡ false = sym (o.keeps n h (inl e)) ∙ k in cc),
+        not_true (w.marks.adjointed s.number) (λ e. let p : true ≡ false = sym (o.keeps n h (inr e)) ∙ k in cc),
+      )
+
+  module _ (at : Place) (i line : ℕ) (a : Act) (rest : Code) (h : AllOwn (standing at i (step line a rest))) where
+    abbrev self : Standing
+    self = record { number = i; place = at; act = a }
+
+    own : Contains (statements_of g) self
+    own = h self (is_first self self (held_in i a ++ standing at (next i a) rest) refl)
+
+    own_inside : AllOwn (held_in i a)
+    own_inside s c = h s (is_later s self (held_in i a ++ standing at (next i a) rest) (Contains-append_left (held_in i a) (standing at (next i a) rest) s c))
+
+    own_behind : AllOwn (standing at (next i a) rest)
+    own_behind s c = h s (is_later s self (held_in i a ++ standing at (next i a) rest) (Contains-append_right (held_in i a) (standing at (next i a) rest) s c))
+
+  module _ (i : ℕ) (a b : Code) (h : AllOwn (standing (part_of i) (suc i) a ++ standing (part_of i) (behind (suc i) a) b)) where
+    own_part : AllOwn (standing (part_of i) (suc i) a)
+    own_part s c = h s (Contains-append_left (standing (part_of i) (suc i) a) (standing (part_of i) (behind (suc i) a) b) s c)
+
+    own_other : AllOwn (standing (part_of i) (behind (suc i) a) b)
+    own_other s c = h s (Contains-append_right (standing (part_of i) (suc i) a) (standing (part_of i) (behind (suc i) a) b) s c)
+
   mutual
-    lawful_act : (i : ℕ) (a : Act) → ActLaws g w i a → IsClosed' w.marks i a
-    lawful_act i (assign x subs e) h = tt
-    lawful_act i (choose c a b) h = (λ e. (let own = h.0 in own.keeps) (or_false (w.marks.kept i) (w.marks.adjointed i) e).0, (lawful_list (3 * i) (suc i) a h.1.0, lawful_list (3 * i) (behind (suc i) a) b h.1.1))
-    lawful_act i (loop x a b c body n) h = (λ e. (let own = h.0 in own.keeps) (or_false (w.marks.kept i) (w.marks.adjointed i) e).0, lawful_list (3 * i + 2) (suc i) body h.1)
-    lawful_act i (during c body) h = (λ e. (let own = h.0 in own.keeps) (or_false (w.marks.kept i) (w.marks.adjointed i) e).0, lawful_list (3 * i + 2) (suc i) body h.1)
-    lawful_act i (call name args) h = tt
-    lawful_act i (runtime r) h = tt
+    idle_act : (i : ℕ) (a : Act) → w.marks.kept i ≡ false → w.marks.adjointed i ≡ false → AllOwn (held_in i a) → IsIdle' w.marks i a
+    idle_act i (assign x subs e) k d h = (k, d)
+    idle_act i (choose c a b) k d h = ((k, d), (idle i (part_of i) (suc i) a k refl (own_part i a b h), idle i (part_of i) (behind (suc i) a) b k refl (own_other i a b h)))
+    idle_act i (loop x first last by body m) k d h = ((k, d), idle i (body_of i x m) (suc i) body k (holds_body i x m) h)
+    idle_act i (during c body) k d h = ((k, d), idle i (part_of i) (suc i) body k refl h)
+    idle_act i (call name args) k d h = (k, d)
+    idle_act i (runtime r) k d h = (k, d)
 
-    lawful_list : (from i : ℕ) (c : Code) → ListLaws g w from i c → IsClosed w.marks i c
-    lawful_list from i stop h = tt
-    lawful_list from i (step line a rest) h = (lawful_act i a h.1.0, lawful_list (3 * i + 1) (next i a) rest h.1.1)
+    idle : (n : ℕ) (at : Place) (i : ℕ) (c : Code) → w.marks.kept n ≡ false → Holds n at → AllOwn (standing at i c) → IsIdle w.marks i c
+    idle n at i stop k o h = tt
+    idle n at i (step line a rest) k o h =
+        let none = spare n (self at i line a rest h) (own at i line a rest h) o k in
+        (idle_act i a none.0 none.1 (own_inside at i line a rest h), idle n at (next i a) rest k o (own_behind at i line a rest h))
+
+  mutual
+    closed_act : (i : ℕ) (a : Act) → AllOwn (held_in i a) → IsClosed' w.marks i a
+    closed_act i (assign x subs e) h = tt
+    closed_act i (choose c a b) h = (
+      λ e. let none = (or_false (w.marks.kept i) (w.marks.adjointed i) e).0 in (idle i (part_of i) (suc i) a none refl (own_part i a b h), idle i (part_of i) (behind (suc i) a) b none refl (own_other i a b h)),
+      (closed (part_of i) (suc i) a (own_part i a b h), closed (part_of i) (behind (suc i) a) b (own_other i a b h)),
+    )
+    closed_act i (loop x first last by body m) h = (λ e. idle i (body_of i x m) (suc i) body (or_false (w.marks.kept i) (w.marks.adjointed i) e).0 (holds_body i x m) h, closed (body_of i x m) (suc i) body h)
+    closed_act i (during c body) h = (λ e. idle i (part_of i) (suc i) body (or_false (w.marks.kept i) (w.marks.adjointed i) e).0 refl h, closed (part_of i) (suc i) body h)
+    closed_act i (call name args) h = tt
+    closed_act i (runtime r) h = tt
+
+    closed : (at : Place) (i : ℕ) (c : Code) → AllOwn (standing at i c) → IsClosed w.marks i c
+    closed at i stop h = tt
+    closed at i (step line a rest) h = (closed_act i a (own_inside at i line a rest h), closed at (next i a) rest (own_behind at i line a rest h))
+
+  pub unit_closed : IsClosed w.marks g.first g.unit.body
+  unit_closed = closed outermost g.first g.unit.body (λ s c. c)
 
 -- ---- what adjointed calls reach is reached by calls
 
@@ -100,31 +162,15 @@ any_reached roots f ps (suc k) x h =
 -- ---- exact analyses
 
 pub analysed_are_closed : AnalysedAreClosed
-analysed_are_closed rules k checked free a l saved held y top at u f there = lawful_list gf (gf u.name).facts (gf u.name).entry (first_statement k.units u.name) u.body laws.laws
-  where
-    w : ProgramFacts
-    w = program_facts k.units a l saved held
-
-    gf : List ℕ → CalleeFacts
-    gf = callee_facts (program_facts k.units a l saved held) k.units
-
-    plain : IsPlainCode false k.units u.body
-    plain =
-        let text = written rules k.units checked u.name u f in
-        plain_code false k.units u u.body text.body (kernel rules k.units checked u.name u f) (each_found (λ u. Each (CallHasNone k.units u) (statements u.body)) k.units (all_calls rules k.units checked) u.name u f)
-        (unmarked_fit u.body (each_found (λ u. IsUnmarked u.body) k.units (each_unit (λ u. IsUnmarked u.body) k.units free) u.name u f))
-
-    laws : UnitLaws gf (gf u.name) (first_statement k.units u.name) u.body
-    laws =
-        let h = head_part (statements_in 0 k.units) 0 0 k.units k.head top at in
-        let finds = part_found (statements_in 0 k.units) 0 0 k.units (units_apart rules k.units checked) k.head h.0 h.1 in
-        let is : IsHead k h.0 = record { is = h.1 } in
-        let reached : reached_after (name_eq h.0.unit.name) (λ j. true) k.units (length k.units) u.name ≡ true =
-        ap (λ z. reached_after (name_eq z.name) (λ j. true) k.units (length k.units) u.name) h.2 ∙ any_reached (name_eq top.name) a.adjointed k.units (length k.units) u.name there in
-        let t = taking k (found rules k.units checked) h.0 is finds (length k.units) u.name u f reached in
-        let placed_at = placed k.units u.name t.part t.finds in
-        let unit : t.part.unit ≡ u = some_same t.part.unit u (sym placed_at.found ∙ f) in
-        let same : t.part.unit.name ≡ u.name = ap (λ z. z.name) unit in
-        let own : UnitLaws gf (gf t.part.unit.name) (first_statement k.units t.part.unit.name) t.part.unit.body =
-        analysed_meets false k a l saved held y t.part t.takes (ap (find_part (parts k.units)) same ∙ t.finds) (subst (λ v. IsPlainCode false k.units v.body) (sym unit) plain) in
-        subst (λ v. UnitLaws gf (gf v.name) (first_statement k.units v.name) v.body) unit own
+analysed_are_closed rules k checked a l saved held y top at u f there =
+    let h = head_part (statements_in 0 k.units) 0 0 k.units k.head top at in
+    let finds = part_found (statements_in 0 k.units) 0 0 k.units (units_apart rules k.units checked) k.head h.0 h.1 in
+    let is : IsHead k h.0 = record { is = h.1 } in
+    let reached : reached_after (name_eq h.0.unit.name) (λ j. true) k.units (length k.units) u.name ≡ true =
+    ap (λ z. reached_after (name_eq z.name) (λ j. true) k.units (length k.units) u.name) h.2 ∙ any_reached (name_eq top.name) a.adjointed k.units (length k.units) u.name there in
+    let t = taking k (found rules k.units checked) h.0 is finds (length k.units) u.name u f reached in
+    let placed_at = placed k.units u.name t.part t.finds in
+    let unit : t.part.unit ≡ u = some_same t.part.unit u (sym placed_at.found ∙ f) in
+    let own : IsClosed (marks_of a l saved t.part.number) t.part.first t.part.unit.body = unit_closed (facts_of a l saved held t.part.number) t.part (analysed_is_closed k a l saved held y t.part t.takes) in
+    subst (λ n. IsClosed (marks_of a l saved n) (first_statement k.units u.name) u.body) placed_at.number
+    (subst (λ n. IsClosed (marks_of a l saved t.part.number) n u.body) placed_at.first (subst (λ (v : Procedure). IsClosed (marks_of a l saved t.part.number) t.part.first v.body) unit own))

@@ -1,6 +1,6 @@
 -- Which units code calls, by its text and by marks.
 use Rattle.std.proofs.Common.{◌≡◌, ℕ, zero, suc, Bool, true, false, List, [], ◌∷◌, ◌++◌, map, refl, sym, ap, ◌∙◌, if◌then◌else◌}
-use Rattle.std.specs.Prelude.{◌||◌, ◌&&◌, length, flat_map, Some}
+use Rattle.std.specs.Prelude.{◌||◌, ◌&&◌, length, flat_map, Option, Some, None}
 use Rattle.std.proofs.lemmas.Grind.{flat_map-append}
 use Rattle.adj_tree.specs.Code.{name_eq, Act, assign, choose, loop, during, call, runtime, Code, stop, step, Procedure}
 use Rattle.adj_tree.specs.Lines.{unlined_act, unlined_code}
@@ -14,8 +14,10 @@ use Rattle.adj_transpose.specs.Marks.{next, behind}
 use Rattle.adj_transpose.specs.Program.{unit_name}
 use Rattle.adj_transpose.proofs.Variables.{and_true, or_left, or_right, name_comm, has_apart}
 use Rattle.adj_reverse.specs.Marking.{first_from}
-use Rattle.adj_reverse.specs.Program.{calls_act, calls_in, calls_some, reached_after}
+use Rattle.adj_reverse.specs.Plan.{found_or, Schedules, Step, reversed_by}
+use Rattle.adj_reverse.specs.Program.{calls_act, calls_in, calls_some, turns_act, turns_in, turns_some, reached_after}
 use Rattle.adj_reverse.specs.Source.{is_unit, CallUnits}
+use Rattle.adj_reverse.proofs.ByStep.{step_inside}
 use Rattle.adj_reverse.proofs.Names.{has-append}
 use Rattle.adj_reverse.proofs.Rounds.{either, calls_rise, reached_last}
 use Rattle.adj_reverse.proofs.EmittedUnits.{some_there}
@@ -106,27 +108,65 @@ module _ (x : List ℕ) where
     within_code p i stop k h = absurd cc
     within_code p i (step line a rest) k h = either (calls_act (λ j. true) x i a) (calls_in (λ j. true) x (next i a) rest) (p x) h (within_act p i a k.0) (within_code p (next i a) rest k.1)
 
+  -- and so is a unit that a loop turns that is reversed
+  mutual
+    turned_act : (p : List ℕ → Bool) (sc : Schedules) (f : ℕ → Bool) (i : ℕ) (a : Act) → CallsInside' p a → turns_act sc f x i a ≡ true → p x ≡ true
+    turned_act p sc f i (assign y subs e) k h = absurd cc
+    turned_act p sc f i (choose c a b) k h = either (turns_in sc f x (suc i) a) (turns_in sc f x (behind (suc i) a) b) (p x) h (turned_code p sc f (suc i) a k.0) (turned_code p sc f (behind (suc i) a) b k.1)
+    turned_act p sc f i (loop y a b c body m) k h = go (reversed_by sc f i body m) refl h (turned_code p sc f (suc i) body k)
+      where
+        go : (t : Option Step) → reversed_by sc f i body m ≡ t → found_or t (turns_in sc f x (suc i) body) (λ s. name_eq x s.name) ≡ true → (turns_in sc f x (suc i) body ≡ true → p x ≡ true) → p x ≡ true
+        go None e h ih = ih h
+        go (Some s) e h ih = ap p (name_same x s.name h) ∙ step_inside p sc f i body m s e k
+    turned_act p sc f i (during c body) k h = turned_code p sc f (suc i) body k h
+    turned_act p sc f i (call other args) k h = absurd cc
+    turned_act p sc f i (runtime r) k h = absurd cc
+
+    turned_code : (p : List ℕ → Bool) (sc : Schedules) (f : ℕ → Bool) (i : ℕ) (c : Code) → CallsInside p c → turns_in sc f x i c ≡ true → p x ≡ true
+    turned_code p sc f i stop k h = absurd cc
+    turned_code p sc f i (step line a rest) k h = either (turns_act sc f x i a) (turns_in sc f x (next i a) rest) (p x) h (turned_act p sc f i a k.0) (turned_code p sc f (next i a) rest k.1)
+
+  pub turned_there : (ps us : List Procedure) → CallUnits ps us → (sc : Schedules) (among : List ℕ → Bool) (f : ℕ → Bool) (i : ℕ) → turns_some sc among f x i us ≡ true → is_unit ps x ≡ true
+  turned_there ps [] k sc among f i h = absurd cc
+  turned_there ps (u ∷ us) k sc among f i h =
+      either (among u.name && turns_in sc f x i u.body) (turns_some sc among f x (behind i u.body) us) (is_unit ps x) h
+      (λ e. turned_code (is_unit ps) sc f i u.body k.0 (and_true (among u.name) (turns_in sc f x i u.body) e).1)
+      (turned_there ps us k.1 sc among f (behind i u.body))
+
 -- ---- a unit that calls
 
--- of a set, with the number of its first statement
-pub record Caller (among : List ℕ → Bool) (f : ℕ → Bool) (n : List ℕ) (i : ℕ) (us : List Procedure) : Type 0 where
+-- whether a body has some property, by the number of its first statement, for a unit of a set
+abbrev pub some_body : (List ℕ → Bool) → (ℕ → Code → Bool) → ℕ → List Procedure → Bool
+some_body among t i [] = false
+some_body among t i (u ∷ us) = (among u.name && t i u.body) || some_body among t (behind i u.body) us
+
+pub some_calls : (among : List ℕ → Bool) (f : ℕ → Bool) (n : List ℕ) (i : ℕ) (us : List Procedure) → calls_some among f n i us ≡ some_body among (calls_in f n) i us
+some_calls among f n i [] = refl
+some_calls among f n i (u ∷ us) = ap (λ b. (among u.name && calls_in f n i u.body) || b) (some_calls among f n (behind i u.body) us)
+
+pub some_turns : (sc : Schedules) (among : List ℕ → Bool) (f : ℕ → Bool) (n : List ℕ) (i : ℕ) (us : List Procedure) → turns_some sc among f n i us ≡ some_body among (turns_in sc f n) i us
+some_turns sc among f n i [] = refl
+some_turns sc among f n i (u ∷ us) = ap (λ b. (among u.name && turns_in sc f n i u.body) || b) (some_turns sc among f n (behind i u.body) us)
+
+-- that unit
+pub record Caller (among : List ℕ → Bool) (t : ℕ → Code → Bool) (i : ℕ) (us : List Procedure) : Type 0 where
   pub unit : Procedure
   pub found : find_unit us unit.name ≡ Some unit
   pub inside : among unit.name ≡ true
-  pub calling : calls_in f n (first_from i us unit.name) unit.body ≡ true
+  pub calling : t (first_from i us unit.name) unit.body ≡ true
 
-pub caller : (among : List ℕ → Bool) (f : ℕ → Bool) (n : List ℕ) (i : ℕ) (us : List Procedure) → AreApart (map unit_name us) → calls_some among f n i us ≡ true → Caller among f n i us
-caller among f n i [] a h = absurd cc
-caller among f n i (u ∷ us) a h = go (among u.name && calls_in f n i u.body) refl h (λ k. later (caller among f n (behind i u.body) us a.1 k))
+pub caller : (among : List ℕ → Bool) (t : ℕ → Code → Bool) (i : ℕ) (us : List Procedure) → AreApart (map unit_name us) → some_body among t i us ≡ true → Caller among t i us
+caller among t i [] a h = absurd cc
+caller among t i (u ∷ us) a h = go (among u.name && t i u.body) refl h (λ k. later (caller among t (behind i u.body) us a.1 k))
   where
-    here : (among u.name && calls_in f n i u.body) ≡ true → Caller among f n i (u ∷ us)
-    here e = let p = and_true (among u.name) (calls_in f n i u.body) e in record { unit = u; found = ap (λ b. if b then Some u else find_unit us u.name) (name_refl u.name); inside = p.0; calling = ap (λ b. calls_in f n (if b then i else first_from (behind i u.body) us u.name) u.body) (name_refl u.name) ∙ p.1 }
+    here : (among u.name && t i u.body) ≡ true → Caller among t i (u ∷ us)
+    here e = let p = and_true (among u.name) (t i u.body) e in record { unit = u; found = ap (λ b. if b then Some u else find_unit us u.name) (name_refl u.name); inside = p.0; calling = ap (λ b. t (if b then i else first_from (behind i u.body) us u.name) u.body) (name_refl u.name) ∙ p.1 }
 
-    later : Caller among f n (behind i u.body) us → Caller among f n i (u ∷ us)
+    later : Caller among t (behind i u.body) us → Caller among t i (u ∷ us)
     later c =
         let w = c.unit in
         let other : name_eq u.name w.name ≡ false = name_comm w.name u.name (has_apart w.name u.name (map unit_name us) (stands us w.name w c.found) a.0) in
-        record { unit = w; found = ap (λ b. if b then Some u else find_unit us w.name) other ∙ c.found; inside = c.inside; calling = ap (λ b. calls_in f n (if b then i else first_from (behind i u.body) us w.name) w.body) other ∙ c.calling }
+        record { unit = w; found = ap (λ b. if b then Some u else find_unit us w.name) other ∙ c.found; inside = c.inside; calling = ap (λ b. t (if b then i else first_from (behind i u.body) us w.name) w.body) other ∙ c.calling }
       where
         stands : (vs : List Procedure) (z : List ℕ) (w : Procedure) → find_unit vs z ≡ Some w → has_name z (map unit_name vs) ≡ true
         stands [] z w h = absurd cc
@@ -136,7 +176,7 @@ caller among f n i (u ∷ us) a h = go (among u.name && calls_in f n i u.body) r
             at true e h ih = or_left (name_eq z v.name) (has_name z (map unit_name vs)) (ap (λ y. name_eq z y) (name_same v.name z e) ∙ name_refl z)
             at false e h ih = or_right (name_eq z v.name) (has_name z (map unit_name vs)) (ih h)
 
-    go : (b : Bool) → (among u.name && calls_in f n i u.body) ≡ b → (b || calls_some among f n (behind i u.body) us) ≡ true → (calls_some among f n (behind i u.body) us ≡ true → Caller among f n i (u ∷ us)) → Caller among f n i (u ∷ us)
+    go : (b : Bool) → (among u.name && t i u.body) ≡ b → (b || some_body among t (behind i u.body) us) ≡ true → (some_body among t (behind i u.body) us ≡ true → Caller among t i (u ∷ us)) → Caller among t i (u ∷ us)
     go true e h ih = here e
     go false e h ih = ih h
 

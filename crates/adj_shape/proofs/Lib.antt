@@ -8,6 +8,7 @@ pub mod Forward
 pub mod Rows
 pub mod Sparing
 pub mod Sweeps
+pub mod Deeds
 -- Units and programs.
 pub mod Calls
 pub mod Adjoint
@@ -15,5 +16,7 @@ pub mod Program
 -- Marks.
 pub mod Analysed
 pub mod Accepted
--- An example, and other forms of it.
+-- Examples, and other forms of them.
+pub mod Cuts
 pub mod Worked
+pub mod Reversed

@@ -12,7 +12,7 @@ use Rattle.adj_transpose.specs.Program.{declaration, declared_helpers}
 use Rattle.adj_transpose.specs.MarkedProgram.{shadows_behind, declared_behind}
 use Rattle.adj_transpose.proofs.Variables.{or_false, or_left, or_right}
 use Rattle.adj_reverse.specs.Marking.{ProgramMarks, first_statement, plan_in}
-use Rattle.adj_reverse.specs.Program.{helpers_used, all_units, adjoint_names, adjoint_unit}
+use Rattle.adj_reverse.specs.Program.{helpers_used_with, all_units, adjoint_names_with, adjoint_unit_with, schedules_in}
 use Rattle.adj_emitted.proofs.Tables.{AreHelpers}
 use Rattle.adj_shape.specs.Shape.{shadow_table, is_own, is_shadow}
 
@@ -34,20 +34,20 @@ behind_own (y ∷ xs) ns x = behind_own xs ns x
 
 -- ---- an adjoint unit
 
-module _ (m : ProgramMarks) (ps : List Procedure) (head u : Procedure) (helpers : AreHelpers (helpers_used (plan_in m ps u) (first_statement ps u.name) u.body))
-    (separates : (v w : Var) → var_eq (naming (adjoint_names m ps (all_units m ps head) u) v) (naming (adjoint_names m ps (all_units m ps head) u) w) ≡ var_eq v w)
-    (keeps : (x : List ℕ) → has_name x (variables u) ≡ true → name_in (adjoint_names m ps (all_units m ps head) u) (plain x) ≡ x) where
+module _ (sb : Bool) (m : ProgramMarks) (ps : List Procedure) (head u : Procedure) (helpers : AreHelpers (helpers_used_with (schedules_in sb ps) (plan_in m ps u) (first_statement ps u.name) u.body))
+    (separates : (v w : Var) → var_eq (naming (adjoint_names_with sb m ps (all_units m ps head) u) v) (naming (adjoint_names_with sb m ps (all_units m ps head) u) w) ≡ var_eq v w)
+    (keeps : (x : List ℕ) → has_name x (variables u) ≡ true → name_in (adjoint_names_with sb m ps (all_units m ps head) u) (plain x) ≡ x) where
   abbrev pub ns : List Named
-  ns = adjoint_names m ps (all_units m ps head) u
+  ns = adjoint_names_with sb m ps (all_units m ps head) u
 
   abbrev pub r : Var → Var
-  r = naming (adjoint_names m ps (all_units m ps head) u)
+  r = naming (adjoint_names_with sb m ps (all_units m ps head) u)
 
   pub same_shadow : (x : List ℕ) → name_in (shadow_table m ps head u) (shadow x) ≡ name_in ns (shadow x)
   same_shadow x =
       let taken = variables u ++ (all_units m ps head ++ reserved) in
       let ss = names_in (m.shadowed u.name) (variables u) in
-      let hs = helpers_used (plan_in m ps u) (first_statement ps u.name) u.body in
+      let hs = helpers_used_with (schedules_in sb ps) (plan_in m ps u) (first_statement ps u.name) u.body in
       behind_own (variables u) (named taken (map shadow ss)) x ∙ sym (shadow_first taken ss hs helpers x) ∙ sym (behind_own (variables u) (named taken (map shadow ss ++ hs)) x)
 
   -- the unit's variables are told as they are
@@ -142,7 +142,7 @@ module _ (m : ProgramMarks) (ps : List Procedure) (head u : Procedure) (helpers 
   none_declared [] v none = refl
   none_declared (d ∷ ds) v none = ap (λ t. if t then d.extents else declared ds v) (none d.name) ∙ none_declared ds v none
 
-  pub are_scalars : (at_turn at_end : List (List ℕ)) (v : Var) → is_own u v ≡ false → is_shadow m ps head u v ≡ false → declared (adjoint_unit m ps (all_units m ps head) u at_turn at_end).declarations v ≡ []
-  are_scalars at_turn at_end (plain z) a b = others_scalar u.line (helpers_used (plan_in m ps u) (first_statement ps u.name) u.body) z (variables u) a b
-  are_scalars at_turn at_end (shadow z) a b = none_declared (adjoint_unit m ps (all_units m ps head) u at_turn at_end).declarations (shadow z) (λ x. refl)
-  are_scalars at_turn at_end (helper o k) a b = none_declared (adjoint_unit m ps (all_units m ps head) u at_turn at_end).declarations (helper o k) (λ x. refl)
+  pub are_scalars : (at_turn at_end : List (List ℕ)) (v : Var) → is_own u v ≡ false → is_shadow m ps head u v ≡ false → declared (adjoint_unit_with sb m ps (all_units m ps head) u at_turn at_end).declarations v ≡ []
+  are_scalars at_turn at_end (plain z) a b = others_scalar u.line (helpers_used_with (schedules_in sb ps) (plan_in m ps u) (first_statement ps u.name) u.body) z (variables u) a b
+  are_scalars at_turn at_end (shadow z) a b = none_declared (adjoint_unit_with sb m ps (all_units m ps head) u at_turn at_end).declarations (shadow z) (λ x. refl)
+  are_scalars at_turn at_end (helper o k) a b = none_declared (adjoint_unit_with sb m ps (all_units m ps head) u at_turn at_end).declarations (helper o k) (λ x. refl)

@@ -1,31 +1,30 @@
 -- A program that is emitted by closed marks has its shape.
 use Rattle.std.proofs.Common.{◌≡◌, ℕ, zero, suc, Bool, true, false, List, [], ◌∷◌, ◌++◌, map, refl, sym, ap, ◌∙◌, subst, if◌then◌else◌}
 use Rattle.std.specs.Prelude.{◌||◌, length, flat_map, Some}
-use Rattle.adj_tree.specs.Code.{name_eq, Procedure}
+use Rattle.adj_tree.specs.Code.{name_eq, Code, Procedure}
 use Rattle.adj_tree.specs.Lines.{unlined_procedure, unlined}
-use Rattle.adj_tree.proofs.Names.{name_refl, name_same}
 use Rattle.adj_meaning.specs.Written.{find_unit}
 use Rattle.adj_names.specs.Fault.{Rules}
 use Rattle.adj_transpose.specs.Fresh.{has_name}
-use Rattle.adj_transpose.specs.Program.{unit_name}
 use Rattle.adj_transpose.proofs.Variables.{or_left, or_right}
 use Rattle.adj_reverse.specs.Names.{adjoint_name}
 use Rattle.adj_reverse.specs.Marking.{ProgramMarks, first_statement}
-use Rattle.adj_reverse.specs.Program.{calls_in, calls_some, reached_after, has_adjoint, is_kept, is_carried, emitted_adjoint, emitted_units, emitted_for}
+use Rattle.adj_reverse.specs.Program.{calls_in, calls_some, turns_in, turns_some, reached_after, has_adjoint, is_kept_with, is_carried_with, emitted_adjoint_with, emitted_units_with, emitted_for_with, schedules_in}
 use Rattle.adj_reverse.specs.Source.{is_unit, CallUnits}
 use Rattle.adj_reverse.proofs.EmittedUnits.{found_there, carried_found, adjoint_found, carried_common, some_there}
 use Rattle.adj_reverse.proofs.Names.{has-append}
 use Rattle.adj_reverse.proofs.Rounds.{either}
 use Rattle.adj_checked.specs.Checked.{IsChecked}
-use Rattle.adj_checked.proofs.Callings.{Found, calls_found_some, roots_reached}
+use Rattle.adj_checked.proofs.Callings.{Found}
 use Rattle.adj_checked.proofs.Lists.{Each, each_more}
 use Rattle.adj_checked.proofs.Premises.{units_apart, found, all_calls, calls_known}
+use Rattle.adj_emitted.proofs.Carried.{kept_carried, turned_carried}
 use Rattle.adj_emitted.proofs.UnitFaults.{each_emitted}
 use Rattle.adj_shape.specs.Shape.{gathered, called, is_called, IsShaped}
 use Rattle.adj_shape.specs.Closed.{AreClosed}
 use Rattle.adj_shape.specs.Laws.{EmittedHasShape}
-use Rattle.adj_shape.proofs.Calls.{chosen_code, all_code, within_code, caller, reached_in}
-use Rattle.adj_shape.proofs.Adjoint.{adjoint_shaped, body_calls}
+use Rattle.adj_shape.proofs.Calls.{all_code, within_code, some_body, some_calls, some_turns, turned_there, caller, reached_in}
+use Rattle.adj_shape.proofs.Adjoint.{named_there, adjoint_shaped, body_calls}
 
 -- truth values that imply each other
 same_truth : (a b : Bool) → (a ≡ true → b ≡ true) → (b ≡ true → a ≡ true) → a ≡ b
@@ -55,78 +54,98 @@ called_each x good [] e h = absurd cc
 called_each x good (v ∷ us) e h =
     either (has_name x (calls_of (unlined_procedure v))) (is_called (map unlined_procedure us) x) good (sym (has-append x (calls_of (unlined_procedure v)) (flat_map (λ v. gathered called v.body) (map unlined_procedure us))) ∙ h) e.0 (called_each x good us e.1)
 
--- a unit that is there has its name in the list
-named_there : (us : List Procedure) (x : List ℕ) → is_unit us x ≡ true → has_name x (map unit_name us) ≡ true
-named_there [] x h = absurd cc
-named_there (u ∷ us) x h = go (name_eq u.name x) refl h (named_there us x)
-  where
-    go : (b : Bool) → name_eq u.name x ≡ b → (b || is_unit us x) ≡ true → (is_unit us x ≡ true → has_name x (map unit_name us) ≡ true) → (name_eq x u.name || has_name x (map unit_name us)) ≡ true
-    go true e h ih = or_left (name_eq x u.name) (has_name x (map unit_name us)) (ap (λ y. name_eq x y) (name_same u.name x e) ∙ name_refl x)
-    go false e h ih = or_right (name_eq x u.name) (has_name x (map unit_name us)) (ih h)
-
-module _ (rules : Rules) (ps : List Procedure) (checked : IsChecked rules ps) (m : ProgramMarks) (head : Procedure) (vars outvars : List Bool) (closed : AreClosed m ps head) where
+module _ (sb : Bool) (rules : Rules) (ps : List Procedure) (checked : IsChecked rules ps) (m : ProgramMarks) (head : Procedure) (vars outvars : List Bool) (closed : AreClosed m ps head) where
   abbrev made_units : List Procedure
-  made_units = emitted_units m ps head vars outvars ps
+  made_units = emitted_units_with sb m ps head vars outvars ps
 
   abbrev made : Procedure → Procedure
-  made u = emitted_adjoint m ps head vars outvars u
+  made u = emitted_adjoint_with sb m ps head vars outvars u
 
   known : CallUnits ps ps
   known = calls_known ps ps (all_calls rules ps checked)
 
   -- ---- what is called is carried
 
-  carried_by_carried : (x : List ℕ) (u : Procedure) → Found ps u → is_carried m ps head u.name ≡ true → has_name x (calls_of (unlined_procedure u)) ≡ true → is_carried m ps head x ≡ true
+  carried_by_carried : (x : List ℕ) (u : Procedure) → Found ps u → is_carried_with sb m ps head u.name ≡ true → has_name x (calls_of (unlined_procedure u)) ≡ true → is_carried_with sb m ps head x ≡ true
   carried_by_carried x u f c h =
-      let common = carried_common false m ps head vars outvars known in
-      within_code x (is_carried m ps head) 0 u.body (common.closed u.name u c f.0) (sym (all_code x 0 u.body) ∙ h)
+      let common = carried_common sb m ps head vars outvars known in
+      within_code x (is_carried_with sb m ps head) 0 u.body (common.closed u.name u c f.0) (sym (all_code x 0 u.body) ∙ h)
 
-  carried_by_adjoint : (x : List ℕ) → is_unit ps x ≡ true → (u : Procedure) → Found ps u → has_adjoint m ps head u.name ≡ true → has_name x (calls_of (unlined_procedure (made u))) ≡ true → is_carried m ps head x ≡ true
+  carried_by_adjoint : (x : List ℕ) → is_unit ps x ≡ true → (u : Procedure) → Found ps u → has_adjoint m ps head u.name ≡ true → has_name x (calls_of (unlined_procedure (made u))) ≡ true → is_carried_with sb m ps head x ≡ true
   carried_by_adjoint x there u f a h =
-      let in_kept : calls_in m.kept x (first_statement ps u.name) u.body ≡ true = sym (body_calls rules ps checked m head vars outvars u f.0 (closed u f.0 a) x (named_there ps x there) ∙ chosen_code m.kept x (first_statement ps u.name) u.body) ∙ h in
-      roots_reached (is_kept m ps head) (λ i. true) ps u.name u f.0 x (calls_found_some (has_adjoint m ps head) m.kept x 0 ps u.name u f.0 a in_kept)
+      either (calls_in m.kept x (first_statement ps u.name) u.body) (turns_in (schedules_in sb ps) m.adjointed x (first_statement ps u.name) u.body) (is_carried_with sb m ps head x)
+      (sym (body_calls sb rules ps checked m head vars outvars u f.0 (closed u f.0 a) x (named_there ps x there)) ∙ h)
+      (kept_carried sb m ps head u f.0 a x) (turned_carried sb m ps head u f.0 a x)
 
-  is_called_carried : (x : List ℕ) → is_unit ps x ≡ true → is_called (map unlined_procedure made_units) x ≡ true → is_carried m ps head x ≡ true
+  is_called_carried : (x : List ℕ) → is_unit ps x ≡ true → is_called (map unlined_procedure made_units) x ≡ true → is_carried_with sb m ps head x ≡ true
   is_called_carried x there =
-      called_each x (is_carried m ps head x) made_units
-      (each_emitted m ps head vars outvars (λ v. has_name x (calls_of (unlined_procedure v)) ≡ true → is_carried m ps head x ≡ true) ps
-      (each_more (Found ps) (λ u. is_carried m ps head u.name ≡ true → has_name x (calls_of (unlined_procedure u)) ≡ true → is_carried m ps head x ≡ true) (carried_by_carried x) ps (found rules ps checked))
-      (each_more (Found ps) (λ u. has_adjoint m ps head u.name ≡ true → has_name x (calls_of (unlined_procedure (made u))) ≡ true → is_carried m ps head x ≡ true) (carried_by_adjoint x there) ps (found rules ps checked)))
+      called_each x (is_carried_with sb m ps head x) made_units
+      (each_emitted sb m ps head vars outvars (λ v. has_name x (calls_of (unlined_procedure v)) ≡ true → is_carried_with sb m ps head x ≡ true) ps
+      (each_more (Found ps) (λ u. is_carried_with sb m ps head u.name ≡ true → has_name x (calls_of (unlined_procedure u)) ≡ true → is_carried_with sb m ps head x ≡ true) (carried_by_carried x) ps (found rules ps checked))
+      (each_more (Found ps) (λ u. has_adjoint m ps head u.name ≡ true → has_name x (calls_of (unlined_procedure (made u))) ≡ true → is_carried_with sb m ps head x ≡ true) (carried_by_adjoint x there) ps (found rules ps checked)))
 
   -- ---- what is carried is called
 
-  kept_there : (x : List ℕ) → is_kept m ps head x ≡ true → is_unit ps x ≡ true
-  kept_there x h = some_there ps ps known (has_adjoint m ps head) m.kept x 0 h
+  -- what the sweeps of an adjoint call
+  by_body : (x : List ℕ) → is_unit ps x ≡ true → (t : ℕ → Code → Bool) → ((i : ℕ) (c : Code) → t i c ≡ true → (calls_in m.kept x i c || turns_in (schedules_in sb ps) m.adjointed x i c) ≡ true) → some_body (has_adjoint m ps head) t 0 ps ≡ true → is_called (map unlined_procedure made_units) x ≡ true
+  by_body x there t f h =
+      let c = caller (has_adjoint m ps head) t 0 ps (units_apart rules ps checked) h in
+      called_found x made_units (adjoint_name ps c.unit) (made c.unit) (adjoint_found sb m ps head vars outvars c.unit.name c.unit c.found c.inside)
+      (body_calls sb rules ps checked m head vars outvars c.unit c.found (closed c.unit c.found c.inside) x (named_there ps x there) ∙ f (first_statement ps c.unit.name) c.unit.body c.calling)
 
-  by_adjoint : (x : List ℕ) → is_kept m ps head x ≡ true → is_called (map unlined_procedure made_units) x ≡ true
-  by_adjoint x h =
-      let c = caller (has_adjoint m ps head) m.kept x 0 ps (units_apart rules ps checked) h in
-      called_found x made_units (adjoint_name ps c.unit) (made c.unit) (adjoint_found false m ps head vars outvars c.unit.name c.unit c.found c.inside)
-      (body_calls rules ps checked m head vars outvars c.unit c.found (closed c.unit c.found c.inside) x (named_there ps x (kept_there x h)) ∙ chosen_code m.kept x (first_statement ps c.unit.name) c.unit.body ∙ c.calling)
+  kept_known : (x : List ℕ) → calls_some (has_adjoint m ps head) m.kept x 0 ps ≡ true → is_called (map unlined_procedure made_units) x ≡ true
+  kept_known x h =
+      by_body x (some_there ps ps known (has_adjoint m ps head) m.kept x 0 h) (calls_in m.kept x) (λ i c. or_left (calls_in m.kept x i c) (turns_in (schedules_in sb ps) m.adjointed x i c))
+      (sym (some_calls (has_adjoint m ps head) m.kept x 0 ps) ∙ h)
 
-  by_carried : (k : ℕ) (x : List ℕ) → calls_some (reached_after (is_kept m ps head) (λ i. true) ps k) (λ i. true) x 0 ps ≡ true → is_called (map unlined_procedure made_units) x ≡ true
+  turned_known : (x : List ℕ) → turns_some (schedules_in sb ps) (has_adjoint m ps head) m.adjointed x 0 ps ≡ true → is_called (map unlined_procedure made_units) x ≡ true
+  turned_known x h =
+      by_body x (turned_there x ps ps known (schedules_in sb ps) (has_adjoint m ps head) m.adjointed 0 h) (turns_in (schedules_in sb ps) m.adjointed x) (λ i c. or_right (calls_in m.kept x i c) (turns_in (schedules_in sb ps) m.adjointed x i c))
+      (sym (some_turns (schedules_in sb ps) (has_adjoint m ps head) m.adjointed x 0 ps) ∙ h)
+
+  by_adjoint : (x : List ℕ) → is_kept_with sb m ps head x ≡ true → is_called (map unlined_procedure made_units) x ≡ true
+  by_adjoint x = go sb (kept_known x) (turned_known x)
+    where
+      called_so : Bool
+      called_so = is_called (map unlined_procedure made_units) x
+
+      go : (b : Bool) → (calls_some (has_adjoint m ps head) m.kept x 0 ps ≡ true → called_so ≡ true) → (turns_some (schedules_in b ps) (has_adjoint m ps head) m.adjointed x 0 ps ≡ true → called_so ≡ true) → is_kept_with b m ps head x ≡ true → called_so ≡ true
+      go false f g h = f h
+      go true f g h = either (calls_some (has_adjoint m ps head) m.kept x 0 ps) (turns_some (schedules_in true ps) (has_adjoint m ps head) m.adjointed x 0 ps) called_so h f g
+
+  kept_there : (x : List ℕ) → is_kept_with sb m ps head x ≡ true → is_unit ps x ≡ true
+  kept_there x = go sb
+    where
+      go : (b : Bool) → is_kept_with b m ps head x ≡ true → is_unit ps x ≡ true
+      go false h = some_there ps ps known (has_adjoint m ps head) m.kept x 0 h
+      go true h =
+          either (calls_some (has_adjoint m ps head) m.kept x 0 ps) (turns_some (schedules_in true ps) (has_adjoint m ps head) m.adjointed x 0 ps) (is_unit ps x) h
+          (some_there ps ps known (has_adjoint m ps head) m.kept x 0) (turned_there x ps ps known (schedules_in true ps) (has_adjoint m ps head) m.adjointed 0)
+
+  by_carried : (k : ℕ) (x : List ℕ) → calls_some (reached_after (is_kept_with sb m ps head) (λ i. true) ps k) (λ i. true) x 0 ps ≡ true → is_called (map unlined_procedure made_units) x ≡ true
   by_carried k x h =
-      let c = caller (reached_after (is_kept m ps head) (λ i. true) ps k) (λ i. true) x 0 ps (units_apart rules ps checked) h in
-      let carried : is_carried m ps head c.unit.name ≡ true = reached_in (is_kept m ps head) (λ i. true) ps kept_there known k c.unit.name c.inside in
-      called_found x made_units c.unit.name c.unit (carried_found false m ps head vars outvars c.unit.name carried (found_there ps c.unit.name c.unit c.found).0 ∙ c.found)
+      let among = reached_after (is_kept_with sb m ps head) (λ i. true) ps k in
+      let c = caller among (calls_in (λ i. true) x) 0 ps (units_apart rules ps checked) (sym (some_calls among (λ i. true) x 0 ps) ∙ h) in
+      let carried : is_carried_with sb m ps head c.unit.name ≡ true = reached_in (is_kept_with sb m ps head) (λ i. true) ps kept_there known k c.unit.name c.inside in
+      called_found x made_units c.unit.name c.unit (carried_found sb m ps head vars outvars c.unit.name carried (found_there ps c.unit.name c.unit c.found).0 ∙ c.found)
       (all_code x (first_statement ps c.unit.name) c.unit.body ∙ c.calling)
 
-  carried_is_called : (k : ℕ) (x : List ℕ) → reached_after (is_kept m ps head) (λ i. true) ps k x ≡ true → is_called (map unlined_procedure made_units) x ≡ true
+  carried_is_called : (k : ℕ) (x : List ℕ) → reached_after (is_kept_with sb m ps head) (λ i. true) ps k x ≡ true → is_called (map unlined_procedure made_units) x ≡ true
   carried_is_called zero x h = absurd cc
-  carried_is_called (suc k) x h = either (is_kept m ps head x) (calls_some (reached_after (is_kept m ps head) (λ i. true) ps k) (λ i. true) x 0 ps) (is_called (map unlined_procedure made_units) x) h (by_adjoint x) (by_carried k x)
+  carried_is_called (suc k) x h = either (is_kept_with sb m ps head x) (calls_some (reached_after (is_kept_with sb m ps head) (λ i. true) ps k) (λ i. true) x 0 ps) (is_called (map unlined_procedure made_units) x) h (by_adjoint x) (by_carried k x)
 
-  called_same : (u : Procedure) → Found ps u → is_called (unlined made_units) u.name ≡ is_carried m ps head u.name
-  called_same u f = same_truth (is_called (unlined made_units) u.name) (is_carried m ps head u.name) (is_called_carried u.name (found_there ps u.name u f.0).0) (carried_is_called (length ps) u.name)
+  called_same : (u : Procedure) → Found ps u → is_called (unlined made_units) u.name ≡ is_carried_with sb m ps head u.name
+  called_same u f = same_truth (is_called (unlined made_units) u.name) (is_carried_with sb m ps head u.name) (is_called_carried u.name (found_there ps u.name u f.0).0) (carried_is_called (length ps) u.name)
 
   -- ---- the units
 
   units_are : (us : List Procedure) → Each (Found ps) us →
-      unlined (emitted_units m ps head vars outvars us) ≡ flat_map (λ u. (if is_called (unlined made_units) u.name then unlined_procedure u ∷ [] else []) ++ (if has_adjoint m ps head u.name then unlined_procedure (made u) ∷ [] else [])) us
+      unlined (emitted_units_with sb m ps head vars outvars us) ≡ flat_map (λ u. (if is_called (unlined made_units) u.name then unlined_procedure u ∷ [] else []) ++ (if has_adjoint m ps head u.name then unlined_procedure (made u) ∷ [] else [])) us
   units_are [] f = refl
-  units_are (u ∷ us) f = go (is_carried m ps head u.name) (has_adjoint m ps head u.name) ∙ (λ j. ((if sym (called_same u f.0) j then unlined_procedure u ∷ [] else []) ++ (if has_adjoint m ps head u.name then unlined_procedure (made u) ∷ [] else [])) ++ units_are us f.1 j)
+  units_are (u ∷ us) f = go (is_carried_with sb m ps head u.name) (has_adjoint m ps head u.name) ∙ (λ j. ((if sym (called_same u f.0) j then unlined_procedure u ∷ [] else []) ++ (if has_adjoint m ps head u.name then unlined_procedure (made u) ∷ [] else [])) ++ units_are us f.1 j)
     where
       rest : List Procedure
-      rest = emitted_units m ps head vars outvars us
+      rest = emitted_units_with sb m ps head vars outvars us
 
       go : (b c : Bool) → map unlined_procedure ((if b then u ∷ [] else []) ++ ((if c then made u ∷ [] else []) ++ rest)) ≡ ((if b then unlined_procedure u ∷ [] else []) ++ (if c then unlined_procedure (made u) ∷ [] else [])) ++ map unlined_procedure rest
       go true true = refl
@@ -134,13 +153,13 @@ module _ (rules : Rules) (ps : List Procedure) (checked : IsChecked rules ps) (m
       go false true = refl
       go false false = refl
 
-  emitted_shaped : IsShaped m ps head vars outvars (unlined made_units)
+  emitted_shaped : IsShaped sb m ps head vars outvars (unlined made_units)
   emitted_shaped = record {
-    made = λ u. unlined_procedure (emitted_adjoint m ps head vars outvars u);
+    made = λ u. unlined_procedure (emitted_adjoint_with sb m ps head vars outvars u);
     units = units_are ps (found rules ps checked);
-    adjoints = λ u f a. adjoint_shaped rules ps checked m head vars outvars u f (closed u f a);
+    adjoints = λ u f a. adjoint_shaped sb rules ps checked m head vars outvars u f (closed u f a);
   }
 
 pub emitted_has_shape : EmittedHasShape
-emitted_has_shape rules ps checked m head vars outvars u at closed qs same =
-    subst (IsShaped m ps u vars outvars) (ap (λ us. unlined (emitted_for m ps vars outvars us)) (sym at) ∙ same) (emitted_shaped rules ps checked m u vars outvars closed)
+emitted_has_shape sb rules ps checked m head vars outvars u at closed qs same =
+    subst (IsShaped sb m ps u vars outvars) (ap (λ us. unlined (emitted_for_with sb m ps vars outvars us)) (sym at) ∙ same) (emitted_shaped sb rules ps checked m u vars outvars closed)

@@ -1,37 +1,21 @@
 -- What stands in the rows of a forward sweep: what is kept, what is pushed, and what is called.
-use Rattle.std.proofs.Common.{◌≡◌, ℕ, Bool, true, false, List, [], ◌∷◌, ◌++◌, map, refl, sym, ap, ◌∙◌, append-nil, if◌then◌else◌}
-use Rattle.std.specs.Prelude.{◌||◌, ◌&&◌, pos}
-use Rattle.adj_tree.specs.Code.{Role, Var, plain, shadow, helper, Term, lit, var, elem, neg, bin, pow, power_of, abs, Terms, none, more, Test, compare, negation, conjunction, disjunction, Mark, unmarked, push_word, push_array, Act, assign, choose, loop, during, call, runtime, Code, stop, Procedure}
+use Rattle.std.proofs.Common.{◌≡◌, ℕ, suc, Bool, true, false, List, [], ◌∷◌, ◌++◌, map, refl, sym, ap, ◌∙◌, append_assoc, append-nil, if◌then◌else◌}
+use Rattle.std.specs.Prelude.{◌||◌, ◌&&◌, pos, Option, Some, None}
+use Rattle.adj_tree.specs.Code.{Role, Var, plain, shadow, helper, Term, lit, var, elem, neg, bin, pow, power_of, abs, Terms, none, more, Test, compare, negation, conjunction, disjunction, Mark, unmarked, Runtime, push_word, push_array, Act, assign, choose, loop, during, call, runtime, Code, stop, step, Procedure}
 use Rattle.adj_meaning.specs.Append.{◌+++◌, one}
 use Rattle.adj_meaning.specs.Rename.{rename_term, rename_terms, rename_test, rename_runtime}
-use Rattle.adj_transpose.specs.Marks.{Vars, everything}
+use Rattle.adj_transpose.specs.Marks.{Vars, everything, next, behind}
 use Rattle.adj_transpose.specs.Marked.{code_if}
-use Rattle.adj_reverse.specs.Plan.{Plan, is_emitted, names_of, group, save_group, snapshot_group}
+use Rattle.adj_reverse.specs.Plan.{Plan, is_emitted, names_of, actuals_named, found_or, group, save_group, snapshot_group, step_snapshot, Schedules, Step, reversed_by}
 use Rattle.adj_reverse.specs.Emission.{pushes}
-use Rattle.adj_emitted.proofs.Over.{OverTerm, OverTerms, OverTest, OverPlace, OverActual, OverActuals, OverAct, Any}
-use Rattle.adj_shape.specs.Shape.{gathered, is_own, primal, stays, kept_of, pushed, push_whole, due, called}
-use Rattle.adj_shape.proofs.Gathered.{seen, taken_append}
-use Rattle.adj_shape.proofs.Forward.{OwnVar, NoArray, IsRuntime, Rows}
+use Rattle.adj_kernel.specs.Form.{AreDistinctNames, IsKernelAct, IsKernelCode}
+use Rattle.adj_emitted.proofs.Over.{OverTerm, OverTerms, OverTest, OverPlace, OverActual, OverActuals, OverAct, OverCode, Any}
+use Rattle.adj_emitted.proofs.StepCalls.{step_body}
+use Rattle.adj_shape.specs.Shape.{gathered, gathered_act, gathered_list, is_own, primal, stays, kept_of, pushed, push_whole, due, due_turns, called}
+use Rattle.adj_shape.proofs.Gathered.{due_act, due_code, seen, taken_append}
+use Rattle.adj_shape.proofs.Forward.{OwnVar, NoArray, AreOwn, names_own, IsRuntime, Rows, none_front}
 
 -- ---- the actuals of a call
-
--- each is a variable of the unit
-abbrev pub AreOwn : Procedure → List (List ℕ) → Type 0
-AreOwn u [] = Unit {0}
-AreOwn u (x ∷ xs) = (is_own u (plain x) ≡ true) × AreOwn u xs
-
-pub names_own : (u : Procedure) (args : Terms) → OverActuals (OwnVar u) NoArray args → AreOwn u (names_of args)
-names_own u none o = tt
-names_own u (more (var (plain x)) es) o = (o.0, names_own u es o.1)
-names_own u (more (var (shadow x)) es) o = names_own u es o.1
-names_own u (more (var (helper r k)) es) o = names_own u es o.1
-names_own u (more (lit z) es) o = names_own u es o.1
-names_own u (more (elem x s) es) o = names_own u es o.1
-names_own u (more (neg a) es) o = names_own u es o.1
-names_own u (more (bin op a b) es) o = names_own u es o.1
-names_own u (more (pow a k) es) o = names_own u es o.1
-names_own u (more (power_of a b) es) o = names_own u es o.1
-names_own u (more (abs a) es) o = names_own u es o.1
 
 pub group_own : (u : Procedure) (f g : Vars) (ds given : List (List ℕ)) → AreOwn u given → AreOwn u (group f g ds given)
 group_own u f g [] given h = tt
@@ -47,6 +31,52 @@ saved_own u p i name args o = let g = p.callees name in group_own u g.written (p
 
 pub members_own : (u : Procedure) (p : Plan) (name : List ℕ) (args : Terms) → OverActuals (OwnVar u) NoArray args → AreOwn u (snapshot_group (p.callees name) (names_of args))
 members_own u p name args o = let g = p.callees name in group_own u (λ d. g.written d && g.members d) everything g.dummies (names_of args) (names_own u args o)
+
+-- the groups of a step
+pub step_saved_own : (u : Procedure) (p : Plan) (i : ℕ) (s : Step) → AreOwn u s.given → AreOwn u (save_group p.marks i (p.callees s.name) s.given)
+step_saved_own u p i s o = let g = p.callees s.name in group_own u g.written (p.marks.saved i) g.dummies s.given o
+
+pub step_members_own : (u : Procedure) (p : Plan) (s : Step) → AreOwn u s.given → AreOwn u (step_snapshot (p.callees s.name) s.read s.given)
+step_members_own u p s o = let g = p.callees s.name in group_own u (λ d. g.written d && (g.members d || s.read d)) everything g.dummies s.given o
+
+-- actuals that are names, again
+pub named_again : (u : Procedure) (args : Terms) → AreDistinctNames args → OverActuals (OwnVar u) NoArray args → actuals_named (names_of args) ≡ args
+named_again u none n o = refl
+named_again u (more (var (plain x)) es) n o = ap (more (var (plain x))) (named_again u es n.1 o.1)
+named_again u (more (var (shadow x)) es) n o = absurd (let z : false ≡ true = o.0 in cc)
+named_again u (more (var (helper r k)) es) n o = absurd (let z : false ≡ true = o.0 in cc)
+named_again u (more (lit z) es) n o = absurd n
+named_again u (more (elem x s) es) n o = absurd n
+named_again u (more (neg a) es) n o = absurd n
+named_again u (more (bin op a b) es) n o = absurd n
+named_again u (more (pow a k) es) n o = absurd n
+named_again u (more (power_of a b) es) n o = absurd n
+named_again u (more (abs a) es) n o = absurd n
+
+-- ---- by numbers: where a step gives what its call gives
+
+module _ {X : Type 0} (u : Procedure) (sc : Schedules) (adjointed : ℕ → Bool) (f : ℕ → Act → List X) (g : ℕ → Step → List X)
+    (turns : (i : ℕ) (name : List ℕ) (args : Terms) (read : Vars) (n : ℕ) → AreDistinctNames args → OverActuals (OwnVar u) NoArray args → g i (record { name = name; given = names_of args; read = read; snapshots = n }) ≡ f (suc i) (call name args)) where
+  numbered_turns : (i : ℕ) (body : Code) (m : Mark) (s : Step) → reversed_by sc adjointed i body m ≡ Some s → OverCode (OwnVar u) NoArray Any body → IsKernelCode body → g i s ≡ due_code f (suc i) body
+  numbered_turns i body m s e =
+      step_body (λ c s. OverCode (OwnVar u) NoArray Any c → IsKernelCode c → g i s ≡ due_code f (suc i) c) (λ line name args read n o k. turns i name args read n k.0 o.0.1.0 ∙ sym (append-nil (f (suc i) (call name args)))) sc adjointed i body m s e
+
+  mutual
+    numbered_act : (i : ℕ) (a : Act) → OverAct (OwnVar u) NoArray Any a → IsKernelAct a → gathered_act sc adjointed f g i a ≡ due_act f i a
+    numbered_act i (assign x subs e) o k = refl
+    numbered_act i (choose c a b) o k = λ j. f i (choose c a b) ++ (numbered_code (suc i) a o.1.0 k.0 j ++ numbered_code (behind (suc i) a) b o.1.1 k.1 j)
+    numbered_act i (loop x a b c body m) o k = ap (λ l. f i (loop x a b c body m) ++ l) (go (reversed_by sc adjointed i body m) refl (numbered_code (suc i) body o.1.1.1.1.0 k.1))
+      where
+        go : (t : Option Step) → reversed_by sc adjointed i body m ≡ t → gathered_list sc adjointed f g (suc i) body ≡ due_code f (suc i) body → found_or t (gathered_list sc adjointed f g (suc i) body) (g i) ≡ due_code f (suc i) body
+        go None e ih = ih
+        go (Some s) e ih = numbered_turns i body m s e o.1.1.1.1.0 k.1
+    numbered_act i (during c body) o k = ap (λ l. f i (during c body) ++ l) (numbered_code (suc i) body o.1 k)
+    numbered_act i (call name args) o k = refl
+    numbered_act i (runtime r) o k = absurd k
+
+    pub numbered_code : (i : ℕ) (c : Code) → OverCode (OwnVar u) NoArray Any c → IsKernelCode c → gathered_list sc adjointed f g i c ≡ due_code f i c
+    numbered_code i stop o k = refl
+    numbered_code i (step line a rest) o k = λ j. numbered_act i a o.0 k.0 j ++ numbered_code (next i a) rest o.1 k.1 j
 
 -- ---- under names that the unit's variables keep
 
@@ -93,6 +123,10 @@ module _ (u : Procedure) (r : Var → Var) (own_kept : (v : Var) → is_own u v 
   same_actuals : (es : Terms) → OverActuals (OwnVar u) NoArray es → rename_terms r es ≡ es
   same_actuals none o = refl
   same_actuals (more e es) o = λ j. more (same_actual e o.0 j) (same_actuals es o.1 j)
+
+  pub same_named : (xs : List (List ℕ)) → AreOwn u xs → rename_terms r (actuals_named xs) ≡ actuals_named xs
+  same_named [] o = refl
+  same_named (x ∷ xs) o = λ j. more (var (own_kept (plain x) o.0 j)) (same_named xs o.1 j)
 
   -- ---- what is kept
 
@@ -176,10 +210,36 @@ module _ (u : Procedure) (r : Var → Var) (own_kept : (v : Var) → is_own u v 
       go true = refl
       go false = refl
 
+  -- a step call that is kept
+  abbrev pub kept_turns : ℕ → Step → List Act
+  kept_turns i s = if p.marks.kept (suc i) then call s.name (actuals_named s.given) ∷ [] else []
+
+  kept_reversed : (i line : ℕ) (x : List ℕ) (a b c a' c' : Term) (body body' : Code) (m : Mark) (s : Step) → is_emitted p.marks i ≡ true → is_own u (plain x) ≡ true → OverTerm (OwnVar u) NoArray b → AreOwn u s.given →
+      gathered (primal (is_own u)) (seen r (code_if (p.marks.saved i (plain x)) (one line (runtime (push_word (plain x) none)))))
+      ++ (gathered (primal (is_own u)) (seen r (pushes p line (save_group p.marks i (p.callees s.name) s.given))) ++ (gathered (primal (is_own u)) (seen r (pushes p line (step_snapshot (p.callees s.name) s.read s.given)))
+      ++ (primal (is_own u) (loop (r (plain x)) a' (rename_term r b) c' body' unmarked) ++ gathered (primal (is_own u)) (seen r (code_if (p.marks.kept (suc i)) (one line (call s.name (actuals_named s.given)))))))) ≡ kept i (loop (plain x) a b c body m) ++ kept_turns i s
+  kept_reversed i line x a b c a' c' body body' m s e o v given_own =
+      ap (λ l. push ++ l) (none_front (gathered (primal (is_own u)) (seen r (pushes p line saves))) _ (kept_pushes line saves) ∙ none_front (gathered (primal (is_own u)) (seen r (pushes p line members))) _ (kept_pushes line members))
+      ∙ sym (append_assoc push (primal (is_own u) (loop (r (plain x)) a' (rename_term r b) c' body' unmarked)) (gathered (primal (is_own u)) (seen r (code_if (p.marks.kept (suc i)) (one line (call s.name (actuals_named s.given)))))))
+      ∙ (λ j. kept_loops i line x a b c a' c' body body' m e o v j ++ of_call (p.marks.kept (suc i)) j)
+    where
+      saves : List (List ℕ)
+      saves = save_group p.marks i (p.callees s.name) s.given
+
+      members : List (List ℕ)
+      members = step_snapshot (p.callees s.name) s.read s.given
+
+      push : List Act
+      push = gathered (primal (is_own u)) (seen r (code_if (p.marks.saved i (plain x)) (one line (runtime (push_word (plain x) none)))))
+
+      of_call : (b : Bool) → gathered (primal (is_own u)) (seen r (code_if b (one line (call s.name (actuals_named s.given))))) ≡ (if b then call s.name (actuals_named s.given) ∷ [] else [])
+      of_call true = ap (λ es. call s.name es ∷ []) (same_named s.given given_own)
+      of_call false = refl
+
   not_own : (o : Role) (k : ℕ) → is_own u (r (helper o k)) ≡ false
   not_own o k = own_same (helper o k)
 
-  pub kept_rows : Rows (primal (is_own u)) (kept_of p.marks (is_own u)) r p u
+  pub kept_rows : Rows (primal (is_own u)) (kept_of p.marks (is_own u)) kept_turns r p u
   kept_rows = record {
     set_none = λ o k subs e. ap (λ b. if b then assign (r (helper o k)) subs e ∷ [] else []) (not_own o k);
     push_none = λ o k subs. refl;
@@ -191,6 +251,7 @@ module _ (u : Procedure) (r : Var → Var) (own_kept : (v : Var) → is_own u v 
     loops = kept_loops;
     whiles = λ i c body body' e o. ap (λ t. during t stop ∷ []) (same_test c o) ∙ sym (there i (during c body) e);
     calls = kept_calls;
+    turns = kept_reversed;
   }
 
   -- ---- what is pushed
@@ -274,7 +335,30 @@ module _ (u : Procedure) (r : Var → Var) (own_kept : (v : Var) → is_own u v 
           ∙ (λ j. of_members (p.marks.adjointed i) j ++ of_call (p.marks.kept i) j)
           ∙ append-nil (if p.marks.adjointed i then map (push_whole p.arrays) members else [])
 
-  pub due_rows : Rows (pushed (is_own u)) (due p) r p u
+  due_reversed : (i line : ℕ) (x : List ℕ) (a b c a' c' : Term) (body body' : Code) (m : Mark) (s : Step) → is_emitted p.marks i ≡ true → is_own u (plain x) ≡ true → OverTerm (OwnVar u) NoArray b → AreOwn u s.given →
+      gathered (pushed (is_own u)) (seen r (code_if (p.marks.saved i (plain x)) (one line (runtime (push_word (plain x) none)))))
+      ++ (gathered (pushed (is_own u)) (seen r (pushes p line (save_group p.marks i (p.callees s.name) s.given))) ++ (gathered (pushed (is_own u)) (seen r (pushes p line (step_snapshot (p.callees s.name) s.read s.given)))
+      ++ (pushed (is_own u) (loop (r (plain x)) a' (rename_term r b) c' body' unmarked) ++ gathered (pushed (is_own u)) (seen r (code_if (p.marks.kept (suc i)) (one line (call s.name (actuals_named s.given)))))))) ≡ due p i (loop (plain x) a b c body m) ++ due_turns p i s
+  due_reversed i line x a b c a' c' body body' m s e o v given_own =
+      λ j. of_loop j ++ (due_pushes line saves (step_saved_own u p i s given_own) j ++ (ap (λ l. gathered (pushed (is_own u)) (seen r (pushes p line members)) ++ l) (of_call (p.marks.kept (suc i))) ∙ append-nil (gathered (pushed (is_own u)) (seen r (pushes p line members))) ∙ due_pushes line members (step_members_own u p s given_own)) j)
+    where
+      saves : List (List ℕ)
+      saves = save_group p.marks i (p.callees s.name) s.given
+
+      members : List (List ℕ)
+      members = step_snapshot (p.callees s.name) s.read s.given
+
+      push : List Runtime
+      push = gathered (pushed (is_own u)) (seen r (code_if (p.marks.saved i (plain x)) (one line (runtime (push_word (plain x) none)))))
+
+      of_loop : push ≡ due p i (loop (plain x) a b c body m)
+      of_loop = sym (append-nil push) ∙ due_loops i line x a b c a' c' body body' m e o v
+
+      of_call : (b : Bool) → gathered (pushed (is_own u)) (seen r (code_if b (one line (call s.name (actuals_named s.given))))) ≡ []
+      of_call true = refl
+      of_call false = refl
+
+  pub due_rows : Rows (pushed (is_own u)) (due p) (due_turns p) r p u
   due_rows = record {
     set_none = λ o k subs e. refl;
     push_none = λ o k subs. ap (λ b. if b then push_word (r (helper o k)) subs ∷ [] else []) (not_own o k);
@@ -286,12 +370,16 @@ module _ (u : Procedure) (r : Var → Var) (own_kept : (v : Var) → is_own u v 
     loops = due_loops;
     whiles = λ i c body body' e o. refl;
     calls = due_calls;
+    turns = due_reversed;
   }
 
   -- ---- what is called
 
   abbrev pub called_due : ℕ → Act → List (List ℕ)
   called_due i a = if p.marks.kept i then called a else []
+
+  abbrev pub called_turns : ℕ → Step → List (List ℕ)
+  called_turns i s = if p.marks.kept (suc i) then s.name ∷ [] else []
 
   either_none : (b : Bool) → [] ≡ (if b then (let l : List (List ℕ) = [] in l) else [])
   either_none true = refl
@@ -349,7 +437,30 @@ module _ (u : Procedure) (r : Var → Var) (own_kept : (v : Var) → is_own u v 
       of_call true = refl
       of_call false = refl
 
-  pub called_rows : Rows called (λ i a. if p.marks.kept i then called a else []) r p u
+  called_reversed : (i line : ℕ) (x : List ℕ) (a b c a' c' : Term) (body body' : Code) (m : Mark) (s : Step) → is_emitted p.marks i ≡ true → is_own u (plain x) ≡ true → OverTerm (OwnVar u) NoArray b → AreOwn u s.given →
+      gathered called (seen r (code_if (p.marks.saved i (plain x)) (one line (runtime (push_word (plain x) none)))))
+      ++ (gathered called (seen r (pushes p line (save_group p.marks i (p.callees s.name) s.given))) ++ (gathered called (seen r (pushes p line (step_snapshot (p.callees s.name) s.read s.given)))
+      ++ (called (loop (r (plain x)) a' (rename_term r b) c' body' unmarked) ++ gathered called (seen r (code_if (p.marks.kept (suc i)) (one line (call s.name (actuals_named s.given)))))))) ≡ called_due i (loop (plain x) a b c body m) ++ called_turns i s
+  called_reversed i line x a b c a' c' body body' m s e o v given_own =
+      λ j. of_loop j ++ (none_front (gathered called (seen r (pushes p line saves))) _ (called_pushes line saves) ∙ none_front (gathered called (seen r (pushes p line members))) _ (called_pushes line members) ∙ of_call (p.marks.kept (suc i))) j
+    where
+      saves : List (List ℕ)
+      saves = save_group p.marks i (p.callees s.name) s.given
+
+      members : List (List ℕ)
+      members = step_snapshot (p.callees s.name) s.read s.given
+
+      push : List (List ℕ)
+      push = gathered called (seen r (code_if (p.marks.saved i (plain x)) (one line (runtime (push_word (plain x) none)))))
+
+      of_loop : push ≡ called_due i (loop (plain x) a b c body m)
+      of_loop = sym (append-nil push) ∙ called_loops i line x a b c a' c' body body' m e o v
+
+      of_call : (b : Bool) → gathered called (seen r (code_if b (one line (call s.name (actuals_named s.given))))) ≡ (if b then s.name ∷ [] else [])
+      of_call true = refl
+      of_call false = refl
+
+  pub called_rows : Rows called (λ i a. if p.marks.kept i then called a else []) (λ i s. if p.marks.kept (suc i) then s.name ∷ [] else []) r p u
   called_rows = record {
     set_none = λ o k subs e. refl;
     push_none = λ o k subs. refl;
@@ -361,4 +472,5 @@ module _ (u : Procedure) (r : Var → Var) (own_kept : (v : Var) → is_own u v 
     loops = called_loops;
     whiles = λ i c body body' e o. either_none (p.marks.kept i);
     calls = called_calls;
+    turns = called_reversed;
   }

@@ -1,24 +1,25 @@
 -- A forward sweep pushes what is due, and besides it control words at the ends of IFs' parts and few helpers behind loops.
 use Rattle.std.proofs.Common.{◌≡◌, ℕ, suc, Bool, true, false, List, [], ◌∷◌, refl, sym, ap, ◌∙◌, if◌then◌else◌}
-use Rattle.std.specs.Prelude.{◌&&◌, ◌-◌, not, nat_lt}
-use Rattle.adj_tree.specs.Code.{Role, Var, plain, shadow, helper, first, stride, count, plus, Term, var, bin, Terms, none, more, Test, push_word, push_array, push_control, Act, assign, choose, loop, during, call, runtime, Code, stop, step, Procedure}
+use Rattle.std.specs.Prelude.{◌&&◌, ◌-◌, not, nat_lt, Option, Some, None}
+use Rattle.adj_tree.specs.Code.{Role, Var, plain, shadow, helper, first, stride, count, plus, Term, var, bin, Terms, none, more, Test, unmarked, push_word, push_array, push_control, Act, assign, choose, loop, during, call, runtime, Code, stop, step, Procedure}
 use Rattle.adj_meaning.specs.Append.{◌+++◌, one}
 use Rattle.adj_meaning.specs.Rename.{rename_terms}
 use Rattle.adj_meaning.proofs.Appends.{append_assoc, append-stop}
 use Rattle.adj_transpose.specs.Marks.{Vars, next, behind}
 use Rattle.adj_transpose.specs.Marked.{code_if}
-use Rattle.adj_reverse.specs.Plan.{Plan, is_emitted, names_of, save_group, snapshot_group}
-use Rattle.adj_reverse.specs.Emission.{is_empty, pushes, literal, told_forward, loop_forward, while_forward, forward_act, forward, backward}
+use Rattle.adj_reverse.specs.Plan.{Plan, is_emitted, names_of, actuals_named, found_or, save_group, snapshot_group, step_snapshot, Schedules, Step, reversed_by}
+use Rattle.adj_reverse.specs.Emission.{is_empty, pushes, literal, told_forward, loop_forward, while_forward, forward_act_with, forward_with, backward_with}
+use Rattle.adj_reverse.specs.ReversalCode.{row_forward}
 use Rattle.adj_emitted.proofs.Over.{OverPlace, OverAct, OverCode, Any}
 use Rattle.adj_shape.specs.Shape.{is_own, is_bare, is_sparing}
 use Rattle.adj_shape.proofs.Gathered.{seen, seen_append}
-use Rattle.adj_shape.proofs.Forward.{OwnVar, NoArray}
-use Rattle.adj_shape.proofs.Rows.{AreOwn, saved_own, members_own}
+use Rattle.adj_shape.proofs.Forward.{OwnVar, NoArray, AreOwn, step_own}
+use Rattle.adj_shape.proofs.Rows.{saved_own, members_own, step_saved_own, step_members_own}
 
 both : (a b : Bool) → a ≡ true → b ≡ true → (a && b) ≡ true
 both a b e f = λ j. e j && f j
 
-module _ (u : Procedure) (r : Var → Var) (own_same : (v : Var) → is_own u (r v) ≡ is_own u v) (made : Vars) (unmade : (o : Role) (k : ℕ) → made (r (helper o k)) ≡ false) (p : Plan) where
+module _ (u : Procedure) (r : Var → Var) (own_same : (v : Var) → is_own u (r v) ≡ is_own u v) (made : Vars) (unmade : (o : Role) (k : ℕ) → made (r (helper o k)) ≡ false) (sc : Schedules) (p : Plan) where
   abbrev sparing : Bool → ℕ → Code → Bool
   sparing part room c = is_sparing (is_own u) made part room c
 
@@ -90,6 +91,30 @@ module _ (u : Procedure) (r : Var → Var) (own_same : (v : Var) → is_own u (r
       (helper_pushed part 4 first k (step 0 (runtime (push_word (r (helper stride k)) none)) (step 0 (runtime (push_word (r (helper count k)) none)) d)) refl
       (helper_pushed part 3 stride k (step 0 (runtime (push_word (r (helper count k)) none)) d) refl (helper_pushed part 2 count k d refl (g 1))))
 
+  -- a loop that is reversed, between what is pushed before it and its three helpers
+  turns_spare : (i line k : ℕ) (x : List ℕ) (a b c : Term) (s : Step) → AreOwn u s.given → Spares (row_forward p i k line x a b c s)
+  turns_spare i line k x a b c s o part room d g =
+      join saves (members +++ turns) (pushes_spare line (save_group p.marks i (p.callees s.name) s.given) (step_saved_own u p i s o))
+      (join members turns (pushes_spare line (step_snapshot (p.callees s.name) s.read s.given) (step_members_own u p s o)) turns_alone) part 0 d g
+    where
+      saves : Code
+      saves = pushes p line (save_group p.marks i (p.callees s.name) s.given)
+
+      members : Code
+      members = pushes p line (step_snapshot (p.callees s.name) s.read s.given)
+
+      swept : Code
+      swept = code_if (p.marks.kept (suc i)) (one line (call s.name (actuals_named s.given)))
+
+      turns : Code
+      turns = step line (loop (plain x) (var (helper first k)) b (var (helper stride k)) (swept +++ raised k line) unmarked) (step line (runtime (push_word (helper first k) none)) (step line (runtime (push_word (helper stride k) none)) (step line (runtime (push_word (helper count k) none)) stop)))
+
+      turns_alone : Spares turns
+      turns_alone part room d g =
+          both (sparing false 0 (seen r (swept +++ raised k line))) _ (counted_sparing line k swept (guard (p.marks.kept (suc i)) (one line (call s.name (actuals_named s.given))) (λ t. call_spares line s.name (actuals_named s.given))))
+          (helper_pushed part 4 first k (step 0 (runtime (push_word (r (helper stride k)) none)) (step 0 (runtime (push_word (r (helper count k)) none)) d)) refl
+          (helper_pushed part 3 stride k (step 0 (runtime (push_word (r (helper count k)) none)) d) refl (helper_pushed part 2 count k d refl (g 1))))
+
   while_spares : (idle : Bool) (line k : ℕ) (c : Test) (body : Code) → Spares body → Spares (while_forward idle k line c body)
   while_spares true line k c body h part room d g = both (sparing false 0 (seen r body)) (sparing part 4 d) (alone false body h) (g 4)
   while_spares false line k c body h part room d g = both (sparing false 0 (seen r (body +++ raised k line))) _ (counted_sparing line k body h) (helper_pushed part 4 count k d refl (g 3))
@@ -99,7 +124,7 @@ module _ (u : Procedure) (r : Var → Var) (own_same : (v : Var) → is_own u (r
   place_own x (more e es) o = o.0
 
   mutual
-    act_spares : (i d line : ℕ) (a : Act) → OverAct (OwnVar u) NoArray Any a → Spares (forward_act p i d line a)
+    act_spares : (i d line : ℕ) (a : Act) → OverAct (OwnVar u) NoArray Any a → Spares (forward_act_with sc p i d line a)
     act_spares i d line (assign (plain x) subs e) o =
         guard (p.marks.kept i) (code_if (p.marks.saved i (plain x)) (one line (runtime (push_word (plain x) subs))) +++ one line (assign (plain x) subs e)) (λ t.
         join (code_if (p.marks.saved i (plain x)) (one line (runtime (push_word (plain x) subs)))) (one line (assign (plain x) subs e))
@@ -107,24 +132,29 @@ module _ (u : Procedure) (r : Var → Var) (own_same : (v : Var) → is_own u (r
     act_spares i d line (assign (shadow x) subs e) o = nothing
     act_spares i d line (assign (helper t k) subs e) o = nothing
     act_spares i d line (choose c a b) o =
-        let idle = is_empty (backward p (suc i) d a) && is_empty (backward p (behind (suc i) a) d b) in
+        let idle = is_empty (backward_with sc p (suc i) d a) && is_empty (backward_with sc p (behind (suc i) a) d b) in
         let one_part = code_spares (suc i) d a o.1.0 in
         let other_part = code_spares (behind (suc i) a) d b o.1.1 in
-        guard (is_emitted p.marks i) (one line (choose c (told_forward idle line (forward p (suc i) d a) 1) (told_forward idle line (forward p (behind (suc i) a) d b) 0))) (λ t part room e k.
-        both (sparing true 0 (seen r (told_forward idle line (forward p (suc i) d a) 1))) _ (told_sparing idle line 1 (forward p (suc i) d a) one_part)
-        (both (sparing true 0 (seen r (told_forward idle line (forward p (behind (suc i) a) d b) 0))) (sparing part 0 e) (told_sparing idle line 0 (forward p (behind (suc i) a) d b) other_part) (k 0)))
+        guard (is_emitted p.marks i) (one line (choose c (told_forward idle line (forward_with sc p (suc i) d a) 1) (told_forward idle line (forward_with sc p (behind (suc i) a) d b) 0))) (λ t part room e k.
+        both (sparing true 0 (seen r (told_forward idle line (forward_with sc p (suc i) d a) 1))) _ (told_sparing idle line 1 (forward_with sc p (suc i) d a) one_part)
+        (both (sparing true 0 (seen r (told_forward idle line (forward_with sc p (behind (suc i) a) d b) 0))) (sparing part 0 e) (told_sparing idle line 0 (forward_with sc p (behind (suc i) a) d b) other_part) (k 0)))
     act_spares i d line (loop (plain x) a b c body m) o =
-        let idle = is_empty (backward p (suc i) (suc d) body) in
-        let turn = code_spares (suc i) (suc d) body o.1.1.1.1.0 in
-        guard (is_emitted p.marks i) (code_if (p.marks.saved i (plain x)) (one line (runtime (push_word (plain x) none))) +++ loop_forward idle (suc d) line (plain x) a b c (forward p (suc i) (suc d) body)) (λ t.
-        join (code_if (p.marks.saved i (plain x)) (one line (runtime (push_word (plain x) none)))) (loop_forward idle (suc d) line (plain x) a b c (forward p (suc i) (suc d) body))
-        (guard (p.marks.saved i (plain x)) (one line (runtime (push_word (plain x) none))) (λ s. own_pushed line (plain x) none o.0)) (loop_spares idle line (suc d) (plain x) a b c (forward p (suc i) (suc d) body) turn))
+        guard (is_emitted p.marks i) (code_if (p.marks.saved i (plain x)) (one line (runtime (push_word (plain x) none))) +++ row (reversed_by sc p.marks.adjointed i body m)) (λ t.
+        join (code_if (p.marks.saved i (plain x)) (one line (runtime (push_word (plain x) none)))) (row (reversed_by sc p.marks.adjointed i body m))
+        (guard (p.marks.saved i (plain x)) (one line (runtime (push_word (plain x) none))) (λ s. own_pushed line (plain x) none o.0)) (of_row (reversed_by sc p.marks.adjointed i body m) refl (code_spares (suc i) (suc d) body o.1.1.1.1.0)))
+      where
+        row : Option Step → Code
+        row t = found_or t (loop_forward (is_empty (backward_with sc p (suc i) (suc d) body)) (suc d) line (plain x) a b c (forward_with sc p (suc i) (suc d) body)) (λ s. row_forward p i (suc d) line x a b c s)
+
+        of_row : (t : Option Step) → reversed_by sc p.marks.adjointed i body m ≡ t → Spares (forward_with sc p (suc i) (suc d) body) → Spares (row t)
+        of_row None e turn = loop_spares (is_empty (backward_with sc p (suc i) (suc d) body)) line (suc d) (plain x) a b c (forward_with sc p (suc i) (suc d) body) turn
+        of_row (Some s) e turn = turns_spare i line (suc d) x a b c s (step_own u sc p.marks.adjointed i body m s e o.1.1.1.1.0)
     act_spares i d line (loop (shadow x) a b c body m) o = nothing
     act_spares i d line (loop (helper t k) a b c body m) o = nothing
     act_spares i d line (during c body) o =
-        let idle = is_empty (backward p (suc i) (suc d) body) in
+        let idle = is_empty (backward_with sc p (suc i) (suc d) body) in
         let turn = code_spares (suc i) (suc d) body o.1 in
-        guard (is_emitted p.marks i) (while_forward idle (suc d) line c (forward p (suc i) (suc d) body)) (λ t. while_spares idle line (suc d) c (forward p (suc i) (suc d) body) turn)
+        guard (is_emitted p.marks i) (while_forward idle (suc d) line c (forward_with sc p (suc i) (suc d) body)) (λ t. while_spares idle line (suc d) c (forward_with sc p (suc i) (suc d) body) turn)
     act_spares i d line (call name args) o =
         let saves = save_group p.marks i (p.callees name) (names_of args) in
         let members = snapshot_group (p.callees name) (names_of args) in
@@ -134,9 +164,9 @@ module _ (u : Procedure) (r : Var → Var) (own_same : (v : Var) → is_own u (r
         (guard (p.marks.adjointed i) (pushes p line members) (λ s. pushes_spare line members (members_own u p name args o.1.0))) (guard (p.marks.kept i) (one line (call name args)) (λ s. call_spares line name args))))
     act_spares i d line (runtime c) o = nothing
 
-    code_spares : (i d : ℕ) (c : Code) → OverCode (OwnVar u) NoArray Any c → Spares (forward p i d c)
+    code_spares : (i d : ℕ) (c : Code) → OverCode (OwnVar u) NoArray Any c → Spares (forward_with sc p i d c)
     code_spares i d stop o = nothing
-    code_spares i d (step line a rest) o = join (forward_act p i d line a) (forward p (next i a) d rest) (act_spares i d line a o.0) (code_spares (next i a) d rest o.1)
+    code_spares i d (step line a rest) o = join (forward_act_with sc p i d line a) (forward_with sc p (next i a) d rest) (act_spares i d line a o.0) (code_spares (next i a) d rest o.1)
 
-  pub forward_sparing : (i d : ℕ) (c : Code) → OverCode (OwnVar u) NoArray Any c → is_sparing (is_own u) made false 0 (seen r (forward p i d c)) ≡ true
-  forward_sparing i d c o = alone false (forward p i d c) (code_spares i d c o)
+  pub forward_sparing : (i d : ℕ) (c : Code) → OverCode (OwnVar u) NoArray Any c → is_sparing (is_own u) made false 0 (seen r (forward_with sc p i d c)) ≡ true
+  forward_sparing i d c o = alone false (forward_with sc p i d c) (code_spares i d c o)

@@ -1,40 +1,41 @@
--- The forward sweep assigns no shadow; the backward sweep pushes nothing, assigns the unit's variables only as those of DOs, and calls none of its units.
+-- The forward sweep assigns no shadow and has pushes alone of the runtime's calls, and the backward sweep assigns the unit's variables only as those of DOs.
 use Rattle.std.proofs.Common.{◌≡◌, ℕ, suc, Bool, true, false, List, [], ◌∷◌, ◌++◌, refl, ap, ◌∙◌, if◌then◌else◌}
-use Rattle.std.specs.Prelude.{◌||◌, ◌&&◌, not}
+use Rattle.std.specs.Prelude.{◌||◌, ◌&&◌, not, Option, Some, None}
 use Rattle.std.specs.List.{list_any, list_all}
 use Rattle.std.proofs.lemmas.Grind.{flat_map-append}
-use Rattle.adj_tree.specs.Code.{Role, Var, plain, shadow, helper, var_eq, first, stride, count, turn, plus, Term, var, bin, none, Test, push_word, pop_word, push_array, pop_array, push_control, Act, assign, choose, loop, during, call, runtime, Code, stop, step, Procedure}
+use Rattle.adj_tree.specs.Code.{Role, Var, plain, shadow, helper, var_eq, first, stride, count, turn, entry, entries, kind, lower, upper, plus, is_same, Term, var, bin, none, Test, compare, unmarked, push_word, pop_word, push_array, pop_array, push_control, Act, assign, choose, loop, during, call, runtime, Code, stop, step, Procedure}
 use Rattle.adj_meaning.specs.Append.{◌+++◌, one}
-use Rattle.adj_meaning.specs.Common.{CallsInside', CallsInside}
 use Rattle.adj_names.specs.Statements.{At, statements}
 use Rattle.adj_transpose.specs.Marks.{Vars, next, behind, active_at}
 use Rattle.adj_transpose.specs.Marked.{code_if}
 use Rattle.adj_transpose.proofs.Variables.{or_left, or_right, var_refl}
-use Rattle.adj_reverse.specs.Plan.{Plan, is_emitted, names_of, save_group, snapshot_group}
+use Rattle.adj_reverse.specs.Plan.{Plan, is_emitted, names_of, actuals_named, found_or, save_group, snapshot_group, step_snapshot, Schedules, Step, reversed_by}
 use Rattle.adj_reverse.specs.AdjointOf.{adjoint_where}
-use Rattle.adj_reverse.specs.Emission.{is_empty, push, pop, pushes, pops, literal, told_forward, told_backward, loop_forward, loop_backward, while_forward, while_backward, reset, resets, adjoint_call, forward_act, forward, backward_act, backward}
+use Rattle.adj_reverse.specs.Emission.{is_empty, push, pop, pushes, pops, literal, told_forward, told_backward, loop_forward, loop_backward, while_forward, while_backward, reset, resets, adjoint_call, forward_act_with, forward_with, backward_act_with, backward_with}
+use Rattle.adj_reverse.specs.ReversalCode.{at_turn, arm, advance, arms, reversal, row_forward, row_backward}
 use Rattle.adj_emitted.proofs.Over.{OverAct, OverCode, Any}
 use Rattle.adj_emitted.proofs.Assigned.{AreMaking, making_adjoint}
-use Rattle.adj_shape.specs.Shape.{gathered, is_own, all_pushes, assigned, changed, turned, called}
+use Rattle.adj_emitted.proofs.StepCalls.{from_keep, from_turn, from_advance}
+use Rattle.adj_shape.specs.Shape.{gathered, is_own, ran, is_push, assigned, turned}
 use Rattle.adj_shape.proofs.Gathered.{gathered_step, inside, seen}
 use Rattle.adj_shape.proofs.Forward.{OwnVar, NoArray}
-use Rattle.adj_shape.proofs.Through.{Through, seen_through, guarded_through, gathered_has, any_append, any_join, all_join, none_join}
+use Rattle.adj_shape.proofs.Through.{Through, seen_through, guarded_through, gathered_has, any_append, any_join, all_join}
 
 -- ---- forward
 
-module _ (r : Var → Var) (made : Vars) (plain_unmade : (x : List ℕ) → made (r (plain x)) ≡ false) (helper_unmade : (o : Role) (k : ℕ) → made (r (helper o k)) ≡ false) (p : Plan) where
-  -- it assigns no shadow
+module _ (r : Var → Var) (made : Vars) (plain_unmade : (x : List ℕ) → made (r (plain x)) ≡ false) (helper_unmade : (o : Role) (k : ℕ) → made (r (helper o k)) ≡ false) (sc : Schedules) (p : Plan) where
+  -- it assigns no shadow, and calls of the runtime pushes alone
   abbrev Clean : Act → Type 0
-  Clean a = list_any made (assigned a ++ changed a) ≡ false
+  Clean a = (list_any made (assigned a) ≡ false) × (list_all is_push (ran a) ≡ true)
 
   abbrev IsClean : Code → Type 0
-  IsClean c = Through (λ a. list_any made (assigned a ++ changed a) ≡ false) (seen r c)
+  IsClean c = Through (λ a. (list_any made (assigned a) ≡ false) × (list_all is_push (ran a) ≡ true)) (seen r c)
 
   clean_join : (c d : Code) → IsClean c → IsClean d → IsClean (c +++ d)
-  clean_join c d h g = seen_through (λ a. list_any made (assigned a ++ changed a) ≡ false) r c d h g
+  clean_join c d h g = seen_through (λ a. (list_any made (assigned a) ≡ false) × (list_all is_push (ran a) ≡ true)) r c d h g
 
   clean_if : (b : Bool) (c : Code) → IsClean c → IsClean (code_if b c)
-  clean_if b c h = guarded_through (λ a. list_any made (assigned a ++ changed a) ≡ false) r b c (λ t. h)
+  clean_if b c h = guarded_through (λ a. (list_any made (assigned a) ≡ false) × (list_all is_push (ran a) ≡ true)) r b c (λ t. h)
 
   not_plain : (x : List ℕ) → (made (r (plain x)) || false) ≡ false
   not_plain x = ap (λ b. b || false) (plain_unmade x)
@@ -47,61 +48,93 @@ module _ (r : Var → Var) (made : Vars) (plain_unmade : (x : List ℕ) → made
   clean_pushes line (x ∷ xs) = clean_join (push p line x) (pushes p line xs) (here (p.arrays (plain x))) (clean_pushes line xs)
     where
       here : (b : Bool) → IsClean (one line (runtime (if b then push_array (plain x) else push_word (plain x) none)))
-      here true = (refl, tt)
-      here false = (refl, tt)
+      here true = ((refl, refl), tt)
+      here false = ((refl, refl), tt)
 
   clean_told : (idle : Bool) (line n : ℕ) (c : Code) → IsClean c → IsClean (told_forward idle line c n)
   clean_told true line n c h = h
-  clean_told false line n c h = clean_join c (one line (runtime (push_control (literal n)))) h (refl, tt)
+  clean_told false line n c h = clean_join c (one line (runtime (push_control (literal n)))) h ((refl, refl), tt)
 
   abbrev raised : ℕ → ℕ → Code
   raised k line = one line (assign (helper count k) none (bin plus (var (helper count k)) (literal 1)))
 
   clean_counted : (k line : ℕ) (c : Code) → IsClean c → IsClean (c +++ raised k line)
-  clean_counted k line c h = clean_join c (raised k line) h (not_helper count k, tt)
+  clean_counted k line c h = clean_join c (raised k line) h ((not_helper count k, refl), tt)
 
   clean_loop : (idle : Bool) (k line : ℕ) (x : List ℕ) (a b c : Term) (body : Code) → IsClean body → IsClean (loop_forward idle k line (plain x) a b c body)
-  clean_loop true k line x a b c body h = ((not_plain x, h), tt)
-  clean_loop false k line x a b c body h = (not_helper first k, (not_helper stride k, (not_helper count k, ((not_plain x, clean_counted k line body h), (refl, (refl, (refl, tt)))))))
+  clean_loop true k line x a b c body h = (((not_plain x, refl), h), tt)
+  clean_loop false k line x a b c body h = ((not_helper first k, refl), ((not_helper stride k, refl), ((not_helper count k, refl), (((not_plain x, refl), clean_counted k line body h), ((refl, refl), ((refl, refl), ((refl, refl), tt)))))))
+
+  -- a loop that is reversed
+  clean_turns : (i k line : ℕ) (x : List ℕ) (a b c : Term) (s : Step) → IsClean (row_forward p i k line x a b c s)
+  clean_turns i k line x a b c s = ((not_helper first k, refl), ((not_helper stride k, refl), ((not_helper count k, refl), clean_join saves (members +++ turns) (clean_pushes line (save_group p.marks i (p.callees s.name) s.given)) (clean_join members turns (clean_pushes line (step_snapshot (p.callees s.name) s.read s.given)) clean))))
+    where
+      saves : Code
+      saves = pushes p line (save_group p.marks i (p.callees s.name) s.given)
+
+      members : Code
+      members = pushes p line (step_snapshot (p.callees s.name) s.read s.given)
+
+      swept : Code
+      swept = code_if (p.marks.kept (suc i)) (one line (call s.name (actuals_named s.given)))
+
+      turns : Code
+      turns = step line (loop (plain x) (var (helper first k)) b (var (helper stride k)) (swept +++ raised k line) unmarked) (step line (runtime (push_word (helper first k) none)) (step line (runtime (push_word (helper stride k) none)) (step line (runtime (push_word (helper count k) none)) stop)))
+
+      clean : IsClean turns
+      clean = (((not_plain x, refl), clean_counted k line swept (clean_if (p.marks.kept (suc i)) (one line (call s.name (actuals_named s.given))) ((refl, refl), tt))), ((refl, refl), ((refl, refl), ((refl, refl), tt))))
 
   clean_while : (idle : Bool) (k line : ℕ) (c : Test) (body : Code) → IsClean body → IsClean (while_forward idle k line c body)
-  clean_while true k line c body h = ((refl, h), tt)
-  clean_while false k line c body h = (not_helper count k, ((refl, clean_counted k line body h), (refl, tt)))
+  clean_while true k line c body h = (((refl, refl), h), tt)
+  clean_while false k line c body h = ((not_helper count k, refl), (((refl, refl), clean_counted k line body h), ((refl, refl), tt)))
 
   mutual
-    clean_act : (i d line : ℕ) (a : Act) → IsClean (forward_act p i d line a)
+    clean_act : (i d line : ℕ) (a : Act) → IsClean (forward_act_with sc p i d line a)
     clean_act i d line (assign (plain x) subs e) =
         clean_if (p.marks.kept i) (code_if (p.marks.saved i (plain x)) (one line (runtime (push_word (plain x) subs))) +++ one line (assign (plain x) subs e))
-        (clean_join (code_if (p.marks.saved i (plain x)) (one line (runtime (push_word (plain x) subs)))) (one line (assign (plain x) subs e)) (clean_if (p.marks.saved i (plain x)) (one line (runtime (push_word (plain x) subs))) (refl, tt)) (not_plain x, tt))
+        (clean_join (code_if (p.marks.saved i (plain x)) (one line (runtime (push_word (plain x) subs)))) (one line (assign (plain x) subs e)) (clean_if (p.marks.saved i (plain x)) (one line (runtime (push_word (plain x) subs))) ((refl, refl), tt)) ((not_plain x, refl), tt))
     clean_act i d line (assign (shadow x) subs e) = tt
     clean_act i d line (assign (helper t k) subs e) = tt
     clean_act i d line (choose c a b) =
-        let idle = is_empty (backward p (suc i) d a) && is_empty (backward p (behind (suc i) a) d b) in
-        clean_if (is_emitted p.marks i) (one line (choose c (told_forward idle line (forward p (suc i) d a) 1) (told_forward idle line (forward p (behind (suc i) a) d b) 0)))
-        ((refl, (clean_told idle line 1 (forward p (suc i) d a) (clean_code (suc i) d a), clean_told idle line 0 (forward p (behind (suc i) a) d b) (clean_code (behind (suc i) a) d b))), tt)
+        let idle = is_empty (backward_with sc p (suc i) d a) && is_empty (backward_with sc p (behind (suc i) a) d b) in
+        clean_if (is_emitted p.marks i) (one line (choose c (told_forward idle line (forward_with sc p (suc i) d a) 1) (told_forward idle line (forward_with sc p (behind (suc i) a) d b) 0)))
+        (((refl, refl), (clean_told idle line 1 (forward_with sc p (suc i) d a) (clean_code (suc i) d a), clean_told idle line 0 (forward_with sc p (behind (suc i) a) d b) (clean_code (behind (suc i) a) d b))), tt)
     clean_act i d line (loop (plain x) a b c body m) =
-        let idle = is_empty (backward p (suc i) (suc d) body) in
-        clean_if (is_emitted p.marks i) (code_if (p.marks.saved i (plain x)) (one line (runtime (push_word (plain x) none))) +++ loop_forward idle (suc d) line (plain x) a b c (forward p (suc i) (suc d) body))
-        (clean_join (code_if (p.marks.saved i (plain x)) (one line (runtime (push_word (plain x) none)))) (loop_forward idle (suc d) line (plain x) a b c (forward p (suc i) (suc d) body)) (clean_if (p.marks.saved i (plain x)) (one line (runtime (push_word (plain x) none))) (refl, tt)) (clean_loop idle (suc d) line x a b c (forward p (suc i) (suc d) body) (clean_code (suc i) (suc d) body)))
+        clean_if (is_emitted p.marks i) (code_if (p.marks.saved i (plain x)) (one line (runtime (push_word (plain x) none))) +++ row (reversed_by sc p.marks.adjointed i body m))
+        (clean_join (code_if (p.marks.saved i (plain x)) (one line (runtime (push_word (plain x) none)))) (row (reversed_by sc p.marks.adjointed i body m)) (clean_if (p.marks.saved i (plain x)) (one line (runtime (push_word (plain x) none))) ((refl, refl), tt)) (of_row (reversed_by sc p.marks.adjointed i body m) (clean_code (suc i) (suc d) body)))
+      where
+        idle : Bool
+        idle = is_empty (backward_with sc p (suc i) (suc d) body)
+
+        row : Option Step → Code
+        row t = found_or t (loop_forward idle (suc d) line (plain x) a b c (forward_with sc p (suc i) (suc d) body)) (λ s. row_forward p i (suc d) line x a b c s)
+
+        of_row : (t : Option Step) → IsClean (forward_with sc p (suc i) (suc d) body) → IsClean (row t)
+        of_row None h = clean_loop idle (suc d) line x a b c (forward_with sc p (suc i) (suc d) body) h
+        of_row (Some s) h = clean_turns i (suc d) line x a b c s
     clean_act i d line (loop (shadow x) a b c body m) = tt
     clean_act i d line (loop (helper t k) a b c body m) = tt
     clean_act i d line (during c body) =
-        let idle = is_empty (backward p (suc i) (suc d) body) in
-        clean_if (is_emitted p.marks i) (while_forward idle (suc d) line c (forward p (suc i) (suc d) body)) (clean_while idle (suc d) line c (forward p (suc i) (suc d) body) (clean_code (suc i) (suc d) body))
+        let idle = is_empty (backward_with sc p (suc i) (suc d) body) in
+        clean_if (is_emitted p.marks i) (while_forward idle (suc d) line c (forward_with sc p (suc i) (suc d) body)) (clean_while idle (suc d) line c (forward_with sc p (suc i) (suc d) body) (clean_code (suc i) (suc d) body))
     clean_act i d line (call name args) =
         let saves = save_group p.marks i (p.callees name) (names_of args) in
         let members = snapshot_group (p.callees name) (names_of args) in
         clean_if (is_emitted p.marks i) (pushes p line saves +++ (code_if (p.marks.adjointed i) (pushes p line members) +++ code_if (p.marks.kept i) (one line (call name args))))
         (clean_join (pushes p line saves) (code_if (p.marks.adjointed i) (pushes p line members) +++ code_if (p.marks.kept i) (one line (call name args))) (clean_pushes line saves)
-        (clean_join (code_if (p.marks.adjointed i) (pushes p line members)) (code_if (p.marks.kept i) (one line (call name args))) (clean_if (p.marks.adjointed i) (pushes p line members) (clean_pushes line members)) (clean_if (p.marks.kept i) (one line (call name args)) (refl, tt))))
+        (clean_join (code_if (p.marks.adjointed i) (pushes p line members)) (code_if (p.marks.kept i) (one line (call name args))) (clean_if (p.marks.adjointed i) (pushes p line members) (clean_pushes line members)) (clean_if (p.marks.kept i) (one line (call name args)) ((refl, refl), tt))))
     clean_act i d line (runtime c) = tt
 
-    clean_code : (i d : ℕ) (c : Code) → IsClean (forward p i d c)
+    clean_code : (i d : ℕ) (c : Code) → IsClean (forward_with sc p i d c)
     clean_code i d stop = tt
-    clean_code i d (step line a rest) = clean_join (forward_act p i d line a) (forward p (next i a) d rest) (clean_act i d line a) (clean_code (next i a) d rest)
+    clean_code i d (step line a rest) = clean_join (forward_act_with sc p i d line a) (forward_with sc p (next i a) d rest) (clean_act i d line a) (clean_code (next i a) d rest)
 
-  pub forward_clean : (i d : ℕ) (c : Code) → list_any made (gathered (λ a. assigned a ++ changed a) (seen r (forward p i d c))) ≡ false
-  forward_clean i d c = gathered_has (λ l. list_any made l ≡ false) refl (any_join made) (λ a. assigned a ++ changed a) (λ a. list_any made (assigned a ++ changed a) ≡ false) (λ a h. h) (seen r (forward p i d c)) (clean_code i d c)
+  pub forward_clean : (i d : ℕ) (c : Code) → list_any made (gathered assigned (seen r (forward_with sc p i d c))) ≡ false
+  forward_clean i d c = gathered_has (λ l. list_any made l ≡ false) refl (any_join made) assigned (λ a. (list_any made (assigned a) ≡ false) × (list_all is_push (ran a) ≡ true)) (λ a h. h.0) (seen r (forward_with sc p i d c)) (clean_code i d c)
+
+  -- and of the runtime's calls it has pushes alone
+  pub forward_pushes : (i d : ℕ) (c : Code) → list_all is_push (gathered ran (seen r (forward_with sc p i d c))) ≡ true
+  forward_pushes i d c = gathered_has (λ l. list_all is_push l ≡ true) refl (all_join is_push) ran (λ a. (list_any made (assigned a) ≡ false) × (list_all is_push (ran a) ≡ true)) (λ a h. h.1) (seen r (forward_with sc p i d c)) (clean_code i d c)
 
 -- ---- the loops of a list
 
@@ -150,28 +183,27 @@ module _ (counts : Vars) where
 
 -- ---- backward
 
-module _ (u : Procedure) (r : Var → Var) (own_kept : (v : Var) → is_own u v ≡ true → r v ≡ v) (own_same : (v : Var) → is_own u (r v) ≡ is_own u v) (counts : Vars) (units inside_units : List ℕ → Bool) (p : Plan)
-    (apart : (name : List ℕ) → inside_units name ≡ true → units (p.callees name).adjoint ≡ false) where
+module _ (u : Procedure) (r : Var → Var) (own_kept : (v : Var) → is_own u v ≡ true → r v ≡ v) (own_same : (v : Var) → is_own u (r v) ≡ is_own u v) (counts : Vars) (sc : Schedules) (p : Plan) where
   -- a variable that isn't the unit's, or is that of a DO
   abbrev restored : Var → Bool
   restored v = not (is_own u v) || counts v
 
-  -- nothing is pushed, no other variable is assigned, and none of these units is called
-  abbrev Turns : Act → Type 0
-  Turns a = (all_pushes a ≡ []) × ((list_all (λ v. not (is_own u v) || counts v) (assigned a) ≡ true) × (list_any units (called a) ≡ false))
-
+  -- no other variable is assigned
   abbrev IsTurning : Code → Type 0
-  IsTurning c = Through (λ a. (all_pushes a ≡ []) × ((list_all (λ v. not (is_own u v) || counts v) (assigned a) ≡ true) × (list_any units (called a) ≡ false))) (seen r c)
+  IsTurning c = Through (λ a. list_all (λ v. not (is_own u v) || counts v) (assigned a) ≡ true) (seen r c)
 
   turning_join : (c d : Code) → IsTurning c → IsTurning d → IsTurning (c +++ d)
-  turning_join c d h g = seen_through (λ a. (all_pushes a ≡ []) × ((list_all (λ v. not (is_own u v) || counts v) (assigned a) ≡ true) × (list_any units (called a) ≡ false))) r c d h g
+  turning_join c d h g = seen_through (λ a. list_all (λ v. not (is_own u v) || counts v) (assigned a) ≡ true) r c d h g
 
   turning_if : (b : Bool) (c : Code) → (b ≡ true → IsTurning c) → IsTurning (code_if b c)
-  turning_if b c h = guarded_through (λ a. (all_pushes a ≡ []) × ((list_all (λ v. not (is_own u v) || counts v) (assigned a) ≡ true) × (list_any units (called a) ≡ false))) r b c h
+  turning_if b c h = guarded_through (λ a. list_all (λ v. not (is_own u v) || counts v) (assigned a) ≡ true) r b c h
 
-  -- a variable that isn't the unit's
+  -- a variable that isn't the unit's, before others
+  free_before : (v : Var) (b : Bool) → is_own u v ≡ false → b ≡ true → (restored (r v) && b) ≡ true
+  free_before v b h e = λ j. (not ((own_same v ∙ h) j) || counts (r v)) && e j
+
   free : (v : Var) → is_own u v ≡ false → (restored (r v) && true) ≡ true
-  free v h = λ j. (not ((own_same v ∙ h) j) || counts (r v)) && true
+  free v h = free_before v true h refl
 
   -- the variable of a DO
   of_loop : (x : List ℕ) → is_own u (plain x) ≡ true → counts (plain x) ≡ true → (restored (r (plain x)) && true) ≡ true
@@ -180,88 +212,136 @@ module _ (u : Procedure) (r : Var → Var) (own_kept : (v : Var) → is_own u v 
   making_turns : (c : Code) → AreMaking c → IsTurning c
   making_turns stop h = tt
   making_turns (step line (assign (plain x) s e) c) h = absurd h.0
-  making_turns (step line (assign (shadow x) s e) c) h = ((refl, (free (shadow x) refl, refl)), making_turns c h.1)
-  making_turns (step line (assign (helper o k) s e) c) h = ((refl, (free (helper o k) refl, refl)), making_turns c h.1)
+  making_turns (step line (assign (shadow x) s e) c) h = (free (shadow x) refl, making_turns c h.1)
+  making_turns (step line (assign (helper o k) s e) c) h = (free (helper o k) refl, making_turns c h.1)
   making_turns (step line (choose t a b) c) h = absurd h.0
   making_turns (step line (loop x a b by body m) c) h = absurd h.0
   making_turns (step line (during t body) c) h = absurd h.0
   making_turns (step line (call name args) c) h = absurd h.0
   making_turns (step line (runtime t) c) h = absurd h.0
 
+  pushes_turn : (line : ℕ) (xs : List (List ℕ)) → IsTurning (pushes p line xs)
+  pushes_turn line [] = tt
+  pushes_turn line (x ∷ xs) = turning_join (push p line x) (pushes p line xs) (here (p.arrays (plain x))) (pushes_turn line xs)
+    where
+      here : (b : Bool) → IsTurning (one line (runtime (if b then push_array (plain x) else push_word (plain x) none)))
+      here true = (refl, tt)
+      here false = (refl, tt)
+
   pops_turn : (line : ℕ) (xs : List (List ℕ)) → IsTurning (pops p line xs)
   pops_turn line [] = tt
   pops_turn line (x ∷ xs) = turning_join (pops p line xs) (pop p line x) (pops_turn line xs) (here (p.arrays (plain x)))
     where
       here : (b : Bool) → IsTurning (one line (runtime (if b then pop_array (plain x) else pop_word (plain x) none)))
-      here true = ((refl, (refl, refl)), tt)
-      here false = ((refl, (refl, refl)), tt)
+      here true = (refl, tt)
+      here false = (refl, tt)
 
   told_turns : (idle : Bool) (line : ℕ) (a b : Code) → IsTurning a → IsTurning b → IsTurning (told_backward idle line a b)
   told_turns true line a b h g = tt
-  told_turns false line a b h g = ((refl, (refl, refl)), (((refl, (refl, refl)), (h, g)), tt))
+  told_turns false line a b h g = (refl, ((refl, (h, g)), tt))
 
   loop_turns : (idle : Bool) (k line : ℕ) (x : List ℕ) (body : Code) → is_own u (plain x) ≡ true → counts (plain x) ≡ true → IsTurning body → IsTurning (loop_backward idle k line (plain x) body)
   loop_turns true k line x body o n h = tt
-  loop_turns false k line x body o n h = (
-    (refl, (refl, refl)),
-    ((refl, (refl, refl)), ((refl, (refl, refl)), (((refl, (free (helper turn k) refl, refl)), ((refl, (of_loop x o n, refl)), h)), tt))),
-  )
+  loop_turns false k line x body o n h = (refl, (refl, (refl, ((free (helper turn k) refl, (of_loop x o n, h)), tt))))
 
   while_turns : (idle : Bool) (k line : ℕ) (body : Code) → IsTurning body → IsTurning (while_backward idle k line body)
   while_turns true k line body h = tt
-  while_turns false k line body h = ((refl, (refl, refl)), (((refl, (free (helper turn k) refl, refl)), h), tt))
+  while_turns false k line body h = (refl, ((free (helper turn k) refl, h), tt))
+
+  -- the arm of one action
+  arm_turns : (line k n : ℕ) (c : Code) → IsTurning c → IsTurning (arm line k n c)
+  arm_turns line k n c h = turning_if (not (is_empty c)) (one line (choose (compare is_same (var (helper kind k)) (literal n)) c stop)) (λ t. ((refl, (h, tt)), tt))
+
+  -- a reversal
+  reversal_turns : (line k : ℕ) (x : List ℕ) (m : ℕ) (keep back plain_call adjoint : Code) → is_own u (plain x) ≡ true → counts (plain x) ≡ true → IsTurning keep → IsTurning back → IsTurning plain_call → IsTurning adjoint → IsTurning (reversal line k (plain x) m keep back plain_call adjoint)
+  reversal_turns line k x m keep back plain_call adjoint o n hk hb hp ha = (
+    refl,
+    (
+      free (helper entries k) refl,
+      ((free (helper entry k) refl, (free_before (helper kind k) (restored (r (helper lower k)) && (restored (r (helper upper k)) && true)) refl (free_before (helper lower k) (restored (r (helper upper k)) && true) refl (free (helper upper k) refl)), all_arms)), (refl, tt)),
+    ),
+  )
+    where
+      all_arms : IsTurning (arms line k (plain x) keep back plain_call adjoint)
+      all_arms =
+          turning_join (arm line k 1 keep) (from_advance line k (plain x) keep back plain_call adjoint) (arm_turns line k 1 keep hk)
+          (turning_join (arm line k 2 (advance line k (plain x) plain_call)) (from_turn line k (plain x) keep back adjoint) (arm_turns line k 2 (advance line k (plain x) plain_call) ((free (helper turn k) refl, (of_loop x o n, hp)), tt))
+          (turning_join (arm line k 3 (at_turn line k (plain x) lower adjoint)) (from_keep line k keep back) (arm_turns line k 3 (at_turn line k (plain x) lower adjoint) (of_loop x o n, ha))
+          (turning_join (arm line k 4 (back +++ keep)) (arm line k 5 back) (arm_turns line k 4 (back +++ keep) (turning_join back keep hb hk)) (arm_turns line k 5 back hb))))
+
+  turns_turn : (i k line : ℕ) (x : List ℕ) (s : Step) → is_own u (plain x) ≡ true → counts (plain x) ≡ true → IsTurning (row_backward p i k line x s)
+  turns_turn i k line x s o n = (refl, (refl, (refl, turning_join back (turns +++ unsave) (pops_turn line snapshot) (turning_join turns unsave (reversal_turns line k x s.snapshots keep back plain_call adjoint o n (pushes_turn line snapshot) (pops_turn line snapshot) (refl, tt) (refl, tt)) (pops_turn line (save_group p.marks i (p.callees s.name) s.given))))))
+    where
+      snapshot : List (List ℕ)
+      snapshot = step_snapshot (p.callees s.name) s.read s.given
+
+      keep : Code
+      keep = pushes p line snapshot
+
+      back : Code
+      back = pops p line snapshot
+
+      unsave : Code
+      unsave = pops p line (save_group p.marks i (p.callees s.name) s.given)
+
+      plain_call : Code
+      plain_call = one line (call s.name (actuals_named s.given))
+
+      adjoint : Code
+      adjoint = one line (adjoint_call (p.callees s.name) s.given)
+
+      turns : Code
+      turns = reversal line k (plain x) s.snapshots keep back plain_call adjoint
 
   mutual
-    act_turns : (i d line : ℕ) (a : Act) → OverAct (OwnVar u) NoArray Any a → LoopsIn' counts a → CallsInside' inside_units a → IsTurning (backward_act p i d line a)
-    act_turns i d line (assign (plain x) subs e) o l c =
+    act_turns : (i d line : ℕ) (a : Act) → OverAct (OwnVar u) NoArray Any a → LoopsIn' counts a → IsTurning (backward_act_with sc p i d line a)
+    act_turns i d line (assign (plain x) subs e) o l =
         turning_join (code_if (p.marks.kept i && p.marks.saved i (plain x)) (one line (runtime (pop_word (plain x) subs)))) (code_if (p.marks.adjointed i) (adjoint_where (active_at p.marks i) x subs e line))
-        (turning_if (p.marks.kept i && p.marks.saved i (plain x)) (one line (runtime (pop_word (plain x) subs))) (λ t. ((refl, (refl, refl)), tt)))
+        (turning_if (p.marks.kept i && p.marks.saved i (plain x)) (one line (runtime (pop_word (plain x) subs))) (λ t. (refl, tt)))
         (turning_if (p.marks.adjointed i) (adjoint_where (active_at p.marks i) x subs e line) (λ t. making_turns (adjoint_where (active_at p.marks i) x subs e line) (making_adjoint (active_at p.marks i) x subs e line)))
-    act_turns i d line (assign (shadow x) subs e) o l c = tt
-    act_turns i d line (assign (helper t k) subs e) o l c = tt
-    act_turns i d line (choose t a b) o l c =
-        let one_part = code_turns (suc i) d a o.1.0 l.0 c.0 in
-        let other_part = code_turns (behind (suc i) a) d b o.1.1 l.1 c.1 in
-        turning_if (is_emitted p.marks i) (told_backward (is_empty (backward p (suc i) d a) && is_empty (backward p (behind (suc i) a) d b)) line (backward p (suc i) d a) (backward p (behind (suc i) a) d b))
-        (λ e. told_turns (is_empty (backward p (suc i) d a) && is_empty (backward p (behind (suc i) a) d b)) line (backward p (suc i) d a) (backward p (behind (suc i) a) d b) one_part other_part)
-    act_turns i d line (loop (plain x) a b by body m) o l c =
-        let idle = is_empty (backward p (suc i) (suc d) body) in
-        let inside_it = code_turns (suc i) (suc d) body o.1.1.1.1.0 l.1 c in
-        turning_if (is_emitted p.marks i) (loop_backward idle (suc d) line (plain x) (backward p (suc i) (suc d) body) +++ (code_if (p.marks.saved i (plain x)) (one line (runtime (pop_word (plain x) none))) +++ reset p.marks i line x)) (λ e.
-        turning_join (loop_backward idle (suc d) line (plain x) (backward p (suc i) (suc d) body)) (code_if (p.marks.saved i (plain x)) (one line (runtime (pop_word (plain x) none))) +++ reset p.marks i line x) (loop_turns idle (suc d) line x (backward p (suc i) (suc d) body) o.0 l.0 inside_it)
+    act_turns i d line (assign (shadow x) subs e) o l = tt
+    act_turns i d line (assign (helper t k) subs e) o l = tt
+    act_turns i d line (choose t a b) o l =
+        let one_part = code_turns (suc i) d a o.1.0 l.0 in
+        let other_part = code_turns (behind (suc i) a) d b o.1.1 l.1 in
+        turning_if (is_emitted p.marks i) (told_backward (is_empty (backward_with sc p (suc i) d a) && is_empty (backward_with sc p (behind (suc i) a) d b)) line (backward_with sc p (suc i) d a) (backward_with sc p (behind (suc i) a) d b))
+        (λ e. told_turns (is_empty (backward_with sc p (suc i) d a) && is_empty (backward_with sc p (behind (suc i) a) d b)) line (backward_with sc p (suc i) d a) (backward_with sc p (behind (suc i) a) d b) one_part other_part)
+    act_turns i d line (loop (plain x) a b by body m) o l =
+        turning_if (is_emitted p.marks i) (row (reversed_by sc p.marks.adjointed i body m) +++ (code_if (p.marks.saved i (plain x)) (one line (runtime (pop_word (plain x) none))) +++ reset p.marks i line x)) (λ e.
+        turning_join (row (reversed_by sc p.marks.adjointed i body m)) (code_if (p.marks.saved i (plain x)) (one line (runtime (pop_word (plain x) none))) +++ reset p.marks i line x) (of_row (reversed_by sc p.marks.adjointed i body m) (code_turns (suc i) (suc d) body o.1.1.1.1.0 l.1))
         (turning_join (code_if (p.marks.saved i (plain x)) (one line (runtime (pop_word (plain x) none)))) (reset p.marks i line x)
-        (turning_if (p.marks.saved i (plain x)) (one line (runtime (pop_word (plain x) none))) (λ t. ((refl, (refl, refl)), tt)))
-        (turning_if (resets p.marks i x) (one line (assign (shadow x) none (literal 0))) (λ t. ((refl, (free (shadow x) refl, refl)), tt)))))
-    act_turns i d line (loop (shadow x) a b by body m) o l c = tt
-    act_turns i d line (loop (helper t k) a b by body m) o l c = tt
-    act_turns i d line (during t body) o l c =
-        let idle = is_empty (backward p (suc i) (suc d) body) in
-        let inside_it = code_turns (suc i) (suc d) body o.1 l c in
-        turning_if (is_emitted p.marks i) (while_backward idle (suc d) line (backward p (suc i) (suc d) body)) (λ e. while_turns idle (suc d) line (backward p (suc i) (suc d) body) inside_it)
-    act_turns i d line (call name args) o l c =
+        (turning_if (p.marks.saved i (plain x)) (one line (runtime (pop_word (plain x) none))) (λ t. (refl, tt)))
+        (turning_if (resets p.marks i x) (one line (assign (shadow x) none (literal 0))) (λ t. (free (shadow x) refl, tt)))))
+      where
+        idle : Bool
+        idle = is_empty (backward_with sc p (suc i) (suc d) body)
+
+        row : Option Step → Code
+        row t = found_or t (loop_backward idle (suc d) line (plain x) (backward_with sc p (suc i) (suc d) body)) (λ s. row_backward p i (suc d) line x s)
+
+        of_row : (t : Option Step) → IsTurning (backward_with sc p (suc i) (suc d) body) → IsTurning (row t)
+        of_row None h = loop_turns idle (suc d) line x (backward_with sc p (suc i) (suc d) body) o.0 l.0 h
+        of_row (Some s) h = turns_turn i (suc d) line x s o.0 l.0
+    act_turns i d line (loop (shadow x) a b by body m) o l = tt
+    act_turns i d line (loop (helper t k) a b by body m) o l = tt
+    act_turns i d line (during t body) o l =
+        let idle = is_empty (backward_with sc p (suc i) (suc d) body) in
+        let inside_it = code_turns (suc i) (suc d) body o.1 l in
+        turning_if (is_emitted p.marks i) (while_backward idle (suc d) line (backward_with sc p (suc i) (suc d) body)) (λ e. while_turns idle (suc d) line (backward_with sc p (suc i) (suc d) body) inside_it)
+    act_turns i d line (call name args) o l =
         let g = p.callees name in
         let saves = save_group p.marks i g (names_of args) in
         let members = snapshot_group g (names_of args) in
         turning_if (is_emitted p.marks i) (code_if (p.marks.adjointed i) (pops p line members +++ one line (adjoint_call g (names_of args))) +++ pops p line saves) (λ e.
         turning_join (code_if (p.marks.adjointed i) (pops p line members +++ one line (adjoint_call g (names_of args)))) (pops p line saves)
-        (turning_if (p.marks.adjointed i) (pops p line members +++ one line (adjoint_call g (names_of args))) (λ t.
-        turning_join (pops p line members) (one line (adjoint_call g (names_of args))) (pops_turn line members) ((refl, (refl, λ j. apart name c j || false)), tt)))
+        (turning_if (p.marks.adjointed i) (pops p line members +++ one line (adjoint_call g (names_of args))) (λ t. turning_join (pops p line members) (one line (adjoint_call g (names_of args))) (pops_turn line members) (refl, tt)))
         (pops_turn line saves))
-    act_turns i d line (runtime t) o l c = tt
+    act_turns i d line (runtime t) o l = tt
 
-    code_turns : (i d : ℕ) (c : Code) → OverCode (OwnVar u) NoArray Any c → LoopsIn counts c → CallsInside inside_units c → IsTurning (backward p i d c)
-    code_turns i d stop o l c = tt
-    code_turns i d (step line a rest) o l c = turning_join (backward p (next i a) d rest) (backward_act p i d line a) (code_turns (next i a) d rest o.1 l.1 c.1) (act_turns i d line a o.0 l.0 c.0)
+    code_turns : (i d : ℕ) (c : Code) → OverCode (OwnVar u) NoArray Any c → LoopsIn counts c → IsTurning (backward_with sc p i d c)
+    code_turns i d stop o l = tt
+    code_turns i d (step line a rest) o l = turning_join (backward_with sc p (next i a) d rest) (backward_act_with sc p i d line a) (code_turns (next i a) d rest o.1 l.1) (act_turns i d line a o.0 l.0)
 
-  module _ (i d : ℕ) (c : Code) (o : OverCode (OwnVar u) NoArray Any c) (l : LoopsIn counts c) (inside : CallsInside inside_units c) where
-    abbrev P : Act → Type 0
-    P a = (all_pushes a ≡ []) × ((list_all (λ v. not (is_own u v) || counts v) (assigned a) ≡ true) × (list_any units (called a) ≡ false))
-
-    pub backward_pushes : gathered all_pushes (seen r (backward p i d c)) ≡ []
-    backward_pushes = gathered_has (λ l. l ≡ []) refl none_join all_pushes P (λ a h. h.0) (seen r (backward p i d c)) (code_turns i d c o l inside)
-
-    pub backward_assigns : list_all (λ v. not (is_own u v) || counts v) (gathered assigned (seen r (backward p i d c))) ≡ true
-    backward_assigns = gathered_has (λ l. list_all (λ v. not (is_own u v) || counts v) l ≡ true) refl (all_join (λ v. not (is_own u v) || counts v)) assigned P (λ a h. h.1.0) (seen r (backward p i d c)) (code_turns i d c o l inside)
-
-    pub backward_calls : list_any units (gathered called (seen r (backward p i d c))) ≡ false
-    backward_calls = gathered_has (λ l. list_any units l ≡ false) refl (any_join units) called P (λ a h. h.1.1) (seen r (backward p i d c)) (code_turns i d c o l inside)
+  pub backward_assigns : (i d : ℕ) (c : Code) → OverCode (OwnVar u) NoArray Any c → LoopsIn counts c → list_all (λ v. not (is_own u v) || counts v) (gathered assigned (seen r (backward_with sc p i d c))) ≡ true
+  backward_assigns i d c o l =
+      gathered_has (λ l. list_all (λ v. not (is_own u v) || counts v) l ≡ true) refl (all_join (λ v. not (is_own u v) || counts v)) assigned (λ a. list_all (λ v. not (is_own u v) || counts v) (assigned a) ≡ true) (λ a h. h) (seen r (backward_with sc p i d c)) (code_turns i d c o l)

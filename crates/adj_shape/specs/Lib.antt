@@ -4,3 +4,4 @@ pub mod Closed
 pub mod Laws
 pub mod Accepted
 pub mod Worked
+pub mod Reversed

@@ -1,8 +1,8 @@
 -- What an emitted program looks like: which units it has, and what each adjoint unit keeps, saves, pushes and sets. It is told of the text
 -- alone, statement by statement, whatever its helpers are; its line numbers count for nothing. (docs/EMITTED.md, "What the text looks like")
-use Rattle.std.specs.Prelude.{◌≡◌, ℕ, suc, nat_lt, ◌-◌, pos, List, [], ◌∷◌, ◌++◌, map, flat_map, Bool, true, false, not, ◌&&◌, ◌||◌, Some, if◌then◌else◌}
+use Rattle.std.specs.Prelude.{◌≡◌, ℕ, suc, nat_lt, ◌-◌, pos, List, [], ◌∷◌, ◌++◌, map, flat_map, Bool, true, false, not, ◌&&◌, ◌||◌, Option, Some, None, if◌then◌else◌}
 use Rattle.std.specs.List.{list_any, list_all}
-use Rattle.adj_tree.specs.Code.{Var, plain, shadow, helper, name_eq, var_eq, lit, Terms, none, more, Runtime, push_word, pop_word, push_array, pop_array, push_control, pop_control, zero_array, count_actions, give_action, unmarked, Act, assign, choose, loop, during, call, runtime, Code, stop, step, Procedure}
+use Rattle.adj_tree.specs.Code.{Var, plain, shadow, helper, name_eq, var_eq, lit, var, is_same, Terms, none, more, Test, compare, Runtime, push_word, push_array, push_control, zero_array, begin_reversal, count_actions, give_action, end_reversal, unmarked, Act, assign, choose, loop, during, call, runtime, Code, stop, step, Procedure}
 use Rattle.adj_tree.specs.Lines.{unlined_procedure, unlined}
 use Rattle.adj_meaning.specs.Append.{◌+++◌}
 use Rattle.adj_meaning.specs.Written.{find_unit}
@@ -11,14 +11,14 @@ use Rattle.adj_names.specs.Statements.{At, statements}
 use Rattle.adj_names.specs.Variables.{variables}
 use Rattle.adj_transpose.specs.Fresh.{has_name}
 use Rattle.adj_transpose.specs.Naming.{Named, unit_names, name_in}
-use Rattle.adj_transpose.specs.Marks.{Vars, Marks}
+use Rattle.adj_transpose.specs.Marks.{Vars, Marks, next, behind}
 use Rattle.adj_transpose.specs.Marked.{names_in}
 use Rattle.adj_transpose.specs.MarkedProgram.{shadows_behind}
 use Rattle.adj_transpose.specs.Program.{unit_name, unmarked as unlisted}
-use Rattle.adj_reverse.specs.Plan.{Plan, is_emitted, names_of, save_group, snapshot_group}
+use Rattle.adj_reverse.specs.Plan.{Plan, is_emitted, names_of, actuals_named, found_or, save_group, snapshot_group, step_snapshot, Schedules, Step, reversed_by}
 use Rattle.adj_reverse.specs.Names.{adjoint_name}
 use Rattle.adj_reverse.specs.Marking.{ProgramMarks, marks_in, first_statement, plan_in}
-use Rattle.adj_reverse.specs.Program.{has_adjoint, all_units}
+use Rattle.adj_reverse.specs.Program.{has_adjoint, all_units, schedules_in}
 
 -- ---- statements, at any depth, in text order
 
@@ -30,6 +30,21 @@ gathered f c = flat_map (λ s. f s.1) (statements c)
 abbrev pub gathered_from : {X : Type 0} → (ℕ → Act → List X) → ℕ → List (At Act) → List X
 gathered_from f i [] = []
 gathered_from f i (s ∷ ss) = f i s.1 ++ gathered_from f (suc i) ss
+
+-- The same of a list, of which the first statement is i, where some marked loops are reversed by schedules: of the one call in such a loop
+-- another function gives what it does.
+abbrev mutual
+  pub gathered_act : {X : Type 0} → Schedules → (ℕ → Bool) → (ℕ → Act → List X) → (ℕ → Step → List X) → ℕ → Act → List X
+  gathered_act r adjointed f g i (assign x subs e) = f i (assign x subs e)
+  gathered_act r adjointed f g i (choose c a b) = f i (choose c a b) ++ (gathered_list r adjointed f g (suc i) a ++ gathered_list r adjointed f g (behind (suc i) a) b)
+  gathered_act r adjointed f g i (loop x first last by body m) = f i (loop x first last by body m) ++ found_or (reversed_by r adjointed i body m) (gathered_list r adjointed f g (suc i) body) (g i)
+  gathered_act r adjointed f g i (during c body) = f i (during c body) ++ gathered_list r adjointed f g (suc i) body
+  gathered_act r adjointed f g i (call name args) = f i (call name args)
+  gathered_act r adjointed f g i (runtime c) = f i (runtime c)
+
+  pub gathered_list : {X : Type 0} → Schedules → (ℕ → Bool) → (ℕ → Act → List X) → (ℕ → Step → List X) → ℕ → Code → List X
+  gathered_list r adjointed f g i stop = []
+  gathered_list r adjointed f g i (step line a rest) = gathered_act r adjointed f g i a ++ gathered_list r adjointed f g (next i a) rest
 
 -- ---- the names in an adjoint unit
 
@@ -99,6 +114,12 @@ due p i (call name args) =
     else []
 due p i (runtime r) = []
 
+-- and for the one call in a loop that is reversed by a schedule: the groups of its step, which are pushed before the loop
+abbrev pub due_turns : Plan → ℕ → Step → List Runtime
+due_turns p i s =
+    let g = p.callees s.name in
+    map (push_whole p.arrays) (save_group p.marks i g s.given) ++ map (push_whole p.arrays) (step_snapshot g s.read s.given)
+
 -- nothing follows
 abbrev pub is_last : Code → Bool
 is_last stop = true
@@ -123,30 +144,26 @@ is_sparing own made part room (step line (runtime (push_array x)) rest) = own x 
 is_sparing own made part room (step line (runtime (push_control e)) rest) = part && is_last rest
 is_sparing own made part room (step line (runtime r) rest) = is_sparing own made part 0 rest
 
--- every push
-abbrev pub all_pushes : Act → List Runtime
-all_pushes (runtime (push_word x subs)) = push_word x subs ∷ []
-all_pushes (runtime (push_array x)) = push_array x ∷ []
-all_pushes (runtime (push_control e)) = push_control e ∷ []
-all_pushes a = []
+-- the calls of the runtime
+abbrev pub ran : Act → List Runtime
+ran (runtime c) = c ∷ []
+ran a = []
+
+abbrev pub is_push : Runtime → Bool
+is_push (push_word x subs) = true
+is_push (push_array x) = true
+is_push (push_control e) = true
+is_push c = false
 
 -- ---- what the sweeps set and call
 
--- the variables that a statement assigns, as an assignment or a DO
+-- the variables that a statement assigns, as an assignment, as a DO, or by what a schedule is asked for
 abbrev pub assigned : Act → List Var
 assigned (assign x subs e) = x ∷ []
 assigned (loop x first last by body m) = x ∷ []
+assigned (runtime (count_actions l s n)) = n ∷ []
+assigned (runtime (give_action l s k a f t)) = a ∷ f ∷ t ∷ []
 assigned a = []
-
--- and those that it changes as a call of the runtime
-abbrev pub changed : Act → List Var
-changed (runtime (pop_word x subs)) = x ∷ []
-changed (runtime (pop_array x)) = x ∷ []
-changed (runtime (pop_control x)) = x ∷ []
-changed (runtime (zero_array x)) = x ∷ []
-changed (runtime (count_actions l s n)) = n ∷ []
-changed (runtime (give_action l s k a f t)) = a ∷ f ∷ t ∷ []
-changed a = []
 
 -- the variables of DOs
 abbrev pub turned : Act → List Var
@@ -157,6 +174,67 @@ turned a = []
 abbrev pub called : Act → List (List ℕ)
 called (call name args) = name ∷ []
 called a = []
+
+-- ---- reversals
+
+-- The variable that tells the turns of a DO their actions, where it goes through those of a schedule: each turn begins by asking for the
+-- action that has the number of the turn.
+abbrev pub told_in : Act → Option Var
+told_in (loop x (lit z) last by (step line (runtime (give_action l s (var k) a f t)) rest) m) = if var_eq x k then Some a else None
+told_in a = None
+
+-- the action in which the first part of an IF is done: that of the number for which it tests this variable, else that of the IF
+abbrev pub action_of : Option Var → ℕ → Test → ℕ
+action_of (Some a) k (compare is_same (var x) (lit (pos n))) = if var_eq a x then n else k
+action_of told k c = k
+
+-- What a function gives of each statement of a list, at any depth and in text order, by the action of a reversal in which it is done; in
+-- none this is 0. `told` is the variable that tells the action, where the list is what is done for one.
+abbrev mutual
+  pub done_act : {X : Type 0} → (ℕ → Act → List X) → Option Var → ℕ → Act → List X
+  done_act f told k (assign x subs e) = f k (assign x subs e)
+  done_act f told k (choose c a b) = f k (choose c a b) ++ (done_list f None (action_of told k c) a ++ done_list f None k b)
+  done_act f told k (loop x first last by body m) = f k (loop x first last by body m) ++ done_list f (told_in (loop x first last by body m)) k body
+  done_act f told k (during c body) = f k (during c body) ++ done_list f None k body
+  done_act f told k (call name args) = f k (call name args)
+  done_act f told k (runtime r) = f k (runtime r)
+
+  pub done_list : {X : Type 0} → (ℕ → Act → List X) → Option Var → ℕ → Code → List X
+  done_list f told k stop = []
+  done_list f told k (step line a rest) = done_act f told k a ++ done_list f told k rest
+
+-- pushes, calls of the units of a set, and where a reversal begins, with its number of snapshots, and ends; each with its action. The
+-- number of steps may be held by a helper.
+abbrev pub deeds : (List ℕ → Bool) → ℕ → Act → List (ℕ × Act)
+deeds units k (runtime (push_word x subs)) = (k, runtime (push_word x subs)) ∷ []
+deeds units k (runtime (push_array x)) = (k, runtime (push_array x)) ∷ []
+deeds units k (runtime (push_control e)) = (k, runtime (push_control e)) ∷ []
+deeds units k (runtime (begin_reversal l s)) = (k, runtime (begin_reversal (lit (pos 0)) s)) ∷ []
+deeds units k (runtime end_reversal) = (k, runtime end_reversal) ∷ []
+deeds units k (call name args) = if units name then (k, call name args) ∷ [] else []
+deeds units k a = []
+
+-- those of a reversal: the members of a step's snapshot are pushed where a snapshot is taken, in action 1, and where one is read and kept,
+-- in action 4; and the step unit is called where steps are made, in action 2
+abbrev pub deeds_of : Plan → Step → List (ℕ × Act)
+deeds_of p s =
+    let snapshot = map (push_whole p.arrays) (step_snapshot (p.callees s.name) s.read s.given) in
+    (0, runtime (begin_reversal (lit (pos 0)) (lit (pos s.snapshots))))
+    ∷ (map (λ c. (1, runtime c)) snapshot ++ ((2, call s.name (actuals_named s.given)) ∷ (map (λ c. (4, runtime c)) snapshot ++ ((0, runtime end_reversal) ∷ []))))
+
+-- those of all loops of a list that are reversed by schedules, from the last statement to the first; the parts of an IF stay in order
+abbrev mutual
+  pub deeds_act : Schedules → Plan → ℕ → Act → List (ℕ × Act)
+  deeds_act r p i (assign x subs e) = []
+  deeds_act r p i (choose c a b) = deeds_back r p (suc i) a ++ deeds_back r p (behind (suc i) a) b
+  deeds_act r p i (loop x first last by body m) = found_or (reversed_by r p.marks.adjointed i body m) (deeds_back r p (suc i) body) (deeds_of p)
+  deeds_act r p i (during c body) = deeds_back r p (suc i) body
+  deeds_act r p i (call name args) = []
+  deeds_act r p i (runtime c) = []
+
+  pub deeds_back : Schedules → Plan → ℕ → Code → List (ℕ × Act)
+  deeds_back r p i stop = []
+  deeds_back r p i (step line a rest) = deeds_back r p (next i a) rest ++ deeds_act r p i a
 
 -- ---- an adjoint unit
 
@@ -171,8 +249,8 @@ cleared arrays table (x ∷ xs) =
 abbrev pub cleared_dummies : ProgramMarks → Procedure → Procedure → List Bool → List (List ℕ)
 cleared_dummies m head u listed = if name_eq head.name u.name then names_in (m.shadowed u.name) (unlisted u.dummies listed) else []
 
--- what the adjoint unit a of the kernel unit u looks like, of which the line numbers are 0
-pub record IsAdjointUnit (m : ProgramMarks) (ps : List Procedure) (head : Procedure) (vars outvars : List Bool) (u a : Procedure) : Type 0 where
+-- what the adjoint unit a of the kernel unit u looks like, of which the line numbers are 0; whether marked loops are reversed by schedules
+pub record IsAdjointUnit (schedules : Bool) (m : ProgramMarks) (ps : List Procedure) (head : Procedure) (vars outvars : List Bool) (u a : Procedure) : Type 0 where
   pub name : a.name ≡ adjoint_name ps u
   -- its dummies are those of u, each followed by its shadow, if it has one
   pub dummies : a.dummies ≡ shadows_behind (m.shadowed u.name) (shadow_table m ps head u) u.dummies
@@ -185,16 +263,16 @@ pub record IsAdjointUnit (m : ProgramMarks) (ps : List Procedure) (head : Proced
   -- forward: the statements of u that stay, in text order, and no others of its own
   pub keeps : gathered (primal (is_own u)) forth ≡ gathered_from (kept_of (marks_in m u.name) (is_own u)) (first_statement ps u.name) (statements u.body)
   -- no shadow is assigned
-  pub spares : list_any (is_shadow m ps head u) (gathered (λ a. assigned a ++ changed a) forth) ≡ false
+  pub spares : list_any (is_shadow m ps head u) (gathered assigned forth) ≡ false
+  -- and of the runtime's calls there are pushes alone
+  pub pushes_alone : list_all is_push (gathered ran forth) ≡ true
   -- the pushes that are due, in text order, and besides them single words
-  pub saves : gathered (pushed (is_own u)) forth ≡ gathered_from (due (plan_in m ps u)) (first_statement ps u.name) (statements u.body)
+  pub saves : let p = plan_in m ps u in gathered (pushed (is_own u)) forth ≡ gathered_list (schedules_in schedules ps) m.adjointed (due p) (due_turns p) (first_statement ps u.name) u.body
   pub sparing : is_sparing (is_own u) (is_shadow m ps head u) false 0 forth ≡ true
-  -- backward: nothing is pushed
-  pub pushes_none : gathered all_pushes back ≡ []
-  -- a variable of u is assigned only where it is that of a DO of u
+  -- backward: the loops that are reversed by schedules are reversed, and besides nothing is pushed and no kernel unit is called
+  pub reverses : done_list (deeds (λ x. has_name x (map unit_name ps))) None 0 back ≡ deeds_back (schedules_in schedules ps) (plan_in m ps u) (first_statement ps u.name) u.body
+  -- and a variable of u is assigned only where it is that of a DO of u
   pub assigns : list_all (λ v. not (is_own u v) || list_any (var_eq v) (gathered turned u.body)) (gathered assigned back) ≡ true
-  -- and no kernel unit is called
-  pub calls_none : list_any (λ x. has_name x (map unit_name ps)) (gathered called back) ≡ false
 
 -- ---- the program
 
@@ -203,13 +281,13 @@ abbrev pub is_called : List Procedure → List ℕ → Bool
 is_called qs name = has_name name (flat_map (λ v. gathered called v.body) qs)
 
 -- what the emitted program qs of the kernel ps looks like by some marks, of which the line numbers are 0
-pub record IsShaped (m : ProgramMarks) (ps : List Procedure) (head : Procedure) (vars outvars : List Bool) (qs : List Procedure) : Type 0 where
+pub record IsShaped (schedules : Bool) (m : ProgramMarks) (ps : List Procedure) (head : Procedure) (vars outvars : List Bool) (qs : List Procedure) : Type 0 where
   pub made : Procedure → Procedure
   -- Its units are, in the order of the kernel, each kernel unit that a unit of it calls, and each adjoint unit: of the head, and of what an
   -- adjointed call of a unit with an adjoint names. There are no others.
   pub units : qs ≡ flat_map (λ u. (if is_called qs u.name then unlined_procedure u ∷ [] else []) ++ (if has_adjoint m ps head u.name then made u ∷ [] else [])) ps
-  pub adjoints : (u : Procedure) → find_unit ps u.name ≡ Some u → has_adjoint m ps head u.name ≡ true → IsAdjointUnit m ps head vars outvars u (made u)
+  pub adjoints : (u : Procedure) → find_unit ps u.name ≡ Some u → has_adjoint m ps head u.name ≡ true → IsAdjointUnit schedules m ps head vars outvars u (made u)
 
 -- the same of a program with its line numbers
-abbrev pub HasShape : ProgramMarks → List Procedure → Procedure → List Bool → List Bool → List Procedure → Type 0
-HasShape m ps head vars outvars qs = IsShaped m ps head vars outvars (unlined qs)
+abbrev pub HasShape : (schedules : Bool) → ProgramMarks → List Procedure → Procedure → List Bool → List Bool → List Procedure → Type 0
+HasShape schedules m ps head vars outvars qs = IsShaped schedules m ps head vars outvars (unlined qs)

@@ -16,7 +16,7 @@ squared = assign (plain X) none (bin times (var (plain X)) (var (plain X)))
 abbrev pub pushes : List ℕ → Act
 pushes x = runtime (push_word (plain x) none)
 
-abbrev declared_at : ℕ → List ℕ → Declaration
+abbrev pub declared_at : ℕ → List ℕ → Declaration
 declared_at line x = record { line = line; name = x; extents = [] }
 
 -- SUBROUTINE P(X), INTEGER*8 X, X=X*X, X=X*X, END

@@ -1,0 +1,11 @@
+use Rattle.adj_shape.proofs.Reversed.{reversed_so, reversed_shaped, dropped_so}
+use Rattle.adj_shape.proofs.worked_reversal.Goals as goal
+
+pub returns-clause-emitted : goal.returns-clause-emitted
+returns-clause-emitted c = reversed_so
+
+pub returns-clause-shaped : goal.returns-clause-shaped
+returns-clause-shaped c = reversed_shaped
+
+pub returns-clause-dropped : goal.returns-clause-dropped
+returns-clause-dropped c = dropped_so
