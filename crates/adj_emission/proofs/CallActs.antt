@@ -7,8 +7,9 @@ use Rattle.adj_meaning.specs.Append.{◌+++◌, one}
 use Rattle.adj_meaning.specs.Rename.{rename}
 use Rattle.adj_meaning.proofs.Appends.{append_assoc}
 use Rattle.adj_meaning.proofs.Renamed.{rename-append}
+use Rattle.adj_transpose.specs.Marks.{Vars}
 use Rattle.adj_transpose.specs.Marked.{code_if}
-use Rattle.adj_reverse.specs.Plan.{Plan, Callee, is_emitted, names_of, save_group, snapshot_group}
+use Rattle.adj_reverse.specs.Plan.{Plan, Callee, Schedules, is_emitted, names_of, save_group, snapshot_group}
 use Rattle.adj_reverse.specs.Emission.{pushes, pops, with_shadows, adjoint_call}
 use Rattle.adj_emission.specs.declared.actuals.Actual.{Actual}
 use Rattle.adj_emission.specs.declared.actuals.Group.TheVariants.{Save, Snapshot}
@@ -22,7 +23,7 @@ use Rattle.adj_emission.proofs.Turned.{joined}
 use Rattle.adj_emission.proofs.Groups.{save_chosen, snapshot_chosen, shadows_paired, pushes_plain, pops_plain}
 use Rattle.adj_emission.proofs.Acts.{written, if_true}
 
-module _ (r : Var → Var) (plainly : IsPlain r) (p : Plan) (d line : ℕ) (name : List ℕ) (args : Exprs) (old new : Sweeps) (k : known.Callee) (h : Knows k (p.callees name)) where
+module _ (sc : Schedules) (r : Var → Var) (plainly : IsPlain r) (p : Plan) (d line : ℕ) (name : List ℕ) (args : Exprs) (old new : Sweeps) (k : known.Callee) (read : Vars) (h : Knows k (p.callees name) read) where
   abbrev g : Callee
   g = p.callees name
 
@@ -33,13 +34,13 @@ module _ (r : Var → Var) (plainly : IsPlain r) (p : Plan) (d line : ℕ) (name
   actuals = paired k.dummies.items given
 
   saved : chosen (is_in (p.marks.saved old.number) Save) actuals ≡ save_group p.marks old.number g given
-  saved = ap (λ ds. chosen (is_in (p.marks.saved old.number) Save) (paired ds given)) h.dummies ∙ save_chosen g (p.marks.saved old.number) g.dummies given
+  saved = ap (λ ds. chosen (is_in (p.marks.saved old.number) Save) (paired ds given)) h.dummies ∙ save_chosen g read (p.marks.saved old.number) g.dummies given
 
   snapshot : chosen (is_in (p.marks.saved old.number) Snapshot) actuals ≡ snapshot_group g given
-  snapshot = ap (λ ds. chosen (is_in (p.marks.saved old.number) Snapshot) (paired ds given)) h.dummies ∙ snapshot_chosen g (p.marks.saved old.number) g.dummies given
+  snapshot = ap (λ ds. chosen (is_in (p.marks.saved old.number) Snapshot) (paired ds given)) h.dummies ∙ snapshot_chosen g read (p.marks.saved old.number) g.dummies given
 
   shadows : all_with_shadows actuals ≡ with_shadows g.shadowed g.dummies given
-  shadows = ap (λ ds. all_with_shadows (paired ds given)) h.dummies ∙ shadows_paired g g.dummies given
+  shadows = ap (λ ds. all_with_shadows (paired ds given)) h.dummies ∙ shadows_paired g read g.dummies given
 
   kept_named : (b : Bool) → rename r (code_if b (one line (call name (terms_of args)))) ≡ code_if b (one line (call name (terms_of args)))
   kept_named true = λ i. one line (call name (terms_kept r plainly args i))
@@ -57,7 +58,7 @@ module _ (r : Var → Var) (plainly : IsPlain r) (p : Plan) (d line : ℕ) (name
       ∙ sym (rename-append r (pops p line (snapshot_group g given)) (one line (adjoint_call g given)))
   adjoint_named false = refl
 
-  pub call_written : is_emitted p.marks old.number ≡ true → new.number ≡ suc old.number → (s1 s2 t : Code) → s1 ≡ in_order (code_of old.forward) +++ pushes p line (chosen (is_in (p.marks.saved old.number) Save) actuals) → s2 ≡ s1 +++ code_if (p.marks.adjointed old.number) (pushes p line (chosen (is_in (p.marks.saved old.number) Snapshot) actuals)) → in_order (code_of new.forward) ≡ s2 +++ code_if (p.marks.kept old.number) (one line (call name (terms_of args))) → t ≡ pops p line (chosen (is_in (p.marks.saved old.number) Save) actuals) +++ code_of old.backward → code_of new.backward ≡ code_if (p.marks.adjointed old.number) (pops p line (chosen (is_in (p.marks.saved old.number) Snapshot) actuals) +++ rename r (one line (call k.adjoint (all_with_shadows actuals)))) +++ t → SweepsAct r p d line (call name (terms_of args)) old new
+  pub call_written : is_emitted p.marks old.number ≡ true → new.number ≡ suc old.number → (s1 s2 t : Code) → s1 ≡ in_order (code_of old.forward) +++ pushes p line (chosen (is_in (p.marks.saved old.number) Save) actuals) → s2 ≡ s1 +++ code_if (p.marks.adjointed old.number) (pushes p line (chosen (is_in (p.marks.saved old.number) Snapshot) actuals)) → in_order (code_of new.forward) ≡ s2 +++ code_if (p.marks.kept old.number) (one line (call name (terms_of args))) → t ≡ pops p line (chosen (is_in (p.marks.saved old.number) Save) actuals) +++ code_of old.backward → code_of new.backward ≡ code_if (p.marks.adjointed old.number) (pops p line (chosen (is_in (p.marks.saved old.number) Snapshot) actuals) +++ rename r (one line (call k.adjoint (all_with_shadows actuals)))) +++ t → SweepsAct sc r p d line (call name (terms_of args)) old new
   call_written e n s1 s2 t h1 h2 h3 h4 h5 =
       let i = old.number in
       let o = in_order (code_of old.forward) in
@@ -70,7 +71,7 @@ module _ (r : Var → Var) (plainly : IsPlain r) (p : Plan) (d line : ℕ) (name
       let second : s2 ≡ s1 +++ rename r snap = h2 ∙ ap (λ z. s1 +++ code_if (p.marks.adjointed i) (pushes p line z)) snapshot ∙ ap (λ z. s1 +++ z) (sym (pushed_named (p.marks.adjointed i) (snapshot_group g given))) in
       let third : in_order (code_of new.forward) ≡ s2 +++ rename r kept = h3 ∙ ap (λ z. s2 +++ z) (sym (kept_named (p.marks.kept i))) in
       let tail : t ≡ rename r restored +++ code_of old.backward = h4 ∙ ap (λ z. pops p line z +++ code_of old.backward) saved ∙ ap (λ z. z +++ code_of old.backward) (sym (pops_plain r plainly p line (save_group p.marks i g given))) in
-      written r p d line (call name (terms_of args)) old new (save +++ (snap +++ kept)) (back +++ restored) (if_true _ _ e) (if_true _ _ e) n
+      written sc r p d line (call name (terms_of args)) old new (save +++ (snap +++ kept)) (back +++ restored) (if_true _ _ e) (if_true _ _ e) n
       (third ∙ ap (λ z. z +++ rename r kept) (second ∙ ap (λ z. z +++ rename r snap) first)
       ∙ append_assoc (o +++ rename r save) (rename r snap) (rename r kept) ∙ append_assoc o (rename r save) (rename r snap +++ rename r kept)
       ∙ ap (λ z. o +++ (rename r save +++ z)) (sym (rename-append r snap kept)) ∙ ap (λ z. o +++ z) (sym (rename-append r save (snap +++ kept))))

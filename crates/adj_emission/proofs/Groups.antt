@@ -1,6 +1,6 @@
 -- Groups of actuals, from the actuals beside what is known of their dummies.
 use Rattle.std.proofs.Common.{◌≡◌, ℕ, suc, ◌+◌, Bool, true, false, List, [], ◌∷◌, ◌++◌, ◌<◌, Option, Some, None, map, length, get_or, drop, arith, refl, sym, ap, ◌∙◌, if◌then◌else◌}
-use Rattle.std.specs.Prelude.{◌&&◌, slice_get}
+use Rattle.std.specs.Prelude.{◌&&◌, ◌||◌, slice_get}
 use Rattle.std.proofs.Math.Seq.{drop-cons}
 use Rattle.adj_tree.specs.Code.{Var, plain, shadow, helper, lit, var, elem, neg, bin, pow, power_of, abs, Term, Terms, none, more, runtime, push_word, push_array, pop_word, pop_array, Code}
 use Rattle.adj_meaning.specs.Append.{◌+++◌, one}
@@ -12,7 +12,7 @@ use Rattle.adj_reverse.specs.Plan.{Callee, Plan, names_of, group}
 use Rattle.adj_reverse.specs.Emission.{push, pop, pushes, pops, with_shadows}
 use Rattle.adj_helpers.specs.declared.callees.Dummy.{Dummy}
 use Rattle.adj_emission.specs.declared.actuals.Actual.{Actual}
-use Rattle.adj_emission.specs.declared.actuals.Group.TheVariants.{Save, Snapshot}
+use Rattle.adj_emission.specs.declared.actuals.Group.TheVariants.{Save, Snapshot, Step}
 use Rattle.adj_emission.specs.Actuals.{paired, with_pair, is_in, chosen, all_with_shadows}
 use Rattle.adj_helpers.specs.Callees.{seen}
 use Rattle.adj_site.proofs.Plain.{IsPlain}
@@ -53,31 +53,41 @@ and_true true = refl
 and_true false = refl
 
 -- what is saved
-pub save_chosen : (g : Callee) (saved : Vars) (ds given : List (List ℕ)) → chosen (is_in saved Save) (paired (map (seen g) ds) given) ≡ group g.written saved ds given
-save_chosen g saved [] [] = refl
-save_chosen g saved [] (a ∷ given) = refl
-save_chosen g saved (d ∷ ds) [] = refl
-save_chosen g saved (d ∷ ds) (a ∷ given) = ap (λ z. if g.written (plain d) && saved (plain a) then a ∷ z else z) (save_chosen g saved ds given)
+pub save_chosen : (g : Callee) (read saved : Vars) (ds given : List (List ℕ)) → chosen (is_in saved Save) (paired (map (seen g read) ds) given) ≡ group g.written saved ds given
+save_chosen g read saved [] [] = refl
+save_chosen g read saved [] (a ∷ given) = refl
+save_chosen g read saved (d ∷ ds) [] = refl
+save_chosen g read saved (d ∷ ds) (a ∷ given) = ap (λ z. if g.written (plain d) && saved (plain a) then a ∷ z else z) (save_chosen g read saved ds given)
 
 -- the snapshot
-pub snapshot_chosen : (g : Callee) (saved : Vars) (ds given : List (List ℕ)) → chosen (is_in saved Snapshot) (paired (map (seen g) ds) given) ≡ group (λ d. g.written d && g.members d) everything ds given
-snapshot_chosen g saved [] [] = refl
-snapshot_chosen g saved [] (a ∷ given) = refl
-snapshot_chosen g saved (d ∷ ds) [] = refl
-snapshot_chosen g saved (d ∷ ds) (a ∷ given) =
+pub snapshot_chosen : (g : Callee) (read saved : Vars) (ds given : List (List ℕ)) → chosen (is_in saved Snapshot) (paired (map (seen g read) ds) given) ≡ group (λ d. g.written d && g.members d) everything ds given
+snapshot_chosen g read saved [] [] = refl
+snapshot_chosen g read saved [] (a ∷ given) = refl
+snapshot_chosen g read saved (d ∷ ds) [] = refl
+snapshot_chosen g read saved (d ∷ ds) (a ∷ given) =
     let b = g.written (plain d) && g.members (plain d) in
-    ap (λ z. if b then a ∷ z else z) (snapshot_chosen g saved ds given)
+    ap (λ z. if b then a ∷ z else z) (snapshot_chosen g read saved ds given)
     ∙ ap (λ t. if t then a ∷ group (λ d. g.written d && g.members d) everything ds given else group (λ d. g.written d && g.members d) everything ds given) (sym (and_true b))
 
--- the actuals of an adjoint's call
-pub shadows_paired : (g : Callee) (ds given : List (List ℕ)) → all_with_shadows (paired (map (seen g) ds) given) ≡ with_shadows g.shadowed ds given
-shadows_paired g [] [] = refl
-shadows_paired g [] (a ∷ given) = refl
-shadows_paired g (d ∷ ds) [] = refl
-shadows_paired g (d ∷ ds) (a ∷ given) = ap (λ z. if g.shadowed (plain d) then more (var (plain a)) (more (var (shadow a)) z) else more (var (plain a)) z) (shadows_paired g ds given)
+-- the snapshot of a step
+pub step_chosen : (g : Callee) (read saved : Vars) (ds given : List (List ℕ)) → chosen (is_in saved Step) (paired (map (seen g read) ds) given) ≡ group (λ d. g.written d && (g.members d || read d)) everything ds given
+step_chosen g read saved [] [] = refl
+step_chosen g read saved [] (a ∷ given) = refl
+step_chosen g read saved (d ∷ ds) [] = refl
+step_chosen g read saved (d ∷ ds) (a ∷ given) =
+    let b = g.written (plain d) && (g.members (plain d) || read (plain d)) in
+    ap (λ z. if b then a ∷ z else z) (step_chosen g read saved ds given)
+    ∙ ap (λ t. if t then a ∷ group (λ d. g.written d && (g.members d || read d)) everything ds given else group (λ d. g.written d && (g.members d || read d)) everything ds given) (sym (and_true b))
 
--- the actuals that are left begin with the one at hand
-pub dropped : (all : List Actual) (i : ℕ) (a : Actual) → i < length all → a ≡ get_or all i a → drop i all ≡ a ∷ drop (i + 1) all
+-- the actuals of an adjoint's call
+pub shadows_paired : (g : Callee) (read : Vars) (ds given : List (List ℕ)) → all_with_shadows (paired (map (seen g read) ds) given) ≡ with_shadows g.shadowed ds given
+shadows_paired g read [] [] = refl
+shadows_paired g read [] (a ∷ given) = refl
+shadows_paired g read (d ∷ ds) [] = refl
+shadows_paired g read (d ∷ ds) (a ∷ given) = ap (λ z. if g.shadowed (plain d) then more (var (plain a)) (more (var (shadow a)) z) else more (var (plain a)) z) (shadows_paired g read ds given)
+
+-- what is left begins with the one at hand
+pub dropped : {A : Type 0} (all : List A) (i : ℕ) (a : A) → i < length all → a ≡ get_or all i a → drop i all ≡ a ∷ drop (i + 1) all
 dropped all i a lt at =
     let more : suc i ≡ i + 1 = omega arith in
     drop-cons all i a lt ∙ ap (λ z. z ∷ drop (suc i) all) (sym at) ∙ ap (λ k. a ∷ drop k all) more

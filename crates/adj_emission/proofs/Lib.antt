@@ -4,5 +4,6 @@ mod Emitted
 mod Rows
 mod Groups
 mod Acts
+mod Reversals
 mod CallActs
 mod Cleared

@@ -1,11 +1,11 @@
 -- The actuals of a call, each with what is known of its dummy.
-use Rattle.std.specs.Prelude.{ℕ, List, [], ◌∷◌, ◌++◌, Option, Some, None, Bool, ◌&&◌, if◌then◌else◌}
+use Rattle.std.specs.Prelude.{ℕ, List, [], ◌∷◌, ◌++◌, Option, Some, None, Bool, ◌&&◌, ◌||◌, if◌then◌else◌}
 use Rattle.adj_tree.specs.Code.{plain, shadow, var, Terms, none, more}
 use Rattle.adj_transpose.specs.Marks.{Vars}
 use Rattle.adj_helpers.specs.declared.callees.Dummy.{Dummy}
 use Rattle.adj_emission.specs.declared.actuals.Actual.{Actual}
 use Rattle.adj_emission.specs.declared.actuals.Group.{Group}
-use Rattle.adj_emission.specs.declared.actuals.Group.TheVariants.{Save, Snapshot}
+use Rattle.adj_emission.specs.declared.actuals.Group.TheVariants.{Save, Snapshot, Step}
 
 -- dummies and the names that are given for them
 abbrev pub paired : List Dummy → List (List ℕ) → List Actual
@@ -22,6 +22,7 @@ with_pair (Some d) a made = made ++ (record { name = a; dummy = d } ∷ [])
 abbrev pub is_in : Vars → Group → Actual → Bool
 is_in saved Save a = a.dummy.written && saved (plain a.name)
 is_in saved Snapshot a = a.dummy.written && a.dummy.member
+is_in saved Step a = a.dummy.written && (a.dummy.member || a.dummy.read)
 
 -- the names of the actuals of which a test holds
 abbrev pub chosen : (Actual → Bool) → List Actual → List (List ℕ)

@@ -6,6 +6,7 @@ use Rattle.adj_transpose.specs.Marks.{Vars}
 use Rattle.adj_reverse.specs.Plan as sweeps
 use Rattle.adj_naming.specs.Table.{named_by}
 use Rattle.adj_marking.specs.View.{marks_of}
+use Rattle.adj_helpers.specs.Steps.{schedules_for}
 use Rattle.adj_emission.specs.declared.plan.Plan.{Plan}
 
 -- the variables under the names of the unit
@@ -20,3 +21,7 @@ named_among xs v = false
 -- the plan, where this is known of the units that are called
 abbrev pub plan_of : Plan → (List ℕ → sweeps.Callee) → sweeps.Plan
 plan_of p callees = record { marks = marks_of p.marks.now; arrays = named_among p.arrays.now; callees = callees }
+
+-- the schedules that the sweeps follow, where the units read these variables
+abbrev pub schedules_of : Plan → (List ℕ → Vars) → sweeps.Schedules
+schedules_of p reads = schedules_for p.loops reads

@@ -6,8 +6,8 @@ use Rattle.adj_tree.specs.View.{code_of}
 use Rattle.adj_meaning.specs.Append.{◌+++◌}
 use Rattle.adj_meaning.specs.Rename.{rename}
 use Rattle.adj_transpose.specs.Marks.{next, behind}
-use Rattle.adj_reverse.specs.Plan.{Plan}
-use Rattle.adj_reverse.specs.Emission.{forward_act, forward, backward_act, backward}
+use Rattle.adj_reverse.specs.Plan.{Plan, Schedules}
+use Rattle.adj_reverse.specs.Emission.{forward_act_with, forward_with, backward_act_with, backward_with}
 use Rattle.adj_emission.specs.declared.sweeps.Sweeps.{Sweeps}
 
 -- a list from its last statement to its first, turned round
@@ -15,13 +15,13 @@ abbrev pub in_order : Code → Code
 in_order c = code_turned c stop
 
 -- the sweeps of a statement were added to those of the statements before it
-pub record SweepsAct (r : Var → Var) (p : Plan) (d line : ℕ) (a : Act) (old new : Sweeps) : Type 0 where
+pub record SweepsAct (sc : Schedules) (r : Var → Var) (p : Plan) (d line : ℕ) (a : Act) (old new : Sweeps) : Type 0 where
   pub number : new.number ≡ next old.number a
-  pub forth : in_order (code_of new.forward) ≡ in_order (code_of old.forward) +++ rename r (forward_act p old.number d line a)
-  pub back : code_of new.backward ≡ rename r (backward_act p old.number d line a) +++ code_of old.backward
+  pub forth : in_order (code_of new.forward) ≡ in_order (code_of old.forward) +++ rename r (forward_act_with sc p old.number d line a)
+  pub back : code_of new.backward ≡ rename r (backward_act_with sc p old.number d line a) +++ code_of old.backward
 
 -- the sweeps of a list whose first statement has the number i, where something comes behind the backward sweep
-pub record SweepsList (r : Var → Var) (p : Plan) (d i : ℕ) (c rest : Code) (s : Sweeps) : Type 0 where
+pub record SweepsList (sc : Schedules) (r : Var → Var) (p : Plan) (d i : ℕ) (c rest : Code) (s : Sweeps) : Type 0 where
   pub number : s.number ≡ behind i c
-  pub forth : in_order (code_of s.forward) ≡ rename r (forward p i d c)
-  pub back : code_of s.backward ≡ rename r (backward p i d c) +++ rest
+  pub forth : in_order (code_of s.forward) ≡ rename r (forward_with sc p i d c)
+  pub back : code_of s.backward ≡ rename r (backward_with sc p i d c) +++ rest

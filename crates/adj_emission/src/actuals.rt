@@ -34,6 +34,8 @@ pub enum Group {
     Save,
     /// Those that the call writes and the unit's adjoint needs at its entry.
     Snapshot,
+    /// Those that the call writes and the unit reads or its adjoint needs at its entry.
+    Step,
 }
 
 // Adds an actual that is a name.
@@ -46,8 +48,8 @@ fn push_name(alloc: Global, e: &Expr, made: &mut Vec<Name>) -> Result<(), Memory
     Ok(())
 }
 
-// The names among some actuals.
-fn names_of(alloc: Global, actuals: &Exprs) -> Result<Vec<Name>, Memory>
+/// The names among some actuals.
+pub fn names_of(alloc: Global, actuals: &Exprs) -> Result<Vec<Name>, Memory>
     ensures names { IfOk result (λ v. v.items ≡ names_of (terms_of actuals.now)) }
 {
     let mut made = Vec::new(alloc);
@@ -81,8 +83,8 @@ fn push_pair(
     }
 }
 
-// Dummies and the names that are given for them.
-fn paired(alloc: Global, dummies: &[Dummy], given: &[Name]) -> Result<Vec<Actual>, Memory>
+/// Dummies and the names that are given for them.
+pub fn paired(alloc: Global, dummies: &[Dummy], given: &[Name]) -> Result<Vec<Actual>, Memory>
     ensures paired { IfOk result (λ v. v.items ≡ paired dummies.now given.now) }
 {
     let mut made = Vec::new(alloc);
@@ -109,6 +111,7 @@ impl<'a> Plan<'a> {
         match group {
             Group::Save => actual.dummy.written && self.marks.saved(number, &actual.name),
             Group::Snapshot => actual.dummy.written && actual.dummy.member,
+            Group::Step => actual.dummy.written && (actual.dummy.member || actual.dummy.read),
         }
     }
 

@@ -8,7 +8,7 @@ ghost use Rattle.adj_meaning.specs.Rename.{rename};
 ghost use Rattle.adj_transpose.specs.Marks.{active_at};
 ghost use Rattle.adj_transpose.specs.Marked.{code_if};
 ghost use Rattle.adj_reverse.specs.AdjointOf.{adjoint_where};
-ghost use Rattle.adj_reverse.specs.Plan.{Callee};
+ghost use Rattle.adj_reverse.specs.Plan.{Callee, Schedules};
 ghost use Rattle.adj_marking.specs.View.{marks_of};
 ghost use Rattle.adj_emission.specs.Plans.{naming_in, plan_of};
 ghost use Rattle.adj_emission.specs.Swept.{in_order, SweepsAct};
@@ -132,7 +132,7 @@ impl<'a> Plan<'a> {
         e: &Expr,
         sweeps: Sweeps,
     ) -> Result<Sweeps, Memory>
-        ensures sweeps { IfOk result (λ s. (callees : List ℕ → Callee) (d : ℕ) → SweepsAct (naming_in self.now) (plan_of self.now callees) d line (assign (plain place.now.name) (terms_of place.now.subs) (term_of e.now)) sweeps s) }
+        ensures sweeps { IfOk result (λ s. (sc : Schedules) (callees : List ℕ → Callee) (d : ℕ) → SweepsAct sc (naming_in self.now) (plan_of self.now callees) d line (assign (plain place.now.name) (terms_of place.now.subs) (term_of e.now)) sweeps s) }
     {
         let Sweeps {
             forward,

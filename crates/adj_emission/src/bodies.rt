@@ -4,10 +4,11 @@ ghost use Rattle.std.specs.Prelude.{◌≡◌, ℕ, List, IfOk, ◌∷◌, []};
 ghost use Rattle.adj_tree.specs.View.{act_of, code_of};
 ghost use Rattle.adj_meaning.specs.Append.{◌+++◌, one};
 ghost use Rattle.adj_meaning.specs.Rename.{rename};
+ghost use Rattle.adj_transpose.specs.Marks.{Vars};
 ghost use Rattle.adj_reverse.specs.Plan.{Callee};
-ghost use Rattle.adj_reverse.specs.Emission.{cleared, adjoint_body};
+ghost use Rattle.adj_reverse.specs.Emission.{cleared, adjoint_body_with};
 ghost use Rattle.adj_helpers.specs.Callees.{KnowsAll};
-ghost use Rattle.adj_emission.specs.Plans.{naming_in, plan_of};
+ghost use Rattle.adj_emission.specs.Plans.{naming_in, plan_of, schedules_of};
 ghost use Rattle.adj_emission.specs.Swept.{in_order};
 
 use crate::plan::Plan;
@@ -60,7 +61,7 @@ impl<'a> Plan<'a> {
     /// The body of the adjoint of a unit: the forward sweep, the shadows that are cleared between the sweeps, the backward sweep,
     /// and the shadows that are cleared at the end.
     pub fn adjoint_body(&self, alloc: Global, body: &Body) -> Result<Stmts, Memory>
-        ensures body { IfOk result (λ c. (callees : List ℕ → Callee) → KnowsAll self.now.callees.now callees → code_of c ≡ rename (naming_in self.now) (adjoint_body (plan_of self.now callees) body.now.number body.now.line (code_of body.now.statements.now) body.now.at_turn.now body.now.at_end.now)) }
+        ensures body { IfOk result (λ c. (callees : List ℕ → Callee) (reads : List ℕ → Vars) → KnowsAll self.now.callees.now callees reads → code_of c ≡ rename (naming_in self.now) (adjoint_body_with (schedules_of self.now reads) (plan_of self.now callees) body.now.number body.now.line (code_of body.now.statements.now) body.now.at_turn.now body.now.at_end.now)) }
     {
         let ended = self.clear_all(alloc, body.line, body.at_end, Stmts::Empty)?;
         let last = ended.turned();

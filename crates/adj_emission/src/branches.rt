@@ -5,7 +5,7 @@ ghost use Rattle.adj_tree.specs.Code.{Code, plain, var, lit, compare, is_same, c
 ghost use Rattle.adj_tree.specs.View.{test_of, code_of};
 ghost use Rattle.adj_meaning.specs.Append.{◌+++◌, one};
 ghost use Rattle.adj_meaning.specs.Rename.{rename};
-ghost use Rattle.adj_reverse.specs.Plan.{Callee};
+ghost use Rattle.adj_reverse.specs.Plan.{Callee, Schedules};
 ghost use Rattle.adj_reverse.specs.Emission.{is_empty, told_forward, told_backward};
 ghost use Rattle.adj_emission.specs.Plans.{naming_in, plan_of};
 ghost use Rattle.adj_emission.specs.Swept.{in_order, SweepsAct, SweepsList};
@@ -100,7 +100,7 @@ impl<'a> Plan<'a> {
         second: Sweeps,
         sweeps: Sweeps,
     ) -> Result<Sweeps, Memory>
-        ensures sweeps { IfOk result (λ s. (callees : List ℕ → Callee) (d : ℕ) (a b : Code) → SweepsList (naming_in self.now) (plan_of self.now callees) d (suc sweeps.number) a stop first → SweepsList (naming_in self.now) (plan_of self.now callees) d first.number b stop second → SweepsAct (naming_in self.now) (plan_of self.now callees) d line (choose (test_of c.now) a b) sweeps s) }
+        ensures sweeps { IfOk result (λ s. (sc : Schedules) (callees : List ℕ → Callee) (d : ℕ) (a b : Code) → SweepsList sc (naming_in self.now) (plan_of self.now callees) d (suc sweeps.number) a stop first → SweepsList sc (naming_in self.now) (plan_of self.now callees) d first.number b stop second → SweepsAct sc (naming_in self.now) (plan_of self.now callees) d line (choose (test_of c.now) a b) sweeps s) }
     {
         let idle = are_idle(&first, &second);
         let number = second.number;

@@ -5,8 +5,9 @@ ghost use Rattle.adj_tree.specs.Code.{call};
 ghost use Rattle.adj_tree.specs.View.{terms_of, code_of};
 ghost use Rattle.adj_meaning.specs.Append.{◌+++◌, one};
 ghost use Rattle.adj_meaning.specs.Rename.{rename};
+ghost use Rattle.adj_transpose.specs.Marks.{Vars};
 ghost use Rattle.adj_transpose.specs.Marked.{code_if};
-ghost use Rattle.adj_reverse.specs.Plan.{Callee};
+ghost use Rattle.adj_reverse.specs.Plan.{Callee, Schedules};
 ghost use Rattle.adj_reverse.specs.Emission.{pushes, pops};
 ghost use Rattle.adj_marking.specs.View.{marks_of};
 ghost use Rattle.adj_emission.specs.Actuals.{is_in, chosen, all_with_shadows};
@@ -92,7 +93,7 @@ impl<'a> Plan<'a> {
         actuals: &Exprs,
         sweeps: Sweeps,
     ) -> Result<Sweeps, Memory>
-        ensures sweeps { IfOk result (λ s. (callees : List ℕ → Callee) (d : ℕ) → KnowsAll self.now.callees.now callees → SweepsAct (naming_in self.now) (plan_of self.now callees) d line (call name.now (terms_of actuals.now)) sweeps s) }
+        ensures sweeps { IfOk result (λ s. (sc : Schedules) (callees : List ℕ → Callee) (reads : List ℕ → Vars) (d : ℕ) → KnowsAll self.now.callees.now callees reads → SweepsAct sc (naming_in self.now) (plan_of self.now callees) d line (call name.now (terms_of actuals.now)) sweeps s) }
     {
         let Sweeps {
             forward,

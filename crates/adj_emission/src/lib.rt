@@ -14,4 +14,6 @@ pub mod calls;
 pub mod loops;
 pub mod plan;
 pub mod repeats;
+pub mod reversal;
+pub mod reversed;
 pub mod sweeps;

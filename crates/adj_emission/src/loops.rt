@@ -8,6 +8,7 @@ ghost use Rattle.adj_meaning.specs.Append.{◌+++◌, one};
 ghost use Rattle.adj_meaning.specs.Rename.{rename};
 ghost use Rattle.adj_reverse.specs.Emission.{loop_forward, loop_backward, resets, reset};
 ghost use Rattle.adj_marking.specs.View.{marks_of};
+ghost use Rattle.adj_naming.specs.Roles.{role_of};
 ghost use Rattle.adj_emission.specs.Plans.{naming_in};
 ghost use Rattle.adj_emission.specs.Rows.{turns};
 ghost use Rattle.adj_emission.specs.Swept.{in_order};
@@ -59,8 +60,8 @@ fn plain_turns(
 }
 
 impl<'a> Plan<'a> {
-    // The first value, the step and the number of turns are set, behind what is turned round.
-    fn open_turns(
+    /// The first value, the step and the number of turns are set, behind what is turned round.
+    pub fn open_turns(
         &self,
         alloc: Global,
         at: At,
@@ -88,8 +89,8 @@ impl<'a> Plan<'a> {
         Ok(code.turned())
     }
 
-    // The DO over what was set.
-    fn counted_turns(
+    /// The DO over what was set.
+    pub fn counted_turns(
         &self,
         alloc: Global,
         at: At,
@@ -110,8 +111,8 @@ impl<'a> Plan<'a> {
         })
     }
 
-    // What was set is pushed, behind what is turned round.
-    fn close_turns(&self, alloc: Global, at: At, turned: Stmts) -> Result<Stmts, Memory>
+    /// What was set is pushed, behind what is turned round.
+    pub fn close_turns(&self, alloc: Global, at: At, turned: Stmts) -> Result<Stmts, Memory>
         ensures closed { IfOk result (λ c. code_of c ≡ step at.line (runtime (push_word (naming_in self.now (helper count at.depth)) none)) (step at.line (runtime (push_word (naming_in self.now (helper stride at.depth)) none)) (step at.line (runtime (push_word (naming_in self.now (helper first at.depth)) none)) (code_of turned)))) }
     {
         let first = of_depth(Role::First, at.depth);
@@ -177,12 +178,12 @@ impl<'a> Plan<'a> {
         })
     }
 
-    // The value that the variable of a DO has in a turn.
-    fn value_at_turn(&self, alloc: Global, at: At) -> Result<Expr, Memory>
-        ensures value { IfOk result (λ e. term_of e ≡ bin plus (var (naming_in self.now (helper first at.depth))) (bin times (var (naming_in self.now (helper turn at.depth))) (var (naming_in self.now (helper stride at.depth))))) }
+    /// The value that the variable of a DO has in the turn whose number the helper of a role holds.
+    pub fn value_at(&self, alloc: Global, at: At, role: Role) -> Result<Expr, Memory>
+        ensures value { IfOk result (λ e. term_of e ≡ bin plus (var (naming_in self.now (helper first at.depth))) (bin times (var (naming_in self.now (helper (role_of role) at.depth))) (var (naming_in self.now (helper stride at.depth))))) }
     {
         let first = self.own(alloc, of_depth(Role::First, at.depth))?;
-        let turn = self.own(alloc, of_depth(Role::Turn, at.depth))?;
+        let turn = self.own(alloc, of_depth(role, at.depth))?;
         let stride = self.own(alloc, of_depth(Role::Stride, at.depth))?;
         let left = Box::new(alloc, turn)?;
         let steps = Expr::Bin(Op::Mul, left, Box::new(alloc, stride)?);
@@ -205,7 +206,7 @@ impl<'a> Plan<'a> {
         if idle {
             return Ok(rest);
         }
-        let value = self.value_at_turn(alloc, at)?;
+        let value = self.value_at(alloc, at, Role::Turn)?;
         let set = scalar_assignment(at.line, variable.copy(alloc)?, value);
         let turned = before(alloc, set, body)?;
         let turns = self.turns_back(alloc, at, turned)?;

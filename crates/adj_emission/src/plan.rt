@@ -7,6 +7,7 @@ ghost use Rattle.adj_naming.specs.Roles.{variable_of};
 ghost use Rattle.adj_emission.specs.Plans.{naming_in};
 
 use adj_helpers::callees::Callees;
+use adj_helpers::steps::MarkedLoops;
 use adj_marking::Marking;
 use adj_naming::name_set::NameSet;
 use adj_naming::names::Names;
@@ -15,11 +16,13 @@ use adj_site::step::{before, pop, push, scalar_assignment};
 use adj_tree::{Expr, Exprs, Memory, Place, Stmts};
 use std::alloc::Global;
 
-/// The names of a unit and its marks, which of its variables are arrays, and what is known of the units that it calls.
+/// The names of a unit and its marks, how its marked loops are gone through, which of its variables are arrays, and what is known of the
+/// units that it calls.
 #[derive(Clone, Copy)]
 pub struct Plan<'a> {
     pub names: &'a Names,
     pub marks: &'a Marking<'a>,
+    pub loops: MarkedLoops,
     pub arrays: &'a NameSet,
     pub callees: &'a Callees,
 }

@@ -1,12 +1,12 @@
 //! Both sweeps of a DO and of a DO WHILE, from those of their bodies (docs/EMITTED.md, "Sweeps of every statement").
 
-ghost use Rattle.std.specs.Prelude.{◌≡◌, ℕ, List, IfOk, suc};
+ghost use Rattle.std.specs.Prelude.{◌≡◌, ℕ, List, None, IfOk, suc};
 ghost use Rattle.adj_tree.specs.Code.{Code, Mark, plain, none, during, runtime, push_word, pop_word, stop};
 ghost use Rattle.adj_tree.specs.View.{term_of, test_of, code_of};
 ghost use Rattle.adj_meaning.specs.Append.{◌+++◌, one};
 ghost use Rattle.adj_meaning.specs.Rename.{rename};
 ghost use Rattle.adj_transpose.specs.Marked.{code_if};
-ghost use Rattle.adj_reverse.specs.Plan.{Callee};
+ghost use Rattle.adj_reverse.specs.Plan.{Callee, Schedules, reversed_by};
 ghost use Rattle.adj_reverse.specs.Emission.{loop_forward, loop_backward, while_forward, while_backward, reset};
 ghost use Rattle.adj_marking.specs.View.{marks_of};
 ghost use Rattle.adj_emission.specs.Plans.{naming_in, plan_of};
@@ -80,7 +80,7 @@ impl<'a> Plan<'a> {
         Ok(code)
     }
 
-    /// Both sweeps of a DO of this depth, from those of its body.
+    /// Both sweeps of a DO of this depth that isn't reversed by a schedule, from those of its body.
     pub fn do_loop(
         &self,
         alloc: Global,
@@ -90,7 +90,7 @@ impl<'a> Plan<'a> {
         inner: Sweeps,
         sweeps: Sweeps,
     ) -> Result<Sweeps, Memory>
-        ensures sweeps { IfOk result (λ s. (callees : List ℕ → Callee) (d : ℕ) (body : Code) (m : Mark) → depth ≡ suc d → SweepsList (naming_in self.now) (plan_of self.now callees) (suc d) (suc sweeps.number) body stop inner → SweepsAct (naming_in self.now) (plan_of self.now callees) d line (text_turns (plain bounds.now.variable.now) (term_of bounds.now.first.now) (term_of bounds.now.limit.now) (term_of bounds.now.step.now) body m) sweeps s) }
+        ensures sweeps { IfOk result (λ s. (sc : Schedules) (callees : List ℕ → Callee) (d : ℕ) (body : Code) (m : Mark) → reversed_by sc (marks_of self.now.marks.now).adjointed sweeps.number body m ≡ None → depth ≡ suc d → SweepsList sc (naming_in self.now) (plan_of self.now callees) (suc d) (suc sweeps.number) body stop inner → SweepsAct sc (naming_in self.now) (plan_of self.now callees) d line (text_turns (plain bounds.now.variable.now) (term_of bounds.now.first.now) (term_of bounds.now.limit.now) (term_of bounds.now.step.now) body m) sweeps s) }
     {
         let idle = inner.is_idle();
         let number = inner.number;
@@ -177,7 +177,7 @@ impl<'a> Plan<'a> {
         inner: Sweeps,
         sweeps: Sweeps,
     ) -> Result<Sweeps, Memory>
-        ensures sweeps { IfOk result (λ s. (callees : List ℕ → Callee) (d : ℕ) (body : Code) → depth ≡ suc d → SweepsList (naming_in self.now) (plan_of self.now callees) (suc d) (suc sweeps.number) body stop inner → SweepsAct (naming_in self.now) (plan_of self.now callees) d line (during (test_of c.now) body) sweeps s) }
+        ensures sweeps { IfOk result (λ s. (sc : Schedules) (callees : List ℕ → Callee) (d : ℕ) (body : Code) → depth ≡ suc d → SweepsList sc (naming_in self.now) (plan_of self.now callees) (suc d) (suc sweeps.number) body stop inner → SweepsAct sc (naming_in self.now) (plan_of self.now callees) d line (during (test_of c.now) body) sweeps s) }
     {
         let idle = inner.is_idle();
         let number = inner.number;

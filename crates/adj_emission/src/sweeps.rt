@@ -2,14 +2,16 @@
 
 ghost use Rattle.std.specs.Prelude.{◌≡◌, ℕ, List, IfOk, suc};
 ghost use Rattle.adj_tree.specs.View.{act_of, code_of};
+ghost use Rattle.adj_transpose.specs.Marks.{Vars};
 ghost use Rattle.adj_reverse.specs.Plan.{Callee};
 ghost use Rattle.adj_reverse.specs.Emission.{is_empty};
 ghost use Rattle.adj_helpers.specs.Callees.{KnowsAll};
-ghost use Rattle.adj_emission.specs.Plans.{naming_in, plan_of};
+ghost use Rattle.adj_emission.specs.Plans.{naming_in, plan_of, schedules_of};
 ghost use Rattle.adj_emission.specs.Swept.{SweepsAct, SweepsList};
 
 use crate::loops::Bounds;
 use crate::plan::Plan;
+use adj_helpers::steps::step_call;
 use adj_site::sizes::plus;
 use adj_tree::{Act, Memory, Stmt, Stmts};
 use std::alloc::Global;
@@ -28,6 +30,25 @@ impl Sweeps {
         ensures idle { result ≡ is_empty (code_of self.now.backward) }
     {
         matches!(self.backward, Stmts::Empty)
+    }
+
+    // The same, behind a statement that no sweep has.
+    fn passed(self) -> Result<Sweeps, Memory>
+        ensures number { IfOk result (λ s. s.number ≡ suc self.number) }
+        ensures forward { IfOk result (λ s. code_of s.forward ≡ code_of self.forward) }
+        ensures backward { IfOk result (λ s. code_of s.backward ≡ code_of self.backward) }
+    {
+        let Sweeps {
+            forward,
+            backward,
+            number,
+        } = self;
+        let number = next(number)?;
+        Ok(Sweeps {
+            forward,
+            backward,
+            number,
+        })
     }
 }
 
@@ -48,56 +69,56 @@ impl<'a> Plan<'a> {
         stmt: &Stmt,
         sweeps: Sweeps,
     ) -> Result<Sweeps, Memory>
-        ensures sweeps { IfOk result (λ s. (callees : List ℕ → Callee) → KnowsAll self.now.callees.now callees → SweepsAct (naming_in self.now) (plan_of self.now callees) depth stmt.now.line (act_of stmt.now.act) sweeps s) }
+        ensures sweeps { IfOk result (λ s. (callees : List ℕ → Callee) (reads : List ℕ → Vars) → KnowsAll self.now.callees.now callees reads → SweepsAct (schedules_of self.now reads) (naming_in self.now) (plan_of self.now callees) depth stmt.now.line (act_of stmt.now.act) sweeps s) }
     {
+        let line = stmt.line;
         match &stmt.act {
             Act::Assign(place, e) => {
-                let made = self.assignment(alloc, stmt.line, place, e, sweeps)?;
+                let made = self.assignment(alloc, line, place, e, sweeps)?;
                 Ok(made)
             }
             Act::If(c, a, b) => {
                 let number = next(sweeps.number)?;
                 let first = self.list(alloc, depth, a, number, Stmts::Empty)?;
                 let second = self.list(alloc, depth, b, first.number, Stmts::Empty)?;
-                let made = self.branch(alloc, stmt.line, c, first, second, sweeps)?;
+                let made = self.branch(alloc, line, c, first, second, sweeps)?;
                 Ok(made)
             }
-            Act::Loop(x, a, b, c, body, _) => {
+            Act::Loop(x, a, b, c, body, mark) => {
                 let number = next(sweeps.number)?;
                 let inside = next(depth)?;
-                let inner = self.list(alloc, inside, body, number, Stmts::Empty)?;
                 let bounds = Bounds {
                     variable: x,
                     first: a,
                     limit: b,
                     step: c,
                 };
-                let made = self.do_loop(alloc, inside, stmt.line, &bounds, inner, sweeps)?;
-                Ok(made)
+                match step_call(self.loops, self.marks, number, body, mark) {
+                    Some(call) => {
+                        let made = self.reversed_loop(alloc, inside, line, &bounds, &call, sweeps)?;
+                        Ok(made)
+                    }
+                    None => {
+                        let inner = self.list(alloc, inside, body, number, Stmts::Empty)?;
+                        let made = self.do_loop(alloc, inside, line, &bounds, inner, sweeps)?;
+                        Ok(made)
+                    }
+                }
             }
             Act::While(c, body) => {
                 let number = next(sweeps.number)?;
                 let inside = next(depth)?;
                 let inner = self.list(alloc, inside, body, number, Stmts::Empty)?;
-                let made = self.while_loop(alloc, inside, stmt.line, c, inner, sweeps)?;
+                let made = self.while_loop(alloc, inside, line, c, inner, sweeps)?;
                 Ok(made)
             }
             Act::Call(name, actuals) => {
-                let made = self.call(alloc, stmt.line, name, actuals, sweeps)?;
+                let made = self.call(alloc, line, name, actuals, sweeps)?;
                 Ok(made)
             }
             Act::Run(_) => {
-                let Sweeps {
-                    forward,
-                    backward,
-                    number,
-                } = sweeps;
-                let number = next(number)?;
-                Ok(Sweeps {
-                    forward,
-                    backward,
-                    number,
-                })
+                let made = sweeps.passed()?;
+                Ok(made)
             }
         }
     }
@@ -112,7 +133,7 @@ impl<'a> Plan<'a> {
         number: usize,
         rest: Stmts,
     ) -> Result<Sweeps, Memory>
-        ensures sweeps { IfOk result (λ s. (callees : List ℕ → Callee) → KnowsAll self.now.callees.now callees → SweepsList (naming_in self.now) (plan_of self.now callees) depth number (code_of body.now) (code_of rest) s) }
+        ensures sweeps { IfOk result (λ s. (callees : List ℕ → Callee) (reads : List ℕ → Vars) → KnowsAll self.now.callees.now callees reads → SweepsList (schedules_of self.now reads) (naming_in self.now) (plan_of self.now callees) depth number (code_of body.now) (code_of rest) s) }
     {
         let mut made = Sweeps {
             forward: Stmts::Empty,

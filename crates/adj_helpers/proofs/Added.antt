@@ -1,47 +1,84 @@
 -- The depths that statements add, from what those in them add.
-use Rattle.std.proofs.Common.{◌≡◌, ℕ, suc, Bool, false, not, sym, ap, ◌∙◌, subst}
-use Rattle.std.specs.Prelude.{◌&&◌, ◌||◌, ◌==◌}
-use Rattle.adj_tree.specs.Code.{Var, Term, Test, Mark, Act, choose, loop, during, Code}
+use Rattle.std.proofs.Common.{◌≡◌, ℕ, suc, List, Bool, true, false, not, refl, sym, ap, ◌∙◌, subst}
+use Rattle.std.specs.Prelude.{◌&&◌, ◌||◌, ◌==◌, Some, None}
+use Rattle.adj_tree.specs.Code.{Test, Mark, Act, choose, during, Code}
 use Rattle.adj_transpose.specs.Marks.{behind}
-use Rattle.adj_reverse.specs.Plan.{Plan}
-use Rattle.adj_reverse.specs.Emission.{is_empty, backward}
-use Rattle.adj_reverse.specs.Program.{is_do, is_loop, goes_back_act, goes_back}
+use Rattle.adj_reverse.specs.Plan.{Plan, Schedules, Step, reversed_by, found_or}
+use Rattle.adj_reverse.specs.Emission.{is_empty, backward_with}
+use Rattle.adj_reverse.specs.Program.{is_do, is_loop, goes_back_act_with, goes_back_with, reverses_act, reverses}
 use Rattle.adj_helpers.specs.declared.depths.Depths.{Depths}
-use Rattle.adj_helpers.specs.Depths.{has_depth, IsAdded, IsSame, AddsAct, AddsList}
+use Rattle.adj_helpers.specs.Depths.{has_depth, IsAdded, IsSame, AddsAct, AddsList, AddsLoop}
 use Rattle.adj_helpers.proofs.Flags.{or_false, or_assoc, or_turned}
+use Rattle.adj_helpers.proofs.StepCalls.{none_back, none_reversed}
 
 -- a statement without loops
-pub adds_none : (p : Plan) (d i : ℕ) (a : Act) (depths : Depths) → ((k : ℕ) → goes_back_act is_do k p i d a ≡ false) → ((k : ℕ) → goes_back_act is_loop k p i d a ≡ false) → AddsAct p d i a depths depths
-adds_none p d i a depths hd hl = record {
+pub adds_none : (r : Schedules) (p : Plan) (d i : ℕ) (a : Act) (depths : Depths) → ((k : ℕ) → goes_back_act_with r is_do k p i d a ≡ false) → ((k : ℕ) → goes_back_act_with r is_loop k p i d a ≡ false) → ((k : ℕ) → reverses_act r k p i d a ≡ false) → AddsAct r p d i a depths depths
+adds_none r p d i a depths hd hl hr = record {
   dos = λ k. sym (or_false (has_depth depths.dos.items k)) ∙ ap (λ z. has_depth depths.dos.items k || z) (sym (hd k));
   loops = λ k. sym (or_false (has_depth depths.loops.items k)) ∙ ap (λ z. has_depth depths.loops.items k || z) (sym (hl k));
+  reversed = λ k. sym (or_false (has_depth depths.reversed.items k)) ∙ ap (λ z. has_depth depths.reversed.items k || z) (sym (hr k));
 }
 
 -- an IF
-pub adds_if : (p : Plan) (d i n : ℕ) (c : Test) (a b : Code) (old mid new : Depths) → n ≡ behind (suc i) a → AddsList p d (suc i) a old mid → AddsList p d n b mid new → AddsAct p d i (choose c a b) old new
-adds_if p d i n c a b old mid new e ha hb0 =
-    let hb = subst (λ k. AddsList p d k b mid new) e hb0 in
+pub adds_if : (r : Schedules) (p : Plan) (d i n : ℕ) (c : Test) (a b : Code) (old mid new : Depths) → n ≡ behind (suc i) a → AddsList r p d (suc i) a old mid → AddsList r p d n b mid new → AddsAct r p d i (choose c a b) old new
+adds_if r p d i n c a b old mid new e ha hb0 =
+    let hb = subst (λ k. AddsList r p d k b mid new) e hb0 in
     record {
-      dos = λ k. hb.dos k ∙ ap (λ z. z || goes_back is_do k p (behind (suc i) a) d b) (ha.dos k) ∙ or_assoc (has_depth old.dos.items k) _ _;
-      loops = λ k. hb.loops k ∙ ap (λ z. z || goes_back is_loop k p (behind (suc i) a) d b) (ha.loops k) ∙ or_assoc (has_depth old.loops.items k) _ _;
+      dos = λ k. hb.dos k ∙ ap (λ z. z || goes_back_with r is_do k p (behind (suc i) a) d b) (ha.dos k) ∙ or_assoc (has_depth old.dos.items k) _ _;
+      loops = λ k. hb.loops k ∙ ap (λ z. z || goes_back_with r is_loop k p (behind (suc i) a) d b) (ha.loops k) ∙ or_assoc (has_depth old.loops.items k) _ _;
+      reversed = λ k. hb.reversed k ∙ ap (λ z. z || reverses r k p (behind (suc i) a) d b) (ha.reversed k) ∙ or_assoc (has_depth old.reversed.items k) _ _;
     }
 
--- a DO
-pub adds_do : (p : Plan) (d i depth : ℕ) (idle : Bool) (x : Var) (a b c : Term) (body : Code) (m : Mark) (old mid new : Depths) → depth ≡ suc d → idle ≡ is_empty (backward p (suc i) (suc d) body) → AddsList p (suc d) (suc i) body old mid → IsAdded depth idle mid.dos.items new.dos.items → IsAdded depth idle mid.loops.items new.loops.items → AddsAct p d i (loop x a b c body m) old new
-adds_do p d i depth idle x a b c body m old mid new e f h hd hl = record {
-  dos = λ k.
-      hd k ∙ (λ z. h.dos k z || ((k == e z) && not (f z)))
-      ∙ or_turned (has_depth old.dos.items k) (goes_back is_do k p (suc i) (suc d) body) ((k == suc d) && not (is_empty (backward p (suc i) (suc d) body)));
-  loops = λ k.
-      hl k ∙ (λ z. h.loops k z || ((k == e z) && not (f z)))
-      ∙ or_turned (has_depth old.loops.items k) (goes_back is_loop k p (suc i) (suc d) body) ((k == suc d) && not (is_empty (backward p (suc i) (suc d) body)));
-}
+-- a DO that isn't reversed by a schedule
+pub adds_do : (r : Schedules) (p : Plan) (depth i : ℕ) (x : List ℕ) (body : Code) (m : Mark) (idle : Bool) (mid new : Depths) → reversed_by r p.marks.adjointed i body m ≡ None → IsAdded depth idle mid.dos.items new.dos.items → IsAdded depth idle mid.loops.items new.loops.items → IsSame mid.reversed.items new.reversed.items → AddsLoop r p depth i x body m idle mid new
+adds_do r p depth i x body m idle mid new others hd hl hr d a b c old e f h =
+    let empty = is_empty (backward_with r p (suc i) (suc d) body) in
+    record {
+      dos = λ k.
+          hd k ∙ (λ z. h.dos k z || ((k == e z) && not (f z)))
+          ∙ or_turned (has_depth old.dos.items k) (goes_back_with r is_do k p (suc i) (suc d) body) ((k == suc d) && not empty)
+          ∙ ap (λ z. has_depth old.dos.items k || found_or z (((k == suc d) && not empty) || goes_back_with r is_do k p (suc i) (suc d) body) (λ s. k == suc d)) (sym others);
+      loops = λ k.
+          hl k ∙ (λ z. h.loops k z || ((k == e z) && not (f z)))
+          ∙ or_turned (has_depth old.loops.items k) (goes_back_with r is_loop k p (suc i) (suc d) body) ((k == suc d) && not empty)
+          ∙ ap (λ z. has_depth old.loops.items k || found_or z (((k == suc d) && not empty) || goes_back_with r is_loop k p (suc i) (suc d) body) (λ s. k == suc d)) (sym others);
+      reversed = λ k.
+          hr k ∙ h.reversed k
+          ∙ ap (λ z. has_depth old.reversed.items k || found_or z (reverses r k p (suc i) (suc d) body) (λ s. k == suc d)) (sym others);
+    }
+
+-- a depth that is added to those in an empty set and to others
+added_alone : (was back own : Bool) → back ≡ false → ((was || back) || (own && true)) ≡ (was || own)
+added_alone was true own e = absurd (let f : true ≡ false = e in cc)
+added_alone true false own e = refl
+added_alone false false true e = refl
+added_alone false false false e = refl
+
+-- a DO that is
+pub adds_reversed : (r : Schedules) (p : Plan) (depth i : ℕ) (x : List ℕ) (body : Code) (m : Mark) (s : Step) (idle : Bool) (mid new : Depths) → reversed_by r p.marks.adjointed i body m ≡ Some s → IsAdded depth false mid.dos.items new.dos.items → IsAdded depth false mid.loops.items new.loops.items → IsAdded depth false mid.reversed.items new.reversed.items → AddsLoop r p depth i x body m idle mid new
+adds_reversed r p depth i x body m s idle mid new is hd hl hr d a b c old e f h =
+    let empty = is_empty (backward_with r p (suc i) (suc d) body) in
+    record {
+      dos = λ k.
+          hd k ∙ (λ z. h.dos k z || ((k == e z) && true))
+          ∙ added_alone (has_depth old.dos.items k) (goes_back_with r is_do k p (suc i) (suc d) body) (k == suc d) (none_back r p.marks.adjointed i body m s is is_do k p (suc i) (suc d))
+          ∙ ap (λ z. has_depth old.dos.items k || found_or z (((k == suc d) && not empty) || goes_back_with r is_do k p (suc i) (suc d) body) (λ t. k == suc d)) (sym is);
+      loops = λ k.
+          hl k ∙ (λ z. h.loops k z || ((k == e z) && true))
+          ∙ added_alone (has_depth old.loops.items k) (goes_back_with r is_loop k p (suc i) (suc d) body) (k == suc d) (none_back r p.marks.adjointed i body m s is is_loop k p (suc i) (suc d))
+          ∙ ap (λ z. has_depth old.loops.items k || found_or z (((k == suc d) && not empty) || goes_back_with r is_loop k p (suc i) (suc d) body) (λ t. k == suc d)) (sym is);
+      reversed = λ k.
+          hr k ∙ (λ z. h.reversed k z || ((k == e z) && true))
+          ∙ added_alone (has_depth old.reversed.items k) (reverses r k p (suc i) (suc d) body) (k == suc d) (none_reversed r p.marks.adjointed i body m s is k p (suc i) (suc d))
+          ∙ ap (λ z. has_depth old.reversed.items k || found_or z (reverses r k p (suc i) (suc d) body) (λ t. k == suc d)) (sym is);
+    }
 
 -- a DO WHILE
-pub adds_while : (p : Plan) (d i depth : ℕ) (idle : Bool) (c : Test) (body : Code) (old mid new : Depths) → depth ≡ suc d → idle ≡ is_empty (backward p (suc i) (suc d) body) → AddsList p (suc d) (suc i) body old mid → IsSame mid.dos.items new.dos.items → IsAdded depth idle mid.loops.items new.loops.items → AddsAct p d i (during c body) old new
-adds_while p d i depth idle c body old mid new e f h hd hl = record {
+pub adds_while : (r : Schedules) (p : Plan) (d i depth : ℕ) (idle : Bool) (c : Test) (body : Code) (old mid new : Depths) → depth ≡ suc d → idle ≡ is_empty (backward_with r p (suc i) (suc d) body) → AddsList r p (suc d) (suc i) body old mid → IsSame mid.dos.items new.dos.items → IsAdded depth idle mid.loops.items new.loops.items → IsSame mid.reversed.items new.reversed.items → AddsAct r p d i (during c body) old new
+adds_while r p d i depth idle c body old mid new e f h hd hl hr = record {
   dos = λ k. hd k ∙ h.dos k;
   loops = λ k.
       hl k ∙ (λ z. h.loops k z || ((k == e z) && not (f z)))
-      ∙ or_turned (has_depth old.loops.items k) (goes_back is_loop k p (suc i) (suc d) body) ((k == suc d) && not (is_empty (backward p (suc i) (suc d) body)));
+      ∙ or_turned (has_depth old.loops.items k) (goes_back_with r is_loop k p (suc i) (suc d) body) ((k == suc d) && not (is_empty (backward_with r p (suc i) (suc d) body)));
+  reversed = λ k. hr k ∙ h.reversed k;
 }

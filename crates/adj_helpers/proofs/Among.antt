@@ -1,14 +1,15 @@
 -- Helpers with the numbers of a set.
-use Rattle.std.proofs.Common.{◌≡◌, ℕ, zero, suc, ◌+◌, Bool, true, false, List, [], ◌∷◌, ◌++◌, sym, ap, ◌∙◌, arith}
-use Rattle.std.specs.Prelude.{◌||◌, if◌then◌else◌}
-use Rattle.adj_tree.specs.Code.{Role, Var, helper, work, temp, control, first, stride, count, turn, Code}
+use Rattle.std.proofs.Common.{◌≡◌, ℕ, zero, suc, ◌+◌, Bool, true, false, List, [], ◌∷◌, ◌++◌, refl, sym, ap, ◌∙◌, arith}
+use Rattle.std.specs.Prelude.{◌||◌, Some, None, if◌then◌else◌}
+use Rattle.adj_tree.specs.Code.{Role, Var, helper, work, temp, control, first, stride, count, turn, entry, entries, kind, lower, upper, Act, assign, choose, loop, during, call, runtime, Code, stop, step}
+use Rattle.adj_transpose.specs.Marks.{next, behind}
 use Rattle.adj_transpose.specs.Program.{helpers_from}
-use Rattle.adj_reverse.specs.Plan.{Plan}
-use Rattle.adj_reverse.specs.Program.{is_do, is_loop, goes_back, helpers_among, helpers_used}
+use Rattle.adj_reverse.specs.Plan.{Plan, Schedules}
+use Rattle.adj_reverse.specs.Program.{is_do, is_loop, goes_back_with, reverses_act, reverses, depth_used_with, helpers_among, all_reversal_helpers, helpers_used_with}
 use Rattle.adj_helpers.specs.declared.depths.Depths.{Depths}
 use Rattle.adj_helpers.specs.declared.uses.Used.{Used}
 use Rattle.adj_helpers.specs.Depths.{has_depth, AddsList}
-use Rattle.adj_helpers.specs.Uses.{UsesList, helpers_of}
+use Rattle.adj_helpers.specs.Uses.{UsesList, reversal_helpers_of, helpers_of}
 
 -- one number or none, and then others
 among_first : (f : ℕ → Bool) (r : Role) (k n : ℕ) (b : Bool) (others : List Var) → helpers_among f r (suc k) n ++ others ≡ helpers_among f r (suc k) (suc n) → (if b then helper r k ∷ helpers_among f r (suc k) n else helpers_among f r (suc k) n) ++ others ≡ (if b then helper r k ∷ helpers_among f r (suc k) (suc n) else helpers_among f r (suc k) (suc n))
@@ -31,13 +32,43 @@ among_next f r n =
     let e' : suc n ≡ n + 1 = omega arith in
     ap (λ m. helpers_among f r 1 n ++ helpers_among f r m 1) (sym e) ∙ among_more f r 1 n ∙ ap (helpers_among f r 1) e'
 
+-- no helpers where no number is in the set
+among_none : (r : Role) (k n : ℕ) → helpers_among (λ j. false) r k n ≡ []
+among_none r k zero = refl
+among_none r k (suc n) = among_none r (suc k) n
+
+-- no loop is reversed where there are no schedules
+mutual
+  reverses_none_act : (k : ℕ) (p : Plan) (i d : ℕ) (a : Act) → reverses_act None k p i d a ≡ false
+  reverses_none_act k p i d (assign x subs e) = refl
+  reverses_none_act k p i d (choose c a b) = (λ z. reverses_none k p (suc i) d a z || reverses_none k p (behind (suc i) a) d b z)
+  reverses_none_act k p i d (loop x a b c body n) = reverses_none k p (suc i) (suc d) body
+  reverses_none_act k p i d (during c body) = reverses_none k p (suc i) (suc d) body
+  reverses_none_act k p i d (call name args) = refl
+  reverses_none_act k p i d (runtime c) = refl
+
+  reverses_none : (k : ℕ) (p : Plan) (i d : ℕ) (c : Code) → reverses None k p i d c ≡ false
+  reverses_none k p i d stop = refl
+  reverses_none k p i d (step line a rest) = (λ z. reverses_none_act k p i d a z || reverses_none k p (next i a) d rest z)
+
+-- the helpers of loops that are reversed, from their depths
+reversal_known : (r : Schedules) (p : Plan) (i : ℕ) (c : Code) (n : ℕ) (flags : List Bool) → has_depth flags ≡ (λ k. reverses r k p i 0 c) → n ≡ depth_used_with r p i 0 c → reversal_helpers_of n flags ≡ all_reversal_helpers r p i c
+reversal_known (Some reads) p i c n flags e h =
+    λ z.
+    helpers_among (e z) entry 1 (h z) ++ (helpers_among (e z) entries 1 (h z) ++ (helpers_among (e z) kind 1 (h z) ++ (helpers_among (e z) lower 1 (h z) ++ helpers_among (e z) upper 1 (h z))))
+reversal_known None p i c n flags e h =
+    let f : has_depth flags ≡ (λ k. false) = e ∙ (λ z k. reverses_none k p i 0 c z) in
+    ap (λ g. helpers_among g entry 1 n ++ (helpers_among g entries 1 n ++ (helpers_among g kind 1 n ++ (helpers_among g lower 1 n ++ helpers_among g upper 1 n)))) f
+    ∙ (λ z. among_none entry 1 n z ++ (among_none entries 1 n z ++ (among_none kind 1 n z ++ (among_none lower 1 n z ++ among_none upper 1 n z))))
+
 -- the helpers of a body, from what it uses
-pub helpers_known : (p : Plan) (i : ℕ) (c : Code) (u : Used) (old new : Depths) → UsesList p 0 i c u → AddsList p 0 i c old new → old.dos.items ≡ [] → old.loops.items ≡ [] → helpers_of u new ≡ helpers_used p i c
-helpers_known p i c u old new h adds ed el =
-    let dos : has_depth new.dos.items ≡ (λ k. goes_back is_do k p i 0 c) = λ z k. (adds.dos k ∙ ap (λ xs. has_depth xs k || goes_back is_do k p i 0 c) ed) z in
-    let loops : has_depth new.loops.items ≡ (λ k. goes_back is_loop k p i 0 c) = λ z k. (adds.loops k ∙ ap (λ xs. has_depth xs k || goes_back is_loop k p i 0 c) el) z in
+pub helpers_known : (r : Schedules) (p : Plan) (i : ℕ) (c : Code) (u : Used) (old new : Depths) → UsesList r p 0 i c u → AddsList r p 0 i c old new → old.dos.items ≡ [] → old.loops.items ≡ [] → old.reversed.items ≡ [] → helpers_of u new ≡ helpers_used_with r p i c
+helpers_known r p i c u old new h adds ed el er =
+    let dos : has_depth new.dos.items ≡ (λ k. goes_back_with r is_do k p i 0 c) = λ z k. (adds.dos k ∙ ap (λ xs. has_depth xs k || goes_back_with r is_do k p i 0 c) ed) z in
+    let loops : has_depth new.loops.items ≡ (λ k. goes_back_with r is_loop k p i 0 c) = λ z k. (adds.loops k ∙ ap (λ xs. has_depth xs k || goes_back_with r is_loop k p i 0 c) el) z in
+    let reversed : has_depth new.reversed.items ≡ (λ k. reverses r k p i 0 c) = λ z k. (adds.reversed k ∙ ap (λ xs. has_depth xs k || reverses r k p i 0 c) er) z in
     λ z.
     (if h.tells z then helper control 0 ∷ [] else [])
     ++ (helpers_among (loops z) count 1 (h.depth z) ++ (helpers_among (dos z) first 1 (h.depth z)
     ++ (helpers_among (dos z) stride 1 (h.depth z) ++ (helpers_among (loops z) turn 1 (h.depth z)
-    ++ (helpers_from work 1 (h.works z) ++ helpers_from temp 1 (h.temps z))))))
+    ++ (reversal_known r p i c u.depth new.reversed.items reversed h.depth z ++ (helpers_from work 1 (h.works z) ++ helpers_from temp 1 (h.temps z)))))))

@@ -6,8 +6,8 @@ use Rattle.adj_meaning.specs.Append.{◌+++◌, one}
 use Rattle.adj_transpose.specs.Marks.{Vars}
 use Rattle.adj_transpose.specs.Marked.{code_if, place}
 use Rattle.adj_reverse.specs.AdjointOf.{is_active_where, temps_where, back_where, adjoint_where}
-use Rattle.adj_reverse.specs.Plan.{Callee, Plan, group}
-use Rattle.adj_reverse.specs.Emission.{is_empty, pop, pops, told_backward, backward_act, backward}
+use Rattle.adj_reverse.specs.Plan.{Callee, Plan, group, Schedules}
+use Rattle.adj_reverse.specs.Emission.{is_empty, pop, pops, told_backward, backward_act_with, backward_with}
 use Rattle.adj_helpers.specs.Callees.{seen}
 use Rattle.adj_helpers.specs.Uses.{saves_some}
 use Rattle.adj_helpers.proofs.Flags.{and_false}
@@ -18,8 +18,8 @@ empty_append stop d = refl
 empty_append (step line a c) d = refl
 
 -- a list, statement by statement
-pub empty_more : (p : Plan) (d i line : ℕ) (a : Act) (rest : Code) (j : ℕ) → is_empty (backward p j d rest +++ backward_act p i d line a) ≡ (is_empty (backward p j d rest) && is_empty (backward_act p i d line a))
-empty_more p d i line a rest j = empty_append (backward p j d rest) (backward_act p i d line a)
+pub empty_more : (r : Schedules) (p : Plan) (d i line : ℕ) (a : Act) (rest : Code) (j : ℕ) → is_empty (backward_with r p j d rest +++ backward_act_with r p i d line a) ≡ (is_empty (backward_with r p j d rest) && is_empty (backward_act_with r p i d line a))
+empty_more r p d i line a rest j = empty_append (backward_with r p j d rest) (backward_act_with r p i d line a)
 
 -- ---- calls
 
@@ -29,12 +29,12 @@ pops_first p line a others true some h = empty_append (pops p line others) (pop 
 pops_first p line a others false some h = h
 
 -- pops of saved actuals
-pub pops_there : (p : Plan) (line : ℕ) (g : Callee) (saved : Vars) (ds given : List (List ℕ)) → is_empty (pops p line (group g.written saved ds given)) ≡ not (saves_some (λ x. saved (plain x)) (map (seen g) ds) given)
-pops_there p line g saved [] [] = refl
-pops_there p line g saved [] (a ∷ given) = refl
-pops_there p line g saved (d ∷ ds) [] = refl
-pops_there p line g saved (d ∷ ds) (a ∷ given) =
-    pops_first p line a (group g.written saved ds given) (g.written (plain d) && saved (plain a)) (saves_some (λ x. saved (plain x)) (map (seen g) ds) given) (pops_there p line g saved ds given)
+pub pops_there : (p : Plan) (line : ℕ) (g : Callee) (read saved : Vars) (ds given : List (List ℕ)) → is_empty (pops p line (group g.written saved ds given)) ≡ not (saves_some (λ x. saved (plain x)) (map (seen g read) ds) given)
+pops_there p line g read saved [] [] = refl
+pops_there p line g read saved [] (a ∷ given) = refl
+pops_there p line g read saved (d ∷ ds) [] = refl
+pops_there p line g read saved (d ∷ ds) (a ∷ given) =
+    pops_first p line a (group g.written saved ds given) (g.written (plain d) && saved (plain a)) (saves_some (λ x. saved (plain x)) (map (seen g read) ds) given) (pops_there p line g read saved ds given)
 
 -- a call that is adjointed
 pub adjoint_called : (kept t : Bool) (x y : Code) (line : ℕ) (a : Act) → t ≡ true → is_empty (code_if (kept || t) (code_if t (x +++ one line a) +++ y)) ≡ false

@@ -1,8 +1,9 @@
 -- Sets of depths, and those at which loops go back.
-use Rattle.std.specs.Prelude.{◌≡◌, ℕ, List, Bool, false, ◌||◌, ◌&&◌, ◌==◌, not, get_or}
-use Rattle.adj_tree.specs.Code.{Act, Code}
-use Rattle.adj_reverse.specs.Plan.{Plan}
-use Rattle.adj_reverse.specs.Program.{is_do, is_loop, goes_back_act, goes_back}
+use Rattle.std.specs.Prelude.{◌≡◌, ℕ, suc, List, Bool, false, ◌||◌, ◌&&◌, ◌==◌, not, get_or}
+use Rattle.adj_tree.specs.Code.{plain, Term, Mark, Act, loop, Code}
+use Rattle.adj_reverse.specs.Plan.{Plan, Schedules}
+use Rattle.adj_reverse.specs.Emission.{is_empty, backward_with}
+use Rattle.adj_reverse.specs.Program.{is_do, is_loop, goes_back_act_with, goes_back_with, reverses_act, reverses}
 use Rattle.adj_helpers.specs.declared.depths.Depths.{Depths}
 
 -- whether the depth is in the set, which has a flag for each depth that it knows
@@ -18,11 +19,18 @@ abbrev pub IsSame : List Bool → List Bool → Type 0
 IsSame old new = (k : ℕ) → has_depth new k ≡ has_depth old k
 
 -- the depths of a statement's loops that go back are added
-pub record AddsAct (p : Plan) (d i : ℕ) (a : Act) (old new : Depths) : Type 0 where
-  pub dos : (k : ℕ) → has_depth new.dos.items k ≡ (has_depth old.dos.items k || goes_back_act is_do k p i d a)
-  pub loops : (k : ℕ) → has_depth new.loops.items k ≡ (has_depth old.loops.items k || goes_back_act is_loop k p i d a)
+pub record AddsAct (r : Schedules) (p : Plan) (d i : ℕ) (a : Act) (old new : Depths) : Type 0 where
+  pub dos : (k : ℕ) → has_depth new.dos.items k ≡ (has_depth old.dos.items k || goes_back_act_with r is_do k p i d a)
+  pub loops : (k : ℕ) → has_depth new.loops.items k ≡ (has_depth old.loops.items k || goes_back_act_with r is_loop k p i d a)
+  pub reversed : (k : ℕ) → has_depth new.reversed.items k ≡ (has_depth old.reversed.items k || reverses_act r k p i d a)
 
 -- those of a list
-pub record AddsList (p : Plan) (d i : ℕ) (c : Code) (old new : Depths) : Type 0 where
-  pub dos : (k : ℕ) → has_depth new.dos.items k ≡ (has_depth old.dos.items k || goes_back is_do k p i d c)
-  pub loops : (k : ℕ) → has_depth new.loops.items k ≡ (has_depth old.loops.items k || goes_back is_loop k p i d c)
+pub record AddsList (r : Schedules) (p : Plan) (d i : ℕ) (c : Code) (old new : Depths) : Type 0 where
+  pub dos : (k : ℕ) → has_depth new.dos.items k ≡ (has_depth old.dos.items k || goes_back_with r is_do k p i d c)
+  pub loops : (k : ℕ) → has_depth new.loops.items k ≡ (has_depth old.loops.items k || goes_back_with r is_loop k p i d c)
+  pub reversed : (k : ℕ) → has_depth new.reversed.items k ≡ (has_depth old.reversed.items k || reverses r k p i d c)
+
+-- those of a DO of this depth, from what its body adds
+abbrev pub AddsLoop : Schedules → Plan → ℕ → ℕ → List ℕ → Code → Mark → Bool → Depths → Depths → Type 0
+AddsLoop r p depth i x body m idle mid new =
+    (d : ℕ) (a b c : Term) (old : Depths) → depth ≡ suc d → idle ≡ is_empty (backward_with r p (suc i) (suc d) body) → AddsList r p (suc d) (suc i) body old mid → AddsAct r p d i (loop (plain x) a b c body m) old new

@@ -1,3 +1,4 @@
 pub mod Callees
 pub mod Depths
+pub mod Steps
 pub mod Uses

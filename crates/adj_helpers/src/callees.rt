@@ -6,10 +6,12 @@ ghost use Rattle.adj_helpers.specs.Callees.{callee_named};
 use adj_naming::name_set::NameSet;
 use adj_tree::Name;
 
-/// A dummy of a unit: whether the unit writes it, whether the unit's adjoint needs it at its entry, and whether it has a shadow.
+/// A dummy of a unit: whether the unit writes it, whether it reads it, whether the unit's adjoint needs it at its entry, and whether it
+/// has a shadow.
 #[derive(Clone, Copy, PartialEq, Eq, Debug)]
 pub struct Dummy {
     pub written: bool,
+    pub read: bool,
     pub member: bool,
     pub shadowed: bool,
 }

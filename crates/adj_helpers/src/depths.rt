@@ -9,11 +9,13 @@ use adj_naming::role::{Helper, Role};
 use adj_tree::Memory;
 use std::alloc::Global;
 
-/// The depths of loops that go back: of those that are a DO, and of all. A set has a flag for each depth up to its greatest.
+/// The depths of loops that go back: of those that are a DO, of all, and of those that are reversed by a schedule. A set has a flag for
+/// each depth up to its greatest.
 #[derive(Drop)]
 pub struct Depths {
     pub dos: Vec<bool>,
     pub loops: Vec<bool>,
+    pub reversed: Vec<bool>,
 }
 
 // Adds a depth, unless the loop that has it is idle.
@@ -35,10 +37,12 @@ impl Depths {
     pub fn new(alloc: Global) -> Depths
         ensures dos { result.dos.items ≡ [] }
         ensures loops { result.loops.items ≡ [] }
+        ensures reversed { result.reversed.items ≡ [] }
     {
         Depths {
             dos: Vec::new(alloc),
             loops: Vec::new(alloc),
+            reversed: Vec::new(alloc),
         }
     }
 
@@ -46,9 +50,22 @@ impl Depths {
     pub fn add_do(&mut self, depth: usize, idle: bool) -> Result<(), Memory>
         ensures dos { OnOk result (IsAdded depth idle self.old.dos.items self.new.dos.items) }
         ensures loops { OnOk result (IsAdded depth idle self.old.loops.items self.new.loops.items) }
+        ensures reversed { OnOk result (IsSame self.old.reversed.items self.new.reversed.items) }
     {
         add(&mut self.dos, depth, idle)?;
         add(&mut self.loops, depth, idle)?;
+        Ok(())
+    }
+
+    /// Adds the depth of a DO that is reversed by a schedule.
+    pub fn add_reversed(&mut self, depth: usize) -> Result<(), Memory>
+        ensures dos { OnOk result (IsAdded depth false self.old.dos.items self.new.dos.items) }
+        ensures loops { OnOk result (IsAdded depth false self.old.loops.items self.new.loops.items) }
+        ensures reversed { OnOk result (IsAdded depth false self.old.reversed.items self.new.reversed.items) }
+    {
+        add(&mut self.dos, depth, false)?;
+        add(&mut self.loops, depth, false)?;
+        add(&mut self.reversed, depth, false)?;
         Ok(())
     }
 
@@ -56,6 +73,7 @@ impl Depths {
     pub fn add_while(&mut self, depth: usize, idle: bool) -> Result<(), Memory>
         ensures dos { OnOk result (IsSame self.old.dos.items self.new.dos.items) }
         ensures loops { OnOk result (IsAdded depth idle self.old.loops.items self.new.loops.items) }
+        ensures reversed { OnOk result (IsSame self.old.reversed.items self.new.reversed.items) }
     {
         add(&mut self.loops, depth, idle)?;
         Ok(())

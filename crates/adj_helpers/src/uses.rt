@@ -4,21 +4,23 @@ ghost use Rattle.std.specs.Prelude.{◌≡◌, ◌||◌, ◌&&◌, true, false, 
 ghost use Rattle.adj_tree.specs.Code.{Terms, more, plain, assign, call};
 ghost use Rattle.adj_tree.specs.View.{term_of, terms_of, act_of};
 ghost use Rattle.adj_transpose.specs.Marks.{Vars};
-ghost use Rattle.adj_reverse.specs.Plan.{Callee, names_of};
+ghost use Rattle.adj_reverse.specs.Plan.{Callee, Schedules, names_of};
 ghost use Rattle.adj_reverse.specs.Emission.{is_empty, resets, backward_act};
 ghost use Rattle.adj_marking.specs.View.{marks_of};
 ghost use Rattle.adj_helpers.specs.Callees.{KnowsAll};
-ghost use Rattle.adj_helpers.specs.Uses.{plan_by, saves_some, UsesAct, UsesIf, UsesDo, UsesWhile};
+ghost use Rattle.adj_helpers.specs.Uses.{plan_by, saves_some, UsesAct, UsesIf, UsesDo, UsesReversed, UsesWhile};
 
 use crate::callees::{Callees, Dummy};
 use crate::measure::{measured, plus};
+use crate::steps::MarkedLoops;
 use adj_marking::Marking;
 use adj_tree::{Expr, Exprs, Memory, Name, Place};
 
-/// The marks of a unit, and what is known of the units that it calls.
+/// The marks of a unit, how its marked loops are gone through, and what is known of the units that it calls.
 #[derive(Clone, Copy)]
 pub struct Known<'a> {
     pub marks: &'a Marking<'a>,
+    pub loops: MarkedLoops,
     pub callees: &'a Callees,
 }
 
@@ -96,7 +98,7 @@ struct Search {
 impl<'a> Known<'a> {
     /// What an assignment uses.
     pub fn assignment(&self, number: usize, target: &Place, e: &Expr) -> Result<Used, Memory>
-        ensures uses { IfOk result (λ u. (arrays : Vars) (callees : List ℕ → Callee) (d : ℕ) → UsesAct (plan_by self.now arrays callees) d number (assign (plain target.now.name) (terms_of target.now.subs) (term_of e.now)) u) }
+        ensures uses { IfOk result (λ u. (r : Schedules) (arrays : Vars) (callees : List ℕ → Callee) (d : ℕ) → UsesAct r (plan_by self.now arrays callees) d number (assign (plain target.now.name) (terms_of target.now.subs) (term_of e.now)) u) }
     {
         let next = plus(number, 1)?;
         if self.marks.adjointed(number) {
@@ -150,7 +152,7 @@ impl<'a> Known<'a> {
 
     // Whether a call has no backward sweep.
     fn is_idle_call(&self, number: usize, name: &Name, actuals: &Exprs) -> bool
-        ensures idle { (arrays : Vars) (callees : List ℕ → Callee) → KnowsAll self.now.callees.now callees → (d line : ℕ) → result ≡ is_empty (backward_act (plan_by self.now arrays callees) number d line (call name.now (terms_of actuals.now))) }
+        ensures idle { (arrays : Vars) (callees : List ℕ → Callee) (reads : List ℕ → Vars) → KnowsAll self.now.callees.now callees reads → (d line : ℕ) → result ≡ is_empty (backward_act (plan_by self.now arrays callees) number d line (call name.now (terms_of actuals.now))) }
     {
         if self.marks.adjointed(number) {
             return false;
@@ -164,7 +166,7 @@ impl<'a> Known<'a> {
 
     /// What a call uses.
     pub fn call(&self, number: usize, name: &Name, actuals: &Exprs) -> Result<Used, Memory>
-        ensures uses { IfOk result (λ u. (arrays : Vars) (callees : List ℕ → Callee) → KnowsAll self.now.callees.now callees → (d : ℕ) → UsesAct (plan_by self.now arrays callees) d number (call name.now (terms_of actuals.now)) u) }
+        ensures uses { IfOk result (λ u. (r : Schedules) (arrays : Vars) (callees : List ℕ → Callee) (reads : List ℕ → Vars) → KnowsAll self.now.callees.now callees reads → (d : ℕ) → UsesAct r (plan_by self.now arrays callees) d number (call name.now (terms_of actuals.now)) u) }
     {
         let next = plus(number, 1)?;
         let mut used = Used::nothing(next);
@@ -174,7 +176,7 @@ impl<'a> Known<'a> {
 
     /// What an IF uses.
     pub fn branch(&self, number: usize, first: Used, second: Used) -> Used
-        ensures uses { (arrays : Vars) (callees : List ℕ → Callee) → UsesIf (plan_by self.now arrays callees) number first second result }
+        ensures uses { (r : Schedules) (arrays : Vars) (callees : List ℕ → Callee) → UsesIf r (plan_by self.now arrays callees) number first second result }
     {
         let mut used = first.with_next(second);
         used.tells = !used.idle;
@@ -189,9 +191,9 @@ impl<'a> Known<'a> {
         !(self.marks.saved(number, x) || self.marks.shadowed(x) && self.marks.varied(number, x))
     }
 
-    /// What a DO of this depth uses.
+    /// What a DO of this depth uses that isn't reversed by a schedule.
     pub fn do_loop(&self, number: usize, depth: usize, x: &Name, inner: Used) -> Used
-        ensures uses { (arrays : Vars) (callees : List ℕ → Callee) → UsesDo (plan_by self.now arrays callees) depth number x.now inner result }
+        ensures uses { (r : Schedules) (arrays : Vars) (callees : List ℕ → Callee) → UsesDo r (plan_by self.now arrays callees) depth number x.now inner result }
     {
         let mut used = inner;
         used.depth = inner.depth_of_loop(depth);
@@ -199,9 +201,19 @@ impl<'a> Known<'a> {
         used
     }
 
+    /// What a DO of this depth uses that is reversed by a schedule.
+    pub fn reversed_loop(&self, number: usize, depth: usize, x: &Name, inner: Used) -> Used
+        ensures uses { (r : Schedules) (arrays : Vars) (callees : List ℕ → Callee) → UsesReversed r (plan_by self.now arrays callees) depth number x.now inner result }
+    {
+        let mut used = inner;
+        used.depth = depth;
+        used.idle = !self.marks.emitted(number);
+        used
+    }
+
     /// What a DO WHILE of this depth uses.
     pub fn while_loop(&self, number: usize, depth: usize, inner: Used) -> Used
-        ensures uses { (arrays : Vars) (callees : List ℕ → Callee) → UsesWhile (plan_by self.now arrays callees) depth number inner result }
+        ensures uses { (r : Schedules) (arrays : Vars) (callees : List ℕ → Callee) → UsesWhile r (plan_by self.now arrays callees) depth number inner result }
     {
         let mut used = inner;
         used.depth = inner.depth_of_loop(depth);

@@ -1,5 +1,5 @@
 -- What is known of the units that are called is what the sweeps of calls know.
-use Rattle.std.proofs.Common.{◌≡◌, ℕ, zero, suc, ◌+◌, ◌≤◌, Bool, false, List, [], ◌∷◌, map, length, Some, None, refl, sym, ap, ◌∙◌, subst, arith, if◌then◌else◌}
+use Rattle.std.proofs.Common.{◌≡◌, ℕ, zero, suc, ◌+◌, ◌≤◌, ◌<◌, Bool, false, List, [], ◌∷◌, map, length, drop, get_or, Some, None, refl, sym, ap, ◌∙◌, subst, arith, if◌then◌else◌}
 use Rattle.std.specs.Prelude.{position, Option, slice_get, unwrap_or}
 use Rattle.std.proofs.lemmas.List.{length-map}
 use Rattle.adj_tree.specs.Code.{plain, name_eq, Procedure}
@@ -7,23 +7,27 @@ use Rattle.adj_tree.specs.View.{procedure_of}
 use Rattle.adj_tree.specs.declared.unit.Unit.{Unit}
 use Rattle.adj_meaning.specs.LeastSet.{least_rows}
 use Rattle.adj_meaning.specs.Written.{find_unit, write_rule, is_written}
+use Rattle.adj_meaning.specs.Read.{read_rule, is_read}
 use Rattle.adj_meaning.proofs.LeastSets.{is_least}
 use Rattle.adj_meaning.proofs.WriteSets.{write_rises}
+use Rattle.adj_meaning.proofs.ReadSets.{read_rises}
 use Rattle.adj_transpose.specs.Fresh.{has_name}
 use Rattle.adj_transpose.specs.Naming.{AreApart}
 use Rattle.adj_transpose.specs.Program.{unit_name}
 use Rattle.adj_reverse.specs.Names.{adjoint_name}
-use Rattle.adj_reverse.specs.Marking.{ProgramMarks, place_from, callee_in, callee_of}
+use Rattle.adj_reverse.specs.Marking.{ProgramMarks, place_from, dummy_set, read_by, callee_in, callee_of}
 use Rattle.adj_helpers.specs.declared.callees.Dummy.{Dummy}
 use Rattle.adj_helpers.specs.declared.callees.Callee.{Callee}
 use Rattle.adj_helpers.specs.declared.callees.Callees.{Callees}
 use Rattle.adj_helpers.specs.Callees.{callee_at, seen, Knows, KnowsAll}
 use Rattle.adj_transpose.proofs.Variables.{or_false, name_comm}
+use Rattle.adj_reach.specs.Edges.{flag}
+use Rattle.adj_naming.proofs.Places.{from_here}
 use Rattle.adj_flow.specs.Asked.{units_of}
 use Rattle.adj_weave.specs.declared.marks.Marked.{Marked}
 use Rattle.adj_weave.specs.declared.marks.Marked.TheVariants as by
-use Rattle.adj_weave.specs.Marked.{program_marks, unit_dummy, dummy_told, HasUnits, KnowsUnits, IsOver}
-use Rattle.adj_weave.specs.Orders.{dummies_said, said, said_of}
+use Rattle.adj_weave.specs.Marked.{program_marks, reads_in, unit_dummy, dummy_told, HasUnits, KnowsUnits, IsOver}
+use Rattle.adj_weave.specs.Orders.{dummy_said, dummies_said, said, said_of}
 use Rattle.adj_weave.proofs.Places.{At, at_first, at_next, at_rest, at_there, at_one, at_map, at_place, no_place, find_at}
 use Rattle.adj_weave.proofs.Ordered.{unit_place}
 
@@ -48,24 +52,50 @@ over_knows (by.Found g) ps h o = o.units
 
 -- what is said of the units of a program, of which the first is the k-th
 abbrev pub sayings : Marked → List Procedure → ℕ → List Procedure → List (List ℕ × List Dummy)
-sayings m ps k us = said_of m k us (map (adjoint_name ps) us) (map (λ u. map (is_written ps u) u.dummies) us)
+sayings m ps k us = said_of m k us (map (adjoint_name ps) us) (map (λ u. map (is_written ps u) u.dummies) us) (map (λ u. map (is_read ps u) u.dummies) us)
 
 -- a dummy of the unit of a number is that of the unit of its name
 dummy_same : (m : Marked) (ps : List Procedure) → KnowsUnits m ps → (name : List ℕ) (k : ℕ) → place_from 0 ps name ≡ k → (d : List ℕ) (w : Bool) →
-    (let p = program_marks m in let there : Dummy = record { written = w; member = p.members name (plain d); shadowed = p.shadowed name (plain d) } in unit_dummy m k d w ≡ there)
+    (let p = program_marks m in let there : Dummy = record { written = w; read = false; member = p.members name (plain d); shadowed = p.shadowed name (plain d) } in unit_dummy m k d w ≡ there)
 dummy_same by.Full ps over name k place d w = refl
 dummy_same (by.Found g) ps over name k place d w =
     let here : k ≡ place_from 0 (units_of g.flow.now) name = sym place ∙ ap (λ qs. place_from 0 qs name) (sym over) in
     ap (λ j. dummy_told g.flow.now g.marks.now j d w) here
 
 dummies_same : (m : Marked) (ps : List Procedure) → KnowsUnits m ps → (u : Procedure) (k : ℕ) → place_from 0 ps u.name ≡ k → (ds : List (List ℕ)) →
-    dummies_said m k ds (map (is_written ps u) ds) ≡ map (seen (callee_of (program_marks m) ps u.name (Some u))) ds
+    dummies_said m k ds (map (is_written ps u) ds) (map (is_read ps u) ds) ≡ map (seen (callee_of (program_marks m) ps u.name (Some u)) (dummy_set (is_read ps u))) ds
 dummies_same m ps over u k place [] = refl
-dummies_same m ps over u k place (d ∷ ds) = λ i. dummy_same m ps over u.name k place d (is_written ps u d) i ∷ dummies_same m ps over u k place ds i
+dummies_same m ps over u k place (d ∷ ds) =
+    let own = λ (z : Dummy). record z { read = is_read ps u d } in
+    λ i. own (dummy_same m ps over u.name k place d (is_written ps u d) i) ∷ dummies_same m ps over u k place ds i
+
+-- the flags that are left
+flag_left : (xs : List Bool) (j : ℕ) → flag (drop j xs) 0 ≡ flag xs j
+flag_left xs zero = refl
+flag_left [] (suc j) = refl
+flag_left (x ∷ xs) (suc j) = flag_left xs j
+
+drop_none : (k : ℕ) → drop {A = Bool} k [] ≡ []
+drop_none zero = refl
+drop_none (suc k) = refl
+
+drop_next : (xs : List Bool) (j : ℕ) → drop 1 (drop j xs) ≡ drop (j + 1) xs
+drop_next xs zero = refl
+drop_next [] (suc j) = sym (drop_none (suc j + 1))
+drop_next (x ∷ xs) (suc j) =
+    let e : suc j + 1 ≡ suc (j + 1) = omega arith in
+    drop_next xs j ∙ ap (λ k. drop k (x ∷ xs)) (sym e)
+
+-- what is said of the dummies that are left begins with what is said of the one at hand
+pub dummies_on : (m : Marked) (k : ℕ) (names : List (List ℕ)) (ws rs : List Bool) (j : ℕ) (d : List ℕ) → j < length names → d ≡ get_or names j d →
+    dummies_said m k (drop j names) (drop j ws) (drop j rs) ≡ dummy_said m k d (flag ws j) (flag rs j) ∷ dummies_said m k (drop (j + 1) names) (drop (j + 1) ws) (drop (j + 1) rs)
+dummies_on m k names ws rs j d lt at =
+    ap (λ z. dummies_said m k z (drop j ws) (drop j rs)) (from_here names j d lt at)
+    ∙ (λ i. dummy_said m k d (flag_left ws j i) (flag_left rs j i) ∷ dummies_said m k (drop (j + 1) names) (drop_next ws j i) (drop_next rs j i))
 
 -- what is said of the j-th of some units
 abbrev saying : Marked → List Procedure → ℕ → Procedure → List ℕ × List Dummy
-saying m ps k u = (adjoint_name ps u, dummies_said m k u.dummies (map (is_written ps u) u.dummies))
+saying m ps k u = (adjoint_name ps u, dummies_said m k u.dummies (map (is_written ps u) u.dummies) (map (is_read ps u) u.dummies))
 
 said_at : (m : Marked) (ps : List Procedure) (k : ℕ) (us : List Procedure) (j : ℕ) (u : Procedure) → At us j u → At (sayings m ps k us) j (saying m ps (k + j) u)
 said_at m ps k [] j u h = absurd (let l = h.within in omega arith)
@@ -88,7 +118,7 @@ module _ (m : Marked) (ps : List Procedure) (over : KnowsUnits m ps) (apart : Ar
   w = program_marks m
 
   -- a unit at a place is known
-  known_at : (name : List ℕ) (j : ℕ) → position (name_eq name) (map unit_name ps) ≡ Some j → Knows (callee_at c (Some j)) (callee_in w ps name)
+  known_at : (name : List ℕ) (j : ℕ) → position (name_eq name) (map unit_name ps) ≡ Some j → Knows (callee_at c (Some j)) (callee_in w ps name) (reads_in ps name)
   known_at name j p =
       let named : At (map unit_name ps) j name = at_place (map unit_name ps) j name p in
       let many : length (map unit_name ps) ≡ length ps = length-map ps unit_name in
@@ -105,27 +135,32 @@ module _ (m : Marked) (ps : List Procedure) (over : KnowsUnits m ps) (apart : Ar
       let here : callee_at c (Some j) ≡ k.0 = got c.known.items j k.0 c.other k.1 in
       let at_name : callee_of w ps u.name (Some u) ≡ callee_in w ps name = ap (λ z. callee_of w ps z (Some u)) (sym called) ∙ ap (callee_of w ps name) (sym found) in
       let place : place_from 0 ps u.name ≡ 0 + j = unit_place 0 ps j u apart o.1 in
-      let first : Knows k.0 (callee_of w ps u.name (Some u)) = record { adjoint = ap (λ z. z.0) both; dummies = ap (λ z. z.1) both ∙ dummies_same m ps over u (0 + j) place u.dummies } in
-      subst (λ z. Knows z (callee_in w ps name)) (sym here) (subst (Knows k.0) at_name first)
+      let reads : dummy_set (is_read ps u) ≡ reads_in ps name = ap (λ o. dummy_set (read_by ps o)) (sym found) in
+      let first : Knows k.0 (callee_of w ps u.name (Some u)) (dummy_set (is_read ps u)) = record { adjoint = ap (λ z. z.0) both; dummies = ap (λ z. z.1) both ∙ dummies_same m ps over u (0 + j) place u.dummies } in
+      subst (λ z. Knows z (callee_in w ps name) (reads_in ps name)) (sym here) (subst (λ z. Knows k.0 z (reads_in ps name)) at_name (subst (Knows k.0 (callee_of w ps u.name (Some u))) reads first))
 
   -- of others nothing is known
   no_unit : (us : List Procedure) (name : List ℕ) → has_name name (map unit_name us) ≡ false → find_unit us name ≡ None
   no_unit [] name h = refl
   no_unit (v ∷ us) name h = let p = or_false (name_eq name v.name) (has_name name (map unit_name us)) h in ap (λ b. if b then Some v else find_unit us name) (name_comm name v.name p.0) ∙ no_unit us name p.1
 
-  known_other : (name : List ℕ) → position (name_eq name) (map unit_name ps) ≡ None → Knows c.other (callee_in w ps name)
+  known_other : (name : List ℕ) → position (name_eq name) (map unit_name ps) ≡ None → Knows c.other (callee_in w ps name) (reads_in ps name)
   known_other name p =
       let none : find_unit ps name ≡ None = no_unit ps name (no_place (map unit_name ps) name apart p) in
-      let first : Knows c.other (callee_of w ps name None) = record { adjoint = other; dummies = nothing } in
-      subst (Knows c.other) (ap (callee_of w ps name) (sym none)) first
+      let first : Knows c.other (callee_of w ps name None) (reads_in ps name) = record { adjoint = other; dummies = nothing } in
+      subst (λ z. Knows c.other z (reads_in ps name)) (ap (callee_of w ps name) (sym none)) first
 
-  pub all_known : KnowsAll c (callee_in w ps)
-  all_known name = subst (λ o. Knows (callee_at c o) (callee_in w ps name)) (ap (position (name_eq name)) (sym names)) (go (position (name_eq name) (map unit_name ps)) refl)
+  pub all_known : KnowsAll c (callee_in w ps) (reads_in ps)
+  all_known name = subst (λ o. Knows (callee_at c o) (callee_in w ps name) (reads_in ps name)) (ap (position (name_eq name)) (sym names)) (go (position (name_eq name) (map unit_name ps)) refl)
     where
-      go : (o : Option ℕ) → position (name_eq name) (map unit_name ps) ≡ o → Knows (callee_at c o) (callee_in w ps name)
+      go : (o : Option ℕ) → position (name_eq name) (map unit_name ps) ≡ o → Knows (callee_at c o) (callee_in w ps name) (reads_in ps name)
       go (Some j) p = known_at name j p
       go None p = known_other name p
 
 -- the least rows say which of its dummies each unit writes
 pub rows_written : (ps : List Procedure) → least_rows write_rule ps ≡ map (λ u. map (is_written ps u) u.dummies) ps
 rows_written ps = let l = is_least write_rule write_rises ps in sym l.closed
+
+-- and which it reads
+pub rows_read : (ps : List Procedure) → least_rows read_rule ps ≡ map (λ u. map (is_read ps u) u.dummies) ps
+rows_read ps = let l = is_least read_rule read_rises ps in sym l.closed

@@ -3,6 +3,7 @@ pub mod Walks
 pub mod Places
 -- The names, numbers and calls of units in their order.
 pub mod Ordered
+pub mod Calling
 pub mod Edges
 pub mod Reached
 -- What is known of units that are called, and which variables are arrays.

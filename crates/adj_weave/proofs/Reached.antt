@@ -10,7 +10,7 @@ use Rattle.adj_transpose.specs.Naming.{AreApart}
 use Rattle.adj_transpose.specs.Program.{unit_name, unit_at}
 use Rattle.adj_transpose.proofs.Variables.{or_right}
 use Rattle.adj_reverse.specs.Marking.{ProgramMarks}
-use Rattle.adj_reverse.specs.Program.{calls_some, reached_after, is_reached, has_adjoint, is_kept, is_carried}
+use Rattle.adj_reverse.specs.Program.{calls_some, reached_after, is_reached, has_adjoint, is_kept_with, is_carried_with}
 use Rattle.adj_reverse.specs.Source.{is_unit}
 use Rattle.adj_reverse.proofs.Rounds.{reached_last}
 use Rattle.adj_reverse.proofs.EmittedUnits.{found_there}
@@ -20,7 +20,8 @@ use Rattle.adj_facts.proofs.Members.{is_first, is_later, is_among, is_none, is_o
 use Rattle.adj_reach.specs.Edges.{Edges, ReachedFrom, AreBelow, flag}
 use Rattle.adj_naming.proofs.Places.{get_or_any}
 use Rattle.adj_weave.specs.declared.calls.Call.{Call}
-use Rattle.adj_weave.specs.Orders.{listed_from, edges_of, ends_of}
+use Rattle.adj_weave.specs.Orders.{listed_from, edges_of, is_plain_call, ends_of}
+use Rattle.adj_weave.proofs.Calling.{has_some, some_same, plain_calls}
 use Rattle.adj_weave.proofs.Places.{At, at_there, at_one, at_map, at_place, place_at, one_place, find_at, same_lists, number_at}
 use Rattle.adj_weave.proofs.Edges.{call_by, either_of, from_one, some_listed, listed_only, edges_has, edges_only}
 
@@ -67,7 +68,7 @@ module _ (ps : List Procedure) (apart : AreApart (map unit_name ps)) where
   calls = listed_from (map unit_name ps) 0 0 ps
 
   -- along the calls in the statements of a set
-  module _ (f : ℕ → Bool) where
+  module _ (f : ℕ → Bool → Bool) where
     abbrev pub edges : Edges
     edges = edges_of f (listed_from (map unit_name ps) 0 0 ps)
 
@@ -77,7 +78,7 @@ module _ (ps : List Procedure) (apart : AreApart (map unit_name ps)) where
       pub from_at : At ps e.0 from
       pub to : Procedure
       pub to_at : At ps e.1 to
-      pub calls : (among : List ℕ → Bool) → among from.name ≡ true → calls_some among f to.name 0 ps ≡ true
+      pub calls : (among : List ℕ → Bool) → among from.name ≡ true → has_some among f to.name 0 ps ≡ true
 
     pub step_of : (e : ℕ × ℕ) → Contains edges e → Step e
     step_of e c =
@@ -96,7 +97,7 @@ module _ (ps : List Procedure) (apart : AreApart (map unit_name ps)) where
           from_at = subst (λ z. At ps z o.unit) same o.at;
           to = u.0;
           to_at = u.1;
-          calls = λ among a. subst (λ z. calls_some among f z 0 ps ≡ true) called (o.calls among f a d.3);
+          calls = λ among a. subst (λ z. has_some among f z 0 ps ≡ true) called (o.calls among f a d.3);
         }
 
     -- what a unit of a set calls is at the end of an edge from one
@@ -107,51 +108,55 @@ module _ (ps : List Procedure) (apart : AreApart (map unit_name ps)) where
       pub inside : among unit.name ≡ true
       pub edge : Contains edges (place, j)
 
-    pub comes : (among : List ℕ → Bool) (j : ℕ) (u : Procedure) → At ps j u → calls_some among f u.name 0 ps ≡ true → Comes among j
+    pub comes : (among : List ℕ → Bool) (j : ℕ) (u : Procedure) → At ps j u → has_some among f u.name 0 ps ≡ true → Comes among j
     comes among j u h c =
         let l = some_listed names among f u.name j (place_at names j u.name apart (at_map unit_name ps j u h)) 0 0 ps c in
         let same : 0 + l.place ≡ l.place = omega arith in
-        let edge : Contains edges (0 + l.place, j) = edges_has f calls (call_by l.number (0 + l.place) j) l.listed l.counts in
+        let edge : Contains edges (0 + l.place, j) = edges_has f calls (call_by l.number (0 + l.place) j l.turns) l.listed l.counts in
         record { place = l.place; unit = l.unit; at = l.at; inside = l.inside; edge = subst (λ z. Contains edges (z, j)) same edge }
 
     -- each edge is between units
     pub edges_below : AreBelow (length ps) edges
     edges_below k d lt = let s = step_of (get_or edges k d) (Contains-get_or edges k d lt) in let a = s.from_at in let b = s.to_at in (a.within, b.within)
 
-    module _ (roots : List ℕ → Bool) (start : List ℕ) (only : (j : ℕ) → Contains start j → (u : Procedure) × At ps j u × (roots u.name ≡ true)) (whole : (j : ℕ) (u : Procedure) → At ps j u → roots u.name ≡ true → Contains start j) where
-      abbrev after : ℕ → List ℕ → Bool
-      after k = reached_after roots f ps k
+  -- what is reached along calls in the statements of a set
+  module _ (f : ℕ → Bool) (roots : List ℕ → Bool) (start : List ℕ) (only : (j : ℕ) → Contains start j → (u : Procedure) × At ps j u × (roots u.name ≡ true)) (whole : (j : ℕ) (u : Procedure) → At ps j u → roots u.name ≡ true → Contains start j) where
+    abbrev along : ℕ → Bool → Bool
+    along i turns = f i
 
-      there : (j : ℕ) (u : Procedure) → At ps j u → is_unit ps u.name ≡ true
-      there j u h = let f = found_there ps u.name u (find_at ps j u apart h) in f.0
+    abbrev after : ℕ → List ℕ → Bool
+    after k = reached_after roots f ps k
 
-      paths : (j : ℕ) → ReachedFrom edges start j → (u : Procedure) × At ps j u × (after (length ps) u.name ≡ true)
-      paths j (begins c) = let o = only j c in (o.0, o.1, roots_reached roots f ps (o.0).name o.0 (find_at ps j o.0 apart o.1) (o.0).name o.2)
-      paths j (leads {x = i} r c) =
-          let o : (u : Procedure) × At ps i u × (after (length ps) u.name ≡ true) = paths i r in
-          let s = step_of (i, j) c in
-          let same : o.0 ≡ s.from = at_one ps i o.0 s.from o.1 s.from_at in
-          let inside : after (length ps) s.from.name ≡ true = ap (λ (z : Procedure). after (length ps) z.name) (sym same) ∙ o.2 in
-          (s.to, s.to_at, reached_last roots f ps s.to.name (there j s.to s.to_at) (or_right (roots s.to.name) (calls_some (after (length ps)) f s.to.name 0 ps) (s.calls (after (length ps)) inside)))
+    there : (j : ℕ) (u : Procedure) → At ps j u → is_unit ps u.name ≡ true
+    there j u h = let f = found_there ps u.name u (find_at ps j u apart h) in f.0
 
-      rounds : (k j : ℕ) (u : Procedure) → At ps j u → after k u.name ≡ true → ReachedFrom edges start j
-      rounds zero j u h r = absurd cc
-      rounds (suc k) j u h r =
-          from_one (either_of (roots u.name) (calls_some (after k) f u.name 0 ps) r)
-          (λ e. begins (whole j u h e))
-          (λ e. let d = comes (after k) j u h e in leads (rounds k d.place d.unit d.at d.inside) d.edge)
+    paths : (j : ℕ) → ReachedFrom (edges along) start j → (u : Procedure) × At ps j u × (after (length ps) u.name ≡ true)
+    paths j (begins c) = let o = only j c in (o.0, o.1, roots_reached roots f ps (o.0).name o.0 (find_at ps j o.0 apart o.1) (o.0).name o.2)
+    paths j (leads {x = i} r c) =
+        let o : (u : Procedure) × At ps i u × (after (length ps) u.name ≡ true) = paths i r in
+        let s = step_of along (i, j) c in
+        let same : o.0 ≡ s.from = at_one ps i o.0 s.from o.1 s.from_at in
+        let inside : after (length ps) s.from.name ≡ true = ap (λ (z : Procedure). after (length ps) z.name) (sym same) ∙ o.2 in
+        (s.to, s.to_at, reached_last roots f ps s.to.name (there j s.to s.to_at) (or_right (roots s.to.name) (calls_some (after (length ps)) f s.to.name 0 ps) (sym (some_same f s.to.name (after (length ps)) 0 ps) ∙ s.calls (after (length ps)) inside)))
 
-      -- flags that say of each node whether a path meets it say of each unit whether it is reached
-      pub flags_are : (flags : List Bool) → length flags ≡ length ps → ((x : ℕ) → IsTrue (flag flags x) ↔ ReachedFrom edges start x) → flags ≡ map (λ u. is_reached roots f ps u.name) ps
-      flags_are flags many exact = same_lists (λ (u : Procedure). is_reached roots f ps u.name) ps flags many one
-        where
-          one : (j : ℕ) (u : Procedure) (b : Bool) → At ps j u → At flags j b → b ≡ is_reached roots f ps u.name
-          one j u b h g = same_truth b (after (length ps) u.name)
-              (λ t. let o = paths j ((exact j).0 (sym seen ∙ t)) in let s : o.0 ≡ u = at_one ps j o.0 u o.1 h in ap (λ (z : Procedure). after (length ps) z.name) (sym s) ∙ o.2)
-              (λ t. seen ∙ (exact j).1 (rounds (length ps) j u h t))
-            where
-              seen : b ≡ flag flags j
-              seen = g.is ∙ get_or_any flags j b false g.within
+    rounds : (k j : ℕ) (u : Procedure) → At ps j u → after k u.name ≡ true → ReachedFrom (edges along) start j
+    rounds zero j u h r = absurd cc
+    rounds (suc k) j u h r =
+        from_one (either_of (roots u.name) (calls_some (after k) f u.name 0 ps) r)
+        (λ e. begins (whole j u h e))
+        (λ e. let d = comes along (after k) j u h (some_same f u.name (after k) 0 ps ∙ e) in leads (rounds k d.place d.unit d.at d.inside) d.edge)
+
+    -- flags that say of each node whether a path meets it say of each unit whether it is reached
+    pub flags_are : (flags : List Bool) → length flags ≡ length ps → ((x : ℕ) → IsTrue (flag flags x) ↔ ReachedFrom (edges along) start x) → flags ≡ map (λ u. is_reached roots f ps u.name) ps
+    flags_are flags many exact = same_lists (λ (u : Procedure). is_reached roots f ps u.name) ps flags many one
+      where
+        one : (j : ℕ) (u : Procedure) (b : Bool) → At ps j u → At flags j b → b ≡ is_reached roots f ps u.name
+        one j u b h g = same_truth b (after (length ps) u.name)
+            (λ t. let o = paths j ((exact j).0 (sym seen ∙ t)) in let s : o.0 ≡ u = at_one ps j o.0 u o.1 h in ap (λ (z : Procedure). after (length ps) z.name) (sym s) ∙ o.2)
+            (λ t. seen ∙ (exact j).1 (rounds (length ps) j u h t))
+          where
+            seen : b ≡ flag flags j
+            seen = g.is ∙ get_or_any flags j b false g.within
 
   -- ---- the units that are emitted
 
@@ -159,7 +164,7 @@ module _ (ps : List Procedure) (apart : AreApart (map unit_name ps)) where
     head_at : At ps number head
     head_at = number_at ps number head at
 
-    pub adjointed_are : (flags : List Bool) → length flags ≡ length ps → ((x : ℕ) → IsTrue (flag flags x) ↔ ReachedFrom (edges m.adjointed) (number ∷ []) x) → flags ≡ map (λ u. has_adjoint m ps head u.name) ps
+    pub adjointed_are : (flags : List Bool) → length flags ≡ length ps → ((x : ℕ) → IsTrue (flag flags x) ↔ ReachedFrom (edges (λ i turns. m.adjointed i)) (number ∷ []) x) → flags ≡ map (λ u. has_adjoint m ps head u.name) ps
     adjointed_are flags many exact =
         flags_are m.adjointed (name_eq head.name) (number ∷ [])
         (λ j c. let s : number ≡ j = is_only j number c in (head, subst (λ z. At ps z head) s head_at, name_refl head.name))
@@ -175,17 +180,18 @@ module _ (ps : List Procedure) (apart : AreApart (map unit_name ps)) where
         let a = at_map (λ (u : Procedure). has_adjoint m ps head u.name) ps j u h in
         ap (λ fs. flag fs j) are ∙ get_or_any (map (λ (u : Procedure). has_adjoint m ps head u.name) ps) j false (has_adjoint m ps head u.name) a.within ∙ sym a.is
 
-    pub carried_are : (adjointed flags : List Bool) → adjointed ≡ map (λ u. has_adjoint m ps head u.name) ps → length flags ≡ length ps → ((x : ℕ) → IsTrue (flag flags x) ↔ ReachedFrom (edges (λ i. true)) (ends_of adjointed (edges m.kept)) x) → flags ≡ map (λ u. is_carried m ps head u.name) ps
-    carried_are adjointed flags are many exact =
-        flags_are (λ i. true) (is_kept m ps head) (ends_of adjointed (edges m.kept))
+    pub carried_are : (b : Bool) (adjointed flags : List Bool) → adjointed ≡ map (λ u. has_adjoint m ps head u.name) ps → length flags ≡ length ps → ((x : ℕ) → IsTrue (flag flags x) ↔ ReachedFrom (edges (λ i turns. true)) (ends_of adjointed (edges (is_plain_call m b))) x) → flags ≡ map (λ u. is_carried_with b m ps head u.name) ps
+    carried_are b adjointed flags are many exact =
+        let plain = is_plain_call m b in
+        flags_are (λ i. true) (is_kept_with b m ps head) (ends_of adjointed (edges plain))
         (λ j c.
-        let o = ends_only adjointed (edges m.kept) j c in
-        let s = step_of m.kept o.0 o.1 in
+        let o = ends_only adjointed (edges plain) j c in
+        let s = step_of plain o.0 o.1 in
         let inside : has_adjoint m ps head s.from.name ≡ true = sym (flag_at adjointed are (o.0).0 s.from s.from_at) ∙ o.3 in
-        (s.to, subst (λ z. At ps z s.to) o.2 s.to_at, s.calls (has_adjoint m ps head) inside))
+        (s.to, subst (λ z. At ps z s.to) o.2 s.to_at, sym (plain_calls b m ps head s.to.name) ∙ s.calls (has_adjoint m ps head) inside))
         (λ j u h e.
-        let d = comes m.kept (has_adjoint m ps head) j u h e in
-        ends_has adjointed (edges m.kept) (d.place, j) d.edge (flag_at adjointed are d.place d.unit d.at ∙ d.inside))
+        let d = comes plain (has_adjoint m ps head) j u h (plain_calls b m ps head u.name ∙ e) in
+        ends_has adjointed (edges plain) (d.place, j) d.edge (flag_at adjointed are d.place d.unit d.at ∙ d.inside))
         flags many exact
 
 -- the ends of edges are nodes

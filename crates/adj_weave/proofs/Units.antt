@@ -14,21 +14,21 @@ use Rattle.adj_transpose.specs.Program.{declared_helpers}
 use Rattle.adj_transpose.specs.MarkedProgram.{shadows_behind, declared_behind}
 use Rattle.adj_transpose.proofs.Naming.{own-name}
 use Rattle.adj_transpose.proofs.Variables.{or_false}
-use Rattle.adj_reverse.specs.Plan.{Plan}
+use Rattle.adj_reverse.specs.Plan.{Plan, Schedules}
 use Rattle.adj_reverse.specs.Names.{adjoint_name}
 use Rattle.adj_reverse.specs.Marking.{ProgramMarks, first_statement, plan_in, arrays_of}
-use Rattle.adj_reverse.specs.Program.{helpers_used, adjoint_names, adjoint_unit}
-use Rattle.adj_reverse.specs.Emission.{adjoint_body}
+use Rattle.adj_reverse.specs.Program.{helpers_used_with, adjoint_names_with, adjoint_unit_with, schedules_in}
+use Rattle.adj_reverse.specs.Emission.{adjoint_body_with}
 use Rattle.adj_checked.proofs.Lists.{Each, each_found}
 use Rattle.adj_emitted.specs.Shadowed.{HasShadows, AllHaveShadows}
 use Rattle.adj_emitted.proofs.Over.{OverCode, Any}
 use Rattle.adj_emitted.proofs.Tables.{among, has_var, plain_known}
-use Rattle.adj_emitted.proofs.Used.{used_helpers}
-use Rattle.adj_emitted.proofs.Apart.{VarsApart, used_apart}
-use Rattle.adj_emitted.proofs.MadeNames.{follows}
+use Rattle.adj_emitted.proofs.Used.{used_helpers_with}
+use Rattle.adj_emitted.proofs.Apart.{VarsApart, used_apart_with}
+use Rattle.adj_emitted.proofs.MadeNames.{follows_by}
 use Rattle.adj_emitted.proofs.Sources.{each_name, UnitSound, all_named}
 use Rattle.adj_emitted.proofs.NameFaults.{NamesSound, all_names_sound}
-use Rattle.adj_emitted.proofs.AdjointNames.{body_with}
+use Rattle.adj_emitted.proofs.AdjointNames.{body_holds}
 use Rattle.adj_naming.specs.declared.names.Names.{Names}
 use Rattle.adj_naming.specs.Sets.{has_variable, AreDifferent}
 use Rattle.adj_naming.specs.Table.{table_of, named_by}
@@ -48,8 +48,8 @@ different [] h = tt
 different (v ∷ vs) h = (same_among v vs ∙ h.0, different vs h.1)
 
 -- the helpers of a unit stand once
-pub helpers_different : (p : Plan) (i : ℕ) (c : Code) → AreDifferent (helpers_used p i c)
-helpers_different p i c = different (helpers_used p i c) (used_apart p i c)
+pub helpers_different : (sc : Schedules) (p : Plan) (i : ℕ) (c : Code) → AreDifferent (helpers_used_with sc p i c)
+helpers_different sc p i c = different (helpers_used_with sc p i c) (used_apart_with sc p i c)
 
 -- ---- the plan
 
@@ -85,7 +85,7 @@ shadows_each : (m : ProgramMarks) (ps us : List Procedure) → AllHaveShadows m 
 shadows_each m ps [] h = tt
 shadows_each m ps (u ∷ us) h = (h.0, shadows_each m ps us h.1)
 
-module _ (m : ProgramMarks) (ps : List Procedure) (checked : IsCheckedBySome ps) (shadowed : AllHaveShadows m ps ps) (u : Procedure) (found : find_unit ps u.name ≡ Some u) (units at_turn at_end : List (List ℕ)) (turned : HaveShadows m u at_turn) (ended : HaveShadows m u at_end) where
+module _ (sb : Bool) (m : ProgramMarks) (ps : List Procedure) (checked : IsCheckedBySome ps) (shadowed : AllHaveShadows m ps ps) (u : Procedure) (found : find_unit ps u.name ≡ Some u) (units at_turn at_end : List (List ℕ)) (turned : HaveShadows m u at_turn) (ended : HaveShadows m u at_end) where
   abbrev a : Vars
   a = m.shadowed u.name
 
@@ -96,16 +96,16 @@ module _ (m : ProgramMarks) (ps : List Procedure) (checked : IsCheckedBySome ps)
   p = plan_in m ps u
 
   abbrev pub ns : List Named
-  ns = adjoint_names m ps units u
+  ns = adjoint_names_with sb m ps units u
 
   abbrev pub body : Code
-  body = adjoint_body (plan_in m ps u) (first_statement ps u.name) u.line u.body at_turn at_end
+  body = adjoint_body_with (schedules_in sb ps) (plan_in m ps u) (first_statement ps u.name) u.line u.body at_turn at_end
 
   abbrev Q : Var → Option ℕ → Type 0
-  Q v n = (has_var v ns ≡ true) × (is_rank_for n (rank (adjoint_unit m ps units u at_turn at_end) (name_in ns v)) ≡ true)
+  Q v n = (has_var v ns ≡ true) × (is_rank_for n (rank (adjoint_unit_with sb m ps units u at_turn at_end) (name_in ns v)) ≡ true)
 
   abbrev A : Var → Type 0
-  A v = (rank (adjoint_unit m ps units u at_turn at_end) (name_in ns v) == 0) ≡ false
+  A v = (rank (adjoint_unit_with sb m ps units u at_turn at_end) (name_in ns v) == 0) ≡ false
 
   sound : UnitSound ps u × NamesSound ps u
   sound = each_found (λ u. UnitSound ps u × NamesSound ps u) ps (all_names_sound checked.rules ps checked.checked) u.name u found
@@ -120,8 +120,8 @@ module _ (m : ProgramMarks) (ps : List Procedure) (checked : IsCheckedBySome ps)
   over =
       let s = sound.0 in
       let n = sound.1 in
-      let f = follows m ps (all_named checked.rules ps checked.checked) u (first_statement ps u.name) u.body s.calls shadows in
-      body_with m ps units u s.written s.kernel s.free s.calls f n.dummies_once n.extent_dummy n.extents n.stands at_turn at_end (marked at_turn turned) (marked at_end ended) Any f
+      let f = follows_by m ps (all_named checked.rules ps checked.checked) u (schedules_in sb ps) (first_statement ps u.name) u.body s.calls shadows in
+      body_holds sb m ps units u s.written s.kernel s.free s.calls f n.dummies_once n.extent_dummy n.extents n.stands at_turn at_end (marked at_turn turned) (marked at_end ended) Any f
 
   -- the names of the text are kept
   pub body_same : (n : Names) → table_of n ≡ ns → rename (named_by n) body ≡ rename (naming ns) body
@@ -130,15 +130,15 @@ module _ (m : ProgramMarks) (ps : List Procedure) (checked : IsCheckedBySome ps)
       same : (v : Var) (k : Option ℕ) → Q v k → named_by n v ≡ naming ns v
       same (plain x) k q =
           let s = sound.0 in
-          let h : has_name x (variables u) ≡ true = plain_known (variables u) units a (helpers_used p i u.body) s.free (used_helpers p i u.body) x q.0 in
-          ap plain (sym (own-name (variables u) (named (variables u ++ (units ++ reserved)) (map shadow (names_in a (variables u)) ++ helpers_used p i u.body)) x h))
+          let h : has_name x (variables u) ≡ true = plain_known (variables u) units a (helpers_used_with (schedules_in sb ps) p i u.body) s.free (used_helpers_with (schedules_in sb ps) p i u.body) x q.0 in
+          ap plain (sym (own-name (variables u) (named (variables u ++ (units ++ reserved)) (map shadow (names_in a (variables u)) ++ helpers_used_with (schedules_in sb ps) p i u.body)) x h))
       same (shadow x) k q = ap (λ z. naming z (shadow x)) t
       same (helper r j) k q = ap (λ z. naming z (helper r j)) t
 
   -- the parts make the adjoint unit
-  pub unit_is : (name : List ℕ) (t : List Named) (dummies : List (List ℕ)) (hs : List Var) (declarations : List Declaration) (code : Code) → name ≡ adjoint_name ps u → t ≡ ns → dummies ≡ shadows_behind a t u.dummies → hs ≡ helpers_used p i u.body →
+  pub unit_is : (name : List ℕ) (t : List Named) (dummies : List (List ℕ)) (hs : List Var) (declarations : List Declaration) (code : Code) → name ≡ adjoint_name ps u → t ≡ ns → dummies ≡ shadows_behind a t u.dummies → hs ≡ helpers_used_with (schedules_in sb ps) p i u.body →
       declarations ≡ declared_behind a t u (variables u) ++ declared_helpers t u.line hs → code ≡ rename (naming ns) body →
-      (let made : Procedure = record { line = u.line; name = name; dummies = dummies; is_none = false; declarations = declarations; body = code } in made ≡ adjoint_unit m ps units u at_turn at_end)
+      (let made : Procedure = record { line = u.line; name = name; dummies = dummies; is_none = false; declarations = declarations; body = code } in made ≡ adjoint_unit_with sb m ps units u at_turn at_end)
   unit_is name t dummies hs declarations code hn ht hd hh hc hb =
       λ j. record {
         line = u.line;

@@ -2,8 +2,9 @@
 use Rattle.std.specs.Prelude.{◌≡◌, ℕ, ◌*◌, ◌≤◌, List, [], map, length, Bool, true, false, slice_index_or}
 use Rattle.adj_tree.specs.Code.{plain, Procedure}
 use Rattle.adj_tree.specs.declared.marks.Marks as flags
-use Rattle.adj_transpose.specs.Marks.{Marks, full}
-use Rattle.adj_reverse.specs.Marking.{ProgramMarks, full_marks, dummy_set, place_from}
+use Rattle.adj_meaning.specs.Written.{find_unit}
+use Rattle.adj_transpose.specs.Marks.{Vars, Marks, full}
+use Rattle.adj_reverse.specs.Marking.{ProgramMarks, full_marks, dummy_set, place_from, read_by}
 use Rattle.adj_facts.specs.Rules.{Scope}
 use Rattle.adj_reach.specs.Edges.{flag}
 use Rattle.adj_flow.specs.declared.units.Flow.{Flow}
@@ -54,6 +55,7 @@ marks_at f t k =
 abbrev pub dummy_told : Flow → flags.Marks → ℕ → List ℕ → Bool → Dummy
 dummy_told f t k d w = record {
   written = w;
+  read = false;
   member = told_of t.kept.entry (scope_in f) f.width k (plain d);
   shadowed = told_of t.activity.shadowed (scope_in f) f.width k (plain d);
 }
@@ -72,8 +74,12 @@ unit_marks (by.Found g) k = marks_at g.flow.now g.marks.now k
 
 -- of a dummy of that unit, which the unit writes or not
 abbrev pub unit_dummy : marked.Marked → ℕ → List ℕ → Bool → Dummy
-unit_dummy by.Full k d w = record { written = w; member = true; shadowed = true }
+unit_dummy by.Full k d w = record { written = w; read = false; member = true; shadowed = true }
 unit_dummy (by.Found g) k d w = dummy_told g.flow.now g.marks.now k d w
+
+-- what the units of a program read
+abbrev pub reads_in : List Procedure → List ℕ → Vars
+reads_in ps name = dummy_set (read_by ps (find_unit ps name))
 
 -- there are at least so many units
 abbrev pub HasUnits : marked.Marked → ℕ → Type 0

@@ -1,9 +1,12 @@
 -- What units get in their order: numbers of statements, names of adjoints, calls between them, and what is known of their dummies.
-use Rattle.std.specs.Prelude.{ℕ, suc, List, [], ◌∷◌, ◌++◌, Bool, true, false, Option, Some, None, if◌then◌else◌, position, codes}
-use Rattle.adj_tree.specs.Code.{name_eq, Act, assign, choose, loop, during, call, runtime, Code, stop, step, Procedure}
+use Rattle.std.specs.Prelude.{ℕ, suc, List, [], ◌∷◌, ◌++◌, Bool, true, false, ◌&&◌, ◌||◌, Option, Some, None, if◌then◌else◌, position, codes, drop}
+use Rattle.adj_tree.specs.Code.{name_eq, Mark, unmarked, with_count, count_from, Act, assign, choose, loop, during, call, runtime, Code, stop, step, Procedure}
 use Rattle.adj_transpose.specs.Fresh.{fresh}
 use Rattle.adj_transpose.specs.Marks.{next, behind}
+use Rattle.adj_reverse.specs.Plan.{found_or}
+use Rattle.adj_reverse.specs.Marking.{ProgramMarks}
 use Rattle.adj_reach.specs.Edges.{Edges, flag}
+use Rattle.adj_helpers.specs.Steps.{are_reversed}
 use Rattle.adj_helpers.specs.declared.callees.Dummy.{Dummy}
 use Rattle.adj_helpers.specs.declared.callees.Callee.{Callee}
 use Rattle.adj_weave.specs.declared.calls.Call.{Call}
@@ -24,19 +27,26 @@ adjoints_from taken (u ∷ us) = fresh (u.name ++ codes "_B") taken ∷ adjoints
 
 -- ---- calls
 
--- a call in the i-th statement, from a unit to one that is found
-abbrev pub call_to : ℕ → ℕ → Option ℕ → List Call
-call_to i k None = []
-call_to i k (Some j) = record { number = i; from = k; to = j } ∷ []
+-- what the turns of a marked loop call, if a call is all that they do
+abbrev pub turned : Mark → Code → Option (List ℕ)
+turned (with_count n) (step line (call name args) stop) = Some name
+turned (with_count n) body = None
+turned unmarked body = None
+turned (count_from x) body = None
+
+-- a call in the i-th statement, from a unit to one that is found; whether it is all that the turns of a marked loop do
+abbrev pub call_to : ℕ → ℕ → Bool → Option ℕ → List Call
+call_to i k turns None = []
+call_to i k turns (Some j) = record { number = i; from = k; to = j; turns = turns } ∷ []
 
 -- the calls in the i-th statement, or in a list that begins with it, of the k-th unit, where the units have these names
 abbrev mutual
   pub listed_act : List (List ℕ) → ℕ → ℕ → Act → List Call
   listed_act names k i (assign x subs e) = []
   listed_act names k i (choose c a b) = listed_in names k (suc i) a ++ listed_in names k (behind (suc i) a) b
-  listed_act names k i (loop x a b c body m) = listed_in names k (suc i) body
+  listed_act names k i (loop x a b c body m) = found_or (turned m body) (listed_in names k (suc i) body) (λ name. call_to (suc i) k true (position (name_eq name) names))
   listed_act names k i (during c body) = listed_in names k (suc i) body
-  listed_act names k i (call name args) = call_to i k (position (name_eq name) names)
+  listed_act names k i (call name args) = call_to i k false (position (name_eq name) names)
   listed_act names k i (runtime r) = []
 
   pub listed_in : List (List ℕ) → ℕ → ℕ → Code → List Call
@@ -48,16 +58,20 @@ abbrev pub listed_from : List (List ℕ) → ℕ → ℕ → List Procedure → 
 listed_from names k i [] = []
 listed_from names k i (u ∷ us) = listed_in names k i u.body ++ listed_from names (suc k) (behind i u.body) us
 
--- the statements whose calls count
-abbrev pub counted : Marked → counting.Counting → ℕ → Bool
-counted m which.All i = true
-counted m which.Kept i = (program_marks m).kept i
-counted m which.Adjointed i = (program_marks m).adjointed i
+-- a call that an adjoint makes as it is: a kept one, or where marked loops are reversed by schedules an adjointed one in their turns
+abbrev pub is_plain_call : ProgramMarks → Bool → ℕ → Bool → Bool
+is_plain_call m reversed i turns = m.kept i || (reversed && (turns && m.adjointed i))
 
--- an edge for each call in a statement of a set
-abbrev pub edges_of : (ℕ → Bool) → List Call → Edges
+-- the calls that count, by the numbers of their statements and by whether they are all that the turns of a marked loop do
+abbrev pub counted : Marked → counting.Counting → ℕ → Bool → Bool
+counted m which.All i turns = true
+counted m (which.Plain loops) i turns = is_plain_call (program_marks m) (are_reversed loops) i turns
+counted m which.Adjointed i turns = (program_marks m).adjointed i
+
+-- an edge for each call of a set
+abbrev pub edges_of : (ℕ → Bool → Bool) → List Call → Edges
 edges_of f [] = []
-edges_of f (c ∷ cs) = if f c.number then (c.from, c.to) ∷ edges_of f cs else edges_of f cs
+edges_of f (c ∷ cs) = if f c.number c.turns then (c.from, c.to) ∷ edges_of f cs else edges_of f cs
 
 -- the ends of the edges that come from flagged nodes
 abbrev pub ends_of : List Bool → Edges → List ℕ
@@ -76,15 +90,19 @@ flagged (f ∷ fs) (x ∷ xs) = if f then x ∷ flagged fs xs else flagged fs xs
 abbrev pub said : Callee → List ℕ × List Dummy
 said k = (k.adjoint, k.dummies.items)
 
--- the dummies of the k-th unit, of which flags say whether it writes them
-abbrev pub dummies_said : Marked → ℕ → List (List ℕ) → List Bool → List Dummy
-dummies_said m k [] ws = []
-dummies_said m k (d ∷ ds) [] = unit_dummy m k d false ∷ dummies_said m k ds []
-dummies_said m k (d ∷ ds) (w ∷ ws) = unit_dummy m k d w ∷ dummies_said m k ds ws
+-- a dummy of the k-th unit, which the unit writes, and reads, or not
+abbrev pub dummy_said : Marked → ℕ → List ℕ → Bool → Bool → Dummy
+dummy_said m k d w r = record (unit_dummy m k d w) { read = r }
+
+-- the dummies of the k-th unit, of which flags say whether it writes and whether it reads them
+abbrev pub dummies_said : Marked → ℕ → List (List ℕ) → List Bool → List Bool → List Dummy
+dummies_said m k [] ws rs = []
+dummies_said m k (d ∷ ds) ws rs = dummy_said m k d (flag ws 0) (flag rs 0) ∷ dummies_said m k ds (drop 1 ws) (drop 1 rs)
 
 -- what is said of units of which the first is the k-th, by the names of their adjoints and by the flags of their dummies
-abbrev pub said_of : Marked → ℕ → List Procedure → List (List ℕ) → List (List Bool) → List (List ℕ × List Dummy)
-said_of m k [] xs rows = []
-said_of m k (u ∷ us) [] rows = []
-said_of m k (u ∷ us) (x ∷ xs) [] = []
-said_of m k (u ∷ us) (x ∷ xs) (ws ∷ rows) = (x, dummies_said m k u.dummies ws) ∷ said_of m (suc k) us xs rows
+abbrev pub said_of : Marked → ℕ → List Procedure → List (List ℕ) → List (List Bool) → List (List Bool) → List (List ℕ × List Dummy)
+said_of m k [] xs rows others = []
+said_of m k (u ∷ us) [] rows others = []
+said_of m k (u ∷ us) (x ∷ xs) [] others = []
+said_of m k (u ∷ us) (x ∷ xs) (ws ∷ rows) [] = []
+said_of m k (u ∷ us) (x ∷ xs) (ws ∷ rows) (rs ∷ others) = (x, dummies_said m k u.dummies ws rs) ∷ said_of m (suc k) us xs rows others

@@ -1,5 +1,5 @@
 -- What is known where the adjoint of a unit is written.
-use Rattle.std.specs.Prelude.{◌≡◌, ℕ, List, [], ◌++◌, map, Some, true}
+use Rattle.std.specs.Prelude.{◌≡◌, ℕ, Bool, List, [], ◌++◌, map, Some, true}
 use Rattle.adj_tree.specs.Code.{plain, Procedure}
 use Rattle.adj_tree.specs.View.{procedure_of}
 use Rattle.adj_meaning.specs.Written.{find_unit}
@@ -13,9 +13,10 @@ use Rattle.adj_emitted.specs.Shadowed.{AllHaveShadows}
 use Rattle.adj_naming.specs.Sets.{all_added}
 use Rattle.adj_marking.specs.View.{marks_of}
 use Rattle.adj_helpers.specs.Callees.{KnowsAll}
+use Rattle.adj_helpers.specs.Steps.{are_reversed}
 use Rattle.adj_weave.specs.declared.unit.Shared.{Shared}
 use Rattle.adj_weave.specs.declared.unit.Part.{Part}
-use Rattle.adj_weave.specs.Marked.{program_marks}
+use Rattle.adj_weave.specs.Marked.{program_marks, reads_in}
 use Rattle.adj_weave.specs.Alike.{AreAlike}
 
 -- a checked program in kernel form, by the rules of a text that a user writes or by those of one that is run
@@ -27,6 +28,10 @@ pub record IsCheckedBySome (ps : List Procedure) : Type 0 where
 abbrev pub sources : Shared → List Procedure
 sources s = map procedure_of s.units.now
 
+-- whether marked loops are reversed by schedules
+abbrev pub reversed_for : Shared → Bool
+reversed_for s = are_reversed s.loops
+
 -- the marks of the program
 abbrev pub marks_for : Shared → ProgramMarks
 marks_for s = program_marks s.marked
@@ -35,7 +40,7 @@ marks_for s = program_marks s.marked
 pub record IsShared (s : Shared) : Type 0 where
   pub checked : IsCheckedBySome (sources s)
   pub shadows : AllHaveShadows (marks_for s) (sources s) (sources s)
-  pub callees : KnowsAll s.callees.now (callee_in (marks_for s) (sources s))
+  pub callees : KnowsAll s.callees.now (callee_in (marks_for s) (sources s)) (reads_in (sources s))
   pub taken : s.taken.now ≡ all_added [] (s.names.now ++ reserved)
 
 -- a unit of the program, and what is known of it; of its statements and variables its marks say what those of the program do

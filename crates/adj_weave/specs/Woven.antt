@@ -5,20 +5,20 @@ use Rattle.adj_tree.specs.View.{procedure_of}
 use Rattle.adj_names.specs.Variables.{variables}
 use Rattle.adj_reverse.specs.Names.{adjoint_name}
 use Rattle.adj_reverse.specs.Marking.{ProgramMarks, first_statement}
-use Rattle.adj_reverse.specs.Program.{has_adjoint, is_carried, all_units, emitted_adjoint}
+use Rattle.adj_reverse.specs.Program.{has_adjoint, is_carried_with, all_units, emitted_adjoint_with}
 use Rattle.adj_weave.specs.declared.weave.Aim.{Aim}
 use Rattle.adj_weave.specs.declared.weave.Emits.{Emits}
 use Rattle.adj_weave.specs.declared.weave.Table.{Table}
 use Rattle.adj_weave.specs.declared.unit.Shared.{Shared}
 use Rattle.adj_weave.specs.Shared.{sources, marks_for, IsShared}
 
--- by these marks a table tells of each unit of the program, where h is the head
-pub record IsTable (m : ProgramMarks) (ps : List Procedure) (h : Procedure) (t : Table) : Type 0 where
+-- by these marks a table tells of each unit of the program, where h is the head; whether marked loops are reversed by schedules
+pub record IsTable (b : Bool) (m : ProgramMarks) (ps : List Procedure) (h : Procedure) (t : Table) : Type 0 where
   pub variables : t.variables.items ≡ map variables ps
   pub adjoints : t.adjoints.items ≡ map (adjoint_name ps) ps
   pub numbers : t.numbers.items ≡ map (λ u. first_statement ps u.name) ps
   pub adjointed : t.found.adjointed ≡ map (λ u. has_adjoint m ps h u.name) ps
-  pub carried : t.found.carried ≡ map (λ u. is_carried m ps h u.name) ps
+  pub carried : t.found.carried ≡ map (λ u. is_carried_with b m ps h u.name) ps
 
 -- the head that is aimed at
 abbrev pub head_of : Aim → Procedure
@@ -34,5 +34,5 @@ abbrev pub only_if : Bool → Procedure → List Procedure
 only_if b u = if b then u ∷ [] else []
 
 -- what is emitted for a unit
-abbrev pub emitted_for : ProgramMarks → Emits → List Procedure → Aim → Procedure → List Procedure
-emitted_for m e ps a u = only_if e.carried u ++ only_if e.adjointed (emitted_adjoint m ps (head_of a) a.vars.now a.outvars.now u)
+abbrev pub emitted_for : Bool → ProgramMarks → Emits → List Procedure → Aim → Procedure → List Procedure
+emitted_for b m e ps a u = only_if e.carried u ++ only_if e.adjointed (emitted_adjoint_with b m ps (head_of a) a.vars.now a.outvars.now u)

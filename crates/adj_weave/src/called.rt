@@ -7,53 +7,69 @@ ghost use Rattle.adj_transpose.specs.Program.{unit_name};
 ghost use Rattle.adj_reverse.specs.Names.{adjoint_name};
 ghost use Rattle.adj_reverse.specs.Marking.{callee_in};
 ghost use Rattle.adj_helpers.specs.Callees.{KnowsAll};
-ghost use Rattle.adj_weave.specs.Marked.{program_marks, HasUnits, KnowsUnits};
+ghost use Rattle.adj_weave.specs.Marked.{program_marks, reads_in, HasUnits, KnowsUnits};
 ghost use Rattle.adj_weave.specs.Orders.{dummies_said, said, said_of};
 
 use crate::marks::Marked;
 use adj_helpers::callees::{Callee, Callees, Dummy};
 use adj_naming::name_set::{NameSet, add_names};
-use adj_symbols::written_dummies;
+use adj_reach::flag_at;
 use adj_tree::{Flags, Memory, Name, Unit};
+use adj_writes::{read_dummies, written_dummies};
 use std::alloc::Global;
 
-// What the sweeps of calls know of the dummies of the unit at a place, of which flags say whether it writes them.
+// What the sweeps of calls know of the dummies of the unit at a place, of which flags say whether it writes them, and whether it reads
+// them.
 fn dummies_of(
     alloc: Global,
     marked: &Marked<'_>,
     place: usize,
     names: &[Name],
     written: &[bool],
+    read: &[bool],
 ) -> Result<Vec<Dummy>, Memory>
     requires unit { HasUnits marked.now (place + 1) }
-    ensures dummies { IfOk result (λ v. v.items ≡ dummies_said marked.now place names.now written.now) }
+    ensures dummies { IfOk result (λ v. v.items ≡ dummies_said marked.now place names.now written.now read.now) }
 {
     let mut made = Vec::new(alloc);
     for (k, name) in names.iter().enumerate() {
-        let flag = written.get(k).copied().unwrap_or(false);
-        let dummy = marked.dummy(place, name, flag)?;
-        made.push(dummy)?;
+        let told = marked.dummy(place, name, flag_at(written, k))?;
+        let Dummy {
+            written: writes,
+            read: _,
+            member,
+            shadowed,
+        } = told;
+        made.push(Dummy {
+            written: writes,
+            read: flag_at(read, k),
+            member,
+            shadowed,
+        })?;
     }
     Ok(made)
 }
 
-// What is known of each unit, by the names of their adjoints and by the dummies that they write.
+// What is known of each unit, by the names of their adjoints and by the dummies that they write and read.
 fn known_units(
     alloc: Global,
     marked: &Marked<'_>,
     units: &[Unit],
     adjoints: &[Name],
     written: &[Flags],
+    read: &[Flags],
 ) -> Result<Vec<Callee>, Memory>
     requires units { HasUnits marked.now (length units.now) }
     requires named { length adjoints.now ≡ length units.now }
-    requires told { length written.now ≡ length units.now }
-    ensures known { IfOk result (λ v. map said v.items ≡ said_of marked.now 0 (map procedure_of units.now) adjoints.now written.now) }
+    requires written { length written.now ≡ length units.now }
+    requires read { length read.now ≡ length units.now }
+    ensures known { IfOk result (λ v. map said v.items ≡ said_of marked.now 0 (map procedure_of units.now) adjoints.now written.now read.now) }
 {
     let mut made = Vec::new(alloc);
     for (k, unit) in units.iter().enumerate() {
         let names = unit.dummies.as_slice();
-        let dummies = dummies_of(alloc, marked, k, names, written[k].as_slice())?;
+        let own = written[k].as_slice();
+        let dummies = dummies_of(alloc, marked, k, names, own, read[k].as_slice())?;
         made.push(Callee {
             adjoint: adjoints[k].copy(alloc)?,
             dummies,
@@ -74,12 +90,14 @@ pub fn known_callees(
     requires names { names.now ≡ map unit_name (map procedure_of units.now) }
     requires apart { AreApart names.now }
     requires adjoints { adjoints.now ≡ map (adjoint_name (map procedure_of units.now)) (map procedure_of units.now) }
-    ensures known { IfOk result (λ c. KnowsAll c (callee_in (program_marks marked.now) (map procedure_of units.now))) }
+    ensures known { IfOk result (λ c. KnowsAll c (callee_in (program_marks marked.now) (map procedure_of units.now)) (reads_in (map procedure_of units.now))) }
 {
     let mut set = NameSet::new(alloc);
     add_names(alloc, &mut set, names)?;
     let written = written_dummies(alloc, units)?;
-    let known = known_units(alloc, marked, units, adjoints, written.as_slice())?;
+    let read = read_dummies(alloc, units)?;
+    let rows = written.as_slice();
+    let known = known_units(alloc, marked, units, adjoints, rows, read.as_slice())?;
     let other = Callee {
         adjoint: Name::from_slice(alloc, b"")?,
         dummies: Vec::new(alloc),

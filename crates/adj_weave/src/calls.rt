@@ -1,31 +1,54 @@
 //! Which units call which, and in which statements.
 
-ghost use Rattle.std.specs.Prelude.{◌≡◌, ◌++◌, IfOk, OnOk, map, position};
+ghost use Rattle.std.specs.Prelude.{◌≡◌, ◌++◌, IfOk, OnOk, map, option_map, position, true, false};
 ghost use Rattle.adj_tree.specs.Code.{name_eq};
-ghost use Rattle.adj_tree.specs.View.{act_of, code_of, procedure_of};
+ghost use Rattle.adj_tree.specs.View.{mark_of, act_of, code_of, procedure_of};
 ghost use Rattle.adj_transpose.specs.Marks.{next, behind};
-ghost use Rattle.adj_weave.specs.Orders.{call_to, listed_act, listed_in, listed_from, counted, edges_of};
+ghost use Rattle.adj_weave.specs.Orders.{turned, call_to, listed_act, listed_in, listed_from, counted, edges_of};
 
 use crate::marks::Marked;
 use crate::numbers::after;
+use adj_helpers::steps::MarkedLoops;
 use adj_naming::name_set::NameSet;
-use adj_tree::{Act, Memory, Name, Stmts, Unit};
+use adj_tree::{Act, Mark, Memory, Name, Stmts, Unit};
 use std::alloc::Global;
 
-/// A call: the number of its statement, and the places of the unit that calls and of the one that is called.
+/// A call: the number of its statement, the places of the unit that calls and of the one that is called, and whether it is all that the
+/// turns of a marked loop do.
 #[derive(Clone, Copy, PartialEq, Eq, Debug)]
 pub struct Call {
     pub number: usize,
     pub from: usize,
     pub to: usize,
+    pub turns: bool,
 }
 
 /// Which calls count.
 #[derive(Clone, Copy, PartialEq, Eq, Debug)]
 pub enum Counting {
     All,
-    Kept,
+    /// Those that adjoints make of units as they are: kept ones, and where marked loops are reversed adjointed ones in their turns.
+    Plain(MarkedLoops),
     Adjointed,
+}
+
+// The unit that the turns of a marked loop call, if a call is all that they do.
+fn turned<'s>(body: &'s Stmts, mark: &Mark) -> Option<&'s Name>
+    ensures turned { option_map (λ r. r.now) result ≡ turned (mark_of mark.now) (code_of body.now) }
+{
+    let Mark::Count(_) = mark else {
+        return None;
+    };
+    let Stmts::More(first, rest) = body else {
+        return None;
+    };
+    let Act::Call(name, _) = &first.act else {
+        return None;
+    };
+    match &**rest {
+        Stmts::Empty => Some(name),
+        Stmts::More(_, _) => None,
+    }
 }
 
 // Adds the call of the unit of a name.
@@ -34,12 +57,18 @@ fn add_call(
     from: usize,
     number: usize,
     name: &Name,
+    turns: bool,
     calls: &mut Vec<Call>,
 ) -> Result<(), Memory>
-    ensures calls { OnOk result (calls.new.items ≡ calls.old.items ++ call_to number from (position (name_eq name.now) names.now)) }
+    ensures calls { OnOk result (calls.new.items ≡ calls.old.items ++ call_to number from turns (position (name_eq name.now) names.now)) }
 {
     if let Some(to) = names.place(name.bytes()) {
-        calls.push(Call { number, from, to })?;
+        calls.push(Call {
+            number,
+            from,
+            to,
+            turns,
+        })?;
     }
     Ok(())
 }
@@ -63,12 +92,23 @@ fn add_act(
             let last = add_list(names, from, second, b, calls)?;
             Ok(last)
         }
-        Act::Loop(_, _, _, _, body, _) | Act::While(_, body) => {
+        Act::Loop(_, _, _, _, body, mark) => match turned(body, mark) {
+            Some(name) => {
+                add_call(names, from, inside, name, true, calls)?;
+                let last = after(inside)?;
+                Ok(last)
+            }
+            None => {
+                let last = add_list(names, from, inside, body, calls)?;
+                Ok(last)
+            }
+        },
+        Act::While(_, body) => {
             let last = add_list(names, from, inside, body, calls)?;
             Ok(last)
         }
         Act::Call(name, _) => {
-            add_call(names, from, number, name, calls)?;
+            add_call(names, from, number, name, false, calls)?;
             Ok(inside)
         }
         Act::Assign(_, _) | Act::Run(_) => Ok(inside),
@@ -109,14 +149,17 @@ pub fn listed_calls(alloc: Global, units: &[Unit], names: &NameSet) -> Result<Ve
 }
 
 impl Counting {
-    // Whether a call in the statement of a number counts.
-    fn counts(self, marked: &Marked<'_>, number: usize) -> bool
-        ensures counts { result ≡ counted marked.now self number }
+    // Whether a call counts.
+    fn counts(self, marked: &Marked<'_>, call: &Call) -> bool
+        ensures counts { result ≡ counted marked.now self call.now.number call.now.turns }
     {
         match self {
             Counting::All => true,
-            Counting::Kept => marked.kept(number),
-            Counting::Adjointed => marked.adjointed(number),
+            Counting::Plain(MarkedLoops::Plain) => marked.kept(call.number),
+            Counting::Plain(MarkedLoops::Reversed) => {
+                marked.kept(call.number) || call.turns && marked.adjointed(call.number)
+            }
+            Counting::Adjointed => marked.adjointed(call.number),
         }
     }
 }
@@ -132,7 +175,7 @@ pub fn edges(
 {
     let mut made = Vec::new(alloc);
     for call in calls {
-        if counting.counts(marked, call.number) {
+        if counting.counts(marked, call) {
             made.push((call.from, call.to))?;
         }
     }

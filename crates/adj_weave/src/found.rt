@@ -5,12 +5,14 @@ ghost use Rattle.adj_tree.specs.Code.{Procedure};
 ghost use Rattle.adj_tree.specs.View.{procedure_of};
 ghost use Rattle.adj_transpose.specs.Naming.{AreApart};
 ghost use Rattle.adj_transpose.specs.Program.{unit_name, unit_at};
-ghost use Rattle.adj_reverse.specs.Program.{has_adjoint, is_carried};
+ghost use Rattle.adj_reverse.specs.Program.{has_adjoint, is_carried_with};
+ghost use Rattle.adj_helpers.specs.Steps.{are_reversed};
 ghost use Rattle.adj_weave.specs.Marked.{program_marks};
 ghost use Rattle.adj_weave.specs.Orders.{ends_of};
 
 use crate::calls::{Counting, edges, listed_calls};
 use crate::marks::Marked;
+use adj_helpers::steps::MarkedLoops;
 use adj_naming::name_set::NameSet;
 use adj_reach::{flag_at, reach};
 use adj_tree::{Flags, Memory, Unit};
@@ -47,30 +49,31 @@ fn fits(count: usize) -> Result<(), Memory>
     }
 }
 
-/// The units that are emitted for a head by these marks.
+/// The units that are emitted for a head by these marks, where marked loops are gone through so.
 pub fn found_units(
     alloc: Global,
     marked: &Marked<'_>,
     units: &[Unit],
     names: &NameSet,
     head: usize,
+    loops: MarkedLoops,
 ) -> Result<Found, Memory>
     requires head { head < length units.now }
     requires names { names.now ≡ map unit_name (map procedure_of units.now) }
     requires apart { AreApart names.now }
     ensures adjointed { IfOk result (λ f. (h : Procedure) → unit_at head (map procedure_of units.now) ≡ h ∷ [] → f.adjointed ≡ map (λ u. has_adjoint (program_marks marked.now) (map procedure_of units.now) h u.name) (map procedure_of units.now)) }
-    ensures carried { IfOk result (λ f. (h : Procedure) → unit_at head (map procedure_of units.now) ≡ h ∷ [] → f.carried ≡ map (λ u. is_carried (program_marks marked.now) (map procedure_of units.now) h u.name) (map procedure_of units.now)) }
+    ensures carried { IfOk result (λ f. (h : Procedure) → unit_at head (map procedure_of units.now) ≡ h ∷ [] → f.carried ≡ map (λ u. is_carried_with (are_reversed loops) (program_marks marked.now) (map procedure_of units.now) h u.name) (map procedure_of units.now)) }
 {
     let count = units.len();
     fits(count)?;
     let listed = listed_calls(alloc, units, names)?;
     let calls = listed.as_slice();
     let adjoint_edges = edges(alloc, marked, Counting::Adjointed, calls)?;
-    let kept_edges = edges(alloc, marked, Counting::Kept, calls)?;
+    let plain_edges = edges(alloc, marked, Counting::Plain(loops), calls)?;
     let all_edges = edges(alloc, marked, Counting::All, calls)?;
     let start = [head];
     let adjointed = reach(alloc, count, adjoint_edges.as_slice(), &start)?;
-    let called = ends_of(alloc, adjointed.as_slice(), kept_edges.as_slice())?;
+    let called = ends_of(alloc, adjointed.as_slice(), plain_edges.as_slice())?;
     let carried = reach(alloc, count, all_edges.as_slice(), called.as_slice())?;
     Ok(Found { adjointed, carried })
 }

@@ -5,7 +5,7 @@
 //! sweeps of calls know of units. Each clause says that the result is that of the emission's definition
 //! (`adj_reverse/specs/Program.antt`), unless memory runs out. The crate stands on those definitions, on the sweeps (adj_emission),
 //! helpers (adj_helpers), names (adj_naming), variables (adj_symbols) and the flow of a program (adj_flow). The layer above uses
-//! `adjoint`.
+//! `adjoint`, and says whether marked loops are reversed by schedules.
 #![tactic(auto)]
 
 pub mod arrays;

@@ -50,7 +50,7 @@ impl<'a> FoundMarks<'a> {
         Ok(flag)
     }
 
-    // What the sweeps of calls know of a dummy of a unit.
+    // What the sweeps of calls know of a dummy of a unit, whether it is read aside.
     fn dummy(&self, unit: usize, name: &Name, written: bool) -> Result<Dummy, Memory>
         requires unit { unit < length self.now.flow.now.parts.items }
         ensures dummy { IfOk result (λ d. d ≡ dummy_told self.now.flow.now self.now.marks.now unit name.now written) }
@@ -59,6 +59,7 @@ impl<'a> FoundMarks<'a> {
         let shadowed = self.told(self.marks.activity.shadowed.as_slice(), unit, name)?;
         Ok(Dummy {
             written,
+            read: false,
             member,
             shadowed,
         })
@@ -122,7 +123,7 @@ impl<'a> Marked<'a> {
         }
     }
 
-    /// What the sweeps of calls know of a dummy of the unit of a number, which the unit writes or not.
+    /// What the sweeps of calls know of a dummy of the unit of a number, which the unit writes or not, whether it is read aside.
     pub fn dummy(&self, unit: usize, name: &Name, written: bool) -> Result<Dummy, Memory>
         requires unit { HasUnits self.now (unit + 1) }
         ensures dummy { IfOk result (λ d. d ≡ unit_dummy self.now unit name.now written) }
@@ -130,6 +131,7 @@ impl<'a> Marked<'a> {
         match self {
             Marked::Full => Ok(Dummy {
                 written,
+                read: false,
                 member: true,
                 shadowed: true,
             }),

@@ -2,8 +2,8 @@
 
 ghost use Rattle.std.specs.Prelude.{◌≡◌, IfOk};
 ghost use Rattle.adj_tree.specs.View.{procedure_of};
-ghost use Rattle.adj_reverse.specs.Program.{adjoint_unit};
-ghost use Rattle.adj_weave.specs.Shared.{sources, marks_for, IsShared, IsPart, HaveShadows};
+ghost use Rattle.adj_reverse.specs.Program.{adjoint_unit_with};
+ghost use Rattle.adj_weave.specs.Shared.{sources, marks_for, reversed_for, IsShared, IsPart, HaveShadows};
 
 use crate::arrays::arrays_of;
 use crate::declarations::declarations;
@@ -12,6 +12,7 @@ use crate::shadows::{shadowed, with_shadows};
 use adj_emission::bodies::Body;
 use adj_emission::plan::Plan;
 use adj_helpers::callees::Callees;
+use adj_helpers::steps::MarkedLoops;
 use adj_helpers::used::helpers_used;
 use adj_helpers::uses::Known;
 use adj_marking::Marking;
@@ -20,12 +21,14 @@ use adj_naming::naming::names;
 use adj_tree::{Items, Memory, Name, Unit};
 use std::alloc::Global;
 
-/// What the adjoints of the units of a program share: the units, the marks, what is known where one is called, the names of all
+/// What the adjoints of the units of a program share: the units, the marks, how marked loops are gone through, what is known where one
+/// is called, the names of all
 /// units and of all adjoints that are emitted, and what no variable that is made may be called.
 #[derive(Clone, Copy)]
 pub struct Shared<'a> {
     pub units: &'a [Unit],
     pub marked: Marked<'a>,
+    pub loops: MarkedLoops,
     pub callees: &'a Callees,
     pub names: &'a [Name],
     pub taken: &'a NameSet,
@@ -53,12 +56,13 @@ pub fn adjoint_unit(
     requires part { IsPart (marks_for shared.now) (sources shared.now) part.now }
     requires at_turn { HaveShadows (marks_for shared.now) (procedure_of part.now.unit.now) at_turn.now }
     requires at_end { HaveShadows (marks_for shared.now) (procedure_of part.now.unit.now) at_end.now }
-    ensures unit { IfOk result (λ u. procedure_of u ≡ adjoint_unit (marks_for shared.now) (sources shared.now) shared.now.names.now (procedure_of part.now.unit.now) at_turn.now at_end.now) }
+    ensures unit { IfOk result (λ u. procedure_of u ≡ adjoint_unit_with (reversed_for shared.now) (marks_for shared.now) (sources shared.now) shared.now.names.now (procedure_of part.now.unit.now) at_turn.now at_end.now) }
 {
     let unit = part.unit;
     let marks = &part.marking;
     let known = Known {
         marks,
+        loops: shared.loops,
         callees: shared.callees,
     };
     let used = helpers_used(alloc, &known, part.number, &unit.body)?;
@@ -69,6 +73,7 @@ pub fn adjoint_unit(
     let plan = Plan {
         names: &all,
         marks,
+        loops: shared.loops,
         arrays: &arrays,
         callees: shared.callees,
     };

@@ -5,11 +5,12 @@ ghost use Rattle.adj_tree.specs.Code.{Procedure};
 ghost use Rattle.adj_tree.specs.View.{procedure_of, procedures_of};
 ghost use Rattle.adj_transpose.specs.Naming.{AreApart};
 ghost use Rattle.adj_transpose.specs.Program.{unit_name, unit_at};
-ghost use Rattle.adj_reverse.specs.Program.{has_adjoint, is_carried, emitted_adjoint, emitted_units, emitted_program};
+ghost use Rattle.adj_reverse.specs.Program.{has_adjoint, is_carried_with, emitted_adjoint_with, emitted_units_with, emitted_program_with};
 ghost use Rattle.adj_emitted.specs.Shadowed.{AllHaveShadows};
+ghost use Rattle.adj_helpers.specs.Steps.{are_reversed};
 ghost use Rattle.adj_weave.specs.Marked.{program_marks, IsOver};
 ghost use Rattle.adj_weave.specs.Orders.{flagged};
-ghost use Rattle.adj_weave.specs.Shared.{sources, marks_for, IsCheckedBySome, IsPart};
+ghost use Rattle.adj_weave.specs.Shared.{sources, marks_for, reversed_for, IsCheckedBySome, IsPart};
 ghost use Rattle.adj_weave.specs.Woven.{IsTable, IsReady, head_of, only_if, emitted_for};
 
 use crate::called::known_callees;
@@ -19,6 +20,7 @@ use crate::numbers::first_statements;
 use crate::shadows::{shadowed, unmarked};
 use crate::source::{add_all_flagged, adjoint_names, all_variables, source_names, unit_names};
 use crate::unit::{Part, Shared, adjoint_unit};
+use adj_helpers::steps::MarkedLoops;
 use adj_naming::name_set::{NameSet, add_names};
 use adj_naming::naming::not_free;
 use adj_tree::{Head, Items, Memory, Name, NameList, Program, Unit, Units};
@@ -57,16 +59,17 @@ fn found_by_names(
     units: &[Unit],
     names: &[Name],
     head: usize,
+    loops: MarkedLoops,
 ) -> Result<Found, Memory>
     requires head { head < length units.now }
     requires names { names.now ≡ map unit_name (map procedure_of units.now) }
     requires apart { AreApart names.now }
     ensures adjointed { IfOk result (λ f. (h : Procedure) → unit_at head (map procedure_of units.now) ≡ h ∷ [] → f.adjointed ≡ map (λ u. has_adjoint (program_marks marked.now) (map procedure_of units.now) h u.name) (map procedure_of units.now)) }
-    ensures carried { IfOk result (λ f. (h : Procedure) → unit_at head (map procedure_of units.now) ≡ h ∷ [] → f.carried ≡ map (λ u. is_carried (program_marks marked.now) (map procedure_of units.now) h u.name) (map procedure_of units.now)) }
+    ensures carried { IfOk result (λ f. (h : Procedure) → unit_at head (map procedure_of units.now) ≡ h ∷ [] → f.carried ≡ map (λ u. is_carried_with (are_reversed loops) (program_marks marked.now) (map procedure_of units.now) h u.name) (map procedure_of units.now)) }
 {
     let mut set = NameSet::new(alloc);
     add_names(alloc, &mut set, names)?;
-    let found = found_units(alloc, marked, units, &set, head)?;
+    let found = found_units(alloc, marked, units, &set, head, loops)?;
     Ok(found)
 }
 
@@ -77,17 +80,18 @@ fn tabulated(
     units: &[Unit],
     names: &[Name],
     head: usize,
+    loops: MarkedLoops,
 ) -> Result<Table, Memory>
     requires head { head < length units.now }
     requires names { names.now ≡ map unit_name (map procedure_of units.now) }
     requires apart { AreApart names.now }
-    ensures table { IfOk result (λ t. (h : Procedure) → unit_at head (map procedure_of units.now) ≡ h ∷ [] → IsTable (program_marks marked.now) (map procedure_of units.now) h t) }
+    ensures table { IfOk result (λ t. (h : Procedure) → unit_at head (map procedure_of units.now) ≡ h ∷ [] → IsTable (are_reversed loops) (program_marks marked.now) (map procedure_of units.now) h t) }
 {
     let variables = all_variables(alloc, units)?;
     let source = source_names(alloc, names, variables.as_slice())?;
     let adjoints = adjoint_names(alloc, units, &source)?;
     let numbers = first_statements(alloc, units)?;
-    let found = found_by_names(alloc, marked, units, names, head)?;
+    let found = found_by_names(alloc, marked, units, names, head, loops)?;
     Ok(Table {
         variables,
         adjoints,
@@ -111,7 +115,7 @@ fn all_names(alloc: Global, units: &[Unit], table: &Table) -> Result<Vec<Name>, 
 fn emitted_adjoint(alloc: Global, shared: &Shared, part: &Part, aim: &Aim) -> Result<Unit, Memory>
     requires ready { IsReady shared.now aim.now }
     requires part { IsPart (marks_for shared.now) (sources shared.now) part.now }
-    ensures unit { IfOk result (λ u. procedure_of u ≡ emitted_adjoint (marks_for shared.now) (sources shared.now) (head_of aim.now) aim.now.vars.now aim.now.outvars.now (procedure_of part.now.unit.now)) }
+    ensures unit { IfOk result (λ u. procedure_of u ≡ emitted_adjoint_with (reversed_for shared.now) (marks_for shared.now) (sources shared.now) (head_of aim.now) aim.now.vars.now aim.now.outvars.now (procedure_of part.now.unit.now)) }
 {
     if !aim.head.name.equals(&part.unit.name) {
         let other = adjoint_unit(alloc, shared, part, &[], &[])?;
@@ -152,7 +156,7 @@ fn add_adjoint(
 ) -> Result<(), Memory>
     requires ready { IsReady shared.now aim.now }
     requires part { adjointed ≡ true → IsPart (marks_for shared.now) (sources shared.now) part.now }
-    ensures units { OnOk result (map procedure_of made.new.items ≡ map procedure_of made.old.items ++ only_if adjointed (emitted_adjoint (marks_for shared.now) (sources shared.now) (head_of aim.now) aim.now.vars.now aim.now.outvars.now (procedure_of part.now.unit.now))) }
+    ensures units { OnOk result (map procedure_of made.new.items ≡ map procedure_of made.old.items ++ only_if adjointed (emitted_adjoint_with (reversed_for shared.now) (marks_for shared.now) (sources shared.now) (head_of aim.now) aim.now.vars.now aim.now.outvars.now (procedure_of part.now.unit.now))) }
 {
     if adjointed {
         made.push(emitted_adjoint(alloc, shared, part, aim)?)?;
@@ -171,7 +175,7 @@ fn add_unit(
 ) -> Result<(), Memory>
     requires ready { IsReady shared.now aim.now }
     requires part { emits.adjointed ≡ true → IsPart (marks_for shared.now) (sources shared.now) part.now }
-    ensures units { OnOk result (map procedure_of made.new.items ≡ map procedure_of made.old.items ++ emitted_for (marks_for shared.now) emits (sources shared.now) aim.now (procedure_of part.now.unit.now)) }
+    ensures units { OnOk result (map procedure_of made.new.items ≡ map procedure_of made.old.items ++ emitted_for (reversed_for shared.now) (marks_for shared.now) emits (sources shared.now) aim.now (procedure_of part.now.unit.now)) }
 {
     add_carried(alloc, part.unit, emits.carried, made)?;
     add_adjoint(alloc, shared, part, aim, emits.adjointed, made)?;
@@ -183,8 +187,8 @@ fn emitted(alloc: Global, shared: &Shared, table: &Table, aim: &Aim) -> Result<V
     requires ready { IsReady shared.now aim.now }
     requires flow { IsOver shared.now.marked (sources shared.now) aim.now.number }
     requires head { unit_at aim.now.number (sources shared.now) ≡ head_of aim.now ∷ [] }
-    requires table { IsTable (marks_for shared.now) (sources shared.now) (head_of aim.now) table.now }
-    ensures units { IfOk result (λ v. map procedure_of v.items ≡ emitted_units (marks_for shared.now) (sources shared.now) (head_of aim.now) aim.now.vars.now aim.now.outvars.now (sources shared.now)) }
+    requires table { IsTable (reversed_for shared.now) (marks_for shared.now) (sources shared.now) (head_of aim.now) table.now }
+    ensures units { IfOk result (λ v. map procedure_of v.items ≡ emitted_units_with (reversed_for shared.now) (marks_for shared.now) (sources shared.now) (head_of aim.now) aim.now.vars.now aim.now.outvars.now (sources shared.now)) }
 {
     let units = shared.units;
     let carried = table.found.carried.as_slice();
@@ -211,24 +215,25 @@ fn emitted(alloc: Global, shared: &Shared, table: &Table, aim: &Aim) -> Result<V
 }
 
 /// The program that is emitted for a head of a checked program in kernel form, by these marks, whose shadows are there: with full
-/// marks they are.
+/// marks they are. Marked loops are gone through as loops as others, or are reversed by schedules.
 pub fn adjoint(
     alloc: Global,
     program: &Program,
     head: &Head,
     marked: Marked<'_>,
+    loops: MarkedLoops,
 ) -> Result<Program, Memory>
     requires head { head.now.unit < length program.now.units }
     requires checked { IsCheckedBySome (procedures_of program.now) }
     requires flow { IsOver marked (procedures_of program.now) head.now.unit }
     requires shadows { AllHaveShadows (program_marks marked) (procedures_of program.now) (procedures_of program.now) }
-    ensures emitted { IfOk result (λ p. procedures_of p ≡ emitted_program (program_marks marked.entry) (procedures_of program.now) head.now.unit head.now.vars head.now.outvars) }
+    ensures emitted { IfOk result (λ p. procedures_of p ≡ emitted_program_with (are_reversed loops) (program_marks marked.entry) (procedures_of program.now) head.now.unit head.now.vars head.now.outvars) }
 {
     let units = program.units.as_slice();
     let number = head.unit;
     let own = unit_names(alloc, units)?;
     let names = own.as_slice();
-    let table = tabulated(alloc, &marked, units, names, number)?;
+    let table = tabulated(alloc, &marked, units, names, number, loops)?;
     let adjoints = table.adjoints.as_slice();
     let callees = known_callees(alloc, &marked, units, names, adjoints)?;
     let all = all_names(alloc, units, &table)?;
@@ -237,6 +242,7 @@ pub fn adjoint(
     let shared = Shared {
         units,
         marked,
+        loops,
         callees: &callees,
         names: listed,
         taken: &taken,

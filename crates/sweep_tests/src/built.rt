@@ -1,7 +1,7 @@
 //! The statements of a text, the names of a unit, and the text of what is emitted.
 
 use adj_fixed::{Mode, statements};
-use adj_helpers::callees::{Callee, Callees};
+use adj_helpers::callees::{Callee, Callees, Dummy};
 use adj_naming::helper_set::HelperSet;
 use adj_naming::name_set::{NameSet, add_texts};
 use adj_naming::names::Names;
@@ -82,6 +82,26 @@ pub(crate) fn no_callees(alloc: Global) -> Result<Callees, Memory> {
             dummies: Vec::new(alloc),
         },
     })
+}
+
+/// One unit is known: its name, that of its adjoint, and its dummies.
+pub(crate) fn one_callee(
+    alloc: Global,
+    unit: &[u8],
+    adjoint: &[u8],
+    dummies: &[Dummy],
+) -> Result<Callees, Memory> {
+    let mut callees = no_callees(alloc)?;
+    callees.names = set_of(alloc, &[unit])?;
+    let mut known = Vec::new(alloc);
+    for dummy in dummies {
+        known.push(*dummy)?;
+    }
+    callees.known.push(Callee {
+        adjoint: name(alloc, adjoint)?,
+        dummies: known,
+    })?;
+    Ok(callees)
 }
 
 fn unit(alloc: Global, body: Stmts) -> Result<Unit, Memory> {

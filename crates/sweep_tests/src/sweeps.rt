@@ -1,8 +1,10 @@
 //! The sweeps of small bodies with full marks, against statements that were worked out by the rules of docs/EMITTED.md.
 
-use crate::built::{Called, is_text, listed, names, no_callees, read};
+use crate::built::{Called, is_text, listed, names, no_callees, one_callee, read};
 use adj_emission::bodies::Body;
 use adj_emission::plan::Plan;
+use adj_helpers::callees::{Callees, Dummy};
+use adj_helpers::steps::MarkedLoops;
 use adj_marking::Marking;
 use adj_naming::name_set::NameSet;
 use adj_naming::role::Role;
@@ -24,16 +26,21 @@ const SCALARS: Called<'static> = Called {
 };
 
 // The adjoint of a body, where the shadow of Y is cleared between the sweeps and that of X at the end.
-fn adjoint_of(alloc: Global, statements: &Stmts) -> Result<Stmts, Memory> {
-    let names = names(alloc, &SCALARS)?;
+fn adjoint_of(
+    alloc: Global,
+    called: &Called,
+    callees: &Callees,
+    statements: &Stmts,
+) -> Result<Stmts, Memory> {
+    let names = names(alloc, called)?;
     let arrays = NameSet::new(alloc);
-    let callees = no_callees(alloc)?;
     let marks: Marking<'static> = Marking::Full;
     let plan = Plan {
         names: &names,
         marks: &marks,
+        loops: MarkedLoops::Reversed,
         arrays: &arrays,
-        callees: &callees,
+        callees,
     };
     let at_turn = listed(alloc, &[b"Y"])?;
     let at_end = listed(alloc, &[b"X"])?;
@@ -102,12 +109,139 @@ const BODIES: [(&str, &str); 2] = [
 #[test]
 fn each_body_has_its_adjoint(rt: HostRuntime) -> Result<(), Fault> {
     let alloc = rt.alloc();
+    let callees = no_callees(alloc)?;
     for (statements, lines) in BODIES {
         let program = read(alloc, statements)?;
         for unit in program.units.as_slice() {
-            let code = adjoint_of(alloc, &unit.body)?;
+            let code = adjoint_of(alloc, &SCALARS, &callees, &unit.body)?;
             assert!(rt; is_text(alloc, code, lines)?, "{statements}");
         }
+    }
+    Ok(())
+}
+
+// The scalars X, Y, Z and I are the variables, and there is a marked loop.
+const STEPS: Called<'static> = Called {
+    variables: &[b"X", b"Y", b"Z", b"I"],
+    shadows: &[b"XB", b"YB", b"ZB", b"IB"],
+    helpers: &[
+        (Role::Count, 1),
+        (Role::First, 1),
+        (Role::Stride, 1),
+        (Role::Turn, 1),
+        (Role::Entry, 1),
+        (Role::Entries, 1),
+        (Role::Kind, 1),
+        (Role::Lower, 1),
+        (Role::Upper, 1),
+    ],
+    helper_names: &[
+        b"ADL1", b"ADM1", b"ADI1", b"ADJ1", b"ADK1", b"ADN1", b"ADA1", b"ADF1", b"ADT1",
+    ],
+};
+
+// The dummies of the step unit: the first is written and read, the second is written and needed by the adjoint, the third is written
+// alone, and the fourth isn't written and has no shadow.
+const STEP: [Dummy; 4] = [
+    Dummy {
+        written: true,
+        read: true,
+        member: false,
+        shadowed: true,
+    },
+    Dummy {
+        written: true,
+        read: false,
+        member: true,
+        shadowed: true,
+    },
+    Dummy {
+        written: true,
+        read: false,
+        member: false,
+        shadowed: true,
+    },
+    Dummy {
+        written: false,
+        read: true,
+        member: true,
+        shadowed: false,
+    },
+];
+
+// A marked loop, and its adjoint.
+const MARKED: (&str, &str) = (
+    "C$AD BINOMIAL-CKP 5\n      DO I=1,3\n      CALL G(X,Y,Z,I)\n      END DO\n",
+    "      CALL PUSHINTEGER8(I)
+      ADM1=1
+      ADI1=1
+      ADL1=0
+      CALL PUSHINTEGER8(X)
+      CALL PUSHINTEGER8(Y)
+      CALL PUSHINTEGER8(Z)
+      CALL PUSHINTEGER8(X)
+      CALL PUSHINTEGER8(Y)
+      DO I=ADM1,3,ADI1
+      CALL G(X,Y,Z,I)
+      ADL1=ADL1+1
+      END DO
+      CALL PUSHINTEGER8(ADM1)
+      CALL PUSHINTEGER8(ADI1)
+      CALL PUSHINTEGER8(ADL1)
+      YB=0
+      CALL POPINTEGER8(ADL1)
+      CALL POPINTEGER8(ADI1)
+      CALL POPINTEGER8(ADM1)
+      CALL POPINTEGER8(Y)
+      CALL POPINTEGER8(X)
+      CALL ADBEG(ADL1,5)
+      CALL ADACTN(ADL1,5,ADN1)
+      DO ADK1=1,ADN1
+      CALL ADACT(ADL1,5,ADK1,ADA1,ADF1,ADT1)
+      IF (ADA1.EQ.1) THEN
+      CALL PUSHINTEGER8(X)
+      CALL PUSHINTEGER8(Y)
+      END IF
+      IF (ADA1.EQ.2) THEN
+      DO ADJ1=ADF1,ADT1-1
+      I=ADM1+ADJ1*ADI1
+      CALL G(X,Y,Z,I)
+      END DO
+      END IF
+      IF (ADA1.EQ.3) THEN
+      I=ADM1+ADF1*ADI1
+      CALL G_B(X,XB,Y,YB,Z,ZB,I)
+      END IF
+      IF (ADA1.EQ.4) THEN
+      CALL POPINTEGER8(Y)
+      CALL POPINTEGER8(X)
+      CALL PUSHINTEGER8(X)
+      CALL PUSHINTEGER8(Y)
+      END IF
+      IF (ADA1.EQ.5) THEN
+      CALL POPINTEGER8(Y)
+      CALL POPINTEGER8(X)
+      END IF
+      END DO
+      CALL ADEND
+      CALL POPINTEGER8(Z)
+      CALL POPINTEGER8(Y)
+      CALL POPINTEGER8(X)
+      CALL POPINTEGER8(I)
+      IB=0
+      XB=0
+",
+);
+
+#[test]
+fn a_marked_loop_is_reversed_by_a_schedule(rt: HostRuntime) -> Result<(), Fault> {
+    let alloc = rt.alloc();
+    let callees = one_callee(alloc, b"G", b"G_B", &STEP)?;
+    let (statements, lines) = MARKED;
+    let program = read(alloc, statements)?;
+    for unit in program.units.as_slice() {
+        let code = adjoint_of(alloc, &STEPS, &callees, &unit.body)?;
+        assert!(rt; is_text(alloc, code, lines)?, "{statements}");
     }
     Ok(())
 }

@@ -10,6 +10,7 @@ ghost use Rattle.adj_weave.specs.Marked.{IsFlowOf};
 use adj_activity::{activity, flow};
 use adj_fixed::{Mode, statements};
 use adj_flow::Flow;
+use adj_helpers::steps::MarkedLoops;
 use adj_norm::is_kernel;
 use adj_parse::program;
 use adj_print::text;
@@ -52,12 +53,12 @@ fn flags(alloc: Global, digits: &[u8]) -> Result<Flags, Memory> {
 // A digit for each dummy of the head, whether it is independent and whether it is dependent; for each statement, whether it is kept;
 // and for each place of a variable in each unit, and in each statement, whether it is needed at the entry, and saved.
 #[derive(Clone, Copy)]
-struct Given<'a> {
-    vars: &'a [u8],
-    outvars: &'a [u8],
-    kept: &'a [u8],
-    entry: &'a [u8],
-    saved: &'a [u8],
+pub(crate) struct Given<'a> {
+    pub vars: &'a [u8],
+    pub outvars: &'a [u8],
+    pub kept: &'a [u8],
+    pub entry: &'a [u8],
+    pub saved: &'a [u8],
 }
 
 // The text of what is emitted for a checked program in kernel form, of which this is the flow.
@@ -87,7 +88,8 @@ fn emitted(
         marks: &marks,
         flow,
     };
-    let emitted = adjoint(alloc, program, head, Marked::Found(found))?;
+    let marked = Marked::Found(found);
+    let emitted = adjoint(alloc, program, head, marked, MarkedLoops::Reversed)?;
     text(alloc, &emitted)
 }
 
@@ -109,7 +111,12 @@ fn answer(alloc: Global, checked: &Checked, given: Given<'_>) -> Result<Vec<u8>,
 }
 
 // Whether this is emitted for the program of a text.
-fn emits(alloc: Global, source: &[u8], given: Given<'_>, expected: &[u8]) -> Result<bool, Fault> {
+pub(crate) fn emits(
+    alloc: Global,
+    source: &[u8],
+    given: Given<'_>,
+    expected: &[u8],
+) -> Result<bool, Fault> {
     let program = read(alloc, source)?;
     let checked = check(alloc, program, Mode::Source)?;
     let answer = answer(alloc, &checked, given)?;

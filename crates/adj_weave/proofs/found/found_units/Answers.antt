@@ -7,7 +7,8 @@ use Rattle.adj_transpose.specs.Naming.{AreApart}
 use Rattle.adj_transpose.specs.Program.{unit_name}
 use Rattle.adj_reach.specs.Edges.{Edges, AreBelow, ReachedFrom, flag}
 use Rattle.adj_weave.specs.Marked.{program_marks}
-use Rattle.adj_weave.specs.Orders.{listed_from, edges_of, ends_of}
+use Rattle.adj_helpers.specs.Steps.{are_reversed}
+use Rattle.adj_weave.specs.Orders.{listed_from, edges_of, is_plain_call, ends_of}
 use Rattle.adj_weave.proofs.Reached.{edges_below, adjointed_are, carried_are, ends_below}
 use Rattle.adj_weave.proofs.found.found_units.Goals as goal
 
@@ -24,8 +25,8 @@ reach-requires-clause-edges c =
     let n : length ps ≡ length c.args.units.now = length-map c.args.units.now procedure_of in
     let apart : AreApart (map unit_name ps) = subst AreApart c.requires.names c.requires.apart in
     let calls = c.as_slice-calls.ensures.value ∙ c.in_ok-listed.ensures.calls ∙ ap (λ ns. listed_from ns 0 0 ps) c.requires.names in
-    let es = c.as_slice.ensures.value ∙ c.in_ok-adjoint_edges.ensures.edges ∙ ap (edges_of m.adjointed) calls in
-    subst (λ xs. AreBelow (length c.args.units.now) xs) (sym es) (subst (λ k. AreBelow k (edges_of m.adjointed (listed_from (map unit_name ps) 0 0 ps))) n (edges_below ps apart m.adjointed))
+    let es = c.as_slice.ensures.value ∙ c.in_ok-adjoint_edges.ensures.edges ∙ ap (edges_of (λ i turns. m.adjointed i)) calls in
+    subst (λ xs. AreBelow (length c.args.units.now) xs) (sym es) (subst (λ k. AreBelow k (edges_of (λ i turns. m.adjointed i) (listed_from (map unit_name ps) 0 0 ps))) n (edges_below ps apart (λ i turns. m.adjointed i)))
 
 pub reach-requires-2-clause-edges : goal.reach-requires-2-clause-edges
 reach-requires-2-clause-edges c =
@@ -33,8 +34,8 @@ reach-requires-2-clause-edges c =
     let n : length ps ≡ length c.args.units.now = length-map c.args.units.now procedure_of in
     let apart : AreApart (map unit_name ps) = subst AreApart c.requires.names c.requires.apart in
     let calls = c.as_slice-calls.ensures.value ∙ c.in_ok-listed.ensures.calls ∙ ap (λ ns. listed_from ns 0 0 ps) c.requires.names in
-    let es = c.as_slice-4.ensures.value ∙ c.in_ok-all_edges.ensures.edges ∙ ap (edges_of (λ i. true)) calls in
-    subst (λ xs. AreBelow (length c.args.units.now) xs) (sym es) (subst (λ k. AreBelow k (edges_of (λ i. true) (listed_from (map unit_name ps) 0 0 ps))) n (edges_below ps apart (λ i. true)))
+    let es = c.as_slice-4.ensures.value ∙ c.in_ok-all_edges.ensures.edges ∙ ap (edges_of (λ i turns. true)) calls in
+    subst (λ xs. AreBelow (length c.args.units.now) xs) (sym es) (subst (λ k. AreBelow k (edges_of (λ i turns. true) (listed_from (map unit_name ps) 0 0 ps))) n (edges_below ps apart (λ i turns. true)))
 
 pub reach-requires-2-clause-start : goal.reach-requires-2-clause-start
 reach-requires-2-clause-start c =
@@ -43,10 +44,11 @@ reach-requires-2-clause-start c =
     let n : length ps ≡ length c.args.units.now = length-map c.args.units.now procedure_of in
     let apart : AreApart (map unit_name ps) = subst AreApart c.requires.names c.requires.apart in
     let calls = c.as_slice-calls.ensures.value ∙ c.in_ok-listed.ensures.calls ∙ ap (λ ns. listed_from ns 0 0 ps) c.requires.names in
-    let kept = c.as_slice-3.ensures.value ∙ c.in_ok-kept_edges.ensures.edges ∙ ap (edges_of m.kept) calls in
+    let plain = is_plain_call m (are_reversed c.args.loops) in
+    let kept = c.as_slice-3.ensures.value ∙ c.in_ok-plain_edges.ensures.edges ∙ ap (edges_of plain) calls in
     let called = c.as_slice-5.ensures.value ∙ c.in_ok-called.ensures.ends in
     let below : AreBelow (length c.args.units.now) c.as_slice-3.result.now =
-    subst (λ xs. AreBelow (length c.args.units.now) xs) (sym kept) (subst (λ k. AreBelow k (edges_of m.kept (listed_from (map unit_name ps) 0 0 ps))) n (edges_below ps apart m.kept)) in
+    subst (λ xs. AreBelow (length c.args.units.now) xs) (sym kept) (subst (λ k. AreBelow k (edges_of plain (listed_from (map unit_name ps) 0 0 ps))) n (edges_below ps apart plain)) in
     subst (λ xs. All (λ x. x < length c.args.units.now) xs) (sym called) (ends_below (length c.args.units.now) c.as_slice-2.result.now c.as_slice-3.result.now below)
 
 pub returns-clause-adjointed : goal.returns-clause-adjointed
@@ -56,9 +58,9 @@ returns-clause-adjointed c h at =
     let n : length ps ≡ length c.args.units.now = length-map c.args.units.now procedure_of in
     let apart : AreApart (map unit_name ps) = subst AreApart c.requires.names c.requires.apart in
     let calls = c.as_slice-calls.ensures.value ∙ c.in_ok-listed.ensures.calls ∙ ap (λ ns. listed_from ns 0 0 ps) c.requires.names in
-    let es = c.as_slice.ensures.value ∙ c.in_ok-adjoint_edges.ensures.edges ∙ ap (edges_of m.adjointed) calls in
+    let es = c.as_slice.ensures.value ∙ c.in_ok-adjoint_edges.ensures.edges ∙ ap (edges_of (λ i turns. m.adjointed i)) calls in
     adjointed_are ps apart m c.args.head h at c.in_ok-adjointed.adjointed (c.in_ok-adjointed.ensures.count ∙ sym n)
-    (same_paths c.as_slice.result.now (edges_of m.adjointed (listed_from (map unit_name ps) 0 0 ps)) (c.args.head ∷ []) (c.args.head ∷ []) c.in_ok-adjointed.adjointed es refl c.in_ok-adjointed.ensures.exact)
+    (same_paths c.as_slice.result.now (edges_of (λ i turns. m.adjointed i) (listed_from (map unit_name ps) 0 0 ps)) (c.args.head ∷ []) (c.args.head ∷ []) c.in_ok-adjointed.adjointed es refl c.in_ok-adjointed.ensures.exact)
 
 pub returns-clause-carried : goal.returns-clause-carried
 returns-clause-carried c h at =
@@ -67,8 +69,9 @@ returns-clause-carried c h at =
     let n : length ps ≡ length c.args.units.now = length-map c.args.units.now procedure_of in
     let apart : AreApart (map unit_name ps) = subst AreApart c.requires.names c.requires.apart in
     let calls = c.as_slice-calls.ensures.value ∙ c.in_ok-listed.ensures.calls ∙ ap (λ ns. listed_from ns 0 0 ps) c.requires.names in
-    let kept = c.as_slice-3.ensures.value ∙ c.in_ok-kept_edges.ensures.edges ∙ ap (edges_of m.kept) calls in
-    let es = c.as_slice-4.ensures.value ∙ c.in_ok-all_edges.ensures.edges ∙ ap (edges_of (λ i. true)) calls in
+    let plain = is_plain_call m (are_reversed c.args.loops) in
+    let kept = c.as_slice-3.ensures.value ∙ c.in_ok-plain_edges.ensures.edges ∙ ap (edges_of plain) calls in
+    let es = c.as_slice-4.ensures.value ∙ c.in_ok-all_edges.ensures.edges ∙ ap (edges_of (λ i turns. true)) calls in
     let called = c.as_slice-5.ensures.value ∙ c.in_ok-called.ensures.ends ∙ (λ i. ends_of (c.as_slice-2.ensures.members i) (kept i)) in
-    carried_are ps apart m c.args.head h at c.in_ok-adjointed.adjointed c.in_ok-carried.carried (returns-clause-adjointed c h at) (c.in_ok-carried.ensures.count ∙ sym n)
-    (same_paths c.as_slice-4.result.now (edges_of (λ i. true) (listed_from (map unit_name ps) 0 0 ps)) c.as_slice-5.result.now (ends_of c.in_ok-adjointed.adjointed (edges_of m.kept (listed_from (map unit_name ps) 0 0 ps))) c.in_ok-carried.carried es called c.in_ok-carried.ensures.exact)
+    carried_are ps apart m c.args.head h at (are_reversed c.args.loops) c.in_ok-adjointed.adjointed c.in_ok-carried.carried (returns-clause-adjointed c h at) (c.in_ok-carried.ensures.count ∙ sym n)
+    (same_paths c.as_slice-4.result.now (edges_of (λ i turns. true) (listed_from (map unit_name ps) 0 0 ps)) c.as_slice-5.result.now (ends_of c.in_ok-adjointed.adjointed (edges_of plain (listed_from (map unit_name ps) 0 0 ps))) c.in_ok-carried.carried es called c.in_ok-carried.ensures.exact)

@@ -9,14 +9,15 @@ use Rattle.adj_transpose.specs.Program.{declared_helpers}
 use Rattle.adj_transpose.specs.MarkedProgram.{shadows_behind, declared_behind}
 use Rattle.adj_reverse.specs.Plan.{Plan}
 use Rattle.adj_reverse.specs.Marking.{first_statement, marks_in, plan_in, arrays_of, callee_in}
-use Rattle.adj_reverse.specs.Program.{helpers_used, adjoint_names}
-use Rattle.adj_reverse.specs.Emission.{adjoint_body}
+use Rattle.adj_reverse.specs.Program.{helpers_used_with, adjoint_names_with, schedules_in}
+use Rattle.adj_reverse.specs.Emission.{adjoint_body_with}
 use Rattle.adj_reverse.proofs.Variables.{variables_apart}
 use Rattle.adj_naming.specs.Roles.{variable_of}
 use Rattle.adj_naming.specs.Sets.{AreDifferent}
 use Rattle.adj_naming.specs.Table.{table_of, named_by}
 use Rattle.adj_marking.specs.View.{marks_of}
-use Rattle.adj_weave.specs.Shared.{sources, marks_for}
+use Rattle.adj_weave.specs.Marked.{reads_in}
+use Rattle.adj_weave.specs.Shared.{sources, marks_for, reversed_for}
 use Rattle.adj_weave.proofs.Alike.{helpers_same, alike_body}
 use Rattle.adj_weave.proofs.Units.{helpers_different, shadowed_apart, arrays_are, body_same, unit_is}
 use Rattle.adj_weave.proofs.unit.adjoint_unit.Goals as goal
@@ -33,9 +34,9 @@ names-requires-clause-helpers c =
     let u = procedure_of c.args.part.now.unit.now in
     let s = c.args.shared.now in
     let callees = callee_in (marks_for s) (sources s) in
-    let made = ap (map variable_of) c.as_slice-helpers.ensures.value ∙ c.in_ok-used.ensures.helpers (arrays_of u) callees c.requires.shared.callees in
+    let made = ap (map variable_of) c.as_slice-helpers.ensures.value ∙ c.in_ok-used.ensures.helpers (arrays_of u) callees (reads_in (sources s)) c.requires.shared.callees in
     let p : Plan = record { marks = marks_of c.args.part.now.marking; arrays = arrays_of u; callees = callees } in
-    subst AreDifferent (sym made) (helpers_different p c.args.part.now.number u.body)
+    subst AreDifferent (sym made) (helpers_different (schedules_in (reversed_for s) (sources s)) p c.args.part.now.number u.body)
 
 pub returns : goal.returns
 returns c =
@@ -53,26 +54,28 @@ returns c =
     let t = marks_of g.marking in
     let w = marks_in m u.name in
     let callees = callee_in m ps in
+    let sb = reversed_for s in
+    let sc = schedules_in sb ps in
     let alike = c.requires.part.marks in
     let shadows : t.shadowed ≡ m.shadowed u.name = alike.shadowed in
     let own = c.as_slice.ensures.value ∙ c.in_ok-own.ensures.names ∙ (λ j. names_in (shadows j) (c.requires.part.variables j)) in
-    let hs : map variable_of c.as_slice-helpers.result.now ≡ helpers_used (plan_in m ps u) i u.body =
-    ap (map variable_of) c.as_slice-helpers.ensures.value ∙ c.in_ok-used.ensures.helpers (arrays_of u) callees c.requires.shared.callees
-    ∙ ap (λ k. let p : Plan = record { marks = t; arrays = arrays_of u; callees = callees } in helpers_used p k u.body) c.requires.part.number
-    ∙ helpers_same t w shadows (arrays_of u) callees i u.body alike.over in
-    let table : table_of n ≡ adjoint_names m ps units u =
+    let hs : map variable_of c.as_slice-helpers.result.now ≡ helpers_used_with sc (plan_in m ps u) i u.body =
+    ap (map variable_of) c.as_slice-helpers.ensures.value ∙ c.in_ok-used.ensures.helpers (arrays_of u) callees (reads_in ps) c.requires.shared.callees
+    ∙ ap (λ k. let p : Plan = record { marks = t; arrays = arrays_of u; callees = callees } in helpers_used_with sc p k u.body) c.requires.part.number
+    ∙ helpers_same t w shadows sc (arrays_of u) callees i u.body alike.over in
+    let table : table_of n ≡ adjoint_names_with sb m ps units u =
     c.in_ok-all.ensures.names units c.requires.shared.taken
     ∙ (λ j. unit_names (c.requires.part.variables j) units (map shadow (own j) ++ hs j)) in
-    let body : code_of c.in_ok-body.body ≡ rename (named_by n) (adjoint_body (plan_in m ps u) i u.line u.body at_turn at_end) =
-    c.in_ok-body.ensures.body callees c.requires.shared.callees
-    ∙ (λ j. let p : Plan = record { marks = t; arrays = arrays_are u c.in_ok-arrays.arrays c.in_ok-arrays.ensures.arrays j; callees = callees } in rename (named_by n) (adjoint_body p (c.requires.part.number j) u.line u.body at_turn at_end))
-    ∙ ap (rename (named_by n)) (alike_body t w shadows (arrays_of u) callees i u.line u.body at_turn at_end alike.over) in
+    let body : code_of c.in_ok-body.body ≡ rename (named_by n) (adjoint_body_with sc (plan_in m ps u) i u.line u.body at_turn at_end) =
+    c.in_ok-body.ensures.body callees (reads_in ps) c.requires.shared.callees
+    ∙ (λ j. let p : Plan = record { marks = t; arrays = arrays_are u c.in_ok-arrays.arrays c.in_ok-arrays.ensures.arrays j; callees = callees } in rename (named_by n) (adjoint_body_with sc p (c.requires.part.number j) u.line u.body at_turn at_end))
+    ∙ ap (rename (named_by n)) (alike_body t w shadows sc (arrays_of u) callees i u.line u.body at_turn at_end alike.over) in
     record {
-      unit = unit_is m ps c.requires.shared.checked c.requires.shared.shadows u c.requires.part.found units at_turn at_end c.requires.at_turn c.requires.at_end
+      unit = unit_is sb m ps c.requires.shared.checked c.requires.shared.shadows u c.requires.part.found units at_turn at_end c.requires.at_turn c.requires.at_end
           c.in_ok-copy.field-0 (table_of n) c.new.result (map variable_of c.as_slice-helpers.result.now) (map declaration_of c.new-2.result) (code_of c.in_ok-body.body)
           (c.in_ok-copy.ensures.same ∙ c.requires.part.adjoint) table
           (c.new.ensures.members ∙ c.in_ok-dummies.ensures.names ∙ (λ j. shadows_behind (shadows j) (table_of n) (c.as_slice-2.ensures.members j)))
           hs
           (ap (map declaration_of) c.new-2.ensures.members ∙ c.in_ok-decls.ensures.declarations ∙ (λ j. declared_behind (shadows j) (table_of n) u (c.requires.part.variables j) ++ declared_helpers (table_of n) u.line (map variable_of c.as_slice-helpers.result.now)))
-          (body ∙ body_same m ps c.requires.shared.checked c.requires.shared.shadows u c.requires.part.found units at_turn at_end c.requires.at_turn c.requires.at_end n table);
+          (body ∙ body_same sb m ps c.requires.shared.checked c.requires.shared.shadows u c.requires.part.found units at_turn at_end c.requires.at_turn c.requires.at_end n table);
     }

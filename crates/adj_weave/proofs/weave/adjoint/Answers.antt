@@ -2,9 +2,10 @@ use Rattle.std.proofs.Common.{◌<◌, map, length, ap, sym, subst, ◌∙◌}
 use Rattle.adj_tree.specs.View.{procedure_of, procedures_of}
 use Rattle.adj_transpose.specs.Naming.{AreApart}
 use Rattle.adj_transpose.specs.Program.{unit_name}
-use Rattle.adj_reverse.specs.Program.{emitted_program}
+use Rattle.adj_reverse.specs.Program.{emitted_program_with}
 use Rattle.adj_checked.proofs.Premises.{units_apart}
 use Rattle.adj_emitted.specs.Shadowed.{AllHaveShadows}
+use Rattle.adj_helpers.specs.Steps.{are_reversed}
 use Rattle.adj_weave.specs.Marked.{program_marks, KnowsUnits, IsOver}
 use Rattle.adj_weave.specs.Shared.{IsCheckedBySome}
 use Rattle.adj_weave.proofs.Known.{over_knows}
@@ -52,7 +53,7 @@ all_names-requires c =
     let k = c.args.head.now.unit in
     let lt : k < length us = subst (λ xs. k < length xs) (sym c.as_slice-units.ensures.members) c.requires.head in
     let o = head_there us k lt in
-    record { same = same_length (program_marks c.args.marked) (map procedure_of us) (procedure_of o.0) c.in_ok-table.table (c.in_ok-table.ensures.table (procedure_of o.0) o.1) }
+    record { same = same_length (are_reversed c.args.loops) (program_marks c.args.marked) (map procedure_of us) (procedure_of o.0) c.in_ok-table.table (c.in_ok-table.ensures.table (procedure_of o.0) o.1) }
 
 pub bounds-units-number : goal.bounds-units-number
 bounds-units-number c = subst (λ us. c.args.head.now.unit < length us) (sym c.as_slice-units.ensures.members) c.requires.head
@@ -73,7 +74,7 @@ emitted-requires-clause-ready c =
         callees = c.in_ok-callees.ensures.known;
         taken = c.in_ok-taken.ensures.names;
       };
-      names = c.as_slice-listed.ensures.value ∙ all_are (program_marks c.args.marked) ps (procedure_of h) c.in_ok-table.table told c.in_ok-all.all.items c.in_ok-all.ensures.names;
+      names = c.as_slice-listed.ensures.value ∙ all_are (are_reversed c.args.loops) (program_marks c.args.marked) ps (procedure_of h) c.in_ok-table.table told c.in_ok-all.all.items c.in_ok-all.ensures.names;
     }
 
 pub emitted-requires-clause-flow : goal.emitted-requires-clause-flow
@@ -106,6 +107,6 @@ returns c =
     let at = at_number ps k (procedure_of h) (unit_stands us k h lt c.index-units-number.is) in
     record {
       emitted = ap (map procedure_of) c.new-units.ensures.members ∙ c.in_ok-made.ensures.units
-          ∙ program_emitted (program_marks c.args.marked) ps k (procedure_of h) c.as_slice-vars.result.now c.as_slice-outvars.result.now at
-          ∙ (λ i. emitted_program (program_marks c.args.marked) (map procedure_of (c.as_slice-units.ensures.members i)) k (c.as_slice-vars.ensures.members i) (c.as_slice-outvars.ensures.members i));
+          ∙ program_emitted (are_reversed c.args.loops) (program_marks c.args.marked) ps k (procedure_of h) c.as_slice-vars.result.now c.as_slice-outvars.result.now at
+          ∙ (λ i. emitted_program_with (are_reversed c.args.loops) (program_marks c.args.marked) (map procedure_of (c.as_slice-units.ensures.members i)) k (c.as_slice-vars.ensures.members i) (c.as_slice-outvars.ensures.members i));
     }

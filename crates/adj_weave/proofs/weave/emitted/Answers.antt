@@ -4,9 +4,9 @@ use Rattle.adj_tree.specs.Code.{Procedure}
 use Rattle.adj_names.specs.Variables.{variables}
 use Rattle.adj_reverse.specs.Names.{adjoint_name}
 use Rattle.adj_reverse.specs.Marking.{marks_in, first_statement, place_from}
-use Rattle.adj_reverse.specs.Program.{has_adjoint, is_carried}
+use Rattle.adj_reverse.specs.Program.{has_adjoint, is_carried_with}
 use Rattle.adj_checked.proofs.Premises.{units_apart}
-use Rattle.adj_weave.specs.Shared.{sources, marks_for}
+use Rattle.adj_weave.specs.Shared.{sources, marks_for, reversed_for}
 use Rattle.adj_weave.specs.Woven.{head_of}
 use Rattle.adj_weave.specs.Alike.{AreAlike}
 use Rattle.adj_weave.proofs.Places.{find_at}
@@ -33,7 +33,7 @@ pub bounds-carried-k : goal.bounds-carried-k
 bounds-carried-k c =
     let ps = sources c.args.shared.now in
     let m = marks_for c.args.shared.now in
-    reaches (λ (u : Procedure). is_carried m ps (head_of c.args.aim.now) u.name) c.args.shared.now.units.now c.as_slice-carried.result.now c.loop-k.k c.loop-k-test.true (c.as_slice-carried.ensures.members ∙ c.requires.table.carried)
+    reaches (λ (u : Procedure). is_carried_with (reversed_for c.args.shared.now) m ps (head_of c.args.aim.now) u.name) c.args.shared.now.units.now c.as_slice-carried.result.now c.loop-k.k c.loop-k-test.true (c.as_slice-carried.ensures.members ∙ c.requires.table.carried)
 
 pub bounds-adjointed-k : goal.bounds-adjointed-k
 bounds-adjointed-k c =
@@ -82,8 +82,8 @@ loop-k-preserved c =
     let at = unit_stands s.units.now k u c.loop-k-test.true c.index-units-k.is in
     let carried = c.as_slice-carried.result.now in
     let adjointed = c.as_slice-adjointed.result.now in
-    emitted_on m ps a s.units.now c.loop-k.made.items c.add_unit.new.made.items k u (record { carried = get_or carried k false; adjointed = get_or adjointed k false }) c.loop-k-test.true c.index-units-k.is
+    emitted_on (reversed_for s) m ps a s.units.now c.loop-k.made.items c.add_unit.new.made.items k u (record { carried = get_or carried k false; adjointed = get_or adjointed k false }) c.loop-k-test.true c.index-units-k.is
     c.in_ok-add_unit.ensures.units
-    (told_flag (λ (v : Procedure). is_carried m ps (head_of a) v.name) ps k (procedure_of u) carried (get_or carried k false) at (c.as_slice-carried.ensures.members ∙ c.requires.table.carried) refl)
+    (told_flag (λ (v : Procedure). is_carried_with (reversed_for c.args.shared.now) m ps (head_of a) v.name) ps k (procedure_of u) carried (get_or carried k false) at (c.as_slice-carried.ensures.members ∙ c.requires.table.carried) refl)
     (told_flag (λ (v : Procedure). has_adjoint m ps (head_of a) v.name) ps k (procedure_of u) adjointed (get_or adjointed k false) at (c.as_slice-adjointed.ensures.members ∙ c.requires.table.adjointed) refl)
     ∙ c.loop-k.invariant

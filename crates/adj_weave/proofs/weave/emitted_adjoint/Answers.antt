@@ -5,9 +5,9 @@ use Rattle.adj_tree.proofs.Names.{name_refl, name_same}
 use Rattle.adj_transpose.specs.Marked.{names_in}
 use Rattle.adj_transpose.specs.Program.{unmarked}
 use Rattle.adj_transpose.proofs.Variables.{not_true}
-use Rattle.adj_reverse.specs.Program.{adjoint_unit}
+use Rattle.adj_reverse.specs.Program.{adjoint_unit_with}
 use Rattle.adj_marking.specs.View.{marks_of}
-use Rattle.adj_weave.specs.Shared.{sources, marks_for, HaveShadows}
+use Rattle.adj_weave.specs.Shared.{sources, marks_for, reversed_for, HaveShadows}
 use Rattle.adj_weave.specs.Woven.{head_of}
 use Rattle.adj_weave.proofs.Program.{cleared_have, other_adjoint, head_adjoint}
 use Rattle.adj_weave.proofs.weave.emitted_adjoint.Goals as goal
@@ -45,7 +45,7 @@ returns-then-not-equals c =
     let u = procedure_of c.args.part.now.unit.now in
     let h = head_of a in
     let differ : name_eq h.name u.name ≡ false = not_true (name_eq h.name u.name) (λ e. let t : c.equals.result ≡ true = c.equals.ensures.equal.1 (name_same h.name u.name e) in let f : c.equals.result ≡ false = c.if-not-equals.true in cc) in
-    record { unit = c.in_ok-other.ensures.unit ∙ ap (λ ns. adjoint_unit (marks_for s) (sources s) ns u [] []) c.requires.ready.names ∙ other_adjoint (marks_for s) (sources s) h a.vars.now a.outvars.now u differ }
+    record { unit = c.in_ok-other.ensures.unit ∙ ap (λ ns. adjoint_unit_with (reversed_for s) (marks_for s) (sources s) ns u [] []) c.requires.ready.names ∙ other_adjoint (reversed_for s) (marks_for s) (sources s) h a.vars.now a.outvars.now u differ }
 
 pub returns : goal.returns
 returns c =
@@ -61,4 +61,4 @@ returns c =
     let ended = c.as_slice-2.ensures.value ∙ c.in_ok-ended.ensures.names ∙ ap (λ xs. unmarked xs a.vars.now) c.as_slice-dummies.ensures.members in
     let at_turn = c.as_slice-3.ensures.value ∙ c.in_ok-at_turn.ensures.names ∙ (λ j. names_in (shadows j) (turned j)) in
     let at_end = c.as_slice-4.ensures.value ∙ c.in_ok-at_end.ensures.names ∙ (λ j. names_in (shadows j) (ended j)) in
-    record { unit = c.in_ok-made.ensures.unit ∙ (λ i. adjoint_unit m (sources s) (c.requires.ready.names i) u (at_turn i) (at_end i)) ∙ head_adjoint m (sources s) h a.vars.now a.outvars.now u same }
+    record { unit = c.in_ok-made.ensures.unit ∙ (λ i. adjoint_unit_with (reversed_for s) m (sources s) (c.requires.ready.names i) u (at_turn i) (at_end i)) ∙ head_adjoint (reversed_for s) m (sources s) h a.vars.now a.outvars.now u same }

@@ -2,14 +2,15 @@
 use Rattle.std.proofs.Common.{◌≤◌, ℕ, List}
 use Rattle.adj_tree.specs.declared.stmt.Stmts.{size-Stmts}
 use Rattle.adj_tree.specs.View.{code_of}
+use Rattle.adj_transpose.specs.Marks.{Vars}
 use Rattle.adj_reverse.specs.Plan.{Callee}
 use Rattle.adj_helpers.specs.Callees.{KnowsAll}
-use Rattle.adj_emission.specs.Plans.{naming_in, plan_of}
+use Rattle.adj_emission.specs.Plans.{naming_in, plan_of, schedules_of}
 use Rattle.adj_emission.proofs.Passed.{Passed}
 use Rattle.adj_emission.proofs.plan.Plan.+sweeps.Given as goal
 
 abbrev pub invariant-list-loop-current : goal.invariant-list-loop-current
 invariant-list-loop-current l = record {
   no_deeper : size-Stmts l.current ≤ size-Stmts l.initial.current;
-  passed : (callees : List ℕ → Callee) → KnowsAll l.self.callees.now callees → Passed (naming_in l.self) (plan_of l.self callees) l.depth l.number (code_of l.body) (code_of l.fn.rest) (code_of l.current) l.made;
+  passed : (callees : List ℕ → Callee) (reads : List ℕ → Vars) → KnowsAll l.self.callees.now callees reads → Passed (schedules_of l.self reads) (naming_in l.self) (plan_of l.self callees) l.depth l.number (code_of l.body) (code_of l.fn.rest) (code_of l.current) l.made;
 }

@@ -2,8 +2,8 @@ use Rattle.std.proofs.Common.{◌≡◌, ◌∙◌, ap}
 use Rattle.adj_tree.specs.View.{code_of}
 use Rattle.adj_meaning.specs.Append.{◌+++◌}
 use Rattle.adj_meaning.specs.Rename.{rename}
-use Rattle.adj_reverse.specs.Emission.{cleared, forward, backward}
-use Rattle.adj_emission.specs.Plans.{naming_in, plan_of}
+use Rattle.adj_reverse.specs.Emission.{cleared, forward_with, backward_with}
+use Rattle.adj_emission.specs.Plans.{naming_in, plan_of, schedules_of}
 use Rattle.adj_emission.proofs.Cleared.{body_whole}
 use Rattle.adj_emission.proofs.plan.Plan.adjoint_body.Goals as goal
 
@@ -14,14 +14,14 @@ returns c =
     let s = c.in_ok-sweeps.sweeps in
     let body = code_of b.statements.now in
     record {
-      body = λ callees k.
+      body = λ callees reads k.
           let p = plan_of c.args.self.now callees in
-          let made = c.in_ok-sweeps.ensures.sweeps callees k in
+          let made = c.in_ok-sweeps.ensures.sweeps callees reads k in
           let c1 = cleared p b.line b.at_turn.now in
           let c2 = cleared p b.line b.at_end.now in
           let last : code_of c.turned-last.result ≡ rename r c2 = c.turned-last.ensures.turned ∙ c.in_ok-ended.ensures.clears callees in
-          body_whole r (forward p b.number 0 body) c1 (backward p b.number 0 body) c2 (code_of c.in_ok-at_turn.at_turn) (code_of s.backward) (code_of c.turned_onto-code.result)
+          body_whole r (forward_with (schedules_of c.args.self.now reads) p b.number 0 body) c1 (backward_with (schedules_of c.args.self.now reads) p b.number 0 body) c2 (code_of c.in_ok-at_turn.at_turn) (code_of s.backward) (code_of c.turned_onto-code.result)
           c.turned_onto-code.ensures.turned
           (c.in_ok-at_turn.ensures.clears callees ∙ ap (λ z. z +++ rename r c1) made.forth)
-          (made.back ∙ ap (λ z. rename r (backward p b.number 0 body) +++ z) last);
+          (made.back ∙ ap (λ z. rename r (backward_with (schedules_of c.args.self.now reads) p b.number 0 body) +++ z) last);
     }

@@ -26,7 +26,7 @@ returns c =
     let adjoint = code_if (m.adjointed k) (adjoint_where (active_at m k) x.name (terms_of x.subs) (term_of c.args.e.now) line) in
     let behind = rename r adjoint +++ code_of old.backward in
     record {
-      sweeps = λ callees d. record {
+      sweeps = λ sc callees d. record {
         number = c.in_ok-after.ensures.next;
         forth = c.in_ok-forward.ensures.forward ∙ ap (λ z. in_order (code_of old.forward) +++ z) (sym (assignment_kept r (λ y. refl) (m.kept k) (m.saved k (plain x.name)) line x.name x.subs c.args.e.now));
         back = joined r popped adjoint (code_of c.in_ok-backward.backward) behind (code_of old.backward)

@@ -18,8 +18,8 @@ use Rattle.adj_emission.proofs.plan.Plan.call.Goals as goal
 
 pub returns-then-not-emitted : goal.returns-then-not-emitted
 returns-then-not-emitted c = record {
-  sweeps = λ callees d k.
-      skipped (naming_in c.args.self.now) (plan_of c.args.self.now callees) d c.args.line (call c.args.name.now (terms_of c.args.actuals.now)) c.args.sweeps _
+  sweeps = λ sc callees reads d k.
+      skipped sc (naming_in c.args.self.now) (plan_of c.args.self.now callees) d c.args.line (call c.args.name.now (terms_of c.args.actuals.now)) c.args.sweeps _
       (if_false _ _ (sym c.emitted.ensures.emitted ∙ c.if-not-emitted.true)) (if_false _ _ (sym c.emitted.ensures.emitted ∙ c.if-not-emitted.true)) c.in_ok-after.ensures.next refl refl;
 }
 
@@ -36,9 +36,9 @@ returns c =
     let s1 = in_order (code_of c.in_ok-saved.saved) in
     let t = code_of c.in_ok-popped.popped in
     record {
-      sweeps = λ callees d h.
+      sweeps = λ sc callees reads d h.
           let p = plan_of c.args.self.now callees in
-          call_written r (λ y. refl) p d line c.args.name.now c.args.actuals.now old _ k (subst (λ z. Knows z (callees c.args.name.now)) (sym c.find-callee.ensures.found) (h c.args.name.now))
+          call_written sc r (λ y. refl) p d line c.args.name.now c.args.actuals.now old _ k (reads c.args.name.now) (subst (λ z. Knows z (callees c.args.name.now) (reads c.args.name.now)) (sym c.find-callee.ensures.found) (h c.args.name.now))
           (sym c.emitted.ensures.emitted ∙ c.if-not-emitted.false) c.in_ok-after.ensures.next s1 (in_order (code_of c.in_ok-pushed.pushed)) t
           (c.in_ok-saved.ensures.pushed callees ∙ ap (λ z. in_order (code_of old.forward) +++ pushes p line (chosen (is_in saved Save) z)) made)
           (c.in_ok-pushed.ensures.pushed callees ∙ ap (λ z. s1 +++ code_if (m.adjointed old.number) (pushes p line (chosen (is_in saved Snapshot) z))) made)

@@ -15,8 +15,8 @@ pub returns-then-not-emitted : goal.returns-then-not-emitted
 returns-then-not-emitted c =
     let b = c.args.bounds.now in
     record {
-      sweeps = λ callees d body m e h.
-          loop_skipped (naming_in c.args.self.now) (λ x. refl) (plan_of c.args.self.now callees) d c.args.line b.variable.now (term_of b.first.now) (term_of b.limit.now) (term_of b.step.now) body m c.args.sweeps c.args.inner _ h
+      sweeps = λ sc callees d body m others e h.
+          loop_skipped sc (naming_in c.args.self.now) (λ x. refl) (plan_of c.args.self.now callees) d c.args.line b.variable.now (term_of b.first.now) (term_of b.limit.now) (term_of b.step.now) body m c.args.sweeps c.args.inner _ others h
           (sym c.emitted.ensures.emitted ∙ c.if-not-emitted.true) refl refl refl;
     }
 
@@ -33,8 +33,8 @@ returns c =
     let popped = code_if (marks.saved old.number (plain x)) (one line (runtime (pop_word (plain x) none))) in
     let behind = popped +++ (rename r (reset marks old.number line x) +++ code_of old.backward) in
     record {
-      sweeps = λ callees d body m e h.
-          loop_written r (λ y. refl) (plan_of c.args.self.now callees) d line x (term_of b.first.now) (term_of b.limit.now) (term_of b.step.now) body m old c.args.inner _ h
+      sweeps = λ sc callees d body m others e h.
+          loop_written sc r (λ y. refl) (plan_of c.args.self.now callees) d line x (term_of b.first.now) (term_of b.limit.now) (term_of b.step.now) body m old c.args.inner _ others h
           idle (sym c.emitted.ensures.emitted ∙ c.if-not-emitted.false) c.is_idle-idle.ensures.idle refl
           (λ z q. c.in_ok-forward.ensures.forward z q ∙ ap (λ k. in_order (code_of old.forward) +++ (pushed +++ rename r (loop_forward idle k line (plain x) (term_of b.first.now) (term_of b.limit.now) (term_of b.step.now) z))) e)
           (λ z q. c.in_ok-backward.ensures.backward z q ∙ ap (λ k. rename r (loop_backward idle k line (plain x) z) +++ behind) e);

@@ -10,8 +10,8 @@ use Rattle.adj_emission.proofs.plan.Plan.while_loop.Goals as goal
 
 pub returns-then-not-emitted : goal.returns-then-not-emitted
 returns-then-not-emitted c = record {
-  sweeps = λ callees d body e h.
-      while_skipped (naming_in c.args.self.now) (plan_of c.args.self.now callees) d c.args.line c.args.c.now body c.args.sweeps c.args.inner _ h
+  sweeps = λ sc callees d body e h.
+      while_skipped sc (naming_in c.args.self.now) (plan_of c.args.self.now callees) d c.args.line c.args.c.now body c.args.sweeps c.args.inner _ h
       (sym c.emitted.ensures.emitted ∙ c.if-not-emitted.true) refl refl refl;
 }
 
@@ -23,8 +23,8 @@ returns c =
     let idle = c.is_idle-idle.result in
     let test = test_of c.args.c.now in
     record {
-      sweeps = λ callees d body e h.
-          while_written r (plan_of c.args.self.now callees) d line c.args.c.now body old c.args.inner _ h
+      sweeps = λ sc callees d body e h.
+          while_written sc r (plan_of c.args.self.now callees) d line c.args.c.now body old c.args.inner _ h
           idle (sym c.emitted.ensures.emitted ∙ c.if-not-emitted.false) c.is_idle-idle.ensures.idle refl
           (λ z q. c.in_ok-forward.ensures.forward z q ∙ ap (λ k. in_order (code_of old.forward) +++ rename r (while_forward idle k line test z)) e)
           (λ z q. c.in_ok-backward.ensures.backward z q ∙ ap (λ k. rename r (while_backward idle k line z) +++ code_of old.backward) e);

@@ -6,20 +6,20 @@ use Rattle.adj_tree.specs.declared.stmt.Stmts.TheVariants as stmts
 use Rattle.adj_tree.specs.declared.stmt.Act.TheViews.{sized-More}
 use Rattle.adj_transpose.specs.Marks.{behind}
 use Rattle.adj_helpers.specs.Depths.{AddsAct, AddsList}
-use Rattle.adj_helpers.specs.Uses.{plan_by, UsesAct, UsesList}
-use Rattle.adj_helpers.proofs.Added.{adds_if, adds_do, adds_while}
+use Rattle.adj_helpers.specs.Uses.{plan_by, schedules_by, UsesAct, UsesList}
+use Rattle.adj_helpers.proofs.Added.{adds_if, adds_while}
 use Rattle.adj_helpers.proofs.Passed.{Joined, passed_more, deeper_more, passed_all, deeper_all}
 use Rattle.adj_helpers.proofs.uses.Known.+walk.Goals as goal
 
 pub statement-returns-in_ok-used-in-Assign-clause-uses : goal.statement-returns-in_ok-used-in-Assign-clause-uses
-statement-returns-in_ok-used-in-Assign-clause-uses t c = λ arrays callees k.
-    subst (λ a. UsesAct (plan_by c.args.self.now arrays callees) c.args.depth c.args.number a c.in_ok-used-in-Assign.used) (sym (ap act_of c.in-Assign.is))
-    (c.in_ok-used-in-Assign.ensures.uses arrays callees c.args.depth)
+statement-returns-in_ok-used-in-Assign-clause-uses t c = λ arrays callees reads k.
+    subst (λ a. UsesAct (schedules_by c.args.self.now reads) (plan_by c.args.self.now arrays callees) c.args.depth c.args.number a c.in_ok-used-in-Assign.used) (sym (ap act_of c.in-Assign.is))
+    (c.in_ok-used-in-Assign.ensures.uses (schedules_by c.args.self.now reads) arrays callees c.args.depth)
 
 pub statement-returns-in_ok-used-in-Call-clause-uses : goal.statement-returns-in_ok-used-in-Call-clause-uses
-statement-returns-in_ok-used-in-Call-clause-uses t c = λ arrays callees k.
-    subst (λ a. UsesAct (plan_by c.args.self.now arrays callees) c.args.depth c.args.number a c.in_ok-used-in-Call.used) (sym (ap act_of c.in-Call.is))
-    (c.in_ok-used-in-Call.ensures.uses arrays callees k c.args.depth)
+statement-returns-in_ok-used-in-Call-clause-uses t c = λ arrays callees reads k.
+    subst (λ a. UsesAct (schedules_by c.args.self.now reads) (plan_by c.args.self.now arrays callees) c.args.depth c.args.number a c.in_ok-used-in-Call.used) (sym (ap act_of c.in-Call.is))
+    (c.in_ok-used-in-Call.ensures.uses (schedules_by c.args.self.now reads) arrays callees reads k c.args.depth)
 
 pub statement-returns-in_ok-second-in-If : goal.statement-returns-in_ok-second-in-If
 statement-returns-in_ok-second-in-If t c =
@@ -31,23 +31,25 @@ statement-returns-in_ok-second-in-If t c =
     let second = c.in_ok-second-in-If.second in
     let begun : c.in_ok-begun-in-If.begun ≡ suc i = omega arith in
     record {
-      uses = λ arrays callees k.
+      uses = λ arrays callees reads k.
+          let r = schedules_by c.args.self.now reads in
           let p = plan_by c.args.self.now arrays callees in
-          subst (λ z. UsesAct p d i z c.branch-self.result) (sym (ap act_of c.in-If.is))
-          (c.branch-self.ensures.uses arrays callees d _ a b
-          (subst (λ n. UsesList p d n a first) begun (c.in_ok-first-in-If.ensures.uses arrays callees k))
-          (c.in_ok-second-in-If.ensures.uses arrays callees k));
-      adds = λ arrays callees k.
+          subst (λ z. UsesAct r p d i z c.branch-self.result) (sym (ap act_of c.in-If.is))
+          (c.branch-self.ensures.uses r arrays callees d _ a b
+          (subst (λ n. UsesList r p d n a first) begun (c.in_ok-first-in-If.ensures.uses arrays callees reads k))
+          (c.in_ok-second-in-If.ensures.uses arrays callees reads k));
+      adds = λ arrays callees reads k.
+          let r = schedules_by c.args.self.now reads in
           let p = plan_by c.args.self.now arrays callees in
-          subst (λ z. AddsAct p d i z c.args.depths.now c.list-in-If.new.depths) (sym (ap act_of c.in-If.is))
-          (adds_if p d i first.number _ a b c.args.depths.now c.list.new.depths c.list-in-If.new.depths
-          ((c.in_ok-first-in-If.ensures.uses arrays callees k).number ∙ ap (λ n. behind n a) begun)
-          (subst (λ n. AddsList p d n a c.args.depths.now c.list.new.depths) begun (c.in_ok-first-in-If.ensures.adds arrays callees k))
-          (c.in_ok-second-in-If.ensures.adds arrays callees k));
+          subst (λ z. AddsAct r p d i z c.args.depths.now c.list-in-If.new.depths) (sym (ap act_of c.in-If.is))
+          (adds_if r p d i first.number _ a b c.args.depths.now c.list.new.depths c.list-in-If.new.depths
+          ((c.in_ok-first-in-If.ensures.uses arrays callees reads k).number ∙ ap (λ n. behind n a) begun)
+          (subst (λ n. AddsList r p d n a c.args.depths.now c.list.new.depths) begun (c.in_ok-first-in-If.ensures.adds arrays callees reads k))
+          (c.in_ok-second-in-If.ensures.adds arrays callees reads k));
     }
 
-pub statement-returns-in_ok-add_do-in-Loop : goal.statement-returns-in_ok-add_do-in-Loop
-statement-returns-in_ok-add_do-in-Loop t c =
+pub statement-returns-in_ok-used-in-Loop : goal.statement-returns-in_ok-used-in-Loop
+statement-returns-in_ok-used-in-Loop t c =
     let body = code_of c.in-Loop.body in
     let i = c.args.number in
     let d = c.args.depth in
@@ -55,22 +57,23 @@ statement-returns-in_ok-add_do-in-Loop t c =
     let begun : c.in_ok-begun-in-Loop.begun ≡ suc i = omega arith in
     let inside : c.in_ok-inside-in-Loop.inside ≡ suc d = omega arith in
     record {
-      uses = λ arrays callees k.
+      uses = λ arrays callees reads k.
+          let r = schedules_by c.args.self.now reads in
           let p = plan_by c.args.self.now arrays callees in
-          subst (λ z. UsesAct p d i z c.do_loop.result) (sym (ap act_of c.in-Loop.is))
-          (c.do_loop.ensures.uses arrays callees d _ _ _ body _ inside
-          (subst (λ n. UsesList p (suc d) n body inner) begun
-          (subst (λ n. UsesList p n c.in_ok-begun-in-Loop.begun body inner) inside (c.in_ok-inner-in-Loop.ensures.uses arrays callees k))));
-      adds = λ arrays callees k.
+          subst (λ z. UsesAct r p d i z c.in_ok-used-in-Loop.used) (sym (ap act_of c.in-Loop.is))
+          (c.in_ok-used-in-Loop.ensures.uses arrays callees reads d _ _ _ inside
+          (subst (λ n. UsesList r p (suc d) n body inner) begun
+          (subst (λ n. UsesList r p n c.in_ok-begun-in-Loop.begun body inner) inside (c.in_ok-inner-in-Loop.ensures.uses arrays callees reads k))));
+      adds = λ arrays callees reads k.
+          let r = schedules_by c.args.self.now reads in
           let p = plan_by c.args.self.now arrays callees in
           let mid = c.list-in-Loop.new.depths in
-          subst (λ z. AddsAct p d i z c.args.depths.now c.add_do.new.self) (sym (ap act_of c.in-Loop.is))
-          (adds_do p d i c.in_ok-inside-in-Loop.inside inner.idle _ _ _ _ body _ c.args.depths.now mid c.add_do.new.self inside
-          (subst (λ n. UsesList p (suc d) n body inner) begun
-          (subst (λ n. UsesList p n c.in_ok-begun-in-Loop.begun body inner) inside (c.in_ok-inner-in-Loop.ensures.uses arrays callees k))).idle
-          (subst (λ n. AddsList p (suc d) n body c.args.depths.now mid) begun
-          (subst (λ n. AddsList p n c.in_ok-begun-in-Loop.begun body c.args.depths.now mid) inside (c.in_ok-inner-in-Loop.ensures.adds arrays callees k)))
-          c.in_ok-add_do-in-Loop.ensures.dos c.in_ok-add_do-in-Loop.ensures.loops);
+          subst (λ z. AddsAct r p d i z c.args.depths.now c.around.new.depths) (sym (ap act_of c.in-Loop.is))
+          (c.in_ok-used-in-Loop.ensures.adds arrays callees reads d _ _ _ c.args.depths.now inside
+          (subst (λ n. UsesList r p (suc d) n body inner) begun
+          (subst (λ n. UsesList r p n c.in_ok-begun-in-Loop.begun body inner) inside (c.in_ok-inner-in-Loop.ensures.uses arrays callees reads k))).idle
+          (subst (λ n. AddsList r p (suc d) n body c.args.depths.now mid) begun
+          (subst (λ n. AddsList r p n c.in_ok-begun-in-Loop.begun body c.args.depths.now mid) inside (c.in_ok-inner-in-Loop.ensures.adds arrays callees reads k))));
     }
 
 pub statement-returns-in_ok-add_while-in-While : goal.statement-returns-in_ok-add_while-in-While
@@ -82,22 +85,24 @@ statement-returns-in_ok-add_while-in-While t c =
     let begun : c.in_ok-begun-in-While.begun ≡ suc i = omega arith in
     let inside : c.in_ok-inside-in-While.inside ≡ suc d = omega arith in
     record {
-      uses = λ arrays callees k.
+      uses = λ arrays callees reads k.
+          let r = schedules_by c.args.self.now reads in
           let p = plan_by c.args.self.now arrays callees in
-          subst (λ z. UsesAct p d i z c.while_loop.result) (sym (ap act_of c.in-While.is))
-          (c.while_loop.ensures.uses arrays callees d _ body inside
-          (subst (λ n. UsesList p (suc d) n body inner) begun
-          (subst (λ n. UsesList p n c.in_ok-begun-in-While.begun body inner) inside (c.in_ok-inner-in-While.ensures.uses arrays callees k))));
-      adds = λ arrays callees k.
+          subst (λ z. UsesAct r p d i z c.while_loop.result) (sym (ap act_of c.in-While.is))
+          (c.while_loop.ensures.uses r arrays callees d _ body inside
+          (subst (λ n. UsesList r p (suc d) n body inner) begun
+          (subst (λ n. UsesList r p n c.in_ok-begun-in-While.begun body inner) inside (c.in_ok-inner-in-While.ensures.uses arrays callees reads k))));
+      adds = λ arrays callees reads k.
+          let r = schedules_by c.args.self.now reads in
           let p = plan_by c.args.self.now arrays callees in
           let mid = c.list-in-While.new.depths in
-          subst (λ z. AddsAct p d i z c.args.depths.now c.add_while.new.self) (sym (ap act_of c.in-While.is))
-          (adds_while p d i c.in_ok-inside-in-While.inside inner.idle _ body c.args.depths.now mid c.add_while.new.self inside
-          (subst (λ n. UsesList p (suc d) n body inner) begun
-          (subst (λ n. UsesList p n c.in_ok-begun-in-While.begun body inner) inside (c.in_ok-inner-in-While.ensures.uses arrays callees k))).idle
-          (subst (λ n. AddsList p (suc d) n body c.args.depths.now mid) begun
-          (subst (λ n. AddsList p n c.in_ok-begun-in-While.begun body c.args.depths.now mid) inside (c.in_ok-inner-in-While.ensures.adds arrays callees k)))
-          c.in_ok-add_while-in-While.ensures.dos c.in_ok-add_while-in-While.ensures.loops);
+          subst (λ z. AddsAct r p d i z c.args.depths.now c.add_while.new.self) (sym (ap act_of c.in-While.is))
+          (adds_while r p d i c.in_ok-inside-in-While.inside inner.idle _ body c.args.depths.now mid c.add_while.new.self inside
+          (subst (λ n. UsesList r p (suc d) n body inner) begun
+          (subst (λ n. UsesList r p n c.in_ok-begun-in-While.begun body inner) inside (c.in_ok-inner-in-While.ensures.uses arrays callees reads k))).idle
+          (subst (λ n. AddsList r p (suc d) n body c.args.depths.now mid) begun
+          (subst (λ n. AddsList r p n c.in_ok-begun-in-While.begun body c.args.depths.now mid) inside (c.in_ok-inner-in-While.ensures.adds arrays callees reads k)))
+          c.in_ok-add_while-in-While.ensures.dos c.in_ok-add_while-in-While.ensures.loops c.in_ok-add_while-in-While.ensures.reversed);
     }
 
 pub list-loop-current-preserved : goal.list-loop-current-preserved
@@ -118,21 +123,21 @@ list-loop-current-preserved t c =
           let rest = ap size-Stmts c.deref-current.ensures in
           let earlier = c.loop-current.invariant.no_deeper in
           first_of (omega (arith, whole, was, rest, earlier), grind (arith, whole, was, rest, earlier));
-      passed = λ arrays callees k.
-          passed_more (plan_by c.args.self.now arrays callees) c.args.depth c.args.number stmt.line (act_of stmt.act) (code_of c.args.body.now) current left old used new is
-          (c.in_ok-used.ensures.uses arrays callees k) joined (c.loop-current.invariant.passed arrays callees k);
-      deeper = λ arrays callees k.
-          deeper_more (plan_by c.args.self.now arrays callees) c.args.depth c.args.number stmt.line (act_of stmt.act) (code_of c.args.body.now) current left old.number new.number c.args.depths.now c.loop-current.depths c.statement.new.depths is
-          (w.number ∙ (c.in_ok-used.ensures.uses arrays callees k).number)
-          (c.in_ok-used.ensures.adds arrays callees k) (c.loop-current.invariant.deeper arrays callees k);
+      passed = λ arrays callees reads k.
+          passed_more (schedules_by c.args.self.now reads) (plan_by c.args.self.now arrays callees) c.args.depth c.args.number stmt.line (act_of stmt.act) (code_of c.args.body.now) current left old used new is
+          (c.in_ok-used.ensures.uses arrays callees reads k) joined (c.loop-current.invariant.passed arrays callees reads k);
+      deeper = λ arrays callees reads k.
+          deeper_more (schedules_by c.args.self.now reads) (plan_by c.args.self.now arrays callees) c.args.depth c.args.number stmt.line (act_of stmt.act) (code_of c.args.body.now) current left old.number new.number c.args.depths.now c.loop-current.depths c.statement.new.depths is
+          (w.number ∙ (c.in_ok-used.ensures.uses arrays callees reads k).number)
+          (c.in_ok-used.ensures.adds arrays callees reads k) (c.loop-current.invariant.deeper arrays callees reads k);
     }
 
 pub list-returns-clause-uses : goal.list-returns-clause-uses
-list-returns-clause-uses t c = λ arrays callees k.
+list-returns-clause-uses t c = λ arrays callees reads k.
     let empty : c.loop-current.current.now ≡ stmts.Empty = search rules in
-    passed_all (plan_by c.args.self.now arrays callees) c.args.depth c.args.number (code_of c.args.body.now) (code_of c.loop-current.current.now) c.loop-current.made (ap code_of empty) (c.loop-current.invariant.passed arrays callees k)
+    passed_all (schedules_by c.args.self.now reads) (plan_by c.args.self.now arrays callees) c.args.depth c.args.number (code_of c.args.body.now) (code_of c.loop-current.current.now) c.loop-current.made (ap code_of empty) (c.loop-current.invariant.passed arrays callees reads k)
 
 pub list-returns-clause-adds : goal.list-returns-clause-adds
-list-returns-clause-adds t c = λ arrays callees k.
+list-returns-clause-adds t c = λ arrays callees reads k.
     let empty : c.loop-current.current.now ≡ stmts.Empty = search rules in
-    deeper_all (plan_by c.args.self.now arrays callees) c.args.depth c.args.number (code_of c.args.body.now) (code_of c.loop-current.current.now) c.loop-current.made.number c.args.depths.now c.loop-current.depths (ap code_of empty) (c.loop-current.invariant.deeper arrays callees k)
+    deeper_all (schedules_by c.args.self.now reads) (plan_by c.args.self.now arrays callees) c.args.depth c.args.number (code_of c.args.body.now) (code_of c.loop-current.current.now) c.loop-current.made.number c.args.depths.now c.loop-current.depths (ap code_of empty) (c.loop-current.invariant.deeper arrays callees reads k)

@@ -5,13 +5,13 @@ use Rattle.adj_tree.specs.View.{code_of}
 use Rattle.adj_transpose.specs.Marks.{Vars}
 use Rattle.adj_reverse.specs.Plan.{Callee}
 use Rattle.adj_helpers.specs.Callees.{KnowsAll}
-use Rattle.adj_helpers.specs.Uses.{plan_by}
+use Rattle.adj_helpers.specs.Uses.{plan_by, schedules_by}
 use Rattle.adj_helpers.proofs.Passed.{Passed, Deeper}
 use Rattle.adj_helpers.proofs.uses.Known.+walk.Given as goal
 
 abbrev pub invariant-list-loop-current : goal.invariant-list-loop-current
 invariant-list-loop-current l = record {
   no_deeper : size-Stmts l.current ≤ size-Stmts l.initial.current;
-  passed : (arrays : Vars) (callees : List ℕ → Callee) → KnowsAll l.self.callees.now callees → Passed (plan_by l.self arrays callees) l.depth l.number (code_of l.body) (code_of l.current) l.made;
-  deeper : (arrays : Vars) (callees : List ℕ → Callee) → KnowsAll l.self.callees.now callees → Deeper (plan_by l.self arrays callees) l.depth l.number (code_of l.body) (code_of l.current) l.made.number l.fn.depths l.depths;
+  passed : (arrays : Vars) (callees : List ℕ → Callee) (reads : List ℕ → Vars) → KnowsAll l.self.callees.now callees reads → Passed (schedules_by l.self reads) (plan_by l.self arrays callees) l.depth l.number (code_of l.body) (code_of l.current) l.made;
+  deeper : (arrays : Vars) (callees : List ℕ → Callee) (reads : List ℕ → Vars) → KnowsAll l.self.callees.now callees reads → Deeper (schedules_by l.self reads) (plan_by l.self arrays callees) l.depth l.number (code_of l.body) (code_of l.current) l.made.number l.fn.depths l.depths;
 }

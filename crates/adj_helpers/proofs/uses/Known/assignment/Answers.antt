@@ -18,7 +18,7 @@ returns-then-adjointed c =
     let e = term_of c.args.e.now in
     let is : m.adjointed i ≡ true = sym c.adjointed.ensures.adjointed ∙ c.if-adjointed.true in
     record {
-      uses = λ arrays callees d. record {
+      uses = λ r arrays callees d. record {
         idle = λ line. sym (adjoint_assigned (active_at m i) x subs e line (code_if (m.kept i && m.saved i (plain x)) (one line (runtime (pop_word (plain x) subs)))) (m.adjointed i) is);
         tells = refl;
         works = c.in_ok-measure.ensures.works ∙ sym (ap (λ b. if b then works_in_where (active_at m i) e 1 else 0) is);

@@ -10,8 +10,8 @@ returns-else-not-emitted c =
     let v = c.args.second in
     let w = c.with_next-used.ensures in
     record {
-      uses = λ arrays callees d t a b ha hb.
-          uses_if (plan_by c.args.self.now arrays callees) d c.args.number t a b u v _ ha hb
+      uses = λ r arrays callees d t a b ha hb.
+          uses_if r (plan_by c.args.self.now arrays callees) d c.args.number t a b u v _ ha hb
           (w.idle ∙ ap (λ z. not z || (u.idle && v.idle)) (sym (sym c.emitted.ensures.emitted ∙ c.if-not-emitted.false)))
           (ap not w.idle) w.works w.temps w.depth w.number;
     }

@@ -6,8 +6,8 @@ returns c =
     let next : c.in_ok-next.next ≡ suc c.args.number = omega arith in
     let e = c.nothing-used.ensures in
     record {
-      uses = λ arrays callees k d. record {
-        idle = c.is_idle_call.ensures.idle arrays callees k d;
+      uses = λ r arrays callees reads k d. record {
+        idle = c.is_idle_call.ensures.idle arrays callees reads k d;
         tells = e.tells;
         works = e.works;
         temps = e.temps;

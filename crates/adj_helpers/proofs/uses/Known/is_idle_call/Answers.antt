@@ -16,7 +16,7 @@ returns-then-adjointed c =
     let i = c.args.number in
     let given = names_of (terms_of c.args.actuals.now) in
     record {
-      idle = λ arrays callees k d line.
+      idle = λ arrays callees reads k d line.
           let p = plan_by c.args.self.now arrays callees in
           let g = callees c.args.name.now in
           sym (adjoint_called (m.kept i) (m.adjointed i) (pops p line (snapshot_group g given)) (pops p line (save_group m i g given)) line (adjoint_call g given) (sym c.adjointed.ensures.adjointed ∙ c.if-adjointed.true));
@@ -28,7 +28,7 @@ returns-then-not-kept c =
     let i = c.args.number in
     let given = names_of (terms_of c.args.actuals.now) in
     record {
-      idle = λ arrays callees k d line.
+      idle = λ arrays callees reads k d line.
           let p = plan_by c.args.self.now arrays callees in
           let g = callees c.args.name.now in
           sym (nothing_called (m.kept i) (m.adjointed i) (pops p line (snapshot_group g given) +++ one line (adjoint_call g given)) (pops p line (save_group m i g given)) (sym c.kept.ensures.kept ∙ c.if-not-kept.true) (sym c.adjointed.ensures.adjointed ∙ c.if-adjointed.false));
@@ -40,11 +40,11 @@ returns c =
     let i = c.args.number in
     let given = names_of (terms_of c.args.actuals.now) in
     record {
-      idle = λ arrays callees k d line.
+      idle = λ arrays callees reads k d line.
           let p = plan_by c.args.self.now arrays callees in
           let g = callees c.args.name.now in
-          let known = subst (λ z. Knows z g) (sym c.find-callee.ensures.found) (k c.args.name.now) in
+          let known = subst (λ z. Knows z g (reads c.args.name.now)) (sym c.find-callee.ensures.found) (k c.args.name.now) in
           ap not (c.saves.ensures.saves ∙ ap (λ ds. saves_some (λ x. m.saved i (plain x)) ds given) (c.as_slice.ensures.value ∙ known.dummies))
-          ∙ sym (pops_there p line g (m.saved i) g.dummies given)
+          ∙ sym (pops_there p line g (reads c.args.name.now) (m.saved i) g.dummies given)
           ∙ sym (kept_called (m.kept i) (m.adjointed i) (pops p line (snapshot_group g given) +++ one line (adjoint_call g given)) (pops p line (save_group m i g given)) (sym c.kept.ensures.kept ∙ c.if-not-kept.false) (sym c.adjointed.ensures.adjointed ∙ c.if-adjointed.false));
     }

@@ -1,0 +1,31 @@
+use Rattle.std.proofs.Common.{◌∙◌, sym, ap}
+use Rattle.adj_tree.specs.Code.{choose, stop, step}
+use Rattle.adj_tree.specs.View.{code_of}
+use Rattle.adj_meaning.specs.Rename.{rename}
+use Rattle.adj_meaning.proofs.Appends.{append-stop}
+use Rattle.adj_reverse.specs.Emission.{is_empty}
+use Rattle.adj_emission.specs.Plans.{naming_in}
+use Rattle.adj_emission.proofs.Emitted.{empty_renamed}
+use Rattle.adj_emission.proofs.Reversals.{arm_named, arm_left}
+use Rattle.adj_emission.proofs.plan.Plan.arm.Goals as goal
+
+pub returns-then-is_empty : goal.returns-then-is_empty
+returns-then-is_empty c =
+    let r = naming_in c.args.self.now in
+    record {
+      arm = λ done h.
+          arm_left r c.args.at.line c.args.at.depth c.args.code done (code_of c.args.rest)
+          (sym (empty_renamed r done) ∙ ap is_empty (append-stop (rename r done)) ∙ ap is_empty (sym h) ∙ sym c.is_empty.ensures.empty ∙ c.if-is_empty.true);
+    }
+
+pub returns : goal.returns
+returns c =
+    let r = naming_in c.args.self.now in
+    let line = c.args.at.line in
+    record {
+      arm = λ done h.
+          c.in_ok-made.ensures.step
+          ∙ ap (λ z. step line (choose z (code_of c.args.inner) stop) (code_of c.args.rest)) c.in_ok-test.ensures.test
+          ∙ arm_named r line c.args.at.depth c.args.code done (code_of c.args.inner) (code_of c.args.rest)
+          (sym (empty_renamed r done) ∙ ap is_empty (append-stop (rename r done)) ∙ ap is_empty (sym h) ∙ sym c.is_empty.ensures.empty ∙ c.if-is_empty.false) h;
+    }

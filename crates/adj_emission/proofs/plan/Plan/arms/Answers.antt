@@ -1,0 +1,41 @@
+use Rattle.std.proofs.Common.{◌≡◌, ◌∙◌, sym, ap}
+use Rattle.adj_tree.specs.Code.{plain, lower, stop}
+use Rattle.adj_tree.specs.View.{code_of}
+use Rattle.adj_meaning.specs.Append.{◌+++◌}
+use Rattle.adj_meaning.specs.Rename.{rename}
+use Rattle.adj_meaning.proofs.Appends.{append-stop}
+use Rattle.adj_meaning.proofs.Renamed.{rename-append}
+use Rattle.adj_reverse.specs.ReversalCode.{at_turn, advance, arm}
+use Rattle.adj_emission.specs.Plans.{naming_in, plan_of}
+use Rattle.adj_emission.specs.Steps.{keep_of, back_of, plain_of, adjoint_of}
+use Rattle.adj_emission.proofs.Turned.{joined}
+use Rattle.adj_emission.proofs.plan.Plan.arms.Goals as goal
+
+pub returns : goal.returns
+returns c =
+    let r = naming_in c.args.self.now in
+    let at = c.args.at in
+    let line = at.line in
+    let d = at.depth in
+    let s = c.args.step.now in
+    let x = plain c.args.variable.now in
+    record {
+      arms = λ callees.
+          let p = plan_of c.args.self.now callees in
+          let keep = keep_of p at.number line s in
+          let back = back_of p at.number line s in
+          let a5 = arm line d 5 back in
+          let a4 = arm line d 4 (back +++ keep) in
+          let a3 = arm line d 3 (at_turn line d x lower (adjoint_of line s)) in
+          let a2 = arm line d 2 (advance line d x (plain_of line s)) in
+          let a1 = arm line d 1 keep in
+          let dropped : code_of c.in_ok-dropped.dropped ≡ rename r back = c.in_ok-dropped.ensures.back callees ∙ append-stop (rename r back) in
+          let again : code_of c.in_ok-again.again ≡ rename r (back +++ keep) = c.in_ok-again.ensures.back callees ∙ ap (λ z. rename r back +++ z) (c.in_ok-pushed.ensures.keep callees) ∙ sym (rename-append r back keep) in
+          let turned = c.in_ok-turned.ensures.turn (adjoint_of line s) c.in_ok-adjoint.ensures.call in
+          let h5 = c.in_ok-drops.ensures.arm back dropped in
+          let h4 = joined r a4 a5 (code_of c.in_ok-keeps.keeps) (code_of c.in_ok-drops.drops) stop (c.in_ok-keeps.ensures.arm (back +++ keep) again) h5 in
+          let h3 = joined r a3 (a4 +++ a5) (code_of c.in_ok-turns.turns) (code_of c.in_ok-keeps.keeps) stop (c.in_ok-turns.ensures.arm (at_turn line d x lower (adjoint_of line s)) turned) h4 in
+          let h2 = joined r a2 (a3 +++ (a4 +++ a5)) (code_of c.in_ok-advances.advances) (code_of c.in_ok-turns.turns) stop (c.in_ok-advances.ensures.arm (advance line d x (plain_of line s)) c.in_ok-advanced.ensures.advance) h3 in
+          joined r a1 (a2 +++ (a3 +++ (a4 +++ a5))) (code_of c.in_ok-code.code) (code_of c.in_ok-advances.advances) stop (c.in_ok-code.ensures.arm keep (c.in_ok-stored.ensures.keep callees)) h2
+          ∙ append-stop (rename r (a1 +++ (a2 +++ (a3 +++ (a4 +++ a5)))));
+    }

@@ -1,0 +1,71 @@
+//! Marked loops, and the step calls of those that are reversed by schedules (docs/EMITTED.md, "Reversal of a marked loop").
+
+ghost use Rattle.std.specs.Prelude.{◌≡◌, ℕ, List, suc};
+ghost use Rattle.adj_tree.specs.View.{code_of, mark_of};
+ghost use Rattle.adj_transpose.specs.Marks.{Vars};
+ghost use Rattle.adj_reverse.specs.Plan.{step_in, reversed_by};
+ghost use Rattle.adj_marking.specs.View.{marks_of};
+ghost use Rattle.adj_helpers.specs.Steps.{schedules_for, step_of};
+
+use adj_marking::Marking;
+use adj_tree::{Act, Exprs, Mark, Name, Stmts};
+
+/// How the sweeps go through marked loops.
+#[derive(Clone, Copy, PartialEq, Eq, Debug)]
+pub enum MarkedLoops {
+    /// As through others.
+    Plain,
+    /// Each whose step call is adjointed is reversed by a schedule.
+    Reversed,
+}
+
+/// How a marked loop is reversed: each turn calls this unit with these actuals, and there are so many snapshots.
+#[derive(Clone, Copy)]
+pub struct StepCall<'s> {
+    pub name: &'s Name,
+    pub actuals: &'s Exprs,
+    pub snapshots: u32,
+}
+
+// The call that is the whole body of a loop, if it is one.
+fn only_call(body: &Stmts, snapshots: u32) -> Option<StepCall<'_>>
+    ensures step { (reads : List ℕ → Vars) → step_of reads result ≡ step_in reads snapshots (code_of body.now) }
+{
+    let Stmts::More(first, rest) = body else {
+        return None;
+    };
+    let Act::Call(name, actuals) = &first.act else {
+        return None;
+    };
+    match &**rest {
+        Stmts::Empty => Some(StepCall {
+            name,
+            actuals,
+            snapshots,
+        }),
+        Stmts::More(_, _) => None,
+    }
+}
+
+/// The step call of a loop with this body and mark, where the loop is reversed by a schedule. `call` is the number of the statement
+/// after the loop.
+pub fn step_call<'s>(
+    loops: MarkedLoops,
+    marks: &Marking<'_>,
+    call: usize,
+    body: &'s Stmts,
+    mark: &Mark,
+) -> Option<StepCall<'s>>
+    ensures step { (reads : List ℕ → Vars) (i : ℕ) → call ≡ suc i → step_of reads result ≡ reversed_by (schedules_for loops reads) (marks_of marks.now).adjointed i (code_of body.now) (mark_of mark.now) }
+{
+    let MarkedLoops::Reversed = loops else {
+        return None;
+    };
+    let Mark::Count(snapshots) = mark else {
+        return None;
+    };
+    if !marks.adjointed(call) {
+        return None;
+    }
+    only_call(body, *snapshots)
+}

@@ -1,0 +1,194 @@
+-- Calls of a set, by the numbers of their statements and by whether they are all that the turns of a marked loop do.
+use Rattle.std.proofs.Common.{◌≡◌, ℕ, suc, Bool, true, false, List, [], ◌∷◌, refl, sym, ap, ◌∙◌, if◌then◌else◌}
+use Rattle.std.specs.Prelude.{◌||◌, ◌&&◌, Option, Some, None}
+use Rattle.adj_tree.specs.Code.{name_eq, Terms, Mark, unmarked, with_count, count_from, Act, assign, choose, loop, during, call, runtime, Code, stop, step, Procedure}
+use Rattle.adj_transpose.specs.Marks.{Vars, next, behind}
+use Rattle.adj_reverse.specs.Plan.{names_of, found_or, Schedules, Step, step_in, reversed_by}
+use Rattle.adj_reverse.specs.Marking.{ProgramMarks}
+use Rattle.adj_reverse.specs.Program.{calls_act, calls_in, calls_some, turns_act, turns_in, turns_some, has_adjoint, is_kept_with, schedules_in}
+use Rattle.adj_weave.specs.Marked.{reads_in}
+use Rattle.adj_weave.specs.Orders.{turned, is_plain_call}
+
+-- whether a list has a call of the unit of a name that is in the set
+abbrev mutual
+  pub has_act : (ℕ → Bool → Bool) → List ℕ → ℕ → Act → Bool
+  has_act f n i (assign x subs e) = false
+  has_act f n i (choose c a b) = has_in f n (suc i) a || has_in f n (behind (suc i) a) b
+  has_act f n i (loop x a b c body m) = found_or (turned m body) (has_in f n (suc i) body) (λ other. f (suc i) true && name_eq n other)
+  has_act f n i (during c body) = has_in f n (suc i) body
+  has_act f n i (call other args) = f i false && name_eq n other
+  has_act f n i (runtime r) = false
+
+  pub has_in : (ℕ → Bool → Bool) → List ℕ → ℕ → Code → Bool
+  has_in f n i stop = false
+  has_in f n i (step line a rest) = has_act f n i a || has_in f n (next i a) rest
+
+-- whether one of the units, of those in a set, has one
+abbrev pub has_some : (List ℕ → Bool) → (ℕ → Bool → Bool) → List ℕ → ℕ → List Procedure → Bool
+has_some among f n i [] = false
+has_some among f n i (u ∷ us) = (among u.name && has_in f n i u.body) || has_some among f n (behind i u.body) us
+
+-- ---- truth values
+
+or_false : (a : Bool) → (a || false) ≡ a
+or_false true = refl
+or_false false = refl
+
+crossed : (a b c d : Bool) → ((a || b) || (c || d)) ≡ ((a || c) || (b || d))
+crossed true b c d = refl
+crossed false true true d = refl
+crossed false true false d = refl
+crossed false false true true = refl
+crossed false false true false = refl
+crossed false false false d = refl
+
+spread : (a b c : Bool) → ((a || b) && c) ≡ ((a && c) || (b && c))
+spread true true true = refl
+spread true true false = refl
+spread true false true = refl
+spread true false false = refl
+spread false b c = refl
+
+spread_left : (a b c : Bool) → (a && (b || c)) ≡ ((a && b) || (a && c))
+spread_left true b c = refl
+spread_left false b c = refl
+
+-- ---- the turns of a marked loop
+
+-- a body that is one call
+pub record IsTurned (m : Mark) (body : Code) (name : List ℕ) : Type 0 where
+  pub line : ℕ
+  pub args : Terms
+  pub is : body ≡ step line (call name args) stop
+
+pub turned_is : (m : Mark) (body : Code) (name : List ℕ) → turned m body ≡ Some name → IsTurned m body name
+turned_is unmarked body name e = absurd cc
+turned_is (count_from x) body name e = absurd cc
+turned_is (with_count n) stop name e = absurd cc
+turned_is (with_count n) (step line (assign x subs a) rest) name e = absurd cc
+turned_is (with_count n) (step line (choose c a b) rest) name e = absurd cc
+turned_is (with_count n) (step line (loop x a b c body m) rest) name e = absurd cc
+turned_is (with_count n) (step line (during c body) rest) name e = absurd cc
+turned_is (with_count n) (step line (runtime r) rest) name e = absurd cc
+turned_is (with_count n) (step line (call other args) (step l a rest)) name e = absurd cc
+turned_is (with_count n) (step line (call other args) stop) name e =
+    let same : other ≡ name = cc in
+    record { line = line; args = args; is = ap (λ z. step line (call z args) stop) same }
+
+-- one statement more comes behind it
+pub turned_behind : (m : Mark) (body : Code) (name : List ℕ) (i : ℕ) → turned m body ≡ Some name → behind i body ≡ suc i
+turned_behind m body name i e = ap (behind i) (turned_is m body name e).is
+
+-- ---- by the numbers alone
+
+module _ (f : ℕ → Bool) (n : List ℕ) where
+  abbrev g : ℕ → Bool → Bool
+  g i turns = f i
+
+  loop_same : (i : ℕ) (body : Code) (m : Mark) (o : Option (List ℕ)) → turned m body ≡ o → has_in g n (suc i) body ≡ calls_in f n (suc i) body → found_or o (has_in g n (suc i) body) (λ other. f (suc i) && name_eq n other) ≡ calls_in f n (suc i) body
+  loop_same i body m None e h = h
+  loop_same i body m (Some other) e h = sym (or_false (f (suc i) && name_eq n other)) ∙ sym (ap (calls_in f n (suc i)) (turned_is m body other e).is)
+
+  mutual
+    act_same : (i : ℕ) (a : Act) → has_act g n i a ≡ calls_act f n i a
+    act_same i (assign x subs e) = refl
+    act_same i (choose c a b) = λ j. list_same (suc i) a j || list_same (behind (suc i) a) b j
+    act_same i (loop x a b c body m) = loop_same i body m (turned m body) refl (list_same (suc i) body)
+    act_same i (during c body) = list_same (suc i) body
+    act_same i (call other args) = refl
+    act_same i (runtime r) = refl
+
+    list_same : (i : ℕ) (c : Code) → has_in g n i c ≡ calls_in f n i c
+    list_same i stop = refl
+    list_same i (step line a rest) = λ j. act_same i a j || list_same (next i a) rest j
+
+  pub some_same : (among : List ℕ → Bool) (i : ℕ) (us : List Procedure) → has_some among g n i us ≡ calls_some among f n i us
+  some_same among i [] = refl
+  some_same among i (u ∷ us) = λ j. (among u.name && list_same i u.body j) || some_same among (behind i u.body) us j
+
+-- ---- in the turns of loops that are reversed by schedules
+
+module _ (reads : List ℕ → Vars) (adjointed : ℕ → Bool) (n : List ℕ) where
+  abbrev t : ℕ → Bool → Bool
+  t i turns = turns && adjointed i
+
+  abbrev sc : Schedules
+  sc = Some reads
+
+  no_step : (b x : Bool) (f : Step → Bool) → found_or (if b then None else None) x f ≡ x
+  no_step true x f = refl
+  no_step false x f = refl
+
+  one_step : (b : Bool) (s : Step) (x : Bool) (f : Step → Bool) → x ≡ false → (b && f s) ≡ found_or (if b then Some s else None) x f
+  one_step true s x f e = refl
+  one_step false s x f e = sym e
+
+  loop_turns : (i : ℕ) (body : Code) (m : Mark) → has_in t n (suc i) body ≡ turns_in sc adjointed n (suc i) body →
+      found_or (turned m body) (has_in t n (suc i) body) (λ other. adjointed (suc i) && name_eq n other) ≡ found_or (reversed_by sc adjointed i body m) (turns_in sc adjointed n (suc i) body) (λ s. name_eq n s.name)
+  loop_turns i body unmarked h = h
+  loop_turns i body (count_from x) h = h
+  loop_turns i stop (with_count k) h = h ∙ sym (no_step (adjointed (suc i)) _ (λ s. name_eq n s.name))
+  loop_turns i (step line (assign x subs a) rest) (with_count k) h = h ∙ sym (no_step (adjointed (suc i)) _ (λ s. name_eq n s.name))
+  loop_turns i (step line (choose c a b) rest) (with_count k) h = h ∙ sym (no_step (adjointed (suc i)) _ (λ s. name_eq n s.name))
+  loop_turns i (step line (loop x a b c body m) rest) (with_count k) h = h ∙ sym (no_step (adjointed (suc i)) _ (λ s. name_eq n s.name))
+  loop_turns i (step line (during c body) rest) (with_count k) h = h ∙ sym (no_step (adjointed (suc i)) _ (λ s. name_eq n s.name))
+  loop_turns i (step line (runtime r) rest) (with_count k) h = h ∙ sym (no_step (adjointed (suc i)) _ (λ s. name_eq n s.name))
+  loop_turns i (step line (call other args) (step l a rest)) (with_count k) h = h ∙ sym (no_step (adjointed (suc i)) _ (λ s. name_eq n s.name))
+  loop_turns i (step line (call other args) stop) (with_count k) h =
+      one_step (adjointed (suc i)) (record { name = other; given = names_of args; read = reads other; snapshots = k }) false (λ s. name_eq n s.name) refl
+
+  mutual
+    act_turns : (i : ℕ) (a : Act) → has_act t n i a ≡ turns_act sc adjointed n i a
+    act_turns i (assign x subs e) = refl
+    act_turns i (choose c a b) = λ j. list_turns (suc i) a j || list_turns (behind (suc i) a) b j
+    act_turns i (loop x a b c body m) = loop_turns i body m (list_turns (suc i) body)
+    act_turns i (during c body) = list_turns (suc i) body
+    act_turns i (call other args) = refl
+    act_turns i (runtime r) = refl
+
+    list_turns : (i : ℕ) (c : Code) → has_in t n i c ≡ turns_in sc adjointed n i c
+    list_turns i stop = refl
+    list_turns i (step line a rest) = λ j. act_turns i a j || list_turns (next i a) rest j
+
+  pub some_turns : (among : List ℕ → Bool) (i : ℕ) (us : List Procedure) → has_some among t n i us ≡ turns_some sc among adjointed n i us
+  some_turns among i [] = refl
+  some_turns among i (u ∷ us) = λ j. (among u.name && list_turns i u.body j) || some_turns among (behind i u.body) us j
+
+-- ---- in either of two sets
+
+module _ (f g : ℕ → Bool → Bool) (n : List ℕ) where
+  abbrev either : ℕ → Bool → Bool
+  either i turns = f i turns || g i turns
+
+  loop_either : (i : ℕ) (o : Option (List ℕ)) (x y z : Bool) → x ≡ (y || z) → found_or o x (λ other. either (suc i) true && name_eq n other) ≡ (found_or o y (λ other. f (suc i) true && name_eq n other) || found_or o z (λ other. g (suc i) true && name_eq n other))
+  loop_either i None x y z h = h
+  loop_either i (Some other) x y z h = spread (f (suc i) true) (g (suc i) true) (name_eq n other)
+
+  mutual
+    act_either : (i : ℕ) (a : Act) → has_act either n i a ≡ (has_act f n i a || has_act g n i a)
+    act_either i (assign x subs e) = refl
+    act_either i (choose c a b) = (λ j. list_either (suc i) a j || list_either (behind (suc i) a) b j) ∙ crossed (has_in f n (suc i) a) (has_in g n (suc i) a) (has_in f n (behind (suc i) a) b) (has_in g n (behind (suc i) a) b)
+    act_either i (loop x a b c body m) = loop_either i (turned m body) (has_in either n (suc i) body) (has_in f n (suc i) body) (has_in g n (suc i) body) (list_either (suc i) body)
+    act_either i (during c body) = list_either (suc i) body
+    act_either i (call other args) = spread (f i false) (g i false) (name_eq n other)
+    act_either i (runtime r) = refl
+
+    list_either : (i : ℕ) (c : Code) → has_in either n i c ≡ (has_in f n i c || has_in g n i c)
+    list_either i stop = refl
+    list_either i (step line a rest) = (λ j. act_either i a j || list_either (next i a) rest j) ∙ crossed (has_act f n i a) (has_act g n i a) (has_in f n (next i a) rest) (has_in g n (next i a) rest)
+
+  pub some_either : (among : List ℕ → Bool) (i : ℕ) (us : List Procedure) → has_some among either n i us ≡ (has_some among f n i us || has_some among g n i us)
+  some_either among i [] = refl
+  some_either among i (u ∷ us) =
+      (λ j. (among u.name && list_either i u.body j) || some_either among (behind i u.body) us j)
+      ∙ ap (λ z. z || (has_some among f n (behind i u.body) us || has_some among g n (behind i u.body) us)) (spread_left (among u.name) (has_in f n i u.body) (has_in g n i u.body))
+      ∙ crossed (among u.name && has_in f n i u.body) (among u.name && has_in g n i u.body) (has_some among f n (behind i u.body) us) (has_some among g n (behind i u.body) us)
+
+-- ---- the calls that adjoints make of units as they are
+
+pub plain_calls : (b : Bool) (m : ProgramMarks) (ps : List Procedure) (head : Procedure) (n : List ℕ) → has_some (has_adjoint m ps head) (is_plain_call m b) n 0 ps ≡ is_kept_with b m ps head n
+plain_calls false m ps head n =
+    (λ j. has_some (has_adjoint m ps head) (λ i turns. or_false (m.kept i) j) n 0 ps) ∙ some_same m.kept n (has_adjoint m ps head) 0 ps
+plain_calls true m ps head n =
+    some_either (λ i turns. m.kept i) (λ i turns. turns && m.adjointed i) n (has_adjoint m ps head) 0 ps
+    ∙ (λ j. some_same m.kept n (has_adjoint m ps head) 0 ps j || some_turns (reads_in ps) m.adjointed n (has_adjoint m ps head) 0 ps j)
