@@ -1,6 +1,7 @@
 -- What holds of what is emitted by the marks of exact analyses.
 use Rattle.std.specs.Prelude.{None}
-use Rattle.std.proofs.Common.{arith, ◌≡◌, ℕ, ◌+◌, ◌≤◌, List, [], ◌∷◌, Bool, false, refl}
+use Rattle.std.proofs.Common.{arith, ◌≡◌, ℕ, ◌+◌, ◌≤◌, List, [], ◌∷◌, Bool, true, false, refl, ap, sym, subst, ◌∙◌}
+use Rattle.adj_tree.specs.Lines.{unlined}
 use Rattle.adj_tree.specs.Code.{Act, assign, choose, loop, during, call, runtime, unmarked, with_count, count_from, Code, stop, step, Procedure}
 use Rattle.adj_transpose.specs.Marks.{Vars}
 use Rattle.adj_names.specs.Fault.{run_rules}
@@ -14,18 +15,24 @@ use Rattle.adj_kernel.proofs.WholeKernels.{whole_units}
 use Rattle.adj_emitted.specs.Shadowed.{AllHaveShadows}
 use Rattle.adj_emitted.proofs.Programs.{marked_written}
 use Rattle.adj_emitted.proofs.SoundPrograms.{marked_sound}
+use Rattle.adj_accepted.specs.Accepted.{IsAdjointOfWith}
 use Rattle.adj_accepted.proofs.Kernels.{kernel_checked, numbered}
 use Rattle.adj_accepted.proofs.Through.{kernels_adjoint}
 use Rattle.adj_facts.specs.Activity.{Activity}
 use Rattle.adj_facts.specs.Live.{Liveness}
 use Rattle.adj_facts.specs.Laws.{Analysed}
-use Rattle.adj_analysed.proofs.Adjoint.{analysed_is_adjoint}
+use Rattle.adj_analysed.proofs.Adjoint.{analysed_is_adjoint, analysed_reverses}
 use Rattle.adj_weave.proofs.Lending.{exact_shadows}
-use Rattle.adj_planned.specs.Planned.{HasNoMarks, kernel_problem, planned_for, marks_by, PlannedIsAdjoint, PlannedSpends, PlannedIsWritten, PlannedIsSound}
+use Rattle.adj_planned.specs.Planned.{HasNoMarks, kernel_problem, planned_for, reversed_for, marks_by, PlannedIsAdjoint, PlannedSpends, PlannedIsWritten, PlannedIsSound, ReversedIsAdjoint, ReversedIsWritten, ReversedIsSound, ReversedIsPlanned, ReversedSpends}
 use Rattle.adj_analysed.specs.Meets.{program_facts, IsUnmarkedAct, IsUnmarked}
+use Rattle.adj_analysed.specs.MarkedLines.{reversed_lines}
 use Rattle.adj_spent.proofs.Spending.{emitted_spends}
 use Rattle.adj_planned.proofs.Unmarked.{kernel_unmarked}
+use Rattle.adj_planned.proofs.Marked.{kernel_keeps}
+use Rattle.adj_planned.proofs.MarkedLines.{kernel_apart}
 use Rattle.adj_planned.proofs.Lawful.{fits}
+use Rattle.adj_planned.proofs.ByMarks.{by_marks}
+use Rattle.adj_planned.proofs.Unscheduled.{nothing_added}
 
 shadows : (ps : List Procedure) → IsAccepted ps → (name : List ℕ) (vars outvars : List Bool) (a : Activity) (l : Liveness) (saved held : ℕ → Vars) → Analysed (kernel_problem ps name vars outvars) a l saved held →
     AllHaveShadows (marks_by ps a l saved held) (kernel_of ps) (kernel_of ps)
@@ -69,11 +76,44 @@ spends ps y none weight weighs name u found calls few vars outvars a l saved hel
 
 pub is_written : PlannedIsWritten
 is_written ps y name vars outvars a l saved held x =
-    marked_written run_rules (kernel_of ps) (kernel_checked ps y) (marks_by ps a l saved held) (shadows ps y name vars outvars a l saved held x) (unit_number (kernel_of ps) name) vars outvars
+    marked_written run_rules (kernel_of ps) (kernel_checked ps y) false (marks_by ps a l saved held) (shadows ps y name vars outvars a l saved held x) (unit_number (kernel_of ps) name) vars outvars
 
 pub is_sound : PlannedIsSound
 is_sound ps y name vars outvars a l saved held x qs same =
     let few : run_rules.chain ≤ run_rules.chain = omega arith in
     let m = marks_by ps a l saved held in
     sound_lines run_rules (planned_for ps name vars outvars m) qs same
-    (marked_sound run_rules (kernel_of ps) (kernel_checked ps y) few m (shadows ps y name vars outvars a l saved held x) (unit_number (kernel_of ps) name) vars outvars)
+    (marked_sound run_rules (kernel_of ps) (kernel_checked ps y) few false m (shadows ps y name vars outvars a l saved held x) (unit_number (kernel_of ps) name) vars outvars)
+
+-- ---- where marked loops are reversed by schedules
+
+pub is_reversed : ReversedIsAdjoint
+is_reversed ps y literal apart name u found vars outvars a l saved held x qs same =
+    let k = whole_units ps name u found in
+    let n = unit_number (kernel_of ps) name in
+    let w = program_facts (kernel_of ps) a l saved held in
+    let lines = reversed_lines w (kernel_of ps) in
+    subst (λ z. IsAdjointOfWith true z w.marks ps name vars outvars qs) (by_marks w (kernel_of ps))
+    (kernels_adjoint true lines w.marks ps y name u found vars outvars qs
+    (other_lines true lines w.marks (kernel_of ps) (reversed_for ps name vars outvars w.marks) qs n vars outvars same
+    (analysed_reverses run_rules (kernel_problem ps name vars outvars) (kernel_checked ps y) (kernel_keeps ps literal) (kernel_apart ps apart) a l saved held x k.becomes (numbered (kernel_of ps) name k.becomes k.found).1)))
+
+pub reversed_written : ReversedIsWritten
+reversed_written ps y name vars outvars a l saved held x =
+    marked_written run_rules (kernel_of ps) (kernel_checked ps y) true (marks_by ps a l saved held) (shadows ps y name vars outvars a l saved held x) (unit_number (kernel_of ps) name) vars outvars
+
+pub reversed_sound : ReversedIsSound
+reversed_sound ps y name vars outvars a l saved held x qs same =
+    let few : run_rules.chain ≤ run_rules.chain = omega arith in
+    let m = marks_by ps a l saved held in
+    sound_lines run_rules (reversed_for ps name vars outvars m) qs same
+    (marked_sound run_rules (kernel_of ps) (kernel_checked ps y) few true m (shadows ps y name vars outvars a l saved held x) (unit_number (kernel_of ps) name) vars outvars)
+
+-- ---- where no loop is marked
+
+pub is_planned : ReversedIsPlanned
+is_planned ps none name vars outvars m = nothing_added (kernel_of ps) (kernel_unmarked ps none) m (unit_number (kernel_of ps) name) vars outvars
+
+pub reversed_spends : ReversedSpends
+reversed_spends ps y none weight weighs name u found calls few vars outvars a l saved held x qs same =
+    spends ps y none weight weighs name u found calls few vars outvars a l saved held x qs (ap unlined (sym (is_planned ps none name vars outvars (marks_by ps a l saved held))) ∙ same)

@@ -55,7 +55,7 @@ module _ (local : ℕ → Var) where
       go true h k = append (set_local local line j m e) (before_target local line x (suc j) (m + locals_in e) es) (sets line j m e) h
       go false h k = k
 
-  assigns : (line : ℕ) (x : Var) (subs : Terms) (e : Term) → IsUnmarked (lowered_assign local line x subs e)
+  pub assigns : (line : ℕ) (x : Var) (subs : Terms) (e : Term) → IsUnmarked (lowered_assign local line x subs e)
   assigns line x subs e =
       let m = mentions x subs in let k = m + locals_in_target x subs in
       append (before_target local line x 0 m subs) _ (targets line x 0 m subs) (append (before local line k e) _ (befores line k e) (tt, tt))
@@ -90,7 +90,7 @@ module _ (local : ℕ → Var) where
       let p = passing (first_flag ws) earlier e in
       append (after_passing local line j p) _ (passes_back line j p) (passes_back_all line (j + locals_passing p) (other_flags ws) (passed local j p ∷ earlier) es)
 
-  calls : (line : ℕ) (ws : List Bool) (name : List ℕ) (args : Terms) → IsUnmarked (lowered_call local line ws name args)
+  pub calls : (line : ℕ) (ws : List Bool) (name : List ℕ) (args : Terms) → IsUnmarked (lowered_call local line ws name args)
   calls line ws name args =
       let j = locals_in_all args in let es = reduced_all local 0 args in
       append (before_all local line 0 args) _ (befores_all line 0 args) (append (before_passing_all local line j ws [] es) _ (passes_all line j ws [] es) (tt, passes_back_all line j ws [] es))
@@ -112,7 +112,7 @@ module _ (local : ℕ → Var) where
 -- ---- step units
 
 -- all units of two lists
-both : (P : Procedure → Type 0) (us vs : List Procedure) → EachUnit P us → EachUnit P vs → EachUnit P (us ++ vs)
+pub both : (P : Procedure → Type 0) (us vs : List Procedure) → EachUnit P us → EachUnit P vs → EachUnit P (us ++ vs)
 both P [] vs h k = k
 both P (u ∷ us) vs h k = (h.0, both P us vs h.1 k)
 

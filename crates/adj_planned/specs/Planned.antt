@@ -1,28 +1,31 @@
 -- What is emitted for the kernel of an accepted program by the marks of exact analyses. (docs/THEOREMS.md, "Adjoints")
-use Rattle.std.specs.Prelude.{◌≡◌, ℕ, List, Bool, Some, None}
+use Rattle.std.specs.Prelude.{◌≡◌, ◌<◌, ℕ, List, length, Bool, true, Some, None}
 use Rattle.adj_tree.specs.Code.{Procedure}
 use Rattle.adj_tree.specs.Lines.{unlined}
 use Rattle.adj_tree.specs.declared.marks.Marks as flags
 use Rattle.adj_meaning.specs.Written.{find_unit}
+use Rattle.adj_text.specs.Reads.{Reads}
 use Rattle.adj_text.specs.Written.{IsWritten}
 use Rattle.adj_names.specs.Fault.{run_rules}
 use Rattle.adj_names.specs.Check.{IsSound}
 use Rattle.adj_names.specs.HeadFaults.{unit_number}
-use Rattle.adj_transpose.specs.Marks.{Vars}
-use Rattle.adj_reverse.specs.Marking.{ProgramMarks}
-use Rattle.adj_reverse.specs.Program.{emitted_program}
+use Rattle.adj_transpose.specs.Marks.{Vars, everything}
+use Rattle.adj_reverse.specs.Marking.{ProgramMarks, ProgramFacts}
+use Rattle.adj_reverse.specs.Reversals.{ReversedLines}
+use Rattle.adj_reverse.specs.Program.{emitted_program_with, emitted_program}
 use Rattle.adj_kernel.specs.Kernel.{EachUnit}
 use Rattle.adj_kernel.specs.Weights.{WeighsAtMost}
 use Rattle.adj_kernel.specs.Stepped.{kernel_of}
 use Rattle.adj_kernel.specs.Sound.{IsAccepted}
-use Rattle.adj_accepted.specs.Accepted.{IsAdjointOf}
+use Rattle.adj_accepted.specs.Accepted.{HaveOwnNames, IsAdjointOfWith, IsAdjointOf}
 use Rattle.adj_cost.specs.RunTheorem.{CallsAtMost}
 use Rattle.adj_spent.specs.Spent.{SpendsAtMost}
 use Rattle.adj_facts.specs.Problem.{Problem}
 use Rattle.adj_facts.specs.Activity.{Activity}
 use Rattle.adj_facts.specs.Live.{Liveness}
 use Rattle.adj_facts.specs.Laws.{Analysed}
-use Rattle.adj_analysed.specs.Meets.{program_facts, IsUnmarked}
+use Rattle.adj_analysed.specs.Meets.{program_facts, IsUnmarked, HasLiteralMarks}
+use Rattle.adj_analysed.specs.MarkedLines.{program_lines, AreLinesApart, reversed_lines}
 use Rattle.adj_flow.specs.Asked.{units_of}
 use Rattle.adj_flow.specs.declared.units.Flow.{Flow}
 use Rattle.adj_activity.specs.Asked.{activity_of, liveness_of, saved_of}
@@ -36,6 +39,22 @@ HasNoMarks ps = EachUnit (λ u. IsUnmarked u.body) ps
 abbrev pub KernelIsUnmarked : Type 0
 KernelIsUnmarked = (ps : List Procedure) → HasNoMarks ps → HasNoMarks (kernel_of ps)
 
+-- no loop of a program takes its number of snapshots from a variable
+abbrev pub MarksAreLiteral : List Procedure → Type 0
+MarksAreLiteral ps = EachUnit (λ u. HasLiteralMarks u.body) ps
+
+-- so it is in the kernel
+abbrev pub KernelKeepsMarks : Type 0
+KernelKeepsMarks = (ps : List Procedure) → MarksAreLiteral ps → MarksAreLiteral (kernel_of ps)
+
+-- where no two marked loops of a program stand at one line, no two of its kernel do
+abbrev pub KernelKeepsLines : Type 0
+KernelKeepsLines = (ps : List Procedure) → AreLinesApart (program_lines ps) → AreLinesApart (program_lines (kernel_of ps))
+
+-- No two of a program stand at one line that a text gives: each statement begins at a line of its own. (Line numbers stand still at 2^32 - 1.)
+abbrev pub ReadHaveLinesApart : Type 0
+ReadHaveLinesApart = (bytes : List ℕ) (ps : List Procedure) → Reads bytes ps → length bytes < 4294967295 → AreLinesApart (program_lines ps)
+
 -- what is asked of the analyses: of the kernel, with the unit of a name as the head
 abbrev pub kernel_problem : List Procedure → List ℕ → List Bool → List Bool → Problem
 kernel_problem ps name vars outvars = record { units = kernel_of ps; head = unit_number (kernel_of ps) name; vars = vars; outvars = outvars }
@@ -43,6 +62,17 @@ kernel_problem ps name vars outvars = record { units = kernel_of ps; head = unit
 -- what is emitted for it by some marks
 abbrev pub planned_for : List Procedure → List ℕ → List Bool → List Bool → ProgramMarks → List Procedure
 planned_for ps name vars outvars m = emitted_program m (kernel_of ps) (unit_number (kernel_of ps) name) vars outvars
+
+-- the same where marked loops are reversed by schedules, each whose step call is adjointed
+abbrev pub reversed_for : List Procedure → List ℕ → List Bool → List Bool → ProgramMarks → List Procedure
+reversed_for ps name vars outvars m = emitted_program_with true m (kernel_of ps) (unit_number (kernel_of ps) name) vars outvars
+
+-- the loops of the kernel that are reversed so, by their lines, with their step units: they hang on the marks alone
+abbrev pub facts_by : ProgramMarks → ProgramFacts
+facts_by m = record { marks = m; needed = λ point. everything; held = λ point. everything }
+
+abbrev pub lines_by : List Procedure → ProgramMarks → ReversedLines
+lines_by ps m = reversed_lines (facts_by m) (kernel_of ps)
 
 -- the marks that analyses of the kernel give
 abbrev pub marks_by : List Procedure → Activity → Liveness → (ℕ → Vars) → (ℕ → Vars) → ProgramMarks
@@ -74,6 +104,56 @@ abbrev pub PlannedIsSound : Type 0
 PlannedIsSound =
     (ps : List Procedure) → IsAccepted ps → (name : List ℕ) (vars outvars : List Bool) (a : Activity) (l : Liveness) (saved held : ℕ → Vars) → Analysed (kernel_problem ps name vars outvars) a l saved held →
     (qs : List Procedure) → unlined (planned_for ps name vars outvars (marks_by ps a l saved held)) ≡ unlined qs → IsSound run_rules qs
+
+-- ---- where marked loops are reversed by schedules
+
+-- By exact ones it is an adjoint of the program, and so is what differs from it in line numbers alone: of a program whose marks are literal, and
+-- no two of whose marked loops stand at one line.
+abbrev pub ReversedIsAdjoint : Type 0
+ReversedIsAdjoint =
+    (ps : List Procedure) → IsAccepted ps → MarksAreLiteral ps → AreLinesApart (program_lines ps) → (name : List ℕ) (u : Procedure) → find_unit ps name ≡ Some u → (vars outvars : List Bool) →
+    (a : Activity) (l : Liveness) (saved held : ℕ → Vars) → Analysed (kernel_problem ps name vars outvars) a l saved held → (qs : List Procedure) →
+    let m = marks_by ps a l saved held in
+    unlined (reversed_for ps name vars outvars m) ≡ unlined qs → IsAdjointOfWith true (lines_by ps m) m ps name vars outvars qs
+
+-- it can be written as a text
+abbrev pub ReversedIsWritten : Type 0
+ReversedIsWritten =
+    (ps : List Procedure) → IsAccepted ps → (name : List ℕ) (vars outvars : List Bool) (a : Activity) (l : Liveness) (saved held : ℕ → Vars) → Analysed (kernel_problem ps name vars outvars) a l saved held →
+    IsWritten (reversed_for ps name vars outvars (marks_by ps a l saved held))
+
+-- and has no fault as a text that is run, nor has what differs from it in line numbers alone
+abbrev pub ReversedIsSound : Type 0
+ReversedIsSound =
+    (ps : List Procedure) → IsAccepted ps → (name : List ℕ) (vars outvars : List Bool) (a : Activity) (l : Liveness) (saved held : ℕ → Vars) → Analysed (kernel_problem ps name vars outvars) a l saved held →
+    (qs : List Procedure) → unlined (reversed_for ps name vars outvars (marks_by ps a l saved held)) ≡ unlined qs → IsSound run_rules qs
+
+-- and the step units of the loops that are reversed have other names than their adjoints, by any marks
+abbrev pub ReversedHaveOwnNames : Type 0
+ReversedHaveOwnNames = (ps : List Procedure) → IsAccepted ps → (m : ProgramMarks) → HaveOwnNames (lines_by ps m)
+
+-- ---- where no loop is marked
+
+-- the same is emitted whether marked loops are reversed by schedules or not
+abbrev pub SchedulesAddNothing : Type 0
+SchedulesAddNothing = (ps : List Procedure) → HasNoMarks ps → (m : ProgramMarks) (head : ℕ) (vars outvars : List Bool) → emitted_program_with true m ps head vars outvars ≡ emitted_program m ps head vars outvars
+
+-- so it is for the kernel
+abbrev pub ReversedIsPlanned : Type 0
+ReversedIsPlanned = (ps : List Procedure) → HasNoMarks ps → (name : List ℕ) (vars outvars : List Bool) (m : ProgramMarks) → reversed_for ps name vars outvars m ≡ planned_for ps name vars outvars m
+
+-- no loop of it is reversed
+abbrev pub NoneIsReversed : Type 0
+NoneIsReversed = (ps : List Procedure) → HasNoMarks ps → (m : ProgramMarks) (line : ℕ) → lines_by ps m line ≡ None
+
+-- and the bound is kept
+abbrev pub ReversedSpends : Type 0
+ReversedSpends =
+    (ps : List Procedure) → IsAccepted ps → HasNoMarks ps → (weight : ℕ) → EachUnit (λ u. WeighsAtMost weight u.body) ps → (name : List ℕ) (u : Procedure) → find_unit ps name ≡ Some u → (calls : ℕ) → CallsAtMost ps name calls → (vars outvars : List Bool) →
+    (a : Activity) (l : Liveness) (saved held : ℕ → Vars) → Analysed (kernel_problem ps name vars outvars) a l saved held → (qs : List Procedure) →
+    unlined (reversed_for ps name vars outvars (marks_by ps a l saved held)) ≡ unlined qs → SpendsAtMost (marks_by ps a l saved held) ps name weight calls qs
+
+-- ---- marks that flags tell
 
 -- the marks that flags tell over a flow are those of what they tell as analyses, whatever is needed and held
 abbrev pub PlansAreAnalyses : Type 0

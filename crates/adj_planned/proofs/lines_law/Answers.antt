@@ -1,0 +1,5 @@
+use Rattle.adj_planned.proofs.ReadLines.{read_apart}
+use Rattle.adj_planned.proofs.lines_law.Goals as goal
+
+pub returns : goal.returns
+returns c = read_apart
