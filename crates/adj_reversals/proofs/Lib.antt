@@ -1,0 +1,3 @@
+-- the lemmas of the crate
+mod Refusing
+pub mod Trials
