@@ -1,4 +1,4 @@
--- Where `check` is done, its products are equal, and a trap that it tells of is the original's, by the theorem on adjoints.
+-- Where `check` is done, its products are equal and its advances the least, and a trap that it tells of is the original's, by the theorem on adjoints.
 use Rattle.std.proofs.Common.{◌≡◌, ℕ, true, List, [], ◌++◌, drop, refl, sym, ap, ◌∙◌, subst, Option, Some, None}
 use Rattle.std.specs.Prelude.{ℤ, codes}
 use Rattle.adj_tree.specs.Code.{Procedure}
@@ -8,10 +8,12 @@ use Rattle.adj_meaning.specs.Scene.{Outcome, Done, Trapped, More, Full}
 use Rattle.adj_meaning.specs.Units.{Output, fits, run_unit}
 use Rattle.adj_text.specs.Data.{data_of}
 use Rattle.adj_transpose.specs.Adjoint.{cells_of}
-use Rattle.adj_transpose.specs.MarkedAdjoint.{shadow_flags}
+use Rattle.adj_transpose.specs.MarkedAdjoint.{shadow_flags, joined_by}
+use Rattle.adj_reverse.specs.Reversals.{runs_in}
 use Rattle.adj_data.specs.Faults.{Fault}
 use Rattle.adj_data.specs.Marked.{check_fault}
 use Rattle.adj_rooms.specs.Adjoints.{IsTrapped, Balances}
+use Rattle.adj_rooms.specs.Advances.{least_costs, AdjointsAdvance}
 use Rattle.adj_rooms.proofs.Adjoints.{adjoints_balance}
 use Rattle.adj_answer.specs.Answer.{Answer, line_of_one}
 use Rattle.adj_running.specs.Running.{Asked}
@@ -44,35 +46,45 @@ module _ (p : Sides) (x : IsAdjointSide p) (d : Given) (s : SuitsHead p d) where
   pub balanced : (room : Option ℕ) (k used : ℕ) (out : Output ℤ) → run_unit words p.source p.head d.inputs [] room k ≡ Done out used → Balances p.shadowed p.source p.head p.vars p.outvars p.emitted p.adjoint d.inputs d.adjoints (cells_of d.tangents)
   balanced room k used out e =
       let u = x.adjoins.unit in
-      let b = adjoints_balance x.lines x.marks p.source x.name p.vars p.outvars p.emitted x.adjoins d.inputs d.adjoints (subst (λ v. fits words v d.inputs ≡ true) x.is_head s.fits) s.adjoints (cells_of d.tangents) s.along room k used out
+      let b = adjoints_balance true x.lines x.marks p.source x.name p.vars p.outvars p.emitted x.adjoins d.inputs d.adjoints (subst (λ v. fits words v d.inputs ≡ true) x.is_head s.fits) s.adjoints (cells_of d.tangents) s.along room k used out
       (subst (λ v. run_unit words p.source v d.inputs [] room k ≡ Done out used) x.is_head e) in
       let flags : shadow_flags (x.marks.shadowed x.name) u.dummies ≡ p.shadowed = sym (x.shadows ∙ ap (λ (v : Procedure). shadow_flags (x.marks.shadowed x.name) v.dummies) x.is_head) in
       subst (λ a. Balances p.shadowed p.source p.head p.vars p.outvars p.emitted a d.inputs d.adjoints (cells_of d.tangents)) (sym x.is_adjoint)
       (subst (λ v. Balances p.shadowed p.source v p.vars p.outvars p.emitted x.adjoins.adjoint d.inputs d.adjoints (cells_of d.tangents)) (sym x.is_head)
       (subst (λ f. Balances f p.source u p.vars p.outvars p.emitted x.adjoins.adjoint d.inputs d.adjoints (cells_of d.tangents)) flags b))
 
+  -- where the adjoint's run is done too, its advances are the least costs of the original's runs of the loops that are reversed
+  advanced : AdjointsAdvance → (room : Option ℕ) (k used used' : ℕ) (out back : Output ℤ) → run_unit words p.source p.head d.inputs [] room k ≡ Done out used →
+      run_unit words p.emitted p.adjoint (joined_by p.shadowed d.inputs d.adjoints) [] room k ≡ Done back used' → (log_of back.events).advances ≡ least_costs (runs_in x.lines out.events)
+  advanced law room k used used' out back e e' =
+      law true x.lines x.own_names x.marks p.source x.name p.vars p.outvars p.emitted x.adjoins d.inputs d.adjoints (subst (λ v. fits words v d.inputs ≡ true) x.is_head s.fits) s.adjoints room room k k used used' out back
+      (subst (λ v. run_unit words p.source v d.inputs [] room k ≡ Done out used) x.is_head e)
+      (subst (λ f. run_unit words p.emitted x.adjoins.adjoint (joined_by f d.inputs d.adjoints) [] room k ≡ Done back used') (x.shadows ∙ ap (λ (v : Procedure). shadow_flags (x.marks.shadowed x.name) v.dummies) x.is_head)
+      (subst (λ a. run_unit words p.emitted a (joined_by p.shadowed d.inputs d.adjoints) [] room k ≡ Done back used') x.is_adjoint e'))
+
   -- the text of an answer with equal products
-  equal_text : (out : Output ℤ) (dual : Output (ℤ × ℤ)) (back : Output ℤ) → input_product p d (adjoints_in p back) ≡ output_product p d (tangents_in dual) → TellsEqual (compared p d out.slots (tangents_in dual) (adjoints_in p back) (log_of back.events).advances).text
-  equal_text out dual back e = record {
+  equal_text : (out : Output ℤ) (dual : Output (ℤ × ℤ)) (back : Output ℤ) → input_product p d (adjoints_in p back) ≡ output_product p d (tangents_in dual) → (advances : ℕ) → (log_of back.events).advances ≡ advances →
+      TellsEqual advances (compared p d out.slots (tangents_in dual) (adjoints_in p back) (log_of back.events).advances).text
+  equal_text out dual back e advances e' = record {
     values = value_lines p out.slots (tangents_in dual) (adjoints_in p back);
     both = input_product p d (adjoints_in p back);
-    advances = (log_of back.events).advances;
-    is = ap (λ z. value_lines p out.slots (tangents_in dual) (adjoints_in p back) ++ (products_line (input_product p d (adjoints_in p back)) z ++ line_of_one (codes "ADVANCES ") (log_of back.events).advances)) (sym e);
+    is = λ i. value_lines p out.slots (tangents_in dual) (adjoints_in p back) ++ (products_line (input_product p d (adjoints_in p back)) (sym e i) ++ line_of_one (codes "ADVANCES ") (e' i));
   }
 
-  module _ (r : Asked) where
+  module _ (r : Asked) (law : AdjointsAdvance) where
     -- after the adjoint's run
     adjoint_done : (out : Output ℤ) (used : ℕ) → original_run r p d ≡ Done out used → (dual : Output (ℤ × ℤ)) (used1 : ℕ) → dual_run r p d ≡ Done dual used1 → (o : Outcome (Output ℤ)) → adjoint_run r p d ≡ o →
-        let a = after r o (λ back. compared p d out.slots (tangents_in dual) (adjoints_in p back) (log_of back.events).advances) in a.status ≡ 0 → TellsEqual a.text
+        let a = after r o (λ back. compared p d out.slots (tangents_in dual) (adjoints_in p back) (log_of back.events).advances) in a.status ≡ 0 → TellsEqual (least_costs (runs_in x.lines out.events)) a.text
     adjoint_done out used e dual used1 f (Done back used2) g h =
         equal_text out dual back ((balanced (Some r.room) r.budget used out e).products (Some r.room) (Some 0) r.budget r.budget used2 used1 back dual g f)
+        (least_costs (runs_in x.lines out.events)) (advanced law (Some r.room) r.budget used used2 out back e g)
     adjoint_done out used e dual used1 f (Trapped t line w) g h = absurd cc
     adjoint_done out used e dual used1 f (More w) g h = absurd cc
     adjoint_done out used e dual used1 f (Full w) g h = absurd cc
 
     -- after the dual run
     dual_done : (out : Output ℤ) (used : ℕ) → original_run r p d ≡ Done out used → (o : Outcome (Output (ℤ × ℤ))) → dual_run r p d ≡ o →
-        let a = after r o (λ dual. after r (adjoint_run r p d) (λ back. compared p d out.slots (tangents_in dual) (adjoints_in p back) (log_of back.events).advances)) in a.status ≡ 0 → TellsEqual a.text
+        let a = after r o (λ dual. after r (adjoint_run r p d) (λ back. compared p d out.slots (tangents_in dual) (adjoints_in p back) (log_of back.events).advances)) in a.status ≡ 0 → TellsEqual (least_costs (runs_in x.lines out.events)) a.text
     dual_done out used e (Done dual used1) f h = adjoint_done out used e dual used1 f (adjoint_run r p d) refl h
     dual_done out used e (Trapped t line w) f h = absurd cc
     dual_done out used e (More w) f h = absurd cc
@@ -80,12 +92,14 @@ module _ (p : Sides) (x : IsAdjointSide p) (d : Given) (s : SuitsHead p d) where
 
     -- after the original's
     original_done : (o : Outcome (Output ℤ)) → original_run r p d ≡ o →
-        let a = after r o (λ out. after r (dual_run r p d) (λ dual. after r (adjoint_run r p d) (λ back. compared p d out.slots (tangents_in dual) (adjoints_in p back) (log_of back.events).advances))) in a.status ≡ 0 → TellsEqual a.text × NeverTraps p d
-    original_done (Done out used) e h = (dual_done out used e (dual_run r p d) refl h, (balanced (Some r.room) r.budget used out e).untrapped)
+        let a = after r o (λ out. after r (dual_run r p d) (λ dual. after r (adjoint_run r p d) (λ back. compared p d out.slots (tangents_in dual) (adjoints_in p back) (log_of back.events).advances))) in a.status ≡ 0 →
+        (out : Output ℤ) × (used : ℕ) × (o ≡ Done out used) × TellsEqual (least_costs (runs_in x.lines out.events)) a.text × NeverTraps p d
+    original_done (Done out used) e h = (out, used, refl, dual_done out used e (dual_run r p d) refl h, (balanced (Some r.room) r.budget used out e).untrapped)
     original_done (Trapped t line w) e h = absurd cc
     original_done (More w) e h = absurd cc
     original_done (Full w) e h = absurd cc
 
+  module _ (r : Asked) where
     -- a trap that is told is the original's
     tells : (o : Outcome (Output ℤ)) → original_run r p d ≡ o →
         let a = after r o (λ out. after r (dual_run r p d) (λ dual. after r (adjoint_run r p d) (λ back. compared p d out.slots (tangents_in dual) (adjoints_in p back) (log_of back.events).advances))) in a.status ≡ 4 → TellsTrap o a
@@ -128,8 +142,8 @@ check_traps r p x bytes = record {
     told_by (Some f) e k = absurd cc
     told_by None e k = (e, tells p x.side d (suits p x.sized x.vars x.outvars line behind e) r (original_run r p d) refl k)
 
-pub check_agrees : CheckAgrees
-check_agrees r p x bytes h = go (check_fault line behind p.head p.vars p.outvars) refl h
+pub check_agrees : AdjointsAdvance → CheckAgrees
+check_agrees law r p x bytes h = go (check_fault line behind p.head p.vars p.outvars) refl h
   where
     line : ℕ
     line = (data_of bytes).1
@@ -137,9 +151,9 @@ check_agrees r p x bytes h = go (check_fault line behind p.head p.vars p.outvars
     behind : List ℕ
     behind = drop (data_of bytes).0 bytes
 
-    go : (f : Option Fault) → check_fault line behind p.head p.vars p.outvars ≡ f → (faulty_or f (runs_answer r p (given_by p line behind))).status ≡ 0 → Agrees p bytes (faulty_or f (runs_answer r p (given_by p line behind))).text
+    go : (f : Option Fault) → check_fault line behind p.head p.vars p.outvars ≡ f → (faulty_or f (runs_answer r p (given_by p line behind))).status ≡ 0 → Agrees r x.side.lines p bytes (faulty_or f (runs_answer r p (given_by p line behind))).text
     go (Some f) e k = absurd cc
     go None e k =
         let d = given_by p line behind in
-        let both = original_done p x.side d (suits p x.sized x.vars x.outvars line behind e) r (original_run r p d) refl k in
-        record { equal = both.0; untrapped = both.1 }
+        let all = original_done p x.side d (suits p x.sized x.vars x.outvars line behind e) r law (original_run r p d) refl k in
+        record { original = all.0; used = all.1; done = all.2; equal = all.3; untrapped = all.4 }

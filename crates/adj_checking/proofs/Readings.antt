@@ -13,7 +13,7 @@ use Rattle.adj_names.specs.Fault.{first_of}
 use Rattle.adj_names.specs.HeadFaults.{first_head_fault, faults_of_head}
 use Rattle.adj_readable.specs.Reading.{OrTooMany}
 use Rattle.adj_answer.specs.Programs.{program_of}
-use Rattle.adj_accepted.specs.Accepted.{IsAdjointOf}
+use Rattle.adj_accepted.specs.Accepted.{IsAdjointOfWith}
 use Rattle.adj_checking.specs.Emitted.{or_itself, read_back, IsRunnable, IsEmittedFor}
 use Rattle.adj_checking.specs.Agreeing.{IsAdjointSide}
 use Rattle.adj_checking.specs.Ready.{sides_of}
@@ -37,7 +37,7 @@ none_faulty ps name h = go (find_unit ps name) h
 -- ---- sides
 
 module _ (ps : List Procedure) (u : Procedure) (h : Head) (e : Emitted) (found : find_unit ps u.name ≡ Some u) (known : IsEmittedFor ps u.name h.vars h.outvars (procedures_of e.program) e.adjoint e.shadowed) where
-  abbrev back : IsAdjointOf (λ line. None) known.marks ps u.name h.vars h.outvars (read_back (procedures_of e.program))
+  abbrev back : IsAdjointOfWith true known.lines known.marks ps u.name h.vars h.outvars (read_back (procedures_of e.program))
   back = known.adjoins (read_back (procedures_of e.program)) (alike_read (procedures_of e.program) known.runnable)
 
   -- the adjoint of the head is there
@@ -49,7 +49,8 @@ module _ (ps : List Procedure) (u : Procedure) (h : Head) (e : Emitted) (found :
       let heads : Some u ≡ Some back.unit = sym found ∙ back.is_head in
       let adjoints : Some a ≡ Some back.adjoint = sym there ∙ adjoint_is in
       record {
-        lines = λ line. None;
+        lines = known.lines;
+        own_names = known.own_names;
         marks = known.marks;
         name = u.name;
         adjoins = back;

@@ -1,39 +1,40 @@
 -- Agreeing: what holds of the runs of `check`, and where it is done. (docs/THEOREMS.md, "`check`")
-use Rattle.std.specs.Prelude.{◌≡◌, ℕ, ℤ, List, [], ◌++◌, Bool, Option, None, codes, drop, length}
+use Rattle.std.specs.Prelude.{◌≡◌, ℕ, ℤ, List, [], ◌++◌, Bool, true, Option, None, codes, drop, length}
 use Rattle.adj_tree.specs.Code.{Procedure}
 use Rattle.adj_meaning.specs.Numbers.{words}
 use Rattle.adj_text.specs.Data.{data_of}
 use Rattle.adj_meaning.specs.Scene.{Outcome, Done, Trapped, More, Full}
-use Rattle.adj_meaning.specs.Units.{run_unit}
+use Rattle.adj_meaning.specs.Units.{Output, run_unit}
 use Rattle.adj_transpose.specs.MarkedAdjoint.{shadow_flags, joined_by}
 use Rattle.adj_reverse.specs.Marking.{ProgramMarks}
-use Rattle.adj_reverse.specs.Reversals.{ReversedLines}
-use Rattle.adj_accepted.specs.Accepted.{IsAdjointOf}
+use Rattle.adj_reverse.specs.Reversals.{ReversedLines, runs_in}
+use Rattle.adj_accepted.specs.Accepted.{HaveOwnNames, IsAdjointOfWith}
 use Rattle.adj_data.specs.Fitting.{IsSized}
 use Rattle.adj_data.specs.Marked.{check_fault}
 use Rattle.adj_rooms.specs.Adjoints.{IsTrapped}
+use Rattle.adj_rooms.specs.Advances.{least_costs}
 use Rattle.adj_answer.specs.Answer.{Answer, line_of_one}
 use Rattle.adj_running.specs.Running.{Asked, trapped}
 use Rattle.adj_checking.specs.Checking.{Sides, Given, original_run, products_line, check_answer, given_of}
 
--- the text tells two products, which are equal
-pub record TellsEqual (text : List ℕ) : Type 0 where
+-- the text tells two products, which are equal, and so many advances
+pub record TellsEqual (advances : ℕ) (text : List ℕ) : Type 0 where
   -- lines of values
   pub values : List ℕ
   pub both : ℤ
-  pub advances : ℕ
   pub is : text ≡ values ++ (products_line both both ++ line_of_one (codes "ADVANCES ") advances)
 
 -- the run of the adjoint on data never traps, with any number of statements and any room of the tape
 abbrev pub NeverTraps : Sides → Given → Type 0
 NeverTraps p d = (room : Option ℕ) (k : ℕ) → IsTrapped (run_unit words p.emitted p.adjoint (joined_by p.shadowed d.inputs d.adjoints) [] room k) → ⊥
 
--- one side is an adjoint of the other
+-- one side is an adjoint of the other, in which the loops at these lines are reversed by schedules
 pub record IsAdjointSide (p : Sides) : Type 0 where
   pub lines : ReversedLines
+  pub own_names : HaveOwnNames lines
   pub marks : ProgramMarks
   pub name : List ℕ
-  pub adjoins : IsAdjointOf lines marks p.source name p.vars p.outvars p.emitted
+  pub adjoins : IsAdjointOfWith true lines marks p.source name p.vars p.outvars p.emitted
   pub is_head : p.head ≡ adjoins.unit
   pub is_adjoint : p.adjoint ≡ adjoins.adjoint
   pub shadows : p.shadowed ≡ shadow_flags (marks.shadowed name) p.head.dummies
@@ -77,11 +78,16 @@ CheckTraps = (r : Asked) (p : Sides) → AreAdjoint p → (bytes : List ℕ) →
 
 -- ---- products
 
--- what the answer says, and what the runs are
-pub record Agrees (p : Sides) (bytes text : List ℕ) : Type 0 where
-  pub equal : TellsEqual text
+-- what the answer says, and what the runs are, where the loops at these lines are reversed by schedules
+pub record Agrees (r : Asked) (lines : ReversedLines) (p : Sides) (bytes text : List ℕ) : Type 0 where
+  -- the original's run is done
+  pub original : Output ℤ
+  pub used : ℕ
+  pub done : original_run r p (given_of p bytes) ≡ Done original used
+  -- the products are equal, and the advances are the least costs of that run's runs of these loops, together
+  pub equal : TellsEqual (least_costs (runs_in lines original.events)) text
   pub untrapped : NeverTraps p (given_of p bytes)
 
--- so where `check` is done, the products are equal and the adjoint never trapped
+-- so where `check` is done, the products are equal, the advances are the least, and the adjoint never trapped
 abbrev pub CheckAgrees : Type 0
-CheckAgrees = (r : Asked) (p : Sides) → AreAdjoint p → (bytes : List ℕ) → (check_answer r p bytes).status ≡ 0 → Agrees p bytes (check_answer r p bytes).text
+CheckAgrees = (r : Asked) (p : Sides) → (x : AreAdjoint p) → (bytes : List ℕ) → (check_answer r p bytes).status ≡ 0 → Agrees r x.side.lines p bytes (check_answer r p bytes).text

@@ -1,5 +1,5 @@
 -- Emitted: the program that is run as the adjoint of a head, and what is known of it.
-use Rattle.std.specs.Prelude.{◌≡◌, ℕ, List, Bool, Some, None, Result, Ok, Err}
+use Rattle.std.specs.Prelude.{◌≡◌, ℕ, List, Bool, true, Some, Result, Ok, Err}
 use Rattle.adj_tree.specs.Code.{Procedure}
 use Rattle.adj_tree.specs.Lines.{unlined}
 use Rattle.adj_tree.specs.declared.fault.Refusal.{Refusal}
@@ -12,8 +12,9 @@ use Rattle.adj_names.specs.Check.{IsSound}
 use Rattle.adj_transpose.specs.MarkedAdjoint.{shadow_flags}
 use Rattle.adj_reverse.specs.Names.{adjoint_name}
 use Rattle.adj_reverse.specs.Marking.{ProgramMarks}
+use Rattle.adj_reverse.specs.Reversals.{ReversedLines}
 use Rattle.adj_kernel.specs.Stepped.{kernel_of}
-use Rattle.adj_accepted.specs.Accepted.{IsAdjointOf}
+use Rattle.adj_accepted.specs.Accepted.{HaveOwnNames, IsAdjointOfWith}
 use Rattle.adj_readable.specs.Reading.{OrTooMany}
 use Rattle.adj_answer.specs.Programs.{program_of}
 
@@ -34,8 +35,10 @@ pub record IsRunnable (qs : List Procedure) : Type 0 where
 -- a program that is emitted for the unit of a name in a program, with the name of that unit's adjoint, and flags that tell which of its dummies have a shadow
 pub record IsEmittedFor (ps : List Procedure) (name : List ℕ) (vars outvars : List Bool) (qs : List Procedure) (adjoint : List ℕ) (shadowed : List Bool) : Type 0 where
   pub runnable : IsRunnable qs
-  -- with any line numbers it is an adjoint
+  -- with any line numbers it is an adjoint, in which the loops at these lines are reversed by schedules
+  pub lines : ReversedLines
+  pub own_names : HaveOwnNames lines
   pub marks : ProgramMarks
-  pub adjoins : (others : List Procedure) → unlined qs ≡ unlined others → IsAdjointOf (λ line. None) marks ps name vars outvars others
+  pub adjoins : (others : List Procedure) → unlined qs ≡ unlined others → IsAdjointOfWith true lines marks ps name vars outvars others
   pub named : (k : Procedure) → find_unit (kernel_of ps) name ≡ Some k → adjoint ≡ adjoint_name (kernel_of ps) k
   pub shadows : (u : Procedure) → find_unit ps name ≡ Some u → shadowed ≡ shadow_flags (marks.shadowed name) u.dummies

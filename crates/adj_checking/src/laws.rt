@@ -2,8 +2,13 @@
 
 ghost use Rattle.adj_checking.specs.Agreeing.{CheckAgrees, CheckTraps};
 
-/// Where `check` is done, both products are equal, and the adjoint never trapped; and a trap that it tells of is the original's.
+use adj_rooms::advance_law;
+
+/// Where `check` is done, both products are equal, the advances are the least costs of the original's runs of the loops that are
+/// reversed by schedules, and the adjoint never trapped; and a trap that it tells of is the original's.
 pub fn check_law()
     ensures agrees { CheckAgrees }
     ensures traps { CheckTraps }
-{}
+{
+    advance_law();
+}
