@@ -22,15 +22,16 @@ use Rattle.adj_emitted.specs.Shadowed.{AllHaveShadows}
 use Rattle.adj_kernel.specs.Kernel.{EachUnit}
 use Rattle.adj_kernel.specs.Stepped.{kernel_of}
 use Rattle.adj_kernel.specs.Sound.{IsAccepted}
-use Rattle.adj_accepted.specs.Accepted.{IsAdjointOf}
+use Rattle.adj_accepted.specs.Accepted.{IsAdjointOfWith}
 use Rattle.adj_accepted.proofs.Kernels.{kernel_checked, found_name, becomes}
 use Rattle.adj_shape.proofs.Accepted.{accepted_has_shape}
 use Rattle.adj_weave.proofs.Lending.{exact_shadows}
 use Rattle.adj_readable.specs.Reading.{OrTooMany}
-use Rattle.adj_limits.specs.Limits.{EmittedIsRunnable}
-use Rattle.adj_planned.specs.Planned.{HasNoMarks, kernel_problem, planned_for, marks_by}
+use Rattle.adj_limits.specs.Limits.{EmittedIsRunnableWith}
+use Rattle.adj_planned.specs.Planned.{MarksAreLiteral, kernel_problem, lines_by, reversed_for, marks_by}
 use Rattle.adj_planned.proofs.Planned as planned
-use Rattle.adj_planned.proofs.Unmarked.{kernel_unmarked}
+use Rattle.adj_planned.proofs.OwnNames.{own_names}
+use Rattle.adj_analysed.specs.MarkedLines.{program_lines, AreLinesApart}
 use Rattle.adj_answer.specs.Answer.{Answer}
 use Rattle.adj_answer.specs.Laws.{ProgramTold}
 use Rattle.adj_answer.specs.Programs.{program_of}
@@ -41,9 +42,8 @@ use Rattle.adj_running.proofs.Sized.{sized}
 use Rattle.adj_checking.specs.Checking.{Sides, check_answer}
 use Rattle.adj_checking.specs.Emitted as checking
 use Rattle.adj_checking.specs.Emitted.{IsRunnable, read_back}
-use Rattle.adj_checking.specs.Agreeing.{AreAdjoint, Agrees}
+use Rattle.adj_checking.specs.Agreeing.{AreAdjoint, Agrees, CheckAgrees, CheckTraps}
 use Rattle.adj_checking.proofs.Readings.{alike_read}
-use Rattle.adj_checking.proofs.Agreeing.{check_agrees, check_traps}
 use Rattle.adj_tool.specs.Check.{AreSides, IsReadBack, RunsAdjoint, IsChecked, IsCompared}
 use Rattle.adj_tool.specs.Fitting.{most_counted, kernel_fits}
 use Rattle.adj_tool.specs.Headline.{IsUnit, flags_of}
@@ -60,18 +60,18 @@ module _ (ps : List Procedure) (name : List ℕ) (h : Head) (accepted : IsAccept
   exact = record { activity = known.emitted.activity; liveness = known.emitted.liveness; saved = known.emitted.saved; held = known.emitted.held; analysed = known.emitted.analysed; are = refl }
 
   -- its text reads as it, or has too many statements
-  reads_as : EmittedIsRunnable → kernel_fits (kernel_of ps) ≡ true → (bytes : List ℕ) → program_of Source bytes ≡ Ok ps → OrTooMany (λ found. unlined found ≡ unlined qs) (program_of Run (text_of qs))
+  reads_as : EmittedIsRunnableWith true → kernel_fits (kernel_of ps) ≡ true → (bytes : List ℕ) → program_of Source bytes ≡ Ok ps → OrTooMany (λ found. unlined found ≡ unlined qs) (program_of Run (text_of qs))
   reads_as runnable fits bytes given =
       let x = known.emitted in
       let few : EachUnit (λ v. length (variables v) ≤ most_counted) (kernel_of ps) = few_variables (kernel_of ps) (fits_widest (kernel_of ps) fits) in
       let shadows : AllHaveShadows m (kernel_of ps) (kernel_of ps) = exact_shadows run_rules (kernel_problem ps name h.vars h.outvars) (kernel_checked ps accepted) x.activity x.analysed.active m refl (λ n. refl) in
       subst (λ z. OrTooMany (λ found. unlined found ≡ unlined z) (program_of Run (text_of z))) (sym x.emitted) (runnable bytes ps given accepted few m shadows (unit_number (kernel_of ps) name) h.vars h.outvars)
 
-  module _ (none : HasNoMarks ps) (u : Procedure) (found : find_unit ps name ≡ Some u) where
-    pub adjoins : (others : List Procedure) → unlined qs ≡ unlined others → IsAdjointOf (λ line. None) m ps name h.vars h.outvars others
+  module _ (literal : MarksAreLiteral ps) (apart : AreLinesApart (program_lines ps)) (u : Procedure) (found : find_unit ps name ≡ Some u) where
+    pub adjoins : (others : List Procedure) → unlined qs ≡ unlined others → IsAdjointOfWith true (lines_by ps m) m ps name h.vars h.outvars others
     adjoins others same =
         let x = known.emitted in
-        planned.is_adjoint ps accepted none name u found h.vars h.outvars x.activity x.liveness x.saved x.held x.analysed others (ap unlined (sym x.emitted) ∙ same)
+        planned.is_reversed ps accepted literal apart name u found h.vars h.outvars x.activity x.liveness x.saved x.held x.analysed others (ap unlined (sym x.emitted) ∙ same)
 
     -- and so are its looks and what its run takes
     pub runs_for : (others : List Procedure) → unlined qs ≡ unlined others → RunsAdjoint m ps name h.vars h.outvars others
@@ -80,8 +80,9 @@ module _ (ps : List Procedure) (name : List ℕ) (h : Head) (accepted : IsAccept
         let like = ap unlined (sym x.emitted) ∙ same in
         record {
           adjoins = adjoins others same;
-          shape = accepted_has_shape ps accepted (kernel_unmarked ps none) name u found h.vars h.outvars x.activity x.liveness x.saved x.held x.analysed others like;
-          spends = λ weight calls weighs few. planned.spends ps accepted none weight weighs name u found calls few h.vars h.outvars x.activity x.liveness x.saved x.held x.analysed others like;
+          own_names = own_names ps accepted m;
+          shape = accepted_has_shape true ps accepted name u found h.vars h.outvars x.activity x.liveness x.saved x.held x.analysed others like;
+          spends = λ none weight calls weighs few. planned.reversed_spends ps accepted none weight weighs name u found calls few h.vars h.outvars x.activity x.liveness x.saved x.held x.analysed others like;
         }
 
     -- the shadows of the head are those of what it becomes
@@ -92,15 +93,17 @@ module _ (ps : List Procedure) (name : List ℕ) (h : Head) (accepted : IsAccept
         known.shadows a.kernel (numbered (kernel_of ps) name a.kernel a.becomes)
         ∙ (λ i. shadow_flags (m.shadowed (found_name (kernel_of ps) name a.kernel a.becomes i)) (like.same_dummies i))
 
-    pub emitted_for : EmittedIsRunnable → kernel_fits (kernel_of ps) ≡ true → (bytes : List ℕ) → program_of Source bytes ≡ Ok ps → checking.IsEmittedFor ps name h.vars h.outvars qs adjoint shadowed
+    pub emitted_for : EmittedIsRunnableWith true → kernel_fits (kernel_of ps) ≡ true → (bytes : List ℕ) → program_of Source bytes ≡ Ok ps → checking.IsEmittedFor ps name h.vars h.outvars qs adjoint shadowed
     emitted_for runnable fits bytes given =
         let x = known.emitted in
         record {
           runnable = record {
-            written = subst IsWritten (sym x.emitted) (planned.is_written ps accepted name h.vars h.outvars x.activity x.liveness x.saved x.held x.analysed);
+            written = subst IsWritten (sym x.emitted) (planned.reversed_written ps accepted name h.vars h.outvars x.activity x.liveness x.saved x.held x.analysed);
             reads = reads_as runnable fits bytes given;
-            sound = λ others same. planned.is_sound ps accepted name h.vars h.outvars x.activity x.liveness x.saved x.held x.analysed others (ap unlined (sym x.emitted) ∙ same);
+            sound = λ others same. planned.reversed_sound ps accepted name h.vars h.outvars x.activity x.liveness x.saved x.held x.analysed others (ap unlined (sym x.emitted) ∙ same);
           };
+          lines = lines_by ps m;
+          own_names = own_names ps accepted m;
           marks = m;
           adjoins = adjoins;
           named = λ k there. known.named k (numbered (kernel_of ps) name k there);
@@ -109,7 +112,7 @@ module _ (ps : List Procedure) (name : List ℕ) (h : Head) (accepted : IsAccept
 
     -- both sides, and what holds of them
     module _ (runnable : IsRunnable qs) where
-      abbrev back : IsAdjointOf (λ line. None) m ps name h.vars h.outvars (read_back qs)
+      abbrev back : IsAdjointOfWith true (lines_by ps m) m ps name h.vars h.outvars (read_back qs)
       back = adjoins (read_back qs) (alike_read qs runnable)
 
       abbrev sides : Sides
@@ -127,7 +130,7 @@ module _ (ps : List Procedure) (name : List ℕ) (h : Head) (accepted : IsAccept
         outvars = refl;
         marks = m;
         exact = exact;
-        emitted = let planned = planned_for ps name h.vars h.outvars m in record { found = program_of Run (text_of planned); is = told Run (text_of planned); such = ap read_back known.emitted.emitted };
+        emitted = let planned = reversed_for ps name h.vars h.outvars m in record { found = program_of Run (text_of planned); is = told Run (text_of planned); such = ap read_back known.emitted.emitted };
         kernel = back.kernel;
         becomes = back.becomes;
         is_there = back.is_there;
@@ -142,7 +145,7 @@ module _ (ps : List Procedure) (name : List ℕ) (h : Head) (accepted : IsAccept
         sized = sized;
         vars = vars;
         outvars = outvars;
-        side = record { lines = λ line. None; marks = m; name = name; adjoins = back; is_head = same_head; is_adjoint = refl; shadows = shadows_are u found };
+        side = record { lines = lines_by ps m; own_names = own_names ps accepted m; marks = m; name = name; adjoins = back; is_head = same_head; is_adjoint = refl; shadows = shadows_are u found };
       }
 
 -- ---- the head that is asked for
@@ -181,28 +184,28 @@ module _ (ps : List Procedure) (name : List ℕ) (vars outvars : List (List ℕ)
 
 -- ---- the answer to data
 
-module _ (r : Asked) (vars outvars : List (List ℕ)) (ps : List Procedure) (accepted : IsAccepted ps) (clean : IsSound run_rules ps) (none : HasNoMarks ps) (sound : first_head_fault ps r.head vars outvars ≡ None) (h : Head) (is : h ≡ head_of ps r.head vars outvars)
+module _ (r : Asked) (vars outvars : List (List ℕ)) (ps : List Procedure) (accepted : IsAccepted ps) (clean : IsSound run_rules ps) (literal : MarksAreLiteral ps) (apart : AreLinesApart (program_lines ps)) (sound : first_head_fault ps r.head vars outvars ≡ None) (h : Head) (is : h ≡ head_of ps r.head vars outvars)
     (qs : List Procedure) (adjoint : List ℕ) (shadowed : List Bool) (known : IsKnownFor (kernel_of ps) (record { unit = unit_number (kernel_of ps) r.head; vars = h.vars; outvars = h.outvars }) qs adjoint shadowed) (runnable : IsRunnable qs) (told : ProgramTold) where
   abbrev head : IsUnit ps r.head
   head = there ps r.head vars outvars sound h is
 
   abbrev both : Sides
-  both = sides ps r.head h accepted qs adjoint shadowed known none head.unit head.found runnable
+  both = sides ps r.head h accepted qs adjoint shadowed known literal apart head.unit head.found runnable
 
   abbrev are_both : AreSides ps r.head h both
-  are_both = are_sides ps r.head h accepted qs adjoint shadowed known none head.unit head.found runnable told
+  are_both = are_sides ps r.head h accepted qs adjoint shadowed known literal apart head.unit head.found runnable told
 
   both_adjoint : AreAdjoint both
   both_adjoint =
       let at = unit_at ps r.head vars outvars sound h is in
-      are_adjoint ps r.head h accepted qs adjoint shadowed known none head.unit head.found runnable (sized ps accepted.written clean h.unit head.unit at)
+      are_adjoint ps r.head h accepted qs adjoint shadowed known literal apart head.unit head.found runnable (sized ps accepted.written clean h.unit head.unit at)
       (many_vars ps r.head vars outvars sound h is head.unit at) (many_outvars ps r.head vars outvars sound h is head.unit at)
 
   runs_both : RunsAdjoint are_both.marks ps r.head h.vars h.outvars (read_back qs)
-  runs_both = runs_for ps r.head h accepted qs adjoint shadowed known none head.unit head.found (read_back qs) (alike_read qs runnable)
+  runs_both = runs_for ps r.head h accepted qs adjoint shadowed known literal apart head.unit head.found (read_back qs) (alike_read qs runnable)
 
-  pub is_checked : (bytes : List ℕ) (a : Answer) → a ≡ check_answer r both bytes → IsChecked ps h r bytes a
-  is_checked bytes a same = record { sides = both; are_sides = are_both; runs = runs_both; is = same; traps = check_traps r both both_adjoint bytes }
+  pub is_checked : CheckTraps → (bytes : List ℕ) (a : Answer) → a ≡ check_answer r both bytes → IsChecked ps h r bytes a
+  is_checked law bytes a same = record { sides = both; are_sides = are_both; runs = runs_both; is = same; traps = law r both both_adjoint bytes }
 
   -- by the names that were asked for
   abbrev are_asked : AreSides ps r.head (head_of ps r.head vars outvars) both
@@ -213,7 +216,7 @@ module _ (r : Asked) (vars outvars : List (List ℕ)) (ps : List Procedure) (acc
     outvars = ap (λ (z : Head). z.outvars) is;
     marks = are_both.marks;
     exact = subst (λ z. AreExact ps r.head z are_both.marks) is are_both.exact;
-    emitted = subst (λ (z : Head). IsReadBack (planned_for ps r.head z.vars z.outvars are_both.marks) both.emitted) is are_both.emitted;
+    emitted = subst (λ (z : Head). IsReadBack (reversed_for ps r.head z.vars z.outvars are_both.marks) both.emitted) is are_both.emitted;
     kernel = are_both.kernel;
     becomes = are_both.becomes;
     is_there = are_both.is_there;
@@ -225,12 +228,13 @@ module _ (r : Asked) (vars outvars : List (List ℕ)) (ps : List Procedure) (acc
       subst (λ v. RunsAdjoint are_both.marks ps r.head v (flags_of outvars head.unit.dummies) (read_back qs)) (vars_are ps r.head vars outvars sound h is)
       (subst (λ v. RunsAdjoint are_both.marks ps r.head h.vars v (read_back qs)) (outvars_are ps r.head vars outvars sound h is) runs_both)
 
-  pub is_compared : (bytes : List ℕ) → Reads bytes ps → (a : Answer) → a ≡ check_answer r both bytes → IsCompared r vars outvars bytes a
-  is_compared bytes reads a same = λ done. record {
+  pub is_compared : CheckAgrees → (bytes : List ℕ) → Reads bytes ps → (a : Answer) → a ≡ check_answer r both bytes → IsCompared r vars outvars bytes a
+  unfolding both_adjoint are_adjoint
+  is_compared law bytes reads a same = λ done. record {
     source = ps;
     reads = reads;
     sides = both;
     are_sides = are_asked;
     runs = runs_asked;
-    agrees = subst (λ (z : Answer). Agrees both bytes z.text) (sym same) (check_agrees r both both_adjoint bytes (ap (λ (z : Answer). z.status) (sym same) ∙ done));
+    agrees = subst (λ (z : Answer). Agrees r (lines_by ps are_both.marks) both bytes z.text) (sym same) (law r both both_adjoint bytes (ap (λ (z : Answer). z.status) (sym same) ∙ done));
   }

@@ -1,5 +1,5 @@
 -- What is emitted for a kernel by the marks of its plan.
-use Rattle.std.proofs.Common.{◌≡◌, ℕ, Bool, List, Some, refl, sym, ap, ◌∙◌, subst}
+use Rattle.std.proofs.Common.{◌≡◌, ℕ, Bool, true, List, Some, refl, sym, ap, ◌∙◌, subst}
 use Rattle.std.specs.List.{slice_get}
 use Rattle.adj_tree.specs.Code.{Procedure}
 use Rattle.adj_tree.specs.declared.marks.Head.{Head}
@@ -7,7 +7,7 @@ use Rattle.adj_tree.specs.declared.marks.Marks as flags
 use Rattle.adj_names.specs.Fault.{Rules}
 use Rattle.adj_transpose.specs.MarkedAdjoint.{shadow_flags}
 use Rattle.adj_reverse.specs.Names.{adjoint_name}
-use Rattle.adj_reverse.specs.Program.{emitted_program}
+use Rattle.adj_reverse.specs.Program.{emitted_program_with}
 use Rattle.adj_checked.specs.Checked.{IsChecked}
 use Rattle.adj_emitted.specs.Shadowed.{AllHaveShadows}
 use Rattle.adj_flow.specs.Asked.{problem_of, units_of}
@@ -25,31 +25,26 @@ module _ (us : List Procedure) (f : Flow) (h : Head) (t : flags.Marks) (same : u
       subst (λ vs. AllHaveShadows (marks_told f t) vs vs) same
       (exact_shadows rules (problem_of f h) (subst (IsChecked rules) (sym same) checked) (activity_of f t.activity) x.analysed.active (marks_told f t) refl (λ n. refl))
 
+  abbrev told : (qs : List Procedure) → qs ≡ emitted_program_with true (marks_told f t) us h.unit h.vars h.outvars → IsEmittedFor (units_of f) h qs
+  told qs e = record {
+    activity = activity_of f t.activity;
+    liveness = liveness_of x.needed f t.kept;
+    saved = saved_of f t.saved;
+    held = x.held;
+    analysed = x.analysed;
+    emitted = e ∙ ap (λ vs. emitted_program_with true (marks_told f t) vs h.unit h.vars h.outvars) (sym same);
+  }
+
   -- it is what exact analyses have emitted
-  pub emitted_for_units : (qs : List Procedure) → qs ≡ emitted_program (marks_told f t) us h.unit h.vars h.outvars → IsEmittedFor us h qs
-  emitted_for_units qs e =
-      subst (λ vs. IsEmittedFor vs h qs) same (record {
-        activity = activity_of f t.activity;
-        liveness = liveness_of x.needed f t.kept;
-        saved = saved_of f t.saved;
-        held = x.held;
-        analysed = x.analysed;
-        emitted = e ∙ ap (λ vs. emitted_program (marks_told f t) vs h.unit h.vars h.outvars) (sym same);
-      })
+  pub emitted_for_units : (qs : List Procedure) → qs ≡ emitted_program_with true (marks_told f t) us h.unit h.vars h.outvars → IsEmittedFor us h qs
+  emitted_for_units qs e = subst (λ vs. IsEmittedFor vs h qs) same (told qs e)
 
   -- with what is known of the adjoint of its head
-  pub known_for_units : (qs : List Procedure) → qs ≡ emitted_program (marks_told f t) us h.unit h.vars h.outvars → (adjoint : List ℕ) (shadowed : List Bool) →
+  pub known_for_units : (qs : List Procedure) → qs ≡ emitted_program_with true (marks_told f t) us h.unit h.vars h.outvars → (adjoint : List ℕ) (shadowed : List Bool) →
       ((u : Procedure) → slice_get us h.unit ≡ Some u → adjoint ≡ adjoint_name us u) → ((u : Procedure) → slice_get us h.unit ≡ Some u → shadowed ≡ shadow_flags ((marks_told f t).shadowed u.name) u.dummies) → IsKnownFor us h qs adjoint shadowed
   known_for_units qs e adjoint shadowed named shadows =
       subst (λ vs. IsKnownFor vs h qs adjoint shadowed) same (record {
-        emitted = record {
-          activity = activity_of f t.activity;
-          liveness = liveness_of x.needed f t.kept;
-          saved = saved_of f t.saved;
-          held = x.held;
-          analysed = x.analysed;
-          emitted = e ∙ ap (λ vs. emitted_program (marks_told f t) vs h.unit h.vars h.outvars) (sym same);
-        };
+        emitted = told qs e;
         named = λ u at. named u (ap (λ vs. slice_get vs h.unit) (sym same) ∙ at) ∙ ap (λ vs. adjoint_name vs u) (sym same);
         shadows = λ u at. shadows u (ap (λ vs. slice_get vs h.unit) (sym same) ∙ at);
       })

@@ -24,18 +24,20 @@ use Rattle.adj_names.specs.Variables.{variables}
 use Rattle.adj_symbols.specs.Numbers.{widest}
 use Rattle.adj_transpose.proofs.Variables.{and_true}
 use Rattle.adj_facts.specs.Parts.{statements_in}
+use Rattle.adj_analysed.specs.MarkedLines.{program_lines, AreLinesApart}
+use Rattle.adj_planned.proofs.ReadLines.{read_apart}
 use Rattle.adj_emitted.specs.Shadowed.{AllHaveShadows}
 use Rattle.adj_kernel.specs.Kernel.{EachUnit}
 use Rattle.adj_kernel.specs.Stepped.{kernel_of}
 use Rattle.adj_kernel.specs.Sound.{IsAccepted}
-use Rattle.adj_accepted.specs.Accepted.{IsAdjointOf}
+use Rattle.adj_accepted.specs.Accepted.{IsAdjointOfWith}
 use Rattle.adj_accepted.proofs.Kernels.{kernel_checked, head_within}
 use Rattle.adj_weave.proofs.Lending.{exact_shadows}
 use Rattle.adj_readable.specs.Reading.{OrTooMany}
-use Rattle.adj_limits.specs.Limits.{EmittedIsRunnable}
-use Rattle.adj_planned.specs.Planned.{HasNoMarks, kernel_problem, planned_for, marks_by}
+use Rattle.adj_limits.specs.Limits.{EmittedIsRunnableWith}
+use Rattle.adj_planned.specs.Planned.{MarksAreLiteral, kernel_problem, lines_by, reversed_for, marks_by}
 use Rattle.adj_planned.proofs.Planned as planned
-use Rattle.adj_planned.proofs.Unmarked.{kernel_unmarked}
+use Rattle.adj_planned.proofs.OwnNames.{own_names}
 use Rattle.adj_shape.specs.Accepted.{HasKernelShape}
 use Rattle.adj_spent.specs.Spent.{SpendsAtMost}
 use Rattle.adj_shape.proofs.Accepted.{accepted_has_shape}
@@ -48,7 +50,7 @@ use Rattle.adj_answer.specs.Answer.{Answer}
 use Rattle.adj_answer.specs.Laws.{ProgramTold}
 use Rattle.adj_answer.specs.Programs.{program_of}
 use Rattle.adj_tool.specs.Fitting.{most_counted, is_counted, kernel_fits}
-use Rattle.adj_tool.specs.Answer.{IsWritten, IsGiven}
+use Rattle.adj_tool.specs.Answer.{most_bytes, IsWritten, IsGiven}
 use Rattle.adj_tool.specs.Headline.{IsUnit, ReadsWritten, WritesAdjoint, flags_of}
 
 -- where the head has no fault, it is there
@@ -82,6 +84,10 @@ fits_widest us h =
     let wide = is_counted (widest (map variables us)) in
     counted_is (widest (map variables us)) (and_true statements wide (and_true units (statements && wide) h).1).1
 
+-- no two marked loops of a program stand at one line that a text within the limit gives
+pub lines_apart : (bytes : List ℕ) (ps : List Procedure) → length bytes ≤ most_bytes → Reads bytes ps → AreLinesApart (program_lines ps)
+lines_apart bytes ps few reads = read_apart bytes ps reads (omega (arith, few))
+
 -- what is read as one program is read as one that differs in line numbers alone
 other_lines : (one other : List Procedure) → unlined one ≡ unlined other → (r : Result (List Procedure) Refusal) → OrTooMany (λ found. unlined found ≡ unlined one) r → OrTooMany (λ found. unlined found ≡ unlined other) r
 other_lines one other same r (inl x) = inl (x.0, x.1, x.2 ∙ same)
@@ -92,7 +98,7 @@ module _ (r : Request) (ps : List Procedure) (h : Head) (sound : first_head_faul
   there = head_there ps r.head r.vars r.outvars sound
 
   -- in Run mode the text reads as that, up to line numbers, or has too many statements
-  head_runs : IsAccepted ps → EmittedIsRunnable → (text : List ℕ) → (back : ReadsWritten ps r.head h text) → (bytes : List ℕ) → program_of Source bytes ≡ Ok ps →
+  head_runs : IsAccepted ps → EmittedIsRunnableWith true → (text : List ℕ) → (back : ReadsWritten ps r.head h text) → (bytes : List ℕ) → program_of Source bytes ≡ Ok ps →
       OrTooMany (λ found. unlined found ≡ unlined back.reads.0) (program_of Run text)
   head_runs accepted runnable text back bytes given =
       let x = back.exact in
@@ -101,14 +107,14 @@ module _ (r : Request) (ps : List Procedure) (h : Head) (sound : first_head_faul
       subst (λ m. AllHaveShadows m (kernel_of ps) (kernel_of ps)) (sym x.are) (exact_shadows run_rules (kernel_problem ps r.head h.vars h.outvars) (kernel_checked ps accepted) x.activity x.analysed.active (marks_by ps x.activity x.liveness x.saved x.held) refl (λ n. refl)) in
       let runs = runnable bytes ps given accepted few back.marks shadows (unit_number (kernel_of ps) r.head) h.vars h.outvars in
       subst (λ (z : List ℕ). OrTooMany (λ found. unlined found ≡ unlined back.reads.0) (program_of Run z)) (sym back.is_text)
-      (other_lines (planned_for ps r.head h.vars h.outvars back.marks) back.reads.0 (sym back.reads.2) (program_of Run (text_of (planned_for ps r.head h.vars h.outvars back.marks))) runs)
+      (other_lines (reversed_for ps r.head h.vars h.outvars back.marks) back.reads.0 (sym back.reads.2) (program_of Run (text_of (reversed_for ps r.head h.vars h.outvars back.marks))) runs)
 
   -- the program that the text is, which has other lines than the one that was printed, is an adjoint of the text that reads as the program
-  pub head_adjoins : IsAccepted ps → HasNoMarks ps → EmittedIsRunnable → ProgramTold → (text : List ℕ) → ReadsWritten ps r.head h text → (bytes : List ℕ) → Reads bytes ps → program_of Source bytes ≡ Ok ps → WritesAdjoint r bytes text
-  head_adjoins accepted none runnable told text back bytes reads given =
+  pub head_adjoins : IsAccepted ps → MarksAreLiteral ps → EmittedIsRunnableWith true → ProgramTold → (text : List ℕ) → ReadsWritten ps r.head h text → (bytes : List ℕ) → length bytes ≤ most_bytes → Reads bytes ps → program_of Source bytes ≡ Ok ps → WritesAdjoint r bytes text
+  head_adjoins accepted literal runnable told text back bytes few reads given =
       let x = back.exact in
       let m = marks_by ps x.activity x.liveness x.saved x.held in
-      let same : unlined (planned_for ps r.head h.vars h.outvars m) ≡ unlined back.reads.0 = ap (λ n. unlined (planned_for ps r.head h.vars h.outvars n)) (sym x.are) ∙ sym back.reads.2 in
+      let same : unlined (reversed_for ps r.head h.vars h.outvars m) ≡ unlined back.reads.0 = ap (λ n. unlined (reversed_for ps r.head h.vars h.outvars n)) (sym x.are) ∙ sym back.reads.2 in
       record {
         source = ps;
         reads = reads;
@@ -117,21 +123,22 @@ module _ (r : Request) (ps : List Procedure) (h : Head) (sound : first_head_faul
         adjoint = back.reads.0;
         reads_back = back.reads.1;
         runs = record { found = program_of Run text; is = told Run text; such = head_runs accepted runnable text back bytes given };
-        text = back.is_text ∙ one_text (planned_for ps r.head h.vars h.outvars back.marks) back.reads.0 (sym back.reads.2);
-        sound = planned.is_sound ps accepted r.head h.vars h.outvars x.activity x.liveness x.saved x.held x.analysed back.reads.0 same;
+        text = back.is_text ∙ one_text (reversed_for ps r.head h.vars h.outvars back.marks) back.reads.0 (sym back.reads.2);
+        sound = planned.reversed_sound ps accepted r.head h.vars h.outvars x.activity x.liveness x.saved x.held x.analysed back.reads.0 same;
         marks = back.marks;
         exact = subst (λ z. AreExact ps r.head z back.marks) is x;
         is_adjoint =
-            subst (λ n. IsAdjointOf (λ line. None) n ps r.head (flags_of r.vars there.unit.dummies) (flags_of r.outvars there.unit.dummies) back.reads.0) (sym x.are)
-            (subst (λ v. IsAdjointOf (λ line. None) m ps r.head v (flags_of r.outvars there.unit.dummies) back.reads.0) vars_is (subst (λ v. IsAdjointOf (λ line. None) m ps r.head h.vars v back.reads.0) outvars_is
-            (planned.is_adjoint ps accepted none r.head there.unit there.found h.vars h.outvars x.activity x.liveness x.saved x.held x.analysed back.reads.0 same)));
+            subst (λ n. IsAdjointOfWith true (lines_by ps n) n ps r.head (flags_of r.vars there.unit.dummies) (flags_of r.outvars there.unit.dummies) back.reads.0) (sym x.are)
+            (subst (λ v. IsAdjointOfWith true (lines_by ps m) m ps r.head v (flags_of r.outvars there.unit.dummies) back.reads.0) vars_is (subst (λ v. IsAdjointOfWith true (lines_by ps m) m ps r.head h.vars v back.reads.0) outvars_is
+            (planned.is_reversed ps accepted literal (lines_apart bytes ps few reads) r.head there.unit there.found h.vars h.outvars x.activity x.liveness x.saved x.held x.analysed back.reads.0 same)));
+        own_names = own_names ps accepted back.marks;
         shape =
-            subst (λ n. HasKernelShape n ps r.head (flags_of r.vars there.unit.dummies) (flags_of r.outvars there.unit.dummies) back.reads.0) (sym x.are)
-            (subst (λ v. HasKernelShape m ps r.head v (flags_of r.outvars there.unit.dummies) back.reads.0) vars_is (subst (λ v. HasKernelShape m ps r.head h.vars v back.reads.0) outvars_is
-            (accepted_has_shape ps accepted (kernel_unmarked ps none) r.head there.unit there.found h.vars h.outvars x.activity x.liveness x.saved x.held x.analysed back.reads.0 same)));
-        spends = λ weight calls weighs few.
+            subst (λ n. HasKernelShape true n ps r.head (flags_of r.vars there.unit.dummies) (flags_of r.outvars there.unit.dummies) back.reads.0) (sym x.are)
+            (subst (λ v. HasKernelShape true m ps r.head v (flags_of r.outvars there.unit.dummies) back.reads.0) vars_is (subst (λ v. HasKernelShape true m ps r.head h.vars v back.reads.0) outvars_is
+            (accepted_has_shape true ps accepted r.head there.unit there.found h.vars h.outvars x.activity x.liveness x.saved x.held x.analysed back.reads.0 same)));
+        spends = λ none weight calls weighs most.
             subst (λ n. SpendsAtMost n ps r.head weight calls back.reads.0) (sym x.are)
-            (planned.spends ps accepted none weight weighs r.head there.unit there.found calls few h.vars h.outvars x.activity x.liveness x.saved x.held x.analysed back.reads.0 same);
+            (planned.reversed_spends ps accepted none weight weighs r.head there.unit there.found calls most h.vars h.outvars x.activity x.liveness x.saved x.held x.analysed back.reads.0 same);
       }
     where
       vars_is : h.vars ≡ flags_of r.vars there.unit.dummies
@@ -171,7 +178,7 @@ module _ (ps : List Procedure) (name : List ℕ) (h : Head) (accepted : IsAccept
 
   pub emitted_reads : kernel_fits (kernel_of ps) ≡ true → (bytes : List ℕ) → bytes ≡ text_of qs → (texts.IsWritten qs → ReadsAs bytes qs) → ReadsWritten ps name h bytes
   emitted_reads fits bytes text reads =
-      let written : texts.IsWritten qs = subst texts.IsWritten (sym x.emitted) (planned.is_written ps accepted name h.vars h.outvars x.activity x.liveness x.saved x.held x.analysed) in
+      let written : texts.IsWritten qs = subst texts.IsWritten (sym x.emitted) (planned.reversed_written ps accepted name h.vars h.outvars x.activity x.liveness x.saved x.held x.analysed) in
       record { fits = fits; marks = m; exact = exact_marks; is_text = text ∙ ap text_of x.emitted; reads = subst (λ z. ReadsAs bytes z) x.emitted (reads written) }
 
 -- ---- the text that is wanted

@@ -14,7 +14,7 @@ use Rattle.adj_kernel.specs.Stepped.{kernel_of}
 use Rattle.adj_reverse.specs.Marking.{ProgramMarks}
 use Rattle.adj_plan.specs.Lines.{plan_lines, TellsPlan}
 use Rattle.adj_plan.specs.declared.lines.Said.{Said}
-use Rattle.adj_planned.specs.Planned.{kernel_problem, planned_for}
+use Rattle.adj_planned.specs.Planned.{kernel_problem, reversed_for}
 use Rattle.adj_revolve.specs.declared.machine.Action.{Action}
 use Rattle.adj_revolve.specs.declared.machine.Action.TheVariants.{Store, Advance, Turn, Keep, Drop}
 use Rattle.adj_revolve.specs.Schedule.{schedule_of}
@@ -57,11 +57,12 @@ untreated line = refused (record { code = 3; line = line; number = 0 })
 abbrev pub too_large : Answer
 too_large = refused (record { code = 21; line = 0; number = most_counted })
 
--- the text of the adjoint of a program for the unit of a name as its head: what is emitted for the kernel by the marks of exact analyses
+-- the text of the adjoint of a program for the unit of a name as its head: what is emitted for the kernel by the marks of exact analyses, where
+-- marked loops are reversed by schedules
 pub record IsWritten (ps : List Procedure) (name : List ℕ) (h : Head) (a : Answer) : Type 0 where
   pub marks : ProgramMarks
   pub exact : AreExact ps name h marks
-  pub text : a ≡ record { status = 0; text = text_of (planned_for ps name h.vars h.outvars marks) }
+  pub text : a ≡ record { status = 0; text = text_of (reversed_for ps name h.vars h.outvars marks) }
 
 -- the plan of a program for the unit of a name as its head: a line for each statement of the kernel, with the letters that exact analyses say
 pub record IsPlanned (ps : List Procedure) (name : List ℕ) (h : Head) (a : Answer) : Type 0 where

@@ -18,8 +18,8 @@ use Rattle.adj_kernel.specs.Stepped.{kernel_of}
 use Rattle.adj_kernel.specs.Weights.{WeighsAtMost}
 use Rattle.adj_cost.specs.RunTheorem.{CallsAtMost}
 use Rattle.adj_spent.specs.Spent.{SpendsAtMost}
-use Rattle.adj_accepted.specs.Accepted.{IsAdjointOf}
-use Rattle.adj_planned.specs.Planned.{planned_for}
+use Rattle.adj_accepted.specs.Accepted.{HaveOwnNames, IsAdjointOfWith}
+use Rattle.adj_planned.specs.Planned.{HasNoMarks, lines_by, reversed_for}
 use Rattle.adj_shape.specs.Accepted.{HasKernelShape}
 use Rattle.adj_answer.specs.Answer.{Answer, refused, too_long}
 use Rattle.adj_answer.specs.Programs.{TextIs}
@@ -46,20 +46,20 @@ pub record AreSides (ps : List Procedure) (name : List ℕ) (h : Head) (p : Side
   pub outvars : p.outvars ≡ h.outvars
   pub marks : ProgramMarks
   pub exact : AreExact ps name h marks
-  pub emitted : IsReadBack (planned_for ps name h.vars h.outvars marks) p.emitted
+  pub emitted : IsReadBack (reversed_for ps name h.vars h.outvars marks) p.emitted
   -- what the head becomes in the kernel, which gives the name of the adjoint
   pub kernel : Procedure
   pub becomes : find_unit (kernel_of ps) name ≡ Some kernel
   pub is_there : find_unit p.emitted (adjoint_name (kernel_of ps) kernel) ≡ Some p.adjoint
   pub shadows : p.shadowed ≡ shadow_flags (marks.shadowed name) p.head.dummies
 
--- What is run as the emitted program is an adjoint of the program for the unit of a name as its head, looks as one that is emitted, and its run
--- takes at most so many statements for each one of the head's own run, by what a statement of the program weighs and how many calls a chain from
--- the head has.
+-- What is run as the emitted program is an adjoint of the program for the unit of a name as its head, in which marked loops are reversed by schedules, and looks as one that is emitted. Where no loop is marked, its run takes at most so many statements for each one of the head's own run, by
+-- what a statement of the program weighs and how many calls a chain from the head has.
 pub record RunsAdjoint (m : ProgramMarks) (ps : List Procedure) (name : List ℕ) (vars outvars : List Bool) (qs : List Procedure) : Type 0 where
-  pub adjoins : IsAdjointOf (λ line. None) m ps name vars outvars qs
-  pub shape : HasKernelShape m ps name vars outvars qs
-  pub spends : (weight calls : ℕ) → EachUnit (λ u. WeighsAtMost weight u.body) ps → CallsAtMost ps name calls → SpendsAtMost m ps name weight calls qs
+  pub adjoins : IsAdjointOfWith true (lines_by ps m) m ps name vars outvars qs
+  pub own_names : HaveOwnNames (lines_by ps m)
+  pub shape : HasKernelShape true m ps name vars outvars qs
+  pub spends : HasNoMarks ps → (weight calls : ℕ) → EachUnit (λ u. WeighsAtMost weight u.body) ps → CallsAtMost ps name calls → SpendsAtMost m ps name weight calls qs
 
 -- the answer to the data behind a text, which tells of no trap but the head's own
 pub record IsChecked (ps : List Procedure) (h : Head) (r : Asked) (bytes : List ℕ) (a : Answer) : Type 0 where
@@ -113,7 +113,7 @@ pub record ChecksAdjoint (r : Asked) (vars outvars : List (List ℕ)) (bytes tex
   pub sides : Sides
   pub are_sides : AreSides source r.head (head_of source r.head vars outvars) sides
   pub runs : RunsAdjoint are_sides.marks source r.head (flags_of vars sides.head.dummies) (flags_of outvars sides.head.dummies) sides.emitted
-  pub agrees : Agrees sides bytes text
+  pub agrees : Agrees r (lines_by source are_sides.marks) sides bytes text
 
 -- where the answer to these bytes is done
 abbrev pub IsCompared : Asked → List (List ℕ) → List (List ℕ) → List ℕ → Answer → Type 0

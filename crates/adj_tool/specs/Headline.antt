@@ -1,5 +1,5 @@
 -- Headline: what the written text is.
-use Rattle.std.specs.Prelude.{◌≡◌, ℕ, List, map, Bool, true, Some, None}
+use Rattle.std.specs.Prelude.{◌≡◌, ℕ, List, map, Bool, true, Some}
 use Rattle.adj_tree.specs.Code.{Procedure}
 use Rattle.adj_tree.specs.Lines.{unlined}
 use Rattle.adj_text.specs.Reads.{Reads}
@@ -16,8 +16,8 @@ use Rattle.adj_kernel.specs.Kernel.{EachUnit}
 use Rattle.adj_kernel.specs.Weights.{WeighsAtMost}
 use Rattle.adj_cost.specs.RunTheorem.{CallsAtMost}
 use Rattle.adj_spent.specs.Spent.{SpendsAtMost}
-use Rattle.adj_accepted.specs.Accepted.{IsAdjointOf}
-use Rattle.adj_planned.specs.Planned.{planned_for}
+use Rattle.adj_accepted.specs.Accepted.{HaveOwnNames, IsAdjointOfWith}
+use Rattle.adj_planned.specs.Planned.{HasNoMarks, lines_by, reversed_for}
 use Rattle.adj_shape.specs.Accepted.{HasKernelShape}
 use Rattle.adj_tree.specs.declared.marks.Head.{Head}
 use Rattle.adj_kernel.specs.Stepped.{kernel_of}
@@ -55,20 +55,22 @@ pub record WritesAdjoint (r : Request) (bytes written : List ℕ) : Type 0 where
   -- by the marks that exact analyses of the kernel give
   pub marks : ProgramMarks
   pub exact : AreExact source r.head (head_of source r.head r.vars r.outvars) marks
-  pub is_adjoint : IsAdjointOf (λ line. None) marks source r.head (flags_of r.vars unit.dummies) (flags_of r.outvars unit.dummies) adjoint
+  -- the marked loops that it reverses by schedules are those whose step call is adjointed, and their step units have other names than their adjoints
+  pub is_adjoint : IsAdjointOfWith true (lines_by source marks) marks source r.head (flags_of r.vars unit.dummies) (flags_of r.outvars unit.dummies) adjoint
+  pub own_names : HaveOwnNames (lines_by source marks)
   -- it has the units, and each of its adjoint units keeps, saves, pushes and sets what these marks say
-  pub shape : HasKernelShape marks source r.head (flags_of r.vars unit.dummies) (flags_of r.outvars unit.dummies) adjoint
-  -- by what a statement of the source weighs at most, and by how many calls a chain from the head has at most, its run takes so many statements for
-  -- each one of the source's own run: within 40 * weight * (calls + 2), and two for each dummy of the head
-  pub spends : (weight calls : ℕ) → EachUnit (λ u. WeighsAtMost weight u.body) source → CallsAtMost source r.head calls → SpendsAtMost marks source r.head weight calls adjoint
+  pub shape : HasKernelShape true marks source r.head (flags_of r.vars unit.dummies) (flags_of r.outvars unit.dummies) adjoint
+  -- Where no loop of the source is marked: by what a statement of the source weighs at most, and by how many calls a chain from the head has at most,
+  -- its run takes so many statements for each one of the source's own run: within 40 * weight * (calls + 2), and two for each dummy of the head.
+  pub spends : HasNoMarks source → (weight calls : ℕ) → EachUnit (λ u. WeighsAtMost weight u.body) source → CallsAtMost source r.head calls → SpendsAtMost marks source r.head weight calls adjoint
 
 -- where the answer is done, the kernel fits, and its text reads as the program that is emitted by the marks of exact analyses
 pub record ReadsWritten (ps : List Procedure) (name : List ℕ) (h : Head) (text : List ℕ) : Type 0 where
   pub fits : kernel_fits (kernel_of ps) ≡ true
   pub marks : ProgramMarks
   pub exact : AreExact ps name h marks
-  pub is_text : text ≡ text_of (planned_for ps name h.vars h.outvars marks)
-  pub reads : ReadsAs text (planned_for ps name h.vars h.outvars marks)
+  pub is_text : text ≡ text_of (reversed_for ps name h.vars h.outvars marks)
+  pub reads : ReadsAs text (reversed_for ps name h.vars h.outvars marks)
 
 abbrev pub ReadsBack : Answer → List Procedure → List ℕ → Head → Type 0
 ReadsBack a ps name h = a.status ≡ 0 → ReadsWritten ps name h a.text

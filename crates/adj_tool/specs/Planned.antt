@@ -1,5 +1,5 @@
 -- What `adjoint` and `plan` write by the analyses of a kernel. (docs/ANALYSES.md)
-use Rattle.std.specs.Prelude.{◌≡◌, ℕ, List, Bool, Some, slice_get}
+use Rattle.std.specs.Prelude.{◌≡◌, ℕ, List, Bool, true, Some, slice_get}
 use Rattle.adj_tree.specs.Code.{Procedure}
 use Rattle.adj_tree.specs.declared.marks.Head.{Head}
 use Rattle.adj_text.specs.ReadsAs.{ReadsAs}
@@ -9,7 +9,7 @@ use Rattle.adj_transpose.specs.Marks.{Vars}
 use Rattle.adj_transpose.specs.MarkedAdjoint.{shadow_flags}
 use Rattle.adj_reverse.specs.Names.{adjoint_name}
 use Rattle.adj_reverse.specs.Marking.{ProgramMarks}
-use Rattle.adj_reverse.specs.Program.{emitted_program}
+use Rattle.adj_reverse.specs.Program.{emitted_program_with}
 use Rattle.adj_facts.specs.Problem.{Problem}
 use Rattle.adj_facts.specs.Activity.{Activity}
 use Rattle.adj_facts.specs.Live.{Liveness}
@@ -25,14 +25,14 @@ use Rattle.adj_tool.specs.declared.task.Wanted.TheVariants as wanted
 abbrev pub problem_for : List Procedure → Head → Problem
 problem_for us h = record { units = us; head = h.unit; vars = h.vars; outvars = h.outvars }
 
--- it is what is emitted for some units by the marks that exact analyses give
+-- it is what is emitted for some units by the marks that exact analyses give, where marked loops are reversed by schedules
 pub record IsEmittedFor (us : List Procedure) (h : Head) (qs : List Procedure) : Type 0 where
   pub activity : Activity
   pub liveness : Liveness
   pub saved : ℕ → Vars
   pub held : ℕ → Vars
   pub analysed : Analysed (problem_for us h) activity liveness saved held
-  pub emitted : qs ≡ emitted_program (program_facts us activity liveness saved held).marks us h.unit h.vars h.outvars
+  pub emitted : qs ≡ emitted_program_with true (program_facts us activity liveness saved held).marks us h.unit h.vars h.outvars
 
 -- the same, with the name of the adjoint of the head and the flags of its dummies that have a shadow
 pub record IsKnownFor (us : List Procedure) (h : Head) (qs : List Procedure) (adjoint : List ℕ) (shadowed : List Bool) : Type 0 where

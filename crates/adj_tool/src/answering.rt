@@ -100,7 +100,7 @@ fn answer_adjoint(
     requires sound_head { let r = request_of request.now in first_head_fault (procedures_of program.now) r.head r.vars r.outvars ≡ None }
     requires head { let r = request_of request.now in head ≡ head_of (procedures_of program.now) r.head r.vars r.outvars }
     ensures answer { IfOk result (λ a. AnswersTreated (first_untreated (procedures_of program.now)) (procedures_of program.now) request.now.head head (answer_of a)) }
-    ensures adjoint { IfOk result (λ a. (bytes : List ℕ) → Reads bytes (procedures_of program.now) → program_of Source bytes ≡ Ok (procedures_of program.now) → IsAdjoined (request_of request.now) bytes (answer_of a)) }
+    ensures adjoint { IfOk result (λ a. (bytes : List ℕ) → length bytes ≤ most_bytes → Reads bytes (procedures_of program.now) → program_of Source bytes ≡ Ok (procedures_of program.now) → IsAdjoined (request_of request.now) bytes (answer_of a)) }
 {
     emitted_law();
     reading_law();
@@ -139,7 +139,7 @@ fn answer_head(
     requires sound_head { let r = request_of request.now in first_head_fault (procedures_of program.now) r.head r.vars r.outvars ≡ None }
     requires head { let r = request_of request.now in head ≡ head_of (procedures_of program.now) r.head r.vars r.outvars }
     ensures answer { IfOk result (λ a. AnswersAccepted wanted (procedures_of program.now) request.now.head head (answer_of a)) }
-    ensures adjoint { wanted ≡ Wanted.Adjoint → IfOk result (λ a. (bytes : List ℕ) → Reads bytes (procedures_of program.now) → program_of Source bytes ≡ Ok (procedures_of program.now) → IsAdjoined (request_of request.now) bytes (answer_of a)) }
+    ensures adjoint { wanted ≡ Wanted.Adjoint → IfOk result (λ a. (bytes : List ℕ) → length bytes ≤ most_bytes → Reads bytes (procedures_of program.now) → program_of Source bytes ≡ Ok (procedures_of program.now) → IsAdjoined (request_of request.now) bytes (answer_of a)) }
 {
     match wanted {
         Wanted::Adjoint => answer_adjoint(alloc, request, program, head),
@@ -157,7 +157,7 @@ fn answer_checked(
     requires written { IsWritten (procedures_of checked.now.program) }
     requires sound { IsSound source_rules (procedures_of checked.now.program) }
     ensures answer { IfOk result (λ a. AnswersChecked None wanted (request_of request.now) (procedures_of checked.now.program) (answer_of a)) }
-    ensures adjoint { wanted ≡ Wanted.Adjoint → IfOk result (λ a. (bytes : List ℕ) → Reads bytes (procedures_of checked.now.program) → program_of Source bytes ≡ Ok (procedures_of checked.now.program) → IsAdjoined (request_of request.now) bytes (answer_of a)) }
+    ensures adjoint { wanted ≡ Wanted.Adjoint → IfOk result (λ a. (bytes : List ℕ) → length bytes ≤ most_bytes → Reads bytes (procedures_of checked.now.program) → program_of Source bytes ≡ Ok (procedures_of checked.now.program) → IsAdjoined (request_of request.now) bytes (answer_of a)) }
 {
     let vars = request.vars.as_slice();
     let outvars = request.outvars.as_slice();
@@ -177,7 +177,7 @@ pub(crate) fn answer_program(
 ) -> Result<Answer, Memory>
     requires { IsWritten (procedures_of program) }
     ensures answer { IfOk result (λ a. AnswersProgram wanted (request_of request.now) (procedures_of program) (answer_of a)) }
-    ensures adjoint { wanted ≡ Wanted.Adjoint → IfOk result (λ a. (bytes : List ℕ) → Reads bytes (procedures_of program) → program_of Source bytes ≡ Ok (procedures_of program) → IsAdjoined (request_of request.now) bytes (answer_of a)) }
+    ensures adjoint { wanted ≡ Wanted.Adjoint → IfOk result (λ a. (bytes : List ℕ) → length bytes ≤ most_bytes → Reads bytes (procedures_of program) → program_of Source bytes ≡ Ok (procedures_of program) → IsAdjoined (request_of request.now) bytes (answer_of a)) }
 {
     match check(alloc, program, Mode::Source) {
         Ok(checked) => answer_checked(alloc, wanted, request, &checked),

@@ -25,7 +25,7 @@ use crate::stop::Stop;
 use crate::task::CheckRequest;
 use crate::untreated::first_untreated;
 use adj_answer::{Answer, read, reading_law, refused};
-use adj_checking::check_answer;
+use adj_checking::{check_answer, check_law};
 use adj_fixed::Mode;
 use adj_io::{ReadError, Source, read_all};
 use adj_kernels::checked_kernel;
@@ -37,7 +37,7 @@ use std::alloc::Global;
 /// The most bytes of an input.
 const MOST_BYTES: usize = 4_194_304;
 
-// The answer where names, calls and writes have no fault, nor has the head, and no loop is marked.
+// The answer where names, calls and writes have no fault, nor has the head, and nothing is untreated.
 fn compared(
     alloc: Global,
     request: &CheckRequest,
@@ -46,15 +46,18 @@ fn compared(
     bytes: &[u8],
 ) -> Result<Answer, Memory>
     requires sound { IsSound source_rules (procedures_of program.now.program) }
-    requires unmarked { first_untreated (procedures_of program.now.program) ≡ None }
+    requires treated { first_untreated (procedures_of program.now.program) ≡ None }
     requires sound_head { first_head_fault (procedures_of program.now.program) request.now.run.head request.now.vars request.now.outvars ≡ None }
     requires head { head ≡ head_of (procedures_of program.now.program) request.now.run.head request.now.vars request.now.outvars }
     requires given { program_of Source bytes.now ≡ Ok (procedures_of program.now.program) }
+    requires reads { Reads bytes.now (procedures_of program.now.program) }
+    requires few { length bytes.now ≤ most_bytes }
     ensures answer { IfOk result (λ a. Fitted (kernel_fits (kernel_of (procedures_of program.now.program))) (IsChecked (procedures_of program.now.program) head (asked_of request.now.run) bytes.now (answer_of a)) (answer_of a)) }
-    ensures compared { Reads bytes.now (procedures_of program.now.program) → IfOk result (λ a. IsCompared (asked_of request.now.run) request.now.vars request.now.outvars bytes.now (answer_of a)) }
+    ensures compared { IfOk result (λ a. IsCompared (asked_of request.now.run) request.now.vars request.now.outvars bytes.now (answer_of a)) }
 {
     emitted_law();
     reading_law();
+    check_law();
     let kernel = checked_kernel(alloc, program.program())?;
     if !kernel.fits() {
         return too_large(alloc);
@@ -87,8 +90,10 @@ fn answer_head(
     requires sound_head { first_head_fault (procedures_of program.now.program) request.now.run.head request.now.vars request.now.outvars ≡ None }
     requires head { head ≡ head_of (procedures_of program.now.program) request.now.run.head request.now.vars request.now.outvars }
     requires given { program_of Source bytes.now ≡ Ok (procedures_of program.now.program) }
+    requires reads { Reads bytes.now (procedures_of program.now.program) }
+    requires few { length bytes.now ≤ most_bytes }
     ensures answer { IfOk result (λ a. AnswersAcceptedCheck (asked_of request.now.run) bytes.now (procedures_of program.now.program) head (answer_of a)) }
-    ensures compared { Reads bytes.now (procedures_of program.now.program) → IfOk result (λ a. IsCompared (asked_of request.now.run) request.now.vars request.now.outvars bytes.now (answer_of a)) }
+    ensures compared { IfOk result (λ a. IsCompared (asked_of request.now.run) request.now.vars request.now.outvars bytes.now (answer_of a)) }
 {
     if let Some(line) = first_untreated(program.program()) {
         return untreated(alloc, line);
@@ -106,8 +111,10 @@ fn answer_checked(
 ) -> Result<Answer, Memory>
     requires sound { IsSound source_rules (procedures_of program.now.program) }
     requires given { program_of Source bytes.now ≡ Ok (procedures_of program.now.program) }
+    requires reads { Reads bytes.now (procedures_of program.now.program) }
+    requires few { length bytes.now ≤ most_bytes }
     ensures answer { IfOk result (λ a. AnswersSoundCheck (asked_of request.now.run) request.now.vars request.now.outvars bytes.now (procedures_of program.now.program) (answer_of a)) }
-    ensures compared { Reads bytes.now (procedures_of program.now.program) → IfOk result (λ a. IsCompared (asked_of request.now.run) request.now.vars request.now.outvars bytes.now (answer_of a)) }
+    ensures compared { IfOk result (λ a. IsCompared (asked_of request.now.run) request.now.vars request.now.outvars bytes.now (answer_of a)) }
 {
     let vars = request.vars.as_slice();
     let outvars = request.outvars.as_slice();
@@ -127,8 +134,10 @@ fn answer_program(
 ) -> Result<Answer, Memory>
     requires written { IsWritten (procedures_of program) }
     requires given { program_of Source bytes.now ≡ Ok (procedures_of program) }
+    requires reads { Reads bytes.now (procedures_of program) }
+    requires few { length bytes.now ≤ most_bytes }
     ensures answer { IfOk result (λ a. AnswersTextCheck (asked_of request.now.run) request.now.vars request.now.outvars bytes.now (Ok (procedures_of program)) (answer_of a)) }
-    ensures compared { Reads bytes.now (procedures_of program) → IfOk result (λ a. IsCompared (asked_of request.now.run) request.now.vars request.now.outvars bytes.now (answer_of a)) }
+    ensures compared { IfOk result (λ a. IsCompared (asked_of request.now.run) request.now.vars request.now.outvars bytes.now (answer_of a)) }
 {
     match check(alloc, program, Mode::Source) {
         Ok(checked) => answer_checked(alloc, request, &checked, bytes),

@@ -1,16 +1,19 @@
 //! What is written of a kernel: what is emitted for it, or its plan.
 
-ghost use Rattle.std.specs.Prelude.{◌≡◌, ◌<◌, IfOk, length};
+ghost use Rattle.std.specs.Prelude.{◌≡◌, ◌<◌, IfOk, length, true};
 ghost use Rattle.adj_tree.specs.View.{procedures_of};
+ghost use Rattle.adj_reverse.specs.Program.{emitted_program_with};
 ghost use Rattle.adj_symbols.specs.Numbers.{Fits};
 ghost use Rattle.adj_flow.specs.Asked.{IsFlow, problem_of, units_of};
 ghost use Rattle.adj_plan.specs.Asked.{IsPlan};
+ghost use Rattle.adj_weave.specs.Marked.{marks_told};
 ghost use Rattle.adj_weave.specs.Shared.{IsCheckedBySome};
-ghost use Rattle.adj_tool.specs.Planned.{IsAdjointText, IsEmittedFor, IsKnownFor, IsPlanText, IsTextFor};
+ghost use Rattle.adj_tool.specs.Planned.{IsAdjointText, IsKnownFor, IsPlanText, IsTextFor};
 
 use crate::task::Wanted;
 use adj_checking::Emitted;
 use adj_headed::head_adjoint;
+use adj_helpers::steps::MarkedLoops;
 use adj_plan::{Planned, plan, plan_text};
 use adj_print::text;
 use adj_symbols::Checked;
@@ -18,7 +21,7 @@ use adj_tree::{Head, Memory, Program};
 use adj_weave::{FoundMarks, Marked, adjoint as emit};
 use std::alloc::Global;
 
-// The program that is emitted for a kernel by the marks of its plan.
+// The program that is emitted for a kernel by the marks of its plan. Marked loops are reversed by schedules.
 fn emitted(
     alloc: Global,
     kernel: &Checked,
@@ -30,13 +33,13 @@ fn emitted(
     requires units { units_of found.now.flow ≡ procedures_of kernel.now.program }
     requires flow { IsFlow found.now.flow head.now.unit }
     requires plan { IsPlan found.now.flow (problem_of found.now.flow head.now) found.now.marks }
-    ensures emitted { IfOk result (λ p. IsEmittedFor (procedures_of kernel.now.program) head.now (procedures_of p)) }
+    ensures emitted { IfOk result (λ p. procedures_of p ≡ emitted_program_with true (marks_told found.now.flow found.now.marks) (procedures_of kernel.now.program) head.now.unit head.now.vars head.now.outvars) }
 {
     let marked = Marked::Found(FoundMarks {
         marks: &found.marks,
         flow: &found.flow,
     });
-    emit(alloc, kernel.program(), head, marked)
+    emit(alloc, kernel.program(), head, marked, MarkedLoops::Reversed)
 }
 
 // What is emitted for a kernel by the marks of its plan, with what is to be known of the adjoint of its head.
@@ -55,7 +58,7 @@ fn known_by(
 {
     let (marks, flow) = (&found.marks, &found.flow);
     let by = Marked::Found(FoundMarks { marks, flow });
-    let program = emit(alloc, kernel.program(), head, by)?;
+    let program = emitted(alloc, kernel, head, found)?;
     let adjoint = head_adjoint(alloc, kernel.program(), head, by)?;
     Ok(Emitted {
         program,

@@ -6,7 +6,7 @@ ghost use Rattle.adj_tool.specs.Profile.{untreated_act, untreated_code, first_un
 
 use adj_tree::{Act, Mark, Program, Stmt, Stmts};
 
-// The line of the first marked loop, of this statement and those in it.
+// The line of the first loop that takes its number of snapshots from a variable, of this statement and those in it.
 #[cycle(untreated)]
 fn untreated_statement(statement: &Stmt) -> Option<u32>
     ensures { result ≡ untreated_act statement.now.line (act_of statement.now.act) }
@@ -16,8 +16,10 @@ fn untreated_statement(statement: &Stmt) -> Option<u32>
             Some(line) => Some(line),
             None => untreated_list(second),
         },
-        Act::Loop(_, _, _, _, body, Mark::Plain) | Act::While(_, body) => untreated_list(body),
-        Act::Loop(_, _, _, _, _, Mark::Count(_) | Mark::From(_)) => Some(statement.line),
+        Act::Loop(_, _, _, _, _, Mark::From(_)) => Some(statement.line),
+        Act::Loop(_, _, _, _, body, Mark::Plain | Mark::Count(_)) | Act::While(_, body) => {
+            untreated_list(body)
+        }
         Act::Assign(_, _) | Act::Call(_, _) | Act::Run(_) => None,
     }
 }

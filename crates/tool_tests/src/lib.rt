@@ -27,6 +27,8 @@ mod plans;
 #[cfg(test)]
 mod refused;
 #[cfg(test)]
+mod reversed;
+#[cfg(test)]
 mod running;
 #[cfg(test)]
 mod sweeps;

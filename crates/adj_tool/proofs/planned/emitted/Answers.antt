@@ -1,11 +1,10 @@
-use Rattle.std.proofs.Common.{◌≡◌, sym, ap, ◌∙◌, subst}
+use Rattle.std.proofs.Common.{◌≡◌, true, sym, ap, ◌∙◌, subst}
 use Rattle.std.proofs.lemmas.Result.{IfOk-weaker}
 use Rattle.adj_tree.specs.View.{procedures_of}
-use Rattle.adj_reverse.specs.Program.{emitted_program}
+use Rattle.adj_reverse.specs.Program.{emitted_program_with}
 use Rattle.adj_emitted.specs.Shadowed.{AllHaveShadows}
 use Rattle.adj_weave.specs.Marked.{marks_told}
-use Rattle.adj_tool.specs.Planned.{IsEmittedFor}
-use Rattle.adj_tool.proofs.Emitting.{shadows_there, emitted_for_units}
+use Rattle.adj_tool.proofs.Emitting.{shadows_there}
 use Rattle.adj_tool.proofs.planned.emitted.Goals as goal
 
 pub adjoint-requires-clause-shadows : goal.adjoint-requires-clause-shadows
@@ -23,6 +22,6 @@ returns c =
     let h = c.args.head.now in
     let us = procedures_of c.args.kernel.now.program in
     record {
-      emitted = IfOk-weaker c.adjoint.result (λ p. procedures_of p ≡ emitted_program (marks_told f t) (procedures_of c.program.result.now) h.unit h.vars h.outvars) (λ p. IsEmittedFor us h (procedures_of p))
-          (λ p e. emitted_for_units us f h t c.requires.units c.requires.plan (procedures_of p) (e ∙ ap (λ q. emitted_program (marks_told f t) (procedures_of q) h.unit h.vars h.outvars) c.program.ensures.program)) c.adjoint.ensures.emitted;
+      emitted = IfOk-weaker c.adjoint.result (λ p. procedures_of p ≡ emitted_program_with true (marks_told f t) (procedures_of c.program.result.now) h.unit h.vars h.outvars) (λ p. procedures_of p ≡ emitted_program_with true (marks_told f t) us h.unit h.vars h.outvars)
+          (λ p e. e ∙ ap (λ q. emitted_program_with true (marks_told f t) (procedures_of q) h.unit h.vars h.outvars) c.program.ensures.program) c.adjoint.ensures.emitted;
     }
