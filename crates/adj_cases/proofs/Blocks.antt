@@ -1,7 +1,7 @@
 -- What texts with blocks, lines of all sorts and declarations are is computed.
 use Rattle.std.proofs.Common.{refl}
 use Rattle.adj_text.specs.Data.{text_len, data_line}
-use Rattle.adj_cases.specs.Blocks.{Branches, LoopBlocks, Directives, Lines, Declared, Likenesses, DataPlaces}
+use Rattle.adj_cases.specs.Blocks.{Branches, LoopBlocks, Directives, Lines, Declared, Likenesses, DataPlaces, Labels, Keywords}
 use Rattle.adj_cases.proofs.Computing.{reading}
 
 pub branches : Branches
@@ -31,3 +31,9 @@ likenesses = refl
 pub data_places : DataPlaces
 unfolding reading text_len data_line
 data_places = (refl, refl, refl, refl, refl, refl)
+
+pub labels : Labels
+labels = (refl, refl, refl, refl, refl, refl, refl, refl)
+
+pub keywords : Keywords
+keywords = (refl, refl, refl, refl, refl, refl, refl, refl, refl, refl, refl, refl, refl, refl, refl, refl, refl, refl, refl, refl)

@@ -1,11 +1,14 @@
 -- The depths and flaws are computed.
 use Rattle.std.proofs.Common.{refl}
 use Rattle.adj_text.specs.Grammar.{to_power}
-use Rattle.adj_cases.specs.Depths.{Depths, TestDepths, Flaws, DeepStatements}
+use Rattle.adj_cases.specs.Depths.{Depths, Counts, TestDepths, Flaws, DeepStatements}
 
 pub depths : Depths
 unfolding to_power
 depths = (refl, refl, refl, refl, refl, refl, refl, refl, refl, refl, refl, refl, refl, refl, refl, refl, refl)
+
+pub counts : Counts
+counts = (refl, refl, refl, refl, refl)
 
 pub test_depths : TestDepths
 unfolding to_power

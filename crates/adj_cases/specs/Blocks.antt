@@ -1,7 +1,12 @@
 -- Texts with blocks, declarations and lines of all sorts, and the programs that they are.
-use Rattle.std.specs.Prelude.{◌≡◌, ℕ, pos, true, false, List, [], ◌∷◌, ◌++◌, codes}
+use Rattle.std.specs.Prelude.{◌≡◌, ℕ, pos, true, false, List, [], ◌∷◌, ◌++◌, codes, None}
 use Rattle.adj_tree.specs.Code.{plain, plus, greater, bin, none, Mark, unmarked, with_count, count_from, Act, assign, choose, loop, during, Code, stop, step, fixed, given, Declaration}
+use Rattle.adj_text.specs.Block.{is_open, innermost}
+use Rattle.adj_tree.specs.declared.stmt.Mark.TheVariants.{Plain}
 use Rattle.adj_text.specs.Data.{data_of}
+use Rattle.adj_text.specs.Lined.{directive_before}
+use Rattle.adj_text.specs.Stated.{keyword_len, IsCovered}
+use Rattle.adj_text.specs.declared.stated.Kind.TheVariants.{Do, BlockIf, LogicalIf, Assign, Continue, Return, End, EndIf, EndDo, Else, ImplicitNone, ElseIf, DoWhile, Subroutine, Integer, Call}
 use Rattle.adj_text.specs.declared.mode.Mode.TheVariants.{Source}
 use Rattle.adj_cases.specs.Texts.{text, return_code, use_of, literal, one, name_a, name_i, name_n, name_p, name_x, name_y, bare, above, Is}
 
@@ -112,3 +117,19 @@ DataPlaces =
     × (data_of (text (codes "AB" ∷ codes " $DATA" ∷ codes "$DATAX" ∷ codes "$data" ∷ [])) ≡ (23, 4))
     × (data_of (codes "AB\nC") ≡ (4, 2))
     × (data_of [] ≡ (0, 0))
+
+-- the labels of open loops, the innermost first, 0 where one has none
+abbrev pub Labels : Type 0
+Labels =
+    (is_open (10 ∷ 20 ∷ []) 10 ≡ true) × (is_open (10 ∷ 20 ∷ []) 20 ≡ true) × (is_open (10 ∷ 20 ∷ []) 30 ≡ false) × (is_open (10 ∷ 0 ∷ []) 0 ≡ false) × (is_open [] 10 ≡ false)
+    × (innermost (10 ∷ 20 ∷ []) ≡ 10) × (innermost (0 ∷ 20 ∷ []) ≡ 0) × (innermost [] ≡ 0)
+
+-- how long keywords are, which characters tokens cover, and what stands for a directive where there is none
+abbrev pub Keywords : Type 0
+Keywords =
+    (keyword_len Do [] ≡ 2) × (keyword_len BlockIf [] ≡ 2) × (keyword_len LogicalIf [] ≡ 2) × (keyword_len Assign [] ≡ 0) × (keyword_len Continue [] ≡ 8) × (keyword_len Return [] ≡ 6) × (keyword_len End [] ≡ 3) × (keyword_len EndIf [] ≡ 5)
+    × (keyword_len EndDo [] ≡ 5) × (keyword_len Else [] ≡ 4) × (keyword_len ImplicitNone [] ≡ 12) × (keyword_len ElseIf [] ≡ 6) × (keyword_len DoWhile [] ≡ 7) × (keyword_len Subroutine [] ≡ 10) × (keyword_len Call [] ≡ 4)
+    × (keyword_len Integer (codes "INTEGERX") ≡ 7) × (keyword_len Integer (codes "INTEGER*8X") ≡ 9)
+    × IsCovered (record { line = 1; label = 0; mark = Plain; mark_line = 0; kind = Else; text = codes "ELSE"; tokens = [] })
+    × IsCovered (record { line = 1; label = 0; mark = Plain; mark_line = 0; kind = BlockIf; text = codes "IFTHEN"; tokens = [] })
+    × (directive_before None ≡ record { mark = Plain; line = 0 })

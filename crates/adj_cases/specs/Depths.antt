@@ -1,9 +1,9 @@
 -- Depths: how deep expressions, conditions and statements are, and which of their flaws comes first.
 use Rattle.std.specs.Prelude.{◌≡◌, true, false, [], codes, Some, None, Ok, Err}
-use Rattle.adj_tree.specs.Code.{plus, is_less, neg, compare, pow}
+use Rattle.adj_tree.specs.Code.{plus, minus, is_less, neg, compare, pow}
 use Rattle.adj_text.specs.Condition.{Condition, compared, denied, both, either}
 use Rattle.adj_text.specs.Form.{go_on}
-use Rattle.adj_text.specs.Grammar.{Syntax, number, variable, negated, joined, raised, applied, only, beside}
+use Rattle.adj_text.specs.Grammar.{Syntax, number, variable, negated, joined, raised, applied, only, beside, count_of, signed as with_sign}
 use Rattle.adj_expression.specs.Judged.{depth, test_depth, judged, judged_test}
 use Rattle.adj_expression.specs.declared.flaw.Flaw.TheVariants.{Large, Deep, Exponent}
 use Rattle.adj_statement.specs.Phrase.{Deed, assigns, calls, Bounds, plainly, declares, does, guards, repeats, goes_while, opens, turns}
@@ -28,6 +28,10 @@ Depths =
     × (depth (raised flat (number (codes "2"))) ≡ 2) × (depth (raised signed (number (codes "2"))) ≡ 3) × (depth (raised flat (negated (negated (number (codes "2"))))) ≡ 2)
     × (depth (raised flat flat) ≡ 2) × (depth (raised signed flat) ≡ 3) × (depth (raised flat signed) ≡ 3)
     × (depth (applied name_x (only flat)) ≡ 2) × (depth (applied name_x (only signed)) ≡ 3) × (depth (applied name_x (beside (only signed) flat)) ≡ 3) × (depth (applied name_x (beside (only flat) signed)) ≡ 3)
+
+-- how many arguments there are, and what a sign makes of an expression
+abbrev pub Counts : Type 0
+Counts = (with_sign minus flat ≡ signed) × (with_sign plus flat ≡ flat) × (count_of (only signed) ≡ 1) × (count_of (beside (only flat) signed) ≡ 2) × (count_of (beside (beside (only flat) flat) flat) ≡ 3)
 
 -- X.LT.X
 abbrev pub test : Condition

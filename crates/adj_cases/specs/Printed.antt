@@ -1,8 +1,9 @@
 -- Printed: trees, and the canonical text of each.
-use Rattle.std.specs.Prelude.{◌≡◌, pos, true, false, [], ◌∷◌, codes}
-use Rattle.adj_tree.specs.Code.{plain, plus, minus, times, quot, modulo, greater, lesser, Term, neg, bin, elem, pow, power_of, abs, none, Test, is_less, is_most, is_same, is_other, is_greater, is_least, compare, negation, conjunction, disjunction, push_word, pop_word, push_array, pop_array, push_control, pop_control, zero_array, begin_reversal, count_actions, give_action, end_reversal, unmarked, with_count, count_from, assign, choose, loop, during, call, runtime, Code, stop, step, fixed, given, Procedure}
-use Rattle.adj_text.specs.Text.{term_text, test_text, text_of}
-use Rattle.adj_text.specs.Written.{is_literal, is_intrinsic}
+use Rattle.std.specs.Prelude.{◌≡◌, pos, negsuc, true, false, [], ◌∷◌, ◌++◌, codes}
+use Rattle.adj_tree.specs.Code.{plain, plus, minus, times, quot, modulo, greater, lesser, Term, neg, bin, elem, pow, power_of, abs, none, more, Test, is_less, is_most, is_same, is_other, is_greater, is_least, compare, negation, conjunction, disjunction, push_word, pop_word, push_array, pop_array, push_control, pop_control, zero_array, begin_reversal, count_actions, give_action, end_reversal, unmarked, with_count, count_from, assign, choose, loop, during, call, runtime, Code, stop, step, fixed, given, Procedure}
+use Rattle.adj_text.specs.Text.{term_text, test_text, text_of, statement}
+use Rattle.adj_text.specs.Written.{is_literal, is_intrinsic, IsVariable, IsIndexed, IsLiteral, AreSubscripts, IsWrittenTerm, IsWrittenMark}
+use Rattle.adj_cases.specs.Limits.{often}
 use Rattle.adj_cases.specs.Texts.{text, use_of, literal, one, two, name_a, name_i, name_n, name_p, name_x, name_y}
 
 abbrev pub x : Term
@@ -15,7 +16,7 @@ y = use_of name_y
 abbrev pub Terms : Type 0
 Terms =
     (term_text (bin plus (literal 1) (bin plus (literal 2) (literal 3))) ≡ codes "1+(2+3)") × (term_text (bin plus (bin plus (literal 1) (literal 2)) (literal 3)) ≡ codes "1+2+3")
-    × (term_text (bin minus (literal 1) (bin minus x y)) ≡ codes "1-(X-Y)") × (term_text (bin minus (bin minus (literal 1) x) y) ≡ codes "1-X-Y") × (term_text (bin plus (literal 1) (bin times x y)) ≡ codes "1+X*Y")
+    × (term_text (bin minus (literal 1) (bin minus x y)) ≡ codes "1-(X-Y)") × (term_text (bin minus (bin minus (literal 1) x) y) ≡ codes "1-X-Y") × (term_text (bin plus (literal 1) (bin times x y)) ≡ codes "1+X*Y") × (term_text (bin minus (literal 1) (bin times x y)) ≡ codes "1-X*Y") × (term_text (bin times (bin quot x y) (literal 2)) ≡ codes "X/Y*2")
     × (term_text (bin times (bin plus x y) (literal 3)) ≡ codes "(X+Y)*3") × (term_text (bin times (literal 1) (bin times x y)) ≡ codes "1*(X*Y)") × (term_text (bin quot (bin times (literal 1) x) y) ≡ codes "1*X/Y") × (term_text (bin quot (literal 1) (bin quot x y)) ≡ codes "1/(X/Y)") × (term_text (bin times x (pow y 2)) ≡ codes "X*Y**2") × (term_text (bin quot x (pow y 2)) ≡ codes "X/Y**2")
     × (term_text (neg (bin plus x y)) ≡ codes "-(X+Y)") × (term_text (neg (bin times x y)) ≡ codes "-X*Y") × (term_text (neg (neg x)) ≡ codes "-(-X)")
     × (term_text (bin plus (neg x) y) ≡ codes "-X+Y") × (term_text (bin plus x (neg y)) ≡ codes "X+(-Y)") × (term_text (bin minus x (neg y)) ≡ codes "X-(-Y)") × (term_text (bin times (neg x) y) ≡ codes "(-X)*Y") × (term_text (bin quot x (neg y)) ≡ codes "X/(-Y)")
@@ -91,3 +92,20 @@ Literals =
     × (is_literal (bin plus (literal 1) (literal 2)) ≡ true) × (is_literal (bin minus (literal 1) (literal 2)) ≡ true) × (is_literal (bin times (literal 1) (literal 2)) ≡ true) × (is_literal (bin quot (literal 1) (literal 2)) ≡ false) × (is_literal (bin modulo (literal 1) (literal 2)) ≡ false) × (is_literal (bin greater (literal 1) (literal 2)) ≡ false)
     × (is_literal (bin plus x (literal 2)) ≡ false) × (is_literal (bin plus (literal 1) x) ≡ false) × (is_literal (pow (literal 1) 2) ≡ true) × (is_literal (pow x 2) ≡ false) × (is_literal (power_of (literal 1) (literal 2)) ≡ true) × (is_literal (power_of x (literal 2)) ≡ false) × (is_literal (power_of (literal 1) x) ≡ false)
     × (is_intrinsic (codes "ABS") ≡ true) × (is_intrinsic (codes "IABS") ≡ true) × (is_intrinsic (codes "MAX0") ≡ true) × (is_intrinsic (codes "MOD") ≡ true) × (is_intrinsic (codes "MODE") ≡ false) × (is_intrinsic name_x ≡ false)
+
+-- the greatest literal and the greatest count of a directive, and what is none
+abbrev pub WrittenBounds : Type 0
+WrittenBounds =
+    IsLiteral (pos 9223372036854775807) × (IsLiteral (pos 9223372036854775808) → ⊥) × (IsLiteral (negsuc 0) → ⊥)
+    × IsWrittenMark (with_count 64) × (IsWrittenMark (with_count 65) → ⊥) × IsWrittenMark (with_count 1) × (IsWrittenMark (with_count 0) → ⊥)
+
+-- names, elements and powers that can be written, and what can't
+abbrev pub WrittenTerms : Type 0
+WrittenTerms =
+    IsVariable (plain name_x) × IsIndexed (plain name_x) × (IsIndexed (plain (codes "MAX")) → ⊥)
+    × AreSubscripts (one x) × AreSubscripts (two x x) × (AreSubscripts (more x (two x x)) → ⊥) × (AreSubscripts none → ⊥)
+    × IsWrittenTerm (pow x 63) × (IsWrittenTerm (pow x 64) → ⊥)
+
+-- a statement of 140 characters stands on three lines
+abbrev pub CutLines : Type 0
+CutLines = statement (often 140 (codes "A")) ≡ codes "      " ++ often 66 (codes "A") ++ codes "\n     +" ++ often 66 (codes "A") ++ codes "\n     +" ++ often 8 (codes "A") ++ codes "\n"

@@ -1,11 +1,11 @@
 //! Texts, with the programs that they are and with the first fault of those that are refused.
 
 ghost use Rattle.adj_cases.specs.Texts.{Orders, Exponents, Applications, Conditions, Calls, OtherActuals, LoopForms};
-ghost use Rattle.adj_cases.specs.Blocks.{Branches, LoopBlocks, Directives, Lines, Declared, Likenesses, DataPlaces};
-ghost use Rattle.adj_cases.specs.Depths.{Depths, TestDepths, Flaws, DeepStatements};
+ghost use Rattle.adj_cases.specs.Blocks.{Branches, LoopBlocks, Directives, Lines, Declared, Likenesses, DataPlaces, Labels, Keywords};
+ghost use Rattle.adj_cases.specs.Depths.{Depths, Counts, TestDepths, Flaws, DeepStatements};
 ghost use Rattle.adj_cases.specs.Limits.{Bounds};
 ghost use Rattle.adj_cases.specs.FirstFaults.{Passes, OfLines, OfTexts, OfStatements};
-ghost use Rattle.adj_cases.specs.Printed.{Terms, Tests, Programs, Literals};
+ghost use Rattle.adj_cases.specs.Printed.{Terms, Tests, Programs, Literals, WrittenBounds, WrittenTerms, CutLines};
 ghost use Rattle.adj_cases.specs.Refusals.{InitialLines, Characters, WrongDirectives, Unknown, Malformed, Misplaced, Unended, TooLarge, LongNames, WrongExponents};
 
 /// What expressions and conditions are.
@@ -32,6 +32,8 @@ pub fn block_cases()
     ensures declared { Declared }
     ensures likenesses { Likenesses }
     ensures data_places { DataPlaces }
+    ensures labels { Labels }
+    ensures keywords { Keywords }
 {}
 
 /// Texts whose lines are refused.
@@ -75,11 +77,15 @@ pub fn printed_cases()
     ensures tests { Tests }
     ensures programs { Programs }
     ensures literals { Literals }
+    ensures written_bounds { WrittenBounds }
+    ensures written_terms { WrittenTerms }
+    ensures cut_lines { CutLines }
 {}
 
 /// How deep expressions, conditions and statements are, and which of their flaws comes first.
 pub fn depth_cases()
     ensures depths { Depths }
+    ensures counts { Counts }
     ensures test_depths { TestDepths }
     ensures flaws { Flaws }
     ensures deep_statements { DeepStatements }

@@ -1,4 +1,4 @@
-use Rattle.adj_cases.proofs.Blocks.{branches, loop_blocks, directives, lines, declared, likenesses, data_places}
+use Rattle.adj_cases.proofs.Blocks.{branches, loop_blocks, directives, lines, declared, likenesses, data_places, labels, keywords}
 use Rattle.adj_cases.proofs.texts.block_cases.Goals as goal
 
 pub returns-clause-branches : goal.returns-clause-branches
@@ -21,3 +21,9 @@ returns-clause-likenesses c = likenesses
 
 pub returns-clause-data_places : goal.returns-clause-data_places
 returns-clause-data_places c = data_places
+
+pub returns-clause-labels : goal.returns-clause-labels
+returns-clause-labels c = labels
+
+pub returns-clause-keywords : goal.returns-clause-keywords
+returns-clause-keywords c = keywords

@@ -1,8 +1,11 @@
-use Rattle.adj_cases.proofs.Depths.{depths, test_depths, flaws, deep_statements}
+use Rattle.adj_cases.proofs.Depths.{depths, counts, test_depths, flaws, deep_statements}
 use Rattle.adj_cases.proofs.texts.depth_cases.Goals as goal
 
 pub returns-clause-depths : goal.returns-clause-depths
 returns-clause-depths c = depths
+
+pub returns-clause-counts : goal.returns-clause-counts
+returns-clause-counts c = counts
 
 pub returns-clause-test_depths : goal.returns-clause-test_depths
 returns-clause-test_depths c = test_depths
