@@ -1,7 +1,7 @@
 -- When two variables are the same.
 use Rattle.std.proofs.Common.{◌≡◌, ℕ, zero, suc, true, refl, sym, ap, ◌∙◌}
 use Rattle.std.specs.Prelude.{◌==◌}
-use Rattle.adj_tree.specs.Code.{Role, work, temp, control, first, stride, count, turn, entry, entries, kind, lower, upper, role_code, Var, plain, shadow, helper, var_eq}
+use Rattle.adj_tree.specs.Code.{Role, work, temp, control, first, stride, count, turn, entry, entries, kind, lower, upper, slots, role_code, Var, plain, shadow, helper, var_eq}
 use Rattle.adj_meaning.proofs.Booleans.{and_true}
 use Rattle.adj_tree.proofs.Names.{nat_same, nat_refl, name_refl, name_same}
 
@@ -24,7 +24,8 @@ role_of (suc (suc (suc (suc (suc (suc (suc zero))))))) = entry
 role_of (suc (suc (suc (suc (suc (suc (suc (suc zero)))))))) = entries
 role_of (suc (suc (suc (suc (suc (suc (suc (suc (suc zero))))))))) = kind
 role_of (suc (suc (suc (suc (suc (suc (suc (suc (suc (suc zero)))))))))) = lower
-role_of (suc (suc (suc (suc (suc (suc (suc (suc (suc (suc (suc n))))))))))) = upper
+role_of (suc (suc (suc (suc (suc (suc (suc (suc (suc (suc (suc zero))))))))))) = upper
+role_of (suc (suc (suc (suc (suc (suc (suc (suc (suc (suc (suc (suc n)))))))))))) = slots
 
 -- no two roles have one number
 role_back : (r : Role) → role_of (role_code r) ≡ r
@@ -41,6 +42,7 @@ role_back entries = refl
 role_back kind = refl
 role_back lower = refl
 role_back upper = refl
+role_back slots = refl
 
 -- variables that compare equal are equal
 pub var_same : (x y : Var) → var_eq x y ≡ true → x ≡ y

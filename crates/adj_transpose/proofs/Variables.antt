@@ -1,8 +1,9 @@
--- When roles and variables are the same.
-use Rattle.std.proofs.Common.{◌≡◌, ℕ, Bool, true, false, List, [], ◌∷◌, get_or, refl, sym, ap, ◌∙◌, subst}
+-- When variables, names and cells are the same.
+use Rattle.std.proofs.Common.{◌≡◌, ℕ, Bool, true, false, List, refl, subst}
 use Rattle.std.specs.Prelude.{◌==◌, ◌&&◌, ◌||◌}
-use Rattle.adj_tree.specs.Code.{Role, role_code, work, temp, control, first, stride, count, turn, entry, entries, kind, lower, upper, Var, plain, shadow, helper, name_eq, var_eq}
-use Rattle.adj_tree.proofs.Names.{nat_same, nat_refl, name_refl, name_same}
+use Rattle.adj_tree.specs.Code.{Var, name_eq, var_eq}
+use Rattle.adj_tree.proofs.Names.{nat_same, name_refl, name_same}
+pub use Rattle.adj_meaning.proofs.Variables.{var_refl, var_same}
 use Rattle.adj_transpose.specs.Fresh.{has_name}
 use Rattle.adj_transpose.specs.Pairs.{Key, key_eq}
 
@@ -30,47 +31,6 @@ or_right false b h = h
 pub not_true : (b : Bool) → (b ≡ true → ⊥) → b ≡ false
 not_true true h = absurd (h refl)
 not_true false h = refl
-
--- the role of a number
-abbrev role_of : ℕ → Role
-role_of n = get_or (work ∷ temp ∷ control ∷ first ∷ stride ∷ count ∷ turn ∷ entry ∷ entries ∷ kind ∷ lower ∷ upper ∷ []) n work
-
-role_of-code : (r : Role) → role_of (role_code r) ≡ r
-role_of-code work = refl
-role_of-code temp = refl
-role_of-code control = refl
-role_of-code first = refl
-role_of-code stride = refl
-role_of-code count = refl
-role_of-code turn = refl
-role_of-code entry = refl
-role_of-code entries = refl
-role_of-code kind = refl
-role_of-code lower = refl
-role_of-code upper = refl
-
--- roles of one number are the same
-pub role_same : (a b : Role) → (role_code a == role_code b) ≡ true → a ≡ b
-role_same a b h = sym (role_of-code a) ∙ ap role_of (nat_same (role_code a) (role_code b) h) ∙ role_of-code b
-
-pub var_refl : (v : Var) → var_eq v v ≡ true
-var_refl (plain x) = name_refl x
-var_refl (shadow x) = name_refl x
-var_refl (helper r k) = rw (nat_refl (role_code r)) (nat_refl k)
-
--- variables that count as the same are the same
-pub var_same : (v w : Var) → var_eq v w ≡ true → v ≡ w
-var_same (plain x) (plain y) h = ap plain (name_same x y h)
-var_same (plain x) (shadow y) h = cc
-var_same (plain x) (helper b k) h = cc
-var_same (shadow x) (plain y) h = cc
-var_same (shadow x) (shadow y) h = ap shadow (name_same x y h)
-var_same (shadow x) (helper b k) h = cc
-var_same (helper a j) (plain y) h = cc
-var_same (helper a j) (shadow y) h = cc
-var_same (helper a j) (helper b k) h =
-    let p = and_true (role_code a == role_code b) (j == k) h in
-    λ i. helper (role_same a b p.0 i) (nat_same j k p.1 i)
 
 pub var_comm : (v w : Var) → var_eq v w ≡ false → var_eq w v ≡ false
 var_comm v w h = not_true (var_eq w v) (λ e. let p : var_eq v w ≡ true = subst (λ z. var_eq z w ≡ true) (var_same w v e) (var_refl w) in cc)

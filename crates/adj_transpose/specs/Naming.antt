@@ -1,6 +1,6 @@
 -- The names that the variables of an emitted unit have.
 use Rattle.std.specs.Prelude.{◌≡◌, ℕ, ◌==◌, Bool, false, List, [], ◌∷◌, ◌++◌, map, if◌then◌else◌, codes}
-use Rattle.adj_tree.specs.Code.{Role, role_code, work, temp, control, first, stride, count, turn, entry, entries, kind, lower, upper, Var, plain, shadow, helper, var_eq}
+use Rattle.adj_tree.specs.Code.{Role, role_code, work, temp, control, first, stride, count, turn, entry, entries, kind, lower, upper, slots, Var, plain, shadow, helper, var_eq}
 use Rattle.adj_transpose.specs.Fresh.{digits, fresh, reserved}
 pub use Rattle.adj_names.specs.Laws.{AreApart}
 
@@ -18,6 +18,7 @@ letters entries = codes "ADN"
 letters kind = codes "ADA"
 letters lower = codes "ADF"
 letters upper = codes "ADT"
+letters slots = codes "ADS"
 
 -- the name that a variable gets where it is free; a unit has one control word
 abbrev pub wanted : Var → List ℕ
