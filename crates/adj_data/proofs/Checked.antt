@@ -6,12 +6,13 @@ use Rattle.adj_meaning.specs.Units.{Slot}
 use Rattle.adj_data.specs.declared.data_error.DataError.{DataError}
 use Rattle.adj_data.specs.Words.{Item}
 use Rattle.adj_data.specs.Entries.{Entry, entries_of, with_words}
-use Rattle.adj_data.specs.Faults.{Fault, or_else, stands_in, words_of, words_fault, entries_fault, dummies_fault}
+use Rattle.adj_names.specs.Fresh.{has_name}
+use Rattle.adj_data.specs.Faults.{Fault, or_else, words_of, words_fault, entries_fault, dummies_fault}
 use Rattle.adj_data.specs.Given.{IsFirstFault, slot_given}
 use Rattle.adj_data.specs.Marked.{wanted, titles_of, tangent_mark, adjoint_mark, marks_fault, marked_slots, slots_of, entries_check, check_fault, inputs_given, tangents_given, adjoints_given}
 use Rattle.adj_data.proofs.Entering.{entries_made, fault_made, faults_same, fault_first}
 
-module _ (line : ℕ) (bytes : List ℕ) (u : Procedure) (vars outvars : List Bool) (names : List (List ℕ)) (same : (x : List ℕ) → stands_in x names ≡ stands_in x (titles_of u vars outvars)) where
+module _ (line : ℕ) (bytes : List ℕ) (u : Procedure) (vars outvars : List Bool) (names : List (List ℕ)) (same : (x : List ℕ) → has_name x names ≡ has_name x (titles_of u vars outvars)) where
   abbrev ws : List Item
   ws = words_of true line bytes
 

@@ -10,15 +10,15 @@ use Rattle.adj_tree.specs.declared.unit.Decl.{Decl}
 use Rattle.adj_tree.proofs.Names.{name_same}
 use Rattle.adj_meaning.specs.Units.{declared}
 use Rattle.adj_meaning.proofs.Booleans.{or_false}
-use Rattle.adj_data.specs.Faults.{stands_in}
+use Rattle.adj_names.specs.Fresh.{has_name}
 
-pub undeclared : (x : List ℕ) (ds : List Decl) (names : List (List ℕ)) → names ≡ map (λ e. e.name) ds → stands_in x names ≡ false → declared (map declaration_of ds) (plain x) ≡ []
-undeclared x ds names h e = go ds (ap (stands_in x) (sym h) ∙ e)
+pub undeclared : (x : List ℕ) (ds : List Decl) (names : List (List ℕ)) → names ≡ map (λ e. e.name) ds → has_name x names ≡ false → declared (map declaration_of ds) (plain x) ≡ []
+undeclared x ds names h e = go ds (ap (has_name x) (sym h) ∙ e)
   where
-    go : (fs : List Decl) → stands_in x (map (λ e. e.name) fs) ≡ false → declared (map declaration_of fs) (plain x) ≡ []
+    go : (fs : List Decl) → has_name x (map (λ e. e.name) fs) ≡ false → declared (map declaration_of fs) (plain x) ≡ []
     go [] k = refl
     go (f ∷ fs) k =
-        let t = or_false (name_eq x f.name) (stands_in x (map (λ e. e.name) fs)) k in
+        let t = or_false (name_eq x f.name) (has_name x (map (λ e. e.name) fs)) k in
         ap (λ b. if b then map extent_of f.extents else declared (map declaration_of fs) (plain x)) t.0 ∙ go fs t.1
 
 declared_at : (x : List ℕ) (ds : List Decl) (i : ℕ) (d : Decl) → i < length ds → name_eq x (get_or ds i d).name ≡ true → ((k : ℕ) → k < i → name_eq x (get_or ds k d).name ≡ false) → declared (map declaration_of ds) (plain x) ≡ map extent_of (get_or ds i d).extents
@@ -48,11 +48,11 @@ declared_other [] d rest x h = ap (λ b. if b then d.extents else declared rest 
 declared_other (f ∷ fs) d rest x h = ap (λ z. if name_eq x f.name then f.extents else z) (declared_other fs d rest x h)
 
 -- and so is one more declaration of a variable
-declared_again : (fs : List Decl) (d : Declaration) (rest : List Declaration) (x : List ℕ) → stands_in d.name (map (λ e. e.name) fs) ≡ true → declared (map declaration_of fs ++ (d ∷ rest)) (plain x) ≡ declared (map declaration_of fs ++ rest) (plain x)
+declared_again : (fs : List Decl) (d : Declaration) (rest : List Declaration) (x : List ℕ) → has_name d.name (map (λ e. e.name) fs) ≡ true → declared (map declaration_of fs ++ (d ∷ rest)) (plain x) ≡ declared (map declaration_of fs ++ rest) (plain x)
 declared_again [] d rest x h = cc
 declared_again (f ∷ fs) d rest x h = go (name_eq x f.name) refl (name_eq d.name f.name) refl h (declared_again fs d rest x)
   where
-    go : (b : Bool) → name_eq x f.name ≡ b → (t : Bool) → name_eq d.name f.name ≡ t → (t || stands_in d.name (map (λ e. e.name) fs)) ≡ true → (stands_in d.name (map (λ e. e.name) fs) ≡ true → declared (map declaration_of fs ++ (d ∷ rest)) (plain x) ≡ declared (map declaration_of fs ++ rest) (plain x))
+    go : (b : Bool) → name_eq x f.name ≡ b → (t : Bool) → name_eq d.name f.name ≡ t → (t || has_name d.name (map (λ e. e.name) fs)) ≡ true → (has_name d.name (map (λ e. e.name) fs) ≡ true → declared (map declaration_of fs ++ (d ∷ rest)) (plain x) ≡ declared (map declaration_of fs ++ rest) (plain x))
         → (if b then map extent_of f.extents else declared (map declaration_of fs ++ (d ∷ rest)) (plain x)) ≡ (if b then map extent_of f.extents else declared (map declaration_of fs ++ rest) (plain x))
     go true e t g h ih = refl
     go false e true g h ih = declared_other (map declaration_of fs) d rest x (ap (name_eq x) (name_same d.name f.name g) ∙ e)
@@ -71,6 +71,6 @@ first_kept items firsts longer d e i x lt at h same =
     ∙ append_assoc (map declaration_of firsts) (declaration_of d ∷ []) rest ∙ ap (λ ds. map declaration_of firsts ++ map declaration_of ds) (sym (from_here items i d lt at)))
 
 -- another one is passed
-pub first_passed : (items firsts : List Decl) (d : Decl) (i : ℕ) (x : List ℕ) → i < length items → d ≡ get_or items i d → stands_in d.name (map (λ e. e.name) firsts) ≡ true → declared (map declaration_of firsts ++ map declaration_of (drop (i + 1) items)) (plain x) ≡ declared (map declaration_of firsts ++ map declaration_of (drop i items)) (plain x)
+pub first_passed : (items firsts : List Decl) (d : Decl) (i : ℕ) (x : List ℕ) → i < length items → d ≡ get_or items i d → has_name d.name (map (λ e. e.name) firsts) ≡ true → declared (map declaration_of firsts ++ map declaration_of (drop (i + 1) items)) (plain x) ≡ declared (map declaration_of firsts ++ map declaration_of (drop i items)) (plain x)
 first_passed items firsts d i x lt at h =
     sym (ap (λ ds. declared (map declaration_of firsts ++ map declaration_of ds) (plain x)) (from_here items i d lt at) ∙ declared_again firsts (declaration_of d) (map declaration_of (drop (i + 1) items)) x h)

@@ -1,7 +1,6 @@
 -- Entries word by word are the entries of the words.
 use Rattle.std.proofs.Common.{◌≡◌, ℕ, Bool, true, false, List, [], ◌∷◌, ◌++◌, map, length, refl, sym, ap, subst, ◌∙◌, append_assoc, append-nil, arith, if◌then◌else◌}
 use Rattle.std.specs.Prelude.{Option, Some, None, not, ◌||◌}
-use Rattle.std.proofs.lemmas.List.Folds.{list_any-append}
 use Rattle.adj_tree.specs.Code.{name_eq}
 use Rattle.adj_tree.proofs.Names.{name_same}
 use Rattle.adj_meaning.proofs.Booleans.{or_second}
@@ -11,7 +10,9 @@ use Rattle.adj_data.specs.declared.data_error.DataError.{DataError}
 use Rattle.adj_data.specs.declared.data_error.DataError.TheVariants as error
 use Rattle.adj_data.specs.Words.{Item, items_with, items_of, words_in, name_of, is_number, number_in}
 use Rattle.adj_data.specs.Entries.{Entry, numbers_before, entries_of, with_number, with_word, with_words}
-use Rattle.adj_data.specs.Faults.{Fault, or_else, stands_in, fault_at, number_code, name_code, word_code, words_fault, entries_fault}
+use Rattle.adj_names.specs.Fresh.{has_name}
+use Rattle.adj_sets.proofs.NameSets.{has-behind}
+use Rattle.adj_data.specs.Faults.{Fault, or_else, fault_at, number_code, name_code, word_code, words_fault, entries_fault}
 use Rattle.adj_data.specs.Given.{IsFirstFault}
 
 -- ---- one word more
@@ -140,11 +141,11 @@ nothing_left marks n (c ∷ cs) h = absurd (omega arith)
 
 -- ---- the same names
 
-name_code_same : (d f : List (List ℕ)) → ((x : List ℕ) → stands_in x d ≡ stands_in x f) → (es : List Entry) (x : List ℕ) → name_code d es x ≡ name_code f es x
-name_code_same d f h es x = ap (λ b. if not b then Some 2 else (if stands_in x (map (λ e. e.name) es) then Some 3 else None)) (h x)
+name_code_same : (d f : List (List ℕ)) → ((x : List ℕ) → has_name x d ≡ has_name x f) → (es : List Entry) (x : List ℕ) → name_code d es x ≡ name_code f es x
+name_code_same d f h es x = ap (λ b. if not b then Some 2 else (if has_name x (map (λ e. e.name) es) then Some 3 else None)) (h x)
 
 -- faults of words depend on which names there are alone
-pub faults_same : (d f : List (List ℕ)) → ((x : List ℕ) → stands_in x d ≡ stands_in x f) → (es : List Entry) (ws : List Item) → entries_fault d es ws ≡ entries_fault f es ws
+pub faults_same : (d f : List (List ℕ)) → ((x : List ℕ) → has_name x d ≡ has_name x f) → (es : List Entry) (ws : List Item) → entries_fault d es ws ≡ entries_fault f es ws
 faults_same d f h es [] = refl
 faults_same d f h es (w ∷ ws) =
     let code : word_code d es w ≡ word_code f es w = (λ k. if w.begins then (if w.leads then name_code_same d f h es (name_of w.text) k else Some 1) else (if is_number w.text then number_code es w.text else Some 1)) in
@@ -155,13 +156,13 @@ or_none true = refl
 or_none false = refl
 
 -- a name more in a set
-pub stands_more : (x y : List ℕ) (set names : List (List ℕ)) → ((z : List ℕ) → stands_in z set ≡ stands_in z names) → stands_in x (if stands_in y set then set else set ++ (y ∷ [])) ≡ stands_in x (names ++ (y ∷ []))
-stands_more x y set names h = go (stands_in y set) refl ∙ sym (list_any-append (name_eq x) names (y ∷ []))
+pub stands_more : (x y : List ℕ) (set names : List (List ℕ)) → ((z : List ℕ) → has_name z set ≡ has_name z names) → has_name x (if has_name y set then set else set ++ (y ∷ [])) ≡ has_name x (names ++ (y ∷ []))
+stands_more x y set names h = go (has_name y set) refl ∙ sym (has-behind x names (y ∷ []))
   where
-    both : (b : Bool) → name_eq x y ≡ b → stands_in y set ≡ true → stands_in x set ≡ (stands_in x names || (b || false))
-    both true e there = ap (λ z. stands_in z set) (name_same x y e) ∙ there ∙ sym (or_second (stands_in x names) true refl)
-    both false e there = h x ∙ sym (or_none (stands_in x names))
+    both : (b : Bool) → name_eq x y ≡ b → has_name y set ≡ true → has_name x set ≡ (has_name x names || (b || false))
+    both true e there = ap (λ z. has_name z set) (name_same x y e) ∙ there ∙ sym (or_second (has_name x names) true refl)
+    both false e there = h x ∙ sym (or_none (has_name x names))
 
-    go : (b : Bool) → stands_in y set ≡ b → stands_in x (if b then set else set ++ (y ∷ [])) ≡ (stands_in x names || (name_eq x y || false))
+    go : (b : Bool) → has_name y set ≡ b → has_name x (if b then set else set ++ (y ∷ [])) ≡ (has_name x names || (name_eq x y || false))
     go true e = both (name_eq x y) refl e
-    go false e = list_any-append (name_eq x) set (y ∷ []) ∙ ap (λ b. b || (name_eq x y || false)) (h x)
+    go false e = has-behind x set (y ∷ []) ∙ ap (λ b. b || (name_eq x y || false)) (h x)

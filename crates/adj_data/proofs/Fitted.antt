@@ -12,7 +12,8 @@ use Rattle.adj_meaning.specs.Store.{Store, Shape, size_of}
 use Rattle.adj_meaning.specs.Units.{extent_in, extents_of, shape_of, are_extents, elements, shape_fits, nth_cell, from_slot, entry_store, input_store, slot_fits, slots_fit}
 use Rattle.adj_meaning.proofs.Booleans.{and_true}
 use Rattle.adj_data.specs.Entries.{Entry, entries_of, entry_named}
-use Rattle.adj_data.specs.Faults.{Fault, or_else, stands_in, fault_at, only_number, extent_given, extents_given, with_first, entry_code, given_fault, dummy_fault, dummies_fault, words_of, words_fault}
+use Rattle.adj_names.specs.Fresh.{has_name}
+use Rattle.adj_data.specs.Faults.{Fault, or_else, fault_at, only_number, extent_given, extents_given, with_first, entry_code, given_fault, dummy_fault, dummies_fault, words_of, words_fault}
 use Rattle.adj_data.specs.Given.{slot_in, slot_given}
 use Rattle.adj_data.specs.Marked.{titles_of, entries_check}
 use Rattle.adj_data.specs.Fitting.{extents_in, IsSize, IsSized, DataFit, CheckDataFit}
@@ -81,14 +82,14 @@ only_one (z ∷ y ∷ zs) h = absurd (omega (arith, pos_same 1 (suc (suc (length
 -- ---- the store of the input
 
 -- the first cell of a dummy is that of its slot
-first_cell : (es : List Entry) (u : Procedure) (x : List ℕ) (ds : List (List ℕ)) → stands_in x ds ≡ true → entry_store words ds (map (from_slot words) (map (slot_given es u) ds)) (plain x) 0 ≡ nth_cell words (slot_given es u x).cells 0
+first_cell : (es : List Entry) (u : Procedure) (x : List ℕ) (ds : List (List ℕ)) → has_name x ds ≡ true → entry_store words ds (map (from_slot words) (map (slot_given es u) ds)) (plain x) 0 ≡ nth_cell words (slot_given es u x).cells 0
 first_cell es u x [] h = absurd cc
 first_cell es u x (d ∷ ds) h = go (name_eq x d) refl h (first_cell es u x ds)
   where
     later : Store ℤ
     later = entry_store words ds (map (from_slot words) (map (slot_given es u) ds))
 
-    go : (b : Bool) → name_eq x d ≡ b → (b || stands_in x ds) ≡ true → (stands_in x ds ≡ true → later (plain x) 0 ≡ nth_cell words (slot_given es u x).cells 0) → (if b then nth_cell words (slot_given es u d).cells 0 else later (plain x) 0) ≡ nth_cell words (slot_given es u x).cells 0
+    go : (b : Bool) → name_eq x d ≡ b → (b || has_name x ds) ≡ true → (has_name x ds ≡ true → later (plain x) 0 ≡ nth_cell words (slot_given es u x).cells 0) → (if b then nth_cell words (slot_given es u d).cells 0 else later (plain x) 0) ≡ nth_cell words (slot_given es u x).cells 0
     go true e k ih = ap (λ y. nth_cell words (slot_given es u y).cells 0) (sym (name_same x d e))
     go false e k ih = ih k
 
@@ -137,11 +138,11 @@ module _ (es : List Entry) (u : Procedure) (sized : IsSized u) (sound : dummies_
   store = input_store words u (map (slot_given es u) u.dummies)
 
   -- a dummy has no fault
-  sound_one : (x : List ℕ) (ds : List (List ℕ)) → dummies_fault es u ds ≡ None → stands_in x ds ≡ true → dummy_fault es u x ≡ None
+  sound_one : (x : List ℕ) (ds : List (List ℕ)) → dummies_fault es u ds ≡ None → has_name x ds ≡ true → dummy_fault es u x ≡ None
   sound_one x [] h k = absurd cc
   sound_one x (d ∷ ds) h k = go (name_eq x d) refl k (neither (dummy_fault es u d) (dummies_fault es u ds) h) (sound_one x ds)
     where
-      go : (b : Bool) → name_eq x d ≡ b → (b || stands_in x ds) ≡ true → (dummy_fault es u d ≡ None) × (dummies_fault es u ds ≡ None) → (dummies_fault es u ds ≡ None → stands_in x ds ≡ true → dummy_fault es u x ≡ None) → dummy_fault es u x ≡ None
+      go : (b : Bool) → name_eq x d ≡ b → (b || has_name x ds) ≡ true → (dummy_fault es u d ≡ None) × (dummies_fault es u ds ≡ None) → (dummies_fault es u ds ≡ None → has_name x ds ≡ true → dummy_fault es u x ≡ None) → dummy_fault es u x ≡ None
       go true e k both ih = ap (dummy_fault es u) (name_same x d e) ∙ both.0
       go false e k both ih = ih both.1 k
 

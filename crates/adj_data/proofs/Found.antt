@@ -8,7 +8,8 @@ use Rattle.adj_tree.specs.Code.{name_eq}
 use Rattle.adj_meaning.proofs.Booleans.{or_false}
 use Rattle.adj_data.specs.declared.entries.Entry.{Entry as CodeEntry}
 use Rattle.adj_data.specs.Entries.{Entry, entry_named, with_number}
-use Rattle.adj_data.specs.Faults.{stands_in, name_code}
+use Rattle.adj_names.specs.Fresh.{has_name}
+use Rattle.adj_data.specs.Faults.{name_code}
 use Rattle.adj_data.specs.Given.{entry_seen}
 
 pub names_seen : (es : List CodeEntry) → map (λ e. e.name) (map entry_seen es) ≡ map (λ e. e.name.items) es
@@ -33,13 +34,13 @@ with_last z (f ∷ g ∷ es) (suc i) d e len h = ap (λ vs. entry_seen f ∷ vs)
 -- ---- names of entries
 
 -- whether a name stands among those of some entries
-pub stands_seen : (x : List ℕ) (es : List CodeEntry) (names : List (List ℕ)) (seen : List Entry) → names ≡ map (λ e. e.name.items) es → map entry_seen es ≡ seen → stands_in x (map (λ e. e.name) seen) ≡ stands_in x names
-stands_seen x es names seen h v = ap (λ s. stands_in x (map (λ e. e.name) s)) (sym v) ∙ ap (stands_in x) (names_seen es ∙ sym h)
+pub stands_seen : (x : List ℕ) (es : List CodeEntry) (names : List (List ℕ)) (seen : List Entry) → names ≡ map (λ e. e.name.items) es → map entry_seen es ≡ seen → has_name x (map (λ e. e.name) seen) ≡ has_name x names
+stands_seen x es names seen h v = ap (λ s. has_name x (map (λ e. e.name) s)) (sym v) ∙ ap (has_name x) (names_seen es ∙ sym h)
 
-pub absent : (x : List ℕ) (es : List Entry) → stands_in x (map (λ e. e.name) es) ≡ false → entry_named x es ≡ None
+pub absent : (x : List ℕ) (es : List Entry) → has_name x (map (λ e. e.name) es) ≡ false → entry_named x es ≡ None
 absent x [] h = refl
 absent x (e ∷ es) h =
-    let t = or_false (name_eq x e.name) (stands_in x (map (λ e. e.name) es)) h in
+    let t = or_false (name_eq x e.name) (has_name x (map (λ e. e.name) es)) h in
     ap (λ b. if b then Some e else entry_named x es) t.0 ∙ absent x es t.1
 
 -- the entry at the place of its name
@@ -55,11 +56,11 @@ placed x es names i d h p =
     other k l = (position-Some (name_eq x) (map (λ e. e.name.items) es) i ((λ (e : CodeEntry). e.name.items) d) (ap (position (name_eq x)) (sym h) ∙ p)).2 k l
 
 -- what is wrong with a name that isn't new, or is
-pub name_twice : (dummies : List (List ℕ)) (before : List Entry) (x : List ℕ) → stands_in x dummies ≡ true → stands_in x (map (λ e. e.name) before) ≡ true → name_code dummies before x ≡ Some 3
-name_twice dummies before x e f = ap (λ t. if not t then Some 2 else (if stands_in x (map (λ e. e.name) before) then Some 3 else None)) e ∙ ap (λ t. if t then Some 3 else None) f
+pub name_twice : (dummies : List (List ℕ)) (before : List Entry) (x : List ℕ) → has_name x dummies ≡ true → has_name x (map (λ e. e.name) before) ≡ true → name_code dummies before x ≡ Some 3
+name_twice dummies before x e f = ap (λ t. if not t then Some 2 else (if has_name x (map (λ e. e.name) before) then Some 3 else None)) e ∙ ap (λ t. if t then Some 3 else None) f
 
-pub name_new : (dummies : List (List ℕ)) (before : List Entry) (x : List ℕ) → stands_in x dummies ≡ true → stands_in x (map (λ e. e.name) before) ≡ false → name_code dummies before x ≡ None
-name_new dummies before x e f = ap (λ t. if not t then Some 2 else (if stands_in x (map (λ e. e.name) before) then Some 3 else None)) e ∙ ap (λ t. if t then Some 3 else None) f
+pub name_new : (dummies : List (List ℕ)) (before : List Entry) (x : List ℕ) → has_name x dummies ≡ true → has_name x (map (λ e. e.name) before) ≡ false → name_code dummies before x ≡ None
+name_new dummies before x e f = ap (λ t. if not t then Some 2 else (if has_name x (map (λ e. e.name) before) then Some 3 else None)) e ∙ ap (λ t. if t then Some 3 else None) f
 
 -- a number that was found in range is the word's
 pub number_kept : (z n : ℤ) (b : Bool) → Some n ≡ (if b then Some z else None) → n ≡ z

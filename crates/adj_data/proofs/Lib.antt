@@ -1,4 +1,3 @@
-mod NameSets
 mod Cutting
 mod Entering
 mod Found

@@ -1,10 +1,10 @@
 -- Faults of data: each has a code and a line. (docs/DATA.md, "Faults")
 use Rattle.std.specs.Prelude.{ℕ, ℤ, pos, negsuc, int_le, Bool, false, not, ◌&&◌, List, [], ◌∷◌, ◌++◌, map, length, Option, Some, None, if◌then◌else◌}
-use Rattle.std.specs.List.{list_any}
 use Rattle.std.specs.Ordering.{int_eq}
-use Rattle.adj_tree.specs.Code.{plain, name_eq, Extent, fixed, given, Procedure}
+use Rattle.adj_tree.specs.Code.{plain, Extent, fixed, given, Procedure}
 use Rattle.adj_text.specs.Line.{cut_lines}
 use Rattle.adj_meaning.specs.Units.{declared, are_extents, elements}
+use Rattle.adj_names.specs.Fresh.{has_name}
 use Rattle.adj_data.specs.Words.{Item, items_of, name_of, is_number, number_in}
 use Rattle.adj_data.specs.Entries.{Entry, entries_of, entry_named, with_word}
 
@@ -20,9 +20,6 @@ or_else None other = other
 
 -- ---- faults of words
 
-abbrev pub stands_in : List ℕ → List (List ℕ) → Bool
-stands_in x names = list_any (name_eq x) names
-
 abbrev pub in_range : ℤ → Bool
 in_range z = int_le (negsuc 9223372036854775807) z && int_le z (pos 9223372036854775807)
 
@@ -34,8 +31,8 @@ number_code (e ∷ es) w = if in_range (number_in w) then None else Some 6
 -- what is wrong with a name: 2 where it isn't a dummy, 3 where it was given before
 abbrev pub name_code : List (List ℕ) → List Entry → List ℕ → Option ℕ
 name_code dummies before x =
-    if not (stands_in x dummies) then Some 2
-    else (if stands_in x (map (λ e. e.name) before) then Some 3 else None)
+    if not (has_name x dummies) then Some 2
+    else (if has_name x (map (λ e. e.name) before) then Some 3 else None)
 
 -- what is wrong with a word, where the words before it made some entries: 1 for a name that doesn't lead its line, and for what is neither a name nor a number
 abbrev pub word_code : List (List ℕ) → List Entry → Item → Option ℕ

@@ -4,7 +4,8 @@ use Rattle.std.specs.List.{All}
 use Rattle.adj_tree.specs.Code.{plain, Extent, fixed, given, Procedure}
 use Rattle.adj_meaning.specs.Numbers.{words}
 use Rattle.adj_meaning.specs.Units.{declared, fits}
-use Rattle.adj_data.specs.Faults.{stands_in, data_fault}
+use Rattle.adj_names.specs.Fresh.{has_name}
+use Rattle.adj_data.specs.Faults.{data_fault}
 use Rattle.adj_data.specs.Given.{input_given}
 use Rattle.adj_data.specs.Marked.{check_fault, inputs_given}
 
@@ -15,7 +16,7 @@ extents_in u x = declared u.declarations (plain x)
 -- an extent that is a number or a scalar dummy
 abbrev pub IsSize : Procedure → Extent → Type 0
 IsSize u (fixed z) = Unit {0}
-IsSize u (given x) = (stands_in x u.dummies ≡ true) × (extents_in u x ≡ [])
+IsSize u (given x) = (has_name x u.dummies ≡ true) × (extents_in u x ≡ [])
 
 -- each variable has at most two extents, and each of these is a number or a scalar dummy: so it is in every program that was checked
 pub record IsSized (u : Procedure) : Type 0 where

@@ -2,7 +2,7 @@
 
 ghost use Rattle.std.specs.Prelude.{◌≡◌, ℕ, List, None, length, map, IfErr, IfOk, OnOk};
 ghost use Rattle.adj_tree.specs.View.{procedure_of};
-ghost use Rattle.adj_data.specs.Faults.{stands_in};
+ghost use Rattle.adj_names.specs.Fresh.{has_name};
 ghost use Rattle.adj_data.specs.Given.{IsFirstFault, slot_seen};
 ghost use Rattle.adj_data.specs.Marked.{adjoints_given, check_fault, inputs_given, tangents_given, titles_of};
 
@@ -10,8 +10,8 @@ use crate::data_error::DataError;
 use crate::entries::{Reading, read};
 use crate::input::{set_of, slots_given};
 use crate::marks::{Marking, add_marked, marked_slots};
-use crate::name_set::NameSet;
 use crate::words::Titles;
+use adj_sets::NameSet;
 use adj_tree::{Head, Memory, Unit, Values};
 use std::alloc::Global;
 
@@ -19,7 +19,7 @@ use std::alloc::Global;
 fn titles(alloc: Global, unit: &Unit, head: &Head) -> Result<NameSet, Memory>
     requires vars { length head.now.vars ≡ length unit.now.dummies }
     requires outvars { length head.now.outvars ≡ length unit.now.dummies }
-    ensures same { IfOk result (λ set. (x : List ℕ) → stands_in x set ≡ stands_in x (titles_of (procedure_of unit.now) head.now.vars head.now.outvars)) }
+    ensures same { IfOk result (λ set. (x : List ℕ) → has_name x set ≡ has_name x (titles_of (procedure_of unit.now) head.now.vars head.now.outvars)) }
 {
     let mut set = set_of(alloc, &unit.dummies)?;
     add_marked(alloc, &mut set, &unit.dummies, &head.vars, b".D")?;

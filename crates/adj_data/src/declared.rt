@@ -5,7 +5,7 @@ ghost use Rattle.adj_tree.specs.Code.{plain};
 ghost use Rattle.adj_tree.specs.View.{extent_of, declaration_of};
 ghost use Rattle.adj_meaning.specs.Units.{declared as declared_in};
 
-use crate::name_set::NameSet;
+use adj_sets::NameSet;
 use adj_tree::{Decl, Extent, Memory, Unit};
 use std::alloc::Global;
 

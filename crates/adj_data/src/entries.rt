@@ -9,10 +9,10 @@ ghost use Rattle.adj_data.specs.Given.{IsFirstFault, entry_seen};
 ghost use Rattle.adj_data.specs.Titles.{takes_marks};
 
 use crate::data_error::DataError;
-use crate::name_set::NameSet;
 use crate::numbers::number_in;
 use crate::words::{Titles, is_number, is_title, name_of, next_word};
 use adj_fixed::{next_number, split_line, without_cr};
+use adj_sets::NameSet;
 use adj_tree::Memory;
 use std::alloc::Global;
 use std::marker::Model;

@@ -2,21 +2,22 @@
 
 ghost use Rattle.std.specs.Prelude.{◌≡◌, ℕ, List, None, map, IfErr, IfOk, OnOk};
 ghost use Rattle.adj_tree.specs.View.{procedure_of};
-ghost use Rattle.adj_data.specs.Faults.{stands_in, dummies_fault, data_fault};
+ghost use Rattle.adj_names.specs.Fresh.{has_name};
+ghost use Rattle.adj_data.specs.Faults.{dummies_fault, data_fault};
 ghost use Rattle.adj_data.specs.Given.{IsFirstFault, slot_given, input_given, slot_seen};
 
 use crate::data_error::DataError;
 use crate::declared::{extents, first_declarations};
 use crate::entries::{Entries, Reading, read};
-use crate::name_set::NameSet;
 use crate::slots::slot_given;
 use crate::words::Titles;
+use adj_sets::NameSet;
 use adj_tree::{Items, Memory, NameList, Unit, Values};
 use std::alloc::Global;
 
 /// The names as a set.
 pub(crate) fn set_of(alloc: Global, names: &NameList) -> Result<NameSet, Memory>
-    ensures same { IfOk result (λ set. (x : List ℕ) → stands_in x set ≡ stands_in x names.now) }
+    ensures same { IfOk result (λ set. (x : List ℕ) → has_name x set ≡ has_name x names.now) }
 {
     let mut set = NameSet::new(alloc);
     for name in names.as_slice() {

@@ -12,7 +12,6 @@ mod entries;
 mod input;
 mod laws;
 mod marks;
-mod name_set;
 mod numbers;
 mod print;
 mod slots;

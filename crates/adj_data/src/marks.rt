@@ -2,13 +2,13 @@
 
 ghost use Rattle.std.specs.Prelude.{◌≡◌, ◌++◌, ℕ, ℤ, pos, List, Bool, None, Some, replicate, length, map, IfErr, IfOk, OnOk, if◌then◌else◌};
 ghost use Rattle.adj_data.specs.Entries.{entry_named};
-ghost use Rattle.adj_data.specs.Faults.{stands_in};
+ghost use Rattle.adj_names.specs.Fresh.{has_name};
 ghost use Rattle.adj_data.specs.Given.{IsFirstFault, slot_seen};
 ghost use Rattle.adj_data.specs.Marked.{mark_fault, marks_fault, marked_names, marked_slot, marked_slots, filled, wanted, zeros_like};
 
 use crate::data_error::DataError;
 use crate::entries::Entries;
-use crate::name_set::NameSet;
+use adj_sets::NameSet;
 use adj_tree::{Flags, Items, Memory, NameList, Slot, Values};
 use std::alloc::Global;
 
@@ -30,7 +30,7 @@ pub(crate) fn add_marked(
     mark: &[u8],
 ) -> Result<(), Memory>
     requires { length flags.now ≡ length names.now }
-    ensures added { OnOk result ((x : List ℕ) → stands_in x set.new ≡ stands_in x (set.old ++ marked_names mark.now names.now flags.now)) }
+    ensures added { OnOk result ((x : List ℕ) → has_name x set.new ≡ has_name x (set.old ++ marked_names mark.now names.now flags.now)) }
 {
     let names = names.as_slice();
     let flags = flags.as_slice();

@@ -1,10 +1,11 @@
 -- Names added one list after another.
 use Rattle.std.proofs.Common.{◌≡◌, ℕ, Bool, true, false, List, [], ◌∷◌, ◌++◌, refl, ap, sym, ◌∙◌, if◌then◌else◌}
 use Rattle.adj_transpose.specs.Fresh.{has_name}
-use Rattle.adj_naming.specs.Sets.{with_added, all_added}
+use Rattle.adj_sets.specs.Sets.{with_added, all_added}
 use Rattle.std.specs.Prelude.{◌||◌}
 use Rattle.adj_tree.specs.Code.{name_eq}
-use Rattle.adj_naming.proofs.Added.{all_added-append, has-all_added, with_added_is, added_new}
+use Rattle.adj_sets.proofs.NameSets.{with_added_is}
+use Rattle.adj_naming.proofs.Added.{all_added-append, has-all_added, added_new}
 
 -- the names of one list and then those of another
 pub added_both : (xs ys zs : List (List ℕ)) → all_added xs (ys ++ zs) ≡ all_added (all_added xs ys) zs

@@ -5,8 +5,9 @@ use Rattle.adj_tree.specs.Code.{name_eq, Procedure}
 use Rattle.adj_transpose.specs.Fresh.{has_name, fresh}
 use Rattle.adj_kernel.specs.Kernel.{names_of}
 use Rattle.adj_kernel.specs.Stepped.{marked_in, once_each, variables_of, wanted_step, step_names}
-use Rattle.adj_naming.specs.Sets.{with_added, all_added}
-use Rattle.adj_naming.proofs.Added.{has-behind, or_comm, with_added_is, fresh_alike}
+use Rattle.adj_sets.specs.Sets.{with_added, all_added}
+use Rattle.adj_sets.proofs.NameSets.{has-behind, with_added_is}
+use Rattle.adj_naming.proofs.Added.{or_comm, fresh_alike}
 use Rattle.adj_kernels.specs.Programs.{AreAlike, taken_after}
 
 -- ---- lists with the same names

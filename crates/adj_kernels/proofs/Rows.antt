@@ -8,9 +8,9 @@ use Rattle.adj_meaning.specs.LeastSet.{row_of}
 use Rattle.adj_transpose.specs.Fresh.{has_name}
 use Rattle.adj_transpose.proofs.Variables.{or_false, has_apart, name_comm}
 use Rattle.adj_kernel.specs.Kernel.{unit_name}
-use Rattle.adj_naming.proofs.Added.{has-behind}
 use Rattle.adj_norm.specs.Handed.{flags_of, flags_at}
 use Rattle.adj_kernels.specs.Rows.{at_name}
+use Rattle.adj_sets.proofs.NameSets.{has-behind}
 use Rattle.std.proofs.lemmas.Bool.{ltb-true, ltb-false, lt-ltb, le-ltb}
 use Rattle.adj_kernels.proofs.Sources.{name_turned}
 

@@ -9,8 +9,9 @@ use Rattle.adj_transpose.specs.Fresh.{has_name}
 use Rattle.adj_transpose.specs.Program.{declaration}
 use Rattle.adj_transpose.proofs.Variables.{or_assoc, or_right, name_comm}
 use Rattle.adj_kernel.specs.Stepped.{names_extent, is_extent_of, used_among, as_actuals, step_declarations}
-use Rattle.adj_naming.specs.Sets.{with_added, all_added}
-use Rattle.adj_naming.proofs.Added.{has-behind, with_added_is, once_same}
+use Rattle.adj_sets.specs.Sets.{with_added, all_added}
+use Rattle.adj_sets.proofs.NameSets.{has-behind, with_added_is}
+use Rattle.adj_naming.proofs.Added.{once_same}
 use Rattle.adj_kernels.specs.Source.{extents_in, all_extents_in, kept_among}
 
 -- the test of names may be turned round

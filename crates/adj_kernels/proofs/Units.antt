@@ -7,8 +7,9 @@ use Rattle.adj_tree.specs.View.{extent_of, declaration_of}
 use Rattle.adj_tree.specs.declared.unit.Decl.{Decl}
 use Rattle.adj_transpose.specs.Fresh.{has_name, fresh, reserved}
 use Rattle.adj_kernel.specs.Kernel.{unit_name, names_of, wanted_local, local_names, local_of, scalar_at, taken_in}
-use Rattle.adj_naming.specs.Sets.{all_added}
-use Rattle.adj_naming.proofs.Added.{SameNames, has-behind, or_comm, once_same, fresh_alike}
+use Rattle.adj_sets.specs.Sets.{all_added}
+use Rattle.adj_sets.proofs.NameSets.{has-behind}
+use Rattle.adj_naming.proofs.Added.{SameNames, or_comm, once_same, fresh_alike}
 
 -- ---- lists with the same names
 

@@ -6,12 +6,12 @@ ghost use Rattle.adj_tree.specs.View.{procedure_of};
 ghost use Rattle.adj_meaning.specs.LeastSet.{row_of};
 ghost use Rattle.adj_meaning.specs.Written.{handed_back};
 ghost use Rattle.adj_transpose.specs.Fresh.{has_name};
-ghost use Rattle.adj_naming.specs.Sets.{with_added};
+ghost use Rattle.adj_sets.specs.Sets.{with_added};
 ghost use Rattle.adj_norm.specs.Handed.{flags_of, handed_by};
 ghost use Rattle.adj_kernels.specs.Rows.{at_name};
 
-use adj_naming::name_set::NameSet;
 use adj_norm::handed::Handed;
+use adj_sets::NameSet;
 use adj_symbols::written_dummies;
 use adj_tree::{Flags, Items, Memory, Name, Unit};
 use std::alloc::Global;

@@ -3,7 +3,7 @@
 ghost use Rattle.std.specs.Prelude.{◌≡◌, ◌++◌, IfOk, OnOk, map, [], ◌∷◌};
 ghost use Rattle.adj_tree.specs.View.{declaration_of, term_of, terms_of, test_of, runtime_of, mark_of, act_of, code_of, procedure_of};
 ghost use Rattle.adj_kernel.specs.Kernel.{names_in, names_in_all, names_in_test, names_in_runtime, names_in_mark, names_in_act, names_in_code, declared_names, names_of};
-ghost use Rattle.adj_naming.specs.Sets.{all_added};
+ghost use Rattle.adj_sets.specs.Sets.{all_added};
 
 use crate::once::Once;
 use adj_tree::{

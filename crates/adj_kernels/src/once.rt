@@ -2,9 +2,9 @@
 
 ghost use Rattle.std.specs.Prelude.{◌≡◌, List, ℕ, [], false, IfOk, OnOk};
 ghost use Rattle.adj_transpose.specs.Fresh.{has_name};
-ghost use Rattle.adj_naming.specs.Sets.{with_added};
+ghost use Rattle.adj_sets.specs.Sets.{with_added};
 
-use adj_naming::name_set::NameSet;
+use adj_sets::NameSet;
 use adj_tree::{Memory, Name};
 use std::alloc::Global;
 use std::marker::Model;

@@ -7,7 +7,7 @@ ghost use Rattle.adj_names.specs.Check.{IsSound};
 ghost use Rattle.adj_kernel.specs.Kernel.{unit_name, lowered_program};
 ghost use Rattle.adj_kernel.specs.Sound.{IsAccepted};
 ghost use Rattle.adj_kernel.specs.Stepped.{marked_in, step_names, stepped_unit, names_of_source, stepped_program, kernel_of};
-ghost use Rattle.adj_naming.specs.Sets.{all_added};
+ghost use Rattle.adj_sets.specs.Sets.{all_added};
 ghost use Rattle.adj_kernels.specs.Programs.{AreAlike};
 ghost use Rattle.adj_kernels.specs.Source.{Knows};
 
@@ -21,9 +21,9 @@ use crate::steps::add_step_units;
 use crate::unit::{copied, copied_names, lower_unit};
 use adj_naming::declared::first_declarations;
 use adj_naming::joining::{joined, with_number};
-use adj_naming::name_set::NameSet;
 use adj_naming::naming::not_free;
 use adj_naming::taken::Taken;
+use adj_sets::NameSet;
 use adj_tree::{Items, Memory, Name, Program, Stmts, Unit};
 use std::alloc::Global;
 
@@ -115,7 +115,7 @@ fn add_unit_names(alloc: Global, names: &mut Once, units: &[Unit]) -> Result<(),
 }
 
 // The names of the source: those of its units, and those of their variables.
-fn source_names(alloc: Global, units: &[Unit]) -> Result<Once, Memory>
+fn names_of_source(alloc: Global, units: &[Unit]) -> Result<Once, Memory>
     ensures names { IfOk result (λ n. n ≡ all_added [] (names_of_source (map procedure_of units.now))) }
 {
     let mut names = Once::new(alloc);
@@ -130,7 +130,7 @@ fn source_names(alloc: Global, units: &[Unit]) -> Result<Once, Memory>
 pub fn stepped(alloc: Global, units: &[Unit]) -> Result<Vec<Unit>, Memory>
     ensures stepped { IfOk result (λ v. map procedure_of v.items ≡ stepped_program (map procedure_of units.now)) }
 {
-    let known = source_names(alloc, units)?;
+    let known = names_of_source(alloc, units)?;
     let nothing = NameSet::new(alloc);
     let mut taken = Taken::new(alloc, &nothing, known.as_slice())?;
     let mut made = Vec::new(alloc);

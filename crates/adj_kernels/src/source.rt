@@ -6,7 +6,7 @@ ghost use Rattle.adj_tree.specs.View.{extent_of, declaration_of, code_of, terms_
 ghost use Rattle.adj_transpose.specs.Fresh.{has_name};
 ghost use Rattle.adj_kernel.specs.Kernel.{names_in_code};
 ghost use Rattle.adj_kernel.specs.Stepped.{used_among, step_dummies, as_actuals, step_declarations};
-ghost use Rattle.adj_naming.specs.Sets.{all_added};
+ghost use Rattle.adj_sets.specs.Sets.{all_added};
 ghost use Rattle.adj_kernels.specs.Source.{extents_in, all_extents_in, kept_among, Declares, Knows};
 
 use crate::names::add_code;

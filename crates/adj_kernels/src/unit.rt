@@ -6,15 +6,15 @@ ghost use Rattle.adj_tree.specs.View.{declaration_of, procedure_of};
 ghost use Rattle.adj_meaning.specs.Written.{handed_back};
 ghost use Rattle.adj_transpose.specs.Fresh.{reserved};
 ghost use Rattle.adj_kernel.specs.Kernel.{unit_name, scalar_at, local_names, local_of, lowered_unit};
-ghost use Rattle.adj_naming.specs.Sets.{all_added};
+ghost use Rattle.adj_sets.specs.Sets.{all_added};
 ghost use Rattle.adj_norm.specs.Handed.{handed_by};
 ghost use Rattle.adj_norm.specs.Locals.{local_by};
 
 use crate::names::unit_names;
-use adj_naming::name_set::NameSet;
 use adj_norm::handed::Handed;
 use adj_norm::locals::Locals;
 use adj_norm::statement::lower;
+use adj_sets::NameSet;
 use adj_tree::{Decl, Items, Memory, Name, Unit};
 use std::alloc::Global;
 

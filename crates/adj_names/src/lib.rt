@@ -11,5 +11,5 @@ mod reserved;
 mod worked;
 
 pub use laws::{fault_laws, fresh_laws, variable_laws};
-pub use reserved::{is_reserved, is_runtime};
+pub use reserved::{intrinsic_names, is_reserved, is_runtime, runtime_names};
 pub use worked::{call_examples, name_examples, standing_examples};

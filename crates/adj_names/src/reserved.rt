@@ -18,18 +18,18 @@ fn is_among(texts: &[&[u8]], name: &Name) -> bool
     false
 }
 
-fn is_intrinsic(name: &Name) -> bool
-    ensures { result ≡ has_name name.now intrinsics }
+/// The names of intrinsics.
+pub fn intrinsic_names() -> [&'static [u8]; 7]
+    ensures names { map (λ t. t.now) result ≡ intrinsics }
 {
-    let texts: [&[u8]; 7] = [b"ABS", b"IABS", b"MAX", b"MAX0", b"MIN", b"MIN0", b"MOD"];
-    is_among(&texts, name)
+    [b"ABS", b"IABS", b"MAX", b"MAX0", b"MIN", b"MIN0", b"MOD"]
 }
 
-/// Whether a call of the runtime has the name.
-pub fn is_runtime(name: &Name) -> bool
-    ensures runtime { result ≡ is_runtime name.now }
+/// The names of calls of the runtime.
+pub fn runtime_names() -> [&'static [u8]; 11]
+    ensures names { map (λ t. t.now) result ≡ runtime_names }
 {
-    let texts: [&[u8]; 11] = [
+    [
         b"PUSHINTEGER8",
         b"POPINTEGER8",
         b"PUSHINTEGER8ARRAY",
@@ -41,8 +41,20 @@ pub fn is_runtime(name: &Name) -> bool
         b"ADEND",
         b"ADACTN",
         b"ADACT",
-    ];
-    is_among(&texts, name)
+    ]
+}
+
+fn is_intrinsic(name: &Name) -> bool
+    ensures { result ≡ has_name name.now intrinsics }
+{
+    is_among(&intrinsic_names(), name)
+}
+
+/// Whether a call of the runtime has the name.
+pub fn is_runtime(name: &Name) -> bool
+    ensures runtime { result ≡ is_runtime name.now }
+{
+    is_among(&runtime_names(), name)
 }
 
 /// Whether an intrinsic or a call of the runtime has the name.

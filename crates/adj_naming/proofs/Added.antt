@@ -7,11 +7,8 @@ use Rattle.adj_transpose.specs.Fresh.{has_name, candidate, first_free, fresh}
 use Rattle.adj_transpose.specs.Naming.{AreApart, Named, named, wanted}
 use Rattle.adj_transpose.proofs.Variables.{or_assoc, or_right, or_false, not_true}
 use Rattle.adj_transpose.proofs.Fresh.{fresh-is_free}
-use Rattle.adj_naming.specs.Sets.{with_added, all_added}
-
-pub has-behind : (x : List ℕ) (xs ys : List (List ℕ)) → has_name x (xs ++ ys) ≡ (has_name x xs || has_name x ys)
-has-behind x [] ys = refl
-has-behind x (y ∷ xs) ys = ap (λ b. name_eq x y || b) (has-behind x xs ys) ∙ sym (or_assoc (name_eq x y) (has_name x xs) (has_name x ys))
+use Rattle.adj_sets.specs.Sets.{with_added, all_added}
+use Rattle.adj_sets.proofs.NameSets.{has-behind, with_added_is}
 
 or_false_right : (a : Bool) → (a || false) ≡ a
 or_false_right true = refl
@@ -20,10 +17,6 @@ or_false_right false = refl
 pub or_comm : (a b : Bool) → (a || b) ≡ (b || a)
 or_comm true b = sym (or_right b true refl)
 or_comm false b = sym (or_false_right b)
-
-pub with_added_is : (x : List ℕ) (xs : List (List ℕ)) → with_added x xs ≡ (if has_name x xs then xs else xs ++ x ∷ [])
-unfolding with_added
-with_added_is x xs = refl
 
 pub added_new : (x : List ℕ) (xs : List (List ℕ)) → has_name x xs ≡ false → with_added x xs ≡ xs ++ x ∷ []
 added_new x xs h = with_added_is x xs ∙ ap (λ b. if b then xs else xs ++ x ∷ []) h

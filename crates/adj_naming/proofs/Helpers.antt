@@ -8,7 +8,7 @@ use Rattle.adj_transpose.proofs.Variables.{or_false, or_assoc, var_comm}
 use Rattle.adj_naming.specs.declared.role.Helper.{Helper}
 use Rattle.adj_naming.specs.Roles.{role_of, variable_of}
 use Rattle.adj_naming.specs.declared.role.Role.{Role}
-use Rattle.adj_naming.specs.declared.role.Role.TheVariants.{Work, Temp, Control, First, Stride, Count, Turn, Entry, Entries, Kind, Lower, Upper}
+use Rattle.adj_naming.specs.declared.role.Role.TheVariants.{Work, Temp, Control, First, Stride, Count, Turn, Entry, Entries, Kind, Lower, Upper, Slots}
 use Rattle.adj_naming.specs.Sets.{has_variable, AreDifferent}
 use Rattle.adj_naming.specs.contracts.role.RolePartialEq.TheImpl.{eq-value as role_eq}
 use Rattle.adj_naming.specs.contracts.role.HelperPartialEq.TheImpl.{eq-value as helper_eq}
@@ -28,6 +28,7 @@ role_same Entries Entries = refl
 role_same Kind Kind = refl
 role_same Lower Lower = refl
 role_same Upper Upper = refl
+role_same Slots Slots = refl
 role_same a b = refl
 
 -- helpers are the same where their variables are

@@ -1,5 +1,4 @@
 -- Lemmas about names, helpers and sets of them.
-pub mod NameSets
 pub mod Different
 pub mod Helpers
 pub mod Added

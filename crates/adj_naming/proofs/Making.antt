@@ -4,10 +4,11 @@ use Rattle.std.specs.Prelude.{◌||◌}
 use Rattle.adj_tree.specs.Code.{Var}
 use Rattle.adj_transpose.specs.Fresh.{has_name, fresh, reserved}
 use Rattle.adj_transpose.specs.Naming.{Named, own, named, wanted, unit_names}
-use Rattle.adj_naming.specs.Sets.{all_added}
+use Rattle.adj_sets.specs.Sets.{all_added}
 use Rattle.adj_naming.specs.Table.{paired}
 use Rattle.adj_naming.proofs.Places.{from_here}
-use Rattle.adj_naming.proofs.Added.{SameNames, named_alike, has-behind, has-all_added, or_comm}
+use Rattle.adj_sets.proofs.NameSets.{has-behind}
+use Rattle.adj_naming.proofs.Added.{SameNames, named_alike, has-all_added, or_comm}
 
 pub paired-empty : (vs : List Var) → paired vs [] ≡ []
 paired-empty [] = refl

@@ -2,7 +2,7 @@
 use Rattle.adj_tree.specs.Code as code
 use Rattle.adj_tree.specs.Code.{Var}
 use Rattle.adj_naming.specs.declared.role.Role.{Role}
-use Rattle.adj_naming.specs.declared.role.Role.TheVariants.{Work, Temp, Control, First, Stride, Count, Turn, Entry, Entries, Kind, Lower, Upper}
+use Rattle.adj_naming.specs.declared.role.Role.TheVariants.{Work, Temp, Control, First, Stride, Count, Turn, Entry, Entries, Kind, Lower, Upper, Slots}
 use Rattle.adj_naming.specs.declared.role.Helper.{Helper}
 
 -- what a helper is for
@@ -19,6 +19,7 @@ role_of Entries = code.entries
 role_of Kind = code.kind
 role_of Lower = code.lower
 role_of Upper = code.upper
+role_of Slots = code.slots
 
 -- the helper as a variable
 abbrev pub variable_of : Helper → Var

@@ -1,7 +1,7 @@
 //! The names in an emitted unit.
 //!
 //! `role` says what the variables are for that a unit brings in, `naming` gives it and the shadows their names, and `names`
-//! looks them up; `name_set`, `taken`, `helper_set` and `declared` are the tables for that. Each clause says that the result is
+//! looks them up; `taken`, `helper_set` and `declared` are the tables for that. Each clause says that the result is
 //! that of the emission's definitions (`adj_transpose/specs/Naming.antt` and `Fresh.antt`), unless memory runs out.
 //! The crate stands on those definitions; the layers above emit under the names of a `Names`.
 #![tactic(auto)]
@@ -9,7 +9,6 @@
 pub mod declared;
 pub mod helper_set;
 pub mod joining;
-pub mod name_set;
 pub mod names;
 pub mod naming;
 pub mod role;

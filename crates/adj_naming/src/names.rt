@@ -7,8 +7,8 @@ ghost use Rattle.adj_naming.specs.Roles.{variable_of};
 
 use crate::helper_set::HelperSet;
 use crate::joining::joined;
-use crate::name_set::NameSet;
 use crate::role::{Helper, Role};
+use adj_sets::NameSet;
 use adj_tree::{Memory, Name, NameList};
 use std::alloc::Global;
 

@@ -5,15 +5,17 @@ ghost use Rattle.adj_tree.specs.Code.{Var, shadow};
 ghost use Rattle.adj_transpose.specs.Fresh.{reserved};
 ghost use Rattle.adj_transpose.specs.Naming.{AreApart, named, unit_names};
 ghost use Rattle.adj_naming.specs.Roles.{variable_of};
-ghost use Rattle.adj_naming.specs.Sets.{all_added, AreDifferent};
+ghost use Rattle.adj_sets.specs.Sets.{all_added};
+ghost use Rattle.adj_naming.specs.Sets.{AreDifferent};
 ghost use Rattle.adj_naming.specs.Table.{paired, table_of};
 
 use crate::helper_set::helper_set;
 use crate::joining::joined;
-use crate::name_set::{NameSet, add_names, add_texts};
 use crate::names::Names;
 use crate::role::Helper;
 use crate::taken::Taken;
+use adj_names::{intrinsic_names, runtime_names};
+use adj_sets::{NameSet, add_names, add_texts};
 use adj_tree::{Items, Memory, Name};
 use std::alloc::Global;
 
@@ -21,27 +23,8 @@ use std::alloc::Global;
 fn add_reserved(alloc: Global, set: &mut NameSet) -> Result<(), Memory>
     ensures added { OnOk result (set.new ≡ all_added set.old reserved) }
 {
-    let texts: [&[u8]; 18] = [
-        b"ABS",
-        b"IABS",
-        b"MAX",
-        b"MAX0",
-        b"MIN",
-        b"MIN0",
-        b"MOD",
-        b"PUSHINTEGER8",
-        b"POPINTEGER8",
-        b"PUSHINTEGER8ARRAY",
-        b"POPINTEGER8ARRAY",
-        b"PUSHCONTROL1B",
-        b"POPCONTROL1B",
-        b"ADZERO8",
-        b"ADBEG",
-        b"ADEND",
-        b"ADACTN",
-        b"ADACT",
-    ];
-    add_texts(alloc, set, &texts)?;
+    add_texts(alloc, set, &intrinsic_names())?;
+    add_texts(alloc, set, &runtime_names())?;
     Ok(())
 }
 

@@ -37,6 +37,8 @@ pub enum Role {
     Lower,
     /// The upper of an action's two places: `ADT1`, `ADT2`, ..
     Upper,
+    /// A reversal's number of snapshots, where a variable gives it: `ADS1`, `ADS2`, ..
+    Slots,
 }
 
 /// One of these variables: what it is for, and its number.
@@ -64,6 +66,7 @@ impl Role {
             Role::Kind => 9,
             Role::Lower => 10,
             Role::Upper => 11,
+            Role::Slots => 12,
         }
     }
 
@@ -84,6 +87,7 @@ impl Role {
             Role::Kind => b"ADA",
             Role::Lower => b"ADF",
             Role::Upper => b"ADT",
+            Role::Slots => b"ADS",
         }
     }
 }

@@ -2,10 +2,10 @@
 
 ghost use Rattle.std.specs.Prelude.{◌≡◌, ◌++◌, ◌∷◌, [], List, ℕ, length, IfOk};
 ghost use Rattle.adj_transpose.specs.Fresh.{has_name, fresh};
-ghost use Rattle.adj_naming.specs.Sets.{all_added};
+ghost use Rattle.adj_sets.specs.Sets.{all_added};
 
 use crate::joining::candidate;
-use crate::name_set::{NameSet, add_names};
+use adj_sets::{NameSet, add_names};
 use adj_tree::{Memory, Name};
 use std::alloc::Global;
 use std::marker::Model;

@@ -5,7 +5,7 @@ use Rattle.adj_tree.specs.Code.{Var, plain, name_eq, var_eq, Term, Terms, more}
 use Rattle.adj_transpose.specs.Fresh.{has_name}
 use Rattle.adj_meaning.specs.Append.{◌+++◌}
 use Rattle.adj_kernel.specs.Lowered.{locals_in, before, reduced, reduced_all, before_all, is_among}
-use Rattle.adj_naming.specs.Sets.{with_added}
+use Rattle.adj_sets.specs.Sets.{with_added}
 use Rattle.adj_naming.proofs.Added.{has-all_added}
 use Rattle.adj_norm.specs.Passings.{HasNamesOf}
 

@@ -15,7 +15,7 @@ use crate::locals::Locals;
 use crate::passing::{Passed, pass, passed_as};
 use crate::step::write;
 use crate::target::put_before;
-use adj_naming::name_set::NameSet;
+use adj_sets::NameSet;
 use adj_tree::{Act, Expr, Exprs, Memory, Name, Stmt};
 use std::alloc::Global;
 

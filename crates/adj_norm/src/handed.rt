@@ -3,7 +3,7 @@
 ghost use Rattle.std.specs.Prelude.{◌≡◌};
 ghost use Rattle.adj_norm.specs.Handed.{flags_of};
 
-use adj_naming::name_set::NameSet;
+use adj_sets::NameSet;
 use adj_tree::{Flags, Name};
 
 /// A row of flags for each unit, in the order of their names. A unit that isn't there has none.

@@ -3,8 +3,8 @@
 ghost use Rattle.adj_norm.specs.Made.{AreMade};
 
 use adj_naming::joining::with_number;
-use adj_naming::name_set::NameSet;
 use adj_naming::taken::Taken;
+use adj_sets::NameSet;
 use adj_tree::{Memory, Name};
 use std::alloc::Global;
 use std::mem;
@@ -23,7 +23,7 @@ impl<'a> Locals<'a> {
     ghost use Rattle.std.specs.Prelude.{◌≡◌, ◌+◌, ◌++◌, [], IfOk, OnOk, vec_len};
     ghost use Rattle.adj_tree.specs.Code.{plain};
     ghost use Rattle.adj_kernel.specs.Kernel.{local_of};
-    ghost use Rattle.adj_naming.specs.Sets.{all_added};
+    ghost use Rattle.adj_sets.specs.Sets.{all_added};
     ghost use Rattle.adj_norm.specs.Locals.{local_by};
 
     /// Locals that may not have the names of a set, nor those of the unit's variables.

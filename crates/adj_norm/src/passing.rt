@@ -13,7 +13,7 @@ ghost use Rattle.adj_norm.specs.Steps.{Writes};
 use crate::locals::Locals;
 use crate::step::{assign, plus, set};
 use crate::target::{hold, put_before};
-use adj_naming::name_set::NameSet;
+use adj_sets::NameSet;
 use adj_tree::{Expr, Exprs, Memory, Name, Stmt};
 use std::alloc::Global;
 

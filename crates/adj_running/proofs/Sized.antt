@@ -1,21 +1,20 @@
 -- In a checked program the extents of each unit are numbers and scalar dummies, at most two to a variable.
 use Rattle.std.proofs.Common.{◌≡◌, ℕ, zero, suc, ◌≤◌, Bool, true, false, List, [], ◌∷◌, ◌++◌, length, refl, sym, ap, subst, ◌∙◌, arith, Some, None, if◌then◌else◌}
-use Rattle.std.specs.Prelude.{ℤ, ◌==◌, ◌&&◌, ◌||◌, not}
+use Rattle.std.specs.Prelude.{ℤ, ◌==◌, ◌&&◌, not}
 use Rattle.std.specs.List.{All, list_any, flat_map, slice_get}
 use Rattle.std.proofs.lemmas.List.Elements.{All-cons}
-use Rattle.adj_tree.specs.Code.{plain, name_eq, var_eq, Extent, fixed, given, Declaration, Procedure}
+use Rattle.adj_tree.specs.Code.{plain, var_eq, Extent, fixed, given, Declaration, Procedure}
 use Rattle.adj_tree.specs.declared.fault.Refusal.{Refusal}
 use Rattle.adj_text.specs.Written.{IsWritten, IsWrittenDeclaration, IsWrittenProcedure}
 use Rattle.adj_meaning.specs.Numbers.{words}
 use Rattle.adj_meaning.specs.Units.{Slot, declared, fits}
 use Rattle.adj_meaning.proofs.Booleans.{and_true, or_false}
-use Rattle.adj_names.specs.Fresh.{has_name}
 use Rattle.adj_names.specs.Fault.{run_rules, fault, faults_if}
 use Rattle.adj_names.specs.NameFaults.{undeclared, declared_twice, misused, bad_extents, faults_of_names, is_bad_extent, has_bad_extents}
 use Rattle.adj_names.specs.Variables.{is_dummy, is_scalar}
 use Rattle.adj_names.specs.Check.{IsSound}
 use Rattle.adj_names.proofs.Sound.{sound_has_none}
-use Rattle.adj_data.specs.Faults.{stands_in, data_fault}
+use Rattle.adj_data.specs.Faults.{data_fault}
 use Rattle.adj_data.specs.Fitting.{extents_in, IsSize, IsSized}
 use Rattle.adj_data.specs.Given.{input_given}
 use Rattle.adj_data.proofs.Fitted.{data_fit}
@@ -42,10 +41,6 @@ none_if false r h = refl
 
 -- ---- extents
 
-stands_has : (x : List ℕ) (names : List (List ℕ)) → stands_in x names ≡ has_name x names
-stands_has x [] = refl
-stands_has x (y ∷ ys) = ap (λ b. name_eq x y || b) (stands_has x ys)
-
 is_none : {X : Type 0} (xs : List X) → (length xs == 0) ≡ true → xs ≡ []
 is_none [] h = refl
 is_none (x ∷ xs) h = absurd (let k : suc (length xs) ≡ 0 = grind arith in omega (arith, k))
@@ -58,7 +53,7 @@ size : (u : Procedure) (e : Extent) → is_bad_extent u e ≡ false → IsSize u
 size u (fixed z) h = tt
 size u (given x) h =
     let both = and_true (is_dummy u x) (is_scalar u x) (not_false (is_dummy u x && is_scalar u x) h) in
-    (stands_has x u.dummies ∙ both.0, is_none (extents_in u x) both.1)
+    (both.0, is_none (extents_in u x) both.1)
 
 all_sizes : (u : Procedure) (es : List Extent) → list_any (is_bad_extent u) es ≡ false → All (IsSize u) es
 all_sizes u [] h = λ k d lt. absurd (omega arith)

@@ -8,7 +8,7 @@ use Rattle.adj_meaning.specs.Written.{is_place_of}
 use Rattle.adj_names.specs.Fresh.{has_name}
 use Rattle.adj_names.specs.Variables.{Name}
 use Rattle.adj_names.specs.WriteFaults.{named_by, is_named_by, name_one, is_whole_array, clash, clashes, have_clash, hands_back_values}
-use Rattle.adj_symbols.specs.Table.{with_name}
+use Rattle.adj_sets.specs.Sets.{with_name}
 use Rattle.adj_symbols.specs.Sharing.{Named, and_named, is_met, Tests, holds, tests_of, and_actual, meets_one, meets, some_meets}
 use Rattle.adj_symbols.proofs.Repeats.{with_name-has}
 

@@ -5,7 +5,7 @@ use Rattle.adj_tree.specs.Code.{name_eq}
 use Rattle.adj_names.specs.Fresh.{has_name}
 use Rattle.adj_names.specs.Statements.{At}
 use Rattle.adj_names.specs.Variables.{Name, first_places}
-use Rattle.adj_symbols.specs.Table.{with_name}
+use Rattle.adj_sets.specs.Sets.{with_name}
 use Rattle.adj_symbols.proofs.Repeats.{with_name-has}
 use Rattle.adj_symbols.proofs.Scopes.{name_comm}
 

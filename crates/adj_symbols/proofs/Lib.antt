@@ -1,4 +1,3 @@
-pub mod Tables
 pub mod Repeats
 pub mod Outlines
 pub mod Onces

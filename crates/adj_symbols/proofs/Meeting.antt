@@ -13,7 +13,7 @@ use Rattle.adj_names.specs.Fresh.{has_name}
 use Rattle.adj_names.specs.NameFaults.{extent_names}
 use Rattle.adj_names.specs.Variables.{Name, is_dummy}
 use Rattle.adj_names.specs.WriteFaults.{may_write}
-use Rattle.adj_symbols.specs.Table.{with_name}
+use Rattle.adj_sets.specs.Sets.{with_name}
 use Rattle.adj_symbols.specs.View.{names_at}
 use Rattle.adj_symbols.specs.Writes.{written_names, writes_one}
 use Rattle.adj_symbols.proofs.Repeats.{with_name-has}

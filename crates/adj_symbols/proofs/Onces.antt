@@ -6,7 +6,8 @@ use Rattle.adj_tree.proofs.Names.{name_same, name_refl}
 use Rattle.adj_names.specs.Fresh.{has_name}
 use Rattle.adj_names.specs.Statements.{At}
 use Rattle.adj_names.specs.Variables.{Name, first_places}
-use Rattle.adj_symbols.specs.Table.{with_name, once}
+use Rattle.adj_sets.specs.Sets.{with_name}
+use Rattle.adj_symbols.specs.Table.{once}
 use Rattle.adj_symbols.specs.View.{names_at}
 use Rattle.adj_symbols.proofs.Repeats.{has_behind}
 

@@ -6,7 +6,8 @@ use Rattle.adj_meaning.specs.Units.{declared}
 use Rattle.adj_names.specs.Fresh.{has_name}
 use Rattle.adj_names.specs.Variables.{Name, declared_names, rank}
 use Rattle.adj_symbols.specs.Outline.{declared_rank}
-use Rattle.adj_symbols.specs.Table.{with_name, once}
+use Rattle.adj_sets.specs.Sets.{with_name}
+use Rattle.adj_symbols.specs.Table.{once}
 use Rattle.adj_symbols.proofs.Repeats.{with_name-has}
 
 -- the rank of a variable is the number of extents that it is first declared with

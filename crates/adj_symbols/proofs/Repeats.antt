@@ -10,7 +10,7 @@ use Rattle.adj_names.specs.Statements.{At}
 use Rattle.adj_names.specs.Variables.{Name}
 use Rattle.adj_names.specs.Fault.{fault, faults_if, again, first_of, sooner}
 use Rattle.adj_names.proofs.Order.{sooner-append}
-use Rattle.adj_symbols.specs.Table.{with_name}
+use Rattle.adj_sets.specs.Sets.{with_name}
 use Rattle.adj_symbols.specs.View.{places_of, names_at}
 use Rattle.adj_symbols.specs.declared.places.Placed.{Placed}
 

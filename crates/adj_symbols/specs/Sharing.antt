@@ -5,7 +5,7 @@ use Rattle.adj_meaning.specs.Written.{is_place_of}
 use Rattle.adj_names.specs.Fresh.{has_name}
 use Rattle.adj_names.specs.Variables.{Name}
 use Rattle.adj_names.specs.WriteFaults.{named_by, is_whole_array}
-use Rattle.adj_symbols.specs.Table.{with_name}
+use Rattle.adj_sets.specs.Sets.{with_name}
 
 -- the variables that are named so far, for dummies that are written, and as whole arrays
 pub record Named : Type 0 where

@@ -24,7 +24,6 @@ mod rules;
 mod scope;
 mod sharing;
 mod standing;
-mod table;
 mod unit_names;
 mod write_faults;
 mod written;

@@ -11,8 +11,8 @@ ghost use Rattle.adj_symbols.specs.Writes.{writes_one};
 use crate::first::First;
 use crate::outline::Outline;
 use crate::scope::Scope;
-use crate::table::NameSet;
 use crate::written::{Written, writes_one};
+use adj_sets::BorrowedNames;
 use adj_tree::{Act, Memory, Stmts};
 use std::alloc::Global;
 
@@ -23,7 +23,7 @@ fn add_inner<'a>(
     scope: &Scope<'_>,
     written: &Written,
     act: &'a Act,
-    opened: &mut NameSet<'a>,
+    opened: &mut BorrowedNames<'a>,
     first: &mut First,
 ) -> Result<(), Memory>
     ensures opened { OnOk result (opened.new ≡ opened.old) }
@@ -53,7 +53,7 @@ fn add_list<'a>(
     scope: &Scope<'_>,
     written: &Written,
     list: &'a Stmts,
-    opened: &mut NameSet<'a>,
+    opened: &mut BorrowedNames<'a>,
     first: &mut First,
 ) -> Result<(), Memory>
     ensures opened { OnOk result (opened.new ≡ opened.old) }
@@ -79,7 +79,7 @@ pub(crate) fn add_written_variables(
 ) -> Result<(), Memory>
     ensures { OnOk result (first.new ≡ sooner first.old (first_of (written_variables (row_of (map procedure_of scope.now) written.now) (procedure_of outline.now)))) }
 {
-    let mut opened = NameSet::new(alloc);
+    let mut opened = BorrowedNames::new(alloc);
     add_list(
         alloc,
         scope,

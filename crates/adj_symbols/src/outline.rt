@@ -13,7 +13,7 @@ ghost use Rattle.adj_writes.specs.View.{seen};
 ghost use Rattle.adj_symbols.specs.Outline.{declared_rank, AreTables};
 ghost use Rattle.adj_symbols.specs.Table.{once};
 
-use crate::table::NameSet;
+use adj_sets::BorrowedNames;
 use adj_tree::{Decl, Memory, Name, Stmt, Unit};
 use adj_writes::statements::statements;
 use adj_writes::table::Numbers;
@@ -27,7 +27,7 @@ pub(crate) struct Outline<'a> {
     unit: &'a Unit,
     stmts: Vec<&'a Stmt>,
     ranks: Numbers<'a>,
-    dummies: NameSet<'a>,
+    dummies: BorrowedNames<'a>,
 }
 
 impl<'a> Model for Outline<'a> {
@@ -52,10 +52,10 @@ fn declared_ranks<'a>(alloc: Global, decls: &'a [Decl]) -> Result<Numbers<'a>, M
 }
 
 // The names, each once.
-fn names_once<'a>(alloc: Global, names: &'a [Name]) -> Result<NameSet<'a>, Memory>
+fn names_once<'a>(alloc: Global, names: &'a [Name]) -> Result<BorrowedNames<'a>, Memory>
     ensures { IfOk result (λ s. s ≡ once names.now) }
 {
-    let mut set = NameSet::new(alloc);
+    let mut set = BorrowedNames::new(alloc);
     for name in names {
         set.insert(name)?;
     }

@@ -7,12 +7,13 @@ ghost use Rattle.adj_names.specs.Variables.{Name};
 ghost use Rattle.adj_names.specs.Fault.{fault, faults_if, again, first_of, sooner};
 ghost use Rattle.adj_names.specs.Reserved.{is_reserved};
 ghost use Rattle.adj_names.specs.UnitFaults.{unit_places, reserved_units, repeated_units, unit_faults};
-ghost use Rattle.adj_symbols.specs.Table.{with_name, once};
+ghost use Rattle.adj_sets.specs.Sets.{with_name};
+ghost use Rattle.adj_symbols.specs.Table.{once};
 ghost use Rattle.adj_symbols.specs.View.{places_of, names_at};
 
 use crate::first::First;
-use crate::table::NameSet;
 use adj_names::is_reserved;
+use adj_sets::BorrowedNames;
 use adj_tree::{Memory, Name, Unit};
 use std::alloc::Global;
 
@@ -29,11 +30,11 @@ pub(crate) fn add_again<'a>(
     code: u8,
     places: &[Placed<'a>],
     first: &mut First,
-) -> Result<NameSet<'a>, Memory>
+) -> Result<BorrowedNames<'a>, Memory>
     ensures first { OnOk result (first.new ≡ sooner first.old (first_of (again code [] (places_of places.now)))) }
     ensures names { IfOk result (λ s. s ≡ once (names_at (places_of places.now))) }
 {
-    let mut names = NameSet::new(alloc);
+    let mut names = BorrowedNames::new(alloc);
     for place in places {
         let added = names.insert(place.name)?;
         first.add_if(!added, code, place.line);
@@ -69,7 +70,7 @@ pub(crate) fn add_unit_faults<'a>(
     alloc: Global,
     units: &'a [Unit],
     first: &mut First,
-) -> Result<NameSet<'a>, Memory>
+) -> Result<BorrowedNames<'a>, Memory>
     ensures first { OnOk result (first.new ≡ sooner first.old (first_of (unit_faults (map procedure_of units.now)))) }
     ensures names { IfOk result (λ s. s ≡ once (names_at (unit_places (map procedure_of units.now)))) }
 {

@@ -11,8 +11,8 @@ ghost use Rattle.adj_symbols.specs.Sharing.{Named, and_named, is_met, tests_of, 
 use crate::first::First;
 use crate::outline::Outline;
 use crate::scope::Scope;
-use crate::table::NameSet;
 use crate::written::{Written, variable};
+use adj_sets::BorrowedNames;
 use adj_tree::{Act, Expr, Exprs, Memory, Name};
 use std::alloc::Global;
 use std::marker::Model;
@@ -20,9 +20,9 @@ use std::marker::Model;
 /// The variables that actuals of a CALL name so far: all, those for dummies that are written, and those that are whole arrays.
 #[derive(Drop)]
 struct Actuals<'a> {
-    seen: NameSet<'a>,
-    written: NameSet<'a>,
-    arrays: NameSet<'a>,
+    seen: BorrowedNames<'a>,
+    written: BorrowedNames<'a>,
+    arrays: BorrowedNames<'a>,
 }
 
 impl<'a> Model for Actuals<'a> {
@@ -36,9 +36,9 @@ impl<'a> Actuals<'a> {
         ensures none { result ≡ record { seen = []; written = []; arrays = [] } }
     {
         Actuals {
-            seen: NameSet::new(alloc),
-            written: NameSet::new(alloc),
-            arrays: NameSet::new(alloc),
+            seen: BorrowedNames::new(alloc),
+            written: BorrowedNames::new(alloc),
+            arrays: BorrowedNames::new(alloc),
         }
     }
 

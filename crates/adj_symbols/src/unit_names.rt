@@ -7,7 +7,7 @@ ghost use Rattle.adj_names.specs.Variables.{places, first_places, variables};
 ghost use Rattle.adj_names.specs.NameFaults.{undeclared, declared_twice, misused, passed_in, faults_of_names, name_faults};
 ghost use Rattle.adj_names.specs.Fault.{first_of, sooner};
 ghost use Rattle.adj_symbols.specs.Rules.{rules_of};
-ghost use Rattle.adj_symbols.specs.Table.{with_name};
+ghost use Rattle.adj_sets.specs.Sets.{with_name};
 ghost use Rattle.adj_symbols.specs.View.{place_of, places_of, names_at};
 
 use crate::extents::{add_bad_extents, add_extent_places};
@@ -21,7 +21,7 @@ use crate::places::{Placed, add_again};
 use crate::rules::Rules;
 use crate::scope::Scope;
 use crate::standing::names_in;
-use crate::table::NameSet;
+use adj_sets::BorrowedNames;
 use adj_tree::{Memory, NameList, Refusal, Unit};
 use std::alloc::Global;
 
@@ -40,7 +40,7 @@ fn unit_places<'a>(alloc: Global, outline: &Outline<'a>) -> Result<Vec<Placed<'a
 
 // Adds a place where its name isn't known yet.
 fn add_new<'a>(
-    names: &mut NameSet<'a>,
+    names: &mut BorrowedNames<'a>,
     place: &Placed<'a>,
     found: &mut Vec<Placed<'a>>,
 ) -> Result<(), Memory>
@@ -60,7 +60,7 @@ fn add_new<'a>(
 fn first_places<'a>(alloc: Global, places: &[Placed<'a>]) -> Result<Vec<Placed<'a>>, Memory>
     ensures { IfOk result (λ v. places_of v.items ≡ first_places (places_of places.now)) }
 {
-    let mut names = NameSet::new(alloc);
+    let mut names = BorrowedNames::new(alloc);
     let mut found = Vec::new(alloc);
     for place in places {
         add_new(&mut names, place, &mut found)?;

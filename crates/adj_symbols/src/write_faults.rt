@@ -18,18 +18,18 @@ use crate::loop_writes::add_written_variables;
 use crate::outline::Outline;
 use crate::scope::Scope;
 use crate::sharing::{add_shared_variables, add_written_values};
-use crate::table::NameSet;
 use crate::written::{Written, writes_one};
+use adj_sets::BorrowedNames;
 use adj_tree::{Memory, Stmt};
 use std::alloc::Global;
 
 // The dummies that are extents.
-fn extent_dummies<'a>(alloc: Global, outline: &Outline<'a>) -> Result<NameSet<'a>, Memory>
+fn extent_dummies<'a>(alloc: Global, outline: &Outline<'a>) -> Result<BorrowedNames<'a>, Memory>
     ensures { IfOk result (λ s. (x : Name) → has_name x s ≡ (is_extent x (map declaration_of outline.now.decls) && is_dummy (procedure_of outline.now) x)) }
 {
     let mut places = Vec::new(alloc);
     add_extent_places(outline.unit().decls.as_slice(), &mut places)?;
-    let mut dummies = NameSet::new(alloc);
+    let mut dummies = BorrowedNames::new(alloc);
     for place in places.as_slice() {
         if outline.is_dummy(place.name) {
             dummies.insert(place.name)?;
@@ -44,7 +44,7 @@ fn add_writes_of(
     scope: &Scope<'_>,
     written: &Written,
     stmts: &[&Stmt],
-    extents: &NameSet<'_>,
+    extents: &BorrowedNames<'_>,
     first: &mut First,
 ) -> Result<(), Memory>
     ensures { OnOk result (first.new ≡ sooner first.old (first_of (flat_map (λ s. faults_if (writes_one (row_of (map procedure_of scope.now) written.now) extents.now s.1) (fault 13 s.0)) (seen stmts.now)))) }

@@ -13,7 +13,7 @@ ghost use Rattle.adj_writes.specs.View.{names_seen};
 ghost use Rattle.adj_symbols.specs.Writes.{handed_names, written_names, writes_one};
 
 use crate::scope::Scope;
-use crate::table::NameSet;
+use adj_sets::BorrowedNames;
 use adj_tree::{Act, Expr, Exprs, Flags, Memory, Name, Unit};
 use adj_writes::names::add_changed;
 use adj_writes::written_dummies;
@@ -147,7 +147,7 @@ pub(crate) fn writes_one(
     scope: &Scope<'_>,
     written: &Written,
     act: &Act,
-    chosen: &NameSet<'_>,
+    chosen: &BorrowedNames<'_>,
 ) -> Result<bool, Memory>
     ensures { IfOk result (λ b. b ≡ writes_one (row_of (map procedure_of scope.now) written.now) chosen.now (act_of act.now)) }
 {
@@ -161,7 +161,11 @@ pub(crate) fn writes_one(
 }
 
 /// Which of some names are in a set.
-pub(crate) fn flags_of(alloc: Global, names: &[Name], chosen: &NameSet<'_>) -> Result<Flags, Memory>
+pub(crate) fn flags_of(
+    alloc: Global,
+    names: &[Name],
+    chosen: &BorrowedNames<'_>,
+) -> Result<Flags, Memory>
     ensures { IfOk result (λ f. f ≡ map (λ x. has_name x chosen.now) names.now) }
 {
     let mut flags = Vec::new(alloc);

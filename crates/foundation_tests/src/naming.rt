@@ -1,9 +1,9 @@
 //! Names that are given, against those that the rules of docs/EMITTED.md say.
 
-use adj_naming::name_set::NameSet;
 use adj_naming::naming::{names, not_free};
 use adj_naming::role::{Helper, Role};
 use adj_naming::taken::Taken;
+use adj_sets::NameSet;
 use adj_tree::Name;
 use std::test::Fail;
 

@@ -1,11 +1,11 @@
 //! Statements and what becomes of them, worked out by hand by docs/KERNEL.md.
 
 use crate::kernels::read;
-use adj_naming::name_set::NameSet;
 use adj_norm::call::lower_call;
 use adj_norm::locals::Locals;
 use adj_norm::target::lower_assignment;
 use adj_print::text;
+use adj_sets::NameSet;
 use adj_tree::{Act, Fault, Items, Memory, Name, Program, Stmt, Stmts, Unit};
 use std::alloc::Global;
 

@@ -1,7 +1,7 @@
 use Rattle.std.proofs.Common.{◌≡◌, false, ap, sym, ◌∙◌, map}
 use Rattle.adj_tree.specs.View.{extent_of}
 use Rattle.adj_tree.specs.declared.unit.Decl.{Decl}
-use Rattle.adj_data.specs.Faults.{stands_in}
+use Rattle.adj_names.specs.Fresh.{has_name}
 use Rattle.adj_data.proofs.Declarations.{undeclared, declared_placed}
 use Rattle.adj_data.proofs.declared.extents.Goals as goal
 
@@ -14,5 +14,5 @@ returns-in-Some c =
 pub returns-in-None : goal.returns-in-None
 returns-in-None c =
     let t = c.args.declared.now in
-    let none : false ≡ stands_in c.args.name.now t.names = c.in-None.ensures.found in
+    let none : false ≡ has_name c.args.name.now t.names = c.in-None.ensures.found in
     sym (undeclared c.args.name.now t.firsts.items t.names t.alike (sym none))

@@ -1,5 +1,7 @@
-use Rattle.std.proofs.Common.{◌≡◌, ◌+◌, ◌<◌, ◌++◌, ◌∷◌, [], length, drop, sym, ap, subst, ◌∙◌, if◌then◌else◌}
-use Rattle.adj_data.specs.Faults.{stands_in}
+use Rattle.std.proofs.Common.{◌≡◌, ◌+◌, ◌<◌, ◌++◌, length, drop, sym, ap, subst, ◌∙◌}
+use Rattle.adj_names.specs.Fresh.{has_name}
+use Rattle.adj_sets.specs.Sets.{with_added}
+use Rattle.adj_sets.proofs.NameSets.{with_added_is}
 use Rattle.adj_data.specs.Marked.{marked_names}
 use Rattle.adj_data.proofs.Marking.{mark_passed, mark_added}
 use Rattle.adj_data.proofs.marks.add_marked.Goals as goal
@@ -19,7 +21,7 @@ loop-number-preserved c = λ x.
           let d = w.index-names-number.result in
           let text : w.deref.result.now ≡ d ++ mark = w.deref.ensures.value ∙ w.in_ok-marked.ensures ∙ ap (λ b. b ++ mark) w.bytes.ensures.bytes in
           mark_added mark names flags i c.loop-number-test.true within w.if-flags-number.true d w.index-names-number.is x set c.if-flags-number.set
-          (w.set-is ∙ w.in_ok-add.ensures.added ∙ ap (λ t. if stands_in t set then set else set ++ t ∷ []) text) ∙ c.loop-number.invariant x
+          (w.set-is ∙ w.in_ok-add.ensures.added ∙ ap (λ t. with_added t set) text ∙ with_added_is (d ++ mark) set) ∙ c.loop-number.invariant x
       | else-flags-number w ↦
-          ap (λ s. stands_in x (s ++ marked_names mark (drop (i + 1) names) (drop (i + 1) flags))) w.set-is ∙ mark_passed mark names flags i c.loop-number-test.true within w.if-flags-number.false x set ∙ c.loop-number.invariant x
+          ap (λ s. has_name x (s ++ marked_names mark (drop (i + 1) names) (drop (i + 1) flags))) w.set-is ∙ mark_passed mark names flags i c.loop-number-test.true within w.if-flags-number.false x set ∙ c.loop-number.invariant x
     ]

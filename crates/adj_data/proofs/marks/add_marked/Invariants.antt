@@ -1,7 +1,7 @@
 use Rattle.std.proofs.Common.{◌≡◌, ◌++◌, ℕ, List, drop}
-use Rattle.adj_data.specs.Faults.{stands_in}
+use Rattle.adj_names.specs.Fresh.{has_name}
 use Rattle.adj_data.specs.Marked.{marked_names}
 use Rattle.adj_data.proofs.marks.add_marked.Given as goal
 
 abbrev pub invariant-loop-number : goal.invariant-loop-number
-invariant-loop-number l = (x : List ℕ) → stands_in x (l.set ++ marked_names l.mark (drop l.number l.names) (drop l.number l.flags)) ≡ stands_in x (l.fn.set ++ marked_names l.mark l.fn.names l.fn.flags)
+invariant-loop-number l = (x : List ℕ) → has_name x (l.set ++ marked_names l.mark (drop l.number l.names) (drop l.number l.flags)) ≡ has_name x (l.fn.set ++ marked_names l.mark l.fn.names l.fn.flags)

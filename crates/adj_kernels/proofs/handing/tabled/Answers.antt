@@ -4,7 +4,7 @@ use Rattle.std.proofs.lemmas.List.{take_more, take_all, map_push, length-map, le
 use Rattle.adj_tree.specs.Code.{name_eq, Procedure}
 use Rattle.adj_tree.specs.View.{procedure_of}
 use Rattle.adj_tree.specs.declared.unit.Unit.{Unit}
-use Rattle.adj_naming.specs.Sets.{with_added}
+use Rattle.adj_sets.specs.Sets.{with_added}
 use Rattle.adj_meaning.specs.LeastSet.{row_of}
 use Rattle.adj_transpose.specs.Fresh.{has_name}
 use Rattle.adj_kernel.specs.Kernel.{unit_name}

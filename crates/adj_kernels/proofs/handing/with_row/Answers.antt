@@ -1,6 +1,6 @@
 use Rattle.std.proofs.Common.{◌≡◌, ◌+◌, ◌++◌, ◌∷◌, [], true, false, length, ap, sym, ◌∙◌, arith, length-append}
 use Rattle.adj_transpose.specs.Fresh.{has_name}
-use Rattle.adj_naming.specs.Sets.{with_added}
+use Rattle.adj_sets.specs.Sets.{with_added}
 use Rattle.adj_kernels.specs.Rows.{at_name}
 use Rattle.adj_kernels.proofs.Adding.{added_there, added_behind}
 use Rattle.adj_kernels.proofs.Rows.{at_more, at_same}

@@ -4,7 +4,7 @@ use Rattle.adj_tree.specs.View.{act_of, code_of}
 use Rattle.adj_tree.specs.declared.stmt.Act.TheViews.{sized-More}
 use Rattle.adj_tree.specs.declared.stmt.Stmts.{size-Stmts}
 use Rattle.adj_kernel.specs.Kernel.{names_in_act, names_in_code}
-use Rattle.adj_naming.specs.Sets.{all_added}
+use Rattle.adj_sets.specs.Sets.{all_added}
 use Rattle.adj_kernels.proofs.Adding.{added_both}
 use Rattle.adj_kernels.proofs.names.+statements.Goals as goal
 

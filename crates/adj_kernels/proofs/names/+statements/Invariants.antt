@@ -3,7 +3,7 @@ use Rattle.std.proofs.Common.{◌≡◌, ◌≤◌}
 use Rattle.adj_tree.specs.View.{code_of}
 use Rattle.adj_tree.specs.declared.stmt.Stmts.{size-Stmts}
 use Rattle.adj_kernel.specs.Kernel.{names_in_code}
-use Rattle.adj_naming.specs.Sets.{all_added}
+use Rattle.adj_sets.specs.Sets.{all_added}
 use Rattle.adj_kernels.proofs.names.+statements.Given as goal
 
 abbrev pub invariant-add_code-loop-current : goal.invariant-add_code-loop-current

@@ -4,7 +4,7 @@ use Rattle.adj_tree.specs.View.{term_of, terms_of}
 use Rattle.adj_tree.specs.declared.expr.Expr.TheViews.{sized-More}
 use Rattle.adj_tree.specs.declared.expr.Exprs.{size-Exprs}
 use Rattle.adj_kernel.specs.Kernel.{names_in, names_in_all}
-use Rattle.adj_naming.specs.Sets.{all_added}
+use Rattle.adj_sets.specs.Sets.{all_added}
 use Rattle.adj_kernels.proofs.Adding.{added_both}
 use Rattle.adj_kernels.proofs.names.+terms.Goals as goal
 

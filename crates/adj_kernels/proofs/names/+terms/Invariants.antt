@@ -3,7 +3,7 @@ use Rattle.std.proofs.Common.{◌≡◌, ◌≤◌}
 use Rattle.adj_tree.specs.View.{terms_of}
 use Rattle.adj_tree.specs.declared.expr.Exprs.{size-Exprs}
 use Rattle.adj_kernel.specs.Kernel.{names_in_all}
-use Rattle.adj_naming.specs.Sets.{all_added}
+use Rattle.adj_sets.specs.Sets.{all_added}
 use Rattle.adj_kernels.proofs.names.+terms.Given as goal
 
 abbrev pub invariant-add_terms-loop-current : goal.invariant-add_terms-loop-current

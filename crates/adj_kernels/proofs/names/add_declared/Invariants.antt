@@ -2,7 +2,7 @@
 use Rattle.std.proofs.Common.{◌≡◌, map, drop}
 use Rattle.adj_tree.specs.View.{declaration_of}
 use Rattle.adj_kernel.specs.Kernel.{declared_names}
-use Rattle.adj_naming.specs.Sets.{all_added}
+use Rattle.adj_sets.specs.Sets.{all_added}
 use Rattle.adj_kernels.proofs.names.add_declared.Given as goal
 
 abbrev pub invariant-loop-decl : goal.invariant-loop-decl

@@ -1,6 +1,6 @@
 -- The names left are still to be added.
 use Rattle.std.proofs.Common.{◌≡◌, drop}
-use Rattle.adj_naming.specs.Sets.{all_added}
+use Rattle.adj_sets.specs.Sets.{all_added}
 use Rattle.adj_kernels.proofs.names.add_listed.Given as goal
 
 abbrev pub invariant-loop-name : goal.invariant-loop-name

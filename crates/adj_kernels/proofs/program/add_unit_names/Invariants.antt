@@ -2,7 +2,7 @@
 use Rattle.std.proofs.Common.{◌≡◌, map, drop}
 use Rattle.adj_tree.specs.View.{procedure_of}
 use Rattle.adj_kernel.specs.Kernel.{unit_name}
-use Rattle.adj_naming.specs.Sets.{all_added}
+use Rattle.adj_sets.specs.Sets.{all_added}
 use Rattle.adj_kernels.proofs.program.add_unit_names.Given as goal
 
 abbrev pub invariant-loop-unit : goal.invariant-loop-unit

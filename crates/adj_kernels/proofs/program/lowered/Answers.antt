@@ -3,7 +3,7 @@ use Rattle.std.proofs.lemmas.List.{take_more, take_all, map_push}
 use Rattle.adj_tree.specs.View.{procedure_of}
 use Rattle.adj_transpose.specs.Fresh.{reserved}
 use Rattle.adj_kernel.specs.Kernel.{lowered_unit}
-use Rattle.adj_naming.specs.Sets.{all_added}
+use Rattle.adj_sets.specs.Sets.{all_added}
 use Rattle.adj_kernels.proofs.program.lowered.Goals as goal
 
 pub loop-unit-preserved : goal.loop-unit-preserved

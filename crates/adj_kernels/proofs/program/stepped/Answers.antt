@@ -4,7 +4,7 @@ use Rattle.adj_tree.specs.Code.{Procedure}
 use Rattle.adj_tree.specs.View.{procedure_of}
 use Rattle.adj_transpose.specs.Fresh.{has_name}
 use Rattle.adj_kernel.specs.Stepped.{names_of_source, stepped_from, stepped_unit}
-use Rattle.adj_naming.specs.Sets.{all_added}
+use Rattle.adj_sets.specs.Sets.{all_added}
 use Rattle.adj_naming.proofs.Added.{once_same}
 use Rattle.adj_naming.proofs.Places.{from_here}
 use Rattle.adj_kernels.specs.Programs.{AreAlike, taken_after}

@@ -1,6 +1,6 @@
 use Rattle.std.proofs.Common.{◌≡◌, ◌+◌, ◌∷◌, [], map, drop, ap, sym, ◌∙◌}
 use Rattle.adj_tree.specs.View.{extent_of}
-use Rattle.adj_naming.specs.Sets.{all_added}
+use Rattle.adj_sets.specs.Sets.{all_added}
 use Rattle.adj_naming.proofs.Places.{from_here}
 use Rattle.adj_kernels.specs.Source.{extents_in}
 use Rattle.adj_kernels.proofs.Adding.{added_both}

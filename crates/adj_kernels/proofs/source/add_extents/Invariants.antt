@@ -1,7 +1,7 @@
 -- The names in the extents left are still to be added.
 use Rattle.std.proofs.Common.{◌≡◌, map, drop}
 use Rattle.adj_tree.specs.View.{extent_of}
-use Rattle.adj_naming.specs.Sets.{all_added}
+use Rattle.adj_sets.specs.Sets.{all_added}
 use Rattle.adj_kernels.specs.Source.{extents_in}
 use Rattle.adj_kernels.proofs.source.add_extents.Given as goal
 

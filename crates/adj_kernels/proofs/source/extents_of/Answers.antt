@@ -2,7 +2,7 @@ use Rattle.std.proofs.Common.{◌≡◌, ◌+◌, ◌++◌, ◌∷◌, [], List,
 use Rattle.adj_tree.specs.Code.{plain, Extent, Declaration}
 use Rattle.adj_tree.specs.View.{extent_of}
 use Rattle.adj_meaning.specs.Units.{declared}
-use Rattle.adj_naming.specs.Sets.{all_added}
+use Rattle.adj_sets.specs.Sets.{all_added}
 use Rattle.adj_naming.proofs.Places.{from_here}
 use Rattle.adj_kernels.specs.Source.{extents_in, all_extents_in, Declares}
 use Rattle.adj_kernels.proofs.Adding.{added_both}

@@ -1,7 +1,7 @@
 -- The extents of the variables left are still to be added.
 use Rattle.std.proofs.Common.{◌≡◌, List, [], drop}
 use Rattle.adj_tree.specs.Code.{Declaration}
-use Rattle.adj_naming.specs.Sets.{all_added}
+use Rattle.adj_sets.specs.Sets.{all_added}
 use Rattle.adj_kernels.specs.Source.{all_extents_in, Declares}
 use Rattle.adj_kernels.proofs.source.extents_of.Given as goal
 

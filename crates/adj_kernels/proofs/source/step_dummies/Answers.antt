@@ -1,7 +1,7 @@
 use Rattle.std.proofs.Common.{◌≡◌, ◌∷◌, [], List, ℕ, ap, ◌∙◌}
 use Rattle.adj_tree.specs.View.{code_of}
 use Rattle.adj_kernel.specs.Kernel.{names_in_code}
-use Rattle.adj_naming.specs.Sets.{all_added}
+use Rattle.adj_sets.specs.Sets.{all_added}
 use Rattle.adj_kernels.specs.Source.{kept_among, all_extents_in}
 use Rattle.adj_kernels.proofs.Sources.{kept_are_used}
 use Rattle.adj_kernels.proofs.source.step_dummies.Goals as goal

@@ -4,7 +4,7 @@ use Rattle.adj_tree.specs.declared.unit.Decl.{Decl}
 use Rattle.adj_tree.specs.View.{declaration_of}
 use Rattle.adj_transpose.specs.Fresh.{has_name}
 use Rattle.adj_transpose.specs.Program.{declaration}
-use Rattle.adj_naming.specs.Sets.{with_added}
+use Rattle.adj_sets.specs.Sets.{with_added}
 use Rattle.adj_naming.proofs.Added.{added_new}
 use Rattle.adj_naming.proofs.Declarations.{first_kept, first_passed}
 use Rattle.adj_naming.proofs.declared.first_declarations.Goals as goal

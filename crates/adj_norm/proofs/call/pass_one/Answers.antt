@@ -1,6 +1,6 @@
 use Rattle.std.proofs.Common.{◌∙◌, ap}
 use Rattle.adj_kernel.specs.Lowered.{passed}
-use Rattle.adj_naming.specs.Sets.{with_added}
+use Rattle.adj_sets.specs.Sets.{with_added}
 use Rattle.adj_norm.specs.Locals.{local_by}
 use Rattle.adj_norm.proofs.Calls.{names_added}
 use Rattle.adj_norm.proofs.call.pass_one.Goals as goal

@@ -1,9 +1,0 @@
-use Rattle.std.proofs.Common.{◌∙◌, ap}
-use Rattle.adj_data.specs.Faults.{stands_in}
-use Rattle.adj_data.proofs.NameSets.{any_has}
-use Rattle.adj_data.proofs.name_set.NameSet.has.Goals as goal
-
-pub returns : goal.returns
-returns c =
-    let x = c.args.name.now in
-    record { found = c.contains.ensures ∙ any_has (λ k. k.items) x c.self.inside.texts.keys ∙ ap (stands_in x) c.self.view_is }

@@ -1,0 +1,2 @@
+-- Lemmas about sets of names.
+pub mod NameSets

@@ -1,0 +1,15 @@
+use Rattle.std.proofs.Common.{◌∙◌, ap, nat_eq}
+use Rattle.std.specs.Cmp.Lexicographic.{pointwise}
+use Rattle.std.specs.Prelude.{position}
+use Rattle.adj_tree.specs.Code.{name_eq}
+use Rattle.adj_names.specs.Fresh.{has_name}
+use Rattle.adj_sets.proofs.NameSets.{pointwise_name, any_has, position_named}
+use Rattle.adj_sets.proofs.name_set.NameSet.place.Goals as goal
+
+pub returns : goal.returns
+returns c =
+    let x = c.args.name.now in
+    record {
+      place = c.get_index_of.ensures.index ∙ position_named (λ k. k.items) (pointwise nat_eq) pointwise_name x c.self.inside.texts.keys ∙ ap (position (name_eq x)) c.self.view_is;
+      found = c.get_index_of.ensures.found ∙ any_has (λ k. k.items) (pointwise nat_eq) pointwise_name x c.self.inside.texts.keys ∙ ap (has_name x) c.self.view_is;
+    }

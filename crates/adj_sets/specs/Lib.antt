@@ -1,0 +1,2 @@
+-- What sets of names are as lists.
+pub mod Sets
