@@ -6,8 +6,8 @@ use Rattle.adj_text.specs.Limits.{limits_of}
 use Rattle.adj_text.specs.Stated.{statements_of}
 use Rattle.adj_text.specs.declared.mode.Mode.{Mode}
 use Rattle.adj_text.specs.declared.stated.Stated.{Stated}
-use Rattle.adj_parse.specs.Trees.{trees_of}
-use Rattle.adj_answer.specs.Programs.{AreStatements, AreUnits, IsProgram, program_of}
+use Rattle.adj_parse.specs.Trees.{trees_of, program_of}
+use Rattle.adj_answer.specs.Programs.{AreStatements, AreUnits, IsProgram}
 
 -- of statements
 abbrev pub StatementsTold : Type 0

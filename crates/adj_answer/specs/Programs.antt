@@ -8,12 +8,10 @@ use Rattle.adj_text.specs.Form.{Statement}
 use Rattle.adj_text.specs.Limits.{limits_of, no_limits}
 use Rattle.adj_text.specs.Lined.{Lines, lines_of}
 use Rattle.adj_text.specs.Reads.{ReadsAll, Reads}
-use Rattle.adj_text.specs.Refused.{◌>>=◌}
 use Rattle.adj_text.specs.Stated.{statements_of}
 use Rattle.adj_text.specs.Unit.{ReadsUnits}
 use Rattle.adj_text.specs.declared.mode.Mode.{Mode}
 use Rattle.adj_text.specs.declared.stated.Stated.{Stated}
-use Rattle.adj_parse.specs.Trees.{trees_of}
 use Rattle.adj_refused.specs.First.{IsFirst, AreFaultless, HasNone}
 use Rattle.adj_refused.specs.LineFaults.{lines_in, LineFault}
 use Rattle.adj_refused.specs.Prefixes.{ReadsUpTo}
@@ -74,7 +72,3 @@ Refuses (Refused r) IsSuch = IsSuch r
 abbrev pub Tells : {X Y : Type 0} → (X → Y) → Result X Fault → (Result Y Refusal → Type 0) → Type 0
 Tells view (Ok x) IsSuch = IsSuch (Ok (view x))
 Tells view (Err e) IsSuch = Refuses e (λ r. IsSuch (Err r))
-
--- the same as the code goes over a text, one statement after the other
-abbrev pub program_of : Mode → List ℕ → Result (List Procedure) Refusal
-program_of mode bytes = statements_of (limits_of mode) bytes >>= trees_of mode

@@ -5,7 +5,8 @@ ghost use Rattle.adj_tree.specs.View.{procedures_of};
 ghost use Rattle.adj_text.specs.Reads.{Reads};
 ghost use Rattle.adj_text.specs.Refused.{Gives};
 ghost use Rattle.adj_text.specs.Written.{IsWritten};
-ghost use Rattle.adj_answer.specs.Programs.{AreOfText, AreStatements, AreUnits, IsProgram, Tells, program_of};
+ghost use Rattle.adj_parse.specs.Trees.{program_of};
+ghost use Rattle.adj_answer.specs.Programs.{AreOfText, AreStatements, AreUnits, IsProgram, Tells};
 
 use crate::laws::reading_law;
 use adj_fixed::{Mode, Stated};

@@ -3,12 +3,9 @@ use Rattle.std.specs.Prelude.{◌≡◌, ℕ, pos, false, List, [], ◌∷◌, �
 use Rattle.adj_tree.specs.Code.{plain, plus, minus, times, quot, modulo, greater, lesser, Term, lit, var, elem, neg, bin, pow, power_of, abs, Terms, none, more, Test, is_less, is_most, is_same, is_other, is_greater, is_least, compare, negation, conjunction, disjunction, push_word, pop_word, push_array, pop_array, push_control, pop_control, zero_array, begin_reversal, count_actions, give_action, end_reversal, Mark, unmarked, Act, assign, choose, loop, call, runtime, Code, stop, step, Procedure}
 use Rattle.adj_tree.specs.declared.fault.Refusal.{Refusal}
 use Rattle.adj_text.specs.Char.{line_feed}
-use Rattle.adj_text.specs.Limits.{limits_of}
-use Rattle.adj_text.specs.Refused.{◌>>=◌}
-use Rattle.adj_text.specs.Stated.{statements_of}
 use Rattle.adj_text.specs.declared.mode.Mode.{Mode}
 use Rattle.adj_text.specs.declared.mode.Mode.TheVariants.{Source}
-use Rattle.adj_parse.specs.Trees.{trees_of}
+use Rattle.adj_parse.specs.Trees.{program_of}
 
 -- ---- how texts and programs are written here
 
@@ -23,7 +20,7 @@ return_code = 13
 
 -- the program of that text in a mode, or its first fault
 abbrev pub program_in : Mode → List (List ℕ) → Result (List Procedure) Refusal
-program_in mode lines = statements_of (limits_of mode) (text lines) >>= trees_of mode
+program_in mode lines = program_of mode (text lines)
 
 -- a name as an expression
 abbrev pub use_of : List ℕ → Term

@@ -110,3 +110,7 @@ IsBeyond r = (e : Refusal) × (r ≡ Err e) × ((e.code ≡ 5) ⊎ (e.code ≡ 2
 -- the units of a text, or the first fault of its statements
 abbrev pub trees_of : Mode → List Stated → Result (List Procedure) Refusal
 trees_of mode stated = trees_from mode (start mode) stated
+
+-- the program of a text in a mode, or the first fault of its lines, its statements or its trees
+abbrev pub program_of : Mode → List ℕ → Result (List Procedure) Refusal
+program_of mode bytes = statements_of (limits_of mode) bytes >>= trees_of mode

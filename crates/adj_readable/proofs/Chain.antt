@@ -6,6 +6,7 @@ use Rattle.std.specs.Prelude.{◌&&◌, ◌||◌, ◌==◌, not, nat_le, is_none
 use Rattle.adj_tree.specs.Code.{Mark, unmarked, with_count, count_from, Procedure}
 use Rattle.adj_tree.specs.View.{mark_of}
 use Rattle.adj_tree.specs.declared.fault.Refusal.{Refusal}
+use Rattle.adj_tree.specs.Size.{IsNested}
 use Rattle.adj_expression.specs.declared.flaw.Flaw.{Flaw}
 use Rattle.adj_text.specs.Form as forms
 use Rattle.adj_text.specs.Form.{Form, Statement, at, ReadsForm}
@@ -23,7 +24,7 @@ use Rattle.adj_parse.specs.Unit.{Current, followed, open_blocks, is_misplaced}
 use Rattle.adj_parse.proofs.Machine.{picked, kind_of, stands, units_of, run}
 use Rattle.adj_parse.proofs.Truths.{and_false}
 use Rattle.adj_statement.specs.Said.{said}
-use Rattle.adj_readable.specs.Kept.{IsNested, shallow}
+use Rattle.adj_readable.specs.Kept.{shallow}
 use Rattle.adj_readable.proofs.Keeping.{form_keeps, all_keep}
 use Rattle.adj_readable.proofs.FittingTerms.{fitting}
 use Rattle.adj_readable.proofs.SaidForms.{Laws, said_right}

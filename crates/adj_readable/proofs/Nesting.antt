@@ -3,7 +3,7 @@ use Rattle.std.proofs.Common.{◌≡◌, ◌≤◌, ◌<◌, ℕ, ◌+◌, max, 
 use Rattle.std.specs.Prelude.{◌&&◌, ◌||◌, ◌==◌, not, nat_le}
 use Rattle.std.proofs.lemmas.Bool.{eqb-true, lt-leb}
 use Rattle.adj_tree.specs.Code.{Procedure}
-use Rattle.adj_tree.specs.Size.{code_depth}
+use Rattle.adj_tree.specs.Size.{code_depth, IsNested}
 use Rattle.adj_text.specs.Form.{Form, subroutine, implicit_none, integers, simple, logical, opens_do, opens_while, end_do, go_on, opens_if, otherwise, otherwise_if, end_if, leaves, ends, Statement, at}
 use Rattle.adj_text.specs.declared.stated.Kind.{Kind}
 use Rattle.adj_text.specs.declared.stated.Kind.TheVariants.{End}
@@ -11,7 +11,6 @@ use Rattle.adj_parse.specs.Blocks.{Acts, Block}
 use Rattle.adj_parse.specs.Order.{may_follow, suits, leaves_loop, breaks_loop, opens_block}
 use Rattle.adj_parse.specs.Unit.{Current, Units, finished, continued, followed, open_blocks, is_misplaced}
 use Rattle.adj_parse.proofs.Machine.{kind_of, stands, units_of, run, picked}
-use Rattle.adj_readable.specs.Kept.{IsNested}
 use Rattle.adj_readable.proofs.Heights.{acts_depth, listed_depth, high, height, high_is, open_below, opening, acted_height}
 
 -- of the unit that is being read

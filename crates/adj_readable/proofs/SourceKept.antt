@@ -3,7 +3,7 @@ use Rattle.std.proofs.Common.{◌≡◌, ◌≤◌, ◌<◌, ℕ, ◌+◌, ◌*�
 use Rattle.std.specs.Prelude.{◌&&◌, ◌||◌, ◌==◌, not, nat_le, is_none, unwrap_or, if◌then◌else◌}
 use Rattle.std.proofs.lemmas.Bool.{eqb-false, leb-false, or_parts, and_from}
 use Rattle.adj_tree.specs.Code.{Mark, Terms, none, Runtime, Act, Procedure}
-use Rattle.adj_tree.specs.Size.{act_depth}
+use Rattle.adj_tree.specs.Size.{act_depth, IsNested}
 use Rattle.adj_tree.specs.View.{mark_of}
 use Rattle.adj_tree.specs.declared.fault.Refusal.{Refusal}
 use Rattle.adj_expression.specs.declared.flaw.Flaw.{Flaw}
@@ -31,7 +31,7 @@ use Rattle.adj_parse.proofs.Followed as chain
 use Rattle.adj_parse.proofs.Followed.{AllSay, Closed, reads_all, chain_runs}
 use Rattle.adj_parse.proofs.UnitsSound.{run_reads}
 use Rattle.adj_statement.specs.Said.{said}
-use Rattle.adj_readable.specs.Kept.{short_names, shallow, IsNested, acts_in}
+use Rattle.adj_readable.specs.Kept.{short_names, shallow, acts_in}
 use Rattle.adj_readable.specs.Reading.{SourceIsKept}
 use Rattle.adj_readable.proofs.Keeping.{form_keeps, all_keep, units_keep}
 use Rattle.adj_readable.proofs.SaidForms.{Laws, said_shallow}

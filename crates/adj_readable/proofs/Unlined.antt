@@ -5,9 +5,8 @@ use Rattle.std.specs.List.{list_all}
 use Rattle.std.proofs.lemmas.List.Folds.{list_all-map}
 use Rattle.adj_tree.specs.Code.{Act, Code, assign, choose, loop, during, call, runtime, stop, step, Declaration, Procedure}
 use Rattle.adj_tree.specs.Lines.{unlined_act, unlined_code, unlined_declaration, unlined_procedure, unlined}
-use Rattle.adj_tree.specs.Size.{act_depth, code_depth}
+use Rattle.adj_tree.specs.Size.{act_depth, code_depth, IsNested}
 use Rattle.adj_readable.specs.Rule.{Rule, act_keeps, code_keeps, declaration_keeps, procedure_keeps, keeps}
-use Rattle.adj_readable.specs.Kept.{IsNested}
 
 module _ (r : Rule) where
   mutual

@@ -1,8 +1,8 @@
 -- Kept: the limits on names, on depth and on nesting that a program keeps. (docs/LANGUAGE.md, "Limits")
-use Rattle.std.specs.Prelude.{◌≡◌, ◌≤◌, ℕ, ◌+◌, Bool, true, ◌&&◌, nat_le, List, [], ◌∷◌, length}
+use Rattle.std.specs.Prelude.{◌≡◌, ℕ, ◌+◌, Bool, true, ◌&&◌, nat_le, List, [], ◌∷◌, length}
 use Rattle.std.specs.List.{list_all}
 use Rattle.adj_tree.specs.Code.{Var, plain, shadow, helper, Term, Terms, lit, var, elem, neg, bin, pow, power_of, abs, none, more, Test, compare, negation, conjunction, disjunction, Runtime, push_word, pop_word, push_array, pop_array, push_control, pop_control, zero_array, begin_reversal, count_actions, give_action, end_reversal, Mark, unmarked, with_count, count_from, Act, assign, choose, loop, during, call, runtime, Code, stop, step, Extent, fixed, given, Procedure}
-use Rattle.adj_tree.specs.Size.{term_depth, test_depth, code_depth}
+use Rattle.adj_tree.specs.Size.{term_depth, test_depth, IsNested}
 use Rattle.adj_text.specs.Statement.{Range}
 use Rattle.adj_readable.specs.Rule.{Rule, keeps}
 
@@ -103,12 +103,6 @@ shallow n = record {
   test = λ c. nat_le (test_depth c) n;
   range = λ r m. (is_shallow n r.from && is_shallow n r.to) && is_shallow n r.by;
 }
-
--- ---- IF and DO nested at most so deep
-
-abbrev pub IsNested : ℕ → List Procedure → Type 0
-IsNested n [] = Unit {0}
-IsNested n (p ∷ ps) = (code_depth p.body ≤ n) × IsNested n ps
 
 -- ---- how many statements there are, those in IF and DO included
 

@@ -3,32 +3,22 @@ use Rattle.std.specs.Prelude.{◌≡◌, ◌≤◌, ◌⊎◌, ℕ, List, length
 use Rattle.adj_tree.specs.Code.{Procedure}
 use Rattle.adj_tree.specs.Lines.{unlined}
 use Rattle.adj_tree.specs.declared.fault.Refusal.{Refusal}
-use Rattle.adj_text.specs.Limits.{limits_of}
-use Rattle.adj_text.specs.Refused.{◌>>=◌, limited}
-use Rattle.adj_text.specs.Stated.{statements_of}
+use Rattle.adj_text.specs.Refused.{limited}
 use Rattle.adj_text.specs.Text.{text_of}
 use Rattle.adj_text.specs.Written.{IsWritten}
 use Rattle.adj_text.specs.declared.mode.Mode.TheVariants.{Source, Run}
-use Rattle.adj_parse.specs.Trees.{trees_of}
+use Rattle.adj_parse.specs.Trees.{program_of}
 use Rattle.adj_readable.specs.Kept.{IsKept, statements_in}
 
 -- what is there is such, or the refusal is that of more statements than a run takes, at some line
 abbrev pub OrTooMany : {A : Type 0} → (A → Type 0) → Result A Refusal → Type 0
 OrTooMany {A} P r = ((x : A) × (r ≡ Ok x) × P x) ⊎ ((line : ℕ) × (r ≡ limited 4000000 line))
 
--- the program of a text in Run mode, or the first fault of its lines, its statements or its trees
-abbrev pub run_program_of : List ℕ → Result (List Procedure) Refusal
-run_program_of bytes = statements_of (limits_of Run) bytes >>= trees_of Run
-
 -- the canonical text of a program that can be written and keeps the limits of a run reads in Run mode as that program, up to line numbers, or has too many statements
 abbrev pub KeptReads : Type 0
-KeptReads = (program : List Procedure) → IsWritten program → IsKept 63 120 45 program → OrTooMany (λ found. unlined found ≡ unlined program) (run_program_of (text_of program))
+KeptReads = (program : List Procedure) → IsWritten program → IsKept 63 120 45 program → OrTooMany (λ found. unlined found ≡ unlined program) (program_of Run (text_of program))
 
 -- ---- what a user writes
-
--- the program of a text in Source mode, or the first fault
-abbrev pub source_program_of : List ℕ → Result (List Procedure) Refusal
-source_program_of bytes = statements_of (limits_of Source) bytes >>= trees_of Source
 
 -- the limits of Source mode: a logical IF is one statement of the text, and two of the program
 pub record IsSource (program : List Procedure) : Type 0 where
@@ -38,4 +28,4 @@ pub record IsSource (program : List Procedure) : Type 0 where
 
 -- the program of a text in Source mode keeps them
 abbrev pub SourceIsKept : Type 0
-SourceIsKept = (bytes : List ℕ) (program : List Procedure) → source_program_of bytes ≡ Ok program → IsSource program
+SourceIsKept = (bytes : List ℕ) (program : List Procedure) → program_of Source bytes ≡ Ok program → IsSource program

@@ -8,11 +8,11 @@ use Rattle.adj_text.specs.Refused.{◌>>=◌}
 use Rattle.adj_text.specs.Stated.{all_stated, statements_of}
 use Rattle.adj_text.specs.declared.mode.Mode.{Mode}
 use Rattle.adj_text.specs.declared.stated.Stated.{Stated}
-use Rattle.adj_parse.specs.Trees.{trees_of}
+use Rattle.adj_parse.specs.Trees.{trees_of, program_of}
 use Rattle.adj_refused.specs.First.{Faults, IsFirst, IsAnswer}
 use Rattle.adj_refused.specs.LineFaults.{lines_in, LineFault}
 use Rattle.adj_refused.specs.StatementFaults.{StatementFault}
-use Rattle.adj_refused.specs.TextFaults.{FirstFault, of_lines, of_statements, of_trees, program_of, TextRefused, TextFirst, TextAccepted}
+use Rattle.adj_refused.specs.TextFaults.{FirstFault, of_lines, of_statements, of_trees, TextRefused, TextFirst, TextAccepted}
 use Rattle.adj_refused.specs.TreeFaults.{TreeFault}
 use Rattle.adj_refused.proofs.LineTests.{lines_answer, lines_refused}
 use Rattle.adj_refused.proofs.StatementTests.{statements_answer, statements_refused}

@@ -1,14 +1,13 @@
 -- TextFaults: the first fault of a text in a mode, pass by pass.
-use Rattle.std.specs.Prelude.{◌≡◌, ℕ, List, [], Result, Ok, Err}
+use Rattle.std.specs.Prelude.{◌≡◌, ℕ, List, [], Ok, Err}
 use Rattle.adj_tree.specs.Code.{Procedure}
 use Rattle.adj_tree.specs.declared.fault.Refusal.{Refusal}
 use Rattle.adj_text.specs.Limits.{limits_of}
 use Rattle.adj_text.specs.Lined.{Lines, lines_of}
-use Rattle.adj_text.specs.Refused.{◌>>=◌}
 use Rattle.adj_text.specs.Stated.{statements_of}
 use Rattle.adj_text.specs.declared.mode.Mode.{Mode}
 use Rattle.adj_text.specs.declared.stated.Stated.{Stated}
-use Rattle.adj_parse.specs.Trees.{trees_of}
+use Rattle.adj_parse.specs.Trees.{program_of}
 use Rattle.adj_refused.specs.First.{IsFirst}
 use Rattle.adj_refused.specs.LineFaults.{lines_in, LineFault}
 use Rattle.adj_refused.specs.StatementFaults.{StatementFault}
@@ -19,10 +18,6 @@ pub data FirstFault (mode : Mode) (bytes : List ℕ) (r : Refusal) : Type 0 wher
   of_lines : IsFirst (LineFault (limits_of mode)) [] (lines_in bytes) r → FirstFault mode bytes r
   of_statements : (ss : List Lines) → lines_of (limits_of mode) bytes ≡ Ok ss → IsFirst (StatementFault (limits_of mode)) [] ss r → FirstFault mode bytes r
   of_trees : (stated : List Stated) → statements_of (limits_of mode) bytes ≡ Ok stated → IsFirst (TreeFault mode) [] stated r → FirstFault mode bytes r
-
--- the program of a text in a mode, or its refusal
-abbrev pub program_of : Mode → List ℕ → Result (List Procedure) Refusal
-program_of mode bytes = statements_of (limits_of mode) bytes >>= trees_of mode
 
 -- a text is refused by its first fault, and where there is none it has a program
 abbrev pub TextRefused : Type 0

@@ -1,7 +1,8 @@
 use Rattle.std.proofs.Common.{Ok, Err, subst}
 use Rattle.std.proofs.lemmas.Result.{err_from_is_err_and}
 use Rattle.adj_tree.specs.View.{procedures_of}
-use Rattle.adj_answer.specs.Programs.{AreUnits, IsProgram, Tells, program_of}
+use Rattle.adj_parse.specs.Trees.{program_of}
+use Rattle.adj_answer.specs.Programs.{AreUnits, IsProgram, Tells}
 use Rattle.adj_answer.proofs.Telling.{early, late, gives}
 use Rattle.adj_answer.proofs.reading.read.Goals as goal
 
