@@ -1,7 +1,7 @@
 //! Tests of what texts read as, and what is printed, by the public calls of `adj_fixed`, `adj_parse`, `adj_answer`, `adj_print` and `adj_symbols`.
 //!
-//! `read` and `texts` are what the tests share: the reading of texts by `adj_fixed::statements` and `adj_parse::program`, and the
-//! writing of texts. No code stands on this crate.
+//! `read` is what the tests share: the reading of texts by `adj_fixed::statements` and `adj_parse::program`. No code stands on this
+//! crate.
 #![tactic(auto)]
 
 #[cfg(test)]
@@ -16,5 +16,3 @@ mod printed;
 mod read;
 #[cfg(test)]
 mod readings;
-#[cfg(test)]
-mod texts;

@@ -1,10 +1,10 @@
 //! Texts that end too early, and texts at their limits.
 
 use crate::read::reading;
-use crate::texts::{push_statement, push_times};
 use adj_fixed::Mode;
 use adj_tree::Memory;
 use std::alloc::Global;
+use test_texts::{push_statement, push_times};
 
 const SUM: &[u8] = b"      SUBROUTINE P(N,A,S)
       INTEGER*8 N,A(N),S

@@ -1,12 +1,12 @@
 //! Texts printed and read back.
 
 use crate::read::read;
-use crate::texts::push_statement;
 use adj_fixed::Mode;
 use adj_print::text;
 use adj_tree::Fault;
 use std::alloc::Global;
 use std::test::Fail;
+use test_texts::push_statement;
 
 // Every kind of statement, and parentheses of each kind, as they are printed.
 const CANONICAL: &[u8] = b"      SUBROUTINE P(A,N,X)

@@ -1,10 +1,10 @@
 //! What statements read as: their canonical text, or why they are refused.
 
 use crate::read::reading;
-use crate::texts::push_line;
 use adj_fixed::Mode;
 use adj_tree::Memory;
 use std::alloc::Global;
+use test_texts::push_line;
 
 // A body that is one statement or more, and its canonical text or its refusal. Line 1 is the SUBROUTINE of the unit round it.
 // A line that begins with a blank or is a directive stands as it is; any other begins in column 7.

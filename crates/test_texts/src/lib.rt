@@ -1,9 +1,13 @@
 //! Writing the texts that tests read.
+//!
+//! What the tests of several crates share: lines, statements and texts that are repeated. It stands on the trees alone, for their
+//! error, and no contract speaks of it: the tests that call it do.
+#![tactic(auto)]
 
 use adj_tree::Memory;
 
 /// Writes a text as often as that.
-pub(crate) fn push_times(all: &mut Vec<u8>, text: &[u8], count: usize) -> Result<(), Memory> {
+pub fn push_times(all: &mut Vec<u8>, text: &[u8], count: usize) -> Result<(), Memory> {
     for _ in 0..count {
         all.extend_from_slice(text)?;
     }
@@ -11,7 +15,7 @@ pub(crate) fn push_times(all: &mut Vec<u8>, text: &[u8], count: usize) -> Result
 }
 
 /// Writes a statement in lines of 66 characters.
-pub(crate) fn push_statement(all: &mut Vec<u8>, statement: &[u8]) -> Result<(), Memory> {
+pub fn push_statement(all: &mut Vec<u8>, statement: &[u8]) -> Result<(), Memory> {
     for (index, piece) in statement.chunks(66).enumerate() {
         all.extend_from_slice(if index == 0 { b"      " } else { b"     +" })?;
         all.extend_from_slice(piece)?;
@@ -21,7 +25,7 @@ pub(crate) fn push_statement(all: &mut Vec<u8>, statement: &[u8]) -> Result<(), 
 }
 
 /// Writes a line that begins in column 7, or stands as it is.
-pub(crate) fn push_line(all: &mut Vec<u8>, line: &str) -> Result<(), Memory> {
+pub fn push_line(all: &mut Vec<u8>, line: &str) -> Result<(), Memory> {
     if !line.starts_with(' ') && !line.starts_with("C$") {
         all.extend_from_slice(b"      ")?;
     }
