@@ -3,7 +3,7 @@ use Rattle.std.specs.Prelude.{Bool, true, false, Option, Some, None, Result, Ok,
 use Rattle.adj_expression.specs.declared.flaw.Flaw.{Flaw}
 use Rattle.adj_expression.specs.declared.flaw.Flaw.TheVariants.{Large, Deep, Exponent}
 
--- the first of two flaws
+-- the first of two flaws, in their order
 abbrev pub first_of : Flaw → Flaw → Flaw
 first_of Large g = Large
 first_of Deep Large = Large
@@ -20,6 +20,10 @@ of_two f (Ok a) (Ok b) = Ok (f a b)
 of_two f (Ok a) (Err g) = Err g
 of_two f (Err g) (Ok b) = Err g
 of_two f (Err g) (Err h) = Err (first_of g h)
+
+-- both parts, or the first flaw of them
+abbrev pub both : {A B : Type 0} → Result A Flaw → Result B Flaw → Result (A × B) Flaw
+both found other = of_two (λ a b. (a, b)) found other
 
 -- what isn't too deep is kept
 abbrev pub kept : {A : Type 0} → Bool → Result A Flaw → Result A Flaw

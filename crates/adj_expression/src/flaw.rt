@@ -1,7 +1,7 @@
 //! What may be wrong with an expression that is well formed.
 
 ghost use Rattle.std.specs.Prelude.{◌≡◌};
-ghost use Rattle.adj_expression.specs.Flaws.{first_of, of_two};
+ghost use Rattle.adj_expression.specs.Flaws.{both, first_of};
 
 /// Why an expression or a condition that the grammar derives has no tree: the first of these that holds.
 #[derive(Clone, Copy, PartialEq, Eq, Debug)]
@@ -28,12 +28,9 @@ impl Flaw {
     }
 }
 
-/// Both parts, or what is wrong with them.
-pub(crate) fn both<A: Drop, B: Drop>(
-    left: Result<A, Flaw>,
-    right: Result<B, Flaw>,
-) -> Result<(A, B), Flaw>
-    ensures { result ≡ of_two (λ a b. (a, b)) left right }
+/// Both parts, or the first flaw of them.
+pub fn both<A: Drop, B: Drop>(left: Result<A, Flaw>, right: Result<B, Flaw>) -> Result<(A, B), Flaw>
+    ensures { result ≡ both left right }
 {
     match left {
         Ok(a) => match right {

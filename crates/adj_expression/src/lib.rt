@@ -21,5 +21,5 @@ mod waiting;
 
 pub use conditions::condition;
 pub use expressions::expression;
-pub use flaw::Flaw;
+pub use flaw::{Flaw, both};
 pub use laws::conditions_are_read;

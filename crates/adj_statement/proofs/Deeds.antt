@@ -12,7 +12,8 @@ use Rattle.adj_expression.specs.Reading.{read_expression}
 use Rattle.adj_expression.specs.View.{seen}
 use Rattle.adj_expression.specs.declared.flaw.Flaw.{Flaw}
 use Rattle.adj_statement.specs.Called.{call_of}
-use Rattle.adj_statement.specs.Flaws.{both, with_part}
+use Rattle.adj_expression.specs.Flaws.{both}
+use Rattle.adj_statement.specs.Flaws.{with_part}
 use Rattle.adj_statement.specs.Phrase.{Entry, assigns, calls}
 use Rattle.adj_statement.specs.Phrases.{Read, read_as, ◌>>=◌, name_at, behind_left, behind_right, behind_comma, behind_equals, are_none, ended, members, members_behind, read_arguments, second_subscript, read_subscripts, place_behind, read_place, read_assignment, actuals_in, read_actuals, read_call}
 use Rattle.adj_statement.specs.Said.{any_deep, list_large, list_deep, list_trees}

@@ -6,7 +6,7 @@ use Rattle.adj_text.specs.Word.{Word}
 use Rattle.adj_expression.specs.Front.{front_condition}
 use Rattle.adj_expression.specs.Judged.{judged_test}
 use Rattle.adj_expression.specs.Reading.{read_condition}
-use Rattle.adj_statement.specs.Flaws.{both}
+use Rattle.adj_expression.specs.Flaws.{both}
 use Rattle.adj_statement.specs.Phrase.{Deed}
 use Rattle.adj_statement.specs.Phrases.{Read, read_as, ◌>>=◌, behind_left, behind_right, behind_call, ended, read_guard, read_test, guarded_behind, read_guarded, read_logical}
 use Rattle.adj_statement.specs.Fronts.{judged_deed, front_assignment, front_call, front_guard, front_test, front_guarded, judged_logical, front_logical}

@@ -5,7 +5,8 @@ use Rattle.adj_text.specs.Grammar.{with_both}
 use Rattle.adj_expression.specs.Judged.{judged_by}
 use Rattle.adj_expression.specs.View.{seen}
 use Rattle.adj_expression.specs.declared.flaw.Flaw.{Flaw}
-use Rattle.adj_statement.specs.Flaws.{both, with_part}
+use Rattle.adj_expression.specs.Flaws.{both}
+use Rattle.adj_statement.specs.Flaws.{with_part}
 
 -- of two parts
 pub both-judged : {A B : Type 0} (l d : Bool) (m : Option A) (k e : Bool) (n : Option B) → both (judged_by l d m) (judged_by k e n) ≡ judged_by (l || k) (d || e) (with_both (λ a b. Some (a, b)) m n)

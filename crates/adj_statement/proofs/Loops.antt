@@ -9,7 +9,7 @@ use Rattle.adj_expression.specs.Judged.{has_large, judged}
 use Rattle.adj_expression.specs.Reading.{read_expression}
 use Rattle.adj_expression.specs.View.{seen}
 use Rattle.adj_expression.specs.declared.flaw.Flaw.{Flaw}
-use Rattle.adj_statement.specs.Flaws.{both}
+use Rattle.adj_expression.specs.Flaws.{both}
 use Rattle.adj_statement.specs.Phrase.{Bounds}
 use Rattle.adj_statement.specs.Phrases.{Read, read_as, ◌>>=◌, name_at, behind_comma, behind_equals, are_none, ended, step_behind, read_step, read_bounds, read_label, read_do}
 use Rattle.adj_statement.specs.Said.{any_deep, step_large, step_deep, step_tree}

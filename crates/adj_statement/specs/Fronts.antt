@@ -10,7 +10,8 @@ use Rattle.adj_text.specs.Word.{Word}
 use Rattle.adj_expression.specs.Judged.{any_large, judged_by, judged_test}
 use Rattle.adj_expression.specs.View.{seen}
 use Rattle.adj_expression.specs.declared.flaw.Flaw.{Flaw}
-use Rattle.adj_statement.specs.Flaws.{both, with_part}
+use Rattle.adj_expression.specs.Flaws.{both}
+use Rattle.adj_statement.specs.Flaws.{with_part}
 use Rattle.adj_statement.specs.Phrase.{Entry, Deed, Size, Declared, Bounds}
 use Rattle.adj_statement.specs.Phrases.{Read, read_as, ◌>>=◌, members_behind, size_at, read_sizes, read_item, read_subscripts, read_place, read_actuals, read_assignment, read_call, read_guard, read_test, read_guarded, read_logical, read_step, read_bounds, read_label, read_do}
 use Rattle.adj_statement.specs.Said.{size_large, item_large, extent, item, any_deep, list_large, list_deep, list_trees, deed_large, deed_deep, act, step_large, step_deep, step_tree, bounds_large, bounds_deep, range}

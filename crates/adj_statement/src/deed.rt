@@ -7,15 +7,16 @@ ghost use Rattle.adj_tree.specs.View.{term_of, act_of};
 ghost use Rattle.adj_expression.specs.Front.{front_expression};
 ghost use Rattle.adj_expression.specs.View.{seen};
 ghost use Rattle.adj_statement.specs.Called.{call_of};
-ghost use Rattle.adj_statement.specs.Flaws.{both, with_part};
+ghost use Rattle.adj_expression.specs.Flaws.{both};
+ghost use Rattle.adj_statement.specs.Flaws.{with_part};
 ghost use Rattle.adj_statement.specs.Fronts.{front_list, front_subscripts, front_place, front_assignment, front_actuals, front_call};
 ghost use Rattle.adj_statement.specs.View.{place_seen};
 ghost use Rattle.adj_statement.specs.WordsView.{words_in};
 
 use crate::called::called;
-use crate::flaws::{both, with_part};
+use crate::flaws::with_part;
 use crate::words::Words;
-use adj_expression::Flaw;
+use adj_expression::{Flaw, both};
 use adj_tree::{Act, Expr, Exprs, Memory, Name, Place};
 use std::alloc::Global;
 
