@@ -11,7 +11,7 @@ use Rattle.adj_meaning.proofs.Variables.{var_refl, var_same}
 use Rattle.adj_transpose.specs.Marks.{Vars}
 use Rattle.adj_facts.specs.Occurrences.{is_active, adjoint_reads}
 use Rattle.adj_facts.specs.Uses.{uses}
-use Rattle.adj_facts.specs.Variables.{has, list_if, vars_in, vars_in_terms, vars_in_test, vars_in_mark, occurring_in, adjoint_reads_in, read_in_actual, read_in_actuals, place_of_actual, handed_in_actuals, used_in, standing_in}
+use Rattle.adj_facts.specs.Variables.{has, list_if, whole_or, vars_in, vars_in_terms, vars_in_test, vars_in_mark, occurring_in, adjoint_reads_in, read_in_actual, read_in_actuals, place_of_actual, handed_in_actuals, used_in, standing_in}
 use Rattle.adj_facts.proofs.Members.{is_first, is_later, is_among, is_none, if_only}
 
 -- ---- lists
@@ -109,6 +109,48 @@ has_occurring v (pow a (suc k)) = has_occurring v a
 has_occurring v (power_of a b) = has_occurring v a
 has_occurring v (abs a) = refl
 
+-- what the adjoint of a term reads stands there
+whole_stands : (b : Bool) (whole part : List Var) (v : Var) → (Contains part v → Contains whole v) → Contains (whole_or b whole part) v → Contains whole v
+whole_stands true whole part v f c = c
+whole_stands false whole part v f c = f c
+
+pub adjoint_reads_stand : (on : Vars) (v : Var) (e : Term) → Contains (adjoint_reads_in on e) v → Contains (vars_in e) v
+adjoint_reads_stand on v (lit z) c = absurd (is_none v c)
+adjoint_reads_stand on v (var x) c = absurd (is_none v c)
+adjoint_reads_stand on v (elem x subs) c = is_later v x (vars_in_terms subs) (if_only (on x) (vars_in_terms subs) v c).1
+adjoint_reads_stand on v (neg a) c = adjoint_reads_stand on v a c
+adjoint_reads_stand on v (bin plus a b) c = within (adjoint_reads_in on a) (adjoint_reads_in on b) (vars_in a) (vars_in b) v (adjoint_reads_stand on v a) (adjoint_reads_stand on v b) c
+adjoint_reads_stand on v (bin minus a b) c = within (adjoint_reads_in on a) (adjoint_reads_in on b) (vars_in a) (vars_in b) v (adjoint_reads_stand on v a) (adjoint_reads_stand on v b) c
+adjoint_reads_stand on v (bin times a b) c =
+    within (whole_or (is_active on b) (vars_in a) (adjoint_reads_in on a)) (whole_or (is_active on a) (vars_in b) (adjoint_reads_in on b)) (vars_in a) (vars_in b) v
+    (whole_stands (is_active on b) (vars_in a) (adjoint_reads_in on a) v (adjoint_reads_stand on v a)) (whole_stands (is_active on a) (vars_in b) (adjoint_reads_in on b) v (adjoint_reads_stand on v b)) c
+adjoint_reads_stand on v (bin quot a b) c = absurd (is_none v c)
+adjoint_reads_stand on v (bin modulo a b) c = absurd (is_none v c)
+adjoint_reads_stand on v (bin greater a b) c = absurd (is_none v c)
+adjoint_reads_stand on v (bin lesser a b) c = absurd (is_none v c)
+adjoint_reads_stand on v (pow a zero) c = absurd (is_none v c)
+adjoint_reads_stand on v (pow a (suc zero)) c = adjoint_reads_stand on v a c
+adjoint_reads_stand on v (pow a (suc (suc k))) c = whole_stands (is_active on a) (vars_in a) (adjoint_reads_in on a) v (adjoint_reads_stand on v a) c
+adjoint_reads_stand on v (power_of a b) c = whole_stands (is_active on a) (vars_in a ++ vars_in b) (adjoint_reads_in on a) v (λ d. Contains-append_left (vars_in a) (vars_in b) v (adjoint_reads_stand on v a d)) c
+adjoint_reads_stand on v (abs a) c = absurd (is_none v c)
+
+-- a list that holds a set, or else a part of it that holds another
+has_whole : (b : Bool) (whole part : List Var) (v : Var) {p q : Bool} → has whole v ≡ p → has part v ≡ q → (Contains part v → Contains whole v) → has (whole_or b whole part) v ≡ ((b && p) || q)
+has_whole false whole part v e f within = f
+has_whole true whole part v {p} {q} e f within = e ∙ go p q (λ h. sym e ∙ has_it whole v (within (has_only part v (f ∙ h))))
+  where
+    go : (p q : Bool) → (q ≡ true → p ≡ true) → p ≡ (p || q)
+    go true q h = refl
+    go false true h = h refl
+    go false false h = refl
+
+turned_or : (p q x y : Bool) → ((p || q) || (x || y)) ≡ (x || (p || (q || y)))
+turned_or true q true y = refl
+turned_or true q false y = refl
+turned_or false true true y = refl
+turned_or false true false y = refl
+turned_or false false x y = refl
+
 pub has_adjoint_reads : (on : Vars) (v : Var) (e : Term) → has (adjoint_reads_in on e) v ≡ adjoint_reads on e v
 has_adjoint_reads on v (lit z) = refl
 has_adjoint_reads on v (var x) = refl
@@ -117,18 +159,20 @@ has_adjoint_reads on v (neg a) = has_adjoint_reads on v a
 has_adjoint_reads on v (bin plus a b) = joint (adjoint_reads_in on a) (adjoint_reads_in on b) v (has_adjoint_reads on v a) (has_adjoint_reads on v b)
 has_adjoint_reads on v (bin minus a b) = joint (adjoint_reads_in on a) (adjoint_reads_in on b) v (has_adjoint_reads on v a) (has_adjoint_reads on v b)
 has_adjoint_reads on v (bin times a b) =
-    joint (list_if (is_active on a) (vars_in b)) (list_if (is_active on b) (vars_in a) ++ (adjoint_reads_in on a ++ adjoint_reads_in on b)) v (has_if (is_active on a) (vars_in b) v (has_vars v b))
-    (joint (list_if (is_active on b) (vars_in a)) (adjoint_reads_in on a ++ adjoint_reads_in on b) v (has_if (is_active on b) (vars_in a) v (has_vars v a))
-    (joint (adjoint_reads_in on a) (adjoint_reads_in on b) v (has_adjoint_reads on v a) (has_adjoint_reads on v b)))
+    joint (whole_or (is_active on b) (vars_in a) (adjoint_reads_in on a)) (whole_or (is_active on a) (vars_in b) (adjoint_reads_in on b)) v
+    (has_whole (is_active on b) (vars_in a) (adjoint_reads_in on a) v (has_vars v a) (has_adjoint_reads on v a) (adjoint_reads_stand on v a))
+    (has_whole (is_active on a) (vars_in b) (adjoint_reads_in on b) v (has_vars v b) (has_adjoint_reads on v b) (adjoint_reads_stand on v b))
+    ∙ turned_or (is_active on b && reads_term v a) (adjoint_reads on a v) (is_active on a && reads_term v b) (adjoint_reads on b v)
 has_adjoint_reads on v (bin quot a b) = refl
 has_adjoint_reads on v (bin modulo a b) = refl
 has_adjoint_reads on v (bin greater a b) = refl
 has_adjoint_reads on v (bin lesser a b) = refl
 has_adjoint_reads on v (pow a zero) = refl
 has_adjoint_reads on v (pow a (suc zero)) = has_adjoint_reads on v a
-has_adjoint_reads on v (pow a (suc (suc k))) = joint (list_if (is_active on a) (vars_in a)) (adjoint_reads_in on a) v (has_if (is_active on a) (vars_in a) v (has_vars v a)) (has_adjoint_reads on v a)
+has_adjoint_reads on v (pow a (suc (suc k))) = has_whole (is_active on a) (vars_in a) (adjoint_reads_in on a) v (has_vars v a) (has_adjoint_reads on v a) (adjoint_reads_stand on v a)
 has_adjoint_reads on v (power_of a b) =
-    joint (list_if (is_active on a) (vars_in a ++ vars_in b)) (adjoint_reads_in on a) v (has_if (is_active on a) (vars_in a ++ vars_in b) v (joint (vars_in a) (vars_in b) v (has_vars v a) (has_vars v b))) (has_adjoint_reads on v a)
+    has_whole (is_active on a) (vars_in a ++ vars_in b) (adjoint_reads_in on a) v (joint (vars_in a) (vars_in b) v (has_vars v a) (has_vars v b)) (has_adjoint_reads on v a)
+    (λ d. Contains-append_left (vars_in a) (vars_in b) v (adjoint_reads_stand on v a d))
 has_adjoint_reads on v (abs a) = refl
 
 -- ---- calls
@@ -195,43 +239,6 @@ occurs_stands v (pow a zero) c = absurd (is_none v c)
 occurs_stands v (pow a (suc k)) c = occurs_stands v a c
 occurs_stands v (power_of a b) c = Contains-append_left (vars_in a) (vars_in b) v (occurs_stands v a c)
 occurs_stands v (abs a) c = absurd (is_none v c)
-
--- what the adjoint of a term reads stands there
-pub adjoint_reads_stand : (on : Vars) (v : Var) (e : Term) → Contains (adjoint_reads_in on e) v → Contains (vars_in e) v
-adjoint_reads_stand on v (lit z) c = absurd (is_none v c)
-adjoint_reads_stand on v (var x) c = absurd (is_none v c)
-adjoint_reads_stand on v (elem x subs) c = is_later v x (vars_in_terms subs) (if_only (on x) (vars_in_terms subs) v c).1
-adjoint_reads_stand on v (neg a) c = adjoint_reads_stand on v a c
-adjoint_reads_stand on v (bin plus a b) c = within (adjoint_reads_in on a) (adjoint_reads_in on b) (vars_in a) (vars_in b) v (adjoint_reads_stand on v a) (adjoint_reads_stand on v b) c
-adjoint_reads_stand on v (bin minus a b) c = within (adjoint_reads_in on a) (adjoint_reads_in on b) (vars_in a) (vars_in b) v (adjoint_reads_stand on v a) (adjoint_reads_stand on v b) c
-adjoint_reads_stand on v (bin times a b) c =
-    go (Contains-append_cases (list_if (is_active on a) (vars_in b)) (list_if (is_active on b) (vars_in a) ++ (adjoint_reads_in on a ++ adjoint_reads_in on b)) v c) (adjoint_reads_stand on v a) (adjoint_reads_stand on v b)
-  where
-    second : Contains (list_if (is_active on b) (vars_in a)) v ⊎ Contains (adjoint_reads_in on a ++ adjoint_reads_in on b) v → (Contains (adjoint_reads_in on a) v → Contains (vars_in a) v) → (Contains (adjoint_reads_in on b) v → Contains (vars_in b) v) → Contains (vars_in a ++ vars_in b) v
-    second (inl d) f g = Contains-append_left (vars_in a) (vars_in b) v (if_only (is_active on b) (vars_in a) v d).1
-    second (inr d) f g = within (adjoint_reads_in on a) (adjoint_reads_in on b) (vars_in a) (vars_in b) v f g d
-
-    go : Contains (list_if (is_active on a) (vars_in b)) v ⊎ Contains (list_if (is_active on b) (vars_in a) ++ (adjoint_reads_in on a ++ adjoint_reads_in on b)) v → (Contains (adjoint_reads_in on a) v → Contains (vars_in a) v) → (Contains (adjoint_reads_in on b) v → Contains (vars_in b) v) →
-        Contains (vars_in a ++ vars_in b) v
-    go (inl d) f g = Contains-append_right (vars_in a) (vars_in b) v (if_only (is_active on a) (vars_in b) v d).1
-    go (inr d) f g = second (Contains-append_cases (list_if (is_active on b) (vars_in a)) (adjoint_reads_in on a ++ adjoint_reads_in on b) v d) f g
-adjoint_reads_stand on v (bin quot a b) c = absurd (is_none v c)
-adjoint_reads_stand on v (bin modulo a b) c = absurd (is_none v c)
-adjoint_reads_stand on v (bin greater a b) c = absurd (is_none v c)
-adjoint_reads_stand on v (bin lesser a b) c = absurd (is_none v c)
-adjoint_reads_stand on v (pow a zero) c = absurd (is_none v c)
-adjoint_reads_stand on v (pow a (suc zero)) c = adjoint_reads_stand on v a c
-adjoint_reads_stand on v (pow a (suc (suc k))) c = go (Contains-append_cases (list_if (is_active on a) (vars_in a)) (adjoint_reads_in on a) v c) (adjoint_reads_stand on v a)
-  where
-    go : Contains (list_if (is_active on a) (vars_in a)) v ⊎ Contains (adjoint_reads_in on a) v → (Contains (adjoint_reads_in on a) v → Contains (vars_in a) v) → Contains (vars_in a) v
-    go (inl d) f = (if_only (is_active on a) (vars_in a) v d).1
-    go (inr d) f = f d
-adjoint_reads_stand on v (power_of a b) c = go (Contains-append_cases (list_if (is_active on a) (vars_in a ++ vars_in b)) (adjoint_reads_in on a) v c) (adjoint_reads_stand on v a)
-  where
-    go : Contains (list_if (is_active on a) (vars_in a ++ vars_in b)) v ⊎ Contains (adjoint_reads_in on a) v → (Contains (adjoint_reads_in on a) v → Contains (vars_in a) v) → Contains (vars_in a ++ vars_in b) v
-    go (inl d) f = (if_only (is_active on a) (vars_in a ++ vars_in b) v d).1
-    go (inr d) f = Contains-append_left (vars_in a) (vars_in b) v (f d)
-adjoint_reads_stand on v (abs a) c = absurd (is_none v c)
 
 -- what is read of an actual stands in it
 read_stands : (w : Bool) (e : Term) (v : Var) → Contains (read_in_actual w e) v → Contains (vars_in e) v

@@ -61,7 +61,12 @@ occurring_in (pow a (suc k)) = occurring_in a
 occurring_in (power_of a b) = occurring_in a
 occurring_in (abs a) = []
 
--- those whose values the adjoint of a right side reads
+-- all of a list, or else a part of it
+abbrev pub whole_or : Bool → List Var → List Var → List Var
+whole_or true whole part = whole
+whole_or false whole part = part
+
+-- those whose values the adjoint of a right side reads, each occurrence once
 abbrev pub adjoint_reads_in : Vars → Term → List Var
 adjoint_reads_in on (lit z) = []
 adjoint_reads_in on (var x) = []
@@ -69,15 +74,15 @@ adjoint_reads_in on (elem x subs) = list_if (on x) (vars_in_terms subs)
 adjoint_reads_in on (neg a) = adjoint_reads_in on a
 adjoint_reads_in on (bin plus a b) = adjoint_reads_in on a ++ adjoint_reads_in on b
 adjoint_reads_in on (bin minus a b) = adjoint_reads_in on a ++ adjoint_reads_in on b
-adjoint_reads_in on (bin times a b) = list_if (is_active on a) (vars_in b) ++ (list_if (is_active on b) (vars_in a) ++ (adjoint_reads_in on a ++ adjoint_reads_in on b))
+adjoint_reads_in on (bin times a b) = whole_or (is_active on b) (vars_in a) (adjoint_reads_in on a) ++ whole_or (is_active on a) (vars_in b) (adjoint_reads_in on b)
 adjoint_reads_in on (bin quot a b) = []
 adjoint_reads_in on (bin modulo a b) = []
 adjoint_reads_in on (bin greater a b) = []
 adjoint_reads_in on (bin lesser a b) = []
 adjoint_reads_in on (pow a zero) = []
 adjoint_reads_in on (pow a (suc zero)) = adjoint_reads_in on a
-adjoint_reads_in on (pow a (suc (suc k))) = list_if (is_active on a) (vars_in a) ++ adjoint_reads_in on a
-adjoint_reads_in on (power_of a b) = list_if (is_active on a) (vars_in a ++ vars_in b) ++ adjoint_reads_in on a
+adjoint_reads_in on (pow a (suc (suc k))) = whole_or (is_active on a) (vars_in a) (adjoint_reads_in on a)
+adjoint_reads_in on (power_of a b) = whole_or (is_active on a) (vars_in a ++ vars_in b) (adjoint_reads_in on a)
 adjoint_reads_in on (abs a) = []
 
 -- ---- calls: by which dummies of the unit are in a set

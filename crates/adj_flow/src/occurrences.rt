@@ -4,7 +4,7 @@ ghost use Rattle.std.specs.Prelude.{◌≡◌, ◌++◌, ◌&&◌, IfOk, OnOk};
 ghost use Rattle.adj_tree.specs.Code.{plain};
 ghost use Rattle.adj_tree.specs.View.{term_of, terms_of};
 ghost use Rattle.adj_facts.specs.Occurrences.{is_active};
-ghost use Rattle.adj_facts.specs.Variables.{list_if, vars_in, vars_in_terms, adjoint_reads_in};
+ghost use Rattle.adj_facts.specs.Variables.{list_if, vars_in_terms, adjoint_reads_in};
 ghost use Rattle.adj_flow.specs.NodeView.{names_of};
 ghost use Rattle.adj_flow.specs.Active.{varied_by, shadowed_by, active_by};
 
@@ -83,46 +83,17 @@ impl Occurrences<'_, '_, '_> {
                 }
             }
             Expr::Bin(op, a, b) => match op {
+                // (in a chain of products the right operand is a factor, and the left one the rest of the chain)
                 Op::Add | Op::Sub | Op::Mul => {
-                    let first = self.is_active(a)?;
-                    let second = self.is_active(b)?;
-                    Ok(first || second)
+                    if self.is_active(b)? {
+                        return Ok(true);
+                    }
+                    self.is_active(a)
                 }
                 Op::Quot | Op::Mod | Op::Max | Op::Min => Ok(false),
             },
             Expr::Lit(_) | Expr::Abs(_) => Ok(false),
         }
-    }
-
-    // Adds what stands in an expression, if another one is active.
-    fn add_where<'t>(
-        self,
-        active: &Expr,
-        term: &'t Expr,
-        out: &mut Vec<&'t Name>,
-    ) -> Result<(), Memory>
-        ensures added { OnOk result (names_of out.new.items ≡ names_of out.old.items ++ list_if (is_active (active_by self.entry) (term_of active.now)) (vars_in (term_of term.now))) }
-    {
-        if self.is_active(active)? {
-            add_term(term, out)?;
-        }
-        Ok(())
-    }
-
-    // Adds what stands in the base and in the exponent of a power, if its base is active.
-    fn add_power<'t>(
-        self,
-        base: &'t Expr,
-        exponent: &'t Expr,
-        out: &mut Vec<&'t Name>,
-    ) -> Result<(), Memory>
-        ensures added { OnOk result (names_of out.new.items ≡ names_of out.old.items ++ list_if (is_active (active_by self.entry) (term_of base.now)) (vars_in (term_of base.now) ++ vars_in (term_of exponent.now))) }
-    {
-        if self.is_active(base)? {
-            add_term(base, out)?;
-            add_term(exponent, out)?;
-        }
-        Ok(())
     }
 
     // Adds what stands in the subscripts of an element, if its array is active.
@@ -140,6 +111,7 @@ impl Occurrences<'_, '_, '_> {
 
     /// Adds the variables whose values the adjoint of a right side reads: those in the other factor of an active factor, in the base of an
     /// active power of at least 2, in the base and the exponent of an active power by an expression, and in subscripts of active occurrences.
+    /// Where all that stands in a part is read, the part isn't gone through again, so that each occurrence is added once.
     pub fn add_reads<'t>(self, term: &'t Expr, out: &mut Vec<&'t Name>) -> Result<(), Memory>
         ensures added { OnOk result (names_of out.new.items ≡ names_of out.old.items ++ adjoint_reads_in (active_by self.entry) (term_of term.now)) }
     {
@@ -151,13 +123,20 @@ impl Occurrences<'_, '_, '_> {
                 0 => Ok(()),
                 1 => self.add_reads(a, out),
                 _ => {
-                    self.add_where(a, a, out)?;
-                    self.add_reads(a, out)
+                    if self.is_active(a)? {
+                        add_term(a, out)
+                    } else {
+                        self.add_reads(a, out)
+                    }
                 }
             },
             Expr::Power(a, b) => {
-                self.add_power(a, b, out)?;
-                self.add_reads(a, out)
+                if self.is_active(a)? {
+                    add_term(a, out)?;
+                    add_term(b, out)
+                } else {
+                    self.add_reads(a, out)
+                }
             }
             Expr::Bin(op, a, b) => match op {
                 Op::Add | Op::Sub => {
@@ -165,10 +144,18 @@ impl Occurrences<'_, '_, '_> {
                     self.add_reads(b, out)
                 }
                 Op::Mul => {
-                    self.add_where(a, b, out)?;
-                    self.add_where(b, a, out)?;
-                    self.add_reads(a, out)?;
-                    self.add_reads(b, out)
+                    let needs_left = self.is_active(b)?;
+                    if needs_left {
+                        add_term(a, out)?;
+                    } else {
+                        self.add_reads(a, out)?;
+                    }
+                    let needs_right = self.is_active(a)?;
+                    if needs_right {
+                        add_term(b, out)
+                    } else {
+                        self.add_reads(b, out)
+                    }
                 }
                 Op::Quot | Op::Mod | Op::Max | Op::Min => Ok(()),
             },
