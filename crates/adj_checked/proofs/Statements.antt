@@ -24,7 +24,7 @@ use Rattle.adj_reverse.specs.Reversals.{ReversedLines}
 use Rattle.adj_reverse.specs.Theorem.{schedules_by}
 use Rattle.adj_reverse.specs.Names.{source_names, adjoint_after}
 use Rattle.adj_reverse.specs.Laws.{CalleeFacts}
-use Rattle.adj_reverse.specs.Kernel.{AsMany, ReversalFits, CallFits, FitsBy, FitsListBy}
+use Rattle.adj_reverse.specs.Kernel.{AsMany, HasSlots, ReversalFits, CallFits, FitsBy, FitsListBy}
 use Rattle.adj_reverse.specs.Marking.{ProgramMarks, ProgramFacts, marks_in, callee_of, callee_facts, arrays_of}
 use Rattle.adj_reverse.specs.Program.{calls_act, calls_in, turns_act, turns_in}
 use Rattle.adj_reverse.specs.Source.{is_unit}
@@ -32,7 +32,7 @@ use Rattle.adj_reverse.proofs.Full.{GivesNames', GivesNames}
 use Rattle.adj_reverse.proofs.ByStep.{step_inside, step_known}
 use Rattle.adj_reverse.proofs.EmittedUnits.{found_there, apart_source}
 use Rattle.adj_checked.specs.Checked.{TellsAct, TellsCode}
-use Rattle.adj_checked.proofs.StepCalls.{turned_alone}
+use Rattle.adj_checked.proofs.StepCalls.{slots_written, turned_alone}
 use Rattle.adj_checked.proofs.Lists.{Each, each_front, each_behind, each_more, none_each, none_if}
 use Rattle.adj_checked.proofs.Texts.{Known, text_term, text_terms, text_test, place_variable, place_terms, known_term, treated, actuals_given, actuals_apart, actuals_known, actuals_many, actuals_rank}
 
@@ -218,10 +218,10 @@ module _ (sb : Bool) (lines : ReversedLines) (rules : Rules) (facts : ProgramFac
   loop_choice i body mark w inside rest None e t = rest t
   loop_choice i body mark w inside rest (Some r) e t =
       let known = step_known sb g m.adjointed i body mark r e in
-      let few = subst IsWrittenMark known.marked w in
+      let slots = subst HasSlots known.marked (slots_written sc m.adjointed i body mark r e w) in
       let is_there = step_inside (is_unit ps) sc m.adjointed i body mark r e (calls_inside ps u body (each_more Sound (CallHasNone ps u) (λ s o. (let called = o.called in called)) (statements body) inside)) in
       let apart = own_apart r.name is_there in (
-        record { some = few.0; few = few.1; other_name = apart; other_adjoint = name_comm r.name (g r.name).callee.adjoint apart; emitted = t r.name (name_refl r.name) },
+        record { slots = slots; other_name = apart; other_adjoint = name_comm r.name (g r.name).callee.adjoint apart; emitted = t r.name (name_refl r.name) },
         rest (λ n h. absurd (let c : true ≡ false = sym h ∙ turned_alone sc m.adjointed i body mark r n (suc i) e in cc)),
       )
 

@@ -1,36 +1,51 @@
--- The turns of a marked loop that is reversed by a schedule, and what lines tell where none is.
+-- The directive and the turns of a marked loop that is reversed by a schedule, and what lines tell where none is.
 use Rattle.std.proofs.Common.{◌≡◌, ℕ, suc, Bool, true, false, List, [], ◌∷◌, refl, sym, ap, ◌∙◌, if◌then◌else◌}
 use Rattle.std.specs.Prelude.{◌&&◌, ◌||◌, Some, None}
-use Rattle.adj_tree.specs.Code.{name_eq, Mark, unmarked, with_count, count_from, Act, assign, choose, loop, during, call, runtime, Code, stop, step, Procedure}
+use Rattle.adj_tree.specs.Code.{Var, plain, shadow, helper, name_eq, Mark, unmarked, with_count, count_from, Act, assign, choose, loop, during, call, runtime, Code, stop, step, Procedure}
 use Rattle.adj_meaning.specs.Written.{find_unit}
+use Rattle.adj_text.specs.Written.{IsVariable, IsWrittenMark}
 use Rattle.adj_transpose.specs.Marks.{Vars, next, behind}
 use Rattle.adj_transpose.proofs.Variables.{or_left, or_right}
 use Rattle.adj_reverse.specs.Plan.{Schedules, Step, step_in, reversed_by}
 use Rattle.adj_reverse.specs.Laws.{CalleeFacts}
+use Rattle.adj_reverse.specs.Kernel.{is_text, HasSlots}
 use Rattle.adj_reverse.specs.Marking.{first_from}
 use Rattle.adj_reverse.specs.Program.{turns_act, turns_in, turns_some}
 use Rattle.adj_checked.specs.Checked.{TellsAct, TellsCode}
 
-step_alone : (reads : List ℕ → Vars) (r : Schedules) (f : ℕ → Bool) (n : ℕ) (body : Code) (s : Step) (name : List ℕ) (j : ℕ) → step_in reads n body ≡ Some s → turns_in r f name j body ≡ false
-step_alone reads r f n stop s name j e = refl
-step_alone reads r f n (step line (assign x subs a) rest) s name j e = absurd cc
-step_alone reads r f n (step line (choose c a b) rest) s name j e = absurd cc
-step_alone reads r f n (step line (loop x a b c body m) rest) s name j e = absurd cc
-step_alone reads r f n (step line (during c body) rest) s name j e = absurd cc
-step_alone reads r f n (step line (runtime o) rest) s name j e = absurd cc
-step_alone reads r f n (step line (call other args) (step l a rest)) s name j e = absurd cc
-step_alone reads r f n (step line (call other args) stop) s name j e = refl
+step_alone : (reads : List ℕ → Vars) (r : Schedules) (f : ℕ → Bool) (mark : Mark) (body : Code) (s : Step) (name : List ℕ) (j : ℕ) → step_in reads mark body ≡ Some s → turns_in r f name j body ≡ false
+step_alone reads r f mark stop s name j e = refl
+step_alone reads r f mark (step line (assign x subs a) rest) s name j e = absurd cc
+step_alone reads r f mark (step line (choose c a b) rest) s name j e = absurd cc
+step_alone reads r f mark (step line (loop x a b c body m) rest) s name j e = absurd cc
+step_alone reads r f mark (step line (during c body) rest) s name j e = absurd cc
+step_alone reads r f mark (step line (runtime o) rest) s name j e = absurd cc
+step_alone reads r f mark (step line (call other args) (step l a rest)) s name j e = absurd cc
+step_alone reads r f mark (step line (call other args) stop) s name j e = refl
+
+alone_if : (reads : List ℕ → Vars) (f : ℕ → Bool) (mark : Mark) (body : Code) (s : Step) (name : List ℕ) (j : ℕ) (b : Bool) → (if b then step_in reads mark body else None) ≡ Some s → turns_in (Some reads) f name j body ≡ false
+alone_if reads f mark body s name j true h = step_alone reads (Some reads) f mark body s name j h
+alone_if reads f mark body s name j false h = absurd cc
 
 -- in its body no loop is reversed
 pub turned_alone : (r : Schedules) (f : ℕ → Bool) (i : ℕ) (body : Code) (mark : Mark) (s : Step) (name : List ℕ) (j : ℕ) → reversed_by r f i body mark ≡ Some s → turns_in r f name j body ≡ false
 turned_alone None f i body mark s name j e = absurd cc
 turned_alone (Some reads) f i body unmarked s name j e = absurd cc
-turned_alone (Some reads) f i body (count_from x) s name j e = absurd cc
-turned_alone (Some reads) f i body (with_count n) s name j e = go (f (suc i)) e
-  where
-    go : (b : Bool) → (if b then step_in reads n body else None) ≡ Some s → turns_in (Some reads) f name j body ≡ false
-    go true h = step_alone reads (Some reads) f n body s name j h
-    go false h = absurd cc
+turned_alone (Some reads) f i body (with_count n) s name j e = alone_if reads f (with_count n) body s name j (f (suc i)) e
+turned_alone (Some reads) f i body (count_from x) s name j e = alone_if reads f (count_from x) body s name j (f (suc i)) e
+
+-- a variable that can be written as a text is of the text
+variable_text : (x : Var) → IsVariable x → is_text x ≡ true
+variable_text (plain x) h = refl
+variable_text (shadow x) h = absurd h
+variable_text (helper r k) h = absurd h
+
+-- its directive gives a number of snapshots
+pub slots_written : (r : Schedules) (f : ℕ → Bool) (i : ℕ) (body : Code) (mark : Mark) (s : Step) → reversed_by r f i body mark ≡ Some s → IsWrittenMark mark → HasSlots mark
+slots_written None f i body mark s e w = absurd cc
+slots_written (Some reads) f i body unmarked s e w = absurd cc
+slots_written (Some reads) f i body (with_count n) s e w = w
+slots_written (Some reads) f i body (count_from x) s e w = variable_text x w
 
 -- where no loop is reversed by a schedule none is turned
 mutual

@@ -1,7 +1,7 @@
 -- What each action of a reversal does, from what the groups and the calls of the step unit and of its adjoint do.
 use Rattle.std.proofs.Common.{◌≡◌, ◌<◌, ◌^◌, ℕ, zero, suc, ◌+◌, ◌-◌, Bool, true, false, List, [], ◌∷◌, ◌++◌, length, Some, refl, sym, ap, ◌∙◌, subst, arith}
 use Rattle.std.specs.Prelude.{ℤ, pos, ◌-ℤ◌, nat_le, slice_get, Ok, ◌==◌, ◌&&◌}
-use Rattle.adj_tree.specs.Code.{Role, role_code, Var, plain, shadow, helper, first, stride, count, turn, entry, kind, lower, upper, name_eq, plus, minus, times, var, bin, none, assign, unmarked, loop, runtime, give_action, Code}
+use Rattle.adj_tree.specs.Code.{Role, role_code, Var, plain, shadow, helper, first, stride, count, turn, entry, kind, lower, upper, slots, name_eq, plus, minus, times, var, bin, none, Mark, assign, unmarked, loop, runtime, give_action, Code}
 use Rattle.adj_tree.proofs.Names.{nat_refl, name_refl}
 use Rattle.adj_word.specs.Word.{wrap, add, sub, mul, trip_count}
 use Rattle.adj_word.specs.Pairing.{pairing}
@@ -12,7 +12,7 @@ use Rattle.adj_revolve.specs.declared.machine.Action.TheVariants.{Store as Put, 
 use Rattle.adj_revolve.specs.Schedule.{schedule_of}
 use Rattle.adj_meaning.specs.Append.{◌+++◌}
 use Rattle.adj_meaning.specs.Store.{Shape, Store, set}
-use Rattle.adj_meaning.specs.Value.{Setting}
+use Rattle.adj_meaning.specs.Value.{Setting, value}
 use Rattle.adj_meaning.specs.Run.{Calls, trips}
 use Rattle.adj_meaning.specs.Runtime.{steps_of, snapshots_of, kind_of, lower_of, upper_of}
 use Rattle.adj_meaning.specs.Leads.{Leads, ActLeads}
@@ -21,7 +21,8 @@ use Rattle.adj_transpose.specs.Pairs.{Key, Words, shadows, on_words}
 use Rattle.adj_transpose.specs.Lists.{Kept, scene}
 use Rattle.adj_reverse.specs.Emission.{literal}
 use Rattle.adj_reverse.specs.Reversals.{Called, Reversal, LoopRun, times as times_called, AreReversed}
-use Rattle.adj_reverse.specs.ReversalCode.{at_turn, arms, one_action}
+use Rattle.adj_reverse.specs.ReversalCode.{at_turn, arms, one_action, slots_of}
+use Rattle.adj_reverse.proofs.Slots.{slots_same}
 use Rattle.adj_reverse.proofs.Turns.{next_store}
 use Rattle.adj_reverse.proofs.Told.{AreBetween}
 use Rattle.adj_reverse.proofs.Goings.{Goes, TurnsGo, goes_leads, goes_one, goes_step_before, turns_go-none, turns_go-more, turns_go-one, loop_goes}
@@ -50,17 +51,19 @@ record SameFixed (d : ℕ) (f g : Store ℤ) : Type 0 where
   count_is : g (helper count d) 0 ≡ f (helper count d) 0
   first_is : g (helper first d) 0 ≡ f (helper first d) 0
   stride_is : g (helper stride d) 0 ≡ f (helper stride d) 0
+  slots_is : g (helper slots d) 0 ≡ f (helper slots d) 0
   entry_is : g (helper entry d) 0 ≡ f (helper entry d) 0
   kind_is : g (helper kind d) 0 ≡ f (helper kind d) 0
 
 fixed_of : (d : ℕ) (f g : Store ℤ) → SameHelpers f g → SameFixed d f g
-fixed_of d f g h = record { count_is = h.at count d 0; first_is = h.at first d 0; stride_is = h.at stride d 0; entry_is = h.at entry d 0; kind_is = h.at kind d 0 }
+fixed_of d f g h = record { count_is = h.at count d 0; first_is = h.at first d 0; stride_is = h.at stride d 0; slots_is = h.at slots d 0; entry_is = h.at entry d 0; kind_is = h.at kind d 0 }
 
 fixed_then : (d : ℕ) (f g h : Store ℤ) → SameFixed d f g → SameFixed d g h → SameFixed d f h
-fixed_then d f g h a b = record { count_is = b.count_is ∙ a.count_is; first_is = b.first_is ∙ a.first_is; stride_is = b.stride_is ∙ a.stride_is; entry_is = b.entry_is ∙ a.entry_is; kind_is = b.kind_is ∙ a.kind_is }
+fixed_then d f g h a b = record { count_is = b.count_is ∙ a.count_is; first_is = b.first_is ∙ a.first_is; stride_is = b.stride_is ∙ a.stride_is; slots_is = b.slots_is ∙ a.slots_is; entry_is = b.entry_is ∙ a.entry_is; kind_is = b.kind_is ∙ a.kind_is }
 
--- the reversal of a loop of depth d and l turns with m snapshots; `a0` and `c0` are its first value and its step, x its variable
-module _ (q : Calls ℤ) (sh : Var → Shape) (level : ℕ) (cells : List Key) (d line : ℕ) (x : List ℕ) (l m : ℕ) (a0 c0 : ℤ) (unit adj : List ℕ) (Kind : Called → Type 0) (words : ℕ) (keep back plain_call adjoint : Code) (Standing : ℕ → Store ℤ → Type 0) (Loose : Store ℤ → Type 0) (Snap : ℕ → List ℤ → Type 0) (change : ℕ → Words → Words) (loops : ℕ → List LoopRun) where
+-- the reversal of a loop of depth d and l turns with m snapshots, by its directive; `a0` and `c0` are its first value and its step, x its
+-- variable
+module _ (q : Calls ℤ) (sh : Var → Shape) (level : ℕ) (cells : List Key) (d line : ℕ) (x : List ℕ) (l m : ℕ) (mark : Mark) (a0 c0 : ℤ) (unit adj : List ℕ) (Kind : Called → Type 0) (words : ℕ) (keep back plain_call adjoint : Code) (Standing : ℕ → Store ℤ → Type 0) (Loose : Store ℤ → Type 0) (Snap : ℕ → List ℤ → Type 0) (change : ℕ → Words → Words) (loops : ℕ → List LoopRun) where
   abbrev nw : Setting ℤ
   nw = on_words sh level
 
@@ -128,13 +131,14 @@ module _ (q : Calls ℤ) (sh : Var → Shape) (level : ℕ) (cells : List Key) (
   all = schedule_of 0 l m
 
   abbrev pub action : Code
-  action = one_action line d (plain x) m keep back plain_call adjoint
+  action = one_action line d (plain x) (slots_of d mark) keep back plain_call adjoint
 
   -- before the k-th action
   pub record Ready (k : ℕ) (f : Store ℤ) : Type 0 where
     pub count_is : f (helper count d) 0 ≡ pos l
     pub first_is : f (helper first d) 0 ≡ a0
     pub stride_is : f (helper stride d) 0 ≡ c0
+    pub slots_is : value nw (slots_of d mark) f ≡ Ok (pos m)
     pub entry_is : f (helper entry d) 0 ≡ pos (suc k)
 
   -- the action is known
@@ -172,11 +176,11 @@ module _ (q : Calls ℤ) (sh : Var → Shape) (level : ℕ) (cells : List Key) (
     other_adj : (z : List Shape) (h : ℕ) → times_called adj (called unit z h) ≡ 0
     other_adj z h = rw differ' refl
 
-    gives : (k : ℕ) (a : Action) (rest : List Action) (b : Kept) (f : Store ℤ) (t : List ℤ) → past k all ≡ a ∷ rest → Ready k f → ActLeads q nw (runtime (give_action (var (helper count d)) (literal m) (var (helper entry d)) (helper kind d) (helper lower d) (helper upper d))) line (scene b f t) (scene b (told a f) t)
+    gives : (k : ℕ) (a : Action) (rest : List Action) (b : Kept) (f : Store ℤ) (t : List ℤ) → past k all ≡ a ∷ rest → Ready k f → ActLeads q nw (runtime (give_action (var (helper count d)) (slots_of d mark) (var (helper entry d)) (helper kind d) (helper lower d) (helper upper d))) line (scene b f t) (scene b (told a f) t)
     gives k a rest b f t at r =
         let found = at_past k all a rest at in
-        act_at_once q nw line (runtime (give_action (var (helper count d)) (literal m) (var (helper entry d)) (helper kind d) (helper lower d) (helper upper d))) (scene b f t) (scene b (told a f) t)
-        (λ j. rw (r.count_is, r.entry_is, steps_fit, snapshots_fit, found) refl)
+        act_at_once q nw line (runtime (give_action (var (helper count d)) (slots_of d mark) (var (helper entry d)) (helper kind d) (helper lower d) (helper upper d))) (scene b f t) (scene b (told a f) t)
+        (λ j. rw (r.count_is, r.slots_is, r.entry_is, steps_fit, snapshots_fit, found) refl)
 
     told_beside : (a : Action) (f : Store ℤ) → Beside f (told a f)
     told_beside a f =
@@ -213,11 +217,12 @@ module _ (q : Calls ℤ) (sh : Var → Shape) (level : ℕ) (cells : List Key) (
           calls = calls;
           rs = rs;
           runs = turns_go-one q nw action (helper entry d) (pos 1) b f f1 t t1 calls rs
-              (goes_step_before q nw line (runtime (give_action (var (helper count d)) (literal m) (var (helper entry d)) (helper kind d) (helper lower d) (helper upper d))) (arms line d (plain x) keep back plain_call adjoint) b f (told a f) f1 t t t1 calls rs (gives k a rest b f t at r) g);
+              (goes_step_before q nw line (runtime (give_action (var (helper count d)) (slots_of d mark) (var (helper entry d)) (helper kind d) (helper lower d) (helper upper d))) (arms line d (plain x) keep back plain_call adjoint) b f (told a f) f1 t t t1 calls rs (gives k a rest b f t at r) g);
           ready = subst (λ n. Ready n (next f1)) (sym again) (record {
             count_is = fixed.count_is ∙ r.count_is;
             first_is = fixed.first_is ∙ r.first_is;
             stride_is = fixed.stride_is ∙ r.stride_is;
+            slots_is = slots_same sh level d mark f (next f1) fixed.slots_is ∙ r.slots_is;
             entry_is = rw (nat_refl d) (ap (λ z. add z (pos 1)) (fixed.entry_is ∙ r.entry_is) ∙ up);
           });
           ends = e;
@@ -238,7 +243,7 @@ module _ (q : Calls ℤ) (sh : Var → Shape) (level : ℕ) (cells : List Key) (
     loose_next f h = s.loose f (next f) (next_beside f) h
 
     same_refl : (f : Store ℤ) → SameFixed d f f
-    same_refl f = record { count_is = refl; first_is = refl; stride_is = refl; entry_is = refl; kind_is = refl }
+    same_refl f = record { count_is = refl; first_is = refl; stride_is = refl; slots_is = refl; entry_is = refl; kind_is = refl }
 
     -- ---- snapshots
 
@@ -340,7 +345,7 @@ module _ (q : Calls ℤ) (sh : Var → Shape) (level : ℕ) (cells : List Key) (
               g1
               r.goes;
           stands = subst (λ z. Standing z r.after) sum r.stands;
-          fixed = fixed_then d f f3 r.after (record { count_is = c.helpers.at count d 0; first_is = c.helpers.at first d 0; stride_is = c.helpers.at stride d 0; entry_is = c.helpers.at entry d 0; kind_is = c.helpers.at kind d 0 }) r.fixed;
+          fixed = fixed_then d f f3 r.after (record { count_is = c.helpers.at count d 0; first_is = c.helpers.at first d 0; stride_is = c.helpers.at stride d 0; slots_is = c.helpers.at slots d 0; entry_is = c.helpers.at entry d 0; kind_is = c.helpers.at kind d 0 }) r.fixed;
           shades = λ y j. r.shades y j ∙ c.shades y j;
           units = let one : times_called unit (called unit c.shapes (length t) ++ r.calls) ≡ suc (times_called unit r.calls) = rw (name_refl unit) (omega arith) in one ∙ ap suc r.units;
           adjs = let none_here : times_called adj (called unit c.shapes (length t) ++ r.calls) ≡ times_called adj r.calls = rw differ' (omega arith) in none_here ∙ r.adjs;
@@ -368,7 +373,7 @@ module _ (q : Calls ℤ) (sh : Var → Shape) (level : ℕ) (cells : List Key) (
         (goes_one q nw line (loop (helper turn d) (var (helper lower d)) (bin minus (var (helper upper d)) (literal 1)) (literal 1) (at_turn line d (plain x) turn plain_call) unmarked) b f1 c.after t t c.calls []
         (loop_goes q nw line (helper turn d) (var (helper lower d)) (bin minus (var (helper upper d)) (literal 1)) (literal 1) (at_turn line d (plain x) turn plain_call) b f1 c.after t t (f1 (helper lower d) 0) (sub (f1 (helper upper d) 0) (pos 1)) (pos 1) n c.calls []
         refl refl refl (ap (λ z. trips unmarked z (sub (f1 (helper upper d) 0) (pos 1)) (pos 1)) (told_lower (Advance i (i + n)) f) ∙ ap (λ z. trips unmarked (pos i) (sub z (pos 1)) (pos 1)) (told_upper (Advance i (i + n)) f) ∙ trips_between i n less) c.goes)))
-        (record { count_is = c.fixed.count_is; first_is = c.fixed.first_is; stride_is = c.fixed.stride_is; entry_is = c.fixed.entry_is; kind_is = c.fixed.kind_is })
+        (record { count_is = c.fixed.count_is; first_is = c.fixed.first_is; stride_is = c.fixed.stride_is; slots_is = c.fixed.slots_is; entry_is = c.fixed.entry_is; kind_is = c.fixed.kind_is })
         (stands_next (i + n) c.after c.stands) (λ y. ap (λ z. pairing cells z y) (λ i x. c.shades x.0 x.1 i)) tt c.units c.adjs c.within
 
     pub acts : Acts q sh level cells action (helper entry d) unit adj Kind words Ready all l Standing Loose Snap change loops

@@ -1,7 +1,7 @@
 -- The sweeps of a list of statements transpose its derivative along each run that is done: one statement after the other.
 use Rattle.std.proofs.Common.{◌≡◌, ◌<◌, ◌^◌, ℕ, suc, ◌+◌, Bool, true, false, List, [], ◌∷◌, map, refl, sym, ap, ◌∙◌, subst, arith, if◌then◌else◌}
 use Rattle.std.specs.Prelude.{ℤ, pos, not, ◌&&◌, ◌||◌, Ok, Option, Some, None, IsTrue}
-use Rattle.adj_tree.specs.Code.{Var, plain, shadow, helper, name_eq, var_eq, Term, Terms, none, Test, Mark, with_count, Act, assign, choose, loop, during, call, runtime, push_word, pop_word, Code, stop, step, Procedure}
+use Rattle.adj_tree.specs.Code.{Var, plain, shadow, helper, name_eq, var_eq, Term, Terms, none, Test, Mark, Act, assign, choose, loop, during, call, runtime, push_word, pop_word, Code, stop, step, Procedure}
 use Rattle.adj_tree.proofs.Names.{name_refl}
 use Rattle.adj_word.specs.Word.{wrap, add, mul}
 use Rattle.adj_word.proofs.Counting.{start_step}
@@ -35,6 +35,7 @@ use Rattle.adj_reverse.specs.Theorem.{plan_of, schedules_by}
 use Rattle.adj_reverse.specs.ReversalCode.{row_forward, row_backward}
 use Rattle.adj_reverse.proofs.ByStep.{Reversed, step_known}
 use Rattle.adj_reverse.proofs.StepRuns.{steps_run}
+use Rattle.adj_reverse.proofs.Slots.{slots_marked, slots_found}
 use Rattle.adj_reverse.proofs.ReversedDone.{AtAnyLine, transposed_reversed}
 use Rattle.adj_reverse.proofs.CallStatements.{transposed_call}
 use Rattle.adj_reverse.proofs.Groups.{KnowsArrays}
@@ -174,16 +175,17 @@ module _ (sb : Bool) (p q : Calls ℤ) (free : AtAnyLine q) (lines : ReversedLin
     -- a DO that is reversed by a schedule: its body is its step call
     step_swept : (x : List ℕ) (a b c : Term) (at : ℕ) (t : Step) (i d line : ℕ) (s e : Scene ℤ) (k left : ℕ) →
         let body = one at (call t.name (actuals_named t.given)) in
-        let mark = with_count t.snapshots in
-        t.read ≡ (callees t.name).read → LoopFits lines line mark (units_of callees (Some t)) vars arrays handed x a b c body → ReversalFits (callees t.name) present (carried t.name) t → FitsListBy sc lines ps callees answers carried present m vars arrays handed (suc i) body → ReversedLaws w i x a b c (callees t.name) t.given → m.adjointed (suc i) ≡ true → CallsInside inside body → act p np (loop (plain x) a b c body mark) line s k ≡ Done e left → LoopDone' x a b c body mark i d line s e (Some t)
+        let mark = t.mark in
+        t.read ≡ (callees t.name).read → LoopFits lines line mark (units_of callees (Some t)) vars arrays handed x a b c body → ReversalFits (callees t.name) present (carried t.name) t → FitsListBy sc lines ps callees answers carried present m vars arrays handed (suc i) body → ReversedLaws w i x a b c mark (callees t.name) t.given → m.adjointed (suc i) ≡ true → CallsInside inside body → act p np (loop (plain x) a b c body mark) line s k ≡ Done e left → LoopDone' x a b c body mark i d line s e (Some t)
     step_swept x a b c at t i d line s e k left read_is f rf fl laws reached n h =
         let body = one at (call t.name (actuals_named t.given)) in
-        let mark = with_count t.snapshots in
+        let mark = t.mark in
         let va = value_done (value np a s.store) line _ _ e left h in
         let vb = value_done (value np b s.store) line _ _ e left va.goes in
         let vc = value_done (value np c s.store) line _ _ e left vb.goes in
         let l = value_done (trips mark va.value vb.value vc.value) line _ _ e left vc.goes in
         let o = then_done (turns np l.value (run p np body) (stepped np (plain x) vc.value) (with_turn np (plain x) (wrap va.value) s) k) (λ s1 j. Done (after_loop line l.value (in_force np mark s.store) s1) j) e left l.goes in
+        let force = slots_found np mark s.store rf.slots in
         let one_cell = known x f.scalar in
         let first_cell : 0 < size_of (sh (plain x)) = subst (λ z. 0 < z) (sym one_cell) (omega arith) in
         let fc = fl.0.0 t.given refl in
@@ -194,9 +196,9 @@ module _ (sb : Bool) (p q : Calls ℤ) (free : AtAnyLine q) (lines : ReversedLin
         transposed_more q lines qd sh level xs w d present (λ v. var_eq v (plain x) || writes_actual (callees t.name).callee t.given v) (λ v. var_eq v (plain x) || writes handed v body) (not (m.adjointed i) && is_plain m (suc i) body) (not (m.adjointed i) && is_plain m (suc i) body) (point_before i) (point_after i) (one line (loop (plain x) a b c body mark)) (forth_by x a b c body i d line (Some t)) (back_by x a b c body i d line (Some t)) s.store e.store
         (λ y z. let g = or_false (name_eq y x) (writes handed (plain y) body) z in rw (g.0, free_of y g.1) refl)
         (λ z. z)
-        (transposed_reversed q free lines qd sh level xs (cells_apart sh vars apart) w d present (carried t.name) callees arrays known i line at x one_cell (cells_has sh vars x 0 f.variable first_cell) a b c t f.text_first f.text_last f.text_step laws read_is (f.told refl) rf
+        (transposed_reversed q free lines qd sh level xs (cells_apart sh vars apart) w d present (carried t.name) callees arrays known i line at x one_cell (cells_has sh vars x 0 f.variable first_cell) a b c t f.text_first f.text_last f.text_step laws read_is (f.told (slots_marked mark rf.slots)) rf
         (own t.name fc.unit fc.found n.0) apart_ds fc.apart (entry_shadows t.name fc.unit fc.found n.0) (end_shadows t.name fc.unit fc.found n.0) (free_of x f.spares)
-        va.value vb.value vc.value l.value s.store e.store va.is vb.is vc.is l.is (λ j. (r.before j).store) (λ j. (r.behind j).store)
+        va.value vb.value vc.value l.value s.store e.store va.is vb.is vc.is l.is force.0 force.1 (λ j. (r.before j).store) (λ j. (r.behind j).store)
         (ap (λ (z : Scene ℤ). z.store) r.starts) (λ j less. ap (λ (z : Scene ℤ). z.store) (r.next j less)) (ap (λ (z : Scene ℤ). z.store) r.ends ∙ stores)
         (λ j less. turn_call (r.before j) (r.behind j) (r.given j) (r.left j) (r.done j less) (laws.call.shadows_actual) fc fl.0.1.0 rf.emitted n.0)
         (is_plain m (suc i) body))
@@ -218,10 +220,10 @@ module _ (sb : Bool) (p q : Calls ℤ) (free : AtAnyLine q) (lines : ReversedLin
         go None is f fb laws = subst (LoopDone' x a b c body mark i d line s e) (sym is) (plain_swept x a b c body mark i d line s e k left f laws.0 h (each fb laws.1))
         go (Some t) is f fb laws = subst (LoopDone' x a b c body mark i d line s e) (sym is) (stepped_by t (step_known sb callees m.adjointed i body mark t is) f fb.0 fb.1 laws.0 laws.1.0 laws.1.1)
           where
-            stepped_by : (t : Step) → Reversed (λ name. (callees name).read) m.adjointed i body mark t → LoopFits lines line mark (units_of callees (Some t)) vars arrays handed x a b c body → ReversalFits (callees t.name) present (carried t.name) t → FitsListBy sc lines ps callees answers carried present m vars arrays handed (suc i) body → (at : ℕ) → body ≡ one at (call t.name (actuals_named t.given)) → ReversedLaws w i x a b c (callees t.name) t.given → LoopDone' x a b c body mark i d line s e (Some t)
+            stepped_by : (t : Step) → Reversed (λ name. (callees name).read) m.adjointed i body mark t → LoopFits lines line mark (units_of callees (Some t)) vars arrays handed x a b c body → ReversalFits (callees t.name) present (carried t.name) t → FitsListBy sc lines ps callees answers carried present m vars arrays handed (suc i) body → (at : ℕ) → body ≡ one at (call t.name (actuals_named t.given)) → ReversedLaws w i x a b c t.mark (callees t.name) t.given → LoopDone' x a b c body mark i d line s e (Some t)
             stepped_by t known f rf fl at body_is rl =
                 subst (λ z. LoopFits lines line z (units_of callees (Some t)) vars arrays handed x a b c body → act p np (loop (plain x) a b c body z) line s k ≡ Done e left → LoopDone' x a b c body z i d line s e (Some t)) (sym known.marked)
-                (subst (λ z. FitsListBy sc lines ps callees answers carried present m vars arrays handed (suc i) z → CallsInside inside z → LoopFits lines line (with_count t.snapshots) (units_of callees (Some t)) vars arrays handed x a b c z → act p np (loop (plain x) a b c z (with_count t.snapshots)) line s k ≡ Done e left → LoopDone' x a b c z (with_count t.snapshots) i d line s e (Some t)) (sym body_is)
+                (subst (λ z. FitsListBy sc lines ps callees answers carried present m vars arrays handed (suc i) z → CallsInside inside z → LoopFits lines line t.mark (units_of callees (Some t)) vars arrays handed x a b c z → act p np (loop (plain x) a b c z t.mark) line s k ≡ Done e left → LoopDone' x a b c z t.mark i d line s e (Some t)) (sym body_is)
                 (λ fl n f h. step_swept x a b c at t i d line s e k left known.read f rf fl rl known.reached n h) fl n)
                 f h
 

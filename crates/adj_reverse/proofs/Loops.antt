@@ -49,12 +49,12 @@ loop_passes lines loops q n line x ea eb ec body mark other base s s' t a b c m 
     go (count_from y) o is = told (from_1_to_64 (n.numbers.shown (s y 0))) (ap (λ z. in_force n z s) (sym is)) (o refl)
 
 -- one of those that are to be reversed
-pub loop_passes_own : {C : Type 0} (lines : ReversedLines) (loops : List LoopRun) (q : Calls C) (n : Setting C) (line : ℕ) (x : Var) (ea eb ec : Term) (body : Code) (snapshots : ℕ) (step : StepUnits) → lines line ≡ Some step → (base : Kept) (s s' : Store C) (t : List C) (a b c : C) (m : ℕ) → value n ea s ≡ Ok a → value n eb s ≡ Ok b → value n ec s ≡ Ok c → trips (with_count snapshots) (n.numbers.shown a) (n.numbers.shown b) (n.numbers.shown c) ≡ Ok m → TurnsPass lines q n m body x (n.numbers.shown c) base (set s x 0 (n.numbers.of_word (wrap (n.numbers.shown a)))) s' t loops →
-    let run : LoopRun = record { mark = record { line = line; turns = m; snapshots = snapshots }; step = step } in ActPasses lines q n (loop x ea eb ec body (with_count snapshots)) line base s s' t (run ∷ loops)
-loop_passes_own lines loops q n line x ea eb ec body snapshots step own base s s' t a b c m ha hb hc hm l = record {
+pub loop_passes_own : {C : Type 0} (lines : ReversedLines) (loops : List LoopRun) (q : Calls C) (n : Setting C) (line : ℕ) (x : Var) (ea eb ec : Term) (body : Code) (mark : Mark) (snapshots : ℕ) (step : StepUnits) → lines line ≡ Some step → (base : Kept) (s s' : Store C) → in_force n mark s ≡ Some snapshots → (t : List C) (a b c : C) (m : ℕ) → value n ea s ≡ Ok a → value n eb s ≡ Ok b → value n ec s ≡ Ok c → trips mark (n.numbers.shown a) (n.numbers.shown b) (n.numbers.shown c) ≡ Ok m → TurnsPass lines q n m body x (n.numbers.shown c) base (set s x 0 (n.numbers.of_word (wrap (n.numbers.shown a)))) s' t loops →
+    let run : LoopRun = record { mark = record { line = line; turns = m; snapshots = snapshots }; step = step } in ActPasses lines q n (loop x ea eb ec body mark) line base s s' t (run ∷ loops)
+loop_passes_own lines loops q n line x ea eb ec body mark snapshots step own base s s' is t a b c m ha hb hc hm l = record {
   later = record { opened = l.later.opened; events = Marked line m snapshots ∷ l.later.events };
   tells = marks_own lines n.level (record { mark = record { line = line; turns = m; snapshots = snapshots }; step = step }) base l.later loops own l.tells;
-  runs = record { cost = l.cost; by = λ k. rw (ha, hb, hc, hm) (ap (λ o. then_do o (λ s1 j. Done (after_loop line m (Some snapshots) s1) j)) (l.by k)) };
+  runs = record { cost = l.cost; by = λ k. rw (ha, hb, hc, hm, is) (ap (λ o. then_do o (λ s1 j. Done (after_loop line m (Some snapshots) s1) j)) (l.by k)) };
 }
 
 -- ---- numbers of turns

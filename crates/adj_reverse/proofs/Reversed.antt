@@ -11,16 +11,16 @@ use Rattle.adj_reverse.proofs.StepUnits.{StandingIn, Loose, SnapIn, stepping}
 use Rattle.adj_reverse.proofs.Reversing.{reversing}
 
 pub reversals_turn : ReversalsTurn
-reversals_turn q sh level cells line x g given name p fits d l m few slot most a0 c0 change loops U U' s at base f t count_is first_is stride_is h =
+reversals_turn q sh level cells line x g given name p fits d l m mark few slot most a0 c0 change loops U U' s at base f t count_is first_is stride_is slots_is h =
     let n = numbers_few l m few slot most in
     let snapshot = step_snapshot g.callee g.read given in
     let free = fits.keeps_variable in
-    let st = stepping q sh level cells d line p fits.scalars x fits.one_cell l m a0 c0 g given fits.dummies_apart fits.given_apart name change loops U U' f s free in
-    let r = reversing q sh level cells (suc d) line x l m a0 c0 (step_units name g.callee g.read) (step_words q sh level cells line x g given name) (pushes p line snapshot) (pops p line snapshot) (one line (call name (actuals_named given))) (one line (adjoint_call g.callee given))
-    (StandingIn q sh level cells d line p fits.scalars x fits.one_cell l m a0 c0 g given fits.dummies_apart fits.given_apart name change loops U U' f s free)
-    (Loose q sh level cells d line p fits.scalars x fits.one_cell l m a0 c0 g given fits.dummies_apart fits.given_apart name change loops U U' f)
-    (SnapIn q sh level cells d line p fits.scalars x fits.one_cell l m a0 c0 g given fits.dummies_apart fits.given_apart name change loops U U' f s free)
-    change loops slot n.steps_fit n.snapshots_fit n.few n.small fits.other_name fits.other_adjoint st at base f t count_is first_is stride_is
+    let st = stepping q sh level cells d line p fits.scalars x fits.one_cell l m mark a0 c0 g given fits.dummies_apart fits.given_apart name change loops U U' f s free in
+    let r = reversing q sh level cells (suc d) line x l m mark a0 c0 (step_units name g.callee g.read) (step_words q sh level cells line x g given name) (pushes p line snapshot) (pops p line snapshot) (one line (call name (actuals_named given))) (one line (adjoint_call g.callee given))
+    (StandingIn q sh level cells d line p fits.scalars x fits.one_cell l m mark a0 c0 g given fits.dummies_apart fits.given_apart name change loops U U' f s free)
+    (Loose q sh level cells d line p fits.scalars x fits.one_cell l m mark a0 c0 g given fits.dummies_apart fits.given_apart name change loops U U' f)
+    (SnapIn q sh level cells d line p fits.scalars x fits.one_cell l m mark a0 c0 g given fits.dummies_apart fits.given_apart name change loops U U' f s free)
+    change loops slot n.steps_fit n.snapshots_fit n.few n.small fits.other_name fits.other_adjoint st at base f t count_is first_is stride_is slots_is
     (omega arith, record { at = h; framed = record { off = record { at = λ y j o. refl }; depth = record { at = λ r k c lt le. refl } } }) in
     record {
       after = r.after;

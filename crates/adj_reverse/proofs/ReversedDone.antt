@@ -1,7 +1,7 @@
 -- A marked loop that is reversed by a schedule and was done: its derivative and its sweeps.
 use Rattle.std.proofs.Common.{◌≡◌, ◌<◌, ℕ, zero, suc, ◌+◌, Bool, true, false, List, [], ◌∷◌, ◌++◌, refl, sym, ap, ◌∙◌, subst, arith}
 use Rattle.std.specs.Prelude.{ℤ, pos, Ok, ◌&&◌, ◌||◌, not, Some}
-use Rattle.adj_tree.specs.Code.{Var, plain, shadow, name_eq, Term, Terms, none, with_count, assign, loop, call, runtime, push_word, pop_word, Code, stop}
+use Rattle.adj_tree.specs.Code.{Var, plain, shadow, name_eq, Term, Terms, none, assign, loop, call, runtime, push_word, pop_word, Code, stop}
 use Rattle.adj_tree.proofs.Names.{name_refl}
 use Rattle.adj_word.specs.Word.{wrap, add, mul}
 use Rattle.adj_word.specs.Pairing.{put, stands_in, IsApart}
@@ -10,7 +10,7 @@ use Rattle.adj_meaning.specs.Append.{◌+++◌, one}
 use Rattle.adj_meaning.specs.Store.{Shape, size_of, Store, set}
 use Rattle.adj_meaning.specs.Value.{Setting, value}
 use Rattle.adj_meaning.specs.Scene.{Scene, Done}
-use Rattle.adj_meaning.specs.Run.{Calls, trips}
+use Rattle.adj_meaning.specs.Run.{Calls, trips, in_force}
 use Rattle.adj_meaning.specs.Read.{reads_term}
 use Rattle.adj_transpose.specs.Marks.{Vars, Marks, point_before, point_after}
 use Rattle.adj_transpose.specs.Marked.{code_if}
@@ -40,6 +40,7 @@ use Rattle.adj_reverse.proofs.CallTangents.{tangents_out, shadows_out}
 use Rattle.adj_reverse.proofs.CallAdjoints.{writes_actual}
 use Rattle.adj_reverse.proofs.CallSweeps.{CallTransposed}
 use Rattle.adj_reverse.proofs.CallStatements.{call_matches, call_unwritten}
+use Rattle.adj_reverse.proofs.Slots.{slots_marked, force_dual}
 use Rattle.adj_reverse.proofs.Turns.{TurnsPass}
 use Rattle.adj_reverse.proofs.Loops.{loop_passes_own, turning}
 use Rattle.adj_reverse.proofs.LoopTangents.{LoopTangents, set_dual, put_there, matches_cut, tangents_none, tangents_more}
@@ -67,7 +68,7 @@ record TurnMakes : Type 0 where
   pub loops : List LoopRun
 
 module _ (q : Calls ℤ) (free : AtAnyLine q) (lines : ReversedLines) (qd : Calls (ℤ × ℤ)) (sh : Var → Shape) (level : ℕ) (xs : List Key) (apart : IsApart key_eq xs) (w : Facts) (d : ℕ) (present carried : Bool) (callees : List ℕ → CalleeFacts) (arrays : Vars) (known : KnowsArrays (plan_of callees w arrays) sh) (i line at : ℕ) (x : List ℕ) (one_cell : size_of (sh (plain x)) ≡ 1) (in_list : stands_in key_eq (x, 0) xs ≡ true) (ea eb ec : Term) (s : Step) (text_a : AllText (λ v. reads_term v ea)) (text_b : AllText (λ v. reads_term v eb)) (text_c : AllText (λ v. reads_term v ec))
-    (laws : ReversedLaws w i x ea eb ec (callees s.name) s.given) (read_is : s.read ≡ (callees s.name).read) (own_line : lines line ≡ Some (step_units s.name (callees s.name).callee s.read)) (fits : ReversalFits (callees s.name) present carried s)
+    (laws : ReversedLaws w i x ea eb ec s.mark (callees s.name) s.given) (read_is : s.read ≡ (callees s.name).read) (own_line : lines line ≡ Some (step_units s.name (callees s.name).callee s.read)) (fits : ReversalFits (callees s.name) present carried s)
     (own : (v : Var) → (callees s.name).callee.shadowed v ≡ (callees s.name).facts.marks.shadowed v) (apart_ds : AreApart (callees s.name).callee.dummies) (apart_given : AreApart s.given) (entry_shadows : (v : Var) → In v ((callees s.name).facts.marks.varied (callees s.name).entry) → In v ((callees s.name).facts.marks.useful (callees s.name).entry) → In v (callees s.name).facts.marks.shadowed) (end_shadows : (v : Var) → In v ((callees s.name).facts.marks.varied (callees s.name).end) → In v ((callees s.name).facts.marks.useful (callees s.name).end) → In v (callees s.name).facts.marks.shadowed)
     (x_free : writes_actual (callees s.name).callee s.given (plain x) ≡ false) where
   abbrev g : CalleeFacts
@@ -104,7 +105,7 @@ module _ (q : Calls ℤ) (free : AtAnyLine q) (lines : ReversedLines) (qd : Call
   body = one at (call s.name (actuals_named s.given))
 
   abbrev this : Code
-  this = one line (loop (plain x) ea eb ec body (with_count s.snapshots))
+  this = one line (loop (plain x) ea eb ec body s.mark)
 
   -- a turn
   abbrev Called' : Store ℤ → Store ℤ → Type 0
@@ -126,7 +127,7 @@ module _ (q : Calls ℤ) (free : AtAnyLine q) (lines : ReversedLines) (qd : Call
     none_reversed = λ e. absurd (not_true e);
   }
 
-  module _ (a0 b0 c0 : ℤ) (l : ℕ) (u u' : Store ℤ) (is_a : value np ea u ≡ Ok a0) (is_b : value np eb u ≡ Ok b0) (is_c : value np ec u ≡ Ok c0) (turns_is : trips (with_count s.snapshots) a0 b0 c0 ≡ Ok l) (U U' : ℕ → Store ℤ)
+  module _ (a0 b0 c0 : ℤ) (l : ℕ) (u u' : Store ℤ) (is_a : value np ea u ≡ Ok a0) (is_b : value np eb u ≡ Ok b0) (is_c : value np ec u ≡ Ok c0) (turns_is : trips s.mark a0 b0 c0 ≡ Ok l) (snapshots : ℕ) (force_is : in_force np s.mark u ≡ Some snapshots) (U U' : ℕ → Store ℤ)
       (starts : U 0 ≡ set u (plain x) 0 (wrap a0)) (nexts : (j : ℕ) → j < l → U (suc j) ≡ set (U' j) (plain x) 0 (add (U' j (plain x) 0) c0)) (ends : U l ≡ u') (each : (j : ℕ) → j < l → Called' (U j) (U' j)) where
     -- the call of a turn, and what it makes
     record TurnIs (j : ℕ) (made : TurnMakes) : Type 0 where
@@ -186,7 +187,7 @@ module _ (q : Calls ℤ) (free : AtAnyLine q) (lines : ReversedLines) (qd : Call
     change z = changes change_at 0 l (reset_by (resets m i x) z)
 
     abbrev own_run : LoopRun
-    own_run = record { mark = record { line = line; turns = l; snapshots = s.snapshots }; step = step_units s.name g.callee g.read }
+    own_run = record { mark = record { line = line; turns = l; snapshots = snapshots }; step = step_units s.name g.callee g.read }
 
     dual_loop : (home : Kept) (y : Words) (t : List (ℤ × ℤ)) → Passes lines qd nd this home (with_tangents u y) (with_tangents u' (derivative y)) t (own_run ∷ all_loops)
     dual_loop home y t =
@@ -194,8 +195,8 @@ module _ (q : Calls ℤ) (free : AtAnyLine q) (lines : ReversedLines) (qd : Call
         let vb = value_dual (plainly sh) level u y eb b0 is_b in
         let vc = value_dual (plainly sh) level u y ec c0 is_c in
         let turns = all.tangents.dual home (put key_eq y (x, 0) (pos 0)) t in
-        passes_one qd nd lines (own_run ∷ all_loops) line (loop (plain x) ea eb ec body (with_count s.snapshots)) home (with_tangents u y) (with_tangents u' (derivative y)) t
-        (loop_passes_own lines all_loops qd nd line (plain x) ea eb ec body s.snapshots (step_units s.name g.callee g.read) (own_line ∙ ap (λ (z : Vars). Some (step_units s.name g.callee z)) read_is) home (with_tangents u y) (with_tangents u' (derivative y)) t (a0, va.tangent) (b0, vb.tangent) (c0, vc.tangent) l va.is vb.is vc.is turns_is
+        passes_one qd nd lines (own_run ∷ all_loops) line (loop (plain x) ea eb ec body s.mark) home (with_tangents u y) (with_tangents u' (derivative y)) t
+        (loop_passes_own lines all_loops qd nd line (plain x) ea eb ec body s.mark snapshots (step_units s.name g.callee g.read) (own_line ∙ ap (λ (z : Vars). Some (step_units s.name g.callee z)) read_is) home (with_tangents u y) (with_tangents u' (derivative y)) (force_dual (plainly sh) level u y s.mark ∙ force_is) t (a0, va.tangent) (b0, vb.tangent) (c0, vc.tangent) l va.is vb.is vc.is turns_is
         (subst (λ (f : Store (ℤ × ℤ)). TurnsPass lines qd nd l body (plain x) c0 home f (with_tangents u' (derivative y)) t all_loops) (sym (set_dual x u y (wrap a0)))
         (subst (λ z. TurnsPass lines qd nd l body (plain x) c0 home (with_tangents (set u (plain x) 0 (wrap a0)) (put key_eq y (x, 0) (pos 0))) (with_tangents u' (derivative y)) t z) all.loops_are turns)))
 
@@ -275,8 +276,8 @@ module _ (q : Calls ℤ) (free : AtAnyLine q) (lines : ReversedLines) (qd : Call
     rows : present ≡ true → (b : Kept) (f : Store ℤ) (t : List ℤ) → SameOn sh (w.needed (point_before i)) u f → ReversedRow q sh level xs d x wrote (w.needed (point_after i)) (w.held (point_after i)) (w.held (point_before i)) (row_forward plan i (suc d) line x ea eb ec s) (row_backward plan i (suc d) line x s) b u' f t (changes change_at 0 l) (own_run ∷ all_loops)
     rows pr b f t same =
         subst (λ (z : Store ℤ). ReversedRow q sh level xs d x wrote (w.needed (point_after i)) (w.held (point_after i)) (w.held (point_before i)) (row_forward plan i (suc d) line x ea eb ec s) (row_backward plan i (suc d) line x s) b z f t (changes change_at 0 l) (own_run ∷ all_loops)) ends
-        (subst (λ (z : Vars). let v : Step = record { name = s.name; given = s.given; read = z; snapshots = s.snapshots } in ReversedRow q sh level xs d x wrote (w.needed (point_after i)) (w.held (point_after i)) (w.held (point_before i)) (row_forward plan i (suc d) line x ea eb ec v) (row_backward plan i (suc d) line x v) b (U l) f t (changes change_at 0 l) (own_run ∷ all_loops)) (sym read_is)
-        (reversed_rows_turn q sh level xs line x callees s.given s.name w arrays step_fits i d ea eb ec laws text_a text_b text_c l s.snapshots (turns_few (with_count s.snapshots) a0 b0 c0 l refl turns_is) fits.some fits.few u a0 b0 c0 is_a is_b is_c (turning (with_count s.snapshots) a0 b0 c0 l turns_is).plainly change_at loops_at U U' starts nexts (steps pr) line b f t same))
+        (subst (λ (z : Vars). let v : Step = record { name = s.name; given = s.given; read = z; mark = s.mark } in ReversedRow q sh level xs d x wrote (w.needed (point_after i)) (w.held (point_after i)) (w.held (point_before i)) (row_forward plan i (suc d) line x ea eb ec v) (row_backward plan i (suc d) line x v) b (U l) f t (changes change_at 0 l) (own_run ∷ all_loops)) (sym read_is)
+        (reversed_rows_turn q sh level xs line x callees s.given s.name w arrays step_fits i d ea eb ec s.mark fits.slots laws text_a text_b text_c l snapshots (turns_few s.mark a0 b0 c0 l (slots_marked s.mark fits.slots) turns_is) u a0 b0 c0 is_a is_b is_c (turning s.mark a0 b0 c0 l turns_is).plainly force_is change_at loops_at U U' starts nexts (steps pr) line b f t same))
 
     abbrev forward_code : Code
     forward_code = code_if (m.kept i || m.adjointed i) (code_if (m.saved i (plain x)) (one line (runtime (push_word (plain x) none))) +++ row_forward plan i (suc d) line x ea eb ec s)

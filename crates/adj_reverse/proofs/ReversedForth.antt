@@ -1,7 +1,7 @@
 -- The row of a reversed loop in the forward sweep: its turns, with the step call where that is kept.
 use Rattle.std.proofs.Common.{◌≡◌, ◌≤◌, ◌<◌, ◌^◌, ℕ, zero, suc, ◌+◌, Bool, true, false, List, [], ◌∷◌, ◌++◌, length, refl, sym, ap, ◌∙◌, subst, arith}
 use Rattle.std.specs.Prelude.{ℤ, pos, Option, Some, None}
-use Rattle.adj_tree.specs.Code.{Role, role_code, Var, plain, shadow, helper, first, stride, count, name_eq, plus, var, bin, none, assign, Term, call, Code, stop}
+use Rattle.adj_tree.specs.Code.{Role, role_code, Var, plain, shadow, helper, first, stride, count, slots, name_eq, Mark, plus, var, bin, none, assign, Term, call, Code, stop}
 use Rattle.adj_tree.proofs.Names.{nat_refl, name_refl}
 use Rattle.adj_word.specs.Word.{add}
 use Rattle.adj_word.proofs.Counting.{count_up}
@@ -31,8 +31,8 @@ use Rattle.adj_reverse.proofs.LoopSweeps.{same_set, other_depth}
 use Rattle.adj_reverse.proofs.Goings.{Goes, TurnsGo, goes_stop, goes_one, goes_silent_after, turns_go-none, turns_go-more}
 use Rattle.adj_reverse.specs.Steps.{Steps}
 
-module _ (q : Calls ℤ) (sh : Var → Shape) (level : ℕ) (cells : List Key) (d line : ℕ) (p : Plan) (known : KnowsArrays p sh) (x : List ℕ) (one_cell : size_of (sh (plain x)) ≡ 1) (l m : ℕ) (a0 c0 : ℤ) (g : CalleeFacts) (given : List (List ℕ)) (apart : AreApart g.callee.dummies) (apart' : AreApart given) (name : List ℕ) (change : ℕ → Words → Words) (loops : ℕ → List LoopRun) (U U' : ℕ → Store ℤ)
-    (w : Facts) (i : ℕ) (ea eb ec : Term) (laws : ReversedLaws w i x ea eb ec g given) (small : suc l < 2 ^ 63)
+module _ (q : Calls ℤ) (sh : Var → Shape) (level : ℕ) (cells : List Key) (d line : ℕ) (p : Plan) (known : KnowsArrays p sh) (x : List ℕ) (one_cell : size_of (sh (plain x)) ≡ 1) (l m : ℕ) (mark : Mark) (a0 c0 : ℤ) (g : CalleeFacts) (given : List (List ℕ)) (apart : AreApart g.callee.dummies) (apart' : AreApart given) (name : List ℕ) (change : ℕ → Words → Words) (loops : ℕ → List LoopRun) (U U' : ℕ → Store ℤ)
+    (w : Facts) (i : ℕ) (ea eb ec : Term) (laws : ReversedLaws w i x ea eb ec mark g given) (small : suc l < 2 ^ 63)
     (s : Steps q sh level cells line x g given name l a0 c0 change loops U U') (nexts : (j : ℕ) → j < l → U (suc j) ≡ set (U' j) (plain x) 0 (add (U' j (plain x) 0) c0)) where
   abbrev nw : Setting ℤ
   nw = on_words sh level
@@ -131,6 +131,7 @@ module _ (q : Calls ℤ) (sh : Var → Shape) (level : ℕ) (cells : List Key) (
     pub counted_is : to (helper count (suc d)) 0 ≡ pos (j + n)
     pub first_is : to (helper first (suc d)) 0 ≡ f (helper first (suc d)) 0
     pub stride_is : to (helper stride (suc d)) 0 ≡ f (helper stride (suc d)) 0
+    pub slots_is : to (helper slots (suc d)) 0 ≡ f (helper slots (suc d)) 0
 
   pub turns_forth : wr (plain x) ≡ false → (n j : ℕ) (base : Kept) (f : Store ℤ) (t : List ℤ) → j + n ≤ l → SameOn sh (needed_through (w.marks.kept (suc i))) (U j) f → f (plain x) 0 ≡ U j (plain x) 0 → f (helper count (suc d)) 0 ≡ pos j → TurnsForth n j base f t
   turns_forth x_free zero j base f t fits h v c =
@@ -146,6 +147,7 @@ module _ (q : Calls ℤ) (sh : Var → Shape) (level : ℕ) (cells : List Key) (
         counted_is = c ∙ ap pos (sym e);
         first_is = refl;
         stride_is = refl;
+        slots_is = refl;
       }
   turns_forth x_free (suc n) j base f t fits h v c =
       let less : j < l = omega arith in
@@ -174,6 +176,7 @@ module _ (q : Calls ℤ) (sh : Var → Shape) (level : ℕ) (cells : List Key) (
         counted_is = r.counted_is ∙ ap pos e;
         first_is = r.first_is ∙ k.helpers first (suc d) 0;
         stride_is = r.stride_is ∙ k.helpers stride (suc d) 0;
+        slots_is = r.slots_is ∙ k.helpers slots (suc d) 0;
       }
     where
       next_value : (j : ℕ) → j < l → add (U' j (plain x) 0) c0 ≡ U (suc j) (plain x) 0

@@ -1,7 +1,7 @@
 -- A reversal as a whole: what it does to the store and the tape, and what it tells.
 use Rattle.std.proofs.Common.{◌≡◌, ◌<◌, ◌^◌, ℕ, suc, true, false, List, ◌∷◌, length, refl, ap, ◌∙◌, arith}
 use Rattle.std.specs.Prelude.{ℤ, pos, nat_le, Ok}
-use Rattle.adj_tree.specs.Code.{Var, plain, helper, first, stride, count, entry, entries, name_eq, var, unmarked, loop, runtime, begin_reversal, count_actions, end_reversal, Code, stop}
+use Rattle.adj_tree.specs.Code.{Var, plain, helper, first, stride, count, entry, entries, name_eq, var, Mark, unmarked, loop, runtime, begin_reversal, count_actions, end_reversal, Code, stop}
 use Rattle.adj_tree.proofs.Names.{nat_refl}
 use Rattle.adj_word.specs.Word.{wrap}
 use Rattle.adj_word.specs.Pairing.{pairing}
@@ -12,7 +12,7 @@ use Rattle.adj_revolve.specs.Schedule.{schedule_of}
 use Rattle.adj_meaning.specs.Append.{one}
 use Rattle.adj_meaning.specs.Event.{Begin, End}
 use Rattle.adj_meaning.specs.Store.{Shape, Store, set}
-use Rattle.adj_meaning.specs.Value.{Setting}
+use Rattle.adj_meaning.specs.Value.{Setting, value}
 use Rattle.adj_meaning.specs.Run.{Calls, trips}
 use Rattle.adj_meaning.specs.Runtime.{steps_of, snapshots_of}
 use Rattle.adj_meaning.specs.Leads.{Leads}
@@ -21,13 +21,14 @@ use Rattle.adj_transpose.specs.Pairs.{Key, Words, shadows, on_words}
 use Rattle.adj_transpose.specs.Lists.{Kept, scene}
 use Rattle.adj_reverse.specs.Emission.{literal}
 use Rattle.adj_reverse.specs.Reversals.{Reversal, LoopRun, Reverses, AreReversed, Tells, StepUnits, Called}
-use Rattle.adj_reverse.specs.ReversalCode.{reversal}
+use Rattle.adj_reverse.specs.ReversalCode.{slots_of, reversal}
 use Rattle.adj_reverse.proofs.Told.{reversal_of, tells_reversal, IsOfStep, between_within}
+use Rattle.adj_reverse.proofs.Slots.{slots_same}
 use Rattle.adj_reverse.proofs.Goings.{loop_goes}
 use Rattle.adj_reverse.proofs.Playing.{changes, loops_of, schedule_played}
 use Rattle.adj_reverse.proofs.Acting.{Stepping, Ready, Beside, own_set, beside_then, action, acts}
 
-module _ (q : Calls ℤ) (sh : Var → Shape) (level : ℕ) (cells : List Key) (d line : ℕ) (x : List ℕ) (l m : ℕ) (a0 c0 : ℤ) (step : StepUnits) (words : ℕ) (keep back plain_call adjoint : Code) (Standing : ℕ → Store ℤ → Type 0) (Loose : Store ℤ → Type 0) (Snap : ℕ → List ℤ → Type 0) (change : ℕ → Words → Words) (loops : ℕ → List LoopRun) where
+module _ (q : Calls ℤ) (sh : Var → Shape) (level : ℕ) (cells : List Key) (d line : ℕ) (x : List ℕ) (l m : ℕ) (mark : Mark) (a0 c0 : ℤ) (step : StepUnits) (words : ℕ) (keep back plain_call adjoint : Code) (Standing : ℕ → Store ℤ → Type 0) (Loose : Store ℤ → Type 0) (Snap : ℕ → List ℤ → Type 0) (change : ℕ → Words → Words) (loops : ℕ → List LoopRun) where
   abbrev nw : Setting ℤ
   nw = on_words sh level
 
@@ -46,7 +47,7 @@ module _ (q : Calls ℤ) (sh : Var → Shape) (level : ℕ) (cells : List Key) (
     pub later : Kept
     pub own : Reversal
     pub inner : List Reversal
-    pub runs : Leads q nw (reversal line d (plain x) m keep back plain_call adjoint) (scene base f t) (scene later after t)
+    pub runs : Leads q nw (reversal line d (plain x) (slots_of d mark) keep back plain_call adjoint) (scene base f t) (scene later after t)
     pub tells : Tells level base later (own ∷ inner)
     -- it is that of the loop
     pub reverses : Reverses (record { mark = record { line = at; turns = l; snapshots = m }; step = step }) own
@@ -60,19 +61,19 @@ module _ (q : Calls ℤ) (sh : Var → Shape) (level : ℕ) (cells : List Key) (
   steps = schedule_of 0 l m
 
   pub reversing : 0 < m → steps_of (pos l) ≡ Ok l → snapshots_of (pos m) ≡ Ok m → suc (suc (length steps)) < 2 ^ 63 → suc l < 2 ^ 63 → name_eq unit adj ≡ false → name_eq adj unit ≡ false →
-      Stepping q sh level cells d line x l m a0 c0 unit adj Kind words keep back plain_call adjoint Standing Loose Snap change loops →
-      (at : ℕ) (base : Kept) (f : Store ℤ) (t : List ℤ) → f (helper count d) 0 ≡ pos l → f (helper first d) 0 ≡ a0 → f (helper stride d) 0 ≡ c0 → Standing 0 f → Reversing at base f t
-  reversing slot steps_fit snapshots_fit few small differ differ' s at base f t count_is first_is stride_is h =
+      Stepping q sh level cells d line x l m mark a0 c0 unit adj Kind words keep back plain_call adjoint Standing Loose Snap change loops →
+      (at : ℕ) (base : Kept) (f : Store ℤ) (t : List ℤ) → f (helper count d) 0 ≡ pos l → f (helper first d) 0 ≡ a0 → f (helper stride d) 0 ≡ c0 → value nw (slots_of d mark) f ≡ Ok (pos m) → Standing 0 f → Reversing at base f t
+  reversing slot steps_fit snapshots_fit few small differ differ' s at base f t count_is first_is stride_is slots_is h =
       let n = length steps in
       let f1 = set f (helper entries d) 0 (pos n) in
       let f2 = set f1 (helper entry d) 0 (wrap (pos 1)) in
       let b1 : Kept = record { opened = suc base.opened; events = Begin l m level (length t) ∷ base.events } in
-      let a = acts q sh level cells d line x l m a0 c0 unit adj Kind words keep back plain_call adjoint Standing Loose Snap change loops steps_fit snapshots_fit few small differ differ' s in
-      let p = schedule_played q sh level cells (action q sh level cells d line x l m a0 c0 unit adj Kind words keep back plain_call adjoint Standing Loose Snap change loops) (helper entry d) unit adj Kind words
-      (Ready q sh level cells d line x l m a0 c0 unit adj Kind words keep back plain_call adjoint Standing Loose Snap change loops) steps l Standing Loose Snap change loops a m slot refl b1 f2 t
+      let a = acts q sh level cells d line x l m mark a0 c0 unit adj Kind words keep back plain_call adjoint Standing Loose Snap change loops steps_fit snapshots_fit few small differ differ' s in
+      let p = schedule_played q sh level cells (action q sh level cells d line x l m mark a0 c0 unit adj Kind words keep back plain_call adjoint Standing Loose Snap change loops) (helper entry d) unit adj Kind words
+      (Ready q sh level cells d line x l m mark a0 c0 unit adj Kind words keep back plain_call adjoint Standing Loose Snap change loops) steps l Standing Loose Snap change loops a m slot refl b1 f2 t
       (s.standing 0 f f2 (beside f) h) (s.loosen 0 f2)
-      (record { count_is = count_is; first_is = first_is; stride_is = stride_is; entry_is = rw (nat_refl d) one_word }) in
-      let looped = loop_goes q nw line (helper entry d) (literal 1) (var (helper entries d)) (literal 1) (action q sh level cells d line x l m a0 c0 unit adj Kind words keep back plain_call adjoint Standing Loose Snap change loops) b1 f1 p.after t t (pos 1) (f1 (helper entries d) 0) (pos 1) n p.calls p.rs
+      (record { count_is = count_is; first_is = first_is; stride_is = stride_is; slots_is = slots_same sh level d mark f f2 refl ∙ slots_is; entry_is = rw (nat_refl d) one_word }) in
+      let looped = loop_goes q nw line (helper entry d) (literal 1) (var (helper entries d)) (literal 1) (action q sh level cells d line x l m mark a0 c0 unit adj Kind words keep back plain_call adjoint Standing Loose Snap change loops) b1 f1 p.after t t (pos 1) (f1 (helper entries d) 0) (pos 1) n p.calls p.rs
       refl refl refl (ap (λ z. trips unmarked (pos 1) z (pos 1)) (entries_is f) ∙ trips_all) p.runs in
       let b2 : Kept = record { opened = base.opened; events = End level ∷ looped.later.events } in
       record {
@@ -81,9 +82,9 @@ module _ (q : Calls ℤ) (sh : Var → Shape) (level : ℕ) (cells : List Key) (
         own = reversal_of l m (length t) p.calls;
         inner = p.rs;
         runs =
-            leads_step q nw line (runtime (begin_reversal (var (helper count d)) (literal m))) _ (scene base f t) (scene b1 f t) (scene b2 p.after t) (λ k. rw (count_is, steps_fit, snapshots_fit) refl)
-            (leads_step q nw line (runtime (count_actions (var (helper count d)) (literal m) (helper entries d))) _ (scene b1 f t) (scene b1 f1 t) (scene b2 p.after t) (λ k. rw (count_is, steps_fit, snapshots_fit) refl)
-            (leads_act q nw line (loop (helper entry d) (literal 1) (var (helper entries d)) (literal 1) (action q sh level cells d line x l m a0 c0 unit adj Kind words keep back plain_call adjoint Standing Loose Snap change loops) unmarked) (one line (runtime end_reversal)) (scene b1 f1 t) (scene looped.later p.after t) (scene b2 p.after t) looped.runs
+            leads_step q nw line (runtime (begin_reversal (var (helper count d)) (slots_of d mark))) _ (scene base f t) (scene b1 f t) (scene b2 p.after t) (λ k. rw (count_is, slots_is, steps_fit, snapshots_fit) refl)
+            (leads_step q nw line (runtime (count_actions (var (helper count d)) (slots_of d mark) (helper entries d))) _ (scene b1 f t) (scene b1 f1 t) (scene b2 p.after t) (λ k. rw (count_is, slots_is, steps_fit, snapshots_fit) refl)
+            (leads_act q nw line (loop (helper entry d) (literal 1) (var (helper entries d)) (literal 1) (action q sh level cells d line x l m mark a0 c0 unit adj Kind words keep back plain_call adjoint Standing Loose Snap change loops) unmarked) (one line (runtime end_reversal)) (scene b1 f1 t) (scene looped.later p.after t) (scene b2 p.after t) looped.runs
             (leads_step q nw line (runtime end_reversal) stop (scene looped.later p.after t) (scene b2 p.after t) (scene b2 p.after t) (λ k. rw looped.tells.opened refl) (leads_stop q nw (scene b2 p.after t)))));
         tells = tells_reversal level l m (length t) base looped.later p.calls p.rs looped.tells;
         reverses = record { steps = refl; snapshots = refl; ended = refl; advances = p.advances_are; adjoints = p.turns_are; within = between_within step words (length t) m p.calls p.within };
@@ -102,9 +103,9 @@ module _ (q : Calls ℤ) (sh : Var → Shape) (level : ℕ) (cells : List Key) (
       trips_all : trips unmarked (pos 1) (pos (length steps)) (pos 1) ≡ Ok (length steps)
       trips_all = let ok : nat_le (length steps) 9223372036854775807 ≡ true = grind arith in rw (trips_through (length steps)) (rw ok refl)
 
-      beside : (f : Store ℤ) → Beside q sh level cells d line x l m a0 c0 unit adj Kind words keep back plain_call adjoint Standing Loose Snap change loops f (set (set f (helper entries d) 0 (pos (length steps))) (helper entry d) 0 (wrap (pos 1)))
+      beside : (f : Store ℤ) → Beside q sh level cells d line x l m mark a0 c0 unit adj Kind words keep back plain_call adjoint Standing Loose Snap change loops f (set (set f (helper entries d) 0 (pos (length steps))) (helper entry d) 0 (wrap (pos 1)))
       beside f =
           let f1 = set f (helper entries d) 0 (pos (length steps)) in
-          beside_then q sh level cells d line x l m a0 c0 unit adj Kind words keep back plain_call adjoint Standing Loose Snap change loops f f1 (set f1 (helper entry d) 0 (wrap (pos 1)))
-          (own_set q sh level cells d line x l m a0 c0 unit adj Kind words keep back plain_call adjoint Standing Loose Snap change loops entries (pos (length steps)) f)
-          (own_set q sh level cells d line x l m a0 c0 unit adj Kind words keep back plain_call adjoint Standing Loose Snap change loops entry (wrap (pos 1)) f1)
+          beside_then q sh level cells d line x l m mark a0 c0 unit adj Kind words keep back plain_call adjoint Standing Loose Snap change loops f f1 (set f1 (helper entry d) 0 (wrap (pos 1)))
+          (own_set q sh level cells d line x l m mark a0 c0 unit adj Kind words keep back plain_call adjoint Standing Loose Snap change loops entries (pos (length steps)) f)
+          (own_set q sh level cells d line x l m mark a0 c0 unit adj Kind words keep back plain_call adjoint Standing Loose Snap change loops entry (wrap (pos 1)) f1)

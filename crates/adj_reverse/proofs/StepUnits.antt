@@ -1,7 +1,7 @@
 -- The calls of a step unit and of its adjoint, and the snapshots of its steps, are what a reversal asks for.
 use Rattle.std.proofs.Common.{◌≡◌, inl, inr, ◌≤◌, ◌<◌, ℕ, zero, suc, Bool, true, false, List, [], ◌∷◌, ◌++◌, length, refl, sym, ap, ◌∙◌, subst, arith}
 use Rattle.std.specs.Prelude.{ℤ, pos, ◌==◌, ◌&&◌, Option, Some, None}
-use Rattle.adj_tree.specs.Code.{Role, Var, plain, shadow, helper, name_eq, call, Code}
+use Rattle.adj_tree.specs.Code.{Role, Var, plain, shadow, helper, name_eq, Mark, call, Code}
 use Rattle.adj_tree.proofs.Names.{name_same}
 use Rattle.adj_word.specs.Word.{add, mul}
 use Rattle.adj_meaning.specs.Append.{one}
@@ -33,7 +33,7 @@ use Rattle.adj_reverse.proofs.Snapshots.{KnowsArrays, Restored, Pushed, words_of
 use Rattle.adj_reverse.proofs.Goings.{goes_one}
 use Rattle.adj_reverse.proofs.Acting.{Stepping, SnapshotPopped}
 
-module _ (q : Calls ℤ) (sh : Var → Shape) (level : ℕ) (cells : List Key) (d line : ℕ) (p : Plan) (known : KnowsArrays p sh) (x : List ℕ) (one_cell : size_of (sh (plain x)) ≡ 1) (l m : ℕ) (a0 c0 : ℤ) (g : CalleeFacts) (given : List (List ℕ)) (apart : AreApart g.callee.dummies) (apart' : AreApart given) (name : List ℕ) (change : ℕ → Words → Words) (loops : ℕ → List LoopRun) (U U' : ℕ → Store ℤ) (g0 : Store ℤ) where
+module _ (q : Calls ℤ) (sh : Var → Shape) (level : ℕ) (cells : List Key) (d line : ℕ) (p : Plan) (known : KnowsArrays p sh) (x : List ℕ) (one_cell : size_of (sh (plain x)) ≡ 1) (l m : ℕ) (mark : Mark) (a0 c0 : ℤ) (g : CalleeFacts) (given : List (List ℕ)) (apart : AreApart g.callee.dummies) (apart' : AreApart given) (name : List ℕ) (change : ℕ → Words → Words) (loops : ℕ → List LoopRun) (U U' : ℕ → Store ℤ) (g0 : Store ℤ) where
   abbrev nw : Setting ℤ
   nw = on_words sh level
 
@@ -165,7 +165,7 @@ module _ (q : Calls ℤ) (sh : Var → Shape) (level : ℕ) (cells : List Key) (
     abbrev pub StandingIn : ℕ → Store ℤ → Type 0
     StandingIn i f = (i ≤ l) × Standing i f
 
-    pub stepping : Stepping q sh level cells (suc d) line x l m a0 c0 name g.callee.adjoint (IsOfStep the_step words) words forth_code back_code (one line (call name (actuals_named given))) (one line (adjoint_call g.callee given)) StandingIn Loose SnapIn change loops
+    pub stepping : Stepping q sh level cells (suc d) line x l m mark a0 c0 name g.callee.adjoint (IsOfStep the_step words) words forth_code back_code (one line (call name (actuals_named given))) (one line (adjoint_call g.callee given)) StandingIn Loose SnapIn change loops
     stepping = record {
       snapshots = λ i w h. ap length h.1.is ∙ h.1.pushed.length_is;
       pushed = λ i f h. record { snap = (group_pushed q sh level p line known snapshot f).trail; is = (h.0, snap_pushed i f h.1); pushes = λ b t. (group_pushed q sh level p line known snapshot f).pushed b t };
@@ -208,7 +208,7 @@ module _ (q : Calls ℤ) (sh : Var → Shape) (level : ℕ) (cells : List Key) (
       loosen = λ i f n. record { at = λ e a y k w o j lt. n.1.at e a y k o j lt ∙ as_first i a j n.0 o (unwritten e a y w); framed = n.1.framed };
     }
       where
-        pop : (i : ℕ) (w : List ℤ) (h : Store ℤ) → i ≤ l → Snap i w → Loose h → SnapshotPopped q sh level cells (suc d) line x l m a0 c0 name g.callee.adjoint (IsOfStep the_step words) words forth_code back_code (one line (call name (actuals_named given))) (one line (adjoint_call g.callee given)) StandingIn Loose SnapIn change loops i w h
+        pop : (i : ℕ) (w : List ℤ) (h : Store ℤ) → i ≤ l → Snap i w → Loose h → SnapshotPopped q sh level cells (suc d) line x l m mark a0 c0 name g.callee.adjoint (IsOfStep the_step words) words forth_code back_code (one line (call name (actuals_named given))) (one line (adjoint_call g.callee given)) StandingIn Loose SnapIn change loops i w h
         pop i w h fits is loose = record {
           after = (is.pushed.popped h).after;
           pops = λ b t. subst (λ (z : List ℤ). Leads q nw back_code (scene b h (z ++ t)) (scene b (is.pushed.popped h).after t)) (sym is.is) ((is.pushed.popped h).runs b t);

@@ -82,11 +82,16 @@ abbrev pub units_of : (List ℕ → CalleeFacts) → Option Step → Option Step
 units_of g None = None
 units_of g (Some s) = Some (step_units s.name (g s.name).callee s.read)
 
+-- what a directive gives: from 1 to 64 snapshots, or a variable of the text for their number
+abbrev pub HasSlots : Mark → Type 0
+HasSlots unmarked = ⊥
+HasSlots (with_count n) = (0 < n) × (n ≤ 64)
+HasSlots (count_from x) = is_text x ≡ true
+
 -- a marked loop that is reversed by a schedule, where g is its step unit: it has some snapshots, and the step unit is emitted itself, and has
 -- another name than its adjoint
 pub record ReversalFits (g : CalleeFacts) (present carried : Bool) (s : Step) : Type 0 where
-  pub some : 0 < s.snapshots
-  pub few : s.snapshots ≤ 64
+  pub slots : HasSlots s.mark
   pub other_name : name_eq s.name g.callee.adjoint ≡ false
   pub other_adjoint : name_eq g.callee.adjoint s.name ≡ false
   pub emitted : present ≡ true → carried ≡ true

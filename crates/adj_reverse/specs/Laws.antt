@@ -1,9 +1,9 @@
 -- Facts about variables at points, and the laws that join them with marks, for statements of every kind. With marks that have
 -- such facts the sweeps are right. (docs/THEOREMS.md, "Adjoints")
 use Rattle.std.specs.Prelude.{◌≡◌, ℕ, suc, ◌+◌, ◌*◌, Bool, true, false, not, ◌&&◌, ◌||◌, List, Option, Some, None}
-use Rattle.adj_tree.specs.Code.{Var, plain, name_eq, var_eq, Term, Terms, Test, Act, assign, choose, loop, during, call, runtime, Code, stop, step}
+use Rattle.adj_tree.specs.Code.{Var, plain, name_eq, var_eq, Term, Terms, Test, Mark, Act, assign, choose, loop, during, call, runtime, Code, stop, step}
 use Rattle.adj_meaning.specs.Append.{one}
-use Rattle.adj_meaning.specs.Read.{reads_test}
+use Rattle.adj_meaning.specs.Read.{reads_test, reads_mark}
 use Rattle.adj_transpose.specs.Marks.{Vars, Marks, next, behind, point_before, point_after}
 use Rattle.adj_transpose.specs.Facts.{In, Within, without, joined, vars_if, in_term, in_terms, whole, Facts, is_adjointed}
 use Rattle.adj_transpose.specs.Fresh.{has_name}
@@ -200,11 +200,13 @@ pub record PassingLaws (w : Facts) (i : ℕ) (g : CalleeFacts) (given : List (Li
 
 -- The laws of the i-th statement, a marked loop with variable x whose step call is adjointed. The loop has the adjoint reads, the members
 -- of the snapshot and what is saved; the call has none of its own.
-pub record ReversedLaws (w : Facts) (i : ℕ) (x : List ℕ) (a b c : Term) (g : CalleeFacts) (given : List (List ℕ)) : Type 0 where
+pub record ReversedLaws (w : Facts) (i : ℕ) (x : List ℕ) (a b c : Term) (mark : Mark) (g : CalleeFacts) (given : List (List ℕ)) : Type 0 where
   pub kept : w.marks.kept i ≡ true
   pub adjointed : w.marks.adjointed i ≡ true
+  -- needed: what its bounds use, and its directive
   pub needs_uses : Within (joined (in_term a) (joined (in_term b) (in_term c))) (w.needed (point_before i))
-  -- needed: what the adjoint of the step unit needs at its entry, and what the step unit reads, besides the loop's variable
+  pub needs_slots : Within (λ v. reads_mark v mark) (w.needed (point_before i))
+  -- what the adjoint of the step unit needs at its entry, and what the step unit reads, besides the loop's variable
   pub needs_members : (d y : List ℕ) → IsActual g.callee.dummies given d y → In (plain d) (joined g.callee.members g.read) → name_eq y x ≡ false → In (plain y) (w.needed (point_before i))
   -- held: what of it isn't written
   pub holds_reads : (d y : List ℕ) → IsActual g.callee.dummies given d y → In (plain d) (joined g.callee.members g.read) → g.callee.written (plain d) ≡ false → name_eq y x ≡ false → In (plain y) (w.held (point_after i))
@@ -225,7 +227,7 @@ pub record ReversedLaws (w : Facts) (i : ℕ) (x : List ℕ) (a b c : Term) (g :
 
 -- the same of the loop in a list: its body is its step call, of names
 abbrev pub StepLaws : (List ℕ → CalleeFacts) → Facts → ℕ → Var → Term → Term → Term → Code → Step → Type 0
-StepLaws g w i (plain x) a b c body s = (line : ℕ) × ((body ≡ one line (call s.name (actuals_named s.given))) × ReversedLaws w i x a b c (g s.name) s.given)
+StepLaws g w i (plain x) a b c body s = (line : ℕ) × ((body ≡ one line (call s.name (actuals_named s.given))) × ReversedLaws w i x a b c s.mark (g s.name) s.given)
 StepLaws g w i v a b c body s = ⊥
 
 -- ---- statements and lists

@@ -1,6 +1,6 @@
 -- The program that is emitted for a kernel and its head, by marks. (docs/EMITTED.md)
 use Rattle.std.specs.Prelude.{ℕ, zero, suc, List, [], ◌∷◌, ◌++◌, map, length, max, Bool, true, false, ◌&&◌, ◌||◌, not, ◌==◌, Some, None, if◌then◌else◌}
-use Rattle.adj_tree.specs.Code.{Role, Var, shadow, helper, work, temp, control, first, stride, count, turn, entry, entries, kind, lower, upper, name_eq, Act, assign, choose, loop, during, call, runtime, Code, stop, step, Procedure}
+use Rattle.adj_tree.specs.Code.{Role, Var, shadow, helper, work, temp, control, first, stride, count, turn, entry, entries, kind, lower, upper, slots, name_eq, Act, assign, choose, loop, during, call, runtime, Code, stop, step, Procedure}
 use Rattle.adj_meaning.specs.Written.{find_unit}
 use Rattle.adj_meaning.specs.Rename.{rename}
 use Rattle.adj_transpose.specs.Naming.{Named, unit_names, naming}
@@ -11,7 +11,7 @@ use Rattle.adj_transpose.specs.Program.{unit_name, helpers_from, unmarked, decla
 use Rattle.adj_reverse.specs.AdjointOf.{works_in_where, temps_in_where}
 use Rattle.adj_reverse.specs.Names.{adjoint_name}
 use Rattle.adj_transpose.specs.MarkedProgram.{shadows_behind, declared_behind}
-use Rattle.adj_reverse.specs.Plan.{Plan, found_or, Schedules, schedules_from, reversed_by}
+use Rattle.adj_reverse.specs.Plan.{Plan, found_or, Schedules, schedules_from, Step, is_from_variable, reversed_by}
 use Rattle.adj_reverse.specs.Emission.{is_empty, backward_with, adjoint_body_with}
 use Rattle.adj_reverse.specs.Marking.{ProgramMarks, first_statement, plan_in, dummy_set, read_by}
 
@@ -90,19 +90,26 @@ abbrev mutual
   goes_back_with r sort k p i d stop = false
   goes_back_with r sort k p i d (step line a rest) = goes_back_act_with r sort k p i d a || goes_back_with r sort k p (next i a) d rest
 
--- whether a loop of depth k is reversed by a schedule
+-- whether a loop of depth k is reversed by a schedule with a step of a kind
 abbrev mutual
-  pub reverses_act : Schedules → ℕ → Plan → ℕ → ℕ → Act → Bool
-  reverses_act r k p i d (assign x subs e) = false
-  reverses_act r k p i d (choose c a b) = reverses r k p (suc i) d a || reverses r k p (behind (suc i) a) d b
-  reverses_act r k p i d (loop x a b c body n) = found_or (reversed_by r p.marks.adjointed i body n) (reverses r k p (suc i) (suc d) body) (λ s. k == suc d)
-  reverses_act r k p i d (during c body) = reverses r k p (suc i) (suc d) body
-  reverses_act r k p i d (call name args) = false
-  reverses_act r k p i d (runtime c) = false
+  pub reverses_act_by : Schedules → (Step → Bool) → ℕ → Plan → ℕ → ℕ → Act → Bool
+  reverses_act_by r sort k p i d (assign x subs e) = false
+  reverses_act_by r sort k p i d (choose c a b) = reverses_by r sort k p (suc i) d a || reverses_by r sort k p (behind (suc i) a) d b
+  reverses_act_by r sort k p i d (loop x a b c body n) = found_or (reversed_by r p.marks.adjointed i body n) (reverses_by r sort k p (suc i) (suc d) body) (λ s. sort s && (k == suc d))
+  reverses_act_by r sort k p i d (during c body) = reverses_by r sort k p (suc i) (suc d) body
+  reverses_act_by r sort k p i d (call name args) = false
+  reverses_act_by r sort k p i d (runtime c) = false
 
-  pub reverses : Schedules → ℕ → Plan → ℕ → ℕ → Code → Bool
-  reverses r k p i d stop = false
-  reverses r k p i d (step line a rest) = reverses_act r k p i d a || reverses r k p (next i a) d rest
+  pub reverses_by : Schedules → (Step → Bool) → ℕ → Plan → ℕ → ℕ → Code → Bool
+  reverses_by r sort k p i d stop = false
+  reverses_by r sort k p i d (step line a rest) = reverses_act_by r sort k p i d a || reverses_by r sort k p (next i a) d rest
+
+abbrev pub any_step : Step → Bool
+any_step s = true
+
+-- its number of snapshots is the value of a variable
+abbrev pub has_slots : Step → Bool
+has_slots s = is_from_variable s.mark
 
 -- where no loop is reversed by a schedule
 abbrev pub depth_act : Plan → ℕ → ℕ → Act → ℕ
@@ -153,14 +160,15 @@ abbrev pub loop_helpers : (Act → Bool) → Role → Plan → ℕ → Code → 
 loop_helpers sort o p i c = loop_helpers_with None sort o p i c
 
 -- those of loops that are reversed by a schedule
-abbrev pub reversal_helpers : Schedules → Role → Plan → ℕ → Code → List Var
-reversal_helpers r o p i c = helpers_among (λ k. reverses r k p i 0 c) o 1 (depth_used_with r p i 0 c)
+abbrev pub reversal_helpers : Schedules → (Step → Bool) → Role → Plan → ℕ → Code → List Var
+reversal_helpers r sort o p i c = helpers_among (λ k. reverses_by r sort k p i 0 c) o 1 (depth_used_with r p i 0 c)
 
 abbrev pub all_reversal_helpers : Schedules → Plan → ℕ → Code → List Var
 all_reversal_helpers None p i c = []
 all_reversal_helpers (Some reads) p i c =
     let r = Some reads in
-    reversal_helpers r entry p i c ++ (reversal_helpers r entries p i c ++ (reversal_helpers r kind p i c ++ (reversal_helpers r lower p i c ++ reversal_helpers r upper p i c)))
+    reversal_helpers r any_step entry p i c ++ (reversal_helpers r any_step entries p i c ++ (reversal_helpers r any_step kind p i c ++ (reversal_helpers r any_step lower p i c
+    ++ (reversal_helpers r any_step upper p i c ++ reversal_helpers r has_slots slots p i c))))
 
 -- the helpers, in the order of their declarations
 abbrev pub helpers_used_with : Schedules → Plan → ℕ → Code → List Var

@@ -1,12 +1,12 @@
 -- The row of a marked loop that is reversed by a schedule, and what it does in both sweeps. (docs/EMITTED.md, "Reversal of a marked loop")
-use Rattle.std.specs.Prelude.{◌≡◌, ◌≤◌, ◌<◌, ℕ, suc, ℤ, List, [], ◌∷◌, ◌++◌, false, Ok}
-use Rattle.adj_tree.specs.Code.{Var, plain, shadow, name_eq, unmarked, Term, Code}
+use Rattle.std.specs.Prelude.{◌≡◌, ◌≤◌, ◌<◌, ℕ, suc, ℤ, List, [], ◌∷◌, ◌++◌, false, Ok, Some}
+use Rattle.adj_tree.specs.Code.{Var, plain, shadow, name_eq, Mark, unmarked, Term, Code}
 use Rattle.adj_word.specs.Word.{wrap, add}
 use Rattle.adj_word.specs.Pairing.{pairing}
 use Rattle.adj_meaning.specs.Read.{reads_term}
 use Rattle.adj_meaning.specs.Store.{Shape, size_of, Store, set}
 use Rattle.adj_meaning.specs.Value.{value}
-use Rattle.adj_meaning.specs.Run.{Calls, trips}
+use Rattle.adj_meaning.specs.Run.{Calls, trips, in_force}
 use Rattle.adj_transpose.specs.Marks.{Vars, point_before, point_after}
 use Rattle.adj_transpose.specs.Facts.{In, joined, Facts}
 use Rattle.adj_transpose.specs.Pairs.{Key, Words, shadows, on_words}
@@ -15,7 +15,7 @@ use Rattle.adj_reverse.specs.Plan.{Step, writes_actual}
 use Rattle.adj_reverse.specs.ReversalCode.{row_forward, row_backward}
 use Rattle.adj_reverse.specs.Laws.{just, CalleeFacts}
 use Rattle.adj_reverse.specs.Laws.{ReversedLaws}
-use Rattle.adj_reverse.specs.Kernel.{AllText}
+use Rattle.adj_reverse.specs.Kernel.{AllText, HasSlots}
 use Rattle.adj_reverse.specs.Passing.{plainly}
 use Rattle.adj_reverse.specs.Runs.{Comes, SameOn, SameOff}
 use Rattle.adj_reverse.specs.Reversals.{Reversal, LoopRun, AreReversed}
@@ -46,21 +46,21 @@ pub record ReversedRow (q : Calls ℤ) (sh : Var → Shape) (level : ℕ) (xs : 
   pub depth : LeavesHelpers d f to
   pub returns : (b : Kept) (h : Store ℤ) → SameOn sh held to h → ReversedBack q sh level xs d x written held' back b f h (trail ++ t) t change loops
 
--- With facts that meet the laws, both sweeps of a marked loop that turned l times do so: from a store with the values that are needed
--- before it, where the program had u there and U i before its step i.
+-- With facts that meet the laws, both sweeps of a marked loop that turned l times with m snapshots do so: from a store with the values that
+-- are needed before it, where the program had u there and U i before its step i.
 abbrev pub ReversedRowsTurn : Type 0
 ReversedRowsTurn =
     (q : Calls ℤ) (sh : Var → Shape) (level : ℕ) (cells : List Key) (line : ℕ) (x : List ℕ) (gs : List ℕ → CalleeFacts) (given : List (List ℕ)) (name : List ℕ) (w : Facts) (arrays : Vars) →
     let g = gs name in
     let p = plan_of gs w arrays in
     StepFits q sh level cells line x g given name p →
-    (i d : ℕ) (a b c : Term) → ReversedLaws w i x a b c g given → AllText (λ v. reads_term v a) → AllText (λ v. reads_term v b) → AllText (λ v. reads_term v c) →
-    (l m : ℕ) → l ≤ 1099511627776 → 0 < m → m ≤ 64 →
-    (u : Store ℤ) (a0 b0 c0 : ℤ) → value (on_words (plainly sh) level) a u ≡ Ok a0 → value (on_words (plainly sh) level) b u ≡ Ok b0 → value (on_words (plainly sh) level) c u ≡ Ok c0 → trips unmarked a0 b0 c0 ≡ Ok l →
+    (i d : ℕ) (a b c : Term) (mark : Mark) → HasSlots mark → ReversedLaws w i x a b c mark g given → AllText (λ v. reads_term v a) → AllText (λ v. reads_term v b) → AllText (λ v. reads_term v c) →
+    (l m : ℕ) → l ≤ 1099511627776 →
+    (u : Store ℤ) (a0 b0 c0 : ℤ) → value (on_words (plainly sh) level) a u ≡ Ok a0 → value (on_words (plainly sh) level) b u ≡ Ok b0 → value (on_words (plainly sh) level) c u ≡ Ok c0 → trips unmarked a0 b0 c0 ≡ Ok l → in_force (on_words (plainly sh) level) mark u ≡ Some m →
     (change : ℕ → Words → Words) (loops : ℕ → List LoopRun) (U U' : ℕ → Store ℤ) →
     U 0 ≡ set u (plain x) 0 (wrap a0) → ((j : ℕ) → j < l → U (suc j) ≡ set (U' j) (plain x) 0 (add (U' j (plain x) 0) c0)) → Steps q sh level cells line x g given name l a0 c0 change loops U U' →
     (at : ℕ) (base : Kept) (f : Store ℤ) (t : List ℤ) → SameOn sh (w.needed (point_before i)) u f →
-    let s : Step = record { name = name; given = given; read = g.read; snapshots = m } in
+    let s : Step = record { name = name; given = given; read = g.read; mark = mark } in
     let run : LoopRun = record { mark = record { line = at; turns = l; snapshots = m }; step = step_units name g.callee g.read } in
     ReversedRow q sh level cells d x (joined (just (plain x)) (writes_actual g.callee given)) (w.needed (point_after i)) (w.held (point_after i)) (w.held (point_before i))
     (row_forward p i (suc d) line x a b c s) (row_backward p i (suc d) line x s) base (U l) f t (changes change 0 l) (run ∷ loops_of loops 0 l)

@@ -1,11 +1,11 @@
 -- The steps of a marked loop that was run, and what it means that a reversal turns them. (docs/EMITTED.md, "Reversal of a marked loop")
-use Rattle.std.specs.Prelude.{◌≡◌, ◌≤◌, ◌<◌, ℕ, zero, suc, ◌+◌, ℤ, pos, List, [], ◌∷◌, ◌++◌, length, ◌&&◌, ◌||◌, Bool, false, if◌then◌else◌}
-use Rattle.adj_tree.specs.Code.{Role, role_code, Var, plain, shadow, helper, first, stride, count, name_eq, Act, call, Code}
+use Rattle.std.specs.Prelude.{◌≡◌, ◌≤◌, ◌<◌, ℕ, zero, suc, ◌+◌, ℤ, pos, List, [], ◌∷◌, ◌++◌, length, ◌&&◌, ◌||◌, Bool, false, Ok, if◌then◌else◌}
+use Rattle.adj_tree.specs.Code.{Role, role_code, Var, plain, shadow, helper, first, stride, count, name_eq, Mark, Act, call, Code}
 use Rattle.adj_word.specs.Word.{add, mul}
 use Rattle.adj_word.specs.Pairing.{pairing}
 use Rattle.adj_meaning.specs.Append.{one}
 use Rattle.adj_meaning.specs.Store.{Shape, size_of, Store}
-use Rattle.adj_meaning.specs.Value.{Setting}
+use Rattle.adj_meaning.specs.Value.{Setting, value}
 use Rattle.adj_meaning.specs.Run.{Calls}
 use Rattle.adj_meaning.specs.Leads.{Leads, ActLeads}
 use Rattle.adj_transpose.specs.Marks.{Vars}
@@ -15,7 +15,7 @@ use Rattle.adj_transpose.specs.Pairs.{Key, Words, shadows, on_words}
 use Rattle.adj_transpose.specs.Lists.{Kept, scene}
 use Rattle.adj_reverse.specs.Plan.{Callee, Plan, IsActual, actuals_named, writes_actual, step_snapshot}
 use Rattle.adj_reverse.specs.Emission.{pushes, pops, adjoint_call}
-use Rattle.adj_reverse.specs.ReversalCode.{reversal}
+use Rattle.adj_reverse.specs.ReversalCode.{slots_of, reversal}
 use Rattle.adj_reverse.specs.Laws.{just, CalleeFacts}
 use Rattle.adj_reverse.specs.Runs.{SameOff}
 use Rattle.adj_reverse.specs.Reversals.{Called, Reversal, StepUnits, LoopRun, words_taken, Reverses, AreReversed, Tells, TellsCalls}
@@ -128,11 +128,11 @@ module _ (q : Calls ℤ) (sh : Var → Shape) (level : ℕ) (cells : List Key) (
     pub other_name : name_eq name g.callee.adjoint ≡ false
     pub other_adjoint : name_eq g.callee.adjoint name ≡ false
 
-  -- the code of the reversal, with m snapshots, of a loop of depth d
-  abbrev pub step_reversal : Plan → ℕ → ℕ → Code
-  step_reversal p d m =
+  -- the code of the reversal of a loop of depth d with a directive
+  abbrev pub step_reversal : Plan → ℕ → Mark → Code
+  step_reversal p d mark =
       let snapshot = step_snapshot g.callee g.read given in
-      reversal line d (plain x) m (pushes p line snapshot) (pops p line snapshot) (one line (call name (actuals_named given))) (one line (adjoint_call g.callee given))
+      reversal line d (plain x) (slots_of d mark) (pushes p line snapshot) (pops p line snapshot) (one line (call name (actuals_named given))) (one line (adjoint_call g.callee given))
 
   -- The code reverses the l steps with m snapshots, of a loop in others of depth d whose DO stands at a line, from the store f.
   pub record TurnsSteps (c : Code) (d l m at : ℕ) (change : ℕ → Words → Words) (loops : ℕ → List LoopRun) (base : Kept) (f : Store ℤ) (t : List ℤ) : Type 0 where
@@ -154,11 +154,12 @@ module _ (q : Calls ℤ) (sh : Var → Shape) (level : ℕ) (cells : List Key) (
     pub off : SameOff (joined (just (plain x)) (writes_actual g.callee given)) f after
     pub depth : LeavesHelpers d f after
 
--- the code of a reversal turns the steps of its loop, from a store that has its first values and what the first step calls for
+-- the code of a reversal turns the steps of its loop, from a store that has its first values, its number of snapshots and what the first
+-- step calls for
 abbrev pub ReversalsTurn : Type 0
 ReversalsTurn =
     (q : Calls ℤ) (sh : Var → Shape) (level : ℕ) (cells : List Key) (line : ℕ) (x : List ℕ) (g : CalleeFacts) (given : List (List ℕ)) (name : List ℕ) (p : Plan) → StepFits q sh level cells line x g given name p →
-    (d l m : ℕ) → l ≤ 1099511627776 → 0 < m → m ≤ 64 →
+    (d l m : ℕ) (mark : Mark) → l ≤ 1099511627776 → 0 < m → m ≤ 64 →
     (a0 c0 : ℤ) (change : ℕ → Words → Words) (loops : ℕ → List LoopRun) (U U' : ℕ → Store ℤ) → Steps q sh level cells line x g given name l a0 c0 change loops U U' →
-    (at : ℕ) (base : Kept) (f : Store ℤ) (t : List ℤ) → f (helper count (suc d)) 0 ≡ pos l → f (helper first (suc d)) 0 ≡ a0 → f (helper stride (suc d)) 0 ≡ c0 → HasStep q sh level cells line x g given name (U 0) f →
-    TurnsSteps q sh level cells line x g given name (step_reversal q sh level cells line x g given name p (suc d) m) d l m at change loops base f t
+    (at : ℕ) (base : Kept) (f : Store ℤ) (t : List ℤ) → f (helper count (suc d)) 0 ≡ pos l → f (helper first (suc d)) 0 ≡ a0 → f (helper stride (suc d)) 0 ≡ c0 → value (on_words sh level) (slots_of (suc d) mark) f ≡ Ok (pos m) → HasStep q sh level cells line x g given name (U 0) f →
+    TurnsSteps q sh level cells line x g given name (step_reversal q sh level cells line x g given name p (suc d) mark) d l m at change loops base f t

@@ -1,5 +1,5 @@
 -- Emitted programs with a fault: each is what is emitted by some marks, but for one thing. (docs/THEOREMS.md, "Sweeps of every statement")
-use Rattle.std.specs.Prelude.{ℕ, nat_lt, pos, List, map, Bool, false, if◌then◌else◌, None}
+use Rattle.std.specs.Prelude.{ℕ, nat_lt, pos, List, map, Bool, if◌then◌else◌, None}
 use Rattle.adj_tree.specs.Code.{plain, name_eq, plus, times, greater, lit, var, neg, bin, power_of, none, Act, assign, choose, loop, during, call, runtime, push_control, push_word, pop_word, begin_reversal, end_reversal, Code, stop, step, Procedure}
 use Rattle.adj_reverse.specs.Marking.{ProgramMarks}
 use Rattle.adj_reverse.specs.Program.{emitted_program}
