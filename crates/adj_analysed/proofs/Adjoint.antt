@@ -16,12 +16,13 @@ use Rattle.adj_reverse.specs.Laws.{CalleeFacts, UnitLawsBy}
 use Rattle.adj_reverse.specs.Theorem.{schedules_by}
 use Rattle.adj_reverse.specs.Marking.{ProgramFacts, callee_facts, facts_in, first_statement, entry_point, end_point}
 use Rattle.adj_reverse.specs.Program.{is_reached}
+use Rattle.adj_reverse.proofs.Adjoint.{emitted_is_adjoint}
 use Rattle.adj_reverse.proofs.EmittedUnits.{found_there}
 use Rattle.adj_checked.specs.Checked.{IsChecked, AreLawfulForWith}
 use Rattle.adj_checked.proofs.Lists.{Each, each_unit, each_found}
 use Rattle.adj_checked.proofs.Statements.{CallHasNone}
 use Rattle.adj_checked.proofs.Callings.{roots_reached}
-use Rattle.adj_checked.proofs.Premises.{units_apart, found, all_calls, calls_known, written, kernel, extent_is_dummy, no_lines, reached_is_adjoint}
+use Rattle.adj_checked.proofs.Premises.{units_apart, found, all_calls, calls_known, written, kernel, extent_is_dummy, no_lines, source_fits}
 use Rattle.adj_facts.specs.Reached.{begins}
 use Rattle.adj_facts.specs.Parts.{Part, parts, statements_in, find_part}
 use Rattle.adj_facts.specs.Problem.{Problem, IsHead, TakesPart, flagged}
@@ -31,15 +32,15 @@ use Rattle.adj_facts.specs.Live.{Liveness}
 use Rattle.adj_facts.specs.Laws.{Analysed}
 use Rattle.adj_facts.proofs.Heads.{flagged_has, head_part}
 use Rattle.adj_facts.proofs.Statements.{entries_are_closed}
-use Rattle.adj_analysed.specs.Meets.{program_facts, IsPlainCode, IsUnmarked, HasLiteralMarks, AnalysedIsAdjoint, AnalysedReverses}
+use Rattle.adj_analysed.specs.Meets.{program_facts, IsPlainCode, IsUnmarked, AnalysedFits, AnalysedIsAdjoint, AnalysedFitsReversed, AnalysedReverses}
 use Rattle.adj_analysed.proofs.Numbers.{Placed, placed}
 use Rattle.adj_analysed.proofs.Meets.{some_same, has_contains, analysed_meets}
-use Rattle.adj_analysed.proofs.Checked.{MarksFit, unmarked_fit, literal_fit, plain_code, part_found}
+use Rattle.adj_analysed.proofs.Checked.{plain_code, part_found}
 use Rattle.adj_analysed.specs.MarkedLines.{reversed_lines}
 use Rattle.adj_analysed.proofs.MarkedLines.{lines_tell}
 use Rattle.adj_analysed.proofs.Reaching.{taking, reached_closed}
 
-module _ (rules : Rules) (k : Problem) (checked : IsChecked rules k.units) (sb : Bool) (free : EachUnit (λ u. MarksFit sb u.body) k.units) (a : activity.Activity) (l : Liveness) (saved held : ℕ → Vars) (y : Analysed k a l saved held) where
+module _ (rules : Rules) (k : Problem) (checked : IsChecked rules k.units) (sb : Bool) (free : sb ≡ false → EachUnit (λ u. IsUnmarked u.body) k.units) (a : activity.Activity) (l : Liveness) (saved held : ℕ → Vars) (y : Analysed k a l saved held) where
   abbrev w : ProgramFacts
   w = program_facts k.units a l saved held
 
@@ -52,7 +53,7 @@ module _ (rules : Rules) (k : Problem) (checked : IsChecked rules k.units) (sb :
   plain_unit name u f =
       let text = written rules k.units checked name u f in
       plain_code sb k.units u u.body text.body (kernel rules k.units checked name u f) (each_found (λ u. Each (CallHasNone k.units u) (statements u.body)) k.units (all_calls rules k.units checked) name u f)
-      (each_found (λ u. MarksFit sb u.body) k.units (each_unit (λ u. MarksFit sb u.body) k.units free) name u f)
+      (λ e. each_found (λ u. IsUnmarked u.body) k.units (each_unit (λ u. IsUnmarked u.body) k.units (free e)) name u f)
 
   -- ---- the head
 
@@ -137,19 +138,26 @@ module _ (rules : Rules) (k : Problem) (checked : IsChecked rules k.units) (sb :
               ((active.shadowed g.part.number (plain x)).1 (begins (activity.dependent g.is (subst (λ v. Contains (flagged k.outvars v.dummies) x) (sym g.unit) (flagged_has top.dummies k.outvars x m)))));
         }
 
--- what holds of each unit
-each_more_unit : (P Q : Procedure → Type 0) → ((u : Procedure) → P u → Q u) → (us : List Procedure) → EachUnit P us → EachUnit Q us
-each_more_unit P Q f [] h = tt
-each_more_unit P Q f (u ∷ us) h = (f u h.0, each_more_unit P Q f us h.1)
+-- where no loop need be unmarked
+none_unmarked : (us : List Procedure) → true ≡ false → EachUnit (λ u. IsUnmarked u.body) us
+none_unmarked us e = absurd cc
+
+pub analysed_fits : AnalysedFits
+analysed_fits rules k checked free a l saved held y u at =
+    let w = program_facts k.units a l saved held in
+    source_fits rules k.units checked false (λ line. None) w u (lawful rules k checked false (λ e. free) a l saved held y u at) (no_lines w k.units) k.head at
+
+pub analysed_fits_reversed : AnalysedFitsReversed
+analysed_fits_reversed rules k checked apart a l saved held y u at =
+    let w = program_facts k.units a l saved held in
+    source_fits rules k.units checked true (reversed_lines w k.units) w u (lawful rules k checked true (none_unmarked k.units) a l saved held y u at) (lines_tell w k.units apart) k.head at
 
 pub analysed_is_adjoint : AnalysedIsAdjoint
 analysed_is_adjoint rules k checked free a l saved held y u at =
-    let fit = each_more_unit (λ u. IsUnmarked u.body) (λ u. MarksFit false u.body) (λ u h. unmarked_fit u.body h) k.units free in
     let w = program_facts k.units a l saved held in
-    reached_is_adjoint rules k.units checked w k.head k.vars k.outvars u at false (λ line. None) (lawful rules k checked false fit a l saved held y u at) (no_lines w k.units) (suits rules k checked false fit a l saved held y u at)
+    emitted_is_adjoint false (λ line. None) w k.units k.head k.vars k.outvars u at (analysed_fits rules k checked free a l saved held y u at) (suits rules k checked false (λ e. free) a l saved held y u at)
 
 pub analysed_reverses : AnalysedReverses
-analysed_reverses rules k checked literal apart a l saved held y u at =
-    let fit = each_more_unit (λ u. HasLiteralMarks u.body) (λ u. MarksFit true u.body) (λ u h. literal_fit u.body h) k.units literal in
+analysed_reverses rules k checked apart a l saved held y u at =
     let w = program_facts k.units a l saved held in
-    reached_is_adjoint rules k.units checked w k.head k.vars k.outvars u at true (reversed_lines w k.units) (lawful rules k checked true fit a l saved held y u at) (lines_tell w k.units apart) (suits rules k checked true fit a l saved held y u at)
+    emitted_is_adjoint true (reversed_lines w k.units) w k.units k.head k.vars k.outvars u at (analysed_fits_reversed rules k checked apart a l saved held y u at) (suits rules k checked true (none_unmarked k.units) a l saved held y u at)

@@ -1,4 +1,5 @@
--- The code of a checked program in kernel form, whose loops aren't marked, is plain; and its units are found by their numbers.
+-- The code of a checked program in kernel form, whose loops aren't marked or are reversed by schedules, is plain; and its units are found by
+-- their numbers.
 use Rattle.std.proofs.Common.{◌≡◌, ℕ, zero, suc, List, [], ◌∷◌, Bool, true, false, map, refl, ap, ◌∙◌, subst, if◌then◌else◌}
 use Rattle.std.specs.Prelude.{Some, slice_get}
 use Rattle.adj_tree.specs.Code.{Var, plain, shadow, helper, name_eq, Mark, unmarked, with_count, count_from, Act, assign, choose, loop, during, call, runtime, Code, stop, step, Procedure}
@@ -16,52 +17,8 @@ use Rattle.adj_checked.proofs.Lists.{Each, each_front, each_behind}
 use Rattle.adj_checked.proofs.Texts.{actuals_given, actuals_many}
 use Rattle.adj_checked.proofs.Statements.{CallHasNone, call_of_unit}
 use Rattle.adj_facts.specs.Parts.{Part, part, parts_from, find_part}
-use Rattle.adj_analysed.specs.Meets.{MarkFits, IsPlainAct, IsPlainCode, IsUnmarkedAct, IsUnmarked, IsLiteralMark, HasLiteralMarks', HasLiteralMarks}
+use Rattle.adj_analysed.specs.Meets.{MarkFits, IsPlainAct, IsPlainCode, IsUnmarkedAct, IsUnmarked}
 use Rattle.adj_analysed.proofs.Meets.{some_same}
-
--- what is asked of marks: there is none, or none takes its number of snapshots from a variable
-abbrev MarkIs : Bool → Mark → Type 0
-MarkIs false m = m ≡ unmarked
-MarkIs true m = IsLiteralMark m
-
-abbrev mutual
-  MarksFit' : Bool → Act → Type 0
-  MarksFit' sb (assign x subs e) = Unit {0}
-  MarksFit' sb (choose c a b) = MarksFit sb a × MarksFit sb b
-  MarksFit' sb (loop x first last by body m) = MarkIs sb m × MarksFit sb body
-  MarksFit' sb (during c body) = MarksFit sb body
-  MarksFit' sb (call name args) = Unit {0}
-  MarksFit' sb (runtime r) = Unit {0}
-
-  pub MarksFit : Bool → Code → Type 0
-  MarksFit sb stop = Unit {0}
-  MarksFit sb (step line a rest) = MarksFit' sb a × MarksFit sb rest
-
-mutual
-  unmarked_act : (a : Act) → IsUnmarkedAct a → MarksFit' false a
-  unmarked_act (assign x subs e) h = tt
-  unmarked_act (choose c a b) h = (unmarked_fit a h.0, unmarked_fit b h.1)
-  unmarked_act (loop x first last by body m) h = (h.0, unmarked_fit body h.1)
-  unmarked_act (during c body) h = unmarked_fit body h
-  unmarked_act (call name args) h = tt
-  unmarked_act (runtime r) h = tt
-
-  pub unmarked_fit : (c : Code) → IsUnmarked c → MarksFit false c
-  unmarked_fit stop h = tt
-  unmarked_fit (step line a rest) h = (unmarked_act a h.0, unmarked_fit rest h.1)
-
-mutual
-  literal_act : (a : Act) → HasLiteralMarks' a → MarksFit' true a
-  literal_act (assign x subs e) h = tt
-  literal_act (choose c a b) h = (literal_fit a h.0, literal_fit b h.1)
-  literal_act (loop x first last by body m) h = (h.0, literal_fit body h.1)
-  literal_act (during c body) h = literal_fit body h
-  literal_act (call name args) h = tt
-  literal_act (runtime r) h = tt
-
-  pub literal_fit : (c : Code) → HasLiteralMarks c → MarksFit true c
-  literal_fit stop h = tt
-  literal_fit (step line a rest) h = (literal_act a h.0, literal_fit rest h.1)
 
 -- a variable of a text has a name
 variable_name : (x : Var) → IsVariable x → (y : List ℕ) × (x ≡ plain y)
@@ -69,18 +26,18 @@ variable_name (plain y) h = (y, refl)
 variable_name (shadow y) h = absurd h
 variable_name (helper r j) h = absurd h
 
-mark_fits : (sb : Bool) (x : Var) (body : Code) (m : Mark) → IsVariable x → WhereMarked m (IsOneCall body) → MarkIs sb m → MarkFits sb x body m
+mark_fits : (sb : Bool) (x : Var) (body : Code) (m : Mark) → IsVariable x → WhereMarked m (IsOneCall body) → (sb ≡ false → m ≡ unmarked) → MarkFits sb x body m
 mark_fits sb x body unmarked v k h = tt
-mark_fits false x body (with_count n) v k h = absurd (let e : with_count n ≡ unmarked = h in cc)
+mark_fits false x body (with_count n) v k h = absurd (let e : with_count n ≡ unmarked = h refl in cc)
 mark_fits true x body (with_count n) v k h = (variable_name x v, k)
-mark_fits false x body (count_from y) v k h = absurd (let e : count_from y ≡ unmarked = h in cc)
-mark_fits true x body (count_from y) v k h = absurd h
+mark_fits false x body (count_from y) v k h = absurd (let e : count_from y ≡ unmarked = h refl in cc)
+mark_fits true x body (count_from y) v k h = (variable_name x v, k)
 
 mutual
-  plain_act : (sb : Bool) (ps : List Procedure) (u : Procedure) (line : ℕ) (a : Act) → IsWrittenAct a → IsKernelAct a → CallHasNone ps u (line, a) → Each (CallHasNone ps u) (inner a) → MarksFit' sb a → IsPlainAct sb ps a
+  plain_act : (sb : Bool) (ps : List Procedure) (u : Procedure) (line : ℕ) (a : Act) → IsWrittenAct a → IsKernelAct a → CallHasNone ps u (line, a) → Each (CallHasNone ps u) (inner a) → (sb ≡ false → IsUnmarkedAct a) → IsPlainAct sb ps a
   plain_act sb ps u line (assign x subs e) w k h s m = tt
-  plain_act sb ps u line (choose c a b) w k h s m = (plain_code sb ps u a w.1 k.0 (each_front (CallHasNone ps u) (statements a) (statements b) s) m.0, plain_code sb ps u b w.2 k.1 (each_behind (CallHasNone ps u) (statements a) (statements b) s) m.1)
-  plain_act sb ps u line (loop x first last by body mark) w k h s m = (mark_fits sb x body mark w.0 k.0 m.0, plain_code sb ps u body w.4 k.1 s m.1)
+  plain_act sb ps u line (choose c a b) w k h s m = (plain_code sb ps u a w.1 k.0 (each_front (CallHasNone ps u) (statements a) (statements b) s) (λ e. (m e).0), plain_code sb ps u b w.2 k.1 (each_behind (CallHasNone ps u) (statements a) (statements b) s) (λ e. (m e).1))
+  plain_act sb ps u line (loop x first last by body mark) w k h s m = (mark_fits sb x body mark w.0 k.0 (λ e. (m e).0), plain_code sb ps u body w.4 k.1 s (λ e. (m e).1))
   plain_act sb ps u line (during c body) w k h s m = plain_code sb ps u body w.1 k s m
   plain_act sb ps u line (call name args) w k h s m =
       let c = call_of_unit ps u line name args h in
@@ -88,11 +45,11 @@ mutual
       record { unit = c.unit; found = c.found; given = g.0; named = g.1; many = actuals_many u c.unit c.unit.dummies g.0 (subst (λ es. are_actuals_for u c.unit c.unit.dummies es ≡ true) g.1 c.fit) }
   plain_act sb ps u line (runtime r) w k h s m = absurd k
 
-  pub plain_code : (sb : Bool) (ps : List Procedure) (u : Procedure) (c : Code) → IsWrittenCode c → IsKernelCode c → Each (CallHasNone ps u) (statements c) → MarksFit sb c → IsPlainCode sb ps c
+  pub plain_code : (sb : Bool) (ps : List Procedure) (u : Procedure) (c : Code) → IsWrittenCode c → IsKernelCode c → Each (CallHasNone ps u) (statements c) → (sb ≡ false → IsUnmarked c) → IsPlainCode sb ps c
   plain_code sb ps u stop w k s m = tt
   plain_code sb ps u (step line a rest) w k s m = (
-    plain_act sb ps u line a w.0 k.0 s.0 (each_front (CallHasNone ps u) (inner a) (statements rest) s.1) m.0,
-    plain_code sb ps u rest w.1 k.1 (each_behind (CallHasNone ps u) (inner a) (statements rest) s.1) m.1,
+    plain_act sb ps u line a w.0 k.0 s.0 (each_front (CallHasNone ps u) (inner a) (statements rest) s.1) (λ e. (m e).0),
+    plain_code sb ps u rest w.1 k.1 (each_behind (CallHasNone ps u) (inner a) (statements rest) s.1) (λ e. (m e).1),
   )
 
 -- ---- units by their numbers

@@ -6,7 +6,7 @@ use Rattle.adj_tree.specs.Code.{Var, plain, var_eq, Term, Terms, none, more, Mar
 use Rattle.adj_meaning.specs.Read.{reads_term, reads_mark}
 use Rattle.adj_transpose.specs.Marks.{next, behind, point_before, point_after}
 use Rattle.adj_transpose.specs.Facts.{In, without, vars_if, whole, Facts}
-use Rattle.adj_transpose.proofs.Variables.{and_true, not_true}
+use Rattle.adj_transpose.proofs.Variables.{and_true, not_true, or_right}
 use Rattle.adj_reverse.specs.Laws.{point_inside, nothing, just, ValueLaws, TangentLaws, WayLaws, AssignmentLaws, LoopLaws, IsIdle', IsIdle, last_point, CalleeFacts, CallLaws, StepLaws, ActLawsBy, ListLawsBy}
 use Rattle.adj_facts.specs.Parts.{Part}
 use Rattle.adj_facts.specs.Ways.{Deed, passing, assigning, Way, way, act_ways, ways, assigned_on, passed_on}
@@ -19,7 +19,8 @@ use Rattle.adj_facts.specs.Laws.{AtAssignment, AtBranch, AtLoop, AtStatement, In
 use Rattle.adj_facts.proofs.Members.{is_first, is_later}
 use Rattle.adj_facts.proofs.OwnPoints.{own_before}
 use Rattle.adj_facts.proofs.Sets.{left_in, left_make}
-use Rattle.adj_analysed.specs.Meets.{IsPlainAct, IsPlainCode, IsLiteralMark, MarkFits, GivesNames}
+use Rattle.adj_analysed.specs.Meets.{IsPlainAct, IsPlainCode, MarkFits, GivesNames}
+use Rattle.adj_kernel.specs.Form.{IsOneCall}
 use Rattle.adj_analysed.proofs.TurnLaws.{TurnLaws}
 use Rattle.adj_reverse.specs.Plan.{actuals_named, Schedules, Step, step_in, reversed_by, ByStep}
 use Rattle.adj_reverse.specs.Theorem.{schedules_by}
@@ -40,18 +41,15 @@ holds_body i x unmarked = refl
 holds_body i x (with_count n) = refl
 holds_body i x (count_from y) = refl
 
--- a DO that isn't marked uses its bounds alone
-bounds : (a b c : Bool) → (a || (b || c)) ≡ true → (a || (b || (c || false))) ≡ true
-bounds true b c h = refl
-bounds false true c h = refl
-bounds false false true h = refl
-bounds false false false h = absurd cc
+-- a DO uses its bounds, and its mark
+bounds : (a b c d : Bool) → (a || (b || c)) ≡ true → (a || (b || (c || d))) ≡ true
+bounds true b c d h = refl
+bounds false true c d h = refl
+bounds false false true d h = refl
+bounds false false false d h = absurd cc
 
--- a mark that is literal reads nothing
-no_mark : (m : Mark) → IsLiteralMark m → (v : Var) → reads_mark v m ≡ false
-no_mark unmarked h v = refl
-no_mark (with_count n) h v = refl
-no_mark (count_from y) h v = absurd h
+marks : (a b c d : Bool) → d ≡ true → (a || (b || (c || d))) ≡ true
+marks a b c d h = or_right a (b || (c || d)) (or_right b (c || d) (or_right c d h))
 
 module _ (units : List Procedure) (gf : List ℕ → CalleeFacts) (w : Facts) (g : Part) (unit : InUnit w g) (stated : (s : Standing) → Contains (statements_of g) s → AtStatement units w s) where
   abbrev Own : ℕ → Place → Act → Type 0
@@ -179,8 +177,8 @@ module _ (units : List Procedure) (gf : List ℕ → CalleeFacts) (w : Facts) (g
     sc = schedules_by sb gf
 
     -- the laws of a DO, beside those of its body
-    loop_laws : (i : ℕ) (at : Place) (x : Var) (first last by : Term) (body : Code) (m : Mark) → IsLiteralMark m → AllOwnWays (act_ways i (loop x first last by body m)) → Own i at (loop x first last by body m) → AllOwn (standing (body_of i x m) (suc i) body) → LoopLaws w i x first last by body
-    loop_laws i at x first last by body m literal f own h =
+    loop_laws : (i : ℕ) (at : Place) (x : Var) (first last by : Term) (body : Code) (m : Mark) → AllOwnWays (act_ways i (loop x first last by body m)) → Own i at (loop x first last by body m) → AllOwn (standing (body_of i x m) (suc i) body) → LoopLaws w i x first last by body
+    loop_laws i at x first last by body m f own h =
         let here = stated (record { number = i; place = at; act = loop x first last by body m }) own in
         let o : AtLoop w i x = here.act in
         let in_body = ways (suc i) (point_inside i) (point_inside i) (assigning i x) body in
@@ -194,7 +192,7 @@ module _ (units : List Procedure) (gf : List ℕ → CalleeFacts) (w : Facts) (g
           keeps = λ e. idle i (body_of i x m) (suc i) body e (holds_body i x m) h;
           keeps_reset = λ r. let p = and_true (w.marks.shadowed x) (w.marks.varied (point_before i) x) r in (o.resets p.0 p.1).1;
           keeps_variable = o.keeps;
-          needs_uses = λ e v r. here.kept e v (ap (λ b. reads_term v first || (reads_term v last || (reads_term v by || b))) (no_mark m literal v) ∙ bounds (reads_term v first) (reads_term v last) (reads_term v by) r);
+          needs_uses = λ e v r. here.kept e v (bounds (reads_term v first) (reads_term v last) (reads_term v by) (reads_mark v m) r);
           saves = o.saves;
           entry_values = values (point_before i) (point_inside i) (assigning i x) entry;
           entry_tangents = tangents_assigning (point_before i) (point_inside i) i x entry;
@@ -205,14 +203,14 @@ module _ (units : List Procedure) (gf : List ℕ → CalleeFacts) (w : Facts) (g
         }
 
     -- a marked loop whose body is the call of names: reversed where that is adjointed, else a loop as others
-    marked_meets : (i : ℕ) (at : Place) (x : List ℕ) (first last by : Term) (n line : ℕ) (name : List ℕ) (given : List (List ℕ)) →
+    marked_meets : (i : ℕ) (at : Place) (x : List ℕ) (first last by : Term) (m : Mark) → body_of i (plain x) m ≡ turn_of i (plain x) → (line : ℕ) (name : List ℕ) (given : List (List ℕ)) →
         let body = step line (call name (actuals_named given)) stop in
-        AllOwnWays (act_ways i (loop (plain x) first last by body (with_count n))) → Own i at (loop (plain x) first last by body (with_count n)) → AllOwn (standing (turn_of i (plain x)) (suc i) body) → GivesNames units name (actuals_named given) →
-        (z : Bool) → w.marks.adjointed (suc i) ≡ z → ByStep (if z then step_in (λ name. (gf name).read) n body else None) (LoopLaws w i (plain x) first last by body × ListLawsBy sc gf w (point_inside i) (suc i) body) (StepLaws gf w i (plain x) first last by body)
-    marked_meets i at x first last by n line name given f own h k z e = go z e
+        AllOwnWays (act_ways i (loop (plain x) first last by body m)) → Own i at (loop (plain x) first last by body m) → AllOwn (standing (body_of i (plain x) m) (suc i) body) → GivesNames units name (actuals_named given) →
+        (z : Bool) → w.marks.adjointed (suc i) ≡ z → ByStep (if z then step_in (λ name. (gf name).read) m body else None) (LoopLaws w i (plain x) first last by body × ListLawsBy sc gf w (point_inside i) (suc i) body) (StepLaws gf w i (plain x) first last by body)
+    marked_meets i at x first last by m turn line name given f own h k z e = go z e
       where
         the_call : Own (suc i) (turn_of i (plain x)) (call name (actuals_named given))
-        the_call = own_first (record { number = suc i; place = turn_of i (plain x); act = call name (actuals_named given) }) [] h
+        the_call = own_first (record { number = suc i; place = turn_of i (plain x); act = call name (actuals_named given) }) [] (subst (λ p. AllOwn (standing p (suc i) (step line (call name (actuals_named given)) stop))) turn h)
 
         enters_in : OwnWay (point_before i) (point_inside i) (assigning i (plain x))
         enters_in = f (way (point_before i) (point_inside i) (assigning i (plain x))) (is_first (way (point_before i) (point_inside i) (assigning i (plain x))) (way (point_before i) (point_inside i) (assigning i (plain x))) (way (point_inside i) (point_after i) passing ∷ ways (suc i) (point_inside i) (point_inside i) (assigning i (plain x)) (step line (call name (actuals_named given)) stop)) refl)
@@ -221,17 +219,18 @@ module _ (units : List Procedure) (gf : List ℕ → CalleeFacts) (w : Facts) (g
         inside_in = f (way (point_inside i) (point_before (suc i)) passing) (is_later (way (point_inside i) (point_before (suc i)) passing) (way (point_before i) (point_inside i) (assigning i (plain x))) (way (point_inside i) (point_after i) passing ∷ ways (suc i) (point_inside i) (point_inside i) (assigning i (plain x)) (step line (call name (actuals_named given)) stop)) (is_later (way (point_inside i) (point_before (suc i)) passing) (way (point_inside i) (point_after i) passing) (ways (suc i) (point_inside i) (point_inside i) (assigning i (plain x)) (step line (call name (actuals_named given)) stop)) (is_first (way (point_inside i) (point_before (suc i)) passing) (way (point_inside i) (point_before (suc i)) passing) (act_ways (suc i) (call name (actuals_named given)) ++ ways (next (suc i) (call name (actuals_named given))) (point_after (suc i)) (point_inside i) (assigning i (plain x)) stop) refl)))
 
         loop_is : LoopLaws w i (plain x) first last by (step line (call name (actuals_named given)) stop)
-        loop_is = loop_laws i at (plain x) first last by (step line (call name (actuals_named given)) stop) (with_count n) tt f own h
+        loop_is = loop_laws i at (plain x) first last by (step line (call name (actuals_named given)) stop) m f own h
 
-        go : (z : Bool) → w.marks.adjointed (suc i) ≡ z → ByStep (if z then step_in (λ name. (gf name).read) n (step line (call name (actuals_named given)) stop) else None) (LoopLaws w i (plain x) first last by (step line (call name (actuals_named given)) stop) × ListLawsBy sc gf w (point_inside i) (suc i) (step line (call name (actuals_named given)) stop)) (StepLaws gf w i (plain x) first last by (step line (call name (actuals_named given)) stop))
+        go : (z : Bool) → w.marks.adjointed (suc i) ≡ z → ByStep (if z then step_in (λ name. (gf name).read) m (step line (call name (actuals_named given)) stop) else None) (LoopLaws w i (plain x) first last by (step line (call name (actuals_named given)) stop) × ListLawsBy sc gf w (point_inside i) (suc i) (step line (call name (actuals_named given)) stop)) (StepLaws gf w i (plain x) first last by (step line (call name (actuals_named given)) stop))
         go false e = (loop_is, (passes (point_inside i) (point_before (suc i)) inside_in, (calls (suc i) (turn_of i (plain x)) name (actuals_named given) (λ t. e) the_call k, tt)))
         go true e =
             let t = steps i x name given e the_call k enters_in in
             let o = unit.holders (record { number = suc i; place = turn_of i (plain x); act = call name (actuals_named given) }) the_call in
             let l = loop_is in
+            let here = stated (record { number = i; place = at; act = loop (plain x) first last by (step line (call name (actuals_named given)) stop) m }) own in
             let kept = o.keeps i refl (inr e) in
             let same = names_are given in
-            subst (λ ys. let s : Step = record { name = name; given = ys; read = (gf name).read; snapshots = n } in StepLaws gf w i (plain x) first last by (step line (call name (actuals_named given)) stop) s) (sym same) (
+            subst (λ ys. let s : Step = record { name = name; given = ys; read = (gf name).read; mark = m } in StepLaws gf w i (plain x) first last by (step line (call name (actuals_named given)) stop) s) (sym same) (
               line,
               (
                 refl,
@@ -239,6 +238,7 @@ module _ (units : List Procedure) (gf : List ℕ → CalleeFacts) (w : Facts) (g
                   kept = kept;
                   adjointed = o.adjoints i refl e;
                   needs_uses = l.needs_uses kept;
+                  needs_slots = λ v r. here.kept kept v (marks (reads_term v first) (reads_term v last) (reads_term v by) (reads_mark v m) r);
                   needs_members = t.needs_members;
                   holds_reads = λ d y act m v n. l.exit.values.holds (plain y) (left_make (w.held (point_inside i)) nothing (plain y) (t.holds_reads d y act m v n) refl);
                   saves = t.saves;
@@ -259,25 +259,38 @@ module _ (units : List Procedure) (gf : List ℕ → CalleeFacts) (w : Facts) (g
             kept_so e p v h = ap (λ b. w.held p v && not (b && var_eq v (plain x))) e ∙ h
 
     -- by its body, which is one call
+    turned_meets : (i : ℕ) (at : Place) (x : Var) (first last by : Term) (body : Code) (m : Mark) → ((v : Var) → body_of i v m ≡ turn_of i v) → (y : List ℕ) × (x ≡ plain y) → IsOneCall body → IsPlainCode sb units body →
+        AllOwnWays (act_ways i (loop x first last by body m)) → Own i at (loop x first last by body m) → AllOwn (standing (body_of i x m) (suc i) body) →
+        ByStep (if w.marks.adjointed (suc i) then step_in (λ name. (gf name).read) m body else None) (LoopLaws w i x first last by body × ListLawsBy sc gf w (point_inside i) (suc i) body) (StepLaws gf w i x first last by body)
+    turned_meets i at x first last by stop m turn n k p f own h = absurd k
+    turned_meets i at x first last by (step line (assign y subs e) rest) m turn n k p f own h = absurd k
+    turned_meets i at x first last by (step line (choose c a b) rest) m turn n k p f own h = absurd k
+    turned_meets i at x first last by (step line (loop y a b c d o) rest) m turn n k p f own h = absurd k
+    turned_meets i at x first last by (step line (during c a) rest) m turn n k p f own h = absurd k
+    turned_meets i at x first last by (step line (runtime r) rest) m turn n k p f own h = absurd k
+    turned_meets i at x first last by (step line (call name args) (step l a rest)) m turn n k p f own h = absurd k
+    turned_meets i at x first last by (step line (call name args) stop) m turn n k p f own h =
+        let g = p.0 in
+        subst (λ (v : Var). AllOwnWays (act_ways i (loop v first last by (step line (call name args) stop) m)) → Own i at (loop v first last by (step line (call name args) stop) m) → AllOwn (standing (body_of i v m) (suc i) (step line (call name args) stop)) →
+        ByStep (if w.marks.adjointed (suc i) then step_in (λ name. (gf name).read) m (step line (call name args) stop) else None) (LoopLaws w i v first last by (step line (call name args) stop) × ListLawsBy sc gf w (point_inside i) (suc i) (step line (call name args) stop)) (StepLaws gf w i v first last by (step line (call name args) stop))) (sym n.1)
+        (subst (λ (es : Terms). GivesNames units name es → AllOwnWays (act_ways i (loop (plain n.0) first last by (step line (call name es) stop) m)) → Own i at (loop (plain n.0) first last by (step line (call name es) stop) m) → AllOwn (standing (body_of i (plain n.0) m) (suc i) (step line (call name es) stop)) →
+        ByStep (if w.marks.adjointed (suc i) then step_in (λ name. (gf name).read) m (step line (call name es) stop) else None) (LoopLaws w i (plain n.0) first last by (step line (call name es) stop) × ListLawsBy sc gf w (point_inside i) (suc i) (step line (call name es) stop)) (StepLaws gf w i (plain n.0) first last by (step line (call name es) stop))) (sym g.named)
+        (λ gn f own h. marked_meets i at n.0 first last by m (turn (plain n.0)) line name g.given f own h gn (w.marks.adjointed (suc i)) refl) g)
+        f own h
+
+    -- a loop with a literal number of snapshots
     counted_meets : (b : Bool) (i : ℕ) (at : Place) (x : Var) (first last by : Term) (body : Code) (n : ℕ) → MarkFits b x body (with_count n) → IsPlainCode sb units body →
         AllOwnWays (act_ways i (loop x first last by body (with_count n))) → Own i at (loop x first last by body (with_count n)) → AllOwn (standing (turn_of i x) (suc i) body) →
         ByStep (reversed_by (schedules_by b gf) w.marks.adjointed i body (with_count n)) (LoopLaws w i x first last by body × ListLawsBy sc gf w (point_inside i) (suc i) body) (StepLaws gf w i x first last by body)
     counted_meets false i at x first last by body n k p f own h = absurd k
-    counted_meets true i at x first last by stop n k p f own h = absurd k.1
-    counted_meets true i at x first last by (step line (assign y subs e) rest) n k p f own h = absurd k.1
-    counted_meets true i at x first last by (step line (choose c a b) rest) n k p f own h = absurd k.1
-    counted_meets true i at x first last by (step line (loop y a b c d m) rest) n k p f own h = absurd k.1
-    counted_meets true i at x first last by (step line (during c a) rest) n k p f own h = absurd k.1
-    counted_meets true i at x first last by (step line (runtime r) rest) n k p f own h = absurd k.1
-    counted_meets true i at x first last by (step line (call name args) (step l a rest)) n k p f own h = absurd k.1
-    counted_meets true i at x first last by (step line (call name args) stop) n k p f own h =
-        let g = p.0 in
-        subst (λ (v : Var). AllOwnWays (act_ways i (loop v first last by (step line (call name args) stop) (with_count n))) → Own i at (loop v first last by (step line (call name args) stop) (with_count n)) → AllOwn (standing (turn_of i v) (suc i) (step line (call name args) stop)) →
-        ByStep (if w.marks.adjointed (suc i) then step_in (λ name. (gf name).read) n (step line (call name args) stop) else None) (LoopLaws w i v first last by (step line (call name args) stop) × ListLawsBy sc gf w (point_inside i) (suc i) (step line (call name args) stop)) (StepLaws gf w i v first last by (step line (call name args) stop))) (sym k.0.1)
-        (subst (λ (es : Terms). GivesNames units name es → AllOwnWays (act_ways i (loop (plain k.0.0) first last by (step line (call name es) stop) (with_count n))) → Own i at (loop (plain k.0.0) first last by (step line (call name es) stop) (with_count n)) → AllOwn (standing (turn_of i (plain k.0.0)) (suc i) (step line (call name es) stop)) →
-        ByStep (if w.marks.adjointed (suc i) then step_in (λ name. (gf name).read) n (step line (call name es) stop) else None) (LoopLaws w i (plain k.0.0) first last by (step line (call name es) stop) × ListLawsBy sc gf w (point_inside i) (suc i) (step line (call name es) stop)) (StepLaws gf w i (plain k.0.0) first last by (step line (call name es) stop))) (sym g.named)
-        (λ gn f own h. marked_meets i at k.0.0 first last by n line name g.given f own h gn (w.marks.adjointed (suc i)) refl) g)
-        f own h
+    counted_meets true i at x first last by body n k p f own h = turned_meets i at x first last by body (with_count n) (λ v. refl) k.0 k.1 p f own h
+
+    -- and with that of a variable
+    valued_meets : (b : Bool) (i : ℕ) (at : Place) (x : Var) (first last by : Term) (body : Code) (y : Var) → MarkFits b x body (count_from y) → IsPlainCode sb units body →
+        AllOwnWays (act_ways i (loop x first last by body (count_from y))) → Own i at (loop x first last by body (count_from y)) → AllOwn (standing (turn_of i x) (suc i) body) →
+        ByStep (reversed_by (schedules_by b gf) w.marks.adjointed i body (count_from y)) (LoopLaws w i x first last by body × ListLawsBy sc gf w (point_inside i) (suc i) body) (StepLaws gf w i x first last by body)
+    valued_meets false i at x first last by body y k p f own h = absurd k
+    valued_meets true i at x first last by body y k p f own h = turned_meets i at x first last by body (count_from y) (λ v. refl) k.0 k.1 p f own h
 
     none_unmarked : (b : Bool) (i : ℕ) (body : Code) → reversed_by (schedules_by b gf) w.marks.adjointed i body unmarked ≡ None
     none_unmarked true i body = refl
@@ -312,14 +325,14 @@ module _ (units : List Procedure) (gf : List ℕ → CalleeFacts) (w : Facts) (g
             ),
           )
       act_meets i at (loop x first last by body (with_count n)) ord k f own h = counted_meets sb i at x first last by body n k.0 k.1 f own h
-      act_meets i at (loop x first last by body (count_from y)) ord k f own h = absurd k.0
+      act_meets i at (loop x first last by body (count_from y)) ord k f own h = valued_meets sb i at x first last by body y k.0 k.1 f own h
       act_meets i at (loop x first last by body unmarked) ord k f own h =
           let in_body = ways (suc i) (point_inside i) (point_inside i) (assigning i x) body in
           let enters = way (point_before i) (point_inside i) (assigning i x) in
           let leaves = way (point_inside i) (point_after i) passing in
           let on_body : AllOwnWays in_body = λ y m. f y (is_later y enters (leaves ∷ in_body) (is_later y leaves in_body m)) in
           subst (λ o. ByStep o (LoopLaws w i x first last by body × ListLawsBy sc gf w (point_inside i) (suc i) body) (StepLaws gf w i x first last by body)) (sym (none_unmarked sb i body))
-          (loop_laws i at x first last by body unmarked tt f own h, list_meets (suc i) (point_inside i) (point_inside i) (assigning i x) (part_of i) body refl k.1 on_body h)
+          (loop_laws i at x first last by body unmarked f own h, list_meets (suc i) (point_inside i) (point_inside i) (assigning i x) (part_of i) body refl k.1 on_body h)
       act_meets i at (during c body) ord k f own h =
           let here = stated (record { number = i; place = at; act = during c body }) own in
           let o : AtBranch w i = here.act in

@@ -8,6 +8,7 @@ use Rattle.adj_names.specs.Fault.{Rules}
 use Rattle.adj_kernel.specs.Kernel.{EachUnit}
 use Rattle.adj_transpose.specs.Program.{unit_at}
 use Rattle.adj_reverse.specs.Program.{emitted_program_with, emitted_program}
+use Rattle.adj_reverse.specs.Source.{SourceFitsWith, SourceFits}
 use Rattle.adj_reverse.specs.Adjoint.{IsAdjointWith, IsAdjoint}
 use Rattle.adj_checked.specs.Checked.{IsChecked}
 use Rattle.adj_analysed.specs.MarkedLines.{program_lines, AreLinesApart, reversed_lines}
@@ -49,13 +50,13 @@ pub record GivesNames (units : List Procedure) (name : List ℕ) (args : Terms) 
   pub named : args ≡ actuals_named given
   pub many : AsMany unit.dummies given
 
--- a mark of a loop with this variable and body: none where no loop is reversed by a schedule; else it has a literal number of snapshots, and
--- the body is one call
+-- a mark of a loop with this variable and body: there is none where no loop is reversed by a schedule; else the body is one call
 abbrev pub MarkFits : (schedules : Bool) → Var → Code → Mark → Type 0
 MarkFits schedules x body unmarked = Unit {0}
 MarkFits false x body (with_count n) = ⊥
 MarkFits true x body (with_count n) = ((y : List ℕ) × (x ≡ plain y)) × IsOneCall body
-MarkFits schedules x body (count_from y) = ⊥
+MarkFits false x body (count_from y) = ⊥
+MarkFits true x body (count_from y) = ((z : List ℕ) × (x ≡ plain z)) × IsOneCall body
 
 abbrev mutual
   pub IsPlainAct : (schedules : Bool) → List Procedure → Act → Type 0
@@ -84,25 +85,6 @@ abbrev mutual
   IsUnmarked stop = Unit {0}
   IsUnmarked (step line a rest) = IsUnmarkedAct a × IsUnmarked rest
 
-abbrev pub IsLiteralMark : Mark → Type 0
-IsLiteralMark unmarked = Unit {0}
-IsLiteralMark (with_count n) = Unit {0}
-IsLiteralMark (count_from x) = ⊥
-
--- no loop takes its number of snapshots from a variable
-abbrev mutual
-  pub HasLiteralMarks' : Act → Type 0
-  HasLiteralMarks' (assign x subs e) = Unit {0}
-  HasLiteralMarks' (choose c a b) = HasLiteralMarks a × HasLiteralMarks b
-  HasLiteralMarks' (loop x first last by body m) = IsLiteralMark m × HasLiteralMarks body
-  HasLiteralMarks' (during c body) = HasLiteralMarks body
-  HasLiteralMarks' (call name args) = Unit {0}
-  HasLiteralMarks' (runtime r) = Unit {0}
-
-  pub HasLiteralMarks : Code → Type 0
-  HasLiteralMarks stop = Unit {0}
-  HasLiteralMarks (step line a rest) = HasLiteralMarks' a × HasLiteralMarks rest
-
 -- ---- the laws
 
 -- each unit that takes part, is found under its name and is such code meets the laws with the facts of exact analyses, whether marked loops
@@ -113,17 +95,30 @@ AnalysedMeets =
     (g : Part) → TakesPart k g → find_part (parts k.units) g.unit.name ≡ Some g → IsPlainCode schedules k.units g.unit.body →
     let facts = callee_facts (program_facts k.units a l saved held) k.units in UnitLawsBy (schedules_by schedules facts) facts (facts g.unit.name) (first_statement k.units g.unit.name) g.unit.body
 
--- so what is emitted by their marks is an adjoint: for a checked program in kernel form in which no loop is marked
+-- so they are all that the law on emitted programs asks of a source: for a checked program in kernel form in which no loop is marked
+abbrev pub AnalysedFits : Type 0
+AnalysedFits =
+    (rules : Rules) (k : Problem) → IsChecked rules k.units → EachUnit (λ u. IsUnmarked u.body) k.units →
+    (a : Activity) (l : Liveness) (saved held : ℕ → Vars) → Analysed k a l saved held → (u : Procedure) → unit_at k.head k.units ≡ u ∷ [] → SourceFits (λ line. None) (program_facts k.units a l saved held) k.units u
+
+-- and what is emitted by their marks is an adjoint
 abbrev pub AnalysedIsAdjoint : Type 0
 AnalysedIsAdjoint =
     (rules : Rules) (k : Problem) → IsChecked rules k.units → EachUnit (λ u. IsUnmarked u.body) k.units →
     (a : Activity) (l : Liveness) (saved held : ℕ → Vars) → Analysed k a l saved held → (u : Procedure) → unit_at k.head k.units ≡ u ∷ [] →
     let marks = (program_facts k.units a l saved held).marks in IsAdjoint (λ line. None) marks k.units k.head k.vars k.outvars (emitted_program marks k.units k.head k.vars k.outvars)
 
--- and where marked loops are reversed by schedules, each whose step call is adjointed: for one whose marks are literal, and no two of whose
--- marked loops stand at one line
+-- So it is where marked loops are reversed by schedules, each whose step call is adjointed: for one no two of whose marked loops stand at one
+-- line.
+abbrev pub AnalysedFitsReversed : Type 0
+AnalysedFitsReversed =
+    (rules : Rules) (k : Problem) → IsChecked rules k.units → AreLinesApart (program_lines k.units) →
+    (a : Activity) (l : Liveness) (saved held : ℕ → Vars) → Analysed k a l saved held → (u : Procedure) → unit_at k.head k.units ≡ u ∷ [] →
+    let w = program_facts k.units a l saved held in SourceFitsWith true (reversed_lines w k.units) w k.units u
+
+-- and what is emitted is an adjoint
 abbrev pub AnalysedReverses : Type 0
 AnalysedReverses =
-    (rules : Rules) (k : Problem) → IsChecked rules k.units → EachUnit (λ u. HasLiteralMarks u.body) k.units → AreLinesApart (program_lines k.units) →
+    (rules : Rules) (k : Problem) → IsChecked rules k.units → AreLinesApart (program_lines k.units) →
     (a : Activity) (l : Liveness) (saved held : ℕ → Vars) → Analysed k a l saved held → (u : Procedure) → unit_at k.head k.units ≡ u ∷ [] →
     let w = program_facts k.units a l saved held in IsAdjointWith true (reversed_lines w k.units) w.marks k.units k.head k.vars k.outvars (emitted_program_with true w.marks k.units k.head k.vars k.outvars)

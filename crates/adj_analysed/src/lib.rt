@@ -5,13 +5,20 @@
 //! `meets_law` gives the premise on laws of `emitted_law`; the layer above uses `analysed_law`.
 #![tactic(auto)]
 
-ghost use Rattle.adj_analysed.specs.Meets.{AnalysedMeets, AnalysedIsAdjoint, AnalysedReverses};
+ghost use Rattle.adj_analysed.specs.Meets.{AnalysedMeets, AnalysedFits, AnalysedIsAdjoint, AnalysedFitsReversed, AnalysedReverses};
 ghost use Rattle.adj_analysed.specs.Worked.{CallingIsAdjoint};
 
 /// What exact analyses say of a program in kernel form meets the laws of each unit that takes part: where no loop is marked, or where marked
-/// loops are reversed by schedules and have literal numbers of snapshots.
+/// loops are reversed by schedules.
 pub fn meets_law()
     ensures { AnalysedMeets }
+{}
+
+/// So a checked program in kernel form is a source with them, as the law on emitted programs asks for one: where no loop is marked, and where marked
+/// loops are reversed by schedules.
+pub fn fitting_law()
+    ensures unmarked { AnalysedFits }
+    ensures reversed { AnalysedFitsReversed }
 {}
 
 /// What is emitted by their marks for a checked program in kernel form is its adjoint: where no loop is marked, and where marked loops are reversed
