@@ -2,7 +2,7 @@
 use Rattle.std.proofs.Common.{◌≡◌, ℕ, zero, suc, ◌<◌, Bool, true, false, List, [], ◌∷◌, ◌++◌, map, refl, sym, ap, ◌∙◌, arith, if◌then◌else◌}
 use Rattle.std.specs.Prelude.{◌&&◌, ◌||◌, ◌==◌, not, Some, None}
 use Rattle.std.proofs.lemmas.Bool.Decides.{nat_tests}
-use Rattle.adj_tree.specs.Code.{Var, plain, shadow, helper, Role, role_code, work, temp, control, first, stride, count, turn, entry, entries, kind, lower, upper, name_eq, var_eq, Act, Code}
+use Rattle.adj_tree.specs.Code.{Var, plain, shadow, helper, Role, role_code, work, temp, control, first, stride, count, turn, entry, entries, kind, lower, upper, slots, name_eq, var_eq, Act, Code}
 use Rattle.adj_tree.proofs.Names.{nat_same}
 use Rattle.adj_transpose.specs.Fresh.{has_name, reserved}
 use Rattle.adj_transpose.specs.Naming.{own, named, unit_names, AreApart}
@@ -10,8 +10,8 @@ use Rattle.adj_transpose.specs.Marks.{Vars}
 use Rattle.adj_transpose.specs.Marked.{names_in}
 use Rattle.adj_transpose.specs.Program.{helpers_from}
 use Rattle.adj_transpose.proofs.Variables.{or_false, or_left, or_right, var_refl}
-use Rattle.adj_reverse.specs.Plan.{Plan, Schedules}
-use Rattle.adj_reverse.specs.Program.{helpers_among, works_used, temps_used, depth_used_with, tells_some_with, goes_back_with, reverses, is_do, is_loop, loop_helpers_with, reversal_helpers, all_reversal_helpers, helpers_used_with, helpers_used}
+use Rattle.adj_reverse.specs.Plan.{Plan, Schedules, Step}
+use Rattle.adj_reverse.specs.Program.{helpers_among, works_used, temps_used, depth_used_with, tells_some_with, goes_back_with, reverses_by, any_step, has_slots, is_do, is_loop, loop_helpers_with, reversal_helpers, all_reversal_helpers, helpers_used_with, helpers_used}
 use Rattle.adj_emitted.proofs.Tables.{has_var, among, has_var-append, among-append, has_made, has_own, among_shadows, plain_no_shadow, AreHelpers, plain_no_helper, shadow_no_helper}
 
 -- no variable stands twice
@@ -202,39 +202,56 @@ module _ (sc : Schedules) (p : Plan) (i : ℕ) (c : Code) where
 
   -- ---- those of reversals
 
-  acts_roles : (f : ℕ → Bool) (z : Schedules) (r : Role) → f (role_code r) ≡ true → OfRoles f (reversal_helpers z r p i c)
-  acts_roles f z r h = roles_among f (λ k. reverses z k p i 0 c) r 1 (depth_used_with z p i 0 c) h
+  acts_roles : (f : ℕ → Bool) (z : Schedules) (sort : Step → Bool) (r : Role) → f (role_code r) ≡ true → OfRoles f (reversal_helpers z sort r p i c)
+  acts_roles f z sort r h = roles_among f (λ k. reverses_by z sort k p i 0 c) r 1 (depth_used_with z p i 0 c) h
 
-  acts_apart : (z : Schedules) (r : Role) → VarsApart (reversal_helpers z r p i c)
-  acts_apart z r = among_apart (λ k. reverses z k p i 0 c) r 1 (depth_used_with z p i 0 c)
+  acts_apart : (z : Schedules) (sort : Step → Bool) (r : Role) → VarsApart (reversal_helpers z sort r p i c)
+  acts_apart z sort r = among_apart (λ k. reverses_by z sort k p i 0 c) r 1 (depth_used_with z p i 0 c)
 
   -- a set of roles that has those of reversals
   abbrev HasActions : (ℕ → Bool) → Type 0
-  HasActions f = (f (role_code entry) ≡ true) × ((f (role_code entries) ≡ true) × ((f (role_code kind) ≡ true) × ((f (role_code lower) ≡ true) × (f (role_code upper) ≡ true))))
+  HasActions f = (f (role_code entry) ≡ true) × ((f (role_code entries) ≡ true) × ((f (role_code kind) ≡ true) × ((f (role_code lower) ≡ true) × ((f (role_code upper) ≡ true) × (f (role_code slots) ≡ true)))))
+
+  -- the lists of those behind the entry, from the last on
+  abbrev from_upper : Schedules → List Var
+  from_upper z = reversal_helpers z any_step upper p i c ++ reversal_helpers z has_slots slots p i c
+
+  abbrev from_lower : Schedules → List Var
+  from_lower z = reversal_helpers z any_step lower p i c ++ from_upper z
+
+  abbrev from_kind : Schedules → List Var
+  from_kind z = reversal_helpers z any_step kind p i c ++ from_lower z
+
+  abbrev from_entries : Schedules → List Var
+  from_entries z = reversal_helpers z any_step entries p i c ++ from_kind z
+
+  upper_roles : (f : ℕ → Bool) (z : Schedules) → f (role_code upper) ≡ true → f (role_code slots) ≡ true → OfRoles f (from_upper z)
+  upper_roles f z hu hs = roles_append f (reversal_helpers z any_step upper p i c) (reversal_helpers z has_slots slots p i c) (acts_roles f z any_step upper hu) (acts_roles f z has_slots slots hs)
+
+  lower_roles : (f : ℕ → Bool) (z : Schedules) → f (role_code lower) ≡ true → f (role_code upper) ≡ true → f (role_code slots) ≡ true → OfRoles f (from_lower z)
+  lower_roles f z hl hu hs = roles_append f (reversal_helpers z any_step lower p i c) (from_upper z) (acts_roles f z any_step lower hl) (upper_roles f z hu hs)
+
+  kind_roles : (f : ℕ → Bool) (z : Schedules) → f (role_code kind) ≡ true → f (role_code lower) ≡ true → f (role_code upper) ≡ true → f (role_code slots) ≡ true → OfRoles f (from_kind z)
+  kind_roles f z hk hl hu hs = roles_append f (reversal_helpers z any_step kind p i c) (from_lower z) (acts_roles f z any_step kind hk) (lower_roles f z hl hu hs)
+
+  entries_roles : (f : ℕ → Bool) (z : Schedules) → f (role_code entries) ≡ true → f (role_code kind) ≡ true → f (role_code lower) ≡ true → f (role_code upper) ≡ true → f (role_code slots) ≡ true → OfRoles f (from_entries z)
+  entries_roles f z hn hk hl hu hs = roles_append f (reversal_helpers z any_step entries p i c) (from_kind z) (acts_roles f z any_step entries hn) (kind_roles f z hk hl hu hs)
 
   actions_roles : (f : ℕ → Bool) (z : Schedules) → HasActions f → OfRoles f (all_reversal_helpers z p i c)
   actions_roles f None h = tt
   actions_roles f (Some reads) h =
       let z = Some reads in
-      roles_append f (reversal_helpers z entry p i c) _ (acts_roles f z entry h.0)
-      (roles_append f (reversal_helpers z entries p i c) _ (acts_roles f z entries h.1.0)
-      (roles_append f (reversal_helpers z kind p i c) _ (acts_roles f z kind h.1.1.0)
-      (roles_append f (reversal_helpers z lower p i c) (reversal_helpers z upper p i c) (acts_roles f z lower h.1.1.1.0) (acts_roles f z upper h.1.1.1.1))))
+      roles_append f (reversal_helpers z any_step entry p i c) (from_entries z) (acts_roles f z any_step entry h.0) (entries_roles f z h.1.0 h.1.1.0 h.1.1.1.0 h.1.1.1.1.0 h.1.1.1.1.1)
 
   actions_apart : (z : Schedules) → VarsApart (all_reversal_helpers z p i c)
   actions_apart None = tt
   actions_apart (Some reads) =
       let z = Some reads in
-      let two = reversal_helpers z entries p i c in
-      let three = reversal_helpers z kind p i c in
-      let four = reversal_helpers z lower p i c in
-      let five = reversal_helpers z upper p i c in
-      of_role entry (reversal_helpers z entry p i c) (two ++ (three ++ (four ++ five))) (acts_roles (is_role entry) z entry refl)
-      (roles_append (other_than entry) two _ (acts_roles (other_than entry) z entries refl) (roles_append (other_than entry) three _ (acts_roles (other_than entry) z kind refl) (roles_append (other_than entry) four five (acts_roles (other_than entry) z lower refl) (acts_roles (other_than entry) z upper refl)))) (acts_apart z entry)
-      (of_role entries two (three ++ (four ++ five)) (acts_roles (is_role entries) z entries refl)
-      (roles_append (other_than entries) three _ (acts_roles (other_than entries) z kind refl) (roles_append (other_than entries) four five (acts_roles (other_than entries) z lower refl) (acts_roles (other_than entries) z upper refl))) (acts_apart z entries)
-      (of_role kind three (four ++ five) (acts_roles (is_role kind) z kind refl) (roles_append (other_than kind) four five (acts_roles (other_than kind) z lower refl) (acts_roles (other_than kind) z upper refl)) (acts_apart z kind)
-      (of_role lower four five (acts_roles (is_role lower) z lower refl) (acts_roles (other_than lower) z upper refl) (acts_apart z lower) (acts_apart z upper))))
+      of_role entry (reversal_helpers z any_step entry p i c) (from_entries z) (acts_roles (is_role entry) z any_step entry refl) (entries_roles (other_than entry) z refl refl refl refl refl) (acts_apart z any_step entry)
+      (of_role entries (reversal_helpers z any_step entries p i c) (from_kind z) (acts_roles (is_role entries) z any_step entries refl) (kind_roles (other_than entries) z refl refl refl refl) (acts_apart z any_step entries)
+      (of_role kind (reversal_helpers z any_step kind p i c) (from_lower z) (acts_roles (is_role kind) z any_step kind refl) (lower_roles (other_than kind) z refl refl refl) (acts_apart z any_step kind)
+      (of_role lower (reversal_helpers z any_step lower p i c) (from_upper z) (acts_roles (is_role lower) z any_step lower refl) (upper_roles (other_than lower) z refl refl) (acts_apart z any_step lower)
+      (of_role upper (reversal_helpers z any_step upper p i c) (reversal_helpers z has_slots slots p i c) (acts_roles (is_role upper) z any_step upper refl) (acts_roles (other_than upper) z has_slots slots refl) (acts_apart z any_step upper) (acts_apart z has_slots slots)))))
 
   -- ---- all of them
 
@@ -288,22 +305,22 @@ module _ (sc : Schedules) (p : Plan) (i : ℕ) (c : Code) where
 
   -- the roles of reversals
   abbrev is_acting : ℕ → Bool
-  is_acting k = (k == role_code entry) || ((k == role_code entries) || ((k == role_code kind) || ((k == role_code lower) || (k == role_code upper))))
+  is_acting k = (k == role_code entry) || ((k == role_code entries) || ((k == role_code kind) || ((k == role_code lower) || ((k == role_code upper) || (k == role_code slots)))))
 
   others_apart : VarsApart others
   others_apart =
-      of_role count (loops is_loop count) second (loops_roles (is_role count) is_loop count refl) (second_roles (other_than count) (refl, (refl, (refl, (refl, refl)))) refl refl refl refl refl) (loops_apart is_loop count)
-      (of_role first (loops is_do first) third (loops_roles (is_role first) is_do first refl) (third_roles (other_than first) (refl, (refl, (refl, (refl, refl)))) refl refl refl refl) (loops_apart is_do first)
-      (of_role stride (loops is_do stride) fourth (loops_roles (is_role stride) is_do stride refl) (fourth_roles (other_than stride) (refl, (refl, (refl, (refl, refl)))) refl refl refl) (loops_apart is_do stride)
-      (of_role turn (loops is_loop turn) fifth (loops_roles (is_role turn) is_loop turn refl) (fifth_roles (other_than turn) (refl, (refl, (refl, (refl, refl)))) refl refl) (loops_apart is_loop turn)
-      (roles_apart is_acting (λ k. not (is_acting k)) (λ k e. ap not e) (all_reversal_helpers sc p i c) sixth (actions_roles is_acting sc (refl, (refl, (refl, (refl, refl))))) (sixth_roles (λ k. not (is_acting k)) refl refl) (actions_apart sc)
+      of_role count (loops is_loop count) second (loops_roles (is_role count) is_loop count refl) (second_roles (other_than count) (refl, (refl, (refl, (refl, (refl, refl))))) refl refl refl refl refl) (loops_apart is_loop count)
+      (of_role first (loops is_do first) third (loops_roles (is_role first) is_do first refl) (third_roles (other_than first) (refl, (refl, (refl, (refl, (refl, refl))))) refl refl refl refl) (loops_apart is_do first)
+      (of_role stride (loops is_do stride) fourth (loops_roles (is_role stride) is_do stride refl) (fourth_roles (other_than stride) (refl, (refl, (refl, (refl, (refl, refl))))) refl refl refl) (loops_apart is_do stride)
+      (of_role turn (loops is_loop turn) fifth (loops_roles (is_role turn) is_loop turn refl) (fifth_roles (other_than turn) (refl, (refl, (refl, (refl, (refl, refl))))) refl refl) (loops_apart is_loop turn)
+      (roles_apart is_acting (λ k. not (is_acting k)) (λ k e. ap not e) (all_reversal_helpers sc p i c) sixth (actions_roles is_acting sc (refl, (refl, (refl, (refl, (refl, refl)))))) (sixth_roles (λ k. not (is_acting k)) refl refl) (actions_apart sc)
       (of_role work works temps (works_roles (is_role work) refl) (temps_roles (other_than work) refl) (from_apart work 1 (works_used p.marks i c)) (from_apart temp 1 (temps_used p.marks i c)))))))
 
   pub used_apart_with : VarsApart (helpers_used_with sc p i c)
   used_apart_with = go (tells_some_with sc p i 0 c)
     where
       go : (b : Bool) → VarsApart ((if b then helper control 0 ∷ [] else []) ++ others)
-      go true = of_role control (helper control 0 ∷ []) others (refl, tt) (others_roles (other_than control) (refl, (refl, (refl, (refl, refl)))) refl refl refl refl refl refl) (refl, tt) others_apart
+      go true = of_role control (helper control 0 ∷ []) others (refl, tt) (others_roles (other_than control) (refl, (refl, (refl, (refl, (refl, refl))))) refl refl refl refl refl refl) (refl, tt) others_apart
       go false = others_apart
 
   -- and so do all variables of the adjoint

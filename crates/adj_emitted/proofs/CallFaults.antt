@@ -186,7 +186,7 @@ module _ (sb : Bool) (m : ProgramMarks) (ps : List Procedure) (head : Procedure)
     step_fits : (i : ℕ) (body : Code) (mark : Mark) (s : Step) → reversed_by sc m.adjointed i body mark ≡ Some s → Each (CallHasNone ps u) (statements body) → IsWrittenCode body → IsKernelCode body → is_carried_with sb m ps head s.name ≡ true → C s.name (actuals_named s.given)
     step_fits i body mark s e = step_body (λ c s. Each (CallHasNone ps u) (statements c) → IsWrittenCode c → IsKernelCode c → is_carried_with sb m ps head s.name ≡ true → C s.name (actuals_named s.given)) there sc m.adjointed i body mark s e
       where
-        there : (line : ℕ) (name : List ℕ) (args : Terms) (read : Vars) (n : ℕ) → Each (CallHasNone ps u) (statements (step line (call name args) stop)) → IsWrittenCode (step line (call name args) stop) → IsKernelCode (step line (call name args) stop) → is_carried_with sb m ps head name ≡ true → C name (actuals_named (names_of args))
+        there : (line : ℕ) (name : List ℕ) (args : Terms) (read : Vars) (n : Mark) → Each (CallHasNone ps u) (statements (step line (call name args) stop)) → IsWrittenCode (step line (call name args) stop) → IsKernelCode (step line (call name args) stop) → is_carried_with sb m ps head name ≡ true → C name (actuals_named (names_of args))
         there line name args read n c w k carried =
             let unit = call_of_unit ps u line name args c.0 in
             let given = actuals_given args k.0 w.0.1 in

@@ -14,8 +14,8 @@ use Rattle.adj_transpose.specs.Marked.{code_if}
 use Rattle.adj_transpose.proofs.Variables.{or_left, or_right}
 use Rattle.adj_reverse.specs.AdjointOf.{adjoint_where}
 use Rattle.adj_reverse.specs.Plan.{Plan, is_emitted, names_of, actuals_named, save_group, snapshot_group, step_snapshot, found_or, Schedules, Step, reversed_by}
-use Rattle.adj_reverse.specs.ReversalCode.{at_turn, arm, advance, arms, one_action, reversal, reversed_forward, reversed_backward, row_forward, row_backward}
-use Rattle.adj_reverse.specs.Emission.{is_empty, push, pop, pushes, pops, literal, adjoint_call, told_forward, told_backward, loop_forward, loop_backward, while_forward, while_backward, push_own, forward_act_with, forward_with, backward_act_with, backward_with, cleared, adjoint_body_with}
+use Rattle.adj_reverse.specs.ReversalCode.{at_turn, arm, advance, arms, one_action, reversal, slots_of, set_slots, push_slots, pop_slots, reversed_forward, reversed_backward, row_forward, row_backward}
+use Rattle.adj_reverse.specs.Emission.{is_empty, push, pop, pushes, pops, literal, adjoint_call, told_forward, told_backward, loop_forward, loop_backward, while_forward, while_backward, push_own, pop_own, set_own, forward_act_with, forward_with, backward_act_with, backward_with, cleared, adjoint_body_with}
 use Rattle.adj_reverse.specs.Program.{calls_act, calls_in, turns_act, turns_in}
 use Rattle.adj_checked.proofs.Lists.{Each, each_append}
 use Rattle.adj_emitted.proofs.StepCalls.{step_body, step_mark, from_keep, from_turn, from_advance}
@@ -157,7 +157,22 @@ module _ (f g : Name → ℕ) (sc : Schedules) (p : Plan) (n : ℕ) where
   arm_low : (line k j : ℕ) (c : Code) → chain f c ≤ n → chain f (arm line k j c) ≤ n
   arm_low line k j c h = low_if f n (not (is_empty c)) _ (λ t. omega arith)
 
-  module _ (line k : ℕ) (x : Var) (j : ℕ) (keep back plain_call adjoint : Code) (low_keep : chain f keep ≤ n) (low_back : chain f back ≤ n) (low_call : chain f plain_call ≤ n) (low_adjoint : chain f adjoint ≤ n) where
+  set_slots_low : (line k : ℕ) (m : Mark) (rest : Code) → chain f rest ≤ n → chain f (set_slots line k m rest) ≤ n
+  set_slots_low line k unmarked rest h = h
+  set_slots_low line k (with_count j) rest h = h
+  set_slots_low line k (count_from y) rest h = omega arith
+
+  push_slots_low : (line k : ℕ) (m : Mark) (rest : Code) → chain f rest ≤ n → chain f (push_slots line k m rest) ≤ n
+  push_slots_low line k unmarked rest h = h
+  push_slots_low line k (with_count j) rest h = h
+  push_slots_low line k (count_from y) rest h = omega arith
+
+  pop_slots_low : (line k : ℕ) (m : Mark) (rest : Code) → chain f rest ≤ n → chain f (pop_slots line k m rest) ≤ n
+  pop_slots_low line k unmarked rest h = h
+  pop_slots_low line k (with_count j) rest h = h
+  pop_slots_low line k (count_from y) rest h = omega arith
+
+  module _ (line k : ℕ) (x : Var) (m : Mark) (keep back plain_call adjoint : Code) (low_keep : chain f keep ≤ n) (low_back : chain f back ≤ n) (low_call : chain f plain_call ≤ n) (low_adjoint : chain f adjoint ≤ n) where
     arms_low : chain f (arms line k x keep back plain_call adjoint) ≤ n
     arms_low =
         low_append f n (arm line k 1 keep) (from_advance line k x keep back plain_call adjoint) (arm_low line k 1 keep low_keep)
@@ -165,24 +180,28 @@ module _ (f g : Name → ℕ) (sc : Schedules) (p : Plan) (n : ℕ) where
         (low_append f n (arm line k 3 (at_turn line k x lower adjoint)) (from_keep line k keep back) (arm_low line k 3 (at_turn line k x lower adjoint) (omega arith))
         (low_append f n (arm line k 4 (back +++ keep)) (arm line k 5 back) (arm_low line k 4 (back +++ keep) (low_append f n back keep low_back low_keep)) (arm_low line k 5 back low_back))))
 
-    reversal_low : chain f (reversal line k x j keep back plain_call adjoint) ≤ n
+    reversal_low : chain f (reversal line k x (slots_of k m) keep back plain_call adjoint) ≤ n
     reversal_low = let inside = arms_low in omega arith
 
-    reversed_backward_low : (unsave : Code) → chain f unsave ≤ n → chain f (reversed_backward k line x j keep back unsave plain_call adjoint) ≤ n
+    reversed_backward_low : (unsave : Code) → chain f unsave ≤ n → chain f (reversed_backward k line x m keep back unsave plain_call adjoint) ≤ n
     reversed_backward_low unsave h =
-        let inside = low_append f n back (reversal line k x j keep back plain_call adjoint +++ unsave) low_back (low_append f n (reversal line k x j keep back plain_call adjoint) unsave reversal_low h) in
+        let inside = low_append f n back (reversal line k x (slots_of k m) keep back plain_call adjoint +++ unsave) low_back (low_append f n (reversal line k x (slots_of k m) keep back plain_call adjoint) unsave reversal_low h) in
+        let popped = pop_slots_low line k m (pop_own line (helper stride k) (pop_own line (helper first k) (back +++ (reversal line k x (slots_of k m) keep back plain_call adjoint +++ unsave)))) (omega arith) in
         omega arith
 
-  module _ (k line : ℕ) (x : Var) (a b c : Term) (save keep plain_call : Code) (low_save : chain f save ≤ n) (low_keep : chain f keep ≤ n) (low_call : chain f plain_call ≤ n) where
+  module _ (k line : ℕ) (x : Var) (a b c : Term) (m : Mark) (save keep plain_call : Code) (low_save : chain f save ≤ n) (low_keep : chain f keep ≤ n) (low_call : chain f plain_call ≤ n) where
     -- the loop and what is pushed behind it
     abbrev turned : Code
-    turned = step line (loop x (var (helper first k)) b (var (helper stride k)) (plain_call +++ raised k line) unmarked) (push_own line (helper first k) (push_own line (helper stride k) (push_own line (helper count k) stop)))
+    turned = step line (loop x (var (helper first k)) b (var (helper stride k)) (plain_call +++ raised k line) unmarked) (push_own line (helper first k) (push_own line (helper stride k) (push_slots line k m (push_own line (helper count k) stop))))
 
     turned_low : chain f turned ≤ n
-    turned_low = let inside = low_append f n plain_call (raised k line) low_call (omega arith) in omega arith
+    turned_low = let inside = low_append f n plain_call (raised k line) low_call (omega arith) in let pushed = push_slots_low line k m (push_own line (helper count k) stop) (omega arith) in omega arith
 
-    reversed_forward_low : chain f (reversed_forward k line x a b c save keep plain_call) ≤ n
-    reversed_forward_low = let inside = low_append f n save (keep +++ turned) low_save (low_append f n keep turned low_keep turned_low) in omega arith
+    reversed_forward_low : chain f (reversed_forward k line x a b c m save keep plain_call) ≤ n
+    reversed_forward_low =
+        let inside = low_append f n save (keep +++ turned) low_save (low_append f n keep turned low_keep turned_low) in
+        let counted = set_slots_low line k m (set_own line (helper count k) (literal 0) (save +++ (keep +++ turned))) (omega arith) in
+        omega arith
 
   -- from what kept calls name, and from the adjoints of what adjointed calls name, chains are no longer
   abbrev pub Kept : (Name → Bool) → Type 0
@@ -217,7 +236,7 @@ module _ (f g : Name → ℕ) (sc : Schedules) (p : Plan) (n : ℕ) where
   step_low : (i : ℕ) (body : Code) (m : Mark) (s : Step) → reversed_by sc p.marks.adjointed i body m ≡ Some s → chain g body ≤ n → Adjointed (λ x. calls_in p.marks.adjointed x (suc i) body) → (g s.name ≤ n) × (f (p.callees s.name).adjoint ≤ n)
   step_low i body m s e = step_body (λ c s. chain g c ≤ n → Adjointed (λ x. calls_in p.marks.adjointed x (suc i) c) → (g s.name ≤ n) × (f (p.callees s.name).adjoint ≤ n)) there sc p.marks.adjointed i body m s e
     where
-      there : (l : ℕ) (name : Name) (args : Terms) (read : Vars) (k : ℕ) → chain g (step l (call name args) stop) ≤ n → Adjointed (λ x. calls_in p.marks.adjointed x (suc i) (step l (call name args) stop)) → (g name ≤ n) × (f (p.callees name).adjoint ≤ n)
+      there : (l : ℕ) (name : Name) (args : Terms) (read : Vars) (k : Mark) → chain g (step l (call name args) stop) ≤ n → Adjointed (λ x. calls_in p.marks.adjointed x (suc i) (step l (call name args) stop)) → (g name ≤ n) × (f (p.callees name).adjoint ≤ n)
       there l name args read k h adjointed = let l = adjointed name (rw ((step_mark sc p.marks.adjointed i body m s e).1, name_refl name) refl) in (omega arith, omega arith)
 
   rows_low : (i d line : ℕ) (x : Name) (a b c : Term) (body : Code) (m : Mark) (o : Option Step) → reversed_by sc p.marks.adjointed i body m ≡ o → chain g body ≤ n → Kept (λ y. calls_in p.marks.kept y (suc i) body) → Adjointed (λ y. calls_in p.marks.adjointed y (suc i) body) → Kept (λ y. found_or o (turns_in sc p.marks.adjointed y (suc i) body) (λ s. name_eq y s.name)) →
@@ -233,8 +252,8 @@ module _ (f g : Name → ℕ) (sc : Schedules) (p : Plan) (n : ℕ) where
       let plain_call = one line (call s.name (actuals_named s.given)) in
       let saves = save_group p.marks i callee s.given in
       let shot = step_snapshot callee s.read s.given in (
-        reversed_forward_low (suc d) line (plain x) a b c (pushes p line saves) (pushes p line shot) (code_if (p.marks.kept (suc i)) plain_call) (low_pushes line saves) (low_pushes line shot) (low_if f n (p.marks.kept (suc i)) plain_call (λ t. omega arith)),
-        reversed_backward_low line (suc d) (plain x) s.snapshots (pushes p line shot) (pops p line shot) plain_call (one line (adjoint_call callee s.given)) (low_pushes line shot) (low_pops line shot) (omega arith) (omega arith) (pops p line saves) (low_pops line saves),
+        reversed_forward_low (suc d) line (plain x) a b c s.mark (pushes p line saves) (pushes p line shot) (code_if (p.marks.kept (suc i)) plain_call) (low_pushes line saves) (low_pushes line shot) (low_if f n (p.marks.kept (suc i)) plain_call (λ t. omega arith)),
+        reversed_backward_low line (suc d) (plain x) s.mark (pushes p line shot) (pops p line shot) plain_call (one line (adjoint_call callee s.given)) (low_pushes line shot) (low_pops line shot) (omega arith) (omega arith) (pops p line saves) (low_pops line saves),
       )
 
   mutual

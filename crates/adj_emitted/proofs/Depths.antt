@@ -1,7 +1,7 @@
 -- The expressions in the sweeps of statements are at most 3 deeper than those in the statements.
 use Rattle.std.proofs.Common.{◌≡◌, ℕ, zero, suc, ◌+◌, ◌≤◌, max, Bool, true, false, List, [], ◌∷◌, refl, sym, subst, arith, if◌then◌else◌}
 use Rattle.std.specs.Prelude.{◌&&◌, not, Option, Some, None}
-use Rattle.adj_tree.specs.Code.{Var, plain, shadow, helper, work, first, stride, count, lower, plus, minus, times, quot, modulo, greater, lesser, Term, lit, var, elem, neg, bin, pow, power_of, abs, Terms, none, more, Test, compare, negation, conjunction, disjunction, Runtime, push_word, pop_word, push_array, pop_array, push_control, pop_control, zero_array, begin_reversal, count_actions, give_action, end_reversal, unmarked as no_mark, name_eq, Act, assign, choose, loop, during, call, runtime, Code, stop, step, Procedure}
+use Rattle.adj_tree.specs.Code.{Var, plain, shadow, helper, work, first, stride, count, lower, plus, minus, times, quot, modulo, greater, lesser, Term, lit, var, elem, neg, bin, pow, power_of, abs, Terms, none, more, Test, compare, negation, conjunction, disjunction, Runtime, push_word, pop_word, push_array, pop_array, push_control, pop_control, zero_array, begin_reversal, count_actions, give_action, end_reversal, Mark, unmarked as no_mark, with_count, count_from, name_eq, Act, assign, choose, loop, during, call, runtime, Code, stop, step, Procedure}
 use Rattle.adj_tree.specs.Size.{term_depth, terms_depth, test_depth}
 use Rattle.adj_meaning.specs.Append.{◌+++◌, one}
 use Rattle.adj_meaning.specs.Rename.{rename_term, rename_terms, rename_test, rename_runtime, rename_act, rename}
@@ -11,8 +11,8 @@ use Rattle.adj_transpose.specs.Naming.{naming}
 use Rattle.adj_transpose.specs.Program.{unmarked, unit_at}
 use Rattle.adj_reverse.specs.AdjointOf.{is_active_where, has_own_where, temps_in_where, shrunk_where, temps_where, back_where, adjoint_where}
 use Rattle.adj_reverse.specs.Plan.{Plan, is_emitted, names_of, actuals_named, save_group, snapshot_group, step_snapshot, found_or, Schedules, Step, reversed_by}
-use Rattle.adj_reverse.specs.ReversalCode.{at_turn, arm, advance, arms, one_action, reversal, reversed_forward, reversed_backward, row_forward, row_backward}
-use Rattle.adj_reverse.specs.Emission.{is_empty, push, pop, pushes, pops, literal, with_shadows, adjoint_call, told_forward, told_backward, loop_forward, loop_backward, while_forward, while_backward, push_own, resets, reset, forward_act_with, forward_with, backward_act_with, backward_with, cleared, adjoint_body_with}
+use Rattle.adj_reverse.specs.ReversalCode.{at_turn, arm, advance, arms, one_action, reversal, slots_of, set_slots, push_slots, pop_slots, reversed_forward, reversed_backward, row_forward, row_backward}
+use Rattle.adj_reverse.specs.Emission.{is_empty, push, pop, pushes, pops, literal, with_shadows, adjoint_call, told_forward, told_backward, loop_forward, loop_backward, while_forward, while_backward, push_own, pop_own, set_own, resets, reset, forward_act_with, forward_with, backward_act_with, backward_with, cleared, adjoint_body_with}
 use Rattle.adj_reverse.specs.Marking.{ProgramMarks, first_statement, plan_in}
 use Rattle.adj_reverse.specs.Program.{has_adjoint, is_carried_with, all_units, adjoint_names_with, adjoint_unit_with, emitted_adjoint_with, emitted_units_with, emitted_for_with, schedules_in}
 use Rattle.adj_checked.proofs.Lists.{Each, each_more}
@@ -234,7 +234,27 @@ module _ (sc : Schedules) (p : Plan) (n : ℕ) where
   arm_deep : (line k j : ℕ) (c : Code) → deepest c ≤ n + 3 → deepest (arm line k j c) ≤ n + 3
   arm_deep line k j c h = deep_if (n + 3) (not (is_empty c)) _ (omega arith)
 
-  module _ (line k : ℕ) (x : Var) (j : ℕ) (keep back plain_call adjoint : Code) (deep_keep : deepest keep ≤ n + 3) (deep_back : deepest back ≤ n + 3) (deep_call : deepest plain_call ≤ n + 3) (deep_turned : deepest adjoint ≤ n + 3) where
+  slots_deep : (k : ℕ) (m : Mark) → term_depth (slots_of k m) ≤ n + 3
+  slots_deep k no_mark = omega arith
+  slots_deep k (with_count j) = omega arith
+  slots_deep k (count_from y) = omega arith
+
+  set_slots_deep : (line k : ℕ) (m : Mark) (rest : Code) → deepest rest ≤ n + 3 → deepest (set_slots line k m rest) ≤ n + 3
+  set_slots_deep line k no_mark rest h = h
+  set_slots_deep line k (with_count j) rest h = h
+  set_slots_deep line k (count_from y) rest h = omega arith
+
+  push_slots_deep : (line k : ℕ) (m : Mark) (rest : Code) → deepest rest ≤ n + 3 → deepest (push_slots line k m rest) ≤ n + 3
+  push_slots_deep line k no_mark rest h = h
+  push_slots_deep line k (with_count j) rest h = h
+  push_slots_deep line k (count_from y) rest h = omega arith
+
+  pop_slots_deep : (line k : ℕ) (m : Mark) (rest : Code) → deepest rest ≤ n + 3 → deepest (pop_slots line k m rest) ≤ n + 3
+  pop_slots_deep line k no_mark rest h = h
+  pop_slots_deep line k (with_count j) rest h = h
+  pop_slots_deep line k (count_from y) rest h = omega arith
+
+  module _ (line k : ℕ) (x : Var) (m : Mark) (keep back plain_call adjoint : Code) (deep_keep : deepest keep ≤ n + 3) (deep_back : deepest back ≤ n + 3) (deep_call : deepest plain_call ≤ n + 3) (deep_turned : deepest adjoint ≤ n + 3) where
     arms_deep : deepest (arms line k x keep back plain_call adjoint) ≤ n + 3
     arms_deep =
         deep_append (n + 3) (arm line k 1 keep) (from_advance line k x keep back plain_call adjoint) (arm_deep line k 1 keep deep_keep)
@@ -242,24 +262,28 @@ module _ (sc : Schedules) (p : Plan) (n : ℕ) where
         (deep_append (n + 3) (arm line k 3 (at_turn line k x lower adjoint)) (from_keep line k keep back) (arm_deep line k 3 (at_turn line k x lower adjoint) (omega arith))
         (deep_append (n + 3) (arm line k 4 (back +++ keep)) (arm line k 5 back) (arm_deep line k 4 (back +++ keep) (deep_append (n + 3) back keep deep_back deep_keep)) (arm_deep line k 5 back deep_back))))
 
-    reversal_deep : deepest (reversal line k x j keep back plain_call adjoint) ≤ n + 3
-    reversal_deep = let inside = arms_deep in omega arith
+    reversal_deep : deepest (reversal line k x (slots_of k m) keep back plain_call adjoint) ≤ n + 3
+    reversal_deep = let inside = arms_deep in let number = slots_deep k m in omega arith
 
-    reversed_backward_deep : (unsave : Code) → deepest unsave ≤ n + 3 → deepest (reversed_backward k line x j keep back unsave plain_call adjoint) ≤ n + 3
+    reversed_backward_deep : (unsave : Code) → deepest unsave ≤ n + 3 → deepest (reversed_backward k line x m keep back unsave plain_call adjoint) ≤ n + 3
     reversed_backward_deep unsave h =
-        let inside = deep_append (n + 3) back (reversal line k x j keep back plain_call adjoint +++ unsave) deep_back (deep_append (n + 3) (reversal line k x j keep back plain_call adjoint) unsave reversal_deep h) in
+        let inside = deep_append (n + 3) back (reversal line k x (slots_of k m) keep back plain_call adjoint +++ unsave) deep_back (deep_append (n + 3) (reversal line k x (slots_of k m) keep back plain_call adjoint) unsave reversal_deep h) in
+        let popped = pop_slots_deep line k m (pop_own line (helper stride k) (pop_own line (helper first k) (back +++ (reversal line k x (slots_of k m) keep back plain_call adjoint +++ unsave)))) (omega arith) in
         omega arith
 
-  module _ (k line : ℕ) (x : Var) (a b c : Term) (save keep plain_call : Code) (deep_first : term_depth a ≤ n) (deep_last : term_depth b ≤ n) (deep_step : term_depth c ≤ n) (deep_save : deepest save ≤ n + 3) (deep_keep : deepest keep ≤ n + 3) (deep_call : deepest plain_call ≤ n + 3) where
+  module _ (k line : ℕ) (x : Var) (a b c : Term) (m : Mark) (save keep plain_call : Code) (deep_first : term_depth a ≤ n) (deep_last : term_depth b ≤ n) (deep_step : term_depth c ≤ n) (deep_save : deepest save ≤ n + 3) (deep_keep : deepest keep ≤ n + 3) (deep_call : deepest plain_call ≤ n + 3) where
     -- the loop and what is pushed behind it
     abbrev turned : Code
-    turned = step line (loop x (var (helper first k)) b (var (helper stride k)) (plain_call +++ raised k line) no_mark) (push_own line (helper first k) (push_own line (helper stride k) (push_own line (helper count k) stop)))
+    turned = step line (loop x (var (helper first k)) b (var (helper stride k)) (plain_call +++ raised k line) no_mark) (push_own line (helper first k) (push_own line (helper stride k) (push_slots line k m (push_own line (helper count k) stop))))
 
     turned_deep : deepest turned ≤ n + 3
-    turned_deep = let inside = deep_raised k line plain_call deep_call in omega arith
+    turned_deep = let inside = deep_raised k line plain_call deep_call in let pushed = push_slots_deep line k m (push_own line (helper count k) stop) (omega arith) in omega arith
 
-    reversed_forward_deep : deepest (reversed_forward k line x a b c save keep plain_call) ≤ n + 3
-    reversed_forward_deep = let inside = deep_append (n + 3) save (keep +++ turned) deep_save (deep_append (n + 3) keep turned deep_keep turned_deep) in omega arith
+    reversed_forward_deep : deepest (reversed_forward k line x a b c m save keep plain_call) ≤ n + 3
+    reversed_forward_deep =
+        let inside = deep_append (n + 3) save (keep +++ turned) deep_save (deep_append (n + 3) keep turned deep_keep turned_deep) in
+        let counted = set_slots_deep line k m (set_own line (helper count k) (literal 0) (save +++ (keep +++ turned))) (omega arith) in
+        omega arith
 
   -- the rows of a loop, by how it is reversed
   rows_deep : (i d line : ℕ) (x : List ℕ) (a b c : Term) (body : Code) (o : Option Step) → term_depth a ≤ n → term_depth b ≤ n → term_depth c ≤ n → (deepest (forward_with sc p (suc i) (suc d) body) ≤ n + 3) × (deepest (backward_with sc p (suc i) (suc d) body) ≤ n + 3) →
@@ -279,8 +303,8 @@ module _ (sc : Schedules) (p : Plan) (n : ℕ) where
       let shot_pops = deep_pops line shot in
       let named = deep_named s.given in
       let handed = deep_given callee.shadowed callee.dummies s.given in (
-        reversed_forward_deep (suc d) line (plain x) a b c (pushes p line saves) (pushes p line shot) (code_if (p.marks.kept (suc i)) plain_call) ha hb hc (omega arith) (omega arith) (deep_if (n + 3) (p.marks.kept (suc i)) plain_call (omega arith)),
-        reversed_backward_deep line (suc d) (plain x) s.snapshots (pushes p line shot) (pops p line shot) plain_call (one line (adjoint_call callee s.given)) (omega arith) (omega arith) (omega arith) (omega arith) (pops p line saves) (omega arith),
+        reversed_forward_deep (suc d) line (plain x) a b c s.mark (pushes p line saves) (pushes p line shot) (code_if (p.marks.kept (suc i)) plain_call) ha hb hc (omega arith) (omega arith) (deep_if (n + 3) (p.marks.kept (suc i)) plain_call (omega arith)),
+        reversed_backward_deep line (suc d) (plain x) s.mark (pushes p line shot) (pops p line shot) plain_call (one line (adjoint_call callee s.given)) (omega arith) (omega arith) (omega arith) (omega arith) (pops p line saves) (omega arith),
       )
 
   mutual

@@ -160,8 +160,8 @@ module _ (sb : Bool) (m : ProgramMarks) (ps : List Procedure) (head : Procedure)
     step_turned : (i : ℕ) (body : Code) (mark : Mark) (s : Step) → reversed_by sc m.adjointed i body mark ≡ Some s → Each (CallHasNone ps u) (statements body) → IsWrittenCode body → IsKernelCode body → is_carried_with sb m ps head s.name ≡ true → Turned f g sc (plan_in m ps u) body s
     step_turned i body mark s e = step_body (λ c s. Each (CallHasNone ps u) (statements c) → IsWrittenCode c → IsKernelCode c → is_carried_with sb m ps head s.name ≡ true → Turned f g sc (plan_in m ps u) c s) there sc m.adjointed i body mark s e
       where
-        there : (line : ℕ) (name : List ℕ) (args : Terms) (read : Vars) (n : ℕ) → Each (CallHasNone ps u) (statements (step line (call name args) stop)) → IsWrittenCode (step line (call name args) stop) → IsKernelCode (step line (call name args) stop) → is_carried_with sb m ps head name ≡ true →
-            Turned f g sc (plan_in m ps u) (step line (call name args) stop) (record { name = name; given = names_of args; read = read; snapshots = n })
+        there : (line : ℕ) (name : List ℕ) (args : Terms) (read : Vars) (n : Mark) → Each (CallHasNone ps u) (statements (step line (call name args) stop)) → IsWrittenCode (step line (call name args) stop) → IsKernelCode (step line (call name args) stop) → is_carried_with sb m ps head name ≡ true →
+            Turned f g sc (plan_in m ps u) (step line (call name args) stop) (record { name = name; given = names_of args; read = read; mark = n })
         there line name args read n c w k carried v h =
             let given = actuals_given args k.0 w.0.1 in
             let same : actuals_named (names_of args) ≡ args = ap actuals_named (ap names_of given.1 ∙ named_back given.0) ∙ sym given.1 in

@@ -1,8 +1,8 @@
 -- The sweeps of statements are nested no deeper than these.
 use Rattle.std.proofs.Common.{◌≡◌, ℕ, zero, suc, ◌+◌, ◌≤◌, max, Bool, true, false, List, [], ◌∷◌, refl, sym, subst, arith, if◌then◌else◌}
 use Rattle.std.specs.Prelude.{◌&&◌, not, Option, Some, None}
-use Rattle.adj_tree.specs.Code.{Var, plain, shadow, helper, first, stride, count, lower, plus, minus, times, quot, modulo, greater, lesser, Term, lit, var, elem, neg, bin, pow, power_of, abs, Terms, none, Test, Mark, unmarked as no_mark, push_word, pop_word, zero_array, name_eq, Act, assign, choose, loop, during, call, runtime, Code, stop, step, Procedure}
-use Rattle.adj_tree.specs.Size.{act_depth, code_depth}
+use Rattle.adj_tree.specs.Code.{Var, plain, shadow, helper, first, stride, count, lower, plus, minus, times, quot, modulo, greater, lesser, Term, lit, var, elem, neg, bin, pow, power_of, abs, Terms, none, Test, Mark, unmarked as no_mark, with_count, count_from, push_word, pop_word, zero_array, name_eq, Act, assign, choose, loop, during, call, runtime, Code, stop, step, Procedure}
+use Rattle.adj_tree.specs.Size.{act_depth, code_depth, IsNested}
 use Rattle.adj_meaning.specs.Append.{◌+++◌, one}
 use Rattle.adj_meaning.specs.Rename.{rename_act, rename}
 use Rattle.adj_transpose.specs.Marks.{Vars, next, behind, active_at}
@@ -11,12 +11,12 @@ use Rattle.adj_transpose.specs.Naming.{naming}
 use Rattle.adj_transpose.specs.Program.{unmarked, unit_at}
 use Rattle.adj_reverse.specs.AdjointOf.{is_active_where, has_own_where, temps_in_where, shrunk_where, temps_where, back_where, adjoint_where}
 use Rattle.adj_reverse.specs.Plan.{Plan, is_emitted, names_of, actuals_named, save_group, snapshot_group, step_snapshot, found_or, Schedules, Step, reversed_by}
-use Rattle.adj_reverse.specs.ReversalCode.{at_turn, arm, advance, arms, one_action, reversal, reversed_forward, reversed_backward, row_forward, row_backward}
-use Rattle.adj_reverse.specs.Emission.{is_empty, push, pop, pushes, pops, literal, adjoint_call, told_forward, told_backward, loop_forward, loop_backward, while_forward, while_backward, push_own, reset, forward_act_with, forward_with, backward_act_with, backward_with, cleared, adjoint_body_with}
+use Rattle.adj_reverse.specs.ReversalCode.{at_turn, arm, advance, arms, one_action, reversal, slots_of, set_slots, push_slots, pop_slots, reversed_forward, reversed_backward, row_forward, row_backward}
+use Rattle.adj_reverse.specs.Emission.{is_empty, push, pop, pushes, pops, literal, adjoint_call, told_forward, told_backward, loop_forward, loop_backward, while_forward, while_backward, push_own, pop_own, set_own, reset, forward_act_with, forward_with, backward_act_with, backward_with, cleared, adjoint_body_with}
 use Rattle.adj_reverse.specs.Marking.{ProgramMarks, first_statement, plan_in}
 use Rattle.adj_reverse.specs.Program.{has_adjoint, is_carried_with, all_units, adjoint_names_with, adjoint_unit_with, emitted_adjoint_with, emitted_units_with, emitted_for_with, emitted_program_with, schedules_in}
 use Rattle.adj_checked.proofs.Lists.{Each, each_more}
-use Rattle.adj_emitted.specs.Emitted.{IsNested, nested_with, KeepsNesting}
+use Rattle.adj_emitted.specs.Emitted.{nested_with, KeepsNesting}
 use Rattle.adj_emitted.proofs.StepCalls.{from_keep, from_turn, from_advance}
 use Rattle.adj_emitted.proofs.UnitFaults.{each_emitted}
 
@@ -157,7 +157,22 @@ module _ (p : Plan) where
   arm_below : (n line k j : ℕ) (c : Code) → code_depth c + 1 ≤ n → code_depth (arm line k j c) ≤ n
   arm_below n line k j c h = below_if n (not (is_empty c)) _ (omega arith)
 
-  module _ (line k : ℕ) (x : Var) (j : ℕ) (keep back plain_call adjoint : Code) (flat_keep : code_depth keep ≤ 0) (flat_back : code_depth back ≤ 0) (flat_call : code_depth plain_call ≤ 0) (flat_adjoint : code_depth adjoint ≤ 0) where
+  set_slots_below : (n line k : ℕ) (m : Mark) (rest : Code) → code_depth rest ≤ n → code_depth (set_slots line k m rest) ≤ n
+  set_slots_below n line k no_mark rest h = h
+  set_slots_below n line k (with_count j) rest h = h
+  set_slots_below n line k (count_from y) rest h = omega arith
+
+  push_slots_below : (n line k : ℕ) (m : Mark) (rest : Code) → code_depth rest ≤ n → code_depth (push_slots line k m rest) ≤ n
+  push_slots_below n line k no_mark rest h = h
+  push_slots_below n line k (with_count j) rest h = h
+  push_slots_below n line k (count_from y) rest h = omega arith
+
+  pop_slots_below : (n line k : ℕ) (m : Mark) (rest : Code) → code_depth rest ≤ n → code_depth (pop_slots line k m rest) ≤ n
+  pop_slots_below n line k no_mark rest h = h
+  pop_slots_below n line k (with_count j) rest h = h
+  pop_slots_below n line k (count_from y) rest h = omega arith
+
+  module _ (line k : ℕ) (x : Var) (m : Mark) (keep back plain_call adjoint : Code) (flat_keep : code_depth keep ≤ 0) (flat_back : code_depth back ≤ 0) (flat_call : code_depth plain_call ≤ 0) (flat_adjoint : code_depth adjoint ≤ 0) where
     arms_below : code_depth (arms line k x keep back plain_call adjoint) ≤ 2
     arms_below =
         let again = below_append 0 back keep flat_back flat_keep in
@@ -166,24 +181,28 @@ module _ (p : Plan) where
         (below_append 2 (arm line k 3 (at_turn line k x lower adjoint)) (from_keep line k keep back) (arm_below 2 line k 3 (at_turn line k x lower adjoint) (omega arith))
         (below_append 2 (arm line k 4 (back +++ keep)) (arm line k 5 back) (arm_below 2 line k 4 (back +++ keep) (omega arith)) (arm_below 2 line k 5 back (omega arith)))))
 
-    reversal_below : code_depth (reversal line k x j keep back plain_call adjoint) ≤ 3
+    reversal_below : code_depth (reversal line k x (slots_of k m) keep back plain_call adjoint) ≤ 3
     reversal_below = let inside = arms_below in omega arith
 
-    reversed_backward_below : (unsave : Code) → code_depth unsave ≤ 0 → code_depth (reversed_backward k line x j keep back unsave plain_call adjoint) ≤ 3
+    reversed_backward_below : (unsave : Code) → code_depth unsave ≤ 0 → code_depth (reversed_backward k line x m keep back unsave plain_call adjoint) ≤ 3
     reversed_backward_below unsave h =
-        let inside = below_append 3 back (reversal line k x j keep back plain_call adjoint +++ unsave) (omega arith) (below_append 3 (reversal line k x j keep back plain_call adjoint) unsave reversal_below (omega arith)) in
+        let inside = below_append 3 back (reversal line k x (slots_of k m) keep back plain_call adjoint +++ unsave) (omega arith) (below_append 3 (reversal line k x (slots_of k m) keep back plain_call adjoint) unsave reversal_below (omega arith)) in
+        let popped = pop_slots_below 3 line k m (pop_own line (helper stride k) (pop_own line (helper first k) (back +++ (reversal line k x (slots_of k m) keep back plain_call adjoint +++ unsave)))) (omega arith) in
         omega arith
 
-  module _ (k line : ℕ) (x : Var) (a b c : Term) (save keep plain_call : Code) (flat_save : code_depth save ≤ 0) (flat_keep : code_depth keep ≤ 0) (flat_call : code_depth plain_call ≤ 0) where
+  module _ (k line : ℕ) (x : Var) (a b c : Term) (m : Mark) (save keep plain_call : Code) (flat_save : code_depth save ≤ 0) (flat_keep : code_depth keep ≤ 0) (flat_call : code_depth plain_call ≤ 0) where
     -- the loop and what is pushed behind it
     abbrev turned : Code
-    turned = step line (loop x (var (helper first k)) b (var (helper stride k)) (plain_call +++ raised k line) no_mark) (push_own line (helper first k) (push_own line (helper stride k) (push_own line (helper count k) stop)))
+    turned = step line (loop x (var (helper first k)) b (var (helper stride k)) (plain_call +++ raised k line) no_mark) (push_own line (helper first k) (push_own line (helper stride k) (push_slots line k m (push_own line (helper count k) stop))))
 
     turned_below : code_depth turned ≤ 1
-    turned_below = let inside = below_append 0 plain_call (raised k line) flat_call (omega arith) in omega arith
+    turned_below = let inside = below_append 0 plain_call (raised k line) flat_call (omega arith) in let pushed = push_slots_below 1 line k m (push_own line (helper count k) stop) (omega arith) in omega arith
 
-    reversed_forward_below : code_depth (reversed_forward k line x a b c save keep plain_call) ≤ 1
-    reversed_forward_below = let inside = below_append 1 save (keep +++ turned) (omega arith) (below_append 1 keep turned (omega arith) turned_below) in omega arith
+    reversed_forward_below : code_depth (reversed_forward k line x a b c m save keep plain_call) ≤ 1
+    reversed_forward_below =
+        let inside = below_append 1 save (keep +++ turned) (omega arith) (below_append 1 keep turned (omega arith) turned_below) in
+        let counted = set_slots_below 1 line k m (set_own line (helper count k) (literal 0) (save +++ (keep +++ turned))) (omega arith) in
+        omega arith
 
   rows_reversed : (i k line : ℕ) (x : List ℕ) (a b c : Term) (s : Step) → (code_depth (row_forward p i k line x a b c s) ≤ 1) × (code_depth (row_backward p i k line x s) ≤ 3)
   rows_reversed i k line x a b c s =
@@ -191,8 +210,8 @@ module _ (p : Plan) where
       let plain_call = one line (call s.name (actuals_named s.given)) in
       let saves = save_group p.marks i callee s.given in
       let shot = step_snapshot callee s.read s.given in (
-        reversed_forward_below k line (plain x) a b c (pushes p line saves) (pushes p line shot) (code_if (p.marks.kept (suc i)) plain_call) (flat_pushes 0 line saves) (flat_pushes 0 line shot) (below_if 0 (p.marks.kept (suc i)) plain_call (omega arith)),
-        reversed_backward_below line k (plain x) s.snapshots (pushes p line shot) (pops p line shot) plain_call (one line (adjoint_call callee s.given)) (flat_pushes 0 line shot) (flat_pops 0 line shot) (omega arith) (omega arith) (pops p line saves) (flat_pops 0 line saves),
+        reversed_forward_below k line (plain x) a b c s.mark (pushes p line saves) (pushes p line shot) (code_if (p.marks.kept (suc i)) plain_call) (flat_pushes 0 line saves) (flat_pushes 0 line shot) (below_if 0 (p.marks.kept (suc i)) plain_call (omega arith)),
+        reversed_backward_below line k (plain x) s.mark (pushes p line shot) (pops p line shot) plain_call (one line (adjoint_call callee s.given)) (flat_pushes 0 line shot) (flat_pops 0 line shot) (omega arith) (omega arith) (pops p line saves) (flat_pops 0 line saves),
       )
 
   -- so many levels more, where loops are reversed by schedules

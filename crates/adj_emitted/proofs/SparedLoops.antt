@@ -1,7 +1,7 @@
 -- No loop in the sweeps of a unit may write its variable: not in its body.
 use Rattle.std.proofs.Common.{◌≡◌, ℕ, suc, ◌<◌, Bool, true, false, List, [], ◌∷◌, refl, sym, ◌∙◌, arith, if◌then◌else◌}
 use Rattle.std.specs.Prelude.{◌&&◌, ◌||◌, ◌==◌, not, Option, Some, None}
-use Rattle.adj_tree.specs.Code.{Var, var_eq, plain, shadow, helper, turn, Role, entry, kind, lower, is_same, compare, Term, var, none, Test, Mark, push_array, pop_array, push_word, pop_word, push_control, zero_array, Act, assign, choose, loop, during, call, runtime, Code, stop, step}
+use Rattle.adj_tree.specs.Code.{Var, var_eq, plain, shadow, helper, turn, Role, entry, kind, lower, is_same, compare, Term, var, none, Test, Mark, unmarked, with_count, count_from, push_array, pop_array, push_word, pop_word, push_control, zero_array, Act, assign, choose, loop, during, call, runtime, Code, stop, step}
 use Rattle.adj_tree.proofs.Names.{nat_same}
 use Rattle.adj_meaning.specs.Append.{◌+++◌, one}
 use Rattle.adj_meaning.specs.LeastSet.{Dummies}
@@ -14,7 +14,7 @@ use Rattle.adj_transpose.specs.Marked.{code_if}
 use Rattle.adj_transpose.proofs.Variables.{not_true}
 use Rattle.adj_reverse.specs.AdjointOf.{adjoint_where}
 use Rattle.adj_reverse.specs.Plan.{Callee, Plan, is_emitted, names_of, actuals_named, save_group, snapshot_group, step_snapshot, Schedules, Step, reversed_by, ByStep}
-use Rattle.adj_reverse.specs.ReversalCode.{at_turn, arm, advance, arms, one_action, reversal, reversed_forward, reversed_backward, row_forward, row_backward}
+use Rattle.adj_reverse.specs.ReversalCode.{at_turn, arm, advance, arms, one_action, reversal, slots_of, set_slots, push_slots, pop_slots, reversed_forward, reversed_backward, row_forward, row_backward}
 use Rattle.adj_reverse.specs.Emission.{is_empty, push, pop, pushes, pops, literal, with_shadows, adjoint_call, told_forward, told_backward, loop_forward, loop_backward, while_forward, while_backward, resets, reset, forward_act_with, forward_with, backward_act_with, backward_with, cleared, adjoint_body_with}
 use Rattle.adj_emitted.proofs.StepCalls.{from_keep, from_turn, from_advance}
 use Rattle.adj_emitted.proofs.Assigned.{AreMaking, making_adjoint}
@@ -99,7 +99,7 @@ module _ (f g : Dummies) (sc : Schedules) (p : Plan) where
   -- ---- loops that are reversed by schedules
 
   -- a helper that isn't popped, assigned or given stays
-  module _ (line k : ℕ) (x : List ℕ) (j : ℕ) (keep back plain_call adjoint : Code) (no_keep : writes f (helper entry k) keep ≡ false) (no_back : writes f (helper entry k) back ≡ false) (no_call : writes f (helper entry k) plain_call ≡ false) (no_adjoint : writes f (helper entry k) adjoint ≡ false) where
+  module _ (line k : ℕ) (x : List ℕ) (j : Term) (keep back plain_call adjoint : Code) (no_keep : writes f (helper entry k) keep ≡ false) (no_back : writes f (helper entry k) back ≡ false) (no_call : writes f (helper entry k) plain_call ≡ false) (no_adjoint : writes f (helper entry k) adjoint ≡ false) where
     still_append : (c d : Code) → writes f (helper entry k) c ≡ false → writes f (helper entry k) d ≡ false → writes f (helper entry k) (c +++ d) ≡ false
     still_append c d h e = writes_append f (helper entry k) c d ∙ neither f g sc p (writes f (helper entry k) c) (writes f (helper entry k) d) h e
 
@@ -144,6 +144,21 @@ module _ (f g : Dummies) (sc : Schedules) (p : Plan) where
   no_adjoint : (r : Role) (k : ℕ) (line : ℕ) (callee : Callee) (given : List (List ℕ)) → writes f (helper r k) (one line (adjoint_call callee given)) ≡ false
   no_adjoint r k line callee given = neither f g sc p (is_handed_back (helper r k) (f callee.adjoint) (with_shadows callee.shadowed callee.dummies given)) false (no_shadows_given r k (f callee.adjoint) callee.shadowed callee.dummies given) refl
 
+  set_slots_spared : (line k : ℕ) (m : Mark) (rest : Code) → AreSpared f rest → AreSpared f (set_slots line k m rest)
+  set_slots_spared line k unmarked rest h = h
+  set_slots_spared line k (with_count j) rest h = h
+  set_slots_spared line k (count_from y) rest h = (tt, (tt, h))
+
+  push_slots_spared : (line k : ℕ) (m : Mark) (rest : Code) → AreSpared f rest → AreSpared f (push_slots line k m rest)
+  push_slots_spared line k unmarked rest h = h
+  push_slots_spared line k (with_count j) rest h = h
+  push_slots_spared line k (count_from y) rest h = (tt, (tt, h))
+
+  pop_slots_spared : (line k : ℕ) (m : Mark) (rest : Code) → AreSpared f rest → AreSpared f (pop_slots line k m rest)
+  pop_slots_spared line k unmarked rest h = h
+  pop_slots_spared line k (with_count j) rest h = h
+  pop_slots_spared line k (count_from y) rest h = (tt, (tt, h))
+
   -- the rows of such a loop
   reversed_spared : (i k line : ℕ) (x : List ℕ) (a b c : Term) (body : Code) (s : Step) → Turned f g sc p body s → writes g (plain x) body ≡ false → AreSpared f (row_forward p i k line x a b c s) × AreSpared f (row_backward p i k line x s)
   reversed_spared i k line x a b c body s turned own = (
@@ -155,12 +170,12 @@ module _ (f g : Dummies) (sc : Schedules) (p : Plan) where
           tt,
           (
             tt,
-            (
+            set_slots_spared line k s.mark _ (
               tt,
               (
                 tt,
                 join (pushes p line saves) _ (spared_pushes line saves)
-                    (join (pushes p line shot) _ (spared_pushes line shot) (unwritten _ ahead, (counted k line (code_if (p.marks.kept (suc i)) plain_call) (spared_if (p.marks.kept (suc i)) plain_call (tt, (tt, tt))), (tt, (tt, (tt, (tt, (tt, (tt, tt))))))))),
+                    (join (pushes p line shot) _ (spared_pushes line shot) (unwritten _ ahead, (counted k line (code_if (p.marks.kept (suc i)) plain_call) (spared_if (p.marks.kept (suc i)) plain_call (tt, (tt, tt))), (tt, (tt, (tt, (tt, push_slots_spared line k s.mark _ (tt, (tt, tt))))))))),
               ),
             ),
           ),
@@ -171,7 +186,7 @@ module _ (f g : Dummies) (sc : Schedules) (p : Plan) where
       tt,
       (
         tt,
-        (
+        pop_slots_spared line k s.mark _ (
           tt,
           (
             tt,
@@ -180,7 +195,7 @@ module _ (f g : Dummies) (sc : Schedules) (p : Plan) where
               (
                 tt,
                 join (pops p line shot) _ (spared_pops line shot)
-                    (join (reversal line k (plain x) s.snapshots (pushes p line shot) (pops p line shot) plain_call turned_back) (pops p line saves)
+                    (join (reversal line k (plain x) (slots_of k s.mark) (pushes p line shot) (pops p line shot) plain_call turned_back) (pops p line saves)
                     (tt, (tt, (tt, (tt, (still, ((tt, (tt, arms_spared)), (tt, (tt, tt))))))))
                     (spared_pops line saves)),
               ),
@@ -215,8 +230,8 @@ module _ (f g : Dummies) (sc : Schedules) (p : Plan) where
       ahead : Only f g sc p (plain x) (plain_apart x) false (code_if (p.marks.kept (suc i)) (one line (call s.name (actuals_named s.given))) +++ raised k line)
       ahead = only_raised f g sc p (plain x) (plain_apart x) false k line (code_if (p.marks.kept (suc i)) (one line (call s.name (actuals_named s.given)))) (kept_call (p.marks.kept (suc i)))
 
-      still : writes f (helper entry k) (one_action line k (plain x) s.snapshots (pushes p line shot) (pops p line shot) plain_call turned_back) ≡ false
-      still = still_action line k x s.snapshots (pushes p line shot) (pops p line shot) plain_call turned_back (still_pushes (helper entry k) line shot) (still_pops entry k line shot) (no_call entry k line s.name s.given) (no_adjoint entry k line (p.callees s.name) s.given)
+      still : writes f (helper entry k) (one_action line k (plain x) (slots_of k s.mark) (pushes p line shot) (pops p line shot) plain_call turned_back) ≡ false
+      still = still_action line k x (slots_of k s.mark) (pushes p line shot) (pops p line shot) plain_call turned_back (still_pushes (helper entry k) line shot) (still_pops entry k line shot) (no_call entry k line s.name s.given) (no_adjoint entry k line (p.callees s.name) s.given)
 
       turns_still : writes f (helper turn k) (at_turn line k (plain x) turn plain_call) ≡ false
       turns_still = no_call turn k line s.name s.given

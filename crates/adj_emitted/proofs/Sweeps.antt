@@ -1,7 +1,7 @@
 -- Both sweeps of statements are formed as written code is, where what they use stands: shadows, helpers, and arrays in calls of the runtime.
 use Rattle.std.proofs.Common.{◌≡◌, ℕ, suc, ◌<◌, ◌≤◌, ◌^◌, Bool, true, false, List, [], ◌∷◌, refl, sym, ap, ◌∙◌, subst, arith, if◌then◌else◌}
 use Rattle.std.specs.Prelude.{◌&&◌, ◌||◌, not, Option, Some, None}
-use Rattle.adj_tree.specs.Code.{Var, plain, shadow, helper, work, temp, control, Role, first, stride, count, turn, entry, entries, kind, lower, upper, plus, minus, times, Term, lit, var, elem, neg, bin, pow, power_of, abs, Terms, none, more, Test, compare, is_same, Mark, with_count, push_word, pop_word, push_array, pop_array, push_control, zero_array, Act, assign, choose, loop, during, call, runtime, Code, stop, step}
+use Rattle.adj_tree.specs.Code.{Var, plain, shadow, helper, work, temp, control, Role, first, stride, count, turn, entry, entries, kind, lower, upper, slots, plus, minus, times, Term, lit, var, elem, neg, bin, pow, power_of, abs, Terms, none, more, Test, compare, is_same, Mark, unmarked, with_count, count_from, push_word, pop_word, push_array, pop_array, push_control, zero_array, Act, assign, choose, loop, during, call, runtime, Code, stop, step}
 use Rattle.adj_text.specs.Written.{IsName}
 use Rattle.adj_meaning.specs.Append.{◌+++◌, one}
 use Rattle.adj_names.specs.Standing as standing
@@ -10,8 +10,8 @@ use Rattle.adj_transpose.specs.Marks.{Vars, everything, next, behind, point_befo
 use Rattle.adj_transpose.specs.Marked.{code_if}
 use Rattle.adj_transpose.proofs.Variables.{and_true}
 use Rattle.adj_reverse.specs.AdjointOf.{works_in_where, temps_in_where, adjoint_where}
-use Rattle.adj_reverse.specs.Plan.{Callee, Plan, is_emitted, names_of, actuals_named, group, save_group, snapshot_group, step_snapshot, found_or, Schedules, Step, reversed_by, ByStep}
-use Rattle.adj_reverse.specs.ReversalCode.{at_turn, arm, advance, arms, one_action, reversal, reversed_forward, reversed_backward, row_forward, row_backward}
+use Rattle.adj_reverse.specs.Plan.{Callee, Plan, is_emitted, names_of, actuals_named, group, save_group, snapshot_group, step_snapshot, found_or, Schedules, Step, is_from_variable, reversed_by, ByStep}
+use Rattle.adj_reverse.specs.ReversalCode.{at_turn, arm, advance, arms, one_action, reversal, slots_of, set_slots, push_slots, pop_slots, reversed_forward, reversed_backward, row_forward, row_backward}
 use Rattle.adj_reverse.specs.Emission.{is_empty, push, pop, pushes, pops, literal, told_forward, told_backward, loop_forward, loop_backward, while_forward, while_backward, resets, reset, with_shadows, adjoint_call, forward_act_with, forward_with, backward_act_with, backward_with, cleared, adjoint_body_with}
 use Rattle.adj_reverse.specs.Program.{works_act, works_used, temps_act, temps_used}
 use Rattle.adj_checked.proofs.Lists.{Each}
@@ -20,7 +20,7 @@ use Rattle.adj_emitted.proofs.Follows.{FollowsActBy, FollowsBy}
 use Rattle.adj_emitted.proofs.Over.{OverTerm, OverPlace, OverTest, OverActuals, OverMark, OverAct, OverCode, Any, over_append, over_if, place_other}
 use Rattle.adj_emitted.proofs.Terms.{adjoint_over}
 use Rattle.adj_emitted.proofs.StepCalls.{step_body, step_mark, from_keep, from_turn, from_advance}
-use Rattle.adj_emitted.proofs.Helpers.{HelpedAct, Helped, helped_front, helped_rest, idle_parts, tells_here, helped_first, helped_other, idle_body, helped_body, loop_counts, loop_bounds, helped_turns, while_counts, reversed_counts, reversed_bounds, reversed_actions, Acting}
+use Rattle.adj_emitted.proofs.Helpers.{HelpedAct, Helped, helped_front, helped_rest, idle_parts, tells_here, helped_first, helped_other, idle_body, helped_body, loop_counts, loop_bounds, helped_turns, while_counts, reversed_counts, reversed_bounds, reversed_actions, reversed_numbers, Acting}
 
 -- ---- what is empty
 
@@ -250,10 +250,39 @@ module _ (Q : Var → Option ℕ → Type 0) (A : Var → Type 0) (C : List ℕ 
   arm_over : (line k n : ℕ) (c : Code) → n < 2 ^ 63 → Q (helper kind k) (Some 0) → OverCode Q A C c → OverCode Q A C (arm line k n c)
   arm_over line k n c w q h = guard (not (is_empty c)) (one line (choose (compare is_same (var (helper kind k)) (literal n)) c stop)) (λ t. (((q, w), (h, tt)), tt))
 
-  module _ (line k : ℕ) (x : Var) (n : ℕ) (few : n ≤ 64) (keep back plain_call adjoint : Code) (q : Q x (Some 0)) (counts : Counts k) (bounds : Bounds k) (acting : Acting Q sc p k) (over_keep : OverCode Q A C keep) (over_back : OverCode Q A C back) (over_call : OverCode Q A C plain_call) (over_adjoint : OverCode Q A C adjoint) where
-    few_word : n < 2 ^ 63
-    few_word = omega arith
+  -- the number of snapshots of a loop of depth k, by its directive
+  abbrev Slots : ℕ → Mark → Type 0
+  Slots k unmarked = Unit {0}
+  Slots k (with_count n) = n ≤ 64
+  Slots k (count_from x) = Q x (Some 0) × Q (helper slots k) (Some 0)
 
+  slots_over : (k : ℕ) (m : Mark) → Slots k m → OverTerm Q A (slots_of k m)
+  slots_over k unmarked h = zero_word
+  slots_over k (with_count n) h = few_word n h
+    where
+      few_word : (n : ℕ) → n ≤ 64 → n < 2 ^ 63
+      few_word n le = omega arith
+  slots_over k (count_from x) h = h.1
+
+  set_slots_over : (line k : ℕ) (m : Mark) (rest : Code) → Slots k m → OverCode Q A C rest → OverCode Q A C (set_slots line k m rest)
+  set_slots_over line k unmarked rest h o = o
+  set_slots_over line k (with_count n) rest h o = o
+  set_slots_over line k (count_from x) rest h o = ((h.1, ((h.0, one_word), sixty_four)), o)
+    where
+      sixty_four : 64 < 2 ^ 63
+      sixty_four = omega arith
+
+  push_slots_over : (line k : ℕ) (m : Mark) (rest : Code) → Slots k m → OverCode Q A C rest → OverCode Q A C (push_slots line k m rest)
+  push_slots_over line k unmarked rest h o = o
+  push_slots_over line k (with_count n) rest h o = o
+  push_slots_over line k (count_from x) rest h o = (h.1, o)
+
+  pop_slots_over : (line k : ℕ) (m : Mark) (rest : Code) → Slots k m → OverCode Q A C rest → OverCode Q A C (pop_slots line k m rest)
+  pop_slots_over line k unmarked rest h o = o
+  pop_slots_over line k (with_count n) rest h o = o
+  pop_slots_over line k (count_from x) rest h o = (h.1, o)
+
+  module _ (line k : ℕ) (x : Var) (m : Mark) (few : Slots k m) (keep back plain_call adjoint : Code) (q : Q x (Some 0)) (counts : Counts k) (bounds : Bounds k) (acting : Acting Q sc p k) (over_keep : OverCode Q A C keep) (over_back : OverCode Q A C back) (over_call : OverCode Q A C plain_call) (over_adjoint : OverCode Q A C adjoint) where
     advance_over : OverCode Q A C (advance line k x plain_call)
     advance_over = ((counts.1, (acting.1.1.0, ((acting.1.1.1, one_word), (one_word, (at_turn_over line k x turn plain_call q bounds counts.1 over_call, tt))))), tt)
 
@@ -264,29 +293,33 @@ module _ (Q : Var → Option ℕ → Type 0) (A : Var → Type 0) (C : List ℕ 
         (join (arm line k 3 (at_turn line k x lower adjoint)) (from_keep line k keep back) (arm_over line k 3 (at_turn line k x lower adjoint) (omega arith) acting.1.0 (at_turn_over line k x lower adjoint q bounds acting.1.1.0 over_adjoint))
         (join (arm line k 4 (back +++ keep)) (arm line k 5 back) (arm_over line k 4 (back +++ keep) (omega arith) acting.1.0 (join back keep over_back over_keep)) (arm_over line k 5 back (omega arith) acting.1.0 over_back))))
 
-    reversal_over : OverCode Q A C (reversal line k x n keep back plain_call adjoint)
-    reversal_over = (
-      (counts.0, few_word),
-      (
-        (counts.0, (few_word, acting.0.1)),
-        (
-          (acting.0.0, (one_word, (acting.0.1, (one_word, (((counts.0, (few_word, (acting.0.0, (acting.1.0, (acting.1.1.0, acting.1.1.1))))), arms_over), tt))))),
-          (tt, tt),
-        ),
-      ),
+    reversal_over : OverCode Q A C (reversal line k x (slots_of k m) keep back plain_call adjoint)
+    reversal_over =
+        let number = slots_over k m few in (
+          (counts.0, number),
+          (
+            (counts.0, (number, acting.0.1)),
+            (
+              (acting.0.0, (one_word, (acting.0.1, (one_word, (((counts.0, (number, (acting.0.0, (acting.1.0, (acting.1.1.0, acting.1.1.1))))), arms_over), tt))))),
+              (tt, tt),
+            ),
+          ),
+        )
+
+    reversed_backward_over : (unsave : Code) → OverCode Q A C unsave → OverCode Q A C (reversed_backward k line x m keep back unsave plain_call adjoint)
+    reversed_backward_over unsave h = (
+      counts.0,
+      pop_slots_over line k m _ few (bounds.1, (bounds.0, join back _ over_back (join (reversal line k x (slots_of k m) keep back plain_call adjoint) unsave reversal_over h))),
     )
 
-    reversed_backward_over : (unsave : Code) → OverCode Q A C unsave → OverCode Q A C (reversed_backward k line x n keep back unsave plain_call adjoint)
-    reversed_backward_over unsave h = (counts.0, (bounds.1, (bounds.0, join back _ over_back (join (reversal line k x n keep back plain_call adjoint) unsave reversal_over h))))
-
-  reversed_forward_over : (k line : ℕ) (x : Var) (a b c : Term) (save keep plain_call : Code) → Q x (Some 0) → Counts k → Bounds k → OverTerm Q A a → OverTerm Q A b → OverTerm Q A c → OverCode Q A C save → OverCode Q A C keep → OverCode Q A C plain_call → OverCode Q A C (reversed_forward k line x a b c save keep plain_call)
-  reversed_forward_over k line x a b c save keep plain_call q counts bounds ha hb hc over_save over_keep over_call = (
+  reversed_forward_over : (k line : ℕ) (x : Var) (a b c : Term) (m : Mark) (save keep plain_call : Code) → Q x (Some 0) → Counts k → Bounds k → Slots k m → OverTerm Q A a → OverTerm Q A b → OverTerm Q A c → OverCode Q A C save → OverCode Q A C keep → OverCode Q A C plain_call → OverCode Q A C (reversed_forward k line x a b c m save keep plain_call)
+  reversed_forward_over k line x a b c m save keep plain_call q counts bounds few ha hb hc over_save over_keep over_call = (
     (bounds.0, ha),
     (
       (bounds.1, hc),
-      (
+      set_slots_over line k m _ few (
         (counts.0, zero_word),
-        join save _ over_save (join keep _ over_keep ((q, (bounds.0, (hb, (bounds.1, (join plain_call _ over_call (count_over k line counts.0), tt))))), (bounds.0, (bounds.1, (counts.0, tt))))),
+        join save _ over_save (join keep _ over_keep ((q, (bounds.0, (hb, (bounds.1, (join plain_call _ over_call (count_over k line counts.0), tt))))), (bounds.0, (bounds.1, push_slots_over line k m _ few (counts.0, tt))))),
       ),
     ),
   )
@@ -304,7 +337,7 @@ module _ (Q : Var → Option ℕ → Type 0) (A : Var → Type 0) (C : List ℕ 
   step_over : (i : ℕ) (body : Code) (m : Mark) (s : Step) → reversed_by sc p.marks.adjointed i body m ≡ Some s → OverCode Q A Any body → FollowsBy sc C p (suc i) body → StepOver s
   step_over i body m s e = step_body (λ c s. OverCode Q A Any c → FollowsBy sc C p (suc i) c → StepOver s) there sc p.marks.adjointed i body m s e
     where
-      there : (l : ℕ) (name : List ℕ) (args : Terms) (read : Vars) (n : ℕ) → OverCode Q A Any (step l (call name args) stop) → FollowsBy sc C p (suc i) (step l (call name args) stop) → StepOver (record { name = name; given = names_of args; read = read; snapshots = n })
+      there : (l : ℕ) (name : List ℕ) (args : Terms) (read : Vars) (n : Mark) → OverCode Q A Any (step l (call name args) stop) → FollowsBy sc C p (suc i) (step l (call name args) stop) → StepOver (record { name = name; given = names_of args; read = read; mark = n })
       there l name args read n o f =
           let called = f.0.1 (step_mark sc p.marks.adjointed i body m s e).1 in record {
             name = o.0.0;
@@ -316,18 +349,27 @@ module _ (Q : Var → Option ℕ → Type 0) (A : Var → Type 0) (C : List ℕ 
             adjoint = called.1.1.1;
           }
 
-  few_snapshots : (i : ℕ) (body : Code) (m : Mark) (s : Step) → reversed_by sc p.marks.adjointed i body m ≡ Some s → OverMark Q A m → s.snapshots ≤ 64
-  few_snapshots i body m s e om = (subst (OverMark Q A) (step_mark sc p.marks.adjointed i body m s e).0 om).1
+  -- its number of snapshots stands, where the helper for it does
+  few_snapshots : (i k : ℕ) (body : Code) (m : Mark) (s : Step) → reversed_by sc p.marks.adjointed i body m ≡ Some s → OverMark Q A m → (is_from_variable s.mark ≡ true → Q (helper slots k) (Some 0)) → Slots k s.mark
+  few_snapshots i k body m s e om number = go s.mark (subst (OverMark Q A) (step_mark sc p.marks.adjointed i body m s e).0 om) number
+    where
+      go : (m : Mark) → OverMark Q A m → (is_from_variable m ≡ true → Q (helper slots k) (Some 0)) → Slots k m
+      go unmarked o h = tt
+      go (with_count n) o h = o.1
+      go (count_from y) o h = (o, h refl)
 
-  row_over : (i k line : ℕ) (x : List ℕ) (a b c : Term) (body : Code) (m : Mark) (s : Step) → reversed_by sc p.marks.adjointed i body m ≡ Some s → Q (plain x) (Some 0) → OverTerm Q A a → OverTerm Q A b → OverTerm Q A c → OverMark Q A m → OverCode Q A Any body → C s.name (actuals_named s.given) × FollowsBy sc C p (suc i) body → Counts k → Bounds k → Acting Q sc p k →
+  row_over : (i k line : ℕ) (x : List ℕ) (a b c : Term) (body : Code) (m : Mark) (s : Step) → reversed_by sc p.marks.adjointed i body m ≡ Some s → Q (plain x) (Some 0) → OverTerm Q A a → OverTerm Q A b → OverTerm Q A c → OverMark Q A m → OverCode Q A Any body → C s.name (actuals_named s.given) × FollowsBy sc C p (suc i) body → Counts k → Bounds k → Acting Q sc p k → (is_from_variable s.mark ≡ true → Q (helper slots k) (Some 0)) →
       OverCode Q A C (row_forward p i k line x a b c s) × OverCode Q A C (row_backward p i k line x s)
-  row_over i k line x a b c body m s e q oa ob oc om inner f counts bounds acting = (
-    reversed_forward_over k line (plain x) a b c (pushes p line saves) (pushes p line shot) (code_if (p.marks.kept (suc i)) plain_call) q counts bounds oa ob oc (pushes_over line saves stand_saves) (pushes_over line shot stand_shot) (guard (p.marks.kept (suc i)) plain_call (λ t. called)),
-    reversed_backward_over line k (plain x) s.snapshots (few_snapshots i body m s e om) (pushes p line shot) (pops p line shot) plain_call turned q counts bounds acting (pushes_over line shot stand_shot) (pops_over line shot stand_shot) called adjointed (pops p line saves) (pops_over line saves stand_saves),
+  row_over i k line x a b c body m s e q oa ob oc om inner f counts bounds acting number = (
+    reversed_forward_over k line (plain x) a b c s.mark (pushes p line saves) (pushes p line shot) (code_if (p.marks.kept (suc i)) plain_call) q counts bounds few oa ob oc (pushes_over line saves stand_saves) (pushes_over line shot stand_shot) (guard (p.marks.kept (suc i)) plain_call (λ t. called)),
+    reversed_backward_over line k (plain x) s.mark few (pushes p line shot) (pops p line shot) plain_call turned q counts bounds acting (pushes_over line shot stand_shot) (pops_over line shot stand_shot) called adjointed (pops p line saves) (pops_over line saves stand_saves),
   )
     where
       known : StepOver s
       known = step_over i body m s e inner f.1
+
+      few : Slots k s.mark
+      few = few_snapshots i k body m s e om number
 
       saves : List (List ℕ)
       saves = save_group p.marks i (p.callees s.name) s.given
@@ -442,7 +484,7 @@ module _ (Q : Var → Option ℕ → Type 0) (A : Var → Type 0) (C : List ℕ 
 
           inside : is_emitted p.marks i ≡ true → Both (suc i) (suc d) body
           inside t = whole g (λ n. helped_body Q sc p i d (plain x) a b c body m e n (told t n))
-      go (Some s) e g = around (Some s) (λ t. row_over i (suc d) line x a b c body m s e q oa ob oc om inner g (reversed_counts Q sc p i d (plain x) a b c body m s e (told t)) (reversed_bounds Q sc p i d (plain x) a b c body m s e (told t)) (reversed_actions Q sc p i d (plain x) a b c body m s e (told t)))
+      go (Some s) e g = around (Some s) (λ t. row_over i (suc d) line x a b c body m s e q oa ob oc om inner g (reversed_counts Q sc p i d (plain x) a b c body m s e (told t)) (reversed_bounds Q sc p i d (plain x) a b c body m s e (told t)) (reversed_actions Q sc p i d (plain x) a b c body m s e (told t)) (reversed_numbers Q sc p i d (plain x) a b c body m s e (told t)))
         where
           told : is_emitted p.marks i ≡ true → HelpedAct Q sc p i d (loop (plain x) a b c body m)
           told t = h (subst (λ o. is_empty (code_if (is_emitted p.marks i) (rows_back i d line x body o +++ after i line x)) ≡ false) (sym e) (subst (λ k. is_empty (code_if k (row_backward p i (suc d) line x s +++ after i line x)) ≡ false) (sym t) refl))

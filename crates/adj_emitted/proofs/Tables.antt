@@ -2,7 +2,7 @@
 use Rattle.std.proofs.Common.{◌≡◌, ℕ, zero, suc, ◌+◌, ◌<◌, ◌≤◌, Bool, true, false, List, [], ◌∷◌, ◌++◌, map, refl, sym, ap, ◌∙◌, arith, codes, if◌then◌else◌}
 use Rattle.std.specs.Prelude.{◌||◌, ◌==◌}
 use Rattle.std.proofs.lemmas.Bool.Decides.{nat_tests}
-use Rattle.adj_tree.specs.Code.{Var, plain, shadow, helper, Role, role_code, work, temp, control, first, stride, count, turn, entry, entries, kind, lower, upper, name_eq, var_eq}
+use Rattle.adj_tree.specs.Code.{Var, plain, shadow, helper, Role, role_code, work, temp, control, first, stride, count, turn, entry, entries, kind, lower, upper, slots, name_eq, var_eq}
 use Rattle.adj_tree.proofs.Names.{nat_refl, nat_same, name_same}
 use Rattle.adj_text.specs.Written.{IsName, IsIndexed}
 use Rattle.adj_transpose.specs.Fresh.{has_name, digits, fresh, reserved}
@@ -177,6 +177,7 @@ wanted_helper entries k = name-append (codes "ADN") (digits k) (refl, refl) (dig
 wanted_helper kind k = name-append (codes "ADA") (digits k) (refl, refl) (digits_chars (suc k) k [] refl)
 wanted_helper lower k = name-append (codes "ADF") (digits k) (refl, refl) (digits_chars (suc k) k [] refl)
 wanted_helper upper k = name-append (codes "ADT") (digits k) (refl, refl) (digits_chars (suc k) k [] refl)
+wanted_helper slots k = name-append (codes "ADS") (digits k) (refl, refl) (digits_chars (suc k) k [] refl)
 
 wanted_helpers : (vs : List Var) → AreHelpers vs → Each (λ v. IsName (wanted v)) vs
 wanted_helpers [] h = tt

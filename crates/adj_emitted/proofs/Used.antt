@@ -1,14 +1,14 @@
 -- The helpers that a unit's adjoint declares are those that its sweeps use.
 use Rattle.std.proofs.Common.{◌≡◌, ℕ, suc, ◌<◌, ◌≤◌, Bool, true, false, List, [], ◌∷◌, ◌++◌, refl, sym, ◌∙◌, arith, if◌then◌else◌}
 use Rattle.std.specs.Prelude.{◌&&◌, ◌||◌, ◌==◌, not, Option, Some, None}
-use Rattle.adj_tree.specs.Code.{Var, helper, work, temp, control, first, stride, count, turn, entry, entries, kind, lower, upper, Role, Mark, Act, assign, choose, loop, during, call, runtime, Code, stop, step}
+use Rattle.adj_tree.specs.Code.{Var, helper, work, temp, control, first, stride, count, turn, entry, entries, kind, lower, upper, slots, Role, Mark, Act, assign, choose, loop, during, call, runtime, Code, stop, step}
 use Rattle.adj_tree.proofs.Names.{nat_same}
 use Rattle.adj_transpose.specs.Marks.{next, behind}
 use Rattle.adj_transpose.specs.Program.{helpers_from}
 use Rattle.adj_transpose.proofs.Variables.{and_true, or_left, or_right, var_refl}
 use Rattle.adj_reverse.specs.Plan.{Plan, Schedules, Step, found_or, reversed_by}
 use Rattle.adj_reverse.specs.Emission.{is_empty, backward_with}
-use Rattle.adj_reverse.specs.Program.{works_used, temps_used, depth_used_with, tells_some_with, goes_back_act_with, goes_back_with, reverses_act, reverses, is_do, is_loop, loop_helpers_with, reversal_helpers, all_reversal_helpers, helpers_used_with, helpers_used}
+use Rattle.adj_reverse.specs.Program.{works_used, temps_used, depth_used_with, tells_some_with, goes_back_act_with, goes_back_with, reverses_act_by, reverses_by, any_step, has_slots, is_do, is_loop, loop_helpers_with, reversal_helpers, all_reversal_helpers, helpers_used_with, helpers_used}
 use Rattle.adj_emitted.proofs.Tables.{among, among-append, AreHelpers, helpers_append, from_helpers, among_helpers, has_from, has_among}
 use Rattle.adj_emitted.proofs.Helpers.{Helped}
 
@@ -44,27 +44,27 @@ module _ (sort : Act → Bool) (k : ℕ) (sc : Schedules) (p : Plan) where
     list_deep i d (step line a rest) h = pick (goes_back_act_with sc sort k p i d a) (goes_back_with sc sort k p (next i a) d rest) h (act_deep i d a) (list_deep (next i a) d rest)
 
 -- and so are those that are reversed by schedules
-module _ (k : ℕ) (sc : Schedules) (p : Plan) where
-  loop_acts : (d : ℕ) (others : Bool) (o : Option Step) → found_or o others (λ s. k == suc d) ≡ true → (others ≡ true → d < k) → d < k
+module _ (sort : Step → Bool) (k : ℕ) (sc : Schedules) (p : Plan) where
+  loop_acts : (d : ℕ) (others : Bool) (o : Option Step) → found_or o others (λ s. sort s && (k == suc d)) ≡ true → (others ≡ true → d < k) → d < k
   loop_acts d others None h ih = ih h
-  loop_acts d others (Some s) h ih = let same : k ≡ suc d = nat_same k (suc d) h in omega arith
+  loop_acts d others (Some s) h ih = let same : k ≡ suc d = nat_same k (suc d) (and_true (sort s) (k == suc d) h).1 in omega arith
 
   mutual
-    act_acts : (i d : ℕ) (a : Act) → reverses_act sc k p i d a ≡ true → d < k
+    act_acts : (i d : ℕ) (a : Act) → reverses_act_by sc sort k p i d a ≡ true → d < k
     act_acts i d (assign x subs e) h = absurd cc
-    act_acts i d (choose c a b) h = pick (reverses sc k p (suc i) d a) (reverses sc k p (behind (suc i) a) d b) h (list_acts (suc i) d a) (list_acts (behind (suc i) a) d b)
-    act_acts i d (loop x a b c body m) h = loop_acts d (reverses sc k p (suc i) (suc d) body) (reversed_by sc p.marks.adjointed i body m) h (λ e. let deep = list_acts (suc i) (suc d) body e in omega arith)
+    act_acts i d (choose c a b) h = pick (reverses_by sc sort k p (suc i) d a) (reverses_by sc sort k p (behind (suc i) a) d b) h (list_acts (suc i) d a) (list_acts (behind (suc i) a) d b)
+    act_acts i d (loop x a b c body m) h = loop_acts d (reverses_by sc sort k p (suc i) (suc d) body) (reversed_by sc p.marks.adjointed i body m) h (λ e. let deep = list_acts (suc i) (suc d) body e in omega arith)
     act_acts i d (during c body) h = let deep = list_acts (suc i) (suc d) body h in omega arith
     act_acts i d (call name args) h = absurd cc
     act_acts i d (runtime o) h = absurd cc
 
-    list_acts : (i d : ℕ) (c : Code) → reverses sc k p i d c ≡ true → d < k
+    list_acts : (i d : ℕ) (c : Code) → reverses_by sc sort k p i d c ≡ true → d < k
     list_acts i d stop h = absurd cc
-    list_acts i d (step line a rest) h = pick (reverses_act sc k p i d a) (reverses sc k p (next i a) d rest) h (act_acts i d a) (list_acts (next i a) d rest)
+    list_acts i d (step line a rest) h = pick (reverses_act_by sc sort k p i d a) (reverses_by sc sort k p (next i a) d rest) h (act_acts i d a) (list_acts (next i a) d rest)
 
   -- where none is, none is
   mutual
-    none_act : (i d : ℕ) (a : Act) → reverses_act None k p i d a ≡ false
+    none_act : (i d : ℕ) (a : Act) → reverses_act_by None sort k p i d a ≡ false
     none_act i d (assign x subs e) = refl
     none_act i d (choose c a b) = rw (none_list (suc i) d a) (none_list (behind (suc i) a) d b)
     none_act i d (loop x a b c body m) = none_list (suc i) (suc d) body
@@ -72,7 +72,7 @@ module _ (k : ℕ) (sc : Schedules) (p : Plan) where
     none_act i d (call name args) = refl
     none_act i d (runtime o) = refl
 
-    none_list : (i d : ℕ) (c : Code) → reverses None k p i d c ≡ false
+    none_list : (i d : ℕ) (c : Code) → reverses_by None sort k p i d c ≡ false
     none_list i d stop = refl
     none_list i d (step line a rest) = rw (none_act i d a) (none_list (next i a) d rest)
 
@@ -106,17 +106,18 @@ module _ (sc : Schedules) (p : Plan) (i : ℕ) (c : Code) where
   loops_helpers : (sort : Act → Bool) (r : Role) → AreHelpers (loop_helpers_with sc sort r p i c)
   loops_helpers sort r = among_helpers (λ k. goes_back_with sc sort k p i 0 c) r 1 (depth_used_with sc p i 0 c)
 
-  acting_helpers : (z : Schedules) (r : Role) → AreHelpers (reversal_helpers z r p i c)
-  acting_helpers z r = among_helpers (λ k. reverses z k p i 0 c) r 1 (depth_used_with z p i 0 c)
+  acting_helpers : (z : Schedules) (sort : Step → Bool) (r : Role) → AreHelpers (reversal_helpers z sort r p i c)
+  acting_helpers z sort r = among_helpers (λ k. reverses_by z sort k p i 0 c) r 1 (depth_used_with z p i 0 c)
 
   actions_helpers : (z : Schedules) → AreHelpers (all_reversal_helpers z p i c)
   actions_helpers None = tt
   actions_helpers (Some reads) =
       let z = Some reads in
-      helpers_append (reversal_helpers z entry p i c) _ (acting_helpers z entry)
-      (helpers_append (reversal_helpers z entries p i c) _ (acting_helpers z entries)
-      (helpers_append (reversal_helpers z kind p i c) _ (acting_helpers z kind)
-      (helpers_append (reversal_helpers z lower p i c) (reversal_helpers z upper p i c) (acting_helpers z lower) (acting_helpers z upper))))
+      helpers_append (reversal_helpers z any_step entry p i c) _ (acting_helpers z any_step entry)
+      (helpers_append (reversal_helpers z any_step entries p i c) _ (acting_helpers z any_step entries)
+      (helpers_append (reversal_helpers z any_step kind p i c) _ (acting_helpers z any_step kind)
+      (helpers_append (reversal_helpers z any_step lower p i c) _ (acting_helpers z any_step lower)
+      (helpers_append (reversal_helpers z any_step upper p i c) (reversal_helpers z has_slots slots p i c) (acting_helpers z any_step upper) (acting_helpers z has_slots slots)))))
 
   control_helper : AreHelpers control_of
   control_helper = go (tells_some_with sc p i 0 c)
@@ -177,10 +178,10 @@ module _ (sc : Schedules) (p : Plan) (i : ℕ) (c : Code) where
   used_control : tells_some_with sc p i 0 c ≡ true → among (helper control 0) (helpers_used_with sc p i c) ≡ true
   used_control h = in_front (helper control 0) control_of _ (rw h (or_left _ false (var_refl (helper control 0))))
 
-  of_reversal : (z : Schedules) (r : Role) (k : ℕ) → reverses z k p i 0 c ≡ true → k ≤ depth_used_with z p i 0 c → among (helper r k) (reversal_helpers z r p i c) ≡ true
-  of_reversal z r k h le = let deep = list_acts k z p i 0 c h in has_among (λ k. reverses z k p i 0 c) r k 1 (depth_used_with z p i 0 c) (omega arith) (omega arith) h
+  of_reversal : (z : Schedules) (sort : Step → Bool) (r : Role) (k : ℕ) → reverses_by z sort k p i 0 c ≡ true → k ≤ depth_used_with z p i 0 c → among (helper r k) (reversal_helpers z sort r p i c) ≡ true
+  of_reversal z sort r k h le = let deep = list_acts sort k z p i 0 c h in has_among (λ k. reverses_by z sort k p i 0 c) r k 1 (depth_used_with z p i 0 c) (omega arith) (omega arith) h
 
-  -- the five of a reversal
+  -- the five of each reversal
   record AllActions (z : Schedules) (k : ℕ) : Type 0 where
     entry_is : among (helper entry k) (all_reversal_helpers z p i c) ≡ true
     entries_is : among (helper entries k) (all_reversal_helpers z p i c) ≡ true
@@ -188,22 +189,34 @@ module _ (sc : Schedules) (p : Plan) (i : ℕ) (c : Code) where
     lower_is : among (helper lower k) (all_reversal_helpers z p i c) ≡ true
     upper_is : among (helper upper k) (all_reversal_helpers z p i c) ≡ true
 
-  used_actions : (z : Schedules) (k : ℕ) → reverses z k p i 0 c ≡ true → k ≤ depth_used_with z p i 0 c → AllActions z k
-  used_actions None k h le = absurd (let e : true ≡ false = sym h ∙ none_list k sc p i 0 c in cc)
+  used_actions : (z : Schedules) (k : ℕ) → reverses_by z any_step k p i 0 c ≡ true → k ≤ depth_used_with z p i 0 c → AllActions z k
+  used_actions None k h le = absurd (let e : true ≡ false = sym h ∙ none_list any_step k sc p i 0 c in cc)
   used_actions (Some reads) k h le =
       let z = Some reads in
-      let one = reversal_helpers z entry p i c in
-      let two = reversal_helpers z entries p i c in
-      let three = reversal_helpers z kind p i c in
-      let four = reversal_helpers z lower p i c in
-      let five = reversal_helpers z upper p i c in
+      let one = reversal_helpers z any_step entry p i c in
+      let two = reversal_helpers z any_step entries p i c in
+      let three = reversal_helpers z any_step kind p i c in
+      let four = reversal_helpers z any_step lower p i c in
+      let five = reversal_helpers z any_step upper p i c in
       record {
-        entry_is = in_front (helper entry k) one _ (of_reversal z entry k h le);
-        entries_is = in_rest (helper entries k) one _ (in_front (helper entries k) two _ (of_reversal z entries k h le));
-        kind_is = in_rest (helper kind k) one _ (in_rest (helper kind k) two _ (in_front (helper kind k) three _ (of_reversal z kind k h le)));
-        lower_is = in_rest (helper lower k) one _ (in_rest (helper lower k) two _ (in_rest (helper lower k) three _ (in_front (helper lower k) four five (of_reversal z lower k h le))));
-        upper_is = in_rest (helper upper k) one _ (in_rest (helper upper k) two _ (in_rest (helper upper k) three _ (in_rest (helper upper k) four five (of_reversal z upper k h le))));
+        entry_is = in_front (helper entry k) one _ (of_reversal z any_step entry k h le);
+        entries_is = in_rest (helper entries k) one _ (in_front (helper entries k) two _ (of_reversal z any_step entries k h le));
+        kind_is = in_rest (helper kind k) one _ (in_rest (helper kind k) two _ (in_front (helper kind k) three _ (of_reversal z any_step kind k h le)));
+        lower_is = in_rest (helper lower k) one _ (in_rest (helper lower k) two _ (in_rest (helper lower k) three _ (in_front (helper lower k) four _ (of_reversal z any_step lower k h le))));
+        upper_is = in_rest (helper upper k) one _ (in_rest (helper upper k) two _ (in_rest (helper upper k) three _ (in_rest (helper upper k) four _ (in_front (helper upper k) five _ (of_reversal z any_step upper k h le)))));
       }
+
+  -- and the number of snapshots, where a variable gives it
+  used_numbers : (z : Schedules) (k : ℕ) → reverses_by z has_slots k p i 0 c ≡ true → k ≤ depth_used_with z p i 0 c → among (helper slots k) (all_reversal_helpers z p i c) ≡ true
+  used_numbers None k h le = absurd (let e : true ≡ false = sym h ∙ none_list has_slots k sc p i 0 c in cc)
+  used_numbers (Some reads) k h le =
+      let z = Some reads in
+      let v = helper slots k in
+      in_rest v (reversal_helpers z any_step entry p i c) _
+      (in_rest v (reversal_helpers z any_step entries p i c) _
+      (in_rest v (reversal_helpers z any_step kind p i c) _
+      (in_rest v (reversal_helpers z any_step lower p i c) _
+      (in_rest v (reversal_helpers z any_step upper p i c) (reversal_helpers z has_slots slots p i c) (of_reversal z has_slots slots k h le)))))
 
   pub all_helped : (Q : Var → Option ℕ → Type 0) → ((v : Var) → among v (helpers_used_with sc p i c) ≡ true → Q v (Some 0)) → Helped Q sc p i 0 c
   all_helped Q f = record {
@@ -217,6 +230,7 @@ module _ (sc : Schedules) (p : Plan) (i : ℕ) (c : Code) where
         (f (helper lower k) (behind_turns (helper lower k) (in_front (helper lower k) actions_of own_of all.lower_is)), f (helper upper k) (behind_turns (helper upper k) (in_front (helper upper k) actions_of own_of all.upper_is))),
       ),
     );
+    numbers = λ k e le. f (helper slots k) (behind_turns (helper slots k) (in_front (helper slots k) actions_of own_of (used_numbers sc k e le)));
   }
 
 -- where no loop is reversed by a schedule

@@ -1,7 +1,7 @@
 -- What the sweeps of a unit may write: of the unit's variables those that the unit may write, and no turn of an outer loop. So no loop writes its variable.
 use Rattle.std.proofs.Common.{◌≡◌, ℕ, suc, ◌<◌, Bool, true, false, List, [], ◌∷◌, refl, sym, ◌∙◌, arith, if◌then◌else◌}
 use Rattle.std.specs.Prelude.{◌&&◌, ◌||◌, not, Option, Some, None}
-use Rattle.adj_tree.specs.Code.{Role, work, temp, control, first, stride, count, turn, entry, entries, kind, lower, upper, Var, var_eq, plain, shadow, helper, plus, Term, var, bin, Terms, none, more, Test, Mark, push_word, pop_word, push_array, pop_array, push_control, zero_array, Act, assign, choose, loop, during, call, runtime, Code, stop, step}
+use Rattle.adj_tree.specs.Code.{Role, work, temp, control, first, stride, count, turn, entry, entries, kind, lower, upper, slots, Var, var_eq, plain, shadow, helper, plus, Term, var, bin, Terms, none, more, Test, Mark, unmarked, with_count, count_from, push_word, pop_word, push_array, pop_array, push_control, zero_array, Act, assign, choose, loop, during, call, runtime, Code, stop, step}
 use Rattle.adj_meaning.specs.Append.{◌+++◌, one}
 use Rattle.adj_meaning.specs.LeastSet.{Dummies}
 use Rattle.adj_meaning.specs.Written.{is_handed_back, act_writes, writes}
@@ -11,7 +11,7 @@ use Rattle.adj_transpose.specs.Marked.{code_if}
 use Rattle.adj_transpose.proofs.Variables.{and_true, or_left, or_right}
 use Rattle.adj_reverse.specs.AdjointOf.{adjoint_where}
 use Rattle.adj_reverse.specs.Plan.{Callee, Plan, is_emitted, names_of, actuals_named, group, save_group, snapshot_group, step_snapshot, found_or, Schedules, Step, reversed_by, ByStep}
-use Rattle.adj_reverse.specs.ReversalCode.{at_turn, arm, advance, arms, one_action, reversal, reversed_forward, reversed_backward, row_forward, row_backward}
+use Rattle.adj_reverse.specs.ReversalCode.{at_turn, arm, advance, arms, one_action, reversal, slots_of, set_slots, push_slots, pop_slots, reversed_forward, reversed_backward, row_forward, row_backward}
 use Rattle.adj_reverse.specs.Emission.{is_empty, push, pop, pushes, pops, literal, adjoint_call, with_shadows, told_forward, told_backward, loop_forward, loop_backward, while_forward, while_backward, reset, push_own, pop_own, forward_act_with, forward_with, backward_act_with, backward_with, cleared, adjoint_body_with}
 use Rattle.adj_checked.proofs.Lists.{Each}
 use Rattle.adj_emitted.proofs.StepCalls.{step_body, step_mark, from_keep, from_turn, from_advance}
@@ -47,6 +47,7 @@ made_beside (helper entries k) h = absurd h
 made_beside (helper kind k) h = absurd h
 made_beside (helper lower k) h = absurd h
 made_beside (helper upper k) h = absurd h
+made_beside (helper slots k) h = absurd h
 
 -- a variable that is none of the shadows and helpers besides turns
 abbrev pub IsApart : Var → Type 0
@@ -72,6 +73,7 @@ turn_apart j (helper entries k) h = refl
 turn_apart j (helper kind k) h = refl
 turn_apart j (helper lower k) h = refl
 turn_apart j (helper upper k) h = refl
+turn_apart j (helper slots k) h = refl
 
 -- no helper is a name that is given, or the shadow of one
 none_of : (w b : Bool) → b ≡ false → ((w && false) || b) ≡ false
@@ -168,7 +170,7 @@ module _ (f g : Dummies) (sc : Schedules) (p : Plan) where
   pub step_writes : (i : ℕ) (body : Code) (m : Mark) (s : Step) → reversed_by sc p.marks.adjointed i body m ≡ Some s → Known (suc i) body → StepWrites body s
   step_writes i body m s e = step_body (λ c s. Known (suc i) c → StepWrites c s) there sc p.marks.adjointed i body m s e
     where
-      there : (l : ℕ) (name : List ℕ) (args : Terms) (read : Vars) (k : ℕ) → Known (suc i) (step l (call name args) stop) → StepWrites (step l (call name args) stop) (record { name = name; given = names_of args; read = read; snapshots = k })
+      there : (l : ℕ) (name : List ℕ) (args : Terms) (read : Vars) (k : Mark) → Known (suc i) (step l (call name args) stop) → StepWrites (step l (call name args) stop) (record { name = name; given = names_of args; read = read; mark = k })
       there l name args read k w = let own = w.0 in record {
         adjointed = λ v apart h. or_left (is_handed_back v (g name) args) false (own.adjointed (step_mark sc p.marks.adjointed i body m s e).1 v apart h);
         groups = λ v dummies actuals h. then_each v (is_handed_back v (g name) args) (is_handed_back v (g name) args || false) (group dummies actuals (p.callees name).dummies (names_of args)) (or_left (is_handed_back v (g name) args) false) (own.groups v dummies actuals h);
@@ -275,7 +277,22 @@ module _ (f g : Dummies) (sc : Schedules) (p : Plan) where
     arm_only : (line k j : ℕ) (c : Code) → Only c → Only (arm line k j c)
     arm_only line k j c h = only_if (not (is_empty c)) _ (λ t. both (both h quiet) quiet)
 
-    module _ (line k : ℕ) (x : Var) (j : ℕ) (keep back plain_call adjoint : Code) (outer : var_eq v (helper turn k) ≡ false) (own : var_eq v x ≡ true → n ≡ true) (only_keep : Only keep) (only_back : Only back) (only_call : Only plain_call) (only_adjoint : Only adjoint) where
+    set_slots_only : (line k : ℕ) (m : Mark) (rest : Code) → Only rest → Only (set_slots line k m rest)
+    set_slots_only line k unmarked rest h = h
+    set_slots_only line k (with_count j) rest h = h
+    set_slots_only line k (count_from y) rest h = both (beside (helper slots k) tt) h
+
+    push_slots_only : (line k : ℕ) (m : Mark) (rest : Code) → Only rest → Only (push_slots line k m rest)
+    push_slots_only line k unmarked rest h = h
+    push_slots_only line k (with_count j) rest h = h
+    push_slots_only line k (count_from y) rest h = h
+
+    pop_slots_only : (line k : ℕ) (m : Mark) (rest : Code) → Only rest → Only (pop_slots line k m rest)
+    pop_slots_only line k unmarked rest h = h
+    pop_slots_only line k (with_count j) rest h = h
+    pop_slots_only line k (count_from y) rest h = both (beside (helper slots k) tt) h
+
+    module _ (line k : ℕ) (x : Var) (m : Mark) (keep back plain_call adjoint : Code) (outer : var_eq v (helper turn k) ≡ false) (own : var_eq v x ≡ true → n ≡ true) (only_keep : Only keep) (only_back : Only back) (only_call : Only plain_call) (only_adjoint : Only adjoint) where
       arms_only : Only (arms line k x keep back plain_call adjoint)
       arms_only =
           only_append (arm line k 1 keep) (from_advance line k x keep back plain_call adjoint) (arm_only line k 1 keep only_keep)
@@ -283,19 +300,19 @@ module _ (f g : Dummies) (sc : Schedules) (p : Plan) where
           (only_append (arm line k 3 (at_turn line k x lower adjoint)) (from_keep line k keep back) (arm_only line k 3 (at_turn line k x lower adjoint) (both own only_adjoint))
           (only_append (arm line k 4 (back +++ keep)) (arm line k 5 back) (arm_only line k 4 (back +++ keep) (only_append back keep only_back only_keep)) (arm_only line k 5 back only_back))))
 
-      reversal_only : Only (reversal line k x j keep back plain_call adjoint)
+      reversal_only : Only (reversal line k x (slots_of k m) keep back plain_call adjoint)
       reversal_only = both (beside (helper entries k) tt) (both (both (beside (helper entry k) tt) (both (both (beside (helper kind k) tt) (both (beside (helper lower k) tt) (beside (helper upper k) tt))) arms_only)) quiet)
 
-      reversed_backward_only : (unsave : Code) → Only unsave → Only (reversed_backward k line x j keep back unsave plain_call adjoint)
-      reversed_backward_only unsave h = both (beside (helper count k) tt) (both (beside (helper stride k) tt) (both (beside (helper first k) tt) (only_append back _ only_back (only_append (reversal line k x j keep back plain_call adjoint) unsave reversal_only h))))
+      reversed_backward_only : (unsave : Code) → Only unsave → Only (reversed_backward k line x m keep back unsave plain_call adjoint)
+      reversed_backward_only unsave h = both (beside (helper count k) tt) (pop_slots_only line k m _ (both (beside (helper stride k) tt) (both (beside (helper first k) tt) (only_append back _ only_back (only_append (reversal line k x (slots_of k m) keep back plain_call adjoint) unsave reversal_only h)))))
 
-    reversed_forward_only : (k line : ℕ) (x : Var) (a b c : Term) (save keep plain_call : Code) → (var_eq v x ≡ true → n ≡ true) → Only save → Only keep → Only plain_call → Only (reversed_forward k line x a b c save keep plain_call)
-    reversed_forward_only k line x a b c save keep plain_call t hs hk hp = both (beside (helper first k) tt) (both (beside (helper stride k) tt) (both (beside (helper count k) tt) (only_append save _ hs (only_append keep _ hk (both (both t (only_raised k line plain_call hp)) quiet)))))
+    reversed_forward_only : (k line : ℕ) (x : Var) (a b c : Term) (m : Mark) (save keep plain_call : Code) → (var_eq v x ≡ true → n ≡ true) → Only save → Only keep → Only plain_call → Only (reversed_forward k line x a b c m save keep plain_call)
+    reversed_forward_only k line x a b c m save keep plain_call t hs hk hp = both (beside (helper first k) tt) (both (beside (helper stride k) tt) (set_slots_only line k m _ (both (beside (helper count k) tt) (only_append save _ hs (only_append keep _ hk (both (both t (only_raised k line plain_call hp)) (push_slots_only line k m _ quiet)))))))
 
     rows_reversed : (i k line : ℕ) (x : List ℕ) (a b c : Term) (body : Code) (s : Step) → Turned body s → StepWrites body s → var_eq v (helper turn k) ≡ false → (var_eq v (plain x) ≡ true → n ≡ true) → (writes g v body ≡ true → n ≡ true) → Only (row_forward p i k line x a b c s) × Only (row_backward p i k line x s)
     rows_reversed i k line x a b c body s turned w outer own inside = (
-      reversed_forward_only k line (plain x) a b c (pushes p line saves) (pushes p line shot) (code_if (p.marks.kept (suc i)) plain_call) own (only_pushes line saves) (only_pushes line shot) (only_if (p.marks.kept (suc i)) plain_call (λ t. called)),
-      reversed_backward_only line k (plain x) s.snapshots (pushes p line shot) (pops p line shot) plain_call (one line (adjoint_call callee s.given)) outer own (only_pushes line shot) (only_pops line shot popped) called (both (λ e. inside (w.adjointed v apart e)) quiet) (pops p line saves) (only_pops line saves unsaved),
+      reversed_forward_only k line (plain x) a b c s.mark (pushes p line saves) (pushes p line shot) (code_if (p.marks.kept (suc i)) plain_call) own (only_pushes line saves) (only_pushes line shot) (only_if (p.marks.kept (suc i)) plain_call (λ t. called)),
+      reversed_backward_only line k (plain x) s.mark (pushes p line shot) (pops p line shot) plain_call (one line (adjoint_call callee s.given)) outer own (only_pushes line shot) (only_pops line shot popped) called (both (λ e. inside (w.adjointed v apart e)) quiet) (pops p line saves) (only_pops line saves unsaved),
     )
       where
         callee : Callee

@@ -1,7 +1,7 @@
 -- That what is emitted for a checked program can be written as a text, and has no faults. (docs/THEOREMS.md, "Sweeps of every statement")
 use Rattle.std.specs.Prelude.{◌≡◌, ◌≤◌, ℕ, ◌+◌, max, List, [], ◌∷◌, ◌++◌, flat_map, Bool, true, false}
 use Rattle.adj_tree.specs.Code.{Runtime, push_word, pop_word, push_array, pop_array, push_control, pop_control, zero_array, begin_reversal, count_actions, give_action, end_reversal, Act, assign, choose, loop, during, call, runtime, Code, stop, step, Procedure}
-use Rattle.adj_tree.specs.Size.{term_depth, terms_depth, test_depth, code_depth}
+use Rattle.adj_tree.specs.Size.{term_depth, terms_depth, test_depth, IsNested}
 use Rattle.adj_text.specs.Written.{IsWritten}
 use Rattle.adj_names.specs.Fault.{Rules, run_rules}
 use Rattle.adj_names.specs.UnitFaults.{unit_faults}
@@ -78,11 +78,6 @@ abbrev pub EmittedIsSound : Type 0
 EmittedIsSound = (rules : Rules) (ps : List Procedure) → IsChecked rules ps → rules.chain ≤ run_rules.chain → (head : ℕ) (vars outvars : List Bool) → IsSound run_rules (emitted_program full_marks ps head vars outvars)
 
 -- ---- it keeps limits
-
--- no statement of these units is nested deeper
-abbrev pub IsNested : ℕ → List Procedure → Type 0
-IsNested n [] = Unit {0}
-IsNested n (u ∷ us) = (code_depth u.body ≤ n) × IsNested n us
 
 -- what a reversal by a schedule adds to a loop: one for the loop over the actions, one for their kinds, and one for the steps of an advance, in place of its own
 abbrev pub nested_with : Bool → ℕ → ℕ

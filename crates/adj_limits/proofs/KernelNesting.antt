@@ -1,7 +1,7 @@
 -- The kernel of a program is nested at most one deeper than the program.
 use Rattle.std.proofs.Common.{◌≤◌, ℕ, zero, suc, ◌+◌, max, Bool, true, false, List, [], ◌∷◌, ◌++◌, map, arith, if◌then◌else◌}
 use Rattle.adj_tree.specs.Code.{Var, plus, minus, times, quot, modulo, greater, lesser, Term, Terms, lit, var, elem, neg, bin, pow, power_of, abs, none, more, unmarked, with_count, count_from, Act, Code, assign, choose, loop, during, call, runtime, stop, step, Procedure}
-use Rattle.adj_tree.specs.Size.{act_depth, code_depth}
+use Rattle.adj_tree.specs.Size.{act_depth, code_depth, IsNested}
 use Rattle.adj_meaning.specs.Append.{◌+++◌}
 use Rattle.adj_meaning.specs.LeastSet.{Dummies}
 use Rattle.adj_meaning.specs.Read.{reads_term}
@@ -9,7 +9,6 @@ use Rattle.adj_kernel.specs.Lowered.{locals_in, mentions, locals_in_target, loca
 use Rattle.adj_kernel.specs.Kernel.{lowered_unit, local_in}
 use Rattle.adj_meaning.specs.Written.{handed_back}
 use Rattle.adj_kernel.specs.Stepped.{marked_in, marked_in_act, cut_act, cut, step_units_in_act, step_units_in, stepped_unit, stepped_from, stepped_program, step_names, names_of_source}
-use Rattle.adj_emitted.specs.Emitted.{IsNested}
 use Rattle.adj_limits.specs.Limits.{KernelKeepsNesting}
 
 below_append : (n : ℕ) (c d : Code) → code_depth c ≤ n → code_depth d ≤ n → code_depth (c +++ d) ≤ n

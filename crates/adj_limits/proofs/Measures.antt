@@ -4,16 +4,12 @@ use Rattle.std.specs.Prelude.{◌&&◌, nat_le}
 use Rattle.std.specs.List.{list_all}
 use Rattle.std.proofs.lemmas.Bool.{le-leb, leb-true, and_parts, and_from}
 use Rattle.adj_tree.specs.Code.{Term, Terms, var, elem, none, more, Test, Runtime, push_word, pop_word, push_array, pop_array, push_control, pop_control, zero_array, begin_reversal, count_actions, give_action, end_reversal, Act, Code, assign, choose, loop, during, call, runtime, stop, step, Declaration, Procedure}
-use Rattle.adj_tree.specs.Size.{term_depth, terms_depth, test_depth}
-use Rattle.adj_emitted.specs.Emitted.{IsNested, runtime_deepest, act_deepest, deepest, AreShallow}
+use Rattle.adj_tree.specs.Size.{term_depth, terms_depth, test_depth, IsNested}
+use Rattle.adj_emitted.specs.Emitted.{runtime_deepest, act_deepest, deepest, AreShallow}
 use Rattle.adj_readable.specs.Rule.{act_keeps, code_keeps, declaration_keeps, procedure_keeps, keeps}
 use Rattle.adj_readable.specs.Kept.{actuals_of, is_shallow, all_shallow, shallow}
 
 -- ---- nesting
-
-pub nested_down : (n : ℕ) (ps : List Procedure) → IsNested n ps → IsNested n ps
-nested_down n [] h = tt
-nested_down n (p ∷ ps) h = (h.0, nested_down n ps h.1)
 
 pub nested_up : (n m : ℕ) → n ≤ m → (ps : List Procedure) → IsNested n ps → IsNested m ps
 nested_up n m le [] h = tt

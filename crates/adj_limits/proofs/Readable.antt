@@ -9,7 +9,7 @@ use Rattle.adj_readable.specs.Reading.{SourceIsKept}
 use Rattle.adj_limits.specs.Limits.{EmittedIsShallowWith}
 use Rattle.adj_limits.proofs.KernelNesting.{kernel_nesting}
 use Rattle.adj_limits.proofs.KernelDepths.{kernel_depths}
-use Rattle.adj_limits.proofs.Measures.{nested_down, nested_up, program_low, program_fine}
+use Rattle.adj_limits.proofs.Measures.{nested_up, program_low, program_fine}
 
 nested_most : (sb : Bool) → nested_with sb 31 ≤ 45
 nested_most false = omega arith
@@ -22,5 +22,5 @@ emitted_shallow source sb bytes ps h m head vars outvars =
     let deep : 103 < 120 = omega arith in
     record {
       depths = program_fine 103 120 deep (emitted_program_with sb m (kernel_of ps) head vars outvars) (keeps_depth 100 (kernel_of ps) (kernel_depths 100 two ps (program_low 100 ps kept.depths)) sb m head vars outvars);
-      nested = nested_up (nested_with sb 31) 45 (nested_most sb) (emitted_program_with sb m (kernel_of ps) head vars outvars) (keeps_nesting 31 (kernel_of ps) (kernel_nesting 30 ps (nested_down 30 ps kept.nested)) sb m head vars outvars);
+      nested = nested_up (nested_with sb 31) 45 (nested_most sb) (emitted_program_with sb m (kernel_of ps) head vars outvars) (keeps_nesting 31 (kernel_of ps) (kernel_nesting 30 ps kept.nested) sb m head vars outvars);
     }

@@ -2,6 +2,7 @@
 use Rattle.std.proofs.Common.{◌≡◌, ◌≤◌, ◌<◌, ◌^◌, ℕ, Bool, true, List, [], ◌∷◌, length, map, flat_map, drop, refl, arith, length-drop}
 use Rattle.std.proofs.lemmas.Bool.{and_parts, and_from}
 use Rattle.adj_tree.specs.Code.{unmarked, with_count, count_from, Act, Code, assign, choose, loop, during, call, runtime, stop, step, Procedure}
+use Rattle.adj_tree.specs.Size.{IsNested}
 use Rattle.adj_names.specs.Fault.{source_rules, run_rules}
 use Rattle.adj_names.specs.Statements.{At, statements}
 use Rattle.adj_names.specs.Variables.{places, first_places, variables}
@@ -18,7 +19,7 @@ use Rattle.adj_kernel.specs.Stepped.{marked_in_act, marked_in, stepped_program, 
 use Rattle.adj_checked.specs.Checked.{IsChecked}
 use Rattle.adj_checked.proofs.Lists.{Each, none_front, none_behind, none_each}
 use Rattle.adj_emitted.specs.Shadowed.{AllHaveShadows}
-use Rattle.adj_emitted.specs.Emitted.{IsNested, AreShallow}
+use Rattle.adj_emitted.specs.Emitted.{AreShallow}
 use Rattle.adj_emitted.proofs.Sources.{each_name, of_each, UnitSound, all_named}
 use Rattle.adj_emitted.proofs.NameFaults.{NamesSound, all_names_sound}
 use Rattle.adj_emitted.proofs.UnitFaults.{each_emitted}
@@ -34,7 +35,7 @@ use Rattle.adj_lengths.proofs.KernelLengths.{kernel_variables_short, locals_few}
 use Rattle.adj_limits.specs.Limits.{EmittedIsRunnableWith}
 use Rattle.adj_limits.proofs.KernelNesting.{kernel_nesting}
 use Rattle.adj_limits.proofs.KernelDepths.{kernel_depths}
-use Rattle.adj_limits.proofs.Measures.{nested_down, program_low}
+use Rattle.adj_limits.proofs.Measures.{program_low}
 use Rattle.adj_limits.proofs.Readable.{emitted_shallow}
 use Rattle.adj_limits.proofs.StandingShort.{HasShort, unit_short}
 use Rattle.adj_limits.proofs.ShortVariables.{variable_short, unit_passes}
@@ -170,7 +171,7 @@ emitted_runnable reads source sb bytes ps h accepted known m shadows head vars o
     let units = kernel_units_short ps small in
     let short = kernel_variables_short ps accepted small (units_variables ps (units_hold ps kept.names)) (few_locals (stepped_program ps) (stepped_program ps) known) in
     let two : 2 ≤ 100 = omega arith in
-    let nested = kernel_nesting 30 ps (nested_down 30 ps kept.nested) in
+    let nested = kernel_nesting 30 ps kept.nested in
     let shallow = kernel_depths 100 two ps (program_low 100 ps kept.depths) in
     let checked = kernel_checked ps accepted in
     let few : run_rules.chain ≤ run_rules.chain = omega arith in

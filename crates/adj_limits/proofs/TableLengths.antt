@@ -4,7 +4,7 @@ use Rattle.std.specs.Prelude.{◌||◌, ◌&&◌, ◌==◌, not, nat_lt, Some, N
 use Rattle.std.proofs.lemmas.Bool.{or_cases, and_parts}
 use Rattle.std.proofs.lemmas.Bool.Decides.{nat_tests}
 use Rattle.std.proofs.lemmas.List.{append-nil}
-use Rattle.adj_tree.specs.Code.{Role, work, temp, control, first, stride, count, turn, entry, entries, kind, lower, upper, Var, plain, shadow, helper, var_eq, Act, Code}
+use Rattle.adj_tree.specs.Code.{Role, work, temp, control, first, stride, count, turn, entry, entries, kind, lower, upper, slots, Var, plain, shadow, helper, var_eq, Act, Code}
 use Rattle.adj_transpose.specs.Fresh.{has_name, digits_before, digits, candidate, fresh, reserved}
 use Rattle.adj_transpose.specs.Naming.{wanted, Named, own, named, unit_names, name_in}
 use Rattle.adj_transpose.specs.Marks.{Vars}
@@ -12,8 +12,8 @@ use Rattle.adj_transpose.specs.Marked.{names_in}
 use Rattle.adj_transpose.specs.Program.{helpers_from}
 use Rattle.adj_transpose.proofs.Fresh.{digits_same}
 use Rattle.adj_transpose.proofs.Naming.{has-append}
-use Rattle.adj_reverse.specs.Plan.{Plan, Schedules}
-use Rattle.adj_reverse.specs.Program.{works_used, temps_used, depth_used_with, tells_some_with, goes_back_with, reverses, is_do, is_loop, helpers_among, loop_helpers_with, reversal_helpers, all_reversal_helpers, helpers_used_with}
+use Rattle.adj_reverse.specs.Plan.{Plan, Schedules, Step}
+use Rattle.adj_reverse.specs.Program.{works_used, temps_used, depth_used_with, tells_some_with, goes_back_with, reverses_by, any_step, has_slots, is_do, is_loop, helpers_among, loop_helpers_with, reversal_helpers, all_reversal_helpers, helpers_used_with}
 use Rattle.adj_checked.proofs.Lists.{Each, each_append}
 use Rattle.adj_emitted.proofs.Sources.{of_each}
 use Rattle.adj_emitted.proofs.Tables.{has_var}
@@ -48,6 +48,7 @@ helper_modest entries k lt = behind_letters (codes "ADN") k (omega arith) lt
 helper_modest kind k lt = behind_letters (codes "ADA") k (omega arith) lt
 helper_modest lower k lt = behind_letters (codes "ADF") k (omega arith) lt
 helper_modest upper k lt = behind_letters (codes "ADT") k (omega arith) lt
+helper_modest slots k lt = behind_letters (codes "ADS") k (omega arith) lt
 
 from_modest : (r : Role) (k n : ℕ) → k + n ≤ 10 ^ suc 47 → Each Modest (helpers_from r k n)
 from_modest r k zero h = tt
@@ -211,39 +212,43 @@ module _ (sc : Schedules) (p : Plan) (i : ℕ) (c : Code) (loops : depth_used_wi
       before taken (loop_helpers_with sc is_such r p i c) ws (among_modest (λ k. goes_back_with sc is_such k p i 0 c) r 1 (depth_used_with sc p i 0 c) (omega arith)) (omega arith) (λ later h. f later (omega arith))
 
   -- those of reversals by schedules
-  acts_of : (z : Schedules) (r : Role) → depth_used_with z p i 0 c ≤ 45 → Each Modest (reversal_helpers z r p i c)
-  acts_of z r le = among_modest (λ k. reverses z k p i 0 c) r 1 (depth_used_with z p i 0 c) (omega arith)
+  acts_of : (z : Schedules) (sort : Step → Bool) (r : Role) → depth_used_with z p i 0 c ≤ 45 → Each Modest (reversal_helpers z sort r p i c)
+  acts_of z sort r le = among_modest (λ k. reverses_by z sort k p i 0 c) r 1 (depth_used_with z p i 0 c) (omega arith)
 
   acts_modest : (z : Schedules) → depth_used_with z p i 0 c ≤ 45 → Each Modest (all_reversal_helpers z p i c)
   acts_modest None le = tt
   acts_modest (Some reads) le =
       let z = Some reads in
-      each_append Modest (reversal_helpers z entry p i c) _ (acts_of z entry le)
-      (each_append Modest (reversal_helpers z entries p i c) _ (acts_of z entries le)
-      (each_append Modest (reversal_helpers z kind p i c) _ (acts_of z kind le)
-      (each_append Modest (reversal_helpers z lower p i c) (reversal_helpers z upper p i c) (acts_of z lower le) (acts_of z upper le))))
+      each_append Modest (reversal_helpers z any_step entry p i c) _ (acts_of z any_step entry le)
+      (each_append Modest (reversal_helpers z any_step entries p i c) _ (acts_of z any_step entries le)
+      (each_append Modest (reversal_helpers z any_step kind p i c) _ (acts_of z any_step kind le)
+      (each_append Modest (reversal_helpers z any_step lower p i c) _ (acts_of z any_step lower le)
+      (each_append Modest (reversal_helpers z any_step upper p i c) (reversal_helpers z has_slots slots p i c) (acts_of z any_step upper le) (acts_of z has_slots slots le)))))
 
-  few_of : (z : Schedules) (r : Role) → depth_used_with z p i 0 c ≤ 45 → length (reversal_helpers z r p i c) ≤ 45
-  few_of z r le = let few = among_count (λ k. reverses z k p i 0 c) r 1 (depth_used_with z p i 0 c) in omega arith
+  few_of : (z : Schedules) (sort : Step → Bool) (r : Role) → depth_used_with z p i 0 c ≤ 45 → length (reversal_helpers z sort r p i c) ≤ 45
+  few_of z sort r le = let few = among_count (λ k. reverses_by z sort k p i 0 c) r 1 (depth_used_with z p i 0 c) in omega arith
 
-  acts_count : (z : Schedules) → depth_used_with z p i 0 c ≤ 45 → length (all_reversal_helpers z p i c) ≤ 225
+  acts_count : (z : Schedules) → depth_used_with z p i 0 c ≤ 45 → length (all_reversal_helpers z p i c) ≤ 270
   acts_count None le = omega arith
   acts_count (Some reads) le =
       let z = Some reads in
-      let one = reversal_helpers z entry p i c in
-      let two = reversal_helpers z entries p i c in
-      let three = reversal_helpers z kind p i c in
-      let four = reversal_helpers z lower p i c in
-      let five = reversal_helpers z upper p i c in
-      let few_one = few_of z entry le in
-      let few_two = few_of z entries le in
-      let few_three = few_of z kind le in
-      let few_four = few_of z lower le in
-      let few_five = few_of z upper le in
-      let all = length-append one (two ++ (three ++ (four ++ five))) in
-      let from_two = length-append two (three ++ (four ++ five)) in
-      let from_three = length-append three (four ++ five) in
-      let from_four = length-append four five in
+      let one = reversal_helpers z any_step entry p i c in
+      let two = reversal_helpers z any_step entries p i c in
+      let three = reversal_helpers z any_step kind p i c in
+      let four = reversal_helpers z any_step lower p i c in
+      let five = reversal_helpers z any_step upper p i c in
+      let six = reversal_helpers z has_slots slots p i c in
+      let few_one = few_of z any_step entry le in
+      let few_two = few_of z any_step entries le in
+      let few_three = few_of z any_step kind le in
+      let few_four = few_of z any_step lower le in
+      let few_five = few_of z any_step upper le in
+      let few_six = few_of z has_slots slots le in
+      let all = length-append one (two ++ (three ++ (four ++ (five ++ six)))) in
+      let from_two = length-append two (three ++ (four ++ (five ++ six))) in
+      let from_three = length-append three (four ++ (five ++ six)) in
+      let from_four = length-append four (five ++ six) in
+      let from_five = length-append five six in
       omega arith
 
   helpers_short : (taken : List (List ℕ)) → length taken ≤ 9000000000 → Each Entry (named taken (helpers_used_with sc p i c))

@@ -2,7 +2,9 @@
 use Rattle.std.specs.Prelude.{◌≡◌, ◌≤◌, ℕ, ◌+◌, true, false, List, length, Bool, Ok}
 use Rattle.adj_tree.specs.Code.{Procedure}
 use Rattle.adj_tree.specs.Lines.{unlined}
+use Rattle.adj_tree.specs.Size.{IsNested}
 use Rattle.adj_text.specs.Text.{text_of}
+use Rattle.adj_text.specs.declared.mode.Mode.TheVariants.{Source, Run}
 use Rattle.adj_names.specs.Variables.{variables}
 use Rattle.adj_reverse.specs.Marking.{ProgramMarks}
 use Rattle.adj_reverse.specs.Program.{emitted_program_with}
@@ -10,10 +12,11 @@ use Rattle.adj_kernel.specs.Kernel.{EachUnit}
 use Rattle.adj_kernel.specs.Stepped.{kernel_of}
 use Rattle.adj_kernel.specs.Sound.{IsAccepted}
 use Rattle.adj_emitted.specs.Shadowed.{AllHaveShadows}
-use Rattle.adj_emitted.specs.Emitted.{IsNested, AreShallow}
+use Rattle.adj_emitted.specs.Emitted.{AreShallow}
+use Rattle.adj_parse.specs.Trees.{program_of}
 use Rattle.adj_readable.specs.Rule.{keeps}
 use Rattle.adj_readable.specs.Kept.{shallow}
-use Rattle.adj_readable.specs.Reading.{OrTooMany, run_program_of, source_program_of}
+use Rattle.adj_readable.specs.Reading.{OrTooMany}
 
 -- the kernel is nested at most one deeper than the program
 abbrev pub KernelKeepsNesting : Type 0
@@ -29,7 +32,7 @@ pub record IsShallow (qs : List Procedure) : Type 0 where
   pub nested : IsNested 45 qs
 
 abbrev pub EmittedIsShallowWith : (schedules : Bool) → Type 0
-EmittedIsShallowWith schedules = (bytes : List ℕ) (ps : List Procedure) → source_program_of bytes ≡ Ok ps → (m : ProgramMarks) (head : ℕ) (vars outvars : List Bool) → IsShallow (emitted_program_with schedules m (kernel_of ps) head vars outvars)
+EmittedIsShallowWith schedules = (bytes : List ℕ) (ps : List Procedure) → program_of Source bytes ≡ Ok ps → (m : ProgramMarks) (head : ℕ) (vars outvars : List Bool) → IsShallow (emitted_program_with schedules m (kernel_of ps) head vars outvars)
 
 abbrev pub EmittedIsShallow : Type 0
 EmittedIsShallow = EmittedIsShallowWith false
@@ -38,9 +41,9 @@ EmittedIsShallow = EmittedIsShallowWith false
 -- as what was emitted, up to line numbers, or has too many statements
 abbrev pub EmittedIsRunnableWith : (schedules : Bool) → Type 0
 EmittedIsRunnableWith schedules =
-    (bytes : List ℕ) (ps : List Procedure) → source_program_of bytes ≡ Ok ps → IsAccepted ps → EachUnit (λ v. length (variables v) ≤ 1073741823) (kernel_of ps) →
+    (bytes : List ℕ) (ps : List Procedure) → program_of Source bytes ≡ Ok ps → IsAccepted ps → EachUnit (λ v. length (variables v) ≤ 1073741823) (kernel_of ps) →
     (m : ProgramMarks) → AllHaveShadows m (kernel_of ps) (kernel_of ps) → (head : ℕ) (vars outvars : List Bool) →
-    OrTooMany (λ found. unlined found ≡ unlined (emitted_program_with schedules m (kernel_of ps) head vars outvars)) (run_program_of (text_of (emitted_program_with schedules m (kernel_of ps) head vars outvars)))
+    OrTooMany (λ found. unlined found ≡ unlined (emitted_program_with schedules m (kernel_of ps) head vars outvars)) (program_of Run (text_of (emitted_program_with schedules m (kernel_of ps) head vars outvars)))
 
 abbrev pub EmittedIsRunnable : Type 0
 EmittedIsRunnable = EmittedIsRunnableWith false

@@ -9,8 +9,8 @@ use Rattle.adj_revolve.specs.Split.{first_repetition, repetitions, split_of}
 use Rattle.adj_meaning.specs.Run.{most_tests}
 use Rattle.adj_reverse.specs.Marking.{full_marks}
 use Rattle.adj_worked.specs.Faulty.{unchanged, unrestored}
-use Rattle.adj_reversals.specs.Faulty.{faulty_program, Serve, unpopped, unkept, farther, unended, enclosed}
-use Rattle.adj_reversals.specs.Sources.{repeated, repeating, counting_down, divided, sparing, one_loop}
+use Rattle.adj_reversals.specs.Faulty.{faulty_program, Serve, unpopped, unkept, farther, unended, enclosed, unheld, late, unbounded}
+use Rattle.adj_reversals.specs.Sources.{repeated, repeating, numbered, numbering, twice_numbered, numbering_twice, counting_down, divided, fewer_left, leaving_fewer, sparing, one_loop, loops_of_both}
 use Rattle.adj_reversals.proofs.Refusing.{adjoint_in, stuck, left, wrong}
 
 -- the snapshot of the first step is left on the tape
@@ -61,3 +61,24 @@ unfolding int_wrap most_tests body split_of repetitions first_repetition choose 
 unread_fails =
     stuck (one_loop sparing divided) sparing divided 1 (true ∷ false ∷ false ∷ []) (true ∷ false ∷ false ∷ []) (faulty_program true (unrestored (codes "E")) sparing divided 1 (true ∷ false ∷ false ∷ []) (true ∷ false ∷ false ∷ [])) counting_down
     (adjoint_in divided counting_down (faulty_program true (unrestored (codes "E")) sparing divided 1 (true ∷ false ∷ false ∷ []) (true ∷ false ∷ false ∷ []))) refl refl (pos 2 ∷ pos 2 ∷ pos 7 ∷ []) (pos 1 ∷ pos 0 ∷ pos 0 ∷ []) 300 refl refl refl (λ h. h) refl
+
+-- the first loop, with one snapshot, is reversed with the two of the second
+pub unheld_fails : Serve true unheld (loops_of_both full_marks numbering_twice) full_marks numbering_twice 1 (true ∷ false ∷ false ∷ false ∷ []) (true ∷ false ∷ false ∷ false ∷ []) → ⊥
+unfolding int_wrap most_tests body split_of repetitions first_repetition choose least_cost greatest_up_to
+unheld_fails =
+    wrong (loops_of_both full_marks numbering_twice) full_marks numbering_twice 1 (true ∷ false ∷ false ∷ false ∷ []) (true ∷ false ∷ false ∷ false ∷ []) (faulty_program true unheld full_marks numbering_twice 1 (true ∷ false ∷ false ∷ false ∷ []) (true ∷ false ∷ false ∷ false ∷ [])) twice_numbered
+    (adjoint_in numbering_twice twice_numbered (faulty_program true unheld full_marks numbering_twice 1 (true ∷ false ∷ false ∷ false ∷ []) (true ∷ false ∷ false ∷ false ∷ []))) refl refl (pos 2 ∷ pos 7 ∷ pos 1 ∷ pos 2 ∷ []) (pos 1 ∷ pos 0 ∷ pos 0 ∷ pos 0 ∷ []) 600 refl refl refl (λ h. h) refl
+
+-- before the loop E is 2, and behind it 0
+pub late_fails : Serve true (late (codes "E")) (one_loop full_marks leaving_fewer) full_marks leaving_fewer 1 (true ∷ false ∷ false ∷ []) (true ∷ false ∷ false ∷ []) → ⊥
+unfolding int_wrap most_tests body split_of repetitions first_repetition choose least_cost greatest_up_to
+late_fails =
+    wrong (one_loop full_marks leaving_fewer) full_marks leaving_fewer 1 (true ∷ false ∷ false ∷ []) (true ∷ false ∷ false ∷ []) (faulty_program true (late (codes "E")) full_marks leaving_fewer 1 (true ∷ false ∷ false ∷ []) (true ∷ false ∷ false ∷ [])) fewer_left
+    (adjoint_in leaving_fewer fewer_left (faulty_program true (late (codes "E")) full_marks leaving_fewer 1 (true ∷ false ∷ false ∷ []) (true ∷ false ∷ false ∷ []))) refl refl (pos 2 ∷ pos 2 ∷ pos 7 ∷ []) (pos 1 ∷ pos 0 ∷ pos 0 ∷ []) 400 refl refl refl (λ h. h) refl
+
+-- no reversal begins with no snapshot
+pub unbounded_fails : Serve true (unbounded (codes "N")) (one_loop full_marks (numbering 1)) full_marks (numbering 1) 1 (true ∷ false ∷ false ∷ []) (true ∷ false ∷ false ∷ []) → ⊥
+unfolding int_wrap most_tests body split_of repetitions first_repetition choose least_cost greatest_up_to
+unbounded_fails =
+    stuck (one_loop full_marks (numbering 1)) full_marks (numbering 1) 1 (true ∷ false ∷ false ∷ []) (true ∷ false ∷ false ∷ []) (faulty_program true (unbounded (codes "N")) full_marks (numbering 1) 1 (true ∷ false ∷ false ∷ []) (true ∷ false ∷ false ∷ [])) (numbered 1)
+    (adjoint_in (numbering 1) (numbered 1) (faulty_program true (unbounded (codes "N")) full_marks (numbering 1) 1 (true ∷ false ∷ false ∷ []) (true ∷ false ∷ false ∷ []))) refl refl (pos 2 ∷ pos 7 ∷ pos 0 ∷ []) (pos 1 ∷ pos 0 ∷ pos 0 ∷ []) 200 refl refl refl (λ h. h) refl

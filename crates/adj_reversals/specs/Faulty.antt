@@ -1,9 +1,10 @@
 -- Emitted programs whose reversals have a fault: each is what is emitted by some marks, but for one thing. (docs/THEOREMS.md, "Reversals of marked loops")
-use Rattle.std.specs.Prelude.{ℕ, pos, List, map, Bool, true}
-use Rattle.adj_tree.specs.Code.{minus, lit, neg, bin, loop, runtime, push_word, pop_word, begin_reversal, end_reversal, stop, step, Procedure}
+use Rattle.std.specs.Prelude.{ℕ, pos, List, map, Bool, true, codes, if◌then◌else◌}
+use Rattle.adj_tree.specs.Code.{Var, plain, var_eq, minus, lit, var, neg, bin, none, assign, loop, runtime, push_word, pop_word, begin_reversal, count_actions, give_action, end_reversal, stop, step, Procedure}
 use Rattle.adj_reverse.specs.Adjoint.{IsAdjointWith}
 use Rattle.adj_reverse.specs.Marking.{ProgramMarks}
 use Rattle.adj_reverse.specs.Program.{emitted_program_with}
+use Rattle.adj_reverse.specs.ReversalCode.{as_slots}
 use Rattle.adj_reverse.specs.Reversals.{ReversedLines}
 use Rattle.adj_worked.specs.Faulty.{Change, with_change}
 
@@ -42,3 +43,25 @@ abbrev pub enclosed : Change
 enclosed line (loop x first last (neg e) body m) rest =
     step line (runtime (begin_reversal (lit (pos 2)) (lit (pos 1)))) (step line (loop x first last (neg e) body m) (step line (runtime end_reversal) rest))
 enclosed line a rest = step line a rest
+
+-- the helper that has the number of snapshots of a loop
+abbrev held : Var
+held = plain (codes "ADS1")
+
+-- it isn't pushed and popped
+abbrev pub unheld : Change
+unheld line (runtime (push_word x subs)) rest = if var_eq x held then rest else step line (runtime (push_word x subs)) rest
+unheld line (runtime (pop_word x subs)) rest = if var_eq x held then rest else step line (runtime (pop_word x subs)) rest
+unheld line a rest = step line a rest
+
+-- it gets the value of a variable behind the loop
+abbrev pub late : List ℕ → Change
+late x line (runtime (push_word y subs)) rest = if var_eq y held then step line (assign held none (as_slots (plain x))) (step line (runtime (push_word y subs)) rest) else step line (runtime (push_word y subs)) rest
+late x line a rest = step line a rest
+
+-- a variable itself stands in the place of it
+abbrev pub unbounded : List ℕ → Change
+unbounded x line (runtime (begin_reversal l s)) rest = step line (runtime (begin_reversal l (var (plain x)))) rest
+unbounded x line (runtime (count_actions l s n)) rest = step line (runtime (count_actions l (var (plain x)) n)) rest
+unbounded x line (runtime (give_action l s k a f t)) rest = step line (runtime (give_action l (var (plain x)) k a f t)) rest
+unbounded x line a rest = step line a rest

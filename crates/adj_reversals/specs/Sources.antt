@@ -1,6 +1,6 @@
 -- Worked programs with marked loops, in kernel form: the unit P is the head. (docs/EMITTED.md, "Sweeps")
 use Rattle.std.specs.Prelude.{ℕ, pos, ◌+◌, ◌==◌, ◌||◌, not, List, [], ◌∷◌, Some, None, codes, if◌then◌else◌}
-use Rattle.adj_tree.specs.Code.{plain, var_eq, minus, times, quot, lit, var, bin, with_count, loop, call, Code, stop, step, Procedure}
+use Rattle.adj_tree.specs.Code.{plain, var_eq, minus, times, quot, lit, var, bin, Mark, with_count, count_from, loop, call, Code, stop, step, Procedure}
 use Rattle.adj_meaning.specs.Written.{find_unit}
 use Rattle.adj_reverse.specs.Examples.{unit_over, set}
 use Rattle.adj_reverse.specs.Marking.{ProgramMarks, full_marks, callee_in, read_by, dummy_set}
@@ -9,9 +9,17 @@ use Rattle.adj_reverse.specs.Reversals.{StepUnits, ReversedLines}
 use Rattle.adj_reverse.specs.Steps.{step_units}
 use Rattle.adj_worked.specs.Sources.{squaring}
 
--- at a line a DO from 1 to n with m snapshots, whose body is the call of its step unit
+-- at a line a DO from 1 to n with a directive, whose body is the call of its step unit, and statements behind it
+abbrev directed_loop : ℕ → List ℕ → ℕ → Mark → List ℕ → List (List ℕ) → Code → Code
+directed_loop line x n mark name given rest = step line (loop (plain x) (lit (pos 1)) (lit (pos n)) (lit (pos 1)) (step (line + 1) (call name (actuals_named given)) stop) mark) rest
+
+-- with m snapshots
 abbrev marked_loop : ℕ → List ℕ → ℕ → ℕ → List ℕ → List (List ℕ) → Code
-marked_loop line x n m name given = step line (loop (plain x) (lit (pos 1)) (lit (pos n)) (lit (pos 1)) (step (line + 1) (call name (actuals_named given)) stop) (with_count m)) stop
+marked_loop line x n m name given = directed_loop line x n (with_count m) name given stop
+
+-- with as many snapshots as a variable says
+abbrev counted_loop : ℕ → List ℕ → ℕ → List ℕ → List ℕ → List (List ℕ) → Code → Code
+counted_loop line x n y name given rest = directed_loop line x n (count_from (plain y)) name given rest
 
 -- ---- sources
 
@@ -21,6 +29,22 @@ repeated n m = unit_over (codes "X" ∷ codes "I" ∷ []) (marked_loop 3 (codes 
 
 abbrev pub repeating : ℕ → ℕ → List Procedure
 repeating n m = squaring ∷ repeated n m ∷ []
+
+-- P(X,I,N), DO I=1,n with N snapshots, CALL S(X)
+abbrev pub numbered : ℕ → Procedure
+numbered n = unit_over (codes "X" ∷ codes "I" ∷ codes "N" ∷ []) (counted_loop 3 (codes "I") n (codes "N") (codes "S") (codes "X" ∷ []) stop)
+
+abbrev pub numbering : ℕ → List Procedure
+numbering n = squaring ∷ numbered n ∷ []
+
+-- P(X,I,N,M), DO I=1,2 with N snapshots, CALL S(X), and then such a DO with M snapshots
+abbrev pub twice_numbered : Procedure
+twice_numbered =
+    unit_over (codes "X" ∷ codes "I" ∷ codes "N" ∷ codes "M" ∷ [])
+    (counted_loop 3 (codes "I") 2 (codes "N") (codes "S") (codes "X" ∷ []) (counted_loop 5 (codes "I") 2 (codes "M") (codes "S") (codes "X" ∷ []) stop))
+
+abbrev pub numbering_twice : List Procedure
+numbering_twice = squaring ∷ twice_numbered ∷ []
 
 -- P(X,I,J), DO I=1,n with m snapshots, CALL T(X,J); T(A,J), DO J=1,k with l snapshots, CALL S(A); S(A), A=A*A
 abbrev inner : ℕ → ℕ → Procedure
@@ -46,6 +70,13 @@ counting_down = unit_over (codes "X" ∷ codes "E" ∷ codes "I" ∷ []) (marked
 abbrev pub divided : List Procedure
 divided = dividing ∷ counting_down ∷ []
 
+-- the same with E snapshots, of which the steps leave fewer
+abbrev pub fewer_left : Procedure
+fewer_left = unit_over (codes "X" ∷ codes "E" ∷ codes "I" ∷ []) (counted_loop 3 (codes "I") 2 (codes "E") (codes "S") (codes "X" ∷ codes "E" ∷ []) stop)
+
+abbrev pub leaving_fewer : List Procedure
+leaving_fewer = dividing ∷ fewer_left ∷ []
+
 -- ---- marks
 
 -- the second and the third statement have no part in a derivative, and E is neither saved nor needed by an adjoint
@@ -65,6 +96,10 @@ step_of m ps name = step_units name (callee_in m ps name) (dummy_set (read_by ps
 -- the loop of P calls S
 abbrev pub one_loop : ProgramMarks → List Procedure → ReversedLines
 one_loop m ps line = if line == 3 then Some (step_of m ps (codes "S")) else None
+
+-- both loops of P call S
+abbrev pub loops_of_both : ProgramMarks → List Procedure → ReversedLines
+loops_of_both m ps line = if line == 3 || line == 5 then Some (step_of m ps (codes "S")) else None
 
 -- the loop of P calls T, and that of T calls S
 abbrev pub two_loops : ProgramMarks → List Procedure → ReversedLines

@@ -144,12 +144,12 @@ module _ (sb : Bool) (rules : Rules) (ps : List Procedure) (checked : IsChecked 
       ∙ numbered_code u sc p.marks.adjointed (kept_of p.marks (is_own u)) (kept_turns u r own_kept own_same p) (λ i name args read n d o. ap (λ es. if p.marks.kept (suc i) then call name es ∷ [] else []) (named_again u args d o)) i u.body code kernel_body
 
   -- what the backward sweep does is what the loops do that are reversed
-  backward_does : done_list (deeds (λ x. has_name x (map unit_name ps))) None 0 (seen r (backward_with sc p i 0 u.body)) ≡ deeds_back sc p i u.body
+  backward_does : done_list (deeds (is_own u) (λ x. has_name x (map unit_name ps))) None 0 (seen r (backward_with sc p i 0 u.body)) ≡ deeds_back sc p i u.body
   backward_does = code_done u r own_kept own_same (λ x. has_name x (map unit_name ps)) (is_unit ps) sc p (adjoint_apart m ps) (named_there ps) i 0 u.body code inside closed
 
   -- so it calls the units of the kernel that these turn
   backward_calls : (x : List ℕ) → has_name x (map unit_name ps) ≡ true → has_name x (gathered called (seen r (backward_with sc p i 0 u.body))) ≡ turns_in sc m.adjointed x i u.body
-  backward_calls x h = called_code (λ x. has_name x (map unit_name ps)) x h None 0 (seen r (backward_with sc p i 0 u.body)) ∙ ap (list_any (calls_unit x)) backward_does ∙ turned_code sc p x i u.body
+  backward_calls x h = called_code (is_own u) (λ x. has_name x (map unit_name ps)) x h None 0 (seen r (backward_with sc p i 0 u.body)) ∙ ap (list_any (calls_unit x)) backward_does ∙ turned_code sc p x i u.body
 
   cleared_same : (line : ℕ) (xs : List (List ℕ)) → seen r (emission.cleared p line xs) ≡ cleared p.arrays (shadow_table m ps head u) xs
   cleared_same line [] = refl

@@ -4,19 +4,19 @@ use Rattle.std.specs.Prelude.{◌||◌, ◌&&◌, pos, Option, Some, None}
 use Rattle.std.specs.List.{list_any}
 use Rattle.std.proofs.lemmas.Grind.{flat_map-append}
 use Rattle.adj_tree.proofs.Names.{name_same}
-use Rattle.adj_tree.specs.Code.{Var, plain, shadow, helper, name_eq, var_eq, entry, kind, lower, lit, none, Terms, Mark, Runtime, push_word, pop_word, push_array, pop_array, push_control, pop_control, zero_array, begin_reversal, count_actions, give_action, end_reversal, Act, assign, choose, loop, during, call, runtime, Code, stop, step, Procedure}
+use Rattle.adj_tree.specs.Code.{Var, plain, shadow, helper, name_eq, var_eq, first, stride, entry, kind, lower, lit, var, none, Terms, slots, Mark, unmarked, with_count, count_from, Runtime, push_word, pop_word, push_array, pop_array, push_control, pop_control, zero_array, begin_reversal, count_actions, give_action, end_reversal, Act, assign, choose, loop, during, call, runtime, Code, stop, step, Procedure}
 use Rattle.adj_meaning.specs.Append.{◌+++◌, one}
 use Rattle.adj_meaning.specs.Common.{CallsInside', CallsInside}
-use Rattle.adj_meaning.specs.Rename.{rename_terms}
+use Rattle.adj_meaning.specs.Rename.{rename_term, rename_terms}
 use Rattle.adj_names.specs.Statements.{At, statements}
 use Rattle.adj_transpose.specs.Fresh.{has_name}
-use Rattle.adj_transpose.specs.Marks.{next, behind, active_at}
+use Rattle.adj_transpose.specs.Marks.{Vars, next, behind, active_at}
 use Rattle.adj_transpose.specs.Marked.{code_if}
 use Rattle.adj_transpose.proofs.Variables.{and_true, or_false, or_assoc, var_refl}
 use Rattle.adj_reverse.specs.Plan.{Plan, is_emitted, names_of, actuals_named, found_or, save_group, snapshot_group, step_snapshot, Schedules, Step, reversed_by}
 use Rattle.adj_reverse.specs.AdjointOf.{adjoint_where}
-use Rattle.adj_reverse.specs.Emission.{is_empty, push, pop, pushes, pops, literal, told_backward, loop_backward, while_backward, reset, resets, with_shadows, adjoint_call, backward_act_with, backward_with}
-use Rattle.adj_reverse.specs.ReversalCode.{at_turn, arm, advance, arms, reversal, row_backward}
+use Rattle.adj_reverse.specs.Emission.{is_empty, push, pop, pushes, pops, literal, told_backward, loop_backward, while_backward, pop_own, reset, resets, with_shadows, adjoint_call, backward_act_with, backward_with}
+use Rattle.adj_reverse.specs.ReversalCode.{at_turn, arm, advance, arms, reversal, slots_of, pop_slots, row_backward}
 use Rattle.adj_reverse.specs.Laws.{IsIdle', IsIdle}
 use Rattle.adj_reverse.specs.Program.{turns_act, turns_in}
 use Rattle.adj_reverse.proofs.ByStep.{step_inside}
@@ -24,7 +24,7 @@ use Rattle.adj_reverse.proofs.Names.{has-append}
 use Rattle.adj_emitted.proofs.Over.{OverAct, OverCode, Any}
 use Rattle.adj_emitted.proofs.Assigned.{AreMaking, making_adjoint}
 use Rattle.adj_emitted.proofs.StepCalls.{from_keep, from_turn, from_advance}
-use Rattle.adj_shape.specs.Shape.{gathered, is_own, called, push_whole, told_in, action_of, done_act, done_list, deeds, deeds_of, deeds_act, deeds_back}
+use Rattle.adj_shape.specs.Shape.{gathered, is_own, called, push_whole, told_in, action_of, done_act, done_list, number_told, deeds, number_due, deeds_of, deeds_act, deeds_back}
 use Rattle.adj_shape.specs.Closed.{IsClosed', IsClosed}
 use Rattle.adj_shape.proofs.Gathered.{gathered_step, inside, seen, seen_append}
 use Rattle.adj_shape.proofs.Forward.{OwnVar, NoArray, AreOwn, step_own, never_idle}
@@ -66,10 +66,10 @@ module _ (u : Procedure) (r : Var → Var) (own_kept : (v : Var) → is_own u v 
     (apart : (name : List ℕ) → inside_units name ≡ true → units (p.callees name).adjoint ≡ false) (there : (name : List ℕ) → inside_units name ≡ true → units name ≡ true) where
   -- what is done in a list
   abbrev done : Option Var → ℕ → Code → List (ℕ × Act)
-  done told k c = done_list (deeds units) told k (seen r c)
+  done told k c = done_list (deeds (is_own u) units) told k (seen r c)
 
   done_join : (told : Option Var) (k : ℕ) (c d : Code) → done told k (c +++ d) ≡ done told k c ++ done told k d
-  done_join told k c d = ap (done_list (deeds units) told k) (seen_append r c d) ∙ done_append (deeds units) told k (seen r c) (seen r d)
+  done_join told k c d = ap (done_list (deeds (is_own u) units) told k) (seen_append r c d) ∙ done_append (deeds (is_own u) units) told k (seen r c) (seen r d)
 
   -- of two lists of which nothing is done in the first, or in the second
   done_behind : (told : Option Var) (k : ℕ) (c d : Code) → done told k c ≡ [] → done told k (c +++ d) ≡ done told k d
@@ -129,9 +129,9 @@ module _ (u : Procedure) (r : Var → Var) (own_kept : (v : Var) → is_own u v 
   arm_done : (line d n : ℕ) (c : Code) → done (Some (r (helper kind d))) 0 (arm line d n c) ≡ done None n c
   arm_done line d n stop = refl
   arm_done line d n (step l a c) =
-      append-nil (done_list (deeds units) None (if var_eq (r (helper kind d)) (r (helper kind d)) then n else 0) (seen r (step l a c)) ++ [])
-      ∙ append-nil (done_list (deeds units) None (if var_eq (r (helper kind d)) (r (helper kind d)) then n else 0) (seen r (step l a c)))
-      ∙ ap (λ b. done_list (deeds units) None (if b then n else 0) (seen r (step l a c))) (var_refl (r (helper kind d)))
+      append-nil (done_list (deeds (is_own u) units) None (if var_eq (r (helper kind d)) (r (helper kind d)) then n else 0) (seen r (step l a c)) ++ [])
+      ∙ append-nil (done_list (deeds (is_own u) units) None (if var_eq (r (helper kind d)) (r (helper kind d)) then n else 0) (seen r (step l a c)))
+      ∙ ap (λ b. done_list (deeds (is_own u) units) None (if b then n else 0) (seen r (step l a c))) (var_refl (r (helper kind d)))
 
   module _ (i d line : ℕ) (x : List ℕ) (s : Step) (own : AreOwn u s.given) (known : inside_units s.name ≡ true) where
     abbrev snapshot : List (List ℕ)
@@ -177,16 +177,28 @@ module _ (u : Procedure) (r : Var → Var) (own_kept : (v : Var) → is_own u v 
         at : Option Var
         at = Some (r (helper kind d))
 
-    reversal_done : done None 0 (reversal line d (plain x) s.snapshots keep back plain_call adjoint) ≡ deeds_of p s
+    -- the number of snapshots
+    number_same : (m : Mark) → number_told (is_own u) (rename_term r (slots_of d m)) ≡ number_due m
+    number_same unmarked = refl
+    number_same (with_count n) = refl
+    number_same (count_from y) = ap (λ b. if b then var (r (helper slots d)) else lit (pos 0)) (own_same (helper slots d))
+
+    reversal_done : done None 0 (reversal line d (plain x) (slots_of d s.mark) keep back plain_call adjoint) ≡ deeds_of p s
     reversal_done =
-        ap (λ l. (0, runtime (begin_reversal (lit (pos 0)) (lit (pos s.snapshots)))) ∷ (l ++ ((0, runtime end_reversal) ∷ [])))
-        (ap (λ b. done_list (deeds units) (if b then Some (r (helper kind d)) else None) 0 (seen r (arms line d (plain x) keep back plain_call adjoint))) (var_refl (r (helper entry d))) ∙ arms_done)
-        ∙ ap (λ l. (0, runtime (begin_reversal (lit (pos 0)) (lit (pos s.snapshots)))) ∷ l) (append_assoc (taken 1) ((2, call s.name (actuals_named s.given)) ∷ taken 4) ((0, runtime end_reversal) ∷ []))
+        (λ j. (0, runtime (begin_reversal (lit (pos 0)) (number_same s.mark j)))
+        ∷ ((ap (λ b. done_list (deeds (is_own u) units) (if b then Some (r (helper kind d)) else None) 0 (seen r (arms line d (plain x) keep back plain_call adjoint))) (var_refl (r (helper entry d))) ∙ arms_done) j ++ ((0, runtime end_reversal) ∷ [])))
+        ∙ ap (λ l. (0, runtime (begin_reversal (lit (pos 0)) (number_due s.mark))) ∷ l) (append_assoc (taken 1) ((2, call s.name (actuals_named s.given)) ∷ taken 4) ((0, runtime end_reversal) ∷ []))
+
+    pop_done : (m : Mark) (rest : Code) → done None 0 (pop_slots line d m rest) ≡ done None 0 rest
+    pop_done unmarked rest = refl
+    pop_done (with_count n) rest = refl
+    pop_done (count_from y) rest = refl
 
     row_done : done None 0 (row_backward p i d line x s) ≡ deeds_of p s
     row_done =
-        done_behind None 0 back (reversal line d (plain x) s.snapshots keep back plain_call adjoint +++ unsave) (pops_none None 0 line snapshot)
-        ∙ done_before None 0 (reversal line d (plain x) s.snapshots keep back plain_call adjoint) unsave (pops_none None 0 line (save_group p.marks i (p.callees s.name) s.given))
+        pop_done s.mark (pop_own line (helper stride d) (pop_own line (helper first d) (back +++ (reversal line d (plain x) (slots_of d s.mark) keep back plain_call adjoint +++ unsave))))
+        ∙ done_behind None 0 back (reversal line d (plain x) (slots_of d s.mark) keep back plain_call adjoint +++ unsave) (pops_none None 0 line snapshot)
+        ∙ done_before None 0 (reversal line d (plain x) (slots_of d s.mark) keep back plain_call adjoint) unsave (pops_none None 0 line (save_group p.marks i (p.callees s.name) s.given))
         ∙ reversal_done
 
   -- ---- the other rows
@@ -265,7 +277,7 @@ module _ (u : Procedure) (r : Var → Var) (own_kept : (v : Var) → is_own u v 
         ∙ pops_none None 0 line saves)
     act_done i d line (runtime t) o c k = refl
 
-    pub code_done : (i d : ℕ) (c : Code) → OverCode (OwnVar u) NoArray Any c → CallsInside inside_units c → IsClosed p.marks i c → done_list (deeds units) None 0 (seen r (backward_with sc p i d c)) ≡ deeds_back sc p i c
+    pub code_done : (i d : ℕ) (c : Code) → OverCode (OwnVar u) NoArray Any c → CallsInside inside_units c → IsClosed p.marks i c → done_list (deeds (is_own u) units) None 0 (seen r (backward_with sc p i d c)) ≡ deeds_back sc p i c
     code_done i d stop o c k = refl
     code_done i d (step line a rest) o c k = done_join None 0 (backward_with sc p (next i a) d rest) (backward_act_with sc p i d line a) ∙ (λ j. code_done (next i a) d rest o.1 c.1 k.1 j ++ act_done i d line a o.0 c.0 k.0 j)
 
@@ -279,7 +291,7 @@ is_call x a = false
 abbrev pub calls_unit : List ℕ → ℕ × Act → Bool
 calls_unit x d = is_call x d.1
 
-module _ (units : List ℕ → Bool) (x : List ℕ) (known : units x ≡ true) where
+module _ (own : Vars) (units : List ℕ → Bool) (x : List ℕ) (known : units x ≡ true) where
   or_none : (b : Bool) → (b || false) ≡ b
   or_none true = refl
   or_none false = refl
@@ -295,7 +307,7 @@ module _ (units : List ℕ → Bool) (x : List ℕ) (known : units x ≡ true) w
       go true h = refl
       go false h = or_none (name_eq x name) ∙ other (name_eq x name) refl h
 
-  none_ran : (k : ℕ) (c : Runtime) → false ≡ list_any (calls_unit x) (deeds units k (runtime c))
+  none_ran : (k : ℕ) (c : Runtime) → false ≡ list_any (calls_unit x) (deeds own units k (runtime c))
   none_ran k (push_word y s) = refl
   none_ran k (pop_word y s) = refl
   none_ran k (push_array y) = refl
@@ -309,19 +321,19 @@ module _ (units : List ℕ → Bool) (x : List ℕ) (known : units x ≡ true) w
   none_ran k end_reversal = refl
 
   mutual
-    called_act : (told : Option Var) (k : ℕ) (a : Act) → (has_name x (called a) || has_name x (inside called a)) ≡ list_any (calls_unit x) (done_act (deeds units) told k a)
+    called_act : (told : Option Var) (k : ℕ) (a : Act) → (has_name x (called a) || has_name x (inside called a)) ≡ list_any (calls_unit x) (done_act (deeds own units) told k a)
     called_act told k (assign y s e) = refl
     called_act told k (choose c a b) =
         ap (has_name x) (flat_map-append (λ (s : At Act). called s.1) (statements a) (statements b))
         ∙ has-append x (gathered called a) (gathered called b)
         ∙ (λ j. called_code None (action_of told k c) a j || called_code None k b j)
-        ∙ sym (any_append (calls_unit x) (done_list (deeds units) None (action_of told k c) a) (done_list (deeds units) None k b))
+        ∙ sym (any_append (calls_unit x) (done_list (deeds own units) None (action_of told k c) a) (done_list (deeds own units) None k b))
     called_act told k (loop y a b c body m) = called_code (told_in (loop y a b c body m)) k body
     called_act told k (during c body) = called_code None k body
     called_act told k (call name args) = one_called k name args
     called_act told k (runtime c) = none_ran k c
 
-    pub called_code : (told : Option Var) (k : ℕ) (c : Code) → has_name x (gathered called c) ≡ list_any (calls_unit x) (done_list (deeds units) told k c)
+    pub called_code : (told : Option Var) (k : ℕ) (c : Code) → has_name x (gathered called c) ≡ list_any (calls_unit x) (done_list (deeds own units) told k c)
     called_code told k stop = refl
     called_code told k (step line a c) =
         ap (has_name x) (gathered_step called line a c)
@@ -329,7 +341,7 @@ module _ (units : List ℕ → Bool) (x : List ℕ) (known : units x ≡ true) w
         ∙ ap (λ b. has_name x (called a) || b) (has-append x (inside called a) (gathered called c))
         ∙ sym (or_assoc (has_name x (called a)) (has_name x (inside called a)) (has_name x (gathered called c)))
         ∙ (λ j. called_act told k a j || called_code told k c j)
-        ∙ sym (any_append (calls_unit x) (done_act (deeds units) told k a) (done_list (deeds units) told k c))
+        ∙ sym (any_append (calls_unit x) (done_act (deeds own units) told k a) (done_list (deeds own units) told k c))
 
 -- the step units of the loops that are reversed
 module _ (sc : Schedules) (p : Plan) (x : List ℕ) where

@@ -2,7 +2,7 @@
 use Rattle.std.proofs.Common.{◌≡◌, ℕ, suc, Bool, true, false, List, [], ◌∷◌, ◌++◌, refl, sym, ap, ◌∙◌, append_assoc, append-nil}
 use Rattle.std.specs.Prelude.{◌&&◌, Option, Some, None}
 use Rattle.std.proofs.lemmas.Grind.{flat_map-append}
-use Rattle.adj_tree.specs.Code.{Role, Var, plain, shadow, helper, first, stride, count, plus, Term, lit, var, elem, neg, bin, pow, power_of, abs, Terms, none, more, Test, Mark, unmarked, push_word, push_control, Act, assign, choose, loop, during, call, runtime, Code, stop, step, Procedure}
+use Rattle.adj_tree.specs.Code.{Role, Var, plain, shadow, helper, first, stride, count, slots, plus, Term, lit, var, elem, neg, bin, pow, power_of, abs, Terms, none, more, Test, Mark, unmarked, with_count, count_from, push_word, push_control, Act, assign, choose, loop, during, call, runtime, Code, stop, step, Procedure}
 use Rattle.adj_meaning.specs.Append.{◌+++◌, one}
 use Rattle.adj_meaning.specs.Rename.{rename_term, rename_test}
 use Rattle.adj_names.specs.Statements.{At, statements}
@@ -10,8 +10,8 @@ use Rattle.adj_transpose.specs.Marks.{Marks, next, behind}
 use Rattle.adj_transpose.specs.Marked.{code_if}
 use Rattle.adj_transpose.proofs.Variables.{or_false}
 use Rattle.adj_reverse.specs.Plan.{Plan, is_emitted, names_of, actuals_named, found_or, save_group, snapshot_group, step_snapshot, Schedules, Step, reversed_by}
-use Rattle.adj_reverse.specs.Emission.{is_empty, pushes, literal, told_forward, loop_forward, while_forward, forward_act_with, forward_with, backward_with}
-use Rattle.adj_reverse.specs.ReversalCode.{row_forward}
+use Rattle.adj_reverse.specs.Emission.{is_empty, pushes, push_own, set_own, literal, told_forward, loop_forward, while_forward, forward_act_with, forward_with, backward_with}
+use Rattle.adj_reverse.specs.ReversalCode.{as_slots, set_slots, push_slots, row_forward}
 use Rattle.adj_reverse.specs.Laws.{IsIdle', IsIdle}
 use Rattle.adj_emitted.proofs.Over.{OverTerm, OverTest, OverActuals, OverAct, OverCode, Any}
 use Rattle.adj_emitted.proofs.StepCalls.{step_body, step_mark}
@@ -141,6 +141,25 @@ module _ {X : Type 0} (f : Act → List X) (g : ℕ → Act → List X) (h : ℕ
       ∙ none_front (f (runtime (push_word (r (helper stride k)) none))) _ (rows.push_none stride k none)
       ∙ none_front (f (runtime (push_word (r (helper count k)) none))) _ (rows.push_none count k none)
 
+  -- nor what gives its number of snapshots
+  set_slots_none : (line k : ℕ) (m : Mark) (rest : Code) → gathered f (seen r (set_slots line k m rest)) ≡ gathered f (seen r rest)
+  set_slots_none line k unmarked rest = refl
+  set_slots_none line k (with_count n) rest = refl
+  set_slots_none line k (count_from y) rest = none_front (f (assign (r (helper slots k)) none (rename_term r (as_slots y)))) _ (rows.set_none slots k none (rename_term r (as_slots y)))
+
+  push_slots_none : (line k : ℕ) (m : Mark) (rest : Code) → gathered f (seen r (push_slots line k m rest)) ≡ gathered f (seen r rest)
+  push_slots_none line k unmarked rest = refl
+  push_slots_none line k (with_count n) rest = refl
+  push_slots_none line k (count_from y) rest = none_front (f (runtime (push_word (r (helper slots k)) none))) _ (rows.push_none slots k none)
+
+  -- the helpers of a loop that is reversed
+  all_none : (k line : ℕ) (m : Mark) → gathered f (seen r (push_own line (helper first k) (push_own line (helper stride k) (push_slots line k m (push_own line (helper count k) stop))))) ≡ []
+  all_none k line m =
+      none_front (f (runtime (push_word (r (helper first k)) none))) _ (rows.push_none first k none)
+      ∙ none_front (f (runtime (push_word (r (helper stride k)) none))) _ (rows.push_none stride k none)
+      ∙ push_slots_none line k m (push_own line (helper count k) stop)
+      ∙ none_front (f (runtime (push_word (r (helper count k)) none))) _ (rows.push_none count k none)
+
   loop_taken : (i line k : ℕ) (x : List ℕ) (a b c : Term) (body : Code) (m : Mark) → is_emitted p.marks i ≡ true → is_own u (plain x) ≡ true → OverTerm (OwnVar u) NoArray b → (idle : Bool) (swept : Code) →
       gathered f (seen r (code_if (p.marks.saved i (plain x)) (one line (runtime (push_word (plain x) none))) +++ loop_forward idle k line (plain x) a b c swept)) ≡ g i (loop (plain x) a b c body m) ++ gathered f (seen r swept)
   loop_taken i line k x a b c body m e o h idle swept =
@@ -187,6 +206,7 @@ module _ {X : Type 0} (f : Act → List X) (g : ℕ → Act → List X) (h : ℕ
       ∙ ap (λ l. push ++ l)
       (none_front (f (assign (r (helper first k)) none (rename_term r a))) _ (rows.set_none first k none (rename_term r a))
       ∙ none_front (f (assign (r (helper stride k)) none (rename_term r c))) _ (rows.set_none stride k none (rename_term r c))
+      ∙ set_slots_none line k s.mark (set_own line (helper count k) (literal 0) (saves +++ (members +++ turns)))
       ∙ none_front (f (assign (r (helper count k)) none (rename_term r (literal 0)))) _ (rows.set_none count k none (rename_term r (literal 0)))
       ∙ taken_append r f saves (members +++ turns)
       ∙ ap (λ l. gathered f (seen r saves) ++ l) (taken_append r f members turns ∙ ap (λ l. gathered f (seen r members) ++ l) turns_are))
@@ -208,15 +228,15 @@ module _ {X : Type 0} (f : Act → List X) (g : ℕ → Act → List X) (h : ℕ
       counted = swept +++ one line (assign (helper count k) none (bin plus (var (helper count k)) (literal 1)))
 
       turns : Code
-      turns = step line (loop (plain x) (var (helper first k)) b (var (helper stride k)) counted unmarked) (step line (runtime (push_word (helper first k) none)) (step line (runtime (push_word (helper stride k) none)) (step line (runtime (push_word (helper count k) none)) stop)))
+      turns = step line (loop (plain x) (var (helper first k)) b (var (helper stride k)) counted unmarked) (push_own line (helper first k) (push_own line (helper stride k) (push_slots line k s.mark (push_own line (helper count k) stop))))
 
       own_loop : Act
       own_loop = loop (r (plain x)) (var (r (helper first k))) (rename_term r b) (var (r (helper stride k))) (seen r counted) unmarked
 
       turns_are : gathered f (seen r turns) ≡ f own_loop ++ gathered f (seen r swept)
       turns_are =
-          gathered_step f 0 own_loop (seen r (step line (runtime (push_word (helper first k) none)) (step line (runtime (push_word (helper stride k) none)) (step line (runtime (push_word (helper count k) none)) stop))))
-          ∙ ap (λ l. f own_loop ++ (inside f own_loop ++ l)) (three_none k line)
+          gathered_step f 0 own_loop (seen r (push_own line (helper first k) (push_own line (helper stride k) (push_slots line k s.mark (push_own line (helper count k) stop)))))
+          ∙ ap (λ l. f own_loop ++ (inside f own_loop ++ l)) (all_none k line s.mark)
           ∙ ap (λ l. f own_loop ++ l) (append-nil (inside f own_loop) ∙ counted_taken k line swept)
 
   while_taken : (i line k : ℕ) (c : Test) (body : Code) → is_emitted p.marks i ≡ true → OverTest (OwnVar u) NoArray c → (idle : Bool) (swept : Code) → gathered f (seen r (while_forward idle k line c swept)) ≡ g i (during c body) ++ gathered f (seen r swept)

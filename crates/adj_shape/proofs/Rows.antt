@@ -56,7 +56,7 @@ named_again u (more (abs a) es) n o = absurd n
 -- ---- by numbers: where a step gives what its call gives
 
 module _ {X : Type 0} (u : Procedure) (sc : Schedules) (adjointed : ℕ → Bool) (f : ℕ → Act → List X) (g : ℕ → Step → List X)
-    (turns : (i : ℕ) (name : List ℕ) (args : Terms) (read : Vars) (n : ℕ) → AreDistinctNames args → OverActuals (OwnVar u) NoArray args → g i (record { name = name; given = names_of args; read = read; snapshots = n }) ≡ f (suc i) (call name args)) where
+    (turns : (i : ℕ) (name : List ℕ) (args : Terms) (read : Vars) (n : Mark) → AreDistinctNames args → OverActuals (OwnVar u) NoArray args → g i (record { name = name; given = names_of args; read = read; mark = n }) ≡ f (suc i) (call name args)) where
   numbered_turns : (i : ℕ) (body : Code) (m : Mark) (s : Step) → reversed_by sc adjointed i body m ≡ Some s → OverCode (OwnVar u) NoArray Any body → IsKernelCode body → g i s ≡ due_code f (suc i) body
   numbered_turns i body m s e =
       step_body (λ c s. OverCode (OwnVar u) NoArray Any c → IsKernelCode c → g i s ≡ due_code f (suc i) c) (λ line name args read n o k. turns i name args read n k.0 o.0.1.0 ∙ sym (append-nil (f (suc i) (call name args)))) sc adjointed i body m s e

@@ -1,15 +1,15 @@
 -- A forward sweep pushes what is due, and besides it control words at the ends of IFs' parts and few helpers behind loops.
 use Rattle.std.proofs.Common.{◌≡◌, ℕ, suc, Bool, true, false, List, [], ◌∷◌, refl, sym, ap, ◌∙◌, if◌then◌else◌}
 use Rattle.std.specs.Prelude.{◌&&◌, ◌-◌, not, nat_lt, Option, Some, None}
-use Rattle.adj_tree.specs.Code.{Role, Var, plain, shadow, helper, first, stride, count, plus, Term, var, bin, Terms, none, more, Test, unmarked, push_word, push_array, push_control, Act, assign, choose, loop, during, call, runtime, Code, stop, step, Procedure}
+use Rattle.adj_tree.specs.Code.{Role, Var, plain, shadow, helper, first, stride, count, slots, plus, Term, var, bin, Terms, none, more, Test, Mark, unmarked, with_count, count_from, push_word, push_array, push_control, Act, assign, choose, loop, during, call, runtime, Code, stop, step, Procedure}
 use Rattle.adj_meaning.specs.Append.{◌+++◌, one}
 use Rattle.adj_meaning.specs.Rename.{rename_terms}
 use Rattle.adj_meaning.proofs.Appends.{append_assoc, append-stop}
 use Rattle.adj_transpose.specs.Marks.{Vars, next, behind}
 use Rattle.adj_transpose.specs.Marked.{code_if}
 use Rattle.adj_reverse.specs.Plan.{Plan, is_emitted, names_of, actuals_named, found_or, save_group, snapshot_group, step_snapshot, Schedules, Step, reversed_by}
-use Rattle.adj_reverse.specs.Emission.{is_empty, pushes, literal, told_forward, loop_forward, while_forward, forward_act_with, forward_with, backward_with}
-use Rattle.adj_reverse.specs.ReversalCode.{row_forward}
+use Rattle.adj_reverse.specs.Emission.{is_empty, pushes, push_own, set_own, literal, told_forward, loop_forward, while_forward, forward_act_with, forward_with, backward_with}
+use Rattle.adj_reverse.specs.ReversalCode.{set_slots, push_slots, row_forward}
 use Rattle.adj_emitted.proofs.Over.{OverPlace, OverAct, OverCode, Any}
 use Rattle.adj_shape.specs.Shape.{is_own, is_bare, is_sparing}
 use Rattle.adj_shape.proofs.Gathered.{seen, seen_append}
@@ -91,11 +91,21 @@ module _ (u : Procedure) (r : Var → Var) (own_same : (v : Var) → is_own u (r
       (helper_pushed part 4 first k (step 0 (runtime (push_word (r (helper stride k)) none)) (step 0 (runtime (push_word (r (helper count k)) none)) d)) refl
       (helper_pushed part 3 stride k (step 0 (runtime (push_word (r (helper count k)) none)) d) refl (helper_pushed part 2 count k d refl (g 1))))
 
-  -- a loop that is reversed, between what is pushed before it and its three helpers
+  -- the number of snapshots of a loop that is reversed
+  set_slots_spare : (line k : ℕ) (m : Mark) (rest : Code) → Spares rest → Spares (set_slots line k m rest)
+  set_slots_spare line k unmarked rest h part room d g = h part room d g
+  set_slots_spare line k (with_count n) rest h part room d g = h part room d g
+  set_slots_spare line k (count_from y) rest h part room d g = h part 0 d g
+
+  -- it and the count are pushed where there is room for two
+  push_slots_spare : (line k : ℕ) (m : Mark) (part : Bool) (d : Code) → ((n : ℕ) → is_sparing (is_own u) made part n d ≡ true) → is_sparing (is_own u) made part 2 (seen r (push_slots line k m (push_own line (helper count k) stop)) +++ d) ≡ true
+  push_slots_spare line k unmarked part d g = helper_pushed part 2 count k d refl (g 1)
+  push_slots_spare line k (with_count n) part d g = helper_pushed part 2 count k d refl (g 1)
+  push_slots_spare line k (count_from y) part d g = helper_pushed part 2 slots k (step 0 (runtime (push_word (r (helper count k)) none)) d) refl (helper_pushed part 1 count k d refl (g 0))
+
+  -- a loop that is reversed, between what is pushed before it and its helpers
   turns_spare : (i line k : ℕ) (x : List ℕ) (a b c : Term) (s : Step) → AreOwn u s.given → Spares (row_forward p i k line x a b c s)
-  turns_spare i line k x a b c s o part room d g =
-      join saves (members +++ turns) (pushes_spare line (save_group p.marks i (p.callees s.name) s.given) (step_saved_own u p i s o))
-      (join members turns (pushes_spare line (step_snapshot (p.callees s.name) s.read s.given) (step_members_own u p s o)) turns_alone) part 0 d g
+  turns_spare i line k x a b c s o part room d g = set_slots_spare line k s.mark (set_own line (helper count k) (literal 0) (saves +++ (members +++ turns))) counted part 0 d g
     where
       saves : Code
       saves = pushes p line (save_group p.marks i (p.callees s.name) s.given)
@@ -107,13 +117,18 @@ module _ (u : Procedure) (r : Var → Var) (own_same : (v : Var) → is_own u (r
       swept = code_if (p.marks.kept (suc i)) (one line (call s.name (actuals_named s.given)))
 
       turns : Code
-      turns = step line (loop (plain x) (var (helper first k)) b (var (helper stride k)) (swept +++ raised k line) unmarked) (step line (runtime (push_word (helper first k) none)) (step line (runtime (push_word (helper stride k) none)) (step line (runtime (push_word (helper count k) none)) stop)))
+      turns = step line (loop (plain x) (var (helper first k)) b (var (helper stride k)) (swept +++ raised k line) unmarked) (push_own line (helper first k) (push_own line (helper stride k) (push_slots line k s.mark (push_own line (helper count k) stop))))
 
       turns_alone : Spares turns
       turns_alone part room d g =
+          let behind = seen r (push_slots line k s.mark (push_own line (helper count k) stop)) +++ d in
           both (sparing false 0 (seen r (swept +++ raised k line))) _ (counted_sparing line k swept (guard (p.marks.kept (suc i)) (one line (call s.name (actuals_named s.given))) (λ t. call_spares line s.name (actuals_named s.given))))
-          (helper_pushed part 4 first k (step 0 (runtime (push_word (r (helper stride k)) none)) (step 0 (runtime (push_word (r (helper count k)) none)) d)) refl
-          (helper_pushed part 3 stride k (step 0 (runtime (push_word (r (helper count k)) none)) d) refl (helper_pushed part 2 count k d refl (g 1))))
+          (helper_pushed part 4 first k (step 0 (runtime (push_word (r (helper stride k)) none)) behind) refl (helper_pushed part 3 stride k behind refl (push_slots_spare line k s.mark part d g)))
+
+      counted : Spares (set_own line (helper count k) (literal 0) (saves +++ (members +++ turns)))
+      counted part room d g =
+          join saves (members +++ turns) (pushes_spare line (save_group p.marks i (p.callees s.name) s.given) (step_saved_own u p i s o))
+          (join members turns (pushes_spare line (step_snapshot (p.callees s.name) s.read s.given) (step_members_own u p s o)) turns_alone) part 0 d g
 
   while_spares : (idle : Bool) (line k : ℕ) (c : Test) (body : Code) → Spares body → Spares (while_forward idle k line c body)
   while_spares true line k c body h part room d g = both (sparing false 0 (seen r body)) (sparing part 4 d) (alone false body h) (g 4)

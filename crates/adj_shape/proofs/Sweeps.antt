@@ -3,7 +3,7 @@ use Rattle.std.proofs.Common.{◌≡◌, ℕ, suc, Bool, true, false, List, [], 
 use Rattle.std.specs.Prelude.{◌||◌, ◌&&◌, not, Option, Some, None}
 use Rattle.std.specs.List.{list_any, list_all}
 use Rattle.std.proofs.lemmas.Grind.{flat_map-append}
-use Rattle.adj_tree.specs.Code.{Role, Var, plain, shadow, helper, var_eq, first, stride, count, turn, entry, entries, kind, lower, upper, plus, is_same, Term, var, bin, none, Test, compare, unmarked, push_word, pop_word, push_array, pop_array, push_control, Act, assign, choose, loop, during, call, runtime, Code, stop, step, Procedure}
+use Rattle.adj_tree.specs.Code.{Role, Var, plain, shadow, helper, var_eq, first, stride, count, turn, entry, entries, kind, lower, upper, slots, plus, is_same, Term, var, bin, none, Test, compare, Mark, unmarked, with_count, count_from, push_word, pop_word, push_array, pop_array, push_control, Act, assign, choose, loop, during, call, runtime, Code, stop, step, Procedure}
 use Rattle.adj_meaning.specs.Append.{◌+++◌, one}
 use Rattle.adj_names.specs.Statements.{At, statements}
 use Rattle.adj_transpose.specs.Marks.{Vars, next, behind, active_at}
@@ -11,8 +11,8 @@ use Rattle.adj_transpose.specs.Marked.{code_if}
 use Rattle.adj_transpose.proofs.Variables.{or_left, or_right, var_refl}
 use Rattle.adj_reverse.specs.Plan.{Plan, is_emitted, names_of, actuals_named, found_or, save_group, snapshot_group, step_snapshot, Schedules, Step, reversed_by}
 use Rattle.adj_reverse.specs.AdjointOf.{adjoint_where}
-use Rattle.adj_reverse.specs.Emission.{is_empty, push, pop, pushes, pops, literal, told_forward, told_backward, loop_forward, loop_backward, while_forward, while_backward, reset, resets, adjoint_call, forward_act_with, forward_with, backward_act_with, backward_with}
-use Rattle.adj_reverse.specs.ReversalCode.{at_turn, arm, advance, arms, reversal, row_forward, row_backward}
+use Rattle.adj_reverse.specs.Emission.{is_empty, push, pop, pushes, pops, literal, told_forward, told_backward, loop_forward, loop_backward, while_forward, while_backward, push_own, pop_own, set_own, reset, resets, adjoint_call, forward_act_with, forward_with, backward_act_with, backward_with}
+use Rattle.adj_reverse.specs.ReversalCode.{at_turn, arm, advance, arms, reversal, slots_of, set_slots, push_slots, pop_slots, row_forward, row_backward}
 use Rattle.adj_emitted.proofs.Over.{OverAct, OverCode, Any}
 use Rattle.adj_emitted.proofs.Assigned.{AreMaking, making_adjoint}
 use Rattle.adj_emitted.proofs.StepCalls.{from_keep, from_turn, from_advance}
@@ -65,9 +65,23 @@ module _ (r : Var → Var) (made : Vars) (plain_unmade : (x : List ℕ) → made
   clean_loop true k line x a b c body h = (((not_plain x, refl), h), tt)
   clean_loop false k line x a b c body h = ((not_helper first k, refl), ((not_helper stride k, refl), ((not_helper count k, refl), (((not_plain x, refl), clean_counted k line body h), ((refl, refl), ((refl, refl), ((refl, refl), tt)))))))
 
+  -- the number of snapshots of a loop that is reversed
+  clean_set : (line k : ℕ) (m : Mark) (rest : Code) → IsClean rest → IsClean (set_slots line k m rest)
+  clean_set line k unmarked rest h = h
+  clean_set line k (with_count n) rest h = h
+  clean_set line k (count_from y) rest h = ((not_helper slots k, refl), h)
+
+  clean_push : (line k : ℕ) (m : Mark) (rest : Code) → IsClean rest → IsClean (push_slots line k m rest)
+  clean_push line k unmarked rest h = h
+  clean_push line k (with_count n) rest h = h
+  clean_push line k (count_from y) rest h = ((refl, refl), h)
+
   -- a loop that is reversed
   clean_turns : (i k line : ℕ) (x : List ℕ) (a b c : Term) (s : Step) → IsClean (row_forward p i k line x a b c s)
-  clean_turns i k line x a b c s = ((not_helper first k, refl), ((not_helper stride k, refl), ((not_helper count k, refl), clean_join saves (members +++ turns) (clean_pushes line (save_group p.marks i (p.callees s.name) s.given)) (clean_join members turns (clean_pushes line (step_snapshot (p.callees s.name) s.read s.given)) clean))))
+  clean_turns i k line x a b c s = (
+    (not_helper first k, refl),
+    ((not_helper stride k, refl), clean_set line k s.mark (set_own line (helper count k) (literal 0) (saves +++ (members +++ turns))) ((not_helper count k, refl), clean_join saves (members +++ turns) (clean_pushes line (save_group p.marks i (p.callees s.name) s.given)) (clean_join members turns (clean_pushes line (step_snapshot (p.callees s.name) s.read s.given)) clean))),
+  )
     where
       saves : Code
       saves = pushes p line (save_group p.marks i (p.callees s.name) s.given)
@@ -79,10 +93,13 @@ module _ (r : Var → Var) (made : Vars) (plain_unmade : (x : List ℕ) → made
       swept = code_if (p.marks.kept (suc i)) (one line (call s.name (actuals_named s.given)))
 
       turns : Code
-      turns = step line (loop (plain x) (var (helper first k)) b (var (helper stride k)) (swept +++ raised k line) unmarked) (step line (runtime (push_word (helper first k) none)) (step line (runtime (push_word (helper stride k) none)) (step line (runtime (push_word (helper count k) none)) stop)))
+      turns = step line (loop (plain x) (var (helper first k)) b (var (helper stride k)) (swept +++ raised k line) unmarked) (push_own line (helper first k) (push_own line (helper stride k) (push_slots line k s.mark (push_own line (helper count k) stop))))
 
       clean : IsClean turns
-      clean = (((not_plain x, refl), clean_counted k line swept (clean_if (p.marks.kept (suc i)) (one line (call s.name (actuals_named s.given))) ((refl, refl), tt))), ((refl, refl), ((refl, refl), ((refl, refl), tt))))
+      clean = (
+        ((not_plain x, refl), clean_counted k line swept (clean_if (p.marks.kept (suc i)) (one line (call s.name (actuals_named s.given))) ((refl, refl), tt))),
+        ((refl, refl), ((refl, refl), clean_push line k s.mark (push_own line (helper count k) stop) ((refl, refl), tt))),
+      )
 
   clean_while : (idle : Bool) (k line : ℕ) (c : Test) (body : Code) → IsClean body → IsClean (while_forward idle k line c body)
   clean_while true k line c body h = (((refl, refl), h), tt)
@@ -253,7 +270,7 @@ module _ (u : Procedure) (r : Var → Var) (own_kept : (v : Var) → is_own u v 
   arm_turns line k n c h = turning_if (not (is_empty c)) (one line (choose (compare is_same (var (helper kind k)) (literal n)) c stop)) (λ t. ((refl, (h, tt)), tt))
 
   -- a reversal
-  reversal_turns : (line k : ℕ) (x : List ℕ) (m : ℕ) (keep back plain_call adjoint : Code) → is_own u (plain x) ≡ true → counts (plain x) ≡ true → IsTurning keep → IsTurning back → IsTurning plain_call → IsTurning adjoint → IsTurning (reversal line k (plain x) m keep back plain_call adjoint)
+  reversal_turns : (line k : ℕ) (x : List ℕ) (m : Term) (keep back plain_call adjoint : Code) → is_own u (plain x) ≡ true → counts (plain x) ≡ true → IsTurning keep → IsTurning back → IsTurning plain_call → IsTurning adjoint → IsTurning (reversal line k (plain x) m keep back plain_call adjoint)
   reversal_turns line k x m keep back plain_call adjoint o n hk hb hp ha = (
     refl,
     (
@@ -269,8 +286,17 @@ module _ (u : Procedure) (r : Var → Var) (own_kept : (v : Var) → is_own u v 
           (turning_join (arm line k 3 (at_turn line k (plain x) lower adjoint)) (from_keep line k keep back) (arm_turns line k 3 (at_turn line k (plain x) lower adjoint) (of_loop x o n, ha))
           (turning_join (arm line k 4 (back +++ keep)) (arm line k 5 back) (arm_turns line k 4 (back +++ keep) (turning_join back keep hb hk)) (arm_turns line k 5 back hb))))
 
+  pop_turns : (line k : ℕ) (m : Mark) (rest : Code) → IsTurning rest → IsTurning (pop_slots line k m rest)
+  pop_turns line k unmarked rest h = h
+  pop_turns line k (with_count n) rest h = h
+  pop_turns line k (count_from y) rest h = (refl, h)
+
   turns_turn : (i k line : ℕ) (x : List ℕ) (s : Step) → is_own u (plain x) ≡ true → counts (plain x) ≡ true → IsTurning (row_backward p i k line x s)
-  turns_turn i k line x s o n = (refl, (refl, (refl, turning_join back (turns +++ unsave) (pops_turn line snapshot) (turning_join turns unsave (reversal_turns line k x s.snapshots keep back plain_call adjoint o n (pushes_turn line snapshot) (pops_turn line snapshot) (refl, tt) (refl, tt)) (pops_turn line (save_group p.marks i (p.callees s.name) s.given))))))
+  turns_turn i k line x s o n = (
+    refl,
+    pop_turns line k s.mark (pop_own line (helper stride k) (pop_own line (helper first k) (back +++ (turns +++ unsave))))
+        (refl, (refl, turning_join back (turns +++ unsave) (pops_turn line snapshot) (turning_join turns unsave (reversal_turns line k x (slots_of k s.mark) keep back plain_call adjoint o n (pushes_turn line snapshot) (pops_turn line snapshot) (refl, tt) (refl, tt)) (pops_turn line (save_group p.marks i (p.callees s.name) s.given))))),
+  )
     where
       snapshot : List (List ℕ)
       snapshot = step_snapshot (p.callees s.name) s.read s.given
@@ -291,7 +317,7 @@ module _ (u : Procedure) (r : Var → Var) (own_kept : (v : Var) → is_own u v 
       adjoint = one line (adjoint_call (p.callees s.name) s.given)
 
       turns : Code
-      turns = reversal line k (plain x) s.snapshots keep back plain_call adjoint
+      turns = reversal line k (plain x) (slots_of k s.mark) keep back plain_call adjoint
 
   mutual
     act_turns : (i d line : ℕ) (a : Act) → OverAct (OwnVar u) NoArray Any a → LoopsIn' counts a → IsTurning (backward_act_with sc p i d line a)

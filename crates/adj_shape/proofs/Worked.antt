@@ -70,7 +70,7 @@ is_none (x ∷ xs) = false
 abbrev pushes_so : Code → Code → Bool
 pushes_so c d =
     is_sparing (is_own fourth_power) (is_shadow sparing (fourth_power ∷ []) fourth_power fourth_power) false 0 c
-    && ((length (gathered (pushed (is_own fourth_power)) c) == 1) && is_none (done_list (deeds (λ x. has_name x (map unit_name (fourth_power ∷ [])))) None 0 d))
+    && ((length (gathered (pushed (is_own fourth_power)) c) == 1) && is_none (done_list (deeds (is_own fourth_power) (λ x. has_name x (map unit_name (fourth_power ∷ [])))) None 0 d))
 
 -- of a program of one unit that has the shape the unit is the adjoint unit
 module _ (body : Code) (called_none : is_called (unlined_procedure (adjoint_with body) ∷ []) (codes "P") ≡ false) where

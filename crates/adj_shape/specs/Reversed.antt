@@ -1,6 +1,6 @@
--- A program whose marked loop is reversed by a schedule, what is emitted for it, and forms of that which aren't what marks say.
-use Rattle.std.specs.Prelude.{ℕ, pos, nat_lt, ◌==◌, List, [], ◌∷◌, Bool, true, false, codes}
-use Rattle.adj_tree.specs.Code.{Var, plain, name_eq, Term, lit, var, bin, plus, minus, times, none, more, is_same, compare, unmarked, with_count, Act, assign, choose, loop, call, runtime, pop_word, begin_reversal, count_actions, give_action, end_reversal, Code, stop, step, Procedure}
+-- Programs whose marked loop is reversed by a schedule, what is emitted for them, and forms of that which aren't what marks say.
+use Rattle.std.specs.Prelude.{ℕ, pos, nat_lt, ◌==◌, List, [], ◌∷◌, ◌++◌, map, Bool, true, false, codes}
+use Rattle.adj_tree.specs.Code.{Var, plain, name_eq, Term, lit, var, bin, plus, minus, times, greater, lesser, none, more, is_same, compare, Mark, unmarked, with_count, count_from, Act, assign, choose, loop, call, runtime, pop_word, begin_reversal, count_actions, give_action, end_reversal, Code, stop, step, Procedure}
 use Rattle.adj_reverse.specs.Marking.{ProgramMarks, full_marks}
 use Rattle.adj_shape.specs.Worked.{X, XB, squared, pushes, declared_at, all_at, squared_back}
 
@@ -23,6 +23,9 @@ number = codes "ADK1"
 abbrev action : List ℕ
 action = codes "ADA1"
 
+abbrev pub snapshots : List ℕ
+snapshots = codes "ADS1"
+
 abbrev of : List ℕ → Term
 of x = var (plain x)
 
@@ -43,16 +46,24 @@ turn = call Q (more (of X) none)
 abbrev turn_back : Act
 turn_back = call (codes "Q_B") (more (of X) (more (of XB) none))
 
--- SUBROUTINE P(N,X), INTEGER*8 N, INTEGER*8 X, with two snapshots DO I=1,N, CALL Q(X), END DO, END
-abbrev pub turning : Procedure
-turning = record {
+-- SUBROUTINE P(N,X), INTEGER*8 N, INTEGER*8 X, with a directive DO I=1,N, CALL Q(X), END DO, END
+abbrev pub directed : Mark → Procedure
+directed mark = record {
   line = 1;
   name = codes "P";
   dummies = codes "N" ∷ X ∷ [];
   is_none = false;
   declarations = declared_at 2 (codes "N") ∷ declared_at 3 X ∷ [];
-  body = step 5 (loop (plain (codes "I")) (literal 1) (of (codes "N")) (literal 1) (step 6 turn stop) (with_count 2)) stop;
+  body = step 5 (loop (plain (codes "I")) (literal 1) (of (codes "N")) (literal 1) (step 6 turn stop) mark) stop;
 }
+
+-- with two snapshots
+abbrev pub turning : Procedure
+turning = directed (with_count 2)
+
+-- with N snapshots
+abbrev pub numbered : Procedure
+numbered = directed (count_from (plain (codes "N")))
 
 -- SUBROUTINE Q(X), INTEGER*8 X, X=X*X, END
 abbrev pub squaring : Procedure
@@ -62,8 +73,14 @@ squaring = record { line = 9; name = Q; dummies = X ∷ []; is_none = false; dec
 abbrev pub only_second : List Bool
 only_second = false ∷ true ∷ []
 
+abbrev pub directed_program : Mark → List Procedure
+directed_program mark = directed mark ∷ squaring ∷ []
+
 abbrev pub turning_program : List Procedure
-turning_program = turning ∷ squaring ∷ []
+turning_program = directed_program (with_count 2)
+
+abbrev pub numbered_program : List Procedure
+numbered_program = directed_program (count_from (plain (codes "N")))
 
 abbrev only_x : Var → Bool
 only_x (plain x) = name_eq x X
@@ -93,31 +110,43 @@ at_turn x = sets (codes "I") (bin plus (of first_value) (bin times (of x) (of by
 abbrev advance : Code → Act
 advance c = loop (plain (codes "ADJ1")) (of (codes "ADF1")) (bin minus (of (codes "ADT1")) (literal 1)) (literal 1) (step 5 (at_turn (codes "ADJ1")) c) unmarked
 
-abbrev actions : Code → Code → Code → Code
-actions keep steps_on turn_it =
+abbrev actions : Term → Code → Code → Code → Code
+actions many keep steps_on turn_it =
     all_at 5
-    (runtime (give_action (of steps) (literal 2) (of number) (plain action) (plain (codes "ADF1")) (plain (codes "ADT1")))
+    (runtime (give_action (of steps) many (of number) (plain action) (plain (codes "ADF1")) (plain (codes "ADT1")))
     ∷ acting 1 keep ∷ acting 2 (one (advance steps_on)) ∷ acting 3 (step 5 (at_turn (codes "ADF1")) turn_it) ∷ acting 4 (all_at 5 (pops X ∷ pushes X ∷ []) stop) ∷ acting 5 (one (pops X)) ∷ [])
     stop
 
-abbrev forth : Code → List Act
-forth turns =
-    sets first_value (literal 1) ∷ sets by (literal 1) ∷ sets steps (literal 0) ∷ pushes X
+-- with what sets and pushes the number of snapshots
+abbrev forth : List Act → List Act → Code → List Act
+forth counted pushed turns =
+    sets first_value (literal 1) ∷ sets by (literal 1)
+    ∷ (counted ++ (sets steps (literal 0) ∷ pushes X
     ∷ loop (plain (codes "I")) (of first_value) (of (codes "N")) (of by) turns unmarked
-    ∷ pushes first_value ∷ pushes by ∷ pushes steps ∷ []
+    ∷ pushes first_value ∷ pushes by ∷ (pushed ++ (pushes steps ∷ []))))
 
-abbrev back : Code → Code → Code → List Act
-back keep steps_on turn_it =
-    pops steps ∷ pops by ∷ pops first_value ∷ pops X
-    ∷ runtime (begin_reversal (of steps) (literal 2)) ∷ runtime (count_actions (of steps) (literal 2) (plain (codes "ADN1")))
-    ∷ loop (plain number) (literal 1) (of (codes "ADN1")) (literal 1) (actions keep steps_on turn_it) unmarked
-    ∷ runtime end_reversal ∷ []
+-- with what pops it, and it
+abbrev back : List Act → Term → Code → Code → Code → List Act
+back popped many keep steps_on turn_it =
+    pops steps
+    ∷ (popped ++ (pops by ∷ pops first_value ∷ pops X
+    ∷ runtime (begin_reversal (of steps) many) ∷ runtime (count_actions (of steps) many (plain (codes "ADN1")))
+    ∷ loop (plain number) (literal 1) (of (codes "ADN1")) (literal 1) (actions many keep steps_on turn_it) unmarked
+    ∷ runtime end_reversal ∷ []))
 
 abbrev pub turning_forth : Code → Code → Code
-turning_forth turns rest = all_at 5 (forth turns) rest
+turning_forth turns rest = all_at 5 (forth [] [] turns) rest
 
 abbrev pub turning_back : Code → Code → Code → Code
-turning_back keep steps_on turn_it = all_at 5 (back keep steps_on turn_it) stop
+turning_back keep steps_on turn_it = all_at 5 (back [] (literal 2) keep steps_on turn_it) stop
+
+-- N, but from 1 to 64
+abbrev pub numbered_forth : Code → Code → Code
+numbered_forth turns rest = all_at 5 (forth (sets snapshots (bin lesser (bin greater (of (codes "N")) (literal 1)) (literal 64)) ∷ []) (pushes snapshots ∷ []) turns) rest
+
+-- by the number that a variable has
+abbrev pub numbered_back : List ℕ → Code
+numbered_back many = all_at 5 (back (pops snapshots ∷ []) (of many) (one (pushes X)) (one turn) (one turn_back)) stop
 
 abbrev counting : Act
 counting = sets steps (bin plus (of steps) (literal 1))
@@ -139,18 +168,24 @@ steps_once = one turn
 abbrev pub turns_once : Code
 turns_once = one turn_back
 
--- an adjoint unit of P with this body
-abbrev pub unit_with : Code → Procedure
-unit_with body = record {
+-- an adjoint unit of P with helpers behind the others and a body
+abbrev unit_of : List (List ℕ) → Code → Procedure
+unit_of helpers body = record {
   line = 1;
   name = codes "P_B";
   dummies = codes "N" ∷ X ∷ XB ∷ [];
   is_none = false;
   declarations =
       declared_at 2 (codes "N") ∷ declared_at 3 X ∷ declared_at 3 XB ∷ declared_at 1 (codes "I") ∷ declared_at 1 steps ∷ declared_at 1 first_value ∷ declared_at 1 by ∷ declared_at 1 (codes "ADJ1")
-      ∷ declared_at 1 number ∷ declared_at 1 (codes "ADN1") ∷ declared_at 1 action ∷ declared_at 1 (codes "ADF1") ∷ declared_at 1 (codes "ADT1") ∷ [];
+      ∷ declared_at 1 number ∷ declared_at 1 (codes "ADN1") ∷ declared_at 1 action ∷ declared_at 1 (codes "ADF1") ∷ declared_at 1 (codes "ADT1") ∷ map (declared_at 1) helpers;
   body = body;
 }
+
+abbrev pub unit_with : Code → Procedure
+unit_with body = unit_of [] body
+
+abbrev pub numbered_unit : Code → Procedure
+numbered_unit body = unit_of (snapshots ∷ []) body
 
 abbrev pub squaring_back : Procedure
 squaring_back = record {
@@ -169,6 +204,17 @@ program_with body = unit_with body ∷ squaring ∷ squaring_back ∷ []
 
 abbrev pub reversed : List Procedure
 reversed = program_with (turning_forth turned (turning_back keeps steps_once turns_once))
+
+abbrev numbered_with : Code → List Procedure
+numbered_with body = numbered_unit body ∷ squaring ∷ squaring_back ∷ []
+
+-- where N says how many snapshots there are
+abbrev pub numbered_reversed : List Procedure
+numbered_reversed = numbered_with (numbered_forth turned (numbered_back snapshots))
+
+-- N itself as their number
+abbrev pub counting_itself : List Procedure
+counting_itself = numbered_with (numbered_forth turned (numbered_back (codes "N")))
 
 -- a push where steps are made
 abbrev pub pushing_in_steps : List Procedure

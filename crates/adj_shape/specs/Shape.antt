@@ -2,7 +2,7 @@
 -- alone, statement by statement, whatever its helpers are; its line numbers count for nothing. (docs/EMITTED.md, "What the text looks like")
 use Rattle.std.specs.Prelude.{◌≡◌, ℕ, suc, nat_lt, ◌-◌, pos, List, [], ◌∷◌, ◌++◌, map, flat_map, Bool, true, false, not, ◌&&◌, ◌||◌, Option, Some, None, if◌then◌else◌}
 use Rattle.std.specs.List.{list_any, list_all}
-use Rattle.adj_tree.specs.Code.{Var, plain, shadow, helper, name_eq, var_eq, lit, var, is_same, Terms, none, more, Test, compare, Runtime, push_word, push_array, push_control, zero_array, begin_reversal, count_actions, give_action, end_reversal, unmarked, Act, assign, choose, loop, during, call, runtime, Code, stop, step, Procedure}
+use Rattle.adj_tree.specs.Code.{Var, plain, shadow, helper, name_eq, var_eq, lit, var, is_same, Terms, none, more, Test, compare, Runtime, push_word, push_array, push_control, zero_array, begin_reversal, count_actions, give_action, end_reversal, Mark, unmarked, with_count, count_from, Term, Act, assign, choose, loop, during, call, runtime, Code, stop, step, Procedure}
 use Rattle.adj_tree.specs.Lines.{unlined_procedure, unlined}
 use Rattle.adj_meaning.specs.Append.{◌+++◌}
 use Rattle.adj_meaning.specs.Written.{find_unit}
@@ -203,23 +203,34 @@ abbrev mutual
   done_list f told k stop = []
   done_list f told k (step line a rest) = done_act f told k a ++ done_list f told k rest
 
+-- a number of snapshots as it stands, or 0 where a variable that isn't the unit's holds it
+abbrev pub number_told : Vars → Term → Term
+number_told own (var x) = if own x then var x else lit (pos 0)
+number_told own e = e
+
 -- pushes, calls of the units of a set, and where a reversal begins, with its number of snapshots, and ends; each with its action. The
 -- number of steps may be held by a helper.
-abbrev pub deeds : (List ℕ → Bool) → ℕ → Act → List (ℕ × Act)
-deeds units k (runtime (push_word x subs)) = (k, runtime (push_word x subs)) ∷ []
-deeds units k (runtime (push_array x)) = (k, runtime (push_array x)) ∷ []
-deeds units k (runtime (push_control e)) = (k, runtime (push_control e)) ∷ []
-deeds units k (runtime (begin_reversal l s)) = (k, runtime (begin_reversal (lit (pos 0)) s)) ∷ []
-deeds units k (runtime end_reversal) = (k, runtime end_reversal) ∷ []
-deeds units k (call name args) = if units name then (k, call name args) ∷ [] else []
-deeds units k a = []
+abbrev pub deeds : Vars → (List ℕ → Bool) → ℕ → Act → List (ℕ × Act)
+deeds own units k (runtime (push_word x subs)) = (k, runtime (push_word x subs)) ∷ []
+deeds own units k (runtime (push_array x)) = (k, runtime (push_array x)) ∷ []
+deeds own units k (runtime (push_control e)) = (k, runtime (push_control e)) ∷ []
+deeds own units k (runtime (begin_reversal l s)) = (k, runtime (begin_reversal (lit (pos 0)) (number_told own s))) ∷ []
+deeds own units k (runtime end_reversal) = (k, runtime end_reversal) ∷ []
+deeds own units k (call name args) = if units name then (k, call name args) ∷ [] else []
+deeds own units k a = []
+
+-- the number of snapshots of a directive, or 0 where a helper holds it: that which its variable had before the loop
+abbrev pub number_due : Mark → Term
+number_due unmarked = lit (pos 0)
+number_due (with_count n) = lit (pos n)
+number_due (count_from x) = lit (pos 0)
 
 -- those of a reversal: the members of a step's snapshot are pushed where a snapshot is taken, in action 1, and where one is read and kept,
 -- in action 4; and the step unit is called where steps are made, in action 2
 abbrev pub deeds_of : Plan → Step → List (ℕ × Act)
 deeds_of p s =
     let snapshot = map (push_whole p.arrays) (step_snapshot (p.callees s.name) s.read s.given) in
-    (0, runtime (begin_reversal (lit (pos 0)) (lit (pos s.snapshots))))
+    (0, runtime (begin_reversal (lit (pos 0)) (number_due s.mark)))
     ∷ (map (λ c. (1, runtime c)) snapshot ++ ((2, call s.name (actuals_named s.given)) ∷ (map (λ c. (4, runtime c)) snapshot ++ ((0, runtime end_reversal) ∷ []))))
 
 -- those of all loops of a list that are reversed by schedules, from the last statement to the first; the parts of an IF stay in order
@@ -270,7 +281,7 @@ pub record IsAdjointUnit (schedules : Bool) (m : ProgramMarks) (ps : List Proced
   pub saves : let p = plan_in m ps u in gathered (pushed (is_own u)) forth ≡ gathered_list (schedules_in schedules ps) m.adjointed (due p) (due_turns p) (first_statement ps u.name) u.body
   pub sparing : is_sparing (is_own u) (is_shadow m ps head u) false 0 forth ≡ true
   -- backward: the loops that are reversed by schedules are reversed, and besides nothing is pushed and no kernel unit is called
-  pub reverses : done_list (deeds (λ x. has_name x (map unit_name ps))) None 0 back ≡ deeds_back (schedules_in schedules ps) (plan_in m ps u) (first_statement ps u.name) u.body
+  pub reverses : done_list (deeds (is_own u) (λ x. has_name x (map unit_name ps))) None 0 back ≡ deeds_back (schedules_in schedules ps) (plan_in m ps u) (first_statement ps u.name) u.body
   -- and a variable of u is assigned only where it is that of a DO of u
   pub assigns : list_all (λ v. not (is_own u v) || list_any (var_eq v) (gathered turned u.body)) (gathered assigned back) ≡ true
 

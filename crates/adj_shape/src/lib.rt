@@ -11,7 +11,7 @@ ghost use Rattle.adj_reverse.specs.Marking.{full_marks};
 ghost use Rattle.adj_reverse.specs.Program.{emitted_program, emitted_program_with};
 ghost use Rattle.adj_shape.specs.Accepted.{AcceptedHasShape};
 ghost use Rattle.adj_shape.specs.Laws.{AnalysedAreClosed, EmittedHasShape, FullAreClosed};
-ghost use Rattle.adj_shape.specs.Reversed.{dropped, dropping, only_second, pushing_in_steps, reversed, reversing, stepping_back, taking_twice, turning, turning_program};
+ghost use Rattle.adj_shape.specs.Reversed.{counting_itself, dropped, dropping, numbered, numbered_program, numbered_reversed, only_second, pushing_in_steps, reversed, reversing, stepping_back, taking_twice, turning, turning_program};
 ghost use Rattle.adj_shape.specs.Shape.{HasShape};
 ghost use Rattle.adj_shape.specs.Worked.{emitted, fourth_power, keeping_all, pushing_helpers, pushing_more, sparing, twice_forward};
 
@@ -46,18 +46,21 @@ pub fn wrong_shapes()
     ensures twice_forward { HasShape false sparing (fourth_power ∷ []) fourth_power (true ∷ []) (true ∷ []) twice_forward → ⊥ }
 {}
 
-/// What is emitted for a program whose marked loop is reversed by a schedule, as it is written, and that it has the shape; and what is emitted where the call of its step unit isn't kept.
+/// What is emitted for a program whose marked loop is reversed by a schedule, as it is written, and that it has the shape; what is emitted where the call of its step unit isn't kept; and the same where a variable says how many snapshots there are.
 pub fn worked_reversal()
     ensures emitted { emitted_program_with true reversing turning_program 0 only_second only_second ≡ reversed }
     ensures shaped { HasShape true reversing turning_program turning only_second only_second reversed }
     ensures dropped { emitted_program_with true dropping turning_program 0 only_second only_second ≡ dropped }
+    ensures numbered { emitted_program_with true reversing numbered_program 0 only_second only_second ≡ numbered_reversed }
+    ensures numbered_shaped { HasShape true reversing numbered_program numbered only_second only_second numbered_reversed }
 {}
 
-/// Other forms of it haven't: with a push where steps are made, with a snapshot that is pushed twice, with the step unit called where a turn is taken back, and without the call in the forward sweep. Nor has what is emitted where the loop is one as others.
+/// Other forms of it haven't: with a push where steps are made, with a snapshot that is pushed twice, with the step unit called where a turn is taken back, and without the call in the forward sweep. Nor has what is emitted where the loop is one as others, nor a reversal with the variable itself as its number of snapshots.
 pub fn wrong_reversals()
     ensures pushing_in_steps { HasShape true reversing turning_program turning only_second only_second pushing_in_steps → ⊥ }
     ensures taking_twice { HasShape true reversing turning_program turning only_second only_second taking_twice → ⊥ }
     ensures stepping_back { HasShape true reversing turning_program turning only_second only_second stepping_back → ⊥ }
     ensures dropped { HasShape true reversing turning_program turning only_second only_second dropped → ⊥ }
     ensures as_others { HasShape true reversing turning_program turning only_second only_second (emitted_program_with false reversing turning_program 0 only_second only_second) → ⊥ }
+    ensures itself { HasShape true reversing numbered_program numbered only_second only_second counting_itself → ⊥ }
 {}

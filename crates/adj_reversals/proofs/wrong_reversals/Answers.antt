@@ -1,4 +1,4 @@
-use Rattle.adj_reversals.proofs.Trials.{unpopped_fails, unkept_fails, farther_fails, unended_fails, plain_fails, enclosed_fails, unread_fails}
+use Rattle.adj_reversals.proofs.Trials.{unpopped_fails, unkept_fails, farther_fails, unended_fails, plain_fails, enclosed_fails, unread_fails, unheld_fails, late_fails, unbounded_fails}
 use Rattle.adj_reversals.proofs.wrong_reversals.Goals as goal
 
 pub returns-clause-unpopped : goal.returns-clause-unpopped
@@ -21,3 +21,12 @@ returns-clause-enclosed c = enclosed_fails
 
 pub returns-clause-unread : goal.returns-clause-unread
 returns-clause-unread c = unread_fails
+
+pub returns-clause-unheld : goal.returns-clause-unheld
+returns-clause-unheld c = unheld_fails
+
+pub returns-clause-late : goal.returns-clause-late
+returns-clause-late c = late_fails
+
+pub returns-clause-unbounded : goal.returns-clause-unbounded
+returns-clause-unbounded c = unbounded_fails

@@ -1,4 +1,4 @@
-use Rattle.adj_shape.proofs.Reversed.{reversed_so, reversed_shaped, dropped_so}
+use Rattle.adj_shape.proofs.Reversed.{reversed_so, reversed_shaped, dropped_so, numbered_so, numbered_shaped}
 use Rattle.adj_shape.proofs.worked_reversal.Goals as goal
 
 pub returns-clause-emitted : goal.returns-clause-emitted
@@ -9,3 +9,9 @@ returns-clause-shaped c = reversed_shaped
 
 pub returns-clause-dropped : goal.returns-clause-dropped
 returns-clause-dropped c = dropped_so
+
+pub returns-clause-numbered : goal.returns-clause-numbered
+returns-clause-numbered c = numbered_so
+
+pub returns-clause-numbered_shaped : goal.returns-clause-numbered_shaped
+returns-clause-numbered_shaped c = numbered_shaped

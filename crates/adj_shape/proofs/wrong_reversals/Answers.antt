@@ -1,4 +1,4 @@
-use Rattle.adj_shape.proofs.Reversed.{not_pushing_in_steps, not_taking_twice, not_stepping_back, not_dropped, not_as_others}
+use Rattle.adj_shape.proofs.Reversed.{not_pushing_in_steps, not_taking_twice, not_stepping_back, not_dropped, not_as_others, not_itself}
 use Rattle.adj_shape.proofs.wrong_reversals.Goals as goal
 
 pub returns-clause-pushing_in_steps : goal.returns-clause-pushing_in_steps
@@ -15,3 +15,6 @@ returns-clause-dropped c = not_dropped
 
 pub returns-clause-as_others : goal.returns-clause-as_others
 returns-clause-as_others c = not_as_others
+
+pub returns-clause-itself : goal.returns-clause-itself
+returns-clause-itself c = not_itself
