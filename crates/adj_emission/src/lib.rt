@@ -16,4 +16,5 @@ pub mod plan;
 pub mod repeats;
 pub mod reversal;
 pub mod reversed;
+pub mod slots;
 pub mod sweeps;

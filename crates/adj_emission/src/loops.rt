@@ -60,22 +60,29 @@ fn plain_turns(
 }
 
 impl<'a> Plan<'a> {
-    /// The first value, the step and the number of turns are set, behind what is turned round.
-    pub fn open_turns(
+    /// The first value and the step are set, behind what is turned round.
+    pub fn set_bounds(
         &self,
         alloc: Global,
         at: At,
         bounds: &Bounds,
         turned: Stmts,
     ) -> Result<Stmts, Memory>
-        ensures opened { IfOk result (λ c. code_of c ≡ step at.line (assign (naming_in self.now (helper count at.depth)) none (lit (pos 0))) (step at.line (assign (naming_in self.now (helper stride at.depth)) none (term_of bounds.now.step.now)) (step at.line (assign (naming_in self.now (helper first at.depth)) none (term_of bounds.now.first.now)) (code_of turned)))) }
+        ensures set { IfOk result (λ c. code_of c ≡ step at.line (assign (naming_in self.now (helper stride at.depth)) none (term_of bounds.now.step.now)) (step at.line (assign (naming_in self.now (helper first at.depth)) none (term_of bounds.now.first.now)) (code_of turned))) }
     {
         let first = of_depth(Role::First, at.depth);
         let stride = of_depth(Role::Stride, at.depth);
-        let count = of_depth(Role::Count, at.depth);
         let begun = self.set_own(alloc, at.line, first, bounds.first.copy(alloc)?, turned)?;
-        let stepped = self.set_own(alloc, at.line, stride, bounds.step.copy(alloc)?, begun)?;
-        let code = self.set_own(alloc, at.line, count, Expr::Lit(0), stepped)?;
+        let code = self.set_own(alloc, at.line, stride, bounds.step.copy(alloc)?, begun)?;
+        Ok(code)
+    }
+
+    /// No turn is counted yet, behind what is turned round.
+    pub fn set_count(&self, alloc: Global, at: At, turned: Stmts) -> Result<Stmts, Memory>
+        ensures set { IfOk result (λ c. code_of c ≡ step at.line (assign (naming_in self.now (helper count at.depth)) none (lit (pos 0))) (code_of turned)) }
+    {
+        let count = of_depth(Role::Count, at.depth);
+        let code = self.set_own(alloc, at.line, count, Expr::Lit(0), turned)?;
         Ok(code)
     }
 
@@ -111,16 +118,23 @@ impl<'a> Plan<'a> {
         })
     }
 
-    /// What was set is pushed, behind what is turned round.
-    pub fn close_turns(&self, alloc: Global, at: At, turned: Stmts) -> Result<Stmts, Memory>
-        ensures closed { IfOk result (λ c. code_of c ≡ step at.line (runtime (push_word (naming_in self.now (helper count at.depth)) none)) (step at.line (runtime (push_word (naming_in self.now (helper stride at.depth)) none)) (step at.line (runtime (push_word (naming_in self.now (helper first at.depth)) none)) (code_of turned)))) }
+    /// The first value and the step are pushed, behind what is turned round.
+    pub fn push_bounds(&self, alloc: Global, at: At, turned: Stmts) -> Result<Stmts, Memory>
+        ensures pushed { IfOk result (λ c. code_of c ≡ step at.line (runtime (push_word (naming_in self.now (helper stride at.depth)) none)) (step at.line (runtime (push_word (naming_in self.now (helper first at.depth)) none)) (code_of turned))) }
     {
         let first = of_depth(Role::First, at.depth);
         let stride = of_depth(Role::Stride, at.depth);
-        let count = of_depth(Role::Count, at.depth);
         let begun = self.push_own(alloc, at.line, first, turned)?;
-        let stepped = self.push_own(alloc, at.line, stride, begun)?;
-        let code = self.push_own(alloc, at.line, count, stepped)?;
+        let code = self.push_own(alloc, at.line, stride, begun)?;
+        Ok(code)
+    }
+
+    /// The number of turns is pushed, behind what is turned round.
+    pub fn push_count(&self, alloc: Global, at: At, turned: Stmts) -> Result<Stmts, Memory>
+        ensures pushed { IfOk result (λ c. code_of c ≡ step at.line (runtime (push_word (naming_in self.now (helper count at.depth)) none)) (code_of turned)) }
+    {
+        let count = of_depth(Role::Count, at.depth);
+        let code = self.push_own(alloc, at.line, count, turned)?;
         Ok(code)
     }
 
@@ -135,10 +149,12 @@ impl<'a> Plan<'a> {
     ) -> Result<Stmts, Memory>
         ensures told { IfOk result (λ c. (inner : Code) → in_order (code_of body) ≡ rename (naming_in self.now) inner → in_order (code_of c) ≡ in_order (code_of turned) +++ rename (naming_in self.now) (loop_forward false at.depth at.line (plain bounds.now.variable.now) (term_of bounds.now.first.now) (term_of bounds.now.limit.now) (term_of bounds.now.step.now) inner)) }
     {
-        let opened = self.open_turns(alloc, at, bounds, turned)?;
+        let bound = self.set_bounds(alloc, at, bounds, turned)?;
+        let opened = self.set_count(alloc, at, bound)?;
         let turns = self.counted_turns(alloc, at, bounds, body)?;
         let gone = before(alloc, turns, opened)?;
-        let code = self.close_turns(alloc, at, gone)?;
+        let pushed = self.push_bounds(alloc, at, gone)?;
+        let code = self.push_count(alloc, at, pushed)?;
         Ok(code)
     }
 

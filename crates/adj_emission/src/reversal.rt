@@ -2,12 +2,12 @@
 
 ghost use Rattle.std.specs.Prelude.{◌≡◌, ℕ, List, IfOk, pos};
 ghost use Rattle.adj_tree.specs.Code.{Code, plain, helper, turn, count, entry, entries, kind, lower, upper, minus, var, lit, bin, compare, is_same, begin_reversal, count_actions, give_action};
-ghost use Rattle.adj_tree.specs.View.{term_of, terms_of, test_of, runtime_of, act_of, code_of};
+ghost use Rattle.adj_tree.specs.View.{term_of, terms_of, test_of, runtime_of, mark_of, act_of, code_of};
 ghost use Rattle.adj_meaning.specs.Append.{◌+++◌};
-ghost use Rattle.adj_meaning.specs.Rename.{rename};
+ghost use Rattle.adj_meaning.specs.Rename.{rename_term, rename};
 ghost use Rattle.adj_reverse.specs.Plan.{Callee, actuals_named};
 ghost use Rattle.adj_reverse.specs.Emission.{is_empty, literal};
-ghost use Rattle.adj_reverse.specs.ReversalCode.{at_turn, advance, arm, arms, one_action, reversal};
+ghost use Rattle.adj_reverse.specs.ReversalCode.{at_turn, advance, arm, arms, slots_of, one_action, reversal};
 ghost use Rattle.adj_naming.specs.Roles.{role_of};
 ghost use Rattle.adj_emission.specs.Plans.{naming_in, plan_of};
 ghost use Rattle.adj_emission.specs.Rows.{turns};
@@ -15,20 +15,21 @@ ghost use Rattle.adj_emission.specs.Steps.{keep_of, back_of, plain_of, adjoint_o
 
 use crate::actuals::{Actual, Group};
 use crate::plan::{At, Plan};
+use crate::slots::literal;
 use adj_naming::role::Role;
 use adj_site::step::{before, scalar_assignment};
 use adj_tree::{Act, Cond, Expr, Exprs, Mark, Memory, Name, Op, Rel, RunCall, Stmt, Stmts};
 use std::alloc::Global;
 
 /// A step call as the rows of its loop write it: its unit, the names that are given, the actuals with their dummies, the adjoint of the
-/// unit, and the number of snapshots.
+/// unit, and the mark of the loop, which tells how many snapshots there are.
 #[derive(Clone, Copy)]
 pub struct Step<'c, 's> {
     pub name: &'c Name,
     pub given: &'s [Name],
     pub actuals: &'s [Actual],
     pub adjoint: &'s Name,
-    pub snapshots: u32,
+    pub mark: &'c Mark,
 }
 
 // Names as actuals.
@@ -51,13 +52,6 @@ pub fn plain_step(alloc: Global, line: u32, step: &Step) -> Result<Stmts, Memory
     let act = Act::Call(step.name.copy(alloc)?, given);
     let code = before(alloc, Stmt { line, act }, Stmts::Empty)?;
     Ok(code)
-}
-
-// A number as a term.
-fn literal(n: u32) -> Expr
-    ensures literal { term_of result ≡ literal n }
-{
-    Expr::Lit(i64::from(n))
 }
 
 // Whether there is no statement.
@@ -194,15 +188,15 @@ impl<'a> Plan<'a> {
     }
 
     // The call that gives an action of the schedule.
-    fn give(&self, alloc: Global, depth: usize, snapshots: u32) -> Result<RunCall, Memory>
-        ensures call { IfOk result (λ c. runtime_of c ≡ give_action (var (naming_in self.now (helper count depth))) (literal snapshots) (var (naming_in self.now (helper entry depth))) (naming_in self.now (helper kind depth)) (naming_in self.now (helper lower depth)) (naming_in self.now (helper upper depth))) }
+    fn give(&self, alloc: Global, depth: usize, mark: &Mark) -> Result<RunCall, Memory>
+        ensures call { IfOk result (λ c. runtime_of c ≡ give_action (var (naming_in self.now (helper count depth))) (rename_term (naming_in self.now) (slots_of depth (mark_of mark.now))) (var (naming_in self.now (helper entry depth))) (naming_in self.now (helper kind depth)) (naming_in self.now (helper lower depth)) (naming_in self.now (helper upper depth))) }
     {
         let steps = self.own_at(alloc, Role::Count, depth)?;
+        let stored = self.slots_of(alloc, depth, mark)?;
         let number = self.own_at(alloc, Role::Entry, depth)?;
         let kind = self.names.helper(alloc, Role::Kind, depth)?;
         let lower = self.names.helper(alloc, Role::Lower, depth)?;
         let upper = self.names.helper(alloc, Role::Upper, depth)?;
-        let stored = literal(snapshots);
         Ok(RunCall::Action(steps, stored, number, kind, lower, upper))
     }
 
@@ -214,10 +208,10 @@ impl<'a> Plan<'a> {
         variable: &Name,
         step: &Step,
     ) -> Result<Stmts, Memory>
-        ensures action { IfOk result (λ c. (callees : List ℕ → Callee) → code_of c ≡ rename (naming_in self.now) (one_action at.line at.depth (plain variable.now) step.now.snapshots (keep_of (plan_of self.now callees) at.number at.line step.now) (back_of (plan_of self.now callees) at.number at.line step.now) (plain_of at.line step.now) (adjoint_of at.line step.now))) }
+        ensures action { IfOk result (λ c. (callees : List ℕ → Callee) → code_of c ≡ rename (naming_in self.now) (one_action at.line at.depth (plain variable.now) (slots_of at.depth (mark_of step.now.mark.now)) (keep_of (plan_of self.now callees) at.number at.line step.now) (back_of (plan_of self.now callees) at.number at.line step.now) (plain_of at.line step.now) (adjoint_of at.line step.now))) }
     {
         let arms = self.arms(alloc, at, variable, step)?;
-        let act = Act::Run(self.give(alloc, at.depth, step.snapshots)?);
+        let act = Act::Run(self.give(alloc, at.depth, step.mark)?);
         let line = at.line;
         let code = before(alloc, Stmt { line, act }, arms)?;
         Ok(code)
@@ -225,7 +219,7 @@ impl<'a> Plan<'a> {
 
     // The loop over the actions of the schedule.
     fn actions(&self, alloc: Global, at: At, variable: &Name, step: &Step) -> Result<Act, Memory>
-        ensures actions { IfOk result (λ a. (callees : List ℕ → Callee) → act_of a ≡ turns (naming_in self.now (helper entry at.depth)) (lit (pos 1)) (var (naming_in self.now (helper entries at.depth))) (lit (pos 1)) (rename (naming_in self.now) (one_action at.line at.depth (plain variable.now) step.now.snapshots (keep_of (plan_of self.now callees) at.number at.line step.now) (back_of (plan_of self.now callees) at.number at.line step.now) (plain_of at.line step.now) (adjoint_of at.line step.now)))) }
+        ensures actions { IfOk result (λ a. (callees : List ℕ → Callee) → act_of a ≡ turns (naming_in self.now (helper entry at.depth)) (lit (pos 1)) (var (naming_in self.now (helper entries at.depth))) (lit (pos 1)) (rename (naming_in self.now) (one_action at.line at.depth (plain variable.now) (slots_of at.depth (mark_of step.now.mark.now)) (keep_of (plan_of self.now callees) at.number at.line step.now) (back_of (plan_of self.now callees) at.number at.line step.now) (plain_of at.line step.now) (adjoint_of at.line step.now)))) }
     {
         let body = self.one_action(alloc, at, variable, step)?;
         let number = self.names.helper(alloc, Role::Entry, at.depth)?;
@@ -235,20 +229,22 @@ impl<'a> Plan<'a> {
     }
 
     // The call that begins the reversal.
-    fn begin(&self, alloc: Global, depth: usize, snapshots: u32) -> Result<RunCall, Memory>
-        ensures call { IfOk result (λ c. runtime_of c ≡ begin_reversal (var (naming_in self.now (helper count depth))) (literal snapshots)) }
+    fn begin(&self, alloc: Global, depth: usize, mark: &Mark) -> Result<RunCall, Memory>
+        ensures call { IfOk result (λ c. runtime_of c ≡ begin_reversal (var (naming_in self.now (helper count depth))) (rename_term (naming_in self.now) (slots_of depth (mark_of mark.now)))) }
     {
         let steps = self.own_at(alloc, Role::Count, depth)?;
-        Ok(RunCall::Begin(steps, literal(snapshots)))
+        let stored = self.slots_of(alloc, depth, mark)?;
+        Ok(RunCall::Begin(steps, stored))
     }
 
     // The call that counts the actions of the schedule.
-    fn count(&self, alloc: Global, depth: usize, snapshots: u32) -> Result<RunCall, Memory>
-        ensures call { IfOk result (λ c. runtime_of c ≡ count_actions (var (naming_in self.now (helper count depth))) (literal snapshots) (naming_in self.now (helper entries depth))) }
+    fn count(&self, alloc: Global, depth: usize, mark: &Mark) -> Result<RunCall, Memory>
+        ensures call { IfOk result (λ c. runtime_of c ≡ count_actions (var (naming_in self.now (helper count depth))) (rename_term (naming_in self.now) (slots_of depth (mark_of mark.now))) (naming_in self.now (helper entries depth))) }
     {
         let steps = self.own_at(alloc, Role::Count, depth)?;
+        let stored = self.slots_of(alloc, depth, mark)?;
         let made = self.names.helper(alloc, Role::Entries, depth)?;
-        Ok(RunCall::Actions(steps, literal(snapshots), made))
+        Ok(RunCall::Actions(steps, stored, made))
     }
 
     /// The reversal of a marked loop, and then the rest.
@@ -260,16 +256,16 @@ impl<'a> Plan<'a> {
         step: &Step,
         rest: Stmts,
     ) -> Result<Stmts, Memory>
-        ensures reversal { IfOk result (λ c. (callees : List ℕ → Callee) → code_of c ≡ rename (naming_in self.now) (reversal at.line at.depth (plain variable.now) step.now.snapshots (keep_of (plan_of self.now callees) at.number at.line step.now) (back_of (plan_of self.now callees) at.number at.line step.now) (plain_of at.line step.now) (adjoint_of at.line step.now)) +++ code_of rest) }
+        ensures reversal { IfOk result (λ c. (callees : List ℕ → Callee) → code_of c ≡ rename (naming_in self.now) (reversal at.line at.depth (plain variable.now) (slots_of at.depth (mark_of step.now.mark.now)) (keep_of (plan_of self.now callees) at.number at.line step.now) (back_of (plan_of self.now callees) at.number at.line step.now) (plain_of at.line step.now) (adjoint_of at.line step.now)) +++ code_of rest) }
     {
         let line = at.line;
         let act = Act::Run(RunCall::End);
         let ended = before(alloc, Stmt { line, act }, rest)?;
         let act = self.actions(alloc, at, variable, step)?;
         let gone = before(alloc, Stmt { line, act }, ended)?;
-        let act = Act::Run(self.count(alloc, at.depth, step.snapshots)?);
+        let act = Act::Run(self.count(alloc, at.depth, step.mark)?);
         let counted = before(alloc, Stmt { line, act }, gone)?;
-        let act = Act::Run(self.begin(alloc, at.depth, step.snapshots)?);
+        let act = Act::Run(self.begin(alloc, at.depth, step.mark)?);
         let code = before(alloc, Stmt { line, act }, counted)?;
         Ok(code)
     }

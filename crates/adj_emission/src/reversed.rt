@@ -2,7 +2,7 @@
 
 ghost use Rattle.std.specs.Prelude.{◌≡◌, ℕ, List, Some, IfOk, suc};
 ghost use Rattle.adj_tree.specs.Code.{Code, Mark, plain, none, runtime, push_word, pop_word};
-ghost use Rattle.adj_tree.specs.View.{term_of, code_of};
+ghost use Rattle.adj_tree.specs.View.{term_of, mark_of, code_of};
 ghost use Rattle.adj_meaning.specs.Append.{◌+++◌, one};
 ghost use Rattle.adj_meaning.specs.Rename.{rename};
 ghost use Rattle.adj_transpose.specs.Marks.{Vars};
@@ -40,14 +40,14 @@ fn step_with<'c, 's>(
     ensures given { result.given.now ≡ given.now }
     ensures actuals { result.actuals.now ≡ actuals.now }
     ensures adjoint { result.adjoint.now ≡ adjoint.now }
-    ensures snapshots { result.snapshots ≡ call.now.snapshots }
+    ensures mark { mark_of result.mark.now ≡ mark_of call.now.mark.now }
 {
     Step {
         name: call.name,
         given,
         actuals,
         adjoint,
-        snapshots: call.snapshots,
+        mark: call.mark,
     }
 }
 
@@ -73,16 +73,20 @@ impl<'a> Plan<'a> {
         step: &Step,
         turned: Stmts,
     ) -> Result<Stmts, Memory>
-        ensures forward { IfOk result (λ c. (callees : List ℕ → Callee) → in_order (code_of c) ≡ in_order (code_of turned) +++ rename (naming_in self.now) (reversed_forward at.depth at.line (plain bounds.now.variable.now) (term_of bounds.now.first.now) (term_of bounds.now.limit.now) (term_of bounds.now.step.now) (save_of (plan_of self.now callees) at.number at.line step.now) (keep_of (plan_of self.now callees) at.number at.line step.now) (code_if ((marks_of self.now.marks.now).kept (suc at.number)) (plain_of at.line step.now)))) }
+        ensures forward { IfOk result (λ c. (callees : List ℕ → Callee) → in_order (code_of c) ≡ in_order (code_of turned) +++ rename (naming_in self.now) (reversed_forward at.depth at.line (plain bounds.now.variable.now) (term_of bounds.now.first.now) (term_of bounds.now.limit.now) (term_of bounds.now.step.now) (mark_of step.now.mark.now) (save_of (plan_of self.now callees) at.number at.line step.now) (keep_of (plan_of self.now callees) at.number at.line step.now) (code_if ((marks_of self.now.marks.now).kept (suc at.number)) (plain_of at.line step.now)))) }
     {
         let given = step.actuals;
-        let opened = self.open_turns(alloc, at, bounds, turned)?;
+        let bound = self.set_bounds(alloc, at, bounds, turned)?;
+        let told = self.set_slots(alloc, at, step.mark, bound)?;
+        let opened = self.set_count(alloc, at, told)?;
         let saved = self.pushes(alloc, at.number, at.line, Group::Save, given, opened)?;
         let kept = self.pushes(alloc, at.number, at.line, Group::Step, given, saved)?;
         let call = self.step_kept(alloc, at, step)?;
         let turns = self.counted_turns(alloc, at, bounds, call)?;
         let gone = before(alloc, turns, kept)?;
-        let code = self.close_turns(alloc, at, gone)?;
+        let pushed = self.push_bounds(alloc, at, gone)?;
+        let stored = self.push_slots(alloc, at, step.mark, pushed)?;
+        let code = self.push_count(alloc, at, stored)?;
         Ok(code)
     }
 
@@ -95,7 +99,7 @@ impl<'a> Plan<'a> {
         step: &Step,
         rest: Stmts,
     ) -> Result<Stmts, Memory>
-        ensures backward { IfOk result (λ c. (callees : List ℕ → Callee) → code_of c ≡ rename (naming_in self.now) (reversed_backward at.depth at.line (plain variable.now) step.now.snapshots (keep_of (plan_of self.now callees) at.number at.line step.now) (back_of (plan_of self.now callees) at.number at.line step.now) (unsave_of (plan_of self.now callees) at.number at.line step.now) (plain_of at.line step.now) (adjoint_of at.line step.now)) +++ code_of rest) }
+        ensures backward { IfOk result (λ c. (callees : List ℕ → Callee) → code_of c ≡ rename (naming_in self.now) (reversed_backward at.depth at.line (plain variable.now) (mark_of step.now.mark.now) (keep_of (plan_of self.now callees) at.number at.line step.now) (back_of (plan_of self.now callees) at.number at.line step.now) (unsave_of (plan_of self.now callees) at.number at.line step.now) (plain_of at.line step.now) (adjoint_of at.line step.now)) +++ code_of rest) }
     {
         let given = step.actuals;
         let unsaved = self.pops(alloc, at.number, at.line, Group::Save, given, rest)?;
@@ -103,7 +107,8 @@ impl<'a> Plan<'a> {
         let back = self.back(alloc, at, step, reversed)?;
         let begun = self.pop_own(alloc, at.line, of_depth(Role::First, at.depth), back)?;
         let stepped = self.pop_own(alloc, at.line, of_depth(Role::Stride, at.depth), begun)?;
-        let code = self.pop_own(alloc, at.line, of_depth(Role::Count, at.depth), stepped)?;
+        let stored = self.pop_slots(alloc, at, step.mark, stepped)?;
+        let code = self.pop_own(alloc, at.line, of_depth(Role::Count, at.depth), stored)?;
         Ok(code)
     }
 
@@ -116,7 +121,7 @@ impl<'a> Plan<'a> {
         step: &Step,
         turned: Stmts,
     ) -> Result<Stmts, Memory>
-        ensures forward { IfOk result (λ c. (callees : List ℕ → Callee) → in_order (code_of c) ≡ in_order (code_of turned) +++ (code_if ((marks_of self.now.marks.now).saved at.number (plain bounds.now.variable.now)) (one at.line (runtime (push_word (plain bounds.now.variable.now) none))) +++ rename (naming_in self.now) (reversed_forward at.depth at.line (plain bounds.now.variable.now) (term_of bounds.now.first.now) (term_of bounds.now.limit.now) (term_of bounds.now.step.now) (save_of (plan_of self.now callees) at.number at.line step.now) (keep_of (plan_of self.now callees) at.number at.line step.now) (code_if ((marks_of self.now.marks.now).kept (suc at.number)) (plain_of at.line step.now))))) }
+        ensures forward { IfOk result (λ c. (callees : List ℕ → Callee) → in_order (code_of c) ≡ in_order (code_of turned) +++ (code_if ((marks_of self.now.marks.now).saved at.number (plain bounds.now.variable.now)) (one at.line (runtime (push_word (plain bounds.now.variable.now) none))) +++ rename (naming_in self.now) (reversed_forward at.depth at.line (plain bounds.now.variable.now) (term_of bounds.now.first.now) (term_of bounds.now.limit.now) (term_of bounds.now.step.now) (mark_of step.now.mark.now) (save_of (plan_of self.now callees) at.number at.line step.now) (keep_of (plan_of self.now callees) at.number at.line step.now) (code_if ((marks_of self.now.marks.now).kept (suc at.number)) (plain_of at.line step.now))))) }
     {
         let variable = Place {
             name: bounds.variable.copy(alloc)?,
@@ -136,7 +141,7 @@ impl<'a> Plan<'a> {
         step: &Step,
         rest: Stmts,
     ) -> Result<Stmts, Memory>
-        ensures backward { IfOk result (λ c. (callees : List ℕ → Callee) → code_of c ≡ rename (naming_in self.now) (reversed_backward at.depth at.line (plain variable.now) step.now.snapshots (keep_of (plan_of self.now callees) at.number at.line step.now) (back_of (plan_of self.now callees) at.number at.line step.now) (unsave_of (plan_of self.now callees) at.number at.line step.now) (plain_of at.line step.now) (adjoint_of at.line step.now)) +++ (code_if ((marks_of self.now.marks.now).saved at.number (plain variable.now)) (one at.line (runtime (pop_word (plain variable.now) none))) +++ (rename (naming_in self.now) (reset (marks_of self.now.marks.now) at.number at.line variable.now) +++ code_of rest))) }
+        ensures backward { IfOk result (λ c. (callees : List ℕ → Callee) → code_of c ≡ rename (naming_in self.now) (reversed_backward at.depth at.line (plain variable.now) (mark_of step.now.mark.now) (keep_of (plan_of self.now callees) at.number at.line step.now) (back_of (plan_of self.now callees) at.number at.line step.now) (unsave_of (plan_of self.now callees) at.number at.line step.now) (plain_of at.line step.now) (adjoint_of at.line step.now)) +++ (code_if ((marks_of self.now.marks.now).saved at.number (plain variable.now)) (one at.line (runtime (pop_word (plain variable.now) none))) +++ (rename (naming_in self.now) (reset (marks_of self.now.marks.now) at.number at.line variable.now) +++ code_of rest))) }
     {
         let cleared = self.reset(alloc, at.number, at.line, variable, rest)?;
         let place = Place {

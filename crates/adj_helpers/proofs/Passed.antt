@@ -5,7 +5,7 @@ use Rattle.adj_tree.specs.Code.{Act, Code, stop, step}
 use Rattle.adj_transpose.specs.Marks.{next, behind}
 use Rattle.adj_reverse.specs.Plan.{Plan, Schedules}
 use Rattle.adj_reverse.specs.Emission.{is_empty, backward_act_with, backward_with}
-use Rattle.adj_reverse.specs.Program.{is_do, is_loop, works_used, temps_used, depth_used_with, tells_some_with, goes_back_act_with, goes_back_with, reverses_act, reverses}
+use Rattle.adj_reverse.specs.Program.{is_do, is_loop, works_used, temps_used, depth_used_with, tells_some_with, goes_back_act_with, goes_back_with, any_step, has_slots, reverses_act_by, reverses_by}
 use Rattle.adj_helpers.specs.declared.depths.Depths.{Depths}
 use Rattle.adj_helpers.specs.declared.uses.Used.{Used}
 use Rattle.adj_helpers.specs.Depths.{has_depth, AddsAct, AddsList}
@@ -35,7 +35,8 @@ pub record Passed (r : Schedules) (p : Plan) (d i : ℕ) (whole left : Code) (u 
 pub record Deeper (r : Schedules) (p : Plan) (d i : ℕ) (whole left : Code) (k : ℕ) (old new : Depths) : Type 0 where
   pub dos : (n : ℕ) → (has_depth new.dos.items n || goes_back_with r is_do n p k d left) ≡ (has_depth old.dos.items n || goes_back_with r is_do n p i d whole)
   pub loops : (n : ℕ) → (has_depth new.loops.items n || goes_back_with r is_loop n p k d left) ≡ (has_depth old.loops.items n || goes_back_with r is_loop n p i d whole)
-  pub reversed : (n : ℕ) → (has_depth new.reversed.items n || reverses r n p k d left) ≡ (has_depth old.reversed.items n || reverses r n p i d whole)
+  pub reversed : (n : ℕ) → (has_depth new.reversed.items n || reverses_by r any_step n p k d left) ≡ (has_depth old.reversed.items n || reverses_by r any_step n p i d whole)
+  pub slots : (n : ℕ) → (has_depth new.slots.items n || reverses_by r has_slots n p k d left) ≡ (has_depth old.slots.items n || reverses_by r has_slots n p i d whole)
 
 -- ---- one statement more
 
@@ -86,10 +87,15 @@ deeper_more r p d i line a whole current left n m old mid new is at adds h = rec
       ∙ ap (λ z. has_depth mid.loops.items k || goes_back_with r is_loop k p n d z) (sym is)
       ∙ h.loops k;
   reversed = λ k.
-      (λ z. adds.reversed k z || reverses r k p (at z) d left)
-      ∙ or_assoc (has_depth mid.reversed.items k) (reverses_act r k p n d a) (reverses r k p (next n a) d left)
-      ∙ ap (λ z. has_depth mid.reversed.items k || reverses r k p n d z) (sym is)
+      (λ z. adds.reversed k z || reverses_by r any_step k p (at z) d left)
+      ∙ or_assoc (has_depth mid.reversed.items k) (reverses_act_by r any_step k p n d a) (reverses_by r any_step k p (next n a) d left)
+      ∙ ap (λ z. has_depth mid.reversed.items k || reverses_by r any_step k p n d z) (sym is)
       ∙ h.reversed k;
+  slots = λ k.
+      (λ z. adds.slots k z || reverses_by r has_slots k p (at z) d left)
+      ∙ or_assoc (has_depth mid.slots.items k) (reverses_act_by r has_slots k p n d a) (reverses_by r has_slots k p (next n a) d left)
+      ∙ ap (λ z. has_depth mid.slots.items k || reverses_by r has_slots k p n d z) (sym is)
+      ∙ h.slots k;
 }
 
 -- ---- all of them
@@ -111,5 +117,6 @@ pub deeper_all : (r : Schedules) (p : Plan) (d i : ℕ) (whole left : Code) (n :
 deeper_all r p d i whole left n old new is h = record {
   dos = λ k. sym (or_false (has_depth new.dos.items k)) ∙ ap (λ z. has_depth new.dos.items k || goes_back_with r is_do k p n d z) (sym is) ∙ h.dos k;
   loops = λ k. sym (or_false (has_depth new.loops.items k)) ∙ ap (λ z. has_depth new.loops.items k || goes_back_with r is_loop k p n d z) (sym is) ∙ h.loops k;
-  reversed = λ k. sym (or_false (has_depth new.reversed.items k)) ∙ ap (λ z. has_depth new.reversed.items k || reverses r k p n d z) (sym is) ∙ h.reversed k;
+  reversed = λ k. sym (or_false (has_depth new.reversed.items k)) ∙ ap (λ z. has_depth new.reversed.items k || reverses_by r any_step k p n d z) (sym is) ∙ h.reversed k;
+  slots = λ k. sym (or_false (has_depth new.slots.items k)) ∙ ap (λ z. has_depth new.slots.items k || reverses_by r has_slots k p n d z) (sym is) ∙ h.slots k;
 }

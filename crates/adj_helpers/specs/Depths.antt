@@ -3,7 +3,7 @@ use Rattle.std.specs.Prelude.{◌≡◌, ℕ, suc, List, Bool, false, ◌||◌, 
 use Rattle.adj_tree.specs.Code.{plain, Term, Mark, Act, loop, Code}
 use Rattle.adj_reverse.specs.Plan.{Plan, Schedules}
 use Rattle.adj_reverse.specs.Emission.{is_empty, backward_with}
-use Rattle.adj_reverse.specs.Program.{is_do, is_loop, goes_back_act_with, goes_back_with, reverses_act, reverses}
+use Rattle.adj_reverse.specs.Program.{is_do, is_loop, goes_back_act_with, goes_back_with, any_step, has_slots, reverses_act_by, reverses_by}
 use Rattle.adj_helpers.specs.declared.depths.Depths.{Depths}
 
 -- whether the depth is in the set, which has a flag for each depth that it knows
@@ -22,13 +22,15 @@ IsSame old new = (k : ℕ) → has_depth new k ≡ has_depth old k
 pub record AddsAct (r : Schedules) (p : Plan) (d i : ℕ) (a : Act) (old new : Depths) : Type 0 where
   pub dos : (k : ℕ) → has_depth new.dos.items k ≡ (has_depth old.dos.items k || goes_back_act_with r is_do k p i d a)
   pub loops : (k : ℕ) → has_depth new.loops.items k ≡ (has_depth old.loops.items k || goes_back_act_with r is_loop k p i d a)
-  pub reversed : (k : ℕ) → has_depth new.reversed.items k ≡ (has_depth old.reversed.items k || reverses_act r k p i d a)
+  pub reversed : (k : ℕ) → has_depth new.reversed.items k ≡ (has_depth old.reversed.items k || reverses_act_by r any_step k p i d a)
+  pub slots : (k : ℕ) → has_depth new.slots.items k ≡ (has_depth old.slots.items k || reverses_act_by r has_slots k p i d a)
 
 -- those of a list
 pub record AddsList (r : Schedules) (p : Plan) (d i : ℕ) (c : Code) (old new : Depths) : Type 0 where
   pub dos : (k : ℕ) → has_depth new.dos.items k ≡ (has_depth old.dos.items k || goes_back_with r is_do k p i d c)
   pub loops : (k : ℕ) → has_depth new.loops.items k ≡ (has_depth old.loops.items k || goes_back_with r is_loop k p i d c)
-  pub reversed : (k : ℕ) → has_depth new.reversed.items k ≡ (has_depth old.reversed.items k || reverses r k p i d c)
+  pub reversed : (k : ℕ) → has_depth new.reversed.items k ≡ (has_depth old.reversed.items k || reverses_by r any_step k p i d c)
+  pub slots : (k : ℕ) → has_depth new.slots.items k ≡ (has_depth old.slots.items k || reverses_by r has_slots k p i d c)
 
 -- those of a DO of this depth, from what its body adds
 abbrev pub AddsLoop : Schedules → Plan → ℕ → ℕ → List ℕ → Code → Mark → Bool → Depths → Depths → Type 0

@@ -1,6 +1,6 @@
 -- Marked loops that are reversed by schedules, as the code speaks of them.
 use Rattle.std.specs.Prelude.{ℕ, List, Bool, true, false, Option, Some, None}
-use Rattle.adj_tree.specs.View.{terms_of}
+use Rattle.adj_tree.specs.View.{terms_of, mark_of}
 use Rattle.adj_transpose.specs.Marks.{Vars}
 use Rattle.adj_reverse.specs.Plan.{names_of, Schedules, schedules_from, Step}
 use Rattle.adj_helpers.specs.declared.steps.MarkedLoops.{MarkedLoops}
@@ -19,4 +19,4 @@ schedules_for loops reads = schedules_from (are_reversed loops) reads
 -- how a loop is reversed that has this step call
 abbrev pub step_of : (List ℕ → Vars) → Option StepCall → Option Step
 step_of reads None = None
-step_of reads (Some s) = Some (record { name = s.name.now; given = names_of (terms_of s.actuals.now); read = reads s.name.now; snapshots = s.snapshots })
+step_of reads (Some s) = Some (record { name = s.name.now; given = names_of (terms_of s.actuals.now); read = reads s.name.now; mark = mark_of s.mark.now })

@@ -1,6 +1,6 @@
 -- What statements use of helpers, as the walk counts it.
 use Rattle.std.specs.Prelude.{◌≡◌, ℕ, suc, List, [], ◌∷◌, ◌++◌, Bool, false, ◌&&◌, ◌||◌, Some, None, if◌then◌else◌}
-use Rattle.adj_tree.specs.Code.{Var, plain, helper, work, temp, control, first, stride, count, turn, entry, entries, kind, lower, upper, Term, Test, Mark, Act, choose, loop, during, Code}
+use Rattle.adj_tree.specs.Code.{Var, plain, helper, work, temp, control, first, stride, count, turn, entry, entries, kind, lower, upper, slots, Term, Test, Mark, Act, choose, loop, during, Code}
 use Rattle.adj_transpose.specs.Marks.{Vars, next, behind}
 use Rattle.adj_transpose.specs.Program.{helpers_from}
 use Rattle.adj_reverse.specs.Plan as sweeps
@@ -68,11 +68,13 @@ UsesReversed r p depth i x inner u = (body : Code) (m : Mark) (s : Step) → rev
 abbrev pub UsesWhile : Schedules → Plan → ℕ → ℕ → Used → Used → Type 0
 UsesWhile r p depth i inner u = (d : ℕ) (c : Test) (body : Code) → depth ≡ suc d → UsesList r p (suc d) (suc i) body inner → UsesAct r p d i (during c body) u
 
--- the helpers of loops that are reversed by a schedule, at the depths of a set
-abbrev pub reversal_helpers_of : ℕ → List Bool → List Var
-reversal_helpers_of depth flags =
+-- the helpers of loops that are reversed by a schedule, at the depths of a set, and of those among them whose number of snapshots is the
+-- value of a variable
+abbrev pub reversal_helpers_of : ℕ → List Bool → List Bool → List Var
+reversal_helpers_of depth flags others =
     let f = has_depth flags in
-    helpers_among f entry 1 depth ++ (helpers_among f entries 1 depth ++ (helpers_among f kind 1 depth ++ (helpers_among f lower 1 depth ++ helpers_among f upper 1 depth)))
+    helpers_among f entry 1 depth ++ (helpers_among f entries 1 depth ++ (helpers_among f kind 1 depth ++ (helpers_among f lower 1 depth
+    ++ (helpers_among f upper 1 depth ++ helpers_among (has_depth others) slots 1 depth))))
 
 -- the helpers that are declared, where this is used and loops go back at these depths
 abbrev pub helpers_of : Used → Depths → List Var
@@ -80,4 +82,4 @@ helpers_of u depths =
     (if u.tells then helper control 0 ∷ [] else [])
     ++ (helpers_among (has_depth depths.loops.items) count 1 u.depth ++ (helpers_among (has_depth depths.dos.items) first 1 u.depth
     ++ (helpers_among (has_depth depths.dos.items) stride 1 u.depth ++ (helpers_among (has_depth depths.loops.items) turn 1 u.depth
-    ++ (reversal_helpers_of u.depth depths.reversed.items ++ (helpers_from work 1 u.works ++ helpers_from temp 1 u.temps))))))
+    ++ (reversal_helpers_of u.depth depths.reversed.items depths.slots.items ++ (helpers_from work 1 u.works ++ helpers_from temp 1 u.temps))))))

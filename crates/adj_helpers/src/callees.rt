@@ -3,7 +3,7 @@
 ghost use Rattle.std.specs.Prelude.{◌≡◌};
 ghost use Rattle.adj_helpers.specs.Callees.{callee_named};
 
-use adj_naming::name_set::NameSet;
+use adj_sets::NameSet;
 use adj_tree::Name;
 
 /// A dummy of a unit: whether the unit writes it, whether it reads it, whether the unit's adjoint needs it at its entry, and whether it

@@ -3,7 +3,7 @@
 ghost use Rattle.std.specs.Prelude.{◌≡◌, ℕ, List, suc};
 ghost use Rattle.adj_tree.specs.View.{code_of, mark_of};
 ghost use Rattle.adj_transpose.specs.Marks.{Vars};
-ghost use Rattle.adj_reverse.specs.Plan.{step_in, reversed_by};
+ghost use Rattle.adj_reverse.specs.Plan.{is_from_variable, step_in, reversed_by};
 ghost use Rattle.adj_marking.specs.View.{marks_of};
 ghost use Rattle.adj_helpers.specs.Steps.{schedules_for, step_of};
 
@@ -19,17 +19,27 @@ pub enum MarkedLoops {
     Reversed,
 }
 
-/// How a marked loop is reversed: each turn calls this unit with these actuals, and there are so many snapshots.
+/// How a marked loop is reversed: each turn calls this unit with these actuals, and the mark tells how many snapshots there are.
 #[derive(Clone, Copy)]
 pub struct StepCall<'s> {
     pub name: &'s Name,
     pub actuals: &'s Exprs,
-    pub snapshots: u32,
+    pub mark: &'s Mark,
 }
 
-// The call that is the whole body of a loop, if it is one.
-fn only_call(body: &Stmts, snapshots: u32) -> Option<StepCall<'_>>
-    ensures step { (reads : List ℕ → Vars) → step_of reads result ≡ step_in reads snapshots (code_of body.now) }
+/// Whether the number of snapshots is the value of a variable.
+pub fn is_from_variable(mark: &Mark) -> bool
+    ensures from { result ≡ is_from_variable (mark_of mark.now) }
+{
+    match mark {
+        Mark::Plain | Mark::Count(_) => false,
+        Mark::From(_) => true,
+    }
+}
+
+// The call that is the whole body of a loop with this mark, if it is one.
+fn only_call<'s>(body: &'s Stmts, mark: &'s Mark) -> Option<StepCall<'s>>
+    ensures step { (reads : List ℕ → Vars) → step_of reads result ≡ step_in reads (mark_of mark.now) (code_of body.now) }
 {
     let Stmts::More(first, rest) = body else {
         return None;
@@ -41,7 +51,7 @@ fn only_call(body: &Stmts, snapshots: u32) -> Option<StepCall<'_>>
         Stmts::Empty => Some(StepCall {
             name,
             actuals,
-            snapshots,
+            mark,
         }),
         Stmts::More(_, _) => None,
     }
@@ -54,18 +64,20 @@ pub fn step_call<'s>(
     marks: &Marking<'_>,
     call: usize,
     body: &'s Stmts,
-    mark: &Mark,
+    mark: &'s Mark,
 ) -> Option<StepCall<'s>>
     ensures step { (reads : List ℕ → Vars) (i : ℕ) → call ≡ suc i → step_of reads result ≡ reversed_by (schedules_for loops reads) (marks_of marks.now).adjointed i (code_of body.now) (mark_of mark.now) }
 {
     let MarkedLoops::Reversed = loops else {
         return None;
     };
-    let Mark::Count(snapshots) = mark else {
-        return None;
-    };
-    if !marks.adjointed(call) {
-        return None;
+    match mark {
+        Mark::Plain => None,
+        Mark::Count(_) | Mark::From(_) => {
+            if !marks.adjointed(call) {
+                return None;
+            }
+            only_call(body, mark)
+        }
     }
-    only_call(body, *snapshots)
 }

@@ -41,8 +41,8 @@ impl<'a> Known<'a> {
     {
         let call = plus(number, 1)?;
         match step_call(self.loops, self.marks, call, turns.body, turns.mark) {
-            Some(_) => {
-                depths.add_reversed(depth)?;
+            Some(step) => {
+                depths.add_reversed(depth, step.mark)?;
                 Ok(self.reversed_loop(number, depth, turns.variable, inner))
             }
             None => {
@@ -128,15 +128,22 @@ impl<'a> Known<'a> {
     }
 }
 
-// The helpers of loops that are reversed by a schedule, behind the others.
-fn push_reversed(made: &mut Vec<Helper>, flags: &[bool], greatest: usize) -> Result<(), Memory>
-    ensures helpers { OnOk result (map variable_of made.new.items ≡ map variable_of made.old.items ++ reversal_helpers_of greatest flags.now) }
+// The helpers of loops that are reversed by a schedule, behind the others. `slots` are the depths of those whose number of snapshots is
+// the value of a variable.
+fn push_reversed(
+    made: &mut Vec<Helper>,
+    flags: &[bool],
+    slots: &[bool],
+    greatest: usize,
+) -> Result<(), Memory>
+    ensures helpers { OnOk result (map variable_of made.new.items ≡ map variable_of made.old.items ++ reversal_helpers_of greatest flags.now slots.now) }
 {
     push_among(made, Role::Entry, flags, greatest)?;
     push_among(made, Role::Entries, flags, greatest)?;
     push_among(made, Role::Kind, flags, greatest)?;
     push_among(made, Role::Lower, flags, greatest)?;
     push_among(made, Role::Upper, flags, greatest)?;
+    push_among(made, Role::Slots, slots, greatest)?;
     Ok(())
 }
 
@@ -155,7 +162,8 @@ fn helpers(alloc: Global, used: &Used, depths: &Depths) -> Result<Vec<Helper>, M
     push_among(&mut made, Role::First, depths.dos.as_slice(), used.depth)?;
     push_among(&mut made, Role::Stride, depths.dos.as_slice(), used.depth)?;
     push_among(&mut made, Role::Turn, depths.loops.as_slice(), used.depth)?;
-    push_reversed(&mut made, depths.reversed.as_slice(), used.depth)?;
+    let slots = depths.slots.as_slice();
+    push_reversed(&mut made, depths.reversed.as_slice(), slots, used.depth)?;
     push_helpers(&mut made, Role::Work, used.works)?;
     push_helpers(&mut made, Role::Temp, used.temps)?;
     Ok(made)

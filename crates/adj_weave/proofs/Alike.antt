@@ -1,7 +1,7 @@
 -- What is emitted for a unit is the same by marks that say the same of it.
 use Rattle.std.proofs.Common.{◌≡◌, ℕ, suc, List, [], ◌∷◌, ◌++◌, Bool, true, false, refl, sym, ap, ◌∙◌, subst, if◌then◌else◌}
 use Rattle.std.specs.Prelude.{◌&&◌, ◌||◌, ◌==◌, not, max, Option, Some, None}
-use Rattle.adj_tree.specs.Code.{plain, shadow, helper, Role, work, temp, control, first, stride, count, turn, entry, entries, kind, lower, upper, none, Term, Mark, unmarked, with_count, count_from, Act, assign, choose, loop, during, call, runtime, push_word, pop_word, zero_array, Code, stop, step}
+use Rattle.adj_tree.specs.Code.{plain, shadow, helper, Role, work, temp, control, first, stride, count, turn, entry, entries, kind, lower, upper, slots, none, Term, Mark, unmarked, with_count, count_from, Act, assign, choose, loop, during, call, runtime, push_word, pop_word, zero_array, Code, stop, step}
 use Rattle.adj_meaning.specs.Append.{◌+++◌, one}
 use Rattle.adj_transpose.specs.Marks.{Vars, Marks, next, behind}
 use Rattle.adj_transpose.specs.Marked.{code_if}
@@ -10,7 +10,7 @@ use Rattle.adj_reverse.specs.AdjointOf.{adjoint_where, works_in_where, temps_in_
 use Rattle.adj_reverse.specs.Plan.{Callee, Plan, names_of, actuals_named, found_or, group, snapshot_group, step_snapshot, Schedules, Step, step_in, reversed_by}
 use Rattle.adj_reverse.specs.Emission.{is_empty, push, pop, pushes, pops, literal, told_forward, told_backward, loop_forward, loop_backward, while_forward, while_backward, adjoint_call, forward_act_with, forward_with, backward_act_with, backward_with, cleared, adjoint_body_with}
 use Rattle.adj_reverse.specs.ReversalCode.{reversed_forward, reversed_backward, row_forward, row_backward}
-use Rattle.adj_reverse.specs.Program.{works_act, works_used, temps_act, temps_used, depth_act_with, depth_used_with, tells_act_with, tells_some_with, goes_back_act_with, goes_back_with, reverses_act, reverses, is_do, is_loop, helpers_among, loop_helpers_with, reversal_helpers, all_reversal_helpers, helpers_used_with}
+use Rattle.adj_reverse.specs.Program.{works_act, works_used, temps_act, temps_used, depth_act_with, depth_used_with, tells_act_with, tells_some_with, goes_back_act_with, goes_back_with, any_step, has_slots, reverses_act_by, reverses_by, is_do, is_loop, helpers_among, loop_helpers_with, reversal_helpers, all_reversal_helpers, helpers_used_with}
 use Rattle.adj_weave.specs.Alike.{AreSameAt, AreSameIn, AreSameOver}
 
 module _ (m n : Marks) (shadows : m.shadowed ≡ n.shadowed) where
@@ -71,8 +71,8 @@ module _ (m n : Marks) (shadows : m.shadowed ≡ n.shadowed) where
         go : (z : Schedules) (k : Mark) → reversed_by z f i stop k ≡ None
         go None k = refl
         go (Some reads) unmarked = refl
-        go (Some reads) (count_from x) = refl
         go (Some reads) (with_count e) = neither (f (suc i)) None
+        go (Some reads) (count_from x) = neither (f (suc i)) None
 
     reversed_at : (f g : ℕ → Bool) (i : ℕ) (body : Code) (k : Mark) → f (suc i) ≡ g (suc i) → reversed_by sc f i body k ≡ reversed_by sc g i body k
     reversed_at f g i body k e = go sc k
@@ -80,8 +80,8 @@ module _ (m n : Marks) (shadows : m.shadowed ≡ n.shadowed) where
         go : (z : Schedules) (k : Mark) → reversed_by z f i body k ≡ reversed_by z g i body k
         go None k = refl
         go (Some reads) unmarked = refl
-        go (Some reads) (count_from x) = refl
-        go (Some reads) (with_count c) = ap (λ b. if b then step_in reads c body else None) e
+        go (Some reads) (with_count c) = ap (λ b. if b then step_in reads (with_count c) body else None) e
+        go (Some reads) (count_from x) = ap (λ b. if b then step_in reads (count_from x) body else None) e
 
     reversed_same : (i : ℕ) (body : Code) (k : Mark) → AreSameOver m n (suc i) body → reversed_by sc m.adjointed i body k ≡ reversed_by sc n.adjointed i body k
     reversed_same i stop k h = none_in m.adjointed i k ∙ sym (none_in n.adjointed i k)
@@ -91,14 +91,14 @@ module _ (m n : Marks) (shadows : m.shadowed ≡ n.shadowed) where
     row_forward_same i d line x a b c t s kept =
         let g = callees t.name in
         let snapshot = pushes_same line (step_snapshot g t.read t.given) in
-        λ j. reversed_forward d line (plain x) a b c (pushes_same line (group g.written (s.saved j) g.dummies t.given) j) (snapshot j) (code_if (kept j) (one line (call t.name (actuals_named t.given))))
+        λ j. reversed_forward d line (plain x) a b c t.mark (pushes_same line (group g.written (s.saved j) g.dummies t.given) j) (snapshot j) (code_if (kept j) (one line (call t.name (actuals_named t.given))))
 
     row_backward_same : (i d line : ℕ) (x : List ℕ) (t : Step) → AreSameAt m n i → row_backward p i d line x t ≡ row_backward q i d line x t
     row_backward_same i d line x t s =
         let g = callees t.name in
         let keep = pushes_same line (step_snapshot g t.read t.given) in
         let back = pops_same line (step_snapshot g t.read t.given) in
-        λ j. reversed_backward d line (plain x) t.snapshots (keep j) (back j) (pops_same line (group g.written (s.saved j) g.dummies t.given) j) (one line (call t.name (actuals_named t.given))) (one line (adjoint_call g t.given))
+        λ j. reversed_backward d line (plain x) t.mark (keep j) (back j) (pops_same line (group g.written (s.saved j) g.dummies t.given) j) (one line (call t.name (actuals_named t.given))) (one line (adjoint_call g t.given))
 
     loop_forth : (i d line : ℕ) (x : List ℕ) (a b c : Term) (body : Code) (k : Mark) (y z : Code) → AreSameAt m n i → AreSameOver m n (suc i) body → y ≡ z →
         found_or (reversed_by sc m.adjointed i body k) y (λ t. row_forward p i d line x a b c t) ≡ found_or (reversed_by sc n.adjointed i body k) z (λ t. row_forward q i d line x a b c t)
@@ -241,22 +241,22 @@ module _ (m n : Marks) (shadows : m.shadowed ≡ n.shadowed) where
     loops_same : (sort : Act → Bool) (r : Role) (i : ℕ) (c : Code) → AreSameOver m n i c → loop_helpers_with sc sort r p i c ≡ loop_helpers_with sc sort r q i c
     loops_same sort r i c h = λ j. helpers_among (λ k. goes_same sort k i 0 c h j) r 1 (depth_same i 0 c h j)
 
-    module _ (depth : ℕ) where
+    module _ (sort : Step → Bool) (depth : ℕ) where
       mutual
-        reverses_act_same : (i d : ℕ) (a : Act) → AreSameIn m n i a → reverses_act sc depth p i d a ≡ reverses_act sc depth q i d a
+        reverses_act_same : (i d : ℕ) (a : Act) → AreSameIn m n i a → reverses_act_by sc sort depth p i d a ≡ reverses_act_by sc sort depth q i d a
         reverses_act_same i d (assign x subs e) h = refl
         reverses_act_same i d (choose c a b) h = λ j. reverses_same (suc i) d a h.0 j || reverses_same (behind (suc i) a) d b h.1 j
-        reverses_act_same i d (loop x a b c body k) h = λ j. found_or (reversed_same i body k h j) (reverses_same (suc i) (suc d) body h j) (λ t. depth == suc d)
+        reverses_act_same i d (loop x a b c body k) h = λ j. found_or (reversed_same i body k h j) (reverses_same (suc i) (suc d) body h j) (λ t. sort t && (depth == suc d))
         reverses_act_same i d (during c body) h = reverses_same (suc i) (suc d) body h
         reverses_act_same i d (call name args) h = refl
         reverses_act_same i d (runtime r) h = refl
 
-        reverses_same : (i d : ℕ) (c : Code) → AreSameOver m n i c → reverses sc depth p i d c ≡ reverses sc depth q i d c
+        reverses_same : (i d : ℕ) (c : Code) → AreSameOver m n i c → reverses_by sc sort depth p i d c ≡ reverses_by sc sort depth q i d c
         reverses_same i d stop h = refl
         reverses_same i d (step line a rest) h = λ j. reverses_act_same i d a h.1 j || reverses_same (next i a) d rest h.2 j
 
-    reversals_same : (r : Role) (i : ℕ) (c : Code) → AreSameOver m n i c → reversal_helpers sc r p i c ≡ reversal_helpers sc r q i c
-    reversals_same r i c h = λ j. helpers_among (λ k. reverses_same k i 0 c h j) r 1 (depth_same i 0 c h j)
+    reversals_same : (sort : Step → Bool) (r : Role) (i : ℕ) (c : Code) → AreSameOver m n i c → reversal_helpers sc sort r p i c ≡ reversal_helpers sc sort r q i c
+    reversals_same sort r i c h = λ j. helpers_among (λ k. reverses_same sort k i 0 c h j) r 1 (depth_same i 0 c h j)
 
     all_reversals_same : (i : ℕ) (c : Code) → AreSameOver m n i c → all_reversal_helpers sc p i c ≡ all_reversal_helpers sc q i c
     all_reversals_same i c h = go sc refl
@@ -264,8 +264,8 @@ module _ (m n : Marks) (shadows : m.shadowed ≡ n.shadowed) where
         go : (z : Schedules) → sc ≡ z → all_reversal_helpers z p i c ≡ all_reversal_helpers z q i c
         go None e = refl
         go (Some reads) e =
-            let same = λ (o : Role). subst (λ z. reversal_helpers z o p i c ≡ reversal_helpers z o q i c) e (reversals_same o i c h) in
-            λ j. same entry j ++ (same entries j ++ (same kind j ++ (same lower j ++ same upper j)))
+            let same = λ (sort : Step → Bool) (o : Role). subst (λ z. reversal_helpers z sort o p i c ≡ reversal_helpers z sort o q i c) e (reversals_same sort o i c h) in
+            λ j. same any_step entry j ++ (same any_step entries j ++ (same any_step kind j ++ (same any_step lower j ++ (same any_step upper j ++ same has_slots slots j))))
 
     -- ---- what is emitted
 

@@ -7,7 +7,7 @@ use Rattle.adj_reverse.specs.Plan.{names_of, found_or, Schedules, Step, step_in,
 use Rattle.adj_reverse.specs.Marking.{ProgramMarks}
 use Rattle.adj_reverse.specs.Program.{calls_act, calls_in, calls_some, turns_act, turns_in, turns_some, has_adjoint, is_kept_with, schedules_in}
 use Rattle.adj_weave.specs.Marked.{reads_in}
-use Rattle.adj_weave.specs.Orders.{turned, is_plain_call}
+use Rattle.adj_weave.specs.Orders.{only_called, turned, is_plain_call}
 
 -- whether a list has a call of the unit of a name that is in the set
 abbrev mutual
@@ -56,24 +56,27 @@ spread_left false b c = refl
 -- ---- the turns of a marked loop
 
 -- a body that is one call
-pub record IsTurned (m : Mark) (body : Code) (name : List ℕ) : Type 0 where
+pub record IsTurned (body : Code) (name : List ℕ) : Type 0 where
   pub line : ℕ
   pub args : Terms
   pub is : body ≡ step line (call name args) stop
 
-pub turned_is : (m : Mark) (body : Code) (name : List ℕ) → turned m body ≡ Some name → IsTurned m body name
-turned_is unmarked body name e = absurd cc
-turned_is (count_from x) body name e = absurd cc
-turned_is (with_count n) stop name e = absurd cc
-turned_is (with_count n) (step line (assign x subs a) rest) name e = absurd cc
-turned_is (with_count n) (step line (choose c a b) rest) name e = absurd cc
-turned_is (with_count n) (step line (loop x a b c body m) rest) name e = absurd cc
-turned_is (with_count n) (step line (during c body) rest) name e = absurd cc
-turned_is (with_count n) (step line (runtime r) rest) name e = absurd cc
-turned_is (with_count n) (step line (call other args) (step l a rest)) name e = absurd cc
-turned_is (with_count n) (step line (call other args) stop) name e =
+only_called_is : (body : Code) (name : List ℕ) → only_called body ≡ Some name → IsTurned body name
+only_called_is stop name e = absurd cc
+only_called_is (step line (assign x subs a) rest) name e = absurd cc
+only_called_is (step line (choose c a b) rest) name e = absurd cc
+only_called_is (step line (loop x a b c body m) rest) name e = absurd cc
+only_called_is (step line (during c body) rest) name e = absurd cc
+only_called_is (step line (runtime r) rest) name e = absurd cc
+only_called_is (step line (call other args) (step l a rest)) name e = absurd cc
+only_called_is (step line (call other args) stop) name e =
     let same : other ≡ name = cc in
     record { line = line; args = args; is = ap (λ z. step line (call z args) stop) same }
+
+pub turned_is : (m : Mark) (body : Code) (name : List ℕ) → turned m body ≡ Some name → IsTurned body name
+turned_is unmarked body name e = absurd cc
+turned_is (with_count n) body name e = only_called_is body name e
+turned_is (count_from x) body name e = only_called_is body name e
 
 -- one statement more comes behind it
 pub turned_behind : (m : Mark) (body : Code) (name : List ℕ) (i : ℕ) → turned m body ≡ Some name → behind i body ≡ suc i
@@ -123,19 +126,24 @@ module _ (reads : List ℕ → Vars) (adjointed : ℕ → Bool) (n : List ℕ) w
   one_step true s x f e = refl
   one_step false s x f e = sym e
 
+  -- of a body, with the mark of its loop
+  call_turns : (i : ℕ) (body : Code) (m : Mark) → has_in t n (suc i) body ≡ turns_in sc adjointed n (suc i) body →
+      found_or (only_called body) (has_in t n (suc i) body) (λ other. adjointed (suc i) && name_eq n other) ≡ found_or (if adjointed (suc i) then step_in reads m body else None) (turns_in sc adjointed n (suc i) body) (λ s. name_eq n s.name)
+  call_turns i stop m h = h ∙ sym (no_step (adjointed (suc i)) _ (λ s. name_eq n s.name))
+  call_turns i (step line (assign x subs a) rest) m h = h ∙ sym (no_step (adjointed (suc i)) _ (λ s. name_eq n s.name))
+  call_turns i (step line (choose c a b) rest) m h = h ∙ sym (no_step (adjointed (suc i)) _ (λ s. name_eq n s.name))
+  call_turns i (step line (loop x a b c body k) rest) m h = h ∙ sym (no_step (adjointed (suc i)) _ (λ s. name_eq n s.name))
+  call_turns i (step line (during c body) rest) m h = h ∙ sym (no_step (adjointed (suc i)) _ (λ s. name_eq n s.name))
+  call_turns i (step line (runtime r) rest) m h = h ∙ sym (no_step (adjointed (suc i)) _ (λ s. name_eq n s.name))
+  call_turns i (step line (call other args) (step l a rest)) m h = h ∙ sym (no_step (adjointed (suc i)) _ (λ s. name_eq n s.name))
+  call_turns i (step line (call other args) stop) m h =
+      one_step (adjointed (suc i)) (record { name = other; given = names_of args; read = reads other; mark = m }) false (λ s. name_eq n s.name) refl
+
   loop_turns : (i : ℕ) (body : Code) (m : Mark) → has_in t n (suc i) body ≡ turns_in sc adjointed n (suc i) body →
       found_or (turned m body) (has_in t n (suc i) body) (λ other. adjointed (suc i) && name_eq n other) ≡ found_or (reversed_by sc adjointed i body m) (turns_in sc adjointed n (suc i) body) (λ s. name_eq n s.name)
   loop_turns i body unmarked h = h
-  loop_turns i body (count_from x) h = h
-  loop_turns i stop (with_count k) h = h ∙ sym (no_step (adjointed (suc i)) _ (λ s. name_eq n s.name))
-  loop_turns i (step line (assign x subs a) rest) (with_count k) h = h ∙ sym (no_step (adjointed (suc i)) _ (λ s. name_eq n s.name))
-  loop_turns i (step line (choose c a b) rest) (with_count k) h = h ∙ sym (no_step (adjointed (suc i)) _ (λ s. name_eq n s.name))
-  loop_turns i (step line (loop x a b c body m) rest) (with_count k) h = h ∙ sym (no_step (adjointed (suc i)) _ (λ s. name_eq n s.name))
-  loop_turns i (step line (during c body) rest) (with_count k) h = h ∙ sym (no_step (adjointed (suc i)) _ (λ s. name_eq n s.name))
-  loop_turns i (step line (runtime r) rest) (with_count k) h = h ∙ sym (no_step (adjointed (suc i)) _ (λ s. name_eq n s.name))
-  loop_turns i (step line (call other args) (step l a rest)) (with_count k) h = h ∙ sym (no_step (adjointed (suc i)) _ (λ s. name_eq n s.name))
-  loop_turns i (step line (call other args) stop) (with_count k) h =
-      one_step (adjointed (suc i)) (record { name = other; given = names_of args; read = reads other; snapshots = k }) false (λ s. name_eq n s.name) refl
+  loop_turns i body (with_count k) h = call_turns i body (with_count k) h
+  loop_turns i body (count_from x) h = call_turns i body (count_from x) h
 
   mutual
     act_turns : (i : ℕ) (a : Act) → has_act t n i a ≡ turns_act sc adjointed n i a

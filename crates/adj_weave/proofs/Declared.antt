@@ -8,7 +8,7 @@ use Rattle.adj_tree.proofs.Names.{nat_same, name_same}
 use Rattle.adj_meaning.specs.Units.{declared}
 use Rattle.adj_transpose.specs.Fresh.{has_name}
 use Rattle.adj_transpose.proofs.Variables.{or_right, not_true}
-use Rattle.adj_naming.specs.Sets.{with_added}
+use Rattle.adj_sets.specs.Sets.{with_added}
 use Rattle.adj_naming.proofs.Added.{has-all_added}
 use Rattle.adj_naming.proofs.Places.{from_here}
 use Rattle.adj_weave.specs.Parts.{PassedBy}

@@ -11,8 +11,9 @@ use Rattle.adj_names.specs.Variables.{variables}
 use Rattle.adj_reverse.specs.Names.{source_names, adjoint_after, adjoint_name}
 use Rattle.adj_reverse.specs.Marking.{ProgramMarks, first_from, first_statement, place_from}
 use Rattle.adj_reverse.specs.Program.{has_adjoint, made_names}
-use Rattle.adj_naming.specs.Sets.{all_added}
-use Rattle.adj_naming.proofs.Added.{has-behind, SameNames, fresh_alike, once_same}
+use Rattle.adj_sets.specs.Sets.{all_added}
+use Rattle.adj_sets.proofs.NameSets.{has-behind}
+use Rattle.adj_naming.proofs.Added.{SameNames, fresh_alike, once_same}
 use Rattle.adj_weave.specs.Orders.{numbers_from, adjoints_from, flagged}
 use Rattle.adj_weave.proofs.Places.{At, at_map, at_rest, at_has}
 

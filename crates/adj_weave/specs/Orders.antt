@@ -27,12 +27,16 @@ adjoints_from taken (u ∷ us) = fresh (u.name ++ codes "_B") taken ∷ adjoints
 
 -- ---- calls
 
+-- what a list calls, if a call is all that it is
+abbrev pub only_called : Code → Option (List ℕ)
+only_called (step line (call name args) stop) = Some name
+only_called body = None
+
 -- what the turns of a marked loop call, if a call is all that they do
 abbrev pub turned : Mark → Code → Option (List ℕ)
-turned (with_count n) (step line (call name args) stop) = Some name
-turned (with_count n) body = None
 turned unmarked body = None
-turned (count_from x) body = None
+turned (with_count n) body = only_called body
+turned (count_from x) body = only_called body
 
 -- a call in the i-th statement, from a unit to one that is found; whether it is all that the turns of a marked loop do
 abbrev pub call_to : ℕ → ℕ → Bool → Option ℕ → List Call

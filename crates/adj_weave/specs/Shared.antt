@@ -10,7 +10,7 @@ use Rattle.adj_reverse.specs.Names.{adjoint_name}
 use Rattle.adj_reverse.specs.Marking.{ProgramMarks, marks_in, callee_in, first_statement}
 use Rattle.adj_checked.specs.Checked.{IsChecked}
 use Rattle.adj_emitted.specs.Shadowed.{AllHaveShadows}
-use Rattle.adj_naming.specs.Sets.{all_added}
+use Rattle.adj_sets.specs.Sets.{all_added}
 use Rattle.adj_marking.specs.View.{marks_of}
 use Rattle.adj_helpers.specs.Callees.{KnowsAll}
 use Rattle.adj_helpers.specs.Steps.{are_reversed}

@@ -7,7 +7,7 @@ ghost use Rattle.adj_transpose.specs.Fresh.{has_name};
 ghost use Rattle.adj_reverse.specs.Marking.{arrays_of};
 ghost use Rattle.adj_weave.specs.Parts.{PassedBy};
 
-use adj_naming::name_set::NameSet;
+use adj_sets::NameSet;
 use adj_tree::{Decl, Memory, Unit};
 use std::alloc::Global;
 

@@ -12,8 +12,8 @@ ghost use Rattle.adj_weave.specs.Orders.{dummies_said, said, said_of};
 
 use crate::marks::Marked;
 use adj_helpers::callees::{Callee, Callees, Dummy};
-use adj_naming::name_set::{NameSet, add_names};
 use adj_reach::flag_at;
+use adj_sets::{NameSet, add_names};
 use adj_tree::{Flags, Memory, Name, Unit};
 use adj_writes::{read_dummies, written_dummies};
 use std::alloc::Global;

@@ -4,12 +4,12 @@ ghost use Rattle.std.specs.Prelude.{◌≡◌, ◌++◌, IfOk, OnOk, map, option
 ghost use Rattle.adj_tree.specs.Code.{name_eq};
 ghost use Rattle.adj_tree.specs.View.{mark_of, act_of, code_of, procedure_of};
 ghost use Rattle.adj_transpose.specs.Marks.{next, behind};
-ghost use Rattle.adj_weave.specs.Orders.{turned, call_to, listed_act, listed_in, listed_from, counted, edges_of};
+ghost use Rattle.adj_weave.specs.Orders.{only_called, turned, call_to, listed_act, listed_in, listed_from, counted, edges_of};
 
 use crate::marks::Marked;
 use crate::numbers::after;
 use adj_helpers::steps::MarkedLoops;
-use adj_naming::name_set::NameSet;
+use adj_sets::NameSet;
 use adj_tree::{Act, Mark, Memory, Name, Stmts, Unit};
 use std::alloc::Global;
 
@@ -32,13 +32,10 @@ pub enum Counting {
     Adjointed,
 }
 
-// The unit that the turns of a marked loop call, if a call is all that they do.
-fn turned<'s>(body: &'s Stmts, mark: &Mark) -> Option<&'s Name>
-    ensures turned { option_map (λ r. r.now) result ≡ turned (mark_of mark.now) (code_of body.now) }
+// The unit that a list calls, if a call is all that it is.
+fn only_called(body: &Stmts) -> Option<&Name>
+    ensures called { option_map (λ r. r.now) result ≡ only_called (code_of body.now) }
 {
-    let Mark::Count(_) = mark else {
-        return None;
-    };
     let Stmts::More(first, rest) = body else {
         return None;
     };
@@ -48,6 +45,16 @@ fn turned<'s>(body: &'s Stmts, mark: &Mark) -> Option<&'s Name>
     match &**rest {
         Stmts::Empty => Some(name),
         Stmts::More(_, _) => None,
+    }
+}
+
+// The unit that the turns of a marked loop call, if a call is all that they do.
+fn turned<'s>(body: &'s Stmts, mark: &Mark) -> Option<&'s Name>
+    ensures turned { option_map (λ r. r.now) result ≡ turned (mark_of mark.now) (code_of body.now) }
+{
+    match mark {
+        Mark::Plain => None,
+        Mark::Count(_) | Mark::From(_) => only_called(body),
     }
 }
 

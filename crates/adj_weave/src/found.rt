@@ -13,8 +13,8 @@ ghost use Rattle.adj_weave.specs.Orders.{ends_of};
 use crate::calls::{Counting, edges, listed_calls};
 use crate::marks::Marked;
 use adj_helpers::steps::MarkedLoops;
-use adj_naming::name_set::NameSet;
 use adj_reach::{flag_at, reach};
+use adj_sets::NameSet;
 use adj_tree::{Flags, Memory, Unit};
 use std::alloc::Global;
 

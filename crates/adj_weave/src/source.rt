@@ -4,12 +4,12 @@ ghost use Rattle.std.specs.Prelude.{◌≡◌, ◌++◌, ◌∷◌, [], ℕ, Lis
 ghost use Rattle.adj_tree.specs.View.{procedure_of};
 ghost use Rattle.adj_names.specs.Variables.{variables};
 ghost use Rattle.adj_transpose.specs.Program.{unit_name};
-ghost use Rattle.adj_naming.specs.Sets.{all_added};
+ghost use Rattle.adj_sets.specs.Sets.{all_added};
 ghost use Rattle.adj_weave.specs.Orders.{adjoints_from, flagged};
 
 use adj_naming::joining::joined;
-use adj_naming::name_set::{NameSet, add_names};
 use adj_naming::taken::Taken;
+use adj_sets::{NameSet, add_names};
 use adj_symbols::variables;
 use adj_tree::{Memory, Name, NameList, Unit};
 use std::alloc::Global;

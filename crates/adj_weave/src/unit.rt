@@ -16,8 +16,8 @@ use adj_helpers::steps::MarkedLoops;
 use adj_helpers::used::helpers_used;
 use adj_helpers::uses::Known;
 use adj_marking::Marking;
-use adj_naming::name_set::NameSet;
 use adj_naming::naming::names;
+use adj_sets::NameSet;
 use adj_tree::{Items, Memory, Name, Unit};
 use std::alloc::Global;
 

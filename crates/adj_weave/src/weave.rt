@@ -21,8 +21,8 @@ use crate::shadows::{shadowed, unmarked};
 use crate::source::{add_all_flagged, adjoint_names, all_variables, source_names, unit_names};
 use crate::unit::{Part, Shared, adjoint_unit};
 use adj_helpers::steps::MarkedLoops;
-use adj_naming::name_set::{NameSet, add_names};
 use adj_naming::naming::not_free;
+use adj_sets::{NameSet, add_names};
 use adj_tree::{Head, Items, Memory, Name, NameList, Program, Unit, Units};
 use std::alloc::Global;
 

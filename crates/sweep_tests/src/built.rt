@@ -3,11 +3,11 @@
 use adj_fixed::{Mode, statements};
 use adj_helpers::callees::{Callee, Callees, Dummy};
 use adj_naming::helper_set::HelperSet;
-use adj_naming::name_set::{NameSet, add_texts};
 use adj_naming::names::Names;
 use adj_naming::role::{Helper, Role};
 use adj_parse::program;
 use adj_print::text;
+use adj_sets::{NameSet, add_texts};
 use adj_tree::{Fault, Items, Memory, Name, Program, Stmts, Unit};
 use std::alloc::Global;
 

@@ -35,7 +35,7 @@ fn uses(
 }
 
 // Statements, and the helpers of their adjoint.
-const BODIES: [(MarkedLoops, &str, &[(Role, usize)]); 4] = [
+const BODIES: [(MarkedLoops, &str, &[(Role, usize)]); 5] = [
     // a branch in a loop
     (
         MarkedLoops::Reversed,
@@ -74,7 +74,24 @@ const BODIES: [(MarkedLoops, &str, &[(Role, usize)]); 4] = [
             (Role::Upper, 1),
         ],
     ),
-    // the same as a loop as others
+    // the same where a variable gives the number of snapshots, and beside it one with a number of its own
+    (
+        MarkedLoops::Reversed,
+        "C$AD BINOMIAL-CKP N\n      DO I=1,3\n      CALL G(X,I)\n      END DO\nC$AD BINOMIAL-CKP 5\n      DO I=1,3\n      CALL G(X,I)\n      END DO\n",
+        &[
+            (Role::Count, 1),
+            (Role::First, 1),
+            (Role::Stride, 1),
+            (Role::Turn, 1),
+            (Role::Entry, 1),
+            (Role::Entries, 1),
+            (Role::Kind, 1),
+            (Role::Lower, 1),
+            (Role::Upper, 1),
+            (Role::Slots, 1),
+        ],
+    ),
+    // the first as a loop as others
     (
         MarkedLoops::Plain,
         "C$AD BINOMIAL-CKP 5\n      DO I=1,3\n      CALL G(X,I)\n      END DO\n",

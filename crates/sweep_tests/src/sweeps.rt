@@ -6,8 +6,8 @@ use adj_emission::plan::Plan;
 use adj_helpers::callees::{Callees, Dummy};
 use adj_helpers::steps::MarkedLoops;
 use adj_marking::Marking;
-use adj_naming::name_set::NameSet;
 use adj_naming::role::Role;
+use adj_sets::NameSet;
 use adj_tree::{Fault, Memory, Stmts};
 use std::alloc::Global;
 
@@ -120,7 +120,7 @@ fn each_body_has_its_adjoint(rt: HostRuntime) -> Result<(), Fault> {
     Ok(())
 }
 
-// The scalars X, Y, Z and I are the variables, and there is a marked loop.
+// The scalars X, Y, Z and I are the variables, and there are marked loops.
 const STEPS: Called<'static> = Called {
     variables: &[b"X", b"Y", b"Z", b"I"],
     shadows: &[b"XB", b"YB", b"ZB", b"IB"],
@@ -134,9 +134,10 @@ const STEPS: Called<'static> = Called {
         (Role::Kind, 1),
         (Role::Lower, 1),
         (Role::Upper, 1),
+        (Role::Slots, 1),
     ],
     helper_names: &[
-        b"ADL1", b"ADM1", b"ADI1", b"ADJ1", b"ADK1", b"ADN1", b"ADA1", b"ADF1", b"ADT1",
+        b"ADL1", b"ADM1", b"ADI1", b"ADJ1", b"ADK1", b"ADN1", b"ADA1", b"ADF1", b"ADT1", b"ADS1",
     ],
 };
 
@@ -169,10 +170,11 @@ const STEP: [Dummy; 4] = [
     },
 ];
 
-// A marked loop, and its adjoint.
-const MARKED: (&str, &str) = (
-    "C$AD BINOMIAL-CKP 5\n      DO I=1,3\n      CALL G(X,Y,Z,I)\n      END DO\n",
-    "      CALL PUSHINTEGER8(I)
+// Marked loops, and their adjoints: one with a number of snapshots, and one with the variable Z for it, which its turns write.
+const MARKED: [(&str, &str); 2] = [
+    (
+        "C$AD BINOMIAL-CKP 5\n      DO I=1,3\n      CALL G(X,Y,Z,I)\n      END DO\n",
+        "      CALL PUSHINTEGER8(I)
       ADM1=1
       ADI1=1
       ADL1=0
@@ -231,17 +233,84 @@ const MARKED: (&str, &str) = (
       IB=0
       XB=0
 ",
-);
+    ),
+    (
+        "C$AD BINOMIAL-CKP Z\n      DO I=1,3\n      CALL G(X,Y,Z,I)\n      END DO\n",
+        "      CALL PUSHINTEGER8(I)
+      ADM1=1
+      ADI1=1
+      ADS1=MIN(MAX(Z,1),64)
+      ADL1=0
+      CALL PUSHINTEGER8(X)
+      CALL PUSHINTEGER8(Y)
+      CALL PUSHINTEGER8(Z)
+      CALL PUSHINTEGER8(X)
+      CALL PUSHINTEGER8(Y)
+      DO I=ADM1,3,ADI1
+      CALL G(X,Y,Z,I)
+      ADL1=ADL1+1
+      END DO
+      CALL PUSHINTEGER8(ADM1)
+      CALL PUSHINTEGER8(ADI1)
+      CALL PUSHINTEGER8(ADS1)
+      CALL PUSHINTEGER8(ADL1)
+      YB=0
+      CALL POPINTEGER8(ADL1)
+      CALL POPINTEGER8(ADS1)
+      CALL POPINTEGER8(ADI1)
+      CALL POPINTEGER8(ADM1)
+      CALL POPINTEGER8(Y)
+      CALL POPINTEGER8(X)
+      CALL ADBEG(ADL1,ADS1)
+      CALL ADACTN(ADL1,ADS1,ADN1)
+      DO ADK1=1,ADN1
+      CALL ADACT(ADL1,ADS1,ADK1,ADA1,ADF1,ADT1)
+      IF (ADA1.EQ.1) THEN
+      CALL PUSHINTEGER8(X)
+      CALL PUSHINTEGER8(Y)
+      END IF
+      IF (ADA1.EQ.2) THEN
+      DO ADJ1=ADF1,ADT1-1
+      I=ADM1+ADJ1*ADI1
+      CALL G(X,Y,Z,I)
+      END DO
+      END IF
+      IF (ADA1.EQ.3) THEN
+      I=ADM1+ADF1*ADI1
+      CALL G_B(X,XB,Y,YB,Z,ZB,I)
+      END IF
+      IF (ADA1.EQ.4) THEN
+      CALL POPINTEGER8(Y)
+      CALL POPINTEGER8(X)
+      CALL PUSHINTEGER8(X)
+      CALL PUSHINTEGER8(Y)
+      END IF
+      IF (ADA1.EQ.5) THEN
+      CALL POPINTEGER8(Y)
+      CALL POPINTEGER8(X)
+      END IF
+      END DO
+      CALL ADEND
+      CALL POPINTEGER8(Z)
+      CALL POPINTEGER8(Y)
+      CALL POPINTEGER8(X)
+      CALL POPINTEGER8(I)
+      IB=0
+      XB=0
+",
+    ),
+];
 
 #[test]
-fn a_marked_loop_is_reversed_by_a_schedule(rt: HostRuntime) -> Result<(), Fault> {
+fn marked_loops_are_reversed_by_schedules(rt: HostRuntime) -> Result<(), Fault> {
     let alloc = rt.alloc();
     let callees = one_callee(alloc, b"G", b"G_B", &STEP)?;
-    let (statements, lines) = MARKED;
-    let program = read(alloc, statements)?;
-    for unit in program.units.as_slice() {
-        let code = adjoint_of(alloc, &STEPS, &callees, &unit.body)?;
-        assert!(rt; is_text(alloc, code, lines)?, "{statements}");
+    for (statements, lines) in MARKED {
+        let program = read(alloc, statements)?;
+        for unit in program.units.as_slice() {
+            let code = adjoint_of(alloc, &STEPS, &callees, &unit.body)?;
+            assert!(rt; is_text(alloc, code, lines)?, "{statements}");
+        }
     }
     Ok(())
 }

@@ -360,3 +360,114 @@ fn a_schedule_in_a_schedule(rt: HostRuntime) -> Result<(), Fail> {
     assert!(rt; emits(rt.alloc(), NESTED, given, NESTED_EMITTED)?);
     Ok(())
 }
+
+// A loop whose number of snapshots is the value of a variable, which its turns write.
+const NUMBERED: &[u8] = b"      SUBROUTINE P(N,X)
+      INTEGER*8 N
+      INTEGER*8 X
+C$AD BINOMIAL-CKP N
+      DO K=1,3
+      CALL P_S1(N,X)
+      END DO
+      END
+      SUBROUTINE P_S1(N,X)
+      INTEGER*8 N
+      INTEGER*8 X
+      X=X*X
+      N=0
+      END
+";
+
+// What is emitted for it, where N isn't needed after the loop. The reversal has the number that was in force before the loop.
+const NUMBERED_EMITTED: &[u8] = b"      SUBROUTINE P_B(N,X,XB)
+      INTEGER*8 N
+      INTEGER*8 X
+      INTEGER*8 XB
+      INTEGER*8 K
+      INTEGER*8 ADL1
+      INTEGER*8 ADM1
+      INTEGER*8 ADI1
+      INTEGER*8 ADJ1
+      INTEGER*8 ADK1
+      INTEGER*8 ADN1
+      INTEGER*8 ADA1
+      INTEGER*8 ADF1
+      INTEGER*8 ADT1
+      INTEGER*8 ADS1
+      ADM1=1
+      ADI1=1
+      ADS1=MIN(MAX(N,1),64)
+      ADL1=0
+      CALL PUSHINTEGER8(X)
+      DO K=ADM1,3,ADI1
+      ADL1=ADL1+1
+      END DO
+      CALL PUSHINTEGER8(ADM1)
+      CALL PUSHINTEGER8(ADI1)
+      CALL PUSHINTEGER8(ADS1)
+      CALL PUSHINTEGER8(ADL1)
+      CALL POPINTEGER8(ADL1)
+      CALL POPINTEGER8(ADS1)
+      CALL POPINTEGER8(ADI1)
+      CALL POPINTEGER8(ADM1)
+      CALL POPINTEGER8(X)
+      CALL ADBEG(ADL1,ADS1)
+      CALL ADACTN(ADL1,ADS1,ADN1)
+      DO ADK1=1,ADN1
+      CALL ADACT(ADL1,ADS1,ADK1,ADA1,ADF1,ADT1)
+      IF (ADA1.EQ.1) THEN
+      CALL PUSHINTEGER8(X)
+      END IF
+      IF (ADA1.EQ.2) THEN
+      DO ADJ1=ADF1,ADT1-1
+      K=ADM1+ADJ1*ADI1
+      CALL P_S1(N,X)
+      END DO
+      END IF
+      IF (ADA1.EQ.3) THEN
+      K=ADM1+ADF1*ADI1
+      CALL P_S1_B(N,X,XB)
+      END IF
+      IF (ADA1.EQ.4) THEN
+      CALL POPINTEGER8(X)
+      CALL PUSHINTEGER8(X)
+      END IF
+      IF (ADA1.EQ.5) THEN
+      CALL POPINTEGER8(X)
+      END IF
+      END DO
+      CALL ADEND
+      END
+      SUBROUTINE P_S1(N,X)
+      INTEGER*8 N
+      INTEGER*8 X
+      X=X*X
+      N=0
+      END
+      SUBROUTINE P_S1_B(N,X,XB)
+      INTEGER*8 N
+      INTEGER*8 X
+      INTEGER*8 XB
+      INTEGER*8 ADW1
+      INTEGER*8 ADW2
+      ADW1=XB
+      XB=0
+      ADW2=ADW1*X
+      XB=XB+ADW2
+      ADW2=ADW1*X
+      XB=XB+ADW2
+      END
+";
+
+#[test]
+fn a_number_of_snapshots_from_a_variable(rt: HostRuntime) -> Result<(), Fail> {
+    let given = Given {
+        vars: b"01",
+        outvars: b"01",
+        kept: b"1000",
+        entry: b"11001",
+        saved: b"",
+    };
+    assert!(rt; emits(rt.alloc(), NUMBERED, given, NUMBERED_EMITTED)?);
+    Ok(())
+}

@@ -2,7 +2,7 @@ use Rattle.std.proofs.Common.{◌++◌, [], ℕ, List, map, ap, ◌∙◌}
 use Rattle.std.specs.Prelude.{flat_map}
 use Rattle.adj_tree.specs.View.{procedure_of}
 use Rattle.adj_transpose.specs.Program.{unit_name}
-use Rattle.adj_naming.specs.Sets.{all_added}
+use Rattle.adj_sets.specs.Sets.{all_added}
 use Rattle.adj_weave.specs.Orders.{adjoints_from}
 use Rattle.adj_weave.proofs.Ordered.{adjoint_list, all_joined}
 use Rattle.adj_headed.proofs.head.adjoint_names.Goals as goal

@@ -9,5 +9,5 @@ returns c = record {
   helpers = λ arrays callees reads k.
       c.in_ok-made.ensures.helpers
       ∙ helpers_known (schedules_by c.args.known.now reads) (plan_by c.args.known.now arrays callees) c.args.number (code_of c.args.body.now) c.in_ok-used.used c.new-depths.result c.list.new.depths
-      (c.in_ok-used.ensures.uses arrays callees reads k) (c.in_ok-used.ensures.adds arrays callees reads k) c.new-depths.ensures.dos c.new-depths.ensures.loops c.new-depths.ensures.reversed;
+      (c.in_ok-used.ensures.uses arrays callees reads k) (c.in_ok-used.ensures.adds arrays callees reads k) c.new-depths.ensures.dos c.new-depths.ensures.loops c.new-depths.ensures.reversed c.new-depths.ensures.slots;
 }

@@ -7,7 +7,7 @@ use Rattle.adj_meaning.specs.Read.{is_read}
 use Rattle.adj_transpose.specs.Naming.{AreApart}
 use Rattle.adj_transpose.specs.Program.{unit_name}
 use Rattle.adj_reverse.specs.Names.{adjoint_name}
-use Rattle.adj_naming.specs.Sets.{all_added}
+use Rattle.adj_sets.specs.Sets.{all_added}
 use Rattle.adj_naming.proofs.Added.{all_once}
 use Rattle.adj_helpers.specs.declared.callees.Callees.{Callees}
 use Rattle.adj_weave.specs.Orders.{said_of}

@@ -1,6 +1,6 @@
 use Rattle.std.proofs.Common.{[], ◌+◌, ℕ, List, drop, ap, sym, ◌∙◌}
 use Rattle.std.specs.Prelude.{flat_map}
-use Rattle.adj_naming.specs.Sets.{all_added}
+use Rattle.adj_sets.specs.Sets.{all_added}
 use Rattle.adj_naming.proofs.Added.{all_added-append}
 use Rattle.adj_naming.proofs.Places.{from_here}
 use Rattle.adj_weave.proofs.source.source_names.Goals as goal

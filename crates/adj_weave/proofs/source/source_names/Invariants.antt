@@ -1,7 +1,7 @@
 -- The names of the units, and of the variables of those passed, are there.
 use Rattle.std.proofs.Common.{◌≡◌, ◌++◌, [], ℕ, List, drop}
 use Rattle.std.specs.Prelude.{flat_map}
-use Rattle.adj_naming.specs.Sets.{all_added}
+use Rattle.adj_sets.specs.Sets.{all_added}
 use Rattle.adj_weave.proofs.source.source_names.Given as goal
 
 abbrev pub invariant-loop-names : goal.invariant-loop-names

@@ -1,6 +1,6 @@
 use Rattle.std.proofs.Common.{◌≡◌, ap, sym, subst, ◌∙◌}
 use Rattle.adj_transpose.specs.Naming.{AreApart}
-use Rattle.adj_naming.specs.Sets.{all_added}
+use Rattle.adj_sets.specs.Sets.{all_added}
 use Rattle.adj_naming.proofs.Added.{all_once}
 use Rattle.adj_weave.proofs.weave.found_by_names.Goals as goal
 

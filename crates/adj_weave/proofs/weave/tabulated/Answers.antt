@@ -3,7 +3,7 @@ use Rattle.std.specs.Prelude.{flat_map}
 use Rattle.adj_tree.specs.View.{procedure_of}
 use Rattle.adj_transpose.specs.Naming.{AreApart}
 use Rattle.adj_transpose.specs.Program.{unit_name}
-use Rattle.adj_naming.specs.Sets.{all_added}
+use Rattle.adj_sets.specs.Sets.{all_added}
 use Rattle.adj_weave.specs.Orders.{adjoints_from}
 use Rattle.adj_weave.proofs.Ordered.{first_numbers, adjoint_list, all_joined}
 use Rattle.adj_weave.proofs.weave.tabulated.Goals as goal

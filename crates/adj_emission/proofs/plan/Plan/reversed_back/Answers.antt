@@ -1,6 +1,6 @@
 use Rattle.std.proofs.Common.{◌∙◌, refl, sym, ap}
 use Rattle.adj_tree.specs.Code.{helper, none, runtime, pop_word, step}
-use Rattle.adj_tree.specs.View.{code_of}
+use Rattle.adj_tree.specs.View.{mark_of, code_of}
 use Rattle.adj_meaning.specs.Append.{◌+++◌}
 use Rattle.adj_naming.specs.Roles.{role_of}
 use Rattle.adj_marking.specs.View.{marks_of}
@@ -23,15 +23,17 @@ returns c =
     let m = marks_of c.args.self.now.marks.now in
     let rest = code_of c.args.rest in
     let popped = code_of c.in_ok-back.back in
+    let stored = code_of c.in_ok-stored.stored in
     record {
       backward = λ callees.
           let p = plan_of c.args.self.now callees in
-          backward_named r d line c.args.variable.now s.snapshots (keep_of p i line s) (back_of p i line s) (unsave_of p i line s) (plain_of line s) (adjoint_of line s) (code_of c.in_ok-unsaved.unsaved) (code_of c.in_ok-reversed.reversed) popped (code_of c.in_ok-code.code) rest
+          backward_named r d line c.args.variable.now (mark_of s.mark.now) (keep_of p i line s) (back_of p i line s) (unsave_of p i line s) (plain_of line s) (adjoint_of line s) (code_of c.in_ok-unsaved.unsaved) (code_of c.in_ok-reversed.reversed) popped (code_of c.in_ok-stepped.stepped) stored (code_of c.in_ok-code.code) rest
           (c.in_ok-unsaved.ensures.popped callees ∙ ap (λ z. z +++ rest) (sym (pops_plain r (λ y. refl) p line (chosen (is_in (m.saved i) groups.Save) s.actuals.now))))
           (c.in_ok-reversed.ensures.reversal callees)
           (c.in_ok-back.ensures.back callees)
-          (c.in_ok-code.ensures.step
-          ∙ (λ j. step line (runtime (pop_word (r (helper (role_of (c.of_depth-3.ensures.role j)) (c.of_depth-3.ensures.number j))) none)) ((c.in_ok-stepped.ensures.step
-          ∙ (λ k. step line (runtime (pop_word (r (helper (role_of (c.of_depth-2.ensures.role k)) (c.of_depth-2.ensures.number k))) none)) ((c.in_ok-begun.ensures.step
-          ∙ (λ l. step line (runtime (pop_word (r (helper (role_of (c.of_depth.ensures.role l)) (c.of_depth.ensures.number l))) none)) popped)) k))) j)));
+          (c.in_ok-stepped.ensures.step
+          ∙ (λ j. step line (runtime (pop_word (r (helper (role_of (c.of_depth-2.ensures.role j)) (c.of_depth-2.ensures.number j))) none)) ((c.in_ok-begun.ensures.step
+          ∙ (λ k. step line (runtime (pop_word (r (helper (role_of (c.of_depth.ensures.role k)) (c.of_depth.ensures.number k))) none)) popped)) j)))
+          c.in_ok-stored.ensures.popped
+          (c.in_ok-code.ensures.step ∙ (λ j. step line (runtime (pop_word (r (helper (role_of (c.of_depth-3.ensures.role j)) (c.of_depth-3.ensures.number j))) none)) stored));
     }

@@ -1,5 +1,6 @@
 use Rattle.std.proofs.Common.{◌∙◌, ℕ, List, ap}
 use Rattle.adj_tree.specs.Code.{plain, none, runtime, pop_word}
+use Rattle.adj_tree.specs.View.{mark_of}
 use Rattle.adj_meaning.specs.Append.{◌+++◌, one}
 use Rattle.adj_meaning.specs.Rename.{rename}
 use Rattle.adj_transpose.specs.Marked.{code_if}
@@ -20,7 +21,7 @@ returns c =
     record {
       backward = λ callees.
           let p = plan_of c.args.self.now callees in
-          let turns = rename (naming_in c.args.self.now) (reversed_backward at.depth line (plain c.args.variable.now) s.snapshots (keep_of p i line s) (back_of p i line s) (unsave_of p i line s) (plain_of line s) (adjoint_of line s)) in
+          let turns = rename (naming_in c.args.self.now) (reversed_backward at.depth line (plain c.args.variable.now) (mark_of s.mark.now) (keep_of p i line s) (back_of p i line s) (unsave_of p i line s) (plain_of line s) (adjoint_of line s)) in
           c.in_ok-code.ensures.backward callees
           ∙ ap (λ z. turns +++ z) (c.in_ok-popped.ensures.popped ∙ (λ j. popped (c.in_ok-copy.ensures.same j) +++ c.in_ok-cleared.ensures.reset j));
     }

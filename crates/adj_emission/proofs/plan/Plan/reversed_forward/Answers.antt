@@ -1,6 +1,6 @@
 use Rattle.std.proofs.Common.{◌∙◌, ℕ, List, suc, ap}
 use Rattle.adj_tree.specs.Code.{plain, none, runtime, push_word}
-use Rattle.adj_tree.specs.View.{term_of, code_of}
+use Rattle.adj_tree.specs.View.{term_of, mark_of, code_of}
 use Rattle.adj_meaning.specs.Append.{◌+++◌, one}
 use Rattle.adj_meaning.specs.Rename.{rename}
 use Rattle.adj_meaning.proofs.Appends.{append_assoc}
@@ -23,7 +23,7 @@ returns c =
     record {
       forward = λ callees.
           let p = plan_of c.args.self.now callees in
-          let turns = rename (naming_in c.args.self.now) (reversed_forward at.depth at.line (plain b.variable.now) (term_of b.first.now) (term_of b.limit.now) (term_of b.step.now) (save_of p at.number at.line s) (keep_of p at.number at.line s) (code_if (m.kept (suc at.number)) (plain_of at.line s))) in
+          let turns = rename (naming_in c.args.self.now) (reversed_forward at.depth at.line (plain b.variable.now) (term_of b.first.now) (term_of b.limit.now) (term_of b.step.now) (mark_of s.mark.now) (save_of p at.number at.line s) (keep_of p at.number at.line s) (code_if (m.kept (suc at.number)) (plain_of at.line s))) in
           c.in_ok-code.ensures.forward callees
           ∙ ap (λ z. z +++ turns) (c.in_ok-pushed.ensures.pushed ∙ ap (λ x. old +++ pushed x) c.in_ok-copy.ensures.same)
           ∙ append_assoc old (pushed b.variable.now) turns;

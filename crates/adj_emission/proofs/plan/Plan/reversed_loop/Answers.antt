@@ -1,6 +1,6 @@
 use Rattle.std.proofs.Common.{◌≡◌, ◌∙◌, suc, refl, sym, ap, subst}
 use Rattle.adj_tree.specs.Code.{plain, none, runtime, push_word, pop_word}
-use Rattle.adj_tree.specs.View.{term_of, terms_of, code_of}
+use Rattle.adj_tree.specs.View.{term_of, terms_of, mark_of, code_of}
 use Rattle.adj_meaning.specs.Append.{◌+++◌, one}
 use Rattle.adj_meaning.specs.Rename.{rename}
 use Rattle.adj_transpose.specs.Marked.{code_if}
@@ -52,13 +52,13 @@ returns c =
     record {
       sweeps = λ callees reads d body m know is e.
           let p = plan_of c.args.self.now callees in
-          let t : sweeps.Step = record { name = name; given = given; read = reads name; snapshots = call.snapshots } in
+          let t : sweeps.Step = record { name = name; given = given; read = reads name; mark = mark_of call.mark.now } in
           let h : IsStep p (reads name) s k t = record {
             name = made.name;
             given = made.given ∙ named;
             actuals = made.actuals ∙ c.as_slice-actuals.ensures.value ∙ c.in_ok-made.ensures.paired ∙ (λ j. paired (c.as_slice-dummies.ensures.value j) (named j));
             adjoint = made.adjoint;
-            snapshots = made.snapshots;
+            mark = made.mark;
             read_is = refl;
             knows = subst (λ z. Knows z (callees name) (reads name)) (sym c.find-callee.ensures.found) (know name);
           } in
@@ -66,10 +66,10 @@ returns c =
           (sym c.emitted.ensures.emitted ∙ c.if-not-emitted.false) (c.in_ok-number.ensures.next ∙ ap suc c.in_ok-called.ensures.next)
           (c.in_ok-forward.ensures.forward callees
           ∙ ap (λ z. in_order (code_of old.forward) +++ (pushed +++ rename r z))
-          (ap (λ n. reversed_forward n line (plain x) ta tb tc (save_of p i line s) (keep_of p i line s) (code_if (marks.kept (suc i)) (plain_of line s))) e
+          (ap (λ n. reversed_forward n line (plain x) ta tb tc (mark_of s.mark.now) (save_of p i line s) (keep_of p i line s) (code_if (marks.kept (suc i)) (plain_of line s))) e
           ∙ forward_is p i d line x (reads name) s k t h ta tb tc))
           (c.in_ok-backward.ensures.backward callees
           ∙ ap (λ z. rename r z +++ behind)
-          (ap (λ n. reversed_backward n line (plain x) s.snapshots (keep_of p i line s) (back_of p i line s) (unsave_of p i line s) (plain_of line s) (adjoint_of line s)) e
+          (ap (λ n. reversed_backward n line (plain x) (mark_of s.mark.now) (keep_of p i line s) (back_of p i line s) (unsave_of p i line s) (plain_of line s) (adjoint_of line s)) e
           ∙ backward_is p i d line x (reads name) s k t h));
     }

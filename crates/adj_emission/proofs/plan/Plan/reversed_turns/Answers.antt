@@ -2,7 +2,7 @@ use Rattle.std.proofs.Common.{◌≡◌, ◌∙◌, suc, refl, ap}
 use Rattle.std.specs.Prelude.{pos}
 use Rattle.adj_tree.specs.Code.{plain, helper, first, stride, count, plus, var, lit, bin, none, assign, loop, unmarked, step}
 use Rattle.adj_tree.specs.Listed.{code_turned}
-use Rattle.adj_tree.specs.View.{term_of, code_of}
+use Rattle.adj_tree.specs.View.{term_of, mark_of, code_of}
 use Rattle.adj_meaning.specs.Append.{one}
 use Rattle.adj_meaning.specs.Rename.{rename}
 use Rattle.adj_transpose.specs.Marked.{code_if}
@@ -37,8 +37,8 @@ returns c =
     record {
       forward = λ callees.
           let p = plan_of c.args.self.now callees in
-          forward_named r (λ y. refl) d line x b.first.now b.limit.now b.step.now (save_of p i line s) (keep_of p i line s) body inner (code_of c.args.turned) (code_of c.in_ok-opened.opened) (code_of c.in_ok-saved.saved) kept (code_of c.in_ok-gone.gone) (code_of c.in_ok-code.code)
+          forward_named r (λ y. refl) d line x b.first.now b.limit.now b.step.now (mark_of s.mark.now) (save_of p i line s) (keep_of p i line s) body inner (code_of c.args.turned) (code_of c.in_ok-bound.bound) (code_of c.in_ok-told.told) (code_of c.in_ok-opened.opened) (code_of c.in_ok-saved.saved) kept (code_of c.in_ok-gone.gone) (code_of c.in_ok-pushed.pushed) (code_of c.in_ok-stored.stored) (code_of c.in_ok-code.code)
           (pushes_plain r (λ y. refl) p line (chosen (is_in (m.saved i) groups.Save) s.actuals.now)) (pushes_plain r (λ y. refl) p line (chosen (is_in (m.saved i) groups.Step) s.actuals.now))
           (counted_named r (λ y. refl) d line called inner turned)
-          c.in_ok-opened.ensures.opened (c.in_ok-saved.ensures.pushed callees) (c.in_ok-kept.ensures.pushed callees) gone c.in_ok-code.ensures.closed;
+          c.in_ok-bound.ensures.set c.in_ok-told.ensures.set c.in_ok-opened.ensures.set (c.in_ok-saved.ensures.pushed callees) (c.in_ok-kept.ensures.pushed callees) gone c.in_ok-pushed.ensures.pushed c.in_ok-stored.ensures.pushed c.in_ok-code.ensures.pushed;
     }

@@ -21,12 +21,14 @@ returns c =
     let t = code_of c.args.turned in
     let body = code_turned (code_of c.args.body) (one line (assign (r (helper count d)) none (bin plus (var (r (helper count d))) (lit (pos 1))))) in
     let turns = loop (plain x) (var (r (helper first d))) (term_of b.limit.now) (var (r (helper stride d))) body unmarked in
-    let opened = step line (assign (r (helper count d)) none (lit (pos 0))) (step line (assign (r (helper stride d)) none (term_of b.step.now)) (step line (assign (r (helper first d)) none (term_of b.first.now)) t)) in
-    let close = λ (z : Code). step line (runtime (push_word (r (helper count d)) none)) (step line (runtime (push_word (r (helper stride d)) none)) (step line (runtime (push_word (r (helper first d)) none)) z)) in
-    let gone : code_of c.in_ok-gone.gone ≡ step line turns opened = c.in_ok-gone.ensures.step ∙ (λ i. step (c.in_ok-turns.ensures.line i) (c.in_ok-turns.ensures.act i) (c.in_ok-opened.ensures.opened i)) in
+    let begun = λ (z : Code). step line (assign (r (helper count d)) none (lit (pos 0))) z in
+    let opened = begun (step line (assign (r (helper stride d)) none (term_of b.step.now)) (step line (assign (r (helper first d)) none (term_of b.first.now)) t)) in
+    let ends = λ (z : Code). step line (runtime (push_word (r (helper stride d)) none)) (step line (runtime (push_word (r (helper first d)) none)) z) in
+    let close = λ (z : Code). step line (runtime (push_word (r (helper count d)) none)) z in
+    let gone : code_of c.in_ok-gone.gone ≡ step line turns opened = c.in_ok-gone.ensures.step ∙ (λ i. step (c.in_ok-turns.ensures.line i) (c.in_ok-turns.ensures.act i) ((c.in_ok-opened.ensures.set ∙ ap begun c.in_ok-bound.ensures.set) i)) in
     record {
       told = λ inner h.
-          ap in_order (c.in_ok-code.ensures.closed ∙ ap close gone)
+          ap in_order (c.in_ok-code.ensures.pushed ∙ ap close (c.in_ok-pushed.ensures.pushed ∙ ap ends gone))
           ∙ turned_before t _
           ∙ ap (λ z. in_order t +++ z) (told_turns_named r (λ y. refl) d line x b.first.now b.limit.now b.step.now body inner (counted_named r (λ y. refl) d line (code_of c.args.body) inner h));
     }

@@ -102,7 +102,7 @@ statement-returns-in_ok-add_while-in-While t c =
           (subst (λ n. UsesList r p n c.in_ok-begun-in-While.begun body inner) inside (c.in_ok-inner-in-While.ensures.uses arrays callees reads k))).idle
           (subst (λ n. AddsList r p (suc d) n body c.args.depths.now mid) begun
           (subst (λ n. AddsList r p n c.in_ok-begun-in-While.begun body c.args.depths.now mid) inside (c.in_ok-inner-in-While.ensures.adds arrays callees reads k)))
-          c.in_ok-add_while-in-While.ensures.dos c.in_ok-add_while-in-While.ensures.loops c.in_ok-add_while-in-While.ensures.reversed);
+          c.in_ok-add_while-in-While.ensures.dos c.in_ok-add_while-in-While.ensures.loops c.in_ok-add_while-in-While.ensures.reversed c.in_ok-add_while-in-While.ensures.slots);
     }
 
 pub list-loop-current-preserved : goal.list-loop-current-preserved

@@ -21,7 +21,7 @@ returns-in_ok-add_reversed-in-Some c =
           let r = schedules_by c.args.self.now reads in
           let is = sym (c.step_call.ensures.step reads i call) ∙ ap (step_of reads) c.in-Some.is in
           let e = c.in_ok-add_reversed-in-Some.ensures in
-          adds_reversed r (plan_by c.args.self.now arrays callees) c.args.depth i x body m _ c.args.inner.idle c.args.depths.now c.add_reversed.new.self is e.dos e.loops e.reversed;
+          adds_reversed r (plan_by c.args.self.now arrays callees) c.args.depth i x body m _ c.args.inner.idle c.args.depths.now c.add_reversed.new.self is e.dos e.loops e.reversed e.slots;
     }
 
 pub returns-in_ok-add_do-in-None : goal.returns-in_ok-add_do-in-None
@@ -40,5 +40,5 @@ returns-in_ok-add_do-in-None c =
           let r = schedules_by c.args.self.now reads in
           let others = sym (c.step_call.ensures.step reads i call) ∙ ap (step_of reads) c.in-None.is in
           let e = c.in_ok-add_do-in-None.ensures in
-          adds_do r (plan_by c.args.self.now arrays callees) c.args.depth i x body m c.args.inner.idle c.args.depths.now c.add_do.new.self others e.dos e.loops e.reversed;
+          adds_do r (plan_by c.args.self.now arrays callees) c.args.depth i x body m c.args.inner.idle c.args.depths.now c.add_do.new.self others e.dos e.loops e.reversed e.slots;
     }

@@ -1,7 +1,7 @@
 use Rattle.std.proofs.Common.{◌≡◌, arith, pos, w64, to_z, of_z, ap}
 use Rattle.std.proofs.lemmas.Int.{ints}
 use Rattle.adj_tree.specs.Code.{lit}
-use Rattle.adj_emission.proofs.reversal.literal.Goals as goal
+use Rattle.adj_emission.proofs.slots.literal.Goals as goal
 
 pub returns : goal.returns
 returns c =

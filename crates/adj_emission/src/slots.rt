@@ -1,0 +1,118 @@
+//! The number of snapshots of a loop that is reversed by a schedule, by its mark (docs/EMITTED.md, "Reversal of a marked loop").
+
+ghost use Rattle.std.specs.Prelude.{◌≡◌, IfOk};
+ghost use Rattle.adj_tree.specs.Code.{plain, bin, stop};
+ghost use Rattle.adj_tree.specs.View.{op_of, term_of, mark_of, code_of};
+ghost use Rattle.adj_meaning.specs.Append.{◌+++◌};
+ghost use Rattle.adj_meaning.specs.Rename.{rename_term, rename};
+ghost use Rattle.adj_reverse.specs.Emission.{literal};
+ghost use Rattle.adj_reverse.specs.ReversalCode.{as_slots, slots_of, set_slots, push_slots, pop_slots};
+ghost use Rattle.adj_emission.specs.Plans.{naming_in};
+ghost use Rattle.adj_emission.specs.Swept.{in_order};
+
+use crate::loops::of_depth;
+use crate::plan::{At, Plan};
+use adj_naming::role::Role;
+use adj_tree::{Expr, Mark, Memory, Name, Op, Stmts, boxed};
+use std::alloc::Global;
+
+/// A number as a term.
+pub fn literal(n: u32) -> Expr
+    ensures literal { term_of result ≡ literal n }
+{
+    Expr::Lit(i64::from(n))
+}
+
+// An operation on two terms.
+fn of_two(alloc: Global, op: Op, a: Expr, b: Expr) -> Result<Expr, Memory>
+    ensures term { IfOk result (λ e. term_of e ≡ bin (op_of op) (term_of a) (term_of b)) }
+{
+    let left = boxed(alloc, a)?;
+    let right = boxed(alloc, b)?;
+    Ok(Expr::Bin(op, left, right))
+}
+
+// The value of a variable as a number of snapshots: 1 where it is below 1, and 64 where it is above 64.
+fn as_slots(alloc: Global, x: &Name) -> Result<Expr, Memory>
+    ensures slots { IfOk result (λ e. term_of e ≡ as_slots (plain x.now)) }
+{
+    let value = Expr::Var(x.copy(alloc)?);
+    let least = of_two(alloc, Op::Max, value, Expr::Lit(1))?;
+    let slots = of_two(alloc, Op::Min, least, Expr::Lit(64))?;
+    Ok(slots)
+}
+
+impl<'a> Plan<'a> {
+    /// The number of snapshots in the reversal of a loop of this depth: that of the mark, or what a helper holds.
+    pub fn slots_of(&self, alloc: Global, depth: usize, mark: &Mark) -> Result<Expr, Memory>
+        ensures slots { IfOk result (λ e. term_of e ≡ rename_term (naming_in self.now) (slots_of depth (mark_of mark.now))) }
+    {
+        match mark {
+            Mark::Plain => Ok(literal(0)),
+            Mark::Count(snapshots) => Ok(literal(*snapshots)),
+            Mark::From(_) => {
+                let name = self.names.helper(alloc, Role::Slots, depth)?;
+                Ok(Expr::Var(name))
+            }
+        }
+    }
+
+    /// The helper gets the number, where a variable gives it, behind what is turned round.
+    pub fn set_slots(
+        &self,
+        alloc: Global,
+        at: At,
+        mark: &Mark,
+        turned: Stmts,
+    ) -> Result<Stmts, Memory>
+        ensures set { IfOk result (λ c. in_order (code_of c) ≡ in_order (code_of turned) +++ rename (naming_in self.now) (set_slots at.line at.depth (mark_of mark.now) stop)) }
+    {
+        match mark {
+            Mark::Plain | Mark::Count(_) => Ok(turned),
+            Mark::From(x) => {
+                let value = as_slots(alloc, x)?;
+                let own = of_depth(Role::Slots, at.depth);
+                let code = self.set_own(alloc, at.line, own, value, turned)?;
+                Ok(code)
+            }
+        }
+    }
+
+    /// The helper is pushed, where a variable gives the number, behind what is turned round.
+    pub fn push_slots(
+        &self,
+        alloc: Global,
+        at: At,
+        mark: &Mark,
+        turned: Stmts,
+    ) -> Result<Stmts, Memory>
+        ensures pushed { IfOk result (λ c. in_order (code_of c) ≡ in_order (code_of turned) +++ rename (naming_in self.now) (push_slots at.line at.depth (mark_of mark.now) stop)) }
+    {
+        match mark {
+            Mark::Plain | Mark::Count(_) => Ok(turned),
+            Mark::From(_) => {
+                let code = self.push_own(alloc, at.line, of_depth(Role::Slots, at.depth), turned)?;
+                Ok(code)
+            }
+        }
+    }
+
+    /// The helper is popped, where a variable gives the number, and then the rest.
+    pub fn pop_slots(
+        &self,
+        alloc: Global,
+        at: At,
+        mark: &Mark,
+        rest: Stmts,
+    ) -> Result<Stmts, Memory>
+        ensures popped { IfOk result (λ c. code_of c ≡ rename (naming_in self.now) (pop_slots at.line at.depth (mark_of mark.now) stop) +++ code_of rest) }
+    {
+        match mark {
+            Mark::Plain | Mark::Count(_) => Ok(rest),
+            Mark::From(_) => {
+                let code = self.pop_own(alloc, at.line, of_depth(Role::Slots, at.depth), rest)?;
+                Ok(code)
+            }
+        }
+    }
+}
