@@ -12,7 +12,7 @@ use Rattle.adj_meaning.specs.Written.{find_unit}
 use Rattle.adj_names.specs.Fault.{first_of}
 use Rattle.adj_names.specs.HeadFaults.{first_head_fault, faults_of_head}
 use Rattle.adj_readable.specs.Reading.{OrTooMany}
-use Rattle.adj_answer.specs.Programs.{program_of}
+use Rattle.adj_parse.specs.Trees.{program_of}
 use Rattle.adj_accepted.specs.Accepted.{IsAdjointOfWith}
 use Rattle.adj_checking.specs.Emitted.{or_itself, read_back, IsRunnable, IsEmittedFor}
 use Rattle.adj_checking.specs.Agreeing.{IsAdjointSide}

@@ -16,7 +16,7 @@ use Rattle.adj_reverse.specs.Reversals.{ReversedLines}
 use Rattle.adj_kernel.specs.Stepped.{kernel_of}
 use Rattle.adj_accepted.specs.Accepted.{HaveOwnNames, IsAdjointOfWith}
 use Rattle.adj_readable.specs.Reading.{OrTooMany}
-use Rattle.adj_answer.specs.Programs.{program_of}
+use Rattle.adj_parse.specs.Trees.{program_of}
 
 abbrev pub or_itself : List Procedure → Result (List Procedure) Refusal → List Procedure
 or_itself qs (Ok read) = read

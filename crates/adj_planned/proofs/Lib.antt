@@ -1,10 +1,8 @@
 -- the lemmas of the crate
 pub mod Unmarked
-pub mod Marked
 pub mod MarkedLines
 pub mod ReadLines
 pub mod OwnNames
 pub mod ByMarks
-pub mod Lawful
 pub mod Unscheduled
 pub mod Planned

@@ -21,16 +21,14 @@ use Rattle.adj_accepted.proofs.Through.{kernels_adjoint}
 use Rattle.adj_facts.specs.Activity.{Activity}
 use Rattle.adj_facts.specs.Live.{Liveness}
 use Rattle.adj_facts.specs.Laws.{Analysed}
-use Rattle.adj_analysed.proofs.Adjoint.{analysed_is_adjoint, analysed_reverses}
+use Rattle.adj_analysed.proofs.Adjoint.{analysed_fits, analysed_is_adjoint, analysed_reverses}
 use Rattle.adj_weave.proofs.Lending.{exact_shadows}
 use Rattle.adj_planned.specs.Planned.{HasNoMarks, kernel_problem, planned_for, reversed_for, marks_by, PlannedIsAdjoint, PlannedSpends, PlannedIsWritten, PlannedIsSound, ReversedIsAdjoint, ReversedIsWritten, ReversedIsSound, ReversedIsPlanned, ReversedSpends}
 use Rattle.adj_analysed.specs.Meets.{program_facts, IsUnmarkedAct, IsUnmarked}
 use Rattle.adj_analysed.specs.MarkedLines.{reversed_lines}
 use Rattle.adj_spent.proofs.Spending.{emitted_spends}
 use Rattle.adj_planned.proofs.Unmarked.{kernel_unmarked}
-use Rattle.adj_planned.proofs.Marked.{kernel_keeps}
 use Rattle.adj_planned.proofs.MarkedLines.{kernel_apart}
-use Rattle.adj_planned.proofs.Lawful.{fits}
 use Rattle.adj_planned.proofs.ByMarks.{by_marks}
 use Rattle.adj_planned.proofs.Unscheduled.{nothing_added}
 
@@ -71,7 +69,7 @@ pub spends : PlannedSpends
 spends ps y none weight weighs name u found calls few vars outvars a l saved held x qs same =
     let k = whole_units ps name u found in
     emitted_spends ps y (none_counted ps none) weight weighs name calls few (λ line. None) (program_facts (kernel_of ps) a l saved held) k.becomes k.found
-    (fits run_rules (kernel_problem ps name vars outvars) (kernel_checked ps y) (kernel_unmarked ps none) a l saved held x k.becomes (numbered (kernel_of ps) name k.becomes k.found).1)
+    (analysed_fits run_rules (kernel_problem ps name vars outvars) (kernel_checked ps y) (kernel_unmarked ps none) a l saved held x k.becomes (numbered (kernel_of ps) name k.becomes k.found).1)
     vars outvars qs same
 
 pub is_written : PlannedIsWritten
@@ -88,7 +86,7 @@ is_sound ps y name vars outvars a l saved held x qs same =
 -- ---- where marked loops are reversed by schedules
 
 pub is_reversed : ReversedIsAdjoint
-is_reversed ps y literal apart name u found vars outvars a l saved held x qs same =
+is_reversed ps y apart name u found vars outvars a l saved held x qs same =
     let k = whole_units ps name u found in
     let n = unit_number (kernel_of ps) name in
     let w = program_facts (kernel_of ps) a l saved held in
@@ -96,7 +94,7 @@ is_reversed ps y literal apart name u found vars outvars a l saved held x qs sam
     subst (λ z. IsAdjointOfWith true z w.marks ps name vars outvars qs) (by_marks w (kernel_of ps))
     (kernels_adjoint true lines w.marks ps y name u found vars outvars qs
     (other_lines true lines w.marks (kernel_of ps) (reversed_for ps name vars outvars w.marks) qs n vars outvars same
-    (analysed_reverses run_rules (kernel_problem ps name vars outvars) (kernel_checked ps y) (kernel_keeps ps literal) (kernel_apart ps apart) a l saved held x k.becomes (numbered (kernel_of ps) name k.becomes k.found).1)))
+    (analysed_reverses run_rules (kernel_problem ps name vars outvars) (kernel_checked ps y) (kernel_apart ps apart) a l saved held x k.becomes (numbered (kernel_of ps) name k.becomes k.found).1)))
 
 pub reversed_written : ReversedIsWritten
 reversed_written ps y name vars outvars a l saved held x =

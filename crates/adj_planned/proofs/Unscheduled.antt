@@ -1,7 +1,7 @@
 -- Where no loop of a program is marked, the same is emitted for it whether marked loops are reversed by schedules or not, and none is reversed.
 use Rattle.std.proofs.Common.{◌≡◌, ℕ, zero, suc, max, List, [], ◌∷◌, ◌++◌, Bool, true, false, map, refl, ap, ◌∙◌, if◌then◌else◌}
 use Rattle.std.specs.Prelude.{◌&&◌, ◌||◌, ◌==◌, not, Some, None}
-use Rattle.adj_tree.specs.Code.{Role, plain, shadow, helper, none, work, temp, control, first, stride, count, turn, entry, entries, kind, lower, upper, push_word, pop_word, unmarked, with_count, count_from, name_eq, Act, assign, choose, loop, during, call, runtime, Code, stop, step, Procedure}
+use Rattle.adj_tree.specs.Code.{Role, plain, shadow, helper, none, work, temp, control, first, stride, count, turn, entry, entries, kind, lower, upper, slots, push_word, pop_word, unmarked, with_count, count_from, name_eq, Act, assign, choose, loop, during, call, runtime, Code, stop, step, Procedure}
 use Rattle.adj_meaning.specs.Append.{◌+++◌, one}
 use Rattle.adj_meaning.specs.Rename.{rename}
 use Rattle.adj_meaning.specs.Written.{find_unit}
@@ -17,8 +17,8 @@ use Rattle.adj_reverse.specs.Emission.{is_empty, told_forward, told_backward, lo
 use Rattle.adj_reverse.specs.Laws.{CalleeFacts}
 use Rattle.adj_reverse.specs.Marking.{ProgramMarks, first_statement, plan_in, dummy_set, read_by, callee_facts}
 use Rattle.adj_reverse.specs.Names.{adjoint_name}
-use Rattle.adj_reverse.specs.Plan.{Plan, Schedules, is_emitted}
-use Rattle.adj_reverse.specs.Program.{works_used, temps_used, depth_act_with, depth_used_with, tells_act_with, tells_some_with, goes_back_act_with, goes_back_with, reverses_act, reverses, is_do, is_loop, helpers_among, loop_helpers_with, reversal_helpers, all_reversal_helpers, helpers_used_with, made_for_with, adjoint_names_with, adjoint_unit_with, calls_some, is_reached, has_adjoint, turns_act, turns_in, turns_some, is_kept_with, is_carried_with, all_units, emitted_adjoint_with, emitted_units_with, emitted_for_with}
+use Rattle.adj_reverse.specs.Plan.{Plan, Schedules, Step, is_emitted}
+use Rattle.adj_reverse.specs.Program.{works_used, temps_used, depth_act_with, depth_used_with, tells_act_with, tells_some_with, goes_back_act_with, goes_back_with, reverses_act_by, reverses_by, any_step, has_slots, is_do, is_loop, helpers_among, loop_helpers_with, reversal_helpers, all_reversal_helpers, helpers_used_with, made_for_with, adjoint_names_with, adjoint_unit_with, calls_some, is_reached, has_adjoint, turns_act, turns_in, turns_some, is_kept_with, is_carried_with, all_units, emitted_adjoint_with, emitted_units_with, emitted_for_with}
 use Rattle.adj_analysed.specs.Meets.{IsUnmarkedAct, IsUnmarked}
 use Rattle.adj_analysed.specs.MarkedLines.{told_in, told_code, told_units, tale_of}
 use Rattle.adj_planned.specs.Planned.{facts_by, SchedulesAddNothing, NoneIsReversed}
@@ -161,9 +161,9 @@ module _ (reads : List ℕ → Vars) where
         goes i d (step line a rest) h = let here = goes_act i d a h.0 in let later = goes (next i a) d rest h.1 in λ k. here k || later k
 
     -- no loop is reversed by a schedule
-    module _ (n : ℕ) where
+    module _ (sort : Step → Bool) (n : ℕ) where
       mutual
-        reverses_none_act : (i d : ℕ) (a : Act) → IsUnmarkedAct a → reverses_act sc n p i d a ≡ false
+        reverses_none_act : (i d : ℕ) (a : Act) → IsUnmarkedAct a → reverses_act_by sc sort n p i d a ≡ false
         reverses_none_act i d (assign x subs e) h = refl
         reverses_none_act i d (choose c a b) h = let here = reverses_none (suc i) d a h.0 in let other = reverses_none (behind (suc i) a) d b h.1 in λ k. here k || other k
         reverses_none_act i d (loop x a b c body unmarked) h = reverses_none (suc i) (suc d) body h.1
@@ -173,7 +173,7 @@ module _ (reads : List ℕ → Vars) where
         reverses_none_act i d (call name args) h = refl
         reverses_none_act i d (runtime o) h = refl
 
-        reverses_none : (i d : ℕ) (c : Code) → IsUnmarked c → reverses sc n p i d c ≡ false
+        reverses_none : (i d : ℕ) (c : Code) → IsUnmarked c → reverses_by sc sort n p i d c ≡ false
         reverses_none i d stop h = refl
         reverses_none i d (step line a rest) h = let here = reverses_none_act i d a h.0 in let later = reverses_none (next i a) d rest h.1 in λ k. here k || later k
 
@@ -190,11 +190,11 @@ module _ (reads : List ℕ → Vars) where
         of_loops : (sort : Act → Bool) (o : Role) → loop_helpers_with sc sort o p i c ≡ loop_helpers_with None sort o p i c
         of_loops sort o = λ k. helpers_among (λ n. goes sort n i 0 c h k) o 1 (depth i 0 c h k)
 
-        of_role : (o : Role) → reversal_helpers sc o p i c ≡ []
-        of_role o = among_none (λ n. reverses sc n p i 0 c) (λ n. reverses_none n i 0 c h) o 1 (depth_used_with sc p i 0 c)
+        of_role : (sort : Step → Bool) (o : Role) → reversal_helpers sc sort o p i c ≡ []
+        of_role sort o = among_none (λ n. reverses_by sc sort n p i 0 c) (λ n. reverses_none sort n i 0 c h) o 1 (depth_used_with sc p i 0 c)
 
         of_reversals : all_reversal_helpers sc p i c ≡ []
-        of_reversals = λ k. of_role entry k ++ (of_role entries k ++ (of_role kind k ++ (of_role lower k ++ of_role upper k)))
+        of_reversals = λ k. of_role any_step entry k ++ (of_role any_step entries k ++ (of_role any_step kind k ++ (of_role any_step lower k ++ (of_role any_step upper k ++ of_role has_slots slots k))))
 
   -- ---- which units its turns call
 

@@ -24,7 +24,7 @@ use Rattle.adj_facts.specs.Problem.{Problem}
 use Rattle.adj_facts.specs.Activity.{Activity}
 use Rattle.adj_facts.specs.Live.{Liveness}
 use Rattle.adj_facts.specs.Laws.{Analysed}
-use Rattle.adj_analysed.specs.Meets.{program_facts, IsUnmarked, HasLiteralMarks}
+use Rattle.adj_analysed.specs.Meets.{program_facts, IsUnmarked}
 use Rattle.adj_analysed.specs.MarkedLines.{program_lines, AreLinesApart, reversed_lines}
 use Rattle.adj_flow.specs.Asked.{units_of}
 use Rattle.adj_flow.specs.declared.units.Flow.{Flow}
@@ -38,14 +38,6 @@ HasNoMarks ps = EachUnit (λ u. IsUnmarked u.body) ps
 -- in the kernel of a program without marked loops none is marked
 abbrev pub KernelIsUnmarked : Type 0
 KernelIsUnmarked = (ps : List Procedure) → HasNoMarks ps → HasNoMarks (kernel_of ps)
-
--- no loop of a program takes its number of snapshots from a variable
-abbrev pub MarksAreLiteral : List Procedure → Type 0
-MarksAreLiteral ps = EachUnit (λ u. HasLiteralMarks u.body) ps
-
--- so it is in the kernel
-abbrev pub KernelKeepsMarks : Type 0
-KernelKeepsMarks = (ps : List Procedure) → MarksAreLiteral ps → MarksAreLiteral (kernel_of ps)
 
 -- where no two marked loops of a program stand at one line, no two of its kernel do
 abbrev pub KernelKeepsLines : Type 0
@@ -107,11 +99,11 @@ PlannedIsSound =
 
 -- ---- where marked loops are reversed by schedules
 
--- By exact ones it is an adjoint of the program, and so is what differs from it in line numbers alone: of a program whose marks are literal, and
--- no two of whose marked loops stand at one line.
+-- By exact ones it is an adjoint of the program, and so is what differs from it in line numbers alone: of a program no two of whose marked loops
+-- stand at one line.
 abbrev pub ReversedIsAdjoint : Type 0
 ReversedIsAdjoint =
-    (ps : List Procedure) → IsAccepted ps → MarksAreLiteral ps → AreLinesApart (program_lines ps) → (name : List ℕ) (u : Procedure) → find_unit ps name ≡ Some u → (vars outvars : List Bool) →
+    (ps : List Procedure) → IsAccepted ps → AreLinesApart (program_lines ps) → (name : List ℕ) (u : Procedure) → find_unit ps name ≡ Some u → (vars outvars : List Bool) →
     (a : Activity) (l : Liveness) (saved held : ℕ → Vars) → Analysed (kernel_problem ps name vars outvars) a l saved held → (qs : List Procedure) →
     let m = marks_by ps a l saved held in
     unlined (reversed_for ps name vars outvars m) ≡ unlined qs → IsAdjointOfWith true (lines_by ps m) m ps name vars outvars qs

@@ -6,17 +6,16 @@
 //! `planned_law`, and where it reverses marked loops by schedules `reversed_law`, and `unscheduled_law` for programs without any.
 #![tactic(auto)]
 
-ghost use Rattle.adj_planned.specs.Planned.{KernelIsUnmarked, KernelKeepsMarks, KernelKeepsLines, ReadHaveLinesApart, PlannedIsAdjoint, PlannedSpends, PlannedIsWritten, PlannedIsSound, ReversedIsAdjoint, ReversedIsWritten, ReversedIsSound, ReversedHaveOwnNames, SchedulesAddNothing, ReversedIsPlanned, NoneIsReversed, ReversedSpends, PlansAreAnalyses};
+ghost use Rattle.adj_planned.specs.Planned.{KernelIsUnmarked, KernelKeepsLines, ReadHaveLinesApart, PlannedIsAdjoint, PlannedSpends, PlannedIsWritten, PlannedIsSound, ReversedIsAdjoint, ReversedIsWritten, ReversedIsSound, ReversedHaveOwnNames, SchedulesAddNothing, ReversedIsPlanned, NoneIsReversed, ReversedSpends, PlansAreAnalyses};
 
 /// In the kernel of a program without marked loops none is marked.
 pub fn unmarked_law()
     ensures { KernelIsUnmarked }
 {}
 
-/// In the kernel of a program whose marks are literal all are, and where no two of its marked loops stand at one line no two of its kernel do.
+/// Where no two marked loops of a program stand at one line no two of its kernel do.
 pub fn marks_law()
-    ensures literal { KernelKeepsMarks }
-    ensures apart { KernelKeepsLines }
+    ensures { KernelKeepsLines }
 {}
 
 /// No two marked loops of a program that a text gives stand at one line.
@@ -33,8 +32,8 @@ pub fn planned_law()
     ensures sound { PlannedIsSound }
 {}
 
-/// What is emitted by them where marked loops are reversed by schedules is an adjoint of a program whose marks are literal and no two of whose
-/// marked loops stand at one line; and of each accepted program it can be written as a text, and has no fault as a text that is run.
+/// What is emitted by them where marked loops are reversed by schedules is an adjoint of a program no two of whose marked loops stand at one
+/// line; and of each accepted program it can be written as a text, and has no fault as a text that is run.
 pub fn reversed_law()
     ensures adjoint { ReversedIsAdjoint }
     ensures own_names { ReversedHaveOwnNames }

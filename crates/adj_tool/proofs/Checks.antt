@@ -28,13 +28,13 @@ use Rattle.adj_shape.proofs.Accepted.{accepted_has_shape}
 use Rattle.adj_weave.proofs.Lending.{exact_shadows}
 use Rattle.adj_readable.specs.Reading.{OrTooMany}
 use Rattle.adj_limits.specs.Limits.{EmittedIsRunnableWith}
-use Rattle.adj_planned.specs.Planned.{MarksAreLiteral, kernel_problem, lines_by, reversed_for, marks_by}
+use Rattle.adj_planned.specs.Planned.{kernel_problem, lines_by, reversed_for, marks_by}
 use Rattle.adj_planned.proofs.Planned as planned
 use Rattle.adj_planned.proofs.OwnNames.{own_names}
 use Rattle.adj_analysed.specs.MarkedLines.{program_lines, AreLinesApart}
 use Rattle.adj_answer.specs.Answer.{Answer}
 use Rattle.adj_answer.specs.Laws.{ProgramTold}
-use Rattle.adj_answer.specs.Programs.{program_of}
+use Rattle.adj_parse.specs.Trees.{program_of}
 use Rattle.adj_data.specs.Fitting.{IsSized}
 use Rattle.adj_running.specs.Running.{Asked}
 use Rattle.adj_running.proofs.Heads.{numbered}
@@ -67,11 +67,11 @@ module _ (ps : List Procedure) (name : List ℕ) (h : Head) (accepted : IsAccept
       let shadows : AllHaveShadows m (kernel_of ps) (kernel_of ps) = exact_shadows run_rules (kernel_problem ps name h.vars h.outvars) (kernel_checked ps accepted) x.activity x.analysed.active m refl (λ n. refl) in
       subst (λ z. OrTooMany (λ found. unlined found ≡ unlined z) (program_of Run (text_of z))) (sym x.emitted) (runnable bytes ps given accepted few m shadows (unit_number (kernel_of ps) name) h.vars h.outvars)
 
-  module _ (literal : MarksAreLiteral ps) (apart : AreLinesApart (program_lines ps)) (u : Procedure) (found : find_unit ps name ≡ Some u) where
+  module _ (apart : AreLinesApart (program_lines ps)) (u : Procedure) (found : find_unit ps name ≡ Some u) where
     pub adjoins : (others : List Procedure) → unlined qs ≡ unlined others → IsAdjointOfWith true (lines_by ps m) m ps name h.vars h.outvars others
     adjoins others same =
         let x = known.emitted in
-        planned.is_reversed ps accepted literal apart name u found h.vars h.outvars x.activity x.liveness x.saved x.held x.analysed others (ap unlined (sym x.emitted) ∙ same)
+        planned.is_reversed ps accepted apart name u found h.vars h.outvars x.activity x.liveness x.saved x.held x.analysed others (ap unlined (sym x.emitted) ∙ same)
 
     -- and so are its looks and what its run takes
     pub runs_for : (others : List Procedure) → unlined qs ≡ unlined others → RunsAdjoint m ps name h.vars h.outvars others
@@ -184,25 +184,25 @@ module _ (ps : List Procedure) (name : List ℕ) (vars outvars : List (List ℕ)
 
 -- ---- the answer to data
 
-module _ (r : Asked) (vars outvars : List (List ℕ)) (ps : List Procedure) (accepted : IsAccepted ps) (clean : IsSound run_rules ps) (literal : MarksAreLiteral ps) (apart : AreLinesApart (program_lines ps)) (sound : first_head_fault ps r.head vars outvars ≡ None) (h : Head) (is : h ≡ head_of ps r.head vars outvars)
+module _ (r : Asked) (vars outvars : List (List ℕ)) (ps : List Procedure) (accepted : IsAccepted ps) (clean : IsSound run_rules ps) (apart : AreLinesApart (program_lines ps)) (sound : first_head_fault ps r.head vars outvars ≡ None) (h : Head) (is : h ≡ head_of ps r.head vars outvars)
     (qs : List Procedure) (adjoint : List ℕ) (shadowed : List Bool) (known : IsKnownFor (kernel_of ps) (record { unit = unit_number (kernel_of ps) r.head; vars = h.vars; outvars = h.outvars }) qs adjoint shadowed) (runnable : IsRunnable qs) (told : ProgramTold) where
   abbrev head : IsUnit ps r.head
   head = there ps r.head vars outvars sound h is
 
   abbrev both : Sides
-  both = sides ps r.head h accepted qs adjoint shadowed known literal apart head.unit head.found runnable
+  both = sides ps r.head h accepted qs adjoint shadowed known apart head.unit head.found runnable
 
   abbrev are_both : AreSides ps r.head h both
-  are_both = are_sides ps r.head h accepted qs adjoint shadowed known literal apart head.unit head.found runnable told
+  are_both = are_sides ps r.head h accepted qs adjoint shadowed known apart head.unit head.found runnable told
 
   both_adjoint : AreAdjoint both
   both_adjoint =
       let at = unit_at ps r.head vars outvars sound h is in
-      are_adjoint ps r.head h accepted qs adjoint shadowed known literal apart head.unit head.found runnable (sized ps accepted.written clean h.unit head.unit at)
+      are_adjoint ps r.head h accepted qs adjoint shadowed known apart head.unit head.found runnable (sized ps accepted.written clean h.unit head.unit at)
       (many_vars ps r.head vars outvars sound h is head.unit at) (many_outvars ps r.head vars outvars sound h is head.unit at)
 
   runs_both : RunsAdjoint are_both.marks ps r.head h.vars h.outvars (read_back qs)
-  runs_both = runs_for ps r.head h accepted qs adjoint shadowed known literal apart head.unit head.found (read_back qs) (alike_read qs runnable)
+  runs_both = runs_for ps r.head h accepted qs adjoint shadowed known apart head.unit head.found (read_back qs) (alike_read qs runnable)
 
   pub is_checked : CheckTraps → (bytes : List ℕ) (a : Answer) → a ≡ check_answer r both bytes → IsChecked ps h r bytes a
   is_checked law bytes a same = record { sides = both; are_sides = are_both; runs = runs_both; is = same; traps = law r both both_adjoint bytes }

@@ -35,7 +35,7 @@ use Rattle.adj_accepted.proofs.Kernels.{kernel_checked, head_within}
 use Rattle.adj_weave.proofs.Lending.{exact_shadows}
 use Rattle.adj_readable.specs.Reading.{OrTooMany}
 use Rattle.adj_limits.specs.Limits.{EmittedIsRunnableWith}
-use Rattle.adj_planned.specs.Planned.{MarksAreLiteral, kernel_problem, lines_by, reversed_for, marks_by}
+use Rattle.adj_planned.specs.Planned.{kernel_problem, lines_by, reversed_for, marks_by}
 use Rattle.adj_planned.proofs.Planned as planned
 use Rattle.adj_planned.proofs.OwnNames.{own_names}
 use Rattle.adj_shape.specs.Accepted.{HasKernelShape}
@@ -48,7 +48,7 @@ use Rattle.adj_weave.specs.Shared.{IsCheckedBySome}
 use Rattle.adj_tool.specs.Words.{Request}
 use Rattle.adj_answer.specs.Answer.{Answer}
 use Rattle.adj_answer.specs.Laws.{ProgramTold}
-use Rattle.adj_answer.specs.Programs.{program_of}
+use Rattle.adj_parse.specs.Trees.{program_of}
 use Rattle.adj_tool.specs.Fitting.{most_counted, is_counted, kernel_fits}
 use Rattle.adj_tool.specs.Answer.{most_bytes, IsWritten, IsGiven}
 use Rattle.adj_tool.specs.Headline.{IsUnit, ReadsWritten, WritesAdjoint, flags_of}
@@ -110,8 +110,8 @@ module _ (r : Request) (ps : List Procedure) (h : Head) (sound : first_head_faul
       (other_lines (reversed_for ps r.head h.vars h.outvars back.marks) back.reads.0 (sym back.reads.2) (program_of Run (text_of (reversed_for ps r.head h.vars h.outvars back.marks))) runs)
 
   -- the program that the text is, which has other lines than the one that was printed, is an adjoint of the text that reads as the program
-  pub head_adjoins : IsAccepted ps → MarksAreLiteral ps → EmittedIsRunnableWith true → ProgramTold → (text : List ℕ) → ReadsWritten ps r.head h text → (bytes : List ℕ) → length bytes ≤ most_bytes → Reads bytes ps → program_of Source bytes ≡ Ok ps → WritesAdjoint r bytes text
-  head_adjoins accepted literal runnable told text back bytes few reads given =
+  pub head_adjoins : IsAccepted ps → EmittedIsRunnableWith true → ProgramTold → (text : List ℕ) → ReadsWritten ps r.head h text → (bytes : List ℕ) → length bytes ≤ most_bytes → Reads bytes ps → program_of Source bytes ≡ Ok ps → WritesAdjoint r bytes text
+  head_adjoins accepted runnable told text back bytes few reads given =
       let x = back.exact in
       let m = marks_by ps x.activity x.liveness x.saved x.held in
       let same : unlined (reversed_for ps r.head h.vars h.outvars m) ≡ unlined back.reads.0 = ap (λ n. unlined (reversed_for ps r.head h.vars h.outvars n)) (sym x.are) ∙ sym back.reads.2 in
@@ -130,7 +130,7 @@ module _ (r : Request) (ps : List Procedure) (h : Head) (sound : first_head_faul
         is_adjoint =
             subst (λ n. IsAdjointOfWith true (lines_by ps n) n ps r.head (flags_of r.vars there.unit.dummies) (flags_of r.outvars there.unit.dummies) back.reads.0) (sym x.are)
             (subst (λ v. IsAdjointOfWith true (lines_by ps m) m ps r.head v (flags_of r.outvars there.unit.dummies) back.reads.0) vars_is (subst (λ v. IsAdjointOfWith true (lines_by ps m) m ps r.head h.vars v back.reads.0) outvars_is
-            (planned.is_reversed ps accepted literal (lines_apart bytes ps few reads) r.head there.unit there.found h.vars h.outvars x.activity x.liveness x.saved x.held x.analysed back.reads.0 same)));
+            (planned.is_reversed ps accepted (lines_apart bytes ps few reads) r.head there.unit there.found h.vars h.outvars x.activity x.liveness x.saved x.held x.analysed back.reads.0 same)));
         own_names = own_names ps accepted back.marks;
         shape =
             subst (λ n. HasKernelShape true n ps r.head (flags_of r.vars there.unit.dummies) (flags_of r.outvars there.unit.dummies) back.reads.0) (sym x.are)

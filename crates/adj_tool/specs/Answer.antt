@@ -23,7 +23,6 @@ use Rattle.adj_tool.specs.Words.{Request}
 use Rattle.adj_tool.specs.declared.task.Wanted.{Wanted}
 use Rattle.adj_tool.specs.declared.task.Wanted.TheVariants as wanted
 use Rattle.adj_tool.specs.Planned.{AreExact}
-use Rattle.adj_tool.specs.Profile.{first_untreated}
 use Rattle.adj_tool.specs.Fitting.{most_counted, kernel_fits}
 
 -- ---- schedules
@@ -48,10 +47,6 @@ schedule_answer steps snapshots = record {
 -- the most bytes of an input
 abbrev pub most_bytes : ℕ
 most_bytes = 4194304
-
--- a statement at this line isn't treated yet
-abbrev pub untreated : ℕ → Answer
-untreated line = refused (record { code = 3; line = line; number = 0 })
 
 -- a kernel is too large
 abbrev pub too_large : Answer
@@ -80,15 +75,9 @@ abbrev pub AnswersFitted : Bool → Wanted → List Procedure → List ℕ → H
 AnswersFitted true w ps name h a = IsGiven w ps name h a
 AnswersFitted false w ps name h a = a ≡ too_large
 
--- the answer of `adjoint` for a program and its head, where a statement at a line isn't treated yet, or none
-abbrev pub AnswersTreated : Option ℕ → List Procedure → List ℕ → Head → Answer → Type 0
-AnswersTreated (Some line) ps name h a = a ≡ untreated line
-AnswersTreated None ps name h a = AnswersFitted (kernel_fits (kernel_of ps)) wanted.Adjoint ps name h a
-
--- the answer for a program and its head; `plan` treats all statements
+-- the answer for a program and its head
 abbrev pub AnswersAccepted : Wanted → List Procedure → List ℕ → Head → Answer → Type 0
-AnswersAccepted wanted.Adjoint ps name h a = AnswersTreated (first_untreated ps) ps name h a
-AnswersAccepted wanted.Plan ps name h a = AnswersFitted (kernel_fits (kernel_of ps)) wanted.Plan ps name h a
+AnswersAccepted w ps name h a = AnswersFitted (kernel_fits (kernel_of ps)) w ps name h a
 
 -- the answer for a program in which names, calls and writes have no fault, where the head or a listed name has one, or none
 abbrev pub AnswersHeaded : Option Refusal → Wanted → Request → List Procedure → Answer → Type 0

@@ -28,9 +28,8 @@ use Rattle.adj_checking.specs.Checking.{Sides, check_answer}
 use Rattle.adj_checking.specs.Emitted.{or_itself}
 use Rattle.adj_checking.specs.Agreeing.{TrapsAlone, Agrees}
 use Rattle.adj_tool.specs.Planned.{AreExact}
-use Rattle.adj_tool.specs.Profile.{first_untreated}
 use Rattle.adj_tool.specs.Fitting.{kernel_fits}
-use Rattle.adj_tool.specs.Answer.{most_bytes, too_large, untreated}
+use Rattle.adj_tool.specs.Answer.{most_bytes, too_large}
 use Rattle.adj_tool.specs.Headline.{flags_of}
 
 -- what the text of a program is in Run mode, and the program itself where its text is refused
@@ -75,18 +74,13 @@ abbrev pub Unrefused : Option Refusal → Type 0 → Answer → Type 0
 Unrefused (Some e) P a = a ≡ refused e
 Unrefused None P a = P
 
--- a statement at a line isn't treated yet, or none
-abbrev pub Treated : Option ℕ → Type 0 → Answer → Type 0
-Treated (Some line) P a = a ≡ untreated line
-Treated None P a = P
-
 -- the kernel fits, or not
 abbrev pub Fitted : Bool → Type 0 → Answer → Type 0
 Fitted true P a = P
 Fitted false P a = a ≡ too_large
 
 abbrev pub AnswersAcceptedCheck : Asked → List ℕ → List Procedure → Head → Answer → Type 0
-AnswersAcceptedCheck r bytes ps h a = Treated (first_untreated ps) (Fitted (kernel_fits (kernel_of ps)) (IsChecked ps h r bytes a) a) a
+AnswersAcceptedCheck r bytes ps h a = Fitted (kernel_fits (kernel_of ps)) (IsChecked ps h r bytes a) a
 
 abbrev pub AnswersSoundCheck : Asked → List (List ℕ) → List (List ℕ) → List ℕ → List Procedure → Answer → Type 0
 AnswersSoundCheck r vars outvars bytes ps a = Unrefused (first_head_fault ps r.head vars outvars) (AnswersAcceptedCheck r bytes ps (head_of ps r.head vars outvars) a) a

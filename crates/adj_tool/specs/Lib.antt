@@ -1,4 +1,3 @@
-pub mod Profile
 pub mod Fitting
 pub mod Words
 pub mod Planned

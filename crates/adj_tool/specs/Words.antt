@@ -1,11 +1,12 @@
 -- Words: what the program is asked to do.
-use Rattle.std.specs.Prelude.{ℕ, ◌-◌, ◌+◌, ◌*◌, ◌^◌, ◌==◌, nat_le, List, [], ◌∷◌, length, map, fold, Bool, true, false, not, ◌&&◌, ◌||◌, if◌then◌else◌, Option, Some, None, is_some, option_map, option_and_then, codes}
+use Rattle.std.specs.Prelude.{ℕ, ◌-◌, ◌+◌, ◌^◌, ◌==◌, nat_le, List, [], ◌∷◌, length, map, Bool, true, false, not, ◌&&◌, ◌||◌, if◌then◌else◌, Option, Some, None, is_some, option_map, option_and_then, codes}
 use Rattle.std.specs.List.{list_all}
 use Rattle.std.specs.Str.{bytes_eq}
 use Rattle.clap.specs.Kinds.{Kinds}
 use Rattle.clap.specs.Walk.{Row, Rule, Text, all_of, first_of}
 use Rattle.clap.specs.Simple.{App, matches_of, new_app, new_rule, on_top, with_rule}
 use Rattle.clap.specs.Faults.{fault_of}
+use Rattle.adj_text.specs.Char.{is_capital, is_small, is_digit, underscore, upper, number_of}
 use Rattle.adj_running.specs.Running.{Asked}
 
 -- ---- the command line
@@ -36,18 +37,11 @@ program =
 
 -- a letter of either case
 abbrev pub is_letter : ℕ → Bool
-is_letter c = (nat_le 65 c && nat_le c 90) || (nat_le 97 c && nat_le c 122)
-
-abbrev pub is_digit : ℕ → Bool
-is_digit c = nat_le 48 c && nat_le c 57
+is_letter c = is_capital c || is_small c
 
 -- what may follow the first letter of a name: letters, digits and `_`
 abbrev pub is_name_byte : ℕ → Bool
-is_name_byte c = is_letter c || (is_digit c || (c == 95))
-
--- lower case folded to upper case
-abbrev pub upper : ℕ → ℕ
-upper c = if nat_le 97 c && nat_le c 122 then c - 32 else c
+is_name_byte c = is_letter c || (is_digit c || c == underscore)
 
 -- a name word: a letter and then letters, digits and `_`, at most 63 characters
 abbrev pub is_name_word : Text → Bool
@@ -76,15 +70,11 @@ pieces_behind (Some w) = pieces w
 abbrev pub names_of : Text → Option (List Text)
 names_of w = if list_all is_name_word (pieces w) then Some (map (map upper) (pieces w)) else None
 
--- the number that digits write
-abbrev pub value_of : List ℕ → ℕ
-value_of ds = fold (λ n d. n * 10 + (d - 48)) 0 ds
-
 -- the number of a number word, 1 to 20 digits, where it lies from `least` to `most`
 abbrev pub number_in : ℕ → ℕ → Text → Option ℕ
 number_in least most w =
-    if (nat_le 1 (length w) && nat_le (length w) 20) && (list_all is_digit w && (nat_le least (value_of w) && nat_le (value_of w) most))
-    then Some (value_of w) else None
+    if (nat_le 1 (length w) && nat_le (length w) 20) && (list_all is_digit w && (nat_le least (number_of w) && nat_le (number_of w) most))
+    then Some (number_of w) else None
 
 -- ---- commands
 

@@ -10,17 +10,15 @@ ghost use Rattle.adj_names.specs.Fault.{source_rules};
 ghost use Rattle.adj_names.specs.HeadFaults.{first_head_fault, head_of, unit_number};
 ghost use Rattle.adj_kernel.specs.Sound.{IsAccepted};
 ghost use Rattle.adj_kernel.specs.Stepped.{kernel_of};
-ghost use Rattle.adj_tool.specs.Profile.{first_untreated};
-ghost use Rattle.adj_answer.specs.Programs.{program_of};
+ghost use Rattle.adj_parse.specs.Trees.{program_of};
 ghost use Rattle.adj_answer.specs.Views.{answer_of};
-ghost use Rattle.adj_tool.specs.Answer.{AnswersAccepted, AnswersChecked, AnswersFitted, AnswersProgram, AnswersTreated, AnswersWanted, most_bytes, too_large, untreated};
+ghost use Rattle.adj_tool.specs.Answer.{AnswersAccepted, AnswersChecked, AnswersFitted, AnswersProgram, AnswersWanted, most_bytes, too_large};
 ghost use Rattle.adj_tool.specs.Fitting.{kernel_fits};
 ghost use Rattle.adj_tool.specs.Headline.{IsAdjoined, IsUnit, ReadsBack};
 ghost use Rattle.adj_tool.specs.Views.{request_of};
 
 use crate::planned::text_wanted;
 use crate::task::{Request, Wanted};
-use crate::untreated::first_untreated;
 use adj_answer::{Answer, Status, read, reading_law, refused};
 use adj_fixed::Mode;
 use adj_kernels::checked_kernel;
@@ -28,13 +26,6 @@ use adj_limits::emitted_law;
 use adj_symbols::{Checked, check, head};
 use adj_tree::{Fault, Head, Memory, Name, Program, Refusal};
 use std::alloc::Global;
-
-/// The refusal of what isn't treated yet.
-pub(crate) fn untreated(alloc: Global, line: u32) -> Result<Answer, Memory>
-    ensures { IfOk result (λ a. answer_of a ≡ untreated line) }
-{
-    refused(alloc, Refusal::new(3, line))
-}
 
 /// The refusal of a kernel that is too large.
 pub(crate) fn too_large(alloc: Global) -> Result<Answer, Memory>
@@ -88,44 +79,6 @@ fn written(
     })
 }
 
-// The answer of `adjoint` for a program without faults of names, calls and writes, and for its head.
-fn answer_adjoint(
-    alloc: Global,
-    request: &Request,
-    program: &Program,
-    head: Head,
-) -> Result<Answer, Memory>
-    requires written { IsWritten (procedures_of program.now) }
-    requires sound { IsSound source_rules (procedures_of program.now) }
-    requires sound_head { let r = request_of request.now in first_head_fault (procedures_of program.now) r.head r.vars r.outvars ≡ None }
-    requires head { let r = request_of request.now in head ≡ head_of (procedures_of program.now) r.head r.vars r.outvars }
-    ensures answer { IfOk result (λ a. AnswersTreated (first_untreated (procedures_of program.now)) (procedures_of program.now) request.now.head head (answer_of a)) }
-    ensures adjoint { IfOk result (λ a. (bytes : List ℕ) → length bytes ≤ most_bytes → Reads bytes (procedures_of program.now) → program_of Source bytes ≡ Ok (procedures_of program.now) → IsAdjoined (request_of request.now) bytes (answer_of a)) }
-{
-    emitted_law();
-    reading_law();
-    if let Some(line) = first_untreated(program) {
-        return untreated(alloc, line);
-    }
-    let answer = written(alloc, Wanted::Adjoint, program, &request.head, head)?;
-    Ok(answer)
-}
-
-// The answer of `plan`.
-fn answer_plan(
-    alloc: Global,
-    request: &Request,
-    program: &Program,
-    head: Head,
-) -> Result<Answer, Memory>
-    requires written { IsWritten (procedures_of program.now) }
-    requires sound { IsSound source_rules (procedures_of program.now) }
-    requires sound_head { let r = request_of request.now in first_head_fault (procedures_of program.now) r.head r.vars r.outvars ≡ None }
-    ensures answer { IfOk result (λ a. AnswersAccepted Wanted.Plan (procedures_of program.now) request.now.head head (answer_of a)) }
-{
-    written(alloc, Wanted::Plan, program, &request.head, head)
-}
-
 // The answer for a program without faults of names, calls and writes, and for its head.
 fn answer_head(
     alloc: Global,
@@ -141,10 +94,10 @@ fn answer_head(
     ensures answer { IfOk result (λ a. AnswersAccepted wanted (procedures_of program.now) request.now.head head (answer_of a)) }
     ensures adjoint { wanted ≡ Wanted.Adjoint → IfOk result (λ a. (bytes : List ℕ) → length bytes ≤ most_bytes → Reads bytes (procedures_of program.now) → program_of Source bytes ≡ Ok (procedures_of program.now) → IsAdjoined (request_of request.now) bytes (answer_of a)) }
 {
-    match wanted {
-        Wanted::Adjoint => answer_adjoint(alloc, request, program, head),
-        Wanted::Plan => answer_plan(alloc, request, program, head),
-    }
+    emitted_law();
+    reading_law();
+    let answer = written(alloc, wanted, program, &request.head, head)?;
+    Ok(answer)
 }
 
 // The answer for a program without faults of names, calls and writes.

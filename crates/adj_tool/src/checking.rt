@@ -9,21 +9,17 @@ ghost use Rattle.adj_text.specs.declared.mode.Mode.TheVariants.{Source};
 ghost use Rattle.adj_names.specs.Check.{IsSound};
 ghost use Rattle.adj_names.specs.Fault.{source_rules};
 ghost use Rattle.adj_names.specs.HeadFaults.{first_head_fault, head_of};
-ghost use Rattle.adj_kernel.specs.Stepped.{kernel_of};
-ghost use Rattle.adj_answer.specs.Programs.{program_of};
+ghost use Rattle.adj_parse.specs.Trees.{program_of};
 ghost use Rattle.adj_answer.specs.Views.{answer_of};
 ghost use Rattle.adj_running.specs.Views.{asked_of};
 ghost use Rattle.adj_tool.specs.Answer.{most_bytes};
-ghost use Rattle.adj_tool.specs.Check.{AnswersAcceptedCheck, AnswersCheck, AnswersSoundCheck, AnswersTextCheck, Fitted, IsChecked, IsCompared};
-ghost use Rattle.adj_tool.specs.Fitting.{kernel_fits};
-ghost use Rattle.adj_tool.specs.Profile.{first_untreated};
+ghost use Rattle.adj_tool.specs.Check.{AnswersAcceptedCheck, AnswersCheck, AnswersSoundCheck, AnswersTextCheck, IsCompared};
 ghost use Rattle.adj_tool.specs.Tool.{AnswersInput, ComparesInput};
 
-use crate::answering::{too_large, unit_number, untreated};
+use crate::answering::{too_large, unit_number};
 use crate::planned::known;
 use crate::stop::Stop;
 use crate::task::CheckRequest;
-use crate::untreated::first_untreated;
 use adj_answer::{Answer, read, reading_law, refused};
 use adj_checking::{check_answer, check_law};
 use adj_fixed::Mode;
@@ -37,8 +33,8 @@ use std::alloc::Global;
 /// The most bytes of an input.
 const MOST_BYTES: usize = 4_194_304;
 
-// The answer where names, calls and writes have no fault, nor has the head, and nothing is untreated.
-fn compared(
+// The answer where names, calls and writes have no fault, nor has the head.
+fn answer_head(
     alloc: Global,
     request: &CheckRequest,
     program: &Checked,
@@ -46,13 +42,12 @@ fn compared(
     bytes: &[u8],
 ) -> Result<Answer, Memory>
     requires sound { IsSound source_rules (procedures_of program.now.program) }
-    requires treated { first_untreated (procedures_of program.now.program) ≡ None }
     requires sound_head { first_head_fault (procedures_of program.now.program) request.now.run.head request.now.vars request.now.outvars ≡ None }
     requires head { head ≡ head_of (procedures_of program.now.program) request.now.run.head request.now.vars request.now.outvars }
     requires given { program_of Source bytes.now ≡ Ok (procedures_of program.now.program) }
     requires reads { Reads bytes.now (procedures_of program.now.program) }
     requires few { length bytes.now ≤ most_bytes }
-    ensures answer { IfOk result (λ a. Fitted (kernel_fits (kernel_of (procedures_of program.now.program))) (IsChecked (procedures_of program.now.program) head (asked_of request.now.run) bytes.now (answer_of a)) (answer_of a)) }
+    ensures answer { IfOk result (λ a. AnswersAcceptedCheck (asked_of request.now.run) bytes.now (procedures_of program.now.program) head (answer_of a)) }
     ensures compared { IfOk result (λ a. IsCompared (asked_of request.now.run) request.now.vars request.now.outvars bytes.now (answer_of a)) }
 {
     emitted_law();
@@ -75,30 +70,6 @@ fn compared(
         outvars: own.outvars,
     };
     let answer = check_answer(alloc, &request.run, program, &head, emitted, bytes)?;
-    Ok(answer)
-}
-
-// The answer where names, calls and writes have no fault, nor has the head.
-fn answer_head(
-    alloc: Global,
-    request: &CheckRequest,
-    program: &Checked,
-    head: Head,
-    bytes: &[u8],
-) -> Result<Answer, Memory>
-    requires sound { IsSound source_rules (procedures_of program.now.program) }
-    requires sound_head { first_head_fault (procedures_of program.now.program) request.now.run.head request.now.vars request.now.outvars ≡ None }
-    requires head { head ≡ head_of (procedures_of program.now.program) request.now.run.head request.now.vars request.now.outvars }
-    requires given { program_of Source bytes.now ≡ Ok (procedures_of program.now.program) }
-    requires reads { Reads bytes.now (procedures_of program.now.program) }
-    requires few { length bytes.now ≤ most_bytes }
-    ensures answer { IfOk result (λ a. AnswersAcceptedCheck (asked_of request.now.run) bytes.now (procedures_of program.now.program) head (answer_of a)) }
-    ensures compared { IfOk result (λ a. IsCompared (asked_of request.now.run) request.now.vars request.now.outvars bytes.now (answer_of a)) }
-{
-    if let Some(line) = first_untreated(program.program()) {
-        return untreated(alloc, line);
-    }
-    let answer = compared(alloc, request, program, head, bytes)?;
     Ok(answer)
 }
 

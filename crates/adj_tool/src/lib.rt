@@ -10,7 +10,6 @@ mod stop;
 mod task;
 mod text;
 mod top;
-mod untreated;
 mod values;
 mod words;
 

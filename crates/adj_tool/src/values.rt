@@ -2,7 +2,8 @@
 
 ghost use Rattle.std.specs.Prelude.{◌≡◌, ◌≢◌, ◌<◌, ◌≤◌, ℕ, List, ◌∷◌, length, slice_index, IfOk, IfSome, MatchOption, Option, option_map, map};
 ghost use Rattle.std.specs.List.{list_all};
-ghost use Rattle.adj_tool.specs.Words.{is_letter, is_digit, is_name_byte, upper, is_name_word, name_of, pieces, pieces_behind, names_of, value_of, number_in};
+ghost use Rattle.adj_text.specs.Char.{is_digit, upper, number_of};
+ghost use Rattle.adj_tool.specs.Words.{is_letter, is_name_byte, is_name_word, name_of, pieces, pieces_behind, names_of, number_in};
 
 use adj_tree::{Memory, Name, NameList};
 use std::alloc::Global;
@@ -109,9 +110,9 @@ fn are_digits(word: &[u8]) -> bool
 }
 
 // The number that at most 20 digits write.
-fn value_of(digits: &[u8]) -> u128
+fn number_of(digits: &[u8]) -> u128
     requires { length digits.now ≤ 20 }
-    ensures { result ≡ value_of digits.now }
+    ensures { result ≡ number_of digits.now }
 {
     let mut value = 0u128;
     for c in digits {
@@ -128,7 +129,7 @@ pub(crate) fn number_in(least: u64, most: u64, word: &[u8]) -> Option<u64>
     if word.is_empty() || word.len() > 20 || !are_digits(word) {
         return None;
     }
-    let value = value_of(word);
+    let value = number_of(word);
     if u128::from(least) <= value && value <= u128::from(most) {
         Some(value as u64)
     } else {

@@ -1,7 +1,7 @@
 //! Tests of the program's calls, whole: what words and texts come to.
 //!
-//! `calls` and `texts` are what the tests share: calls of `adj_tool::tool` with streams in memory, and the writing of texts. The
-//! crate stands on public calls alone, and offers nothing.
+//! `calls` is what the tests share: calls of `adj_tool::tool` with streams in memory. The crate stands on public calls alone, and
+//! offers nothing.
 #![tactic(auto)]
 
 #[cfg(test)]
@@ -32,7 +32,5 @@ mod reversed;
 mod running;
 #[cfg(test)]
 mod sweeps;
-#[cfg(test)]
-mod texts;
 #[cfg(test)]
 mod worked_runs;

@@ -1,9 +1,9 @@
 //! Long texts and long statements.
 
 use crate::calls::{WORDS, writes};
-use crate::texts::{push_statement, push_times};
 use adj_tree::Memory;
 use std::alloc::Global;
+use test_texts::{push_statement, push_times};
 
 #[test]
 fn twenty_thousand_assignments(rt: HostRuntime) -> Result<(), Memory> {

@@ -1,9 +1,9 @@
 //! Texts whose names, calls, chains or writes have a fault, and texts just beside them. (docs/REFUSALS.md, "Names, calls and writes")
 
 use crate::calls::{WORDS, comes_to};
-use crate::texts::push_line;
 use adj_tree::Memory;
 use std::alloc::Global;
+use test_texts::push_line;
 
 // A text whose lines begin in column 7, or stand as they are.
 fn laid_out(alloc: Global, text: &str) -> Result<Vec<u8>, Memory> {

@@ -3,73 +3,22 @@
 use crate::calls::{SQUARE, WORDS, comes_to};
 use adj_tree::Memory;
 
-// A text that isn't treated at line 4, and has a fault of its names at line 5.
+// A text with a fault of its names at line 4.
 const MISNAMED: &[u8] =
-    b"      SUBROUTINE P(X,Y)\n      INTEGER*8 X,Y\nC$AD BINOMIAL-CKP X\n      DO I=1,2\n      Y=X*Z\n      END DO\n      END\n";
-
-// A text that isn't treated at line 4.
-const MARKED: &[u8] =
-    b"      SUBROUTINE P(X,Y)\n      INTEGER*8 X,Y\nC$AD BINOMIAL-CKP X\n      DO I=1,2\n      Y=X*Y\n      END DO\n      END\n";
+    b"      SUBROUTINE P(X,Y)\n      INTEGER*8 X,Y\n      DO I=1,2\n      Y=X*Z\n      END DO\n      END\n";
 
 // A local of the head is none of its dummies.
 const LOCAL: &[u8] =
     b"      SUBROUTINE P(X,Y)\n      INTEGER*8 X,Y,Z\n      Z=X\n      Y=Z*I\n      END\n";
 
 // Words, a text that is refused, and where.
-const REFUSED: [(&str, &[u8], &str); 34] = [
-    // marked loops that take their number of snapshots from a variable, which aren't treated yet, and the line of the first of them
-    (
-        WORDS,
-        b"      SUBROUTINE P(X,Y)\n      INTEGER*8 X,Y\nC$AD BINOMIAL-CKP X\n      DO I=1,3\n      Y=ABS(X)\n      END DO\n      END\n",
-        "REFUSED 3 LINE 4\n",
-    ),
-    (
-        WORDS,
-        b"      SUBROUTINE P(X,Y)\n      INTEGER*8 X,Y\n      IF (X.GT.0) THEN\nC$AD BINOMIAL-CKP X\n      DO I=1,3\n      Y=Y*X\n      END DO\n      END IF\n      END\n",
-        "REFUSED 3 LINE 5\n",
-    ),
-    (
-        WORDS,
-        b"      SUBROUTINE P(X,Y)\n      INTEGER*8 X,Y\n      IF (X.GT.0) THEN\n      Y=X\n      ELSE\nC$AD BINOMIAL-CKP X\n      DO I=1,3\n      Y=Y*X\n      END DO\n      END IF\n      END\n",
-        "REFUSED 3 LINE 7\n",
-    ),
-    (
-        WORDS,
-        b"      SUBROUTINE P(X,Y)\n      INTEGER*8 X,Y\n      DO 10 I=1,3\n      DO WHILE (Y.LT.5)\nC$AD BINOMIAL-CKP X\n      DO J=1,3\n      Y=Y*X\n      END DO\n      END DO\n   10 CONTINUE\n      END\n",
-        "REFUSED 3 LINE 6\n",
-    ),
-    (
-        WORDS,
-        b"      SUBROUTINE P(X,Y)\n      INTEGER*8 X,Y\n      Y=MAX(X,Y)\nC$AD BINOMIAL-CKP 3\n      DO I=1,3\nC$AD BINOMIAL-CKP Y\n      DO J=1,3\n      Y=Y*X\n      END DO\n      END DO\n      END\n",
-        "REFUSED 3 LINE 7\n",
-    ),
-    (
-        WORDS,
-        b"      SUBROUTINE P(X,Y)\n      INTEGER*8 X,Y\n      DO I=1,3\n      Y=Y*X\n      END DO\nC$AD BINOMIAL-CKP X\n      DO I=1,3\n      Y=Y*X\n      END DO\n      END\n",
-        "REFUSED 3 LINE 7\n",
-    ),
-    (
-        WORDS,
-        b"      SUBROUTINE P(X,Y)\n      INTEGER*8 X,Y\n      CALL Q(Y)\n      END\n      SUBROUTINE Q(A)\n      INTEGER*8 A\nC$AD BINOMIAL-CKP A\n      DO I=1,3\n      A=A*I\n      END DO\n      END\n",
-        "REFUSED 3 LINE 8\n",
-    ),
-    (
-        WORDS,
-        b"      SUBROUTINE Q(A)\n      INTEGER*8 A\nC$AD BINOMIAL-CKP A\n      DO I=1,3\n      A=A*I\n      END DO\n      END\n      SUBROUTINE P(X,Y)\n      INTEGER*8 X,Y\nC$AD BINOMIAL-CKP X\n      DO I=1,3\n      Y=X*I\n      END DO\n      END\n",
-        "REFUSED 3 LINE 4\n",
-    ),
-    // faults of names come first, then those of the head, then what is not treated
+const REFUSED: [(&str, &[u8], &str); 24] = [
+    // faults of names come before those of the head
     (
         "adjoint --head Q --vars X --outvars Y",
         MISNAMED,
-        "REFUSED 7 LINE 5\n",
+        "REFUSED 7 LINE 4\n",
     ),
-    (
-        "adjoint --head Q --vars X --outvars Y",
-        MARKED,
-        "REFUSED 22 LINE 0\n",
-    ),
-    (WORDS, MARKED, "REFUSED 3 LINE 4\n"),
     (WORDS, b"", "REFUSED 22 LINE 0\n"),
     // another head, and other dummies: without a line
     (

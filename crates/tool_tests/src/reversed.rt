@@ -3,10 +3,12 @@
 use crate::calls::{NONE, Run, WORDS, call, comes_to, runs_to};
 use adj_tree::Memory;
 
-// Steps of a wave, whose values stay 1.
-const WAVE: &str = "      SUBROUTINE WAVE(N,U,S)
+// Steps of a wave, whose values stay 1, before and behind what the directive says.
+const WAVE_BEGUN: &str = "      SUBROUTINE WAVE(N,U,S)
       INTEGER*8 N,U(N),S,V(50)
-C$AD BINOMIAL-CKP 5
+C$AD BINOMIAL-CKP ";
+
+const WAVE_STEPS: &str = "
       DO 30 K=1,100
       DO 10 I=2,N
       V(I)=U(I-1)*U(I)
@@ -34,8 +36,18 @@ OUT S 1
 TAN S 1
 ADJ U -5349332875191449488 2054184049804038604 -575969323120245440 -6308614952587294688 5791750302061811776 4324678919983428184 -6046836941373792224 9193034598110994032 1854343932457940256 4034146631569358584 -3705176398116823616 8677865341946730464 4941462522543908032 3145013396997408575 5998794513808461276 -1011262926096168630 8847856104759030172 4293812521427176407 -2820860762914525856 -4938587152604057488 7526365016184953312 4312476469970991724 -1378240927744203440 494249611428982616 -74616722354080048 -6092552893441984100 -940705105815187168 8709487914964277648 -5747181119628103776 1027792266232686106 3214364423245406088 -6228977344430894932 6650134872937201800 1345860629046814650 253338471349988640 44186942677323600 7110542499799200 1050421051106700 141629804643600 17310309456440 1902231808400 186087894300 16007560800 1192052400 75287520 3921225 161700 4950 100 1
 PRODUCTS 1 1
-ADVANCES 316
 ";
+
+// What the directive says, the status, and what is written behind that, or in place of it. N is 50, and M, which isn't declared, is 0;
+// U is an array, and X would be REAL.
+const WAVES: [(&str, u8, &str); 6] = [
+    ("5", 0, "ADVANCES 316\n"),
+    ("N", 0, "ADVANCES 148\n"),
+    ("M", 0, "ADVANCES 4950\n"),
+    ("U", 2, "REFUSED 9 LINE 4\n"),
+    ("X", 2, "REFUSED 7 LINE 4\n"),
+    ("0", 2, "REFUSED 20 LINE 3\n"),
+];
 
 // A loop of one turn in a loop of one turn.
 const ONE_TURN: &str = "      SUBROUTINE P(X)
@@ -176,14 +188,7 @@ const POWERS_ADJOINT: &str = "      SUBROUTINE P_B(N,X,XB,Y,YB)
 
 const POWERS_WORDS: &str = "check --head P --vars X --outvars Y";
 
-const CHECKS: [Run; 3] = [
-    (
-        "check --head WAVE --vars U --outvars S",
-        WAVE,
-        WAVE_DATA,
-        0,
-        WAVE_WRITTEN,
-    ),
+const CHECKS: [Run; 2] = [
     // the outer loop's least cost is 6, and so is that of each of the five runs of the inner one
     (
         POWERS_WORDS,
@@ -229,6 +234,57 @@ const POWERS_CHECKS: [(&str, &str, u8, &str); 4] = [
         "TAPE ROOM 3\n",
     ),
 ];
+
+// Ten turns, whose number of snapshots is the value of a variable that they write.
+const NUMBERED: &str = "      SUBROUTINE P(M,X,Y)
+      INTEGER*8 M,X,Y
+C$AD BINOMIAL-CKP M
+      DO I=1,10
+      Y=Y*X
+      M=1
+      END DO
+      END
+$DATA
+X 3
+Y 5
+X.D 1
+Y.B 1
+";
+
+// Values of M, and how many steps advance: it is 1 where it is below 1, and 64 where it is above 64.
+const NUMBERS: [(&str, &str); 4] = [("3", "15"), ("100", "9"), ("0", "45"), ("-5", "45")];
+
+#[test]
+fn a_wave_has_the_snapshots_that_its_directive_says(rt: HostRuntime) -> Result<(), Memory> {
+    let alloc = rt.alloc();
+    let words = "check --head WAVE --vars U --outvars S";
+    for (said, status, end) in WAVES {
+        let input = format!(in alloc; "{WAVE_BEGUN}{said}{WAVE_STEPS}{WAVE_DATA}")?;
+        let begun = if status == 0 { WAVE_WRITTEN } else { "" };
+        let written = format!(in alloc; "{begun}{end}")?;
+        assert!(rt;
+            comes_to(alloc, words, input.as_bytes(), status, written.as_str())?,
+            "{said}"
+        );
+    }
+    Ok(())
+}
+
+#[test]
+fn a_number_of_snapshots_is_that_before_the_loop(rt: HostRuntime) -> Result<(), Memory> {
+    let alloc = rt.alloc();
+    for (value, advances) in NUMBERS {
+        let input = format!(in alloc; "{NUMBERED}M {value}\n")?;
+        let written = format!(in alloc;
+            "OUT M 1\nOUT X 3\nOUT Y 295245\nTAN Y 984150\nADJ X 984150\nPRODUCTS 984150 984150\nADVANCES {advances}\n"
+        )?;
+        assert!(rt;
+            comes_to(alloc, POWERS_WORDS, input.as_bytes(), 0, written.as_str())?,
+            "{value}"
+        );
+    }
+    Ok(())
+}
 
 #[test]
 fn products_are_equal_and_advances_are_the_least(rt: HostRuntime) -> Result<(), Memory> {

@@ -1,6 +1,7 @@
 use Rattle.std.proofs.Common.{◌≡◌, ◌++◌, map, length}
 use Rattle.std.specs.List.{list_all}
-use Rattle.adj_tool.specs.Words.{upper, pieces, is_name_word}
+use Rattle.adj_text.specs.Char.{upper}
+use Rattle.adj_tool.specs.Words.{pieces, is_name_word}
 use Rattle.adj_tool.proofs.values.names_of.Given as goal
 
 abbrev pub invariant-loop-piece : goal.invariant-loop-piece

@@ -12,8 +12,7 @@ use Rattle.adj_tool.specs.Fitting.{kernel_fits}
 use Rattle.adj_tool.specs.Planned.{IsKnownFor}
 use Rattle.adj_tool.proofs.Checks as checks
 use Rattle.adj_tool.proofs.Heads.{lines_apart, head_there, kernel_head, kernel_is_checked, for_kernel}
-use Rattle.adj_tool.proofs.Spared.{literal}
-use Rattle.adj_tool.proofs.checking.compared.Goals as goal
+use Rattle.adj_tool.proofs.checking.answer_head.Goals as goal
 
 pub checked_kernel-requires : goal.checked_kernel-requires
 checked_kernel-requires c =
@@ -62,7 +61,7 @@ check_answer-requires-clause-emitted c = λ v at.
     let own = for_kernel ps c.in_ok-kernel.kernel.program lowered (λ us k. IsKnownFor us k (procedures_of e.program) e.adjoint e.shadowed) r.run.head c.unit_number.result
     (c.unit_number.ensures ∙ ap (λ q. unit_number (procedures_of q) r.run.head) c.program-2.ensures.program) h.vars h.outvars c.in_ok-emitted.ensures.known in
     let fits : kernel_fits (kernel_of ps) ≡ true = search rules in
-    let x = checks.emitted_for ps r.run.head h accepted (procedures_of e.program) e.adjoint e.shadowed own (literal ps c.requires.treated) (lines_apart c.args.bytes.now ps c.requires.few c.requires.reads) there.unit there.found c.emitted_law.ensures.reversed_runnable fits c.args.bytes.now c.requires.given in
+    let x = checks.emitted_for ps r.run.head h accepted (procedures_of e.program) e.adjoint e.shadowed own (lines_apart c.args.bytes.now ps c.requires.few c.requires.reads) there.unit there.found c.emitted_law.ensures.reversed_runnable fits c.args.bytes.now c.requires.given in
     subst (λ n. IsEmittedFor ps n h.vars h.outvars (procedures_of e.program) e.adjoint e.shadowed) (sym (checks.name_is ps r.run.head r.vars r.outvars c.requires.sound_head h c.requires.head v at)) x
 
 pub returns-clause-answer : goal.returns-clause-answer
@@ -77,13 +76,12 @@ returns-clause-answer c =
     let own = for_kernel ps c.in_ok-kernel.kernel.program lowered (λ us k. IsKnownFor us k (procedures_of e.program) e.adjoint e.shadowed) r.run.head c.unit_number.result
     (c.unit_number.ensures ∙ ap (λ q. unit_number (procedures_of q) r.run.head) c.program-2.ensures.program) h.vars h.outvars c.in_ok-emitted.ensures.known in
     let fits : kernel_fits (kernel_of ps) ≡ true = search rules in
-    let marks = literal ps c.requires.treated in
     let apart = lines_apart c.args.bytes.now ps c.requires.few c.requires.reads in
-    let x = checks.emitted_for ps r.run.head h accepted (procedures_of e.program) e.adjoint e.shadowed own marks apart there.unit there.found c.emitted_law.ensures.reversed_runnable fits c.args.bytes.now c.requires.given in
+    let x = checks.emitted_for ps r.run.head h accepted (procedures_of e.program) e.adjoint e.shadowed own apart there.unit there.found c.emitted_law.ensures.reversed_runnable fits c.args.bytes.now c.requires.given in
     let is = c.in_ok-answer.ensures.answer there.unit _ (checks.unit_at ps r.run.head r.vars r.outvars c.requires.sound_head h c.requires.head)
-    (checks.adjoint_there ps r.run.head h accepted (procedures_of e.program) e.adjoint e.shadowed own marks apart there.unit there.found x.runnable) in
+    (checks.adjoint_there ps r.run.head h accepted (procedures_of e.program) e.adjoint e.shadowed own apart there.unit there.found x.runnable) in
     subst (λ b. Fitted b (IsChecked ps h (asked_of r.run) c.args.bytes.now (answer_of c.in_ok-answer.answer)) (answer_of c.in_ok-answer.answer)) (sym fits)
-    (checks.is_checked (asked_of r.run) r.vars r.outvars ps accepted c.program.ensures.facts.sound marks apart c.requires.sound_head h c.requires.head (procedures_of e.program) e.adjoint e.shadowed own x.runnable c.reading_law.ensures.program c.check_law.ensures.traps c.args.bytes.now (answer_of c.in_ok-answer.answer) is)
+    (checks.is_checked (asked_of r.run) r.vars r.outvars ps accepted c.program.ensures.facts.sound apart c.requires.sound_head h c.requires.head (procedures_of e.program) e.adjoint e.shadowed own x.runnable c.reading_law.ensures.program c.check_law.ensures.traps c.args.bytes.now (answer_of c.in_ok-answer.answer) is)
 
 pub returns-clause-compared : goal.returns-clause-compared
 returns-clause-compared c =
@@ -97,9 +95,8 @@ returns-clause-compared c =
     let own = for_kernel ps c.in_ok-kernel.kernel.program lowered (λ us k. IsKnownFor us k (procedures_of e.program) e.adjoint e.shadowed) r.run.head c.unit_number.result
     (c.unit_number.ensures ∙ ap (λ q. unit_number (procedures_of q) r.run.head) c.program-2.ensures.program) h.vars h.outvars c.in_ok-emitted.ensures.known in
     let fits : kernel_fits (kernel_of ps) ≡ true = search rules in
-    let marks = literal ps c.requires.treated in
     let apart = lines_apart c.args.bytes.now ps c.requires.few c.requires.reads in
-    let x = checks.emitted_for ps r.run.head h accepted (procedures_of e.program) e.adjoint e.shadowed own marks apart there.unit there.found c.emitted_law.ensures.reversed_runnable fits c.args.bytes.now c.requires.given in
+    let x = checks.emitted_for ps r.run.head h accepted (procedures_of e.program) e.adjoint e.shadowed own apart there.unit there.found c.emitted_law.ensures.reversed_runnable fits c.args.bytes.now c.requires.given in
     let is = c.in_ok-answer.ensures.answer there.unit _ (checks.unit_at ps r.run.head r.vars r.outvars c.requires.sound_head h c.requires.head)
-    (checks.adjoint_there ps r.run.head h accepted (procedures_of e.program) e.adjoint e.shadowed own marks apart there.unit there.found x.runnable) in
-    checks.is_compared (asked_of r.run) r.vars r.outvars ps accepted c.program.ensures.facts.sound marks apart c.requires.sound_head h c.requires.head (procedures_of e.program) e.adjoint e.shadowed own x.runnable c.reading_law.ensures.program c.check_law.ensures.agrees c.args.bytes.now c.requires.reads (answer_of c.in_ok-answer.answer) is
+    (checks.adjoint_there ps r.run.head h accepted (procedures_of e.program) e.adjoint e.shadowed own apart there.unit there.found x.runnable) in
+    checks.is_compared (asked_of r.run) r.vars r.outvars ps accepted c.program.ensures.facts.sound apart c.requires.sound_head h c.requires.head (procedures_of e.program) e.adjoint e.shadowed own x.runnable c.reading_law.ensures.program c.check_law.ensures.agrees c.args.bytes.now c.requires.reads (answer_of c.in_ok-answer.answer) is

@@ -1,10 +1,8 @@
-use Rattle.std.proofs.Common.{sym, refl, ◌∙◌}
 use Rattle.adj_tree.specs.View.{procedures_of}
 use Rattle.adj_kernel.specs.Sound.{IsAccepted}
 use Rattle.adj_tool.specs.Views.{request_of}
 use Rattle.adj_tool.proofs.Heads.{head_there, head_adjoins}
-use Rattle.adj_tool.proofs.Spared.{literal}
-use Rattle.adj_tool.proofs.answering.answer_adjoint.Goals as goal
+use Rattle.adj_tool.proofs.answering.answer_head.Goals as goal
 
 pub written-requires-clause-accepted : goal.written-requires-clause-accepted
 written-requires-clause-accepted c = record { written = c.requires.written; sound = c.requires.sound }
@@ -16,6 +14,6 @@ pub returns-clause-adjoint : goal.returns-clause-adjoint
 returns-clause-adjoint c =
     let ps = procedures_of c.args.program.now in
     let accepted : IsAccepted ps = record { written = c.requires.written; sound = c.requires.sound } in
-    λ bytes few reads given done.
-    head_adjoins (request_of c.args.request.now) ps c.args.head c.requires.sound_head c.requires.head accepted (literal ps (sym c.first_untreated.ensures ∙ c.in_default.is)) c.emitted_law.ensures.reversed_runnable c.reading_law.ensures.program c.in_ok-answer.answer.text.items
-    (c.in_ok-answer.ensures.reads_back refl done) bytes few reads given
+    λ adjoint bytes few reads given done.
+    head_adjoins (request_of c.args.request.now) ps c.args.head c.requires.sound_head c.requires.head accepted c.emitted_law.ensures.reversed_runnable c.reading_law.ensures.program c.in_ok-answer.answer.text.items
+    (c.in_ok-answer.ensures.reads_back adjoint done) bytes few reads given
