@@ -24,7 +24,7 @@ neither None g h = (refl, h)
 neither (Some f) g h = absurd cc
 
 -- an entry without a fault of such extents
-record IsCounted (e : Entry) (zs : List ℤ) : Type 0 where
+record HasCount (e : Entry) (zs : List ℤ) : Type 0 where
   extents : are_extents zs ≡ true
   few : int_le (elements zs) (pos 1048576) ≡ true
   count : elements zs ≡ pos (length e.numbers)
@@ -35,14 +35,14 @@ int_same (pos m) (negsuc n) h = absurd cc
 int_same (negsuc m) (pos n) h = absurd cc
 int_same (negsuc m) (negsuc n) h = grind arith
 
-counted : (e : Entry) (zs : List ℤ) → fault_at e.line (entry_code e (Some zs)) ≡ None → IsCounted e zs
+counted : (e : Entry) (zs : List ℤ) → fault_at e.line (entry_code e (Some zs)) ≡ None → HasCount e zs
 counted e zs h = go (are_extents zs && int_le (elements zs) (pos 1048576)) refl h
   where
     count_is : (b : Bool) → int_eq (elements zs) (pos (length e.numbers)) ≡ b → fault_at e.line (if b then None else Some 5) ≡ None → elements zs ≡ pos (length e.numbers)
     count_is true q k = int_same (elements zs) (pos (length e.numbers)) q
     count_is false q k = absurd cc
 
-    go : (b : Bool) → (are_extents zs && int_le (elements zs) (pos 1048576)) ≡ b → fault_at e.line (if not b then Some 7 else (if int_eq (elements zs) (pos (length e.numbers)) then None else Some 5)) ≡ None → IsCounted e zs
+    go : (b : Bool) → (are_extents zs && int_le (elements zs) (pos 1048576)) ≡ b → fault_at e.line (if not b then Some 7 else (if int_eq (elements zs) (pos (length e.numbers)) then None else Some 5)) ≡ None → HasCount e zs
     go false q k = absurd cc
     go true q k =
         let both = and_true (are_extents zs) (int_le (elements zs) (pos 1048576)) q in
@@ -54,7 +54,7 @@ counted e zs h = go (are_extents zs && int_le (elements zs) (pos 1048576)) refl 
 record IsFound (es : List Entry) (x : List ℕ) (zs : List ℤ) : Type 0 where
   entry : Entry
   named : entry_named x es ≡ Some entry
-  counted : IsCounted entry zs
+  counted : HasCount entry zs
 
 found : (es : List Entry) (u : Procedure) (x : List ℕ) (zs : List ℤ) → extents_given es (extents_in u x) ≡ Some zs → dummy_fault es u x ≡ None → IsFound es x zs
 found es u x zs given_is h = go (entry_named x es) refl h
@@ -121,7 +121,7 @@ same_shape : (sh : Shape) → (sh.rows == sh.rows && sh.cols == sh.cols) ≡ tru
 same_shape sh = and_both (sh.rows == sh.rows) (sh.cols == sh.cols) (nat_refl sh.rows) (nat_refl sh.cols)
 
 -- an entry that has as many numbers as its extents have elements is a slot of these extents
-slot_fitting : (e : Entry) (zs : List ℤ) → IsCounted e zs → length zs ≤ 2 → slot_fits zs (record { shape = shape_of zs; cells = e.numbers }) ≡ true
+slot_fitting : (e : Entry) (zs : List ℤ) → HasCount e zs → length zs ≤ 2 → slot_fits zs (record { shape = shape_of zs; cells = e.numbers }) ≡ true
 slot_fitting e zs c few =
     let sh : Shape = shape_of zs in
     let alike = same_shape sh in

@@ -73,7 +73,7 @@ module _ (k : Problem) (a : activity.Activity) (l : live.Liveness) (saved kept_h
 
     pub at_loop : (x : Var) (first last by : Term) (body : Code) (m : Mark) → s.act ≡ loop x first last by body m → AtLoop w s.number x
     at_loop x first last by body m e = record {
-      keeps = λ h. (isl.exact (live.kept s.number)).1 (leads ((isl.exact (live.needed (point_inside s.number) x)).0 h) (live.counted part c e));
+      keeps = λ h. (isl.exact (live.kept s.number)).1 (leads ((isl.exact (live.needed (point_inside s.number) x)).0 h) (live.indexed part c e));
       resets = λ h v. let r : activity.resets a g.number s.number x ≡ true = and_both h v in
           ((isa.adjointed s.number).1 (begins (activity.reset part c e r)), (isl.exact (live.kept s.number)).1 (begins (live.counts part c e r)));
       branch = record { keeps = λ h. adjointed_kept s.number refl (λ x' subs f i. let o : loop x first last by body m ≡ assign x' subs f = sym e ∙ i in cc) (λ n args i. let o : loop x first last by body m ≡ call n args = sym e ∙ i in cc) ((isa.adjointed s.number).0 h) };

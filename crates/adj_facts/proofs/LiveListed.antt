@@ -237,7 +237,7 @@ module _ (k : Problem) (o : Scope) (y : Covers k o) (a : Activity) where
         call_in f g s args e p c (Contains-append_left (handed s) (at_actuals (live_member a s) (g, args)) e
             (map_has (λ t. (live.needed (point_after (site (a.adjointed s.number) s.number s.place)) t, live.kept s.number)) (handed_in k.units s.act) v (handed_here f g s args v c h))),
       )
-  led x z q (live.counted {g = g} {s = s} {x = t} {first = first} {last = last} {by = by} {body = body} {m = m} p c h) =
+  led x z q (live.indexed {g = g} {s = s} {x = t} {first = first} {last = last} {by = by} {body = body} {m = m} p c h) =
       let e : Fact × Fact = (live.needed (point_inside s.number) t, live.kept s.number) in (tt, assigned_in g s e (loop t first last by body m) p c h (is_first e e [] refl))
   led x z q (live.held {g = g} {s = s} {i = i} p c h) =
       let e : Fact × Fact = (live.kept s.number, live.kept i) in (
@@ -265,7 +265,7 @@ module _ (k : Problem) (o : Scope) (y : Covers k o) (a : Activity) where
   assigned_only : (g : Part) (s : Standing) (e : Fact × Fact) → TakesPart k g → Contains (statements_of g) s → (b : Act) → s.act ≡ b → Contains (live_assigned s.number b) e → live.LiveLeads k a e.0 e.1
   assigned_only g s e p c (assign x subs r) h m = subst (λ z. live.LiveLeads k a z.0 z.1) (is_only e (live.needed (point_after s.number) x, live.kept s.number) m) (live.assigned p c h)
   assigned_only g s e p c (choose q b1 b2) h m = absurd (is_none e m)
-  assigned_only g s e p c (loop x first last by body n) h m = subst (λ z. live.LiveLeads k a z.0 z.1) (is_only e (live.needed (point_inside s.number) x, live.kept s.number) m) (live.counted p c h)
+  assigned_only g s e p c (loop x first last by body n) h m = subst (λ z. live.LiveLeads k a z.0 z.1) (is_only e (live.needed (point_inside s.number) x, live.kept s.number) m) (live.indexed p c h)
   assigned_only g s e p c (during q body) h m = absurd (is_none e m)
   assigned_only g s e p c (call name args) h m = absurd (is_none e m)
   assigned_only g s e p c (runtime r) h m = absurd (is_none e m)

@@ -50,7 +50,7 @@ pub data LiveLeads (k : Problem) (a : Activity) : Fact → Fact → Type 0 where
   handed : {f g : Part} {s : Standing} {args : Terms} {v : Var} → TakesPart k f → CallsUnit k f g s args → act_writes (handed_back k.units) v s.act ≡ true →
       LiveLeads k a (needed (point_after (site (a.adjointed s.number) s.number s.place)) v) (kept s.number)
   -- a DO is kept where its variable is needed after its entry
-  counted : {g : Part} {s : Standing} {x : Var} {first last by : Term} {body : Code} {m : Mark} → TakesPart k g → Contains (statements_of g) s → s.act ≡ loop x first last by body m → LiveLeads k a (needed (point_inside s.number) x) (kept s.number)
+  indexed : {g : Part} {s : Standing} {x : Var} {first last by : Term} {body : Code} {m : Mark} → TakesPart k g → Contains (statements_of g) s → s.act ≡ loop x first last by body m → LiveLeads k a (needed (point_inside s.number) x) (kept s.number)
   -- an IF or DO is kept that holds a kept statement
   held : {g : Part} {s : Standing} {i : ℕ} → TakesPart k g → Contains (statements_of g) s → Holds i s.place → LiveLeads k a (kept s.number) (kept i)
   -- a dummy that is needed at its unit's entry is in its entry set

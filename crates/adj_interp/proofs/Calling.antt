@@ -31,7 +31,7 @@ use Rattle.adj_frame.proofs.Suiting.{one_cell, suited_on}
 use Rattle.adj_interp.specs.declared.stop.Stop.{Stop}
 use Rattle.adj_interp.specs.declared.stop.Stop.TheVariants as stop
 use Rattle.adj_interp.specs.declared.machine.Machine.{Machine}
-use Rattle.adj_interp.specs.Counted.{Counted, with_entry}
+use Rattle.adj_interp.specs.Tallied.{Tallied, with_entry}
 use Rattle.adj_interp.specs.Held.{Tells, Entry, setting_at, Holds, Stands, IsDone, IsTrapped, Ends}
 use Rattle.adj_interp.specs.Entered.{Gets, IsMisfit, inside, closed}
 use Rattle.adj_interp.proofs.Driving.{holds_stand, ends_break, finished}
@@ -153,7 +153,7 @@ module _ {C : Type 0} {numbers : Numbers C} where
 
   -- a machine with the tape and what was counted of another stands as that does
   stands_too : (w : Stand) (m m' : Machine C) → m'.tape ≡ m.tape → m'.tally ≡ m.tally → Stands numbers m w → Stands numbers m' w
-  stands_too w m m' p q h = record { tape = h.tape ∙ ap (λ (z : Held C). map numbers.shown z.words) (sym p); log = h.log ∙ ap (λ (z : Counted). z.log) (sym q) }
+  stands_too w m m' p q h = record { tape = h.tape ∙ ap (λ (z : Held C). map numbers.shown z.words) (sym p); log = h.log ∙ ap (λ (z : Tallied). z.log) (sym q) }
 
   -- so a stop is a stop of both
   pub moved : (e e' : Entry numbers) (o : Outcome (Scene C)) (x : Stop) (m m' : Machine C) → m'.tape ≡ m.tape → m'.tally ≡ m.tally → Ends e o (Err x) m → Ends e' o (Err x) m'
@@ -255,7 +255,7 @@ module _ {C : Type 0} {numbers : Numbers C} where
             let was = h.opened in
             let same = nat_same (length m1.tally.begun) m1.base c in
             let closed : d.scene.opened ≡ 0 = omega (arith, o, same) in
-            let count = ap (λ (z : Counted). length z.begun) t in
+            let count = ap (λ (z : Tallied). length z.begun) t in
             let held : Holds e m3 (record s { store = copied_out r.unit.now.dummies ws got d.scene.store s.store; tape = d.scene.tape; events = d.scene.events }) = record {
               room = ap (λ (z : Held C). z.room) p ∙ d.holds.room;
               level = v ∙ h.level;

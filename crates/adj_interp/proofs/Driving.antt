@@ -19,7 +19,7 @@ use Rattle.adj_interp.specs.declared.stop.Stop.TheVariants as stop
 use Rattle.adj_interp.specs.declared.machine.Machine.{Machine}
 use Rattle.adj_frame.specs.Framed.{result_of}
 use Rattle.adj_frame.specs.Instructed.{task_in}
-use Rattle.adj_interp.specs.Counted.{Counted, with_event}
+use Rattle.adj_interp.specs.Tallied.{Tallied, with_event}
 use Rattle.adj_interp.specs.Held.{Tells, Entry, setting_at, Holds, Stands, IsTrapped, HasMore, Ends, Reaches, Finds, stopped_at, bounds_in}
 
 -- ---- what is found
@@ -57,7 +57,7 @@ one_earlier : (e : Event) (es later : List Event) → reverse (e ∷ es) ++ late
 one_earlier e es later = ap (λ z. z ++ later) (reverse-append (e ∷ []) es) ∙ append_assoc (reverse es) (e ∷ []) later
 
 -- so what was counted tells of the run with one event more
-pub told_next : (c : Counted) (v : Event) (es : List Event) → Tells c es → Tells (with_event c v) (v ∷ es)
+pub told_next : (c : Tallied) (v : Event) (es : List Event) → Tells c es → Tells (with_event c v) (v ∷ es)
 told_next c v es h later = ap log_of (one_earlier v es later) ∙ h (v ∷ later) ∙ one_later c.begun c.log v later
 
 module _ {C : Type 0} where

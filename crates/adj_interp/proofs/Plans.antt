@@ -14,7 +14,7 @@ use Rattle.adj_meaning.specs.Store.{Store as Cells}
 use Rattle.adj_meaning.specs.Value.{Setting, value}
 use Rattle.adj_meaning.specs.Scene.{Stand, Outcome, with_value}
 use Rattle.adj_meaning.specs.Runtime.{steps_of, snapshots_of, actions_of, action_at, lower_of, upper_of}
-use Rattle.adj_interp.specs.Counted.{Plan}
+use Rattle.adj_interp.specs.Tallied.{Plan}
 use Rattle.adj_interp.specs.Held.{plan_in, action_in}
 
 -- ---- the places of a schedule

@@ -14,7 +14,7 @@ use Rattle.adj_frame.specs.Shown.{Shows}
 use Rattle.adj_interp.specs.declared.log.Log.{Log}
 use Rattle.adj_interp.specs.declared.stop.Stop.{Stop}
 use Rattle.adj_interp.specs.declared.machine.Machine.{Machine}
-use Rattle.adj_interp.specs.Counted.{Counted}
+use Rattle.adj_interp.specs.Tallied.{Tallied}
 use Rattle.adj_interp.specs.Held.{Tells, Entry, setting_at, Holds, Ends}
 use Rattle.adj_interp.specs.Entered.{closed}
 use Rattle.adj_interp.specs.Concludes.{counted_in}
@@ -55,7 +55,7 @@ module _ {C : Type 0} (numbers : Numbers C) where
       base = b;
       shown = shown;
       tape = ap (λ (z : Held C). z.words) (sym t);
-      opened = none_more m.base ∙ b ∙ sym (ap (λ (z : Counted). length z.begun) c);
+      opened = none_more m.base ∙ b ∙ sym (ap (λ (z : Tallied). length z.begun) c);
       told = subst (λ z. Tells z first_scene.events) (sym c) (told_next (record { begun = []; log = record { reversals = 0; advances = 0; height = 0 } }) (Enter u.name 1 (length held.words) (dummy_shapes (setting_in outside u first_store) u)) [] (λ later. refl));
     }
 

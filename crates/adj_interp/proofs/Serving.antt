@@ -15,7 +15,7 @@ use Rattle.adj_interp.specs.declared.stop.Stop.{Stop}
 use Rattle.adj_interp.specs.declared.machine.Machine.{Machine}
 use Rattle.adj_frame.specs.Prepared.{var_at}
 use Rattle.adj_frame.specs.Framed.{IsFrame, zero_in}
-use Rattle.adj_interp.specs.Counted.{Counted, Plan, with_end, with_event}
+use Rattle.adj_interp.specs.Tallied.{Tallied, Plan, with_end, with_event}
 use Rattle.adj_interp.specs.Held.{Tells, Entry, setting_at, Holds, IsDone, IsTrapped, IsFull, Ends, Reaches}
 use Rattle.adj_frame.proofs.Reading.{read_cell, read_shape}
 use Rattle.adj_interp.proofs.Driving.{told_next, holds_stand, reaches_end, reaches_next, reaches_break}
@@ -133,11 +133,11 @@ module _ {C : Type 0} {numbers : Numbers C} where
 
   module _ (e : Entry numbers) where
     -- a reversal began
-    pub begun_ok : (m m' : Machine C) (t : Counted) (s : Scene C) (l k level height : ℕ) → Holds e m s → m' ≡ record m { tally = t } → t ≡ with_event m.tally (Begin l k level height) → level ≡ m.level → height ≡ length m.tape.words → IsDone e m' (Done (begun (setting_at e) l k s) m.left)
+    pub begun_ok : (m m' : Machine C) (t : Tallied) (s : Scene C) (l k level height : ℕ) → Holds e m s → m' ≡ record m { tally = t } → t ≡ with_event m.tally (Begin l k level height) → level ≡ m.level → height ≡ length m.tape.words → IsDone e m' (Done (begun (setting_at e) l k s) m.left)
     begun_ok m m' t s l k level height h p q a b =
         let at : t ≡ with_event m.tally (Begin l k e.level (length s.tape)) = q ∙ (λ i. with_event m.tally (Begin l k ((a ∙ h.level) i) ((b ∙ ap length (sym h.tape)) i))) in
         let opened = h.opened in
-        let more : length t.begun ≡ suc (length m.tally.begun) = ap (λ (z : Counted). length z.begun) at in
+        let more : length t.begun ≡ suc (length m.tally.begun) = ap (λ (z : Tallied). length z.begun) at in
         let held : Holds e (record m { tally = t }) (begun (setting_at e) l k s) = record {
           room = h.room;
           level = h.level;
@@ -162,14 +162,14 @@ module _ {C : Type 0} {numbers : Numbers C} where
         go (suc i) z = let o = h.opened in absurd (omega (arith, o, q, z))
 
     -- the innermost ended
-    pub ended_ok : (m m' : Machine C) (t : Counted) (s : Scene C) (line : ℕ) → Holds e m s → (length m.tally.begun ≡ m.base → ⊥) → m' ≡ record m { tally = t } → t ≡ with_event m.tally (End e.level) → IsDone e m' (ended (setting_at e) s.opened line s m.left)
+    pub ended_ok : (m m' : Machine C) (t : Tallied) (s : Scene C) (line : ℕ) → Holds e m s → (length m.tally.begun ≡ m.base → ⊥) → m' ≡ record m { tally = t } → t ≡ with_event m.tally (End e.level) → IsDone e m' (ended (setting_at e) s.opened line s m.left)
     ended_ok m m' t s line h some p q = go s.opened refl
       where
         go : (i : ℕ) → s.opened ≡ i → IsDone e m' (ended (setting_at e) i line s m.left)
         go zero z = let o = h.opened in absurd (some (omega (arith, o, z)))
         go (suc i) z =
             let o = h.opened in
-            let less : length t.begun ≡ length m.tally.begun - 1 = ap (λ (y : Counted). length y.begun) q ∙ fewer m.tally.log m.tally.begun in
+            let less : length t.begun ≡ length m.tally.begun - 1 = ap (λ (y : Tallied). length y.begun) q ∙ fewer m.tally.log m.tally.begun in
             let held : Holds e (record m { tally = t }) (record s { opened = i; events = End e.level ∷ s.events }) = record {
               room = h.room;
               level = h.level;

@@ -15,13 +15,13 @@ use Rattle.adj_meaning.specs.Scene.{Scene, Stand, Outcome, Done, Trapped, More, 
 use Rattle.adj_interp.specs.declared.stop.Stop.{Stop}
 use Rattle.adj_interp.specs.declared.stop.Stop.TheVariants as stop
 use Rattle.adj_interp.specs.declared.machine.Machine.{Machine}
-use Rattle.adj_interp.specs.Counted.{Counted}
+use Rattle.adj_interp.specs.Tallied.{Tallied}
 use Rattle.adj_frame.specs.Framed.{trap_of}
 use Rattle.adj_frame.specs.Shown.{on_numbers, Shows}
 use Rattle.adj_frame.specs.Suited.{counts_in, HasOneCell}
 
 -- whatever happens later is counted on from what was counted of what happened, the last first
-abbrev pub Tells : Counted → List Event → Type 0
+abbrev pub Tells : Tallied → List Event → Type 0
 Tells c es = (later : List Event) → log_of (reverse es ++ later) ≡ log_from c.begun c.log later
 
 -- an entry of a unit in a run on some numbers: the shapes of its variables, how many words the tape can hold, its level, and how many

@@ -1,5 +1,5 @@
 -- What the contracts of this crate say of running.
-pub mod Counted
+pub mod Tallied
 pub mod Held
 pub mod Entered
 pub mod Concludes

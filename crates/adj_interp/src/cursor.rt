@@ -2,7 +2,7 @@
 
 ghost use Rattle.std.specs.Prelude.{◌≡◌, ◌<◌, ◌≤◌, ◌^◌, ◌-◌, ◌==◌, ◌&&◌, drop, slice_get};
 ghost use Rattle.adj_revolve.specs.Schedule.{schedule_of};
-ghost use Rattle.adj_interp.specs.Counted.{Plan, planned};
+ghost use Rattle.adj_interp.specs.Tallied.{Plan, planned};
 
 use adj_revolve::{Action, Schedule};
 use std::marker::Model;

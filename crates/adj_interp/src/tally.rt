@@ -4,7 +4,7 @@ ghost use Rattle.std.specs.Prelude.{◌≡◌, List, ℕ, [], map, reverse, leng
 ghost use Rattle.adj_meaning.specs.Event.{Enter, Begin, End};
 ghost use Rattle.adj_meaning.specs.Store.{Shape};
 ghost use Rattle.adj_interp.specs.Concludes.{counted_in};
-ghost use Rattle.adj_interp.specs.Counted.{Counted, with_event, reversal_of};
+ghost use Rattle.adj_interp.specs.Tallied.{Tallied, with_event, reversal_of};
 
 use crate::log::Log;
 use adj_tree::Memory;
@@ -33,7 +33,7 @@ pub struct Tally {
 }
 
 impl Model for Tally {
-    ghost Value = { Counted };
+    ghost Value = { Tallied };
 
     ghost view = { λ t. record {
       begun = map reversal_of (reverse t.begun.items);

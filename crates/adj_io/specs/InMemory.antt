@@ -1,7 +1,7 @@
 -- A source and a sink in memory, as their callers see them.
 use Rattle.std.specs.Prelude.{ℕ, ◌-◌, ◌==◌, Bool, ◌&&◌, ◌||◌, not, List, ◌++◌, length, take, drop, min}
 use Rattle.std.specs.List.{list_any}
-use Rattle.adj_io.specs.Faults.{counted}
+use Rattle.adj_io.specs.Faults.{one_more}
 
 -- the calls so far: how many were made, the numbers of those that fail (the first call is 1), and how many failed
 pub record Tally : Type 0 where
@@ -15,15 +15,15 @@ untouched failing = record { made = 0; failing = failing; faults = 0 }
 
 -- one call more
 abbrev pub called : Tally → Tally
-called t = record t { made = counted t.made }
+called t = record t { made = one_more t.made }
 
 -- one call more, which failed
 abbrev pub failed : Tally → Tally
-failed t = record t { made = counted t.made; faults = counted t.faults }
+failed t = record t { made = one_more t.made; faults = one_more t.faults }
 
 -- the next call is one of those that fail
 abbrev pub is_failing : Tally → Bool
-is_failing t = list_any (λ n. n == counted t.made) t.failing
+is_failing t = list_any (λ n. n == one_more t.made) t.failing
 
 -- a source in memory: the bytes left, the most bytes that a call gives, and its calls
 pub record Feed : Type 0 where

@@ -25,7 +25,7 @@ use Rattle.adj_kernel.specs.Lowered.{locals_in_all, before, before_target, reduc
 use Rattle.adj_kernel.specs.Apart.{EachCall', EachCall}
 use Rattle.adj_kernel.specs.Kernel.{unit_name, local_in, lowered_unit, lowered_program, EachUnit}
 use Rattle.adj_kernel.specs.Stepped.{marked_in, marked_in_act, step_name, step_names, step_call, cut_act, cut, step_unit, step_units_in_act, step_units_in, stepped_unit, stepped_from, names_of_source, stepped_program, kernel_of}
-use Rattle.adj_kernel.specs.StepTheorem.{IsStepThere, StepsThereAct, StepsThere, IsCounted, IsSource}
+use Rattle.adj_kernel.specs.StepTheorem.{IsStepThere, StepsThereAct, StepsThere, IsMatched, IsSource}
 use Rattle.adj_kernel.proofs.Faultless.{Each, each_more, each_found, each_join, none_each, none_flat, none_if, if_none}
 use Rattle.adj_kernel.proofs.Holding.{HoldsIn, Holds, listed, holding, hold_before, hold_target, hold_all, hold_passings, hold_afters, lowered_holds}
 use Rattle.adj_kernel.proofs.Programs.{found_lowered, found_in}
@@ -127,9 +127,9 @@ module _ (units : List Procedure) (written : IsWritten units) (sound : IsSound s
   -- ---- chains of the stepped program are at most twice as long
 
   module _ (below : Name → ℕ) (of_units : (name : Name) (v : Procedure) → find_unit units name ≡ Some v → below name ≤ 2 * top name) (taken : List Name) (u : Procedure)
-      (of_steps : (k line : ℕ) (x : Var) (body : Code) → EachCall (IsCounted units) body → IsStepThere (stepped_program units) taken u k line x body → StepsThere (stepped_program units) taken u (suc k) body → below (step_name taken u.name k) ≤ suc (2 * chain (chain_from units) body)) where
+      (of_steps : (k line : ℕ) (x : Var) (body : Code) → EachCall (IsMatched units) body → IsStepThere (stepped_program units) taken u k line x body → StepsThere (stepped_program units) taken u (suc k) body → below (step_name taken u.name k) ≤ suc (2 * chain (chain_from units) body)) where
     mutual
-      twice_act : (k line : ℕ) (a : Act) → EachCall' (IsCounted units) a → StepsThereAct (stepped_program units) taken u k line a → act_chain below (cut_act taken u k line a) ≤ 2 * act_chain (chain_from units) a
+      twice_act : (k line : ℕ) (a : Act) → EachCall' (IsMatched units) a → StepsThereAct (stepped_program units) taken u k line a → act_chain below (cut_act taken u k line a) ≤ 2 * act_chain (chain_from units) a
       twice_act k line (assign x subs e) p st = omega arith
       twice_act k line (choose c a b) p st = let l = twice k a p.0 st.0 in let m = twice (k + marked_in a) b p.1 st.1 in omega (arith, l, m)
       twice_act k line (loop x first last by body unmarked) p st = twice k body p st
@@ -140,13 +140,13 @@ module _ (units : List Procedure) (written : IsWritten units) (sound : IsSound s
       twice_act k line (runtime r) p st = absurd p
 
       -- of a list
-      twice : (k : ℕ) (c : Code) → EachCall (IsCounted units) c → StepsThere (stepped_program units) taken u k c → chain below (cut taken u k c) ≤ 2 * chain (chain_from units) c
+      twice : (k : ℕ) (c : Code) → EachCall (IsMatched units) c → StepsThere (stepped_program units) taken u k c → chain below (cut taken u k c) ≤ 2 * chain (chain_from units) c
       twice k stop p st = omega arith
       twice k (step line a rest) p st = let l = twice_act k line a p.0 st.0 in let m = twice (k + marked_in_act a) rest p.1 st.1 in omega (arith, l, m)
 
   -- calls are of units that are there
-  counted : (name : Name) (v : Procedure) → find_unit units name ≡ Some v → EachCall (IsCounted units) v.body
-  counted name v f = found_in (λ u. EachCall (IsCounted units) u.body) units name v f source.counted
+  matched : (name : Name) (v : Procedure) → find_unit units name ≡ Some v → EachCall (IsMatched units) v.body
+  matched name v f = found_in (λ u. EachCall (IsMatched units) u.body) units name v f source.matched
 
   -- with so many units called within one another: units of the source, and step units
   abbrev UnitsTwice : ℕ → Type 0
@@ -154,7 +154,7 @@ module _ (units : List Procedure) (written : IsWritten units) (sound : IsSound s
 
   -- and step units
   abbrev StepsTwice : ℕ → Type 0
-  StepsTwice j = (taken : List Name) (u : Procedure) (k line : ℕ) (x : Var) (body : Code) → EachCall (IsCounted units) body → IsStepThere (stepped_program units) taken u k line x body → StepsThere (stepped_program units) taken u (suc k) body → chain_within (stepped_program units) j (step_name taken u.name k) ≤ suc (2 * chain (chain_from units) body)
+  StepsTwice j = (taken : List Name) (u : Procedure) (k line : ℕ) (x : Var) (body : Code) → EachCall (IsMatched units) body → IsStepThere (stepped_program units) taken u k line x body → StepsThere (stepped_program units) taken u (suc k) body → chain_within (stepped_program units) j (step_name taken u.name k) ≤ suc (2 * chain (chain_from units) body)
 
   -- so it is, with any number of units called within one another
   both_twice : (j : ℕ) → UnitsTwice j × StepsTwice j
@@ -163,7 +163,7 @@ module _ (units : List Procedure) (written : IsWritten units) (sound : IsSound s
       let ih = both_twice j in (
         (λ name v f.
             let s = is_step_for units name v f in
-            let l = twice (chain_within (stepped_program units) j) ih.0 s.taken v (ih.1 s.taken v) 0 v.body (counted name v f) s.steps in
+            let l = twice (chain_within (stepped_program units) j) ih.0 s.taken v (ih.1 s.taken v) 0 v.body (matched name v f) s.steps in
             let m = longest units no_way name v f in
             let is : chain_within (stepped_program units) (suc j) name ≡ suc (chain (chain_within (stepped_program units) j) (cut s.taken v 0 v.body)) = ap (chain_found (chain_within (stepped_program units) j)) s.found in
             omega (arith, l, m, is)),
@@ -181,11 +181,11 @@ module _ (units : List Procedure) (written : IsWritten units) (sound : IsSound s
 
   module _ (taken : List Name) (u : Procedure) where
     -- of a statement
-    of_act : (k line : ℕ) (a : Act) → EachCall' (IsCounted units) a → StepsThereAct (stepped_program units) taken u k line a → act_chain below (cut_act taken u k line a) ≤ 2 * act_chain top a
+    of_act : (k line : ℕ) (a : Act) → EachCall' (IsMatched units) a → StepsThereAct (stepped_program units) taken u k line a → act_chain below (cut_act taken u k line a) ≤ 2 * act_chain top a
     of_act k line a p st = let b = both_twice (length (stepped_program units)) in twice_act below b.0 taken u (b.1 taken u) k line a p st
 
     -- a statement's own chain isn't too long
-    short_head : (k line : ℕ) (a : Act) → EachCall' (IsCounted units) a → StepsThereAct (stepped_program units) taken u k line a → IsShort top 40 a → IsShort below 80 (cut_act taken u k line a)
+    short_head : (k line : ℕ) (a : Act) → EachCall' (IsMatched units) a → StepsThereAct (stepped_program units) taken u k line a → IsShort top 40 a → IsShort below 80 (cut_act taken u k line a)
     short_head k line (assign x subs e) p st h = refl
     short_head k line (choose c a b) p st h = refl
     short_head k line (loop x first last by body unmarked) p st h = refl
@@ -205,11 +205,11 @@ module _ (units : List Procedure) (written : IsWritten units) (sound : IsSound s
     short_head k line (runtime r) p st h = refl
 
     -- the call of a step unit
-    short_step : (k line : ℕ) (x : Var) (body : Code) → EachCall (IsCounted units) body → IsStepThere (stepped_program units) taken u k line x body → StepsThere (stepped_program units) taken u (suc k) body → suc (suc (chain top body)) ≤ 40 → IsShort below 80 (step_call taken u k x body)
+    short_step : (k line : ℕ) (x : Var) (body : Code) → EachCall (IsMatched units) body → IsStepThere (stepped_program units) taken u k line x body → StepsThere (stepped_program units) taken u (suc k) body → suc (suc (chain top body)) ≤ 40 → IsShort below 80 (step_call taken u k x body)
     short_step k line x body p here st l = let t = (both_twice (length (stepped_program units))).1 taken u k line x body p here st in is_short 80 (below (step_name taken u.name k)) (omega (arith, l, t))
 
     mutual
-      short_in : (k line : ℕ) (a : Act) → EachCall' (IsCounted units) a → StepsThereAct (stepped_program units) taken u k line a → IsShort top 40 a → HoldsIn (λ l c. IsShort top 40 c) a → HoldsIn (λ l c. IsShort below 80 c) (cut_act taken u k line a)
+      short_in : (k line : ℕ) (a : Act) → EachCall' (IsMatched units) a → StepsThereAct (stepped_program units) taken u k line a → IsShort top 40 a → HoldsIn (λ l c. IsShort top 40 c) a → HoldsIn (λ l c. IsShort below 80 c) (cut_act taken u k line a)
       short_in k line (assign x subs e) p st s h = tt
       short_in k line (choose c a b) p st s h = (short_cut k a p.0 st.0 h.0, short_cut (k + marked_in a) b p.1 st.1 h.1)
       short_in k line (loop x first last by body unmarked) p st s h = short_cut k body p st h
@@ -220,7 +220,7 @@ module _ (units : List Procedure) (written : IsWritten units) (sound : IsSound s
       short_in k line (runtime r) p st s h = tt
 
       -- nor those in a list
-      short_cut : (k : ℕ) (c : Code) → EachCall (IsCounted units) c → StepsThere (stepped_program units) taken u k c → Holds (λ l c. IsShort top 40 c) c → Holds (λ l c. IsShort below 80 c) (cut taken u k c)
+      short_cut : (k : ℕ) (c : Code) → EachCall (IsMatched units) c → StepsThere (stepped_program units) taken u k c → Holds (λ l c. IsShort top 40 c) c → Holds (λ l c. IsShort below 80 c) (cut taken u k c)
       short_cut k stop p st h = tt
       short_cut k (step line a rest) p st h = (short_head k line a p.0 st.0 h.0, (short_in k line a p.0 st.0 h.0 h.1.0, short_cut (k + marked_in_act a) rest p.1 st.1 h.1.1))
 
@@ -230,11 +230,11 @@ module _ (units : List Procedure) (written : IsWritten units) (sound : IsSound s
 
   module _ (taken : List Name) (u : Procedure) where
     -- a step unit is so
-    step_tame : (k line : ℕ) (x : Var) (body : Code) → EachCall (IsCounted units) body → IsStepThere (stepped_program units) taken u k line x body → StepsThere (stepped_program units) taken u (suc k) body → Holds (λ l c. IsShort top 40 c) body → IsTame (step_unit taken u k line x body)
+    step_tame : (k line : ℕ) (x : Var) (body : Code) → EachCall (IsMatched units) body → IsStepThere (stepped_program units) taken u k line x body → StepsThere (stepped_program units) taken u (suc k) body → Holds (λ l c. IsShort top 40 c) body → IsTame (step_unit taken u k line x body)
     step_tame k line x body p here st h = ((suc (2 * chain (chain_from units) body), (λ j. (both_twice j).1 taken u k line x body p here st)), short_cut taken u (suc k) body p st h)
 
     mutual
-      steps_tame_act : (k line : ℕ) (a : Act) → EachCall' (IsCounted units) a → StepsThereAct (stepped_program units) taken u k line a → HoldsIn (λ l c. IsShort top 40 c) a → Each IsTame (step_units_in_act taken u k line a)
+      steps_tame_act : (k line : ℕ) (a : Act) → EachCall' (IsMatched units) a → StepsThereAct (stepped_program units) taken u k line a → HoldsIn (λ l c. IsShort top 40 c) a → Each IsTame (step_units_in_act taken u k line a)
       steps_tame_act k line (assign x subs e) p st h = tt
       steps_tame_act k line (choose c a b) p st h = each_join IsTame (step_units_in taken u k a) (step_units_in taken u (k + marked_in a) b) (steps_tame k a p.0 st.0 h.0) (steps_tame (k + marked_in a) b p.1 st.1 h.1)
       steps_tame_act k line (loop x first last by body unmarked) p st h = steps_tame k body p st h
@@ -245,12 +245,12 @@ module _ (units : List Procedure) (written : IsWritten units) (sound : IsSound s
       steps_tame_act k line (runtime r) p st h = tt
 
       -- all those of a list are
-      steps_tame : (k : ℕ) (c : Code) → EachCall (IsCounted units) c → StepsThere (stepped_program units) taken u k c → Holds (λ l c. IsShort top 40 c) c → Each IsTame (step_units_in taken u k c)
+      steps_tame : (k : ℕ) (c : Code) → EachCall (IsMatched units) c → StepsThere (stepped_program units) taken u k c → Holds (λ l c. IsShort top 40 c) c → Each IsTame (step_units_in taken u k c)
       steps_tame k stop p st h = tt
       steps_tame k (step line a rest) p st h = each_join IsTame (step_units_in_act taken u k line a) (step_units_in taken u (k + marked_in_act a) rest) (steps_tame_act k line a p.0 st.0 h.1.0) (steps_tame (k + marked_in_act a) rest p.1 st.1 h.1.1)
 
   -- and all units of a program
-  all_tame : (us : List Procedure) (taken : List Name) → Each (λ u. find_unit units u.name ≡ Some u) us → EachUnit (λ u. EachCall (IsCounted units) u.body) us → Each (λ u. Holds (λ l c. IsShort top 40 c) u.body) us → AllThere (stepped_program units) taken us → Each IsTame (stepped_from taken us)
+  all_tame : (us : List Procedure) (taken : List Name) → Each (λ u. find_unit units u.name ≡ Some u) us → EachUnit (λ u. EachCall (IsMatched units) u.body) us → Each (λ u. Holds (λ l c. IsShort top 40 c) u.body) us → AllThere (stepped_program units) taken us → Each IsTame (stepped_from taken us)
   all_tame [] taken f p h st = tt
   all_tame (u ∷ us) taken f p h st =
       each_join IsTame (stepped_unit taken u) (stepped_from (taken ++ step_names taken u.name (marked_in u.body)) us)
@@ -268,7 +268,7 @@ module _ (units : List Procedure) (written : IsWritten units) (sound : IsSound s
 
   -- so it is in the stepped program
   pub stepped_tame : Each IsTame (stepped_program units)
-  stepped_tame = all_tame units (names_of_source units) (own_found units (source_distinct units sound)) source.counted source_short (program_there units)
+  stepped_tame = all_tame units (names_of_source units) (own_found units (source_distinct units sound)) source.matched source_short (program_there units)
 
 -- ---- lowered lists have the chains of the lists
 

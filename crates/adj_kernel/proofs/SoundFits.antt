@@ -16,7 +16,7 @@ use Rattle.adj_names.specs.CallFaults.{variable_rank, is_actual_for, are_actuals
 use Rattle.adj_names.specs.WriteFaults.{name_one, is_whole_array, clash, clashes, have_clash}
 use Rattle.adj_kernel.specs.Calls.{is_name_of, stands_whole, AreHandedApart, is_scalar, ArraysStandOnce, ScalarsToScalars}
 use Rattle.adj_kernel.specs.Kernel.{IsFitCall}
-use Rattle.adj_kernel.specs.StepTheorem.{OneFor, IsCounted}
+use Rattle.adj_kernel.specs.StepTheorem.{OneFor, IsMatched}
 use Rattle.adj_kernel.proofs.Faultless.{none_if, isn't_not}
 
 -- ---- the unit that is called
@@ -46,7 +46,7 @@ one_for caller called [] (more e es) h = absurd cc
 one_for caller called (d ∷ ds) none h = absurd cc
 one_for caller called (d ∷ ds) (more e es) h = one_for caller called ds es (and_true (is_actual_for caller (rank called d) e) (are_actuals_for caller called ds es) h).1
 
-pub counted_of : (ps : List Procedure) (caller : Procedure) (name : List ℕ) (args : Terms) → Called ps caller name args → IsCounted ps name args
+pub counted_of : (ps : List Procedure) (caller : Procedure) (name : List ℕ) (args : Terms) → Called ps caller name args → IsMatched ps name args
 counted_of ps caller name args h = record { called = h.called; found = h.found; count = one_for caller h.called h.called.dummies args h.fit }
 
 -- ---- ranks

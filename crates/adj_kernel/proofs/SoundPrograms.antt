@@ -18,7 +18,7 @@ use Rattle.adj_names.specs.Check.{IsSound}
 use Rattle.adj_names.proofs.Sound.{sound_has_none}
 use Rattle.adj_kernel.specs.Apart.{EachCall}
 use Rattle.adj_kernel.specs.Kernel.{EachUnit, PlainCode, IsFitCall}
-use Rattle.adj_kernel.specs.StepTheorem.{IsCounted, HasExtents, IsSource}
+use Rattle.adj_kernel.specs.StepTheorem.{IsMatched, HasExtents, IsSource}
 use Rattle.adj_kernel.specs.WrittenTheorem.{CallsUnits}
 use Rattle.adj_kernel.proofs.Sparing.{KeepsExtents, kept_of}
 use Rattle.adj_kernel.proofs.Faultless.{Each, each_more, each_all, each_flat, of_each, none_front, none_behind, none_each, none_if, same_has}
@@ -92,8 +92,8 @@ module _ (ps : List Procedure) (u : Procedure) where
     fit_calls = each_in_code Good (IsFitCall ps u) (λ line name args g. fit_of ps u name args (called_good line name args g) (g.apart).0) no_runtime_there u.body good
 
     -- with as many actuals as dummies
-    pub counted_calls : EachCall (IsCounted ps) u.body
-    counted_calls = each_in_code Good (IsCounted ps) (λ line name args g. counted_of ps u name args (called_good line name args g)) no_runtime_there u.body good
+    pub counted_calls : EachCall (IsMatched ps) u.body
+    counted_calls = each_in_code Good (IsMatched ps) (λ line name args g. counted_of ps u name args (called_good line name args g)) no_runtime_there u.body good
 
     -- and are of units that are there
     pub called_calls : EachCall (Called ps u) u.body
@@ -159,6 +159,6 @@ module _ (ps : List Procedure) (written : IsWritten ps) (sound : IsSound source_
       plains = of_each (λ u. PlainCode u.body) ps (each_more IsWrittenProcedure (λ u. PlainCode u.body) (λ u h. plain_code u.body h.body) ps (each_all IsWrittenProcedure ps written));
       calls = of_each (λ u. EachCall (IsFitCall ps u) u.body) ps (each_more (Faultless ps) (λ u. EachCall (IsFitCall ps u) u.body) (λ u h. fit_calls ps u h.names h.called h.wrote) ps (faultless ps sound));
     };
-    counted = of_each (λ u. EachCall (IsCounted ps) u.body) ps (each_more (Faultless ps) (λ u. EachCall (IsCounted ps) u.body) (λ u h. counted_calls ps u h.names h.called h.wrote) ps (faultless ps sound));
+    matched = of_each (λ u. EachCall (IsMatched ps) u.body) ps (each_more (Faultless ps) (λ u. EachCall (IsMatched ps) u.body) (λ u h. counted_calls ps u h.names h.called h.wrote) ps (faultless ps sound));
     extents = of_each (HasExtents C ps) ps (each_more (Faultless ps) (HasExtents C ps) (λ u h. has_extents ps u h.names h.called h.wrote C) ps (faultless ps sound));
   }

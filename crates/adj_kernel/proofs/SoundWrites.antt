@@ -22,7 +22,7 @@ use Rattle.adj_kernel.proofs.Holding.{HoldsIn, Holds, listed}
 use Rattle.adj_kernel.proofs.Sparing.{AreSpared, KeepsExtents, spared_of, of_spared, kept_of, of_kept, spared_lowered, kept_lowered}
 use Rattle.adj_kernel.proofs.StepLookups.{program_there}
 use Rattle.adj_kernel.proofs.StepSpared.{all_spared}
-use Rattle.adj_kernel.proofs.WholeKernels.{plainly, counted, stepped, IsGood, good, stepped_fit, whole_kernel_form}
+use Rattle.adj_kernel.proofs.WholeKernels.{plainly, matched, stepped, IsGood, good, stepped_fit, whole_kernel_form}
 use Rattle.adj_kernel.proofs.SoundPrograms.{sound_is_source}
 
 -- ---- names that are distinct
@@ -136,7 +136,7 @@ module _ (units : List Procedure) (written : IsWritten units) (sound : IsSound s
 
   -- all of them spare them
   stepped_spared : EachUnit IsSparedThere (stepped_program units)
-  stepped_spared = all_spared units (stepped_program units) (plainly ℤ units source) (counted ℤ units source) (stepped ℤ units source) ℤ units (names_of_source units) source.fit.plains source.counted source.extents source_spared (program_there units)
+  stepped_spared = all_spared units (stepped_program units) (plainly ℤ units source) (matched ℤ units source) (stepped ℤ units source) ℤ units (names_of_source units) source.fit.plains source.matched source.extents source_spared (program_there units)
 
   -- units of the kernel
   kernel_units : (vs : List Procedure) → EachUnit IsSparedThere vs → EachUnit (IsGood ℤ units source) vs → EachUnit (λ v. IsKernelCode v.body) (map (lowered_unit (stepped_program units)) vs) → Each (λ v. faults_of_writes (handed_back (kernel_of units)) v ≡ []) (map (lowered_unit (stepped_program units)) vs)

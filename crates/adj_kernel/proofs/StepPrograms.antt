@@ -18,7 +18,7 @@ use Rattle.adj_meaning.specs.Follows.{Runs, Follows, both_more}
 use Rattle.adj_kernel.specs.Apart.{TermsInside}
 use Rattle.adj_kernel.specs.Kernel.{names_of, is_named}
 use Rattle.adj_kernel.specs.Stepped.{cut}
-use Rattle.adj_kernel.specs.StepTheorem.{marked_of, fits_itself, HoldsExtents, IsCounted, StepFits}
+use Rattle.adj_kernel.specs.StepTheorem.{marked_of, fits_itself, HoldsExtents, IsMatched, StepFits}
 use Rattle.adj_meaning.proofs.Following.{follows_done, follows_trap, follows_then}
 use Rattle.adj_kernel.proofs.Together.{follows_same, follows_known_value, counted_both}
 use Rattle.adj_kernel.proofs.Locals.{own_body, own_dummies}
@@ -50,7 +50,7 @@ module _ {C : Type 0} (N : Numbers C) (room : Option ℕ) (units units' : List P
   -- a call follows
   abbrev CallSteps : ℕ → ℕ → Type 0
   CallSteps depth base =
-      (sh : Var → Shape) (name : List ℕ) (args : Terms) (line : ℕ) → IsCounted units name args → (ns : List (List ℕ)) → TermsInside (is_named ns) args → (sh' : Var → Shape) (level level' : ℕ) → ((x : Var) → is_named ns x ≡ true → sh' x ≡ sh x) → (a b : ℕ) (s t : Scene C) → Alike ns a b s t → (e : ℕ) → base ≤ e → (k : ℕ) → k ≤ depth →
+      (sh : Var → Shape) (name : List ℕ) (args : Terms) (line : ℕ) → IsMatched units name args → (ns : List (List ℕ)) → TermsInside (is_named ns) args → (sh' : Var → Shape) (level level' : ℕ) → ((x : Var) → is_named ns x ≡ true → sh' x ≡ sh x) → (a b : ℕ) (s t : Scene C) → Alike ns a b s t → (e : ℕ) → base ≤ e → (k : ℕ) → k ≤ depth →
       Follows (Alike ns a b) 2 0 (λ i. counted (standing s) i (λ j. calls_of units depth (set_in N room sh level) name args line s j)) (λ i. counted (standing t) i (λ j. calls_of units' e (set_in N room sh' level') name args line t j)) k
 
   -- the dummies hold the same
@@ -139,7 +139,7 @@ module _ {C : Type 0} (N : Numbers C) (room : Option ℕ) (units units' : List P
   unit_by depth base calls name v f sh0 sh0' level level' line s t same tape events good e be k le =
       follows_then 2 0 0 (λ s1 t1. Alike (names_of v) 0 0 s1 t1 × HoldsExtents v.declarations s.store s1.store) (Alike (names_of v) 0 0) (run (calls_of units depth) (set_in N room here (suc level)) v.body (entered (set_in N room sh0 level) v s))
       (run (calls_of units' e) (set_in N room there (suc level')) (cut (fit name v f).stepped.taken v 0 v.body) (entered (set_in N room sh0' level') (cut_unit (fit name v f).stepped.taken v) t)) closed closed k
-      (lists_step N room units units' (fit name v f).stepped.taken v s.store good (fit name v f).extents.own (fit name v f).extents.flat (IsCounted units)
+      (lists_step N room units units' (fit name v f).stepped.taken v s.store good (fit name v f).extents.own (fit name v f).extents.flat (IsMatched units)
       (λ k0 c y pl p st o. covered units units' (handed_back units) (λ name1 v1 f1. subst (λ z. IsWithin (handed_back units name1) z) (sym (same_written name1 v1 f1)) (within_self (handed_back units name1))) (fit name v f).stepped.taken v k0 c y pl p st o) depth base depth
       (λ name1 args1 line1 p ns h sh' level1 level1' same1 a b s1 t1 r e1 be1 k1 le1. calls here name1 args1 line1 p ns h sh' level1 level1' same1 a b s1 t1 r e1 be1 k1 le1)
       v.body 0 (names_of v) (own_body v (fit name v f).plainly) (own_body v (fit name v f).plainly) (fit name v f).plainly (fit name v f).each (fit name v f).stepped.steps (fit name v f).extents.kept

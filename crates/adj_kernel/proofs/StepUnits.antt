@@ -19,7 +19,7 @@ use Rattle.adj_transpose.specs.Fresh.{has_name}
 use Rattle.adj_kernel.specs.Apart.{ActInside, CodeInside, EachCall', EachCall}
 use Rattle.adj_kernel.specs.Kernel.{named, names_in_code, names_of, is_named, is_of, PlainAct, PlainCode}
 use Rattle.adj_kernel.specs.Stepped.{marked_in, marked_in_act, variables_of, is_extent_of, step_dummies, as_actuals, step_name, cut_act, cut, step_unit}
-use Rattle.adj_kernel.specs.StepTheorem.{StepsThereAct, StepsThere, fits_itself, OneFor, IsCounted, HasExtents}
+use Rattle.adj_kernel.specs.StepTheorem.{StepsThereAct, StepsThere, fits_itself, OneFor, IsMatched, HasExtents}
 use Rattle.adj_kernel.proofs.Locals.{has_second, own_code}
 use Rattle.adj_kernel.proofs.StepNames.{loop_named, writes_inside, listed_once, used_has}
 
@@ -109,18 +109,18 @@ step_body_inside u P x body pl p ox o =
 
 module _ (units units' : List Procedure) (fewer : Dummies) (within : (name : List ℕ) (v : Procedure) → find_unit units name ≡ Some v → IsWithin (fewer name) (handed_back units' name)) (taken : List (List ℕ)) (u : Procedure) where
   -- what the body writes its step unit writes
-  by_step : (k line : ℕ) (x : Var) (body : Code) (y : List ℕ) → PlainCode body → EachCall (IsCounted units) body → find_unit units' (step_name taken u.name k) ≡ Some (step_unit taken u k line x body) → is_of u x ≡ true → CodeInside (is_of u) body →
+  by_step : (k line : ℕ) (x : Var) (body : Code) (y : List ℕ) → PlainCode body → EachCall (IsMatched units) body → find_unit units' (step_name taken u.name k) ≡ Some (step_unit taken u k line x body) → is_of u x ≡ true → CodeInside (is_of u) body →
       writes fewer (plain y) body ≡ true → writes (handed_back units') (plain y) (cut taken u (suc k) body) ≡ true → (is_handed_back (plain y) (handed_back units' (step_name taken u.name k)) (as_actuals (step_dummies u x body)) || false) ≡ true
   by_step k line x body y pl p found ox o h ih =
       let vs = step_dummies u x body in
-      let there = writes_inside (is_named vs) fewer (IsCounted units) (plain y) body (step_body_inside u (IsCounted units) x body pl p ox o) p h in
+      let there = writes_inside (is_named vs) fewer (IsMatched units) (plain y) body (step_body_inside u (IsMatched units) x body pl p ox o) p h in
       or_first (is_handed_back (plain y) (handed_back units' (step_name taken u.name k)) (as_actuals vs)) false
       (ap (λ z. is_handed_back (plain y) z (as_actuals vs)) (handed_written units' (step_name taken u.name k) (step_unit taken u k line x body) found)
       ∙ handed_names y (is_written units' (step_unit taken u k line x body)) vs there ih)
 
   mutual
     -- what a statement writes its cut statement writes
-    covered_act : (k line : ℕ) (a : Act) (y : List ℕ) → PlainAct a → EachCall' (IsCounted units) a → StepsThereAct units' taken u k line a → ActInside (is_of u) a → act_writes fewer (plain y) a ≡ true → act_writes (handed_back units') (plain y) (cut_act taken u k line a) ≡ true
+    covered_act : (k line : ℕ) (a : Act) (y : List ℕ) → PlainAct a → EachCall' (IsMatched units) a → StepsThereAct units' taken u k line a → ActInside (is_of u) a → act_writes fewer (plain y) a ≡ true → act_writes (handed_back units') (plain y) (cut_act taken u k line a) ≡ true
     covered_act k line (assign x subs e) y pl p st o h = h
     covered_act k line (choose c a b) y pl p st o h =
         or_more (writes fewer (plain y) a) (writes fewer (plain y) b) (writes (handed_back units') (plain y) (cut taken u k a)) (writes (handed_back units') (plain y) (cut taken u (k + marked_in a) b))
@@ -138,7 +138,7 @@ module _ (units units' : List Procedure) (fewer : Dummies) (within : (name : Lis
     covered_act k line (runtime r) y pl p st o h = absurd p
 
     -- and of a list
-    pub covered : (k : ℕ) (c : Code) (y : List ℕ) → PlainCode c → EachCall (IsCounted units) c → StepsThere units' taken u k c → CodeInside (is_of u) c → writes fewer (plain y) c ≡ true → writes (handed_back units') (plain y) (cut taken u k c) ≡ true
+    pub covered : (k : ℕ) (c : Code) (y : List ℕ) → PlainCode c → EachCall (IsMatched units) c → StepsThere units' taken u k c → CodeInside (is_of u) c → writes fewer (plain y) c ≡ true → writes (handed_back units') (plain y) (cut taken u k c) ≡ true
     covered k stop y pl p st o h = h
     covered k (step line a rest) y pl p st o h =
         or_more (act_writes fewer (plain y) a) (writes fewer (plain y) rest) (act_writes (handed_back units') (plain y) (cut_act taken u k line a)) (writes (handed_back units') (plain y) (cut taken u (k + marked_in_act a) rest))

@@ -12,7 +12,7 @@ use Rattle.adj_meaning.proofs.WriteSets.{handed_written, handed_more}
 use Rattle.adj_kernel.specs.Apart.{EachCall', EachCall}
 use Rattle.adj_kernel.specs.Kernel.{PlainCode}
 use Rattle.adj_kernel.specs.Stepped.{marked_in, marked_in_act, step_dummies, as_actuals, step_name, cut_act, cut, step_unit}
-use Rattle.adj_kernel.specs.StepTheorem.{IsStepThere, StepsThereAct, StepsThere, IsStepFor, IsCounted}
+use Rattle.adj_kernel.specs.StepTheorem.{IsStepThere, StepsThereAct, StepsThere, IsStepFor, IsMatched}
 use Rattle.adj_kernel.proofs.Locals.{own_body}
 use Rattle.adj_kernel.proofs.SameWritten.{row_by, same_row}
 use Rattle.adj_kernel.proofs.StepUnits.{covered}
@@ -32,7 +32,7 @@ none_handed x [] es h = cc
 none_handed x (d ∷ ds) none h = cc
 none_handed x (d ∷ ds) (more e es) h = none_handed x ds es h
 
-module _ (units units' : List Procedure) (plainly : (name : List ℕ) (v : Procedure) → find_unit units name ≡ Some v → PlainCode v.body) (each : (name : List ℕ) (v : Procedure) → find_unit units name ≡ Some v → EachCall (IsCounted units) v.body) (stepped : (name : List ℕ) (v : Procedure) → find_unit units name ≡ Some v → IsStepFor units' name v) where
+module _ (units units' : List Procedure) (plainly : (name : List ℕ) (v : Procedure) → find_unit units name ≡ Some v → PlainCode v.body) (each : (name : List ℕ) (v : Procedure) → find_unit units name ≡ Some v → EachCall (IsMatched units) v.body) (stepped : (name : List ℕ) (v : Procedure) → find_unit units name ≡ Some v → IsStepFor units' name v) where
   -- what is found after a round, by the unit of a name
   row_after : (us : List Procedure) (rows : List (List Bool)) (name : List ℕ) (v : Procedure) → find_unit us name ≡ Some v → row_of us (by_rule write_rule us rows) name ≡ map (write_rule (row_of us rows) v) v.dummies
   row_after us rows name v f = row_map (λ u. map (write_rule (row_of us rows) u) u.dummies) us name ∙ ap (of_found (λ u. map (write_rule (row_of us rows) u) u.dummies)) f
@@ -65,7 +65,7 @@ module _ (units units' : List Procedure) (plainly : (name : List ℕ) (v : Proce
 
     module _ (within : (name : List ℕ) (v : Procedure) → find_unit units name ≡ Some v → IsWithin (known name) (handed_back units name)) where
       mutual
-        back_act : (k line : ℕ) (a : Act) (y : List ℕ) → EachCall' (IsCounted units) a → StepsKnownAct k line a → act_writes known (plain y) (cut_act taken u k line a) ≡ true → act_writes (handed_back units) (plain y) a ≡ true
+        back_act : (k line : ℕ) (a : Act) (y : List ℕ) → EachCall' (IsMatched units) a → StepsKnownAct k line a → act_writes known (plain y) (cut_act taken u k line a) ≡ true → act_writes (handed_back units) (plain y) a ≡ true
         back_act k line (assign x subs e) y p st h = h
         back_act k line (choose c a b) y p st h =
             or_more (writes known (plain y) (cut taken u k a)) (writes known (plain y) (cut taken u (k + marked_in a) b)) (writes (handed_back units) (plain y) a) (writes (handed_back units) (plain y) b) (back_code k a y p.0 st.0) (back_code (k + marked_in a) b y p.1 st.1) h
@@ -78,7 +78,7 @@ module _ (units units' : List Procedure) (plainly : (name : List ℕ) (v : Proce
         back_act k line (call name args) y p st h = handed_more (plain y) (known name) (handed_back units name) args (within name p.called p.found) h
         back_act k line (runtime r) y p st h = absurd p
 
-        back_code : (k : ℕ) (c : Code) (y : List ℕ) → EachCall (IsCounted units) c → StepsKnown k c → writes known (plain y) (cut taken u k c) ≡ true → writes (handed_back units) (plain y) c ≡ true
+        back_code : (k : ℕ) (c : Code) (y : List ℕ) → EachCall (IsMatched units) c → StepsKnown k c → writes known (plain y) (cut taken u k c) ≡ true → writes (handed_back units) (plain y) c ≡ true
         back_code k stop y p st h = h
         back_code k (step line a rest) y p st h =
             or_more (act_writes known (plain y) (cut_act taken u k line a)) (writes known (plain y) (cut taken u (k + marked_in_act a) rest)) (act_writes (handed_back units) (plain y) a) (writes (handed_back units) (plain y) rest) (back_act k line a y p.0 st.0) (back_code (k + marked_in_act a) rest y p.1 st.1) h
@@ -111,7 +111,7 @@ module _ (units units' : List Procedure) (plainly : (name : List ℕ) (v : Proce
 
     module _ (j : ℕ) (within : (name : List ℕ) (v : Procedure) → find_unit units name ≡ Some v → IsWithin (after j name) (handed_back units name)) where
       mutual
-        known_next_act : (k line : ℕ) (a : Act) → EachCall' (IsCounted units) a → StepsThereAct units' taken u k line a → StepsKnownAct (after j) taken u k line a → StepsKnownAct (after (suc j)) taken u k line a
+        known_next_act : (k line : ℕ) (a : Act) → EachCall' (IsMatched units) a → StepsThereAct units' taken u k line a → StepsKnownAct (after j) taken u k line a → StepsKnownAct (after (suc j)) taken u k line a
         known_next_act k line (assign x subs e) p st kn = tt
         known_next_act k line (choose c a b) p st kn = (known_next k a p.0 st.0 kn.0, known_next (k + marked_in a) b p.1 st.1 kn.1)
         known_next_act k line (loop x first last by body unmarked) p st kn = known_next k body p st kn
@@ -133,7 +133,7 @@ module _ (units units' : List Procedure) (plainly : (name : List ℕ) (v : Proce
         known_next_act k line (call name args) p st kn = tt
         known_next_act k line (runtime r) p st kn = tt
 
-        known_next : (k : ℕ) (c : Code) → EachCall (IsCounted units) c → StepsThere units' taken u k c → StepsKnown (after j) taken u k c → StepsKnown (after (suc j)) taken u k c
+        known_next : (k : ℕ) (c : Code) → EachCall (IsMatched units) c → StepsThere units' taken u k c → StepsKnown (after j) taken u k c → StepsKnown (after (suc j)) taken u k c
         known_next k stop p st kn = tt
         known_next k (step line a rest) p st kn = (known_next_act k line a p.0 st.0 kn.0, known_next (k + marked_in_act a) rest p.1 st.1 kn.1)
 
@@ -162,16 +162,16 @@ module _ (units units' : List Procedure) (plainly : (name : List ℕ) (v : Proce
 
   -- what is known of the step units of a list that are there, after each round
   module _ (taken : List (List ℕ)) (u : Procedure) where
-    known_after : (k : ℕ) (c : Code) → EachCall (IsCounted units) c → StepsThere units' taken u k c → (j : ℕ) → StepsKnown (after j) taken u k c
+    known_after : (k : ℕ) (c : Code) → EachCall (IsMatched units) c → StepsThere units' taken u k c → (j : ℕ) → StepsKnown (after j) taken u k c
     known_after k c p st zero = known_first taken u k c st
     known_after k c p st (suc j) = known_next taken u j (each_round j).within k c p st (known_after k c p st j)
 
     -- so what the cut list writes the list does
-    pub cut_back : (k : ℕ) (c : Code) → EachCall (IsCounted units) c → StepsThere units' taken u k c → (y : List ℕ) → writes (handed_back units') (plain y) (cut taken u k c) ≡ true → writes (handed_back units) (plain y) c ≡ true
+    pub cut_back : (k : ℕ) (c : Code) → EachCall (IsMatched units) c → StepsThere units' taken u k c → (y : List ℕ) → writes (handed_back units') (plain y) (cut taken u k c) ≡ true → writes (handed_back units) (plain y) c ≡ true
     cut_back k c p st y h = back_code (after (dummies_in_all units')) taken u (each_round (dummies_in_all units')).within k c y p (known_after k c p st (dummies_in_all units')) h
 
     -- and what the call of a step unit hands back its body writes
-    pub step_back : (k line : ℕ) (x : Var) (body : Code) → EachCall (IsCounted units) body → IsStepThere units' taken u k line x body → StepsThere units' taken u (suc k) body → (y : List ℕ) → is_handed_back (plain y) (handed_back units' (step_name taken u.name k)) (as_actuals (step_dummies u x body)) ≡ true → writes (handed_back units) (plain y) body ≡ true
+    pub step_back : (k line : ℕ) (x : Var) (body : Code) → EachCall (IsMatched units) body → IsStepThere units' taken u k line x body → StepsThere units' taken u (suc k) body → (y : List ℕ) → is_handed_back (plain y) (handed_back units' (step_name taken u.name k)) (as_actuals (step_dummies u x body)) ≡ true → writes (handed_back units) (plain y) body ≡ true
     step_back k line x body p here st y h = (known_after k (step line (loop x (lit (pos 0)) (lit (pos 0)) (lit (pos 0)) body (with_count 0)) stop) (p, tt) ((here, st), tt) (dummies_in_all units')).0.0 y h
 
   -- ---- and the source what the kernel writes

@@ -9,7 +9,7 @@ use Rattle.adj_kernel.specs.Apart.{ShowWords, EachCall}
 use Rattle.adj_kernel.specs.Kernel.{PlainCode, EachUnit, IsFitCall, IsFit, lowered_unit}
 use Rattle.adj_kernel.specs.Form.{IsStepped, IsKernel}
 use Rattle.adj_kernel.specs.Stepped.{marked_in, step_names, cut, stepped_unit, stepped_from, names_of_source, stepped_program, kernel_of}
-use Rattle.adj_kernel.specs.StepTheorem.{nest, deepest, IsStepFor, IsCounted, HasExtents, StepFits, IsSource}
+use Rattle.adj_kernel.specs.StepTheorem.{nest, deepest, IsStepFor, IsMatched, HasExtents, StepFits, IsSource}
 use Rattle.adj_kernel.specs.Means.{MeansAlike, MeansTheSame}
 use Rattle.adj_kernel.specs.StepMeans.{SameButCalls, WholeKernelHasUnits, WholeKernelMeansAlike}
 use Rattle.adj_kernel.proofs.Faultless.{join_units}
@@ -44,15 +44,15 @@ module _ (C : Type 0) (units : List Procedure) (source : IsSource C units) where
   pub plainly : (name : List ℕ) (v : Procedure) → find_unit units name ≡ Some v → PlainCode v.body
   plainly name v f = found_in (λ u. PlainCode u.body) units name v f source.fit.plains
 
-  pub counted : (name : List ℕ) (v : Procedure) → find_unit units name ≡ Some v → EachCall (IsCounted units) v.body
-  counted name v f = found_in (λ u. EachCall (IsCounted units) u.body) units name v f source.counted
+  pub matched : (name : List ℕ) (v : Procedure) → find_unit units name ≡ Some v → EachCall (IsMatched units) v.body
+  matched name v f = found_in (λ u. EachCall (IsMatched units) u.body) units name v f source.matched
 
   -- the first step writes the same
   pub written : (name : List ℕ) (v : Procedure) → find_unit units name ≡ Some v → handed_back units' name ≡ handed_back units name
-  written name v f = step_written units units' plainly counted stepped name v f
+  written name v f = step_written units units' plainly matched stepped name v f
 
   step_fits : (name : List ℕ) (v : Procedure) → find_unit units name ≡ Some v → StepFits C units units' (deepest units) name v
-  step_fits name v f = record { plainly = plainly name v f; each = counted name v f; extents = found_in (HasExtents C units) units name v f source.extents; stepped = stepped name v f; nests = found_nest units name v f }
+  step_fits name v f = record { plainly = plainly name v f; each = matched name v f; extents = found_in (HasExtents C units) units name v f source.extents; stepped = stepped name v f; nests = found_nest units name v f }
 
   -- ---- the stepped program fits
 

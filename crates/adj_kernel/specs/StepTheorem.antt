@@ -78,7 +78,7 @@ OneFor (d ∷ ds) none = ⊥
 OneFor (d ∷ ds) (more e es) = OneFor ds es
 
 -- a CALL of a unit that is there, with as many actuals as it has dummies
-pub record IsCounted (units : List Procedure) (name : List ℕ) (args : Terms) : Type 0 where
+pub record IsMatched (units : List Procedure) (name : List ℕ) (args : Terms) : Type 0 where
   pub called : Procedure
   pub found : find_unit units name ≡ Some called
   pub count : OneFor called.dummies args
@@ -93,7 +93,7 @@ pub record HasExtents (C : Type 0) (units : List Procedure) (u : Procedure) : Ty
 -- what is known of a unit of the source and of the program that its marked loops are cut in
 pub record StepFits (C : Type 0) (units units' : List Procedure) (most : ℕ) (name : List ℕ) (u : Procedure) : Type 0 where
   pub plainly : PlainCode u.body
-  pub each : EachCall (IsCounted units) u.body
+  pub each : EachCall (IsMatched units) u.body
   pub extents : HasExtents C units u
   pub stepped : IsStepFor units' name u
   pub nests : nest u.body ≤ most
@@ -101,7 +101,7 @@ pub record StepFits (C : Type 0) (units units' : List Procedure) (most : ℕ) (n
 -- what a checked program gives for the whole kernel: its calls fit, with as many actuals as dummies, and so do its extents
 pub record IsSource (C : Type 0) (units : List Procedure) : Type 0 where
   pub fit : IsFit units
-  pub counted : EachUnit (λ u. EachCall (IsCounted units) u.body) units
+  pub matched : EachUnit (λ u. EachCall (IsMatched units) u.body) units
   pub extents : EachUnit (HasExtents C units) units
 
 -- the deepest nest of marked loops

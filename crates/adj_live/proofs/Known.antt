@@ -30,7 +30,7 @@ module _ (k : Problem) (o : Scope) (y : Covers k o) (a : Activity) (w : ℕ) whe
   led x z (live.used p c h) q = q
   led x z (live.assigned p c h) q = tt
   led x z (live.handed p c h) q = tt
-  led x z (live.counted p c h) q = tt
+  led x z (live.indexed p c h) q = tt
   led x z (live.held p c h) q = tt
   led x z (live.entered {g = g} {d = d} p c) q = (g, p, refl, y.dummies g p d c)
   led x z (live.member p c j b n) q = q

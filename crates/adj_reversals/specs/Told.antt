@@ -16,13 +16,13 @@ cells_in [] = []
 cells_in (s ∷ ss) = s.cells ∷ cells_in ss
 
 -- of each reversal: its steps, its snapshots, and how often it calls each of these units
-abbrev counted : List (List ℕ) → List Reversal → List (List ℕ)
-counted units [] = []
-counted units (r ∷ rs) = (r.steps ∷ r.snapshots ∷ map (λ unit. times unit r.calls) units) ∷ counted units rs
+abbrev called : List (List ℕ) → List Reversal → List (List ℕ)
+called units [] = []
+called units (r ∷ rs) = (r.steps ∷ r.snapshots ∷ map (λ unit. times unit r.calls) units) ∷ called units rs
 
 -- what the dummies hold after a run that is done, and what its reversals call
 abbrev told_of : List (List ℕ) → Outcome (Output ℤ) → List (List ℤ) × List (List ℕ)
-told_of units (Done out k) = (cells_in out.slots, counted units (reversals_in out.events))
+told_of units (Done out k) = (cells_in out.slots, called units (reversals_in out.events))
 told_of units (Trapped t line w) = ([], [])
 told_of units (More w) = ([], [])
 told_of units (Full w) = ([], [])

@@ -76,18 +76,18 @@ action m =
 
 -- the forward sweep of a loop of n steps, and what gets and pushes its number of snapshots
 abbrev forth : ℕ → List Act → List Act → List Act
-forth n counted pushed =
+forth n setting pushing =
     push (codes "I")
     ∷ gets (codes "ADM1") (number 1)
     ∷ gets (codes "ADI1") (number 1)
-    ∷ (counted
+    ∷ (setting
     ++ (gets (codes "ADL1") (number 0)
     ∷ push (codes "X")
     ∷ push (codes "X")
     ∷ loop (plain (codes "I")) (use_of (codes "ADM1")) (number n) (use_of (codes "ADI1")) (all_at 3 (call_of (codes "S") (codes "X" ∷ []) ∷ gets (codes "ADL1") (bin plus (use_of (codes "ADL1")) (number 1)) ∷ []) stop) unmarked
     ∷ push (codes "ADM1")
     ∷ push (codes "ADI1")
-    ∷ (pushed ++ (push (codes "ADL1") ∷ []))))
+    ∷ (pushing ++ (push (codes "ADL1") ∷ []))))
 
 -- the backward sweep, what pops its number of snapshots, and what that is
 abbrev back : List Act → Term → List Act

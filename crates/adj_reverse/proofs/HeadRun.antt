@@ -22,7 +22,7 @@ use Rattle.adj_transpose.specs.Marks.{Vars}
 use Rattle.adj_transpose.specs.Marked.{names_in}
 use Rattle.adj_transpose.specs.Facts.{Facts}
 use Rattle.adj_transpose.specs.Pairs.{Key, Words, with_tangents, on_words, on_duals}
-use Rattle.adj_transpose.specs.Lists.{scene, counted}
+use Rattle.adj_transpose.specs.Lists.{scene, masked_shadows}
 use Rattle.adj_transpose.specs.MarkedAdjoint.{shadow_flags, joined_by, shadow_cells, SuitHead}
 use Rattle.adj_names.specs.Variables.{variables}
 use Rattle.adj_transpose.specs.Program.{unmarked}
@@ -246,7 +246,7 @@ module _ (sc : Bool) (lines : ReversedLines) (w : ProgramFacts) (ps : List Proce
 
   -- the shadows that count, with those of what isn't dependent set to 0
   abbrev cleared_start : Words
-  cleared_start = counted own.marks (zeroed p outs start)
+  cleared_start = masked_shadows own.marks (zeroed p outs start)
 
   shadows_before : rows sh (by_cells given_at) u.dummies ≡ slots.cells_of given
   shadows_before = given_rows words sh u.dummies given apart_dummies (sized_alike sh u.dummies input given alike sized)
@@ -280,7 +280,7 @@ module _ (sc : Bool) (lines : ReversedLines) (w : ProgramFacts) (ps : List Proce
         go true d false e = absurd (let q : true ≡ false = sym (suits.useful y.0 (d, e)) ∙ n in cc)
 
     -- the shadows at the end, at the names of the dummies
-    shadows_after : shadow_cells (shadow_flags shadowed u.dummies) ended.output.slots ≡ rows sh (by_cells (counted own.marks reversed.end)) u.dummies
+    shadows_after : shadow_cells (shadow_flags shadowed u.dummies) ended.output.slots ≡ rows sh (by_cells (masked_shadows own.marks reversed.end)) u.dummies
     shadows_after =
         ap (λ ds. shadow_cells (shadow_flags shadowed u.dummies) (map (λ d. slot_of (seen_setting.shape (plain d)) (named_run.end.store (plain d))) ds)) (entry.dummies_named u a ns separates g refl declared_alike (made.own_dummy sc m ps (all_units m ps u) u fitting.vars_apart (good.inside u.name u good.there) (good.extents u.name u good.there)) refl input given fit alike)
         ∙ shadow_rows sh seen_setting.shape shadowed named_run.end.store ns u.dummies (λ x. seen (plain x)) (λ x s. seen (shadow x) ∙ ap (λ b. if b then sh (plain x) else scalar) s)
@@ -349,12 +349,12 @@ module _ (sc : Bool) (lines : ReversedLines) (w : ProgramFacts) (ps : List Proce
           go true b false e = absurd (let q : true ≡ false = sym (suits.varied y.0 (b, e)) ∙ n in cc)
 
       -- the product over the independents is the sum over all cells at the end of the adjoint
-      over_inputs : product vars (shadow_cells (shadow_flags shadowed u.dummies) ended.output.slots) d ≡ pairing cells (counted own.marks reversed.end) along
+      over_inputs : product vars (shadow_cells (shadow_flags shadowed u.dummies) ended.output.slots) d ≡ pairing cells (masked_shadows own.marks reversed.end) along
       over_inputs =
           (λ i. product vars (shadows_after i) (sym along_is i))
-          ∙ sym (pairing_product sh u.dummies vars (counted own.marks reversed.end) along along_inputs)
-          ∙ sym (pairing_behind sh u.dummies (locals u) (counted own.marks reversed.end) along (λ y j h l. along_other y j (local_apart u y h)))
-          ∙ ap (λ l. pairing l (counted own.marks reversed.end) along) (sym all_cells)
+          ∙ sym (pairing_product sh u.dummies vars (masked_shadows own.marks reversed.end) along along_inputs)
+          ∙ sym (pairing_behind sh u.dummies (locals u) (masked_shadows own.marks reversed.end) along (λ y j h l. along_other y j (local_apart u y h)))
+          ∙ ap (λ l. pairing l (masked_shadows own.marks reversed.end) along) (sym all_cells)
 
       -- that over the dependents is the sum over all cells at its start
       over_outputs : pairing cells cleared_start (reversed.derivative along) ≡ product outvars (slots.cells_of given) (tangents_of (slots.cells_of dual_ended.output.slots))
@@ -376,7 +376,7 @@ module _ (sc : Bool) (lines : ReversedLines) (w : ProgramFacts) (ps : List Proce
         products = over_inputs ∙ reversed.products along (λ y o h. along_off y.0 y.1 (among_from shadowed other_inputs y.0 h)) along_varied ready ∙ over_outputs;
       }
 
-    other_ended : AreNought sh other_inputs (counted own.marks reversed.end)
+    other_ended : AreNought sh other_inputs (masked_shadows own.marks reversed.end)
     other_ended y j h l = counts (shadowed (plain y)) (reversed.end (shadow y) j) (λ s. reversed.others y j l (among_in shadowed other_inputs y h s))
 
     -- the adjoint transposes the derivative of the head along this run
@@ -387,5 +387,5 @@ module _ (sc : Bool) (lines : ReversedLines) (w : ProgramFacts) (ps : List Proce
       empties = ap (λ z. z.tape) named_run.same;
       reverses = reverses_loops;
       products = agrees;
-      others = subst (OthersAreZero vars) (sym shadows_after) (others_nought sh u.dummies vars (counted own.marks reversed.end) other_ended);
+      others = subst (OthersAreZero vars) (sym shadows_after) (others_nought sh u.dummies vars (masked_shadows own.marks reversed.end) other_ended);
     }

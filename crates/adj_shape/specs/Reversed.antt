@@ -119,11 +119,11 @@ actions many keep steps_on turn_it =
 
 -- with what sets and pushes the number of snapshots
 abbrev forth : List Act → List Act → Code → List Act
-forth counted pushed turns =
+forth setting pushing turns =
     sets first_value (literal 1) ∷ sets by (literal 1)
-    ∷ (counted ++ (sets steps (literal 0) ∷ pushes X
+    ∷ (setting ++ (sets steps (literal 0) ∷ pushes X
     ∷ loop (plain (codes "I")) (of first_value) (of (codes "N")) (of by) turns unmarked
-    ∷ pushes first_value ∷ pushes by ∷ (pushed ++ (pushes steps ∷ []))))
+    ∷ pushes first_value ∷ pushes by ∷ (pushing ++ (pushes steps ∷ []))))
 
 -- with what pops it, and it
 abbrev back : List Act → Term → Code → Code → Code → List Act
@@ -156,8 +156,8 @@ abbrev pub turned : Code
 turned = all_at 5 (turn ∷ counting ∷ []) stop
 
 -- a turn without its call
-abbrev pub counted : Code
-counted = one counting
+abbrev pub uncalled : Code
+uncalled = one counting
 
 abbrev pub keeps : Code
 keeps = one (pushes X)
@@ -230,4 +230,4 @@ stepping_back = program_with (turning_forth turned (turning_back keeps steps_onc
 
 -- the call dropped from the forward sweep
 abbrev pub dropped : List Procedure
-dropped = program_with (turning_forth counted (turning_back keeps steps_once turns_once))
+dropped = program_with (turning_forth uncalled (turning_back keeps steps_once turns_once))

@@ -33,7 +33,7 @@ abbrev pub points_in : Known → ℕ
 points_in k = 3 * statements_in k + 2 * units_in k
 
 -- a checked program with its counted statements and its width
-pub record IsCounted (k : Known) (statements width : ℕ) : Type 0 where
+pub record IsMeasured (k : Known) (statements width : ℕ) : Type 0 where
   pub facts : AreFacts k
-  pub counted : statements ≡ capped_u64 (statements_in k)
+  pub count_is : statements ≡ capped_u64 (statements_in k)
   pub widest_is : width ≡ width_of k

@@ -14,7 +14,7 @@ ghost use Rattle.adj_names.specs.Variables as names;
 ghost use Rattle.adj_facts.specs.Parts.{point_inside};
 ghost use Rattle.adj_transpose.specs.Marks.{point_before, point_after};
 ghost use Rattle.adj_symbols.specs.Checked.{Known, AreFacts};
-ghost use Rattle.adj_symbols.specs.Numbers.{Fits, IsCounted, points_in, statements_in, units_in, width_of};
+ghost use Rattle.adj_symbols.specs.Numbers.{Fits, IsMeasured, points_in, statements_in, units_in, width_of};
 
 use crate::counting::{statement_count, widest};
 use adj_tree::{Flags, NameList, Program};
@@ -43,7 +43,7 @@ impl Model for Checked {
 
     ghost view = { λ c. record { program = c.program; variables = c.variables.items; writes = c.writes.items; reads = c.reads.items } };
 
-    ghost invariant = { λ c. IsCounted (record { program = c.program; variables = c.variables.items; writes = c.writes.items; reads = c.reads.items }) c.statements c.width };
+    ghost invariant = { λ c. IsMeasured (record { program = c.program; variables = c.variables.items; writes = c.writes.items; reads = c.reads.items }) c.statements c.width };
 }
 
 impl Checked {

@@ -45,7 +45,7 @@ use Rattle.adj_checking.specs.Emitted.{IsRunnable, read_back}
 use Rattle.adj_checking.specs.Agreeing.{AreAdjoint, Agrees, CheckAgrees, CheckTraps}
 use Rattle.adj_checking.proofs.Readings.{alike_read}
 use Rattle.adj_tool.specs.Check.{AreSides, IsReadBack, RunsAdjoint, IsChecked, IsCompared}
-use Rattle.adj_tool.specs.Fitting.{most_counted, kernel_fits}
+use Rattle.adj_tool.specs.Fitting.{most_numbered, kernel_fits}
 use Rattle.adj_tool.specs.Headline.{IsUnit, flags_of}
 use Rattle.adj_tool.specs.Planned.{IsKnownFor, AreExact}
 use Rattle.adj_tool.proofs.Heads.{head_there, few_variables, fits_widest}
@@ -63,7 +63,7 @@ module _ (ps : List Procedure) (name : List ℕ) (h : Head) (accepted : IsAccept
   reads_as : EmittedIsRunnableWith true → kernel_fits (kernel_of ps) ≡ true → (bytes : List ℕ) → program_of Source bytes ≡ Ok ps → OrTooMany (λ found. unlined found ≡ unlined qs) (program_of Run (text_of qs))
   reads_as runnable fits bytes given =
       let x = known.emitted in
-      let few : EachUnit (λ v. length (variables v) ≤ most_counted) (kernel_of ps) = few_variables (kernel_of ps) (fits_widest (kernel_of ps) fits) in
+      let few : EachUnit (λ v. length (variables v) ≤ most_numbered) (kernel_of ps) = few_variables (kernel_of ps) (fits_widest (kernel_of ps) fits) in
       let shadows : AllHaveShadows m (kernel_of ps) (kernel_of ps) = exact_shadows run_rules (kernel_problem ps name h.vars h.outvars) (kernel_checked ps accepted) x.activity x.analysed.active m refl (λ n. refl) in
       subst (λ z. OrTooMany (λ found. unlined found ≡ unlined z) (program_of Run (text_of z))) (sym x.emitted) (runnable bytes ps given accepted few m shadows (unit_number (kernel_of ps) name) h.vars h.outvars)
 

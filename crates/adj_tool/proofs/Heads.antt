@@ -49,7 +49,7 @@ use Rattle.adj_tool.specs.Words.{Request}
 use Rattle.adj_answer.specs.Answer.{Answer}
 use Rattle.adj_answer.specs.Laws.{ProgramTold}
 use Rattle.adj_parse.specs.Trees.{program_of}
-use Rattle.adj_tool.specs.Fitting.{most_counted, is_counted, kernel_fits}
+use Rattle.adj_tool.specs.Fitting.{most_numbered, is_numbered, kernel_fits}
 use Rattle.adj_tool.specs.Answer.{most_bytes, IsWritten, IsGiven}
 use Rattle.adj_tool.specs.Headline.{IsUnit, ReadsWritten, WritesAdjoint, flags_of}
 
@@ -63,25 +63,25 @@ head_there ps name vars outvars h = go (find_unit ps name) refl h
 
 -- ---- a kernel that fits
 
-pub few_variables : (us : List Procedure) → widest (map variables us) ≤ most_counted → EachUnit (λ v. length (variables v) ≤ most_counted) us
+pub few_variables : (us : List Procedure) → widest (map variables us) ≤ most_numbered → EachUnit (λ v. length (variables v) ≤ most_numbered) us
 few_variables [] l = tt
 few_variables (u ∷ us) l =
     let first = le-max_left (length (variables u)) (widest (map variables us)) in
     let rest = le-max_right (length (variables u)) (widest (map variables us)) in
     (omega (arith, first, l), few_variables us (omega (arith, rest, l)))
 
-counted_is : (n : ℕ) → is_counted n ≡ true → n ≤ most_counted
-counted_is n h = go (nat_lt most_counted n) refl h
+counted_is : (n : ℕ) → is_numbered n ≡ true → n ≤ most_numbered
+counted_is n h = go (nat_lt most_numbered n) refl h
   where
-    go : (b : Bool) → nat_lt most_counted n ≡ b → not b ≡ true → n ≤ most_counted
+    go : (b : Bool) → nat_lt most_numbered n ≡ b → not b ≡ true → n ≤ most_numbered
     go true e k = absurd cc
-    go false e k = ltb-false most_counted n e
+    go false e k = ltb-false most_numbered n e
 
-pub fits_widest : (us : List Procedure) → kernel_fits us ≡ true → widest (map variables us) ≤ most_counted
+pub fits_widest : (us : List Procedure) → kernel_fits us ≡ true → widest (map variables us) ≤ most_numbered
 fits_widest us h =
-    let units = is_counted (length us) in
-    let statements = is_counted (statements_in 0 us) in
-    let wide = is_counted (widest (map variables us)) in
+    let units = is_numbered (length us) in
+    let statements = is_numbered (statements_in 0 us) in
+    let wide = is_numbered (widest (map variables us)) in
     counted_is (widest (map variables us)) (and_true statements wide (and_true units (statements && wide) h).1).1
 
 -- no two marked loops of a program stand at one line that a text within the limit gives
@@ -102,7 +102,7 @@ module _ (r : Request) (ps : List Procedure) (h : Head) (sound : first_head_faul
       OrTooMany (λ found. unlined found ≡ unlined back.reads.0) (program_of Run text)
   head_runs accepted runnable text back bytes given =
       let x = back.exact in
-      let few : EachUnit (λ v. length (variables v) ≤ most_counted) (kernel_of ps) = few_variables (kernel_of ps) (fits_widest (kernel_of ps) back.fits) in
+      let few : EachUnit (λ v. length (variables v) ≤ most_numbered) (kernel_of ps) = few_variables (kernel_of ps) (fits_widest (kernel_of ps) back.fits) in
       let shadows : AllHaveShadows back.marks (kernel_of ps) (kernel_of ps) =
       subst (λ m. AllHaveShadows m (kernel_of ps) (kernel_of ps)) (sym x.are) (exact_shadows run_rules (kernel_problem ps r.head h.vars h.outvars) (kernel_checked ps accepted) x.activity x.analysed.active (marks_by ps x.activity x.liveness x.saved x.held) refl (λ n. refl)) in
       let runs = runnable bytes ps given accepted few back.marks shadows (unit_number (kernel_of ps) r.head) h.vars h.outvars in

@@ -23,7 +23,7 @@ use Rattle.adj_tool.specs.Words.{Request}
 use Rattle.adj_tool.specs.declared.task.Wanted.{Wanted}
 use Rattle.adj_tool.specs.declared.task.Wanted.TheVariants as wanted
 use Rattle.adj_tool.specs.Planned.{AreExact}
-use Rattle.adj_tool.specs.Fitting.{most_counted, kernel_fits}
+use Rattle.adj_tool.specs.Fitting.{most_numbered, kernel_fits}
 
 -- ---- schedules
 
@@ -50,7 +50,7 @@ most_bytes = 4194304
 
 -- a kernel is too large
 abbrev pub too_large : Answer
-too_large = refused (record { code = 21; line = 0; number = most_counted })
+too_large = refused (record { code = 21; line = 0; number = most_numbered })
 
 -- the text of the adjoint of a program for the unit of a name as its head: what is emitted for the kernel by the marks of exact analyses, where
 -- marked loops are reversed by schedules

@@ -6,12 +6,12 @@ use Rattle.adj_facts.specs.Parts.{statements_in}
 use Rattle.adj_symbols.specs.Numbers.{widest}
 
 -- the most units, statements and variables of a unit that a kernel may have
-abbrev pub most_counted : ℕ
-most_counted = 1073741823
+abbrev pub most_numbered : ℕ
+most_numbered = 1073741823
 
-abbrev pub is_counted : ℕ → Bool
-is_counted n = not (nat_lt most_counted n)
+abbrev pub is_numbered : ℕ → Bool
+is_numbered n = not (nat_lt most_numbered n)
 
 -- whether a kernel has no more units, statements at any depth and variables of a unit
 abbrev pub kernel_fits : List Procedure → Bool
-kernel_fits ps = is_counted (length ps) && (is_counted (statements_in 0 ps) && is_counted (widest (map variables ps)))
+kernel_fits ps = is_numbered (length ps) && (is_numbered (statements_in 0 ps) && is_numbered (widest (map variables ps)))

@@ -24,5 +24,5 @@ abbrev pub masked : Vars → Words → Words
 masked on d = λ k. if on (plain k.0) then d k else pos 0
 
 -- the shadows of a store, where a variable without a shadow counts as one whose shadow is 0
-abbrev pub counted : Marks → Store ℤ → Words
-counted m s = masked m.shadowed (shadows s)
+abbrev pub masked_shadows : Marks → Store ℤ → Words
+masked_shadows m s = masked m.shadowed (shadows s)

@@ -67,10 +67,10 @@ abbrev pub is_plain_call : ProgramMarks → Bool → ℕ → Bool → Bool
 is_plain_call m reversed i turns = m.kept i || (reversed && (turns && m.adjointed i))
 
 -- the calls that count, by the numbers of their statements and by whether they are all that the turns of a marked loop do
-abbrev pub counted : Marked → counting.Counting → ℕ → Bool → Bool
-counted m which.All i turns = true
-counted m (which.Plain loops) i turns = is_plain_call (program_marks m) (are_reversed loops) i turns
-counted m which.Adjointed i turns = (program_marks m).adjointed i
+abbrev pub is_edge : Marked → counting.Counting → ℕ → Bool → Bool
+is_edge m which.All i turns = true
+is_edge m (which.Plain loops) i turns = is_plain_call (program_marks m) (are_reversed loops) i turns
+is_edge m which.Adjointed i turns = (program_marks m).adjointed i
 
 -- an edge for each call of a set
 abbrev pub edges_of : (ℕ → Bool → Bool) → List Call → Edges

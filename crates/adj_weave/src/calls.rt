@@ -4,7 +4,7 @@ ghost use Rattle.std.specs.Prelude.{◌≡◌, ◌++◌, IfOk, OnOk, map, option
 ghost use Rattle.adj_tree.specs.Code.{name_eq};
 ghost use Rattle.adj_tree.specs.View.{mark_of, act_of, code_of, procedure_of};
 ghost use Rattle.adj_transpose.specs.Marks.{next, behind};
-ghost use Rattle.adj_weave.specs.Orders.{only_called, turned, call_to, listed_act, listed_in, listed_from, counted, edges_of};
+ghost use Rattle.adj_weave.specs.Orders.{only_called, turned, call_to, listed_act, listed_in, listed_from, is_edge, edges_of};
 
 use crate::marks::Marked;
 use crate::numbers::after;
@@ -158,7 +158,7 @@ pub fn listed_calls(alloc: Global, units: &[Unit], names: &NameSet) -> Result<Ve
 impl Counting {
     // Whether a call counts.
     fn counts(self, marked: &Marked<'_>, call: &Call) -> bool
-        ensures counts { result ≡ counted marked.now self call.now.number call.now.turns }
+        ensures counts { result ≡ is_edge marked.now self call.now.number call.now.turns }
     {
         match self {
             Counting::All => true,
@@ -178,7 +178,7 @@ pub fn edges(
     counting: Counting,
     calls: &[Call],
 ) -> Result<Vec<(usize, usize)>, Memory>
-    ensures edges { IfOk result (λ v. v.items ≡ edges_of (counted marked.now counting) calls.now) }
+    ensures edges { IfOk result (λ v. v.items ≡ edges_of (is_edge marked.now counting) calls.now) }
 {
     let mut made = Vec::new(alloc);
     for call in calls {

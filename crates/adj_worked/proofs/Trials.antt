@@ -8,7 +8,7 @@ use Rattle.adj_reverse.specs.Marking.{full_marks}
 use Rattle.adj_reverse.specs.Program.{emitted_program}
 use Rattle.adj_reverse.specs.Examples.{branch, powers, power}
 use Rattle.adj_worked.specs.Faulty.{faulty_program, Serve, Fail, pushed_after, unreversed, assigned, unsigned, uncleared, unpopped, replayed, untold, unturned, unrestored, unreset, uncounted, unsnapped, popped_before, unguarded}
-use Rattle.adj_worked.specs.Sources.{squared, fourth, square, cube, difference, saving_nothing, keeping_nothing, sums, scaled, counted, squaring, raising, caller, calls_after, calls_before, sparing, unsaved, unsaved_call, unvaried, memberless, unadjointed, unkept, left_out}
+use Rattle.adj_worked.specs.Sources.{squared, fourth, square, cube, difference, saving_nothing, keeping_nothing, sums, scaled, growing, squaring, raising, caller, calls_after, calls_before, sparing, unsaved, unsaved_call, unvaried, memberless, unadjointed, unkept, left_out}
 use Rattle.adj_worked.proofs.Trying.{tried, adjoint_in, differ, stuck, left, replays}
 
 -- words of different numbers
@@ -96,11 +96,11 @@ unrestored_fails =
     (λ h. h) (λ h. h) (differ_words 3 7 refl)
 
 -- the shadow of I has what both turns added: 2, where the tangent is 0
-pub unreset_fails : Serve unreset full_marks (counted ∷ []) 0 (false ∷ true ∷ []) (true ∷ false ∷ []) → ⊥
+pub unreset_fails : Serve unreset full_marks (growing ∷ []) 0 (false ∷ true ∷ []) (true ∷ false ∷ []) → ⊥
 unfolding int_wrap
 unreset_fails =
-    differ full_marks (counted ∷ []) 0 (false ∷ true ∷ []) (true ∷ false ∷ []) (faulty_program unreset full_marks (counted ∷ []) 0 (false ∷ true ∷ []) (true ∷ false ∷ [])) counted (adjoint_in (counted ∷ []) counted (faulty_program unreset full_marks (counted ∷ []) 0 (false ∷ true ∷ []) (true ∷ false ∷ []))) refl refl
-    (tried (counted ∷ []) counted (false ∷ true ∷ []) (pos 0 ∷ pos 5 ∷ []) (pos 1 ∷ pos 0 ∷ []) 80 refl refl refl)
+    differ full_marks (growing ∷ []) 0 (false ∷ true ∷ []) (true ∷ false ∷ []) (faulty_program unreset full_marks (growing ∷ []) 0 (false ∷ true ∷ []) (true ∷ false ∷ [])) growing (adjoint_in (growing ∷ []) growing (faulty_program unreset full_marks (growing ∷ []) 0 (false ∷ true ∷ []) (true ∷ false ∷ []))) refl refl
+    (tried (growing ∷ []) growing (false ∷ true ∷ []) (pos 0 ∷ pos 5 ∷ []) (pos 1 ∷ pos 0 ∷ []) 80 refl refl refl)
     (λ h. h) (λ h. h) (differ_words 2 0 refl)
 
 -- no turn is gone through backward: 0, where the tangent is 6
@@ -160,11 +160,11 @@ variable_unsaved_fails =
     (λ h. h) (λ h. h) (differ_words 3 7 refl)
 
 -- the shadow of I has what both turns added: 2, where the tangent is 0
-pub variable_unvaried_fails : Fail unvaried (counted ∷ []) 0 (false ∷ true ∷ []) (true ∷ false ∷ [])
+pub variable_unvaried_fails : Fail unvaried (growing ∷ []) 0 (false ∷ true ∷ []) (true ∷ false ∷ [])
 unfolding int_wrap
 variable_unvaried_fails =
-    differ unvaried (counted ∷ []) 0 (false ∷ true ∷ []) (true ∷ false ∷ []) (emitted_program unvaried (counted ∷ []) 0 (false ∷ true ∷ []) (true ∷ false ∷ [])) counted (adjoint_in (counted ∷ []) counted (emitted_program unvaried (counted ∷ []) 0 (false ∷ true ∷ []) (true ∷ false ∷ []))) refl refl
-    (tried (counted ∷ []) counted (false ∷ true ∷ []) (pos 0 ∷ pos 5 ∷ []) (pos 1 ∷ pos 0 ∷ []) 80 refl refl refl)
+    differ unvaried (growing ∷ []) 0 (false ∷ true ∷ []) (true ∷ false ∷ []) (emitted_program unvaried (growing ∷ []) 0 (false ∷ true ∷ []) (true ∷ false ∷ [])) growing (adjoint_in (growing ∷ []) growing (emitted_program unvaried (growing ∷ []) 0 (false ∷ true ∷ []) (true ∷ false ∷ []))) refl refl
+    (tried (growing ∷ []) growing (false ∷ true ∷ []) (pos 0 ∷ pos 5 ∷ []) (pos 1 ∷ pos 0 ∷ []) 80 refl refl refl)
     (λ h. h) (λ h. h) (differ_words 2 0 refl)
 
 -- the adjoint is entered with 9 in place of 3: 18, where the tangent is 6

@@ -56,8 +56,8 @@ scaled = unit_over (codes "X" ∷ codes "Y" ∷ codes "I" ∷ [])
     (step 3 (multiply (codes "Y") (codes "X") (codes "I")) (step 4 (twice_over (codes "I") (step 5 (grow (codes "Y") (codes "X")) stop)) stop))
 
 -- P(Y,I), DO I=1,2, Y=Y+I
-abbrev pub counted : Procedure
-counted = unit_over (codes "Y" ∷ codes "I" ∷ []) (step 3 (twice_over (codes "I") (step 4 (grow (codes "Y") (codes "I")) stop)) stop)
+abbrev pub growing : Procedure
+growing = unit_over (codes "Y" ∷ codes "I" ∷ []) (step 3 (twice_over (codes "I") (step 4 (grow (codes "Y") (codes "I")) stop)) stop)
 
 -- a unit S(A)
 abbrev callee : Act → Procedure

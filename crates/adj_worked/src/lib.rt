@@ -38,7 +38,7 @@ pub fn worked_runs()
 
 ghost use Rattle.adj_reverse.specs.Examples.{branch, powers, power};
 ghost use Rattle.adj_worked.specs.Faulty.{faulty_program, Serve, Fail, unchanged, pushed_after, unreversed, assigned, unsigned, uncleared, unpopped, replayed, untold, unturned, unrestored, unreset, uncounted, unsnapped, popped_before, unguarded};
-ghost use Rattle.adj_worked.specs.Sources.{squared, fourth, square, cube, difference, saving_nothing, keeping_nothing, sums, scaled, counted, squaring, caller, calls_before, unsaved, unsaved_call, unvaried, memberless, unadjointed, unkept, left_out};
+ghost use Rattle.adj_worked.specs.Sources.{squared, fourth, square, cube, difference, saving_nothing, keeping_nothing, sums, scaled, growing, squaring, caller, calls_before, unsaved, unsaved_call, unvaried, memberless, unadjointed, unkept, left_out};
 
 /// Emitted programs with a fault are no adjoints: the definition of an adjoint tells them from the emitted one.
 pub fn wrong_adjoints()
@@ -53,7 +53,7 @@ pub fn wrong_adjoints()
     ensures untold { Serve untold full_marks (branch ∷ []) 0 (true ∷ false ∷ []) (false ∷ true ∷ []) → ⊥ }
     ensures unturned { Serve unturned full_marks (sums ∷ []) 0 (true ∷ false ∷ false ∷ []) (false ∷ true ∷ false ∷ []) → ⊥ }
     ensures unrestored { Serve (unrestored (codes "I")) full_marks (scaled ∷ []) 0 (true ∷ false ∷ false ∷ []) (false ∷ true ∷ false ∷ []) → ⊥ }
-    ensures unreset { Serve unreset full_marks (counted ∷ []) 0 (false ∷ true ∷ []) (true ∷ false ∷ []) → ⊥ }
+    ensures unreset { Serve unreset full_marks (growing ∷ []) 0 (false ∷ true ∷ []) (true ∷ false ∷ []) → ⊥ }
     ensures uncounted { Serve (uncounted (codes "ADL1")) full_marks (powers ∷ []) 0 (false ∷ true ∷ false ∷ false ∷ []) (false ∷ false ∷ true ∷ false ∷ []) → ⊥ }
     ensures unsnapped { Serve unsnapped full_marks (squaring ∷ caller ∷ []) 1 (true ∷ []) (true ∷ []) → ⊥ }
     ensures popped_before { Serve popped_before sparing (raising ∷ calls_after ∷ []) 1 (true ∷ false ∷ []) (false ∷ true ∷ []) → ⊥ }
@@ -66,7 +66,7 @@ pub fn open_marks()
     ensures value_unsaved { Fail saving_nothing (fourth ∷ []) 0 (true ∷ []) (true ∷ []) }
     ensures assignment_unkept { Fail keeping_nothing (fourth ∷ []) 0 (true ∷ []) (true ∷ []) }
     ensures variable_unsaved { Fail unsaved (scaled ∷ []) 0 (true ∷ false ∷ false ∷ []) (false ∷ true ∷ false ∷ []) }
-    ensures variable_unvaried { Fail unvaried (counted ∷ []) 0 (false ∷ true ∷ []) (true ∷ false ∷ []) }
+    ensures variable_unvaried { Fail unvaried (growing ∷ []) 0 (false ∷ true ∷ []) (true ∷ false ∷ []) }
     ensures memberless { Fail memberless (squaring ∷ caller ∷ []) 1 (true ∷ []) (true ∷ []) }
     ensures call_unadjointed { Fail unadjointed (squaring ∷ caller ∷ []) 1 (true ∷ []) (true ∷ []) }
     ensures call_unkept { Fail unkept (squaring ∷ calls_before ∷ []) 1 (true ∷ false ∷ []) (false ∷ true ∷ []) }

@@ -1,7 +1,7 @@
 use Rattle.std.proofs.Common.{◌≡◌, ◌-◌, suc, drop, ap, ◌∙◌, arith}
 use Rattle.std.specs.Prelude.{slice_get}
 use Rattle.adj_revolve.specs.Schedule.{schedule_of}
-use Rattle.adj_interp.specs.Counted.{Plan, planned}
+use Rattle.adj_interp.specs.Tallied.{Plan, planned}
 use Rattle.adj_interp.proofs.Plans.{taken}
 use Rattle.adj_interp.proofs.cursor.Cursor.action.Goals as goal
 

@@ -3,7 +3,7 @@ use Rattle.std.specs.Prelude.{Ok, Err}
 use Rattle.adj_meaning.specs.Event.{Begin}
 use Rattle.adj_meaning.specs.Scene.{Scene, Outcome, Done, stand}
 use Rattle.adj_meaning.specs.Runtime.{begun}
-use Rattle.adj_interp.specs.Counted.{Counted, with_event}
+use Rattle.adj_interp.specs.Tallied.{Tallied, with_event}
 use Rattle.adj_interp.specs.declared.machine.Machine.{Machine}
 use Rattle.adj_frame.specs.Prepared.{term_in}
 use Rattle.adj_interp.specs.Held.{setting_at, Ends, IsDone}
@@ -30,7 +30,7 @@ returns-in-Ok-clause-ends g c e s h =
     let n = setting_at e in
     let plan = c.in_ok-plan.plan in
     let go : ℕ → ℕ → Outcome (Scene g.row.N.Denot) = λ a b. Done (begun n a b s) m.left in
-    let t : Counted = c.begin.new.self in
+    let t : Tallied = c.begin.new.self in
     let m1 : Machine g.row.N.Denot = record m { tally = t } in
     let told : t ≡ with_event m.tally (Begin plan.0 plan.1 m.level c.len-height.result) = c.in-Ok.ensures plan.1 in
     subst (λ z. IsDone e m1 z) (plan_chain n (term_in names c.args.steps.now) (term_in names c.args.snapshots.now) s.store c.args.line (stand n s) go)

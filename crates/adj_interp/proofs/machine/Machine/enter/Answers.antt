@@ -2,7 +2,7 @@ use Rattle.std.proofs.Common.{◌≡◌, suc, ◌∷◌, length, ap, ap₂, sym,
 use Rattle.adj_meaning.specs.Event.{Enter}
 use Rattle.adj_frame.specs.declared.frame.Frame.{Frame}
 use Rattle.adj_frame.specs.Shown.{Shows}
-use Rattle.adj_interp.specs.Counted.{Counted, with_entry}
+use Rattle.adj_interp.specs.Tallied.{Tallied, with_entry}
 use Rattle.adj_interp.specs.Held.{Tells}
 use Rattle.adj_interp.proofs.Calling.{entry_count}
 use Rattle.adj_interp.proofs.Driving.{told_next}
@@ -21,7 +21,7 @@ returns-clause-holds g c e s shape t name shapes h q =
     record {
       room = h.room;
       level = c.replace-3.ensures.after ∙ level;
-      base = based ∙ ap (λ (z : Counted). length z.begun) counted ∙ entry_count c.in-Some.level c.len-height.result m.tally.log m.tally.begun;
+      base = based ∙ ap (λ (z : Tallied). length z.begun) counted ∙ entry_count c.in-Some.level c.len-height.result m.tally.log m.tally.begun;
       shown = subst (λ (f : Frame _). Shows g.N.Number.numbers f.names.now f.slots.items shape t) (sym c.replace.ensures.after) q;
       tape = h.tape;
       opened = omega (arith, based);
