@@ -1,9 +1,9 @@
 -- The head that is asked for, and what the text of its adjoint is.
-use Rattle.std.proofs.Common.{arith, ◌≡◌, inl, inr, ℕ, ◌<◌, ◌≤◌, List, [], ◌∷◌, length, map, Option, Some, None, refl, sym, ap, ◌∙◌, subst}
+use Rattle.std.proofs.Common.{arith, ◌≡◌, inl, inr, ℕ, ◌<◌, ◌≤◌, List, [], ◌∷◌, length, map, Option, Some, None, refl, sym, ap, ap₂, ◌∙◌, subst}
 use Rattle.std.proofs.Math.Nat.{le-max_left, le-max_right}
-use Rattle.std.proofs.lemmas.Bool.{ltb-false}
+use Rattle.std.proofs.lemmas.Bool.{ltb-false, le-ltb}
 use Rattle.std.proofs.lemmas.List.{length-map}
-use Rattle.std.specs.Prelude.{Bool, true, false, not, nat_lt, ◌&&◌, Result, Ok}
+use Rattle.std.specs.Prelude.{Bool, true, false, not, nat_lt, ◌&&◌, ◌^◌, Result, Ok}
 use Rattle.adj_tree.specs.Code.{Procedure}
 use Rattle.adj_tree.specs.View.{procedure_of, procedures_of}
 use Rattle.adj_tree.specs.declared.unit.Program.{Program}
@@ -21,7 +21,8 @@ use Rattle.adj_names.specs.Fault.{run_rules, first_of}
 use Rattle.adj_names.specs.HeadFaults.{first_head_fault, faults_of_head, flags_found, unit_number, head_of}
 use Rattle.adj_reverse.specs.Marking.{ProgramMarks}
 use Rattle.adj_names.specs.Variables.{variables}
-use Rattle.adj_symbols.specs.Numbers.{widest}
+use Rattle.adj_symbols.specs.Numbers.{Fits, widest}
+use Rattle.adj_symbols.specs.Checked.{Known, AreFacts}
 use Rattle.adj_transpose.proofs.Variables.{and_true}
 use Rattle.adj_facts.specs.Parts.{statements_in}
 use Rattle.adj_analysed.specs.MarkedLines.{program_lines, AreLinesApart}
@@ -83,6 +84,16 @@ fits_widest us h =
     let statements = is_numbered (statements_in 0 us) in
     let wide = is_numbered (widest (map variables us)) in
     counted_is (widest (map variables us)) (and_true statements wide (and_true units (statements && wide) h).1).1
+
+numbered : (n : ℕ) → n < 2 ^ 30 → is_numbered n ≡ true
+numbered n l = ap not (le-ltb most_numbered n (omega (arith, l)))
+
+-- what is checked and has few units, statements and variables is a kernel that fits
+pub fits_known : (k : Known) (us : List Procedure) → procedures_of k.program ≡ us → AreFacts k → Fits k → kernel_fits us ≡ true
+fits_known k us p h f =
+    let wide : widest k.variables ≡ widest (map variables (procedures_of k.program)) = ap widest h.variables in
+    subst (λ vs. kernel_fits vs ≡ true) p
+    (ap₂ ◌&&◌ (numbered (length (procedures_of k.program)) f.units) (ap₂ ◌&&◌ (numbered (statements_in 0 (procedures_of k.program)) f.statements) (numbered (widest (map variables (procedures_of k.program))) (subst (λ n. n < 2 ^ 30) wide f.variables))))
 
 -- no two marked loops of a program stand at one line that a text within the limit gives
 pub lines_apart : (bytes : List ℕ) (ps : List Procedure) → length bytes ≤ most_bytes → Reads bytes ps → AreLinesApart (program_lines ps)

@@ -47,20 +47,29 @@ pub(crate) fn unit_number(program: &Program, name: &Name) -> usize
     units.len()
 }
 
+// The kernel of a program. The program is gone then.
+fn kernel_alone(alloc: Global, program: Checked) -> Result<Checked, Memory>
+    requires accepted { IsAccepted (procedures_of program.program) }
+    ensures kernel { IfOk result (λ c. procedures_of c.program ≡ kernel_of (procedures_of program.program)) }
+{
+    let kernel = checked_kernel(alloc, program.program())?;
+    Ok(kernel)
+}
+
 // The text that is wanted of a program, for the unit of a name as its head, or the refusal of its kernel.
 fn written(
     alloc: Global,
     wanted: Wanted,
-    program: &Program,
+    program: Checked,
     name: &Name,
     head: Head,
 ) -> Result<Answer, Memory>
-    requires accepted { IsAccepted (procedures_of program.now) }
-    requires there { IsUnit (procedures_of program.now) name.now }
-    ensures answer { IfOk result (λ a. AnswersFitted (kernel_fits (kernel_of (procedures_of program.now))) wanted (procedures_of program.now) name.now head (answer_of a)) }
-    ensures reads_back { wanted ≡ Wanted.Adjoint → IfOk result (λ a. ReadsBack (answer_of a) (procedures_of program.now) name.now head) }
+    requires accepted { IsAccepted (procedures_of program.program) }
+    requires there { IsUnit (procedures_of program.program) name.now }
+    ensures answer { IfOk result (λ a. AnswersFitted (kernel_fits (kernel_of (procedures_of program.program))) wanted (procedures_of program.program) name.now head (answer_of a)) }
+    ensures reads_back { wanted ≡ Wanted.Adjoint → IfOk result (λ a. ReadsBack (answer_of a) (procedures_of program.program) name.now head) }
 {
-    let kernel = checked_kernel(alloc, program)?;
+    let kernel = kernel_alone(alloc, program)?;
     if !kernel.fits() {
         return too_large(alloc);
     }
@@ -72,7 +81,7 @@ fn written(
         vars,
         outvars,
     };
-    let text = text_wanted(alloc, wanted, &kernel, &own)?;
+    let text = text_wanted(alloc, wanted, kernel, &own)?;
     Ok(Answer {
         status: Status::Done,
         text,
@@ -84,15 +93,15 @@ fn answer_head(
     alloc: Global,
     wanted: Wanted,
     request: &Request,
-    program: &Program,
+    program: Checked,
     head: Head,
 ) -> Result<Answer, Memory>
-    requires written { IsWritten (procedures_of program.now) }
-    requires sound { IsSound source_rules (procedures_of program.now) }
-    requires sound_head { let r = request_of request.now in first_head_fault (procedures_of program.now) r.head r.vars r.outvars ≡ None }
-    requires head { let r = request_of request.now in head ≡ head_of (procedures_of program.now) r.head r.vars r.outvars }
-    ensures answer { IfOk result (λ a. AnswersAccepted wanted (procedures_of program.now) request.now.head head (answer_of a)) }
-    ensures adjoint { wanted ≡ Wanted.Adjoint → IfOk result (λ a. (bytes : List ℕ) → length bytes ≤ most_bytes → Reads bytes (procedures_of program.now) → program_of Source bytes ≡ Ok (procedures_of program.now) → IsAdjoined (request_of request.now) bytes (answer_of a)) }
+    requires written { IsWritten (procedures_of program.program) }
+    requires sound { IsSound source_rules (procedures_of program.program) }
+    requires sound_head { let r = request_of request.now in first_head_fault (procedures_of program.program) r.head r.vars r.outvars ≡ None }
+    requires head { let r = request_of request.now in head ≡ head_of (procedures_of program.program) r.head r.vars r.outvars }
+    ensures answer { IfOk result (λ a. AnswersAccepted wanted (procedures_of program.program) request.now.head head (answer_of a)) }
+    ensures adjoint { wanted ≡ Wanted.Adjoint → IfOk result (λ a. (bytes : List ℕ) → length bytes ≤ most_bytes → Reads bytes (procedures_of program.program) → program_of Source bytes ≡ Ok (procedures_of program.program) → IsAdjoined (request_of request.now) bytes (answer_of a)) }
 {
     emitted_law();
     reading_law();
@@ -105,17 +114,17 @@ fn answer_checked(
     alloc: Global,
     wanted: Wanted,
     request: &Request,
-    checked: &Checked,
+    checked: Checked,
 ) -> Result<Answer, Memory>
-    requires written { IsWritten (procedures_of checked.now.program) }
-    requires sound { IsSound source_rules (procedures_of checked.now.program) }
-    ensures answer { IfOk result (λ a. AnswersChecked None wanted (request_of request.now) (procedures_of checked.now.program) (answer_of a)) }
-    ensures adjoint { wanted ≡ Wanted.Adjoint → IfOk result (λ a. (bytes : List ℕ) → length bytes ≤ most_bytes → Reads bytes (procedures_of checked.now.program) → program_of Source bytes ≡ Ok (procedures_of checked.now.program) → IsAdjoined (request_of request.now) bytes (answer_of a)) }
+    requires written { IsWritten (procedures_of checked.program) }
+    requires sound { IsSound source_rules (procedures_of checked.program) }
+    ensures answer { IfOk result (λ a. AnswersChecked None wanted (request_of request.now) (procedures_of checked.program) (answer_of a)) }
+    ensures adjoint { wanted ≡ Wanted.Adjoint → IfOk result (λ a. (bytes : List ℕ) → length bytes ≤ most_bytes → Reads bytes (procedures_of checked.program) → program_of Source bytes ≡ Ok (procedures_of checked.program) → IsAdjoined (request_of request.now) bytes (answer_of a)) }
 {
     let vars = request.vars.as_slice();
     let outvars = request.outvars.as_slice();
-    match head(alloc, checked, &request.head, vars, outvars) {
-        Ok(head) => answer_head(alloc, wanted, request, checked.program(), head),
+    match head(alloc, &checked, &request.head, vars, outvars) {
+        Ok(head) => answer_head(alloc, wanted, request, checked, head),
         Err(Fault::Refused(refusal)) => refused(alloc, refusal),
         Err(Fault::Memory) => Err(Memory),
     }
@@ -133,7 +142,7 @@ pub(crate) fn answer_program(
     ensures adjoint { wanted ≡ Wanted.Adjoint → IfOk result (λ a. (bytes : List ℕ) → length bytes ≤ most_bytes → Reads bytes (procedures_of program) → program_of Source bytes ≡ Ok (procedures_of program) → IsAdjoined (request_of request.now) bytes (answer_of a)) }
 {
     match check(alloc, program, Mode::Source) {
-        Ok(checked) => answer_checked(alloc, wanted, request, &checked),
+        Ok(checked) => answer_checked(alloc, wanted, request, checked),
         Err(Fault::Refused(refusal)) => refused(alloc, refusal),
         Err(Fault::Memory) => Err(Memory),
     }

@@ -63,7 +63,7 @@ fn answer_head(
         vars: head.vars,
         outvars: head.outvars,
     };
-    let emitted = known(alloc, &kernel, &own)?;
+    let emitted = known(alloc, kernel, &own)?;
     let head = Head {
         unit: number,
         vars: own.vars,

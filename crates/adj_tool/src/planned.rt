@@ -8,7 +8,7 @@ ghost use Rattle.adj_flow.specs.Asked.{IsFlow, problem_of, units_of};
 ghost use Rattle.adj_plan.specs.Asked.{IsPlan};
 ghost use Rattle.adj_weave.specs.Marked.{marks_told};
 ghost use Rattle.adj_weave.specs.Shared.{IsCheckedBySome};
-ghost use Rattle.adj_tool.specs.Planned.{IsAdjointText, IsKnownFor, IsPlanText, IsTextFor};
+ghost use Rattle.adj_tool.specs.Planned.{IsAdjointText, IsEmittedFor, IsKnownFor, IsPlanText, IsTextFor};
 
 use crate::task::Wanted;
 use adj_checking::Emitted;
@@ -67,33 +67,40 @@ fn known_by(
     })
 }
 
-/// What is emitted for a kernel by the marks that its analyses find, with what is to be known of the adjoint of its head.
-pub(crate) fn known(alloc: Global, kernel: &Checked, head: &Head) -> Result<Emitted, Memory>
+/// What is emitted for a kernel by the marks that its analyses find, with what is to be known of the adjoint of its head. The kernel is
+/// gone then.
+pub(crate) fn known(alloc: Global, kernel: Checked, head: &Head) -> Result<Emitted, Memory>
+    requires fits { Fits kernel }
+    requires head { head.now.unit < length kernel.program.units }
+    requires checked { IsCheckedBySome (procedures_of kernel.program) }
+    ensures known { IfOk result (λ e. IsKnownFor (procedures_of kernel.program) head.now (procedures_of e.program) e.adjoint e.shadowed) }
+{
+    let found = plan(alloc, &kernel, head)?;
+    known_by(alloc, &kernel, head, &found)
+}
+
+// What is emitted for a kernel by the marks that its analyses find. These are gone then.
+fn emitted_for(alloc: Global, kernel: &Checked, head: &Head) -> Result<Program, Memory>
     requires fits { Fits kernel.now }
     requires head { head.now.unit < length kernel.now.program.units }
     requires checked { IsCheckedBySome (procedures_of kernel.now.program) }
-    ensures known { IfOk result (λ e. IsKnownFor (procedures_of kernel.now.program) head.now (procedures_of e.program) e.adjoint e.shadowed) }
+    ensures emitted { IfOk result (λ p. IsEmittedFor (procedures_of kernel.now.program) head.now (procedures_of p)) }
 {
     let found = plan(alloc, kernel, head)?;
-    known_by(alloc, kernel, head, &found)
+    let program = emitted(alloc, kernel, head, &found)?;
+    Ok(program)
 }
 
-// The text of what is emitted by the marks of a plan.
-fn adjoint_text(
-    alloc: Global,
-    kernel: &Checked,
-    head: &Head,
-    found: &Planned<'_>,
-) -> Result<Vec<u8>, Memory>
-    requires head { head.now.unit < length kernel.now.program.units }
-    requires checked { IsCheckedBySome (procedures_of kernel.now.program) }
-    requires units { units_of found.now.flow ≡ procedures_of kernel.now.program }
-    requires flow { IsFlow found.now.flow head.now.unit }
-    requires plan { IsPlan found.now.flow (problem_of found.now.flow head.now) found.now.marks }
-    ensures text { IfOk result (λ v. IsAdjointText (procedures_of kernel.now.program) head.now v.items) }
+// The text of what is emitted for a kernel. The kernel is gone when the text is laid out.
+fn adjoint_text(alloc: Global, kernel: Checked, head: &Head) -> Result<Vec<u8>, Memory>
+    requires fits { Fits kernel }
+    requires head { head.now.unit < length kernel.program.units }
+    requires checked { IsCheckedBySome (procedures_of kernel.program) }
+    ensures text { IfOk result (λ v. IsAdjointText (procedures_of kernel.program) head.now v.items) }
 {
-    let emitted = emitted(alloc, kernel, head, found)?;
-    let text = text(alloc, &emitted)?;
+    let program = emitted_for(alloc, &kernel, head)?;
+    drop(kernel);
+    let text = text(alloc, &program)?;
     Ok(text)
 }
 
@@ -118,17 +125,19 @@ fn marks_text(
 pub(crate) fn text_wanted(
     alloc: Global,
     wanted: Wanted,
-    kernel: &Checked,
+    kernel: Checked,
     head: &Head,
 ) -> Result<Vec<u8>, Memory>
-    requires fits { Fits kernel.now }
-    requires head { head.now.unit < length kernel.now.program.units }
-    requires checked { IsCheckedBySome (procedures_of kernel.now.program) }
-    ensures text { IfOk result (λ v. IsTextFor wanted (procedures_of kernel.now.program) head.now v.items) }
+    requires fits { Fits kernel }
+    requires head { head.now.unit < length kernel.program.units }
+    requires checked { IsCheckedBySome (procedures_of kernel.program) }
+    ensures text { IfOk result (λ v. IsTextFor wanted (procedures_of kernel.program) head.now v.items) }
 {
-    let found = plan(alloc, kernel, head)?;
     match wanted {
-        Wanted::Adjoint => adjoint_text(alloc, kernel, head, &found),
-        Wanted::Plan => marks_text(alloc, kernel, head, &found),
+        Wanted::Adjoint => adjoint_text(alloc, kernel, head),
+        Wanted::Plan => {
+            let found = plan(alloc, &kernel, head)?;
+            marks_text(alloc, &kernel, head, &found)
+        }
     }
 }

@@ -8,11 +8,11 @@ pub written-requires-clause-accepted : goal.written-requires-clause-accepted
 written-requires-clause-accepted c = record { written = c.requires.written; sound = c.requires.sound }
 
 pub written-requires-clause-there : goal.written-requires-clause-there
-written-requires-clause-there c = let r = request_of c.args.request.now in head_there (procedures_of c.args.program.now) r.head r.vars r.outvars c.requires.sound_head
+written-requires-clause-there c = let r = request_of c.args.request.now in head_there (procedures_of c.args.program.program) r.head r.vars r.outvars c.requires.sound_head
 
 pub returns-clause-adjoint : goal.returns-clause-adjoint
 returns-clause-adjoint c =
-    let ps = procedures_of c.args.program.now in
+    let ps = procedures_of c.args.program.program in
     let accepted : IsAccepted ps = record { written = c.requires.written; sound = c.requires.sound } in
     λ adjoint bytes few reads given done.
     head_adjoins (request_of c.args.request.now) ps c.args.head c.requires.sound_head c.requires.head accepted c.emitted_law.ensures.reversed_runnable c.reading_law.ensures.program c.in_ok-answer.answer.text.items

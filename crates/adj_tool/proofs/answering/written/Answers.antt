@@ -1,8 +1,10 @@
-use Rattle.std.proofs.Common.{rules, ◌≡◌, ◌∙◌, ap, sym, refl, subst, true}
+use Rattle.std.proofs.Common.{rules, ◌≡◌, ◌∙◌, ap, sym, refl, subst, true, false}
+use Rattle.std.specs.Prelude.{IfOk}
 use Rattle.adj_tree.specs.View.{procedures_of}
 use Rattle.adj_names.specs.HeadFaults.{unit_number}
 use Rattle.adj_kernel.specs.Stepped.{kernel_of}
 use Rattle.adj_answer.specs.Answer.{Answer}
+use Rattle.adj_answer.specs.Views.{answer_of}
 use Rattle.adj_tool.specs.Answer.{AnswersFitted}
 use Rattle.adj_tool.specs.Fitting.{kernel_fits}
 use Rattle.adj_tool.specs.Planned.{IsTextFor}
@@ -11,15 +13,21 @@ use Rattle.adj_tool.proofs.answering.written.Goals as goal
 
 pub text_wanted-requires-clause-head : goal.text_wanted-requires-clause-head
 text_wanted-requires-clause-head c =
-    kernel_head (procedures_of c.args.program.now) c.in_ok-kernel.kernel.program c.in_ok-kernel.ensures.kernel c.args.name.now c.requires.there c.unit_number-unit.result
+    kernel_head (procedures_of c.args.program.program) c.in_ok-kernel.kernel.program c.in_ok-kernel.ensures.kernel c.args.name.now c.requires.there c.unit_number-unit.result
     (c.unit_number-unit.ensures ∙ ap (λ q. unit_number (procedures_of q) c.args.name.now) c.program.ensures.program)
 
 pub text_wanted-requires-clause-checked : goal.text_wanted-requires-clause-checked
-text_wanted-requires-clause-checked c = kernel_is_checked (procedures_of c.args.program.now) c.in_ok-kernel.kernel.program c.in_ok-kernel.ensures.kernel c.requires.accepted
+text_wanted-requires-clause-checked c = kernel_is_checked (procedures_of c.args.program.program) c.in_ok-kernel.kernel.program c.in_ok-kernel.ensures.kernel c.requires.accepted
+
+pub returns-then-not-fits-clause-answer : goal.returns-then-not-fits-clause-answer
+returns-then-not-fits-clause-answer c =
+    let ps = procedures_of c.args.program.program in
+    let large : kernel_fits (kernel_of ps) ≡ false = search rules in
+    subst (λ b. IfOk c.too_large.result (λ a. AnswersFitted b c.args.wanted ps c.args.name.now c.args.head (answer_of a))) (sym large) c.too_large.ensures
 
 pub returns-clause-answer : goal.returns-clause-answer
 returns-clause-answer c =
-    let ps = procedures_of c.args.program.now in
+    let ps = procedures_of c.args.program.program in
     let h = c.args.head in
     let w = c.args.wanted in
     let text = c.in_ok-text.text.items in
@@ -31,7 +39,7 @@ returns-clause-answer c =
 
 pub returns-clause-reads_back : goal.returns-clause-reads_back
 returns-clause-reads_back c =
-    let ps = procedures_of c.args.program.now in
+    let ps = procedures_of c.args.program.program in
     let h = c.args.head in
     let w = c.args.wanted in
     let text = c.in_ok-text.text.items in

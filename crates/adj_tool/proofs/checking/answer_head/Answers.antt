@@ -1,9 +1,11 @@
-use Rattle.std.proofs.Common.{rules, ◌≡◌, true, sym, ap, ◌∙◌, subst}
+use Rattle.std.proofs.Common.{rules, ◌≡◌, true, false, sym, ap, ◌∙◌, subst}
+use Rattle.std.specs.Prelude.{IfOk}
 use Rattle.std.proofs.lemmas.Option.{slice_get_within}
 use Rattle.adj_tree.specs.View.{procedures_of}
 use Rattle.adj_names.specs.HeadFaults.{unit_number}
 use Rattle.adj_kernel.specs.Sound.{IsAccepted}
 use Rattle.adj_kernel.specs.Stepped.{kernel_of}
+use Rattle.adj_symbols.specs.Numbers.{Fits}
 use Rattle.adj_answer.specs.Views.{answer_of}
 use Rattle.adj_running.specs.Views.{asked_of}
 use Rattle.adj_checking.specs.Emitted.{IsEmittedFor}
@@ -11,7 +13,7 @@ use Rattle.adj_tool.specs.Check.{Fitted, IsChecked}
 use Rattle.adj_tool.specs.Fitting.{kernel_fits}
 use Rattle.adj_tool.specs.Planned.{IsKnownFor}
 use Rattle.adj_tool.proofs.Checks as checks
-use Rattle.adj_tool.proofs.Heads.{lines_apart, head_there, kernel_head, kernel_is_checked, for_kernel}
+use Rattle.adj_tool.proofs.Heads.{lines_apart, head_there, kernel_head, kernel_is_checked, for_kernel, fits_known}
 use Rattle.adj_tool.proofs.checking.answer_head.Goals as goal
 
 pub checked_kernel-requires : goal.checked_kernel-requires
@@ -64,6 +66,13 @@ check_answer-requires-clause-emitted c = λ v at.
     let x = checks.emitted_for ps r.run.head h accepted (procedures_of e.program) e.adjoint e.shadowed own (lines_apart c.args.bytes.now ps c.requires.few c.requires.reads) there.unit there.found c.emitted_law.ensures.reversed_runnable fits c.args.bytes.now c.requires.given in
     subst (λ n. IsEmittedFor ps n h.vars h.outvars (procedures_of e.program) e.adjoint e.shadowed) (sym (checks.name_is ps r.run.head r.vars r.outvars c.requires.sound_head h c.requires.head v at)) x
 
+pub returns-then-not-fits-clause-answer : goal.returns-then-not-fits-clause-answer
+returns-then-not-fits-clause-answer c =
+    let ps = procedures_of c.args.program.now.program in
+    let r = c.args.request.now in
+    let large : kernel_fits (kernel_of ps) ≡ false = search rules in
+    subst (λ b. IfOk c.too_large.result (λ a. Fitted b (IsChecked ps c.args.head (asked_of r.run) c.args.bytes.now (answer_of a)) (answer_of a))) (sym large) c.too_large.ensures
+
 pub returns-clause-answer : goal.returns-clause-answer
 returns-clause-answer c =
     let ps = procedures_of c.args.program.now.program in
@@ -75,7 +84,8 @@ returns-clause-answer c =
     let e = c.in_ok-emitted.emitted in
     let own = for_kernel ps c.in_ok-kernel.kernel.program lowered (λ us k. IsKnownFor us k (procedures_of e.program) e.adjoint e.shadowed) r.run.head c.unit_number.result
     (c.unit_number.ensures ∙ ap (λ q. unit_number (procedures_of q) r.run.head) c.program-2.ensures.program) h.vars h.outvars c.in_ok-emitted.ensures.known in
-    let fits : kernel_fits (kernel_of ps) ≡ true = search rules in
+    let few : Fits c.in_ok-kernel.kernel = search rules in
+    let fits = fits_known c.in_ok-kernel.kernel (kernel_of ps) lowered c.program-2.ensures.facts few in
     let apart = lines_apart c.args.bytes.now ps c.requires.few c.requires.reads in
     let x = checks.emitted_for ps r.run.head h accepted (procedures_of e.program) e.adjoint e.shadowed own apart there.unit there.found c.emitted_law.ensures.reversed_runnable fits c.args.bytes.now c.requires.given in
     let is = c.in_ok-answer.ensures.answer there.unit _ (checks.unit_at ps r.run.head r.vars r.outvars c.requires.sound_head h c.requires.head)
@@ -94,7 +104,8 @@ returns-clause-compared c =
     let e = c.in_ok-emitted.emitted in
     let own = for_kernel ps c.in_ok-kernel.kernel.program lowered (λ us k. IsKnownFor us k (procedures_of e.program) e.adjoint e.shadowed) r.run.head c.unit_number.result
     (c.unit_number.ensures ∙ ap (λ q. unit_number (procedures_of q) r.run.head) c.program-2.ensures.program) h.vars h.outvars c.in_ok-emitted.ensures.known in
-    let fits : kernel_fits (kernel_of ps) ≡ true = search rules in
+    let few : Fits c.in_ok-kernel.kernel = search rules in
+    let fits = fits_known c.in_ok-kernel.kernel (kernel_of ps) lowered c.program-2.ensures.facts few in
     let apart = lines_apart c.args.bytes.now ps c.requires.few c.requires.reads in
     let x = checks.emitted_for ps r.run.head h accepted (procedures_of e.program) e.adjoint e.shadowed own apart there.unit there.found c.emitted_law.ensures.reversed_runnable fits c.args.bytes.now c.requires.given in
     let is = c.in_ok-answer.ensures.answer there.unit _ (checks.unit_at ps r.run.head r.vars r.outvars c.requires.sound_head h c.requires.head)
