@@ -17,7 +17,7 @@ use crate::plan::{At, Plan};
 use adj_naming::role::{Helper, Role};
 use adj_site::step::{before, scalar_assignment};
 use adj_site::terms::sum;
-use adj_tree::{Act, Expr, Mark, Memory, Name, Op, Stmt, Stmts};
+use adj_tree::{Act, Expr, Mark, Memory, Name, Op, Stmt, Stmts, boxed};
 use std::alloc::Global;
 
 /// The variable of a DO, its first value, its limit and its step.
@@ -51,9 +51,9 @@ fn plain_turns(
     ensures forward { IfOk result (λ c. in_order (code_of c) ≡ in_order (code_of turned) +++ one line (turns (plain bounds.now.variable.now) (term_of bounds.now.first.now) (term_of bounds.now.limit.now) (term_of bounds.now.step.now) (in_order (code_of body)))) }
 {
     let variable = bounds.variable.copy(alloc)?;
-    let first = bounds.first.copy(alloc)?;
-    let limit = bounds.limit.copy(alloc)?;
-    let step = bounds.step.copy(alloc)?;
+    let first = bounds.first.copy_boxed(alloc)?;
+    let limit = bounds.limit.copy_boxed(alloc)?;
+    let step = bounds.step.copy_boxed(alloc)?;
     let act = Act::Loop(variable, first, limit, step, body.turned(), Mark::Plain);
     let code = before(alloc, Stmt { line, act }, turned)?;
     Ok(code)
@@ -109,9 +109,9 @@ impl<'a> Plan<'a> {
     {
         let body = self.counted(alloc, at, body)?;
         let variable = bounds.variable.copy(alloc)?;
-        let first = self.own(alloc, of_depth(Role::First, at.depth))?;
-        let limit = bounds.limit.copy(alloc)?;
-        let stride = self.own(alloc, of_depth(Role::Stride, at.depth))?;
+        let first = self.boxed_own(alloc, of_depth(Role::First, at.depth))?;
+        let limit = bounds.limit.copy_boxed(alloc)?;
+        let stride = self.boxed_own(alloc, of_depth(Role::Stride, at.depth))?;
         Ok(Stmt {
             line: at.line,
             act: Act::Loop(variable, first, limit, stride, body, Mark::Plain),
@@ -188,9 +188,12 @@ impl<'a> Plan<'a> {
         let left = Box::new(alloc, count)?;
         let last = Expr::Bin(Op::Sub, left, Box::new(alloc, Expr::Lit(1))?);
         let back = Expr::Neg(Box::new(alloc, Expr::Lit(1))?);
+        let from = boxed(alloc, last)?;
+        let limit = boxed(alloc, Expr::Lit(0))?;
+        let stride = boxed(alloc, back)?;
         Ok(Stmt {
             line: at.line,
-            act: Act::Loop(turn, last, Expr::Lit(0), back, body, Mark::Plain),
+            act: Act::Loop(turn, from, limit, stride, body, Mark::Plain),
         })
     }
 

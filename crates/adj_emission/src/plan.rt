@@ -13,7 +13,7 @@ use adj_naming::names::Names;
 use adj_naming::role::Helper;
 use adj_sets::NameSet;
 use adj_site::step::{before, pop, push, scalar_assignment};
-use adj_tree::{Expr, Exprs, Memory, Place, Stmts};
+use adj_tree::{Expr, Exprs, Memory, Place, Stmts, boxed};
 use std::alloc::Global;
 
 /// The names of a unit and its marks, how its marked loops are gone through, which of its variables are arrays, and what is known of the
@@ -42,6 +42,15 @@ impl<'a> Plan<'a> {
     {
         let name = self.names.helper(alloc, own.role, own.number)?;
         Ok(Expr::Var(name))
+    }
+
+    /// The same on the heap.
+    pub fn boxed_own(&self, alloc: Global, own: Helper) -> Result<Box<Expr>, Memory>
+        ensures term { IfOk result (λ e. term_of e.value ≡ var (naming_in self.now (variable_of own))) }
+    {
+        let term = self.own(alloc, own)?;
+        let made = boxed(alloc, term)?;
+        Ok(made)
     }
 
     /// A helper that becomes a value, and then the rest.

@@ -18,7 +18,7 @@ use crate::plan::{At, Plan};
 use crate::slots::literal;
 use adj_naming::role::Role;
 use adj_site::step::{before, scalar_assignment};
-use adj_tree::{Act, Cond, Expr, Exprs, Mark, Memory, Name, Op, Rel, RunCall, Stmt, Stmts};
+use adj_tree::{Act, Cond, Expr, Exprs, Mark, Memory, Name, Op, Rel, RunCall, Stmt, Stmts, boxed};
 use std::alloc::Global;
 
 /// A step call as the rows of its loop write it: its unit, the names that are given, the actuals with their dummies, the adjoint of the
@@ -70,6 +70,15 @@ impl<'a> Plan<'a> {
         Ok(Expr::Var(name))
     }
 
+    // The same on the heap.
+    fn boxed_at(&self, alloc: Global, role: Role, depth: usize) -> Result<Box<Expr>, Memory>
+        ensures term { IfOk result (λ e. term_of e.value ≡ var (naming_in self.now (helper (role_of role) depth))) }
+    {
+        let term = self.own_at(alloc, role, depth)?;
+        let made = boxed(alloc, term)?;
+        Ok(made)
+    }
+
     // The snapshot of a step is pushed.
     fn keep(&self, alloc: Global, at: At, step: &Step) -> Result<Stmts, Memory>
         ensures keep { IfOk result (λ c. (callees : List ℕ → Callee) → code_of c ≡ rename (naming_in self.now) (keep_of (plan_of self.now callees) at.number at.line step.now)) }
@@ -119,11 +128,12 @@ impl<'a> Plan<'a> {
         ensures steps { IfOk result (λ a. act_of a ≡ turns (naming_in self.now (helper turn depth)) (var (naming_in self.now (helper lower depth))) (bin minus (var (naming_in self.now (helper upper depth))) (lit (pos 1))) (lit (pos 1)) (code_of body)) }
     {
         let turn = self.names.helper(alloc, Role::Turn, depth)?;
-        let lower = self.own_at(alloc, Role::Lower, depth)?;
-        let upper = self.own_at(alloc, Role::Upper, depth)?;
-        let left = Box::new(alloc, upper)?;
-        let last = Expr::Bin(Op::Sub, left, Box::new(alloc, Expr::Lit(1))?);
-        Ok(Act::Loop(turn, lower, last, Expr::Lit(1), body, Mark::Plain))
+        let first = self.boxed_at(alloc, Role::Lower, depth)?;
+        let left = self.boxed_at(alloc, Role::Upper, depth)?;
+        let last = Expr::Bin(Op::Sub, left, boxed(alloc, Expr::Lit(1))?);
+        let limit = boxed(alloc, last)?;
+        let step = boxed(alloc, Expr::Lit(1))?;
+        Ok(Act::Loop(turn, first, limit, step, body, Mark::Plain))
     }
 
     // An advance: each of its turns calls the step unit.
@@ -191,9 +201,9 @@ impl<'a> Plan<'a> {
     fn give(&self, alloc: Global, depth: usize, mark: &Mark) -> Result<RunCall, Memory>
         ensures call { IfOk result (λ c. runtime_of c ≡ give_action (var (naming_in self.now (helper count depth))) (rename_term (naming_in self.now) (slots_of depth (mark_of mark.now))) (var (naming_in self.now (helper entry depth))) (naming_in self.now (helper kind depth)) (naming_in self.now (helper lower depth)) (naming_in self.now (helper upper depth))) }
     {
-        let steps = self.own_at(alloc, Role::Count, depth)?;
+        let steps = self.boxed_at(alloc, Role::Count, depth)?;
         let stored = self.slots_of(alloc, depth, mark)?;
-        let number = self.own_at(alloc, Role::Entry, depth)?;
+        let number = self.boxed_at(alloc, Role::Entry, depth)?;
         let kind = self.names.helper(alloc, Role::Kind, depth)?;
         let lower = self.names.helper(alloc, Role::Lower, depth)?;
         let upper = self.names.helper(alloc, Role::Upper, depth)?;
@@ -223,16 +233,17 @@ impl<'a> Plan<'a> {
     {
         let body = self.one_action(alloc, at, variable, step)?;
         let number = self.names.helper(alloc, Role::Entry, at.depth)?;
-        let last = self.own_at(alloc, Role::Entries, at.depth)?;
-        let first = Expr::Lit(1);
-        Ok(Act::Loop(number, first, last, Expr::Lit(1), body, Mark::Plain))
+        let last = self.boxed_at(alloc, Role::Entries, at.depth)?;
+        let first = boxed(alloc, Expr::Lit(1))?;
+        let by = boxed(alloc, Expr::Lit(1))?;
+        Ok(Act::Loop(number, first, last, by, body, Mark::Plain))
     }
 
     // The call that begins the reversal.
     fn begin(&self, alloc: Global, depth: usize, mark: &Mark) -> Result<RunCall, Memory>
         ensures call { IfOk result (λ c. runtime_of c ≡ begin_reversal (var (naming_in self.now (helper count depth))) (rename_term (naming_in self.now) (slots_of depth (mark_of mark.now)))) }
     {
-        let steps = self.own_at(alloc, Role::Count, depth)?;
+        let steps = self.boxed_at(alloc, Role::Count, depth)?;
         let stored = self.slots_of(alloc, depth, mark)?;
         Ok(RunCall::Begin(steps, stored))
     }
@@ -241,7 +252,7 @@ impl<'a> Plan<'a> {
     fn count(&self, alloc: Global, depth: usize, mark: &Mark) -> Result<RunCall, Memory>
         ensures call { IfOk result (λ c. runtime_of c ≡ count_actions (var (naming_in self.now (helper count depth))) (rename_term (naming_in self.now) (slots_of depth (mark_of mark.now))) (naming_in self.now (helper entries depth))) }
     {
-        let steps = self.own_at(alloc, Role::Count, depth)?;
+        let steps = self.boxed_at(alloc, Role::Count, depth)?;
         let stored = self.slots_of(alloc, depth, mark)?;
         let made = self.names.helper(alloc, Role::Entries, depth)?;
         Ok(RunCall::Actions(steps, stored, made))

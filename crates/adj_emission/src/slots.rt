@@ -44,15 +44,22 @@ fn as_slots(alloc: Global, x: &Name) -> Result<Expr, Memory>
 
 impl<'a> Plan<'a> {
     /// The number of snapshots in the reversal of a loop of this depth: that of the mark, or what a helper holds.
-    pub fn slots_of(&self, alloc: Global, depth: usize, mark: &Mark) -> Result<Expr, Memory>
-        ensures slots { IfOk result (λ e. term_of e ≡ rename_term (naming_in self.now) (slots_of depth (mark_of mark.now))) }
+    pub fn slots_of(&self, alloc: Global, depth: usize, mark: &Mark) -> Result<Box<Expr>, Memory>
+        ensures slots { IfOk result (λ e. term_of e.value ≡ rename_term (naming_in self.now) (slots_of depth (mark_of mark.now))) }
     {
         match mark {
-            Mark::Plain => Ok(literal(0)),
-            Mark::Count(snapshots) => Ok(literal(*snapshots)),
+            Mark::Plain => {
+                let none = boxed(alloc, literal(0))?;
+                Ok(none)
+            }
+            Mark::Count(snapshots) => {
+                let made = boxed(alloc, literal(*snapshots))?;
+                Ok(made)
+            }
             Mark::From(_) => {
                 let name = self.names.helper(alloc, Role::Slots, depth)?;
-                Ok(Expr::Var(name))
+                let made = boxed(alloc, Expr::Var(name))?;
+                Ok(made)
             }
         }
     }

@@ -127,9 +127,9 @@ fn cut_statement(
         Act::Loop(x, from, limit, by, body, mark) => {
             let inner = cut_body(alloc, source, first, line, x, body, mark)?;
             let name = x.copy(alloc)?;
-            let start = from.copy(alloc)?;
-            let last = limit.copy(alloc)?;
-            let stride = by.copy(alloc)?;
+            let start = from.copy_boxed(alloc)?;
+            let last = limit.copy_boxed(alloc)?;
+            let stride = by.copy_boxed(alloc)?;
             let snapshots = mark.copy(alloc)?;
             write(
                 line,

@@ -52,9 +52,9 @@ fn lower_statement(
         Act::Loop(x, first, last, by, body, mark) => {
             let inner = lower(alloc, locals, handed, body)?;
             let name = x.copy(alloc)?;
-            let from = first.copy(alloc)?;
-            let limit = last.copy(alloc)?;
-            let stride = by.copy(alloc)?;
+            let from = first.copy_boxed(alloc)?;
+            let limit = last.copy_boxed(alloc)?;
+            let stride = by.copy_boxed(alloc)?;
             let snapshots = mark.copy(alloc)?;
             let act = Act::Loop(name, from, limit, stride, inner.code, snapshots);
             write(line, act, steps)?;

@@ -29,7 +29,7 @@ abbrev pub item_of : Item → statement.Item
 item_of i = record { name = i.name; extents = map extent_of i.extents }
 
 abbrev pub range_of : Range → statement.Range
-range_of r = record { counter = plain r.counter; from = term_of r.from; to = term_of r.to; by = term_of r.by }
+range_of r = record { counter = plain r.counter; from = term_of r.from.value; to = term_of r.to.value; by = term_of r.by.value }
 
 -- a condition and what it guards, and a label with a range
 abbrev pub guarded_seen : Cond × Act → Test × code.Act

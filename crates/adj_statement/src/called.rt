@@ -87,7 +87,10 @@ fn begin(alloc: Global, actuals: &[Expr]) -> Result<Option<RunCall>, Memory>
     ensures { IfOk result (λ found. option_map runtime_of found ≡ as_beginning (terms_listed (map term_of actuals.now))) }
 {
     match actuals {
-        [steps, snapshots] => Ok(Some(RunCall::Begin(steps.copy(alloc)?, snapshots.copy(alloc)?))),
+        [steps, snapshots] => Ok(Some(RunCall::Begin(
+            steps.copy_boxed(alloc)?,
+            snapshots.copy_boxed(alloc)?,
+        ))),
         _ => Ok(None),
     }
 }
@@ -103,8 +106,8 @@ fn actions(alloc: Global, actuals: &[Expr]) -> Result<Option<RunCall>, Memory>
     let Some(number) = name_of(alloc, number)? else {
         return Ok(None);
     };
-    let steps = steps.copy(alloc)?;
-    Ok(Some(RunCall::Actions(steps, snapshots.copy(alloc)?, number)))
+    let steps = steps.copy_boxed(alloc)?;
+    Ok(Some(RunCall::Actions(steps, snapshots.copy_boxed(alloc)?, number)))
 }
 
 // The variables of `ADACT`.
@@ -141,9 +144,9 @@ fn asked(
 ) -> Result<RunCall, Memory>
     ensures { IfOk result (λ r. runtime_of r ≡ give_action (term_of steps.now) (term_of snapshots.now) (term_of number.now) (plain places.kind) (plain places.from) (plain places.to)) }
 {
-    let steps = steps.copy(alloc)?;
-    let snapshots = snapshots.copy(alloc)?;
-    let number = number.copy(alloc)?;
+    let steps = steps.copy_boxed(alloc)?;
+    let snapshots = snapshots.copy_boxed(alloc)?;
+    let number = number.copy_boxed(alloc)?;
     Ok(RunCall::Action(
         steps,
         snapshots,

@@ -14,9 +14,9 @@ pub struct Item {
 #[derive(Drop)]
 pub struct Range {
     pub counter: Name,
-    pub from: Expr,
-    pub to: Expr,
-    pub by: Expr,
+    pub from: Box<Expr>,
+    pub to: Box<Expr>,
+    pub by: Box<Expr>,
 }
 
 /// What a statement says, by its class.

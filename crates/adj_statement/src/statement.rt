@@ -20,7 +20,7 @@ use crate::label::Label;
 use crate::words::Words;
 use adj_expression::{Flaw, both};
 use adj_text::{Kind, Stated};
-use adj_tree::{Act, Cond, Expr, Memory, Name};
+use adj_tree::{Act, Cond, Expr, Memory, Name, boxed};
 use std::alloc::Global;
 
 // A condition in parentheses, and what stands behind it.
@@ -115,21 +115,27 @@ fn step(alloc: Global, words: Words, limit: u32) -> Result<Option<Result<Expr, F
 
 // The bounds of a loop, or what is wrong with them.
 fn ranged(
+    alloc: Global,
     counter: Name,
     from: Result<Expr, Flaw>,
     to: Result<Expr, Flaw>,
     by: Result<Expr, Flaw>,
-) -> Result<Range, Flaw>
-    ensures { seen range_of result ≡ seen (λ (q : (Term × Term) × Term). record { counter = plain counter; from = q.0.0; to = q.0.1; by = q.1 }) (both (both (seen term_of from) (seen term_of to)) (seen term_of by)) }
+) -> Result<Result<Range, Flaw>, Memory>
+    ensures { IfOk result (λ range. seen range_of range ≡ seen (λ (q : (Term × Term) × Term). record { counter = plain counter; from = q.0.0; to = q.0.1; by = q.1 }) (both (both (seen term_of from) (seen term_of to)) (seen term_of by))) }
 {
     match both(both(from, to), by) {
-        Ok(((from, to), by)) => Ok(Range {
-            counter,
-            from,
-            to,
-            by,
-        }),
-        Err(flaw) => Err(flaw),
+        Ok(((from, to), by)) => {
+            let from = boxed(alloc, from)?;
+            let to = boxed(alloc, to)?;
+            let by = boxed(alloc, by)?;
+            Ok(Ok(Range {
+                counter,
+                from,
+                to,
+                by,
+            }))
+        }
+        Err(flaw) => Ok(Err(flaw)),
     }
 }
 
@@ -155,7 +161,10 @@ fn bounds(alloc: Global, words: Words, limit: u32) -> Result<Option<Result<Range
         return Ok(None);
     };
     match step(alloc, rest, limit)? {
-        Some(by) => Ok(Some(ranged(counter, from, to, by))),
+        Some(by) => {
+            let range = ranged(alloc, counter, from, to, by)?;
+            Ok(Some(range))
+        }
         None => Ok(None),
     }
 }

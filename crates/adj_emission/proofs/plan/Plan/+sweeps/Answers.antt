@@ -1,6 +1,6 @@
 use Rattle.std.proofs.Common.{◌≡◌, ◌∙◌, suc, refl, sym, ap, subst, arith, rules}
-use Rattle.adj_tree.specs.Code.{Act, runtime, stop, step}
-use Rattle.adj_tree.specs.View.{runtime_of, mark_of, act_of, code_of}
+use Rattle.adj_tree.specs.Code.{Act, plain, loop, runtime, stop, step}
+use Rattle.adj_tree.specs.View.{term_of, runtime_of, mark_of, act_of, code_of}
 use Rattle.adj_tree.specs.declared.stmt.Stmts.{size-Stmts}
 use Rattle.adj_tree.specs.declared.stmt.Act.TheViews.{sized-More}
 use Rattle.adj_tree.specs.declared.stmt.Stmts.TheVariants as stmts
@@ -39,12 +39,13 @@ pub statement-returns-in_ok-made-in-Some : goal.statement-returns-in_ok-made-in-
 statement-returns-in_ok-made-in-Some t c =
     let r = naming_in c.args.self.now in
     let inside = c.in_ok-inside-in-Loop.ensures.next in
+    let act = ap act_of c.in-Loop.is ∙ (λ i. loop (plain c.in-Loop.x) (term_of (sym c.deref.ensures i)) (term_of (sym c.deref-in-Loop.ensures i)) (term_of (sym c.deref-in-Loop-2.ensures i)) (code_of c.in-Loop.body) (mark_of c.in-Loop.mark)) in
     record {
       sweeps = λ callees reads k.
           let sc = schedules_of c.args.self.now reads in
           let p = plan_of c.args.self.now callees in
           let is = ap (step_of reads) (sym c.in-Some.is) ∙ c.step_call.ensures.step reads c.args.sweeps.number c.in_ok-number-in-Loop.ensures.next in
-          subst (λ a. SweepsAct sc r p c.args.depth c.args.stmt.now.line a c.args.sweeps c.in_ok-made-in-Some.made) (sym (ap act_of c.in-Loop.is))
+          subst (λ a. SweepsAct sc r p c.args.depth c.args.stmt.now.line a c.args.sweeps c.in_ok-made-in-Some.made) (sym act)
           (c.in_ok-made-in-Some.ensures.sweeps callees reads c.args.depth (code_of c.in-Loop.body) (mark_of c.in-Loop.mark) k is inside);
     }
 
@@ -52,6 +53,7 @@ pub statement-returns-in_ok-made-in-None : goal.statement-returns-in_ok-made-in-
 statement-returns-in_ok-made-in-None t c =
     let r = naming_in c.args.self.now in
     let inside = c.in_ok-inside-in-Loop.ensures.next in
+    let act = ap act_of c.in-Loop.is ∙ (λ i. loop (plain c.in-Loop.x) (term_of (sym c.deref.ensures i)) (term_of (sym c.deref-in-Loop.ensures i)) (term_of (sym c.deref-in-Loop-2.ensures i)) (code_of c.in-Loop.body) (mark_of c.in-Loop.mark)) in
     record {
       sweeps = λ callees reads k.
           let sc = schedules_of c.args.self.now reads in
@@ -59,7 +61,7 @@ statement-returns-in_ok-made-in-None t c =
           let body = code_of c.in-Loop.body in
           let inner = c.in_ok-inner-in-None.inner in
           let others = sym (c.step_call.ensures.step reads c.args.sweeps.number c.in_ok-number-in-Loop.ensures.next) ∙ ap (step_of reads) c.in-None.is in
-          subst (λ a. SweepsAct sc r p c.args.depth c.args.stmt.now.line a c.args.sweeps c.in_ok-made-in-None.made) (sym (ap act_of c.in-Loop.is))
+          subst (λ a. SweepsAct sc r p c.args.depth c.args.stmt.now.line a c.args.sweeps c.in_ok-made-in-None.made) (sym act)
           (c.in_ok-made-in-None.ensures.sweeps sc callees c.args.depth body _ others inside
           (subst (λ n. SweepsList sc r p (suc c.args.depth) n body stop inner) c.in_ok-number-in-Loop.ensures.next
           (subst (λ n. SweepsList sc r p n c.in_ok-number-in-Loop.number body stop inner) inside (c.in_ok-inner-in-None.ensures.sweeps callees reads k))));

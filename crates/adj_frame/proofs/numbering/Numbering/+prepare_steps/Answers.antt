@@ -3,7 +3,7 @@ use Rattle.adj_tree.specs.declared.stmt.Stmts.{size-Stmts}
 use Rattle.adj_tree.specs.declared.stmt.Act.TheViews.{sized-More}
 use Rattle.adj_tree.specs.declared.stmt.Stmts.TheVariants as stmts
 use Rattle.adj_tree.specs.Code.{step, choose, loop}
-use Rattle.adj_tree.specs.View.{act_of, code_of, procedure_of}
+use Rattle.adj_tree.specs.View.{term_of, act_of, code_of, procedure_of}
 use Rattle.adj_tree.specs.Listed.{code_turned}
 use Rattle.adj_frame.specs.declared.step.Step.{Step}
 use Rattle.adj_frame.specs.Linked.{IsTaskLinked, AreLinked}
@@ -94,6 +94,6 @@ task-returns-in_ok-marking-in-Loop-clause-resolves t c =
     let e3 = extends_on _ _ _ c.in_ok-last-in-Loop.ensures.extends e4 in
     let e2 = extends_on _ _ _ c.in_ok-first-in-Loop.ensures.extends e3 in
     rw c.in-Loop.is (record {
-      stands_for = λ ls f i. loop (r1.stands_for ls (extends_on _ _ _ e2 f) i) (r2.stands_for ls (extends_on _ _ _ e3 f) i) (r3.stands_for ls (extends_on _ _ _ e4 f) i) (r4.stands_for ls (extends_on _ _ _ e5 f) i) (r5.stands_for ls (extends_on _ _ _ e6 f) i) (r6.stands_for ls f i);
+      stands_for = λ ls f i. loop (r1.stands_for ls (extends_on _ _ _ e2 f) i) ((r2.stands_for ls (extends_on _ _ _ e3 f) ∙ ap term_of c.deref.ensures) i) ((r3.stands_for ls (extends_on _ _ _ e4 f) ∙ ap term_of c.deref-in-Loop.ensures) i) ((r4.stands_for ls (extends_on _ _ _ e5 f) ∙ ap term_of c.deref-in-Loop-2.ensures) i) (r5.stands_for ls (extends_on _ _ _ e6 f) i) (r6.stands_for ls f i);
       below = λ ls f. (r1.below ls (extends_on _ _ _ e2 f), (r2.below ls (extends_on _ _ _ e3 f), r3.below ls (extends_on _ _ _ e4 f), r4.below ls (extends_on _ _ _ e5 f)), r5.below ls (extends_on _ _ _ e6 f), r6.below ls f);
     })
