@@ -92,7 +92,7 @@ pub units_told : TreesAnswer → TreesReadUpTo → UnitsTold
 units_told answer up_to mode stated = by (trees_of mode stated) refl
   where
     by : (found : Result (List Procedure) Refusal) → trees_of mode stated ≡ found → AreUnits mode stated found
-    by (Ok units) e = let d = derived mode stated units e in (subst (IsAnswer (TreeFault mode) [] stated) e (answer mode stated), record { statements = d.0; words_derive = d.1; units_derive = d.2 })
+    by (Ok units) e = let d = derived mode stated units e in (subst (IsAnswer (TreeFault mode) [] stated) e (answer mode stated), record { statements = d.0; lexemes_derive = d.1; units_derive = d.2 })
     by (Err r) e = (subst (IsAnswer (TreeFault mode) [] stated) e (answer mode stated), up_to mode stated r e)
 
 -- ---- programs
@@ -104,7 +104,7 @@ refused_early mode bytes r (of_statements ss e f) = faults.of_statements ss e f
 
 -- what the statements of a text are as units is what the text is
 whole : StatementsOnly → (mode : Mode) (bytes : List ℕ) (stated : List Stated) → AreStatements mode bytes (Ok stated) → (found : Result (List Procedure) Refusal) → AreUnits mode stated found → IsProgram mode bytes found
-whole only mode bytes stated s (Ok units) u = (none, record { stated = stated; statements = u.1.statements; lines_form = s.1; words_derive = u.1.words_derive; units_derive = u.1.units_derive })
+whole only mode bytes stated s (Ok units) u = (none, record { stated = stated; statements = u.1.statements; lines_form = s.1; lexemes_derive = u.1.lexemes_derive; units_derive = u.1.units_derive })
   where
     none : HasNone (FirstFault mode bytes)
     none r (faults.of_lines f) = s.0 r (of_lines f)

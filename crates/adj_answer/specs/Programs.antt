@@ -40,7 +40,7 @@ AreOfText mode stated = (bytes : List ℕ) × AreStatements mode bytes (Ok state
 -- the words of statements derive these units
 pub record DeriveUnits (stated : List Stated) (units : List Procedure) : Type 0 where
   pub statements : List Statement
-  pub words_derive : ReadsAll stated statements
+  pub lexemes_derive : ReadsAll stated statements
   pub units_derive : ReadsUnits statements units
 
 -- what statements are as units in a mode: refused by their first fault, up to which they read, and where they have none the units that their words derive

@@ -12,7 +12,7 @@ use Rattle.adj_meaning.proofs.Inversions.{done_same}
 use Rattle.adj_transpose.specs.Marks.{Vars}
 use Rattle.adj_transpose.specs.Facts.{Within}
 use Rattle.adj_transpose.specs.Pairs.{Key, Words, on_words}
-use Rattle.adj_transpose.specs.Lists.{Kept, scene}
+use Rattle.adj_transpose.specs.Lists.{Course, scene}
 use Rattle.adj_reverse.specs.Emission.{told_forward, told_backward, literal}
 use Rattle.adj_reverse.specs.Reversals.{LoopRun}
 use Rattle.adj_reverse.specs.Runs.{SameOn}
@@ -24,7 +24,7 @@ use Rattle.adj_cost.specs.Along.{BothCost}
 use Rattle.adj_cost.proofs.Runs.{one_end, left_same, append_done, step_done, one_done, chosen, IsStraight, straight_cost, IsPushing, pushing_keeps}
 
 -- what a scene keeps besides store and tape
-abbrev pub kept_of : Scene ℤ → Kept
+abbrev pub kept_of : Scene ℤ → Course
 kept_of s = record { opened = s.opened; events = s.events }
 
 -- the word that tells which part of an IF ran

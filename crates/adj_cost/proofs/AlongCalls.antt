@@ -15,7 +15,7 @@ use Rattle.adj_transpose.specs.Facts.{In, Facts}
 use Rattle.adj_transpose.specs.Naming.{AreApart}
 use Rattle.adj_transpose.specs.Fresh.{has_name}
 use Rattle.adj_transpose.specs.Pairs.{Key, on_words}
-use Rattle.adj_transpose.specs.Lists.{Kept, scene}
+use Rattle.adj_transpose.specs.Lists.{Course, scene}
 use Rattle.adj_reverse.specs.Plan.{Plan, beside, IsActual, actuals_named, save_group, snapshot_group, writes_actual, found_or}
 use Rattle.adj_reverse.specs.Emission.{push, pop, pushes, pops, adjoint_call}
 use Rattle.adj_reverse.specs.Laws.{CalleeFacts, CallLaws}
@@ -58,8 +58,8 @@ module _ (p : Plan) (line : ℕ) where
 module _ (qs : List Procedure) (depth : ℕ) (lines : ReversedLines) (qd : Calls (ℤ × ℤ)) (sh : Var → Shape) (level : ℕ) (xs : List Key) (p : Plan) (known : KnowsArrays p sh) (w : Facts) (i : ℕ) (g : CalleeFacts) (given : List (List ℕ)) (apart : AreApart g.callee.dummies) (apart' : AreApart given) (laws : CallLaws w i g given) (name : List ℕ) (line : ℕ) (u u' : Store ℤ)
     (one_call : CallTransposed (calls_of qs depth) lines qd sh level xs g given name line (w.marks.kept i) (w.marks.adjointed i) true u u')
     (P A : ℕ)
-    (plain_cost : w.marks.kept i ≡ true → (base : Kept) (f : Store ℤ) (t : List ℤ) → ActualsAgree sh g.callee given g.read u f → (s : Scene ℤ) (k left : ℕ) → act (calls_of qs depth) (on_words sh level) (call name (actuals_named given)) line (scene base f t) k ≡ Done s left → k ≤ left + P)
-    (adjoint_cost : w.marks.adjointed i ≡ true → (base : Kept) (f : Store ℤ) (t : List ℤ) → ActualsAgree sh g.callee given g.callee.members u f → (s : Scene ℤ) (k left : ℕ) → act (calls_of qs depth) (on_words sh level) (adjoint_call g.callee given) line (scene base f t) k ≡ Done s left → k ≤ left + A) where
+    (plain_cost : w.marks.kept i ≡ true → (base : Course) (f : Store ℤ) (t : List ℤ) → ActualsAgree sh g.callee given g.read u f → (s : Scene ℤ) (k left : ℕ) → act (calls_of qs depth) (on_words sh level) (call name (actuals_named given)) line (scene base f t) k ≡ Done s left → k ≤ left + P)
+    (adjoint_cost : w.marks.adjointed i ≡ true → (base : Course) (f : Store ℤ) (t : List ℤ) → ActualsAgree sh g.callee given g.callee.members u f → (s : Scene ℤ) (k left : ℕ) → act (calls_of qs depth) (on_words sh level) (adjoint_call g.callee given) line (scene base f t) k ≡ Done s left → k ≤ left + A) where
   abbrev q : Calls ℤ
   q = calls_of qs depth
 
@@ -120,7 +120,7 @@ module _ (qs : List Procedure) (depth : ℕ) (lines : ReversedLines) (qd : Calls
     tape : s.tape ≡ t
     few : k ≤ left + n + P
 
-  again_done : (k : Bool) → m.kept i ≡ k → (base : Kept) (f : Store ℤ) (t : List ℤ) → SameOn sh needed u f → (s : Scene ℤ) (j left : ℕ) → run q nw (code_if k again) (scene base f t) j ≡ Done s left → Again f t (statements_of (code_if k again)) s j left
+  again_done : (k : Bool) → m.kept i ≡ k → (base : Course) (f : Store ℤ) (t : List ℤ) → SameOn sh needed u f → (s : Scene ℤ) (j left : ℕ) → run q nw (code_if k again) (scene base f t) j ≡ Done s left → Again f t (statements_of (code_if k again)) s j left
   again_done false e base f t same s j left r =
       let is = done_same (scene base f t) s j left r in
       let l = left_same (scene base f t) s j left r in
@@ -136,7 +136,7 @@ module _ (qs : List Procedure) (depth : ℕ) (lines : ReversedLines) (qd : Calls
 
   -- the adjoint, where it is called
   adjoint_done : (f to : Store ℤ) → SameOn sh needed u f → SameOff wrote f to → (a : Bool) → m.adjointed i ≡ a → (pushed : Pushed q sh level p line (if a then snapshot else []) (code_if a (pushes p line snapshot)) (code_if a (pops p line snapshot)) f) →
-      (base : Kept) (g0 : Store ℤ) (t : List ℤ) → SameOn sh held_after to g0 → (e : Scene ℤ) (k left : ℕ) → run q nw (code_if a (pops p line snapshot +++ turned)) (scene base g0 (pushed.trail ++ t)) k ≡ Done e left → k ≤ left + statements_of (code_if a (pops p line snapshot +++ turned)) + A
+      (base : Course) (g0 : Store ℤ) (t : List ℤ) → SameOn sh held_after to g0 → (e : Scene ℤ) (k left : ℕ) → run q nw (code_if a (pops p line snapshot +++ turned)) (scene base g0 (pushed.trail ++ t)) k ≡ Done e left → k ≤ left + statements_of (code_if a (pops p line snapshot +++ turned)) + A
   adjoint_done f to s off true ea pushed base g0 t h e k left r =
       let o = append_done q nw (pops p line snapshot) turned (scene base g0 (pushed.trail ++ t)) e k left r in
       let c = pushed.popped base g0 t in

@@ -15,7 +15,7 @@ use Rattle.adj_meaning.proofs.Inversions.{done_same}
 use Rattle.adj_transpose.specs.Marks.{Vars}
 use Rattle.adj_transpose.specs.Facts.{In}
 use Rattle.adj_transpose.specs.Pairs.{Key, Words, on_words}
-use Rattle.adj_transpose.specs.Lists.{Kept, scene}
+use Rattle.adj_transpose.specs.Lists.{Course, scene}
 use Rattle.adj_reverse.specs.Emission.{literal, set_own, push_own, pop_own, loop_forward, loop_backward}
 use Rattle.adj_reverse.specs.Reversals.{LoopRun}
 use Rattle.adj_reverse.specs.Runs.{SameOn}
@@ -92,7 +92,7 @@ module _ (qs : List Procedure) (depth : ℕ) (sh : Var → Shape) (level : ℕ) 
     is : k ≡ before + 3
     done : run q nw c s before ≡ Done e left
 
-  set_three : (base : Kept) (f : Store ℤ) (t : List ℤ) → SameOn sh needed u f → (s : Scene ℤ) (k left : ℕ) → run q nw (loop_forward false (suc d) line (plain x) ea eb ec Fb) (scene base f t) k ≡ Done s left → Three turning (scene base (f3 f) t) s k left
+  set_three : (base : Course) (f : Store ℤ) (t : List ℤ) → SameOn sh needed u f → (s : Scene ℤ) (k left : ℕ) → run q nw (loop_forward false (suc d) line (plain x) ea eb ec Fb) (scene base f t) k ≡ Done s left → Three turning (scene base (f3 f) t) s k left
   set_three base f t a s k left r =
       let o1 = after_one q nw line (assign (helper first (suc d)) none ea) (set_own line (helper stride (suc d)) ec (set_own line (helper count (suc d)) (literal 0) turning)) (scene base f t) (scene base (f1 f) t) s k left (λ i. rw (is_a f a) refl) r in
       let o2 = after_one q nw line (assign (helper stride (suc d)) none ec) (set_own line (helper count (suc d)) (literal 0) turning) (scene base (f1 f) t) (scene base (f2 f) t) s o1.before left (λ i. rw (is_c (f1 f) (record { at = λ y j lt h. a.at y j lt h })) refl) o1.done in
@@ -120,12 +120,12 @@ module _ (qs : List Procedure) (depth : ℕ) (sh : Var → Shape) (level : ℕ) 
       }
 
   -- the row backward
-  record Back (later : Kept) (g : Store ℤ) (t : List ℤ) (e : Scene ℤ) (k left : ℕ) : Type 0 where
+  record Back (later : Course) (g : Store ℤ) (t : List ℤ) (e : Scene ℤ) (k left : ℕ) : Type 0 where
     before : ℕ
     is : k ≡ before + 4
     turned : turns nw m (run q nw (backward_turn (suc d) line x Bb)) (stepped nw (helper turn (suc d)) (negsuc 0)) (scene later (g4 g) t) before ≡ Done e left
 
-  row_back : (later : Kept) (g : Store ℤ) (t : List ℤ) (e : Scene ℤ) (k left : ℕ) → run q nw (loop_backward false (suc d) line (plain x) Bb) (scene later g (total ∷ (c0 ∷ (a0 ∷ t)))) k ≡ Done e left → Back later g t e k left
+  row_back : (later : Course) (g : Store ℤ) (t : List ℤ) (e : Scene ℤ) (k left : ℕ) → run q nw (loop_backward false (suc d) line (plain x) Bb) (scene later g (total ∷ (c0 ∷ (a0 ∷ t)))) k ≡ Done e left → Back later g t e k left
   row_back later g t e k left r =
       let turn_back = backward_turn (suc d) line x Bb in
       let back = one line (loop (helper turn (suc d)) (bin minus (var (helper count (suc d))) (literal 1)) (literal 0) (neg (literal 1)) turn_back unmarked) in
@@ -141,7 +141,7 @@ module _ (qs : List Procedure) (depth : ℕ) (sh : Var → Shape) (level : ℕ) 
       record { before = q4.before; is = omega (arith, i1, i2, i3, i4); turned = q4.turned ∙ q4.others }
 
   -- the row forward
-  record Forth (base : Kept) (f : Store ℤ) (t : List ℤ) (s : Scene ℤ) (k left : ℕ) : Type 0 where
+  record Forth (base : Course) (f : Store ℤ) (t : List ℤ) (s : Scene ℤ) (k left : ℕ) : Type 0 where
     mid : Scene ℤ
     before : ℕ
     after : ℕ
@@ -159,7 +159,7 @@ module _ (qs : List Procedure) (depth : ℕ) (sh : Var → Shape) (level : ℕ) 
   counted_zero f = rw (nat_refl (suc d)) refl
 
   row_forth : (c1 : Words → Words) (l1 : List LoopRun) → LoopSwept q sh level xs d line x one_cell a0 c0 needed_in needed_last held held_last needs holds Fb Bb wr spares m 0 (set u (plain x) 0 (wrap a0)) u' c1 l1 →
-      (base : Kept) (f : Store ℤ) (t : List ℤ) → SameOn sh needed u f → (s : Scene ℤ) (k left : ℕ) → run q nw (loop_forward false (suc d) line (plain x) ea eb ec Fb) (scene base f t) k ≡ Done s left → Forth base f t s k left
+      (base : Course) (f : Store ℤ) (t : List ℤ) → SameOn sh needed u f → (s : Scene ℤ) (k left : ℕ) → run q nw (loop_forward false (suc d) line (plain x) ea eb ec Fb) (scene base f t) k ≡ Done s left → Forth base f t s k left
   row_forth c1 l1 swept base f t a s k left r =
       let o = set_three base f t a s k left r in
       let first_is : f3 f (helper first (suc d)) 0 ≡ a0 = rw (nat_refl (suc d)) refl in
@@ -177,7 +177,7 @@ module _ (qs : List Procedure) (depth : ℕ) (sh : Var → Shape) (level : ℕ) 
       BothCost q sh level (loop_forward false (suc d) line (plain x) ea eb ec Fb) (loop_backward false (suc d) line (plain x) Bb) needed held u (most + 11)
   cost_told c1 l1 most swept l = record { at = λ base f t a s k left r later g b e k1 left1 r1. go base f t a s k left (row_forth c1 l1 swept base f t a s k left r) later g b e k1 left1 r1 }
     where
-      go : (base : Kept) (f : Store ℤ) (t : List ℤ) → SameOn sh needed u f → (s : Scene ℤ) (k left : ℕ) → Forth base f t s k left → (later : Kept) (g : Store ℤ) → SameOn sh held s.store g → (e : Scene ℤ) (k1 left1 : ℕ) → run q nw (loop_backward false (suc d) line (plain x) Bb) (scene later g s.tape) k1 ≡ Done e left1 → k + k1 ≤ left + left1 + (most + 11)
+      go : (base : Course) (f : Store ℤ) (t : List ℤ) → SameOn sh needed u f → (s : Scene ℤ) (k left : ℕ) → Forth base f t s k left → (later : Course) (g : Store ℤ) → SameOn sh held s.store g → (e : Scene ℤ) (k1 left1 : ℕ) → run q nw (loop_backward false (suc d) line (plain x) Bb) (scene later g s.tape) k1 ≡ Done e left1 → k + k1 ≤ left + left1 + (most + 11)
       go base f t a s k left o later g b e k1 left1 r1 =
           let p = row_back later g o.mid.tape e k1 left1 (ap (λ (z : Scene ℤ). run q nw (loop_backward false (suc d) line (plain x) Bb) (scene later g z.tape) k1) o.ends ∙ r1) in
           let b0 = subst (λ (z : Scene ℤ). SameOn sh held z.store g) (sym o.ends) b in

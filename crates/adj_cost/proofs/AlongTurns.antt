@@ -15,7 +15,7 @@ use Rattle.adj_meaning.proofs.Inversions.{done_same}
 use Rattle.adj_transpose.specs.Marks.{Vars}
 use Rattle.adj_transpose.specs.Facts.{In}
 use Rattle.adj_transpose.specs.Pairs.{Key, Words, on_words}
-use Rattle.adj_transpose.specs.Lists.{Kept, scene}
+use Rattle.adj_transpose.specs.Lists.{Course, scene}
 use Rattle.adj_reverse.specs.Emission.{literal}
 use Rattle.adj_reverse.specs.Reversals.{LoopRun}
 use Rattle.adj_reverse.specs.Runs.{SameOn}
@@ -35,8 +35,8 @@ module _ (qs : List Procedure) (depth : ℕ) (sh : Var → Shape) (level : ℕ) 
 
   -- m turns from the j-th on, gone through by both sweeps
   pub record ToldTurns (m j : ℕ) (u : Store ℤ) (most : ℕ) : Type 0 where
-    pub at : (base : Kept) (f : Store ℤ) (t : List ℤ) → SameOn sh needed u f → f (plain x) 0 ≡ u (plain x) 0 → f (helper count (suc d)) 0 ≡ pos j → (s : Scene ℤ) (k left : ℕ) → turns nw m (run q nw (forward_turn (suc d) line Fb)) (stepped nw (plain x) c0) (scene base f t) k ≡ Done s left →
-        (later : Kept) (g : Store ℤ) → SameOn sh held s.store g → AtTurn (suc d) a0 c0 (j + m) g → (e : Scene ℤ) (k1 left1 : ℕ) → turns nw m (run q nw (backward_turn (suc d) line x Bb)) (stepped nw (helper turn (suc d)) (negsuc 0)) (scene later g s.tape) k1 ≡ Done e left1 → k + k1 ≤ left + left1 + most
+    pub at : (base : Course) (f : Store ℤ) (t : List ℤ) → SameOn sh needed u f → f (plain x) 0 ≡ u (plain x) 0 → f (helper count (suc d)) 0 ≡ pos j → (s : Scene ℤ) (k left : ℕ) → turns nw m (run q nw (forward_turn (suc d) line Fb)) (stepped nw (plain x) c0) (scene base f t) k ≡ Done s left →
+        (later : Course) (g : Store ℤ) → SameOn sh held s.store g → AtTurn (suc d) a0 c0 (j + m) g → (e : Scene ℤ) (k1 left1 : ℕ) → turns nw m (run q nw (backward_turn (suc d) line x Bb)) (stepped nw (helper turn (suc d)) (negsuc 0)) (scene later g s.tape) k1 ≡ Done e left1 → k + k1 ≤ left + left1 + most
 
   pub told_none : (j : ℕ) (u : Store ℤ) → ToldTurns 0 j u 0
   told_none j u = record { at = λ base f t a v c s k left r later g b n e k1 left1 r1. omega (arith, left_same _ s k left r, left_same _ e k1 left1 r1) }
@@ -109,7 +109,7 @@ module _ (qs : List Procedure) (depth : ℕ) (sh : Var → Shape) (level : ℕ) 
 
   -- m turns whose body has no backward sweep
   pub record SilentTurns (m : ℕ) (u : Store ℤ) (most : ℕ) : Type 0 where
-    pub at : (base : Kept) (f : Store ℤ) (t : List ℤ) → SameOn sh needed u f → f (plain x) 0 ≡ u (plain x) 0 → (s : Scene ℤ) (k left : ℕ) → turns nw m (run q nw Fb) (stepped nw (plain x) c0) (scene base f t) k ≡ Done s left → k ≤ left + most
+    pub at : (base : Course) (f : Store ℤ) (t : List ℤ) → SameOn sh needed u f → f (plain x) 0 ≡ u (plain x) 0 → (s : Scene ℤ) (k left : ℕ) → turns nw m (run q nw Fb) (stepped nw (plain x) c0) (scene base f t) k ≡ Done s left → k ≤ left + most
 
   pub silent_none : (u : Store ℤ) → SilentTurns 0 u 0
   silent_none u = record { at = λ base f t a v s k left r. omega (arith, left_same _ s k left r) }

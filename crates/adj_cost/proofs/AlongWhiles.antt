@@ -17,7 +17,7 @@ use Rattle.adj_meaning.proofs.Inversions.{done_same}
 use Rattle.adj_transpose.specs.Marks.{Vars}
 use Rattle.adj_transpose.specs.Facts.{Within}
 use Rattle.adj_transpose.specs.Pairs.{Key, Words, on_words}
-use Rattle.adj_transpose.specs.Lists.{Kept, scene}
+use Rattle.adj_transpose.specs.Lists.{Course, scene}
 use Rattle.adj_reverse.specs.Emission.{literal, push_own, while_forward, while_backward}
 use Rattle.adj_reverse.specs.Passing.{plainly}
 use Rattle.adj_reverse.specs.Reversals.{LoopRun}
@@ -46,8 +46,8 @@ module _ (qs : List Procedure) (depth : ℕ) (sh : Var → Shape) (level : ℕ) 
 
   -- the tests that are left, and their turns from the j-th on, gone through by both sweeps
   pub record ToldTests (tests j : ℕ) (u u' : Store ℤ) (change : Words → Words) (loops : List LoopRun) (swept : TestsSwept q sh level xs d line c needed held Fb Bb wr tests j u u' change loops) (most : ℕ) : Type 0 where
-    pub at : (base : Kept) (f : Store ℤ) (t : List ℤ) → SameOn sh needed u f → f (helper count (suc d)) 0 ≡ pos j → (s : Scene ℤ) (k left : ℕ) → tested q nw c line tests (forward_turn (suc d) line Fb) (scene base f t) k ≡ Done s left →
-        (later : Kept) (g : Store ℤ) → SameOn sh held s.store g → g (helper turn (suc d)) 0 ≡ add (pos (j + swept.turns)) (negsuc 0) → (e : Scene ℤ) (k1 left1 : ℕ) → turns nw swept.turns (run q nw Bb) (stepped nw (helper turn (suc d)) (negsuc 0)) (scene later g s.tape) k1 ≡ Done e left1 → k + k1 ≤ left + left1 + most
+    pub at : (base : Course) (f : Store ℤ) (t : List ℤ) → SameOn sh needed u f → f (helper count (suc d)) 0 ≡ pos j → (s : Scene ℤ) (k left : ℕ) → tested q nw c line tests (forward_turn (suc d) line Fb) (scene base f t) k ≡ Done s left →
+        (later : Course) (g : Store ℤ) → SameOn sh held s.store g → g (helper turn (suc d)) 0 ≡ add (pos (j + swept.turns)) (negsuc 0) → (e : Scene ℤ) (k1 left1 : ℕ) → turns nw swept.turns (run q nw Bb) (stepped nw (helper turn (suc d)) (negsuc 0)) (scene later g s.tape) k1 ≡ Done e left1 → k + k1 ≤ left + left1 + most
 
   same_count : (a b : ℕ) → pos a ≡ pos b → a ≡ b
   same_count a b h = cc
@@ -67,7 +67,7 @@ module _ (qs : List Procedure) (depth : ℕ) (sh : Var → Shape) (level : ℕ) 
   }
 
   -- a turn forward: the body, what it leaves, and the tests after it
-  record Forth (tests j : ℕ) (ub : Store ℤ) (base : Kept) (f : Store ℤ) (t : List ℤ) (s : Scene ℤ) (k left : ℕ) : Type 0 where
+  record Forth (tests j : ℕ) (ub : Store ℤ) (base : Course) (f : Store ℤ) (t : List ℤ) (s : Scene ℤ) (k left : ℕ) : Type 0 where
     middle : Scene ℤ
     rest : ℕ
     turn_done : run q nw Fb (scene base f t) k ≡ Done middle rest
@@ -78,7 +78,7 @@ module _ (qs : List Procedure) (depth : ℕ) (sh : Var → Shape) (level : ℕ) 
     others : tested q nw c line tests (forward_turn (suc d) line Fb) (scene (kept_of middle) (set middle.store (helper count (suc d)) 0 (add (middle.store (helper count (suc d)) 0) (pos 1))) middle.tape) before ≡ Done s left
 
   turn_forth : (tests j : ℕ) (u ub : Store ℤ) (c1 : Words → Words) (l1 : List LoopRun) → suc j < 2 ^ 63 → holds (on_words (plainly sh) level) c u ≡ Ok true → Sweeps q sh level xs (suc d) Fb Bb needed needed held held wr u ub c1 l1 →
-      (base : Kept) (f : Store ℤ) (t : List ℤ) → SameOn sh needed u f → f (helper count (suc d)) 0 ≡ pos j → (s : Scene ℤ) (k left : ℕ) → tested q nw c line (suc tests) (forward_turn (suc d) line Fb) (scene base f t) k ≡ Done s left → Forth tests j ub base f t s k left
+      (base : Course) (f : Store ℤ) (t : List ℤ) → SameOn sh needed u f → f (helper count (suc d)) 0 ≡ pos j → (s : Scene ℤ) (k left : ℕ) → tested q nw c line (suc tests) (forward_turn (suc d) line Fb) (scene base f t) k ≡ Done s left → Forth tests j ub base f t s k left
   turn_forth tests j u ub c1 l1 small held_there s0 base f t a v s k left r =
       let counting = assign (helper count (suc d)) none (bin plus (var (helper count (suc d))) (literal 1)) in
       let h = test_held q nw c line tests (forward_turn (suc d) line Fb) (scene base f t) s k left (again u f true a held_there) r in
@@ -115,15 +115,15 @@ module _ (qs : List Procedure) (depth : ℕ) (sh : Var → Shape) (level : ℕ) 
       m = rest.turns
 
       -- as many turns as the tests that follow, and one
-      one_more : (base : Kept) (f : Store ℤ) (t : List ℤ) → SameOn sh needed u f → f (helper count (suc d)) 0 ≡ pos j → (s : Scene ℤ) (k left : ℕ) → tested q nw c line (suc tests) (forward_turn (suc d) line Fb) (scene base f t) k ≡ Done s left → s.store (helper count (suc d)) 0 ≡ pos (suc j + m) → swept.turns ≡ suc m
+      one_more : (base : Course) (f : Store ℤ) (t : List ℤ) → SameOn sh needed u f → f (helper count (suc d)) 0 ≡ pos j → (s : Scene ℤ) (k left : ℕ) → tested q nw c line (suc tests) (forward_turn (suc d) line Fb) (scene base f t) k ≡ Done s left → s.store (helper count (suc d)) 0 ≡ pos (suc j + m) → swept.turns ≡ suc m
       one_more base f t a v s k left r total =
           let w = swept.forth base f t a v in
           let end1 = tests_end qs depth nw c line (forward_turn (suc d) line Fb) (suc tests) (scene base f t) (scene w.runs.later w.to (w.trail ++ t)) s k left w.runs.cost w.runs.by r in
           let same = same_count (j + swept.turns) (suc j + m) (sym (ap (λ (z : Scene ℤ). z.store (helper count (suc d)) 0) end1 ∙ w.counted_is) ∙ total) in
           omega (arith, same)
 
-      go : (base : Kept) (f : Store ℤ) (t : List ℤ) → SameOn sh needed u f → f (helper count (suc d)) 0 ≡ pos j → (s : Scene ℤ) (k left : ℕ) → tested q nw c line (suc tests) (forward_turn (suc d) line Fb) (scene base f t) k ≡ Done s left → Forth tests j ub base f t s k left →
-          (later : Kept) (g : Store ℤ) → SameOn sh held s.store g → g (helper turn (suc d)) 0 ≡ add (pos (j + swept.turns)) (negsuc 0) → (e : Scene ℤ) (k1 left1 : ℕ) → turns nw swept.turns (run q nw Bb) (stepped nw (helper turn (suc d)) (negsuc 0)) (scene later g s.tape) k1 ≡ Done e left1 → k + k1 ≤ left + left1 + (mb + mr + 3)
+      go : (base : Course) (f : Store ℤ) (t : List ℤ) → SameOn sh needed u f → f (helper count (suc d)) 0 ≡ pos j → (s : Scene ℤ) (k left : ℕ) → tested q nw c line (suc tests) (forward_turn (suc d) line Fb) (scene base f t) k ≡ Done s left → Forth tests j ub base f t s k left →
+          (later : Course) (g : Store ℤ) → SameOn sh held s.store g → g (helper turn (suc d)) 0 ≡ add (pos (j + swept.turns)) (negsuc 0) → (e : Scene ℤ) (k1 left1 : ℕ) → turns nw swept.turns (run q nw Bb) (stepped nw (helper turn (suc d)) (negsuc 0)) (scene later g s.tape) k1 ≡ Done e left1 → k + k1 ≤ left + left1 + (mb + mr + 3)
       go base f t a v s k left r o later g b n e k1 left1 r1 =
           let sa = o.middle in
           let f2 = set sa.store (helper count (suc d)) 0 (add (sa.store (helper count (suc d)) 0) (pos 1)) in
@@ -154,7 +154,7 @@ module _ (qs : List Procedure) (depth : ℕ) (sh : Var → Shape) (level : ℕ) 
   -- ---- without a backward sweep
 
   pub record SilentTests (tests : ℕ) (u : Store ℤ) (most : ℕ) : Type 0 where
-    pub at : (base : Kept) (f : Store ℤ) (t : List ℤ) → SameOn sh needed u f → (s : Scene ℤ) (k left : ℕ) → tested q nw c line tests Fb (scene base f t) k ≡ Done s left → k ≤ left + most
+    pub at : (base : Course) (f : Store ℤ) (t : List ℤ) → SameOn sh needed u f → (s : Scene ℤ) (k left : ℕ) → tested q nw c line tests Fb (scene base f t) k ≡ Done s left → k ≤ left + most
 
   pub silent_none : (tests : ℕ) (u : Store ℤ) → holds (on_words (plainly sh) level) c u ≡ Ok false → SilentTests tests u 0
   silent_none tests u fails = record {
@@ -187,7 +187,7 @@ module _ (qs : List Procedure) (depth : ℕ) (sh : Var → Shape) (level : ℕ) 
         omega (arith, is, left_same o.scene s o.after left o.others, left_same _ e k1 left1 r1, l.at base f t a o.scene o.before o.after o.first);
   }
 
-  record Row (total : ℤ) (base : Kept) (f : Store ℤ) (t : List ℤ) (s : Scene ℤ) (k left : ℕ) : Type 0 where
+  record Row (total : ℤ) (base : Course) (f : Store ℤ) (t : List ℤ) (s : Scene ℤ) (k left : ℕ) : Type 0 where
     mid : Scene ℤ
     before : ℕ
     after : ℕ
@@ -195,7 +195,7 @@ module _ (qs : List Procedure) (depth : ℕ) (sh : Var → Shape) (level : ℕ) 
     is : k + after ≡ before + left + 3
     ends : scene (kept_of mid) mid.store (total ∷ mid.tape) ≡ s
 
-  row_forth : (u u' : Store ℤ) (change : Words → Words) (loops : List LoopRun) (swept : TestsSwept q sh level xs d line c needed held Fb Bb wr most_tests 0 u u' change loops) (base : Kept) (f : Store ℤ) (t : List ℤ) → SameOn sh needed u f → (s : Scene ℤ) (k left : ℕ) → run q nw (while_forward false (suc d) line c Fb) (scene base f t) k ≡ Done s left → Row (pos (0 + swept.turns)) base f t s k left
+  row_forth : (u u' : Store ℤ) (change : Words → Words) (loops : List LoopRun) (swept : TestsSwept q sh level xs d line c needed held Fb Bb wr most_tests 0 u u' change loops) (base : Course) (f : Store ℤ) (t : List ℤ) → SameOn sh needed u f → (s : Scene ℤ) (k left : ℕ) → run q nw (while_forward false (suc d) line c Fb) (scene base f t) k ≡ Done s left → Row (pos (0 + swept.turns)) base f t s k left
   row_forth u u' change loops swept base f t a s k left r =
       let total = pos (0 + swept.turns) in
       let f1 = set f (helper count (suc d)) 0 (pos 0) in
@@ -218,12 +218,12 @@ module _ (qs : List Procedure) (depth : ℕ) (sh : Var → Shape) (level : ℕ) 
       }
 
   -- the row backward
-  record Back (m : ℕ) (later : Kept) (g : Store ℤ) (t : List ℤ) (e : Scene ℤ) (k left : ℕ) : Type 0 where
+  record Back (m : ℕ) (later : Course) (g : Store ℤ) (t : List ℤ) (e : Scene ℤ) (k left : ℕ) : Type 0 where
     before : ℕ
     is : k ≡ before + 2
     turned : turns nw m (run q nw Bb) (stepped nw (helper turn (suc d)) (negsuc 0)) (scene later (set (set g (helper count (suc d)) 0 (pos (0 + m))) (helper turn (suc d)) 0 (wrap (sub (pos (0 + m)) (pos 1)))) t) before ≡ Done e left
 
-  row_back : (m : ℕ) → m < 2 ^ 63 → (later : Kept) (g : Store ℤ) (t : List ℤ) (e : Scene ℤ) (k left : ℕ) → run q nw (while_backward false (suc d) line Bb) (scene later g (pos (0 + m) ∷ t)) k ≡ Done e left → Back m later g t e k left
+  row_back : (m : ℕ) → m < 2 ^ 63 → (later : Course) (g : Store ℤ) (t : List ℤ) (e : Scene ℤ) (k left : ℕ) → run q nw (while_backward false (suc d) line Bb) (scene later g (pos (0 + m) ∷ t)) k ≡ Done e left → Back m later g t e k left
   row_back m small later g t e k left r =
       let total = pos (0 + m) in
       let g1 = set g (helper count (suc d)) 0 total in
@@ -246,7 +246,7 @@ module _ (qs : List Procedure) (depth : ℕ) (sh : Var → Shape) (level : ℕ) 
       small : m < 2 ^ 63
       small = let le = swept.small in let e : 0 + m ≡ m = omega arith in subst (λ z. z < 2 ^ 63) e le
 
-      go : (base : Kept) (f : Store ℤ) (t : List ℤ) → SameOn sh needed u f → (s : Scene ℤ) (k left : ℕ) → Row (pos (0 + m)) base f t s k left → (later : Kept) (g : Store ℤ) → SameOn sh held s.store g → (e : Scene ℤ) (k1 left1 : ℕ) → run q nw (while_backward false (suc d) line Bb) (scene later g s.tape) k1 ≡ Done e left1 → k + k1 ≤ left + left1 + (most + 5)
+      go : (base : Course) (f : Store ℤ) (t : List ℤ) → SameOn sh needed u f → (s : Scene ℤ) (k left : ℕ) → Row (pos (0 + m)) base f t s k left → (later : Course) (g : Store ℤ) → SameOn sh held s.store g → (e : Scene ℤ) (k1 left1 : ℕ) → run q nw (while_backward false (suc d) line Bb) (scene later g s.tape) k1 ≡ Done e left1 → k + k1 ≤ left + left1 + (most + 5)
       go base f t a s k left o later g b e k1 left1 r1 =
           let p = row_back m small later g o.mid.tape e k1 left1 (ap (λ (z : Scene ℤ). run q nw (while_backward false (suc d) line Bb) (scene later g z.tape) k1) o.ends ∙ r1) in
           let g2 = set (set g (helper count (suc d)) 0 (pos (0 + m))) (helper turn (suc d)) 0 (wrap (sub (pos (0 + m)) (pos 1))) in

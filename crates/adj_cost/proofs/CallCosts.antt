@@ -23,7 +23,7 @@ use Rattle.adj_meaning.proofs.Extensions.{calls_same}
 use Rattle.adj_meaning.proofs.Renamed.{run_renamed}
 use Rattle.adj_transpose.specs.Marks.{Vars}
 use Rattle.adj_transpose.specs.Pairs.{on_words}
-use Rattle.adj_transpose.specs.Lists.{Kept, scene}
+use Rattle.adj_transpose.specs.Lists.{Course, scene}
 use Rattle.adj_reverse.specs.Plan.{Callee, actuals_named}
 use Rattle.adj_reverse.specs.Emission.{adjoint_call}
 use Rattle.adj_reverse.specs.Passing.{Bindings, bindings, actuals_in, passed_in, plainly}
@@ -77,7 +77,7 @@ module _ (ps qs : List Procedure) (inside : List ℕ → Bool) (common : HaveInC
           else Trapped shape_trap line (stand nw s))) (sym (actuals_plainly sh level given s.store))
 
   -- it takes what it took in the program
-  pub plain_cost : (s e : Scene ℤ) (k left : ℕ) → p np name (actuals_named given) line s k ≡ Done e left → (base : Kept) (f : Store ℤ) (t : List ℤ) → ((x : Var) → reads_actuals x (looked_at ps name) (actuals_named given) ≡ true → (j : ℕ) → j < size_of (sh x) → f x j ≡ s.store x j) →
+  pub plain_cost : (s e : Scene ℤ) (k left : ℕ) → p np name (actuals_named given) line s k ≡ Done e left → (base : Course) (f : Store ℤ) (t : List ℤ) → ((x : Var) → reads_actuals x (looked_at ps name) (actuals_named given) ≡ true → (j : ℕ) → j < size_of (sh x) → f x j ≡ s.store x j) →
       (e1 : Scene ℤ) (k1 left1 : ℕ) → act (calls_of qs (suc depth)) nw (call name (actuals_named given)) line (scene base f t) k1 ≡ Done e1 left1 → k1 + left ≡ k + left1
   plain_cost s e k left h base f t agrees e1 k1 left1 h1 =
       let m = moves np name (actuals_named given) line s e k left is_called h base t in
@@ -86,7 +86,7 @@ module _ (ps qs : List Procedure) (inside : List ℕ → Bool) (common : HaveInC
       let done : p nw name (actuals_named given) line (scene base s.store t) k ≡ Done (scene m.later e.store t) left = same_shapes (scene base s.store t) k ∙ m.is in
       ended A m.later (p nw name (actuals_named given) line (scene base f t) k) refl (subst (λ o. EndAlike A (p nw name (actuals_named given) line (scene base f t) k) o) done a)
     where
-      ended : (A : Cells) (later : Kept) (o : Outcome (Scene ℤ)) → p nw name (actuals_named given) line (scene base f t) k ≡ o → EndAlike A o (Done (scene later e.store t) left) → k1 + left ≡ k + left1
+      ended : (A : Cells) (later : Course) (o : Outcome (Scene ℤ)) → p nw name (actuals_named given) line (scene base f t) k ≡ o → EndAlike A o (Done (scene later e.store t) left) → k1 + left ≡ k + left1
       ended A later (Done s2 j) is a =
           let here : run p nw (one line (call name (actuals_named given))) (scene base f t) (suc k) ≡ Done s2 j = ap (λ o. then_do o (λ z i. Done z i)) is in
           let same : p nw name (actuals_named given) line (scene base f t) k1 ≡ Done e1 left1 = calls_same inside ps qs common (suc depth) nw name (actuals_named given) line there (scene base f t) k1 ∙ h1 in
@@ -112,13 +112,13 @@ module _ (qs : List Procedure) (depth : ℕ) (sh : Var → Shape) (level : ℕ) 
 
   -- it takes what both sweeps of the unit take
   pub adjoint_cost : (needed held : Vars) (u : Store ℤ) (most : ℕ) → BothCost q0 shG (suc level) F B needed held u most → (f : Store ℤ) → pulled_setting r (setting_in na a (entry qs depth na g.adjoint a found r sep bs named f)) ≡ on_words shG (suc level) → SameOn shG needed u (passed_in (pos 0) bs f) →
-      (base : Kept) (t : List ℤ) (line : ℕ) (e : Scene ℤ) (k left : ℕ) → act (calls_of qs (suc depth)) na (adjoint_call g given) line (scene base f t) k ≡ Done e left → k ≤ left + most
+      (base : Course) (t : List ℤ) (line : ℕ) (e : Scene ℤ) (k left : ℕ) → act (calls_of qs (suc depth)) na (adjoint_call g given) line (scene base f t) k ≡ Done e left → k ≤ left + most
   adjoint_cost needed held u most cost f shapes agrees base t line e k left h =
       let there : calls_of qs (suc depth) na g.adjoint (actuals_in bs) line (scene base f t) k ≡ Done e left = ap (λ es. calls_of qs (suc depth) na g.adjoint es line (scene base f t) k) (sym (shadows_bound g.shadowed g.dummies given)) ∙ h in
       let c = call_body qs depth na g.adjoint a found (actuals_in bs) line (scene base f t) e (actuals_at na f bs) (actuals_are na f bs) k left there in
       let inside = setting_in na a (entry_store words a.dummies (actuals_at na f bs)) in
       let start : Scene ℤ = begun qs depth na g.adjoint a found (actuals_in bs) line (scene base f t) e (actuals_at na f bs) (actuals_are na f bs) in
-      let kept : Kept = kept_at na a (dummy_shapes inside a) base t in
+      let kept : Course = kept_at na a (dummy_shapes inside a) base t in
       let code : Code = F +++ (B +++ stop) in
       let seen : pulled_scene r start ≡ scene kept (passed_in (pos 0) bs f) t = ap (λ (z : Store ℤ). scene kept z t) (entry_pulled na r sep a.dummies bs f named) in
       let ran : run q0 (on_words shG (suc level)) code (scene kept (passed_in (pos 0) bs f) t) k ≡ Done (pulled_scene r c.end) left =

@@ -24,7 +24,7 @@ use Rattle.adj_transpose.specs.Marks.{Vars}
 use Rattle.adj_transpose.specs.Naming.{Named, naming}
 use Rattle.adj_transpose.specs.Facts.{Facts}
 use Rattle.adj_transpose.specs.Pairs.{on_words}
-use Rattle.adj_transpose.specs.Lists.{Kept, scene}
+use Rattle.adj_transpose.specs.Lists.{Course, scene}
 use Rattle.adj_transpose.specs.Program.{unmarked}
 use Rattle.adj_transpose.proofs.Units.{outside}
 use Rattle.adj_reverse.specs.Plan.{Plan}
@@ -114,7 +114,7 @@ module _ (qs : List Procedure) (depth : ℕ) (sh : Var → Shape) (level : ℕ) 
   abbrev n : Setting ℤ
   n = on_words sh level
 
-  pub body_cost : (base : Kept) (f : Store ℤ) (t : List ℤ) → SameOn sh needed u f → (e : Scene ℤ) (k left : ℕ) → run q n (adjoint_body p i line c outs ins) (scene base f t) k ≡ Done e left → k ≤ left + most + length outs + length ins
+  pub body_cost : (base : Course) (f : Store ℤ) (t : List ℤ) → SameOn sh needed u f → (e : Scene ℤ) (k left : ℕ) → run q n (adjoint_body p i line c outs ins) (scene base f t) k ≡ Done e left → k ≤ left + most + length outs + length ins
   body_cost base f t same e k left h =
       let forth = forward p i 0 c in let back = backward p i 0 c in
       let turn1 = cleared p line outs in let end1 = cleared p line ins in

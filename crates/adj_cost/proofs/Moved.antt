@@ -12,12 +12,12 @@ use Rattle.adj_meaning.specs.Run.{Calls, trips, turns, stepped, with_turn, in_fo
 use Rattle.adj_meaning.specs.Written.{find_unit, handed_back}
 use Rattle.adj_meaning.specs.Units.{Actual, actuals, entry_store, dummies_fit, copied_out, dummy_shapes, setting_in, entered, unit_run, call_in, calls_of}
 use Rattle.adj_meaning.proofs.Inversions.{then_done, value_done, count_done, done_same}
-use Rattle.adj_transpose.specs.Lists.{Kept, scene}
+use Rattle.adj_transpose.specs.Lists.{Course, scene}
 use Rattle.adj_cost.proofs.Runs.{left_same, tested, next_tests, test_failed, test_held, no_test_held}
 
 -- the same store at the end, from a tape and other things told
-pub record Elsewhere {C : Type 0} (home : Kept) (t : List C) (e : Scene C) (left : ℕ) (o : Outcome (Scene C)) : Type 0 where
-  pub later : Kept
+pub record Elsewhere {C : Type 0} (home : Course) (t : List C) (e : Scene C) (left : ℕ) (o : Outcome (Scene C)) : Type 0 where
+  pub later : Course
   pub is : o ≡ Done (scene later e.store t) left
   pub opened : later.opened ≡ home.opened
 
@@ -37,20 +37,20 @@ abbrev mutual
 
 -- calls do the same elsewhere
 abbrev pub CallsMove : {C : Type 0} → (List ℕ → Type 0) → Calls C → Type 0
-CallsMove {C} called q = (n : Setting C) (name : List ℕ) (args : Terms) (line : ℕ) (s e : Scene C) (k left : ℕ) → called name → q n name args line s k ≡ Done e left → (home : Kept) (t : List C) → Elsewhere home t e left (q n name args line (scene home s.store t) k)
+CallsMove {C} called q = (n : Setting C) (name : List ℕ) (args : Terms) (line : ℕ) (s e : Scene C) (k left : ℕ) → called name → q n name args line s k ≡ Done e left → (home : Course) (t : List C) → Elsewhere home t e left (q n name args line (scene home s.store t) k)
 
 -- what goes on elsewhere
 abbrev pub GoMoves : {C : Type 0} → Go C → Type 0
-GoMoves {C} go = (s e : Scene C) (k left : ℕ) → go s k ≡ Done e left → (home : Kept) (t : List C) → Elsewhere home t e left (go (scene home s.store t) k)
+GoMoves {C} go = (s e : Scene C) (k left : ℕ) → go s k ≡ Done e left → (home : Course) (t : List C) → Elsewhere home t e left (go (scene home s.store t) k)
 
 module _ {C : Type 0} (n : Setting C) where
   -- one after the other
-  then_moves : (s s1 e : Scene C) (k j left : ℕ) (o : Outcome (Scene C)) (go : Go C) (home : Kept) (t : List C) → Elsewhere home t s1 j o → ((later : Kept) → later.opened ≡ home.opened → Elsewhere home t e left (go (scene later s1.store t) j)) → Elsewhere home t e left (then_do o go)
+  then_moves : (s s1 e : Scene C) (k j left : ℕ) (o : Outcome (Scene C)) (go : Go C) (home : Course) (t : List C) → Elsewhere home t s1 j o → ((later : Course) → later.opened ≡ home.opened → Elsewhere home t e left (go (scene later s1.store t) j)) → Elsewhere home t e left (then_do o go)
   then_moves s s1 e k j left o go home t m f =
       let r = f m.later m.opened in
       record { later = r.later; is = ap (λ z. then_do z go) m.is ∙ r.is; opened = r.opened }
 
-  later_moves : (e : Scene C) (left : ℕ) (o : Outcome (Scene C)) (home later : Kept) (t : List C) → later.opened ≡ home.opened → Elsewhere later t e left o → Elsewhere home t e left o
+  later_moves : (e : Scene C) (left : ℕ) (o : Outcome (Scene C)) (home later : Course) (t : List C) → later.opened ≡ home.opened → Elsewhere later t e left o → Elsewhere home t e left o
   later_moves e left o home later t h r = record { later = r.later; is = r.is; opened = r.opened ∙ h }
 
   -- turns of a loop
@@ -64,7 +64,7 @@ module _ {C : Type 0} (n : Setting C) where
       record { later = a.later; is = ap (turns n (suc m) body (stepped n x c) (scene home s.store t)) r.is ∙ a.is; opened = a.opened }
 
   -- the end of a loop
-  loop_end : (line m : ℕ) (f : Option ℕ) (s : Scene C) (left : ℕ) (home later : Kept) (t : List C) → later.opened ≡ home.opened → Elsewhere home t (after_loop line m f s) left (Done (after_loop line m f (scene later s.store t)) left)
+  loop_end : (line m : ℕ) (f : Option ℕ) (s : Scene C) (left : ℕ) (home later : Course) (t : List C) → later.opened ≡ home.opened → Elsewhere home t (after_loop line m f s) left (Done (after_loop line m f (scene later s.store t)) left)
   loop_end line m None s left home later t op = record { later = later; is = refl; opened = op }
   loop_end line m (Some k) s left home later t op = record { later = _; is = refl; opened = op }
 
@@ -79,7 +79,7 @@ module _ {C : Type 0} (called : List ℕ → Type 0) (q : Calls C) (calls : Call
       go (Ok false) is = let g = test_failed q n c line 0 body s e k left is h in record { later = home; is = rw is (λ i. Done (scene home ((done_same s e k left g i).store) t) (left_same s e k left g i)); opened = refl }
   tests_move c line body moves (suc m) s e k left h home t = go (holds n c s.store) refl (λ s1 k1 g later. tests_move c line body moves m s1 e k1 left g later t)
     where
-      go : (r : Result Bool Trap) → holds n c s.store ≡ r → ((s1 : Scene C) (k1 : ℕ) → tested q n c line m body s1 k1 ≡ Done e left → (later : Kept) → Elsewhere later t e left (tested q n c line m body (scene later s1.store t) k1)) → Elsewhere home t e left (tested q n c line (suc m) body (scene home s.store t) k)
+      go : (r : Result Bool Trap) → holds n c s.store ≡ r → ((s1 : Scene C) (k1 : ℕ) → tested q n c line m body s1 k1 ≡ Done e left → (later : Course) → Elsewhere later t e left (tested q n c line m body (scene later s1.store t) k1)) → Elsewhere home t e left (tested q n c line (suc m) body (scene home s.store t) k)
       go (Err w) is rest = let g : (let o : Outcome (Scene C) = Trapped w line (stand n s) in o ≡ Done e left) = sym (rw is refl) ∙ h in absurd (cc)
       go (Ok true) is rest =
           let r = test_held q n c line m body s e k left is h in
@@ -169,7 +169,7 @@ module _ {C : Type 0} (ps : List Procedure) (called : List ℕ → Type 0) (bare
           let back1 : Scene C → ℕ → Outcome (Scene C) = λ s1 j. Done (record there { store = copied_out u.dummies ws got s1.store s.store; tape = s1.tape; events = s1.events }) j in
           let p = then_done (unit_run inner n u line (record s { store = start }) k) back e left g in
           let o = then_done (run inner (setting_in n u start) u.body (entered n u (record s { store = start })) k) close p.scene p.left p.first in
-          let entry : Kept = record { opened = 0; events = Enter u.name (suc n.level) (length t) (dummy_shapes (setting_in n u start) u) ∷ home.events } in
+          let entry : Course = record { opened = 0; events = Enter u.name (suc n.level) (length t) (dummy_shapes (setting_in n u start) u) ∷ home.events } in
           let m = run_moves called inner moves (setting_in n u start) u.body b (entered n u (record s { store = start })) o.scene k o.left o.first entry t in
           let shut : close (scene m.later o.scene.store t) o.left ≡ Done (scene m.later o.scene.store t) o.left = ap (λ f. if f == 0 then Done (scene m.later o.scene.store t) o.left else Trapped schedule_trap line (stand n (scene m.later o.scene.store t))) m.opened in
           let same = closed o.scene o.left p.scene p.left (o.scene.opened == 0) o.second in

@@ -6,11 +6,11 @@ use Rattle.adj_meaning.specs.Scene.{Scene, Done}
 use Rattle.adj_meaning.specs.Run.{Calls, run}
 use Rattle.adj_transpose.specs.Marks.{Vars}
 use Rattle.adj_transpose.specs.Pairs.{on_words}
-use Rattle.adj_transpose.specs.Lists.{Kept, scene}
+use Rattle.adj_transpose.specs.Lists.{Course, scene}
 use Rattle.adj_reverse.specs.Runs.{SameOn}
 
 -- A run of the forward sweep, from a store that has the values of u that are needed, and one of the backward sweep, from a store that
 -- has the values at its end that are held there, take together at most so many statements.
 pub record BothCost (q : Calls ℤ) (sh : Var → Shape) (level : ℕ) (forth back : Code) (needed held : Vars) (u : Store ℤ) (most : ℕ) : Type 0 where
-  pub at : (base : Kept) (f : Store ℤ) (t : List ℤ) → SameOn sh needed u f → (s : Scene ℤ) (k left : ℕ) → run q (on_words sh level) forth (scene base f t) k ≡ Done s left →
-      (later : Kept) (g : Store ℤ) → SameOn sh held s.store g → (e : Scene ℤ) (k1 left1 : ℕ) → run q (on_words sh level) back (scene later g s.tape) k1 ≡ Done e left1 → k + k1 ≤ left + left1 + most
+  pub at : (base : Course) (f : Store ℤ) (t : List ℤ) → SameOn sh needed u f → (s : Scene ℤ) (k left : ℕ) → run q (on_words sh level) forth (scene base f t) k ≡ Done s left →
+      (later : Course) (g : Store ℤ) → SameOn sh held s.store g → (e : Scene ℤ) (k1 left1 : ℕ) → run q (on_words sh level) back (scene later g s.tape) k1 ≡ Done e left1 → k + k1 ≤ left + left1 + most

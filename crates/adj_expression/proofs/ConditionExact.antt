@@ -4,7 +4,7 @@ use Rattle.std.specs.Prelude.{◌||◌, nat_lt, option_map, IfSome}
 use Rattle.adj_tree.specs.Code.{Test, compare, negation, conjunction, disjunction}
 use Rattle.adj_text.specs.Grammar.{with_both, tree}
 use Rattle.adj_text.specs.Condition.{Condition, test, Part, Whole, DerivesCondition, comparison, group, plain, not, item, and, whole, or}
-use Rattle.adj_text.specs.Word.{Word}
+use Rattle.adj_text.specs.Lexeme.{Lexeme}
 use Rattle.adj_expression.specs.declared.flaw.Flaw.{Flaw}
 use Rattle.adj_expression.specs.ConditionMachine.{test_value, beginning, Ends, read_test}
 use Rattle.adj_expression.specs.Flaws.{of_one, of_two, kept}
@@ -23,7 +23,7 @@ same : {f g : Result Test Flaw} {d e : ℕ} → f ≡ g → d ≡ e → (let x :
 same p q = ap₂ (λ (r : Result Test Flaw) (n : ℕ). let x : PartialTest = record { found = r; depth = n } in x) p q
 
 -- the tree or what is wrong, and what stands behind
-abbrev pub found_of : PartialTest × List Word → Result Test Flaw × List Word
+abbrev pub found_of : PartialTest × List Lexeme → Result Test Flaw × List Lexeme
 found_of f = (f.0.found, f.1)
 
 module _ (limit : ℕ) where
@@ -40,7 +40,7 @@ module _ (limit : ℕ) where
       same (ap (kept b) (of_two-judged f l (nat_lt limit d) m (nat_lt limit e) o p) ∙ kept-judged b (l || m) deep whole ∙ ap (λ g. judged_by (l || m) g whole) (deeper_two limit d e)) (omega arith)
 
   -- what is derived is read exactly
-  test_exact : {part : Part} {ts rest : List Word} {c : Condition} → DerivesCondition part ts rest c → test_value (test_algebra limit) c ≡ exactly limit c
+  test_exact : {part : Part} {ts rest : List Lexeme} {c : Condition} → DerivesCondition part ts rest c → test_value (test_algebra limit) c ≡ exactly limit c
   test_exact (comparison {a = a} {b = b} {r = r} rel p q) = ap₂ (comparison_of limit r) (exact limit p) (exact limit q) ∙ two_exact (has_large a) (has_large b) (depth a) (depth b) (tree a) (tree b) (compare r)
   test_exact (group p) = test_exact p
   test_exact (plain p) = test_exact p
@@ -50,10 +50,10 @@ module _ (limit : ℕ) where
   test_exact (whole p) = test_exact p
   test_exact (or {c = c} {d = d} p q) = ap₂ (disjunction_of limit) (test_exact p) (test_exact q) ∙ two_exact (test_large c) (test_large d) (test_depth c) (test_depth d) (test c) (test d) disjunction
 
-  found : (words : List Word) (o : Option (Condition × List Word)) → IfSome o (λ r. DerivesCondition Whole words r.1 r.0 × Ends r.1) → option_map found_of (option_map (λ f. (test_value (test_algebra limit) f.0, f.1)) o) ≡ option_map (λ f. (judged_test limit f.0, f.1)) o
-  found words None h = refl
-  found words (Some f) h = ap (λ (x : PartialTest). Some (found_of (x, f.1))) (test_exact h.0)
+  found : (lexemes : List Lexeme) (o : Option (Condition × List Lexeme)) → IfSome o (λ r. DerivesCondition Whole lexemes r.1 r.0 × Ends r.1) → option_map found_of (option_map (λ f. (test_value (test_algebra limit) f.0, f.1)) o) ≡ option_map (λ f. (judged_test limit f.0, f.1)) o
+  found lexemes None h = refl
+  found lexemes (Some f) h = ap (λ (x : PartialTest). Some (found_of (x, f.1))) (test_exact h.0)
 
   -- what the code's machine reads at the front is what stands there, judged
-  pub front_read : (words : List Word) → option_map found_of (read_test (test_algebra limit) (beginning []) words) ≡ front_condition limit words
-  front_read words = ap (option_map found_of) (same_reading (test_algebra limit) words) ∙ found words (read_condition words) (test_derived words)
+  pub front_read : (lexemes : List Lexeme) → option_map found_of (read_test (test_algebra limit) (beginning []) lexemes) ≡ front_condition limit lexemes
+  front_read lexemes = ap (option_map found_of) (same_reading (test_algebra limit) lexemes) ∙ found lexemes (read_condition lexemes) (test_derived lexemes)

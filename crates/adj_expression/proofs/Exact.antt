@@ -7,7 +7,7 @@ use Rattle.adj_tree.specs.Code.{Op, Term, lit, var, neg, bin, pow, power_of, pla
 use Rattle.adj_text.specs.Char.{number_of}
 use Rattle.adj_text.specs.Grammar.{Syntax, applied, Arguments, only, beside, count_of, takes, takes_as, application_of, operation_of, is_absolute, two_arguments, in_words, with_both, constant_of, constant_power, as_exponent, joins_literals, is_literal, constant, exponent, tree, Symbol, Derives, literal, name, group, application, primary, power, factor, product, term, sign, sum, adds, subtracts, DerivesAll, single, another}
 use Rattle.adj_text.specs.Machine.{value}
-use Rattle.adj_text.specs.Word.{Word}
+use Rattle.adj_text.specs.Lexeme.{Lexeme}
 use Rattle.adj_expression.specs.declared.flaw.Flaw.{Flaw}
 use Rattle.adj_expression.specs.declared.constant.Constant.{Constant}
 use Rattle.adj_expression.specs.declared.constant.Constant.TheVariants as constants
@@ -137,13 +137,13 @@ module _ (limit : ℕ) where
       partial.powered limit (record { found = judged_by l (nat_lt limit d) o; depth = min d (limit + 1); constant = constancy base c }) (record { found = judged_by m (nat_lt limit e) p; depth = min e (limit + 1); constant = constancy literally z })
       ≡ record { found = judged_by (l || m) (nat_lt limit (if literally then suc d else suc (max d e))) (if literally then with_both (λ t k. Some (pow t k)) o (option_and_then as_exponent z) else with_both (λ t u. Some (power_of t u)) o p); depth = min (if literally then suc d else suc (max d e)) (limit + 1); constant = constancy (base && literally) (with_both constant_power c z) }
   raised_exact true base l m d e o p c None = power_exact l m d e o p None (powered_constant (constancy base c) constants.Beyond) ∙ constantly (raised_constant base c None)
-  raised_exact true base l m d e o p c (Some z) = power_exact l m d e o p (as_exponent z) (powered_constant (constancy base c) (constants.Word z)) ∙ constantly (raised_constant base c (Some z))
+  raised_exact true base l m d e o p c (Some z) = power_exact l m d e o p (as_exponent z) (powered_constant (constancy base c) (constants.Lexeme z)) ∙ constantly (raised_constant base c (Some z))
   raised_exact false base l m d e o p c z = two_exact l m d e o p power_of constants.Other ∙ constantly (other_base base (with_both constant_power c z))
 
   literal_exact : (n : ℕ) → partial.literal limit (in_words (pos n)) ≡ record { found = judged_by (nat_le (2 ^ 63) n) (nat_lt limit 1) (Some (lit (pos n))); depth = min 1 (limit + 1); constant = valued (in_words (pos n)) }
   literal_exact n =
       elim (cases_lt n (2 ^ 63)) [
-        | inl lt ↦ rw (lt-ltb n (2 ^ 63) lt, lt-leb (2 ^ 63) n lt) (leaf_exact false (lit (pos n)) (constants.Word (pos n)) _ refl)
+        | inl lt ↦ rw (lt-ltb n (2 ^ 63) lt, lt-leb (2 ^ 63) n lt) (leaf_exact false (lit (pos n)) (constants.Lexeme (pos n)) _ refl)
         | inr le ↦ rw (le-ltb n (2 ^ 63) le, le-leb (2 ^ 63) n le) (leaf_exact true (lit (pos n)) constants.Beyond _ refl)
       ]
 
@@ -169,7 +169,7 @@ module _ (limit : ℕ) where
 
   mutual
     -- what is derived is read exactly
-    pub exact : {symbol : Symbol} {ts rest : List Word} {s : Syntax} → Derives symbol ts rest s → value (algebra limit) s ≡ exactly limit s
+    pub exact : {symbol : Symbol} {ts rest : List Lexeme} {s : Syntax} → Derives symbol ts rest s → value (algebra limit) s ≡ exactly limit s
     exact (literal {digits = ds}) = literal_exact (number_of ds)
     exact (name {x = x}) = leaf_exact false (var (plain x)) constants.Other _ refl
     exact (group r) = exact r
@@ -183,7 +183,7 @@ module _ (limit : ℕ) where
     exact (sign {s = s} subtracts r) = ap (partial.opposite limit) (exact r) ∙ one_exact (has_large s) (depth s) (tree s) neg (negated_constant (constancy (is_literal s) (constant s))) ∙ constantly (one-constant (λ z. in_words (neg_ℤ z)) (is_literal s) (constant s))
     exact (sum {a = a} {b = b} {op = op} k r q) = ap₂ (partial.combined limit op) (exact r) (exact q) ∙ two_exact (has_large a) (has_large b) (depth a) (depth b) (tree a) (tree b) (bin op) (joined_constant op (constancy (is_literal a) (constant a)) (constancy (is_literal b) (constant b))) ∙ constantly (joined-constant op (is_literal a) (is_literal b) (constant a) (constant b))
 
-    applied_exact : (x : List ℕ) {ts rest : List Word} {all : Arguments} → DerivesAll ts rest all → takes x (count_of all) ≡ true → value (algebra limit) (applied x all) ≡ exactly limit (applied x all)
+    applied_exact : (x : List ℕ) {ts rest : List Lexeme} {all : Arguments} → DerivesAll ts rest all → takes x (count_of all) ≡ true → value (algebra limit) (applied x all) ≡ exactly limit (applied x all)
     applied_exact x (single {s = s} r) fits =
         ap (λ a. partial.application limit x (a ∷ [])) (exact r) ∙ one_exact (has_large s) (depth s) (tree s) (one_argument x) constants.Other ∙ same (ap (judged_by (has_large s) (nat_lt limit (suc (depth s)))) (tree_one x (tree s))) refl
     applied_exact x (another {s = s} (single {s = a} r) q) fits =

@@ -4,7 +4,7 @@ use Rattle.adj_tree.specs.Code.{Op, plus, minus, times, quot}
 use Rattle.adj_text.specs.declared.token.TokenKind.TheVariants.{Power, Star, Slash, Plus, Minus, Left, Right, Comma}
 use Rattle.adj_text.specs.Grammar.{takes}
 use Rattle.adj_text.specs.Machine.{Frame, Group, Called, Signed, Added, Multiplied, Base, Algebra, with_sign, close_product, close_sum, Nothing, Callee, Operand, State, having, begin_sign, begin, end_group, next_argument, add, multiply, go_on, behind_name, step, whole, finish, chosen}
-use Rattle.adj_text.specs.Word.{Word, Named, Digits, Mark}
+use Rattle.adj_text.specs.Lexeme.{Lexeme, Named, Digits, Mark}
 
 -- so many open parentheses
 abbrev pub groups : {X : Type 0} → ℕ → List (Frame X)
@@ -15,8 +15,8 @@ groups (suc n) = Group ∷ groups n
 abbrev pub above : {X : Type 0} → ℕ → State X → State X
 above n e = (e.0 ++ groups n, e.1)
 
--- a word that doesn't go on with an expression alone closes the parenthesis below, where the expression is whole
-abbrev pub closed : {X : Type 0} → Word → Option X → ℕ → Option (State X)
+-- a lexeme that doesn't go on with an expression alone closes the parenthesis below, where the expression is whole
+abbrev pub closed : {X : Type 0} → Lexeme → Option X → ℕ → Option (State X)
 closed (Mark Right) (Some x) (suc n) = Some (having (groups n) x)
 closed _ _ _ = None
 
@@ -41,8 +41,8 @@ module _ {X : Type 0} (alg : Algebra X) where
   close_sum-above (Multiplied op a ∷ frames) x n = close_sum-above frames (alg.combined op a x) n
   close_sum-above (Base a ∷ frames) x n = close_sum-above frames (alg.powered a x) n
 
-  -- what a word makes above open parentheses
-  abbrev Above : Word → ℕ → Option (State X) → Option X → Option (State X)
+  -- what a lexeme makes above open parentheses
+  abbrev Above : Lexeme → ℕ → Option (State X) → Option X → Option (State X)
   Above w n taken found = chosen taken (λ t. Some (above n t)) (closed w found n)
 
   signs : (op : Op) (frames : List (Frame X)) (n : ℕ) → begin_sign op (frames ++ groups n) ≡ chosen (begin_sign op frames) (λ t. Some (above n t)) None
@@ -79,7 +79,7 @@ module _ {X : Type 0} (alg : Algebra X) where
   next_arrives (Multiplied op a ∷ frames) x n = refl
   next_arrives (Base a ∷ frames) x n = refl
 
-  begins : (frames : List (Frame X)) (w : Word) (n : ℕ) → begin alg (frames ++ groups n) w ≡ Above w n (begin alg frames w) None
+  begins : (frames : List (Frame X)) (w : Lexeme) (n : ℕ) → begin alg (frames ++ groups n) w ≡ Above w n (begin alg frames w) None
   begins frames (Named text) n = refl
   begins frames (Digits digits) n = refl
   begins frames (Mark Left) n = refl
@@ -87,7 +87,7 @@ module _ {X : Type 0} (alg : Algebra X) where
   begins frames (Mark Minus) n = signs minus frames n
   begins frames (Mark _) n = refl
 
-  goes_on : (frames : List (Frame X)) (x : X) (w : Word) (n : ℕ) → go_on alg (frames ++ groups n) x w ≡ Above w n (go_on alg frames x w) (whole (close_sum alg frames x))
+  goes_on : (frames : List (Frame X)) (x : X) (w : Lexeme) (n : ℕ) → go_on alg (frames ++ groups n) x w ≡ Above w n (go_on alg frames x w) (whole (close_sum alg frames x))
   goes_on frames x (Mark Plus) n = ap (λ c. Some (add plus c)) (close_sum-above frames x n)
   goes_on frames x (Mark Minus) n = ap (λ c. Some (add minus c)) (close_sum-above frames x n)
   goes_on frames x (Mark Star) n = ap (λ c. Some (multiply times c)) (close_product-above frames x n)
@@ -99,7 +99,7 @@ module _ {X : Type 0} (alg : Algebra X) where
   goes_on frames x (Digits digits) n = refl
   goes_on frames x (Mark _) n = refl
 
-  behind_names : (frames : List (Frame X)) (text : List ℕ) (w : Word) (n : ℕ) → behind_name alg (frames ++ groups n) text w ≡ Above w n (behind_name alg frames text w) (whole (close_sum alg frames (alg.name text)))
+  behind_names : (frames : List (Frame X)) (text : List ℕ) (w : Lexeme) (n : ℕ) → behind_name alg (frames ++ groups n) text w ≡ Above w n (behind_name alg frames text w) (whole (close_sum alg frames (alg.name text)))
   behind_names frames text (Mark Left) n = refl
   behind_names frames text (Mark Plus) n = goes_on frames (alg.name text) (Mark Plus) n
   behind_names frames text (Mark Minus) n = goes_on frames (alg.name text) (Mark Minus) n
@@ -111,7 +111,7 @@ module _ {X : Type 0} (alg : Algebra X) where
   behind_names frames text (Digits digits) n = refl
   behind_names frames text (Mark _) n = refl
 
-  pub step-above : (e : State X) (w : Word) (n : ℕ) → step alg (above n e) w ≡ chosen (step alg e w) (λ t. Some (above n t)) (closed w (finish alg e) n)
+  pub step-above : (e : State X) (w : Lexeme) (n : ℕ) → step alg (above n e) w ≡ chosen (step alg e w) (λ t. Some (above n t)) (closed w (finish alg e) n)
   step-above (frames, Nothing) w n = begins frames w n
   step-above (frames, Callee text) w n = behind_names frames text w n
   step-above (frames, Operand x) w n = goes_on frames x w n

@@ -1,4 +1,4 @@
--- ConditionMachine: how a condition at the front of some words is read, over the machine of expressions.
+-- ConditionMachine: how a condition at the front of some lexemes is read, over the machine of expressions.
 use Rattle.std.specs.Prelude.{◌≡◌, List, [], ◌∷◌, Option, Some, None, option_map, option_and_then, Bool, true, false, if◌then◌else◌}
 use Rattle.adj_tree.specs.Code.{Rel, is_less, is_most, is_same, is_other, is_greater, is_least}
 use Rattle.adj_text.specs.declared.token.TokenKind.{TokenKind}
@@ -6,7 +6,7 @@ use Rattle.adj_text.specs.declared.token.TokenKind.TheVariants.{Left, Right, Com
 use Rattle.adj_text.specs.Grammar.{Syntax}
 use Rattle.adj_text.specs.Condition.{Condition, compared, denied, both, either}
 use Rattle.adj_text.specs.Machine.{Algebra, syntaxes, value, State, wanting, having, step, finish, chosen}
-use Rattle.adj_text.specs.Word.{Word, Mark}
+use Rattle.adj_text.specs.Lexeme.{Lexeme, Mark}
 
 -- what waits for its end, or for its right operand; an open parenthesis may turn out to be one of an expression
 pub data Waiting (C : Type 0) : Type 0 where
@@ -81,8 +81,8 @@ abbrev pub end_operand : {X C : Type 0} → List (Waiting C) → X → Option (T
 end_operand (Opened ∷ frames) x = Some (frames, First (having [] x))
 end_operand _ x = None
 
--- a word behind a condition
-abbrev pub behind_condition : {X C : Type 0} → TestAlgebra X C → List (Waiting C) × C → Word → Option (TestState X C)
+-- a lexeme behind a condition
+abbrev pub behind_condition : {X C : Type 0} → TestAlgebra X C → List (Waiting C) × C → Lexeme → Option (TestState X C)
 behind_condition alg p (Mark And) = Some (await_and (conjoin alg p))
 behind_condition alg p (Mark Or) = Some (await_or (close_all alg p))
 behind_condition alg p (Mark Right) = end_condition alg (close_all alg p)
@@ -97,8 +97,8 @@ relation_of Gt = Some is_greater
 relation_of Ge = Some is_least
 relation_of _ = None
 
--- a word that doesn't go on with the left operand
-abbrev pub behind_left : {X C : Type 0} → List (Waiting C) → Word → X → Option (TestState X C)
+-- a lexeme that doesn't go on with the left operand
+abbrev pub behind_left : {X C : Type 0} → List (Waiting C) → Lexeme → X → Option (TestState X C)
 behind_left frames (Mark Right) x = end_operand frames x
 behind_left frames (Mark k) x = option_map (λ r. (frames, Second r x (wanting []))) (relation_of k)
 behind_left frames _ x = None
@@ -108,8 +108,8 @@ abbrev pub begin_not : {X C : Type 0} → List (Waiting C) → Option (TestState
 begin_not (Denied ∷ frames) = None
 begin_not frames = Some (beginning (Denied ∷ frames))
 
--- a word where a comparison, `.NOT.` or a parenthesis is wanted
-abbrev pub begin_item : {X C : Type 0} → TestAlgebra X C → List (Waiting C) → Word → Option (TestState X C)
+-- a lexeme where a comparison, `.NOT.` or a parenthesis is wanted
+abbrev pub begin_item : {X C : Type 0} → TestAlgebra X C → List (Waiting C) → Lexeme → Option (TestState X C)
 begin_item alg frames (Mark Left) = Some (beginning (Opened ∷ frames))
 begin_item alg frames (Mark Not) = begin_not frames
 begin_item alg frames w = option_map (λ e. (frames, First e)) (step alg.terms (wanting []) w)
@@ -118,8 +118,8 @@ begin_item alg frames w = option_map (λ e. (frames, First e)) (step alg.terms (
 abbrev pub compare_with : {X C : Type 0} → TestAlgebra X C → List (Waiting C) → Rel → X → X → List (Waiting C) × C
 compare_with alg frames r a b = deny alg frames (alg.relates r a b)
 
--- each word goes on with the expression where it can
-abbrev pub advance : {X C : Type 0} → TestAlgebra X C → TestState X C → Word → Option (TestState X C)
+-- each lexeme goes on with the expression where it can
+abbrev pub advance : {X C : Type 0} → TestAlgebra X C → TestState X C → Lexeme → Option (TestState X C)
 advance alg (frames, Fresh) w = begin_item alg frames w
 advance alg (frames, First e) w = chosen (step alg.terms e w) (λ t. Some (frames, First t)) (option_and_then (behind_left frames w) (finish alg.terms e))
 advance alg (frames, Second r a e) w = chosen (step alg.terms e w) (λ t. Some (frames, Second r a t)) (option_and_then (λ b. behind_condition alg (compare_with alg frames r a b) w) (finish alg.terms e))
@@ -137,7 +137,7 @@ conclude alg (frames, Second r a e) = option_and_then (λ b. alone (close_all al
 conclude alg (frames, Made c) = alone (close_all alg (frames, c))
 
 -- what may stand behind a condition
-abbrev pub is_end : Word → Bool
+abbrev pub is_end : Lexeme → Bool
 is_end (Mark Right) = true
 is_end (Mark Comma) = true
 is_end (Mark Equals) = true
@@ -145,14 +145,14 @@ is_end (Mark Not) = true
 is_end (Mark Call) = true
 is_end _ = false
 
-abbrev pub Ends : List Word → Type 0
+abbrev pub Ends : List Lexeme → Type 0
 Ends [] = Unit {0}
 Ends (w ∷ ws) = is_end w ≡ true
 
-abbrev pub ended : {C : Type 0} → Word → List Word → Option C → Option (C × List Word)
+abbrev pub ended : {C : Type 0} → Lexeme → List Lexeme → Option C → Option (C × List Lexeme)
 ended w ws found = if is_end w then option_map (λ c. (c, w ∷ ws)) found else None
 
--- the longest condition at the front of the words, and the words behind it
-unfoldable pub read_test : {X C : Type 0} → TestAlgebra X C → TestState X C → List Word → Option (C × List Word)
+-- the longest condition at the front of the lexemes, and the lexemes behind it
+unfoldable pub read_test : {X C : Type 0} → TestAlgebra X C → TestState X C → List Lexeme → Option (C × List Lexeme)
 read_test alg s [] = option_map (λ c. (c, [])) (conclude alg s)
 read_test alg s (w ∷ ws) = chosen (advance alg s w) (λ t. read_test alg t ws) (ended w ws (conclude alg s))

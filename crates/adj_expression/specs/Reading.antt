@@ -1,13 +1,13 @@
--- Reading: the longest expression or condition at the front of some words, and the words behind it.
+-- Reading: the longest expression or condition at the front of some lexemes, and the lexemes behind it.
 use Rattle.std.specs.Prelude.{List, [], Option}
 use Rattle.adj_text.specs.Grammar.{Syntax}
 use Rattle.adj_text.specs.Condition.{Condition}
 use Rattle.adj_text.specs.Machine.{syntaxes, wanting, read}
-use Rattle.adj_text.specs.Word.{Word}
+use Rattle.adj_text.specs.Lexeme.{Lexeme}
 use Rattle.adj_expression.specs.ConditionMachine.{conditions, beginning, read_test}
 
-abbrev pub read_expression : List Word → Option (Syntax × List Word)
-read_expression words = read syntaxes (wanting []) words
+abbrev pub read_expression : List Lexeme → Option (Syntax × List Lexeme)
+read_expression lexemes = read syntaxes (wanting []) lexemes
 
-abbrev pub read_condition : List Word → Option (Condition × List Word)
-read_condition words = read_test conditions (beginning []) words
+abbrev pub read_condition : List Lexeme → Option (Condition × List Lexeme)
+read_condition lexemes = read_test conditions (beginning []) lexemes

@@ -1,7 +1,7 @@
 -- Stack: the frames of the code without where they lie in memory, the newest first, and what one step makes of them.
 use Rattle.std.specs.Prelude.{◌≡◌, List, map, reverse, Option, Some, None}
 use Rattle.adj_tree.specs.View.{op_of}
-use Rattle.adj_text.specs.Word.{Word}
+use Rattle.adj_text.specs.Lexeme.{Lexeme}
 use Rattle.adj_text.specs.Machine as machine
 use Rattle.adj_text.specs.Machine.{Algebra, State, close_sum, step}
 use Rattle.adj_expression.specs.declared.frame.Frame.{Frame}
@@ -44,5 +44,5 @@ Makes alg next before frames (On seen) = next ≡ Some (stack_of frames, seen_of
 Makes alg next before frames (Stuck seen) = (next ≡ None) × (closed alg (stack_of frames, seen_of seen) ≡ before)
 
 -- the step is made; or there is none, and what the operands come to stays the same
-abbrev pub Steps : Algebra Partial → State Partial → Word → List Frame → Stepped → Type 0
+abbrev pub Steps : Algebra Partial → State Partial → Lexeme → List Frame → Stepped → Type 0
 Steps alg s w frames stepped = Makes alg (step alg s w) (closed alg s) frames stepped

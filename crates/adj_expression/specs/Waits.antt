@@ -1,7 +1,7 @@
--- Waits: what waits in the code without where it lies in memory, the newest first, and what one word makes of it.
+-- Waits: what waits in the code without where it lies in memory, the newest first, and what one lexeme makes of it.
 use Rattle.std.specs.Prelude.{◌≡◌, ℕ, List, Option, Some, None, option_map}
 use Rattle.adj_tree.specs.View.{rel_of}
-use Rattle.adj_text.specs.Word.{Word}
+use Rattle.adj_text.specs.Lexeme.{Lexeme}
 use Rattle.adj_expression.specs.declared.inside.Inside.{Inside}
 use Rattle.adj_expression.specs.declared.inside.Inside.TheVariants as insides
 use Rattle.adj_expression.specs.declared.inside.Advanced.{Advanced}
@@ -34,6 +34,6 @@ abbrev pub Turns : Option (TestState Partial PartialTest) → Option PartialTest
 Turns step whole waits (On inside) = step ≡ Some (waits_of waits, inside_of inside)
 Turns step whole waits (Stuck found) = (step ≡ None) × (option_map proposition_of found ≡ whole)
 
--- what a word makes of a state
-abbrev pub Advances : ℕ → TestState Partial PartialTest → Word → List Waiting → Advanced → Type 0
+-- what a lexeme makes of a state
+abbrev pub Advances : ℕ → TestState Partial PartialTest → Lexeme → List Waiting → Advanced → Type 0
 Advances limit s w waits next = Turns (advance (test_algebra limit) s w) (conclude (test_algebra limit) s) waits next

@@ -2,7 +2,7 @@
 
 ghost use Rattle.std.specs.Prelude.{◌≡◌, ◌<◌, [], IfOk, IfSome, option_map};
 ghost use Rattle.adj_tree.specs.View.{test_of};
-ghost use Rattle.adj_text.specs.Word.{Mark, words_of};
+ghost use Rattle.adj_text.specs.Lexeme.{Mark, lexemes_of};
 ghost use Rattle.adj_expression.specs.ConditionMachine.{beginning, is_end, read_test};
 ghost use Rattle.adj_expression.specs.Front.{AreSlices, front_condition};
 ghost use Rattle.adj_expression.specs.PartialCondition.{test_algebra, proposition_of};
@@ -45,15 +45,15 @@ fn read<'t>(
 ) -> Result<Option<(Proposition, &'t [Token])>, Memory>
     requires slices { AreSlices text.now tokens.now }
     requires limit { limit < 1000 }
-    ensures front { IfOk result (λ found. option_map (λ f. (proposition_of f.0, words_of text.now f.1.now)) found ≡ read_test (test_algebra limit) (beginning []) (words_of text.now tokens.now)) }
+    ensures front { IfOk result (λ found. option_map (λ f. (proposition_of f.0, lexemes_of text.now f.1.now)) found ≡ read_test (test_algebra limit) (beginning []) (lexemes_of text.now tokens.now)) }
     ensures behind { IfOk result (λ found. IfSome found (λ f. AreSlices text.now f.1.now)) }
 {
     let mut waits = Vec::new(alloc);
     let mut inside = Inside::Fresh;
     let mut rest = tokens;
     while let Some((token, behind)) = rest.split_first() {
-        let word = &text[token.start..token.end];
-        match advance(alloc, &mut waits, inside, token.kind, word, limit)? {
+        let lexeme = &text[token.start..token.end];
+        match advance(alloc, &mut waits, inside, token.kind, lexeme, limit)? {
             Advanced::On(next) => inside = next,
             Advanced::Stuck(found) => {
                 if !is_end(token.kind) {
@@ -78,7 +78,7 @@ pub fn condition<'t>(
 ) -> Result<Option<(Result<Cond, Flaw>, &'t [Token])>, Memory>
     requires slices { AreSlices text.now tokens.now }
     requires limit { limit < 1000 }
-    ensures front { IfOk result (λ found. option_map (λ f. (seen test_of f.0, words_of text.now f.1.now)) found ≡ front_condition limit (words_of text.now tokens.now)) }
+    ensures front { IfOk result (λ found. option_map (λ f. (seen test_of f.0, lexemes_of text.now f.1.now)) found ≡ front_condition limit (lexemes_of text.now tokens.now)) }
     ensures behind { IfOk result (λ found. IfSome found (λ f. AreSlices text.now f.1.now)) }
 {
     match read(alloc, text, tokens, limit)? {

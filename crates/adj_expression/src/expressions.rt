@@ -2,7 +2,7 @@
 
 ghost use Rattle.std.specs.Prelude.{◌≡◌, ◌<◌, ℕ, List, IfOk, IfSome, option_map};
 ghost use Rattle.adj_tree.specs.View.{term_of};
-ghost use Rattle.adj_text.specs.Word.{word, words_of};
+ghost use Rattle.adj_text.specs.Lexeme.{lexeme, lexemes_of};
 ghost use Rattle.adj_text.specs.Machine.{finish, is_stop};
 ghost use Rattle.adj_expression.specs.Front.{AreSlices, front_expression};
 ghost use Rattle.adj_expression.specs.Partial.{algebra, ended};
@@ -16,9 +16,9 @@ use adj_text::{Token, TokenKind};
 use adj_tree::{Expr, Memory};
 use std::alloc::Global;
 
-/// Whether the word may stand behind an expression: no name, no number and nothing that goes on with one.
+/// Whether the lexeme may stand behind an expression: no name, no number and nothing that goes on with one.
 pub(crate) fn is_stop(kind: TokenKind) -> bool
-    ensures { (text : List ℕ) → result ≡ is_stop (word kind text) }
+    ensures { (text : List ℕ) → result ≡ is_stop (lexeme kind text) }
 {
     !matches!(
         kind,
@@ -61,15 +61,15 @@ pub fn expression<'t>(
 ) -> Result<Option<(Result<Expr, Flaw>, &'t [Token])>, Memory>
     requires slices { AreSlices text.now tokens.now }
     requires limit { limit < 1000 }
-    ensures front { IfOk result (λ found. option_map (λ f. (seen term_of f.0, words_of text.now f.1.now)) found ≡ front_expression limit (words_of text.now tokens.now)) }
+    ensures front { IfOk result (λ found. option_map (λ f. (seen term_of f.0, lexemes_of text.now f.1.now)) found ≡ front_expression limit (lexemes_of text.now tokens.now)) }
     ensures behind { IfOk result (λ found. IfSome found (λ f. AreSlices text.now f.1.now)) }
 {
     let mut frames = Vec::new(alloc);
     let mut seen = Seen::Nothing;
     let mut rest = tokens;
     while let Some((token, behind)) = rest.split_first() {
-        let word = &text[token.start..token.end];
-        match step(alloc, &mut frames, seen, token.kind, word, limit)? {
+        let lexeme = &text[token.start..token.end];
+        match step(alloc, &mut frames, seen, token.kind, lexeme, limit)? {
             Stepped::On(next) => seen = next,
             Stepped::Stuck(last) => {
                 if is_stop(token.kind) {

@@ -3,7 +3,7 @@
 
 ghost use Rattle.std.specs.Prelude.{◌≡◌, ◌<◌, None, IfOk, option_map};
 ghost use Rattle.adj_tree.specs.View.{rel_of};
-ghost use Rattle.adj_text.specs.Word.{word, Mark};
+ghost use Rattle.adj_text.specs.Lexeme.{lexeme, Mark};
 ghost use Rattle.adj_expression.specs.ConditionMachine.{First, Second, Made, beginning, end_condition, end_operand, relation_of, behind_left, begin_not, alone, conclude};
 ghost use Rattle.adj_expression.specs.Partial.{operand_of};
 ghost use Rattle.adj_expression.specs.PartialCondition.{test_algebra, proposition_of};
@@ -32,11 +32,11 @@ pub(crate) enum Inside {
     Made(Proposition),
 }
 
-/// What a word makes of what stands to the left.
+/// What a lexeme makes of what stands to the left.
 #[derive(Drop)]
 pub(crate) enum Advanced {
     On(Inside),
-    /// No condition goes on with the word. The condition that is whole here, if there is one.
+    /// No condition goes on with the lexeme. The condition that is whole here, if there is one.
     Stuck(Option<Proposition>),
 }
 
@@ -57,7 +57,7 @@ fn end_condition(
     }
 }
 
-// A word behind a condition.
+// A lexeme behind a condition.
 fn behind_condition(
     alloc: Global,
     waits: &mut Vec<Waiting>,
@@ -113,7 +113,7 @@ fn end_operand(alloc: Global, waits: &mut Vec<Waiting>, operand: Operand) -> Adv
     }
 }
 
-// A word that doesn't go on with the left operand.
+// A lexeme that doesn't go on with the left operand.
 fn behind_left(alloc: Global, waits: &mut Vec<Waiting>, left: Operand, kind: TokenKind) -> Advanced
     ensures { Turns (behind_left (waits_of waits.old.items) (Mark kind) (operand_of left)) None waits.new.items result }
 {
@@ -126,7 +126,7 @@ fn behind_left(alloc: Global, waits: &mut Vec<Waiting>, left: Operand, kind: Tok
     }
 }
 
-// The next word, where a left operand is read.
+// The next lexeme, where a left operand is read.
 fn go_on_left(
     alloc: Global,
     waits: &mut Vec<Waiting>,
@@ -137,7 +137,7 @@ fn go_on_left(
     limit: u32,
 ) -> Result<Advanced, Memory>
     requires { limit < 1000 }
-    ensures { IfOk result (λ next. Advances limit (waits_of waits.old.items, First (stack_of frames.items, seen_of left)) (word kind text.now) waits.new.items next) }
+    ensures { IfOk result (λ next. Advances limit (waits_of waits.old.items, First (stack_of frames.items, seen_of left)) (lexeme kind text.now) waits.new.items next) }
 {
     match step(alloc, &mut frames, left, kind, text, limit)? {
         Stepped::On(left) => Ok(Advanced::On(Inside::First(frames, left))),
@@ -148,7 +148,7 @@ fn go_on_left(
     }
 }
 
-// The next word, where a right operand is read.
+// The next lexeme, where a right operand is read.
 fn go_on_right(
     alloc: Global,
     waits: &mut Vec<Waiting>,
@@ -161,7 +161,7 @@ fn go_on_right(
     limit: u32,
 ) -> Result<Advanced, Memory>
     requires { limit < 1000 }
-    ensures { IfOk result (λ next. Advances limit (waits_of waits.old.items, Second (rel_of rel) (operand_of left) (stack_of frames.items, seen_of right)) (word kind text.now) waits.new.items next) }
+    ensures { IfOk result (λ next. Advances limit (waits_of waits.old.items, Second (rel_of rel) (operand_of left) (stack_of frames.items, seen_of right)) (lexeme kind text.now) waits.new.items next) }
 {
     match step(alloc, &mut frames, right, kind, text, limit)? {
         Stepped::On(right) => Ok(Advanced::On(Inside::Second(rel, left, frames, right))),
@@ -186,7 +186,7 @@ fn begin_not(waits: &mut Vec<Waiting>) -> Result<Advanced, Memory>
     Ok(Advanced::On(Inside::Fresh))
 }
 
-// A word where a comparison, `.NOT.` or a parenthesis is wanted.
+// A lexeme where a comparison, `.NOT.` or a parenthesis is wanted.
 fn begin_item(
     alloc: Global,
     waits: &mut Vec<Waiting>,
@@ -195,7 +195,7 @@ fn begin_item(
     limit: u32,
 ) -> Result<Advanced, Memory>
     requires { limit < 1000 }
-    ensures { IfOk result (λ next. Advances limit (beginning (waits_of waits.old.items)) (word kind text.now) waits.new.items next) }
+    ensures { IfOk result (λ next. Advances limit (beginning (waits_of waits.old.items)) (lexeme kind text.now) waits.new.items next) }
 {
     match kind {
         TokenKind::Left => {
@@ -210,7 +210,7 @@ fn begin_item(
     }
 }
 
-/// The next word, with its characters.
+/// The next lexeme, with its characters.
 pub(crate) fn advance(
     alloc: Global,
     waits: &mut Vec<Waiting>,
@@ -220,7 +220,7 @@ pub(crate) fn advance(
     limit: u32,
 ) -> Result<Advanced, Memory>
     requires { limit < 1000 }
-    ensures { IfOk result (λ next. Advances limit (waits_of waits.old.items, inside_of inside) (word kind text.now) waits.new.items next) }
+    ensures { IfOk result (λ next. Advances limit (waits_of waits.old.items, inside_of inside) (lexeme kind text.now) waits.new.items next) }
 {
     match inside {
         Inside::Fresh => begin_item(alloc, waits, kind, text, limit),

@@ -3,7 +3,7 @@
 
 ghost use Rattle.std.specs.Prelude.{◌≡◌, ◌<◌, ◌∷◌, Some, map, IfOk, option_map};
 ghost use Rattle.adj_tree.specs.View.{op_of};
-ghost use Rattle.adj_text.specs.Word.{Mark, word};
+ghost use Rattle.adj_text.specs.Lexeme.{Mark, lexeme};
 ghost use Rattle.adj_text.specs.Machine as machine;
 ghost use Rattle.adj_text.specs.Machine.{begin_sign, begin, end_group, next_argument, add, multiply, go_on, behind_name, close_product, close_sum, step, finish};
 ghost use Rattle.adj_expression.specs.Partial.{algebra, operand_of};
@@ -16,11 +16,11 @@ use adj_text::TokenKind;
 use adj_tree::{Memory, Name, Op};
 use std::alloc::Global;
 
-/// What a word makes of what stands to the left.
+/// What a lexeme makes of what stands to the left.
 #[derive(Drop)]
 pub(crate) enum Stepped {
     On(Seen),
-    /// No expression goes on with the word. Sums may have been made.
+    /// No expression goes on with the lexeme. Sums may have been made.
     Stuck(Seen),
 }
 
@@ -34,7 +34,7 @@ fn begin_sign(frames: &mut Vec<Frame>, op: Op, limit: u32) -> Result<Stepped, Me
     Ok(Stepped::On(Seen::Nothing))
 }
 
-// A word where an operand is wanted.
+// A lexeme where an operand is wanted.
 fn begin(
     alloc: Global,
     frames: &mut Vec<Frame>,
@@ -43,7 +43,7 @@ fn begin(
     limit: u32,
 ) -> Result<Stepped, Memory>
     requires { limit < 1000 }
-    ensures { IfOk result (λ next. Makes (algebra limit) (begin (algebra limit) (stack_of frames.old.items) (word kind text.now)) None frames.new.items next) }
+    ensures { IfOk result (λ next. Makes (algebra limit) (begin (algebra limit) (stack_of frames.old.items) (lexeme kind text.now)) None frames.new.items next) }
 {
     match kind {
         TokenKind::Name => {
@@ -154,7 +154,7 @@ fn multiply(
     Ok(Stepped::On(Seen::Nothing))
 }
 
-// A word behind an operand.
+// A lexeme behind an operand.
 fn go_on(
     alloc: Global,
     frames: &mut Vec<Frame>,
@@ -186,7 +186,7 @@ fn go_on(
     }
 }
 
-// A word behind a name.
+// A lexeme behind a name.
 fn behind_name(
     alloc: Global,
     frames: &mut Vec<Frame>,
@@ -204,7 +204,7 @@ fn behind_name(
     go_on(alloc, frames, Operand::scalar(name, limit), kind, limit)
 }
 
-/// The next word, with its characters.
+/// The next lexeme, with its characters.
 pub(crate) fn step(
     alloc: Global,
     frames: &mut Vec<Frame>,
@@ -214,7 +214,7 @@ pub(crate) fn step(
     limit: u32,
 ) -> Result<Stepped, Memory>
     requires { limit < 1000 }
-    ensures { IfOk result (λ next. Steps (algebra limit) (stack_of frames.old.items, seen_of seen) (word kind text.now) frames.new.items next) }
+    ensures { IfOk result (λ next. Steps (algebra limit) (stack_of frames.old.items, seen_of seen) (lexeme kind text.now) frames.new.items next) }
 {
     match seen {
         Seen::Nothing => begin(alloc, frames, kind, text, limit),

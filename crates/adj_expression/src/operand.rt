@@ -71,7 +71,7 @@ impl Operand {
     {
         match constant::literal(digits) {
             None => Operand::bounded(Err(Flaw::Large), 1, Constant::Beyond, limit),
-            Some(n) => Operand::bounded(Ok(Expr::Lit(n)), 1, Constant::Word(n), limit),
+            Some(n) => Operand::bounded(Ok(Expr::Lit(n)), 1, Constant::Lexeme(n), limit),
         }
     }
 

@@ -13,7 +13,7 @@ use Rattle.adj_text.specs.Form.{Form, Statement, at, ReadsForm, subroutine, ends
 use Rattle.adj_text.specs.Reads as texts
 use Rattle.adj_text.specs.Reads.{ReadsAll}
 use Rattle.adj_text.specs.Refused.{◌>>=◌, limited}
-use Rattle.adj_text.specs.Word.{Word, words_of}
+use Rattle.adj_text.specs.Lexeme.{Lexeme, lexemes_of}
 use Rattle.adj_text.specs.declared.mode.Mode.{Mode}
 use Rattle.adj_text.specs.declared.stated.Kind.{Kind}
 use Rattle.adj_text.specs.declared.stated.Kind.TheVariants.{Do, Assign, Call}
@@ -30,7 +30,7 @@ use Rattle.adj_statement.proofs.SaidForms.{said_reads, said_answers}
 use Rattle.adj_parse.proofs.UnitsFit.{AreFit}
 
 -- a statement stands as its form does
-same_place : {mark : Mark} {kind : Kind} {words : List Word} {f : Form} → ReadsForm mark kind words f → (l : ℕ) (current : Option Current) → stands kind l current ≡ stands (kind_of f) l current
+same_place : {mark : Mark} {kind : Kind} {lexemes : List Lexeme} {f : Form} → ReadsForm mark kind lexemes f → (l : ℕ) (current : Option Current) → stands kind l current ≡ stands (kind_of f) l current
 same_place (forms.ReadsForm.heading d) l c = refl
 same_place forms.ReadsForm.implicit l c = refl
 same_place (forms.ReadsForm.declaration d) l c = refl
@@ -109,9 +109,9 @@ comes mode s t left found f led place breaks says =
       | inr (inr e) ↦ rw (e, led, place, breaks) (limited_first _ (inr (record { code = 21; line = t.line; number = (bounds_of mode).depth }, refl, inr refl)))
     ]
 
--- the words of a statement
-abbrev words : Stated → List Word
-words t = words_of t.text t.tokens
+-- the lexemes of a statement
+abbrev lexemes : Stated → List Lexeme
+lexemes t = lexemes_of t.text t.tokens
 
 sure : (b : Bool) → (true && not b) ≡ false → b ≡ true
 sure true h = refl
@@ -139,7 +139,7 @@ is_do_is kind h = absurd cc
 led_by : (t : Stated) → has_stray_mark t ≡ false → (mark_of t.mark ≡ unmarked) ⊎ (t.kind ≡ Do)
 led_by t h = elim (either (is_marked (mark_of t.mark)) (is_do t.kind) h) [ inl e ↦ inl (no_mark (mark_of t.mark) e) | inr e ↦ inr (is_do_is t.kind e) ]
 
-led_form : {mark : Mark} {kind : Kind} {ws : List Word} {f : Form} → ReadsForm mark kind ws f → (is_marked mark && not (is_do kind)) ≡ false
+led_form : {mark : Mark} {kind : Kind} {ws : List Lexeme} {f : Form} → ReadsForm mark kind ws f → (is_marked mark && not (is_do kind)) ≡ false
 led_form (forms.ReadsForm.heading d) = refl
 led_form forms.ReadsForm.implicit = refl
 led_form (forms.ReadsForm.declaration d) = refl
@@ -158,7 +158,7 @@ led_form forms.ReadsForm.returned = refl
 led_form forms.ReadsForm.ended = refl
 
 -- END is END, and closes the unit
-same_end : {mark : Mark} {kind : Kind} {ws : List Word} {f : Form} → ReadsForm mark kind ws f → is_end kind ≡ is_end (kind_of f)
+same_end : {mark : Mark} {kind : Kind} {ws : List Lexeme} {f : Form} → ReadsForm mark kind ws f → is_end kind ≡ is_end (kind_of f)
 same_end (forms.ReadsForm.heading d) = refl
 same_end forms.ReadsForm.implicit = refl
 same_end (forms.ReadsForm.declaration d) = refl
@@ -201,18 +201,18 @@ module _ (mode : Mode) where
   -- each of some statements says what stands here, and its directive has its place
   pub data AllSay : List Stated → List Statement → Type 0 where
     none : AllSay [] []
-    more : {t : Stated} {ts : List Stated} {f : Form} {ss : List Statement} → said (bounds_of mode).depth (mark_of t.mark) t.kind (words t) ≡ Some (Ok f) → has_stray_mark t ≡ false → AllSay ts ss → AllSay (t ∷ ts) (at t.line t.label f ∷ ss)
+    more : {t : Stated} {ts : List Stated} {f : Form} {ss : List Statement} → said (bounds_of mode).depth (mark_of t.mark) t.kind (lexemes t) ≡ Some (Ok f) → has_stray_mark t ≡ false → AllSay ts ss → AllSay (t ∷ ts) (at t.line t.label f ∷ ss)
 
   pub reads_all : {ts : List Stated} {ss : List Statement} → AllSay ts ss → ReadsAll ts ss
   reads_all none = texts.ReadsAll.none
-  reads_all (more {t = t} {f = f} e led rest) = texts.ReadsAll.more (said_reads (bounds_of mode).depth (mark_of t.mark) t.kind (words t) f e (led_by t led)) (reads_all rest)
+  reads_all (more {t = t} {f = f} e led rest) = texts.ReadsAll.more (said_reads (bounds_of mode).depth (mark_of t.mark) t.kind (lexemes t) f e (led_by t led)) (reads_all rest)
 
   pub all_fit : {ts : List Stated} {ss : List Statement} → AllSay ts ss → AreFit ss
   all_fit none = tt
-  all_fit (more {t = t} {f = f} e led rest) = (said_fits (bounds_of mode).depth (mark_of t.mark) t.kind (words t) f e, all_fit rest)
+  all_fit (more {t = t} {f = f} e led rest) = (said_fits (bounds_of mode).depth (mark_of t.mark) t.kind (lexemes t) f e, all_fit rest)
 
   abbrev found : Stated → Option (Result Form Flaw)
-  found t = said (bounds_of mode).depth (mark_of t.mark) t.kind (words t)
+  found t = said (bounds_of mode).depth (mark_of t.mark) t.kind (lexemes t)
 
   -- where no statement is left, no unit is open
   abbrev pub Closed : List Stated → State → Type 0
@@ -229,13 +229,13 @@ module _ (mode : Mode) where
       let f : Form = b.0 in
       let thr = through mode s t (length ts) (found t) f b.1 in
       let here : behind s t f ≡ a.0 = cc (b.2) in
-      let d = said_reads (bounds_of mode).depth (mark_of t.mark) t.kind (words t) f thr.says (led_by t thr.led) in
+      let d = said_reads (bounds_of mode).depth (mark_of t.mark) t.kind (lexemes t) f thr.says (led_by t thr.led) in
       let rest = chain_runs ts (behind s t f) ps (closes ts d thr.end) (ap (λ next. trees_from mode next ts) here ∙ a.2) in
       let place : stands t.kind t.label s.units.current ≡ true = rw (thr.place, thr.breaks) refl in
       let stands_so : stands (kind_of f) t.label s.units.current ≡ true = sym (same_place d t.label s.units.current) ∙ place in
       (at t.line t.label f ∷ rest.0, more thr.says thr.led rest.1, rw stands_so rest.2)
     where
-      closes : {f : Form} (ts : List Stated) → ReadsForm (mark_of t.mark) t.kind (words t) f → ((length ts == 0) && not (is_end t.kind)) ≡ false → Closed ts (behind s t f)
+      closes : {f : Form} (ts : List Stated) → ReadsForm (mark_of t.mark) t.kind (lexemes t) f → ((length ts == 0) && not (is_end t.kind)) ≡ false → Closed ts (behind s t f)
       closes {f} [] d e = end_closes s.units.done s.units.current t.line t.label f (sym (same_end d) ∙ sure (is_end t.kind) e)
       closes (u ∷ us) d e = tt
 
@@ -246,7 +246,7 @@ module _ (mode : Mode) where
       let step = picked (stands (kind_of f) t.label s.units.current) (run (followed s.units.done s.units.current t.line t.label f) ss) h in
       let place = not_both (is_misplaced t.kind s.units.current) (breaks_loop t.kind t.label (open_blocks s.units.current)) (same_place d t.label s.units.current ∙ step.0) in
       let right : is_astray t (length ts) s.units.current ≡ false = rw (place.0) (last_ends rest step.1) in
-      elim (comes mode s t (length ts) (found t) f (led_form d) right place.1 (said_answers (bounds_of mode).depth (mark_of t.mark) t.kind (words t) f d)) [
+      elim (comes mode s t (length ts) (found t) f (led_form d) right place.1 (said_answers (bounds_of mode).depth (mark_of t.mark) t.kind (lexemes t) f d)) [
         | inl e ↦ subst (Comes ps) (sym (ap (λ r. (r >>= λ g. Ok (behind s t g)) >>= λ next. trees_from mode next ts) e)) (chain_comes rest (behind s t f) ps step.1)
         | inr (r, e, code) ↦ inr (r, ap (λ q. (q >>= λ g. Ok (behind s t g)) >>= λ next. trees_from mode next ts) e, code)
       ]

@@ -8,7 +8,7 @@ use Rattle.adj_tree.specs.View.{mark_of}
 use Rattle.adj_expression.specs.View.{seen}
 use Rattle.adj_expression.specs.declared.flaw.Flaw.{Flaw}
 use Rattle.adj_text.specs.Refused.{◌>>=◌, Fails}
-use Rattle.adj_text.specs.Word.{words_of}
+use Rattle.adj_text.specs.Lexeme.{lexemes_of}
 use Rattle.adj_text.specs.declared.mode.Mode.{Mode}
 use Rattle.adj_text.specs.declared.stated.Stated.{Stated}
 use Rattle.adj_tree.specs.declared.fault.Refusal.{Refusal}
@@ -20,9 +20,9 @@ use Rattle.adj_statement.specs.View.{form_of}
 use Rattle.adj_statement.specs.declared.content.Said.{Said}
 use Rattle.adj_parse.proofs.Seen.{checked_seen}
 
-module _ (mode : Mode) (bounds : Bounds) (bounds_are : bounds ≡ bounds_of mode) (s : State) (t : Stated) (left : ℕ) (found : Option (Result Said Flaw)) (is : option_map (seen (form_of (mark_of t.mark))) found ≡ says.said bounds.depth (mark_of t.mark) t.kind (words_of t.text t.tokens)) where
+module _ (mode : Mode) (bounds : Bounds) (bounds_are : bounds ≡ bounds_of mode) (s : State) (t : Stated) (left : ℕ) (found : Option (Result Said Flaw)) (is : option_map (seen (form_of (mark_of t.mark))) found ≡ says.said bounds.depth (mark_of t.mark) t.kind (lexemes_of t.text t.tokens)) where
   within : Bounds → Result State Refusal
-  within b = checked b s t left (says.said b.depth (mark_of t.mark) t.kind (words_of t.text t.tokens)) >>= λ f. Ok (behind s t f)
+  within b = checked b s t left (says.said b.depth (mark_of t.mark) t.kind (lexemes_of t.text t.tokens)) >>= λ f. Ok (behind s t f)
 
   followed_is : follow mode s t left ≡ ((checked bounds s t left found >>= λ x. Ok (form_of (mark_of t.mark) x)) >>= λ f. Ok (behind s t f))
   unfolding follow within

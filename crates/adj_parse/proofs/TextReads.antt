@@ -14,7 +14,7 @@ use Rattle.adj_text.specs.Reads.{ReadsAll, Reads}
 use Rattle.adj_text.specs.Refused.{Gives}
 use Rattle.adj_text.specs.Stated.{statements_of}
 use Rattle.adj_text.specs.Unit.{ReadsUnits}
-use Rattle.adj_text.specs.Word.{words_of}
+use Rattle.adj_text.specs.Lexeme.{lexemes_of}
 use Rattle.adj_text.specs.Written.{IsWritten}
 use Rattle.adj_text.specs.declared.mode.Mode.{Mode}
 use Rattle.adj_text.specs.declared.stated.Stated.{Stated}
@@ -44,7 +44,7 @@ fits mode stated ps h = let r = chain_runs mode stated (start mode) ps (closed m
 one_all : {stated : List Stated} {ss ts : List Statement} → ReadsAll stated ss → ReadsAll stated ts → ss ≡ ts
 one_all texts.ReadsAll.none texts.ReadsAll.none = refl
 one_all (texts.ReadsAll.more {s = s} {f = f} d r) (texts.ReadsAll.more {f = g} e q) =
-    let forms : f ≡ g = one_form (mark_of s.mark) s.kind (words_of s.text s.tokens) f g d e in
+    let forms : f ≡ g = one_form (mark_of s.mark) s.kind (lexemes_of s.text s.tokens) f g d e in
     let rest = one_all r q in
     cc
 
@@ -54,13 +54,13 @@ ok_same a b r h g = cc
 pub one_program : (bytes : List ℕ) (ps qs : List Procedure) → Reads bytes ps → Reads bytes qs → ps ≡ qs
 one_program bytes ps qs r q =
     let same = ok_same r.stated q.stated (statements_of no_limits bytes) r.lines_form q.lines_form in
-    let first : ReadsAll q.stated r.statements = subst (λ ss. ReadsAll ss r.statements) same r.words_derive in
-    let units : ReadsUnits q.statements ps = subst (λ ts. ReadsUnits ts ps) (one_all first q.words_derive) r.units_derive in
+    let first : ReadsAll q.stated r.statements = subst (λ ss. ReadsAll ss r.statements) same r.lexemes_derive in
+    let units : ReadsUnits q.statements ps = subst (λ ts. ReadsUnits ts ps) (one_all first q.lexemes_derive) r.units_derive in
     one_units units q.units_derive
 
 -- a text whose statements have these units reads as them
 pub text_reads : (mode : Mode) (stated : List Stated) (ps : List Procedure) → trees_of mode stated ≡ Ok ps → (bytes : List ℕ) → statements_of no_limits bytes ≡ Ok stated → Reads bytes ps
-text_reads mode stated ps h bytes e = let d = derived mode stated ps h in record { stated = stated; statements = d.0; lines_form = e; words_derive = d.1; units_derive = d.2 }
+text_reads mode stated ps h bytes e = let d = derived mode stated ps h in record { stated = stated; statements = d.0; lines_form = e; lexemes_derive = d.1; units_derive = d.2 }
 
 pub text_written : (mode : Mode) (stated : List Stated) (ps : List Procedure) → trees_of mode stated ≡ Ok ps → IsText mode stated → IsWritten ps
 text_written mode stated ps h text =

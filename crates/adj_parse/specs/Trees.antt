@@ -9,7 +9,7 @@ use Rattle.adj_text.specs.Form.{Form}
 use Rattle.adj_text.specs.Limits.{limits_of}
 use Rattle.adj_text.specs.Refused.{◌>>=◌, refused, limited}
 use Rattle.adj_text.specs.Stated.{statements_of}
-use Rattle.adj_text.specs.Word.{words_of}
+use Rattle.adj_text.specs.Lexeme.{lexemes_of}
 use Rattle.adj_text.specs.declared.mode.Mode.{Mode}
 use Rattle.adj_text.specs.declared.mode.Mode.TheVariants.{Source, Run}
 use Rattle.adj_text.specs.declared.stated.Kind.{Kind}
@@ -50,7 +50,7 @@ is_marked mark = true
 abbrev pub has_stray_mark : Stated → Bool
 has_stray_mark t = is_marked (mark_of t.mark) && not (is_do t.kind)
 
--- whether a statement has a literal above the greatest word, or too deep an expression
+-- whether a statement has a literal above the greatest lexeme, or too deep an expression
 abbrev pub is_large : {A : Type 0} → Option (Result A Flaw) → Bool
 is_large (Some (Err Large)) = true
 is_large found = false
@@ -96,7 +96,7 @@ behind s t f = record { units = followed s.units.done s.units.current t.line t.l
 
 -- the next statement, behind which some are left, is read or refused
 unfoldable pub follow : Mode → State → Stated → ℕ → Result State Refusal
-follow mode s t left = checked (bounds_of mode) s t left (said (bounds_of mode).depth (mark_of t.mark) t.kind (words_of t.text t.tokens)) >>= λ f. Ok (behind s t f)
+follow mode s t left = checked (bounds_of mode) s t left (said (bounds_of mode).depth (mark_of t.mark) t.kind (lexemes_of t.text t.tokens)) >>= λ f. Ok (behind s t f)
 
 -- the units so far, and those of the statements that are left
 unfoldable pub trees_from : Mode → State → List Stated → Result (List Procedure) Refusal

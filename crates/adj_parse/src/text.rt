@@ -15,7 +15,7 @@ use adj_tree::{Fault, Program};
 use std::alloc::Global;
 
 /// The program that the statements of a text are, or the first fault: of grammar and order (codes 4, 5, 10, 20 and 25) or of a limit (code 21).
-/// docs/LANGUAGE.md and docs/REFUSALS.md say both in words.
+/// docs/LANGUAGE.md and docs/REFUSALS.md say both in lexemes.
 pub fn program(alloc: Global, stated: &[Stated], mode: Mode) -> Result<Program, Fault>
     requires text { IsText mode stated.now }
     ensures exact { Gives procedures_of result (trees_of mode stated.now) }

@@ -23,7 +23,7 @@ use Rattle.adj_text.specs.Statement as statements
 use Rattle.adj_text.specs.Statement.{ReadsAssignment, ReadsCall, ReadsGuarded, runtime_call, called_as}
 use Rattle.adj_text.specs.Unit as units
 use Rattle.adj_text.specs.Unit.{ReadsImplicit, ReadsDeclarations, ReadsEnd, ReadsUnit, ReadsUnits}
-use Rattle.adj_text.specs.Word.{Word}
+use Rattle.adj_text.specs.Lexeme.{Lexeme}
 use Rattle.adj_text.specs.declared.stated.Kind.{Kind}
 use Rattle.adj_text.specs.declared.stated.Stated.{Stated}
 use Rattle.adj_text.specs.declared.token.Token.{Token}
@@ -241,19 +241,19 @@ module _ (t : ℕ) where
   called_none n x es None = omega arith
   called_none n x es (Some r) = omega arith
 
-  assignment_none : (n : ℕ) {ts : List Word} {a : Act} → ReadsAssignment ts a → tally t (marked_in n a) ≤ 0
+  assignment_none : (n : ℕ) {ts : List Lexeme} {a : Act} → ReadsAssignment ts a → tally t (marked_in n a) ≤ 0
   assignment_none n (statements.ReadsAssignment.assignment p e) = omega arith
 
-  call_none : (n : ℕ) {ts : List Word} {a : Act} → ReadsCall ts a → tally t (marked_in n a) ≤ 0
+  call_none : (n : ℕ) {ts : List Lexeme} {a : Act} → ReadsCall ts a → tally t (marked_in n a) ≤ 0
   call_none n (statements.ReadsCall.alone {x = x}) = called_none n x none (runtime_call x none)
   call_none n (statements.ReadsCall.empty {x = x}) = called_none n x none (runtime_call x none)
   call_none n (statements.ReadsCall.actuals {x = x} {es = es} d) = called_none n x es (runtime_call x es)
 
-  guarded_none : (n : ℕ) {ts : List Word} {a : Act} → ReadsGuarded ts a → tally t (marked_in n a) ≤ 0
+  guarded_none : (n : ℕ) {ts : List Lexeme} {a : Act} → ReadsGuarded ts a → tally t (marked_in n a) ≤ 0
   guarded_none n (statements.ReadsGuarded.assigned d) = assignment_none n d
   guarded_none n (statements.ReadsGuarded.calls d) = call_none n d
 
-  form_own : (n : ℕ) {mark : loop_mark} {kind : Kind} {ws : List Word} {f : Form} → ReadsForm mark kind ws f → tally t (form_lines n f) ≤ once (t == n)
+  form_own : (n : ℕ) {mark : loop_mark} {kind : Kind} {ws : List Lexeme} {f : Form} → ReadsForm mark kind ws f → tally t (form_lines n f) ≤ once (t == n)
   form_own n (forms.ReadsForm.heading d) = omega arith
   form_own n forms.ReadsForm.implicit = omega arith
   form_own n (forms.ReadsForm.declaration d) = omega arith
@@ -337,6 +337,6 @@ read_apart bytes ps r few = are_apart (program_lines ps) (λ t. each t)
         let a = bind_ok (lines_of no_limits bytes) (all_stated no_limits) r.stated r.lines_form in
         let spread = all_spread bytes a.0 few a.1 t in
         let class = all_classed t a.0 r.stated a.2 in
-        let says = all_seen t r.words_derive in
+        let says = all_seen t r.lexemes_derive in
         let units = units_lines t r.units_derive in
         omega arith

@@ -13,7 +13,7 @@ use Rattle.adj_text.specs.Form.{Form, Statement, at, ReadsForm}
 use Rattle.adj_text.specs.Reads as texts
 use Rattle.adj_text.specs.Reads.{ReadsAll}
 use Rattle.adj_text.specs.Refused.{◌>>=◌, limited}
-use Rattle.adj_text.specs.Word.{Word, words_of}
+use Rattle.adj_text.specs.Lexeme.{Lexeme, lexemes_of}
 use Rattle.adj_text.specs.declared.mode.Mode.TheVariants.{Run}
 use Rattle.adj_text.specs.declared.stated.Kind.{Kind}
 use Rattle.adj_text.specs.declared.stated.Kind.TheVariants.{Do, Assign, Call}
@@ -37,7 +37,7 @@ calls_place l None = refl
 calls_place l (Some c) = refl
 
 -- what is told of the class of a statement is told of that of its form
-pub same_kind : {A : Type 0} (F : Kind → A) → F Call ≡ F Assign → {mark : Mark} {kind : Kind} {words : List Word} {f : Form} → ReadsForm mark kind words f → F kind ≡ F (kind_of f)
+pub same_kind : {A : Type 0} (F : Kind → A) → F Call ≡ F Assign → {mark : Mark} {kind : Kind} {lexemes : List Lexeme} {f : Form} → ReadsForm mark kind lexemes f → F kind ≡ F (kind_of f)
 same_kind F e (forms.ReadsForm.heading d) = refl
 same_kind F e forms.ReadsForm.implicit = refl
 same_kind F e (forms.ReadsForm.declaration d) = refl
@@ -56,7 +56,7 @@ same_kind F e forms.ReadsForm.returned = refl
 same_kind F e forms.ReadsForm.ended = refl
 
 -- a directive stands before a DO alone
-led_form : {mark : Mark} {kind : Kind} {words : List Word} {f : Form} → ReadsForm mark kind words f → (is_marked mark && not (is_do kind)) ≡ false
+led_form : {mark : Mark} {kind : Kind} {lexemes : List Lexeme} {f : Form} → ReadsForm mark kind lexemes f → (is_marked mark && not (is_do kind)) ≡ false
 led_form (forms.ReadsForm.heading d) = refl
 led_form forms.ReadsForm.implicit = refl
 led_form (forms.ReadsForm.declaration d) = refl
@@ -123,7 +123,7 @@ module _ (laws : Laws) where
   unfolding trees_from follow run
   chain_goes texts.ReadsAll.none s ps h n deep fit = inl (ap Ok (units_done s.units.done s.units.current ps h))
   chain_goes (texts.ReadsAll.more {s = t} {ss = ts} {f = f} {ts = ss} d rest) s ps h n deep fit =
-      let words = words_of t.text t.tokens in
+      let lexemes = lexemes_of t.text t.tokens in
       let step = picked (stands (kind_of f) t.label s.units.current) (run (followed s.units.done s.units.current t.line t.label f) ss) h in
       let placed : stands t.kind t.label s.units.current ≡ true = same_kind (λ k. stands k t.label s.units.current) (calls_place t.label s.units.current) d ∙ step.0 in
       let place = not_both (is_misplaced t.kind s.units.current) (breaks_loop t.kind t.label (open_blocks s.units.current)) placed in
@@ -132,11 +132,11 @@ module _ (laws : Laws) where
       let fits = and_parts (form_keeps fitting f) (all_keep fitting ss) fit in
       let some : 1 ≤ 120 = omega arith in
       let many : 0 < 45 = omega arith in
-      let says : said 120 (mark_of t.mark) t.kind words ≡ Some (Ok f) = said_right laws 120 some (mark_of t.mark) t.kind words f d here.0 fits.0 in
+      let says : said 120 (mark_of t.mark) t.kind lexemes ≡ Some (Ok f) = said_right laws 120 some (mark_of t.mark) t.kind lexemes f d here.0 fits.0 in
       let later = run_nested 45 ss (followed s.units.done s.units.current t.line t.label f) ps step.1 n in
       let opens : (opens_block t.kind && nat_le 45 (length (open_blocks s.units.current))) ≡ false =
       ap (λ b. b && nat_le 45 (length (open_blocks s.units.current))) (same_kind opens_block refl d) ∙ too_nested 45 many s.units.done s.units.current t.line t.label f step.0 later in
-      elim (goes s t (length ts) (said 120 (mark_of t.mark) t.kind words) f says (led_form d) right place.1 opens) [
+      elim (goes s t (length ts) (said 120 (mark_of t.mark) t.kind lexemes) f says (led_form d) right place.1 opens) [
         | inl e ↦ subst (Goes ps) (sym (ap (λ r. (r >>= λ g. Ok (behind s t g)) >>= λ next. trees_from Run next ts) e)) (chain_goes rest (behind s t f) ps step.1 n here.1 fits.1)
         | inr (line, e) ↦ inr (line, ap (λ r. (r >>= λ g. Ok (behind s t g)) >>= λ next. trees_from Run next ts) e)
       ]

@@ -1,4 +1,4 @@
--- Where the literals and extents of what a statement says are words, so are those of its words.
+-- Where the literals and extents of what a statement says are lexemes, so are those of its lexemes.
 use Rattle.std.proofs.Common.{◌≡◌, ℕ, ◌^◌, pos, Bool, true, false, List, [], ◌∷◌, map, Option, Some, None, option_map, refl, sym, ap, ◌∙◌}
 use Rattle.std.specs.Prelude.{◌&&◌, ◌||◌, nat_le}
 use Rattle.std.specs.List.{list_all, list_any}
@@ -9,7 +9,7 @@ use Rattle.adj_text.specs.Condition.{test}
 use Rattle.adj_text.specs.Form.{Form, integers, simple, logical, opens_do, opens_while, opens_if, otherwise_if}
 use Rattle.adj_text.specs.Grammar.{Syntax, Arguments, with_both, tree}
 use Rattle.adj_text.specs.Statement.{called, Range}
-use Rattle.adj_text.specs.Word.{Word}
+use Rattle.adj_text.specs.Lexeme.{Lexeme}
 use Rattle.adj_text.specs.declared.stated.Kind.{Kind}
 use Rattle.adj_text.proofs.Parts.{map_some, both_some}
 use Rattle.adj_expression.specs.Judged.{has_large, test_large}
@@ -70,12 +70,12 @@ bounds_small b r e h =
 loop_small : (label : Option (List ℕ)) (b : Bounds) (mark : Mark) (f : Form) → form mark (repeats label b) ≡ Some f → form_keeps fitting f ≡ true → bounds_large b ≡ false
 loop_small label b mark f e h = let r = map_some (λ r. opens_do (option_map number_of label) r mark) (range b) f e in bounds_small b r.0 r.1 (ap (form_keeps fitting) r.2 ∙ h)
 
-do_small : {ws : List Word} {p : Phrase} → SaysDo ws p → (mark : Mark) (f : Form) → form mark p ≡ Some f → form_keeps fitting f ≡ true → phrase_large p ≡ false
+do_small : {ws : List Lexeme} {p : Phrase} → SaysDo ws p → (mark : Mark) (f : Form) → form mark p ≡ Some f → form_keeps fitting f ≡ true → phrase_large p ≡ false
 do_small (phrases.SaysDo.unlabelled {b = b} s) mark f e h = loop_small None b mark f e h
 do_small (phrases.SaysDo.labelled {digits = digits} {b = b} s) mark f e h = loop_small (Some digits) b mark f e h
 do_small (phrases.SaysDo.labelled_comma {digits = digits} {b = b} s) mark f e h = loop_small (Some digits) b mark f e h
 
-pub form_small : {kind : Kind} {ws : List Word} {p : Phrase} → Says kind ws p → (mark : Mark) (f : Form) → form mark p ≡ Some f → form_keeps fitting f ≡ true → phrase_large p ≡ false
+pub form_small : {kind : Kind} {ws : List Lexeme} {p : Phrase} → Says kind ws p → (mark : Mark) (f : Form) → form mark p ≡ Some f → form_keeps fitting f ≡ true → phrase_large p ≡ false
 form_small (phrases.Says.heading s) mark f e h = refl
 form_small phrases.Says.implicit mark f e h = refl
 form_small (phrases.Says.declaration {is = is} s) mark f e h = let q : integers (map item is) ≡ f = cc in items_small is (ap (form_keeps fitting) q ∙ h)

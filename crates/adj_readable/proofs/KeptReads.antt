@@ -28,8 +28,8 @@ kept_reads laws p written kept =
     let deep : all_keep (shallow 120) r.statements ≡ true = units_keep (shallow 120) r.units_derive ∙ keeps_alike (shallow 120) found p same ∙ kept.depths in
     let fit : all_keep fitting r.statements ≡ true = units_keep fitting r.units_derive ∙ keeps_alike fitting found p same ∙ written_fits p written in
     let nested = nested_alike 45 p found (sym same) kept.nested in
-    let stated = statements_kept (text_of p) r.stated r.statements r.lines_form r.words_derive short in
-    elim (chain_goes laws r.words_derive (start Run) found (units_run r.units_derive) nested deep fit) [
+    let stated = statements_kept (text_of p) r.stated r.statements r.lines_form r.lexemes_derive short in
+    elim (chain_goes laws r.lexemes_derive (start Run) found (units_run r.units_derive) nested deep fit) [
       | inl e ↦ inl (found, ap (λ s. s >>= trees_of Run) stated ∙ e, same)
       | inr (line, e) ↦ inr (line, ap (λ s. s >>= trees_of Run) stated ∙ e)
     ]

@@ -3,7 +3,7 @@ use Rattle.std.proofs.Common.{◌≡◌, ◌≤◌, ℕ, Bool, true, false, List
 use Rattle.std.specs.Prelude.{not}
 use Rattle.adj_tree.specs.Code.{Mark}
 use Rattle.adj_text.specs.Form.{Form, ReadsForm}
-use Rattle.adj_text.specs.Word.{Word}
+use Rattle.adj_text.specs.Lexeme.{Lexeme}
 use Rattle.adj_text.specs.declared.stated.Kind.{Kind}
 use Rattle.adj_text.proofs.Parts.{map_some}
 use Rattle.adj_expression.specs.Judged.{judged_by}
@@ -19,9 +19,9 @@ use Rattle.adj_readable.proofs.FittingForms.{form_small}
 
 -- the laws on what statements say
 pub record Laws : Type 0 where
-  pub complete : (kind : Kind) (words : List Word) (p : Phrase) → Says kind words p → phrase_of kind words ≡ Some p
-  pub sound : (kind : Kind) (words : List Word) → IfSome (phrase_of kind words) (Says kind words)
-  pub phrases : (mark : Mark) (kind : Kind) (words : List Word) (f : Form) → ReadsForm mark kind words f → (p : Phrase) × Says kind words p × (form mark p ≡ Some f)
+  pub complete : (kind : Kind) (lexemes : List Lexeme) (p : Phrase) → Says kind lexemes p → phrase_of kind lexemes ≡ Some p
+  pub sound : (kind : Kind) (lexemes : List Lexeme) → IfSome (phrase_of kind lexemes) (Says kind lexemes)
+  pub phrases : (mark : Mark) (kind : Kind) (lexemes : List Lexeme) (f : Form) → ReadsForm mark kind lexemes f → (p : Phrase) × Says kind lexemes p × (form mark p ≡ Some f)
 
 phrase_found : (o : Option Phrase) (P : Phrase → Type 0) (p : Phrase) → o ≡ Some p → IfSome o P → P p
 phrase_found None P p e h = absurd cc
@@ -34,21 +34,21 @@ judged_ok false false None f h = absurd cc
 judged_ok false false (Some g) f h = (refl, cc)
 
 module _ (laws : Laws) (d : ℕ) (some : 1 ≤ d) where
-  -- a form that is no deeper, and whose literals and extents are words, is found
-  pub said_right : (mark : Mark) (kind : Kind) (words : List Word) (f : Form) → ReadsForm mark kind words f → form_keeps (shallow d) f ≡ true → form_keeps fitting f ≡ true → said d mark kind words ≡ Some (Ok f)
+  -- a form that is no deeper, and whose literals and extents are lexemes, is found
+  pub said_right : (mark : Mark) (kind : Kind) (lexemes : List Lexeme) (f : Form) → ReadsForm mark kind lexemes f → form_keeps (shallow d) f ≡ true → form_keeps fitting f ≡ true → said d mark kind lexemes ≡ Some (Ok f)
   unfolding said
-  said_right mark kind words f r h g =
-      let p = laws.phrases mark kind words f r in
+  said_right mark kind lexemes f r h g =
+      let p = laws.phrases mark kind lexemes f r in
       let deep : phrase_deep d p.0 ≡ false = not_not (phrase_deep d p.0) (sym (form_shallow d some p.1 mark f p.2) ∙ h) in
       let large = form_small p.1 mark f p.2 g in
-      ap (option_map (judged_phrase d mark)) (laws.complete kind words p.0 p.1) ∙ ap (λ o. Some (judged_by (phrase_large p.0) (phrase_deep d p.0) o)) p.2
+      ap (option_map (judged_phrase d mark)) (laws.complete kind lexemes p.0 p.1) ∙ ap (λ o. Some (judged_by (phrase_large p.0) (phrase_deep d p.0) o)) p.2
       ∙ ap (λ b. Some (judged_by b (phrase_deep d p.0) (Some f))) large ∙ ap (λ b. Some (judged_by false b (Some f))) deep
 
   -- and what is found is no deeper
-  pub said_shallow : (mark : Mark) (kind : Kind) (words : List Word) (f : Form) → said d mark kind words ≡ Some (Ok f) → form_keeps (shallow d) f ≡ true
+  pub said_shallow : (mark : Mark) (kind : Kind) (lexemes : List Lexeme) (f : Form) → said d mark kind lexemes ≡ Some (Ok f) → form_keeps (shallow d) f ≡ true
   unfolding said
-  said_shallow mark kind words f h =
-      let k = map_some (judged_phrase d mark) (phrase_of kind words) (Ok f) h in
-      let says = phrase_found (phrase_of kind words) (Says kind words) k.0 k.1 (laws.sound kind words) in
+  said_shallow mark kind lexemes f h =
+      let k = map_some (judged_phrase d mark) (phrase_of kind lexemes) (Ok f) h in
+      let says = phrase_found (phrase_of kind lexemes) (Says kind lexemes) k.0 k.1 (laws.sound kind lexemes) in
       let j = judged_ok (phrase_large k.0) (phrase_deep d k.0) (form mark k.0) f k.2 in
       form_shallow d some says mark f j.1 ∙ ap not j.0

@@ -1,4 +1,4 @@
--- What a statement says is as deep as its words are.
+-- What a statement says is as deep as its lexemes are.
 use Rattle.std.proofs.Common.{◌≡◌, ◌≤◌, ℕ, pos, Bool, true, false, List, [], ◌∷◌, map, Option, Some, None, option_map, refl, sym, ap, ap₂, ◌∙◌}
 use Rattle.std.specs.Prelude.{◌&&◌, ◌||◌, not, nat_lt, nat_le}
 use Rattle.std.specs.List.{list_all}
@@ -11,7 +11,7 @@ use Rattle.adj_text.specs.Condition.{Condition, test}
 use Rattle.adj_text.specs.Form.{Form, subroutine, implicit_none, integers, simple, logical, opens_do, opens_while, end_do, go_on, opens_if, otherwise, otherwise_if, end_if, leaves, ends}
 use Rattle.adj_text.specs.Grammar.{Syntax, Arguments, only, beside, with_both, tree, trees_before}
 use Rattle.adj_text.specs.Statement.{Item, called, Range}
-use Rattle.adj_text.specs.Word.{Word}
+use Rattle.adj_text.specs.Lexeme.{Lexeme}
 use Rattle.adj_text.specs.declared.stated.Kind.{Kind}
 use Rattle.adj_text.proofs.Parts.{map_some, then_some, both_some}
 use Rattle.adj_expression.specs.Judged.{depth, test_depth}
@@ -77,7 +77,7 @@ module _ (d : ℕ) where
     loop_shallow : (label : Option (List ℕ)) (b : Bounds) (mark : Mark) (f : Form) → form mark (repeats label b) ≡ Some f → form_keeps (shallow d) f ≡ not (bounds_deep d b)
     loop_shallow label b mark f e = let r = map_some (λ r. opens_do (option_map number_of label) r mark) (range b) f e in ap (form_keeps (shallow d)) (sym r.2) ∙ bounds_shallow b r.0 r.1
 
-    do_shallow : {ws : List Word} {p : Phrase} → SaysDo ws p → (mark : Mark) (f : Form) → form mark p ≡ Some f → form_keeps (shallow d) f ≡ not (phrase_deep d p)
+    do_shallow : {ws : List Lexeme} {p : Phrase} → SaysDo ws p → (mark : Mark) (f : Form) → form mark p ≡ Some f → form_keeps (shallow d) f ≡ not (phrase_deep d p)
     do_shallow (phrases.SaysDo.unlabelled {b = b} s) mark f e = loop_shallow None b mark f e
     do_shallow (phrases.SaysDo.labelled {digits = digits} {b = b} s) mark f e = loop_shallow (Some digits) b mark f e
     do_shallow (phrases.SaysDo.labelled_comma {digits = digits} {b = b} s) mark f e = loop_shallow (Some digits) b mark f e
@@ -85,7 +85,7 @@ module _ (d : ℕ) where
     form_is : (f g : Form) → Some f ≡ Some g → form_keeps (shallow d) f ≡ true → form_keeps (shallow d) g ≡ true
     form_is f g e h = let q : f ≡ g = cc in ap (form_keeps (shallow d)) (sym q) ∙ h
 
-    pub form_shallow : {kind : Kind} {ws : List Word} {p : Phrase} → Says kind ws p → (mark : Mark) (f : Form) → form mark p ≡ Some f → form_keeps (shallow d) f ≡ not (phrase_deep d p)
+    pub form_shallow : {kind : Kind} {ws : List Lexeme} {p : Phrase} → Says kind ws p → (mark : Mark) (f : Form) → form mark p ≡ Some f → form_keeps (shallow d) f ≡ not (phrase_deep d p)
     form_shallow (phrases.Says.heading {x = x} {dummies = dummies} s) mark f e = form_is (subroutine x dummies) f e refl
     form_shallow phrases.Says.implicit mark f e = form_is implicit_none f e refl
     form_shallow (phrases.Says.declaration {is = is} s) mark f e = form_is (integers (map item is)) f e (items_shallow (map item is))

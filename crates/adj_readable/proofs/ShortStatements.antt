@@ -20,7 +20,7 @@ use Rattle.adj_text.specs.Reads.{ReadsAll}
 use Rattle.adj_text.specs.Refused.{◌>>=◌, refused}
 use Rattle.adj_text.specs.Stated.{keyword_len, ending_len, tokens_of, is_name, is_too_long, is_marked_long, with_tokens, with_class, stated, all_stated, statements_of, IsCovered}
 use Rattle.adj_text.specs.Token.{AreJoined}
-use Rattle.adj_text.specs.Word.{Word, word, part, words_of}
+use Rattle.adj_text.specs.Lexeme.{Lexeme, lexeme, part, lexemes_of}
 use Rattle.adj_text.specs.declared.mode.Mode.TheVariants.{Source, Run}
 use Rattle.adj_text.specs.declared.stated.Kind.{Kind}
 use Rattle.adj_text.specs.declared.stated.Kind.TheVariants.{Do}
@@ -34,7 +34,7 @@ use Rattle.adj_text.proofs.WrittenBack.{all_first, all_rest}
 use Rattle.adj_readable.specs.Kept.{mark_short, short_names}
 use Rattle.adj_readable.proofs.Truths.{not_or, not_not, not_less}
 use Rattle.adj_readable.proofs.Keeping.{form_keeps, all_keep}
-use Rattle.adj_readable.proofs.ShortTerms.{words_short}
+use Rattle.adj_readable.proofs.ShortTerms.{lexemes_short}
 use Rattle.adj_readable.proofs.ShortForms.{form_short}
 
 -- ---- lines: continuation lines have no limit in Run mode
@@ -58,7 +58,7 @@ pass_same p n (l ∷ ls) =
 pub lines_same : (bytes : List ℕ) → lines_of (limits_of Run) bytes ≡ lines_of no_limits bytes
 lines_same bytes = pass_same start 1 (cut_lines bytes)
 
--- ---- tokens and words
+-- ---- tokens and lexemes
 
 joined_below : (from to : ℕ) (ts : List Token) → AreJoined from to ts → from ≤ to
 joined_below from to [] h = omega arith
@@ -66,37 +66,37 @@ joined_below from to (t ∷ ts) h = let rest = joined_below t.end to ts h.2 in l
 
 module _ (n : ℕ) where
   -- a token is a name that isn't too long, or none
-  word_short : (k : TokenKind) (x : List ℕ) (ws : List Word) → (not (is_name k && nat_lt n (length x)) && words_short n ws) ≡ words_short n (word k x ∷ ws)
-  word_short Name x ws = ap (λ b. b && words_short n ws) (not_less n (length x))
-  word_short Number x ws = refl
-  word_short Power x ws = refl
-  word_short Star x ws = refl
-  word_short Slash x ws = refl
-  word_short Plus x ws = refl
-  word_short Minus x ws = refl
-  word_short Left x ws = refl
-  word_short Right x ws = refl
-  word_short Comma x ws = refl
-  word_short Equals x ws = refl
-  word_short Lt x ws = refl
-  word_short Le x ws = refl
-  word_short Eq x ws = refl
-  word_short Ne x ws = refl
-  word_short Gt x ws = refl
-  word_short Ge x ws = refl
-  word_short Not x ws = refl
-  word_short And x ws = refl
-  word_short Or x ws = refl
-  word_short Call x ws = refl
+  lexeme_short : (k : TokenKind) (x : List ℕ) (ws : List Lexeme) → (not (is_name k && nat_lt n (length x)) && lexemes_short n ws) ≡ lexemes_short n (lexeme k x ∷ ws)
+  lexeme_short Name x ws = ap (λ b. b && lexemes_short n ws) (not_less n (length x))
+  lexeme_short Number x ws = refl
+  lexeme_short Power x ws = refl
+  lexeme_short Star x ws = refl
+  lexeme_short Slash x ws = refl
+  lexeme_short Plus x ws = refl
+  lexeme_short Minus x ws = refl
+  lexeme_short Left x ws = refl
+  lexeme_short Right x ws = refl
+  lexeme_short Comma x ws = refl
+  lexeme_short Equals x ws = refl
+  lexeme_short Lt x ws = refl
+  lexeme_short Le x ws = refl
+  lexeme_short Eq x ws = refl
+  lexeme_short Ne x ws = refl
+  lexeme_short Gt x ws = refl
+  lexeme_short Ge x ws = refl
+  lexeme_short Not x ws = refl
+  lexeme_short And x ws = refl
+  lexeme_short Or x ws = refl
+  lexeme_short Call x ws = refl
 
-  tokens_short : (text : List ℕ) (from to : ℕ) (ts : List Token) → AreJoined from to ts → to ≤ length text → not (list_any (is_too_long (Some n)) ts) ≡ words_short n (words_of text ts)
+  tokens_short : (text : List ℕ) (from to : ℕ) (ts : List Token) → AreJoined from to ts → to ≤ length text → not (list_any (is_too_long (Some n)) ts) ≡ lexemes_short n (lexemes_of text ts)
   tokens_short text from to [] h le = refl
   tokens_short text from to (t ∷ ts) h le =
       let below = joined_below t.end to ts h.2 in
       let width : length (part text t.start t.end) ≡ t.end - t.start = omega (arith, length-take (t.end - t.start) (drop t.start text), length-drop t.start text) in
       not_or (is_name t.kind && nat_lt n (t.end - t.start)) (list_any (is_too_long (Some n)) ts)
       ∙ ap₂ (λ w b. not (is_name t.kind && nat_lt n w) && b) (sym width) (tokens_short text t.end to ts h.2 le)
-      ∙ word_short t.kind (part text t.start t.end) (words_of text ts)
+      ∙ lexeme_short t.kind (part text t.start t.end) (lexemes_of text ts)
 
   -- the directive before a statement
   unmarked_short : (kind : Kind) → not (is_marked_long (Some n) kind Plain) ≡ true
@@ -121,7 +121,7 @@ module _ (n : ℕ) where
   none_long [] = true
   none_long (s ∷ ss) = not (is_long s) && none_long ss
 
-led : {mark : trees.Mark} {kind : Kind} {ws : List Word} {f : Form} → ReadsForm mark kind ws f → (mark ≡ unmarked) ⊎ (kind ≡ Do)
+led : {mark : trees.Mark} {kind : Kind} {ws : List Lexeme} {f : Form} → ReadsForm mark kind ws f → (mark ≡ unmarked) ⊎ (kind ≡ Do)
 led (forms.ReadsForm.heading d) = inl refl
 led forms.ReadsForm.implicit = inl refl
 led (forms.ReadsForm.declaration d) = inl refl
@@ -145,8 +145,8 @@ long_forms n wide texts.ReadsAll.none h = refl
 long_forms n wide (texts.ReadsAll.more {s = s} {ss = ss} {f = f} d rest) h =
     let inside : length s.text - ending_len s.kind ≤ length s.text = omega arith in
     let covered : IsCovered s = all_first IsCovered s ss h in
-    let words = tokens_short n s.text (keyword_len s.kind s.text) (length s.text - ending_len s.kind) s.tokens covered inside in
-    let here : not (is_long n s) ≡ form_keeps (short_names n) f = not_or _ _ ∙ ap₂ (λ a b. a && b) words (mark_limit n s.kind s.mark (led d)) ∙ form_short n wide d in
+    let lexemes = tokens_short n s.text (keyword_len s.kind s.text) (length s.text - ending_len s.kind) s.tokens covered inside in
+    let here : not (is_long n s) ≡ form_keeps (short_names n) f = not_or _ _ ∙ ap₂ (λ a b. a && b) lexemes (mark_limit n s.kind s.mark (led d)) ∙ form_short n wide d in
     ap₂ (λ a b. a && b) here (long_forms n wide rest (all_rest IsCovered s ss h))
 
 -- ---- statements

@@ -1,4 +1,4 @@
--- The names among words are those of the expressions and conditions that they derive.
+-- The names among lexemes are those of the expressions and conditions that they derive.
 use Rattle.std.proofs.Common.{◌≡◌, ◌≤◌, ℕ, pos, Bool, true, false, List, [], ◌∷◌, Option, Some, None, refl, sym, ap, ap₂, ◌∙◌}
 use Rattle.std.specs.Prelude.{◌&&◌, if◌then◌else◌}
 use Rattle.adj_tree.specs.Code.{Op, Term, Terms, lit, var, elem, neg, bin, pow, power_of, abs, none, more, plain, Test, compare, negation, conjunction, disjunction}
@@ -6,19 +6,19 @@ use Rattle.adj_text.specs.Char.{number_of}
 use Rattle.adj_text.specs.Condition.{Condition, compared, denied, both, either, DerivesCondition, Relates, test, ReadsTest}
 use Rattle.adj_text.specs.Condition as conditions
 use Rattle.adj_text.specs.Grammar.{Syntax, number, variable, negated, joined, raised, applied, Arguments, only, beside, Symbol, adds, subtracts, Derives, DerivesAll, literal, name, group, application, primary, power, factor, product, term, sign, sum, single, another, joins_literals, is_literal, exponent, with_both, tree, trees_before, operation_of, is_absolute, application_of, two_arguments, ReadsTerm, ReadsTerms}
-use Rattle.adj_text.specs.Word.{Word, Named, Digits, Mark}
+use Rattle.adj_text.specs.Lexeme.{Lexeme, Named, Digits, Mark}
 use Rattle.adj_text.proofs.Parts.{map_some, then_some, both_some}
 use Rattle.std.proofs.lemmas.Bool.{and_parts}
 use Rattle.adj_readable.specs.Kept.{is_short, term_short, terms_short, test_short}
 use Rattle.adj_readable.proofs.Truths.{and_true, and_group}
 use Rattle.adj_readable.proofs.Reserved.{absolute_short, operation_short}
 
--- whether the names among words, and those of what they derive, have at most n characters
-abbrev pub words_short : ℕ → List Word → Bool
-words_short n [] = true
-words_short n (Named x ∷ ws) = is_short n x && words_short n ws
-words_short n (Digits ds ∷ ws) = words_short n ws
-words_short n (Mark k ∷ ws) = words_short n ws
+-- whether the names among lexemes, and those of what they derive, have at most n characters
+abbrev pub lexemes_short : ℕ → List Lexeme → Bool
+lexemes_short n [] = true
+lexemes_short n (Named x ∷ ws) = is_short n x && lexemes_short n ws
+lexemes_short n (Digits ds ∷ ws) = lexemes_short n ws
+lexemes_short n (Mark k ∷ ws) = lexemes_short n ws
 
 abbrev mutual
   pub syntax_short : ℕ → Syntax → Bool
@@ -45,33 +45,33 @@ module _ (n : ℕ) where
   two ts us rest a b h g = h ∙ ap (λ t. a && t) g ∙ and_group a b rest
 
   mutual
-    pub derived_short : {symbol : Symbol} {ts rest : List Word} {s : Syntax} → Derives symbol ts rest s → words_short n ts ≡ (syntax_short n s && words_short n rest)
+    pub derived_short : {symbol : Symbol} {ts rest : List Lexeme} {s : Syntax} → Derives symbol ts rest s → lexemes_short n ts ≡ (syntax_short n s && lexemes_short n rest)
     derived_short literal = refl
     derived_short name = refl
     derived_short (group d) = derived_short d
-    derived_short {rest = rest} (application {x = x} {all = all} ds e) = ap (λ t. is_short n x && t) (all_short ds) ∙ and_group (is_short n x) (arguments_short n all) (words_short n rest)
+    derived_short {rest = rest} (application {x = x} {all = all} ds e) = ap (λ t. is_short n x && t) (all_short ds) ∙ and_group (is_short n x) (arguments_short n all) (lexemes_short n rest)
     derived_short (primary d) = derived_short d
-    derived_short {rest = rest} (power {a = a} {b = b} d e) = two _ _ (words_short n rest) (syntax_short n a) (syntax_short n b) (derived_short d) (derived_short e)
+    derived_short {rest = rest} (power {a = a} {b = b} d e) = two _ _ (lexemes_short n rest) (syntax_short n a) (syntax_short n b) (derived_short d) (derived_short e)
     derived_short (factor d) = derived_short d
-    derived_short {rest = rest} (product {a = a} {b = b} m d e) = two _ _ (words_short n rest) (syntax_short n a) (syntax_short n b) (derived_short d) (derived_short e)
+    derived_short {rest = rest} (product {a = a} {b = b} m d e) = two _ _ (lexemes_short n rest) (syntax_short n a) (syntax_short n b) (derived_short d) (derived_short e)
     derived_short (term d) = derived_short d
     derived_short (sign adds d) = derived_short d
     derived_short (sign subtracts d) = derived_short d
-    derived_short {rest = rest} (sum {a = a} {b = b} m d e) = two _ _ (words_short n rest) (syntax_short n a) (syntax_short n b) (derived_short d) (derived_short e)
+    derived_short {rest = rest} (sum {a = a} {b = b} m d e) = two _ _ (lexemes_short n rest) (syntax_short n a) (syntax_short n b) (derived_short d) (derived_short e)
 
-    pub all_short : {ts rest : List Word} {all : Arguments} → DerivesAll ts rest all → words_short n ts ≡ (arguments_short n all && words_short n rest)
+    pub all_short : {ts rest : List Lexeme} {all : Arguments} → DerivesAll ts rest all → lexemes_short n ts ≡ (arguments_short n all && lexemes_short n rest)
     all_short (single d) = derived_short d
-    all_short {rest = rest} (another {front = front} {s = s} ds d) = two _ _ (words_short n rest) (arguments_short n front) (syntax_short n s) (all_short ds) (derived_short d)
+    all_short {rest = rest} (another {front = front} {s = s} ds d) = two _ _ (lexemes_short n rest) (arguments_short n front) (syntax_short n s) (all_short ds) (derived_short d)
 
-  pub condition_derived : {part : conditions.Part} {ts rest : List Word} {c : Condition} → DerivesCondition part ts rest c → words_short n ts ≡ (condition_short n c && words_short n rest)
-  condition_derived {rest = rest} (conditions.comparison {a = a} {b = b} r d e) = two _ _ (words_short n rest) (syntax_short n a) (syntax_short n b) (derived_short d) (derived_short e)
+  pub condition_derived : {part : conditions.Part} {ts rest : List Lexeme} {c : Condition} → DerivesCondition part ts rest c → lexemes_short n ts ≡ (condition_short n c && lexemes_short n rest)
+  condition_derived {rest = rest} (conditions.comparison {a = a} {b = b} r d e) = two _ _ (lexemes_short n rest) (syntax_short n a) (syntax_short n b) (derived_short d) (derived_short e)
   condition_derived (conditions.DerivesCondition.group d) = condition_derived d
   condition_derived (conditions.DerivesCondition.plain d) = condition_derived d
   condition_derived (conditions.DerivesCondition.not d) = condition_derived d
   condition_derived (conditions.DerivesCondition.item d) = condition_derived d
-  condition_derived {rest = rest} (conditions.DerivesCondition.and {c = c} {d = d} p q) = two _ _ (words_short n rest) (condition_short n c) (condition_short n d) (condition_derived p) (condition_derived q)
+  condition_derived {rest = rest} (conditions.DerivesCondition.and {c = c} {d = d} p q) = two _ _ (lexemes_short n rest) (condition_short n c) (condition_short n d) (condition_derived p) (condition_derived q)
   condition_derived (conditions.DerivesCondition.whole d) = condition_derived d
-  condition_derived {rest = rest} (conditions.DerivesCondition.or {c = c} {d = d} p q) = two _ _ (words_short n rest) (condition_short n c) (condition_short n d) (condition_derived p) (condition_derived q)
+  condition_derived {rest = rest} (conditions.DerivesCondition.or {c = c} {d = d} p q) = two _ _ (lexemes_short n rest) (condition_short n c) (condition_short n d) (condition_derived p) (condition_derived q)
 
   -- a literal exponent has no names
   literal_short : (s : Syntax) → is_literal s ≡ true → syntax_short n s ≡ true
@@ -124,12 +124,12 @@ module _ (n : ℕ) where
     test_is_short (both c d) t e = let r = both_some conjunction (test c) (test d) t e in ap₂ (λ p q. p && q) (test_is_short c r.0 r.2) (test_is_short d r.1 r.3) ∙ ap (test_short n) r.4
     test_is_short (either c d) t e = let r = both_some disjunction (test c) (test d) t e in ap₂ (λ p q. p && q) (test_is_short c r.0 r.2) (test_is_short d r.1 r.3) ∙ ap (test_short n) r.4
 
-    -- what words read as, and the words behind it
-    pub term_read : {ts rest : List Word} {t : Term} → ReadsTerm ts rest t → words_short n ts ≡ (term_short n t && words_short n rest)
-    term_read {rest = rest} {t = t} d = derived_short d.1 ∙ ap (λ p. p && words_short n rest) (tree_short d.0 t d.2)
+    -- what lexemes read as, and the lexemes behind it
+    pub term_read : {ts rest : List Lexeme} {t : Term} → ReadsTerm ts rest t → lexemes_short n ts ≡ (term_short n t && lexemes_short n rest)
+    term_read {rest = rest} {t = t} d = derived_short d.1 ∙ ap (λ p. p && lexemes_short n rest) (tree_short d.0 t d.2)
 
-    pub terms_read : {ts rest : List Word} {k : ℕ} {es : Terms} → ReadsTerms ts rest k es → words_short n ts ≡ (terms_short n es && words_short n rest)
-    terms_read {rest = rest} {es = es} d = all_short d.1 ∙ ap (λ p. p && words_short n rest) (sym (and_true (arguments_short n d.0)) ∙ trees_short d.0 none es d.3)
+    pub terms_read : {ts rest : List Lexeme} {k : ℕ} {es : Terms} → ReadsTerms ts rest k es → lexemes_short n ts ≡ (terms_short n es && lexemes_short n rest)
+    terms_read {rest = rest} {es = es} d = all_short d.1 ∙ ap (λ p. p && lexemes_short n rest) (sym (and_true (arguments_short n d.0)) ∙ trees_short d.0 none es d.3)
 
-    pub test_read : {ts rest : List Word} {t : Test} → ReadsTest ts rest t → words_short n ts ≡ (test_short n t && words_short n rest)
-    test_read {rest = rest} {t = t} d = condition_derived d.1 ∙ ap (λ p. p && words_short n rest) (test_is_short d.0 t d.2)
+    pub test_read : {ts rest : List Lexeme} {t : Test} → ReadsTest ts rest t → lexemes_short n ts ≡ (test_short n t && lexemes_short n rest)
+    test_read {rest = rest} {t = t} d = condition_derived d.1 ∙ ap (λ p. p && lexemes_short n rest) (test_is_short d.0 t d.2)

@@ -16,7 +16,7 @@ use Rattle.adj_text.specs.Reads.{ReadsAll}
 use Rattle.adj_text.specs.Stated.{statements_of}
 use Rattle.adj_text.specs.Statement as says
 use Rattle.adj_text.specs.Statement.{runtime_call, called, called_as, ReadsAssignment, ReadsCall, ReadsGuarded}
-use Rattle.adj_text.specs.Word.{Word, words_of}
+use Rattle.adj_text.specs.Lexeme.{Lexeme, lexemes_of}
 use Rattle.adj_text.specs.declared.mode.Mode.{Mode}
 use Rattle.adj_text.specs.declared.mode.Mode.TheVariants.{Source}
 use Rattle.adj_text.specs.declared.stated.Kind.{Kind}
@@ -48,15 +48,15 @@ called_flat : (x : List ℕ) (es : Terms) (o : Option Runtime) → act_depth (ca
 called_flat x es None = refl
 called_flat x es (Some r) = refl
 
-assignment_flat : {ts : List Word} {a : Act} → ReadsAssignment ts a → act_depth a ≡ 0
+assignment_flat : {ts : List Lexeme} {a : Act} → ReadsAssignment ts a → act_depth a ≡ 0
 assignment_flat (says.assignment p d) = refl
 
-call_flat : {ts : List Word} {a : Act} → ReadsCall ts a → act_depth a ≡ 0
+call_flat : {ts : List Lexeme} {a : Act} → ReadsCall ts a → act_depth a ≡ 0
 call_flat (says.ReadsCall.alone {x = x}) = called_flat x none (runtime_call x none)
 call_flat (says.ReadsCall.empty {x = x}) = called_flat x none (runtime_call x none)
 call_flat (says.ReadsCall.actuals {x = x} {es = es} d) = called_flat x es (runtime_call x es)
 
-guarded_flat : {ts : List Word} {a : Act} → ReadsGuarded ts a → act_depth a ≡ 0
+guarded_flat : {ts : List Lexeme} {a : Act} → ReadsGuarded ts a → act_depth a ≡ 0
 guarded_flat (says.assigned d) = assignment_flat d
 guarded_flat (says.calls d) = call_flat d
 
@@ -64,15 +64,15 @@ one_called : (x : List ℕ) (es : Terms) (o : Option Runtime) → acts_in (calle
 one_called x es None = omega arith
 one_called x es (Some r) = omega arith
 
-one_act : {ts : List Word} {a : Act} → ReadsAssignment ts a → acts_in a ≤ 2
+one_act : {ts : List Lexeme} {a : Act} → ReadsAssignment ts a → acts_in a ≤ 2
 one_act (says.assignment p d) = omega arith
 
-one_call : {ts : List Word} {a : Act} → ReadsCall ts a → acts_in a ≤ 1
+one_call : {ts : List Lexeme} {a : Act} → ReadsCall ts a → acts_in a ≤ 1
 one_call (says.ReadsCall.alone {x = x}) = one_called x none (runtime_call x none)
 one_call (says.ReadsCall.empty {x = x}) = one_called x none (runtime_call x none)
 one_call (says.ReadsCall.actuals {x = x} {es = es} d) = one_called x es (runtime_call x es)
 
-one_guarded : {ts : List Word} {a : Act} → ReadsGuarded ts a → acts_in a ≤ 1
+one_guarded : {ts : List Lexeme} {a : Act} → ReadsGuarded ts a → acts_in a ≤ 1
 one_guarded (says.assigned (says.assignment p d)) = omega arith
 one_guarded (says.calls d) = one_call d
 
@@ -80,7 +80,7 @@ abbrev count_of : Bool → ℕ
 count_of true = 1
 count_of false = 0
 
-form_flat : {mark : Mark} {kind : Kind} {words : List Word} {f : Form} → ReadsForm mark kind words f → opening f ≡ count_of (opens_block (kind_of f))
+form_flat : {mark : Mark} {kind : Kind} {lexemes : List Lexeme} {f : Form} → ReadsForm mark kind lexemes f → opening f ≡ count_of (opens_block (kind_of f))
 form_flat (forms.ReadsForm.heading d) = refl
 form_flat forms.ReadsForm.implicit = refl
 form_flat (forms.ReadsForm.declaration d) = refl
@@ -185,13 +185,13 @@ module _ (mode : Mode) (most : ℕ) (bounded : (k : ℕ) → is_full (bounds_of 
   unfolding trees_from follow
   chain_within [] s ps h e = let same : s.units.done ≡ ps = cc in answer s ps h same
   chain_within (t ∷ ts) s ps h e =
-      let found = said (bounds_of mode).depth (mark_of t.mark) t.kind (words_of t.text t.tokens) in
+      let found = said (bounds_of mode).depth (mark_of t.mark) t.kind (lexemes_of t.text t.tokens) in
       let a = bind_ok (follow mode s t (length ts)) (λ next. trees_from mode next ts) ps e in
       let b = bind_ok (checked (bounds_of mode) s t (length ts) found) (λ f. Ok (behind s t f)) a.0 a.1 in
       let f : Form = b.0 in
       let here : behind s t f ≡ a.0 = cc (b.2) in
       let thr = through mode s t (length ts) found f b.1 in
-      let d : ReadsForm (mark_of t.mark) t.kind (words_of t.text t.tokens) f = said_reads (bounds_of mode).depth (mark_of t.mark) t.kind (words_of t.text t.tokens) f thr.says (led_by t thr.led) in
+      let d : ReadsForm (mark_of t.mark) t.kind (lexemes_of t.text t.tokens) f = said_reads (bounds_of mode).depth (mark_of t.mark) t.kind (lexemes_of t.text t.tokens) f thr.says (led_by t thr.led) in
       let placed : stands (kind_of f) t.label s.units.current ≡ true = sym (same_kind (λ k. stands k t.label s.units.current) (calls_place t.label s.units.current) d) ∙ thr.stands_so in
       let nested : (opens_block (kind_of f) && nat_le (bounds_of mode).nesting (length (open_blocks s.units.current))) ≡ false = ap (λ b. b && nat_le (bounds_of mode).nesting (length (open_blocks s.units.current))) (sym (same_kind opens_block refl d)) ∙ thr.nested in
       let heading : (is_heading (kind_of f) && nat_le most (length s.units.done)) ≡ false = ap (λ b. b && nat_le most (length s.units.done)) (sym (same_kind is_heading refl d)) ∙ ap (λ b. is_heading t.kind && b) (sym (bounded (length s.units.done))) ∙ thr.units in
@@ -216,9 +216,9 @@ all_shallow_forms : Laws → {ts : List Stated} {ss : List Statement} → AllSay
 all_shallow_forms laws chain.AllSay.none = refl
 all_shallow_forms laws (chain.AllSay.more {t = t} {f = f} {ss = ss} e led rest) =
     let some : 1 ≤ 100 = omega arith in
-    and_from (form_keeps (shallow 100) f) (all_keep (shallow 100) ss) (said_shallow laws 100 some (mark_of t.mark) t.kind (words_of t.text t.tokens) f e) (all_shallow_forms laws rest)
+    and_from (form_keeps (shallow 100) f) (all_keep (shallow 100) ss) (said_shallow laws 100 some (mark_of t.mark) t.kind (lexemes_of t.text t.tokens) f e) (all_shallow_forms laws rest)
 
-two_acts : {mark : Mark} {kind : Kind} {words : List Word} {f : Form} → ReadsForm mark kind words f → form_acts f ≤ 2
+two_acts : {mark : Mark} {kind : Kind} {lexemes : List Lexeme} {f : Form} → ReadsForm mark kind lexemes f → form_acts f ≤ 2
 two_acts (forms.ReadsForm.heading d) = omega arith
 two_acts forms.ReadsForm.implicit = omega arith
 two_acts (forms.ReadsForm.declaration d) = omega arith

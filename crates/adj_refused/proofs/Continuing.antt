@@ -1,4 +1,4 @@
--- Continuing: what can follow statements that lead somewhere, in the words of the grammar.
+-- Continuing: what can follow statements that lead somewhere, in the lexemes of the grammar.
 use Rattle.std.proofs.Common.{◌≡◌, ℕ, pos, Bool, true, false, List, [], ◌∷◌, ◌++◌, map, Option, Some, None, refl, sym, ap, ◌∙◌}
 use Rattle.std.proofs.lemmas.List.{append_assoc, map-append}
 use Rattle.std.specs.Prelude.{◌&&◌}

@@ -17,7 +17,7 @@ use Rattle.adj_refused.specs.StatementFaults.{StatementFault, unknown, empty, un
 use Rattle.adj_refused.proofs.Tests.{chosen, forgotten, when, test_more, Present, AreRanked, when_ranked, true_when, only_where, or_left, or_right, or_either, and_both, not_is, AreTested, AreOne, IsJudged, tested, tested_one, answer_more, answer_mapped, all_single, first_refused, none_answered}
 
 module _ (limits : Limits) (s : Lines) where
-  -- the tests in order: no class; no form of words; a long name
+  -- the tests in order: no class; no form of lexemes; a long name
   abbrev no_tokens : Option Kind → Bool
   no_tokens None = false
   no_tokens (Some kind) = is_none (tokens_of kind s.text)
@@ -33,13 +33,13 @@ module _ (limits : Limits) (s : Lines) where
   abbrev no_class : Bool
   no_class = not (eqb (length s.text) 0) && is_none (class_of s.text)
 
-  abbrev no_words : Bool
-  no_words = eqb (length s.text) 0 || (not (is_matched 0 s.text) || no_tokens (class_of s.text))
+  abbrev no_lexemes : Bool
+  no_lexemes = eqb (length s.text) 0 || (not (is_matched 0 s.text) || no_tokens (class_of s.text))
 
   abbrev tests : List (Option Refusal)
   tests =
       when no_class (code_at 3 s.line)
-      ∷ when no_words (code_at 4 s.line)
+      ∷ when no_lexemes (code_at 4 s.line)
       ∷ when (long (class_of s.text)) (code_at 6 s.line)
       ∷ []
 
@@ -62,7 +62,7 @@ module _ (limits : Limits) (s : Lines) where
   tests_are false false (Some kind) h = rw (sym h) refl
 
   ranked : AreRanked 0 tests
-  ranked = (3, omega arith, when_ranked no_class (code_at 3 s.line), (4, omega arith, when_ranked no_words (code_at 4 s.line), (6, omega arith, when_ranked (long (class_of s.text)) (code_at 6 s.line), tt)))
+  ranked = (3, omega arith, when_ranked no_class (code_at 3 s.line), (4, omega arith, when_ranked no_lexemes (code_at 4 s.line), (6, omega arith, when_ranked (long (class_of s.text)) (code_at 6 s.line), tt)))
 
   module _ (before after : List Lines) where
     abbrev Fault : Refusal → Type 0
@@ -70,9 +70,9 @@ module _ (limits : Limits) (s : Lines) where
 
     present : (r : Refusal) → Fault r → Present tests r
     present r (unknown some none) = inl (true_when no_class (code_at 3 s.line) (rw (ne_eqb (length s.text) 0 some, none) refl))
-    present r (empty e) = inr (inl (true_when no_words (code_at 4 s.line) (or_left _ _ (eq-eqb (length s.text) 0 e))))
-    present r (unmatched e) = inr (inl (true_when no_words (code_at 4 s.line) (or_right (eqb (length s.text) 0) _ (or_left _ _ (ap not e)))))
-    present r (untold kind e none) = inr (inl (true_when no_words (code_at 4 s.line) (or_right (eqb (length s.text) 0) _ (or_right (not (is_matched 0 s.text)) _ (rw (e, none) refl)))))
+    present r (empty e) = inr (inl (true_when no_lexemes (code_at 4 s.line) (or_left _ _ (eq-eqb (length s.text) 0 e))))
+    present r (unmatched e) = inr (inl (true_when no_lexemes (code_at 4 s.line) (or_right (eqb (length s.text) 0) _ (or_left _ _ (ap not e)))))
+    present r (untold kind e none) = inr (inl (true_when no_lexemes (code_at 4 s.line) (or_right (eqb (length s.text) 0) _ (or_right (not (is_matched 0 s.text)) _ (rw (e, none) refl)))))
     present r (long_name kind tokens e some h) = inr (inr (inl (true_when (long (class_of s.text)) (code_at 6 s.line) (rw (e, some, h) refl))))
     present r (long_mark kind e h) = inr (inr (inl (true_when (long (class_of s.text)) (code_at 6 s.line) (rw e (or_right (long_token (tokens_of kind s.text)) _ h)))))
 
@@ -98,8 +98,8 @@ module _ (limits : Limits) (s : Lines) where
     unknown_stands : no_class ≡ true → Fault (code_at 3 s.line)
     unknown_stands h = let t = and_both (not (eqb (length s.text) 0)) (is_none (class_of s.text)) h in unknown (eqb-false (length s.text) 0 (not_is (eqb (length s.text) 0) t.0)) (none_is (class_of s.text) t.1)
 
-    wordless_stands : no_words ≡ true → Fault (code_at 4 s.line)
-    wordless_stands h = elim (or_either (eqb (length s.text) 0) _ h) [
+    lexemeless_stands : no_lexemes ≡ true → Fault (code_at 4 s.line)
+    lexemeless_stands h = elim (or_either (eqb (length s.text) 0) _ h) [
       | inl e ↦ empty (eqb-true (length s.text) 0 e)
       | inr g ↦ elim (or_either (not (is_matched 0 s.text)) _ g) [
         | inl e ↦ unmatched (not_is (is_matched 0 s.text) e)
@@ -111,7 +111,7 @@ module _ (limits : Limits) (s : Lines) where
     stand r p = elim p [
       | inl h ↦ only_where Fault no_class (code_at 3 s.line) unknown_stands r h
       | inr q ↦ elim q [
-        | inl h ↦ only_where Fault no_words (code_at 4 s.line) wordless_stands r h
+        | inl h ↦ only_where Fault no_lexemes (code_at 4 s.line) lexemeless_stands r h
         | inr o ↦ elim o [
           | inl h ↦ only_where Fault (long (class_of s.text)) (code_at 6 s.line) (long_stands (class_of s.text) refl) r h
           | inr never ↦ absurd never

@@ -10,7 +10,7 @@ use Rattle.adj_text.specs.Form.{Form, Statement}
 use Rattle.adj_text.specs.Reads as texts
 use Rattle.adj_text.specs.Reads.{ReadsAll}
 use Rattle.adj_text.specs.Refused.{limited}
-use Rattle.adj_text.specs.Word.{Word}
+use Rattle.adj_text.specs.Lexeme.{Lexeme}
 use Rattle.adj_text.specs.declared.mode.Mode.{Mode}
 use Rattle.adj_text.specs.declared.stated.Kind.{Kind}
 use Rattle.adj_text.specs.declared.stated.Kind.TheVariants.{End, EndIf, EndDo, Else, ImplicitNone, ElseIf, Subroutine, Integer}
@@ -26,23 +26,23 @@ use Rattle.adj_parse.proofs.Truths.{and_false}
 use Rattle.adj_refused.specs.First.{code_at, limit_at, rank}
 use Rattle.adj_refused.specs.Opened.{opened, is_innermost, has_label, leaves_loop, misses_loop}
 use Rattle.adj_refused.specs.Following.{CanFollow}
-use Rattle.adj_refused.specs.TreeFaults.{words, ends_in, passed, TreeFault, stray, formless, cut_off, misplaced, large, leaves, misses, beyond, exponent}
+use Rattle.adj_refused.specs.TreeFaults.{lexemes, ends_in, passed, TreeFault, stray, formless, cut_off, misplaced, large, leaves, misses, beyond, exponent}
 use Rattle.adj_refused.proofs.Tests.{chosen, forgotten, when, true_when, when_ranked, test_more, Present, AreRanked, only_where, or_left, or_right, or_either, AreTested, IsJudged, tested}
 use Rattle.adj_refused.proofs.Places.{Inner, may_at, blocks_in, suits, misplaced_at, broken_at, stands_at, Leads, no_misses}
 use Rattle.adj_refused.proofs.Bridged.{place_of, length_same, misplaced_same, broken_same}
 use Rattle.adj_refused.proofs.Leading.{leads_blocks}
 use Rattle.adj_refused.proofs.Continuing.{continues, follows, follows_stands}
 
--- what is known of the words of a statement
+-- what is known of the lexemes of a statement
 pub record Laws : Type 0 where
-  pub complete : (kind : Kind) (words : List Word) (p : Phrase) → Says kind words p → phrase_of kind words ≡ Some p
-  pub sound : (kind : Kind) (words : List Word) → IfSome (phrase_of kind words) (Says kind words)
+  pub complete : (kind : Kind) (lexemes : List Lexeme) (p : Phrase) → Says kind lexemes p → phrase_of kind lexemes ≡ Some p
+  pub sound : (kind : Kind) (lexemes : List Lexeme) → IfSome (phrase_of kind lexemes) (Says kind lexemes)
 
 -- statements say one thing
 pub one_all : {stated : List Stated} {ss ts : List Statement} → ReadsAll stated ss → ReadsAll stated ts → ss ≡ ts
 one_all texts.ReadsAll.none texts.ReadsAll.none = refl
 one_all (texts.ReadsAll.more {s = s} {f = f} d r) (texts.ReadsAll.more {f = g} e q) =
-    let forms : f ≡ g = one_form (mark_of s.mark) s.kind (words s) f g d e in
+    let forms : f ≡ g = one_form (mark_of s.mark) s.kind (lexemes s) f g d e in
     let rest = one_all r q in
     cc
 
@@ -147,7 +147,7 @@ none_is (Some x) h = absurd cc
 
 module _ (laws : Laws) (mode : Mode) (before : List Stated) (s : State) (t : Stated) (after : List Stated) (here : At mode before s) where
   abbrev said_as : Option Phrase
-  said_as = phrase_of t.kind (words t)
+  said_as = phrase_of t.kind (lexemes t)
 
   abbrev w : Option Inner
   w = place_of s.units.current
@@ -230,11 +230,11 @@ module _ (laws : Laws) (mode : Mode) (before : List Stated) (s : State) (t : Sta
 
   -- ---- the tests are the faults
 
-  says_one : (p : Phrase) → Says t.kind (words t) p → said_as ≡ Some p
-  says_one p h = laws.complete t.kind (words t) p h
+  says_one : (p : Phrase) → Says t.kind (lexemes t) p → said_as ≡ Some p
+  says_one p h = laws.complete t.kind (lexemes t) p h
 
-  says_it : (o : Option Phrase) → said_as ≡ o → IfSome o (Says t.kind (words t))
-  says_it o e = subst (λ q. IfSome q (Says t.kind (words t))) e (laws.sound t.kind (words t))
+  says_it : (o : Option Phrase) → said_as ≡ o → IfSome o (Says t.kind (lexemes t))
+  says_it o e = subst (λ q. IfSome q (Says t.kind (lexemes t))) e (laws.sound t.kind (lexemes t))
 
   same_statements : {ss : List Statement} → ReadsAll (reverse before) ss → ss ≡ here.statements
   same_statements r = one_all r here.say
@@ -242,7 +242,7 @@ module _ (laws : Laws) (mode : Mode) (before : List Stated) (s : State) (t : Sta
   same_blocks : (ss : List Statement) → ReadsAll (reverse before) ss → opened [] ss ≡ blocks_in w
   same_blocks ss r = ap (opened []) (same_statements r) ∙ sym blocks_are
 
-  no_phrase : (o : Option Phrase) → said_as ≡ o → ((p : Phrase) → Says t.kind (words t) p → ⊥) → is_none o ≡ true
+  no_phrase : (o : Option Phrase) → said_as ≡ o → ((p : Phrase) → Says t.kind (lexemes t) p → ⊥) → is_none o ≡ true
   no_phrase None e h = refl
   no_phrase (Some p) e h = absurd (h p (says_it (Some p) e))
 
@@ -320,6 +320,6 @@ module _ (laws : Laws) (mode : Mode) (before : List Stated) (s : State) (t : Sta
   pub are_tested : AreTested (TreeFault mode before t after) (tests said_as)
   are_tested = record { ranked = ranked said_as; present = present; stand = stand }
 
-  pub judged : IsJudged (TreeFault mode before t after) (checked (bounds_of mode) s t (length after) (said (bounds_of mode).depth (mark_of t.mark) t.kind (words t)))
+  pub judged : IsJudged (TreeFault mode before t after) (checked (bounds_of mode) s t (length after) (said (bounds_of mode).depth (mark_of t.mark) t.kind (lexemes t)))
   unfolding said
   judged = tested (tests said_as) (checked (bounds_of mode) s t (length after) (option_map (judged_phrase (bounds_of mode).depth (mark_of t.mark)) said_as)) are_tested (checked_made said_as)

@@ -12,7 +12,7 @@ use Rattle.adj_text.specs.Form.{Form, subroutine, implicit_none, integers, leave
 use Rattle.adj_text.specs.Reads as texts
 use Rattle.adj_text.specs.Reads.{ReadsAll}
 use Rattle.adj_text.specs.Refused.{◌>>=◌}
-use Rattle.adj_text.specs.Word.{Word}
+use Rattle.adj_text.specs.Lexeme.{Lexeme}
 use Rattle.adj_text.specs.declared.mode.Mode.{Mode}
 use Rattle.adj_text.specs.declared.stated.Kind.{Kind}
 use Rattle.adj_text.specs.declared.stated.Kind.TheVariants.{Do}
@@ -27,7 +27,7 @@ use Rattle.adj_parse.proofs.Machine.{kind_of}
 use Rattle.adj_refused.specs.First.{HasNone, IsAnswer}
 use Rattle.adj_refused.specs.Following as following
 use Rattle.adj_refused.specs.Following.{IsOf}
-use Rattle.adj_refused.specs.TreeFaults.{words, TreeFault}
+use Rattle.adj_refused.specs.TreeFaults.{lexemes, TreeFault}
 use Rattle.adj_refused.specs.Refusals.{TreesAnswer, TreesRefused, TreesAccepted}
 use Rattle.adj_refused.proofs.Tests.{AreSingle, IsJudged, tested_one, answer_more, first_refused, none_answered}
 use Rattle.adj_refused.proofs.Places.{Inner, may_at, suits, stands_at, next_in, next_at, Leads, stood, none_open}
@@ -37,7 +37,7 @@ use Rattle.adj_refused.proofs.Continuing.{same_class}
 use Rattle.adj_refused.proofs.TreeTests.{Laws, IsBare, At, tests, are_tested, judged}
 
 -- a form is one of its class
-pub form_class : {mark : Mark} {kind : Kind} {ws : List Word} {f : Form} → ReadsForm mark kind ws f → IsOf kind f
+pub form_class : {mark : Mark} {kind : Kind} {ws : List Lexeme} {f : Form} → ReadsForm mark kind ws f → IsOf kind f
 form_class (forms.ReadsForm.heading d) = following.IsOf.heading
 form_class forms.ReadsForm.implicit = following.IsOf.implicit
 form_class (forms.ReadsForm.declaration d) = following.IsOf.declaration
@@ -102,14 +102,14 @@ with_form-ok (Some (Err e)) line f h = absurd cc
 
 -- what a statement that is let through has
 record Through (mode : Mode) (s : State) (t : Stated) (f : Form) : Type 0 where
-  says : said (bounds_of mode).depth (mark_of t.mark) t.kind (words t) ≡ Some (Ok f)
+  says : said (bounds_of mode).depth (mark_of t.mark) t.kind (lexemes t) ≡ Some (Ok f)
   led : has_stray_mark t ≡ false
   place : is_misplaced t.kind s.units.current ≡ false
   breaks : breaks_loop t.kind t.label (open_blocks s.units.current) ≡ false
 
-through : (mode : Mode) (s : State) (t : Stated) (left : ℕ) (f : Form) → checked (bounds_of mode) s t left (said (bounds_of mode).depth (mark_of t.mark) t.kind (words t)) ≡ Ok f → Through mode s t f
+through : (mode : Mode) (s : State) (t : Stated) (left : ℕ) (f : Form) → checked (bounds_of mode) s t left (said (bounds_of mode).depth (mark_of t.mark) t.kind (lexemes t)) ≡ Ok f → Through mode s t f
 through mode s t left f h =
-    let found = said (bounds_of mode).depth (mark_of t.mark) t.kind (words t) in
+    let found = said (bounds_of mode).depth (mark_of t.mark) t.kind (lexemes t) in
     let a = let_through (has_stray_mark t) _ _ f h in
     let b = let_through (is_none found || is_astray t left s.units.current) _ _ f a.1 in
     let c = let_through (is_large found) _ _ f b.1 in
@@ -126,7 +126,7 @@ through mode s t left f h =
     }
 
 -- one statement more says something
-reads_more : {ts : List Stated} {ss : List Statement} (t : Stated) (f : Form) → ReadsAll ts ss → ReadsForm (mark_of t.mark) t.kind (words t) f → ReadsAll (ts ++ t ∷ []) (ss ++ at t.line t.label f ∷ [])
+reads_more : {ts : List Stated} {ss : List Statement} (t : Stated) (f : Form) → ReadsAll ts ss → ReadsForm (mark_of t.mark) t.kind (lexemes t) f → ReadsAll (ts ++ t ∷ []) (ss ++ at t.line t.label f ∷ [])
 reads_more t f texts.ReadsAll.none d = texts.ReadsAll.more d texts.ReadsAll.none
 reads_more t f (texts.ReadsAll.more e r) d = texts.ReadsAll.more e (reads_more t f r d)
 
@@ -155,10 +155,10 @@ more_done done (Some c) n l f h = refl
 
 module _ (laws : Laws) (mode : Mode) where
   -- what is known behind the next statement
-  pub next : (before : List Stated) (s : State) (t : Stated) (left : ℕ) (f : Form) → At mode before s → checked (bounds_of mode) s t left (said (bounds_of mode).depth (mark_of t.mark) t.kind (words t)) ≡ Ok f → At mode (t ∷ before) (behind s t f)
+  pub next : (before : List Stated) (s : State) (t : Stated) (left : ℕ) (f : Form) → At mode before s → checked (bounds_of mode) s t left (said (bounds_of mode).depth (mark_of t.mark) t.kind (lexemes t)) ≡ Ok f → At mode (t ∷ before) (behind s t f)
   next before s t left f here h =
       let thr = through mode s t left f h in
-      let reads = said_reads (bounds_of mode).depth (mark_of t.mark) t.kind (words t) f thr.says (led_by t thr.led) in
+      let reads = said_reads (bounds_of mode).depth (mark_of t.mark) t.kind (lexemes t) f thr.says (led_by t thr.led) in
       let class = form_class reads in
       let w = place_of s.units.current in
       let stands : stands_at (kind_of f) t.label w ≡ true = sym (same_class class t.label w) ∙ stands_same t.kind t.label s.units.current ∙ rw (thr.place, thr.breaks) refl in
@@ -179,13 +179,13 @@ module _ (laws : Laws) (mode : Mode) where
   unfolding trees_from follow
   walked [] before s here = (tt, tt)
   walked (t ∷ ts) before s here =
-      let found = checked (bounds_of mode) s t (length ts) (said (bounds_of mode).depth (mark_of t.mark) t.kind (words t)) in
+      let found = checked (bounds_of mode) s t (length ts) (said (bounds_of mode).depth (mark_of t.mark) t.kind (lexemes t)) in
       let mine : IsJudged (TreeFault mode before t ts) found = judged laws mode before s t ts here in
       let rest : (f : Form) → found ≡ Ok f → IsAnswer (TreeFault mode) (t ∷ before) ts (trees_from mode (behind s t f) ts) × AreSingle (TreeFault mode) (t ∷ before) ts =
       λ f h. walked ts (t ∷ before) (behind s t f) (next before s t (length ts) f here h) in (
         regroup before t ts found (λ f. behind s t f) (answer_more (TreeFault mode) before ts t found (λ f. trees_from mode (behind s t f) ts) mine (λ f h. (rest f h).0)),
         (
-          λ r q f g e. tested_one (tests laws mode before s t ts here (phrase_of t.kind (words t))) r q (are_tested laws mode before s t ts here) f g e,
+          λ r q f g e. tested_one (tests laws mode before s t ts here (phrase_of t.kind (lexemes t))) r q (are_tested laws mode before s t ts here) f g e,
           λ none. let ok = not_both found mine none in (rest ok.0 ok.1).1,
         ),
       )

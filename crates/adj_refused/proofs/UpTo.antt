@@ -10,7 +10,7 @@ use Rattle.adj_text.specs.Form.{Form, Statement, at, ReadsForm}
 use Rattle.adj_text.specs.Reads as texts
 use Rattle.adj_text.specs.Reads.{ReadsAll}
 use Rattle.adj_text.specs.Refused.{◌>>=◌}
-use Rattle.adj_text.specs.Word.{Word}
+use Rattle.adj_text.specs.Lexeme.{Lexeme}
 use Rattle.adj_text.specs.declared.mode.Mode.{Mode}
 use Rattle.adj_text.specs.declared.stated.Kind.{Kind}
 use Rattle.adj_text.specs.declared.stated.Stated.{Stated}
@@ -23,7 +23,7 @@ use Rattle.adj_refused.specs.First.{code_at, limit_at, IsLeast}
 use Rattle.adj_refused.specs.Following.{Continues}
 use Rattle.adj_refused.specs.Prefixes.{ReadsUpTo}
 use Rattle.adj_refused.specs.Refusals.{TreesReadUpTo}
-use Rattle.adj_refused.specs.TreeFaults.{words, TreeFault}
+use Rattle.adj_refused.specs.TreeFaults.{lexemes, TreeFault}
 use Rattle.adj_refused.proofs.Tests.{when, when_true, or_either, Present, IsJudged}
 use Rattle.adj_refused.proofs.Places.{misplaced_at, broken_at, stands_at}
 use Rattle.adj_refused.proofs.Bridged.{place_of}
@@ -37,7 +37,7 @@ record Last (ts : List Stated) (t : Stated) (ss : List Statement) : Type 0 where
   says : Form
   parts : ss ≡ front ++ at t.line t.label says ∷ []
   front_says : ReadsAll ts front
-  form : ReadsForm (mark_of t.mark) t.kind (words t) says
+  form : ReadsForm (mark_of t.mark) t.kind (lexemes t) says
 
 reads_last : (ts : List Stated) (t : Stated) {ss : List Statement} → ReadsAll (ts ++ t ∷ []) ss → Last ts t ss
 reads_last [] t (texts.ReadsAll.more {f = f} d texts.ReadsAll.none) = record { front = []; says = f; parts = refl; front_says = texts.ReadsAll.none; form = d }
@@ -45,19 +45,19 @@ reads_last (u ∷ us) t (texts.ReadsAll.more {f = f} d r) =
     let l = reads_last us t r in
     record { front = at u.line u.label f ∷ l.front; says = l.says; parts = ap (λ ss. at u.line u.label f ∷ ss) l.parts; front_says = texts.ReadsAll.more d l.front_says; form = l.form }
 
--- that a form that words have comes from a phrase
+-- that a form that lexemes have comes from a phrase
 abbrev pub HavePhrases : Type 0
-HavePhrases = (mark : Mark) (kind : Kind) (ws : List Word) (f : Form) → ReadsForm mark kind ws f → (p : Phrase) × Says kind ws p × (form mark p ≡ Some f)
+HavePhrases = (mark : Mark) (kind : Kind) (ws : List Lexeme) (f : Form) → ReadsForm mark kind ws f → (p : Phrase) × Says kind ws p × (form mark p ≡ Some f)
 
 module _ (laws : Laws) (phrases : HavePhrases) (mode : Mode) (before : List Stated) (s : State) (t : Stated) (after : List Stated) (here : At mode before s) where
   -- those up to the statement go on only where it says something and stands
-  stands_here : (others : List Statement) → ReadsAll (reverse (t ∷ before)) others → Continues others → (is_none (phrase_of t.kind (words t)) ≡ false) × (stands_at t.kind t.label (place_of s.units.current) ≡ true)
+  stands_here : (others : List Statement) → ReadsAll (reverse (t ∷ before)) others → Continues others → (is_none (phrase_of t.kind (lexemes t)) ≡ false) × (stands_at t.kind t.label (place_of s.units.current) ≡ true)
   stands_here others r c =
       let l = reads_last (reverse before) t (subst (λ ts. ReadsAll ts others) (reverse-append (t ∷ []) before) r) in
       let same : l.front ≡ here.statements = one_all l.front_says here.say in
       let goes : Continues (here.statements ++ at t.line t.label l.says ∷ []) = subst Continues (l.parts ∙ ap (λ ss. ss ++ at t.line t.label l.says ∷ []) same) c in
-      let p = phrases (mark_of t.mark) t.kind (words t) l.says l.form in (
-        ap is_none (laws.complete t.kind (words t) p.0 p.1),
+      let p = phrases (mark_of t.mark) t.kind (lexemes t) l.says l.form in (
+        ap is_none (laws.complete t.kind (lexemes t) p.0 p.1),
         same_class (form_class l.form) t.label (place_of s.units.current) ∙ goes_on_stands here.statements (place_of s.units.current) t.line t.label l.says here.leads goes,
       )
 
@@ -71,8 +71,8 @@ module _ (laws : Laws) (phrases : HavePhrases) (mode : Mode) (before : List Stat
   parts true false g = (refl, refl)
   parts false b g = absurd cc
 
-  cut : (is_none (phrase_of t.kind (words t)) ≡ false) → misplaced_at t.kind (place_of s.units.current) ≡ false → ill laws mode before s t after here (phrase_of t.kind (words t)) ≡ true → (after ≡ []) × (is_end t.kind ≡ false)
-  cut some stands h = elim (or_either (is_none (phrase_of t.kind (words t))) _ h) [
+  cut : (is_none (phrase_of t.kind (lexemes t)) ≡ false) → misplaced_at t.kind (place_of s.units.current) ≡ false → ill laws mode before s t after here (phrase_of t.kind (lexemes t)) ≡ true → (after ≡ []) × (is_end t.kind ≡ false)
+  cut some stands h = elim (or_either (is_none (phrase_of t.kind (lexemes t))) _ h) [
     | inl e ↦ let never : true ≡ false = sym e ∙ some in absurd cc
     | inr g ↦ elim (or_either (misplaced_at t.kind (place_of s.units.current)) _ g) [
       | inl e ↦ let never : true ≡ false = sym e ∙ stands in absurd cc
@@ -101,7 +101,7 @@ module _ (laws : Laws) (phrases : HavePhrases) (mode : Mode) (before : List Stat
       other n e four ten (inl f) = four (e ∙ f)
       other n e four ten (inr f) = ten (e ∙ f)
 
-      by : is_none (phrase_of t.kind (words t)) ≡ false → misplaced_at t.kind (place_of s.units.current) ≡ false → broken_at t.kind t.label (place_of s.units.current) ≡ false → Present (tests laws mode before s t after here (phrase_of t.kind (words t))) r → (r.code ≡ 4) ⊎ (r.code ≡ 10) → (after ≡ []) × (is_end t.kind ≡ false)
+      by : is_none (phrase_of t.kind (lexemes t)) ≡ false → misplaced_at t.kind (place_of s.units.current) ≡ false → broken_at t.kind t.label (place_of s.units.current) ≡ false → Present (tests laws mode before s t after here (phrase_of t.kind (lexemes t))) r → (r.code ≡ 4) ⊎ (r.code ≡ 10) → (after ≡ []) × (is_end t.kind ≡ false)
       by a b c (inl h) code = absurd (other 20 (code_of _ 20 t.mark_line r h).1 (λ e. absurd cc) (λ e. absurd cc) code)
       by a b c (inr (inl h)) code = cut a b (code_of _ 4 t.line r h).0
       by a b c (inr (inr (inl h))) code = absurd (other 5 (code_of _ 5 t.line r h).1 (λ e. absurd cc) (λ e. absurd cc) code)
@@ -127,11 +127,11 @@ walked : (laws : Laws) → HavePhrases → (mode : Mode) (ts before : List State
 unfolding trees_from follow
 walked laws phrases mode [] before s here stated e r h = absurd cc
 walked laws phrases mode (t ∷ ts) before s here stated e r h =
-    by (checked (bounds_of mode) s t (length ts) (said (bounds_of mode).depth (mark_of t.mark) t.kind (words t))) refl (judged laws mode before s t ts here) h
+    by (checked (bounds_of mode) s t (length ts) (said (bounds_of mode).depth (mark_of t.mark) t.kind (lexemes t))) refl (judged laws mode before s t ts here) h
     (λ f g k. walked laws phrases mode ts (t ∷ before) (behind s t f) (next laws mode before s t (length ts) f here g) stated (e ∙ sym (append_assoc (reverse before) (t ∷ []) ts) ∙ ap (λ us. us ++ ts) (sym (reverse-append (t ∷ []) before))) r k)
   where
-    by : (found : Result Form Refusal) → checked (bounds_of mode) s t (length ts) (said (bounds_of mode).depth (mark_of t.mark) t.kind (words t)) ≡ found → IsJudged (TreeFault mode before t ts) found → ((found >>= λ f. Ok (behind s t f)) >>= λ s. trees_from mode s ts) ≡ Err r →
-        ((f : Form) → checked (bounds_of mode) s t (length ts) (said (bounds_of mode).depth (mark_of t.mark) t.kind (words t)) ≡ Ok f → trees_from mode (behind s t f) ts ≡ Err r → ReadsUpTo mode stated r) → ReadsUpTo mode stated r
+    by : (found : Result Form Refusal) → checked (bounds_of mode) s t (length ts) (said (bounds_of mode).depth (mark_of t.mark) t.kind (lexemes t)) ≡ found → IsJudged (TreeFault mode before t ts) found → ((found >>= λ f. Ok (behind s t f)) >>= λ s. trees_from mode s ts) ≡ Err r →
+        ((f : Form) → checked (bounds_of mode) s t (length ts) (said (bounds_of mode).depth (mark_of t.mark) t.kind (lexemes t)) ≡ Ok f → trees_from mode (behind s t f) ts ≡ Err r → ReadsUpTo mode stated r) → ReadsUpTo mode stated r
     by (Ok f) g j k rest = rest f g k
     by (Err q) g j k rest = let same : q ≡ r = cc in found_here laws phrases mode before s t ts here r (subst (IsLeast (TreeFault mode before t ts)) same j) stated e
 

@@ -4,7 +4,7 @@ use Rattle.adj_tree.specs.View.{mark_of}
 use Rattle.adj_tree.specs.declared.fault.Refusal.{Refusal}
 use Rattle.adj_text.specs.Form.{Statement}
 use Rattle.adj_text.specs.Reads.{ReadsAll}
-use Rattle.adj_text.specs.Word.{Word, words_of}
+use Rattle.adj_text.specs.Lexeme.{Lexeme, lexemes_of}
 use Rattle.adj_text.specs.declared.mode.Mode.{Mode}
 use Rattle.adj_text.specs.declared.stated.Kind.{Kind}
 use Rattle.adj_text.specs.declared.stated.Stated.{Stated}
@@ -16,9 +16,9 @@ use Rattle.adj_refused.specs.First.{code_at, limit_at}
 use Rattle.adj_refused.specs.Opened.{opened, leaves_loop, misses_loop}
 use Rattle.adj_refused.specs.Following.{Continues, CanFollow}
 
--- the words behind the keyword of a statement
-abbrev pub words : Stated → List Word
-words t = words_of t.text t.tokens
+-- the lexemes behind the keyword of a statement
+abbrev pub lexemes : Stated → List Lexeme
+lexemes t = lexemes_of t.text t.tokens
 
 -- how many of these statements are END, so how many units are before
 abbrev pub ends_in : List Stated → ℕ
@@ -40,18 +40,18 @@ pub data TreeFault (mode : Mode) (before : List Stated) (t : Stated) (after : Li
   -- a directive stands before another statement than a DO
   stray : has_stray_mark t ≡ true → TreeFault mode before t after (code_at 20 t.mark_line)
   -- what stands behind the keyword hasn't the form of the class
-  formless : ((p : Phrase) → Says t.kind (words t) p → ⊥) → TreeFault mode before t after (code_at 4 t.line)
+  formless : ((p : Phrase) → Says t.kind (lexemes t) p → ⊥) → TreeFault mode before t after (code_at 4 t.line)
   -- the text ends with another statement than END
   cut_off : after ≡ [] → is_end t.kind ≡ false → TreeFault mode before t after (code_at 4 t.line)
   -- the statements before have a continuation that reads, and those up to this one have none, its label aside; other than by closing a block round a DO with a label
   misplaced : (statements : List Statement) → ReadsAll (reverse before) statements → Continues statements → (CanFollow t.kind statements → ⊥) → leaves_loop t.kind (opened [] statements) ≡ false → TreeFault mode before t after (code_at 4 t.line)
-  -- a number is above the greatest word
-  large : (p : Phrase) → Says t.kind (words t) p → phrase_large p ≡ true → TreeFault mode before t after (code_at 5 t.line)
+  -- a number is above the greatest lexeme
+  large : (p : Phrase) → Says t.kind (lexemes t) p → phrase_large p ≡ true → TreeFault mode before t after (code_at 5 t.line)
   -- it closes a block round a DO with a label, which is the innermost open one
   leaves : (statements : List Statement) → ReadsAll (reverse before) statements → leaves_loop t.kind (opened [] statements) ≡ true → TreeFault mode before t after (code_at 10 t.line)
   -- it has the label of an open DO, and is no CONTINUE or that DO isn't the innermost open block
   misses : (statements : List Statement) → ReadsAll (reverse before) statements → misses_loop t.kind t.label (opened [] statements) ≡ true → TreeFault mode before t after (code_at 10 t.line)
   -- a limit of the mode is passed
-  beyond : (statements : List Statement) (p : Phrase) (limit : ℕ) → ReadsAll (reverse before) statements → Says t.kind (words t) p → passed mode (ends_in before) (length before) (length (opened [] statements)) t.kind p ≡ Some limit → TreeFault mode before t after (limit_at limit t.line)
+  beyond : (statements : List Statement) (p : Phrase) (limit : ℕ) → ReadsAll (reverse before) statements → Says t.kind (lexemes t) p → passed mode (ends_in before) (length before) (length (opened [] statements)) t.kind p ≡ Some limit → TreeFault mode before t after (limit_at limit t.line)
   -- a literal exponent is none
-  exponent : (p : Phrase) → Says t.kind (words t) p → form (mark_of t.mark) p ≡ None → TreeFault mode before t after (code_at 25 t.line)
+  exponent : (p : Phrase) → Says t.kind (lexemes t) p → form (mark_of t.mark) p ≡ None → TreeFault mode before t after (code_at 25 t.line)

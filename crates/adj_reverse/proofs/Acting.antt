@@ -18,7 +18,7 @@ use Rattle.adj_meaning.specs.Runtime.{steps_of, snapshots_of, kind_of, lower_of,
 use Rattle.adj_meaning.specs.Leads.{Leads, ActLeads}
 use Rattle.adj_meaning.proofs.Leadings.{leads_append, act_at_once}
 use Rattle.adj_transpose.specs.Pairs.{Key, Words, shadows, on_words}
-use Rattle.adj_transpose.specs.Lists.{Kept, scene}
+use Rattle.adj_transpose.specs.Lists.{Course, scene}
 use Rattle.adj_reverse.specs.Emission.{literal}
 use Rattle.adj_reverse.specs.Reversals.{Called, Reversal, LoopRun, times as times_called, AreReversed}
 use Rattle.adj_reverse.specs.ReversalCode.{at_turn, arms, one_action, slots_of}
@@ -74,18 +74,18 @@ module _ (q : Calls ℤ) (sh : Var → Shape) (level : ℕ) (cells : List Key) (
   pub record SnapshotPushed (i : ℕ) (f : Store ℤ) : Type 0 where
     pub snap : List ℤ
     pub is : Snap i snap
-    pub pushes : (b : Kept) (t : List ℤ) → Leads q nw keep (scene b f t) (scene b f (snap ++ t))
+    pub pushes : (b : Course) (t : List ℤ) → Leads q nw keep (scene b f t) (scene b f (snap ++ t))
 
   -- the snapshot is popped
   pub record SnapshotPopped (i : ℕ) (snap : List ℤ) (g : Store ℤ) : Type 0 where
     pub after : Store ℤ
-    pub pops : (b : Kept) (t : List ℤ) → Leads q nw back (scene b g (snap ++ t)) (scene b after t)
+    pub pops : (b : Course) (t : List ℤ) → Leads q nw back (scene b g (snap ++ t)) (scene b after t)
     pub stands : Standing i after
     pub helpers : SameHelpers g after
     pub shades : (y : List ℕ) (j : ℕ) → after (shadow y) j ≡ g (shadow y) j
 
   -- the step unit is called
-  pub record Stepped (i : ℕ) (b : Kept) (f : Store ℤ) (t : List ℤ) : Type 0 where
+  pub record Stepped (i : ℕ) (b : Course) (f : Store ℤ) (t : List ℤ) : Type 0 where
     pub after : Store ℤ
     pub shapes : List Shape
     pub right : (h : ℕ) → Kind (record { unit = unit; height = h; shapes = shapes })
@@ -95,7 +95,7 @@ module _ (q : Calls ℤ) (sh : Var → Shape) (level : ℕ) (cells : List Key) (
     pub shades : (y : List ℕ) (j : ℕ) → after (shadow y) j ≡ f (shadow y) j
 
   -- its adjoint is called
-  pub record TurnedBack (i : ℕ) (b : Kept) (f : Store ℤ) (t : List ℤ) : Type 0 where
+  pub record TurnedBack (i : ℕ) (b : Course) (f : Store ℤ) (t : List ℤ) : Type 0 where
     pub after : Store ℤ
     pub rs : List Reversal
     pub shapes : List Shape
@@ -120,8 +120,8 @@ module _ (q : Calls ℤ) (sh : Var → Shape) (level : ℕ) (cells : List Key) (
     pub snapshots : (i : ℕ) (snap : List ℤ) → Snap i snap → length snap ≡ words
     pub pushed : (i : ℕ) (f : Store ℤ) → Standing i f → SnapshotPushed i f
     pub popped : (i : ℕ) (snap : List ℤ) (g : Store ℤ) → Snap i snap → Loose g → SnapshotPopped i snap g
-    pub stepped : (i : ℕ) (b : Kept) (f : Store ℤ) (t : List ℤ) → i < l → Standing i f → AtStep i f → Stepped i b f t
-    pub turned : (i : ℕ) (b : Kept) (f : Store ℤ) (t : List ℤ) → i < l → Standing i f → AtStep i f → TurnedBack i b f t
+    pub stepped : (i : ℕ) (b : Course) (f : Store ℤ) (t : List ℤ) → i < l → Standing i f → AtStep i f → Stepped i b f t
+    pub turned : (i : ℕ) (b : Course) (f : Store ℤ) (t : List ℤ) → i < l → Standing i f → AtStep i f → TurnedBack i b f t
     -- neither looks at the loop's variable, at shadows or at helpers of its depth
     pub standing : (i : ℕ) (f g : Store ℤ) → Beside f g → Standing i f → Standing i g
     pub loose : (f g : Store ℤ) → Beside f g → Loose f → Loose g
@@ -176,7 +176,7 @@ module _ (q : Calls ℤ) (sh : Var → Shape) (level : ℕ) (cells : List Key) (
     other_adj : (z : List Shape) (h : ℕ) → times_called adj (called unit z h) ≡ 0
     other_adj z h = rw differ' refl
 
-    gives : (k : ℕ) (a : Action) (rest : List Action) (b : Kept) (f : Store ℤ) (t : List ℤ) → past k all ≡ a ∷ rest → Ready k f → ActLeads q nw (runtime (give_action (var (helper count d)) (slots_of d mark) (var (helper entry d)) (helper kind d) (helper lower d) (helper upper d))) line (scene b f t) (scene b (told a f) t)
+    gives : (k : ℕ) (a : Action) (rest : List Action) (b : Course) (f : Store ℤ) (t : List ℤ) → past k all ≡ a ∷ rest → Ready k f → ActLeads q nw (runtime (give_action (var (helper count d)) (slots_of d mark) (var (helper entry d)) (helper kind d) (helper lower d) (helper upper d))) line (scene b f t) (scene b (told a f) t)
     gives k a rest b f t at r =
         let found = at_past k all a rest at in
         act_at_once q nw line (runtime (give_action (var (helper count d)) (slots_of d mark) (var (helper entry d)) (helper kind d) (helper lower d) (helper upper d))) (scene b f t) (scene b (told a f) t)
@@ -204,7 +204,7 @@ module _ (q : Calls ℤ) (sh : Var → Shape) (level : ℕ) (cells : List Key) (
     abbrev next : Store ℤ → Store ℤ
     next f = next_store nw (helper entry d) (pos 1) f
 
-    done : (k : ℕ) (end : Store ℤ → Type 0) (ch : Words → Words) (ls : List LoopRun) (n o low high : ℕ) (a : Action) (rest : List Action) (b : Kept) (f f1 : Store ℤ) (t t1 : List ℤ) (calls : List Called) (rs : List Reversal) → past k all ≡ a ∷ rest → Ready k f →
+    done : (k : ℕ) (end : Store ℤ → Type 0) (ch : Words → Words) (ls : List LoopRun) (n o low high : ℕ) (a : Action) (rest : List Action) (b : Course) (f f1 : Store ℤ) (t t1 : List ℤ) (calls : List Called) (rs : List Reversal) → past k all ≡ a ∷ rest → Ready k f →
         Goes q nw (arms line d (plain x) keep back plain_call adjoint) b (told a f) f1 t t1 calls rs → SameFixed d (told a f) f1 → end (next f1) →
         ((y : Words) → pairing cells (shadows f1) y ≡ pairing cells (shadows f) (ch y)) → AreReversed ls rs → times_called unit calls ≡ n → times_called adj calls ≡ o → AreBetween Kind low high calls →
         Played q sh level cells action (helper entry d) unit adj Kind words Ready 1 k end ch ls n o low high b f t t1
@@ -247,7 +247,7 @@ module _ (q : Calls ℤ) (sh : Var → Shape) (level : ℕ) (cells : List Key) (
 
     -- ---- snapshots
 
-    puts : (k i low high : ℕ) (rest : List Action) (b : Kept) (f : Store ℤ) (t : List ℤ) → past k all ≡ Put i ∷ rest → Ready k f → Standing i f → Taken q sh level cells action (helper entry d) unit adj Kind words Ready all l Standing Loose Snap change loops k i low high b f t
+    puts : (k i low high : ℕ) (rest : List Action) (b : Course) (f : Store ℤ) (t : List ℤ) → past k all ≡ Put i ∷ rest → Ready k f → Standing i f → Taken q sh level cells action (helper entry d) unit adj Kind words Ready all l Standing Loose Snap change loops k i low high b f t
     puts k i low high rest b f t at r h =
         let f1 = told (Put i) f in
         let p = s.pushed i f1 (stands_told i (Put i) f h) in
@@ -259,7 +259,7 @@ module _ (q : Calls ℤ) (sh : Var → Shape) (level : ℕ) (cells : List Key) (
               (same_refl f1) (stands_next i f1 (stands_told i (Put i) f h)) (λ y. refl) tt refl refl tt;
         }
 
-    drops : (k i low high : ℕ) (rest : List Action) (b : Kept) (f : Store ℤ) (snap t : List ℤ) → past k all ≡ Drop i ∷ rest → Ready k f → Loose f → Snap i snap → Played q sh level cells action (helper entry d) unit adj Kind words Ready 1 k (Standing i) (λ y. y) [] 0 0 low high b f (snap ++ t) t
+    drops : (k i low high : ℕ) (rest : List Action) (b : Course) (f : Store ℤ) (snap t : List ℤ) → past k all ≡ Drop i ∷ rest → Ready k f → Loose f → Snap i snap → Played q sh level cells action (helper entry d) unit adj Kind words Ready 1 k (Standing i) (λ y. y) [] 0 0 low high b f (snap ++ t) t
     drops k i low high rest b f snap t at r h is =
         let f1 = told (Drop i) f in
         let p = s.popped i snap f1 is (s.loose f f1 (told_beside (Drop i) f) h) in
@@ -267,7 +267,7 @@ module _ (q : Calls ℤ) (sh : Var → Shape) (level : ℕ) (cells : List Key) (
         (do_5 q sh level line d (plain x) keep back plain_call adjoint b f1 p.after (snap ++ t) t [] [] (told_kind (Drop i) f) (goes_leads q nw back b f1 p.after (snap ++ t) t (p.pops b t)))
         (fixed_of d f1 p.after p.helpers) (stands_next i p.after p.stands) (λ y. ap (λ z. pairing cells z y) (λ i x. p.shades x.0 x.1 i)) tt refl refl tt
 
-    keeps : (k i low high : ℕ) (rest : List Action) (b : Kept) (f : Store ℤ) (snap t : List ℤ) → past k all ≡ Keep i ∷ rest → Ready k f → Loose f → Snap i snap → Renewed q sh level cells action (helper entry d) unit adj Kind words Ready all l Standing Loose Snap change loops k i low high b f (snap ++ t) t
+    keeps : (k i low high : ℕ) (rest : List Action) (b : Course) (f : Store ℤ) (snap t : List ℤ) → past k all ≡ Keep i ∷ rest → Ready k f → Loose f → Snap i snap → Renewed q sh level cells action (helper entry d) unit adj Kind words Ready all l Standing Loose Snap change loops k i low high b f (snap ++ t) t
     keeps k i low high rest b f snap t at r h is =
         let f1 = told (Keep i) f in
         let p = s.popped i snap f1 is (s.loose f f1 (told_beside (Keep i) f) h) in
@@ -283,7 +283,7 @@ module _ (q : Calls ℤ) (sh : Var → Shape) (level : ℕ) (cells : List Key) (
 
     -- ---- the adjoint of a step
 
-    turns_done : (k i : ℕ) (rest : List Action) (b : Kept) (f : Store ℤ) (t : List ℤ) → past k all ≡ Turn i ∷ rest → i < l → Ready k f → Standing i f → Played q sh level cells action (helper entry d) unit adj Kind words Ready 1 k Loose (change i) (loops i) 0 1 (length t) (length t) b f t t
+    turns_done : (k i : ℕ) (rest : List Action) (b : Course) (f : Store ℤ) (t : List ℤ) → past k all ≡ Turn i ∷ rest → i < l → Ready k f → Standing i f → Played q sh level cells action (helper entry d) unit adj Kind words Ready 1 k Loose (change i) (loops i) 0 1 (length t) (length t) b f t t
     turns_done k i rest b f t at less r h =
         let f1 = told (Turn i) f in
         let v = add (f1 (helper first d) 0) (mul (f1 (helper lower d) 0) (f1 (helper stride d) 0)) in
@@ -300,7 +300,7 @@ module _ (q : Calls ℤ) (sh : Var → Shape) (level : ℕ) (cells : List Key) (
 
     -- ---- the calls of an advance
 
-    record Advanced (n i : ℕ) (b : Kept) (f : Store ℤ) (t : List ℤ) : Type 0 where
+    record Advanced (n i : ℕ) (b : Course) (f : Store ℤ) (t : List ℤ) : Type 0 where
       after : Store ℤ
       calls : List Called
       goes : TurnsGo q nw n (at_turn line d (plain x) turn plain_call) (helper turn d) (pos 1) b f after t t calls []
@@ -311,7 +311,7 @@ module _ (q : Calls ℤ) (sh : Var → Shape) (level : ℕ) (cells : List Key) (
       adjs : times_called adj calls ≡ 0
       within : AreBetween Kind (length t) (length t) calls
 
-    advanced : (n i : ℕ) (b : Kept) (f : Store ℤ) (t : List ℤ) → i + n < l → f (helper turn d) 0 ≡ pos i → f (helper first d) 0 ≡ a0 → f (helper stride d) 0 ≡ c0 → Standing i f → Advanced n i b f t
+    advanced : (n i : ℕ) (b : Course) (f : Store ℤ) (t : List ℤ) → i + n < l → f (helper turn d) 0 ≡ pos i → f (helper first d) 0 ≡ a0 → f (helper stride d) 0 ≡ c0 → Standing i f → Advanced n i b f t
     advanced zero i b f t less number_is first_is stride_is h = record {
       after = f;
       calls = [];
@@ -359,7 +359,7 @@ module _ (q : Calls ℤ) (sh : Var → Shape) (level : ℕ) (cells : List Key) (
         let ok : nat_le n 9223372036854775807 ≡ true = grind arith in
         rw many (rw ok refl)
 
-    advances_done : (k i n : ℕ) (rest : List Action) (b : Kept) (f : Store ℤ) (t : List ℤ) → past k all ≡ Advance i (i + n) ∷ rest → i + n < l → Ready k f → Standing i f → Played q sh level cells action (helper entry d) unit adj Kind words Ready 1 k (Standing (i + n)) (λ y. y) [] n 0 (length t) (length t) b f t t
+    advances_done : (k i n : ℕ) (rest : List Action) (b : Course) (f : Store ℤ) (t : List ℤ) → past k all ≡ Advance i (i + n) ∷ rest → i + n < l → Ready k f → Standing i f → Played q sh level cells action (helper entry d) unit adj Kind words Ready 1 k (Standing (i + n)) (λ y. y) [] n 0 (length t) (length t) b f t t
     advances_done k i n rest b f t at less r h =
         let f1 = told (Advance i (i + n)) f in
         let word : wrap (pos i) ≡ pos i = wrap_word (pos i) (word-count i (omega arith)) in

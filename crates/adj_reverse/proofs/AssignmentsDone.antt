@@ -19,7 +19,7 @@ use Rattle.adj_transpose.specs.Marks.{Vars, Marks, point_before, point_after, ac
 use Rattle.adj_transpose.specs.Facts.{whole, Facts}
 use Rattle.adj_transpose.specs.Naming.{AreApart}
 use Rattle.adj_transpose.specs.Pairs.{Key, key_eq, Words, with_tangents, on_words, on_duals}
-use Rattle.adj_transpose.specs.Lists.{Kept, scene}
+use Rattle.adj_transpose.specs.Lists.{Course, scene}
 use Rattle.adj_reverse.specs.Emission.{forward_act, backward_act}
 use Rattle.adj_reverse.specs.Laws.{CalleeFacts, AssignmentLaws}
 use Rattle.adj_reverse.specs.Passing.{plainly}
@@ -114,7 +114,7 @@ module _ (p q : Calls ℤ) (lines : ReversedLines) (qd : Calls (ℤ × ℤ)) (ca
             λ j. (n j, z j)
         go (more a rest) is h = cc
 
-    dual_assign : (home : Kept) (y : Words) (t : List (ℤ × ℤ)) → Passes lines qd nd (one line (assign (plain x) subs e)) home (with_tangents u y) (with_tangents (set u (plain x) c (num sh e u)) (put key_eq y at (tan sh e u y))) t []
+    dual_assign : (home : Course) (y : Words) (t : List (ℤ × ℤ)) → Passes lines qd nd (one line (assign (plain x) subs e)) home (with_tangents u y) (with_tangents (set u (plain x) c (num sh e u)) (put key_eq y at (tan sh e u y))) t []
     dual_assign home y t =
         let pv : ℤ × ℤ = (num sh e u, tan sh e u y) in
         let s1 = set (with_tangents u y) (plain x) c pv in

@@ -19,7 +19,7 @@ use Rattle.adj_meaning.proofs.Leadings.{leads_stop, leads_append, leads_assign}
 use Rattle.adj_transpose.specs.Marks.{Vars}
 use Rattle.adj_transpose.specs.Marked.{count_of, own_or, code_if, work_var}
 use Rattle.adj_transpose.specs.Pairs.{Key, key_eq, Words, shadows, SamePlain, on_words}
-use Rattle.adj_transpose.specs.Lists.{Kept, scene, masked}
+use Rattle.adj_transpose.specs.Lists.{Course, scene, masked}
 use Rattle.adj_transpose.proofs.Variables.{key_same}
 use Rattle.adj_transpose.proofs.Steps.{assigns}
 use Rattle.adj_transpose.proofs.Back.{SameUpTo, Adds}
@@ -53,7 +53,7 @@ first_power w u x =
     let one : mul (pos 1) (power u 0) ≡ pos 1 = one-mul_word (power u 0) (word-wrap _) ∙ power-zero u in
     ap (λ z. mul w (mul z x)) one ∙ ap (mul w) (one-mul x) ∙ wrap-mul_right w x
 
-module _ (on : Vars) (q : Calls ℤ) (sh : Var → Shape) (level : ℕ) (base : Kept) (xs : List Key) (vars : List (List ℕ)) where
+module _ (on : Vars) (q : Calls ℤ) (sh : Var → Shape) (level : ℕ) (base : Course) (xs : List Key) (vars : List (List ℕ)) where
   -- nothing to add
   adds_none : (k : ℕ) (s : Store ℤ) (t : List ℤ) (g : Words → ℤ) → ((d : Words) → g d ≡ pos 0) → Adds q sh level base xs stop k s t g
   adds_none k s t g z = record {

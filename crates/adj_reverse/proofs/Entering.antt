@@ -19,7 +19,7 @@ use Rattle.adj_meaning.proofs.WriteSets.{handed_written}
 use Rattle.adj_meaning.proofs.Frames.{keeps_others}
 use Rattle.adj_meaning.proofs.Costs.{leads_where_done}
 use Rattle.adj_transpose.specs.Marks.{Vars}
-use Rattle.adj_transpose.specs.Lists.{Kept, scene}
+use Rattle.adj_transpose.specs.Lists.{Course, scene}
 use Rattle.adj_reverse.specs.Reversals.{Reversal, LoopRun, TellsCalls, Marks, ReversedLines}
 use Rattle.adj_reverse.proofs.Told.{tells_called, tells_entered, marks_called, tells_of_marks}
 use Rattle.adj_reverse.specs.Runs.{Comes, ActComes, Passes}
@@ -80,14 +80,14 @@ pulled_done r (More w) s k h = cc
 pulled_done r (Full w) s k h = cc
 
 -- a call in the program: what it tells of loops, and as a call
-pub record CallPasses {C : Type 0} (lines : ReversedLines) (q : Calls C) (n : Setting C) (name : List ℕ) (args : Terms) (line : ℕ) (base : Kept) (s s' : Store C) (t : List C) (loops : List LoopRun) (shapes : List Shape) : Type 0 where
-  pub later : Kept
+pub record CallPasses {C : Type 0} (lines : ReversedLines) (q : Calls C) (n : Setting C) (name : List ℕ) (args : Terms) (line : ℕ) (base : Course) (s s' : Store C) (t : List C) (loops : List LoopRun) (shapes : List Shape) : Type 0 where
+  pub later : Course
   pub marks : Marks lines n.level base later loops
   pub calls : TellsCalls n.level base later (record { unit = name; height = length t; shapes = shapes } ∷ []) []
   pub runs : ActLeads q n (call name args) line (scene base s t) (scene later s' t)
 
 -- what is kept at a unit's entry
-abbrev pub kept_at : {C : Type 0} → Setting C → Procedure → List Shape → Kept → List C → Kept
+abbrev pub kept_at : {C : Type 0} → Setting C → Procedure → List Shape → Course → List C → Course
 kept_at n u shapes base t = record { opened = 0; events = Enter u.name (suc n.level) (length t) shapes ∷ base.events }
 
 module _ {C : Type 0} (units : List Procedure) (depth : ℕ) (n : Setting C) (name : List ℕ) (u : Procedure) (found : find_unit units name ≡ Some u) (r : Var → Var) (sep : Separates r) (bs : Bindings) (named : AreNamed r u.dummies bs) (s : Store C) where
@@ -95,11 +95,11 @@ module _ {C : Type 0} (units : List Procedure) (depth : ℕ) (n : Setting C) (na
   abbrev pub entry : Store C
   entry = entry_store n.numbers u.dummies (actuals_at n s bs)
 
-  abbrev pub entered_at : Kept → List C → Kept
+  abbrev pub entered_at : Course → List C → Course
   entered_at base t = kept_at n u (dummy_shapes (setting_in n u entry) u) base t
 
   -- where the dummies fit and the body comes to an end under the other names, so does the call
-  call_leads : (c : Code) → u.body ≡ rename r c → (line : ℕ) (base later : Kept) (t t' : List C) (end : Store C) → dummies_fit n.numbers u entry u.dummies (actuals_at n s bs) ≡ true → later.opened ≡ 0 → (b : Leads (calls_of units depth) (pulled_setting r (setting_in n u entry)) c (scene (entered_at base t) (passed_in (n.numbers.of_word (pos 0)) bs s) t) (scene later end t')) → ActLeads (calls_of units (suc depth)) n (call name (actuals_in bs)) line (scene base s t) (scene (record { opened = base.opened; events = later.events }) (passed_out (writes_as units u r) bs end s) t')
+  call_leads : (c : Code) → u.body ≡ rename r c → (line : ℕ) (base later : Course) (t t' : List C) (end : Store C) → dummies_fit n.numbers u entry u.dummies (actuals_at n s bs) ≡ true → later.opened ≡ 0 → (b : Leads (calls_of units depth) (pulled_setting r (setting_in n u entry)) c (scene (entered_at base t) (passed_in (n.numbers.of_word (pos 0)) bs s) t) (scene later end t')) → ActLeads (calls_of units (suc depth)) n (call name (actuals_in bs)) line (scene base s t) (scene (record { opened = base.opened; events = later.events }) (passed_out (writes_as units u r) bs end s) t')
   call_leads c is line base later t t' end fit none b = record {
     cost = body.cost;
     by = λ k.
@@ -142,7 +142,7 @@ module _ {C : Type 0} (units : List Procedure) (depth : ℕ) (n : Setting C) (na
           ∙ copied_pulled n units u r u.dummies bs s ended.end.store s named
           ∙ ap (λ (z : Scene C). passed_out (writes_as units u r) bs z.store s) ended.same
 
-  pub call_comes : {rs : List Reversal} (c : Code) → u.body ≡ rename r c → (line : ℕ) (base : Kept) (t t' : List C) (end : Store C) → dummies_fit n.numbers u entry u.dummies (actuals_at n s bs) ≡ true → Comes (calls_of units depth) (pulled_setting r (setting_in n u entry)) c (entered_at base t) (passed_in (n.numbers.of_word (pos 0)) bs s) end t t' rs → ActComes (calls_of units (suc depth)) n (call name (actuals_in bs)) line base s (passed_out (writes_as units u r) bs end s) t t' rs
+  pub call_comes : {rs : List Reversal} (c : Code) → u.body ≡ rename r c → (line : ℕ) (base : Course) (t t' : List C) (end : Store C) → dummies_fit n.numbers u entry u.dummies (actuals_at n s bs) ≡ true → Comes (calls_of units depth) (pulled_setting r (setting_in n u entry)) c (entered_at base t) (passed_in (n.numbers.of_word (pos 0)) bs s) end t t' rs → ActComes (calls_of units (suc depth)) n (call name (actuals_in bs)) line base s (passed_out (writes_as units u r) bs end s) t t' rs
   call_comes {rs} c is line base t t' end fit b = record {
     later = record { opened = base.opened; events = b.later.events };
     tells = tells_called n.level (length t) u.name (dummy_shapes (setting_in n u entry) u) base b.later rs b.tells;
@@ -150,14 +150,14 @@ module _ {C : Type 0} (units : List Procedure) (depth : ℕ) (n : Setting C) (na
   }
 
   -- the same with what the call tells: one entry, and the reversals of the body
-  pub call_goes : {rs : List Reversal} (c : Code) → u.body ≡ rename r c → (line : ℕ) (base : Kept) (t t' : List C) (end : Store C) → dummies_fit n.numbers u entry u.dummies (actuals_at n s bs) ≡ true → Comes (calls_of units depth) (pulled_setting r (setting_in n u entry)) c (entered_at base t) (passed_in (n.numbers.of_word (pos 0)) bs s) end t t' rs → ActGoes (calls_of units (suc depth)) n (call name (actuals_in bs)) line base s (passed_out (writes_as units u r) bs end s) t t' (record { unit = name; height = length t; shapes = dummy_shapes (setting_in n u entry) u } ∷ []) rs
+  pub call_goes : {rs : List Reversal} (c : Code) → u.body ≡ rename r c → (line : ℕ) (base : Course) (t t' : List C) (end : Store C) → dummies_fit n.numbers u entry u.dummies (actuals_at n s bs) ≡ true → Comes (calls_of units depth) (pulled_setting r (setting_in n u entry)) c (entered_at base t) (passed_in (n.numbers.of_word (pos 0)) bs s) end t t' rs → ActGoes (calls_of units (suc depth)) n (call name (actuals_in bs)) line base s (passed_out (writes_as units u r) bs end s) t t' (record { unit = name; height = length t; shapes = dummy_shapes (setting_in n u entry) u } ∷ []) rs
   call_goes {rs} c is line base t t' end fit b = record {
     later = record { opened = base.opened; events = b.later.events };
     tells = subst (λ z. TellsCalls n.level base (record { opened = base.opened; events = b.later.events }) (record { unit = z; height = length t; shapes = dummy_shapes (setting_in n u entry) u } ∷ []) rs) (found_there units name u found).1 (tells_entered n.level (length t) u.name (dummy_shapes (setting_in n u entry) u) base b.later rs b.tells);
     runs = call_leads c is line base b.later t t' end fit b.tells.opened b.runs;
   }
 
-  pub call_passes : (lines : ReversedLines) (loops : List LoopRun) (c : Code) → u.body ≡ rename r c → (line : ℕ) (base : Kept) (t : List C) (end : Store C) → dummies_fit n.numbers u entry u.dummies (actuals_at n s bs) ≡ true → Passes lines (calls_of units depth) (pulled_setting r (setting_in n u entry)) c (entered_at base t) (passed_in (n.numbers.of_word (pos 0)) bs s) end t loops → CallPasses lines (calls_of units (suc depth)) n name (actuals_in bs) line base s (passed_out (writes_as units u r) bs end s) t loops (dummy_shapes (setting_in n u entry) u)
+  pub call_passes : (lines : ReversedLines) (loops : List LoopRun) (c : Code) → u.body ≡ rename r c → (line : ℕ) (base : Course) (t : List C) (end : Store C) → dummies_fit n.numbers u entry u.dummies (actuals_at n s bs) ≡ true → Passes lines (calls_of units depth) (pulled_setting r (setting_in n u entry)) c (entered_at base t) (passed_in (n.numbers.of_word (pos 0)) bs s) end t loops → CallPasses lines (calls_of units (suc depth)) n name (actuals_in bs) line base s (passed_out (writes_as units u r) bs end s) t loops (dummy_shapes (setting_in n u entry) u)
   call_passes lines loops c is line base t end fit b = record {
     later = record { opened = base.opened; events = b.later.events };
     marks = marks_called lines n.level (length t) u.name (dummy_shapes (setting_in n u entry) u) base b.later loops b.tells;
@@ -166,7 +166,7 @@ module _ {C : Type 0} (units : List Procedure) (depth : ℕ) (n : Setting C) (na
   }
 
   -- what the unit doesn't write is at the end as it was handed in
-  pub call_keeps : {rs : List Reversal} (c : Code) → u.body ≡ rename r c → (base : Kept) (t t' : List C) (end : Store C) → Comes (calls_of units depth) (pulled_setting r (setting_in n u entry)) c (kept_at n u (dummy_shapes (setting_in n u entry) u) base t) (passed_in (n.numbers.of_word (pos 0)) bs s) end t t' rs → (v : Var) (d : List ℕ) → r v ≡ plain d → is_written units u d ≡ false → (j : ℕ) → end v j ≡ passed_in (n.numbers.of_word (pos 0)) bs s v j
+  pub call_keeps : {rs : List Reversal} (c : Code) → u.body ≡ rename r c → (base : Course) (t t' : List C) (end : Store C) → Comes (calls_of units depth) (pulled_setting r (setting_in n u entry)) c (kept_at n u (dummy_shapes (setting_in n u entry) u) base t) (passed_in (n.numbers.of_word (pos 0)) bs s) end t t' rs → (v : Var) (d : List ℕ) → r v ≡ plain d → is_written units u d ≡ false → (j : ℕ) → end v j ≡ passed_in (n.numbers.of_word (pos 0)) bs s v j
   call_keeps c is base t t' end b v d named_as unwritten j =
       let start : Scene C = scene (kept_at n u (dummy_shapes (setting_in n u entry) u) base t) entry t in
       let inside : Setting C = setting_in n u entry in

@@ -5,7 +5,7 @@ use Rattle.adj_tree.specs.Code.{Var, Code, stop}
 use Rattle.adj_meaning.specs.Store.{Shape, Store}
 use Rattle.adj_meaning.specs.Run.{Calls}
 use Rattle.adj_transpose.specs.Pairs.{on_words}
-use Rattle.adj_transpose.specs.Lists.{Kept}
+use Rattle.adj_transpose.specs.Lists.{Course}
 use Rattle.adj_reverse.specs.Plan.{Plan}
 use Rattle.adj_reverse.specs.Emission.{pushes, pops}
 use Rattle.adj_reverse.specs.Runs.{Comes}
@@ -15,7 +15,7 @@ pub use Rattle.adj_reverse.proofs.Snapshots.{KnowsArrays, is_one_of, Restored}
 
 module _ (q : Calls ℤ) (sh : Var → Shape) (level : ℕ) (p : Plan) (line : ℕ) where
   -- what is popped
-  pub record Popped (xs : List (List ℕ)) (c : Code) (base : Kept) (f g : Store ℤ) (t t' : List ℤ) : Type 0 where
+  pub record Popped (xs : List (List ℕ)) (c : Code) (base : Course) (f g : Store ℤ) (t t' : List ℤ) : Type 0 where
     pub after : Store ℤ
     pub runs : Comes q (on_words sh level) c base g after t t' []
     pub restored : Restored sh xs f g after
@@ -23,8 +23,8 @@ module _ (q : Calls ℤ) (sh : Var → Shape) (level : ℕ) (p : Plan) (line : �
   -- these are pushed by one code, and popped by another
   pub record Pushed (xs : List (List ℕ)) (push pop : Code) (f : Store ℤ) : Type 0 where
     pub trail : List ℤ
-    pub pushed : (base : Kept) (t : List ℤ) → Comes q (on_words sh level) push base f f t (trail ++ t) []
-    pub popped : (base : Kept) (g : Store ℤ) (t : List ℤ) → Popped xs pop base f g (trail ++ t) t
+    pub pushed : (base : Course) (t : List ℤ) → Comes q (on_words sh level) push base f f t (trail ++ t) []
+    pub popped : (base : Course) (g : Store ℤ) (t : List ℤ) → Popped xs pop base f g (trail ++ t) t
 
   -- a group whose pushes and pops tell nothing
   come : (xs : List (List ℕ)) (push pop : Code) (f : Store ℤ) → snapshots.Pushed q sh level p line xs push pop f → Pushed xs push pop f

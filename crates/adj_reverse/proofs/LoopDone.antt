@@ -14,7 +14,7 @@ use Rattle.adj_transpose.specs.Marks.{Vars, Marks, point_before, point_after}
 use Rattle.adj_transpose.specs.Marked.{code_if}
 use Rattle.adj_transpose.specs.Facts.{In, without, joined, Facts}
 use Rattle.adj_transpose.specs.Pairs.{Key, key_eq, Words, shadows, with_tangents, on_words, on_duals}
-use Rattle.adj_transpose.specs.Lists.{Kept}
+use Rattle.adj_transpose.specs.Lists.{Course}
 use Rattle.adj_transpose.proofs.Variables.{or_false, and_true}
 use Rattle.adj_reverse.specs.Plan.{Plan, Schedules, Step, found_or}
 use Rattle.adj_reverse.specs.ReversalCode.{row_forward, row_backward}
@@ -88,7 +88,7 @@ module _ (sc : Schedules) (p q : Calls ℤ) (lines : ReversedLines) (qd : Calls 
     abbrev derivative : Words → Words
     derivative y = l.tangents.derivative (put key_eq y (x, 0) (pos 0))
 
-    dual_loop : (home : Kept) (y : Words) (t : List (ℤ × ℤ)) → Passes lines qd nd this home (with_tangents u y) (with_tangents u' (derivative y)) t l.tangents.loops
+    dual_loop : (home : Course) (y : Words) (t : List (ℤ × ℤ)) → Passes lines qd nd this home (with_tangents u y) (with_tangents u' (derivative y)) t l.tangents.loops
     dual_loop home y t =
         let va = value_dual (plainly sh) level u y ea a0 is_a in
         let vb = value_dual (plainly sh) level u y eb b0 is_b in
@@ -148,7 +148,7 @@ module _ (sc : Schedules) (p q : Calls ℤ) (lines : ReversedLines) (qd : Calls 
               };
         })
       where
-        row_of : present ≡ true → (b : Kept) (f : Store ℤ) (t0 : List ℤ) → m.kept i ≡ true → SameOn sh (w.needed (point_before i)) u f → Row q sh level xs d x wrote (w.needed (point_inside i)) (w.held (point_inside i)) (loop_forward (is_empty Bb) (suc d) line (plain x) ea eb ec Fb) (loop_backward (is_empty Bb) (suc d) line (plain x) Bb) b u' f t0 l.tangents.change l.tangents.loops
+        row_of : present ≡ true → (b : Course) (f : Store ℤ) (t0 : List ℤ) → m.kept i ≡ true → SameOn sh (w.needed (point_before i)) u f → Row q sh level xs d x wrote (w.needed (point_inside i)) (w.held (point_inside i)) (loop_forward (is_empty Bb) (suc d) line (plain x) ea eb ec Fb) (loop_backward (is_empty Bb) (suc d) line (plain x) Bb) b u' f t0 l.tangents.change l.tangents.loops
         row_of pr b f t0 ek s = at_present present pr l
           where
             at_present : (z : Bool) → z ≡ true → (l : Looped p q lines qd sh level xs w d z i line x one_cell ea eb ec body Fb Bb laws wr spares inert a0 c0 n 0 (set u (plain x) 0 (wrap a0)) u') → Row q sh level xs d x wrote (w.needed (point_inside i)) (w.held (point_inside i)) (loop_forward (is_empty Bb) (suc d) line (plain x) ea eb ec Fb) (loop_backward (is_empty Bb) (suc d) line (plain x) Bb) b u' f t0 l.tangents.change l.tangents.loops

@@ -16,7 +16,7 @@ use Rattle.adj_transpose.specs.Marks.{Vars, Marks, point_before}
 use Rattle.adj_transpose.specs.Marked.{code_if}
 use Rattle.adj_transpose.specs.Facts.{In, Within}
 use Rattle.adj_transpose.specs.Pairs.{Key, key_eq, Words, shadows, on_words}
-use Rattle.adj_transpose.specs.Lists.{Kept, scene}
+use Rattle.adj_transpose.specs.Lists.{Course, scene}
 use Rattle.adj_transpose.proofs.Variables.{key_same}
 use Rattle.adj_reverse.specs.Emission.{literal, resets}
 use Rattle.adj_reverse.specs.ReversedRow.{ReversedRow}
@@ -57,7 +57,7 @@ module _ (q : Calls ℤ) (sh : Var → Shape) (level : ℕ) (xs : List Key) (apa
   abbrev reset_code : Bool → Code
   reset_code r = code_if r (one line (assign (shadow x) none (literal 0)))
 
-  reset_comes : (r : Bool) (b : Kept) (g : Store ℤ) (t : List ℤ) → Comes q nw (reset_code r) b g (if r then set g (shadow x) 0 (pos 0) else g) t t []
+  reset_comes : (r : Bool) (b : Course) (g : Store ℤ) (t : List ℤ) → Comes q nw (reset_code r) b g (if r then set g (shadow x) 0 (pos 0) else g) t t []
   reset_comes true b g t =
       comes_leads q nw (one line (assign (shadow x) none (literal 0))) b g (set g (shadow x) 0 (pos 0)) t t
       (leads_step q nw line (assign (shadow x) none (literal 0)) stop (scene b g t) (scene b (set g (shadow x) 0 (pos 0)) t) (scene b (set g (shadow x) 0 (pos 0)) t) (λ k. refl) (leads_stop q nw (scene b (set g (shadow x) 0 (pos 0)) t)))
@@ -89,7 +89,7 @@ module _ (q : Calls ℤ) (sh : Var → Shape) (level : ℕ) (xs : List Key) (apa
   saved_words true f = f (plain x) 0 ∷ []
   saved_words false f = []
 
-  push_comes : (v : Bool) (b : Kept) (f : Store ℤ) (t : List ℤ) → Comes q nw (pushing v) b f f t (saved_words v f ++ t) []
+  push_comes : (v : Bool) (b : Course) (f : Store ℤ) (t : List ℤ) → Comes q nw (pushing v) b f f t (saved_words v f ++ t) []
   push_comes true b f t =
       comes_leads q nw (pushing true) b f f t (f (plain x) 0 ∷ t)
       (leads_step q nw line (runtime (push_word (plain x) none)) stop (scene b f t) (scene b f (f (plain x) 0 ∷ t)) (scene b f (f (plain x) 0 ∷ t)) (λ k. refl) (leads_stop q nw (scene b f (f (plain x) 0 ∷ t))))
@@ -99,7 +99,7 @@ module _ (q : Calls ℤ) (sh : Var → Shape) (level : ℕ) (xs : List Key) (apa
   popped_store true f g = set g (plain x) 0 (f (plain x) 0)
   popped_store false f g = g
 
-  pop_comes : (v : Bool) (b : Kept) (f g : Store ℤ) (t : List ℤ) → Comes q nw (popping v) b g (popped_store v f g) (saved_words v f ++ t) t []
+  pop_comes : (v : Bool) (b : Course) (f g : Store ℤ) (t : List ℤ) → Comes q nw (popping v) b g (popped_store v f g) (saved_words v f ++ t) t []
   pop_comes true b f g t =
       comes_leads q nw (popping true) b g (popped_store true f g) (f (plain x) 0 ∷ t) t
       (leads_step q nw line (runtime (pop_word (plain x) none)) stop (scene b g (f (plain x) 0 ∷ t)) (scene b (popped_store true f g) t) (scene b (popped_store true f g) t) (λ k. refl) (leads_stop q nw (scene b (popped_store true f g) t)))
@@ -133,7 +133,7 @@ module _ (q : Calls ℤ) (sh : Var → Shape) (level : ℕ) (xs : List Key) (apa
 
   -- the sweeps of the statement, by those of its turns
   pub ended_sweeps : (d : ℕ) (needed needed_in needed_after held_before held_after wrote : Vars) (forth back : Code) (u u' : Store ℤ) (change : Words → Words) (loops : List LoopRun) (v r : Bool) → (In (plain x) held_before → v ≡ true) → Within needed_after needed_in → ((y : List ℕ) → wrote (plain y) ≡ false → name_eq y x ≡ false) →
-      ((b : Kept) (f : Store ℤ) (t : List ℤ) → SameOn sh needed u f → ReversedRow q sh level xs d x wrote needed_in held_after held_before forth back b u' f t change loops) →
+      ((b : Course) (f : Store ℤ) (t : List ℤ) → SameOn sh needed u f → ReversedRow q sh level xs d x wrote needed_in held_after held_before forth back b u' f t change loops) →
       Sweeps q sh level xs d (pushing v +++ forth) (back +++ (popping v +++ reset_code r)) needed needed_after held_before held_after wrote u u' (λ z. change (reset_words sh x one_cell r z)) loops
   ended_sweeps d needed needed_in needed_after held_before held_after wrote forth back u u' change loops v r saves exits other rows = record {
     way = λ b f t s.

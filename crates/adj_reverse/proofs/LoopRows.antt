@@ -15,7 +15,7 @@ use Rattle.adj_meaning.proofs.Leadings.{leads_stop, leads_step}
 use Rattle.adj_transpose.specs.Marks.{Vars, point_before}
 use Rattle.adj_transpose.specs.Facts.{In, Within, joined, Facts}
 use Rattle.adj_transpose.specs.Pairs.{Key, Words, shadows, on_words}
-use Rattle.adj_transpose.specs.Lists.{Kept, scene}
+use Rattle.adj_transpose.specs.Lists.{Course, scene}
 use Rattle.adj_transpose.proofs.Variables.{or_left, or_right}
 use Rattle.adj_transpose.proofs.Turned.{SameDepth}
 use Rattle.adj_reverse.specs.Emission.{is_empty, literal, push_own, loop_forward, loop_backward}
@@ -32,7 +32,7 @@ use Rattle.adj_reverse.proofs.Loops.{loop_comes, Turning, turning, trips_back, s
 use Rattle.adj_reverse.proofs.LoopStatements.{Looped}
 
 -- what comes back of a loop in the backward sweep, from the store g
-pub record RowBack (q : Calls ℤ) (sh : Var → Shape) (level : ℕ) (xs : List Key) (d : ℕ) (x : List ℕ) (wrote held : Vars) (c : Code) (base : Kept) (f g : Store ℤ) (t t' : List ℤ) (change : Words → Words) (loops : List LoopRun) : Type 0 where
+pub record RowBack (q : Calls ℤ) (sh : Var → Shape) (level : ℕ) (xs : List Key) (d : ℕ) (x : List ℕ) (wrote held : Vars) (c : Code) (base : Course) (f g : Store ℤ) (t t' : List ℤ) (change : Words → Words) (loops : List LoopRun) : Type 0 where
   pub after : Store ℤ
   pub reversals : List Reversal
   pub reversed : AreReversed loops reversals
@@ -44,7 +44,7 @@ pub record RowBack (q : Calls ℤ) (sh : Var → Shape) (level : ℕ) (xs : List
   pub depth : SameDepth d g after
 
 -- the loop itself in both sweeps, from the store f
-pub record Row (q : Calls ℤ) (sh : Var → Shape) (level : ℕ) (xs : List Key) (d : ℕ) (x : List ℕ) (wrote needed held : Vars) (forth back : Code) (base : Kept) (u' f : Store ℤ) (t : List ℤ) (change : Words → Words) (loops : List LoopRun) : Type 0 where
+pub record Row (q : Calls ℤ) (sh : Var → Shape) (level : ℕ) (xs : List Key) (d : ℕ) (x : List ℕ) (wrote needed held : Vars) (forth back : Code) (base : Course) (u' f : Store ℤ) (t : List ℤ) (change : Words → Words) (loops : List LoopRun) : Type 0 where
   pub to : Store ℤ
   pub trail : List ℤ
   pub runs : Comes q (on_words sh level) forth base f to t (trail ++ t) []
@@ -52,7 +52,7 @@ pub record Row (q : Calls ℤ) (sh : Var → Shape) (level : ℕ) (xs : List Key
   pub off : SameOff wrote f to
   pub shadows : (y : List ℕ) (j : ℕ) → to (shadow y) j ≡ f (shadow y) j
   pub depth : SameDepth d f to
-  pub returns : (b : Kept) (g : Store ℤ) → SameOn sh held to g → RowBack q sh level xs d x wrote held back b f g (trail ++ t) t change loops
+  pub returns : (b : Course) (g : Store ℤ) → SameOn sh held to g → RowBack q sh level xs d x wrote held back b f g (trail ++ t) t change loops
 
 module _ (p q : Calls ℤ) (lines : ReversedLines) (qd : Calls (ℤ × ℤ)) (sh : Var → Shape) (level : ℕ) (xs : List Key) (w : Facts) (d : ℕ) (i line : ℕ) (x : List ℕ) (one_cell : size_of (sh (plain x)) ≡ 1) (ea eb ec : Term) (body Fb Bb : Code) (laws : LoopLaws w i (plain x) ea eb ec body) (text_a : AllText (λ v. reads_term v ea)) (text_b : AllText (λ v. reads_term v eb)) (text_c : AllText (λ v. reads_term v ec)) (wr : Vars) (spares : wr (plain x) ≡ false) (inert : Bool) (a0 b0 c0 : ℤ) (m : ℕ) (mark : Mark) (u u' : Store ℤ)
     (is_a : value (on_words (plainly sh) level) ea u ≡ Ok a0) (is_b : value (on_words (plainly sh) level) eb u ≡ Ok b0) (is_c : value (on_words (plainly sh) level) ec u ≡ Ok c0) (turns_is : trips mark a0 b0 c0 ≡ Ok m) (kept : w.marks.kept i ≡ true)
@@ -93,7 +93,7 @@ module _ (p q : Calls ℤ) (lines : ReversedLines) (qd : Calls (ℤ × ℤ)) (sh
 
   -- ---- the body has no backward sweep
 
-  silent_row : Bb ≡ stop → (b : Kept) (f : Store ℤ) (t0 : List ℤ) → SameOn sh needed u f → Row q sh level xs d x wrote (w.needed n_in) (w.held n_in) (loop_forward true (suc d) line (plain x) ea eb ec Fb) (loop_backward true (suc d) line (plain x) Bb) b u' f t0 l.tangents.change l.tangents.loops
+  silent_row : Bb ≡ stop → (b : Course) (f : Store ℤ) (t0 : List ℤ) → SameOn sh needed u f → Row q sh level xs d x wrote (w.needed n_in) (w.held n_in) (loop_forward true (suc d) line (plain x) ea eb ec Fb) (loop_backward true (suc d) line (plain x) Bb) b u' f t0 l.tangents.change l.tangents.loops
   silent_row e b f t0 s =
       let k = l.silent refl e in
       let f0 = set f (plain x) 0 (wrap a0) in
@@ -125,7 +125,7 @@ module _ (p q : Calls ℤ) (lines : ReversedLines) (qd : Calls (ℤ × ℤ)) (sh
   sub-first : sub (pos (0 + m)) (pos 1) ≡ sub (pos m) (pos 1)
   sub-first = let e : 0 + m ≡ m = omega arith in ap (λ z. sub (pos z) (pos 1)) e
 
-  told_row : (b : Kept) (f : Store ℤ) (t0 : List ℤ) → SameOn sh needed u f → Row q sh level xs d x wrote (w.needed n_in) (w.held n_in) (loop_forward false (suc d) line (plain x) ea eb ec Fb) (loop_backward false (suc d) line (plain x) Bb) b u' f t0 l.tangents.change l.tangents.loops
+  told_row : (b : Course) (f : Store ℤ) (t0 : List ℤ) → SameOn sh needed u f → Row q sh level xs d x wrote (w.needed n_in) (w.held n_in) (loop_forward false (suc d) line (plain x) ea eb ec Fb) (loop_backward false (suc d) line (plain x) Bb) b u' f t0 l.tangents.change l.tangents.loops
   told_row b f t0 s =
       let k = l.told refl in
       let f1 = set f (helper first (suc d)) 0 a0 in
@@ -198,6 +198,6 @@ module _ (p q : Calls ℤ) (lines : ReversedLines) (qd : Calls (ℤ × ℤ)) (sh
       }
 
   -- both rows
-  pub row : (idle : Bool) → is_empty Bb ≡ idle → (b : Kept) (f : Store ℤ) (t0 : List ℤ) → SameOn sh needed u f → Row q sh level xs d x wrote (w.needed n_in) (w.held n_in) (loop_forward idle (suc d) line (plain x) ea eb ec Fb) (loop_backward idle (suc d) line (plain x) Bb) b u' f t0 l.tangents.change l.tangents.loops
+  pub row : (idle : Bool) → is_empty Bb ≡ idle → (b : Course) (f : Store ℤ) (t0 : List ℤ) → SameOn sh needed u f → Row q sh level xs d x wrote (w.needed n_in) (w.held n_in) (loop_forward idle (suc d) line (plain x) ea eb ec Fb) (loop_backward idle (suc d) line (plain x) Bb) b u' f t0 l.tangents.change l.tangents.loops
   row true e = silent_row (empty_is Bb e)
   row false e = told_row

@@ -11,7 +11,7 @@ use Rattle.adj_meaning.specs.Store.{Store, set}
 use Rattle.adj_meaning.specs.Value.{Setting, value}
 use Rattle.adj_meaning.specs.Scene.{Done, then_do}
 use Rattle.adj_meaning.specs.Run.{Calls, trips, most_turns, in_force, from_1_to_64, after_loop}
-use Rattle.adj_transpose.specs.Lists.{Kept}
+use Rattle.adj_transpose.specs.Lists.{Course}
 use Rattle.adj_reverse.specs.Kernel.{is_marked}
 use Rattle.adj_reverse.specs.Reversals.{Reversal, LoopRun, ReversedLines, StepUnits}
 use Rattle.adj_reverse.specs.Runs.{ActComes, ActPasses}
@@ -21,7 +21,7 @@ use Rattle.adj_reverse.proofs.Turns.{TurnsCome, TurnsPass}
 -- ---- the run of a loop
 
 -- a loop whose bounds have these values, where it isn't marked
-pub loop_comes : {C : Type 0} {rs : List Reversal} (q : Calls C) (n : Setting C) (line : ℕ) (x : Var) (ea eb ec : Term) (body : Code) (base : Kept) (s s' : Store C) (t t' : List C) (a b c : C) (m : ℕ) → value n ea s ≡ Ok a → value n eb s ≡ Ok b → value n ec s ≡ Ok c → trips unmarked (n.numbers.shown a) (n.numbers.shown b) (n.numbers.shown c) ≡ Ok m → TurnsCome q n m body x (n.numbers.shown c) base (set s x 0 (n.numbers.of_word (wrap (n.numbers.shown a)))) s' t t' rs → ActComes q n (loop x ea eb ec body unmarked) line base s s' t t' rs
+pub loop_comes : {C : Type 0} {rs : List Reversal} (q : Calls C) (n : Setting C) (line : ℕ) (x : Var) (ea eb ec : Term) (body : Code) (base : Course) (s s' : Store C) (t t' : List C) (a b c : C) (m : ℕ) → value n ea s ≡ Ok a → value n eb s ≡ Ok b → value n ec s ≡ Ok c → trips unmarked (n.numbers.shown a) (n.numbers.shown b) (n.numbers.shown c) ≡ Ok m → TurnsCome q n m body x (n.numbers.shown c) base (set s x 0 (n.numbers.of_word (wrap (n.numbers.shown a)))) s' t t' rs → ActComes q n (loop x ea eb ec body unmarked) line base s s' t t' rs
 loop_comes q n line x ea eb ec body base s s' t t' a b c m ha hb hc hm l = record {
   later = l.later;
   tells = l.tells;
@@ -29,7 +29,7 @@ loop_comes q n line x ea eb ec body base s s' t t' a b c m ha hb hc hm l = recor
 }
 
 -- a loop of the program, which isn't one of those that are to be reversed
-pub loop_passes : {C : Type 0} (lines : ReversedLines) (loops : List LoopRun) (q : Calls C) (n : Setting C) (line : ℕ) (x : Var) (ea eb ec : Term) (body : Code) (mark : Mark) → (is_marked mark ≡ true → lines line ≡ None) → (base : Kept) (s s' : Store C) (t : List C) (a b c : C) (m : ℕ) → value n ea s ≡ Ok a → value n eb s ≡ Ok b → value n ec s ≡ Ok c → trips mark (n.numbers.shown a) (n.numbers.shown b) (n.numbers.shown c) ≡ Ok m → TurnsPass lines q n m body x (n.numbers.shown c) base (set s x 0 (n.numbers.of_word (wrap (n.numbers.shown a)))) s' t loops → ActPasses lines q n (loop x ea eb ec body mark) line base s s' t loops
+pub loop_passes : {C : Type 0} (lines : ReversedLines) (loops : List LoopRun) (q : Calls C) (n : Setting C) (line : ℕ) (x : Var) (ea eb ec : Term) (body : Code) (mark : Mark) → (is_marked mark ≡ true → lines line ≡ None) → (base : Course) (s s' : Store C) (t : List C) (a b c : C) (m : ℕ) → value n ea s ≡ Ok a → value n eb s ≡ Ok b → value n ec s ≡ Ok c → trips mark (n.numbers.shown a) (n.numbers.shown b) (n.numbers.shown c) ≡ Ok m → TurnsPass lines q n m body x (n.numbers.shown c) base (set s x 0 (n.numbers.of_word (wrap (n.numbers.shown a)))) s' t loops → ActPasses lines q n (loop x ea eb ec body mark) line base s s' t loops
 loop_passes lines loops q n line x ea eb ec body mark other base s s' t a b c m ha hb hc hm l = go mark other refl
   where
     told : (snapshots : ℕ) → in_force n mark s ≡ Some snapshots → lines line ≡ None → ActPasses lines q n (loop x ea eb ec body mark) line base s s' t loops
@@ -49,7 +49,7 @@ loop_passes lines loops q n line x ea eb ec body mark other base s s' t a b c m 
     go (count_from y) o is = told (from_1_to_64 (n.numbers.shown (s y 0))) (ap (λ z. in_force n z s) (sym is)) (o refl)
 
 -- one of those that are to be reversed
-pub loop_passes_own : {C : Type 0} (lines : ReversedLines) (loops : List LoopRun) (q : Calls C) (n : Setting C) (line : ℕ) (x : Var) (ea eb ec : Term) (body : Code) (mark : Mark) (snapshots : ℕ) (step : StepUnits) → lines line ≡ Some step → (base : Kept) (s s' : Store C) → in_force n mark s ≡ Some snapshots → (t : List C) (a b c : C) (m : ℕ) → value n ea s ≡ Ok a → value n eb s ≡ Ok b → value n ec s ≡ Ok c → trips mark (n.numbers.shown a) (n.numbers.shown b) (n.numbers.shown c) ≡ Ok m → TurnsPass lines q n m body x (n.numbers.shown c) base (set s x 0 (n.numbers.of_word (wrap (n.numbers.shown a)))) s' t loops →
+pub loop_passes_own : {C : Type 0} (lines : ReversedLines) (loops : List LoopRun) (q : Calls C) (n : Setting C) (line : ℕ) (x : Var) (ea eb ec : Term) (body : Code) (mark : Mark) (snapshots : ℕ) (step : StepUnits) → lines line ≡ Some step → (base : Course) (s s' : Store C) → in_force n mark s ≡ Some snapshots → (t : List C) (a b c : C) (m : ℕ) → value n ea s ≡ Ok a → value n eb s ≡ Ok b → value n ec s ≡ Ok c → trips mark (n.numbers.shown a) (n.numbers.shown b) (n.numbers.shown c) ≡ Ok m → TurnsPass lines q n m body x (n.numbers.shown c) base (set s x 0 (n.numbers.of_word (wrap (n.numbers.shown a)))) s' t loops →
     let run : LoopRun = record { mark = record { line = line; turns = m; snapshots = snapshots }; step = step } in ActPasses lines q n (loop x ea eb ec body mark) line base s s' t (run ∷ loops)
 loop_passes_own lines loops q n line x ea eb ec body mark snapshots step own base s s' is t a b c m ha hb hc hm l = record {
   later = record { opened = l.later.opened; events = Marked line m snapshots ∷ l.later.events };

@@ -26,7 +26,7 @@ use Rattle.adj_tree.proofs.Names.{name_same}
 use Rattle.adj_transpose.specs.Fresh.{has_name}
 use Rattle.adj_transpose.specs.Naming.{AreApart}
 use Rattle.adj_transpose.specs.Pairs.{Words, with_tangents, on_words, on_duals}
-use Rattle.adj_transpose.specs.Lists.{Kept, scene}
+use Rattle.adj_transpose.specs.Lists.{Course, scene}
 use Rattle.adj_transpose.proofs.Variables.{or_false}
 use Rattle.adj_reverse.specs.Plan.{Callee, beside, actuals_named, step_snapshot}
 use Rattle.adj_reverse.specs.Passing.{plainly}
@@ -62,8 +62,8 @@ act_of q n a line s s' l = go l.cost l.by
     go (suc c) by = record { cost = c; by = λ k. let e : suc c + k ≡ suc (c + k) = omega arith in here c k (ap (run q n (one line a) s) (sym e) ∙ by k) }
 
 -- a dual call that comes to an end is a call that does, from any scene
-pub words_of_dual : (units : List Procedure) (depth : ℕ) (sh : Var → Shape) (level : ℕ) (name : List ℕ) (given : List (List ℕ)) (line : ℕ) (u u' : Store ℤ) (derivative : Words → Words) (lines : ReversedLines) (loops : List LoopRun) (shapes : List Shape) → ((home : Kept) (y : Words) (t : List (ℤ × ℤ)) → CallPasses lines (calls_of units depth) (on_duals sh level) name (actuals_named given) line home (with_tangents u y) (with_tangents u' (derivative y)) t loops shapes) →
-    (home : Kept) (t : List ℤ) → ActGoes (calls_of units depth) (on_words sh level) (call name (actuals_named given)) line home u u' t t (record { unit = name; height = length t; shapes = shapes } ∷ []) []
+pub words_of_dual : (units : List Procedure) (depth : ℕ) (sh : Var → Shape) (level : ℕ) (name : List ℕ) (given : List (List ℕ)) (line : ℕ) (u u' : Store ℤ) (derivative : Words → Words) (lines : ReversedLines) (loops : List LoopRun) (shapes : List Shape) → ((home : Course) (y : Words) (t : List (ℤ × ℤ)) → CallPasses lines (calls_of units depth) (on_duals sh level) name (actuals_named given) line home (with_tangents u y) (with_tangents u' (derivative y)) t loops shapes) →
+    (home : Course) (t : List ℤ) → ActGoes (calls_of units depth) (on_words sh level) (call name (actuals_named given)) line home u u' t t (record { unit = name; height = length t; shapes = shapes } ∷ []) []
 words_of_dual units depth sh level name given line u u' derivative lines loops shapes dual home t =
     let t2 = map (λ z. (z, pos 0)) t in
     let y : Words = λ k. pos 0 in
@@ -138,7 +138,7 @@ handed_helper r k (w ∷ ws) (a ∷ given) = go w (handed_helper r k ws given)
 -- ---- the call again
 
 module _ (ps qs : List Procedure) (inside : List ℕ → Bool) (common : HaveInCommon inside ps qs) (depth : ℕ) (depend : CallsDepend {C = ℤ} (looked_at ps) (calls_of ps (suc depth))) (sh : Var → Shape) (level : ℕ) (name : List ℕ) (there : IsTrue (inside name)) (g : Callee) (given : List (List ℕ)) (many : AsMany g.dummies given) (apart : AreApart given) (flags : handed_back ps name ≡ map (λ d. g.written (plain d)) g.dummies) (line : ℕ) (u u' : Store ℤ)
-    (shapes : List Shape) (takes : (read : Vars) → words_taken (taken_in g read g.dummies) shapes ≡ words_of sh (step_snapshot g read given)) (from_program : (home : Kept) (t : List ℤ) → ActGoes (calls_of ps (suc depth)) (on_words (plainly sh) level) (call name (actuals_named given)) line home u u' t t (record { unit = name; height = length t; shapes = shapes } ∷ []) []) where
+    (shapes : List Shape) (takes : (read : Vars) → words_taken (taken_in g read g.dummies) shapes ≡ words_of sh (step_snapshot g read given)) (from_program : (home : Course) (t : List ℤ) → ActGoes (calls_of ps (suc depth)) (on_words (plainly sh) level) (call name (actuals_named given)) line home u u' t t (record { unit = name; height = length t; shapes = shapes } ∷ []) []) where
   abbrev nw : Setting ℤ
   nw = on_words sh level
 
@@ -162,12 +162,12 @@ module _ (ps qs : List Procedure) (inside : List ℕ → Bool) (common : HaveInC
           else Trapped shape_trap line (stand nw s))) (sym (actuals_plainly sh level given s.store))
 
   -- a run of the program from the forward sweep's store
-  record Again (base : Kept) (f : Store ℤ) (t : List ℤ) (later : Kept) : Type 0 where
+  record Again (base : Course) (f : Store ℤ) (t : List ℤ) (later : Course) : Type 0 where
     end : Store ℤ
     leads : Leads p nw code (scene base f t) (scene later end t)
     same : (x : Var) (j : ℕ) → f x j ≡ u x j → end x j ≡ u' x j
 
-  again : (base : Kept) (f : Store ℤ) (t : List ℤ) → ((x : Var) → reads_actuals x (looked_at ps name) (actuals_named given) ≡ true → (j : ℕ) → j < size_of (sh x) → f x j ≡ u x j) → Again base f t (from_program base t).later
+  again : (base : Course) (f : Store ℤ) (t : List ℤ) → ((x : Var) → reads_actuals x (looked_at ps name) (actuals_named given) ≡ true → (j : ℕ) → j < size_of (sh x) → f x j ≡ u x j) → Again base f t (from_program base t).later
   again base f t agrees =
       let c = from_program base t in
       let A : Cells = λ x j. f x j ≡ u x j in
@@ -177,7 +177,7 @@ module _ (ps qs : List Procedure) (inside : List ℕ → Bool) (common : HaveInC
       depend A nw name (actuals_named given) line (λ x r j l. agrees x r j l) (scene base f t) (scene base u t) (record { store = λ x j a. a; tape = refl; opened = refl; events = refl }) k in
       ended A c.later k (p nw name (actuals_named given) line (scene base f t) k) refl (subst (λ o. EndAlike A (p nw name (actuals_named given) line (scene base f t) k) o) done e)
     where
-      ended : (A : Cells) (later : Kept) (k : ℕ) (o : Outcome (Scene ℤ)) → p nw name (actuals_named given) line (scene base f t) k ≡ o → EndAlike (λ x j. f x j ≡ u x j) o (Done (scene later u' t) 0) → Again base f t later
+      ended : (A : Cells) (later : Course) (k : ℕ) (o : Outcome (Scene ℤ)) → p nw name (actuals_named given) line (scene base f t) k ≡ o → EndAlike (λ x j. f x j ≡ u x j) o (Done (scene later u' t) 0) → Again base f t later
       ended A later k (Done s j) is e =
           let a = e.0 in
           let scene_is : s ≡ scene later s.store t = λ i. record { store = s.store; tape = a.tape i; opened = a.opened i; events = a.events i } in
@@ -195,7 +195,7 @@ module _ (ps qs : List Procedure) (inside : List ℕ → Bool) (common : HaveInC
   there_same : (s : Scene ℤ) (k : ℕ) → calls_of qs (suc depth) nw name (actuals_named given) line s k ≡ p nw name (actuals_named given) line s k
   there_same s k = sym (calls_same inside ps qs common (suc depth) nw name (actuals_named given) line there s k)
 
-  pub plain_called : (base : Kept) (f : Store ℤ) (t : List ℤ) → ((x : Var) → reads_actuals x (looked_at ps name) (actuals_named given) ≡ true → (j : ℕ) → j < size_of (sh x) → f x j ≡ u x j) → PlainCalled (calls_of qs (suc depth)) sh level g given name line base u u' f t
+  pub plain_called : (base : Course) (f : Store ℤ) (t : List ℤ) → ((x : Var) → reads_actuals x (looked_at ps name) (actuals_named given) ≡ true → (j : ℕ) → j < size_of (sh x) → f x j ≡ u x j) → PlainCalled (calls_of qs (suc depth)) sh level g given name line base u u' f t
   plain_called base f t agrees =
       let a = again base f t agrees in
       let c = from_program base t in

@@ -15,7 +15,7 @@ use Rattle.adj_meaning.specs.Store.{Shape, Store}
 use Rattle.adj_meaning.specs.Value.{Setting}
 use Rattle.adj_meaning.specs.Run.{Calls}
 use Rattle.adj_transpose.specs.Pairs.{Key, Words, shadows, on_words}
-use Rattle.adj_transpose.specs.Lists.{Kept}
+use Rattle.adj_transpose.specs.Lists.{Course}
 use Rattle.adj_reverse.specs.Reversals.{Called, Reversal, LoopRun, times, AreReversed}
 pub use Rattle.adj_reverse.specs.Steps.{changes, loops_of}
 use Rattle.adj_reverse.proofs.Told.{times-append, AreBetween, between_append, between_wider, reversed_append}
@@ -57,7 +57,7 @@ module _ (q : Calls ℤ) (sh : Var → Shape) (level : ℕ) (cells : List Key) (
   nw = on_words sh level
 
   -- n actions from the k-th on come from the store f and the tape t to a store of which `end` holds, and the tape t'
-  pub record Played (n k : ℕ) (end : Store ℤ → Type 0) (change : Words → Words) (ls : List LoopRun) (advances turns low high : ℕ) (base : Kept) (f : Store ℤ) (t t' : List ℤ) : Type 0 where
+  pub record Played (n k : ℕ) (end : Store ℤ → Type 0) (change : Words → Words) (ls : List LoopRun) (advances turns low high : ℕ) (base : Course) (f : Store ℤ) (t t' : List ℤ) : Type 0 where
     pub after : Store ℤ
     pub calls : List Called
     pub rs : List Reversal
@@ -70,7 +70,7 @@ module _ (q : Calls ℤ) (sh : Var → Shape) (level : ℕ) (cells : List Key) (
     pub turns_are : times adj calls ≡ turns
     pub within : AreBetween Kind low high calls
 
-  pub played_none : (k : ℕ) (end : Store ℤ → Type 0) (low high : ℕ) (base : Kept) (f : Store ℤ) (t : List ℤ) → Ready k f → end f → Played 0 k end (λ y. y) [] 0 0 low high base f t t
+  pub played_none : (k : ℕ) (end : Store ℤ → Type 0) (low high : ℕ) (base : Course) (f : Store ℤ) (t : List ℤ) → Ready k f → end f → Played 0 k end (λ y. y) [] 0 0 low high base f t t
   played_none k end low high base f t r e = record {
     after = f;
     calls = [];
@@ -85,7 +85,7 @@ module _ (q : Calls ℤ) (sh : Var → Shape) (level : ℕ) (cells : List Key) (
     within = tt;
   }
 
-  pub played_then : (n1 n2 k : ℕ) (e1 e2 : Store ℤ → Type 0) (c1 c2 : Words → Words) (l1 l2 : List LoopRun) (a1 a2 b1 b2 low high : ℕ) (base : Kept) (f : Store ℤ) (t t1 t2 : List ℤ) (p : Played n1 k e1 c1 l1 a1 b1 low high base f t t1) → Played n2 (k + n1) e2 c2 l2 a2 b2 low high p.runs.later p.after t1 t2 → Played (n1 + n2) k e2 (λ y. c1 (c2 y)) (l1 ++ l2) (a1 + a2) (b1 + b2) low high base f t t2
+  pub played_then : (n1 n2 k : ℕ) (e1 e2 : Store ℤ → Type 0) (c1 c2 : Words → Words) (l1 l2 : List LoopRun) (a1 a2 b1 b2 low high : ℕ) (base : Course) (f : Store ℤ) (t t1 t2 : List ℤ) (p : Played n1 k e1 c1 l1 a1 b1 low high base f t t1) → Played n2 (k + n1) e2 c2 l2 a2 b2 low high p.runs.later p.after t1 t2 → Played (n1 + n2) k e2 (λ y. c1 (c2 y)) (l1 ++ l2) (a1 + a2) (b1 + b2) low high base f t t2
   played_then n1 n2 k e1 e2 c1 c2 l1 l2 a1 a2 b1 b2 low high base f t t1 t2 p r = record {
     after = r.after;
     calls = p.calls ++ r.calls;
@@ -100,7 +100,7 @@ module _ (q : Calls ℤ) (sh : Var → Shape) (level : ℕ) (cells : List Key) (
     within = between_append Kind low high p.calls r.calls p.within r.within;
   }
 
-  pub played_wider : (n k : ℕ) (end : Store ℤ → Type 0) (change : Words → Words) (ls : List LoopRun) (a b low high low' high' : ℕ) (base : Kept) (f : Store ℤ) (t t' : List ℤ) → low' ≤ low → high ≤ high' → Played n k end change ls a b low high base f t t' → Played n k end change ls a b low' high' base f t t'
+  pub played_wider : (n k : ℕ) (end : Store ℤ → Type 0) (change : Words → Words) (ls : List LoopRun) (a b low high low' high' : ℕ) (base : Course) (f : Store ℤ) (t t' : List ℤ) → low' ≤ low → high ≤ high' → Played n k end change ls a b low high base f t t' → Played n k end change ls a b low' high' base f t t'
   played_wider n k end change ls a b low high low' high' base f t t' l h p = record {
     after = p.after;
     calls = p.calls;
@@ -116,7 +116,7 @@ module _ (q : Calls ℤ) (sh : Var → Shape) (level : ℕ) (cells : List Key) (
   }
 
   -- the same by equal numbers and maps
-  pub played_as : (n n' k : ℕ) (end : Store ℤ → Type 0) (change change' : Words → Words) (ls ls' : List LoopRun) (a a' b b' low high : ℕ) (base : Kept) (f : Store ℤ) (t t' : List ℤ) → n ≡ n' → ((y : Words) → change y ≡ change' y) → ls ≡ ls' → a ≡ a' → b ≡ b' → Played n k end change ls a b low high base f t t' → Played n' k end change' ls' a' b' low high base f t t'
+  pub played_as : (n n' k : ℕ) (end : Store ℤ → Type 0) (change change' : Words → Words) (ls ls' : List LoopRun) (a a' b b' low high : ℕ) (base : Course) (f : Store ℤ) (t t' : List ℤ) → n ≡ n' → ((y : Words) → change y ≡ change' y) → ls ≡ ls' → a ≡ a' → b ≡ b' → Played n k end change ls a b low high base f t t' → Played n' k end change' ls' a' b' low high base f t t'
   played_as n n' k end change change' ls ls' a a' b b' low high base f t t' en ec el ea eb p = record {
     after = p.after;
     calls = p.calls;
@@ -134,12 +134,12 @@ module _ (q : Calls ℤ) (sh : Var → Shape) (level : ℕ) (cells : List Key) (
   -- `Standing i`: the store has what the step unit needs and reads as the program had it before step i, besides the loop's variable.
   -- `Loose`: it has so what the step unit doesn't write. `Snap i`: the words are a snapshot of step i.
   module _ (all : List Action) (l : ℕ) (Standing : ℕ → Store ℤ → Type 0) (Loose : Store ℤ → Type 0) (Snap : ℕ → List ℤ → Type 0) (change : ℕ → Words → Words) (loops : ℕ → List LoopRun) where
-    pub record Taken (k i low high : ℕ) (base : Kept) (f : Store ℤ) (t : List ℤ) : Type 0 where
+    pub record Taken (k i low high : ℕ) (base : Course) (f : Store ℤ) (t : List ℤ) : Type 0 where
       pub snap : List ℤ
       pub is : Snap i snap
       pub played : Played 1 k (Standing i) (λ y. y) [] 0 0 low high base f t (snap ++ t)
 
-    pub record Renewed (k i low high : ℕ) (base : Kept) (f : Store ℤ) (t t' : List ℤ) : Type 0 where
+    pub record Renewed (k i low high : ℕ) (base : Course) (f : Store ℤ) (t t' : List ℤ) : Type 0 where
       pub snap : List ℤ
       pub is : Snap i snap
       pub played : Played 1 k (Standing i) (λ y. y) [] 0 0 low high base f t (snap ++ t')
@@ -147,23 +147,23 @@ module _ (q : Calls ℤ) (sh : Var → Shape) (level : ℕ) (cells : List Key) (
     -- what each action does
     pub record Acts : Type 0 where
       pub snapshots : (i : ℕ) (snap : List ℤ) → Snap i snap → length snap ≡ words
-      pub puts : (k i low high : ℕ) (rest : List Action) (base : Kept) (f : Store ℤ) (t : List ℤ) → past k all ≡ Put i ∷ rest → Ready k f → Standing i f → Taken k i low high base f t
-      pub advances : (k i n : ℕ) (rest : List Action) (base : Kept) (f : Store ℤ) (t : List ℤ) → past k all ≡ Advance i (i + n) ∷ rest → i + n < l → Ready k f → Standing i f → Played 1 k (Standing (i + n)) (λ y. y) [] n 0 (length t) (length t) base f t t
-      pub turns : (k i : ℕ) (rest : List Action) (base : Kept) (f : Store ℤ) (t : List ℤ) → past k all ≡ Turn i ∷ rest → i < l → Ready k f → Standing i f → Played 1 k Loose (change i) (loops i) 0 1 (length t) (length t) base f t t
-      pub keeps : (k i low high : ℕ) (rest : List Action) (base : Kept) (f : Store ℤ) (snap t : List ℤ) → past k all ≡ Keep i ∷ rest → Ready k f → Loose f → Snap i snap → Renewed k i low high base f (snap ++ t) t
-      pub drops : (k i low high : ℕ) (rest : List Action) (base : Kept) (f : Store ℤ) (snap t : List ℤ) → past k all ≡ Drop i ∷ rest → Ready k f → Loose f → Snap i snap → Played 1 k (Standing i) (λ y. y) [] 0 0 low high base f (snap ++ t) t
+      pub puts : (k i low high : ℕ) (rest : List Action) (base : Course) (f : Store ℤ) (t : List ℤ) → past k all ≡ Put i ∷ rest → Ready k f → Standing i f → Taken k i low high base f t
+      pub advances : (k i n : ℕ) (rest : List Action) (base : Course) (f : Store ℤ) (t : List ℤ) → past k all ≡ Advance i (i + n) ∷ rest → i + n < l → Ready k f → Standing i f → Played 1 k (Standing (i + n)) (λ y. y) [] n 0 (length t) (length t) base f t t
+      pub turns : (k i : ℕ) (rest : List Action) (base : Course) (f : Store ℤ) (t : List ℤ) → past k all ≡ Turn i ∷ rest → i < l → Ready k f → Standing i f → Played 1 k Loose (change i) (loops i) 0 1 (length t) (length t) base f t t
+      pub keeps : (k i low high : ℕ) (rest : List Action) (base : Course) (f : Store ℤ) (snap t : List ℤ) → past k all ≡ Keep i ∷ rest → Ready k f → Loose f → Snap i snap → Renewed k i low high base f (snap ++ t) t
+      pub drops : (k i low high : ℕ) (rest : List Action) (base : Course) (f : Store ℤ) (snap t : List ℤ) → past k all ≡ Drop i ∷ rest → Ready k f → Loose f → Snap i snap → Played 1 k (Standing i) (λ y. y) [] 0 0 low high base f (snap ++ t) t
 
     -- where lo is stored on top of the tape, and the program stands there
     abbrev PlaysStored : ℕ → ℕ → ℕ → List Action → Type 0
-    PlaysStored lo n s xs = (k : ℕ) (rest : List Action) (base : Kept) (f : Store ℤ) (snap t : List ℤ) → past k all ≡ xs ++ rest → lo + n ≤ l → Snap lo snap → Standing lo f → Ready k f → Played (length xs) k Loose (changes change lo n) (loops_of loops lo n) (total_cost xs) n (length t) (length t + s * words) base f (snap ++ t) t
+    PlaysStored lo n s xs = (k : ℕ) (rest : List Action) (base : Course) (f : Store ℤ) (snap t : List ℤ) → past k all ≡ xs ++ rest → lo + n ≤ l → Snap lo snap → Standing lo f → Ready k f → Played (length xs) k Loose (changes change lo n) (loops_of loops lo n) (total_cost xs) n (length t) (length t + s * words) base f (snap ++ t) t
 
     -- where it stands there and lo isn't stored yet
     abbrev PlaysPart : ℕ → ℕ → ℕ → List Action → Type 0
-    PlaysPart lo n s xs = (k : ℕ) (rest : List Action) (base : Kept) (f : Store ℤ) (t : List ℤ) → past k all ≡ xs ++ rest → lo + n ≤ l → Standing lo f → Ready k f → Played (length xs) k Loose (changes change lo n) (loops_of loops lo n) (total_cost xs) n (length t) (length t + s * words) base f t t
+    PlaysPart lo n s xs = (k : ℕ) (rest : List Action) (base : Course) (f : Store ℤ) (t : List ℤ) → past k all ≡ xs ++ rest → lo + n ≤ l → Standing lo f → Ready k f → Played (length xs) k Loose (changes change lo n) (loops_of loops lo n) (total_cost xs) n (length t) (length t + s * words) base f t t
 
     -- where lo is stored and is to be gone back to
     abbrev PlaysBack : ℕ → ℕ → ℕ → List Action → Type 0
-    PlaysBack lo n s xs = (k : ℕ) (rest : List Action) (base : Kept) (f : Store ℤ) (snap t : List ℤ) → past k all ≡ xs ++ rest → lo + n ≤ l → Snap lo snap → Loose f → Ready k f → Played (length xs) k Loose (changes change lo n) (loops_of loops lo n) (total_cost xs) n (length t) (length t + s * words) base f (snap ++ t) t
+    PlaysBack lo n s xs = (k : ℕ) (rest : List Action) (base : Course) (f : Store ℤ) (snap t : List ℤ) → past k all ≡ xs ++ rest → lo + n ≤ l → Snap lo snap → Loose f → Ready k f → Played (length xs) k Loose (changes change lo n) (loops_of loops lo n) (total_cost xs) n (length t) (length t + s * words) base f (snap ++ t) t
 
     module _ (acts : Acts) where
       tops : (i : ℕ) (snap t : List ℤ) → Snap i snap → length (snap ++ t) ≡ words + length t
@@ -237,7 +237,7 @@ module _ (q : Calls ℤ) (sh : Var → Shape) (level : ℕ) (cells : List Key) (
           high_upper lo (suc s) snap t some_slot is = let e : suc s - 1 ≡ s = omega arith in rw e (omega (arith, tops lo snap t is))
 
       -- the whole schedule of l steps with s snapshots, where the program stands at step 0
-      pub schedule_played : (s : ℕ) → 0 < s → all ≡ schedule_of 0 l s → (base : Kept) (f : Store ℤ) (t : List ℤ) → Standing 0 f → (Standing 0 f → Loose f) → Ready 0 f → Played (length all) 0 Loose (changes change 0 l) (loops_of loops 0 l) (least_cost l s) l (length t) (length t + s * words) base f t t
+      pub schedule_played : (s : ℕ) → 0 < s → all ≡ schedule_of 0 l s → (base : Course) (f : Store ℤ) (t : List ℤ) → Standing 0 f → (Standing 0 f → Loose f) → Ready 0 f → Played (length all) 0 Loose (changes change 0 l) (loops_of loops 0 l) (least_cost l s) l (length t) (length t + s * words) base f t t
       schedule_played s some_slot is base f t stands loosen ready = go l refl
         where
           go : (n : ℕ) → l ≡ n → Played (length all) 0 Loose (changes change 0 l) (loops_of loops 0 l) (least_cost l s) l (length t) (length t + s * words) base f t t

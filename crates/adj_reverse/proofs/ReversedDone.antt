@@ -17,7 +17,7 @@ use Rattle.adj_transpose.specs.Marked.{code_if}
 use Rattle.adj_transpose.specs.Facts.{In, joined, Facts}
 use Rattle.adj_transpose.specs.Naming.{AreApart}
 use Rattle.adj_transpose.specs.Pairs.{Key, key_eq, Words, with_tangents, on_words, on_duals}
-use Rattle.adj_transpose.specs.Lists.{Kept, scene}
+use Rattle.adj_transpose.specs.Lists.{Course, scene}
 use Rattle.adj_transpose.proofs.Variables.{or_false}
 use Rattle.adj_reverse.specs.Plan.{Plan, actuals_named, Step}
 use Rattle.adj_reverse.specs.Emission.{with_shadows, resets, literal}
@@ -55,7 +55,7 @@ not_true e = cc
 abbrev pub AtAnyLine : Calls ℤ → Type 0
 AtAnyLine q = (n : Setting ℤ) (name : List ℕ) (args : Terms) (one other : ℕ) (s e : Scene ℤ) (k left : ℕ) → q n name args one s k ≡ Done e left → q n name args other s k ≡ Done e left
 
-goes_elsewhere : (q : Calls ℤ) → AtAnyLine q → (n : Setting ℤ) (name : List ℕ) (args : Terms) (one other : ℕ) (base : Kept) (s s' : Store ℤ) (t t' : List ℤ) (calls : List Called) (rs : List Reversal) → ActGoes q n (call name args) one base s s' t t' calls rs → ActGoes q n (call name args) other base s s' t t' calls rs
+goes_elsewhere : (q : Calls ℤ) → AtAnyLine q → (n : Setting ℤ) (name : List ℕ) (args : Terms) (one other : ℕ) (base : Course) (s s' : Store ℤ) (t t' : List ℤ) (calls : List Called) (rs : List Reversal) → ActGoes q n (call name args) one base s s' t t' calls rs → ActGoes q n (call name args) other base s s' t t' calls rs
 goes_elsewhere q free n name args one other base s s' t t' calls rs g = record {
   later = g.later;
   tells = g.tells;
@@ -189,7 +189,7 @@ module _ (q : Calls ℤ) (free : AtAnyLine q) (lines : ReversedLines) (qd : Call
     abbrev own_run : LoopRun
     own_run = record { mark = record { line = line; turns = l; snapshots = snapshots }; step = step_units s.name g.callee g.read }
 
-    dual_loop : (home : Kept) (y : Words) (t : List (ℤ × ℤ)) → Passes lines qd nd this home (with_tangents u y) (with_tangents u' (derivative y)) t (own_run ∷ all_loops)
+    dual_loop : (home : Course) (y : Words) (t : List (ℤ × ℤ)) → Passes lines qd nd this home (with_tangents u y) (with_tangents u' (derivative y)) t (own_run ∷ all_loops)
     dual_loop home y t =
         let va = value_dual (plainly sh) level u y ea a0 is_a in
         let vb = value_dual (plainly sh) level u y eb b0 is_b in
@@ -273,7 +273,7 @@ module _ (q : Calls ℤ) (free : AtAnyLine q) (lines : ReversedLines) (qd : Call
       other_adjoint = fits.other_adjoint;
     }
 
-    rows : present ≡ true → (b : Kept) (f : Store ℤ) (t : List ℤ) → SameOn sh (w.needed (point_before i)) u f → ReversedRow q sh level xs d x wrote (w.needed (point_after i)) (w.held (point_after i)) (w.held (point_before i)) (row_forward plan i (suc d) line x ea eb ec s) (row_backward plan i (suc d) line x s) b u' f t (changes change_at 0 l) (own_run ∷ all_loops)
+    rows : present ≡ true → (b : Course) (f : Store ℤ) (t : List ℤ) → SameOn sh (w.needed (point_before i)) u f → ReversedRow q sh level xs d x wrote (w.needed (point_after i)) (w.held (point_after i)) (w.held (point_before i)) (row_forward plan i (suc d) line x ea eb ec s) (row_backward plan i (suc d) line x s) b u' f t (changes change_at 0 l) (own_run ∷ all_loops)
     rows pr b f t same =
         subst (λ (z : Store ℤ). ReversedRow q sh level xs d x wrote (w.needed (point_after i)) (w.held (point_after i)) (w.held (point_before i)) (row_forward plan i (suc d) line x ea eb ec s) (row_backward plan i (suc d) line x s) b z f t (changes change_at 0 l) (own_run ∷ all_loops)) ends
         (subst (λ (z : Vars). let v : Step = record { name = s.name; given = s.given; read = z; mark = s.mark } in ReversedRow q sh level xs d x wrote (w.needed (point_after i)) (w.held (point_after i)) (w.held (point_before i)) (row_forward plan i (suc d) line x ea eb ec v) (row_backward plan i (suc d) line x v) b (U l) f t (changes change_at 0 l) (own_run ∷ all_loops)) (sym read_is)

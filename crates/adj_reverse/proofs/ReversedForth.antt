@@ -15,7 +15,7 @@ use Rattle.adj_transpose.specs.Marked.{code_if}
 use Rattle.adj_transpose.specs.Facts.{In, joined, Facts}
 use Rattle.adj_transpose.specs.Naming.{AreApart}
 use Rattle.adj_transpose.specs.Pairs.{Key, Words, on_words}
-use Rattle.adj_transpose.specs.Lists.{Kept, scene}
+use Rattle.adj_transpose.specs.Lists.{Course, scene}
 use Rattle.adj_transpose.proofs.Variables.{or_false}
 use Rattle.adj_transpose.proofs.Turned.{SameDepth}
 use Rattle.adj_reverse.specs.Plan.{Plan, beside, actuals_named}
@@ -76,7 +76,7 @@ module _ (q : Calls ℤ) (sh : Var → Shape) (level : ℕ) (cells : List Key) (
   steps_for false y n h = h
 
   -- the step call, where it is kept
-  record Mid (k : Bool) (j : ℕ) (base : Kept) (f : Store ℤ) (t : List ℤ) : Type 0 where
+  record Mid (k : Bool) (j : ℕ) (base : Course) (f : Store ℤ) (t : List ℤ) : Type 0 where
     to : Store ℤ
     calls : List Called
     goes : Goes q nw (code_if k plain_call) base f to t t calls []
@@ -88,7 +88,7 @@ module _ (q : Calls ℤ) (sh : Var → Shape) (level : ℕ) (cells : List Key) (
   needs_later : (v : Var) → In v (w.needed (point_after (suc i))) → In v (w.needed (point_before (suc i)))
   needs_later v h = laws.call.values.needs v (rw h refl)
 
-  mid : (k : Bool) → w.marks.kept (suc i) ≡ k → (j : ℕ) → j < l → (base : Kept) (f : Store ℤ) (t : List ℤ) → SameOn sh (needed_call k) (U j) f → Mid k j base f t
+  mid : (k : Bool) → w.marks.kept (suc i) ≡ k → (j : ℕ) → j < l → (base : Course) (f : Store ℤ) (t : List ℤ) → SameOn sh (needed_call k) (U j) f → Mid k j base f t
   mid true e j less base f t h =
       let c = s.again j base f t less (record { at = λ n a b o c lt. h.at a c lt (laws.call.needs_uses e n a b o) }) in
       record {
@@ -120,7 +120,7 @@ module _ (q : Calls ℤ) (sh : Var → Shape) (level : ℕ) (cells : List Key) (
           go false v = rw (b, v) refl
 
   -- the turns from the j-th on
-  pub record TurnsForth (n j : ℕ) (base : Kept) (f : Store ℤ) (t : List ℤ) : Type 0 where
+  pub record TurnsForth (n j : ℕ) (base : Course) (f : Store ℤ) (t : List ℤ) : Type 0 where
     pub to : Store ℤ
     pub calls : List Called
     pub runs : TurnsGo q nw n (code_if (w.marks.kept (suc i)) plain_call +++ counting) (plain x) c0 base f to t t calls []
@@ -133,7 +133,7 @@ module _ (q : Calls ℤ) (sh : Var → Shape) (level : ℕ) (cells : List Key) (
     pub stride_is : to (helper stride (suc d)) 0 ≡ f (helper stride (suc d)) 0
     pub slots_is : to (helper slots (suc d)) 0 ≡ f (helper slots (suc d)) 0
 
-  pub turns_forth : wr (plain x) ≡ false → (n j : ℕ) (base : Kept) (f : Store ℤ) (t : List ℤ) → j + n ≤ l → SameOn sh (needed_through (w.marks.kept (suc i))) (U j) f → f (plain x) 0 ≡ U j (plain x) 0 → f (helper count (suc d)) 0 ≡ pos j → TurnsForth n j base f t
+  pub turns_forth : wr (plain x) ≡ false → (n j : ℕ) (base : Course) (f : Store ℤ) (t : List ℤ) → j + n ≤ l → SameOn sh (needed_through (w.marks.kept (suc i))) (U j) f → f (plain x) 0 ≡ U j (plain x) 0 → f (helper count (suc d)) 0 ≡ pos j → TurnsForth n j base f t
   turns_forth x_free zero j base f t fits h v c =
       let e : j + 0 ≡ j = omega arith in
       record {

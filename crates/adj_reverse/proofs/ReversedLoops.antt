@@ -17,7 +17,7 @@ use Rattle.adj_transpose.specs.Marked.{code_if}
 use Rattle.adj_transpose.specs.Facts.{Within, joined, Facts}
 use Rattle.adj_transpose.specs.Naming.{AreApart}
 use Rattle.adj_transpose.specs.Pairs.{Key, Words, on_words}
-use Rattle.adj_transpose.specs.Lists.{Kept, scene}
+use Rattle.adj_transpose.specs.Lists.{Course, scene}
 use Rattle.adj_transpose.proofs.Variables.{or_left, or_right}
 use Rattle.adj_reverse.specs.Plan.{Plan, actuals_named}
 use Rattle.adj_reverse.specs.Emission.{literal, pushes, pops, set_own, push_own, adjoint_call}
@@ -102,7 +102,7 @@ module _ (q : Calls ℤ) (sh : Var → Shape) (level : ℕ) (cells : List Key) (
   uses_c : Within (λ v. reads_term v ec) needed
   uses_c v h = laws.needs_uses v (or_right (reads_term v ea) (reads_term v eb || reads_term v ec) (or_right (reads_term v eb) (reads_term v ec) h))
 
-  pub reversed_row : wrote (plain x) ≡ false → (at : ℕ) (b : Kept) (f : Store ℤ) (t : List ℤ) → SameOn sh needed u f → ReversedRow q sh level cells d x (joined (just (plain x)) wrote) (w.needed (point_after i)) (w.held (point_after i)) (w.held (point_before i)) forth back b (U l) f t (changes change 0 l) (run_at at ∷ loops_of loops 0 l)
+  pub reversed_row : wrote (plain x) ≡ false → (at : ℕ) (b : Course) (f : Store ℤ) (t : List ℤ) → SameOn sh needed u f → ReversedRow q sh level cells d x (joined (just (plain x)) wrote) (w.needed (point_after i)) (w.held (point_after i)) (w.held (point_before i)) forth back b (U l) f t (changes change 0 l) (run_at at ∷ loops_of loops 0 l)
   reversed_row x_free at b f t same =
       let f1 = set f (helper first (suc d)) 0 a0 in
       let f2 = set f1 (helper stride (suc d)) 0 c0 in

@@ -17,7 +17,7 @@ use Rattle.adj_transpose.specs.Facts.{In, joined, Facts}
 use Rattle.adj_transpose.specs.Fresh.{has_name}
 use Rattle.adj_transpose.specs.Naming.{AreApart}
 use Rattle.adj_transpose.specs.Pairs.{Key, Words, on_words}
-use Rattle.adj_transpose.specs.Lists.{Kept, scene}
+use Rattle.adj_transpose.specs.Lists.{Course, scene}
 use Rattle.adj_transpose.proofs.Variables.{or_false}
 use Rattle.adj_reverse.specs.Plan.{Plan, beside, IsActual, actuals_named, group, save_group}
 use Rattle.adj_reverse.specs.Emission.{pushes, pops, pop_own, adjoint_call}
@@ -85,7 +85,7 @@ module _ (q : Calls ℤ) (sh : Var → Shape) (level : ℕ) (cells : List Key) (
     stands : (e a : List ℕ) → IsActual ds given e a → In (plain e) reached → name_eq a x ≡ false → (j : ℕ) → j < size_of (sh (plain a)) → f (plain a) j ≡ U 0 (plain a) j
     stands e a b n o j lt = same.at a j lt (laws.needs_members e a b n o) ∙ sym (starts a j o)
 
-    pub reversed_back : (at : ℕ) (base : Kept) (h : Store ℤ) (t : List ℤ) → SameOn sh (w.held (point_after i)) to h →
+    pub reversed_back : (at : ℕ) (base : Course) (h : Store ℤ) (t : List ℤ) → SameOn sh (w.held (point_after i)) to h →
         let saved = group_pushed q sh level p line known saves f in
         let taken = group_pushed q sh level p line known snap f in
         ReversedBack q sh level cells d x (joined (just (plain x)) wr) (w.held (point_before i)) back_code base f h (pos l ∷ (slots_trail mark m ++ (c0 ∷ (a0 ∷ (taken.trail ++ (saved.trail ++ t)))))) t (changes change 0 l) (own_run at ∷ loops_of loops 0 l)

@@ -18,7 +18,7 @@ use Rattle.adj_meaning.specs.Runtime.{steps_of, snapshots_of}
 use Rattle.adj_meaning.specs.Leads.{Leads}
 use Rattle.adj_meaning.proofs.Leadings.{leads_stop, leads_act, leads_step}
 use Rattle.adj_transpose.specs.Pairs.{Key, Words, shadows, on_words}
-use Rattle.adj_transpose.specs.Lists.{Kept, scene}
+use Rattle.adj_transpose.specs.Lists.{Course, scene}
 use Rattle.adj_reverse.specs.Emission.{literal}
 use Rattle.adj_reverse.specs.Reversals.{Reversal, LoopRun, Reverses, AreReversed, Tells, StepUnits, Called}
 use Rattle.adj_reverse.specs.ReversalCode.{slots_of, reversal}
@@ -42,9 +42,9 @@ module _ (q : Calls ℤ) (sh : Var → Shape) (level : ℕ) (cells : List Key) (
   Kind = IsOfStep step words
 
   -- the reversal of one run of the loop whose DO stands at a line, from the store f and the tape t
-  pub record Reversing (at : ℕ) (base : Kept) (f : Store ℤ) (t : List ℤ) : Type 0 where
+  pub record Reversing (at : ℕ) (base : Course) (f : Store ℤ) (t : List ℤ) : Type 0 where
     pub after : Store ℤ
-    pub later : Kept
+    pub later : Course
     pub own : Reversal
     pub inner : List Reversal
     pub runs : Leads q nw (reversal line d (plain x) (slots_of d mark) keep back plain_call adjoint) (scene base f t) (scene later after t)
@@ -62,12 +62,12 @@ module _ (q : Calls ℤ) (sh : Var → Shape) (level : ℕ) (cells : List Key) (
 
   pub reversing : 0 < m → steps_of (pos l) ≡ Ok l → snapshots_of (pos m) ≡ Ok m → suc (suc (length steps)) < 2 ^ 63 → suc l < 2 ^ 63 → name_eq unit adj ≡ false → name_eq adj unit ≡ false →
       Stepping q sh level cells d line x l m mark a0 c0 unit adj Kind words keep back plain_call adjoint Standing Loose Snap change loops →
-      (at : ℕ) (base : Kept) (f : Store ℤ) (t : List ℤ) → f (helper count d) 0 ≡ pos l → f (helper first d) 0 ≡ a0 → f (helper stride d) 0 ≡ c0 → value nw (slots_of d mark) f ≡ Ok (pos m) → Standing 0 f → Reversing at base f t
+      (at : ℕ) (base : Course) (f : Store ℤ) (t : List ℤ) → f (helper count d) 0 ≡ pos l → f (helper first d) 0 ≡ a0 → f (helper stride d) 0 ≡ c0 → value nw (slots_of d mark) f ≡ Ok (pos m) → Standing 0 f → Reversing at base f t
   reversing slot steps_fit snapshots_fit few small differ differ' s at base f t count_is first_is stride_is slots_is h =
       let n = length steps in
       let f1 = set f (helper entries d) 0 (pos n) in
       let f2 = set f1 (helper entry d) 0 (wrap (pos 1)) in
-      let b1 : Kept = record { opened = suc base.opened; events = Begin l m level (length t) ∷ base.events } in
+      let b1 : Course = record { opened = suc base.opened; events = Begin l m level (length t) ∷ base.events } in
       let a = acts q sh level cells d line x l m mark a0 c0 unit adj Kind words keep back plain_call adjoint Standing Loose Snap change loops steps_fit snapshots_fit few small differ differ' s in
       let p = schedule_played q sh level cells (action q sh level cells d line x l m mark a0 c0 unit adj Kind words keep back plain_call adjoint Standing Loose Snap change loops) (helper entry d) unit adj Kind words
       (Ready q sh level cells d line x l m mark a0 c0 unit adj Kind words keep back plain_call adjoint Standing Loose Snap change loops) steps l Standing Loose Snap change loops a m slot refl b1 f2 t
@@ -75,7 +75,7 @@ module _ (q : Calls ℤ) (sh : Var → Shape) (level : ℕ) (cells : List Key) (
       (record { count_is = count_is; first_is = first_is; stride_is = stride_is; slots_is = slots_same sh level d mark f f2 refl ∙ slots_is; entry_is = rw (nat_refl d) one_word }) in
       let looped = loop_goes q nw line (helper entry d) (literal 1) (var (helper entries d)) (literal 1) (action q sh level cells d line x l m mark a0 c0 unit adj Kind words keep back plain_call adjoint Standing Loose Snap change loops) b1 f1 p.after t t (pos 1) (f1 (helper entries d) 0) (pos 1) n p.calls p.rs
       refl refl refl (ap (λ z. trips unmarked (pos 1) z (pos 1)) (entries_is f) ∙ trips_all) p.runs in
-      let b2 : Kept = record { opened = base.opened; events = End level ∷ looped.later.events } in
+      let b2 : Course = record { opened = base.opened; events = End level ∷ looped.later.events } in
       record {
         after = p.after;
         later = b2;

@@ -15,7 +15,7 @@ use Rattle.adj_meaning.proofs.Leadings.{leads_step}
 use Rattle.adj_transpose.specs.Marks.{Vars}
 use Rattle.adj_transpose.specs.Facts.{Within}
 use Rattle.adj_transpose.specs.Pairs.{Words, with_tangents, on_words, on_duals}
-use Rattle.adj_transpose.specs.Lists.{Kept, scene}
+use Rattle.adj_transpose.specs.Lists.{Course, scene}
 use Rattle.adj_transpose.proofs.Variables.{var_refl, var_same, and_true}
 use Rattle.adj_reverse.specs.ReversalCode.{as_slots, slots_of, set_slots, push_slots, pop_slots}
 use Rattle.adj_reverse.specs.Kernel.{is_marked, HasSlots}
@@ -114,7 +114,7 @@ module _ (sh : Var → Shape) (level d : ℕ) where
   slots_are n (count_from x) m s f has h = rw (nat_refl d) refl
 
   module _ (q : Calls ℤ) (line : ℕ) where
-    pub slots_set : (mark : Mark) (m : ℕ) (rest : Code) (b : Kept) (f : Store ℤ) (t : List ℤ) (e : Scene ℤ) → in_force nw mark f ≡ Some m → Leads q nw rest (scene b (with_slots d mark m f) t) e → Leads q nw (set_slots line d mark rest) (scene b f t) e
+    pub slots_set : (mark : Mark) (m : ℕ) (rest : Code) (b : Course) (f : Store ℤ) (t : List ℤ) (e : Scene ℤ) → in_force nw mark f ≡ Some m → Leads q nw rest (scene b (with_slots d mark m f) t) e → Leads q nw (set_slots line d mark rest) (scene b f t) e
     slots_set unmarked m rest b f t e h l = subst (λ (z : Store ℤ). Leads q nw rest (scene b z t) e) (same_set f (helper slots d)) l
     slots_set (with_count k) m rest b f t e h l = subst (λ (z : Store ℤ). Leads q nw rest (scene b z t) e) (same_set f (helper slots d)) l
     slots_set (count_from x) m rest b f t e h l =
@@ -122,14 +122,14 @@ module _ (sh : Var → Shape) (level d : ℕ) where
         let word = word_slots (f x 0) ∙ ap pos same in
         leads_step q nw line (assign (helper slots d) none (as_slots x)) rest (scene b f t) (scene b (set f (helper slots d) 0 (pos m)) t) e (λ k. ap (λ (z : ℤ). Done (scene b (set f (helper slots d) 0 z) t) k) word) l
 
-    pub slots_pushed : (mark : Mark) (m : ℕ) (rest : Code) (b : Kept) (f : Store ℤ) (t : List ℤ) (e : Scene ℤ) → value nw (slots_of d mark) f ≡ Ok (pos m) → Leads q nw rest (scene b f (slots_trail mark m ++ t)) e → Leads q nw (push_slots line d mark rest) (scene b f t) e
+    pub slots_pushed : (mark : Mark) (m : ℕ) (rest : Code) (b : Course) (f : Store ℤ) (t : List ℤ) (e : Scene ℤ) → value nw (slots_of d mark) f ≡ Ok (pos m) → Leads q nw rest (scene b f (slots_trail mark m ++ t)) e → Leads q nw (push_slots line d mark rest) (scene b f t) e
     slots_pushed unmarked m rest b f t e h l = l
     slots_pushed (with_count k) m rest b f t e h l = l
     slots_pushed (count_from x) m rest b f t e h l =
         let is : f (helper slots d) 0 ≡ pos m = cc in
         leads_step q nw line (runtime (push_word (helper slots d) none)) rest (scene b f t) (scene b f (pos m ∷ t)) e (λ k. ap (λ (z : ℤ). Done (scene b f (z ∷ t)) k) is) l
 
-    pub slots_popped : (mark : Mark) (m : ℕ) (rest : Code) (b : Kept) (f : Store ℤ) (t : List ℤ) (e : Scene ℤ) → Leads q nw rest (scene b (with_slots d mark m f) t) e → Leads q nw (pop_slots line d mark rest) (scene b f (slots_trail mark m ++ t)) e
+    pub slots_popped : (mark : Mark) (m : ℕ) (rest : Code) (b : Course) (f : Store ℤ) (t : List ℤ) (e : Scene ℤ) → Leads q nw rest (scene b (with_slots d mark m f) t) e → Leads q nw (pop_slots line d mark rest) (scene b f (slots_trail mark m ++ t)) e
     slots_popped unmarked m rest b f t e l = subst (λ (z : Store ℤ). Leads q nw rest (scene b z t) e) (same_set f (helper slots d)) l
     slots_popped (with_count k) m rest b f t e l = subst (λ (z : Store ℤ). Leads q nw rest (scene b z t) e) (same_set f (helper slots d)) l
     slots_popped (count_from x) m rest b f t e l =

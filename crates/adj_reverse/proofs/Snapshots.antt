@@ -14,7 +14,7 @@ use Rattle.adj_meaning.proofs.Tapes.{pushed_on, push_all_done, filled, pop_all_d
 use Rattle.adj_transpose.specs.Marks.{Vars}
 use Rattle.adj_transpose.specs.Fresh.{has_name}
 use Rattle.adj_transpose.specs.Pairs.{on_words}
-use Rattle.adj_transpose.specs.Lists.{Kept, scene}
+use Rattle.adj_transpose.specs.Lists.{Course, scene}
 use Rattle.adj_transpose.proofs.Variables.{or_false}
 use Rattle.adj_reverse.specs.Plan.{Plan}
 use Rattle.adj_reverse.specs.Emission.{push, pop, pushes, pops}
@@ -42,14 +42,14 @@ module _ (q : Calls ℤ) (sh : Var → Shape) (level : ℕ) (p : Plan) (line : �
   -- what is popped
   pub record Popped (xs : List (List ℕ)) (c : Code) (f g : Store ℤ) (trail : List ℤ) : Type 0 where
     pub after : Store ℤ
-    pub runs : (base : Kept) (t : List ℤ) → Leads q (on_words sh level) c (scene base g (trail ++ t)) (scene base after t)
+    pub runs : (base : Course) (t : List ℤ) → Leads q (on_words sh level) c (scene base g (trail ++ t)) (scene base after t)
     pub restored : Restored sh xs f g after
 
   -- these are pushed by one code, and popped by another
   pub record Pushed (xs : List (List ℕ)) (push pop : Code) (f : Store ℤ) : Type 0 where
     pub trail : List ℤ
     pub length_is : length trail ≡ words_of sh xs
-    pub pushed : (base : Kept) (t : List ℤ) → Leads q (on_words sh level) push (scene base f t) (scene base f (trail ++ t))
+    pub pushed : (base : Course) (t : List ℤ) → Leads q (on_words sh level) push (scene base f t) (scene base f (trail ++ t))
     pub popped : (g : Store ℤ) → Popped xs pop f g trail
 
   pub nothing_pushed : (f : Store ℤ) → Pushed [] stop stop f

@@ -15,7 +15,7 @@ use Rattle.adj_meaning.proofs.Leadings.{leads_stop, leads_append}
 use Rattle.adj_transpose.specs.Marks.{Vars}
 use Rattle.adj_transpose.specs.Marked.{is_compound, count_of, own_or, own_code}
 use Rattle.adj_transpose.specs.Pairs.{SamePlain, on_words}
-use Rattle.adj_transpose.specs.Lists.{Kept, scene}
+use Rattle.adj_transpose.specs.Lists.{Course, scene}
 use Rattle.adj_transpose.proofs.Variables.{and_true}
 use Rattle.adj_transpose.proofs.Steps.{assigns}
 pub use Rattle.adj_transpose.proofs.Temps.{SameLoops, SameBelow}
@@ -90,7 +90,7 @@ module _ (on : Vars) (sh : Var → Shape) (vars : List (List ℕ)) where
   temps_same (abs a) j s s' o h w = tt
 
 -- what some assignments of temporaries from the j-th on do
-pub record Makes (q : Calls ℤ) (sh : Var → Shape) (level : ℕ) (base : Kept) (c : Code) (j : ℕ) (s : Store ℤ) (t : List ℤ) (Q : Store ℤ → Type 0) : Type 0 where
+pub record Makes (q : Calls ℤ) (sh : Var → Shape) (level : ℕ) (base : Course) (c : Code) (j : ℕ) (s : Store ℤ) (t : List ℤ) (Q : Store ℤ → Type 0) : Type 0 where
   pub after : Store ℤ
   pub runs : Leads q (on_words sh level) c (scene base s t) (scene base after t)
   pub same : SameBelow j s after
@@ -98,7 +98,7 @@ pub record Makes (q : Calls ℤ) (sh : Var → Shape) (level : ℕ) (base : Kept
   pub shadows : (x : List ℕ) (i : ℕ) → after (shadow x) i ≡ s (shadow x) i
   pub holds : Q after
 
-module _ (on : Vars) (q : Calls ℤ) (sh : Var → Shape) (level : ℕ) (base : Kept) (vars : List (List ℕ)) where
+module _ (on : Vars) (q : Calls ℤ) (sh : Var → Shape) (level : ℕ) (base : Course) (vars : List (List ℕ)) where
   -- the value of an operand, by its temporary or by itself
   pub value_own : (t : Bool) (j : ℕ) (e e' : Term) (s : Store ℤ) → value (on_words sh level) e' s ≡ Ok (num sh e s) → OwnHolds sh t j e s → value (on_words sh level) (own_or t j e') s ≡ Ok (num sh e s)
   value_own true j e e' s v h = ap Ok h

@@ -8,7 +8,7 @@ use Rattle.adj_meaning.specs.Value.{Setting, holds}
 use Rattle.adj_meaning.specs.Scene.{Scene, stand, Outcome, Done, Trapped, then_do, counted}
 use Rattle.adj_meaning.specs.Run.{Calls, run, tests, most_tests}
 use Rattle.adj_meaning.proofs.Inversions.{then_done, value_done, count_done, done_same}
-use Rattle.adj_transpose.specs.Lists.{Kept, scene}
+use Rattle.adj_transpose.specs.Lists.{Course, scene}
 use Rattle.adj_reverse.specs.Reversals.{Reversal, LoopRun, Tells, Marks, ReversedLines}
 use Rattle.adj_reverse.specs.Runs.{Comes, ActComes, Passes, ActPasses}
 use Rattle.adj_reverse.proofs.Told.{tells_nothing, tells_then, marks_nothing, marks_then}
@@ -19,27 +19,27 @@ unfolding most_tests
 most_small = omega arith
 
 -- some tests and turns come from a store and a tape to others, where the test fails
-pub record TestsCome {C : Type 0} (q : Calls C) (n : Setting C) (m : ℕ) (c : Test) (line : ℕ) (body : Code) (base : Kept) (s s' : Store C) (t t' : List C) (rs : List Reversal) : Type 0 where
-  pub later : Kept
+pub record TestsCome {C : Type 0} (q : Calls C) (n : Setting C) (m : ℕ) (c : Test) (line : ℕ) (body : Code) (base : Course) (s s' : Store C) (t t' : List C) (rs : List Reversal) : Type 0 where
+  pub later : Course
   pub tells : Tells n.level base later rs
   pub cost : ℕ
   pub by : (k : ℕ) → tests n m (λ (z : Scene C). holds n c z.store) line (run q n body) (scene base s t) (cost + k) ≡ Done (scene later s' t') k
 
 -- the same of the program, which tells its runs of loops
-pub record TestsPass {C : Type 0} (lines : ReversedLines) (q : Calls C) (n : Setting C) (m : ℕ) (c : Test) (line : ℕ) (body : Code) (base : Kept) (s s' : Store C) (t : List C) (loops : List LoopRun) : Type 0 where
-  pub later : Kept
+pub record TestsPass {C : Type 0} (lines : ReversedLines) (q : Calls C) (n : Setting C) (m : ℕ) (c : Test) (line : ℕ) (body : Code) (base : Course) (s s' : Store C) (t : List C) (loops : List LoopRun) : Type 0 where
+  pub later : Course
   pub tells : Marks lines n.level base later loops
   pub cost : ℕ
   pub by : (k : ℕ) → tests n m (λ (z : Scene C). holds n c z.store) line (run q n body) (scene base s t) (cost + k) ≡ Done (scene later s' t) k
 
 module _ {C : Type 0} (q : Calls C) (n : Setting C) (c : Test) (line : ℕ) (body : Code) where
   -- the test fails
-  pub tests_none : (m : ℕ) (b : Kept) (s : Store C) (t : List C) → holds n c s ≡ Ok false → TestsCome q n m c line body b s s t t []
+  pub tests_none : (m : ℕ) (b : Course) (s : Store C) (t : List C) → holds n c s ≡ Ok false → TestsCome q n m c line body b s s t t []
   tests_none zero b s t h = record { later = b; tells = tells_nothing n.level b; cost = 0; by = λ k. let e : 0 + k ≡ k = omega arith in rw h (ap (Done (scene b s t)) e) }
   tests_none (suc m) b s t h = record { later = b; tells = tells_nothing n.level b; cost = 0; by = λ k. let e : 0 + k ≡ k = omega arith in rw h (ap (Done (scene b s t)) e) }
 
   -- it holds: a turn, and the tests after it
-  pub tests_more : (m : ℕ) (b : Kept) (s s1 s2 : Store C) (t t1 t2 : List C) → holds n c s ≡ Ok true → (f : Comes q n body b s s1 t t1 []) → TestsCome q n m c line body f.later s1 s2 t1 t2 [] → TestsCome q n (suc m) c line body b s s2 t t2 []
+  pub tests_more : (m : ℕ) (b : Course) (s s1 s2 : Store C) (t t1 t2 : List C) → holds n c s ≡ Ok true → (f : Comes q n body b s s1 t t1 []) → TestsCome q n m c line body f.later s1 s2 t1 t2 [] → TestsCome q n (suc m) c line body b s s2 t t2 []
   tests_more m b s s1 s2 t t1 t2 h f g = record {
     later = g.later;
     tells = tells_then n.level b f.later g.later [] [] f.tells g.tells;
@@ -51,20 +51,20 @@ module _ {C : Type 0} (q : Calls C) (n : Setting C) (c : Test) (line : ℕ) (bod
   }
 
   -- the statement
-  pub while_comes : (b : Kept) (s s' : Store C) (t t' : List C) → TestsCome q n most_tests c line body b s s' t t' [] → ActComes q n (during c body) line b s s' t t' []
+  pub while_comes : (b : Course) (s s' : Store C) (t t' : List C) → TestsCome q n most_tests c line body b s s' t t' [] → ActComes q n (during c body) line b s s' t t' []
   while_comes b s s' t t' l = record { later = l.later; tells = l.tells; runs = record { cost = l.cost; by = l.by } }
 
 -- ---- of the program
 
 module _ {C : Type 0} (lines : ReversedLines) (q : Calls C) (n : Setting C) (c : Test) (line : ℕ) (body : Code) where
-  pub tests_pass_none : (m : ℕ) (b : Kept) (s : Store C) (t : List C) → holds n c s ≡ Ok false → TestsPass lines q n m c line body b s s t []
+  pub tests_pass_none : (m : ℕ) (b : Course) (s : Store C) (t : List C) → holds n c s ≡ Ok false → TestsPass lines q n m c line body b s s t []
   tests_pass_none m b s t h = record { later = b; tells = marks_nothing lines n.level b; cost = 0; by = λ k. let e : 0 + k ≡ k = omega arith in fails m k ∙ ap (Done (scene b s t)) e }
     where
       fails : (m k : ℕ) → tests n m (λ (z : Scene C). holds n c z.store) line (run q n body) (scene b s t) (0 + k) ≡ Done (scene b s t) (0 + k)
       fails zero k = rw h refl
       fails (suc m) k = rw h refl
 
-  pub tests_pass_more : (la lb : List LoopRun) (m : ℕ) (b : Kept) (s s1 s2 : Store C) (t : List C) → holds n c s ≡ Ok true → (f : Passes lines q n body b s s1 t la) → TestsPass lines q n m c line body f.later s1 s2 t lb → TestsPass lines q n (suc m) c line body b s s2 t (lb ++ la)
+  pub tests_pass_more : (la lb : List LoopRun) (m : ℕ) (b : Course) (s s1 s2 : Store C) (t : List C) → holds n c s ≡ Ok true → (f : Passes lines q n body b s s1 t la) → TestsPass lines q n m c line body f.later s1 s2 t lb → TestsPass lines q n (suc m) c line body b s s2 t (lb ++ la)
   tests_pass_more la lb m b s s1 s2 t h f g = record {
     later = g.later;
     tells = marks_then lines n.level b f.later g.later la lb f.tells g.tells;
@@ -75,7 +75,7 @@ module _ {C : Type 0} (lines : ReversedLines) (q : Calls C) (n : Setting C) (c :
         ∙ rw h (ap (λ o. then_do o (λ s1 j. counted (stand n s1) j (λ i. tests n m (λ (z : Scene C). holds n c z.store) line (run q n body) s1 i))) (f.runs.by (suc (g.cost + k))) ∙ g.by k);
   }
 
-  pub while_passes : (loops : List LoopRun) (b : Kept) (s s' : Store C) (t : List C) → TestsPass lines q n most_tests c line body b s s' t loops → ActPasses lines q n (during c body) line b s s' t loops
+  pub while_passes : (loops : List LoopRun) (b : Course) (s s' : Store C) (t : List C) → TestsPass lines q n most_tests c line body b s s' t loops → ActPasses lines q n (during c body) line b s s' t loops
   while_passes loops b s s' t l = record { later = l.later; tells = l.tells; runs = record { cost = l.cost; by = l.by } }
 
 -- ---- tests that were done

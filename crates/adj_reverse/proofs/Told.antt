@@ -5,7 +5,7 @@ use Rattle.std.proofs.lemmas.List.{append-nil, reverse-append}
 use Rattle.adj_tree.proofs.Names.{nat_refl}
 use Rattle.adj_meaning.specs.Event.{Event, Enter, Begin, End, Marked}
 use Rattle.adj_meaning.specs.Store.{Shape}
-use Rattle.adj_transpose.specs.Lists.{Kept}
+use Rattle.adj_transpose.specs.Lists.{Course}
 use Rattle.adj_reverse.specs.Reversals.{Called, Reversal, calls_after, ends_after, reversals_in, MarkedRun, StepUnits, LoopRun, with_run, runs_in, times, words_taken, AreWithin, AreReversed, in_order, IsTold, IsToldBy, Tells, TellsCalls, Marks, ReversedLines}
 
 -- ---- lists of events
@@ -127,10 +127,10 @@ told_reversal level steps snapshots height inner calls rs f = record {
 
 -- ---- from a kept to a later one
 
-pub tells_none : (level : ℕ) (b : Kept) → TellsCalls level b b [] []
+pub tells_none : (level : ℕ) (b : Course) → TellsCalls level b b [] []
 tells_none level b = record { opened = refl; told = []; events = refl; is = told_by_none level }
 
-pub tells_append : (level : ℕ) (a b c : Kept) (ca cb : List Called) (ra rb : List Reversal) → TellsCalls level a b ca ra → TellsCalls level b c cb rb → TellsCalls level a c (ca ++ cb) (ra ++ rb)
+pub tells_append : (level : ℕ) (a b c : Course) (ca cb : List Called) (ra rb : List Reversal) → TellsCalls level a b ca ra → TellsCalls level b c cb rb → TellsCalls level a c (ca ++ cb) (ra ++ rb)
 tells_append level a b c ca cb ra rb f g = record {
   opened = g.opened ∙ f.opened;
   told = g.told ++ f.told;
@@ -139,10 +139,10 @@ tells_append level a b c ca cb ra rb f g = record {
 }
 
 -- where the unit's own calls don't matter
-pub tells_of : (level : ℕ) (a b : Kept) (calls : List Called) (rs : List Reversal) → TellsCalls level a b calls rs → Tells level a b rs
+pub tells_of : (level : ℕ) (a b : Course) (calls : List Called) (rs : List Reversal) → TellsCalls level a b calls rs → Tells level a b rs
 tells_of level a b calls rs f = record { opened = f.opened; told = f.told; events = f.events; is = f.is.told_is }
 
-pub tells_then : (level : ℕ) (a b c : Kept) (ra rb : List Reversal) → Tells level a b ra → Tells level b c rb → Tells level a c (ra ++ rb)
+pub tells_then : (level : ℕ) (a b c : Course) (ra rb : List Reversal) → Tells level a b ra → Tells level b c rb → Tells level a c (ra ++ rb)
 tells_then level a b c ra rb f g = record {
   opened = g.opened ∙ f.opened;
   told = g.told ++ f.told;
@@ -151,7 +151,7 @@ tells_then level a b c ra rb f g = record {
 }
 
 -- a reversal as a whole
-pub tells_reversal : (level steps snapshots height : ℕ) (base later : Kept) (calls : List Called) (rs : List Reversal) → TellsCalls level (record { opened = suc base.opened; events = Begin steps snapshots level height ∷ base.events }) later calls rs → Tells level base (record { opened = base.opened; events = End level ∷ later.events }) (reversal_of steps snapshots height calls ∷ rs)
+pub tells_reversal : (level steps snapshots height : ℕ) (base later : Course) (calls : List Called) (rs : List Reversal) → TellsCalls level (record { opened = suc base.opened; events = Begin steps snapshots level height ∷ base.events }) later calls rs → Tells level base (record { opened = base.opened; events = End level ∷ later.events }) (reversal_of steps snapshots height calls ∷ rs)
 tells_reversal level steps snapshots height base later calls rs f = record {
   opened = refl;
   told = End level ∷ (f.told ++ (Begin steps snapshots level height ∷ []));
@@ -160,7 +160,7 @@ tells_reversal level steps snapshots height base later calls rs f = record {
 }
 
 -- the reversals of a whole run, which began with no events
-pub all_told : (level : ℕ) (later : Kept) (rs : List Reversal) → Tells level (record { opened = 0; events = [] }) later rs → reversals_in (in_order later.events []) ≡ rs
+pub all_told : (level : ℕ) (later : Course) (rs : List Reversal) → Tells level (record { opened = 0; events = [] }) later rs → reversals_in (in_order later.events []) ≡ rs
 all_told level later rs f = ap (λ z. reversals_in (in_order z [])) (f.events ∙ append-nil f.told) ∙ f.is.all [] ∙ append-nil rs
 
 -- ---- calls and reversals in lists
@@ -217,14 +217,14 @@ runs_in-append lines (Marked line turns snapshots ∷ b) a = go (lines line) (ru
     go None ih = ih
 
 -- nothing is told
-pub tells_nothing : (level : ℕ) (b : Kept) → Tells level b b []
+pub tells_nothing : (level : ℕ) (b : Course) → Tells level b b []
 tells_nothing level b = record { opened = refl; told = []; events = refl; is = told_none level }
 
-pub marks_nothing : (lines : ReversedLines) (level : ℕ) (b : Kept) → Marks lines level b b []
+pub marks_nothing : (lines : ReversedLines) (level : ℕ) (b : Course) → Marks lines level b b []
 marks_nothing lines level b = record { opened = refl; told = []; events = refl; is = told_none level; loops_are = refl }
 
 -- one after the other: the loops of the later one come first
-pub marks_then : (lines : ReversedLines) (level : ℕ) (a b c : Kept) (la lb : List LoopRun) → Marks lines level a b la → Marks lines level b c lb → Marks lines level a c (lb ++ la)
+pub marks_then : (lines : ReversedLines) (level : ℕ) (a b c : Course) (la lb : List LoopRun) → Marks lines level a b la → Marks lines level b c lb → Marks lines level a c (lb ++ la)
 marks_then lines level a b c la lb f g = record {
   opened = g.opened ∙ f.opened;
   told = g.told ++ f.told;
@@ -234,11 +234,11 @@ marks_then lines level a b c la lb f g = record {
 }
 
 -- the program begins no reversal
-pub tells_of_marks : (lines : ReversedLines) (level : ℕ) (a b : Kept) (loops : List LoopRun) → Marks lines level a b loops → Tells level a b []
+pub tells_of_marks : (lines : ReversedLines) (level : ℕ) (a b : Course) (loops : List LoopRun) → Marks lines level a b loops → Tells level a b []
 tells_of_marks lines level a b loops f = record { opened = f.opened; told = f.told; events = f.events; is = f.is }
 
 -- the end of a marked loop at a line that isn't in the set
-pub marks_other : (lines : ReversedLines) (level line turns snapshots : ℕ) (a b : Kept) (loops : List LoopRun) → lines line ≡ None → Marks lines level a b loops → Marks lines level a (record { opened = b.opened; events = Marked line turns snapshots ∷ b.events }) loops
+pub marks_other : (lines : ReversedLines) (level line turns snapshots : ℕ) (a b : Course) (loops : List LoopRun) → lines line ≡ None → Marks lines level a b loops → Marks lines level a (record { opened = b.opened; events = Marked line turns snapshots ∷ b.events }) loops
 marks_other lines level line turns snapshots a b loops other f = record {
   opened = f.opened;
   told = Marked line turns snapshots ∷ f.told;
@@ -248,7 +248,7 @@ marks_other lines level line turns snapshots a b loops other f = record {
 }
 
 -- the end of a marked loop at a line of the set
-pub marks_own : (lines : ReversedLines) (level : ℕ) (run : LoopRun) (a b : Kept) (loops : List LoopRun) → lines run.mark.line ≡ Some run.step → Marks lines level a b loops → Marks lines level a (record { opened = b.opened; events = Marked run.mark.line run.mark.turns run.mark.snapshots ∷ b.events }) (run ∷ loops)
+pub marks_own : (lines : ReversedLines) (level : ℕ) (run : LoopRun) (a b : Course) (loops : List LoopRun) → lines run.mark.line ≡ Some run.step → Marks lines level a b loops → Marks lines level a (record { opened = b.opened; events = Marked run.mark.line run.mark.turns run.mark.snapshots ∷ b.events }) (run ∷ loops)
 marks_own lines level run a b loops own f = record {
   opened = f.opened;
   told = Marked run.mark.line run.mark.turns run.mark.snapshots ∷ f.told;
@@ -258,7 +258,7 @@ marks_own lines level run a b loops own f = record {
 }
 
 -- and in a sweep
-pub tells_marked : (level line turns snapshots : ℕ) (a b : Kept) (rs : List Reversal) → Tells level a b rs → Tells level a (record { opened = b.opened; events = Marked line turns snapshots ∷ b.events }) rs
+pub tells_marked : (level line turns snapshots : ℕ) (a b : Course) (rs : List Reversal) → Tells level a b rs → Tells level a (record { opened = b.opened; events = Marked line turns snapshots ∷ b.events }) rs
 tells_marked level line turns snapshots a b rs f = record {
   opened = f.opened;
   told = Marked line turns snapshots ∷ f.told;
@@ -267,7 +267,7 @@ tells_marked level line turns snapshots a b rs f = record {
 }
 
 -- a call: the entry of the unit, and what its body tells
-pub tells_called : (level height : ℕ) (name : List ℕ) (shapes : List Shape) (base later : Kept) (rs : List Reversal) → Tells (suc level) (record { opened = 0; events = Enter name (suc level) height shapes ∷ base.events }) later rs → Tells level base (record { opened = base.opened; events = later.events }) rs
+pub tells_called : (level height : ℕ) (name : List ℕ) (shapes : List Shape) (base later : Course) (rs : List Reversal) → Tells (suc level) (record { opened = 0; events = Enter name (suc level) height shapes ∷ base.events }) later rs → Tells level base (record { opened = base.opened; events = later.events }) rs
 tells_called level height name shapes base later rs f = record {
   opened = refl;
   told = f.told ++ (Enter name (suc level) height shapes ∷ []);
@@ -276,7 +276,7 @@ tells_called level height name shapes base later rs f = record {
 }
 
 -- with the calls that the caller makes by it
-pub tells_entered : (level height : ℕ) (name : List ℕ) (shapes : List Shape) (base later : Kept) (rs : List Reversal) → Tells (suc level) (record { opened = 0; events = Enter name (suc level) height shapes ∷ base.events }) later rs → TellsCalls level base (record { opened = base.opened; events = later.events }) (record { unit = name; height = height; shapes = shapes } ∷ []) rs
+pub tells_entered : (level height : ℕ) (name : List ℕ) (shapes : List Shape) (base later : Course) (rs : List Reversal) → Tells (suc level) (record { opened = 0; events = Enter name (suc level) height shapes ∷ base.events }) later rs → TellsCalls level base (record { opened = base.opened; events = later.events }) (record { unit = name; height = height; shapes = shapes } ∷ []) rs
 tells_entered level height name shapes base later rs f = record {
   opened = refl;
   told = f.told ++ (Enter name (suc level) height shapes ∷ []);
@@ -284,7 +284,7 @@ tells_entered level height name shapes base later rs f = record {
   is = told_call level height name shapes f.told rs f.is;
 }
 
-pub marks_called : (lines : ReversedLines) (level height : ℕ) (name : List ℕ) (shapes : List Shape) (base later : Kept) (loops : List LoopRun) → Marks lines (suc level) (record { opened = 0; events = Enter name (suc level) height shapes ∷ base.events }) later loops → Marks lines level base (record { opened = base.opened; events = later.events }) loops
+pub marks_called : (lines : ReversedLines) (level height : ℕ) (name : List ℕ) (shapes : List Shape) (base later : Course) (loops : List LoopRun) → Marks lines (suc level) (record { opened = 0; events = Enter name (suc level) height shapes ∷ base.events }) later loops → Marks lines level base (record { opened = base.opened; events = later.events }) loops
 marks_called lines level height name shapes base later loops f = record {
   opened = refl;
   told = f.told ++ (Enter name (suc level) height shapes ∷ []);

@@ -7,7 +7,7 @@ use Rattle.adj_word.specs.Word.{add}
 use Rattle.std.specs.Prelude.{ℤ}
 use Rattle.adj_meaning.specs.Scene.{Scene, Stand, stand, Go, Outcome, Done, Trapped, More, Full, then_do, counted}
 use Rattle.adj_meaning.specs.Run.{Calls, run, turns, stepped}
-use Rattle.adj_transpose.specs.Lists.{Kept, scene}
+use Rattle.adj_transpose.specs.Lists.{Course, scene}
 use Rattle.adj_reverse.specs.Reversals.{Reversal, LoopRun, Tells, Marks, ReversedLines}
 use Rattle.adj_reverse.specs.Runs.{Comes, Passes}
 use Rattle.adj_reverse.proofs.Told.{tells_nothing, tells_then, marks_nothing, marks_then}
@@ -17,15 +17,15 @@ abbrev pub next_store : {C : Type 0} → Setting C → Var → ℤ → Store C �
 next_store n x c s = set s x 0 (n.numbers.of_word (add (n.numbers.shown (s x 0)) c))
 
 -- some turns come from a store and a tape to others
-pub record TurnsCome {C : Type 0} (q : Calls C) (n : Setting C) (m : ℕ) (body : Code) (x : Var) (c : ℤ) (base : Kept) (s s' : Store C) (t t' : List C) (rs : List Reversal) : Type 0 where
-  pub later : Kept
+pub record TurnsCome {C : Type 0} (q : Calls C) (n : Setting C) (m : ℕ) (body : Code) (x : Var) (c : ℤ) (base : Course) (s s' : Store C) (t t' : List C) (rs : List Reversal) : Type 0 where
+  pub later : Course
   pub tells : Tells n.level base later rs
   pub cost : ℕ
   pub by : (k : ℕ) → turns n m (run q n body) (stepped n x c) (scene base s t) (cost + k) ≡ Done (scene later s' t') k
 
 -- the same of the program, which tells its runs of loops
-pub record TurnsPass {C : Type 0} (lines : ReversedLines) (q : Calls C) (n : Setting C) (m : ℕ) (body : Code) (x : Var) (c : ℤ) (base : Kept) (s s' : Store C) (t : List C) (loops : List LoopRun) : Type 0 where
-  pub later : Kept
+pub record TurnsPass {C : Type 0} (lines : ReversedLines) (q : Calls C) (n : Setting C) (m : ℕ) (body : Code) (x : Var) (c : ℤ) (base : Course) (s s' : Store C) (t : List C) (loops : List LoopRun) : Type 0 where
+  pub later : Course
   pub tells : Marks lines n.level base later loops
   pub cost : ℕ
   pub by : (k : ℕ) → turns n m (run q n body) (stepped n x c) (scene base s t) (cost + k) ≡ Done (scene later s' t) k
@@ -49,11 +49,11 @@ turns-last n (suc m) go after s k =
     ∙ sym (counted-then (stand n s) k (λ j. then_do (go s j) (λ s1 l. turns n m go after (after s1) l)) (λ s1 l. turns n 1 go after s1 l))
 
 module _ {C : Type 0} (q : Calls C) (n : Setting C) (body : Code) (x : Var) (c : ℤ) where
-  pub turns_none : (b : Kept) (s : Store C) (t : List C) → TurnsCome q n 0 body x c b s s t t []
+  pub turns_none : (b : Course) (s : Store C) (t : List C) → TurnsCome q n 0 body x c b s s t t []
   turns_none b s t = record { later = b; tells = tells_nothing n.level b; cost = 0; by = λ k. let e : 0 + k ≡ k = omega arith in ap (Done (scene b s t)) e }
 
   -- the first turn, and the others
-  pub turns_more : {ra rb : List Reversal} (m : ℕ) (b : Kept) (s s1 s2 : Store C) (t t1 t2 : List C) (f : Comes q n body b s s1 t t1 ra) → TurnsCome q n m body x c f.later (next_store n x c s1) s2 t1 t2 rb → TurnsCome q n (suc m) body x c b s s2 t t2 (ra ++ rb)
+  pub turns_more : {ra rb : List Reversal} (m : ℕ) (b : Course) (s s1 s2 : Store C) (t t1 t2 : List C) (f : Comes q n body b s s1 t t1 ra) → TurnsCome q n m body x c f.later (next_store n x c s1) s2 t1 t2 rb → TurnsCome q n (suc m) body x c b s s2 t t2 (ra ++ rb)
   turns_more {ra} {rb} m b s s1 s2 t t1 t2 f g = record {
     later = g.later;
     tells = tells_then n.level b f.later g.later ra rb f.tells g.tells;
@@ -64,7 +64,7 @@ module _ {C : Type 0} (q : Calls C) (n : Setting C) (body : Code) (x : Var) (c :
   }
 
   -- the others, and the last turn
-  pub turns_then : {ra rb : List Reversal} (m : ℕ) (b : Kept) (s s1 s2 : Store C) (t t1 t2 : List C) (f : TurnsCome q n m body x c b s s1 t t1 ra) → Comes q n body f.later s1 s2 t1 t2 rb → TurnsCome q n (suc m) body x c b s (next_store n x c s2) t t2 (ra ++ rb)
+  pub turns_then : {ra rb : List Reversal} (m : ℕ) (b : Course) (s s1 s2 : Store C) (t t1 t2 : List C) (f : TurnsCome q n m body x c b s s1 t t1 ra) → Comes q n body f.later s1 s2 t1 t2 rb → TurnsCome q n (suc m) body x c b s (next_store n x c s2) t t2 (ra ++ rb)
   turns_then {ra} {rb} m b s s1 s2 t t1 t2 f g = record {
     later = g.later;
     tells = tells_then n.level b f.later g.later ra rb f.tells g.tells;
@@ -79,10 +79,10 @@ module _ {C : Type 0} (q : Calls C) (n : Setting C) (body : Code) (x : Var) (c :
 
   -- the same of the program
   module _ (lines : ReversedLines) where
-    pub turns_pass_none : (b : Kept) (s : Store C) (t : List C) → TurnsPass lines q n 0 body x c b s s t []
+    pub turns_pass_none : (b : Course) (s : Store C) (t : List C) → TurnsPass lines q n 0 body x c b s s t []
     turns_pass_none b s t = record { later = b; tells = marks_nothing lines n.level b; cost = 0; by = λ k. let e : 0 + k ≡ k = omega arith in ap (Done (scene b s t)) e }
 
-    pub turns_pass_more : (la lb : List LoopRun) (m : ℕ) (b : Kept) (s s1 s2 : Store C) (t : List C) (f : Passes lines q n body b s s1 t la) → TurnsPass lines q n m body x c f.later (next_store n x c s1) s2 t lb → TurnsPass lines q n (suc m) body x c b s s2 t (lb ++ la)
+    pub turns_pass_more : (la lb : List LoopRun) (m : ℕ) (b : Course) (s s1 s2 : Store C) (t : List C) (f : Passes lines q n body b s s1 t la) → TurnsPass lines q n m body x c f.later (next_store n x c s1) s2 t lb → TurnsPass lines q n (suc m) body x c b s s2 t (lb ++ la)
     turns_pass_more la lb m b s s1 s2 t f g = record {
       later = g.later;
       tells = marks_then lines n.level b f.later g.later la lb f.tells g.tells;

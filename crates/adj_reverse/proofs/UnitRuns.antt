@@ -19,7 +19,7 @@ use Rattle.adj_meaning.proofs.SeenRuns.{run_seen}
 use Rattle.adj_meaning.proofs.SeenCalls.{own_names, code_same, calls_carry}
 use Rattle.adj_meaning.proofs.Projected.{without_tangents}
 use Rattle.adj_transpose.specs.Pairs.{Words, with_tangents, on_words, on_duals}
-use Rattle.adj_transpose.specs.Lists.{Kept, scene}
+use Rattle.adj_transpose.specs.Lists.{Course, scene}
 use Rattle.adj_transpose.specs.Adjoint.{Ends}
 use Rattle.adj_transpose.proofs.Units.{outside}
 
@@ -39,7 +39,7 @@ module _ {C : Type 0} (n : Numbers C) (ps : List Procedure) (u : Procedure) (inp
   handed_out k s left = Done (output_from s) (k - left)
 
   -- what was told at the unit's entry
-  abbrev pub kept_in : Kept
+  abbrev pub kept_in : Course
   kept_in = record { opened = 0; events = Enter u.name 1 0 (dummy_shapes unit_setting u) ∷ [] }
 
   abbrev pub begin : Scene C
@@ -83,7 +83,7 @@ module _ {C : Type 0} (n : Numbers C) (ps : List Procedure) (u : Procedure) (inp
   }
 
 -- the run of a list on words ends as its dual run, without the tangents
-pub words_end : (ps : List Procedure) (depth : ℕ) (sh : Var → Shape) (c : Code) (base later : Kept) (u u' : Store ℤ) (y y' : Words) (end : Scene ℤ) (k left : ℕ) → run (calls_of ps depth) (on_words sh 1) c (scene base u []) k ≡ Done end left → Leads (calls_of ps depth) (on_duals sh 1) c (scene base (with_tangents u y) []) (scene later (with_tangents u' y') []) → end ≡ scene later u' []
+pub words_end : (ps : List Procedure) (depth : ℕ) (sh : Var → Shape) (c : Code) (base later : Course) (u u' : Store ℤ) (y y' : Words) (end : Scene ℤ) (k left : ℕ) → run (calls_of ps depth) (on_words sh 1) c (scene base u []) k ≡ Done end left → Leads (calls_of ps depth) (on_duals sh 1) c (scene base (with_tangents u y) []) (scene later (with_tangents u' y') []) → end ≡ scene later u' []
 words_end ps depth sh c base later u u' y y' end k left is d = done_same end (scene later u' []) (left + d.cost) k (sym more ∙ ap (run (calls_of ps depth) (on_words sh 1) c (scene base u [])) e ∙ words_run)
   where
     more : run (calls_of ps depth) (on_words sh 1) c (scene base u []) (k + d.cost) ≡ Done end (left + d.cost)

@@ -12,7 +12,7 @@ use Rattle.adj_transpose.specs.Marks.{Vars, Marks, point_before, point_after}
 use Rattle.adj_transpose.specs.Marked.{code_if}
 use Rattle.adj_transpose.specs.Facts.{joined, Facts}
 use Rattle.adj_transpose.specs.Pairs.{Key, Words, with_tangents, on_words, on_duals}
-use Rattle.adj_transpose.specs.Lists.{Kept}
+use Rattle.adj_transpose.specs.Lists.{Course}
 use Rattle.adj_transpose.proofs.Variables.{and_true}
 use Rattle.adj_reverse.specs.Plan.{Plan, Schedules}
 use Rattle.adj_reverse.specs.Emission.{is_empty, while_forward, while_backward, forward_act_with, forward_with, backward_act_with, backward_with}
@@ -56,7 +56,7 @@ module _ (sc : Schedules) (p q : Calls ℤ) (lines : ReversedLines) (qd : Calls 
     derivative : Words → Words
     change : Words → Words
     loops : List LoopRun
-    dual : (home : Kept) (y : Words) (t : List (ℤ × ℤ)) → TestsPass lines qd nd most c line body home (with_tangents u y) (with_tangents u' (derivative y)) t loops
+    dual : (home : Course) (y : Words) (t : List (ℤ × ℤ)) → TestsPass lines qd nd most c line body home (with_tangents u y) (with_tangents u' (derivative y)) t loops
     matches : (y z : Words) → Matches sh m n_in y z → Matches sh m n_in (derivative y) (change z)
     unwritten : (k : Key) → wr (plain k.0) ≡ false → (y : Words) → (derivative y k ≡ y k) × (change y k ≡ y k)
     still : inert ≡ true → (y : Words) (k : Key) → change y k ≡ y k

@@ -17,7 +17,7 @@ use Rattle.adj_meaning.proofs.Leadings.{leads_stop, leads_step}
 use Rattle.adj_transpose.specs.Marks.{Vars}
 use Rattle.adj_transpose.specs.Facts.{Within}
 use Rattle.adj_transpose.specs.Pairs.{Key, Words, shadows, on_words}
-use Rattle.adj_transpose.specs.Lists.{Kept, scene}
+use Rattle.adj_transpose.specs.Lists.{Course, scene}
 use Rattle.adj_transpose.proofs.Turned.{SameDepth}
 use Rattle.adj_reverse.specs.Emission.{literal, push_own, while_forward, while_backward}
 use Rattle.adj_reverse.specs.Passing.{plainly}
@@ -40,7 +40,7 @@ module _ (q : Calls ℤ) (sh : Var → Shape) (level : ℕ) (xs : List Key) (d l
   -- ---- with a backward sweep
 
   -- the turns are gone through backward, down to the j-th
-  pub record TestsBack (m j : ℕ) (base : Kept) (f g : Store ℤ) (t t' : List ℤ) (change : Words → Words) (loops : List LoopRun) : Type 0 where
+  pub record TestsBack (m j : ℕ) (base : Course) (f g : Store ℤ) (t t' : List ℤ) (change : Words → Words) (loops : List LoopRun) : Type 0 where
     pub after : Store ℤ
     pub reversals : List Reversal
     pub reversed : AreReversed loops reversals
@@ -52,7 +52,7 @@ module _ (q : Calls ℤ) (sh : Var → Shape) (level : ℕ) (xs : List Key) (d l
     pub number : after (helper turn (suc d)) 0 ≡ add (pos j) (negsuc 0)
 
   -- the tests that are left, with m turns from the j-th on
-  pub record TestsForth (tests m j : ℕ) (base : Kept) (u' f : Store ℤ) (t : List ℤ) (change : Words → Words) (loops : List LoopRun) : Type 0 where
+  pub record TestsForth (tests m j : ℕ) (base : Course) (u' f : Store ℤ) (t : List ℤ) (change : Words → Words) (loops : List LoopRun) : Type 0 where
     pub to : Store ℤ
     pub trail : List ℤ
     pub runs : TestsCome q nw tests c line (forward_turn (suc d) line Fb) base f to t (trail ++ t) []
@@ -61,16 +61,16 @@ module _ (q : Calls ℤ) (sh : Var → Shape) (level : ℕ) (xs : List Key) (d l
     pub shadows : (y : List ℕ) (i : ℕ) → to (shadow y) i ≡ f (shadow y) i
     pub depth : SameDepth d f to
     pub counted_is : to (helper count (suc d)) 0 ≡ pos (j + m)
-    pub back : (b : Kept) (g : Store ℤ) → SameOn sh held to g → g (helper turn (suc d)) 0 ≡ add (pos (j + m)) (negsuc 0) → TestsBack m j b f g (trail ++ t) t change loops
+    pub back : (b : Course) (g : Store ℤ) → SameOn sh held to g → g (helper turn (suc d)) 0 ≡ add (pos (j + m)) (negsuc 0) → TestsBack m j b f g (trail ++ t) t change loops
 
   pub record TestsSwept (tests j : ℕ) (u u' : Store ℤ) (change : Words → Words) (loops : List LoopRun) : Type 0 where
     pub turns : ℕ
     pub small : j + turns < 2 ^ 63
-    pub forth : (b : Kept) (f : Store ℤ) (t : List ℤ) → SameOn sh needed u f → f (helper count (suc d)) 0 ≡ pos j → TestsForth tests turns j b u' f t change loops
+    pub forth : (b : Course) (f : Store ℤ) (t : List ℤ) → SameOn sh needed u f → f (helper count (suc d)) 0 ≡ pos j → TestsForth tests turns j b u' f t change loops
 
   -- ---- without one
 
-  pub record SilentForth (tests : ℕ) (base : Kept) (u' f : Store ℤ) (t : List ℤ) (change : Words → Words) (loops : List LoopRun) : Type 0 where
+  pub record SilentForth (tests : ℕ) (base : Course) (u' f : Store ℤ) (t : List ℤ) (change : Words → Words) (loops : List LoopRun) : Type 0 where
     pub to : Store ℤ
     pub trail : List ℤ
     pub runs : TestsCome q nw tests c line Fb base f to t (trail ++ t) []
@@ -78,10 +78,10 @@ module _ (q : Calls ℤ) (sh : Var → Shape) (level : ℕ) (xs : List Key) (d l
     pub off : SameOff wr f to
     pub shadows : (y : List ℕ) (i : ℕ) → to (shadow y) i ≡ f (shadow y) i
     pub depth : SameDepth d f to
-    pub returns : (b : Kept) (g : Store ℤ) → SameOn sh held to g → Returns q sh level xs d stop held wr b f g (trail ++ t) t change loops
+    pub returns : (b : Course) (g : Store ℤ) → SameOn sh held to g → Returns q sh level xs d stop held wr b f g (trail ++ t) t change loops
 
   pub record TestsSilent (tests : ℕ) (u u' : Store ℤ) (change : Words → Words) (loops : List LoopRun) : Type 0 where
-    pub forth : (b : Kept) (f : Store ℤ) (t : List ℤ) → SameOn sh needed u f → SilentForth tests b u' f t change loops
+    pub forth : (b : Course) (f : Store ℤ) (t : List ℤ) → SameOn sh needed u f → SilentForth tests b u' f t change loops
 
   module _ (text : AllText (λ v. reads_test v c)) (uses : Within (λ v. reads_test v c) needed) where
     test_again : (u f : Store ℤ) (r : Bool) → SameOn sh needed u f → holds (on_words (plainly sh) level) c u ≡ Ok r → holds nw c f ≡ Ok r

@@ -4,7 +4,7 @@ use Rattle.adj_tree.specs.Code.{name_eq}
 use Rattle.adj_revolve.specs.LeastCost.{least_cost}
 use Rattle.adj_meaning.specs.Store.{Shape, size_of}
 use Rattle.adj_meaning.specs.Event.{Event, Enter, Begin, End, Marked}
-use Rattle.adj_transpose.specs.Lists.{Kept}
+use Rattle.adj_transpose.specs.Lists.{Course}
 
 -- ---- reversals by events alone
 
@@ -154,21 +154,21 @@ pub record IsToldBy (level : ℕ) (told : List Event) (calls : List Called) (rs 
   pub own_ends : (later : List Event) → ends_after level 0 (in_order told later) ≡ ends_after level 0 later
 
 -- what was kept, and later: as many reversals are open, and these were begun and ended meanwhile
-pub record Tells (level : ℕ) (base later : Kept) (rs : List Reversal) : Type 0 where
+pub record Tells (level : ℕ) (base later : Course) (rs : List Reversal) : Type 0 where
   pub opened : later.opened ≡ base.opened
   pub told : List Event
   pub events : later.events ≡ told ++ base.events
   pub is : IsTold level told rs
 
 -- the same, with the calls that the unit made
-pub record TellsCalls (level : ℕ) (base later : Kept) (calls : List Called) (rs : List Reversal) : Type 0 where
+pub record TellsCalls (level : ℕ) (base later : Course) (calls : List Called) (rs : List Reversal) : Type 0 where
   pub opened : later.opened ≡ base.opened
   pub told : List Event
   pub events : later.events ≡ told ++ base.events
   pub is : IsToldBy level told calls rs
 
 -- what was kept, and later: no reversal was begun meanwhile, and these runs of loops at lines of a set were told, the last first
-pub record Marks (lines : ReversedLines) (level : ℕ) (base later : Kept) (loops : List LoopRun) : Type 0 where
+pub record Marks (lines : ReversedLines) (level : ℕ) (base later : Course) (loops : List LoopRun) : Type 0 where
   pub opened : later.opened ≡ base.opened
   pub told : List Event
   pub events : later.events ≡ told ++ base.events

@@ -10,7 +10,7 @@ use Rattle.adj_meaning.specs.Run.{Calls, trips, in_force}
 use Rattle.adj_transpose.specs.Marks.{Vars, point_before, point_after}
 use Rattle.adj_transpose.specs.Facts.{In, joined, Facts}
 use Rattle.adj_transpose.specs.Pairs.{Key, Words, shadows, on_words}
-use Rattle.adj_transpose.specs.Lists.{Kept}
+use Rattle.adj_transpose.specs.Lists.{Course}
 use Rattle.adj_reverse.specs.Plan.{Step, writes_actual}
 use Rattle.adj_reverse.specs.ReversalCode.{row_forward, row_backward}
 use Rattle.adj_reverse.specs.Laws.{just, CalleeFacts}
@@ -23,7 +23,7 @@ use Rattle.adj_reverse.specs.Steps.{LeavesHelpers, changes, loops_of, Steps, Ste
 use Rattle.adj_reverse.specs.Theorem.{plan_of}
 
 -- what comes back of the loop in the backward sweep, from the store g
-pub record ReversedBack (q : Calls ℤ) (sh : Var → Shape) (level : ℕ) (xs : List Key) (d : ℕ) (x : List ℕ) (written held : Vars) (c : Code) (base : Kept) (f g : Store ℤ) (t t' : List ℤ) (change : Words → Words) (loops : List LoopRun) : Type 0 where
+pub record ReversedBack (q : Calls ℤ) (sh : Var → Shape) (level : ℕ) (xs : List Key) (d : ℕ) (x : List ℕ) (written held : Vars) (c : Code) (base : Course) (f g : Store ℤ) (t t' : List ℤ) (change : Words → Words) (loops : List LoopRun) : Type 0 where
   pub after : Store ℤ
   -- it reverses these runs of loops
   pub reversals : List Reversal
@@ -36,7 +36,7 @@ pub record ReversedBack (q : Calls ℤ) (sh : Var → Shape) (level : ℕ) (xs :
   pub depth : LeavesHelpers d g after
 
 -- the loop in both sweeps, from the store f: the forward sweep comes to a store with the values of u' that are needed
-pub record ReversedRow (q : Calls ℤ) (sh : Var → Shape) (level : ℕ) (xs : List Key) (d : ℕ) (x : List ℕ) (written needed held held' : Vars) (forth back : Code) (base : Kept) (u' f : Store ℤ) (t : List ℤ) (change : Words → Words) (loops : List LoopRun) : Type 0 where
+pub record ReversedRow (q : Calls ℤ) (sh : Var → Shape) (level : ℕ) (xs : List Key) (d : ℕ) (x : List ℕ) (written needed held held' : Vars) (forth back : Code) (base : Course) (u' f : Store ℤ) (t : List ℤ) (change : Words → Words) (loops : List LoopRun) : Type 0 where
   pub to : Store ℤ
   pub trail : List ℤ
   pub runs : Comes q (on_words sh level) forth base f to t (trail ++ t) []
@@ -44,7 +44,7 @@ pub record ReversedRow (q : Calls ℤ) (sh : Var → Shape) (level : ℕ) (xs : 
   pub off : SameOff written f to
   pub shades : (y : List ℕ) (j : ℕ) → to (shadow y) j ≡ f (shadow y) j
   pub depth : LeavesHelpers d f to
-  pub returns : (b : Kept) (h : Store ℤ) → SameOn sh held to h → ReversedBack q sh level xs d x written held' back b f h (trail ++ t) t change loops
+  pub returns : (b : Course) (h : Store ℤ) → SameOn sh held to h → ReversedBack q sh level xs d x written held' back b f h (trail ++ t) t change loops
 
 -- With facts that meet the laws, both sweeps of a marked loop that turned l times with m snapshots do so: from a store with the values that
 -- are needed before it, where the program had u there and U i before its step i.
@@ -59,7 +59,7 @@ ReversedRowsTurn =
     (u : Store ℤ) (a0 b0 c0 : ℤ) → value (on_words (plainly sh) level) a u ≡ Ok a0 → value (on_words (plainly sh) level) b u ≡ Ok b0 → value (on_words (plainly sh) level) c u ≡ Ok c0 → trips unmarked a0 b0 c0 ≡ Ok l → in_force (on_words (plainly sh) level) mark u ≡ Some m →
     (change : ℕ → Words → Words) (loops : ℕ → List LoopRun) (U U' : ℕ → Store ℤ) →
     U 0 ≡ set u (plain x) 0 (wrap a0) → ((j : ℕ) → j < l → U (suc j) ≡ set (U' j) (plain x) 0 (add (U' j (plain x) 0) c0)) → Steps q sh level cells line x g given name l a0 c0 change loops U U' →
-    (at : ℕ) (base : Kept) (f : Store ℤ) (t : List ℤ) → SameOn sh (w.needed (point_before i)) u f →
+    (at : ℕ) (base : Course) (f : Store ℤ) (t : List ℤ) → SameOn sh (w.needed (point_before i)) u f →
     let s : Step = record { name = name; given = given; read = g.read; mark = mark } in
     let run : LoopRun = record { mark = record { line = at; turns = l; snapshots = m }; step = step_units name g.callee g.read } in
     ReversedRow q sh level cells d x (joined (just (plain x)) (writes_actual g.callee given)) (w.needed (point_after i)) (w.held (point_after i)) (w.held (point_before i))

@@ -12,7 +12,7 @@ use Rattle.adj_transpose.specs.Marks.{Vars}
 use Rattle.adj_transpose.specs.Facts.{In, joined}
 use Rattle.adj_transpose.specs.Naming.{AreApart}
 use Rattle.adj_transpose.specs.Pairs.{Key, Words, shadows, on_words}
-use Rattle.adj_transpose.specs.Lists.{Kept, scene}
+use Rattle.adj_transpose.specs.Lists.{Course, scene}
 use Rattle.adj_reverse.specs.Plan.{Callee, Plan, IsActual, actuals_named, writes_actual, step_snapshot}
 use Rattle.adj_reverse.specs.Emission.{pushes, pops, adjoint_call}
 use Rattle.adj_reverse.specs.ReversalCode.{slots_of, reversal}
@@ -21,8 +21,8 @@ use Rattle.adj_reverse.specs.Runs.{SameOff}
 use Rattle.adj_reverse.specs.Reversals.{Called, Reversal, StepUnits, LoopRun, words_taken, Reverses, AreReversed, Tells, TellsCalls}
 
 -- a statement that was counted comes from a store and a tape to others, and makes these calls and reversals
-pub record ActGoes {C : Type 0} (q : Calls C) (n : Setting C) (a : Act) (line : ℕ) (base : Kept) (s s' : Store C) (t t' : List C) (calls : List Called) (rs : List Reversal) : Type 0 where
-  pub later : Kept
+pub record ActGoes {C : Type 0} (q : Calls C) (n : Setting C) (a : Act) (line : ℕ) (base : Course) (s s' : Store C) (t t' : List C) (calls : List Called) (rs : List Reversal) : Type 0 where
+  pub later : Course
   pub tells : TellsCalls n.level base later calls rs
   pub runs : ActLeads q n a line (scene base s t) (scene later s' t')
 
@@ -80,7 +80,7 @@ module _ (q : Calls ℤ) (sh : Var → Shape) (level : ℕ) (cells : List Key) (
   step_words = words_of sh (step_snapshot g.callee g.read given)
 
   -- the step unit is called from the store f, where the program's step takes u to u'
-  pub record StepCalled (base : Kept) (u u' f : Store ℤ) (t : List ℤ) : Type 0 where
+  pub record StepCalled (base : Course) (u u' f : Store ℤ) (t : List ℤ) : Type 0 where
     pub after : Store ℤ
     -- its dummies have these shapes, by which a snapshot has as many words as the actuals say
     pub shapes : List Shape
@@ -93,7 +93,7 @@ module _ (q : Calls ℤ) (sh : Var → Shape) (level : ℕ) (cells : List Key) (
     pub helpers : (r : Role) (k c : ℕ) → after (helper r k) c ≡ f (helper r k) c
 
   -- its adjoint is called, which turns the shadows and reverses these loops
-  pub record AdjointStep (change : Words → Words) (loops : List LoopRun) (base : Kept) (f : Store ℤ) (t : List ℤ) : Type 0 where
+  pub record AdjointStep (change : Words → Words) (loops : List LoopRun) (base : Course) (f : Store ℤ) (t : List ℤ) : Type 0 where
     pub after : Store ℤ
     pub rs : List Reversal
     pub shapes : List Shape
@@ -110,8 +110,8 @@ module _ (q : Calls ℤ) (sh : Var → Shape) (level : ℕ) (cells : List Key) (
     pub at_step : (i : ℕ) → i < l → U i (plain x) 0 ≡ add a0 (mul (pos i) c0)
     pub between : (i : ℕ) (y : List ℕ) (j : ℕ) → i < l → name_eq y x ≡ false → U (suc i) (plain y) j ≡ U' i (plain y) j
     pub off : (i : ℕ) → i < l → SameOff (writes_actual g.callee given) (U i) (U' i)
-    pub again : (i : ℕ) (base : Kept) (f : Store ℤ) (t : List ℤ) → i < l → ActualsAgree sh g.callee given g.read (U i) f → StepCalled base (U i) (U' i) f t
-    pub back : (i : ℕ) (base : Kept) (f : Store ℤ) (t : List ℤ) → i < l → ActualsAgree sh g.callee given g.callee.members (U i) f → AdjointStep (change i) (loops i) base f t
+    pub again : (i : ℕ) (base : Course) (f : Store ℤ) (t : List ℤ) → i < l → ActualsAgree sh g.callee given g.read (U i) f → StepCalled base (U i) (U' i) f t
+    pub back : (i : ℕ) (base : Course) (f : Store ℤ) (t : List ℤ) → i < l → ActualsAgree sh g.callee given g.callee.members (U i) f → AdjointStep (change i) (loops i) base f t
 
   -- the store has what is called for as before a step, besides the loop's variable
   abbrev pub HasStep : Store ℤ → Store ℤ → Type 0
@@ -135,9 +135,9 @@ module _ (q : Calls ℤ) (sh : Var → Shape) (level : ℕ) (cells : List Key) (
       reversal line d (plain x) (slots_of d mark) (pushes p line snapshot) (pops p line snapshot) (one line (call name (actuals_named given))) (one line (adjoint_call g.callee given))
 
   -- The code reverses the l steps with m snapshots, of a loop in others of depth d whose DO stands at a line, from the store f.
-  pub record TurnsSteps (c : Code) (d l m at : ℕ) (change : ℕ → Words → Words) (loops : ℕ → List LoopRun) (base : Kept) (f : Store ℤ) (t : List ℤ) : Type 0 where
+  pub record TurnsSteps (c : Code) (d l m at : ℕ) (change : ℕ → Words → Words) (loops : ℕ → List LoopRun) (base : Course) (f : Store ℤ) (t : List ℤ) : Type 0 where
     pub after : Store ℤ
-    pub later : Kept
+    pub later : Course
     pub own : Reversal
     pub inner : List Reversal
     -- the tape is as it was
@@ -161,5 +161,5 @@ ReversalsTurn =
     (q : Calls ℤ) (sh : Var → Shape) (level : ℕ) (cells : List Key) (line : ℕ) (x : List ℕ) (g : CalleeFacts) (given : List (List ℕ)) (name : List ℕ) (p : Plan) → StepFits q sh level cells line x g given name p →
     (d l m : ℕ) (mark : Mark) → l ≤ 1099511627776 → 0 < m → m ≤ 64 →
     (a0 c0 : ℤ) (change : ℕ → Words → Words) (loops : ℕ → List LoopRun) (U U' : ℕ → Store ℤ) → Steps q sh level cells line x g given name l a0 c0 change loops U U' →
-    (at : ℕ) (base : Kept) (f : Store ℤ) (t : List ℤ) → f (helper count (suc d)) 0 ≡ pos l → f (helper first (suc d)) 0 ≡ a0 → f (helper stride (suc d)) 0 ≡ c0 → value (on_words sh level) (slots_of (suc d) mark) f ≡ Ok (pos m) → HasStep q sh level cells line x g given name (U 0) f →
+    (at : ℕ) (base : Course) (f : Store ℤ) (t : List ℤ) → f (helper count (suc d)) 0 ≡ pos l → f (helper first (suc d)) 0 ≡ a0 → f (helper stride (suc d)) 0 ≡ c0 → value (on_words sh level) (slots_of (suc d) mark) f ≡ Ok (pos m) → HasStep q sh level cells line x g given name (U 0) f →
     TurnsSteps q sh level cells line x g given name (step_reversal q sh level cells line x g given name p (suc d) mark) d l m at change loops base f t

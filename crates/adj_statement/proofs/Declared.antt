@@ -5,7 +5,7 @@ use Rattle.std.proofs.lemmas.List.{map_push}
 use Rattle.adj_tree.specs.Code.{Extent}
 use Rattle.adj_text.specs.Machine.{chosen}
 use Rattle.adj_text.specs.Statement.{Item}
-use Rattle.adj_text.specs.Word.{Word}
+use Rattle.adj_text.specs.Lexeme.{Lexeme}
 use Rattle.adj_expression.specs.Judged.{judged_by}
 use Rattle.adj_expression.specs.View.{seen}
 use Rattle.adj_expression.specs.declared.flaw.Flaw.{Flaw}
@@ -42,15 +42,15 @@ pub judged_items-push : (is : List Declared) (i : Declared) → with_part (judge
 judged_items-push is i = judged-push item_large item is i
 
 -- the extents of an item are one, or one and another
-pub front_sizes_on : (ws : List Word) → front_sizes ws ≡ (front_size ws >>= λ a. chosen (behind_comma a.1) (λ us. read_as (with_part (with_part (Ok []) a.0)) (front_size us)) (Some (with_part (Ok []) a.0, a.1)))
+pub front_sizes_on : (ws : List Lexeme) → front_sizes ws ≡ (front_size ws >>= λ a. chosen (behind_comma a.1) (λ us. read_as (with_part (with_part (Ok []) a.0)) (front_size us)) (Some (with_part (Ok []) a.0, a.1)))
 unfolding front_sizes front_size read_sizes
 front_sizes_on ws = first (size_at ws)
   where
-    second : (a : Size) (rest : List Word) (o : Read Size) → read_as judged_sizes (option_map (λ b. (a ∷ b.0 ∷ [], b.1)) o) ≡ read_as (with_part (with_part (Ok []) (judged_size a))) (read_as judged_size o)
+    second : (a : Size) (rest : List Lexeme) (o : Read Size) → read_as judged_sizes (option_map (λ b. (a ∷ b.0 ∷ [], b.1)) o) ≡ read_as (with_part (with_part (Ok []) (judged_size a))) (read_as judged_size o)
     second a rest None = refl
     second a rest (Some b) = ap (λ (r : Result (List Extent) Flaw). Some (r, b.1)) (sym (ap (λ (r : Result (List Extent) Flaw). with_part r (judged_size b.0)) (judged_sizes-push [] a) ∙ judged_sizes-push (a ∷ []) b.0))
 
-    behind : (a : Size) (rest : List Word) (o : Option (List Word)) → read_as judged_sizes (second_size a rest o) ≡ chosen o (λ us. read_as (with_part (with_part (Ok []) (judged_size a))) (read_as judged_size (size_at us))) (Some (with_part (Ok []) (judged_size a), rest))
+    behind : (a : Size) (rest : List Lexeme) (o : Option (List Lexeme)) → read_as judged_sizes (second_size a rest o) ≡ chosen o (λ us. read_as (with_part (with_part (Ok []) (judged_size a))) (read_as judged_size (size_at us))) (Some (with_part (Ok []) (judged_size a), rest))
     behind a rest None = ap (λ (r : Result (List Extent) Flaw). Some (r, rest)) (sym (judged_sizes-push [] a))
     behind a rest (Some us) = second a rest (size_at us)
 
@@ -59,11 +59,11 @@ front_sizes_on ws = first (size_at ws)
     first (Some a) = behind a.0 a.1 (behind_comma a.1)
 
 -- a declared name has no extents, or those in its parentheses
-pub front_item_on : (ws : List Word) → front_item ws ≡ (name_at ws >>= λ x. chosen (behind_left x.1) (λ us. front_sizes us >>= λ s. option_map (λ rest. (seen (λ extents. record { name = x.0; extents = extents }) s.0, rest)) (behind_right s.1)) (Some (Ok (record { name = x.0; extents = [] }), x.1)))
+pub front_item_on : (ws : List Lexeme) → front_item ws ≡ (name_at ws >>= λ x. chosen (behind_left x.1) (λ us. front_sizes us >>= λ s. option_map (λ rest. (seen (λ extents. record { name = x.0; extents = extents }) s.0, rest)) (behind_right s.1)) (Some (Ok (record { name = x.0; extents = [] }), x.1)))
 unfolding front_item front_sizes read_item
 front_item_on ws = first (name_at ws)
   where
-    closed : (x : List ℕ) (s : List Size) (o : Option (List Word)) → read_as judged_item (o >>= λ us. Some (record { name = x; sizes = s }, us)) ≡ option_map (λ rest. (seen (λ extents. record { name = x; extents = extents }) (judged_sizes s), rest)) o
+    closed : (x : List ℕ) (s : List Size) (o : Option (List Lexeme)) → read_as judged_item (o >>= λ us. Some (record { name = x; sizes = s }, us)) ≡ option_map (λ rest. (seen (λ extents. record { name = x; extents = extents }) (judged_sizes s), rest)) o
     closed x s None = refl
     closed x s (Some rest) = ap (λ (r : Result Item Flaw). Some (r, rest)) (sym (seen-judged (λ extents. record { name = x; extents = extents }) (list_any size_large s) false (Some (map extent s))))
 
@@ -71,7 +71,7 @@ front_item_on ws = first (name_at ws)
     inner x None = refl
     inner x (Some s) = closed x s.0 (behind_right s.1)
 
-    behind : (x : List ℕ) (rest : List Word) (o : Option (List Word)) → read_as judged_item (item_behind x rest o) ≡ chosen o (λ us. read_as judged_sizes (read_sizes us) >>= λ s. option_map (λ rest. (seen (λ extents. record { name = x; extents = extents }) s.0, rest)) (behind_right s.1)) (Some (Ok (record { name = x; extents = [] }), rest))
+    behind : (x : List ℕ) (rest : List Lexeme) (o : Option (List Lexeme)) → read_as judged_item (item_behind x rest o) ≡ chosen o (λ us. read_as judged_sizes (read_sizes us) >>= λ s. option_map (λ rest. (seen (λ extents. record { name = x; extents = extents }) s.0, rest)) (behind_right s.1)) (Some (Ok (record { name = x; extents = [] }), rest))
     behind x rest None = refl
     behind x rest (Some us) = inner x (read_sizes us)
 
@@ -79,12 +79,12 @@ front_item_on ws = first (name_at ws)
     first None = refl
     first (Some x) = behind x.0 x.1 (behind_left x.1)
 
--- the items of a declaration are those of its list, where that ends the words
-pub judged_items_on : (ws : List Word) → option_map judged_items (read_items ws) ≡ (front_list front_item ws >>= λ r. ended r.0 r.1)
+-- the items of a declaration are those of its list, where that ends the lexemes
+pub judged_items_on : (ws : List Lexeme) → option_map judged_items (read_items ws) ≡ (front_list front_item ws >>= λ r. ended r.0 r.1)
 unfolding read_items front_list front_item members_behind
 judged_items_on ws = first (read_item ws)
   where
-    whole : (is : List Declared) (rest : List Word) → option_map judged_items (ended is rest) ≡ ended (judged_items is) rest
+    whole : (is : List Declared) (rest : List Lexeme) → option_map judged_items (ended is rest) ≡ ended (judged_items is) rest
     whole is [] = refl
     whole is (w ∷ rest) = refl
 

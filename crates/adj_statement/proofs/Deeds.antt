@@ -5,7 +5,7 @@ use Rattle.adj_tree.specs.Listed.{terms_onto, terms_listed}
 use Rattle.adj_text.specs.Grammar.{Syntax, Arguments, only, beside, with_both, tree, trees_before}
 use Rattle.adj_text.specs.Machine.{chosen}
 use Rattle.adj_text.specs.Statement.{called}
-use Rattle.adj_text.specs.Word.{Word}
+use Rattle.adj_text.specs.Lexeme.{Lexeme}
 use Rattle.adj_expression.specs.Front.{front_expression}
 use Rattle.adj_expression.specs.Judged.{has_large, any_large, judged, judged_by}
 use Rattle.adj_expression.specs.Reading.{read_expression}
@@ -60,7 +60,7 @@ next_judged : (limit : ℕ) (front : Arguments) (s : Syntax) → with_part (judg
 next_judged limit front s = with_part-judged (any_large front) (any_deep limit front) (terms front) (has_large s) (any_deep limit (only s)) (tree s)
 
 -- expressions separated by commas
-front_arguments : (limit : ℕ) (ws : List Word) → front_list (front_expression limit) ws ≡ read_as (judged_terms limit) (read_arguments ws)
+front_arguments : (limit : ℕ) (ws : List Lexeme) → front_list (front_expression limit) ws ≡ read_as (judged_terms limit) (read_arguments ws)
 unfolding front_list read_arguments members_behind
 front_arguments limit ws = go (read_expression ws)
   where
@@ -69,7 +69,7 @@ front_arguments limit ws = go (read_expression ws)
     go (Some s) = ap (λ (b : Result (List Term) Flaw). members with_part (front_expression limit) (length s.1) b s.1) (first_judged limit s.0) ∙ members-seen beside with_part read_expression (judged limit) (judged_terms limit) (next_judged limit) (length s.1) (only s.0) s.1
 
 -- one or two subscripts
-pub front_subscripts_on : (limit : ℕ) (ws : List Word) → front_subscripts limit ws ≡ (front_expression limit ws >>= λ a. chosen (behind_comma a.1) (λ us. read_as (with_part (with_part (Ok []) a.0)) (front_expression limit us)) (Some (with_part (Ok []) a.0, a.1)))
+pub front_subscripts_on : (limit : ℕ) (ws : List Lexeme) → front_subscripts limit ws ≡ (front_expression limit ws >>= λ a. chosen (behind_comma a.1) (λ us. read_as (with_part (with_part (Ok []) a.0)) (front_expression limit us)) (Some (with_part (Ok []) a.0, a.1)))
 unfolding front_subscripts read_subscripts
 front_subscripts_on limit ws = first (read_expression ws)
   where
@@ -77,7 +77,7 @@ front_subscripts_on limit ws = first (read_expression ws)
     second a None = refl
     second a (Some b) = ap (λ (r : Result (List Term) Flaw). Some (r, b.1)) (sym (ap (λ (r : Result (List Term) Flaw). with_part r (judged limit b.0)) (first_judged limit a) ∙ next_judged limit (only a) b.0))
 
-    behind : (a : Syntax) (rest : List Word) (o : Option (List Word)) → read_as (judged_terms limit) (second_subscript a rest o) ≡ chosen o (λ us. read_as (with_part (with_part (Ok []) (judged limit a))) (front_expression limit us)) (Some (with_part (Ok []) (judged limit a), rest))
+    behind : (a : Syntax) (rest : List Lexeme) (o : Option (List Lexeme)) → read_as (judged_terms limit) (second_subscript a rest o) ≡ chosen o (λ us. read_as (with_part (with_part (Ok []) (judged limit a))) (front_expression limit us)) (Some (with_part (Ok []) (judged limit a), rest))
     behind a rest None = ap (λ (r : Result (List Term) Flaw). Some (r, rest)) (sym (first_judged limit a))
     behind a rest (Some us) = second a (read_expression us)
 
@@ -94,11 +94,11 @@ listed_judged limit x all =
     go None = refl
     go (Some ts) = refl
 
-pub front_place_on : (limit : ℕ) (ws : List Word) → front_place limit ws ≡ (name_at ws >>= λ x. chosen (behind_left x.1) (λ us. front_subscripts limit us >>= λ s. option_map (λ rest. (seen (λ ts. (x.0, terms_listed ts)) s.0, rest)) (behind_right s.1)) (Some (Ok (x.0, none), x.1)))
+pub front_place_on : (limit : ℕ) (ws : List Lexeme) → front_place limit ws ≡ (name_at ws >>= λ x. chosen (behind_left x.1) (λ us. front_subscripts limit us >>= λ s. option_map (λ rest. (seen (λ ts. (x.0, terms_listed ts)) s.0, rest)) (behind_right s.1)) (Some (Ok (x.0, none), x.1)))
 unfolding front_place front_subscripts read_place
 front_place_on limit ws = first (name_at ws)
   where
-    closed : (x : List ℕ) (s : Arguments) (o : Option (List Word)) → read_as (judged_place limit) (o >>= λ us. Some (record { name = x; list = Some s }, us)) ≡ option_map (λ rest. (seen (λ ts. (x, terms_listed ts)) (judged_terms limit s), rest)) o
+    closed : (x : List ℕ) (s : Arguments) (o : Option (List Lexeme)) → read_as (judged_place limit) (o >>= λ us. Some (record { name = x; list = Some s }, us)) ≡ option_map (λ rest. (seen (λ ts. (x, terms_listed ts)) (judged_terms limit s), rest)) o
     closed x s None = refl
     closed x s (Some rest) = ap (λ (r : Result (List ℕ × Terms) Flaw). Some (r, rest)) (listed_judged limit x s)
 
@@ -106,7 +106,7 @@ front_place_on limit ws = first (name_at ws)
     inner x None = refl
     inner x (Some s) = closed x s.0 (behind_right s.1)
 
-    behind : (x : List ℕ) (rest : List Word) (o : Option (List Word)) → read_as (judged_place limit) (place_behind x rest o) ≡ chosen o (λ us. read_as (judged_terms limit) (read_subscripts us) >>= λ s. option_map (λ rest. (seen (λ ts. (x, terms_listed ts)) s.0, rest)) (behind_right s.1)) (Some (Ok (x, none), rest))
+    behind : (x : List ℕ) (rest : List Lexeme) (o : Option (List Lexeme)) → read_as (judged_place limit) (place_behind x rest o) ≡ chosen o (λ us. read_as (judged_terms limit) (read_subscripts us) >>= λ s. option_map (λ rest. (seen (λ ts. (x, terms_listed ts)) s.0, rest)) (behind_right s.1)) (Some (Ok (x, none), rest))
     behind x rest None = refl
     behind x rest (Some us) = inner x (read_subscripts us)
 
@@ -126,11 +126,11 @@ assigned_judged limit p e =
     go (Some ts) None = refl
     go (Some ts) (Some t) = refl
 
-pub front_assignment_on : (limit : ℕ) (ws : List Word) → front_assignment limit ws ≡ (front_place limit ws >>= λ p. behind_equals p.1 >>= λ us. front_expression limit us >>= λ e. ended (seen (λ (q : (List ℕ × Terms) × Term). assign (plain q.0.0) q.0.1 q.1) (both p.0 e.0)) e.1)
+pub front_assignment_on : (limit : ℕ) (ws : List Lexeme) → front_assignment limit ws ≡ (front_place limit ws >>= λ p. behind_equals p.1 >>= λ us. front_expression limit us >>= λ e. ended (seen (λ (q : (List ℕ × Terms) × Term). assign (plain q.0.0) q.0.1 q.1) (both p.0 e.0)) e.1)
 unfolding front_assignment front_place read_assignment
 front_assignment_on limit ws = first (read_place ws)
   where
-    whole : (p : Entry) (e : Syntax) (rest : List Word) → option_map (judged_deed limit) (ended (assigns p e) rest) ≡ ended (seen (λ (q : (List ℕ × Terms) × Term). assign (plain q.0.0) q.0.1 q.1) (both (judged_place limit p) (judged limit e))) rest
+    whole : (p : Entry) (e : Syntax) (rest : List Lexeme) → option_map (judged_deed limit) (ended (assigns p e) rest) ≡ ended (seen (λ (q : (List ℕ × Terms) × Term). assign (plain q.0.0) q.0.1 q.1) (both (judged_place limit p) (judged limit e))) rest
     whole p e [] = ap Some (assigned_judged limit p e)
     whole p e (w ∷ rest) = refl
 
@@ -138,7 +138,7 @@ front_assignment_on limit ws = first (read_place ws)
     value p None = refl
     value p (Some e) = whole p e.0 e.1
 
-    behind : (p : Entry) (o : Option (List Word)) → option_map (judged_deed limit) (o >>= λ us. read_expression us >>= λ e. ended (assigns p e.0) e.1) ≡ (o >>= λ us. front_expression limit us >>= λ e. ended (seen (λ (q : (List ℕ × Terms) × Term). assign (plain q.0.0) q.0.1 q.1) (both (judged_place limit p) e.0)) e.1)
+    behind : (p : Entry) (o : Option (List Lexeme)) → option_map (judged_deed limit) (o >>= λ us. read_expression us >>= λ e. ended (assigns p e.0) e.1) ≡ (o >>= λ us. front_expression limit us >>= λ e. ended (seen (λ (q : (List ℕ × Terms) × Term). assign (plain q.0.0) q.0.1 q.1) (both (judged_place limit p) e.0)) e.1)
     behind p None = refl
     behind p (Some us) = value p (read_expression us)
 
@@ -147,15 +147,15 @@ front_assignment_on limit ws = first (read_place ws)
     first (Some p) = behind p.0 (behind_equals p.1)
 
 -- actuals: none, or those in parentheses
-pub front_actuals_on : (limit : ℕ) (ws : List Word) → front_actuals limit ws ≡ cond (are_none ws) (Some (Ok [])) (behind_left ws >>= λ us. chosen (behind_right us) (λ rest. ended (Ok []) rest) (front_list (front_expression limit) us >>= λ all. behind_right all.1 >>= λ rest. ended all.0 rest))
+pub front_actuals_on : (limit : ℕ) (ws : List Lexeme) → front_actuals limit ws ≡ cond (are_none ws) (Some (Ok [])) (behind_left ws >>= λ us. chosen (behind_right us) (λ rest. ended (Ok []) rest) (front_list (front_expression limit) us >>= λ all. behind_right all.1 >>= λ rest. ended all.0 rest))
 unfolding front_actuals read_actuals
 front_actuals_on limit ws = first (are_none ws)
   where
-    whole : (all : Arguments) (rest : List Word) → option_map (judged_actuals limit) (ended (Some all) rest) ≡ ended (judged_terms limit all) rest
+    whole : (all : Arguments) (rest : List Lexeme) → option_map (judged_actuals limit) (ended (Some all) rest) ≡ ended (judged_terms limit all) rest
     whole all [] = refl
     whole all (w ∷ rest) = refl
 
-    closed : (all : Arguments) (o : Option (List Word)) → option_map (judged_actuals limit) (o >>= λ rest. ended (Some all) rest) ≡ (o >>= λ rest. ended (judged_terms limit all) rest)
+    closed : (all : Arguments) (o : Option (List Lexeme)) → option_map (judged_actuals limit) (o >>= λ rest. ended (Some all) rest) ≡ (o >>= λ rest. ended (judged_terms limit all) rest)
     closed all None = refl
     closed all (Some rest) = whole all rest
 
@@ -163,15 +163,15 @@ front_actuals_on limit ws = first (are_none ws)
     inner None = refl
     inner (Some all) = closed all.0 (behind_right all.1)
 
-    empty : (rest : List Word) → option_map (judged_actuals limit) (ended None rest) ≡ ended (Ok []) rest
+    empty : (rest : List Lexeme) → option_map (judged_actuals limit) (ended None rest) ≡ ended (Ok []) rest
     empty [] = refl
     empty (w ∷ rest) = refl
 
-    behind : (us : List Word) (o : Option (List Word)) → option_map (judged_actuals limit) (actuals_in us o) ≡ chosen o (λ rest. ended (Ok []) rest) (front_list (front_expression limit) us >>= λ all. behind_right all.1 >>= λ rest. ended all.0 rest)
+    behind : (us : List Lexeme) (o : Option (List Lexeme)) → option_map (judged_actuals limit) (actuals_in us o) ≡ chosen o (λ rest. ended (Ok []) rest) (front_list (front_expression limit) us >>= λ all. behind_right all.1 >>= λ rest. ended all.0 rest)
     behind us None = inner (read_arguments us) ∙ ap (λ (o : Read (Result (List Term) Flaw)). o >>= λ all. behind_right all.1 >>= λ rest. ended all.0 rest) (sym (front_arguments limit us))
     behind us (Some rest) = empty rest
 
-    opened : (o : Option (List Word)) → option_map (judged_actuals limit) (o >>= λ us. actuals_in us (behind_right us)) ≡ (o >>= λ us. chosen (behind_right us) (λ rest. ended (Ok []) rest) (front_list (front_expression limit) us >>= λ all. behind_right all.1 >>= λ rest. ended all.0 rest))
+    opened : (o : Option (List Lexeme)) → option_map (judged_actuals limit) (o >>= λ us. actuals_in us (behind_right us)) ≡ (o >>= λ us. chosen (behind_right us) (λ rest. ended (Ok []) rest) (front_list (front_expression limit) us >>= λ all. behind_right all.1 >>= λ rest. ended all.0 rest))
     opened None = refl
     opened (Some us) = behind us (behind_right us)
 
@@ -189,7 +189,7 @@ call_judged limit x (Some all) =
     go None = refl
     go (Some ts) = refl
 
-pub front_call_on : (limit : ℕ) (ws : List Word) → front_call limit ws ≡ (name_at ws >>= λ x. option_map (seen (λ ts. call_of x.0 (terms_listed ts))) (front_actuals limit x.1))
+pub front_call_on : (limit : ℕ) (ws : List Lexeme) → front_call limit ws ≡ (name_at ws >>= λ x. option_map (seen (λ ts. call_of x.0 (terms_listed ts))) (front_actuals limit x.1))
 unfolding front_call front_actuals read_call
 front_call_on limit ws = first (name_at ws)
   where

@@ -1,4 +1,4 @@
--- What a statement says fits where none of its literals is above the greatest word.
+-- What a statement says fits where none of its literals is above the greatest lexeme.
 use Rattle.std.proofs.Common.{◌≡◌, ℕ, ◌<◌, ◌^◌, pos, Bool, true, false, List, [], ◌∷◌, map, Option, Some, None, option_map, Ok, refl, subst, arith}
 use Rattle.std.proofs.lemmas.Bool.{leb-false, or_parts}
 use Rattle.std.specs.Prelude.{◌||◌}
@@ -10,7 +10,7 @@ use Rattle.adj_text.specs.Fits.{FitsTerm, FitsTerms, FitsTest, FitsAct, FitsExte
 use Rattle.adj_text.specs.Form.{Form, subroutine, implicit_none, integers, simple, logical, opens_do, opens_while, end_do, go_on, opens_if, otherwise, otherwise_if, end_if, leaves, ends}
 use Rattle.adj_text.specs.Grammar.{Syntax, Arguments, with_both, tree}
 use Rattle.adj_text.specs.Statement.{Item, called, Range}
-use Rattle.adj_text.specs.Word.{Word}
+use Rattle.adj_text.specs.Lexeme.{Lexeme}
 use Rattle.adj_text.specs.declared.stated.Kind.{Kind}
 use Rattle.adj_text.proofs.FormWritten.{all_nil, all_cons}
 use Rattle.adj_text.proofs.Parts.{map_some, both_some}
@@ -23,12 +23,12 @@ use Rattle.adj_expression.specs.Judged.{judged_by}
 use Rattle.adj_statement.specs.Phrases.{phrase_of}
 use Rattle.adj_statement.proofs.PhraseSound.{phrase_said}
 
--- the extents of items are words
+-- the extents of items are lexemes
 abbrev pub FitsItems : List Item → Type 0
 FitsItems [] = Unit {0}
 FitsItems (i ∷ is) = All FitsExtent i.extents × FitsItems is
 
--- the literals and extents of a form are words
+-- the literals and extents of a form are lexemes
 abbrev pub FitsForm : Form → Type 0
 FitsForm (integers is) = FitsItems is
 FitsForm (simple a) = FitsAct a
@@ -85,7 +85,7 @@ range_fits b r h e =
 loop_fits : (label : Option (List ℕ)) (b : Bounds) (mark : Mark) (f : Form) → bounds_large b ≡ false → form mark (repeats label b) ≡ Some f → FitsForm f
 loop_fits label b mark f h e = let r = map_some (λ r. opens_do (option_map number_of label) r mark) (range b) f e in subst FitsForm r.2 (range_fits b r.0 h r.1)
 
-do_fits : {ws : List Word} {p : Phrase} → SaysDo ws p → (mark : Mark) (f : Form) → phrase_large p ≡ false → form mark p ≡ Some f → FitsForm f
+do_fits : {ws : List Lexeme} {p : Phrase} → SaysDo ws p → (mark : Mark) (f : Form) → phrase_large p ≡ false → form mark p ≡ Some f → FitsForm f
 do_fits (phrases.SaysDo.unlabelled {b = b} d) mark f h e = loop_fits None b mark f h e
 do_fits (phrases.SaysDo.labelled {digits = digits} {b = b} d) mark f h e = loop_fits (Some digits) b mark f h e
 do_fits (phrases.SaysDo.labelled_comma {digits = digits} {b = b} d) mark f h e = loop_fits (Some digits) b mark f h e
@@ -94,7 +94,7 @@ form_is : (f g : Form) → Some f ≡ Some g → FitsForm f → FitsForm g
 form_is f g e h = let same : f ≡ g = cc in subst FitsForm same h
 
 -- a phrase of a class has a form that fits
-pub phrase_fits : {kind : Kind} {ws : List Word} {p : Phrase} → Says kind ws p → (mark : Mark) (f : Form) → phrase_large p ≡ false → form mark p ≡ Some f → FitsForm f
+pub phrase_fits : {kind : Kind} {ws : List Lexeme} {p : Phrase} → Says kind ws p → (mark : Mark) (f : Form) → phrase_large p ≡ false → form mark p ≡ Some f → FitsForm f
 phrase_fits (phrases.Says.heading {x = x} {dummies = dummies} d) mark f h e = form_is (subroutine x dummies) f e tt
 phrase_fits phrases.Says.implicit mark f h e = form_is implicit_none f e tt
 phrase_fits (phrases.Says.declaration {is = is} d) mark f h e = form_is (integers (map item is)) f e (items_fit is h)
@@ -121,11 +121,11 @@ judged_ok false true o f h = absurd cc
 judged_ok false false None f h = absurd cc
 judged_ok false false (Some g) f h = (refl, cc)
 
--- what is said has only literals and extents that are words
-pub said_fits : (limit : ℕ) (mark : Mark) (kind : Kind) (words : List Word) (f : Form) → said limit mark kind words ≡ Some (Ok f) → FitsForm f
+-- what is said has only literals and extents that are lexemes
+pub said_fits : (limit : ℕ) (mark : Mark) (kind : Kind) (lexemes : List Lexeme) (f : Form) → said limit mark kind lexemes ≡ Some (Ok f) → FitsForm f
 unfolding said
-said_fits limit mark kind words f h =
-    let r = map_some (judged_phrase limit mark) (phrase_of kind words) (Ok f) h in
-    let says : Says kind words r.0 = rw r.1 at (phrase_said kind words) in
+said_fits limit mark kind lexemes f h =
+    let r = map_some (judged_phrase limit mark) (phrase_of kind lexemes) (Ok f) h in
+    let says : Says kind lexemes r.0 = rw r.1 at (phrase_said kind lexemes) in
     let j = judged_ok (phrase_large r.0) (phrase_deep limit r.0) (form mark r.0) f r.2 in
     phrase_fits says mark f j.0 j.1

@@ -1,13 +1,13 @@
 -- Members: lists between commas are read one member at a time.
 use Rattle.std.proofs.Common.{◌≡◌, ◌≤◌, ◌<◌, ℕ, zero, suc, List, [], ◌∷◌, length, Some, None, option_map, IfSome, refl, ap, ◌∙◌, arith}
 use Rattle.adj_text.specs.Machine.{chosen}
-use Rattle.adj_text.specs.Word.{Word, Mark}
+use Rattle.adj_text.specs.Lexeme.{Lexeme, Mark}
 use Rattle.adj_text.specs.declared.token.TokenKind.TheVariants.{Comma}
 use Rattle.adj_statement.proofs.Shorter.{Shortens}
 use Rattle.adj_statement.specs.Phrases.{Read, ◌>>=◌, behind_comma, members, members_behind}
 
--- as many as there are words are enough
-enough : {A B : Type 0} (push : B → A → B) (reader : List Word → Read A) → Shortens reader → (m n : ℕ) (before : B) (ws : List Word) → length ws ≤ m → length ws ≤ n → members push reader m before ws ≡ members push reader n before ws
+-- as many as there are lexemes are enough
+enough : {A B : Type 0} (push : B → A → B) (reader : List Lexeme → Read A) → Shortens reader → (m n : ℕ) (before : B) (ws : List Lexeme) → length ws ≤ m → length ws ≤ n → members push reader m before ws ≡ members push reader n before ws
 unfolding members
 enough push reader short zero zero before ws h k = refl
 enough push reader short zero (suc n) before [] h k = refl
@@ -23,7 +23,7 @@ enough {A} push reader short (suc m) (suc n) before (Mark Comma ∷ us) h k =
 enough push reader short (suc m) (suc n) before (w ∷ ws) h k = refl
 
 -- the members behind some are none, or the next one and those behind it
-pub members_on : {A B : Type 0} (push : B → A → B) (reader : List Word → Read A) → Shortens reader → (before : B) (ws : List Word) → members_behind push reader before ws ≡ chosen (behind_comma ws) (λ us. reader us >>= λ r. members_behind push reader (push before r.0) r.1) (Some (before, ws))
+pub members_on : {A B : Type 0} (push : B → A → B) (reader : List Lexeme → Read A) → Shortens reader → (before : B) (ws : List Lexeme) → members_behind push reader before ws ≡ chosen (behind_comma ws) (λ us. reader us >>= λ r. members_behind push reader (push before r.0) r.1) (Some (before, ws))
 unfolding members members_behind
 members_on push reader short before [] = refl
 members_on push reader short before (Mark Comma ∷ us) =
@@ -34,24 +34,24 @@ members_on push reader short before (Mark Comma ∷ us) =
 members_on push reader short before (w ∷ ws) = refl
 
 -- what is read when each member and the list are seen in another way
-pub members-seen : {A B C D : Type 0} (push : B → A → B) (other : D → C → D) (reader : List Word → Read A) (j : A → C) (k : B → D) → ((b : B) (a : A) → other (k b) (j a) ≡ k (push b a)) → (n : ℕ) (before : B) (ws : List Word) → members other (λ us. option_map (λ r. (j r.0, r.1)) (reader us)) n (k before) ws ≡ option_map (λ r. (k r.0, r.1)) (members push reader n before ws)
+pub members-seen : {A B C D : Type 0} (push : B → A → B) (other : D → C → D) (reader : List Lexeme → Read A) (j : A → C) (k : B → D) → ((b : B) (a : A) → other (k b) (j a) ≡ k (push b a)) → (n : ℕ) (before : B) (ws : List Lexeme) → members other (λ us. option_map (λ r. (j r.0, r.1)) (reader us)) n (k before) ws ≡ option_map (λ r. (k r.0, r.1)) (members push reader n before ws)
 unfolding members
 members-seen push other reader j k same zero before ws = refl
 members-seen push other reader j k same (suc n) before [] = refl
 members-seen {A} {B} {C} {D} push other reader j k same (suc n) before (Mark Comma ∷ us) =
-    let seen : List Word → Read C = λ vs. option_map (λ (r : A × List Word). (j r.0, r.1)) (reader vs) in
-    elim (reader us) as (λ (o : Read A). (option_map (λ (r : A × List Word). (j r.0, r.1)) o >>= λ (r : C × List Word). members other seen n (other (k before) r.0) r.1) ≡ option_map (λ (r : B × List Word). (k r.0, r.1)) (o >>= λ (r : A × List Word). members push reader n (push before r.0) r.1)) [
+    let seen : List Lexeme → Read C = λ vs. option_map (λ (r : A × List Lexeme). (j r.0, r.1)) (reader vs) in
+    elim (reader us) as (λ (o : Read A). (option_map (λ (r : A × List Lexeme). (j r.0, r.1)) o >>= λ (r : C × List Lexeme). members other seen n (other (k before) r.0) r.1) ≡ option_map (λ (r : B × List Lexeme). (k r.0, r.1)) (o >>= λ (r : A × List Lexeme). members push reader n (push before r.0) r.1)) [
       | None ↦ refl
       | Some r ↦ ap (λ (b : D). members other seen n b r.1) (same before r.0) ∙ members-seen push other reader j k same n (push before r.0) r.1
     ]
 members-seen push other reader j k same (suc n) before (w ∷ ws) = refl
 
 -- behind a comma and a member less is left
-pub shorter_behind : {A : Type 0} (reader : List Word → Read A) → Shortens reader → (ws us vs : List Word) (x : A) → Some us ≡ behind_comma ws → Some (x, vs) ≡ reader us → length vs < length ws
+pub shorter_behind : {A : Type 0} (reader : List Lexeme → Read A) → Shortens reader → (ws us vs : List Lexeme) (x : A) → Some us ≡ behind_comma ws → Some (x, vs) ≡ reader us → length vs < length ws
 shorter_behind reader short [] us vs x h k = absurd cc
 shorter_behind {A} reader short (Mark Comma ∷ ws) us vs x h k = let e : us ≡ ws = cc in let n = left (reader us) k (short us) in omega (arith, n, ap length e)
   where
     left : (o : Read A) → Some (x, vs) ≡ o → IfSome o (λ r. length r.1 ≤ length us) → length vs ≤ length us
     left None h k = absurd cc
-    left (Some r) h k = let e : (x, vs) ≡ r = cc in omega (arith, ap (λ (p : A × List Word). length p.1) e)
+    left (Some r) h k = let e : (x, vs) ≡ r = cc in omega (arith, ap (λ (p : A × List Lexeme). length p.1) e)
 shorter_behind reader short (w ∷ ws) us vs x h k = absurd cc

@@ -6,7 +6,7 @@ use Rattle.adj_tree.specs.Listed.{terms_listed}
 use Rattle.adj_tree.specs.View.{term_of}
 use Rattle.adj_tree.specs.declared.expr.Expr.{Expr}
 use Rattle.adj_text.specs.Statement.{as_place, as_name, as_value, as_beginning, as_count, as_action, as_nothing, runtime_call, called_as, called}
-use Rattle.adj_statement.specs.Called.{name_of, names_of, place_of, only_of, word_name, control_name, schedule_name, runtime_name, with_actuals, call_of}
+use Rattle.adj_statement.specs.Called.{name_of, names_of, place_of, only_of, lexeme_name, control_name, schedule_name, runtime_name, with_actuals, call_of}
 use Rattle.adj_statement.specs.declared.called.RuntimeName.TheVariants.{PushWord, PopWord, PushArray, PopArray, PushControl, PopControl, Zero, Begin, Actions, Action, End}
 use Rattle.adj_statement.specs.Phrases.{◌>>=◌}
 
@@ -95,7 +95,7 @@ as_action_six l s k _ f t = refl
 
 -- a call by its name is the call of that name
 by_name : (x : List ℕ) (ts : Terms) → option_and_then (λ n. with_actuals n ts) (runtime_name x) ≡ runtime_call x ts
-unfolding word_name control_name schedule_name with_actuals
+unfolding lexeme_name control_name schedule_name with_actuals
 by_name x ts = go (name_eq x (codes "PUSHINTEGER8")) (name_eq x (codes "POPINTEGER8")) (name_eq x (codes "PUSHINTEGER8ARRAY")) (name_eq x (codes "POPINTEGER8ARRAY")) (name_eq x (codes "PUSHCONTROL1B")) (name_eq x (codes "POPCONTROL1B")) (name_eq x (codes "ADZERO8")) (name_eq x (codes "ADBEG")) (name_eq x (codes "ADACTN")) (name_eq x (codes "ADACT")) (name_eq x (codes "ADEND"))
   where
     go : (a b c d e f g h i j k : Bool) → option_and_then (λ n. with_actuals n ts) (option_or (option_or (cond a (Some PushWord) (cond b (Some PopWord) (cond c (Some PushArray) (cond d (Some PopArray) None)))) (cond e (Some PushControl) (cond f (Some PopControl) (cond g (Some Zero) None)))) (cond h (Some Begin) (cond i (Some Actions) (cond j (Some Action) (cond k (Some End) None))))) ≡ cond a (as_place push_word ts) (cond b (as_place pop_word ts) (cond c (as_name push_array ts) (cond d (as_name pop_array ts) (cond e (as_value ts) (cond f (as_name pop_control ts) (cond g (as_name zero_array ts) (cond h (as_beginning ts) (cond i (as_count ts) (cond j (as_action ts) (cond k (as_nothing ts) None))))))))))

@@ -2,7 +2,7 @@
 use Rattle.std.proofs.Common.{◌≤◌, ℕ, List, [], ◌∷◌, length, Bool, true, false, cond, Option, Some, None, option_map, IfSome, arith}
 use Rattle.adj_text.specs.Grammar.{Syntax}
 use Rattle.adj_text.specs.Machine.{State, step, finish, syntaxes, wanting, is_stop, chosen, stopped, read}
-use Rattle.adj_text.specs.Word.{Word, Named, Digits, Mark}
+use Rattle.adj_text.specs.Lexeme.{Lexeme, Named, Digits, Mark}
 use Rattle.adj_text.specs.declared.token.TokenKind.TheVariants.{Left, Right, Comma}
 use Rattle.adj_expression.specs.Judged.{judged}
 use Rattle.adj_expression.specs.Reading.{read_expression}
@@ -11,12 +11,12 @@ use Rattle.adj_statement.specs.Fronts.{judged_item, front_item}
 use Rattle.adj_statement.specs.Phrase.{Size}
 use Rattle.adj_statement.specs.Phrases.{Read, read_as, ◌>>=◌, name_at, behind_left, behind_right, behind_comma, size_at, second_size, read_sizes, item_behind, read_item}
 
--- what is left has at most so many words
+-- what is left has at most so many lexemes
 abbrev pub AtMost : {A : Type 0} → ℕ → Read A → Type 0
 AtMost n o = IfSome o (λ r. length r.1 ≤ n)
 
-abbrev pub Shortens : {A : Type 0} → (List Word → Read A) → Type 0
-Shortens reader = (ws : List Word) → AtMost (length ws) (reader ws)
+abbrev pub Shortens : {A : Type 0} → (List Lexeme → Read A) → Type 0
+Shortens reader = (ws : List Lexeme) → AtMost (length ws) (reader ws)
 
 pub AtMost-more : {A : Type 0} (m n : ℕ) (o : Read A) → m ≤ n → AtMost m o → AtMost n o
 AtMost-more m n None h k = tt
@@ -27,25 +27,25 @@ AtMost-as f n None h = tt
 AtMost-as f n (Some r) h = h
 
 -- and so have what is read next
-then_at_most : {A B : Type 0} (n : ℕ) (o : Read A) (f : A × List Word → Read B) → AtMost n o → ((r : A × List Word) → AtMost (length r.1) (f r)) → AtMost n (o >>= f)
+then_at_most : {A B : Type 0} (n : ℕ) (o : Read A) (f : A × List Lexeme → Read B) → AtMost n o → ((r : A × List Lexeme) → AtMost (length r.1) (f r)) → AtMost n (o >>= f)
 then_at_most n None f h k = tt
 then_at_most n (Some r) f h k = AtMost-more (length r.1) n (f r) h (k r)
 
-mark_at_most : {A : Type 0} (o : Option (List Word)) (n : ℕ) (x : A) → IfSome o (λ us. length us ≤ n) → AtMost n (o >>= λ us. Some (x, us))
+mark_at_most : {A : Type 0} (o : Option (List Lexeme)) (n : ℕ) (x : A) → IfSome o (λ us. length us ≤ n) → AtMost n (o >>= λ us. Some (x, us))
 mark_at_most None n x h = tt
 mark_at_most (Some us) n x h = h
 
-behind_left-shortens : (ws : List Word) → IfSome (behind_left ws) (λ us. length us ≤ length ws)
+behind_left-shortens : (ws : List Lexeme) → IfSome (behind_left ws) (λ us. length us ≤ length ws)
 behind_left-shortens [] = tt
 behind_left-shortens (Mark Left ∷ ws) = omega arith
 behind_left-shortens (w ∷ ws) = tt
 
-behind_right-shortens : (ws : List Word) → IfSome (behind_right ws) (λ us. length us ≤ length ws)
+behind_right-shortens : (ws : List Lexeme) → IfSome (behind_right ws) (λ us. length us ≤ length ws)
 behind_right-shortens [] = tt
 behind_right-shortens (Mark Right ∷ ws) = omega arith
 behind_right-shortens (w ∷ ws) = tt
 
-behind_comma-shortens : (ws : List Word) → IfSome (behind_comma ws) (λ us. length us ≤ length ws)
+behind_comma-shortens : (ws : List Lexeme) → IfSome (behind_comma ws) (λ us. length us ≤ length ws)
 behind_comma-shortens [] = tt
 behind_comma-shortens (Mark Comma ∷ ws) = omega arith
 behind_comma-shortens (w ∷ ws) = tt
@@ -70,7 +70,7 @@ read_sizes-shortens ws = then_at_most (length ws) (size_at ws) (λ a. second_siz
     paired a n None h = tt
     paired a n (Some b) h = h
 
-    second : (a : Size) (rest : List Word) (o : Option (List Word)) → IfSome o (λ us. length us ≤ length rest) → AtMost (length rest) (second_size a rest o)
+    second : (a : Size) (rest : List Lexeme) (o : Option (List Lexeme)) → IfSome o (λ us. length us ≤ length rest) → AtMost (length rest) (second_size a rest o)
     second a rest None h = omega arith
     second a rest (Some us) h = paired a (length rest) (size_at us) (AtMost-more (length us) (length rest) (size_at us) h (size_at-shortens us))
 
@@ -78,7 +78,7 @@ pub read_item-shortens : Shortens read_item
 unfolding read_item
 read_item-shortens ws = then_at_most (length ws) (name_at ws) (λ x. item_behind x.0 x.1 (behind_left x.1)) (name_at-shortens ws) (λ x. behind x.0 x.1 (behind_left x.1) (behind_left-shortens x.1))
   where
-    behind : (x : List ℕ) (rest : List Word) (o : Option (List Word)) → IfSome o (λ us. length us ≤ length rest) → AtMost (length rest) (item_behind x rest o)
+    behind : (x : List ℕ) (rest : List Lexeme) (o : Option (List Lexeme)) → IfSome o (λ us. length us ≤ length rest) → AtMost (length rest) (item_behind x rest o)
     behind x rest None h = omega arith
     behind x rest (Some us) h = then_at_most (length rest) (read_sizes us) (λ s. behind_right s.1 >>= λ vs. Some (record { name = x; sizes = s.0 }, vs)) (AtMost-more (length us) (length rest) (read_sizes us) h (read_sizes-shortens us)) (λ s. mark_at_most (behind_right s.1) (length s.1) (record { name = x; sizes = s.0 }) (behind_right-shortens s.1))
 

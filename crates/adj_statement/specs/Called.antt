@@ -25,9 +25,9 @@ abbrev pub only_of : {A : Type 0} → (Term → Option A) → Terms → Option A
 only_of form (more e none) = form e
 only_of form actuals = None
 
--- the runtime's call that has a name: of words and arrays, of control words and zeroing, of schedules
-unfoldable pub word_name : List ℕ → Option RuntimeName
-word_name x =
+-- the runtime's call that has a name: of lexemes and arrays, of control lexemes and zeroing, of schedules
+unfoldable pub lexeme_name : List ℕ → Option RuntimeName
+lexeme_name x =
     if name_eq x (codes "PUSHINTEGER8") then Some PushWord
     else (if name_eq x (codes "POPINTEGER8") then Some PopWord
     else (if name_eq x (codes "PUSHINTEGER8ARRAY") then Some PushArray
@@ -50,7 +50,7 @@ schedule_name x =
     else None)))
 
 abbrev pub runtime_name : List ℕ → Option RuntimeName
-runtime_name x = option_or (option_or (word_name x) (control_name x)) (schedule_name x)
+runtime_name x = option_or (option_or (lexeme_name x) (control_name x)) (schedule_name x)
 
 -- that call with these actuals, where they have its form
 unfoldable pub with_actuals : RuntimeName → Terms → Option Runtime

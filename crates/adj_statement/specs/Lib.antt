@@ -5,4 +5,4 @@ pub mod Said
 pub mod Fronts
 pub mod Called
 pub mod View
-pub mod WordsView
+pub mod LexemesView

@@ -1,10 +1,10 @@
--- Phrase: what the words of a statement say, with its expressions and conditions as they are written.
+-- Phrase: what the lexemes of a statement say, with its expressions and conditions as they are written.
 use Rattle.std.specs.Prelude.{ℕ, ◌≤◌, List, [], ◌∷◌, Option, Some, None}
 use Rattle.adj_text.specs.Condition.{Condition, Whole, DerivesCondition}
 use Rattle.adj_text.specs.Form.{Form, subroutine, implicit_none, end_do, go_on, otherwise, end_if, leaves, ends}
 use Rattle.adj_text.specs.Grammar.{Syntax, Arguments, count_of, Sum, Derives, DerivesAll}
 use Rattle.adj_text.specs.Statement.{ReadsHead}
-use Rattle.adj_text.specs.Word.{Word, Named, Digits, Mark}
+use Rattle.adj_text.specs.Lexeme.{Lexeme, Named, Digits, Mark}
 use Rattle.adj_text.specs.declared.stated.Kind.{Kind}
 use Rattle.adj_text.specs.declared.stated.Kind.TheVariants.{Do, BlockIf, LogicalIf, Assign, Continue, Return, End, EndIf, EndDo, Else, ImplicitNone, ElseIf, DoWhile, Subroutine, Integer, Call}
 use Rattle.adj_text.specs.declared.token.TokenKind.TheVariants as mark
@@ -48,68 +48,68 @@ pub data Phrase : Type 0 where
   opens : Condition → Phrase
   turns : Condition → Phrase
 
--- the words up to the rest are a variable, or one with one or two subscripts
-pub data SaysPlace : List Word → List Word → Entry → Type 0 where
-  scalar : {x : List ℕ} {rest : List Word} → SaysPlace (Named x ∷ rest) rest (record { name = x; list = None })
-  element : {x : List ℕ} {ts rest : List Word} {all : Arguments} → DerivesAll ts (Mark mark.Right ∷ rest) all → count_of all ≤ 2 → SaysPlace (Named x ∷ Mark mark.Left ∷ ts) rest (record { name = x; list = Some all })
+-- the lexemes up to the rest are a variable, or one with one or two subscripts
+pub data SaysPlace : List Lexeme → List Lexeme → Entry → Type 0 where
+  scalar : {x : List ℕ} {rest : List Lexeme} → SaysPlace (Named x ∷ rest) rest (record { name = x; list = None })
+  element : {x : List ℕ} {ts rest : List Lexeme} {all : Arguments} → DerivesAll ts (Mark mark.Right ∷ rest) all → count_of all ≤ 2 → SaysPlace (Named x ∷ Mark mark.Left ∷ ts) rest (record { name = x; list = Some all })
 
-pub data SaysAssignment : List Word → Deed → Type 0 where
-  assignment : {ts us : List Word} {p : Entry} {e : Syntax} → SaysPlace ts (Mark mark.Equals ∷ us) p → Derives Sum us [] e → SaysAssignment ts (assigns p e)
+pub data SaysAssignment : List Lexeme → Deed → Type 0 where
+  assignment : {ts us : List Lexeme} {p : Entry} {e : Syntax} → SaysPlace ts (Mark mark.Equals ∷ us) p → Derives Sum us [] e → SaysAssignment ts (assigns p e)
 
 -- behind CALL: a name, and expressions in parentheses or none
-pub data SaysCall : List Word → Deed → Type 0 where
+pub data SaysCall : List Lexeme → Deed → Type 0 where
   alone : {x : List ℕ} → SaysCall (Named x ∷ []) (calls (record { name = x; list = None }))
   empty : {x : List ℕ} → SaysCall (Named x ∷ Mark mark.Left ∷ Mark mark.Right ∷ []) (calls (record { name = x; list = None }))
-  actuals : {x : List ℕ} {ts : List Word} {all : Arguments} → DerivesAll ts (Mark mark.Right ∷ []) all → SaysCall (Named x ∷ Mark mark.Left ∷ ts) (calls (record { name = x; list = Some all }))
+  actuals : {x : List ℕ} {ts : List Lexeme} {all : Arguments} → DerivesAll ts (Mark mark.Right ∷ []) all → SaysCall (Named x ∷ Mark mark.Left ∷ ts) (calls (record { name = x; list = Some all }))
 
-pub data SaysSize : List Word → List Word → Size → Type 0 where
-  literal : {digits : List ℕ} {rest : List Word} → SaysSize (Digits digits ∷ rest) rest (numbered digits)
-  name : {x : List ℕ} {rest : List Word} → SaysSize (Named x ∷ rest) rest (named x)
+pub data SaysSize : List Lexeme → List Lexeme → Size → Type 0 where
+  literal : {digits : List ℕ} {rest : List Lexeme} → SaysSize (Digits digits ∷ rest) rest (numbered digits)
+  name : {x : List ℕ} {rest : List Lexeme} → SaysSize (Named x ∷ rest) rest (named x)
 
-pub data SaysItem : List Word → List Word → Declared → Type 0 where
-  scalar : {x : List ℕ} {rest : List Word} → SaysItem (Named x ∷ rest) rest (record { name = x; sizes = [] })
-  row : {x : List ℕ} {ts rest : List Word} {a : Size} → SaysSize ts (Mark mark.Right ∷ rest) a → SaysItem (Named x ∷ Mark mark.Left ∷ ts) rest (record { name = x; sizes = a ∷ [] })
-  table : {x : List ℕ} {ts us rest : List Word} {a b : Size} → SaysSize ts (Mark mark.Comma ∷ us) a → SaysSize us (Mark mark.Right ∷ rest) b → SaysItem (Named x ∷ Mark mark.Left ∷ ts) rest (record { name = x; sizes = a ∷ b ∷ [] })
+pub data SaysItem : List Lexeme → List Lexeme → Declared → Type 0 where
+  scalar : {x : List ℕ} {rest : List Lexeme} → SaysItem (Named x ∷ rest) rest (record { name = x; sizes = [] })
+  row : {x : List ℕ} {ts rest : List Lexeme} {a : Size} → SaysSize ts (Mark mark.Right ∷ rest) a → SaysItem (Named x ∷ Mark mark.Left ∷ ts) rest (record { name = x; sizes = a ∷ [] })
+  table : {x : List ℕ} {ts us rest : List Lexeme} {a b : Size} → SaysSize ts (Mark mark.Comma ∷ us) a → SaysSize us (Mark mark.Right ∷ rest) b → SaysItem (Named x ∷ Mark mark.Left ∷ ts) rest (record { name = x; sizes = a ∷ b ∷ [] })
 
 -- behind INTEGER: items separated by commas
-pub data SaysItems : List Word → List Declared → Type 0 where
-  last : {ts : List Word} {i : Declared} → SaysItem ts [] i → SaysItems ts (i ∷ [])
-  another : {ts us : List Word} {i : Declared} {is : List Declared} → SaysItem ts (Mark mark.Comma ∷ us) i → SaysItems us is → SaysItems ts (i ∷ is)
+pub data SaysItems : List Lexeme → List Declared → Type 0 where
+  last : {ts : List Lexeme} {i : Declared} → SaysItem ts [] i → SaysItems ts (i ∷ [])
+  another : {ts us : List Lexeme} {i : Declared} {is : List Declared} → SaysItem ts (Mark mark.Comma ∷ us) i → SaysItems us is → SaysItems ts (i ∷ is)
 
-pub data SaysBounds : List Word → Bounds → Type 0 where
-  by_one : {x : List ℕ} {ts us : List Word} {a b : Syntax} → Derives Sum ts (Mark mark.Comma ∷ us) a → Derives Sum us [] b → SaysBounds (Named x ∷ Mark mark.Equals ∷ ts) (record { counter = x; from = a; to = b; by = None })
-  by_step : {x : List ℕ} {ts us vs : List Word} {a b c : Syntax} → Derives Sum ts (Mark mark.Comma ∷ us) a → Derives Sum us (Mark mark.Comma ∷ vs) b → Derives Sum vs [] c → SaysBounds (Named x ∷ Mark mark.Equals ∷ ts) (record { counter = x; from = a; to = b; by = Some c })
+pub data SaysBounds : List Lexeme → Bounds → Type 0 where
+  by_one : {x : List ℕ} {ts us : List Lexeme} {a b : Syntax} → Derives Sum ts (Mark mark.Comma ∷ us) a → Derives Sum us [] b → SaysBounds (Named x ∷ Mark mark.Equals ∷ ts) (record { counter = x; from = a; to = b; by = None })
+  by_step : {x : List ℕ} {ts us vs : List Lexeme} {a b c : Syntax} → Derives Sum ts (Mark mark.Comma ∷ us) a → Derives Sum us (Mark mark.Comma ∷ vs) b → Derives Sum vs [] c → SaysBounds (Named x ∷ Mark mark.Equals ∷ ts) (record { counter = x; from = a; to = b; by = Some c })
 
 -- behind DO: the label where the loop has one, a comma or none, and the bounds
-pub data SaysDo : List Word → Phrase → Type 0 where
-  unlabelled : {ts : List Word} {b : Bounds} → SaysBounds ts b → SaysDo ts (repeats None b)
-  labelled : {digits : List ℕ} {ts : List Word} {b : Bounds} → SaysBounds ts b → SaysDo (Digits digits ∷ ts) (repeats (Some digits) b)
-  labelled_comma : {digits : List ℕ} {ts : List Word} {b : Bounds} → SaysBounds ts b → SaysDo (Digits digits ∷ Mark mark.Comma ∷ ts) (repeats (Some digits) b)
+pub data SaysDo : List Lexeme → Phrase → Type 0 where
+  unlabelled : {ts : List Lexeme} {b : Bounds} → SaysBounds ts b → SaysDo ts (repeats None b)
+  labelled : {digits : List ℕ} {ts : List Lexeme} {b : Bounds} → SaysBounds ts b → SaysDo (Digits digits ∷ ts) (repeats (Some digits) b)
+  labelled_comma : {digits : List ℕ} {ts : List Lexeme} {b : Bounds} → SaysBounds ts b → SaysDo (Digits digits ∷ Mark mark.Comma ∷ ts) (repeats (Some digits) b)
 
 -- behind IF, ELSE IF or DO WHILE: a condition in parentheses
-pub data SaysGuard : List Word → List Word → Condition → Type 0 where
-  guard : {ts rest : List Word} {c : Condition} → DerivesCondition Whole ts (Mark mark.Right ∷ rest) c → SaysGuard (Mark mark.Left ∷ ts) rest c
+pub data SaysGuard : List Lexeme → List Lexeme → Condition → Type 0 where
+  guard : {ts rest : List Lexeme} {c : Condition} → DerivesCondition Whole ts (Mark mark.Right ∷ rest) c → SaysGuard (Mark mark.Left ∷ ts) rest c
 
 -- behind the condition of a logical IF: an assignment or a CALL
-pub data SaysGuarded : List Word → Deed → Type 0 where
-  assigned : {ts : List Word} {d : Deed} → SaysAssignment ts d → SaysGuarded ts d
-  called : {ts : List Word} {d : Deed} → SaysCall ts d → SaysGuarded (Mark mark.Call ∷ ts) d
+pub data SaysGuarded : List Lexeme → Deed → Type 0 where
+  assigned : {ts : List Lexeme} {d : Deed} → SaysAssignment ts d → SaysGuarded ts d
+  called : {ts : List Lexeme} {d : Deed} → SaysCall ts d → SaysGuarded (Mark mark.Call ∷ ts) d
 
--- Says class words phrase: a statement of this class with these words behind its keyword says this
-pub data Says : Kind → List Word → Phrase → Type 0 where
-  heading : {ts : List Word} {x : List ℕ} {dummies : List (List ℕ)} → ReadsHead ts x dummies → Says Subroutine ts (plainly (subroutine x dummies))
+-- Says class lexemes phrase: a statement of this class with these lexemes behind its keyword says this
+pub data Says : Kind → List Lexeme → Phrase → Type 0 where
+  heading : {ts : List Lexeme} {x : List ℕ} {dummies : List (List ℕ)} → ReadsHead ts x dummies → Says Subroutine ts (plainly (subroutine x dummies))
   implicit : Says ImplicitNone [] (plainly implicit_none)
-  declaration : {ts : List Word} {is : List Declared} → SaysItems ts is → Says Integer ts (declares is)
-  assigned : {ts : List Word} {d : Deed} → SaysAssignment ts d → Says Assign ts (does d)
-  called : {ts : List Word} {d : Deed} → SaysCall ts d → Says Call ts (does d)
-  guarded : {ts us : List Word} {c : Condition} {d : Deed} → SaysGuard ts us c → SaysGuarded us d → Says LogicalIf ts (guards c d)
-  begins : {ts : List Word} {p : Phrase} → SaysDo ts p → Says Do ts p
-  tests_first : {ts : List Word} {c : Condition} → SaysGuard ts [] c → Says DoWhile ts (goes_while c)
+  declaration : {ts : List Lexeme} {is : List Declared} → SaysItems ts is → Says Integer ts (declares is)
+  assigned : {ts : List Lexeme} {d : Deed} → SaysAssignment ts d → Says Assign ts (does d)
+  called : {ts : List Lexeme} {d : Deed} → SaysCall ts d → Says Call ts (does d)
+  guarded : {ts us : List Lexeme} {c : Condition} {d : Deed} → SaysGuard ts us c → SaysGuarded us d → Says LogicalIf ts (guards c d)
+  begins : {ts : List Lexeme} {p : Phrase} → SaysDo ts p → Says Do ts p
+  tests_first : {ts : List Lexeme} {c : Condition} → SaysGuard ts [] c → Says DoWhile ts (goes_while c)
   finished : Says EndDo [] (plainly end_do)
   continued : Says Continue [] (plainly go_on)
-  tests : {ts : List Word} {c : Condition} → SaysGuard ts [] c → Says BlockIf ts (opens c)
+  tests : {ts : List Lexeme} {c : Condition} → SaysGuard ts [] c → Says BlockIf ts (opens c)
   turned : Says Else [] (plainly otherwise)
-  tests_again : {ts : List Word} {c : Condition} → SaysGuard ts [] c → Says ElseIf ts (turns c)
+  tests_again : {ts : List Lexeme} {c : Condition} → SaysGuard ts [] c → Says ElseIf ts (turns c)
   closed : Says EndIf [] (plainly end_if)
   returned : Says Return [] (plainly leaves)
   ended : Says End [] (plainly ends)

@@ -1,4 +1,4 @@
--- Said: what the words of a statement say, or what is wrong with its expressions.
+-- Said: what the lexemes of a statement say, or what is wrong with its expressions.
 use Rattle.std.specs.Prelude.{ℕ, ◌^◌, pos, nat_le, nat_lt, Bool, false, ◌||◌, List, map, Option, Some, None, option_map, Result}
 use Rattle.std.specs.List.{list_any}
 use Rattle.adj_tree.specs.Code.{plain, Term, Terms, lit, none, Mark, Act, assign, Extent, fixed, given}
@@ -7,14 +7,14 @@ use Rattle.adj_text.specs.Condition.{Condition, test}
 use Rattle.adj_text.specs.Form.{Form, integers, simple, logical, opens_do, opens_while, opens_if, otherwise_if}
 use Rattle.adj_text.specs.Grammar.{Syntax, Arguments, only, beside, with_both, tree, trees_before}
 use Rattle.adj_text.specs.Statement.{Item, called, Range}
-use Rattle.adj_text.specs.Word.{Word}
+use Rattle.adj_text.specs.Lexeme.{Lexeme}
 use Rattle.adj_text.specs.declared.stated.Kind.{Kind}
 use Rattle.adj_expression.specs.Judged.{has_large, any_large, depth, judged_by, test_large, test_depth}
 use Rattle.adj_expression.specs.declared.flaw.Flaw.{Flaw}
 use Rattle.adj_statement.specs.Phrase.{Deed, assigns, calls, Size, numbered, named, Declared, Bounds, Phrase, plainly, declares, does, guards, repeats, goes_while, opens, turns}
 use Rattle.adj_statement.specs.Phrases.{phrase_of}
 
--- whether a literal of the expressions of a list, of a deed, of an item, of bounds or of a phrase is above the greatest word
+-- whether a literal of the expressions of a list, of a deed, of an item, of bounds or of a phrase is above the greatest lexeme
 abbrev pub list_large : Option Arguments → Bool
 list_large None = false
 list_large (Some all) = any_large all
@@ -121,6 +121,6 @@ form mark (turns c) = option_map otherwise_if (test c)
 abbrev pub judged_phrase : ℕ → Mark → Phrase → Result Form Flaw
 judged_phrase limit mark p = judged_by (phrase_large p) (phrase_deep limit p) (form mark p)
 
--- a statement of a class with these words behind its keyword and the mark of the directive before it; none where the words don't have the form of the class
-unfoldable pub said : ℕ → Mark → Kind → List Word → Option (Result Form Flaw)
-said limit mark kind words = option_map (judged_phrase limit mark) (phrase_of kind words)
+-- a statement of a class with these lexemes behind its keyword and the mark of the directive before it; none where the lexemes don't have the form of the class
+unfoldable pub said : ℕ → Mark → Kind → List Lexeme → Option (Result Form Flaw)
+said limit mark kind lexemes = option_map (judged_phrase limit mark) (phrase_of kind lexemes)

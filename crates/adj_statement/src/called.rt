@@ -5,7 +5,7 @@ ghost use Rattle.adj_tree.specs.Code.{give_action, plain, name_eq};
 ghost use Rattle.adj_tree.specs.Listed.{terms_listed};
 ghost use Rattle.adj_tree.specs.View.{term_of, terms_of, runtime_of, act_of};
 ghost use Rattle.adj_text.specs.Statement.{as_value, as_beginning, as_count, as_action, as_nothing};
-ghost use Rattle.adj_statement.specs.Called.{name_of, names_of, place_of, only_of, word_name, control_name, schedule_name, runtime_name, with_actuals, call_of};
+ghost use Rattle.adj_statement.specs.Called.{name_of, names_of, place_of, only_of, lexeme_name, control_name, schedule_name, runtime_name, with_actuals, call_of};
 
 use adj_tree::{Act, Expr, Exprs, Memory, Name, Place, RunCall};
 use std::alloc::Global;
@@ -26,10 +26,10 @@ enum RuntimeName {
     End,
 }
 
-fn is_named(name: &[u8], word: &[u8]) -> bool
-    ensures { result ≡ name_eq name.now word.now }
+fn is_named(name: &[u8], lexeme: &[u8]) -> bool
+    ensures { result ≡ name_eq name.now lexeme.now }
 {
-    name == word
+    name == lexeme
 }
 
 // The name that an actual is.
@@ -192,10 +192,10 @@ fn end(actuals: &[Expr]) -> Option<RunCall>
     }
 }
 
-// The calls of words and arrays.
-#[tactic(auto, unfolding(crate::specs::Called::word_name))]
-fn word_name(name: &[u8]) -> Option<RuntimeName>
-    ensures { result ≡ word_name name.now }
+// The calls of lexemes and arrays.
+#[tactic(auto, unfolding(crate::specs::Called::lexeme_name))]
+fn lexeme_name(name: &[u8]) -> Option<RuntimeName>
+    ensures { result ≡ lexeme_name name.now }
 {
     if is_named(name, b"PUSHINTEGER8") {
         Some(RuntimeName::PushWord)
@@ -210,7 +210,7 @@ fn word_name(name: &[u8]) -> Option<RuntimeName>
     }
 }
 
-// The calls of control words, and zeroing.
+// The calls of control lexemes, and zeroing.
 #[tactic(auto, unfolding(crate::specs::Called::control_name))]
 fn control_name(name: &[u8]) -> Option<RuntimeName>
     ensures { result ≡ control_name name.now }
@@ -248,7 +248,7 @@ fn schedule_name(name: &[u8]) -> Option<RuntimeName>
 fn runtime_name(name: &[u8]) -> Option<RuntimeName>
     ensures { result ≡ runtime_name name.now }
 {
-    word_name(name)
+    lexeme_name(name)
         .or(control_name(name))
         .or(schedule_name(name))
 }

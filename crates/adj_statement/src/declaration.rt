@@ -8,12 +8,12 @@ ghost use Rattle.adj_statement.specs.Fronts.{judged_size, judged_items, front_si
 ghost use Rattle.adj_statement.specs.Phrase.{numbered};
 ghost use Rattle.adj_statement.specs.Phrases.{read_items};
 ghost use Rattle.adj_statement.specs.View.{item_of};
-ghost use Rattle.adj_statement.specs.WordsView.{words_in};
+ghost use Rattle.adj_statement.specs.LexemesView.{lexemes_in};
 
 use crate::content::Item;
 use crate::flaws::with_part;
+use crate::lexemes::Lexemes;
 use crate::number::number;
-use crate::words::Words;
 use adj_expression::Flaw;
 use adj_tree::{Extent, Extents, Memory, Name};
 use std::alloc::Global;
@@ -30,13 +30,13 @@ fn literal(digits: &[u8]) -> Result<Extent, Flaw>
 
 // An extent, and what stands behind it.
 #[tactic(auto, unfolding(crate::specs::Phrases::size_at, crate::specs::Fronts::front_size))]
-fn size(alloc: Global, words: Words) -> Result<Option<(Result<Extent, Flaw>, Words)>, Memory>
-    ensures { IfOk result (λ found. option_map (λ f. (seen extent_of f.0, words_in f.1)) found ≡ front_size (words_in words.entry)) }
+fn size(alloc: Global, lexemes: Lexemes) -> Result<Option<(Result<Extent, Flaw>, Lexemes)>, Memory>
+    ensures { IfOk result (λ found. option_map (λ f. (seen extent_of f.0, lexemes_in f.1)) found ≡ front_size (lexemes_in lexemes.entry)) }
 {
-    if let Some((digits, rest)) = words.digits() {
+    if let Some((digits, rest)) = lexemes.digits() {
         return Ok(Some((literal(digits), rest)));
     }
-    match words.name(alloc)? {
+    match lexemes.name(alloc)? {
         Some((name, rest)) => Ok(Some((Ok(Extent::Dummy(name)), rest))),
         None => Ok(None),
     }
@@ -54,10 +54,13 @@ fn with_extent(
 
 // The extents of an item, one or two, and what stands behind them.
 #[tactic(auto, using(crate::proofs::Declared::front_sizes_on))]
-fn sizes(alloc: Global, words: Words) -> Result<Option<(Result<Vec<Extent>, Flaw>, Words)>, Memory>
-    ensures { IfOk result (λ found. option_map (λ f. (seen (λ v. map extent_of v.items) f.0, words_in f.1)) found ≡ front_sizes (words_in words.entry)) }
+fn sizes(
+    alloc: Global,
+    lexemes: Lexemes,
+) -> Result<Option<(Result<Vec<Extent>, Flaw>, Lexemes)>, Memory>
+    ensures { IfOk result (λ found. option_map (λ f. (seen (λ v. map extent_of v.items) f.0, lexemes_in f.1)) found ≡ front_sizes (lexemes_in lexemes.entry)) }
 {
-    let Some((first, rest)) = size(alloc, words)? else {
+    let Some((first, rest)) = size(alloc, lexemes)? else {
         return Ok(None);
     };
     let sizes = with_extent(Ok(Vec::new(alloc)), first)?;
@@ -85,10 +88,10 @@ fn declared(name: Name, sizes: Result<Vec<Extent>, Flaw>) -> Result<Item, Flaw>
 
 // A declared name with its extents, and what stands behind it.
 #[tactic(auto, using(crate::proofs::Declared::front_item_on))]
-fn item(alloc: Global, words: Words) -> Result<Option<(Result<Item, Flaw>, Words)>, Memory>
-    ensures { IfOk result (λ found. option_map (λ f. (seen item_of f.0, words_in f.1)) found ≡ front_item (words_in words.entry)) }
+fn item(alloc: Global, lexemes: Lexemes) -> Result<Option<(Result<Item, Flaw>, Lexemes)>, Memory>
+    ensures { IfOk result (λ found. option_map (λ f. (seen item_of f.0, lexemes_in f.1)) found ≡ front_item (lexemes_in lexemes.entry)) }
 {
-    let Some((name, rest)) = words.name(alloc)? else {
+    let Some((name, rest)) = lexemes.name(alloc)? else {
         return Ok(None);
     };
     let Some(inner) = rest.behind_left() else {
@@ -116,10 +119,13 @@ fn with_item(
 
 // Items separated by commas, and what stands behind them.
 #[tactic(auto, using(crate::proofs::Lists::items_on), unfolding(crate::specs::Fronts::front_list))]
-fn listed(alloc: Global, words: Words) -> Result<Option<(Result<Vec<Item>, Flaw>, Words)>, Memory>
-    ensures { IfOk result (λ found. option_map (λ f. (seen (λ v. map item_of v.items) f.0, words_in f.1)) found ≡ front_list front_item (words_in words.entry)) }
+fn listed(
+    alloc: Global,
+    lexemes: Lexemes,
+) -> Result<Option<(Result<Vec<Item>, Flaw>, Lexemes)>, Memory>
+    ensures { IfOk result (λ found. option_map (λ f. (seen (λ v. map item_of v.items) f.0, lexemes_in f.1)) found ≡ front_list front_item (lexemes_in lexemes.entry)) }
 {
-    let Some((first, mut rest)) = item(alloc, words)? else {
+    let Some((first, mut rest)) = item(alloc, lexemes)? else {
         return Ok(None);
     };
     let mut items = with_item(Ok(Vec::new(alloc)), first)?;
@@ -133,12 +139,15 @@ fn listed(alloc: Global, words: Words) -> Result<Option<(Result<Vec<Item>, Flaw>
     Ok(Some((items, rest)))
 }
 
-/// The items of the words behind INTEGER, or what is wrong with them.
+/// The items of the lexemes behind INTEGER, or what is wrong with them.
 #[tactic(auto, using(crate::proofs::Declared::judged_items_on))]
-pub(crate) fn items(alloc: Global, words: Words) -> Result<Option<Result<Vec<Item>, Flaw>>, Memory>
-    ensures { IfOk result (λ found. option_map (seen (λ v. map item_of v.items)) found ≡ option_map judged_items (read_items (words_in words.entry))) }
+pub(crate) fn items(
+    alloc: Global,
+    lexemes: Lexemes,
+) -> Result<Option<Result<Vec<Item>, Flaw>>, Memory>
+    ensures { IfOk result (λ found. option_map (seen (λ v. map item_of v.items)) found ≡ option_map judged_items (read_items (lexemes_in lexemes.entry))) }
 {
-    match listed(alloc, words)? {
+    match listed(alloc, lexemes)? {
         Some((items, rest)) => Ok(rest.ended(items)),
         None => Ok(None),
     }

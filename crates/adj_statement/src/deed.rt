@@ -11,11 +11,11 @@ ghost use Rattle.adj_expression.specs.Flaws.{both};
 ghost use Rattle.adj_statement.specs.Flaws.{with_part};
 ghost use Rattle.adj_statement.specs.Fronts.{front_list, front_subscripts, front_place, front_assignment, front_actuals, front_call};
 ghost use Rattle.adj_statement.specs.View.{place_seen};
-ghost use Rattle.adj_statement.specs.WordsView.{words_in};
+ghost use Rattle.adj_statement.specs.LexemesView.{lexemes_in};
 
 use crate::called::called;
 use crate::flaws::with_part;
-use crate::words::Words;
+use crate::lexemes::Lexemes;
 use adj_expression::{Flaw, both};
 use adj_tree::{Act, Expr, Exprs, Memory, Name, Place};
 use std::alloc::Global;
@@ -34,13 +34,13 @@ fn with_expression(
 #[tactic(auto, using(crate::proofs::Deeds::front_subscripts_on))]
 fn subscripts(
     alloc: Global,
-    words: Words,
+    lexemes: Lexemes,
     limit: u32,
-) -> Result<Option<(Result<Vec<Expr>, Flaw>, Words)>, Memory>
+) -> Result<Option<(Result<Vec<Expr>, Flaw>, Lexemes)>, Memory>
     requires { limit < 1000 }
-    ensures { IfOk result (λ found. option_map (λ f. (seen (λ v. map term_of v.items) f.0, words_in f.1)) found ≡ front_subscripts limit (words_in words.entry)) }
+    ensures { IfOk result (λ found. option_map (λ f. (seen (λ v. map term_of v.items) f.0, lexemes_in f.1)) found ≡ front_subscripts limit (lexemes_in lexemes.entry)) }
 {
-    let Some((first, rest)) = words.expression(alloc, limit)? else {
+    let Some((first, rest)) = lexemes.expression(alloc, limit)? else {
         return Ok(None);
     };
     let all = with_expression(Ok(Vec::new(alloc)), first)?;
@@ -74,13 +74,13 @@ fn placed(
 #[tactic(auto, using(crate::proofs::Deeds::front_place_on))]
 fn place(
     alloc: Global,
-    words: Words,
+    lexemes: Lexemes,
     limit: u32,
-) -> Result<Option<(Result<Place, Flaw>, Words)>, Memory>
+) -> Result<Option<(Result<Place, Flaw>, Lexemes)>, Memory>
     requires { limit < 1000 }
-    ensures { IfOk result (λ found. option_map (λ f. (seen place_seen f.0, words_in f.1)) found ≡ front_place limit (words_in words.entry)) }
+    ensures { IfOk result (λ found. option_map (λ f. (seen place_seen f.0, lexemes_in f.1)) found ≡ front_place limit (lexemes_in lexemes.entry)) }
 {
-    let Some((name, rest)) = words.name(alloc)? else {
+    let Some((name, rest)) = lexemes.name(alloc)? else {
         return Ok(None);
     };
     let Some(inner) = rest.behind_left() else {
@@ -106,17 +106,17 @@ fn assigned(place: Result<Place, Flaw>, value: Result<Expr, Flaw>) -> Result<Act
     }
 }
 
-/// The assignment that the words are, or what is wrong with it.
+/// The assignment that the lexemes are, or what is wrong with it.
 #[tactic(auto, using(crate::proofs::Deeds::front_assignment_on))]
 pub(crate) fn assignment(
     alloc: Global,
-    words: Words,
+    lexemes: Lexemes,
     limit: u32,
 ) -> Result<Option<Result<Act, Flaw>>, Memory>
     requires { limit < 1000 }
-    ensures { IfOk result (λ found. option_map (seen act_of) found ≡ front_assignment limit (words_in words.entry)) }
+    ensures { IfOk result (λ found. option_map (seen act_of) found ≡ front_assignment limit (lexemes_in lexemes.entry)) }
 {
-    let Some((place, rest)) = place(alloc, words, limit)? else {
+    let Some((place, rest)) = place(alloc, lexemes, limit)? else {
         return Ok(None);
     };
     let Some(rest) = rest.behind_equals() else {
@@ -132,13 +132,13 @@ pub(crate) fn assignment(
 #[tactic(auto, using(crate::proofs::Lists::expressions_on), unfolding(crate::specs::Fronts::front_list))]
 fn arguments(
     alloc: Global,
-    words: Words,
+    lexemes: Lexemes,
     limit: u32,
-) -> Result<Option<(Result<Vec<Expr>, Flaw>, Words)>, Memory>
+) -> Result<Option<(Result<Vec<Expr>, Flaw>, Lexemes)>, Memory>
     requires { limit < 1000 }
-    ensures { IfOk result (λ found. option_map (λ f. (seen (λ v. map term_of v.items) f.0, words_in f.1)) found ≡ front_list (front_expression limit) (words_in words.entry)) }
+    ensures { IfOk result (λ found. option_map (λ f. (seen (λ v. map term_of v.items) f.0, lexemes_in f.1)) found ≡ front_list (front_expression limit) (lexemes_in lexemes.entry)) }
 {
-    let Some((first, mut rest)) = words.expression(alloc, limit)? else {
+    let Some((first, mut rest)) = lexemes.expression(alloc, limit)? else {
         return Ok(None);
     };
     let mut all = with_expression(Ok(Vec::new(alloc)), first)?;
@@ -156,22 +156,22 @@ fn arguments(
 #[tactic(auto, using(crate::proofs::Deeds::front_actuals_on))]
 fn actuals(
     alloc: Global,
-    words: Words,
+    lexemes: Lexemes,
     limit: u32,
 ) -> Result<Option<Result<Vec<Expr>, Flaw>>, Memory>
     requires { limit < 1000 }
-    ensures { IfOk result (λ found. option_map (seen (λ v. map term_of v.items)) found ≡ front_actuals limit (words_in words.entry)) }
+    ensures { IfOk result (λ found. option_map (seen (λ v. map term_of v.items)) found ≡ front_actuals limit (lexemes_in lexemes.entry)) }
 {
-    if words.are_none() {
+    if lexemes.are_none() {
         return Ok(Some(Ok(Vec::new(alloc))));
     }
-    let Some(words) = words.behind_left() else {
+    let Some(lexemes) = lexemes.behind_left() else {
         return Ok(None);
     };
-    if let Some(rest) = words.behind_right() {
+    if let Some(rest) = lexemes.behind_right() {
         return Ok(rest.ended(Ok(Vec::new(alloc))));
     }
-    let Some((all, rest)) = arguments(alloc, words, limit)? else {
+    let Some((all, rest)) = arguments(alloc, lexemes, limit)? else {
         return Ok(None);
     };
     match rest.behind_right() {
@@ -180,17 +180,17 @@ fn actuals(
     }
 }
 
-/// The CALL that the words behind the word CALL are, or what is wrong with it.
+/// The CALL that the lexemes behind the lexeme CALL are, or what is wrong with it.
 #[tactic(auto, using(crate::proofs::Deeds::front_call_on))]
 pub(crate) fn call(
     alloc: Global,
-    words: Words,
+    lexemes: Lexemes,
     limit: u32,
 ) -> Result<Option<Result<Act, Flaw>>, Memory>
     requires { limit < 1000 }
-    ensures { IfOk result (λ found. option_map (seen act_of) found ≡ front_call limit (words_in words.entry)) }
+    ensures { IfOk result (λ found. option_map (seen act_of) found ≡ front_call limit (lexemes_in lexemes.entry)) }
 {
-    let Some((name, rest)) = words.name(alloc)? else {
+    let Some((name, rest)) = lexemes.name(alloc)? else {
         return Ok(None);
     };
     match actuals(alloc, rest, limit)? {

@@ -3,18 +3,18 @@
 ghost use Rattle.std.specs.Prelude.{◌≡◌, IfOk, option_map};
 ghost use Rattle.adj_text.specs.Form.{subroutine};
 ghost use Rattle.adj_statement.specs.Phrases.{read_names, read_dummies, read_head};
-ghost use Rattle.adj_statement.specs.WordsView.{words_in};
+ghost use Rattle.adj_statement.specs.LexemesView.{lexemes_in};
 
-use crate::words::Words;
+use crate::lexemes::Lexemes;
 use adj_tree::{Memory, Name, NameList};
 use std::alloc::Global;
 
 // Names separated by commas, and what stands behind them.
 #[tactic(auto, using(crate::proofs::Lists::names_on), unfolding(crate::specs::Phrases::read_names))]
-fn names(alloc: Global, words: Words) -> Result<Option<(Vec<Name>, Words)>, Memory>
-    ensures { IfOk result (λ found. option_map (λ f. (f.0.items, words_in f.1)) found ≡ read_names (words_in words.entry)) }
+fn names(alloc: Global, lexemes: Lexemes) -> Result<Option<(Vec<Name>, Lexemes)>, Memory>
+    ensures { IfOk result (λ found. option_map (λ f. (f.0.items, lexemes_in f.1)) found ≡ read_names (lexemes_in lexemes.entry)) }
 {
-    let Some((first, mut rest)) = words.name(alloc)? else {
+    let Some((first, mut rest)) = lexemes.name(alloc)? else {
         return Ok(None);
     };
     let mut names = vec![in alloc; first]?;
@@ -30,19 +30,19 @@ fn names(alloc: Global, words: Words) -> Result<Option<(Vec<Name>, Words)>, Memo
 
 // The dummies behind the name up to the end: none where there are no parentheses, or nothing in them.
 #[tactic(auto, unfolding(crate::specs::Phrases::read_dummies))]
-fn dummies(alloc: Global, words: Words) -> Result<Option<NameList>, Memory>
-    ensures { IfOk result (λ found. found ≡ read_dummies (words_in words.entry)) }
+fn dummies(alloc: Global, lexemes: Lexemes) -> Result<Option<NameList>, Memory>
+    ensures { IfOk result (λ found. found ≡ read_dummies (lexemes_in lexemes.entry)) }
 {
-    if words.are_none() {
+    if lexemes.are_none() {
         return Ok(Some(NameList::new(Vec::new(alloc))));
     }
-    let Some(words) = words.behind_left() else {
+    let Some(lexemes) = lexemes.behind_left() else {
         return Ok(None);
     };
-    if let Some(rest) = words.behind_right() {
+    if let Some(rest) = lexemes.behind_right() {
         return Ok(rest.ended(NameList::new(Vec::new(alloc))));
     }
-    let Some((names, rest)) = names(alloc, words)? else {
+    let Some((names, rest)) = names(alloc, lexemes)? else {
         return Ok(None);
     };
     match rest.behind_right() {
@@ -51,12 +51,12 @@ fn dummies(alloc: Global, words: Words) -> Result<Option<NameList>, Memory>
     }
 }
 
-/// The name of a unit and its dummies, of the words behind SUBROUTINE.
+/// The name of a unit and its dummies, of the lexemes behind SUBROUTINE.
 #[tactic(auto, unfolding(crate::specs::Phrases::read_head))]
-pub(crate) fn head(alloc: Global, words: Words) -> Result<Option<(Name, NameList)>, Memory>
-    ensures { IfOk result (λ found. option_map (λ f. subroutine f.0 f.1) found ≡ read_head (words_in words.entry)) }
+pub(crate) fn head(alloc: Global, lexemes: Lexemes) -> Result<Option<(Name, NameList)>, Memory>
+    ensures { IfOk result (λ found. option_map (λ f. subroutine f.0 f.1) found ≡ read_head (lexemes_in lexemes.entry)) }
 {
-    let Some((name, rest)) = words.name(alloc)? else {
+    let Some((name, rest)) = lexemes.name(alloc)? else {
         return Ok(None);
     };
     match dummies(alloc, rest)? {

@@ -3,21 +3,21 @@
 ghost use Rattle.std.specs.Prelude.{◌≡◌, ◌<◌, IfOk, option_map};
 ghost use Rattle.adj_tree.specs.Code.{Term, plain};
 ghost use Rattle.adj_tree.specs.View.{term_of, test_of, mark_of, act_of};
-ghost use Rattle.adj_text.specs.Word.{words_of};
+ghost use Rattle.adj_text.specs.Lexeme.{lexemes_of};
 ghost use Rattle.adj_expression.specs.Front.{AreSlices};
 ghost use Rattle.adj_expression.specs.View.{seen};
 ghost use Rattle.adj_expression.specs.Flaws.{both};
 ghost use Rattle.adj_statement.specs.Fronts.{front_guard, front_test, front_guarded, front_logical, front_step, front_bounds, front_label, front_do};
 ghost use Rattle.adj_statement.specs.Said.{said};
 ghost use Rattle.adj_statement.specs.View.{label_of, range_of, guarded_seen, loop_seen, form_of};
-ghost use Rattle.adj_statement.specs.WordsView.{words_in};
+ghost use Rattle.adj_statement.specs.LexemesView.{lexemes_in};
 
 use crate::content::{Range, Said};
 use crate::declaration::items;
 use crate::deed::{assignment, call};
 use crate::heading::head;
 use crate::label::Label;
-use crate::words::Words;
+use crate::lexemes::Lexemes;
 use adj_expression::{Flaw, both};
 use adj_text::{Kind, Stated};
 use adj_tree::{Act, Cond, Expr, Memory, Name, boxed};
@@ -27,13 +27,13 @@ use std::alloc::Global;
 #[tactic(auto, using(crate::proofs::Guards::front_guard_on))]
 fn guard(
     alloc: Global,
-    words: Words,
+    lexemes: Lexemes,
     limit: u32,
-) -> Result<Option<(Result<Cond, Flaw>, Words)>, Memory>
+) -> Result<Option<(Result<Cond, Flaw>, Lexemes)>, Memory>
     requires { limit < 1000 }
-    ensures { IfOk result (λ found. option_map (λ f. (seen test_of f.0, words_in f.1)) found ≡ front_guard limit (words_in words.entry)) }
+    ensures { IfOk result (λ found. option_map (λ f. (seen test_of f.0, lexemes_in f.1)) found ≡ front_guard limit (lexemes_in lexemes.entry)) }
 {
-    let Some(inner) = words.behind_left() else {
+    let Some(inner) = lexemes.behind_left() else {
         return Ok(None);
     };
     let Some((condition, rest)) = inner.condition(alloc, limit)? else {
@@ -47,11 +47,11 @@ fn guard(
 
 // A condition in parentheses up to the end.
 #[tactic(auto, using(crate::proofs::Guards::front_test_on))]
-fn test(alloc: Global, words: Words, limit: u32) -> Result<Option<Result<Cond, Flaw>>, Memory>
+fn test(alloc: Global, lexemes: Lexemes, limit: u32) -> Result<Option<Result<Cond, Flaw>>, Memory>
     requires { limit < 1000 }
-    ensures { IfOk result (λ found. option_map (seen test_of) found ≡ front_test limit (words_in words.entry)) }
+    ensures { IfOk result (λ found. option_map (seen test_of) found ≡ front_test limit (lexemes_in lexemes.entry)) }
 {
-    match guard(alloc, words, limit)? {
+    match guard(alloc, lexemes, limit)? {
         Some((condition, rest)) => Ok(rest.ended(condition)),
         None => Ok(None),
     }
@@ -59,13 +59,13 @@ fn test(alloc: Global, words: Words, limit: u32) -> Result<Option<Result<Cond, F
 
 // What a logical IF guards.
 #[tactic(auto, using(crate::proofs::Guards::front_guarded_on))]
-fn guarded(alloc: Global, words: Words, limit: u32) -> Result<Option<Result<Act, Flaw>>, Memory>
+fn guarded(alloc: Global, lexemes: Lexemes, limit: u32) -> Result<Option<Result<Act, Flaw>>, Memory>
     requires { limit < 1000 }
-    ensures { IfOk result (λ found. option_map (seen act_of) found ≡ front_guarded limit (words_in words.entry)) }
+    ensures { IfOk result (λ found. option_map (seen act_of) found ≡ front_guarded limit (lexemes_in lexemes.entry)) }
 {
-    match words.behind_call() {
+    match lexemes.behind_call() {
         Some(rest) => call(alloc, rest, limit),
-        None => assignment(alloc, words, limit),
+        None => assignment(alloc, lexemes, limit),
     }
 }
 
@@ -76,17 +76,17 @@ fn joined(condition: Result<Cond, Flaw>, act: Result<Act, Flaw>) -> Result<(Cond
     both(condition, act)
 }
 
-// The condition of a logical IF and what it guards, of the words behind IF.
+// The condition of a logical IF and what it guards, of the lexemes behind IF.
 #[tactic(auto, using(crate::proofs::Guards::front_logical_on))]
 fn logical(
     alloc: Global,
-    words: Words,
+    lexemes: Lexemes,
     limit: u32,
 ) -> Result<Option<Result<(Cond, Act), Flaw>>, Memory>
     requires { limit < 1000 }
-    ensures { IfOk result (λ found. option_map (seen guarded_seen) found ≡ front_logical limit (words_in words.entry)) }
+    ensures { IfOk result (λ found. option_map (seen guarded_seen) found ≡ front_logical limit (lexemes_in lexemes.entry)) }
 {
-    let Some((condition, rest)) = guard(alloc, words, limit)? else {
+    let Some((condition, rest)) = guard(alloc, lexemes, limit)? else {
         return Ok(None);
     };
     match guarded(alloc, rest, limit)? {
@@ -97,17 +97,17 @@ fn logical(
 
 // The step of a loop, 1 where it has none.
 #[tactic(auto, using(crate::proofs::Loops::front_step_on))]
-fn step(alloc: Global, words: Words, limit: u32) -> Result<Option<Result<Expr, Flaw>>, Memory>
+fn step(alloc: Global, lexemes: Lexemes, limit: u32) -> Result<Option<Result<Expr, Flaw>>, Memory>
     requires { limit < 1000 }
-    ensures { IfOk result (λ found. option_map (seen term_of) found ≡ front_step limit (words_in words.entry)) }
+    ensures { IfOk result (λ found. option_map (seen term_of) found ≡ front_step limit (lexemes_in lexemes.entry)) }
 {
-    if words.are_none() {
+    if lexemes.are_none() {
         return Ok(Some(Ok(Expr::Lit(1))));
     }
-    let Some(words) = words.behind_comma() else {
+    let Some(lexemes) = lexemes.behind_comma() else {
         return Ok(None);
     };
-    match words.expression(alloc, limit)? {
+    match lexemes.expression(alloc, limit)? {
         Some((step, rest)) => Ok(rest.ended(step)),
         None => Ok(None),
     }
@@ -139,13 +139,17 @@ fn ranged(
     }
 }
 
-// The bounds of a loop, of the words behind its label.
+// The bounds of a loop, of the lexemes behind its label.
 #[tactic(auto, using(crate::proofs::Loops::front_bounds_on))]
-fn bounds(alloc: Global, words: Words, limit: u32) -> Result<Option<Result<Range, Flaw>>, Memory>
+fn bounds(
+    alloc: Global,
+    lexemes: Lexemes,
+    limit: u32,
+) -> Result<Option<Result<Range, Flaw>>, Memory>
     requires { limit < 1000 }
-    ensures { IfOk result (λ found. option_map (seen range_of) found ≡ front_bounds limit (words_in words.entry)) }
+    ensures { IfOk result (λ found. option_map (seen range_of) found ≡ front_bounds limit (lexemes_in lexemes.entry)) }
 {
-    let Some((counter, rest)) = words.name(alloc)? else {
+    let Some((counter, rest)) = lexemes.name(alloc)? else {
         return Ok(None);
     };
     let Some(rest) = rest.behind_equals() else {
@@ -171,29 +175,29 @@ fn bounds(alloc: Global, words: Words, limit: u32) -> Result<Option<Result<Range
 
 // The label behind DO, where there is one, and what stands behind it and a comma.
 #[tactic(auto, unfolding(crate::specs::Phrases::read_label, crate::specs::Fronts::front_label))]
-fn label(alloc: Global, words: Words) -> Result<(Option<Label>, Words), Memory>
-    ensures { IfOk result (λ found. (option_map label_of found.0, words_in found.1) ≡ front_label (words_in words.entry)) }
+fn label(alloc: Global, lexemes: Lexemes) -> Result<(Option<Label>, Lexemes), Memory>
+    ensures { IfOk result (λ found. (option_map label_of found.0, lexemes_in found.1) ≡ front_label (lexemes_in lexemes.entry)) }
 {
-    match words.digits() {
+    match lexemes.digits() {
         Some((digits, rest)) => {
             let label = Label::new(alloc, digits)?;
             Ok((Some(label), rest.behind_comma().unwrap_or(rest)))
         }
-        None => Ok((None, words)),
+        None => Ok((None, lexemes)),
     }
 }
 
-// The label and the bounds of a loop, of the words behind DO.
+// The label and the bounds of a loop, of the lexemes behind DO.
 #[tactic(auto, using(crate::proofs::Loops::front_do_on))]
 fn looped(
     alloc: Global,
-    words: Words,
+    lexemes: Lexemes,
     limit: u32,
 ) -> Result<Option<Result<(Option<Label>, Range), Flaw>>, Memory>
     requires { limit < 1000 }
-    ensures { IfOk result (λ found. option_map (seen loop_seen) found ≡ front_do limit (words_in words.entry)) }
+    ensures { IfOk result (λ found. option_map (seen loop_seen) found ≡ front_do limit (lexemes_in lexemes.entry)) }
 {
-    let (label, rest) = label(alloc, words)?;
+    let (label, rest) = label(alloc, lexemes)?;
     match bounds(alloc, rest, limit)? {
         Some(Ok(range)) => Ok(Some(Ok((label, range)))),
         Some(Err(flaw)) => Ok(Some(Err(flaw))),
@@ -201,7 +205,7 @@ fn looped(
     }
 }
 
-/// What a statement says, or what is wrong with its expressions; none where its words aren't of the form of its class.
+/// What a statement says, or what is wrong with its expressions; none where its lexemes aren't of the form of its class.
 /// Its expressions and conditions are at most as deep as the limit. What is wrong is the least flaw of all of them, in the order large, deep, exponent.
 #[tactic(auto, using(crate::proofs::Phrased::classes))]
 pub fn said(
@@ -211,33 +215,33 @@ pub fn said(
 ) -> Result<Option<Result<Said, Flaw>>, Memory>
     requires slices { AreSlices stated.now.text stated.now.tokens }
     requires limit { limit < 1000 }
-    ensures said { IfOk result (λ found. option_map (seen (form_of (mark_of stated.now.mark))) found ≡ said limit (mark_of stated.now.mark) stated.now.kind (words_of stated.now.text stated.now.tokens)) }
+    ensures said { IfOk result (λ found. option_map (seen (form_of (mark_of stated.now.mark))) found ≡ said limit (mark_of stated.now.mark) stated.now.kind (lexemes_of stated.now.text stated.now.tokens)) }
 {
-    let words = Words::new(stated.text.as_slice(), stated.tokens.as_slice());
+    let lexemes = Lexemes::new(stated.text.as_slice(), stated.tokens.as_slice());
     match stated.kind {
         Kind::Subroutine => {
-            Ok(head(alloc, words)?.map(|(name, dummies)| Ok(Said::Subroutine(name, dummies))))
+            Ok(head(alloc, lexemes)?.map(|(name, dummies)| Ok(Said::Subroutine(name, dummies))))
         }
-        Kind::Integer => Ok(items(alloc, words)?.map(|items| items.map(Said::Integers))),
-        Kind::Assign => Ok(assignment(alloc, words, limit)?.map(|act| act.map(Said::Simple))),
-        Kind::Call => Ok(call(alloc, words, limit)?.map(|act| act.map(Said::Simple))),
+        Kind::Integer => Ok(items(alloc, lexemes)?.map(|items| items.map(Said::Integers))),
+        Kind::Assign => Ok(assignment(alloc, lexemes, limit)?.map(|act| act.map(Said::Simple))),
+        Kind::Call => Ok(call(alloc, lexemes, limit)?.map(|act| act.map(Said::Simple))),
         Kind::LogicalIf => {
-            let parts = logical(alloc, words, limit)?;
+            let parts = logical(alloc, lexemes, limit)?;
             Ok(parts.map(|parts| parts.map(|(condition, act)| Said::Guarded(condition, act))))
         }
         Kind::Do => {
-            let parts = looped(alloc, words, limit)?;
+            let parts = looped(alloc, lexemes, limit)?;
             Ok(parts.map(|parts| parts.map(|(label, range)| Said::Do(label, range))))
         }
-        Kind::DoWhile => Ok(test(alloc, words, limit)?.map(|c| c.map(Said::While))),
-        Kind::BlockIf => Ok(test(alloc, words, limit)?.map(|c| c.map(Said::If))),
-        Kind::ElseIf => Ok(test(alloc, words, limit)?.map(|c| c.map(Said::ElseIf))),
-        Kind::ImplicitNone => Ok(words.ended(Ok(Said::ImplicitNone))),
-        Kind::EndDo => Ok(words.ended(Ok(Said::EndDo))),
-        Kind::Continue => Ok(words.ended(Ok(Said::Continue))),
-        Kind::Else => Ok(words.ended(Ok(Said::Else))),
-        Kind::EndIf => Ok(words.ended(Ok(Said::EndIf))),
-        Kind::Return => Ok(words.ended(Ok(Said::Return))),
-        Kind::End => Ok(words.ended(Ok(Said::End))),
+        Kind::DoWhile => Ok(test(alloc, lexemes, limit)?.map(|c| c.map(Said::While))),
+        Kind::BlockIf => Ok(test(alloc, lexemes, limit)?.map(|c| c.map(Said::If))),
+        Kind::ElseIf => Ok(test(alloc, lexemes, limit)?.map(|c| c.map(Said::ElseIf))),
+        Kind::ImplicitNone => Ok(lexemes.ended(Ok(Said::ImplicitNone))),
+        Kind::EndDo => Ok(lexemes.ended(Ok(Said::EndDo))),
+        Kind::Continue => Ok(lexemes.ended(Ok(Said::Continue))),
+        Kind::Else => Ok(lexemes.ended(Ok(Said::Else))),
+        Kind::EndIf => Ok(lexemes.ended(Ok(Said::EndIf))),
+        Kind::Return => Ok(lexemes.ended(Ok(Said::Return))),
+        Kind::End => Ok(lexemes.ended(Ok(Said::End))),
     }
 }

@@ -1,4 +1,4 @@
--- Assigned: an assignment of a written expression to a written place is a statement of its class, with the words of both.
+-- Assigned: an assignment of a written expression to a written place is a statement of its class, with the lexemes of both.
 use Rattle.std.proofs.Common.{◌≡◌, ℕ, suc, ◌+◌, ◌<◌, Bool, true, false, eqb, List, [], ◌∷◌, ◌++◌, length, drop, Some, option_map, refl, sym, ap, ◌∙◌, arith, append_assoc, append-nil, length-append}
 use Rattle.std.specs.Prelude.{◌&&◌, nat_lt, codes, unwrap_or}
 use Rattle.std.specs.List.{flat_map, list_all, prefix_len}
@@ -9,7 +9,7 @@ use Rattle.adj_text.specs.Char.{left, right, comma, equals, is_digit, is_name_ch
 use Rattle.adj_text.specs.Class.{has_open, is_matched, group_len, begins_with_letter, behind_label, is_control, is_do, inner, is_if, kind_of, class_of}
 use Rattle.adj_text.specs.Text.{var_text, behind_commas, bracketed, term_text, term_texts}
 use Rattle.adj_text.specs.Token.{begins_with}
-use Rattle.adj_text.specs.Word.{Word, Named, Mark}
+use Rattle.adj_text.specs.Lexeme.{Lexeme, Named, Mark}
 use Rattle.adj_text.specs.Written.{IsVariable, IsPlace, IsWrittenTerm, AreWrittenTerms}
 use Rattle.adj_text.specs.declared.stated.Kind.TheVariants as classes
 use Rattle.adj_text.specs.declared.token.TokenKind.TheVariants.{Equals}
@@ -17,7 +17,7 @@ use Rattle.adj_text.proofs.Spelled.{spelling, is_name, EndsName}
 use Rattle.adj_text.proofs.Scans.{both_true}
 use Rattle.adj_text.proofs.Stating.{IsStatement}
 use Rattle.adj_text.proofs.Classes.{and_no, name_chars}
-use Rattle.adj_text.proofs.TermWords.{term_words, bracketed_words}
+use Rattle.adj_text.proofs.TermLexemes.{term_lexemes, bracketed_lexemes}
 use Rattle.adj_text.proofs.TermSpelled.{term_spelled, bracketed_spelled}
 use Rattle.adj_text.proofs.TermSpaced.{is_name-variable, term_spaced, bracketed_spaced}
 use Rattle.adj_text.proofs.Balanced.{IsInner, IsBalanced, grouped, opening-groups, closing-group, balanced-append, balanced-name, balanced-bracketed, bracketed_is_grouped, AreBalanced}
@@ -175,19 +175,19 @@ assignment_matched x ts e h b c =
     let place = balanced-append x (bracketed ts) (balanced-name x h) (balanced-bracketed ts b) in
     ap (is_matched 0) (sym (append_assoc x (bracketed ts) (61 ∷ e))) ∙ place.matches (61 ∷ e) ∙ matches-equals e ∙ ap (is_matched 0) (sym (append-nil e)) ∙ c.matches [] ∙ matches-nothing
 
--- the words of an assignment
-abbrev pub assignment_words : Var → Terms → Term → List Word
-assignment_words x s e = Named (var_text x) ∷ bracketed_words s (Mark Equals ∷ term_words e [])
+-- the lexemes of an assignment
+abbrev pub assignment_lexemes : Var → Terms → Term → List Lexeme
+assignment_lexemes x s e = Named (var_text x) ∷ bracketed_lexemes s (Mark Equals ∷ term_lexemes e [])
 
 -- they are spelled as it is printed
-pub assignment_spelled : (x : Var) (s : Terms) (e : Term) → AreWrittenTerms s → IsWrittenTerm e → flat_map spelling (assignment_words x s e) ≡ var_text x ++ (bracketed (term_texts s) ++ 61 ∷ term_text e)
-assignment_spelled x s e h g = ap (λ xs. var_text x ++ xs) (bracketed_spelled s h (Mark Equals ∷ term_words e []) ∙ ap (λ xs. bracketed (term_texts s) ++ 61 ∷ xs) (term_spelled e g [] ∙ append-nil (term_text e)))
+pub assignment_spelled : (x : Var) (s : Terms) (e : Term) → AreWrittenTerms s → IsWrittenTerm e → flat_map spelling (assignment_lexemes x s e) ≡ var_text x ++ (bracketed (term_texts s) ++ 61 ∷ term_text e)
+assignment_spelled x s e h g = ap (λ xs. var_text x ++ xs) (bracketed_spelled s h (Mark Equals ∷ term_lexemes e []) ∙ ap (λ xs. bracketed (term_texts s) ++ 61 ∷ xs) (term_spelled e g [] ∙ append-nil (term_text e)))
 
 subscripts_written : (x : Var) (s : Terms) → IsPlace x s → IsVariable x × AreWrittenTerms s
 subscripts_written x none h = (h, tt)
 subscripts_written x (more a s) h = (h.0, h.2)
 
-ends_place : (s : Terms) (rest : List Word) → EndsName (bracketed_words s (Mark Equals ∷ rest))
+ends_place : (s : Terms) (rest : List Lexeme) → EndsName (bracketed_lexemes s (Mark Equals ∷ rest))
 ends_place none rest = tt
 ends_place (more t others) rest = tt
 
@@ -195,8 +195,8 @@ some_name : (x rest : List ℕ) → is_name x ≡ true → 0 < length (x ++ rest
 some_name [] rest h = absurd cc
 some_name (c ∷ cs) rest h = omega arith
 
--- an assignment is a statement of its class with its words
-pub is_assigned : (x : Var) (s : Terms) (e : Term) → IsPlace x s → IsWrittenTerm e → IsStatement classes.Assign [] (assignment_words x s e)
+-- an assignment is a statement of its class with its lexemes
+pub is_assigned : (x : Var) (s : Terms) (e : Term) → IsPlace x s → IsWrittenTerm e → IsStatement classes.Assign [] (assignment_lexemes x s e)
 is_assigned x s e h g =
     let p = subscripts_written x s h in
     let spelled = assignment_spelled x s e p.1 g in
@@ -204,8 +204,8 @@ is_assigned x s e h g =
     let items = terms_balanced s p.1 in
     let value = term_balanced e g in
     record {
-      spaced = (is_name-variable x p.0, ends_place s (term_words e []), bracketed_spaced s p.1 (Mark Equals ∷ term_words e []) tt (tt, tt, term_spaced e g [] tt tt));
-      some = some_name (var_text x) (flat_map spelling (bracketed_words s (Mark Equals ∷ term_words e []))) (is_name-variable x p.0);
+      spaced = (is_name-variable x p.0, ends_place s (term_lexemes e []), bracketed_spaced s p.1 (Mark Equals ∷ term_lexemes e []) tt (tt, tt, term_spaced e g [] tt tt));
+      some = some_name (var_text x) (flat_map spelling (bracketed_lexemes s (Mark Equals ∷ term_lexemes e []))) (is_name-variable x p.0);
       classed = ap class_of spelled ∙ assignment_classed (var_text x) (term_texts s) (term_text e) named items value;
       matched = ap (is_matched 0) spelled ∙ assignment_matched (var_text x) (term_texts s) (term_text e) named items value;
       keyword_ends = refl;

@@ -13,20 +13,20 @@ use Rattle.adj_text.specs.Lined.{Lines}
 use Rattle.adj_text.specs.Statement.{Range, ReadsRange, ReadsDo}
 use Rattle.adj_text.specs.Statement as statements
 use Rattle.adj_text.specs.Text.{test_text}
-use Rattle.adj_text.specs.Word.{Word, Mark}
+use Rattle.adj_text.specs.Lexeme.{Lexeme, Mark}
 use Rattle.adj_text.specs.Written.{IsWrittenTest}
 use Rattle.adj_text.proofs.Joins.{allowed-append, folded-append}
-use Rattle.adj_text.proofs.Opened.{guard_words, if_chars, if_statement, states_if, if_words}
+use Rattle.adj_text.proofs.Opened.{guard_lexemes, if_chars, if_statement, states_if, if_lexemes}
 use Rattle.adj_text.proofs.Printed.{SaysChars}
 use Rattle.adj_text.proofs.Said.{Says}
-use Rattle.adj_text.proofs.Solid.{IsSolid, solid_words}
-use Rattle.adj_text.proofs.TestDerived.{test_words, reads_test}
+use Rattle.adj_text.proofs.Solid.{IsSolid, solid_lexemes}
+use Rattle.adj_text.proofs.TestDerived.{test_lexemes, reads_test}
 use Rattle.adj_text.proofs.TestSpelled.{test_spelled, test_spaced}
 
 solid_test : (c : Test) → IsWrittenTest c → IsSolid (test_text c)
 solid_test c h =
     let P : List ℕ → Type 0 = IsSolid in
-    subst P (test_spelled c h [] ∙ append-nil (test_text c)) (solid_words (test_words c []) (test_spaced c h [] tt tt))
+    subst P (test_spelled c h [] ∙ append-nil (test_text c)) (solid_lexemes (test_lexemes c []) (test_spaced c h [] tt tt))
 
 -- what a block IF's characters are without blanks
 if_folded : (c : Test) → IsWrittenTest c → folded (codes "IF (" ++ test_text c ++ codes ") THEN") ≡ if_chars c
@@ -35,15 +35,15 @@ if_folded c h =
 
 if_reads : (s : Lines) (c : Test) → s.text ≡ if_chars c → mark_of s.mark ≡ unmarked → IsWrittenTest c → Says s (opens_if c)
 if_reads s c e m h =
-    let form : ReadsForm unmarked classes.BlockIf (guard_words c) (opens_if c) = forms.ReadsForm.tests (statements.ReadsGuard.guard (reads_test c (Mark Right ∷ []) h)) in
-    let P : List Word → Type 0 = λ ws. ReadsForm (mark_of s.mark) classes.BlockIf ws (opens_if c) in
-    let Q : trees.Mark → Type 0 = λ mark. ReadsForm mark classes.BlockIf (guard_words c) (opens_if c) in
+    let form : ReadsForm unmarked classes.BlockIf (guard_lexemes c) (opens_if c) = forms.ReadsForm.tests (statements.ReadsGuard.guard (reads_test c (Mark Right ∷ []) h)) in
+    let P : List Lexeme → Type 0 = λ ws. ReadsForm (mark_of s.mark) classes.BlockIf ws (opens_if c) in
+    let Q : trees.Mark → Type 0 = λ mark. ReadsForm mark classes.BlockIf (guard_lexemes c) (opens_if c) in
     record {
       found = if_statement s c;
       is_stated = states_if s c e h;
       at_line = refl;
       with_label = refl;
-      form = subst P (sym (if_words s c e h)) (subst Q (sym m) form);
+      form = subst P (sym (if_lexemes s c e h)) (subst Q (sym m) form);
     }
 
 pub says_if : (c : Test) → IsWrittenTest c → SaysChars unmarked (codes "IF (" ++ test_text c ++ codes ") THEN") (opens_if c)

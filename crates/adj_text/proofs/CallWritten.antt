@@ -1,14 +1,14 @@
--- CallWritten: what the words behind CALL say is written, where its literals fit.
+-- CallWritten: what the lexemes behind CALL say is written, where its literals fit.
 use Rattle.std.proofs.Common.{◌≡◌, ℕ, Bool, true, false, List, [], ◌∷◌, Option, Some, None, refl, subst}
 use Rattle.std.specs.Prelude.{codes, if◌then◌else◌}
 use Rattle.adj_tree.specs.Code.{Var, Terms, lit, var, elem, neg, bin, pow, power_of, abs, none, more, name_eq, Runtime, push_word, pop_word, push_array, pop_array, push_control, pop_control, zero_array, begin_reversal, count_actions, give_action, end_reversal, Act}
 use Rattle.adj_text.specs.declared.token.TokenKind.TheVariants.{Right}
 use Rattle.adj_text.specs.Statement as statements
 use Rattle.adj_text.specs.Statement.{as_place, as_name, as_value, as_beginning, as_count, as_action, as_nothing, runtime_call, called, called_as, ReadsCall, ReadsGuarded}
-use Rattle.adj_text.specs.Word.{Word, Mark}
+use Rattle.adj_text.specs.Lexeme.{Lexeme, Mark}
 use Rattle.adj_text.specs.Written.{IsName, IsVariable, IsActualPlace, IsWrittenTerm, IsWrittenRuntime}
 use Rattle.adj_text.specs.Fits.{FitsTerms, FitsRuntime}
-use Rattle.adj_text.proofs.TermWritten.{AreWords, AllWhereFit, all_where_fit, reads_written}
+use Rattle.adj_text.proofs.TermWritten.{AreLexemes, AllWhereFit, all_where_fit, reads_written}
 use Rattle.adj_text.proofs.FormWritten.{ActWhereFits, assignment_written}
 
 -- the runtime call, if there is one, is written where its literals fit
@@ -136,11 +136,11 @@ as_written x es None e n w g = λ f. (n, all_where_fit es w f, e)
 called_written : (x : List ℕ) (es : Terms) → IsName x → AllWhereFit es → ActWhereFits (called x es)
 called_written x es n w = as_written x es (runtime_call x es) refl n w (good_call x es w)
 
-pub call_written : {ts : List Word} {a : Act} → ReadsCall ts a → AreWords ts → ActWhereFits a
+pub call_written : {ts : List Lexeme} {a : Act} → ReadsCall ts a → AreLexemes ts → ActWhereFits a
 call_written (statements.ReadsCall.alone {x = x}) h = called_written x none h.0 tt
 call_written (statements.ReadsCall.empty {x = x}) h = called_written x none h.0 tt
 call_written (statements.ReadsCall.actuals {x = x} {ts = ts} {n = n} {es = es} d) h = called_written x es h.0 (reads_written ts (Mark Right ∷ []) n es d h.1).1
 
-pub guarded_written : {ts : List Word} {a : Act} → ReadsGuarded ts a → AreWords ts → ActWhereFits a
+pub guarded_written : {ts : List Lexeme} {a : Act} → ReadsGuarded ts a → AreLexemes ts → ActWhereFits a
 guarded_written (statements.ReadsGuarded.assigned d) h = assignment_written d h
 guarded_written (statements.ReadsGuarded.calls d) h = call_written d h

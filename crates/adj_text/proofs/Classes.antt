@@ -7,7 +7,7 @@ use Rattle.std.proofs.lemmas.Bool.Decides.{nat_tests}
 use Rattle.adj_text.specs.Char.{left, right, comma, equals, is_capital, is_digit, is_name_char}
 use Rattle.adj_text.specs.Class.{depth_behind, has_open, is_matched, begins_with_letter, behind_label, is_control, is_do, is_if}
 use Rattle.adj_text.specs.Token.{begins_with}
-use Rattle.adj_text.specs.Word.{Word, Named, Digits, Mark}
+use Rattle.adj_text.specs.Lexeme.{Lexeme, Named, Digits, Mark}
 use Rattle.adj_text.proofs.Spelled.{chars_of, spelling, is_name, is_number, AreSpaced}
 use Rattle.adj_text.proofs.Scans.{both_true}
 
@@ -92,8 +92,8 @@ no_if_begins (a ∷ b ∷ c ∷ cs) h =
 pub no_if : (text : List ℕ) → Lacks left text → is_if text ≡ false
 no_if text h = rw (no_if_begins text h) refl
 
--- a character of which the marks of some words have none, and no name has
-abbrev pub Lack : ℕ → List Word → Type 0
+-- a character of which the marks of some lexemes have none, and no name has
+abbrev pub Lack : ℕ → List Lexeme → Type 0
 Lack k [] = Unit {0}
 Lack k (Named x ∷ ws) = Lack k ws
 Lack k (Digits ds ∷ ws) = Lack k ws
@@ -127,12 +127,12 @@ number_chars (d ∷ ds) h = digits_chars (d ∷ ds) h
 pub lacks-name : (k : ℕ) (x : List ℕ) → is_name_char k ≡ false → is_name x ≡ true → Lacks k x
 lacks-name k x no_name h = lacks_chars k x no_name (name_chars x h)
 
--- then it stands nowhere in the words' characters
-pub lacks-words : (k : ℕ) (ws : List Word) → is_name_char k ≡ false → AreSpaced ws → Lack k ws → Lacks k (flat_map spelling ws)
-lacks-words k [] no_name a h = refl
-lacks-words k (Named x ∷ ws) no_name a h = list_all-append (is_not k) x (flat_map spelling ws) (lacks-name k x no_name a.0) (lacks-words k ws no_name a.2 h)
-lacks-words k (Digits ds ∷ ws) no_name a h = list_all-append (is_not k) ds (flat_map spelling ws) (lacks_chars k ds no_name (number_chars ds a.0)) (lacks-words k ws no_name a.2 h)
-lacks-words k (Mark m ∷ ws) no_name a h = list_all-append (is_not k) (chars_of m) (flat_map spelling ws) h.0 (lacks-words k ws no_name a.2 h.1)
+-- then it stands nowhere in the lexemes' characters
+pub lacks-lexemes : (k : ℕ) (ws : List Lexeme) → is_name_char k ≡ false → AreSpaced ws → Lack k ws → Lacks k (flat_map spelling ws)
+lacks-lexemes k [] no_name a h = refl
+lacks-lexemes k (Named x ∷ ws) no_name a h = list_all-append (is_not k) x (flat_map spelling ws) (lacks-name k x no_name a.0) (lacks-lexemes k ws no_name a.2 h)
+lacks-lexemes k (Digits ds ∷ ws) no_name a h = list_all-append (is_not k) ds (flat_map spelling ws) (lacks_chars k ds no_name (number_chars ds a.0)) (lacks-lexemes k ws no_name a.2 h)
+lacks-lexemes k (Mark m ∷ ws) no_name a h = list_all-append (is_not k) (chars_of m) (flat_map spelling ws) h.0 (lacks-lexemes k ws no_name a.2 h.1)
 
 pub lacks-behind : (k : ℕ) (xs ys : List ℕ) → Lacks k xs → Lacks k ys → Lacks k (xs ++ ys)
 lacks-behind k xs ys h g = list_all-append (is_not k) xs ys h g

@@ -1,11 +1,11 @@
--- Complete: what the grammar derives at the front of some words is what the machine reads there.
+-- Complete: what the grammar derives at the front of some lexemes is what the machine reads there.
 use Rattle.std.proofs.Common.{◌≡◌, ℕ, ◌+◌, List, [], ◌∷◌, ◌++◌, length, true, Some, None, option_map, refl, sym, ap, ◌∙◌}
 use Rattle.std.proofs.lemmas.List.{length_push}
 use Rattle.adj_tree.specs.Code.{Op, plus, minus, times, quot}
 use Rattle.adj_text.specs.declared.token.TokenKind.TheVariants.{Power, Star, Slash, Plus, Minus, Left, Right, Comma}
 use Rattle.adj_text.specs.Grammar.{Syntax, Arguments, only, beside, count_of, takes, Symbol, Sum, Product, Factor, Primary, adds, subtracts, multiplies, divides, Derives, literal, name, group, application, primary, power, factor, product, term, sign, sum, DerivesAll, single, another}
 use Rattle.adj_text.specs.Machine.{Frame, Group, Called, Signed, Added, Multiplied, Base, Algebra, value, values, close_factor, close_product, close_sum, Callee, State, wanting, having, begin_sign, end_group, next_argument, add, multiply, whole, Stops, chosen, stopped, read}
-use Rattle.adj_text.specs.Word.{Word, Named, Digits, Mark}
+use Rattle.adj_text.specs.Lexeme.{Lexeme, Named, Digits, Mark}
 
 -- no product and no power waits on top
 pub data IsProductStart {X : Type 0} : List (Frame X) → Type 0 where
@@ -53,18 +53,18 @@ close_sum-close_product alg (Base a ∷ frames) x = close_sum-close_product alg 
 close_sum-close_product alg (Multiplied op a ∷ frames) x = close_sum-close_product alg frames (alg.combined op a x)
 close_sum-close_product alg _ x = refl
 
--- what single state and its words answer, another single and its words do
-abbrev To : {X : Type 0} → Algebra X → State X → List Word → State X → List Word → Type 0
-To {X} alg s ts t us = (x : X × List Word) → read alg t us ≡ Some x → read alg s ts ≡ Some x
+-- what single state and its lexemes answer, another single and its lexemes do
+abbrev To : {X : Type 0} → Algebra X → State X → List Lexeme → State X → List Lexeme → Type 0
+To {X} alg s ts t us = (x : X × List Lexeme) → read alg t us ≡ Some x → read alg s ts ≡ Some x
 
--- the states and words after the words of a symbol
-abbrev Leads : {X : Type 0} → Algebra X → Symbol → List Word → List Word → Syntax → Type 0
+-- the states and lexemes after the lexemes of a symbol
+abbrev Leads : {X : Type 0} → Algebra X → Symbol → List Lexeme → List Lexeme → Syntax → Type 0
 Leads {X} alg Primary ts rest s = (frames : List (Frame X)) → To alg (wanting frames) ts (having frames (value alg s)) rest
 Leads {X} alg Factor ts rest s = (frames : List (Frame X)) → (inner : List (Frame X)) × (x : X) × To alg (wanting frames) ts (having inner x) rest × (close_factor alg inner x ≡ close_factor alg frames (value alg s))
 Leads {X} alg Product ts rest s = (frames : List (Frame X)) → IsProductStart frames → (inner : List (Frame X)) × (x : X) × To alg (wanting frames) ts (having inner x) rest × (close_product alg inner x ≡ (frames, value alg s))
 Leads {X} alg Sum ts rest s = (frames : List (Frame X)) → IsSumStart frames → (inner : List (Frame X)) × (x : X) × To alg (wanting frames) ts (having inner x) rest × (close_sum alg inner x ≡ (frames, value alg s))
 
-abbrev LeadsAll : {X : Type 0} → Algebra X → List Word → List Word → Arguments → Type 0
+abbrev LeadsAll : {X : Type 0} → Algebra X → List Lexeme → List Lexeme → Arguments → Type 0
 LeadsAll {X} alg ts rest all = (text : List ℕ) (frames : List (Frame X)) → (inner : List (Frame X)) × (x : X) × (front : List X) × (last : X) × To alg (wanting (Called text [] ∷ frames)) ts (having inner x) rest × (close_sum alg inner x ≡ (Called text front ∷ frames, last)) × (front ++ last ∷ [] ≡ values alg all)
 
 sum_closed : {X : Type 0} (alg : Algebra X) (inner frames : List (Frame X)) (x y : X) → close_product alg inner x ≡ (frames, y) → close_sum alg inner x ≡ close_sum alg frames y
@@ -77,7 +77,7 @@ none_some : {A : Type 0} (x : A) → None ≡ Some x → ⊥
 none_some x h = cc
 
 -- a name that nothing opens behind is a variable
-as_variable : {X : Type 0} (alg : Algebra X) (text : List ℕ) (frames : List (Frame X)) (rest : List Word) → To alg (frames, Callee text) rest (having frames (alg.name text)) rest
+as_variable : {X : Type 0} (alg : Algebra X) (text : List ℕ) (frames : List (Frame X)) (rest : List Lexeme) → To alg (frames, Callee text) rest (having frames (alg.name text)) rest
 unfolding read
 as_variable alg text frames [] x h = h
 as_variable alg text frames (Mark Left ∷ ws) x h = absurd (none_some x h)
@@ -92,7 +92,7 @@ length-values alg (beside front s) = length_push (values alg front) (value alg s
 mutual
   unfolding read
 
-  leads : {X : Type 0} (alg : Algebra X) {symbol : Symbol} {ts rest : List Word} {s : Syntax} → Derives symbol ts rest s → Leads alg symbol ts rest s
+  leads : {X : Type 0} (alg : Algebra X) {symbol : Symbol} {ts rest : List Lexeme} {s : Syntax} → Derives symbol ts rest s → Leads alg symbol ts rest s
   leads alg literal = λ frames x h. h
   leads alg (name {x = text} {rest = rest}) = λ frames. as_variable alg text frames rest
   leads alg (group {rest = rest} r) = λ frames x e.
@@ -135,7 +135,7 @@ mutual
       let g = leads alg q (Added minus (value alg a) ∷ frames) product_behind_sum in
       (g.0, g.1, (λ x e. h.2 x (ap (λ c. read alg (add minus c) us) h.3 ∙ g.2 x e)), sum_closed alg g.0 (Added minus (value alg a) ∷ frames) g.1 (value alg b) g.3 ∙ close_sum-start alg (alg.combined minus (value alg a) (value alg b)) start)
 
-  leads_all : {X : Type 0} (alg : Algebra X) {ts rest : List Word} {all : Arguments} → DerivesAll ts rest all → LeadsAll alg ts rest all
+  leads_all : {X : Type 0} (alg : Algebra X) {ts rest : List Lexeme} {all : Arguments} → DerivesAll ts rest all → LeadsAll alg ts rest all
   leads_all alg (single {s = s} r) = λ text frames.
       let h = leads alg r (Called text [] ∷ frames) sum_in_call in
       (h.0, h.1, [], value alg s, h.2, h.3, refl)
@@ -144,8 +144,8 @@ mutual
       let g = leads alg q (Called text (h.2 ++ h.3 ∷ []) ∷ frames) sum_in_call in
       (g.0, g.1, h.2 ++ h.3 ∷ [], value alg s, (λ x e. h.4 x (ap (λ c. chosen (next_argument c) (λ t. read alg t us) (stopped (Mark Comma) us (whole c))) h.5 ∙ g.2 x e)), g.3, ap (λ l. l ++ value alg s ∷ []) h.6)
 
--- an operand ends before a word that ends an expression
-ends : {X : Type 0} (alg : Algebra X) (inner : List (Frame X)) (x y : X) (rest : List Word) → close_sum alg inner x ≡ ([], y) → Stops rest → read alg (having inner x) rest ≡ Some (y, rest)
+-- an operand ends before a lexeme that ends an expression
+ends : {X : Type 0} (alg : Algebra X) (inner : List (Frame X)) (x y : X) (rest : List Lexeme) → close_sum alg inner x ≡ ([], y) → Stops rest → read alg (having inner x) rest ≡ Some (y, rest)
 unfolding read
 ends alg inner x y [] h stop = ap (λ c. option_map (λ z. (z, [])) (whole c)) h
 ends alg inner x y (Mark Right ∷ ws) h stop = ap (λ c. chosen (end_group alg c) (λ t. read alg t ws) (stopped (Mark Right) ws (whole c))) h
@@ -161,7 +161,7 @@ ends alg inner x y (Digits digits ∷ ws) h stop = absurd cc
 ends alg inner x y (Mark k ∷ ws) h stop = ap (λ c. stopped (Mark k) ws (whole c)) h
 
 -- what is derived at the front is read
-pub reads : (X : Type 0) (alg : Algebra X) (ts rest : List Word) (s : Syntax) → Derives Sum ts rest s → Stops rest → read alg (wanting []) ts ≡ Some (value alg s, rest)
+pub reads : (X : Type 0) (alg : Algebra X) (ts rest : List Lexeme) (s : Syntax) → Derives Sum ts rest s → Stops rest → read alg (wanting []) ts ≡ Some (value alg s, rest)
 reads X alg ts rest s r stop =
     let h = leads alg r [] sum_bottom in
     h.2 (value alg s, rest) (ends alg h.0 h.1 (value alg s) rest h.3 stop)

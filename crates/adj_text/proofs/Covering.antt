@@ -11,7 +11,7 @@ use Rattle.adj_text.specs.Limits.{Limits}
 use Rattle.adj_text.specs.Lined.{Lines}
 use Rattle.adj_text.specs.Refused.{◌>>=◌, Gives}
 use Rattle.adj_text.specs.Stated.{keyword_len, ending_len, place_for, call_place, tokens_of, is_too_long, is_marked_long, with_tokens, with_class, stated, all_stated, IsCovered}
-use Rattle.adj_text.specs.Word.{part}
+use Rattle.adj_text.specs.Lexeme.{part}
 use Rattle.adj_text.specs.declared.stated.Kind.{Kind}
 use Rattle.adj_text.specs.declared.stated.Kind.TheVariants.{Do, BlockIf, LogicalIf, Assign, Continue, Return, End, EndIf, EndDo, Else, ImplicitNone, ElseIf, DoWhile, Subroutine, Integer, Call}
 use Rattle.adj_text.specs.Char.{is_capital, is_digit, is_name_char, dot, star}
@@ -63,7 +63,7 @@ first_within (c ∷ cs) =
     if_some (IsWithin (c ∷ cs)) (eqb c dot) _ _ (λ _. dotted_within (c ∷ cs)) (λ _.
     if_some (IsWithin (c ∷ cs)) (eqb c star) _ _ (λ _. stars_within c cs) (λ _. mark_within c cs (mark_of c)))))
 
--- the word CALL stands whole in what is left
+-- the lexeme CALL stands whole in what is left
 abbrev HasRoom : Option ℕ → ℕ → Type 0
 HasRoom call end = IfSome call (λ place. place + 4 ≤ end)
 
@@ -102,7 +102,7 @@ joins call zero here (c ∷ cs) h room =
 abbrev Covers : List ℕ → Kind → List Token → Type 0
 Covers text kind tokens = AreJoined (keyword_len kind text) (length text - ending_len kind) tokens
 
--- the word CALL that a logical IF holds stands whole in its text
+-- the lexeme CALL that a logical IF holds stands whole in its text
 place_within : (text : List ℕ) (kind : Option Kind) (end : Option ℕ) → IfSome kind (λ k. keyword_len k (drop (unwrap_or end (length text)) text) + ending_len k ≤ length (drop (unwrap_or end (length text)) text)) → HasRoom (place_for kind end) (length text)
 place_within text (Some Call) (Some place) fits = omega (arith, fits, length-drop place text)
 place_within text (Some Call) None fits = tt

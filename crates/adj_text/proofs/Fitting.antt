@@ -14,15 +14,15 @@ use Rattle.adj_text.specs.Token.{begins_with}
 use Rattle.adj_text.specs.declared.stated.Kind.{Kind}
 use Rattle.adj_text.specs.declared.stated.Kind.TheVariants.{BlockIf, LogicalIf}
 
--- what a text that begins with a word is
+-- what a text that begins with a lexeme is
 pub begins_is : (text w : List ℕ) → begins_with text w ≡ true → text ≡ w ++ drop (length w) text
 begins_is text w h = (starts_is Decides-eqb text w (begins_with text w) refl).0 h
 
--- a text is no shorter than a word that it begins with
+-- a text is no shorter than a lexeme that it begins with
 pub begins_fits : (text w : List ℕ) → begins_with text w ≡ true → length w ≤ length text
 begins_fits text w h = omega (arith, ap length (begins_is text w h), length-append w (drop (length w) text))
 
--- a text that is a word has its length
+-- a text that is a lexeme has its length
 equal_fits : (text w : List ℕ) → bytes_eq text w ≡ true → length text ≡ length w
 equal_fits text w h = ap length ((bytes_eq-Decides text w).0 h)
 

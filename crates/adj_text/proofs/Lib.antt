@@ -5,7 +5,7 @@ pub mod Joins
 pub mod Classes
 pub mod Plain
 pub mod Derived
-pub mod TermWords
+pub mod TermLexemes
 pub mod TermDerived
 pub mod TestDerived
 pub mod TermSpelled

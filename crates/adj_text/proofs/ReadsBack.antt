@@ -14,7 +14,7 @@ use Rattle.adj_text.proofs.Placed.{act_forms, code_forms, else_forms, item_of, d
 use Rattle.adj_text.proofs.Plain.{is_end, is_end_if, is_end_do, is_else, is_implicit}
 use Rattle.adj_text.proofs.Printed as printed
 use Rattle.adj_text.proofs.Printed.{SaysChars, Printed, printed_reads}
-use Rattle.adj_text.proofs.Sayings.{says_words}
+use Rattle.adj_text.proofs.Sayings.{says_lexemes}
 
 -- the characters of each statement say it
 abbrev mutual
@@ -46,21 +46,21 @@ abbrev pub SaidProgram : List Procedure → Type 0
 SaidProgram [] = Unit {0}
 SaidProgram (p ∷ ps) = SaidProcedure p × SaidProgram ps
 
--- statements that are one word
+-- statements that are one lexeme
 says_end : SaysChars unmarked (codes "END") ends
-says_end = says_words unmarked classes.End 69 (codes "ND") (codes "END") [] (codes "END") ends refl refl refl refl is_end forms.ReadsForm.ended
+says_end = says_lexemes unmarked classes.End 69 (codes "ND") (codes "END") [] (codes "END") ends refl refl refl refl is_end forms.ReadsForm.ended
 
 says_end_if : SaysChars unmarked (codes "END IF") end_if
-says_end_if = says_words unmarked classes.EndIf 69 (codes "ND IF") (codes "ENDIF") [] (codes "END IF") end_if refl refl refl refl is_end_if forms.ReadsForm.closed
+says_end_if = says_lexemes unmarked classes.EndIf 69 (codes "ND IF") (codes "ENDIF") [] (codes "END IF") end_if refl refl refl refl is_end_if forms.ReadsForm.closed
 
 says_end_do : SaysChars unmarked (codes "END DO") end_do
-says_end_do = says_words unmarked classes.EndDo 69 (codes "ND DO") (codes "ENDDO") [] (codes "END DO") end_do refl refl refl refl is_end_do forms.ReadsForm.finished
+says_end_do = says_lexemes unmarked classes.EndDo 69 (codes "ND DO") (codes "ENDDO") [] (codes "END DO") end_do refl refl refl refl is_end_do forms.ReadsForm.finished
 
 says_else : SaysChars unmarked (codes "ELSE") otherwise
-says_else = says_words unmarked classes.Else 69 (codes "LSE") (codes "ELSE") [] (codes "ELSE") otherwise refl refl refl refl is_else forms.ReadsForm.turns
+says_else = says_lexemes unmarked classes.Else 69 (codes "LSE") (codes "ELSE") [] (codes "ELSE") otherwise refl refl refl refl is_else forms.ReadsForm.turns
 
 says_implicit : SaysChars unmarked (codes "IMPLICIT NONE") implicit_none
-says_implicit = says_words unmarked classes.ImplicitNone 73 (codes "MPLICIT NONE") (codes "IMPLICITNONE") [] (codes "IMPLICIT NONE") implicit_none refl refl refl refl is_implicit forms.ReadsForm.implicit
+says_implicit = says_lexemes unmarked classes.ImplicitNone 73 (codes "MPLICIT NONE") (codes "IMPLICITNONE") [] (codes "IMPLICIT NONE") implicit_none refl refl refl refl is_implicit forms.ReadsForm.implicit
 
 -- pieces in front of what is printed
 module _ {fs : List Form} where

@@ -1,4 +1,4 @@
--- Repeated: a DO WHILE with a written condition is a statement of its class with its words, and its characters say it.
+-- Repeated: a DO WHILE with a written condition is a statement of its class with its lexemes, and its characters say it.
 use Rattle.std.proofs.Common.{◌≡◌, ℕ, ◌+◌, true, false, eqb, List, [], ◌∷◌, ◌++◌, length, Some, option_map, refl, sym, ap, ◌∙◌, arith, append-nil, length-append}
 use Rattle.std.specs.Prelude.{codes, unwrap_or}
 use Rattle.std.proofs.lemmas.Bool.{eq-eqb}
@@ -11,14 +11,14 @@ use Rattle.adj_text.specs.Form.{opens_while}
 use Rattle.adj_text.specs.Form as forms
 use Rattle.adj_text.specs.Statement as statements
 use Rattle.adj_text.specs.Text.{test_text}
-use Rattle.adj_text.specs.Word.{Mark}
+use Rattle.adj_text.specs.Lexeme.{Mark}
 use Rattle.adj_text.specs.Written.{IsWrittenTest}
 use Rattle.adj_text.proofs.Assigned.{matches-nothing}
 use Rattle.adj_text.proofs.Balanced.{IsInner, grouped, opening-groups, closing-group, balanced-grouped}
 use Rattle.adj_text.proofs.TermBalanced.{balanced-plain, test_balanced}
-use Rattle.adj_text.proofs.Opened.{guard_words, guard_spelled, guard_spaced}
+use Rattle.adj_text.proofs.Opened.{guard_lexemes, guard_spelled, guard_spaced}
 use Rattle.adj_text.proofs.Printed.{SaysChars}
-use Rattle.adj_text.proofs.Sayings.{says_words}
+use Rattle.adj_text.proofs.Sayings.{says_lexemes}
 use Rattle.adj_text.proofs.Stating.{IsStatement}
 use Rattle.adj_text.proofs.TestDerived.{reads_test}
 
@@ -54,8 +54,8 @@ while_matched cs h =
     ∙ (balanced-grouped cs h).matches []
     ∙ matches-nothing
 
--- it is a statement of its class with its words
-is_while : (c : Test) → IsWrittenTest c → IsStatement classes.DoWhile (codes "DOWHILE") (guard_words c)
+-- it is a statement of its class with its lexemes
+is_while : (c : Test) → IsWrittenTest c → IsStatement classes.DoWhile (codes "DOWHILE") (guard_lexemes c)
 is_while c h =
     let spelled = guard_spelled c h in
     let inside = (test_balanced c h).inner in
@@ -72,4 +72,4 @@ is_while c h =
 -- a DO WHILE
 pub says_while : (c : Test) → IsWrittenTest c → SaysChars unmarked (codes "DO WHILE (" ++ test_text c ++ codes ")") (opens_while c)
 says_while c h =
-    says_words unmarked classes.DoWhile 68 (codes "O WHILE ") (codes "DOWHILE") (guard_words c) (codes "DO WHILE (" ++ test_text c ++ codes ")") (opens_while c) (ap (λ xs. codes "DO WHILE " ++ xs) (sym (guard_spelled c h))) refl refl refl (is_while c h) (forms.ReadsForm.repeats (statements.ReadsGuard.guard (reads_test c (Mark Right ∷ []) h)))
+    says_lexemes unmarked classes.DoWhile 68 (codes "O WHILE ") (codes "DOWHILE") (guard_lexemes c) (codes "DO WHILE (" ++ test_text c ++ codes ")") (opens_while c) (ap (λ xs. codes "DO WHILE " ++ xs) (sym (guard_spelled c h))) refl refl refl (is_while c h) (forms.ReadsForm.repeats (statements.ReadsGuard.guard (reads_test c (Mark Right ∷ []) h)))

@@ -12,8 +12,8 @@ use Rattle.adj_text.specs.Reads.{ReadsAll, Reads}
 use Rattle.adj_text.specs.Refused.{◌>>=◌}
 use Rattle.adj_text.specs.Stated.{stated, all_stated}
 use Rattle.adj_text.specs.Unit.{ReadsUnits}
-use Rattle.adj_text.specs.Word.{Word, words_of}
-use Rattle.adj_text.proofs.Stating.{text_of, IsStatement, statement_of, states, words_stand}
+use Rattle.adj_text.specs.Lexeme.{Lexeme, lexemes_of}
+use Rattle.adj_text.proofs.Stating.{text_of, IsStatement, statement_of, states, lexemes_stand}
 
 -- the lines of a statement that says this form
 pub record Says (s : Lines) (f : Form) : Type 0 where
@@ -21,18 +21,18 @@ pub record Says (s : Lines) (f : Form) : Type 0 where
   pub is_stated : stated no_limits s ≡ Ok found
   pub at_line : found.line ≡ s.line
   pub with_label : found.label ≡ s.label
-  pub form : ReadsForm (mark_of found.mark) found.kind (words_of found.text found.tokens) f
+  pub form : ReadsForm (mark_of found.mark) found.kind (lexemes_of found.text found.tokens) f
 
--- lines whose characters are a keyword and words that derive the form
-pub says_statement : (s : Lines) (kind : Kind) (keyword : List ℕ) (ws : List Word) (f : Form) → s.text ≡ text_of keyword ws → IsStatement kind keyword ws → ReadsForm (mark_of s.mark) kind ws f → Says s f
+-- lines whose characters are a keyword and lexemes that derive the form
+pub says_statement : (s : Lines) (kind : Kind) (keyword : List ℕ) (ws : List Lexeme) (f : Form) → s.text ≡ text_of keyword ws → IsStatement kind keyword ws → ReadsForm (mark_of s.mark) kind ws f → Says s f
 says_statement s kind keyword ws f e h form =
-    let P : List Word → Type 0 = λ ws. ReadsForm (mark_of s.mark) kind ws f in
+    let P : List Lexeme → Type 0 = λ ws. ReadsForm (mark_of s.mark) kind ws f in
     record {
       found = statement_of s kind keyword ws;
       is_stated = states s kind keyword ws e h;
       at_line = refl;
       with_label = refl;
-      form = subst P (sym (words_stand s kind keyword ws e h)) form;
+      form = subst P (sym (lexemes_stand s kind keyword ws e h)) form;
     }
 
 pub data AllSay : List Lines → List Statement → Type 0 where
@@ -48,7 +48,7 @@ one_stated : (s : Lines) (ss : List Lines) (x : Stated) (xs : List Stated) → s
 unfolding all_stated
 one_stated s ss x xs h g = rw (h, g) refl
 
--- statements that say forms are stated, and their words derive the forms
+-- statements that say forms are stated, and their lexemes derive the forms
 all_say : {ls : List Lines} {ts : List Statement} → AllSay ls ts → (ss : List Stated) × (all_stated no_limits ls ≡ Ok ss) × ReadsAll ss ts
 all_say none = ([], none_stated, texts.ReadsAll.none)
 all_say (more {s = s} {ss = ss} {f = f} {ts = ts} h rest) =
@@ -64,6 +64,6 @@ reads_said bytes ls ts ps h say units =
       stated = r.0;
       statements = ts;
       lines_form = ap (λ found. found >>= all_stated no_limits) h ∙ r.1;
-      words_derive = r.2;
+      lexemes_derive = r.2;
       units_derive = units;
     }

@@ -1,4 +1,4 @@
--- Scans: words that are spelled one after another are scanned as these words.
+-- Scans: lexemes that are spelled one after another are scanned as these lexemes.
 use Rattle.std.proofs.Common.{◌≡◌, ℕ, zero, suc, ◌+◌, ◌-◌, ◌<◌, Bool, true, false, List, [], ◌∷◌, ◌++◌, length, drop, Some, None, option_map, refl, ap, ◌∙◌, arith, append_assoc, length-append}
 use Rattle.std.specs.Prelude.{◌&&◌, option_and_then}
 use Rattle.std.specs.List.{flat_map, list_all, prefix_len}
@@ -8,7 +8,7 @@ use Rattle.adj_text.specs.declared.token.Token.{Token}
 use Rattle.adj_text.specs.declared.token.TokenKind.{TokenKind}
 use Rattle.adj_text.specs.declared.token.TokenKind.TheVariants as kinds
 use Rattle.adj_text.specs.Char.{star, is_capital, is_digit, is_name_char}
-use Rattle.adj_text.specs.Word.{Word, Named, Digits, Mark, word, part, word_of, words_of}
+use Rattle.adj_text.specs.Lexeme.{Lexeme, Named, Digits, Mark, lexeme, part, lexeme_of, lexemes_of}
 use Rattle.adj_text.specs.Token.{begins_with, first_token, token_at, tokens_from}
 use Rattle.adj_text.proofs.Spelled.{chars_of, spelling, is_name, is_number, IsMark, EndsName, EndsNumber, EndsMark, AreSpaced}
 
@@ -16,7 +16,7 @@ pub both_true : (a b : Bool) → a && b ≡ true → (a ≡ true) × (b ≡ true
 both_true true b h = (refl, h)
 both_true false b h = absurd cc
 
-abbrev kind_of : Word → TokenKind
+abbrev kind_of : Lexeme → TokenKind
 kind_of (Named x) = kinds.Name
 kind_of (Digits ds) = kinds.Number
 kind_of (Mark k) = k
@@ -70,13 +70,13 @@ mark_ends kinds.And rest m = (refl, refl)
 mark_ends kinds.Or rest m = (refl, refl)
 mark_ends kinds.Call rest m = absurd m
 
-name_ends : (ws : List Word) → EndsName ws → AreSpaced ws → Fails is_name_char (flat_map spelling ws)
+name_ends : (ws : List Lexeme) → EndsName ws → AreSpaced ws → Fails is_name_char (flat_map spelling ws)
 name_ends [] e a = tt
 name_ends (Named x ∷ ws) e a = absurd e
 name_ends (Digits ds ∷ ws) e a = absurd e
 name_ends (Mark k ∷ ws) e a = (mark_ends k (flat_map spelling ws) a.0).0
 
-number_ends : (ws : List Word) → EndsNumber ws → AreSpaced ws → Fails is_digit (flat_map spelling ws)
+number_ends : (ws : List Lexeme) → EndsNumber ws → AreSpaced ws → Fails is_digit (flat_map spelling ws)
 number_ends [] e a = tt
 number_ends (Named [] ∷ ws) e a = absurd (cc (a.0))
 number_ends (Named (c ∷ cs) ∷ ws) e a = capital_is_no_digit c (both_true (is_capital c) (list_all is_name_char cs) a.0).0
@@ -84,7 +84,7 @@ number_ends (Digits ds ∷ ws) e a = absurd e
 number_ends (Mark k ∷ ws) e a = (mark_ends k (flat_map spelling ws) a.0).1
 
 -- behind a star that is a mark of its own no other star stands
-no_star : (k : TokenKind) (rest : List ℕ) (ws : List Word) → IsMark k → EndsMark kinds.Star (Mark k ∷ ws) → begins_with (chars_of k ++ rest) (star ∷ []) ≡ false
+no_star : (k : TokenKind) (rest : List ℕ) (ws : List Lexeme) → IsMark k → EndsMark kinds.Star (Mark k ∷ ws) → begins_with (chars_of k ++ rest) (star ∷ []) ≡ false
 no_star kinds.Name rest ws m e = absurd m
 no_star kinds.Number rest ws m e = absurd m
 no_star kinds.Power rest ws m e = absurd e
@@ -107,7 +107,7 @@ no_star kinds.And rest ws m e = refl
 no_star kinds.Or rest ws m e = refl
 no_star kinds.Call rest ws m e = absurd m
 
-star_ends : (ws : List Word) → EndsMark kinds.Star ws → AreSpaced ws → begins_with (flat_map spelling ws) (star ∷ []) ≡ false
+star_ends : (ws : List Lexeme) → EndsMark kinds.Star ws → AreSpaced ws → begins_with (flat_map spelling ws) (star ∷ []) ≡ false
 star_ends [] e a = refl
 star_ends (Named [] ∷ ws) e a = absurd (cc (a.0))
 star_ends (Named (c ∷ cs) ∷ ws) e a = capital_is_no_star c (both_true (is_capital c) (list_all is_name_char cs) a.0).0
@@ -127,7 +127,7 @@ first_number (c ∷ cs) rest h f =
     let g = both_true (is_digit c) (list_all is_digit cs) h in
     rw (digit_is_no_capital c g.0, g.0, prefix_len-stops is_digit cs rest g.1 f) (ap (λ n. Some (kinds.Number, n)) (omega arith))
 
-first_mark : (k : TokenKind) (ws : List Word) → IsMark k → EndsMark k ws → AreSpaced ws → first_token (chars_of k ++ flat_map spelling ws) ≡ Some (k, length (chars_of k))
+first_mark : (k : TokenKind) (ws : List Lexeme) → IsMark k → EndsMark k ws → AreSpaced ws → first_token (chars_of k ++ flat_map spelling ws) ≡ Some (k, length (chars_of k))
 first_mark kinds.Name ws m e a = absurd m
 first_mark kinds.Number ws m e a = absurd m
 first_mark kinds.Power ws m e a = refl
@@ -150,7 +150,7 @@ first_mark kinds.And ws m e a = refl
 first_mark kinds.Or ws m e a = refl
 first_mark kinds.Call ws m e a = absurd m
 
-first_of : (w : Word) (ws : List Word) → AreSpaced (w ∷ ws) → first_token (spelling w ++ flat_map spelling ws) ≡ Some (kind_of w, length (spelling w))
+first_of : (w : Lexeme) (ws : List Lexeme) → AreSpaced (w ∷ ws) → first_token (spelling w ++ flat_map spelling ws) ≡ Some (kind_of w, length (spelling w))
 first_of (Named x) ws a = first_name x (flat_map spelling ws) a.0 (name_ends ws a.1 a.2)
 first_of (Digits ds) ws a = first_number ds (flat_map spelling ws) a.0 (number_ends ws a.1 a.2)
 first_of (Mark k) ws a = first_mark k ws a.0 a.1 a.2
@@ -178,19 +178,19 @@ mark_has_chars kinds.Not m = omega arith
 mark_has_chars kinds.And m = omega arith
 mark_has_chars kinds.Or m = omega arith
 
-has_chars : (w : Word) (ws : List Word) → AreSpaced (w ∷ ws) → 0 < length (spelling w)
+has_chars : (w : Lexeme) (ws : List Lexeme) → AreSpaced (w ∷ ws) → 0 < length (spelling w)
 has_chars (Named []) ws a = absurd (cc (a.0))
 has_chars (Named (c ∷ cs)) ws a = omega arith
 has_chars (Digits []) ws a = absurd (cc (a.0))
 has_chars (Digits (c ∷ cs)) ws a = omega arith
 has_chars (Mark k) ws a = mark_has_chars k a.0
 
-rest_spaced : (w : Word) (ws : List Word) → AreSpaced (w ∷ ws) → AreSpaced ws
+rest_spaced : (w : Lexeme) (ws : List Lexeme) → AreSpaced (w ∷ ws) → AreSpaced ws
 rest_spaced (Named x) ws a = a.2
 rest_spaced (Digits ds) ws a = a.2
 rest_spaced (Mark k) ws a = a.2
 
-mark_back : (k : TokenKind) (cs : List ℕ) → IsMark k → word k cs ≡ Mark k
+mark_back : (k : TokenKind) (cs : List ℕ) → IsMark k → lexeme k cs ≡ Mark k
 mark_back kinds.Name cs m = absurd m
 mark_back kinds.Number cs m = absurd m
 mark_back kinds.Call cs m = absurd m
@@ -213,10 +213,10 @@ mark_back kinds.Not cs m = refl
 mark_back kinds.And cs m = refl
 mark_back kinds.Or cs m = refl
 
-word_back : (w : Word) (ws : List Word) → AreSpaced (w ∷ ws) → word (kind_of w) (spelling w) ≡ w
-word_back (Named x) ws a = refl
-word_back (Digits ds) ws a = refl
-word_back (Mark k) ws a = mark_back k (chars_of k) a.0
+lexeme_back : (w : Lexeme) (ws : List Lexeme) → AreSpaced (w ∷ ws) → lexeme (kind_of w) (spelling w) ≡ w
+lexeme_back (Named x) ws a = refl
+lexeme_back (Digits ds) ws a = refl
+lexeme_back (Mark k) ws a = mark_back k (chars_of k) a.0
 
 tokens_from-skip : (n here : ℕ) (text : List ℕ) → tokens_from None n here text ≡ tokens_from None 0 (here + n) (drop n text)
 unfolding tokens_from
@@ -239,26 +239,26 @@ tokens_from-nil : (here : ℕ) → tokens_from None 0 here [] ≡ Some []
 unfolding tokens_from
 tokens_from-nil here = refl
 
--- the tokens of spelled words
-abbrev pub tokens_at : ℕ → List Word → List Token
+-- the tokens of spelled lexemes
+abbrev pub tokens_at : ℕ → List Lexeme → List Token
 tokens_at here [] = []
 tokens_at here (w ∷ ws) = token_at here (kind_of w, length (spelling w)) ∷ tokens_at (here + length (spelling w)) ws
 
-pub scanned : (ws : List Word) (here : ℕ) → AreSpaced ws → tokens_from None 0 here (flat_map spelling ws) ≡ Some (tokens_at here ws)
+pub scanned : (ws : List Lexeme) (here : ℕ) → AreSpaced ws → tokens_from None 0 here (flat_map spelling ws) ≡ Some (tokens_at here ws)
 scanned [] here a = tokens_from-nil here
 scanned (w ∷ ws) here a =
     tokens_from-first here (spelling w ++ flat_map spelling ws) (kind_of w, length (spelling w)) (first_of w ws a) (has_chars w ws a)
     ∙ rw (drop_at (spelling w) (flat_map spelling ws) (length (spelling w)) refl, scanned ws (here + length (spelling w)) (rest_spaced w ws a)) refl
 
--- behind a front and before a back, the words of these tokens are the words that were spelled
-pub words_back : (front : List ℕ) (ws : List Word) (back : List ℕ) → AreSpaced ws → words_of (front ++ (flat_map spelling ws ++ back)) (tokens_at (length front) ws) ≡ ws
-words_back front [] back a = refl
-words_back front (w ∷ ws) back a =
+-- behind a front and before a back, the lexemes of these tokens are the lexemes that were spelled
+pub lexemes_back : (front : List ℕ) (ws : List Lexeme) (back : List ℕ) → AreSpaced ws → lexemes_of (front ++ (flat_map spelling ws ++ back)) (tokens_at (length front) ws) ≡ ws
+lexemes_back front [] back a = refl
+lexemes_back front (w ∷ ws) back a =
     let rest = flat_map spelling ws ++ back in
     let len : length front + length (spelling w) - length front ≡ length (spelling w) = omega arith in
     let first : part (front ++ (spelling w ++ rest)) (length front) (length front + length (spelling w)) ≡ spelling w = rw (len, drop_at front (spelling w ++ rest) (length front) refl, take_at (spelling w) rest (length (spelling w)) refl) refl in
-    let one : word_of (front ++ (spelling w ++ rest)) (token_at (length front) (kind_of w, length (spelling w))) ≡ w = ap (word (kind_of w)) first ∙ word_back w ws a in
-    let again : words_of ((front ++ spelling w) ++ rest) (tokens_at (length (front ++ spelling w)) ws) ≡ ws = words_back (front ++ spelling w) ws back (rest_spaced w ws a) in
-    let moved : words_of (front ++ (spelling w ++ rest)) (tokens_at (length front + length (spelling w)) ws) ≡ ws = rw (← append_assoc front (spelling w) rest, ← length-append front (spelling w)) again in
-    let all : words_of (front ++ (spelling w ++ rest)) (tokens_at (length front) (w ∷ ws)) ≡ w ∷ ws = rw (one, moved) refl in
-    ap (λ xs. words_of (front ++ xs) (tokens_at (length front) (w ∷ ws))) (append_assoc (spelling w) (flat_map spelling ws) back) ∙ all
+    let one : lexeme_of (front ++ (spelling w ++ rest)) (token_at (length front) (kind_of w, length (spelling w))) ≡ w = ap (lexeme (kind_of w)) first ∙ lexeme_back w ws a in
+    let again : lexemes_of ((front ++ spelling w) ++ rest) (tokens_at (length (front ++ spelling w)) ws) ≡ ws = lexemes_back (front ++ spelling w) ws back (rest_spaced w ws a) in
+    let moved : lexemes_of (front ++ (spelling w ++ rest)) (tokens_at (length front + length (spelling w)) ws) ≡ ws = rw (← append_assoc front (spelling w) rest, ← length-append front (spelling w)) again in
+    let all : lexemes_of (front ++ (spelling w ++ rest)) (tokens_at (length front) (w ∷ ws)) ≡ w ∷ ws = rw (one, moved) refl in
+    ap (λ xs. lexemes_of (front ++ xs) (tokens_at (length front) (w ∷ ws))) (append_assoc (spelling w) (flat_map spelling ws) back) ∙ all

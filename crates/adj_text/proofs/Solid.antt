@@ -5,7 +5,7 @@ use Rattle.std.proofs.lemmas.Bool.Decides.{nat_tests}
 use Rattle.adj_text.specs.declared.token.TokenKind.{TokenKind}
 use Rattle.adj_text.specs.declared.token.TokenKind.TheVariants as kinds
 use Rattle.adj_text.specs.Char.{is_blank, is_allowed, upper, folded, is_name_char}
-use Rattle.adj_text.specs.Word.{Word, Named, Digits, Mark}
+use Rattle.adj_text.specs.Lexeme.{Lexeme, Named, Digits, Mark}
 use Rattle.adj_text.proofs.Classes.{name_chars, number_chars}
 use Rattle.adj_text.proofs.Joins.{AreAllowed, allowed-append, folded-append}
 use Rattle.adj_text.proofs.Scans.{both_true}
@@ -55,9 +55,9 @@ solid_mark kinds.And = (refl, refl)
 solid_mark kinds.Or = (refl, refl)
 solid_mark kinds.Call = (refl, refl)
 
--- spelled words are such characters
-pub solid_words : (ws : List Word) → AreSpaced ws → IsSolid (flat_map spelling ws)
-solid_words [] a = (refl, refl)
-solid_words (Named x ∷ ws) a = solid-append x (flat_map spelling ws) (solid_chars x (name_chars x a.0)) (solid_words ws a.2)
-solid_words (Digits ds ∷ ws) a = solid-append ds (flat_map spelling ws) (solid_chars ds (number_chars ds a.0)) (solid_words ws a.2)
-solid_words (Mark k ∷ ws) a = solid-append (chars_of k) (flat_map spelling ws) (solid_mark k) (solid_words ws a.2)
+-- spelled lexemes are such characters
+pub solid_lexemes : (ws : List Lexeme) → AreSpaced ws → IsSolid (flat_map spelling ws)
+solid_lexemes [] a = (refl, refl)
+solid_lexemes (Named x ∷ ws) a = solid-append x (flat_map spelling ws) (solid_chars x (name_chars x a.0)) (solid_lexemes ws a.2)
+solid_lexemes (Digits ds ∷ ws) a = solid-append ds (flat_map spelling ws) (solid_chars ds (number_chars ds a.0)) (solid_lexemes ws a.2)
+solid_lexemes (Mark k ∷ ws) a = solid-append (chars_of k) (flat_map spelling ws) (solid_mark k) (solid_lexemes ws a.2)

@@ -1,9 +1,9 @@
--- Spelled: words as characters, and where words can be told apart when they are joined.
+-- Spelled: lexemes as characters, and where lexemes can be told apart when they are joined.
 use Rattle.std.proofs.Common.{◌≡◌, ℕ, Bool, true, false, List, [], ◌∷◌}
 use Rattle.std.specs.Prelude.{codes, ◌&&◌}
 use Rattle.std.specs.List.{list_all}
 use Rattle.adj_text.specs.Char.{is_capital, is_digit, is_name_char}
-use Rattle.adj_text.specs.Word.{Word, Named, Digits, Mark}
+use Rattle.adj_text.specs.Lexeme.{Lexeme, Named, Digits, Mark}
 use Rattle.adj_text.specs.declared.token.TokenKind.{TokenKind}
 use Rattle.adj_text.specs.declared.token.TokenKind.TheVariants.{Name, Number, Power, Star, Slash, Plus, Minus, Left, Right, Comma, Equals, Lt, Le, Eq, Ne, Gt, Ge, Not, And, Or, Call}
 
@@ -30,7 +30,7 @@ chars_of And = codes ".AND."
 chars_of Or = codes ".OR."
 chars_of Call = []
 
-abbrev pub spelling : Word → List ℕ
+abbrev pub spelling : Lexeme → List ℕ
 spelling (Named x) = x
 spelling (Digits ds) = ds
 spelling (Mark k) = chars_of k
@@ -52,22 +52,22 @@ IsMark Call = ⊥
 IsMark _ = Unit {0}
 
 -- what may stand behind a name, behind digits and behind a mark
-abbrev pub EndsName : List Word → Type 0
+abbrev pub EndsName : List Lexeme → Type 0
 EndsName (Named x ∷ ws) = ⊥
 EndsName (Digits ds ∷ ws) = ⊥
 EndsName _ = Unit {0}
 
-abbrev pub EndsNumber : List Word → Type 0
+abbrev pub EndsNumber : List Lexeme → Type 0
 EndsNumber (Digits ds ∷ ws) = ⊥
 EndsNumber _ = Unit {0}
 
-abbrev pub EndsMark : TokenKind → List Word → Type 0
+abbrev pub EndsMark : TokenKind → List Lexeme → Type 0
 EndsMark Star (Mark Star ∷ ws) = ⊥
 EndsMark Star (Mark Power ∷ ws) = ⊥
 EndsMark k ws = Unit {0}
 
--- words that can be told apart when they are joined
-abbrev pub AreSpaced : List Word → Type 0
+-- lexemes that can be told apart when they are joined
+abbrev pub AreSpaced : List Lexeme → Type 0
 AreSpaced [] = Unit {0}
 AreSpaced (Named x ∷ ws) = (is_name x ≡ true) × EndsName ws × AreSpaced ws
 AreSpaced (Digits ds ∷ ws) = (is_number ds ≡ true) × EndsNumber ws × AreSpaced ws

@@ -76,7 +76,7 @@ rel_balanced is_other = balanced-plain (codes ".NE.") refl
 rel_balanced is_greater = balanced-plain (codes ".GT.") refl
 rel_balanced is_least = balanced-plain (codes ".GE.") refl
 
--- two balanced texts with a balanced word between them
+-- two balanced texts with a balanced lexeme between them
 balanced-three : (a b c : List ℕ) → IsBalanced a → IsBalanced b → IsBalanced c → IsBalanced (a ++ b ++ c)
 balanced-three a b c d e f = balanced-append (a ++ b) c (balanced-append a b d e) f
 

@@ -1,22 +1,22 @@
--- TermWritten: expressions that words derive are written, where their literals fit.
+-- TermWritten: expressions that lexemes derive are written, where their literals fit.
 use Rattle.std.proofs.Common.{◌≡◌, ℕ, suc, ◌+◌, ◌≤◌, ℤ, pos, negsuc, Bool, true, false, List, [], ◌∷◌, Option, Some, None, refl, sym, ap, subst, ◌∙◌, arith}
 use Rattle.std.specs.Prelude.{nat_le, if◌then◌else◌}
 use Rattle.std.proofs.lemmas.Bool.{ne_eqb, leb-true}
 use Rattle.adj_tree.specs.Code.{Op, Term, Terms, lit, var, elem, neg, bin, pow, power_of, abs, none, more, plain}
 use Rattle.adj_text.specs.Grammar.{Syntax, number, variable, negated, joined, raised, applied, Arguments, only, beside, count_of, Symbol, adds, subtracts, Derives, DerivesAll, literal, name, group, application, primary, power, factor, product, term, sign, sum, single, another, constant, as_exponent, is_literal, exponent, with_both, tree, trees_before, operation_of, is_absolute, application_of, two_arguments, takes, takes_as, ReadsTerm, ReadsTerms}
 use Rattle.adj_text.specs.Char.{number_of}
-use Rattle.adj_text.specs.Word.{Word, Named, Digits, Mark}
+use Rattle.adj_text.specs.Lexeme.{Lexeme, Named, Digits, Mark}
 use Rattle.adj_text.specs.Written.{IsName, IsWrittenTerm, AreWrittenTerms}
 use Rattle.adj_text.specs.Fits.{FitsTerm, FitsTerms}
 use Rattle.adj_text.proofs.Literals.{literal_is}
 use Rattle.adj_text.proofs.Parts.{map_some, then_some, both_some}
 
--- the names among these words are names
-abbrev pub AreWords : List Word → Type 0
-AreWords [] = Unit {0}
-AreWords (Named x ∷ ws) = IsName x × AreWords ws
-AreWords (Digits ds ∷ ws) = AreWords ws
-AreWords (Mark k ∷ ws) = AreWords ws
+-- the names among these lexemes are names
+abbrev pub AreLexemes : List Lexeme → Type 0
+AreLexemes [] = Unit {0}
+AreLexemes (Named x ∷ ws) = IsName x × AreLexemes ws
+AreLexemes (Digits ds ∷ ws) = AreLexemes ws
+AreLexemes (Mark k ∷ ws) = AreLexemes ws
 
 -- so are those of what they derive, and each has as many arguments as it takes
 abbrev mutual
@@ -33,7 +33,7 @@ abbrev mutual
   AreNamed (beside front s) = AreNamed front × IsNamed s
 
 mutual
-  pub derived_named : {symbol : Symbol} {ts rest : List Word} {s : Syntax} → Derives symbol ts rest s → AreWords ts → AreWords rest × IsNamed s
+  pub derived_named : {symbol : Symbol} {ts rest : List Lexeme} {s : Syntax} → Derives symbol ts rest s → AreLexemes ts → AreLexemes rest × IsNamed s
   derived_named literal h = (h, tt)
   derived_named name h = (h.1, h.0)
   derived_named (group d) h = derived_named d h
@@ -47,7 +47,7 @@ mutual
   derived_named (sign subtracts d) h = derived_named d h
   derived_named (sum m d e) h = let r = derived_named d h in let q = derived_named e r.0 in (q.0, (r.1, q.1))
 
-  all_named : {ts rest : List Word} {all : Arguments} → DerivesAll ts rest all → AreWords ts → AreWords rest × AreNamed all
+  all_named : {ts rest : List Lexeme} {all : Arguments} → DerivesAll ts rest all → AreLexemes ts → AreLexemes rest × AreNamed all
   all_named (single d) h = derived_named d h
   all_named (another ds d) h = let r = all_named ds h in let q = derived_named d r.0 in (q.0, (r.1, q.1))
 
@@ -142,11 +142,11 @@ mutual
       let q = arguments_written front (more r.0 rest) es h.0 r.2 (tree_written s r.0 h.1 r.1, w) in
       (q.0, q.1 ∙ omega arith)
 
--- an expression that words read as
-pub read_written : (ts rest : List Word) (t : Term) → ReadsTerm ts rest t → AreWords ts → AreWords rest × WhereFits t
+-- an expression that lexemes read as
+pub read_written : (ts rest : List Lexeme) (t : Term) → ReadsTerm ts rest t → AreLexemes ts → AreLexemes rest × WhereFits t
 read_written ts rest t d h = let r = derived_named d.1 h in (r.0, tree_written d.0 t r.1 d.2)
 
-pub reads_written : (ts rest : List Word) (n : ℕ) (es : Terms) → ReadsTerms ts rest n es → AreWords ts → AreWords rest × AllWhereFit es × (terms_count es ≡ n) × (n ≡ 0 → ⊥)
+pub reads_written : (ts rest : List Lexeme) (n : ℕ) (es : Terms) → ReadsTerms ts rest n es → AreLexemes ts → AreLexemes rest × AllWhereFit es × (terms_count es ≡ n) × (n ≡ 0 → ⊥)
 reads_written ts rest n es d h =
     let r = all_named d.1 h in
     let w = arguments_written d.0 none es r.1 d.3 tt in

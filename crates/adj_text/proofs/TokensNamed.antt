@@ -5,51 +5,51 @@ use Rattle.std.specs.List.{list_all, prefix_len}
 use Rattle.std.proofs.lemmas.List.{drop_at}
 use Rattle.adj_text.specs.Char.{star, plus, minus, slash, left, right, comma, equals, dot, is_capital, is_digit, is_name_char}
 use Rattle.adj_text.specs.Token.{begins_with, dotted, mark_of, first_token, is_place, token_here, token_at, tokens_from}
-use Rattle.adj_text.specs.Word.{Word, Named, Digits, Mark, word, part, words_of}
+use Rattle.adj_text.specs.Lexeme.{Lexeme, Named, Digits, Mark, lexeme, part, lexemes_of}
 use Rattle.adj_text.specs.Written.{IsName}
 use Rattle.adj_text.specs.declared.token.Token.{Token}
 use Rattle.adj_text.specs.declared.token.TokenKind.{TokenKind}
 use Rattle.adj_text.specs.declared.token.TokenKind.TheVariants.{Name, Number, Power, Star, Slash, Plus, Minus, Left, Right, Comma, Equals, Lt, Le, Eq, Ne, Gt, Ge, Not, And, Or, Call}
 use Rattle.adj_text.proofs.Parts.{map_some, then_some}
-use Rattle.adj_text.proofs.TermWritten.{AreWords}
+use Rattle.adj_text.proofs.TermWritten.{AreLexemes}
 
 -- every kind but that of a name
 abbrev IsNoName : TokenKind → Type 0
 IsNoName Name = ⊥
 IsNoName _ = Unit {0}
 
-abbrev IsWord : Word → Type 0
-IsWord (Named x) = IsName x
-IsWord (Digits ds) = Unit {0}
-IsWord (Mark k) = Unit {0}
+abbrev IsLexeme : Lexeme → Type 0
+IsLexeme (Named x) = IsName x
+IsLexeme (Digits ds) = Unit {0}
+IsLexeme (Mark k) = Unit {0}
 
-no_name_word : (k : TokenKind) (x : List ℕ) → IsNoName k → IsWord (word k x)
-no_name_word Name x h = absurd h
-no_name_word Number x h = tt
-no_name_word Power x h = tt
-no_name_word Star x h = tt
-no_name_word Slash x h = tt
-no_name_word Plus x h = tt
-no_name_word Minus x h = tt
-no_name_word Left x h = tt
-no_name_word Right x h = tt
-no_name_word Comma x h = tt
-no_name_word Equals x h = tt
-no_name_word Lt x h = tt
-no_name_word Le x h = tt
-no_name_word Eq x h = tt
-no_name_word Ne x h = tt
-no_name_word Gt x h = tt
-no_name_word Ge x h = tt
-no_name_word Not x h = tt
-no_name_word And x h = tt
-no_name_word Or x h = tt
-no_name_word Call x h = tt
+no_name_lexeme : (k : TokenKind) (x : List ℕ) → IsNoName k → IsLexeme (lexeme k x)
+no_name_lexeme Name x h = absurd h
+no_name_lexeme Number x h = tt
+no_name_lexeme Power x h = tt
+no_name_lexeme Star x h = tt
+no_name_lexeme Slash x h = tt
+no_name_lexeme Plus x h = tt
+no_name_lexeme Minus x h = tt
+no_name_lexeme Left x h = tt
+no_name_lexeme Right x h = tt
+no_name_lexeme Comma x h = tt
+no_name_lexeme Equals x h = tt
+no_name_lexeme Lt x h = tt
+no_name_lexeme Le x h = tt
+no_name_lexeme Eq x h = tt
+no_name_lexeme Ne x h = tt
+no_name_lexeme Gt x h = tt
+no_name_lexeme Ge x h = tt
+no_name_lexeme Not x h = tt
+no_name_lexeme And x h = tt
+no_name_lexeme Or x h = tt
+no_name_lexeme Call x h = tt
 
-one_more_word : (w : Word) (ws : List Word) → IsWord w → AreWords ws → AreWords (w ∷ ws)
-one_more_word (Named x) ws h g = (h, g)
-one_more_word (Digits ds) ws h g = g
-one_more_word (Mark k) ws h g = g
+one_more_lexeme : (w : Lexeme) (ws : List Lexeme) → IsLexeme w → AreLexemes ws → AreLexemes (w ∷ ws)
+one_more_lexeme (Named x) ws h g = (h, g)
+one_more_lexeme (Digits ds) ws h g = g
+one_more_lexeme (Mark k) ws h g = g
 
 -- a token, if there is one, is no name
 abbrev NoName : Option (TokenKind × ℕ) → Type 0
@@ -121,27 +121,27 @@ front_passes p (c ∷ cs) after =
     ] refl
 
 -- the characters of the first token, where it is a name, are a name
-abbrev FirstWord : ℕ → List ℕ → TokenKind × ℕ → Type 0
-FirstWord c rest t = IsWord (word t.0 (take t.1 (c ∷ rest)))
+abbrev FirstLexeme : ℕ → List ℕ → TokenKind × ℕ → Type 0
+FirstLexeme c rest t = IsLexeme (lexeme t.0 (take t.1 (c ∷ rest)))
 
-named_word : (c : ℕ) (cs after : List ℕ) → is_capital c ≡ true → IsName (take (1 + prefix_len is_name_char cs) (c ∷ (cs ++ after)))
-named_word c cs after h =
+named_lexeme : (c : ℕ) (cs after : List ℕ) → is_capital c ≡ true → IsName (take (1 + prefix_len is_name_char cs) (c ∷ (cs ++ after)))
+named_lexeme c cs after h =
     let k : 1 + prefix_len is_name_char cs ≡ suc (prefix_len is_name_char cs) = omega arith in
     let P : ℕ → Type 0 = λ n. IsName (take n (c ∷ (cs ++ after))) in
     subst P (sym k) (h, front_passes is_name_char cs after)
 
-first_word : (c : ℕ) (cs after : List ℕ) (t : TokenKind × ℕ) → first_token (c ∷ cs) ≡ Some t → FirstWord c (cs ++ after) t
-first_word c cs after t e =
-    elim (is_capital c) as (λ b. is_capital c ≡ b → (if b then Some (Name, 1 + prefix_len is_name_char cs) else other_token c cs) ≡ Some t → FirstWord c (cs ++ after) t) [
-      | true ↦ λ h g. let u : TokenKind × ℕ = (Name, 1 + prefix_len is_name_char cs) in let q : u ≡ t = cc in subst (FirstWord c (cs ++ after)) q (named_word c cs after h)
-      | false ↦ λ h g. no_name_word t.0 (take t.1 (c ∷ (cs ++ after))) (no_name_other c cs t g)
+first_lexeme : (c : ℕ) (cs after : List ℕ) (t : TokenKind × ℕ) → first_token (c ∷ cs) ≡ Some t → FirstLexeme c (cs ++ after) t
+first_lexeme c cs after t e =
+    elim (is_capital c) as (λ b. is_capital c ≡ b → (if b then Some (Name, 1 + prefix_len is_name_char cs) else other_token c cs) ≡ Some t → FirstLexeme c (cs ++ after) t) [
+      | true ↦ λ h g. let u : TokenKind × ℕ = (Name, 1 + prefix_len is_name_char cs) in let q : u ≡ t = cc in subst (FirstLexeme c (cs ++ after)) q (named_lexeme c cs after h)
+      | false ↦ λ h g. no_name_lexeme t.0 (take t.1 (c ∷ (cs ++ after))) (no_name_other c cs t g)
     ] refl e
 
-word_here : (call : Option ℕ) (here c : ℕ) (cs after : List ℕ) (t : TokenKind × ℕ) → token_here call here (c ∷ cs) ≡ Some t → FirstWord c (cs ++ after) t
-word_here call here c cs after t e =
-    elim (is_place call here) as (λ b. (if b then Some (Call, 4) else first_token (c ∷ cs)) ≡ Some t → FirstWord c (cs ++ after) t) [
-      | true ↦ λ g. let u : TokenKind × ℕ = (Call, 4) in let q : u ≡ t = cc in let w : FirstWord c (cs ++ after) u = tt in subst (FirstWord c (cs ++ after)) q w
-      | false ↦ λ g. first_word c cs after t g
+lexeme_here : (call : Option ℕ) (here c : ℕ) (cs after : List ℕ) (t : TokenKind × ℕ) → token_here call here (c ∷ cs) ≡ Some t → FirstLexeme c (cs ++ after) t
+lexeme_here call here c cs after t e =
+    elim (is_place call here) as (λ b. (if b then Some (Call, 4) else first_token (c ∷ cs)) ≡ Some t → FirstLexeme c (cs ++ after) t) [
+      | true ↦ λ g. let u : TokenKind × ℕ = (Call, 4) in let q : u ≡ t = cc in let w : FirstLexeme c (cs ++ after) u = tt in subst (FirstLexeme c (cs ++ after)) q w
+      | false ↦ λ g. first_lexeme c cs after t g
     ] e
 
 part_at : (front rest : List ℕ) (here n : ℕ) → length front ≡ here → part (front ++ rest) here (here + n) ≡ take n rest
@@ -149,23 +149,23 @@ part_at front rest here n h =
     let e : here + n - here ≡ n = omega arith in
     ap (λ k. take k (drop here (front ++ rest))) e ∙ ap (take n) (drop_at front rest here h)
 
--- the words of tokens that stand behind a front and before what follows
-pub tokens_named : (cs : List ℕ) (call : Option ℕ) (skip here : ℕ) (front after : List ℕ) (ts : List Token) → length front ≡ here → tokens_from call skip here cs ≡ Some ts → AreWords (words_of (front ++ (cs ++ after)) ts)
+-- the lexemes of tokens that stand behind a front and before what follows
+pub tokens_named : (cs : List ℕ) (call : Option ℕ) (skip here : ℕ) (front after : List ℕ) (ts : List Token) → length front ≡ here → tokens_from call skip here cs ≡ Some ts → AreLexemes (lexemes_of (front ++ (cs ++ after)) ts)
 unfolding tokens_from
 tokens_named [] call skip here front after ts h e =
-    let P : List Token → Type 0 = λ ts. AreWords (words_of (front ++ after) ts) in
+    let P : List Token → Type 0 = λ ts. AreLexemes (lexemes_of (front ++ after) ts) in
     let q : [] ≡ ts = cc in
     subst P q tt
 tokens_named (c ∷ cs) call (suc skip) here front after ts h e =
-    let P : List ℕ → Type 0 = λ text. AreWords (words_of text ts) in
+    let P : List ℕ → Type 0 = λ text. AreLexemes (lexemes_of text ts) in
     subst P (append_assoc front (c ∷ []) (cs ++ after)) (tokens_named cs call skip (here + 1) (front ++ c ∷ []) after ts (length-append front (c ∷ []) ∙ omega arith) e)
 tokens_named (c ∷ cs) call zero here front after ts h e =
     let a = then_some (λ t. option_map (λ us. token_at here t ∷ us) (tokens_from call (t.1 - 1) (here + 1) cs)) (token_here call here (c ∷ cs)) ts e in
     let b = map_some (λ us. token_at here a.0 ∷ us) (tokens_from call (a.0.1 - 1) (here + 1) cs) ts a.2 in
     let text = front ++ (c ∷ (cs ++ after)) in
-    let P : List ℕ → Type 0 = λ xs. AreWords (words_of xs b.0) in
+    let P : List ℕ → Type 0 = λ xs. AreLexemes (lexemes_of xs b.0) in
     let others = subst P (append_assoc front (c ∷ []) (cs ++ after)) (tokens_named cs call (a.0.1 - 1) (here + 1) (front ++ c ∷ []) after b.0 (length-append front (c ∷ []) ∙ omega arith) b.1) in
-    let Q : List ℕ → Type 0 = λ x. IsWord (word a.0.0 x) in
-    let first = subst Q (sym (part_at front (c ∷ (cs ++ after)) here a.0.1 h)) (word_here call here c cs after a.0 a.1) in
-    let R : List Token → Type 0 = λ us. AreWords (words_of text us) in
-    subst R b.2 (one_more_word (word a.0.0 (part text here (here + a.0.1))) (words_of text b.0) first others)
+    let Q : List ℕ → Type 0 = λ x. IsLexeme (lexeme a.0.0 x) in
+    let first = subst Q (sym (part_at front (c ∷ (cs ++ after)) here a.0.1 h)) (lexeme_here call here c cs after a.0 a.1) in
+    let R : List Token → Type 0 = λ us. AreLexemes (lexemes_of text us) in
+    subst R b.2 (one_more_lexeme (lexeme a.0.0 (part text here (here + a.0.1))) (lexemes_of text b.0) first others)

@@ -9,11 +9,11 @@ use Rattle.adj_text.specs.Form.{Form, subroutine, implicit_none, integers, simpl
 use Rattle.adj_text.specs.Statement.{Item}
 use Rattle.adj_text.specs.Unit as units
 use Rattle.adj_text.specs.Unit.{ReadsImplicit, declaration_of, ReadsDeclarations, ReadsEnd, ReadsUnit, ReadsUnits}
-use Rattle.adj_text.specs.Word.{Word}
+use Rattle.adj_text.specs.Lexeme.{Lexeme}
 use Rattle.adj_text.specs.declared.stated.Kind.{Kind}
 use Rattle.adj_text.specs.Written.{IsName, IsWrittenMark, IsWrittenCode, IsWrittenDeclaration, IsWrittenProcedure, IsWritten}
 use Rattle.adj_text.specs.Fits.{FitsCode, FitsExtent, FitsProcedure, Fits}
-use Rattle.adj_text.proofs.TermWritten.{AreWords}
+use Rattle.adj_text.proofs.TermWritten.{AreLexemes}
 use Rattle.adj_text.proofs.FormWritten.{all_nil, all_cons, TestWhereFits, ActWhereFits, assignment_written, head_written, AreWrittenItems, items_written, IsWrittenRange, do_written, guard_written}
 use Rattle.adj_text.proofs.WrittenBack.{all_first, all_rest}
 use Rattle.adj_text.proofs.CallWritten.{call_written, guarded_written}
@@ -30,7 +30,7 @@ IsWrittenForm (opens_if c) = TestWhereFits c
 IsWrittenForm (otherwise_if c) = TestWhereFits c
 IsWrittenForm _ = Unit {0}
 
-pub form_written : {mark : Mark} {kind : Kind} {ts : List Word} {f : Form} → ReadsForm mark kind ts f → AreWords ts → IsWrittenMark mark → IsWrittenForm f
+pub form_written : {mark : Mark} {kind : Kind} {ts : List Lexeme} {f : Form} → ReadsForm mark kind ts f → AreLexemes ts → IsWrittenMark mark → IsWrittenForm f
 form_written (forms.ReadsForm.heading d) h m = head_written d h
 form_written forms.ReadsForm.implicit h m = tt
 form_written (forms.ReadsForm.declaration d) h m = items_written d h

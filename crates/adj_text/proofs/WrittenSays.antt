@@ -12,25 +12,25 @@ use Rattle.adj_text.specs.Form.{subroutine, integers, simple, opens_do}
 use Rattle.adj_text.specs.Statement as statements
 use Rattle.adj_text.specs.Statement.{ReadsPlace, ReadsCall, ReadsExtent, ReadsItems, ReadsRange, Range, called, called_as, runtime_call}
 use Rattle.adj_text.specs.Text.{var_text, behind_commas, bracketed, term_text, term_texts, place_text, runtime_name, runtime_actuals, is_one, step_text, extent_text}
-use Rattle.adj_text.specs.Word.{Word, Named, Digits, Mark}
+use Rattle.adj_text.specs.Lexeme.{Lexeme, Named, Digits, Mark}
 use Rattle.adj_text.specs.Written.{IsName, IsVariable, IsPlace, IsActualPlace, IsWrittenTerm, AreWrittenTerms, IsWrittenRuntime, IsWrittenExtent}
 use Rattle.adj_text.specs.declared.stated.Kind.TheVariants as classes
 use Rattle.adj_text.specs.declared.token.TokenKind.TheVariants.{Right, Comma, Equals}
 use Rattle.adj_text.proofs.Spelled.{spelling, is_name}
-use Rattle.adj_text.proofs.Plain.{AreNames, name_words, head_words, is_subroutine}
+use Rattle.adj_text.proofs.Plain.{AreNames, name_lexemes, head_lexemes, is_subroutine}
 use Rattle.adj_text.proofs.Derived.{head_derived}
 use Rattle.adj_text.proofs.Printed.{SaysChars}
 use Rattle.adj_text.proofs.Placed.{item_of}
-use Rattle.adj_text.proofs.Sayings.{says_words, says_named}
-use Rattle.adj_text.proofs.TermWords.{term_words, bracketed_words}
+use Rattle.adj_text.proofs.Sayings.{says_lexemes, says_named}
+use Rattle.adj_text.proofs.TermLexemes.{term_lexemes, bracketed_lexemes}
 use Rattle.adj_text.proofs.TermDerived.{number_of-decimal, reads_term, reads_terms, reads_one, reads_two}
 use Rattle.adj_text.proofs.TermSpaced.{is_name-name}
 use Rattle.adj_text.proofs.Assigned.{assignment_spelled, is_assigned}
-use Rattle.adj_text.proofs.Opened.{do_words, step_words, step_chars, do_spelled, is_do_statement}
-use Rattle.adj_text.proofs.Called.{call_words, call_spelled, is_called, AreExtents, extent_word, declared_words, declared_spelled, is_declared}
+use Rattle.adj_text.proofs.Opened.{do_lexemes, step_lexemes, step_chars, do_spelled, is_do_statement}
+use Rattle.adj_text.proofs.Called.{call_lexemes, call_spelled, is_called, AreExtents, extent_lexeme, declared_lexemes, declared_spelled, is_declared}
 
--- the words of a place
-place_reads : (x : List ℕ) (s : Terms) (us : List Word) → IsPlace (plain x) s → ReadsPlace (Named x ∷ bracketed_words s us) us (plain x) s
+-- the lexemes of a place
+place_reads : (x : List ℕ) (s : Terms) (us : List Lexeme) → IsPlace (plain x) s → ReadsPlace (Named x ∷ bracketed_lexemes s us) us (plain x) s
 place_reads x none us h = statements.ReadsPlace.scalar
 place_reads x (more a none) us h = statements.ReadsPlace.element (reads_one a us h.2.0) (omega arith)
 place_reads x (more a (more b none)) us h = statements.ReadsPlace.element (reads_two a b us h.2.0 h.2.1.0) (omega arith)
@@ -44,19 +44,19 @@ place_terms x (more a s) h = h.2
 pub says_assign : (x : Var) (s : Terms) (e : Term) → IsPlace x s → IsWrittenTerm e → SaysChars unmarked (place_text x s ++ equals ∷ term_text e) (simple (assign x s e))
 says_assign (plain x) s e h g =
     let are = append_assoc x (bracketed (term_texts s)) (61 ∷ term_text e) ∙ sym (assignment_spelled (plain x) s e (place_terms x s h) g) in
-    says_named unmarked classes.Assign x (bracketed_words s (Mark Equals ∷ term_words e [])) (place_text (plain x) s ++ equals ∷ term_text e) (simple (assign (plain x) s e)) are (is_assigned (plain x) s e h g) (forms.ReadsForm.assigned (statements.ReadsAssignment.assignment (place_reads x s (Mark Equals ∷ term_words e []) h) (reads_term e [] g)))
+    says_named unmarked classes.Assign x (bracketed_lexemes s (Mark Equals ∷ term_lexemes e [])) (place_text (plain x) s ++ equals ∷ term_text e) (simple (assign (plain x) s e)) are (is_assigned (plain x) s e h g) (forms.ReadsForm.assigned (statements.ReadsAssignment.assignment (place_reads x s (Mark Equals ∷ term_lexemes e []) h) (reads_term e [] g)))
 says_assign (shadow x) none e h g = absurd h
 says_assign (shadow x) (more a s) e h g = absurd h.0
 says_assign (helper r k) none e h g = absurd h
 says_assign (helper r k) (more a s) e h g = absurd h.0
 
-call_reads : (x : List ℕ) (es : Terms) → AreWrittenTerms es → ReadsCall (call_words x es) (called x es)
+call_reads : (x : List ℕ) (es : Terms) → AreWrittenTerms es → ReadsCall (call_lexemes x es) (called x es)
 call_reads x none h = statements.ReadsCall.alone
 call_reads x (more a others) h = statements.ReadsCall.actuals (reads_terms a others [] h).1
 
 says_called : (x : List ℕ) (es : Terms) → is_name x ≡ true → AreWrittenTerms es → SaysChars unmarked (codes "CALL " ++ x ++ bracketed (term_texts es)) (simple (called x es))
 says_called x es n h =
-    says_words unmarked classes.Call 67 (codes "ALL ") (codes "CALL") (call_words x es) (codes "CALL " ++ x ++ bracketed (term_texts es)) (simple (called x es)) (ap (λ xs. codes "CALL " ++ xs) (sym (call_spelled x es h))) refl refl refl (is_called x es n h) (forms.ReadsForm.calls (call_reads x es h))
+    says_lexemes unmarked classes.Call 67 (codes "ALL ") (codes "CALL") (call_lexemes x es) (codes "CALL " ++ x ++ bracketed (term_texts es)) (simple (called x es)) (ap (λ xs. codes "CALL " ++ xs) (sym (call_spelled x es h))) refl refl refl (is_called x es n h) (forms.ReadsForm.calls (call_reads x es h))
 
 -- a CALL of a unit
 pub says_call : (x : List ℕ) (es : Terms) → IsName x → AreWrittenTerms es → runtime_call x es ≡ None → SaysChars unmarked (codes "CALL " ++ x ++ bracketed (term_texts es)) (simple (call x es))
@@ -153,36 +153,36 @@ says_runtime r h =
     subst Q (runtime_texts r) (subst P (runtime_reads r) (says_called (runtime_name r) (runtime_terms r) (runtime_named r) (runtime_written r h)))
 
 -- an extent
-extent_reads : (a : Extent) (rest : List Word) → IsWrittenExtent a → ReadsExtent (extent_word a ∷ rest) rest a
+extent_reads : (a : Extent) (rest : List Lexeme) → IsWrittenExtent a → ReadsExtent (extent_lexeme a ∷ rest) rest a
 extent_reads (fixed (pos n)) rest h =
     let P : ℕ → Type 0 = λ k. ReadsExtent (Digits (decimal n) ∷ rest) rest (fixed (pos k)) in
     subst P (number_of-decimal n (omega arith)) statements.ReadsExtent.literal
 extent_reads (fixed (negsuc n)) rest h = absurd h
 extent_reads (given x) rest h = statements.ReadsExtent.name
 
-items_reads : (x : List ℕ) (es : List Extent) → length es ≤ 2 → AreExtents es → ReadsItems (declared_words x es) (record { name = x; extents = es } ∷ [])
+items_reads : (x : List ℕ) (es : List Extent) → length es ≤ 2 → AreExtents es → ReadsItems (declared_lexemes x es) (record { name = x; extents = es } ∷ [])
 items_reads x [] l h = statements.ReadsItems.last statements.ReadsItem.scalar
 items_reads x (a ∷ []) l h = statements.ReadsItems.last (statements.ReadsItem.row (extent_reads a (Mark Right ∷ []) h.0))
-items_reads x (a ∷ b ∷ []) l h = statements.ReadsItems.last (statements.ReadsItem.table (extent_reads a (Mark Comma ∷ extent_word b ∷ Mark Right ∷ []) h.0) (extent_reads b (Mark Right ∷ []) h.1.0))
+items_reads x (a ∷ b ∷ []) l h = statements.ReadsItems.last (statements.ReadsItem.table (extent_reads a (Mark Comma ∷ extent_lexeme b ∷ Mark Right ∷ []) h.0) (extent_reads b (Mark Right ∷ []) h.1.0))
 items_reads x (a ∷ b ∷ c ∷ es) l h = absurd (omega arith)
 
 -- a declaration
 pub says_declaration : (d : Declaration) → IsName d.name → length d.extents ≤ 2 → AreExtents d.extents → SaysChars unmarked (codes "INTEGER*8 " ++ d.name ++ bracketed (map extent_text d.extents)) (integers (item_of d ∷ []))
 says_declaration d n l h =
-    says_words unmarked classes.Integer 73 (codes "NTEGER*8 ") (codes "INTEGER*8") (declared_words d.name d.extents) (codes "INTEGER*8 " ++ d.name ++ bracketed (map extent_text d.extents)) (integers (item_of d ∷ [])) (ap (λ xs. codes "INTEGER*8 " ++ xs) (sym (declared_spelled d.name d.extents l h))) refl refl refl (is_declared d.name d.extents (is_name-name d.name n) l h) (forms.ReadsForm.declaration (items_reads d.name d.extents l h))
+    says_lexemes unmarked classes.Integer 73 (codes "NTEGER*8 ") (codes "INTEGER*8") (declared_lexemes d.name d.extents) (codes "INTEGER*8 " ++ d.name ++ bracketed (map extent_text d.extents)) (integers (item_of d ∷ [])) (ap (λ xs. codes "INTEGER*8 " ++ xs) (sym (declared_spelled d.name d.extents l h))) refl refl refl (is_declared d.name d.extents (is_name-name d.name n) l h) (forms.ReadsForm.declaration (items_reads d.name d.extents l h))
 
 -- a SUBROUTINE
-names_spelled : (x : List ℕ) (xs : List (List ℕ)) → flat_map spelling (name_words (x ∷ xs) (Mark Right ∷ [])) ≡ x ++ behind_commas xs
+names_spelled : (x : List ℕ) (xs : List (List ℕ)) → flat_map spelling (name_lexemes (x ∷ xs) (Mark Right ∷ [])) ≡ x ++ behind_commas xs
 names_spelled x [] = refl
 names_spelled x (y ∷ ys) = ap (λ zs. x ++ 44 ∷ zs) (names_spelled y ys)
 
-head_spelled : (x : List ℕ) (ds : List (List ℕ)) → flat_map spelling (head_words x ds) ≡ x ++ bracketed ds
+head_spelled : (x : List ℕ) (ds : List (List ℕ)) → flat_map spelling (head_lexemes x ds) ≡ x ++ bracketed ds
 head_spelled x [] = refl
 head_spelled x (d ∷ ds) = ap (λ zs. x ++ 40 ∷ zs) (names_spelled d ds)
 
 pub says_heading : (x : List ℕ) (ds : List (List ℕ)) → IsName x → AreNames ds → SaysChars unmarked (codes "SUBROUTINE " ++ x ++ bracketed ds) (subroutine x ds)
 says_heading x ds n h =
-    says_words unmarked classes.Subroutine 83 (codes "UBROUTINE ") (codes "SUBROUTINE") (head_words x ds) (codes "SUBROUTINE " ++ x ++ bracketed ds) (subroutine x ds) (ap (λ xs. codes "SUBROUTINE " ++ xs) (sym (head_spelled x ds))) refl refl refl (is_subroutine x ds (is_name-name x n) h) (forms.ReadsForm.heading (head_derived x ds))
+    says_lexemes unmarked classes.Subroutine 83 (codes "UBROUTINE ") (codes "SUBROUTINE") (head_lexemes x ds) (codes "SUBROUTINE " ++ x ++ bracketed ds) (subroutine x ds) (ap (λ xs. codes "SUBROUTINE " ++ xs) (sym (head_spelled x ds))) refl refl refl (is_subroutine x ds (is_name-name x n) h) (forms.ReadsForm.heading (head_derived x ds))
 
 -- a step that is left out is the literal 1
 one_is : (c : Term) → is_one c ≡ true → c ≡ lit (pos 1)
@@ -198,11 +198,11 @@ one_is (abs a) e = absurd cc
 abbrev range : Var → Term → Term → Term → Range
 range x a b c = record { counter = x; from = a; to = b; by = c }
 
-range_reads : (x : List ℕ) (a b c : Term) (l : Bool) → is_one c ≡ l → IsWrittenTerm a → IsWrittenTerm b → IsWrittenTerm c → ReadsRange (Named x ∷ Mark Equals ∷ term_words a (Mark Comma ∷ term_words b (step_words l c []))) (range (plain x) a b c)
+range_reads : (x : List ℕ) (a b c : Term) (l : Bool) → is_one c ≡ l → IsWrittenTerm a → IsWrittenTerm b → IsWrittenTerm c → ReadsRange (Named x ∷ Mark Equals ∷ term_lexemes a (Mark Comma ∷ term_lexemes b (step_lexemes l c []))) (range (plain x) a b c)
 range_reads x a b c true e h g k =
-    let P : Term → Type 0 = λ d. ReadsRange (Named x ∷ Mark Equals ∷ term_words a (Mark Comma ∷ term_words b [])) (range (plain x) a b d) in
-    subst P (sym (one_is c e)) (statements.ReadsRange.by_one (reads_term a (Mark Comma ∷ term_words b []) h) (reads_term b [] g))
-range_reads x a b c false e h g k = statements.ReadsRange.by_step (reads_term a (Mark Comma ∷ term_words b (Mark Comma ∷ term_words c [])) h) (reads_term b (Mark Comma ∷ term_words c []) g) (reads_term c [] k)
+    let P : Term → Type 0 = λ d. ReadsRange (Named x ∷ Mark Equals ∷ term_lexemes a (Mark Comma ∷ term_lexemes b [])) (range (plain x) a b d) in
+    subst P (sym (one_is c e)) (statements.ReadsRange.by_one (reads_term a (Mark Comma ∷ term_lexemes b []) h) (reads_term b [] g))
+range_reads x a b c false e h g k = statements.ReadsRange.by_step (reads_term a (Mark Comma ∷ term_lexemes b (Mark Comma ∷ term_lexemes c [])) h) (reads_term b (Mark Comma ∷ term_lexemes c []) g) (reads_term c [] k)
 
 step_chars-text : (l : Bool) (c : Term) → is_one c ≡ l → step_text c ≡ step_chars l c
 step_chars-text true c e = rw e refl
@@ -214,6 +214,6 @@ says_do m (plain x) a b c v h g k =
     let spelled = do_spelled (plain x) a b c h g k in
     let regroup : codes "DO " ++ x ++ equals ∷ term_text a ++ comma ∷ term_text b ++ step_text c ≡ codes "DO " ++ (x ++ 61 ∷ (term_text a ++ 44 ∷ (term_text b ++ step_text c))) = simp append_assoc in
     let are = regroup ∙ ap (λ zs. codes "DO " ++ (x ++ 61 ∷ (term_text a ++ 44 ∷ (term_text b ++ zs)))) (step_chars-text (is_one c) c refl) ∙ ap (λ zs. codes "DO " ++ zs) (sym spelled) in
-    says_words m classes.Do 68 (codes "O ") (codes "DO") (do_words (plain x) a b c) (codes "DO " ++ x ++ equals ∷ term_text a ++ comma ∷ term_text b ++ step_text c) (opens_do None (range (plain x) a b c) m) are refl refl refl (is_do_statement (plain x) a b c v h g k) (forms.ReadsForm.begins (statements.ReadsDo.unlabelled (range_reads x a b c (is_one c) refl h g k)))
+    says_lexemes m classes.Do 68 (codes "O ") (codes "DO") (do_lexemes (plain x) a b c) (codes "DO " ++ x ++ equals ∷ term_text a ++ comma ∷ term_text b ++ step_text c) (opens_do None (range (plain x) a b c) m) are refl refl refl (is_do_statement (plain x) a b c v h g k) (forms.ReadsForm.begins (statements.ReadsDo.unlabelled (range_reads x a b c (is_one c) refl h g k)))
 says_do m (shadow x) a b c v h g k = absurd v
 says_do m (helper r i) a b c v h g k = absurd v

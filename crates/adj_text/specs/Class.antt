@@ -58,7 +58,7 @@ is_if text = begins_with text (codes "IF(") && begins_with_letter (inner text)
 abbrev pub if_kind : List ℕ → Kind
 if_kind text = if bytes_eq (inner text) (codes "THEN") then BlockIf else LogicalIf
 
--- the statements that are one word
+-- the statements that are one lexeme
 abbrev pub whole : List ℕ → Option Kind
 whole text =
     if bytes_eq text (codes "CONTINUE") then Some Continue
@@ -86,7 +86,7 @@ is_integer text = length (width_of text) == 0 || is_eight (width_of text)
 abbrev pub is_group : List ℕ → Bool
 is_group cs = unwrap_or (group_len 0 cs) 0 == length cs
 
--- the statements that begin with their word
+-- the statements that begin with their lexeme
 abbrev pub begun : List ℕ → Option Kind
 begun text =
     if begins_with text (codes "ELSEIF(") && ends_with nat_eq text (codes ")THEN") then Some ElseIf

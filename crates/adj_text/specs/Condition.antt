@@ -1,9 +1,9 @@
--- Condition: which words are a condition, and its tree.
+-- Condition: which lexemes are a condition, and its tree.
 use Rattle.std.specs.Prelude.{◌≡◌, List, ◌∷◌, Option, Some, option_map}
 use Rattle.adj_tree.specs.Code.{Rel, is_less, is_most, is_same, is_other, is_greater, is_least, Test, compare, negation, conjunction, disjunction}
 use Rattle.adj_text.specs.declared.token.TokenKind.{TokenKind}
 use Rattle.adj_text.specs.declared.token.TokenKind.TheVariants.{Left, Right, Lt, Le, Eq, Ne, Gt, Ge, Not, And, Or}
-use Rattle.adj_text.specs.Word.{Word, Mark}
+use Rattle.adj_text.specs.Lexeme.{Lexeme, Mark}
 use Rattle.adj_text.specs.Grammar.{Syntax, Sum, Derives, with_both, tree}
 
 -- a condition as it is written
@@ -27,17 +27,17 @@ pub data Part : Type 0 where
   Item : Part
   Plain : Part
 
--- DerivesCondition part words rest c: the words up to the rest are derived from the part, as c
-pub data DerivesCondition : Part → List Word → List Word → Condition → Type 0 where
-  comparison : {ts us rest : List Word} {a b : Syntax} {k : TokenKind} {r : Rel} → Relates k r → Derives Sum ts (Mark k ∷ us) a → Derives Sum us rest b → DerivesCondition Plain ts rest (compared r a b)
-  group : {ts rest : List Word} {c : Condition} → DerivesCondition Whole ts (Mark Right ∷ rest) c → DerivesCondition Plain (Mark Left ∷ ts) rest c
-  plain : {ts rest : List Word} {c : Condition} → DerivesCondition Plain ts rest c → DerivesCondition Item ts rest c
-  not : {ts rest : List Word} {c : Condition} → DerivesCondition Plain ts rest c → DerivesCondition Item (Mark Not ∷ ts) rest (denied c)
-  item : {ts rest : List Word} {c : Condition} → DerivesCondition Item ts rest c → DerivesCondition Conjunction ts rest c
+-- DerivesCondition part lexemes rest c: the lexemes up to the rest are derived from the part, as c
+pub data DerivesCondition : Part → List Lexeme → List Lexeme → Condition → Type 0 where
+  comparison : {ts us rest : List Lexeme} {a b : Syntax} {k : TokenKind} {r : Rel} → Relates k r → Derives Sum ts (Mark k ∷ us) a → Derives Sum us rest b → DerivesCondition Plain ts rest (compared r a b)
+  group : {ts rest : List Lexeme} {c : Condition} → DerivesCondition Whole ts (Mark Right ∷ rest) c → DerivesCondition Plain (Mark Left ∷ ts) rest c
+  plain : {ts rest : List Lexeme} {c : Condition} → DerivesCondition Plain ts rest c → DerivesCondition Item ts rest c
+  not : {ts rest : List Lexeme} {c : Condition} → DerivesCondition Plain ts rest c → DerivesCondition Item (Mark Not ∷ ts) rest (denied c)
+  item : {ts rest : List Lexeme} {c : Condition} → DerivesCondition Item ts rest c → DerivesCondition Conjunction ts rest c
   -- `.AND.` and `.OR.` join to the left
-  and : {ts us rest : List Word} {c d : Condition} → DerivesCondition Conjunction ts (Mark And ∷ us) c → DerivesCondition Item us rest d → DerivesCondition Conjunction ts rest (both c d)
-  whole : {ts rest : List Word} {c : Condition} → DerivesCondition Conjunction ts rest c → DerivesCondition Whole ts rest c
-  or : {ts us rest : List Word} {c d : Condition} → DerivesCondition Whole ts (Mark Or ∷ us) c → DerivesCondition Conjunction us rest d → DerivesCondition Whole ts rest (either c d)
+  and : {ts us rest : List Lexeme} {c d : Condition} → DerivesCondition Conjunction ts (Mark And ∷ us) c → DerivesCondition Item us rest d → DerivesCondition Conjunction ts rest (both c d)
+  whole : {ts rest : List Lexeme} {c : Condition} → DerivesCondition Conjunction ts rest c → DerivesCondition Whole ts rest c
+  or : {ts us rest : List Lexeme} {c d : Condition} → DerivesCondition Whole ts (Mark Or ∷ us) c → DerivesCondition Conjunction us rest d → DerivesCondition Whole ts rest (either c d)
 
 -- the tree of a condition
 abbrev pub test : Condition → Option Test
@@ -46,6 +46,6 @@ test (denied c) = option_map negation (test c)
 test (both c d) = with_both (λ t u. Some (conjunction t u)) (test c) (test d)
 test (either c d) = with_both (λ t u. Some (disjunction t u)) (test c) (test d)
 
--- the words up to the rest are a condition with this tree
-abbrev pub ReadsTest : List Word → List Word → Test → Type 0
-ReadsTest words rest t = (c : Condition) × DerivesCondition Whole words rest c × (test c ≡ Some t)
+-- the lexemes up to the rest are a condition with this tree
+abbrev pub ReadsTest : List Lexeme → List Lexeme → Test → Type 0
+ReadsTest lexemes rest t = (c : Condition) × DerivesCondition Whole lexemes rest c × (test c ≡ Some t)

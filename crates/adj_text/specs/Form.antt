@@ -1,9 +1,9 @@
--- Form: what a statement says, by its class and words.
+-- Form: what a statement says, by its class and lexemes.
 use Rattle.std.specs.Prelude.{ℕ, List, [], Option}
 use Rattle.adj_tree.specs.Code.{Test, Mark, unmarked, Act}
 use Rattle.adj_text.specs.declared.stated.Kind.{Kind}
 use Rattle.adj_text.specs.declared.stated.Kind.TheVariants.{Do, BlockIf, LogicalIf, Assign, Continue, Return, End, EndIf, EndDo, Else, ImplicitNone, ElseIf, DoWhile, Subroutine, Integer, Call}
-use Rattle.adj_text.specs.Word.{Word}
+use Rattle.adj_text.specs.Lexeme.{Lexeme}
 use Rattle.adj_text.specs.Statement.{Item, Range, ReadsHead, ReadsItems, ReadsAssignment, ReadsCall, ReadsGuard, ReadsGuarded, ReadsDo}
 
 -- what a statement says; a DO with the label behind it and what the directive before it says
@@ -28,21 +28,21 @@ pub data Form : Type 0 where
 pub data Statement : Type 0 where
   at : ℕ → ℕ → Form → Statement
 
--- ReadsForm mark class words form: a statement of this class with these words behind its keyword says this; only a DO that is no DO WHILE has a directive before it
-pub data ReadsForm : Mark → Kind → List Word → Form → Type 0 where
-  heading : {ts : List Word} {x : List ℕ} {dummies : List (List ℕ)} → ReadsHead ts x dummies → ReadsForm unmarked Subroutine ts (subroutine x dummies)
+-- ReadsForm mark class lexemes form: a statement of this class with these lexemes behind its keyword says this; only a DO that is no DO WHILE has a directive before it
+pub data ReadsForm : Mark → Kind → List Lexeme → Form → Type 0 where
+  heading : {ts : List Lexeme} {x : List ℕ} {dummies : List (List ℕ)} → ReadsHead ts x dummies → ReadsForm unmarked Subroutine ts (subroutine x dummies)
   implicit : ReadsForm unmarked ImplicitNone [] implicit_none
-  declaration : {ts : List Word} {is : List Item} → ReadsItems ts is → ReadsForm unmarked Integer ts (integers is)
-  assigned : {ts : List Word} {a : Act} → ReadsAssignment ts a → ReadsForm unmarked Assign ts (simple a)
-  calls : {ts : List Word} {a : Act} → ReadsCall ts a → ReadsForm unmarked Call ts (simple a)
-  guarded : {ts us : List Word} {c : Test} {a : Act} → ReadsGuard ts us c → ReadsGuarded us a → ReadsForm unmarked LogicalIf ts (logical c a)
-  begins : {ts : List Word} {l : Option ℕ} {r : Range} {mark : Mark} → ReadsDo ts l r → ReadsForm mark Do ts (opens_do l r mark)
-  repeats : {ts : List Word} {c : Test} → ReadsGuard ts [] c → ReadsForm unmarked DoWhile ts (opens_while c)
+  declaration : {ts : List Lexeme} {is : List Item} → ReadsItems ts is → ReadsForm unmarked Integer ts (integers is)
+  assigned : {ts : List Lexeme} {a : Act} → ReadsAssignment ts a → ReadsForm unmarked Assign ts (simple a)
+  calls : {ts : List Lexeme} {a : Act} → ReadsCall ts a → ReadsForm unmarked Call ts (simple a)
+  guarded : {ts us : List Lexeme} {c : Test} {a : Act} → ReadsGuard ts us c → ReadsGuarded us a → ReadsForm unmarked LogicalIf ts (logical c a)
+  begins : {ts : List Lexeme} {l : Option ℕ} {r : Range} {mark : Mark} → ReadsDo ts l r → ReadsForm mark Do ts (opens_do l r mark)
+  repeats : {ts : List Lexeme} {c : Test} → ReadsGuard ts [] c → ReadsForm unmarked DoWhile ts (opens_while c)
   finished : ReadsForm unmarked EndDo [] end_do
   continued : ReadsForm unmarked Continue [] go_on
-  tests : {ts : List Word} {c : Test} → ReadsGuard ts [] c → ReadsForm unmarked BlockIf ts (opens_if c)
+  tests : {ts : List Lexeme} {c : Test} → ReadsGuard ts [] c → ReadsForm unmarked BlockIf ts (opens_if c)
   turns : ReadsForm unmarked Else [] otherwise
-  tests_again : {ts : List Word} {c : Test} → ReadsGuard ts [] c → ReadsForm unmarked ElseIf ts (otherwise_if c)
+  tests_again : {ts : List Lexeme} {c : Test} → ReadsGuard ts [] c → ReadsForm unmarked ElseIf ts (otherwise_if c)
   closed : ReadsForm unmarked EndIf [] end_if
   returned : ReadsForm unmarked Return [] leaves
   ended : ReadsForm unmarked End [] ends

@@ -1,10 +1,10 @@
--- Grammar: which words are an expression, and its tree.
+-- Grammar: which lexemes are an expression, and its tree.
 use Rattle.std.specs.Prelude.{◌≡◌, ℕ, zero, suc, ◌+◌, ◌-◌, ◌^◌, Bool, true, false, ◌==◌, ◌&&◌, ◌||◌, nat_le, List, ◌∷◌, codes, Option, Some, None, option_map, option_and_then, ℤ, pos, negsuc, ◌+ℤ◌, ◌-ℤ◌, ◌*ℤ◌, neg_ℤ, int_le, int_lt, if◌then◌else◌}
 use Rattle.adj_tree.specs.Code.{Op, plus, minus, times, quot, modulo, greater, lesser, Term, Terms, lit, var, elem, neg, bin, pow, power_of, abs, none, more, plain, name_eq}
 use Rattle.adj_text.specs.declared.token.TokenKind.{TokenKind}
 use Rattle.adj_text.specs.declared.token.TokenKind.TheVariants.{Power, Star, Slash, Plus, Minus, Left, Right, Comma}
 use Rattle.adj_text.specs.Char.{number_of}
-use Rattle.adj_text.specs.Word.{Word, Named, Digits, Mark}
+use Rattle.adj_text.specs.Lexeme.{Lexeme, Named, Digits, Mark}
 
 -- an expression as it is written: numbers by their digits, exponents as expressions
 mutual
@@ -63,30 +63,30 @@ abbrev pub signed : Op → Syntax → Syntax
 signed minus s = negated s
 signed _ s = s
 
--- Derives symbol words rest s: the words up to the rest are derived from the symbol, as s
+-- Derives symbol lexemes rest s: the lexemes up to the rest are derived from the symbol, as s
 mutual
-  pub data Derives : Symbol → List Word → List Word → Syntax → Type 0 where
-    literal : {digits : List ℕ} {rest : List Word} → Derives Primary (Digits digits ∷ rest) rest (number digits)
-    name : {x : List ℕ} {rest : List Word} → Derives Primary (Named x ∷ rest) rest (variable x)
-    group : {ts rest : List Word} {s : Syntax} → Derives Sum ts (Mark Right ∷ rest) s → Derives Primary (Mark Left ∷ ts) rest s
+  pub data Derives : Symbol → List Lexeme → List Lexeme → Syntax → Type 0 where
+    literal : {digits : List ℕ} {rest : List Lexeme} → Derives Primary (Digits digits ∷ rest) rest (number digits)
+    name : {x : List ℕ} {rest : List Lexeme} → Derives Primary (Named x ∷ rest) rest (variable x)
+    group : {ts rest : List Lexeme} {s : Syntax} → Derives Sum ts (Mark Right ∷ rest) s → Derives Primary (Mark Left ∷ ts) rest s
     -- an element, or an intrinsic with its arguments
-    application : {x : List ℕ} {ts rest : List Word} {all : Arguments} → DerivesAll ts (Mark Right ∷ rest) all → takes x (count_of all) ≡ true → Derives Primary (Named x ∷ Mark Left ∷ ts) rest (applied x all)
-    primary : {ts rest : List Word} {s : Syntax} → Derives Primary ts rest s → Derives Factor ts rest s
+    application : {x : List ℕ} {ts rest : List Lexeme} {all : Arguments} → DerivesAll ts (Mark Right ∷ rest) all → takes x (count_of all) ≡ true → Derives Primary (Named x ∷ Mark Left ∷ ts) rest (applied x all)
+    primary : {ts rest : List Lexeme} {s : Syntax} → Derives Primary ts rest s → Derives Factor ts rest s
     -- powers join to the right
-    power : {ts us rest : List Word} {a b : Syntax} → Derives Primary ts (Mark Power ∷ us) a → Derives Factor us rest b → Derives Factor ts rest (raised a b)
-    factor : {ts rest : List Word} {s : Syntax} → Derives Factor ts rest s → Derives Product ts rest s
+    power : {ts us rest : List Lexeme} {a b : Syntax} → Derives Primary ts (Mark Power ∷ us) a → Derives Factor us rest b → Derives Factor ts rest (raised a b)
+    factor : {ts rest : List Lexeme} {s : Syntax} → Derives Factor ts rest s → Derives Product ts rest s
     -- products and quotients join to the left
-    product : {ts us rest : List Word} {a b : Syntax} {k : TokenKind} {op : Op} → Multiplies k op → Derives Product ts (Mark k ∷ us) a → Derives Factor us rest b → Derives Product ts rest (joined op a b)
-    term : {ts rest : List Word} {s : Syntax} → Derives Product ts rest s → Derives Sum ts rest s
+    product : {ts us rest : List Lexeme} {a b : Syntax} {k : TokenKind} {op : Op} → Multiplies k op → Derives Product ts (Mark k ∷ us) a → Derives Factor us rest b → Derives Product ts rest (joined op a b)
+    term : {ts rest : List Lexeme} {s : Syntax} → Derives Product ts rest s → Derives Sum ts rest s
     -- a leading sign applies to the first term
-    sign : {ts rest : List Word} {s : Syntax} {k : TokenKind} {op : Op} → Adds k op → Derives Product ts rest s → Derives Sum (Mark k ∷ ts) rest (signed op s)
+    sign : {ts rest : List Lexeme} {s : Syntax} {k : TokenKind} {op : Op} → Adds k op → Derives Product ts rest s → Derives Sum (Mark k ∷ ts) rest (signed op s)
     -- sums and differences join to the left
-    sum : {ts us rest : List Word} {a b : Syntax} {k : TokenKind} {op : Op} → Adds k op → Derives Sum ts (Mark k ∷ us) a → Derives Product us rest b → Derives Sum ts rest (joined op a b)
+    sum : {ts us rest : List Lexeme} {a b : Syntax} {k : TokenKind} {op : Op} → Adds k op → Derives Sum ts (Mark k ∷ us) a → Derives Product us rest b → Derives Sum ts rest (joined op a b)
 
   -- expressions separated by commas
-  pub data DerivesAll : List Word → List Word → Arguments → Type 0 where
-    single : {ts rest : List Word} {s : Syntax} → Derives Sum ts rest s → DerivesAll ts rest (only s)
-    another : {ts us rest : List Word} {front : Arguments} {s : Syntax} → DerivesAll ts (Mark Comma ∷ us) front → Derives Sum us rest s → DerivesAll ts rest (beside front s)
+  pub data DerivesAll : List Lexeme → List Lexeme → Arguments → Type 0 where
+    single : {ts rest : List Lexeme} {s : Syntax} → Derives Sum ts rest s → DerivesAll ts rest (only s)
+    another : {ts us rest : List Lexeme} {front : Arguments} {s : Syntax} → DerivesAll ts (Mark Comma ∷ us) front → Derives Sum us rest s → DerivesAll ts rest (beside front s)
 
 -- the operations of literals
 abbrev pub joins_literals : Op → Bool
@@ -104,7 +104,7 @@ is_literal (joined op a b) = joins_literals op && (is_literal a && is_literal b)
 is_literal (raised a b) = is_literal a && is_literal b
 is_literal (applied x all) = false
 
--- a value, where it is one of the words from -2^63 to 2^63-1
+-- a value, where it is one of the lexemes from -2^63 to 2^63-1
 abbrev pub in_words : ℤ → Option ℤ
 in_words z = if int_le (negsuc (2 ^ 63 - 1)) z && int_lt z (pos (2 ^ 63)) then Some z else None
 
@@ -127,7 +127,7 @@ abbrev pub with_both : {A B C : Type 0} → (A → B → Option C) → Option A 
 with_both f (Some a) (Some b) = f a b
 with_both f _ _ = None
 
--- the value of such an expression, where it and all its parts are words
+-- the value of such an expression, where it and all its parts are lexemes
 abbrev pub constant : Syntax → Option ℤ
 constant (number digits) = in_words (pos (number_of digits))
 constant (variable x) = None
@@ -169,10 +169,10 @@ abbrev mutual
   trees_before (only s) rest = option_map (λ t. more t rest) (tree s)
   trees_before (beside front s) rest = option_and_then (λ t. trees_before front (more t rest)) (tree s)
 
--- the words up to the rest are an expression with this tree
-abbrev pub ReadsTerm : List Word → List Word → Term → Type 0
-ReadsTerm words rest t = (s : Syntax) × Derives Sum words rest s × (tree s ≡ Some t)
+-- the lexemes up to the rest are an expression with this tree
+abbrev pub ReadsTerm : List Lexeme → List Lexeme → Term → Type 0
+ReadsTerm lexemes rest t = (s : Syntax) × Derives Sum lexemes rest s × (tree s ≡ Some t)
 
--- the words up to the rest are so many expressions, separated by commas, with these trees
-abbrev pub ReadsTerms : List Word → List Word → ℕ → Terms → Type 0
-ReadsTerms words rest n ts = (all : Arguments) × DerivesAll words rest all × (count_of all ≡ n) × (trees_before all none ≡ Some ts)
+-- the lexemes up to the rest are so many expressions, separated by commas, with these trees
+abbrev pub ReadsTerms : List Lexeme → List Lexeme → ℕ → Terms → Type 0
+ReadsTerms lexemes rest n ts = (all : Arguments) × DerivesAll lexemes rest all × (count_of all ≡ n) × (trees_before all none ≡ Some ts)

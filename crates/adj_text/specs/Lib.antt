@@ -1,5 +1,5 @@
 pub mod Char
-pub mod Word
+pub mod Lexeme
 pub mod Token
 pub mod Refused
 pub mod Limits

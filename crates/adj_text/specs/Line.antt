@@ -33,7 +33,7 @@ is_data l = begins_with l (codes "$DATA") && are_blank (drop 5 l)
 abbrev pub column : List ℕ → ℕ → ℕ
 column l k = slice_index_or l (k - 1) blank
 
--- whether a line begins with a word of capitals, in either case
+-- whether a line begins with a lexeme of capitals, in either case
 unfoldable pub begins_in_either_case : List ℕ → List ℕ → Bool
 begins_in_either_case [] l = true
 begins_in_either_case (w ∷ ws) [] = false

@@ -1,9 +1,9 @@
--- Machine: how an expression at the front of some words is read: operands to the left wait on a stack.
+-- Machine: how an expression at the front of some lexemes is read: operands to the left wait on a stack.
 use Rattle.std.specs.Prelude.{◌≡◌, ℕ, List, [], ◌∷◌, ◌++◌, length, Option, Some, None, option_map, Bool, true, false, if◌then◌else◌}
 use Rattle.adj_tree.specs.Code.{Op, plus, minus, times, quot}
 use Rattle.adj_text.specs.declared.token.TokenKind.TheVariants.{Power, Star, Slash, Plus, Minus, Left, Right, Comma}
 use Rattle.adj_text.specs.Grammar.{Syntax, number, variable, negated, joined, raised, applied, Arguments, only, beside, takes}
-use Rattle.adj_text.specs.Word.{Word, Named, Digits, Mark}
+use Rattle.adj_text.specs.Lexeme.{Lexeme, Named, Digits, Mark}
 
 -- what waits for its right operand, or for its next argument
 pub data Frame (X : Type 0) : Type 0 where
@@ -95,8 +95,8 @@ is_sum_start _ = false
 abbrev pub begin_sign : {X : Type 0} → Op → List (Frame X) → Option (State X)
 begin_sign op frames = if is_sum_start frames then Some (wanting (Signed op ∷ frames)) else None
 
--- a word where an operand is wanted
-abbrev pub begin : {X : Type 0} → Algebra X → List (Frame X) → Word → Option (State X)
+-- a lexeme where an operand is wanted
+abbrev pub begin : {X : Type 0} → Algebra X → List (Frame X) → Lexeme → Option (State X)
 begin alg frames (Named x) = Some (frames, Callee x)
 begin alg frames (Digits ds) = Some (having frames (alg.digits ds))
 begin alg frames (Mark Left) = Some (wanting (Group ∷ frames))
@@ -120,8 +120,8 @@ add op closed = wanting (Added op closed.1 ∷ closed.0)
 abbrev pub multiply : {X : Type 0} → Op → List (Frame X) × X → State X
 multiply op closed = wanting (Multiplied op closed.1 ∷ closed.0)
 
--- a word behind an operand
-abbrev pub go_on : {X : Type 0} → Algebra X → List (Frame X) → X → Word → Option (State X)
+-- a lexeme behind an operand
+abbrev pub go_on : {X : Type 0} → Algebra X → List (Frame X) → X → Lexeme → Option (State X)
 go_on alg frames x (Mark Plus) = Some (add plus (close_sum alg frames x))
 go_on alg frames x (Mark Minus) = Some (add minus (close_sum alg frames x))
 go_on alg frames x (Mark Star) = Some (multiply times (close_product alg frames x))
@@ -131,11 +131,11 @@ go_on alg frames x (Mark Right) = end_group alg (close_sum alg frames x)
 go_on alg frames x (Mark Comma) = next_argument (close_sum alg frames x)
 go_on alg frames x _ = None
 
-abbrev pub behind_name : {X : Type 0} → Algebra X → List (Frame X) → List ℕ → Word → Option (State X)
+abbrev pub behind_name : {X : Type 0} → Algebra X → List (Frame X) → List ℕ → Lexeme → Option (State X)
 behind_name alg frames name (Mark Left) = Some (wanting (Called name [] ∷ frames))
 behind_name alg frames name w = go_on alg frames (alg.name name) w
 
-abbrev pub step : {X : Type 0} → Algebra X → State X → Word → Option (State X)
+abbrev pub step : {X : Type 0} → Algebra X → State X → Lexeme → Option (State X)
 step alg (frames, Nothing) w = begin alg frames w
 step alg (frames, Callee name) w = behind_name alg frames name w
 step alg (frames, Operand x) w = go_on alg frames x w
@@ -150,7 +150,7 @@ finish alg (frames, Callee name) = whole (close_sum alg frames (alg.name name))
 finish alg (frames, Operand x) = whole (close_sum alg frames x)
 
 -- what may stand behind an expression: no name, no number and nothing that goes on with it
-abbrev pub is_stop : Word → Bool
+abbrev pub is_stop : Lexeme → Bool
 is_stop (Named x) = false
 is_stop (Digits ds) = false
 is_stop (Mark Power) = false
@@ -161,7 +161,7 @@ is_stop (Mark Minus) = false
 is_stop (Mark Left) = false
 is_stop (Mark _) = true
 
-abbrev pub Stops : List Word → Type 0
+abbrev pub Stops : List Lexeme → Type 0
 Stops [] = Unit {0}
 Stops (w ∷ ws) = is_stop w ≡ true
 
@@ -169,10 +169,10 @@ abbrev pub chosen : {A B : Type 0} → Option A → (A → Option B) → Option 
 chosen None go stop = stop
 chosen (Some x) go stop = go x
 
-abbrev pub stopped : {X : Type 0} → Word → List Word → Option X → Option (X × List Word)
+abbrev pub stopped : {X : Type 0} → Lexeme → List Lexeme → Option X → Option (X × List Lexeme)
 stopped w ws found = if is_stop w then option_map (λ x. (x, w ∷ ws)) found else None
 
--- the longest expression at the front of the words, and the words behind it
-unfoldable pub read : {X : Type 0} → Algebra X → State X → List Word → Option (X × List Word)
+-- the longest expression at the front of the lexemes, and the lexemes behind it
+unfoldable pub read : {X : Type 0} → Algebra X → State X → List Lexeme → Option (X × List Lexeme)
 read alg s [] = option_map (λ x. (x, [])) (finish alg s)
 read alg s (w ∷ ws) = chosen (step alg s w) (λ t. read alg t ws) (stopped w ws (finish alg s))

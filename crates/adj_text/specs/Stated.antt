@@ -9,7 +9,7 @@ use Rattle.adj_text.specs.Limits.{Limits}
 use Rattle.adj_text.specs.Lined.{Lines, lines_of}
 use Rattle.adj_text.specs.Refused.{◌>>=◌, refused}
 use Rattle.adj_text.specs.Token.{tokens_from, AreJoined}
-use Rattle.adj_text.specs.Word.{part}
+use Rattle.adj_text.specs.Lexeme.{part}
 use Rattle.adj_text.specs.declared.stated.Kind.{Kind}
 use Rattle.adj_text.specs.declared.stated.Kind.TheVariants.{Do, BlockIf, LogicalIf, Assign, Continue, Return, End, EndIf, EndDo, Else, ImplicitNone, ElseIf, DoWhile, Subroutine, Integer, Call}
 use Rattle.adj_text.specs.declared.stated.Stated.{Stated}
@@ -42,7 +42,7 @@ ending_len BlockIf = 4
 ending_len ElseIf = 4
 ending_len kind = 0
 
--- the place of the word CALL behind the condition of a logical IF
+-- the place of the lexeme CALL behind the condition of a logical IF
 abbrev pub place_for : Option Kind → Option ℕ → Option ℕ
 place_for (Some Call) place = place
 place_for kind place = None

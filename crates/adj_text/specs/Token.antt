@@ -6,11 +6,11 @@ use Rattle.adj_text.specs.declared.token.Token.{Token}
 use Rattle.adj_text.specs.declared.token.TokenKind.{TokenKind}
 use Rattle.adj_text.specs.declared.token.TokenKind.TheVariants.{Name, Number, Power, Star, Slash, Plus, Minus, Left, Right, Comma, Equals, Lt, Le, Eq, Ne, Gt, Ge, Not, And, Or, Call}
 
--- whether a text begins with a word
+-- whether a text begins with a lexeme
 abbrev pub begins_with : List ℕ → List ℕ → Bool
 begins_with text w = starts_with nat_eq text w
 
--- the word between dots, and its length with them
+-- the lexeme between dots, and its length with them
 abbrev pub dotted : List ℕ → Option (TokenKind × ℕ)
 dotted text =
     if begins_with text (codes ".LT.") then Some (Lt, 4)
@@ -55,7 +55,7 @@ abbrev pub is_place : Option ℕ → ℕ → Bool
 is_place None here = false
 is_place (Some place) here = here == place
 
--- the first token of what stands here: the word CALL at its place
+-- the first token of what stands here: the lexeme CALL at its place
 abbrev pub token_here : Option ℕ → ℕ → List ℕ → Option (TokenKind × ℕ)
 token_here call here text = if is_place call here then Some (Call, 4) else first_token text
 

@@ -30,7 +30,7 @@ pub enum TokenKind {
     Not,
     And,
     Or,
-    /// The word `CALL` of the call in a logical IF.
+    /// The lexeme `CALL` of the call in a logical IF.
     Call,
 }
 

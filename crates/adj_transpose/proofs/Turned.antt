@@ -7,14 +7,14 @@ use Rattle.adj_meaning.specs.Store.{Shape, Store}
 use Rattle.adj_meaning.specs.Run.{Calls}
 use Rattle.adj_meaning.specs.Leads.{Leads}
 use Rattle.adj_transpose.specs.Pairs.{Key, Words, shadows, SamePlain, on_words}
-use Rattle.adj_transpose.specs.Lists.{Kept, scene}
+use Rattle.adj_transpose.specs.Lists.{Course, scene}
 
 -- the helpers of the loops up to depth d are as they were
 pub record SameDepth (d : ℕ) (s s' : Store ℤ) : Type 0 where
   pub at : (r : Role) (i c : ℕ) → 2 < role_code r → i ≤ d → s' (helper r i) c ≡ s (helper r i) c
 
 -- the code turns the shadows as the transpose of `change`, and leaves the variables of the text
-pub record Turns (q : Calls ℤ) (sh : Var → Shape) (level : ℕ) (base : Kept) (xs : List Key) (d : ℕ) (c : Code) (s : Store ℤ) (t : List ℤ) (change : Words → Words) : Type 0 where
+pub record Turns (q : Calls ℤ) (sh : Var → Shape) (level : ℕ) (base : Course) (xs : List Key) (d : ℕ) (c : Code) (s : Store ℤ) (t : List ℤ) (change : Words → Words) : Type 0 where
   pub after : Store ℤ
   pub runs : Leads q (on_words sh level) c (scene base s t) (scene base after t)
   pub plains : SamePlain s after

@@ -10,11 +10,11 @@ use Rattle.adj_transpose.specs.Pairs.{Words, shadows}
 -- ---- scenes
 
 -- what straight code leaves as it is: how many reversals are open, and what happened so far
-pub record Kept : Type 0 where
+pub record Course : Type 0 where
   pub opened : ℕ
   pub events : List Event
 
-abbrev pub scene : {C : Type 0} → Kept → Store C → List C → Scene C
+abbrev pub scene : {C : Type 0} → Course → Store C → List C → Scene C
 scene base s t = record { store = s; tape = t; opened = base.opened; events = base.events }
 
 -- ---- stores

@@ -1,4 +1,4 @@
--- The word is one behind the left operand.
+-- The lexeme is one behind the left operand.
 use Rattle.adj_expression.specs.Stack.{stack_of, seen_of}
 use Rattle.adj_expression.proofs.ConditionSteps.{left_ends}
 use Rattle.adj_expression.proofs.inside.go_on_left.Goals as goal

@@ -1,4 +1,4 @@
--- The word is one behind the comparison.
+-- The lexeme is one behind the comparison.
 use Rattle.adj_expression.specs.Stack.{stack_of, seen_of}
 use Rattle.adj_expression.proofs.ConditionSteps.{right_ends}
 use Rattle.adj_expression.proofs.inside.go_on_right.Goals as goal

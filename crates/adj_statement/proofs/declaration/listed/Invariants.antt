@@ -4,11 +4,11 @@ use Rattle.adj_statement.specs.Flaws.{with_part}
 use Rattle.adj_statement.specs.Fronts.{front_list, front_item}
 use Rattle.adj_statement.specs.Phrases.{members_behind}
 use Rattle.adj_statement.specs.View.{item_of}
-use Rattle.adj_statement.specs.WordsView.{words_in}
+use Rattle.adj_statement.specs.LexemesView.{lexemes_in}
 use Rattle.adj_statement.proofs.declaration.listed.Given as goal
 
 abbrev pub invariant-loop-behind : goal.invariant-loop-behind
-invariant-loop-behind l = members_behind with_part front_item (seen (λ v. map item_of v.items) l.items) (words_in l.rest) ≡ front_list front_item (words_in l.fn.words)
+invariant-loop-behind l = members_behind with_part front_item (seen (λ v. map item_of v.items) l.items) (lexemes_in l.rest) ≡ front_list front_item (lexemes_in l.fn.lexemes)
 
 abbrev pub decreases-loop-behind : goal.decreases-loop-behind
-decreases-loop-behind l = length (words_in l.rest)
+decreases-loop-behind l = length (lexemes_in l.rest)

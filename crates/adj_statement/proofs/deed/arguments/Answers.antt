@@ -2,7 +2,7 @@ use Rattle.std.proofs.Common.{rules}
 use Rattle.adj_tree.specs.View.{term_of}
 use Rattle.adj_expression.specs.Front.{front_expression}
 use Rattle.adj_expression.specs.View.{seen}
-use Rattle.adj_statement.specs.WordsView.{words_in}
+use Rattle.adj_statement.specs.LexemesView.{lexemes_in}
 use Rattle.adj_statement.proofs.Members.{shorter_behind}
 use Rattle.adj_statement.proofs.Shorter.{front_expression-shortens}
 use Rattle.adj_statement.proofs.deed.arguments.Goals as goal
@@ -11,4 +11,4 @@ pub loop-behind-smaller : goal.loop-behind-smaller
 loop-behind-smaller c =
     let next = c.in-Some-2 in
     let comma = c.in-Some-behind_comma in
-    shorter_behind (front_expression c.args.limit) (front_expression-shortens c.args.limit) (words_in c.loop-behind.rest) (words_in comma.behind) (words_in next.others) (seen term_of next.next) (search rules) (search rules)
+    shorter_behind (front_expression c.args.limit) (front_expression-shortens c.args.limit) (lexemes_in c.loop-behind.rest) (lexemes_in comma.behind) (lexemes_in next.others) (seen term_of next.next) (search rules) (search rules)

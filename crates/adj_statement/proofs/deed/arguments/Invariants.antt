@@ -5,11 +5,11 @@ use Rattle.adj_expression.specs.View.{seen}
 use Rattle.adj_statement.specs.Flaws.{with_part}
 use Rattle.adj_statement.specs.Fronts.{front_list}
 use Rattle.adj_statement.specs.Phrases.{members_behind}
-use Rattle.adj_statement.specs.WordsView.{words_in}
+use Rattle.adj_statement.specs.LexemesView.{lexemes_in}
 use Rattle.adj_statement.proofs.deed.arguments.Given as goal
 
 abbrev pub invariant-loop-behind : goal.invariant-loop-behind
-invariant-loop-behind l = members_behind with_part (front_expression l.limit) (seen (λ v. map term_of v.items) l.all) (words_in l.rest) ≡ front_list (front_expression l.limit) (words_in l.fn.words)
+invariant-loop-behind l = members_behind with_part (front_expression l.limit) (seen (λ v. map term_of v.items) l.all) (lexemes_in l.rest) ≡ front_list (front_expression l.limit) (lexemes_in l.fn.lexemes)
 
 abbrev pub decreases-loop-behind : goal.decreases-loop-behind
-decreases-loop-behind l = length (words_in l.rest)
+decreases-loop-behind l = length (lexemes_in l.rest)

@@ -10,16 +10,16 @@ some_is : (p q : Phrase) → Some p ≡ Some q → p ≡ q
 some_is p q h = cc
 
 pub returns-clause-complete : goal.returns-clause-complete
-returns-clause-complete c = λ kind words p h. phrase_read h
+returns-clause-complete c = λ kind lexemes p h. phrase_read h
 
 pub returns-clause-sound : goal.returns-clause-sound
-returns-clause-sound c = λ kind words. phrase_said kind words
+returns-clause-sound c = λ kind lexemes. phrase_said kind lexemes
 
 pub returns-clause-one : goal.returns-clause-one
-returns-clause-one c = λ kind words p q h k. some_is p q (sym (phrase_read h) ∙ phrase_read k)
+returns-clause-one c = λ kind lexemes p q h k. some_is p q (sym (phrase_read h) ∙ phrase_read k)
 
 pub returns-clause-forms : goal.returns-clause-forms
-returns-clause-forms c = λ mark kind words p f h k m. form_reads h f k m
+returns-clause-forms c = λ mark kind lexemes p f h k m. form_reads h f k m
 
 pub returns-clause-phrases : goal.returns-clause-phrases
-returns-clause-phrases c = λ mark kind words f h. form_says h
+returns-clause-phrases c = λ mark kind lexemes f h. form_says h
