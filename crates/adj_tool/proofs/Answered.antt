@@ -11,7 +11,7 @@ use Rattle.adj_answer.specs.declared.answer.Answer.{Answer}
 use Rattle.adj_tool.specs.Answer.{most_bytes, AnswersText, AnswersSized, AnswersWanted}
 use Rattle.adj_running.specs.Running.{Asked}
 use Rattle.adj_tool.specs.Check.{AnswersTextCheck, AnswersSizedCheck, AnswersCheck}
-use Rattle.adj_tool.specs.Words.{Request}
+use Rattle.adj_tool.specs.Arguments.{Request}
 use Rattle.adj_tool.specs.declared.task.Wanted.{Wanted}
 
 pub answered : {E : Type 0} (w : Wanted) (r : Request) (bytes : List ℕ) → length bytes ≤ most_bytes → (found : Result (List Procedure) Refusal) → IsProgram Source bytes found → (result : Result Answer E) → IfOk result (λ a. AnswersText w r found (answer_of a)) → IfOk result (λ a. AnswersWanted w r bytes (answer_of a))

@@ -1,7 +1,7 @@
 -- A call whose answer is the text of an adjoint has the property of the headline, and one whose answer tells equal products that of a comparison.
 use Rattle.std.proofs.Common.{◌≡◌, ℕ, List, Option, Some, None}
 use Rattle.adj_io.specs.Bytes.{extended_by}
-use Rattle.adj_tool.specs.Words.{Command, Adjoint, Plan, Run, Check, Schedule}
+use Rattle.adj_tool.specs.Arguments.{Command, Adjoint, Plan, Run, Check, Schedule}
 use Rattle.adj_tool.specs.Tool.{IsAdjoinedTo, IsComparedTo, IsComparison, IsHeadline}
 
 pub headline : (asked : Option Command) (before after written_before written_after : Option (List ℕ)) (text : List ℕ) → IsAdjoinedTo asked before after text → written_after ≡ extended_by written_before text → IsHeadline asked before after written_before written_after

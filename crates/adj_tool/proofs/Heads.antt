@@ -46,7 +46,7 @@ use Rattle.adj_tool.specs.Planned.{IsEmittedFor, AreExact, IsAdjointText, IsText
 use Rattle.adj_tool.specs.declared.task.Wanted.{Wanted}
 use Rattle.adj_tool.specs.declared.task.Wanted.TheVariants as wanted
 use Rattle.adj_weave.specs.Shared.{IsCheckedBySome}
-use Rattle.adj_tool.specs.Words.{Request}
+use Rattle.adj_tool.specs.Arguments.{Request}
 use Rattle.adj_answer.specs.Answer.{Answer}
 use Rattle.adj_answer.specs.Laws.{ProgramTold}
 use Rattle.adj_parse.specs.Trees.{program_of}

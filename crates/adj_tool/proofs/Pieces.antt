@@ -1,7 +1,7 @@
--- How a list word is cut at its commas.
+-- How a list argument is cut at its commas.
 use Rattle.std.proofs.Common.{◌≡◌, ◌≢◌, ℕ, zero, suc, ◌+◌, ◌<◌, false, eqb, List, [], ◌∷◌, length, get_or, take, drop, refl, arith, add-one}
 use Rattle.std.proofs.lemmas.Bool.{ne_eqb}
-use Rattle.adj_tool.specs.Words.{pieces}
+use Rattle.adj_tool.specs.Arguments.{pieces}
 
 cut_at : (n : ℕ) (w : List ℕ) → n < length w → get_or w n 0 ≡ 44 → ((k : ℕ) → k < n → get_or w k 0 ≢ 44) → pieces w ≡ take n w ∷ pieces (drop (suc n) w)
 unfolding pieces

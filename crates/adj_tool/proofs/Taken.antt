@@ -1,4 +1,4 @@
--- What the words ask for, from what `clap` says of a parse.
+-- What the arguments ask for, from what `clap` says of a parse.
 use Rattle.std.proofs.Common.{◌≡◌, ◌≢◌, ◌⊎◌, inl, inr, List, [], ◌∷◌, true, map, refl, sym, ap, ◌∙◌, None}
 use Rattle.clap.specs.Walk.{Row, Text}
 use Rattle.clap.specs.Simple.{App, is_simple, matches_of}
@@ -6,7 +6,7 @@ use Rattle.clap.specs.Faults.{fault_of, is_simple_and_free}
 use Rattle.clap.specs.Kinds.{Kinds, IsAmong}
 use Rattle.clap.specs.declared.error.kind.ErrorKind.{ErrorKind}
 use Rattle.clap.proofs.OnLiterals.{clap_on_literals}
-use Rattle.adj_tool.specs.Words.{program, asked, taken, taken_by}
+use Rattle.adj_tool.specs.Arguments.{program, asked, taken, taken_by}
 
 -- the command line is one of which clap says all
 pub program_is_simple : is_simple program ≡ true
@@ -17,12 +17,12 @@ pub program_is_free : is_simple_and_free program ≡ true
 unfolding clap_on_literals
 program_is_free = refl
 
--- words that are seen as themselves
+-- arguments that are seen as themselves
 pub map_same : (ws : List Text) → map (λ w. w) ws ≡ ws
 map_same [] = refl
 map_same (w ∷ ws) = ap (λ vs. w ∷ vs) (map_same ws)
 
--- what a parse says of the command line and the words, it says of what is taken
+-- what a parse says of the command line and the arguments, it says of what is taken
 taken_from : (app : App) → app ≡ program → (ws vs : List Text) → ws ≡ vs → taken vs ≡ taken_by (fault_of app ws) (matches_of app ws)
 unfolding taken
 taken_from app e ws vs w = λ i. taken_by (fault_of (sym e i) (sym w i)) (matches_of (sym e i) (sym w i))

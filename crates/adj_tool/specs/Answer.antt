@@ -19,7 +19,7 @@ use Rattle.adj_revolve.specs.declared.machine.Action.{Action}
 use Rattle.adj_revolve.specs.declared.machine.Action.TheVariants.{Store, Advance, Turn, Keep, Drop}
 use Rattle.adj_revolve.specs.Schedule.{schedule_of}
 use Rattle.adj_revolve.specs.LeastCost.{least_cost}
-use Rattle.adj_tool.specs.Words.{Request}
+use Rattle.adj_tool.specs.Arguments.{Request}
 use Rattle.adj_tool.specs.declared.task.Wanted.{Wanted}
 use Rattle.adj_tool.specs.declared.task.Wanted.TheVariants as wanted
 use Rattle.adj_tool.specs.Planned.{AreExact}

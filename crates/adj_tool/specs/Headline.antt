@@ -23,7 +23,7 @@ use Rattle.adj_tree.specs.declared.marks.Head.{Head}
 use Rattle.adj_kernel.specs.Stepped.{kernel_of}
 use Rattle.adj_tool.specs.Fitting.{kernel_fits}
 use Rattle.adj_tool.specs.Planned.{AreExact}
-use Rattle.adj_tool.specs.Words.{Request}
+use Rattle.adj_tool.specs.Arguments.{Request}
 use Rattle.adj_readable.specs.Reading.{OrTooMany}
 use Rattle.adj_answer.specs.Answer.{Answer}
 use Rattle.adj_answer.specs.Programs.{TextIs}

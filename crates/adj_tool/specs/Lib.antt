@@ -1,5 +1,5 @@
 pub mod Fitting
-pub mod Words
+pub mod Arguments
 pub mod Planned
 pub mod Answer
 pub mod Headline

@@ -4,7 +4,7 @@ use Rattle.adj_io.specs.Bytes.{IsAtEnd, extended_by, followed_by}
 use Rattle.adj_answer.specs.Answer.{Answer, usage}
 use Rattle.adj_running.specs.Running as running
 use Rattle.adj_running.specs.Running.{Asked, AnswersRun}
-use Rattle.adj_tool.specs.Words.{Command, Request, Adjoint, Plan, Run, Check, Schedule}
+use Rattle.adj_tool.specs.Arguments.{Command, Request, Adjoint, Plan, Run, Check, Schedule}
 use Rattle.adj_tool.specs.Headline.{WritesAdjoint}
 use Rattle.adj_tool.specs.Check.{AnswersCheck, ChecksAdjoint}
 use Rattle.adj_tool.specs.Answer.{schedule_answer, AnswersWanted, most_bytes}
@@ -17,7 +17,7 @@ pub record AnswersInput (most : ℕ) (Answers : List ℕ → Answer → Type 0) 
   pub enough : IsAtEnd after ⊎ (length bytes ≡ most + 1)
   pub answers : Answers bytes a
 
--- the answer to what the words ask for, where `before` and `after` are the bytes that the source had left before the call and has left after it
+-- the answer to what the arguments ask for, where `before` and `after` are the bytes that the source had left before the call and has left after it
 abbrev pub IsAnswer : Option Command → Option (List ℕ) → Option (List ℕ) → Answer → Type 0
 IsAnswer None before after a = (a ≡ usage) × (after ≡ before)
 IsAnswer (Some (Schedule l s)) before after a = (a ≡ schedule_answer l s) × (after ≡ before)
@@ -26,7 +26,7 @@ IsAnswer (Some (Plan r)) before after a = AnswersInput most_bytes (AnswersWanted
 IsAnswer (Some (Run r)) before after a = AnswersInput running.most_bytes (AnswersRun r) before after a
 IsAnswer (Some (Check r vars outvars)) before after a = AnswersInput most_bytes (AnswersCheck r vars outvars) before after a
 
--- the words ask for a command that reads
+-- the arguments ask for a command that reads
 abbrev pub ReadsInput : Option Command → Type 0
 ReadsInput (Some (Adjoint r)) = Unit {0}
 ReadsInput (Some (Plan r)) = Unit {0}

@@ -1,7 +1,8 @@
-//! The top call: what the program does for its words, its input and its output.
+//! The top call: what the program does for its arguments, its input and its output.
 #![tactic(auto)]
 
 mod answering;
+mod arguments;
 mod checking;
 mod planned;
 mod running;
@@ -11,7 +12,6 @@ mod task;
 mod text;
 mod top;
 mod values;
-mod words;
 
 pub use text::Text;
 pub use top::tool;

@@ -1,4 +1,4 @@
-//! One word of a command.
+//! One argument of a command.
 
 ghost use Rattle.std.specs.Prelude.{◌≡◌, ℕ, List, IfOk, string_bytes};
 
@@ -7,25 +7,25 @@ use std::alloc::Global;
 use std::convert::AsStr;
 use std::marker::Model;
 
-/// One word of a command, seen as its bytes.
+/// One argument of a command, seen as its bytes.
 #[derive(Drop)]
 pub struct Text {
-    word: String,
+    argument: String,
 }
 
 impl Model for Text {
     ghost Value = { List ℕ };
 
-    ghost view = { λ t. string_bytes t.word };
+    ghost view = { λ t. string_bytes t.argument };
 }
 
 impl Text {
-    /// The word with these bytes.
-    pub fn new(alloc: Global, word: &str) -> Result<Text, Memory>
-        ensures bytes { IfOk result (λ t. t ≡ word.now) }
+    /// The argument with these bytes.
+    pub fn new(alloc: Global, argument: &str) -> Result<Text, Memory>
+        ensures bytes { IfOk result (λ t. t ≡ argument.now) }
     {
-        let word = word.to_string(alloc)?;
-        Ok(Text { word })
+        let argument = argument.to_string(alloc)?;
+        Ok(Text { argument })
     }
 }
 
@@ -33,6 +33,6 @@ impl AsStr for Text {
     ghost text = { λ t. t };
 
     fn as_str(&self) -> &str {
-        self.word.as_str()
+        self.argument.as_str()
     }
 }

@@ -2,20 +2,20 @@
 
 ghost use Rattle.std.specs.Prelude.{◌≡◌, ◌<◌, ◌⊎◌, IfOk, IsErrOf};
 ghost use Rattle.adj_io.specs.Faults.{Rose};
-ghost use Rattle.adj_tool.specs.Words.{taken};
+ghost use Rattle.adj_tool.specs.Arguments.{taken};
 ghost use Rattle.adj_answer.specs.Views.{answer_of};
 ghost use Rattle.adj_tool.specs.Answer.{AnswersWanted, most_bytes};
 ghost use Rattle.adj_tool.specs.Views.{request_of};
 ghost use Rattle.adj_tool.specs.Tool.{AdjoinsInput, AnswersInput, IsAdjoinedTo, IsAnswer, IsComparedTo, IsComparison, IsHeadline, ReadsInput, WritesAll, WritesFront};
 
 use crate::answering::answer_wanted;
+use crate::arguments::take;
 use crate::checking::check_input;
 use crate::running::run_input;
 use crate::schedule::schedule;
 use crate::stop::Stop;
 use crate::task::{Request, Task, Wanted};
 use crate::text::Text;
-use crate::words::take;
 use adj_answer::{Answer, refused, usage};
 use adj_io::{ReadError, Sink, Source, WriteFault, read_all, write_all};
 use adj_tree::Refusal;
@@ -49,16 +49,20 @@ fn answer_input<S: Source>(
     }
 }
 
-// The answer to the words, and to the input where they ask for a command that reads.
-fn answer_words<S: Source>(alloc: Global, words: &[Text], input: &mut S) -> Result<Answer, Stop>
-    ensures answer { IfOk result (λ a. IsAnswer (taken words.now) (S.left input.old) (S.left input.new) (answer_of a)) }
-    ensures adjoint { IfOk result (λ a. (answer_of a).status ≡ 0 → IsAdjoinedTo (taken words.now) (S.left input.old) (S.left input.new) a.text.items) }
-    ensures compared { IfOk result (λ a. (answer_of a).status ≡ 0 → IsComparedTo (taken words.now) (S.left input.old) (S.left input.new) a.text.items) }
+// The answer to the arguments, and to the input where they ask for a command that reads.
+fn answer_arguments<S: Source>(
+    alloc: Global,
+    arguments: &[Text],
+    input: &mut S,
+) -> Result<Answer, Stop>
+    ensures answer { IfOk result (λ a. IsAnswer (taken arguments.now) (S.left input.old) (S.left input.new) (answer_of a)) }
+    ensures adjoint { IfOk result (λ a. (answer_of a).status ≡ 0 → IsAdjoinedTo (taken arguments.now) (S.left input.old) (S.left input.new) a.text.items) }
+    ensures compared { IfOk result (λ a. (answer_of a).status ≡ 0 → IsComparedTo (taken arguments.now) (S.left input.old) (S.left input.new) a.text.items) }
     ensures fault { IsErrOf result Stop.ReadFault → Rose (S.faults input.old) (S.faults input.new) }
-    ensures reads { IsErrOf result Stop.ReadFault → ReadsInput (taken words.now) }
-    ensures unread { (ReadsInput (taken words.now) → ⊥) → S.left input.new ≡ S.left input.old }
+    ensures reads { IsErrOf result Stop.ReadFault → ReadsInput (taken arguments.now) }
+    ensures unread { (ReadsInput (taken arguments.now) → ⊥) → S.left input.new ≡ S.left input.old }
 {
-    let Some(task) = take(alloc, words)? else {
+    let Some(task) = take(alloc, arguments)? else {
         let answer = usage(alloc)?;
         return Ok(answer);
     };
@@ -86,26 +90,31 @@ fn answer_words<S: Source>(alloc: Global, words: &[Text], input: &mut S) -> Resu
     }
 }
 
-/// Does what the words ask for, and answers the status of the program.
+/// Does what the arguments ask for, and answers the status of the program.
 ///
-/// 0: done. 1: the words are no command. 2: the text is refused. 3: the data have a fault. 4: a run trapped. 5: a run used up its
+/// 0: done. 1: the arguments are no command. 2: the text is refused. 3: the data have a fault. 4: a run trapped. 5: a run used up its
 /// statements. 6: a run found its tape full. 7: a read failed. 8: a write failed. 9: memory ran out.
-pub fn tool<S: Source, K: Sink>(alloc: Global, words: &[Text], input: &mut S, output: &mut K) -> u8
-    ensures answer { result < 7 → WritesAll (taken words.now) (S.left input.old) (S.left input.new) (K.taken output.old) (K.taken output.new) result }
+pub fn tool<S: Source, K: Sink>(
+    alloc: Global,
+    arguments: &[Text],
+    input: &mut S,
+    output: &mut K,
+) -> u8
+    ensures answer { result < 7 → WritesAll (taken arguments.now) (S.left input.old) (S.left input.new) (K.taken output.old) (K.taken output.new) result }
     ensures read_fault { result ≡ 7 → Rose (S.faults input.old) (S.faults input.new) }
-    ensures reads { result ≡ 7 → ReadsInput (taken words.now) }
-    // A command that doesn't read, and words that are none, leave the input as it was, whatever the status.
-    ensures unread { (ReadsInput (taken words.now) → ⊥) → S.left input.new ≡ S.left input.old }
+    ensures reads { result ≡ 7 → ReadsInput (taken arguments.now) }
+    // A command that doesn't read, and arguments that are none, leave the input as it was, whatever the status.
+    ensures unread { (ReadsInput (taken arguments.now) → ⊥) → S.left input.new ≡ S.left input.old }
     ensures write_fault { result ≡ 8 → Rose (K.faults output.old) (K.faults output.new) }
-    ensures front { result ≡ 8 → WritesFront (taken words.now) (S.left input.old) (S.left input.new) (K.taken output.old) (K.taken output.new) }
+    ensures front { result ≡ 8 → WritesFront (taken arguments.now) (S.left input.old) (S.left input.new) (K.taken output.old) (K.taken output.new) }
     ensures unwritten { (result ≡ 7) ⊎ (result ≡ 9) → K.taken output.new ≡ K.taken output.old }
     // Where `adjoint` is done, what was written is an adjoint of what was read.
-    ensures headline { result ≡ 0 → IsHeadline (taken words.now) (S.left input.old) (S.left input.new) (K.taken output.old) (K.taken output.new) }
+    ensures headline { result ≡ 0 → IsHeadline (taken arguments.now) (S.left input.old) (S.left input.new) (K.taken output.old) (K.taken output.new) }
     // Where `check` is done, the two products that were written are equal, and the adjoint never trapped.
-    ensures compared { result ≡ 0 → IsComparison (taken words.now) (S.left input.old) (S.left input.new) (K.taken output.old) (K.taken output.new) }
+    ensures compared { result ≡ 0 → IsComparison (taken arguments.now) (S.left input.old) (S.left input.new) (K.taken output.old) (K.taken output.new) }
     ensures status { result < 10 }
 {
-    match answer_words(alloc, words, input) {
+    match answer_arguments(alloc, arguments, input) {
         Ok(answer) => match write_all(output, answer.text.as_slice()) {
             Ok(()) => answer.status.number(),
             Err(WriteFault) => 8,

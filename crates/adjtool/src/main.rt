@@ -1,4 +1,4 @@
-//! The program: it hands its words and the real streams to the top call, and ends with its status.
+//! The program: it hands its arguments and the real streams to the top call, and ends with its status.
 //!
 //! It stands on the top call and on the streams, and claims nothing of its own: what standard input gives and what
 //! standard output takes no clause can say.
@@ -9,7 +9,7 @@ use adj_tool::{Text, tool};
 use std::process::ExitCode;
 use std::{env, io};
 
-/// The words aren't those of a command.
+/// The arguments aren't those of a command.
 const USAGE: u8 = 1;
 
 /// Memory ran out.
@@ -28,15 +28,15 @@ fn status(error: &io::Error) -> u8 {
     }
 }
 
-// The words behind the program's own name, or the status that it ends with where they can't be had.
-fn words(rt: &HostRuntime) -> Result<Vec<Text>, u8> {
+// The arguments behind the program's own name, or the status that it ends with where they can't be had.
+fn arguments(rt: &HostRuntime) -> Result<Vec<Text>, u8> {
     let args = env::args(rt).map_err(|error| status(&error))?;
-    let mut words = Vec::new(rt.alloc());
+    let mut arguments = Vec::new(rt.alloc());
     for arg in args.skip(1) {
-        let word = Text::new(rt.alloc(), arg.as_str()).map_err(|_| MEMORY)?;
-        words.push(word).map_err(|_| MEMORY)?;
+        let argument = Text::new(rt.alloc(), arg.as_str()).map_err(|_| MEMORY)?;
+        arguments.push(argument).map_err(|_| MEMORY)?;
     }
-    Ok(words)
+    Ok(arguments)
 }
 
 // Touches the stack, so that it stays there when memory runs out. Each call looks at its room behind the deeper calls,
@@ -53,14 +53,14 @@ fn stack_taken(calls: u32, place: usize) -> usize {
 }
 
 fn main(rt: HostRuntime) -> ExitCode {
-    let words = match words(&rt) {
-        Ok(words) => words,
+    let arguments = match arguments(&rt) {
+        Ok(arguments) => arguments,
         Err(status) => return ExitCode::from(status),
     };
-    if stack_taken(CALLS, words.len()) > 1 {
+    if stack_taken(CALLS, arguments.len()) > 1 {
         return ExitCode::from(MEMORY);
     }
     let mut input = StdSource::new(rt.reader());
     let mut output = StdSink::new(io::writer(&rt));
-    ExitCode::from(tool(rt.alloc(), words.as_slice(), &mut input, &mut output))
+    ExitCode::from(tool(rt.alloc(), arguments.as_slice(), &mut input, &mut output))
 }

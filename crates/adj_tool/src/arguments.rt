@@ -1,7 +1,7 @@
-//! The words of a command, as `clap` reads them.
+//! The arguments of a command, as `clap` reads them.
 
 ghost use Rattle.std.specs.Prelude.{◌≡◌, ◌≤◌, false, not, is_some, ℕ, List, ◌∷◌, IfOk, IfSome, Option, option_map, option_and_then, map, codes};
-ghost use Rattle.adj_tool.specs.Words.{bare_program, program, command_rule, numbers_rule, option_rule, lacks, name_of, names_of, request_asked, adjoint_asked, plan_asked, number_or, limits_asked, run_asked, check_asked, schedule_asked, numbers_asked, command_asked, asked, taken};
+ghost use Rattle.adj_tool.specs.Arguments.{bare_program, program, command_rule, numbers_rule, option_rule, lacks, name_of, names_of, request_asked, adjoint_asked, plan_asked, number_or, limits_asked, run_asked, check_asked, schedule_asked, numbers_asked, command_asked, asked, taken};
 ghost use Rattle.adj_running.specs.Views.{asked_of};
 ghost use Rattle.adj_tool.specs.Views.{command_of, some_request};
 ghost use Rattle.clap.specs.Simple.{app_of, with_rule};
@@ -33,7 +33,7 @@ fn command_argument<'a>(alloc: Global) -> Arg<'a>
     Arg::new(alloc, "command").required(true)
 }
 
-// Any words behind it that are no options.
+// Any arguments behind it that are no options.
 fn numbers_argument<'a>(alloc: Global) -> Arg<'a>
     ensures rule { rule_of result ≡ numbers_rule }
     ensures local { result.global ≡ false }
@@ -41,7 +41,7 @@ fn numbers_argument<'a>(alloc: Global) -> Arg<'a>
     Arg::new(alloc, "numbers").num_args(1..)
 }
 
-// A command line with no arguments, whose first word is no program's name.
+// A command line with no arguments, whose first argument is no program's name.
 fn bare_line<'a>(alloc: Global) -> Command<'a>
     ensures { app_of result ≡ bare_program }
 {
@@ -96,7 +96,7 @@ fn name_option(alloc: Global, matches: &ArgMatches<'_>, id: &str) -> Result<Opti
     ensures { IfOk result (λ r. r ≡ option_and_then name_of (first_of id.now (rows_of (found_of matches.now)))) }
 {
     match value(matches, id) {
-        Some(word) => name_of(alloc, word.as_bytes()),
+        Some(argument) => name_of(alloc, argument.as_bytes()),
         None => Ok(None),
     }
 }
@@ -109,7 +109,7 @@ fn list_option(
     ensures { IfOk result (λ r. r ≡ option_and_then names_of (first_of id.now (rows_of (found_of matches.now)))) }
 {
     match value(matches, id) {
-        Some(word) => names_of(alloc, word.as_bytes()),
+        Some(argument) => names_of(alloc, argument.as_bytes()),
         None => Ok(None),
     }
 }
@@ -170,7 +170,7 @@ fn number_option(
     ensures within { IfSome result (λ n. n ≤ most) }
 {
     match value(matches, id) {
-        Some(word) => number_in(least, most, word.as_bytes()),
+        Some(argument) => number_in(least, most, argument.as_bytes()),
         None => Some(other),
     }
 }
@@ -285,12 +285,12 @@ fn task_asked(alloc: Global, matches: &ArgMatches<'_>) -> Result<Option<Task>, M
     Ok(None)
 }
 
-/// What the words ask for, or none where they are no command.
-pub fn take(alloc: Global, words: &[Text]) -> Result<Option<Task>, Memory>
-    ensures taken { IfOk result (λ r. option_map command_of r ≡ taken words.now) }
+/// What the arguments ask for, or none where they are no command.
+pub fn take(alloc: Global, arguments: &[Text]) -> Result<Option<Task>, Memory>
+    ensures taken { IfOk result (λ r. option_map command_of r ≡ taken arguments.now) }
 {
     let line = command_line(alloc)?;
-    match line.try_get_matches_from(words) {
+    match line.try_get_matches_from(arguments) {
         Ok(matches) => task_asked(alloc, &matches),
         Err(error) => match error.kind() {
             ErrorKind::OutOfMemory => Err(Memory),

@@ -1,4 +1,4 @@
--- Words: what the program is asked to do.
+-- Arguments: what the program is asked to do.
 use Rattle.std.specs.Prelude.{ℕ, ◌-◌, ◌^◌, ◌==◌, nat_le, List, [], ◌∷◌, length, map, Bool, true, false, not, ◌&&◌, ◌||◌, if◌then◌else◌, Option, Some, None, is_some, option_map, option_and_then, codes}
 use Rattle.std.specs.List.{list_all}
 use Rattle.std.specs.Str.{bytes_eq}
@@ -19,15 +19,15 @@ option_rule name = record (new_rule name) { long = Some name }
 abbrev pub command_rule : Rule
 command_rule = record (new_rule (codes "command")) { required = true }
 
--- the words behind it that are no options
+-- the arguments behind it that are no options
 abbrev pub numbers_rule : Rule
 numbers_rule = record (new_rule (codes "numbers")) { range = Some (record { start_inclusive = 1; end_inclusive = 2 ^ 64 - 1 }) }
 
--- a command line without arguments, whose words begin behind the program's own name
+-- a command line without arguments, whose arguments begin behind the program's own name
 abbrev pub bare_program : App
 bare_program = on_top (λ s. record s { no_binary_name = true }) (new_app (codes "adjtool"))
 
--- what the words may be: a command, numbers, and options with a value each
+-- what the arguments may be: a command, numbers, and options with a value each
 abbrev pub program : App
 program =
     with_rule (with_rule (with_rule (with_rule (with_rule (with_rule (with_rule bare_program
@@ -43,20 +43,20 @@ is_letter c = is_capital c || is_small c
 abbrev pub is_name_byte : ℕ → Bool
 is_name_byte c = is_letter c || (is_digit c || c == underscore)
 
--- a name word: a letter and then letters, digits and `_`, at most 63 characters
-abbrev pub is_name_word : Text → Bool
-is_name_word [] = false
-is_name_word (c ∷ cs) = is_letter c && (list_all is_name_byte cs && nat_le (length (c ∷ cs)) 63)
+-- a name argument: a letter and then letters, digits and `_`, at most 63 characters
+abbrev pub is_name_argument : Text → Bool
+is_name_argument [] = false
+is_name_argument (c ∷ cs) = is_letter c && (list_all is_name_byte cs && nat_le (length (c ∷ cs)) 63)
 
--- the name of a name word, in upper case
+-- the name of a name argument, in upper case
 abbrev pub name_of : Text → Option Text
-name_of w = if is_name_word w then Some (map upper w) else None
+name_of w = if is_name_argument w then Some (map upper w) else None
 
 abbrev pub in_front : ℕ → List Text → List Text
 in_front c [] = (c ∷ []) ∷ []
 in_front c (w ∷ ws) = (c ∷ w) ∷ ws
 
--- the pieces of a word between its commas
+-- the pieces of an argument between its commas
 unfoldable pub pieces : Text → List Text
 pieces [] = [] ∷ []
 pieces (c ∷ cs) = if c == 44 then [] ∷ pieces cs else in_front c (pieces cs)
@@ -66,11 +66,11 @@ abbrev pub pieces_behind : Option Text → List Text
 pieces_behind None = []
 pieces_behind (Some w) = pieces w
 
--- the names of a list word, in upper case: name words separated by single commas
+-- the names of a list argument, in upper case: name arguments separated by single commas
 abbrev pub names_of : Text → Option (List Text)
-names_of w = if list_all is_name_word (pieces w) then Some (map (map upper) (pieces w)) else None
+names_of w = if list_all is_name_argument (pieces w) then Some (map (map upper) (pieces w)) else None
 
--- the number of a number word, 1 to 20 digits, where it lies from `least` to `most`
+-- the number of a number argument, 1 to 20 digits, where it lies from `least` to `most`
 abbrev pub number_in : ℕ → ℕ → Text → Option ℕ
 number_in least most w =
     if (nat_le 1 (length w) && nat_le (length w) 20) && (list_all is_digit w && (nat_le least (number_of w) && nat_le (number_of w) most))
@@ -126,7 +126,7 @@ abbrev pub with_limits : Option Text → Option ℕ → Option ℕ → Option As
 with_limits (Some head) (Some budget) (Some room) = Some (record { head = head; budget = budget; room = room })
 with_limits _ _ _ = None
 
--- --head NAME, with at most 100000000 statements or --budget N, and a tape for 16777216 words or --tape N
+-- --head NAME, with at most 100000000 statements or --budget N, and a tape for 16777216 arguments or --tape N
 abbrev pub limits_asked : List Row → Option Asked
 limits_asked rows = with_limits (option_and_then name_of (first_of (codes "head") rows)) (number_or 100000000 1 9223372036854775807 (first_of (codes "budget") rows)) (number_or 16777216 0 134217728 (first_of (codes "tape") rows))
 
@@ -179,6 +179,6 @@ abbrev pub taken_by : Kinds → List Row → Option Command
 taken_by [] rows = asked rows
 taken_by (fault ∷ faults) rows = None
 
--- what the words ask for, by the definition of the command line and the checks on values
+-- what the arguments ask for, by the definition of the command line and the checks on values
 unfoldable pub taken : List Text → Option Command
-taken words = taken_by (fault_of program words) (matches_of program words)
+taken arguments = taken_by (fault_of program arguments) (matches_of program arguments)

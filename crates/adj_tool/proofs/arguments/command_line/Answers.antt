@@ -1,6 +1,6 @@
 use Rattle.std.proofs.Common.{ap₂, ◌∙◌}
 use Rattle.clap.specs.Simple.{with_rule}
-use Rattle.adj_tool.proofs.words.command_line.Goals as goal
+use Rattle.adj_tool.proofs.arguments.command_line.Goals as goal
 
 pub returns : goal.returns
 returns c =
