@@ -6,11 +6,11 @@ pub record Answer : Type 0 where
   pub status : ℕ
   pub text : List ℕ
 
--- a line of a word and a number
+-- a line of a keyword and a number
 abbrev pub line_of_one : List ℕ → ℕ → List ℕ
-line_of_one word p = word ++ decimal p ++ codes "\n"
+line_of_one keyword p = keyword ++ decimal p ++ codes "\n"
 
--- words that are no command
+-- arguments that are no command
 abbrev pub usage : Answer
 usage = record { status = 1; text = codes "USAGE\n" }
 

@@ -37,13 +37,13 @@ AreOfText mode stated = (bytes : List ℕ) × AreStatements mode bytes (Ok state
 
 -- ---- units
 
--- the words of statements derive these units
+-- the lexemes of statements derive these units
 pub record DeriveUnits (stated : List Stated) (units : List Procedure) : Type 0 where
   pub statements : List Statement
   pub lexemes_derive : ReadsAll stated statements
   pub units_derive : ReadsUnits statements units
 
--- what statements are as units in a mode: refused by their first fault, up to which they read, and where they have none the units that their words derive
+-- what statements are as units in a mode: refused by their first fault, up to which they read, and where they have none the units that their lexemes derive
 abbrev pub AreUnits : Mode → List Stated → Result (List Procedure) Refusal → Type 0
 AreUnits mode stated (Ok units) = AreFaultless (TreeFault mode) [] stated × DeriveUnits stated units
 AreUnits mode stated (Err r) = IsFirst (TreeFault mode) [] stated r × ReadsUpTo mode stated r

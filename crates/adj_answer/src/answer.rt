@@ -13,7 +13,7 @@ use std::alloc::Global;
 pub enum Status {
     /// The command was done.
     Done,
-    /// The words are no command.
+    /// The arguments are no command.
     Usage,
     /// The text is refused.
     Refused,
@@ -52,17 +52,17 @@ pub struct Answer {
     pub text: Vec<u8>,
 }
 
-/// Writes the decimal digits of a number behind a word.
-pub fn push_number(text: &mut Vec<u8>, word: &[u8], number: u128) -> Result<(), Memory>
-    ensures { OnOk result (text.new.items ≡ text.old.items ++ word.now ++ decimal number) }
+/// Writes the decimal digits of a number behind a keyword.
+pub fn push_number(text: &mut Vec<u8>, keyword: &[u8], number: u128) -> Result<(), Memory>
+    ensures { OnOk result (text.new.items ≡ text.old.items ++ keyword.now ++ decimal number) }
 {
     let mut buffer = Buffer::new();
-    text.extend_from_slice(word)?;
+    text.extend_from_slice(keyword)?;
     text.extend_from_slice(buffer.format(number).as_bytes())?;
     Ok(())
 }
 
-/// The answer to words that are no command.
+/// The answer to arguments that are no command.
 pub fn usage(alloc: Global) -> Result<Answer, Memory>
     ensures { IfOk result (λ a. answer_of a ≡ usage) }
 {

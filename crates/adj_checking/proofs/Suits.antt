@@ -8,7 +8,7 @@ use Rattle.adj_meaning.specs.Units.{Slot, fits}
 use Rattle.adj_tree.proofs.Names.{nat_same}
 use Rattle.adj_transpose.specs.Adjoint.{AreAlike, AreTangents, AreZeros, OthersAreZero, IsDirection, cells_of}
 use Rattle.adj_data.specs.Entries.{Entry, entries_of, entry_named}
-use Rattle.adj_data.specs.Faults.{Fault, or_else, fault_at, words_of, words_fault, dummies_fault}
+use Rattle.adj_data.specs.Faults.{Fault, or_else, fault_at, data_items, items_fault, dummies_fault}
 use Rattle.adj_data.specs.Fitting.{IsSized}
 use Rattle.adj_data.specs.Given.{slot_given}
 use Rattle.adj_data.specs.Marked.{Wanted, wanted, titles_of, tangent_mark, adjoint_mark, mark_fault, marks_fault, slots_of, entries_check, check_fault, zeros_like, filled, marked_slot, marked_slots, inputs_given, tangents_given, adjoints_given}
@@ -76,10 +76,10 @@ as_tangents (v ∷ vs) (w ∷ ws) a = (a.1.0, as_tangents vs ws a.1.1)
 pub suits : (p : Sides) → IsSized p.head → length p.vars ≡ length p.head.dummies → length p.outvars ≡ length p.head.dummies → (line : ℕ) (bytes : List ℕ) → check_fault line bytes p.head p.vars p.outvars ≡ None → SuitsHead p (given_by p line bytes)
 suits p sized vars outvars line bytes none =
     let u = p.head in
-    let es = entries_of (words_of true line bytes) in
+    let es = entries_of (data_items true line bytes) in
     let vs = slots_of es u in
     let many : length vs ≡ length u.dummies = length-map u.dummies (slot_given es u) in
-    let first = neither (words_fault (titles_of u p.vars p.outvars) [] (words_of true line bytes)) (entries_check es u p.vars p.outvars) none in
+    let first = neither (items_fault (titles_of u p.vars p.outvars) [] (data_items true line bytes)) (entries_check es u p.vars p.outvars) none in
     let second = neither (dummies_fault es u u.dummies) (or_else (marks_fault es tangent_mark (wanted u.dummies p.vars vs)) (marks_fault es adjoint_mark (wanted u.dummies p.outvars vs))) first.1 in
     let third = neither (marks_fault es tangent_mark (wanted u.dummies p.vars vs)) (marks_fault es adjoint_mark (wanted u.dummies p.outvars vs)) second.1 in
     let tangents = alike es tangent_mark u.dummies p.vars vs vars many third.0 in

@@ -19,19 +19,19 @@ nothing_left xs rest whole none same = added_none xs ∙ ap (λ z. xs ++ z) (sym
 
 -- ---- lines of flagged names
 
-pub no_names : (word : List ℕ) (fs : List Bool) (xs : List (List ℕ)) (cs : List (List ℤ)) → length xs < 1 → flagged_lines word fs xs cs ≡ []
-no_names word [] xs cs h = refl
-no_names word (true ∷ fs) [] cs h = refl
-no_names word (false ∷ fs) [] cs h = refl
-no_names word (f ∷ fs) (x ∷ xs) cs h = absurd (omega (arith, h))
+pub no_names : (keyword : List ℕ) (fs : List Bool) (xs : List (List ℕ)) (cs : List (List ℤ)) → length xs < 1 → flagged_lines keyword fs xs cs ≡ []
+no_names keyword [] xs cs h = refl
+no_names keyword (true ∷ fs) [] cs h = refl
+no_names keyword (false ∷ fs) [] cs h = refl
+no_names keyword (f ∷ fs) (x ∷ xs) cs h = absurd (omega (arith, h))
 
-pub no_cells : (word : List ℕ) (fs : List Bool) (xs : List (List ℕ)) (vs : List CodeSlot) → length vs < 1 → flagged_lines word fs xs (cells_of (map slot_seen vs)) ≡ []
-no_cells word [] xs vs h = refl
-no_cells word (true ∷ fs) [] vs h = refl
-no_cells word (false ∷ fs) [] vs h = refl
-no_cells word (true ∷ fs) (x ∷ xs) [] h = refl
-no_cells word (false ∷ fs) (x ∷ xs) [] h = refl
-no_cells word (f ∷ fs) (x ∷ xs) (v ∷ vs) h = absurd (omega (arith, h))
+pub no_cells : (keyword : List ℕ) (fs : List Bool) (xs : List (List ℕ)) (vs : List CodeSlot) → length vs < 1 → flagged_lines keyword fs xs (cells_of (map slot_seen vs)) ≡ []
+no_cells keyword [] xs vs h = refl
+no_cells keyword (true ∷ fs) [] vs h = refl
+no_cells keyword (false ∷ fs) [] vs h = refl
+no_cells keyword (true ∷ fs) (x ∷ xs) [] h = refl
+no_cells keyword (false ∷ fs) (x ∷ xs) [] h = refl
+no_cells keyword (f ∷ fs) (x ∷ xs) (v ∷ vs) h = absurd (omega (arith, h))
 
 -- ---- inputs with their adjoints
 
@@ -102,7 +102,7 @@ in_turn : (xs ys zs : List ℕ) → (xs ++ ys) ++ zs ≡ xs ++ (ys ++ zs)
 in_turn [] ys zs = refl
 in_turn (x ∷ xs) ys zs = ap (λ z. x ∷ z) (in_turn xs ys zs)
 
--- a text to which three pieces were added, then one, and then a line of a word and a number
+-- a text to which three pieces were added, then one, and then a line of a keyword and a number
 pub joined_text : (a b c p w n e t0 t1 t2 t3 t4 t5 t6 : List ℕ) → t0 ≡ [] → t1 ≡ t0 ++ a → t2 ≡ t1 ++ b → t3 ≡ t2 ++ c → t4 ≡ t3 ++ p → t5 ≡ (t4 ++ w) ++ n → t6 ≡ t5 ++ e →
     t6 ≡ (a ++ (b ++ c)) ++ (p ++ ((w ++ n) ++ e))
 joined_text a b c p w n e t0 t1 t2 t3 t4 t5 t6 e0 e1 e2 e3 e4 e5 e6 =

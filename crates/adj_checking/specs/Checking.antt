@@ -48,16 +48,16 @@ adjoint_run r p d = run_unit words p.emitted p.adjoint (joined_by p.shadowed d.i
 
 -- ---- what is written
 
--- a line for each name: a word, the name and its values
+-- a line for each name: a keyword, the name and its values
 abbrev pub output_lines : List (List ℕ) → List (Slot ℤ) → List ℕ
 output_lines (x ∷ xs) (v ∷ vs) = codes "OUT " ++ (x ++ (numbers_text v.cells ++ (line_feed ∷ output_lines xs vs)))
 output_lines _ _ = []
 
 -- the same for the names that are flagged
 abbrev pub flagged_lines : List ℕ → List Bool → List (List ℕ) → List (List ℤ) → List ℕ
-flagged_lines word (true ∷ flags) (x ∷ xs) (c ∷ cs) = word ++ (x ++ (numbers_text c ++ (line_feed ∷ flagged_lines word flags xs cs)))
-flagged_lines word (false ∷ flags) (x ∷ xs) (c ∷ cs) = flagged_lines word flags xs cs
-flagged_lines word _ _ _ = []
+flagged_lines keyword (true ∷ flags) (x ∷ xs) (c ∷ cs) = keyword ++ (x ++ (numbers_text c ++ (line_feed ∷ flagged_lines keyword flags xs cs)))
+flagged_lines keyword (false ∷ flags) (x ∷ xs) (c ∷ cs) = flagged_lines keyword flags xs cs
+flagged_lines keyword _ _ _ = []
 
 abbrev pub products_line : ℤ → ℤ → List ℕ
 products_line a b = codes "PRODUCTS " ++ (signed_decimal a ++ (codes " " ++ (signed_decimal b ++ codes "\n")))

@@ -1,4 +1,4 @@
-//! Lines of values behind a word.
+//! Lines of values behind a keyword.
 
 ghost use Rattle.std.specs.Prelude.{◌≡◌, ◌++◌, ◌∷◌, [], map, OnOk};
 ghost use Rattle.adj_text.specs.Char.{line_feed};
@@ -11,11 +11,11 @@ use adj_data::push_numbers;
 use adj_tree::{Memory, Name, Slot};
 use itoa::Buffer;
 
-// A line with a word, a name and its values.
-fn push_line(out: &mut Vec<u8>, word: &[u8], name: &Name, cells: &[i64]) -> Result<(), Memory>
-    ensures { OnOk result (out.new.items ≡ out.old.items ++ (word.now ++ (name.now ++ (numbers_text cells.now ++ (line_feed ∷ []))))) }
+// A line with a keyword, a name and its values.
+fn push_line(out: &mut Vec<u8>, keyword: &[u8], name: &Name, cells: &[i64]) -> Result<(), Memory>
+    ensures { OnOk result (out.new.items ≡ out.old.items ++ (keyword.now ++ (name.now ++ (numbers_text cells.now ++ (line_feed ∷ []))))) }
 {
-    out.extend_from_slice(word)?;
+    out.extend_from_slice(keyword)?;
     out.extend_from_slice(name.bytes())?;
     push_numbers(out, cells)?;
     out.push(b'\n')?;
@@ -40,12 +40,12 @@ pub(crate) fn push_outputs(out: &mut Vec<u8>, names: &[Name], values: &[Slot]) -
 /// A line for each name that is flagged.
 pub(crate) fn push_flagged(
     out: &mut Vec<u8>,
-    word: &[u8],
+    keyword: &[u8],
     flags: &[bool],
     names: &[Name],
     values: &[Slot],
 ) -> Result<(), Memory>
-    ensures { OnOk result (out.new.items ≡ out.old.items ++ flagged_lines word.now flags.now names.now (cells_of (map slot_seen values.now))) }
+    ensures { OnOk result (out.new.items ≡ out.old.items ++ flagged_lines keyword.now flags.now names.now (cells_of (map slot_seen values.now))) }
 {
     let mut unnamed = names;
     let mut rest = values;
@@ -57,7 +57,7 @@ pub(crate) fn push_flagged(
             return Ok(());
         };
         if *flag {
-            push_line(out, word, name, slot.cells.as_slice())?;
+            push_line(out, keyword, name, slot.cells.as_slice())?;
         }
         unnamed = further;
         rest = behind;

@@ -1,32 +1,32 @@
--- The data of `check`, part by part: words, inputs, tangents and adjoints.
+-- The data of `check`, part by part: items, inputs, tangents and adjoints.
 use Rattle.std.proofs.Common.{◌≡◌, ℕ, Bool, true, List, [], map, sym, ap, subst, ◌∙◌, Option, None}
 use Rattle.std.specs.Prelude.{ℤ}
 use Rattle.adj_tree.specs.Code.{Procedure}
 use Rattle.adj_meaning.specs.Units.{Slot}
 use Rattle.adj_data.specs.declared.data_error.DataError.{DataError}
-use Rattle.adj_data.specs.Words.{Item}
-use Rattle.adj_data.specs.Entries.{Entry, entries_of, with_words}
+use Rattle.adj_data.specs.Items.{Item}
+use Rattle.adj_data.specs.Entries.{Entry, entries_of, with_items}
 use Rattle.adj_names.specs.Fresh.{has_name}
-use Rattle.adj_data.specs.Faults.{Fault, or_else, words_of, words_fault, entries_fault, dummies_fault}
+use Rattle.adj_data.specs.Faults.{Fault, or_else, data_items, items_fault, entries_fault, dummies_fault}
 use Rattle.adj_data.specs.Given.{IsFirstFault, slot_given}
 use Rattle.adj_data.specs.Marked.{wanted, titles_of, tangent_mark, adjoint_mark, marks_fault, marked_slots, slots_of, entries_check, check_fault, inputs_given, tangents_given, adjoints_given}
 use Rattle.adj_data.proofs.Entering.{entries_made, fault_made, faults_same, fault_first}
 
 module _ (line : ℕ) (bytes : List ℕ) (u : Procedure) (vars outvars : List Bool) (names : List (List ℕ)) (same : (x : List ℕ) → has_name x names ≡ has_name x (titles_of u vars outvars)) where
   abbrev ws : List Item
-  ws = words_of true line bytes
+  ws = data_items true line bytes
 
   abbrev whole : Option Fault
   whole = check_fault line bytes u vars outvars
 
-  words_same : entries_fault names [] ws ≡ words_fault (titles_of u vars outvars) [] ws
-  words_same = faults_same names (titles_of u vars outvars) same [] ws ∙ fault_made (titles_of u vars outvars) ws
+  items_same : entries_fault names [] ws ≡ items_fault (titles_of u vars outvars) [] ws
+  items_same = faults_same names (titles_of u vars outvars) same [] ws ∙ fault_made (titles_of u vars outvars) ws
 
-  -- a fault of words is the first
-  pub at_words : (e : DataError) → IsFirstFault e (entries_fault names [] ws) → IsFirstFault e whole
-  at_words e h = fault_first e (words_fault (titles_of u vars outvars) [] ws) (entries_check (entries_of ws) u vars outvars) (subst (IsFirstFault e) words_same h)
+  -- a fault of items is the first
+  pub at_items : (e : DataError) → IsFirstFault e (entries_fault names [] ws) → IsFirstFault e whole
+  at_items e h = fault_first e (items_fault (titles_of u vars outvars) [] ws) (entries_check (entries_of ws) u vars outvars) (subst (IsFirstFault e) items_same h)
 
-  module _ (es : List Entry) (made : es ≡ with_words [] ws) (none : entries_fault names [] ws ≡ None) where
+  module _ (es : List Entry) (made : es ≡ with_items [] ws) (none : entries_fault names [] ws ≡ None) where
     made_of : es ≡ entries_of ws
     made_of = made ∙ entries_made ws
 
@@ -38,7 +38,7 @@ module _ (line : ℕ) (bytes : List ℕ) (u : Procedure) (vars outvars : List Bo
 
     -- without one the others are left
     left : whole ≡ or_else (dummies_fault es u u.dummies) (or_else (tangents (slots_of es u)) (adjoints (slots_of es u)))
-    left = ap (λ o. or_else o (entries_check (entries_of ws) u vars outvars)) (sym words_same ∙ none) ∙ ap (λ z. entries_check z u vars outvars) (sym made_of)
+    left = ap (λ o. or_else o (entries_check (entries_of ws) u vars outvars)) (sym items_same ∙ none) ∙ ap (λ z. entries_check z u vars outvars) (sym made_of)
 
     pub at_dummies : (e : DataError) → IsFirstFault e (dummies_fault es u u.dummies) → IsFirstFault e whole
     at_dummies e h = subst (IsFirstFault e) (sym left) (fault_first e (dummies_fault es u u.dummies) (or_else (tangents (slots_of es u)) (adjoints (slots_of es u))) h)

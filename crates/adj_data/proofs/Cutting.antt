@@ -1,4 +1,4 @@
--- How a line is cut into words, word by word.
+-- How a line is cut into items, item by item.
 use Rattle.std.proofs.Common.{◌≡◌, ℕ, suc, ◌+◌, Bool, true, false, List, [], ◌∷◌, cond, length, take, drop, refl, sym, ap, ◌∙◌, arith, if◌then◌else◌}
 use Rattle.std.specs.Prelude.{filter, not}
 use Rattle.std.specs.List.{prefix_len}
@@ -6,41 +6,41 @@ use Rattle.std.proofs.lemmas.Bool.{ne_eqb}
 use Rattle.std.proofs.lemmas.List.Folds.{length-prefix_len}
 use Rattle.adj_text.specs.Char.{is_blank}
 use Rattle.adj_text.specs.Line.{in_front}
-use Rattle.adj_data.specs.Words.{pieces, has_some, words_in}
+use Rattle.adj_data.specs.Items.{pieces, has_some, texts_in}
 
 -- how many characters stand before the first blank
-abbrev pub word_len : List ℕ → ℕ
-word_len l = prefix_len (λ c. not (is_blank c)) l
+abbrev pub text_len : List ℕ → ℕ
+text_len l = prefix_len (λ c. not (is_blank c)) l
 
 -- blanks at the front are passed
-pub skipped : (l : List ℕ) → words_in l ≡ words_in (drop (prefix_len is_blank l) l)
+pub skipped : (l : List ℕ) → texts_in l ≡ texts_in (drop (prefix_len is_blank l) l)
 skipped [] = refl
 skipped (c ∷ cs) = go (is_blank c) refl (skipped cs)
   where
-    go : (b : Bool) → is_blank c ≡ b → words_in cs ≡ words_in (drop (prefix_len is_blank cs) cs) → filter has_some (if b then [] ∷ pieces cs else in_front c (pieces cs)) ≡ words_in (drop (cond b (1 + prefix_len is_blank cs) 0) (c ∷ cs))
+    go : (b : Bool) → is_blank c ≡ b → texts_in cs ≡ texts_in (drop (prefix_len is_blank cs) cs) → filter has_some (if b then [] ∷ pieces cs else in_front c (pieces cs)) ≡ texts_in (drop (cond b (1 + prefix_len is_blank cs) 0) (c ∷ cs))
     go true e ih =
         let one : 1 + prefix_len is_blank cs ≡ suc (prefix_len is_blank cs) = omega arith in
-        ih ∙ ap (λ n. words_in (drop n (c ∷ cs))) (sym one)
+        ih ∙ ap (λ n. texts_in (drop n (c ∷ cs))) (sym one)
     go false e ih = ap (λ b. filter has_some (if b then [] ∷ pieces cs else in_front c (pieces cs))) (sym e)
 
--- where nothing but blanks is there, there are no words
-pub none_left : (l : List ℕ) → word_len (drop (prefix_len is_blank l) l) ≡ 0 → words_in l ≡ []
+-- where nothing but blanks is there, there are no items
+pub none_left : (l : List ℕ) → text_len (drop (prefix_len is_blank l) l) ≡ 0 → texts_in l ≡ []
 none_left [] h = refl
 none_left (c ∷ cs) h = go (is_blank c) refl (none_left cs) h
   where
-    go : (b : Bool) → is_blank c ≡ b → (word_len (drop (prefix_len is_blank cs) cs) ≡ 0 → words_in cs ≡ []) → word_len (drop (cond b (1 + prefix_len is_blank cs) 0) (c ∷ cs)) ≡ 0 → filter has_some (if b then [] ∷ pieces cs else in_front c (pieces cs)) ≡ []
+    go : (b : Bool) → is_blank c ≡ b → (text_len (drop (prefix_len is_blank cs) cs) ≡ 0 → texts_in cs ≡ []) → text_len (drop (cond b (1 + prefix_len is_blank cs) 0) (c ∷ cs)) ≡ 0 → filter has_some (if b then [] ∷ pieces cs else in_front c (pieces cs)) ≡ []
     go true e ih h =
         let one : 1 + prefix_len is_blank cs ≡ suc (prefix_len is_blank cs) = omega arith in
-        ih (ap (λ n. word_len (drop n (c ∷ cs))) (sym one) ∙ h)
+        ih (ap (λ n. text_len (drop n (c ∷ cs))) (sym one) ∙ h)
     go false e ih h =
-        let k : 1 + word_len cs ≡ 0 = ap (λ b. cond (not b) (1 + word_len cs) 0) (sym e) ∙ h in
+        let k : 1 + text_len cs ≡ 0 = ap (λ b. cond (not b) (1 + text_len cs) 0) (sym e) ∙ h in
         absurd (omega arith)
 
--- the first piece of a line, and the others, whose words are those behind it
+-- the first piece of a line, and the others, whose items are those behind it
 record FirstPiece (l : List ℕ) : Type 0 where
   others : List (List ℕ)
-  cut : pieces l ≡ take (word_len l) l ∷ others
-  rest : filter has_some others ≡ words_in (drop (word_len l) l)
+  cut : pieces l ≡ take (text_len l) l ∷ others
+  rest : filter has_some others ≡ texts_in (drop (text_len l) l)
 
 first_piece : (l : List ℕ) → FirstPiece l
 first_piece [] = record { others = []; cut = refl; rest = refl }
@@ -49,22 +49,22 @@ first_piece (c ∷ cs) = go (is_blank c) refl (first_piece cs)
     go : (b : Bool) → is_blank c ≡ b → FirstPiece cs → FirstPiece (c ∷ cs)
     go true e ih = record {
       others = pieces cs;
-      cut = ap (λ b. if b then [] ∷ pieces cs else in_front c (pieces cs)) e ∙ ap (λ b. take (cond (not b) (1 + word_len cs) 0) (c ∷ cs) ∷ pieces cs) (sym e);
-      rest = ap (λ b. filter has_some (if b then [] ∷ pieces cs else in_front c (pieces cs))) (sym e) ∙ ap (λ b. words_in (drop (cond (not b) (1 + word_len cs) 0) (c ∷ cs))) (sym e);
+      cut = ap (λ b. if b then [] ∷ pieces cs else in_front c (pieces cs)) e ∙ ap (λ b. take (cond (not b) (1 + text_len cs) 0) (c ∷ cs) ∷ pieces cs) (sym e);
+      rest = ap (λ b. filter has_some (if b then [] ∷ pieces cs else in_front c (pieces cs))) (sym e) ∙ ap (λ b. texts_in (drop (cond (not b) (1 + text_len cs) 0) (c ∷ cs))) (sym e);
     }
     go false e ih =
-        let one : 1 + word_len cs ≡ suc (word_len cs) = omega arith in
+        let one : 1 + text_len cs ≡ suc (text_len cs) = omega arith in
         record {
           others = ih.others;
           cut = ap (λ b. if b then [] ∷ pieces cs else in_front c (pieces cs)) e ∙ ap (in_front c) ih.cut
-              ∙ ap (λ k. take k (c ∷ cs) ∷ ih.others) (sym one) ∙ ap (λ b. take (cond (not b) (1 + word_len cs) 0) (c ∷ cs) ∷ ih.others) (sym e);
-          rest = ih.rest ∙ ap (λ k. words_in (drop k (c ∷ cs))) (sym one) ∙ ap (λ b. words_in (drop (cond (not b) (1 + word_len cs) 0) (c ∷ cs))) (sym e);
+              ∙ ap (λ k. take k (c ∷ cs) ∷ ih.others) (sym one) ∙ ap (λ b. take (cond (not b) (1 + text_len cs) 0) (c ∷ cs) ∷ ih.others) (sym e);
+          rest = ih.rest ∙ ap (λ k. texts_in (drop k (c ∷ cs))) (sym one) ∙ ap (λ b. texts_in (drop (cond (not b) (1 + text_len cs) 0) (c ∷ cs))) (sym e);
         }
 
--- a line that begins with no blank has its first word there
-pub first_word : (l : List ℕ) → (word_len l ≡ 0 → ⊥) → words_in l ≡ take (word_len l) l ∷ words_in (drop (word_len l) l)
-first_word l h =
+-- a line that begins with no blank has its first item there
+pub first_text : (l : List ℕ) → (text_len l ≡ 0 → ⊥) → texts_in l ≡ take (text_len l) l ∷ texts_in (drop (text_len l) l)
+first_text l h =
     let f = first_piece l in
-    let long : length (take (word_len l) l) ≡ word_len l = length-prefix_len (λ c. not (is_blank c)) l in
-    let some : has_some (take (word_len l) l) ≡ true = ap not (ne_eqb (length (take (word_len l) l)) 0 (λ e. h (sym long ∙ e))) in
-    ap (filter has_some) f.cut ∙ ap (λ b. if b then take (word_len l) l ∷ filter has_some f.others else filter has_some f.others) some ∙ ap (λ ws. take (word_len l) l ∷ ws) f.rest
+    let long : length (take (text_len l) l) ≡ text_len l = length-prefix_len (λ c. not (is_blank c)) l in
+    let some : has_some (take (text_len l) l) ≡ true = ap not (ne_eqb (length (take (text_len l) l)) 0 (λ e. h (sym long ∙ e))) in
+    ap (filter has_some) f.cut ∙ ap (λ b. if b then take (text_len l) l ∷ filter has_some f.others else filter has_some f.others) some ∙ ap (λ ws. take (text_len l) l ∷ ws) f.rest

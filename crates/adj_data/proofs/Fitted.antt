@@ -13,7 +13,7 @@ use Rattle.adj_meaning.specs.Units.{extent_in, extents_of, shape_of, are_extents
 use Rattle.adj_meaning.proofs.Booleans.{and_true}
 use Rattle.adj_data.specs.Entries.{Entry, entries_of, entry_named}
 use Rattle.adj_names.specs.Fresh.{has_name}
-use Rattle.adj_data.specs.Faults.{Fault, or_else, fault_at, only_number, extent_given, extents_given, with_first, entry_code, given_fault, dummy_fault, dummies_fault, words_of, words_fault}
+use Rattle.adj_data.specs.Faults.{Fault, or_else, fault_at, only_number, extent_given, extents_given, with_first, entry_code, given_fault, dummy_fault, dummies_fault, data_items, items_fault}
 use Rattle.adj_data.specs.Given.{slot_in, slot_given}
 use Rattle.adj_data.specs.Marked.{titles_of, entries_check}
 use Rattle.adj_data.specs.Fitting.{extents_in, IsSize, IsSized, DataFit, CheckDataFit}
@@ -178,13 +178,13 @@ module _ (es : List Entry) (u : Procedure) (sized : IsSized u) (sound : dummies_
 
 pub data_fit : DataFit
 data_fit line bytes u sized h =
-    let ws = words_of false line bytes in
-    let both = neither (words_fault u.dummies [] ws) (dummies_fault (entries_of ws) u u.dummies) h in
+    let ws = data_items false line bytes in
+    let both = neither (items_fault u.dummies [] ws) (dummies_fault (entries_of ws) u u.dummies) h in
     dummies_fit (entries_of ws) u sized both.1 u.dummies both.1
 
 pub check_fit : CheckDataFit
 check_fit line bytes u vars outvars sized h =
-    let ws = words_of true line bytes in
-    let first = neither (words_fault (titles_of u vars outvars) [] ws) (entries_check (entries_of ws) u vars outvars) h in
+    let ws = data_items true line bytes in
+    let first = neither (items_fault (titles_of u vars outvars) [] ws) (entries_check (entries_of ws) u vars outvars) h in
     let second = neither (dummies_fault (entries_of ws) u u.dummies) _ first.1 in
     dummies_fit (entries_of ws) u sized second.0 u.dummies second.0

@@ -62,7 +62,7 @@ name_twice dummies before x e f = ap (λ t. if not t then Some 2 else (if has_na
 pub name_new : (dummies : List (List ℕ)) (before : List Entry) (x : List ℕ) → has_name x dummies ≡ true → has_name x (map (λ e. e.name) before) ≡ false → name_code dummies before x ≡ None
 name_new dummies before x e f = ap (λ t. if not t then Some 2 else (if has_name x (map (λ e. e.name) before) then Some 3 else None)) e ∙ ap (λ t. if t then Some 3 else None) f
 
--- a number that was found in range is the word's
+-- a number that was found in range is the item's
 pub number_kept : (z n : ℤ) (b : Bool) → Some n ≡ (if b then Some z else None) → n ≡ z
 number_kept z n true h = cc
 number_kept z n false h = absurd cc

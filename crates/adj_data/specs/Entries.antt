@@ -1,7 +1,7 @@
 -- Entries: a name and the numbers behind it, up to the next name. (docs/DATA.md, "Entries")
 use Rattle.std.specs.Prelude.{ℕ, ℤ, List, [], ◌∷◌, ◌++◌, Option, Some, None, if◌then◌else◌}
 use Rattle.adj_tree.specs.Code.{name_eq}
-use Rattle.adj_data.specs.Words.{Item, name_of, number_in}
+use Rattle.adj_data.specs.Items.{Item, name_of, number_in}
 
 pub record Entry : Type 0 where
   pub name : List ℕ
@@ -14,7 +14,7 @@ abbrev pub numbers_before : List Item → List ℤ
 numbers_before [] = []
 numbers_before (w ∷ ws) = if w.begins then [] else number_in w.text ∷ numbers_before ws
 
--- the entries that words make: each name begins one
+-- the entries that items make: each name begins one
 abbrev pub entries_of : List Item → List Entry
 entries_of [] = []
 entries_of (w ∷ ws) = if w.begins then record { name = name_of w.text; line = w.line; numbers = numbers_before ws } ∷ entries_of ws else entries_of ws
@@ -24,7 +24,7 @@ abbrev pub entry_named : List ℕ → List Entry → Option Entry
 entry_named x [] = None
 entry_named x (e ∷ es) = if name_eq x e.name then Some e else entry_named x es
 
--- ---- what one word more does, which no word before it is looked at for
+-- ---- what one item more does, which no item before it is looked at for
 
 -- a number goes on with the last entry
 abbrev pub with_number : ℤ → List Entry → List Entry
@@ -32,9 +32,9 @@ with_number z [] = []
 with_number z (e ∷ []) = record e { numbers = e.numbers ++ z ∷ [] } ∷ []
 with_number z (e ∷ f ∷ es) = e ∷ with_number z (f ∷ es)
 
-abbrev pub with_word : List Entry → Item → List Entry
-with_word es w = if w.begins then es ++ (record { name = name_of w.text; line = w.line; numbers = [] } ∷ []) else with_number (number_in w.text) es
+abbrev pub with_item : List Entry → Item → List Entry
+with_item es w = if w.begins then es ++ (record { name = name_of w.text; line = w.line; numbers = [] } ∷ []) else with_number (number_in w.text) es
 
-abbrev pub with_words : List Entry → List Item → List Entry
-with_words es [] = es
-with_words es (w ∷ ws) = with_words (with_word es w) ws
+abbrev pub with_items : List Entry → List Item → List Entry
+with_items es [] = es
+with_items es (w ∷ ws) = with_items (with_item es w) ws

@@ -5,8 +5,8 @@ use Rattle.adj_tree.specs.Code.{plain, Extent, fixed, given, Procedure}
 use Rattle.adj_text.specs.Line.{cut_lines}
 use Rattle.adj_meaning.specs.Units.{declared, are_extents, elements}
 use Rattle.adj_names.specs.Fresh.{has_name}
-use Rattle.adj_data.specs.Words.{Item, items_of, name_of, is_number, number_in}
-use Rattle.adj_data.specs.Entries.{Entry, entries_of, entry_named, with_word}
+use Rattle.adj_data.specs.Items.{Item, items_of, name_of, is_number, number_in}
+use Rattle.adj_data.specs.Entries.{Entry, entries_of, entry_named, with_item}
 
 -- a code, and the line where the fault stands, which is 0 where something isn't there
 pub record Fault : Type 0 where
@@ -18,7 +18,7 @@ abbrev pub or_else : Option Fault → Option Fault → Option Fault
 or_else (Some f) other = Some f
 or_else None other = other
 
--- ---- faults of words
+-- ---- faults of items
 
 abbrev pub in_range : ℤ → Bool
 in_range z = int_le (negsuc 9223372036854775807) z && int_le z (pos 9223372036854775807)
@@ -34,9 +34,9 @@ name_code dummies before x =
     if not (has_name x dummies) then Some 2
     else (if has_name x (map (λ e. e.name) before) then Some 3 else None)
 
--- what is wrong with a word, where the words before it made some entries: 1 for a name that doesn't lead its line, and for what is neither a name nor a number
-abbrev pub word_code : List (List ℕ) → List Entry → Item → Option ℕ
-word_code dummies before w =
+-- what is wrong with an item, where the items before it made some entries: 1 for a name that doesn't lead its line, and for what is neither a name nor a number
+abbrev pub item_code : List (List ℕ) → List Entry → Item → Option ℕ
+item_code dummies before w =
     if w.begins then (if w.leads then name_code dummies before (name_of w.text) else Some 1)
     else (if is_number w.text then number_code before w.text else Some 1)
 
@@ -44,15 +44,15 @@ abbrev pub fault_at : ℕ → Option ℕ → Option Fault
 fault_at line None = None
 fault_at line (Some c) = Some (record { code = c; line = line })
 
--- the first fault of words that stand behind others
-abbrev pub words_fault : List (List ℕ) → List Item → List Item → Option Fault
-words_fault dummies before [] = None
-words_fault dummies before (w ∷ ws) = or_else (fault_at w.line (word_code dummies (entries_of before) w)) (words_fault dummies (before ++ w ∷ []) ws)
+-- the first fault of items that stand behind others
+abbrev pub items_fault : List (List ℕ) → List Item → List Item → Option Fault
+items_fault dummies before [] = None
+items_fault dummies before (w ∷ ws) = or_else (fault_at w.line (item_code dummies (entries_of before) w)) (items_fault dummies (before ++ w ∷ []) ws)
 
 -- the same by the entries that were made before
 abbrev pub entries_fault : List (List ℕ) → List Entry → List Item → Option Fault
 entries_fault dummies es [] = None
-entries_fault dummies es (w ∷ ws) = or_else (fault_at w.line (word_code dummies es w)) (entries_fault dummies (with_word es w) ws)
+entries_fault dummies es (w ∷ ws) = or_else (fault_at w.line (item_code dummies es w)) (entries_fault dummies (with_item es w) ws)
 
 -- ---- faults of dummies
 
@@ -101,10 +101,10 @@ dummies_fault es u (d ∷ ds) = or_else (dummy_fault es u d) (dummies_fault es u
 
 -- ---- the first fault
 
--- the words of data that stand behind the line of a number
-abbrev pub words_of : Bool → ℕ → List ℕ → List Item
-words_of marks line bytes = items_of marks line (cut_lines bytes)
+-- the items of data that stand behind the line of a number
+abbrev pub data_items : Bool → ℕ → List ℕ → List Item
+data_items marks line bytes = items_of marks line (cut_lines bytes)
 
--- the first fault of the data of a unit: of a word, in the order of the text, and then of a dummy
+-- the first fault of the data of a unit: of an item, in the order of the text, and then of a dummy
 abbrev pub data_fault : ℕ → List ℕ → Procedure → Option Fault
-data_fault line bytes u = or_else (words_fault u.dummies [] (words_of false line bytes)) (dummies_fault (entries_of (words_of false line bytes)) u u.dummies)
+data_fault line bytes u = or_else (items_fault u.dummies [] (data_items false line bytes)) (dummies_fault (entries_of (data_items false line bytes)) u u.dummies)

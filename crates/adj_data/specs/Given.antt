@@ -5,7 +5,7 @@ use Rattle.adj_tree.specs.declared.value.Slot.{Slot as CodeSlot}
 use Rattle.adj_meaning.specs.Store.{scalar}
 use Rattle.adj_meaning.specs.Units.{Slot, declared, shape_of}
 use Rattle.adj_data.specs.Entries.{Entry, entries_of, entry_named}
-use Rattle.adj_data.specs.Faults.{Fault, extents_given, words_of}
+use Rattle.adj_data.specs.Faults.{Fault, extents_given, data_items}
 use Rattle.adj_data.specs.declared.entries.Entry.{Entry as CodeEntry}
 use Rattle.adj_data.specs.declared.data_error.DataError.{DataError}
 use Rattle.adj_data.specs.declared.data_error.DataError.TheVariants as error
@@ -20,7 +20,7 @@ slot_given es u d = slot_in (entry_named d es) (extents_given es (declared u.dec
 
 -- a slot for each dummy
 abbrev pub input_given : ℕ → List ℕ → Procedure → List (Slot ℤ)
-input_given line bytes u = map (slot_given (entries_of (words_of false line bytes)) u) u.dummies
+input_given line bytes u = map (slot_given (entries_of (data_items false line bytes)) u) u.dummies
 
 -- what an entry of the code says
 abbrev pub entry_seen : CodeEntry → Entry

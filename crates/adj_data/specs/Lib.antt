@@ -1,5 +1,5 @@
 -- What the contracts of this crate say of data.
-pub mod Words
+pub mod Items
 pub mod Titles
 pub mod Entries
 pub mod Faults

@@ -3,7 +3,7 @@ use Rattle.std.specs.Prelude.{ℕ, ◌==◌, ℤ, pos, Bool, true, List, [], ◌
 use Rattle.adj_tree.specs.Code.{Procedure}
 use Rattle.adj_meaning.specs.Units.{Slot}
 use Rattle.adj_data.specs.Entries.{Entry, entries_of, entry_named}
-use Rattle.adj_data.specs.Faults.{Fault, or_else, fault_at, words_of, words_fault, dummies_fault}
+use Rattle.adj_data.specs.Faults.{Fault, or_else, fault_at, data_items, items_fault, dummies_fault}
 use Rattle.adj_data.specs.Given.{slot_given}
 
 -- the marks of entries: of tangents, and of adjoints
@@ -54,10 +54,10 @@ entries_check es u vars outvars =
     or_else (dummies_fault es u u.dummies)
     (or_else (marks_fault es tangent_mark (wanted u.dummies vars (slots_of es u))) (marks_fault es adjoint_mark (wanted u.dummies outvars (slots_of es u))))
 
--- the first fault of the data of `check`: of a word, in the order of the text, of a dummy, of a tangent, and of an adjoint
+-- the first fault of the data of `check`: of an item, in the order of the text, of a dummy, of a tangent, and of an adjoint
 abbrev pub check_fault : ℕ → List ℕ → Procedure → List Bool → List Bool → Option Fault
 check_fault line bytes u vars outvars =
-    or_else (words_fault (titles_of u vars outvars) [] (words_of true line bytes)) (entries_check (entries_of (words_of true line bytes)) u vars outvars)
+    or_else (items_fault (titles_of u vars outvars) [] (data_items true line bytes)) (entries_check (entries_of (data_items true line bytes)) u vars outvars)
 
 -- ---- values
 
@@ -79,10 +79,10 @@ marked_slots es mark ws = map (marked_slot es mark) ws
 
 -- the inputs, the tangents and the output adjoints that data are
 abbrev pub inputs_given : ℕ → List ℕ → Procedure → List (Slot ℤ)
-inputs_given line bytes u = slots_of (entries_of (words_of true line bytes)) u
+inputs_given line bytes u = slots_of (entries_of (data_items true line bytes)) u
 
 abbrev pub tangents_given : ℕ → List ℕ → Procedure → List Bool → List (Slot ℤ)
-tangents_given line bytes u vars = marked_slots (entries_of (words_of true line bytes)) tangent_mark (wanted u.dummies vars (inputs_given line bytes u))
+tangents_given line bytes u vars = marked_slots (entries_of (data_items true line bytes)) tangent_mark (wanted u.dummies vars (inputs_given line bytes u))
 
 abbrev pub adjoints_given : ℕ → List ℕ → Procedure → List Bool → List (Slot ℤ)
-adjoints_given line bytes u outvars = marked_slots (entries_of (words_of true line bytes)) adjoint_mark (wanted u.dummies outvars (inputs_given line bytes u))
+adjoints_given line bytes u outvars = marked_slots (entries_of (data_items true line bytes)) adjoint_mark (wanted u.dummies outvars (inputs_given line bytes u))

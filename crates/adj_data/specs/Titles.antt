@@ -1,7 +1,7 @@
--- Titles: which words begin entries.
+-- Titles: which items begin entries.
 use Rattle.std.specs.Prelude.{Bool, true, false}
-use Rattle.adj_data.specs.declared.words.Titles.{Titles}
-use Rattle.adj_data.specs.declared.words.Titles.TheVariants.{Names, NamesAndMarks}
+use Rattle.adj_data.specs.declared.items.Titles.{Titles}
+use Rattle.adj_data.specs.declared.items.Titles.TheVariants.{Names, NamesAndMarks}
 
 -- whether names with a mark do
 abbrev pub takes_marks : Titles → Bool

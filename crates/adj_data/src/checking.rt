@@ -9,8 +9,8 @@ ghost use Rattle.adj_data.specs.Marked.{adjoints_given, check_fault, inputs_give
 use crate::data_error::DataError;
 use crate::entries::{Reading, read};
 use crate::input::{set_of, slots_given};
+use crate::items::Titles;
 use crate::marks::{Marking, add_marked, marked_slots};
-use crate::words::Titles;
 use adj_sets::NameSet;
 use adj_tree::{Head, Memory, Unit, Values};
 use std::alloc::Global;

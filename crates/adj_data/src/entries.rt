@@ -1,16 +1,16 @@
-//! Entries, word by word.
+//! Entries, item by item.
 
 ghost use Rattle.std.specs.Prelude.{◌≡◌, List, ℕ, [], ◌∷◌, ◌++◌, true, map, None, Some, IfErr, IfOk, OnOk, MatchOption};
 ghost use Rattle.adj_text.specs.Line.{cut_lines};
-ghost use Rattle.adj_data.specs.Words.{Item, words_in, items_with, items_of, is_title, name_of as capitals, number_in};
-ghost use Rattle.adj_data.specs.Entries.{Entry as AnEntry, entry_named, with_number, with_word, with_words};
-ghost use Rattle.adj_data.specs.Faults.{number_code, name_code, word_code, fault_at, entries_fault};
+ghost use Rattle.adj_data.specs.Items.{Item, texts_in, items_with, items_of, is_title, name_of as capitals, number_in};
+ghost use Rattle.adj_data.specs.Entries.{Entry as AnEntry, entry_named, with_number, with_item, with_items};
+ghost use Rattle.adj_data.specs.Faults.{number_code, name_code, item_code, fault_at, entries_fault};
 ghost use Rattle.adj_data.specs.Given.{IsFirstFault, entry_seen};
 ghost use Rattle.adj_data.specs.Titles.{takes_marks};
 
 use crate::data_error::DataError;
+use crate::items::{Titles, is_number, is_title, name_of, next_item};
 use crate::numbers::number_in;
-use crate::words::{Titles, is_number, is_title, name_of, next_word};
 use adj_fixed::{next_number, split_line, without_cr};
 use adj_sets::NameSet;
 use adj_tree::Memory;
@@ -25,7 +25,7 @@ pub(crate) struct Entry {
     pub(crate) numbers: Vec<i64>,
 }
 
-/// What entries are read by: the names that they may have, and which words begin them.
+/// What entries are read by: the names that they may have, and which items begin them.
 #[derive(Drop)]
 pub(crate) struct Reading {
     pub(crate) names: NameSet,
@@ -73,14 +73,14 @@ impl Entries {
         &mut self,
         alloc: Global,
         dummies: &NameSet,
-        word: &[u8],
+        item: &[u8],
         line: u32,
     ) -> Result<(), DataError>
-        ensures ok { OnOk result (name_code dummies.now self.old (capitals word.now) ≡ None) }
-        ensures entries { OnOk result (self.new ≡ self.old ++ (record { name = capitals word.now; line = line; numbers = [] } ∷ [])) }
-        ensures fault { IfErr result (λ e. IsFirstFault e (fault_at line (name_code dummies.now self.old (capitals word.now)))) }
+        ensures ok { OnOk result (name_code dummies.now self.old (capitals item.now) ≡ None) }
+        ensures entries { OnOk result (self.new ≡ self.old ++ (record { name = capitals item.now; line = line; numbers = [] } ∷ [])) }
+        ensures fault { IfErr result (λ e. IsFirstFault e (fault_at line (name_code dummies.now self.old (capitals item.now)))) }
     {
-        let name = name_of(alloc, word)?;
+        let name = name_of(alloc, item)?;
         if !dummies.has(&name) {
             return Err(DataError::Data(2, line));
         }
@@ -100,49 +100,49 @@ impl Entries {
     }
 
     // A number goes on with the last entry.
-    fn go_on(&mut self, word: &[u8], line: u32) -> Result<(), DataError>
-        ensures ok { OnOk result (number_code self.old word.now ≡ None) }
-        ensures entries { OnOk result (self.new ≡ with_number (number_in word.now) self.old) }
-        ensures fault { IfErr result (λ e. IsFirstFault e (fault_at line (number_code self.old word.now))) }
+    fn go_on(&mut self, item: &[u8], line: u32) -> Result<(), DataError>
+        ensures ok { OnOk result (number_code self.old item.now ≡ None) }
+        ensures entries { OnOk result (self.new ≡ with_number (number_in item.now) self.old) }
+        ensures fault { IfErr result (λ e. IsFirstFault e (fault_at line (number_code self.old item.now))) }
     {
         let count = self.entries.len();
         if count == 0 {
             return Err(DataError::Data(1, line));
         }
-        let Some(number) = number_in(word) else {
+        let Some(number) = number_in(item) else {
             return Err(DataError::Data(6, line));
         };
         self.entries[count - 1].numbers.push(number)?;
         Ok(())
     }
 
-    // One word more.
-    fn read_word(
+    // One item more.
+    fn read_item(
         &mut self,
         alloc: Global,
         reading: &Reading,
-        word: &[u8],
+        item: &[u8],
         leads: bool,
         line: u32,
     ) -> Result<(), DataError>
-        ensures ok { OnOk result (word_code reading.now.names self.old (record { line = line; leads = leads; begins = is_title (takes_marks reading.now.titles) word.now; text = word.now }) ≡ None) }
-        ensures entries { OnOk result (self.new ≡ with_word self.old (record { line = line; leads = leads; begins = is_title (takes_marks reading.now.titles) word.now; text = word.now })) }
-        ensures fault { IfErr result (λ e. IsFirstFault e (fault_at line (word_code reading.now.names self.old (record { line = line; leads = leads; begins = is_title (takes_marks reading.now.titles) word.now; text = word.now })))) }
+        ensures ok { OnOk result (item_code reading.now.names self.old (record { line = line; leads = leads; begins = is_title (takes_marks reading.now.titles) item.now; text = item.now }) ≡ None) }
+        ensures entries { OnOk result (self.new ≡ with_item self.old (record { line = line; leads = leads; begins = is_title (takes_marks reading.now.titles) item.now; text = item.now })) }
+        ensures fault { IfErr result (λ e. IsFirstFault e (fault_at line (item_code reading.now.names self.old (record { line = line; leads = leads; begins = is_title (takes_marks reading.now.titles) item.now; text = item.now })))) }
     {
-        if is_title(reading.titles, word) {
+        if is_title(reading.titles, item) {
             if leads {
-                self.begin(alloc, &reading.names, word, line)
+                self.begin(alloc, &reading.names, item, line)
             } else {
                 Err(DataError::Data(1, line))
             }
-        } else if is_number(word) {
-            self.go_on(word, line)
+        } else if is_number(item) {
+            self.go_on(item, line)
         } else {
             Err(DataError::Data(1, line))
         }
     }
 
-    // The words of one line more.
+    // The items of one line more.
     fn read_line(
         &mut self,
         alloc: Global,
@@ -150,14 +150,14 @@ impl Entries {
         line: &[u8],
         number: u32,
     ) -> Result<(), DataError>
-        ensures ok { OnOk result (entries_fault reading.now.names self.old (items_with (takes_marks reading.now.titles) number true (words_in line.now)) ≡ None) }
-        ensures entries { OnOk result (self.new ≡ with_words self.old (items_with (takes_marks reading.now.titles) number true (words_in line.now))) }
-        ensures fault { IfErr result (λ e. IsFirstFault e (entries_fault reading.now.names self.old (items_with (takes_marks reading.now.titles) number true (words_in line.now)))) }
+        ensures ok { OnOk result (entries_fault reading.now.names self.old (items_with (takes_marks reading.now.titles) number true (texts_in line.now)) ≡ None) }
+        ensures entries { OnOk result (self.new ≡ with_items self.old (items_with (takes_marks reading.now.titles) number true (texts_in line.now))) }
+        ensures fault { IfErr result (λ e. IsFirstFault e (entries_fault reading.now.names self.old (items_with (takes_marks reading.now.titles) number true (texts_in line.now)))) }
     {
         let mut rest = line;
         let mut leads = true;
-        while let Some((word, behind)) = next_word(rest) {
-            self.read_word(alloc, reading, word, leads, number)?;
+        while let Some((item, behind)) = next_item(rest) {
+            self.read_item(alloc, reading, item, leads, number)?;
             leads = false;
             rest = behind;
         }
@@ -173,7 +173,7 @@ pub(crate) fn read(
     reading: &Reading,
 ) -> Result<Entries, DataError>
     ensures ok { OnOk result (entries_fault reading.now.names [] (items_of (takes_marks reading.now.titles) line (cut_lines bytes.now)) ≡ None) }
-    ensures entries { IfOk result (λ es. es ≡ with_words [] (items_of (takes_marks reading.now.titles) line (cut_lines bytes.now))) }
+    ensures entries { IfOk result (λ es. es ≡ with_items [] (items_of (takes_marks reading.now.titles) line (cut_lines bytes.now))) }
     ensures fault { IfErr result (λ e. IsFirstFault e (entries_fault reading.now.names [] (items_of (takes_marks reading.now.titles) line (cut_lines bytes.now)))) }
 {
     let mut entries = Entries::new(alloc);

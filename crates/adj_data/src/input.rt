@@ -9,8 +9,8 @@ ghost use Rattle.adj_data.specs.Given.{IsFirstFault, slot_given, input_given, sl
 use crate::data_error::DataError;
 use crate::declared::{extents, first_declarations};
 use crate::entries::{Entries, Reading, read};
+use crate::items::Titles;
 use crate::slots::slot_given;
-use crate::words::Titles;
 use adj_sets::NameSet;
 use adj_tree::{Items, Memory, NameList, Unit, Values};
 use std::alloc::Global;

@@ -10,12 +10,12 @@ mod data_error;
 mod declared;
 mod entries;
 mod input;
+mod items;
 mod laws;
 mod marks;
 mod numbers;
 mod print;
 mod slots;
-mod words;
 
 pub use checking::check_values;
 pub use data_error::DataError;

@@ -2,7 +2,7 @@
 
 ghost use Rattle.std.specs.Prelude.{◌≡◌, ◌+◌, ◌^◌, min, Some, None, if◌then◌else◌};
 ghost use Rattle.adj_text.specs.Char.{number_of};
-ghost use Rattle.adj_data.specs.Words.{number_in};
+ghost use Rattle.adj_data.specs.Items.{number_in};
 ghost use Rattle.adj_data.specs.Faults.{in_range};
 
 // The number that digits write, or 2^63 + 1 where it is above that.
@@ -20,12 +20,12 @@ fn capped(digits: &[u8]) -> u64
     number
 }
 
-/// The number of a word, where it is in range.
-pub(crate) fn number_in(word: &[u8]) -> Option<i64>
-    ensures { result ≡ (if in_range (number_in word.now) then Some (number_in word.now) else None) }
+/// The number of an item, where it is in range.
+pub(crate) fn number_in(item: &[u8]) -> Option<i64>
+    ensures { result ≡ (if in_range (number_in item.now) then Some (number_in item.now) else None) }
 {
-    match word {
+    match item {
         [b'-', digits @ ..] => i64::try_from(-i128::from(capped(digits))).ok(),
-        _ => i64::try_from(capped(word)).ok(),
+        _ => i64::try_from(capped(item)).ok(),
     }
 }

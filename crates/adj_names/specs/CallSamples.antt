@@ -2,7 +2,7 @@
 use Rattle.std.specs.Prelude.{◌≡◌, pos, ℕ, zero, suc, ◌+◌, ◌*◌, List, [], ◌∷◌, ◌++◌, map, true, false, Some, None}
 use Rattle.adj_tree.specs.Code.{step, lit, power_of, abs, end_reversal, Term, plain, neg, pow, none, compare, is_less, push_word, pop_word, push_array, pop_array, zero_array, with_count, count_from, Act, choose, loop, during, runtime, Code, stop, given, Procedure}
 use Rattle.adj_names.specs.Variables.{Name}
-use Rattle.adj_names.specs.Words.{listed, A, B, G, H, I, J, K, M, N, P, X, Y, num, of, at_place, one_more, gets, gets_at, calling, thrice, if_less, only, lines, array, size, subroutine, Refuses, Accepts, Refused, Accepted}
+use Rattle.adj_names.specs.Builders.{listed, A, B, G, H, I, J, K, M, N, P, X, Y, num, of, at_place, one_more, gets, gets_at, calling, thrice, if_less, only, lines, array, size, subroutine, Refuses, Accepts, Refused, Accepted}
 use Rattle.adj_names.specs.NameSamples.{numbered, empty_unit, of_i, with_arrays}
 use Rattle.adj_names.specs.Fault.{Rules, source_rules, run_rules, fault, passed}
 use Rattle.adj_names.specs.Calls.{leads, calls, chain, chain_within, chain_from}

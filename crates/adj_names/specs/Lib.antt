@@ -15,7 +15,7 @@ pub mod Check
 pub mod HeadFaults
 pub mod Numbering
 pub mod Laws
-pub mod Words
+pub mod Builders
 pub mod Samples
 pub mod NameSamples
 pub mod CallSamples

@@ -5,7 +5,7 @@ use Rattle.adj_names.specs.Standing.{standing}
 use Rattle.adj_names.specs.Variables.{Name, is_integer_name}
 use Rattle.adj_names.specs.CallFaults.{variable_rank}
 use Rattle.adj_names.specs.Fresh.{digits}
-use Rattle.adj_names.specs.Words.{A, B, G, H, I, J, K, M, N, P, X, num, of, at_place, one_more, listed, gets, gets_at, calling, thrice, if_less, only, lines, integer, array, size, subroutine, Refuses, Accepts, Refused, Accepted}
+use Rattle.adj_names.specs.Builders.{A, B, G, H, I, J, K, M, N, P, X, num, of, at_place, one_more, listed, gets, gets_at, calling, thrice, if_less, only, lines, integer, array, size, subroutine, Refuses, Accepts, Refused, Accepted}
 use Rattle.adj_names.specs.Fault.{Rules, source_rules, run_rules, passed, first_of}
 use Rattle.adj_names.specs.NameFaults.{too_many_variables}
 use Rattle.adj_names.specs.Check.{first_fault}

@@ -7,7 +7,7 @@ use Rattle.adj_names.specs.Variables.{Name, variables}
 use Rattle.adj_names.specs.Fresh.{candidate, fresh}
 use Rattle.adj_names.specs.Reserved.{runtime_names, reserved, is_runtime, is_reserved}
 use Rattle.adj_names.specs.Numbering.{all_statements, statement_count, width, point_before, point_after, point_inside, entry_point, end_point, point_count, node, node_count, is_small}
-use Rattle.adj_names.specs.Words.{A, B, G, H, I, J, K, M, N, P, X, Y, num, of, at_place, one_more, listed, gets, calling, thrice, only, lines, integer, array, subroutine}
+use Rattle.adj_names.specs.Builders.{A, B, G, H, I, J, K, M, N, P, X, Y, num, of, at_place, one_more, listed, gets, calling, thrice, only, lines, integer, array, subroutine}
 
 -- ---- where names stand
 

@@ -13,20 +13,20 @@ use Rattle.adj_facts.specs.Laws.{Analysed}
 use Rattle.adj_facts.specs.Variables.{list_if}
 use Rattle.adj_plan.specs.declared.lines.Said.{Said}
 
--- the word for a loop
-abbrev pub loop_word : Mark → List ℕ
-loop_word unmarked = codes "DO"
-loop_word (with_count m) = codes "MARKED"
-loop_word (count_from x) = codes "MARKED"
+-- the keyword for a loop
+abbrev pub loop_keyword : Mark → List ℕ
+loop_keyword unmarked = codes "DO"
+loop_keyword (with_count m) = codes "MARKED"
+loop_keyword (count_from x) = codes "MARKED"
 
--- the word for a statement
-abbrev pub word_of : Act → List ℕ
-word_of (assign x subs e) = codes "ASSIGN"
-word_of (choose c a b) = codes "IF"
-word_of (loop x first last by body m) = loop_word m
-word_of (during c body) = codes "WHILE"
-word_of (call name args) = codes "CALL"
-word_of (runtime r) = codes "CALL"
+-- the keyword for a statement
+abbrev pub keyword_of : Act → List ℕ
+keyword_of (assign x subs e) = codes "ASSIGN"
+keyword_of (choose c a b) = codes "IF"
+keyword_of (loop x first last by body m) = loop_keyword m
+keyword_of (during c body) = codes "WHILE"
+keyword_of (call name args) = codes "CALL"
+keyword_of (runtime r) = codes "CALL"
 
 -- a letter where something holds, and - where it doesn't
 abbrev pub letter : ℕ → Bool → ℕ
@@ -37,9 +37,9 @@ letter c false = 45
 abbrev pub letters : Said → List ℕ
 letters s = letter 75 s.kept ∷ letter 65 s.adjointed ∷ letter 80 s.saves ∷ []
 
--- the line of a statement of the unit of a name: the unit, the line in the text, the word, and the three letters
+-- the line of a statement of the unit of a name: the unit, the line in the text, the keyword, and the three letters
 abbrev pub plan_line : List ℕ → Said → At Act → List ℕ
-plan_line name said s = name ++ (codes " " ++ decimal s.0) ++ (codes " " ++ word_of s.1) ++ (codes " " ++ letters said) ++ codes "\n"
+plan_line name said s = name ++ (codes " " ++ decimal s.0) ++ (codes " " ++ keyword_of s.1) ++ (codes " " ++ letters said) ++ codes "\n"
 
 -- those of statements, the first of which has the number i
 abbrev pub lines_from : (ℕ → Said) → List ℕ → ℕ → List (At Act) → List ℕ

@@ -9,7 +9,7 @@ ghost use Rattle.adj_flow.specs.Asked.{units_of, variables_of};
 ghost use Rattle.adj_flow.specs.NodeView.{vars_of};
 ghost use Rattle.adj_flow.specs.Rows.{row_of, rows};
 ghost use Rattle.adj_reach.specs.Edges.{flag};
-ghost use Rattle.adj_plan.specs.Lines.{letter, letters, lines_from, loop_word, plan_line, plan_lines, unit_lines, word_of};
+ghost use Rattle.adj_plan.specs.Lines.{letter, letters, lines_from, loop_keyword, plan_line, plan_lines, unit_lines, keyword_of};
 ghost use Rattle.adj_plan.specs.View.{is_saved_in, row_lines, said_by, said_in};
 
 use crate::planning::Planned;
@@ -28,9 +28,9 @@ pub struct Said {
     pub saves: bool,
 }
 
-// The word for a loop.
-fn loop_word(mark: &Mark) -> &'static [u8]
-    ensures { result.now ≡ loop_word (mark_of mark.now) }
+// The keyword for a loop.
+fn loop_keyword(mark: &Mark) -> &'static [u8]
+    ensures { result.now ≡ loop_keyword (mark_of mark.now) }
 {
     match mark {
         Mark::Plain => b"DO",
@@ -38,14 +38,14 @@ fn loop_word(mark: &Mark) -> &'static [u8]
     }
 }
 
-// The word for a statement.
-fn word(act: &Act) -> &'static [u8]
-    ensures { result.now ≡ word_of (act_of act.now) }
+// The keyword for a statement.
+fn keyword(act: &Act) -> &'static [u8]
+    ensures { result.now ≡ keyword_of (act_of act.now) }
 {
     match act {
         Act::Assign(_, _) => b"ASSIGN",
         Act::If(_, _, _) => b"IF",
-        Act::Loop(_, _, _, _, _, mark) => loop_word(mark),
+        Act::Loop(_, _, _, _, _, mark) => loop_keyword(mark),
         Act::While(_, _) => b"WHILE",
         Act::Call(_, _) | Act::Run(_) => b"CALL",
     }
@@ -78,7 +78,7 @@ fn add_line(out: &mut Vec<u8>, unit: &Name, statement: &Stmt, said: Said) -> Res
     out.push(b' ')?;
     out.extend_from_slice(number.format(statement.line).as_bytes())?;
     out.push(b' ')?;
-    out.extend_from_slice(word(&statement.act))?;
+    out.extend_from_slice(keyword(&statement.act))?;
     out.push(b' ')?;
     out.extend_from_slice(&letters(said))?;
     out.push(b'\n')?;

@@ -1,4 +1,4 @@
-//! What the words of the command line ask for.
+//! What the arguments of the command line ask for.
 
 ghost use Rattle.std.specs.Prelude.{◌≤◌, IfSome};
 ghost use Rattle.bench_schedule.specs.Job.{IsWithinLimits};
@@ -19,27 +19,27 @@ pub(crate) enum Job {
     },
 }
 
-/// The number that a word names, if it is at most `most`.
-fn number(words: &[String], at: usize, most: u64) -> Option<u64>
+/// The number that an argument names, if it is at most `most`.
+fn number(arguments: &[String], at: usize, most: u64) -> Option<u64>
     ensures { IfSome result (λ n. n ≤ most) }
 {
-    let number = words.get(at)?.parse::<u64>().ok()?;
+    let number = arguments.get(at)?.parse::<u64>().ok()?;
     (number <= most).then_some(number)
 }
 
-/// The job that the words after the program's name ask for, if it lies within the limits.
-pub(crate) fn read(words: &[String]) -> Option<Job>
+/// The job that the arguments after the program's name ask for, if it lies within the limits.
+pub(crate) fn read(arguments: &[String]) -> Option<Job>
     ensures { IfSome result IsWithinLimits }
 {
-    let steps = number(words, 1, 1 << 40)?;
-    let snapshots = number(words, 2, 64)? as u32;
+    let steps = number(arguments, 1, 1 << 40)?;
+    let snapshots = number(arguments, 2, 64)? as u32;
     if snapshots == 0 {
         return None;
     }
-    if words.len() <= 3 {
+    if arguments.len() <= 3 {
         return Some(Job::Actions { steps, snapshots });
     }
-    let count = number(words, 3, 1 << 20)?;
+    let count = number(arguments, 3, 1 << 20)?;
     if steps < 2 || steps + count > 1 << 40 {
         return None;
     }

@@ -12,11 +12,11 @@ use job::Job;
 use std::env;
 
 const USAGE: &str =
-    "words: STEPS (at most 2^40) SNAPSHOTS (1 to 64), and perhaps COUNT (at most 2^20)";
+    "arguments: STEPS (at most 2^40) SNAPSHOTS (1 to 64), and perhaps COUNT (at most 2^20)";
 
 fn main(rt: HostRuntime) -> Result<()> {
-    let words: Vec<String> = env::args(&rt)?.collect(rt.alloc())?;
-    let Some(job) = job::read(words.as_slice()) else {
+    let arguments: Vec<String> = env::args(&rt)?.collect(rt.alloc())?;
+    let Some(job) = job::read(arguments.as_slice()) else {
         bail!("{USAGE}");
     };
     match job {

@@ -408,8 +408,11 @@ const CASES: [Case; 6] = [
 
 #[test]
 fn adjoints_of_units_that_call(rt: HostRuntime) -> Result<(), Memory> {
-    for (shows, words, text, adjoint) in CASES {
-        assert!(rt; comes_to(rt.alloc(), words, text, 0, adjoint)?, "{shows}");
+    for (shows, arguments, text, adjoint) in CASES {
+        assert!(rt;
+            comes_to(rt.alloc(), arguments, text, 0, adjoint)?,
+            "{shows}"
+        );
     }
     Ok(())
 }

@@ -1,4 +1,4 @@
-//! Calls of the program, from words and input to status and output.
+//! Calls of the program, from arguments and input to status and output.
 
 use adj_io::{MemSink, MemSource};
 use adj_tool::{Text, tool};
@@ -28,10 +28,10 @@ pub(crate) const ADJOINT: &str = "      SUBROUTINE P_B(X,XB,Y,YB)
       END
 ";
 
-/// What a case shows, the words, a program and its adjoint.
+/// What a case shows, the arguments, a program and its adjoint.
 pub(crate) type Case = (&'static str, &'static str, &'static [u8], &'static str);
 
-/// The words of a run, a text, the data behind it, the status and what is written.
+/// The arguments of a run, a text, the data behind it, the status and what is written.
 pub(crate) type Run = (&'static str, &'static str, &'static str, u8, &'static str);
 
 /// What a call came to.
@@ -54,22 +54,22 @@ pub(crate) const NONE: Faults<'static> = Faults {
     writes: &[],
 };
 
-fn words_of(alloc: Global, line: &str) -> Result<Vec<Text>, Memory> {
-    let mut words = Vec::new(alloc);
-    for word in line.split_whitespace() {
-        words.push(Text::new(alloc, word)?)?;
+fn arguments_of(alloc: Global, line: &str) -> Result<Vec<Text>, Memory> {
+    let mut arguments = Vec::new(alloc);
+    for argument in line.split_whitespace() {
+        arguments.push(Text::new(alloc, argument)?)?;
     }
-    Ok(words)
+    Ok(arguments)
 }
 
 /// Whether a call whose streams take whole texts is done and writes this text.
 pub(crate) fn writes(alloc: Global, line: &str, input: &[u8], text: &[u8]) -> Result<bool, Memory> {
-    let words = words_of(alloc, line)?;
+    let arguments = arguments_of(alloc, line)?;
     let input = Vec::from_slice(alloc, input)?;
     let mut source = MemSource::new(input, Vec::new(alloc), 65_536);
     let room = text.len().saturating_add(1);
     let mut sink = MemSink::new(alloc, room, Vec::new(alloc), 65_536).map_err(|_| Memory)?;
-    let status = tool(alloc, words.as_slice(), &mut source, &mut sink);
+    let status = tool(alloc, arguments.as_slice(), &mut source, &mut sink);
     Ok(status == 0 && sink.bytes() == text)
 }
 
@@ -80,12 +80,12 @@ pub(crate) fn call(
     input: &[u8],
     faults: &Faults<'_>,
 ) -> Result<Ended, Memory> {
-    let words = words_of(alloc, line)?;
+    let arguments = arguments_of(alloc, line)?;
     let reads = Vec::from_slice(alloc, faults.reads)?;
     let writes = Vec::from_slice(alloc, faults.writes)?;
     let mut source = MemSource::new(Vec::from_slice(alloc, input)?, reads, 10);
     let mut sink = MemSink::new(alloc, 100_000, writes, 10).map_err(|_| Memory)?;
-    let status = tool(alloc, words.as_slice(), &mut source, &mut sink);
+    let status = tool(alloc, arguments.as_slice(), &mut source, &mut sink);
     Ok(Ended { status, sink })
 }
 
@@ -103,7 +103,7 @@ pub(crate) fn comes_to(
 
 /// Whether a run ends so.
 pub(crate) fn runs_to(alloc: Global, run: &Run) -> Result<bool, Memory> {
-    let (words, text, data, status, written) = *run;
+    let (arguments, text, data, status, written) = *run;
     let input = format!(in alloc; "{text}{data}")?;
-    comes_to(alloc, words, input.as_bytes(), status, written)
+    comes_to(alloc, arguments, input.as_bytes(), status, written)
 }

@@ -245,7 +245,7 @@ const ANSWERS: [Run; 21] = [
         4,
         "TRAP DIVISION LINE 3\n",
     ),
-    // faults of the data, of the head, and of the words
+    // faults of the data, of the head, and of the arguments
     (HEAD, SQUARE, "X 3\nY 0\nX.D 2\n", 3, "DATA 4 LINE 0\n"),
     (
         "check --head Q --vars X --outvars Y",

@@ -1,9 +1,9 @@
-//! What words come to.
+//! What arguments come to.
 
 use crate::calls::{ADJOINT, NONE, SQUARE, WORDS, call, comes_to};
 use adj_tree::Memory;
 
-// Words, an input and what is written.
+// Arguments, an input and what is written.
 const TAKEN: [(&str, &[u8], &str); 13] = [
     (WORDS, SQUARE, ADJOINT),
     ("adjoint --outvars Y --vars X --head P", SQUARE, ADJOINT),
@@ -30,8 +30,11 @@ const TAKEN: [(&str, &[u8], &str); 13] = [
 
 #[test]
 fn words_that_are_taken(rt: HostRuntime) -> Result<(), Memory> {
-    for (words, input, text) in TAKEN {
-        assert!(rt; comes_to(rt.alloc(), words, input, 0, text)?, "{words}");
+    for (arguments, input, text) in TAKEN {
+        assert!(rt;
+            comes_to(rt.alloc(), arguments, input, 0, text)?,
+            "{arguments}"
+        );
     }
     Ok(())
 }
@@ -43,11 +46,11 @@ fn schedules_end_with_their_costs(rt: HostRuntime) -> Result<(), Memory> {
         ("schedule 100 5", "\nADVANCES 316\n"),
         ("schedule 1000 10", "\nADVANCES 3636\n"),
     ];
-    for (words, end) in ends {
-        let ended = call(rt.alloc(), words, b"", &NONE)?;
+    for (arguments, end) in ends {
+        let ended = call(rt.alloc(), arguments, b"", &NONE)?;
         assert!(rt;
             ended.status == 0 && ended.sink.bytes().ends_with(end.as_bytes()),
-            "{words}"
+            "{arguments}"
         );
     }
     Ok(())
@@ -104,10 +107,10 @@ const USAGE: [&str; 46] = [
 
 #[test]
 fn words_that_are_no_command(rt: HostRuntime) -> Result<(), Memory> {
-    for words in USAGE {
+    for arguments in USAGE {
         assert!(rt;
-            comes_to(rt.alloc(), words, SQUARE, 1, "USAGE\n")?,
-            "{words}"
+            comes_to(rt.alloc(), arguments, SQUARE, 1, "USAGE\n")?,
+            "{arguments}"
         );
     }
     Ok(())

@@ -83,7 +83,7 @@ fn a_text_with_another_byte(rt: HostRuntime) -> Result<(), Memory> {
     Ok(())
 }
 
-// Words, an input, the reads and the writes that fail, the status and what was written.
+// Arguments, an input, the reads and the writes that fail, the status and what was written.
 const FAILING: [(&str, &[u8], &[u64], &[u64], u8, &[u8]); 16] = [
     // a text of 80 bytes is read in eight pieces, and a ninth read finds its end
     (LINE, TEXT, &[1], &[], 7, b""),
@@ -109,9 +109,9 @@ const FAILING: [(&str, &[u8], &[u64], &[u64], u8, &[u8]); 16] = [
 #[test]
 fn a_read_or_a_write_that_fails(rt: HostRuntime) -> Result<(), Memory> {
     for (index, row) in FAILING.iter().enumerate() {
-        let (words, input, reads, writes, status, front) = *row;
+        let (arguments, input, reads, writes, status, front) = *row;
         let faults = Faults { reads, writes };
-        let ended = call(rt.alloc(), words, input, &faults)?;
+        let ended = call(rt.alloc(), arguments, input, &faults)?;
         assert_eq!(rt; ended.status, status, "{index}");
         assert!(rt; ended.sink.bytes() == front, "{index}");
     }

@@ -1,4 +1,4 @@
-//! Tests of the program's calls, whole: what words and texts come to.
+//! Tests of the program's calls, whole: what arguments and texts come to.
 //!
 //! `calls` is what the tests share: calls of `adj_tool::tool` with streams in memory. The crate stands on public calls alone, and
 //! offers nothing.

@@ -72,18 +72,18 @@ fn name_of(alloc: Global, number: u8) -> Result<String, Memory> {
     Ok(name)
 }
 
-// The words: the first of so many dummies depends on all the others.
-fn long_words(alloc: Global, dummies: u8) -> Result<String, Memory> {
-    let mut words = "adjoint --head P --vars ".to_string(alloc)?;
+// The arguments: the first of so many dummies depends on all the others.
+fn long_arguments(alloc: Global, dummies: u8) -> Result<String, Memory> {
+    let mut arguments = "adjoint --head P --vars ".to_string(alloc)?;
     for number in 1..dummies {
         if number > 1 {
-            words.push_str(",")?;
+            arguments.push_str(",")?;
         }
-        words.push_str(name_of(alloc, number)?.as_str())?;
+        arguments.push_str(name_of(alloc, number)?.as_str())?;
     }
-    words.push_str(" --outvars ")?;
-    words.push_str(name_of(alloc, 0)?.as_str())?;
-    Ok(words)
+    arguments.push_str(" --outvars ")?;
+    arguments.push_str(name_of(alloc, 0)?.as_str())?;
+    Ok(arguments)
 }
 
 // Writes a dummy's name.
@@ -178,9 +178,16 @@ fn long_adjoint(alloc: Global, dummies: u8) -> Result<Vec<u8>, Memory> {
 #[test]
 fn long_names_fill_statements_of_many_lines(rt: HostRuntime) -> Result<(), Memory> {
     let alloc = rt.alloc();
-    let words = long_words(alloc, MOST_IN_A_SOURCE)?;
+    let arguments = long_arguments(alloc, MOST_IN_A_SOURCE)?;
     let text = long_source(alloc, MOST_IN_A_SOURCE)?;
     let adjoint = long_adjoint(alloc, MOST_IN_A_SOURCE)?;
-    assert!(rt; writes(alloc, words.as_str(), text.as_slice(), adjoint.as_slice())?);
+    assert!(rt;
+        writes(
+            alloc,
+            arguments.as_str(),
+            text.as_slice(),
+            adjoint.as_slice()
+        )?
+    );
     Ok(())
 }

@@ -161,8 +161,11 @@ const CASES: [Case; 4] = [
 
 #[test]
 fn adjoints_of_statements_that_a_kernel_has_not(rt: HostRuntime) -> Result<(), Memory> {
-    for (shows, words, text, adjoint) in CASES {
-        assert!(rt; comes_to(rt.alloc(), words, text, 0, adjoint)?, "{shows}");
+    for (shows, arguments, text, adjoint) in CASES {
+        assert!(rt;
+            comes_to(rt.alloc(), arguments, text, 0, adjoint)?,
+            "{shows}"
+        );
     }
     Ok(())
 }

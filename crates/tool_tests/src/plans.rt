@@ -91,7 +91,7 @@ const ALONE: &str = "      SUBROUTINE R(A)
       END
 ";
 
-// The words, a text, the status and what is written.
+// The arguments, a text, the status and what is written.
 const PLANS: [(&str, &str, u8, &str); 10] = [
     (WORDS, UNUSED, 0, "P 3 ASSIGN ---\nP 4 ASSIGN -A-\n"),
     (
@@ -137,9 +137,9 @@ const PLANS: [(&str, &str, u8, &str); 10] = [
 
 #[test]
 fn plans_are_those_worked_out_by_hand(rt: HostRuntime) -> Result<(), Memory> {
-    for (words, text, status, written) in PLANS {
-        let same = comes_to(rt.alloc(), words, text.as_bytes(), status, written)?;
-        assert!(rt; same, "{words}: {written}");
+    for (arguments, text, status, written) in PLANS {
+        let same = comes_to(rt.alloc(), arguments, text.as_bytes(), status, written)?;
+        assert!(rt; same, "{arguments}: {written}");
     }
     Ok(())
 }

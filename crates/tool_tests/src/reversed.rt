@@ -206,7 +206,7 @@ const CHECKS: [Run; 2] = [
     ),
 ];
 
-// Words, values of X and N, the status and what is written.
+// Arguments, values of X and N, the status and what is written.
 const POWERS_CHECKS: [(&str, &str, u8, &str); 4] = [
     (
         POWERS_WORDS,
@@ -257,13 +257,13 @@ const NUMBERS: [(&str, &str); 4] = [("3", "15"), ("100", "9"), ("0", "45"), ("-5
 #[test]
 fn a_wave_has_the_snapshots_that_its_directive_says(rt: HostRuntime) -> Result<(), Memory> {
     let alloc = rt.alloc();
-    let words = "check --head WAVE --vars U --outvars S";
+    let arguments = "check --head WAVE --vars U --outvars S";
     for (said, status, end) in WAVES {
         let input = format!(in alloc; "{WAVE_BEGUN}{said}{WAVE_STEPS}{WAVE_DATA}")?;
         let begun = if status == 0 { WAVE_WRITTEN } else { "" };
         let written = format!(in alloc; "{begun}{end}")?;
         assert!(rt;
-            comes_to(alloc, words, input.as_bytes(), status, written.as_str())?,
+            comes_to(alloc, arguments, input.as_bytes(), status, written.as_str())?,
             "{said}"
         );
     }
@@ -291,10 +291,10 @@ fn products_are_equal_and_advances_are_the_least(rt: HostRuntime) -> Result<(), 
     for (index, run) in CHECKS.iter().enumerate() {
         assert!(rt; runs_to(rt.alloc(), run)?, "{index}");
     }
-    for (words, data, status, written) in POWERS_CHECKS {
+    for (arguments, data, status, written) in POWERS_CHECKS {
         let input = format!(in rt.alloc(); "{POWERS}$DATA\n{data}")?;
         assert!(rt;
-            comes_to(rt.alloc(), words, input.as_bytes(), status, written)?,
+            comes_to(rt.alloc(), arguments, input.as_bytes(), status, written)?,
             "{written}"
         );
     }
@@ -311,11 +311,11 @@ fn a_marked_loop_is_reversed_by_a_schedule(rt: HostRuntime) -> Result<(), Memory
 fn a_loop_of_one_turn_in_another_leaves_nothing_on_the_tape(rt: HostRuntime) -> Result<(), Memory> {
     let alloc = rt.alloc();
     let checked = format!(in alloc; "{ONE_TURN}$DATA\nX 3\nX.D 1\nX.B 1\n")?;
-    let words = "check --head P --vars X --outvars X";
+    let arguments = "check --head P --vars X --outvars X";
     let written = "OUT X 9\nTAN X 6\nADJ X 6\nPRODUCTS 6 6\nADVANCES 0\n";
-    assert!(rt; comes_to(alloc, words, checked.as_bytes(), 0, written)?);
-    let words = "adjoint --head P --vars X --outvars X";
-    let adjoint = call(alloc, words, ONE_TURN.as_bytes(), &NONE)?;
+    assert!(rt; comes_to(alloc, arguments, checked.as_bytes(), 0, written)?);
+    let arguments = "adjoint --head P --vars X --outvars X";
+    let adjoint = call(alloc, arguments, ONE_TURN.as_bytes(), &NONE)?;
     let mut input = Vec::from_slice(alloc, adjoint.sink.bytes())?;
     input.extend_from_slice(b"$DATA\nX 3\nXB 1\n")?;
     let ended = call(alloc, "run --head P_B", input.as_slice(), &NONE)?;

@@ -108,7 +108,7 @@ const ANSWERS: [Run; 19] = [
     ),
 ];
 
-// Units of X and Y with X 7 and Y 0, the words behind `run --head P`, the status and what is written.
+// Units of X and Y with X 7 and Y 0, the arguments behind `run --head P`, the status and what is written.
 const RUNS: [(&str, &str, u8, &str); 16] = [
     ("      Y=X*X\n", "", 0, "X 7\nY 49\nTAPE 0\nUSED 1\n"),
     (

@@ -418,8 +418,11 @@ const CASES: [Case; 9] = [
 
 #[test]
 fn adjoints_of_blocks(rt: HostRuntime) -> Result<(), Memory> {
-    for (shows, words, text, adjoint) in CASES {
-        assert!(rt; comes_to(rt.alloc(), words, text, 0, adjoint)?, "{shows}");
+    for (shows, arguments, text, adjoint) in CASES {
+        assert!(rt;
+            comes_to(rt.alloc(), arguments, text, 0, adjoint)?,
+            "{shows}"
+        );
     }
     Ok(())
 }

@@ -6,8 +6,8 @@ use Rattle.adj_checking.proofs.lines.push_flagged.Goals as goal
 
 pub returns-in_default : goal.returns-in_default
 returns-in_default c =
-    nothing_left c.loop-flag.out.items _ _ (no_names c.args.word.now (drop c.loop-flag.flag-index c.args.flags.now) c.loop-flag.unnamed.now (cells_of (map slot_seen c.loop-flag.rest.now)) c.in_default.len_below) c.loop-flag.invariant
+    nothing_left c.loop-flag.out.items _ _ (no_names c.args.keyword.now (drop c.loop-flag.flag-index c.args.flags.now) c.loop-flag.unnamed.now (cells_of (map slot_seen c.loop-flag.rest.now)) c.in_default.len_below) c.loop-flag.invariant
 
 pub returns-in_default-rest : goal.returns-in_default-rest
 returns-in_default-rest c =
-    nothing_left c.loop-flag.out.items _ _ (no_cells c.args.word.now (drop c.loop-flag.flag-index c.args.flags.now) c.loop-flag.unnamed.now c.loop-flag.rest.now c.in_default-rest.len_below) c.loop-flag.invariant
+    nothing_left c.loop-flag.out.items _ _ (no_cells c.args.keyword.now (drop c.loop-flag.flag-index c.args.flags.now) c.loop-flag.unnamed.now c.loop-flag.rest.now c.in_default-rest.len_below) c.loop-flag.invariant

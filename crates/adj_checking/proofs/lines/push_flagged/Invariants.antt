@@ -6,4 +6,4 @@ use Rattle.adj_checking.proofs.lines.push_flagged.Given as goal
 
 abbrev pub invariant-loop-flag : goal.invariant-loop-flag
 invariant-loop-flag l =
-    l.out.items ++ flagged_lines l.word (drop l.flag-index l.flags) l.unnamed (cells_of (map slot_seen l.rest)) ≡ l.fn.out.items ++ flagged_lines l.word l.flags l.names (cells_of (map slot_seen l.values))
+    l.out.items ++ flagged_lines l.keyword (drop l.flag-index l.flags) l.unnamed (cells_of (map slot_seen l.rest)) ≡ l.fn.out.items ++ flagged_lines l.keyword l.flags l.names (cells_of (map slot_seen l.values))

@@ -10,7 +10,7 @@ returns-in_err-entries-clause-fault c =
     let u = procedure_of c.args.unit.now in
     let h = c.args.head.now in
     let p = err_from_is_err_and c.from_residual-in_err-entries.result c.from_residual-in_err-entries.ensures.1 in
-    rw (p.1, p.2) (checked.at_words c.args.line c.args.bytes.now u h.vars h.outvars c.in_ok-names.names c.in_ok-names.ensures.same c.in_err-entries.field-0.0 c.in_err-entries.ensures.fault)
+    rw (p.1, p.2) (checked.at_items c.args.line c.args.bytes.now u h.vars h.outvars c.in_ok-names.names c.in_ok-names.ensures.same c.in_err-entries.field-0.0 c.in_err-entries.ensures.fault)
 
 pub returns-in_err-inputs-clause-fault : goal.returns-in_err-inputs-clause-fault
 returns-in_err-inputs-clause-fault c =

@@ -2,7 +2,7 @@ use Rattle.std.proofs.Common.{length, ap, subst, sym, ◌∙◌}
 use Rattle.std.proofs.lemmas.Bool.{eqb-true}
 use Rattle.std.proofs.lemmas.Result.{err_from_is_err_and}
 use Rattle.adj_text.specs.Line.{cut_lines}
-use Rattle.adj_data.specs.Entries.{with_words}
+use Rattle.adj_data.specs.Entries.{with_items}
 use Rattle.adj_data.specs.Faults.{entries_fault}
 use Rattle.adj_data.specs.Given.{IsFirstFault}
 use Rattle.adj_data.specs.Titles.{takes_marks}
@@ -30,4 +30,4 @@ returns-clause-ok c =
 pub returns-clause-entries : goal.returns-clause-entries
 returns-clause-entries c =
     let none = eqb-true (length c.loop-rest.rest.now) 0 (sym c.loop-rest-test.ensures) in
-    ap (with_words c.loop-rest.entries) (sym (nothing_left (takes_marks c.args.reading.now.titles) c.loop-rest.number c.loop-rest.rest.now none)) ∙ c.loop-rest.invariant.1
+    ap (with_items c.loop-rest.entries) (sym (nothing_left (takes_marks c.args.reading.now.titles) c.loop-rest.number c.loop-rest.rest.now none)) ∙ c.loop-rest.invariant.1

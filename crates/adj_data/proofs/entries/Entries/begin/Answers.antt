@@ -1,7 +1,7 @@
 use Rattle.std.proofs.Common.{◌≡◌, true, false, [], ◌∷◌, ◌++◌, map, ap, sym, ◌∙◌, if◌then◌else◌}
 use Rattle.std.specs.Prelude.{is_ok}
 use Rattle.std.proofs.lemmas.List.{map_push}
-use Rattle.adj_data.specs.Words.{name_of}
+use Rattle.adj_data.specs.Items.{name_of}
 use Rattle.adj_names.specs.Fresh.{has_name}
 use Rattle.adj_sets.specs.Sets.{with_added}
 use Rattle.adj_sets.proofs.NameSets.{with_added_is}
@@ -12,7 +12,7 @@ use Rattle.adj_data.proofs.entries.Entries.begin.Goals as goal
 
 pub returns-then-has-clause-fault : goal.returns-then-has-clause-fault
 returns-then-has-clause-fault c =
-    let x = name_of c.args.word.now in
+    let x = name_of c.args.item.now in
     let first = c.deref.ensures.value ∙ c.in_ok-name.ensures in
     let second = c.deref-2.ensures.value ∙ c.in_ok-name.ensures in
     let dummy : has_name x c.args.dummies.now ≡ true = ap (λ y. has_name y c.args.dummies.now) (sym first) ∙ sym c.has.ensures.found ∙ c.if-not-has.false in
@@ -21,7 +21,7 @@ returns-then-has-clause-fault c =
 
 pub returns-clause-ok : goal.returns-clause-ok
 returns-clause-ok c =
-    let x = name_of c.args.word.now in
+    let x = name_of c.args.item.now in
     let first = c.deref.ensures.value ∙ c.in_ok-name.ensures in
     let second = c.deref-2.ensures.value ∙ c.in_ok-name.ensures in
     let dummy : has_name x c.args.dummies.now ≡ true = ap (λ y. has_name y c.args.dummies.now) (sym first) ∙ sym c.has.ensures.found ∙ c.if-not-has.false in

@@ -1,11 +1,11 @@
--- Words of data: what stands between blanks, line by line. (docs/DATA.md, "Lines")
+-- Items of data: what stands between blanks, line by line. (docs/DATA.md, "Lines")
 use Rattle.std.specs.Prelude.{ℕ, ◌-◌, ◌==◌, ℤ, pos, neg_ℤ, Bool, true, false, not, ◌&&◌, ◌||◌, List, [], ◌∷◌, ◌++◌, map, filter, length, take, drop, if◌then◌else◌}
 use Rattle.std.specs.List.{list_all}
 use Rattle.std.specs.Char.{is_ascii_alphabetic, is_ascii_alphanumeric}
 use Rattle.adj_text.specs.Char.{minus, underscore, is_digit, is_blank, upper, number_of}
 use Rattle.adj_text.specs.Line.{in_front, without_cr, next_number}
 
--- one word with its line; `leads` where it is the first of that line, and `begins` where it is what begins an entry
+-- one item with its line; `leads` where it is the first of that line, and `begins` where it is what begins an entry
 pub record Item : Type 0 where
   pub line : ℕ
   pub leads : Bool
@@ -20,9 +20,9 @@ pieces (c ∷ cs) = if is_blank c then [] ∷ pieces cs else in_front c (pieces 
 abbrev pub has_some : List ℕ → Bool
 has_some w = not (length w == 0)
 
--- the words of a line: what isn't empty of that
-abbrev pub words_in : List ℕ → List (List ℕ)
-words_in l = filter has_some (pieces l)
+-- the items of a line: what isn't empty of that
+abbrev pub texts_in : List ℕ → List (List ℕ)
+texts_in l = filter has_some (pieces l)
 
 -- ---- names
 
@@ -50,15 +50,15 @@ name_of w = map upper w
 
 -- ---- lines
 
--- words as those of a line, of which the first may lead
+-- items as those of a line, of which the first may lead
 abbrev pub items_with : Bool → ℕ → Bool → List (List ℕ) → List Item
 items_with marks line leads [] = []
 items_with marks line leads (w ∷ ws) = record { line = line; leads = leads; begins = is_title marks w; text = w } ∷ items_with marks line false ws
 
--- the words of some lines, behind the line of a number
+-- the items of some lines, behind the line of a number
 abbrev pub items_of : Bool → ℕ → List (List ℕ) → List Item
 items_of marks n [] = []
-items_of marks n (l ∷ ls) = items_with marks (next_number n) true (words_in (without_cr l)) ++ items_of marks (next_number n) ls
+items_of marks n (l ∷ ls) = items_with marks (next_number n) true (texts_in (without_cr l)) ++ items_of marks (next_number n) ls
 
 -- ---- numbers
 
@@ -71,7 +71,7 @@ abbrev pub is_number : List ℕ → Bool
 is_number [] = false
 is_number (c ∷ cs) = if c == minus then are_digits cs else are_digits (c ∷ cs)
 
--- the number of such a word
+-- the number of such an item
 abbrev pub number_in : List ℕ → ℤ
 number_in [] = pos 0
 number_in (c ∷ cs) = if c == minus then neg_ℤ (pos (number_of cs)) else pos (number_of (c ∷ cs))

@@ -1,11 +1,11 @@
-//! Words of a line.
+//! Items of a line.
 
 ghost use Rattle.std.specs.Prelude.{◌≡◌, ◌∷◌, [], ◌<◌, ◌≤◌, ◌||◌, ◌==◌, not, length, map, MatchOption, IfOk};
 ghost use Rattle.std.specs.Char.{is_ascii_alphanumeric};
 ghost use Rattle.std.specs.List.{list_all, prefix_len};
 ghost use Rattle.adj_text.specs.Char.{underscore, is_digit, is_blank};
 ghost use Rattle.adj_data.specs.Titles.{takes_marks};
-ghost use Rattle.adj_data.specs.Words.{words_in, is_name, is_mark, is_marked, is_title, name_of, are_digits, is_number};
+ghost use Rattle.adj_data.specs.Items.{texts_in, is_name, is_mark, is_marked, is_title, name_of, are_digits, is_number};
 
 use adj_tree::Memory;
 use std::alloc::Global;
@@ -26,11 +26,11 @@ fn others(line: &[u8]) -> usize
     line.iter().take_while(|c| **c != b' ').count()
 }
 
-/// The first word of a line, and what stands behind it.
-pub(crate) fn next_word(line: &[u8]) -> Option<(&[u8], &[u8])>
+/// The first item of a line, and what stands behind it.
+pub(crate) fn next_item(line: &[u8]) -> Option<(&[u8], &[u8])>
     ensures { MatchOption result
-        (words_in line.now ≡ [])
-        (λ t. (words_in line.now ≡ t.0.now ∷ words_in t.1.now) × (length t.1.now < length line.now)) }
+        (texts_in line.now ≡ [])
+        (λ t. (texts_in line.now ≡ t.0.now ∷ texts_in t.1.now) × (length t.1.now < length line.now)) }
 {
     let rest = &line[blanks(line)..];
     let len = others(rest);
@@ -49,7 +49,7 @@ fn go_on_a_name(chars: &[u8]) -> bool
         .all(|c| c.is_ascii_alphanumeric() || *c == b'_')
 }
 
-/// Which words begin entries.
+/// Which items begin entries.
 #[derive(Clone, Copy, Debug, PartialEq, Eq)]
 pub enum Titles {
     /// Names.
@@ -58,29 +58,29 @@ pub enum Titles {
     NamesAndMarks,
 }
 
-/// Whether a word is a name.
-pub(crate) fn is_name(word: &[u8]) -> bool
-    ensures { result ≡ is_name word.now }
+/// Whether an item is a name.
+pub(crate) fn is_name(item: &[u8]) -> bool
+    ensures { result ≡ is_name item.now }
 {
-    match word.split_first() {
+    match item.split_first() {
         Some((first, rest)) => first.is_ascii_alphabetic() && go_on_a_name(rest),
         None => false,
     }
 }
 
 /// A name in capitals.
-pub(crate) fn name_of(alloc: Global, word: &[u8]) -> Result<Vec<u8>, Memory>
-    ensures { IfOk result (λ v. v.items ≡ name_of word.now) }
+pub(crate) fn name_of(alloc: Global, item: &[u8]) -> Result<Vec<u8>, Memory>
+    ensures { IfOk result (λ v. v.items ≡ name_of item.now) }
 {
-    let name = word.iter().map(|c| c.to_ascii_uppercase()).collect(alloc)?;
+    let name = item.iter().map(|c| c.to_ascii_uppercase()).collect(alloc)?;
     Ok(name)
 }
 
 // Whether that is `.D` or `.B`.
-fn is_mark(word: &[u8]) -> bool
-    ensures { result ≡ is_mark word.now }
+fn is_mark(item: &[u8]) -> bool
+    ensures { result ≡ is_mark item.now }
 {
-    match word {
+    match item {
         [point, kind] => {
             let kind = kind.to_ascii_uppercase();
             *point == b'.' && (kind == b'D' || kind == b'B')
@@ -89,21 +89,21 @@ fn is_mark(word: &[u8]) -> bool
     }
 }
 
-// Whether a word is a name with a mark behind it.
-fn is_marked(word: &[u8]) -> bool
-    ensures { result ≡ is_marked word.now }
+// Whether an item is a name with a mark behind it.
+fn is_marked(item: &[u8]) -> bool
+    ensures { result ≡ is_marked item.now }
 {
-    let end = word.len().saturating_sub(2);
-    is_name(&word[..end]) && is_mark(&word[end..])
+    let end = item.len().saturating_sub(2);
+    is_name(&item[..end]) && is_mark(&item[end..])
 }
 
-/// Whether a word begins an entry.
-pub(crate) fn is_title(titles: Titles, word: &[u8]) -> bool
-    ensures { result ≡ is_title (takes_marks titles) word.now }
+/// Whether an item begins an entry.
+pub(crate) fn is_title(titles: Titles, item: &[u8]) -> bool
+    ensures { result ≡ is_title (takes_marks titles) item.now }
 {
     match titles {
-        Titles::Names => is_name(word),
-        Titles::NamesAndMarks => is_name(word) || is_marked(word),
+        Titles::Names => is_name(item),
+        Titles::NamesAndMarks => is_name(item) || is_marked(item),
     }
 }
 
@@ -113,21 +113,21 @@ fn go_on_a_number(chars: &[u8]) -> bool
     chars.iter().all(|c| c.is_ascii_digit())
 }
 
-fn are_digits(word: &[u8]) -> bool
-    ensures { result ≡ are_digits word.now }
+fn are_digits(item: &[u8]) -> bool
+    ensures { result ≡ are_digits item.now }
 {
-    match word.split_first() {
+    match item.split_first() {
         Some((first, rest)) => first.is_ascii_digit() && go_on_a_number(rest),
         None => false,
     }
 }
 
-/// Whether a word is a number.
-pub(crate) fn is_number(word: &[u8]) -> bool
-    ensures { result ≡ is_number word.now }
+/// Whether an item is a number.
+pub(crate) fn is_number(item: &[u8]) -> bool
+    ensures { result ≡ is_number item.now }
 {
-    match word {
+    match item {
         [b'-', digits @ ..] => are_digits(digits),
-        _ => are_digits(word),
+        _ => are_digits(item),
     }
 }
