@@ -14,6 +14,7 @@ ghost use Rattle.adj_emission.specs.Rows.{turns};
 ghost use Rattle.adj_emission.specs.Steps.{keep_of, back_of, plain_of, adjoint_of};
 
 use crate::actuals::{Actual, Group};
+use crate::loops::of_depth;
 use crate::plan::{At, Plan};
 use crate::slots::literal;
 use adj_naming::role::Role;
@@ -62,23 +63,6 @@ fn is_empty(code: &Stmts) -> bool
 }
 
 impl<'a> Plan<'a> {
-    // The helper of a role for loops of a depth, as a term.
-    fn own_at(&self, alloc: Global, role: Role, depth: usize) -> Result<Expr, Memory>
-        ensures term { IfOk result (λ e. term_of e ≡ var (naming_in self.now (helper (role_of role) depth))) }
-    {
-        let name = self.names.helper(alloc, role, depth)?;
-        Ok(Expr::Var(name))
-    }
-
-    // The same on the heap.
-    fn boxed_at(&self, alloc: Global, role: Role, depth: usize) -> Result<Box<Expr>, Memory>
-        ensures term { IfOk result (λ e. term_of e.value ≡ var (naming_in self.now (helper (role_of role) depth))) }
-    {
-        let term = self.own_at(alloc, role, depth)?;
-        let made = boxed(alloc, term)?;
-        Ok(made)
-    }
-
     // The snapshot of a step is pushed.
     fn keep(&self, alloc: Global, at: At, step: &Step) -> Result<Stmts, Memory>
         ensures keep { IfOk result (λ c. (callees : List ℕ → Callee) → code_of c ≡ rename (naming_in self.now) (keep_of (plan_of self.now callees) at.number at.line step.now)) }
@@ -128,8 +112,8 @@ impl<'a> Plan<'a> {
         ensures steps { IfOk result (λ a. act_of a ≡ turns (naming_in self.now (helper turn depth)) (var (naming_in self.now (helper lower depth))) (bin minus (var (naming_in self.now (helper upper depth))) (lit (pos 1))) (lit (pos 1)) (code_of body)) }
     {
         let turn = self.names.helper(alloc, Role::Turn, depth)?;
-        let first = self.boxed_at(alloc, Role::Lower, depth)?;
-        let left = self.boxed_at(alloc, Role::Upper, depth)?;
+        let first = self.boxed_own(alloc, of_depth(Role::Lower, depth))?;
+        let left = self.boxed_own(alloc, of_depth(Role::Upper, depth))?;
         let last = Expr::Bin(Op::Sub, left, boxed(alloc, Expr::Lit(1))?);
         let limit = boxed(alloc, last)?;
         let step = boxed(alloc, Expr::Lit(1))?;
@@ -152,9 +136,9 @@ impl<'a> Plan<'a> {
     fn is_kind(&self, alloc: Global, depth: usize, code: u32) -> Result<Cond, Memory>
         ensures test { IfOk result (λ c. test_of c ≡ compare is_same (var (naming_in self.now (helper kind depth))) (literal code)) }
     {
-        let own = self.own_at(alloc, Role::Kind, depth)?;
-        let left = Box::new(alloc, own)?;
-        Ok(Cond::Cmp(Rel::Eq, left, Box::new(alloc, literal(code))?))
+        let left = self.boxed_own(alloc, of_depth(Role::Kind, depth))?;
+        let right = boxed(alloc, literal(code))?;
+        Ok(Cond::Cmp(Rel::Eq, left, right))
     }
 
     // What is done for the actions of a kind, and then the rest. An empty arm is left out.
@@ -201,9 +185,9 @@ impl<'a> Plan<'a> {
     fn give(&self, alloc: Global, depth: usize, mark: &Mark) -> Result<RunCall, Memory>
         ensures call { IfOk result (λ c. runtime_of c ≡ give_action (var (naming_in self.now (helper count depth))) (rename_term (naming_in self.now) (slots_of depth (mark_of mark.now))) (var (naming_in self.now (helper entry depth))) (naming_in self.now (helper kind depth)) (naming_in self.now (helper lower depth)) (naming_in self.now (helper upper depth))) }
     {
-        let steps = self.boxed_at(alloc, Role::Count, depth)?;
+        let steps = self.boxed_own(alloc, of_depth(Role::Count, depth))?;
         let stored = self.slots_of(alloc, depth, mark)?;
-        let number = self.boxed_at(alloc, Role::Entry, depth)?;
+        let number = self.boxed_own(alloc, of_depth(Role::Entry, depth))?;
         let kind = self.names.helper(alloc, Role::Kind, depth)?;
         let lower = self.names.helper(alloc, Role::Lower, depth)?;
         let upper = self.names.helper(alloc, Role::Upper, depth)?;
@@ -233,7 +217,7 @@ impl<'a> Plan<'a> {
     {
         let body = self.one_action(alloc, at, variable, step)?;
         let number = self.names.helper(alloc, Role::Entry, at.depth)?;
-        let last = self.boxed_at(alloc, Role::Entries, at.depth)?;
+        let last = self.boxed_own(alloc, of_depth(Role::Entries, at.depth))?;
         let first = boxed(alloc, Expr::Lit(1))?;
         let by = boxed(alloc, Expr::Lit(1))?;
         Ok(Act::Loop(number, first, last, by, body, Mark::Plain))
@@ -243,7 +227,7 @@ impl<'a> Plan<'a> {
     fn begin(&self, alloc: Global, depth: usize, mark: &Mark) -> Result<RunCall, Memory>
         ensures call { IfOk result (λ c. runtime_of c ≡ begin_reversal (var (naming_in self.now (helper count depth))) (rename_term (naming_in self.now) (slots_of depth (mark_of mark.now)))) }
     {
-        let steps = self.boxed_at(alloc, Role::Count, depth)?;
+        let steps = self.boxed_own(alloc, of_depth(Role::Count, depth))?;
         let stored = self.slots_of(alloc, depth, mark)?;
         Ok(RunCall::Begin(steps, stored))
     }
@@ -252,7 +236,7 @@ impl<'a> Plan<'a> {
     fn count(&self, alloc: Global, depth: usize, mark: &Mark) -> Result<RunCall, Memory>
         ensures call { IfOk result (λ c. runtime_of c ≡ count_actions (var (naming_in self.now (helper count depth))) (rename_term (naming_in self.now) (slots_of depth (mark_of mark.now))) (naming_in self.now (helper entries depth))) }
     {
-        let steps = self.boxed_at(alloc, Role::Count, depth)?;
+        let steps = self.boxed_own(alloc, of_depth(Role::Count, depth))?;
         let stored = self.slots_of(alloc, depth, mark)?;
         let made = self.names.helper(alloc, Role::Entries, depth)?;
         Ok(RunCall::Actions(steps, stored, made))
