@@ -1,5 +1,5 @@
 ! The unit test of the runtime: what is pushed comes back in the other order, arrays whole, and the schedules play.
-! Words: a number of steps and of snapshots, of which the schedule is printed as the command `schedule` prints it.
+! Arguments: a number of steps and of snapshots, of which the schedule is printed as the command `schedule` prints it.
 program test
   use, intrinsic :: iso_fortran_env, only: int64, error_unit
   implicit none
