@@ -13,6 +13,6 @@ use Rattle.adj_share.specs.Shares.{share_code}
 pub record IsApart (r : Var → Var) (on : Vars) (line : ℕ) (t : Term) (j : ℕ) (p : Parts) : Type 0 where
   pub next : p.next ≡ j + temps_in_where on t
   pub active : p.active ≡ is_active_where on t
-  pub term : term_of p.term ≡ rename_term r (shrunk_where on t j)
+  pub term : term_of p.term.value ≡ rename_term r (shrunk_where on t j)
   -- what becomes of its adjoint in the k-th work variable
-  pub share : (k : ℕ) → share_code r line p.share k ≡ rename r (code_if (is_active_where on t) (back_where on t k j line))
+  pub share : (k : ℕ) → share_code r line p.share.value k ≡ rename r (code_if (is_active_where on t) (back_where on t k j line))

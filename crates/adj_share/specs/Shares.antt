@@ -16,9 +16,9 @@ guarded_power base exponent = power_of base (bin greater (bin minus exponent (li
 -- the product of a term with a factor
 abbrev pub scaled_by : Factor → Term → Term
 scaled_by Opposite w = neg w
-scaled_by (Value e) w = bin times w (term_of e)
-scaled_by (Power base n) w = bin times (bin times w (lit (pos n))) (pow (term_of base) (n - 1))
-scaled_by (PowerBy base exponent) w = bin times (bin times w (term_of exponent)) (guarded_power (term_of base) (term_of exponent))
+scaled_by (Value e) w = bin times w (term_of e.value)
+scaled_by (Power base n) w = bin times (bin times w (lit (pos n))) (pow (term_of base.value) (n - 1))
+scaled_by (PowerBy base exponent) w = bin times (bin times w (term_of exponent.value)) (guarded_power (term_of base.value) (term_of exponent.value))
 
 -- what is written of a share, where the adjoint of the term stands in the k-th work variable
 abbrev pub share_code : (Var → Var) → ℕ → Share → ℕ → Code

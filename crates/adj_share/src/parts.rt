@@ -8,33 +8,35 @@ ghost use Rattle.adj_share.specs.Shares.{share_code, scaled_code, guarded_power}
 ghost use Rattle.adj_share.specs.declared.share.Share.TheVariants as made;
 
 use crate::share::{Factor, Share, both, by_exponent, by_power, by_value, scaled};
-use adj_tree::{Expr, Memory, Op};
+use adj_tree::{Expr, Memory, Op, boxed};
 use std::alloc::Global;
 
 /// A term that was taken apart.
 #[derive(Drop)]
 pub struct Parts {
     /// It with temporaries for its operands.
-    pub term: Expr,
+    pub term: Box<Expr>,
     /// The number of the next temporary.
     pub next: usize,
     pub active: bool,
     /// What becomes of its adjoint.
-    pub share: Share,
+    pub share: Box<Share>,
 }
 
 /// A term that has no derivative.
 pub fn whole(alloc: Global, e: &Expr, first: usize) -> Result<Parts, Memory>
     ensures next { IfOk result (λ p. p.next ≡ first) }
     ensures passive { IfOk result (λ p. p.active ≡ false) }
-    ensures term { IfOk result (λ p. term_of p.term ≡ term_of e.now) }
-    ensures share { IfOk result (λ p. p.share ≡ made.Nothing) }
+    ensures term { IfOk result (λ p. term_of p.term.value ≡ term_of e.now) }
+    ensures share { IfOk result (λ p. p.share.value ≡ made.Nothing) }
 {
+    let term = e.copy_boxed(alloc)?;
+    let share = boxed(alloc, Share::Nothing)?;
     Ok(Parts {
-        term: e.copy(alloc)?,
+        term,
         next: first,
         active: false,
-        share: Share::Nothing,
+        share,
     })
 }
 
@@ -42,15 +44,17 @@ pub fn whole(alloc: Global, e: &Expr, first: usize) -> Result<Parts, Memory>
 pub fn constant(alloc: Global, e: &Expr, first: usize) -> Result<Parts, Memory>
     ensures next { IfOk result (λ p. p.next ≡ first) }
     ensures passive { IfOk result (λ p. p.active ≡ false) }
-    ensures term { IfOk result (λ p. term_of p.term ≡ pow (term_of e.now) 0) }
-    ensures share { IfOk result (λ p. p.share ≡ made.Nothing) }
+    ensures term { IfOk result (λ p. term_of p.term.value ≡ pow (term_of e.now) 0) }
+    ensures share { IfOk result (λ p. p.share.value ≡ made.Nothing) }
 {
-    let base = Box::new(alloc, e.copy(alloc)?)?;
+    let base = e.copy_boxed(alloc)?;
+    let term = boxed(alloc, Expr::Pow(base, 0))?;
+    let share = boxed(alloc, Share::Nothing)?;
     Ok(Parts {
-        term: Expr::Pow(base, 0),
+        term,
         next: first,
         active: false,
-        share: Share::Nothing,
+        share,
     })
 }
 
@@ -58,12 +62,13 @@ pub fn constant(alloc: Global, e: &Expr, first: usize) -> Result<Parts, Memory>
 pub fn opposite(alloc: Global, a: Parts) -> Result<Parts, Memory>
     ensures next { IfOk result (λ p. p.next ≡ a.next) }
     ensures active { IfOk result (λ p. p.active ≡ a.active) }
-    ensures term { IfOk result (λ p. term_of p.term ≡ neg (term_of a.term)) }
-    ensures share { IfOk result (λ p. (r : Var → Var) (line k : ℕ) → share_code r line p.share k ≡ scaled_code r line a.active (neg (var (r (helper work k)))) a.share k) }
+    ensures term { IfOk result (λ p. term_of p.term.value ≡ neg (term_of a.term.value)) }
+    ensures share { IfOk result (λ p. (r : Var → Var) (line k : ℕ) → share_code r line p.share.value k ≡ scaled_code r line a.active (neg (var (r (helper work k)))) a.share.value k) }
 {
     let share = scaled(alloc, a.active, Factor::Opposite, a.share)?;
+    let term = boxed(alloc, Expr::Neg(a.term))?;
     Ok(Parts {
-        term: Expr::Neg(Box::new(alloc, a.term)?),
+        term,
         next: a.next,
         active: a.active,
         share,
@@ -74,13 +79,13 @@ pub fn opposite(alloc: Global, a: Parts) -> Result<Parts, Memory>
 pub fn sum_of(alloc: Global, a: Parts, b: Parts) -> Result<Parts, Memory>
     ensures next { IfOk result (λ p. p.next ≡ b.next) }
     ensures active { IfOk result (λ p. p.active ≡ (a.active || b.active)) }
-    ensures term { IfOk result (λ p. term_of p.term ≡ bin plus (term_of a.term) (term_of b.term)) }
-    ensures share { IfOk result (λ p. (r : Var → Var) (line k : ℕ) → share_code r line p.share k ≡ share_code r line a.share k +++ share_code r line b.share k) }
+    ensures term { IfOk result (λ p. term_of p.term.value ≡ bin plus (term_of a.term.value) (term_of b.term.value)) }
+    ensures share { IfOk result (λ p. (r : Var → Var) (line k : ℕ) → share_code r line p.share.value k ≡ share_code r line a.share.value k +++ share_code r line b.share.value k) }
 {
     let share = both(alloc, a.share, b.share)?;
-    let left = Box::new(alloc, a.term)?;
+    let term = boxed(alloc, Expr::Bin(Op::Add, a.term, b.term))?;
     Ok(Parts {
-        term: Expr::Bin(Op::Add, left, Box::new(alloc, b.term)?),
+        term,
         next: b.next,
         active: a.active || b.active,
         share,
@@ -91,14 +96,14 @@ pub fn sum_of(alloc: Global, a: Parts, b: Parts) -> Result<Parts, Memory>
 pub fn difference_of(alloc: Global, a: Parts, b: Parts) -> Result<Parts, Memory>
     ensures next { IfOk result (λ p. p.next ≡ b.next) }
     ensures active { IfOk result (λ p. p.active ≡ (a.active || b.active)) }
-    ensures term { IfOk result (λ p. term_of p.term ≡ bin minus (term_of a.term) (term_of b.term)) }
-    ensures share { IfOk result (λ p. (r : Var → Var) (line k : ℕ) → share_code r line p.share k ≡ share_code r line a.share k +++ scaled_code r line b.active (neg (var (r (helper work k)))) b.share k) }
+    ensures term { IfOk result (λ p. term_of p.term.value ≡ bin minus (term_of a.term.value) (term_of b.term.value)) }
+    ensures share { IfOk result (λ p. (r : Var → Var) (line k : ℕ) → share_code r line p.share.value k ≡ share_code r line a.share.value k +++ scaled_code r line b.active (neg (var (r (helper work k)))) b.share.value k) }
 {
     let second = scaled(alloc, b.active, Factor::Opposite, b.share)?;
     let share = both(alloc, a.share, second)?;
-    let left = Box::new(alloc, a.term)?;
+    let term = boxed(alloc, Expr::Bin(Op::Sub, a.term, b.term))?;
     Ok(Parts {
-        term: Expr::Bin(Op::Sub, left, Box::new(alloc, b.term)?),
+        term,
         next: b.next,
         active: a.active || b.active,
         share,
@@ -109,15 +114,15 @@ pub fn difference_of(alloc: Global, a: Parts, b: Parts) -> Result<Parts, Memory>
 pub fn product_of(alloc: Global, a: Parts, b: Parts) -> Result<Parts, Memory>
     ensures next { IfOk result (λ p. p.next ≡ b.next) }
     ensures active { IfOk result (λ p. p.active ≡ (a.active || b.active)) }
-    ensures term { IfOk result (λ p. term_of p.term ≡ bin times (term_of a.term) (term_of b.term)) }
-    ensures share { IfOk result (λ p. (r : Var → Var) (line k : ℕ) → share_code r line p.share k ≡ scaled_code r line a.active (bin times (var (r (helper work k))) (term_of b.term)) a.share k +++ scaled_code r line b.active (bin times (var (r (helper work k))) (term_of a.term)) b.share k) }
+    ensures term { IfOk result (λ p. term_of p.term.value ≡ bin times (term_of a.term.value) (term_of b.term.value)) }
+    ensures share { IfOk result (λ p. (r : Var → Var) (line k : ℕ) → share_code r line p.share.value k ≡ scaled_code r line a.active (bin times (var (r (helper work k))) (term_of b.term.value)) a.share.value k +++ scaled_code r line b.active (bin times (var (r (helper work k))) (term_of a.term.value)) b.share.value k) }
 {
     let first = by_value(alloc, a.active, &b.term, a.share)?;
     let second = by_value(alloc, b.active, &a.term, b.share)?;
     let share = both(alloc, first, second)?;
-    let left = Box::new(alloc, a.term)?;
+    let term = boxed(alloc, Expr::Bin(Op::Mul, a.term, b.term))?;
     Ok(Parts {
-        term: Expr::Bin(Op::Mul, left, Box::new(alloc, b.term)?),
+        term,
         next: b.next,
         active: a.active || b.active,
         share,
@@ -128,11 +133,12 @@ pub fn product_of(alloc: Global, a: Parts, b: Parts) -> Result<Parts, Memory>
 pub fn same(alloc: Global, a: Parts) -> Result<Parts, Memory>
     ensures next { IfOk result (λ p. p.next ≡ a.next) }
     ensures active { IfOk result (λ p. p.active ≡ a.active) }
-    ensures term { IfOk result (λ p. term_of p.term ≡ pow (term_of a.term) 1) }
-    ensures share { IfOk result (λ p. (r : Var → Var) (line k : ℕ) → share_code r line p.share k ≡ share_code r line a.share k) }
+    ensures term { IfOk result (λ p. term_of p.term.value ≡ pow (term_of a.term.value) 1) }
+    ensures share { IfOk result (λ p. (r : Var → Var) (line k : ℕ) → share_code r line p.share.value k ≡ share_code r line a.share.value k) }
 {
+    let term = boxed(alloc, Expr::Pow(a.term, 1))?;
     Ok(Parts {
-        term: Expr::Pow(Box::new(alloc, a.term)?, 1),
+        term,
         next: a.next,
         active: a.active,
         share: a.share,
@@ -143,8 +149,8 @@ pub fn same(alloc: Global, a: Parts) -> Result<Parts, Memory>
 pub fn constant_power(alloc: Global, a: Parts, power: u32) -> Result<Parts, Memory>
     ensures next { IfOk result (λ p. p.next ≡ a.next) }
     ensures active { IfOk result (λ p. p.active ≡ a.active) }
-    ensures term { IfOk result (λ p. term_of p.term ≡ pow (term_of a.term) power) }
-    ensures share { IfOk result (λ p. (r : Var → Var) (line k : ℕ) → share_code r line p.share k ≡ scaled_code r line a.active (bin times (bin times (var (r (helper work k))) (lit (pos power))) (pow (term_of a.term) (power - 1))) a.share k) }
+    ensures term { IfOk result (λ p. term_of p.term.value ≡ pow (term_of a.term.value) power) }
+    ensures share { IfOk result (λ p. (r : Var → Var) (line k : ℕ) → share_code r line p.share.value k ≡ scaled_code r line a.active (bin times (bin times (var (r (helper work k))) (lit (pos power))) (pow (term_of a.term.value) (power - 1))) a.share.value k) }
 {
     let Parts {
         term,
@@ -153,8 +159,9 @@ pub fn constant_power(alloc: Global, a: Parts, power: u32) -> Result<Parts, Memo
         share,
     } = a;
     let share = by_power(alloc, active, &term, power, share)?;
+    let term = boxed(alloc, Expr::Pow(term, power))?;
     Ok(Parts {
-        term: Expr::Pow(Box::new(alloc, term)?, power),
+        term,
         next,
         active,
         share,
@@ -165,8 +172,8 @@ pub fn constant_power(alloc: Global, a: Parts, power: u32) -> Result<Parts, Memo
 pub fn variable_power(alloc: Global, a: Parts, b: Parts) -> Result<Parts, Memory>
     ensures next { IfOk result (λ p. p.next ≡ b.next) }
     ensures active { IfOk result (λ p. p.active ≡ a.active) }
-    ensures term { IfOk result (λ p. term_of p.term ≡ power_of (term_of a.term) (term_of b.term)) }
-    ensures share { IfOk result (λ p. (r : Var → Var) (line k : ℕ) → share_code r line p.share k ≡ scaled_code r line a.active (bin times (bin times (var (r (helper work k))) (term_of b.term)) (guarded_power (term_of a.term) (term_of b.term))) a.share k) }
+    ensures term { IfOk result (λ p. term_of p.term.value ≡ power_of (term_of a.term.value) (term_of b.term.value)) }
+    ensures share { IfOk result (λ p. (r : Var → Var) (line k : ℕ) → share_code r line p.share.value k ≡ scaled_code r line a.active (bin times (bin times (var (r (helper work k))) (term_of b.term.value)) (guarded_power (term_of a.term.value) (term_of b.term.value))) a.share.value k) }
 {
     let Parts {
         term,
@@ -175,9 +182,9 @@ pub fn variable_power(alloc: Global, a: Parts, b: Parts) -> Result<Parts, Memory
         next: _,
     } = a;
     let share = by_exponent(alloc, active, &term, &b.term, share)?;
-    let base = Box::new(alloc, term)?;
+    let term = boxed(alloc, Expr::Power(term, b.term))?;
     Ok(Parts {
-        term: Expr::Power(base, Box::new(alloc, b.term)?),
+        term,
         next: b.next,
         active,
         share,

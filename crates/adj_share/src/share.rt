@@ -1,12 +1,12 @@
 //! What becomes of the adjoint of a term (docs/EMITTED.md, "The adjoint of an assignment").
 
 ghost use Rattle.std.specs.Prelude.{◌≡◌, ◌-◌, pos, ℕ, IfOk};
-ghost use Rattle.adj_tree.specs.Code.{Var, helper, work, var, bin, times, neg, pow, lit};
+ghost use Rattle.adj_tree.specs.Code.{Var, helper, work, var, bin, greater, minus, times, neg, pow, lit};
 ghost use Rattle.adj_tree.specs.View.{term_of};
 ghost use Rattle.adj_meaning.specs.Append.{◌+++◌};
 ghost use Rattle.adj_share.specs.Shares.{guarded_power, scaled_by, share_code, scaled_code};
 
-use adj_tree::{Expr, Exprs, Memory, Name, Op};
+use adj_tree::{Expr, Exprs, Memory, Name, Op, boxed};
 use std::alloc::Global;
 
 /// The derivative of a term by an operand, which the adjoint of the term is multiplied by.
@@ -15,11 +15,11 @@ pub enum Factor {
     /// -1.
     Opposite,
     /// A value.
-    Value(Expr),
+    Value(Box<Expr>),
     /// That of a constant power of at least 2.
-    Power(Expr, u32),
+    Power(Box<Expr>, u32),
     /// That of a power whose exponent is an expression.
-    PowerBy(Expr, Expr),
+    PowerBy(Box<Expr>, Box<Expr>),
 }
 
 /// What becomes of the adjoint of a term, which stands in a work variable.
@@ -43,67 +43,85 @@ impl Factor {
     pub fn times(&self, alloc: Global, w: Expr) -> Result<Expr, Memory>
         ensures product { IfOk result (λ e. term_of e ≡ scaled_by self.now (term_of w)) }
     {
+        let term = boxed(alloc, w)?;
         match self {
-            Factor::Opposite => Ok(Expr::Neg(Box::new(alloc, w)?)),
-            Factor::Value(e) => {
-                let value = e.copy(alloc)?;
-                multiplied(alloc, w, value)
+            Factor::Opposite => Ok(Expr::Neg(term)),
+            Factor::Value(value) => {
+                let copied = value.copy_boxed(alloc)?;
+                Ok(Expr::Bin(Op::Mul, term, copied))
             }
             Factor::Power(base, power) => {
-                let share = multiplied(alloc, w, Expr::Lit(i64::from(*power)))?;
-                let value = Box::new(alloc, base.copy(alloc)?)?;
-                let less = Expr::Pow(value, power.saturating_sub(1));
-                multiplied(alloc, share, less)
+                let times = boxed(alloc, Expr::Lit(i64::from(*power)))?;
+                let share = boxed(alloc, Expr::Bin(Op::Mul, term, times))?;
+                let copied = base.copy_boxed(alloc)?;
+                let less = boxed(alloc, Expr::Pow(copied, power.saturating_sub(1)))?;
+                Ok(Expr::Bin(Op::Mul, share, less))
             }
             Factor::PowerBy(base, exponent) => {
-                let share = multiplied(alloc, w, exponent.copy(alloc)?)?;
+                let times = exponent.copy_boxed(alloc)?;
+                let share = boxed(alloc, Expr::Bin(Op::Mul, term, times))?;
                 let less = guarded(alloc, base, exponent)?;
-                multiplied(alloc, share, less)
+                Ok(Expr::Bin(Op::Mul, share, less))
             }
         }
     }
 }
 
-// The product of two terms.
-fn multiplied(alloc: Global, a: Expr, b: Expr) -> Result<Expr, Memory>
-    ensures product { IfOk result (λ e. term_of e ≡ bin times (term_of a) (term_of b)) }
+// A term less 1, but not below 0.
+fn lessened(alloc: Global, e: &Expr) -> Result<Box<Expr>, Memory>
+    ensures less { IfOk result (λ x. term_of x.value ≡ bin greater (bin minus (term_of e.now) (lit (pos 1))) (lit (pos 0))) }
 {
-    let left = Box::new(alloc, a)?;
-    Ok(Expr::Bin(Op::Mul, left, Box::new(alloc, b)?))
+    let value = e.copy_boxed(alloc)?;
+    let one = boxed(alloc, Expr::Lit(1))?;
+    let less = boxed(alloc, Expr::Bin(Op::Sub, value, one))?;
+    let bound = boxed(alloc, Expr::Lit(0))?;
+    let made = boxed(alloc, Expr::Bin(Op::Max, less, bound))?;
+    Ok(made)
 }
 
 // The power with an exponent that is less by 1, but not below 0.
-fn guarded(alloc: Global, base: &Expr, exponent: &Expr) -> Result<Expr, Memory>
-    ensures power { IfOk result (λ e. term_of e ≡ guarded_power (term_of base.now) (term_of exponent.now)) }
+fn guarded(alloc: Global, base: &Expr, exponent: &Expr) -> Result<Box<Expr>, Memory>
+    ensures power { IfOk result (λ e. term_of e.value ≡ guarded_power (term_of base.now) (term_of exponent.now)) }
 {
-    let value = Box::new(alloc, exponent.copy(alloc)?)?;
-    let less = Expr::Bin(Op::Sub, value, Box::new(alloc, Expr::Lit(1))?);
-    let bound = Box::new(alloc, Expr::Lit(0))?;
-    let guard = Expr::Bin(Op::Max, Box::new(alloc, less)?, bound);
-    let value = Box::new(alloc, base.copy(alloc)?)?;
-    Ok(Expr::Power(value, Box::new(alloc, guard)?))
+    let less = lessened(alloc, exponent)?;
+    let value = base.copy_boxed(alloc)?;
+    let made = boxed(alloc, Expr::Power(value, less))?;
+    Ok(made)
 }
 
 /// The share of a term whose operand has this one, by a factor; nothing where the operand isn't active.
-pub fn scaled(alloc: Global, active: bool, factor: Factor, share: Share) -> Result<Share, Memory>
-    ensures share { IfOk result (λ s. (r : Var → Var) (line k : ℕ) → share_code r line s k ≡ scaled_code r line active (scaled_by factor (var (r (helper work k)))) share k) }
+pub fn scaled(
+    alloc: Global,
+    active: bool,
+    factor: Factor,
+    share: Box<Share>,
+) -> Result<Box<Share>, Memory>
+    ensures share { IfOk result (λ s. (r : Var → Var) (line k : ℕ) → share_code r line s.value k ≡ scaled_code r line active (scaled_by factor (var (r (helper work k)))) share.value k) }
 {
-    if active {
-        Ok(Share::Scaled(factor, Box::new(alloc, share)?))
+    let made = if active {
+        boxed(alloc, Share::Scaled(factor, share))?
     } else {
-        Ok(Share::Nothing)
-    }
+        boxed(alloc, Share::Nothing)?
+    };
+    Ok(made)
 }
 
 /// The share of a factor whose own share this is, by the other factor.
-pub fn by_value(alloc: Global, active: bool, value: &Expr, share: Share) -> Result<Share, Memory>
-    ensures share { IfOk result (λ s. (r : Var → Var) (line k : ℕ) → share_code r line s k ≡ scaled_code r line active (bin times (var (r (helper work k))) (term_of value.now)) share k) }
+pub fn by_value(
+    alloc: Global,
+    active: bool,
+    value: &Expr,
+    share: Box<Share>,
+) -> Result<Box<Share>, Memory>
+    ensures share { IfOk result (λ s. (r : Var → Var) (line k : ℕ) → share_code r line s.value k ≡ scaled_code r line active (bin times (var (r (helper work k))) (term_of value.now)) share.value k) }
 {
     if !active {
-        return Ok(Share::Nothing);
+        let none = boxed(alloc, Share::Nothing)?;
+        return Ok(none);
     }
-    let factor = Factor::Value(value.copy(alloc)?);
-    scaled(alloc, true, factor, share)
+    let copied = value.copy_boxed(alloc)?;
+    let made = boxed(alloc, Share::Scaled(Factor::Value(copied), share))?;
+    Ok(made)
 }
 
 /// The share of the base of a constant power, where its own share is this one.
@@ -112,15 +130,17 @@ pub fn by_power(
     active: bool,
     base: &Expr,
     power: u32,
-    share: Share,
-) -> Result<Share, Memory>
-    ensures share { IfOk result (λ s. (r : Var → Var) (line k : ℕ) → share_code r line s k ≡ scaled_code r line active (bin times (bin times (var (r (helper work k))) (lit (pos power))) (pow (term_of base.now) (power - 1))) share k) }
+    share: Box<Share>,
+) -> Result<Box<Share>, Memory>
+    ensures share { IfOk result (λ s. (r : Var → Var) (line k : ℕ) → share_code r line s.value k ≡ scaled_code r line active (bin times (bin times (var (r (helper work k))) (lit (pos power))) (pow (term_of base.now) (power - 1))) share.value k) }
 {
     if !active {
-        return Ok(Share::Nothing);
+        let none = boxed(alloc, Share::Nothing)?;
+        return Ok(none);
     }
-    let factor = Factor::Power(base.copy(alloc)?, power);
-    scaled(alloc, true, factor, share)
+    let copied = base.copy_boxed(alloc)?;
+    let made = boxed(alloc, Share::Scaled(Factor::Power(copied, power), share))?;
+    Ok(made)
 }
 
 /// The same where the exponent is an expression.
@@ -129,22 +149,24 @@ pub fn by_exponent(
     active: bool,
     base: &Expr,
     exponent: &Expr,
-    share: Share,
-) -> Result<Share, Memory>
-    ensures share { IfOk result (λ s. (r : Var → Var) (line k : ℕ) → share_code r line s k ≡ scaled_code r line active (bin times (bin times (var (r (helper work k))) (term_of exponent.now)) (guarded_power (term_of base.now) (term_of exponent.now))) share k) }
+    share: Box<Share>,
+) -> Result<Box<Share>, Memory>
+    ensures share { IfOk result (λ s. (r : Var → Var) (line k : ℕ) → share_code r line s.value k ≡ scaled_code r line active (bin times (bin times (var (r (helper work k))) (term_of exponent.now)) (guarded_power (term_of base.now) (term_of exponent.now))) share.value k) }
 {
     if !active {
-        return Ok(Share::Nothing);
+        let none = boxed(alloc, Share::Nothing)?;
+        return Ok(none);
     }
-    let value = base.copy(alloc)?;
-    let factor = Factor::PowerBy(value, exponent.copy(alloc)?);
-    scaled(alloc, true, factor, share)
+    let copied = base.copy_boxed(alloc)?;
+    let raised = exponent.copy_boxed(alloc)?;
+    let made = boxed(alloc, Share::Scaled(Factor::PowerBy(copied, raised), share))?;
+    Ok(made)
 }
 
 /// One share, and then another.
-pub fn both(alloc: Global, a: Share, b: Share) -> Result<Share, Memory>
-    ensures share { IfOk result (λ s. (r : Var → Var) (line k : ℕ) → share_code r line s k ≡ share_code r line a k +++ share_code r line b k) }
+pub fn both(alloc: Global, a: Box<Share>, b: Box<Share>) -> Result<Box<Share>, Memory>
+    ensures share { IfOk result (λ s. (r : Var → Var) (line k : ℕ) → share_code r line s.value k ≡ share_code r line a.value k +++ share_code r line b.value k) }
 {
-    let first = Box::new(alloc, a)?;
-    Ok(Share::Both(first, Box::new(alloc, b)?))
+    let made = boxed(alloc, Share::Both(a, b))?;
+    Ok(made)
 }

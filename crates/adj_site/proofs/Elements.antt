@@ -16,7 +16,7 @@ use Rattle.adj_site.proofs.Plain.{IsPlain, terms_kept}
 
 module _ (r : Var → Var) (plainly : IsPlain r) (on : Vars) (line : ℕ) (x : List ℕ) (subs : Exprs) (j : ℕ) (p : Parts) where
   -- one that isn't active
-  pub element_passive : on (plain x) ≡ false → p.next ≡ j → p.active ≡ false → term_of p.term ≡ elem (plain x) (terms_of subs) → p.share ≡ Nothing → IsApart r on line (elem (plain x) (terms_of subs)) j p
+  pub element_passive : on (plain x) ≡ false → p.next ≡ j → p.active ≡ false → term_of p.term.value ≡ elem (plain x) (terms_of subs) → p.share.value ≡ Nothing → IsApart r on line (elem (plain x) (terms_of subs)) j p
   element_passive o n a e s = record {
     next = n ∙ omega arith;
     active = a ∙ sym o;
@@ -25,7 +25,7 @@ module _ (r : Var → Var) (plainly : IsPlain r) (on : Vars) (line : ℕ) (x : L
   }
 
   -- one that is
-  pub element_active : (s : List ℕ) (places : Exprs) → on (plain x) ≡ true → p.next ≡ j → p.active ≡ true → term_of p.term ≡ elem (plain x) (terms_of subs) → p.share ≡ Element s places → plain s ≡ r (shadow x) → terms_of places ≡ terms_of subs → IsApart r on line (elem (plain x) (terms_of subs)) j p
+  pub element_active : (s : List ℕ) (places : Exprs) → on (plain x) ≡ true → p.next ≡ j → p.active ≡ true → term_of p.term.value ≡ elem (plain x) (terms_of subs) → p.share.value ≡ Element s places → plain s ≡ r (shadow x) → terms_of places ≡ terms_of subs → IsApart r on line (elem (plain x) (terms_of subs)) j p
   element_active s places o n a e h named same = record {
     next = n ∙ omega arith;
     active = a ∙ sym o;

@@ -19,7 +19,7 @@ use adj_share::parts::{
     variable_power, whole,
 };
 use adj_share::share::Share;
-use adj_tree::{Expr, Exprs, Memory, Name, Op, Stmt};
+use adj_tree::{Expr, Exprs, Memory, Name, Op, Stmt, boxed};
 use std::alloc::Global;
 
 impl<'a> Site<'a> {
@@ -29,12 +29,15 @@ impl<'a> Site<'a> {
     {
         let active = self.is_active_name(x);
         let share = if active {
-            Share::Scalar(self.names.shadow(alloc, x)?)
+            let shadow = self.names.shadow(alloc, x)?;
+            boxed(alloc, Share::Scalar(shadow))?
         } else {
-            Share::Nothing
+            boxed(alloc, Share::Nothing)?
         };
+        let name = x.copy(alloc)?;
+        let term = boxed(alloc, Expr::Var(name))?;
         Ok(Parts {
-            term: Expr::Var(x.copy(alloc)?),
+            term,
             next: first,
             active,
             share,
@@ -52,22 +55,25 @@ impl<'a> Site<'a> {
         ensures parts { IfOk result (λ p. IsApart (naming_of self.now) (active_in self.now) self.now.line (elem (plain x.now) (terms_of subs.now)) first p) }
     {
         let name = x.copy(alloc)?;
-        let term = Expr::Elem(name, subs.copy(alloc)?);
+        let subscripts = subs.copy(alloc)?;
+        let term = boxed(alloc, Expr::Elem(name, subscripts))?;
         if !self.is_active_name(x) {
+            let nothing = boxed(alloc, Share::Nothing)?;
             return Ok(Parts {
                 term,
                 next: first,
                 active: false,
-                share: Share::Nothing,
+                share: nothing,
             });
         }
         let shadow = self.names.shadow(alloc, x)?;
         let places = subs.copy(alloc)?;
+        let share = boxed(alloc, Share::Element(shadow, places))?;
         Ok(Parts {
             term,
             next: first,
             active: true,
-            share: Share::Element(shadow, places),
+            share,
         })
     }
 
@@ -89,14 +95,15 @@ impl<'a> Site<'a> {
         ensures next { IfOk result (λ p. p.next ≡ a.next + count_of own) }
         ensures active { IfOk result (λ p. p.active ≡ a.active) }
         ensures share { IfOk result (λ p. p.share ≡ a.share) }
-        ensures term { IfOk result (λ p. (t : Term) → term_of a.term ≡ rename_term (naming_of self.now) t → term_of p.term ≡ rename_term (naming_of self.now) (own_or own a.next t)) }
-        ensures steps { OnOk result ((t : Term) → term_of a.term ≡ rename_term (naming_of self.now) t → AreBehind (rename (naming_of self.now) (own_code own self.now.line a.next t)) steps.old.items steps.new.items) }
+        ensures term { IfOk result (λ p. (t : Term) → term_of a.term.value ≡ rename_term (naming_of self.now) t → term_of p.term.value ≡ rename_term (naming_of self.now) (own_or own a.next t)) }
+        ensures steps { OnOk result ((t : Term) → term_of a.term.value ≡ rename_term (naming_of self.now) t → AreBehind (rename (naming_of self.now) (own_code own self.now.line a.next t)) steps.old.items steps.new.items) }
     {
         if !own {
             return Ok(a);
         }
         let name = self.names.helper(alloc, Role::Temp, a.next)?;
-        steps.push(scalar_assignment(self.line, name, a.term))?;
+        let value = Box::into_inner(a.term);
+        steps.push(scalar_assignment(self.line, name, value))?;
         let term = self.temp_var(alloc, a.next)?;
         let next = plus(a.next, 1)?;
         Ok(Parts {

@@ -11,7 +11,7 @@ ghost use Rattle.adj_site.specs.Sites.{naming_of, active_in};
 use adj_marking::Marking;
 use adj_naming::names::Names;
 use adj_naming::role::Role;
-use adj_tree::{Expr, Exprs, Memory, Name, Op, Place};
+use adj_tree::{Expr, Exprs, Memory, Name, Op, Place, boxed};
 use std::alloc::Global;
 
 /// The names of the unit and its marks, the number of the statement, and its line.
@@ -56,11 +56,12 @@ impl<'a> Site<'a> {
     }
 
     /// The temporary of a number.
-    pub(crate) fn temp_var(&self, alloc: Global, number: usize) -> Result<Expr, Memory>
-        ensures variable { IfOk result (λ e. term_of e ≡ var (naming_of self.now (helper temp number))) }
+    pub(crate) fn temp_var(&self, alloc: Global, number: usize) -> Result<Box<Expr>, Memory>
+        ensures variable { IfOk result (λ e. term_of e.value ≡ var (naming_of self.now (helper temp number))) }
     {
         let name = self.names.helper(alloc, Role::Temp, number)?;
-        Ok(Expr::Var(name))
+        let made = boxed(alloc, Expr::Var(name))?;
+        Ok(made)
     }
 
     /// The shadow at a place.

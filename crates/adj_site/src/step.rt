@@ -5,7 +5,7 @@ ghost use Rattle.adj_tree.specs.Code.{plain, assign, none, step, runtime, push_w
 ghost use Rattle.adj_tree.specs.View.{term_of, terms_of, act_of, code_of};
 ghost use Rattle.adj_tree.specs.Listed.{steps_onto};
 
-use adj_tree::{Act, Expr, Exprs, Memory, Name, Place, RunCall, Stmt, Stmts};
+use adj_tree::{Act, Expr, Exprs, Memory, Name, Place, RunCall, Stmt, Stmts, boxed};
 use std::alloc::Global;
 
 /// An assignment to a place.
@@ -53,7 +53,7 @@ pub fn pop(line: u32, place: Place) -> Stmt
 pub fn before(alloc: Global, stmt: Stmt, rest: Stmts) -> Result<Stmts, Memory>
     ensures step { IfOk result (λ c. code_of c ≡ step stmt.line (act_of stmt.act) (code_of rest)) }
 {
-    Ok(Stmts::More(Box::new(alloc, stmt)?, Box::new(alloc, rest)?))
+    Ok(Stmts::More(boxed(alloc, stmt)?, boxed(alloc, rest)?))
 }
 
 /// Statements in order, and then the rest.

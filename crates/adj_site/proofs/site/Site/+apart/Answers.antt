@@ -189,7 +189,7 @@ product_apart-returns t c =
           made.next
           (made.active ∙ (λ i. c.in_ok-left_value.ensures.active i || c.in_ok-right_value.ensures.active i))
           made.term
-          (λ k. made.share r line k ∙ (λ i. scaled_code r line (c.in_ok-left_value.ensures.active i) (bin times (var (r (helper work k))) (term_of w.term)) (c.in_ok-left_value.ensures.share i) k +++ scaled_code r line (c.in_ok-right_value.ensures.active i) (bin times (var (r (helper work k))) (term_of v.term)) (c.in_ok-right_value.ensures.share i) k));
+          (λ k. made.share r line k ∙ (λ i. scaled_code r line (c.in_ok-left_value.ensures.active i) (bin times (var (r (helper work k))) (term_of w.term.value)) (c.in_ok-left_value.ensures.share i).value k +++ scaled_code r line (c.in_ok-right_value.ensures.active i) (bin times (var (r (helper work k))) (term_of v.term.value)) (c.in_ok-right_value.ensures.share i).value k));
       steps = product_behind r on a b oa ob j left.next v.next right.next line c.args.steps.now.items c.apart.new.steps.items c.operand.new.steps.items c.apart-2.new.steps.items c.operand-2.new.steps.items ea eb at.next c.in_ok-left_value.ensures.next to.next
           c.in_ok-left.ensures.steps (c.in_ok-left_value.ensures.steps (shrunk_where on a j) at.term)
           c.in_ok-right.ensures.steps (c.in_ok-right_value.ensures.steps (shrunk_where on b v.next) to.term);
@@ -212,7 +212,7 @@ power_by_apart-returns t c =
     let at = c.in_ok-base.ensures.parts in
     let ea : oa ≡ has_own_where on a a = c.has_own_beside-own_base.ensures.own ∙ ap (λ x. is_compound a && x) at.active in
     let eb : ob ≡ has_own_where on b a = c.has_own_beside-own_exponent.ensures.own ∙ ap (λ x. is_compound b && x) at.active in
-    let plain : term_of exponent.term ≡ rename_term r b = c.in_ok-exponent.ensures.term ∙ sym (term_kept r (λ x. refl) c.args.b.now) in
+    let plain : term_of exponent.term.value ≡ rename_term r b = c.in_ok-exponent.ensures.term ∙ sym (term_kept r (λ x. refl) c.args.b.now) in
     let behind = c.in_ok-exponent_value.ensures.steps b plain in
     let made = c.in_ok-made.ensures in
     let number : exponent.next ≡ v.next = c.in_ok-exponent.ensures.next in
@@ -225,7 +225,7 @@ power_by_apart-returns t c =
           made.next
           (made.active ∙ c.in_ok-value.ensures.active)
           made.term
-          (λ k. made.share r line k ∙ (λ i. scaled_code r line (c.in_ok-value.ensures.active i) (bin times (bin times (var (r (helper work k))) (term_of w.term)) (guarded_power (term_of v.term) (term_of w.term))) (c.in_ok-value.ensures.share i) k));
+          (λ k. made.share r line k ∙ (λ i. scaled_code r line (c.in_ok-value.ensures.active i) (bin times (bin times (var (r (helper work k))) (term_of w.term.value)) (guarded_power (term_of v.term.value) (term_of w.term.value))) (c.in_ok-value.ensures.share i).value k));
       steps = variable_power_behind r on a b oa ob j base.next v.next line c.args.steps.now.items c.apart.new.steps.items c.operand.new.steps.items c.operand-2.new.steps.items ea eb at.next c.in_ok-value.ensures.next
           c.in_ok-base.ensures.steps (c.in_ok-value.ensures.steps (shrunk_where on a j) at.term)
           (λ rest. behind rest ∙ ap (λ z. steps_onto c.operand.new.steps.items (rename r (own_code ob line z b) +++ rest)) number);
@@ -280,8 +280,8 @@ power_apart-returns-in_ok-made-in_default t c =
     record {
       parts = subst (λ k. IsApart r on line (pow a k) j c.in_ok-made-in_default.made) (sym up)
           (power_apart r on line a j n o base v c.in_ok-made-in_default.made at ea value.next (value.term (shrunk_where on a j) at.term) made.next (made.active ∙ value.active)
-          (made.term ∙ ap (pow (term_of v.term)) up)
-          (λ k. made.share r line k ∙ (λ i. scaled_code r line (value.active i) (bin times (bin times (var (r (helper work k))) (lit (pos (up i)))) (pow (term_of v.term) (less i))) (value.share i) k)));
+          (made.term ∙ ap (pow (term_of v.term.value)) up)
+          (λ k. made.share r line k ∙ (λ i. scaled_code r line (value.active i) (bin times (bin times (var (r (helper work k))) (lit (pos (up i)))) (pow (term_of v.term.value) (less i))) (value.share i).value k)));
       steps = subst (λ k. AreBehind (rename r (temps_where on (pow a k) j line)) c.args.steps.now.items c.operand.new.steps.items) (sym up)
           (owned_behind r (temps_where on a j line) o (has_own_where on a a) line base.next (j + temps_in_where on a) (shrunk_where on a j) c.args.steps.now.items c.apart-in_default.new.steps.items c.operand.new.steps.items ea at.next
           c.in_ok-base-in_default.ensures.steps (value.steps (shrunk_where on a j) at.term));
