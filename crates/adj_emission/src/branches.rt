@@ -14,7 +14,7 @@ use crate::plan::Plan;
 use crate::sweeps::Sweeps;
 use adj_naming::role::Role;
 use adj_site::step::before;
-use adj_tree::{Act, Cond, Expr, Memory, Name, Rel, RunCall, Stmt, Stmts};
+use adj_tree::{Act, Cond, Expr, Memory, Name, Rel, RunCall, Stmt, Stmts, boxed};
 use std::alloc::Global;
 
 // The forward sweep of a part, which is turned round; where a part has a backward sweep, it tells that it ran.
@@ -54,8 +54,10 @@ fn branch_forward(
 fn first_ran(alloc: Global, word: &Name) -> Result<Cond, Memory>
     ensures test { IfOk result (λ c. test_of c ≡ compare is_same (var (plain word.now)) (lit (pos 1))) }
 {
-    let left = Box::new(alloc, Expr::Var(word.copy(alloc)?))?;
-    Ok(Cond::Cmp(Rel::Eq, left, Box::new(alloc, Expr::Lit(1))?))
+    let name = word.copy(alloc)?;
+    let left = boxed(alloc, Expr::Var(name))?;
+    let right = boxed(alloc, Expr::Lit(1))?;
+    Ok(Cond::Cmp(Rel::Eq, left, right))
 }
 
 // Whether neither part has a backward sweep.

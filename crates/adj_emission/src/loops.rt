@@ -15,9 +15,9 @@ ghost use Rattle.adj_emission.specs.Swept.{in_order};
 
 use crate::plan::{At, Plan};
 use adj_naming::role::{Helper, Role};
-use adj_site::step::{before, scalar_assignment};
+use adj_site::step::{before, scalar_assignment, set_before};
 use adj_site::terms::sum;
-use adj_tree::{Act, Expr, Mark, Memory, Name, Op, Stmt, Stmts, boxed};
+use adj_tree::{Act, Expr, Exprs, Mark, Memory, Name, Op, Place, Stmt, Stmts, boxed};
 use std::alloc::Global;
 
 /// The variable of a DO, its first value, its limit and its step.
@@ -72,8 +72,10 @@ impl<'a> Plan<'a> {
     {
         let first = of_depth(Role::First, at.depth);
         let stride = of_depth(Role::Stride, at.depth);
-        let begun = self.set_own(alloc, at.line, first, bounds.first.copy(alloc)?, turned)?;
-        let code = self.set_own(alloc, at.line, stride, bounds.step.copy(alloc)?, begun)?;
+        let from = bounds.first.copy_boxed(alloc)?;
+        let begun = self.set_own(alloc, at.line, first, from, turned)?;
+        let by = bounds.step.copy_boxed(alloc)?;
+        let code = self.set_own(alloc, at.line, stride, by, begun)?;
         Ok(code)
     }
 
@@ -82,7 +84,8 @@ impl<'a> Plan<'a> {
         ensures set { IfOk result (λ c. code_of c ≡ step at.line (assign (naming_in self.now (helper count at.depth)) none (lit (pos 0))) (code_of turned)) }
     {
         let count = of_depth(Role::Count, at.depth);
-        let code = self.set_own(alloc, at.line, count, Expr::Lit(0), turned)?;
+        let none = boxed(alloc, Expr::Lit(0))?;
+        let code = self.set_own(alloc, at.line, count, none, turned)?;
         Ok(code)
     }
 
@@ -91,7 +94,9 @@ impl<'a> Plan<'a> {
         ensures counted { IfOk result (λ c. code_of c ≡ code_turned (code_of body) (one at.line (assign (naming_in self.now (helper count at.depth)) none (bin plus (var (naming_in self.now (helper count at.depth))) (lit (pos 1)))))) }
     {
         let count = of_depth(Role::Count, at.depth);
-        let more = sum(alloc, self.own(alloc, count)?, Expr::Lit(1))?;
+        let old = self.own(alloc, count)?;
+        let one = boxed(alloc, Expr::Lit(1))?;
+        let more = sum(alloc, old, one)?;
         let code = self.set_own(alloc, at.line, count, more, body)?;
         Ok(code.turned())
     }
@@ -109,9 +114,9 @@ impl<'a> Plan<'a> {
     {
         let body = self.counted(alloc, at, body)?;
         let variable = bounds.variable.copy(alloc)?;
-        let first = self.boxed_own(alloc, of_depth(Role::First, at.depth))?;
+        let first = self.own(alloc, of_depth(Role::First, at.depth))?;
         let limit = bounds.limit.copy_boxed(alloc)?;
-        let stride = self.boxed_own(alloc, of_depth(Role::Stride, at.depth))?;
+        let stride = self.own(alloc, of_depth(Role::Stride, at.depth))?;
         Ok(Stmt {
             line: at.line,
             act: Act::Loop(variable, first, limit, stride, body, Mark::Plain),
@@ -185,12 +190,11 @@ impl<'a> Plan<'a> {
     {
         let turn = self.names.helper(alloc, Role::Turn, at.depth)?;
         let count = self.own(alloc, of_depth(Role::Count, at.depth))?;
-        let left = Box::new(alloc, count)?;
-        let last = Expr::Bin(Op::Sub, left, Box::new(alloc, Expr::Lit(1))?);
-        let back = Expr::Neg(Box::new(alloc, Expr::Lit(1))?);
-        let from = boxed(alloc, last)?;
+        let one = boxed(alloc, Expr::Lit(1))?;
+        let from = boxed(alloc, Expr::Bin(Op::Sub, count, one))?;
         let limit = boxed(alloc, Expr::Lit(0))?;
-        let stride = boxed(alloc, back)?;
+        let back = boxed(alloc, Expr::Lit(1))?;
+        let stride = boxed(alloc, Expr::Neg(back))?;
         Ok(Stmt {
             line: at.line,
             act: Act::Loop(turn, from, limit, stride, body, Mark::Plain),
@@ -198,16 +202,35 @@ impl<'a> Plan<'a> {
     }
 
     /// The value that the variable of a DO has in the turn whose number the helper of a role holds.
-    pub fn value_at(&self, alloc: Global, at: At, role: Role) -> Result<Expr, Memory>
-        ensures value { IfOk result (λ e. term_of e ≡ bin plus (var (naming_in self.now (helper first at.depth))) (bin times (var (naming_in self.now (helper (role_of role) at.depth))) (var (naming_in self.now (helper stride at.depth))))) }
+    pub fn value_at(&self, alloc: Global, at: At, role: Role) -> Result<Box<Expr>, Memory>
+        ensures value { IfOk result (λ e. term_of e.value ≡ bin plus (var (naming_in self.now (helper first at.depth))) (bin times (var (naming_in self.now (helper (role_of role) at.depth))) (var (naming_in self.now (helper stride at.depth))))) }
     {
         let first = self.own(alloc, of_depth(Role::First, at.depth))?;
         let turn = self.own(alloc, of_depth(role, at.depth))?;
         let stride = self.own(alloc, of_depth(Role::Stride, at.depth))?;
-        let left = Box::new(alloc, turn)?;
-        let steps = Expr::Bin(Op::Mul, left, Box::new(alloc, stride)?);
+        let steps = boxed(alloc, Expr::Bin(Op::Mul, turn, stride))?;
         let value = sum(alloc, first, steps)?;
         Ok(value)
+    }
+
+    /// The variable of a DO gets its value in the turn whose number the helper of a role holds, and then the rest.
+    pub fn set_at(
+        &self,
+        alloc: Global,
+        at: At,
+        variable: &Name,
+        role: Role,
+        rest: Stmts,
+    ) -> Result<Stmts, Memory>
+        ensures step { IfOk result (λ c. code_of c ≡ step at.line (assign (plain variable.now) none (bin plus (var (naming_in self.now (helper first at.depth))) (bin times (var (naming_in self.now (helper (role_of role) at.depth))) (var (naming_in self.now (helper stride at.depth)))))) (code_of rest)) }
+    {
+        let value = self.value_at(alloc, at, role)?;
+        let place = Place {
+            name: variable.copy(alloc)?,
+            subs: Exprs::Empty,
+        };
+        let code = set_before(alloc, at.line, place, value, rest)?;
+        Ok(code)
     }
 
     /// The backward sweep of a DO, and then the rest.
@@ -225,9 +248,7 @@ impl<'a> Plan<'a> {
         if idle {
             return Ok(rest);
         }
-        let value = self.value_at(alloc, at, Role::Turn)?;
-        let set = scalar_assignment(at.line, variable.copy(alloc)?, value);
-        let turned = before(alloc, set, body)?;
+        let turned = self.set_at(alloc, at, variable, Role::Turn, body)?;
         let turns = self.turns_back(alloc, at, turned)?;
         let gone = before(alloc, turns, rest)?;
         let begun = self.pop_own(alloc, at.line, of_depth(Role::First, at.depth), gone)?;

@@ -12,7 +12,7 @@ use adj_marking::Marking;
 use adj_naming::names::Names;
 use adj_naming::role::Helper;
 use adj_sets::NameSet;
-use adj_site::step::{before, pop, push, scalar_assignment};
+use adj_site::step::{before, pop, push, set_before};
 use adj_tree::{Expr, Exprs, Memory, Place, Stmts, boxed};
 use std::alloc::Global;
 
@@ -37,19 +37,11 @@ pub struct At {
 
 impl<'a> Plan<'a> {
     /// A helper as a term.
-    pub fn own(&self, alloc: Global, own: Helper) -> Result<Expr, Memory>
-        ensures term { IfOk result (λ e. term_of e ≡ var (naming_in self.now (variable_of own))) }
-    {
-        let name = self.names.helper(alloc, own.role, own.number)?;
-        Ok(Expr::Var(name))
-    }
-
-    /// The same on the heap.
-    pub fn boxed_own(&self, alloc: Global, own: Helper) -> Result<Box<Expr>, Memory>
+    pub fn own(&self, alloc: Global, own: Helper) -> Result<Box<Expr>, Memory>
         ensures term { IfOk result (λ e. term_of e.value ≡ var (naming_in self.now (variable_of own))) }
     {
-        let term = self.own(alloc, own)?;
-        let made = boxed(alloc, term)?;
+        let name = self.names.helper(alloc, own.role, own.number)?;
+        let made = boxed(alloc, Expr::Var(name))?;
         Ok(made)
     }
 
@@ -59,13 +51,17 @@ impl<'a> Plan<'a> {
         alloc: Global,
         line: u32,
         own: Helper,
-        e: Expr,
+        e: Box<Expr>,
         rest: Stmts,
     ) -> Result<Stmts, Memory>
-        ensures step { IfOk result (λ c. code_of c ≡ step line (assign (naming_in self.now (variable_of own)) none (term_of e)) (code_of rest)) }
+        ensures step { IfOk result (λ c. code_of c ≡ step line (assign (naming_in self.now (variable_of own)) none (term_of e.value)) (code_of rest)) }
     {
         let name = self.names.helper(alloc, own.role, own.number)?;
-        let code = before(alloc, scalar_assignment(line, name, e), rest)?;
+        let place = Place {
+            name,
+            subs: Exprs::Empty,
+        };
+        let code = set_before(alloc, line, place, e, rest)?;
         Ok(code)
     }
 

@@ -139,7 +139,7 @@ impl<'a> Plan<'a> {
             return Ok(plain);
         }
         let count = of_depth(Role::Count, at.depth);
-        let opened = self.set_own(alloc, at.line, count, Expr::Lit(0), turned)?;
+        let opened = self.set_count(alloc, at, turned)?;
         let body = self.counted(alloc, at, body)?;
         let act = Act::While(c.copy(alloc)?, body);
         let gone = before(alloc, Stmt { line: at.line, act }, opened)?;

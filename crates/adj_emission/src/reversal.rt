@@ -18,7 +18,7 @@ use crate::loops::of_depth;
 use crate::plan::{At, Plan};
 use crate::slots::literal;
 use adj_naming::role::Role;
-use adj_site::step::{before, scalar_assignment};
+use adj_site::step::before;
 use adj_tree::{Act, Cond, Expr, Exprs, Mark, Memory, Name, Op, Rel, RunCall, Stmt, Stmts, boxed};
 use std::alloc::Global;
 
@@ -101,9 +101,7 @@ impl<'a> Plan<'a> {
     ) -> Result<Stmts, Memory>
         ensures turn { IfOk result (λ c. (inner : Code) → code_of rest ≡ rename (naming_in self.now) inner → code_of c ≡ rename (naming_in self.now) (at_turn at.line at.depth (plain variable.now) (role_of role) inner)) }
     {
-        let value = self.value_at(alloc, at, role)?;
-        let set = scalar_assignment(at.line, variable.copy(alloc)?, value);
-        let code = before(alloc, set, rest)?;
+        let code = self.set_at(alloc, at, variable, role, rest)?;
         Ok(code)
     }
 
@@ -112,10 +110,10 @@ impl<'a> Plan<'a> {
         ensures steps { IfOk result (λ a. act_of a ≡ turns (naming_in self.now (helper turn depth)) (var (naming_in self.now (helper lower depth))) (bin minus (var (naming_in self.now (helper upper depth))) (lit (pos 1))) (lit (pos 1)) (code_of body)) }
     {
         let turn = self.names.helper(alloc, Role::Turn, depth)?;
-        let first = self.boxed_own(alloc, of_depth(Role::Lower, depth))?;
-        let left = self.boxed_own(alloc, of_depth(Role::Upper, depth))?;
-        let last = Expr::Bin(Op::Sub, left, boxed(alloc, Expr::Lit(1))?);
-        let limit = boxed(alloc, last)?;
+        let first = self.own(alloc, of_depth(Role::Lower, depth))?;
+        let left = self.own(alloc, of_depth(Role::Upper, depth))?;
+        let one = boxed(alloc, Expr::Lit(1))?;
+        let limit = boxed(alloc, Expr::Bin(Op::Sub, left, one))?;
         let step = boxed(alloc, Expr::Lit(1))?;
         Ok(Act::Loop(turn, first, limit, step, body, Mark::Plain))
     }
@@ -136,7 +134,7 @@ impl<'a> Plan<'a> {
     fn is_kind(&self, alloc: Global, depth: usize, code: u32) -> Result<Cond, Memory>
         ensures test { IfOk result (λ c. test_of c ≡ compare is_same (var (naming_in self.now (helper kind depth))) (literal code)) }
     {
-        let left = self.boxed_own(alloc, of_depth(Role::Kind, depth))?;
+        let left = self.own(alloc, of_depth(Role::Kind, depth))?;
         let right = boxed(alloc, literal(code))?;
         Ok(Cond::Cmp(Rel::Eq, left, right))
     }
@@ -185,9 +183,9 @@ impl<'a> Plan<'a> {
     fn give(&self, alloc: Global, depth: usize, mark: &Mark) -> Result<RunCall, Memory>
         ensures call { IfOk result (λ c. runtime_of c ≡ give_action (var (naming_in self.now (helper count depth))) (rename_term (naming_in self.now) (slots_of depth (mark_of mark.now))) (var (naming_in self.now (helper entry depth))) (naming_in self.now (helper kind depth)) (naming_in self.now (helper lower depth)) (naming_in self.now (helper upper depth))) }
     {
-        let steps = self.boxed_own(alloc, of_depth(Role::Count, depth))?;
+        let steps = self.own(alloc, of_depth(Role::Count, depth))?;
         let stored = self.slots_of(alloc, depth, mark)?;
-        let number = self.boxed_own(alloc, of_depth(Role::Entry, depth))?;
+        let number = self.own(alloc, of_depth(Role::Entry, depth))?;
         let kind = self.names.helper(alloc, Role::Kind, depth)?;
         let lower = self.names.helper(alloc, Role::Lower, depth)?;
         let upper = self.names.helper(alloc, Role::Upper, depth)?;
@@ -217,7 +215,7 @@ impl<'a> Plan<'a> {
     {
         let body = self.one_action(alloc, at, variable, step)?;
         let number = self.names.helper(alloc, Role::Entry, at.depth)?;
-        let last = self.boxed_own(alloc, of_depth(Role::Entries, at.depth))?;
+        let last = self.own(alloc, of_depth(Role::Entries, at.depth))?;
         let first = boxed(alloc, Expr::Lit(1))?;
         let by = boxed(alloc, Expr::Lit(1))?;
         Ok(Act::Loop(number, first, last, by, body, Mark::Plain))
@@ -227,7 +225,7 @@ impl<'a> Plan<'a> {
     fn begin(&self, alloc: Global, depth: usize, mark: &Mark) -> Result<RunCall, Memory>
         ensures call { IfOk result (λ c. runtime_of c ≡ begin_reversal (var (naming_in self.now (helper count depth))) (rename_term (naming_in self.now) (slots_of depth (mark_of mark.now)))) }
     {
-        let steps = self.boxed_own(alloc, of_depth(Role::Count, depth))?;
+        let steps = self.own(alloc, of_depth(Role::Count, depth))?;
         let stored = self.slots_of(alloc, depth, mark)?;
         Ok(RunCall::Begin(steps, stored))
     }
@@ -236,7 +234,7 @@ impl<'a> Plan<'a> {
     fn count(&self, alloc: Global, depth: usize, mark: &Mark) -> Result<RunCall, Memory>
         ensures call { IfOk result (λ c. runtime_of c ≡ count_actions (var (naming_in self.now (helper count depth))) (rename_term (naming_in self.now) (slots_of depth (mark_of mark.now))) (naming_in self.now (helper entries depth))) }
     {
-        let steps = self.boxed_own(alloc, of_depth(Role::Count, depth))?;
+        let steps = self.own(alloc, of_depth(Role::Count, depth))?;
         let stored = self.slots_of(alloc, depth, mark)?;
         let made = self.names.helper(alloc, Role::Entries, depth)?;
         Ok(RunCall::Actions(steps, stored, made))

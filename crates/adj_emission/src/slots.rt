@@ -23,22 +23,23 @@ pub fn literal(n: u32) -> Expr
     Expr::Lit(i64::from(n))
 }
 
-// An operation on two terms.
-fn of_two(alloc: Global, op: Op, a: Expr, b: Expr) -> Result<Expr, Memory>
-    ensures term { IfOk result (λ e. term_of e ≡ bin (op_of op) (term_of a) (term_of b)) }
+// An operation on a term and a number.
+fn with_number(alloc: Global, op: Op, a: Box<Expr>, n: u32) -> Result<Box<Expr>, Memory>
+    ensures term { IfOk result (λ e. term_of e.value ≡ bin (op_of op) (term_of a.value) (literal n)) }
 {
-    let left = boxed(alloc, a)?;
-    let right = boxed(alloc, b)?;
-    Ok(Expr::Bin(op, left, right))
+    let right = boxed(alloc, literal(n))?;
+    let made = boxed(alloc, Expr::Bin(op, a, right))?;
+    Ok(made)
 }
 
 // The value of a variable as a number of snapshots: 1 where it is below 1, and 64 where it is above 64.
-fn as_slots(alloc: Global, x: &Name) -> Result<Expr, Memory>
-    ensures slots { IfOk result (λ e. term_of e ≡ as_slots (plain x.now)) }
+fn as_slots(alloc: Global, x: &Name) -> Result<Box<Expr>, Memory>
+    ensures slots { IfOk result (λ e. term_of e.value ≡ as_slots (plain x.now)) }
 {
-    let value = Expr::Var(x.copy(alloc)?);
-    let least = of_two(alloc, Op::Max, value, Expr::Lit(1))?;
-    let slots = of_two(alloc, Op::Min, least, Expr::Lit(64))?;
+    let name = x.copy(alloc)?;
+    let value = boxed(alloc, Expr::Var(name))?;
+    let least = with_number(alloc, Op::Max, value, 1)?;
+    let slots = with_number(alloc, Op::Min, least, 64)?;
     Ok(slots)
 }
 

@@ -1,7 +1,7 @@
 -- The parts of a term, from those of its operands.
-use Rattle.std.proofs.Common.{◌≡◌, ℕ, suc, Bool, true, false, ◌+◌, ◌-◌, List, refl, sym, ap, ◌∙◌, subst, arith}
+use Rattle.std.proofs.Common.{◌≡◌, ℕ, suc, Bool, true, false, ◌+◌, ◌-◌, refl, sym, ap, ◌∙◌, subst, arith}
 use Rattle.std.specs.Prelude.{◌||◌, pos}
-use Rattle.adj_tree.specs.Code.{Var, Term, plus, minus, times, lit, neg, bin, pow, power_of, var, helper, work, none, assign, Code, step}
+use Rattle.adj_tree.specs.Code.{Var, Term, plus, minus, times, lit, neg, bin, pow, power_of, var, helper, work, none, assign, step}
 use Rattle.adj_tree.specs.View.{term_of}
 use Rattle.adj_meaning.specs.Append.{◌+++◌}
 use Rattle.adj_meaning.specs.Rename.{rename, rename_term}

@@ -1,7 +1,7 @@
 -- Shares of operands, beside what the adjoint of a term adds.
 use Rattle.std.proofs.Common.{◌≡◌, ℕ, suc, Bool, true, false, refl, sym, ap, ◌∙◌}
 use Rattle.std.specs.Prelude.{◌||◌}
-use Rattle.adj_tree.specs.Code.{Var, helper, work, Term, none, assign, Code, stop, step}
+use Rattle.adj_tree.specs.Code.{Var, helper, work, Term, none, assign, Code, step}
 use Rattle.adj_meaning.specs.Append.{◌+++◌}
 use Rattle.adj_meaning.specs.Rename.{rename, rename_term}
 use Rattle.adj_meaning.proofs.Renamed.{rename-append}

@@ -1,6 +1,6 @@
 -- Terms in which nothing is taken apart, and the values of operands.
-use Rattle.std.proofs.Common.{◌≡◌, ℕ, zero, suc, Bool, true, false, refl, ap}
-use Rattle.adj_tree.specs.Code.{plus, minus, times, quot, modulo, greater, lesser, Term, lit, var, elem, neg, bin, pow, power_of, abs, Code, stop}
+use Rattle.std.proofs.Common.{◌≡◌, ℕ, zero, suc, Bool, true, false, refl}
+use Rattle.adj_tree.specs.Code.{plus, minus, times, quot, modulo, greater, lesser, Term, lit, var, elem, neg, bin, pow, power_of, abs, stop}
 use Rattle.adj_transpose.specs.Marks.{Vars}
 use Rattle.adj_transpose.specs.Marked.{own_or}
 use Rattle.adj_reverse.specs.AdjointOf.{is_active_where, has_own_where, temps_in_where, shrunk_where, temps_where}

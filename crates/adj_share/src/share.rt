@@ -40,31 +40,57 @@ pub enum Share {
 
 impl Factor {
     /// The product of a term with the factor.
-    pub fn times(&self, alloc: Global, w: Expr) -> Result<Expr, Memory>
-        ensures product { IfOk result (λ e. term_of e ≡ scaled_by self.now (term_of w)) }
+    pub fn times(&self, alloc: Global, w: Box<Expr>) -> Result<Box<Expr>, Memory>
+        ensures product { IfOk result (λ e. term_of e.value ≡ scaled_by self.now (term_of w.value)) }
     {
-        let term = boxed(alloc, w)?;
         match self {
-            Factor::Opposite => Ok(Expr::Neg(term)),
+            Factor::Opposite => {
+                let made = boxed(alloc, Expr::Neg(w))?;
+                Ok(made)
+            }
             Factor::Value(value) => {
                 let copied = value.copy_boxed(alloc)?;
-                Ok(Expr::Bin(Op::Mul, term, copied))
+                let made = boxed(alloc, Expr::Bin(Op::Mul, w, copied))?;
+                Ok(made)
             }
             Factor::Power(base, power) => {
-                let times = boxed(alloc, Expr::Lit(i64::from(*power)))?;
-                let share = boxed(alloc, Expr::Bin(Op::Mul, term, times))?;
-                let copied = base.copy_boxed(alloc)?;
-                let less = boxed(alloc, Expr::Pow(copied, power.saturating_sub(1)))?;
-                Ok(Expr::Bin(Op::Mul, share, less))
+                let made = times_power(alloc, w, base, *power)?;
+                Ok(made)
             }
             Factor::PowerBy(base, exponent) => {
-                let times = exponent.copy_boxed(alloc)?;
-                let share = boxed(alloc, Expr::Bin(Op::Mul, term, times))?;
-                let less = guarded(alloc, base, exponent)?;
-                Ok(Expr::Bin(Op::Mul, share, less))
+                let made = times_guarded(alloc, w, base, exponent)?;
+                Ok(made)
             }
         }
     }
+}
+
+// The product of a term with the derivative of a constant power.
+fn times_power(alloc: Global, w: Box<Expr>, base: &Expr, power: u32) -> Result<Box<Expr>, Memory>
+    ensures product { IfOk result (λ e. term_of e.value ≡ bin times (bin times (term_of w.value) (lit (pos power))) (pow (term_of base.now) (power - 1))) }
+{
+    let exponent = boxed(alloc, Expr::Lit(i64::from(power)))?;
+    let share = boxed(alloc, Expr::Bin(Op::Mul, w, exponent))?;
+    let copied = base.copy_boxed(alloc)?;
+    let less = boxed(alloc, Expr::Pow(copied, power.saturating_sub(1)))?;
+    let made = boxed(alloc, Expr::Bin(Op::Mul, share, less))?;
+    Ok(made)
+}
+
+// The product of a term with that of a power whose exponent is an expression.
+fn times_guarded(
+    alloc: Global,
+    w: Box<Expr>,
+    base: &Expr,
+    exponent: &Expr,
+) -> Result<Box<Expr>, Memory>
+    ensures product { IfOk result (λ e. term_of e.value ≡ bin times (bin times (term_of w.value) (term_of exponent.now)) (guarded_power (term_of base.now) (term_of exponent.now))) }
+{
+    let copied = exponent.copy_boxed(alloc)?;
+    let share = boxed(alloc, Expr::Bin(Op::Mul, w, copied))?;
+    let less = guarded(alloc, base, exponent)?;
+    let made = boxed(alloc, Expr::Bin(Op::Mul, share, less))?;
+    Ok(made)
 }
 
 // A term less 1, but not below 0.

@@ -48,11 +48,12 @@ impl<'a> Site<'a> {
     }
 
     /// The work variable of a number.
-    pub(crate) fn work_var(&self, alloc: Global, number: usize) -> Result<Expr, Memory>
-        ensures variable { IfOk result (λ e. term_of e ≡ var (naming_of self.now (helper work number))) }
+    pub(crate) fn work_var(&self, alloc: Global, number: usize) -> Result<Box<Expr>, Memory>
+        ensures variable { IfOk result (λ e. term_of e.value ≡ var (naming_of self.now (helper work number))) }
     {
         let name = self.names.helper(alloc, Role::Work, number)?;
-        Ok(Expr::Var(name))
+        let made = boxed(alloc, Expr::Var(name))?;
+        Ok(made)
     }
 
     /// The temporary of a number.
@@ -65,13 +66,20 @@ impl<'a> Site<'a> {
     }
 
     /// The shadow at a place.
-    pub(crate) fn shadow_at(&self, alloc: Global, target: &Place) -> Result<Expr, Memory>
-        ensures value { IfOk result (λ e. term_of e ≡ rename_term (naming_of self.now) (place (shadow target.now.name) (terms_of target.now.subs))) }
+    pub(crate) fn shadow_at(&self, alloc: Global, target: &Place) -> Result<Box<Expr>, Memory>
+        ensures value { IfOk result (λ e. term_of e.value ≡ rename_term (naming_of self.now) (place (shadow target.now.name) (terms_of target.now.subs))) }
     {
         let name = self.names.shadow(alloc, &target.name)?;
         match &target.subs {
-            Exprs::Empty => Ok(Expr::Var(name)),
-            Exprs::More(_, _) => Ok(Expr::Elem(name, target.subs.copy(alloc)?)),
+            Exprs::Empty => {
+                let made = boxed(alloc, Expr::Var(name))?;
+                Ok(made)
+            }
+            Exprs::More(_, _) => {
+                let subs = target.subs.copy(alloc)?;
+                let made = boxed(alloc, Expr::Elem(name, subs))?;
+                Ok(made)
+            }
         }
     }
 }

@@ -53,7 +53,27 @@ pub fn pop(line: u32, place: Place) -> Stmt
 pub fn before(alloc: Global, stmt: Stmt, rest: Stmts) -> Result<Stmts, Memory>
     ensures step { IfOk result (λ c. code_of c ≡ step stmt.line (act_of stmt.act) (code_of rest)) }
 {
-    Ok(Stmts::More(boxed(alloc, stmt)?, boxed(alloc, rest)?))
+    let first = boxed(alloc, stmt)?;
+    let others = boxed(alloc, rest)?;
+    Ok(Stmts::More(first, others))
+}
+
+/// A place that becomes a value, and then the rest.
+pub fn set_before(
+    alloc: Global,
+    line: u32,
+    target: Place,
+    e: Box<Expr>,
+    rest: Stmts,
+) -> Result<Stmts, Memory>
+    ensures step { IfOk result (λ c. code_of c ≡ step line (assign (plain target.name) (terms_of target.subs) (term_of e.value)) (code_of rest)) }
+{
+    let stmt = Stmt {
+        line,
+        act: Act::Assign(target, Box::into_inner(e)),
+    };
+    let code = before(alloc, stmt, rest)?;
+    Ok(code)
 }
 
 /// Statements in order, and then the rest.

@@ -2,21 +2,38 @@
 
 ghost use Rattle.std.specs.Prelude.{◌≡◌, IfOk};
 ghost use Rattle.adj_tree.specs.Code.{plain, helper, work, var, elem, bin, plus, none, assign};
-ghost use Rattle.adj_tree.specs.View.{terms_of, code_of};
+ghost use Rattle.adj_tree.specs.View.{term_of, terms_of, code_of};
 ghost use Rattle.adj_meaning.specs.Append.{◌+++◌, one};
 ghost use Rattle.adj_share.specs.Shares.{scaled_by, share_code};
 ghost use Rattle.adj_site.specs.Sites.{naming_of};
 
 use crate::site::Site;
 use crate::sizes::plus;
-use crate::step::{assignment, before, scalar_assignment};
-use crate::terms::sum;
+use crate::step::set_before;
+use crate::terms::{element, sum};
 use adj_naming::role::Role;
 use adj_share::share::{Factor, Share};
-use adj_tree::{Expr, Exprs, Memory, Name, Stmts};
+use adj_tree::{Expr, Exprs, Memory, Name, Place, Stmts, boxed};
 use std::alloc::Global;
 
 impl<'a> Site<'a> {
+    // The work variable is added to a place that has this value.
+    fn grow(
+        &self,
+        alloc: Global,
+        target: Place,
+        old: Box<Expr>,
+        number: usize,
+        rest: Stmts,
+    ) -> Result<Stmts, Memory>
+        ensures step { IfOk result (λ c. code_of c ≡ one self.now.line (assign (plain target.name) (terms_of target.subs) (bin plus (term_of old.value) (var (naming_of self.now (helper work number))))) +++ code_of rest) }
+    {
+        let work = self.work_var(alloc, number)?;
+        let more = sum(alloc, old, work)?;
+        let code = set_before(alloc, self.line, target, more, rest)?;
+        Ok(code)
+    }
+
     // The work variable is added to a shadow of a scalar.
     fn grow_scalar(
         &self,
@@ -27,10 +44,13 @@ impl<'a> Site<'a> {
     ) -> Result<Stmts, Memory>
         ensures step { IfOk result (λ c. code_of c ≡ one self.now.line (assign (plain shadow.now) none (bin plus (var (plain shadow.now)) (var (naming_of self.now (helper work number))))) +++ code_of rest) }
     {
-        let old = Expr::Var(shadow.copy(alloc)?);
-        let more = sum(alloc, old, self.work_var(alloc, number)?)?;
-        let target = shadow.copy(alloc)?;
-        let code = before(alloc, scalar_assignment(self.line, target, more), rest)?;
+        let name = shadow.copy(alloc)?;
+        let old = boxed(alloc, Expr::Var(name))?;
+        let target = Place {
+            name: shadow.copy(alloc)?,
+            subs: Exprs::Empty,
+        };
+        let code = self.grow(alloc, target, old, number, rest)?;
         Ok(code)
     }
 
@@ -45,11 +65,12 @@ impl<'a> Site<'a> {
     ) -> Result<Stmts, Memory>
         ensures step { IfOk result (λ c. code_of c ≡ one self.now.line (assign (plain shadow.now) (terms_of subs.now) (bin plus (elem (plain shadow.now) (terms_of subs.now)) (var (naming_of self.now (helper work number))))) +++ code_of rest) }
     {
-        let old = Expr::Elem(shadow.copy(alloc)?, subs.copy(alloc)?);
-        let more = sum(alloc, old, self.work_var(alloc, number)?)?;
-        let target = shadow.copy(alloc)?;
-        let places = subs.copy(alloc)?;
-        let code = before(alloc, assignment(self.line, target, places, more), rest)?;
+        let old = element(alloc, shadow, subs)?;
+        let target = Place {
+            name: shadow.copy(alloc)?,
+            subs: subs.copy(alloc)?,
+        };
+        let code = self.grow(alloc, target, old, number, rest)?;
         Ok(code)
     }
 
@@ -64,9 +85,13 @@ impl<'a> Site<'a> {
     ) -> Result<Stmts, Memory>
         ensures step { IfOk result (λ c. code_of c ≡ one self.now.line (assign (naming_of self.now (helper work next)) none (scaled_by factor.now (var (naming_of self.now (helper work number))))) +++ code_of rest) }
     {
-        let value = factor.times(alloc, self.work_var(alloc, number)?)?;
-        let target = self.names.helper(alloc, Role::Work, next)?;
-        let code = before(alloc, scalar_assignment(self.line, target, value), rest)?;
+        let target = Place {
+            name: self.names.helper(alloc, Role::Work, next)?,
+            subs: Exprs::Empty,
+        };
+        let work = self.work_var(alloc, number)?;
+        let value = factor.times(alloc, work)?;
+        let code = set_before(alloc, self.line, target, value, rest)?;
         Ok(code)
     }
 

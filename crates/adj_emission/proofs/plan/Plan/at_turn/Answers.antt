@@ -1,12 +1,12 @@
-use Rattle.std.proofs.Common.{◌∙◌}
-use Rattle.adj_tree.specs.Code.{plain, none, assign, step}
+use Rattle.std.proofs.Common.{◌∙◌, ap}
+use Rattle.adj_tree.specs.Code.{plain, helper, first, stride, plus, times, var, bin, none, assign, step}
+use Rattle.adj_naming.specs.Roles.{role_of}
+use Rattle.adj_emission.specs.Plans.{naming_in}
 use Rattle.adj_emission.proofs.plan.Plan.at_turn.Goals as goal
 
 pub returns : goal.returns
 returns c =
-    let set = c.scalar_assignment-set.ensures in
-    record {
-      turn = λ inner h.
-          c.in_ok-code.ensures.step
-          ∙ (λ i. step (set.line i) ((set.act ∙ (λ j. assign (plain (c.in_ok-copy.ensures.same j)) none (c.in_ok-value.ensures.value j))) i) (h i));
-    }
+    let r = naming_in c.args.self.now in
+    let d = c.args.at.depth in
+    let value = bin plus (var (r (helper first d))) (bin times (var (r (helper (role_of c.args.role) d))) (var (r (helper stride d)))) in
+    record { turn = λ inner h. c.in_ok-code.ensures.step ∙ ap (step c.args.at.line (assign (plain c.args.variable.now) none value)) h }

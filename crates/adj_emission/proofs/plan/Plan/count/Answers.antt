@@ -1,5 +1,13 @@
-use Rattle.adj_tree.specs.Code.{plain, count_actions}
+use Rattle.std.proofs.Common.{◌∙◌}
+use Rattle.adj_tree.specs.Code.{plain, helper, var, count_actions}
+use Rattle.adj_naming.specs.Roles.{role_of}
+use Rattle.adj_emission.specs.Plans.{naming_in}
 use Rattle.adj_emission.proofs.plan.Plan.count.Goals as goal
 
 pub returns : goal.returns
-returns c = record { call = λ i. count_actions (c.in_ok-steps.ensures.term i) (c.in_ok-stored.ensures.slots i) (plain (c.in_ok-made.ensures.name i)) }
+returns c =
+    let r = naming_in c.args.self.now in
+    let own = c.of_depth.ensures in
+    record {
+      call = λ i. count_actions ((c.in_ok-steps.ensures.term ∙ (λ j. var (r (helper (role_of (own.role j)) (own.number j))))) i) (c.in_ok-stored.ensures.slots i) (plain (c.in_ok-made.ensures.name i));
+    }

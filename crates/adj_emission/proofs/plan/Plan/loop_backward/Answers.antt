@@ -22,8 +22,7 @@ returns c =
     let x = c.args.variable.now in
     let rest = code_of c.args.rest in
     let value = bin plus (var (r (helper first d))) (bin times (var (r (helper turn d))) (var (r (helper stride d)))) in
-    let body : code_of c.in_ok-turned.turned ≡ step line (assign (plain x) none value) (code_of c.args.body) =
-    c.in_ok-turned.ensures.step ∙ (λ i. step (c.scalar_assignment-set.ensures.line i) ((c.scalar_assignment-set.ensures.act ∙ (λ j. assign (plain (c.in_ok-copy.ensures.same j)) none (c.in_ok-value.ensures.value j))) i) (code_of c.args.body)) in
+    let body : code_of c.in_ok-turned.turned ≡ step line (assign (plain x) none value) (code_of c.args.body) = c.in_ok-turned.ensures.step in
     let back = λ (z : Code). loop (r (helper turn d)) (bin minus (var (r (helper count d))) (lit (pos 1))) (lit (pos 0)) (neg (lit (pos 1))) z unmarked in
     let gone : code_of c.in_ok-gone.gone ≡ step line (back (step line (assign (plain x) none value) (code_of c.args.body))) rest =
     c.in_ok-gone.ensures.step ∙ (λ i. step (c.in_ok-turns.ensures.line i) ((c.in_ok-turns.ensures.act ∙ ap back body) i) rest) in

@@ -38,7 +38,7 @@ returns c =
     let h = c.of_depth-count.ensures in
     let own : helper (role_of c.of_depth-count.result.role) c.of_depth-count.result.number ≡ helper count d = λ i. helper (role_of (h.role i)) (h.number i) in
     let body = code_turned (code_of c.args.body) (one line (assign (r (helper count d)) none (bin plus (var (r (helper count d))) (lit (pos 1))))) in
-    let opened : code_of c.in_ok-opened.opened ≡ step line (assign (r (helper count d)) none (lit (pos 0))) t = c.in_ok-opened.ensures.step ∙ ap (λ v. step line (assign (r v) none (lit (pos 0))) t) own in
+    let opened : code_of c.in_ok-opened.opened ≡ step line (assign (r (helper count d)) none (lit (pos 0))) t = c.in_ok-opened.ensures.set in
     let gone : code_of c.in_ok-gone.gone ≡ step line (during test body) (step line (assign (r (helper count d)) none (lit (pos 0))) t) =
     c.in_ok-gone.ensures.step ∙ (λ i. step line (during (c.in_ok-copy.ensures.equal i) (c.in_ok-body.ensures.counted i)) (opened i)) in
     record {

@@ -1,5 +1,6 @@
-use Rattle.std.proofs.Common.{◌∙◌}
+use Rattle.std.proofs.Common.{◌∙◌, ap}
 use Rattle.adj_tree.specs.Code.{plain, none, assign}
+use Rattle.adj_tree.specs.View.{term_of}
 use Rattle.adj_site.specs.Sites.{naming_of}
 use Rattle.adj_site.proofs.Onto.{own_pushed}
 use Rattle.adj_site.proofs.site.Site.operand.Goals as goal
@@ -8,4 +9,4 @@ pub returns-clause-steps : goal.returns-clause-steps
 returns-clause-steps c =
     λ t h rest.
     own_pushed (naming_of c.args.self.now) c.args.own c.args.self.now.line c.args.a.next t c.args.steps.now.items c.push.new.self.items c.scalar_assignment.result rest c.if-not-own.false c.in_ok-push.ensures.items c.scalar_assignment.ensures.line
-    (c.scalar_assignment.ensures.act ∙ (λ i. assign (plain (c.in_ok-name.ensures.name i)) none (h i)))
+    (c.scalar_assignment.ensures.act ∙ (λ i. assign (plain (c.in_ok-name.ensures.name i)) none ((ap term_of c.into_inner-value.ensures ∙ h) i)))

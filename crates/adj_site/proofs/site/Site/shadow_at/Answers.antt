@@ -3,5 +3,5 @@ use Rattle.adj_site.specs.Sites.{naming_of}
 use Rattle.adj_site.proofs.Plain.{terms_kept}
 use Rattle.adj_site.proofs.site.Site.shadow_at.Goals as goal
 
-pub returns-in_ok-copy-in-More : goal.returns-in_ok-copy-in-More
-returns-in_ok-copy-in-More c = rw c.in-More.is (search (rules, terms_kept (naming_of c.args.self.now) (λ x. refl) c.in_ok-copy-in-More.field-0))
+pub returns-in_ok-made-in-More : goal.returns-in_ok-made-in-More
+returns-in_ok-made-in-More c = rw c.in-More.is (search (rules, terms_kept (naming_of c.args.self.now) (λ x. refl) c.in_ok-subs-in-More.subs))
