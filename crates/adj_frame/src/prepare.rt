@@ -13,7 +13,7 @@ use crate::directory::Directory;
 use crate::numbering::Numbering;
 use crate::step::{Bounds, Cell, Marking, Service, Step, Steps, Task};
 use crate::term::{Term, Terms, Test};
-use adj_tree::{Act, Cond, Expr, Exprs, Mark, Memory, Name, Place, RunCall, Stmts};
+use adj_tree::{Act, Cond, Expr, Exprs, Mark, Memory, Name, Place, RunCall, Stmts, boxed};
 use std::alloc::Global;
 
 impl<'a> Numbering<'a> {
@@ -43,35 +43,83 @@ impl<'a> Numbering<'a> {
                 Ok(Term::Elem(variable, subs))
             }
             Expr::Neg(a) => {
-                let term = self.term(alloc, a)?;
-                let operand = Box::new(alloc, term)?;
+                let operand = self.operand(alloc, a)?;
                 Ok(Term::Neg(operand))
             }
             Expr::Bin(op, a, b) => {
-                let first = self.term(alloc, a)?;
-                let second = self.term(alloc, b)?;
-                let left = Box::new(alloc, first)?;
-                let right = Box::new(alloc, second)?;
+                let (left, right) = self.operands(alloc, a, b)?;
                 Ok(Term::Bin(*op, left, right))
             }
             Expr::Pow(a, k) => {
-                let term = self.term(alloc, a)?;
-                let operand = Box::new(alloc, term)?;
+                let operand = self.operand(alloc, a)?;
                 Ok(Term::Pow(operand, *k))
             }
             Expr::Power(a, b) => {
-                let first = self.term(alloc, a)?;
-                let second = self.term(alloc, b)?;
-                let base = Box::new(alloc, first)?;
-                let power = Box::new(alloc, second)?;
+                let (base, power) = self.operands(alloc, a, b)?;
                 Ok(Term::Power(base, power))
             }
             Expr::Abs(a) => {
-                let term = self.term(alloc, a)?;
-                let operand = Box::new(alloc, term)?;
+                let operand = self.operand(alloc, a)?;
                 Ok(Term::Abs(operand))
             }
         }
+    }
+
+    // An expression on the heap.
+    #[cycle(prepare_term)]
+    fn operand(&mut self, alloc: Global, expr: &'a Expr) -> Result<Box<Term>, Memory>
+        ensures extends { OnOk result (Extends self.old self.new) }
+        ensures resolves { IfOk result (λ e. Resolves term_in IsTermBelow self.new e.value (term_of expr.now)) }
+    {
+        let term = self.term(alloc, expr)?;
+        let operand = boxed(alloc, term)?;
+        Ok(operand)
+    }
+
+    // Two expressions on the heap.
+    #[cycle(prepare_term)]
+    fn operands(
+        &mut self,
+        alloc: Global,
+        a: &'a Expr,
+        b: &'a Expr,
+    ) -> Result<(Box<Term>, Box<Term>), Memory>
+        ensures extends { OnOk result (Extends self.old self.new) }
+        ensures first { IfOk result (λ p. Resolves term_in IsTermBelow self.new p.0.value (term_of a.now)) }
+        ensures second { IfOk result (λ p. Resolves term_in IsTermBelow self.new p.1.value (term_of b.now)) }
+    {
+        let left = self.operand(alloc, a)?;
+        let right = self.operand(alloc, b)?;
+        Ok((left, right))
+    }
+
+    // Two expressions.
+    fn two(&mut self, alloc: Global, a: &'a Expr, b: &'a Expr) -> Result<(Term, Term), Memory>
+        ensures extends { OnOk result (Extends self.old self.new) }
+        ensures first { IfOk result (λ p. Resolves term_in IsTermBelow self.new p.0 (term_of a.now)) }
+        ensures second { IfOk result (λ p. Resolves term_in IsTermBelow self.new p.1 (term_of b.now)) }
+    {
+        let first = self.term(alloc, a)?;
+        let second = self.term(alloc, b)?;
+        Ok((first, second))
+    }
+
+    // Three expressions.
+    fn three(
+        &mut self,
+        alloc: Global,
+        a: &'a Expr,
+        b: &'a Expr,
+        c: &'a Expr,
+    ) -> Result<(Term, Term, Term), Memory>
+        ensures extends { OnOk result (Extends self.old self.new) }
+        ensures first { IfOk result (λ p. Resolves term_in IsTermBelow self.new p.0 (term_of a.now)) }
+        ensures second { IfOk result (λ p. Resolves term_in IsTermBelow self.new p.1 (term_of b.now)) }
+        ensures third { IfOk result (λ p. Resolves term_in IsTermBelow self.new p.2 (term_of c.now)) }
+    {
+        let (first, second) = self.two(alloc, a, b)?;
+        let third = self.term(alloc, c)?;
+        Ok((first, second, third))
     }
 
     /// Expressions in order.
@@ -84,7 +132,7 @@ impl<'a> Numbering<'a> {
         let mut current = exprs;
         while let Exprs::More(first, rest) = current {
             let term = self.term(alloc, first)?;
-            made = Terms::More(Box::new(alloc, term)?, Box::new(alloc, made)?);
+            made = Terms::More(boxed(alloc, term)?, boxed(alloc, made)?);
             current = rest;
         }
         let all = made.turned();
@@ -92,38 +140,57 @@ impl<'a> Numbering<'a> {
     }
 
     /// A condition.
+    #[cycle(prepare_test)]
     pub fn test(&mut self, alloc: Global, cond: &'a Cond) -> Result<Test, Memory>
         ensures extends { OnOk result (Extends self.old self.new) }
         ensures resolves { IfOk result (λ t. Resolves test_in IsTestBelow self.new t (test_of cond.now)) }
     {
         match cond {
             Cond::Cmp(rel, a, b) => {
-                let first = self.term(alloc, a)?;
-                let second = self.term(alloc, b)?;
-                let left = Box::new(alloc, first)?;
-                let right = Box::new(alloc, second)?;
+                let (left, right) = self.operands(alloc, a, b)?;
                 Ok(Test::Cmp(*rel, left, right))
             }
             Cond::Not(c) => {
-                let test = self.test(alloc, c)?;
-                let operand = Box::new(alloc, test)?;
+                let operand = self.part(alloc, c)?;
                 Ok(Test::Not(operand))
             }
             Cond::And(c, d) => {
-                let first = self.test(alloc, c)?;
-                let second = self.test(alloc, d)?;
-                let left = Box::new(alloc, first)?;
-                let right = Box::new(alloc, second)?;
+                let (left, right) = self.parts(alloc, c, d)?;
                 Ok(Test::And(left, right))
             }
             Cond::Or(c, d) => {
-                let first = self.test(alloc, c)?;
-                let second = self.test(alloc, d)?;
-                let left = Box::new(alloc, first)?;
-                let right = Box::new(alloc, second)?;
+                let (left, right) = self.parts(alloc, c, d)?;
                 Ok(Test::Or(left, right))
             }
         }
+    }
+
+    // A condition on the heap.
+    #[cycle(prepare_test)]
+    fn part(&mut self, alloc: Global, cond: &'a Cond) -> Result<Box<Test>, Memory>
+        ensures extends { OnOk result (Extends self.old self.new) }
+        ensures resolves { IfOk result (λ t. Resolves test_in IsTestBelow self.new t.value (test_of cond.now)) }
+    {
+        let test = self.test(alloc, cond)?;
+        let part = boxed(alloc, test)?;
+        Ok(part)
+    }
+
+    // Two conditions on the heap.
+    #[cycle(prepare_test)]
+    fn parts(
+        &mut self,
+        alloc: Global,
+        c: &'a Cond,
+        d: &'a Cond,
+    ) -> Result<(Box<Test>, Box<Test>), Memory>
+        ensures extends { OnOk result (Extends self.old self.new) }
+        ensures first { IfOk result (λ p. Resolves test_in IsTestBelow self.new p.0.value (test_of c.now)) }
+        ensures second { IfOk result (λ p. Resolves test_in IsTestBelow self.new p.1.value (test_of d.now)) }
+    {
+        let left = self.part(alloc, c)?;
+        let right = self.part(alloc, d)?;
+        Ok((left, right))
     }
 
     // A scalar or an element.
@@ -163,21 +230,20 @@ impl<'a> Numbering<'a> {
             RunCall::PopControl(x) => Ok(Service::PopControl(self.variable(x)?)),
             RunCall::Zero(x) => Ok(Service::Zero(self.variable(x)?)),
             RunCall::Begin(l, s) => {
-                let steps = self.term(alloc, l)?;
-                Ok(Service::Begin(steps, self.term(alloc, s)?))
+                let (steps, snapshots) = self.two(alloc, l, s)?;
+                Ok(Service::Begin(steps, snapshots))
             }
             RunCall::Actions(l, s, n) => {
-                let steps = self.term(alloc, l)?;
-                let snapshots = self.term(alloc, s)?;
-                Ok(Service::Actions(steps, snapshots, self.variable(n)?))
+                let variable = self.variable(n)?;
+                let (steps, snapshots) = self.two(alloc, l, s)?;
+                Ok(Service::Actions(steps, snapshots, variable))
             }
             RunCall::Action(l, s, k, a, f, t) => {
-                let steps = self.term(alloc, l)?;
-                let snapshots = self.term(alloc, s)?;
-                let number = self.term(alloc, k)?;
                 let kind = self.variable(a)?;
                 let lower = self.variable(f)?;
-                Ok(Service::Action(steps, snapshots, number, kind, lower, self.variable(t)?))
+                let upper = self.variable(t)?;
+                let (steps, snapshots, number) = self.three(alloc, l, s, k)?;
+                Ok(Service::Action(steps, snapshots, number, kind, lower, upper))
             }
             RunCall::End => Ok(Service::End),
         }
@@ -201,30 +267,33 @@ impl<'a> Numbering<'a> {
         match act {
             Act::Assign(place, e) => {
                 let cell = self.cell(alloc, place)?;
-                Ok(Task::Assign(cell, self.term(alloc, e)?))
+                let value = self.term(alloc, e)?;
+                Ok(Task::Assign(cell, value))
             }
             Act::If(c, a, b) => {
-                let test = self.test(alloc, c)?;
                 let first = self.steps(alloc, units, a)?;
-                Ok(Task::If(test, first, self.steps(alloc, units, b)?))
+                let second = self.steps(alloc, units, b)?;
+                let test = self.test(alloc, c)?;
+                Ok(Task::If(test, first, second))
             }
             Act::Loop(x, a, b, c, body, mark) => {
                 let variable = self.variable(x)?;
-                let first = self.term(alloc, a)?;
-                let last = self.term(alloc, b)?;
-                let by = self.term(alloc, c)?;
+                let marking = self.marking(mark)?;
                 let inner = self.steps(alloc, units, body)?;
+                let (first, last, by) = self.three(alloc, a, b, c)?;
                 let bounds = Bounds { first, last, by };
-                Ok(Task::Loop(variable, bounds, inner, self.marking(mark)?))
+                Ok(Task::Loop(variable, bounds, inner, marking))
             }
             Act::While(c, body) => {
+                let inner = self.steps(alloc, units, body)?;
                 let test = self.test(alloc, c)?;
-                Ok(Task::While(test, self.steps(alloc, units, body)?))
+                Ok(Task::While(test, inner))
             }
             Act::Call(name, actuals) => {
                 let number = units.number(name)?;
+                let terms = self.terms(alloc, actuals)?;
                 let unit = name.copy(alloc)?;
-                Ok(Task::Call(number, unit, self.terms(alloc, actuals)?))
+                Ok(Task::Call(number, unit, terms))
             }
             Act::Run(call) => Ok(Task::Run(self.service(alloc, call)?)),
         }
@@ -253,7 +322,7 @@ impl<'a> Numbering<'a> {
                 line: first.line,
                 task,
             };
-            made = Steps::More(Box::new(alloc, step)?, Box::new(alloc, made)?);
+            made = Steps::More(boxed(alloc, step)?, boxed(alloc, made)?);
             current = rest;
         }
         let all = made.turned();

@@ -2,9 +2,10 @@ use Rattle.std.proofs.Common.{rules, ◌≡◌, length, map, refl, sym, ap, subs
 use Rattle.adj_tree.specs.declared.stmt.Stmts.{size-Stmts}
 use Rattle.adj_tree.specs.declared.stmt.Act.TheViews.{sized-More}
 use Rattle.adj_tree.specs.declared.stmt.Stmts.TheVariants as stmts
-use Rattle.adj_tree.specs.Code.{step, choose, loop}
+use Rattle.adj_tree.specs.Code.{step, assign, choose, loop, during, call, runtime}
 use Rattle.adj_tree.specs.View.{term_of, act_of, code_of, procedure_of}
 use Rattle.adj_tree.specs.Listed.{code_turned}
+use Rattle.adj_meaning.specs.Written.{find_unit}
 use Rattle.adj_frame.specs.declared.step.Step.{Step}
 use Rattle.adj_frame.specs.Linked.{IsTaskLinked, AreLinked}
 use Rattle.adj_frame.specs.Instructed.{task_in, steps_in, IsTaskBelow, AreStepsBelow}
@@ -30,8 +31,8 @@ steps-loop-current-preserved t c =
     let inv = c.loop-current.invariant in
     let e = c.in_ok-task.ensures.extends in
     let r = c.in_ok-task.ensures.resolves in
-    let ok1 = c.in_ok-new.ensures.ok in
-    let ok2 = c.in_ok-new-2.ensures.ok in
+    let ok1 = c.in_ok-boxed.ensures.boxed in
+    let ok2 = c.in_ok-boxed-2.ensures.boxed in
     record {
       no_deeper =
           let whole = sized-More c.in-More.first c.in-More.rest in
@@ -66,34 +67,104 @@ steps-returns-clause-resolves t c =
       below = λ ls f. c.turned-all.ensures.below (length ls) (inv.below ls f);
     }
 
--- ---- statements of several parts
+-- ---- each kind of statement
 
-pub task-returns-in_ok-steps-in-If-clause-resolves : goal.task-returns-in_ok-steps-in-If-clause-resolves
-task-returns-in_ok-steps-in-If-clause-resolves t c =
-    let r1 = c.in_ok-test-in-If.ensures.resolves in
-    let r2 = c.in_ok-first-in-If.ensures.resolves in
-    let r3 = c.in_ok-steps-in-If.ensures.resolves in
-    let e2 = c.in_ok-first-in-If.ensures.extends in
-    let e3 = c.in_ok-steps-in-If.ensures.extends in
-    rw c.in-If.is (record {
-      stands_for = λ ls f i. choose (r1.stands_for ls (extends_on _ _ _ e2 (extends_on _ _ _ e3 f)) i) (r2.stands_for ls (extends_on _ _ _ e3 f) i) (r3.stands_for ls f i);
-      below = λ ls f. (r1.below ls (extends_on _ _ _ e2 (extends_on _ _ _ e3 f)), r2.below ls (extends_on _ _ _ e3 f), r3.below ls f);
-    })
+pub task-returns-in_ok-value-in-Assign : goal.task-returns-in_ok-value-in-Assign
+task-returns-in_ok-value-in-Assign t c =
+    let r1 = c.in_ok-cell-in-Assign.ensures in
+    let r2 = c.in_ok-value-in-Assign.ensures in
+    let e2 = r2.extends in
+    record {
+      extends = extends_on _ _ _ r1.extends e2;
+      units = refl;
+      directory = c.requires;
+      linked = tt;
+      resolves = rw c.in-Assign.is (record {
+        stands_for = λ ls f i. assign (r1.variable.stands_for ls (extends_on _ _ _ e2 f) i) (r1.subs.stands_for ls (extends_on _ _ _ e2 f) i) (r2.resolves.stands_for ls f i);
+        below = λ ls f. ((r1.variable.below ls (extends_on _ _ _ e2 f), r1.subs.below ls (extends_on _ _ _ e2 f)), r2.resolves.below ls f);
+      });
+    }
 
-pub task-returns-in_ok-marking-in-Loop-clause-resolves : goal.task-returns-in_ok-marking-in-Loop-clause-resolves
-task-returns-in_ok-marking-in-Loop-clause-resolves t c =
-    let r1 = c.in_ok-variable-in-Loop.ensures.resolves in
-    let r2 = c.in_ok-first-in-Loop.ensures.resolves in
-    let r3 = c.in_ok-last-in-Loop.ensures.resolves in
-    let r4 = c.in_ok-by-in-Loop.ensures.resolves in
-    let r5 = c.in_ok-inner-in-Loop.ensures.resolves in
-    let r6 = c.in_ok-marking-in-Loop.ensures.resolves in
-    let e6 = c.in_ok-marking-in-Loop.ensures.extends in
-    let e5 = extends_on _ _ _ c.in_ok-inner-in-Loop.ensures.extends e6 in
-    let e4 = extends_on _ _ _ c.in_ok-by-in-Loop.ensures.extends e5 in
-    let e3 = extends_on _ _ _ c.in_ok-last-in-Loop.ensures.extends e4 in
-    let e2 = extends_on _ _ _ c.in_ok-first-in-Loop.ensures.extends e3 in
-    rw c.in-Loop.is (record {
-      stands_for = λ ls f i. loop (r1.stands_for ls (extends_on _ _ _ e2 f) i) ((r2.stands_for ls (extends_on _ _ _ e3 f) ∙ ap term_of c.deref.ensures) i) ((r3.stands_for ls (extends_on _ _ _ e4 f) ∙ ap term_of c.deref-in-Loop.ensures) i) ((r4.stands_for ls (extends_on _ _ _ e5 f) ∙ ap term_of c.deref-in-Loop-2.ensures) i) (r5.stands_for ls (extends_on _ _ _ e6 f) i) (r6.stands_for ls f i);
-      below = λ ls f. (r1.below ls (extends_on _ _ _ e2 f), (r2.below ls (extends_on _ _ _ e3 f), r3.below ls (extends_on _ _ _ e4 f), r4.below ls (extends_on _ _ _ e5 f)), r5.below ls (extends_on _ _ _ e6 f), r6.below ls f);
-    })
+pub task-returns-in_ok-test-in-If : goal.task-returns-in_ok-test-in-If
+task-returns-in_ok-test-in-If t c =
+    let r1 = c.in_ok-first-in-If.ensures in
+    let r2 = c.in_ok-second-in-If.ensures in
+    let r3 = c.in_ok-test-in-If.ensures in
+    let e3 = r3.extends in
+    let e2 = extends_on _ _ _ r2.extends e3 in
+    record {
+      extends = extends_on _ _ _ r1.extends e2;
+      units = r2.units ∙ r1.units;
+      directory = r2.directory;
+      linked = (r1.linked, subst (λ us. AreLinked (map procedure_of us) c.in_ok-second-in-If.second) r1.units r2.linked);
+      resolves = rw c.in-If.is (record {
+        stands_for = λ ls f i. choose (r3.resolves.stands_for ls f i) (r1.resolves.stands_for ls (extends_on _ _ _ e2 f) i) (r2.resolves.stands_for ls (extends_on _ _ _ e3 f) i);
+        below = λ ls f. (r3.resolves.below ls f, r1.resolves.below ls (extends_on _ _ _ e2 f), r2.resolves.below ls (extends_on _ _ _ e3 f));
+      });
+    }
+
+pub task-returns-in_ok-first-in-Loop : goal.task-returns-in_ok-first-in-Loop
+task-returns-in_ok-first-in-Loop t c =
+    let r1 = c.in_ok-variable-in-Loop.ensures in
+    let r2 = c.in_ok-marking-in-Loop.ensures in
+    let r3 = c.in_ok-inner-in-Loop.ensures in
+    let r4 = c.in_ok-first-in-Loop.ensures in
+    let e4 = r4.extends in
+    let e3 = extends_on _ _ _ r3.extends e4 in
+    let e2 = extends_on _ _ _ r2.extends e3 in
+    record {
+      extends = extends_on _ _ _ r1.extends e2;
+      units = r3.units;
+      directory = r3.directory;
+      linked = r3.linked;
+      resolves = rw c.in-Loop.is (record {
+        stands_for = λ ls f i. loop (r1.resolves.stands_for ls (extends_on _ _ _ e2 f) i) ((r4.first.stands_for ls f ∙ ap term_of c.deref.ensures) i) ((r4.second.stands_for ls f ∙ ap term_of c.deref-in-Loop.ensures) i) ((r4.third.stands_for ls f ∙ ap term_of c.deref-in-Loop-2.ensures) i) (r3.resolves.stands_for ls (extends_on _ _ _ e4 f) i) (r2.resolves.stands_for ls (extends_on _ _ _ e3 f) i);
+        below = λ ls f. (r1.resolves.below ls (extends_on _ _ _ e2 f), (r4.first.below ls f, r4.second.below ls f, r4.third.below ls f), r3.resolves.below ls (extends_on _ _ _ e4 f), r2.resolves.below ls (extends_on _ _ _ e3 f));
+      });
+    }
+
+pub task-returns-in_ok-test-in-While : goal.task-returns-in_ok-test-in-While
+task-returns-in_ok-test-in-While t c =
+    let r1 = c.in_ok-inner-in-While.ensures in
+    let r2 = c.in_ok-test-in-While.ensures in
+    let e2 = r2.extends in
+    record {
+      extends = extends_on _ _ _ r1.extends e2;
+      units = r1.units;
+      directory = r1.directory;
+      linked = r1.linked;
+      resolves = rw c.in-While.is (record {
+        stands_for = λ ls f i. during (r2.resolves.stands_for ls f i) (r1.resolves.stands_for ls (extends_on _ _ _ e2 f) i);
+        below = λ ls f. (r2.resolves.below ls f, r1.resolves.below ls (extends_on _ _ _ e2 f));
+      });
+    }
+
+pub task-returns-in_ok-unit-in-Call : goal.task-returns-in_ok-unit-in-Call
+task-returns-in_ok-unit-in-Call t c =
+    let r1 = c.in_ok-number-in-Call.ensures in
+    let r2 = c.in_ok-terms-in-Call.ensures in
+    let same = c.in_ok-unit-in-Call.ensures.same in
+    record {
+      extends = r2.extends;
+      units = r1.units;
+      directory = r1.directory;
+      linked = ap (find_unit (map procedure_of c.args.units.now.units.now)) same ∙ r1.found;
+      resolves = rw c.in-Call.is (record {
+        stands_for = λ ls f i. call (same i) (r2.resolves.stands_for ls f i);
+        below = λ ls f. r2.resolves.below ls f;
+      });
+    }
+
+pub task-returns-in_ok-service-in-Run : goal.task-returns-in_ok-service-in-Run
+task-returns-in_ok-service-in-Run t c =
+    let r1 = c.in_ok-service-in-Run.ensures in
+    record {
+      extends = r1.extends;
+      units = refl;
+      directory = c.requires;
+      linked = tt;
+      resolves = rw c.in-Run.is (record {
+        stands_for = λ ls f i. runtime (r1.resolves.stands_for ls f i);
+        below = λ ls f. r1.resolves.below ls f;
+      });
+    }

@@ -1,13 +1,139 @@
 use Rattle.std.proofs.Common.{rules, ◌≡◌, length, refl, sym, ap, subst, ◌∙◌, arith}
+use Rattle.adj_tree.specs.declared.expr.Expr.{size-Expr}
 use Rattle.adj_tree.specs.declared.expr.Exprs.{size-Exprs}
-use Rattle.adj_tree.specs.declared.expr.Expr.TheViews.{sized-More}
+use Rattle.adj_tree.specs.declared.expr.Expr.TheViews.{sized-Bin, sized-Power, sized-More}
 use Rattle.adj_tree.specs.declared.expr.Exprs.TheVariants as exprs
-use Rattle.adj_tree.specs.Code.{more}
-use Rattle.adj_tree.specs.View.{term_of, terms_of}
+use Rattle.adj_tree.specs.Code.{var, elem, neg, bin, pow, power_of, abs, more}
+use Rattle.adj_tree.specs.View.{op_of, term_of, terms_of}
 use Rattle.adj_tree.specs.Listed.{terms_turned}
 use Rattle.adj_frame.specs.Prepared.{term_in, terms_in, IsTermBelow, AreTermsBelow}
-use Rattle.adj_frame.proofs.Resolving.{extends_self, extends_on}
+use Rattle.adj_frame.proofs.Resolving.{extends_self, extends_on, resolves_on}
 use Rattle.adj_frame.proofs.numbering.Numbering.+prepare_term.Goals as goal
+
+-- ---- each kind of expression
+
+pub term-returns-in_ok-variable-in-Var : goal.term-returns-in_ok-variable-in-Var
+term-returns-in_ok-variable-in-Var t c =
+    let r = c.in_ok-variable-in-Var.ensures in
+    record {
+      extends = r.extends;
+      resolves = rw c.in-Var.is (record {
+        stands_for = λ ls f. ap var (r.resolves.stands_for ls f);
+        below = λ ls f. r.resolves.below ls f;
+      });
+    }
+
+pub term-returns-in_ok-subs-in-Elem : goal.term-returns-in_ok-subs-in-Elem
+term-returns-in_ok-subs-in-Elem t c =
+    let r1 = c.in_ok-variable-in-Elem.ensures in
+    let r2 = c.in_ok-subs-in-Elem.ensures in
+    let e2 = r2.extends in
+    record {
+      extends = extends_on _ _ _ r1.extends e2;
+      resolves = rw c.in-Elem.is (record {
+        stands_for = λ ls f i. elem (r1.resolves.stands_for ls (extends_on _ _ _ e2 f) i) (r2.resolves.stands_for ls f i);
+        below = λ ls f. (r1.resolves.below ls (extends_on _ _ _ e2 f), r2.resolves.below ls f);
+      });
+    }
+
+pub term-returns-in_ok-operand-in-Neg : goal.term-returns-in_ok-operand-in-Neg
+term-returns-in_ok-operand-in-Neg t c =
+    let r = c.in_ok-operand-in-Neg.ensures in
+    record {
+      extends = r.extends;
+      resolves = rw c.in-Neg.is (record {
+        stands_for = λ ls f. ap (λ z. neg z) (r.resolves.stands_for ls f ∙ ap term_of c.deref.ensures);
+        below = λ ls f. r.resolves.below ls f;
+      });
+    }
+
+pub term-returns-in_ok-left-in-Bin : goal.term-returns-in_ok-left-in-Bin
+term-returns-in_ok-left-in-Bin t c =
+    let r = c.in_ok-left-in-Bin.ensures in
+    record {
+      extends = r.extends;
+      resolves = rw c.in-Bin.is (record {
+        stands_for = λ ls f i. bin (op_of c.in-Bin.op) ((r.first.stands_for ls f ∙ ap term_of c.deref-in-Bin.ensures) i) ((r.second.stands_for ls f ∙ ap term_of c.deref-in-Bin-2.ensures) i);
+        below = λ ls f. (r.first.below ls f, r.second.below ls f);
+      });
+    }
+
+pub term-returns-in_ok-operand-in-Pow : goal.term-returns-in_ok-operand-in-Pow
+term-returns-in_ok-operand-in-Pow t c =
+    let r = c.in_ok-operand-in-Pow.ensures in
+    record {
+      extends = r.extends;
+      resolves = rw c.in-Pow.is (record {
+        stands_for = λ ls f. ap (λ z. pow z c.in-Pow.k) (r.resolves.stands_for ls f ∙ ap term_of c.deref-in-Pow.ensures);
+        below = λ ls f. r.resolves.below ls f;
+      });
+    }
+
+pub term-returns-in_ok-base-in-Power : goal.term-returns-in_ok-base-in-Power
+term-returns-in_ok-base-in-Power t c =
+    let r = c.in_ok-base-in-Power.ensures in
+    record {
+      extends = r.extends;
+      resolves = rw c.in-Power.is (record {
+        stands_for = λ ls f i. power_of ((r.first.stands_for ls f ∙ ap term_of c.deref-in-Power.ensures) i) ((r.second.stands_for ls f ∙ ap term_of c.deref-in-Power-2.ensures) i);
+        below = λ ls f. (r.first.below ls f, r.second.below ls f);
+      });
+    }
+
+pub term-returns-in_ok-operand-in-Abs : goal.term-returns-in_ok-operand-in-Abs
+term-returns-in_ok-operand-in-Abs t c =
+    let r = c.in_ok-operand-in-Abs.ensures in
+    record {
+      extends = r.extends;
+      resolves = rw c.in-Abs.is (record {
+        stands_for = λ ls f. ap (λ z. abs z) (r.resolves.stands_for ls f ∙ ap term_of c.deref-in-Abs.ensures);
+        below = λ ls f. r.resolves.below ls f;
+      });
+    }
+
+-- ---- operands are smaller
+
+pub term-operands-requires : goal.term-operands-requires
+term-operands-requires t c =
+    let whole = sized-Bin c.in-Bin.op c.in-Bin.a c.in-Bin.b in
+    let was = ap size-Expr c.in-Bin.is in
+    let left = ap size-Expr c.deref-in-Bin.ensures in
+    let right = ap size-Expr c.deref-in-Bin-2.ensures in
+    (omega (arith, c.decreases, whole, was, left, right), tt)
+
+pub term-operands-requires-in-Power : goal.term-operands-requires-in-Power
+term-operands-requires-in-Power t c =
+    let whole = sized-Power c.in-Power.a c.in-Power.b in
+    let was = ap size-Expr c.in-Power.is in
+    let left = ap size-Expr c.deref-in-Power.ensures in
+    let right = ap size-Expr c.deref-in-Power-2.ensures in
+    (omega (arith, c.decreases, whole, was, left, right), tt)
+
+-- ---- operands
+
+pub operand-returns : goal.operand-returns
+operand-returns t c =
+    let r = c.in_ok-term.ensures in
+    let b = c.in_ok-operand.ensures.boxed in
+    record {
+      extends = r.extends;
+      resolves = record {
+        stands_for = λ ls f. ap (term_in ls) b ∙ r.resolves.stands_for ls f;
+        below = λ ls f. subst (IsTermBelow (length ls)) (sym b) (r.resolves.below ls f);
+      };
+    }
+
+pub operands-returns : goal.operands-returns
+operands-returns t c =
+    let r1 = c.in_ok-left.ensures in
+    let r2 = c.in_ok-right.ensures in
+    record {
+      extends = extends_on _ _ _ r1.extends r2.extends;
+      first = resolves_on _ _ _ _ _ _ r2.extends r1.resolves;
+      second = r2.resolves;
+    }
+
+-- ---- lists
 
 pub terms-loop-current-init : goal.terms-loop-current-init
 terms-loop-current-init t c = record {
@@ -25,8 +151,8 @@ terms-loop-current-preserved t c =
     let inv = c.loop-current.invariant in
     let e = c.in_ok-term.ensures.extends in
     let r = c.in_ok-term.ensures.resolves in
-    let ok1 = c.in_ok-new.ensures.ok in
-    let ok2 = c.in_ok-new-2.ensures.ok in
+    let ok1 = c.in_ok-boxed.ensures.boxed in
+    let ok2 = c.in_ok-boxed-2.ensures.boxed in
     record {
       no_deeper =
           let whole = sized-More c.in-More.first c.in-More.rest in

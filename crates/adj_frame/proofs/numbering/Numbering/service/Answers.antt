@@ -1,35 +1,102 @@
 use Rattle.std.proofs.Common.{◌∙◌, ap}
-use Rattle.adj_tree.specs.Code.{count_actions, give_action}
+use Rattle.adj_tree.specs.Code.{push_word, pop_word, push_array, pop_array, push_control, pop_control, zero_array, begin_reversal, count_actions, give_action}
 use Rattle.adj_tree.specs.View.{term_of}
 use Rattle.adj_frame.proofs.Resolving.{extends_on}
 use Rattle.adj_frame.proofs.numbering.Numbering.service.Goals as goal
 
-pub returns-in_ok-variable-in-Actions-clause-resolves : goal.returns-in_ok-variable-in-Actions-clause-resolves
-returns-in_ok-variable-in-Actions-clause-resolves c =
-    let r1 = c.in_ok-steps-in-Actions.ensures.resolves in
-    let r2 = c.in_ok-snapshots-in-Actions.ensures.resolves in
-    let r3 = c.in_ok-variable-in-Actions.ensures.resolves in
-    let e3 = c.in_ok-variable-in-Actions.ensures.extends in
-    let e2 = extends_on _ _ _ c.in_ok-snapshots-in-Actions.ensures.extends e3 in
-    rw c.in-Actions.is (record {
-      stands_for = λ ls f i. count_actions ((r1.stands_for ls (extends_on _ _ _ e2 f) ∙ ap term_of c.deref-in-Actions.ensures) i) ((r2.stands_for ls (extends_on _ _ _ e3 f) ∙ ap term_of c.deref-in-Actions-2.ensures) i) (r3.stands_for ls f i);
-      below = λ ls f. (r1.below ls (extends_on _ _ _ e2 f), r2.below ls (extends_on _ _ _ e3 f), r3.below ls f);
-    })
+pub returns-in_ok-cell-in-PushWord : goal.returns-in_ok-cell-in-PushWord
+returns-in_ok-cell-in-PushWord c =
+    let r = c.in_ok-cell-in-PushWord.ensures in
+    record {
+      extends = r.extends;
+      resolves = rw c.in-PushWord.is (record { stands_for = λ ls f i. push_word (r.variable.stands_for ls f i) (r.subs.stands_for ls f i); below = λ ls f. (r.variable.below ls f, r.subs.below ls f) });
+    }
 
-pub returns-in_ok-variable-in-Action-clause-resolves : goal.returns-in_ok-variable-in-Action-clause-resolves
-returns-in_ok-variable-in-Action-clause-resolves c =
-    let r1 = c.in_ok-steps-in-Action.ensures.resolves in
-    let r2 = c.in_ok-snapshots-in-Action.ensures.resolves in
-    let r3 = c.in_ok-number-in-Action.ensures.resolves in
-    let r4 = c.in_ok-kind-in-Action.ensures.resolves in
-    let r5 = c.in_ok-lower-in-Action.ensures.resolves in
-    let r6 = c.in_ok-variable-in-Action.ensures.resolves in
-    let e6 = c.in_ok-variable-in-Action.ensures.extends in
-    let e5 = extends_on _ _ _ c.in_ok-lower-in-Action.ensures.extends e6 in
-    let e4 = extends_on _ _ _ c.in_ok-kind-in-Action.ensures.extends e5 in
-    let e3 = extends_on _ _ _ c.in_ok-number-in-Action.ensures.extends e4 in
-    let e2 = extends_on _ _ _ c.in_ok-snapshots-in-Action.ensures.extends e3 in
-    rw c.in-Action.is (record {
-      stands_for = λ ls f i. give_action ((r1.stands_for ls (extends_on _ _ _ e2 f) ∙ ap term_of c.deref-in-Action.ensures) i) ((r2.stands_for ls (extends_on _ _ _ e3 f) ∙ ap term_of c.deref-in-Action-2.ensures) i) ((r3.stands_for ls (extends_on _ _ _ e4 f) ∙ ap term_of c.deref-in-Action-3.ensures) i) (r4.stands_for ls (extends_on _ _ _ e5 f) i) (r5.stands_for ls (extends_on _ _ _ e6 f) i) (r6.stands_for ls f i);
-      below = λ ls f. (r1.below ls (extends_on _ _ _ e2 f), r2.below ls (extends_on _ _ _ e3 f), r3.below ls (extends_on _ _ _ e4 f), r4.below ls (extends_on _ _ _ e5 f), r5.below ls (extends_on _ _ _ e6 f), r6.below ls f);
-    })
+pub returns-in_ok-cell-in-PopWord : goal.returns-in_ok-cell-in-PopWord
+returns-in_ok-cell-in-PopWord c =
+    let r = c.in_ok-cell-in-PopWord.ensures in
+    record {
+      extends = r.extends;
+      resolves = rw c.in-PopWord.is (record { stands_for = λ ls f i. pop_word (r.variable.stands_for ls f i) (r.subs.stands_for ls f i); below = λ ls f. (r.variable.below ls f, r.subs.below ls f) });
+    }
+
+pub returns-in_ok-variable-in-PushArray : goal.returns-in_ok-variable-in-PushArray
+returns-in_ok-variable-in-PushArray c =
+    let r = c.in_ok-variable-in-PushArray.ensures in
+    record {
+      extends = r.extends;
+      resolves = rw c.in-PushArray.is (record { stands_for = λ ls f i. push_array (r.resolves.stands_for ls f i); below = λ ls f. r.resolves.below ls f });
+    }
+
+pub returns-in_ok-variable-in-PopArray : goal.returns-in_ok-variable-in-PopArray
+returns-in_ok-variable-in-PopArray c =
+    let r = c.in_ok-variable-in-PopArray.ensures in
+    record {
+      extends = r.extends;
+      resolves = rw c.in-PopArray.is (record { stands_for = λ ls f i. pop_array (r.resolves.stands_for ls f i); below = λ ls f. r.resolves.below ls f });
+    }
+
+pub returns-in_ok-term-in-PushControl : goal.returns-in_ok-term-in-PushControl
+returns-in_ok-term-in-PushControl c =
+    let r = c.in_ok-term-in-PushControl.ensures in
+    record {
+      extends = r.extends;
+      resolves = rw c.in-PushControl.is (record { stands_for = λ ls f i. push_control (r.resolves.stands_for ls f i); below = λ ls f. r.resolves.below ls f });
+    }
+
+pub returns-in_ok-variable-in-PopControl : goal.returns-in_ok-variable-in-PopControl
+returns-in_ok-variable-in-PopControl c =
+    let r = c.in_ok-variable-in-PopControl.ensures in
+    record {
+      extends = r.extends;
+      resolves = rw c.in-PopControl.is (record { stands_for = λ ls f i. pop_control (r.resolves.stands_for ls f i); below = λ ls f. r.resolves.below ls f });
+    }
+
+pub returns-in_ok-variable-in-Zero : goal.returns-in_ok-variable-in-Zero
+returns-in_ok-variable-in-Zero c =
+    let r = c.in_ok-variable-in-Zero.ensures in
+    record {
+      extends = r.extends;
+      resolves = rw c.in-Zero.is (record { stands_for = λ ls f i. zero_array (r.resolves.stands_for ls f i); below = λ ls f. r.resolves.below ls f });
+    }
+
+pub returns-in_ok-steps-in-Begin : goal.returns-in_ok-steps-in-Begin
+returns-in_ok-steps-in-Begin c =
+    let r = c.in_ok-steps-in-Begin.ensures in
+    record {
+      extends = r.extends;
+      resolves = rw c.in-Begin.is (record {
+        stands_for = λ ls f i. begin_reversal ((r.first.stands_for ls f ∙ ap term_of c.deref.ensures) i) ((r.second.stands_for ls f ∙ ap term_of c.deref-in-Begin.ensures) i);
+        below = λ ls f. (r.first.below ls f, r.second.below ls f);
+      });
+    }
+
+pub returns-in_ok-steps-in-Actions : goal.returns-in_ok-steps-in-Actions
+returns-in_ok-steps-in-Actions c =
+    let r1 = c.in_ok-variable-in-Actions.ensures in
+    let r2 = c.in_ok-steps-in-Actions.ensures in
+    let e2 = r2.extends in
+    record {
+      extends = extends_on _ _ _ r1.extends e2;
+      resolves = rw c.in-Actions.is (record {
+        stands_for = λ ls f i. count_actions ((r2.first.stands_for ls f ∙ ap term_of c.deref-in-Actions.ensures) i) ((r2.second.stands_for ls f ∙ ap term_of c.deref-in-Actions-2.ensures) i) (r1.resolves.stands_for ls (extends_on _ _ _ e2 f) i);
+        below = λ ls f. (r2.first.below ls f, r2.second.below ls f, r1.resolves.below ls (extends_on _ _ _ e2 f));
+      });
+    }
+
+pub returns-in_ok-steps-in-Action : goal.returns-in_ok-steps-in-Action
+returns-in_ok-steps-in-Action c =
+    let r1 = c.in_ok-kind-in-Action.ensures in
+    let r2 = c.in_ok-lower-in-Action.ensures in
+    let r3 = c.in_ok-upper-in-Action.ensures in
+    let r4 = c.in_ok-steps-in-Action.ensures in
+    let e4 = r4.extends in
+    let e3 = extends_on _ _ _ r3.extends e4 in
+    let e2 = extends_on _ _ _ r2.extends e3 in
+    record {
+      extends = extends_on _ _ _ r1.extends e2;
+      resolves = rw c.in-Action.is (record {
+        stands_for = λ ls f i. give_action ((r4.first.stands_for ls f ∙ ap term_of c.deref-in-Action.ensures) i) ((r4.second.stands_for ls f ∙ ap term_of c.deref-in-Action-2.ensures) i) ((r4.third.stands_for ls f ∙ ap term_of c.deref-in-Action-3.ensures) i) (r1.resolves.stands_for ls (extends_on _ _ _ e2 f) i) (r2.resolves.stands_for ls (extends_on _ _ _ e3 f) i) (r3.resolves.stands_for ls (extends_on _ _ _ e4 f) i);
+        below = λ ls f. (r4.first.below ls f, r4.second.below ls f, r4.third.below ls f, r1.resolves.below ls (extends_on _ _ _ e2 f), r2.resolves.below ls (extends_on _ _ _ e3 f), r3.resolves.below ls (extends_on _ _ _ e4 f));
+      });
+    }

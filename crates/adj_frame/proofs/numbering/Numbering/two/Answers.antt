@@ -1,0 +1,12 @@
+use Rattle.adj_frame.proofs.Resolving.{extends_on, resolves_on}
+use Rattle.adj_frame.proofs.numbering.Numbering.two.Goals as goal
+
+pub returns : goal.returns
+returns c =
+    let r1 = c.in_ok-first.ensures in
+    let r2 = c.in_ok-second.ensures in
+    record {
+      extends = extends_on _ _ _ r1.extends r2.extends;
+      first = resolves_on _ _ _ _ _ _ r2.extends r1.resolves;
+      second = r2.resolves;
+    }
