@@ -1,6 +1,6 @@
 -- Operations on two operands that were reduced.
-use Rattle.std.specs.Prelude.{ℕ, suc}
-use Rattle.adj_tree.specs.Code.{Var, Op, plus, minus, times, quot, modulo, greater, lesser, Term, var, bin, compare, is_less, Code, stop}
+use Rattle.std.specs.Prelude.{ℕ, suc, Bool, true, false}
+use Rattle.adj_tree.specs.Code.{Var, Op, plus, minus, times, quot, modulo, greater, lesser, Term, var, bin, Test, compare, is_less, Code, stop}
 use Rattle.adj_kernel.specs.Lowered.{picked}
 
 -- how many locals the operation itself takes
@@ -22,6 +22,11 @@ combined local quot i a b = bin quot a b
 combined local modulo i a b = bin modulo a b
 combined local greater i a b = var (local i)
 combined local lesser i a b = var (local i)
+
+-- the test by which the second of two values is taken: for the larger that the first is less, for the smaller that the second is
+abbrev pub test_between : Bool → Var → Var → Test
+test_between true x y = compare is_less (var x) (var y)
+test_between false x y = compare is_less (var y) (var x)
 
 -- the statements that set its locals
 abbrev pub before_combined : (ℕ → Var) → ℕ → Op → ℕ → Term → Term → Code

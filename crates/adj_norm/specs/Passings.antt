@@ -12,7 +12,7 @@ use Rattle.adj_norm.specs.declared.passing.Passing.TheVariants.{Stays, PutBack, 
 abbrev pub passing_of : Passing → kernel.Passing
 passing_of (Stays x) = kernel.stays (plain x)
 passing_of (PutBack x subs) = kernel.put_back (plain x) (terms_of subs)
-passing_of (ByValue e) = kernel.by_value (term_of e)
+passing_of (ByValue e) = kernel.by_value (term_of e.value)
 
 -- the set has the names of these variables
 abbrev pub HasNamesOf : List (List ℕ) → List Var → Type 0

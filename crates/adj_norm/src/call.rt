@@ -1,10 +1,10 @@
 //! Calls, whose actuals become distinct names (docs/KERNEL.md, "The steps").
 
 ghost use Rattle.std.specs.Prelude.{◌≡◌, ◌+◌, ◌∷◌, [], List, Bool, IfOk, OnOk};
-ghost use Rattle.adj_tree.specs.Code.{Var, plain, var, none, more, call};
+ghost use Rattle.adj_tree.specs.Code.{Var, Code, plain, var, none, more, call};
 ghost use Rattle.adj_tree.specs.Listed.{terms_turned};
 ghost use Rattle.adj_tree.specs.View.{term_of, terms_of};
-ghost use Rattle.adj_meaning.specs.Append.{one};
+ghost use Rattle.adj_meaning.specs.Append.{◌+++◌, one};
 ghost use Rattle.adj_kernel.specs.Lowered.{locals_in, reduced, before, first_flag, other_flags, passing, passed, locals_passing, before_passing, after_passing, locals_in_all, reduced_all, before_all, all_passed, before_passing_all, after_passing_all, locals_passing_all, lowered_call};
 ghost use Rattle.adj_norm.specs.Locals.{local_by};
 ghost use Rattle.adj_norm.specs.Passings.{HasNamesOf};
@@ -14,12 +14,12 @@ use crate::expression::reduce;
 use crate::locals::Locals;
 use crate::passing::{Passed, pass, passed_as};
 use crate::step::write;
-use crate::target::put_before;
+use crate::target::{put_before, put_name};
 use adj_sets::NameSet;
 use adj_tree::{Act, Expr, Exprs, Memory, Name, Stmt};
 use std::alloc::Global;
 
-/// Actuals with locals in place of `MAX`, `MIN` and `ABS`.
+/// Actuals with locals in place of `MAX`, `MIN` and `ABS`, or with names in place of all.
 #[derive(Drop)]
 struct Values {
     /// The actuals, the last first.
@@ -94,53 +94,32 @@ fn other_flags<'a>(written: &'a [bool]) -> &'a [bool]
     }
 }
 
-/// Actuals that became names.
-#[derive(Drop)]
-struct Named {
-    /// The names, the last first.
-    turned: Exprs,
-    /// The same names.
-    earlier: NameSet,
-    /// What comes after the call.
-    after: Vec<Stmt>,
-    /// The number of the next local.
-    next: usize,
-}
-
-// One more actual.
+// One more actual becomes a name.
 fn pass_one(
     alloc: Global,
     locals: &mut Locals<'_>,
     line: u32,
     written: bool,
     e: &Expr,
-    named: Named,
+    values: Values,
+    earlier: &mut NameSet,
     steps: &mut Vec<Stmt>,
-) -> Result<Named, Memory>
-    ensures next { IfOk result (λ n. (names : List Var) → HasNamesOf named.earlier names → n.next ≡ named.next + locals_passing (passing written names (term_of e.now))) }
-    ensures name { IfOk result (λ n. (names : List Var) → HasNamesOf named.earlier names → terms_of n.turned ≡ more (var (passed (local_by locals.old) named.next (passing written names (term_of e.now)))) (terms_of named.turned)) }
-    ensures earlier { IfOk result (λ n. (names : List Var) → HasNamesOf named.earlier names → HasNamesOf n.earlier (passed (local_by locals.old) named.next (passing written names (term_of e.now)) ∷ names)) }
-    ensures steps { OnOk result ((names : List Var) → HasNamesOf named.earlier names → Writes steps.old.items steps.new.items (before_passing (local_by locals.old) line named.next (passing written names (term_of e.now)))) }
-    ensures after { IfOk result (λ n. (names : List Var) → HasNamesOf named.earlier names → Writes named.after.items n.after.items (after_passing (local_by locals.old) line named.next (passing written names (term_of e.now)))) }
+    after: &mut Vec<Stmt>,
+) -> Result<Values, Memory>
+    ensures next { IfOk result (λ n. (names : List Var) → HasNamesOf earlier.old names → n.next ≡ values.next + locals_passing (passing written names (term_of e.now))) }
+    ensures name { IfOk result (λ n. (names : List Var) → HasNamesOf earlier.old names → terms_of n.turned ≡ more (var (passed (local_by locals.old) values.next (passing written names (term_of e.now)))) (terms_of values.turned)) }
+    ensures earlier { OnOk result ((names : List Var) → HasNamesOf earlier.old names → HasNamesOf earlier.new (passed (local_by locals.old) values.next (passing written names (term_of e.now)) ∷ names)) }
+    ensures steps { OnOk result ((names : List Var) → HasNamesOf earlier.old names → Writes steps.old.items steps.new.items (before_passing (local_by locals.old) line values.next (passing written names (term_of e.now)))) }
+    ensures after { OnOk result ((names : List Var) → HasNamesOf earlier.old names → Writes after.old.items after.new.items (after_passing (local_by locals.old) line values.next (passing written names (term_of e.now)))) }
     ensures locals { OnOk result (local_by locals.new ≡ local_by locals.old) }
 {
-    let Named {
-        turned,
-        mut earlier,
-        mut after,
-        next,
-    } = named;
-    let actual = passed_as(alloc, written, &earlier, e)?;
-    let passed = pass(alloc, locals, line, actual, next, steps, &mut after)?;
+    let Values { turned, next } = values;
+    let actual = passed_as(alloc, written, earlier, e)?;
+    let passed = pass(alloc, locals, line, actual, next, steps, after)?;
     let Passed { name, next } = passed;
     earlier.add(alloc, name.bytes())?;
-    let turned = put_before(alloc, Expr::Var(name), turned)?;
-    Ok(Named {
-        turned,
-        earlier,
-        after,
-        next,
-    })
+    let turned = put_name(alloc, name, turned)?;
+    Ok(Values { turned, next })
 }
 
 // The names that the actuals become.
@@ -152,27 +131,38 @@ fn pass_all(
     actuals: &Exprs,
     first: usize,
     steps: &mut Vec<Stmt>,
-) -> Result<Named, Memory>
+    after: &mut Vec<Stmt>,
+) -> Result<Values, Memory>
     ensures next { IfOk result (λ n. n.next ≡ first + locals_passing_all (local_by locals.old) first written.now [] (terms_of actuals.now)) }
     ensures names { IfOk result (λ n. terms_turned (terms_of n.turned) none ≡ all_passed (local_by locals.old) first written.now [] (terms_of actuals.now)) }
     ensures steps { OnOk result (Writes steps.old.items steps.new.items (before_passing_all (local_by locals.old) line first written.now [] (terms_of actuals.now))) }
-    ensures after { IfOk result (λ n. Writes [] n.after.items (after_passing_all (local_by locals.old) line first written.now [] (terms_of actuals.now))) }
+    ensures after { OnOk result (Writes after.old.items after.new.items (after_passing_all (local_by locals.old) line first written.now [] (terms_of actuals.now))) }
     ensures locals { OnOk result (local_by locals.new ≡ local_by locals.old) }
 {
-    let mut named = Named {
+    let mut earlier = NameSet::new(alloc);
+    let mut values = Values {
         turned: Exprs::Empty,
-        earlier: NameSet::new(alloc),
-        after: Vec::new(alloc),
         next: first,
     };
     let mut flags = written;
     let mut current = actuals;
     while let Exprs::More(e, rest) = current {
-        named = pass_one(alloc, locals, line, first_flag(flags), e, named, steps)?;
+        let flag = first_flag(flags);
+        values = pass_one(
+            alloc,
+            locals,
+            line,
+            flag,
+            e,
+            values,
+            &mut earlier,
+            steps,
+            after,
+        )?;
         flags = other_flags(flags);
         current = rest;
     }
-    Ok(named)
+    Ok(values)
 }
 
 /// Writes what becomes of a CALL, where it is known which dummies are written, and gives the number of locals that it takes.
@@ -189,18 +179,49 @@ pub fn lower_call(
     ensures steps { OnOk result (Writes steps.old.items steps.new.items (lowered_call (local_by locals.old) line written.now unit.now (terms_of actuals.now))) }
     ensures locals { OnOk result (local_by locals.new ≡ local_by locals.old) }
 {
+    let mut after = Vec::new(alloc);
+    let named = name_all(alloc, locals, line, written, actuals, steps, &mut after)?;
+    let Values { turned, next } = named;
+    write_call(alloc, line, unit, turned, steps, &mut after)?;
+    Ok(next)
+}
+
+// Writes the statements that set the locals of the actuals, and gives the names that these become.
+fn name_all(
+    alloc: Global,
+    locals: &mut Locals<'_>,
+    line: u32,
+    written: &[bool],
+    actuals: &Exprs,
+    steps: &mut Vec<Stmt>,
+    after: &mut Vec<Stmt>,
+) -> Result<Values, Memory>
+    ensures next { IfOk result (λ n. n.next ≡ locals_in_all (terms_of actuals.now) + locals_passing_all (local_by locals.old) (locals_in_all (terms_of actuals.now)) written.now [] (reduced_all (local_by locals.old) 0 (terms_of actuals.now))) }
+    ensures names { IfOk result (λ n. terms_turned (terms_of n.turned) none ≡ all_passed (local_by locals.old) (locals_in_all (terms_of actuals.now)) written.now [] (reduced_all (local_by locals.old) 0 (terms_of actuals.now))) }
+    ensures steps { OnOk result (Writes steps.old.items steps.new.items (before_all (local_by locals.old) line 0 (terms_of actuals.now) +++ before_passing_all (local_by locals.old) line (locals_in_all (terms_of actuals.now)) written.now [] (reduced_all (local_by locals.old) 0 (terms_of actuals.now)))) }
+    ensures after { OnOk result (Writes after.old.items after.new.items (after_passing_all (local_by locals.old) line (locals_in_all (terms_of actuals.now)) written.now [] (reduced_all (local_by locals.old) 0 (terms_of actuals.now)))) }
+    ensures locals { OnOk result (local_by locals.new ≡ local_by locals.old) }
+{
     let values = reduce_all(alloc, locals, line, actuals, steps)?;
-    let first = values.next;
-    let reduced = values.turned.turned();
-    let named = pass_all(alloc, locals, line, written, &reduced, first, steps)?;
-    let Named {
-        turned,
-        mut after,
-        next,
-        earlier: _,
-    } = named;
+    let Values { turned, next } = values;
+    let reduced = turned.turned();
+    let named = pass_all(alloc, locals, line, written, &reduced, next, steps, after)?;
+    Ok(named)
+}
+
+// Writes the call of actuals that are names, the last first, and then what comes after it.
+fn write_call(
+    alloc: Global,
+    line: u32,
+    unit: &Name,
+    turned: Exprs,
+    steps: &mut Vec<Stmt>,
+    after: &mut Vec<Stmt>,
+) -> Result<(), Memory>
+    ensures steps { OnOk result ((rest : Code) → Writes [] after.old.items rest → Writes steps.old.items steps.new.items (one line (call unit.now (terms_turned (terms_of turned) none)) +++ rest)) }
+{
     let name = unit.copy(alloc)?;
     write(line, Act::Call(name, turned.turned()), steps)?;
-    steps.append(&mut after)?;
-    Ok(next)
+    steps.append(after)?;
+    Ok(())
 }

@@ -1,5 +1,7 @@
 //! The locals of a unit (docs/KERNEL.md, "The steps").
 
+ghost use Rattle.std.specs.Prelude.{◌≡◌, ◌++◌, ◌∷◌, [], IfOk, codes};
+ghost use Rattle.adj_transpose.specs.Fresh.{fresh, digits};
 ghost use Rattle.adj_norm.specs.Made.{AreMade};
 
 use adj_naming::joining::with_number;
@@ -72,8 +74,7 @@ impl<'a> Locals<'a> {
             mut taken,
             mut names,
         } = self;
-        let base = with_number(alloc, b"ADV", names.len() + 1)?;
-        let name = taken.give(alloc, base.bytes())?;
+        let name = named(alloc, &mut taken, names.len() + 1)?;
         names.push(name)?;
         Ok(Locals {
             shared,
@@ -81,4 +82,14 @@ impl<'a> Locals<'a> {
             names,
         })
     }
+}
+
+// The name of the local of a number that is counted from 1, taken from then on.
+fn named(alloc: Global, taken: &mut Taken<'_>, number: usize) -> Result<Name, Memory>
+    ensures name { IfOk result (λ y. y ≡ fresh (codes "ADV" ++ digits number) taken.old) }
+    ensures taken { IfOk result (λ y. taken.new ≡ taken.old ++ (y ∷ [])) }
+{
+    let base = with_number(alloc, b"ADV", number)?;
+    let name = taken.give(alloc, base.bytes())?;
+    Ok(name)
 }

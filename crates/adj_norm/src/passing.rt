@@ -5,16 +5,16 @@ ghost use Rattle.adj_tree.specs.Code.{Var, plain, var, elem, none, more, assign}
 ghost use Rattle.adj_tree.specs.Listed.{terms_turned};
 ghost use Rattle.adj_tree.specs.View.{term_of, terms_of};
 ghost use Rattle.adj_meaning.specs.Append.{one};
-ghost use Rattle.adj_kernel.specs.Lowered.{length_of, locals_in, locals_in_all, set_local, passing, locals_passing, held, before_held, passed, before_passing, after_passing};
+ghost use Rattle.adj_kernel.specs.Lowered.{length_of, locals_in, locals_in_all, set_local, by_value, passing, locals_passing, held, before_held, passed, before_passing, after_passing};
 ghost use Rattle.adj_norm.specs.Locals.{local_by};
 ghost use Rattle.adj_norm.specs.Passings.{passing_of, HasNamesOf};
 ghost use Rattle.adj_norm.specs.Steps.{Writes};
 
 use crate::locals::Locals;
-use crate::step::{assign, plus, set};
-use crate::target::{hold, put_before};
+use crate::step::{assign, plus, set, set_named, variable};
+use crate::target::{hold, put_name};
 use adj_sets::NameSet;
-use adj_tree::{Expr, Exprs, Memory, Name, Stmt};
+use adj_tree::{Expr, Exprs, Memory, Name, Stmt, boxed};
 use std::alloc::Global;
 
 /// How an actual becomes a name.
@@ -25,7 +25,7 @@ pub enum Passing {
     /// An element for a dummy that is written.
     PutBack(Name, Exprs),
     /// All else.
-    ByValue(Expr),
+    ByValue(Box<Expr>),
 }
 
 /// How an actual becomes a name, where it is known whether its dummy is written, and which names stand earlier.
@@ -40,18 +40,18 @@ pub fn passed_as(
     match e {
         Expr::Var(x) => {
             if earlier.has(x.bytes()) {
-                Ok(Passing::ByValue(Expr::Var(x.copy(alloc)?)))
+                by_copy(alloc, e)
             } else {
                 Ok(Passing::Stays(x.copy(alloc)?))
             }
         }
         Expr::Elem(x, subs) => {
-            let array = x.copy(alloc)?;
-            let subscripts = subs.copy(alloc)?;
             if written {
+                let array = x.copy(alloc)?;
+                let subscripts = subs.copy(alloc)?;
                 Ok(Passing::PutBack(array, subscripts))
             } else {
-                Ok(Passing::ByValue(Expr::Elem(array, subscripts)))
+                by_copy(alloc, e)
             }
         }
         Expr::Lit(_)
@@ -59,8 +59,16 @@ pub fn passed_as(
         | Expr::Bin(_, _, _)
         | Expr::Pow(_, _)
         | Expr::Power(_, _)
-        | Expr::Abs(_) => Ok(Passing::ByValue(e.copy(alloc)?)),
+        | Expr::Abs(_) => by_copy(alloc, e),
     }
+}
+
+// By the value of a copy.
+fn by_copy(alloc: Global, e: &Expr) -> Result<Passing, Memory>
+    ensures passing { IfOk result (λ p. passing_of p ≡ by_value (term_of e.now)) }
+{
+    let same = e.copy_boxed(alloc)?;
+    Ok(Passing::ByValue(same))
 }
 
 /// Subscripts that locals hold.
@@ -90,7 +98,7 @@ fn hold_next(
     let first = plus(own, 1)?;
     let next = hold(alloc, locals, line, own, e, first, steps)?;
     let local = locals.name(alloc, own)?;
-    let turned = put_before(alloc, Expr::Var(local), turned)?;
+    let turned = put_name(alloc, local, turned)?;
     Ok(Held { turned, next })
 }
 
@@ -150,10 +158,7 @@ pub fn pass(
             let made = put_back(alloc, locals, line, array, held, steps, after)?;
             Ok(made)
         }
-        Passing::ByValue(e) => {
-            let made = by_value(alloc, locals, line, e, first, steps)?;
-            Ok(made)
-        }
+        Passing::ByValue(e) => by_value(alloc, locals, line, e, first, steps),
     }
 }
 
@@ -162,18 +167,17 @@ fn by_value(
     alloc: Global,
     locals: &mut Locals<'_>,
     line: u32,
-    e: Expr,
+    e: Box<Expr>,
     first: usize,
     steps: &mut Vec<Stmt>,
 ) -> Result<Passed, Memory>
     ensures name { IfOk result (λ p. plain p.name ≡ local_by locals.old first) }
     ensures next { IfOk result (λ p. p.next ≡ first + 1) }
-    ensures steps { OnOk result (Writes steps.old.items steps.new.items (one line (assign (local_by locals.old first) none (term_of e)))) }
+    ensures steps { OnOk result (Writes steps.old.items steps.new.items (one line (assign (local_by locals.old first) none (term_of e.value)))) }
     ensures locals { OnOk result (local_by locals.new ≡ local_by locals.old) }
 {
     let name = locals.name(alloc, first)?;
-    let same = name.copy(alloc)?;
-    set(line, same, e, steps)?;
+    set_named(alloc, line, &name, e, steps)?;
     let next = plus(first, 1)?;
     Ok(Passed { name, next })
 }
@@ -198,12 +202,12 @@ fn put_back(
         turned,
         next: number,
     } = held;
+    let next = plus(number, 1)?;
     let subs = turned.turned();
     let name = locals.name(alloc, number)?;
     fetch(alloc, line, &name, &array, &subs, steps)?;
-    let value = name.copy(alloc)?;
-    assign(line, array, subs, Expr::Var(value), after)?;
-    let next = plus(number, 1)?;
+    let value = variable(alloc, &name)?;
+    assign(line, array, subs, value, after)?;
     Ok(Passed { name, next })
 }
 
@@ -220,6 +224,7 @@ fn fetch(
 {
     let target = name.copy(alloc)?;
     let source = array.copy(alloc)?;
-    let element = Expr::Elem(source, subs.copy(alloc)?);
+    let same = subs.copy(alloc)?;
+    let element = boxed(alloc, Expr::Elem(source, same))?;
     set(line, target, element, steps)
 }

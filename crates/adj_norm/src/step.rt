@@ -1,12 +1,12 @@
 //! Statements of a kernel.
 
 ghost use Rattle.std.specs.Prelude.{◌≡◌, ◌+◌, IfOk, OnOk};
-ghost use Rattle.adj_tree.specs.Code.{plain, none, assign, choose, stop};
+ghost use Rattle.adj_tree.specs.Code.{plain, var, none, assign, choose, stop};
 ghost use Rattle.adj_tree.specs.View.{term_of, terms_of, test_of, act_of, code_of};
 ghost use Rattle.adj_meaning.specs.Append.{one};
 ghost use Rattle.adj_norm.specs.Steps.{Writes};
 
-use adj_tree::{Act, Cond, Expr, Exprs, Memory, Name, Place, Stmt, Stmts};
+use adj_tree::{Act, Cond, Expr, Exprs, Memory, Name, Place, Stmt, Stmts, boxed};
 use std::alloc::Global;
 
 /// The sum of two counts. Trees whose counts don't fit a word would not fit the memory.
@@ -17,6 +17,14 @@ pub fn plus(a: usize, b: usize) -> Result<usize, Memory>
         Some(sum) => Ok(sum),
         None => Err(Memory),
     }
+}
+
+/// The variable of a name, as an expression.
+pub fn variable(alloc: Global, name: &Name) -> Result<Box<Expr>, Memory>
+    ensures variable { IfOk result (λ e. term_of e.value ≡ var (plain name.now)) }
+{
+    let same = name.copy(alloc)?;
+    boxed(alloc, Expr::Var(same))
 }
 
 /// Writes a statement.
@@ -32,47 +40,70 @@ pub fn assign(
     line: u32,
     name: Name,
     subs: Exprs,
-    e: Expr,
+    e: Box<Expr>,
     steps: &mut Vec<Stmt>,
 ) -> Result<(), Memory>
-    ensures written { OnOk result (Writes steps.old.items steps.new.items (one line (assign (plain name) (terms_of subs) (term_of e)))) }
+    ensures written { OnOk result (Writes steps.old.items steps.new.items (one line (assign (plain name) (terms_of subs) (term_of e.value)))) }
 {
-    write(line, Act::Assign(Place { name, subs }, e), steps)
+    write(
+        line,
+        Act::Assign(Place { name, subs }, Box::into_inner(e)),
+        steps,
+    )
 }
 
 /// Writes an assignment to a scalar.
-pub fn set(line: u32, name: Name, e: Expr, steps: &mut Vec<Stmt>) -> Result<(), Memory>
-    ensures written { OnOk result (Writes steps.old.items steps.new.items (one line (assign (plain name) none (term_of e)))) }
+pub fn set(line: u32, name: Name, e: Box<Expr>, steps: &mut Vec<Stmt>) -> Result<(), Memory>
+    ensures written { OnOk result (Writes steps.old.items steps.new.items (one line (assign (plain name) none (term_of e.value)))) }
 {
     assign(line, name, Exprs::Empty, e, steps)
+}
+
+/// Writes an assignment to the scalar of a name.
+pub fn set_named(
+    alloc: Global,
+    line: u32,
+    name: &Name,
+    e: Box<Expr>,
+    steps: &mut Vec<Stmt>,
+) -> Result<(), Memory>
+    ensures written { OnOk result (Writes steps.old.items steps.new.items (one line (assign (plain name.now) none (term_of e.value)))) }
+{
+    let same = name.copy(alloc)?;
+    set(line, same, e, steps)
 }
 
 /// Writes an IF that sets a scalar, and has no other part.
 pub fn set_where(
     alloc: Global,
     line: u32,
-    condition: Cond,
+    condition: Box<Cond>,
     name: Name,
-    e: Expr,
+    e: Box<Expr>,
     steps: &mut Vec<Stmt>,
 ) -> Result<(), Memory>
-    ensures written { OnOk result (Writes steps.old.items steps.new.items (one line (choose (test_of condition) (one line (assign (plain name) none (term_of e))) stop))) }
+    ensures written { OnOk result (Writes steps.old.items steps.new.items (one line (choose (test_of condition.value) (one line (assign (plain name) none (term_of e.value))) stop))) }
 {
     let part = only(alloc, line, name, e)?;
-    write(line, Act::If(condition, part, Stmts::Empty), steps)
+    write(
+        line,
+        Act::If(Box::into_inner(condition), part, Stmts::Empty),
+        steps,
+    )
 }
 
 // A list of one assignment to a scalar.
-fn only(alloc: Global, line: u32, name: Name, e: Expr) -> Result<Stmts, Memory>
-    ensures one { IfOk result (λ c. code_of c ≡ one line (assign (plain name) none (term_of e))) }
+fn only(alloc: Global, line: u32, name: Name, e: Box<Expr>) -> Result<Stmts, Memory>
+    ensures one { IfOk result (λ c. code_of c ≡ one line (assign (plain name) none (term_of e.value))) }
 {
+    let rest = boxed(alloc, Stmts::Empty)?;
     let place = Place {
         name,
         subs: Exprs::Empty,
     };
     let stmt = Stmt {
         line,
-        act: Act::Assign(place, e),
+        act: Act::Assign(place, Box::into_inner(e)),
     };
-    Ok(Stmts::More(Box::new(alloc, stmt)?, Box::new(alloc, Stmts::Empty)?))
+    Ok(Stmts::More(boxed(alloc, stmt)?, rest))
 }

@@ -1,7 +1,7 @@
 //! Assignments, whose targets are set apart from their arrays (docs/KERNEL.md, "The steps").
 
 ghost use Rattle.std.specs.Prelude.{◌≡◌, ◌+◌, IfOk, OnOk};
-ghost use Rattle.adj_tree.specs.Code.{plain, more};
+ghost use Rattle.adj_tree.specs.Code.{plain, var, more};
 ghost use Rattle.adj_tree.specs.View.{term_of, terms_of};
 ghost use Rattle.adj_meaning.specs.Read.{reads_term};
 ghost use Rattle.adj_kernel.specs.Lowered.{count_of, mentions, locals_in, locals_in_target, set_local, apart_from, before_target, lowered_assign};
@@ -13,7 +13,7 @@ use crate::expression::reduce;
 use crate::form::stands_in;
 use crate::locals::Locals;
 use crate::step::{assign, plus, set};
-use adj_tree::{Expr, Exprs, Memory, Name, Place, Stmt};
+use adj_tree::{Expr, Exprs, Memory, Name, Place, Stmt, boxed};
 use std::alloc::Global;
 
 /// Writes the statements by which the local of a number gets the value of an expression, and gives the number of the next local.
@@ -80,7 +80,7 @@ fn set_apart(
 {
     let Apart { turned, own, next } = passed;
     if !stands_in(name, e) {
-        let same = e.copy(alloc)?;
+        let same = e.copy_boxed(alloc)?;
         let longer = put_before(alloc, same, turned)?;
         return Ok(Apart {
             turned: longer,
@@ -90,17 +90,25 @@ fn set_apart(
     }
     let next = hold(alloc, locals, line, own, e, next, steps)?;
     let local = locals.name(alloc, own)?;
-    let turned = put_before(alloc, Expr::Var(local), turned)?;
+    let turned = put_name(alloc, local, turned)?;
     let own = plus(own, 1)?;
     Ok(Apart { turned, own, next })
 }
 
 /// An expression, and then others.
-pub fn put_before(alloc: Global, e: Expr, rest: Exprs) -> Result<Exprs, Memory>
-    ensures terms { IfOk result (λ es. terms_of es ≡ more (term_of e) (terms_of rest)) }
+pub fn put_before(alloc: Global, e: Box<Expr>, rest: Exprs) -> Result<Exprs, Memory>
+    ensures terms { IfOk result (λ es. terms_of es ≡ more (term_of e.value) (terms_of rest)) }
 {
-    let first = Box::new(alloc, e)?;
-    Ok(Exprs::More(first, Box::new(alloc, rest)?))
+    let others = boxed(alloc, rest)?;
+    Ok(Exprs::More(e, others))
+}
+
+/// A variable, and then others.
+pub fn put_name(alloc: Global, name: Name, rest: Exprs) -> Result<Exprs, Memory>
+    ensures terms { IfOk result (λ es. terms_of es ≡ more (var (plain name)) (terms_of rest)) }
+{
+    let first = boxed(alloc, Expr::Var(name))?;
+    put_before(alloc, first, rest)
 }
 
 /// The subscripts of a target, set apart from its array.

@@ -10,10 +10,10 @@ use Rattle.adj_norm.proofs.call.pass_all.Given as goal
 
 abbrev pub invariant-loop-current : goal.invariant-loop-current
 invariant-loop-current l = record {
-  earlier : HasNamesOf l.named.earlier (vars_in (terms_of l.named.turned));
-  next : l.named.next + locals_passing_all (local_by l.fn.locals) l.named.next l.flags (vars_in (terms_of l.named.turned)) (terms_of l.current) ≡ l.first + locals_passing_all (local_by l.fn.locals) l.first l.written [] (terms_of l.actuals);
-  names : terms_turned (terms_of l.named.turned) (all_passed (local_by l.fn.locals) l.named.next l.flags (vars_in (terms_of l.named.turned)) (terms_of l.current)) ≡ all_passed (local_by l.fn.locals) l.first l.written [] (terms_of l.actuals);
-  steps : Leaves l.fn.steps.items (before_passing_all (local_by l.fn.locals) l.line l.first l.written [] (terms_of l.actuals)) l.steps.items (before_passing_all (local_by l.fn.locals) l.line l.named.next l.flags (vars_in (terms_of l.named.turned)) (terms_of l.current));
-  after : Leaves [] (after_passing_all (local_by l.fn.locals) l.line l.first l.written [] (terms_of l.actuals)) l.named.after.items (after_passing_all (local_by l.fn.locals) l.line l.named.next l.flags (vars_in (terms_of l.named.turned)) (terms_of l.current));
+  earlier : HasNamesOf l.earlier (vars_in (terms_of l.values.turned));
+  next : l.values.next + locals_passing_all (local_by l.fn.locals) l.values.next l.flags (vars_in (terms_of l.values.turned)) (terms_of l.current) ≡ l.first + locals_passing_all (local_by l.fn.locals) l.first l.written [] (terms_of l.actuals);
+  names : terms_turned (terms_of l.values.turned) (all_passed (local_by l.fn.locals) l.values.next l.flags (vars_in (terms_of l.values.turned)) (terms_of l.current)) ≡ all_passed (local_by l.fn.locals) l.first l.written [] (terms_of l.actuals);
+  steps : Leaves l.fn.steps.items (before_passing_all (local_by l.fn.locals) l.line l.first l.written [] (terms_of l.actuals)) l.steps.items (before_passing_all (local_by l.fn.locals) l.line l.values.next l.flags (vars_in (terms_of l.values.turned)) (terms_of l.current));
+  after : Leaves l.fn.after.items (after_passing_all (local_by l.fn.locals) l.line l.first l.written [] (terms_of l.actuals)) l.after.items (after_passing_all (local_by l.fn.locals) l.line l.values.next l.flags (vars_in (terms_of l.values.turned)) (terms_of l.current));
   locals : local_by l.locals ≡ local_by l.fn.locals;
 }

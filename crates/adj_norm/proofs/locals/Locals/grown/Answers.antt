@@ -10,8 +10,8 @@ invariant_of-result c =
     let k = length l.names.items in
     let more : c.len.result + 1 ≡ suc k = omega arith in
     let is : c.in_ok-name.name ≡ fresh (wanted_local k) l.taken =
-    c.in_ok-name.ensures.name ∙ ap (λ b. fresh b l.taken) (c.bytes.ensures.bytes ∙ c.in_ok-base.ensures.name ∙ ap (λ n. codes "ADV" ++ digits n) more) in
-    record { made = one_made l.taken c.give.new.self l.names.items c.in_ok-name.name l.made is c.in_ok-name.ensures.taken c.push.new.self.items c.in_ok-push.ensures.items }
+    c.in_ok-name.ensures.name ∙ ap (λ n. fresh (codes "ADV" ++ digits n) l.taken) more in
+    record { made = one_made l.taken c.named.new.taken l.names.items c.in_ok-name.name l.made is c.in_ok-name.ensures.taken c.push.new.self.items c.in_ok-push.ensures.items }
 
 pub returns-clause-same : goal.returns-clause-same
 returns-clause-same c =
@@ -19,5 +19,5 @@ returns-clause-same c =
     let k = length l.names.items in
     let more : c.len.result + 1 ≡ suc k = omega arith in
     let is : c.in_ok-name.name ≡ fresh (wanted_local k) l.taken =
-    c.in_ok-name.ensures.name ∙ ap (λ b. fresh b l.taken) (c.bytes.ensures.bytes ∙ c.in_ok-base.ensures.name ∙ ap (λ n. codes "ADV" ++ digits n) more) in
-    same_made l.taken c.give.new.self l.names.items c.in_ok-name.name l.made is c.in_ok-name.ensures.taken c.push.new.self.items c.in_ok-push.ensures.items
+    c.in_ok-name.ensures.name ∙ ap (λ n. fresh (codes "ADV" ++ digits n) l.taken) more in
+    same_made l.taken c.named.new.taken l.names.items c.in_ok-name.name l.made is c.in_ok-name.ensures.taken c.push.new.self.items c.in_ok-push.ensures.items
