@@ -1,10 +1,10 @@
 -- Closing: sums that are made stay as they are, so what a closed state comes to is known.
-use Rattle.std.proofs.Common.{◌≡◌, ℕ, ◌+◌, List, [], ◌∷◌, length, false, Option, Some, None, Result, refl, subst}
+use Rattle.std.proofs.Common.{◌≡◌, ℕ, ◌+◌, List, [], ◌∷◌, ◌++◌, length, true, false, Option, Some, None, Result, refl, subst}
 use Rattle.std.specs.Prelude.{map, IfOk}
 use Rattle.std.proofs.lemmas.List.{length_push, length-map}
 use Rattle.adj_tree.specs.declared.fault.Memory.{Memory}
 use Rattle.adj_text.specs.Grammar.{takes}
-use Rattle.adj_text.specs.Machine.{Frame, Group, Called, Signed, Added, Multiplied, Base, Algebra, State, close_sum, end_group, with_sign}
+use Rattle.adj_text.specs.Machine.{Frame, Group, Called, Signed, Added, Multiplied, Base, Algebra, State, having, close_sum, end_group, with_sign}
 use Rattle.adj_expression.specs.declared.frame as code
 use Rattle.adj_expression.specs.declared.machine.Stepped.{Stepped}
 use Rattle.adj_expression.specs.Partial.{Partial}
@@ -29,3 +29,7 @@ behind_sum alg next frames x sum made r is h =
 -- another number of arguments than the name takes
 pub end_group-untaken : {A X : Type 0} (alg : Algebra X) (frames : List (Frame X)) (name : List ℕ) (f : A → X) (before : List A) (x : X) → takes name (length before + 1) ≡ false → end_group alg (Called name (map f before) ∷ frames, x) ≡ None
 end_group-untaken alg frames name f before x h = rw (length_push (map f before) x, length-map before f, h) refl
+
+-- as many as it takes
+pub end_group-taken : {A X : Type 0} (alg : Algebra X) (frames : List (Frame X)) (name : List ℕ) (f : A → X) (before : List A) (x : X) → takes name (length before + 1) ≡ true → end_group alg (Called name (map f before) ∷ frames, x) ≡ Some (having frames (alg.application name (map f before ++ x ∷ [])))
+end_group-taken alg frames name f before x h = rw (length_push (map f before) x, length-map before f, h) refl

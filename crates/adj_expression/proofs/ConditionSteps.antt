@@ -9,9 +9,9 @@ use Rattle.adj_text.specs.Machine.{State, step, whole, finish, chosen}
 use Rattle.adj_text.specs.Lexeme.{lexeme, Mark}
 use Rattle.adj_expression.specs.declared.inside.Advanced.{Advanced}
 use Rattle.adj_expression.specs.declared.waiting.Waiting as code
-use Rattle.adj_expression.specs.ConditionMachine.{Waiting, First, Second, Made, TestState, deny, behind_left, behind_condition, compare_with, advance, alone, close_all, conclude}
+use Rattle.adj_expression.specs.ConditionMachine.{Waiting, First, Second, Made, TestState, behind_left, behind_condition, compare_with, advance, alone, close_all, conclude}
 use Rattle.adj_expression.specs.Partial.{Partial, algebra}
-use Rattle.adj_expression.specs.PartialCondition.{PartialTest, comparison_of, test_algebra}
+use Rattle.adj_expression.specs.PartialCondition.{PartialTest, test_algebra}
 use Rattle.adj_expression.specs.Stack.{closed}
 use Rattle.adj_expression.specs.Waits.{Turns, Advances}
 use Rattle.adj_expression.proofs.Runs.{finish-closed}
@@ -22,13 +22,12 @@ behind_condition-lexeme limit p Name text = refl
 behind_condition-lexeme limit p Number text = refl
 behind_condition-lexeme limit p _ text = refl
 
-pub right_ends : (limit : ℕ) (waits : List (Waiting PartialTest)) (r : Rel) (a b : Partial) (e f : State Partial) (kind : TokenKind) (text : List ℕ) (c : PartialTest) (p : List (Waiting PartialTest) × PartialTest) (left : List code.Waiting) (result : Result Advanced Memory)
+pub right_ends : (limit : ℕ) (waits : List (Waiting PartialTest)) (r : Rel) (a b : Partial) (e f : State Partial) (kind : TokenKind) (text : List ℕ) (p : List (Waiting PartialTest) × PartialTest) (left : List code.Waiting) (result : Result Advanced Memory)
     → step (algebra limit) e (lexeme kind text) ≡ None → closed (algebra limit) f ≡ closed (algebra limit) e → Some b ≡ finish (algebra limit) f
-    → c ≡ comparison_of limit r a b → p ≡ deny (test_algebra limit) waits c
+    → p ≡ compare_with (test_algebra limit) waits r a b
     → IfOk result (λ next. Advances limit (p.0, Made p.1) (Mark kind) left next) → IfOk result (λ next. Advances limit (waits, Second r a e) (lexeme kind text) left next)
-right_ends limit waits r a b e f kind text c p left result stays same is_b is_c is_p behind =
+right_ends limit waits r a b e f kind text p left result stays same is_b made behind =
     let found : finish (algebra limit) e ≡ Some b = finish-closed (algebra limit) e ∙ ap (option_and_then whole) (sym same) ∙ sym (finish-closed (algebra limit) f) ∙ sym is_b in
-    let made : p ≡ compare_with (test_algebra limit) waits r a b = is_p ∙ ap (deny (test_algebra limit) waits) is_c in
     let then : Option (State Partial) → Option Partial → Option (TestState Partial PartialTest) = λ taken found. chosen taken (λ t. Some (waits, Second r a t)) (option_and_then (λ b. behind_condition (test_algebra limit) (compare_with (test_algebra limit) waits r a b) (lexeme kind text)) found) in
     let goes : advance (test_algebra limit) (p.0, Made p.1) (Mark kind) ≡ advance (test_algebra limit) (waits, Second r a e) (lexeme kind text) =
     behind_condition-lexeme limit p kind text ∙ ap (λ q. behind_condition (test_algebra limit) q (lexeme kind text)) made ∙ sym (ap (λ o. then o (finish (algebra limit) e)) stays ∙ ap (then None) found) in

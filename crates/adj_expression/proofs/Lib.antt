@@ -2,6 +2,7 @@ pub mod Names
 pub mod Powers
 pub mod StackLemmas
 pub mod Closing
+pub mod Bound
 pub mod Exact
 pub mod Front
 pub mod Runs

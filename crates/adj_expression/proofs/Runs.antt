@@ -1,5 +1,5 @@
 -- Runs: a run of the machine over the tokens that are left.
-use Rattle.std.proofs.Common.{◌≡◌, ℕ, suc, List, [], ◌∷◌, Option, Some, None, Result, Ok, Err, true, false, refl, sym, ap, subst, arith, ◌∙◌, Bor}
+use Rattle.std.proofs.Common.{◌≡◌, ℕ, suc, List, [], ◌∷◌, Option, Some, None, Result, Ok, Err, true, false, refl, sym, ap, subst, arith, ◌∙◌, Bor, Box, Global}
 use Rattle.std.specs.Prelude.{option_map, option_and_then, IfOk}
 use Rattle.adj_tree.specs.Code.{Term}
 use Rattle.adj_tree.specs.View.{term_of}
@@ -51,12 +51,12 @@ AreSlices-rest text tokens behind t e slices = λ k d h. subst (AreSlices text) 
 
 module _ (limit : ℕ) (text : List ℕ) (tokens : List Token) where
   abbrev Answer : Type 0
-  Answer = Option (Result Expr Flaw × Bor (List Token))
+  Answer = Option (Result (Box Expr Global) Flaw × Bor (List Token))
 
   abbrev with_lexemes : Result Term Flaw × List Token → Result Term Flaw × List Lexeme
   with_lexemes p = (p.0, lexemes_of text p.1)
 
-  shown : (found : Answer) → option_map (λ f. (seen term_of f.0, lexemes_of text f.1.now)) found ≡ option_map with_lexemes (option_map (λ f. (seen term_of f.0, f.1.now)) found)
+  shown : (found : Answer) → option_map (λ f. (seen (λ e. term_of e.value) f.0, lexemes_of text f.1.now)) found ≡ option_map with_lexemes (option_map (λ f. (seen (λ e. term_of e.value) f.0, f.1.now)) found)
   shown None = refl
   shown (Some f) = refl
 
@@ -65,7 +65,7 @@ module _ (limit : ℕ) (text : List ℕ) (tokens : List Token) where
   ended-lexemes rest (Some x) = refl
 
   -- what is found at the end is what stands at the front
-  pub ends_front : (rest : List Token) (o : Option Partial) (r : Result Answer Memory) → read (algebra limit) (wanting []) (lexemes_of text tokens) ≡ option_map (λ x. (x, lexemes_of text rest)) o → IfOk r (λ found. option_map (λ f. (seen term_of f.0, f.1.now)) found ≡ ended rest o) → IfOk r (λ found. option_map (λ f. (seen term_of f.0, lexemes_of text f.1.now)) found ≡ front_expression limit (lexemes_of text tokens))
+  pub ends_front : (rest : List Token) (o : Option Partial) (r : Result Answer Memory) → read (algebra limit) (wanting []) (lexemes_of text tokens) ≡ option_map (λ x. (x, lexemes_of text rest)) o → IfOk r (λ found. option_map (λ f. (seen (λ e. term_of e.value) f.0, f.1.now)) found ≡ ended rest o) → IfOk r (λ found. option_map (λ f. (seen (λ e. term_of e.value) f.0, lexemes_of text f.1.now)) found ≡ front_expression limit (lexemes_of text tokens))
   ends_front rest o (Err e) total h = tt
   ends_front rest o (Ok found) total h = shown found ∙ ap (option_map with_lexemes) h ∙ ended-lexemes rest o ∙ ap (option_map found_in) (sym total) ∙ front_is limit (lexemes_of text tokens)
 

@@ -61,7 +61,7 @@ abbrev pub algebra : ℕ → Algebra Partial
 algebra limit = record { digits = λ ds. literal limit (in_words (pos (number_of ds))); name = scalar limit; opposite = opposite limit; combined = combined limit; powered = powered limit; application = application limit }
 
 abbrev pub operand_of : Operand → Partial
-operand_of x = record { found = seen term_of x.found; depth = x.depth; constant = x.constant }
+operand_of x = record { found = seen (λ e. term_of e.value) x.found; depth = x.depth; constant = x.constant }
 
 -- an expression that is read to its end, and what stands behind it
 abbrev pub ended : {Y : Type 0} → Y → Option Partial → Option (Result Term Flaw × Y)

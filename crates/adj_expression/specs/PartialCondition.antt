@@ -34,4 +34,4 @@ abbrev pub test_algebra : ℕ → TestAlgebra Partial PartialTest
 test_algebra limit = record { terms = algebra limit; relates = comparison_of limit; denies = negation_of limit; conjoins = conjunction_of limit; disjoins = disjunction_of limit }
 
 abbrev pub proposition_of : Proposition → PartialTest
-proposition_of c = record { found = seen test_of c.found; depth = c.depth }
+proposition_of c = record { found = seen (λ e. test_of e.value) c.found; depth = c.depth }

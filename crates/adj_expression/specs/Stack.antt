@@ -1,5 +1,5 @@
 -- Stack: the frames of the code without where they lie in memory, the newest first, and what one step makes of them.
-use Rattle.std.specs.Prelude.{◌≡◌, List, map, reverse, Option, Some, None}
+use Rattle.std.specs.Prelude.{◌≡◌, Bool, true, false, List, map, reverse, Option, Some, None}
 use Rattle.adj_tree.specs.View.{op_of}
 use Rattle.adj_text.specs.Lexeme.{Lexeme}
 use Rattle.adj_text.specs.Machine as machine
@@ -19,6 +19,25 @@ frame_of (frames.Signed op) = machine.Signed (op_of op)
 frame_of (frames.Added op x) = machine.Added (op_of op) (operand_of x)
 frame_of (frames.Multiplied op x) = machine.Multiplied (op_of op) (operand_of x)
 frame_of (frames.Base x) = machine.Base (operand_of x)
+
+-- whether a frame waits for a parenthesis, whether it is a product's, and what an operand comes to with what waits for it
+abbrev pub is_open : {X : Type 0} → machine.Frame X → Bool
+is_open machine.Group = true
+is_open (machine.Called x all) = true
+is_open _ = false
+
+abbrev pub is_tight : {X : Type 0} → machine.Frame X → Bool
+is_tight (machine.Base a) = true
+is_tight (machine.Multiplied op a) = true
+is_tight _ = false
+
+abbrev pub bound : {X : Type 0} → Algebra X → machine.Frame X → X → X
+bound alg machine.Group x = x
+bound alg (machine.Called name all) x = x
+bound alg (machine.Signed op) x = machine.with_sign alg op x
+bound alg (machine.Added op a) x = alg.combined op a x
+bound alg (machine.Multiplied op a) x = alg.combined op a x
+bound alg (machine.Base a) x = alg.powered a x
 
 -- what a view shows, the newest first
 unfoldable pub stacked : {A B : Type 0} → (A → B) → List A → List B

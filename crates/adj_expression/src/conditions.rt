@@ -75,10 +75,10 @@ pub fn condition<'t>(
     text: &[u8],
     tokens: &'t [Token],
     limit: u32,
-) -> Result<Option<(Result<Cond, Flaw>, &'t [Token])>, Memory>
+) -> Result<Option<(Result<Box<Cond>, Flaw>, &'t [Token])>, Memory>
     requires slices { AreSlices text.now tokens.now }
     requires limit { limit < 1000 }
-    ensures front { IfOk result (λ found. option_map (λ f. (seen test_of f.0, lexemes_of text.now f.1.now)) found ≡ front_condition limit (lexemes_of text.now tokens.now)) }
+    ensures front { IfOk result (λ found. option_map (λ f. (seen (λ c. test_of c.value) f.0, lexemes_of text.now f.1.now)) found ≡ front_condition limit (lexemes_of text.now tokens.now)) }
     ensures behind { IfOk result (λ found. IfSome found (λ f. AreSlices text.now f.1.now)) }
 {
     match read(alloc, text, tokens, limit)? {

@@ -40,9 +40,9 @@ fn ended<'t>(
     left: Seen,
     rest: &'t [Token],
     limit: u32,
-) -> Result<Option<(Result<Expr, Flaw>, &'t [Token])>, Memory>
+) -> Result<Option<(Result<Box<Expr>, Flaw>, &'t [Token])>, Memory>
     requires { limit < 1000 }
-    ensures front { IfOk result (λ found. option_map (λ f. (seen term_of f.0, f.1.now)) found ≡ ended rest.now (finish (algebra limit) (stack_of frames.items, seen_of left))) }
+    ensures front { IfOk result (λ found. option_map (λ f. (seen (λ e. term_of e.value) f.0, f.1.now)) found ≡ ended rest.now (finish (algebra limit) (stack_of frames.items, seen_of left))) }
     ensures behind { IfOk result (λ found. IfSome found (λ f. f.1.now ≡ rest.now)) }
 {
     match finish(alloc, frames, left, limit)? {
@@ -58,10 +58,10 @@ pub fn expression<'t>(
     text: &[u8],
     tokens: &'t [Token],
     limit: u32,
-) -> Result<Option<(Result<Expr, Flaw>, &'t [Token])>, Memory>
+) -> Result<Option<(Result<Box<Expr>, Flaw>, &'t [Token])>, Memory>
     requires slices { AreSlices text.now tokens.now }
     requires limit { limit < 1000 }
-    ensures front { IfOk result (λ found. option_map (λ f. (seen term_of f.0, lexemes_of text.now f.1.now)) found ≡ front_expression limit (lexemes_of text.now tokens.now)) }
+    ensures front { IfOk result (λ found. option_map (λ f. (seen (λ e. term_of e.value) f.0, lexemes_of text.now f.1.now)) found ≡ front_expression limit (lexemes_of text.now tokens.now)) }
     ensures behind { IfOk result (λ found. IfSome found (λ f. AreSlices text.now f.1.now)) }
 {
     let mut frames = Vec::new(alloc);

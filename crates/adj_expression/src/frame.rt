@@ -7,6 +7,7 @@ ghost use Rattle.adj_expression.specs.Partial.{algebra, operand_of};
 ghost use Rattle.adj_expression.specs.Stack.{stack_of};
 
 use crate::operand::Operand;
+use crate::stack::push;
 use adj_tree::{Memory, Name, Op};
 use std::alloc::Global;
 
@@ -22,6 +23,38 @@ pub(crate) enum Frame {
     Multiplied(Op, Operand),
     /// Behind `**`.
     Base(Operand),
+}
+
+impl Frame {
+    ghost use Rattle.adj_expression.specs.Stack.{frame_of, is_open, is_tight, bound};
+
+    // Whether it waits for a parenthesis.
+    fn is_open(&self) -> bool
+        ensures { result ≡ is_open (frame_of self.now) }
+    {
+        matches!(self, Frame::Group | Frame::Called(_, _))
+    }
+
+    // Whether it waits for the rest of a product.
+    fn is_tight(&self) -> bool
+        ensures { result ≡ is_tight (frame_of self.now) }
+    {
+        matches!(self, Frame::Multiplied(_, _) | Frame::Base(_))
+    }
+
+    // The operand, with what waits for it.
+    fn bound(self, alloc: Global, operand: Operand, limit: u32) -> Result<Operand, Memory>
+        requires { limit < 1000 }
+        ensures { IfOk result (λ x. operand_of x ≡ bound (algebra limit) (frame_of self) (operand_of operand)) }
+    {
+        match self {
+            Frame::Base(left) => left.powered(alloc, operand, limit),
+            Frame::Multiplied(op, left) => left.combined(alloc, op, operand, limit),
+            Frame::Added(op, left) => left.combined(alloc, op, operand, limit),
+            Frame::Signed(op) => operand.with_sign(alloc, op, limit),
+            Frame::Group | Frame::Called(_, _) => Ok(operand),
+        }
+    }
 }
 
 /// What stands to the left.
@@ -45,14 +78,11 @@ pub(crate) fn close_product(
 {
     let mut operand = operand;
     while let Some(frame) = frames.pop() {
-        match frame {
-            Frame::Base(left) => operand = left.powered(alloc, operand, limit)?,
-            Frame::Multiplied(op, left) => operand = left.combined(alloc, op, operand, limit)?,
-            outer => {
-                frames.push(outer)?;
-                return Ok(operand);
-            }
+        if !frame.is_tight() {
+            push(frames, frame)?;
+            return Ok(operand);
         }
+        operand = frame.bound(alloc, operand, limit)?;
     }
     Ok(operand)
 }
@@ -69,16 +99,11 @@ pub(crate) fn close_sum(
 {
     let mut operand = operand;
     while let Some(frame) = frames.pop() {
-        match frame {
-            Frame::Base(left) => operand = left.powered(alloc, operand, limit)?,
-            Frame::Multiplied(op, left) => operand = left.combined(alloc, op, operand, limit)?,
-            Frame::Added(op, left) => operand = left.combined(alloc, op, operand, limit)?,
-            Frame::Signed(op) => operand = operand.with_sign(alloc, op, limit)?,
-            outer => {
-                frames.push(outer)?;
-                return Ok(operand);
-            }
+        if frame.is_open() {
+            push(frames, frame)?;
+            return Ok(operand);
         }
+        operand = frame.bound(alloc, operand, limit)?;
     }
     Ok(operand)
 }

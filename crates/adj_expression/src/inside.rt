@@ -4,7 +4,7 @@
 ghost use Rattle.std.specs.Prelude.{◌≡◌, ◌<◌, None, IfOk, option_map};
 ghost use Rattle.adj_tree.specs.View.{rel_of};
 ghost use Rattle.adj_text.specs.Lexeme.{lexeme, Mark};
-ghost use Rattle.adj_expression.specs.ConditionMachine.{First, Second, Made, beginning, end_condition, end_operand, relation_of, behind_left, begin_not, alone, conclude};
+ghost use Rattle.adj_expression.specs.ConditionMachine.{First, Second, Made, beginning, end_condition, end_operand, relation_of, behind_left, compare_with, begin_not, alone, conclude};
 ghost use Rattle.adj_expression.specs.Partial.{operand_of};
 ghost use Rattle.adj_expression.specs.PartialCondition.{test_algebra, proposition_of};
 ghost use Rattle.adj_expression.specs.Stack.{stack_of, seen_of};
@@ -14,6 +14,7 @@ use crate::frame::{Frame, Seen};
 use crate::machine::{Stepped, finish, step};
 use crate::operand::Operand;
 use crate::proposition::Proposition;
+use crate::stack::push;
 use crate::waiting::{Waiting, alone, close_all, conjoin, deny};
 use adj_text::TokenKind;
 use adj_tree::{Memory, Rel};
@@ -71,12 +72,12 @@ fn behind_condition(
     match kind {
         TokenKind::And => {
             let made = conjoin(alloc, waits, made, limit)?;
-            waits.push(Waiting::Anded(made))?;
+            push(waits, Waiting::Anded(made))?;
             Ok(Advanced::On(Inside::Fresh))
         }
         TokenKind::Or => {
             let made = close_all(alloc, waits, made, limit)?;
-            waits.push(Waiting::Ored(made))?;
+            push(waits, Waiting::Ored(made))?;
             Ok(Advanced::On(Inside::Fresh))
         }
         TokenKind::Right => {
@@ -148,6 +149,22 @@ fn go_on_left(
     }
 }
 
+// The comparison of two expressions, once the `.NOT.` before it is made.
+fn compare_with(
+    alloc: Global,
+    waits: &mut Vec<Waiting>,
+    rel: Rel,
+    left: Operand,
+    right: Operand,
+    limit: u32,
+) -> Result<Proposition, Memory>
+    requires { limit < 1000 }
+    ensures { IfOk result (λ c. (waits_of waits.new.items, proposition_of c) ≡ compare_with (test_algebra limit) (waits_of waits.old.items) (rel_of rel) (operand_of left) (operand_of right)) }
+{
+    let made = Proposition::compared(alloc, rel, left, right, limit)?;
+    deny(alloc, waits, made, limit)
+}
+
 // The next lexeme, where a right operand is read.
 fn go_on_right(
     alloc: Global,
@@ -167,8 +184,7 @@ fn go_on_right(
         Stepped::On(right) => Ok(Advanced::On(Inside::Second(rel, left, frames, right))),
         Stepped::Stuck(right) => match finish(alloc, frames, right, limit)? {
             Some(operand) => {
-                let made = Proposition::compared(alloc, rel, left, operand, limit)?;
-                let made = deny(alloc, waits, made, limit)?;
+                let made = compare_with(alloc, waits, rel, left, operand, limit)?;
                 behind_condition(alloc, waits, made, kind, limit)
             }
             None => Ok(Advanced::Stuck(None)),
@@ -182,7 +198,7 @@ fn begin_not(waits: &mut Vec<Waiting>) -> Result<Advanced, Memory>
     if let Some(Waiting::Denied) = waits.last() {
         return Ok(Advanced::Stuck(None));
     }
-    waits.push(Waiting::Denied)?;
+    push(waits, Waiting::Denied)?;
     Ok(Advanced::On(Inside::Fresh))
 }
 
@@ -199,7 +215,7 @@ fn begin_item(
 {
     match kind {
         TokenKind::Left => {
-            waits.push(Waiting::Opened)?;
+            push(waits, Waiting::Opened)?;
             Ok(Advanced::On(Inside::Fresh))
         }
         TokenKind::Not => begin_not(waits),
@@ -248,8 +264,7 @@ pub(crate) fn conclude(
         Inside::Second(rel, left, frames, right) => {
             match finish(alloc, frames, right, limit)? {
                 Some(operand) => {
-                    let made = Proposition::compared(alloc, rel, left, operand, limit)?;
-                    let made = deny(alloc, waits, made, limit)?;
+                    let made = compare_with(alloc, waits, rel, left, operand, limit)?;
                     alone(alloc, waits, made, limit)
                 }
                 None => Ok(None),

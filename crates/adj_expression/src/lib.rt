@@ -17,6 +17,7 @@ mod laws;
 mod machine;
 mod operand;
 mod proposition;
+mod stack;
 mod waiting;
 
 pub use conditions::condition;

@@ -12,6 +12,7 @@ ghost use Rattle.adj_expression.specs.Stack.{stack_of, seen_of, closed, Makes, S
 use crate::frame::{Frame, Seen, close_product, close_sum, is_sum_start};
 use crate::intrinsic::takes;
 use crate::operand::Operand;
+use crate::stack::push;
 use adj_text::TokenKind;
 use adj_tree::{Memory, Name, Op};
 use std::alloc::Global;
@@ -30,7 +31,7 @@ fn begin_sign(frames: &mut Vec<Frame>, op: Op, limit: u32) -> Result<Stepped, Me
     if !is_sum_start(frames) {
         return Ok(Stepped::Stuck(Seen::Nothing));
     }
-    frames.push(Frame::Signed(op))?;
+    push(frames, Frame::Signed(op))?;
     Ok(Stepped::On(Seen::Nothing))
 }
 
@@ -51,11 +52,11 @@ fn begin(
             Ok(Stepped::On(Seen::Callee(name)))
         }
         TokenKind::Number => {
-            let literal = Operand::literal(text, limit);
+            let literal = Operand::literal(alloc, text, limit)?;
             Ok(Stepped::On(Seen::Operand(literal)))
         }
         TokenKind::Left => {
-            frames.push(Frame::Group)?;
+            push(frames, Frame::Group)?;
             Ok(Stepped::On(Seen::Nothing))
         }
         TokenKind::Plus => begin_sign(frames, Op::Add, limit),
@@ -77,7 +78,7 @@ fn end_call(
     ensures { IfOk result (λ next. Makes (algebra limit) (end_group (algebra limit) (machine.Called name (map operand_of before.items) ∷ stack_of frames.old.items, operand_of last)) (Some (machine.Called name (map operand_of before.items) ∷ stack_of frames.old.items, operand_of last)) frames.new.items next) }
 {
     if !takes(name.bytes(), before.len() + 1) {
-        frames.push(Frame::Called(name, before))?;
+        push(frames, Frame::Called(name, before))?;
         return Ok(Stepped::Stuck(Seen::Operand(last)));
     }
     let applied = Operand::application(name, alloc, before, last, limit)?;
@@ -98,7 +99,7 @@ fn end_group(
         Some(Frame::Group) => Ok(Stepped::On(Seen::Operand(operand))),
         Some(Frame::Called(name, before)) => end_call(alloc, frames, name, before, operand, limit),
         Some(outer) => {
-            frames.push(outer)?;
+            push(frames, outer)?;
             Ok(Stepped::Stuck(Seen::Operand(operand)))
         }
         None => Ok(Stepped::Stuck(Seen::Operand(operand))),
@@ -112,12 +113,12 @@ fn next_argument(frames: &mut Vec<Frame>, operand: Operand, limit: u32) -> Resul
     match frames.pop() {
         Some(Frame::Called(name, before)) => {
             let mut before = before;
-            before.push(operand)?;
-            frames.push(Frame::Called(name, before))?;
+            push(&mut before, operand)?;
+            push(frames, Frame::Called(name, before))?;
             Ok(Stepped::On(Seen::Nothing))
         }
         Some(outer) => {
-            frames.push(outer)?;
+            push(frames, outer)?;
             Ok(Stepped::Stuck(Seen::Operand(operand)))
         }
         None => Ok(Stepped::Stuck(Seen::Operand(operand))),
@@ -135,7 +136,7 @@ fn add(
     ensures { IfOk result (λ next. Makes (algebra limit) (Some (add (op_of op) (close_sum (algebra limit) (stack_of frames.old.items) (operand_of operand)))) None frames.new.items next) }
 {
     let left = close_sum(alloc, frames, operand, limit)?;
-    frames.push(Frame::Added(op, left))?;
+    push(frames, Frame::Added(op, left))?;
     Ok(Stepped::On(Seen::Nothing))
 }
 
@@ -150,7 +151,7 @@ fn multiply(
     ensures { IfOk result (λ next. Makes (algebra limit) (Some (multiply (op_of op) (close_product (algebra limit) (stack_of frames.old.items) (operand_of operand)))) None frames.new.items next) }
 {
     let left = close_product(alloc, frames, operand, limit)?;
-    frames.push(Frame::Multiplied(op, left))?;
+    push(frames, Frame::Multiplied(op, left))?;
     Ok(Stepped::On(Seen::Nothing))
 }
 
@@ -171,7 +172,7 @@ fn go_on(
         TokenKind::Star => multiply(alloc, frames, operand, Op::Mul, limit),
         TokenKind::Slash => multiply(alloc, frames, operand, Op::Quot, limit),
         TokenKind::Power => {
-            frames.push(Frame::Base(operand))?;
+            push(frames, Frame::Base(operand))?;
             Ok(Stepped::On(Seen::Nothing))
         }
         TokenKind::Right => {
@@ -198,10 +199,11 @@ fn behind_name(
     ensures { IfOk result (λ next. Makes (algebra limit) (behind_name (algebra limit) (stack_of frames.old.items) name (Mark kind)) (closed (algebra limit) (stack_of frames.old.items, machine.Callee name)) frames.new.items next) }
 {
     if kind == TokenKind::Left {
-        frames.push(Frame::Called(name, Vec::new(alloc)))?;
+        push(frames, Frame::Called(name, Vec::new(alloc)))?;
         return Ok(Stepped::On(Seen::Nothing));
     }
-    go_on(alloc, frames, Operand::scalar(name, limit), kind, limit)
+    let operand = Operand::scalar(name, alloc, limit)?;
+    go_on(alloc, frames, operand, kind, limit)
 }
 
 /// The next lexeme, with its characters.
@@ -235,7 +237,7 @@ pub(crate) fn close(
 {
     let operand = match seen {
         Seen::Nothing => return Ok(None),
-        Seen::Callee(name) => Operand::scalar(name, limit),
+        Seen::Callee(name) => Operand::scalar(name, alloc, limit)?,
         Seen::Operand(operand) => operand,
     };
     Ok(Some(close_sum(alloc, frames, operand, limit)?))

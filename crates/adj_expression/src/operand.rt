@@ -1,6 +1,6 @@
 //! Expressions that are still read.
 
-ghost use Rattle.std.specs.Prelude.{◌≡◌, ◌<◌, ◌≤◌, ◌+◌, ◌∷◌, [], ◌++◌, ℤ, map, length, pos, IfOk};
+ghost use Rattle.std.specs.Prelude.{◌≡◌, ◌<◌, ◌≤◌, ◌+◌, ◌∷◌, [], ◌++◌, ℤ, map, length, pos, Ok, Err, IfOk};
 ghost use Rattle.adj_tree.specs.View.{term_of, op_of};
 ghost use Rattle.adj_text.specs.Char.{number_of};
 ghost use Rattle.adj_text.specs.Grammar.{in_words};
@@ -11,22 +11,22 @@ ghost use Rattle.adj_expression.specs.View.{seen};
 use crate::application::{one_argument, two_arguments};
 use crate::constant::{self, Constant};
 use crate::flaw::{Flaw, both};
-use adj_tree::{Expr, Memory, Name, Op};
+use adj_tree::{Expr, Memory, Name, Op, boxed};
 use std::alloc::Global;
 
 /// An expression: its tree or what is wrong with it, its depth or 1 more than the limit where it is deeper, and what it is
 /// as an exponent. One that is too deep isn't kept, so no tree is ever deeper than the limit.
 #[derive(Drop)]
 pub(crate) struct Operand {
-    pub found: Result<Expr, Flaw>,
+    pub found: Result<Box<Expr>, Flaw>,
     pub depth: u32,
     pub constant: Constant,
     ghost shallow: { depth ≤ 1000 },
 }
 
 // The exponent that a literal expression is. Of its own flaws only a literal that is too large counts.
-fn exponent(found: Result<Expr, Flaw>, constant: Constant) -> Result<u32, Flaw>
-    ensures { result ≡ as_power (seen term_of found) (exponent_of constant) }
+fn exponent(found: Result<Box<Expr>, Flaw>, constant: Constant) -> Result<u32, Flaw>
+    ensures { result ≡ as_power (seen (λ e. term_of e.value) found) (exponent_of constant) }
 {
     if let Err(Flaw::Large) = found {
         return Err(Flaw::Large);
@@ -41,46 +41,69 @@ impl Operand {
     ghost use Rattle.adj_expression.specs.Partial.{literal, scalar, opposite, combined, to_literal, to_expression, powered, application, bounded, algebra, operand_of};
     ghost use Rattle.adj_text.specs.Machine.{with_sign};
 
-    fn bounded(found: Result<Expr, Flaw>, depth: u32, constant: Constant, limit: u32) -> Operand
+    // One with a flaw.
+    fn flawed(flaw: Flaw, depth: u32, constant: Constant, limit: u32) -> Operand
         requires { limit < 1000 }
-        ensures { operand_of result ≡ bounded limit (seen term_of found) depth constant }
+        ensures { operand_of result ≡ bounded limit (Err flaw) depth constant }
     {
         if depth <= limit {
             Operand {
-                found,
+                found: Err(flaw),
                 depth,
                 constant,
             }
         } else {
-            let flaw = match found {
-                Ok(_) => Flaw::Deep,
-                Err(flaw) => flaw.first_of(Flaw::Deep),
-            };
             Operand {
-                found: Err(flaw),
+                found: Err(flaw.first_of(Flaw::Deep)),
                 depth: limit + 1,
                 constant,
             }
         }
     }
 
-    /// A literal.
-    pub fn literal(digits: &[u8], limit: u32) -> Operand
+    // A tree on the heap, where it isn't too deep.
+    fn bounded(
+        alloc: Global,
+        tree: Expr,
+        depth: u32,
+        constant: Constant,
+        limit: u32,
+    ) -> Result<Operand, Memory>
         requires { limit < 1000 }
-        ensures { operand_of result ≡ literal limit (in_words (pos (number_of digits.now))) }
+        ensures { IfOk result (λ x. operand_of x ≡ bounded limit (Ok (term_of tree)) depth constant) }
+    {
+        if depth > limit {
+            return Ok(Operand {
+                found: Err(Flaw::Deep),
+                depth: limit + 1,
+                constant,
+            });
+        }
+        let tree = boxed(alloc, tree)?;
+        Ok(Operand {
+            found: Ok(tree),
+            depth,
+            constant,
+        })
+    }
+
+    /// A literal.
+    pub fn literal(alloc: Global, digits: &[u8], limit: u32) -> Result<Operand, Memory>
+        requires { limit < 1000 }
+        ensures { IfOk result (λ x. operand_of x ≡ literal limit (in_words (pos (number_of digits.now)))) }
     {
         match constant::literal(digits) {
-            None => Operand::bounded(Err(Flaw::Large), 1, Constant::Beyond, limit),
-            Some(n) => Operand::bounded(Ok(Expr::Lit(n)), 1, Constant::Lexeme(n), limit),
+            None => Ok(Operand::flawed(Flaw::Large, 1, Constant::Beyond, limit)),
+            Some(n) => Operand::bounded(alloc, Expr::Lit(n), 1, Constant::Lexeme(n), limit),
         }
     }
 
     /// A name with no arguments.
-    pub fn scalar(name: Name, limit: u32) -> Operand
+    pub fn scalar(name: Name, alloc: Global, limit: u32) -> Result<Operand, Memory>
         requires { limit < 1000 }
-        ensures { operand_of result ≡ scalar limit name }
+        ensures { IfOk result (λ x. operand_of x ≡ scalar limit name) }
     {
-        Operand::bounded(Ok(Expr::Var(name)), 1, Constant::Other, limit)
+        Operand::bounded(alloc, Expr::Var(name), 1, Constant::Other, limit)
     }
 
     /// Behind a minus sign.
@@ -93,11 +116,11 @@ impl Operand {
             depth,
             constant,
         } = self;
-        let found = match found {
-            Ok(e) => Ok(Expr::Neg(Box::new(alloc, e)?)),
-            Err(flaw) => Err(flaw),
-        };
-        Ok(Operand::bounded(found, depth + 1, constant.opposite(), limit))
+        let constant = constant.opposite();
+        match found {
+            Ok(e) => Operand::bounded(alloc, Expr::Neg(e), depth + 1, constant, limit),
+            Err(flaw) => Ok(Operand::flawed(flaw, depth + 1, constant, limit)),
+        }
     }
 
     /// The sum, difference, product or quotient.
@@ -113,11 +136,10 @@ impl Operand {
     {
         let depth = self.depth.max(right.depth) + 1;
         let constant = self.constant.joined(op, right.constant);
-        let found = match both(self.found, right.found) {
-            Ok((a, b)) => Ok(Expr::Bin(op, Box::new(alloc, a)?, Box::new(alloc, b)?)),
-            Err(flaw) => Err(flaw),
-        };
-        Ok(Operand::bounded(found, depth, constant, limit))
+        match both(self.found, right.found) {
+            Ok((a, b)) => Operand::bounded(alloc, Expr::Bin(op, a, b), depth, constant, limit),
+            Err(flaw) => Ok(Operand::flawed(flaw, depth, constant, limit)),
+        }
     }
 
     // The power with a literal exponent, of which the tree keeps the value.
@@ -127,11 +149,10 @@ impl Operand {
     {
         let depth = self.depth + 1;
         let constant = self.constant.powered(right.constant);
-        let found = match both(self.found, exponent(right.found, right.constant)) {
-            Ok((a, k)) => Ok(Expr::Pow(Box::new(alloc, a)?, k)),
-            Err(flaw) => Err(flaw),
-        };
-        Ok(Operand::bounded(found, depth, constant, limit))
+        match both(self.found, exponent(right.found, right.constant)) {
+            Ok((a, k)) => Operand::bounded(alloc, Expr::Pow(a, k), depth, constant, limit),
+            Err(flaw) => Ok(Operand::flawed(flaw, depth, constant, limit)),
+        }
     }
 
     // The power with any other exponent.
@@ -140,11 +161,10 @@ impl Operand {
         ensures { IfOk result (λ x. operand_of x ≡ to_expression limit (operand_of self) (operand_of right)) }
     {
         let depth = self.depth.max(right.depth) + 1;
-        let found = match both(self.found, right.found) {
-            Ok((a, b)) => Ok(Expr::Power(Box::new(alloc, a)?, Box::new(alloc, b)?)),
-            Err(flaw) => Err(flaw),
-        };
-        Ok(Operand::bounded(found, depth, Constant::Other, limit))
+        match both(self.found, right.found) {
+            Ok((a, b)) => Operand::bounded(alloc, Expr::Power(a, b), depth, Constant::Other, limit),
+            Err(flaw) => Ok(Operand::flawed(flaw, depth, Constant::Other, limit)),
+        }
     }
 
     /// The power with this exponent.
@@ -165,11 +185,14 @@ impl Operand {
         ensures { IfOk result (λ x. operand_of x ≡ application limit name (operand_of argument ∷ [])) }
     {
         let Operand { found, depth, .. } = argument;
-        let found = match found {
-            Ok(a) => Ok(one_argument(name, alloc, a)?),
-            Err(flaw) => Err(flaw),
-        };
-        Ok(Operand::bounded(found, depth + 1, Constant::Other, limit))
+        let depth = depth + 1;
+        match found {
+            Ok(a) => {
+                let tree = one_argument(name, alloc, a)?;
+                Operand::bounded(alloc, tree, depth, Constant::Other, limit)
+            }
+            Err(flaw) => Ok(Operand::flawed(flaw, depth, Constant::Other, limit)),
+        }
     }
 
     // A name with two arguments.
@@ -184,11 +207,13 @@ impl Operand {
         ensures { IfOk result (λ x. operand_of x ≡ application limit name (operand_of first ∷ operand_of second ∷ [])) }
     {
         let depth = first.depth.max(second.depth) + 1;
-        let found = match both(first.found, second.found) {
-            Ok((a, b)) => Ok(two_arguments(name, alloc, a, b)?),
-            Err(flaw) => Err(flaw),
-        };
-        Ok(Operand::bounded(found, depth, Constant::Other, limit))
+        match both(first.found, second.found) {
+            Ok((a, b)) => {
+                let tree = two_arguments(name, alloc, a, b)?;
+                Operand::bounded(alloc, tree, depth, Constant::Other, limit)
+            }
+            Err(flaw) => Ok(Operand::flawed(flaw, depth, Constant::Other, limit)),
+        }
     }
 
     /// A name with its arguments, of which there are as many as it takes.

@@ -7,6 +7,7 @@ ghost use Rattle.adj_expression.specs.PartialCondition.{test_algebra, propositio
 ghost use Rattle.adj_expression.specs.Waits.{waits_of};
 
 use crate::proposition::Proposition;
+use crate::stack::push;
 use adj_tree::Memory;
 use std::alloc::Global;
 
@@ -33,7 +34,7 @@ pub(crate) fn deny(
     match waits.pop() {
         Some(Waiting::Denied) => made.denied(alloc, limit),
         Some(outer) => {
-            waits.push(outer)?;
+            push(waits, outer)?;
             Ok(made)
         }
         None => Ok(made),
@@ -53,7 +54,7 @@ pub(crate) fn conjoin(
     match waits.pop() {
         Some(Waiting::Anded(left)) => left.conjoined(alloc, made, limit),
         Some(outer) => {
-            waits.push(outer)?;
+            push(waits, outer)?;
             Ok(made)
         }
         None => Ok(made),
@@ -73,7 +74,7 @@ fn disjoin(
     match waits.pop() {
         Some(Waiting::Ored(left)) => left.disjoined(alloc, made, limit),
         Some(outer) => {
-            waits.push(outer)?;
+            push(waits, outer)?;
             Ok(made)
         }
         None => Ok(made),
