@@ -20,14 +20,24 @@ use adj_expression::{Flaw, both};
 use adj_tree::{Act, Expr, Exprs, Memory, Name, Place};
 use std::alloc::Global;
 
+// An expression off the heap, or what is wrong with it.
+fn off_heap(found: Result<Box<Expr>, Flaw>) -> Result<Expr, Flaw>
+    ensures { seen term_of result ≡ seen (λ e. term_of e.value) found }
+{
+    match found {
+        Ok(e) => Ok(Box::into_inner(e)),
+        Err(flaw) => Err(flaw),
+    }
+}
+
 // Expressions with one more.
 fn with_expression(
     all: Result<Vec<Expr>, Flaw>,
-    next: Result<Expr, Flaw>,
+    next: Result<Box<Expr>, Flaw>,
 ) -> Result<Result<Vec<Expr>, Flaw>, Memory>
-    ensures { IfOk result (λ r. seen (λ v. map term_of v.items) r ≡ with_part (seen (λ v. map term_of v.items) all) (seen term_of next)) }
+    ensures { IfOk result (λ r. seen (λ v. map term_of v.items) r ≡ with_part (seen (λ v. map term_of v.items) all) (seen (λ e. term_of e.value) next)) }
 {
-    with_part(all, next)
+    with_part(all, off_heap(next))
 }
 
 // One or two subscripts, and what stands behind them.
@@ -97,11 +107,11 @@ fn place(
 }
 
 // An assignment to a place, or what is wrong with its parts.
-fn assigned(place: Result<Place, Flaw>, value: Result<Expr, Flaw>) -> Result<Act, Flaw>
-    ensures { seen act_of result ≡ seen (λ (q : (List ℕ × Terms) × Term). assign (plain q.0.0) q.0.1 q.1) (both (seen place_seen place) (seen term_of value)) }
+fn assigned(place: Result<Place, Flaw>, value: Result<Box<Expr>, Flaw>) -> Result<Act, Flaw>
+    ensures { seen act_of result ≡ seen (λ (q : (List ℕ × Terms) × Term). assign (plain q.0.0) q.0.1 q.1) (both (seen place_seen place) (seen (λ e. term_of e.value) value)) }
 {
     match both(place, value) {
-        Ok((place, value)) => Ok(Act::Assign(place, value)),
+        Ok((place, value)) => Ok(Act::Assign(place, Box::into_inner(value))),
         Err(flaw) => Err(flaw),
     }
 }

@@ -1,6 +1,9 @@
 //! The tokens of a statement that are still to be read.
 
+ghost use Rattle.std.specs.Prelude.{◌≡◌, ◌<◌, IfOk, option_map};
+ghost use Rattle.adj_tree.specs.View.{term_of, test_of};
 ghost use Rattle.adj_expression.specs.Front.{AreSlices};
+ghost use Rattle.adj_expression.specs.View.{seen};
 
 use adj_expression::{Flaw, condition, expression};
 use adj_text::{Token, TokenKind};
@@ -16,11 +19,8 @@ pub(crate) struct Lexemes<'t> {
 }
 
 impl<'t> Lexemes<'t> {
-    ghost use Rattle.std.specs.Prelude.{◌≡◌, ◌<◌, IfOk, option_map};
-    ghost use Rattle.adj_tree.specs.View.{term_of, test_of};
     ghost use Rattle.adj_text.specs.Lexeme.{lexemes_of};
     ghost use Rattle.adj_expression.specs.Front.{front_expression, front_condition};
-    ghost use Rattle.adj_expression.specs.View.{seen};
     ghost use Rattle.adj_statement.specs.Phrases.{are_none, ended, name_at, digits_at, behind_left, behind_right, behind_comma, behind_equals, behind_call};
     ghost use Rattle.adj_statement.specs.LexemesView.{lexemes_in};
 
@@ -140,9 +140,9 @@ impl<'t> Lexemes<'t> {
         self,
         alloc: Global,
         limit: u32,
-    ) -> Result<Option<(Result<Expr, Flaw>, Lexemes<'t>)>, Memory>
+    ) -> Result<Option<(Result<Box<Expr>, Flaw>, Lexemes<'t>)>, Memory>
         requires { limit < 1000 }
-        ensures { IfOk result (λ found. option_map (λ f. (seen term_of f.0, lexemes_in f.1)) found ≡ front_expression limit (lexemes_in self.entry)) }
+        ensures { IfOk result (λ found. option_map (λ f. (seen (λ e. term_of e.value) f.0, lexemes_in f.1)) found ≡ front_expression limit (lexemes_in self.entry)) }
     {
         match expression(alloc, self.text, self.tokens, limit)? {
             Some((found, rest)) => Ok(Some((found, Lexemes::new(self.text, rest)))),
@@ -155,9 +155,9 @@ impl<'t> Lexemes<'t> {
         self,
         alloc: Global,
         limit: u32,
-    ) -> Result<Option<(Result<Cond, Flaw>, Lexemes<'t>)>, Memory>
+    ) -> Result<Option<(Result<Box<Cond>, Flaw>, Lexemes<'t>)>, Memory>
         requires { limit < 1000 }
-        ensures { IfOk result (λ found. option_map (λ f. (seen test_of f.0, lexemes_in f.1)) found ≡ front_condition limit (lexemes_in self.entry)) }
+        ensures { IfOk result (λ found. option_map (λ f. (seen (λ c. test_of c.value) f.0, lexemes_in f.1)) found ≡ front_condition limit (lexemes_in self.entry)) }
     {
         match condition(alloc, self.text, self.tokens, limit)? {
             Some((found, rest)) => Ok(Some((found, Lexemes::new(self.text, rest)))),

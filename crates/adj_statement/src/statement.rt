@@ -23,15 +23,25 @@ use adj_text::{Kind, Stated};
 use adj_tree::{Act, Cond, Expr, Memory, Name, boxed};
 use std::alloc::Global;
 
+// A condition off the heap, or what is wrong with it.
+fn off_heap(found: Result<Box<Cond>, Flaw>) -> Result<Cond, Flaw>
+    ensures { seen test_of result ≡ seen (λ c. test_of c.value) found }
+{
+    match found {
+        Ok(c) => Ok(Box::into_inner(c)),
+        Err(flaw) => Err(flaw),
+    }
+}
+
 // A condition in parentheses, and what stands behind it.
 #[tactic(auto, using(crate::proofs::Guards::front_guard_on))]
 fn guard(
     alloc: Global,
     lexemes: Lexemes,
     limit: u32,
-) -> Result<Option<(Result<Cond, Flaw>, Lexemes)>, Memory>
+) -> Result<Option<(Result<Box<Cond>, Flaw>, Lexemes)>, Memory>
     requires { limit < 1000 }
-    ensures { IfOk result (λ found. option_map (λ f. (seen test_of f.0, lexemes_in f.1)) found ≡ front_guard limit (lexemes_in lexemes.entry)) }
+    ensures { IfOk result (λ found. option_map (λ f. (seen (λ c. test_of c.value) f.0, lexemes_in f.1)) found ≡ front_guard limit (lexemes_in lexemes.entry)) }
 {
     let Some(inner) = lexemes.behind_left() else {
         return Ok(None);
@@ -52,7 +62,7 @@ fn test(alloc: Global, lexemes: Lexemes, limit: u32) -> Result<Option<Result<Con
     ensures { IfOk result (λ found. option_map (seen test_of) found ≡ front_test limit (lexemes_in lexemes.entry)) }
 {
     match guard(alloc, lexemes, limit)? {
-        Some((condition, rest)) => Ok(rest.ended(condition)),
+        Some((condition, rest)) => Ok(rest.ended(off_heap(condition))),
         None => Ok(None),
     }
 }
@@ -70,10 +80,13 @@ fn guarded(alloc: Global, lexemes: Lexemes, limit: u32) -> Result<Option<Result<
 }
 
 // The condition of a logical IF and what it guards, or what is wrong with them.
-fn joined(condition: Result<Cond, Flaw>, act: Result<Act, Flaw>) -> Result<(Cond, Act), Flaw>
-    ensures { seen guarded_seen result ≡ both (seen test_of condition) (seen act_of act) }
+fn joined(condition: Result<Box<Cond>, Flaw>, act: Result<Act, Flaw>) -> Result<(Cond, Act), Flaw>
+    ensures { seen guarded_seen result ≡ both (seen (λ c. test_of c.value) condition) (seen act_of act) }
 {
-    both(condition, act)
+    match both(condition, act) {
+        Ok((condition, act)) => Ok((Box::into_inner(condition), act)),
+        Err(flaw) => Err(flaw),
+    }
 }
 
 // The condition of a logical IF and what it guards, of the lexemes behind IF.
@@ -97,12 +110,17 @@ fn logical(
 
 // The step of a loop, 1 where it has none.
 #[tactic(auto, using(crate::proofs::Loops::front_step_on))]
-fn step(alloc: Global, lexemes: Lexemes, limit: u32) -> Result<Option<Result<Expr, Flaw>>, Memory>
+fn step(
+    alloc: Global,
+    lexemes: Lexemes,
+    limit: u32,
+) -> Result<Option<Result<Box<Expr>, Flaw>>, Memory>
     requires { limit < 1000 }
-    ensures { IfOk result (λ found. option_map (seen term_of) found ≡ front_step limit (lexemes_in lexemes.entry)) }
+    ensures { IfOk result (λ found. option_map (seen (λ e. term_of e.value)) found ≡ front_step limit (lexemes_in lexemes.entry)) }
 {
     if lexemes.are_none() {
-        return Ok(Some(Ok(Expr::Lit(1))));
+        let one = boxed(alloc, Expr::Lit(1))?;
+        return Ok(Some(Ok(one)));
     }
     let Some(lexemes) = lexemes.behind_comma() else {
         return Ok(None);
@@ -115,27 +133,21 @@ fn step(alloc: Global, lexemes: Lexemes, limit: u32) -> Result<Option<Result<Exp
 
 // The bounds of a loop, or what is wrong with them.
 fn ranged(
-    alloc: Global,
     counter: Name,
-    from: Result<Expr, Flaw>,
-    to: Result<Expr, Flaw>,
-    by: Result<Expr, Flaw>,
-) -> Result<Result<Range, Flaw>, Memory>
-    ensures { IfOk result (λ range. seen range_of range ≡ seen (λ (q : (Term × Term) × Term). record { counter = plain counter; from = q.0.0; to = q.0.1; by = q.1 }) (both (both (seen term_of from) (seen term_of to)) (seen term_of by))) }
+    from: Result<Box<Expr>, Flaw>,
+    to: Result<Box<Expr>, Flaw>,
+    by: Result<Box<Expr>, Flaw>,
+) -> Result<Range, Flaw>
+    ensures { seen range_of result ≡ seen (λ (q : (Term × Term) × Term). record { counter = plain counter; from = q.0.0; to = q.0.1; by = q.1 }) (both (both (seen (λ e. term_of e.value) from) (seen (λ e. term_of e.value) to)) (seen (λ e. term_of e.value) by)) }
 {
     match both(both(from, to), by) {
-        Ok(((from, to), by)) => {
-            let from = boxed(alloc, from)?;
-            let to = boxed(alloc, to)?;
-            let by = boxed(alloc, by)?;
-            Ok(Ok(Range {
-                counter,
-                from,
-                to,
-                by,
-            }))
-        }
-        Err(flaw) => Ok(Err(flaw)),
+        Ok(((from, to), by)) => Ok(Range {
+            counter,
+            from,
+            to,
+            by,
+        }),
+        Err(flaw) => Err(flaw),
     }
 }
 
@@ -165,10 +177,7 @@ fn bounds(
         return Ok(None);
     };
     match step(alloc, rest, limit)? {
-        Some(by) => {
-            let range = ranged(alloc, counter, from, to, by)?;
-            Ok(Some(range))
-        }
+        Some(by) => Ok(Some(ranged(counter, from, to, by))),
         None => Ok(None),
     }
 }

@@ -11,4 +11,4 @@ pub loop-behind-smaller : goal.loop-behind-smaller
 loop-behind-smaller c =
     let next = c.in-Some-2 in
     let comma = c.in-Some-behind_comma in
-    shorter_behind (front_expression c.args.limit) (front_expression-shortens c.args.limit) (lexemes_in c.loop-behind.rest) (lexemes_in comma.behind) (lexemes_in next.others) (seen term_of next.next) (search rules) (search rules)
+    shorter_behind (front_expression c.args.limit) (front_expression-shortens c.args.limit) (lexemes_in c.loop-behind.rest) (lexemes_in comma.behind) (lexemes_in next.others) (seen (λ e. term_of e.value) next.next) (search rules) (search rules)

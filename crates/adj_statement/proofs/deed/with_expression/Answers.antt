@@ -1,8 +1,15 @@
-use Rattle.std.proofs.Common.{Vec, Global}
+use Rattle.std.proofs.Common.{◌≡◌, Vec, Global, Result, subst}
+use Rattle.std.specs.Prelude.{map, IfOk}
+use Rattle.adj_tree.specs.Code.{Term}
 use Rattle.adj_tree.specs.View.{term_of}
 use Rattle.adj_tree.specs.declared.expr.Expr.{Expr}
+use Rattle.adj_expression.specs.declared.flaw.Flaw.{Flaw}
+use Rattle.adj_expression.specs.View.{seen}
+use Rattle.adj_statement.specs.Flaws.{with_part}
 use Rattle.adj_statement.proofs.Judging.{with_part-found}
 use Rattle.adj_statement.proofs.deed.with_expression.Goals as goal
 
 pub returns : goal.returns
-returns c = with_part-found (λ (v : Vec Expr Global). v.items) term_of c.with_part.result c.args.all c.args.next c.with_part.ensures
+returns c =
+    subst (λ (t : Result Term Flaw). IfOk c.with_part.result (λ r. seen (λ v. map term_of v.items) r ≡ with_part (seen (λ v. map term_of v.items) c.args.all) t)) c.off_heap.ensures
+    (with_part-found (λ (v : Vec Expr Global). v.items) term_of c.with_part.result c.args.all c.off_heap.result c.with_part.ensures)
