@@ -21,7 +21,7 @@ pub(crate) struct Declared {
 pub(crate) fn first_declarations(alloc: Global, unit: &Unit) -> Result<Declared, Memory>
     ensures same { IfOk result (λ t. (x : List ℕ) → declared_in (map declaration_of t.firsts.items) (plain x) ≡ declared_in (map declaration_of unit.now.decls) (plain x)) }
 {
-    let mut names = NameSet::new(alloc);
+    let mut names = NameSet::new(alloc)?;
     let mut firsts = Vec::new(alloc);
     for decl in unit.decls.as_slice() {
         if !names.has(decl.name.bytes()) {

@@ -49,13 +49,14 @@ impl Model for Entries {
 
 impl Entries {
     /// No entries.
-    fn new(alloc: Global) -> Entries
-        ensures empty { result ≡ [] }
+    fn new(alloc: Global) -> Result<Entries, Memory>
+        ensures empty { IfOk result (λ es. es ≡ []) }
     {
-        Entries {
-            names: NameSet::new(alloc),
+        let names = NameSet::new(alloc)?;
+        Ok(Entries {
+            names,
             entries: Vec::new(alloc),
-        }
+        })
     }
 
     /// The entry of a name.
@@ -176,7 +177,7 @@ pub(crate) fn read(
     ensures entries { IfOk result (λ es. es ≡ with_items [] (items_of (takes_marks reading.now.titles) line (cut_lines bytes.now))) }
     ensures fault { IfErr result (λ e. IsFirstFault e (entries_fault reading.now.names [] (items_of (takes_marks reading.now.titles) line (cut_lines bytes.now)))) }
 {
-    let mut entries = Entries::new(alloc);
+    let mut entries = Entries::new(alloc)?;
     let mut rest = bytes;
     let mut number = line;
     while !rest.is_empty() {

@@ -19,7 +19,7 @@ use std::alloc::Global;
 pub(crate) fn set_of(alloc: Global, names: &NameList) -> Result<NameSet, Memory>
     ensures same { IfOk result (λ set. (x : List ℕ) → has_name x set ≡ has_name x names.now) }
 {
-    let mut set = NameSet::new(alloc);
+    let mut set = NameSet::new(alloc)?;
     for name in names.as_slice() {
         set.add(alloc, name.bytes())?;
     }

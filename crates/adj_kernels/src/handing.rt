@@ -50,8 +50,9 @@ fn with_row(alloc: Global, table: Handed, name: &Name, row: &[bool]) -> Result<H
 fn tabled(alloc: Global, units: &[Unit], rows: &[Flags]) -> Result<Handed, Memory>
     ensures table { IfOk result (λ h. (x : List ℕ) → handed_by h x ≡ row_of (map procedure_of units.now) rows.now x) }
 {
+    let known = NameSet::new(alloc)?;
     let mut table = Handed {
-        units: NameSet::new(alloc),
+        units: known,
         rows: Vec::new(alloc),
     };
     for place in 0..units.len() {

@@ -218,7 +218,7 @@ pub fn add_unit(alloc: Global, names: &mut Once, unit: &Unit) -> Result<(), Memo
 pub fn unit_names(alloc: Global, unit: &Unit) -> Result<Once, Memory>
     ensures names { IfOk result (λ n. n ≡ all_added [] (names_of (procedure_of unit.now))) }
 {
-    let mut names = Once::new(alloc);
+    let mut names = Once::new(alloc)?;
     add_unit(alloc, &mut names, unit)?;
     Ok(names)
 }

@@ -26,13 +26,14 @@ impl Model for Once {
 
 impl Once {
     /// No names.
-    pub fn new(alloc: Global) -> Once
-        ensures empty { result ≡ [] }
+    pub fn new(alloc: Global) -> Result<Once, Memory>
+        ensures empty { IfOk result (λ s. s ≡ []) }
     {
-        Once {
-            known: NameSet::new(alloc),
+        let known = NameSet::new(alloc)?;
+        Ok(Once {
+            known,
             names: Vec::new(alloc),
-        }
+        })
     }
 
     /// The names.
@@ -57,7 +58,7 @@ impl Once {
         if self.has(name) {
             return Ok(());
         }
-        let old = mem::replace(self, Once::new(alloc));
+        let old = mem::replace(self, Once::new(alloc)?);
         *self = old.with(alloc, name)?;
         Ok(())
     }

@@ -118,7 +118,7 @@ fn add_unit_names(alloc: Global, names: &mut Once, units: &[Unit]) -> Result<(),
 fn names_of_source(alloc: Global, units: &[Unit]) -> Result<Once, Memory>
     ensures names { IfOk result (λ n. n ≡ all_added [] (names_of_source (map procedure_of units.now))) }
 {
-    let mut names = Once::new(alloc);
+    let mut names = Once::new(alloc)?;
     add_unit_names(alloc, &mut names, units)?;
     for unit in units {
         add_unit(alloc, &mut names, unit)?;
@@ -131,7 +131,7 @@ pub fn stepped(alloc: Global, units: &[Unit]) -> Result<Vec<Unit>, Memory>
     ensures stepped { IfOk result (λ v. map procedure_of v.items ≡ stepped_program (map procedure_of units.now)) }
 {
     let known = names_of_source(alloc, units)?;
-    let nothing = NameSet::new(alloc);
+    let nothing = NameSet::new(alloc)?;
     let mut taken = Taken::new(alloc, &nothing, known.as_slice())?;
     let mut made = Vec::new(alloc);
     for unit in units {

@@ -50,7 +50,7 @@ fn add_extent(alloc: Global, names: &mut Once, extent: &Extent) -> Result<(), Me
 fn extents_of(alloc: Global, declared: &Declared, used: &[Name]) -> Result<Once, Memory>
     ensures names { IfOk result (λ n. (ds : List Declaration) → Declares declared.now ds → n ≡ all_added [] (all_extents_in ds used.now)) }
 {
-    let mut names = Once::new(alloc);
+    let mut names = Once::new(alloc)?;
     for x in used {
         let decl = declaration(alloc, 0, declared, x)?;
         add_extents(alloc, &mut names, decl.extents.as_slice())?;
@@ -62,7 +62,7 @@ fn extents_of(alloc: Global, declared: &Declared, used: &[Name]) -> Result<Once,
 fn used_names(alloc: Global, x: &Name, body: &Stmts) -> Result<Once, Memory>
     ensures names { IfOk result (λ n. n ≡ all_added [] (x.now ∷ names_in_code (code_of body.now))) }
 {
-    let mut names = Once::new(alloc);
+    let mut names = Once::new(alloc)?;
     names.add(alloc, x)?;
     add_code(alloc, &mut names, body)?;
     Ok(names)

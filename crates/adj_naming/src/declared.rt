@@ -20,7 +20,7 @@ pub struct Declared {
 pub fn first_declarations(alloc: Global, unit: &Unit) -> Result<Declared, Memory>
     ensures same { IfOk result (λ t. (line : ℕ) (x : List ℕ) → declaration line (map declaration_of t.firsts.items) x ≡ declaration line (map declaration_of unit.now.decls) x) }
 {
-    let mut names = NameSet::new(alloc);
+    let mut names = NameSet::new(alloc)?;
     let mut firsts = Vec::new(alloc);
     for decl in unit.decls.as_slice() {
         if !names.has(decl.name.bytes()) {

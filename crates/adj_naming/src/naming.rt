@@ -32,7 +32,7 @@ fn add_reserved(alloc: Global, set: &mut NameSet) -> Result<(), Memory>
 pub fn not_free(alloc: Global, units: &[Name]) -> Result<NameSet, Memory>
     ensures names { IfOk result (λ s. s ≡ all_added [] (units.now ++ reserved)) }
 {
-    let mut set = NameSet::new(alloc);
+    let mut set = NameSet::new(alloc)?;
     add_names(alloc, &mut set, units)?;
     add_reserved(alloc, &mut set)?;
     Ok(set)
@@ -90,7 +90,7 @@ pub fn names(
 {
     let mut all = Taken::new(alloc, taken, variables)?;
     let own = copied(alloc, variables)?;
-    let mut places = NameSet::new(alloc);
+    let mut places = NameSet::new(alloc)?;
     add_names(alloc, &mut places, shadowed)?;
     let shadows = shadow_names(alloc, shadowed, &mut all)?;
     let given = helper_names(alloc, helpers, &mut all)?;

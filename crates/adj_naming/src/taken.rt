@@ -28,7 +28,7 @@ impl<'a> Taken<'a> {
     pub fn new(alloc: Global, shared: &'a NameSet, others: &[Name]) -> Result<Taken<'a>, Memory>
         ensures names { IfOk result (λ t. t ≡ shared.now ++ all_added [] others.now) }
     {
-        let mut own = NameSet::new(alloc);
+        let mut own = NameSet::new(alloc)?;
         add_names(alloc, &mut own, others)?;
         Ok(Taken { shared, own })
     }

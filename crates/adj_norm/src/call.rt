@@ -139,7 +139,7 @@ fn pass_all(
     ensures after { OnOk result (Writes after.old.items after.new.items (after_passing_all (local_by locals.old) line first written.now [] (terms_of actuals.now))) }
     ensures locals { OnOk result (local_by locals.new ≡ local_by locals.old) }
 {
-    let mut earlier = NameSet::new(alloc);
+    let mut earlier = NameSet::new(alloc)?;
     let mut values = Values {
         turned: Exprs::Empty,
         next: first,

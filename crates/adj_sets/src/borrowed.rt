@@ -6,7 +6,7 @@ ghost use Rattle.adj_names.specs.Fresh.{has_name};
 ghost use Rattle.adj_names.specs.Variables.{Name};
 ghost use Rattle.adj_sets.specs.Sets.{with_name};
 
-use adj_tree::{Memory, Name};
+use adj_tree::{Memory, Name, boxed};
 use indexmap::IndexSet;
 use std::alloc::Global;
 use std::marker::Model;
@@ -14,23 +14,22 @@ use std::marker::Model;
 /// Names in the order in which they came, none of them twice, seen as their list. Look-ups take constant time, and no text is copied.
 #[derive(Drop)]
 pub struct BorrowedNames<'a> {
-    names: IndexSet<&'a [u8]>,
+    names: Box<IndexSet<&'a [u8]>>,
 }
 
 impl<'a> Model for BorrowedNames<'a> {
     ghost Value = { List (List ℕ) };
 
-    ghost view = { λ s. map (λ k. k.now) s.names.keys };
+    ghost view = { λ s. map (λ k. k.now) s.names.value.keys };
 }
 
 impl<'a> BorrowedNames<'a> {
     /// No names.
-    pub fn new(alloc: Global) -> BorrowedNames<'a>
-        ensures empty { result ≡ [] }
+    pub fn new(alloc: Global) -> Result<BorrowedNames<'a>, Memory>
+        ensures empty { IfOk result (λ s. s ≡ []) }
     {
-        BorrowedNames {
-            names: IndexSet::new(alloc),
-        }
+        let names = boxed(alloc, IndexSet::new(alloc))?;
+        Ok(BorrowedNames { names })
     }
 
     /// How many there are.

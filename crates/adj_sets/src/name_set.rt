@@ -1,11 +1,11 @@
 //! Sets of names.
 
-ghost use Rattle.std.specs.Prelude.{◌≡◌, List, ℕ, [], map, length, position, is_some, OnErr, OnOk};
+ghost use Rattle.std.specs.Prelude.{◌≡◌, List, ℕ, [], map, length, position, is_some, IfOk, OnErr, OnOk};
 ghost use Rattle.adj_tree.specs.Code.{name_eq};
 ghost use Rattle.adj_names.specs.Fresh.{has_name};
 ghost use Rattle.adj_sets.specs.Sets.{with_added, all_added};
 
-use adj_tree::{Memory, Name};
+use adj_tree::{Memory, Name, boxed};
 use indexmap::IndexSet;
 use std::alloc::Global;
 use std::marker::Model;
@@ -13,23 +13,22 @@ use std::marker::Model;
 /// Names in the order in which they came, none of them twice, seen as their list. Look-ups take constant time.
 #[derive(Drop)]
 pub struct NameSet {
-    texts: IndexSet<Vec<u8>>,
+    texts: Box<IndexSet<Vec<u8>>>,
 }
 
 impl Model for NameSet {
     ghost Value = { List (List ℕ) };
 
-    ghost view = { λ s. map (λ k. k.items) s.texts.keys };
+    ghost view = { λ s. map (λ k. k.items) s.texts.value.keys };
 }
 
 impl NameSet {
     /// No names.
-    pub fn new(alloc: Global) -> NameSet
-        ensures empty { result ≡ [] }
+    pub fn new(alloc: Global) -> Result<NameSet, Memory>
+        ensures empty { IfOk result (λ s. s ≡ []) }
     {
-        NameSet {
-            texts: IndexSet::new(alloc),
-        }
+        let texts = boxed(alloc, IndexSet::new(alloc))?;
+        Ok(NameSet { texts })
     }
 
     /// How many names there are.

@@ -79,7 +79,7 @@ pub(crate) fn add_written_variables(
 ) -> Result<(), Memory>
     ensures { OnOk result (first.new ≡ sooner first.old (first_of (written_variables (row_of (map procedure_of scope.now) written.now) (procedure_of outline.now)))) }
 {
-    let mut opened = BorrowedNames::new(alloc);
+    let mut opened = BorrowedNames::new(alloc)?;
     add_list(
         alloc,
         scope,

@@ -55,7 +55,7 @@ fn declared_ranks<'a>(alloc: Global, decls: &'a [Decl]) -> Result<Numbers<'a>, M
 fn names_once<'a>(alloc: Global, names: &'a [Name]) -> Result<BorrowedNames<'a>, Memory>
     ensures { IfOk result (λ s. s ≡ once names.now) }
 {
-    let mut set = BorrowedNames::new(alloc);
+    let mut set = BorrowedNames::new(alloc)?;
     for name in names {
         set.insert(name)?;
     }

@@ -34,7 +34,7 @@ pub(crate) fn add_again<'a>(
     ensures first { OnOk result (first.new ≡ sooner first.old (first_of (again code [] (places_of places.now)))) }
     ensures names { IfOk result (λ s. s ≡ once (names_at (places_of places.now))) }
 {
-    let mut names = BorrowedNames::new(alloc);
+    let mut names = BorrowedNames::new(alloc)?;
     for place in places {
         let added = names.insert(place.name)?;
         first.add_if(!added, code, place.line);

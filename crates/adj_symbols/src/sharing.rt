@@ -32,14 +32,17 @@ impl<'a> Model for Actuals<'a> {
 }
 
 impl<'a> Actuals<'a> {
-    fn new(alloc: Global) -> Actuals<'a>
-        ensures none { result ≡ record { seen = []; written = []; arrays = [] } }
+    fn new(alloc: Global) -> Result<Actuals<'a>, Memory>
+        ensures none { IfOk result (λ a. a ≡ record { seen = []; written = []; arrays = [] }) }
     {
-        Actuals {
-            seen: BorrowedNames::new(alloc),
-            written: BorrowedNames::new(alloc),
-            arrays: BorrowedNames::new(alloc),
-        }
+        let seen = BorrowedNames::new(alloc)?;
+        let written = BorrowedNames::new(alloc)?;
+        let arrays = BorrowedNames::new(alloc)?;
+        Ok(Actuals {
+            seen,
+            written,
+            arrays,
+        })
     }
 
     // Whether an actual clashes with one of these.
@@ -110,7 +113,7 @@ fn have_clash<'a>(
 ) -> Result<bool, Memory>
     ensures { IfOk result (λ b. b ≡ have_clash (procedure_of caller.now) row.now (terms_of actuals.now)) }
 {
-    let mut known = Actuals::new(alloc);
+    let mut known = Actuals::new(alloc)?;
     let mut rest = actuals;
     for is_written in row {
         match rest {

@@ -60,7 +60,7 @@ fn add_new<'a>(
 fn first_places<'a>(alloc: Global, places: &[Placed<'a>]) -> Result<Vec<Placed<'a>>, Memory>
     ensures { IfOk result (λ v. places_of v.items ≡ first_places (places_of places.now)) }
 {
-    let mut names = BorrowedNames::new(alloc);
+    let mut names = BorrowedNames::new(alloc)?;
     let mut found = Vec::new(alloc);
     for place in places {
         add_new(&mut names, place, &mut found)?;

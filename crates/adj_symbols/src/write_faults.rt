@@ -29,7 +29,7 @@ fn extent_dummies<'a>(alloc: Global, outline: &Outline<'a>) -> Result<BorrowedNa
 {
     let mut places = Vec::new(alloc);
     add_extent_places(outline.unit().decls.as_slice(), &mut places)?;
-    let mut dummies = BorrowedNames::new(alloc);
+    let mut dummies = BorrowedNames::new(alloc)?;
     for place in places.as_slice() {
         if outline.is_dummy(place.name) {
             dummies.insert(place.name)?;

@@ -29,8 +29,8 @@ fn pass(alloc: Global, decl: &Decl, known: &mut NameSet, arrays: &mut NameSet) -
 pub fn arrays_of(alloc: Global, unit: &Unit) -> Result<NameSet, Memory>
     ensures arrays { IfOk result (λ s. (x : List ℕ) → has_name x s ≡ arrays_of (procedure_of unit.now) (plain x)) }
 {
-    let mut known = NameSet::new(alloc);
-    let mut arrays = NameSet::new(alloc);
+    let mut known = NameSet::new(alloc)?;
+    let mut arrays = NameSet::new(alloc)?;
     for decl in unit.decls.as_slice() {
         pass(alloc, decl, &mut known, &mut arrays)?;
     }

@@ -92,7 +92,7 @@ pub fn known_callees(
     requires adjoints { adjoints.now ≡ map (adjoint_name (map procedure_of units.now)) (map procedure_of units.now) }
     ensures known { IfOk result (λ c. KnowsAll c (callee_in (program_marks marked.now) (map procedure_of units.now)) (reads_in (map procedure_of units.now))) }
 {
-    let mut set = NameSet::new(alloc);
+    let mut set = NameSet::new(alloc)?;
     add_names(alloc, &mut set, names)?;
     let written = written_dummies(alloc, units)?;
     let read = read_dummies(alloc, units)?;

@@ -44,7 +44,7 @@ pub fn source_names(
 ) -> Result<NameSet, Memory>
     ensures names { IfOk result (λ s. s ≡ all_added [] (units.now ++ flat_map (λ (xs : List (List ℕ)). xs) variables.now)) }
 {
-    let mut taken = NameSet::new(alloc);
+    let mut taken = NameSet::new(alloc)?;
     add_names(alloc, &mut taken, units)?;
     for names in variables {
         add_names(alloc, &mut taken, names.as_slice())?;

@@ -67,7 +67,7 @@ fn found_by_names(
     ensures adjointed { IfOk result (λ f. (h : Procedure) → unit_at head (map procedure_of units.now) ≡ h ∷ [] → f.adjointed ≡ map (λ u. has_adjoint (program_marks marked.now) (map procedure_of units.now) h u.name) (map procedure_of units.now)) }
     ensures carried { IfOk result (λ f. (h : Procedure) → unit_at head (map procedure_of units.now) ≡ h ∷ [] → f.carried ≡ map (λ u. is_carried_with (are_reversed loops) (program_marks marked.now) (map procedure_of units.now) h u.name) (map procedure_of units.now)) }
 {
-    let mut set = NameSet::new(alloc);
+    let mut set = NameSet::new(alloc)?;
     add_names(alloc, &mut set, names)?;
     let found = found_units(alloc, marked, units, &set, head, loops)?;
     Ok(found)

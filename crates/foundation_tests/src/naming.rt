@@ -10,7 +10,7 @@ use std::test::Fail;
 
 // The names that are given for XB, one after the other, where it is taken.
 fn given_twice(alloc: Global) -> Result<(Name, Name), Memory> {
-    let mut shared = NameSet::new(alloc);
+    let mut shared = NameSet::new(alloc)?;
     shared.add(alloc, b"XB")?;
     let mut taken = Taken::new(alloc, &shared, &[])?;
     let first = taken.give(alloc, b"XB")?;

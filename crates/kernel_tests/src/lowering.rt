@@ -72,7 +72,7 @@ fn lower_units(
 }
 
 fn taken(alloc: Global) -> Result<NameSet, Memory> {
-    let mut taken = NameSet::new(alloc);
+    let mut taken = NameSet::new(alloc)?;
     taken.add(alloc, b"X")?;
     taken.add(alloc, b"ADV2")?;
     Ok(taken)

@@ -32,7 +32,7 @@ pub(crate) fn listed(alloc: Global, texts: &[&[u8]]) -> Result<Vec<Name>, Memory
 }
 
 fn set_of(alloc: Global, texts: &[&[u8]]) -> Result<NameSet, Memory> {
-    let mut set = NameSet::new(alloc);
+    let mut set = NameSet::new(alloc)?;
     add_texts(alloc, &mut set, texts)?;
     Ok(set)
 }
@@ -75,7 +75,7 @@ pub(crate) fn names(alloc: Global, called: &Called) -> Result<Names, Memory> {
 /// No unit is known.
 pub(crate) fn no_callees(alloc: Global) -> Result<Callees, Memory> {
     Ok(Callees {
-        names: NameSet::new(alloc),
+        names: NameSet::new(alloc)?,
         known: Vec::new(alloc),
         other: Callee {
             adjoint: name(alloc, b"")?,

@@ -33,7 +33,7 @@ fn adjoint_of(
     statements: &Stmts,
 ) -> Result<Stmts, Memory> {
     let names = names(alloc, called)?;
-    let arrays = NameSet::new(alloc);
+    let arrays = NameSet::new(alloc)?;
     let marks: Marking<'static> = Marking::Full;
     let plan = Plan {
         names: &names,

@@ -12,7 +12,7 @@ use Rattle.adj_data.proofs.entries.read.Goals as goal
 pub returns-in_err-read_line-clause-fault : goal.returns-in_err-read_line-clause-fault
 returns-in_err-read_line-clause-fault c =
     let e = c.in_err-read_line.field-0.0 in
-    let p = err_from_is_err_and c.from_residual.result c.from_residual.ensures.1 in
+    let p = err_from_is_err_and c.from_residual-in_err-read_line.result c.from_residual-in_err-read_line.ensures.1 in
     rw (p.1, p.2)
     (subst (IsFirstFault e) c.loop-rest.invariant.0
     (line_fault (takes_marks c.args.reading.now.titles) e c.args.reading.now.names c.loop-rest.entries c.loop-rest.number c.next_number-number.result c.split_line.result.0.now c.without_cr.result.now (cut_lines c.split_line.result.1.now) (cut_lines c.loop-rest.rest.now) c.split_line.ensures.lines c.next_number-number.ensures c.without_cr.ensures c.in_err-read_line.ensures.fault))

@@ -16,7 +16,7 @@ use Rattle.adj_kernels.proofs.handing.tabled.Goals as goal
 
 pub loop-place-init : goal.loop-place-init
 loop-place-init c =
-    let units = c.new.ensures.empty in
+    let units = c.in_ok-known.ensures.empty in
     let rows = c.new-2.ensures.items in
     record {
       alike = ap length units ∙ sym (ap length rows);

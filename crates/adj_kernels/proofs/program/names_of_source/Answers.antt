@@ -10,7 +10,7 @@ use Rattle.adj_kernels.proofs.program.names_of_source.Goals as goal
 pub loop-unit-init : goal.loop-unit-init
 loop-unit-init c =
     let us = map procedure_of c.args.units.now in
-    ap (λ z. all_added z (flat_map names_of us)) (c.in_ok-add_unit_names.ensures.added ∙ ap (λ z. all_added z (map unit_name us)) c.new-names.ensures.empty) ∙ sym (added_both [] (map unit_name us) (flat_map names_of us))
+    ap (λ z. all_added z (flat_map names_of us)) (c.in_ok-add_unit_names.ensures.added ∙ ap (λ z. all_added z (map unit_name us)) c.in_ok-names.ensures.empty) ∙ sym (added_both [] (map unit_name us) (flat_map names_of us))
 
 pub loop-unit-preserved : goal.loop-unit-preserved
 loop-unit-preserved c =

@@ -16,7 +16,7 @@ loop-unit-init c =
     let source = names_of_source (map procedure_of c.args.units.now) in
     record {
       taken = λ x.
-          ap (has_name x) (c.in_ok-taken.ensures.names ∙ (λ i. c.new-nothing.ensures.empty i ++ all_added [] ((c.as_slice.ensures.names ∙ c.in_ok-known.ensures.names) i)))
+          ap (has_name x) (c.in_ok-taken.ensures.names ∙ (λ i. c.in_ok-nothing.ensures.empty i ++ all_added [] ((c.as_slice.ensures.names ∙ c.in_ok-known.ensures.names) i)))
           ∙ (once_same (all_added [] source)).at x ∙ (once_same source).at x;
       made = ap (λ z. map procedure_of z ++ stepped_from source (map procedure_of c.args.units.now)) c.new-made.ensures.items;
     }

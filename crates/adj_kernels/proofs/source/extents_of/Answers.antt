@@ -10,7 +10,7 @@ use Rattle.adj_kernels.proofs.Sources.{declared_extents}
 use Rattle.adj_kernels.proofs.source.extents_of.Goals as goal
 
 pub loop-x-init : goal.loop-x-init
-loop-x-init c = record { left = λ ds k. ap (λ z. all_added z (all_extents_in ds c.args.used.now)) c.new-names.ensures.empty }
+loop-x-init c = record { left = λ ds k. ap (λ z. all_added z (all_extents_in ds c.args.used.now)) c.in_ok-names.ensures.empty }
 
 pub loop-x-preserved : goal.loop-x-preserved
 loop-x-preserved c =

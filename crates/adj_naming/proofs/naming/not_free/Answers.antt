@@ -7,4 +7,4 @@ use Rattle.adj_naming.proofs.naming.not_free.Goals as goal
 pub returns : goal.returns
 returns c =
     let units = c.args.units.now in
-    record { names = c.in_ok-add_reserved.ensures.added ∙ ap (λ s. all_added s reserved) (c.in_ok-add_names.ensures.added ∙ ap (λ s. all_added s units) c.new-set.ensures.empty) ∙ sym (all_added-append [] units reserved) }
+    record { names = c.in_ok-add_reserved.ensures.added ∙ ap (λ s. all_added s reserved) (c.in_ok-add_names.ensures.added ∙ ap (λ s. all_added s units) c.in_ok-set.ensures.empty) ∙ sym (all_added-append [] units reserved) }

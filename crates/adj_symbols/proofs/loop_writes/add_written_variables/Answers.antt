@@ -13,5 +13,5 @@ returns c =
     let h = row_of (map procedure_of c.args.scope.now) c.args.written.now in
     let f0 = c.args.first.now in
     c.in_ok-add_list.ensures.faults
-    ∙ (λ i. sooner f0 (first_of (open_faults h (writes_one h (c.new-opened.ensures.empty i)) (code_of (c.unit.ensures.unit i).body))))
+    ∙ (λ i. sooner f0 (first_of (open_faults h (writes_one h (c.in_ok-opened.ensures.empty i)) (code_of (c.unit.ensures.unit i).body))))
     ∙ ap (sooner f0) (none_listed h (writes_one h []) (none_open h) (code_of c.args.outline.now.body))

@@ -5,7 +5,7 @@ use Rattle.adj_symbols.proofs.Clashing.{at_first, goes_on, no_actuals}
 use Rattle.adj_symbols.proofs.sharing.have_clash.Goals as goal
 
 pub loop-is_written-init : goal.loop-is_written-init
-loop-is_written-init c = at_first (procedure_of c.args.caller.now) c.new-known.result c.args.row.now (terms_of c.args.actuals.now) c.new-known.ensures.none
+loop-is_written-init c = at_first (procedure_of c.args.caller.now) c.in_ok-known.known c.args.row.now (terms_of c.args.actuals.now) c.in_ok-known.ensures.none
 
 pub returns-in-Empty : goal.returns-in-Empty
 returns-in-Empty c =

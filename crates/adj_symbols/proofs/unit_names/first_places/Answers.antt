@@ -9,7 +9,7 @@ use Rattle.adj_symbols.proofs.unit_names.first_places.Goals as goal
 pub loop-place-init : goal.loop-place-init
 loop-place-init c =
     let ps = places_of c.args.places.now in
-    ap₂ (λ xs ns. places_of xs ++ others_at ns (first_places ps)) c.new-found.ensures.items c.new-names.ensures.empty ∙ others_none (first_places ps)
+    ap₂ (λ xs ns. places_of xs ++ others_at ns (first_places ps)) c.new-found.ensures.items c.in_ok-names.ensures.empty ∙ others_none (first_places ps)
 
 pub loop-place-preserved : goal.loop-place-preserved
 loop-place-preserved c =

@@ -8,5 +8,6 @@ pub returns-clause-added : goal.returns-clause-added
 returns-clause-added c =
     let x = c.args.name.now in
     let same = c.in_ok-to_vec.ensures.items_if_clones_equal (λ a b e. e) in
-    ap (map (λ k. k.items)) c.in_ok-insert.ensures.keys ∙ added_named (λ k. k.items) (pointwise nat_eq) pointwise_name x c.in_ok-to_vec.field-0 c.self.inside.texts.keys same
-    ∙ sym (with_added_is x (map (λ k. k.items) c.self.inside.texts.keys)) ∙ ap (with_added x) c.self.view_is
+    let old = c.deref_mut.result.now.keys in
+    ap (map (λ k. k.items)) c.in_ok-insert.ensures.keys ∙ added_named (λ k. k.items) (pointwise nat_eq) pointwise_name x c.in_ok-to_vec.field-0 old same
+    ∙ sym (with_added_is x (map (λ k. k.items) old)) ∙ ap (with_added x) (ap (λ s. map (λ k. k.items) s.keys) c.deref_mut.ensures.value ∙ c.self.view_is)
