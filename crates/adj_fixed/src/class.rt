@@ -124,29 +124,29 @@ fn is_if(text: &[u8]) -> bool
     text.starts_with(b"IF(") && begins_with_letter(inner(text))
 }
 
-fn is_word(text: &[u8], word: &[u8]) -> bool
-    ensures { result ≡ bytes_eq text.now word.now }
+fn is_keyword(text: &[u8], keyword: &[u8]) -> bool
+    ensures { result ≡ bytes_eq text.now keyword.now }
 {
-    text == word
+    text == keyword
 }
 
-// The statements that are one word.
+// The statements that are a keyword alone.
 fn whole(text: &[u8]) -> Option<Kind>
     ensures { result ≡ whole text.now }
 {
-    if is_word(text, b"CONTINUE") {
+    if is_keyword(text, b"CONTINUE") {
         Some(Kind::Continue)
-    } else if is_word(text, b"RETURN") {
+    } else if is_keyword(text, b"RETURN") {
         Some(Kind::Return)
-    } else if is_word(text, b"END") {
+    } else if is_keyword(text, b"END") {
         Some(Kind::End)
-    } else if is_word(text, b"ENDIF") {
+    } else if is_keyword(text, b"ENDIF") {
         Some(Kind::EndIf)
-    } else if is_word(text, b"ENDDO") {
+    } else if is_keyword(text, b"ENDDO") {
         Some(Kind::EndDo)
-    } else if is_word(text, b"ELSE") {
+    } else if is_keyword(text, b"ELSE") {
         Some(Kind::Else)
-    } else if is_word(text, b"IMPLICITNONE") {
+    } else if is_keyword(text, b"IMPLICITNONE") {
         Some(Kind::ImplicitNone)
     } else {
         None
@@ -176,7 +176,7 @@ fn zeros(digits: &[u8]) -> usize
 fn is_eight(digits: &[u8]) -> bool
     ensures { result ≡ is_eight digits.now }
 {
-    is_word(behind(digits, zeros(digits)), b"8")
+    is_keyword(behind(digits, zeros(digits)), b"8")
 }
 
 fn is_integer(text: &[u8]) -> bool
@@ -193,7 +193,7 @@ fn is_group(text: &[u8]) -> bool
     group_len(text).unwrap_or(0) == text.len()
 }
 
-// The statements that begin with their word.
+// The statements that begin with their keyword.
 fn begun(text: &[u8]) -> Option<Kind>
     ensures { result ≡ begun text.now }
 {
@@ -215,7 +215,7 @@ fn begun(text: &[u8]) -> Option<Kind>
 fn if_kind(text: &[u8]) -> Kind
     ensures { result ≡ if_kind text.now }
 {
-    if is_word(inner(text), b"THEN") {
+    if is_keyword(inner(text), b"THEN") {
         Kind::BlockIf
     } else {
         Kind::LogicalIf

@@ -10,11 +10,11 @@ use crate::scan::{is_name_char, number_len};
 use adj_tree::{Mark, Memory, Name};
 use std::alloc::Global;
 
-// Whether a line begins with a word of capitals, in either case.
-fn begins_in_either_case(line: &[u8], word: &[u8]) -> bool
-    ensures { result ≡ begins_in_either_case word.now line.now }
+// Whether a line begins with a keyword of capitals, in either case.
+fn begins_in_either_case(line: &[u8], keyword: &[u8]) -> bool
+    ensures { result ≡ begins_in_either_case keyword.now line.now }
 {
-    for (i, w) in word.iter().enumerate() {
+    for (i, w) in keyword.iter().enumerate() {
         if i >= line.len() || line[i].to_ascii_uppercase() != *w {
             return false;
         }

@@ -30,7 +30,7 @@ pub(crate) fn number_len(text: &[u8]) -> usize
     text.iter().take_while(|c| c.is_ascii_digit()).count()
 }
 
-// The word between dots, and its length with them.
+// The name between dots, and its length with them.
 fn dotted(text: &[u8]) -> Option<(TokenKind, usize)>
     ensures value { result ≡ dotted text.now }
     ensures within { IfSome result (λ t. (0 < t.1) × (t.1 ≤ length text.now)) }
@@ -101,7 +101,7 @@ fn first_token(text: &[u8]) -> Option<(TokenKind, usize)>
     }
 }
 
-// The first token of what stands at a place: the word CALL at its own.
+// The first token of what stands at a place: the keyword CALL at its own.
 fn token_here(call: Option<usize>, here: usize, text: &[u8]) -> Option<(TokenKind, usize)>
     requires { IfSome call (λ place. here ≡ place → 4 ≤ length text.now) }
     ensures value { result ≡ token_here call here text.now }
@@ -114,7 +114,7 @@ fn token_here(call: Option<usize>, here: usize, text: &[u8]) -> Option<(TokenKin
     }
 }
 
-/// The tokens of a part of a statement's text that begins at `from`, where `call` may be the place of the word CALL;
+/// The tokens of a part of a statement's text that begins at `from`, where `call` may be the place of the keyword CALL;
 /// none where the part isn't cut into tokens.
 pub(crate) fn tokens(
     alloc: Global,

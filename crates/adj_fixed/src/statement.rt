@@ -64,7 +64,7 @@ fn ending_len(kind: Kind) -> usize
     }
 }
 
-// The place of the word CALL behind the condition of a logical IF.
+// The place of the keyword CALL behind the condition of a logical IF.
 fn call_place(kind: Kind, text: &[u8]) -> Option<usize>
     ensures value { result ≡ call_place kind text.now }
     ensures whole { IfSome result (λ place. place + 4 ≤ length text.now) }

@@ -3,4 +3,4 @@ use Rattle.adj_text.specs.Line.{begins_in_either_case}
 use Rattle.adj_fixed.proofs.directive.begins_in_either_case.Given as goal
 
 abbrev pub invariant-loop-i : goal.invariant-loop-i
-invariant-loop-i l = begins_in_either_case (drop l.i l.word) (drop l.i l.line) ≡ begins_in_either_case l.word l.line
+invariant-loop-i l = begins_in_either_case (drop l.i l.keyword) (drop l.i l.line) ≡ begins_in_either_case l.keyword l.line
