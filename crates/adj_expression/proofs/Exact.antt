@@ -137,13 +137,13 @@ module _ (limit : ℕ) where
       partial.powered limit (record { found = judged_by l (nat_lt limit d) o; depth = min d (limit + 1); constant = constancy base c }) (record { found = judged_by m (nat_lt limit e) p; depth = min e (limit + 1); constant = constancy literally z })
       ≡ record { found = judged_by (l || m) (nat_lt limit (if literally then suc d else suc (max d e))) (if literally then with_both (λ t k. Some (pow t k)) o (option_and_then as_exponent z) else with_both (λ t u. Some (power_of t u)) o p); depth = min (if literally then suc d else suc (max d e)) (limit + 1); constant = constancy (base && literally) (with_both constant_power c z) }
   raised_exact true base l m d e o p c None = power_exact l m d e o p None (powered_constant (constancy base c) constants.Beyond) ∙ constantly (raised_constant base c None)
-  raised_exact true base l m d e o p c (Some z) = power_exact l m d e o p (as_exponent z) (powered_constant (constancy base c) (constants.Lexeme z)) ∙ constantly (raised_constant base c (Some z))
+  raised_exact true base l m d e o p c (Some z) = power_exact l m d e o p (as_exponent z) (powered_constant (constancy base c) (constants.Word z)) ∙ constantly (raised_constant base c (Some z))
   raised_exact false base l m d e o p c z = two_exact l m d e o p power_of constants.Other ∙ constantly (other_base base (with_both constant_power c z))
 
   literal_exact : (n : ℕ) → partial.literal limit (in_words (pos n)) ≡ record { found = judged_by (nat_le (2 ^ 63) n) (nat_lt limit 1) (Some (lit (pos n))); depth = min 1 (limit + 1); constant = valued (in_words (pos n)) }
   literal_exact n =
       elim (cases_lt n (2 ^ 63)) [
-        | inl lt ↦ rw (lt-ltb n (2 ^ 63) lt, lt-leb (2 ^ 63) n lt) (leaf_exact false (lit (pos n)) (constants.Lexeme (pos n)) _ refl)
+        | inl lt ↦ rw (lt-ltb n (2 ^ 63) lt, lt-leb (2 ^ 63) n lt) (leaf_exact false (lit (pos n)) (constants.Word (pos n)) _ refl)
         | inr le ↦ rw (le-ltb n (2 ^ 63) le, le-leb (2 ^ 63) n le) (leaf_exact true (lit (pos n)) constants.Beyond _ refl)
       ]
 

@@ -48,7 +48,7 @@ past-signed true m h = rw (le-ltb m (2 ^ 63) (omega arith)) refl
 past-signed false zero h = absurd (omega arith)
 past-signed false (suc m) h = rw (lt-leb m (2 ^ 63 - 1) (omega arith)) refl
 
--- from 64 on two exponents that are both even or both odd have the same power, where that is a lexeme
+-- from 64 on two exponents that are both even or both odd have the same power, where that is a word
 same_power : (z : ℤ) (e k : ℕ) → 64 ≤ e → 64 ≤ k → e % 2 ≡ k % 2 → in_words (int_pow z e) ≡ in_words (int_pow z k)
 same_power (pos zero) e k g h p = ap (λ n. in_words (pos n)) (zero-pow e (omega arith) ∙ sym (zero-pow k (omega arith)))
 same_power (pos (suc zero)) e k g h p = ap (λ n. in_words (pos n)) (one-pow e ∙ sym (one-pow k))
@@ -63,15 +63,15 @@ small_power z k =
       | inr le ↦ same_power z (min k (64 + k % 2)) k (omega arith) le (omega arith)
     ]
 
-fits-in_lexemes : (z : ℤ) → FitsSigned w64 z → in_words z ≡ Some z
-fits-in_lexemes (pos n) h = rw (lt-ltb n (2 ^ 63) h.sfits) refl
-fits-in_lexemes (negsuc n) h = rw (le-leb n (2 ^ 63 - 1) (omega (arith, h.sfits))) refl
+fits-in_words : (z : ℤ) → FitsSigned w64 z → in_words z ≡ Some z
+fits-in_words (pos n) h = rw (lt-ltb n (2 ^ 63) h.sfits) refl
+fits-in_words (negsuc n) h = rw (le-leb n (2 ^ 63 - 1) (omega (arith, h.sfits))) refl
 
-large-in_lexemes : (z : ℤ) → (FitsSigned w64 z → ⊥) → None ≡ in_words z
-large-in_lexemes (pos n) h = elim (cases_lt n (2 ^ 63)) [ inl lt ↦ absurd (h record { sfits = lt }) | inr le ↦ rw (le-ltb n (2 ^ 63) le) refl ]
-large-in_lexemes (negsuc n) h = elim (cases_lt n (2 ^ 63)) [ inl lt ↦ absurd (h record { sfits = lt }) | inr le ↦ rw (lt-leb n (2 ^ 63 - 1) (omega arith)) refl ]
+large-in_words : (z : ℤ) → (FitsSigned w64 z → ⊥) → None ≡ in_words z
+large-in_words (pos n) h = elim (cases_lt n (2 ^ 63)) [ inl lt ↦ absurd (h record { sfits = lt }) | inr le ↦ rw (le-ltb n (2 ^ 63) le) refl ]
+large-in_words (negsuc n) h = elim (cases_lt n (2 ^ 63)) [ inl lt ↦ absurd (h record { sfits = lt }) | inr le ↦ rw (lt-leb n (2 ^ 63 - 1) (omega arith)) refl ]
 
 -- what a checked operation gives
-pub in_lexemes-checked : (r : Option ℤ) (z : ℤ) → SomeIff r (FitsSigned w64 z) z → r ≡ in_words z
-in_lexemes-checked (Some x) z h = ap Some h.1 ∙ sym (fits-in_lexemes z h.0)
-in_lexemes-checked None z h = large-in_lexemes z h
+pub in_words-checked : (r : Option ℤ) (z : ℤ) → SomeIff r (FitsSigned w64 z) z → r ≡ in_words z
+in_words-checked (Some x) z h = ap Some h.1 ∙ sym (fits-in_words z h.0)
+in_words-checked None z h = large-in_words z h

@@ -3,12 +3,12 @@ use Rattle.std.specs.Prelude.{ℕ, ℤ, neg_ℤ, Bool, true, false, Option, Some
 use Rattle.adj_tree.specs.Code.{Op}
 use Rattle.adj_text.specs.Grammar.{joins_literals, in_words, constant_of, constant_power, as_exponent}
 use Rattle.adj_expression.specs.declared.constant.Constant.{Constant}
-use Rattle.adj_expression.specs.declared.constant.Constant.TheVariants.{Other, Beyond, Lexeme}
+use Rattle.adj_expression.specs.declared.constant.Constant.TheVariants.{Other, Beyond, Word}
 
 -- a literal expression, by its value where it has one
 abbrev pub valued : Option ℤ → Constant
 valued None = Beyond
-valued (Some z) = Lexeme z
+valued (Some z) = Word z
 
 -- any expression, by whether it is literal and by its value
 abbrev pub constancy : Bool → Option ℤ → Constant
@@ -19,15 +19,15 @@ constancy false value = Other
 abbrev pub of_constant : (ℤ → Option ℤ) → Constant → Constant
 of_constant f Other = Other
 of_constant f Beyond = Beyond
-of_constant f (Lexeme z) = valued (f z)
+of_constant f (Word z) = valued (f z)
 
 abbrev pub of_constants : (ℤ → ℤ → Option ℤ) → Constant → Constant → Constant
 of_constants f Other d = Other
 of_constants f Beyond Other = Other
 of_constants f Beyond d = Beyond
-of_constants f (Lexeme a) Other = Other
-of_constants f (Lexeme a) Beyond = Beyond
-of_constants f (Lexeme a) (Lexeme b) = valued (f a b)
+of_constants f (Word a) Other = Other
+of_constants f (Word a) Beyond = Beyond
+of_constants f (Word a) (Word b) = valued (f a b)
 
 abbrev pub negated_constant : Constant → Constant
 negated_constant c = of_constant (λ z. in_words (neg_ℤ z)) c
@@ -44,5 +44,5 @@ is_other _ = false
 
 -- the exponent that a literal expression is
 abbrev pub exponent_of : Constant → Option ℕ
-exponent_of (Lexeme z) = as_exponent z
+exponent_of (Word z) = as_exponent z
 exponent_of _ = None

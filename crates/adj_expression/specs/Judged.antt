@@ -7,7 +7,7 @@ use Rattle.adj_text.specs.Condition.{Condition, compared, denied, both, either, 
 use Rattle.adj_expression.specs.declared.flaw.Flaw.{Flaw}
 use Rattle.adj_expression.specs.declared.flaw.Flaw.TheVariants.{Large, Deep, Exponent}
 
--- whether a literal is above the greatest lexeme; exponents have literals too
+-- whether a literal is above the greatest word; exponents have literals too
 abbrev mutual
   pub has_large : Syntax → Bool
   has_large (number digits) = nat_le (2 ^ 63) (number_of digits)

@@ -6,7 +6,7 @@ use Rattle.adj_text.specs.Char.{number_of}
 use Rattle.adj_text.specs.Grammar.{in_words, is_absolute, operation_of, two_arguments}
 use Rattle.adj_text.specs.Machine.{Algebra}
 use Rattle.adj_expression.specs.declared.constant.Constant.{Constant}
-use Rattle.adj_expression.specs.declared.constant.Constant.TheVariants.{Other, Beyond, Lexeme}
+use Rattle.adj_expression.specs.declared.constant.Constant.TheVariants.{Other, Beyond, Word}
 use Rattle.adj_expression.specs.declared.flaw.Flaw.{Flaw}
 use Rattle.adj_expression.specs.declared.flaw.Flaw.TheVariants.{Large}
 use Rattle.adj_expression.specs.declared.operand.Operand.{Operand}
@@ -24,10 +24,10 @@ pub record Partial : Type 0 where
 abbrev pub bounded : ℕ → Result Term Flaw → ℕ → Constant → Partial
 bounded limit found depth constant = record { found = kept (nat_lt limit depth) found; depth = min depth (limit + 1); constant = constant }
 
--- a literal, where it is a lexeme
+-- a literal, where it is a word
 abbrev pub literal : ℕ → Option ℤ → Partial
 literal limit None = bounded limit (Err Large) 1 Beyond
-literal limit (Some z) = bounded limit (Ok (lit z)) 1 (Lexeme z)
+literal limit (Some z) = bounded limit (Ok (lit z)) 1 (Word z)
 
 abbrev pub scalar : ℕ → List ℕ → Partial
 scalar limit x = bounded limit (Ok (var (plain x))) 1 Other

@@ -1,4 +1,4 @@
-//! Values of literal expressions, which are lexemes.
+//! Values of literal expressions, which are words.
 
 ghost use Rattle.std.specs.Prelude.{◌≡◌, ◌^◌, min, pos};
 ghost use Rattle.adj_tree.specs.View.{op_of};
@@ -13,10 +13,10 @@ use adj_tree::Op;
 pub(crate) enum Constant {
     /// Not literal: something else stands in it than literals, signs, sums, differences, products and powers.
     Other,
-    /// Literal, and it or a part of it isn't a lexeme.
+    /// Literal, and it or a part of it isn't a word.
     Beyond,
     /// Literal, with this value.
-    Lexeme(i64),
+    Word(i64),
 }
 
 // The number that digits write, or 2^63 where it is above that.
@@ -31,14 +31,14 @@ fn capped(digits: &[u8]) -> u64
     number
 }
 
-/// The number that digits write, where it is a lexeme.
+/// The number that digits write, where it is a word.
 pub(crate) fn literal(digits: &[u8]) -> Option<i64>
     ensures { result ≡ in_words (pos (number_of digits.now)) }
 {
     i64::try_from(capped(digits)).ok()
 }
 
-// The sum, difference or product of two lexemes.
+// The sum, difference or product of two words.
 fn joined(op: Op, left: i64, right: i64) -> Option<i64>
     ensures { result ≡ constant_of (op_of op) left right }
 {
@@ -54,11 +54,11 @@ fn joined(op: Op, left: i64, right: i64) -> Option<i64>
 fn natural_power(base: i64, exponent: u64) -> Option<i64>
     ensures { result ≡ in_words (to_power base exponent) }
 {
-    // from 64 on the powers of -1, 0 and 1 alone are lexemes, and they turn on whether the exponent is even
+    // from 64 on the powers of -1, 0 and 1 alone are words, and they turn on whether the exponent is even
     base.checked_pow(exponent.min(64 + exponent % 2) as u32)
 }
 
-// A lexeme to the power of another.
+// A word to the power of another.
 fn power(base: i64, exponent: i64) -> Option<i64>
     ensures { result ≡ constant_power base exponent }
 {
@@ -73,7 +73,7 @@ impl Constant {
         ensures { result ≡ valued value }
     {
         match value {
-            Some(lexeme) => Constant::Lexeme(lexeme),
+            Some(word) => Constant::Word(word),
             None => Constant::Beyond,
         }
     }
@@ -83,7 +83,7 @@ impl Constant {
         ensures { result ≡ negated_constant self }
     {
         match self {
-            Constant::Lexeme(lexeme) => Constant::valued(lexeme.checked_neg()),
+            Constant::Word(word) => Constant::valued(word.checked_neg()),
             other => other,
         }
     }
@@ -94,7 +94,7 @@ impl Constant {
     {
         match op {
             Op::Add | Op::Sub | Op::Mul => match (self, right) {
-                (Constant::Lexeme(a), Constant::Lexeme(b)) => Constant::valued(joined(op, a, b)),
+                (Constant::Word(a), Constant::Word(b)) => Constant::valued(joined(op, a, b)),
                 (Constant::Other, _) | (_, Constant::Other) => Constant::Other,
                 _ => Constant::Beyond,
             },
@@ -107,7 +107,7 @@ impl Constant {
         ensures { result ≡ powered_constant self exponent }
     {
         match (self, exponent) {
-            (Constant::Lexeme(a), Constant::Lexeme(k)) => Constant::valued(power(a, k)),
+            (Constant::Word(a), Constant::Word(k)) => Constant::valued(power(a, k)),
             (Constant::Other, _) | (_, Constant::Other) => Constant::Other,
             _ => Constant::Beyond,
         }
@@ -125,7 +125,7 @@ impl Constant {
         ensures { result ≡ exponent_of self }
     {
         match self {
-            Constant::Lexeme(k) if 0 <= k && k <= 63 => Some(k as u32),
+            Constant::Word(k) if 0 <= k && k <= 63 => Some(k as u32),
             _ => None,
         }
     }

@@ -10,7 +10,7 @@ pub enum Flaw {
     Large,
     /// It is deeper than the limit.
     Deep,
-    /// A literal exponent isn't from 0 to 63, or it or a part of it isn't a lexeme.
+    /// A literal exponent isn't from 0 to 63, or it or a part of it isn't a word.
     Exponent,
 }
 

@@ -94,7 +94,7 @@ impl Operand {
     {
         match constant::literal(digits) {
             None => Ok(Operand::flawed(Flaw::Large, 1, Constant::Beyond, limit)),
-            Some(n) => Operand::bounded(alloc, Expr::Lit(n), 1, Constant::Lexeme(n), limit),
+            Some(n) => Operand::bounded(alloc, Expr::Lit(n), 1, Constant::Word(n), limit),
         }
     }
 

@@ -1,4 +1,4 @@
--- The literals and extents of units are lexemes where those of their statements are.
+-- The literals and extents of units are words where those of their statements are.
 use Rattle.std.proofs.Common.{ℕ, Bool, List, [], ◌∷◌, ◌++◌, map, sym, subst}
 use Rattle.std.specs.List.{All}
 use Rattle.adj_tree.specs.Code.{Act, Code, Declaration, Procedure}

@@ -50,7 +50,7 @@ is_marked mark = true
 abbrev pub has_stray_mark : Stated → Bool
 has_stray_mark t = is_marked (mark_of t.mark) && not (is_do t.kind)
 
--- whether a statement has a literal above the greatest lexeme, or too deep an expression
+-- whether a statement has a literal above the greatest word, or too deep an expression
 abbrev pub is_large : {A : Type 0} → Option (Result A Flaw) → Bool
 is_large (Some (Err Large)) = true
 is_large found = false

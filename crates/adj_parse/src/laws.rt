@@ -10,8 +10,8 @@ ghost use Rattle.adj_text.specs.declared.mode.Mode.{Mode};
 ghost use Rattle.adj_text.specs.declared.stated.Stated.{Stated};
 ghost use Rattle.adj_parse.specs.Trees.{trees_of, IsBeyond};
 
-/// Where statements have units without a fault, their lexemes derive these units, whose literals and extents are lexemes; and what they derive is
-/// their answer, but for a literal above the greatest lexeme or a limit.
+/// Where statements have units without a fault, their lexemes derive these units, whose literals and extents are words; and what they derive is
+/// their answer, but for a literal above the greatest word or a limit.
 pub fn trees_are_derived()
     ensures sound { (mode : Mode) (stated : List Stated) (units : List Procedure) → trees_of mode stated ≡ Ok units → (statements : List Statement) × ReadsAll stated statements × ReadsUnits statements units }
     ensures complete { (mode : Mode) (stated : List Stated) (statements : List Statement) (units : List Procedure) → ReadsAll stated statements → ReadsUnits statements units → (trees_of mode stated ≡ Ok units) ⊎ IsBeyond (trees_of mode stated) }

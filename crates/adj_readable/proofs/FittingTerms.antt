@@ -1,4 +1,4 @@
--- Expressions whose trees have no literal above the greatest lexeme have none themselves.
+-- Expressions whose trees have no literal above the greatest word have none themselves.
 use Rattle.std.proofs.Common.{◌≡◌, ℕ, ◌^◌, ℤ, pos, negsuc, neg_ℤ, Bool, true, false, List, [], ◌∷◌, Option, Some, None, refl, sym, ap, ◌∙◌, inl, inr}
 use Rattle.std.specs.Prelude.{◌&&◌, nat_le, not, if◌then◌else◌}
 use Rattle.std.proofs.lemmas.Bool.{cases_lt, le-ltb, lt-leb, and_parts, or_from}
@@ -13,7 +13,7 @@ use Rattle.adj_readable.specs.Kept.{actuals_of}
 use Rattle.adj_readable.specs.Rule.{Rule}
 use Rattle.adj_readable.proofs.Truths.{and_true, not_not}
 
--- whether each literal is a lexeme
+-- whether each literal is a word
 abbrev pub fits_literal : ℤ → Bool
 fits_literal (pos k) = not (nat_le (2 ^ 63) k)
 fits_literal (negsuc k) = false
@@ -56,8 +56,8 @@ fitting = record { heading = λ x dummies. true; declared = λ x extents. list_a
 
 -- ---- literal exponents
 
-lexeme_small : (k : ℕ) (z : ℤ) → in_words (pos k) ≡ Some z → nat_le (2 ^ 63) k ≡ false
-lexeme_small k z h =
+word_small : (k : ℕ) (z : ℤ) → in_words (pos k) ≡ Some z → nat_le (2 ^ 63) k ≡ false
+word_small k z h =
     elim (cases_lt k (2 ^ 63)) [
       | inl lt ↦ lt-leb (2 ^ 63) k lt
       | inr le ↦ let none : in_words (pos k) ≡ None = rw (le-ltb k (2 ^ 63) le) refl in absurd cc
@@ -69,7 +69,7 @@ both_parts f (Some a) None r e = absurd cc
 both_parts f (Some a) (Some b) r e = ((a, refl), (b, refl))
 
 constant_small : (s : Syntax) (z : ℤ) → constant s ≡ Some z → has_large s ≡ false
-constant_small (number ds) z h = lexeme_small (number_of ds) z h
+constant_small (number ds) z h = word_small (number_of ds) z h
 constant_small (variable x) z h = absurd cc
 constant_small (negated s) z h = let r = then_some (λ y. in_words (neg_ℤ y)) (constant s) z h in constant_small s r.0 r.1
 constant_small (joined op a b) z h = let r = both_parts (constant_of op) (constant a) (constant b) z h in or_from (has_large a) (has_large b) (constant_small a r.0.0 r.0.1) (constant_small b r.1.0 r.1.1)

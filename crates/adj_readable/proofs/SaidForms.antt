@@ -34,7 +34,7 @@ judged_ok false false None f h = absurd cc
 judged_ok false false (Some g) f h = (refl, cc)
 
 module _ (laws : Laws) (d : ℕ) (some : 1 ≤ d) where
-  -- a form that is no deeper, and whose literals and extents are lexemes, is found
+  -- a form that is no deeper, and whose literals and extents are words, is found
   pub said_right : (mark : Mark) (kind : Kind) (lexemes : List Lexeme) (f : Form) → ReadsForm mark kind lexemes f → form_keeps (shallow d) f ≡ true → form_keeps fitting f ≡ true → said d mark kind lexemes ≡ Some (Ok f)
   unfolding said
   said_right mark kind lexemes f r h g =

@@ -1,4 +1,4 @@
--- The literals and extents of a program that can be written are lexemes.
+-- The literals and extents of a program that can be written are words.
 use Rattle.std.proofs.Common.{◌≡◌, ℕ, ◌^◌, ℤ, pos, negsuc, Bool, true, List, [], ◌∷◌, refl, ap}
 use Rattle.std.specs.Prelude.{◌&&◌, not}
 use Rattle.std.specs.List.{All, list_all}

@@ -45,7 +45,7 @@ pub data TreeFault (mode : Mode) (before : List Stated) (t : Stated) (after : Li
   cut_off : after ≡ [] → is_end t.kind ≡ false → TreeFault mode before t after (code_at 4 t.line)
   -- the statements before have a continuation that reads, and those up to this one have none, its label aside; other than by closing a block round a DO with a label
   misplaced : (statements : List Statement) → ReadsAll (reverse before) statements → Continues statements → (CanFollow t.kind statements → ⊥) → leaves_loop t.kind (opened [] statements) ≡ false → TreeFault mode before t after (code_at 4 t.line)
-  -- a number is above the greatest lexeme
+  -- a number is above the greatest word
   large : (p : Phrase) → Says t.kind (lexemes t) p → phrase_large p ≡ true → TreeFault mode before t after (code_at 5 t.line)
   -- it closes a block round a DO with a label, which is the innermost open one
   leaves : (statements : List Statement) → ReadsAll (reverse before) statements → leaves_loop t.kind (opened [] statements) ≡ true → TreeFault mode before t after (code_at 10 t.line)

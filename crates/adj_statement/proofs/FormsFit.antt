@@ -1,4 +1,4 @@
--- What a statement says fits where none of its literals is above the greatest lexeme.
+-- What a statement says fits where none of its literals is above the greatest word.
 use Rattle.std.proofs.Common.{◌≡◌, ℕ, ◌<◌, ◌^◌, pos, Bool, true, false, List, [], ◌∷◌, map, Option, Some, None, option_map, Ok, refl, subst, arith}
 use Rattle.std.proofs.lemmas.Bool.{leb-false, or_parts}
 use Rattle.std.specs.Prelude.{◌||◌}
@@ -23,12 +23,12 @@ use Rattle.adj_expression.specs.Judged.{judged_by}
 use Rattle.adj_statement.specs.Phrases.{phrase_of}
 use Rattle.adj_statement.proofs.PhraseSound.{phrase_said}
 
--- the extents of items are lexemes
+-- the extents of items are words
 abbrev pub FitsItems : List Item → Type 0
 FitsItems [] = Unit {0}
 FitsItems (i ∷ is) = All FitsExtent i.extents × FitsItems is
 
--- the literals and extents of a form are lexemes
+-- the literals and extents of a form are words
 abbrev pub FitsForm : Form → Type 0
 FitsForm (integers is) = FitsItems is
 FitsForm (simple a) = FitsAct a
@@ -121,7 +121,7 @@ judged_ok false true o f h = absurd cc
 judged_ok false false None f h = absurd cc
 judged_ok false false (Some g) f h = (refl, cc)
 
--- what is said has only literals and extents that are lexemes
+-- what is said has only literals and extents that are words
 pub said_fits : (limit : ℕ) (mark : Mark) (kind : Kind) (lexemes : List Lexeme) (f : Form) → said limit mark kind lexemes ≡ Some (Ok f) → FitsForm f
 unfolding said
 said_fits limit mark kind lexemes f h =

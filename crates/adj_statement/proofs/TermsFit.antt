@@ -1,4 +1,4 @@
--- Trees whose expressions have no literal above the greatest lexeme fit.
+-- Trees whose expressions have no literal above the greatest word fit.
 use Rattle.std.proofs.Common.{◌≡◌, ℕ, ◌<◌, ◌^◌, pos, Bool, true, false, List, Option, Some, None, subst}
 use Rattle.std.proofs.lemmas.Bool.{leb-false, or_parts}
 use Rattle.std.specs.Prelude.{codes, if◌then◌else◌}

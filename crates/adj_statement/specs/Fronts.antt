@@ -20,7 +20,7 @@ use Rattle.adj_statement.specs.Said.{size_large, item_large, extent, item, any_d
 unfoldable pub front_list : {A : Type 0} → (List Lexeme → Read (Result A Flaw)) → List Lexeme → Read (Result (List A) Flaw)
 front_list front ws = front ws >>= λ m. members_behind with_part front (with_part (Ok []) m.0) m.1
 
--- an extent, the extents of an item, an item, and items, where their literals are lexemes
+-- an extent, the extents of an item, an item, and items, where their literals are words
 abbrev pub judged_size : Size → Result Extent Flaw
 judged_size s = judged_by (size_large s) false (Some (extent s))
 

@@ -14,7 +14,7 @@ use Rattle.adj_expression.specs.declared.flaw.Flaw.{Flaw}
 use Rattle.adj_statement.specs.Phrase.{Deed, assigns, calls, Size, numbered, named, Declared, Bounds, Phrase, plainly, declares, does, guards, repeats, goes_while, opens, turns}
 use Rattle.adj_statement.specs.Phrases.{phrase_of}
 
--- whether a literal of the expressions of a list, of a deed, of an item, of bounds or of a phrase is above the greatest lexeme
+-- whether a literal of the expressions of a list, of a deed, of an item, of bounds or of a phrase is above the greatest word
 abbrev pub list_large : Option Arguments → Bool
 list_large None = false
 list_large (Some all) = any_large all

@@ -1,4 +1,4 @@
--- Fits: each literal and each extent of a program is a lexeme.
+-- Fits: each literal and each extent of a program is a word.
 use Rattle.std.specs.Prelude.{List}
 use Rattle.std.specs.List.{All}
 use Rattle.adj_tree.specs.Code.{Term, Terms, lit, var, elem, neg, bin, pow, power_of, abs, none, more, Test, compare, negation, conjunction, disjunction, Runtime, push_word, pop_word, push_control, begin_reversal, count_actions, give_action, Act, Code, assign, choose, loop, during, call, runtime, stop, step, Extent, fixed, given, Declaration, Procedure}

@@ -127,7 +127,7 @@ abbrev pub with_both : {A B C : Type 0} → (A → B → Option C) → Option A 
 with_both f (Some a) (Some b) = f a b
 with_both f _ _ = None
 
--- the value of such an expression, where it and all its parts are lexemes
+-- the value of such an expression, where it and all its parts are words
 abbrev pub constant : Syntax → Option ℤ
 constant (number digits) = in_words (pos (number_of digits))
 constant (variable x) = None

@@ -26,7 +26,7 @@ IsIndexed (plain x) = IsName x × (is_intrinsic x ≡ false)
 IsIndexed (shadow x) = ⊥
 IsIndexed (helper r k) = ⊥
 
--- literals and extents are lexemes that aren't negative
+-- literals and extents are words that aren't negative
 abbrev pub IsLiteral : ℤ → Type 0
 IsLiteral (pos n) = n < 2 ^ 63
 IsLiteral (negsuc n) = ⊥

@@ -30,7 +30,7 @@ pub fn expressions_are_read()
     ensures one { (lexemes rest others : List Lexeme) (s t : Syntax) → Derives Sum lexemes rest s → Derives Sum lexemes others t → Stops rest → Stops others → (s ≡ t) × (rest ≡ others) }
 {}
 
-/// What a text reads as is written, where its literals and extents are lexemes; so its canonical text reads as the same program, up to line numbers.
+/// What a text reads as is written, where its literals and extents are words; so its canonical text reads as the same program, up to line numbers.
 pub fn readings_are_written()
     ensures written { (bytes : List ℕ) (program : List Procedure) → Reads bytes program → Fits program → IsWritten program }
     ensures rewritten { (bytes : List ℕ) (program : List Procedure) → Reads bytes program → Fits program → ReadsAs (text_of program) program }
