@@ -14,7 +14,7 @@ ghost use Rattle.adj_symbols.specs.Outline.{declared_rank, AreTables};
 ghost use Rattle.adj_symbols.specs.Table.{once};
 
 use adj_sets::BorrowedNames;
-use adj_tree::{Decl, Memory, Name, Stmt, Unit};
+use adj_tree::{Decl, Memory, Name, Stmt, Unit, boxed};
 use adj_writes::statements::statements;
 use adj_writes::table::Numbers;
 use std::alloc::Global;
@@ -26,7 +26,7 @@ use std::marker::Model;
 pub(crate) struct Outline<'a> {
     unit: &'a Unit,
     stmts: Vec<&'a Stmt>,
-    ranks: Numbers<'a>,
+    ranks: Box<Numbers<'a>>,
     dummies: BorrowedNames<'a>,
 }
 
@@ -37,14 +37,14 @@ impl<'a> Model for Outline<'a> {
 
     ghost view = { λ o. o.unit.now };
 
-    ghost invariant = { λ o. AreTables (procedure_of o.unit.now) o.stmts.items o.ranks o.dummies };
+    ghost invariant = { λ o. AreTables (procedure_of o.unit.now) o.stmts.items o.ranks.value o.dummies };
 }
 
 // The number of extents that each declared name has at first.
-fn declared_ranks<'a>(alloc: Global, decls: &'a [Decl]) -> Result<Numbers<'a>, Memory>
-    ensures { IfOk result (λ r. (x : Name) → value_of x r ≡ declared_rank (map declaration_of decls.now) x) }
+fn declared_ranks<'a>(alloc: Global, decls: &'a [Decl]) -> Result<Box<Numbers<'a>>, Memory>
+    ensures { IfOk result (λ r. (x : Name) → value_of x r.value ≡ declared_rank (map declaration_of decls.now) x) }
 {
-    let mut ranks = Numbers::new(alloc);
+    let mut ranks = boxed(alloc, Numbers::new(alloc))?;
     for decl in decls {
         ranks.add(&decl.name, decl.extents.as_slice().len())?;
     }

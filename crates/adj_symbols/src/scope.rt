@@ -12,7 +12,7 @@ ghost use Rattle.adj_writes.specs.Graph.{number_from};
 ghost use Rattle.adj_symbols.specs.Scope.{AreNumbers};
 
 use crate::outline::Outline;
-use adj_tree::{Memory, Name, Unit};
+use adj_tree::{Memory, Name, Unit, boxed};
 use adj_writes::table::Numbers;
 use std::alloc::Global;
 use std::marker::Model;
@@ -21,7 +21,7 @@ use std::marker::Model;
 #[derive(Drop)]
 pub(crate) struct Scope<'a> {
     outlines: Vec<Outline<'a>>,
-    numbers: Numbers<'a>,
+    numbers: Box<Numbers<'a>>,
 }
 
 impl<'a> Model for Scope<'a> {
@@ -31,7 +31,7 @@ impl<'a> Model for Scope<'a> {
 
     ghost view = { λ s. s.outlines.items };
 
-    ghost invariant = { λ s. AreNumbers (map procedure_of s.outlines.items) s.numbers };
+    ghost invariant = { λ s. AreNumbers (map procedure_of s.outlines.items) s.numbers.value };
 }
 
 // The units with their tables.
@@ -46,10 +46,10 @@ fn outlines_of<'a>(alloc: Global, units: &'a [Unit]) -> Result<Vec<Outline<'a>>,
 }
 
 // The number of the first unit of each name.
-fn numbers_of<'a>(alloc: Global, units: &'a [Unit]) -> Result<Numbers<'a>, Memory>
-    ensures { IfOk result (λ r. AreNumbers (map procedure_of units.now) r) }
+fn numbers_of<'a>(alloc: Global, units: &'a [Unit]) -> Result<Box<Numbers<'a>>, Memory>
+    ensures { IfOk result (λ r. AreNumbers (map procedure_of units.now) r.value) }
 {
-    let mut numbers = Numbers::new(alloc);
+    let mut numbers = boxed(alloc, Numbers::new(alloc))?;
     for (number, unit) in units.iter().enumerate() {
         numbers.add(&unit.name, number)?;
     }

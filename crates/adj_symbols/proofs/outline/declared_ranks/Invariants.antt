@@ -8,4 +8,4 @@ use Rattle.adj_symbols.specs.Outline.{declared_rank}
 use Rattle.adj_symbols.proofs.outline.declared_ranks.Given as goal
 
 abbrev pub invariant-loop-decl : goal.invariant-loop-decl
-invariant-loop-decl l = (x : Name) → option_or (value_of x l.ranks) (declared_rank (map declaration_of (drop l.decl-index l.decls)) x) ≡ declared_rank (map declaration_of l.decls) x
+invariant-loop-decl l = (x : Name) → option_or (value_of x l.ranks.value) (declared_rank (map declaration_of (drop l.decl-index l.decls)) x) ≡ declared_rank (map declaration_of l.decls) x

@@ -8,4 +8,4 @@ use Rattle.adj_writes.specs.Graph.{number_from}
 use Rattle.adj_symbols.proofs.scope.numbers_of.Given as goal
 
 abbrev pub invariant-loop-number : goal.invariant-loop-number
-invariant-loop-number l = (x : Name) → option_or (value_of x l.numbers) (number_from l.number (map procedure_of (drop l.number l.units)) x) ≡ number_from 0 (map procedure_of l.units) x
+invariant-loop-number l = (x : Name) → option_or (value_of x l.numbers.value) (number_from l.number (map procedure_of (drop l.number l.units)) x) ≡ number_from 0 (map procedure_of l.units) x
