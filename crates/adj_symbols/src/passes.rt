@@ -106,7 +106,34 @@ struct Facts {
     reads: Vec<Flags>,
 }
 
-// All passes over the units. A later one is looked at only where the earlier ones have no fault.
+// All passes over the units, whose tables are known. A later one is looked at only where the earlier ones have no fault.
+fn check_known(
+    alloc: Global,
+    rules: Rules,
+    units: &[Unit],
+    scope: &Scope<'_>,
+) -> Result<Facts, Fault>
+    requires units { units.now ≡ scope.now }
+    ensures sound { IfOk result (λ _. IsSound (rules_of rules) (map procedure_of units.now)) }
+    ensures variables { IfOk result (λ f. f.variables.items ≡ map variables (map procedure_of units.now)) }
+    ensures writes { IfOk result (λ f. f.writes.items ≡ least_rows write_rule (map procedure_of units.now)) }
+    ensures reads { IfOk result (λ f. f.reads.items ≡ least_rows read_rule (map procedure_of units.now)) }
+    ensures refused { IfErr result (λ f. IfRefused f (λ e. first_fault (rules_of rules) (map procedure_of units.now) ≡ Some e)) }
+{
+    check_units(alloc, units)?;
+    let variables = check_names(alloc, rules, scope)?;
+    check_calls(scope)?;
+    check_chains(alloc, rules, scope)?;
+    let written = check_writes(alloc, scope, units)?;
+    let reads = read_dummies(alloc, units)?;
+    Ok(Facts {
+        variables,
+        writes: written.into_rows(),
+        reads,
+    })
+}
+
+// The same for units whose tables are made here.
 fn check_all(alloc: Global, rules: Rules, units: &[Unit]) -> Result<Facts, Fault>
     ensures sound { IfOk result (λ _. IsSound (rules_of rules) (map procedure_of units.now)) }
     ensures variables { IfOk result (λ f. f.variables.items ≡ map variables (map procedure_of units.now)) }
@@ -115,17 +142,8 @@ fn check_all(alloc: Global, rules: Rules, units: &[Unit]) -> Result<Facts, Fault
     ensures refused { IfErr result (λ f. IfRefused f (λ e. first_fault (rules_of rules) (map procedure_of units.now) ≡ Some e)) }
 {
     let scope = Scope::new(alloc, units)?;
-    check_units(alloc, units)?;
-    let variables = check_names(alloc, rules, &scope)?;
-    check_calls(&scope)?;
-    check_chains(alloc, rules, &scope)?;
-    let written = check_writes(alloc, &scope, units)?;
-    let reads = read_dummies(alloc, units)?;
-    Ok(Facts {
-        variables,
-        writes: written.into_rows(),
-        reads,
-    })
+    let facts = check_known(alloc, rules, units, &scope)?;
+    Ok(facts)
 }
 
 /// The program with its variables and with the dummies that its units write and read, or the first fault of its units (codes 18 and 19),
