@@ -133,14 +133,22 @@ fn add_too_many(limit: Option<usize>, variables: &[Placed<'_>], first: &mut Firs
     }
 }
 
+// The variables of a unit whose tables are known.
+fn variables_in(alloc: Global, outline: &Outline<'_>) -> Result<NameList, Memory>
+    ensures { IfOk result (λ v. v ≡ variables (procedure_of outline.now)) }
+{
+    let found = unit_places(alloc, outline)?;
+    let chosen = first_places(alloc, found.as_slice())?;
+    let names = names_of(alloc, chosen.as_slice())?;
+    Ok(names)
+}
+
 /// The variables of a unit: dummies, then declared locals, then implicit locals by first appearance.
 pub fn variables(alloc: Global, unit: &Unit) -> Result<NameList, Memory>
     ensures variables { IfOk result (λ v. v ≡ variables (procedure_of unit.now)) }
 {
     let outline = Outline::new(alloc, unit)?;
-    let found = unit_places(alloc, &outline)?;
-    let chosen = first_places(alloc, found.as_slice())?;
-    let names = names_of(alloc, chosen.as_slice())?;
+    let names = variables_in(alloc, &outline)?;
     Ok(names)
 }
 
