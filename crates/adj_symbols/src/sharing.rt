@@ -104,6 +104,30 @@ fn clashes<'a>(
     Ok(is_met)
 }
 
+// Whether some actual clashes with one of those that are known, or with one before it.
+fn some_clash<'a>(
+    known: &mut Actuals<'a>,
+    caller: &Outline<'_>,
+    row: &[bool],
+    actuals: &'a Exprs,
+) -> Result<bool, Memory>
+    ensures { IfOk result (λ b. b ≡ some_meets (procedure_of caller.now) (tests_of known.old) row.now (terms_of actuals.now)) }
+{
+    let mut rest = actuals;
+    for is_written in row {
+        match rest {
+            Exprs::Empty => return Ok(false),
+            Exprs::More(first, next) => {
+                if clashes(known, caller, *is_written, first)? {
+                    return Ok(true);
+                }
+                rest = next;
+            }
+        }
+    }
+    Ok(false)
+}
+
 // Whether some two actuals clash: they name one variable, and one of the dummies is written or both are whole arrays.
 fn have_clash<'a>(
     alloc: Global,
@@ -114,19 +138,8 @@ fn have_clash<'a>(
     ensures { IfOk result (λ b. b ≡ have_clash (procedure_of caller.now) row.now (terms_of actuals.now)) }
 {
     let mut known = Actuals::new(alloc)?;
-    let mut rest = actuals;
-    for is_written in row {
-        match rest {
-            Exprs::Empty => return Ok(false),
-            Exprs::More(first, next) => {
-                if clashes(&mut known, caller, *is_written, first)? {
-                    return Ok(true);
-                }
-                rest = next;
-            }
-        }
-    }
-    Ok(false)
+    let found = some_clash(&mut known, caller, row, actuals)?;
+    Ok(found)
 }
 
 // Whether a statement is a CALL with such actuals.
