@@ -97,14 +97,35 @@ impl<'a> Uses<'a> {
         Ok(())
     }
 
+    // Two expressions.
+    fn add_both(&mut self, line: u32, a: &'a Expr, b: &'a Expr) -> Result<(), Memory>
+        ensures added { OnOk result (self.new ≡ self.old ++ at_line line (in_term (term_of a.now) ++ in_term (term_of b.now))) }
+    {
+        self.add_term(line, a)?;
+        self.add_term(line, b)
+    }
+
+    // Three names that stand alike.
+    fn add_alike(
+        &mut self,
+        line: u32,
+        stands: Stands<'a>,
+        a: &'a Name,
+        b: &'a Name,
+        c: &'a Name,
+    ) -> Result<(), Memory>
+        ensures added { OnOk result (self.new ≡ self.old ++ at_line line (standing (stands_of stands.entry) (plain a.now) ++ (standing (stands_of stands.entry) (plain b.now) ++ standing (stands_of stands.entry) (plain c.now)))) }
+    {
+        self.add(line, a, stands)?;
+        self.add(line, b, stands)?;
+        self.add(line, c, stands)
+    }
+
     fn add_test(&mut self, line: u32, test: &'a Cond) -> Result<(), Memory>
         ensures added { OnOk result (self.new ≡ self.old ++ at_line line (in_test (test_of test.now))) }
     {
         match test {
-            Cond::Cmp(_, a, b) => {
-                self.add_term(line, a)?;
-                self.add_term(line, b)
-            }
+            Cond::Cmp(_, a, b) => self.add_both(line, a, b),
             Cond::Not(c) => self.add_test(line, c),
             Cond::And(c, d) | Cond::Or(c, d) => {
                 self.add_test(line, c)?;
@@ -121,6 +142,13 @@ impl<'a> Uses<'a> {
             Expr::Var(name) => self.add(line, name, Stands::Whole),
             _ => self.add_term(line, term),
         }
+    }
+
+    fn add_both_actuals(&mut self, line: u32, a: &'a Expr, b: &'a Expr) -> Result<(), Memory>
+        ensures added { OnOk result (self.new ≡ self.old ++ at_line line (in_actual (term_of a.now) ++ in_actual (term_of b.now))) }
+    {
+        self.add_actual(line, a)?;
+        self.add_actual(line, b)
     }
 
     fn add_actuals(&mut self, line: u32, terms: &'a Exprs) -> Result<(), Memory>
@@ -171,22 +199,14 @@ impl<'a> Uses<'a> {
             }
             RunCall::PushControl(e) => self.add_term(line, e),
             RunCall::PopControl(name) => self.add(line, name, Stands::Scalar),
-            RunCall::Begin(l, s) => {
-                self.add_term(line, l)?;
-                self.add_term(line, s)
-            }
+            RunCall::Begin(l, s) => self.add_both(line, l, s),
             RunCall::Actions(l, s, n) => {
-                self.add_term(line, l)?;
-                self.add_term(line, s)?;
+                self.add_both(line, l, s)?;
                 self.add(line, n, Stands::Scalar)
             }
             RunCall::Action(l, s, k, a, f, t) => {
-                self.add_term(line, l)?;
-                self.add_term(line, s)?;
-                self.add_term(line, k)?;
-                self.add(line, a, Stands::Scalar)?;
-                self.add(line, f, Stands::Scalar)?;
-                self.add(line, t, Stands::Scalar)
+                self.add_bounds(line, l, s, k)?;
+                self.add_alike(line, Stands::Scalar, a, f, t)
             }
             RunCall::End => Ok(()),
         }
@@ -205,28 +225,21 @@ impl<'a> Uses<'a> {
             | RunCall::Zero(name)
             | RunCall::PopControl(name) => self.add(line, name, Stands::Whole),
             RunCall::PushControl(e) => self.add_actual(line, e),
-            RunCall::Begin(l, s) => {
-                self.add_actual(line, l)?;
-                self.add_actual(line, s)
-            }
+            RunCall::Begin(l, s) => self.add_both_actuals(line, l, s),
             RunCall::Actions(l, s, n) => {
-                self.add_actual(line, l)?;
-                self.add_actual(line, s)?;
+                self.add_both_actuals(line, l, s)?;
                 self.add(line, n, Stands::Whole)
             }
             RunCall::Action(l, s, k, a, f, t) => {
-                self.add_actual(line, l)?;
-                self.add_actual(line, s)?;
+                self.add_both_actuals(line, l, s)?;
                 self.add_actual(line, k)?;
-                self.add(line, a, Stands::Whole)?;
-                self.add(line, f, Stands::Whole)?;
-                self.add(line, t, Stands::Whole)
+                self.add_alike(line, Stands::Whole, a, f, t)
             }
             RunCall::End => Ok(()),
         }
     }
 
-    // The bounds of a DO, behind its mark and its variable.
+    // Three expressions: the bounds of a DO, behind its mark and its variable, or the first of a runtime call's arguments.
     fn add_bounds(
         &mut self,
         line: u32,
@@ -237,8 +250,7 @@ impl<'a> Uses<'a> {
         ensures added { OnOk result (self.new ≡ self.old ++ at_line line (in_term (term_of first.now) ++ (in_term (term_of last.now) ++ in_term (term_of by.now)))) }
     {
         self.add_term(line, first)?;
-        self.add_term(line, last)?;
-        self.add_term(line, by)
+        self.add_both(line, last, by)
     }
 
     /// The names in a statement itself, without those in it.
