@@ -1,4 +1,10 @@
-use Rattle.std.proofs.Common.{◌∙◌}
+use Rattle.std.proofs.Common.{ap, sym, ◌∙◌}
+use Rattle.std.specs.Prelude.{fold}
+use Rattle.std.proofs.lemmas.List.{drop_all}
+use Rattle.adj_names.specs.Fault.{again, first_of, sooner}
+use Rattle.adj_names.proofs.Order.{sooner_none}
+use Rattle.adj_sets.specs.Sets.{with_name}
+use Rattle.adj_symbols.specs.View.{places_of, names_at}
 use Rattle.adj_symbols.proofs.Repeats.{again_more, once_more}
 use Rattle.adj_symbols.proofs.places.add_again.Goals as goal
 
@@ -15,3 +21,13 @@ loop-place-preserved c =
           ∙ c.loop-place.invariant.faults;
       passed = once_more names c.insert.new.self ps i p c.loop-place-test.true c.place-item.is made ∙ c.loop-place.invariant.passed;
     }
+
+pub returns-clause-first : goal.returns-clause-first
+returns-clause-first c =
+    let a = c.loop-place.first in
+    let past = drop_all c.loop-place.place-index c.args.places.now c.loop-place-test.false in
+    sym (sooner_none a) ∙ ap (λ z. sooner a (first_of (again c.args.code c.loop-place.names (places_of z)))) (sym past) ∙ c.loop-place.invariant.faults
+
+pub returns-clause-names : goal.returns-clause-names
+returns-clause-names c =
+    ap (λ z. fold with_name c.loop-place.names (names_at (places_of z))) (sym (drop_all c.loop-place.place-index c.args.places.now c.loop-place-test.false)) ∙ c.loop-place.invariant.passed

@@ -1,4 +1,5 @@
-use Rattle.std.proofs.Common.{ap, ap₂, ◌∙◌, ◌++◌, ◌+◌, ◌∷◌, [], drop, append_assoc, if◌then◌else◌}
+use Rattle.std.proofs.Common.{ap, ap₂, sym, ◌∙◌, ◌++◌, ◌+◌, ◌∷◌, [], drop, append_assoc, if◌then◌else◌}
+use Rattle.std.proofs.lemmas.List.{drop_all, append-nil}
 use Rattle.adj_names.specs.Fresh.{has_name}
 use Rattle.adj_names.specs.Variables.{first_places}
 use Rattle.adj_symbols.specs.View.{place_of, places_of}
@@ -22,4 +23,11 @@ loop-place-preserved c =
     ap (λ z. z ++ others_at c.add_new.new.names (first_places rest)) c.in_ok-add_new.ensures.found
     ∙ append_assoc (places_of c.loop-place.found.items) one (others_at c.add_new.new.names (first_places rest))
     ∙ ap (λ z. places_of c.loop-place.found.items ++ z) (place_more (place_of p) rest names c.add_new.new.names c.in_ok-add_new.ensures.names ∙ ap (λ z. others_at names (first_places (places_of z))) (left ps i p c.loop-place-test.true c.place-item.is))
+    ∙ c.loop-place.invariant
+
+pub returns : goal.returns
+returns c =
+    let made = places_of c.loop-place.found.items in
+    sym (append-nil made)
+    ∙ ap (λ z. made ++ others_at c.loop-place.names (first_places (places_of z))) (sym (drop_all c.loop-place.place-index c.args.places.now c.loop-place-test.false))
     ∙ c.loop-place.invariant
