@@ -13,7 +13,7 @@ use Rattle.adj_statement.specs.Flaws.{with_part}
 use Rattle.adj_statement.specs.Phrase.{Size, Declared}
 use Rattle.adj_statement.specs.Phrases.{Read, read_as, ◌>>=◌, name_at, behind_left, behind_right, behind_comma, members, members_behind, with_last, ended, size_at, second_size, read_sizes, item_behind, read_item, read_items}
 use Rattle.adj_statement.specs.Said.{size_large, item_large, extent, item}
-use Rattle.adj_statement.specs.Fronts.{front_list, judged_size, judged_sizes, judged_item, judged_items, front_size, front_sizes, front_item}
+use Rattle.adj_statement.specs.Fronts.{front_list, judged_size, judged_sizes, judged_item, judged_items, front_size, front_sizes, front_extents, front_item}
 use Rattle.adj_statement.proofs.Judging.{with_part-judged, seen-judged}
 use Rattle.adj_statement.proofs.Members.{members-seen}
 
@@ -58,24 +58,24 @@ front_sizes_on ws = first (size_at ws)
     first None = refl
     first (Some a) = behind a.0 a.1 (behind_comma a.1)
 
--- a declared name has no extents, or those in its parentheses
-pub front_item_on : (ws : List Lexeme) → front_item ws ≡ (name_at ws >>= λ x. chosen (behind_left x.1) (λ us. front_sizes us >>= λ s. option_map (λ rest. (seen (λ extents. record { name = x.0; extents = extents }) s.0, rest)) (behind_right s.1)) (Some (Ok (record { name = x.0; extents = [] }), x.1)))
-unfolding front_item front_sizes read_item
+-- a declared name has the extents behind it
+pub front_item_on : (ws : List Lexeme) → front_item ws ≡ (name_at ws >>= λ x. read_as (seen (λ extents. record { name = x.0; extents = extents })) (front_extents x.1))
+unfolding front_item front_extents front_sizes read_item
 front_item_on ws = first (name_at ws)
   where
-    closed : (x : List ℕ) (s : List Size) (o : Option (List Lexeme)) → read_as judged_item (o >>= λ us. Some (record { name = x; sizes = s }, us)) ≡ option_map (λ rest. (seen (λ extents. record { name = x; extents = extents }) (judged_sizes s), rest)) o
+    closed : (x : List ℕ) (s : List Size) (o : Option (List Lexeme)) → read_as judged_item (o >>= λ us. Some (record { name = x; sizes = s }, us)) ≡ read_as (seen (λ extents. record { name = x; extents = extents })) (option_map (λ rest. (judged_sizes s, rest)) o)
     closed x s None = refl
     closed x s (Some rest) = ap (λ (r : Result Item Flaw). Some (r, rest)) (sym (seen-judged (λ extents. record { name = x; extents = extents }) (list_any size_large s) false (Some (map extent s))))
 
-    inner : (x : List ℕ) (o : Read (List Size)) → read_as judged_item (o >>= λ s. behind_right s.1 >>= λ us. Some (record { name = x; sizes = s.0 }, us)) ≡ (read_as judged_sizes o >>= λ s. option_map (λ rest. (seen (λ extents. record { name = x; extents = extents }) s.0, rest)) (behind_right s.1))
+    inner : (x : List ℕ) (o : Read (List Size)) → read_as judged_item (o >>= λ s. behind_right s.1 >>= λ us. Some (record { name = x; sizes = s.0 }, us)) ≡ read_as (seen (λ extents. record { name = x; extents = extents })) (read_as judged_sizes o >>= λ s. option_map (λ rest. (s.0, rest)) (behind_right s.1))
     inner x None = refl
     inner x (Some s) = closed x s.0 (behind_right s.1)
 
-    behind : (x : List ℕ) (rest : List Lexeme) (o : Option (List Lexeme)) → read_as judged_item (item_behind x rest o) ≡ chosen o (λ us. read_as judged_sizes (read_sizes us) >>= λ s. option_map (λ rest. (seen (λ extents. record { name = x; extents = extents }) s.0, rest)) (behind_right s.1)) (Some (Ok (record { name = x; extents = [] }), rest))
+    behind : (x : List ℕ) (rest : List Lexeme) (o : Option (List Lexeme)) → read_as judged_item (item_behind x rest o) ≡ read_as (seen (λ extents. record { name = x; extents = extents })) (chosen o (λ us. read_as judged_sizes (read_sizes us) >>= λ s. option_map (λ rest. (s.0, rest)) (behind_right s.1)) (Some (Ok [], rest)))
     behind x rest None = refl
     behind x rest (Some us) = inner x (read_sizes us)
 
-    first : (o : Read (List ℕ)) → read_as judged_item (o >>= λ x. item_behind x.0 x.1 (behind_left x.1)) ≡ (o >>= λ x. chosen (behind_left x.1) (λ us. read_as judged_sizes (read_sizes us) >>= λ s. option_map (λ rest. (seen (λ extents. record { name = x.0; extents = extents }) s.0, rest)) (behind_right s.1)) (Some (Ok (record { name = x.0; extents = [] }), x.1)))
+    first : (o : Read (List ℕ)) → read_as judged_item (o >>= λ x. item_behind x.0 x.1 (behind_left x.1)) ≡ (o >>= λ x. read_as (seen (λ extents. record { name = x.0; extents = extents })) (chosen (behind_left x.1) (λ us. read_as judged_sizes (read_sizes us) >>= λ s. option_map (λ rest. (s.0, rest)) (behind_right s.1)) (Some (Ok [], x.1))))
     first None = refl
     first (Some x) = behind x.0 x.1 (behind_left x.1)
 

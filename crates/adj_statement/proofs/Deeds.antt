@@ -17,7 +17,7 @@ use Rattle.adj_statement.specs.Flaws.{with_part}
 use Rattle.adj_statement.specs.Phrase.{Entry, assigns, calls}
 use Rattle.adj_statement.specs.Phrases.{Read, read_as, ◌>>=◌, name_at, behind_left, behind_right, behind_comma, behind_equals, are_none, ended, members, members_behind, read_arguments, second_subscript, read_subscripts, place_behind, read_place, read_assignment, actuals_in, read_actuals, read_call}
 use Rattle.adj_statement.specs.Said.{any_deep, list_large, list_deep, list_trees}
-use Rattle.adj_statement.specs.Fronts.{front_list, terms, judged_terms, front_subscripts, judged_place, front_place, judged_actuals, front_actuals, judged_deed, front_assignment, front_call}
+use Rattle.adj_statement.specs.Fronts.{front_list, terms, judged_terms, front_subscripts, front_inner, judged_place, front_place, judged_actuals, front_actuals, judged_deed, front_assignment, front_call}
 use Rattle.adj_statement.proofs.Judging.{seen-judged, joined-judged, with_part-judged}
 use Rattle.adj_statement.proofs.Members.{members-seen}
 use Rattle.adj_statement.proofs.Runtime.{call_of-called}
@@ -94,23 +94,23 @@ listed_judged limit x all =
     go None = refl
     go (Some ts) = refl
 
-pub front_place_on : (limit : ℕ) (ws : List Lexeme) → front_place limit ws ≡ (name_at ws >>= λ x. chosen (behind_left x.1) (λ us. front_subscripts limit us >>= λ s. option_map (λ rest. (seen (λ ts. (x.0, terms_listed ts)) s.0, rest)) (behind_right s.1)) (Some (Ok (x.0, none), x.1)))
-unfolding front_place front_subscripts read_place
+pub front_place_on : (limit : ℕ) (ws : List Lexeme) → front_place limit ws ≡ (name_at ws >>= λ x. read_as (seen (λ ts. (x.0, terms_listed ts))) (front_inner limit x.1))
+unfolding front_place front_inner front_subscripts read_place
 front_place_on limit ws = first (name_at ws)
   where
-    closed : (x : List ℕ) (s : Arguments) (o : Option (List Lexeme)) → read_as (judged_place limit) (o >>= λ us. Some (record { name = x; list = Some s }, us)) ≡ option_map (λ rest. (seen (λ ts. (x, terms_listed ts)) (judged_terms limit s), rest)) o
+    closed : (x : List ℕ) (s : Arguments) (o : Option (List Lexeme)) → read_as (judged_place limit) (o >>= λ us. Some (record { name = x; list = Some s }, us)) ≡ read_as (seen (λ ts. (x, terms_listed ts))) (option_map (λ rest. (judged_terms limit s, rest)) o)
     closed x s None = refl
     closed x s (Some rest) = ap (λ (r : Result (List ℕ × Terms) Flaw). Some (r, rest)) (listed_judged limit x s)
 
-    inner : (x : List ℕ) (o : Read Arguments) → read_as (judged_place limit) (o >>= λ s. behind_right s.1 >>= λ us. Some (record { name = x; list = Some s.0 }, us)) ≡ (read_as (judged_terms limit) o >>= λ s. option_map (λ rest. (seen (λ ts. (x, terms_listed ts)) s.0, rest)) (behind_right s.1))
+    inner : (x : List ℕ) (o : Read Arguments) → read_as (judged_place limit) (o >>= λ s. behind_right s.1 >>= λ us. Some (record { name = x; list = Some s.0 }, us)) ≡ read_as (seen (λ ts. (x, terms_listed ts))) (read_as (judged_terms limit) o >>= λ s. option_map (λ rest. (s.0, rest)) (behind_right s.1))
     inner x None = refl
     inner x (Some s) = closed x s.0 (behind_right s.1)
 
-    behind : (x : List ℕ) (rest : List Lexeme) (o : Option (List Lexeme)) → read_as (judged_place limit) (place_behind x rest o) ≡ chosen o (λ us. read_as (judged_terms limit) (read_subscripts us) >>= λ s. option_map (λ rest. (seen (λ ts. (x, terms_listed ts)) s.0, rest)) (behind_right s.1)) (Some (Ok (x, none), rest))
+    behind : (x : List ℕ) (rest : List Lexeme) (o : Option (List Lexeme)) → read_as (judged_place limit) (place_behind x rest o) ≡ read_as (seen (λ ts. (x, terms_listed ts))) (chosen o (λ us. read_as (judged_terms limit) (read_subscripts us) >>= λ s. option_map (λ rest. (s.0, rest)) (behind_right s.1)) (Some (Ok [], rest)))
     behind x rest None = refl
     behind x rest (Some us) = inner x (read_subscripts us)
 
-    first : (o : Read (List ℕ)) → read_as (judged_place limit) (o >>= λ x. place_behind x.0 x.1 (behind_left x.1)) ≡ (o >>= λ x. chosen (behind_left x.1) (λ us. read_as (judged_terms limit) (read_subscripts us) >>= λ s. option_map (λ rest. (seen (λ ts. (x.0, terms_listed ts)) s.0, rest)) (behind_right s.1)) (Some (Ok (x.0, none), x.1)))
+    first : (o : Read (List ℕ)) → read_as (judged_place limit) (o >>= λ x. place_behind x.0 x.1 (behind_left x.1)) ≡ (o >>= λ x. read_as (seen (λ ts. (x.0, terms_listed ts))) (chosen (behind_left x.1) (λ us. read_as (judged_terms limit) (read_subscripts us) >>= λ s. option_map (λ rest. (s.0, rest)) (behind_right s.1)) (Some (Ok [], x.1))))
     first None = refl
     first (Some x) = behind x.0 x.1 (behind_left x.1)
 

@@ -1,5 +1,5 @@
 -- PhraseForms: the form of what the lexemes of a statement say is what the grammar of texts gives them, and the other way round.
-use Rattle.std.proofs.Common.{◌≡◌, ◌⊎◌, inl, inr, ℕ, pos, List, [], ◌∷◌, map, Some, None, option_map, refl, sym, ap, ◌∙◌, subst}
+use Rattle.std.proofs.Common.{◌≡◌, ◌⊎◌, inl, inr, pos, List, [], ◌∷◌, map, Some, None, option_map, refl, sym, ap, ◌∙◌, subst}
 use Rattle.adj_text.proofs.Parts.{map_some, both_some}
 use Rattle.adj_tree.specs.Code as trees
 use Rattle.adj_tree.specs.Code.{plain, Term, Terms, lit, none, Test, unmarked, Act, assign}

@@ -1,5 +1,5 @@
 -- Phrased: what a statement of each class says, judged by its parts.
-use Rattle.std.proofs.Common.{◌≡◌, ℕ, false, List, [], ◌∷◌, map, Option, Some, None, option_map, Ok, refl, sym, ap, ◌∙◌}
+use Rattle.std.proofs.Common.{◌≡◌, ℕ, false, List, [], ◌∷◌, map, Option, Some, None, option_map, Result, Ok, Err, refl, sym, ap, ◌∙◌}
 use Rattle.std.specs.List.{list_any}
 use Rattle.adj_tree.specs.Code.{Test, Mark, Act}
 use Rattle.adj_text.specs.Condition.{Condition, test}
@@ -7,14 +7,36 @@ use Rattle.adj_text.specs.Form.{Form, implicit_none, integers, simple, logical, 
 use Rattle.adj_text.specs.Statement.{Range}
 use Rattle.adj_text.specs.Char.{number_of}
 use Rattle.adj_text.specs.Lexeme.{Lexeme}
+use Rattle.adj_text.specs.declared.stated.Kind.{Kind}
 use Rattle.adj_text.specs.declared.stated.Kind.TheVariants.{Do, BlockIf, LogicalIf, Assign, Continue, Return, End, EndIf, EndDo, Else, ImplicitNone, ElseIf, DoWhile, Subroutine, Integer, Call}
 use Rattle.adj_expression.specs.Judged.{test_large, judged_test}
 use Rattle.adj_expression.specs.View.{seen}
+use Rattle.adj_expression.specs.declared.flaw.Flaw.{Flaw}
 use Rattle.adj_statement.specs.Phrase.{Deed, Bounds, plainly, declares, does, guards, repeats, goes_while, opens, turns}
 use Rattle.adj_statement.specs.Phrases.{ended, read_head, read_items, read_assignment, read_call, read_logical, read_do, read_test}
 use Rattle.adj_statement.specs.Said.{item_large, item, deed_large, deed_deep, act, bounds_large, bounds_deep, range, test_deep, judged_phrase, said}
 use Rattle.adj_statement.specs.Fronts.{judged_items, judged_deed, front_assignment, front_call, judged_logical, front_logical, judged_bounds, judged_loop, front_do, front_test}
 use Rattle.adj_statement.proofs.Judging.{seen-judged, seen-seen, joined-judged}
+
+-- what a call found, seen through what it is made into
+pub seen_found : {A B C D : Type 0} (view : B → C) (make : A → B) (f : A → D) (g : D → C) → ((a : A) → view (make a) ≡ g (f a)) → (o : Option (Result A Flaw)) (found : Option (Result B Flaw)) (front : Option (Result D Flaw)) (whole : Option (Result C Flaw)) → found ≡ option_map (seen make) o → option_map (seen f) o ≡ front → whole ≡ option_map (seen g) front → option_map (seen view) found ≡ whole
+seen_found {A} {B} {C} {D} view make f g same o found front whole h i j = ap (option_map (seen view)) h ∙ go o ∙ ap (option_map (seen g)) i ∙ sym j
+  where
+    go : (o : Option (Result A Flaw)) → option_map (seen view) (option_map (seen make) o) ≡ option_map (seen g) (option_map (seen f) o)
+    go None = refl
+    go (Some (Ok a)) = ap (λ (c : C). Some (Ok c)) (same a)
+    go (Some (Err e)) = refl
+
+pub ended_found : {B C : Type 0} (view : B → C) (b : B) (ws : List Lexeme) (found : Option (Result B Flaw)) (whole : Option (Result C Flaw)) → found ≡ ended (Ok b) ws → whole ≡ ended (Ok (view b)) ws → option_map (seen view) found ≡ whole
+ended_found {B} {C} view b ws found whole h j = ap (option_map (seen view)) h ∙ go ws ∙ sym j
+  where
+    go : (ws : List Lexeme) → option_map (seen view) (ended (Ok b) ws) ≡ ended (Ok (view b)) ws
+    go [] = refl
+    go (w ∷ ws) = refl
+
+-- of the class and the lexemes that a statement has
+pub said_of : (limit : ℕ) (mark : Mark) (kind k : Kind) (ws vs : List Lexeme) → kind ≡ k → ws ≡ vs → said limit mark kind vs ≡ said limit mark k ws
+said_of limit mark kind k ws vs e h = ap (λ (j : Kind). said limit mark j vs) e ∙ ap (said limit mark k) (sym h)
 
 -- what is judged again is judged at once
 again : {A B C D : Type 0} (f : A → B) (g : B → C) (j : A → D) (k : D → C) → ((a : A) → g (f a) ≡ k (j a)) → (o : Option A) → option_map g (option_map f o) ≡ option_map k (option_map j o)

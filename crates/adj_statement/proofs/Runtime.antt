@@ -8,7 +8,6 @@ use Rattle.adj_tree.specs.declared.expr.Expr.{Expr}
 use Rattle.adj_text.specs.Statement.{as_place, as_name, as_value, as_beginning, as_count, as_action, as_nothing, runtime_call, called_as, called}
 use Rattle.adj_statement.specs.Called.{name_of, names_of, place_of, only_of, lexeme_name, control_name, schedule_name, runtime_name, with_actuals, call_of}
 use Rattle.adj_statement.specs.declared.called.RuntimeName.TheVariants.{PushWord, PopWord, PushArray, PopArray, PushControl, PopControl, Zero, Begin, Actions, Action, End}
-use Rattle.adj_statement.specs.Phrases.{◌>>=◌}
 
 -- another number of actuals than one
 pub not_one : {A : Type 0} (form : Term → Option A) (es : List Expr) → (length es ≡ 1 → ⊥) → only_of form (terms_listed (map term_of es)) ≡ None

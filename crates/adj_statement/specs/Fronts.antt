@@ -5,6 +5,7 @@ use Rattle.adj_tree.specs.Code.{Extent, Term, Terms, Test, Act}
 use Rattle.adj_text.specs.Char.{number_of}
 use Rattle.adj_text.specs.Condition.{Condition}
 use Rattle.adj_text.specs.Grammar.{Syntax, Arguments, only, beside, with_both, tree}
+use Rattle.adj_text.specs.Machine.{chosen}
 use Rattle.adj_text.specs.Statement.{Item, Range}
 use Rattle.adj_text.specs.Lexeme.{Lexeme}
 use Rattle.adj_expression.specs.Judged.{any_large, judged_by, judged_test}
@@ -13,7 +14,7 @@ use Rattle.adj_expression.specs.declared.flaw.Flaw.{Flaw}
 use Rattle.adj_expression.specs.Flaws.{both}
 use Rattle.adj_statement.specs.Flaws.{with_part}
 use Rattle.adj_statement.specs.Phrase.{Entry, Deed, Size, Declared, Bounds}
-use Rattle.adj_statement.specs.Phrases.{Read, read_as, ◌>>=◌, members_behind, size_at, read_sizes, read_item, read_subscripts, read_place, read_actuals, read_assignment, read_call, read_guard, read_test, read_guarded, read_logical, read_step, read_bounds, read_label, read_do}
+use Rattle.adj_statement.specs.Phrases.{Read, read_as, ◌>>=◌, behind_left, behind_right, members_behind, size_at, read_sizes, read_item, read_subscripts, read_place, read_actuals, read_assignment, read_call, read_guard, read_test, read_guarded, read_logical, read_step, read_bounds, read_label, read_do}
 use Rattle.adj_statement.specs.Said.{size_large, item_large, extent, item, any_deep, list_large, list_deep, list_trees, deed_large, deed_deep, act, step_large, step_deep, step_tree, bounds_large, bounds_deep, range}
 
 -- members separated by commas, each judged
@@ -39,6 +40,10 @@ front_size ws = read_as judged_size (size_at ws)
 unfoldable pub front_sizes : List Lexeme → Read (Result (List Extent) Flaw)
 front_sizes ws = read_as judged_sizes (read_sizes ws)
 
+-- the extents behind a name, none where there are no parentheses
+unfoldable pub front_extents : List Lexeme → Read (Result (List Extent) Flaw)
+front_extents ws = chosen (behind_left ws) (λ us. front_sizes us >>= λ s. option_map (λ rest. (s.0, rest)) (behind_right s.1)) (Some (Ok [], ws))
+
 unfoldable pub front_item : List Lexeme → Read (Result Item Flaw)
 front_item ws = read_as judged_item (read_item ws)
 
@@ -52,6 +57,10 @@ judged_terms limit all = judged_by (any_large all) (any_deep limit all) (terms a
 
 unfoldable pub front_subscripts : ℕ → List Lexeme → Read (Result (List Term) Flaw)
 front_subscripts limit ws = read_as (judged_terms limit) (read_subscripts ws)
+
+-- the subscripts behind a name, none where there are no parentheses
+unfoldable pub front_inner : ℕ → List Lexeme → Read (Result (List Term) Flaw)
+front_inner limit ws = chosen (behind_left ws) (λ us. front_subscripts limit us >>= λ s. option_map (λ rest. (s.0, rest)) (behind_right s.1)) (Some (Ok [], ws))
 
 -- a place with its subscripts
 abbrev pub judged_place : ℕ → Entry → Result (List ℕ × Terms) Flaw

@@ -1,11 +1,9 @@
 -- View: what clauses see of what a statement says.
 use Rattle.std.specs.Prelude.{ℕ, List, map, Option, option_map}
 use Rattle.adj_tree.specs.Code as code
-use Rattle.adj_tree.specs.Code.{Terms, Test, plain}
+use Rattle.adj_tree.specs.Code.{Terms, plain}
 use Rattle.adj_tree.specs.View.{term_of, terms_of, test_of, act_of, extent_of}
-use Rattle.adj_tree.specs.declared.expr.Cond.{Cond}
 use Rattle.adj_tree.specs.declared.expr.Place.{Place}
-use Rattle.adj_tree.specs.declared.stmt.Act.{Act}
 use Rattle.adj_text.specs.Char.{number_of}
 use Rattle.adj_text.specs.Statement as statement
 use Rattle.adj_text.specs.Form.{Form, subroutine, implicit_none, integers, simple, logical, opens_do, opens_while, end_do, go_on, opens_if, otherwise, otherwise_if, end_if, leaves, ends}
@@ -31,10 +29,7 @@ item_of i = record { name = i.name; extents = map extent_of i.extents }
 abbrev pub range_of : Range → statement.Range
 range_of r = record { counter = plain r.counter; from = term_of r.from.value; to = term_of r.to.value; by = term_of r.by.value }
 
--- a condition and what it guards, and a label with a range
-abbrev pub guarded_seen : Cond × Act → Test × code.Act
-guarded_seen p = (test_of p.0, act_of p.1)
-
+-- a label with a range
 abbrev pub loop_seen : Option Label × Range → Option ℕ × statement.Range
 loop_seen p = (option_map label_of p.0, range_of p.1)
 

@@ -134,27 +134,41 @@ fn names_of(alloc: Global, kind: &Expr, from: &Expr, to: &Expr) -> Result<Option
     Ok(Some(Places { kind, from, to }))
 }
 
-// `ADACT` of three values.
+// Three values on the heap.
+fn three_boxed(
+    alloc: Global,
+    first: &Expr,
+    second: &Expr,
+    third: &Expr,
+) -> Result<(Box<Expr>, Box<Expr>, Box<Expr>), Memory>
+    ensures first { IfOk result (λ r. term_of r.0.value ≡ term_of first.now) }
+    ensures second { IfOk result (λ r. term_of r.1.value ≡ term_of second.now) }
+    ensures third { IfOk result (λ r. term_of r.2.value ≡ term_of third.now) }
+{
+    let first = first.copy_boxed(alloc)?;
+    let second = second.copy_boxed(alloc)?;
+    let third = third.copy_boxed(alloc)?;
+    Ok((first, second, third))
+}
+
+// `ADACT` of three values, where what follows them is three names.
 fn asked(
     alloc: Global,
     steps: &Expr,
     snapshots: &Expr,
     number: &Expr,
-    places: Places,
-) -> Result<RunCall, Memory>
-    ensures { IfOk result (λ r. runtime_of r ≡ give_action (term_of steps.now) (term_of snapshots.now) (term_of number.now) (plain places.kind) (plain places.from) (plain places.to)) }
+    kind: &Expr,
+    from: &Expr,
+    to: &Expr,
+) -> Result<Option<RunCall>, Memory>
+    ensures { IfOk result (λ found. option_map runtime_of found ≡ option_map (λ p. give_action (term_of steps.now) (term_of snapshots.now) (term_of number.now) p.0 p.1 p.2) (names_of (term_of kind.now) (term_of from.now) (term_of to.now))) }
 {
-    let steps = steps.copy_boxed(alloc)?;
-    let snapshots = snapshots.copy_boxed(alloc)?;
-    let number = number.copy_boxed(alloc)?;
-    Ok(RunCall::Action(
-        steps,
-        snapshots,
-        number,
-        places.kind,
-        places.from,
-        places.to,
-    ))
+    let Some(places) = names_of(alloc, kind, from, to)? else {
+        return Ok(None);
+    };
+    let (steps, snapshots, number) = three_boxed(alloc, steps, snapshots, number)?;
+    let Places { kind, from, to } = places;
+    Ok(Some(RunCall::Action(steps, snapshots, number, kind, from, to)))
 }
 
 // `ADACT`, where its actuals are three values and three names.
@@ -162,13 +176,12 @@ fn asked(
 fn action(alloc: Global, actuals: &[Expr]) -> Result<Option<RunCall>, Memory>
     ensures { IfOk result (λ found. option_map runtime_of found ≡ as_action (terms_listed (map term_of actuals.now))) }
 {
-    let [steps, snapshots, number, kind, from, to] = actuals else {
-        return Ok(None);
-    };
-    let Some(places) = names_of(alloc, kind, from, to)? else {
-        return Ok(None);
-    };
-    Ok(Some(asked(alloc, steps, snapshots, number, places)?))
+    match actuals {
+        [steps, snapshots, number, kind, from, to] => {
+            asked(alloc, steps, snapshots, number, kind, from, to)
+        }
+        _ => Ok(None),
+    }
 }
 
 // `PUSHCONTROL1B`, where its actual is one value.

@@ -4,7 +4,7 @@ ghost use Rattle.std.specs.Prelude.{◌≡◌, map, IfOk, option_map};
 ghost use Rattle.adj_tree.specs.View.{extent_of};
 ghost use Rattle.adj_expression.specs.View.{seen};
 ghost use Rattle.adj_statement.specs.Flaws.{with_part};
-ghost use Rattle.adj_statement.specs.Fronts.{judged_size, judged_items, front_size, front_sizes, front_item, front_list};
+ghost use Rattle.adj_statement.specs.Fronts.{judged_size, judged_items, front_size, front_sizes, front_extents, front_item, front_list};
 ghost use Rattle.adj_statement.specs.Phrase.{numbered};
 ghost use Rattle.adj_statement.specs.Phrases.{read_items};
 ghost use Rattle.adj_statement.specs.View.{item_of};
@@ -86,6 +86,26 @@ fn declared(name: Name, sizes: Result<Vec<Extent>, Flaw>) -> Result<Item, Flaw>
     }
 }
 
+// The extents behind a name, none where there are no parentheses, and what stands behind them.
+#[tactic(auto, unfolding(crate::specs::Fronts::front_extents))]
+fn extents(
+    alloc: Global,
+    lexemes: Lexemes,
+) -> Result<Option<(Result<Vec<Extent>, Flaw>, Lexemes)>, Memory>
+    ensures { IfOk result (λ found. option_map (λ f. (seen (λ v. map extent_of v.items) f.0, lexemes_in f.1)) found ≡ front_extents (lexemes_in lexemes.entry)) }
+{
+    let Some(inner) = lexemes.behind_left() else {
+        return Ok(Some((Ok(Vec::new(alloc)), lexemes)));
+    };
+    let Some((sizes, rest)) = sizes(alloc, inner)? else {
+        return Ok(None);
+    };
+    match rest.behind_right() {
+        Some(rest) => Ok(Some((sizes, rest))),
+        None => Ok(None),
+    }
+}
+
 // A declared name with its extents, and what stands behind it.
 #[tactic(auto, using(crate::proofs::Declared::front_item_on))]
 fn item(alloc: Global, lexemes: Lexemes) -> Result<Option<(Result<Item, Flaw>, Lexemes)>, Memory>
@@ -94,15 +114,8 @@ fn item(alloc: Global, lexemes: Lexemes) -> Result<Option<(Result<Item, Flaw>, L
     let Some((name, rest)) = lexemes.name(alloc)? else {
         return Ok(None);
     };
-    let Some(inner) = rest.behind_left() else {
-        let sizes = Ok(Vec::new(alloc));
-        return Ok(Some((declared(name, sizes), rest)));
-    };
-    let Some((sizes, rest)) = sizes(alloc, inner)? else {
-        return Ok(None);
-    };
-    match rest.behind_right() {
-        Some(rest) => Ok(Some((declared(name, sizes), rest))),
+    match extents(alloc, rest)? {
+        Some((sizes, rest)) => Ok(Some((declared(name, sizes), rest))),
         None => Ok(None),
     }
 }

@@ -9,26 +9,16 @@ ghost use Rattle.adj_expression.specs.View.{seen};
 ghost use Rattle.adj_statement.specs.Called.{call_of};
 ghost use Rattle.adj_expression.specs.Flaws.{both};
 ghost use Rattle.adj_statement.specs.Flaws.{with_part};
-ghost use Rattle.adj_statement.specs.Fronts.{front_list, front_subscripts, front_place, front_assignment, front_actuals, front_call};
+ghost use Rattle.adj_statement.specs.Fronts.{front_list, front_subscripts, front_inner, front_place, front_assignment, front_actuals, front_call};
 ghost use Rattle.adj_statement.specs.View.{place_seen};
 ghost use Rattle.adj_statement.specs.LexemesView.{lexemes_in};
 
 use crate::called::called;
-use crate::flaws::with_part;
+use crate::flaws::with_boxed;
 use crate::lexemes::Lexemes;
 use adj_expression::{Flaw, both};
 use adj_tree::{Act, Expr, Exprs, Memory, Name, Place};
 use std::alloc::Global;
-
-// An expression off the heap, or what is wrong with it.
-fn off_heap(found: Result<Box<Expr>, Flaw>) -> Result<Expr, Flaw>
-    ensures { seen term_of result ≡ seen (λ e. term_of e.value) found }
-{
-    match found {
-        Ok(e) => Ok(Box::into_inner(e)),
-        Err(flaw) => Err(flaw),
-    }
-}
 
 // Expressions with one more.
 fn with_expression(
@@ -37,7 +27,7 @@ fn with_expression(
 ) -> Result<Result<Vec<Expr>, Flaw>, Memory>
     ensures { IfOk result (λ r. seen (λ v. map term_of v.items) r ≡ with_part (seen (λ v. map term_of v.items) all) (seen (λ e. term_of e.value) next)) }
 {
-    with_part(all, off_heap(next))
+    with_boxed(all, next)
 }
 
 // One or two subscripts, and what stands behind them.
@@ -80,6 +70,28 @@ fn placed(
     }
 }
 
+// The subscripts behind a name, none where there are no parentheses, and what stands behind them.
+#[tactic(auto, unfolding(crate::specs::Fronts::front_inner))]
+fn inner(
+    alloc: Global,
+    lexemes: Lexemes,
+    limit: u32,
+) -> Result<Option<(Result<Vec<Expr>, Flaw>, Lexemes)>, Memory>
+    requires { limit < 1000 }
+    ensures { IfOk result (λ found. option_map (λ f. (seen (λ v. map term_of v.items) f.0, lexemes_in f.1)) found ≡ front_inner limit (lexemes_in lexemes.entry)) }
+{
+    let Some(inside) = lexemes.behind_left() else {
+        return Ok(Some((Ok(Vec::new(alloc)), lexemes)));
+    };
+    let Some((subs, rest)) = subscripts(alloc, inside, limit)? else {
+        return Ok(None);
+    };
+    match rest.behind_right() {
+        Some(rest) => Ok(Some((subs, rest))),
+        None => Ok(None),
+    }
+}
+
 // A variable, or one with one or two subscripts, and what stands behind it.
 #[tactic(auto, using(crate::proofs::Deeds::front_place_on))]
 fn place(
@@ -93,15 +105,8 @@ fn place(
     let Some((name, rest)) = lexemes.name(alloc)? else {
         return Ok(None);
     };
-    let Some(inner) = rest.behind_left() else {
-        let subs = Exprs::Empty;
-        return Ok(Some((Ok(Place { name, subs }), rest)));
-    };
-    let Some((subs, rest)) = subscripts(alloc, inner, limit)? else {
-        return Ok(None);
-    };
-    match rest.behind_right() {
-        Some(rest) => Ok(Some((placed(alloc, name, subs)?, rest))),
+    match inner(alloc, rest, limit)? {
+        Some((subs, rest)) => Ok(Some((placed(alloc, name, subs)?, rest))),
         None => Ok(None),
     }
 }

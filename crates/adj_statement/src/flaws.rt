@@ -22,3 +22,19 @@ pub(crate) fn with_part<A: Drop>(
         Err(flaw) => Ok(Err(flaw)),
     }
 }
+
+/// The same where the one more stands on the heap.
+pub(crate) fn with_boxed<A: Drop>(
+    parts: Result<Vec<A>, Flaw>,
+    part: Result<Box<A>, Flaw>,
+) -> Result<Result<Vec<A>, Flaw>, Memory>
+    ensures { IfOk result (λ r. seen (λ v. v.items) r ≡ with_part (seen (λ v. v.items) parts) (seen (λ b. b.value) part)) }
+{
+    match both(parts, part) {
+        Ok((mut all, last)) => {
+            all.push(Box::into_inner(last))?;
+            Ok(Ok(all))
+        }
+        Err(flaw) => Ok(Err(flaw)),
+    }
+}

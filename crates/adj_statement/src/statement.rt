@@ -1,6 +1,6 @@
 //! One statement.
 
-ghost use Rattle.std.specs.Prelude.{◌≡◌, ◌<◌, IfOk, option_map};
+ghost use Rattle.std.specs.Prelude.{◌≡◌, ◌<◌, IfOk, Ok, option_map};
 ghost use Rattle.adj_tree.specs.Code.{Term, plain};
 ghost use Rattle.adj_tree.specs.View.{term_of, test_of, mark_of, act_of};
 ghost use Rattle.adj_text.specs.Lexeme.{lexemes_of};
@@ -9,10 +9,12 @@ ghost use Rattle.adj_expression.specs.View.{seen};
 ghost use Rattle.adj_expression.specs.Flaws.{both};
 ghost use Rattle.adj_statement.specs.Fronts.{front_guard, front_test, front_guarded, front_logical, front_step, front_bounds, front_label, front_do};
 ghost use Rattle.adj_statement.specs.Said.{said};
-ghost use Rattle.adj_statement.specs.View.{label_of, range_of, guarded_seen, loop_seen, form_of};
+ghost use Rattle.adj_statement.specs.View.{label_of, range_of, loop_seen, form_of};
 ghost use Rattle.adj_statement.specs.LexemesView.{lexemes_in};
+ghost use Rattle.adj_statement.specs.Phrases.{ended};
+ghost use Rattle.adj_statement.specs.declared.content.Said.TheVariants.{Subroutine, Integers, Simple, Guarded, Do, While, If, ElseIf};
 
-use crate::content::{Range, Said};
+use crate::content::{Item, Range, Said};
 use crate::declaration::items;
 use crate::deed::{assignment, call};
 use crate::heading::head;
@@ -20,18 +22,8 @@ use crate::label::Label;
 use crate::lexemes::Lexemes;
 use adj_expression::{Flaw, both};
 use adj_text::{Kind, Stated};
-use adj_tree::{Act, Cond, Expr, Memory, Name, boxed};
+use adj_tree::{Act, Cond, Expr, Memory, Name, NameList, boxed};
 use std::alloc::Global;
-
-// A condition off the heap, or what is wrong with it.
-fn off_heap(found: Result<Box<Cond>, Flaw>) -> Result<Cond, Flaw>
-    ensures { seen test_of result ≡ seen (λ c. test_of c.value) found }
-{
-    match found {
-        Ok(c) => Ok(Box::into_inner(c)),
-        Err(flaw) => Err(flaw),
-    }
-}
 
 // A condition in parentheses, and what stands behind it.
 #[tactic(auto, using(crate::proofs::Guards::front_guard_on))]
@@ -57,12 +49,16 @@ fn guard(
 
 // A condition in parentheses up to the end.
 #[tactic(auto, using(crate::proofs::Guards::front_test_on))]
-fn test(alloc: Global, lexemes: Lexemes, limit: u32) -> Result<Option<Result<Cond, Flaw>>, Memory>
+fn test(
+    alloc: Global,
+    lexemes: Lexemes,
+    limit: u32,
+) -> Result<Option<Result<Box<Cond>, Flaw>>, Memory>
     requires { limit < 1000 }
-    ensures { IfOk result (λ found. option_map (seen test_of) found ≡ front_test limit (lexemes_in lexemes.entry)) }
+    ensures { IfOk result (λ found. option_map (seen (λ c. test_of c.value)) found ≡ front_test limit (lexemes_in lexemes.entry)) }
 {
     match guard(alloc, lexemes, limit)? {
-        Some((condition, rest)) => Ok(rest.ended(off_heap(condition))),
+        Some((condition, rest)) => Ok(rest.ended(condition)),
         None => Ok(None),
     }
 }
@@ -80,13 +76,13 @@ fn guarded(alloc: Global, lexemes: Lexemes, limit: u32) -> Result<Option<Result<
 }
 
 // The condition of a logical IF and what it guards, or what is wrong with them.
-fn joined(condition: Result<Box<Cond>, Flaw>, act: Result<Act, Flaw>) -> Result<(Cond, Act), Flaw>
-    ensures { seen guarded_seen result ≡ both (seen (λ c. test_of c.value) condition) (seen act_of act) }
+fn joined(
+    condition: Result<Box<Cond>, Flaw>,
+    act: Result<Act, Flaw>,
+) -> Result<(Box<Cond>, Act), Flaw>
+    ensures { seen (λ p. (test_of p.0.value, act_of p.1)) result ≡ both (seen (λ c. test_of c.value) condition) (seen act_of act) }
 {
-    match both(condition, act) {
-        Ok((condition, act)) => Ok((Box::into_inner(condition), act)),
-        Err(flaw) => Err(flaw),
-    }
+    both(condition, act)
 }
 
 // The condition of a logical IF and what it guards, of the lexemes behind IF.
@@ -95,9 +91,9 @@ fn logical(
     alloc: Global,
     lexemes: Lexemes,
     limit: u32,
-) -> Result<Option<Result<(Cond, Act), Flaw>>, Memory>
+) -> Result<Option<Result<(Box<Cond>, Act), Flaw>>, Memory>
     requires { limit < 1000 }
-    ensures { IfOk result (λ found. option_map (seen guarded_seen) found ≡ front_logical limit (lexemes_in lexemes.entry)) }
+    ensures { IfOk result (λ found. option_map (seen (λ p. (test_of p.0.value, act_of p.1))) found ≡ front_logical limit (lexemes_in lexemes.entry)) }
 {
     let Some((condition, rest)) = guard(alloc, lexemes, limit)? else {
         return Ok(None);
@@ -214,6 +210,100 @@ fn looped(
     }
 }
 
+// A heading.
+fn heading(found: Option<(Name, NameList)>) -> Option<Result<Said, Flaw>>
+    ensures { result ≡ option_map (λ f. Ok (Subroutine f.0 f.1)) found }
+{
+    match found {
+        Some((name, dummies)) => Some(Ok(Said::Subroutine(name, dummies))),
+        None => None,
+    }
+}
+
+// A declaration.
+fn integers(found: Option<Result<Vec<Item>, Flaw>>) -> Option<Result<Said, Flaw>>
+    ensures { result ≡ option_map (seen Integers) found }
+{
+    match found {
+        Some(Ok(items)) => Some(Ok(Said::Integers(items))),
+        Some(Err(flaw)) => Some(Err(flaw)),
+        None => None,
+    }
+}
+
+// An assignment or a CALL.
+fn simple(found: Option<Result<Act, Flaw>>) -> Option<Result<Said, Flaw>>
+    ensures { result ≡ option_map (seen Simple) found }
+{
+    match found {
+        Some(Ok(act)) => Some(Ok(Said::Simple(act))),
+        Some(Err(flaw)) => Some(Err(flaw)),
+        None => None,
+    }
+}
+
+// A logical IF.
+fn guards(found: Option<Result<(Box<Cond>, Act), Flaw>>) -> Option<Result<Said, Flaw>>
+    ensures { result ≡ option_map (seen (λ p. Guarded p.0.value p.1)) found }
+{
+    match found {
+        Some(Ok((condition, act))) => Some(Ok(Said::Guarded(Box::into_inner(condition), act))),
+        Some(Err(flaw)) => Some(Err(flaw)),
+        None => None,
+    }
+}
+
+// A DO.
+fn repeats(found: Option<Result<(Option<Label>, Range), Flaw>>) -> Option<Result<Said, Flaw>>
+    ensures { result ≡ option_map (seen (λ p. Do p.0 p.1)) found }
+{
+    match found {
+        Some(Ok((label, range))) => Some(Ok(Said::Do(label, range))),
+        Some(Err(flaw)) => Some(Err(flaw)),
+        None => None,
+    }
+}
+
+// A DO WHILE.
+fn goes_while(found: Option<Result<Box<Cond>, Flaw>>) -> Option<Result<Said, Flaw>>
+    ensures { result ≡ option_map (seen (λ c. While c.value)) found }
+{
+    match found {
+        Some(Ok(condition)) => Some(Ok(Said::While(Box::into_inner(condition)))),
+        Some(Err(flaw)) => Some(Err(flaw)),
+        None => None,
+    }
+}
+
+// An IF with a THEN.
+fn opens(found: Option<Result<Box<Cond>, Flaw>>) -> Option<Result<Said, Flaw>>
+    ensures { result ≡ option_map (seen (λ c. If c.value)) found }
+{
+    match found {
+        Some(Ok(condition)) => Some(Ok(Said::If(Box::into_inner(condition)))),
+        Some(Err(flaw)) => Some(Err(flaw)),
+        None => None,
+    }
+}
+
+// An ELSE IF.
+fn turns(found: Option<Result<Box<Cond>, Flaw>>) -> Option<Result<Said, Flaw>>
+    ensures { result ≡ option_map (seen (λ c. ElseIf c.value)) found }
+{
+    match found {
+        Some(Ok(condition)) => Some(Ok(Said::ElseIf(Box::into_inner(condition)))),
+        Some(Err(flaw)) => Some(Err(flaw)),
+        None => None,
+    }
+}
+
+// A statement that its keyword says alone.
+fn alone(lexemes: Lexemes, said: Said) -> Option<Result<Said, Flaw>>
+    ensures { result ≡ ended (Ok said) (lexemes_in lexemes.entry) }
+{
+    lexemes.ended(Ok(said))
+}
+
 /// What a statement says, or what is wrong with its expressions; none where its lexemes aren't of the form of its class.
 /// Its expressions and conditions are at most as deep as the limit. What is wrong is the least flaw of all of them, in the order large, deep, exponent.
 #[tactic(auto, using(crate::proofs::Phrased::classes))]
@@ -228,29 +318,21 @@ pub fn said(
 {
     let lexemes = Lexemes::new(stated.text.as_slice(), stated.tokens.as_slice());
     match stated.kind {
-        Kind::Subroutine => {
-            Ok(head(alloc, lexemes)?.map(|(name, dummies)| Ok(Said::Subroutine(name, dummies))))
-        }
-        Kind::Integer => Ok(items(alloc, lexemes)?.map(|items| items.map(Said::Integers))),
-        Kind::Assign => Ok(assignment(alloc, lexemes, limit)?.map(|act| act.map(Said::Simple))),
-        Kind::Call => Ok(call(alloc, lexemes, limit)?.map(|act| act.map(Said::Simple))),
-        Kind::LogicalIf => {
-            let parts = logical(alloc, lexemes, limit)?;
-            Ok(parts.map(|parts| parts.map(|(condition, act)| Said::Guarded(condition, act))))
-        }
-        Kind::Do => {
-            let parts = looped(alloc, lexemes, limit)?;
-            Ok(parts.map(|parts| parts.map(|(label, range)| Said::Do(label, range))))
-        }
-        Kind::DoWhile => Ok(test(alloc, lexemes, limit)?.map(|c| c.map(Said::While))),
-        Kind::BlockIf => Ok(test(alloc, lexemes, limit)?.map(|c| c.map(Said::If))),
-        Kind::ElseIf => Ok(test(alloc, lexemes, limit)?.map(|c| c.map(Said::ElseIf))),
-        Kind::ImplicitNone => Ok(lexemes.ended(Ok(Said::ImplicitNone))),
-        Kind::EndDo => Ok(lexemes.ended(Ok(Said::EndDo))),
-        Kind::Continue => Ok(lexemes.ended(Ok(Said::Continue))),
-        Kind::Else => Ok(lexemes.ended(Ok(Said::Else))),
-        Kind::EndIf => Ok(lexemes.ended(Ok(Said::EndIf))),
-        Kind::Return => Ok(lexemes.ended(Ok(Said::Return))),
-        Kind::End => Ok(lexemes.ended(Ok(Said::End))),
+        Kind::Subroutine => Ok(heading(head(alloc, lexemes)?)),
+        Kind::Integer => Ok(integers(items(alloc, lexemes)?)),
+        Kind::Assign => Ok(simple(assignment(alloc, lexemes, limit)?)),
+        Kind::Call => Ok(simple(call(alloc, lexemes, limit)?)),
+        Kind::LogicalIf => Ok(guards(logical(alloc, lexemes, limit)?)),
+        Kind::Do => Ok(repeats(looped(alloc, lexemes, limit)?)),
+        Kind::DoWhile => Ok(goes_while(test(alloc, lexemes, limit)?)),
+        Kind::BlockIf => Ok(opens(test(alloc, lexemes, limit)?)),
+        Kind::ElseIf => Ok(turns(test(alloc, lexemes, limit)?)),
+        Kind::ImplicitNone => Ok(alone(lexemes, Said::ImplicitNone)),
+        Kind::EndDo => Ok(alone(lexemes, Said::EndDo)),
+        Kind::Continue => Ok(alone(lexemes, Said::Continue)),
+        Kind::Else => Ok(alone(lexemes, Said::Else)),
+        Kind::EndIf => Ok(alone(lexemes, Said::EndIf)),
+        Kind::Return => Ok(alone(lexemes, Said::Return)),
+        Kind::End => Ok(alone(lexemes, Said::End)),
     }
 }
