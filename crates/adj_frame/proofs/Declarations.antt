@@ -108,6 +108,18 @@ alike_names [] (m ∷ ms) n h = absurd (omega arith)
 alike_names (x ∷ ns) [] n h = absurd (omega arith)
 alike_names (x ∷ ns) (m ∷ ms) n h = ap₂ (λ y ys. y ∷ ys) (h 0 (omega arith)) (alike_names ns ms (omega arith) (λ i l. h (suc i) (omega (arith, l))))
 
+-- a list of one member, and of two
+pub one_of : {A B : Type 0} (f : A → B) (xs : List A) (d : A) → 0 < length xs → length xs < 2 → map f xs ≡ f (get_or xs 0 d) ∷ []
+one_of f [] d lt le = absurd (omega arith)
+one_of f (x ∷ []) d lt le = refl
+one_of f (x ∷ y ∷ xs) d lt le = absurd (omega arith)
+
+pub two_of : {A B : Type 0} (f : A → B) (xs : List A) (d e : A) → 1 < length xs → length xs ≤ 2 → map f xs ≡ f (get_or xs 0 d) ∷ f (get_or xs 1 e) ∷ []
+two_of f [] d e lt le = absurd (omega arith)
+two_of f (x ∷ []) d e lt le = absurd (omega arith)
+two_of f (x ∷ y ∷ []) d e lt le = refl
+two_of f (x ∷ y ∷ z ∷ xs) d e lt le = absurd (omega arith)
+
 -- a unit whose names begin with its dummies, and whose declarations have layouts, is laid out
 pub laid_out : (r : Routine) (ns : List (List ℕ)) (ls : List Layout) → AreApart r.names → Extends r.unit.now.dummies r.names → Extends ns r.names → Declares (map declaration_of r.unit.now.decls) ns ls → ((i : ℕ) → get_or r.layouts.items i layout.Scalar ≡ get_or ls i layout.Scalar) → length r.names ≡ length r.layouts.items → IsLaidOut r
 laid_out r ns ls a e f d same n = record {

@@ -18,7 +18,7 @@ use Rattle.adj_frame.proofs.Reading.{read_cell, read_shape, chained}
 use Rattle.adj_frame.proofs.Showing.{values_shown}
 
 -- a trap in the first of two parts
-chained_err : {A B C : Type 0} (v : Result A Trap) (f : A → Result B Trap) (g : B → Result C Trap) (t : Trap) → Err t ≡ then_ok v f → then_ok v (λ a. then_ok (f a) g) ≡ Err t
+pub chained_err : {A B C : Type 0} (v : Result A Trap) (f : A → Result B Trap) (g : B → Result C Trap) (t : Trap) → Err t ≡ then_ok v f → then_ok v (λ a. then_ok (f a) g) ≡ Err t
 chained_err (Ok a) f g t h = ap (λ r. then_ok r g) (sym h)
 chained_err (Err d) f g t h = let s : d ≡ t = cc in ap Err s
 

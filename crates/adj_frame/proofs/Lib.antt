@@ -9,3 +9,4 @@ pub mod Suiting
 pub mod Returning
 pub mod Listing
 pub mod Declarations
+pub mod Failing

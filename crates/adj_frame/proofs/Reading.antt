@@ -28,6 +28,13 @@ pub chained : {A B C : Type 0} (v : Result A Trap) (f : A → Result B Trap) (g 
 chained (Ok a) f g b h = ap (λ r. then_ok r g) (sym h)
 chained (Err t) f g b h = absurd cc
 
+-- what goes on from one that is known, and a trap
+pub went_on : {A B : Type 0} (v : Result A Trap) (f : A → Result B Trap) (a : A) → Ok a ≡ v → f a ≡ then_ok v f
+went_on v f a h = ap (λ r. then_ok r f) h
+
+pub trapped : {A B : Type 0} (v : Result A Trap) (f : A → Result B Trap) (t : Trap) → Err t ≡ v → Err t ≡ then_ok v f
+trapped v f t h = ap (λ r. then_ok r f) h
+
 module _ {C : Type 0} where
   -- the name of a number has the slot of that number
   pub at_number : {A : Type 0} (other : A) (f : Slot C → A) (names : List (List ℕ)) (vs : List (Slot C)) (i : ℕ) (d : Slot C) → AreApart names → length names ≡ length vs → i < length vs → in_slot other f names vs (get_or names i []) ≡ f (get_or vs i d)
@@ -73,6 +80,15 @@ module _ {C : Type 0} (numbers : Numbers C) where
   -- the values of one expression and no others
   pub only_one : {B : Type 0} (v : Result C Trap) (ws : Result (List ℤ) Trap) (f : List ℤ → Result B Trap) (z : C) → Ok z ≡ v → ws ≡ Ok [] → then_ok (then_ok v (λ u. then_ok ws (λ us. Ok (numbers.shown u ∷ us)))) f ≡ f (numbers.shown z ∷ [])
   only_one v ws f z e h = ap (λ r. then_ok (then_ok r (λ u. then_ok ws (λ us. Ok (numbers.shown u ∷ us)))) f) (sym e) ∙ ap (λ r. then_ok (then_ok r (λ us. Ok (numbers.shown z ∷ us))) f) h
+
+  -- the values of expressions of which the first is known
+  pub first_known : {B : Type 0} (v : Result C Trap) (ws : Result (List ℤ) Trap) (f : List ℤ → Result B Trap) (z : C) → Ok z ≡ v → then_ok (then_ok v (λ u. then_ok ws (λ us. Ok (numbers.shown u ∷ us)))) f ≡ then_ok ws (λ us. f (numbers.shown z ∷ us))
+  first_known v (Ok us) f z e = ap (λ r. then_ok (then_ok r (λ u. Ok (numbers.shown u ∷ us))) f) (sym e)
+  first_known v (Err t) f z e = ap (λ r. then_ok (then_ok r (λ u. Err t)) f) (sym e)
+
+  -- and of which the first traps
+  pub first_trap : {B : Type 0} (v : Result C Trap) (ws : Result (List ℤ) Trap) (f : List ℤ → Result B Trap) (t : Trap) → Err t ≡ v → then_ok (then_ok v (λ u. then_ok ws (λ us. Ok (numbers.shown u ∷ us)))) f ≡ Err t
+  first_trap v ws f t e = ap (λ r. then_ok (then_ok r (λ u. then_ok ws (λ us. Ok (numbers.shown u ∷ us)))) f) (sym e)
 
   -- so is a cell that the code found
   pub found_there : (names : List (List ℕ)) (vs : List (Slot C)) (i : ℕ) (v : Result (List ℤ) Trap) → IsFrame names vs → i < length vs → (r : Result ℕ CodeTrap) → result_of r ≡ then_ok v (λ is. cell_at (setting_in_slots numbers names vs) (var_at names i) is) → IfOk r (λ j. (d : Slot C) → j < length (get_or vs i d).cells.items)

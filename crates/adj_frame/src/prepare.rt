@@ -117,8 +117,8 @@ impl<'a> Numbering<'a> {
         ensures second { IfOk result (λ p. Resolves term_in IsTermBelow self.new p.1 (term_of b.now)) }
         ensures third { IfOk result (λ p. Resolves term_in IsTermBelow self.new p.2 (term_of c.now)) }
     {
-        let (first, second) = self.two(alloc, a, b)?;
-        let third = self.term(alloc, c)?;
+        let first = self.term(alloc, a)?;
+        let (second, third) = self.two(alloc, b, c)?;
         Ok((first, second, third))
     }
 

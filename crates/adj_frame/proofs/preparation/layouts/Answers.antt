@@ -3,6 +3,7 @@ use Rattle.std.proofs.lemmas.List.{drop_more}
 use Rattle.adj_tree.specs.View.{declaration_of}
 use Rattle.adj_frame.specs.Declaring.{Declares}
 use Rattle.adj_frame.proofs.Resolving.{extends_on}
+use Rattle.adj_frame.proofs.Failing.{err_is}
 use Rattle.adj_frame.proofs.preparation.layouts.Goals as goal
 
 pub loop-remaining-preserved : goal.loop-remaining-preserved
@@ -22,3 +23,6 @@ loop-remaining-preserved c =
       apart = c.in_ok-declare.ensures.apart;
       declares = subst (λ es. Declares es c.declare.new.self c.declare.new.layouts.items) path (c.in_ok-declare.ensures.declares (map declaration_of (drop r ds)) inv.declares);
     }
+
+pub returns-in_err-declare : goal.returns-in_err-declare
+returns-in_err-declare c = rw (err_is c.from_residual.result c.in_err-declare.field-0.0 c.from_residual.ensures.1) (record { extends = tt; apart = tt; declares = tt })

@@ -11,9 +11,11 @@ use Rattle.adj_frame.specs.declared.slot.Slot.{Slot}
 use Rattle.adj_frame.specs.declared.term.Term.{Term, size-Term}
 use Rattle.adj_frame.specs.declared.term.Terms.{size-Terms}
 use Rattle.adj_frame.specs.declared.term.Term.TheViews.{sized-Elem, sized-Neg, sized-Bin, sized-Pow, sized-Power, sized-Abs, sized-More}
-use Rattle.adj_frame.specs.Prepared.{var_at, term_in, terms_in, IsTermBelow}
-use Rattle.adj_frame.specs.Framed.{result_of, zero_in, slot_shape, store_in, setting_in_slots}
-use Rattle.adj_frame.proofs.Reading.{read_cell, read_shape, chained, cell_there, only_one}
+use Rattle.adj_frame.specs.Prepared.{var_at, term_in, terms_in, IsTermBelow, AreTermsBelow}
+use Rattle.adj_frame.specs.Framed.{trap_of, result_of, zero_in, slot_shape, store_in, setting_in_slots}
+use Rattle.adj_frame.proofs.Reading.{read_cell, read_shape, chained, cell_there, only_one, first_known, first_trap}
+use Rattle.adj_frame.proofs.Giving.{chained_err}
+use Rattle.adj_frame.proofs.Failing.{err_is}
 use Rattle.adj_frame.proofs.frame.Frame.+value.Goals as goal
 
 pub cell_behind-returns-in-Empty : goal.cell_behind-returns-in-Empty
@@ -124,7 +126,7 @@ value-returns-in_err-value-in-Neg g t c =
     let numbers = g.N.Number.numbers in
     let n = setting_in_slots numbers names vs in
     let s = store_in numbers names vs in
-    let r : c.from_residual-in_err-value-in-Neg.result ≡ Err c.in_err-value-in-Neg.field-0.0 = search rules in
+    let r = err_is c.from_residual-in_err-value-in-Neg.result c.in_err-value-in-Neg.field-0.0 c.from_residual-in_err-value-in-Neg.ensures.1 in
     record { value = rw c.in-Neg.is (kept n s names (λ u. Ok (numbers.negation u)) c.deref.result.now c.in-Neg.a.value c.in_err-value-in-Neg.field-0.0 c.from_residual-in_err-value-in-Neg.result c.deref.ensures c.in_err-value-in-Neg.ensures.value r) }
 
 pub value-returns-in_ok-value-in-Pow : goal.value-returns-in_ok-value-in-Pow
@@ -143,7 +145,7 @@ value-returns-in_err-value-in-Pow g t c =
     let numbers = g.N.Number.numbers in
     let n = setting_in_slots numbers names vs in
     let s = store_in numbers names vs in
-    let r : c.from_residual-in_err-value-in-Pow.result ≡ Err c.in_err-value-in-Pow.field-0.0 = search rules in
+    let r = err_is c.from_residual-in_err-value-in-Pow.result c.in_err-value-in-Pow.field-0.0 c.from_residual-in_err-value-in-Pow.ensures.1 in
     record { value = rw c.in-Pow.is (kept n s names (λ u. Ok (numbers.raised_to u c.in-Pow.power)) c.deref-in-Pow.result.now c.in-Pow.a.value c.in_err-value-in-Pow.field-0.0 c.from_residual-in_err-value-in-Pow.result c.deref-in-Pow.ensures c.in_err-value-in-Pow.ensures.value r) }
 
 pub value-returns-in_ok-value-in-Abs : goal.value-returns-in_ok-value-in-Abs
@@ -162,7 +164,7 @@ value-returns-in_err-value-in-Abs g t c =
     let numbers = g.N.Number.numbers in
     let n = setting_in_slots numbers names vs in
     let s = store_in numbers names vs in
-    let r : c.from_residual-in_err-value-in-Abs.result ≡ Err c.in_err-value-in-Abs.field-0.0 = search rules in
+    let r = err_is c.from_residual-in_err-value-in-Abs.result c.in_err-value-in-Abs.field-0.0 c.from_residual-in_err-value-in-Abs.ensures.1 in
     record { value = rw c.in-Abs.is (kept n s names (λ u. Ok (absolute numbers u)) c.deref-in-Abs.result.now c.in-Abs.a.value c.in_err-value-in-Abs.field-0.0 c.from_residual-in_err-value-in-Abs.result c.deref-in-Abs.ensures c.in_err-value-in-Abs.ensures.value r) }
 
 pub value-returns-in_err-left-in-Bin : goal.value-returns-in_err-left-in-Bin
@@ -172,7 +174,7 @@ value-returns-in_err-left-in-Bin g t c =
     let numbers = g.N.Number.numbers in
     let n = setting_in_slots numbers names vs in
     let s = store_in numbers names vs in
-    let r : c.from_residual-in_err-left-in-Bin.result ≡ Err c.in_err-left-in-Bin.field-0.0 = search rules in
+    let r = err_is c.from_residual-in_err-left-in-Bin.result c.in_err-left-in-Bin.field-0.0 c.from_residual-in_err-left-in-Bin.ensures.1 in
     record { value = rw c.in-Bin.is (kept n s names (λ u. then_ok (value n (term_in names c.in-Bin.b.value) s) (λ v. operation numbers (op_of c.in-Bin.op) u v)) c.deref-in-Bin.result.now c.in-Bin.a.value c.in_err-left-in-Bin.field-0.0 c.from_residual-in_err-left-in-Bin.result c.deref-in-Bin.ensures c.in_err-left-in-Bin.ensures.value r) }
 
 pub value-returns-in_err-right-in-Bin : goal.value-returns-in_err-right-in-Bin
@@ -182,7 +184,7 @@ value-returns-in_err-right-in-Bin g t c =
     let numbers = g.N.Number.numbers in
     let n = setting_in_slots numbers names vs in
     let s = store_in numbers names vs in
-    let r : c.from_residual-in_err-right-in-Bin.result ≡ Err c.in_err-right-in-Bin.field-0.0 = search rules in
+    let r = err_is c.from_residual-in_err-right-in-Bin.result c.in_err-right-in-Bin.field-0.0 c.from_residual-in_err-right-in-Bin.ensures.1 in
     record { value = rw c.in-Bin.is (kept_second n s names (λ u v. operation numbers (op_of c.in-Bin.op) u v) c.deref-in-Bin.result.now c.in-Bin.a.value c.deref-in-Bin-2.result.now c.in-Bin.b.value c.in_ok-left-in-Bin.left c.in_err-right-in-Bin.field-0.0 c.from_residual-in_err-right-in-Bin.result c.deref-in-Bin.ensures c.in_ok-left-in-Bin.ensures.value c.deref-in-Bin-2.ensures c.in_err-right-in-Bin.ensures.value r) }
 
 pub value-returns-in_ok-right-in-Bin : goal.value-returns-in_ok-right-in-Bin
@@ -201,7 +203,7 @@ value-returns-in_err-base-in-Power g t c =
     let numbers = g.N.Number.numbers in
     let n = setting_in_slots numbers names vs in
     let s = store_in numbers names vs in
-    let r : c.from_residual-in_err-base-in-Power.result ≡ Err c.in_err-base-in-Power.field-0.0 = search rules in
+    let r = err_is c.from_residual-in_err-base-in-Power.result c.in_err-base-in-Power.field-0.0 c.from_residual-in_err-base-in-Power.ensures.1 in
     record { value = rw c.in-Power.is (kept n s names (λ u. then_ok (value n (term_in names c.in-Power.b.value) s) (λ v. then_ok (exponent_of (numbers.shown v)) (λ k. Ok (numbers.raised_to u k)))) c.deref-in-Power.result.now c.in-Power.a.value c.in_err-base-in-Power.field-0.0 c.from_residual-in_err-base-in-Power.result c.deref-in-Power.ensures c.in_err-base-in-Power.ensures.value r) }
 
 pub value-returns-in_err-value-in-Power : goal.value-returns-in_err-value-in-Power
@@ -211,7 +213,7 @@ value-returns-in_err-value-in-Power g t c =
     let numbers = g.N.Number.numbers in
     let n = setting_in_slots numbers names vs in
     let s = store_in numbers names vs in
-    let r : c.from_residual-in_err-value-in-Power.result ≡ Err c.in_err-value-in-Power.field-0.0 = search rules in
+    let r = err_is c.from_residual-in_err-value-in-Power.result c.in_err-value-in-Power.field-0.0 c.from_residual-in_err-value-in-Power.ensures.1 in
     record { value = rw c.in-Power.is (kept_second n s names (λ u v. then_ok (exponent_of (numbers.shown v)) (λ k. Ok (numbers.raised_to u k))) c.deref-in-Power.result.now c.in-Power.a.value c.deref-in-Power-2.result.now c.in-Power.b.value c.in_ok-base-in-Power.base c.in_err-value-in-Power.field-0.0 c.from_residual-in_err-value-in-Power.result c.deref-in-Power.ensures c.in_ok-base-in-Power.ensures.value c.deref-in-Power-2.ensures c.in_err-value-in-Power.ensures.value r) }
 
 pub value-returns-in_err-power-in-Power : goal.value-returns-in_err-power-in-Power
@@ -222,7 +224,7 @@ value-returns-in_err-power-in-Power g t c =
     let n = setting_in_slots numbers names vs in
     let s = store_in numbers names vs in
     let fits : FitsSigned w64 c.word.result = search rules in
-    let r : c.from_residual-in_err-power-in-Power.result ≡ Err c.in_err-power-in-Power.field-0.0 = search rules in
+    let r = err_is c.from_residual-in_err-power-in-Power.result c.in_err-power-in-Power.field-0.0 c.from_residual-in_err-power-in-Power.ensures.1 in
     record { value = rw c.in-Power.is (went_second n s names (λ u v. then_ok (exponent_of (numbers.shown v)) (λ k. Ok (numbers.raised_to u k))) c.deref-in-Power.result.now c.in-Power.a.value c.deref-in-Power-2.result.now c.in-Power.b.value c.in_ok-base-in-Power.base c.in_ok-value-in-Power.field-0 (result_of c.from_residual-in_err-power-in-Power.result) c.deref-in-Power.ensures c.in_ok-base-in-Power.ensures.value c.deref-in-Power-2.ensures c.in_ok-value-in-Power.ensures.value (ap result_of r ∙ ap (λ x. then_ok x (λ k. Ok (numbers.raised_to c.in_ok-base-in-Power.base k))) (c.in_err-power-in-Power.ensures ∙ ap exponent_of (to_z-of_z w64 c.word.result fits ∙ c.word.ensures)))) }
 
 pub value-returns-in_ok-power-in-Power : goal.value-returns-in_ok-power-in-Power
@@ -315,3 +317,91 @@ cell_behind-value-requires g t c κs alive =
     let was = ap size-Terms c.in-More.is in
     let left = ap size-Term c.deref.ensures in
     (omega (arith, c.decreases, whole, was, left), (alive, (c.requires.framed, subst (IsTermBelow (length c.args.self.now.slots.items)) (sym c.deref.ensures) below.0)))
+
+-- ---- subscripts in order
+
+pub cell-returns-in_ok-value-in-More : goal.cell-returns-in_ok-value-in-More
+cell-returns-in_ok-value-in-More g t c =
+    let names = c.args.self.now.names.now in
+    let vs = c.args.self.now.slots.items in
+    let n = setting_in_slots g.N.Number.numbers names vs in
+    let s = store_in g.N.Number.numbers names vs in
+    let x = var_at names c.args.i in
+    let fits : FitsSigned w64 c.word-row.result = search rules in
+    record {
+      cell = rw c.in-More.is (c.cell_behind.ensures.cell
+          ∙ (λ k. then_ok (values n (terms_in names (c.deref-in-More.ensures k)) s) (λ is. cell_at n x ((to_z-of_z w64 c.word-row.result fits ∙ c.word-row.ensures) k ∷ is)))
+          ∙ sym (first_known g.N.Number.numbers (value n (term_in names c.in-More.first.value) s) (values n (terms_in names c.in-More.rest.value) s) (λ is. cell_at n x is) c.in_ok-value-in-More.field-0 (c.in_ok-value-in-More.ensures.value ∙ ap (λ e. value n (term_in names e) s) c.deref.ensures)));
+    }
+
+pub each_value-loop-current-preserved : goal.each_value-loop-current-preserved
+each_value-loop-current-preserved g t c =
+    let names = c.args.self.now.names.now in
+    let vs = c.args.self.now.slots.items in
+    let n = setting_in_slots g.N.Number.numbers names vs in
+    let s = store_in g.N.Number.numbers names vs in
+    let inv = c.loop-current.invariant in
+    let below = rw c.in-More.is at inv.below in
+    record {
+      no_deeper =
+          let whole = sized-More c.in-More.first c.in-More.rest in
+          let was = ap size-Terms c.in-More.is in
+          let left = ap size-Terms c.deref-current.ensures in
+          let earlier = inv.no_deeper in
+          omega (arith, whole, was, left, earlier);
+      below = subst (AreTermsBelow (length vs)) (sym c.deref-current.ensures) below.1;
+      traps = ap (λ ts. then_ok (values n (terms_in names ts) s) (λ is. Ok (tt {0}))) c.deref-current.ensures
+          ∙ sym (first_known g.N.Number.numbers (value n (term_in names c.in-More.first.value) s) (values n (terms_in names c.in-More.rest.value) s) (λ is. Ok (tt {0})) c.in_ok-value.field-0 (c.in_ok-value.ensures.value ∙ ap (λ e. value n (term_in names e) s) c.deref.ensures))
+          ∙ ap (λ ts. then_ok (values n (terms_in names ts) s) (λ is. Ok (tt {0}))) (sym c.in-More.is)
+          ∙ inv.traps;
+    }
+
+-- ---- traps
+
+pub value-returns-in_err-cell-in-Elem : goal.value-returns-in_err-cell-in-Elem
+value-returns-in_err-cell-in-Elem g _ c =
+    let names = c.args.self.now.names.now in
+    let vs = c.args.self.now.slots.items in
+    let n = setting_in_slots g.N.Number.numbers names vs in
+    let s = store_in g.N.Number.numbers names vs in
+    let x = var_at names c.in-Elem.i in
+    let t = c.in_err-cell-in-Elem.field-0.0 in
+    let r = err_is c.from_residual.result t c.from_residual.ensures.1 in
+    record { value = rw c.in-Elem.is (ap result_of r ∙ sym (chained_err (values n (terms_in names c.in-Elem.subs) s) (λ is. cell_at n x is) (λ k. Ok (s x k)) (trap_of t) c.in_err-cell-in-Elem.ensures.cell)) }
+
+pub cell-returns-in_err-value-in-More : goal.cell-returns-in_err-value-in-More
+cell-returns-in_err-value-in-More g _ c =
+    let names = c.args.self.now.names.now in
+    let vs = c.args.self.now.slots.items in
+    let n = setting_in_slots g.N.Number.numbers names vs in
+    let s = store_in g.N.Number.numbers names vs in
+    let x = var_at names c.args.i in
+    let t = c.in_err-value-in-More.field-0.0 in
+    let r = err_is c.from_residual.result t c.from_residual.ensures.1 in
+    record { cell = rw c.in-More.is (ap result_of r ∙ sym (first_trap g.N.Number.numbers (value n (term_in names c.in-More.first.value) s) (values n (terms_in names c.in-More.rest.value) s) (λ is. cell_at n x is) (trap_of t) (c.in_err-value-in-More.ensures.value ∙ ap (λ e. value n (term_in names e) s) c.deref.ensures))) }
+
+pub cell_behind-returns-in_err-value-in-More : goal.cell_behind-returns-in_err-value-in-More
+cell_behind-returns-in_err-value-in-More g _ c =
+    let names = c.args.self.now.names.now in
+    let vs = c.args.self.now.slots.items in
+    let n = setting_in_slots g.N.Number.numbers names vs in
+    let s = store_in g.N.Number.numbers names vs in
+    let x = var_at names c.args.i in
+    let t = c.in_err-value-in-More.field-0.0 in
+    let r = err_is c.from_residual.result t c.from_residual.ensures.1 in
+    record { cell = rw c.in-More.is (ap result_of r ∙ sym (first_trap g.N.Number.numbers (value n (term_in names c.in-More.second.value) s) (values n (terms_in names c.in-More.others.value) s) (λ is. cell_at n x (c.args.row ∷ is)) (trap_of t) (c.in_err-value-in-More.ensures.value ∙ ap (λ e. value n (term_in names e) s) c.deref.ensures))) }
+
+pub each_value-returns-in_err-value : goal.each_value-returns-in_err-value
+each_value-returns-in_err-value g _ c =
+    let names = c.args.self.now.names.now in
+    let vs = c.args.self.now.slots.items in
+    let n = setting_in_slots g.N.Number.numbers names vs in
+    let s = store_in g.N.Number.numbers names vs in
+    let t = c.in_err-value.field-0.0 in
+    let r = err_is c.from_residual.result t c.from_residual.ensures.1 in
+    record {
+      traps = ap result_of r
+          ∙ sym (first_trap g.N.Number.numbers (value n (term_in names c.in-More.first.value) s) (values n (terms_in names c.in-More.rest.value) s) (λ is. Ok (tt {0})) (trap_of t) (c.in_err-value.ensures.value ∙ ap (λ e. value n (term_in names e) s) c.deref.ensures))
+          ∙ ap (λ ts. then_ok (values n (terms_in names ts) s) (λ is. Ok (tt {0}))) (sym c.in-More.is)
+          ∙ c.loop-current.invariant.traps;
+    }

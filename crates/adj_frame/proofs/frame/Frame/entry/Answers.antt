@@ -1,8 +1,10 @@
-use Rattle.std.proofs.Common.{rules, ◌≡◌, ◌∷◌, ◌++◌, [], length, get_or, sym, ap, subst, ◌∙◌, arith}
+use Rattle.std.proofs.Common.{rules, ◌≡◌, ◌∷◌, ◌++◌, [], length, get_or, Err, sym, ap, subst, ◌∙◌, arith}
 use Rattle.std.proofs.lemmas.Grind.{common_steps}
 use Rattle.std.proofs.lemmas.List.{length-append}
+use Rattle.adj_frame.specs.declared.entry.Unfit.TheVariants as why
 use Rattle.adj_frame.specs.Framed.{IsSlot}
 use Rattle.adj_frame.specs.Called.{actuals_in, IsEntered}
+use Rattle.adj_frame.proofs.Failing.{err_is}
 use Rattle.adj_frame.proofs.Entering.{entered_shown, pushed_each}
 use Rattle.adj_frame.proofs.frame.Frame.entry.Goals as goal
 
@@ -30,3 +32,12 @@ returns-clause-shown g c shape s h =
     let each : length c.args.routine.now.names ≡ length c.loop-i.slots.items = first_of (search rules, grind (arith, common_steps)) in
     let count = inv.count in
     entered_shown g.N.Number.numbers c.args.routine.now (actuals_in c.args.self.now.names.now shape s c.args.actuals.now) c.loop-i.slots.items c.requires.laid each (λ k d lt. inv.entered k d (omega (arith, lt, each, count)) shape s h)
+
+pub returns-in_err-slot : goal.returns-in_err-slot
+returns-in_err-slot g c =
+    rw (err_is c.from_residual.result c.in_err-slot.field-0.0 c.from_residual.ensures.1) (record {
+      framed = tt;
+      shown = tt;
+      fits = tt;
+      unfit = λ q shape s h. let same : c.in_err-slot.field-0.0 ≡ why.Shape = cc in c.loop-i.invariant.fits shape s h ∙ c.in_err-slot.ensures.unfit (ap Err same) shape s h;
+    })

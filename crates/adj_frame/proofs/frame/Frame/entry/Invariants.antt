@@ -1,5 +1,5 @@
 -- Each slot so far is as at the entry, and what fits from the next dummy on fits from the first.
-use Rattle.std.proofs.Common.{◌≡◌, ℕ, ℤ, ◌<◌, length, get_or}
+use Rattle.std.proofs.Common.{◌≡◌, ℕ, ◌<◌, length, get_or}
 use Rattle.adj_tree.specs.Code.{Var}
 use Rattle.adj_meaning.specs.Store.{Shape, Store}
 use Rattle.adj_frame.specs.declared.slot.Slot.{Slot}

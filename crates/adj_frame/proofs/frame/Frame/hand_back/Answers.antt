@@ -1,4 +1,4 @@
-use Rattle.std.proofs.Common.{ℤ, ◌+◌, ◌<◌, length, get_or, sym, ap, subst, ◌∙◌, arith}
+use Rattle.std.proofs.Common.{◌+◌, ◌<◌, length, get_or, sym, ap, subst, ◌∙◌, arith}
 use Rattle.std.specs.Prelude.{false, nat_lt, ◌&&◌}
 use Rattle.std.proofs.lemmas.List.{length-map, get_or-map}
 use Rattle.adj_meaning.proofs.Booleans.{and_true}

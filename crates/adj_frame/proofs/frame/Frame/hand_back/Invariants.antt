@@ -1,5 +1,5 @@
 -- The slots show what is handed back so far.
-use Rattle.std.proofs.Common.{◌≡◌, ℕ, ℤ, length, get_or}
+use Rattle.std.proofs.Common.{◌≡◌, ℕ, length, get_or}
 use Rattle.adj_tree.specs.Code.{Var}
 use Rattle.adj_meaning.specs.Store.{Shape, Store}
 use Rattle.adj_meaning.specs.Units.{copied_out}

@@ -1,6 +1,7 @@
 use Rattle.std.proofs.Common.{rules, ◌≡◌, length, map, refl, sym, ap, subst, ◌∙◌, arith}
 use Rattle.adj_tree.specs.declared.stmt.Stmts.{size-Stmts}
-use Rattle.adj_tree.specs.declared.stmt.Act.TheViews.{sized-More}
+use Rattle.adj_tree.specs.declared.stmt.Act.{size-Act}
+use Rattle.adj_tree.specs.declared.stmt.Act.TheViews.{sized-If, sized-Loop, sized-While, sized-More}
 use Rattle.adj_tree.specs.declared.stmt.Stmts.TheVariants as stmts
 use Rattle.adj_tree.specs.Code.{step, assign, choose, loop, during, call, runtime}
 use Rattle.adj_tree.specs.View.{term_of, act_of, code_of, procedure_of}
@@ -9,6 +10,7 @@ use Rattle.adj_meaning.specs.Written.{find_unit}
 use Rattle.adj_frame.specs.declared.step.Step.{Step}
 use Rattle.adj_frame.specs.Linked.{IsTaskLinked, AreLinked}
 use Rattle.adj_frame.specs.Instructed.{task_in, steps_in, IsTaskBelow, AreStepsBelow}
+use Rattle.adj_frame.proofs.Failing.{err_is}
 use Rattle.adj_frame.proofs.Resolving.{extends_self, extends_on}
 use Rattle.adj_frame.proofs.numbering.Numbering.+prepare_steps.Goals as goal
 
@@ -168,3 +170,85 @@ task-returns-in_ok-service-in-Run t c =
         below = λ ls f. r1.resolves.below ls f;
       });
     }
+
+-- ---- parts are smaller
+
+pub task-steps-requires : goal.task-steps-requires
+task-steps-requires t c =
+    let whole = sized-If c.in-If.c c.in-If.a c.in-If.b in
+    let was = ap size-Act c.in-If.is in
+    (omega (arith, c.decreases, whole, was), c.requires)
+
+pub task-steps-requires-in-If : goal.task-steps-requires-in-If
+task-steps-requires-in-If t c =
+    let whole = sized-If c.in-If.c c.in-If.a c.in-If.b in
+    let was = ap size-Act c.in-If.is in
+    (omega (arith, c.decreases, whole, was), c.in_ok-first-in-If.ensures.directory)
+
+pub task-steps-requires-in-Loop : goal.task-steps-requires-in-Loop
+task-steps-requires-in-Loop t c =
+    let whole = sized-Loop c.in-Loop.x c.in-Loop.a c.in-Loop.b c.in-Loop.c c.in-Loop.body c.in-Loop.mark in
+    let was = ap size-Act c.in-Loop.is in
+    (omega (arith, c.decreases, whole, was), c.requires)
+
+pub task-steps-requires-in-While : goal.task-steps-requires-in-While
+task-steps-requires-in-While t c =
+    let whole = sized-While c.in-While.c c.in-While.body in
+    let was = ap size-Act c.in-While.is in
+    (omega (arith, c.decreases, whole, was), c.requires)
+
+-- ---- where memory is out
+
+pub task-returns-in_err-cell-in-Assign : goal.task-returns-in_err-cell-in-Assign
+task-returns-in_err-cell-in-Assign t c = rw (err_is c.from_residual.result c.in_err-cell-in-Assign.field-0.0 c.from_residual.ensures.1) (record { extends = tt; units = refl; directory = tt; linked = tt; resolves = tt })
+
+pub task-returns-in_err-value-in-Assign : goal.task-returns-in_err-value-in-Assign
+task-returns-in_err-value-in-Assign t c = rw (err_is c.from_residual-in_err-value-in-Assign.result c.in_err-value-in-Assign.field-0.0 c.from_residual-in_err-value-in-Assign.ensures.1) (record { extends = tt; units = refl; directory = tt; linked = tt; resolves = tt })
+
+pub task-returns-in_err-first-in-If : goal.task-returns-in_err-first-in-If
+task-returns-in_err-first-in-If t c = rw (err_is c.from_residual-in_err-first-in-If.result c.in_err-first-in-If.field-0.0 c.from_residual-in_err-first-in-If.ensures.1) (record { extends = tt; units = c.in_err-first-in-If.ensures.units; directory = tt; linked = tt; resolves = tt })
+
+pub task-returns-in_err-second-in-If : goal.task-returns-in_err-second-in-If
+task-returns-in_err-second-in-If t c = rw (err_is c.from_residual-in_err-second-in-If.result c.in_err-second-in-If.field-0.0 c.from_residual-in_err-second-in-If.ensures.1) (record { extends = tt; units = c.in_err-second-in-If.ensures.units ∙ c.in_ok-first-in-If.ensures.units; directory = tt; linked = tt; resolves = tt })
+
+pub task-returns-in_err-test-in-If : goal.task-returns-in_err-test-in-If
+task-returns-in_err-test-in-If t c = rw (err_is c.from_residual-in_err-test-in-If.result c.in_err-test-in-If.field-0.0 c.from_residual-in_err-test-in-If.ensures.1) (record { extends = tt; units = c.in_ok-second-in-If.ensures.units ∙ c.in_ok-first-in-If.ensures.units; directory = tt; linked = tt; resolves = tt })
+
+pub task-returns-in_err-variable-in-Loop : goal.task-returns-in_err-variable-in-Loop
+task-returns-in_err-variable-in-Loop t c = rw (err_is c.from_residual-in_err-variable-in-Loop.result c.in_err-variable-in-Loop.field-0.0 c.from_residual-in_err-variable-in-Loop.ensures.1) (record { extends = tt; units = refl; directory = tt; linked = tt; resolves = tt })
+
+pub task-returns-in_err-marking-in-Loop : goal.task-returns-in_err-marking-in-Loop
+task-returns-in_err-marking-in-Loop t c = rw (err_is c.from_residual-in_err-marking-in-Loop.result c.in_err-marking-in-Loop.field-0.0 c.from_residual-in_err-marking-in-Loop.ensures.1) (record { extends = tt; units = refl; directory = tt; linked = tt; resolves = tt })
+
+pub task-returns-in_err-inner-in-Loop : goal.task-returns-in_err-inner-in-Loop
+task-returns-in_err-inner-in-Loop t c = rw (err_is c.from_residual-in_err-inner-in-Loop.result c.in_err-inner-in-Loop.field-0.0 c.from_residual-in_err-inner-in-Loop.ensures.1) (record { extends = tt; units = c.in_err-inner-in-Loop.ensures.units; directory = tt; linked = tt; resolves = tt })
+
+pub task-returns-in_err-first-in-Loop : goal.task-returns-in_err-first-in-Loop
+task-returns-in_err-first-in-Loop t c = rw (err_is c.from_residual-in_err-first-in-Loop.result c.in_err-first-in-Loop.field-0.0 c.from_residual-in_err-first-in-Loop.ensures.1) (record { extends = tt; units = c.in_ok-inner-in-Loop.ensures.units; directory = tt; linked = tt; resolves = tt })
+
+pub task-returns-in_err-inner-in-While : goal.task-returns-in_err-inner-in-While
+task-returns-in_err-inner-in-While t c = rw (err_is c.from_residual-in_err-inner-in-While.result c.in_err-inner-in-While.field-0.0 c.from_residual-in_err-inner-in-While.ensures.1) (record { extends = tt; units = c.in_err-inner-in-While.ensures.units; directory = tt; linked = tt; resolves = tt })
+
+pub task-returns-in_err-test-in-While : goal.task-returns-in_err-test-in-While
+task-returns-in_err-test-in-While t c = rw (err_is c.from_residual-in_err-test-in-While.result c.in_err-test-in-While.field-0.0 c.from_residual-in_err-test-in-While.ensures.1) (record { extends = tt; units = c.in_ok-inner-in-While.ensures.units; directory = tt; linked = tt; resolves = tt })
+
+pub task-returns-in_err-number-in-Call : goal.task-returns-in_err-number-in-Call
+task-returns-in_err-number-in-Call t c = rw (err_is c.from_residual-in_err-number-in-Call.result c.in_err-number-in-Call.field-0.0 c.from_residual-in_err-number-in-Call.ensures.1) (record { extends = tt; units = c.in_err-number-in-Call.ensures.units; directory = tt; linked = tt; resolves = tt })
+
+pub task-returns-in_err-terms-in-Call : goal.task-returns-in_err-terms-in-Call
+task-returns-in_err-terms-in-Call t c = rw (err_is c.from_residual-in_err-terms-in-Call.result c.in_err-terms-in-Call.field-0.0 c.from_residual-in_err-terms-in-Call.ensures.1) (record { extends = tt; units = c.in_ok-number-in-Call.ensures.units; directory = tt; linked = tt; resolves = tt })
+
+pub task-returns-in_err-unit-in-Call : goal.task-returns-in_err-unit-in-Call
+task-returns-in_err-unit-in-Call t c = rw (err_is c.from_residual-in_err-unit-in-Call.result c.in_err-unit-in-Call.field-0.0 c.from_residual-in_err-unit-in-Call.ensures.1) (record { extends = tt; units = c.in_ok-number-in-Call.ensures.units; directory = tt; linked = tt; resolves = tt })
+
+pub task-returns-in_err-service-in-Run : goal.task-returns-in_err-service-in-Run
+task-returns-in_err-service-in-Run t c = rw (err_is c.from_residual-in_err-service-in-Run.result c.in_err-service-in-Run.field-0.0 c.from_residual-in_err-service-in-Run.ensures.1) (record { extends = tt; units = refl; directory = tt; linked = tt; resolves = tt })
+
+pub steps-returns-in_err-task : goal.steps-returns-in_err-task
+steps-returns-in_err-task t c = rw (err_is c.from_residual.result c.in_err-task.field-0.0 c.from_residual.ensures.1) (record { extends = tt; units = c.in_err-task.ensures.units ∙ c.loop-current.invariant.units; directory = tt; linked = tt; resolves = tt })
+
+pub steps-returns-in_err-boxed : goal.steps-returns-in_err-boxed
+steps-returns-in_err-boxed t c = rw (err_is c.from_residual-in_err-boxed.result c.in_err-boxed.field-0.0 c.from_residual-in_err-boxed.ensures.1) (record { extends = tt; units = c.in_ok-task.ensures.units ∙ c.loop-current.invariant.units; directory = tt; linked = tt; resolves = tt })
+
+pub steps-returns-in_err-boxed-2 : goal.steps-returns-in_err-boxed-2
+steps-returns-in_err-boxed-2 t c = rw (err_is c.from_residual-in_err-boxed-2.result c.in_err-boxed-2.field-0.0 c.from_residual-in_err-boxed-2.ensures.1) (record { extends = tt; units = c.in_ok-task.ensures.units ∙ c.loop-current.invariant.units; directory = tt; linked = tt; resolves = tt })

@@ -1,12 +1,13 @@
 use Rattle.std.proofs.Common.{rules, ◌≡◌, length, refl, sym, ap, subst, ◌∙◌, arith}
 use Rattle.adj_tree.specs.declared.expr.Expr.{size-Expr}
 use Rattle.adj_tree.specs.declared.expr.Exprs.{size-Exprs}
-use Rattle.adj_tree.specs.declared.expr.Expr.TheViews.{sized-Bin, sized-Power, sized-More}
+use Rattle.adj_tree.specs.declared.expr.Expr.TheViews.{sized-Elem, sized-Neg, sized-Bin, sized-Pow, sized-Power, sized-Abs, sized-More}
 use Rattle.adj_tree.specs.declared.expr.Exprs.TheVariants as exprs
 use Rattle.adj_tree.specs.Code.{var, elem, neg, bin, pow, power_of, abs, more}
 use Rattle.adj_tree.specs.View.{op_of, term_of, terms_of}
 use Rattle.adj_tree.specs.Listed.{terms_turned}
 use Rattle.adj_frame.specs.Prepared.{term_in, terms_in, IsTermBelow, AreTermsBelow}
+use Rattle.adj_frame.proofs.Failing.{err_is}
 use Rattle.adj_frame.proofs.Resolving.{extends_self, extends_on, resolves_on}
 use Rattle.adj_frame.proofs.numbering.Numbering.+prepare_term.Goals as goal
 
@@ -92,6 +93,33 @@ term-returns-in_ok-operand-in-Abs t c =
     }
 
 -- ---- operands are smaller
+
+pub term-terms-requires : goal.term-terms-requires
+term-terms-requires t c =
+    let whole = sized-Elem c.in-Elem.x c.in-Elem.subs in
+    let was = ap size-Expr c.in-Elem.is in
+    (omega (arith, c.decreases, whole, was), tt)
+
+pub term-operand-requires : goal.term-operand-requires
+term-operand-requires t c =
+    let whole = sized-Neg c.in-Neg.a in
+    let was = ap size-Expr c.in-Neg.is in
+    let left = ap size-Expr c.deref.ensures in
+    (omega (arith, c.decreases, whole, was, left), tt)
+
+pub term-operand-requires-in-Pow : goal.term-operand-requires-in-Pow
+term-operand-requires-in-Pow t c =
+    let whole = sized-Pow c.in-Pow.a c.in-Pow.k in
+    let was = ap size-Expr c.in-Pow.is in
+    let left = ap size-Expr c.deref-in-Pow.ensures in
+    (omega (arith, c.decreases, whole, was, left), tt)
+
+pub term-operand-requires-in-Abs : goal.term-operand-requires-in-Abs
+term-operand-requires-in-Abs t c =
+    let whole = sized-Abs c.in-Abs.a in
+    let was = ap size-Expr c.in-Abs.is in
+    let left = ap size-Expr c.deref-in-Abs.ensures in
+    (omega (arith, c.decreases, whole, was, left), tt)
 
 pub term-operands-requires : goal.term-operands-requires
 term-operands-requires t c =
@@ -183,3 +211,50 @@ terms-returns-clause-resolves t c =
       stands_for = λ ls f. c.turned-all.ensures.turned ls ∙ ap (λ z. terms_turned (terms_in ls c.loop-current.made) (terms_of z)) (sym empty) ∙ inv.stands_for ls f;
       below = λ ls f. c.turned-all.ensures.below (length ls) (inv.below ls f);
     }
+
+-- ---- where memory is out
+
+pub term-returns-in_err-variable-in-Var : goal.term-returns-in_err-variable-in-Var
+term-returns-in_err-variable-in-Var t c = rw (err_is c.from_residual.result c.in_err-variable-in-Var.field-0.0 c.from_residual.ensures.1) (record { extends = tt; resolves = tt })
+
+pub term-returns-in_err-variable-in-Elem : goal.term-returns-in_err-variable-in-Elem
+term-returns-in_err-variable-in-Elem t c = rw (err_is c.from_residual-in_err-variable-in-Elem.result c.in_err-variable-in-Elem.field-0.0 c.from_residual-in_err-variable-in-Elem.ensures.1) (record { extends = tt; resolves = tt })
+
+pub term-returns-in_err-subs-in-Elem : goal.term-returns-in_err-subs-in-Elem
+term-returns-in_err-subs-in-Elem t c = rw (err_is c.from_residual-in_err-subs-in-Elem.result c.in_err-subs-in-Elem.field-0.0 c.from_residual-in_err-subs-in-Elem.ensures.1) (record { extends = tt; resolves = tt })
+
+pub term-returns-in_err-operand-in-Neg : goal.term-returns-in_err-operand-in-Neg
+term-returns-in_err-operand-in-Neg t c = rw (err_is c.from_residual-in_err-operand-in-Neg.result c.in_err-operand-in-Neg.field-0.0 c.from_residual-in_err-operand-in-Neg.ensures.1) (record { extends = tt; resolves = tt })
+
+pub term-returns-in_err-left-in-Bin : goal.term-returns-in_err-left-in-Bin
+term-returns-in_err-left-in-Bin t c = rw (err_is c.from_residual-in_err-left-in-Bin.result c.in_err-left-in-Bin.field-0.0 c.from_residual-in_err-left-in-Bin.ensures.1) (record { extends = tt; resolves = tt })
+
+pub term-returns-in_err-operand-in-Pow : goal.term-returns-in_err-operand-in-Pow
+term-returns-in_err-operand-in-Pow t c = rw (err_is c.from_residual-in_err-operand-in-Pow.result c.in_err-operand-in-Pow.field-0.0 c.from_residual-in_err-operand-in-Pow.ensures.1) (record { extends = tt; resolves = tt })
+
+pub term-returns-in_err-base-in-Power : goal.term-returns-in_err-base-in-Power
+term-returns-in_err-base-in-Power t c = rw (err_is c.from_residual-in_err-base-in-Power.result c.in_err-base-in-Power.field-0.0 c.from_residual-in_err-base-in-Power.ensures.1) (record { extends = tt; resolves = tt })
+
+pub term-returns-in_err-operand-in-Abs : goal.term-returns-in_err-operand-in-Abs
+term-returns-in_err-operand-in-Abs t c = rw (err_is c.from_residual-in_err-operand-in-Abs.result c.in_err-operand-in-Abs.field-0.0 c.from_residual-in_err-operand-in-Abs.ensures.1) (record { extends = tt; resolves = tt })
+
+pub operand-returns-in_err-term : goal.operand-returns-in_err-term
+operand-returns-in_err-term t c = rw (err_is c.from_residual.result c.in_err-term.field-0.0 c.from_residual.ensures.1) (record { extends = tt; resolves = tt })
+
+pub operand-returns-in_err-operand : goal.operand-returns-in_err-operand
+operand-returns-in_err-operand t c = rw (err_is c.from_residual-in_err-operand.result c.in_err-operand.field-0.0 c.from_residual-in_err-operand.ensures.1) (record { extends = tt; resolves = tt })
+
+pub operands-returns-in_err-left : goal.operands-returns-in_err-left
+operands-returns-in_err-left t c = rw (err_is c.from_residual.result c.in_err-left.field-0.0 c.from_residual.ensures.1) (record { extends = tt; first = tt; second = tt })
+
+pub operands-returns-in_err-right : goal.operands-returns-in_err-right
+operands-returns-in_err-right t c = rw (err_is c.from_residual-in_err-right.result c.in_err-right.field-0.0 c.from_residual-in_err-right.ensures.1) (record { extends = tt; first = tt; second = tt })
+
+pub terms-returns-in_err-term : goal.terms-returns-in_err-term
+terms-returns-in_err-term t c = rw (err_is c.from_residual.result c.in_err-term.field-0.0 c.from_residual.ensures.1) (record { extends = tt; resolves = tt })
+
+pub terms-returns-in_err-boxed : goal.terms-returns-in_err-boxed
+terms-returns-in_err-boxed t c = rw (err_is c.from_residual-in_err-boxed.result c.in_err-boxed.field-0.0 c.from_residual-in_err-boxed.ensures.1) (record { extends = tt; resolves = tt })
+
+pub terms-returns-in_err-boxed-2 : goal.terms-returns-in_err-boxed-2
+terms-returns-in_err-boxed-2 t c = rw (err_is c.from_residual-in_err-boxed-2.result c.in_err-boxed-2.field-0.0 c.from_residual-in_err-boxed-2.ensures.1) (record { extends = tt; resolves = tt })

@@ -4,6 +4,7 @@ use Rattle.adj_tree.specs.declared.expr.Cond.TheViews.{sized-And, sized-Or}
 use Rattle.adj_tree.specs.Code.{compare, negation, conjunction, disjunction}
 use Rattle.adj_tree.specs.View.{rel_of, term_of, test_of}
 use Rattle.adj_frame.specs.Prepared.{test_in, IsTestBelow}
+use Rattle.adj_frame.proofs.Failing.{err_is}
 use Rattle.adj_frame.proofs.Resolving.{extends_on, resolves_on}
 use Rattle.adj_frame.proofs.numbering.Numbering.+prepare_test.Goals as goal
 
@@ -94,3 +95,29 @@ parts-returns t c =
       first = resolves_on _ _ _ _ _ _ r2.extends r1.resolves;
       second = r2.resolves;
     }
+
+-- ---- where memory is out
+
+pub test-returns-in_err-left-in-Cmp : goal.test-returns-in_err-left-in-Cmp
+test-returns-in_err-left-in-Cmp t c = rw (err_is c.from_residual.result c.in_err-left-in-Cmp.field-0.0 c.from_residual.ensures.1) (record { extends = tt; resolves = tt })
+
+pub test-returns-in_err-operand-in-Not : goal.test-returns-in_err-operand-in-Not
+test-returns-in_err-operand-in-Not t c = rw (err_is c.from_residual-in_err-operand-in-Not.result c.in_err-operand-in-Not.field-0.0 c.from_residual-in_err-operand-in-Not.ensures.1) (record { extends = tt; resolves = tt })
+
+pub test-returns-in_err-left-in-And : goal.test-returns-in_err-left-in-And
+test-returns-in_err-left-in-And t c = rw (err_is c.from_residual-in_err-left-in-And.result c.in_err-left-in-And.field-0.0 c.from_residual-in_err-left-in-And.ensures.1) (record { extends = tt; resolves = tt })
+
+pub test-returns-in_err-left-in-Or : goal.test-returns-in_err-left-in-Or
+test-returns-in_err-left-in-Or t c = rw (err_is c.from_residual-in_err-left-in-Or.result c.in_err-left-in-Or.field-0.0 c.from_residual-in_err-left-in-Or.ensures.1) (record { extends = tt; resolves = tt })
+
+pub part-returns-in_err-test : goal.part-returns-in_err-test
+part-returns-in_err-test t c = rw (err_is c.from_residual.result c.in_err-test.field-0.0 c.from_residual.ensures.1) (record { extends = tt; resolves = tt })
+
+pub part-returns-in_err-part : goal.part-returns-in_err-part
+part-returns-in_err-part t c = rw (err_is c.from_residual-in_err-part.result c.in_err-part.field-0.0 c.from_residual-in_err-part.ensures.1) (record { extends = tt; resolves = tt })
+
+pub parts-returns-in_err-left : goal.parts-returns-in_err-left
+parts-returns-in_err-left t c = rw (err_is c.from_residual.result c.in_err-left.field-0.0 c.from_residual.ensures.1) (record { extends = tt; first = tt; second = tt })
+
+pub parts-returns-in_err-right : goal.parts-returns-in_err-right
+parts-returns-in_err-right t c = rw (err_is c.from_residual-in_err-right.result c.in_err-right.field-0.0 c.from_residual-in_err-right.ensures.1) (record { extends = tt; first = tt; second = tt })

@@ -1,6 +1,7 @@
 use Rattle.std.proofs.Common.{◌∙◌, ap}
 use Rattle.adj_tree.specs.Code.{push_word, pop_word, push_array, pop_array, push_control, pop_control, zero_array, begin_reversal, count_actions, give_action}
 use Rattle.adj_tree.specs.View.{term_of}
+use Rattle.adj_frame.proofs.Failing.{err_is}
 use Rattle.adj_frame.proofs.Resolving.{extends_on}
 use Rattle.adj_frame.proofs.numbering.Numbering.service.Goals as goal
 
@@ -100,3 +101,47 @@ returns-in_ok-steps-in-Action c =
         below = λ ls f. (r4.first.below ls f, r4.second.below ls f, r4.third.below ls f, r1.resolves.below ls (extends_on _ _ _ e2 f), r2.resolves.below ls (extends_on _ _ _ e3 f), r3.resolves.below ls (extends_on _ _ _ e4 f));
       });
     }
+
+-- ---- where memory is out
+
+pub returns-in_err-cell-in-PushWord : goal.returns-in_err-cell-in-PushWord
+returns-in_err-cell-in-PushWord c = rw (err_is c.from_residual.result c.in_err-cell-in-PushWord.field-0.0 c.from_residual.ensures.1) (record { extends = tt; resolves = tt })
+
+pub returns-in_err-cell-in-PopWord : goal.returns-in_err-cell-in-PopWord
+returns-in_err-cell-in-PopWord c = rw (err_is c.from_residual-in_err-cell-in-PopWord.result c.in_err-cell-in-PopWord.field-0.0 c.from_residual-in_err-cell-in-PopWord.ensures.1) (record { extends = tt; resolves = tt })
+
+pub returns-in_err-variable-in-PushArray : goal.returns-in_err-variable-in-PushArray
+returns-in_err-variable-in-PushArray c = rw (err_is c.from_residual-in_err-variable-in-PushArray.result c.in_err-variable-in-PushArray.field-0.0 c.from_residual-in_err-variable-in-PushArray.ensures.1) (record { extends = tt; resolves = tt })
+
+pub returns-in_err-variable-in-PopArray : goal.returns-in_err-variable-in-PopArray
+returns-in_err-variable-in-PopArray c = rw (err_is c.from_residual-in_err-variable-in-PopArray.result c.in_err-variable-in-PopArray.field-0.0 c.from_residual-in_err-variable-in-PopArray.ensures.1) (record { extends = tt; resolves = tt })
+
+pub returns-in_err-term-in-PushControl : goal.returns-in_err-term-in-PushControl
+returns-in_err-term-in-PushControl c = rw (err_is c.from_residual-in_err-term-in-PushControl.result c.in_err-term-in-PushControl.field-0.0 c.from_residual-in_err-term-in-PushControl.ensures.1) (record { extends = tt; resolves = tt })
+
+pub returns-in_err-variable-in-PopControl : goal.returns-in_err-variable-in-PopControl
+returns-in_err-variable-in-PopControl c = rw (err_is c.from_residual-in_err-variable-in-PopControl.result c.in_err-variable-in-PopControl.field-0.0 c.from_residual-in_err-variable-in-PopControl.ensures.1) (record { extends = tt; resolves = tt })
+
+pub returns-in_err-variable-in-Zero : goal.returns-in_err-variable-in-Zero
+returns-in_err-variable-in-Zero c = rw (err_is c.from_residual-in_err-variable-in-Zero.result c.in_err-variable-in-Zero.field-0.0 c.from_residual-in_err-variable-in-Zero.ensures.1) (record { extends = tt; resolves = tt })
+
+pub returns-in_err-steps-in-Begin : goal.returns-in_err-steps-in-Begin
+returns-in_err-steps-in-Begin c = rw (err_is c.from_residual-in_err-steps-in-Begin.result c.in_err-steps-in-Begin.field-0.0 c.from_residual-in_err-steps-in-Begin.ensures.1) (record { extends = tt; resolves = tt })
+
+pub returns-in_err-variable-in-Actions : goal.returns-in_err-variable-in-Actions
+returns-in_err-variable-in-Actions c = rw (err_is c.from_residual-in_err-variable-in-Actions.result c.in_err-variable-in-Actions.field-0.0 c.from_residual-in_err-variable-in-Actions.ensures.1) (record { extends = tt; resolves = tt })
+
+pub returns-in_err-steps-in-Actions : goal.returns-in_err-steps-in-Actions
+returns-in_err-steps-in-Actions c = rw (err_is c.from_residual-in_err-steps-in-Actions.result c.in_err-steps-in-Actions.field-0.0 c.from_residual-in_err-steps-in-Actions.ensures.1) (record { extends = tt; resolves = tt })
+
+pub returns-in_err-kind-in-Action : goal.returns-in_err-kind-in-Action
+returns-in_err-kind-in-Action c = rw (err_is c.from_residual-in_err-kind-in-Action.result c.in_err-kind-in-Action.field-0.0 c.from_residual-in_err-kind-in-Action.ensures.1) (record { extends = tt; resolves = tt })
+
+pub returns-in_err-lower-in-Action : goal.returns-in_err-lower-in-Action
+returns-in_err-lower-in-Action c = rw (err_is c.from_residual-in_err-lower-in-Action.result c.in_err-lower-in-Action.field-0.0 c.from_residual-in_err-lower-in-Action.ensures.1) (record { extends = tt; resolves = tt })
+
+pub returns-in_err-upper-in-Action : goal.returns-in_err-upper-in-Action
+returns-in_err-upper-in-Action c = rw (err_is c.from_residual-in_err-upper-in-Action.result c.in_err-upper-in-Action.field-0.0 c.from_residual-in_err-upper-in-Action.ensures.1) (record { extends = tt; resolves = tt })
+
+pub returns-in_err-steps-in-Action : goal.returns-in_err-steps-in-Action
+returns-in_err-steps-in-Action c = rw (err_is c.from_residual-in_err-steps-in-Action.result c.in_err-steps-in-Action.field-0.0 c.from_residual-in_err-steps-in-Action.ensures.1) (record { extends = tt; resolves = tt })

@@ -1,3 +1,4 @@
+use Rattle.adj_frame.proofs.Failing.{err_is}
 use Rattle.adj_frame.proofs.Resolving.{extends_on, resolves_on}
 use Rattle.adj_frame.proofs.numbering.Numbering.two.Goals as goal
 
@@ -10,3 +11,9 @@ returns c =
       first = resolves_on _ _ _ _ _ _ r2.extends r1.resolves;
       second = r2.resolves;
     }
+
+pub returns-in_err-first : goal.returns-in_err-first
+returns-in_err-first c = rw (err_is c.from_residual.result c.in_err-first.field-0.0 c.from_residual.ensures.1) (record { extends = tt; first = tt; second = tt })
+
+pub returns-in_err-second : goal.returns-in_err-second
+returns-in_err-second c = rw (err_is c.from_residual-in_err-second.result c.in_err-second.field-0.0 c.from_residual-in_err-second.ensures.1) (record { extends = tt; first = tt; second = tt })
