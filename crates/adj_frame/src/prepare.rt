@@ -13,7 +13,7 @@ use crate::directory::Directory;
 use crate::numbering::Numbering;
 use crate::step::{Bounds, Cell, Marking, Service, Step, Steps, Task};
 use crate::term::{Term, Terms, Test};
-use adj_tree::{Act, Cond, Expr, Exprs, Mark, Memory, Name, Place, RunCall, Stmts, boxed};
+use adj_tree::{Act, Cond, Expr, Exprs, Mark, Memory, Name, Place, RunCall, Stmt, Stmts, boxed};
 use std::alloc::Global;
 
 impl<'a> Numbering<'a> {
@@ -299,6 +299,31 @@ impl<'a> Numbering<'a> {
         }
     }
 
+    // A statement on the heap.
+    #[cycle(prepare_steps)]
+    fn step(
+        &mut self,
+        alloc: Global,
+        units: &mut Directory<'a>,
+        stmt: &'a Stmt,
+    ) -> Result<Box<Step>, Memory>
+        requires { IsDirectory units.old }
+        ensures extends { OnOk result (Extends self.old self.new) }
+        ensures units { units.new.units.now ≡ units.old.units.now }
+        ensures directory { OnOk result (IsDirectory units.new) }
+        ensures linked { IfOk result (λ s. IsTaskLinked (map procedure_of units.old.units.now) s.value.task) }
+        ensures line { IfOk result (λ s. s.value.line ≡ stmt.now.line) }
+        ensures resolves { IfOk result (λ s. Resolves task_in IsTaskBelow self.new s.value.task (act_of stmt.now.act)) }
+    {
+        let task = self.task(alloc, units, &stmt.act)?;
+        let step = Step {
+            line: stmt.line,
+            task,
+        };
+        let made = boxed(alloc, step)?;
+        Ok(made)
+    }
+
     /// Statements in order.
     #[cycle(prepare_steps)]
     pub fn steps(
@@ -317,12 +342,8 @@ impl<'a> Numbering<'a> {
         let mut made = Steps::Empty;
         let mut current = stmts;
         while let Stmts::More(first, rest) = current {
-            let task = self.task(alloc, units, &first.act)?;
-            let step = Step {
-                line: first.line,
-                task,
-            };
-            made = Steps::More(boxed(alloc, step)?, boxed(alloc, made)?);
+            let step = self.step(alloc, units, first)?;
+            made = Steps::More(step, boxed(alloc, made)?);
             current = rest;
         }
         let all = made.turned();

@@ -29,12 +29,12 @@ steps-loop-current-preserved t c =
     let made = c.loop-current.made in
     let rest = c.in-More.rest.value in
     let before = c.loop-current.self in
-    let after = c.task.new.self in
+    let after = c.step.new.self in
     let inv = c.loop-current.invariant in
-    let e = c.in_ok-task.ensures.extends in
-    let r = c.in_ok-task.ensures.resolves in
-    let ok1 = c.in_ok-boxed.ensures.boxed in
-    let ok2 = c.in_ok-boxed-2.ensures.boxed in
+    let k = c.in_ok-step.ensures in
+    let e = k.extends in
+    let v = c.in_ok-step.step.value in
+    let ok = c.in_ok-boxed.ensures.boxed in
     record {
       no_deeper =
           let whole = sized-More c.in-More.first c.in-More.rest in
@@ -42,18 +42,33 @@ steps-loop-current-preserved t c =
           let left = ap size-Stmts c.deref-current.ensures in
           let earlier = inv.no_deeper in
           first_of (omega (arith, whole, was, left, earlier), grind (arith, whole, was, left, earlier));
-      units = c.in_ok-task.ensures.units ∙ inv.units;
-      directory = c.in_ok-task.ensures.directory;
-      linked = (subst (λ (v : Step). IsTaskLinked (map procedure_of c.args.units.now.units.now) v.task) (sym ok1) (subst (λ us. IsTaskLinked (map procedure_of us) c.in_ok-task.task) inv.units c.in_ok-task.ensures.linked), subst (AreLinked (map procedure_of c.args.units.now.units.now)) (sym ok2) inv.linked);
+      units = k.units ∙ inv.units;
+      directory = k.directory;
+      linked = (subst (λ us. IsTaskLinked (map procedure_of us) v.task) inv.units k.linked, subst (AreLinked (map procedure_of c.args.units.now.units.now)) (sym ok) inv.linked);
       extends = extends_on c.args.self.now before after inv.extends e;
       resolves = record {
         stands_for = λ ls f.
-            (λ i. code_turned (steps_in ls (ok2 i)) (step (ok1 i).line (task_in ls (ok1 i).task) (code_of (c.deref-current.ensures i))))
-            ∙ (λ i. code_turned (steps_in ls made) (step (c.deref-in-More.ensures i).line (r.stands_for ls f i) (code_of rest)))
-            ∙ ap (λ z. code_turned (steps_in ls made) (step c.in-More.first.value.line (act_of z.act) (code_of rest))) c.deref.ensures
+            (λ i. code_turned (steps_in ls (ok i)) (step (k.line i) (k.resolves.stands_for ls f i) (code_of (c.deref-current.ensures i))))
+            ∙ ap (λ z. code_turned (steps_in ls made) (step z.line (act_of z.act) (code_of rest))) c.deref.ensures
             ∙ ap (λ z. code_turned (steps_in ls made) (code_of z)) (sym c.in-More.is)
             ∙ inv.resolves.stands_for ls (extends_on before after ls e f);
-        below = λ ls f. (subst (λ (v : Step). IsTaskBelow (length ls) v.task) (sym ok1) (r.below ls f), subst (AreStepsBelow (length ls)) (sym ok2) (inv.resolves.below ls (extends_on before after ls e f)));
+        below = λ ls f. (k.resolves.below ls f, subst (AreStepsBelow (length ls)) (sym ok) (inv.resolves.below ls (extends_on before after ls e f)));
+      };
+    }
+
+pub step-returns : goal.step-returns
+step-returns t c =
+    let r = c.in_ok-task.ensures in
+    let b = c.in_ok-made.ensures.boxed in
+    record {
+      extends = r.extends;
+      units = r.units;
+      directory = r.directory;
+      linked = subst (λ (v : Step). IsTaskLinked (map procedure_of c.args.units.now.units.now) v.task) (sym b) r.linked;
+      line = ap (λ (v : Step). v.line) b;
+      resolves = record {
+        stands_for = λ ls f. ap (λ (v : Step). task_in ls v.task) b ∙ r.resolves.stands_for ls f;
+        below = λ ls f. subst (λ (v : Step). IsTaskBelow (length ls) v.task) (sym b) (r.resolves.below ls f);
       };
     }
 
@@ -244,11 +259,14 @@ task-returns-in_err-unit-in-Call t c = rw (err_is c.from_residual-in_err-unit-in
 pub task-returns-in_err-service-in-Run : goal.task-returns-in_err-service-in-Run
 task-returns-in_err-service-in-Run t c = rw (err_is c.from_residual-in_err-service-in-Run.result c.in_err-service-in-Run.field-0.0 c.from_residual-in_err-service-in-Run.ensures.1) (record { extends = tt; units = refl; directory = tt; linked = tt; resolves = tt })
 
-pub steps-returns-in_err-task : goal.steps-returns-in_err-task
-steps-returns-in_err-task t c = rw (err_is c.from_residual.result c.in_err-task.field-0.0 c.from_residual.ensures.1) (record { extends = tt; units = c.in_err-task.ensures.units ∙ c.loop-current.invariant.units; directory = tt; linked = tt; resolves = tt })
+pub steps-returns-in_err-step : goal.steps-returns-in_err-step
+steps-returns-in_err-step t c = rw (err_is c.from_residual.result c.in_err-step.field-0.0 c.from_residual.ensures.1) (record { extends = tt; units = c.in_err-step.ensures.units ∙ c.loop-current.invariant.units; directory = tt; linked = tt; resolves = tt })
 
 pub steps-returns-in_err-boxed : goal.steps-returns-in_err-boxed
-steps-returns-in_err-boxed t c = rw (err_is c.from_residual-in_err-boxed.result c.in_err-boxed.field-0.0 c.from_residual-in_err-boxed.ensures.1) (record { extends = tt; units = c.in_ok-task.ensures.units ∙ c.loop-current.invariant.units; directory = tt; linked = tt; resolves = tt })
+steps-returns-in_err-boxed t c = rw (err_is c.from_residual-in_err-boxed.result c.in_err-boxed.field-0.0 c.from_residual-in_err-boxed.ensures.1) (record { extends = tt; units = c.in_ok-step.ensures.units ∙ c.loop-current.invariant.units; directory = tt; linked = tt; resolves = tt })
 
-pub steps-returns-in_err-boxed-2 : goal.steps-returns-in_err-boxed-2
-steps-returns-in_err-boxed-2 t c = rw (err_is c.from_residual-in_err-boxed-2.result c.in_err-boxed-2.field-0.0 c.from_residual-in_err-boxed-2.ensures.1) (record { extends = tt; units = c.in_ok-task.ensures.units ∙ c.loop-current.invariant.units; directory = tt; linked = tt; resolves = tt })
+pub step-returns-in_err-task : goal.step-returns-in_err-task
+step-returns-in_err-task t c = rw (err_is c.from_residual.result c.in_err-task.field-0.0 c.from_residual.ensures.1) (record { extends = tt; units = c.in_err-task.ensures.units; directory = tt; linked = tt; line = tt; resolves = tt })
+
+pub step-returns-in_err-made : goal.step-returns-in_err-made
+step-returns-in_err-made t c = rw (err_is c.from_residual-in_err-made.result c.in_err-made.field-0.0 c.from_residual-in_err-made.ensures.1) (record { extends = tt; units = c.in_ok-task.ensures.units; directory = tt; linked = tt; line = tt; resolves = tt })
