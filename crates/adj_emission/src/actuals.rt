@@ -1,14 +1,14 @@
 //! The actuals of calls, and the groups of them that are pushed (docs/EMITTED.md, "Sweeps of every statement").
 
 ghost use Rattle.std.specs.Prelude.{◌≡◌, ◌++◌, ◌∷◌, [], ℕ, List, map, length, slice_get, IfOk, OnOk, if◌then◌else◌};
-ghost use Rattle.adj_tree.specs.Code.{Terms, more, none, plain, push_word, push_array, pop_word, pop_array};
+ghost use Rattle.adj_tree.specs.Code.{Terms, more, none, plain, call, push_word, push_array, pop_word, pop_array, step};
 ghost use Rattle.adj_tree.specs.Listed.{terms_onto};
 ghost use Rattle.adj_tree.specs.View.{term_of, terms_of, runtime_of, code_of};
 ghost use Rattle.adj_meaning.specs.Append.{◌+++◌};
 ghost use Rattle.adj_meaning.specs.Rename.{rename_terms};
 ghost use Rattle.adj_transpose.specs.Fresh.{has_name};
 ghost use Rattle.adj_reverse.specs.Plan.{Callee, names_of};
-ghost use Rattle.adj_reverse.specs.Emission.{push, pop, pushes, pops};
+ghost use Rattle.adj_reverse.specs.Emission.{pushes, pops};
 ghost use Rattle.adj_marking.specs.View.{marks_of};
 ghost use Rattle.adj_emission.specs.Actuals.{paired, with_pair, is_in, chosen, with_shadow, all_with_shadows};
 ghost use Rattle.adj_emission.specs.Plans.{naming_in, plan_of};
@@ -59,6 +59,21 @@ pub fn names_of(alloc: Global, actuals: &Exprs) -> Result<Vec<Name>, Memory>
         current = rest;
     }
     Ok(made)
+}
+
+/// A call, and then the rest.
+pub fn call_before(
+    alloc: Global,
+    line: u32,
+    name: &Name,
+    actuals: Exprs,
+    rest: Stmts,
+) -> Result<Stmts, Memory>
+    ensures step { IfOk result (λ c. code_of c ≡ step line (call name.now (terms_of actuals)) (code_of rest)) }
+{
+    let act = Act::Call(name.copy(alloc)?, actuals);
+    let code = before(alloc, Stmt { line, act }, rest)?;
+    Ok(code)
 }
 
 // Adds a name, where there is a dummy for it.
@@ -116,45 +131,25 @@ impl<'a> Plan<'a> {
     }
 
     // The call that pushes a variable, an array whole.
-    fn push_of(&self, alloc: Global, x: &Name) -> Result<RunCall, Memory>
-        ensures call { IfOk result (λ c. runtime_of c ≡ (if has_name x.now self.now.arrays.now then push_array (plain x.now) else push_word (plain x.now) none)) }
+    fn push_of(&self, name: Name) -> RunCall
+        ensures call { runtime_of result ≡ (if has_name name self.now.arrays.now then push_array (plain name) else push_word (plain name) none) }
     {
-        let name = x.copy(alloc)?;
-        if self.arrays.has(x.bytes()) {
-            return Ok(RunCall::PushArray(name));
+        if self.arrays.has(name.bytes()) {
+            return RunCall::PushArray(name);
         }
         let subs = Exprs::Empty;
-        Ok(RunCall::PushWord(Place { name, subs }))
+        RunCall::PushWord(Place { name, subs })
     }
 
     // The call that pops a variable, an array whole.
-    fn pop_of(&self, alloc: Global, x: &Name) -> Result<RunCall, Memory>
-        ensures call { IfOk result (λ c. runtime_of c ≡ (if has_name x.now self.now.arrays.now then pop_array (plain x.now) else pop_word (plain x.now) none)) }
+    fn pop_of(&self, name: Name) -> RunCall
+        ensures call { runtime_of result ≡ (if has_name name self.now.arrays.now then pop_array (plain name) else pop_word (plain name) none) }
     {
-        let name = x.copy(alloc)?;
-        if self.arrays.has(x.bytes()) {
-            return Ok(RunCall::PopArray(name));
+        if self.arrays.has(name.bytes()) {
+            return RunCall::PopArray(name);
         }
         let subs = Exprs::Empty;
-        Ok(RunCall::PopWord(Place { name, subs }))
-    }
-
-    // The push of a variable, of an array whole, behind what is turned round.
-    fn push_whole(&self, alloc: Global, line: u32, x: &Name, turned: Stmts) -> Result<Stmts, Memory>
-        ensures pushed { IfOk result (λ c. (callees : List ℕ → Callee) → in_order (code_of c) ≡ in_order (code_of turned) +++ push (plan_of self.now callees) line x.now) }
-    {
-        let act = Act::Run(self.push_of(alloc, x)?);
-        let code = before(alloc, Stmt { line, act }, turned)?;
-        Ok(code)
-    }
-
-    // The pop of a variable, of an array whole, and then the rest.
-    fn pop_whole(&self, alloc: Global, line: u32, x: &Name, rest: Stmts) -> Result<Stmts, Memory>
-        ensures popped { IfOk result (λ c. (callees : List ℕ → Callee) → code_of c ≡ pop (plan_of self.now callees) line x.now +++ code_of rest) }
-    {
-        let act = Act::Run(self.pop_of(alloc, x)?);
-        let code = before(alloc, Stmt { line, act }, rest)?;
-        Ok(code)
+        RunCall::PopWord(Place { name, subs })
     }
 
     // The push of an actual that is in the group, behind what is turned round.
@@ -172,7 +167,9 @@ impl<'a> Plan<'a> {
         if !self.is_in(group, number, actual) {
             return Ok(turned);
         }
-        let code = self.push_whole(alloc, line, &actual.name, turned)?;
+        let name = actual.name.copy(alloc)?;
+        let act = Act::Run(self.push_of(name));
+        let code = before(alloc, Stmt { line, act }, turned)?;
         Ok(code)
     }
 
@@ -191,7 +188,9 @@ impl<'a> Plan<'a> {
         if !self.is_in(group, number, actual) {
             return Ok(rest);
         }
-        let code = self.pop_whole(alloc, line, &actual.name, rest)?;
+        let name = actual.name.copy(alloc)?;
+        let act = Act::Run(self.pop_of(name));
+        let code = before(alloc, Stmt { line, act }, rest)?;
         Ok(code)
     }
 

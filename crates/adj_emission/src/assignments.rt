@@ -16,8 +16,8 @@ ghost use Rattle.adj_emission.specs.Swept.{in_order, SweepsAct};
 use crate::plan::Plan;
 use crate::sweeps::{Sweeps, next};
 use adj_site::site::Site;
-use adj_site::step::{before, pop, push};
-use adj_tree::{Act, Expr, Memory, Place, Stmt, Stmts};
+use adj_site::step::{before, pop, push, set_before};
+use adj_tree::{Expr, Memory, Place, Stmts};
 use std::alloc::Global;
 
 impl<'a> Plan<'a> {
@@ -73,8 +73,9 @@ impl<'a> Plan<'a> {
             return Ok(turned);
         }
         let pushed = self.push_saved(alloc, number, line, place, turned)?;
-        let act = Act::Assign(place.copy(alloc)?, e.copy(alloc)?);
-        let code = before(alloc, Stmt { line, act }, pushed)?;
+        let value = e.copy_boxed(alloc)?;
+        let target = place.copy(alloc)?;
+        let code = set_before(alloc, line, target, value, pushed)?;
         Ok(code)
     }
 

@@ -1,20 +1,22 @@
 //! Both sweeps of an IF (docs/EMITTED.md, "Sweeps of every statement").
 
-ghost use Rattle.std.specs.Prelude.{◌≡◌, ◌&&◌, ℕ, List, IfOk, suc, pos};
-ghost use Rattle.adj_tree.specs.Code.{Code, plain, var, lit, compare, is_same, choose, stop};
+ghost use Rattle.std.specs.Prelude.{◌≡◌, ◌&&◌, ℕ, List, IfOk, suc};
+ghost use Rattle.adj_tree.specs.Code.{Code, var, compare, is_same, choose, stop, step};
 ghost use Rattle.adj_tree.specs.View.{test_of, code_of};
 ghost use Rattle.adj_meaning.specs.Append.{◌+++◌, one};
 ghost use Rattle.adj_meaning.specs.Rename.{rename};
 ghost use Rattle.adj_reverse.specs.Plan.{Callee, Schedules};
-ghost use Rattle.adj_reverse.specs.Emission.{is_empty, told_forward, told_backward};
+ghost use Rattle.adj_reverse.specs.Emission.{is_empty, literal, told_forward, told_backward};
+ghost use Rattle.adj_naming.specs.Roles.{variable_of};
 ghost use Rattle.adj_emission.specs.Plans.{naming_in, plan_of};
 ghost use Rattle.adj_emission.specs.Swept.{in_order, SweepsAct, SweepsList};
 
 use crate::plan::Plan;
+use crate::slots::literal;
 use crate::sweeps::Sweeps;
-use adj_naming::role::Role;
+use adj_naming::role::{Helper, Role};
 use adj_site::step::before;
-use adj_tree::{Act, Cond, Expr, Memory, Name, Rel, RunCall, Stmt, Stmts, boxed};
+use adj_tree::{Act, Cond, Expr, Memory, Rel, RunCall, Stmt, Stmts, boxed};
 use std::alloc::Global;
 
 // The forward sweep of a part, which is turned round; where a part has a backward sweep, it tells that it ran.
@@ -50,16 +52,6 @@ fn branch_forward(
     Ok(code)
 }
 
-// Whether a control word says that the first part ran.
-fn first_ran(alloc: Global, word: &Name) -> Result<Cond, Memory>
-    ensures test { IfOk result (λ c. test_of c ≡ compare is_same (var (plain word.now)) (lit (pos 1))) }
-{
-    let name = word.copy(alloc)?;
-    let left = boxed(alloc, Expr::Var(name))?;
-    let right = boxed(alloc, Expr::Lit(1))?;
-    Ok(Cond::Cmp(Rel::Eq, left, right))
-}
-
 // Whether neither part has a backward sweep.
 fn are_idle(first: &Sweeps, second: &Sweeps) -> bool
     ensures idle { result ≡ (is_empty (code_of first.now.backward) && is_empty (code_of second.now.backward)) }
@@ -68,6 +60,26 @@ fn are_idle(first: &Sweeps, second: &Sweeps) -> bool
 }
 
 impl<'a> Plan<'a> {
+    /// An IF whose first part runs where a helper holds a number, and then the rest.
+    pub fn if_own(
+        &self,
+        alloc: Global,
+        line: u32,
+        own: Helper,
+        n: u32,
+        first: Stmts,
+        second: Stmts,
+        rest: Stmts,
+    ) -> Result<Stmts, Memory>
+        ensures step { IfOk result (λ c. code_of c ≡ step line (choose (compare is_same (var (naming_in self.now (variable_of own))) (literal n)) (code_of first) (code_of second)) (code_of rest)) }
+    {
+        let left = self.own(alloc, own)?;
+        let right = boxed(alloc, literal(n))?;
+        let act = Act::If(Cond::Cmp(Rel::Eq, left, right), first, second);
+        let code = before(alloc, Stmt { line, act }, rest)?;
+        Ok(code)
+    }
+
     // The backward sweep of an IF, and then the rest.
     fn branch_backward(
         &self,
@@ -83,10 +95,12 @@ impl<'a> Plan<'a> {
         if idle {
             return Ok(rest);
         }
+        let own = Helper {
+            role: Role::Control,
+            number: 0,
+        };
+        let parts = self.if_own(alloc, line, own, 1, first, second, rest)?;
         let word = self.names.helper(alloc, Role::Control, 0)?;
-        let test = first_ran(alloc, &word)?;
-        let act = Act::If(test, first, second);
-        let parts = before(alloc, Stmt { line, act }, rest)?;
         let act = Act::Run(RunCall::PopControl(word));
         let code = before(alloc, Stmt { line, act }, parts)?;
         Ok(code)

@@ -16,11 +16,10 @@ ghost use Rattle.adj_helpers.specs.Callees.{KnowsAll};
 ghost use Rattle.adj_emission.specs.Plans.{naming_in, plan_of};
 ghost use Rattle.adj_emission.specs.Swept.{in_order, SweepsAct};
 
-use crate::actuals::{Actual, Group, actuals_of};
+use crate::actuals::{Actual, Group, actuals_of, call_before};
 use crate::plan::Plan;
 use crate::sweeps::{Sweeps, next};
-use adj_site::step::before;
-use adj_tree::{Act, Exprs, Memory, Name, Stmt, Stmts};
+use adj_tree::{Exprs, Memory, Name, Stmts};
 use std::alloc::Global;
 
 impl<'a> Plan<'a> {
@@ -57,8 +56,8 @@ impl<'a> Plan<'a> {
         if !self.marks.kept(number) {
             return Ok(turned);
         }
-        let act = Act::Call(name.copy(alloc)?, actuals.copy(alloc)?);
-        let code = before(alloc, Stmt { line, act }, turned)?;
+        let given = actuals.copy(alloc)?;
+        let code = call_before(alloc, line, name, given, turned)?;
         Ok(code)
     }
 
@@ -78,8 +77,7 @@ impl<'a> Plan<'a> {
             return Ok(rest);
         }
         let given = self.with_shadows(alloc, actuals)?;
-        let act = Act::Call(adjoint.copy(alloc)?, given);
-        let called = before(alloc, Stmt { line, act }, rest)?;
+        let called = call_before(alloc, line, adjoint, given, rest)?;
         let code = self.pops(alloc, number, line, Group::Snapshot, actuals, called)?;
         Ok(code)
     }

@@ -6,7 +6,7 @@ ghost use Rattle.adj_tree.specs.Listed.{code_turned};
 ghost use Rattle.adj_tree.specs.View.{term_of, act_of, code_of};
 ghost use Rattle.adj_meaning.specs.Append.{◌+++◌, one};
 ghost use Rattle.adj_meaning.specs.Rename.{rename};
-ghost use Rattle.adj_reverse.specs.Emission.{loop_forward, loop_backward, resets, reset};
+ghost use Rattle.adj_reverse.specs.Emission.{loop_forward, resets, reset};
 ghost use Rattle.adj_marking.specs.View.{marks_of};
 ghost use Rattle.adj_naming.specs.Roles.{role_of};
 ghost use Rattle.adj_emission.specs.Plans.{naming_in};
@@ -14,6 +14,7 @@ ghost use Rattle.adj_emission.specs.Rows.{turns};
 ghost use Rattle.adj_emission.specs.Swept.{in_order};
 
 use crate::plan::{At, Plan};
+use crate::slots::with_number;
 use adj_naming::role::{Helper, Role};
 use adj_site::step::{before, scalar_assignment, set_before};
 use adj_site::terms::sum;
@@ -40,8 +41,26 @@ pub fn of_depth(role: Role, depth: usize) -> Helper
     }
 }
 
-// A DO as it is, with its forward sweep, behind what is turned round.
-fn plain_turns(
+/// A DO that isn't marked.
+pub fn turns_of(
+    line: u32,
+    variable: Name,
+    first: Box<Expr>,
+    limit: Box<Expr>,
+    step: Box<Expr>,
+    body: Stmts,
+) -> Stmt
+    ensures line { result.line ≡ line }
+    ensures act { act_of result.act ≡ turns (plain variable) (term_of first.value) (term_of limit.value) (term_of step.value) (code_of body) }
+{
+    Stmt {
+        line,
+        act: Act::Loop(variable, first, limit, step, body, Mark::Plain),
+    }
+}
+
+/// A DO as it is, with its forward sweep, behind what is turned round.
+pub fn plain_turns(
     alloc: Global,
     line: u32,
     bounds: &Bounds,
@@ -50,12 +69,12 @@ fn plain_turns(
 ) -> Result<Stmts, Memory>
     ensures forward { IfOk result (λ c. in_order (code_of c) ≡ in_order (code_of turned) +++ one line (turns (plain bounds.now.variable.now) (term_of bounds.now.first.now) (term_of bounds.now.limit.now) (term_of bounds.now.step.now) (in_order (code_of body)))) }
 {
-    let variable = bounds.variable.copy(alloc)?;
     let first = bounds.first.copy_boxed(alloc)?;
     let limit = bounds.limit.copy_boxed(alloc)?;
     let step = bounds.step.copy_boxed(alloc)?;
-    let act = Act::Loop(variable, first, limit, step, body.turned(), Mark::Plain);
-    let code = before(alloc, Stmt { line, act }, turned)?;
+    let variable = bounds.variable.copy(alloc)?;
+    let turns = turns_of(line, variable, first, limit, step, body.turned());
+    let code = before(alloc, turns, turned)?;
     Ok(code)
 }
 
@@ -95,32 +114,30 @@ impl<'a> Plan<'a> {
     {
         let count = of_depth(Role::Count, at.depth);
         let old = self.own(alloc, count)?;
-        let one = boxed(alloc, Expr::Lit(1))?;
-        let more = sum(alloc, old, one)?;
+        let more = with_number(alloc, Op::Add, old, 1)?;
         let code = self.set_own(alloc, at.line, count, more, body)?;
         Ok(code.turned())
     }
 
-    /// The DO over what was set.
+    /// The DO over what was set, and then the rest.
     pub fn counted_turns(
         &self,
         alloc: Global,
         at: At,
         bounds: &Bounds,
         body: Stmts,
-    ) -> Result<Stmt, Memory>
-        ensures line { IfOk result (λ s. s.line ≡ at.line) }
-        ensures act { IfOk result (λ s. act_of s.act ≡ turns (plain bounds.now.variable.now) (var (naming_in self.now (helper first at.depth))) (term_of bounds.now.limit.now) (var (naming_in self.now (helper stride at.depth))) (code_turned (code_of body) (one at.line (assign (naming_in self.now (helper count at.depth)) none (bin plus (var (naming_in self.now (helper count at.depth))) (lit (pos 1))))))) }
+        rest: Stmts,
+    ) -> Result<Stmts, Memory>
+        ensures step { IfOk result (λ c. code_of c ≡ step at.line (turns (plain bounds.now.variable.now) (var (naming_in self.now (helper first at.depth))) (term_of bounds.now.limit.now) (var (naming_in self.now (helper stride at.depth))) (code_turned (code_of body) (one at.line (assign (naming_in self.now (helper count at.depth)) none (bin plus (var (naming_in self.now (helper count at.depth))) (lit (pos 1))))))) (code_of rest)) }
     {
-        let body = self.counted(alloc, at, body)?;
-        let variable = bounds.variable.copy(alloc)?;
+        let counted = self.counted(alloc, at, body)?;
         let first = self.own(alloc, of_depth(Role::First, at.depth))?;
         let limit = bounds.limit.copy_boxed(alloc)?;
         let stride = self.own(alloc, of_depth(Role::Stride, at.depth))?;
-        Ok(Stmt {
-            line: at.line,
-            act: Act::Loop(variable, first, limit, stride, body, Mark::Plain),
-        })
+        let variable = bounds.variable.copy(alloc)?;
+        let turns = turns_of(at.line, variable, first, limit, stride, counted);
+        let code = before(alloc, turns, rest)?;
+        Ok(code)
     }
 
     /// The first value and the step are pushed, behind what is turned round.
@@ -143,8 +160,8 @@ impl<'a> Plan<'a> {
         Ok(code)
     }
 
-    // The forward sweep of a DO whose turns are gone through backward, behind what is turned round.
-    fn told_turns(
+    /// The forward sweep of a DO whose turns are gone through backward, behind what is turned round.
+    pub fn told_turns(
         &self,
         alloc: Global,
         at: At,
@@ -156,49 +173,31 @@ impl<'a> Plan<'a> {
     {
         let bound = self.set_bounds(alloc, at, bounds, turned)?;
         let opened = self.set_count(alloc, at, bound)?;
-        let turns = self.counted_turns(alloc, at, bounds, body)?;
-        let gone = before(alloc, turns, opened)?;
+        let gone = self.counted_turns(alloc, at, bounds, body, opened)?;
         let pushed = self.push_bounds(alloc, at, gone)?;
         let code = self.push_count(alloc, at, pushed)?;
         Ok(code)
     }
 
-    /// The forward sweep of a DO, behind what is turned round.
-    pub fn loop_forward(
+    /// The loop over the turns from the last to the first, and then the rest.
+    pub fn turns_back(
         &self,
         alloc: Global,
         at: At,
-        bounds: &Bounds,
-        idle: bool,
         body: Stmts,
-        turned: Stmts,
+        rest: Stmts,
     ) -> Result<Stmts, Memory>
-        ensures forward { IfOk result (λ c. (inner : Code) → in_order (code_of body) ≡ rename (naming_in self.now) inner → in_order (code_of c) ≡ in_order (code_of turned) +++ rename (naming_in self.now) (loop_forward idle at.depth at.line (plain bounds.now.variable.now) (term_of bounds.now.first.now) (term_of bounds.now.limit.now) (term_of bounds.now.step.now) inner)) }
+        ensures step { IfOk result (λ c. code_of c ≡ step at.line (turns (naming_in self.now (helper turn at.depth)) (bin minus (var (naming_in self.now (helper count at.depth))) (lit (pos 1))) (lit (pos 0)) (neg (lit (pos 1))) (code_of body)) (code_of rest)) }
     {
-        if idle {
-            let plain = plain_turns(alloc, at.line, bounds, body, turned)?;
-            return Ok(plain);
-        }
-        let code = self.told_turns(alloc, at, bounds, body, turned)?;
-        Ok(code)
-    }
-
-    /// The loop over the turns from the last to the first.
-    pub fn turns_back(&self, alloc: Global, at: At, body: Stmts) -> Result<Stmt, Memory>
-        ensures line { IfOk result (λ s. s.line ≡ at.line) }
-        ensures act { IfOk result (λ s. act_of s.act ≡ turns (naming_in self.now (helper turn at.depth)) (bin minus (var (naming_in self.now (helper count at.depth))) (lit (pos 1))) (lit (pos 0)) (neg (lit (pos 1))) (code_of body)) }
-    {
-        let turn = self.names.helper(alloc, Role::Turn, at.depth)?;
         let count = self.own(alloc, of_depth(Role::Count, at.depth))?;
-        let one = boxed(alloc, Expr::Lit(1))?;
-        let from = boxed(alloc, Expr::Bin(Op::Sub, count, one))?;
+        let from = with_number(alloc, Op::Sub, count, 1)?;
         let limit = boxed(alloc, Expr::Lit(0))?;
         let back = boxed(alloc, Expr::Lit(1))?;
         let stride = boxed(alloc, Expr::Neg(back))?;
-        Ok(Stmt {
-            line: at.line,
-            act: Act::Loop(turn, from, limit, stride, body, Mark::Plain),
-        })
+        let turn = self.names.helper(alloc, Role::Turn, at.depth)?;
+        let turns = turns_of(at.line, turn, from, limit, stride, body);
+        let code = before(alloc, turns, rest)?;
+        Ok(code)
     }
 
     /// The value that the variable of a DO has in the turn whose number the helper of a role holds.
@@ -230,30 +229,6 @@ impl<'a> Plan<'a> {
             subs: Exprs::Empty,
         };
         let code = set_before(alloc, at.line, place, value, rest)?;
-        Ok(code)
-    }
-
-    /// The backward sweep of a DO, and then the rest.
-    pub fn loop_backward(
-        &self,
-        alloc: Global,
-        at: At,
-        variable: &Name,
-        idle: bool,
-        body: Stmts,
-        rest: Stmts,
-    ) -> Result<Stmts, Memory>
-        ensures backward { IfOk result (λ c. (inner : Code) → code_of body ≡ rename (naming_in self.now) inner → code_of c ≡ rename (naming_in self.now) (loop_backward idle at.depth at.line (plain variable.now) inner) +++ code_of rest) }
-    {
-        if idle {
-            return Ok(rest);
-        }
-        let turned = self.set_at(alloc, at, variable, Role::Turn, body)?;
-        let turns = self.turns_back(alloc, at, turned)?;
-        let gone = before(alloc, turns, rest)?;
-        let begun = self.pop_own(alloc, at.line, of_depth(Role::First, at.depth), gone)?;
-        let stepped = self.pop_own(alloc, at.line, of_depth(Role::Stride, at.depth), begun)?;
-        let code = self.pop_own(alloc, at.line, of_depth(Role::Count, at.depth), stepped)?;
         Ok(code)
     }
 

@@ -25,8 +25,7 @@ use crate::reversal::{Step, plain_step};
 use crate::sweeps::{Sweeps, next};
 use adj_helpers::steps::StepCall;
 use adj_naming::role::Role;
-use adj_site::step::before;
-use adj_tree::{Exprs, Memory, Name, Place, Stmts};
+use adj_tree::{Memory, Name, Stmts};
 use std::alloc::Global;
 
 // A step call with the adjoint of its unit, the names that are given and the actuals.
@@ -64,54 +63,6 @@ impl<'a> Plan<'a> {
         Ok(code)
     }
 
-    // The row in the forward sweep, behind what is turned round.
-    fn reversed_turns(
-        &self,
-        alloc: Global,
-        at: At,
-        bounds: &Bounds,
-        step: &Step,
-        turned: Stmts,
-    ) -> Result<Stmts, Memory>
-        ensures forward { IfOk result (λ c. (callees : List ℕ → Callee) → in_order (code_of c) ≡ in_order (code_of turned) +++ rename (naming_in self.now) (reversed_forward at.depth at.line (plain bounds.now.variable.now) (term_of bounds.now.first.now) (term_of bounds.now.limit.now) (term_of bounds.now.step.now) (mark_of step.now.mark.now) (save_of (plan_of self.now callees) at.number at.line step.now) (keep_of (plan_of self.now callees) at.number at.line step.now) (code_if ((marks_of self.now.marks.now).kept (suc at.number)) (plain_of at.line step.now)))) }
-    {
-        let given = step.actuals;
-        let bound = self.set_bounds(alloc, at, bounds, turned)?;
-        let told = self.set_slots(alloc, at, step.mark, bound)?;
-        let opened = self.set_count(alloc, at, told)?;
-        let saved = self.pushes(alloc, at.number, at.line, Group::Save, given, opened)?;
-        let kept = self.pushes(alloc, at.number, at.line, Group::Step, given, saved)?;
-        let call = self.step_kept(alloc, at, step)?;
-        let turns = self.counted_turns(alloc, at, bounds, call)?;
-        let gone = before(alloc, turns, kept)?;
-        let pushed = self.push_bounds(alloc, at, gone)?;
-        let stored = self.push_slots(alloc, at, step.mark, pushed)?;
-        let code = self.push_count(alloc, at, stored)?;
-        Ok(code)
-    }
-
-    // The row in the backward sweep, and then the rest.
-    fn reversed_back(
-        &self,
-        alloc: Global,
-        at: At,
-        variable: &Name,
-        step: &Step,
-        rest: Stmts,
-    ) -> Result<Stmts, Memory>
-        ensures backward { IfOk result (λ c. (callees : List ℕ → Callee) → code_of c ≡ rename (naming_in self.now) (reversed_backward at.depth at.line (plain variable.now) (mark_of step.now.mark.now) (keep_of (plan_of self.now callees) at.number at.line step.now) (back_of (plan_of self.now callees) at.number at.line step.now) (unsave_of (plan_of self.now callees) at.number at.line step.now) (plain_of at.line step.now) (adjoint_of at.line step.now)) +++ code_of rest) }
-    {
-        let given = step.actuals;
-        let unsaved = self.pops(alloc, at.number, at.line, Group::Save, given, rest)?;
-        let reversed = self.reversal(alloc, at, variable, step, unsaved)?;
-        let back = self.back(alloc, at, step, reversed)?;
-        let begun = self.pop_own(alloc, at.line, of_depth(Role::First, at.depth), back)?;
-        let stepped = self.pop_own(alloc, at.line, of_depth(Role::Stride, at.depth), begun)?;
-        let stored = self.pop_slots(alloc, at, step.mark, stepped)?;
-        let code = self.pop_own(alloc, at.line, of_depth(Role::Count, at.depth), stored)?;
-        Ok(code)
-    }
-
     // The forward sweep with the loop's variable, behind what is turned round.
     fn reversed_forward(
         &self,
@@ -123,12 +74,18 @@ impl<'a> Plan<'a> {
     ) -> Result<Stmts, Memory>
         ensures forward { IfOk result (λ c. (callees : List ℕ → Callee) → in_order (code_of c) ≡ in_order (code_of turned) +++ (code_if ((marks_of self.now.marks.now).saved at.number (plain bounds.now.variable.now)) (one at.line (runtime (push_word (plain bounds.now.variable.now) none))) +++ rename (naming_in self.now) (reversed_forward at.depth at.line (plain bounds.now.variable.now) (term_of bounds.now.first.now) (term_of bounds.now.limit.now) (term_of bounds.now.step.now) (mark_of step.now.mark.now) (save_of (plan_of self.now callees) at.number at.line step.now) (keep_of (plan_of self.now callees) at.number at.line step.now) (code_if ((marks_of self.now.marks.now).kept (suc at.number)) (plain_of at.line step.now))))) }
     {
-        let variable = Place {
-            name: bounds.variable.copy(alloc)?,
-            subs: Exprs::Empty,
-        };
-        let pushed = self.push_saved(alloc, at.number, at.line, &variable, turned)?;
-        let code = self.reversed_turns(alloc, at, bounds, step, pushed)?;
+        let given = step.actuals;
+        let begun = self.push_variable(alloc, at, bounds.variable, turned)?;
+        let bound = self.set_bounds(alloc, at, bounds, begun)?;
+        let told = self.set_slots(alloc, at, step.mark, bound)?;
+        let opened = self.set_count(alloc, at, told)?;
+        let saved = self.pushes(alloc, at.number, at.line, Group::Save, given, opened)?;
+        let kept = self.pushes(alloc, at.number, at.line, Group::Step, given, saved)?;
+        let call = self.step_kept(alloc, at, step)?;
+        let gone = self.counted_turns(alloc, at, bounds, call, kept)?;
+        let pushed = self.push_bounds(alloc, at, gone)?;
+        let stored = self.push_slots(alloc, at, step.mark, pushed)?;
+        let code = self.push_count(alloc, at, stored)?;
         Ok(code)
     }
 
@@ -143,13 +100,15 @@ impl<'a> Plan<'a> {
     ) -> Result<Stmts, Memory>
         ensures backward { IfOk result (λ c. (callees : List ℕ → Callee) → code_of c ≡ rename (naming_in self.now) (reversed_backward at.depth at.line (plain variable.now) (mark_of step.now.mark.now) (keep_of (plan_of self.now callees) at.number at.line step.now) (back_of (plan_of self.now callees) at.number at.line step.now) (unsave_of (plan_of self.now callees) at.number at.line step.now) (plain_of at.line step.now) (adjoint_of at.line step.now)) +++ (code_if ((marks_of self.now.marks.now).saved at.number (plain variable.now)) (one at.line (runtime (pop_word (plain variable.now) none))) +++ (rename (naming_in self.now) (reset (marks_of self.now.marks.now) at.number at.line variable.now) +++ code_of rest))) }
     {
-        let cleared = self.reset(alloc, at.number, at.line, variable, rest)?;
-        let place = Place {
-            name: variable.copy(alloc)?,
-            subs: Exprs::Empty,
-        };
-        let popped = self.pop_saved(alloc, at.number, at.line, &place, cleared)?;
-        let code = self.reversed_back(alloc, at, variable, step, popped)?;
+        let given = step.actuals;
+        let popped = self.pop_variable(alloc, at, variable, rest)?;
+        let unsaved = self.pops(alloc, at.number, at.line, Group::Save, given, popped)?;
+        let reversed = self.reversal(alloc, at, variable, step, unsaved)?;
+        let back = self.pops(alloc, at.number, at.line, Group::Step, given, reversed)?;
+        let begun = self.pop_own(alloc, at.line, of_depth(Role::First, at.depth), back)?;
+        let stepped = self.pop_own(alloc, at.line, of_depth(Role::Stride, at.depth), begun)?;
+        let stored = self.pop_slots(alloc, at, step.mark, stepped)?;
+        let code = self.pop_own(alloc, at.line, of_depth(Role::Count, at.depth), stored)?;
         Ok(code)
     }
 

@@ -23,8 +23,8 @@ pub fn literal(n: u32) -> Expr
     Expr::Lit(i64::from(n))
 }
 
-// An operation on a term and a number.
-fn with_number(alloc: Global, op: Op, a: Box<Expr>, n: u32) -> Result<Box<Expr>, Memory>
+/// An operation on a term and a number.
+pub fn with_number(alloc: Global, op: Op, a: Box<Expr>, n: u32) -> Result<Box<Expr>, Memory>
     ensures term { IfOk result (λ e. term_of e.value ≡ bin (op_of op) (term_of a.value) (literal n)) }
 {
     let right = boxed(alloc, literal(n))?;
@@ -58,8 +58,7 @@ impl<'a> Plan<'a> {
                 Ok(made)
             }
             Mark::From(_) => {
-                let name = self.names.helper(alloc, Role::Slots, depth)?;
-                let made = boxed(alloc, Expr::Var(name))?;
+                let made = self.own(alloc, of_depth(Role::Slots, depth))?;
                 Ok(made)
             }
         }

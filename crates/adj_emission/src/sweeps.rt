@@ -31,25 +31,6 @@ impl Sweeps {
     {
         matches!(self.backward, Stmts::Empty)
     }
-
-    // The same, behind a statement that no sweep has.
-    fn passed(self) -> Result<Sweeps, Memory>
-        ensures number { IfOk result (λ s. s.number ≡ suc self.number) }
-        ensures forward { IfOk result (λ s. code_of s.forward ≡ code_of self.forward) }
-        ensures backward { IfOk result (λ s. code_of s.backward ≡ code_of self.backward) }
-    {
-        let Sweeps {
-            forward,
-            backward,
-            number,
-        } = self;
-        let number = next(number)?;
-        Ok(Sweeps {
-            forward,
-            backward,
-            number,
-        })
-    }
 }
 
 /// The number that comes after another.
@@ -72,20 +53,19 @@ impl<'a> Plan<'a> {
         ensures sweeps { IfOk result (λ s. (callees : List ℕ → Callee) (reads : List ℕ → Vars) → KnowsAll self.now.callees.now callees reads → SweepsAct (schedules_of self.now reads) (naming_in self.now) (plan_of self.now callees) depth stmt.now.line (act_of stmt.now.act) sweeps s) }
     {
         let line = stmt.line;
+        let number = next(sweeps.number)?;
         match &stmt.act {
             Act::Assign(place, e) => {
                 let made = self.assignment(alloc, line, place, e, sweeps)?;
                 Ok(made)
             }
             Act::If(c, a, b) => {
-                let number = next(sweeps.number)?;
                 let first = self.list(alloc, depth, a, number, Stmts::Empty)?;
                 let second = self.list(alloc, depth, b, first.number, Stmts::Empty)?;
                 let made = self.branch(alloc, line, c, first, second, sweeps)?;
                 Ok(made)
             }
             Act::Loop(x, a, b, c, body, mark) => {
-                let number = next(sweeps.number)?;
                 let inside = next(depth)?;
                 let bounds = Bounds {
                     variable: x,
@@ -106,7 +86,6 @@ impl<'a> Plan<'a> {
                 }
             }
             Act::While(c, body) => {
-                let number = next(sweeps.number)?;
                 let inside = next(depth)?;
                 let inner = self.list(alloc, inside, body, number, Stmts::Empty)?;
                 let made = self.while_loop(alloc, inside, line, c, inner, sweeps)?;
@@ -116,10 +95,11 @@ impl<'a> Plan<'a> {
                 let made = self.call(alloc, line, name, actuals, sweeps)?;
                 Ok(made)
             }
-            Act::Run(_) => {
-                let made = sweeps.passed()?;
-                Ok(made)
-            }
+            Act::Run(_) => Ok(Sweeps {
+                forward: sweeps.forward,
+                backward: sweeps.backward,
+                number,
+            }),
         }
     }
 

@@ -5,6 +5,7 @@ use Rattle.adj_tree.specs.declared.stmt.Stmts.{size-Stmts}
 use Rattle.adj_tree.specs.declared.stmt.Act.TheViews.{sized-More}
 use Rattle.adj_tree.specs.declared.stmt.Stmts.TheVariants as stmts
 use Rattle.adj_helpers.specs.Steps.{step_of}
+use Rattle.adj_emission.specs.declared.sweeps.Sweeps.{Sweeps}
 use Rattle.adj_emission.specs.Plans.{naming_in, plan_of, schedules_of}
 use Rattle.adj_emission.specs.Swept.{SweepsAct, SweepsList}
 use Rattle.adj_emission.proofs.Acts.{skipped}
@@ -21,7 +22,7 @@ statement-returns-in_ok-made-in-If t c =
           let p = plan_of c.args.self.now callees in
           subst (λ a. SweepsAct sc r p c.args.depth c.args.stmt.now.line a c.args.sweeps c.in_ok-made-in-If.made) (sym act)
           (c.in_ok-made-in-If.ensures.sweeps sc callees c.args.depth (code_of c.in-If.a) (code_of c.in-If.b)
-          (subst (λ n. SweepsList sc r p c.args.depth n (code_of c.in-If.a) stop c.in_ok-first-in-If.first) c.in_ok-number-in-If.ensures.next (c.in_ok-first-in-If.ensures.sweeps callees reads k))
+          (subst (λ n. SweepsList sc r p c.args.depth n (code_of c.in-If.a) stop c.in_ok-first-in-If.first) c.in_ok-number.ensures.next (c.in_ok-first-in-If.ensures.sweeps callees reads k))
           (c.in_ok-second-in-If.ensures.sweeps callees reads k));
     }
 
@@ -44,7 +45,7 @@ statement-returns-in_ok-made-in-Some t c =
       sweeps = λ callees reads k.
           let sc = schedules_of c.args.self.now reads in
           let p = plan_of c.args.self.now callees in
-          let is = ap (step_of reads) (sym c.in-Some.is) ∙ c.step_call.ensures.step reads c.args.sweeps.number c.in_ok-number-in-Loop.ensures.next in
+          let is = ap (step_of reads) (sym c.in-Some.is) ∙ c.step_call.ensures.step reads c.args.sweeps.number c.in_ok-number.ensures.next in
           subst (λ a. SweepsAct sc r p c.args.depth c.args.stmt.now.line a c.args.sweeps c.in_ok-made-in-Some.made) (sym act)
           (c.in_ok-made-in-Some.ensures.sweeps callees reads c.args.depth (code_of c.in-Loop.body) (mark_of c.in-Loop.mark) k is inside);
     }
@@ -60,11 +61,11 @@ statement-returns-in_ok-made-in-None t c =
           let p = plan_of c.args.self.now callees in
           let body = code_of c.in-Loop.body in
           let inner = c.in_ok-inner-in-None.inner in
-          let others = sym (c.step_call.ensures.step reads c.args.sweeps.number c.in_ok-number-in-Loop.ensures.next) ∙ ap (step_of reads) c.in-None.is in
+          let others = sym (c.step_call.ensures.step reads c.args.sweeps.number c.in_ok-number.ensures.next) ∙ ap (step_of reads) c.in-None.is in
           subst (λ a. SweepsAct sc r p c.args.depth c.args.stmt.now.line a c.args.sweeps c.in_ok-made-in-None.made) (sym act)
           (c.in_ok-made-in-None.ensures.sweeps sc callees c.args.depth body _ others inside
-          (subst (λ n. SweepsList sc r p (suc c.args.depth) n body stop inner) c.in_ok-number-in-Loop.ensures.next
-          (subst (λ n. SweepsList sc r p n c.in_ok-number-in-Loop.number body stop inner) inside (c.in_ok-inner-in-None.ensures.sweeps callees reads k))));
+          (subst (λ n. SweepsList sc r p (suc c.args.depth) n body stop inner) c.in_ok-number.ensures.next
+          (subst (λ n. SweepsList sc r p n c.in_ok-number.number body stop inner) inside (c.in_ok-inner-in-None.ensures.sweeps callees reads k))));
     }
 
 pub statement-returns-in_ok-made-in-While : goal.statement-returns-in_ok-made-in-While
@@ -79,8 +80,8 @@ statement-returns-in_ok-made-in-While t c =
           let inner = c.in_ok-inner-in-While.inner in
           subst (λ a. SweepsAct sc r p c.args.depth c.args.stmt.now.line a c.args.sweeps c.in_ok-made-in-While.made) (sym (ap act_of c.in-While.is))
           (c.in_ok-made-in-While.ensures.sweeps sc callees c.args.depth body inside
-          (subst (λ n. SweepsList sc r p (suc c.args.depth) n body stop inner) c.in_ok-number-in-While.ensures.next
-          (subst (λ n. SweepsList sc r p n c.in_ok-number-in-While.number body stop inner) inside (c.in_ok-inner-in-While.ensures.sweeps callees reads k))));
+          (subst (λ n. SweepsList sc r p (suc c.args.depth) n body stop inner) c.in_ok-number.ensures.next
+          (subst (λ n. SweepsList sc r p n c.in_ok-number.number body stop inner) inside (c.in_ok-inner-in-While.ensures.sweeps callees reads k))));
     }
 
 pub statement-returns-in_ok-made-in-Call : goal.statement-returns-in_ok-made-in-Call
@@ -93,19 +94,18 @@ statement-returns-in_ok-made-in-Call t c =
           (c.in_ok-made-in-Call.ensures.sweeps sc callees reads c.args.depth k);
     }
 
-pub statement-returns-in_ok-made-in-Run : goal.statement-returns-in_ok-made-in-Run
-statement-returns-in_ok-made-in-Run t c =
+pub statement-returns-in-Run : goal.statement-returns-in-Run
+statement-returns-in-Run t c =
     let r = naming_in c.args.self.now in
     let old = c.args.sweeps in
+    let new : Sweeps = record { forward = old.forward; backward = old.backward; number = c.in_ok-number.number } in
     let a : Act = runtime (runtime_of c.in-Run.field-0) in
-    let new = c.in_ok-made-in-Run.made in
-    let e = c.in_ok-made-in-Run.ensures in
     record {
       sweeps = λ callees reads k.
           let sc = schedules_of c.args.self.now reads in
           let p = plan_of c.args.self.now callees in
           subst (λ z. SweepsAct sc r p c.args.depth c.args.stmt.now.line z old new) (sym (ap act_of c.in-Run.is))
-          (skipped sc r p c.args.depth c.args.stmt.now.line a old new refl refl e.number e.forward e.backward);
+          (skipped sc r p c.args.depth c.args.stmt.now.line a old new refl refl c.in_ok-number.ensures.next refl refl);
     }
 
 pub list-loop-current-preserved : goal.list-loop-current-preserved

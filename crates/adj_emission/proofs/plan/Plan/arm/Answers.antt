@@ -1,9 +1,10 @@
 use Rattle.std.proofs.Common.{◌∙◌, sym, ap}
-use Rattle.adj_tree.specs.Code.{choose, stop, step}
+use Rattle.adj_tree.specs.Code.{helper, var, compare, is_same, choose, stop, step}
 use Rattle.adj_tree.specs.View.{code_of}
 use Rattle.adj_meaning.specs.Rename.{rename}
 use Rattle.adj_meaning.proofs.Appends.{append-stop}
-use Rattle.adj_reverse.specs.Emission.{is_empty}
+use Rattle.adj_reverse.specs.Emission.{is_empty, literal}
+use Rattle.adj_naming.specs.Roles.{role_of}
 use Rattle.adj_emission.specs.Plans.{naming_in}
 use Rattle.adj_emission.proofs.Emitted.{empty_renamed}
 use Rattle.adj_emission.proofs.Reversals.{arm_named, arm_left}
@@ -22,10 +23,11 @@ pub returns : goal.returns
 returns c =
     let r = naming_in c.args.self.now in
     let line = c.args.at.line in
+    let own = c.of_depth-own.ensures in
     record {
       arm = λ done h.
           c.in_ok-made.ensures.step
-          ∙ ap (λ z. step line (choose z (code_of c.args.inner) stop) (code_of c.args.rest)) c.in_ok-test.ensures.test
+          ∙ (λ i. step line (choose (compare is_same (var (r (helper (role_of (own.role i)) (own.number i)))) (literal c.args.code)) (code_of c.args.inner) stop) (code_of c.args.rest))
           ∙ arm_named r line c.args.at.depth c.args.code done (code_of c.args.inner) (code_of c.args.rest)
           (sym (empty_renamed r done) ∙ ap is_empty (append-stop (rename r done)) ∙ ap is_empty (sym h) ∙ sym c.is_empty.ensures.empty ∙ c.if-is_empty.false) h;
     }

@@ -26,8 +26,8 @@ returns c =
     let old = in_order (code_of c.args.turned) in
     let pushed = code_if (m.saved c.args.number (plain x.name)) (one line (runtime (push_word (plain x.name) (terms_of x.subs)))) in
     let act = assign (plain x.name) (terms_of x.subs) (term_of c.args.e.now) in
-    let copied = c.in_ok-copy.ensures in
-    let same = c.in_ok-copy-2.ensures in
+    let copied = c.in_ok-target.ensures in
+    let same = c.in_ok-value.ensures in
     record {
       forward = kept_behind_if (m.kept c.args.number) (pushed +++ one line act) old (in_order (code_of c.in_ok-code.code)) (sym c.kept.ensures.kept ∙ c.if-not-kept.false)
           (put_behind (code_of c.in_ok-pushed.pushed) (code_of c.in_ok-code.code) line _ act c.in_ok-code.ensures.step (λ i. assign (plain (copied.name i)) (copied.subscripts i) (same.equal i))

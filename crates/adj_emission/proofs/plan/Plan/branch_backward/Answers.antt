@@ -1,10 +1,9 @@
 use Rattle.std.proofs.Common.{◌∙◌, sym, ap}
-use Rattle.std.specs.Prelude.{pos}
-use Rattle.adj_tree.specs.Code.{plain, var, lit, compare, is_same, choose, runtime, pop_control, step}
+use Rattle.adj_tree.specs.Code.{plain, helper, control, var, compare, is_same, choose, runtime, pop_control, step}
 use Rattle.adj_tree.specs.View.{code_of}
 use Rattle.adj_meaning.specs.Append.{◌+++◌}
 use Rattle.adj_meaning.specs.Rename.{rename}
-use Rattle.adj_reverse.specs.Emission.{told_backward}
+use Rattle.adj_reverse.specs.Emission.{literal, told_backward}
 use Rattle.adj_emission.specs.Plans.{naming_in}
 use Rattle.adj_emission.proofs.plan.Plan.branch_backward.Goals as goal
 
@@ -17,10 +16,10 @@ returns c =
     let line = c.args.line in
     let rest = code_of c.args.rest in
     let word = c.in_ok-word.ensures.name in
+    let r = naming_in c.args.self.now in
     record {
       backward = λ a b f g.
           c.in_ok-code.ensures.step
-          ∙ ap (step line (runtime (pop_control (plain c.in_ok-word.word)))) (c.in_ok-parts.ensures.step ∙ (λ i. step line (choose (c.in_ok-test.ensures.test i) (f i) (g i)) rest))
-          ∙ (λ i. step line (runtime (pop_control (plain (word i)))) (step line (choose (compare is_same (var (plain (word i))) (lit (pos 1))) (rename (naming_in c.args.self.now) a) (rename (naming_in c.args.self.now) b)) rest))
+          ∙ (λ i. step line (runtime (pop_control (plain (word i)))) ((c.in_ok-parts.ensures.step ∙ (λ j. step line (choose (compare is_same (var (r (helper control 0))) (literal 1)) (f j) (g j)) rest)) i))
           ∙ ap (λ z. rename (naming_in c.args.self.now) (told_backward z line a b) +++ rest) (sym c.if-idle.false);
     }

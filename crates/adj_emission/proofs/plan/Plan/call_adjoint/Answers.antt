@@ -25,7 +25,7 @@ returns c =
     let m = marks_of c.args.self.now.marks.now in
     let rest = code_of c.args.rest in
     let called = rename (naming_in c.args.self.now) (one c.args.line (call c.args.adjoint.now (all_with_shadows c.args.actuals.now))) in
-    let written : code_of c.in_ok-called.called ≡ called +++ rest = c.in_ok-called.ensures.step ∙ (λ i. step c.args.line (call (c.in_ok-copy.ensures.same i) (c.in_ok-given.ensures.actuals i)) rest) in
+    let written : code_of c.in_ok-called.called ≡ called +++ rest = c.in_ok-called.ensures.step ∙ (λ i. step c.args.line (call c.args.adjoint.now (c.in_ok-given.ensures.actuals i)) rest) in
     record {
       called = λ callees.
           let popped : Code = pops (plan_of c.args.self.now callees) c.args.line (chosen (is_in (m.saved c.args.number) Snapshot) c.args.actuals.now) in

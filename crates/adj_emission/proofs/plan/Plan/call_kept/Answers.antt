@@ -19,5 +19,5 @@ returns c =
     let act = call c.args.name.now (terms_of c.args.actuals.now) in
     record {
       kept = kept_behind_if (m.kept c.args.number) (one c.args.line act) (in_order (code_of c.args.turned)) (in_order (code_of c.in_ok-code.code)) (sym c.kept.ensures.kept ∙ c.if-not-kept.false)
-          (put_behind (code_of c.args.turned) (code_of c.in_ok-code.code) c.args.line _ act c.in_ok-code.ensures.step (λ i. call (c.in_ok-copy.ensures.same i) (c.in_ok-copy-2.ensures.equal i)));
+          (put_behind (code_of c.args.turned) (code_of c.in_ok-code.code) c.args.line _ act c.in_ok-code.ensures.step (λ i. call c.args.name.now (c.in_ok-given.ensures.equal i)));
     }

@@ -1,7 +1,8 @@
 use Rattle.std.proofs.Common.{◌∙◌, ap}
-use Rattle.adj_tree.specs.Code.{helper, plus, var, bin, none, assign, step, stop}
+use Rattle.std.specs.Prelude.{pos}
+use Rattle.adj_tree.specs.Code.{helper, plus, var, lit, bin, none, assign, step, stop}
 use Rattle.adj_tree.specs.Listed.{code_turned}
-use Rattle.adj_tree.specs.View.{term_of, code_of}
+use Rattle.adj_tree.specs.View.{code_of}
 use Rattle.adj_naming.specs.Roles.{role_of}
 use Rattle.adj_emission.specs.Plans.{naming_in}
 use Rattle.adj_emission.proofs.plan.Plan.counted.Goals as goal
@@ -15,5 +16,5 @@ returns c =
       counted = c.turned.ensures.turned
           ∙ ap (λ z. code_turned z stop)
           (c.in_ok-code.ensures.step
-          ∙ (λ i. step at.line (assign (r (helper (role_of (h.role i)) (h.number i))) none ((c.in_ok-more.ensures.sum ∙ (λ j. bin plus ((c.in_ok-old.ensures.term ∙ (λ k. var (r (helper (role_of (h.role k)) (h.number k))))) j) (term_of (c.in_ok-one.ensures.boxed j)))) i)) (code_of c.args.body)));
+          ∙ (λ i. step at.line (assign (r (helper (role_of (h.role i)) (h.number i))) none ((c.in_ok-more.ensures.term ∙ (λ j. bin plus ((c.in_ok-old.ensures.term ∙ (λ k. var (r (helper (role_of (h.role k)) (h.number k))))) j) (lit (pos 1)))) i)) (code_of c.args.body)));
     }

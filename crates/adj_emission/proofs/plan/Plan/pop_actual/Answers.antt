@@ -1,7 +1,9 @@
 use Rattle.std.proofs.Common.{◌∙◌, sym, ap, ◌∷◌, []}
 use Rattle.std.specs.Prelude.{if◌then◌else◌}
+use Rattle.adj_tree.specs.Code.{plain, none, runtime, pop_word, pop_array, step}
 use Rattle.adj_tree.specs.View.{code_of}
 use Rattle.adj_meaning.specs.Append.{◌+++◌}
+use Rattle.adj_transpose.specs.Fresh.{has_name}
 use Rattle.adj_reverse.specs.Emission.{pops}
 use Rattle.adj_emission.specs.Plans.{plan_of}
 use Rattle.adj_emission.proofs.plan.Plan.pop_actual.Goals as goal
@@ -17,5 +19,8 @@ pub returns : goal.returns
 returns c =
     let a = c.args.actual.now in
     record {
-      popped = λ callees. c.in_ok-code.ensures.popped callees ∙ ap (λ b. pops (plan_of c.args.self.now callees) c.args.line (if b then a.name ∷ [] else []) +++ code_of c.args.rest) (sym (sym c.is_in.ensures.member ∙ c.if-not-is_in.false));
+      popped = λ callees.
+          c.in_ok-code.ensures.step
+          ∙ ap (λ z. step c.args.line (runtime z) (code_of c.args.rest)) (c.pop_of.ensures.call ∙ ap (λ y. if has_name y c.args.self.now.arrays.now then pop_array (plain y) else pop_word (plain y) none) c.in_ok-name.ensures.same)
+          ∙ ap (λ b. pops (plan_of c.args.self.now callees) c.args.line (if b then a.name ∷ [] else []) +++ code_of c.args.rest) (sym (sym c.is_in.ensures.member ∙ c.if-not-is_in.false));
     }

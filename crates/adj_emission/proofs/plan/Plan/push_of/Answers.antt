@@ -5,12 +5,12 @@ use Rattle.adj_emission.proofs.plan.Plan.push_of.Goals as goal
 
 pub returns-then-has : goal.returns-then-has
 returns-then-has c =
-    let x = c.args.x.now in
+    let x = c.args.name in
     let has = sym (c.has.ensures.found ∙ ap (λ z. has_name z c.args.self.now.arrays.now) c.bytes.ensures.bytes) in
-    record { call = ap (λ y. push_array (plain y)) c.in_ok-name.ensures.same ∙ ap (λ b. if b then push_array (plain x) else push_word (plain x) none) (sym (has ∙ c.if-has.true)) }
+    record { call = ap (λ b. if b then push_array (plain x) else push_word (plain x) none) (sym (has ∙ c.if-has.true)) }
 
 pub returns : goal.returns
 returns c =
-    let x = c.args.x.now in
+    let x = c.args.name in
     let has = sym (c.has.ensures.found ∙ ap (λ z. has_name z c.args.self.now.arrays.now) c.bytes.ensures.bytes) in
-    record { call = ap (λ y. push_word (plain y) none) c.in_ok-name.ensures.same ∙ ap (λ b. if b then push_array (plain x) else push_word (plain x) none) (sym (has ∙ c.if-has.false)) }
+    record { call = ap (λ b. if b then push_array (plain x) else push_word (plain x) none) (sym (has ∙ c.if-has.false)) }

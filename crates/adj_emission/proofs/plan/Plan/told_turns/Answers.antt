@@ -25,7 +25,7 @@ returns c =
     let opened = begun (step line (assign (r (helper stride d)) none (term_of b.step.now)) (step line (assign (r (helper first d)) none (term_of b.first.now)) t)) in
     let ends = λ (z : Code). step line (runtime (push_word (r (helper stride d)) none)) (step line (runtime (push_word (r (helper first d)) none)) z) in
     let close = λ (z : Code). step line (runtime (push_word (r (helper count d)) none)) z in
-    let gone : code_of c.in_ok-gone.gone ≡ step line turns opened = c.in_ok-gone.ensures.step ∙ (λ i. step (c.in_ok-turns.ensures.line i) (c.in_ok-turns.ensures.act i) ((c.in_ok-opened.ensures.set ∙ ap begun c.in_ok-bound.ensures.set) i)) in
+    let gone : code_of c.in_ok-gone.gone ≡ step line turns opened = c.in_ok-gone.ensures.step ∙ ap (step line turns) (c.in_ok-opened.ensures.set ∙ ap begun c.in_ok-bound.ensures.set) in
     record {
       told = λ inner h.
           ap in_order (c.in_ok-code.ensures.pushed ∙ ap close (c.in_ok-pushed.ensures.pushed ∙ ap ends gone))

@@ -21,7 +21,7 @@ returns c =
     let rest = code_of c.args.rest in
     let h = c.of_depth.ensures in
     let back = λ (z : Code). loop (r (helper turn d)) (bin minus (var (r (helper count d))) (lit (pos 1))) (lit (pos 0)) (neg (lit (pos 1))) z unmarked in
-    let gone : code_of c.in_ok-gone.gone ≡ step line (back (code_of c.args.body)) rest = c.in_ok-gone.ensures.step ∙ (λ i. step (c.in_ok-turns.ensures.line i) (c.in_ok-turns.ensures.act i) rest) in
+    let gone : code_of c.in_ok-gone.gone ≡ step line (back (code_of c.args.body)) rest = c.in_ok-gone.ensures.step in
     record {
       backward = λ inner q.
           c.in_ok-code.ensures.step

@@ -9,7 +9,7 @@ use Rattle.adj_reverse.specs.Emission.{while_forward}
 use Rattle.adj_naming.specs.Roles.{role_of}
 use Rattle.adj_emission.specs.Plans.{naming_in}
 use Rattle.adj_emission.specs.Swept.{in_order}
-use Rattle.adj_emission.proofs.Turned.{turned_before}
+use Rattle.adj_emission.proofs.Turned.{turned_before, put_behind}
 use Rattle.adj_emission.proofs.Rows.{counted_named, plain_while_named, told_while_named}
 use Rattle.adj_emission.proofs.plan.Plan.while_forward.Goals as goal
 
@@ -22,7 +22,7 @@ returns-then-idle c =
     let body = in_order (code_of c.args.body) in
     record {
       forward = λ inner h.
-          c.in_ok-plain.ensures.forward
+          put_behind t (code_of c.in_ok-plain.plain) at.line _ (during test body) c.in_ok-plain.ensures.step (λ i. during test (c.turned.ensures.turned i))
           ∙ ap (λ z. in_order t +++ z) (plain_while_named r (λ y. refl) at.line at.depth c.args.c.now body inner h)
           ∙ ap (λ i. in_order t +++ rename r (while_forward i at.depth at.line test inner)) (sym c.if-idle.true);
     }
@@ -40,7 +40,7 @@ returns c =
     let body = code_turned (code_of c.args.body) (one line (assign (r (helper count d)) none (bin plus (var (r (helper count d))) (lit (pos 1))))) in
     let opened : code_of c.in_ok-opened.opened ≡ step line (assign (r (helper count d)) none (lit (pos 0))) t = c.in_ok-opened.ensures.set in
     let gone : code_of c.in_ok-gone.gone ≡ step line (during test body) (step line (assign (r (helper count d)) none (lit (pos 0))) t) =
-    c.in_ok-gone.ensures.step ∙ (λ i. step line (during (c.in_ok-copy.ensures.equal i) (c.in_ok-body.ensures.counted i)) (opened i)) in
+    c.in_ok-gone.ensures.step ∙ (λ i. step line (during test (c.in_ok-counted.ensures.counted i)) (opened i)) in
     record {
       forward = λ inner q.
           ap in_order (c.in_ok-code.ensures.step ∙ (λ i. step line (runtime (push_word (r (own i)) none)) (gone i)))
