@@ -8,8 +8,8 @@ pub loop-decl-init : goal.loop-decl-init
 loop-decl-init c =
     let all = map declaration_of c.args.unit.now.decls in
     let items = map declaration_of c.as_slice-decl-items.result.now in
-    subst (λ k. Passed k c.new-arrays.result items all) (sym c.new-known.ensures.empty)
-    (subst (λ a. Passed [] a items all) (sym c.new-arrays.ensures.empty)
+    subst (λ k. Passed k c.in_ok-arrays.arrays items all) (sym c.in_ok-known.ensures.empty)
+    (subst (λ a. Passed [] a items all) (sym c.in_ok-arrays.ensures.empty)
     (subst (λ ds. Passed [] [] (map declaration_of ds) all) (sym c.as_slice-decl-items.ensures.members) (nothing_passed all)))
 
 pub loop-decl-preserved : goal.loop-decl-preserved

@@ -33,10 +33,10 @@ returns c =
     let rows = c.as_slice-rows.ensures.value ∙ c.in_ok-written.ensures.written ∙ rows_written ps in
     let others = c.as_slice.ensures.value ∙ c.in_ok-read.ensures.read ∙ rows_read ps in
     let set : c.add_names.new.set ≡ map unit_name ps =
-    c.in_ok-add_names.ensures.added ∙ ap (λ s. all_added s c.args.names.now) c.new-set.ensures.empty ∙ all_once c.args.names.now c.requires.apart ∙ c.requires.names in
-    let all : Callees = record { names = c.add_names.new.set; known = c.in_ok-known.known; other = record { adjoint = c.in_ok-from_slice.field-0; dummies = c.new.result } } in
+    c.in_ok-add_names.ensures.added ∙ ap (λ s. all_added s c.args.names.now) c.in_ok-set.ensures.empty ∙ all_once c.args.names.now c.requires.apart ∙ c.requires.names in
+    let all : Callees = record { names = c.add_names.new.set; known = c.in_ok-known.known; other = record { adjoint = c.in_ok-from_slice.field-0; dummies = c.new-2.result } } in
     record {
       known = all_known c.args.marked.now ps c.requires.units (subst AreApart c.requires.names c.requires.apart) all set
           (c.in_ok-known.ensures.known ∙ (λ i. said_of c.args.marked.now 0 ps (c.requires.adjoints i) (rows i) (others i)))
-          c.in_ok-from_slice.ensures.bytes c.new.ensures.items;
+          c.in_ok-from_slice.ensures.bytes c.new-2.ensures.items;
     }

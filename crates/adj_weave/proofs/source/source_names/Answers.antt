@@ -8,7 +8,7 @@ use Rattle.adj_weave.proofs.source.source_names.Goals as goal
 pub loop-names-init : goal.loop-names-init
 loop-names-init c =
     let joined = flat_map (λ (xs : List (List ℕ)). xs) c.args.variables.now in
-    ap (λ s. all_added s joined) (c.in_ok-add_names.ensures.added ∙ ap (λ s. all_added s c.args.units.now) c.new-taken.ensures.empty)
+    ap (λ s. all_added s joined) (c.in_ok-add_names.ensures.added ∙ ap (λ s. all_added s c.args.units.now) c.in_ok-taken.ensures.empty)
     ∙ sym (all_added-append [] c.args.units.now joined)
 
 pub loop-names-preserved : goal.loop-names-preserved
