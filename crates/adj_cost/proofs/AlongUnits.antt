@@ -328,7 +328,7 @@ module _ (lines : ReversedLines) (ps qs : List Procedure) (g : List ℕ → Call
       unit_by (suc depth) (suc r) name u found ins chains sh level shapes (four_at_least (suc r))
       (λ n given i d line s e k left c laws cf adj kept done. call_costs depth r (unit_costs depth r) name sh level shapes (h.units name u found ins).vars_apart n given i d line s e k left c laws cf adj kept done (four_at_least (suc r)))
 
--- in the words of the theorem
+-- as the theorem states it
 pub runs_cost : RunsCost
 runs_cost lines ps qs g there answers carried first vars arrays h depth calls name u found ins here chains sh level shapes s e k left done =
     let c = unit_costs lines ps qs g there answers carried first vars arrays h depth calls name u found ins chains sh level shapes s e k left done in

@@ -206,7 +206,7 @@ module _ {C : Type 0} {numbers : Numbers C} where
       pub list_break : (line : ℕ) (a : Act) (rest : Code) (o : Outcome (Scene C)) (x : Stop) (m m1 m2 : Machine C) → m ≡ record m1 { left = suc m1.left } → ((s : Scene C) → Holds e m1 s → Ends e (act q (setting_at e) a line s m1.left) (Err x) m2) → Reaches e o (run q (setting_at e) (step line a rest)) m → Ends e o (Err x) m2
       list_break line a rest o x m m1 m2 p h r = reaches_break o (act q (setting_at e) a line) (run q (setting_at e) rest) x m1 m2 (reaches_counted o (part line a rest) m m1 p r) h
 
-      -- what a statement is may be told in other words
+      -- what a statement is may be told otherwise
       pub same_act : (N M : List (List ℕ)) (a b v : Step) (s : Scene C) (k : ℕ) (result : Result (Unit {0}) Stop) (m : Machine C) → M ≡ N → a ≡ v → b ≡ v → Ends e (act q (setting_at e) (task_in M a.task) b.line s k) result m → Ends e (act q (setting_at e) (task_in N v.task) v.line s k) result m
       same_act N M a b v s k result m n p r h = subst (λ z. z) (λ i. Ends e (act q (setting_at e) (task_in (n i) (p i).task) (r i).line s k) result m) h
 

@@ -29,9 +29,9 @@ most_bytes = 67108864
 
 -- ---- what is written
 
--- a line of a word, another word or number, and the line where it stands
+-- a line of a keyword, the name or number behind it, and the line where it stands
 abbrev pub line_of_two : List ℕ → List ℕ → ℕ → List ℕ
-line_of_two word what line = word ++ what ++ codes " LINE " ++ decimal line ++ codes "\n"
+line_of_two keyword what line = keyword ++ what ++ codes " LINE " ++ decimal line ++ codes "\n"
 
 abbrev pub bad_data : Fault → Answer
 bad_data f = record { status = 3; text = line_of_two (codes "DATA ") (decimal f.code) f.line }

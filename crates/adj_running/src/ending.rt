@@ -39,8 +39,8 @@ pub fn no_input(alloc: Global, error: DataError) -> Result<Answer, Memory>
     }
 }
 
-// The word of a kind of trap.
-fn kind_word(kind: Trap) -> &'static [u8]
+// The name of a kind of trap.
+fn kind_name(kind: Trap) -> &'static [u8]
     ensures { result.now ≡ kind_text (trap_of kind) }
 {
     match kind {
@@ -60,7 +60,7 @@ fn trapped(alloc: Global, kind: Trap, line: u32) -> Result<Answer, Memory>
 {
     let mut text = Vec::new(alloc);
     text.extend_from_slice(b"TRAP ")?;
-    text.extend_from_slice(kind_word(kind))?;
+    text.extend_from_slice(kind_name(kind))?;
     push_number(&mut text, b" LINE ", u128::from(line))?;
     text.push(b'\n')?;
     Ok(Answer {
@@ -69,12 +69,12 @@ fn trapped(alloc: Global, kind: Trap, line: u32) -> Result<Answer, Memory>
     })
 }
 
-// A line of a word and a number.
-fn line_of_one(alloc: Global, status: Status, word: &[u8], number: u64) -> Result<Answer, Memory>
-    ensures { IfOk result (λ a. answer_of a ≡ record { status = status_of status; text = line_of_one word.now number }) }
+// A line of a keyword and a number.
+fn line_of_one(alloc: Global, status: Status, keyword: &[u8], number: u64) -> Result<Answer, Memory>
+    ensures { IfOk result (λ a. answer_of a ≡ record { status = status_of status; text = line_of_one keyword.now number }) }
 {
     let mut text = Vec::new(alloc);
-    push_number(&mut text, word, u128::from(number))?;
+    push_number(&mut text, keyword, u128::from(number))?;
     text.push(b'\n')?;
     Ok(Answer { status, text })
 }

@@ -13,7 +13,7 @@ terms_last : (es : List Term) (e : Term) (others : Terms) → terms_onto (es ++ 
 terms_last [] e others = refl
 terms_last (f ∷ es) e others = ap (more f) (terms_last es e others)
 
--- the same, in the words of a vector from which the last was taken
+-- the same, of a vector from which the last was taken
 pub terms_onto_push : (items rest : List Expr) (e : Expr) (others : Terms) → items ≡ rest ++ e ∷ [] → terms_onto (map term_of items) others ≡ terms_onto (map term_of rest) (more (term_of e) others)
 terms_onto_push items rest e others h = ap (λ es. terms_onto (map term_of es) others) h ∙ ap (λ ts. terms_onto ts others) (map_push term_of rest e) ∙ terms_last (map term_of rest) (term_of e) others
 
@@ -22,6 +22,6 @@ code_last : (ss : List (ℕ × code.Act)) (s : ℕ × code.Act) (others : Code) 
 code_last [] s others = refl
 code_last (t ∷ ss) s others = ap (step t.0 t.1) (code_last ss s others)
 
--- the same, in the words of a vector from which the last was taken
+-- the same, of a vector from which the last was taken
 pub code_onto_push : (items rest : List Stmt) (s : Stmt) (others : Code) → items ≡ rest ++ s ∷ [] → code_onto (map statement_of items) others ≡ code_onto (map statement_of rest) (step (statement_of s).0 (statement_of s).1 others)
 code_onto_push items rest s others h = ap (λ ss. code_onto (map statement_of ss) others) h ∙ ap (λ ss. code_onto ss others) (map_push statement_of rest s) ∙ code_last (map statement_of rest) (statement_of s) others

@@ -66,7 +66,7 @@ fn line_ends_and_signs_of_zero_mean_nothing(rt: HostRuntime) -> Result<(), Fail>
 
 // The data stand behind line 4, so their first line is line 5.
 const FAULTS: [(&str, u8, u32); 54] = [
-    // Words that are neither names nor numbers, names that don't lead their line, and numbers before any name.
+    // Items that are neither names nor numbers, names that don't lead their line, and numbers before any name.
     ("A 1 2\nK 0\n1x\n", 1, 7),
     ("7 A 1 2", 1, 5),
     ("-5", 1, 5),

@@ -105,7 +105,7 @@ C$AD BINOMIAL-CKP M
       END
 ";
 
-// The same program in other words: labels, shared CONTINUE, ELSE IF, logical IF, blanks, small letters and comments.
+// The same program written otherwise: labels, shared CONTINUE, ELSE IF, logical IF, blanks, small letters and comments.
 const FREE: &[u8] = b"C a comment
       subroutine p(a, n, x)
       implicit none

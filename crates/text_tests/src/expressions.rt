@@ -9,8 +9,8 @@ use adj_tree::{Expr, Exprs, Memory, Name};
 use std::alloc::{AllocError, Global};
 use std::test::Fail;
 
-fn kind_of(word: &[u8]) -> TokenKind {
-    match word {
+fn kind_of(lexeme: &[u8]) -> TokenKind {
+    match lexeme {
         b"**" => TokenKind::Power,
         b"*" => TokenKind::Star,
         b"/" => TokenKind::Slash,

@@ -21,18 +21,18 @@ fn push_shown(out: &mut String, stated: &Stated) -> Result<(), AllocError> {
     write!(out, " {:?}:", stated.kind)?;
     let text = stated.text.as_slice();
     for token in stated.tokens.as_slice() {
-        let word = text.get(token.start..token.end).unwrap_or(&[]);
+        let lexeme = text.get(token.start..token.end).unwrap_or(&[]);
         out.push_str(if token.kind == TokenKind::Call {
-            " word "
+            " keyword "
         } else {
             " "
         })?;
-        out.push_str(str::from_utf8(word).unwrap_or("?"))?;
+        out.push_str(str::from_utf8(lexeme).unwrap_or("?"))?;
     }
     out.push_str("\n")
 }
 
-// The statements of a text, or its fault in Debug's words.
+// The statements of a text, or its fault as Debug writes it.
 fn shown(alloc: Global, text: &str, mode: Mode) -> Result<String, AllocError> {
     let mut out = String::new(alloc);
     match statements(alloc, text.as_bytes(), mode) {
@@ -112,7 +112,7 @@ $DATA
 12 0 0 ElseIf: ( .NOT. A .GE. 1 .AND. B .EQ. 2 )
 13 0 0 Else:
 14 0 0 EndIf:
-15 0 0 LogicalIf: ( A .NE. B .OR. C .LE. D ) word CALL P ( X )
+15 0 0 LogicalIf: ( A .NE. B .OR. C .LE. D ) keyword CALL P ( X )
 16 0 0 LogicalIf: ( A .GT. B ) CALL = 2
 17 0 0 Assign: IF ( A ) = B ** 2 * 3 / 4 - 5
 18 0 0 Assign: DOI = 1

@@ -1,13 +1,13 @@
 //! Emitted texts of programs of several units, worked out by hand from docs/ANALYSES.md and docs/EMITTED.md.
 
-use crate::calls::{Case, WORDS, comes_to};
+use crate::calls::{ARGUMENTS, Case, comes_to};
 use adj_tree::Memory;
 
 const CASES: [Case; 6] = [
     // What the called unit overwrites is needed by its adjoint alone.
     (
         "a call",
-        WORDS,
+        ARGUMENTS,
         b"      SUBROUTINE P(X,Y)
       INTEGER*8 X,Y
       Y=X
@@ -183,7 +183,7 @@ const CASES: [Case; 6] = [
     // A call that no derivative passes through, and that overwrites what is needed before it.
     (
         "a call without a derivative",
-        WORDS,
+        ARGUMENTS,
         b"      SUBROUTINE P(X,Y)
       INTEGER*8 X,Y
       K=2

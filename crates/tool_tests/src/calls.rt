@@ -8,7 +8,7 @@ use std::alloc::Global;
 pub(crate) const SQUARE: &[u8] =
     b"      SUBROUTINE P(X,Y)\n      INTEGER*8 X,Y\n      Y=X*X\n      END\n";
 
-pub(crate) const WORDS: &str = "adjoint --head P --vars X --outvars Y";
+pub(crate) const ARGUMENTS: &str = "adjoint --head P --vars X --outvars Y";
 
 pub(crate) const ADJOINT: &str = "      SUBROUTINE P_B(X,XB,Y,YB)
       INTEGER*8 X

@@ -1,11 +1,11 @@
 //! What arguments come to.
 
-use crate::calls::{ADJOINT, NONE, SQUARE, WORDS, call, comes_to};
+use crate::calls::{ADJOINT, ARGUMENTS, NONE, SQUARE, call, comes_to};
 use adj_tree::Memory;
 
 // Arguments, an input and what is written.
 const TAKEN: [(&str, &[u8], &str); 13] = [
-    (WORDS, SQUARE, ADJOINT),
+    (ARGUMENTS, SQUARE, ADJOINT),
     ("adjoint --outvars Y --vars X --head P", SQUARE, ADJOINT),
     ("--head P adjoint --vars X --outvars Y", SQUARE, ADJOINT),
     ("adjoint --head=P --vars=X --outvars=Y", SQUARE, ADJOINT),
@@ -29,7 +29,7 @@ const TAKEN: [(&str, &[u8], &str); 13] = [
 ];
 
 #[test]
-fn words_that_are_taken(rt: HostRuntime) -> Result<(), Memory> {
+fn arguments_that_are_taken(rt: HostRuntime) -> Result<(), Memory> {
     for (arguments, input, text) in TAKEN {
         assert!(rt;
             comes_to(rt.alloc(), arguments, input, 0, text)?,
@@ -106,7 +106,7 @@ const USAGE: [&str; 46] = [
 ];
 
 #[test]
-fn words_that_are_no_command(rt: HostRuntime) -> Result<(), Memory> {
+fn arguments_that_are_no_command(rt: HostRuntime) -> Result<(), Memory> {
     for arguments in USAGE {
         assert!(rt;
             comes_to(rt.alloc(), arguments, SQUARE, 1, "USAGE\n")?,

@@ -1,6 +1,6 @@
 //! Emitted texts of straight code, worked out by hand from docs/ANALYSES.md and docs/EMITTED.md.
 
-use crate::calls::{ADJOINT, Case, WORDS, comes_to};
+use crate::calls::{ADJOINT, ARGUMENTS, Case, comes_to};
 use adj_tree::Memory;
 
 const TAKEN: &[u8] = b"      SUBROUTINE P(X,XB,Y)
@@ -14,7 +14,7 @@ const TAKEN: &[u8] = b"      SUBROUTINE P(X,XB,Y)
 const CASES: [Case; 11] = [
     (
         "a constant",
-        WORDS,
+        ARGUMENTS,
         b"      SUBROUTINE P(X,Y)
       INTEGER*8 X,Y
       Y=5
@@ -33,7 +33,7 @@ const CASES: [Case; 11] = [
     // The first two are needed, and the second overwrites what its own adjoint needs.
     (
         "one name overwritten",
-        WORDS,
+        ARGUMENTS,
         b"      SUBROUTINE P(X,Y)
       INTEGER*8 X,Y
       Y=X*X
@@ -109,7 +109,7 @@ const CASES: [Case; 11] = [
     ),
     (
         "an assignment that nothing needs",
-        WORDS,
+        ARGUMENTS,
         b"      SUBROUTINE P(X,Y)
       INTEGER*8 X,Y
       K=X+1
@@ -264,7 +264,7 @@ const CASES: [Case; 11] = [
     // XB is no independent here: it has no shadow, and the values of the locals aren't needed.
     (
         "a dummy without a shadow",
-        WORDS,
+        ARGUMENTS,
         TAKEN,
         "      SUBROUTINE P_B(X,XB_2,XB,Y,YB)
       INTEGER*8 X
@@ -298,19 +298,19 @@ const CASES: [Case; 11] = [
     // The square in other layouts.
     (
         "small letters, comments and continuation lines",
-        WORDS,
+        ARGUMENTS,
         b"c of x, its square\n      subroutine p(x,\n* and y\n     +y)\n\n      integer*8 x, y\n      y = x\n     1 * x\n      end\n$DATA\nnot FORTRAN!\n",
         ADJOINT,
     ),
     (
         "statements without trees",
-        WORDS,
+        ARGUMENTS,
         b"      SUBROUTINE P(X,Y)\n      IMPLICIT NONE\n      INTEGER X\n      INTEGER*8 Y\n      Y=+(X)*X\n   10 CONTINUE\n      RETURN\n      END",
         ADJOINT,
     ),
     (
         "blanks and line ends",
-        WORDS,
+        ARGUMENTS,
         b"   1  SUB ROUTINE P ( X , Y )                                            SQUARE\r\n      INTEGER * 8 X , Y\r\n      Y = X * X\r\n      E N D\r\n",
         ADJOINT,
     ),

@@ -1,6 +1,6 @@
 //! Runs of texts that were cut off or changed, and of streams that fail.
 
-use crate::calls::{Ended, Faults, NONE, SQUARE, WORDS, call};
+use crate::calls::{ARGUMENTS, Ended, Faults, NONE, SQUARE, call};
 use adj_tree::Memory;
 use std::alloc::Global;
 
@@ -102,8 +102,8 @@ const FAILING: [(&str, &[u8], &[u64], &[u64], u8, &[u8]); 16] = [
     (LINE, TEXT, &[], &[3], 8, b"X 7\nY 49\nTAPE 0\nUSED"),
     (LINE, TEXT, &[], &[4], 0, WRITTEN),
     // another command
-    (WORDS, SQUARE, &[2], &[], 7, b""),
-    (WORDS, SQUARE, &[], &[2], 8, b"      SUBR"),
+    (ARGUMENTS, SQUARE, &[2], &[], 7, b""),
+    (ARGUMENTS, SQUARE, &[], &[2], 8, b"      SUBR"),
 ];
 
 #[test]

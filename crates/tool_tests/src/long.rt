@@ -1,6 +1,6 @@
 //! Long texts and long statements.
 
-use crate::calls::{WORDS, writes};
+use crate::calls::{ARGUMENTS, writes};
 use adj_tree::Memory;
 use std::alloc::Global;
 use test_texts::{push_statement, push_times};
@@ -55,7 +55,7 @@ fn twenty_thousand_assignments(rt: HostRuntime) -> Result<(), Memory> {
 ",
         1,
     )?;
-    assert!(rt; writes(alloc, WORDS, text.as_slice(), adjoint.as_slice())?);
+    assert!(rt; writes(alloc, ARGUMENTS, text.as_slice(), adjoint.as_slice())?);
     Ok(())
 }
 

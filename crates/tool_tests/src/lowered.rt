@@ -1,6 +1,6 @@
 //! Adjoints of programs that aren't in kernel form, worked out by hand from docs/KERNEL.md, docs/ANALYSES.md and docs/EMITTED.md.
 
-use crate::calls::{Case, WORDS, comes_to};
+use crate::calls::{ARGUMENTS, Case, comes_to};
 use adj_tree::Memory;
 
 // A choice within an expression becomes an IF.
@@ -53,7 +53,7 @@ const CASES: [Case; 4] = [
     // The second carries no derivative.
     (
         "the greater of one and a constant",
-        WORDS,
+        ARGUMENTS,
         GREATER,
         "      SUBROUTINE P_B(X,XB,Y,YB)
       INTEGER*8 X
@@ -90,7 +90,7 @@ const CASES: [Case; 4] = [
     // An actual that is no name is set apart in a local. Nothing needs what the call gives, so the unit itself isn't called.
     (
         "an actual that is no name",
-        WORDS,
+        ARGUMENTS,
         b"      SUBROUTINE P(X,Y)
       INTEGER*8 X,Y
       CALL Q(X,-X,Y)
@@ -139,7 +139,7 @@ const CASES: [Case; 4] = [
     // A subscript that reads its own array is set apart too.
     (
         "a subscript that reads its array",
-        WORDS,
+        ARGUMENTS,
         b"      SUBROUTINE P(X,Y)\n      INTEGER*8 X,Y(2)\n      Y(Y(1))=X\n      END\n",
         "      SUBROUTINE P_B(X,XB,Y,YB)
       INTEGER*8 X

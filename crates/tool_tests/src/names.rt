@@ -1,6 +1,6 @@
 //! Texts whose names, calls, chains or writes have a fault, and texts just beside them. (docs/REFUSALS.md, "Names, calls and writes")
 
-use crate::calls::{WORDS, comes_to};
+use crate::calls::{ARGUMENTS, comes_to};
 use adj_tree::Memory;
 use std::alloc::Global;
 use test_texts::push_line;
@@ -17,7 +17,7 @@ fn laid_out(alloc: Global, text: &str) -> Result<Vec<u8>, Memory> {
 // Whether the text is refused so. A text without a fault, and without a unit P, comes to the refusal of the head.
 fn is_refused(alloc: Global, text: &str, answer: &str) -> Result<bool, Memory> {
     let text = laid_out(alloc, text)?;
-    comes_to(alloc, WORDS, text.as_slice(), 2, answer)
+    comes_to(alloc, ARGUMENTS, text.as_slice(), 2, answer)
 }
 
 // Texts of units and their answers.
@@ -438,12 +438,12 @@ fn unit_over(alloc: Global, variables: usize) -> Result<Vec<u8>, Memory> {
 fn a_unit_has_at_most_200_variables(rt: HostRuntime) -> Result<(), Memory> {
     let alloc = rt.alloc();
     let most = unit_over(alloc, 199)?;
-    assert!(rt; comes_to(alloc, WORDS, most.as_slice(), 2, "REFUSED 22 LINE 0\n")?);
+    assert!(rt; comes_to(alloc, ARGUMENTS, most.as_slice(), 2, "REFUSED 22 LINE 0\n")?);
     let more = unit_over(alloc, 200)?;
     assert!(rt;
         comes_to(
             alloc,
-            WORDS,
+            ARGUMENTS,
             more.as_slice(),
             2,
             "REFUSED 21 LINE 201 LIMIT 200\n"
@@ -493,7 +493,7 @@ fn chain_comes_to(
     answer: &str,
 ) -> Result<bool, Memory> {
     let text = chain_of(alloc, units, round)?;
-    comes_to(alloc, WORDS, text.as_slice(), 2, answer)
+    comes_to(alloc, ARGUMENTS, text.as_slice(), 2, answer)
 }
 
 #[test]

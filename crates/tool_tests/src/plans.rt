@@ -3,7 +3,7 @@
 use crate::calls::comes_to;
 use adj_tree::Memory;
 
-const WORDS: &str = "plan --head P --vars X --outvars Y";
+const ARGUMENTS: &str = "plan --head P --vars X --outvars Y";
 
 const UNUSED: &str = "      SUBROUTINE P(X,Y)
       INTEGER*8 X,Y
@@ -93,7 +93,7 @@ const ALONE: &str = "      SUBROUTINE R(A)
 
 // The arguments, a text, the status and what is written.
 const PLANS: [(&str, &str, u8, &str); 10] = [
-    (WORDS, UNUSED, 0, "P 3 ASSIGN ---\nP 4 ASSIGN -A-\n"),
+    (ARGUMENTS, UNUSED, 0, "P 3 ASSIGN ---\nP 4 ASSIGN -A-\n"),
     (
         "plan --head P --vars A --outvars S",
         SUM,
@@ -106,20 +106,20 @@ const PLANS: [(&str, &str, u8, &str); 10] = [
         0,
         "P 3 ASSIGN KAP\nP 4 ASSIGN -A-\n",
     ),
-    (WORDS, REPEATED, 0, REPEATED_PLAN),
+    (ARGUMENTS, REPEATED, 0, REPEATED_PLAN),
     (
-        WORDS,
+        ARGUMENTS,
         MARKED,
         0,
         "P 4 MARKED KA-\nP 4 CALL -A-\nP_S1 5 ASSIGN -A-\n",
     ),
     (
-        WORDS,
+        ARGUMENTS,
         WANTED,
         0,
         "P 4 MARKED KA-\nP 4 CALL KA-\nP 7 ASSIGN -A-\nP_S1 5 ASSIGN -A-\n",
     ),
-    (WORDS, ALONE, 0, "P 7 ASSIGN -A-\n"),
+    (ARGUMENTS, ALONE, 0, "P 7 ASSIGN -A-\n"),
     (
         "plan --head Q --vars X --outvars Y",
         UNUSED,
@@ -127,7 +127,7 @@ const PLANS: [(&str, &str, u8, &str); 10] = [
         "REFUSED 22 LINE 0\n",
     ),
     (
-        WORDS,
+        ARGUMENTS,
         "      SUBROUTINE P(X,Y)\n      X=Y+\n      END\n",
         2,
         "REFUSED 4 LINE 2\n",

@@ -1,6 +1,6 @@
 //! Texts that are refused, and where.
 
-use crate::calls::{SQUARE, WORDS, comes_to};
+use crate::calls::{ARGUMENTS, SQUARE, comes_to};
 use adj_tree::Memory;
 
 // A text with a fault of its names at line 4.
@@ -11,7 +11,7 @@ const MISNAMED: &[u8] =
 const LOCAL: &[u8] =
     b"      SUBROUTINE P(X,Y)\n      INTEGER*8 X,Y,Z\n      Z=X\n      Y=Z*I\n      END\n";
 
-// Words, a text that is refused, and where.
+// Arguments, a text that is refused, and where.
 const REFUSED: [(&str, &[u8], &str); 24] = [
     // faults of names come before those of the head
     (
@@ -19,7 +19,7 @@ const REFUSED: [(&str, &[u8], &str); 24] = [
         MISNAMED,
         "REFUSED 7 LINE 4\n",
     ),
-    (WORDS, b"", "REFUSED 22 LINE 0\n"),
+    (ARGUMENTS, b"", "REFUSED 22 LINE 0\n"),
     // another head, and other dummies: without a line
     (
         "adjoint --head Q --vars X --outvars Y",
@@ -74,62 +74,62 @@ const REFUSED: [(&str, &[u8], &str); 24] = [
     ),
     // faults of lines, statements or trees
     (
-        WORDS,
+        ARGUMENTS,
         b"      SUBROUTINE P(X,Y)\n  A   INTEGER*8 X,Y\n      Y=ABS(X)\n      END\n",
         "REFUSED 1 LINE 2\n",
     ),
     (
-        WORDS,
+        ARGUMENTS,
         b"      SUBROUTINE P(X,Y)\n      INTEGER*8 X,Y\n      Y=ABS(X)\n      Y=X;\n      END\n",
         "REFUSED 2 LINE 4\n",
     ),
     (
-        WORDS,
+        ARGUMENTS,
         b"      SUBROUTINE P(X,Y)\n      INTEGER*8 X,Y\n      GOTO 10\n      END\n",
         "REFUSED 3 LINE 3\n",
     ),
     (
-        WORDS,
+        ARGUMENTS,
         b"      SUBROUTINE P(X,Y)\n      REAL X\n      Y=ABS(X)\n      END\n",
         "REFUSED 3 LINE 2\n",
     ),
     (
-        WORDS,
+        ARGUMENTS,
         b"      SUBROUTINE P(X,Y)\n      INTEGER*8 X,Y\n      Y=X*X\n",
         "REFUSED 4 LINE 3\n",
     ),
     (
-        WORDS,
+        ARGUMENTS,
         b"      SUBROUTINE P(X,Y)\n      INTEGER*8 X,Y\n      Y=ABS(X)\n      Y=X*\n      END\n",
         "REFUSED 4 LINE 4\n",
     ),
     (
-        WORDS,
+        ARGUMENTS,
         b"      SUBROUTINE P(X,Y)\n      INTEGER*8 X,Y\n      Y=9223372036854775808\n      END\n",
         "REFUSED 5 LINE 3\n",
     ),
     (
-        WORDS,
+        ARGUMENTS,
         b"      SUBROUTINE P(X,Y)\n      INTEGER*8 X,Y\n      A2345678901234567890123456789012=X\n      END\n",
         "REFUSED 6 LINE 3\n",
     ),
     (
-        WORDS,
+        ARGUMENTS,
         b"      SUBROUTINE P(X,Y)\n      INTEGER*8 X,Y\n      DO 10 I=1,2\n      IF (X.GT.0) THEN\n   10 CONTINUE\n      END IF\n      END\n",
         "REFUSED 10 LINE 5\n",
     ),
     (
-        WORDS,
+        ARGUMENTS,
         b"      SUBROUTINE P(X,Y)\n      INTEGER*8 X,Y\nC$AD BINOMIAL-CKP 2\n      Y=ABS(X)\n      END\n",
         "REFUSED 20 LINE 3\n",
     ),
     (
-        WORDS,
+        ARGUMENTS,
         b"      SUBROUTINE P(X,Y)\n      INTEGER*8 X,Y\n      Y=X\n     +\n     +\n     +\n     +\n     +\n     +\n     +\n     +\n     +\n     +\n     +\n     +\n     +\n     +\n     +\n     +\n     +\n     +\n     +\n     +\n      END\n",
         "REFUSED 21 LINE 23 LIMIT 19\n",
     ),
     (
-        WORDS,
+        ARGUMENTS,
         b"      SUBROUTINE P(X,Y)\n      INTEGER*8 X,Y\n      Y=X**64\n      END\n",
         "REFUSED 25 LINE 3\n",
     ),
@@ -137,8 +137,11 @@ const REFUSED: [(&str, &[u8], &str); 24] = [
 
 #[test]
 fn each_text_is_refused_at_its_line(rt: HostRuntime) -> Result<(), Memory> {
-    for (index, (words, text, answer)) in REFUSED.iter().enumerate() {
-        assert!(rt; comes_to(rt.alloc(), words, text, 2, answer)?, "{index}");
+    for (index, (arguments, text, answer)) in REFUSED.iter().enumerate() {
+        assert!(rt;
+            comes_to(rt.alloc(), arguments, text, 2, answer)?,
+            "{index}"
+        );
     }
     Ok(())
 }
@@ -148,6 +151,6 @@ fn an_input_above_the_limit_is_refused(rt: HostRuntime) -> Result<(), Memory> {
     let alloc = rt.alloc();
     let long = vec![in alloc; b' '; 4_194_305]?;
     let answer = "REFUSED 21 LINE 0 LIMIT 4194304\n";
-    assert!(rt; comes_to(alloc, WORDS, long.as_slice(), 2, answer)?);
+    assert!(rt; comes_to(alloc, ARGUMENTS, long.as_slice(), 2, answer)?);
     Ok(())
 }

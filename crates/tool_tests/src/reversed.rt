@@ -1,6 +1,6 @@
 //! Marked loops, reversed by schedules: what is emitted for them, what their checks come to, and what their adjoints leave on the tape.
 
-use crate::calls::{NONE, Run, WORDS, call, comes_to, runs_to};
+use crate::calls::{ARGUMENTS, NONE, Run, call, comes_to, runs_to};
 use adj_tree::Memory;
 
 // Steps of a wave, whose values stay 1, before and behind what the directive says.
@@ -303,7 +303,7 @@ fn products_are_equal_and_advances_are_the_least(rt: HostRuntime) -> Result<(), 
 
 #[test]
 fn a_marked_loop_is_reversed_by_a_schedule(rt: HostRuntime) -> Result<(), Memory> {
-    assert!(rt; comes_to(rt.alloc(), WORDS, POWERS.as_bytes(), 0, POWERS_ADJOINT)?);
+    assert!(rt; comes_to(rt.alloc(), ARGUMENTS, POWERS.as_bytes(), 0, POWERS_ADJOINT)?);
     Ok(())
 }
 

@@ -1,12 +1,12 @@
 //! Emitted texts of statements of every kind, worked out by hand from docs/ANALYSES.md and docs/EMITTED.md.
 
-use crate::calls::{Case, WORDS, comes_to};
+use crate::calls::{ARGUMENTS, Case, comes_to};
 use adj_tree::Memory;
 
 const CASES: [Case; 9] = [
     (
         "a quotient",
-        WORDS,
+        ARGUMENTS,
         b"      SUBROUTINE P(X,Y)
       INTEGER*8 X,Y
       Y=(X/2)*X
@@ -32,7 +32,7 @@ const CASES: [Case; 9] = [
     ),
     (
         "powers",
-        WORDS,
+        ARGUMENTS,
         b"      SUBROUTINE P(X,N,Y)
       INTEGER*8 X,N,Y
       Y=X**3+X**N
@@ -60,7 +60,7 @@ const CASES: [Case; 9] = [
     // A branch without a derivative sets the shadow to 0.
     (
         "a branch that resets",
-        WORDS,
+        ARGUMENTS,
         b"      SUBROUTINE P(X,C,Y)
       INTEGER*8 X,C,Y
       Y=X*X
@@ -102,7 +102,7 @@ const CASES: [Case; 9] = [
     // Both branches overwrite what their own adjoints need.
     (
         "branches that overwrite",
-        WORDS,
+        ARGUMENTS,
         b"      SUBROUTINE P(X,C,Y)
       INTEGER*8 X,C,Y
       Y=X*X
@@ -218,7 +218,7 @@ const CASES: [Case; 9] = [
     // The loop's variable held a value that is needed, and a derivative.
     (
         "a loop's variable",
-        WORDS,
+        ARGUMENTS,
         b"      SUBROUTINE P(X,Y)
       INTEGER*8 X,Y
       I=X
@@ -330,7 +330,7 @@ const CASES: [Case; 9] = [
     // Blocks whose backward sweep is empty, but for the variable of a loop.
     (
         "blocks that are only kept",
-        WORDS,
+        ARGUMENTS,
         b"      SUBROUTINE P(X,Y)
       INTEGER*8 X,Y
       K=0
@@ -391,7 +391,7 @@ const CASES: [Case; 9] = [
     // Nothing is left of blocks that hold nothing.
     (
         "blocks that hold nothing",
-        WORDS,
+        ARGUMENTS,
         b"      SUBROUTINE P(X,Y)
       INTEGER*8 X,Y
       IF (X.GT.0) THEN
