@@ -121,7 +121,11 @@ fn add_list(
     let mut rest = list;
     while let Stmts::More(row) = rest {
         let length = add_inner(scope, lengths, limit, &row.first.act, first);
-        first.add_passed_if(is_too_long(limit, &row.first.act, length), limit, row.first.line);
+        first.add_passed_if(
+            is_too_long(limit, &row.first.act, length),
+            limit,
+            row.first.line,
+        );
         most = cmp::max(most, length);
         rest = &row.rest;
     }

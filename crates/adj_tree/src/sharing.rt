@@ -33,7 +33,11 @@ impl NameTable {
     {
         let place = self.texts.get_index_of(name.bytes())?;
         let known = self.names.get(place)?;
-        if known.equals(name) { Some(known) } else { None }
+        if known.equals(name) {
+            Some(known)
+        } else {
+            None
+        }
     }
 
     // The name, as the one that was met with its bytes, if one was.
