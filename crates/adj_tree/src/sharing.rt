@@ -55,6 +55,7 @@ impl NameTable {
 }
 
 impl Expr {
+    // The same expression, of which each name is one block with those that were met.
     #[cycle(sharing)]
     pub(crate) fn share(&mut self, alloc: Global, names: &mut NameTable) -> Result<(), Memory>
         ensures same { OnOk result (term_of self.new ≡ term_of self.old) }
@@ -82,6 +83,7 @@ impl Expr {
 }
 
 impl Exprs {
+    // The same list.
     #[cycle(sharing)]
     pub(crate) fn share(&mut self, alloc: Global, names: &mut NameTable) -> Result<(), Memory>
         ensures same { OnOk result (terms_of self.new ≡ terms_of self.old) }
