@@ -1,7 +1,7 @@
 use Rattle.std.proofs.Common.{rules, ◌≡◌, length, map, refl, sym, ap, subst, ◌∙◌, arith}
 use Rattle.adj_tree.specs.declared.stmt.Stmts.{size-Stmts}
 use Rattle.adj_tree.specs.declared.stmt.Act.{size-Act}
-use Rattle.adj_tree.specs.declared.stmt.Act.TheViews.{sized-If, sized-Loop, sized-While, sized-More}
+use Rattle.adj_tree.specs.declared.stmt.Act.TheViews.{sized-If, sized-Loop, sized-While, sized-More, size_is-Row}
 use Rattle.adj_tree.specs.declared.stmt.Stmts.TheVariants as stmts
 use Rattle.adj_tree.specs.Code.{step, assign, choose, loop, during, call, runtime}
 use Rattle.adj_tree.specs.View.{term_of, act_of, code_of, procedure_of}
