@@ -121,9 +121,9 @@ impl<'a> Plan<'a> {
             number,
         };
         let mut current = body;
-        while let Stmts::More(stmt, left) = current {
-            made = self.statement(alloc, depth, stmt, made)?;
-            current = left;
+        while let Stmts::More(row) = current {
+            made = self.statement(alloc, depth, &row.first, made)?;
+            current = &row.rest;
         }
         Ok(made)
     }

@@ -26,7 +26,8 @@ pub(crate) fn one_argument(name: Name, alloc: Global, argument: Box<Expr>) -> Re
         return Ok(Expr::Abs(argument));
     }
     let all = list_of(alloc, argument, Exprs::Empty)?;
-    Ok(Expr::Elem(name, all))
+    let subs = boxed(alloc, all)?;
+    Ok(Expr::Elem(name, subs))
 }
 
 /// An element with two subscripts, or an intrinsic with its arguments.
@@ -43,5 +44,6 @@ pub(crate) fn two_arguments(
     }
     let rest = list_of(alloc, second, Exprs::Empty)?;
     let all = list_of(alloc, first, rest)?;
-    Ok(Expr::Elem(name, all))
+    let subs = boxed(alloc, all)?;
+    Ok(Expr::Elem(name, subs))
 }

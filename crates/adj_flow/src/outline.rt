@@ -36,16 +36,16 @@ pub fn add_list<'a>(
 {
     let mut from = from;
     let mut current = body;
-    while let Stmts::More(stmt, rest) = current {
+    while let Stmts::More(row) = current {
         let number = outline.statements.len();
         outline.ways.push(Way {
             from,
             to: Point::Before(number),
             deed: Deed::Passing,
         })?;
-        add_statement(outline, place, &stmt.act)?;
+        add_statement(outline, place, &row.first.act)?;
         from = Point::After(number);
-        current = rest;
+        current = &row.rest;
     }
     outline.ways.push(Way {
         from,

@@ -341,10 +341,10 @@ impl<'a> Numbering<'a> {
     {
         let mut made = Steps::Empty;
         let mut current = stmts;
-        while let Stmts::More(first, rest) = current {
-            let step = self.step(alloc, units, first)?;
+        while let Stmts::More(row) = current {
+            let step = self.step(alloc, units, &row.first)?;
             made = Steps::More(step, boxed(alloc, made)?);
-            current = rest;
+            current = &row.rest;
         }
         let all = made.turned();
         Ok(all)

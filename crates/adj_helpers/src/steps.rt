@@ -41,19 +41,19 @@ pub fn is_from_variable(mark: &Mark) -> bool
 fn only_call<'s>(body: &'s Stmts, mark: &'s Mark) -> Option<StepCall<'s>>
     ensures step { (reads : List ℕ → Vars) → step_of reads result ≡ step_in reads (mark_of mark.now) (code_of body.now) }
 {
-    let Stmts::More(first, rest) = body else {
+    let Stmts::More(row) = body else {
         return None;
     };
-    let Act::Call(name, actuals) = &first.act else {
+    let Act::Call(name, actuals) = &row.first.act else {
         return None;
     };
-    match &**rest {
+    match &row.rest {
         Stmts::Empty => Some(StepCall {
             name,
             actuals,
             mark,
         }),
-        Stmts::More(_, _) => None,
+        Stmts::More(_) => None,
     }
 }
 

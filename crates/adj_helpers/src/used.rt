@@ -119,10 +119,10 @@ impl<'a> Known<'a> {
     {
         let mut made = Used::nothing(number);
         let mut current = body;
-        while let Stmts::More(stmt, left) = current {
-            let used = self.statement(stmt, made.number, depth, depths)?;
+        while let Stmts::More(row) = current {
+            let used = self.statement(&row.first, made.number, depth, depths)?;
             made = made.with_next(used);
-            current = left;
+            current = &row.rest;
         }
         Ok(made)
     }

@@ -44,7 +44,8 @@ fn only(alloc: Global, line: u32, act: Act) -> Result<Stmts, Memory>
     ensures one { IfOk result (λ c. code_of c ≡ one line (act_of act)) }
 {
     let stmt = Stmt { line, act };
-    Ok(Stmts::More(Box::new(alloc, stmt)?, Box::new(alloc, Stmts::Empty)?))
+    let one = Stmts::Empty.behind(alloc, stmt)?;
+    Ok(one)
 }
 
 // The body of a loop.
@@ -187,9 +188,9 @@ fn cut_onto(
 {
     let mut next = first;
     let mut current = code;
-    while let Stmts::More(stmt, rest) = current {
-        next = cut_statement(alloc, source, next, stmt, out)?;
-        current = rest;
+    while let Stmts::More(row) = current {
+        next = cut_statement(alloc, source, next, &row.first, out)?;
+        current = &row.rest;
     }
     Ok(next)
 }

@@ -43,10 +43,10 @@ pub fn marked_in(code: &Stmts) -> Result<usize, Memory>
 {
     let mut count = 0;
     let mut current = code;
-    while let Stmts::More(stmt, rest) = current {
-        let inner = marked_in_statement(stmt)?;
+    while let Stmts::More(row) = current {
+        let inner = marked_in_statement(&row.first)?;
         count = plus(count, inner)?;
-        current = rest;
+        current = &row.rest;
     }
     Ok(count)
 }

@@ -177,9 +177,9 @@ pub fn add_code(alloc: Global, names: &mut Once, code: &Stmts) -> Result<(), Mem
     ensures added { OnOk result (names.new ≡ all_added names.old (names_in_code (code_of code.now))) }
 {
     let mut current = code;
-    while let Stmts::More(stmt, rest) = current {
-        add_statement(alloc, names, stmt)?;
-        current = rest;
+    while let Stmts::More(row) = current {
+        add_statement(alloc, names, &row.first)?;
+        current = &row.rest;
     }
     Ok(())
 }

@@ -117,9 +117,9 @@ pub fn add_step_units(
 {
     let mut next = first;
     let mut current = code;
-    while let Stmts::More(stmt, rest) = current {
-        next = add_of_statement(alloc, source, next, stmt, units)?;
-        current = rest;
+    while let Stmts::More(row) = current {
+        next = add_of_statement(alloc, source, next, &row.first, units)?;
+        current = &row.rest;
     }
     Ok(next)
 }

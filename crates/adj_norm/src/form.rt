@@ -102,8 +102,8 @@ fn is_one_call(body: &Stmts) -> bool
 {
     match body {
         Stmts::Empty => false,
-        Stmts::More(first, rest) => matches!(first.act, Act::Call(_, _))
-            && matches!(**rest, Stmts::Empty),
+        Stmts::More(row) => matches!(row.first.act, Act::Call(_, _))
+            && matches!(row.rest, Stmts::Empty),
     }
 }
 
@@ -138,11 +138,11 @@ fn is_kernel_list(c: &Stmts) -> bool
     ensures form { result ≡ form.is_kernel_code (code_of c.now) }
 {
     let mut current = c;
-    while let Stmts::More(first, rest) = current {
-        if !is_kernel_statement(first) {
+    while let Stmts::More(row) = current {
+        if !is_kernel_statement(&row.first) {
             return false;
         }
-        current = rest;
+        current = &row.rest;
     }
     true
 }

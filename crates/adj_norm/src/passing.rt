@@ -224,7 +224,7 @@ fn fetch(
 {
     let target = name.copy(alloc)?;
     let source = array.copy(alloc)?;
-    let same = subs.copy(alloc)?;
+    let same = subs.copy_boxed(alloc)?;
     let element = boxed(alloc, Expr::Elem(source, same))?;
     set(line, target, element, steps)
 }

@@ -170,10 +170,10 @@ fn lower_onto(
 {
     let mut most: usize = 0;
     let mut current = code;
-    while let Stmts::More(stmt, rest) = current {
-        let taken = lower_statement(alloc, locals, handed, stmt, steps)?;
+    while let Stmts::More(row) = current {
+        let taken = lower_statement(alloc, locals, handed, &row.first, steps)?;
         most = most.max(taken);
-        current = rest;
+        current = &row.rest;
     }
     Ok(most)
 }

@@ -96,7 +96,6 @@ pub fn set_where(
 fn only(alloc: Global, line: u32, name: Name, e: Box<Expr>) -> Result<Stmts, Memory>
     ensures one { IfOk result (λ c. code_of c ≡ one line (assign (plain name) none (term_of e.value))) }
 {
-    let rest = boxed(alloc, Stmts::Empty)?;
     let place = Place {
         name,
         subs: Exprs::Empty,
@@ -105,5 +104,6 @@ fn only(alloc: Global, line: u32, name: Name, e: Box<Expr>) -> Result<Stmts, Mem
         line,
         act: Act::Assign(place, Box::into_inner(e)),
     };
-    Ok(Stmts::More(boxed(alloc, stmt)?, rest))
+    let one = Stmts::Empty.behind(alloc, stmt)?;
+    Ok(one)
 }

@@ -12,7 +12,7 @@ use crate::nest::Nest;
 use crate::phase::Phase;
 use adj_statement::{Item, Said};
 use adj_text::Kind;
-use adj_tree::{Decl, Decls, Mark, Memory, Name, NameList, Unit};
+use adj_tree::{Decl, Decls, Mark, Memory, Name, NameList, NameTable, Unit};
 use std::alloc::Global;
 
 /// A unit before its END.
@@ -100,7 +100,8 @@ impl Current {
     pub(crate) fn finished(self, alloc: Global) -> Result<Unit, Memory>
         ensures { IfOk result (λ u. procedure_of u ≡ finished (current_of self)) }
     {
-        let body = self.nest.into_body(alloc)?;
+        let mut body = self.nest.into_body(alloc)?;
+        body.share(alloc, &mut NameTable::new(alloc))?;
         Ok(Unit {
             line: self.line,
             name: self.name,

@@ -196,8 +196,7 @@ impl Nest {
     fn add_guarded(&mut self, alloc: Global, line: u32, cond: Cond, act: Act) -> Result<(), Memory>
         ensures { OnOk result (nest_of self.new ≡ add (nest_of self.old) line (choose (test_of cond) (step line (act_of act) stop) stop)) }
     {
-        let one = Box::new(alloc, Stmt { line, act })?;
-        let body = Stmts::More(one, Box::new(alloc, Stmts::Empty)?);
+        let body = Stmts::Empty.behind(alloc, Stmt { line, act })?;
         self.add(line, Act::If(cond, body, Stmts::Empty))
     }
 

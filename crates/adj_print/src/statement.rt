@@ -158,10 +158,10 @@ fn push_stmt(alloc: Global, out: &mut Vec<u8>, stmt: &Stmt) -> Result<(), Memory
 fn push_else(alloc: Global, out: &mut Vec<u8>, other: &Stmts) -> Result<(), Memory>
     ensures lines { OnOk result (out.new.items ≡ out.old.items ++ else_text (code_of other.now)) }
 {
-    if let Stmts::More(first, rest) = other {
+    if let Stmts::More(row) = other {
         push_statement(out, b"ELSE")?;
-        push_stmt(alloc, out, first)?;
-        push_stmts(alloc, out, rest)?;
+        push_stmt(alloc, out, &row.first)?;
+        push_stmts(alloc, out, &row.rest)?;
     }
     Ok(())
 }
@@ -172,9 +172,9 @@ pub fn push_stmts(alloc: Global, out: &mut Vec<u8>, list: &Stmts) -> Result<(), 
     ensures lines { OnOk result (out.new.items ≡ out.old.items ++ code_text (code_of list.now)) }
 {
     let mut current = list;
-    while let Stmts::More(first, rest) = current {
-        push_stmt(alloc, out, first)?;
-        current = rest;
+    while let Stmts::More(row) = current {
+        push_stmt(alloc, out, &row.first)?;
+        current = &row.rest;
     }
     Ok(())
 }

@@ -55,7 +55,7 @@ impl<'a> Site<'a> {
         ensures parts { IfOk result (λ p. IsApart (naming_of self.now) (active_in self.now) self.now.line (elem (plain x.now) (terms_of subs.now)) first p) }
     {
         let name = x.copy(alloc)?;
-        let subscripts = subs.copy(alloc)?;
+        let subscripts = subs.copy_boxed(alloc)?;
         let term = boxed(alloc, Expr::Elem(name, subscripts))?;
         if !self.is_active_name(x) {
             let nothing = boxed(alloc, Share::Nothing)?;

@@ -76,7 +76,7 @@ impl<'a> Site<'a> {
                 Ok(made)
             }
             Exprs::More(_, _) => {
-                let subs = target.subs.copy(alloc)?;
+                let subs = target.subs.copy_boxed(alloc)?;
                 let made = boxed(alloc, Expr::Elem(name, subs))?;
                 Ok(made)
             }

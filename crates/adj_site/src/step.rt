@@ -53,9 +53,8 @@ pub fn pop(line: u32, place: Place) -> Stmt
 pub fn before(alloc: Global, stmt: Stmt, rest: Stmts) -> Result<Stmts, Memory>
     ensures step { IfOk result (λ c. code_of c ≡ step stmt.line (act_of stmt.act) (code_of rest)) }
 {
-    let first = boxed(alloc, stmt)?;
-    let others = boxed(alloc, rest)?;
-    Ok(Stmts::More(first, others))
+    let all = rest.behind(alloc, stmt)?;
+    Ok(all)
 }
 
 /// A place that becomes a value, and then the rest.

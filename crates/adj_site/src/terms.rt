@@ -20,7 +20,7 @@ pub(crate) fn element(alloc: Global, name: &Name, subs: &Exprs) -> Result<Box<Ex
     ensures element { IfOk result (λ x. term_of x.value ≡ elem (plain name.now) (terms_of subs.now)) }
 {
     let copied = name.copy(alloc)?;
-    let places = subs.copy(alloc)?;
+    let places = subs.copy_boxed(alloc)?;
     let made = boxed(alloc, Expr::Elem(copied, places))?;
     Ok(made)
 }

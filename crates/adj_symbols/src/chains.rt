@@ -119,11 +119,15 @@ fn add_list(
 {
     let mut most = 0;
     let mut rest = list;
-    while let Stmts::More(stmt, next) = rest {
-        let length = add_inner(scope, lengths, limit, &stmt.act, first);
-        first.add_passed_if(is_too_long(limit, &stmt.act, length), limit, stmt.line);
+    while let Stmts::More(row) = rest {
+        let length = add_inner(scope, lengths, limit, &row.first.act, first);
+        first.add_passed_if(
+            is_too_long(limit, &row.first.act, length),
+            limit,
+            row.first.line,
+        );
         most = cmp::max(most, length);
-        rest = next;
+        rest = &row.rest;
     }
     most
 }

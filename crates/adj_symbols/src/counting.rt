@@ -28,11 +28,11 @@ fn count(list: &Stmts) -> usize
 {
     let mut total = 0usize;
     let mut rest = list;
-    while let Stmts::More(stmt, next) = rest {
+    while let Stmts::More(row) = rest {
         total = total
             .saturating_add(1)
-            .saturating_add(count_inner(&stmt.act));
-        rest = next;
+            .saturating_add(count_inner(&row.first.act));
+        rest = &row.rest;
     }
     total
 }

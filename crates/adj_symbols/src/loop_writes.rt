@@ -60,11 +60,11 @@ fn add_list<'a>(
     ensures faults { OnOk result (first.new ≡ sooner first.old (first_of (open_faults (row_of (map procedure_of scope.now) written.now) (writes_one (row_of (map procedure_of scope.now) written.now) opened.old) (code_of list.now)))) }
 {
     let mut rest = list;
-    while let Stmts::More(stmt, next) = rest {
-        let is_hit = writes_one(alloc, scope, written, &stmt.act, opened)?;
-        first.add_if(is_hit, 11, stmt.line);
-        add_inner(alloc, scope, written, &stmt.act, opened, first)?;
-        rest = next;
+    while let Stmts::More(row) = rest {
+        let is_hit = writes_one(alloc, scope, written, &row.first.act, opened)?;
+        first.add_if(is_hit, 11, row.first.line);
+        add_inner(alloc, scope, written, &row.first.act, opened, first)?;
+        rest = &row.rest;
     }
     Ok(())
 }

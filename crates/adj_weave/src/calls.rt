@@ -36,15 +36,15 @@ pub enum Counting {
 fn only_called(body: &Stmts) -> Option<&Name>
     ensures called { option_map (λ r. r.now) result ≡ only_called (code_of body.now) }
 {
-    let Stmts::More(first, rest) = body else {
+    let Stmts::More(row) = body else {
         return None;
     };
-    let Act::Call(name, _) = &first.act else {
+    let Act::Call(name, _) = &row.first.act else {
         return None;
     };
-    match &**rest {
+    match &row.rest {
         Stmts::Empty => Some(name),
-        Stmts::More(_, _) => None,
+        Stmts::More(_) => None,
     }
 }
 
@@ -136,9 +136,9 @@ fn add_list(
 {
     let mut number = first;
     let mut current = list;
-    while let Stmts::More(stmt, rest) = current {
-        number = add_act(names, from, number, &stmt.act, calls)?;
-        current = rest;
+    while let Stmts::More(row) = current {
+        number = add_act(names, from, number, &row.first.act, calls)?;
+        current = &row.rest;
     }
     Ok(number)
 }

@@ -45,9 +45,9 @@ fn behind(first: usize, list: &Stmts) -> Result<usize, Memory>
 {
     let mut number = first;
     let mut current = list;
-    while let Stmts::More(stmt, rest) = current {
-        number = next(number, &stmt.act)?;
-        current = rest;
+    while let Stmts::More(row) = current {
+        number = next(number, &row.first.act)?;
+        current = &row.rest;
     }
     Ok(number)
 }

@@ -31,10 +31,10 @@ fn add_statements<'a>(list: &'a Stmts, out: &mut Vec<&'a Stmt>) -> Result<(), Me
     ensures { OnOk result (seen out.new.items ≡ seen out.old.items ++ statements (code_of list.now)) }
 {
     let mut rest = list;
-    while let Stmts::More(first, next) = rest {
-        out.push(first)?;
-        add_inner(&first.act, out)?;
-        rest = next;
+    while let Stmts::More(row) = rest {
+        out.push(&row.first)?;
+        add_inner(&row.first.act, out)?;
+        rest = &row.rest;
     }
     Ok(())
 }

@@ -49,10 +49,10 @@ fn lower_two(
     body: &Stmts,
     steps: &mut Vec<Stmt>,
 ) -> Result<(), Memory> {
-    if let Stmts::More(first, rest) = body {
-        let _ = lower_act(alloc, locals, &first.act, steps)?;
-        if let Stmts::More(second, _) = &**rest {
-            let _ = lower_act(alloc, locals, &second.act, steps)?;
+    if let Stmts::More(one) = body {
+        let _ = lower_act(alloc, locals, &one.first.act, steps)?;
+        if let Stmts::More(two) = &one.rest {
+            let _ = lower_act(alloc, locals, &two.first.act, steps)?;
         }
     }
     Ok(())

@@ -32,10 +32,10 @@ fn is_adjoint(alloc: Global, body: &Stmts, lines: &str) -> Result<bool, Memory> 
         number: 0,
         line: 1,
     };
-    let Stmts::More(first, _) = body else {
+    let Stmts::More(row) = body else {
         return Ok(false);
     };
-    let Act::Assign(target, e) = &first.act else {
+    let Act::Assign(target, e) = &row.first.act else {
         return Ok(false);
     };
     let code = site.adjoint(alloc, target, e, Stmts::Empty)?;

@@ -38,27 +38,27 @@ pub add_list-loop-rest-preserved : goal.add_list-loop-rest-preserved
 add_list-loop-rest-preserved t c =
     let h = row_of (map procedure_of c.args.scope.now) c.args.written.now in
     let hits = writes_one h c.args.opened.now in
-    let s = c.in-More.stmt.value in
+    let s = c.in-More.row.value.first in
     let a = act_of s.act in
-    let next = code_of c.in-More.next.value in
+    let next = code_of c.in-More.row.value.rest in
     let f0 = c.loop-rest.first in
     let f1 = c.add_if.new.self in
     let f2 = c.add_inner.new.first in
     let own : f1 ≡ sooner f0 (first_of (faults_if (hits a) (fault 11 s.line))) =
     c.add_if.ensures.added
-    ∙ (λ i. sooner f0 (first_of (faults_if c.in_ok-is_hit.is_hit (fault 11 (c.deref-in-More.ensures i).line))))
-    ∙ ap (λ b. sooner f0 (first_of (faults_if b (fault 11 s.line)))) (c.in_ok-is_hit.ensures ∙ (λ i. writes_one h (c.loop-rest.invariant.kept i) (act_of (c.deref.ensures i).act))) in
+    ∙ (λ i. sooner f0 (first_of (faults_if c.in_ok-is_hit.is_hit (fault 11 (c.deref-in-More.ensures i).first.line))))
+    ∙ ap (λ b. sooner f0 (first_of (faults_if b (fault 11 s.line)))) (c.in_ok-is_hit.ensures ∙ (λ i. writes_one h (c.loop-rest.invariant.kept i) (act_of (c.deref.ensures i).first.act))) in
     let within : f2 ≡ sooner f1 (first_of (open_inner h hits a)) =
     c.in_ok-add_inner.ensures.faults
-    ∙ (λ i. sooner f1 (first_of (open_inner h (writes_one h (c.loop-rest.invariant.kept i)) (act_of (c.deref-in-More-2.ensures i).act)))) in
+    ∙ (λ i. sooner f1 (first_of (open_inner h (writes_one h (c.loop-rest.invariant.kept i)) (act_of (c.deref-in-More-2.ensures i).first.act)))) in
     record {
       no_more =
-          let left : code_nodes (code_of c.deref-rest.result.now) ≡ code_nodes next = ap (λ z. code_nodes (code_of z)) c.deref-rest.ensures in
+          let left : code_nodes (code_of c.deref-in-More-3.result.now.rest) ≡ code_nodes next = ap (λ z. code_nodes (code_of z.rest)) c.deref-in-More-3.ensures in
           let was : code_nodes (code_of c.loop-rest.rest.now) ≡ act_nodes a + code_nodes next = ap (λ z. code_nodes (code_of z)) c.in-More.is in
           omega (arith, c.loop-rest.invariant.no_more);
       kept = c.in_ok-add_inner.ensures.opened ∙ c.loop-rest.invariant.kept;
       faults =
-          ap (λ z. sooner f2 (first_of (open_faults h hits (code_of z)))) c.deref-rest.ensures
+          ap (λ z. sooner f2 (first_of (open_faults h hits (code_of z.rest)))) c.deref-in-More-3.ensures
           ∙ step_more h hits s.line a next f0 f1 f2 own within
           ∙ ap (λ z. sooner f0 (first_of (open_faults h hits (code_of z)))) (sym c.in-More.is)
           ∙ c.loop-rest.invariant.faults;

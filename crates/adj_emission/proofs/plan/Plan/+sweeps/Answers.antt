@@ -2,7 +2,7 @@ use Rattle.std.proofs.Common.{◌≡◌, ◌∙◌, suc, refl, sym, ap, subst, a
 use Rattle.adj_tree.specs.Code.{Act, plain, loop, runtime, stop, step}
 use Rattle.adj_tree.specs.View.{term_of, runtime_of, mark_of, act_of, code_of}
 use Rattle.adj_tree.specs.declared.stmt.Stmts.{size-Stmts}
-use Rattle.adj_tree.specs.declared.stmt.Act.TheViews.{sized-More}
+use Rattle.adj_tree.specs.declared.stmt.Act.TheViews.{sized-More, size_is-Row}
 use Rattle.adj_tree.specs.declared.stmt.Stmts.TheVariants as stmts
 use Rattle.adj_helpers.specs.Steps.{step_of}
 use Rattle.adj_emission.specs.declared.sweeps.Sweeps.{Sweeps}
@@ -111,17 +111,18 @@ statement-returns-in-Run t c =
 pub list-loop-current-preserved : goal.list-loop-current-preserved
 list-loop-current-preserved t c =
     let r = naming_in c.args.self.now in
-    let stmt = c.deref.result.now in
+    let stmt = c.deref.result.now.first in
     record {
       no_deeper =
-          let whole = sized-More c.in-More.stmt c.in-More.left in
+          let whole = sized-More c.in-More.row in
+          let row = size_is-Row c.in-More.row.value in
           let was = ap size-Stmts c.in-More.is in
-          let left = ap size-Stmts c.deref-current.ensures in
+          let left = ap (λ z. size-Stmts z.rest) c.deref-in-More.ensures in
           let earlier = c.loop-current.invariant.no_deeper in
-          first_of (omega (arith, whole, was, left, earlier), grind (arith, whole, was, left, earlier));
+          first_of (omega (arith, whole, row, was, left, earlier), grind (arith, whole, row, was, left, earlier));
       passed = λ callees reads k.
-          passed_more (schedules_of c.args.self.now reads) r (plan_of c.args.self.now callees) c.args.depth c.args.number stmt.line (act_of stmt.act) (code_of c.args.body.now) (code_of c.args.rest) (code_of c.loop-current.current.now) (code_of c.deref-current.result.now) c.loop-current.made c.in_ok-made.made
-          (ap code_of c.in-More.is ∙ (λ i. step (sym c.deref.ensures i).line (act_of (sym c.deref.ensures i).act) (code_of (sym c.deref-current.ensures i))))
+          passed_more (schedules_of c.args.self.now reads) r (plan_of c.args.self.now callees) c.args.depth c.args.number stmt.line (act_of stmt.act) (code_of c.args.body.now) (code_of c.args.rest) (code_of c.loop-current.current.now) (code_of c.deref-in-More.result.now.rest) c.loop-current.made c.in_ok-made.made
+          (ap code_of c.in-More.is ∙ (λ i. step (sym c.deref.ensures i).first.line (act_of (sym c.deref.ensures i).first.act) (code_of (sym c.deref-in-More.ensures i).rest)))
           (c.in_ok-made.ensures.sweeps callees reads k) (c.loop-current.invariant.passed callees reads k);
     }
 

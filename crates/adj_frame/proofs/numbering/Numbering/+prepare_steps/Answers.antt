@@ -1,7 +1,7 @@
 use Rattle.std.proofs.Common.{rules, ◌≡◌, length, map, refl, sym, ap, subst, ◌∙◌, arith}
 use Rattle.adj_tree.specs.declared.stmt.Stmts.{size-Stmts}
 use Rattle.adj_tree.specs.declared.stmt.Act.{size-Act}
-use Rattle.adj_tree.specs.declared.stmt.Act.TheViews.{sized-If, sized-Loop, sized-While, sized-More}
+use Rattle.adj_tree.specs.declared.stmt.Act.TheViews.{sized-If, sized-Loop, sized-While, sized-More, size_is-Row}
 use Rattle.adj_tree.specs.declared.stmt.Stmts.TheVariants as stmts
 use Rattle.adj_tree.specs.Code.{step, assign, choose, loop, during, call, runtime}
 use Rattle.adj_tree.specs.View.{term_of, act_of, code_of, procedure_of}
@@ -27,7 +27,7 @@ steps-loop-current-init t c = record {
 pub steps-loop-current-preserved : goal.steps-loop-current-preserved
 steps-loop-current-preserved t c =
     let made = c.loop-current.made in
-    let rest = c.in-More.rest.value in
+    let rest = c.in-More.row.value.rest in
     let before = c.loop-current.self in
     let after = c.step.new.self in
     let inv = c.loop-current.invariant in
@@ -37,19 +37,20 @@ steps-loop-current-preserved t c =
     let ok = c.in_ok-boxed.ensures.boxed in
     record {
       no_deeper =
-          let whole = sized-More c.in-More.first c.in-More.rest in
+          let whole = sized-More c.in-More.row in
+          let row = size_is-Row c.in-More.row.value in
           let was = ap size-Stmts c.in-More.is in
-          let left = ap size-Stmts c.deref-current.ensures in
+          let left = ap (λ z. size-Stmts z.rest) c.deref-in-More.ensures in
           let earlier = inv.no_deeper in
-          first_of (omega (arith, whole, was, left, earlier), grind (arith, whole, was, left, earlier));
+          first_of (omega (arith, whole, row, was, left, earlier), grind (arith, whole, row, was, left, earlier));
       units = k.units ∙ inv.units;
       directory = k.directory;
       linked = (subst (λ us. IsTaskLinked (map procedure_of us) v.task) inv.units k.linked, subst (AreLinked (map procedure_of c.args.units.now.units.now)) (sym ok) inv.linked);
       extends = extends_on c.args.self.now before after inv.extends e;
       resolves = record {
         stands_for = λ ls f.
-            (λ i. code_turned (steps_in ls (ok i)) (step (k.line i) (k.resolves.stands_for ls f i) (code_of (c.deref-current.ensures i))))
-            ∙ ap (λ z. code_turned (steps_in ls made) (step z.line (act_of z.act) (code_of rest))) c.deref.ensures
+            (λ i. code_turned (steps_in ls (ok i)) (step (k.line i) (k.resolves.stands_for ls f i) (code_of (c.deref-in-More.ensures i).rest)))
+            ∙ ap (λ z. code_turned (steps_in ls made) (step z.first.line (act_of z.first.act) (code_of rest))) c.deref.ensures
             ∙ ap (λ z. code_turned (steps_in ls made) (code_of z)) (sym c.in-More.is)
             ∙ inv.resolves.stands_for ls (extends_on before after ls e f);
         below = λ ls f. (k.resolves.below ls f, subst (AreStepsBelow (length ls)) (sym ok) (inv.resolves.below ls (extends_on before after ls e f)));

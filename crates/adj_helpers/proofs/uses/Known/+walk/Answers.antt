@@ -3,7 +3,7 @@ use Rattle.adj_tree.specs.Code.{step}
 use Rattle.adj_tree.specs.View.{act_of, code_of}
 use Rattle.adj_tree.specs.declared.stmt.Stmts.{size-Stmts}
 use Rattle.adj_tree.specs.declared.stmt.Stmts.TheVariants as stmts
-use Rattle.adj_tree.specs.declared.stmt.Act.TheViews.{sized-More}
+use Rattle.adj_tree.specs.declared.stmt.Act.TheViews.{sized-More, size_is-Row}
 use Rattle.adj_transpose.specs.Marks.{behind}
 use Rattle.adj_helpers.specs.Depths.{AddsAct, AddsList}
 use Rattle.adj_helpers.specs.Uses.{plan_by, schedules_by, UsesAct, UsesList}
@@ -107,22 +107,23 @@ statement-returns-in_ok-add_while-in-While t c =
 
 pub list-loop-current-preserved : goal.list-loop-current-preserved
 list-loop-current-preserved t c =
-    let stmt = c.deref.result.now in
+    let stmt = c.deref.result.now.first in
     let old = c.loop-current.made in
     let used = c.in_ok-used.used in
     let new = c.with_next-made.result in
     let w = c.with_next-made.ensures in
     let current = code_of c.loop-current.current.now in
-    let left = code_of c.deref-current.result.now in
-    let is : current ≡ step stmt.line (act_of stmt.act) left = ap code_of c.in-More.is ∙ (λ i. step (sym c.deref.ensures i).line (act_of (sym c.deref.ensures i).act) (code_of (sym c.deref-current.ensures i))) in
+    let left = code_of c.deref-in-More.result.now.rest in
+    let is : current ≡ step stmt.line (act_of stmt.act) left = ap code_of c.in-More.is ∙ (λ i. step (sym c.deref.ensures i).first.line (act_of (sym c.deref.ensures i).first.act) (code_of (sym c.deref-in-More.ensures i).rest)) in
     let joined : Joined old used new = record { idle = w.idle; tells = w.tells; works = w.works; temps = w.temps; depth = w.depth; number = w.number } in
     record {
       no_deeper =
-          let whole = sized-More c.in-More.stmt c.in-More.left in
+          let whole = sized-More c.in-More.row in
+          let row = size_is-Row c.in-More.row.value in
           let was = ap size-Stmts c.in-More.is in
-          let rest = ap size-Stmts c.deref-current.ensures in
+          let rest = ap (λ z. size-Stmts z.rest) c.deref-in-More.ensures in
           let earlier = c.loop-current.invariant.no_deeper in
-          first_of (omega (arith, whole, was, rest, earlier), grind (arith, whole, was, rest, earlier));
+          first_of (omega (arith, whole, row, was, rest, earlier), grind (arith, whole, row, was, rest, earlier));
       passed = λ arrays callees reads k.
           passed_more (schedules_by c.args.self.now reads) (plan_by c.args.self.now arrays callees) c.args.depth c.args.number stmt.line (act_of stmt.act) (code_of c.args.body.now) current left old used new is
           (c.in_ok-used.ensures.uses arrays callees reads k) joined (c.loop-current.invariant.passed arrays callees reads k);
