@@ -1,21 +1,17 @@
--- Lists without faults, members of lists, and lists of names.
-use Rattle.std.proofs.Common.{◌≡◌, ℕ, zero, suc, Bool, true, false, List, [], ◌∷◌, ◌++◌, map, refl, sym, ap, ◌∙◌, subst, if◌then◌else◌}
-use Rattle.std.specs.Prelude.{◌||◌, flat_map, Some}
+-- Members of lists, lists without faults, and units in lists.
+use Rattle.std.proofs.Common.{◌≡◌, ℕ, zero, suc, Bool, true, false, List, [], ◌∷◌, ◌++◌, map, sym, ap, ◌∙◌, subst, if◌then◌else◌}
+use Rattle.std.specs.Prelude.{flat_map, Some}
 use Rattle.std.specs.List.{All}
 use Rattle.std.proofs.lemmas.List.Elements.{All-head, All-tail}
 use Rattle.adj_tree.specs.Code.{name_eq, Procedure}
-use Rattle.adj_tree.specs.declared.fault.Refusal.{Refusal}
-use Rattle.adj_tree.proofs.Names.{name_refl, name_same}
+use Rattle.adj_tree.proofs.Names.{name_refl}
 use Rattle.adj_meaning.specs.Written.{find_unit}
-use Rattle.adj_meaning.specs.Agree as agree
-use Rattle.adj_names.specs.Statements.{At}
-use Rattle.adj_names.specs.Fault.{faults_if, again}
-use Rattle.adj_names.specs.Fresh as fresh
+pub use Rattle.adj_names.proofs.Faultless.{none_front, none_behind, none_if, apart_places}
 use Rattle.adj_kernel.specs.Kernel.{EachUnit}
 use Rattle.adj_transpose.specs.Fresh.{has_name}
 use Rattle.adj_transpose.specs.Naming.{AreApart}
 use Rattle.adj_transpose.specs.Program.{unit_name, unit_at}
-use Rattle.adj_transpose.proofs.Variables.{or_false, or_left, or_right, name_comm, has_apart}
+use Rattle.adj_transpose.proofs.Variables.{or_left, or_right, name_comm, has_apart}
 
 -- ---- members
 
@@ -63,53 +59,9 @@ each_found P (v ∷ us) h name u f = go (name_eq v.name name) f (each_found P us
 
 -- ---- no faults
 
-pub none_front : {A : Type 0} (xs ys : List A) → xs ++ ys ≡ [] → xs ≡ []
-none_front [] ys h = refl
-none_front (x ∷ xs) ys h = absurd cc
-
-pub none_behind : {A : Type 0} (xs ys : List A) → xs ++ ys ≡ [] → ys ≡ []
-none_behind [] ys h = h
-none_behind (x ∷ xs) ys h = absurd cc
-
 pub none_each : {A B : Type 0} (f : A → List B) (xs : List A) → flat_map f xs ≡ [] → Each (λ x. f x ≡ []) xs
 none_each f [] h = tt
 none_each f (x ∷ xs) h = (none_front (f x) (flat_map f xs) h, none_each f xs (none_behind (f x) (flat_map f xs) h))
-
-pub none_if : (b : Bool) (r : Refusal) → faults_if b r ≡ [] → b ≡ false
-none_if true r h = absurd cc
-none_if false r h = refl
-
--- ---- names
-
--- a name that stood before doesn't stand again
-not_again : (code : ℕ) (before : List (List ℕ)) (ps : List (At (List ℕ))) → again code before ps ≡ [] → (x : List ℕ) → fresh.has_name x before ≡ true → has_name x (map (λ p. p.1) ps) ≡ false
-not_again code before [] h x k = refl
-not_again code before (p ∷ ps) h x k = go (name_eq x p.1) refl (not_again code (p.1 ∷ before) ps (none_behind (faults_if (fresh.has_name p.1 before) _) (again code (p.1 ∷ before) ps) h) x (or_right (name_eq x p.1) (fresh.has_name x before) k))
-  where
-    first : fresh.has_name p.1 before ≡ false
-    first = none_if (fresh.has_name p.1 before) _ (none_front (faults_if (fresh.has_name p.1 before) _) (again code (p.1 ∷ before) ps) h)
-
-    go : (b : Bool) → name_eq x p.1 ≡ b → has_name x (map (λ p. p.1) ps) ≡ false → (b || has_name x (map (λ p. p.1) ps)) ≡ false
-    go true e ih = absurd (let q : true ≡ false = sym k ∙ ap (λ z. fresh.has_name z before) (name_same x p.1 e) ∙ first in cc)
-    go false e ih = ih
-
--- places without a fault of that kind have names that are apart
-pub apart_places : (code : ℕ) (before : List (List ℕ)) (ps : List (At (List ℕ))) → again code before ps ≡ [] → AreApart (map (λ p. p.1) ps)
-apart_places code before [] h = tt
-apart_places code before (p ∷ ps) h =
-    let later : again code (p.1 ∷ before) ps ≡ [] = none_behind (faults_if (fresh.has_name p.1 before) _) (again code (p.1 ∷ before) ps) h in
-    (not_again code (p.1 ∷ before) ps later p.1 (or_left (name_eq p.1 p.1) (fresh.has_name p.1 before) (name_refl p.1)), apart_places code (p.1 ∷ before) ps later)
-
--- names that are apart are so by the meaning's lookup, too
-stands_same : (d : List ℕ) (ds : List (List ℕ)) → has_name d ds ≡ false → agree.stands_among d ds ≡ false
-stands_same d [] h = refl
-stands_same d (e ∷ ds) h =
-    let p = or_false (name_eq d e) (has_name d ds) h in
-    ap (λ b. b || agree.stands_among d ds) (name_comm d e p.0) ∙ stands_same d ds p.1
-
-pub apart_same : (ds : List (List ℕ)) → AreApart ds → agree.AreApart ds
-apart_same [] h = tt
-apart_same (d ∷ ds) h = (stands_same d ds h.0, apart_same ds h.1)
 
 -- ---- units by their numbers
 

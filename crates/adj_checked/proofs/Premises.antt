@@ -38,7 +38,7 @@ use Rattle.adj_reverse.proofs.Variables.{variables_apart, dummy_among}
 use Rattle.adj_reverse.proofs.EmittedUnits.{found_there}
 use Rattle.adj_reverse.proofs.Adjoint.{emitted_is_adjoint, full_is_adjoint}
 use Rattle.adj_checked.specs.Checked.{IsChecked, AreLawful, AreLawfulFor, AreLawfulForWith, LinesTell, LawfulFits, LawfulIsAdjoint, ReachedIsAdjoint, CheckedFits, CheckedIsAdjoint}
-use Rattle.adj_checked.proofs.Lists.{Each, each_more, each_all, each_unit, each_found, none_front, none_behind, none_each, none_if, apart_places, apart_same}
+use Rattle.adj_checked.proofs.Lists.{Each, each_more, each_all, each_unit, each_found, none_front, none_behind, none_each, none_if, apart_places}
 use Rattle.adj_checked.proofs.Texts.{Known}
 use Rattle.adj_checked.proofs.Statements.{names_given, CallHasNone, calls_inside, StatementSound, list_fits}
 use Rattle.adj_checked.proofs.Callings.{Found, all_found, each_at, head_uncalled, calls_found_some, roots_reached}
@@ -211,7 +211,7 @@ module _ (rules : Rules) (ps : List Procedure) (checked : IsChecked rules ps) wh
       head_reached = lawful.head_reached;
       closed = lawful.closed;
       units = λ name v f c. unit_fits name v f c;
-      apart = λ name v f. apart_same v.dummies (dummies_apart name v f);
+      apart = dummies_apart;
       inside = λ name v f. inside_text name v f;
       extents = λ name v f d h. extent_is_dummy name v f d h;
       known = calls_known ps ps all_calls;

@@ -1,10 +1,10 @@
 -- The names of a unit without faults: of its dummies, of its extents, and where they stand.
-use Rattle.std.proofs.Common.{◌≡◌, ℕ, true, false, List, [], ◌∷◌, ◌++◌, map, refl, sym, ap, ◌∙◌}
+use Rattle.std.proofs.Common.{◌≡◌, ℕ, true, false, List, [], ◌∷◌, ◌++◌, map, refl, ap, ◌∙◌}
 use Rattle.std.specs.Prelude.{◌&&◌}
 use Rattle.std.specs.List.{list_any}
 use Rattle.adj_tree.specs.Code.{name_eq, Act, Extent, fixed, given, Declaration, Procedure}
 use Rattle.adj_tree.proofs.Names.{name_refl, name_same}
-use Rattle.adj_meaning.specs.Read.{is_among, is_extent}
+use Rattle.adj_meaning.specs.Read.{names_extent, is_extent}
 use Rattle.adj_names.specs.Statements.{At, statements}
 use Rattle.adj_names.specs.Standing.{in_act}
 use Rattle.adj_names.specs.Variables as named
@@ -13,7 +13,7 @@ use Rattle.adj_names.specs.NameFaults.{is_bad_extent, has_bad_extents}
 use Rattle.adj_transpose.specs.Fresh.{has_name}
 use Rattle.adj_transpose.specs.Program.{unit_name}
 use Rattle.adj_transpose.proofs.Variables.{and_true, or_false, or_left, or_right}
-use Rattle.adj_reverse.proofs.Variables.{same_has, variables_stand}
+use Rattle.adj_reverse.proofs.Variables.{variables_stand}
 use Rattle.adj_reverse.proofs.Rounds.{either}
 use Rattle.adj_checked.proofs.Lists.{Each, each_behind, each_more}
 use Rattle.adj_checked.proofs.Texts.{Known}
@@ -32,19 +32,19 @@ unit_names (u ∷ us) = ap (λ l. u.name ∷ l) (unit_names us)
 
 -- ---- extents are dummies
 
-extent_dummy : (u : Procedure) (x : List ℕ) (es : List Extent) → list_any (is_bad_extent u) es ≡ false → is_among x es ≡ true → has_name x u.dummies ≡ true
+extent_dummy : (u : Procedure) (x : List ℕ) (es : List Extent) → list_any (is_bad_extent u) es ≡ false → names_extent x es ≡ true → has_name x u.dummies ≡ true
 extent_dummy u x [] h k = absurd cc
 extent_dummy u x (fixed z ∷ es) h k = extent_dummy u x es (or_false (is_bad_extent u (fixed z)) (list_any (is_bad_extent u) es) h).1 k
 extent_dummy u x (given y ∷ es) h k =
     let p = or_false (is_bad_extent u (given y)) (list_any (is_bad_extent u) es) h in
-    either (name_eq x y) (is_among x es) (has_name x u.dummies) k
-    (λ e. ap (λ z. has_name z u.dummies) (name_same x y e) ∙ (sym (same_has y u.dummies) ∙ (and_true (named.is_dummy u y) (named.is_scalar u y) (not_false (named.is_dummy u y && named.is_scalar u y) p.0)).0))
+    either (name_eq x y) (names_extent x es) (has_name x u.dummies) k
+    (λ e. ap (λ z. has_name z u.dummies) (name_same x y e) ∙ (and_true (named.is_dummy u y) (named.is_scalar u y) (not_false (named.is_dummy u y && named.is_scalar u y) p.0)).0)
     (λ e. extent_dummy u x es p.1 e)
 
 pub extents_dummies : (u : Procedure) (x : List ℕ) (ds : List Declaration) → Each (λ d. has_bad_extents u d ≡ false) ds → is_extent x ds ≡ true → has_name x u.dummies ≡ true
 extents_dummies u x [] h k = absurd cc
 extents_dummies u x (d ∷ ds) h k =
-    either (is_among x d.extents) (is_extent x ds) (has_name x u.dummies) k
+    either (names_extent x d.extents) (is_extent x ds) (has_name x u.dummies) k
     (extent_dummy u x d.extents (or_false (list_any (is_bad_extent u) d.extents) _ h.0).0) (extents_dummies u x ds h.1)
 
 -- ---- names in statements are variables

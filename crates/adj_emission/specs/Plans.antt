@@ -1,7 +1,7 @@
 -- What a plan of the code says: the naming of the unit, and the plan that its sweeps follow.
-use Rattle.std.specs.Prelude.{ℕ, List, false}
-use Rattle.adj_tree.specs.Code.{Var, plain}
-use Rattle.adj_transpose.specs.Fresh.{has_name}
+use Rattle.std.specs.Prelude.{ℕ, List}
+use Rattle.adj_tree.specs.Code.{Var}
+use Rattle.adj_meaning.specs.Apart.{is_named}
 use Rattle.adj_transpose.specs.Marks.{Vars}
 use Rattle.adj_reverse.specs.Plan as sweeps
 use Rattle.adj_naming.specs.Table.{named_by}
@@ -13,14 +13,9 @@ use Rattle.adj_emission.specs.declared.plan.Plan.{Plan}
 abbrev pub naming_in : Plan → Var → Var
 naming_in p = named_by p.names.now
 
--- the variables of these names
-abbrev pub named_among : List (List ℕ) → Vars
-named_among xs (plain x) = has_name x xs
-named_among xs v = false
-
 -- the plan, where this is known of the units that are called
 abbrev pub plan_of : Plan → (List ℕ → sweeps.Callee) → sweeps.Plan
-plan_of p callees = record { marks = marks_of p.marks.now; arrays = named_among p.arrays.now; callees = callees }
+plan_of p callees = record { marks = marks_of p.marks.now; arrays = is_named p.arrays.now; callees = callees }
 
 -- the schedules that the sweeps follow, where the units read these variables
 abbrev pub schedules_of : Plan → (List ℕ → Vars) → sweeps.Schedules

@@ -8,7 +8,6 @@ use Rattle.adj_text.specs.Written.{IsWrittenProcedure}
 use Rattle.adj_meaning.specs.Read.{is_extent}
 use Rattle.adj_meaning.specs.Rename.{rename_terms, rename_runtime}
 use Rattle.adj_meaning.specs.Units.{declared}
-use Rattle.adj_names.specs.Fresh as fresh
 use Rattle.adj_names.specs.Standing.{Standing, in_act}
 use Rattle.adj_names.specs.Statements.{At, statements}
 use Rattle.adj_names.specs.Variables.{dummy_places, declared_places, statement_places, places, variables, rank, is_scalar, is_dummy, is_integer, is_integer_name}
@@ -28,7 +27,7 @@ use Rattle.adj_reverse.specs.Emission.{adjoint_body_with, adjoint_body}
 use Rattle.adj_reverse.specs.Marking.{ProgramMarks, first_statement, plan_in}
 use Rattle.adj_reverse.specs.Program.{works_used, temps_used, helpers_used_with, adjoint_names_with, adjoint_names, adjoint_unit_with, adjoint_unit, schedules_in}
 use Rattle.adj_reverse.proofs.Made.{separates, own, declared_alike}
-use Rattle.adj_reverse.proofs.Variables.{same_has, variables_apart, dummy_among}
+use Rattle.adj_reverse.proofs.Variables.{variables_apart, dummy_among}
 use Rattle.adj_checked.proofs.Lists.{Each, each_append, each_more}
 use Rattle.adj_checked.proofs.Names.{variables_inside}
 use Rattle.adj_checked.proofs.Statements.{CallHasNone, not_false}
@@ -328,8 +327,8 @@ module _ (sb : Bool) (m : ProgramMarks) (ps : List Procedure) (units : List (Lis
       bad (given z ∷ es) h =
           let k = or_false (is_bad_extent u (given z)) (list_any (is_bad_extent u) es) h in
           let both = and_true (is_dummy u z) (is_scalar u z) (not_false (is_dummy u z && is_scalar u z) k.0) in
-          let inside : has_name z u.dummies ≡ true = sym (same_has z u.dummies) ∙ both.0 in
-          let dummy : is_dummy unit z ≡ true = same_has z unit.dummies ∙ dummy_plain z inside in
+          let inside : has_name z u.dummies ≡ true = both.0 in
+          let dummy : is_dummy unit z ≡ true = dummy_plain z inside in
           let ranked : rank unit z ≡ rank u z = ap (rank unit) (sym (keeps z (dummy_among u z inside))) ∙ plain_rank z in
           let scalar : is_scalar unit z ≡ true = ap (λ n. n == 0) ranked ∙ both.1 in
           rw (dummy, scalar, bad es k.1) refl
@@ -338,10 +337,10 @@ module _ (sb : Bool) (m : ProgramMarks) (ps : List Procedure) (units : List (Lis
   declaration_fits x = declaration_has (ExtentsFit u) u.line u.declarations x (no_extents_fit u x) (each_more (λ d. has_bad_extents u d ≡ false) (λ d. ExtentsFit u d.name d.extents) (λ d h. extents_fit u d h) u.declarations extents)
 
   is_plain_dummy : (x : List ℕ) → is_dummy u x ≡ true → is_dummy unit x ≡ true
-  is_plain_dummy x h = same_has x unit.dummies ∙ dummy_plain x (sym (same_has x u.dummies) ∙ h)
+  is_plain_dummy x h = dummy_plain x h
 
   is_shadow_dummy : (x : List ℕ) → a (plain x) ≡ true → is_dummy u x ≡ true → is_dummy unit (name (shadow x)) ≡ true
-  is_shadow_dummy x marked h = same_has (name (shadow x)) unit.dummies ∙ dummy_shadow x (sym (same_has x u.dummies) ∙ h) marked
+  is_shadow_dummy x marked h = dummy_shadow x h marked
 
   declarations_fit : Each (λ d. ExtentsFit unit d.name d.extents) unit.declarations
   declarations_fit = each_append (λ d. ExtentsFit unit d.name d.extents) (declared_behind a ns u (variables u)) (declared_helpers ns u.line hs) (of_variables (variables u)) (of_helpers hs)
@@ -388,7 +387,7 @@ module _ (sb : Bool) (m : ProgramMarks) (ps : List Procedure) (units : List (Lis
   pub no_twice : declared_twice unit ≡ []
   no_twice = λ j. again_none 8 [] (dummy_places unit) (subst AreApart (sym (dummy_names unit.line unit.dummies)) unit_dummies_once) (none_before (dummy_places unit)) j ++ again_none 8 [] (declared_places unit) (subst AreApart (sym (declaration_names unit.declarations)) declared_once) (none_before (declared_places unit)) j
     where
-      none_before : (qs : List (At (List ℕ))) → Each (λ (q : At (List ℕ)). fresh.has_name q.1 [] ≡ false) qs
+      none_before : (qs : List (At (List ℕ))) → Each (λ (q : At (List ℕ)). has_name q.1 [] ≡ false) qs
       none_before [] = tt
       none_before (q ∷ qs) = (refl, none_before qs)
 
@@ -409,13 +408,13 @@ module _ (sb : Bool) (m : ProgramMarks) (ps : List Procedure) (units : List (Lis
       in_extents (given z ∷ es) h =
           let k = or_false (is_bad_extent unit (given z)) (list_any (is_bad_extent unit) es) h in
           let both = and_true (is_dummy unit z) (is_scalar unit z) (not_false (is_dummy unit z && is_scalar unit z) k.0) in
-          (of_each Declared unit.dummies dummies_declared z (sym (same_has z unit.dummies) ∙ both.0), in_extents es k.1)
+          (of_each Declared unit.dummies dummies_declared z both.0, in_extents es k.1)
 
   pub no_undeclared : undeclared unit ≡ []
   no_undeclared =
       flat_none (λ (p : At (List ℕ)). faults_if (not (is_integer unit p.1)) (fault 7 p.0)) (places unit ++ extent_places unit)
       (each_more (λ (p : At (List ℕ)). Declared p.1) (λ p. faults_if (not (is_integer unit p.1)) (fault 7 p.0) ≡ [])
-      (λ p h. if_none (not (is_integer unit p.1)) (fault 7 p.0) (ap not (or_left (fresh.has_name p.1 (map (λ d. d.name) unit.declarations)) (not unit.is_none && is_integer_name p.1) (same_has p.1 (map (λ d. d.name) unit.declarations) ∙ h)))) (places unit ++ extent_places unit)
+      (λ p h. if_none (not (is_integer unit p.1)) (fault 7 p.0) (ap not (or_left (has_name p.1 (map (λ d. d.name) unit.declarations)) (not unit.is_none && is_integer_name p.1) h))) (places unit ++ extent_places unit)
       (each_append (λ (p : At (List ℕ)). Declared p.1) (places unit) (extent_places unit) places_declared extents_declared))
 
   -- ---- names that no unit has

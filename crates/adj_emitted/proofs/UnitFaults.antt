@@ -3,7 +3,6 @@ use Rattle.std.proofs.Common.{◌≡◌, ℕ, Bool, true, false, List, [], ◌�
 use Rattle.std.specs.Prelude.{flat_map}
 use Rattle.adj_tree.specs.Code.{name_eq, Procedure}
 use Rattle.adj_tree.specs.declared.fault.Refusal.{Refusal}
-use Rattle.adj_names.specs.Fresh as fresh
 use Rattle.adj_names.specs.Reserved.{is_reserved}
 use Rattle.adj_names.specs.Statements.{At}
 use Rattle.adj_names.specs.Fault.{Rules, fault, faults_if, again}
@@ -39,13 +38,13 @@ if_none true r h = absurd cc
 if_none false r h = refl
 
 -- names that are apart from each other and from those before them stand once
-pub again_none : (code : ℕ) (before : List (List ℕ)) (ps : List (At (List ℕ))) → AreApart (map (λ p. p.1) ps) → Each (λ (p : At (List ℕ)). fresh.has_name p.1 before ≡ false) ps → again code before ps ≡ []
+pub again_none : (code : ℕ) (before : List (List ℕ)) (ps : List (At (List ℕ))) → AreApart (map (λ p. p.1) ps) → Each (λ (p : At (List ℕ)). has_name p.1 before ≡ false) ps → again code before ps ≡ []
 again_none code before [] a h = refl
 again_none code before (p ∷ ps) a h =
-    λ i. if_none (fresh.has_name p.1 before) (fault code p.0) h.0 i ++ again_none code (p.1 ∷ before) ps a.1 (later ps a.0 h.1) i
+    λ i. if_none (has_name p.1 before) (fault code p.0) h.0 i ++ again_none code (p.1 ∷ before) ps a.1 (later ps a.0 h.1) i
   where
     -- the names behind the first aren't the first
-    later : (qs : List (At (List ℕ))) → has_name p.1 (map (λ q. q.1) qs) ≡ false → Each (λ (q : At (List ℕ)). fresh.has_name q.1 before ≡ false) qs → Each (λ (q : At (List ℕ)). fresh.has_name q.1 (p.1 ∷ before) ≡ false) qs
+    later : (qs : List (At (List ℕ))) → has_name p.1 (map (λ q. q.1) qs) ≡ false → Each (λ (q : At (List ℕ)). has_name q.1 before ≡ false) qs → Each (λ (q : At (List ℕ)). has_name q.1 (p.1 ∷ before) ≡ false) qs
     later [] n k = tt
     later (q ∷ qs) n k =
         let other = or_false (name_eq p.1 q.1) (has_name p.1 (map (λ q. q.1) qs)) n in
@@ -163,7 +162,7 @@ module _ (rules : Rules) (ps : List Procedure) (checked : IsChecked rules ps) wh
           flat_none (λ (p : At (List ℕ)). faults_if (is_reserved p.1) (fault 18 p.0)) (unit_places (emitted_units_with sb m ps head vars outvars ps))
           (names_free (emitted_units_with sb m ps head vars outvars ps) (each_emitted sb m ps head vars outvars (λ u. is_reserved u.name ≡ false) ps (each_more (λ u. is_reserved u.name ≡ false) (λ u. is_carried_with sb m ps head u.name ≡ true → is_reserved u.name ≡ false) (λ u f h. f) ps all_free) (adjoints_free ps (each_there ps))))
 
-      none_before : (qs : List (At (List ℕ))) → Each (λ (p : At (List ℕ)). fresh.has_name p.1 [] ≡ false) qs
+      none_before : (qs : List (At (List ℕ))) → Each (λ (p : At (List ℕ)). has_name p.1 [] ≡ false) qs
       none_before [] = tt
       none_before (q ∷ qs) = (refl, none_before qs)
 

@@ -5,7 +5,7 @@ use Rattle.adj_tree.specs.Code.{Var, plain, shadow, name_eq, Act, assign, choose
 use Rattle.adj_text.specs.Written.{IsName}
 use Rattle.adj_meaning.specs.LeastSet.{Dummies}
 use Rattle.adj_meaning.specs.Written.{find_unit, writes, handed_back}
-use Rattle.adj_meaning.specs.Read.{is_among, is_extent}
+use Rattle.adj_meaning.specs.Read.{names_extent, is_extent}
 use Rattle.adj_meaning.specs.Common.{CallsInside', CallsInside}
 use Rattle.adj_names.specs.Variables.{variables, is_dummy}
 use Rattle.adj_names.specs.WriteFaults.{written_variables, written_extents, shared_variables, written_values, faults_of_writes, write_faults}
@@ -21,7 +21,7 @@ use Rattle.adj_reverse.specs.Emission.{adjoint_body_with}
 use Rattle.adj_reverse.specs.Marking.{ProgramMarks, first_statement, plan_in}
 use Rattle.adj_reverse.specs.Program.{helpers_used_with, has_adjoint, is_carried_with, all_units, adjoint_unit_with, emitted_adjoint_with, emitted_units_with, emitted_for_with, schedules_in}
 use Rattle.adj_reverse.specs.Source.{CallUnits}
-use Rattle.adj_reverse.proofs.Variables.{dummy_among, same_has}
+use Rattle.adj_reverse.proofs.Variables.{dummy_among}
 use Rattle.adj_checked.proofs.Lists.{Each, each_more, each_both, none_each, none_front, none_behind}
 use Rattle.adj_checked.proofs.Callings.{Found}
 use Rattle.adj_emitted.specs.Emitted.{WritesHaveNone}
@@ -36,13 +36,13 @@ use Rattle.adj_emitted.proofs.HandedBack.{common, HandBackNoMore, inside_writes,
 -- ---- extents
 
 -- an extent in a declaration is one of the declarations'
-declared_extent : (d : List ℕ) (line : ℕ) (ds : List Declaration) (x : List ℕ) → is_among d (declaration line ds x).extents ≡ true → is_extent d ds ≡ true
+declared_extent : (d : List ℕ) (line : ℕ) (ds : List Declaration) (x : List ℕ) → names_extent d (declaration line ds x).extents ≡ true → is_extent d ds ≡ true
 declared_extent d line [] x h = absurd cc
 declared_extent d line (e ∷ ds) x h = go (name_eq e.name x) h (declared_extent d line ds x)
   where
-    go : (b : Bool) → is_among d (if b then e else declaration line ds x).extents ≡ true → (is_among d (declaration line ds x).extents ≡ true → is_extent d ds ≡ true) → (is_among d e.extents || is_extent d ds) ≡ true
-    go true h ih = or_left (is_among d e.extents) (is_extent d ds) h
-    go false h ih = or_right (is_among d e.extents) (is_extent d ds) (ih h)
+    go : (b : Bool) → names_extent d (if b then e else declaration line ds x).extents ≡ true → (names_extent d (declaration line ds x).extents ≡ true → is_extent d ds ≡ true) → (names_extent d e.extents || is_extent d ds) ≡ true
+    go true h ih = or_left (names_extent d e.extents) (is_extent d ds) h
+    go false h ih = or_right (names_extent d e.extents) (is_extent d ds) (ih h)
 
 either : (a b c : Bool) → (a ≡ true → c ≡ true) → (b ≡ true → c ≡ true) → (a || b) ≡ true → c ≡ true
 either true b c f g h = f refl
@@ -57,13 +57,13 @@ made_extent d sh ns u (x ∷ xs) hs h = go (sh (plain x)) h (made_extent d sh ns
     later : List Declaration
     later = declared_behind sh ns u xs ++ declared_helpers ns u.line hs
 
-    own : is_among d (declaration u.line u.declarations x).extents ≡ true → is_extent d u.declarations ≡ true
+    own : names_extent d (declaration u.line u.declarations x).extents ≡ true → is_extent d u.declarations ≡ true
     own k = declared_extent d u.line u.declarations x k
 
     go : (b : Bool) → is_extent d ((if b then declaration u.line u.declarations x ∷ record (declaration u.line u.declarations x) { name = name_in ns (shadow x) } ∷ declared_behind sh ns u xs else declaration u.line u.declarations x ∷ declared_behind sh ns u xs) ++ declared_helpers ns u.line hs) ≡ true →
         (is_extent d later ≡ true → is_extent d u.declarations ≡ true) → is_extent d u.declarations ≡ true
-    go true h ih = either (is_among d (declaration u.line u.declarations x).extents) _ (is_extent d u.declarations) own (either (is_among d (declaration u.line u.declarations x).extents) (is_extent d later) (is_extent d u.declarations) own ih) h
-    go false h ih = either (is_among d (declaration u.line u.declarations x).extents) (is_extent d later) (is_extent d u.declarations) own ih h
+    go true h ih = either (names_extent d (declaration u.line u.declarations x).extents) _ (is_extent d u.declarations) own (either (names_extent d (declaration u.line u.declarations x).extents) (is_extent d later) (is_extent d u.declarations) own ih) h
+    go false h ih = either (names_extent d (declaration u.line u.declarations x).extents) (is_extent d later) (is_extent d u.declarations) own ih h
 
 -- ---- loops of carried units
 
@@ -151,7 +151,7 @@ module _ (sb : Bool) (m : ProgramMarks) (ps : List Procedure) (head : Procedure)
       unwritten d k e =
           let own = made_extent d (m.shadowed u.name) ns u (variables u) (helpers_used_with (schedules_in sb ps) (plan_in m ps u) (first_statement ps u.name) u.body) e in
           let dummy = s.0.1.extent_dummy d own in
-          let kept : writes g (plain d) u.body ≡ false = tame.1 d (same_has d u.dummies ∙ dummy) own in
+          let kept : writes g (plain d) u.body ≡ false = tame.1 d dummy own in
           not_true (writes f (plain d) unit.body) (λ w. let z : true ≡ false = sym (unit_writes sb m ps head vars outvars named known sound f back u s at_turn at_end turned ended found there d (dummy_among u d dummy) w) ∙ kept in cc)
 
   all_neither : Each (Found ps) ps → Each (IsTame ps) ps → Each HasNeither qs

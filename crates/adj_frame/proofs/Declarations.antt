@@ -6,8 +6,9 @@ use Rattle.std.proofs.lemmas.List.{get_or_default}
 use Rattle.adj_tree.specs.Code.{plain, name_eq, Declaration}
 use Rattle.adj_tree.specs.View.{declaration_of, procedure_of}
 use Rattle.adj_tree.proofs.Names.{name_refl, name_same}
-use Rattle.adj_meaning.specs.Agree.{stands_among, AreApart}
+use Rattle.adj_meaning.specs.Apart.{has_name, AreApart}
 use Rattle.adj_meaning.specs.Units.{declared}
+use Rattle.adj_meaning.proofs.Variables.{name_comm}
 use Rattle.adj_frame.specs.declared.layout.Layout.{Layout}
 use Rattle.adj_frame.specs.declared.layout.Layout.TheVariants as layout
 use Rattle.adj_frame.specs.Numbered.{Extends, Resolves}
@@ -19,16 +20,16 @@ use Rattle.adj_frame.proofs.Resolving.{extends_self, resolves_on}
 use Rattle.adj_frame.proofs.Listing.{apart_at}
 
 -- a name that differs from each isn't among them
-all_differ : (x : List ℕ) (ns : List (List ℕ)) → ((i : ℕ) → i < length ns → name_eq (get_or ns i []) x ≡ false) → stands_among x ns ≡ false
+all_differ : (x : List ℕ) (ns : List (List ℕ)) → ((i : ℕ) → i < length ns → name_eq (get_or ns i []) x ≡ false) → has_name x ns ≡ false
 all_differ x [] h = refl
-all_differ x (n ∷ ns) h = rw (h 0 (omega arith)) (all_differ x ns (λ i l. h (suc i) (omega (arith, l))))
+all_differ x (n ∷ ns) h = rw (name_comm n x (h 0 (omega arith))) (all_differ x ns (λ i l. h (suc i) (omega (arith, l))))
 
 -- what isn't among later names isn't among earlier ones
-fewer_among : (x : List ℕ) (ns ms : List (List ℕ)) → Extends ns ms → stands_among x ms ≡ false → stands_among x ns ≡ false
+fewer_among : (x : List ℕ) (ns ms : List (List ℕ)) → Extends ns ms → has_name x ms ≡ false → has_name x ns ≡ false
 fewer_among x ns ms e h = all_differ x ns (λ i l. ap (λ z. name_eq z x) (sym (e.keeps i l)) ∙ other_name x ms i h (let m = e.longer in omega (arith, l, m)))
 
 -- names that came later aren't among the earlier ones
-later_apart : (ns ms : List (List ℕ)) (j : ℕ) → AreApart ms → Extends ns ms → j < length ms → length ns ≤ j → stands_among (get_or ms j []) ns ≡ false
+later_apart : (ns ms : List (List ℕ)) (j : ℕ) → AreApart ms → Extends ns ms → j < length ms → length ns ≤ j → has_name (get_or ms j []) ns ≡ false
 later_apart ns ms j a e lt ge = all_differ (get_or ms j []) ns (λ i l. go i l (name_eq (get_or ns i []) (get_or ms j [])) refl)
   where
     go : (i : ℕ) → i < length ns → (b : Bool) → name_eq (get_or ns i []) (get_or ms j []) ≡ b → b ≡ false
@@ -71,7 +72,7 @@ declares_next d ds ms ls more i l a h lt named r same there few = record {
   elsewhere = λ x s. ap (λ b. if b then d.extents else declared ds (plain x)) (differs x s) ∙ h.elsewhere x s;
 }
   where
-    differs : (x : List ℕ) → stands_among x ms ≡ false → name_eq x d.name ≡ false
+    differs : (x : List ℕ) → has_name x ms ≡ false → name_eq x d.name ≡ false
     differs x s = back (name_eq x d.name) refl
       where
         back : (b : Bool) → name_eq x d.name ≡ b → b ≡ false

@@ -7,7 +7,7 @@ use Rattle.adj_tree.specs.View.{procedure_of}
 use Rattle.adj_tree.proofs.Names.{nat_same, name_refl, name_same}
 use Rattle.adj_meaning.specs.Numbers.{Numbers}
 use Rattle.adj_meaning.specs.Store.{Shape, scalar, size_of, Store}
-use Rattle.adj_meaning.specs.Agree.{stands_among, AreApart}
+use Rattle.adj_meaning.specs.Apart.{has_name, AreApart}
 use Rattle.adj_meaning.specs.Units.{declared, extent_in, extents_of, shape_of, shape_fits, are_extents, elements, dummies_fit, Actual, entry_store}
 use Rattle.adj_meaning.proofs.Booleans.{and_true, or_false}
 use Rattle.adj_frame.specs.declared.slot.Slot.{Slot}
@@ -20,14 +20,6 @@ use Rattle.adj_frame.specs.Framed.{slot_shape, in_slot, shapes_in, zero_in, stor
 use Rattle.adj_frame.specs.Shown.{Shows}
 use Rattle.adj_frame.specs.Called.{actual_in, actuals_in, IsActualBelow, AreActualsBelow, given_at, IsLaidOut, entered_with, shapes_with, IsEntered, words_in, is_fit, fit_from}
 use Rattle.adj_frame.proofs.Reading.{other_name}
-
--- names differ either way
-differs : (x d : List ℕ) → name_eq d x ≡ false → name_eq x d ≡ false
-differs x d h = go (name_eq x d) refl
-  where
-    go : (b : Bool) → name_eq x d ≡ b → b ≡ false
-    go true e = let s = name_same x d e in let bad : true ≡ false = sym (name_refl d) ∙ ap (name_eq d) (sym s) ∙ h in cc
-    go false e = refl
 
 pub undeclared : (ds : List Declaration) (x : Var) → ((y : List ℕ) → var_eq x (plain y) ≡ false) → declared ds x ≡ []
 undeclared [] x h = refl
@@ -70,10 +62,10 @@ module _ {C : Type 0} where
   -- ---- what all slots say
 
   -- what the slot of its number says of a name, and of a name without one what stands elsewhere
-  pub said_by_each : {A : Type 0} (other : A) (f : Slot C → A) (g : A) (x : List ℕ) (names : List (List ℕ)) (vs : List (Slot C)) → length names ≡ length vs → ((i : ℕ) (d : Slot C) → i < length names → name_eq x (get_or names i []) ≡ true → f (get_or vs i d) ≡ g) → (stands_among x names ≡ false → other ≡ g) → in_slot other f names vs x ≡ g
+  pub said_by_each : {A : Type 0} (other : A) (f : Slot C → A) (g : A) (x : List ℕ) (names : List (List ℕ)) (vs : List (Slot C)) → length names ≡ length vs → ((i : ℕ) (d : Slot C) → i < length names → name_eq x (get_or names i []) ≡ true → f (get_or vs i d) ≡ g) → (has_name x names ≡ false → other ≡ g) → in_slot other f names vs x ≡ g
   said_by_each other f g x [] vs n here there = there refl
   said_by_each other f g x (y ∷ ys) [] n here there = absurd (omega arith)
-  said_by_each other f g x (y ∷ ys) (v ∷ vs) n here there = go (λ e. said_by_each other f g x ys vs (omega arith) (λ i d l h. here (suc i) d (omega (arith, l)) h) (λ h. there (λ k. differs y x e k || h k))) (name_eq x y) refl
+  said_by_each other f g x (y ∷ ys) (v ∷ vs) n here there = go (λ e. said_by_each other f g x ys vs (omega arith) (λ i d l h. here (suc i) d (omega (arith, l)) h) (λ h. there (λ k. e k || h k))) (name_eq x y) refl
     where
       go : (name_eq x y ≡ false → in_slot other f ys vs x ≡ g) → (b : Bool) → name_eq x y ≡ b → (if b then f v else in_slot other f ys vs x) ≡ g
       go rest true e = here 0 v (omega arith) e
@@ -138,12 +130,12 @@ module _ {C : Type 0} (numbers : Numbers C) where
       ap (λ b. if b then g.cells j else entry_store numbers ds got (plain (get_or (ds ++ others) i [])) j) (other_name d (ds ++ others) i apart.0 (omega arith)) ∙ entered_short ds others got i j apart.1 (omega arith) (omega arith)
 
   -- so does a name that is no variable
-  pub entered_elsewhere : (ds others : List (List ℕ)) (got : List (Actual C)) (x : List ℕ) (j : ℕ) → stands_among x (ds ++ others) ≡ false → entry_store numbers ds got (plain x) j ≡ zero_in numbers
+  pub entered_elsewhere : (ds others : List (List ℕ)) (got : List (Actual C)) (x : List ℕ) (j : ℕ) → has_name x (ds ++ others) ≡ false → entry_store numbers ds got (plain x) j ≡ zero_in numbers
   entered_elsewhere [] others got x j h = refl
   entered_elsewhere (d ∷ ds) others [] x j h = refl
   entered_elsewhere (d ∷ ds) others (g ∷ got) x j h =
-      let o = or_false (name_eq d x) (stands_among x (ds ++ others)) h in
-      ap (λ b. if b then g.cells j else entry_store numbers ds got (plain x) j) (differs x d o.0) ∙ entered_elsewhere ds others got x j o.1
+      let o = or_false (name_eq x d) (has_name x (ds ++ others)) h in
+      ap (λ b. if b then g.cells j else entry_store numbers ds got (plain x) j) o.0 ∙ entered_elsewhere ds others got x j o.1
 
   -- nor does any other kind of variable, which isn't declared either
   pub entered_helper : (ds : List (List ℕ)) (got : List (Actual C)) (x : Var) (j : ℕ) → ((y : List ℕ) → var_eq x (plain y) ≡ false) → entry_store numbers ds got x j ≡ zero_in numbers
@@ -155,7 +147,7 @@ module _ {C : Type 0} (numbers : Numbers C) where
   pub entered_shown : (r : Routine) (got : List (Actual C)) (vs : List (Slot C)) → IsLaidOut r → length r.names ≡ length vs → ((i : ℕ) (d : Slot C) → i < length r.names → IsEntered numbers r got i (get_or vs i d)) → Shows numbers r.names vs (shapes_with numbers r got) (entered_with numbers r got)
   entered_shown r got vs l n each = record { shapes = shapes; cells = cells }
     where
-      elsewhere : (x : List ℕ) → stands_among x r.names ≡ false → scalar ≡ shapes_with numbers r got (plain x)
+      elsewhere : (x : List ℕ) → has_name x r.names ≡ false → scalar ≡ shapes_with numbers r got (plain x)
       elsewhere x h = sym (ap (λ es. shape_of (map (extent_in numbers (entered_with numbers r got)) es)) (l.elsewhere x h))
 
       at : (x : List ℕ) (i : ℕ) → name_eq x (get_or r.names i []) ≡ true → plain x ≡ var_at r.names i
@@ -169,7 +161,7 @@ module _ {C : Type 0} (numbers : Numbers C) where
       cells : (x : Var) (j : ℕ) → j < size_of (shapes_with numbers r got x) → entered_with numbers r got x j ≡ store_in numbers r.names vs x j
       cells (plain x) j lt = sym (said_by_each (zero_in numbers) (λ v. get_or v.cells.items j (zero_in numbers)) (entered_with numbers r got (plain x) j) x r.names vs n
           (λ i d m e. sym (ap (λ z. entered_with numbers r got z j) (at x i e) ∙ (each i d m).cells j (subst (λ z. j < size_of z) (ap (shapes_with numbers r got) (at x i e) ∙ sym (each i d m).shape) lt)))
-          (λ h. sym (entered_elsewhere r.unit.now.dummies l.others got x j (subst (λ ns. stands_among x ns ≡ false) l.names h))))
+          (λ h. sym (entered_elsewhere r.unit.now.dummies l.others got x j (subst (λ ns. has_name x ns ≡ false) l.names h))))
       cells (shadow x) j lt = entered_helper r.unit.now.dummies got (shadow x) j (λ y. refl)
       cells (helper a k) j lt = entered_helper r.unit.now.dummies got (helper a k) j (λ y. refl)
 

@@ -6,9 +6,10 @@ use Rattle.std.proofs.lemmas.Map.Keys.{IsDistinct-head, IsDistinct-tail}
 use Rattle.std.specs.Str.{bytes_eq}
 use Rattle.std.proofs.lemmas.List.{map_push, length-append, get_or_push, get_or_append_left}
 use Rattle.adj_tree.specs.Code.{name_eq}
-use Rattle.adj_tree.proofs.Names.{name_eq-bytes, name_refl, name_same}
-use Rattle.adj_meaning.specs.Agree.{stands_among, AreApart}
+use Rattle.adj_tree.proofs.Names.{name_eq-bytes, name_same}
+use Rattle.adj_meaning.specs.Apart.{has_name, AreApart}
 use Rattle.adj_meaning.proofs.Booleans.{or_false}
+use Rattle.adj_meaning.proofs.Variables.{name_comm}
 use Rattle.adj_frame.specs.Numbered.{Extends}
 
 -- the names that slices are
@@ -91,13 +92,13 @@ module _ (x : List ℕ) where
       go true = record { keeps = λ i lt. refl; longer = omega arith }
       go false = record { keeps = λ i lt. get_or_append_left ns (x ∷ []) [] i lt; longer = (let l = length-append ns (x ∷ []) in omega (arith, l)) }
 
-  stands_before : (d : List ℕ) (ns : List (List ℕ)) → stands_among d ns ≡ false → name_eq x d ≡ false → stands_among d (ns ++ x ∷ []) ≡ false
+  stands_before : (d : List ℕ) (ns : List (List ℕ)) → has_name d ns ≡ false → name_eq d x ≡ false → has_name d (ns ++ x ∷ []) ≡ false
   stands_before d [] h e = rw e refl
-  stands_before d (n ∷ ns) h e = let o = or_false (name_eq n d) (stands_among d ns) h in rw o.0 (stands_before d ns o.1 e)
+  stands_before d (n ∷ ns) h e = let o = or_false (name_eq d n) (has_name d ns) h in rw o.0 (stands_before d ns o.1 e)
 
   apart_behind : (ns : List (List ℕ)) → AreApart ns → list_any (name_eq x) ns ≡ false → AreApart (ns ++ x ∷ [])
   apart_behind [] a h = (refl, tt)
-  apart_behind (n ∷ ns) a h = let o = or_false (name_eq x n) (list_any (name_eq x) ns) h in (stands_before n ns a.0 o.0, apart_behind ns a.1 o.1)
+  apart_behind (n ∷ ns) a h = let o = or_false (name_eq x n) (list_any (name_eq x) ns) h in (stands_before n ns a.0 (name_comm x n o.0), apart_behind ns a.1 o.1)
 
   -- and all stay apart
   pub apart_with : (ns : List (List ℕ)) → AreApart ns → AreApart (with_name ns x)
@@ -109,16 +110,9 @@ module _ (x : List ℕ) where
 
 -- ---- keys that are distinct
 
-not_same : (x y : List ℕ) → bytes_eq x y ≡ false → name_eq y x ≡ false
-not_same x y h = go (name_eq y x) refl
-  where
-    go : (b : Bool) → name_eq y x ≡ b → b ≡ false
-    go true e = let s = name_same y x e in let bad : true ≡ false = sym (name_refl x) ∙ ap (name_eq x) (sym s) ∙ name_eq-bytes x y ∙ h in cc
-    go false e = refl
-
-not_among : (k : Bor (List ℕ)) (ks : List (Bor (List ℕ))) → AllByRecursion (λ y. bytes_eq k.now y.now ≡ false) ks → stands_among k.now (names_of ks) ≡ false
+not_among : (k : Bor (List ℕ)) (ks : List (Bor (List ℕ))) → AllByRecursion (λ y. bytes_eq k.now y.now ≡ false) ks → has_name k.now (names_of ks) ≡ false
 not_among k [] h = refl
-not_among k (y ∷ ks) h = rw (not_same k.now y.now h.0) (not_among k ks h.1)
+not_among k (y ∷ ks) h = rw (name_eq-bytes k.now y.now ∙ h.0) (not_among k ks h.1)
 
 -- the names of distinct keys are apart
 pub distinct_apart : (ks : List (Bor (List ℕ))) → IsDistinct (λ (a b : Bor (List ℕ)). bytes_eq a.now b.now) ks → AreApart (names_of ks)

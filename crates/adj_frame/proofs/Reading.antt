@@ -8,18 +8,19 @@ use Rattle.adj_meaning.specs.Trap.{Trap, index, then_ok, or_trap}
 use Rattle.adj_meaning.specs.Numbers.{Numbers}
 use Rattle.adj_meaning.specs.Store.{scalar, size_of, cell_of}
 use Rattle.adj_meaning.specs.Value.{Setting, cell_at}
-use Rattle.adj_meaning.specs.Agree.{stands_among, AreApart}
+use Rattle.adj_meaning.specs.Apart.{has_name, AreApart}
 use Rattle.adj_meaning.proofs.Booleans.{or_false}
+use Rattle.adj_meaning.proofs.Variables.{name_comm}
 use Rattle.adj_meaning.proofs.Cells.{size_positive, cell_below}
 use Rattle.adj_frame.specs.declared.slot.Slot.{Slot}
 use Rattle.adj_frame.specs.Prepared.{var_at}
 use Rattle.adj_frame.specs.Framed.{result_of, in_slot, slot_shape, IsSlot, IsFrame, shapes_in, zero_in, store_in, setting_in_slots}
 
 -- a name among others that don't hold one differs from it
-pub other_name : (y : List ℕ) (ys : List (List ℕ)) (i : ℕ) → stands_among y ys ≡ false → i < length ys → name_eq (get_or ys i []) y ≡ false
+pub other_name : (y : List ℕ) (ys : List (List ℕ)) (i : ℕ) → has_name y ys ≡ false → i < length ys → name_eq (get_or ys i []) y ≡ false
 other_name y [] i h lt = absurd (omega arith)
-other_name y (e ∷ es) zero h lt = (or_false (name_eq e y) (stands_among y es) h).0
-other_name y (e ∷ es) (suc i) h lt = other_name y es i (or_false (name_eq e y) (stands_among y es) h).1 (omega arith)
+other_name y (e ∷ es) zero h lt = name_comm y e (or_false (name_eq y e) (has_name y es) h).0
+other_name y (e ∷ es) (suc i) h lt = other_name y es i (or_false (name_eq y e) (has_name y es) h).1 (omega arith)
 
 -- ---- results in turn
 

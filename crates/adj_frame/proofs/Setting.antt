@@ -9,7 +9,7 @@ use Rattle.adj_tree.proofs.Names.{name_same}
 use Rattle.adj_meaning.specs.Numbers.{Numbers}
 use Rattle.adj_meaning.specs.Store as store
 use Rattle.adj_meaning.specs.Store.{Shape, scalar, size_of, Store}
-use Rattle.adj_meaning.specs.Agree.{AreApart}
+use Rattle.adj_meaning.specs.Apart.{AreApart}
 use Rattle.adj_frame.specs.declared.slot.Slot.{Slot}
 use Rattle.adj_frame.specs.Prepared.{var_at}
 use Rattle.adj_frame.specs.Framed.{in_slot, slot_shape, IsSlot, IsFrame, shapes_in, zero_in, store_in}

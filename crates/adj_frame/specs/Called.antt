@@ -7,7 +7,7 @@ use Rattle.adj_meaning.specs.Trap.{Trap, then_ok}
 use Rattle.adj_meaning.specs.Numbers.{Numbers}
 use Rattle.adj_meaning.specs.Store.{Shape, size_of, Store}
 use Rattle.adj_meaning.specs.Value.{Setting, value}
-use Rattle.adj_meaning.specs.Agree.{stands_among, AreApart}
+use Rattle.adj_meaning.specs.Apart.{has_name, AreApart}
 use Rattle.adj_meaning.specs.Units.{declared, extents_of, shape_of, Place, put, Actual, one_word, whole, cell, nowhere, entry_store, shape_fits, dummies_fit}
 use Rattle.adj_frame.specs.declared.slot.Slot.{Slot}
 use Rattle.adj_frame.specs.declared.actual.Actual.{Actual as CodeActual}
@@ -92,7 +92,7 @@ pub record IsLaidOut (r : Routine) : Type 0 where
   pub each : length r.names ≡ length r.layouts.items
   pub declares : (i : ℕ) (d : Layout) → i < length r.names → declared (procedure_of r.unit.now).declarations (plain (slice_index_or r.names i [])) ≡ extents_at r.names (slice_index_or r.layouts.items i d)
   pub below : (i : ℕ) (d : Layout) → i < length r.names → IsLayoutBelow (length r.names) (slice_index_or r.layouts.items i d)
-  pub elsewhere : (x : List ℕ) → stands_among x r.names ≡ false → declared (procedure_of r.unit.now).declarations (plain x) ≡ []
+  pub elsewhere : (x : List ℕ) → has_name x r.names ≡ false → declared (procedure_of r.unit.now).declarations (plain x) ≡ []
 
 -- the store at the entry of a unit that gets these actuals
 abbrev pub entered_with : {C : Type 0} → Numbers C → Routine → List (Actual C) → Store C

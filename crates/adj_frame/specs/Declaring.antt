@@ -1,7 +1,7 @@
 -- Declaring: the layouts that stand for the extents of declarations, by the numbers of their variables.
 use Rattle.std.specs.Prelude.{◌≡◌, ℕ, ◌<◌, ◌≤◌, List, [], length, slice_index_or, false}
 use Rattle.adj_tree.specs.Code.{plain, Declaration}
-use Rattle.adj_meaning.specs.Agree.{stands_among}
+use Rattle.adj_meaning.specs.Apart.{has_name}
 use Rattle.adj_meaning.specs.Units.{declared}
 use Rattle.adj_frame.specs.declared.layout.Layout.{Layout}
 use Rattle.adj_frame.specs.declared.layout.Layout.TheVariants as layout
@@ -12,4 +12,4 @@ use Rattle.adj_frame.specs.Called.{extents_at, IsLayoutBelow}
 pub record Declares (ds : List Declaration) (names : List (List ℕ)) (layouts : List Layout) : Type 0 where
   pub few : length layouts ≤ length names
   pub each : (i : ℕ) → i < length names → Resolves extents_at IsLayoutBelow names (slice_index_or layouts i layout.Scalar) (declared ds (plain (slice_index_or names i [])))
-  pub elsewhere : (x : List ℕ) → stands_among x names ≡ false → declared ds (plain x) ≡ []
+  pub elsewhere : (x : List ℕ) → has_name x names ≡ false → declared ds (plain x) ≡ []

@@ -7,7 +7,7 @@ use Rattle.adj_meaning.specs.Trap.{Trap, division, index, step_trap, shape_trap,
 use Rattle.adj_meaning.specs.Numbers.{Numbers}
 use Rattle.adj_meaning.specs.Store.{Shape, scalar, size_of, Store}
 use Rattle.adj_meaning.specs.Value.{Setting}
-use Rattle.adj_meaning.specs.Agree.{AreApart}
+use Rattle.adj_meaning.specs.Apart.{AreApart}
 use Rattle.adj_frame.specs.declared.slot.Slot.{Slot}
 
 -- ---- traps

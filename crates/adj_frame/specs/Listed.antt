@@ -1,7 +1,7 @@
 -- Listed: units with numbers for their names.
 use Rattle.std.specs.Prelude.{◌≡◌, ℕ, ◌<◌, ◌≤◌, List, [], map, length, slice_index_or}
 use Rattle.adj_tree.specs.declared.unit.Unit.{Unit}
-use Rattle.adj_meaning.specs.Agree.{AreApart}
+use Rattle.adj_meaning.specs.Apart.{AreApart}
 use Rattle.adj_frame.specs.declared.directory.Directory.{Directory}
 
 abbrev pub names_of : List Unit → List (List ℕ)

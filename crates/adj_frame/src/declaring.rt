@@ -3,7 +3,7 @@
 ghost use Rattle.std.specs.Prelude.{◌≡◌, ◌<◌, ◌≤◌, ◌∷◌, List, ℕ, length, map, slice_index_or, IfOk, OnOk};
 ghost use Rattle.adj_tree.specs.Code.{Declaration};
 ghost use Rattle.adj_tree.specs.View.{extent_of, declaration_of};
-ghost use Rattle.adj_meaning.specs.Agree.{AreApart};
+ghost use Rattle.adj_meaning.specs.Apart.{AreApart};
 ghost use Rattle.adj_frame.specs.declared.layout.Layout.TheVariants as layout;
 ghost use Rattle.adj_frame.specs.Called.{extent_at, extents_at, IsBoundBelow, IsLayoutBelow};
 ghost use Rattle.adj_frame.specs.Numbered.{Extends, Resolves};

@@ -2,7 +2,7 @@
 
 ghost use Rattle.std.specs.Prelude.{◌≡◌, IfOk, OnOk, map, slice_get};
 ghost use Rattle.adj_tree.specs.View.{procedure_of};
-ghost use Rattle.adj_meaning.specs.Agree.{AreApart};
+ghost use Rattle.adj_meaning.specs.Apart.{AreApart};
 ghost use Rattle.adj_meaning.specs.Written.{find_unit};
 ghost use Rattle.adj_frame.specs.Listed.{names_of, IsDirectory};
 

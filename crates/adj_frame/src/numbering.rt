@@ -1,7 +1,7 @@
 //! Numbers for names.
 
 ghost use Rattle.std.specs.Prelude.{◌≡◌, ◌<◌, ◌≤◌, ◌+◌, List, ℕ, [], map, length, slice_index_or, IfOk, OnOk};
-ghost use Rattle.adj_meaning.specs.Agree.{AreApart};
+ghost use Rattle.adj_meaning.specs.Apart.{AreApart};
 ghost use Rattle.adj_frame.specs.Numbered.{Extends};
 
 use adj_tree::{Items, Memory, Name, NameList};

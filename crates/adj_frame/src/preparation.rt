@@ -3,7 +3,7 @@
 ghost use Rattle.std.specs.Prelude.{◌≡◌, ◌<◌, ◌≤◌, ℕ, length, map, slice_index_or, IfOk, OnOk};
 ghost use Rattle.adj_tree.specs.View.{code_of, declaration_of, procedure_of};
 ghost use Rattle.adj_tree.specs.declared.unit.Decl.{Decl as ADecl};
-ghost use Rattle.adj_meaning.specs.Agree.{AreApart};
+ghost use Rattle.adj_meaning.specs.Apart.{AreApart};
 ghost use Rattle.adj_meaning.specs.Written.{handed_back};
 ghost use Rattle.adj_frame.specs.declared.layout.Layout.TheVariants as layout;
 ghost use Rattle.adj_frame.specs.Numbered.{Extends};

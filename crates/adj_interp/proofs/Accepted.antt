@@ -1,6 +1,6 @@
 -- What holds of the units of a checked program.
 use Rattle.std.proofs.Common.{◌≡◌, ℕ, zero, suc, ◌+◌, ◌<◌, ◌≤◌, Bool, true, false, List, [], ◌∷◌, ◌++◌, map, length, get_or, refl, sym, ap, subst, ◌∙◌, arith, if◌then◌else◌}
-use Rattle.std.specs.Prelude.{◌||◌, not, flat_map, nat_lt, Some}
+use Rattle.std.specs.Prelude.{not, flat_map, nat_lt, Some}
 use Rattle.std.specs.List.{All}
 use Rattle.std.proofs.lemmas.List.{length-map, get_or_append_left, get_or_push}
 use Rattle.std.proofs.lemmas.Grind.{flat_map-append}
@@ -10,65 +10,34 @@ use Rattle.adj_tree.specs.View.{code_of, declaration_of, procedure_of, extent_of
 use Rattle.adj_tree.specs.declared.fault.Refusal.{Refusal}
 use Rattle.adj_tree.specs.declared.unit.Decl.{Decl}
 use Rattle.adj_tree.specs.declared.unit.Unit.{Unit}
-use Rattle.adj_tree.proofs.Names.{name_refl, name_same, nat_same}
+use Rattle.adj_tree.proofs.Names.{name_refl, nat_same}
 use Rattle.adj_text.specs.Written.{IsWritten, IsWrittenProcedure, IsWrittenDeclaration}
-use Rattle.adj_meaning.specs.Agree.{stands_among, AreApart}
+use Rattle.adj_meaning.specs.Apart.{has_name, AreApart}
 use Rattle.adj_meaning.specs.LeastSet.{Rule, row_of, rounds, least_rows, dummies_in_all}
 use Rattle.adj_meaning.specs.Units.{declared}
 use Rattle.adj_meaning.specs.Written.{find_unit, write_rule}
-use Rattle.adj_meaning.proofs.Booleans.{and_true, or_false, or_first, or_second}
+use Rattle.adj_meaning.proofs.Booleans.{and_true, or_false}
 use Rattle.adj_names.specs.CallFaults.{variable_rank, is_actual_for, are_actuals_for, faults_of_unit_call, faults_of_call}
 use Rattle.adj_names.specs.Check.{IsSound}
-use Rattle.adj_names.specs.Fault.{run_rules, faults_if, fault, again}
-use Rattle.adj_names.specs.Fresh.{has_name}
+use Rattle.adj_names.specs.Fault.{run_rules, fault, again}
 use Rattle.adj_names.specs.NameFaults.{faults_of_names, undeclared, declared_twice}
 use Rattle.adj_names.specs.Reserved.{is_runtime}
 use Rattle.adj_names.specs.Statements.{At, inner, statements}
 use Rattle.adj_names.specs.UnitFaults.{reserved_units, repeated_units, unit_places}
 use Rattle.adj_names.specs.Variables.{dummy_places, declared_places, rank}
 use Rattle.adj_names.proofs.Sound.{sound_has_none}
+use Rattle.adj_names.proofs.Faultless.{none_front, none_behind, none_if, apart_places}
 use Rattle.adj_frame.proofs.Entering.{undeclared as declared_nowhere}
 use Rattle.adj_frame.specs.Suited.{IsScalarIn, HoldsIfWhole, AreTermsSuited, IsSuited, AreSuited}
 
 -- ---- lists without faults
 
-front : {A : Type 0} (xs ys : List A) → xs ++ ys ≡ [] → xs ≡ []
-front [] ys h = refl
-front (x ∷ xs) ys h = absurd cc
-
-behind : {A : Type 0} (xs ys : List A) → xs ++ ys ≡ [] → ys ≡ []
-behind [] ys h = h
-behind (x ∷ xs) ys h = absurd cc
-
 none_at : {A B : Type 0} (f : A → List B) (xs : List A) (i : ℕ) (d : A) → flat_map f xs ≡ [] → i < length xs → f (get_or xs i d) ≡ []
 none_at f [] i d h l = absurd (omega arith)
-none_at f (x ∷ xs) zero d h l = front (f x) (flat_map f xs) h
-none_at f (x ∷ xs) (suc i) d h l = none_at f xs i d (behind (f x) (flat_map f xs) h) (omega arith)
-
-not_faulty : (b : Bool) (r : Refusal) → faults_if b r ≡ [] → b ≡ false
-not_faulty true r h = absurd cc
-not_faulty false r h = refl
+none_at f (x ∷ xs) zero d h l = none_front (f x) (flat_map f xs) h
+none_at f (x ∷ xs) (suc i) d h l = none_at f xs i d (none_behind (f x) (flat_map f xs) h) (omega arith)
 
 -- ---- names that are apart
-
--- a name that stood before doesn't stand again
-not_again : (code : ℕ) (before : List (List ℕ)) (ps : List (At (List ℕ))) → again code before ps ≡ [] → (x : List ℕ) → has_name x before ≡ true → stands_among x (map (λ p. p.1) ps) ≡ false
-not_again code before [] h x k = refl
-not_again code before (p ∷ ps) h x k = go (name_eq p.1 x) refl (not_again code (p.1 ∷ before) ps (behind (faults_if (has_name p.1 before) (fault code p.0)) (again code (p.1 ∷ before) ps) h) x (or_second (name_eq x p.1) (has_name x before) k))
-  where
-    first : has_name p.1 before ≡ false
-    first = not_faulty (has_name p.1 before) (fault code p.0) (front (faults_if (has_name p.1 before) (fault code p.0)) (again code (p.1 ∷ before) ps) h)
-
-    go : (b : Bool) → name_eq p.1 x ≡ b → stands_among x (map (λ p. p.1) ps) ≡ false → (b || stands_among x (map (λ p. p.1) ps)) ≡ false
-    go true e ih = absurd (let q : true ≡ false = sym k ∙ ap (λ z. has_name z before) (sym (name_same p.1 x e)) ∙ first in cc)
-    go false e ih = ih
-
--- places without a fault of that kind have names that are apart
-apart_places : (code : ℕ) (before : List (List ℕ)) (ps : List (At (List ℕ))) → again code before ps ≡ [] → AreApart (map (λ p. p.1) ps)
-apart_places code before [] h = tt
-apart_places code before (p ∷ ps) h =
-    let later : again code (p.1 ∷ before) ps ≡ [] = behind (faults_if (has_name p.1 before) (fault code p.0)) (again code (p.1 ∷ before) ps) h in
-    (not_again code (p.1 ∷ before) ps later p.1 (or_first (name_eq p.1 p.1) (has_name p.1 before) (name_refl p.1)), apart_places code (p.1 ∷ before) ps later)
 
 unit_names : (us : List Unit) → map (λ p. p.1) (unit_places (map procedure_of us)) ≡ map (λ (u : Unit). u.name) us
 unit_names [] = refl
@@ -82,7 +51,7 @@ dummy_names line (d ∷ ds) = ap (λ z. d ∷ z) (dummy_names line ds)
 pub units_apart : (us : List Unit) → IsSound run_rules (map procedure_of us) → AreApart (map (λ (u : Unit). u.name) us)
 units_apart us h =
     let faultless = sound_has_none run_rules (map procedure_of us) h in
-    subst AreApart (unit_names us) (apart_places 19 [] (unit_places (map procedure_of us)) (behind (reserved_units (map procedure_of us)) (repeated_units (map procedure_of us)) faultless.units))
+    subst AreApart (unit_names us) (apart_places 19 [] (unit_places (map procedure_of us)) (none_behind (reserved_units (map procedure_of us)) (repeated_units (map procedure_of us)) faultless.units))
 
 get_mapped : (us : List Unit) (i : ℕ) (d : Unit) → i < length us → get_or (map procedure_of us) i (procedure_of d) ≡ procedure_of (get_or us i d)
 get_mapped [] i d l = absurd (omega arith)
@@ -98,8 +67,8 @@ dummies_apart us i d h l =
     let v = get_or us i d in
     let u = procedure_of v in
     let at : faults_of_names run_rules ps u ≡ [] = ap (faults_of_names run_rules ps) (sym (get_mapped us i d l)) ∙ none_at (faults_of_names run_rules ps) ps i (procedure_of d) faultless.names (omega (arith, n, l)) in
-    let once : declared_twice u ≡ [] = front (declared_twice u) _ (behind (undeclared u) _ at) in
-    subst AreApart (dummy_names u.line u.dummies) (apart_places 8 [] (dummy_places u) (front (again 8 [] (dummy_places u)) (again 8 [] (declared_places u)) once))
+    let once : declared_twice u ≡ [] = none_front (declared_twice u) _ (none_behind (undeclared u) _ at) in
+    subst AreApart (dummy_names u.line u.dummies) (apart_places 8 [] (dummy_places u) (none_front (again 8 [] (dummy_places u)) (again 8 [] (declared_places u)) once))
 
 -- ---- extents
 
@@ -167,14 +136,14 @@ module _ (ps : List Procedure) (u : Procedure) where
     where
       go : (b : Bool) → (if b then fault 15 line ∷ [] else faults_of_unit_call u (find_unit ps name) line args) ≡ [] → AreTermsSuited (IsScalarIn u) v v.dummies args
       go true g = absurd cc
-      go false g = actuals_suit u v v.dummies args (isn't_not (are_actuals_for u v v.dummies args) (not_faulty (not (are_actuals_for u v v.dummies args)) (fault 15 line) (subst (λ o. faults_of_unit_call u o line args ≡ []) e g)))
+      go false g = actuals_suit u v v.dummies args (isn't_not (are_actuals_for u v v.dummies args) (none_if (not (are_actuals_for u v v.dummies args)) (fault 15 line) (subst (λ o. faults_of_unit_call u o line args ≡ []) e g)))
 
   mutual
     act_suits : (line : ℕ) (a : Act) → faults_of_call ps u line a ≡ [] → flat_map faults_at (inner a) ≡ [] → IsSuited ps (IsScalarIn u) a
     act_suits line (assign x subs e) h k = tt
     act_suits line (choose c a b) h k =
         let g = sym (flat_map-append faults_at (statements a) (statements b)) ∙ k in
-        (code_suits a (front (flat_map faults_at (statements a)) (flat_map faults_at (statements b)) g), code_suits b (behind (flat_map faults_at (statements a)) (flat_map faults_at (statements b)) g))
+        (code_suits a (none_front (flat_map faults_at (statements a)) (flat_map faults_at (statements b)) g), code_suits b (none_behind (flat_map faults_at (statements a)) (flat_map faults_at (statements b)) g))
     act_suits line (loop x first last by body m) h k = code_suits body k
     act_suits line (during c body) h k = code_suits body k
     act_suits line (call name args) h k = λ v e. call_suits line name args v h e
@@ -184,9 +153,9 @@ module _ (ps : List Procedure) (u : Procedure) where
     code_suits stop h = tt
     code_suits (step line a rest) h =
         let here = faults_of_call ps u line a in
-        let g = sym (flat_map-append faults_at (inner a) (statements rest)) ∙ behind here (flat_map faults_at (inner a ++ statements rest)) h in (
-          act_suits line a (front here (flat_map faults_at (inner a ++ statements rest)) h) (front (flat_map faults_at (inner a)) (flat_map faults_at (statements rest)) g),
-          code_suits rest (behind (flat_map faults_at (inner a)) (flat_map faults_at (statements rest)) g),
+        let g = sym (flat_map-append faults_at (inner a) (statements rest)) ∙ none_behind here (flat_map faults_at (inner a ++ statements rest)) h in (
+          act_suits line a (none_front here (flat_map faults_at (inner a ++ statements rest)) h) (none_front (flat_map faults_at (inner a)) (flat_map faults_at (statements rest)) g),
+          code_suits rest (none_behind (flat_map faults_at (inner a)) (flat_map faults_at (statements rest)) g),
         )
 
 -- the calls of a unit hand scalars alone to scalars
@@ -209,14 +178,10 @@ rows_counted rule ps (suc k) = length-map ps _
 pub rows_each : (ps : List Procedure) → length (least_rows write_rule ps) ≡ length ps
 rows_each ps = rows_counted write_rule ps (dummies_in_all ps)
 
-differs : (x : List ℕ) (us : List Unit) (i : ℕ) (d : Unit) → stands_among x (map (λ (u : Unit). u.name) us) ≡ false → i < length us → name_eq x (get_or us i d).name ≡ false
+differs : (x : List ℕ) (us : List Unit) (i : ℕ) (d : Unit) → has_name x (map (λ (u : Unit). u.name) us) ≡ false → i < length us → name_eq x (get_or us i d).name ≡ false
 differs x [] i d h l = absurd (omega arith)
-differs x (u ∷ us) zero d h l = turned (name_eq x u.name) refl
-  where
-    turned : (b : Bool) → name_eq x u.name ≡ b → b ≡ false
-    turned true e = let o = (or_false (name_eq u.name x) (stands_among x (map (λ (u : Unit). u.name) us)) h).0 in let s = name_same x u.name e in let bad : true ≡ false = sym (name_refl u.name) ∙ ap (name_eq u.name) (sym s) ∙ o in cc
-    turned false e = refl
-differs x (u ∷ us) (suc i) d h l = differs x us i d (or_false (name_eq u.name x) (stands_among x (map (λ (u : Unit). u.name) us)) h).1 (omega arith)
+differs x (u ∷ us) zero d h l = (or_false (name_eq x u.name) (has_name x (map (λ (u : Unit). u.name) us)) h).0
+differs x (u ∷ us) (suc i) d h l = differs x us i d (or_false (name_eq x u.name) (has_name x (map (λ (u : Unit). u.name) us)) h).1 (omega arith)
 
 -- the row of a unit's place is that of its name, where names are apart
 pub row_at : (us : List Unit) (rows : List (List Bool)) (i : ℕ) (d : Unit) → AreApart (map (λ (u : Unit). u.name) us) → i < length us → get_or rows i [] ≡ row_of (map procedure_of us) rows (get_or us i d).name

@@ -4,7 +4,7 @@ use Rattle.std.specs.Prelude.{◌==◌, ◌&&◌}
 use Rattle.std.proofs.lemmas.List.{length-map, get_or-map}
 use Rattle.adj_tree.specs.Code.{plain, name_eq, Procedure}
 use Rattle.adj_tree.proofs.Names.{nat_same}
-use Rattle.adj_meaning.specs.Agree.{stands_among, AreApart}
+use Rattle.adj_meaning.specs.Apart.{has_name, AreApart}
 use Rattle.adj_meaning.specs.Numbers.{Numbers}
 use Rattle.adj_meaning.specs.Store.{size_of, Store, set_all}
 use Rattle.adj_meaning.specs.Units.{Slot, Actual, declared, dummies_fit, entry_store, input_store, from_slot, nth_cell, extents_of, shape_fits, slot_fits, slots_fit, fits}
@@ -20,9 +20,9 @@ use Rattle.adj_interp.specs.Inputs.{entry_seen}
 
 -- ---- names
 
-front_none : (x : List ℕ) (ds others : List (List ℕ)) → stands_among x (ds ++ others) ≡ false → stands_among x ds ≡ false
+front_none : (x : List ℕ) (ds others : List (List ℕ)) → has_name x (ds ++ others) ≡ false → has_name x ds ≡ false
 front_none x [] others h = refl
-front_none x (d ∷ ds) others h = let o = or_false (name_eq d x) (stands_among x (ds ++ others)) h in rw o.0 (front_none x ds others o.1)
+front_none x (d ∷ ds) others h = let o = or_false (name_eq x d) (has_name x (ds ++ others)) h in rw o.0 (front_none x ds others o.1)
 
 -- the first of names that are apart are apart
 pub apart_front : (ds others : List (List ℕ)) → AreApart (ds ++ others) → AreApart ds

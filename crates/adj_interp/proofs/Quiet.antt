@@ -4,7 +4,6 @@ use Rattle.std.specs.Prelude.{ℤ, ◌&&◌, not, ◌==◌, ◌-◌, flat_map, r
 use Rattle.std.specs.List.{All}
 use Rattle.std.proofs.lemmas.List.Elements.{All-nil, All-cons, All-head, All-tail}
 use Rattle.adj_tree.specs.Code.{name_eq, Terms, Act, assign, choose, loop, during, call, runtime, Code, stop, step, Procedure}
-use Rattle.adj_tree.specs.declared.fault.Refusal.{Refusal}
 use Rattle.adj_meaning.specs.Trap.{Trap, shape_trap}
 use Rattle.adj_meaning.specs.Numbers.{Numbers, duals}
 use Rattle.adj_word.specs.Word.{wrap}
@@ -19,6 +18,7 @@ use Rattle.adj_names.specs.Fault.{faults_if, source_rules, fault}
 use Rattle.adj_names.specs.NameFaults.{undeclared, declared_twice, misused, bad_extents, reserved_variables, calls_runtime, runtime_calls, too_many_variables, faults_of_names}
 use Rattle.adj_names.specs.Check.{IsSound}
 use Rattle.adj_names.proofs.Sound.{sound_has_none}
+use Rattle.adj_names.proofs.Faultless.{none_front, none_behind, none_if}
 use Rattle.adj_interp.specs.Dually.{CallsNoRuntime, DualFull}
 
 -- ---- members of lists
@@ -151,18 +151,6 @@ dual_never_full units (u ∷ us) zero input k quiet h there full =
 dual_never_full units (u ∷ us) (suc i) input k quiet h there full = dual_never_full units us i input k quiet (All-tail (λ v. All (λ t. calls_runtime t.1 ≡ false) (statements v.body)) u us h) (omega (arith, there)) full
 
 -- ---- source programs
-
-none_front : {A : Type 0} (xs ys : List A) → xs ++ ys ≡ [] → xs ≡ []
-none_front [] ys h = refl
-none_front (x ∷ xs) ys h = absurd cc
-
-none_behind : {A : Type 0} (xs ys : List A) → xs ++ ys ≡ [] → ys ≡ []
-none_behind [] ys h = h
-none_behind (x ∷ xs) ys h = absurd cc
-
-none_if : (b : Bool) (r : Refusal) → faults_if b r ≡ [] → b ≡ false
-none_if true r h = absurd cc
-none_if false r h = refl
 
 -- in a unit without faults none stands
 unit_quiet : (ss : List (At Act)) → flat_map (λ s. faults_if (not source_rules.takes_runtime && calls_runtime s.1) (fault 18 s.0)) ss ≡ [] → All (λ s. calls_runtime s.1 ≡ false) ss

@@ -2,7 +2,7 @@
 
 ghost use Rattle.std.specs.Prelude.{◌≡◌, ◌<◌, ℕ, IfOk, length, map, slice_index_or, true};
 ghost use Rattle.adj_tree.specs.View.{procedure_of};
-ghost use Rattle.adj_meaning.specs.Agree.{AreApart};
+ghost use Rattle.adj_meaning.specs.Apart.{AreApart};
 ghost use Rattle.adj_meaning.specs.Units.{fits, input_store};
 ghost use Rattle.adj_frame.specs.declared.actual.Actual.{Actual as AnActual};
 ghost use Rattle.adj_frame.specs.declared.actual.Actual.TheVariants as actual;

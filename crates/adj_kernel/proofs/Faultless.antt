@@ -9,7 +9,7 @@ use Rattle.adj_tree.proofs.Names.{name_refl}
 use Rattle.adj_meaning.specs.Written.{find_unit}
 use Rattle.adj_meaning.proofs.Booleans.{or_false, or_first, or_second}
 use Rattle.adj_names.specs.Fault.{faults_if}
-use Rattle.adj_names.specs.Fresh as fresh
+pub use Rattle.adj_names.proofs.Faultless.{none_front, none_behind, none_if}
 use Rattle.adj_transpose.specs.Fresh.{has_name}
 use Rattle.adj_kernel.specs.Kernel.{EachUnit}
 
@@ -104,32 +104,17 @@ and_none false = refl
 
 -- ---- no faults
 
--- where two lists are empty together the first is empty
-pub none_front : {A : Type 0} (xs ys : List A) → xs ++ ys ≡ [] → xs ≡ []
-none_front [] ys h = refl
-none_front (x ∷ xs) ys h = absurd cc
-
--- and the second
-pub none_behind : {A : Type 0} (xs ys : List A) → xs ++ ys ≡ [] → ys ≡ []
-none_behind [] ys h = h
-none_behind (x ∷ xs) ys h = absurd cc
-
 -- where lists put together are empty each is
 pub none_each : {A B : Type 0} (f : A → List B) (xs : List A) → flat_map f xs ≡ [] → Each (λ x. f x ≡ []) xs
 none_each f [] h = tt
 none_each f (x ∷ xs) h = (none_front (f x) (flat_map f xs) h, none_each f xs (none_behind (f x) (flat_map f xs) h))
-
--- no fault where it isn't so
-pub none_if : (b : Bool) (r : Refusal) → faults_if b r ≡ [] → b ≡ false
-none_if true r h = absurd cc
-none_if false r h = refl
 
 -- and the other way
 pub none_flat : {A B : Type 0} (f : A → List B) (xs : List A) → Each (λ x. f x ≡ []) xs → flat_map f xs ≡ []
 none_flat f [] h = refl
 none_flat f (x ∷ xs) h = ap (λ z. z ++ flat_map f xs) h.0 ∙ none_flat f xs h.1
 
--- and the other way
+-- no fault where it isn't so
 pub if_none : (b : Bool) (r : Refusal) → b ≡ false → faults_if b r ≡ []
 if_none b r h = ap (λ z. if z then r ∷ [] else []) h
 
@@ -143,9 +128,9 @@ each_swap P [] h = tt
 each_swap P (x ∷ xs) h = ((λ i. (h i).0), each_swap P xs (λ i. (h i).1))
 
 -- what holds of no name of a list
-pub none_any : (f : List ℕ → Bool) (xs : List (List ℕ)) → ((x : List ℕ) → fresh.has_name x xs ≡ true → f x ≡ false) → list_any f xs ≡ false
+pub none_any : (f : List ℕ → Bool) (xs : List (List ℕ)) → ((x : List ℕ) → has_name x xs ≡ true → f x ≡ false) → list_any f xs ≡ false
 none_any f [] h = refl
-none_any f (x ∷ xs) h = ap (λ b. b || list_any f xs) (h x (or_first (name_eq x x) (fresh.has_name x xs) (name_refl x))) ∙ none_any f xs (λ y k. h y (or_second (name_eq y x) (fresh.has_name y xs) k))
+none_any f (x ∷ xs) h = ap (λ b. b || list_any f xs) (h x (or_first (name_eq x x) (has_name x xs) (name_refl x))) ∙ none_any f xs (λ y k. h y (or_second (name_eq y x) (has_name y xs) k))
 
 -- what isn't not so is so
 pub isn't_not : (b : Bool) → not b ≡ false → b ≡ true
@@ -153,15 +138,10 @@ isn't_not true h = refl
 isn't_not false h = absurd cc
 
 -- what holds of none of some names doesn't hold of one of them
-pub any_none : (f : List ℕ → Bool) (xs : List (List ℕ)) → list_any f xs ≡ false → (x : List ℕ) → fresh.has_name x xs ≡ true → ((y : List ℕ) → name_eq x y ≡ true → f y ≡ f x) → f x ≡ false
+pub any_none : (f : List ℕ → Bool) (xs : List (List ℕ)) → list_any f xs ≡ false → (x : List ℕ) → has_name x xs ≡ true → ((y : List ℕ) → name_eq x y ≡ true → f y ≡ f x) → f x ≡ false
 any_none f [] h x k same = absurd cc
 any_none f (y ∷ ys) h x k same = let p = or_false (f y) (list_any f ys) h in go (name_eq x y) refl k (any_none f ys p.1 x)
   where
-    go : (b : Bool) → name_eq x y ≡ b → (b || fresh.has_name x ys) ≡ true → (fresh.has_name x ys ≡ true → ((z : List ℕ) → name_eq x z ≡ true → f z ≡ f x) → f x ≡ false) → f x ≡ false
+    go : (b : Bool) → name_eq x y ≡ b → (b || has_name x ys) ≡ true → (has_name x ys ≡ true → ((z : List ℕ) → name_eq x z ≡ true → f z ≡ f x) → f x ≡ false) → f x ≡ false
     go true e k ih = sym (same y e) ∙ (or_false (f y) (list_any f ys) h).0
     go false e k ih = ih k same
-
--- both crates' lookups of names are the same
-pub same_has : (x : List ℕ) (xs : List (List ℕ)) → fresh.has_name x xs ≡ has_name x xs
-same_has x [] = refl
-same_has x (y ∷ ys) = ap (λ b. name_eq x y || b) (same_has x ys)

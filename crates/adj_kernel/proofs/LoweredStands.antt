@@ -8,23 +8,22 @@ use Rattle.adj_tree.proofs.Names.{nat_same, name_refl, name_same}
 use Rattle.adj_meaning.specs.Written.{handed_back}
 use Rattle.adj_meaning.proofs.Booleans.{or_first, or_second}
 use Rattle.adj_meaning.proofs.Variables.{var_same}
-use Rattle.adj_names.specs.Fresh as fresh
 use Rattle.adj_names.specs.Standing.{Standing, scalar, whole, in_actual, in_actuals, in_act}
 use Rattle.adj_names.specs.Variables.{Name, declared_names, is_integer_name, is_integer, rank, is_dummy}
 use Rattle.adj_names.specs.NameFaults.{extent_names, literal_product, is_rank_for, is_bad_extent, has_bad_extents}
 use Rattle.adj_transpose.specs.Fresh.{has_name, reserved}
+use Rattle.adj_transpose.specs.Naming.{AreApart}
 use Rattle.adj_transpose.proofs.Fresh.{fresh-is_free as fresh_free}
 use Rattle.adj_transpose.proofs.Naming.{has-append}
 use Rattle.adj_kernel.specs.Apart.{EachCall', EachCall}
 use Rattle.adj_kernel.specs.Calls.{is_name_of, is_scalar, ArraysStandOnce}
 use Rattle.adj_kernel.specs.Kernel.{names_of, names_in_code, unit_name, local_names, taken_in, local_in, scalar_at, locals_count, lowered_unit, IsFitCall}
 use Rattle.adj_kernel.specs.Kernel as kernel
-use Rattle.adj_kernel.proofs.Faultless.{Each, each_front, each_behind, each_join, each_more, same_has, and_none}
+use Rattle.adj_kernel.proofs.Faultless.{Each, each_front, each_behind, each_join, each_more, and_none}
 use Rattle.adj_kernel.proofs.Holding.{HoldsIn, Holds, holds_more}
 use Rattle.adj_kernel.proofs.Locals.{name_at, earlier_there, not_taken, not_first, not_second, has_second, local_undeclared, scalars_behind}
 use Rattle.adj_kernel.proofs.Repeated.{Once}
 use Rattle.adj_kernel.proofs.LoweredNames.{lowered_names}
-use Rattle.adj_kernel.proofs.StepFitting.{Distinct}
 use Rattle.adj_kernel.proofs.SoundUnits.{distinct_join}
 use Rattle.adj_kernel.proofs.StandingNames.{IsFree, IsGood, Stands, same_declared}
 
@@ -35,7 +34,7 @@ names_behind [] line (x ∷ xs) = ap (λ z. x ∷ z) (names_behind [] line xs)
 names_behind (d ∷ ds) line xs = ap (λ z. d.name ∷ z) (names_behind ds line xs)
 
 -- the names of locals are apart
-distinct_locals : (taken : List Name) (k : ℕ) → Distinct (local_names taken k)
+distinct_locals : (taken : List Name) (k : ℕ) → AreApart (local_names taken k)
 distinct_locals taken zero = tt
 distinct_locals taken (suc k) = distinct_join (local_names taken k) (name_at taken k ∷ []) (distinct_locals taken k) (refl, tt) (λ x h g. clash x h (or_cases (name_eq x (name_at taken k)) false g))
   where
@@ -76,14 +75,14 @@ module _ (all : List Procedure) (v : Procedure) (stands : Stands (map unit_name 
 
   -- a name that is an integer stays one
   integer_still : (x : Name) → is_integer v x ≡ true → is_integer low x ≡ true
-  integer_still x h = go (or_cases (fresh.has_name x (declared_names v)) (not v.is_none && is_integer_name x) h)
+  integer_still x h = go (or_cases (has_name x (declared_names v)) (not v.is_none && is_integer_name x) h)
     where
-      more_declared : fresh.has_name x (declared_names v) ≡ true → fresh.has_name x (declared_names low) ≡ true
-      more_declared e = ap (fresh.has_name x) (names_behind v.declarations v.line (local_names taken (locals_count all v))) ∙ same_has x (declared_names v ++ local_names taken (locals_count all v)) ∙ has-append x (declared_names v) (local_names taken (locals_count all v)) ∙ or_first (has_name x (declared_names v)) (has_name x (local_names taken (locals_count all v))) (sym (same_has x (declared_names v)) ∙ e)
+      more_declared : has_name x (declared_names v) ≡ true → has_name x (declared_names low) ≡ true
+      more_declared e = ap (has_name x) (names_behind v.declarations v.line (local_names taken (locals_count all v))) ∙ has-append x (declared_names v) (local_names taken (locals_count all v)) ∙ or_first (has_name x (declared_names v)) (has_name x (local_names taken (locals_count all v))) e
 
-      go : (fresh.has_name x (declared_names v) ≡ true) ⊎ ((not v.is_none && is_integer_name x) ≡ true) → is_integer low x ≡ true
-      go (inl e) = or_first (fresh.has_name x (declared_names low)) (not v.is_none && is_integer_name x) (more_declared e)
-      go (inr e) = or_second (fresh.has_name x (declared_names low)) (not v.is_none && is_integer_name x) e
+      go : (has_name x (declared_names v) ≡ true) ⊎ ((not v.is_none && is_integer_name x) ≡ true) → is_integer low x ≡ true
+      go (inl e) = or_first (has_name x (declared_names low)) (not v.is_none && is_integer_name x) (more_declared e)
+      go (inr e) = or_second (has_name x (declared_names low)) (not v.is_none && is_integer_name x) e
 
   -- with its rank
   rank_still : (x : Name) → rank low x ≡ rank v x
@@ -98,8 +97,8 @@ module _ (all : List Procedure) (v : Procedure) (stands : Stands (map unit_name 
   -- a local is declared
   local_declared : (k : ℕ) → k < locals_count all v → is_integer low (name_at taken k) ≡ true
   local_declared k lt =
-      or_first (fresh.has_name (name_at taken k) (declared_names low)) (not v.is_none && is_integer_name (name_at taken k))
-      (ap (fresh.has_name (name_at taken k)) (names_behind v.declarations v.line (local_names taken (locals_count all v))) ∙ same_has (name_at taken k) (declared_names v ++ local_names taken (locals_count all v)) ∙ has_second (name_at taken k) (declared_names v) (local_names taken (locals_count all v)) (earlier_there taken k (locals_count all v) lt))
+      or_first (has_name (name_at taken k) (declared_names low)) (not v.is_none && is_integer_name (name_at taken k))
+      (ap (has_name (name_at taken k)) (names_behind v.declarations v.line (local_names taken (locals_count all v))) ∙ has_second (name_at taken k) (declared_names v) (local_names taken (locals_count all v)) (earlier_there taken k (locals_count all v) lt))
 
   -- as a scalar
   local_rank : (k : ℕ) → rank low (name_at taken k) ≡ 0
@@ -198,7 +197,7 @@ module _ (all : List Procedure) (v : Procedure) (stands : Stands (map unit_name 
     dummies = each_more (λ d. (is_integer v d ≡ true) × IsFree names d) (λ d. (is_integer low d ≡ true) × IsFree names d) (λ d h. (integer_still d h.0, h.1)) v.dummies stands.dummies;
     declared = each_join (λ (d : Declaration). IsFree names d.name) v.declarations (map (scalar_at v.line) (local_names taken (locals_count all v))) stands.declared (free_locals v.line (local_names taken (locals_count all v)) (λ x h. let n = local_number taken x (locals_count all v) h in subst (IsFree names) (sym n.1) (local_free n.0)));
     dummies_once = stands.dummies_once;
-    declared_once = subst Distinct (sym (names_behind v.declarations v.line (local_names taken (locals_count all v))))
+    declared_once = subst AreApart (sym (names_behind v.declarations v.line (local_names taken (locals_count all v))))
         (distinct_join (map (λ d. d.name) v.declarations) (local_names taken (locals_count all v)) stands.declared_once (distinct_locals taken (locals_count all v))
         (λ x h g. let n = local_number taken x (locals_count all v) g in let z : true ≡ false = sym h ∙ ap (λ y. has_name y (map (λ (d : Declaration). d.name) v.declarations)) n.1 ∙ not_declared n.0 in cc));
     extents = each_join (λ d. has_bad_extents low d ≡ false) v.declarations (map (scalar_at v.line) (local_names taken (locals_count all v))) (old_extents v.declarations stands.extents) (new_extents v.line (local_names taken (locals_count all v)));

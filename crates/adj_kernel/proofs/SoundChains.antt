@@ -20,6 +20,7 @@ use Rattle.adj_names.specs.ChainFaults.{cycles, begins_chain, long_chains, or_el
 use Rattle.adj_names.specs.Check.{IsSound}
 use Rattle.adj_names.proofs.Sound.{sound_has_none}
 use Rattle.adj_transpose.specs.Fresh.{has_name}
+use Rattle.adj_transpose.specs.Naming.{AreApart}
 use Rattle.adj_transpose.proofs.Variables.{name_comm, has_apart}
 use Rattle.adj_kernel.specs.Lowered.{locals_in_all, before, before_target, reduced_all, before_all, all_passed, before_passing_all, after_passing_all, lowered_call, lowered_act, lowered}
 use Rattle.adj_kernel.specs.Apart.{EachCall', EachCall}
@@ -30,7 +31,6 @@ use Rattle.adj_kernel.proofs.Faultless.{Each, each_more, each_found, each_join, 
 use Rattle.adj_kernel.proofs.Holding.{HoldsIn, Holds, listed, holding, hold_before, hold_target, hold_all, hold_passings, hold_afters, lowered_holds}
 use Rattle.adj_kernel.proofs.Programs.{found_lowered, found_in}
 use Rattle.adj_kernel.proofs.StepLookups.{AllThere, program_there, is_step_for}
-use Rattle.adj_kernel.proofs.StepFitting.{Distinct}
 use Rattle.adj_kernel.proofs.SoundUnits.{stepped_distinct, source_distinct}
 use Rattle.adj_kernel.proofs.Shortening.{names_called, shorter}
 use Rattle.adj_kernel.proofs.ChainBounds.{NoWayBack, longest, no_way_bounded}
@@ -53,7 +53,7 @@ found_is (v ∷ us) x u h = go (name_eq v.name x) refl h (found_is us x u)
     go false e h ih = ih h
 
 -- and each unit is found by its name, where names are apart
-own_found : (us : List Procedure) → Distinct (map unit_name us) → Each (λ u. find_unit us u.name ≡ Some u) us
+own_found : (us : List Procedure) → AreApart (map unit_name us) → Each (λ u. find_unit us u.name ≡ Some u) us
 own_found [] d = tt
 own_found (u ∷ us) d = (ap (λ b. if b then Some u else find_unit us u.name) (name_refl u.name), further us (own_found us d.1) (λ x h. h))
   where

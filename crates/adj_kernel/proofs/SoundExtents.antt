@@ -10,14 +10,13 @@ use Rattle.adj_meaning.specs.Numbers.{Numbers}
 use Rattle.adj_meaning.specs.Store.{Store}
 use Rattle.adj_meaning.specs.LeastSet.{Dummies}
 use Rattle.adj_meaning.specs.Written.{act_writes, writes}
-use Rattle.adj_meaning.specs.Read.{is_among, is_extent}
+use Rattle.adj_meaning.specs.Read.{names_extent, is_extent}
 use Rattle.adj_meaning.specs.Units.{declared, extent_in, shape_of, are_extents, elements, shape_fits}
 use Rattle.adj_meaning.proofs.Booleans.{and_true, or_false, or_first, or_second}
 use Rattle.adj_names.specs.Statements.{At, inner, statements}
 use Rattle.adj_names.specs.Variables.{is_dummy, is_scalar}
 use Rattle.adj_names.specs.NameFaults.{extent_names, literal_product, is_bad_extent, has_bad_extents}
 use Rattle.adj_names.specs.WriteFaults.{may_write}
-use Rattle.adj_kernel.specs.Stepped.{names_extent}
 use Rattle.adj_kernel.proofs.Faultless.{Each, each_front, each_behind, each_join, isn't_not, both_false}
 
 -- ---- names of extents
@@ -50,19 +49,13 @@ no_extents [] h = refl
 no_extents (e ∷ l) h = absurd (let x = nat_same (length (e ∷ l)) 0 h in omega arith)
 
 -- a name of an extent is an extent of the unit
-pub is_among-named : (x : List ℕ) (es : List Extent) → names_extent x es ≡ is_among x es
-is_among-named x [] = refl
-is_among-named x (fixed z ∷ es) = is_among-named x es
-is_among-named x (given y ∷ es) = ap (λ b. name_eq x y || b) (is_among-named x es)
-
--- so it is one of some declaration
 pub extent_of_unit : (x : List ℕ) (ds : List Declaration) (v : Var) → names_extent x (declared ds v) ≡ true → is_extent x ds ≡ true
 extent_of_unit x [] v h = absurd cc
 extent_of_unit x (d ∷ ds) v h = go (var_eq v (plain d.name)) (extent_of_unit x ds v) h
   where
-    go : (b : Bool) → (names_extent x (declared ds v) ≡ true → is_extent x ds ≡ true) → names_extent x (if b then d.extents else declared ds v) ≡ true → (is_among x d.extents || is_extent x ds) ≡ true
-    go true ih k = or_first (is_among x d.extents) (is_extent x ds) (sym (is_among-named x d.extents) ∙ k)
-    go false ih k = or_second (is_among x d.extents) (is_extent x ds) (ih k)
+    go : (b : Bool) → (names_extent x (declared ds v) ≡ true → is_extent x ds ≡ true) → names_extent x (if b then d.extents else declared ds v) ≡ true → (names_extent x d.extents || is_extent x ds) ≡ true
+    go true ih k = or_first (names_extent x d.extents) (is_extent x ds) k
+    go false ih k = or_second (names_extent x d.extents) (is_extent x ds) (ih k)
 
 -- ---- writing
 

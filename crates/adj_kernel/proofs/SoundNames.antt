@@ -7,8 +7,8 @@ use Rattle.adj_tree.proofs.Names.{name_refl}
 use Rattle.adj_text.specs.Written.{IsWritten}
 use Rattle.adj_meaning.specs.Written.{find_unit}
 use Rattle.adj_meaning.specs.Units.{declared}
+use Rattle.adj_meaning.specs.Read.{names_extent}
 use Rattle.adj_meaning.proofs.Booleans.{and_true, or_false, or_first, or_second}
-use Rattle.adj_names.specs.Fresh as fresh
 use Rattle.adj_names.specs.Statements.{At, statements}
 use Rattle.adj_names.specs.Standing.{Standing, in_actuals, in_act}
 use Rattle.adj_names.specs.Reserved.{is_reserved}
@@ -17,25 +17,27 @@ use Rattle.adj_names.specs.Fault.{source_rules, run_rules, fault, faults_if, aga
 use Rattle.adj_names.specs.NameFaults.{extent_names, literal_product, extent_places, undeclared, declared_twice, has_rank, taken_in, misused, is_bad_extent, has_bad_extents, bad_extents, reserved_variables, calls_runtime, runtime_calls, too_many_variables, faults_of_names, name_faults}
 use Rattle.adj_names.specs.Check.{IsSound}
 use Rattle.adj_names.proofs.Sound.{sound_has_none}
-use Rattle.adj_transpose.specs.Fresh.{has_name, reserved}
+use Rattle.adj_names.proofs.Faultless.{apart_places}
+use Rattle.adj_transpose.specs.Fresh.{has_name}
+use Rattle.adj_transpose.specs.Naming.{AreApart}
 use Rattle.adj_transpose.proofs.Variables.{name_comm, not_true}
 use Rattle.adj_kernel.specs.Apart.{CodeInside, ActInside, EachCall', EachCall}
 use Rattle.adj_kernel.specs.Kernel.{named, names_in_code, names_of, unit_name, is_named, is_of, PlainAct, PlainCode, EachUnit, IsFitCall, lowered_unit}
 use Rattle.adj_kernel.specs.Kernel as kernel
-use Rattle.adj_kernel.specs.Stepped.{marked_in, marked_in_act, variables_of, names_extent, step_dummies, as_actuals, step_declarations, step_names, cut_act, cut, step_unit, step_units_in_act, step_units_in, stepped_unit, stepped_from, names_of_source, stepped_program, kernel_of}
+use Rattle.adj_kernel.specs.Stepped.{marked_in, marked_in_act, variables_of, step_dummies, as_actuals, step_declarations, step_names, cut_act, cut, step_unit, step_units_in_act, step_units_in, stepped_unit, stepped_from, names_of_source, stepped_program, kernel_of}
 use Rattle.adj_kernel.specs.StepTheorem.{HasExtents, IsSource}
-use Rattle.adj_kernel.proofs.Faultless.{Each, each_front, each_behind, each_more, each_both, of_each, unit_each, none_front, none_behind, none_each, none_if, none_flat, isn't_not, same_has, join_units}
+use Rattle.adj_kernel.proofs.Faultless.{Each, each_front, each_behind, each_more, each_both, of_each, unit_each, none_front, none_behind, none_each, none_if, none_flat, isn't_not, join_units}
 use Rattle.adj_kernel.proofs.Holding.{HoldsIn, Holds, holding, holds_more, holds_both, cut_holds}
 use Rattle.adj_kernel.proofs.Locals.{has_first, has_second, own_body}
 use Rattle.adj_kernel.proofs.OneNotion.{names_standing, stated, stated_code, names_placed, at_dummies}
 use Rattle.adj_kernel.proofs.StepNames.{code_named, declared_step}
 use Rattle.adj_kernel.proofs.StepUnits.{step_body_inside}
 use Rattle.adj_kernel.proofs.StepCalls.{ExtentsIn, in_hand, extents_in}
-use Rattle.adj_kernel.proofs.StepFitting.{Distinct, dummies_distinct}
+use Rattle.adj_kernel.proofs.StepFitting.{dummies_distinct}
 use Rattle.adj_kernel.proofs.StepsWritten.{once_from, used_from}
 use Rattle.adj_kernel.proofs.StandingNames.{IsFree, IsGood, Stands, each_member, no_name_faults, at_declared, same_declared}
 use Rattle.adj_kernel.proofs.LoweredStands.{lowered_stands}
-use Rattle.adj_kernel.proofs.SoundUnits.{distinct_of, of_source}
+use Rattle.adj_kernel.proofs.SoundUnits.{of_source}
 use Rattle.adj_kernel.proofs.WholeKernels.{good}
 use Rattle.adj_kernel.proofs.WholeKernels as whole
 use Rattle.adj_kernel.proofs.SoundPrograms.{sound_is_source}
@@ -81,8 +83,8 @@ unfound (u ∷ us) x h = go (name_eq u.name x) refl h (unfound us x)
 record OwnNames (names : List Name) (u : Procedure) : Type 0 where
   own : (x : Name) → has_name x (names_of u) ≡ true → (is_integer u x ≡ true) × IsFree names x
   ranks : Holds (λ line a. Each (λ n. has_rank u n ≡ true) (in_act a)) u.body
-  dummies_once : Distinct u.dummies
-  declared_once : Distinct (map (λ d. d.name) u.declarations)
+  dummies_once : AreApart u.dummies
+  declared_once : AreApart (map (λ d. d.name) u.declarations)
   extents : Each (λ d. has_bad_extents u d ≡ false) u.declarations
 
 -- a statement that is no runtime call
@@ -99,7 +101,7 @@ own_names : (ps : List Procedure) (u : Procedure) → faults_of_names source_rul
 own_names ps u h = record {
   own = λ x k.
       each_member (λ y. (is_integer u y ≡ true) × IsFree (map unit_name ps) y) (map (λ p. p.1) (places u)) (each_unmap (λ y. (is_integer u y ≡ true) × IsFree (map unit_name ps) y) (places u) each_place) x
-      (same_has x (map (λ p. p.1) (places u)) ∙ ap (has_name x) (names_placed u) ∙ k);
+      (ap (has_name x) (names_placed u) ∙ k);
   ranks = holding (λ line a. Each (λ n. has_rank u n ≡ true) (in_act a)) u.body
       (each_more (λ (s : At Act). (flat_map (λ n. faults_if (not (has_rank u n)) (fault 9 s.0)) (taken_in false s.1) ≡ []) × (calls_runtime s.1 ≡ false)) (λ s. Each (λ n. has_rank u n ≡ true) (in_act s.1))
       (λ s k.
@@ -109,8 +111,8 @@ own_names ps u h = record {
       (none_each (λ s. flat_map (λ n. faults_if (not (has_rank u n)) (fault 9 s.0)) (taken_in false s.1)) (statements u.body) (none_front (misused source_rules u) _ n2))
       (each_more (λ s. faults_if (true && calls_runtime s.1) (fault 18 s.0) ≡ []) (λ s. calls_runtime s.1 ≡ false) (λ s k. none_if (calls_runtime s.1) (fault 18 s.0) k) (statements u.body)
       (none_each (λ s. faults_if (true && calls_runtime s.1) (fault 18 s.0)) (statements u.body) (none_front (runtime_calls source_rules u) (too_many_variables source_rules u) n5)))));
-  dummies_once = subst Distinct (at_dummies u.line u.dummies) (distinct_of 8 [] (dummy_places u) (none_front (again 8 [] (dummy_places u)) (again 8 [] (declared_places u)) (none_front (declared_twice u) _ n1)));
-  declared_once = subst Distinct (at_declared u.declarations) (distinct_of 8 [] (declared_places u) (none_behind (again 8 [] (dummy_places u)) (again 8 [] (declared_places u)) (none_front (declared_twice u) _ n1)));
+  dummies_once = subst AreApart (at_dummies u.line u.dummies) (apart_places 8 [] (dummy_places u) (none_front (again 8 [] (dummy_places u)) (again 8 [] (declared_places u)) (none_front (declared_twice u) _ n1)));
+  declared_once = subst AreApart (at_declared u.declarations) (apart_places 8 [] (declared_places u) (none_behind (again 8 [] (dummy_places u)) (again 8 [] (declared_places u)) (none_front (declared_twice u) _ n1)));
   extents = each_more (λ d. faults_if (has_bad_extents u d) (fault 12 d.line) ≡ []) (λ d. has_bad_extents u d ≡ false) (λ d k. none_if (has_bad_extents u d) (fault 12 d.line) k) u.declarations (none_each (λ d. faults_if (has_bad_extents u d) (fault 12 d.line)) u.declarations (none_front (bad_extents u) _ n3));
 }
   where
@@ -135,7 +137,7 @@ own_names ps u h = record {
         (each_more (λ (p : At Name). faults_if (not (is_integer u p.1)) (fault 7 p.0) ≡ []) (λ p. is_integer u p.1 ≡ true) (λ p k. isn't_not (is_integer u p.1) (none_if (not (is_integer u p.1)) (fault 7 p.0) k)) (places u)
         (each_front (λ (p : At Name). faults_if (not (is_integer u p.1)) (fault 7 p.0) ≡ []) (places u) (extent_places u) (none_each (λ p. faults_if (not (is_integer u p.1)) (fault 7 p.0)) (places u ++ extent_places u) (none_front (undeclared u) _ h))))
         (each_more (λ (p : At Name). faults_if (is_reserved p.1 || is_some (find_unit ps p.1)) (fault 18 p.0) ≡ []) (λ p. IsFree (map unit_name ps) p.1)
-        (λ p k. let q = or_false (is_reserved p.1) (is_some (find_unit ps p.1)) (none_if (is_reserved p.1 || is_some (find_unit ps p.1)) (fault 18 p.0) k) in (sym (same_has p.1 reserved) ∙ q.0, unfound ps p.1 q.1)) (places u)
+        (λ p k. let q = or_false (is_reserved p.1) (is_some (find_unit ps p.1)) (none_if (is_reserved p.1 || is_some (find_unit ps p.1)) (fault 18 p.0) k) in (q.0, unfound ps p.1 q.1)) (places u)
         (none_each (λ p. faults_if (is_reserved p.1 || is_some (find_unit ps p.1)) (fault 18 p.0)) (places u) (none_front (reserved_variables ps u) _ n4)))
 
 -- ---- a unit with its marked loops cut, and its step units
@@ -248,7 +250,7 @@ module _ (names : List Name) (u : Procedure) (known : OwnNames names u) (P : Lis
 
     -- its names are integers
     step_integer : (y : Name) → has_name y vs ≡ true → is_integer unit y ≡ true
-    step_integer y h = or_first (fresh.has_name y (map (λ (d : Declaration). d.name) (step_declarations u.declarations line vs))) (not false && is_integer_name y) (ap (fresh.has_name y) (declared_all u.declarations vs) ∙ same_has y vs ∙ h)
+    step_integer y h = or_first (has_name y (map (λ (d : Declaration). d.name) (step_declarations u.declarations line vs))) (not false && is_integer_name y) (ap (has_name y) (declared_all u.declarations vs) ∙ h)
 
     -- with the ranks of the unit's
     step_rank : (y : Name) → has_name y vs ≡ true → rank unit y ≡ rank u y
@@ -287,7 +289,7 @@ module _ (names : List Name) (u : Procedure) (known : OwnNames names u) (P : Lis
         let p = or_false (is_bad_extent u (given d)) (list_any (is_bad_extent u) es) h in
         let there = w d (or_first (name_eq d d) (names_extent d es) (name_refl d)) in
         let scalar = (and_true (is_dummy u d) (is_scalar u d) (isn't_not (is_dummy u d && is_scalar u d) p.0)).1 in
-        ap (λ b. not (b && is_scalar unit d) || list_any (is_bad_extent unit) es) (same_has d vs ∙ there) ∙ ap (λ n. not (n == 0) || list_any (is_bad_extent unit) es) (step_rank d there) ∙ ap (λ b. not b || list_any (is_bad_extent unit) es) scalar ∙ step_bad es (λ e g. w e (or_second (name_eq e d) (names_extent e es) g)) p.1
+        ap (λ b. not (b && is_scalar unit d) || list_any (is_bad_extent unit) es) there ∙ ap (λ n. not (n == 0) || list_any (is_bad_extent unit) es) (step_rank d there) ∙ ap (λ b. not b || list_any (is_bad_extent unit) es) scalar ∙ step_bad es (λ e g. w e (or_second (name_eq e d) (names_extent e es) g)) p.1
 
     -- so its declarations have good extents
     step_extents : (ext : ExtentsIn u vs) (ys : List Name) → ((y : Name) → has_name y ys ≡ true → has_name y vs ≡ true) → Each (λ d. has_bad_extents unit d ≡ false) (step_declarations u.declarations line ys)
@@ -298,7 +300,7 @@ module _ (names : List Name) (u : Procedure) (known : OwnNames names u) (P : Lis
         let es = declared u.declarations (plain y) in (
           ap (λ b. b || (int_lt (pos 1048576) (literal_product es) || (not (is_dummy unit y) && not (length (extent_names es) == 0)))) (step_bad es (λ d h. ext y d there h) g.0)
               ∙ ap (λ b. b || (not (is_dummy unit y) && not (length (extent_names es) == 0))) g.1
-              ∙ ap (λ b. not b && not (length (extent_names es) == 0)) (same_has y vs ∙ there),
+              ∙ ap (λ b. not b && not (length (extent_names es) == 0)) there,
           step_extents ext ys (λ z h. w z (or_second (name_eq z y) (has_name z ys) h)),
         )
 
@@ -311,7 +313,7 @@ module _ (names : List Name) (u : Procedure) (known : OwnNames names u) (P : Lis
           dummies = each_from (λ d. (is_integer unit d ≡ true) × IsFree names d) vs (λ y h. (step_integer y h, (known.own y (of_unit y h)).1));
           declared = each_declaration (step_declarations u.declarations line vs) (λ y h. (known.own y (of_unit y (sym (ap (has_name y) (same_declared (step_declarations u.declarations line vs) ∙ declared_all u.declarations vs)) ∙ h))).1);
           dummies_once = dummies_distinct u x body;
-          declared_once = subst Distinct (sym (declared_all u.declarations vs)) (dummies_distinct u x body);
+          declared_once = subst AreApart (sym (declared_all u.declarations vs)) (dummies_distinct u x body);
           extents = step_extents ext vs (λ y h. h);
           statements = cut_good taken unit vs good_of good_whole_of (suc k) body r (named_holds (λ y. has_name y vs ≡ true) body (λ y h. code_named y (is_named vs) P body inside p h)) (steps_within vs ext body inside p);
         }

@@ -1,5 +1,5 @@
 -- A written program without faults is a source, and its CALLs are of units that aren't named like runtime calls.
-use Rattle.std.proofs.Common.{◌≡◌, ℕ, true, false, List, [], ◌∷◌, ◌++◌, map, refl, sym, ◌∙◌}
+use Rattle.std.proofs.Common.{◌≡◌, ℕ, true, false, List, [], ◌∷◌, ◌++◌, map, refl}
 use Rattle.std.specs.Prelude.{None, not, ◌&&◌, flat_map, codes}
 use Rattle.adj_tree.specs.Code.{plain, name_eq, Terms, Runtime, Act, call, runtime, Procedure}
 use Rattle.adj_text.specs.Statement.{runtime_call}
@@ -21,7 +21,7 @@ use Rattle.adj_kernel.specs.Kernel.{EachUnit, PlainCode, IsFitCall}
 use Rattle.adj_kernel.specs.StepTheorem.{IsMatched, HasExtents, IsSource}
 use Rattle.adj_kernel.specs.WrittenTheorem.{CallsUnits}
 use Rattle.adj_kernel.proofs.Sparing.{KeepsExtents, kept_of}
-use Rattle.adj_kernel.proofs.Faultless.{Each, each_more, each_all, each_flat, of_each, none_front, none_behind, none_each, none_if, same_has}
+use Rattle.adj_kernel.proofs.Faultless.{Each, each_more, each_all, each_flat, of_each, none_front, none_behind, none_each, none_if}
 use Rattle.adj_kernel.proofs.Locals.{has_first}
 use Rattle.adj_kernel.proofs.SoundCalls.{each_in_code, plain_code}
 use Rattle.adj_kernel.proofs.SoundFits.{Called, is_called, counted_of, fit_of}
@@ -122,10 +122,10 @@ module _ (ps : List Procedure) (u : Procedure) where
     -- so it is known of them what the first step asks
     pub has_extents : (C : Type 0) → HasExtents C ps u
     has_extents C = record {
-      own = λ x d h. has_first d u.dummies _ (sym (same_has d u.dummies) ∙ (of_declared u d u.declarations x good_extents h).0);
+      own = λ x d h. has_first d u.dummies _ (of_declared u d u.declarations x good_extents h).0;
       flat = λ x d h. no_extents (declared u.declarations (plain d)) (of_declared u d u.declarations x good_extents h).1;
       kept = λ x d h. keeps_extents d (of_declared u d u.declarations x good_extents h).0 (extent_of_unit d u.declarations x h);
-      locals_fit = λ n s d h. declared_fit n s u u.declarations d (same_has d u.dummies ∙ h) good_extents;
+      locals_fit = λ n s d h. declared_fit n s u u.declarations d h good_extents;
     }
 
 -- what is known of each unit

@@ -6,66 +6,43 @@ use Rattle.std.specs.Prelude.{◌||◌, flat_map}
 use Rattle.adj_tree.specs.Code.{name_eq, Var, unmarked, with_count, count_from, Act, assign, choose, loop, during, call, runtime, Code, stop, step, Procedure}
 use Rattle.adj_tree.proofs.Names.{name_refl, name_same}
 use Rattle.adj_meaning.proofs.Booleans.{or_false, or_first, or_second}
-use Rattle.adj_names.specs.Fresh as fresh
 use Rattle.adj_names.specs.Statements.{At}
 use Rattle.adj_names.specs.Reserved.{is_reserved}
 use Rattle.adj_names.specs.Fault.{source_rules, fault, faults_if, again}
 use Rattle.adj_names.specs.UnitFaults.{unit_places, reserved_units, repeated_units, unit_faults}
 use Rattle.adj_names.specs.Check.{IsSound}
 use Rattle.adj_names.proofs.Sound.{sound_has_none}
-use Rattle.adj_transpose.specs.Fresh.{has_name, reserved}
-use Rattle.adj_transpose.proofs.Naming.{has-append}
+use Rattle.adj_names.proofs.Faultless.{apart_places}
+use Rattle.adj_transpose.specs.Fresh.{has_name}
+use Rattle.adj_transpose.specs.Naming.{AreApart}
+use Rattle.adj_transpose.proofs.Naming.{has-append, apart-append}
 use Rattle.adj_transpose.proofs.Variables.{not_true}
 use Rattle.adj_kernel.specs.Kernel.{unit_name, names_of, lowered_unit}
 use Rattle.adj_kernel.specs.Stepped.{marked_in, marked_in_act, step_names, step_name, step_unit, step_units_in_act, step_units_in, stepped_from, names_of_source, stepped_program, kernel_of}
-use Rattle.adj_kernel.proofs.Faultless.{Each, each_join, none_front, none_behind, none_each, none_if, none_flat, if_none, none_both, same_has, either_way}
+use Rattle.adj_kernel.proofs.Faultless.{Each, each_join, none_front, none_behind, none_each, none_if, none_flat, if_none, none_both, either_way}
 use Rattle.adj_kernel.proofs.Locals.{has_first, has_second}
 use Rattle.adj_kernel.proofs.StepLookups.{not_taken, later_apart, later_act, later_code, listed_code}
-use Rattle.adj_kernel.proofs.StepFitting.{Distinct}
 use Rattle.adj_kernel.proofs.StepsWritten.{step_unreserved}
 
 -- ---- names that stand once
 
--- a name that stood before doesn't stand again
-not_again : (code : ℕ) (before : List (List ℕ)) (ps : List (At (List ℕ))) → again code before ps ≡ [] → (x : List ℕ) → fresh.has_name x before ≡ true → has_name x (map (λ p. p.1) ps) ≡ false
-not_again code before [] h x k = refl
-not_again code before (p ∷ ps) h x k = go (name_eq x p.1) refl (not_again code (p.1 ∷ before) ps (none_behind (faults_if (fresh.has_name p.1 before) _) (again code (p.1 ∷ before) ps) h) x (or_second (name_eq x p.1) (fresh.has_name x before) k))
-  where
-    first : fresh.has_name p.1 before ≡ false
-    first = none_if (fresh.has_name p.1 before) _ (none_front (faults_if (fresh.has_name p.1 before) _) (again code (p.1 ∷ before) ps) h)
-
-    go : (b : Bool) → name_eq x p.1 ≡ b → has_name x (map (λ p. p.1) ps) ≡ false → (b || has_name x (map (λ p. p.1) ps)) ≡ false
-    go true e ih = absurd (let q : true ≡ false = sym k ∙ ap (λ z. fresh.has_name z before) (name_same x p.1 e) ∙ first in cc)
-    go false e ih = ih
-
--- places without such a fault have names that are apart
-pub distinct_of : (code : ℕ) (before : List (List ℕ)) (ps : List (At (List ℕ))) → again code before ps ≡ [] → Distinct (map (λ p. p.1) ps)
-distinct_of code before [] h = tt
-distinct_of code before (p ∷ ps) h =
-    let later : again code (p.1 ∷ before) ps ≡ [] = none_behind (faults_if (fresh.has_name p.1 before) _) (again code (p.1 ∷ before) ps) h in
-    (not_again code (p.1 ∷ before) ps later p.1 (or_first (name_eq p.1 p.1) (fresh.has_name p.1 before) (name_refl p.1)), distinct_of code (p.1 ∷ before) ps later)
-
--- and the other way
-of_distinct : (code : ℕ) (before : List (List ℕ)) (ps : List (At (List ℕ))) → Distinct (map (λ p. p.1) ps) → ((x : List ℕ) → has_name x (map (λ p. p.1) ps) ≡ true → fresh.has_name x before ≡ false) → again code before ps ≡ []
+-- places whose names are apart, and apart from those before, have no fault
+of_distinct : (code : ℕ) (before : List (List ℕ)) (ps : List (At (List ℕ))) → AreApart (map (λ p. p.1) ps) → ((x : List ℕ) → has_name x (map (λ p. p.1) ps) ≡ true → has_name x before ≡ false) → again code before ps ≡ []
 of_distinct code before [] d h = refl
 of_distinct code before (p ∷ ps) d h =
-    none_both (faults_if (fresh.has_name p.1 before) (fault code p.0)) (again code (p.1 ∷ before) ps) (if_none (fresh.has_name p.1 before) (fault code p.0) (h p.1 (or_first (name_eq p.1 p.1) (has_name p.1 (map (λ q. q.1) ps)) (name_refl p.1))))
-    (of_distinct code (p.1 ∷ before) ps d.1 (λ x k. ap (λ b. b || fresh.has_name x before) (differs x (name_eq x p.1) refl k) ∙ h x (or_second (name_eq x p.1) (has_name x (map (λ q. q.1) ps)) k)))
+    none_both (faults_if (has_name p.1 before) (fault code p.0)) (again code (p.1 ∷ before) ps) (if_none (has_name p.1 before) (fault code p.0) (h p.1 (or_first (name_eq p.1 p.1) (has_name p.1 (map (λ q. q.1) ps)) (name_refl p.1))))
+    (of_distinct code (p.1 ∷ before) ps d.1 (λ x k. ap (λ b. b || has_name x before) (differs x (name_eq x p.1) refl k) ∙ h x (or_second (name_eq x p.1) (has_name x (map (λ q. q.1) ps)) k)))
   where
     differs : (x : List ℕ) (b : Bool) → name_eq x p.1 ≡ b → has_name x (map (λ q. q.1) ps) ≡ true → name_eq x p.1 ≡ false
     differs x true e k = absurd (let z : true ≡ false = sym k ∙ ap (λ y. has_name y (map (λ q. q.1) ps)) (name_same x p.1 e) ∙ d.0 in cc)
     differs x false e k = e
 
-pub once : (code : ℕ) (ps : List (At (List ℕ))) → Distinct (map (λ p. p.1) ps) → again code [] ps ≡ []
+pub once : (code : ℕ) (ps : List (At (List ℕ))) → AreApart (map (λ p. p.1) ps) → again code [] ps ≡ []
 once code ps d = of_distinct code [] ps d (λ x k. refl)
 
 -- names of two lists that have none in common
-pub distinct_join : (xs ys : List (List ℕ)) → Distinct xs → Distinct ys → ((x : List ℕ) → has_name x xs ≡ true → has_name x ys ≡ true → ⊥) → Distinct (xs ++ ys)
-distinct_join [] ys d e f = e
-distinct_join (x ∷ xs) ys d e f = (
-  has-append x xs ys ∙ ap (λ b. b || has_name x ys) d.0 ∙ not_true (has_name x ys) (λ k. f x (or_first (name_eq x x) (has_name x xs) (name_refl x)) k),
-  distinct_join xs ys d.1 e (λ y k l. f y (or_second (name_eq y x) (has_name y xs) k) l),
-)
+pub distinct_join : (xs ys : List (List ℕ)) → AreApart xs → AreApart ys → ((x : List ℕ) → has_name x xs ≡ true → has_name x ys ≡ true → ⊥) → AreApart (xs ++ ys)
+distinct_join xs ys d e f = apart-append xs ys d e (λ x h. not_true (has_name x ys) (f x h))
 
 -- ---- names of step units
 
@@ -114,15 +91,15 @@ module _ (taken : List (List ℕ)) (u : Procedure) where
   apart_numbers ps qs j f g x h k = let n = g x k in let z : true ≡ false = sym h ∙ ap (λ y. has_name y (map unit_name ps)) n.is ∙ f n.number n.from in cc
 
   -- units of two lists that have no name in common
-  join_names : (ps qs : List Procedure) → Distinct (map unit_name ps) → Distinct (map unit_name qs) → ((x : List ℕ) → has_name x (map unit_name ps) ≡ true → has_name x (map unit_name qs) ≡ true → ⊥) → Distinct (map unit_name (ps ++ qs))
-  join_names ps qs d e f = subst Distinct (sym (map-append unit_name ps qs)) (distinct_join (map unit_name ps) (map unit_name qs) d e f)
+  join_names : (ps qs : List Procedure) → AreApart (map unit_name ps) → AreApart (map unit_name qs) → ((x : List ℕ) → has_name x (map unit_name ps) ≡ true → has_name x (map unit_name qs) ≡ true → ⊥) → AreApart (map unit_name (ps ++ qs))
+  join_names ps qs d e f = subst AreApart (sym (map-append unit_name ps qs)) (distinct_join (map unit_name ps) (map unit_name qs) d e f)
 
   -- a step unit isn't among those in its body
   first_step : (k line : ℕ) (y : Var) (body : Code) → has_name (step_name taken u.name k) (map unit_name (step_units_in taken u (suc k) body)) ≡ false
   first_step k line y body = not_true (has_name (step_name taken u.name k) (map unit_name (step_units_in taken u (suc k) body))) (λ h. let n = numbered (suc k) body (step_name taken u.name k) h in let f = n.from in let z : true ≡ false = sym (name_refl (step_name taken u.name k)) ∙ ap (λ y. name_eq y (step_name taken u.name k)) n.is ∙ later_apart taken u.name k n.number (omega (arith, f)) in cc)
 
   mutual
-    distinct_act : (k line : ℕ) (a : Act) → Distinct (map unit_name (step_units_in_act taken u k line a))
+    distinct_act : (k line : ℕ) (a : Act) → AreApart (map unit_name (step_units_in_act taken u k line a))
     distinct_act k line (assign y subs e) = tt
     distinct_act k line (choose c a b) = join_names (step_units_in taken u k a) (step_units_in taken u (k + marked_in a) b) (distinct_steps k a) (distinct_steps (k + marked_in a) b) (apart_numbers (step_units_in taken u k a) (step_units_in taken u (k + marked_in a) b) (k + marked_in a) (λ i le. later_code taken u k a i le) (numbered (k + marked_in a) b))
     distinct_act k line (loop y first last by body unmarked) = distinct_steps k body
@@ -133,7 +110,7 @@ module _ (taken : List (List ℕ)) (u : Procedure) where
     distinct_act k line (runtime r) = tt
 
     -- the step units of a list have names that are apart
-    distinct_steps : (k : ℕ) (c : Code) → Distinct (map unit_name (step_units_in taken u k c))
+    distinct_steps : (k : ℕ) (c : Code) → AreApart (map unit_name (step_units_in taken u k c))
     distinct_steps k stop = tt
     distinct_steps k (step line a rest) =
         join_names (step_units_in_act taken u k line a) (step_units_in taken u (k + marked_in_act a) rest) (distinct_act k line a) (distinct_steps (k + marked_in_act a) rest)
@@ -168,7 +145,7 @@ of_source (u ∷ us) taken x h = go (or_cases (name_eq x u.name) (has_name x (ma
             last (inr g) = inr (or_false (has_name x taken) (has_name x (step_names taken u.name (marked_in u.body))) (sym (has-append x taken (step_names taken u.name (marked_in u.body))) ∙ g)).0
 
 -- the units of the stepped program have names that are apart
-distinct_stepped : (us : List Procedure) (taken : List (List ℕ)) → Distinct (map unit_name us) → ((x : List ℕ) → has_name x (map unit_name us) ≡ true → has_name x taken ≡ true) → Distinct (map unit_name (stepped_from taken us))
+distinct_stepped : (us : List Procedure) (taken : List (List ℕ)) → AreApart (map unit_name us) → ((x : List ℕ) → has_name x (map unit_name us) ≡ true → has_name x taken ≡ true) → AreApart (map unit_name (stepped_from taken us))
 distinct_stepped [] taken d h = tt
 distinct_stepped (u ∷ us) taken d h = (
   not_true (has_name u.name (map unit_name (steps ++ rest))) (λ k. first_apart (split_names u.name steps rest k)),
@@ -208,7 +185,7 @@ IsFreeUnit u = is_reserved u.name ≡ false
 module _ (taken : List (List ℕ)) (u : Procedure) where
   -- a step unit's name isn't reserved
   step_free : (k : ℕ) → is_reserved (step_name taken u.name k) ≡ false
-  step_free k = same_has (step_name taken u.name k) reserved ∙ step_unreserved taken u.name k
+  step_free k = step_unreserved taken u.name k
 
   mutual
     free_act : (k line : ℕ) (a : Act) → Each IsFreeUnit (step_units_in_act taken u k line a)
@@ -255,11 +232,11 @@ of_place (u ∷ us) h = (if_none (is_reserved u.name) (fault 18 u.line) h.0, of_
 
 module _ (units : List Procedure) (sound : IsSound source_rules units) where
   -- units of the program have names that are apart
-  pub source_distinct : Distinct (map unit_name units)
-  source_distinct = subst Distinct (placed_names units) (distinct_of 19 [] (unit_places units) (none_behind (reserved_units units) (repeated_units units) (sound_has_none source_rules units sound).units))
+  pub source_distinct : AreApart (map unit_name units)
+  source_distinct = subst AreApart (placed_names units) (apart_places 19 [] (unit_places units) (none_behind (reserved_units units) (repeated_units units) (sound_has_none source_rules units sound).units))
 
   -- so have those of the stepped program
-  pub stepped_distinct : Distinct (map unit_name (stepped_program units))
+  pub stepped_distinct : AreApart (map unit_name (stepped_program units))
   stepped_distinct =
       distinct_stepped units (names_of_source units) source_distinct
       (λ x h. has_first x (map unit_name units) (flat_map names_of units) h)
@@ -276,4 +253,4 @@ module _ (units : List Procedure) (sound : IsSound source_rules units) where
       ap (λ ps. flat_map (λ (p : At (List ℕ)). faults_if (is_reserved p.1) (fault 18 p.0)) ps ++ again 19 [] ps) (lowered_places (stepped_program units) (stepped_program units))
       ∙ none_both (reserved_units (stepped_program units)) (repeated_units (stepped_program units))
       (none_flat (λ (p : At (List ℕ)). faults_if (is_reserved p.1) (fault 18 p.0)) (unit_places (stepped_program units)) (of_place (stepped_program units) stepped_free))
-      (once 19 (unit_places (stepped_program units)) (subst Distinct (sym (placed_names (stepped_program units))) stepped_distinct))
+      (once 19 (unit_places (stepped_program units)) (subst AreApart (sym (placed_names (stepped_program units))) stepped_distinct))

@@ -6,14 +6,14 @@ use Rattle.adj_tree.specs.Code.{plain, Act, assign, choose, loop, during, call, 
 use Rattle.adj_tree.proofs.Names.{name_same}
 use Rattle.adj_meaning.specs.LeastSet.{Dummies}
 use Rattle.adj_meaning.specs.Written.{writes, handed_back}
-use Rattle.adj_meaning.specs.Read.{is_among, is_extent}
+use Rattle.adj_meaning.specs.Read.{names_extent, is_extent}
 use Rattle.adj_names.specs.Statements.{At, statements}
 use Rattle.adj_names.specs.Variables.{is_dummy}
 use Rattle.adj_names.specs.Fault.{fault, faults_if}
 use Rattle.adj_names.specs.WriteFaults.{may_write, writes_of_variable, written_variables, written_extents}
 use Rattle.adj_kernel.specs.Apart.{ActInside, CodeInside, EachCall', EachCall}
 use Rattle.adj_kernel.specs.Kernel.{is_of, local_in, scalar_at, lowered_unit, lowered_program, PlainCode, IsFitCall, IsFit}
-use Rattle.adj_kernel.proofs.Faultless.{Each, each_more, each_swap, none_each, none_if, none_flat, if_none, any_none, none_any, same_has, and_none}
+use Rattle.adj_kernel.proofs.Faultless.{Each, each_more, each_swap, none_each, none_if, none_flat, if_none, any_none, none_any, and_none}
 use Rattle.adj_kernel.proofs.Locals.{own_body, own_dummies}
 use Rattle.adj_kernel.proofs.SameWritten.{statements_same}
 use Rattle.adj_kernel.proofs.SoundExtents.{unwritten, spared}
@@ -114,7 +114,7 @@ module _ (handed : Dummies) where
 extents_behind : (d : List ℕ) (ds : List Declaration) (line : ℕ) (xs : List (List ℕ)) → is_extent d (ds ++ map (scalar_at line) xs) ≡ is_extent d ds
 extents_behind d [] line [] = refl
 extents_behind d [] line (x ∷ xs) = extents_behind d [] line xs
-extents_behind d (e ∷ ds) line xs = ap (λ b. is_among d e.extents || b) (extents_behind d ds line xs)
+extents_behind d (e ∷ ds) line xs = ap (λ b. names_extent d e.extents || b) (extents_behind d ds line xs)
 
 module _ (units : List Procedure) (fit : IsFit units) (u : Procedure) where
   -- what is known of each statement of the unit
@@ -144,5 +144,5 @@ module _ (units : List Procedure) (fit : IsFit units) (u : Procedure) where
   -- and so are its extents
   pub kept_lowered : PlainCode u.body → EachCall (IsFitCall units u) u.body → KeepsExtents (handed_back units) u → KeepsExtents (handed_back (lowered_program units)) (lowered_unit units u)
   kept_lowered pl f h d k e =
-      statements_same units fit u (plain d) (own_dummies u d (sym (same_has d u.dummies) ∙ k)) u.body (own_body u pl) f
+      statements_same units fit u (plain d) (own_dummies u d k) u.body (own_body u pl) f
       ∙ h d k (sym (extents_behind d u.declarations u.line _) ∙ e)

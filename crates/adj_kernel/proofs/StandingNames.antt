@@ -7,7 +7,6 @@ use Rattle.adj_tree.specs.Code.{name_eq, Act, assign, choose, loop, during, call
 use Rattle.adj_tree.proofs.Names.{name_refl, name_same}
 use Rattle.adj_meaning.specs.Written.{find_unit}
 use Rattle.adj_meaning.proofs.Booleans.{and_true, or_false, or_first, or_second}
-use Rattle.adj_names.specs.Fresh as fresh
 use Rattle.adj_names.specs.Statements.{At, statements}
 use Rattle.adj_names.specs.Standing.{Standing, in_act}
 use Rattle.adj_names.specs.Reserved.{is_reserved}
@@ -15,13 +14,13 @@ use Rattle.adj_names.specs.Variables.{Name, dummy_places, declared_places, state
 use Rattle.adj_names.specs.Fault.{run_rules, fault, faults_if, again}
 use Rattle.adj_names.specs.NameFaults.{extent_names, extent_places, undeclared, declared_twice, has_rank, taken_in, misused, is_bad_extent, has_bad_extents, bad_extents, reserved_variables, calls_runtime, runtime_calls, faults_of_names}
 use Rattle.adj_transpose.specs.Fresh.{has_name, reserved}
+use Rattle.adj_transpose.specs.Naming.{AreApart}
 use Rattle.adj_transpose.proofs.Variables.{name_comm}
 use Rattle.adj_kernel.specs.Kernel as kernel
 use Rattle.adj_kernel.specs.Kernel.{unit_name}
 use Rattle.adj_kernel.proofs.OneNotion.{at_dummies}
-use Rattle.adj_kernel.proofs.Faultless.{Each, each_join, each_more, flat_each, none_flat, if_none, none_both, isn't_not, same_has, both_false}
+use Rattle.adj_kernel.proofs.Faultless.{Each, each_join, each_more, flat_each, none_flat, if_none, none_both, isn't_not, both_false}
 use Rattle.adj_kernel.proofs.Holding.{Holds, listed, holds_more}
-use Rattle.adj_kernel.proofs.StepFitting.{Distinct}
 use Rattle.adj_kernel.proofs.SoundUnits.{once}
 
 -- a name that neither an intrinsic, nor a runtime call, nor one of these units has
@@ -36,8 +35,8 @@ IsGood names v n = (is_integer v n.name ≡ true) × ((has_rank v n ≡ true) ×
 pub record Stands (names : List Name) (v : Procedure) : Type 0 where
   pub dummies : Each (λ d. (is_integer v d ≡ true) × IsFree names d) v.dummies
   pub declared : Each (λ d. IsFree names d.name) v.declarations
-  pub dummies_once : Distinct v.dummies
-  pub declared_once : Distinct (map (λ d. d.name) v.declarations)
+  pub dummies_once : AreApart v.dummies
+  pub declared_once : AreApart (map (λ d. d.name) v.declarations)
   pub extents : Each (λ d. has_bad_extents v d ≡ false) v.declarations
   pub statements : Holds (λ line a. Each (IsGood names v) (in_act a)) v.body
 
@@ -59,11 +58,11 @@ each_standing P line [] h = tt
 each_standing P line (n ∷ ns) h = (h.0, each_standing P line ns h.1)
 
 -- a member of a list of names
-pub each_member : (Q : Name → Type 0) (xs : List Name) → Each Q xs → (x : Name) → fresh.has_name x xs ≡ true → Q x
+pub each_member : (Q : Name → Type 0) (xs : List Name) → Each Q xs → (x : Name) → has_name x xs ≡ true → Q x
 each_member Q [] h x k = absurd cc
-each_member Q (y ∷ ys) h x k = go (or_cases (name_eq x y) (fresh.has_name x ys) k) (each_member Q ys h.1 x)
+each_member Q (y ∷ ys) h x k = go (or_cases (name_eq x y) (has_name x ys) k) (each_member Q ys h.1 x)
   where
-    go : (name_eq x y ≡ true) ⊎ (fresh.has_name x ys ≡ true) → (fresh.has_name x ys ≡ true → Q x) → Q x
+    go : (name_eq x y ≡ true) ⊎ (has_name x ys ≡ true) → (has_name x ys ≡ true → Q x) → Q x
     go (inl e) ih = subst Q (sym (name_same x y e)) h.0
     go (inr e) ih = ih e
 
@@ -111,12 +110,12 @@ module _ (ps : List Procedure) (v : Procedure) (stands : Stands (map unit_name p
   known p h = if_none (not (is_integer v p.1)) (fault 7 p.0) (ap not h)
 
   -- declared names are declared
-  declared_known : (ds : List Declaration) → Each (λ d. fresh.has_name d.name (map (λ d. d.name) (ds)) ≡ true) ds
+  declared_known : (ds : List Declaration) → Each (λ d. has_name d.name (map (λ d. d.name) (ds)) ≡ true) ds
   declared_known ds = tell ds (map (λ d. d.name) ds) (λ x h. h)
     where
-      tell : (es : List Declaration) (all : List Name) → ((x : Name) → fresh.has_name x (map (λ d. d.name) es) ≡ true → fresh.has_name x all ≡ true) → Each (λ d. fresh.has_name d.name all ≡ true) es
+      tell : (es : List Declaration) (all : List Name) → ((x : Name) → has_name x (map (λ d. d.name) es) ≡ true → has_name x all ≡ true) → Each (λ d. has_name d.name all ≡ true) es
       tell [] all f = tt
-      tell (e ∷ es) all f = (f e.name (or_first (name_eq e.name e.name) (fresh.has_name e.name (map (λ d. d.name) es)) (name_refl e.name)), tell es all (λ x h. f x (or_second (name_eq x e.name) (fresh.has_name x (map (λ d. d.name) es)) h)))
+      tell (e ∷ es) all f = (f e.name (or_first (name_eq e.name e.name) (has_name e.name (map (λ d. d.name) es)) (name_refl e.name)), tell es all (λ x h. f x (or_second (name_eq x e.name) (has_name x (map (λ d. d.name) es)) h)))
 
   -- the names among extents that aren't bad are dummies
   extent_dummies : (es : List Extent) → list_any (is_bad_extent v) es ≡ false → Each (λ x. is_dummy v x ≡ true) (extent_names es)
@@ -133,7 +132,7 @@ module _ (ps : List Procedure) (v : Procedure) (stands : Stands (map unit_name p
       (each_join IsKnown (places v) (extent_places v)
       (each_more (λ (p : At Name). is_integer v p.1 ≡ true) IsKnown known (places v)
       (every_place (λ x. is_integer v x ≡ true) v (each_more (λ d. (is_integer v d ≡ true) × IsFree (map unit_name ps) d) (λ d. is_integer v d ≡ true) (λ d h. h.0) v.dummies stands.dummies)
-      (each_more (λ d. fresh.has_name d.name (map (λ d. d.name) v.declarations) ≡ true) (λ d. is_integer v d.name ≡ true) (λ d h. or_first (fresh.has_name d.name (declared_names v)) (not v.is_none && is_integer_name d.name) h) v.declarations (declared_known v.declarations))
+      (each_more (λ d. has_name d.name (map (λ d. d.name) v.declarations) ≡ true) (λ d. is_integer v d.name ≡ true) (λ d h. or_first (has_name d.name (declared_names v)) (not v.is_none && is_integer_name d.name) h) v.declarations (declared_known v.declarations))
       (statement_names v.body stands.statements)))
       (flat_each IsKnown (λ (d : Declaration). map (λ x. (d.line, x)) (extent_names d.extents)) v.declarations
       (each_more (λ d. has_bad_extents v d ≡ false) (λ (d : Declaration). Each IsKnown (map (λ x. (d.line, x)) (extent_names d.extents)))
@@ -147,8 +146,8 @@ module _ (ps : List Procedure) (v : Procedure) (stands : Stands (map unit_name p
   -- declared once
   no_twice : declared_twice v ≡ []
   no_twice =
-      none_both (again 8 [] (dummy_places v)) (again 8 [] (declared_places v)) (once 8 (dummy_places v) (subst Distinct (sym (at_dummies v.line v.dummies)) stands.dummies_once))
-      (once 8 (declared_places v) (subst Distinct (sym (at_declared v.declarations)) stands.declared_once))
+      none_both (again 8 [] (dummy_places v)) (again 8 [] (declared_places v)) (once 8 (dummy_places v) (subst AreApart (sym (at_dummies v.line v.dummies)) stands.dummies_once))
+      (once 8 (declared_places v) (subst AreApart (sym (at_declared v.declarations)) stands.declared_once))
 
   -- stands with its rank
   no_misuse : misused run_rules v ≡ []
@@ -166,7 +165,7 @@ module _ (ps : List Procedure) (v : Procedure) (stands : Stands (map unit_name p
   no_reserved : reserved_variables ps v ≡ []
   no_reserved =
       none_flat (λ p. faults_if (is_reserved p.1 || is_some (find_unit ps p.1)) (fault 18 p.0)) (places v)
-      (each_more (λ (p : At Name). IsFree (map unit_name ps) p.1) (λ p. faults_if (is_reserved p.1 || is_some (find_unit ps p.1)) (fault 18 p.0) ≡ []) (λ p h. if_none (is_reserved p.1 || is_some (find_unit ps p.1)) (fault 18 p.0) (both_false (is_reserved p.1) (is_some (find_unit ps p.1)) (same_has p.1 reserved ∙ h.0) (none_found ps p.1 h.1))) (places v)
+      (each_more (λ (p : At Name). IsFree (map unit_name ps) p.1) (λ p. faults_if (is_reserved p.1 || is_some (find_unit ps p.1)) (fault 18 p.0) ≡ []) (λ p h. if_none (is_reserved p.1 || is_some (find_unit ps p.1)) (fault 18 p.0) (both_false (is_reserved p.1) (is_some (find_unit ps p.1)) (h.0) (none_found ps p.1 h.1))) (places v)
       (every_place (IsFree (map unit_name ps)) v (each_more (λ d. (is_integer v d ≡ true) × IsFree (map unit_name ps) d) (IsFree (map unit_name ps)) (λ d h. h.1) v.dummies stands.dummies) stands.declared
       (holds_more (λ line a. Each (IsGood (map unit_name ps) v) (in_act a)) (λ line a. Each (λ n. IsFree (map unit_name ps) n.name) (in_act a)) (λ line a k. each_more (IsGood (map unit_name ps) v) (λ n. IsFree (map unit_name ps) n.name) (λ n g. g.1.1) (in_act a) k) v.body stands.statements)))
 

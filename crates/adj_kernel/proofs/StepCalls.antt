@@ -2,13 +2,13 @@
 use Rattle.std.proofs.Common.{◌≡◌, ℕ, suc, ◌+◌, ◌⊎◌, inl, inr, true, List, [], ◌++◌, refl, sym, ap, ◌∙◌}
 use Rattle.std.proofs.lemmas.Bool.{or_cases}
 use Rattle.adj_tree.specs.Code.{Var, plain, shadow, helper, Terms, unmarked, with_count, count_from, Act, assign, choose, loop, during, call, runtime, Code, stop, step, Procedure}
-use Rattle.adj_meaning.specs.Read.{reads_terms}
+use Rattle.adj_meaning.specs.Read.{reads_terms, names_extent}
 use Rattle.adj_meaning.specs.Units.{declared}
 use Rattle.adj_meaning.proofs.Booleans.{or_second}
 use Rattle.adj_transpose.specs.Fresh.{has_name}
 use Rattle.adj_kernel.specs.Apart.{TermsInside, ActInside, CodeInside, EachCall', EachCall}
 use Rattle.adj_kernel.specs.Kernel.{named, names_in_code, names_of, is_named, is_of, PlainAct, PlainCode, EachUnit}
-use Rattle.adj_kernel.specs.Stepped.{marked_in, marked_in_act, variables_of, names_extent, is_extent_of, step_dummies, as_actuals, step_name, cut_act, cut, step_unit, step_units_in_act, step_units_in, stepped_unit}
+use Rattle.adj_kernel.specs.Stepped.{marked_in, marked_in_act, variables_of, is_extent_of, step_dummies, as_actuals, step_name, cut_act, cut, step_unit, step_units_in_act, step_units_in, stepped_unit}
 use Rattle.adj_kernel.specs.StepTheorem.{IsStepThere, StepsThereAct, StepsThere}
 use Rattle.adj_kernel.proofs.Faultless.{join_units}
 use Rattle.adj_kernel.proofs.Locals.{own_body}

@@ -3,18 +3,19 @@ use Rattle.std.proofs.Common.{◌≡◌, ℕ, suc, ◌+◌, Bool, true, false, L
 use Rattle.std.specs.Prelude.{◌||◌, ◌&&◌, ◌==◌, length, Some, if◌then◌else◌}
 use Rattle.adj_tree.specs.Code.{Var, plain, name_eq, Term, lit, var, elem, neg, bin, pow, power_of, abs, Terms, none, more, unmarked, with_count, count_from, Act, assign, choose, loop, during, call, runtime, Code, stop, step, Declaration, Procedure}
 use Rattle.adj_tree.proofs.Names.{name_refl, name_same}
-use Rattle.adj_meaning.specs.Read.{reads_term, reads_terms}
+use Rattle.adj_meaning.specs.Read.{reads_term, reads_terms, names_extent}
 use Rattle.adj_meaning.specs.Written.{find_unit, is_handed_back, handed_back}
 use Rattle.adj_meaning.specs.Units.{declared}
 use Rattle.adj_meaning.proofs.Booleans.{or_false, or_first, or_second}
 use Rattle.adj_meaning.proofs.Variables.{var_same}
 use Rattle.adj_transpose.specs.Fresh.{has_name}
+use Rattle.adj_transpose.specs.Naming.{AreApart}
 use Rattle.adj_kernel.specs.Lowered.{other_flags}
 use Rattle.adj_kernel.specs.Apart.{TermsInside, ActInside, CodeInside, EachCall', EachCall}
 use Rattle.adj_kernel.specs.Calls.{is_name_of, stands_whole, AreHandedApart, is_scalar, ArraysStandOnce, ScalarsToScalars}
 use Rattle.adj_kernel.specs.Kernel.{named, names_in_code, names_of, is_named, is_of, PlainTerms, PlainAct, PlainCode, EachUnit, IsFitCall}
 use Rattle.adj_kernel.specs.Form.{AreDistinctNames, IsSteppedAct, IsStepped}
-use Rattle.adj_kernel.specs.Stepped.{marked_in, marked_in_act, once_each, variables_of, names_extent, used_among, step_dummies, as_actuals, step_declarations, step_name, cut_act, cut, step_unit, step_units_in_act, step_units_in, stepped_unit}
+use Rattle.adj_kernel.specs.Stepped.{marked_in, marked_in_act, once_each, variables_of, used_among, step_dummies, as_actuals, step_declarations, step_name, cut_act, cut, step_unit, step_units_in_act, step_units_in, stepped_unit}
 use Rattle.adj_kernel.specs.StepTheorem.{StepsThereAct, StepsThere, IsStepFor}
 use Rattle.adj_kernel.proofs.Faultless.{join_units, and_none}
 use Rattle.adj_kernel.proofs.Locals.{own_body}
@@ -22,11 +23,6 @@ use Rattle.adj_kernel.proofs.StepNames.{is_used, declared_step}
 use Rattle.adj_kernel.proofs.StepCalls.{Declares, declares_read, calls_step, calls_own}
 
 -- ---- distinct names
-
--- no name stands twice
-abbrev pub Distinct : List (List ℕ) → Type 0
-Distinct [] = Unit {0}
-Distinct (x ∷ xs) = (has_name x xs ≡ false) × Distinct xs
 
 either_false : (a b : Bool) → a ≡ false → b ≡ false → (a || b) ≡ false
 either_false a b e f = ap (λ z. z || b) e ∙ f
@@ -43,11 +39,11 @@ once_new y before (x ∷ xs) h = go (has_name x before) refl (once_new y before 
         differs true f = absurd (let z : true ≡ false = sym h ∙ ap (λ v. has_name v before) (name_same y x f) ∙ e in cc)
         differs false f = f
 
-once_distinct : (before xs : List (List ℕ)) → Distinct (once_each before xs)
+once_distinct : (before xs : List (List ℕ)) → AreApart (once_each before xs)
 once_distinct before [] = tt
 once_distinct before (x ∷ xs) = go (has_name x before) (once_distinct before xs) (once_distinct (x ∷ before) xs)
   where
-    go : (b : Bool) → Distinct (once_each before xs) → Distinct (once_each (x ∷ before) xs) → Distinct (if b then once_each before xs else x ∷ once_each (x ∷ before) xs)
+    go : (b : Bool) → AreApart (once_each before xs) → AreApart (once_each (x ∷ before) xs) → AreApart (if b then once_each before xs else x ∷ once_each (x ∷ before) xs)
     go true ih ih1 = ih
     go false ih ih1 = (once_new x (x ∷ before) xs (or_first (name_eq x x) (has_name x before) (name_refl x)), ih1)
 
@@ -59,16 +55,16 @@ used_new ds names (v ∷ vs) y h = let p = or_false (name_eq y v) (has_name y vs
     go true e ih = either_false (name_eq y v) (has_name y (used_among ds names vs)) e ih
     go false e ih = ih
 
-used_distinct : (ds : List Declaration) (names vs : List (List ℕ)) → Distinct vs → Distinct (used_among ds names vs)
+used_distinct : (ds : List Declaration) (names vs : List (List ℕ)) → AreApart vs → AreApart (used_among ds names vs)
 used_distinct ds names [] h = tt
 used_distinct ds names (v ∷ vs) h = go (is_used ds names v) (used_distinct ds names vs h.1)
   where
-    go : (b : Bool) → Distinct (used_among ds names vs) → Distinct (if b then v ∷ used_among ds names vs else used_among ds names vs)
+    go : (b : Bool) → AreApart (used_among ds names vs) → AreApart (if b then v ∷ used_among ds names vs else used_among ds names vs)
     go true ih = (used_new ds names vs v h.0, ih)
     go false ih = ih
 
 -- the dummies of a step unit are distinct
-pub dummies_distinct : (u : Procedure) (x : Var) (body : Code) → Distinct (step_dummies u x body)
+pub dummies_distinct : (u : Procedure) (x : Var) (body : Code) → AreApart (step_dummies u x body)
 dummies_distinct u x body = used_distinct u.declarations (named x ++ names_in_code body) (variables_of u) (once_distinct [] (names_of u))
 
 -- ---- names as actuals
@@ -84,7 +80,7 @@ handed_named y (w ∷ ws) (v ∷ vs) h =
     let p = or_false (name_eq y v) (has_name y vs) h in either_false (w && name_eq y v) (is_handed_back (plain y) ws (as_actuals vs)) (ap (λ z. w && z) p.0 ∙ and_none w) (handed_named y ws vs p.1)
 
 -- so are the actuals of its call
-distinct_names : (vs : List (List ℕ)) → Distinct vs → AreDistinctNames (as_actuals vs)
+distinct_names : (vs : List (List ℕ)) → AreApart vs → AreDistinctNames (as_actuals vs)
 distinct_names [] h = tt
 distinct_names (v ∷ vs) h = (whole_named v vs ∙ h.0, distinct_names vs h.1)
 
@@ -93,7 +89,7 @@ plain_names [] = tt
 plain_names (v ∷ vs) = (tt, plain_names vs)
 
 -- which are handed back apart
-names_apart : (ws : List Bool) (vs : List (List ℕ)) → Distinct vs → AreHandedApart ws (as_actuals vs)
+names_apart : (ws : List Bool) (vs : List (List ℕ)) → AreApart vs → AreHandedApart ws (as_actuals vs)
 names_apart ws [] h = tt
 names_apart ws (v ∷ vs) h = (
   (λ x e. ap (λ z. is_handed_back z (other_flags ws) (as_actuals vs)) (var_same x (plain v) e) ∙ handed_named v (other_flags ws) vs h.0),
@@ -101,7 +97,7 @@ names_apart ws (v ∷ vs) h = (
 )
 
 -- and stand once
-names_once : (ds : List Declaration) (vs : List (List ℕ)) → Distinct vs → ArraysStandOnce ds (as_actuals vs)
+names_once : (ds : List Declaration) (vs : List (List ℕ)) → AreApart vs → ArraysStandOnce ds (as_actuals vs)
 names_once ds [] h = tt
 names_once ds (v ∷ vs) h = (
   (λ x e s. absurd (let z : true ≡ false = sym s ∙ ap (λ y. stands_whole y (as_actuals vs)) (var_same x (plain v) e) ∙ whole_named v vs ∙ h.0 in cc)),

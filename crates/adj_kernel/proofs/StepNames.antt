@@ -9,7 +9,7 @@ use Rattle.adj_meaning.specs.Numbers.{Numbers}
 use Rattle.adj_meaning.specs.Store.{Store, set_all}
 use Rattle.adj_meaning.specs.Value.{Setting}
 use Rattle.adj_meaning.specs.LeastSet.{Dummies}
-use Rattle.adj_meaning.specs.Read.{reads_term, reads_terms, reads_test, reads_mark}
+use Rattle.adj_meaning.specs.Read.{reads_term, reads_terms, reads_test, reads_mark, names_extent}
 use Rattle.adj_meaning.specs.Written.{is_place_of, is_handed_back, act_writes, writes}
 use Rattle.adj_meaning.specs.Units.{actuals, declared, entry_store, copied_out}
 use Rattle.adj_meaning.proofs.Booleans.{or_first, or_second, and_true}
@@ -18,7 +18,7 @@ use Rattle.adj_transpose.specs.Fresh.{has_name}
 use Rattle.adj_transpose.proofs.Naming.{has-append}
 use Rattle.adj_kernel.specs.Apart.{ActInside, CodeInside, EachCall', EachCall}
 use Rattle.adj_kernel.specs.Kernel.{named, names_in, names_in_all, names_in_test, names_in_mark, names_in_act, names_in_code}
-use Rattle.adj_kernel.specs.Stepped.{once_each, names_extent, is_extent_of, used_among, as_actuals, step_declarations}
+use Rattle.adj_kernel.specs.Stepped.{once_each, is_extent_of, used_among, as_actuals, step_declarations}
 use Rattle.adj_kernel.proofs.HandingBack.{by_name, by_names}
 
 -- a name in two lists one after the other is in one of them

@@ -1,20 +1,19 @@
 -- In the stepped program no body of a loop writes its variable, and no unit its extents, where that is so in the program.
-use Rattle.std.proofs.Common.{◌≡◌, ℕ, suc, ◌+◌, ◌⊎◌, inl, inr, true, false, List, [], ◌∷◌, ◌++◌, ap, ◌∙◌}
+use Rattle.std.proofs.Common.{◌≡◌, ℕ, suc, ◌+◌, ◌⊎◌, inl, inr, true, false, List, [], ◌∷◌, ◌++◌, ap}
 use Rattle.std.proofs.lemmas.Bool.{or_cases}
 use Rattle.std.specs.Prelude.{◌||◌, Some}
 use Rattle.adj_tree.specs.Code.{Var, plain, shadow, helper, name_eq, unmarked, with_count, count_from, Act, assign, choose, loop, during, call, runtime, Code, stop, step, Declaration, Procedure}
 use Rattle.adj_tree.proofs.Names.{name_refl}
 use Rattle.adj_meaning.specs.Written.{find_unit, is_handed_back, act_writes, writes, handed_back}
-use Rattle.adj_meaning.specs.Read.{is_among, is_extent}
+use Rattle.adj_meaning.specs.Read.{names_extent, is_extent}
 use Rattle.adj_meaning.specs.Units.{declared}
 use Rattle.adj_meaning.proofs.Booleans.{or_false, or_first, or_second}
 use Rattle.adj_transpose.specs.Fresh.{has_name}
 use Rattle.adj_kernel.specs.Apart.{EachCall', EachCall}
 use Rattle.adj_kernel.specs.Kernel.{PlainVar, PlainAct, PlainCode, EachUnit}
-use Rattle.adj_kernel.specs.Stepped.{marked_in, marked_in_act, names_extent, step_dummies, as_actuals, step_declarations, step_name, step_names, cut_act, cut, step_unit, step_units_in_act, step_units_in, stepped_unit, stepped_from}
+use Rattle.adj_kernel.specs.Stepped.{marked_in, marked_in_act, step_dummies, as_actuals, step_declarations, step_name, step_names, cut_act, cut, step_unit, step_units_in_act, step_units_in, stepped_unit, stepped_from}
 use Rattle.adj_kernel.specs.StepTheorem.{StepsThereAct, StepsThere, IsStepFor, IsMatched, HasExtents}
 use Rattle.adj_kernel.proofs.Faultless.{join_units, not_back}
-use Rattle.adj_kernel.proofs.SoundExtents.{is_among-named}
 use Rattle.adj_kernel.proofs.StepNames.{ExtentOf}
 use Rattle.adj_kernel.proofs.StepLookups.{AllThere}
 use Rattle.adj_kernel.proofs.StepWritten.{cut_back, step_back}
@@ -24,10 +23,10 @@ use Rattle.adj_kernel.proofs.Sparing.{Spares, AreSpared, KeepsExtents}
 -- an extent of a step unit is one of a variable of its list
 step_extent : (ds : List Declaration) (line : ℕ) (d : List ℕ) (vs : List (List ℕ)) → is_extent d (step_declarations ds line vs) ≡ true → ExtentOf ds d vs
 step_extent ds line d [] h = absurd cc
-step_extent ds line d (v ∷ vs) h = go (or_cases (is_among d (declared ds (plain v))) (is_extent d (step_declarations ds line vs)) h) (λ k. step_extent ds line d vs k)
+step_extent ds line d (v ∷ vs) h = go (or_cases (names_extent d (declared ds (plain v))) (is_extent d (step_declarations ds line vs)) h) (λ k. step_extent ds line d vs k)
   where
-    go : (is_among d (declared ds (plain v)) ≡ true) ⊎ (is_extent d (step_declarations ds line vs) ≡ true) → (is_extent d (step_declarations ds line vs) ≡ true → ExtentOf ds d vs) → ExtentOf ds d (v ∷ vs)
-    go (inl e) ih = record { of = v; among = or_first (name_eq v v) (has_name v vs) (name_refl v); is = is_among-named d (declared ds (plain v)) ∙ e }
+    go : (names_extent d (declared ds (plain v)) ≡ true) ⊎ (is_extent d (step_declarations ds line vs) ≡ true) → (is_extent d (step_declarations ds line vs) ≡ true → ExtentOf ds d vs) → ExtentOf ds d (v ∷ vs)
+    go (inl e) ih = record { of = v; among = or_first (name_eq v v) (has_name v vs) (name_refl v); is = e }
     go (inr e) ih = let f = ih e in record { of = f.of; among = or_second (name_eq f.of v) (has_name f.of vs) f.among; is = f.is }
 
 module _ (units units' : List Procedure) (plainly : (name : List ℕ) (v : Procedure) → find_unit units name ≡ Some v → PlainCode v.body) (each : (name : List ℕ) (v : Procedure) → find_unit units name ≡ Some v → EachCall (IsMatched units) v.body) (stepped : (name : List ℕ) (v : Procedure) → find_unit units name ≡ Some v → IsStepFor units' name v) where

@@ -2,7 +2,7 @@
 use Rattle.std.proofs.Common.{◌≡◌, ℕ, zero, suc, ◌+◌, ◌≤◌, ◌⊎◌, inl, inr, Bool, true, false, List, [], ◌∷◌, ◌++◌, map, refl, sym, ap, ◌∙◌, arith, subst}
 use Rattle.std.proofs.lemmas.Bool.{or_cases}
 use Rattle.std.specs.Prelude.{◌||◌, ◌&&◌, ◌==◌, length, Option, Some, None, if◌then◌else◌}
-use Rattle.adj_tree.specs.Code.{Var, plain, shadow, helper, var_eq, name_eq, Term, Terms, Mark, unmarked, with_count, count_from, Act, assign, choose, loop, during, call, runtime, Code, stop, step, Extent, fixed, given, Procedure}
+use Rattle.adj_tree.specs.Code.{Var, plain, shadow, helper, var_eq, name_eq, Term, Terms, Mark, unmarked, with_count, count_from, Act, assign, choose, loop, during, call, runtime, Code, stop, step, Procedure}
 use Rattle.adj_tree.proofs.Names.{name_refl}
 use Rattle.adj_word.specs.Word.{wrap, add}
 use Rattle.adj_meaning.specs.Append.{one}
@@ -13,7 +13,7 @@ use Rattle.adj_meaning.specs.Value.{Setting, holds}
 use Rattle.adj_meaning.specs.Event.{Marked}
 use Rattle.adj_meaning.specs.Scene.{Scene, Stand, stand, Go, Done, Trapped, then_do, with_value, counted}
 use Rattle.adj_meaning.specs.Run.{Calls, act, run, most_tests, trips, turns, stepped, with_turn, from_1_to_64, in_force, after_loop}
-use Rattle.adj_meaning.specs.Read.{is_among}
+use Rattle.adj_meaning.specs.Read.{names_extent}
 use Rattle.adj_meaning.specs.Written.{find_unit, act_writes, writes, handed_back, is_written}
 use Rattle.adj_meaning.specs.Units.{Actual, declared, extent_in, extents_of, shape_of, shape_fits, dummies_fit, entry_store, copied_out, entered, unit_run, call_in, calls_of}
 use Rattle.adj_meaning.proofs.Appends.{counted_then, then_assoc}
@@ -27,7 +27,7 @@ use Rattle.adj_transpose.specs.Fresh.{has_name}
 use Rattle.adj_meaning.specs.Follows.{Runs, Follows}
 use Rattle.adj_kernel.specs.Apart.{TermInside, TermsInside, MarkInside, ActInside, CodeInside, EachCall', EachCall}
 use Rattle.adj_kernel.specs.Kernel.{named, names_in_code, names_of, is_named, is_of, PlainAct, PlainCode}
-use Rattle.adj_kernel.specs.Stepped.{marked_in, marked_in_act, variables_of, names_extent, is_extent_of, step_dummies, as_actuals, step_name, step_call, cut_act, cut, step_unit}
+use Rattle.adj_kernel.specs.Stepped.{marked_in, marked_in_act, variables_of, is_extent_of, step_dummies, as_actuals, step_name, step_call, cut_act, cut, step_unit}
 use Rattle.adj_kernel.specs.StepTheorem.{marked_of, nest_act, nest, IsStepThere, StepsThereAct, StepsThere, fits_itself, HoldsExtents}
 use Rattle.adj_meaning.proofs.Following.{follows_done, follows_if, follows_then, follows_known, follows_extra}
 use Rattle.adj_kernel.proofs.Together.{then_nothing, follows_same, follows_value, counted_both, turns_follow, tests_follow}
@@ -152,18 +152,8 @@ module _ {C : Type 0} (N : Numbers C) (room : Option ℕ) (units units' : List P
       extents_there y h =
           ap (map (extent_in N there)) (declared_step u.declarations line vs y h)
           ∙ extents_alike N there e0 (declared u.declarations (plain y)) (λ d g.
-          let g1 = same_among d (declared u.declarations (plain y)) g in
-          let hd = extents_in y d h g1 in
-          there_holds d 0 hd ∙ sym (al.0.store (plain d) 0 (in_hand ns hx inside ext d hd)) ∙ al.1 (plain y) d g1)
-        where
-          same_among : (d : List ℕ) (es : List Extent) → is_among d es ≡ true → names_extent d es ≡ true
-          same_among d [] g = g
-          same_among d (fixed z ∷ es) g = same_among d es g
-          same_among d (given y ∷ es) g = more_of (name_eq d y) (same_among d es) g
-            where
-              more_of : (c : Bool) {p r : Bool} → (p ≡ true → r ≡ true) → (c || p) ≡ true → (c || r) ≡ true
-              more_of true f g = refl
-              more_of false f g = f g
+          let hd = extents_in y d h g in
+          there_holds d 0 hd ∙ sym (al.0.store (plain d) 0 (in_hand ns hx inside ext d hd)) ∙ al.1 (plain y) d g)
 
       -- so the dummies fit
       fit_each : (ys : List (List ℕ)) → ((y : List ℕ) → has_name y ys ≡ true → has_name y vs ≡ true) → dummies_fit N unit there ys (by_names n' t.store (plains ys)) ≡ true

@@ -18,7 +18,6 @@ use Rattle.adj_kernel.specs.Apart.{EachCall', EachCall}
 use Rattle.adj_kernel.specs.Kernel.{named, names_in, names_in_all, names_in_test, names_in_mark, names_in_act, names_in_code, declared_names, names_of, EachUnit}
 use Rattle.adj_kernel.specs.WrittenTheorem.{CallsUnits}
 use Rattle.adj_kernel.specs.Stepped.{marked_in, marked_in_act, once_each, variables_of, used_among, step_dummies, as_actuals, step_declarations, wanted_step, step_names, step_name, cut_act, cut, step_units_in_act, step_units_in, stepped_unit, stepped_from, names_of_source, stepped_program, kernel_of}
-use Rattle.adj_kernel.proofs.Faultless.{same_has}
 use Rattle.adj_kernel.proofs.FreshWritten.{name-append, fresh-name, digits_chars}
 use Rattle.adj_kernel.proofs.WrittenKernels.{kernel_written}
 use Rattle.adj_kernel.proofs.StepNames.{is_used}
@@ -98,7 +97,7 @@ step_unreserved taken base k = none_of (step_name taken base k) reserved (step_u
 -- nor one of the runtime
 pub step_not_runtime : (taken : List (List ℕ)) (base : List ℕ) (k : ℕ) → is_runtime (step_name taken base k) ≡ false
 unfolding has_underscore any_underscore
-step_not_runtime taken base k = same_has (step_name taken base k) runtime_names ∙ none_of (step_name taken base k) runtime_names (step_underscore taken base k) refl
+step_not_runtime taken base k = none_of (step_name taken base k) runtime_names (step_underscore taken base k) refl
 
 -- and is a name
 step_named : (taken : List (List ℕ)) (base : List ℕ) (k : ℕ) → IsName base → IsName (step_name taken base k)

@@ -1,8 +1,9 @@
 -- The kernel of a program: the steps from targets to calls. (The bodies of marked loops become units of their own before these steps.)
-use Rattle.std.specs.Prelude.{◌≡◌, ℕ, zero, suc, List, [], ◌∷◌, ◌++◌, map, Bool, false, Some, codes}
+use Rattle.std.specs.Prelude.{◌≡◌, ℕ, zero, suc, List, [], ◌∷◌, ◌++◌, map, Bool, Some, codes}
 use Rattle.adj_tree.specs.Code.{Var, plain, shadow, helper, Term, lit, var, elem, neg, bin, pow, power_of, abs, Terms, none, more, Test, compare, negation, conjunction, disjunction, Runtime, push_word, pop_word, push_array, pop_array, push_control, pop_control, zero_array, begin_reversal, count_actions, give_action, end_reversal, Mark, unmarked, with_count, count_from, Act, assign, choose, loop, during, call, runtime, Code, stop, step, Declaration, Procedure}
 use Rattle.adj_meaning.specs.Written.{find_unit, handed_back}
-use Rattle.adj_transpose.specs.Fresh.{has_name, digits, fresh, reserved}
+pub use Rattle.adj_meaning.specs.Apart.{is_named}
+use Rattle.adj_transpose.specs.Fresh.{digits, fresh, reserved}
 use Rattle.adj_kernel.specs.Lowered.{lowered, locals_of}
 use Rattle.adj_kernel.specs.Apart.{EachCall}
 use Rattle.adj_kernel.specs.Calls.{AreHandedApart, ArraysStandOnce, ScalarsToScalars}
@@ -77,12 +78,6 @@ declared_names (d ∷ ds) = d.name ∷ declared_names ds
 -- the names of a unit's variables: dummies, declared ones, and all others by where they first appear (a name may stand more than once)
 abbrev pub names_of : Procedure → List (List ℕ)
 names_of u = u.dummies ++ (declared_names u.declarations ++ names_in_code u.body)
-
--- whether the variable is one of the text with one of these names
-abbrev pub is_named : List (List ℕ) → Var → Bool
-is_named xs (plain x) = has_name x xs
-is_named xs (shadow x) = false
-is_named xs (helper r k) = false
 
 -- whether it is one of the unit
 abbrev pub is_of : Procedure → Var → Bool

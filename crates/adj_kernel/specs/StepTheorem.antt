@@ -6,10 +6,11 @@ use Rattle.adj_meaning.specs.Store.{Store}
 use Rattle.adj_meaning.specs.Numbers.{Numbers}
 use Rattle.adj_meaning.specs.Written.{find_unit, writes, handed_back}
 use Rattle.adj_meaning.specs.Units.{declared, extents_of, shape_of, shape_fits}
+use Rattle.adj_meaning.specs.Read.{names_extent}
 use Rattle.adj_transpose.specs.Fresh.{has_name}
 use Rattle.adj_kernel.specs.Apart.{EachCall}
 use Rattle.adj_kernel.specs.Kernel.{names_of, PlainCode, EachUnit, IsFit}
-use Rattle.adj_kernel.specs.Stepped.{marked_in, marked_in_act, names_extent, step_name, step_unit, cut}
+use Rattle.adj_kernel.specs.Stepped.{marked_in, marked_in_act, step_name, step_unit, cut}
 
 -- the events of marked loops alone
 abbrev pub marked_of : List Event → List Event

@@ -1,8 +1,9 @@
 -- The first step to the kernel: the body of each marked loop becomes a unit of its own, the step unit. (docs/KERNEL.md)
 use Rattle.std.specs.Prelude.{ℕ, zero, suc, ◌+◌, List, [], ◌∷◌, ◌++◌, map, flat_map, Bool, false, ◌||◌, if◌then◌else◌, codes}
-use Rattle.adj_tree.specs.Code.{Var, plain, name_eq, var, Terms, none, more, unmarked, with_count, count_from, Act, assign, choose, loop, during, call, runtime, Code, stop, step, Extent, fixed, given, Declaration, Procedure}
+use Rattle.adj_tree.specs.Code.{Var, plain, var, Terms, none, more, unmarked, with_count, count_from, Act, assign, choose, loop, during, call, runtime, Code, stop, step, Declaration, Procedure}
 use Rattle.adj_meaning.specs.Append.{one}
 use Rattle.adj_meaning.specs.Units.{declared}
+use Rattle.adj_meaning.specs.Read.{names_extent}
 use Rattle.adj_transpose.specs.Fresh.{has_name, digits, fresh}
 use Rattle.adj_kernel.specs.Kernel.{named, names_in_code, names_of, unit_name, lowered_program}
 
@@ -33,12 +34,6 @@ once_each before (x ∷ xs) = if has_name x before then once_each before xs else
 -- the variables of a unit in order: dummies, declared ones, and the others by where they first appear
 abbrev pub variables_of : Procedure → List (List ℕ)
 variables_of u = once_each [] (names_of u)
-
--- whether the name is among extents
-abbrev pub names_extent : List ℕ → List Extent → Bool
-names_extent x [] = false
-names_extent x (fixed z ∷ es) = names_extent x es
-names_extent x (given y ∷ es) = name_eq x y || names_extent x es
 
 -- whether it is an extent of one of some variables
 abbrev pub is_extent_of : List Declaration → List ℕ → List (List ℕ) → Bool

@@ -5,10 +5,11 @@ use Rattle.adj_tree.specs.Code.{plain, name_eq, var, Term, Terms, none, more, Ex
 use Rattle.adj_tree.specs.Listed.{terms_onto}
 use Rattle.adj_tree.proofs.Names.{name_refl, name_same}
 use Rattle.adj_meaning.specs.Units.{declared}
+use Rattle.adj_meaning.specs.Read.{names_extent}
 use Rattle.adj_transpose.specs.Fresh.{has_name}
 use Rattle.adj_transpose.specs.Program.{declaration}
 use Rattle.adj_transpose.proofs.Variables.{or_assoc, or_right, name_comm}
-use Rattle.adj_kernel.specs.Stepped.{names_extent, is_extent_of, used_among, as_actuals, step_declarations}
+use Rattle.adj_kernel.specs.Stepped.{is_extent_of, used_among, as_actuals, step_declarations}
 use Rattle.adj_sets.specs.Sets.{with_added, all_added}
 use Rattle.adj_sets.proofs.NameSets.{has-behind, with_added_is}
 use Rattle.adj_naming.proofs.Added.{once_same}

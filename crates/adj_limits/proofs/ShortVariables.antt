@@ -13,7 +13,7 @@ use Rattle.adj_names.specs.NameFaults.{is_bad_extent, has_bad_extents, bad_exten
 use Rattle.adj_names.specs.CallFaults.{faults_of_call}
 use Rattle.adj_names.proofs.Lists.{names_at}
 use Rattle.adj_transpose.specs.Fresh.{has_name}
-use Rattle.adj_reverse.proofs.Variables.{same_has, variables_stand, dummy_among}
+use Rattle.adj_reverse.proofs.Variables.{variables_stand, dummy_among}
 use Rattle.adj_kernel.proofs.Faultless as faults
 use Rattle.adj_checked.proofs.Lists.{Each, each_front, each_behind, each_append, none_each, none_if}
 use Rattle.adj_checked.proofs.Statements.{CallHasNone, call_of_unit}
@@ -92,7 +92,7 @@ module _ (n : ℕ) where
 
     module _ (u : Procedure) (known : (x : List ℕ) → has_name x (variables u) ≡ true → length x ≤ n) where
       dummy_short : (x : List ℕ) → is_dummy u x ≡ true → length x ≤ n
-      dummy_short x h = known x (dummy_among u x (sym (same_has x u.dummies) ∙ h))
+      dummy_short x h = known x (dummy_among u x h)
 
       extents_short : (es : List Extent) → list_any (is_bad_extent u) es ≡ false → faults.Each (ExtentFine n) es
       extents_short [] h = tt

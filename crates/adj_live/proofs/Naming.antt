@@ -3,7 +3,7 @@ use Rattle.std.proofs.Common.{◌≡◌, ℕ, ◌+◌, ◌<◌, ◌≤◌, Bool,
 use Rattle.std.specs.Prelude.{◌||◌}
 use Rattle.std.proofs.lemmas.List.{drop_more, drop_all}
 use Rattle.adj_tree.specs.Code.{Extent, fixed, given, Declaration}
-use Rattle.adj_meaning.specs.Read.{is_among, is_extent}
+use Rattle.adj_meaning.specs.Read.{names_extent, is_extent}
 use Rattle.adj_live.specs.Extents.{is_named}
 
 pub or_none : (b : Bool) → b ≡ (b || false)
@@ -15,7 +15,7 @@ or_assoc true b c = refl
 or_assoc false b c = refl
 
 -- the first extent, and the others
-among_first : (x : List ℕ) (e : Extent) (es : List Extent) → (is_named x e || is_among x es) ≡ is_among x (e ∷ es)
+among_first : (x : List ℕ) (e : Extent) (es : List Extent) → (is_named x e || names_extent x es) ≡ names_extent x (e ∷ es)
 among_first x (fixed z) es = refl
 among_first x (given y) es = refl
 
@@ -31,14 +31,14 @@ some_more view first all step xs i x had has lt is e =
 some_end : {X Y : Type 0} (view : X → Y) (all : List Y → Bool) → all [] ≡ false → (xs : List X) (i : ℕ) (has whole : Bool) → length xs ≤ i → (has || all (map view (drop i xs))) ≡ whole → has ≡ whole
 some_end view all none xs i has whole past e = or_none has ∙ ap (λ b. has || b) (sym none ∙ ap (λ z. all (map view z)) (sym (drop_all i xs past))) ∙ e
 
-pub extents_more : {X : Type 0} (view : X → Extent) (n : List ℕ) (xs : List X) (i : ℕ) (x : X) (had has : Bool) → i < length xs → x ≡ get_or xs i x → has ≡ (had || is_named n (view x)) → (has || is_among n (map view (drop (i + 1) xs))) ≡ (had || is_among n (map view (drop i xs)))
-extents_more view n xs i x had has lt is e = some_more view (is_named n) (is_among n) (among_first n) xs i x had has lt is e
+pub extents_more : {X : Type 0} (view : X → Extent) (n : List ℕ) (xs : List X) (i : ℕ) (x : X) (had has : Bool) → i < length xs → x ≡ get_or xs i x → has ≡ (had || is_named n (view x)) → (has || names_extent n (map view (drop (i + 1) xs))) ≡ (had || names_extent n (map view (drop i xs)))
+extents_more view n xs i x had has lt is e = some_more view (is_named n) (names_extent n) (among_first n) xs i x had has lt is e
 
-pub extents_end : {X : Type 0} (view : X → Extent) (n : List ℕ) (xs : List X) (i : ℕ) (has whole : Bool) → length xs ≤ i → (has || is_among n (map view (drop i xs))) ≡ whole → has ≡ whole
-extents_end view n xs i has whole past e = some_end view (is_among n) refl xs i has whole past e
+pub extents_end : {X : Type 0} (view : X → Extent) (n : List ℕ) (xs : List X) (i : ℕ) (has whole : Bool) → length xs ≤ i → (has || names_extent n (map view (drop i xs))) ≡ whole → has ≡ whole
+extents_end view n xs i has whole past e = some_end view (names_extent n) refl xs i has whole past e
 
-pub declared_more : {X : Type 0} (view : X → Declaration) (n : List ℕ) (xs : List X) (i : ℕ) (x : X) (had has : Bool) → i < length xs → x ≡ get_or xs i x → has ≡ (had || is_among n (view x).extents) → (has || is_extent n (map view (drop (i + 1) xs))) ≡ (had || is_extent n (map view (drop i xs)))
-declared_more view n xs i x had has lt is e = some_more view (λ d. is_among n d.extents) (is_extent n) (λ q qs. refl) xs i x had has lt is e
+pub declared_more : {X : Type 0} (view : X → Declaration) (n : List ℕ) (xs : List X) (i : ℕ) (x : X) (had has : Bool) → i < length xs → x ≡ get_or xs i x → has ≡ (had || names_extent n (view x).extents) → (has || is_extent n (map view (drop (i + 1) xs))) ≡ (had || is_extent n (map view (drop i xs)))
+declared_more view n xs i x had has lt is e = some_more view (λ d. names_extent n d.extents) (is_extent n) (λ q qs. refl) xs i x had has lt is e
 
 pub declared_end : {X : Type 0} (view : X → Declaration) (n : List ℕ) (xs : List X) (i : ℕ) (has whole : Bool) → length xs ≤ i → (has || is_extent n (map view (drop i xs))) ≡ whole → has ≡ whole
 declared_end view n xs i has whole past e = some_end view (is_extent n) refl xs i has whole past e

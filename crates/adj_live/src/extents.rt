@@ -2,7 +2,7 @@
 
 ghost use Rattle.std.specs.Prelude.{◌≡◌, ◌||◌, ℕ, List, is_some, map, IfOk, OnOk};
 ghost use Rattle.adj_tree.specs.View.{extent_of, declaration_of};
-ghost use Rattle.adj_meaning.specs.Read.{is_among, is_extent};
+ghost use Rattle.adj_meaning.specs.Read.{names_extent, is_extent};
 ghost use Rattle.adj_writes.specs.Table.{value_of};
 ghost use Rattle.adj_live.specs.Extents.{is_named};
 
@@ -25,7 +25,7 @@ fn add_name<'a>(names: &mut Numbers<'a>, extent: &'a Extent) -> Result<(), Memor
 
 // Adds the names among the extents of an array.
 fn add_names<'a>(names: &mut Numbers<'a>, extents: &'a [Extent]) -> Result<(), Memory>
-    ensures added { OnOk result ((x : List ℕ) → is_some (value_of x names.new) ≡ (is_some (value_of x names.old) || is_among x (map extent_of extents.now))) }
+    ensures added { OnOk result ((x : List ℕ) → is_some (value_of x names.new) ≡ (is_some (value_of x names.old) || names_extent x (map extent_of extents.now))) }
 {
     for extent in extents {
         add_name(names, extent)?;

@@ -1,9 +1,17 @@
--- When two variables are the same.
-use Rattle.std.proofs.Common.{◌≡◌, ℕ, zero, suc, true, refl, sym, ap, ◌∙◌}
+-- When two variables or names are the same.
+use Rattle.std.proofs.Common.{◌≡◌, ℕ, zero, suc, Bool, true, false, List, refl, sym, ap, ◌∙◌}
 use Rattle.std.specs.Prelude.{◌==◌}
-use Rattle.adj_tree.specs.Code.{Role, work, temp, control, first, stride, count, turn, entry, entries, kind, lower, upper, slots, role_code, Var, plain, shadow, helper, var_eq}
+use Rattle.adj_tree.specs.Code.{Role, work, temp, control, first, stride, count, turn, entry, entries, kind, lower, upper, slots, role_code, Var, plain, shadow, helper, name_eq, var_eq}
 use Rattle.adj_meaning.proofs.Booleans.{and_true}
 use Rattle.adj_tree.proofs.Names.{nat_same, nat_refl, name_refl, name_same}
+
+-- names that differ do so in either order
+pub name_comm : (x y : List ℕ) → name_eq x y ≡ false → name_eq y x ≡ false
+name_comm x y h = go (name_eq y x) refl
+  where
+    go : (b : Bool) → name_eq y x ≡ b → b ≡ false
+    go true e = let p : name_eq x y ≡ true = ap (λ z. name_eq z y) (sym (name_same y x e)) ∙ name_refl y in sym p ∙ h
+    go false e = refl
 
 -- each variable compares equal to itself
 pub var_refl : (x : Var) → var_eq x x ≡ true

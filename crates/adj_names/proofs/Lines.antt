@@ -7,7 +7,7 @@ use Rattle.adj_tree.specs.Code.{Var, plain, shadow, helper, var_eq, name_eq, Ter
 use Rattle.adj_tree.specs.Lines.{unlined_act, unlined_code, unlined_declaration, unlined_procedure, unlined}
 use Rattle.adj_tree.specs.declared.fault.Refusal.{Refusal}
 use Rattle.adj_meaning.specs.LeastSet.{Dummies}
-use Rattle.adj_meaning.specs.Read.{is_extent, is_among}
+use Rattle.adj_meaning.specs.Read.{is_extent, names_extent}
 use Rattle.adj_meaning.specs.Units.{declared}
 use Rattle.adj_meaning.specs.Written.{find_unit, handed_back}
 use Rattle.adj_meaning.proofs.UnlinedUnits.{unlined_found, find_unlined, handed_unlined}
@@ -139,7 +139,7 @@ names_alike (d ∷ ds) = ap (λ z. d.name ∷ z) (names_alike ds)
 
 extent_alike : (x : Name) (ds : List Declaration) → is_extent x (map unlined_declaration ds) ≡ is_extent x ds
 extent_alike x [] = refl
-extent_alike x (d ∷ ds) = ap (λ z. is_among x d.extents || z) (extent_alike x ds)
+extent_alike x (d ∷ ds) = ap (λ z. names_extent x d.extents || z) (extent_alike x ds)
 
 module _ (u : Procedure) where
   rank_alike : (x : Name) → rank (unlined_procedure u) x ≡ rank u x

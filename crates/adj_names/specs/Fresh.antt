@@ -1,11 +1,6 @@
 -- Fresh names: names that nothing else has.
-use Rattle.std.specs.Prelude.{ℕ, zero, suc, ◌+◌, ◌/◌, ◌%◌, nat_lt, List, [], ◌∷◌, ◌++◌, length, Bool, false, ◌||◌, if◌then◌else◌, codes}
-use Rattle.adj_tree.specs.Code.{name_eq}
-
--- whether the name stands in the list
-abbrev pub has_name : List ℕ → List (List ℕ) → Bool
-has_name x [] = false
-has_name x (y ∷ ys) = name_eq x y || has_name x ys
+use Rattle.std.specs.Prelude.{ℕ, zero, suc, ◌+◌, ◌/◌, ◌%◌, nat_lt, List, [], ◌∷◌, ◌++◌, length, if◌then◌else◌, codes}
+pub use Rattle.adj_meaning.specs.Apart.{has_name}
 
 -- the digits of n, of which there are fewer than `most`, before some others
 abbrev pub digits_before : ℕ → ℕ → List ℕ → List ℕ

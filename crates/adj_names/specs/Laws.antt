@@ -3,6 +3,7 @@ use Rattle.std.specs.Prelude.{◌≡◌, ◌⊎◌, ℕ, List, [], ◌∷◌, ma
 use Rattle.adj_tree.specs.Code.{Procedure}
 use Rattle.adj_tree.specs.Lines.{unlined}
 use Rattle.adj_tree.specs.declared.fault.Refusal.{Refusal}
+pub use Rattle.adj_meaning.specs.Apart.{AreApart}
 use Rattle.adj_names.specs.Fresh.{has_name, candidate, fresh}
 use Rattle.adj_names.specs.Variables.{Name, places, variables}
 use Rattle.adj_names.specs.Fault.{Rules, is_before, first_of}
@@ -48,11 +49,6 @@ abbrev pub SoundByLines : Type 0
 SoundByLines = (m : Rules) (ps qs : List Procedure) → unlined ps ≡ unlined qs → IsSound m ps → IsSound m qs
 
 -- ---- variables
-
--- no name stands twice in the list
-abbrev pub AreApart : List Name → Type 0
-AreApart [] = Unit {0}
-AreApart (x ∷ xs) = (has_name x xs ≡ false) × AreApart xs
 
 -- the variables of a unit are apart
 abbrev pub VariablesApart : Type 0

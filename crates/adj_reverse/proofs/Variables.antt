@@ -4,8 +4,6 @@ use Rattle.std.specs.Prelude.{◌||◌, not, filter}
 use Rattle.adj_tree.specs.Code.{plain, name_eq, Declaration, Procedure}
 use Rattle.adj_tree.proofs.Names.{name_same}
 use Rattle.adj_meaning.specs.Units.{declared}
-use Rattle.adj_names.specs.Fresh as fresh
-use Rattle.adj_names.specs.Laws as laws
 use Rattle.adj_names.specs.Statements.{At}
 use Rattle.adj_names.specs.Variables.{dummy_places, declared_places, statement_places, places, first_places, variables}
 use Rattle.adj_names.proofs.Lists.{names_at, first_places-apart, first_places-stand}
@@ -13,23 +11,13 @@ use Rattle.adj_transpose.specs.Fresh.{has_name}
 use Rattle.adj_transpose.specs.Naming.{AreApart}
 use Rattle.adj_transpose.proofs.Variables.{or_assoc, or_false, or_left, or_right, name_comm}
 
--- ---- both crates' lookups are the same
-
-pub same_has : (x : List ℕ) (xs : List (List ℕ)) → fresh.has_name x xs ≡ has_name x xs
-same_has x [] = refl
-same_has x (y ∷ ys) = ap (λ b. name_eq x y || b) (same_has x ys)
-
-same_apart : (xs : List (List ℕ)) → laws.AreApart xs → AreApart xs
-same_apart [] h = tt
-same_apart (x ∷ xs) h = (sym (same_has x xs) ∙ h.0, same_apart xs h.1)
-
 -- ---- which names they are
 
 pub variables_apart : (u : Procedure) → AreApart (variables u)
-variables_apart u = same_apart (variables u) (first_places-apart (places u))
+variables_apart u = first_places-apart (places u)
 
 pub variables_stand : (u : Procedure) (x : List ℕ) → has_name x (variables u) ≡ has_name x (names_at (places u))
-variables_stand u x = sym (same_has x (variables u)) ∙ (first_places-stand x (places u) ∙ same_has x (names_at (places u)))
+variables_stand u x = first_places-stand x (places u)
 
 at-append : (x : List ℕ) (ps qs : List (At (List ℕ))) → has_name x (names_at (ps ++ qs)) ≡ (has_name x (names_at ps) || has_name x (names_at qs))
 at-append x [] qs = refl

@@ -4,12 +4,13 @@ use Rattle.std.specs.Prelude.{◌||◌, ◌&&◌}
 use Rattle.std.proofs.lemmas.List.{drop_more}
 use Rattle.adj_tree.specs.Code.{Var, plain, shadow, helper, var_eq, Term, lit, var, elem, neg, bin, pow, power_of, abs, Terms, none, more, Procedure}
 use Rattle.adj_meaning.proofs.Variables.{var_refl, var_same}
+use Rattle.adj_meaning.specs.Apart.{is_named}
 use Rattle.adj_meaning.specs.Written.{is_place_of}
 use Rattle.adj_names.specs.Fresh.{has_name}
 use Rattle.adj_names.specs.Variables.{Name}
 use Rattle.adj_names.specs.WriteFaults.{named_by, is_named_by, name_one, is_whole_array, clash, clashes, have_clash, hands_back_values}
 use Rattle.adj_sets.specs.Sets.{with_name}
-use Rattle.adj_symbols.specs.Sharing.{Named, and_named, is_met, Tests, holds, tests_of, and_actual, meets_one, meets, some_meets}
+use Rattle.adj_symbols.specs.Sharing.{Named, and_named, is_met, Tests, tests_of, and_actual, meets_one, meets, some_meets}
 use Rattle.adj_symbols.proofs.Repeats.{with_name-has}
 
 -- a test that is true in both directions
@@ -151,20 +152,20 @@ module _ (u : Procedure) where
       ap₂ (λ a b. a || b) (meets_none w e (named_by e)) (some_more no_tests w e ws es ∙ ap (λ b. clashes u w e ws es || b) (some_none ws es))
 
   -- no names are no tests
-  holds_none : holds [] ≡ (λ x. false)
-  holds_none i x = go x i
+  named_none : is_named [] ≡ (λ x. false)
+  named_none i x = go x i
     where
-      go : (y : Var) → holds [] y ≡ false
+      go : (y : Var) → is_named [] y ≡ false
       go (plain y) = refl
       go (shadow y) = refl
       go (helper r k) = refl
 
   pub at_first : (n : Named) (ws : List Bool) (es : Terms) → n ≡ record { seen = []; written = []; arrays = [] } → some_meets u (tests_of n) ws es ≡ have_clash u ws es
-  at_first n ws es h = ap (λ z. some_meets u (tests_of z) ws es) h ∙ ap (λ p. some_meets u (record { seen = p; written = p; arrays = p }) ws es) holds_none ∙ some_none ws es
+  at_first n ws es h = ap (λ z. some_meets u (tests_of z) ws es) h ∙ ap (λ p. some_meets u (record { seen = p; written = p; arrays = p }) ws es) named_none ∙ some_none ws es
 
   -- names with one more
-  holds_more : (xs : List Name) (x : Name) (e : Term) → named_by e ≡ Some (plain x) → holds (with_name xs x) ≡ (λ y. is_place_of y e || holds xs y)
-  holds_more xs x e h i y = go y i
+  named_more : (xs : List Name) (x : Name) (e : Term) → named_by e ≡ Some (plain x) → is_named (with_name xs x) ≡ (λ y. is_place_of y e || is_named xs y)
+  named_more xs x e h i y = go y i
     where
       place : (y : Var) → var_eq y (plain x) ≡ is_place_of y e
       place y = by_place e h
@@ -179,18 +180,18 @@ module _ (u : Procedure) where
           by_place (power_of a b) k = absurd cc
           by_place (abs a) k = absurd cc
 
-      go : (y : Var) → holds (with_name xs x) y ≡ (is_place_of y e || holds xs y)
+      go : (y : Var) → is_named (with_name xs x) y ≡ (is_place_of y e || is_named xs y)
       go (plain z) = with_name-has z x xs ∙ ap (λ b. b || has_name z xs) (place (plain z))
       go (shadow z) = ap (λ b. b || false) (place (shadow z))
       go (helper r k) = ap (λ b. b || false) (place (helper r k))
 
-  holds_if : (b : Bool) (xs : List Name) (x : Name) (e : Term) → named_by e ≡ Some (plain x) → holds (if b then with_name xs x else xs) ≡ (λ y. (b && is_place_of y e) || holds xs y)
-  holds_if true xs x e h = holds_more xs x e h
-  holds_if false xs x e h = refl
+  named_if : (b : Bool) (xs : List Name) (x : Name) (e : Term) → named_by e ≡ Some (plain x) → is_named (if b then with_name xs x else xs) ≡ (λ y. (b && is_place_of y e) || is_named xs y)
+  named_if true xs x e h = named_more xs x e h
+  named_if false xs x e h = refl
 
   -- one more actual that names a variable
   pub tests_more : (n : Named) (x : Name) (w : Bool) (e : Term) → named_by e ≡ Some (plain x) → tests_of (and_named n x w (is_whole_array u e)) ≡ and_actual u (tests_of n) w e
-  tests_more n x w e h i = record { seen = holds_more n.seen x e h i; written = holds_if w n.written x e h i; arrays = holds_if (is_whole_array u e) n.arrays x e h i }
+  tests_more n x w e h i = record { seen = named_more n.seen x e h i; written = named_if w n.written x e h i; arrays = named_if (is_whole_array u e) n.arrays x e h i }
 
   -- and one that names none
   place_none : (e : Term) → named_by e ≡ None → (y : Var) → false ≡ is_place_of y e
@@ -207,11 +208,11 @@ module _ (u : Procedure) where
   tests_same n w e h =
       (λ i. record { seen = λ y. both n.seen y i; written = λ y. part w n.written y i; arrays = λ y. part (is_whole_array u e) n.arrays y i })
     where
-      both : (xs : List Name) (y : Var) → holds xs y ≡ (is_place_of y e || holds xs y)
-      both xs y = ap (λ b. b || holds xs y) (place_none e h y)
+      both : (xs : List Name) (y : Var) → is_named xs y ≡ (is_place_of y e || is_named xs y)
+      both xs y = ap (λ b. b || is_named xs y) (place_none e h y)
 
-      part : (b : Bool) (xs : List Name) (y : Var) → holds xs y ≡ ((b && is_place_of y e) || holds xs y)
-      part b xs y = ap (λ c. c || holds xs y) (sym (and_false b) ∙ ap (λ c. b && c) (place_none e h y))
+      part : (b : Bool) (xs : List Name) (y : Var) → is_named xs y ≡ ((b && is_place_of y e) || is_named xs y)
+      part b xs y = ap (λ c. c || is_named xs y) (sym (and_false b) ∙ ap (λ c. b && c) (place_none e h y))
 
   -- whether an actual clashes, by the variable that it names
   pub met : (n : Named) (x : Name) (w : Bool) (e : Term) → named_by e ≡ Some (plain x) → is_met n x w (is_whole_array u e) ≡ meets u (tests_of n) w e

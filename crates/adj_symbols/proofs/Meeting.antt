@@ -7,7 +7,7 @@ use Rattle.std.proofs.lemmas.List.{map-append}
 use Rattle.adj_tree.specs.Code.{plain, name_eq, Act, Extent, fixed, given, Declaration, Procedure}
 use Rattle.adj_tree.proofs.Names.{name_refl, name_same}
 use Rattle.adj_meaning.specs.LeastSet.{Dummies}
-use Rattle.adj_meaning.specs.Read.{is_among, is_extent}
+use Rattle.adj_meaning.specs.Read.{names_extent, is_extent}
 use Rattle.adj_meaning.proofs.Booleans.{and_true, or_first, or_second}
 use Rattle.adj_names.specs.Fresh.{has_name}
 use Rattle.adj_names.specs.NameFaults.{extent_names}
@@ -59,7 +59,7 @@ met_extents handed u chosen a known = both_ways (writes_one handed chosen a) (li
 
 -- ---- extents by names
 
-among_names : (x : Name) (es : List Extent) → is_among x es ≡ has_name x (extent_names es)
+among_names : (x : Name) (es : List Extent) → names_extent x es ≡ has_name x (extent_names es)
 among_names x [] = refl
 among_names x (fixed z ∷ es) = among_names x es
 among_names x (given y ∷ es) = ap (λ b. name_eq x y || b) (among_names x es)

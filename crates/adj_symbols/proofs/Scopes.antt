@@ -6,20 +6,10 @@ use Rattle.std.specs.Option.{option_map}
 use Rattle.std.proofs.lemmas.Bool.Decides.{nat_tests}
 use Rattle.std.proofs.lemmas.Option.{slice_get_past, slice_get_read, slice_get-map}
 use Rattle.adj_tree.specs.Code.{name_eq, Procedure}
-use Rattle.adj_tree.proofs.Names.{name_same, name_refl}
 use Rattle.adj_meaning.specs.Written.{find_unit}
 use Rattle.adj_names.specs.Variables.{Name}
 use Rattle.adj_writes.specs.Graph.{number_from}
-
--- two names are compared in either order
-pub name_comm : (x y : Name) → name_eq x y ≡ name_eq y x
-name_comm x y = go (name_eq x y) (name_eq y x) refl refl
-  where
-    go : (a b : Bool) → name_eq x y ≡ a → name_eq y x ≡ b → a ≡ b
-    go true true e d = refl
-    go false false e d = refl
-    go true false e d = let p : name_eq y x ≡ true = ap (λ z. name_eq y z) (name_same x y e) ∙ name_refl y in sym p ∙ d
-    go false true e d = let p : name_eq x y ≡ true = ap (λ z. name_eq x z) (name_same y x d) ∙ name_refl x in sym e ∙ p
+pub use Rattle.adj_writes.proofs.Rows.{name_comm}
 
 -- a name has a number where it has a unit
 pub number_has : (k : ℕ) (ps : List Procedure) (x : Name) → is_some (number_from k ps x) ≡ is_some (find_unit ps x)

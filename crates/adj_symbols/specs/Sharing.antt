@@ -1,6 +1,7 @@
 -- Which variables the actuals of a CALL name, one after the other.
 use Rattle.std.specs.Prelude.{List, [], ◌∷◌, Bool, false, ◌&&◌, ◌||◌, Option, Some, None, if◌then◌else◌}
-use Rattle.adj_tree.specs.Code.{Var, plain, shadow, helper, Term, Terms, none, more, Procedure}
+use Rattle.adj_tree.specs.Code.{Var, Term, Terms, none, more, Procedure}
+use Rattle.adj_meaning.specs.Apart.{is_named}
 use Rattle.adj_meaning.specs.Written.{is_place_of}
 use Rattle.adj_names.specs.Fresh.{has_name}
 use Rattle.adj_names.specs.Variables.{Name}
@@ -26,13 +27,8 @@ pub record Tests : Type 0 where
   pub written : Var → Bool
   pub arrays : Var → Bool
 
-abbrev pub holds : List Name → Var → Bool
-holds xs (plain x) = has_name x xs
-holds xs (shadow x) = false
-holds xs (helper r k) = false
-
 abbrev pub tests_of : Named → Tests
-tests_of n = record { seen = holds n.seen; written = holds n.written; arrays = holds n.arrays }
+tests_of n = record { seen = is_named n.seen; written = is_named n.written; arrays = is_named n.arrays }
 
 -- one more actual, of which it is said whether its dummy is written
 abbrev pub and_actual : Procedure → Tests → Bool → Term → Tests

@@ -2,8 +2,8 @@
 use Rattle.std.proofs.Common.{◌≡◌, ℕ, Bool, true, false, List, refl, subst}
 use Rattle.std.specs.Prelude.{◌==◌, ◌&&◌, ◌||◌}
 use Rattle.adj_tree.specs.Code.{Var, name_eq, var_eq}
-use Rattle.adj_tree.proofs.Names.{nat_same, name_refl, name_same}
-pub use Rattle.adj_meaning.proofs.Variables.{var_refl, var_same}
+use Rattle.adj_tree.proofs.Names.{nat_same, name_same}
+pub use Rattle.adj_meaning.proofs.Variables.{name_comm, var_refl, var_same}
 use Rattle.adj_transpose.specs.Fresh.{has_name}
 use Rattle.adj_transpose.specs.Pairs.{Key, key_eq}
 
@@ -34,9 +34,6 @@ not_true false h = refl
 
 pub var_comm : (v w : Var) → var_eq v w ≡ false → var_eq w v ≡ false
 var_comm v w h = not_true (var_eq w v) (λ e. let p : var_eq v w ≡ true = subst (λ z. var_eq z w ≡ true) (var_same w v e) (var_refl w) in cc)
-
-pub name_comm : (x y : List ℕ) → name_eq x y ≡ false → name_eq y x ≡ false
-name_comm x y h = not_true (name_eq y x) (λ e. let p : name_eq x y ≡ true = subst (λ z. name_eq z y ≡ true) (name_same y x e) (name_refl y) in cc)
 
 -- a name that stands in a list differs from one that doesn't
 pub has_apart : (x y : List ℕ) (ys : List (List ℕ)) → has_name x ys ≡ true → has_name y ys ≡ false → name_eq x y ≡ false

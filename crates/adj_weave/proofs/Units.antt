@@ -2,6 +2,7 @@
 use Rattle.std.proofs.Common.{◌≡◌, ℕ, Bool, true, false, if◌then◌else◌, List, [], ◌∷◌, ◌++◌, map, refl, sym, ap, ◌∙◌}
 use Rattle.std.specs.Prelude.{◌||◌, ◌==◌, not, length, Option, Some}
 use Rattle.adj_tree.specs.Code.{Var, plain, shadow, helper, Code, Declaration, Procedure, var_eq, name_eq}
+use Rattle.adj_meaning.specs.Apart.{is_named}
 use Rattle.adj_meaning.specs.Rename.{rename}
 use Rattle.adj_meaning.specs.Written.{find_unit}
 use Rattle.adj_names.specs.NameFaults.{is_rank_for}
@@ -32,7 +33,6 @@ use Rattle.adj_emitted.proofs.AdjointNames.{body_holds}
 use Rattle.adj_naming.specs.declared.names.Names.{Names}
 use Rattle.adj_naming.specs.Sets.{has_variable, AreDifferent}
 use Rattle.adj_naming.specs.Table.{table_of, named_by}
-use Rattle.adj_emission.specs.Plans.{named_among}
 use Rattle.adj_weave.specs.Shared.{IsCheckedBySome, HaveShadows}
 use Rattle.adj_weave.proofs.Declared.{shadow_undeclared, helper_undeclared}
 use Rattle.adj_weave.proofs.Renamed.{code_same}
@@ -71,10 +71,10 @@ shadowed_apart a (x ∷ xs) h = go (a (plain x)) (shadowed_apart a xs h.1)
     go false ih = ih
 
 -- the variables that are known as arrays are those that the unit declares with extents
-pub arrays_are : (u : Procedure) (arrays : List (List ℕ)) → ((x : List ℕ) → has_name x arrays ≡ arrays_of u (plain x)) → named_among arrays ≡ arrays_of u
+pub arrays_are : (u : Procedure) (arrays : List (List ℕ)) → ((x : List ℕ) → has_name x arrays ≡ arrays_of u (plain x)) → is_named arrays ≡ arrays_of u
 arrays_are u arrays h = λ i v. same v i
   where
-    same : (v : Var) → named_among arrays v ≡ arrays_of u v
+    same : (v : Var) → is_named arrays v ≡ arrays_of u v
     same (plain x) = h x
     same (shadow x) = sym (ap (λ (l : List _). not (length l == 0)) (shadow_undeclared u.declarations x))
     same (helper r k) = sym (ap (λ (l : List _). not (length l == 0)) (helper_undeclared u.declarations r k))

@@ -3,7 +3,7 @@ use Rattle.std.proofs.Common.{◌≡◌, Bool, true, false, List, [], ◌∷◌,
 use Rattle.std.specs.Prelude.{◌||◌, ◌&&◌}
 use Rattle.std.specs.List.{flat_map, list_any}
 use Rattle.adj_tree.specs.Code.{Var, plain, shadow, helper, name_eq, var_eq, Term, lit, var, elem, neg, bin, pow, power_of, abs, Terms, none, more, Test, compare, negation, conjunction, disjunction, Runtime, push_word, pop_word, push_array, pop_array, push_control, pop_control, zero_array, begin_reversal, count_actions, give_action, end_reversal, Mark, unmarked, with_count, count_from, Extent, fixed, given, Declaration}
-use Rattle.adj_meaning.specs.Read.{reads_term, reads_terms, reads_test, reads_actual, reads_actuals, reads_runtime, reads_mark, is_among, is_extent}
+use Rattle.adj_meaning.specs.Read.{reads_term, reads_terms, reads_test, reads_actual, reads_actuals, reads_runtime, reads_mark, names_extent, is_extent}
 use Rattle.adj_meaning.specs.Written.{is_place_of, is_handed_back, runtime_writes}
 use Rattle.adj_names.specs.Fresh.{has_name}
 use Rattle.adj_names.specs.NameFaults.{extent_names}
@@ -159,7 +159,7 @@ module _ (x : Name) where
 
   -- ---- extents
 
-  among_name : (es : List Extent) → is_among x es ≡ has_name x (extent_names es)
+  among_name : (es : List Extent) → names_extent x es ≡ has_name x (extent_names es)
   among_name [] = refl
   among_name (fixed z ∷ es) = among_name es
   among_name (given y ∷ es) = ap (λ b. name_eq x y || b) (among_name es)

@@ -11,7 +11,7 @@ use Rattle.adj_reach.specs.Edges.{flag}
 use Rattle.adj_writes.specs.Graph.{Unit', numbered, number_from, place_from, found_at, bits, row}
 
 -- two names are compared in either order
-name_comm : (x y : Name) → name_eq x y ≡ name_eq y x
+pub name_comm : (x y : Name) → name_eq x y ≡ name_eq y x
 name_comm x y = go (name_eq x y) (name_eq y x) refl refl
   where
     go : (a b : Bool) → name_eq x y ≡ a → name_eq y x ≡ b → a ≡ b

@@ -1,7 +1,7 @@
 //! Statements of an entry of scalars.
 
 ghost use Rattle.std.specs.Prelude.{◌≡◌, ◌<◌, ◌∷◌, List, ℕ, [], IfOk};
-ghost use Rattle.adj_meaning.specs.Agree.{AreApart};
+ghost use Rattle.adj_meaning.specs.Apart.{AreApart};
 ghost use Rattle.adj_frame.specs.Prepared.{IsTermBelow};
 ghost use Rattle.adj_frame.specs.Instructed.{task_in, steps_in, IsTaskBelow, AreStepsBelow};
 ghost use Rattle.adj_frame.specs.Linked.{IsTaskLinked, AreLinked};

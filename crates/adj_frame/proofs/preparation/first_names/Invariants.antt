@@ -1,6 +1,6 @@
 -- The dummies so far have the first numbers, and no other name has one.
 use Rattle.std.proofs.Common.{◌≡◌, ℕ, ◌<◌, [], length, get_or}
-use Rattle.adj_meaning.specs.Agree.{AreApart}
+use Rattle.adj_meaning.specs.Apart.{AreApart}
 use Rattle.adj_frame.proofs.preparation.first_names.Given as goal
 
 abbrev pub invariant-loop-dummy : goal.invariant-loop-dummy

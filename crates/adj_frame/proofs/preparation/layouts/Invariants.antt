@@ -1,7 +1,7 @@
 -- What is declared from the last declaration on has its layouts.
 use Rattle.std.proofs.Common.{map, drop, ◌≤◌, length}
 use Rattle.adj_tree.specs.View.{declaration_of}
-use Rattle.adj_meaning.specs.Agree.{AreApart}
+use Rattle.adj_meaning.specs.Apart.{AreApart}
 use Rattle.adj_frame.specs.Numbered.{Extends}
 use Rattle.adj_frame.specs.Declaring.{Declares}
 use Rattle.adj_frame.proofs.preparation.layouts.Given as goal

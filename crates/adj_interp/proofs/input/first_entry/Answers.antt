@@ -1,6 +1,6 @@
 use Rattle.std.proofs.Common.{◌≡◌, true, false, map, length, sym, ap, subst, ◌∙◌, arith, Vec, Global}
 use Rattle.adj_tree.specs.View.{procedure_of}
-use Rattle.adj_meaning.specs.Agree.{AreApart}
+use Rattle.adj_meaning.specs.Apart.{AreApart}
 use Rattle.std.specs.Prelude.{Err}
 use Rattle.adj_frame.specs.declared.entry.Unfit.TheVariants as unfit
 use Rattle.adj_frame.specs.Framed.{shapes_in, store_in}

@@ -4,7 +4,7 @@ use Rattle.adj_tree.specs.declared.unit.Program.{Program}
 use Rattle.adj_tree.specs.declared.unit.Decl.{Decl}
 use Rattle.adj_tree.specs.declared.unit.Unit.{Unit}
 use Rattle.adj_tree.specs.View.{code_of, procedure_of, procedures_of}
-use Rattle.adj_meaning.specs.Agree.{AreApart}
+use Rattle.adj_meaning.specs.Apart.{AreApart}
 use Rattle.adj_meaning.specs.LeastSet.{least_rows}
 use Rattle.adj_meaning.specs.Written.{write_rule, handed_back}
 use Rattle.adj_frame.specs.declared.routine.Routine.{Routine}

@@ -1,7 +1,7 @@
 use Rattle.std.proofs.Common.{◌∙◌}
 use Rattle.std.specs.Prelude.{is_some, ◌||◌, map}
 use Rattle.adj_tree.specs.View.{extent_of}
-use Rattle.adj_meaning.specs.Read.{is_among}
+use Rattle.adj_meaning.specs.Read.{names_extent}
 use Rattle.adj_writes.specs.Table.{value_of}
 use Rattle.adj_live.proofs.Naming.{extents_more, extents_end}
 use Rattle.adj_live.proofs.extents.add_names.Goals as goal
@@ -13,5 +13,5 @@ loop-extent-preserved c x =
 
 pub returns : goal.returns
 returns c = record {
-  added = λ x. extents_end extent_of x c.args.extents.now c.loop-extent.extent-index (is_some (value_of x c.loop-extent.names)) (is_some (value_of x c.args.names.now) || is_among x (map extent_of c.args.extents.now)) c.loop-extent-test.false (c.loop-extent.invariant x);
+  added = λ x. extents_end extent_of x c.args.extents.now c.loop-extent.extent-index (is_some (value_of x c.loop-extent.names)) (is_some (value_of x c.args.names.now) || names_extent x (map extent_of c.args.extents.now)) c.loop-extent-test.false (c.loop-extent.invariant x);
 }

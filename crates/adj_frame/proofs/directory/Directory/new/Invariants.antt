@@ -1,6 +1,6 @@
 -- The units so far have the first numbers, and no other name has one.
 use Rattle.std.proofs.Common.{◌≡◌, ℕ, ◌<◌, [], length, get_or}
-use Rattle.adj_meaning.specs.Agree.{AreApart}
+use Rattle.adj_meaning.specs.Apart.{AreApart}
 use Rattle.adj_frame.specs.Listed.{names_of}
 use Rattle.adj_frame.proofs.directory.Directory.new.Given as goal
 

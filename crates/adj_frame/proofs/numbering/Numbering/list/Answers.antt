@@ -1,6 +1,6 @@
 use Rattle.std.proofs.Common.{sym, ap, subst, ◌∙◌}
 use Rattle.std.proofs.lemmas.List.{take_all}
-use Rattle.adj_meaning.specs.Agree.{AreApart}
+use Rattle.adj_meaning.specs.Apart.{AreApart}
 use Rattle.adj_frame.proofs.Numberings.{names_of, distinct_apart}
 use Rattle.adj_frame.proofs.numbering.Numbering.list.Goals as goal
 

@@ -1,5 +1,5 @@
 use Rattle.std.proofs.Common.{◌+◌, ◌≤◌, [], length, get_or, sym, ap, ap₂, subst, ◌∙◌}
-use Rattle.adj_meaning.specs.Agree.{AreApart}
+use Rattle.adj_meaning.specs.Apart.{AreApart}
 use Rattle.adj_frame.proofs.Numberings.{names_of, with_name, place_in, place_named, added_named, placed, few_more, apart_with}
 use Rattle.adj_frame.proofs.numbering.Numbering.number.Goals as goal
 
