@@ -13,7 +13,7 @@ use crate::outline::Outline;
 use crate::scope::Scope;
 use crate::written::{Written, writes_one};
 use adj_sets::BorrowedNames;
-use adj_tree::{Act, Memory, Stmts};
+use adj_tree::{Act, Code, Memory, Stmts};
 use std::alloc::Global;
 
 // Adds a fault at each statement in a statement that may write a variable of an open DO.
@@ -62,7 +62,7 @@ fn add_list<'a>(
     let mut rest = list;
     while let Stmts::More(stmt, next) = rest {
         let is_hit = writes_one(alloc, scope, written, &stmt.act, opened)?;
-        first.add_if(is_hit, 11, stmt.line);
+        first.add_if(is_hit, Code::LoopVariable, stmt.line);
         add_inner(alloc, scope, written, &stmt.act, opened, first)?;
         rest = next;
     }
