@@ -4,7 +4,7 @@ ghost use Rattle.std.specs.Prelude.{◌≡◌, ◌<◌, ◌++◌, ℕ, List, IfO
 ghost use Rattle.adj_answer.specs.Answer.{limit_text, refused, usage};
 ghost use Rattle.adj_answer.specs.Views.{answer_of, status_of};
 
-use adj_tree::{Memory, Refusal};
+use adj_tree::{Code, Memory, Refusal};
 use itoa::Buffer;
 use std::alloc::Global;
 
@@ -80,7 +80,7 @@ pub fn refused(alloc: Global, refusal: Refusal) -> Result<Answer, Memory>
     let mut text = Vec::new(alloc);
     push_number(&mut text, b"REFUSED ", u128::from(refusal.code))?;
     push_number(&mut text, b" LINE ", u128::from(refusal.line))?;
-    if refusal.code == 21 {
+    if refusal.code == Code::Limit.number() {
         push_number(&mut text, b" LIMIT ", u128::from(refusal.number))?;
     }
     text.push(b'\n')?;

@@ -14,7 +14,7 @@ use crate::line::{
     push_folded, split_line, without_cr,
 };
 use adj_text::Mode;
-use adj_tree::{Fault, Mark};
+use adj_tree::{Code, Fault, Mark};
 use std::alloc::Global;
 
 /// A statement: its lines, joined.
@@ -69,7 +69,7 @@ impl Reader {
         ensures { Gives (λ _. pass_of self.new) result (with_directive (pass_of self.old) number (operand_of line.now)) }
     {
         let Some(mark) = operand_of(alloc, line)? else {
-            return Err(Fault::refused(20, number));
+            return Err(Fault::refused(Code::Directive, number));
         };
         self.flush()?;
         self.pending = Some(Directive { mark, line: number });
@@ -80,13 +80,13 @@ impl Reader {
         ensures { Gives (λ _. pass_of self.new) result (with_initial (limits_of mode) (pass_of self.old) number line.now (label_of line.now)) }
     {
         let Some(label) = label_of(line) else {
-            return Err(Fault::refused(1, number));
+            return Err(Fault::refused(Code::Columns, number));
         };
         if !matches!(column(line, 6), b' ' | b'0') {
-            return Err(Fault::refused(1, number));
+            return Err(Fault::refused(Code::Columns, number));
         }
         if !are_allowed(body(line)) {
-            return Err(Fault::refused(2, number));
+            return Err(Fault::refused(Code::Character, number));
         }
         let mut text = Vec::new(alloc);
         push_folded(&mut text, body(line))?;
@@ -111,10 +111,10 @@ impl Reader {
         ensures { Gives (λ _. pass_of self.new) result (with_continuation (limits_of mode) (pass_of self.old) number line.now (pass_of self.old).current) }
     {
         let Some(mut statement) = self.current.take() else {
-            return Err(Fault::refused(1, number));
+            return Err(Fault::refused(Code::Columns, number));
         };
         if !(matches!(column(line, 6), 33..=126) && are_allowed(body(line))) {
-            return Err(Fault::refused(2, number));
+            return Err(Fault::refused(Code::Character, number));
         }
         if !has_room(statement.room) {
             return Err(Fault::limited(u64::from(continuation_lines(mode).unwrap_or(0)), number));
@@ -132,14 +132,14 @@ impl Reader {
     {
         if is_directive(line) {
             match &self.pending {
-                Some(directive) => Err(Fault::refused(20, directive.line)),
+                Some(directive) => Err(Fault::refused(Code::Directive, directive.line)),
                 None => self.directive(alloc, number, line),
             }
         } else if is_comment(line) {
             Ok(())
         } else if is_continuation(line) {
             match &self.pending {
-                Some(directive) => Err(Fault::refused(20, directive.line)),
+                Some(directive) => Err(Fault::refused(Code::Directive, directive.line)),
                 None => self.continuation(mode, number, line),
             }
         } else {
@@ -153,7 +153,7 @@ impl Reader {
     {
         let mut reader = self;
         if let Some(directive) = &reader.pending {
-            return Err(Fault::refused(20, directive.line));
+            return Err(Fault::refused(Code::Directive, directive.line));
         }
         reader.flush()?;
         Ok(reader.done)

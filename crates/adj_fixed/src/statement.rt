@@ -11,7 +11,7 @@ use crate::class::{class_of, condition_end, inner, is_matched, kind_of, width_of
 use crate::lined::{Lined, lines_of};
 use crate::scan::tokens;
 use adj_text::{Kind, Mode, Stated, Token, TokenKind, Tokens};
-use adj_tree::{Bytes, Fault, Mark};
+use adj_tree::{Bytes, Code, Fault, Mark};
 use std::alloc::{AllocError, Global};
 
 // How many characters a name may have.
@@ -117,20 +117,20 @@ fn stated(alloc: Global, mode: Mode, lined: Lined) -> Result<Stated, Fault>
 {
     let text = lined.text.as_slice();
     if text.is_empty() {
-        return Err(Fault::refused(4, lined.line));
+        return Err(Fault::refused(Code::Malformed, lined.line));
     }
     let Some(kind) = class_of(text) else {
-        return Err(Fault::refused(3, lined.line));
+        return Err(Fault::refused(Code::Unsupported, lined.line));
     };
     if !is_matched(text) {
-        return Err(Fault::refused(4, lined.line));
+        return Err(Fault::refused(Code::Malformed, lined.line));
     }
     let Some(tokens) = tokens_of(alloc, kind, text)? else {
-        return Err(Fault::refused(4, lined.line));
+        return Err(Fault::refused(Code::Malformed, lined.line));
     };
     let limit = name_limit(mode);
     if any_too_long(limit, tokens.as_slice()) || is_marked_long(limit, kind, &lined.mark) {
-        return Err(Fault::refused(6, lined.line));
+        return Err(Fault::refused(Code::LongName, lined.line));
     }
     Ok(Stated {
         line: lined.line,

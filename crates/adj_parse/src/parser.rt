@@ -19,7 +19,7 @@ use crate::current::Current;
 use adj_expression::Flaw;
 use adj_statement::{Said, said};
 use adj_text::{Kind, Mode, Stated};
-use adj_tree::{Fault, Mark, Memory, Program, Unit, Units};
+use adj_tree::{Code, Fault, Mark, Memory, Program, Unit, Units};
 use std::alloc::Global;
 
 /// The units so far, and how many more statements the text may have.
@@ -62,7 +62,7 @@ fn with_form(found: Option<Result<Said, Flaw>>, line: u32) -> Result<Said, Fault
 {
     match found {
         Some(Ok(said)) => Ok(said),
-        _ => Err(Fault::refused(25, line)),
+        _ => Err(Fault::refused(Code::Exponent, line)),
     }
 }
 
@@ -222,16 +222,16 @@ impl Parser {
         ensures { Gives (λ said. said) result (checked bounds (state_of self.now) stated.now left found) }
     {
         if is_marked(&stated.mark) && stated.kind != Kind::Do {
-            return Err(Fault::refused(20, stated.mark_line));
+            return Err(Fault::refused(Code::Directive, stated.mark_line));
         }
         if found.is_none() || self.is_astray(stated, left) {
-            return Err(Fault::refused(4, stated.line));
+            return Err(Fault::refused(Code::Malformed, stated.line));
         }
         if is_large(&found) {
-            return Err(Fault::refused(5, stated.line));
+            return Err(Fault::refused(Code::LargeNumber, stated.line));
         }
         if self.breaks_loop(stated.kind, stated.label) {
-            return Err(Fault::refused(10, stated.line));
+            return Err(Fault::refused(Code::LoopEnd, stated.line));
         }
         self.limited_by(bounds, stated, found)
     }

@@ -13,7 +13,7 @@ use crate::first::First;
 use crate::outline::Outline;
 use crate::scope::Scope;
 use adj_names::is_runtime;
-use adj_tree::{Act, Expr, Exprs, Name, RunCall};
+use adj_tree::{Act, Code, Expr, Exprs, Name, RunCall};
 
 // Whether an actual may stand for a dummy of that rank.
 fn is_actual_for(caller: &Outline<'_>, rank: usize, actual: &Expr) -> bool
@@ -56,32 +56,32 @@ fn unit_call_fault(
     caller: &Outline<'_>,
     name: &Name,
     actuals: &Exprs,
-) -> Option<u8>
+) -> Option<Code>
     ensures { (line : ℕ) → faults_with result line ≡ (if is_runtime name.now then fault 15 line ∷ [] else faults_of_unit_call (procedure_of caller.now) (find_unit (map procedure_of scope.now) name.now) line (terms_of actuals.now)) }
 {
     if is_runtime(name) {
-        return Some(15);
+        return Some(Code::Actuals);
     }
     match scope.find(name) {
-        None => Some(14),
+        None => Some(Code::MissingUnit),
         Some(called) => {
             if are_actuals_for(caller, called, actuals) {
                 None
             } else {
-                Some(15)
+                Some(Code::Actuals)
             }
         }
     }
 }
 
 // The fault of a runtime call, whose array arguments are arrays.
-fn runtime_fault(caller: &Outline<'_>, call: &RunCall) -> Option<u8>
+fn runtime_fault(caller: &Outline<'_>, call: &RunCall) -> Option<Code>
     ensures { (line : ℕ) → faults_with result line ≡ flat_map (λ x. faults_if (variable_rank (procedure_of caller.now) x == 0) (fault 15 line)) (array_arguments (runtime_of call.now)) }
 {
     match call {
         RunCall::PushArray(name) | RunCall::PopArray(name) | RunCall::Zero(name) => {
             if caller.rank(name) == 0 {
-                Some(15)
+                Some(Code::Actuals)
             } else {
                 None
             }
@@ -98,7 +98,7 @@ fn runtime_fault(caller: &Outline<'_>, call: &RunCall) -> Option<u8>
 }
 
 // The fault of a statement as a call.
-fn call_fault(scope: &Scope<'_>, caller: &Outline<'_>, act: &Act) -> Option<u8>
+fn call_fault(scope: &Scope<'_>, caller: &Outline<'_>, act: &Act) -> Option<Code>
     ensures { (line : ℕ) → faults_with result line ≡ faults_of_call (map procedure_of scope.now) (procedure_of caller.now) line (act_of act.now) }
 {
     match act {

@@ -12,7 +12,7 @@ use crate::first::First;
 use crate::graph::Graph;
 use crate::outline::Outline;
 use crate::scope::Scope;
-use adj_tree::{Act, Memory, Name};
+use adj_tree::{Act, Code, Memory, Name};
 use std::alloc::Global;
 
 // Adds the edge of a statement, where it is a CALL of a unit.
@@ -131,7 +131,7 @@ fn add_unit_cycles(
     let name = &outline.unit().name;
     for stmt in outline.statements() {
         let is_cyclic = is_on_cycle(alloc, scope, graph, name, &stmt.act)?;
-        first.add_if(is_cyclic, 16, stmt.line);
+        first.add_if(is_cyclic, Code::Recursion, stmt.line);
     }
     Ok(())
 }

@@ -10,7 +10,7 @@ ghost use Rattle.adj_symbols.specs.View.{places_of, literal_of};
 use crate::first::First;
 use crate::outline::Outline;
 use crate::places::Placed;
-use adj_tree::{Decl, Extent, Memory};
+use adj_tree::{Code, Decl, Extent, Memory};
 
 // So many elements an array may have.
 const MOST_ELEMENTS: u64 = 1_048_576;
@@ -135,6 +135,6 @@ pub(crate) fn add_bad_extents(outline: &Outline<'_>, decls: &[Decl], first: &mut
     ensures { first.new ≡ sooner first.old (first_of (flat_map (λ d. faults_if (has_bad_extents (procedure_of outline.now) d) (fault 12 d.line)) (map declaration_of decls.now))) }
 {
     for decl in decls {
-        first.add_if(has_bad_extents(outline, decl), 12, decl.line);
+        first.add_if(has_bad_extents(outline, decl), Code::Extent, decl.line);
     }
 }

@@ -1,11 +1,12 @@
 //! The first of the faults that are met.
 
 ghost use Rattle.std.specs.Prelude.{◌≡◌, Option, Some, None};
+ghost use Rattle.adj_tree.specs.Codes.{number_of};
 ghost use Rattle.adj_tree.specs.declared.fault.Refusal.{Refusal};
 ghost use Rattle.adj_names.specs.Fault.{is_before, fault, passed, faults_if, first_of, sooner};
 ghost use Rattle.adj_symbols.specs.Scope.{faults_with};
 
-use adj_tree::Refusal;
+use adj_tree::{Code, Refusal};
 use std::marker::Model;
 
 /// The first fault so far, or none, seen as that.
@@ -54,8 +55,8 @@ impl First {
     }
 
     /// One more fault with a code at a line, where there is one.
-    pub(crate) fn add_if(&mut self, is_fault: bool, code: u8, line: u32)
-        ensures added { self.new ≡ sooner self.old (first_of (faults_if is_fault (fault code line))) }
+    pub(crate) fn add_if(&mut self, is_fault: bool, code: Code, line: u32)
+        ensures added { self.new ≡ sooner self.old (first_of (faults_if is_fault (fault (number_of code) line))) }
     {
         if is_fault {
             self.add(Refusal::new(code, line));
@@ -63,7 +64,7 @@ impl First {
     }
 
     /// One more fault at a line, where there is a code.
-    pub(crate) fn add_some(&mut self, code: Option<u8>, line: u32)
+    pub(crate) fn add_some(&mut self, code: Option<Code>, line: u32)
         ensures added { self.new ≡ sooner self.old (first_of (faults_with code line)) }
     {
         if let Some(code) = code {

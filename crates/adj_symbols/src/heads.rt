@@ -16,7 +16,7 @@ use crate::passes::stop_at;
 use crate::places::{Placed, add_again};
 use crate::scope::Scope;
 use crate::written::flags_of;
-use adj_tree::{Fault, Flags, Head, Memory, Name};
+use adj_tree::{Code, Fault, Flags, Head, Memory, Name};
 use std::alloc::Global;
 
 // Names that stand at no line.
@@ -35,7 +35,7 @@ fn add_strange(outline: &Outline<'_>, places: &[Placed<'_>], first: &mut First)
     ensures { first.new ≡ sooner first.old (first_of (flat_map (λ p. faults_if (not (is_dummy (procedure_of outline.now) p.1)) (fault 23 p.0)) (places_of places.now))) }
 {
     for place in places {
-        first.add_if(!outline.is_dummy(place.name), 23, place.line);
+        first.add_if(!outline.is_dummy(place.name), Code::ListedName, place.line);
     }
 }
 
@@ -52,7 +52,7 @@ fn add_listed(
     let found = listed(alloc, names)?;
     let places = found.as_slice();
     add_strange(outline, places, first);
-    let set = add_again(alloc, 23, places, first)?;
+    let set = add_again(alloc, Code::ListedName, places, first)?;
     let dummies = outline.unit().dummies.as_slice();
     let flags = flags_of(alloc, dummies, &set)?;
     Ok(flags)
@@ -113,7 +113,7 @@ pub fn head(
     let scope = Scope::new(alloc, checked.program().units.as_slice())?;
     let unit = scope.number(name).unwrap_or(0);
     match scope.find(name) {
-        None => Err(Fault::refused(22, 0)),
+        None => Err(Fault::refused(Code::MissingHead, 0)),
         Some(outline) => {
             let found = head_in(alloc, outline, unit, vars, outvars)?;
             Ok(found)

@@ -13,7 +13,7 @@ use crate::outline::Outline;
 use crate::scope::Scope;
 use crate::written::{Written, writes_one};
 use adj_sets::BorrowedNames;
-use adj_tree::{Act, Memory, Stmts};
+use adj_tree::{Act, Code, Memory, Stmts};
 use std::alloc::Global;
 
 // Adds a fault at each statement in a statement that may write a variable of an open DO.
@@ -62,7 +62,7 @@ fn add_list<'a>(
     let mut rest = list;
     while let Stmts::More(row) = rest {
         let is_hit = writes_one(alloc, scope, written, &row.first.act, opened)?;
-        first.add_if(is_hit, 11, row.first.line);
+        first.add_if(is_hit, Code::LoopVariable, row.first.line);
         add_inner(alloc, scope, written, &row.first.act, opened, first)?;
         rest = &row.rest;
     }

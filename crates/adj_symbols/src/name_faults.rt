@@ -17,7 +17,7 @@ use crate::places::Placed;
 use crate::scope::Scope;
 use crate::standing::{Stands, Use};
 use adj_names::{is_reserved, is_runtime};
-use adj_tree::{Act, Exprs, Memory, Name, Stmt, Unit};
+use adj_tree::{Act, Code, Exprs, Memory, Name, Stmt, Unit};
 
 /// Adds the dummies, which stand in the SUBROUTINE.
 pub(crate) fn add_dummies<'a>(unit: &'a Unit, out: &mut Vec<Placed<'a>>) -> Result<(), Memory>
@@ -63,7 +63,11 @@ pub(crate) fn add_undeclared(outline: &Outline<'_>, places: &[Placed<'_>], first
     ensures { first.new ≡ sooner first.old (first_of (flat_map (λ p. faults_if (not (is_integer (procedure_of outline.now) p.1)) (fault 7 p.0)) (places_of places.now))) }
 {
     for place in places {
-        first.add_if(!outline.is_integer(place.name), 7, place.line);
+        first.add_if(
+            !outline.is_integer(place.name),
+            Code::Undeclared,
+            place.line,
+        );
     }
 }
 
@@ -79,7 +83,7 @@ pub(crate) fn add_reserved_variables(scope: &Scope<'_>, places: &[Placed<'_>], f
     ensures { first.new ≡ sooner first.old (first_of (flat_map (λ p. faults_if (is_reserved p.1 || is_some (find_unit (map procedure_of scope.now) p.1)) (fault 18 p.0)) (places_of places.now))) }
 {
     for place in places {
-        first.add_if(is_taken(scope, place.name), 18, place.line);
+        first.add_if(is_taken(scope, place.name), Code::ReservedName, place.line);
     }
 }
 
@@ -115,7 +119,7 @@ pub(crate) fn add_misused(outline: &Outline<'_>, uses: &[Use<'_>], first: &mut F
     ensures { first.new ≡ sooner first.old (first_of (flat_map (λ u. faults_if (not (has_rank (procedure_of outline.now) u.1)) (fault 9 u.0)) (uses_of uses.now))) }
 {
     for used in uses {
-        first.add_if(!has_rank(outline, used), 9, used.line);
+        first.add_if(!has_rank(outline, used), Code::Rank, used.line);
     }
 }
 
@@ -144,6 +148,10 @@ pub(crate) fn add_runtime_calls(takes_runtime: bool, stmts: &[&Stmt], first: &mu
     ensures { first.new ≡ sooner first.old (first_of (flat_map (λ s. faults_if (not takes_runtime && calls_runtime s.1) (fault 18 s.0)) (seen stmts.now))) }
 {
     for stmt in stmts {
-        first.add_if(is_stray(takes_runtime, &stmt.act), 18, stmt.line);
+        first.add_if(
+            is_stray(takes_runtime, &stmt.act),
+            Code::ReservedName,
+            stmt.line,
+        );
     }
 }

@@ -1,6 +1,7 @@
 //! Names with the lines where they stand.
 
 ghost use Rattle.std.specs.Prelude.{◌≡◌, ◌++◌, ◌∷◌, [], ℕ, List, map, flat_map, fold, not, IfOk, OnOk};
+ghost use Rattle.adj_tree.specs.Codes.{number_of};
 ghost use Rattle.adj_tree.specs.View.{declaration_of, procedure_of};
 ghost use Rattle.adj_names.specs.Statements.{At};
 ghost use Rattle.adj_names.specs.Variables.{Name};
@@ -14,7 +15,7 @@ ghost use Rattle.adj_symbols.specs.View.{places_of, names_at};
 use crate::first::First;
 use adj_names::is_reserved;
 use adj_sets::BorrowedNames;
-use adj_tree::{Memory, Name, Unit};
+use adj_tree::{Code, Memory, Name, Unit};
 use std::alloc::Global;
 
 /// A name that stands at a line.
@@ -27,11 +28,11 @@ pub(crate) struct Placed<'a> {
 /// Adds a fault at each name that is among those before it, and gives the names, each once.
 pub(crate) fn add_again<'a>(
     alloc: Global,
-    code: u8,
+    code: Code,
     places: &[Placed<'a>],
     first: &mut First,
 ) -> Result<BorrowedNames<'a>, Memory>
-    ensures first { OnOk result (first.new ≡ sooner first.old (first_of (again code [] (places_of places.now)))) }
+    ensures first { OnOk result (first.new ≡ sooner first.old (first_of (again (number_of code) [] (places_of places.now)))) }
     ensures names { IfOk result (λ s. s ≡ once (names_at (places_of places.now))) }
 {
     let mut names = BorrowedNames::new(alloc)?;
@@ -47,7 +48,7 @@ pub(crate) fn add_reserved(places: &[Placed<'_>], first: &mut First)
     ensures { first.new ≡ sooner first.old (first_of (flat_map (λ p. faults_if (is_reserved p.1) (fault 18 p.0)) (places_of places.now))) }
 {
     for place in places {
-        first.add_if(is_reserved(place.name), 18, place.line);
+        first.add_if(is_reserved(place.name), Code::ReservedName, place.line);
     }
 }
 
@@ -77,6 +78,6 @@ pub(crate) fn add_unit_faults<'a>(
     let found = unit_places(alloc, units)?;
     let places = found.as_slice();
     add_reserved(places, first);
-    let names = add_again(alloc, 19, places, first)?;
+    let names = add_again(alloc, Code::RepeatedUnit, places, first)?;
     Ok(names)
 }

@@ -13,7 +13,7 @@ use crate::outline::Outline;
 use crate::scope::Scope;
 use crate::written::{Written, variable};
 use adj_sets::BorrowedNames;
-use adj_tree::{Act, Expr, Exprs, Memory, Name};
+use adj_tree::{Act, Code, Expr, Exprs, Memory, Name};
 use std::alloc::Global;
 use std::marker::Model;
 
@@ -174,7 +174,7 @@ pub(crate) fn add_shared_variables(
 {
     for stmt in caller.statements() {
         let is_shared = shares(alloc, scope, written, caller, &stmt.act)?;
-        first.add_if(is_shared, 17, stmt.line);
+        first.add_if(is_shared, Code::Aliasing, stmt.line);
     }
     Ok(())
 }
@@ -222,6 +222,10 @@ pub(crate) fn add_written_values(
     ensures { first.new ≡ sooner first.old (first_of (written_values (row_of (map procedure_of scope.now) written.now) (procedure_of caller.now))) }
 {
     for stmt in caller.statements() {
-        first.add_if(writes_values(scope, written, &stmt.act), 24, stmt.line);
+        first.add_if(
+            writes_values(scope, written, &stmt.act),
+            Code::WrittenValue,
+            stmt.line,
+        );
     }
 }

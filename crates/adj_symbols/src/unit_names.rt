@@ -22,7 +22,7 @@ use crate::rules::Rules;
 use crate::scope::Scope;
 use crate::standing::names_in;
 use adj_sets::BorrowedNames;
-use adj_tree::{Memory, NameList, Refusal, Unit};
+use adj_tree::{Code, Memory, NameList, Refusal, Unit};
 use std::alloc::Global;
 
 // The names in a unit, with their lines.
@@ -102,10 +102,10 @@ fn add_declared_twice(alloc: Global, unit: &Unit, first: &mut First) -> Result<(
 {
     let mut dummies = Vec::new(alloc);
     add_dummies(unit, &mut dummies)?;
-    add_again(alloc, 8, dummies.as_slice(), first)?;
+    add_again(alloc, Code::Redeclared, dummies.as_slice(), first)?;
     let mut declared = Vec::new(alloc);
     add_declared(unit, &mut declared)?;
-    add_again(alloc, 8, declared.as_slice(), first)?;
+    add_again(alloc, Code::Redeclared, declared.as_slice(), first)?;
     Ok(())
 }
 

@@ -20,7 +20,7 @@ use crate::scope::Scope;
 use crate::sharing::{add_shared_variables, add_written_values};
 use crate::written::{Written, writes_one};
 use adj_sets::BorrowedNames;
-use adj_tree::{Memory, Stmt};
+use adj_tree::{Code, Memory, Stmt};
 use std::alloc::Global;
 
 // The dummies that are extents.
@@ -51,7 +51,7 @@ fn add_writes_of(
 {
     for stmt in stmts {
         let is_hit = writes_one(alloc, scope, written, &stmt.act, extents)?;
-        first.add_if(is_hit, 13, stmt.line);
+        first.add_if(is_hit, Code::WrittenExtent, stmt.line);
     }
     Ok(())
 }

@@ -3,3 +3,4 @@ pub mod View
 pub mod Size
 pub mod Lines
 pub mod Listed
+pub mod Codes

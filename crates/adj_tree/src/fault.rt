@@ -1,8 +1,10 @@
 //! Want of memory, and refusals of a text.
 
 ghost use Rattle.std.specs.Prelude.{◌≡◌};
+ghost use Rattle.adj_tree.specs.Codes.{number_of};
 ghost use Rattle.adj_tree.specs.declared.fault.Fault.TheVariants as fault;
 
+use crate::code::Code;
 use std::alloc::{AllocError, AllocFailed};
 
 /// Want of memory. It is never merged with another cause.
@@ -21,8 +23,8 @@ impl<T: Drop> From<AllocFailed<T>> for Memory {
     }
 }
 
-/// Why a text is refused: a code of docs/REFUSALS.md, the line where it stands (0 where it stands at none),
-/// and the limit that was passed, which is 0 for every code but 21.
+/// Why a text is refused: the number of a code, the line where it stands (0 where it stands at none),
+/// and the limit that was passed, which is 0 for every code but that of a limit.
 #[derive(Clone, Copy, Debug, PartialEq, Eq)]
 pub struct Refusal {
     pub code: u8,
@@ -32,11 +34,11 @@ pub struct Refusal {
 
 impl Refusal {
     /// The refusal with a code, at a line.
-    pub fn new(code: u8, line: u32) -> Refusal
-        ensures { result ≡ record { code = code; line = line; number = 0 } }
+    pub fn new(code: Code, line: u32) -> Refusal
+        ensures { result ≡ record { code = number_of code; line = line; number = 0 } }
     {
         Refusal {
-            code,
+            code: code.number(),
             line,
             number: 0,
         }
@@ -47,7 +49,7 @@ impl Refusal {
         ensures { result ≡ record { code = 21; line = line; number = limit } }
     {
         Refusal {
-            code: 21,
+            code: Code::Limit.number(),
             line,
             number: limit,
         }
@@ -63,8 +65,8 @@ pub enum Fault {
 
 impl Fault {
     /// The refusal with a code, at a line.
-    pub fn refused(code: u8, line: u32) -> Fault
-        ensures { result ≡ fault.Refused (record { code = code; line = line; number = 0 }) }
+    pub fn refused(code: Code, line: u32) -> Fault
+        ensures { result ≡ fault.Refused (record { code = number_of code; line = line; number = 0 }) }
     {
         Fault::Refused(Refusal::new(code, line))
     }
