@@ -72,6 +72,6 @@ is_number [] = false
 is_number (c ∷ cs) = if c == minus then are_digits cs else are_digits (c ∷ cs)
 
 -- the number of such an item
-abbrev pub number_in : List ℕ → ℤ
-number_in [] = pos 0
-number_in (c ∷ cs) = if c == minus then neg_ℤ (pos (number_of cs)) else pos (number_of (c ∷ cs))
+abbrev pub number_of_item : List ℕ → ℤ
+number_of_item [] = pos 0
+number_of_item (c ∷ cs) = if c == minus then neg_ℤ (pos (number_of cs)) else pos (number_of (c ∷ cs))

@@ -3,7 +3,7 @@
 ghost use Rattle.std.specs.Prelude.{◌≡◌, ◌≢◌, ◌<◌, ◌≤◌, ℕ, List, ◌∷◌, length, slice_index, IfOk, IfSome, MatchOption, Option, option_map, map};
 ghost use Rattle.std.specs.List.{list_all};
 ghost use Rattle.adj_text.specs.Char.{is_digit, upper, number_of};
-ghost use Rattle.adj_tool.specs.Arguments.{is_letter, is_name_byte, is_name_argument, name_of, pieces, pieces_behind, names_of, number_in};
+ghost use Rattle.adj_tool.specs.Arguments.{is_letter, is_name_byte, is_name_argument, name_of, pieces, pieces_behind, names_of, number_argument};
 
 use adj_tree::{Memory, Name, NameList};
 use std::alloc::Global;
@@ -122,8 +122,8 @@ fn number_of(digits: &[u8]) -> u128
 }
 
 /// The number of a number argument, 1 to 20 digits, where it lies from `least` to `most`.
-pub(crate) fn number_in(least: u64, most: u64, argument: &[u8]) -> Option<u64>
-    ensures value { result ≡ number_in least most argument.now }
+pub(crate) fn number_argument(least: u64, most: u64, argument: &[u8]) -> Option<u64>
+    ensures value { result ≡ number_argument least most argument.now }
     ensures within { IfSome result (λ n. (least ≤ n) × (n ≤ most)) }
 {
     if argument.is_empty() || argument.len() > 20 || !are_digits(argument) {
