@@ -8,7 +8,7 @@ use Rattle.adj_text.specs.Line.{cut_lines, without_cr, next_number}
 use Rattle.adj_text.proofs.Cutting.{cut_lines-nil}
 use Rattle.adj_data.specs.declared.data_error.DataError.{DataError}
 use Rattle.adj_data.specs.declared.data_error.DataError.TheVariants as error
-use Rattle.adj_data.specs.Items.{Item, items_with, items_of, texts_in, name_of, is_number, number_in}
+use Rattle.adj_data.specs.Items.{Item, items_with, items_of, texts_in, name_of, is_number, number_of_item}
 use Rattle.adj_data.specs.Entries.{Entry, numbers_before, entries_of, with_number, with_item, with_items}
 use Rattle.adj_names.specs.Fresh.{has_name}
 use Rattle.adj_sets.proofs.NameSets.{has-behind}
@@ -19,8 +19,8 @@ use Rattle.adj_data.specs.Given.{IsFirstFault}
 
 -- a name behind items ends the numbers
 numbers-name : (ws : List Item) (w : Item) → w.begins ≡ true → numbers_before (ws ++ (w ∷ [])) ≡ numbers_before ws
-numbers-name [] w e = ap (λ b. if b then [] else number_in w.text ∷ []) e
-numbers-name (v ∷ ws) w e = ap (λ zs. if v.begins then [] else number_in v.text ∷ zs) (numbers-name ws w e)
+numbers-name [] w e = ap (λ b. if b then [] else number_of_item w.text ∷ []) e
+numbers-name (v ∷ ws) w e = ap (λ zs. if v.begins then [] else number_of_item v.text ∷ zs) (numbers-name ws w e)
 
 entries-name : (ws : List Item) (w : Item) → w.begins ≡ true → entries_of (ws ++ (w ∷ [])) ≡ entries_of ws ++ (record { name = name_of w.text; line = w.line; numbers = [] } ∷ [])
 entries-name [] w e = ap (λ b. if b then record { name = name_of w.text; line = w.line; numbers = [] } ∷ [] else []) e
@@ -36,26 +36,26 @@ abbrev after : Entry → List Item → List Entry
 after e ws = record e { numbers = e.numbers ++ numbers_before ws } ∷ entries_of ws
 
 -- a number goes on with the last of them
-after-number : (e : Entry) (ws : List Item) (w : Item) → w.begins ≡ false → after e (ws ++ (w ∷ [])) ≡ with_number (number_in w.text) (after e ws)
+after-number : (e : Entry) (ws : List Item) (w : Item) → w.begins ≡ false → after e (ws ++ (w ∷ [])) ≡ with_number (number_of_item w.text) (after e ws)
 after-number e [] w n =
-    (λ i. record e { numbers = e.numbers ++ (if n i then [] else number_in w.text ∷ []) } ∷ (if n i then record { name = name_of w.text; line = w.line; numbers = [] } ∷ [] else []))
-    ∙ ap (λ zs. record e { numbers = zs ++ (number_in w.text ∷ []) } ∷ []) (sym (append-nil e.numbers))
+    (λ i. record e { numbers = e.numbers ++ (if n i then [] else number_of_item w.text ∷ []) } ∷ (if n i then record { name = name_of w.text; line = w.line; numbers = [] } ∷ [] else []))
+    ∙ ap (λ zs. record e { numbers = zs ++ (number_of_item w.text ∷ []) } ∷ []) (sym (append-nil e.numbers))
 after-number e (v ∷ ws) w n = go (λ f. after-number f ws w n) (v.begins)
   where
-    go : ((f : Entry) → after f (ws ++ (w ∷ [])) ≡ with_number (number_in w.text) (after f ws)) → (b : Bool) → (record e { numbers = e.numbers ++ (if b then [] else number_in v.text ∷ numbers_before (ws ++ (w ∷ []))) } ∷ (if b then record { name = name_of v.text; line = v.line; numbers = numbers_before (ws ++ (w ∷ [])) } ∷ entries_of (ws ++ (w ∷ [])) else entries_of (ws ++ (w ∷ []))))
-        ≡ with_number (number_in w.text) (record e { numbers = e.numbers ++ (if b then [] else number_in v.text ∷ numbers_before ws) } ∷ (if b then record { name = name_of v.text; line = v.line; numbers = numbers_before ws } ∷ entries_of ws else entries_of ws))
+    go : ((f : Entry) → after f (ws ++ (w ∷ [])) ≡ with_number (number_of_item w.text) (after f ws)) → (b : Bool) → (record e { numbers = e.numbers ++ (if b then [] else number_of_item v.text ∷ numbers_before (ws ++ (w ∷ []))) } ∷ (if b then record { name = name_of v.text; line = v.line; numbers = numbers_before (ws ++ (w ∷ [])) } ∷ entries_of (ws ++ (w ∷ [])) else entries_of (ws ++ (w ∷ []))))
+        ≡ with_number (number_of_item w.text) (record e { numbers = e.numbers ++ (if b then [] else number_of_item v.text ∷ numbers_before ws) } ∷ (if b then record { name = name_of v.text; line = v.line; numbers = numbers_before ws } ∷ entries_of ws else entries_of ws))
     go ih true = ap (λ es. record e { numbers = e.numbers ++ [] } ∷ es) (ih (record { name = name_of v.text; line = v.line; numbers = [] }))
     go ih false =
-        (λ i. record e { numbers = sym (append_assoc e.numbers (number_in v.text ∷ []) (numbers_before (ws ++ (w ∷ [])))) i } ∷ entries_of (ws ++ (w ∷ [])))
-        ∙ ih (record e { numbers = e.numbers ++ (number_in v.text ∷ []) })
-        ∙ ap (λ zs. with_number (number_in w.text) (record e { numbers = zs } ∷ entries_of ws)) (append_assoc e.numbers (number_in v.text ∷ []) (numbers_before ws))
+        (λ i. record e { numbers = sym (append_assoc e.numbers (number_of_item v.text ∷ []) (numbers_before (ws ++ (w ∷ [])))) i } ∷ entries_of (ws ++ (w ∷ [])))
+        ∙ ih (record e { numbers = e.numbers ++ (number_of_item v.text ∷ []) })
+        ∙ ap (λ zs. with_number (number_of_item w.text) (record e { numbers = zs } ∷ entries_of ws)) (append_assoc e.numbers (number_of_item v.text ∷ []) (numbers_before ws))
 
-entries-number : (ws : List Item) (w : Item) → w.begins ≡ false → entries_of (ws ++ (w ∷ [])) ≡ with_number (number_in w.text) (entries_of ws)
+entries-number : (ws : List Item) (w : Item) → w.begins ≡ false → entries_of (ws ++ (w ∷ [])) ≡ with_number (number_of_item w.text) (entries_of ws)
 entries-number [] w n = ap (λ b. if b then record { name = name_of w.text; line = w.line; numbers = [] } ∷ [] else []) n
 entries-number (v ∷ ws) w n = go (entries-number ws w n) (v.begins)
   where
-    go : entries_of (ws ++ (w ∷ [])) ≡ with_number (number_in w.text) (entries_of ws) → (b : Bool) → (if b then record { name = name_of v.text; line = v.line; numbers = numbers_before (ws ++ (w ∷ [])) } ∷ entries_of (ws ++ (w ∷ [])) else entries_of (ws ++ (w ∷ [])))
-        ≡ with_number (number_in w.text) (if b then record { name = name_of v.text; line = v.line; numbers = numbers_before ws } ∷ entries_of ws else entries_of ws)
+    go : entries_of (ws ++ (w ∷ [])) ≡ with_number (number_of_item w.text) (entries_of ws) → (b : Bool) → (if b then record { name = name_of v.text; line = v.line; numbers = numbers_before (ws ++ (w ∷ [])) } ∷ entries_of (ws ++ (w ∷ [])) else entries_of (ws ++ (w ∷ [])))
+        ≡ with_number (number_of_item w.text) (if b then record { name = name_of v.text; line = v.line; numbers = numbers_before ws } ∷ entries_of ws else entries_of ws)
     go ih true = after-number (record { name = name_of v.text; line = v.line; numbers = [] }) ws w n
     go ih false = ih
 
@@ -63,7 +63,7 @@ entries-number (v ∷ ws) w n = go (entries-number ws w n) (v.begins)
 entries-more : (ws : List Item) (w : Item) → entries_of (ws ++ (w ∷ [])) ≡ with_item (entries_of ws) w
 entries-more ws w = go (w.begins) refl
   where
-    go : (b : Bool) → w.begins ≡ b → entries_of (ws ++ (w ∷ [])) ≡ (if b then entries_of ws ++ (record { name = name_of w.text; line = w.line; numbers = [] } ∷ []) else with_number (number_in w.text) (entries_of ws))
+    go : (b : Bool) → w.begins ≡ b → entries_of (ws ++ (w ∷ [])) ≡ (if b then entries_of ws ++ (record { name = name_of w.text; line = w.line; numbers = [] } ∷ []) else with_number (number_of_item w.text) (entries_of ws))
     go true e = entries-name ws w e
     go false e = entries-number ws w e
 

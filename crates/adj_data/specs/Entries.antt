@@ -1,7 +1,7 @@
 -- Entries: a name and the numbers behind it, up to the next name. (docs/DATA.md, "Entries")
 use Rattle.std.specs.Prelude.{ℕ, ℤ, List, [], ◌∷◌, ◌++◌, Option, Some, None, if◌then◌else◌}
 use Rattle.adj_tree.specs.Code.{name_eq}
-use Rattle.adj_data.specs.Items.{Item, name_of, number_in}
+use Rattle.adj_data.specs.Items.{Item, name_of, number_of_item}
 
 pub record Entry : Type 0 where
   pub name : List ℕ
@@ -12,7 +12,7 @@ pub record Entry : Type 0 where
 -- the numbers before the next name
 abbrev pub numbers_before : List Item → List ℤ
 numbers_before [] = []
-numbers_before (w ∷ ws) = if w.begins then [] else number_in w.text ∷ numbers_before ws
+numbers_before (w ∷ ws) = if w.begins then [] else number_of_item w.text ∷ numbers_before ws
 
 -- the entries that items make: each name begins one
 abbrev pub entries_of : List Item → List Entry
@@ -33,7 +33,7 @@ with_number z (e ∷ []) = record e { numbers = e.numbers ++ z ∷ [] } ∷ []
 with_number z (e ∷ f ∷ es) = e ∷ with_number z (f ∷ es)
 
 abbrev pub with_item : List Entry → Item → List Entry
-with_item es w = if w.begins then es ++ (record { name = name_of w.text; line = w.line; numbers = [] } ∷ []) else with_number (number_in w.text) es
+with_item es w = if w.begins then es ++ (record { name = name_of w.text; line = w.line; numbers = [] } ∷ []) else with_number (number_of_item w.text) es
 
 abbrev pub with_items : List Entry → List Item → List Entry
 with_items es [] = es

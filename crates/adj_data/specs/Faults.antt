@@ -5,7 +5,7 @@ use Rattle.adj_tree.specs.Code.{plain, Extent, fixed, given, Procedure}
 use Rattle.adj_text.specs.Line.{cut_lines}
 use Rattle.adj_meaning.specs.Units.{declared, are_extents, elements}
 use Rattle.adj_names.specs.Fresh.{has_name}
-use Rattle.adj_data.specs.Items.{Item, items_of, name_of, is_number, number_in}
+use Rattle.adj_data.specs.Items.{Item, items_of, name_of, is_number, number_of_item}
 use Rattle.adj_data.specs.Entries.{Entry, entries_of, entry_named, with_item}
 
 -- a code, and the line where the fault stands, which is 0 where something isn't there
@@ -26,7 +26,7 @@ in_range z = int_le (negsuc 9223372036854775807) z && int_le z (pos 922337203685
 -- what is wrong with a number: 1 before any name, 6 where it is no word
 abbrev pub number_code : List Entry → List ℕ → Option ℕ
 number_code [] w = Some 1
-number_code (e ∷ es) w = if in_range (number_in w) then None else Some 6
+number_code (e ∷ es) w = if in_range (number_of_item w) then None else Some 6
 
 -- what is wrong with a name: 2 where it isn't a dummy, 3 where it was given before
 abbrev pub name_code : List (List ℕ) → List Entry → List ℕ → Option ℕ

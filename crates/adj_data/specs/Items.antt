@@ -1,9 +1,8 @@
 -- Items of data: what stands between blanks, line by line. (docs/DATA.md, "Lines")
 use Rattle.std.specs.Prelude.{ℕ, ◌-◌, ◌==◌, ℤ, pos, neg_ℤ, Bool, true, false, not, ◌&&◌, ◌||◌, List, [], ◌∷◌, ◌++◌, map, filter, length, take, drop, if◌then◌else◌}
 use Rattle.std.specs.List.{list_all}
-use Rattle.std.specs.Char.{is_ascii_alphabetic, is_ascii_alphanumeric}
-use Rattle.adj_text.specs.Char.{minus, underscore, is_digit, is_blank, upper, number_of}
-use Rattle.adj_text.specs.Line.{in_front, without_cr, next_number}
+use Rattle.adj_text.specs.Char.{minus, is_capital, is_digit, is_blank, upper, number_of}
+use Rattle.adj_text.specs.Line.{is_name_part, in_front, without_cr, next_number}
 
 -- one item with its line; `leads` where it is the first of that line, and `begins` where it is what begins an entry
 pub record Item : Type 0 where
@@ -26,10 +25,10 @@ texts_in l = filter has_some (pieces l)
 
 -- ---- names
 
--- a letter, and then letters, digits and `_`
+-- a letter, and then letters, digits and `_`, in either case
 abbrev pub is_name : List ℕ → Bool
 is_name [] = false
-is_name (c ∷ cs) = is_ascii_alphabetic c && list_all (λ d. is_ascii_alphanumeric d || d == underscore) cs
+is_name (c ∷ cs) = is_capital (upper c) && list_all is_name_part cs
 
 -- `.D` or `.B`, in either case
 abbrev pub is_mark : List ℕ → Bool
@@ -72,6 +71,6 @@ is_number [] = false
 is_number (c ∷ cs) = if c == minus then are_digits cs else are_digits (c ∷ cs)
 
 -- the number of such an item
-abbrev pub number_in : List ℕ → ℤ
-number_in [] = pos 0
-number_in (c ∷ cs) = if c == minus then neg_ℤ (pos (number_of cs)) else pos (number_of (c ∷ cs))
+abbrev pub number_of_item : List ℕ → ℤ
+number_of_item [] = pos 0
+number_of_item (c ∷ cs) = if c == minus then neg_ℤ (pos (number_of cs)) else pos (number_of (c ∷ cs))

@@ -2,7 +2,7 @@
 
 ghost use Rattle.std.specs.Prelude.{◌≡◌, List, ℕ, [], ◌∷◌, ◌++◌, true, map, None, Some, IfErr, IfOk, OnOk, MatchOption};
 ghost use Rattle.adj_text.specs.Line.{cut_lines};
-ghost use Rattle.adj_data.specs.Items.{Item, texts_in, items_with, items_of, is_title, name_of as capitals, number_in};
+ghost use Rattle.adj_data.specs.Items.{Item, texts_in, items_with, items_of, is_title, name_of as capitals, number_of_item};
 ghost use Rattle.adj_data.specs.Entries.{Entry as AnEntry, entry_named, with_number, with_item, with_items};
 ghost use Rattle.adj_data.specs.Faults.{number_code, name_code, item_code, fault_at, entries_fault};
 ghost use Rattle.adj_data.specs.Given.{IsFirstFault, entry_seen};
@@ -10,7 +10,7 @@ ghost use Rattle.adj_data.specs.Titles.{takes_marks};
 
 use crate::data_error::DataError;
 use crate::items::{Titles, is_number, is_title, name_of, next_item};
-use crate::numbers::number_in;
+use crate::numbers::number_of_item;
 use adj_fixed::{next_number, split_line, without_cr};
 use adj_sets::NameSet;
 use adj_tree::Memory;
@@ -103,14 +103,14 @@ impl Entries {
     // A number goes on with the last entry.
     fn go_on(&mut self, item: &[u8], line: u32) -> Result<(), DataError>
         ensures ok { OnOk result (number_code self.old item.now ≡ None) }
-        ensures entries { OnOk result (self.new ≡ with_number (number_in item.now) self.old) }
+        ensures entries { OnOk result (self.new ≡ with_number (number_of_item item.now) self.old) }
         ensures fault { IfErr result (λ e. IsFirstFault e (fault_at line (number_code self.old item.now))) }
     {
         let count = self.entries.len();
         if count == 0 {
             return Err(DataError::Data(1, line));
         }
-        let Some(number) = number_in(item) else {
+        let Some(number) = number_of_item(item) else {
             return Err(DataError::Data(6, line));
         };
         self.entries[count - 1].numbers.push(number)?;

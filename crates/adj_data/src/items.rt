@@ -1,12 +1,13 @@
 //! Items of a line.
 
-ghost use Rattle.std.specs.Prelude.{◌≡◌, ◌∷◌, [], ◌<◌, ◌≤◌, ◌||◌, ◌==◌, not, length, map, MatchOption, IfOk};
-ghost use Rattle.std.specs.Char.{is_ascii_alphanumeric};
+ghost use Rattle.std.specs.Prelude.{◌≡◌, ◌∷◌, [], ◌<◌, ◌≤◌, not, length, map, MatchOption, IfOk};
 ghost use Rattle.std.specs.List.{list_all, prefix_len};
-ghost use Rattle.adj_text.specs.Char.{underscore, is_digit, is_blank};
+ghost use Rattle.adj_text.specs.Char.{is_digit, is_blank};
+ghost use Rattle.adj_text.specs.Line.{is_name_part};
 ghost use Rattle.adj_data.specs.Titles.{takes_marks};
 ghost use Rattle.adj_data.specs.Items.{texts_in, is_name, is_mark, is_marked, is_title, name_of, are_digits, is_number};
 
+use adj_fixed::is_name_part;
 use adj_tree::Memory;
 use std::alloc::Global;
 
@@ -42,11 +43,9 @@ pub(crate) fn next_item(line: &[u8]) -> Option<(&[u8], &[u8])>
 }
 
 fn go_on_a_name(chars: &[u8]) -> bool
-    ensures { result ≡ list_all (λ c. is_ascii_alphanumeric c || c == underscore) chars.now }
+    ensures { result ≡ list_all is_name_part chars.now }
 {
-    chars
-        .iter()
-        .all(|c| c.is_ascii_alphanumeric() || *c == b'_')
+    chars.iter().all(|c| is_name_part(*c))
 }
 
 /// Which items begin entries.
@@ -58,8 +57,8 @@ pub enum Titles {
     NamesAndMarks,
 }
 
-/// Whether an item is a name.
-pub(crate) fn is_name(item: &[u8]) -> bool
+/// Whether an item is a name, in either case.
+pub fn is_name(item: &[u8]) -> bool
     ensures { result ≡ is_name item.now }
 {
     match item.split_first() {
@@ -113,7 +112,8 @@ fn go_on_a_number(chars: &[u8]) -> bool
     chars.iter().all(|c| c.is_ascii_digit())
 }
 
-fn are_digits(item: &[u8]) -> bool
+/// Whether an item is one digit or more.
+pub fn are_digits(item: &[u8]) -> bool
     ensures { result ≡ are_digits item.now }
 {
     match item.split_first() {

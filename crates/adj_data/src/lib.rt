@@ -20,6 +20,7 @@ mod slots;
 pub use checking::check_values;
 pub use data_error::DataError;
 pub use input::values;
+pub use items::{are_digits, is_name};
 pub use laws::data_fit;
 pub use marks::zeros_like;
 pub use print::{print_values, push_numbers};

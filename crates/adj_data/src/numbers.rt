@@ -2,7 +2,7 @@
 
 ghost use Rattle.std.specs.Prelude.{◌≡◌, ◌+◌, ◌^◌, min, Some, None, if◌then◌else◌};
 ghost use Rattle.adj_text.specs.Char.{number_of};
-ghost use Rattle.adj_data.specs.Items.{number_in};
+ghost use Rattle.adj_data.specs.Items.{number_of_item};
 ghost use Rattle.adj_data.specs.Faults.{in_range};
 
 // The number that digits write, or 2^63 + 1 where it is above that.
@@ -21,8 +21,8 @@ fn capped(digits: &[u8]) -> u64
 }
 
 /// The number of an item, where it is in range.
-pub(crate) fn number_in(item: &[u8]) -> Option<i64>
-    ensures { result ≡ (if in_range (number_in item.now) then Some (number_in item.now) else None) }
+pub(crate) fn number_of_item(item: &[u8]) -> Option<i64>
+    ensures { result ≡ (if in_range (number_of_item item.now) then Some (number_of_item item.now) else None) }
 {
     match item {
         [b'-', digits @ ..] => i64::try_from(-i128::from(capped(digits))).ok(),

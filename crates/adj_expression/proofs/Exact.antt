@@ -5,7 +5,7 @@ use Rattle.std.proofs.lemmas.Bool.{cases_lt, lt-ltb, le-ltb, le-leb, lt-leb}
 use Rattle.std.proofs.lemmas.Bool.Decides.{nat_tests}
 use Rattle.adj_tree.specs.Code.{Op, Term, lit, var, neg, bin, pow, power_of, plain, none, more}
 use Rattle.adj_text.specs.Char.{number_of}
-use Rattle.adj_text.specs.Grammar.{Syntax, applied, Arguments, only, beside, count_of, takes, takes_as, application_of, operation_of, is_absolute, two_arguments, in_words, with_both, constant_of, constant_power, as_exponent, joins_literals, is_literal, constant, exponent, tree, Symbol, Derives, literal, name, group, application, primary, power, factor, product, term, sign, sum, adds, subtracts, DerivesAll, single, another}
+use Rattle.adj_text.specs.Grammar.{Syntax, applied, Arguments, only, beside, count_of, takes, takes_as, application_of, operation_of, is_absolute, two_arguments, in_words, with_both, constant_of, constant_power, as_exponent, joins_literals, is_literal, constant, tree, Symbol, Derives, literal, name, group, application, primary, power, factor, product, term, sign, sum, adds, subtracts, DerivesAll, single, another}
 use Rattle.adj_text.specs.Machine.{value}
 use Rattle.adj_text.specs.Lexeme.{Lexeme}
 use Rattle.adj_expression.specs.declared.flaw.Flaw.{Flaw}

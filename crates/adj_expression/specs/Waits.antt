@@ -2,8 +2,11 @@
 use Rattle.std.specs.Prelude.{◌≡◌, ℕ, List, Option, Some, None, option_map}
 use Rattle.adj_tree.specs.View.{rel_of}
 use Rattle.adj_text.specs.Lexeme.{Lexeme}
+use Rattle.adj_text.specs.Machine.{State}
 use Rattle.adj_expression.specs.declared.inside.Inside.{Inside}
 use Rattle.adj_expression.specs.declared.inside.Inside.TheVariants as insides
+use Rattle.adj_expression.specs.declared.inside.Reading.{Reading}
+use Rattle.adj_expression.specs.declared.inside.Comparison.{Comparison}
 use Rattle.adj_expression.specs.declared.inside.Advanced.{Advanced}
 use Rattle.adj_expression.specs.declared.inside.Advanced.TheVariants.{On, Stuck}
 use Rattle.adj_expression.specs.declared.waiting.Waiting.{Waiting}
@@ -23,10 +26,16 @@ waiting_of (waitings.Ored c) = machine.Ored (proposition_of c)
 abbrev pub waits_of : List Waiting → List (machine.Waiting PartialTest)
 waits_of items = stacked waiting_of items
 
+abbrev pub reading_of : Reading → State Partial
+reading_of r = (stack_of r.frames.items, seen_of r.seen)
+
+abbrev pub comparison_of : Comparison → machine.Inside Partial PartialTest
+comparison_of c = machine.Second (rel_of c.rel) (operand_of c.left) (reading_of c.right)
+
 abbrev pub inside_of : Inside → machine.Inside Partial PartialTest
 inside_of insides.Fresh = machine.Fresh
-inside_of (insides.First frames left) = machine.First (stack_of frames.items, seen_of left)
-inside_of (insides.Second r a frames left) = machine.Second (rel_of r) (operand_of a) (stack_of frames.items, seen_of left)
+inside_of (insides.First left) = machine.First (reading_of left)
+inside_of (insides.Second c) = comparison_of c
 inside_of (insides.Made c) = machine.Made (proposition_of c)
 
 -- the step is made; or there is none, and the condition that is whole here is found, if there is one

@@ -1,14 +1,14 @@
 //! Conditions, read from left to right with a stack.
 #![tactic(auto, using(crate::proofs::WaitLemmas::waits))]
 
-ghost use Rattle.std.specs.Prelude.{◌≡◌, ◌<◌, None, IfOk, option_map};
+ghost use Rattle.std.specs.Prelude.{◌≡◌, ◌<◌, [], None, IfOk, option_map};
 ghost use Rattle.adj_tree.specs.View.{rel_of};
 ghost use Rattle.adj_text.specs.Lexeme.{lexeme, Mark};
-ghost use Rattle.adj_expression.specs.ConditionMachine.{First, Second, Made, beginning, end_condition, end_operand, relation_of, behind_left, compare_with, begin_not, alone, conclude};
+ghost use Rattle.adj_text.specs.Machine.{wanting};
+ghost use Rattle.adj_expression.specs.ConditionMachine.{First, Made, beginning, end_condition, end_operand, relation_of, behind_left, compare_with, begin_not, alone, conclude};
 ghost use Rattle.adj_expression.specs.Partial.{operand_of};
 ghost use Rattle.adj_expression.specs.PartialCondition.{test_algebra, proposition_of};
-ghost use Rattle.adj_expression.specs.Stack.{stack_of, seen_of};
-ghost use Rattle.adj_expression.specs.Waits.{waits_of, inside_of, Turns, Advances};
+ghost use Rattle.adj_expression.specs.Waits.{reading_of, comparison_of, waits_of, inside_of, Turns, Advances};
 
 use crate::frame::{Frame, Seen};
 use crate::machine::{Stepped, finish, step};
@@ -20,15 +20,30 @@ use adj_text::TokenKind;
 use adj_tree::{Memory, Rel};
 use std::alloc::Global;
 
+/// An expression that is being read.
+#[derive(Drop)]
+pub(crate) struct Reading {
+    frames: Vec<Frame>,
+    seen: Seen,
+}
+
+/// A comparison whose right operand is being read.
+#[derive(Drop)]
+pub(crate) struct Comparison {
+    rel: Rel,
+    left: Operand,
+    right: Reading,
+}
+
 /// What is being read.
 #[derive(Drop)]
 pub(crate) enum Inside {
     /// Nothing yet: a comparison, `.NOT.` or a parenthesis is wanted.
     Fresh,
     /// The left operand of a comparison, or an expression in parentheses before it.
-    First(Vec<Frame>, Seen),
+    First(Reading),
     /// The right operand of a comparison.
-    Second(Rel, Operand, Vec<Frame>, Seen),
+    Second(Comparison),
     /// A condition that is whole.
     Made(Proposition),
 }
@@ -39,6 +54,18 @@ pub(crate) enum Advanced {
     On(Inside),
     /// No condition goes on with the lexeme. The condition that is whole here, if there is one.
     Stuck(Option<Proposition>),
+}
+
+impl Reading {
+    // Nothing is read yet.
+    fn begin(alloc: Global) -> Reading
+        ensures { reading_of result ≡ wanting [] }
+    {
+        Reading {
+            frames: Vec::new(alloc),
+            seen: Seen::Nothing,
+        }
+    }
 }
 
 // A parenthesis is closed behind a condition.
@@ -107,9 +134,10 @@ fn end_operand(alloc: Global, waits: &mut Vec<Waiting>, operand: Operand) -> Adv
     ensures { Turns (end_operand (waits_of waits.old.items) (operand_of operand)) None waits.new.items result }
 {
     match waits.pop() {
-        Some(Waiting::Opened) => {
-            Advanced::On(Inside::First(Vec::new(alloc), Seen::Operand(operand)))
-        }
+        Some(Waiting::Opened) => Advanced::On(Inside::First(Reading {
+            frames: Vec::new(alloc),
+            seen: Seen::Operand(operand),
+        })),
         _ => Advanced::Stuck(None),
     }
 }
@@ -122,7 +150,11 @@ fn behind_left(alloc: Global, waits: &mut Vec<Waiting>, left: Operand, kind: Tok
         return end_operand(alloc, waits, left);
     }
     match relation_of(kind) {
-        Some(rel) => Advanced::On(Inside::Second(rel, left, Vec::new(alloc), Seen::Nothing)),
+        Some(rel) => Advanced::On(Inside::Second(Comparison {
+            rel,
+            left,
+            right: Reading::begin(alloc),
+        })),
         None => Advanced::Stuck(None),
     }
 }
@@ -131,18 +163,18 @@ fn behind_left(alloc: Global, waits: &mut Vec<Waiting>, left: Operand, kind: Tok
 fn go_on_left(
     alloc: Global,
     waits: &mut Vec<Waiting>,
-    mut frames: Vec<Frame>,
-    left: Seen,
+    left: Reading,
     kind: TokenKind,
     text: &[u8],
     limit: u32,
 ) -> Result<Advanced, Memory>
     requires { limit < 1000 }
-    ensures { IfOk result (λ next. Advances limit (waits_of waits.old.items, First (stack_of frames.items, seen_of left)) (lexeme kind text.now) waits.new.items next) }
+    ensures { IfOk result (λ next. Advances limit (waits_of waits.old.items, First (reading_of left)) (lexeme kind text.now) waits.new.items next) }
 {
-    match step(alloc, &mut frames, left, kind, text, limit)? {
-        Stepped::On(left) => Ok(Advanced::On(Inside::First(frames, left))),
-        Stepped::Stuck(left) => match finish(alloc, frames, left, limit)? {
+    let Reading { mut frames, seen } = left;
+    match step(alloc, &mut frames, seen, kind, text, limit)? {
+        Stepped::On(seen) => Ok(Advanced::On(Inside::First(Reading { frames, seen }))),
+        Stepped::Stuck(seen) => match finish(alloc, frames, seen, limit)? {
             Some(operand) => Ok(behind_left(alloc, waits, operand, kind)),
             None => Ok(Advanced::Stuck(None)),
         },
@@ -169,20 +201,22 @@ fn compare_with(
 fn go_on_right(
     alloc: Global,
     waits: &mut Vec<Waiting>,
-    rel: Rel,
-    left: Operand,
-    mut frames: Vec<Frame>,
-    right: Seen,
+    comparison: Comparison,
     kind: TokenKind,
     text: &[u8],
     limit: u32,
 ) -> Result<Advanced, Memory>
     requires { limit < 1000 }
-    ensures { IfOk result (λ next. Advances limit (waits_of waits.old.items, Second (rel_of rel) (operand_of left) (stack_of frames.items, seen_of right)) (lexeme kind text.now) waits.new.items next) }
+    ensures { IfOk result (λ next. Advances limit (waits_of waits.old.items, comparison_of comparison) (lexeme kind text.now) waits.new.items next) }
 {
-    match step(alloc, &mut frames, right, kind, text, limit)? {
-        Stepped::On(right) => Ok(Advanced::On(Inside::Second(rel, left, frames, right))),
-        Stepped::Stuck(right) => match finish(alloc, frames, right, limit)? {
+    let Comparison { rel, left, right } = comparison;
+    let Reading { mut frames, seen } = right;
+    match step(alloc, &mut frames, seen, kind, text, limit)? {
+        Stepped::On(seen) => {
+            let right = Reading { frames, seen };
+            Ok(Advanced::On(Inside::Second(Comparison { rel, left, right })))
+        }
+        Stepped::Stuck(seen) => match finish(alloc, frames, seen, limit)? {
             Some(operand) => {
                 let made = compare_with(alloc, waits, rel, left, operand, limit)?;
                 behind_condition(alloc, waits, made, kind, limit)
@@ -220,8 +254,8 @@ fn begin_item(
         }
         TokenKind::Not => begin_not(waits),
         _ => {
-            let frames = Vec::new(alloc);
-            go_on_left(alloc, waits, frames, Seen::Nothing, kind, text, limit)
+            let left = Reading::begin(alloc);
+            go_on_left(alloc, waits, left, kind, text, limit)
         }
     }
 }
@@ -240,10 +274,8 @@ pub(crate) fn advance(
 {
     match inside {
         Inside::Fresh => begin_item(alloc, waits, kind, text, limit),
-        Inside::First(frames, left) => go_on_left(alloc, waits, frames, left, kind, text, limit),
-        Inside::Second(rel, left, frames, right) => {
-            go_on_right(alloc, waits, rel, left, frames, right, kind, text, limit)
-        }
+        Inside::First(left) => go_on_left(alloc, waits, left, kind, text, limit),
+        Inside::Second(comparison) => go_on_right(alloc, waits, comparison, kind, text, limit),
         Inside::Made(made) => behind_condition(alloc, waits, made, kind, limit),
     }
 }
@@ -260,9 +292,9 @@ pub(crate) fn conclude(
 {
     match inside {
         Inside::Fresh => Ok(None),
-        Inside::First(_, _) => Ok(None),
-        Inside::Second(rel, left, frames, right) => {
-            match finish(alloc, frames, right, limit)? {
+        Inside::First(_) => Ok(None),
+        Inside::Second(Comparison { rel, left, right }) => {
+            match finish(alloc, right.frames, right.seen, limit)? {
                 Some(operand) => {
                     let made = compare_with(alloc, waits, rel, left, operand, limit)?;
                     alone(alloc, waits, made, limit)

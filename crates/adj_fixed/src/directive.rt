@@ -6,7 +6,7 @@ ghost use Rattle.adj_text.specs.Char.{is_blank};
 ghost use Rattle.adj_text.specs.Line.{begins_in_either_case, is_directive, behind_blanks, behind_name, snapshots_of, is_name_part, is_named, name_of, mark_in, operand, operand_of};
 
 use crate::line::{are_blank, behind, front, number, push_folded};
-use crate::scan::{is_name_char, number_len};
+use crate::scan::{is_name_part, number_len};
 use adj_tree::{Mark, Memory, Name};
 use std::alloc::Global;
 
@@ -80,9 +80,7 @@ fn name_len(text: &[u8]) -> usize
     ensures value { result ≡ prefix_len is_name_part text.now }
     ensures within { result ≤ length text.now }
 {
-    text.iter()
-        .take_while(|c| is_name_char(c.to_ascii_uppercase()))
-        .count()
+    text.iter().take_while(|c| is_name_part(**c)).count()
 }
 
 // Whether a name stands here, in either case, with blanks alone behind it.

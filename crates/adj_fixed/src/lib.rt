@@ -16,4 +16,5 @@ mod statement;
 pub use adj_text::{Kind, Mode, Stated, Token, TokenKind, Tokens};
 pub use data::data_part;
 pub use line::{next_number, split_line, without_cr};
+pub use scan::is_name_part;
 pub use statement::statements;

@@ -113,7 +113,7 @@ pub(crate) fn body(line: &[u8]) -> &[u8]
 fn is_allowed(c: u8) -> bool
     ensures { result ≡ is_allowed c }
 {
-    matches!(c, b'A'..=b'Z' | b'a'..=b'z' | b'0'..=b'9' | b' ' | b'=' | b'('..=b'/' | b'_')
+    c.is_ascii_alphanumeric() || matches!(c, b' ' | b'=' | b'('..=b'/' | b'_')
 }
 
 /// Whether columns 7 to 72 may hold all these characters.

@@ -3,15 +3,24 @@
 ghost use Rattle.std.specs.Prelude.{◌≡◌, ◌+◌, ◌^◌, ◌<◌, ◌≤◌, length, IfOk, IfSome, option_map};
 ghost use Rattle.std.specs.List.{prefix_len};
 ghost use Rattle.adj_text.specs.Char.{is_digit, is_name_char};
+ghost use Rattle.adj_text.specs.Line.{is_name_part};
 ghost use Rattle.adj_text.specs.Token.{dotted, mark_of, stars, first_token, token_here, tokens_from};
 
 use adj_text::{Token, TokenKind};
 use std::alloc::{AllocError, Global};
 
-pub(crate) fn is_name_char(c: u8) -> bool
+// What a name in capitals goes on with.
+fn is_name_char(c: u8) -> bool
     ensures { result ≡ is_name_char c }
 {
     c.is_ascii_uppercase() || c.is_ascii_digit() || c == b'_'
+}
+
+/// What a name in either case goes on with.
+pub fn is_name_part(c: u8) -> bool
+    ensures { result ≡ is_name_part c }
+{
+    is_name_char(c.to_ascii_uppercase())
 }
 
 /// How many characters from the front a name may go on with.
@@ -93,8 +102,8 @@ fn first_token(text: &[u8]) -> Option<(TokenKind, usize)>
 {
     let (first, behind) = text.split_first()?;
     match first {
-        b'A'..=b'Z' => Some((TokenKind::Name, 1 + name_len(behind))),
-        b'0'..=b'9' => Some((TokenKind::Number, 1 + number_len(behind))),
+        c if c.is_ascii_uppercase() => Some((TokenKind::Name, 1 + name_len(behind))),
+        c if c.is_ascii_digit() => Some((TokenKind::Number, 1 + number_len(behind))),
         b'.' => dotted(text),
         b'*' => Some(stars(behind)),
         _ => Some((mark_of(*first)?, 1)),

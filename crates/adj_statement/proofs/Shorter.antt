@@ -3,13 +3,14 @@ use Rattle.std.proofs.Common.{◌≤◌, ℕ, List, [], ◌∷◌, length, Bool,
 use Rattle.adj_text.specs.Grammar.{Syntax}
 use Rattle.adj_text.specs.Machine.{State, step, finish, syntaxes, wanting, is_stop, chosen, stopped, read}
 use Rattle.adj_text.specs.Lexeme.{Lexeme, Named, Digits, Mark}
+use Rattle.adj_text.specs.declared.token.TokenKind.{TokenKind}
 use Rattle.adj_text.specs.declared.token.TokenKind.TheVariants.{Left, Right, Comma}
 use Rattle.adj_expression.specs.Judged.{judged}
 use Rattle.adj_expression.specs.Reading.{read_expression}
 use Rattle.adj_expression.specs.Front.{front_expression}
 use Rattle.adj_statement.specs.Fronts.{judged_item, front_item}
 use Rattle.adj_statement.specs.Phrase.{Size}
-use Rattle.adj_statement.specs.Phrases.{Read, read_as, ◌>>=◌, name_at, behind_left, behind_right, behind_comma, size_at, second_size, read_sizes, item_behind, read_item}
+use Rattle.adj_statement.specs.Phrases.{Read, read_as, ◌>>=◌, name_at, same_kind, kind_of, behind, behind_left, behind_right, behind_comma, size_at, second_size, read_sizes, item_behind, read_item}
 
 -- what is left has at most so many lexemes
 abbrev pub AtMost : {A : Type 0} → ℕ → Read A → Type 0
@@ -35,20 +36,13 @@ mark_at_most : {A : Type 0} (o : Option (List Lexeme)) (n : ℕ) (x : A) → IfS
 mark_at_most None n x h = tt
 mark_at_most (Some us) n x h = h
 
-behind_left-shortens : (ws : List Lexeme) → IfSome (behind_left ws) (λ us. length us ≤ length ws)
-behind_left-shortens [] = tt
-behind_left-shortens (Mark Left ∷ ws) = omega arith
-behind_left-shortens (w ∷ ws) = tt
-
-behind_right-shortens : (ws : List Lexeme) → IfSome (behind_right ws) (λ us. length us ≤ length ws)
-behind_right-shortens [] = tt
-behind_right-shortens (Mark Right ∷ ws) = omega arith
-behind_right-shortens (w ∷ ws) = tt
-
-behind_comma-shortens : (ws : List Lexeme) → IfSome (behind_comma ws) (λ us. length us ≤ length ws)
-behind_comma-shortens [] = tt
-behind_comma-shortens (Mark Comma ∷ ws) = omega arith
-behind_comma-shortens (w ∷ ws) = tt
+behind-shortens : (kind : TokenKind) (ws : List Lexeme) → IfSome (behind kind ws) (λ us. length us ≤ length ws)
+behind-shortens kind [] = tt
+behind-shortens kind (w ∷ ws) =
+    elim (same_kind (kind_of w) kind) as (λ b. IfSome (cond b (Some ws) None) (λ us. length us ≤ length (w ∷ ws))) [
+      | true ↦ omega arith
+      | false ↦ tt
+    ]
 
 pub name_at-shortens : Shortens name_at
 name_at-shortens [] = tt
@@ -64,7 +58,7 @@ size_at-shortens (Mark k ∷ ws) = tt
 
 read_sizes-shortens : Shortens read_sizes
 unfolding read_sizes
-read_sizes-shortens ws = then_at_most (length ws) (size_at ws) (λ a. second_size a.0 a.1 (behind_comma a.1)) (size_at-shortens ws) (λ a. second a.0 a.1 (behind_comma a.1) (behind_comma-shortens a.1))
+read_sizes-shortens ws = then_at_most (length ws) (size_at ws) (λ a. second_size a.0 a.1 (behind_comma a.1)) (size_at-shortens ws) (λ a. second a.0 a.1 (behind_comma a.1) (behind-shortens Comma a.1))
   where
     paired : (a : Size) (n : ℕ) (o : Read Size) → AtMost n o → AtMost n (option_map (λ b. (a ∷ b.0 ∷ [], b.1)) o)
     paired a n None h = tt
@@ -76,11 +70,11 @@ read_sizes-shortens ws = then_at_most (length ws) (size_at ws) (λ a. second_siz
 
 pub read_item-shortens : Shortens read_item
 unfolding read_item
-read_item-shortens ws = then_at_most (length ws) (name_at ws) (λ x. item_behind x.0 x.1 (behind_left x.1)) (name_at-shortens ws) (λ x. behind x.0 x.1 (behind_left x.1) (behind_left-shortens x.1))
+read_item-shortens ws = then_at_most (length ws) (name_at ws) (λ x. item_behind x.0 x.1 (behind_left x.1)) (name_at-shortens ws) (λ x. behind x.0 x.1 (behind_left x.1) (behind-shortens Left x.1))
   where
     behind : (x : List ℕ) (rest : List Lexeme) (o : Option (List Lexeme)) → IfSome o (λ us. length us ≤ length rest) → AtMost (length rest) (item_behind x rest o)
     behind x rest None h = omega arith
-    behind x rest (Some us) h = then_at_most (length rest) (read_sizes us) (λ s. behind_right s.1 >>= λ vs. Some (record { name = x; sizes = s.0 }, vs)) (AtMost-more (length us) (length rest) (read_sizes us) h (read_sizes-shortens us)) (λ s. mark_at_most (behind_right s.1) (length s.1) (record { name = x; sizes = s.0 }) (behind_right-shortens s.1))
+    behind x rest (Some us) h = then_at_most (length rest) (read_sizes us) (λ s. behind_right s.1 >>= λ vs. Some (record { name = x; sizes = s.0 }, vs)) (AtMost-more (length us) (length rest) (read_sizes us) h (read_sizes-shortens us)) (λ s. mark_at_most (behind_right s.1) (length s.1) (record { name = x; sizes = s.0 }) (behind-shortens Right s.1))
 
 pub front_item-shortens : Shortens front_item
 unfolding front_item

@@ -1,5 +1,6 @@
 -- Phrases: how the lexemes of a statement are read, from the front.
 use Rattle.std.specs.Prelude.{if◌then◌else◌, Bool, true, false, ℕ, zero, suc, List, [], ◌∷◌, ◌++◌, length, Option, Some, None, option_map, option_and_then}
+use denote.Enum.Bare.{sameb}
 use Rattle.adj_text.specs.Condition.{Condition}
 use Rattle.adj_text.specs.Form.{Form, subroutine, implicit_none, end_do, go_on, otherwise, end_if, leaves, ends}
 use Rattle.adj_text.specs.Grammar.{Syntax, Arguments, only, beside}
@@ -7,7 +8,9 @@ use Rattle.adj_text.specs.Machine.{chosen}
 use Rattle.adj_text.specs.Lexeme.{Lexeme, Named, Digits, Mark}
 use Rattle.adj_text.specs.declared.stated.Kind.{Kind}
 use Rattle.adj_text.specs.declared.stated.Kind.TheVariants as kind
-use Rattle.adj_text.specs.declared.token.TokenKind.TheVariants.{Left, Right, Comma, Equals, Call}
+use Rattle.adj_text.specs.contracts.token.TokenKind.{the_type}
+use Rattle.adj_text.specs.declared.token.TokenKind.{TokenKind}
+use Rattle.adj_text.specs.declared.token.TokenKind.TheVariants.{Name, Number, Left, Right, Comma, Equals, Call}
 use Rattle.adj_expression.specs.Reading.{read_expression, read_condition}
 use Rattle.adj_statement.specs.Phrase.{Entry, Deed, assigns, calls, Size, numbered, named, Declared, Bounds, Phrase, plainly, declares, does, guards, repeats, goes_while, opens, turns}
 
@@ -31,26 +34,36 @@ abbrev pub digits_at : List Lexeme → Read (List ℕ)
 digits_at (Digits ds ∷ ws) = Some (ds, ws)
 digits_at ws = None
 
--- the lexemes behind a mark
+-- `==` on kinds
+abbrev pub same_kind : TokenKind → TokenKind → Bool
+same_kind = sameb the_type
+
+-- the kind of a lexeme
+abbrev pub kind_of : Lexeme → TokenKind
+kind_of (Named x) = Name
+kind_of (Digits ds) = Number
+kind_of (Mark kind) = kind
+
+-- the lexemes behind one of a kind
+abbrev pub behind : TokenKind → List Lexeme → Option (List Lexeme)
+behind kind [] = None
+behind kind (w ∷ ws) = if same_kind (kind_of w) kind then Some ws else None
+
+-- those behind a mark
 abbrev pub behind_left : List Lexeme → Option (List Lexeme)
-behind_left (Mark Left ∷ ws) = Some ws
-behind_left ws = None
+behind_left ws = behind Left ws
 
 abbrev pub behind_right : List Lexeme → Option (List Lexeme)
-behind_right (Mark Right ∷ ws) = Some ws
-behind_right ws = None
+behind_right ws = behind Right ws
 
 abbrev pub behind_comma : List Lexeme → Option (List Lexeme)
-behind_comma (Mark Comma ∷ ws) = Some ws
-behind_comma ws = None
+behind_comma ws = behind Comma ws
 
 abbrev pub behind_equals : List Lexeme → Option (List Lexeme)
-behind_equals (Mark Equals ∷ ws) = Some ws
-behind_equals ws = None
+behind_equals ws = behind Equals ws
 
 abbrev pub behind_call : List Lexeme → Option (List Lexeme)
-behind_call (Mark Call ∷ ws) = Some ws
-behind_call ws = None
+behind_call ws = behind Call ws
 
 abbrev pub are_none : List Lexeme → Bool
 are_none [] = true

@@ -15,6 +15,7 @@ use crate::flaws::with_part;
 use crate::lexemes::Lexemes;
 use crate::number::number;
 use adj_expression::Flaw;
+use adj_text::TokenKind;
 use adj_tree::{Extent, Extents, Memory, Name};
 use std::alloc::Global;
 
@@ -64,7 +65,7 @@ fn sizes(
         return Ok(None);
     };
     let sizes = with_extent(Ok(Vec::new(alloc)), first)?;
-    let Some(behind) = rest.behind_comma() else {
+    let Some(behind) = rest.behind(TokenKind::Comma) else {
         return Ok(Some((sizes, rest)));
     };
     match size(alloc, behind)? {
@@ -94,13 +95,13 @@ fn extents(
 ) -> Result<Option<(Result<Vec<Extent>, Flaw>, Lexemes)>, Memory>
     ensures { IfOk result (λ found. option_map (λ f. (seen (λ v. map extent_of v.items) f.0, lexemes_in f.1)) found ≡ front_extents (lexemes_in lexemes.entry)) }
 {
-    let Some(inner) = lexemes.behind_left() else {
+    let Some(inner) = lexemes.behind(TokenKind::Left) else {
         return Ok(Some((Ok(Vec::new(alloc)), lexemes)));
     };
     let Some((sizes, rest)) = sizes(alloc, inner)? else {
         return Ok(None);
     };
-    match rest.behind_right() {
+    match rest.behind(TokenKind::Right) {
         Some(rest) => Ok(Some((sizes, rest))),
         None => Ok(None),
     }
@@ -142,7 +143,7 @@ fn listed(
         return Ok(None);
     };
     let mut items = with_item(Ok(Vec::new(alloc)), first)?;
-    while let Some(behind) = rest.behind_comma() {
+    while let Some(behind) = rest.behind(TokenKind::Comma) {
         let Some((next, others)) = item(alloc, behind)? else {
             return Ok(None);
         };

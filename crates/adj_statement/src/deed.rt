@@ -17,6 +17,7 @@ use crate::called::called;
 use crate::flaws::with_boxed;
 use crate::lexemes::Lexemes;
 use adj_expression::{Flaw, both};
+use adj_text::TokenKind;
 use adj_tree::{Act, Expr, Exprs, Memory, Name, Place};
 use std::alloc::Global;
 
@@ -44,7 +45,7 @@ fn subscripts(
         return Ok(None);
     };
     let all = with_expression(Ok(Vec::new(alloc)), first)?;
-    let Some(behind) = rest.behind_comma() else {
+    let Some(behind) = rest.behind(TokenKind::Comma) else {
         return Ok(Some((all, rest)));
     };
     match behind.expression(alloc, limit)? {
@@ -80,13 +81,13 @@ fn inner(
     requires { limit < 1000 }
     ensures { IfOk result (λ found. option_map (λ f. (seen (λ v. map term_of v.items) f.0, lexemes_in f.1)) found ≡ front_inner limit (lexemes_in lexemes.entry)) }
 {
-    let Some(inside) = lexemes.behind_left() else {
+    let Some(inside) = lexemes.behind(TokenKind::Left) else {
         return Ok(Some((Ok(Vec::new(alloc)), lexemes)));
     };
     let Some((subs, rest)) = subscripts(alloc, inside, limit)? else {
         return Ok(None);
     };
-    match rest.behind_right() {
+    match rest.behind(TokenKind::Right) {
         Some(rest) => Ok(Some((subs, rest))),
         None => Ok(None),
     }
@@ -134,7 +135,7 @@ pub(crate) fn assignment(
     let Some((place, rest)) = place(alloc, lexemes, limit)? else {
         return Ok(None);
     };
-    let Some(rest) = rest.behind_equals() else {
+    let Some(rest) = rest.behind(TokenKind::Equals) else {
         return Ok(None);
     };
     match rest.expression(alloc, limit)? {
@@ -157,7 +158,7 @@ fn arguments(
         return Ok(None);
     };
     let mut all = with_expression(Ok(Vec::new(alloc)), first)?;
-    while let Some(behind) = rest.behind_comma() {
+    while let Some(behind) = rest.behind(TokenKind::Comma) {
         let Some((next, others)) = behind.expression(alloc, limit)? else {
             return Ok(None);
         };
@@ -180,16 +181,16 @@ fn actuals(
     if lexemes.are_none() {
         return Ok(Some(Ok(Vec::new(alloc))));
     }
-    let Some(lexemes) = lexemes.behind_left() else {
+    let Some(lexemes) = lexemes.behind(TokenKind::Left) else {
         return Ok(None);
     };
-    if let Some(rest) = lexemes.behind_right() {
+    if let Some(rest) = lexemes.behind(TokenKind::Right) {
         return Ok(rest.ended(Ok(Vec::new(alloc))));
     }
     let Some((all, rest)) = arguments(alloc, lexemes, limit)? else {
         return Ok(None);
     };
-    match rest.behind_right() {
+    match rest.behind(TokenKind::Right) {
         Some(rest) => Ok(rest.ended(all)),
         None => Ok(None),
     }

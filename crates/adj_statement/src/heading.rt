@@ -6,6 +6,7 @@ ghost use Rattle.adj_statement.specs.Phrases.{read_names, read_dummies, read_hea
 ghost use Rattle.adj_statement.specs.LexemesView.{lexemes_in};
 
 use crate::lexemes::Lexemes;
+use adj_text::TokenKind;
 use adj_tree::{Memory, Name, NameList};
 use std::alloc::Global;
 
@@ -18,7 +19,7 @@ fn names(alloc: Global, lexemes: Lexemes) -> Result<Option<(Vec<Name>, Lexemes)>
         return Ok(None);
     };
     let mut names = vec![in alloc; first]?;
-    while let Some(behind) = rest.behind_comma() {
+    while let Some(behind) = rest.behind(TokenKind::Comma) {
         let Some((next, others)) = behind.name(alloc)? else {
             return Ok(None);
         };
@@ -36,16 +37,16 @@ fn dummies(alloc: Global, lexemes: Lexemes) -> Result<Option<NameList>, Memory>
     if lexemes.are_none() {
         return Ok(Some(NameList::new(Vec::new(alloc))));
     }
-    let Some(lexemes) = lexemes.behind_left() else {
+    let Some(lexemes) = lexemes.behind(TokenKind::Left) else {
         return Ok(None);
     };
-    if let Some(rest) = lexemes.behind_right() {
+    if let Some(rest) = lexemes.behind(TokenKind::Right) {
         return Ok(rest.ended(NameList::new(Vec::new(alloc))));
     }
     let Some((names, rest)) = names(alloc, lexemes)? else {
         return Ok(None);
     };
-    match rest.behind_right() {
+    match rest.behind(TokenKind::Right) {
         Some(rest) => Ok(rest.ended(NameList::new(names))),
         None => Ok(None),
     }

@@ -21,7 +21,7 @@ pub(crate) struct Lexemes<'t> {
 impl<'t> Lexemes<'t> {
     ghost use Rattle.adj_text.specs.Lexeme.{lexemes_of};
     ghost use Rattle.adj_expression.specs.Front.{front_expression, front_condition};
-    ghost use Rattle.adj_statement.specs.Phrases.{are_none, ended, name_at, digits_at, behind_left, behind_right, behind_comma, behind_equals, behind_call};
+    ghost use Rattle.adj_statement.specs.Phrases.{are_none, ended, name_at, digits_at, behind};
     ghost use Rattle.adj_statement.specs.LexemesView.{lexemes_in};
 
     /// Tokens of a text.
@@ -49,62 +49,12 @@ impl<'t> Lexemes<'t> {
         }
     }
 
-    /// What stands behind a left parenthesis.
-    pub fn behind_left(self) -> Option<Lexemes<'t>>
-        ensures { option_map lexemes_in result ≡ behind_left (lexemes_in self.entry) }
+    /// What stands behind a token of a kind.
+    pub fn behind(self, kind: TokenKind) -> Option<Lexemes<'t>>
+        ensures { option_map lexemes_in result ≡ behind kind (lexemes_in self.entry) }
     {
         match self.tokens {
-            [first, rest @ ..] if first.kind == TokenKind::Left => Some(Lexemes::new(
-                self.text, rest,
-            )),
-            _ => None,
-        }
-    }
-
-    /// What stands behind a right parenthesis.
-    pub fn behind_right(self) -> Option<Lexemes<'t>>
-        ensures { option_map lexemes_in result ≡ behind_right (lexemes_in self.entry) }
-    {
-        match self.tokens {
-            [first, rest @ ..] if first.kind == TokenKind::Right => Some(Lexemes::new(
-                self.text, rest,
-            )),
-            _ => None,
-        }
-    }
-
-    /// What stands behind a comma.
-    pub fn behind_comma(self) -> Option<Lexemes<'t>>
-        ensures { option_map lexemes_in result ≡ behind_comma (lexemes_in self.entry) }
-    {
-        match self.tokens {
-            [first, rest @ ..] if first.kind == TokenKind::Comma => Some(Lexemes::new(
-                self.text, rest,
-            )),
-            _ => None,
-        }
-    }
-
-    /// What stands behind `=`.
-    pub fn behind_equals(self) -> Option<Lexemes<'t>>
-        ensures { option_map lexemes_in result ≡ behind_equals (lexemes_in self.entry) }
-    {
-        match self.tokens {
-            [first, rest @ ..] if first.kind == TokenKind::Equals => Some(Lexemes::new(
-                self.text, rest,
-            )),
-            _ => None,
-        }
-    }
-
-    /// What stands behind the lexeme CALL.
-    pub fn behind_call(self) -> Option<Lexemes<'t>>
-        ensures { option_map lexemes_in result ≡ behind_call (lexemes_in self.entry) }
-    {
-        match self.tokens {
-            [first, rest @ ..] if first.kind == TokenKind::Call => Some(Lexemes::new(
-                self.text, rest,
-            )),
+            [first, rest @ ..] if first.kind == kind => Some(Lexemes::new(self.text, rest)),
             _ => None,
         }
     }

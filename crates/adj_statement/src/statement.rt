@@ -21,7 +21,7 @@ use crate::heading::head;
 use crate::label::Label;
 use crate::lexemes::Lexemes;
 use adj_expression::{Flaw, both};
-use adj_text::{Kind, Stated};
+use adj_text::{Kind, Stated, TokenKind};
 use adj_tree::{Act, Cond, Expr, Memory, Name, NameList, boxed};
 use std::alloc::Global;
 
@@ -35,13 +35,13 @@ fn guard(
     requires { limit < 1000 }
     ensures { IfOk result (λ found. option_map (λ f. (seen (λ c. test_of c.value) f.0, lexemes_in f.1)) found ≡ front_guard limit (lexemes_in lexemes.entry)) }
 {
-    let Some(inner) = lexemes.behind_left() else {
+    let Some(inner) = lexemes.behind(TokenKind::Left) else {
         return Ok(None);
     };
     let Some((condition, rest)) = inner.condition(alloc, limit)? else {
         return Ok(None);
     };
-    match rest.behind_right() {
+    match rest.behind(TokenKind::Right) {
         Some(rest) => Ok(Some((condition, rest))),
         None => Ok(None),
     }
@@ -69,7 +69,7 @@ fn guarded(alloc: Global, lexemes: Lexemes, limit: u32) -> Result<Option<Result<
     requires { limit < 1000 }
     ensures { IfOk result (λ found. option_map (seen act_of) found ≡ front_guarded limit (lexemes_in lexemes.entry)) }
 {
-    match lexemes.behind_call() {
+    match lexemes.behind(TokenKind::Call) {
         Some(rest) => call(alloc, rest, limit),
         None => assignment(alloc, lexemes, limit),
     }
@@ -118,7 +118,7 @@ fn step(
         let one = boxed(alloc, Expr::Lit(1))?;
         return Ok(Some(Ok(one)));
     }
-    let Some(lexemes) = lexemes.behind_comma() else {
+    let Some(lexemes) = lexemes.behind(TokenKind::Comma) else {
         return Ok(None);
     };
     match lexemes.expression(alloc, limit)? {
@@ -160,13 +160,13 @@ fn bounds(
     let Some((counter, rest)) = lexemes.name(alloc)? else {
         return Ok(None);
     };
-    let Some(rest) = rest.behind_equals() else {
+    let Some(rest) = rest.behind(TokenKind::Equals) else {
         return Ok(None);
     };
     let Some((from, rest)) = rest.expression(alloc, limit)? else {
         return Ok(None);
     };
-    let Some(rest) = rest.behind_comma() else {
+    let Some(rest) = rest.behind(TokenKind::Comma) else {
         return Ok(None);
     };
     let Some((to, rest)) = rest.expression(alloc, limit)? else {
@@ -186,7 +186,7 @@ fn label(alloc: Global, lexemes: Lexemes) -> Result<(Option<Label>, Lexemes), Me
     match lexemes.digits() {
         Some((digits, rest)) => {
             let label = Label::new(alloc, digits)?;
-            Ok((Some(label), rest.behind_comma().unwrap_or(rest)))
+            Ok((Some(label), rest.behind(TokenKind::Comma).unwrap_or(rest)))
         }
         None => Ok((None, lexemes)),
     }

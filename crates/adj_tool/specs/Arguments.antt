@@ -1,12 +1,14 @@
 -- Arguments: what the program is asked to do.
-use Rattle.std.specs.Prelude.{ℕ, ◌-◌, ◌^◌, ◌==◌, nat_le, List, [], ◌∷◌, length, map, Bool, true, false, not, ◌&&◌, ◌||◌, if◌then◌else◌, Option, Some, None, is_some, option_map, option_and_then, codes}
+use Rattle.std.specs.Prelude.{ℕ, ◌-◌, ◌^◌, ◌==◌, nat_le, pos, List, [], ◌∷◌, length, map, Bool, true, false, not, ◌&&◌, if◌then◌else◌, Option, Some, None, is_some, option_map, option_and_then, codes}
 use Rattle.std.specs.List.{list_all}
 use Rattle.std.specs.Str.{bytes_eq}
 use Rattle.clap.specs.Kinds.{Kinds}
 use Rattle.clap.specs.Walk.{Row, Rule, Text, all_of, first_of}
 use Rattle.clap.specs.Simple.{App, matches_of, new_app, new_rule, on_top, with_rule}
 use Rattle.clap.specs.Faults.{fault_of}
-use Rattle.adj_text.specs.Char.{is_capital, is_small, is_digit, underscore, upper, number_of}
+use Rattle.adj_text.specs.Char.{upper, number_of}
+use Rattle.adj_data.specs.Items.{is_name, are_digits}
+use Rattle.adj_meaning.specs.Trap.{number_in}
 use Rattle.adj_running.specs.Running.{Asked}
 
 -- ---- the command line
@@ -35,18 +37,9 @@ program =
 
 -- ---- values
 
--- a letter of either case
-abbrev pub is_letter : ℕ → Bool
-is_letter c = is_capital c || is_small c
-
--- what may follow the first letter of a name: letters, digits and `_`
-abbrev pub is_name_byte : ℕ → Bool
-is_name_byte c = is_letter c || (is_digit c || c == underscore)
-
--- a name argument: a letter and then letters, digits and `_`, at most 63 characters
+-- a name argument: a letter and then letters, digits and `_`, in either case, at most 63 characters
 abbrev pub is_name_argument : Text → Bool
-is_name_argument [] = false
-is_name_argument (c ∷ cs) = is_letter c && (list_all is_name_byte cs && nat_le (length (c ∷ cs)) 63)
+is_name_argument w = is_name w && nat_le (length w) 63
 
 -- the name of a name argument, in upper case
 abbrev pub name_of : Text → Option Text
@@ -71,10 +64,9 @@ abbrev pub names_of : Text → Option (List Text)
 names_of w = if list_all is_name_argument (pieces w) then Some (map (map upper) (pieces w)) else None
 
 -- the number of a number argument, 1 to 20 digits, where it lies from `least` to `most`
-abbrev pub number_in : ℕ → ℕ → Text → Option ℕ
-number_in least most w =
-    if (nat_le 1 (length w) && nat_le (length w) 20) && (list_all is_digit w && (nat_le least (number_of w) && nat_le (number_of w) most))
-    then Some (number_of w) else None
+abbrev pub number_argument : ℕ → ℕ → Text → Option ℕ
+number_argument least most w =
+    if are_digits w && nat_le (length w) 20 then number_in least most (pos (number_of w)) else None
 
 -- ---- commands
 
@@ -120,7 +112,7 @@ plan_asked rows = option_map Plan (request_asked rows)
 -- the number of an option, or another where the option is absent
 abbrev pub number_or : ℕ → ℕ → ℕ → Option Text → Option ℕ
 number_or other least most None = Some other
-number_or other least most (Some w) = number_in least most w
+number_or other least most (Some w) = number_argument least most w
 
 abbrev pub with_limits : Option Text → Option ℕ → Option ℕ → Option Asked
 with_limits (Some head) (Some budget) (Some room) = Some (record { head = head; budget = budget; room = room })
@@ -151,7 +143,7 @@ two_numbers (Some l) (Some s) = Some (Schedule l s)
 two_numbers _ _ = None
 
 abbrev pub numbers_asked : List Text → Option Command
-numbers_asked (l ∷ s ∷ []) = two_numbers (number_in 0 100000 l) (number_in 1 64 s)
+numbers_asked (l ∷ s ∷ []) = two_numbers (number_argument 0 100000 l) (number_argument 1 64 s)
 numbers_asked _ = None
 
 -- schedule STEPS SNAPSHOTS, at most 100000 steps and from 1 to 64 snapshots

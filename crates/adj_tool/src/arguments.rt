@@ -10,7 +10,7 @@ ghost use Rattle.clap.specs.Walk.{rows_of, rule_of, first_of, all_of};
 
 use crate::task::{CheckRequest, Request, Reversal, Task};
 use crate::text::Text;
-use crate::values::{name_of, names_of, number_in};
+use crate::values::{name_of, names_of, number_argument};
 use adj_running::RunRequest;
 use adj_tree::{Memory, Name, NameList};
 use clap::error::ErrorKind;
@@ -170,7 +170,7 @@ fn number_option(
     ensures within { IfSome result (λ n. n ≤ most) }
 {
     match value(matches, id) {
-        Some(argument) => number_in(least, most, argument.as_bytes()),
+        Some(argument) => number_argument(least, most, argument.as_bytes()),
         None => Some(other),
     }
 }
@@ -229,8 +229,8 @@ fn schedule_numbers(numbers: &[&str]) -> Option<Task>
 {
     match numbers {
         [steps, snapshots] => {
-            let steps = number_in(0, 100_000, steps.as_bytes())?;
-            let snapshots = number_in(1, 64, snapshots.as_bytes())?;
+            let steps = number_argument(0, 100_000, steps.as_bytes())?;
+            let snapshots = number_argument(1, 64, snapshots.as_bytes())?;
             Some(Task::Schedule(Reversal {
                 steps,
                 snapshots: snapshots as u32,

@@ -1,44 +1,17 @@
 //! Checks on the values of arguments: names, lists of names, and numbers.
 
 ghost use Rattle.std.specs.Prelude.{◌≡◌, ◌≢◌, ◌<◌, ◌≤◌, ℕ, List, ◌∷◌, length, slice_index, IfOk, IfSome, MatchOption, Option, option_map, map};
-ghost use Rattle.std.specs.List.{list_all};
-ghost use Rattle.adj_text.specs.Char.{is_digit, upper, number_of};
-ghost use Rattle.adj_tool.specs.Arguments.{is_letter, is_name_byte, is_name_argument, name_of, pieces, pieces_behind, names_of, number_in};
+ghost use Rattle.adj_text.specs.Char.{upper, number_of};
+ghost use Rattle.adj_tool.specs.Arguments.{is_name_argument, name_of, pieces, pieces_behind, names_of, number_argument};
 
+use adj_data::{are_digits, is_name};
 use adj_tree::{Memory, Name, NameList};
 use std::alloc::Global;
-
-fn is_letter(c: u8) -> bool
-    ensures { result ≡ is_letter c }
-{
-    c.is_ascii_alphabetic()
-}
-
-fn is_name_byte(c: u8) -> bool
-    ensures { result ≡ is_name_byte c }
-{
-    c.is_ascii_alphanumeric() || c == b'_'
-}
-
-fn upper(c: u8) -> u8
-    ensures { result ≡ upper c }
-{
-    c.to_ascii_uppercase()
-}
-
-fn are_name_bytes(bytes: &[u8]) -> bool
-    ensures { result ≡ list_all is_name_byte bytes.now }
-{
-    bytes.iter().all(|c| is_name_byte(*c))
-}
 
 fn is_name_argument(argument: &[u8]) -> bool
     ensures { result ≡ is_name_argument argument.now }
 {
-    match argument {
-        [] => false,
-        [first, rest @ ..] => is_letter(*first) && are_name_bytes(rest) && argument.len() <= 63,
-    }
+    is_name(argument) && argument.len() <= 63
 }
 
 // The name of a name argument, in upper case.
@@ -47,7 +20,7 @@ fn folded(alloc: Global, argument: &[u8]) -> Result<Name, Memory>
 {
     let mut bytes = Vec::new(alloc);
     for c in argument {
-        bytes.push(upper(*c))?;
+        bytes.push(c.to_ascii_uppercase())?;
     }
     Name::from_slice(alloc, bytes.as_slice())
 }
@@ -103,12 +76,6 @@ pub(crate) fn name_of(alloc: Global, argument: &[u8]) -> Result<Option<Name>, Me
     Ok(Some(name))
 }
 
-fn are_digits(argument: &[u8]) -> bool
-    ensures { result ≡ list_all is_digit argument.now }
-{
-    argument.iter().all(|c| c.is_ascii_digit())
-}
-
 // The number that at most 20 digits write.
 fn number_of(digits: &[u8]) -> u128
     requires { length digits.now ≤ 20 }
@@ -122,11 +89,11 @@ fn number_of(digits: &[u8]) -> u128
 }
 
 /// The number of a number argument, 1 to 20 digits, where it lies from `least` to `most`.
-pub(crate) fn number_in(least: u64, most: u64, argument: &[u8]) -> Option<u64>
-    ensures value { result ≡ number_in least most argument.now }
+pub(crate) fn number_argument(least: u64, most: u64, argument: &[u8]) -> Option<u64>
+    ensures value { result ≡ number_argument least most argument.now }
     ensures within { IfSome result (λ n. (least ≤ n) × (n ≤ most)) }
 {
-    if argument.is_empty() || argument.len() > 20 || !are_digits(argument) {
+    if argument.len() > 20 || !are_digits(argument) {
         return None;
     }
     let value = number_of(argument);

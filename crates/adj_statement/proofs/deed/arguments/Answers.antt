@@ -10,5 +10,5 @@ use Rattle.adj_statement.proofs.deed.arguments.Goals as goal
 pub loop-behind-smaller : goal.loop-behind-smaller
 loop-behind-smaller c =
     let next = c.in-Some-2 in
-    let comma = c.in-Some-behind_comma in
+    let comma = c.in-Some-behind in
     shorter_behind (front_expression c.args.limit) (front_expression-shortens c.args.limit) (lexemes_in c.loop-behind.rest) (lexemes_in comma.behind) (lexemes_in next.others) (seen (λ e. term_of e.value) next.next) (search rules) (search rules)

@@ -1,7 +1,7 @@
 use Rattle.std.proofs.Common.{rules, FitsSigned, ◌≡◌, w64, to_z, of_z, ◌-◌, suc, ◌++◌, ◌∷◌, [], length, ap, sym, ◌∙◌, arith}
 use Rattle.std.proofs.lemmas.Int.{to_z-of_z}
 use Rattle.std.proofs.Math.Seq.{map-set_same}
-use Rattle.adj_data.specs.Items.{number_in}
+use Rattle.adj_data.specs.Items.{number_of_item}
 use Rattle.adj_data.specs.Entries.{with_number}
 use Rattle.adj_data.specs.Faults.{in_range}
 use Rattle.adj_data.specs.declared.entries.Entry.{Entry}
@@ -23,7 +23,7 @@ returns-clause-entries c =
     let r = c.index_mut.result.now in
     let es = c.self.inside.entries.items in
     let i = c.len-count.result - 1 in
-    let z = number_in c.args.item.now in
+    let z = number_of_item c.args.item.now in
     let len : length es ≡ suc i = omega (arith, c.len-count.ensures, c.if-count-eq0.false) in
     let number = number_kept z c.in-Some.number (in_range z) c.in-Some.ensures in
     let fits : FitsSigned w64 c.in-Some.number = search rules in
