@@ -1,5 +1,6 @@
 -- Fresh names: names that nothing else has.
-use Rattle.std.specs.Prelude.{ℕ, zero, suc, ◌+◌, ◌/◌, ◌%◌, nat_lt, List, [], ◌∷◌, ◌++◌, length, Bool, false, ◌||◌, if◌then◌else◌, codes}
+use Rattle.std.specs.Prelude.{ℕ, zero, suc, ◌+◌, List, [], ◌∷◌, ◌++◌, map, length, Bool, false, ◌||◌, if◌then◌else◌, codes}
+use Rattle.std.specs.Int.Digits.{digits_of}
 use Rattle.adj_tree.specs.Code.{name_eq}
 
 -- whether the name stands in the list
@@ -7,15 +8,10 @@ abbrev pub has_name : List ℕ → List (List ℕ) → Bool
 has_name x [] = false
 has_name x (y ∷ ys) = name_eq x y || has_name x ys
 
--- the digits of n, of which there are fewer than `most`, before some others
-abbrev pub digits_before : ℕ → ℕ → List ℕ → List ℕ
-digits_before zero n others = others
-digits_before (suc most) n others =
-    if nat_lt n 10 then (48 + n) ∷ others else digits_before most (n / 10) ((48 + n % 10) ∷ others)
-
--- the decimal digits of n
+-- the decimal digits of n, as many as there are
 abbrev pub digits : ℕ → List ℕ
-digits n = digits_before (suc n) n []
+digits zero = codes "0"
+digits (suc n) = map (λ d. 48 + d) (digits_of 10 (suc n))
 
 -- b, `b_1`, `b_2` and on
 abbrev pub candidate : List ℕ → ℕ → List ℕ
