@@ -1,11 +1,12 @@
 -- Fresh names are written. (As in the crate of the emission: this belongs beside the definition of fresh names.)
-use Rattle.std.proofs.Common.{◌≡◌, ℕ, zero, suc, Bool, true, false, List, [], ◌∷◌, ◌++◌, ◌+◌, ◌/◌, ◌%◌, ◌<◌, length, nat_lt, refl, ap, ◌∙◌, arith, if◌then◌else◌, codes}
+use Rattle.std.proofs.Common.{◌≡◌, ℕ, zero, suc, Bool, true, false, List, [], ◌∷◌, ◌++◌, length, refl, arith, if◌then◌else◌, codes}
 use Rattle.std.specs.Prelude.{◌&&◌}
 use Rattle.std.specs.List.{list_all}
 use Rattle.std.proofs.lemmas.Bool.Decides.{nat_tests}
 use Rattle.adj_text.specs.Char.{is_name_char}
 use Rattle.adj_text.specs.Written.{IsName}
-use Rattle.adj_transpose.specs.Fresh.{has_name, digits_before, digits, candidate, first_free, fresh}
+use Rattle.adj_transpose.specs.Fresh.{has_name, digits, candidate, first_free, fresh}
+use Rattle.adj_transpose.proofs.Fresh.{digits_pass}
 use Rattle.adj_kernel.specs.Kernel.{wanted_local, local_names}
 
 -- ---- names
@@ -23,20 +24,12 @@ pub name-append : (b x : List ℕ) → IsName b → list_all is_name_char x ≡ 
 name-append [] x h g = absurd h
 name-append (c ∷ b) x h g = (h.0, all-append is_name_char b x h.1 g)
 
-digit_char : (d : ℕ) → d < 10 → is_name_char (48 + d) ≡ true
-digit_char d h = grind (arith, nat_tests)
-
-pub digits_chars : (most n : ℕ) (others : List ℕ) → list_all is_name_char others ≡ true → list_all is_name_char (digits_before most n others) ≡ true
-digits_chars zero n others h = h
-digits_chars (suc most) n others h = go (λ o g. digits_chars most (n / 10) o g) (nat_lt n 10) refl
-  where
-    go : ((o : List ℕ) → list_all is_name_char o ≡ true → list_all is_name_char (digits_before most (n / 10) o) ≡ true) → (b : Bool) → nat_lt n 10 ≡ b → list_all is_name_char (if b then (48 + n) ∷ others else digits_before most (n / 10) ((48 + n % 10) ∷ others)) ≡ true
-    go ih true e = let small : n < 10 = grind (arith, nat_tests) in ap (λ t. t && list_all is_name_char others) (digit_char n small) ∙ h
-    go ih false e = ih ((48 + n % 10) ∷ others) (ap (λ t. t && list_all is_name_char others) (digit_char (n % 10) (omega arith)) ∙ h)
+pub digits_chars : (n : ℕ) → list_all is_name_char (digits n) ≡ true
+digits_chars = digits_pass is_name_char (λ d h. grind (arith, nat_tests))
 
 candidate-name : (b : List ℕ) (i : ℕ) → IsName b → IsName (candidate b i)
 candidate-name b zero h = h
-candidate-name b (suc i) h = name-append b (codes "_" ++ digits (suc i)) h (digits_chars (suc (suc i)) (suc i) [] refl)
+candidate-name b (suc i) h = name-append b (codes "_" ++ digits (suc i)) h (digits_chars (suc i))
 
 first_free-name : (tries i : ℕ) (b : List ℕ) (taken : List (List ℕ)) → IsName b → IsName (first_free tries i b taken)
 first_free-name zero i b taken h = candidate-name b i h
@@ -52,4 +45,4 @@ fresh-name b taken h = first_free-name (length taken) 0 b taken h
 
 -- the name of a local is
 pub local-name : (taken : List (List ℕ)) (k : ℕ) → IsName (fresh (wanted_local k) (taken ++ local_names taken k))
-local-name taken k = fresh-name (wanted_local k) (taken ++ local_names taken k) (name-append (codes "ADV") (digits (suc k)) (refl, refl) (digits_chars (suc (suc k)) (suc k) [] refl))
+local-name taken k = fresh-name (wanted_local k) (taken ++ local_names taken k) (name-append (codes "ADV") (digits (suc k)) (refl, refl) (digits_chars (suc k)))

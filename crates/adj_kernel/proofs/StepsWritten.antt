@@ -101,7 +101,7 @@ step_not_runtime taken base k = none_of (step_name taken base k) runtime_names (
 
 -- and is a name
 step_named : (taken : List (List ℕ)) (base : List ℕ) (k : ℕ) → IsName base → IsName (step_name taken base k)
-step_named taken base k h = fresh-name (wanted_step base k) (taken ++ step_names taken base k) (name-append base (codes "_S" ++ digits (suc k)) h (digits_chars (suc (suc k)) (suc k) [] refl))
+step_named taken base k h = fresh-name (wanted_step base k) (taken ++ step_names taken base k) (name-append base (codes "_S" ++ digits (suc k)) h (digits_chars (suc k)))
 
 -- ---- the names in written statements
 

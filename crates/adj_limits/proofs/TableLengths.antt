@@ -1,16 +1,17 @@
 -- How long the names are that the variables of an adjoint unit get.
-use Rattle.std.proofs.Common.{◌≡◌, ◌≤◌, ◌<◌, ◌^◌, ℕ, zero, suc, ◌+◌, ◌/◌, ◌%◌, Bool, true, false, List, [], ◌∷◌, ◌++◌, length, map, refl, sym, ap, subst, ◌∙◌, arith, inl, inr, append_assoc, length-append, codes, if◌then◌else◌}
-use Rattle.std.specs.Prelude.{◌||◌, ◌&&◌, ◌==◌, not, nat_lt, Some, None}
+use Rattle.std.proofs.Common.{◌≡◌, ◌≤◌, ◌<◌, ◌^◌, ℕ, zero, suc, ◌+◌, Bool, true, false, List, [], ◌∷◌, ◌++◌, length, map, refl, sym, ap, subst, ◌∙◌, arith, inl, inr, append_assoc, length-append, codes, if◌then◌else◌}
+use Rattle.std.specs.Prelude.{◌||◌, ◌==◌, not, Some, None}
+use Rattle.std.specs.List.{list_all}
 use Rattle.std.proofs.lemmas.Bool.{or_cases, and_parts}
 use Rattle.std.proofs.lemmas.Bool.Decides.{nat_tests}
 use Rattle.std.proofs.lemmas.List.{append-nil}
 use Rattle.adj_tree.specs.Code.{Role, work, temp, control, first, stride, count, turn, entry, entries, kind, lower, upper, slots, Var, plain, shadow, helper, var_eq, Act, Code}
-use Rattle.adj_transpose.specs.Fresh.{has_name, digits_before, digits, candidate, fresh, reserved}
+use Rattle.adj_transpose.specs.Fresh.{has_name, digits, candidate, fresh, reserved}
 use Rattle.adj_transpose.specs.Naming.{wanted, Named, own, named, unit_names, name_in}
 use Rattle.adj_transpose.specs.Marks.{Vars}
 use Rattle.adj_transpose.specs.Marked.{names_in}
 use Rattle.adj_transpose.specs.Program.{helpers_from}
-use Rattle.adj_transpose.proofs.Fresh.{digits_same}
+use Rattle.adj_transpose.proofs.Fresh.{digits_same, digits_pass}
 use Rattle.adj_transpose.proofs.Naming.{has-append}
 use Rattle.adj_reverse.specs.Plan.{Plan, Schedules, Step}
 use Rattle.adj_reverse.specs.Program.{works_used, temps_used, depth_used_with, tells_some_with, goes_back_with, reverses_by, any_step, has_slots, is_do, is_loop, helpers_among, loop_helpers_with, reversal_helpers, all_reversal_helpers, helpers_used_with}
@@ -128,8 +129,7 @@ stem [] = []
 stem (c ∷ cs) = if c == 95 then [] else c ∷ stem cs
 
 abbrev bare : List ℕ → Bool
-bare [] = true
-bare (c ∷ cs) = not (c == 95) && bare cs
+bare = list_all (λ c. not (c == 95))
 
 not_one : (b : Bool) → not b ≡ true → b ≡ false
 not_one true h = absurd cc
@@ -147,19 +147,8 @@ stem_candidate : (b : List ℕ) (j : ℕ) → bare b ≡ true → stem (candidat
 stem_candidate b zero h = stem_whole b h
 stem_candidate b (suc j) h = stem_bare b (digits (suc j)) h
 
-bare_digit : (d : ℕ) → d < 10 → not (48 + d == 95) ≡ true
-bare_digit d h = grind (arith, nat_tests)
-
-bare_digits : (most n : ℕ) (others : List ℕ) → bare others ≡ true → bare (digits_before most n others) ≡ true
-bare_digits zero n others h = h
-bare_digits (suc most) n others h =
-    elim (nat_lt n 10) as (λ b. nat_lt n 10 ≡ b → bare (if b then (48 + n) ∷ others else digits_before most (n / 10) ((48 + n % 10) ∷ others)) ≡ true) [
-      | true ↦ λ e. let small : n < 10 = grind (arith, nat_tests) in rw (bare_digit n small) h
-      | false ↦ λ e. bare_digits most (n / 10) ((48 + n % 10) ∷ others) (rw (bare_digit (n % 10) (omega arith)) h)
-    ] refl
-
 temp_bare : (k : ℕ) → bare (wanted (helper temp k)) ≡ true
-temp_bare k = bare_digits (suc k) k [] refl
+temp_bare = digits_pass (λ c. not (c == 95)) (λ d h. grind (arith, nat_tests))
 
 -- names of temporaries before the k-th
 abbrev IsEarlier : ℕ → List ℕ → Type 0

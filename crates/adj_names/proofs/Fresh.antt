@@ -1,67 +1,73 @@
 -- A fresh name isn't taken, and which one it is.
-use Rattle.std.proofs.Common.{◌≡◌, ℕ, zero, suc, ◌+◌, ◌-◌, ◌*◌, ◌/◌, ◌%◌, ◌<◌, ◌≤◌, Bool, true, false, List, [], ◌∷◌, ◌++◌, length, nat_lt, refl, sym, ap, ◌∙◌, subst, arith, if◌then◌else◌}
+use Rattle.std.proofs.Common.{◌≡◌, ℕ, zero, suc, ◌+◌, ◌-◌, ◌/◌, ◌%◌, ◌^◌, ◌<◌, ◌≤◌, Bool, true, false, List, [], ◌∷◌, ◌++◌, map, length, refl, sym, ap, ◌∙◌, subst, arith, if◌then◌else◌}
 use Rattle.std.specs.Prelude.{◌||◌}
-use Rattle.std.proofs.lemmas.Bool.Decides.{nat_tests}
+use Rattle.std.specs.Fmt.{decimal}
+use Rattle.std.specs.Int.Digits.{digits_of, number_from_digits, AllBelowBase}
+use Rattle.std.specs.List.{list_all}
+use Rattle.std.proofs.lemmas.Fmt.{decimal_by_steps_wide}
+use Rattle.std.proofs.lemmas.Int.Digits.{digits_of_step, number_digits_of, all_below_base_digits_of}
+use Rattle.std.proofs.lemmas.List.{map_push}
 use Rattle.adj_tree.specs.Code.{name_eq}
-use Rattle.adj_names.specs.Fresh.{has_name, digits_before, digits, candidate, first_free, fresh}
+use Rattle.adj_names.specs.Fresh.{has_name, digits, candidate, first_free, fresh}
 use Rattle.adj_tree.proofs.Names.{name_same}
 use Rattle.adj_names.proofs.Lists.{not_true}
 
--- ---- candidates are apart
+-- ---- digits
 
--- the number that digits after the number v make
-abbrev read : ℕ → List ℕ → ℕ
-read v [] = v
-read v (d ∷ ds) = read (v * 10 + (d - 48)) ds
+-- the characters of some digits
+abbrev written : List ℕ → List ℕ
+written = map (λ d. 48 + d)
 
-read-digits : (most n : ℕ) (others : List ℕ) → n < most → read 0 (digits_before most n others) ≡ read n others
-read-digits zero n others h = absurd (omega arith)
-read-digits (suc most) n others h = go (λ m o l. read-digits most m o l) (nat_lt n 10) refl
-  where
-    go : ((m : ℕ) (o : List ℕ) → m < most → read 0 (digits_before most m o) ≡ read m o) → (b : Bool) → nat_lt n 10 ≡ b → read 0 (if b then (48 + n) ∷ others else digits_before most (n / 10) ((48 + n % 10) ∷ others)) ≡ read n others
-    go ih true e = let p : 0 * 10 + (48 + n - 48) ≡ n = omega arith in ap (λ v. read v others) p
-    go ih false e =
-        let large : 10 ≤ n = grind (arith, nat_tests) in
-        let less : n / 10 < most = omega arith in
-        let p : n / 10 * 10 + (48 + n % 10 - 48) ≡ n = omega arith in
-        ih (n / 10) ((48 + n % 10) ∷ others) less ∙ ap (λ v. read v others) p
-
--- digits say of what number they are
-pub digits_same : (m n : ℕ) → digits m ≡ digits n → m ≡ n
-digits_same m n h = sym (read-digits (suc m) m [] (omega arith)) ∙ ap (read 0) h ∙ read-digits (suc n) n [] (omega arith)
-
--- ---- digits from the last one
-
--- what stands behind the others stands behind the digits
-digits-behind : (most n : ℕ) (others rest : List ℕ) → digits_before most n others ++ rest ≡ digits_before most n (others ++ rest)
-digits-behind zero n others rest = refl
-digits-behind (suc most) n others rest = go (nat_lt n 10) (digits-behind most (n / 10) ((48 + n % 10) ∷ others) rest)
-  where
-    go : (b : Bool) → digits_before most (n / 10) ((48 + n % 10) ∷ others) ++ rest ≡ digits_before most (n / 10) ((48 + n % 10) ∷ (others ++ rest)) → (if b then (48 + n) ∷ others else digits_before most (n / 10) ((48 + n % 10) ∷ others)) ++ rest ≡ (if b then (48 + n) ∷ (others ++ rest) else digits_before most (n / 10) ((48 + n % 10) ∷ (others ++ rest)))
-    go true ih = refl
-    go false ih = ih
-
--- there are as many digits as there are, whatever bound there is above
-digits-bound : (k m n : ℕ) (others : List ℕ) → n < k → n < m → digits_before k n others ≡ digits_before m n others
-digits-bound zero m n others h g = absurd (omega arith)
-digits-bound (suc k) zero n others h g = absurd (omega arith)
-digits-bound (suc k) (suc m) n others h g = go (λ a b. digits-bound k m (n / 10) ((48 + n % 10) ∷ others) a b) (nat_lt n 10) refl
-  where
-    go : (n / 10 < k → n / 10 < m → digits_before k (n / 10) ((48 + n % 10) ∷ others) ≡ digits_before m (n / 10) ((48 + n % 10) ∷ others)) → (b : Bool) → nat_lt n 10 ≡ b → (if b then (48 + n) ∷ others else digits_before k (n / 10) ((48 + n % 10) ∷ others)) ≡ (if b then (48 + n) ∷ others else digits_before m (n / 10) ((48 + n % 10) ∷ others))
-    go ih true e = refl
-    go ih false e = let large : 10 ≤ n = grind (arith, nat_tests) in ih (omega arith) (omega arith)
+digits-some : (n : ℕ) → 0 < n → digits n ≡ written (digits_of 10 n)
+digits-some zero h = absurd (omega arith)
+digits-some (suc n) h = refl
 
 -- a number below 10 has one digit
 pub digits-one : (n : ℕ) → n < 10 → digits n ≡ (48 + n) ∷ []
-digits-one n h = let e : nat_lt n 10 ≡ true = grind (arith, nat_tests) in ap (λ b. if b then (48 + n) ∷ [] else digits_before n (n / 10) ((48 + n % 10) ∷ [])) e
+digits-one zero h = refl
+digits-one (suc n) h =
+    let front : suc n / 10 ≡ 0 = omega arith in
+    let last : suc n % 10 ≡ suc n = omega arith in
+    ap written (digits_of_step 10 (suc n) (omega arith) (omega arith) ∙ (λ i. digits_of 10 (front i) ++ (last i ∷ [])))
 
 -- a greater one has those of its tenth, and a last one
 pub digits-last : (n : ℕ) → 10 ≤ n → digits n ≡ digits (n / 10) ++ ((48 + n % 10) ∷ [])
 digits-last n h =
-    let e : nat_lt n 10 ≡ false = grind (arith, nat_tests) in
-    ap (λ b. if b then (48 + n) ∷ [] else digits_before n (n / 10) ((48 + n % 10) ∷ [])) e
-    ∙ digits-bound n (suc (n / 10)) (n / 10) ((48 + n % 10) ∷ []) (omega arith) (omega arith)
-    ∙ sym (digits-behind (suc (n / 10)) (n / 10) [] ((48 + n % 10) ∷ []))
+    digits-some n (omega arith)
+    ∙ ap written (digits_of_step 10 n (omega arith) (omega arith))
+    ∙ map_push (λ d. 48 + d) (digits_of 10 (n / 10)) (n % 10)
+    ∙ ap (λ ds. ds ++ ((48 + n % 10) ∷ [])) (sym (digits-some (n / 10) (omega arith)))
+
+-- the number that digits write
+abbrev read : List ℕ → ℕ
+read ds = number_from_digits 10 (map (λ c. c - 48) ds)
+
+written-read : (ds : List ℕ) → map (λ c. c - 48) (written ds) ≡ ds
+written-read [] = refl
+written-read (d ∷ ds) = let p : 48 + d - 48 ≡ d = omega arith in λ i. p i ∷ written-read ds i
+
+read-digits : (n : ℕ) → read (digits n) ≡ n
+read-digits zero = refl
+read-digits (suc n) = ap (number_from_digits 10) (written-read (digits_of 10 (suc n))) ∙ number_digits_of 10 (suc n) (omega arith)
+
+-- digits say of what number they are
+pub digits_same : (m n : ℕ) → digits m ≡ digits n → m ≡ n
+digits_same m n h = sym (read-digits m) ∙ ap read h ∙ read-digits n
+
+-- what is so of ten characters is so of all digits
+pub digits_pass : (test : ℕ → Bool) → ((d : ℕ) → d < 10 → test (48 + d) ≡ true) → (n : ℕ) → list_all test (digits n) ≡ true
+digits_pass test h zero = rw (h 0 (omega arith)) refl
+digits_pass test h (suc n) = go (digits_of 10 (suc n)) (all_below_base_digits_of 10 (suc n) (omega arith))
+  where
+    go : (ds : List ℕ) → AllBelowBase 10 ds → list_all test (written ds) ≡ true
+    go [] e = refl
+    go (d ∷ ds) e = rw (h d e.0) (go ds e.1)
+
+-- they are what std writes, where that writes all digits
+pub digits-decimal : (n : ℕ) → n < 10 ^ 64 → digits n ≡ decimal n
+digits-decimal = decimal_by_steps_wide (λ m ds. digits m ≡ ds) digits-one (λ m ds le h. digits-last m le ∙ ap (λ x. x ++ ((48 + m % 10) ∷ [])) h)
+
+-- ---- candidates are apart
 
 -- what follows the same front is the same
 behind_same : (b x y : List ℕ) → b ++ x ≡ b ++ y → x ≡ y

@@ -1,16 +1,12 @@
 -- Fresh names: names that nothing else has.
-use Rattle.std.specs.Prelude.{ℕ, zero, suc, ◌+◌, ◌/◌, ◌%◌, nat_lt, List, [], ◌∷◌, ◌++◌, length, if◌then◌else◌, codes}
+use Rattle.std.specs.Prelude.{ℕ, zero, suc, ◌+◌, List, [], ◌∷◌, ◌++◌, map, length, if◌then◌else◌, codes}
+use Rattle.std.specs.Int.Digits.{digits_of}
 pub use Rattle.adj_meaning.specs.Apart.{has_name}
 
--- the digits of n, of which there are fewer than `most`, before some others
-abbrev pub digits_before : ℕ → ℕ → List ℕ → List ℕ
-digits_before zero n others = others
-digits_before (suc most) n others =
-    if nat_lt n 10 then (48 + n) ∷ others else digits_before most (n / 10) ((48 + n % 10) ∷ others)
-
--- the decimal digits of n
+-- the decimal digits of n, as many as there are
 abbrev pub digits : ℕ → List ℕ
-digits n = digits_before (suc n) n []
+digits zero = codes "0"
+digits (suc n) = map (λ d. 48 + d) (digits_of 10 (suc n))
 
 -- b, `b_1`, `b_2` and on
 abbrev pub candidate : List ℕ → ℕ → List ℕ

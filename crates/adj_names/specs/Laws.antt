@@ -1,10 +1,11 @@
 -- What holds of faults and of names.
-use Rattle.std.specs.Prelude.{◌≡◌, ◌⊎◌, ℕ, List, [], ◌∷◌, map, false, Some, None}
+use Rattle.std.specs.Prelude.{◌≡◌, ◌<◌, ◌^◌, ◌⊎◌, ℕ, List, [], ◌∷◌, map, false, Some, None}
+use Rattle.std.specs.Fmt.{decimal}
 use Rattle.adj_tree.specs.Code.{Procedure}
 use Rattle.adj_tree.specs.Lines.{unlined}
 use Rattle.adj_tree.specs.declared.fault.Refusal.{Refusal}
 pub use Rattle.adj_meaning.specs.Apart.{AreApart}
-use Rattle.adj_names.specs.Fresh.{has_name, candidate, fresh}
+use Rattle.adj_names.specs.Fresh.{has_name, digits, candidate, fresh}
 use Rattle.adj_names.specs.Variables.{Name, places, variables}
 use Rattle.adj_names.specs.Fault.{Rules, is_before, first_of}
 use Rattle.adj_names.specs.UnitFaults.{unit_faults}
@@ -69,3 +70,7 @@ FreshAsWanted = (b : Name) (taken : List Name) → has_name b taken ≡ false �
 
 abbrev pub FreshNumbered : Type 0
 FreshNumbered = (b : Name) (taken : List Name) → (i : ℕ) × (fresh b taken ≡ candidate b i)
+
+-- the digits in it are std's, which writes at most 64
+abbrev pub DigitsAreDecimal : Type 0
+DigitsAreDecimal = (n : ℕ) → n < 10 ^ 64 → digits n ≡ decimal n

@@ -1,6 +1,6 @@
 //! Laws of faults and of names, each the contract of an empty function.
 
-ghost use Rattle.adj_names.specs.Laws.{FirstIsFirst, NoFirst, FirstOfSame, SoundHasNone, SoundByLines, VariablesApart, VariablesStand, FreshIsFree, FreshAsWanted, FreshNumbered};
+ghost use Rattle.adj_names.specs.Laws.{FirstIsFirst, NoFirst, FirstOfSame, SoundHasNone, SoundByLines, VariablesApart, VariablesStand, FreshIsFree, FreshAsWanted, FreshNumbered, DigitsAreDecimal};
 
 /// The first of some faults is before all others, however they are listed; and what has none is free of faults. Whether a program
 /// has one doesn't depend on its line numbers.
@@ -18,9 +18,10 @@ pub fn variable_laws()
     ensures stand { VariablesStand }
 {}
 
-/// A fresh name isn't taken, and is the name wanted where that is free.
+/// A fresh name isn't taken, and is the name wanted where that is free. Numbers in it have std's digits.
 pub fn fresh_laws()
     ensures is_free { FreshIsFree }
     ensures as_wanted { FreshAsWanted }
     ensures numbered { FreshNumbered }
+    ensures decimal { DigitsAreDecimal }
 {}

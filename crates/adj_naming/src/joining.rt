@@ -1,23 +1,11 @@
 //! Names that are put together.
 
-ghost use Rattle.std.specs.Prelude.{◌≡◌, ◌++◌, IfOk, OnOk};
+ghost use Rattle.std.specs.Prelude.{◌≡◌, ◌++◌, IfOk};
 ghost use Rattle.adj_transpose.specs.Fresh.{digits, candidate};
 
 use adj_tree::{Memory, Name};
+use itoa::Buffer;
 use std::alloc::Global;
-
-// The decimal digits of n behind what is there.
-fn push_digits(out: &mut Vec<u8>, n: usize) -> Result<(), Memory>
-    ensures digits { OnOk result (out.new.items ≡ out.old.items ++ digits n) }
-{
-    if n < 10 {
-        out.push(48 + n as u8)?;
-        return Ok(());
-    }
-    push_digits(out, n / 10)?;
-    out.push(48 + (n % 10) as u8)?;
-    Ok(())
-}
 
 /// The name of some bytes and then some others.
 pub fn joined(alloc: Global, front: &[u8], back: &[u8]) -> Result<Name, Memory>
@@ -33,10 +21,8 @@ pub fn joined(alloc: Global, front: &[u8], back: &[u8]) -> Result<Name, Memory>
 pub fn with_number(alloc: Global, front: &[u8], number: usize) -> Result<Name, Memory>
     ensures name { IfOk result (λ y. y ≡ front.now ++ digits number) }
 {
-    let mut bytes = Vec::new(alloc);
-    bytes.extend_from_slice(front)?;
-    push_digits(&mut bytes, number)?;
-    Name::from_slice(alloc, bytes.as_slice())
+    let mut buffer = Buffer::new();
+    joined(alloc, front, buffer.format(number).as_bytes())
 }
 
 /// The base itself, or with its number behind.

@@ -1,5 +1,5 @@
 -- A fresh name isn't taken, and a text may have it where it may have the name wanted.
-pub use Rattle.adj_names.proofs.Fresh.{digits_same, digits-one, digits-last, candidates_apart, fresh-is_free}
+pub use Rattle.adj_names.proofs.Fresh.{digits_same, digits-one, digits-last, digits_pass, digits-decimal, candidates_apart, fresh-is_free}
 use Rattle.std.proofs.Common.{◌≡◌, ℕ, zero, suc, false, List, [], ◌∷◌, ◌++◌, refl, ap, ◌∙◌}
 use Rattle.adj_transpose.specs.Fresh.{digits, candidate, fresh}
 use Rattle.adj_transpose.specs.Naming.{begins_outside}

@@ -1,4 +1,4 @@
-use Rattle.adj_names.proofs.Fresh.{fresh-is_free, fresh-as_wanted, fresh-candidate}
+use Rattle.adj_names.proofs.Fresh.{fresh-is_free, fresh-as_wanted, fresh-candidate, digits-decimal}
 use Rattle.adj_names.proofs.laws.fresh_laws.Goals as goal
 
 pub returns-clause-is_free : goal.returns-clause-is_free
@@ -9,3 +9,6 @@ returns-clause-as_wanted c = fresh-as_wanted
 
 pub returns-clause-numbered : goal.returns-clause-numbered
 returns-clause-numbered c = fresh-candidate
+
+pub returns-clause-decimal : goal.returns-clause-decimal
+returns-clause-decimal c = digits-decimal
