@@ -2,7 +2,7 @@
 use Rattle.std.proofs.Common.{◌≡◌, ℕ, List, refl, ap}
 use Rattle.adj_tree.specs.Code.{Var as Variable, neg, bin, pow, power_of, abs, elem, var, more, compare, negation, conjunction, disjunction, plain}
 use Rattle.adj_tree.specs.declared.expr.Expr.{Expr}
-use Rattle.adj_tree.specs.declared.expr.Expr.TheVariants.{Lit, Var, Elem, Neg', Bin', Pow', Power', Abs'}
+use Rattle.adj_tree.specs.declared.expr.Expr.TheVariants.{Lit, Var, Elem', Neg', Bin', Pow', Power', Abs'}
 use Rattle.adj_tree.specs.declared.expr.Exprs.{Exprs}
 use Rattle.adj_tree.specs.declared.expr.Exprs.TheVariants as exprs
 use Rattle.adj_tree.specs.declared.expr.Cond.{Cond}
@@ -18,7 +18,7 @@ mutual
   pub term_kept : (r : Variable → Variable) → IsPlain r → (e : Expr) → rename_term r (term_of e) ≡ term_of e
   term_kept r h (Lit z) = refl
   term_kept r h (Var x) = ap var (h x)
-  term_kept r h (Elem x s) = λ i. elem (h x i) (terms_kept r h s i)
+  term_kept r h (Elem' x p s) = λ i. elem (h x i) (terms_kept r h s i)
   term_kept r h (Neg' p a) = ap neg (term_kept r h a)
   term_kept r h (Bin' op p a q b) = λ i. bin (op_of op) (term_kept r h a i) (term_kept r h b i)
   term_kept r h (Pow' p a k) = ap (λ e. pow e k) (term_kept r h a)

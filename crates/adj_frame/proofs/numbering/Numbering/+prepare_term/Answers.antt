@@ -32,7 +32,7 @@ term-returns-in_ok-subs-in-Elem t c =
     record {
       extends = extends_on _ _ _ r1.extends e2;
       resolves = rw c.in-Elem.is (record {
-        stands_for = λ ls f i. elem (r1.resolves.stands_for ls (extends_on _ _ _ e2 f) i) (r2.resolves.stands_for ls f i);
+        stands_for = λ ls f i. elem (r1.resolves.stands_for ls (extends_on _ _ _ e2 f) i) ((r2.resolves.stands_for ls f ∙ ap terms_of c.deref.ensures) i);
         below = λ ls f. (r1.resolves.below ls (extends_on _ _ _ e2 f), r2.resolves.below ls f);
       });
     }
@@ -43,7 +43,7 @@ term-returns-in_ok-operand-in-Neg t c =
     record {
       extends = r.extends;
       resolves = rw c.in-Neg.is (record {
-        stands_for = λ ls f. ap (λ z. neg z) (r.resolves.stands_for ls f ∙ ap term_of c.deref.ensures);
+        stands_for = λ ls f. ap (λ z. neg z) (r.resolves.stands_for ls f ∙ ap term_of c.deref-in-Neg.ensures);
         below = λ ls f. r.resolves.below ls f;
       });
     }
@@ -98,13 +98,14 @@ pub term-terms-requires : goal.term-terms-requires
 term-terms-requires t c =
     let whole = sized-Elem c.in-Elem.x c.in-Elem.subs in
     let was = ap size-Expr c.in-Elem.is in
-    (omega (arith, c.decreases, whole, was), tt)
+    let left = ap size-Exprs c.deref.ensures in
+    (omega (arith, c.decreases, whole, was, left), tt)
 
 pub term-operand-requires : goal.term-operand-requires
 term-operand-requires t c =
     let whole = sized-Neg c.in-Neg.a in
     let was = ap size-Expr c.in-Neg.is in
-    let left = ap size-Expr c.deref.ensures in
+    let left = ap size-Expr c.deref-in-Neg.ensures in
     (omega (arith, c.decreases, whole, was, left), tt)
 
 pub term-operand-requires-in-Pow : goal.term-operand-requires-in-Pow

@@ -50,10 +50,10 @@ apart-returns-in_ok-made-in-Neg t c =
     let on = active_in c.args.self.now in
     let line = c.args.self.now.line in
     let j = c.args.first in
-    let a = term_of c.deref.result.now in
+    let a = term_of c.deref-in-Neg.result.now in
     let inner = c.in_ok-inner-in-Neg.ensures in
     let made = c.in_ok-made-in-Neg.ensures in
-    let same : neg a ≡ term_of c.args.e.now = ap (λ x. neg (term_of x)) c.deref.ensures ∙ ap term_of (sym c.in-Neg.is) in
+    let same : neg a ≡ term_of c.args.e.now = ap (λ x. neg (term_of x)) c.deref-in-Neg.ensures ∙ ap term_of (sym c.in-Neg.is) in
     record {
       parts = subst (λ e. IsApart r on line e j c.in_ok-made-in-Neg.made) same (negation_apart r on line a j c.in_ok-inner-in-Neg.inner c.in_ok-made-in-Neg.made inner.parts made.next made.active made.term (made.share r line));
       steps = subst (λ e. AreBehind (rename r (temps_where on e j line)) c.args.steps.now.items c.apart.new.steps.items) same inner.steps;
