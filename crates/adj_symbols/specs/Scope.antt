@@ -1,7 +1,7 @@
 -- Units looked up by name.
 use Rattle.std.specs.Prelude.{◌≡◌, ℕ, List, [], ◌∷◌, Option, Some, None}
 use Rattle.adj_tree.specs.Code.{Procedure}
-use Rattle.adj_tree.specs.Codes.{number_of}
+use Rattle.adj_tree.specs.Codes.{code_number}
 use Rattle.adj_tree.specs.declared.code.Code.{Code}
 use Rattle.adj_tree.specs.declared.fault.Refusal.{Refusal}
 use Rattle.adj_names.specs.Fault.{fault}
@@ -16,4 +16,4 @@ AreNumbers ps numbers = (x : Name) → value_of x numbers ≡ number_from 0 ps x
 -- a fault with a code, where there is one
 abbrev pub faults_with : Option Code → ℕ → List Refusal
 faults_with None line = []
-faults_with (Some code) line = fault (number_of code) line ∷ []
+faults_with (Some code) line = fault (code_number code) line ∷ []

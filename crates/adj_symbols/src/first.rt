@@ -1,7 +1,7 @@
 //! The first of the faults that are met.
 
 ghost use Rattle.std.specs.Prelude.{◌≡◌, Option, Some, None};
-ghost use Rattle.adj_tree.specs.Codes.{number_of};
+ghost use Rattle.adj_tree.specs.Codes.{code_number};
 ghost use Rattle.adj_tree.specs.declared.fault.Refusal.{Refusal};
 ghost use Rattle.adj_names.specs.Fault.{is_before, fault, passed, faults_if, first_of, sooner};
 ghost use Rattle.adj_symbols.specs.Scope.{faults_with};
@@ -56,7 +56,7 @@ impl First {
 
     /// One more fault with a code at a line, where there is one.
     pub(crate) fn add_if(&mut self, is_fault: bool, code: Code, line: u32)
-        ensures added { self.new ≡ sooner self.old (first_of (faults_if is_fault (fault (number_of code) line))) }
+        ensures added { self.new ≡ sooner self.old (first_of (faults_if is_fault (fault (code_number code) line))) }
     {
         if is_fault {
             self.add(Refusal::new(code, line));

@@ -1,7 +1,7 @@
 //! Names with the lines where they stand.
 
 ghost use Rattle.std.specs.Prelude.{◌≡◌, ◌++◌, ◌∷◌, [], ℕ, List, map, flat_map, fold, not, IfOk, OnOk};
-ghost use Rattle.adj_tree.specs.Codes.{number_of};
+ghost use Rattle.adj_tree.specs.Codes.{code_number};
 ghost use Rattle.adj_tree.specs.View.{declaration_of, procedure_of};
 ghost use Rattle.adj_names.specs.Statements.{At};
 ghost use Rattle.adj_names.specs.Variables.{Name};
@@ -32,7 +32,7 @@ pub(crate) fn add_again<'a>(
     places: &[Placed<'a>],
     first: &mut First,
 ) -> Result<BorrowedNames<'a>, Memory>
-    ensures first { OnOk result (first.new ≡ sooner first.old (first_of (again (number_of code) [] (places_of places.now)))) }
+    ensures first { OnOk result (first.new ≡ sooner first.old (first_of (again (code_number code) [] (places_of places.now)))) }
     ensures names { IfOk result (λ s. s ≡ once (names_at (places_of places.now))) }
 {
     let mut names = BorrowedNames::new(alloc)?;

@@ -4,29 +4,29 @@ use Rattle.adj_tree.specs.declared.code.Code.{Code}
 use Rattle.adj_tree.specs.declared.code.Code.TheVariants.{Columns, Character, Unsupported, Malformed, LargeNumber, LongName, Undeclared, Redeclared, Rank, LoopEnd, LoopVariable, Extent, WrittenExtent, MissingUnit, Actuals, Recursion, Aliasing, ReservedName, RepeatedUnit, Directive, Limit, MissingHead, ListedName, WrittenValue, Exponent}
 
 -- the number of a code
-abbrev pub number_of : Code → ℕ
-number_of Columns = 1
-number_of Character = 2
-number_of Unsupported = 3
-number_of Malformed = 4
-number_of LargeNumber = 5
-number_of LongName = 6
-number_of Undeclared = 7
-number_of Redeclared = 8
-number_of Rank = 9
-number_of LoopEnd = 10
-number_of LoopVariable = 11
-number_of Extent = 12
-number_of WrittenExtent = 13
-number_of MissingUnit = 14
-number_of Actuals = 15
-number_of Recursion = 16
-number_of Aliasing = 17
-number_of ReservedName = 18
-number_of RepeatedUnit = 19
-number_of Directive = 20
-number_of Limit = 21
-number_of MissingHead = 22
-number_of ListedName = 23
-number_of WrittenValue = 24
-number_of Exponent = 25
+abbrev pub code_number : Code → ℕ
+code_number Columns = 1
+code_number Character = 2
+code_number Unsupported = 3
+code_number Malformed = 4
+code_number LargeNumber = 5
+code_number LongName = 6
+code_number Undeclared = 7
+code_number Redeclared = 8
+code_number Rank = 9
+code_number LoopEnd = 10
+code_number LoopVariable = 11
+code_number Extent = 12
+code_number WrittenExtent = 13
+code_number MissingUnit = 14
+code_number Actuals = 15
+code_number Recursion = 16
+code_number Aliasing = 17
+code_number ReservedName = 18
+code_number RepeatedUnit = 19
+code_number Directive = 20
+code_number Limit = 21
+code_number MissingHead = 22
+code_number ListedName = 23
+code_number WrittenValue = 24
+code_number Exponent = 25

@@ -1,7 +1,7 @@
 //! The codes of refusals.
 
 ghost use Rattle.std.specs.Prelude.{◌≡◌};
-ghost use Rattle.adj_tree.specs.Codes.{number_of};
+ghost use Rattle.adj_tree.specs.Codes.{code_number};
 
 /// What is wrong with a text: one for each code of docs/REFUSALS.md.
 #[derive(Clone, Copy, Debug, PartialEq, Eq)]
@@ -61,7 +61,7 @@ pub enum Code {
 impl Code {
     /// Its number, which is printed.
     pub fn number(self) -> u8
-        ensures { result ≡ number_of self }
+        ensures { result ≡ code_number self }
     {
         self as u8
     }

@@ -1,7 +1,7 @@
 //! Want of memory, and refusals of a text.
 
 ghost use Rattle.std.specs.Prelude.{◌≡◌};
-ghost use Rattle.adj_tree.specs.Codes.{number_of};
+ghost use Rattle.adj_tree.specs.Codes.{code_number};
 ghost use Rattle.adj_tree.specs.declared.fault.Fault.TheVariants as fault;
 
 use crate::code::Code;
@@ -35,7 +35,7 @@ pub struct Refusal {
 impl Refusal {
     /// The refusal with a code, at a line.
     pub fn new(code: Code, line: u32) -> Refusal
-        ensures { result ≡ record { code = number_of code; line = line; number = 0 } }
+        ensures { result ≡ record { code = code_number code; line = line; number = 0 } }
     {
         Refusal {
             code: code.number(),
@@ -66,7 +66,7 @@ pub enum Fault {
 impl Fault {
     /// The refusal with a code, at a line.
     pub fn refused(code: Code, line: u32) -> Fault
-        ensures { result ≡ fault.Refused (record { code = number_of code; line = line; number = 0 }) }
+        ensures { result ≡ fault.Refused (record { code = code_number code; line = line; number = 0 }) }
     {
         Fault::Refused(Refusal::new(code, line))
     }

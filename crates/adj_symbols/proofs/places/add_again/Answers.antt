@@ -1,7 +1,7 @@
 use Rattle.std.proofs.Common.{ap, sym, ◌∙◌}
 use Rattle.std.specs.Prelude.{fold}
 use Rattle.std.proofs.lemmas.List.{drop_all}
-use Rattle.adj_tree.specs.Codes.{number_of}
+use Rattle.adj_tree.specs.Codes.{code_number}
 use Rattle.adj_names.specs.Fault.{again, first_of, sooner}
 use Rattle.adj_names.proofs.Order.{sooner_none}
 use Rattle.adj_sets.specs.Sets.{with_name}
@@ -18,7 +18,7 @@ loop-place-preserved c =
     let made = c.in_ok-added.ensures.names in
     record {
       faults =
-          again_more (number_of c.args.code) names c.insert.new.self ps i p c.in_ok-added.added c.loop-place.first c.add_if.new.self c.loop-place-test.true c.place-item.is c.in_ok-added.ensures.added made c.add_if.ensures.added
+          again_more (code_number c.args.code) names c.insert.new.self ps i p c.in_ok-added.added c.loop-place.first c.add_if.new.self c.loop-place-test.true c.place-item.is c.in_ok-added.ensures.added made c.add_if.ensures.added
           ∙ c.loop-place.invariant.faults;
       passed = once_more names c.insert.new.self ps i p c.loop-place-test.true c.place-item.is made ∙ c.loop-place.invariant.passed;
     }
@@ -27,7 +27,7 @@ pub returns-clause-first : goal.returns-clause-first
 returns-clause-first c =
     let a = c.loop-place.first in
     let past = drop_all c.loop-place.place-index c.args.places.now c.loop-place-test.false in
-    sym (sooner_none a) ∙ ap (λ z. sooner a (first_of (again (number_of c.args.code) c.loop-place.names (places_of z)))) (sym past) ∙ c.loop-place.invariant.faults
+    sym (sooner_none a) ∙ ap (λ z. sooner a (first_of (again (code_number c.args.code) c.loop-place.names (places_of z)))) (sym past) ∙ c.loop-place.invariant.faults
 
 pub returns-clause-names : goal.returns-clause-names
 returns-clause-names c =
