@@ -4,4 +4,4 @@ use Rattle.adj_site.proofs.Plain.{terms_kept}
 use Rattle.adj_site.proofs.site.Site.shadow_at.Goals as goal
 
 pub returns-in_ok-made-in-More : goal.returns-in_ok-made-in-More
-returns-in_ok-made-in-More c = rw c.in-More.is (search (rules, terms_kept (naming_of c.args.self.now) (λ x. refl) c.in_ok-subs-in-More.subs))
+returns-in_ok-made-in-More c = rw c.in-More.is (search (rules, terms_kept (naming_of c.args.self.now) (λ x. refl) c.in_ok-subs-in-More.subs.value))
