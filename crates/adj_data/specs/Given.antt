@@ -4,6 +4,7 @@ use Rattle.adj_tree.specs.Code.{plain, Procedure}
 use Rattle.adj_tree.specs.declared.value.Slot.{Slot as CodeSlot}
 use Rattle.adj_meaning.specs.Store.{scalar}
 use Rattle.adj_meaning.specs.Units.{Slot, declared, shape_of}
+use Rattle.adj_data.specs.DataCodes.{data_code_number}
 use Rattle.adj_data.specs.Entries.{Entry, entries_of, entry_named}
 use Rattle.adj_data.specs.Faults.{Fault, extents_given, data_items}
 use Rattle.adj_data.specs.declared.entries.Entry.{Entry as CodeEntry}
@@ -32,5 +33,5 @@ slot_seen v = record { shape = record { rows = v.rows; cols = v.cols }; cells = 
 
 -- the fault is the first of the data, or memory ran out
 abbrev pub IsFirstFault : DataError → Option Fault → Type 0
-IsFirstFault (error.Data c n) found = found ≡ Some (record { code = c; line = n })
+IsFirstFault (error.Data c n) found = found ≡ Some (record { code = data_code_number c; line = n })
 IsFirstFault error.Memory found = Unit {0}

@@ -3,6 +3,7 @@ pub mod Items
 pub mod Titles
 pub mod Entries
 pub mod Faults
+pub mod DataCodes
 pub mod Given
 pub mod Fitting
 pub mod Printed

@@ -3,6 +3,7 @@
 ghost use Rattle.std.specs.Prelude.{◌≡◌};
 ghost use Rattle.adj_data.specs.declared.data_error.DataError.TheVariants as error;
 
+use crate::data_code::DataCode;
 use adj_tree::Memory;
 use std::alloc::{AllocError, AllocFailed};
 use thiserror::Error;
@@ -11,8 +12,8 @@ use thiserror::Error;
 #[derive(Clone, Copy, Debug, PartialEq, Eq, Error)]
 pub enum DataError {
     /// The code, and the line: 0 where something isn't there.
-    #[error("fault {0} of the data at line {1}")]
-    Data(u8, u32),
+    #[error("fault {} of the data at line {1}", .0.number())]
+    Data(DataCode, u32),
     /// Memory ran out.
     #[error("out of memory")]
     Memory,

@@ -8,6 +8,7 @@ ghost use Rattle.adj_data.specs.Faults.{number_code, name_code, item_code, fault
 ghost use Rattle.adj_data.specs.Given.{IsFirstFault, entry_seen};
 ghost use Rattle.adj_data.specs.Titles.{takes_marks};
 
+use crate::data_code::DataCode;
 use crate::data_error::DataError;
 use crate::items::{Titles, is_number, is_title, name_of, next_item};
 use crate::numbers::number_of_item;
@@ -83,10 +84,10 @@ impl Entries {
     {
         let name = name_of(alloc, item)?;
         if !dummies.has(&name) {
-            return Err(DataError::Data(2, line));
+            return Err(DataError::Data(DataCode::UnknownName, line));
         }
         if self.names.has(&name) {
-            return Err(DataError::Data(3, line));
+            return Err(DataError::Data(DataCode::RepeatedName, line));
         }
         self.entries.try_reserve(1)?;
         self.names.add(alloc, &name)?;
@@ -108,10 +109,10 @@ impl Entries {
     {
         let count = self.entries.len();
         if count == 0 {
-            return Err(DataError::Data(1, line));
+            return Err(DataError::Data(DataCode::Item, line));
         }
         let Some(number) = number_of_item(item) else {
-            return Err(DataError::Data(6, line));
+            return Err(DataError::Data(DataCode::LargeNumber, line));
         };
         self.entries[count - 1].numbers.push(number)?;
         Ok(())
@@ -134,12 +135,12 @@ impl Entries {
             if leads {
                 self.begin(alloc, &reading.names, item, line)
             } else {
-                Err(DataError::Data(1, line))
+                Err(DataError::Data(DataCode::Item, line))
             }
         } else if is_number(item) {
             self.go_on(item, line)
         } else {
-            Err(DataError::Data(1, line))
+            Err(DataError::Data(DataCode::Item, line))
         }
     }
 

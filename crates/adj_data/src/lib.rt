@@ -6,6 +6,7 @@
 #![tactic(auto)]
 
 mod checking;
+mod data_code;
 mod data_error;
 mod declared;
 mod entries;
@@ -18,6 +19,7 @@ mod print;
 mod slots;
 
 pub use checking::check_values;
+pub use data_code::DataCode;
 pub use data_error::DataError;
 pub use input::values;
 pub use items::{are_digits, is_name};

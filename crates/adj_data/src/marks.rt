@@ -6,6 +6,7 @@ ghost use Rattle.adj_names.specs.Fresh.{has_name};
 ghost use Rattle.adj_data.specs.Given.{IsFirstFault, slot_seen};
 ghost use Rattle.adj_data.specs.Marked.{mark_fault, marks_fault, marked_names, marked_slot, marked_slots, filled, wanted, zeros_like};
 
+use crate::data_code::DataCode;
 use crate::data_error::DataError;
 use crate::entries::Entries;
 use adj_sets::NameSet;
@@ -65,10 +66,10 @@ fn filled(alloc: Global, entries: &Entries, name: &[u8], slot: &Slot) -> Result<
     ensures fault { IfErr result (λ e. IsFirstFault e (mark_fault (slot_seen slot.now) (entry_named name.now entries.now))) }
 {
     let Some(entry) = entries.find(name) else {
-        return Err(DataError::Data(4, 0));
+        return Err(DataError::Data(DataCode::MissingEntry, 0));
     };
     if entry.numbers.len() != slot.cells.as_slice().len() {
-        return Err(DataError::Data(5, entry.line));
+        return Err(DataError::Data(DataCode::Count, entry.line));
     }
     Ok(Slot {
         rows: slot.rows,

@@ -3,10 +3,12 @@
 ghost use Rattle.std.specs.Prelude.{◌≡◌, ◌*ℤ◌, ◌&&◌, pos, int_le, false, true, None, Some, map, option_map, IfErr, IfOk, OnOk, MatchOption};
 ghost use Rattle.adj_tree.specs.View.{extent_of};
 ghost use Rattle.adj_meaning.specs.Units.{are_extents, elements};
+ghost use Rattle.adj_data.specs.DataCodes.{data_code_number};
 ghost use Rattle.adj_data.specs.Entries.{entry_named};
 ghost use Rattle.adj_data.specs.Faults.{extent_given, extents_given, entry_code, given_fault};
 ghost use Rattle.adj_data.specs.Given.{IsFirstFault, entry_seen, slot_in, slot_seen};
 
+use crate::data_code::DataCode;
 use crate::data_error::DataError;
 use crate::entries::{Entries, Entry};
 use adj_tree::{Extent, Items, Memory, Slot};
@@ -70,13 +72,13 @@ fn elements(extents: &[i64]) -> Option<u64>
 }
 
 // What is wrong with an entry of such extents.
-fn entry_code(entry: &Entry, extents: &[i64]) -> Option<u8>
-    ensures { result ≡ entry_code (entry_seen entry.now) (Some extents.now) }
+fn entry_code(entry: &Entry, extents: &[i64]) -> Option<DataCode>
+    ensures { option_map data_code_number result ≡ entry_code (entry_seen entry.now) (Some extents.now) }
 {
     match elements(extents) {
-        None => Some(7),
+        None => Some(DataCode::Extent),
         Some(count) if count == entry.numbers.len() as u64 => None,
-        Some(_) => Some(5),
+        Some(_) => Some(DataCode::Count),
     }
 }
 
@@ -120,7 +122,7 @@ pub(crate) fn slot_given(
     ensures fault { IfErr result (λ e. IsFirstFault e (given_fault entries.now (map extent_of extents.now) (entry_named name.now entries.now))) }
 {
     let Some(entry) = entries.find(name) else {
-        return Err(DataError::Data(4, 0));
+        return Err(DataError::Data(DataCode::MissingEntry, 0));
     };
     let Some(values) = values_of(alloc, entries, extents)? else {
         return Ok(no_slot(alloc));

@@ -1,5 +1,6 @@
 -- Views: what clauses see of what is asked for, of data that give no input, and of a run that stopped.
 use Rattle.std.specs.Prelude.{Option, Some, None}
+use Rattle.adj_data.specs.DataCodes.{data_code_number}
 use Rattle.adj_data.specs.declared.data_error.DataError.{DataError}
 use Rattle.adj_data.specs.declared.data_error.DataError.TheVariants as error
 use Rattle.adj_frame.specs.Framed.{trap_of}
@@ -14,7 +15,7 @@ asked_of r = record { head = r.head; budget = r.budget; room = r.room }
 
 -- the answer to data that give no input, unless memory ran out
 abbrev pub error_answer : DataError → Option Answer
-error_answer (error.Data c n) = Some (bad_data (record { code = c; line = n }))
+error_answer (error.Data c n) = Some (bad_data (record { code = data_code_number c; line = n }))
 error_answer error.Memory = None
 
 -- the answer to a run that stopped, unless memory ran out

@@ -2,6 +2,7 @@
 
 ghost use Rattle.std.specs.Prelude.{◌≡◌, length, map, Some, IfOk};
 ghost use Rattle.adj_frame.specs.Framed.{trap_of};
+ghost use Rattle.adj_data.specs.DataCodes.{data_code_number};
 ghost use Rattle.adj_data.specs.Given.{slot_seen};
 ghost use Rattle.adj_answer.specs.Answer.{line_of_one};
 ghost use Rattle.adj_answer.specs.Views.{answer_of, status_of};
@@ -10,17 +11,17 @@ ghost use Rattle.adj_running.specs.Views.{asked_of, error_answer, stop_answer};
 
 use crate::request::RunRequest;
 use adj_answer::{Answer, Status, push_number};
-use adj_data::{DataError, print_values};
+use adj_data::{DataCode, DataError, print_values};
 use adj_interp::Stop;
 use adj_tree::{Memory, NameList, Trap, Values};
 use std::alloc::Global;
 
 // The answer to data that have a fault.
-fn bad_data(alloc: Global, code: u8, line: u32) -> Result<Answer, Memory>
-    ensures { IfOk result (λ a. answer_of a ≡ bad_data (record { code = code; line = line })) }
+fn bad_data(alloc: Global, code: DataCode, line: u32) -> Result<Answer, Memory>
+    ensures { IfOk result (λ a. answer_of a ≡ bad_data (record { code = data_code_number code; line = line })) }
 {
     let mut text = Vec::new(alloc);
-    push_number(&mut text, b"DATA ", u128::from(code))?;
+    push_number(&mut text, b"DATA ", u128::from(code.number()))?;
     push_number(&mut text, b" LINE ", u128::from(line))?;
     text.push(b'\n')?;
     Ok(Answer {

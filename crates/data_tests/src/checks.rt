@@ -1,7 +1,7 @@
 //! Data with tangents and output adjoints, and their faults.
 
-use crate::entries::unit;
-use adj_data::{DataError, check_values, print_values};
+use crate::entries::{code_and_line, unit};
+use adj_data::{check_values, print_values};
 use adj_tree::{Head, Items, Memory};
 use std::alloc::Global;
 use std::test::Fail;
@@ -61,7 +61,7 @@ fn the_first_fault_of_marked_data_is_given(rt: HostRuntime) -> Result<(), Fail> 
         assert!(rt; head.vars.as_slice().len() == count);
         assert!(rt; head.outvars.as_slice().len() == count);
         let found = check_values(alloc, data.as_bytes(), 4, &unit, &head);
-        assert_eq!(rt; found.err(), Some(DataError::Data(code, line)), "{data}");
+        assert_eq!(rt; code_and_line(found.err()), Some((code, line)), "{data}");
     }
     Ok(())
 }

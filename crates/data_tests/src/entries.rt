@@ -129,12 +129,20 @@ const FAULTS: [(&str, u8, u32); 54] = [
     ("K 1 2\nA 1 2 3\nN 1", 5, 6),
 ];
 
+// The number of a fault's code, and its line.
+pub(crate) fn code_and_line(error: Option<DataError>) -> Option<(u8, u32)> {
+    match error {
+        Some(DataError::Data(code, line)) => Some((code.number(), line)),
+        _ => None,
+    }
+}
+
 #[test]
 fn the_first_fault_is_given(rt: HostRuntime) -> Result<(), Fail> {
     let unit = unit(rt.alloc())?;
     for (data, code, line) in FAULTS {
         let found = values(rt.alloc(), data.as_bytes(), 4, &unit);
-        assert_eq!(rt; found.err(), Some(DataError::Data(code, line)), "{data}");
+        assert_eq!(rt; code_and_line(found.err()), Some((code, line)), "{data}");
     }
     Ok(())
 }
