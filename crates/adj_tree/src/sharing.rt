@@ -1,4 +1,4 @@
-//! NameTable of a tree of which each is one block, however often it stands there.
+//! Names of a tree, of which each is one block however often it stands there.
 
 ghost use Rattle.std.specs.Prelude.{◌≡◌, IfOk, OnOk};
 ghost use Rattle.adj_tree.specs.View.{term_of, terms_of, test_of, runtime_of, mark_of, act_of, code_of};
@@ -11,7 +11,7 @@ use indexmap::IndexSet;
 use std::alloc::Global;
 use std::mem;
 
-/// NameTable that were met, each once.
+/// The names that were met, each once.
 #[derive(Drop)]
 pub struct NameTable {
     texts: IndexSet<Vec<u8>>,
