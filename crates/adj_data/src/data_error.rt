@@ -12,7 +12,7 @@ use thiserror::Error;
 #[derive(Clone, Copy, Debug, PartialEq, Eq, Error)]
 pub enum DataError {
     /// The code, and the line: 0 where something isn't there.
-    #[error("fault {} of the data at line {1}", .0.number())]
+    #[error("fault {code} of the data at line {1}", code = .0.number())]
     Data(DataCode, u32),
     /// Memory ran out.
     #[error("out of memory")]
