@@ -1,6 +1,7 @@
 -- The answer to the data of `check`.
 use Rattle.std.proofs.Common.{◌≡◌, ℕ, List, drop, refl, sym, ap, ◌∙◌, Option, Some, None}
 use Rattle.adj_text.specs.Data.{data_of}
+use Rattle.adj_data.specs.DataCodes.{data_code_number}
 use Rattle.adj_data.specs.Faults.{Fault}
 use Rattle.adj_data.specs.Given.{IsFirstFault}
 use Rattle.adj_data.specs.Marked.{check_fault}
@@ -18,7 +19,7 @@ module _ (r : Asked) (p : Sides) (bytes : List ℕ) (at : ℕ × ℕ) (is : at �
   -- they have a fault
   pub bad_given : (e : DataError) → IsFirstFault e (check_fault at.1 given p.head p.vars p.outvars) → (a : Answer) → Some a ≡ error_answer e → a ≡ check_answer r p bytes
   bad_given (error.Data c n) h a same =
-      let f : Fault = record { code = c; line = n } in
+      let f : Fault = record { code = data_code_number c; line = n } in
       let is_bad : a ≡ bad_data f = cc in
       is_bad ∙ ap (λ o. faulty_or o (runs_answer r p (given_by p at.1 given))) (sym h) ∙ answered
   bad_given error.Memory h a same = absurd cc

@@ -13,6 +13,7 @@ use Rattle.adj_meaning.specs.Written.{find_unit}
 use Rattle.adj_names.specs.Fault.{first_of}
 use Rattle.adj_names.specs.HeadFaults.{first_head_fault, faults_of_head, unit_number}
 use Rattle.adj_answer.specs.Answer.{Answer}
+use Rattle.adj_data.specs.DataCodes.{data_code_number}
 use Rattle.adj_data.specs.Faults.{Fault, data_fault}
 use Rattle.adj_data.specs.Given.{IsFirstFault, input_given}
 use Rattle.adj_data.specs.declared.data_error.DataError.{DataError}
@@ -68,7 +69,7 @@ module _ (r : Asked) (bytes : List ℕ) (ps : List Procedure) (u : Procedure) (f
   -- they give no input
   pub bad_input : (e : DataError) → IsFirstFault e (data_fault d.1 given u) → (a : Answer) → Some a ≡ error_answer e → a ≡ head_answer r bytes ps (find_unit ps r.head)
   bad_input (error.Data c n) h a same =
-      let f : Fault = record { code = c; line = n } in
+      let f : Fault = record { code = data_code_number c; line = n } in
       let is_bad : a ≡ bad_data f = cc in
       is_bad ∙ ap (λ o. input_answer o r ps u (input_given d.1 given u)) (sym h) ∙ answered
   bad_input error.Memory h a same = absurd cc
