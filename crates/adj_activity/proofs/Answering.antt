@@ -9,8 +9,8 @@ use Rattle.adj_facts.specs.Parts.{Part, parts, parts_from, statements_in, find_p
 use Rattle.adj_facts.specs.Problem.{Problem, TakesPart}
 use Rattle.adj_facts.specs.Activity.{IsActivity}
 use Rattle.adj_facts.specs.Rules.{Scope, Covers}
+use Rattle.adj_writes.specs.Graph.{place_from}
 use Rattle.adj_writes.specs.Table.{value_of}
-use Rattle.adj_flow.specs.Places.{place_from}
 use Rattle.adj_flow.specs.Rows.{Row, row_in, rows}
 use Rattle.adj_reach.specs.Edges.{ReachedFrom, ReachedBack, flag}
 use Rattle.adj_flow.specs.Nodes.{IsWide}

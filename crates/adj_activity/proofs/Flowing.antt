@@ -9,8 +9,8 @@ use Rattle.adj_transpose.specs.Marks.{behind}
 use Rattle.adj_facts.specs.Parts.{Part, parts, parts_from, statements_in}
 use Rattle.adj_facts.specs.Problem.{TakesPart}
 use Rattle.adj_facts.proofs.Members.{is_first, is_later}
+use Rattle.adj_writes.specs.Graph.{place_from}
 use Rattle.adj_writes.specs.Table.{value_of}
-use Rattle.adj_flow.specs.Places.{place_from}
 use Rattle.adj_flow.specs.Rows.{Row, row_of, row_in, rows}
 use Rattle.adj_flow.specs.declared.units.Flow.{Flow}
 use Rattle.adj_reach.specs.Edges.{flag}

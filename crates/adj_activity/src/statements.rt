@@ -4,10 +4,11 @@ ghost use Rattle.std.specs.Prelude.{◌≡◌, ◌+◌, ◌*◌, ◌++◌, OnOk,
 ghost use Rattle.adj_tree.specs.Code.{plain};
 ghost use Rattle.adj_tree.specs.View.{term_of, act_of};
 ghost use Rattle.adj_facts.specs.Variables.{occurring_in};
+ghost use Rattle.adj_writes.specs.View.{vars_seen};
 ghost use Rattle.adj_flow.specs.Rows.{row_of};
 ghost use Rattle.adj_flow.specs.Nodes.{linked, node_in};
 ghost use Rattle.adj_activity.specs.Edges.{assigned_edges};
-ghost use Rattle.adj_flow.specs.NodeView.{vars_of, names_of};
+ghost use Rattle.adj_flow.specs.NodeView.{vars_of};
 
 use adj_flow::{End, Part, Point, add_edge, number};
 use adj_tree::{Act, Expr, Memory, Name, Op};
@@ -15,7 +16,7 @@ use std::alloc::Global;
 
 // Adds the variables at differentiable occurrences.
 fn add_occurring<'a>(term: &'a Expr, out: &mut Vec<&'a Name>) -> Result<(), Memory>
-    ensures added { OnOk result (names_of out.new.items ≡ names_of out.old.items ++ occurring_in (term_of term.now)) }
+    ensures added { OnOk result (vars_seen out.new.items ≡ vars_seen out.old.items ++ occurring_in (term_of term.now)) }
 {
     match term {
         Expr::Var(name) | Expr::Elem(name, _) => {
@@ -50,7 +51,7 @@ fn add_assigned(
     target: &Name,
     names: &[&Name],
 ) -> Result<(), Memory>
-    ensures added { OnOk result (edges.new.items ≡ edges.old.items ++ flat_map (λ v. linked (node_in width (vars_of (row_of part.now)) (3 * statement, v)) (node_in width (vars_of (row_of part.now)) (3 * statement + 1, plain target.now))) (names_of names.now)) }
+    ensures added { OnOk result (edges.new.items ≡ edges.old.items ++ flat_map (λ v. linked (node_in width (vars_of (row_of part.now)) (3 * statement, v)) (node_in width (vars_of (row_of part.now)) (3 * statement + 1, plain target.now))) (vars_seen names.now)) }
 {
     let before = number(Point::Before(statement))?;
     let after = number(Point::After(statement))?;

@@ -5,8 +5,8 @@ use Rattle.adj_tree.specs.View.{procedure_of}
 use Rattle.adj_tree.specs.declared.marks.Head.{Head}
 use Rattle.adj_facts.specs.Parts.{Part, parts}
 use Rattle.adj_facts.specs.Problem.{Problem, TakesPart}
+use Rattle.adj_writes.specs.Graph.{place_from}
 use Rattle.adj_writes.specs.Table.{value_of}
-use Rattle.adj_flow.specs.Places.{place_from}
 use Rattle.adj_flow.specs.Rows.{row_of, rows}
 use Rattle.adj_flow.specs.declared.units.Flow.{Flow}
 use Rattle.adj_reach.specs.Edges.{flag}

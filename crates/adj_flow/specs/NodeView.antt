@@ -1,8 +1,6 @@
 -- What clauses see of variables at points.
 use Rattle.std.specs.Prelude.{ℕ, List, map, Bool, Option, Some, None, slice_get}
-use Rattle.std.specs.Borrow.{Bor}
 use Rattle.adj_tree.specs.Code.{Var, plain}
-use Rattle.adj_tree.specs.declared.name.Name.{Name}
 use Rattle.adj_transpose.specs.Marks.{Vars}
 use Rattle.adj_flow.specs.Rows.{Row, row_of}
 use Rattle.adj_flow.specs.Nodes.{node_in}
@@ -12,9 +10,6 @@ use Rattle.adj_flow.specs.declared.nodes.End.{End}
 -- the variables of a row
 abbrev pub vars_of : Row → List Var
 vars_of r = map plain r.variables
-
-abbrev pub names_of : List (Bor Name) → List Var
-names_of bs = map (λ b. plain b.now) bs
 
 -- the number of a variable at a point of a unit
 abbrev pub end_node : ℕ → End → Option ℕ

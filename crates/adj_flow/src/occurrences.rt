@@ -5,14 +5,15 @@ ghost use Rattle.adj_tree.specs.Code.{plain};
 ghost use Rattle.adj_tree.specs.View.{term_of, terms_of};
 ghost use Rattle.adj_facts.specs.Occurrences.{is_active};
 ghost use Rattle.adj_facts.specs.Variables.{list_if, vars_in_terms, adjoint_reads_in};
-ghost use Rattle.adj_flow.specs.NodeView.{names_of};
+ghost use Rattle.adj_writes.specs.View.{vars_seen};
 ghost use Rattle.adj_flow.specs.Active.{varied_by, shadowed_by, active_by};
 
 use crate::nodes::{End, number, told};
 use crate::row::Part;
-use crate::variables::{add_term, add_terms_if};
+use crate::variables::add_terms_if;
 use crate::way::Point;
 use adj_tree::{Expr, Exprs, Memory, Name, Op};
+use adj_writes::variables::add_term;
 
 /// The occurrences of variables in the statement of a number of a unit, by the flags of varied variables at points and of the variables
 /// of units that have a shadow, where no unit has more variables than the width.
@@ -103,7 +104,7 @@ impl Occurrences<'_, '_, '_> {
         subs: &'t Exprs,
         out: &mut Vec<&'t Name>,
     ) -> Result<(), Memory>
-        ensures added { OnOk result (names_of out.new.items ≡ names_of out.old.items ++ list_if (active_by self.entry (plain name.now)) (vars_in_terms (terms_of subs.now))) }
+        ensures added { OnOk result (vars_seen out.new.items ≡ vars_seen out.old.items ++ list_if (active_by self.entry (plain name.now)) (vars_in_terms (terms_of subs.now))) }
     {
         let is_on = self.is_on(name)?;
         add_terms_if(subs, is_on, out)
@@ -113,7 +114,7 @@ impl Occurrences<'_, '_, '_> {
     /// active power of at least 2, in the base and the exponent of an active power by an expression, and in subscripts of active occurrences.
     /// Where all that stands in a part is read, the part isn't gone through again, so that each occurrence is added once.
     pub fn add_reads<'t>(self, term: &'t Expr, out: &mut Vec<&'t Name>) -> Result<(), Memory>
-        ensures added { OnOk result (names_of out.new.items ≡ names_of out.old.items ++ adjoint_reads_in (active_by self.entry) (term_of term.now)) }
+        ensures added { OnOk result (vars_seen out.new.items ≡ vars_seen out.old.items ++ adjoint_reads_in (active_by self.entry) (term_of term.now)) }
     {
         match term {
             Expr::Lit(_) | Expr::Var(_) | Expr::Abs(_) => Ok(()),

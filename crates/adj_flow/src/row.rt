@@ -1,8 +1,8 @@
 //! A unit as the analyses see it.
 
 ghost use Rattle.std.specs.Prelude.{◌≡◌, ℕ, List};
+ghost use Rattle.adj_writes.specs.Graph.{place_from};
 ghost use Rattle.adj_writes.specs.Table.{value_of};
-ghost use Rattle.adj_flow.specs.Places.{place_from};
 
 use crate::standing::Standing;
 use crate::way::Way;

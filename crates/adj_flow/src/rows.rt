@@ -4,8 +4,8 @@ ghost use Rattle.std.specs.Prelude.{◌≡◌, ◌+◌, ◌*◌, ◌<◌, ◌^�
 ghost use Rattle.adj_tree.specs.View.{code_of, procedure_of};
 ghost use Rattle.adj_transpose.specs.Marks.{behind};
 ghost use Rattle.adj_facts.specs.Parts.{part, statements_in};
+ghost use Rattle.adj_writes.specs.Graph.{place_from};
 ghost use Rattle.adj_writes.specs.Table.{value_of};
-ghost use Rattle.adj_flow.specs.Places.{place_from};
 ghost use Rattle.adj_flow.specs.Rows.{row_of, row_at, rows};
 
 use crate::outline::{Outline, add_list};

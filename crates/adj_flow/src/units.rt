@@ -7,8 +7,8 @@ ghost use Rattle.adj_facts.specs.Parts as spec;
 ghost use Rattle.adj_facts.specs.Parts.{statements_in};
 ghost use Rattle.adj_facts.specs.Problem.{TakesPart};
 ghost use Rattle.adj_reach.specs.Edges.{flag};
+ghost use Rattle.adj_writes.specs.Graph.{place_from};
 ghost use Rattle.adj_writes.specs.Table.{value_of};
-ghost use Rattle.adj_flow.specs.Places.{place_from};
 ghost use Rattle.adj_flow.specs.Rows.{row_of, rows};
 
 use crate::outline::{Outline, add_list};

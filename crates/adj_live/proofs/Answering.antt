@@ -15,7 +15,7 @@ use Rattle.adj_facts.specs.Rules.{Scope, Covers}
 use Rattle.adj_facts.proofs.Sets.{same_truth}
 use Rattle.adj_writes.specs.Table.{value_of}
 use Rattle.adj_reach.specs.Edges.{ReachedFrom, flag}
-use Rattle.adj_flow.specs.Places.{place_from}
+use Rattle.adj_writes.specs.Graph.{place_from}
 use Rattle.adj_flow.specs.Rows.{Row, row_in, rows}
 use Rattle.adj_flow.specs.Nodes.{IsWide}
 use Rattle.adj_flow.specs.NodeView.{found_at}

@@ -5,8 +5,9 @@ ghost use Rattle.adj_tree.specs.Code.{plain, assign};
 ghost use Rattle.adj_tree.specs.View.{term_of, terms_of, act_of};
 ghost use Rattle.adj_facts.specs.Variables.{list_if};
 ghost use Rattle.adj_facts.specs.Rules.{list_of, holders};
+ghost use Rattle.adj_writes.specs.View.{vars_seen};
 ghost use Rattle.adj_flow.specs.Rows.{row_of};
-ghost use Rattle.adj_flow.specs.NodeView.{names_of, vars_of};
+ghost use Rattle.adj_flow.specs.NodeView.{vars_of};
 ghost use Rattle.adj_flow.specs.View.{place_of, standing_of};
 ghost use Rattle.adj_live.specs.Numbers.{kept_at, wanted_at};
 ghost use Rattle.adj_live.specs.Listed.{needed_here, needed_nodes, own_nodes, turned_nodes, held_nodes, statement_nodes, extent_nodes, unit_nodes, all_nodes};
@@ -16,10 +17,10 @@ use crate::extents::{extents, is_among};
 use crate::passing::add_passed_by;
 use crate::reads::{add_reads, resets};
 use crate::site::{Known, Site, add_number, kept, wanted};
-use adj_flow::variables::add_terms;
 use adj_flow::{Flow, Place, Point, Standing, number};
 use adj_reach::flag_at;
 use adj_tree::{Act, Expr, Memory, Name, Place as Target};
+use adj_writes::variables::add_terms;
 use std::alloc::Global;
 
 // Adds that a variable is needed at a point, if it is wanted.
@@ -46,7 +47,7 @@ fn add_needed(
     place: Place<'_>,
     names: &[&Name],
 ) -> Result<(), Memory>
-    ensures added { OnOk result (nodes.new.items ≡ nodes.old.items ++ needed_nodes (here_at site.entry) point (place_of place.entry) (names_of names.now)) }
+    ensures added { OnOk result (nodes.new.items ≡ nodes.old.items ++ needed_nodes (here_at site.entry) point (place_of place.entry) (vars_seen names.now)) }
 {
     for name in names {
         let is_wanted = !place.turns(name);

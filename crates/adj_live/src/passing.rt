@@ -2,16 +2,15 @@
 
 ghost use Rattle.std.specs.Prelude.{◌≡◌, ◌++◌, OnOk};
 ghost use Rattle.adj_tree.specs.View.{act_of};
-ghost use Rattle.adj_flow.specs.NodeView.{names_of};
 ghost use Rattle.adj_live.specs.Passed.{used_by, handed_by, passed_by};
 ghost use Rattle.adj_live.specs.View.{here_at};
+ghost use Rattle.adj_writes.specs.View.{vars_seen};
 
 use crate::sides::row;
 use crate::site::Site;
-use adj_flow::variables::{
-    add_handed, add_mark, add_passed, add_read, add_term, add_terms, add_test,
-};
+use adj_flow::variables::add_passed;
 use adj_tree::{Act, Memory, Name};
+use adj_writes::variables::{add_handed, add_mark, add_read, add_term, add_terms, add_test};
 
 /// Adds what a statement uses where it is kept.
 pub(crate) fn add_used_by<'n>(
@@ -19,7 +18,7 @@ pub(crate) fn add_used_by<'n>(
     act: &'n Act,
     names: &mut Vec<&'n Name>,
 ) -> Result<(), Memory>
-    ensures added { OnOk result (names_of names.new.items ≡ names_of names.old.items ++ used_by (here_at site.entry).read (act_of act.now)) }
+    ensures added { OnOk result (vars_seen names.new.items ≡ vars_seen names.old.items ++ used_by (here_at site.entry).read (act_of act.now)) }
 {
     match act {
         Act::Assign(target, right) => {
@@ -47,7 +46,7 @@ pub(crate) fn add_handed_by<'n>(
     act: &'n Act,
     names: &mut Vec<&'n Name>,
 ) -> Result<(), Memory>
-    ensures added { OnOk result (names_of names.new.items ≡ names_of names.old.items ++ handed_by (here_at site.entry).written (act_of act.now)) }
+    ensures added { OnOk result (vars_seen names.new.items ≡ vars_seen names.old.items ++ handed_by (here_at site.entry).written (act_of act.now)) }
 {
     match act {
         Act::Call(name, actuals) => {
@@ -68,7 +67,7 @@ pub(crate) fn add_passed_by<'n>(
     act: &'n Act,
     names: &mut Vec<&'n Name>,
 ) -> Result<(), Memory>
-    ensures added { OnOk result (names_of names.new.items ≡ names_of names.old.items ++ passed_by (here_at site.entry).read (act_of act.now)) }
+    ensures added { OnOk result (vars_seen names.new.items ≡ vars_seen names.old.items ++ passed_by (here_at site.entry).read (act_of act.now)) }
 {
     match act {
         Act::Call(name, actuals) => {

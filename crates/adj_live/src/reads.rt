@@ -5,9 +5,9 @@ ghost use Rattle.adj_tree.specs.Code.{plain};
 ghost use Rattle.adj_tree.specs.View.{term_of};
 ghost use Rattle.adj_facts.specs.Activity.{resets};
 ghost use Rattle.adj_facts.specs.Variables.{adjoint_reads_in};
-ghost use Rattle.adj_flow.specs.NodeView.{names_of};
 ghost use Rattle.adj_live.specs.Listed.{active_here};
 ghost use Rattle.adj_live.specs.View.{here_at};
+ghost use Rattle.adj_writes.specs.View.{vars_seen};
 
 use crate::site::Site;
 use adj_flow::Occurrences;
@@ -34,7 +34,7 @@ pub(crate) fn add_reads<'a>(
     term: &'a Expr,
     out: &mut Vec<&'a Name>,
 ) -> Result<(), Memory>
-    ensures added { OnOk result (names_of out.new.items ≡ names_of out.old.items ++ adjoint_reads_in (active_here (here_at site.entry) statement) (term_of term.now)) }
+    ensures added { OnOk result (vars_seen out.new.items ≡ vars_seen out.old.items ++ adjoint_reads_in (active_here (here_at site.entry) statement) (term_of term.now)) }
 {
     let occurrences = Occurrences {
         varied: site.known.activity.varied.as_slice(),

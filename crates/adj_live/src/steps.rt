@@ -6,8 +6,9 @@ ghost use Rattle.adj_tree.specs.View.{act_of};
 ghost use Rattle.adj_facts.specs.Rules.{holders};
 ghost use Rattle.adj_facts.specs.Uses.{use_point};
 ghost use Rattle.adj_facts.specs.Variables.{list_if};
+ghost use Rattle.adj_writes.specs.View.{vars_seen};
 ghost use Rattle.adj_flow.specs.Rows.{row_of};
-ghost use Rattle.adj_flow.specs.NodeView.{names_of, vars_of};
+ghost use Rattle.adj_flow.specs.NodeView.{vars_of};
 ghost use Rattle.adj_flow.specs.Nodes.{linked};
 ghost use Rattle.adj_flow.specs.View.{place_of, standing_of};
 ghost use Rattle.adj_flow.specs.WayView.{number_of, way_of};
@@ -31,7 +32,7 @@ fn add_from(
     point: usize,
     names: &[&Name],
 ) -> Result<(), Memory>
-    ensures added { OnOk result (edges.new.items ≡ edges.old.items ++ flat_map (λ v. linked (Some from) (needed_here (here_at site.entry) point v)) (names_of names.now)) }
+    ensures added { OnOk result (edges.new.items ≡ edges.old.items ++ flat_map (λ v. linked (Some from) (needed_here (here_at site.entry) point v)) (vars_seen names.now)) }
 {
     for name in names {
         let to = site.needed(point, name)?;
@@ -48,7 +49,7 @@ fn add_to(
     names: &[&Name],
     to: usize,
 ) -> Result<(), Memory>
-    ensures added { OnOk result (edges.new.items ≡ edges.old.items ++ flat_map (λ v. linked (needed_here (here_at site.entry) point v) (Some to)) (names_of names.now)) }
+    ensures added { OnOk result (edges.new.items ≡ edges.old.items ++ flat_map (λ v. linked (needed_here (here_at site.entry) point v) (Some to)) (vars_seen names.now)) }
 {
     for name in names {
         let from = site.needed(point, name)?;

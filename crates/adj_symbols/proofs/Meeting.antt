@@ -14,12 +14,12 @@ use Rattle.adj_names.specs.NameFaults.{extent_names}
 use Rattle.adj_names.specs.Variables.{Name, is_dummy}
 use Rattle.adj_names.specs.WriteFaults.{may_write}
 use Rattle.adj_sets.specs.Sets.{with_name}
+use Rattle.adj_sets.proofs.NameSets.{has-behind}
 use Rattle.adj_symbols.specs.View.{names_at}
 use Rattle.adj_symbols.specs.Writes.{written_names, writes_one}
 use Rattle.adj_symbols.proofs.Repeats.{with_name-has}
 use Rattle.adj_symbols.proofs.Scopes.{name_comm}
 use Rattle.adj_symbols.proofs.Clashing.{both_ways}
-use Rattle.adj_writes.proofs.Naming.{has_append}
 use Rattle.adj_symbols.proofs.Writing.{may_write_name}
 
 any_in : (f : Name → Bool) (xs : List Name) (x : Name) → has_name x xs ≡ true → f x ≡ true → list_any f xs ≡ true
@@ -76,7 +76,7 @@ pub extent_listed : (x : Name) (ds : List Declaration) → is_extent x ds ≡ ha
 extent_listed x [] = refl
 extent_listed x (d ∷ ds) =
     ap₂ (λ a b. a || b) (among_names x d.extents ∙ ap (has_name x) (sym (at_line d.line (extent_names d.extents)))) (extent_listed x ds)
-    ∙ sym (has_append x (names_at (map (λ y. (d.line, y)) (extent_names d.extents))) (names_at (flat_map (λ e. map (λ y. (e.line, y)) (extent_names e.extents)) ds)))
+    ∙ sym (has-behind x (names_at (map (λ y. (d.line, y)) (extent_names d.extents))) (names_at (flat_map (λ e. map (λ y. (e.line, y)) (extent_names e.extents)) ds)))
     ∙ ap (has_name x) (sym (map-append (λ p. p.1) (map (λ y. (d.line, y)) (extent_names d.extents)) (flat_map (λ e. map (λ y. (e.line, y)) (extent_names e.extents)) ds)))
 
 -- one more place, whose name is added where it is a dummy

@@ -1,21 +1,21 @@
 //! The variables that statements may write, and which of their dummies units write.
 
-ghost use Rattle.std.specs.Prelude.{◌≡◌, ◌++◌, [], Bool, List, Some, None, map, IfOk, OnOk, MatchOption, if◌then◌else◌};
+ghost use Rattle.std.specs.Prelude.{◌≡◌, ◌++◌, Bool, List, Some, None, map, IfOk, OnOk, MatchOption};
 ghost use Rattle.adj_tree.specs.Code.{plain};
-ghost use Rattle.adj_tree.specs.View.{term_of, terms_of, act_of, procedure_of};
+ghost use Rattle.adj_tree.specs.View.{term_of, act_of, procedure_of};
 ghost use Rattle.adj_meaning.specs.LeastSet.{row_of, least_rows};
 ghost use Rattle.adj_meaning.specs.Written.{write_rule};
 ghost use Rattle.adj_names.specs.Fresh.{has_name};
 ghost use Rattle.adj_names.specs.Variables.{Name};
 ghost use Rattle.adj_names.specs.WriteFaults.{named_by};
-ghost use Rattle.adj_writes.specs.Names.{names_if};
-ghost use Rattle.adj_writes.specs.View.{names_seen};
-ghost use Rattle.adj_symbols.specs.Writes.{handed_names, written_names, writes_one};
+ghost use Rattle.adj_writes.specs.View.{names_seen, vars_seen};
+ghost use Rattle.adj_symbols.specs.Writes.{written_in, written_names, writes_one};
 
 use crate::scope::Scope;
 use adj_sets::BorrowedNames;
-use adj_tree::{Act, Expr, Exprs, Flags, Memory, Name, Unit};
+use adj_tree::{Act, Expr, Flags, Memory, Name, Unit};
 use adj_writes::names::add_changed;
+use adj_writes::variables::add_handed;
 use adj_writes::written_dummies;
 use std::alloc::Global;
 use std::marker::Model;
@@ -69,40 +69,6 @@ pub(crate) fn variable<'a>(actual: &'a Expr) -> Option<&'a Name>
     }
 }
 
-// Adds the variable that an actual names, where its dummy is written.
-fn add_handed<'a>(is_written: bool, actual: &'a Expr, out: &mut Vec<&'a Name>) -> Result<(), Memory>
-    ensures { OnOk result (names_seen out.new.items ≡ names_seen out.old.items ++ (if is_written then names_if (named_by (term_of actual.now)) else [])) }
-{
-    if !is_written {
-        return Ok(());
-    }
-    if let Some(name) = variable(actual) {
-        out.push(name)?;
-    }
-    Ok(())
-}
-
-// Adds the variables that are actuals of dummies that are written.
-fn add_all_handed<'a>(
-    row: &[bool],
-    actuals: &'a Exprs,
-    out: &mut Vec<&'a Name>,
-) -> Result<(), Memory>
-    ensures { OnOk result (names_seen out.new.items ≡ names_seen out.old.items ++ handed_names row.now (terms_of actuals.now)) }
-{
-    let mut rest = actuals;
-    for is_written in row {
-        match rest {
-            Exprs::Empty => return Ok(()),
-            Exprs::More(first, next) => {
-                add_handed(*is_written, first, out)?;
-                rest = next;
-            }
-        }
-    }
-    Ok(())
-}
-
 // Adds the variables that a statement may write itself.
 fn add_written<'a>(
     scope: &Scope<'_>,
@@ -110,7 +76,7 @@ fn add_written<'a>(
     act: &'a Act,
     out: &mut Vec<&'a Name>,
 ) -> Result<(), Memory>
-    ensures { OnOk result (names_seen out.new.items ≡ names_seen out.old.items ++ written_names (row_of (map procedure_of scope.now) written.now) (act_of act.now)) }
+    ensures { OnOk result (vars_seen out.new.items ≡ vars_seen out.old.items ++ written_in (row_of (map procedure_of scope.now) written.now) (act_of act.now)) }
 {
     match act {
         Act::Assign(place, _) => {
@@ -121,13 +87,14 @@ fn add_written<'a>(
             out.push(name)?;
             Ok(())
         }
-        Act::Call(name, actuals) => add_all_handed(written.row(scope, name), actuals, out),
+        Act::Call(name, actuals) => add_handed(written.row(scope, name), actuals, out),
         Act::Run(call) => add_changed(call, out),
         Act::If(_, _, _) | Act::While(_, _) => Ok(()),
     }
 }
 
-// The variables that a statement may write itself, those in it left aside.
+// The names of the variables that a statement may write itself, those in it left aside.
+#[tactic(auto, using(crate::proofs::Writing::seen_among))]
 fn written_by<'a>(
     alloc: Global,
     scope: &Scope<'_>,

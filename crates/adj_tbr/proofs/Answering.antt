@@ -24,7 +24,7 @@ use Rattle.adj_facts.proofs.Numbered.{IsListed}
 use Rattle.adj_facts.proofs.Points.{one_point}
 use Rattle.adj_writes.specs.Table.{value_of}
 use Rattle.adj_flow.specs.NodeView.{found_at}
-use Rattle.adj_flow.specs.Places.{place_from}
+use Rattle.adj_writes.specs.Graph.{place_from}
 use Rattle.adj_flow.specs.Nodes.{IsWide, HasNode, HasNumber}
 use Rattle.adj_flow.specs.Rows.{Row, row_in, rows}
 use Rattle.adj_flow.specs.Scoped.{scope_by, HoldVariables}

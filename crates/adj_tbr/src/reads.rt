@@ -5,8 +5,9 @@ ghost use Rattle.adj_tree.specs.Code.{plain};
 ghost use Rattle.adj_tree.specs.View.{act_of, term_of, terms_of};
 ghost use Rattle.adj_facts.specs.Uses.{site, is_turn};
 ghost use Rattle.adj_facts.specs.Variables.{list_if, adjoint_reads_in};
+ghost use Rattle.adj_writes.specs.View.{vars_seen};
 ghost use Rattle.adj_flow.specs.Active.{active_by};
-ghost use Rattle.adj_flow.specs.NodeView.{names_of, told_at};
+ghost use Rattle.adj_flow.specs.NodeView.{told_at};
 ghost use Rattle.adj_flow.specs.Rows.{row_of};
 ghost use Rattle.adj_flow.specs.View.{place_of, standing_of};
 ghost use Rattle.adj_reach.specs.Edges.{flag};
@@ -33,7 +34,7 @@ fn add_reads_if<'t>(
     is_wanted: bool,
     out: &mut Vec<&'t Name>,
 ) -> Result<(), Memory>
-    ensures added { OnOk result (names_of out.new.items ≡ names_of out.old.items ++ list_if is_wanted (adjoint_reads_in (active_by occurrences.entry) (term_of term.now))) }
+    ensures added { OnOk result (vars_seen out.new.items ≡ vars_seen out.old.items ++ list_if is_wanted (adjoint_reads_in (active_by occurrences.entry) (term_of term.now))) }
 {
     if is_wanted {
         occurrences.add_reads(term, out)?;
@@ -49,7 +50,7 @@ fn assigned<'t>(
     part: &Part<'_>,
     standing: &Standing<'t>,
 ) -> Result<Vec<&'t Name>, Memory>
-    ensures reads { IfOk result (λ v. names_of v.items ≡ assigned_reads found.entry width (row_of part.now) standing.now.number (act_of standing.now.act.now)) }
+    ensures reads { IfOk result (λ v. vars_seen v.items ≡ assigned_reads found.entry width (row_of part.now) standing.now.number (act_of standing.now.act.now)) }
 {
     let statement = standing.number;
     let mut names = Vec::new(alloc);
@@ -84,7 +85,7 @@ fn add_before(
     statement: usize,
     names: &[&Name],
 ) -> Result<(), Memory>
-    ensures added { OnOk result (nodes.new.items ≡ nodes.old.items ++ flat_map (node_before width (row_of part.now) statement) (names_of names.now)) }
+    ensures added { OnOk result (nodes.new.items ≡ nodes.old.items ++ flat_map (node_before width (row_of part.now) statement) (vars_seen names.now)) }
 {
     let point = number(Point::Before(statement))?;
     for name in names {

@@ -4,18 +4,18 @@ ghost use Rattle.std.specs.Prelude.{◌≡◌, ◌++◌, ◌||◌, IfOk, OnOk, S
 ghost use Rattle.adj_tree.specs.Code.{plain};
 ghost use Rattle.adj_tree.specs.View.{act_of, terms_of};
 ghost use Rattle.adj_facts.specs.Variables.{list_if};
-ghost use Rattle.adj_flow.specs.NodeView.{names_of};
+ghost use Rattle.adj_writes.specs.View.{vars_seen};
 ghost use Rattle.adj_flow.specs.Rows.{row_of};
 ghost use Rattle.adj_flow.specs.View.{standing_of};
 ghost use Rattle.adj_tbr.specs.View.{find, kept_by};
 ghost use Rattle.adj_tbr.specs.Saves.{saved_node, own_saves, found_saves, call_saves, standing_saves, unit_saves, save_nodes};
 
 use crate::setting::Setting;
-use adj_flow::variables::add_handed;
 use adj_flow::{End, Flow, Part, Point, Standing, add_node, number, told};
 use adj_live::dummies_of;
 use adj_reach::flag_at;
 use adj_tree::{Act, Exprs, Memory, Name};
+use adj_writes::variables::add_handed;
 use std::alloc::Global;
 
 // Adds a variable that the statement of a number replaces, if it is held before it.
@@ -52,7 +52,7 @@ fn add_all_saved(
     statement: usize,
     names: &[&Name],
 ) -> Result<(), Memory>
-    ensures added { OnOk result (nodes.new.items ≡ nodes.old.items ++ flat_map (saved_node held.now width (row_of part.now) statement) (names_of names.now)) }
+    ensures added { OnOk result (nodes.new.items ≡ nodes.old.items ++ flat_map (saved_node held.now width (row_of part.now) statement) (vars_seen names.now)) }
 {
     for name in names {
         add_saved(nodes, held, width, part, statement, name)?;

@@ -21,7 +21,7 @@ use Rattle.adj_reach.specs.Edges.{flag}
 use Rattle.adj_writes.specs.Table.{value_of}
 use Rattle.adj_flow.specs.declared.units.Flow.{Flow}
 use Rattle.adj_flow.specs.Asked.{units_of, variables_of}
-use Rattle.adj_flow.specs.Places as places
+use Rattle.adj_writes.specs.Graph as places
 use Rattle.adj_flow.specs.declared.row.Part as row
 use Rattle.adj_flow.specs.Nodes.{place_in, number_at, node_in}
 use Rattle.adj_flow.specs.Scoped.{scope_by}

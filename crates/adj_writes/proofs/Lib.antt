@@ -3,6 +3,7 @@ pub mod Numbers
 pub mod Stepping
 pub mod Lookups
 pub mod Naming
+pub mod Actuals
 pub mod Splitting
 pub mod Rows
 pub mod Steps

@@ -38,6 +38,6 @@ numbers_more x es made later y n m = ap (λ z. option_or (value_of x z) later) m
 pub number_more : (i : ℕ) (u : Procedure) (us : List Procedure) (x : Name) → (if name_eq x u.name then Some i else number_from (i + 1) us x) ≡ number_from i (u ∷ us) x
 number_more i u us x = let e : i + 1 ≡ suc i = omega arith in ap (λ k. if name_eq x u.name then Some i else number_from k us x) e
 
--- and the node of a name among dummies with one ahead
+-- and the place of a name in a list with one ahead
 pub place_more : (i j : ℕ) (d : Name) (ds : List Name) (x : Name) → j ≡ i + 1 → (if name_eq x d then Some i else place_from j ds x) ≡ place_from i (d ∷ ds) x
 place_more i j d ds x h = let e : j ≡ suc i = omega arith in ap (λ k. if name_eq x d then Some i else place_from k ds x) e

@@ -1,5 +1,5 @@
 -- A unit writes or reads what it does itself, and the actuals of such dummies of the units that it calls.
-use Rattle.std.proofs.Common.{◌≡◌, Bool, false, List, [], refl, sym, ap, ap₂, ◌∙◌}
+use Rattle.std.proofs.Common.{◌≡◌, Bool, false, List, [], ◌∷◌, ◌++◌, refl, sym, ap, ap₂, ◌∙◌}
 use Rattle.std.specs.Prelude.{◌||◌}
 use Rattle.std.specs.List.{flat_map, list_any}
 use Rattle.adj_tree.specs.Code.{Var, plain, var_eq, Act, assign, choose, loop, during, call, runtime, Code, stop, step, Procedure}
@@ -10,10 +10,12 @@ use Rattle.adj_names.specs.Fresh.{has_name}
 use Rattle.adj_names.specs.Statements.{At, inner, statements}
 use Rattle.adj_names.specs.Variables.{Name}
 use Rattle.adj_names.specs.WriteFaults.{may_write}
-use Rattle.adj_writes.specs.Names.{own_written, own_read, direct, extents_read, rule_of}
+use Rattle.adj_facts.specs.Variables.{has}
+use Rattle.adj_facts.proofs.Variables.{has_append, has_used}
+use Rattle.adj_writes.specs.Names.{changed_by, looked_in, own_written, own_read, direct, extents_read, rule_of}
 use Rattle.adj_writes.specs.declared.side.Side.{Side}
 use Rattle.adj_writes.specs.declared.side.Side.TheVariants.{Written, Read}
-use Rattle.adj_writes.proofs.Naming.{or_none, or_assoc, or_sorted, any_append, any_has, any_or, has_append, var_name, changed_name, term_name, terms_name, test_name, looked_name, bounds_name, actuals_name, extent_name}
+use Rattle.adj_writes.proofs.Naming.{or_none, or_assoc, or_sorted, any_append, any_has, any_or, has_among, has_one, changed_has, looked_has, actuals_apart, extent_has}
 
 -- whether the variable is an actual of a dummy in the set
 abbrev pub hands : Dummies → Var → Act → Bool
@@ -73,46 +75,47 @@ module _ (f : Dummies) (x : Var) where
 
 -- ---- what a statement does itself, and its call
 
-module _ (f : Dummies) (x : Name) where
-  may_write_split : (a : Act) → may_write f (plain x) a ≡ (has_name x (own_written a) || hands f (plain x) a)
-  may_write_split (assign y subs e) = var_name x y ∙ or_none (has_name x (own_written (assign y subs e)))
+module _ (f : Dummies) (v : Var) where
+  may_write_split : (a : Act) → may_write f v a ≡ (has (own_written a) v || hands f v a)
+  may_write_split (assign y subs e) = has_one v y ∙ or_none (has (y ∷ []) v)
   may_write_split (choose c a b) = refl
-  may_write_split (loop y first last by body m) = var_name x y ∙ or_none (has_name x (own_written (loop y first last by body m)))
+  may_write_split (loop y first last by body m) = has_one v y ∙ or_none (has (y ∷ []) v)
   may_write_split (during c body) = refl
   may_write_split (call name args) = refl
-  may_write_split (runtime r) = changed_name x r ∙ or_none (has_name x (own_written (runtime r)))
+  may_write_split (runtime r) = changed_has v r ∙ or_none (has (changed_by r) v)
 
-  may_read_split : (a : Act) → may_read f (plain x) a ≡ (has_name x (own_read a) || hands f (plain x) a)
-  may_read_split (assign y subs e) = ap₂ (λ p q. p || q) (term_name x e) (terms_name x subs) ∙ sym (has_append x _ _) ∙ or_none (has_name x (own_read (assign y subs e)))
-  may_read_split (choose c a b) = test_name x c ∙ or_none (has_name x (own_read (choose c a b)))
-  may_read_split (loop y first last by body m) = bounds_name x first last by m ∙ or_none (has_name x (own_read (loop y first last by body m)))
-  may_read_split (during c body) = test_name x c ∙ or_none (has_name x (own_read (during c body)))
-  may_read_split (call name args) = actuals_name x (f name) args
-  may_read_split (runtime r) = looked_name x r ∙ or_none (has_name x (own_read (runtime r)))
+  -- (where no unit is known, a statement uses what it reads whatever the dummies of its unit are)
+  may_read_split : (a : Act) → may_read f v a ≡ (has (own_read a) v || hands f v a)
+  may_read_split (assign y subs e) = sym (has_used [] v (assign y subs e)) ∙ or_none (has (own_read (assign y subs e)) v)
+  may_read_split (choose c a b) = sym (has_used [] v (choose c a b)) ∙ or_none (has (own_read (choose c a b)) v)
+  may_read_split (loop y first last by body m) = sym (has_used [] v (loop y first last by body m)) ∙ or_none (has (own_read (loop y first last by body m)) v)
+  may_read_split (during c body) = sym (has_used [] v (during c body)) ∙ or_none (has (own_read (during c body)) v)
+  may_read_split (call name args) = actuals_apart v (f name) args ∙ ap (λ b. b || is_handed_back v (f name) args) (sym (has_used [] v (call name args)))
+  may_read_split (runtime r) = looked_has v r ∙ or_none (has (looked_in r) v)
 
   -- so of a list
-  split_all : (own : Act → List Name) (may : Act → Bool) → ((a : Act) → may a ≡ (has_name x (own a) || hands f (plain x) a)) → (ss : List (At Act)) →
-      list_any (λ s. may s.1) ss ≡ (has_name x (flat_map (λ s. own s.1) ss) || some_hand f (plain x) ss)
+  split_all : (own : Act → List Var) (may : Act → Bool) → ((a : Act) → may a ≡ (has (own a) v || hands f v a)) → (ss : List (At Act)) →
+      list_any (λ s. may s.1) ss ≡ (has (flat_map (λ s. own s.1) ss) v || some_hand f v ss)
   split_all own may h ss =
       (λ i. list_any (λ s. h s.1 i) ss)
-      ∙ any_or (λ s. has_name x (own s.1)) (λ s. hands f (plain x) s.1) ss
-      ∙ ap (λ b. b || some_hand f (plain x) ss) (any_has x (λ s. own s.1) ss)
+      ∙ any_or (λ s. has (own s.1) v) (λ s. hands f v s.1) ss
+      ∙ ap (λ b. b || some_hand f v ss) (any_has v (λ s. own s.1) ss)
 
 -- what the rule puts into the set is what a unit does without its calls, and what is an actual of a dummy in the set
 pub split : (side : Side) (f : Dummies) (u : Procedure) (d : Name) → rule_of side f u d ≡ (has_name d (direct side u) || some_hand f (plain d) (statements u.body))
 split Written f u d =
     code_written f (plain d) u.body
-    ∙ split_all f d own_written (may_write f (plain d)) (may_write_split f d) (statements u.body)
-    ∙ ap (λ b. b || some_hand f (plain d) (statements u.body)) (or_none (has_name d own) ∙ sym (has_append d own []))
+    ∙ split_all f (plain d) own_written (may_write f (plain d)) (may_write_split f (plain d)) (statements u.body)
+    ∙ ap (λ b. b || some_hand f (plain d) (statements u.body)) (or_none (has own (plain d)) ∙ sym (has_append own [] (plain d)) ∙ sym (has_among d (own ++ [])))
   where
-    own : List Name
+    own : List Var
     own = flat_map (λ s. own_written s.1) (statements u.body)
 split Read f u d =
     ap₂ (λ p q. p || q)
-    (code_read f (plain d) u.body ∙ split_all f d own_read (may_read f (plain d)) (may_read_split f d) (statements u.body))
-    (extent_name d u.declarations ∙ or_none (has_name d (extents_read u.declarations)))
-    ∙ or_sorted (has_name d own) (some_hand f (plain d) (statements u.body)) (has_name d (extents_read u.declarations)) false
-    ∙ ap₂ (λ p q. p || q) (sym (has_append d own (extents_read u.declarations))) (sym (or_none (some_hand f (plain d) (statements u.body))))
+    (code_read f (plain d) u.body ∙ split_all f (plain d) own_read (may_read f (plain d)) (may_read_split f (plain d)) (statements u.body))
+    (extent_has d u.declarations ∙ or_none (has (extents_read u.declarations) (plain d)))
+    ∙ or_sorted (has own (plain d)) (some_hand f (plain d) (statements u.body)) (has (extents_read u.declarations) (plain d)) false
+    ∙ ap₂ (λ p q. p || q) (sym (has_append own (extents_read u.declarations) (plain d)) ∙ sym (has_among d (own ++ extents_read u.declarations))) (sym (or_none (some_hand f (plain d) (statements u.body))))
   where
-    own : List Name
+    own : List Var
     own = flat_map (λ s. own_read s.1) (statements u.body)

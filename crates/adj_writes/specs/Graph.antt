@@ -33,10 +33,10 @@ abbrev pub number_from : ℕ → List Procedure → Name → Option ℕ
 number_from k [] x = None
 number_from k (u ∷ us) x = if name_eq x u.name then Some k else number_from (suc k) us x
 
--- the node of the first of these dummies that has the name, where they are numbered from k on
+-- the place of the first of these names that is x, the first place being k: for dummies their node
 abbrev pub place_from : ℕ → List Name → Name → Option ℕ
 place_from k [] x = None
-place_from k (d ∷ ds) x = if name_eq x d then Some k else place_from (suc k) ds x
+place_from k (y ∷ ys) x = if name_eq x y then Some k else place_from (suc k) ys x
 
 -- the nodes of the dummies of a unit, and room for one more number
 pub record AreNodes (first : ℕ) (ds : List Name) (nodes : List (Name × ℕ)) : Type 0 where

@@ -2,6 +2,7 @@
 use Rattle.std.specs.Prelude.{List, map}
 use Rattle.std.specs.Borrow.{Bor}
 use Rattle.adj_tree.specs.Code as code
+use Rattle.adj_tree.specs.Code.{Var, plain}
 use Rattle.adj_tree.specs.Listed.{statement_of}
 use Rattle.adj_tree.specs.declared.stmt.Stmt.{Stmt}
 use Rattle.adj_names.specs.Statements.{At}
@@ -14,3 +15,7 @@ seen bs = map (λ b. statement_of b.now) bs
 -- the names that are borrowed
 abbrev pub names_seen : List (Bor Name) → List Name
 names_seen bs = map (λ b. b.now) bs
+
+-- the variables whose names are borrowed
+abbrev pub vars_seen : List (Bor Name) → List Var
+vars_seen bs = map (λ b. plain b.now) bs

@@ -1,95 +1,21 @@
-//! The names that units write or read themselves, in one list.
+//! The variables that units write or read themselves, in one list.
 
 ghost use Rattle.std.specs.Prelude.{◌≡◌, ◌++◌, map, flat_map, IfOk, OnOk};
-ghost use Rattle.adj_tree.specs.View.{term_of, terms_of, test_of, runtime_of, mark_of, act_of, extent_of, declaration_of, procedure_of};
+ghost use Rattle.adj_tree.specs.Code.{plain};
+ghost use Rattle.adj_tree.specs.View.{runtime_of, act_of, extent_of, declaration_of, procedure_of};
 ghost use Rattle.adj_names.specs.NameFaults.{extent_names};
-ghost use Rattle.adj_writes.specs.Names.{changed_names, term_names, terms_names, test_names, actual_names, actuals_names, looked_names, mark_names, own_written, own_read, own_names, extents_read, declared_read, direct};
-ghost use Rattle.adj_writes.specs.View.{seen, names_seen};
+ghost use Rattle.adj_writes.specs.Names.{changed_by, looked_in, own_written, own_read, own, extents_read, declared_read, direct};
+ghost use Rattle.adj_writes.specs.View.{seen, names_seen, vars_seen};
 
 use crate::side::Side;
 use crate::statements::statements;
-use adj_tree::{Act, Cond, Decl, Expr, Exprs, Extent, Mark, Memory, Name, RunCall, Stmt, Unit};
+use crate::variables::{add_mark, add_others, add_term, add_terms, add_test};
+use adj_tree::{Act, Decl, Extent, Memory, Name, RunCall, Stmt, Unit};
 use std::alloc::Global;
-
-// Adds what stands in an expression.
-#[cycle(term)]
-fn add_term<'a>(term: &'a Expr, out: &mut Vec<&'a Name>) -> Result<(), Memory>
-    ensures added { OnOk result (names_seen out.new.items ≡ names_seen out.old.items ++ term_names (term_of term.now)) }
-{
-    match term {
-        Expr::Lit(_) => Ok(()),
-        Expr::Var(name) => {
-            out.push(name)?;
-            Ok(())
-        }
-        Expr::Elem(name, subs) => {
-            out.push(name)?;
-            add_terms(subs, out)
-        }
-        Expr::Neg(a) | Expr::Pow(a, _) | Expr::Abs(a) => add_term(a, out),
-        Expr::Bin(_, a, b) | Expr::Power(a, b) => {
-            add_term(a, out)?;
-            add_term(b, out)
-        }
-    }
-}
-
-// The same of some expressions.
-#[cycle(term)]
-fn add_terms<'a>(terms: &'a Exprs, out: &mut Vec<&'a Name>) -> Result<(), Memory>
-    ensures added { OnOk result (names_seen out.new.items ≡ names_seen out.old.items ++ terms_names (terms_of terms.now)) }
-{
-    let mut rest = terms;
-    while let Exprs::More(first, next) = rest {
-        add_term(first, out)?;
-        rest = next;
-    }
-    Ok(())
-}
-
-// Adds what stands in a condition.
-fn add_test<'a>(test: &'a Cond, out: &mut Vec<&'a Name>) -> Result<(), Memory>
-    ensures added { OnOk result (names_seen out.new.items ≡ names_seen out.old.items ++ test_names (test_of test.now)) }
-{
-    match test {
-        Cond::Cmp(_, a, b) => {
-            add_term(a, out)?;
-            add_term(b, out)
-        }
-        Cond::Not(c) => add_test(c, out),
-        Cond::And(c, d) | Cond::Or(c, d) => {
-            add_test(c, out)?;
-            add_test(d, out)
-        }
-    }
-}
-
-// Adds what is read of an actual, whatever its dummy is.
-fn add_actual<'a>(actual: &'a Expr, out: &mut Vec<&'a Name>) -> Result<(), Memory>
-    ensures added { OnOk result (names_seen out.new.items ≡ names_seen out.old.items ++ actual_names (term_of actual.now)) }
-{
-    match actual {
-        Expr::Var(_) => Ok(()),
-        Expr::Elem(_, subs) => add_terms(subs, out),
-        _ => add_term(actual, out),
-    }
-}
-
-// The same of some actuals.
-fn add_actuals<'a>(actuals: &'a Exprs, out: &mut Vec<&'a Name>) -> Result<(), Memory>
-    ensures added { OnOk result (names_seen out.new.items ≡ names_seen out.old.items ++ actuals_names (terms_of actuals.now)) }
-{
-    let mut rest = actuals;
-    while let Exprs::More(first, next) = rest {
-        add_actual(first, out)?;
-        rest = next;
-    }
-    Ok(())
-}
 
 // Adds what a runtime call reads.
 fn add_looked<'a>(call: &'a RunCall, out: &mut Vec<&'a Name>) -> Result<(), Memory>
-    ensures added { OnOk result (names_seen out.new.items ≡ names_seen out.old.items ++ looked_names (runtime_of call.now)) }
+    ensures added { OnOk result (vars_seen out.new.items ≡ vars_seen out.old.items ++ looked_in (runtime_of call.now)) }
 {
     match call {
         RunCall::PushWord(place) => {
@@ -117,7 +43,7 @@ fn add_looked<'a>(call: &'a RunCall, out: &mut Vec<&'a Name>) -> Result<(), Memo
 
 /// Adds what a runtime call changes.
 pub fn add_changed<'a>(call: &'a RunCall, out: &mut Vec<&'a Name>) -> Result<(), Memory>
-    ensures added { OnOk result (names_seen out.new.items ≡ names_seen out.old.items ++ changed_names (runtime_of call.now)) }
+    ensures added { OnOk result (vars_seen out.new.items ≡ vars_seen out.old.items ++ changed_by (runtime_of call.now)) }
 {
     match call {
         RunCall::PopWord(place) => out.push(&place.name)?,
@@ -139,20 +65,9 @@ pub fn add_changed<'a>(call: &'a RunCall, out: &mut Vec<&'a Name>) -> Result<(),
     Ok(())
 }
 
-// Adds the name that says how many snapshots a marked DO has.
-fn add_mark<'a>(mark: &'a Mark, out: &mut Vec<&'a Name>) -> Result<(), Memory>
-    ensures added { OnOk result (names_seen out.new.items ≡ names_seen out.old.items ++ mark_names (mark_of mark.now)) }
-{
-    match mark {
-        Mark::Plain | Mark::Count(_) => {}
-        Mark::From(name) => out.push(name)?,
-    }
-    Ok(())
-}
-
 // Adds what a statement writes itself.
 fn add_own_written<'a>(act: &'a Act, out: &mut Vec<&'a Name>) -> Result<(), Memory>
-    ensures added { OnOk result (names_seen out.new.items ≡ names_seen out.old.items ++ own_written (act_of act.now)) }
+    ensures added { OnOk result (vars_seen out.new.items ≡ vars_seen out.old.items ++ own_written (act_of act.now)) }
 {
     match act {
         Act::Assign(place, _) => {
@@ -170,7 +85,7 @@ fn add_own_written<'a>(act: &'a Act, out: &mut Vec<&'a Name>) -> Result<(), Memo
 
 // Adds what a statement reads itself.
 fn add_own_read<'a>(act: &'a Act, out: &mut Vec<&'a Name>) -> Result<(), Memory>
-    ensures added { OnOk result (names_seen out.new.items ≡ names_seen out.old.items ++ own_read (act_of act.now)) }
+    ensures added { OnOk result (vars_seen out.new.items ≡ vars_seen out.old.items ++ own_read (act_of act.now)) }
 {
     match act {
         Act::Assign(place, e) => {
@@ -184,14 +99,14 @@ fn add_own_read<'a>(act: &'a Act, out: &mut Vec<&'a Name>) -> Result<(), Memory>
             add_term(by, out)?;
             add_mark(mark, out)
         }
-        Act::Call(_, actuals) => add_actuals(actuals, out),
+        Act::Call(_, actuals) => add_others(actuals, out),
         Act::Run(call) => add_looked(call, out),
     }
 }
 
 // Adds what a statement writes or reads itself.
 fn add_own<'a>(side: Side, act: &'a Act, out: &mut Vec<&'a Name>) -> Result<(), Memory>
-    ensures added { OnOk result (names_seen out.new.items ≡ names_seen out.old.items ++ own_names side (act_of act.now)) }
+    ensures added { OnOk result (vars_seen out.new.items ≡ vars_seen out.old.items ++ own side (act_of act.now)) }
 {
     match side {
         Side::Written => add_own_written(act, out),
@@ -201,7 +116,7 @@ fn add_own<'a>(side: Side, act: &'a Act, out: &mut Vec<&'a Name>) -> Result<(), 
 
 // Adds what statements write or read themselves.
 fn add_all<'a>(side: Side, stmts: &[&'a Stmt], out: &mut Vec<&'a Name>) -> Result<(), Memory>
-    ensures added { OnOk result (names_seen out.new.items ≡ names_seen out.old.items ++ flat_map (λ s. own_names side s.1) (seen stmts.now)) }
+    ensures added { OnOk result (vars_seen out.new.items ≡ vars_seen out.old.items ++ flat_map (λ s. own side s.1) (seen stmts.now)) }
 {
     for stmt in stmts {
         add_own(side, &stmt.act, out)?;
@@ -211,7 +126,7 @@ fn add_all<'a>(side: Side, stmts: &[&'a Stmt], out: &mut Vec<&'a Name>) -> Resul
 
 // Adds the names among the extents of a declaration.
 fn add_extent_names<'a>(decl: &'a Decl, out: &mut Vec<&'a Name>) -> Result<(), Memory>
-    ensures added { OnOk result (names_seen out.new.items ≡ names_seen out.old.items ++ extent_names (map extent_of decl.now.extents)) }
+    ensures added { OnOk result (vars_seen out.new.items ≡ vars_seen out.old.items ++ map plain (extent_names (map extent_of decl.now.extents))) }
 {
     for extent in decl.extents.as_slice() {
         if let Extent::Dummy(name) = extent {
@@ -223,7 +138,7 @@ fn add_extent_names<'a>(decl: &'a Decl, out: &mut Vec<&'a Name>) -> Result<(), M
 
 // Adds the names among all extents.
 fn add_extents<'a>(decls: &'a [Decl], out: &mut Vec<&'a Name>) -> Result<(), Memory>
-    ensures added { OnOk result (names_seen out.new.items ≡ names_seen out.old.items ++ extents_read (map declaration_of decls.now)) }
+    ensures added { OnOk result (vars_seen out.new.items ≡ vars_seen out.old.items ++ extents_read (map declaration_of decls.now)) }
 {
     for decl in decls {
         add_extent_names(decl, out)?;
@@ -233,7 +148,7 @@ fn add_extents<'a>(decls: &'a [Decl], out: &mut Vec<&'a Name>) -> Result<(), Mem
 
 // Adds what the declarations of a unit read.
 fn add_declared<'a>(side: Side, decls: &'a [Decl], out: &mut Vec<&'a Name>) -> Result<(), Memory>
-    ensures added { OnOk result (names_seen out.new.items ≡ names_seen out.old.items ++ declared_read side (map declaration_of decls.now)) }
+    ensures added { OnOk result (vars_seen out.new.items ≡ vars_seen out.old.items ++ declared_read side (map declaration_of decls.now)) }
 {
     match side {
         Side::Written => Ok(()),
@@ -241,7 +156,8 @@ fn add_declared<'a>(side: Side, decls: &'a [Decl], out: &mut Vec<&'a Name>) -> R
     }
 }
 
-/// What a unit writes or reads without its calls.
+/// The names of what a unit writes or reads without its calls.
+#[tactic(auto, using(crate::proofs::Naming::seen_among))]
 pub(crate) fn direct<'a>(alloc: Global, side: Side, unit: &'a Unit) -> Result<Vec<&'a Name>, Memory>
     ensures direct { IfOk result (λ v. names_seen v.items ≡ direct side (procedure_of unit.now)) }
 {

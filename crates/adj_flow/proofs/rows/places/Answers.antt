@@ -1,10 +1,9 @@
-use Rattle.std.proofs.Common.{◌≡◌, ℕ, List, ap, sym, ◌∙◌, ◌∷◌, ◌+◌, ◌<◌, drop, length, get_or, subst}
+use Rattle.std.proofs.Common.{◌≡◌, ℕ, List, ap, sym, refl, ◌∙◌, ◌∷◌, ◌+◌, ◌<◌, drop, length, get_or, subst}
 use Rattle.std.specs.Option.{option_or}
 use Rattle.std.proofs.lemmas.List.{drop_more}
-use Rattle.adj_flow.specs.Places.{place_from}
+use Rattle.adj_writes.specs.Graph.{place_from}
 use Rattle.adj_writes.specs.Table.{value_of}
-use Rattle.adj_writes.proofs.Numbers.{numbers_more}
-use Rattle.adj_flow.proofs.Placing.{place_more}
+use Rattle.adj_writes.proofs.Numbers.{numbers_more, place_more}
 use Rattle.adj_flow.proofs.rows.places.Goals as goal
 
 pub loop-place-preserved : goal.loop-place-preserved
@@ -18,5 +17,5 @@ loop-place-preserved c x =
     let first = drop_more ns i n l ∙ ap (λ z. z ∷ drop (i + 1) ns) (sym is) in
     let rest = drop (i + 1) ns in
     numbers_more x c.loop-place.places c.add.new.self (place_from (i + 1) rest x) n i c.in_ok-add.ensures.added
-    ∙ ap (option_or (value_of x c.loop-place.places)) (place_more i n rest x ∙ ap (λ z. place_from i z x) (sym first))
+    ∙ ap (option_or (value_of x c.loop-place.places)) (place_more i (i + 1) n rest x refl ∙ ap (λ z. place_from i z x) (sym first))
     ∙ c.loop-place.invariant x

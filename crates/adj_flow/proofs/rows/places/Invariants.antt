@@ -1,7 +1,7 @@
 -- The names passed, and those that are left.
 use Rattle.std.proofs.Common.{◌≡◌, ℕ, List, drop}
 use Rattle.std.specs.Option.{option_or}
-use Rattle.adj_flow.specs.Places.{place_from}
+use Rattle.adj_writes.specs.Graph.{place_from}
 use Rattle.adj_writes.specs.Table.{value_of}
 use Rattle.adj_flow.proofs.rows.places.Given as goal
 

@@ -1,7 +1,7 @@
 -- The units passed, and those that are left.
 use Rattle.std.proofs.Common.{◌≡◌, ℕ, List, drop, map}
 use Rattle.std.specs.Option.{option_or}
-use Rattle.adj_flow.specs.Places.{place_from}
+use Rattle.adj_writes.specs.Graph.{place_from}
 use Rattle.adj_writes.specs.Table.{value_of}
 use Rattle.adj_flow.proofs.units.numbers.Given as goal
 

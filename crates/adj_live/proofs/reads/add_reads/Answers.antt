@@ -3,7 +3,8 @@ use Rattle.std.specs.Prelude.{◌&&◌}
 use Rattle.adj_tree.specs.View.{term_of}
 use Rattle.adj_transpose.specs.Marks.{Vars, point_before}
 use Rattle.adj_facts.specs.Variables.{adjoint_reads_in}
-use Rattle.adj_flow.specs.NodeView.{names_of, told_at}
+use Rattle.adj_writes.specs.View.{vars_seen}
+use Rattle.adj_flow.specs.NodeView.{told_at}
 use Rattle.adj_flow.specs.Rows.{row_of}
 use Rattle.adj_live.proofs.reads.add_reads.Goals as goal
 
@@ -11,4 +12,4 @@ pub returns : goal.returns
 returns c =
     let s = c.args.site in
     let r = row_of s.part.now in
-    record { added = subst (λ (z : Vars). OnOk c.add_reads.result (names_of c.add_reads.new.out.items ≡ names_of c.args.out.now.items ++ adjoint_reads_in z (term_of c.args.term.now))) (λ i v. told_at (c.as_slice.ensures.members i) s.known.width r (point_before c.args.statement) v && told_at (c.as_slice-2.ensures.members i) s.known.width r r.part.number v) c.add_reads.ensures.added }
+    record { added = subst (λ (z : Vars). OnOk c.add_reads.result (vars_seen c.add_reads.new.out.items ≡ vars_seen c.args.out.now.items ++ adjoint_reads_in z (term_of c.args.term.now))) (λ i v. told_at (c.as_slice.ensures.members i) s.known.width r (point_before c.args.statement) v && told_at (c.as_slice-2.ensures.members i) s.known.width r r.part.number v) c.add_reads.ensures.added }

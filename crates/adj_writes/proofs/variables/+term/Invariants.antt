@@ -3,11 +3,11 @@ use Rattle.std.proofs.Common.{◌≡◌, ◌≤◌, ◌++◌}
 use Rattle.adj_tree.specs.declared.expr.Exprs.{size-Exprs}
 use Rattle.adj_tree.specs.View.{terms_of}
 use Rattle.adj_facts.specs.Variables.{vars_in_terms}
-use Rattle.adj_flow.specs.NodeView.{names_of}
-use Rattle.adj_flow.proofs.variables.+term.Given as goal
+use Rattle.adj_writes.specs.View.{vars_seen}
+use Rattle.adj_writes.proofs.variables.+term.Given as goal
 
 abbrev pub invariant-add_terms-loop-rest : goal.invariant-add_terms-loop-rest
 invariant-add_terms-loop-rest l = record {
   no_deeper : size-Exprs l.rest ≤ size-Exprs l.initial.rest;
-  so_far : names_of l.out.items ++ vars_in_terms (terms_of l.rest) ≡ names_of l.initial.out.items ++ vars_in_terms (terms_of l.terms);
+  so_far : vars_seen l.out.items ++ vars_in_terms (terms_of l.rest) ≡ vars_seen l.initial.out.items ++ vars_in_terms (terms_of l.terms);
 }
