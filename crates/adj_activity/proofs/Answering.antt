@@ -9,7 +9,7 @@ use Rattle.adj_facts.specs.Parts.{Part, parts, parts_from, statements_in, find_p
 use Rattle.adj_facts.specs.Problem.{Problem, TakesPart}
 use Rattle.adj_facts.specs.Activity.{IsActivity}
 use Rattle.adj_facts.specs.Rules.{Scope, Covers}
-use Rattle.adj_writes.specs.Graph.{place_from}
+use Rattle.adj_writes.specs.Graph.{number_from}
 use Rattle.adj_writes.specs.Table.{value_of}
 use Rattle.adj_flow.specs.Rows.{Row, row_in, rows}
 use Rattle.adj_reach.specs.Edges.{ReachedFrom, ReachedBack, flag}
@@ -38,7 +38,7 @@ parts_length : (t u i : ℕ) (ps : List Procedure) → length (parts_from t u i 
 parts_length t u i [] = refl
 parts_length t u i (p ∷ ps) = ap suc (parts_length t (suc u) (behind i p.body) ps)
 
-module _ (k : Problem) (vss : List (List (List ℕ))) (numbers : List (List ℕ × ℕ)) (taking : List Bool) (w : ℕ) (known : (x : List ℕ) → value_of x numbers ≡ place_from 0 (map (λ p. p.name) k.units) x)
+module _ (k : Problem) (vss : List (List (List ℕ))) (numbers : List (List ℕ × ℕ)) (taking : List Bool) (w : ℕ) (known : (x : List ℕ) → value_of x numbers ≡ number_from 0 k.units x)
     (takes : (g : Part) → Contains (parts k.units) g → IsTrue (flag taking g.number) ↔ TakesPart (record { units = k.units; head = k.head; vars = []; outvars = [] }) g) (lengths : length vss ≡ length k.units) (narrow : All (λ vs. length vs ≤ w) vss)
     (hold : HoldVariables vss k.units) (rs : List Row) (same : rs ≡ rows vss k.units) where
   abbrev o : Scope

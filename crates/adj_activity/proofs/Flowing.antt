@@ -9,7 +9,7 @@ use Rattle.adj_transpose.specs.Marks.{behind}
 use Rattle.adj_facts.specs.Parts.{Part, parts, parts_from, statements_in}
 use Rattle.adj_facts.specs.Problem.{TakesPart}
 use Rattle.adj_facts.proofs.Members.{is_first, is_later}
-use Rattle.adj_writes.specs.Graph.{place_from}
+use Rattle.adj_writes.specs.Graph.{number_from}
 use Rattle.adj_writes.specs.Table.{value_of}
 use Rattle.adj_flow.specs.Rows.{Row, row_of, row_in, rows}
 use Rattle.adj_flow.specs.declared.units.Flow.{Flow}
@@ -44,12 +44,12 @@ module _ (f : Flow) (h : ℕ) (ps : List Procedure) (vss : List (List (List ℕ)
       ∙ sym (map-map variables (λ (g : Part). g.unit) (parts ps)) ∙ ap (map variables) (parts_units (statements_in 0 ps) 0 0 ps)
       ∙ sym same
 
-  pub flow_is : IsWritten ps → h < length ps → ((x : List ℕ) → value_of x f.numbers ≡ place_from 0 (map (λ p. p.name) ps) x) →
+  pub flow_is : IsWritten ps → h < length ps → ((x : List ℕ) → value_of x f.numbers ≡ number_from 0 ps x) →
       ((g : Part) → Contains (parts ps) g → IsTrue (flag f.taking g.number) ↔ TakesPart (record { units = ps; head = h; vars = []; outvars = [] }) g) → All (λ vs. length vs ≤ f.width) vss → IsFlow f h
   flow_is written inside known takes narrow = record {
     head = subst (λ z. h < length z) (sym units_are) inside;
     rows = listed ∙ (λ i. rows (sym variables_are i) (sym units_are i));
-    numbers = λ x. known x ∙ ap (λ z. place_from 0 (map (λ p. p.name) z) x) (sym units_are);
+    numbers = λ x. known x ∙ ap (λ z. number_from 0 z x) (sym units_are);
     taking = subst (λ z. (g : Part) → Contains (parts z) g → IsTrue (flag f.taking g.number) ↔ TakesPart (record { units = z; head = h; vars = []; outvars = [] }) g) (sym units_are) takes;
     width = subst (λ z. All (λ vs. length vs ≤ f.width) z) (sym variables_are) narrow;
     variables = subst (λ z. HoldVariables z (units_of f)) (sym (variables_are ∙ same)) (subst (λ z. HoldVariables (map variables ps) z) (sym units_are) (written_hold ps written));

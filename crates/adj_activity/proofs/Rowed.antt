@@ -19,7 +19,6 @@ use Rattle.adj_facts.specs.Rules.{Scope, Covers, with_args, called, at_actuals, 
 use Rattle.adj_facts.proofs.Members.{is_first, is_later}
 use Rattle.adj_facts.proofs.OwnPoints.{entry_point}
 use Rattle.adj_facts.proofs.Sets.{same_truth}
-use Rattle.adj_writes.specs.Graph.{place_from}
 use Rattle.adj_flow.specs.Rows.{Row, row_at, row_in, rows}
 use Rattle.adj_reach.specs.Edges.{Edges, flag}
 use Rattle.adj_flow.specs.Nodes.{node_in, linked}

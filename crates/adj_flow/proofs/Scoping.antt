@@ -6,7 +6,6 @@ use Rattle.std.proofs.lemmas.List.{map-append}
 use Rattle.std.proofs.lemmas.List.Concat.{flat_map-cons}
 use Rattle.std.proofs.lemmas.List.Folds.{flat_map-map}
 use Rattle.adj_tree.specs.Code.{Var, plain, name_eq, Procedure}
-use Rattle.adj_tree.proofs.Names.{name_same, name_refl}
 use Rattle.adj_transpose.specs.Marks.{behind}
 use Rattle.adj_facts.specs.Parts.{Part, part, parts_from, statements_in, parts, find_part}
 use Rattle.adj_facts.specs.Variables.{list_if}
@@ -14,8 +13,9 @@ use Rattle.adj_facts.specs.Problem.{Problem, TakesPart}
 use Rattle.adj_facts.specs.Activity.{IsPoint}
 use Rattle.adj_facts.specs.Rules.{Scope, Covers}
 use Rattle.adj_facts.proofs.Members.{is_first, is_later}
-use Rattle.adj_facts.proofs.Sets.{same_truth}
-use Rattle.adj_writes.specs.Graph.{place_from}
+use Rattle.adj_writes.specs.Graph.{number_from, place_from}
+use Rattle.adj_writes.proofs.Numbers.{place_above}
+use Rattle.adj_writes.proofs.Rows.{name_comm}
 use Rattle.adj_flow.specs.Rows.{Row, row_at, row_in, rows}
 use Rattle.adj_reach.specs.Edges.{flag}
 use Rattle.adj_flow.specs.Nodes.{node_in}
@@ -50,9 +50,6 @@ map_flat h f (x ∷ xs) = flat_map-cons (λ z. map h (f z)) x xs ∙ ap (λ z. m
 
 -- ---- the unit of a name
 
-name_turned : (x y : List ℕ) → name_eq x y ≡ name_eq y x
-name_turned x y = same_truth (name_eq x y) (name_eq y x) (λ h. ap (λ z. name_eq y z) (name_same x y h) ∙ name_refl y) (λ h. ap (λ z. name_eq x z) (name_same y x h) ∙ name_refl x)
-
 abbrev found_behind : ℕ → List Row → Option ℕ → Option Row
 found_behind k rs None = None
 found_behind k rs (Some n) = slice_get rs (n - k)
@@ -61,7 +58,7 @@ found_behind k rs (Some n) = slice_get rs (n - k)
 found_from : (vss : List (List (List ℕ))) (t u i k : ℕ) (ps : List Procedure) (x : List ℕ) → found_behind k (map (row_in vss) (parts_from t u i ps)) (place_from k (map (λ p. p.name) ps) x) ≡ option_map (row_in vss) (find_part (parts_from t u i ps) x)
 found_from vss t u i k [] x = refl
 found_from vss t u i k (p ∷ ps) x =
-    go (name_eq x p.name) (found_from vss t (suc u) (behind i p.body) (suc k) ps x) ∙ ap (λ b. option_map (row_in vss) (if b then Some (part t u i p) else find_part (parts_from t (suc u) (behind i p.body) ps) x)) (name_turned x p.name)
+    go (name_eq x p.name) (found_from vss t (suc u) (behind i p.body) (suc k) ps x) ∙ ap (λ b. option_map (row_in vss) (if b then Some (part t u i p) else find_part (parts_from t (suc u) (behind i p.body) ps) x)) (name_comm x p.name)
   where
     rest : List Row
     rest = map (row_in vss) (parts_from t (suc u) (behind i p.body) ps)
@@ -69,17 +66,9 @@ found_from vss t u i k (p ∷ ps) x =
     here : (j : ℕ) → j ≡ 0 → slice_get (row_in vss (part t u i p) ∷ rest) j ≡ Some (row_in vss (part t u i p))
     here j e = ap (λ z. slice_get (row_in vss (part t u i p) ∷ rest) z) e
 
-    above : (j : ℕ) (xs : List (List ℕ)) (n : ℕ) → place_from j xs x ≡ Some n → j ≤ n
-    above j [] n e = absurd cc
-    above j (y ∷ ys) n e = at (name_eq x y) e (above (suc j) ys n)
-      where
-        at : (b : Bool) → (if b then Some j else place_from (suc j) ys x) ≡ Some n → (place_from (suc j) ys x ≡ Some n → suc j ≤ n) → j ≤ n
-        at true f r = let h : j ≡ n = cc in omega arith
-        at false f r = omega (arith, r f)
-
     deeper : (o : Option ℕ) → place_from (suc k) (map (λ q. q.name) ps) x ≡ o → found_behind k (row_in vss (part t u i p) ∷ rest) o ≡ found_behind (suc k) rest o
     deeper None e = refl
-    deeper (Some n) e = let l : suc k ≤ n = above (suc k) (map (λ q. q.name) ps) n e in let h : n - k ≡ suc (n - suc k) = omega arith in ap (λ z. slice_get (row_in vss (part t u i p) ∷ rest) z) h
+    deeper (Some n) e = let l : suc k ≤ n = place_above (suc k) (map (λ q. q.name) ps) x n e in let h : n - k ≡ suc (n - suc k) = omega arith in ap (λ z. slice_get (row_in vss (part t u i p) ∷ rest) z) h
 
     go : (b : Bool) → found_behind (suc k) rest (place_from (suc k) (map (λ q. q.name) ps) x) ≡ option_map (row_in vss) (find_part (parts_from t (suc u) (behind i p.body) ps) x) →
         found_behind k (row_in vss (part t u i p) ∷ rest) (if b then Some k else place_from (suc k) (map (λ q. q.name) ps) x) ≡ option_map (row_in vss) (if b then Some (part t u i p) else find_part (parts_from t (suc u) (behind i p.body) ps) x)
@@ -90,8 +79,8 @@ unmoved : (rs : List Row) (o : Option ℕ) → found_behind 0 rs o ≡ found_at 
 unmoved rs None = refl
 unmoved rs (Some n) = let h : n - 0 ≡ n = omega arith in ap (slice_get rs) h
 
-pub found_unit : (vss : List (List (List ℕ))) (ps : List Procedure) (x : List ℕ) → found_at (rows vss ps) (place_from 0 (map (λ p. p.name) ps) x) ≡ option_map (row_in vss) (find_part (parts ps) x)
-found_unit vss ps x = sym (unmoved (rows vss ps) (place_from 0 (map (λ p. p.name) ps) x)) ∙ found_from vss (statements_in 0 ps) 0 0 0 ps x
+pub found_unit : (vss : List (List (List ℕ))) (ps : List Procedure) (x : List ℕ) → found_at (rows vss ps) (number_from 0 ps x) ≡ option_map (row_in vss) (find_part (parts ps) x)
+found_unit vss ps x = sym (unmoved (rows vss ps) (number_from 0 ps x)) ∙ found_from vss (statements_in 0 ps) 0 0 0 ps x
 
 -- ---- rows
 

@@ -5,7 +5,7 @@ use Rattle.adj_tree.specs.View.{procedure_of}
 use Rattle.adj_tree.specs.declared.marks.Head.{Head}
 use Rattle.adj_facts.specs.Parts.{Part, parts}
 use Rattle.adj_facts.specs.Problem.{Problem, TakesPart}
-use Rattle.adj_writes.specs.Graph.{place_from}
+use Rattle.adj_writes.specs.Graph.{number_from}
 use Rattle.adj_writes.specs.Table.{value_of}
 use Rattle.adj_flow.specs.Rows.{row_of, rows}
 use Rattle.adj_flow.specs.declared.units.Flow.{Flow}
@@ -27,7 +27,7 @@ problem_of f h = record { units = units_of f; head = h.unit; vars = h.vars; outv
 pub record IsFlow (f : Flow) (h : ℕ) : Type 0 where
   pub head : h < length (units_of f)
   pub rows : map row_of f.parts.items ≡ rows (variables_of f) (units_of f)
-  pub numbers : (x : List ℕ) → value_of x f.numbers ≡ place_from 0 (map (λ p. p.name) (units_of f)) x
+  pub numbers : (x : List ℕ) → value_of x f.numbers ≡ number_from 0 (units_of f) x
   pub taking : (g : Part) → Contains (parts (units_of f)) g → IsTrue (flag f.taking g.number) ↔ TakesPart (record { units = units_of f; head = h; vars = []; outvars = [] }) g
   pub width : All (λ vs. length vs ≤ f.width) (variables_of f)
   pub variables : HoldVariables (variables_of f) (units_of f)

@@ -7,7 +7,7 @@ ghost use Rattle.adj_facts.specs.Parts as spec;
 ghost use Rattle.adj_facts.specs.Parts.{statements_in};
 ghost use Rattle.adj_facts.specs.Problem.{TakesPart};
 ghost use Rattle.adj_reach.specs.Edges.{flag};
-ghost use Rattle.adj_writes.specs.Graph.{place_from};
+ghost use Rattle.adj_writes.specs.Graph.{number_from};
 ghost use Rattle.adj_writes.specs.Table.{value_of};
 ghost use Rattle.adj_flow.specs.Rows.{row_of, rows};
 
@@ -18,7 +18,7 @@ use crate::rows::parts;
 use crate::standing::Place;
 use crate::way::{Deed, Point};
 use adj_tree::{Flags, Memory, NameList, Unit};
-use adj_writes::table::Numbers;
+use adj_writes::table::{Numbers, unit_numbers};
 use std::alloc::Global;
 
 /// The units of a program with their numbers by name, which of them take part, and a number that no unit has more variables than.
@@ -60,17 +60,6 @@ fn count(alloc: Global, units: &[Unit]) -> Result<usize, Memory>
     Ok(outline.statements.len())
 }
 
-// The number of the first unit of each name.
-fn numbers<'a>(alloc: Global, units: &'a [Unit]) -> Result<Numbers<'a>, Memory>
-    ensures numbers { IfOk result (λ r. (x : List ℕ) → value_of x r ≡ place_from 0 (map (λ u. u.name) units.now) x) }
-{
-    let mut numbers = Numbers::new(alloc);
-    for (number, unit) in units.iter().enumerate() {
-        numbers.add(&unit.name, number)?;
-    }
-    Ok(numbers)
-}
-
 // The most variables that a unit has.
 fn width(variables: &[&NameList]) -> usize
     ensures width { All (λ v. length v.now ≤ result) variables.now }
@@ -94,7 +83,7 @@ impl<'a> Flow<'a> {
         requires room { length units.now + 1 < 2 ^ 64 }
         requires head { head < length units.now }
         ensures rows { IfOk result (λ f. map row_of f.parts.items ≡ rows (map (λ b. b.now) variables.now) (map procedure_of units.now)) }
-        ensures numbers { IfOk result (λ f. (x : List ℕ) → value_of x f.numbers ≡ place_from 0 (map (λ u. u.name) units.now) x) }
+        ensures numbers { IfOk result (λ f. (x : List ℕ) → value_of x f.numbers ≡ number_from 0 (map procedure_of units.now) x) }
         ensures taking { IfOk result (λ f. (g : spec.Part) → Contains (spec.parts (map procedure_of units.now)) g →
             (IsTrue (flag f.taking g.number) ↔ TakesPart (record { units = map procedure_of units.now; head = head; vars = []; outvars = [] }) g)) }
         ensures width { IfOk result (λ f. All (λ v. length v.now ≤ f.width) variables.now) }
@@ -102,7 +91,7 @@ impl<'a> Flow<'a> {
         let taking = taking_part(alloc, units, head)?;
         let count = count(alloc, units)?;
         let parts = parts(alloc, units, variables, count)?;
-        let numbers = numbers(alloc, units)?;
+        let numbers = unit_numbers(alloc, units)?;
         Ok(Flow {
             parts,
             numbers,

@@ -4,7 +4,6 @@ use Rattle.std.specs.Prelude.{◌↔◌, IsTrue, All, Contains, Option, Some, No
 use Rattle.std.specs.Option.{option_map}
 use Rattle.adj_tree.specs.Code.{plain, name_eq, Procedure}
 use Rattle.adj_tree.specs.declared.marks.Activity as flags
-use Rattle.adj_tree.proofs.Names.{name_same, name_refl}
 use Rattle.adj_meaning.specs.LeastSet.{row_of, least_rows}
 use Rattle.adj_meaning.specs.Read.{read_rule, looked_at}
 use Rattle.adj_meaning.specs.Written.{write_rule, handed_back}
@@ -12,10 +11,11 @@ use Rattle.adj_facts.specs.Parts.{Part, parts, find_part}
 use Rattle.adj_facts.specs.Problem.{Problem, TakesPart}
 use Rattle.adj_facts.specs.Live.{IsLive}
 use Rattle.adj_facts.specs.Rules.{Scope, Covers}
-use Rattle.adj_facts.proofs.Sets.{same_truth}
 use Rattle.adj_writes.specs.Table.{value_of}
 use Rattle.adj_reach.specs.Edges.{ReachedFrom, flag}
-use Rattle.adj_writes.specs.Graph.{place_from}
+use Rattle.adj_writes.specs.Graph.{number_from, place_from}
+use Rattle.adj_writes.proofs.Numbers.{place_above}
+use Rattle.adj_writes.proofs.Rows.{name_comm}
 use Rattle.adj_flow.specs.Rows.{Row, row_in, rows}
 use Rattle.adj_flow.specs.Nodes.{IsWide}
 use Rattle.adj_flow.specs.NodeView.{found_at}
@@ -33,9 +33,6 @@ use Rattle.adj_live.proofs.Telling.{is_live}
 
 -- ---- the row of a name
 
-name_turned : (x z : List ℕ) → name_eq x z ≡ name_eq z x
-name_turned x z = same_truth (name_eq x z) (name_eq z x) (λ h. ap (λ n. name_eq z n) (name_same x z h) ∙ name_refl z) (λ h. ap (λ n. name_eq x n) (name_same z x h) ∙ name_refl x)
-
 abbrev row_behind : ℕ → List (List Bool) → Option ℕ → List Bool
 row_behind k rows None = []
 row_behind k rows (Some n) = slice_index_or rows (n - k) []
@@ -45,19 +42,11 @@ none_behind : (k : ℕ) (n : Option ℕ) → row_behind k [] n ≡ []
 none_behind k None = refl
 none_behind k (Some n) = refl
 
-place_above : (j : ℕ) (xs : List (List ℕ)) (x : List ℕ) (n : ℕ) → place_from j xs x ≡ Some n → j ≤ n
-place_above j [] x n e = absurd cc
-place_above j (z ∷ zs) x n e = at (name_eq x z) e (place_above (suc j) zs x n)
-  where
-    at : (b : Bool) → (if b then Some j else place_from (suc j) zs x) ≡ Some n → (place_from (suc j) zs x ≡ Some n → suc j ≤ n) → j ≤ n
-    at true f r = let h : j ≡ n = cc in omega arith
-    at false f r = omega (arith, r f)
-
 -- among the units from the k-th on
 row_from : (k : ℕ) (ps : List Procedure) (rows : List (List Bool)) (x : List ℕ) → row_behind k rows (place_from k (map (λ p. p.name) ps) x) ≡ row_of ps rows x
 row_from k [] rows x = refl
 row_from k (p ∷ ps) [] x = none_behind k (place_from k (map (λ q. q.name) (p ∷ ps)) x)
-row_from k (p ∷ ps) (ws ∷ rows) x = go (name_eq x p.name) (row_from (suc k) ps rows x) ∙ ap (λ b. if b then ws else row_of ps rows x) (name_turned x p.name)
+row_from k (p ∷ ps) (ws ∷ rows) x = go (name_eq x p.name) (row_from (suc k) ps rows x) ∙ ap (λ b. if b then ws else row_of ps rows x) (name_comm x p.name)
   where
     deeper : (n : Option ℕ) → place_from (suc k) (map (λ q. q.name) ps) x ≡ n → row_behind k (ws ∷ rows) n ≡ row_behind (suc k) rows n
     deeper None e = refl
@@ -74,8 +63,8 @@ unmoved : (rows : List (List Bool)) (n : Option ℕ) → row_by rows n ≡ row_b
 unmoved rows None = refl
 unmoved rows (Some n) = let h : n ≡ n - 0 = omega arith in ap (λ z. slice_index_or rows z []) h
 
-row_named : (ps : List Procedure) (rows : List (List Bool)) (x : List ℕ) → row_by rows (place_from 0 (map (λ p. p.name) ps) x) ≡ row_of ps rows x
-row_named ps rows x = unmoved rows (place_from 0 (map (λ p. p.name) ps) x) ∙ row_from 0 ps rows x
+row_named : (ps : List Procedure) (rows : List (List Bool)) (x : List ℕ) → row_by rows (number_from 0 ps x) ≡ row_of ps rows x
+row_named ps rows x = unmoved rows (number_from 0 ps x) ∙ row_from 0 ps rows x
 
 -- ---- all together
 
@@ -90,7 +79,7 @@ seen_by numbers w reads writes b us r = record {
   row = r;
 }
 
-module _ (k : Problem) (vss : List (List (List ℕ))) (numbers : List (List ℕ × ℕ)) (taking : List Bool) (w : ℕ) (known : (x : List ℕ) → value_of x numbers ≡ place_from 0 (map (λ p. p.name) k.units) x)
+module _ (k : Problem) (vss : List (List (List ℕ))) (numbers : List (List ℕ × ℕ)) (taking : List Bool) (w : ℕ) (known : (x : List ℕ) → value_of x numbers ≡ number_from 0 k.units x)
     (takes : (g : Part) → Contains (parts k.units) g → IsTrue (flag taking g.number) ↔ TakesPart (record { units = k.units; head = k.head; vars = []; outvars = [] }) g) (lengths : length vss ≡ length k.units) (narrow : All (λ vs. length vs ≤ w) vss)
     (hold : HoldVariables vss k.units) (rs : List Row) (same : rs ≡ rows vss k.units) (reads writes : List (List Bool)) (reads_are : reads ≡ least_rows read_rule k.units) (writes_are : writes ≡ least_rows write_rule k.units) (b : flags.Activity) where
   abbrev o : Scope

@@ -1,5 +1,5 @@
 -- Rows of units, by their numbers and by their names.
-use Rattle.std.proofs.Common.{◌≡◌, ℕ, suc, ◌+◌, ◌≤◌, nat_lt, Bool, true, false, List, [], ◌∷◌, ◌++◌, length, get_or, Bor, refl, sym, ap, ◌∙◌, Option, Some, None, if◌then◌else◌, append_assoc, arith}
+use Rattle.std.proofs.Common.{◌≡◌, ℕ, suc, ◌+◌, ◌≤◌, nat_lt, Bool, true, false, List, [], ◌∷◌, ◌++◌, length, map, get_or, Bor, refl, sym, ap, ◌∙◌, Option, Some, None, if◌then◌else◌, append_assoc, arith}
 use Rattle.std.specs.Prelude.{unwrap_or, is_some}
 use Rattle.std.proofs.lemmas.Option.{slice_get_past, slice_get_read}
 use Rattle.std.proofs.lemmas.Bool.Decides.{nat_tests}
@@ -12,15 +12,7 @@ use Rattle.adj_names.specs.Variables.{Name}
 use Rattle.adj_symbols.specs.Writes.{row_at}
 use Rattle.adj_symbols.proofs.Scopes.{name_comm, number_has}
 use Rattle.adj_writes.specs.Graph.{number_from}
-
--- no number is below the first
-least : (k : ℕ) (us : List Procedure) (x : Name) (n : ℕ) → number_from k us x ≡ Some n → k ≤ n
-least k [] x n h = absurd cc
-least k (u ∷ us) x n h = go (name_eq x u.name) (least (suc k) us x n) h
-  where
-    go : (b : Bool) → (number_from (suc k) us x ≡ Some n → suc k ≤ n) → (if b then Some k else number_from (suc k) us x) ≡ Some n → k ≤ n
-    go true later e = let same : k ≡ n = cc in omega arith
-    go false later e = let above = later e in omega arith
+use Rattle.adj_writes.proofs.Numbers.{place_above}
 
 -- behind the last row there are none
 past : (rows : List (List Bool)) (us : List Procedure) (x : Name) → row_at rows (number_from (length rows) us x) ≡ []
@@ -28,7 +20,7 @@ past rows us x = go (number_from (length rows) us x) refl
   where
     go : (r : Option ℕ) → number_from (length rows) us x ≡ r → row_at rows r ≡ []
     go None h = refl
-    go (Some n) h = ap (λ o. unwrap_or o []) (slice_get_past rows n (least (length rows) us x n h))
+    go (Some n) h = ap (λ o. unwrap_or o []) (slice_get_past rows n (place_above (length rows) (map (λ u. u.name) us) x n h))
 
 row_behind : (before : List (List Bool)) (r : List Bool) (rows : List (List Bool)) → row_at (before ++ (r ∷ rows)) (Some (length before)) ≡ r
 row_behind [] r rows = refl

@@ -48,10 +48,6 @@ found_from before (u ∷ us) x =
 pub number_found : (ps : List Procedure) (x : Name) → found_at ps (number_from 0 ps x) ≡ find_unit ps x
 number_found ps x = found_from [] ps x
 
--- the number of a name among units with one ahead
-pub number_more : (i : ℕ) (u : Procedure) (us : List Procedure) (x : Name) → (if name_eq x u.name then Some i else number_from (i + 1) us x) ≡ number_from i (u ∷ us) x
-number_more i u us x = let e : i + 1 ≡ suc i = omega arith in ap (λ k. if name_eq x u.name then Some i else number_from k us x) e
-
 -- what a look by number gives
 pub found_by : {X : Type 0} (view : X → Procedure) (xs : List X) (n : ℕ) (r : Option (Bor X)) (f : Option Procedure) → is_some r ≡ nat_lt n (length xs) → IfSome r (λ x. x.now ≡ get_or xs n x.now) → slice_get (map view xs) n ≡ f → MatchOption r (f ≡ None) (λ o. f ≡ Some (view o.now))
 found_by view xs n None f e h g = sym g ∙ slice_get-map view xs n ∙ ap (option_map view) (slice_get_past xs n (past n (length xs) e))

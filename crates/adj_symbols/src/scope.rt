@@ -13,7 +13,7 @@ ghost use Rattle.adj_symbols.specs.Scope.{AreNumbers};
 
 use crate::outline::Outline;
 use adj_tree::{Memory, Name, Unit, boxed};
-use adj_writes::table::Numbers;
+use adj_writes::table::{Numbers, unit_numbers};
 use std::alloc::Global;
 use std::marker::Model;
 
@@ -45,24 +45,13 @@ fn outlines_of<'a>(alloc: Global, units: &'a [Unit]) -> Result<Vec<Outline<'a>>,
     Ok(outlines)
 }
 
-// The number of the first unit of each name.
-fn numbers_of<'a>(alloc: Global, units: &'a [Unit]) -> Result<Box<Numbers<'a>>, Memory>
-    ensures { IfOk result (λ r. AreNumbers (map procedure_of units.now) r.value) }
-{
-    let mut numbers = boxed(alloc, Numbers::new(alloc))?;
-    for (number, unit) in units.iter().enumerate() {
-        numbers.add(&unit.name, number)?;
-    }
-    Ok(numbers)
-}
-
 impl<'a> Scope<'a> {
     /// The units with their tables.
     pub(crate) fn new(alloc: Global, units: &'a [Unit]) -> Result<Scope<'a>, Memory>
         ensures units { IfOk result (λ s. s ≡ units.now) }
     {
         let outlines = outlines_of(alloc, units)?;
-        let numbers = numbers_of(alloc, units)?;
+        let numbers = boxed(alloc, unit_numbers(alloc, units)?)?;
         Ok(Scope { outlines, numbers })
     }
 

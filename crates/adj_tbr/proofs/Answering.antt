@@ -24,7 +24,7 @@ use Rattle.adj_facts.proofs.Numbered.{IsListed}
 use Rattle.adj_facts.proofs.Points.{one_point}
 use Rattle.adj_writes.specs.Table.{value_of}
 use Rattle.adj_flow.specs.NodeView.{found_at}
-use Rattle.adj_writes.specs.Graph.{place_from}
+use Rattle.adj_writes.specs.Graph.{number_from}
 use Rattle.adj_flow.specs.Nodes.{IsWide, HasNode, HasNumber}
 use Rattle.adj_flow.specs.Rows.{Row, row_in, rows}
 use Rattle.adj_flow.specs.Scoped.{scope_by, HoldVariables}
@@ -110,7 +110,7 @@ module _ (k : Problem) (vss : List (List (List ℕ))) (taking : List Bool) (w : 
 
 -- what is known of a flow, of the flags that are given and of those that are found
 pub record Answer (k : Problem) (vss : List (List (List ℕ))) (numbers : List (List ℕ × ℕ)) (taking : List Bool) (w : ℕ) (rs : List Row) (f : Found) (t : Sides) (held saved : List Bool) : Type 0 where
-  pub known : (x : List ℕ) → value_of x numbers ≡ place_from 0 (map (λ p. p.name) k.units) x
+  pub known : (x : List ℕ) → value_of x numbers ≡ number_from 0 k.units x
   pub takes : (g : Part) → Contains (parts k.units) g → IsTrue (flag taking g.number) ↔ TakesPart (record { units = k.units; head = k.head; vars = []; outvars = [] }) g
   pub lengths : length vss ≡ length k.units
   pub narrow : All (λ vs. length vs ≤ w) vss

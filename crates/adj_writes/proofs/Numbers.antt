@@ -1,11 +1,11 @@
 -- Numbers of names, with one more.
-use Rattle.std.proofs.Common.{◌≡◌, ℕ, suc, ◌+◌, Bool, true, false, List, [], ◌∷◌, ◌++◌, refl, ap, ◌∙◌, arith, Option, Some, None, if◌then◌else◌}
+use Rattle.std.proofs.Common.{◌≡◌, ℕ, suc, ◌+◌, ◌≤◌, Bool, true, false, List, [], ◌∷◌, ◌++◌, refl, ap, ◌∙◌, arith, Option, Some, None, if◌then◌else◌}
 use Rattle.std.specs.Prelude.{is_some}
 use Rattle.std.specs.Option.{option_or}
-use Rattle.adj_tree.specs.Code.{name_eq, Procedure}
+use Rattle.adj_tree.specs.Code.{name_eq}
 use Rattle.adj_tree.proofs.Names.{name_same}
 use Rattle.adj_names.specs.Variables.{Name}
-use Rattle.adj_writes.specs.Graph.{number_from, place_from}
+use Rattle.adj_writes.specs.Graph.{place_from}
 use Rattle.adj_writes.specs.Table.{value_of, with_value}
 
 -- the number of a name among numbers with one more
@@ -34,10 +34,15 @@ numbers_more x es made later y n m = ap (λ z. option_or (value_of x z) later) m
     go None f = ap (λ z. option_or z later) (value_of-behind x y n es) ∙ joined (value_of x es) (name_eq x y)
     go (Some k) f = there k (name_eq x y) refl f
 
--- the number of a name among units with one ahead
-pub number_more : (i : ℕ) (u : Procedure) (us : List Procedure) (x : Name) → (if name_eq x u.name then Some i else number_from (i + 1) us x) ≡ number_from i (u ∷ us) x
-number_more i u us x = let e : i + 1 ≡ suc i = omega arith in ap (λ k. if name_eq x u.name then Some i else number_from k us x) e
-
--- and the place of a name in a list with one ahead
+-- the place of a name in a list with one ahead
 pub place_more : (i j : ℕ) (d : Name) (ds : List Name) (x : Name) → j ≡ i + 1 → (if name_eq x d then Some i else place_from j ds x) ≡ place_from i (d ∷ ds) x
 place_more i j d ds x h = let e : j ≡ suc i = omega arith in ap (λ k. if name_eq x d then Some i else place_from k ds x) e
+
+-- no place is before the first one
+pub place_above : (k : ℕ) (ys : List Name) (x : Name) (n : ℕ) → place_from k ys x ≡ Some n → k ≤ n
+place_above k [] x n h = absurd cc
+place_above k (y ∷ ys) x n h = go (name_eq x y) (place_above (suc k) ys x n) h
+  where
+    go : (b : Bool) → (place_from (suc k) ys x ≡ Some n → suc k ≤ n) → (if b then Some k else place_from (suc k) ys x) ≡ Some n → k ≤ n
+    go true later e = let same : k ≡ n = cc in omega arith
+    go false later e = omega (arith, later e)

@@ -1,5 +1,5 @@
 -- Dummies as nodes of a graph: those of all units are numbered one after another, and an edge leads from a dummy of a called unit to its actual.
-use Rattle.std.specs.Prelude.{◌≡◌, ℕ, zero, suc, ◌+◌, ◌<◌, ◌^◌, List, [], ◌∷◌, ◌++◌, length, flat_map, Bool, Option, Some, None, if◌then◌else◌}
+use Rattle.std.specs.Prelude.{◌≡◌, ℕ, zero, suc, ◌+◌, ◌<◌, ◌^◌, List, [], ◌∷◌, ◌++◌, length, map, flat_map, Bool, Option, Some, None, if◌then◌else◌}
 use Rattle.std.specs.List.{slice_get}
 use Rattle.adj_tree.specs.Code.{Var, plain, shadow, helper, name_eq, Terms, none, more, Act, assign, choose, loop, during, call, runtime, Procedure}
 use Rattle.adj_tree.specs.View.{procedure_of}
@@ -28,15 +28,14 @@ abbrev pub numbered : ℕ → List Procedure → List Unit'
 numbered k [] = []
 numbered k (u ∷ us) = (k, u) ∷ numbered (k + length u.dummies) us
 
--- the number of the first unit of a name, where they are numbered from k on
-abbrev pub number_from : ℕ → List Procedure → Name → Option ℕ
-number_from k [] x = None
-number_from k (u ∷ us) x = if name_eq x u.name then Some k else number_from (suc k) us x
-
 -- the place of the first of these names that is x, the first place being k: for dummies their node
 abbrev pub place_from : ℕ → List Name → Name → Option ℕ
 place_from k [] x = None
 place_from k (y ∷ ys) x = if name_eq x y then Some k else place_from (suc k) ys x
+
+-- the number of the first unit of a name, where they are numbered from k on
+abbrev pub number_from : ℕ → List Procedure → Name → Option ℕ
+number_from k us x = place_from k (map (λ u. u.name) us) x
 
 -- the nodes of the dummies of a unit, and room for one more number
 pub record AreNodes (first : ℕ) (ds : List Name) (nodes : List (Name × ℕ)) : Type 0 where

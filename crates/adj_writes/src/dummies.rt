@@ -1,12 +1,11 @@
 //! The dummies of units, numbered one after another.
 
-ghost use Rattle.std.specs.Prelude.{◌≡◌, ◌+◌, ◌<◌, ◌^◌, ℕ, List, Some, None, map, length, IfOk, OnOk, MatchOption};
+ghost use Rattle.std.specs.Prelude.{◌≡◌, ◌+◌, ◌<◌, ◌^◌, Some, None, map, length, IfOk, OnOk, MatchOption};
 ghost use Rattle.std.specs.Coded.{codes};
 ghost use Rattle.adj_tree.specs.contracts.unit.Unit as unit_row;
 ghost use Rattle.adj_tree.specs.View.{procedure_of};
 ghost use Rattle.adj_meaning.specs.LeastSet.{dummies_in_all};
-ghost use Rattle.adj_names.specs.Variables.{Name};
-ghost use Rattle.adj_writes.specs.Graph.{Placed, placed_of, numbered, number_from, place_from, found_at, AreNodes};
+ghost use Rattle.adj_writes.specs.Graph.{Placed, placed_of, numbered, place_from, found_at, AreNodes};
 ghost use Rattle.adj_writes.specs.Table.{value_of};
 
 use crate::table::Numbers;
@@ -92,17 +91,6 @@ pub(crate) fn numbered<'a>(alloc: Global, units: &'a [Unit]) -> Result<Nodes<'a>
         units: placed,
         count: all.len(),
     })
-}
-
-/// The number of the first unit of each name.
-pub(crate) fn numbers_of<'a>(alloc: Global, units: &'a [Unit]) -> Result<Numbers<'a>, Memory>
-    ensures numbers { IfOk result (λ r. (x : Name) → value_of x r ≡ number_from 0 (map procedure_of units.now) x) }
-{
-    let mut numbers = Numbers::new(alloc);
-    for (number, unit) in units.iter().enumerate() {
-        numbers.add(&unit.name, number)?;
-    }
-    Ok(numbers)
 }
 
 /// The first unit of a name.

@@ -9,9 +9,10 @@ ghost use Rattle.adj_reach.specs.Edges.{flag};
 ghost use Rattle.adj_writes.specs.Graph.{placed_of, row};
 ghost use Rattle.adj_writes.specs.Names.{rule_of};
 
-use crate::dummies::{Dummies, numbered, numbers_of};
+use crate::dummies::{Dummies, numbered};
 use crate::links::{edges, starts};
 use crate::side::Side;
+use crate::table::unit_numbers;
 use adj_reach::reach;
 use adj_tree::{Flags, Memory, Unit};
 use std::alloc::Global;
@@ -46,7 +47,7 @@ fn least(alloc: Global, side: Side, units: &[Unit]) -> Result<Vec<Flags>, Memory
     ensures least { IfOk result (λ v. v.items ≡ least_rows (rule_of side) (map procedure_of units.now)) }
 {
     let placed = numbered(alloc, units)?;
-    let numbers = numbers_of(alloc, units)?;
+    let numbers = unit_numbers(alloc, units)?;
     let nodes = placed.units.as_slice();
     let starts = starts(alloc, side, nodes)?;
     let edges = edges(alloc, nodes, &numbers)?;

@@ -1,9 +1,11 @@
 //! Names looked up in constant time.
 
-ghost use Rattle.std.specs.Prelude.{◌≡◌, [], ℕ, List, map, OnErr, OnOk};
+ghost use Rattle.std.specs.Prelude.{◌≡◌, [], ℕ, List, map, IfOk, OnErr, OnOk};
+ghost use Rattle.adj_tree.specs.View.{procedure_of};
+ghost use Rattle.adj_writes.specs.Graph.{number_from};
 ghost use Rattle.adj_writes.specs.Table.{value_of, with_value};
 
-use adj_tree::{Memory, Name};
+use adj_tree::{Memory, Name, Unit};
 use indexmap::IndexMap;
 use std::alloc::Global;
 use std::marker::Model;
@@ -47,4 +49,15 @@ impl<'a> Numbers<'a> {
         }
         Ok(())
     }
+}
+
+/// The number of the first unit of each name.
+pub fn unit_numbers<'a>(alloc: Global, units: &'a [Unit]) -> Result<Numbers<'a>, Memory>
+    ensures numbers { IfOk result (λ r. (x : List ℕ) → value_of x r ≡ number_from 0 (map procedure_of units.now) x) }
+{
+    let mut numbers = Numbers::new(alloc);
+    for (number, unit) in units.iter().enumerate() {
+        numbers.add(&unit.name, number)?;
+    }
+    Ok(numbers)
 }

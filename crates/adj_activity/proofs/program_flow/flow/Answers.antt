@@ -1,11 +1,8 @@
 -- The units and variables are those that it is made with.
-use Rattle.std.proofs.Common.{◌<◌, ◌≤◌, map, length, sym, ap, ◌∙◌, subst}
+use Rattle.std.proofs.Common.{◌<◌, ◌≤◌, map, length, sym, subst}
 use Rattle.std.proofs.lemmas.List.{length-map}
 use Rattle.std.proofs.lemmas.List.Elements.{All-map}
-use Rattle.std.proofs.lemmas.Simd.{map-map}
-use Rattle.adj_tree.specs.Code.{Procedure}
 use Rattle.adj_tree.specs.View.{procedure_of}
-use Rattle.adj_writes.specs.Graph.{place_from}
 use Rattle.adj_activity.proofs.Flowing.{units_are, flow_is}
 use Rattle.adj_activity.proofs.program_flow.flow.Goals as goal
 
@@ -18,6 +15,6 @@ returns-clause-flow c =
     let h = c.args.head in
     flow_is c.in_ok-flow.flow c.args.head (map procedure_of us) (map (λ b. b.now) c.args.variables.now) c.requires.variables c.in_ok-flow.ensures.rows c.requires.written
     (subst (λ n. h < n) (sym (length-map us procedure_of)) c.requires.head)
-    (λ x. c.in_ok-flow.ensures.numbers x ∙ ap (λ z. place_from 0 z x) (sym (map-map (λ (p : Procedure). p.name) procedure_of us)))
+    c.in_ok-flow.ensures.numbers
     c.in_ok-flow.ensures.taking
     (All-map (λ vs. length vs ≤ c.in_ok-flow.flow.width) (λ b. b.now) c.args.variables.now c.in_ok-flow.ensures.width)

@@ -5,7 +5,7 @@ use Rattle.adj_tree.specs.View.{procedure_of}
 use Rattle.adj_names.specs.Variables.{Name}
 use Rattle.adj_writes.specs.Graph.{number_from}
 use Rattle.adj_writes.specs.Table.{value_of}
-use Rattle.adj_writes.proofs.dummies.numbers_of.Given as goal
+use Rattle.adj_writes.proofs.table.unit_numbers.Given as goal
 
 abbrev pub invariant-loop-number : goal.invariant-loop-number
 invariant-loop-number l = (x : Name) → option_or (value_of x l.numbers) (number_from l.number (map procedure_of (drop l.number l.units)) x) ≡ number_from 0 (map procedure_of l.units) x
