@@ -1,5 +1,5 @@
 -- What statements may write, by the names in a list.
-use Rattle.std.proofs.Common.{◌≡◌, false, refl, sym, ◌∙◌}
+use Rattle.std.proofs.Common.{◌≡◌, refl, sym, ◌∙◌}
 use Rattle.adj_tree.specs.Code.{Var, plain, Act, assign, choose, loop, during, call, runtime}
 use Rattle.adj_meaning.specs.LeastSet.{Dummies}
 use Rattle.adj_names.specs.Fresh.{has_name}
