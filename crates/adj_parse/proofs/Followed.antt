@@ -53,11 +53,11 @@ same_place forms.ReadsForm.returned l c = refl
 same_place forms.ReadsForm.ended l c = refl
 
 -- what a test let through
-let_through : (b : Bool) (e : Refusal) (x : Result Form Refusal) (f : Form) → cond b (Err e) x ≡ Ok f → (b ≡ false) × (x ≡ Ok f)
+pub let_through : (b : Bool) (e : Refusal) (x : Result Form Refusal) (f : Form) → cond b (Err e) x ≡ Ok f → (b ≡ false) × (x ≡ Ok f)
 let_through true e x f h = absurd cc
 let_through false e x f h = (refl, h)
 
-with_form-ok : (found : Option (Result Form Flaw)) (line : ℕ) (f : Form) → with_form found line ≡ Ok f → found ≡ Some (Ok f)
+pub with_form-ok : (found : Option (Result Form Flaw)) (line : ℕ) (f : Form) → with_form found line ≡ Ok f → found ≡ Some (Ok f)
 with_form-ok None line f h = absurd cc
 with_form-ok (Some (Ok g)) line f h = cc
 with_form-ok (Some (Err e)) line f h = absurd cc
@@ -117,26 +117,26 @@ sure : (b : Bool) → (true && not b) ≡ false → b ≡ true
 sure true h = refl
 sure false h = absurd cc
 
-not_both : (a b : Bool) → (not a && not b) ≡ true → (a ≡ false) × (b ≡ false)
+pub not_both : (a b : Bool) → (not a && not b) ≡ true → (a ≡ false) × (b ≡ false)
 not_both true b h = absurd cc
 not_both false true h = absurd cc
 not_both false false h = (refl, refl)
 
-either : (a b : Bool) → (a && not b) ≡ false → (a ≡ false) ⊎ (b ≡ true)
+pub either : (a b : Bool) → (a && not b) ≡ false → (a ≡ false) ⊎ (b ≡ true)
 either false b h = inl refl
 either true true h = inr refl
 either true false h = absurd cc
 
-no_mark : (m : Mark) → is_marked m ≡ false → m ≡ unmarked
+pub no_mark : (m : Mark) → is_marked m ≡ false → m ≡ unmarked
 no_mark unmarked h = refl
 no_mark (with_count n) h = absurd cc
 no_mark (count_from x) h = absurd cc
 
-is_do_is : (kind : Kind) → is_do kind ≡ true → kind ≡ Do
+pub is_do_is : (kind : Kind) → is_do kind ≡ true → kind ≡ Do
 is_do_is Do h = refl
 is_do_is kind h = absurd cc
 
-led_by : (t : Stated) → has_stray_mark t ≡ false → (mark_of t.mark ≡ unmarked) ⊎ (t.kind ≡ Do)
+pub led_by : (t : Stated) → has_stray_mark t ≡ false → (mark_of t.mark ≡ unmarked) ⊎ (t.kind ≡ Do)
 led_by t h = elim (either (is_marked (mark_of t.mark)) (is_do t.kind) h) [ inl e ↦ inl (no_mark (mark_of t.mark) e) | inr e ↦ inr (is_do_is t.kind e) ]
 
 led_form : {mark : Mark} {kind : Kind} {ws : List Lexeme} {f : Form} → ReadsForm mark kind ws f → (is_marked mark && not (is_do kind)) ≡ false
@@ -193,7 +193,7 @@ units_none : (done : List Procedure) (current : Option Current) (ps : List Proce
 units_none done None ps h = refl
 units_none done (Some c) ps h = absurd cc
 
-units_done : (done : List Procedure) (current : Option Current) (ps : List Procedure) → units_of done current ≡ Some ps → done ≡ ps
+pub units_done : (done : List Procedure) (current : Option Current) (ps : List Procedure) → units_of done current ≡ Some ps → done ≡ ps
 units_done done None ps h = cc
 units_done done (Some c) ps h = absurd cc
 

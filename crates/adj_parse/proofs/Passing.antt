@@ -45,7 +45,7 @@ module _ (mode : Mode) (s : State) (all : List Stated) (i : ℕ) (total : Result
     over_fails Memory h = tt
     over_fails (Refused r) h = sym so_far ∙ one ∙ ap (λ q. q >>= λ n. trees_from mode n (drop (i + 1) all)) h
 
-joined_ends : (from to : ℕ) (ts : List Token) → AreJoined from to ts → from ≤ to
+pub joined_ends : (from to : ℕ) (ts : List Token) → AreJoined from to ts → from ≤ to
 joined_ends from to [] h = omega arith
 joined_ends from to (t ∷ ts) h = omega (arith, joined_ends t.end to ts h.2)
 

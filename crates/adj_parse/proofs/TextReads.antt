@@ -41,7 +41,7 @@ answered mode stated statements ps all units = chain_comes mode all (start mode)
 pub fits : (mode : Mode) (stated : List Stated) (ps : List Procedure) → trees_of mode stated ≡ Ok ps → Fits ps
 fits mode stated ps h = let r = chain_runs mode stated (start mode) ps (closed mode stated) h in units_fit (run_reads r.0 ps r.2) (all_fit mode r.1)
 
-one_all : {stated : List Stated} {ss ts : List Statement} → ReadsAll stated ss → ReadsAll stated ts → ss ≡ ts
+pub one_all : {stated : List Stated} {ss ts : List Statement} → ReadsAll stated ss → ReadsAll stated ts → ss ≡ ts
 one_all texts.ReadsAll.none texts.ReadsAll.none = refl
 one_all (texts.ReadsAll.more {s = s} {f = f} d r) (texts.ReadsAll.more {f = g} e q) =
     let forms : f ≡ g = one_form (mark_of s.mark) s.kind (lexemes_of s.text s.tokens) f g d e in

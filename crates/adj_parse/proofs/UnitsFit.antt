@@ -10,7 +10,7 @@ use Rattle.adj_text.specs.Statement.{Item}
 use Rattle.adj_text.specs.Unit as units
 use Rattle.adj_text.specs.Unit.{ReadsImplicit, declaration_of, ReadsDeclarations, ReadsEnd, ReadsUnit, ReadsUnits}
 use Rattle.adj_text.proofs.FormWritten.{all_nil, all_cons}
-use Rattle.adj_statement.proofs.FormsFit.{FitsItems, FitsForm}
+use Rattle.adj_statement.specs.FormFits.{FitsItems, FitsForm}
 
 abbrev pub AreFit : List Statement → Type 0
 AreFit [] = Unit {0}

@@ -1,29 +1,30 @@
 -- A text that reads as a program which keeps the limits of a run gives that program in Run mode, or has too many statements.
-use Rattle.std.proofs.Common.{◌≡◌, ◌≤◌, ◌<◌, ◌⊎◌, inl, inr, ℕ, ◌-◌, Bool, true, false, cond, List, [], ◌∷◌, length, Option, Some, None, Result, Ok, Err, refl, sym, ap, subst, ◌∙◌, arith}
+use Rattle.std.proofs.Common.{◌≡◌, ◌≤◌, ◌<◌, ◌⊎◌, inl, inr, ℕ, ◌-◌, Bool, true, false, cond, List, length, Option, Some, None, Result, Ok, refl, sym, ap, subst, ◌∙◌, arith}
 use Rattle.std.proofs.Math.Dec.{eqb-suc-zero}
 use Rattle.std.proofs.lemmas.Bool.{and_parts}
-use Rattle.std.specs.Prelude.{◌&&◌, ◌||◌, ◌==◌, not, nat_le, is_none, unwrap_or}
-use Rattle.adj_tree.specs.Code.{Mark, unmarked, with_count, count_from, Procedure}
+use Rattle.std.specs.Prelude.{◌&&◌, ◌==◌, not, nat_le}
+use Rattle.adj_tree.specs.Code.{Mark, Procedure}
 use Rattle.adj_tree.specs.View.{mark_of}
 use Rattle.adj_tree.specs.declared.fault.Refusal.{Refusal}
 use Rattle.adj_tree.specs.Size.{IsNested}
 use Rattle.adj_expression.specs.declared.flaw.Flaw.{Flaw}
 use Rattle.adj_text.specs.Form as forms
-use Rattle.adj_text.specs.Form.{Form, Statement, at, ReadsForm}
+use Rattle.adj_text.specs.Form.{Form, Statement, ReadsForm}
 use Rattle.adj_text.specs.Reads as texts
 use Rattle.adj_text.specs.Reads.{ReadsAll}
 use Rattle.adj_text.specs.Refused.{◌>>=◌, limited}
 use Rattle.adj_text.specs.Lexeme.{Lexeme, lexemes_of}
 use Rattle.adj_text.specs.declared.mode.Mode.TheVariants.{Run}
 use Rattle.adj_text.specs.declared.stated.Kind.{Kind}
-use Rattle.adj_text.specs.declared.stated.Kind.TheVariants.{Do, Assign, Call}
+use Rattle.adj_text.specs.declared.stated.Kind.TheVariants.{Assign, Call}
 use Rattle.adj_text.specs.declared.stated.Stated.{Stated}
 use Rattle.adj_parse.specs.Order.{breaks_loop, is_end, is_heading, opens_block}
-use Rattle.adj_parse.specs.Trees.{bounds_of, State, is_marked, is_do, has_stray_mark, is_full, is_astray, checked, behind, follow, trees_from}
+use Rattle.adj_parse.specs.Trees.{bounds_of, State, is_marked, is_do, has_stray_mark, is_astray, checked, behind, follow, trees_from}
 use Rattle.adj_parse.specs.Unit.{Current, followed, open_blocks, is_misplaced}
 use Rattle.adj_parse.proofs.Machine.{picked, kind_of, stands, units_of, run}
 use Rattle.adj_parse.proofs.Truths.{and_false}
 use Rattle.adj_statement.specs.Said.{said}
+use Rattle.adj_parse.proofs.Followed.{not_both, units_done}
 use Rattle.adj_readable.specs.Kept.{shallow}
 use Rattle.adj_readable.proofs.Keeping.{form_keeps, all_keep}
 use Rattle.adj_readable.proofs.FittingTerms.{fitting}
@@ -73,32 +74,6 @@ led_form (forms.ReadsForm.tests_again d) = refl
 led_form forms.ReadsForm.closed = refl
 led_form forms.ReadsForm.returned = refl
 led_form forms.ReadsForm.ended = refl
-
-either : (a b : Bool) → (a && not b) ≡ false → (a ≡ false) ⊎ (b ≡ true)
-either false b h = inl refl
-either true true h = inr refl
-either true false h = absurd cc
-
-no_mark : (m : Mark) → is_marked m ≡ false → m ≡ unmarked
-no_mark unmarked h = refl
-no_mark (with_count n) h = absurd cc
-no_mark (count_from x) h = absurd cc
-
-is_do_is : (kind : Kind) → is_do kind ≡ true → kind ≡ Do
-is_do_is Do h = refl
-is_do_is kind h = absurd cc
-
-pub led_by : (t : Stated) → has_stray_mark t ≡ false → (mark_of t.mark ≡ unmarked) ⊎ (t.kind ≡ Do)
-led_by t h = elim (either (is_marked (mark_of t.mark)) (is_do t.kind) h) [ inl e ↦ inl (no_mark (mark_of t.mark) e) | inr e ↦ inr (is_do_is t.kind e) ]
-
-not_both : (a b : Bool) → (not a && not b) ≡ true → (a ≡ false) × (b ≡ false)
-not_both true b h = absurd cc
-not_both false true h = absurd cc
-not_both false false h = (refl, refl)
-
-units_done : (done : List Procedure) (current : Option Current) (ps : List Procedure) → units_of done current ≡ Some ps → done ≡ ps
-units_done done None ps h = cc
-units_done done (Some c) ps h = absurd cc
 
 -- behind the last statement no unit is open, so it is END
 closes_end : (done : List Procedure) (current : Option Current) (n l : ℕ) (f : Form) → stands (kind_of f) l current ≡ true → (ps : List Procedure) → units_of (followed done current n l f).done (followed done current n l f).current ≡ Some ps → is_end (kind_of f) ≡ true

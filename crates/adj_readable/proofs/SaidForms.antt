@@ -1,5 +1,5 @@
 -- What a statement is found to say within a depth.
-use Rattle.std.proofs.Common.{◌≡◌, ◌≤◌, ℕ, Bool, true, false, List, Option, Some, None, option_map, Ok, IfSome, refl, sym, ap, subst, ◌∙◌}
+use Rattle.std.proofs.Common.{◌≡◌, ◌≤◌, ℕ, true, false, List, Some, option_map, Ok, IfSome, sym, ap, ◌∙◌}
 use Rattle.std.specs.Prelude.{not}
 use Rattle.adj_tree.specs.Code.{Mark}
 use Rattle.adj_text.specs.Form.{Form, ReadsForm}
@@ -10,6 +10,8 @@ use Rattle.adj_expression.specs.Judged.{judged_by}
 use Rattle.adj_statement.specs.Phrase.{Phrase, Says}
 use Rattle.adj_statement.specs.Phrases.{phrase_of}
 use Rattle.adj_statement.specs.Said.{phrase_large, phrase_deep, form, judged_phrase, said}
+use Rattle.adj_statement.proofs.FormsFit.{judged_ok}
+use Rattle.adj_statement.proofs.SaidForms.{phrase_found}
 use Rattle.adj_readable.specs.Kept.{shallow}
 use Rattle.adj_readable.proofs.Truths.{not_not}
 use Rattle.adj_readable.proofs.Keeping.{form_keeps}
@@ -22,16 +24,6 @@ pub record Laws : Type 0 where
   pub complete : (kind : Kind) (lexemes : List Lexeme) (p : Phrase) → Says kind lexemes p → phrase_of kind lexemes ≡ Some p
   pub sound : (kind : Kind) (lexemes : List Lexeme) → IfSome (phrase_of kind lexemes) (Says kind lexemes)
   pub phrases : (mark : Mark) (kind : Kind) (lexemes : List Lexeme) (f : Form) → ReadsForm mark kind lexemes f → (p : Phrase) × Says kind lexemes p × (form mark p ≡ Some f)
-
-phrase_found : (o : Option Phrase) (P : Phrase → Type 0) (p : Phrase) → o ≡ Some p → IfSome o P → P p
-phrase_found None P p e h = absurd cc
-phrase_found (Some q) P p e h = let k : q ≡ p = cc in subst P k h
-
-judged_ok : (large deep : Bool) (o : Option Form) (f : Form) → judged_by large deep o ≡ Ok f → (deep ≡ false) × (o ≡ Some f)
-judged_ok true deep o f h = absurd cc
-judged_ok false true o f h = absurd cc
-judged_ok false false None f h = absurd cc
-judged_ok false false (Some g) f h = (refl, cc)
 
 module _ (laws : Laws) (d : ℕ) (some : 1 ≤ d) where
   -- a form that is no deeper, and whose literals and extents are words, is found
@@ -51,4 +43,4 @@ module _ (laws : Laws) (d : ℕ) (some : 1 ≤ d) where
       let k = map_some (judged_phrase d mark) (phrase_of kind lexemes) (Ok f) h in
       let says = phrase_found (phrase_of kind lexemes) (Says kind lexemes) k.0 k.1 (laws.sound kind lexemes) in
       let j = judged_ok (phrase_large k.0) (phrase_deep d k.0) (form mark k.0) f k.2 in
-      form_shallow d some says mark f j.1 ∙ ap not j.0
+      form_shallow d some says mark f j.2 ∙ ap not j.1

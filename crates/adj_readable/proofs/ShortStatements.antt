@@ -1,5 +1,5 @@
 -- What a text gives without limits, it gives in Run mode, where its names have at most 63 characters; and the names of what it gives in Source mode have at most 31.
-use Rattle.std.proofs.Common.{◌≡◌, ◌≤◌, ◌<◌, ◌⊎◌, inl, inr, ℕ, ◌-◌, Bool, true, false, eqb, List, [], ◌∷◌, length, drop, Option, Some, None, Result, Ok, Err, refl, sym, ap, ap₂, ◌∙◌, arith, length-take, length-drop}
+use Rattle.std.proofs.Common.{◌≡◌, ◌≤◌, ◌⊎◌, inl, inr, ℕ, ◌-◌, Bool, true, false, eqb, List, [], ◌∷◌, length, drop, Option, Some, None, Result, Ok, Err, refl, sym, ap, ap₂, ◌∙◌, arith, length-take, length-drop}
 use Rattle.std.specs.Prelude.{◌||◌, ◌&&◌, not, nat_lt, if◌then◌else◌}
 use Rattle.std.specs.List.{All, list_any}
 use Rattle.std.proofs.lemmas.Bool.{and_parts}
@@ -31,6 +31,7 @@ use Rattle.adj_text.specs.declared.token.TokenKind.TheVariants.{Name, Number, Po
 use Rattle.adj_text.proofs.Covering.{all_covered}
 use Rattle.adj_text.proofs.LinesMarked.{bind_ok}
 use Rattle.adj_text.proofs.WrittenBack.{all_first, all_rest}
+use Rattle.adj_parse.proofs.Passing.{joined_ends}
 use Rattle.adj_readable.specs.Kept.{mark_short, short_names}
 use Rattle.adj_readable.proofs.Truths.{not_or, not_not, not_less}
 use Rattle.adj_readable.proofs.Keeping.{form_keeps, all_keep}
@@ -60,10 +61,6 @@ lines_same bytes = pass_same start 1 (cut_lines bytes)
 
 -- ---- tokens and lexemes
 
-joined_below : (from to : ℕ) (ts : List Token) → AreJoined from to ts → from ≤ to
-joined_below from to [] h = omega arith
-joined_below from to (t ∷ ts) h = let rest = joined_below t.end to ts h.2 in let first : from < t.end = h.1 in omega arith
-
 module _ (n : ℕ) where
   -- a token is a name that isn't too long, or none
   lexeme_short : (k : TokenKind) (x : List ℕ) (ws : List Lexeme) → (not (is_name k && nat_lt n (length x)) && lexemes_short n ws) ≡ lexemes_short n (lexeme k x ∷ ws)
@@ -92,7 +89,7 @@ module _ (n : ℕ) where
   tokens_short : (text : List ℕ) (from to : ℕ) (ts : List Token) → AreJoined from to ts → to ≤ length text → not (list_any (is_too_long (Some n)) ts) ≡ lexemes_short n (lexemes_of text ts)
   tokens_short text from to [] h le = refl
   tokens_short text from to (t ∷ ts) h le =
-      let below = joined_below t.end to ts h.2 in
+      let below = joined_ends t.end to ts h.2 in
       let width : length (part text t.start t.end) ≡ t.end - t.start = omega (arith, length-take (t.end - t.start) (drop t.start text), length-drop t.start text) in
       not_or (is_name t.kind && nat_lt n (t.end - t.start)) (list_any (is_too_long (Some n)) ts)
       ∙ ap₂ (λ w b. not (is_name t.kind && nat_lt n w) && b) (sym width) (tokens_short text t.end to ts h.2 le)

@@ -1,21 +1,19 @@
 -- A program that is read in a mode is nested no deeper than the mode allows, and has no more statements and units.
-use Rattle.std.proofs.Common.{◌≡◌, ◌≤◌, ◌<◌, ℕ, ◌+◌, ◌*◌, ◌-◌, max, Bool, true, false, eqb, cond, List, [], ◌∷◌, ◌++◌, length, Option, Some, None, Result, Ok, Err, refl, sym, ap, subst, ◌∙◌, arith, length-append}
-use Rattle.std.specs.Prelude.{◌&&◌, ◌||◌, ◌==◌, not, nat_le, is_none, unwrap_or, if◌then◌else◌}
+use Rattle.std.proofs.Common.{◌≡◌, ◌≤◌, ℕ, ◌+◌, ◌*◌, ◌-◌, Bool, true, false, List, [], ◌∷◌, length, Option, Some, None, Result, Ok, refl, sym, ap, subst, ◌∙◌, arith, length-append}
+use Rattle.std.specs.Prelude.{◌&&◌, ◌||◌, ◌==◌, not, nat_le, is_none}
 use Rattle.std.proofs.lemmas.Bool.{eqb-false, leb-false, or_parts, and_from}
 use Rattle.adj_tree.specs.Code.{Mark, Terms, none, Runtime, Act, Procedure}
 use Rattle.adj_tree.specs.Size.{act_depth, IsNested}
 use Rattle.adj_tree.specs.View.{mark_of}
-use Rattle.adj_tree.specs.declared.fault.Refusal.{Refusal}
 use Rattle.adj_expression.specs.declared.flaw.Flaw.{Flaw}
 use Rattle.adj_text.specs.Form as forms
 use Rattle.adj_text.specs.Form.{Form, subroutine, ends, Statement, at, ReadsForm}
 use Rattle.adj_text.specs.Limits.{limits_of}
-use Rattle.adj_text.specs.Refused.{◌>>=◌, limited}
 use Rattle.adj_text.specs.Reads as texts
 use Rattle.adj_text.specs.Reads.{ReadsAll}
 use Rattle.adj_text.specs.Stated.{statements_of}
 use Rattle.adj_text.specs.Statement as says
-use Rattle.adj_text.specs.Statement.{runtime_call, called, called_as, ReadsAssignment, ReadsCall, ReadsGuarded}
+use Rattle.adj_text.specs.Statement.{runtime_call, called_as, ReadsAssignment, ReadsCall, ReadsGuarded}
 use Rattle.adj_text.specs.Lexeme.{Lexeme, lexemes_of}
 use Rattle.adj_text.specs.declared.mode.Mode.{Mode}
 use Rattle.adj_text.specs.declared.mode.Mode.TheVariants.{Source}
@@ -24,11 +22,11 @@ use Rattle.adj_text.specs.declared.stated.Kind.TheVariants.{End}
 use Rattle.adj_text.specs.declared.stated.Stated.{Stated}
 use Rattle.adj_text.proofs.LinesMarked.{bind_ok}
 use Rattle.adj_parse.specs.Order.{breaks_loop, is_end, is_heading, opens_block}
-use Rattle.adj_parse.specs.Trees.{bounds_of, State, start, has_stray_mark, is_large, is_deep, is_full, is_astray, with_form, checked, behind, follow, trees_from, trees_of}
-use Rattle.adj_parse.specs.Unit.{Current, Units, finished, continued, followed, open_blocks, is_misplaced}
+use Rattle.adj_parse.specs.Trees.{bounds_of, State, start, has_stray_mark, is_large, is_deep, is_full, checked, behind, follow, trees_from, trees_of}
+use Rattle.adj_parse.specs.Unit.{Current, finished, continued, followed, open_blocks, is_misplaced}
 use Rattle.adj_parse.proofs.Machine.{kind_of, stands}
 use Rattle.adj_parse.proofs.Followed as chain
-use Rattle.adj_parse.proofs.Followed.{AllSay, Closed, reads_all, chain_runs}
+use Rattle.adj_parse.proofs.Followed.{AllSay, Closed, reads_all, chain_runs, let_through, with_form-ok, led_by}
 use Rattle.adj_parse.proofs.UnitsSound.{run_reads}
 use Rattle.adj_statement.specs.Said.{said}
 use Rattle.adj_readable.specs.Kept.{short_names, shallow, acts_in}
@@ -40,7 +38,7 @@ use Rattle.adj_readable.proofs.Counts.{form_acts, all_acts, units_count}
 use Rattle.adj_statement.proofs.SaidForms.{said_reads}
 use Rattle.adj_readable.proofs.Heights.{height, opening, open_below}
 use Rattle.adj_readable.proofs.Nesting.{tall, stands_suits, continued_height, finished_depth, nested_behind, IsTall}
-use Rattle.adj_readable.proofs.Chain.{same_kind, calls_place, led_by}
+use Rattle.adj_readable.proofs.Chain.{same_kind, calls_place}
 
 -- ---- a statement is one deep where it opens a block, and else not at all
 
@@ -99,15 +97,6 @@ form_flat forms.ReadsForm.returned = refl
 form_flat forms.ReadsForm.ended = refl
 
 -- ---- what a statement that is let through has
-
-let_through : (b : Bool) (e : Refusal) (x : Result Form Refusal) (f : Form) → cond b (Err e) x ≡ Ok f → (b ≡ false) × (x ≡ Ok f)
-let_through true e x f h = absurd cc
-let_through false e x f h = (refl, h)
-
-with_form-ok : (found : Option (Result Form Flaw)) (line : ℕ) (f : Form) → with_form found line ≡ Ok f → found ≡ Some (Ok f)
-with_form-ok None line f h = absurd cc
-with_form-ok (Some (Ok g)) line f h = cc
-with_form-ok (Some (Err e)) line f h = absurd cc
 
 record Through (mode : Mode) (s : State) (t : Stated) (found : Option (Result Form Flaw)) (f : Form) : Type 0 where
   says : found ≡ Some (Ok f)

@@ -15,7 +15,7 @@ use Rattle.adj_refused.specs.LineFaults.{Line, numbered, lines_in, Sort, directi
 use Rattle.adj_refused.specs.Refusals.{LinesAnswer, LinesRefused, LinesAccepted}
 use Rattle.adj_refused.proofs.Tests.{chosen, forgotten, when, true_when, when_ranked, test_more, Present, AreRanked, only_where, or_left, or_right, or_either, not_is, AreTested, AreOne, tested, tested_one, answer_behind, answer_more, all_single, first_refused, none_answered}
 
-none_is : {A : Type 0} (o : Option A) → is_none o ≡ true → o ≡ None
+pub none_is : {A : Type 0} (o : Option A) → is_none o ≡ true → o ≡ None
 none_is None h = refl
 none_is (Some x) h = absurd cc
 

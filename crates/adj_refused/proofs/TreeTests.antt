@@ -18,11 +18,12 @@ use Rattle.adj_text.specs.declared.stated.Stated.{Stated}
 use Rattle.adj_statement.specs.Phrase.{Phrase, Says}
 use Rattle.adj_statement.specs.Phrases.{phrase_of}
 use Rattle.adj_statement.specs.Said.{phrase_large, phrase_deep, form, judged_phrase, said}
-use Rattle.adj_statement.proofs.SaidForms.{one_form}
 use Rattle.adj_parse.specs.Order.{is_end, is_heading, opens_block}
 use Rattle.adj_parse.specs.Trees.{bounds_of, State, has_stray_mark, is_large, is_deep, is_full, with_form, limited_by, checked}
 use Rattle.adj_parse.specs.Unit.{Current, open_blocks}
 use Rattle.adj_parse.proofs.Truths.{and_false}
+use Rattle.adj_parse.proofs.TextReads.{one_all}
+use Rattle.adj_refused.proofs.LineTests.{none_is}
 use Rattle.adj_refused.specs.First.{code_at, limit_at, rank}
 use Rattle.adj_refused.specs.Opened.{opened, is_innermost, has_label, leaves_loop, misses_loop}
 use Rattle.adj_refused.specs.Following.{CanFollow}
@@ -37,14 +38,6 @@ use Rattle.adj_refused.proofs.Continuing.{continues, follows, follows_stands}
 pub record Laws : Type 0 where
   pub complete : (kind : Kind) (lexemes : List Lexeme) (p : Phrase) → Says kind lexemes p → phrase_of kind lexemes ≡ Some p
   pub sound : (kind : Kind) (lexemes : List Lexeme) → IfSome (phrase_of kind lexemes) (Says kind lexemes)
-
--- statements say one thing
-pub one_all : {stated : List Stated} {ss ts : List Statement} → ReadsAll stated ss → ReadsAll stated ts → ss ≡ ts
-one_all texts.ReadsAll.none texts.ReadsAll.none = refl
-one_all (texts.ReadsAll.more {s = s} {f = f} d r) (texts.ReadsAll.more {f = g} e q) =
-    let forms : f ≡ g = one_form (mark_of s.mark) s.kind (lexemes s) f g d e in
-    let rest = one_all r q in
-    cc
 
 -- behind RETURN no block is open
 abbrev pub IsBare : Option Inner → Type 0
@@ -140,10 +133,6 @@ pub record At (mode : Mode) (before : List Stated) (s : State) : Type 0 where
   pub bare : IsBare (place_of s.units.current)
   pub room : s.room ≡ (bounds_of mode).statements - length before
   pub done : length s.units.done ≡ ends_in before
-
-none_is : {A : Type 0} (o : Option A) → is_none o ≡ true → o ≡ None
-none_is None h = refl
-none_is (Some x) h = absurd cc
 
 module _ (laws : Laws) (mode : Mode) (before : List Stated) (s : State) (t : Stated) (after : List Stated) (here : At mode before s) where
   abbrev said_as : Option Phrase

@@ -1,12 +1,11 @@
 -- TreeWalk: the chain of faults over all statements of a text answers by the first fault.
-use Rattle.std.proofs.Common.{◌≡◌, ℕ, suc, Bool, true, false, cond, List, [], ◌∷◌, ◌++◌, length, Option, Some, None, Result, Ok, Err, ◌⊎◌, inl, inr, refl, sym, ap, subst, ◌∙◌, arith}
-use Rattle.std.specs.Prelude.{◌==◌, ◌&&◌, ◌||◌, not, is_none, nat_le}
+use Rattle.std.proofs.Common.{◌≡◌, ℕ, suc, true, false, cond, List, [], ◌∷◌, ◌++◌, length, Option, Some, None, Result, Ok, Err, refl, sym, ap, subst, ◌∙◌, arith}
+use Rattle.std.specs.Prelude.{◌==◌, ◌&&◌, ◌||◌, is_none, nat_le}
 use Rattle.std.proofs.lemmas.Bool.{or_parts}
 use Rattle.std.proofs.lemmas.List.{reverse-append, length-append}
-use Rattle.adj_tree.specs.Code.{Mark, unmarked, with_count, count_from, Procedure}
+use Rattle.adj_tree.specs.Code.{Mark, Procedure}
 use Rattle.adj_tree.specs.View.{mark_of}
 use Rattle.adj_tree.specs.declared.fault.Refusal.{Refusal}
-use Rattle.adj_expression.specs.declared.flaw.Flaw.{Flaw}
 use Rattle.adj_text.specs.Form as forms
 use Rattle.adj_text.specs.Form.{Form, subroutine, implicit_none, integers, leaves, ends, Statement, at, ReadsForm}
 use Rattle.adj_text.specs.Reads as texts
@@ -15,15 +14,15 @@ use Rattle.adj_text.specs.Refused.{◌>>=◌}
 use Rattle.adj_text.specs.Lexeme.{Lexeme}
 use Rattle.adj_text.specs.declared.mode.Mode.{Mode}
 use Rattle.adj_text.specs.declared.stated.Kind.{Kind}
-use Rattle.adj_text.specs.declared.stated.Kind.TheVariants.{Do}
 use Rattle.adj_text.specs.declared.stated.Stated.{Stated}
 use Rattle.adj_statement.specs.Phrases.{phrase_of}
 use Rattle.adj_statement.specs.Said.{said}
 use Rattle.adj_statement.proofs.SaidForms.{said_reads}
 use Rattle.adj_parse.specs.Order.{breaks_loop, is_end, is_heading, opens_block}
-use Rattle.adj_parse.specs.Trees.{bounds_of, State, start, is_do, is_marked, has_stray_mark, with_form, is_astray, is_large, is_deep, is_full, checked, behind, follow, trees_from, trees_of}
+use Rattle.adj_parse.specs.Trees.{bounds_of, State, start, has_stray_mark, is_astray, is_large, is_deep, is_full, checked, behind, follow, trees_from, trees_of}
 use Rattle.adj_parse.specs.Unit.{Current, finished, followed, open_blocks, is_misplaced}
 use Rattle.adj_parse.proofs.Machine.{kind_of}
+use Rattle.adj_parse.proofs.Followed.{let_through, with_form-ok, led_by}
 use Rattle.adj_refused.specs.First.{HasNone, IsAnswer}
 use Rattle.adj_refused.specs.Following as following
 use Rattle.adj_refused.specs.Following.{IsOf}
@@ -72,33 +71,6 @@ same_end following.IsOf.tests_again = refl
 same_end following.IsOf.whole = refl
 same_end following.IsOf.returned = refl
 same_end following.IsOf.ended = refl
-
-either : (a b : Bool) → (a && not b) ≡ false → (a ≡ false) ⊎ (b ≡ true)
-either false b h = inl refl
-either true true h = inr refl
-either true false h = absurd cc
-
-no_mark : (m : Mark) → is_marked m ≡ false → m ≡ unmarked
-no_mark unmarked h = refl
-no_mark (with_count n) h = absurd cc
-no_mark (count_from x) h = absurd cc
-
-is_do_is : (kind : Kind) → is_do kind ≡ true → kind ≡ Do
-is_do_is Do h = refl
-is_do_is kind h = absurd cc
-
-led_by : (t : Stated) → has_stray_mark t ≡ false → (mark_of t.mark ≡ unmarked) ⊎ (t.kind ≡ Do)
-led_by t h = elim (either (is_marked (mark_of t.mark)) (is_do t.kind) h) [ inl e ↦ inl (no_mark (mark_of t.mark) e) | inr e ↦ inr (is_do_is t.kind e) ]
-
--- what a test let through
-let_through : (b : Bool) (e : Refusal) (x : Result Form Refusal) (f : Form) → cond b (Err e) x ≡ Ok f → (b ≡ false) × (x ≡ Ok f)
-let_through true e x f h = absurd cc
-let_through false e x f h = (refl, h)
-
-with_form-ok : (found : Option (Result Form Flaw)) (line : ℕ) (f : Form) → with_form found line ≡ Ok f → found ≡ Some (Ok f)
-with_form-ok None line f h = absurd cc
-with_form-ok (Some (Ok g)) line f h = cc
-with_form-ok (Some (Err e)) line f h = absurd cc
 
 -- what a statement that is let through has
 record Through (mode : Mode) (s : State) (t : Stated) (f : Form) : Type 0 where

@@ -28,7 +28,8 @@ use Rattle.adj_refused.proofs.Tests.{when, when_true, or_either, Present, IsJudg
 use Rattle.adj_refused.proofs.Places.{misplaced_at, broken_at, stands_at}
 use Rattle.adj_refused.proofs.Bridged.{place_of}
 use Rattle.adj_refused.proofs.Continuing.{continues, same_class, goes_on_stands}
-use Rattle.adj_refused.proofs.TreeTests.{Laws, one_all, At, tests, ill, limit_test, are_tested, judged}
+use Rattle.adj_parse.proofs.TextReads.{one_all}
+use Rattle.adj_refused.proofs.TreeTests.{Laws, At, tests, ill, limit_test, are_tested, judged}
 use Rattle.adj_refused.proofs.TreeWalk.{form_class, next, at_start}
 
 -- the last of some statements that say something

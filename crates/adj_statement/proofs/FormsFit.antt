@@ -6,10 +6,10 @@ use Rattle.std.specs.List.{All, list_any}
 use Rattle.adj_tree.specs.Code.{Term, Terms, lit, none, Mark, Act, assign, plain}
 use Rattle.adj_text.specs.Char.{number_of}
 use Rattle.adj_text.specs.Condition.{test}
-use Rattle.adj_text.specs.Fits.{FitsTerm, FitsTerms, FitsTest, FitsAct, FitsExtent}
+use Rattle.adj_text.specs.Fits.{FitsTerm, FitsTerms, FitsAct, FitsExtent}
 use Rattle.adj_text.specs.Form.{Form, subroutine, implicit_none, integers, simple, logical, opens_do, opens_while, end_do, go_on, opens_if, otherwise, otherwise_if, end_if, leaves, ends}
 use Rattle.adj_text.specs.Grammar.{Syntax, Arguments, with_both, tree}
-use Rattle.adj_text.specs.Statement.{Item, called, Range}
+use Rattle.adj_text.specs.Statement.{called, Range}
 use Rattle.adj_text.specs.Lexeme.{Lexeme}
 use Rattle.adj_text.specs.declared.stated.Kind.{Kind}
 use Rattle.adj_text.proofs.FormWritten.{all_nil, all_cons}
@@ -17,27 +17,12 @@ use Rattle.adj_text.proofs.Parts.{map_some, both_some}
 use Rattle.adj_expression.specs.Judged.{has_large, test_large}
 use Rattle.adj_statement.specs.Phrase as phrases
 use Rattle.adj_statement.specs.Phrase.{Deed, assigns, calls, Size, numbered, named, Declared, Bounds, Phrase, plainly, declares, does, guards, repeats, opens, turns, SaysDo, Says}
+use Rattle.adj_statement.specs.FormFits.{FitsItems, FitsForm}
 use Rattle.adj_statement.specs.Said.{list_large, deed_large, size_large, item_large, step_large, bounds_large, phrase_large, list_trees, act, extent, item, step_tree, range, form, phrase_deep, judged_phrase, said}
 use Rattle.adj_statement.proofs.TermsFit.{tree_fits, trees_fit, test_fits, called_fits}
 use Rattle.adj_expression.specs.Judged.{judged_by}
 use Rattle.adj_statement.specs.Phrases.{phrase_of}
 use Rattle.adj_statement.proofs.PhraseSound.{phrase_said}
-
--- the extents of items are words
-abbrev pub FitsItems : List Item → Type 0
-FitsItems [] = Unit {0}
-FitsItems (i ∷ is) = All FitsExtent i.extents × FitsItems is
-
--- the literals and extents of a form are words
-abbrev pub FitsForm : Form → Type 0
-FitsForm (integers is) = FitsItems is
-FitsForm (simple a) = FitsAct a
-FitsForm (logical c a) = FitsTest c × FitsAct a
-FitsForm (opens_do l r s) = FitsTerm r.from × FitsTerm r.to × FitsTerm r.by
-FitsForm (opens_while c) = FitsTest c
-FitsForm (opens_if c) = FitsTest c
-FitsForm (otherwise_if c) = FitsTest c
-FitsForm f = Unit {0}
 
 list_fits : (o : Option Arguments) (ts : Terms) → list_large o ≡ false → list_trees o ≡ Some ts → FitsTerms ts
 list_fits None ts h e = let same : none ≡ ts = cc in subst FitsTerms same tt
@@ -115,11 +100,11 @@ phrase_fits phrases.Says.closed mark f h e = form_is end_if f e tt
 phrase_fits phrases.Says.returned mark f h e = form_is leaves f e tt
 phrase_fits phrases.Says.ended mark f h e = form_is ends f e tt
 
-judged_ok : (large deep : Bool) (o : Option Form) (f : Form) → judged_by large deep o ≡ Ok f → (large ≡ false) × (o ≡ Some f)
+pub judged_ok : (large deep : Bool) (o : Option Form) (f : Form) → judged_by large deep o ≡ Ok f → (large ≡ false) × (deep ≡ false) × (o ≡ Some f)
 judged_ok true deep o f h = absurd cc
 judged_ok false true o f h = absurd cc
 judged_ok false false None f h = absurd cc
-judged_ok false false (Some g) f h = (refl, cc)
+judged_ok false false (Some g) f h = (refl, refl, cc)
 
 -- what is said has only literals and extents that are words
 pub said_fits : (limit : ℕ) (mark : Mark) (kind : Kind) (lexemes : List Lexeme) (f : Form) → said limit mark kind lexemes ≡ Some (Ok f) → FitsForm f
@@ -128,4 +113,4 @@ said_fits limit mark kind lexemes f h =
     let r = map_some (judged_phrase limit mark) (phrase_of kind lexemes) (Ok f) h in
     let says : Says kind lexemes r.0 = rw r.1 at (phrase_said kind lexemes) in
     let j = judged_ok (phrase_large r.0) (phrase_deep limit r.0) (form mark r.0) f r.2 in
-    phrase_fits says mark f j.0 j.1
+    phrase_fits says mark f j.0 j.2

@@ -8,6 +8,7 @@ use Rattle.adj_text.specs.declared.stated.Kind.{Kind}
 use Rattle.adj_text.specs.declared.stated.Kind.TheVariants.{Do}
 use Rattle.adj_expression.specs.Judged.{judged_by}
 use Rattle.adj_expression.specs.declared.flaw.Flaw.TheVariants.{Large, Deep}
+use Rattle.adj_statement.proofs.FormsFit.{judged_ok}
 use Rattle.adj_statement.specs.Phrase.{Phrase, Says}
 use Rattle.adj_statement.specs.Phrases.{phrase_of}
 use Rattle.adj_statement.specs.Said.{phrase_large, phrase_deep, form, judged_phrase, said}
@@ -16,13 +17,7 @@ use Rattle.adj_statement.proofs.PhraseSound.{phrase_said}
 use Rattle.adj_statement.proofs.PhraseForms.{form_reads}
 use Rattle.adj_statement.proofs.FormPhrases.{form_says}
 
-judged_ok : (large deep : Bool) (o : Option Form) (f : Form) → judged_by large deep o ≡ Ok f → o ≡ Some f
-judged_ok true deep o f h = absurd cc
-judged_ok false true o f h = absurd cc
-judged_ok false false None f h = absurd cc
-judged_ok false false (Some g) f h = cc
-
-phrase_found : (o : Option Phrase) (P : Phrase → Type 0) (p : Phrase) → o ≡ Some p → IfSome o P → P p
+pub phrase_found : (o : Option Phrase) (P : Phrase → Type 0) (p : Phrase) → o ≡ Some p → IfSome o P → P p
 phrase_found None P p e h = absurd cc
 phrase_found (Some q) P p e h = let k : q ≡ p = cc in subst P k h
 
@@ -31,7 +26,7 @@ pub said_reads : (limit : ℕ) (mark : Mark) (kind : Kind) (lexemes : List Lexem
 unfolding said
 said_reads limit mark kind lexemes f h m =
     let k = map_some (judged_phrase limit mark) (phrase_of kind lexemes) (Ok f) h in
-    form_reads (phrase_found (phrase_of kind lexemes) (Says kind lexemes) k.0 k.1 (phrase_said kind lexemes)) f (judged_ok (phrase_large k.0) (phrase_deep limit k.0) (form mark k.0) f k.2) m
+    form_reads (phrase_found (phrase_of kind lexemes) (Says kind lexemes) k.0 k.1 (phrase_said kind lexemes)) f (judged_ok (phrase_large k.0) (phrase_deep limit k.0) (form mark k.0) f k.2).2 m
 
 -- a form that the lexemes have is found, but for a literal that is too large and for the depth
 pub said_answers : (limit : ℕ) (mark : Mark) (kind : Kind) (lexemes : List Lexeme) (f : Form) → ReadsForm mark kind lexemes f → (said limit mark kind lexemes ≡ Some (Ok f)) ⊎ ((said limit mark kind lexemes ≡ Some (Err Large)) ⊎ (said limit mark kind lexemes ≡ Some (Err Deep)))

@@ -20,5 +20,5 @@ mod statement;
 
 pub use content::{Item, Range, Said};
 pub use label::{Label, LongLabel};
-pub use laws::statements_are_said;
+pub use laws::{forms_are_said, statements_are_said};
 pub use statement::said;
