@@ -1,6 +1,6 @@
 -- A checked program meets all that the law on emitted programs asks, and so what is emitted for it is its adjoint.
 use Rattle.std.proofs.Common.{◌≡◌, ℕ, Bool, true, false, List, [], ◌∷◌, map, refl, sym, ap, ◌∙◌, subst, arith}
-use Rattle.std.specs.Prelude.{◌==◌, not, length, flat_map, Option, Some, None, IsTrue}
+use Rattle.std.specs.Prelude.{◌==◌, ◌&&◌, ◌||◌, not, length, flat_map, Option, Some, None, IsTrue}
 use Rattle.adj_tree.specs.Code.{Var, plain, Act, Extent, Procedure}
 use Rattle.adj_tree.specs.declared.fault.Refusal.{Refusal}
 use Rattle.adj_meaning.specs.Written.{find_unit, handed_back}
@@ -17,7 +17,7 @@ use Rattle.adj_names.specs.UnitFaults.{unit_places, reserved_units, repeated_uni
 use Rattle.adj_names.specs.NameFaults.{undeclared, declared_twice, misused, bad_extents, has_bad_extents, has_rank, taken_in, faults_of_names}
 use Rattle.adj_names.specs.CallFaults.{faults_of_call}
 use Rattle.adj_names.specs.ChainFaults.{cycles, or_else, long_chains}
-use Rattle.adj_names.specs.WriteFaults.{writes_of_variable, written_variables, faults_of_writes}
+use Rattle.adj_names.specs.WriteFaults.{writes_of_variable, written_variables, written_extents, faults_of_writes}
 use Rattle.adj_names.specs.Laws.{HasNone}
 use Rattle.adj_names.proofs.Sound.{sound_has_none}
 use Rattle.adj_kernel.specs.Form.{IsKernelCode}
@@ -26,12 +26,13 @@ use Rattle.adj_transpose.specs.Naming.{AreApart, AreInside}
 use Rattle.adj_transpose.specs.Program.{unit_name, unit_at}
 use Rattle.adj_reverse.specs.Laws.{UnitLaws}
 use Rattle.adj_reverse.specs.Marking.{ProgramMarks, ProgramFacts, full_marks, full_facts, marks_in, callee_of, callee_facts, read_by, plain_by, arrays_of, first_statement, entry_point}
-use Rattle.adj_reverse.specs.Program.{calls_in, calls_some, turns_in, turns_some, has_adjoint, answers, is_kept_with, is_carried_with, schedules_in}
-use Rattle.adj_reverse.specs.Environment.{UnitFitsBy}
+use Rattle.adj_reverse.specs.Program.{calls_in, calls_some, turns_in, turns_some, takes_part, has_adjoint, has_pair, answers, kept_calls, is_kept_with, is_carried_with, schedules_in}
+use Rattle.adj_reverse.specs.Environment.{PairFits, UnitFitsBy}
+use Rattle.adj_reverse.specs.SplitMarks.{split_marks}
 use Rattle.adj_reverse.specs.Source.{is_unit, CallUnits, SourceFitsWith}
 use Rattle.adj_reverse.specs.Reversals.{ReversedLines}
 use Rattle.adj_reverse.specs.Theorem.{schedules_by}
-use Rattle.adj_transpose.proofs.Variables.{or_left, or_right}
+use Rattle.adj_transpose.proofs.Variables.{and_true, or_left, or_right, not_true}
 use Rattle.adj_checked.proofs.StepCalls.{turns_found_some, never_turned, none_told}
 use Rattle.adj_reverse.proofs.Full.{list_laws, way}
 use Rattle.adj_reverse.proofs.Variables.{variables_apart, dummy_among}
@@ -44,6 +45,8 @@ use Rattle.adj_checked.proofs.Statements.{names_given, CallHasNone, calls_inside
 use Rattle.adj_checked.proofs.Callings.{Found, all_found, each_at, head_uncalled, calls_found_some, roots_reached}
 use Rattle.adj_checked.proofs.Units.{dummy_names, unit_names, extents_dummies, names_known}
 use Rattle.adj_checked.proofs.Names.{variables_inside}
+use Rattle.adj_reverse.proofs.Unsplit.{nowhere_some}
+use Rattle.adj_checked.proofs.Pairs.{wrote, extents_spared, none_declared, wider_some, adjoint_part, pair_part}
 
 -- what isn't an array has no extents
 no_extents : (l : List Extent) → not (length l == 0) ≡ false → l ≡ []
@@ -162,32 +165,60 @@ module _ (rules : Rules) (ps : List Procedure) (checked : IsChecked rules ps) wh
       same_dummies : (callee_facts w ps name).callee.dummies ≡ u.dummies
       same_dummies = ap (λ o. (callee_of m ps name o).dummies) f
 
-      with_adjoint : has_adjoint m ps head name ≡ true → has_adjoint m ps head u.name ≡ true
-      with_adjoint there = let same : u.name ≡ name = (found_there ps name u f).1 in ap (has_adjoint m ps head) same ∙ there
+      -- what is said of its name is said of that by which it is known
+      moved : (p : List ℕ → Bool) → p name ≡ true → p u.name ≡ true
+      moved p there = let same : u.name ≡ name = (found_there ps name u f).1 in ap p same ∙ there
 
-      -- what a unit with an adjoint calls has an adjoint that is called, where the call is adjointed, and is carried, where it is kept
-      answered : (n : List ℕ) → calls_in m.adjointed n (first_statement ps name) u.body ≡ true → has_adjoint m ps head name ≡ true → answers m ps head n ≡ true
-      answered n c there = calls_found_some (has_adjoint m ps head) m.adjointed n 0 ps name u f (with_adjoint there) c
+      -- what a unit that takes part calls has an adjoint that is called, where the call is adjointed and not split, and both units, where it is split
+      answered : (n : List ℕ) → calls_in (λ j. m.adjointed j && not (m.split j)) n (first_statement ps name) u.body ≡ true → takes_part m ps head name ≡ true → answers m ps head n ≡ true
+      answered n c there = calls_found_some (takes_part m ps head) (λ j. m.adjointed j && not (m.split j)) n 0 ps name u f (moved (takes_part m ps head) there) c
 
-      carried : (n : List ℕ) → calls_in m.kept n (first_statement ps name) u.body ≡ true → has_adjoint m ps head name ≡ true → is_carried_with sb m ps head n ≡ true
-      carried n c there = roots_reached (is_kept_with sb m ps head) (λ i. true) ps name u f n (kept_so sb (calls_found_some (has_adjoint m ps head) m.kept n 0 ps name u f (with_adjoint there) c))
-        where
-          kept_so : (b : Bool) → calls_some (has_adjoint m ps head) m.kept n 0 ps ≡ true → is_kept_with b m ps head n ≡ true
-          kept_so true h = or_left (calls_some (has_adjoint m ps head) m.kept n 0 ps) (turns_some (schedules_in true ps) (has_adjoint m ps head) m.adjointed n 0 ps) h
-          kept_so false h = h
+      paired : (n : List ℕ) → calls_in (λ j. m.adjointed j && m.split j) n (first_statement ps name) u.body ≡ true → takes_part m ps head name ≡ true → has_pair m ps head n ≡ true
+      paired n c there = calls_found_some (takes_part m ps head) (λ j. m.adjointed j && m.split j) n 0 ps name u f (moved (takes_part m ps head) there) c
+
+      kept_so : (b : Bool) (n : List ℕ) → kept_calls m ps head n ≡ true → is_kept_with b m ps head n ≡ true
+      kept_so true n h = or_left (kept_calls m ps head n) (turns_some (schedules_in true ps) (λ k. has_adjoint m ps head k || has_pair m ps head k) m.adjointed n 0 ps) h
+      kept_so false n h = h
+
+      -- what its adjoint calls by a kept call is carried, and what its forward unit calls
+      carried : (n : List ℕ) → calls_in (λ j. m.kept j && not (m.split j)) n (first_statement ps name) u.body ≡ true → has_adjoint m ps head name ≡ true → is_carried_with sb m ps head n ≡ true
+      carried n c there =
+          roots_reached (is_kept_with sb m ps head) (λ i. true) ps name u f n
+          (kept_so sb n (or_left (calls_some (has_adjoint m ps head) (λ j. m.kept j && not (m.split j)) n 0 ps) (calls_some (has_pair m ps head) (λ j. not (m.split j)) n 0 ps) (calls_found_some (has_adjoint m ps head) (λ j. m.kept j && not (m.split j)) n 0 ps name u f (moved (has_adjoint m ps head) there) c)))
+
+      carried_forth : (n : List ℕ) → calls_in (λ j. not (m.split j)) n (first_statement ps name) u.body ≡ true → has_pair m ps head name ≡ true → is_carried_with sb m ps head n ≡ true
+      carried_forth n c there =
+          roots_reached (is_kept_with sb m ps head) (λ i. true) ps name u f n
+          (kept_so sb n (or_right (calls_some (has_adjoint m ps head) (λ j. m.kept j && not (m.split j)) n 0 ps) (calls_some (has_pair m ps head) (λ j. not (m.split j)) n 0 ps) (calls_found_some (has_pair m ps head) (λ j. not (m.split j)) n 0 ps name u f (moved (has_pair m ps head) there) c)))
+
+      abbrev turning : List ℕ → Bool
+      turning n = has_adjoint m ps head n || has_pair m ps head n
 
       -- and so is the step unit of a loop that is reversed by a schedule
-      turned : (n : List ℕ) → turns_in (schedules_by sb (callee_facts w ps)) m.adjointed n (first_statement ps name) u.body ≡ true → has_adjoint m ps head name ≡ true → is_carried_with sb m ps head n ≡ true
-      turned n c there = roots_reached (is_kept_with sb m ps head) (λ i. true) ps name u f n (kept_so sb c)
+      turned : (n : List ℕ) → turns_in (schedules_by sb (callee_facts w ps)) m.adjointed n (first_statement ps name) u.body ≡ true → turning name ≡ true → is_carried_with sb m ps head n ≡ true
+      turned n c there = roots_reached (is_kept_with sb m ps head) (λ i. true) ps name u f n (turned_so sb c)
         where
           none_turned : turns_in None m.adjointed n (first_statement ps name) u.body ≡ true → ⊥
           none_turned h = let c : true ≡ false = sym h ∙ never_turned m.adjointed n (first_statement ps name) u.body in cc
 
-          kept_so : (b : Bool) → turns_in (schedules_by b (callee_facts w ps)) m.adjointed n (first_statement ps name) u.body ≡ true → is_kept_with b m ps head n ≡ true
-          kept_so true h = or_right (calls_some (has_adjoint m ps head) m.kept n 0 ps) (turns_some (schedules_in true ps) (has_adjoint m ps head) m.adjointed n 0 ps) (turns_found_some (schedules_in true ps) (has_adjoint m ps head) m.adjointed n 0 ps name u f (with_adjoint there) h)
-          kept_so false h = absurd (none_turned h)
+          turned_so : (b : Bool) → turns_in (schedules_by b (callee_facts w ps)) m.adjointed n (first_statement ps name) u.body ≡ true → is_kept_with b m ps head n ≡ true
+          turned_so true h = or_right (kept_calls m ps head n) (turns_some (schedules_in true ps) turning m.adjointed n 0 ps) (turns_found_some (schedules_in true ps) turning m.adjointed n 0 ps name u f (moved turning there) h)
+          turned_so false h = absurd (none_turned h)
 
-      unit_fits : UnitFitsBy (schedules_by sb (callee_facts w ps)) lines ps (callee_facts w ps) (has_adjoint m ps head) (answers m ps head) (is_carried_with sb m ps head) name u (first_statement ps name) (variables u) (arrays_of u)
+      pair_fits : has_pair m ps head name ≡ true → PairFits (schedules_by sb (callee_facts w ps)) lines ps (callee_facts w ps) (answers m ps head) (has_pair m ps head) (is_carried_with sb m ps head) name u (first_statement ps name) (variables u) (arrays_of u)
+      pair_fits there = record {
+        code =
+            (let written_unit = written name u f in
+            list_fits sb lines rules w ps name u true (answers m ps head) (has_pair m ps head) (is_carried_with sb m ps head) (split_marks (callee_facts w ps name).facts.marks) (first_statement ps name) u.body written_unit.body (kernel name u f) (sound name u f)
+            (λ n c pr. answered n c (pair_part m ps head name u f there)) (λ n c pr. paired n c (pair_part m ps head name u f there)) (λ n c pr. carried_forth n c there)
+            (λ n c pr. turned n c (or_right (has_adjoint m ps head name) (has_pair m ps head name) there)) (tells name u f));
+        calls = lawful.reads name u f ins there;
+        written = λ x h. wrote (variables u) (handed_back ps) x u.body (kernel name u f) (names_known u) h;
+        extents = λ d h. extents_spared ps u (none_front (written_extents (handed_back ps) u) _ (none_behind (written_variables (handed_back ps) u) _ (of_writes name u f))) d (extent_is_dummy name u f d h) h;
+        inside = λ x. none_declared u (inside_text name u f) x;
+      }
+
+      unit_fits : UnitFitsBy (schedules_by sb (callee_facts w ps)) lines ps (callee_facts w ps) (has_adjoint m ps head) (answers m ps head) (has_pair m ps head) (is_carried_with sb m ps head) name u (first_statement ps name) (variables u) (arrays_of u)
       unit_fits = record {
         dummies = sym same_dummies;
         dummies_apart = subst AreApart (sym same_dummies) (dummies_apart name u f);
@@ -202,7 +233,10 @@ module _ (rules : Rules) (ps : List Procedure) (checked : IsChecked rules ps) wh
         extents = λ d h. members_said m ps name d (find_unit ps name) (lawful.extents name u f ins d h);
         code =
             (let written_unit = written name u f in
-            list_fits sb lines rules w ps name u (has_adjoint m ps head name) (answers m ps head) (is_carried_with sb m ps head) (first_statement ps name) u.body written_unit.body (kernel name u f) (sound name u f) (λ n c there. answered n c there) (λ n c there. carried n c there) (λ n c there. turned n c there) (tells name u f));
+            list_fits sb lines rules w ps name u (has_adjoint m ps head name) (answers m ps head) (has_pair m ps head) (is_carried_with sb m ps head) (marks_in m name) (first_statement ps name) u.body written_unit.body (kernel name u f) (sound name u f)
+            (λ n c there. answered n c (adjoint_part m ps head name u f there)) (λ n c there. paired n c (adjoint_part m ps head name u f there)) (λ n c there. carried n c there)
+            (λ n c there. turned n c (or_left (has_adjoint m ps head name) (has_pair m ps head name) there)) (tells name u f));
+        pair = pair_fits;
       }
 
     pub source_fits : (number : ℕ) → unit_at number ps ≡ head ∷ [] → SourceFitsWith sb lines w ps head
@@ -216,7 +250,11 @@ module _ (rules : Rules) (ps : List Procedure) (checked : IsChecked rules ps) wh
       extents = λ name v f d h. extent_is_dummy name v f d h;
       known = calls_known ps ps all_calls;
       there = (each_at (Found ps) number ps head found is).0;
-      uncalled = head_uncalled ps found m.adjointed head.name no_cycle;
+      uncalled =
+          not_true (answers m ps head head.name)
+          (λ e.
+          let p : true ≡ false = sym (wider_some (takes_part m ps head) (λ j. m.adjointed j && not (m.split j)) m.adjointed (λ j q. (and_true (m.adjointed j) (not (m.split j)) q).0) head.name 0 ps e) ∙ head_uncalled ps found m.adjointed head.name no_cycle in
+          cc);
     }
 
   -- what meets the laws of all units does so for each head
@@ -227,10 +265,15 @@ module _ (rules : Rules) (ps : List Procedure) (checked : IsChecked rules ps) wh
     closed = λ name u f c. calls_inside ps u u.body (each_found (λ u. Each (CallHasNone ps u) (statements u.body)) ps all_calls name u f);
     laws = λ name u f c. lawful.laws name u f;
     extents = λ name u f c. lawful.extents name u f;
+    reads = λ name u f c p. lawful.reads head name u f p;
   }
 
   pub full_lawful : AreLawful full_facts ps
-  full_lawful = record { laws = λ name u f. full_laws name u f; extents = λ name u f d h. refl }
+  full_lawful = record {
+    laws = λ name u f. full_laws name u f;
+    extents = λ name u f d h. refl;
+    reads = λ head name u f p. absurd (let q : true ≡ false = sym p ∙ nowhere_some (takes_part full_marks ps head) name 0 ps in cc);
+  }
 
 -- where no loop is reversed by a schedule
 pub no_lines : (w : ProgramFacts) (ps : List Procedure) → LinesTell (λ line. None) false w ps

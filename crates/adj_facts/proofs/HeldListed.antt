@@ -14,7 +14,7 @@ use Rattle.adj_facts.specs.Occurrences.{reads_at}
 use Rattle.adj_facts.specs.Variables.{has, list_if, vars_in, vars_in_terms, adjoint_reads_in, handed_in, standing_in}
 use Rattle.adj_facts.specs.Problem.{Problem, statements_of, ways_of, TakesPart}
 use Rattle.adj_facts.specs.Flow.{Node}
-use Rattle.adj_facts.specs.Activity.{Activity}
+use Rattle.adj_facts.specs.Activity.{Activity, split_at}
 use Rattle.adj_facts.specs.Live.{Liveness}
 use Rattle.adj_facts.specs.Uses.{site, turned_by, is_turn}
 use Rattle.adj_facts.specs.Held as held
@@ -61,7 +61,7 @@ module _ (k : Problem) (o : Scope) (y : Covers k o) (a : Activity) (l : Liveness
 
   -- whether an actual of a call is an adjoint read
   abbrev is_call_read : Standing → Part → List ℕ → Var → Bool
-  is_call_read s g d v = a.adjointed s.number && (not (turned_by s.place v) && ((l.wanted g.number d || (is_turn s.place && is_read k.units g.unit d)) && not (is_written k.units g.unit d)))
+  is_call_read s g d v = a.adjointed s.number && (not (turned_by s.place v) && ((l.wanted g.number d || ((k.split s.number || is_turn s.place) && is_read k.units g.unit d)) && not (is_written k.units g.unit d)))
 
   -- an adjoint read is listed, and a variable of the unit at the point before its statement
   pub reads_have : (i : ℕ) (v : Var) → held.AdjointReads k a l i v → flowing.IsKnown k o y (point_before i, v) × Contains (reads_list k a l o) (i, v)
@@ -107,9 +107,9 @@ module _ (k : Problem) (o : Scope) (y : Covers k o) (a : Activity) (l : Liveness
           let f = flat_only (at_actuals (reads_called k a l s)) (called (parts k.units) s.act) r m in
           let b = actuals_only (reads_called k a l s) f.0 r f.2 in
           let h = if_only (is_call_read s f.0.0 b.0.0 b.0.1) ((site true s.number s.place, b.0.1) ∷ []) r b.2 in
-          let t1 = both (a.adjointed s.number) (not (turned_by s.place b.0.1) && ((l.wanted f.0.0.number b.0.0 || (is_turn s.place && is_read k.units f.0.0.unit b.0.0)) && not (is_written k.units f.0.0.unit b.0.0))) h.0 in
-          let t2 = both (not (turned_by s.place b.0.1)) ((l.wanted f.0.0.number b.0.0 || (is_turn s.place && is_read k.units f.0.0.unit b.0.0)) && not (is_written k.units f.0.0.unit b.0.0)) t1.1 in
-          let t3 = both (l.wanted f.0.0.number b.0.0 || (is_turn s.place && is_read k.units f.0.0.unit b.0.0)) (not (is_written k.units f.0.0.unit b.0.0)) t2.1 in
+          let t1 = both (a.adjointed s.number) (not (turned_by s.place b.0.1) && ((l.wanted f.0.0.number b.0.0 || ((k.split s.number || is_turn s.place) && is_read k.units f.0.0.unit b.0.0)) && not (is_written k.units f.0.0.unit b.0.0))) h.0 in
+          let t2 = both (not (turned_by s.place b.0.1)) ((l.wanted f.0.0.number b.0.0 || ((k.split s.number || is_turn s.place) && is_read k.units f.0.0.unit b.0.0)) && not (is_written k.units f.0.0.unit b.0.0)) t1.1 in
+          let t3 = both (l.wanted f.0.0.number b.0.0 || ((k.split s.number || is_turn s.place) && is_read k.units f.0.0.unit b.0.0)) (not (is_written k.units f.0.0.unit b.0.0)) t2.1 in
           subst (λ z. held.AdjointReads k a l z.0 z.1) (is_only r (site true s.number s.place, b.0.1) h.1)
           (held.call p (called_only k g.0 s f.0 d f.1) t1.0 b.1 (isnt (turned_by s.place b.0.1) t2.0) t3.0 (isnt (is_written k.units f.0.0.unit b.0.0) t3.1))
 
@@ -178,11 +178,11 @@ module _ (k : Problem) (o : Scope) (y : Covers k o) (a : Activity) (l : Liveness
       let r : ℕ × Var = (s.number, x) in own_saves g s r (assign x subs e) p c h (if_has (l.kept s.number) (r ∷ []) r t (is_first r r [] refl))
   saves_have i v (held.counter {g = g} {s = s} {x = x} {first = first} {last = last} {by = by} {body = body} {m = m} p c h t) =
       let r : ℕ × Var = (s.number, x) in own_saves g s r (loop x first last by body m) p c h (if_has (l.kept s.number) (r ∷ []) r t (is_first r r [] refl))
-  saves_have i v (held.call {f = f} {g = g} {s = s} {args = args} p c t h) =
+  saves_have i v (held.call {f = f} {g = g} {s = s} {args = args} p c t n h) =
       let r : ℕ × Var = (site (a.adjointed s.number) s.number s.place, v) in
       saves_in f s r p c.stands (Contains-append_right (may_save_by l s.number s.act) (called_saves s) r
       (flat_has (may_save_called k a l s) (called (parts k.units) s.act) (g, args) r (called_has k f g s args c)
-      (if_has (l.kept s.number || a.adjointed s.number) (map (λ u. (site (a.adjointed s.number) s.number s.place, u)) (handed_in k.units s.act)) r t
+      (if_has (not (split_at k a s.number) && (l.kept s.number || a.adjointed s.number)) (map (λ u. (site (a.adjointed s.number) s.number s.place, u)) (handed_in k.units s.act)) r (and_both (ap not n) t)
       (map_has (λ u. (site (a.adjointed s.number) s.number s.place, u)) (handed_in k.units s.act) v (handed_here k o y a f g s args v c h)))))
 
   pub saves_only : (r : ℕ × Var) → Contains (may_save_list k a l o) r → held.MaySave k a l r.0 r.1
@@ -211,7 +211,7 @@ module _ (k : Problem) (o : Scope) (y : Covers k o) (a : Activity) (l : Liveness
       at s d (inl m) = own s d s.act refl m
       at s d (inr m) =
           let f = flat_only (may_save_called k a l s) (called (parts k.units) s.act) r m in
-          let h = if_only (l.kept s.number || a.adjointed s.number) (map (λ u. (site (a.adjointed s.number) s.number s.place, u)) (handed_in k.units s.act)) r f.2 in
+          let h = if_only (not (split_at k a s.number) && (l.kept s.number || a.adjointed s.number)) (map (λ u. (site (a.adjointed s.number) s.number s.place, u)) (handed_in k.units s.act)) r f.2 in
           let v = map_only (λ u. (site (a.adjointed s.number) s.number s.place, u)) (handed_in k.units s.act) r h.1 in
           let u = called_only k g.0 s f.0 d f.1 in
-          subst (λ z. held.MaySave k a l z.0 z.1) v.2 (held.call p u h.0 (handed_there k o y a g.0 f.0.0 s f.0.1 v.0 u v.1))
+          subst (λ z. held.MaySave k a l z.0 z.1) v.2 (held.call p u (both (not (split_at k a s.number)) (l.kept s.number || a.adjointed s.number) h.0).1 (isnt (split_at k a s.number) (both (not (split_at k a s.number)) (l.kept s.number || a.adjointed s.number) h.0).0) (handed_there k o y a g.0 f.0.0 s f.0.1 v.0 u v.1))

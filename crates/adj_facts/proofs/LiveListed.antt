@@ -87,7 +87,7 @@ module _ (k : Problem) (o : Scope) (y : Covers k o) (a : Activity) where
       (Contains-append_right (unit_starts g) (flat_map (live_starts_at k a g.number) (statements_of g)) x (flat_has (live_starts_at k a g.number) (statements_of g) s x c m))
 
   abbrev later_starts : Standing → List Fact
-  later_starts s = list_if (a.adjointed s.number) (map live.kept (holders s.place) ++ flat_map (at_actuals (live_turned k s.place)) (called (parts k.units) s.act))
+  later_starts s = list_if (a.adjointed s.number) (list_if (k.split s.number) (live.kept s.number ∷ []) ++ (map live.kept (holders s.place) ++ flat_map (at_actuals (live_turned k s.place)) (called (parts k.units) s.act)))
 
   own_starts : (g : Part) (s : Standing) (x : Fact) (b : Act) → TakesPart k g → Contains (statements_of g) s → s.act ≡ b → Contains (live_starts_by a g.number s.number b) x → Contains (live_starts k a o) x
   own_starts g s x b p c h m = starts_in g s x p c (Contains-append_left (live_starts_by a g.number s.number s.act) (later_starts s) x (subst (λ z. Contains (live_starts_by a g.number s.number z) x) (sym h) m))
@@ -95,7 +95,7 @@ module _ (k : Problem) (o : Scope) (y : Covers k o) (a : Activity) where
   more_starts : (g : Part) (s : Standing) (x : Fact) → TakesPart k g → Contains (statements_of g) s → a.adjointed s.number ≡ true → Contains (map live.kept (holders s.place) ++ flat_map (at_actuals (live_turned k s.place)) (called (parts k.units) s.act)) x → Contains (live_starts k a o) x
   more_starts g s x p c h m =
       starts_in g s x p c (Contains-append_right (live_starts_by a g.number s.number s.act) (later_starts s) x
-      (if_has (a.adjointed s.number) (map live.kept (holders s.place) ++ flat_map (at_actuals (live_turned k s.place)) (called (parts k.units) s.act)) x h m))
+      (if_has (a.adjointed s.number) (list_if (k.split s.number) (live.kept s.number ∷ []) ++ (map live.kept (holders s.place) ++ flat_map (at_actuals (live_turned k s.place)) (called (parts k.units) s.act))) x h (Contains-append_right (list_if (k.split s.number) (live.kept s.number ∷ [])) (map live.kept (holders s.place) ++ flat_map (at_actuals (live_turned k s.place)) (called (parts k.units) s.act)) x m)))
 
   begun : (x : Fact) → live.LiveBegins k a x → IsKnown x × Contains (live_starts k a o) x
   begun x (live.reads {g = g} {s = s} {x = t} {subs = subs} {e = e} {v = v} p c h j r) =
@@ -118,6 +118,12 @@ module _ (k : Problem) (o : Scope) (y : Covers k o) (a : Activity) where
       (tt, more_starts g s (live.kept i) p c j (Contains-append_left (map live.kept (holders s.place)) (flat_map (at_actuals (live_turned k s.place)) (called (parts k.units) s.act)) (live.kept i) (map_has live.kept (holders s.place) i (holders_have i s.place h))))
   begun x (live.counts {g = g} {s = s} {x = t} {first = first} {last = last} {by = by} {body = body} {m = m} p c h r) =
       (tt, own_starts g s (live.kept s.number) (loop t first last by body m) p c h (if_has (resets a g.number s.number t) (live.kept s.number ∷ []) (live.kept s.number) r (is_first (live.kept s.number) (live.kept s.number) [] refl)))
+  begun x (live.split {g = g} {s = s} p c h) =
+      let b = both (k.split s.number) (a.adjointed s.number) h in (
+        tt,
+        starts_in g s x p c (Contains-append_right (live_starts_by a g.number s.number s.act) (later_starts s) x
+            (if_has (a.adjointed s.number) (list_if (k.split s.number) (live.kept s.number ∷ []) ++ (map live.kept (holders s.place) ++ flat_map (at_actuals (live_turned k s.place)) (called (parts k.units) s.act))) x b.1 (Contains-append_left (list_if (k.split s.number) (live.kept s.number ∷ [])) (map live.kept (holders s.place) ++ flat_map (at_actuals (live_turned k s.place)) (called (parts k.units) s.act)) x (if_has (k.split s.number) (x ∷ []) x b.0 (is_first x x [] refl))))),
+      )
   begun x (live.extents {g = g} {d = d} p c h) = (
     tt,
     flat_has (λ h. unit_starts h ++ flat_map (live_starts_at k a h.number) (statements_of h)) o.parts g (live.wanted g.number d) ((y.parts g).1 p)
@@ -162,11 +168,15 @@ module _ (k : Problem) (o : Scope) (y : Covers k o) (a : Activity) where
           let b = actuals_only (live_turned k s.place) f.0 x f.2 in
           turned s d j f.0.0 f.0.1 (called_only k g.0 s f.0 d f.1) b.0.0 b.0.1 b.1 s.place refl b.2
 
+      split_or : (s : Standing) → Contains (statements_of g.0) s → a.adjointed s.number ≡ true → Contains (list_if (k.split s.number) (live.kept s.number ∷ [])) x ⊎ Contains (map live.kept (holders s.place) ++ flat_map (at_actuals (live_turned k s.place)) (called (parts k.units) s.act)) x → live.LiveBegins k a x
+      split_or s d j (inl m) = let q = if_only (k.split s.number) (live.kept s.number ∷ []) x m in subst (λ z. live.LiveBegins k a z) (is_only x (live.kept s.number) q.1) (live.split p d (and_both q.0 j))
+      split_or s d j (inr m) = later s d j (Contains-append_cases (map live.kept (holders s.place)) (flat_map (at_actuals (live_turned k s.place)) (called (parts k.units) s.act)) x m)
+
       at : (s : Standing) → Contains (statements_of g.0) s → Contains (live_starts_by a g.0.number s.number s.act) x ⊎ Contains (later_starts s) x → live.LiveBegins k a x
       at s d (inl m) = own s d s.act refl m
       at s d (inr m) =
-          let q = if_only (a.adjointed s.number) (map live.kept (holders s.place) ++ flat_map (at_actuals (live_turned k s.place)) (called (parts k.units) s.act)) x m in
-          later s d q.0 (Contains-append_cases (map live.kept (holders s.place)) (flat_map (at_actuals (live_turned k s.place)) (called (parts k.units) s.act)) x q.1)
+          let q = if_only (a.adjointed s.number) (list_if (k.split s.number) (live.kept s.number ∷ []) ++ (map live.kept (holders s.place) ++ flat_map (at_actuals (live_turned k s.place)) (called (parts k.units) s.act))) x m in
+          split_or s d q.0 (Contains-append_cases (list_if (k.split s.number) (live.kept s.number ∷ [])) (map live.kept (holders s.place) ++ flat_map (at_actuals (live_turned k s.place)) (called (parts k.units) s.act)) x q.1)
 
       go : Contains (unit_starts g.0) x ⊎ Contains (flat_map (live_starts_at k a g.0.number) (statements_of g.0)) x → live.LiveBegins k a x
       go (inl m) =

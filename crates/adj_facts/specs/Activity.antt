@@ -1,5 +1,5 @@
 -- Which variables have a shadow, and which statements an adjoint. (docs/ANALYSES.md, "Activity")
-use Rattle.std.specs.Prelude.{◌≡◌, ◌↔◌, ◌⊎◌, ℕ, List, Bool, true, ◌&&◌, Contains}
+use Rattle.std.specs.Prelude.{◌≡◌, ◌↔◌, ◌⊎◌, ℕ, List, Bool, true, false, ◌&&◌, Contains}
 use Rattle.adj_tree.specs.Code.{Var, plain, Terms, Term, Code, Mark, assign, loop}
 use Rattle.adj_transpose.specs.Marks.{Vars, everything, Marks, point_before}
 use Rattle.adj_transpose.specs.Facts.{In, is_adjointed}
@@ -22,6 +22,7 @@ abbrev pub activity_marks : Activity → ℕ → Marks
 activity_marks a u = record {
   kept = λ i. true;
   adjointed = a.adjointed;
+  split = λ i. false;
   saved = λ i. everything;
   varied = a.varied;
   useful = a.useful;
@@ -84,6 +85,10 @@ pub data MakesAdjointed (k : Problem) : Adjoint → Adjoint → Type 0 where
 
 abbrev pub Adjointed : Problem → Activity → Adjoint → Type 0
 Adjointed k a = Reached (IsAdjointed k a) (MakesAdjointed k)
+
+-- the i-th statement is a split call
+abbrev pub split_at : Problem → Activity → ℕ → Bool
+split_at k a i = k.split i && a.adjointed i
 
 -- ---- all of it
 

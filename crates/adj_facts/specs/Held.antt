@@ -12,7 +12,7 @@ use Rattle.adj_facts.specs.Standing.{Standing}
 use Rattle.adj_facts.specs.Occurrences.{reads_at}
 use Rattle.adj_facts.specs.Problem.{Problem, statements_of, ways_of, CallsUnit, TakesPart, bound}
 use Rattle.adj_facts.specs.Flow.{Node}
-use Rattle.adj_facts.specs.Activity.{Activity}
+use Rattle.adj_facts.specs.Activity.{Activity, split_at}
 use Rattle.adj_facts.specs.Live.{Liveness}
 use Rattle.adj_facts.specs.Uses.{site, turned_by, is_turn}
 
@@ -21,6 +21,7 @@ abbrev pub marks_of : Activity → Liveness → (ℕ → Vars) → ℕ → Marks
 marks_of a l saved u = record {
   kept = l.kept;
   adjointed = a.adjointed;
+  split = λ i. false;
   saved = saved;
   varied = a.varied;
   useful = a.useful;
@@ -31,9 +32,9 @@ marks_of a l saved u = record {
 pub data AdjointReads (k : Problem) (a : Activity) (l : Liveness) : ℕ → Var → Type 0 where
   assignment : {g : Part} {s : Standing} {x : Var} {subs : Terms} {e : Term} {v : Var} → TakesPart k g → Contains (statements_of g) s → s.act ≡ assign x subs e →
       In v (reads_at (marks_of a l (λ i. everything) g.number) s.number subs e) → AdjointReads k a l s.number v
-  -- of an adjointed call the actuals of the dummies in its unit's entry set that aren't written; of a marked loop besides those of the dummies that are read, without the loop's variable
+  -- of an adjointed call the actuals of the dummies in its unit's entry set that aren't written; of a marked loop and of a split call besides those of the dummies that are read, without the loop's variable
   call : {f g : Part} {s : Standing} {args : Terms} {d : List ℕ} {v : Var} → TakesPart k f → CallsUnit k f g s args → a.adjointed s.number ≡ true → Contains (bound g.unit.dummies args) (d, v) → turned_by s.place v ≡ false →
-      (l.wanted g.number d || (is_turn s.place && is_read k.units g.unit d)) ≡ true → is_written k.units g.unit d ≡ false → AdjointReads k a l (site true s.number s.place) v
+      (l.wanted g.number d || ((k.split s.number || is_turn s.place) && is_read k.units g.unit d)) ≡ true → is_written k.units g.unit d ≡ false → AdjointReads k a l (site true s.number s.place) v
 
 -- a kept statement assigns the whole variable
 abbrev pub replaced_on : (ℕ → Bool) → Deed → Vars
@@ -56,8 +57,8 @@ pub data MaySave (k : Problem) (a : Activity) (l : Liveness) : ℕ → Var → T
   assignment : {g : Part} {s : Standing} {x : Var} {subs : Terms} {e : Term} → TakesPart k g → Contains (statements_of g) s → s.act ≡ assign x subs e → l.kept s.number ≡ true → MaySave k a l s.number x
   -- a DO, at its entry
   counter : {g : Part} {s : Standing} {x : Var} {first last by : Term} {body : Code} {m : Mark} → TakesPart k g → Contains (statements_of g) s → s.act ≡ loop x first last by body m → l.kept s.number ≡ true → MaySave k a l s.number x
-  -- a call, or the marked loop whose turns it makes, if it is adjointed
-  call : {f g : Part} {s : Standing} {args : Terms} {v : Var} → TakesPart k f → CallsUnit k f g s args → (l.kept s.number || a.adjointed s.number) ≡ true → act_writes (handed_back k.units) v s.act ≡ true →
+  -- a call that isn't split, or the marked loop whose turns it makes, if it is adjointed
+  call : {f g : Part} {s : Standing} {args : Terms} {v : Var} → TakesPart k f → CallsUnit k f g s args → (l.kept s.number || a.adjointed s.number) ≡ true → split_at k a s.number ≡ false → act_writes (handed_back k.units) v s.act ≡ true →
       MaySave k a l (site (a.adjointed s.number) s.number s.place) v
 
 pub record Saves (k : Problem) (a : Activity) (l : Liveness) (i : ℕ) (v : Var) : Type 0 where

@@ -10,7 +10,7 @@ use Rattle.adj_facts.specs.Ways.{Way, assigned_on, passed_on}
 use Rattle.adj_facts.specs.Standing.{Standing}
 use Rattle.adj_facts.specs.Occurrences.{occurring, reads_at}
 use Rattle.adj_facts.specs.Problem.{Problem, statements_of, ways_of, CallsUnit, TakesPart, bound}
-use Rattle.adj_facts.specs.Activity.{Activity, IsActivity, IsPoint, Holds}
+use Rattle.adj_facts.specs.Activity.{Activity, IsActivity, IsPoint, Holds, split_at}
 use Rattle.adj_facts.specs.Uses.{uses, use_point, site, turned_by, is_turn}
 use Rattle.adj_facts.specs.Live.{Liveness, IsLive}
 use Rattle.adj_facts.specs.Held.{marks_of, replaced_on, Held, IsSaved}
@@ -20,8 +20,8 @@ pub record IsHeld (k : Problem) (a : Activity) (l : Liveness) (held : ℕ → Va
   pub exact : (p : ℕ) (v : Var) → In v (held p) ↔ Held k a l (p, v)
 
 -- the facts of the u-th unit
-abbrev pub facts_of : Activity → Liveness → (ℕ → Vars) → (ℕ → Vars) → ℕ → Facts
-facts_of a l saved held u = record { marks = marks_of a l saved u; needed = l.needed; held = held }
+abbrev pub facts_of : Problem → Activity → Liveness → (ℕ → Vars) → (ℕ → Vars) → ℕ → Facts
+facts_of k a l saved held u = record { marks = record (marks_of a l saved u) { split = split_at k a }; needed = l.needed; held = held }
 
 -- ---- on a way
 
@@ -98,10 +98,12 @@ pub record AtCall (k : Problem) (wanted : List ℕ → Bool) (shadowed : Vars) (
   pub adjoints : (t : Standing) → Contains (statements_of g) t → w.marks.adjointed t.number ≡ true → w.marks.adjointed s.number ≡ true
   -- the actuals that its adjoint reads are held on each way from it, unless it replaces them
   pub holds : w.marks.adjointed s.number ≡ true → (d : List ℕ) (v : Var) → Contains (bound g.unit.dummies args) (d, v) → turned_by s.place v ≡ false →
-      (wanted d || (is_turn s.place && is_read k.units g.unit d)) ≡ true → is_written k.units g.unit d ≡ false →
+      (wanted d || ((k.split s.number || is_turn s.place) && is_read k.units g.unit d)) ≡ true → is_written k.units g.unit d ≡ false →
       (f : Part) → TakesPart k f → (x : Way) → Contains (ways_of f) x → x.from ≡ point_before (site true s.number s.place) → replaced_on w.marks.kept x.deed v ≡ false → In v (w.held x.to)
-  -- what it may write is saved where that is held before it
-  pub saves : (w.marks.kept s.number || w.marks.adjointed s.number) ≡ true → (v : Var) → act_writes (handed_back k.units) v s.act ≡ true →
+  -- a split call is kept
+  pub splits : w.marks.split s.number ≡ true → w.marks.kept s.number ≡ true
+  -- what a call that isn't split may write is saved where that is held before it
+  pub saves : (w.marks.kept s.number || w.marks.adjointed s.number) ≡ true → w.marks.split s.number ≡ false → (v : Var) → act_writes (handed_back k.units) v s.act ≡ true →
       In v (w.held (point_before (site (w.marks.adjointed s.number) s.number s.place))) → In v (w.marks.saved (site (w.marks.adjointed s.number) s.number s.place))
 
 -- ---- in a unit
@@ -128,15 +130,15 @@ pub record Analysed (k : Problem) (a : Activity) (l : Liveness) (saved held : �
 
 -- it meets the laws of each way and holder, of each assignment, branch and loop, and of each call
 abbrev pub AnalysedIsClosed : Type 0
-AnalysedIsClosed = (k : Problem) (a : Activity) (l : Liveness) (saved held : ℕ → Vars) → Analysed k a l saved held → (g : Part) → TakesPart k g → InUnit (facts_of a l saved held g.number) g
+AnalysedIsClosed = (k : Problem) (a : Activity) (l : Liveness) (saved held : ℕ → Vars) → Analysed k a l saved held → (g : Part) → TakesPart k g → InUnit (facts_of k a l saved held g.number) g
 
 abbrev pub EntriesAreClosed : Type 0
-EntriesAreClosed = (k : Problem) (a : Activity) (l : Liveness) (saved held : ℕ → Vars) → Analysed k a l saved held → (g : Part) → TakesPart k g → OnEntry (l.wanted g.number) (facts_of a l saved held g.number) g
+EntriesAreClosed = (k : Problem) (a : Activity) (l : Liveness) (saved held : ℕ → Vars) → Analysed k a l saved held → (g : Part) → TakesPart k g → OnEntry (l.wanted g.number) (facts_of k a l saved held g.number) g
 
 abbrev pub StatementsAreClosed : Type 0
 StatementsAreClosed = (k : Problem) (a : Activity) (l : Liveness) (saved held : ℕ → Vars) → Analysed k a l saved held → (g : Part) → TakesPart k g → (s : Standing) → Contains (statements_of g) s →
-    AtStatement k.units (facts_of a l saved held g.number) s
+    AtStatement k.units (facts_of k a l saved held g.number) s
 
 abbrev pub CallsAreClosed : Type 0
 CallsAreClosed = (k : Problem) (a : Activity) (l : Liveness) (saved held : ℕ → Vars) → Analysed k a l saved held → (f g : Part) → TakesPart k f → (s : Standing) (args : Terms) → CallsUnit k f g s args →
-    AtCall k (l.wanted g.number) (a.shadowed g.number) (facts_of a l saved held f.number) g s args
+    AtCall k (l.wanted g.number) (a.shadowed g.number) (facts_of k a l saved held f.number) g s args

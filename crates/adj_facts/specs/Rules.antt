@@ -12,7 +12,7 @@ use Rattle.adj_facts.specs.Standing.{Place, outermost, part_of, turn_of, Standin
 use Rattle.adj_facts.specs.Variables.{list_if, vars_in_terms, occurring_in, adjoint_reads_in, used_in, handed_in, standing_in}
 use Rattle.adj_facts.specs.Problem.{Problem, TakesPart, statements_of, ways_of, flagged, bound}
 use Rattle.adj_facts.specs.Flow.{Node}
-use Rattle.adj_facts.specs.Activity.{Activity, activity_marks, resets, Adjoint, statement, unit}
+use Rattle.adj_facts.specs.Activity.{Activity, activity_marks, resets, Adjoint, statement, unit, split_at}
 use Rattle.adj_facts.specs.Uses.{use_point, site, turned_by, is_turn}
 use Rattle.adj_facts.specs.Live.{Fact, needed, kept, wanted, Liveness}
 use Rattle.adj_facts.specs.Held.{marks_of, replaced_on}
@@ -153,7 +153,7 @@ live_turned k (turn_of i x) g d v = list_if (is_read k.units g.unit d && not (va
 abbrev pub live_starts_at : Problem → Activity → ℕ → Standing → List Fact
 live_starts_at k a u s =
     live_starts_by a u s.number s.act
-    ++ list_if (a.adjointed s.number) (map kept (holders s.place) ++ flat_map (at_actuals (live_turned k s.place)) (called (parts k.units) s.act))
+    ++ list_if (a.adjointed s.number) (list_if (k.split s.number) (kept s.number ∷ []) ++ (map kept (holders s.place) ++ flat_map (at_actuals (live_turned k s.place)) (called (parts k.units) s.act)))
 
 abbrev pub live_starts : Problem → Activity → Scope → List Fact
 live_starts k a o = flat_map (λ g. map (wanted g.number) (filter (λ d. is_extent d g.unit.declarations) g.unit.dummies) ++ flat_map (live_starts_at k a g.number) (statements_of g)) o.parts
@@ -198,7 +198,7 @@ reads_by a l u i (runtime r) = []
 
 abbrev pub reads_called : Problem → Activity → Liveness → Standing → Part → List ℕ → Var → List (ℕ × Var)
 reads_called k a l s g d v =
-    list_if (a.adjointed s.number && (not (turned_by s.place v) && ((l.wanted g.number d || (is_turn s.place && is_read k.units g.unit d)) && not (is_written k.units g.unit d)))) ((site true s.number s.place, v) ∷ [])
+    list_if (a.adjointed s.number && (not (turned_by s.place v) && ((l.wanted g.number d || ((k.split s.number || is_turn s.place) && is_read k.units g.unit d)) && not (is_written k.units g.unit d)))) ((site true s.number s.place, v) ∷ [])
 
 abbrev pub reads_list : Problem → Activity → Liveness → Scope → List (ℕ × Var)
 reads_list k a l o = flat_map (λ g. flat_map (λ s. reads_by a l g.number s.number s.act ++ flat_map (at_actuals (reads_called k a l s)) (called (parts k.units) s.act)) (statements_of g)) o.parts
@@ -222,7 +222,7 @@ may_save_by l i (call name args) = []
 may_save_by l i (runtime r) = []
 
 abbrev pub may_save_called : Problem → Activity → Liveness → Standing → Part × Terms → List (ℕ × Var)
-may_save_called k a l s c = list_if (l.kept s.number || a.adjointed s.number) (map (λ v. (site (a.adjointed s.number) s.number s.place, v)) (handed_in k.units s.act))
+may_save_called k a l s c = list_if (not (split_at k a s.number) && (l.kept s.number || a.adjointed s.number)) (map (λ v. (site (a.adjointed s.number) s.number s.place, v)) (handed_in k.units s.act))
 
 abbrev pub may_save_list : Problem → Activity → Liveness → Scope → List (ℕ × Var)
 may_save_list k a l o = flat_map (λ g. flat_map (λ s. may_save_by l s.number s.act ++ flat_map (may_save_called k a l s) (called (parts k.units) s.act)) (statements_of g)) o.parts

@@ -1,6 +1,6 @@
 -- The units of the emitted program: each carried unit, and the adjoint of each unit that has one, are found under their names.
-use Rattle.std.proofs.Common.{◌≡◌, ℕ, zero, suc, Bool, true, false, List, [], ◌∷◌, ◌++◌, map, length, refl, sym, ap, ◌∙◌, if◌then◌else◌}
-use Rattle.std.specs.Prelude.{◌&&◌, ◌||◌, Option, Some, None, flat_map}
+use Rattle.std.proofs.Common.{◌≡◌, ℕ, zero, suc, Bool, true, false, List, [], ◌∷◌, ◌++◌, map, length, refl, sym, ap, ◌∙◌, append_assoc, codes, if◌then◌else◌}
+use Rattle.std.specs.Prelude.{not, ◌&&◌, ◌||◌, Option, Some, None, flat_map}
 use Rattle.adj_tree.specs.Code.{name_eq, Mark, Act, assign, choose, loop, during, call, runtime, Code, stop, step, Procedure}
 use Rattle.adj_tree.proofs.Names.{name_refl, name_same}
 use Rattle.adj_meaning.specs.Written.{find_unit}
@@ -11,42 +11,16 @@ use Rattle.adj_transpose.specs.Program.{unit_name, unmarked}
 use Rattle.adj_transpose.specs.Marked.{names_in}
 use Rattle.adj_transpose.specs.Marks.{next, behind}
 use Rattle.adj_transpose.proofs.Variables.{and_true, or_false, or_left, or_right, name_comm, has_apart}
-use Rattle.adj_reverse.specs.Names.{source_names, adjoint_after, adjoint_name}
+use Rattle.adj_reverse.specs.Names.{source_names, named_after, named_list, taken_forth, taken_back, adjoint_after, adjoint_name, forth_name, back_name}
 use Rattle.adj_reverse.specs.Marking.{ProgramMarks}
 use Rattle.adj_reverse.specs.Plan.{found_or, Schedules, Step, reversed_by}
 use Rattle.adj_reverse.proofs.ByStep.{step_inside}
-use Rattle.adj_reverse.specs.Program.{calls_act, calls_in, calls_some, reached_after, has_adjoint, answers, is_kept_with, is_carried_with, all_units, adjoint_unit_with, emitted_adjoint_with, emitted_units_with, turns_act, turns_in, turns_some, schedules_in}
-use Rattle.adj_reverse.proofs.Names.{is_unit, has-append, adjoint_free, adjoints_apart}
+use Rattle.adj_reverse.specs.Program.{calls_act, calls_in, calls_some, reached_after, has_adjoint, has_pair, kept_calls, emitted_group, forth_unit, back_unit, answers, is_kept_with, is_carried_with, all_units, adjoint_unit_with, emitted_adjoint_with, emitted_units_with, turns_act, turns_in, turns_some, schedules_in}
+use Rattle.adj_reverse.proofs.Names.{is_unit, has-append, adjoint_free, adjoints_apart, name_free, names_apart, name_among}
 pub use Rattle.adj_reverse.specs.Source.{CallUnits}
+use Rattle.adj_reverse.proofs.UnitLists.{take, skip, unit_named, Differ, skip_all, differ_both, differ_one, differ_two, through, stays}
+pub use Rattle.adj_reverse.proofs.UnitLists.{found_there}
 use Rattle.adj_reverse.proofs.Rounds.{either, reached_last}
-
--- ---- units in a list
-
-take : (u : Procedure) (rest : List Procedure) (name : List ℕ) → name_eq u.name name ≡ true → find_unit (u ∷ rest) name ≡ Some u
-take u rest name e = ap (λ b. if b then Some u else find_unit rest name) e
-
-skip : (u : Procedure) (rest : List Procedure) (name : List ℕ) → name_eq u.name name ≡ false → find_unit (u ∷ rest) name ≡ find_unit rest name
-skip u rest name e = ap (λ b. if b then Some u else find_unit rest name) e
-
-skip_maybe : (c : Bool) (u : Procedure) (rest : List Procedure) (name : List ℕ) → name_eq u.name name ≡ false → find_unit ((if c then u ∷ [] else []) ++ rest) name ≡ find_unit rest name
-skip_maybe true u rest name e = skip u rest name e
-skip_maybe false u rest name e = refl
-
-unit_named : (us : List Procedure) (x : List ℕ) → is_unit us x ≡ true → has_name x (map unit_name us) ≡ true
-unit_named [] x h = absurd cc
-unit_named (u ∷ us) x h =
-    either (name_eq u.name x) (is_unit us x) (has_name x (map unit_name (u ∷ us))) h
-    (λ e. or_left (name_eq x u.name) (has_name x (map unit_name us)) (ap (λ z. name_eq z u.name) (sym (name_same u.name x e)) ∙ name_refl u.name))
-    (λ e. or_right (name_eq x u.name) (has_name x (map unit_name us)) (unit_named us x e))
-
--- a unit that is found is there, and has the name
-pub found_there : (us : List Procedure) (name : List ℕ) (u : Procedure) → find_unit us name ≡ Some u → (is_unit us name ≡ true) × (u.name ≡ name)
-found_there [] name u h = absurd cc
-found_there (v ∷ us) name u h = go (name_eq v.name name) refl h (found_there us name u)
-  where
-    go : (b : Bool) → name_eq v.name name ≡ b → (if b then Some v else find_unit us name) ≡ Some u → (find_unit us name ≡ Some u → (is_unit us name ≡ true) × (u.name ≡ name)) → ((b || is_unit us name) ≡ true) × (u.name ≡ name)
-    go true e h ih = let s : u ≡ v = cc in (refl, ap (λ z. z.name) s ∙ name_same v.name name e)
-    go false e h ih = ih h
 
 -- ---- what is emitted
 
@@ -68,53 +42,134 @@ module _ (sc : Bool) (m : ProgramMarks) (ps : List Procedure) (head : Procedure)
       go true = refl
       go false = refl
 
-  -- no unit of the source has the name
+  -- the names of forward and backward units
+  abbrev fwd : List ℕ → List ℕ
+  fwd x = named_after (codes "_FWD") (taken_forth ps) ps x
+
+  abbrev bwd : List ℕ → List ℕ
+  bwd x = named_after (codes "_BWD") (taken_back ps) ps x
+
+  abbrev group : Procedure → List Procedure
+  group u = emitted_group sc m ps head vars outvars u
+
+  -- ---- names are apart
+
+  -- no unit of the source has a name that isn't among the source's
+  not_source : (x n : List ℕ) → is_unit ps x ≡ true → has_name n (source_names ps) ≡ false → name_eq x n ≡ false
+  not_source x n h free =
+      has_apart x n (map unit_name ps) (unit_named ps x h) (or_false (has_name n (map unit_name ps)) (has_name n (flat_map variables ps)) (sym (has-append n (map unit_name ps) (flat_map variables ps)) ∙ free)).0
+
+  fwd_free : (y : List ℕ) → is_unit ps y ≡ true → (has_name (fwd y) (source_names ps) ≡ false) × (has_name (fwd y) (named_list (codes "_B") (source_names ps) ps) ≡ false)
+  fwd_free y h = or_false (has_name (fwd y) (source_names ps)) (has_name (fwd y) (named_list (codes "_B") (source_names ps) ps)) (sym (has-append (fwd y) (source_names ps) (named_list (codes "_B") (source_names ps) ps)) ∙ name_free (codes "_FWD") (taken_forth ps) ps y h)
+
+  bwd_free : (y : List ℕ) → is_unit ps y ≡ true → (has_name (bwd y) (taken_forth ps) ≡ false) × (has_name (bwd y) (named_list (codes "_FWD") (taken_forth ps) ps) ≡ false)
+  bwd_free y h = or_false (has_name (bwd y) (taken_forth ps)) (has_name (bwd y) (named_list (codes "_FWD") (taken_forth ps) ps)) (sym (has-append (bwd y) (taken_forth ps) (named_list (codes "_FWD") (taken_forth ps) ps)) ∙ name_free (codes "_BWD") (taken_back ps) ps y h)
+
+  bwd_source : (y : List ℕ) → is_unit ps y ≡ true → (has_name (bwd y) (source_names ps) ≡ false) × (has_name (bwd y) (named_list (codes "_B") (source_names ps) ps) ≡ false)
+  bwd_source y h = or_false (has_name (bwd y) (source_names ps)) (has_name (bwd y) (named_list (codes "_B") (source_names ps) ps)) (sym (has-append (bwd y) (source_names ps) (named_list (codes "_B") (source_names ps) ps)) ∙ (bwd_free y h).0)
+
+  -- no unit of the source has the name of an adjoint
   pub apart_source : (x y : List ℕ) → is_unit ps x ≡ true → is_unit ps y ≡ true → name_eq x (adj y) ≡ false
-  apart_source x y h g =
-      let free : has_name (adj y) (source_names ps) ≡ false = adjoint_free (source_names ps) ps y g in
-      has_apart x (adj y) (map unit_name ps) (unit_named ps x h) (or_false (has_name (adj y) (map unit_name ps)) (has_name (adj y) (flat_map variables ps)) (sym (has-append (adj y) (map unit_name ps) (flat_map variables ps)) ∙ free)).0
+  apart_source x y h g = not_source x (adj y) h (adjoint_free (source_names ps) ps y g)
+
+  fwd_source : (x y : List ℕ) → is_unit ps x ≡ true → is_unit ps y ≡ true → name_eq x (fwd y) ≡ false
+  fwd_source x y h g = not_source x (fwd y) h (fwd_free y g).0
+
+  back_source : (x y : List ℕ) → is_unit ps x ≡ true → is_unit ps y ≡ true → name_eq x (bwd y) ≡ false
+  back_source x y h g = not_source x (bwd y) h (bwd_source y g).0
+
+  adj_fwd : (x y : List ℕ) → is_unit ps x ≡ true → is_unit ps y ≡ true → name_eq (adj x) (fwd y) ≡ false
+  adj_fwd x y h g = has_apart (adj x) (fwd y) (named_list (codes "_B") (source_names ps) ps) (name_among (codes "_B") (source_names ps) ps x h) (fwd_free y g).1
+
+  adj_bwd : (x y : List ℕ) → is_unit ps x ≡ true → is_unit ps y ≡ true → name_eq (adj x) (bwd y) ≡ false
+  adj_bwd x y h g = has_apart (adj x) (bwd y) (named_list (codes "_B") (source_names ps) ps) (name_among (codes "_B") (source_names ps) ps x h) (bwd_source y g).1
+
+  fwd_bwd : (x y : List ℕ) → is_unit ps x ≡ true → is_unit ps y ≡ true → name_eq (fwd x) (bwd y) ≡ false
+  fwd_bwd x y h g = has_apart (fwd x) (bwd y) (named_list (codes "_FWD") (taken_forth ps) ps) (name_among (codes "_FWD") (taken_forth ps) ps x h) (bwd_free y g).1
+
+  -- ---- what is emitted for a unit
+
+  abbrev plain_part : Procedure → List Procedure
+  plain_part u = if is_carried_with sc m ps head u.name then u ∷ [] else []
+
+  abbrev adjoint_part : Procedure → List Procedure
+  adjoint_part u = if has_adjoint m ps head u.name then made u ∷ [] else []
+
+  abbrev forth_of : Procedure → Procedure
+  forth_of u = forth_unit sc m ps (all_units m ps head) u
+
+  abbrev back_of : Procedure → Procedure
+  back_of u = back_unit sc m ps (all_units m ps head) u
+
+  abbrev pair_part : Procedure → List Procedure
+  pair_part u = if has_pair m ps head u.name then forth_of u ∷ back_of u ∷ [] else []
+
+  -- a group none of whose units has the name
+  differ_group : (name : List ℕ) (u : Procedure) → name_eq u.name name ≡ false → name_eq (adj u.name) name ≡ false → name_eq (fwd u.name) name ≡ false → name_eq (bwd u.name) name ≡ false → Differ name (group u)
+  differ_group name u h1 h2 h3 h4 =
+      differ_both name (plain_part u) (adjoint_part u ++ pair_part u) (differ_one name (is_carried_with sc m ps head u.name) u h1)
+      (differ_both name (adjoint_part u) (pair_part u) (differ_one name (has_adjoint m ps head u.name) (made u) (ap (λ z. name_eq z name) (made_name u) ∙ h2)) (differ_two name (has_pair m ps head u.name) (forth_of u) (back_of u) h3 h4))
+
+  append_three : (a b c rest : List Procedure) → (a ++ (b ++ c)) ++ rest ≡ a ++ (b ++ (c ++ rest))
+  append_three a b c rest = append_assoc a (b ++ c) rest ∙ ap (λ l. a ++ l) (append_assoc b c rest)
 
   -- a carried unit is found as it was
-  carried_in : (us : List Procedure) (name : List ℕ) → is_carried_with sc m ps head name ≡ true → ((x : List ℕ) → is_unit us x ≡ true → name_eq (adj x) name ≡ false) → find_unit (emitted us) name ≡ find_unit us name
-  carried_in [] name c h = refl
-  carried_in (u ∷ us) name c h =
-      go (name_eq u.name name) refl (is_carried_with sc m ps head u.name) refl (carried_in us name c (λ x g. h x (or_right (name_eq u.name x) (is_unit us x) g)))
-    where
-      behind_adjoint : find_unit ((if has_adjoint m ps head u.name then made u ∷ [] else []) ++ emitted us) name ≡ find_unit (emitted us) name
-      behind_adjoint = skip_maybe (has_adjoint m ps head u.name) (made u) (emitted us) name (ap (λ z. name_eq z name) (made_name u) ∙ h u.name (or_left (name_eq u.name u.name) (is_unit us u.name) (name_refl u.name)))
-
-      go : (b : Bool) → name_eq u.name name ≡ b → (k : Bool) → is_carried_with sc m ps head u.name ≡ k → find_unit (emitted us) name ≡ find_unit us name →
-          find_unit ((if k then u ∷ [] else []) ++ ((if has_adjoint m ps head u.name then made u ∷ [] else []) ++ emitted us)) name ≡ (if b then Some u else find_unit us name)
-      go true e true k ih = take u ((if has_adjoint m ps head u.name then made u ∷ [] else []) ++ emitted us) name e
-      go true e false k ih = absurd (let p : true ≡ false = sym c ∙ ap (is_carried_with sc m ps head) (sym (name_same u.name name e)) ∙ k in cc)
-      go false e k d ih = skip_maybe k u ((if has_adjoint m ps head u.name then made u ∷ [] else []) ++ emitted us) name e ∙ behind_adjoint ∙ ih
-
   pub carried_found : (name : List ℕ) → is_carried_with sc m ps head name ≡ true → is_unit ps name ≡ true → find_unit (emitted ps) name ≡ find_unit ps name
-  carried_found name c h = carried_in ps name c (λ x g. name_comm name (adj x) (apart_source name x h g))
+  carried_found name c h =
+      stays emitted group refl (λ u us. refl) ps name first
+      (λ u g e. differ_group name u e (name_comm name (adj u.name) (apart_source name u.name h g)) (name_comm name (fwd u.name) (fwd_source name u.name h g)) (name_comm name (bwd u.name) (back_source name u.name h g)))
+    where
+      first : (u : Procedure) (rest : List Procedure) → name_eq u.name name ≡ true → find_unit (group u ++ rest) name ≡ Some u
+      first u rest e =
+          let k : is_carried_with sc m ps head u.name ≡ true = ap (is_carried_with sc m ps head) (name_same u.name name e) ∙ c in
+          ap (λ b. find_unit (((if b then u ∷ [] else []) ++ (adjoint_part u ++ pair_part u)) ++ rest) name) k ∙ take u ((adjoint_part u ++ pair_part u) ++ rest) name e
 
   -- the adjoint of a unit is found under its name
-  adjoint_in : (us : List Procedure) (u : Procedure) → find_unit us u.name ≡ Some u → has_adjoint m ps head u.name ≡ true → ((x : List ℕ) → is_unit us x ≡ true → name_eq x (adj u.name) ≡ false) → ((x : List ℕ) → is_unit us x ≡ true → name_eq x u.name ≡ false → name_eq (adj x) (adj u.name) ≡ false) →
-      find_unit (emitted us) (adj u.name) ≡ Some (made u)
-  adjoint_in [] u f a free apart = absurd cc
-  adjoint_in (v ∷ us) u f a free apart =
-      let self : is_unit (v ∷ us) v.name ≡ true = or_left (name_eq v.name v.name) (is_unit us v.name) (name_refl v.name) in
-      skip_maybe (is_carried_with sc m ps head v.name) v ((if has_adjoint m ps head v.name then made v ∷ [] else []) ++ emitted us) (adj u.name) (free v.name self)
-      ∙ go (name_eq v.name u.name) refl f (λ r. adjoint_in us u r a (λ x g. free x (or_right (name_eq v.name x) (is_unit us x) g)) (λ x g. apart x (or_right (name_eq v.name x) (is_unit us x) g))) (apart v.name self)
-    where
-      go : (b : Bool) → name_eq v.name u.name ≡ b → (if b then Some v else find_unit us u.name) ≡ Some u → (find_unit us u.name ≡ Some u → find_unit (emitted us) (adj u.name) ≡ Some (made u)) → (name_eq v.name u.name ≡ false → name_eq (adj v.name) (adj u.name) ≡ false) →
-          find_unit ((if has_adjoint m ps head v.name then made v ∷ [] else []) ++ emitted us) (adj u.name) ≡ Some (made u)
-      go true e f ih n =
-          let s : v ≡ u = cc in
-          ap (λ b. find_unit ((if b then made v ∷ [] else []) ++ emitted us) (adj u.name)) (ap (λ z. has_adjoint m ps head z.name) s ∙ a)
-          ∙ take (made v) (emitted us) (adj u.name) (ap (λ z. name_eq z (adj u.name)) (made_name v ∙ ap (λ z. adj z.name) s) ∙ name_refl (adj u.name))
-          ∙ ap (λ z. Some (made z)) s
-      go false e f ih n = skip_maybe (has_adjoint m ps head v.name) (made v) (emitted us) (adj u.name) (ap (λ z. name_eq z (adj u.name)) (made_name v) ∙ n e) ∙ ih f
-
   pub adjoint_found : (name : List ℕ) (u : Procedure) → find_unit ps name ≡ Some u → has_adjoint m ps head name ≡ true → find_unit (emitted ps) (adjoint_name ps u) ≡ Some (made u)
   adjoint_found name u f a =
       let t = found_there ps name u f in
       let there : is_unit ps u.name ≡ true = ap (is_unit ps) t.1 ∙ t.0 in
-      adjoint_in ps u (ap (find_unit ps) t.1 ∙ f) (ap (has_adjoint m ps head) t.1 ∙ a) (λ x g. apart_source x u.name g there) (λ x g n. adjoints_apart (source_names ps) ps x u.name g there n)
+      let own : find_unit ps u.name ≡ Some u = ap (find_unit ps) t.1 ∙ f in
+      let has : has_adjoint m ps head u.name ≡ true = ap (has_adjoint m ps head) t.1 ∙ a in
+      through emitted group refl (λ v us. refl) ps u (made u) (adj u.name) own
+      (λ v g n. differ_group (adj u.name) v (apart_source v.name u.name g there) (adjoints_apart (source_names ps) ps v.name u.name g there n) (name_comm (adj u.name) (fwd v.name) (adj_fwd u.name v.name there g)) (name_comm (adj u.name) (bwd v.name) (adj_bwd u.name v.name there g)))
+      (λ rest.
+      ap (λ l. find_unit l (adj u.name)) (append_three (plain_part u) (adjoint_part u) (pair_part u) rest)
+      ∙ skip_all (adj u.name) (plain_part u) (adjoint_part u ++ (pair_part u ++ rest)) (differ_one (adj u.name) (is_carried_with sc m ps head u.name) u (apart_source u.name u.name there there))
+      ∙ ap (λ b. find_unit ((if b then made u ∷ [] else []) ++ (pair_part u ++ rest)) (adj u.name)) has
+      ∙ take (made u) (pair_part u ++ rest) (adj u.name) (ap (λ z. name_eq z (adj u.name)) (made_name u) ∙ name_refl (adj u.name)))
+
+  -- and so are its forward and its backward unit
+  pub forth_found : (name : List ℕ) (u : Procedure) → find_unit ps name ≡ Some u → has_pair m ps head name ≡ true → find_unit (emitted ps) (forth_name ps u) ≡ Some (forth_of u)
+  forth_found name u f a =
+      let t = found_there ps name u f in
+      let there : is_unit ps u.name ≡ true = ap (is_unit ps) t.1 ∙ t.0 in
+      let own : find_unit ps u.name ≡ Some u = ap (find_unit ps) t.1 ∙ f in
+      let has : has_pair m ps head u.name ≡ true = ap (has_pair m ps head) t.1 ∙ a in
+      through emitted group refl (λ v us. refl) ps u (forth_of u) (fwd u.name) own
+      (λ v g n. differ_group (fwd u.name) v (fwd_source v.name u.name g there) (adj_fwd v.name u.name g there) (names_apart (codes "_FWD") (taken_forth ps) ps v.name u.name g there n) (name_comm (fwd u.name) (bwd v.name) (fwd_bwd u.name v.name there g)))
+      (λ rest.
+      ap (λ l. find_unit l (fwd u.name)) (append_three (plain_part u) (adjoint_part u) (pair_part u) rest)
+      ∙ skip_all (fwd u.name) (plain_part u) (adjoint_part u ++ (pair_part u ++ rest)) (differ_one (fwd u.name) (is_carried_with sc m ps head u.name) u (fwd_source u.name u.name there there))
+      ∙ skip_all (fwd u.name) (adjoint_part u) (pair_part u ++ rest) (differ_one (fwd u.name) (has_adjoint m ps head u.name) (made u) (ap (λ z. name_eq z (fwd u.name)) (made_name u) ∙ adj_fwd u.name u.name there there))
+      ∙ ap (λ b. find_unit ((if b then forth_of u ∷ back_of u ∷ [] else []) ++ rest) (fwd u.name)) has
+      ∙ take (forth_of u) (back_of u ∷ rest) (fwd u.name) (name_refl (fwd u.name)))
+
+  pub back_found : (name : List ℕ) (u : Procedure) → find_unit ps name ≡ Some u → has_pair m ps head name ≡ true → find_unit (emitted ps) (back_name ps u) ≡ Some (back_of u)
+  back_found name u f a =
+      let t = found_there ps name u f in
+      let there : is_unit ps u.name ≡ true = ap (is_unit ps) t.1 ∙ t.0 in
+      let own : find_unit ps u.name ≡ Some u = ap (find_unit ps) t.1 ∙ f in
+      let has : has_pair m ps head u.name ≡ true = ap (has_pair m ps head) t.1 ∙ a in
+      through emitted group refl (λ v us. refl) ps u (back_of u) (bwd u.name) own
+      (λ v g n. differ_group (bwd u.name) v (back_source v.name u.name g there) (adj_bwd v.name u.name g there) (fwd_bwd v.name u.name g there) (names_apart (codes "_BWD") (taken_back ps) ps v.name u.name g there n))
+      (λ rest.
+      ap (λ l. find_unit l (bwd u.name)) (append_three (plain_part u) (adjoint_part u) (pair_part u) rest)
+      ∙ skip_all (bwd u.name) (plain_part u) (adjoint_part u ++ (pair_part u ++ rest)) (differ_one (bwd u.name) (is_carried_with sc m ps head u.name) u (back_source u.name u.name there there))
+      ∙ skip_all (bwd u.name) (adjoint_part u) (pair_part u ++ rest) (differ_one (bwd u.name) (has_adjoint m ps head u.name) (made u) (ap (λ z. name_eq z (bwd u.name)) (made_name u) ∙ adj_bwd u.name u.name there there))
+      ∙ ap (λ b. find_unit ((if b then forth_of u ∷ back_of u ∷ [] else []) ++ rest) (bwd u.name)) has
+      ∙ skip (forth_of u) (back_of u ∷ rest) (bwd u.name) (fwd_bwd u.name u.name there there)
+      ∙ take (back_of u) rest (bwd u.name) (name_refl (bwd u.name)))
 
 -- ---- the calls in what is carried
 
@@ -195,11 +250,17 @@ turned_there ps (u ∷ us) k r f s name i h =
     (turned_there ps us k.1 r f s name (behind i u.body))
 
 module _ (sc : Bool) (m : ProgramMarks) (ps : List Procedure) (head : Procedure) (vars outvars : List Bool) (known : CallUnits ps ps) where
+  calls_there : (name : List ℕ) → kept_calls m ps head name ≡ true → is_unit ps name ≡ true
+  calls_there name h =
+      either (calls_some (has_adjoint m ps head) (λ i. m.kept i && not (m.split i)) name 0 ps) (calls_some (has_pair m ps head) (λ i. not (m.split i)) name 0 ps) (is_unit ps name) h
+      (some_there ps ps known (has_adjoint m ps head) (λ i. m.kept i && not (m.split i)) name 0) (some_there ps ps known (has_pair m ps head) (λ i. not (m.split i)) name 0)
+
   kept_there : (b : Bool) (name : List ℕ) → is_kept_with b m ps head name ≡ true → is_unit ps name ≡ true
-  kept_there false name h = some_there ps ps known (has_adjoint m ps head) m.kept name 0 h
+  kept_there false name h = calls_there name h
   kept_there true name h =
-      either (calls_some (has_adjoint m ps head) m.kept name 0 ps) (turns_some (schedules_in true ps) (has_adjoint m ps head) m.adjointed name 0 ps) (is_unit ps name) h
-      (some_there ps ps known (has_adjoint m ps head) m.kept name 0) (turned_there ps ps known (schedules_in true ps) (has_adjoint m ps head) m.adjointed name 0)
+      let f : List ℕ → Bool = λ n. has_adjoint m ps head n || has_pair m ps head n in
+      either (kept_calls m ps head name) (turns_some (schedules_in true ps) f m.adjointed name 0 ps) (is_unit ps name) h
+      (calls_there name) (turned_there ps ps known (schedules_in true ps) f m.adjointed name 0)
 
   there_after : (k : ℕ) (name : List ℕ) → reached_after (is_kept_with sc m ps head) (λ i. true) ps k name ≡ true → is_unit ps name ≡ true
   there_after zero name h = absurd cc
@@ -220,8 +281,8 @@ module _ (sc : Bool) (m : ProgramMarks) (ps : List Procedure) (head : Procedure)
 
   -- a unit whose adjoint is called has one
   pub answers_there : (name : List ℕ) → answers m ps head name ≡ true → has_adjoint m ps head name ≡ true
-  answers_there name h = reached_last (name_eq head.name) m.adjointed ps name (some_there ps ps known (has_adjoint m ps head) m.adjointed name 0 h) (or_right (name_eq head.name name) (answers m ps head name) h)
+  answers_there name h = or_right (name_eq head.name name) (answers m ps head name) h
 
   -- and so has the head
   pub head_there : is_unit ps head.name ≡ true → has_adjoint m ps head head.name ≡ true
-  head_there there = reached_last (name_eq head.name) m.adjointed ps head.name there (or_left (name_eq head.name head.name) (calls_some (has_adjoint m ps head) m.adjointed head.name 0 ps) (name_refl head.name))
+  head_there there = or_left (name_eq head.name head.name) (answers m ps head head.name) (name_refl head.name)

@@ -1,5 +1,5 @@
 -- A reversal as a whole: what it does to the store and the tape, and what it tells.
-use Rattle.std.proofs.Common.{◌≡◌, ◌<◌, ◌^◌, ℕ, suc, true, false, List, ◌∷◌, length, refl, ap, ◌∙◌, arith}
+use Rattle.std.proofs.Common.{◌≡◌, ◌<◌, ◌≤◌, ◌^◌, ℕ, suc, true, false, List, ◌∷◌, length, refl, sym, ap, ◌∙◌, subst, arith}
 use Rattle.std.specs.Prelude.{ℤ, pos, nat_le, Ok}
 use Rattle.adj_tree.specs.Code.{Var, plain, helper, first, stride, count, entry, entries, name_eq, var, Mark, unmarked, loop, runtime, begin_reversal, count_actions, end_reversal, Code, stop}
 use Rattle.adj_tree.proofs.Names.{nat_refl}
@@ -9,6 +9,9 @@ use Rattle.adj_word.proofs.Residues.{wrap_word}
 use Rattle.adj_word.proofs.Counting.{word-count, trips_through}
 use Rattle.adj_revolve.specs.declared.machine.Action.{Action}
 use Rattle.adj_revolve.specs.Schedule.{schedule_of}
+use Rattle.adj_revolve.specs.Machine.{total_cost}
+use Rattle.adj_revolve.proofs.PlayLemmas.{plays_least}
+use Rattle.adj_revolve.proofs.ScheduleLemmas.{schedule_cost, schedule_plays}
 use Rattle.adj_meaning.specs.Append.{one}
 use Rattle.adj_meaning.specs.Event.{Begin, End}
 use Rattle.adj_meaning.specs.Store.{Shape, Store, set}
@@ -87,7 +90,7 @@ module _ (q : Calls ℤ) (sh : Var → Shape) (level : ℕ) (cells : List Key) (
             (leads_act q nw line (loop (helper entry d) (literal 1) (var (helper entries d)) (literal 1) (action q sh level cells d line x l m mark a0 c0 unit adj Kind words keep back plain_call adjoint Standing Loose Snap change loops) unmarked) (one line (runtime end_reversal)) (scene b1 f1 t) (scene looped.later p.after t) (scene b2 p.after t) looped.runs
             (leads_step q nw line (runtime end_reversal) stop (scene looped.later p.after t) (scene b2 p.after t) (scene b2 p.after t) (λ k. rw looped.tells.opened refl) (leads_stop q nw (scene b2 p.after t)))));
         tells = tells_reversal level l m (length t) base looped.later p.calls p.rs looped.tells;
-        reverses = record { steps = refl; snapshots = refl; ended = refl; advances = p.advances_are; adjoints = p.turns_are; within = between_within step words (length t) m p.calls p.within };
+        reverses = record { steps = refl; snapshots = refl; ended = refl; fewest = λ actions plays. subst (λ n. n ≤ total_cost actions) (sym p.advances_are) (plays_least l m actions slot plays); attained = (schedule_of 0 l m, (schedule_plays l m slot, schedule_cost 0 l m slot ∙ sym p.advances_are)); advances = p.advances_are; adjoints = p.turns_are; within = between_within step words (length t) m p.calls p.within };
         begins = refl;
         reversed = p.reversed;
         loose = p.ends;

@@ -1,5 +1,8 @@
 -- What the definitions say of the events of small runs, written out.
 use Rattle.std.proofs.Common.{◌≡◌, ◌⊎◌, inl, inr, ◌≤◌, ◌+◌, ◌*◌, ℕ, true, false, List, [], ◌∷◌, refl, arith}
+use Rattle.adj_revolve.specs.Schedule.{schedule_of}
+use Rattle.adj_revolve.proofs.PlayLemmas.{plays_least}
+use Rattle.adj_revolve.proofs.ScheduleLemmas.{schedule_cost, schedule_plays}
 use Rattle.adj_revolve.specs.LeastCost.{least_cost, greatest_up_to}
 use Rattle.adj_revolve.specs.Binomial.{choose}
 use Rattle.adj_meaning.specs.Event.{Event, Enter, Begin, End}
@@ -55,6 +58,8 @@ right = record {
   steps = refl;
   snapshots = refl;
   ended = refl;
+  fewest = λ actions plays. plays_least 2 1 actions (omega arith) plays;
+  attained = (schedule_of 0 2 1, (schedule_plays 2 1 (omega arith), schedule_cost 0 2 1 (omega arith)));
   advances = refl;
   adjoints = refl;
   within = ((omega arith, inl (refl, omega arith)), ((omega arith, inr (refl, omega arith)), ((omega arith, inr (refl, omega arith)), tt)));

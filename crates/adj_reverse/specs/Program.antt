@@ -1,15 +1,18 @@
 -- The program that is emitted for a kernel and its head, by marks. (docs/EMITTED.md)
 use Rattle.std.specs.Prelude.{ℕ, zero, suc, List, [], ◌∷◌, ◌++◌, map, length, max, Bool, true, false, ◌&&◌, ◌||◌, not, ◌==◌, Some, None, if◌then◌else◌}
 use Rattle.adj_tree.specs.Code.{Role, Var, shadow, helper, work, temp, control, first, stride, count, turn, entry, entries, kind, lower, upper, slots, name_eq, Act, assign, choose, loop, during, call, runtime, Code, stop, step, Procedure}
-use Rattle.adj_meaning.specs.Written.{find_unit}
+use Rattle.adj_meaning.specs.Written.{find_unit, is_written}
 use Rattle.adj_meaning.specs.Rename.{rename}
-use Rattle.adj_transpose.specs.Naming.{Named, unit_names, naming}
-use Rattle.adj_transpose.specs.Marks.{Marks, next, behind, active_at}
+use Rattle.adj_transpose.specs.Naming.{Derived, adjoint_text, Named, unit_names_for, unit_names, naming}
+use Rattle.adj_reverse.specs.Laws.{nothing}
+use Rattle.adj_reverse.specs.SplitMarks.{split_marks}
+use Rattle.adj_reverse.specs.SplitRows.{left_of, forth_body, back_body}
+use Rattle.adj_transpose.specs.Marks.{Vars, Marks, next, behind, active_at}
 use Rattle.adj_transpose.specs.Marked.{names_in}
 use Rattle.adj_names.specs.Variables.{variables}
 use Rattle.adj_transpose.specs.Program.{unit_name, helpers_from, unmarked, declared_helpers, unit_at}
 use Rattle.adj_reverse.specs.AdjointOf.{works_in_where, temps_in_where}
-use Rattle.adj_reverse.specs.Names.{adjoint_name}
+use Rattle.adj_reverse.specs.Names.{adjoint_name, forth_name, back_name}
 use Rattle.adj_transpose.specs.MarkedProgram.{shadows_behind, declared_behind}
 use Rattle.adj_reverse.specs.Plan.{Plan, found_or, Schedules, schedules_from, Step, is_from_variable, reversed_by}
 use Rattle.adj_reverse.specs.Emission.{is_empty, backward_with, adjoint_body_with}
@@ -219,6 +222,52 @@ adjoint_unit_with b m ps units u at_turn at_end =
 abbrev pub adjoint_unit : ProgramMarks → List Procedure → List (List ℕ) → Procedure → List (List ℕ) → List (List ℕ) → Procedure
 adjoint_unit m ps units u at_turn at_end = adjoint_unit_with false m ps units u at_turn at_end
 
+-- ---- the forward and the backward unit
+
+-- the plan by which they are written: each statement is kept, and each variable saved
+abbrev pub split_plan : ProgramMarks → List Procedure → Procedure → Plan
+split_plan m ps u = let p = plan_in m ps u in record { marks = split_marks p.marks; arrays = p.arrays; callees = p.callees }
+
+-- what the forward unit leaves on the tape at its end
+abbrev pub left_by : List Procedure → Procedure → List (List ℕ)
+left_by ps u = left_of (dummy_set (is_written ps u)) u.dummies (variables u)
+
+-- the helpers that a forward sweep uses
+abbrev pub forth_slots : Schedules → Plan → ℕ → Code → List Var
+forth_slots None p i c = []
+forth_slots (Some reads) p i c = reversal_helpers (Some reads) has_slots slots p i c
+
+abbrev pub helpers_forth : Schedules → Plan → ℕ → Code → List Var
+helpers_forth r p i c = loop_helpers_with r is_loop count p i c ++ (loop_helpers_with r is_do first p i c ++ (loop_helpers_with r is_do stride p i c ++ forth_slots r p i c))
+
+-- a unit that is made from u, where the variables in a set have shadows, with these helpers and this code
+abbrev pub made_unit_for : Derived → List ℕ → Vars → List (List ℕ) → Procedure → List Var → Code → Procedure
+made_unit_for o name a units u helpers code =
+    let ns = unit_names_for o (variables u) units (map shadow (names_in a (variables u)) ++ helpers) in
+    record {
+      line = u.line;
+      name = name;
+      dummies = shadows_behind a ns u.dummies;
+      is_none = false;
+      declarations = declared_behind a ns u (variables u) ++ declared_helpers ns u.line helpers;
+      body = rename (naming ns) code;
+    }
+
+abbrev pub made_unit : List ℕ → Vars → List (List ℕ) → Procedure → List Var → Code → Procedure
+made_unit name a units u helpers code = made_unit_for adjoint_text name a units u helpers code
+
+abbrev pub forth_unit : Bool → ProgramMarks → List Procedure → List (List ℕ) → Procedure → Procedure
+forth_unit b m ps units u =
+    let p = split_plan m ps u in
+    let i = first_statement ps u.name in
+    made_unit (forth_name ps u) nothing units u (helpers_forth (schedules_in b ps) p i u.body) (forth_body (schedules_in b ps) p i u.line (left_by ps u) u.body)
+
+abbrev pub back_unit : Bool → ProgramMarks → List Procedure → List (List ℕ) → Procedure → Procedure
+back_unit b m ps units u =
+    let p = split_plan m ps u in
+    let i = first_statement ps u.name in
+    made_unit (back_name ps u) (m.shadowed u.name) units u (helpers_used_with (schedules_in b ps) p i u.body) (back_body (schedules_in b ps) p i u.line (left_by ps u) u.body)
+
 -- ---- which units are emitted
 
 -- whether a list calls the unit of a name in a statement whose number is in a set
@@ -249,9 +298,21 @@ reached_after roots f ps (suc k) name = roots name || calls_some (reached_after 
 abbrev pub is_reached : (List ℕ → Bool) → (ℕ → Bool) → List Procedure → List ℕ → Bool
 is_reached roots f ps name = reached_after roots f ps (length ps) name
 
--- the units whose adjoint is emitted: the head, and those that an adjointed call of one of them names
+-- the units that take part: the head, and those that an adjointed call of one of them names
+abbrev pub takes_part : ProgramMarks → List Procedure → Procedure → List ℕ → Bool
+takes_part m ps head name = is_reached (name_eq head.name) m.adjointed ps name
+
+-- the units whose adjoint is called: an adjointed call that isn't split names them
+abbrev pub answers : ProgramMarks → List Procedure → Procedure → List ℕ → Bool
+answers m ps head name = calls_some (takes_part m ps head) (λ i. m.adjointed i && not (m.split i)) name 0 ps
+
+-- those whose adjoint is emitted: these, and the head
 abbrev pub has_adjoint : ProgramMarks → List Procedure → Procedure → List ℕ → Bool
-has_adjoint m ps head name = is_reached (name_eq head.name) m.adjointed ps name
+has_adjoint m ps head name = name_eq head.name name || answers m ps head name
+
+-- those that have a forward and a backward unit: a split call names them
+abbrev pub has_pair : ProgramMarks → List Procedure → Procedure → List ℕ → Bool
+has_pair m ps head name = calls_some (takes_part m ps head) (λ i. m.adjointed i && m.split i) name 0 ps
 
 -- whether a list has a loop that is reversed by a schedule and whose turns call the unit of a name
 abbrev mutual
@@ -272,14 +333,14 @@ abbrev pub turns_some : Schedules → (List ℕ → Bool) → (ℕ → Bool) →
 turns_some r among adjointed name i [] = false
 turns_some r among adjointed name i (u ∷ us) = (among u.name && turns_in r adjointed name i u.body) || turns_some r among adjointed name (behind i u.body) us
 
--- the units whose adjoint is called
-abbrev pub answers : ProgramMarks → List Procedure → Procedure → List ℕ → Bool
-answers m ps head name = calls_some (has_adjoint m ps head) m.adjointed name 0 ps
+-- those that these units call as they are: an adjoint by a kept call, a forward unit by each call, but for split calls; or in the turns of a
+-- loop that is reversed by a schedule
+abbrev pub kept_calls : ProgramMarks → List Procedure → Procedure → List ℕ → Bool
+kept_calls m ps head name = calls_some (has_adjoint m ps head) (λ i. m.kept i && not (m.split i)) name 0 ps || calls_some (has_pair m ps head) (λ i. not (m.split i)) name 0 ps
 
--- those that an adjoint calls as they are: by a kept call, or in the turns of a loop that is reversed by a schedule
 abbrev pub is_kept_with : Bool → ProgramMarks → List Procedure → Procedure → List ℕ → Bool
-is_kept_with false m ps head name = calls_some (has_adjoint m ps head) m.kept name 0 ps
-is_kept_with true m ps head name = calls_some (has_adjoint m ps head) m.kept name 0 ps || turns_some (schedules_in true ps) (has_adjoint m ps head) m.adjointed name 0 ps
+is_kept_with false m ps head name = kept_calls m ps head name
+is_kept_with true m ps head name = kept_calls m ps head name || turns_some (schedules_in true ps) (λ n. has_adjoint m ps head n || has_pair m ps head n) m.adjointed name 0 ps
 
 abbrev pub is_kept : ProgramMarks → List Procedure → Procedure → List ℕ → Bool
 is_kept m ps head name = is_kept_with false m ps head name
@@ -294,7 +355,9 @@ is_carried m ps head name = is_carried_with false m ps head name
 -- the names of the adjoints that are emitted
 abbrev pub made_names : ProgramMarks → List Procedure → Procedure → List Procedure → List (List ℕ)
 made_names m ps head [] = []
-made_names m ps head (u ∷ us) = if has_adjoint m ps head u.name then adjoint_name ps u ∷ made_names m ps head us else made_names m ps head us
+made_names m ps head (u ∷ us) =
+    (if has_adjoint m ps head u.name then adjoint_name ps u ∷ [] else [])
+    ++ ((if has_pair m ps head u.name then forth_name ps u ∷ back_name ps u ∷ [] else []) ++ made_names m ps head us)
 
 -- the names of all units, of the source and made
 abbrev pub all_units : ProgramMarks → List Procedure → Procedure → List (List ℕ)
@@ -311,12 +374,16 @@ emitted_adjoint_with b m ps head vars outvars u =
 abbrev pub emitted_adjoint : ProgramMarks → List Procedure → Procedure → List Bool → List Bool → Procedure → Procedure
 emitted_adjoint m ps head vars outvars u = emitted_adjoint_with false m ps head vars outvars u
 
--- each unit as it is, where it is carried, and then its adjoint, where it has one
+-- what is emitted for a unit: it as it is, where it is carried, then its adjoint, where it has one, and its forward and backward unit
+abbrev pub emitted_group : Bool → ProgramMarks → List Procedure → Procedure → List Bool → List Bool → Procedure → List Procedure
+emitted_group b m ps head vars outvars u =
+    (if is_carried_with b m ps head u.name then u ∷ [] else [])
+    ++ ((if has_adjoint m ps head u.name then emitted_adjoint_with b m ps head vars outvars u ∷ [] else [])
+    ++ (if has_pair m ps head u.name then forth_unit b m ps (all_units m ps head) u ∷ back_unit b m ps (all_units m ps head) u ∷ [] else []))
+
 abbrev pub emitted_units_with : Bool → ProgramMarks → List Procedure → Procedure → List Bool → List Bool → List Procedure → List Procedure
 emitted_units_with b m ps head vars outvars [] = []
-emitted_units_with b m ps head vars outvars (u ∷ us) =
-    (if is_carried_with b m ps head u.name then u ∷ [] else [])
-    ++ ((if has_adjoint m ps head u.name then emitted_adjoint_with b m ps head vars outvars u ∷ [] else []) ++ emitted_units_with b m ps head vars outvars us)
+emitted_units_with b m ps head vars outvars (u ∷ us) = emitted_group b m ps head vars outvars u ++ emitted_units_with b m ps head vars outvars us
 
 abbrev pub emitted_units : ProgramMarks → List Procedure → Procedure → List Bool → List Bool → List Procedure → List Procedure
 emitted_units m ps head vars outvars us = emitted_units_with false m ps head vars outvars us

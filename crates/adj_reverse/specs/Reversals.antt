@@ -2,6 +2,8 @@
 use Rattle.std.specs.Prelude.{◌≡◌, ◌≤◌, ◌<◌, ◌⊎◌, ℕ, zero, suc, ◌+◌, ◌*◌, ◌==◌, ◌&&◌, List, [], ◌∷◌, ◌++◌, reverse, Bool, true, false, Option, Some, None, if◌then◌else◌}
 use Rattle.adj_tree.specs.Code.{name_eq}
 use Rattle.adj_revolve.specs.LeastCost.{least_cost}
+use Rattle.adj_revolve.specs.Machine.{Plays, total_cost}
+use Rattle.adj_revolve.specs.declared.machine.Action.{Action}
 use Rattle.adj_meaning.specs.Store.{Shape, size_of}
 use Rattle.adj_meaning.specs.Event.{Event, Enter, Begin, End, Marked}
 use Rattle.adj_transpose.specs.Lists.{Course}
@@ -111,12 +113,15 @@ abbrev pub AreWithin : StepUnits → ℕ → ℕ → List Called → Type 0
 AreWithin step start snapshots [] = Unit {0}
 AreWithin step start snapshots (c ∷ cs) = IsWithin step start snapshots c × AreWithin step start snapshots cs
 
--- the reversal turns the run's steps with the run's snapshots, by as few calls of the step unit as any schedule, and one call of its
--- adjoint for each step; it calls nothing else, and holds no more snapshots on the tape than it has
+-- The reversal turns the run's steps with the run's snapshots, by as few calls of the step unit as any list of actions that does so on a machine with
+-- as many slots for snapshots, and by one call of its adjoint for each step. It calls nothing else, and holds no more snapshots on the tape than that.
 pub record Reverses (run : LoopRun) (r : Reversal) : Type 0 where
   pub steps : r.steps ≡ run.mark.turns
   pub snapshots : r.snapshots ≡ run.mark.snapshots
   pub ended : r.ended ≡ true
+  -- no list of actions that turns these steps with these snapshots calls the step unit less often; one calls it as often; and their number has a closed form
+  pub fewest : (actions : List Action) → Plays r.steps r.snapshots actions → times run.step.unit r.calls ≤ total_cost actions
+  pub attained : (actions : List Action) × (Plays r.steps r.snapshots actions × (total_cost actions ≡ times run.step.unit r.calls))
   pub advances : times run.step.unit r.calls ≡ least_cost r.steps r.snapshots
   pub adjoints : times run.step.adjoint r.calls ≡ r.steps
   pub within : AreWithin run.step r.start r.snapshots r.calls
