@@ -1,10 +1,13 @@
 -- What is emitted by the marks of exact analyses for a checked program in kernel form is its adjoint.
-use Rattle.std.proofs.Common.{◌≡◌, ℕ, List, [], ◌∷◌, Bool, true, false, sym, ap, ◌∙◌, subst}
-use Rattle.std.specs.Prelude.{Contains, IsTrue, Some, None, length}
-use Rattle.adj_tree.specs.Code.{plain, name_eq, Procedure}
+use Rattle.std.proofs.Common.{◌≡◌, ℕ, List, [], ◌∷◌, Bool, true, false, map, sym, ap, ◌∙◌, subst}
+use Rattle.std.specs.Prelude.{Contains, IsTrue, Option, Some, None, length}
+use Rattle.adj_tree.specs.Code.{plain, name_eq, none, Act, assign, choose, loop, during, call, runtime, Code, stop, step, Procedure}
 use Rattle.adj_tree.proofs.Names.{name_refl}
 use Rattle.adj_meaning.specs.Written.{find_unit}
-use Rattle.adj_meaning.specs.Read.{is_extent}
+use Rattle.adj_meaning.specs.Read.{is_extent, is_read, read_rule, looked_at}
+use Rattle.adj_meaning.specs.Common.{CallsInside', CallsInside}
+use Rattle.adj_meaning.proofs.LeastSets.{least_row}
+use Rattle.adj_meaning.proofs.ReadSets.{read_rises}
 use Rattle.adj_names.specs.Fault.{Rules}
 use Rattle.adj_names.specs.Statements.{statements}
 use Rattle.adj_kernel.specs.Kernel.{EachUnit}
@@ -14,8 +17,9 @@ use Rattle.adj_transpose.specs.Program.{unit_at}
 use Rattle.adj_transpose.specs.MarkedAdjoint.{SuitHead}
 use Rattle.adj_reverse.specs.Laws.{CalleeFacts, UnitLawsBy}
 use Rattle.adj_reverse.specs.Theorem.{schedules_by}
-use Rattle.adj_reverse.specs.Marking.{ProgramFacts, callee_facts, facts_in, first_statement, entry_point, end_point}
+use Rattle.adj_reverse.specs.Marking.{ProgramFacts, callee_of, callee_facts, facts_in, dummy_set, read_by, place_from, first_statement, entry_point, end_point}
 use Rattle.adj_reverse.specs.Program.{is_reached}
+use Rattle.adj_reverse.specs.SplitMarks.{CallsRead', CallsRead}
 use Rattle.adj_reverse.proofs.Adjoint.{emitted_is_adjoint}
 use Rattle.adj_reverse.proofs.EmittedUnits.{found_there}
 use Rattle.adj_checked.specs.Checked.{IsChecked, AreLawfulForWith}
@@ -28,11 +32,12 @@ use Rattle.adj_facts.specs.Parts.{Part, parts, statements_in, find_part}
 use Rattle.adj_facts.specs.Problem.{Problem, IsHead, TakesPart, flagged}
 use Rattle.adj_facts.specs.Flow as flow
 use Rattle.adj_facts.specs.Activity as activity
-use Rattle.adj_facts.specs.Live.{Liveness}
+use Rattle.adj_facts.specs.Live.{Liveness, wanted}
+use Rattle.adj_facts.proofs.Wanted.{wanted_read}
 use Rattle.adj_facts.specs.Laws.{Analysed}
 use Rattle.adj_facts.proofs.Heads.{flagged_has, head_part}
 use Rattle.adj_facts.proofs.Statements.{entries_are_closed}
-use Rattle.adj_analysed.specs.Meets.{program_facts, IsPlainCode, IsUnmarked, AnalysedFits, AnalysedIsAdjoint, AnalysedFitsReversed, AnalysedReverses}
+use Rattle.adj_analysed.specs.Meets.{program_facts, StepsUnsplit, IsPlainAct, IsPlainCode, IsUnmarked, AnalysedFits, AnalysedIsAdjoint, AnalysedFitsReversed, AnalysedReverses}
 use Rattle.adj_analysed.proofs.Numbers.{Placed, placed}
 use Rattle.adj_analysed.proofs.Meets.{some_same, has_contains, analysed_meets}
 use Rattle.adj_analysed.proofs.Checked.{plain_code, part_found}
@@ -40,9 +45,9 @@ use Rattle.adj_analysed.specs.MarkedLines.{reversed_lines}
 use Rattle.adj_analysed.proofs.MarkedLines.{lines_tell}
 use Rattle.adj_analysed.proofs.Reaching.{taking, reached_closed}
 
-module _ (rules : Rules) (k : Problem) (checked : IsChecked rules k.units) (sb : Bool) (free : sb ≡ false → EachUnit (λ u. IsUnmarked u.body) k.units) (a : activity.Activity) (l : Liveness) (saved held : ℕ → Vars) (y : Analysed k a l saved held) where
+module _ (rules : Rules) (k : Problem) (checked : IsChecked rules k.units) (sb : Bool) (free : sb ≡ false → EachUnit (λ u. IsUnmarked u.body) k.units) (a : activity.Activity) (l : Liveness) (saved held : ℕ → Vars) (y : Analysed k a l saved held) (steps : StepsUnsplit k) where
   abbrev w : ProgramFacts
-  w = program_facts k.units a l saved held
+  w = program_facts k.units k.split a l saved held
 
   abbrev gf : List ℕ → CalleeFacts
   gf = callee_facts w k.units
@@ -96,7 +101,7 @@ module _ (rules : Rules) (k : Problem) (checked : IsChecked rules k.units) (sb :
         let p = part_of name u f c in
         let same : p.part.unit.name ≡ name = ap (λ z. z.name) p.unit ∙ (found_there k.units name u f).1 in
         let laws : UnitLawsBy (schedules_by sb gf) gf (gf p.part.unit.name) (first_statement k.units p.part.unit.name) p.part.unit.body =
-        analysed_meets sb k a l saved held y p.part p.takes (ap (find_part (parts k.units)) same ∙ p.finds) (subst (λ v. IsPlainCode sb k.units v.body) (sym p.unit) (plain_unit name u f)) in
+        analysed_meets sb k a l saved held y steps p.part p.takes (ap (find_part (parts k.units)) same ∙ p.finds) (subst (λ v. IsPlainCode sb k.units v.body) (sym p.unit) (plain_unit name u f)) in
         subst (λ v. UnitLawsBy (schedules_by sb gf) gf (gf name) (first_statement k.units name) v.body) p.unit (subst (λ n. UnitLawsBy (schedules_by sb gf) gf (gf n) (first_statement k.units n) p.part.unit.body) same laws)
 
     unit_extents : (name : List ℕ) (u : Procedure) → find_unit k.units name ≡ Some u → IsTrue (reached name) → (d : List ℕ) → is_extent d u.declarations ≡ true → In (plain d) (w.marks.members name)
@@ -107,6 +112,44 @@ module _ (rules : Rules) (k : Problem) (checked : IsChecked rules k.units) (sb :
         let among : Contains p.part.unit.dummies d = subst (λ v. Contains v.dummies d) (sym p.unit) (has_contains d u.dummies (extent_is_dummy rules k.units checked name u f d h)) in
         subst (λ n. l.wanted n d ≡ true) there.number (o.extents d among (subst (λ v. is_extent d v.declarations ≡ true) (sym p.unit) h))
 
+    -- what the adjoint of a unit needs at its entry the unit reads
+    wants_read : (name : List ℕ) (v : Procedure) → find_unit k.units name ≡ Some v → IsTrue (reached name) → (d : List ℕ) → l.wanted (place_from 0 k.units name) d ≡ true → is_read k.units v d ≡ true
+    wants_read name v f c d h =
+        let p = part_of name v f c in
+        let there = p.there in
+        let live = y.live in
+        subst (λ z. is_read k.units z d ≡ true) p.unit (wanted_read k a p.part d p.takes ((live.exact (wanted p.part.number d)).0 (subst (λ n. l.wanted n d ≡ true) (sym there.number) h)))
+
+    -- what a call reads of its unit, and what the unit's adjoint needs of it
+    call_reads : (name : List ℕ) (v : Procedure) → find_unit k.units name ≡ Some v → IsTrue (reached name) → CallsRead' gf (looked_at k.units) (call name none)
+    call_reads name v f c = (
+      least_row read_rule read_rises k.units name v f ∙ sym (known_reads (find_unit k.units name) f),
+      λ d h. read_there d (find_unit k.units name) f (wants_read name v f c d (wanted_there d (find_unit k.units name) h)),
+    )
+      where
+        known_reads : (o : Option Procedure) → o ≡ Some v → map (λ d. dummy_set (read_by k.units o) (plain d)) (callee_of w.marks k.units name o).dummies ≡ map (is_read k.units v) v.dummies
+        known_reads o e = ap (λ z. map (λ d. dummy_set (read_by k.units z) (plain d)) (callee_of w.marks k.units name z).dummies) e
+
+        wanted_there : (d : List ℕ) (o : Option Procedure) → (callee_of w.marks k.units name o).members (plain d) ≡ true → l.wanted (place_from 0 k.units name) d ≡ true
+        wanted_there d None h = h
+        wanted_there d (Some u) h = h
+
+        read_there : (d : List ℕ) (o : Option Procedure) → o ≡ Some v → is_read k.units v d ≡ true → dummy_set (read_by k.units o) (plain d) ≡ true
+        read_there d o e h = subst (λ z. dummy_set (read_by k.units z) (plain d) ≡ true) (sym e) h
+
+    mutual
+      act_reads : (b : Act) → IsPlainAct sb k.units b → CallsInside' reached b → CallsRead' gf (looked_at k.units) b
+      act_reads (assign x subs e) n c = tt
+      act_reads (choose t a b) n c = (calls_read a n.0 c.0, calls_read b n.1 c.1)
+      act_reads (loop x first last by body m) n c = calls_read body n.1 c
+      act_reads (during t body) n c = calls_read body n c
+      act_reads (call name args) n c = call_reads name n.unit n.found c
+      act_reads (runtime r) n c = tt
+
+      calls_read : (b : Code) → IsPlainCode sb k.units b → CallsInside reached b → CallsRead gf (looked_at k.units) b
+      calls_read stop n c = tt
+      calls_read (step line b rest) n c = (act_reads b n.0 c.0, calls_read rest n.1 c.1)
+
     lawful : AreLawfulForWith sb w k.units top
     lawful = record {
       reached = reached;
@@ -114,6 +157,7 @@ module _ (rules : Rules) (k : Problem) (checked : IsChecked rules k.units) (sb :
       closed = λ name v f c. reached_closed (name_eq head.part.unit.name) k.units (calls_known k.units k.units (all_calls rules k.units checked)) name v f c;
       laws = unit_laws;
       extents = unit_extents;
+      reads = λ name u f c p. calls_read u.body (plain_unit name u f) (reached_closed (name_eq head.part.unit.name) k.units (calls_known k.units k.units (all_calls rules k.units checked)) name u f c);
     }
       where
         there_is : find_unit k.units top.name ≡ Some top
@@ -143,21 +187,21 @@ none_unmarked : (us : List Procedure) → true ≡ false → EachUnit (λ u. IsU
 none_unmarked us e = absurd cc
 
 pub analysed_fits : AnalysedFits
-analysed_fits rules k checked free a l saved held y u at =
-    let w = program_facts k.units a l saved held in
-    source_fits rules k.units checked false (λ line. None) w u (lawful rules k checked false (λ e. free) a l saved held y u at) (no_lines w k.units) k.head at
+analysed_fits rules k checked free a l saved held y steps u at =
+    let w = program_facts k.units k.split a l saved held in
+    source_fits rules k.units checked false (λ line. None) w u (lawful rules k checked false (λ e. free) a l saved held y steps u at) (no_lines w k.units) k.head at
 
 pub analysed_fits_reversed : AnalysedFitsReversed
-analysed_fits_reversed rules k checked apart a l saved held y u at =
-    let w = program_facts k.units a l saved held in
-    source_fits rules k.units checked true (reversed_lines w k.units) w u (lawful rules k checked true (none_unmarked k.units) a l saved held y u at) (lines_tell w k.units apart) k.head at
+analysed_fits_reversed rules k checked apart a l saved held y steps u at =
+    let w = program_facts k.units k.split a l saved held in
+    source_fits rules k.units checked true (reversed_lines w k.units) w u (lawful rules k checked true (none_unmarked k.units) a l saved held y steps u at) (lines_tell w k.units apart) k.head at
 
 pub analysed_is_adjoint : AnalysedIsAdjoint
-analysed_is_adjoint rules k checked free a l saved held y u at =
-    let w = program_facts k.units a l saved held in
-    emitted_is_adjoint false (λ line. None) w k.units k.head k.vars k.outvars u at (analysed_fits rules k checked free a l saved held y u at) (suits rules k checked false (λ e. free) a l saved held y u at)
+analysed_is_adjoint rules k checked free a l saved held y steps u at =
+    let w = program_facts k.units k.split a l saved held in
+    emitted_is_adjoint false (λ line. None) w k.units k.head k.vars k.outvars u at (analysed_fits rules k checked free a l saved held y steps u at) (suits rules k checked false (λ e. free) a l saved held y steps u at)
 
 pub analysed_reverses : AnalysedReverses
-analysed_reverses rules k checked apart a l saved held y u at =
-    let w = program_facts k.units a l saved held in
-    emitted_is_adjoint true (reversed_lines w k.units) w k.units k.head k.vars k.outvars u at (analysed_fits_reversed rules k checked apart a l saved held y u at) (suits rules k checked true (none_unmarked k.units) a l saved held y u at)
+analysed_reverses rules k checked apart a l saved held y steps u at =
+    let w = program_facts k.units k.split a l saved held in
+    emitted_is_adjoint true (reversed_lines w k.units) w k.units k.head k.vars k.outvars u at (analysed_fits_reversed rules k checked apart a l saved held y steps u at) (suits rules k checked true (none_unmarked k.units) a l saved held y steps u at)

@@ -9,10 +9,10 @@ use Rattle.adj_meaning.proofs.WriteSets.{handed_written}
 use Rattle.adj_meaning.proofs.ReadSets.{read_rises}
 use Rattle.adj_transpose.specs.Marks.{Vars, point_before, point_after}
 use Rattle.adj_transpose.specs.Facts.{In, without, Facts}
-use Rattle.adj_transpose.proofs.Variables.{or_left, or_right, not_true}
+use Rattle.adj_transpose.proofs.Variables.{and_true, or_left, or_right, not_true}
 use Rattle.adj_reverse.specs.Plan.{IsActual, actuals_named}
 use Rattle.adj_reverse.specs.Kernel.{AsMany}
-use Rattle.adj_reverse.specs.Laws.{point_inside, CalleeFacts, PassingLaws, CallLaws, is_plain, among}
+use Rattle.adj_reverse.specs.Laws.{point_inside, CalleeFacts, PassingLaws, SplitLaws, CallLaws, CallLawsBy, is_plain, among}
 use Rattle.adj_reverse.specs.Marking.{ProgramFacts, facts_in, marks_in, callee_of, callee_facts, dummy_set, read_by, plain_by, place_from, first_statement, entry_point, end_point}
 use Rattle.adj_facts.specs.Parts.{Part, parts, find_part}
 use Rattle.adj_facts.specs.Ways.{assigning, calling, way, is_actual, assigned_on, passed_on}
@@ -26,7 +26,7 @@ use Rattle.adj_facts.proofs.Members.{is_first}
 use Rattle.adj_facts.proofs.Placed.{way_of_statement}
 use Rattle.adj_facts.proofs.Sets.{left_in, left_out, left_make}
 use Rattle.adj_facts.proofs.Statements.{analysed_is_closed, statements_are_closed, calls_are_closed}
-use Rattle.adj_analysed.specs.Meets.{program_facts}
+use Rattle.adj_analysed.specs.Meets.{program_facts, StepsUnsplit}
 use Rattle.adj_analysed.proofs.Given.{bound_has, handed_named, read_named, passed_among, plain_list}
 use Rattle.adj_analysed.proofs.Lists.{values}
 use Rattle.adj_analysed.proofs.Numbers.{Placed}
@@ -43,12 +43,12 @@ turned_none outermost h v = refl
 turned_none (part_of i) h v = refl
 turned_none (turn_of i x) h v = absurd cc
 
-module _ (k : Problem) (a : Activity) (l : Liveness) (saved held : ℕ → Vars) (y : Analysed k a l saved held) (f : Part) (part : TakesPart k f) where
+module _ (k : Problem) (a : Activity) (l : Liveness) (saved held : ℕ → Vars) (y : Analysed k a l saved held) (steps : StepsUnsplit k) (f : Part) (part : TakesPart k f) where
   abbrev w : Facts
-  w = facts_of a l saved held f.number
+  w = facts_of k a l saved held f.number
 
   abbrev pub facts : ProgramFacts
-  facts = program_facts k.units a l saved held
+  facts = program_facts k.units k.split a l saved held
 
   pub unit : InUnit w f
   unit = analysed_is_closed k a l saved held y f part
@@ -124,9 +124,9 @@ module _ (k : Problem) (a : Activity) (l : Liveness) (saved held : ℕ → Vars)
           shadows_dummy = λ d x act h e. said.borrows d (plain x) (bound_has ds given d x act) e (subst (λ p. In (plain d) (a.varied p)) (sym there.entry) h);
         }
 
-    -- a call that does its work at itself
-    pub call_laws : (is_turn at ≡ true → a.adjointed i ≡ false) → CallLaws w i (known name (Some g.unit)) given
-    call_laws home =
+    -- a call that isn't split, and does its work at itself
+    call_laws : (is_turn at ≡ true → a.adjointed i ≡ false) → w.marks.split i ≡ false → CallLaws w i (known name (Some g.unit)) given
+    call_laws home unsplit =
         let p = passing_laws in
         let here = site_home at (a.adjointed i) home i in
         let ordinary = λ (h : a.adjointed i ≡ true). not_true (is_turn at) (λ e. let c : true ≡ false = sym h ∙ home e in cc) in
@@ -138,9 +138,9 @@ module _ (k : Problem) (a : Activity) (l : Liveness) (saved held : ℕ → Vars)
           needs_uses = p.needs_uses;
           keeps = λ d x act m h. said.keeps (plain x) (writes_it d x act m) (subst (λ n. In (plain x) (l.needed (point_after n))) (sym here) h);
           holds_reads = λ h d x act m n.
-              said.holds h d (plain x) (bound_has ds given d x act) (turned_none at (ordinary h) (plain x)) (or_left (l.wanted (place_from 0 k.units name) d) (is_turn at && is_read k.units g.unit d) m) n f part (way (point_before i) (point_after i) (calling (actuals_named given))) over (ap point_before (sym (here_adjointed h))) refl;
+              said.holds h d (plain x) (bound_has ds given d x act) (turned_none at (ordinary h) (plain x)) (or_left (l.wanted (place_from 0 k.units name) d) ((k.split i || is_turn at) && is_read k.units g.unit d) m) n f part (way (point_before i) (point_after i) (calling (actuals_named given))) over (ap point_before (sym (here_adjointed h))) refl;
           saves = λ h d x act m e.
-              subst (λ n. In (plain x) (saved n)) here (said.saves h (plain x) (writes_it d x act m) (subst (λ n. In (plain x) (held (point_before n))) (sym here) e));
+              subst (λ n. In (plain x) (saved n)) here (said.saves h unsplit (plain x) (writes_it d x act m) (subst (λ n. In (plain x) (held (point_before n))) (sym here) e));
           varies_in = p.varies_in;
           serves_in = p.serves_in;
           varies_out = p.varies_out;
@@ -149,6 +149,29 @@ module _ (k : Problem) (a : Activity) (l : Liveness) (saved held : ℕ → Vars)
           shadows_dummy = p.shadows_dummy;
           adjoints = plain_unit;
         }
+
+    -- a split call
+    split_laws : w.marks.split i ≡ true → SplitLaws w i (known name (Some g.unit)) given
+    split_laws e =
+        let b = and_true (k.split i) (a.adjointed i) e in
+        let ordinary : is_turn at ≡ false = not_true (is_turn at) (λ t. let c : true ≡ false = sym b.0 ∙ steps f part s own t in cc) in
+        let here = site_home at true (λ t. let c : true ≡ false = sym t ∙ ordinary in absurd cc) i in
+        record {
+          kept = said.splits e;
+          adjointed = b.1;
+          holds_reads = λ d x act m n.
+              said.holds b.1 d (plain x) (bound_has ds given d x act) (turned_none at ordinary (plain x))
+              (or_right (l.wanted (place_from 0 k.units name) d) ((k.split i || is_turn at) && is_read k.units g.unit d) (ap (λ z. (z || is_turn at) && is_read k.units g.unit d) b.0 ∙ m)) n f part (way (point_before i) (point_after i) (calling (actuals_named given))) over (ap point_before (sym here)) refl;
+          call = passing_laws;
+        }
+
+    -- by its mark
+    pub laws_by : (is_turn at ≡ true → a.adjointed i ≡ false) → CallLawsBy (w.marks.split i) w i (known name (Some g.unit)) given
+    laws_by home = go (w.marks.split i) refl
+      where
+        go : (b : Bool) → w.marks.split i ≡ b → CallLawsBy b w i (known name (Some g.unit)) given
+        go true e = split_laws e
+        go false e = call_laws home e
 
   -- the step call of the j-th statement, a marked loop with variable x that is reversed by a schedule
   module _ (j : ℕ) (x : List ℕ) (name : List ℕ) (given : List (List ℕ)) (own : Contains (statements_of f) (record { number = suc j; place = turn_of j (plain x); act = call name (actuals_named given) })) (g : Part) (finds : find_part (parts k.units) name ≡ Some g) (there : Placed k.units name g) (many : AsMany g.unit.dummies given) where
@@ -159,11 +182,15 @@ module _ (k : Problem) (a : Activity) (l : Liveness) (saved held : ℕ → Vars)
         let ds = g.unit.dummies in
         let here : site (a.adjointed (suc j)) (suc j) at ≡ j = ap (λ b. site b (suc j) at) adj in
         let o = said (suc j) at name given own g finds there many in
+        let free : k.split (suc j) ≡ false = steps f part s own refl in
+        let unsplit : w.marks.split (suc j) ≡ false = ap (λ b. b && a.adjointed (suc j)) free in
         record {
+          unsplit = unsplit;
           needs_members = λ d y act m n. o.members adj d (plain y) (bound_has ds given d y act) n (either_of (l.wanted (place_from 0 k.units name) d) (is_read k.units g.unit d) m);
-          holds_reads = λ d y act m v n. o.holds adj d (plain y) (bound_has ds given d y act) n m v f part (way (point_before j) (point_inside j) (assigning j (plain x))) enters refl (ap (λ b. l.kept j && b) n ∙ and_none (l.kept j));
+          holds_reads = λ d y act m v n.
+              o.holds adj d (plain y) (bound_has ds given d y act) n (subst (λ b. (l.wanted (place_from 0 k.units name) d || ((b || true) && is_read k.units g.unit d)) ≡ true) (sym free) m) v f part (way (point_before j) (point_inside j) (assigning j (plain x))) enters refl (ap (λ b. l.kept j && b) n ∙ and_none (l.kept j));
           saves = λ d y act m h.
-              subst (λ n. In (plain y) (saved n)) here (o.saves (or_right (l.kept (suc j)) (a.adjointed (suc j)) adj) (plain y) (writes_it (suc j) at name given own g finds there many d y act m) (subst (λ n. In (plain y) (held (point_before n))) (sym here) h));
+              subst (λ n. In (plain y) (saved n)) here (o.saves (or_right (l.kept (suc j)) (a.adjointed (suc j)) adj) unsplit (plain y) (writes_it (suc j) at name given own g finds there many d y act m) (subst (λ n. In (plain y) (held (point_before n))) (sym here) h));
           keeps = λ d y act m h. o.keeps (plain y) (writes_it (suc j) at name given own g finds there many d y act m) (subst (λ n. In (plain y) (l.needed (point_after n))) (sym here) h);
           call = passing_laws (suc j) at name given own g finds there many;
         }

@@ -7,7 +7,7 @@ use Rattle.adj_meaning.specs.Read.{reads_term, reads_mark}
 use Rattle.adj_transpose.specs.Marks.{next, behind, point_before, point_after}
 use Rattle.adj_transpose.specs.Facts.{In, without, vars_if, whole, Facts}
 use Rattle.adj_transpose.proofs.Variables.{and_true, not_true, or_right}
-use Rattle.adj_reverse.specs.Laws.{point_inside, nothing, just, ValueLaws, TangentLaws, WayLaws, AssignmentLaws, LoopLaws, IsIdle', IsIdle, last_point, CalleeFacts, CallLaws, StepLaws, ActLawsBy, ListLawsBy}
+use Rattle.adj_reverse.specs.Laws.{point_inside, nothing, just, ValueLaws, TangentLaws, WayLaws, AssignmentLaws, LoopLaws, IsIdle', IsIdle, last_point, CalleeFacts, CallLawsBy, StepLaws, ActLawsBy, ListLawsBy}
 use Rattle.adj_facts.specs.Parts.{Part}
 use Rattle.adj_facts.specs.Ways.{Deed, passing, assigning, Way, way, act_ways, ways, assigned_on, passed_on}
 use Rattle.adj_facts.specs.Standing.{Place, part_of, turn_of, body_of, Standing, held_in, standing}
@@ -171,7 +171,7 @@ module _ (units : List Procedure) (gf : List ℕ → CalleeFacts) (w : Facts) (g
 
   -- ---- every kind of statement, where calls meet theirs
 
-  module _ (sb : Bool) (calls : (i : ℕ) (at : Place) (name : List ℕ) (args : Terms) → (is_turn at ≡ true → w.marks.adjointed i ≡ false) → Own i at (call name args) → GivesNames units name args → (given : List (List ℕ)) × ((args ≡ actuals_named given) × CallLaws w i (gf name) given))
+  module _ (sb : Bool) (calls : (i : ℕ) (at : Place) (name : List ℕ) (args : Terms) → (is_turn at ≡ true → w.marks.adjointed i ≡ false) → Own i at (call name args) → GivesNames units name args → (given : List (List ℕ)) × ((args ≡ actuals_named given) × CallLawsBy (w.marks.split i) w i (gf name) given))
       (steps : (i : ℕ) (x name : List ℕ) (given : List (List ℕ)) → w.marks.adjointed (suc i) ≡ true → Own (suc i) (turn_of i (plain x)) (call name (actuals_named given)) → GivesNames units name (actuals_named given) → OwnWay (point_before i) (point_inside i) (assigning i (plain x)) → TurnLaws w i x (gf name) given) where
     abbrev sc : Schedules
     sc = schedules_by sb gf
@@ -237,6 +237,7 @@ module _ (units : List Procedure) (gf : List ℕ → CalleeFacts) (w : Facts) (g
                 record {
                   kept = kept;
                   adjointed = o.adjoints i refl e;
+                  unsplit = t.unsplit;
                   needs_uses = l.needs_uses kept;
                   needs_slots = λ v r. here.kept kept v (marks (reads_term v first) (reads_term v last) (reads_term v by) (reads_mark v m) r);
                   needs_members = t.needs_members;

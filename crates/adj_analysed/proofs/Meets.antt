@@ -8,7 +8,7 @@ use Rattle.adj_transpose.specs.Marks.{Vars, point_before}
 use Rattle.adj_transpose.specs.Fresh.{has_name}
 use Rattle.adj_transpose.specs.Facts.{Facts}
 use Rattle.adj_reverse.specs.Kernel.{AsMany}
-use Rattle.adj_reverse.specs.Laws.{point_inside, CalleeFacts, CallLaws, ListLawsBy, last_point, WayLaws, UnitLawsBy}
+use Rattle.adj_reverse.specs.Laws.{point_inside, CalleeFacts, CallLawsBy, ListLawsBy, last_point, WayLaws, UnitLawsBy}
 use Rattle.adj_reverse.specs.Plan.{actuals_named, names_of}
 use Rattle.adj_reverse.specs.Theorem.{schedules_by}
 use Rattle.adj_reverse.proofs.CallSweeps.{names_are}
@@ -17,14 +17,17 @@ use Rattle.adj_facts.specs.Parts.{Part, statements_in}
 use Rattle.adj_facts.specs.Ways.{passing, assigning, way}
 use Rattle.adj_facts.specs.Standing.{Place, outermost, turn_of}
 use Rattle.adj_facts.specs.Problem.{Problem, statements_of, ways_of, TakesPart}
-use Rattle.adj_facts.specs.Activity.{Activity}
+use Rattle.adj_facts.specs.Activity.{Activity, split_at}
 use Rattle.adj_facts.specs.Live.{Liveness}
 use Rattle.adj_facts.specs.Uses.{is_turn}
 use Rattle.adj_facts.specs.Laws.{facts_of, Analysed}
 use Rattle.adj_facts.proofs.Members.{is_first, is_later}
 use Rattle.adj_facts.proofs.OwnPoints as points
 use Rattle.adj_facts.proofs.Statements.{entries_are_closed}
-use Rattle.adj_analysed.specs.Meets.{program_facts, GivesNames, IsPlainCode, AnalysedMeets}
+use Rattle.adj_facts.proofs.Numbers.{part_is_there}
+use Rattle.adj_facts.proofs.Unsplit.{step_unsplit}
+use Rattle.adj_facts.specs.Splits.{split_calls}
+use Rattle.adj_analysed.specs.Meets.{program_facts, StepsUnsplit, MarkedCallsUnsplit, GivesNames, IsPlainCode, AnalysedMeets}
 use Rattle.adj_analysed.proofs.TurnLaws.{TurnLaws}
 use Rattle.adj_analysed.proofs.Lists.{ends, passes, list_meets}
 use Rattle.adj_analysed.proofs.Numbers.{Placed, placed, has_part}
@@ -41,13 +44,13 @@ has_contains d (x ∷ ds) h = go (name_eq d x) refl h (has_contains d ds)
     go true e h ih = is_first d x ds (sym (name_same d x e))
     go false e h ih = is_later d x ds (ih h)
 
-module _ (k : Problem) (a : Activity) (l : Liveness) (saved held : ℕ → Vars) (y : Analysed k a l saved held) where
+module _ (k : Problem) (a : Activity) (l : Liveness) (saved held : ℕ → Vars) (y : Analysed k a l saved held) (steps : StepsUnsplit k) where
   abbrev gf : List ℕ → CalleeFacts
-  gf = callee_facts (program_facts k.units a l saved held) k.units
+  gf = callee_facts (program_facts k.units k.split a l saved held) k.units
 
   -- ---- calls
 
-  call_meets : (f : Part) → TakesPart k f → (i : ℕ) (at : Place) (name : List ℕ) (args : Terms) → (is_turn at ≡ true → a.adjointed i ≡ false) → Contains (statements_of f) (record { number = i; place = at; act = call name args }) → GivesNames k.units name args → (given : List (List ℕ)) × ((args ≡ actuals_named given) × CallLaws (facts_of a l saved held f.number) i (gf name) given)
+  call_meets : (f : Part) → TakesPart k f → (i : ℕ) (at : Place) (name : List ℕ) (args : Terms) → (is_turn at ≡ true → a.adjointed i ≡ false) → Contains (statements_of f) (record { number = i; place = at; act = call name args }) → GivesNames k.units name args → (given : List (List ℕ)) × ((args ≡ actuals_named given) × CallLawsBy (split_at k a i) (facts_of k a l saved held f.number) i (gf name) given)
   call_meets f part i at name args home own n =
       let g = has_part (statements_in 0 k.units) 0 0 k.units name n.unit n.found in
       let there = placed k.units name g.0 g.1 in
@@ -55,33 +58,33 @@ module _ (k : Problem) (a : Activity) (l : Liveness) (saved held : ℕ → Vars)
         n.given,
         (
           n.named,
-          subst (λ o. CallLaws (facts_of a l saved held f.number) i (calls.known k a l saved held y f part name o) n.given) (sym there.found)
-              (calls.call_laws k a l saved held y f part i at name n.given (subst (λ es. Contains (statements_of f) (record { number = i; place = at; act = call name es })) n.named own) g.0 g.1 there (subst (λ u. AsMany u.dummies n.given) same n.many) home),
+          subst (λ o. CallLawsBy (split_at k a i) (facts_of k a l saved held f.number) i (calls.known k a l saved held y steps f part name o) n.given) (sym there.found)
+              (calls.laws_by k a l saved held y steps f part i at name n.given (subst (λ es. Contains (statements_of f) (record { number = i; place = at; act = call name es })) n.named own) g.0 g.1 there (subst (λ u. AsMany u.dummies n.given) same n.many) home),
         ),
       )
 
   -- the step call of a marked loop
-  turn_meets : (f : Part) → TakesPart k f → (i : ℕ) (x name : List ℕ) (given : List (List ℕ)) → a.adjointed (suc i) ≡ true → Contains (statements_of f) (record { number = suc i; place = turn_of i (plain x); act = call name (actuals_named given) }) → GivesNames k.units name (actuals_named given) → Contains (ways_of f) (way (point_before i) (point_inside i) (assigning i (plain x))) → TurnLaws (facts_of a l saved held f.number) i x (gf name) given
+  turn_meets : (f : Part) → TakesPart k f → (i : ℕ) (x name : List ℕ) (given : List (List ℕ)) → a.adjointed (suc i) ≡ true → Contains (statements_of f) (record { number = suc i; place = turn_of i (plain x); act = call name (actuals_named given) }) → GivesNames k.units name (actuals_named given) → Contains (ways_of f) (way (point_before i) (point_inside i) (assigning i (plain x))) → TurnLaws (facts_of k a l saved held f.number) i x (gf name) given
   turn_meets f part i x name given adj own n enters =
       let g = has_part (statements_in 0 k.units) 0 0 k.units name n.unit n.found in
       let there = placed k.units name g.0 g.1 in
       let same : n.unit ≡ g.0.unit = some_same n.unit g.0.unit (sym n.found ∙ there.found) in
       let one : n.given ≡ given = sym (names_are n.given) ∙ ap names_of (sym n.named) ∙ names_are given in
-      subst (λ o. TurnLaws (facts_of a l saved held f.number) i x (calls.known k a l saved held y f part name o) given) (sym there.found)
-      (calls.turn_laws k a l saved held y f part i x name given own g.0 g.1 there (subst (λ u. AsMany u.dummies given) same (subst (AsMany n.unit.dummies) one n.many)) adj enters)
+      subst (λ o. TurnLaws (facts_of k a l saved held f.number) i x (calls.known k a l saved held y steps f part name o) given) (sym there.found)
+      (calls.turn_laws k a l saved held y steps f part i x name given own g.0 g.1 there (subst (λ u. AsMany u.dummies given) same (subst (AsMany n.unit.dummies) one n.many)) adj enters)
 
   -- ---- a unit, by its own numbers
 
   module _ (sb : Bool) (g : Part) (part : TakesPart k g) (plainly : IsPlainCode sb k.units g.unit.body) where
     abbrev w : Facts
-    w = facts_of a l saved held g.number
+    w = facts_of k a l saved held g.number
 
     laws : ListLawsBy (schedules_by sb gf) gf w g.entry g.first g.unit.body
     laws =
-        list_meets k.units gf w g (calls.unit k a l saved held y g part) (calls.stated k a l saved held y g part) sb (call_meets g part) (turn_meets g part) g.first g.entry g.end passing outermost g.unit.body refl plainly (λ x c. c) (λ s c. c)
+        list_meets k.units gf w g (calls.unit k a l saved held y steps g part) (calls.stated k a l saved held y steps g part) sb (call_meets g part) (turn_meets g part) g.first g.entry g.end passing outermost g.unit.body refl plainly (λ x c. c) (λ s c. c)
 
     at_end : WayLaws w (last_point g.entry g.first g.unit.body) g.end
-    at_end = passes k.units gf w g (calls.unit k a l saved held y g part) (calls.stated k a l saved held y g part) (last_point g.entry g.first g.unit.body) g.end (ends g.first g.entry g.end passing g.unit.body)
+    at_end = passes k.units gf w g (calls.unit k a l saved held y steps g part) (calls.stated k a l saved held y steps g part) (last_point g.entry g.first g.unit.body) g.end (ends g.first g.entry g.end passing g.unit.body)
 
     -- the same by the numbers under its name
     module _ (there : Placed k.units g.unit.name g) where
@@ -89,17 +92,17 @@ module _ (k : Problem) (a : Activity) (l : Liveness) (saved held : ℕ → Vars)
       name = g.unit.name
 
       abbrev known : Facts
-      known = facts_of a l saved held (place_from 0 k.units name)
+      known = facts_of k a l saved held (place_from 0 k.units name)
 
       laws_named : ListLawsBy (schedules_by sb gf) gf known (entry_point k.units name) (first_statement k.units name) g.unit.body
-      laws_named = subst (λ n. ListLawsBy (schedules_by sb gf) gf known (entry_point k.units name) n g.unit.body) there.first (subst (λ p. ListLawsBy (schedules_by sb gf) gf known p g.first g.unit.body) there.entry (subst (λ n. ListLawsBy (schedules_by sb gf) gf (facts_of a l saved held n) g.entry g.first g.unit.body) there.number laws))
+      laws_named = subst (λ n. ListLawsBy (schedules_by sb gf) gf known (entry_point k.units name) n g.unit.body) there.first (subst (λ p. ListLawsBy (schedules_by sb gf) gf known p g.first g.unit.body) there.entry (subst (λ n. ListLawsBy (schedules_by sb gf) gf (facts_of k a l saved held n) g.entry g.first g.unit.body) there.number laws))
 
       end_named : WayLaws known (last_point (entry_point k.units name) (first_statement k.units name) g.unit.body) (end_point k.units name)
       end_named =
           subst (λ n. WayLaws known (last_point (entry_point k.units name) n g.unit.body) (end_point k.units name)) there.first
           (subst (λ p. WayLaws known (last_point p g.first g.unit.body) (end_point k.units name)) there.entry
           (subst (λ p. WayLaws known (last_point g.entry g.first g.unit.body) p) there.end
-          (subst (λ n. WayLaws (facts_of a l saved held n) (last_point g.entry g.first g.unit.body) g.end) there.number at_end)))
+          (subst (λ n. WayLaws (facts_of k a l saved held n) (last_point g.entry g.first g.unit.body) g.end) there.number at_end)))
 
       unit_meets : UnitLawsBy (schedules_by sb gf) gf (gf name) (first_statement k.units name) g.unit.body
       unit_meets = record {
@@ -107,7 +110,7 @@ module _ (k : Problem) (a : Activity) (l : Liveness) (saved held : ℕ → Vars)
         ends = end_named;
         shadows = λ v b c.
             let p = points.entry_point g in
-            let unit = calls.unit k a l saved held y g part in
+            let unit = calls.unit k a l saved held y steps g part in
             subst (λ n. a.shadowed n v ≡ true) there.number (unit.shadows g.entry g.entry v p p (subst (λ q. a.varied q v ≡ true) (sym there.entry) b) (subst (λ q. a.useful q v ≡ true) (sym there.entry) c));
         members = λ d h n.
             let o = entries_are_closed k a l saved held y g part in
@@ -115,12 +118,17 @@ module _ (k : Problem) (a : Activity) (l : Liveness) (saved held : ℕ → Vars)
             same_members d (find_unit k.units name) (subst (λ q. l.wanted q d ≡ true) there.number (o.enters d (has_contains d g.unit.dummies of_unit) (subst (λ q. l.needed q (plain d) ≡ true) (sym there.entry) n)));
       }
         where
-          same_dummies : (o : Option Procedure) → o ≡ Some g.unit → (calls.known k a l saved held y g part g.unit.name o).callee.dummies ≡ g.unit.dummies
-          same_dummies o e = ap (λ z. (calls.known k a l saved held y g part g.unit.name z).callee.dummies) e
+          same_dummies : (o : Option Procedure) → o ≡ Some g.unit → (calls.known k a l saved held y steps g part g.unit.name o).callee.dummies ≡ g.unit.dummies
+          same_dummies o e = ap (λ z. (calls.known k a l saved held y steps g part g.unit.name z).callee.dummies) e
 
-          same_members : (d : List ℕ) (o : Option Procedure) → l.wanted (place_from 0 k.units g.unit.name) d ≡ true → (calls.known k a l saved held y g part g.unit.name o).callee.members (plain d) ≡ true
+          same_members : (d : List ℕ) (o : Option Procedure) → l.wanted (place_from 0 k.units g.unit.name) d ≡ true → (calls.known k a l saved held y steps g part g.unit.name o).callee.members (plain d) ≡ true
           same_members d None e = e
           same_members d (Some u) e = e
 
 pub analysed_meets : AnalysedMeets
-analysed_meets sb k a l saved held y g part finds plainly = unit_meets k a l saved held y sb g part plainly (placed k.units g.unit.name g finds)
+analysed_meets sb k a l saved held y steps g part finds plainly = unit_meets k a l saved held y steps sb g part plainly (placed k.units g.unit.name g finds)
+
+-- the calls at the lines of directives are no step calls of marked loops
+pub marked_calls_unsplit : MarkedCallsUnsplit
+marked_calls_unsplit lines units head vars outvars g t s c e =
+    step_unsplit lines units g (part_is_there (record { units = units; head = head; vars = vars; outvars = outvars; split = split_calls lines units }) g t) s e c

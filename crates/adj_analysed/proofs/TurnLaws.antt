@@ -12,4 +12,5 @@ pub record TurnLaws (w : Facts) (i : ℕ) (x : List ℕ) (g : CalleeFacts) (give
   pub holds_reads : (d y : List ℕ) → IsActual g.callee.dummies given d y → In (plain d) (joined g.callee.members g.read) → g.callee.written (plain d) ≡ false → name_eq y x ≡ false → In (plain y) (w.held (point_inside i))
   pub saves : (d y : List ℕ) → IsActual g.callee.dummies given d y → In (plain d) g.callee.written → In (plain y) (w.held (point_before i)) → In (plain y) (w.marks.saved i)
   pub keeps : (d y : List ℕ) → IsActual g.callee.dummies given d y → In (plain d) g.callee.written → In (plain y) (w.needed (point_after i)) → w.marks.kept (suc i) ≡ true
+  pub unsplit : w.marks.split (suc i) ≡ false
   pub call : PassingLaws w (suc i) g given

@@ -47,5 +47,5 @@ table = computed_table calling_problem 12 calling_table refl refl
 pub calling_is_adjoint : CallingIsAdjoint
 calling_is_adjoint = (
   table,
-  analysed_is_adjoint source_rules calling_problem checked ((tt, (tt, (tt, tt))), ((tt, tt), tt)) table.activity table.live table.saved table.held table.analysed calling refl,
+  analysed_is_adjoint source_rules calling_problem checked ((tt, (tt, (tt, tt))), ((tt, tt), tt)) table.activity table.live table.saved table.held table.analysed (λ g t s c e. refl) calling refl,
 )

@@ -1,6 +1,6 @@
 -- The marks of exact analyses as marks of a whole program, and that they meet the laws that the theorem on sweeps asks of each unit.
 -- (docs/THEOREMS.md, "Sweeps of every statement")
-use Rattle.std.specs.Prelude.{◌≡◌, ℕ, List, [], ◌∷◌, Bool, true, false, Some, None}
+use Rattle.std.specs.Prelude.{◌≡◌, ℕ, List, [], ◌∷◌, Bool, true, false, ◌&&◌, Some, None, Contains}
 use Rattle.adj_tree.specs.Code.{Var, plain, Terms, Mark, unmarked, with_count, count_from, Act, assign, choose, loop, during, call, runtime, Code, stop, step, Procedure}
 use Rattle.adj_meaning.specs.Written.{find_unit}
 use Rattle.adj_transpose.specs.Marks.{Vars}
@@ -19,17 +19,21 @@ use Rattle.adj_reverse.specs.Laws.{UnitLawsBy}
 use Rattle.adj_reverse.specs.Theorem.{schedules_by}
 use Rattle.adj_reverse.specs.Marking.{ProgramFacts, dummy_set, place_from, callee_facts, first_statement}
 use Rattle.adj_facts.specs.Parts.{Part, parts, find_part}
-use Rattle.adj_facts.specs.Problem.{Problem, TakesPart}
+use Rattle.adj_facts.specs.Problem.{Problem, TakesPart, statements_of}
+use Rattle.adj_facts.specs.Standing.{Standing}
+use Rattle.adj_facts.specs.Uses.{is_turn}
+use Rattle.adj_facts.specs.Splits.{split_calls}
 use Rattle.adj_facts.specs.Activity.{Activity}
 use Rattle.adj_facts.specs.Live.{Liveness}
 use Rattle.adj_facts.specs.Laws.{Analysed}
 
--- what the analyses say of a whole program, with units by their names
-abbrev pub program_facts : List Procedure → Activity → Liveness → (ℕ → Vars) → (ℕ → Vars) → ProgramFacts
-program_facts units a l saved held = record {
+-- what the analyses say of a whole program, with units by their names, where the calls of these numbers are to be split
+abbrev pub program_facts : List Procedure → (ℕ → Bool) → Activity → Liveness → (ℕ → Vars) → (ℕ → Vars) → ProgramFacts
+program_facts units split a l saved held = record {
   marks = record {
     kept = l.kept;
     adjointed = a.adjointed;
+    split = λ i. split i && a.adjointed i;
     saved = saved;
     varied = a.varied;
     useful = a.useful;
@@ -39,6 +43,10 @@ program_facts units a l saved held = record {
   needed = l.needed;
   held = held;
 }
+
+-- no step call of a marked loop is to be split
+abbrev pub StepsUnsplit : Problem → Type 0
+StepsUnsplit k = (g : Part) → TakesPart k g → (s : Standing) → Contains (statements_of g) s → is_turn s.place ≡ true → k.split s.number ≡ false
 
 -- ---- code in kernel form
 
@@ -87,38 +95,42 @@ abbrev mutual
 
 -- ---- the laws
 
+-- the calls at the lines of directives meet this
+abbrev pub MarkedCallsUnsplit : Type 0
+MarkedCallsUnsplit = (lines : ℕ → Bool) (units : List Procedure) (head : ℕ) (vars outvars : List Bool) → StepsUnsplit (record { units = units; head = head; vars = vars; outvars = outvars; split = split_calls lines units })
+
 -- each unit that takes part, is found under its name and is such code meets the laws with the facts of exact analyses, whether marked loops
 -- are reversed by schedules or there is none
 abbrev pub AnalysedMeets : Type 0
 AnalysedMeets =
-    (schedules : Bool) (k : Problem) (a : Activity) (l : Liveness) (saved held : ℕ → Vars) → Analysed k a l saved held →
+    (schedules : Bool) (k : Problem) (a : Activity) (l : Liveness) (saved held : ℕ → Vars) → Analysed k a l saved held → StepsUnsplit k →
     (g : Part) → TakesPart k g → find_part (parts k.units) g.unit.name ≡ Some g → IsPlainCode schedules k.units g.unit.body →
-    let facts = callee_facts (program_facts k.units a l saved held) k.units in UnitLawsBy (schedules_by schedules facts) facts (facts g.unit.name) (first_statement k.units g.unit.name) g.unit.body
+    let facts = callee_facts (program_facts k.units k.split a l saved held) k.units in UnitLawsBy (schedules_by schedules facts) facts (facts g.unit.name) (first_statement k.units g.unit.name) g.unit.body
 
 -- so they are all that the law on emitted programs asks of a source: for a checked program in kernel form in which no loop is marked
 abbrev pub AnalysedFits : Type 0
 AnalysedFits =
     (rules : Rules) (k : Problem) → IsChecked rules k.units → EachUnit (λ u. IsUnmarked u.body) k.units →
-    (a : Activity) (l : Liveness) (saved held : ℕ → Vars) → Analysed k a l saved held → (u : Procedure) → unit_at k.head k.units ≡ u ∷ [] → SourceFits (λ line. None) (program_facts k.units a l saved held) k.units u
+    (a : Activity) (l : Liveness) (saved held : ℕ → Vars) → Analysed k a l saved held → StepsUnsplit k → (u : Procedure) → unit_at k.head k.units ≡ u ∷ [] → SourceFits (λ line. None) (program_facts k.units k.split a l saved held) k.units u
 
 -- and what is emitted by their marks is an adjoint
 abbrev pub AnalysedIsAdjoint : Type 0
 AnalysedIsAdjoint =
     (rules : Rules) (k : Problem) → IsChecked rules k.units → EachUnit (λ u. IsUnmarked u.body) k.units →
-    (a : Activity) (l : Liveness) (saved held : ℕ → Vars) → Analysed k a l saved held → (u : Procedure) → unit_at k.head k.units ≡ u ∷ [] →
-    let marks = (program_facts k.units a l saved held).marks in IsAdjoint (λ line. None) marks k.units k.head k.vars k.outvars (emitted_program marks k.units k.head k.vars k.outvars)
+    (a : Activity) (l : Liveness) (saved held : ℕ → Vars) → Analysed k a l saved held → StepsUnsplit k → (u : Procedure) → unit_at k.head k.units ≡ u ∷ [] →
+    let marks = (program_facts k.units k.split a l saved held).marks in IsAdjoint (λ line. None) marks k.units k.head k.vars k.outvars (emitted_program marks k.units k.head k.vars k.outvars)
 
 -- So it is where marked loops are reversed by schedules, each whose step call is adjointed: for one no two of whose marked loops stand at one
 -- line.
 abbrev pub AnalysedFitsReversed : Type 0
 AnalysedFitsReversed =
     (rules : Rules) (k : Problem) → IsChecked rules k.units → AreLinesApart (program_lines k.units) →
-    (a : Activity) (l : Liveness) (saved held : ℕ → Vars) → Analysed k a l saved held → (u : Procedure) → unit_at k.head k.units ≡ u ∷ [] →
-    let w = program_facts k.units a l saved held in SourceFitsWith true (reversed_lines w k.units) w k.units u
+    (a : Activity) (l : Liveness) (saved held : ℕ → Vars) → Analysed k a l saved held → StepsUnsplit k → (u : Procedure) → unit_at k.head k.units ≡ u ∷ [] →
+    let w = program_facts k.units k.split a l saved held in SourceFitsWith true (reversed_lines w k.units) w k.units u
 
 -- and what is emitted is an adjoint
 abbrev pub AnalysedReverses : Type 0
 AnalysedReverses =
     (rules : Rules) (k : Problem) → IsChecked rules k.units → AreLinesApart (program_lines k.units) →
-    (a : Activity) (l : Liveness) (saved held : ℕ → Vars) → Analysed k a l saved held → (u : Procedure) → unit_at k.head k.units ≡ u ∷ [] →
-    let w = program_facts k.units a l saved held in IsAdjointWith true (reversed_lines w k.units) w.marks k.units k.head k.vars k.outvars (emitted_program_with true w.marks k.units k.head k.vars k.outvars)
+    (a : Activity) (l : Liveness) (saved held : ℕ → Vars) → Analysed k a l saved held → StepsUnsplit k → (u : Procedure) → unit_at k.head k.units ≡ u ∷ [] →
+    let w = program_facts k.units k.split a l saved held in IsAdjointWith true (reversed_lines w k.units) w.marks k.units k.head k.vars k.outvars (emitted_program_with true w.marks k.units k.head k.vars k.outvars)

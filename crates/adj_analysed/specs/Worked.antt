@@ -11,7 +11,7 @@ use Rattle.adj_analysed.specs.Meets.{program_facts}
 
 -- P(X,Y), Y=X, CALL SQ(Y), Y=Y*X, and SQ(A), A=A*A: X is independent, and Y dependent
 abbrev pub calling_problem : Problem
-calling_problem = record { units = calling ∷ squaring_itself ∷ []; head = 0; vars = true ∷ false ∷ []; outvars = false ∷ true ∷ [] }
+calling_problem = record { units = calling ∷ squaring_itself ∷ []; head = 0; vars = true ∷ false ∷ []; outvars = false ∷ true ∷ []; split = λ n. false }
 
 -- a statement that is adjointed and saves nothing
 abbrev adjointed : Bool → Row
@@ -27,7 +27,7 @@ calling_table = record {
 
 -- the marks of analyses that say so
 abbrev pub marks_of : HasTable calling_problem calling_table → ProgramMarks
-marks_of t = (program_facts calling_problem.units t.activity t.live t.saved t.held).marks
+marks_of t = (program_facts calling_problem.units calling_problem.split t.activity t.live t.saved t.held).marks
 
 -- exact analyses say so, and what is emitted by their marks is an adjoint
 abbrev pub CallingIsAdjoint : Type 0

@@ -5,13 +5,14 @@
 //! `meets_law` gives the premise on laws of `emitted_law`; the layer above uses `analysed_law`.
 #![tactic(auto)]
 
-ghost use Rattle.adj_analysed.specs.Meets.{AnalysedMeets, AnalysedFits, AnalysedIsAdjoint, AnalysedFitsReversed, AnalysedReverses};
+ghost use Rattle.adj_analysed.specs.Meets.{MarkedCallsUnsplit, AnalysedMeets, AnalysedFits, AnalysedIsAdjoint, AnalysedFitsReversed, AnalysedReverses};
 ghost use Rattle.adj_analysed.specs.Worked.{CallingIsAdjoint};
 
 /// What exact analyses say of a program in kernel form meets the laws of each unit that takes part: where no loop is marked, or where marked
-/// loops are reversed by schedules.
+/// loops are reversed by schedules. Calls may be split, but no step call of a marked loop; the calls at the lines of directives are such.
 pub fn meets_law()
-    ensures { AnalysedMeets }
+    ensures meets { AnalysedMeets }
+    ensures unsplit { MarkedCallsUnsplit }
 {}
 
 /// So a checked program in kernel form is a source with them, as the law on emitted programs asks for one: where no loop is marked, and where marked
