@@ -17,7 +17,7 @@ use Rattle.adj_transpose.specs.Naming.{name_in, naming, AreApart}
 use Rattle.adj_transpose.specs.Program.{unit_at}
 use Rattle.adj_transpose.proofs.Variables.{or_false}
 use Rattle.adj_reverse.specs.Plan.{actuals_named}
-use Rattle.adj_reverse.specs.Marking.{ProgramMarks}
+use Rattle.adj_reverse.specs.Marking.{ProgramMarks, SplitsNothing}
 use Rattle.adj_reverse.specs.Program.{has_adjoint, is_carried_with, all_units, adjoint_unit_with, emitted_adjoint_with, emitted_units_with, emitted_for_with}
 use Rattle.adj_reverse.specs.Source.{CallUnits}
 use Rattle.adj_checked.proofs.Lists.{Each, each_append, each_more, each_both}
@@ -133,17 +133,17 @@ module _ (handed : Dummies) where
               tt,
             )
 
-    pub emitted_clean : Each (Found ps) ps → flat_map (λ u. shared_variables handed u ++ written_values handed u) (emitted_units_with sb m ps head vars outvars ps) ≡ []
-    emitted_clean found =
+    pub emitted_clean : SplitsNothing m → Each (Found ps) ps → flat_map (λ u. shared_variables handed u ++ written_values handed u) (emitted_units_with sb m ps head vars outvars ps) ≡ []
+    emitted_clean unsplit found =
         flat_none (λ u. shared_variables handed u ++ written_values handed u) (emitted_units_with sb m ps head vars outvars ps)
-        (each_emitted sb m ps head vars outvars (λ u. shared_variables handed u ++ written_values handed u ≡ []) ps
+        (each_emitted sb m ps head vars outvars unsplit (λ u. shared_variables handed u ++ written_values handed u ≡ []) ps
         (each_more (IsSound m ps) (λ u. is_carried_with sb m ps head u.name ≡ true → shared_variables handed u ++ written_values handed u ≡ []) (λ u s h. carried_clean u s) ps sound)
         (each_more (λ u. Found ps u × IsSound m ps u) (λ u. has_adjoint m ps head u.name ≡ true → shared_variables handed (emitted_adjoint_with sb m ps head vars outvars u) ++ written_values handed (emitted_adjoint_with sb m ps head vars outvars u) ≡ [])
         (λ u k there. emitted_has sb m ps head vars outvars named known sound (λ u v. find_unit ps u.name ≡ Some u → has_adjoint m ps head u.name ≡ true → shared_variables handed v ++ written_values handed v ≡ []) unit_clean u k.1 k.0.0 there) ps (each_both (Found ps) (IsSound m ps) ps found sound)))
 
 pub actuals_have_none : ActualsHaveNone
-actuals_have_none rules ps checked sb m shadowed head vars outvars handed = go (unit_at head ps)
+actuals_have_none rules ps checked sb m unsplit shadowed head vars outvars handed = go (unit_at head ps)
   where
     go : (us : List Procedure) → flat_map (λ u. shared_variables handed u ++ written_values handed u) (emitted_for_with sb m ps vars outvars us) ≡ []
     go [] = refl
-    go (u ∷ us) = emitted_clean handed sb m ps u vars outvars (all_named rules ps checked) (all_known rules ps checked) (each_sound rules ps checked m shadowed) (all_there rules ps checked)
+    go (u ∷ us) = emitted_clean handed sb m ps u vars outvars (all_named rules ps checked) (all_known rules ps checked) (each_sound rules ps checked m unsplit shadowed) unsplit (all_there rules ps checked)

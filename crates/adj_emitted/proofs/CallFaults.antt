@@ -23,23 +23,23 @@ use Rattle.adj_transpose.proofs.Variables.{or_left, or_right}
 use Rattle.adj_reverse.specs.Names.{adjoint_name}
 use Rattle.adj_reverse.specs.Plan.{names_of, actuals_named, found_or, Schedules, Step, reversed_by, ByStep}
 use Rattle.adj_reverse.specs.Emission.{with_shadows}
-use Rattle.adj_reverse.specs.Marking.{ProgramMarks, first_statement, callee_of, callee_in, plan_in}
+use Rattle.adj_reverse.specs.Marking.{ProgramMarks, first_statement, callee_of, callee_in, plan_in, SplitsNothing}
 use Rattle.adj_reverse.specs.Program.{calls_act, calls_in, turns_act, turns_in, has_adjoint, is_carried_with, all_units, adjoint_names_with, adjoint_unit_with, emitted_adjoint_with, emitted_units_with, emitted_for_with, schedules_in}
 use Rattle.adj_reverse.specs.Source.{CallUnits}
-use Rattle.adj_reverse.proofs.EmittedUnits.{found_there, carried_found, adjoint_found, carried_common, answers_there}
+use Rattle.adj_reverse.proofs.EmittedUnits.{found_there, carried_found, adjoint_found, carried_common}
 use Rattle.adj_reverse.proofs.Variables.{dummy_among}
 use Rattle.adj_checked.specs.Checked.{IsChecked}
 use Rattle.adj_checked.proofs.Lists.{Each, each_append, each_front, each_behind, each_more, each_found, each_both}
 use Rattle.adj_checked.proofs.Texts.{actuals_given, actuals_apart}
 use Rattle.adj_checked.proofs.Statements.{CallHasNone, call_of_unit, calls_inside}
-use Rattle.adj_checked.proofs.Callings.{Found, all_found, calls_found_some}
+use Rattle.adj_checked.proofs.Callings.{Found, all_found}
 use Rattle.adj_checked.proofs.StepCalls.{turned_alone}
 use Rattle.adj_emitted.specs.Shadowed.{AreCarried, HasShadows', HasShadows, AllHaveShadows}
 use Rattle.adj_emitted.specs.Emitted.{CallsHaveNone}
 use Rattle.adj_emitted.proofs.Follows.{FollowsActBy, FollowsBy}
 use Rattle.adj_emitted.proofs.MadeNames.{callee_named, made_no_runtime, follows_by}
 use Rattle.adj_emitted.proofs.StepCalls.{step_body}
-use Rattle.adj_emitted.proofs.Carried.{kept_carried, turned_carried}
+use Rattle.adj_emitted.proofs.Carried.{kept_carried, turned_carried, adjointed_there}
 use Rattle.adj_emitted.proofs.Called.{IsOwn}
 use Rattle.adj_emitted.proofs.Actuals.{plain_terms, plain_apart, given_vars, given_terms, given_apart, named_back, Fits, plain_fit, shadow_fit}
 use Rattle.adj_emitted.proofs.Sources.{UnitSound, all_named, all_calls}
@@ -57,9 +57,9 @@ shadows_each : (m : ProgramMarks) (ps us : List Procedure) → AllHaveShadows m 
 shadows_each m ps [] h = tt
 shadows_each m ps (u ∷ us) h = (h.0, shadows_each m ps us h.1)
 
--- what is asked of a unit
+-- what is asked of a unit, and of the marks
 abbrev pub IsSound : ProgramMarks → List Procedure → Procedure → Type 0
-IsSound m ps u = (UnitSound ps u × NamesSound ps u) × HasShadows (plan_in m ps u) (first_statement ps u.name) u.body
+IsSound m ps u = (UnitSound ps u × NamesSound ps u) × HasShadows (plan_in m ps u) (first_statement ps u.name) u.body × SplitsNothing m
 
 module _ (sb : Bool) (m : ProgramMarks) (ps : List Procedure) (head : Procedure) (vars outvars : List Bool) (named : Each (λ u. IsName u.name) ps) (known : CallUnits ps ps) (sound : Each (IsSound m ps) ps) where
   abbrev qs : List Procedure
@@ -86,16 +86,16 @@ module _ (sb : Bool) (m : ProgramMarks) (ps : List Procedure) (head : Procedure)
     ns = names_for u
 
     plain_rank : (x : List ℕ) → rank unit (name_in ns (plain x)) ≡ rank u x
-    plain_rank x = names.plain_rank sb m ps (all_units m ps head) u s.0.0.written s.0.0.kernel s.0.0.free s.0.0.calls (follows_by m ps named u (schedules_in sb ps) (first_statement ps u.name) u.body s.0.0.calls s.1) s.0.1.dummies_once s.0.1.extent_dummy s.0.1.extents s.0.1.stands at_turn at_end turned ended x
+    plain_rank x = names.plain_rank sb m ps (all_units m ps head) u s.0.0.written s.0.0.kernel s.0.0.free s.0.0.calls (follows_by m ps named u s.2 (schedules_in sb ps) (first_statement ps u.name) u.body s.0.0.calls s.1) s.0.1.dummies_once s.0.1.extent_dummy s.0.1.extents s.0.1.stands at_turn at_end turned ended x
 
     shadow_rank : (x : List ℕ) → m.shadowed u.name (plain x) ≡ true → rank unit (name_in ns (shadow x)) ≡ rank u x
-    shadow_rank x marked = names.shadow_rank sb m ps (all_units m ps head) u s.0.0.written s.0.0.kernel s.0.0.free s.0.0.calls (follows_by m ps named u (schedules_in sb ps) (first_statement ps u.name) u.body s.0.0.calls s.1) s.0.1.dummies_once s.0.1.extent_dummy s.0.1.extents s.0.1.stands at_turn at_end turned ended x marked
+    shadow_rank x marked = names.shadow_rank sb m ps (all_units m ps head) u s.0.0.written s.0.0.kernel s.0.0.free s.0.0.calls (follows_by m ps named u s.2 (schedules_in sb ps) (first_statement ps u.name) u.body s.0.0.calls s.1) s.0.1.dummies_once s.0.1.extent_dummy s.0.1.extents s.0.1.stands at_turn at_end turned ended x marked
 
     pub keeps : (x : List ℕ) → has_name x (variables u) ≡ true → name_in ns (plain x) ≡ x
-    keeps x h = names.keeps sb m ps (all_units m ps head) u s.0.0.written s.0.0.kernel s.0.0.free s.0.0.calls (follows_by m ps named u (schedules_in sb ps) (first_statement ps u.name) u.body s.0.0.calls s.1) s.0.1.dummies_once s.0.1.extent_dummy s.0.1.extents s.0.1.stands at_turn at_end turned ended x h
+    keeps x h = names.keeps sb m ps (all_units m ps head) u s.0.0.written s.0.0.kernel s.0.0.free s.0.0.calls (follows_by m ps named u s.2 (schedules_in sb ps) (first_statement ps u.name) u.body s.0.0.calls s.1) s.0.1.dummies_once s.0.1.extent_dummy s.0.1.extents s.0.1.stands at_turn at_end turned ended x h
 
     pub name_apart : (v w : Var) → name_eq (name_in ns v) (name_in ns w) ≡ var_eq v w
-    name_apart v w = names.apart sb m ps (all_units m ps head) u s.0.0.written s.0.0.kernel s.0.0.free s.0.0.calls (follows_by m ps named u (schedules_in sb ps) (first_statement ps u.name) u.body s.0.0.calls s.1) s.0.1.dummies_once s.0.1.extent_dummy s.0.1.extents s.0.1.stands at_turn at_end turned ended v w
+    name_apart v w = names.apart sb m ps (all_units m ps head) u s.0.0.written s.0.0.kernel s.0.0.free s.0.0.calls (follows_by m ps named u s.2 (schedules_in sb ps) (first_statement ps u.name) u.body s.0.0.calls s.1) s.0.1.dummies_once s.0.1.extent_dummy s.0.1.extents s.0.1.stands at_turn at_end turned ended v w
 
     unit_ranks : RanksOf u unit
     unit_ranks = record {
@@ -180,6 +180,7 @@ module _ (sb : Bool) (m : ProgramMarks) (ps : List Procedure) (head : Procedure)
           ),
         ),
       ),
+      s.2 i,
     )
 
     -- the step call of a loop that is reversed by a schedule is of a unit that is carried
@@ -220,8 +221,8 @@ module _ (sb : Bool) (m : ProgramMarks) (ps : List Procedure) (head : Procedure)
     -- so in a unit whose adjoint is emitted
     unit_follows : find_unit ps u.name ≡ Some u → has_adjoint m ps head u.name ≡ true → FollowsBy sc C (plan_in m ps u) (first_statement ps u.name) u.body
     unit_follows found there =
-        code_follows (first_statement ps u.name) u.body s.0.0.calls written.body s.0.0.kernel s.1 (kept_carried sb m ps head u found there)
-        (λ n c. answers_there sb m ps head vars outvars known n (calls_found_some (has_adjoint m ps head) m.adjointed n 0 ps u.name u found there c)) (turned_carried sb m ps head u found there)
+        code_follows (first_statement ps u.name) u.body s.0.0.calls written.body s.0.0.kernel s.1 (kept_carried sb m ps head u found there s.2)
+        (adjointed_there sb m ps head u found there s.2) (turned_carried sb m ps head u found there s.2)
       where
         written : IsWrittenProcedure u
         written = s.0.0.written
@@ -229,7 +230,7 @@ module _ (sb : Bool) (m : ProgramMarks) (ps : List Procedure) (head : Procedure)
     pub statements_have : find_unit ps u.name ≡ Some u → has_adjoint m ps head u.name ≡ true → (G : At Act → Type 0) → ((line : ℕ) (act : Act) → IsOwn act → G (line, act)) → ((line : ℕ) (other : List ℕ) (args : Terms) → is_runtime other ≡ false → Fits qs v (naming (names_for u)) other args → G (line, call other (rename_terms (naming (names_for u)) args))) →
         ((line : ℕ) (c : Runtime) → Each (λ x. (variable_rank v x == 0) ≡ false) (array_arguments c) → G (line, runtime c)) → Each G (statements v.body)
     statements_have found there G own called ran =
-        names.statements_have sb m ps (all_units m ps head) u s.0.0.written s.0.0.kernel s.0.0.free s.0.0.calls (follows_by m ps named u (schedules_in sb ps) (first_statement ps u.name) u.body s.0.0.calls s.1) s.0.1.dummies_once s.0.1.extent_dummy s.0.1.extents s.0.1.stands at_turn at_end turned ended C (unit_follows found there) G own called ran
+        names.statements_have sb m ps (all_units m ps head) u s.0.0.written s.0.0.kernel s.0.0.free s.0.0.calls (follows_by m ps named u s.2 (schedules_in sb ps) (first_statement ps u.name) u.body s.0.0.calls s.1) s.0.1.dummies_once s.0.1.extent_dummy s.0.1.extents s.0.1.stands at_turn at_end turned ended C (unit_follows found there) G own called ran
 
     -- ---- no faults of calls
 
@@ -283,10 +284,10 @@ module _ (sb : Bool) (m : ProgramMarks) (ps : List Procedure) (head : Procedure)
   adjoint_none u found s there =
       emitted_has (λ u v. find_unit ps u.name ≡ Some u → has_adjoint m ps head u.name ≡ true → flat_map (λ s. faults_of_call qs v s.0 s.1) (statements v.body) ≡ []) calls_none u s found there
 
-  emitted_none : Each (Found ps) ps → call_faults qs ≡ []
-  emitted_none found =
+  emitted_none : SplitsNothing m → Each (Found ps) ps → call_faults qs ≡ []
+  emitted_none unsplit found =
       flat_none (λ u. flat_map (λ s. faults_of_call qs u s.0 s.1) (statements u.body)) qs
-      (each_emitted sb m ps head vars outvars (λ u. flat_map (λ s. faults_of_call qs u s.0 s.1) (statements u.body) ≡ []) ps
+      (each_emitted sb m ps head vars outvars unsplit (λ u. flat_map (λ s. faults_of_call qs u s.0 s.1) (statements u.body) ≡ []) ps
       (each_more (λ u. Found ps u × IsSound m ps u) (λ u. is_carried_with sb m ps head u.name ≡ true → flat_map (λ s. faults_of_call qs u s.0 s.1) (statements u.body) ≡ []) (λ u k h. carried_none u k.0.0 k.1 h) ps both)
       (each_more (λ u. Found ps u × IsSound m ps u) (λ u. has_adjoint m ps head u.name ≡ true → flat_map (λ s. faults_of_call qs (emitted_adjoint_with sb m ps head vars outvars u) s.0 s.1) (statements (emitted_adjoint_with sb m ps head vars outvars u).body) ≡ []) (λ u k h. adjoint_none u k.0.0 k.1 h) ps both))
     where
@@ -302,12 +303,14 @@ module _ (rules : Rules) (ps : List Procedure) (checked : IsChecked rules ps) wh
   pub all_there : Each (Found ps) ps
   all_there = all_found ps (units_apart rules ps checked)
 
-  pub each_sound : (m : ProgramMarks) → AllHaveShadows m ps ps → Each (IsSound m ps) ps
-  each_sound m shadowed = each_both (λ u. UnitSound ps u × NamesSound ps u) (λ u. HasShadows (plan_in m ps u) (first_statement ps u.name) u.body) ps (all_names_sound rules ps checked) (shadows_each m ps ps shadowed)
+  pub each_sound : (m : ProgramMarks) → SplitsNothing m → AllHaveShadows m ps ps → Each (IsSound m ps) ps
+  each_sound m unsplit shadowed =
+      each_more (λ u. (UnitSound ps u × NamesSound ps u) × HasShadows (plan_in m ps u) (first_statement ps u.name) u.body) (IsSound m ps) (λ u s. (s.0, s.1, unsplit)) ps
+      (each_both (λ u. UnitSound ps u × NamesSound ps u) (λ u. HasShadows (plan_in m ps u) (first_statement ps u.name) u.body) ps (all_names_sound rules ps checked) (shadows_each m ps ps shadowed))
 
 pub calls_have_none : CallsHaveNone
-calls_have_none rules ps checked sb m shadowed head vars outvars = go (unit_at head ps)
+calls_have_none rules ps checked sb m unsplit shadowed head vars outvars = go (unit_at head ps)
   where
     go : (us : List Procedure) → call_faults (emitted_for_with sb m ps vars outvars us) ≡ []
     go [] = refl
-    go (u ∷ us) = emitted_none sb m ps u vars outvars (all_named rules ps checked) (all_known rules ps checked) (each_sound rules ps checked m shadowed) (all_there rules ps checked)
+    go (u ∷ us) = emitted_none sb m ps u vars outvars (all_named rules ps checked) (all_known rules ps checked) (each_sound rules ps checked m unsplit shadowed) unsplit (all_there rules ps checked)

@@ -26,7 +26,7 @@ use Rattle.adj_transpose.specs.Marked.{names_in}
 use Rattle.adj_transpose.specs.Program.{unmarked, unit_at}
 use Rattle.adj_reverse.specs.Names.{adjoint_name}
 use Rattle.adj_reverse.specs.Emission.{adjoint_body_with}
-use Rattle.adj_reverse.specs.Marking.{ProgramMarks, first_statement, callee_of, callee_in, plan_in}
+use Rattle.adj_reverse.specs.Marking.{ProgramMarks, first_statement, callee_of, callee_in, plan_in, SplitsNothing}
 use Rattle.adj_reverse.specs.Program.{calls_in, turns_in, has_adjoint, is_carried_with, all_units, adjoint_names_with, adjoint_unit_with, emitted_adjoint_with, emitted_units_with, emitted_for_with, schedules_in}
 use Rattle.adj_reverse.specs.Source.{CallUnits, is_unit}
 use Rattle.adj_reverse.proofs.EmittedUnits.{found_there, adjoint_found, carried_common, answers_there}
@@ -35,7 +35,7 @@ use Rattle.adj_checked.proofs.Lists.{Each, each_front, each_behind, each_more, e
 use Rattle.adj_checked.proofs.Statements.{CallHasNone, call_of_unit}
 use Rattle.adj_checked.proofs.Callings.{Found, all_found, calls_all, calls_found_some}
 use Rattle.adj_emitted.specs.Emitted.{ChainsHaveNone}
-use Rattle.adj_emitted.proofs.Carried.{kept_carried, turned_carried}
+use Rattle.adj_emitted.proofs.Carried.{kept_carried, turned_carried, adjointed_there}
 use Rattle.adj_emitted.proofs.Sources.{each_there, all_calls}
 use Rattle.adj_emitted.proofs.UnitFaults.{flat_none, if_none, each_emitted, made_name, emitted_apart, units_apart}
 use Rattle.adj_emitted.proofs.AdjointNames.{each_in_flat}
@@ -181,7 +181,7 @@ module _ (rules : Rules) (ps : List Procedure) (checked : IsChecked rules ps) (f
 
 -- ---- chains of what is emitted
 
-module _ (rules : Rules) (ps : List Procedure) (checked : IsChecked rules ps) (few : rules.chain ≤ 80) (sb : Bool) (m : ProgramMarks) (head : Procedure) (vars outvars : List Bool) where
+module _ (rules : Rules) (ps : List Procedure) (checked : IsChecked rules ps) (few : rules.chain ≤ 80) (sb : Bool) (m : ProgramMarks) (unsplit : SplitsNothing m) (head : Procedure) (vars outvars : List Bool) where
   abbrev known : CallUnits ps ps
   known = all_known rules ps checked
 
@@ -208,20 +208,20 @@ module _ (rules : Rules) (ps : List Procedure) (checked : IsChecked rules ps) (f
   made_low : (k : ℕ) → AreLow k → (w : Procedure) → find_unit ps w.name ≡ Some w → has_adjoint m ps head w.name ≡ true → (at_turn at_end : List Name) → chain (chain_within qs k) (adjoint_unit_with sb m ps (all_units m ps head) w at_turn at_end).body ≤ chain (chain_within ps k) w.body
   made_low k low w found there at_turn at_end =
       subst (λ n. n ≤ chain (chain_within ps k) w.body) (sym (renamed_chain (chain_within qs k) (naming (adjoint_names_with sb m ps (all_units m ps head) w)) (adjoint_body_with (schedules_in sb ps) (plan_in m ps w) (first_statement ps w.name) w.line w.body at_turn at_end)))
-      (body_low (chain_within qs k) (chain_within ps k) (schedules_in sb ps) (plan_in m ps w) (chain (chain_within ps k) w.body) (first_statement ps w.name) w.line w.body at_turn at_end (omega arith) kept adjointed turned)
+      (body_low (chain_within qs k) (chain_within ps k) (schedules_in sb ps) (plan_in m ps w) unsplit (chain (chain_within ps k) w.body) (first_statement ps w.name) w.line w.body at_turn at_end (omega arith) kept adjointed turned)
     where
       kept : (x : Name) → calls_in m.kept x (first_statement ps w.name) w.body ≡ true → chain_within qs k x ≤ chain_within ps k x
-      kept x c = low.carried x (kept_carried sb m ps head w found there x c)
+      kept x c = low.carried x (kept_carried sb m ps head w found there unsplit x c)
 
       turned : (x : Name) → turns_in (schedules_in sb ps) m.adjointed x (first_statement ps w.name) w.body ≡ true → chain_within qs k x ≤ chain_within ps k x
-      turned x c = low.carried x (turned_carried sb m ps head w found there x c)
+      turned x c = low.carried x (turned_carried sb m ps head w found there unsplit x c)
 
       adjointed : (x : Name) → calls_in m.adjointed x (first_statement ps w.name) w.body ≡ true → chain_within qs k (callee_in m ps x).adjoint ≤ chain_within ps k x
       adjointed x c =
           let calls_units = each_found (λ u. Each (CallHasNone ps u) (statements u.body)) ps (all_calls rules ps checked) w.name w found in
           let unit = there_found ps x (calls_all (is_unit ps) m.adjointed x (first_statement ps w.name) w (calls_there ps w calls_units) c) in
           subst (λ o. chain_within qs k (callee_of m ps x o).adjoint ≤ chain_within ps k x) (sym unit.1)
-          (low.adjoint x unit.0 unit.1 (answers_there sb m ps head vars outvars known x (calls_found_some (has_adjoint m ps head) m.adjointed x 0 ps w.name w found there c)))
+          (low.adjoint x unit.0 unit.1 (adjointed_there sb m ps head w found there unsplit x c))
 
   adjoint_low : (k : ℕ) → AreLow k → (x : Name) (w : Procedure) → find_unit ps x ≡ Some w → has_adjoint m ps head x ≡ true → chain_within qs (suc k) (adjoint_name ps w) ≤ chain_within ps (suc k) x
   adjoint_low k low x w found there =
@@ -248,13 +248,13 @@ module _ (rules : Rules) (ps : List Procedure) (checked : IsChecked rules ps) (f
 
   all_bounded : Each IsBounded qs
   all_bounded =
-      each_emitted sb m ps head vars outvars IsBounded ps
+      each_emitted sb m ps head vars outvars unsplit IsBounded ps
       (each_more (Found ps) (λ u. is_carried_with sb m ps head u.name ≡ true → IsBounded u) (λ u f h k. let l = (are_low k).carried u.name h in let n = within_short rules ps checked few k u.name in omega arith) ps (all_there rules ps checked))
       (each_more (Found ps) (λ u. has_adjoint m ps head u.name ≡ true → IsBounded (emitted_adjoint_with sb m ps head vars outvars u))
       (λ u f h k. subst (λ x. chain_within qs k x ≤ 80) (sym (made_name sb m ps head vars outvars u)) (let l = (are_low k).adjoint u.name u f.0 h in let n = within_short rules ps checked few k u.name in omega arith)) ps (all_there rules ps checked))
 
   emitted_found : Each (Found qs) qs
-  emitted_found = all_found qs (emitted_apart sb m ps head vars outvars ps (units_apart rules ps checked) (each_there ps))
+  emitted_found = all_found qs (emitted_apart sb m ps head vars outvars unsplit ps (units_apart rules ps checked) (each_there ps))
 
   no_cycles : cycles qs ≡ []
   no_cycles =
@@ -289,8 +289,8 @@ module _ (rules : Rules) (ps : List Procedure) (checked : IsChecked rules ps) (f
   emitted_none = ap (λ cs. or_else cs (long_chains run_rules qs)) no_cycles ∙ none_long
 
 pub chains_have_none : ChainsHaveNone
-chains_have_none rules ps checked few sb m head vars outvars = go (unit_at head ps)
+chains_have_none rules ps checked few sb m unsplit head vars outvars = go (unit_at head ps)
   where
     go : (us : List Procedure) → chain_faults run_rules (emitted_for_with sb m ps vars outvars us) ≡ []
     go [] = refl
-    go (u ∷ us) = emitted_none rules ps checked few sb m u vars outvars
+    go (u ∷ us) = emitted_none rules ps checked few sb m unsplit u vars outvars

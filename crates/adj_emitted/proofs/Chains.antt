@@ -1,5 +1,5 @@
 -- Chains of calls in what is emitted are no longer than in the source: an adjoint calls adjoints of what its unit calls, and carried units.
-use Rattle.std.proofs.Common.{◌≡◌, ℕ, suc, ◌≤◌, max, Bool, true, false, List, [], ◌∷◌, refl, ap, ◌∙◌, arith, if◌then◌else◌}
+use Rattle.std.proofs.Common.{◌≡◌, ℕ, suc, ◌≤◌, max, Bool, true, false, List, [], ◌∷◌, refl, ap, ◌∙◌, arith, if◌then◌else◌, sym, subst}
 use Rattle.std.specs.Prelude.{◌&&◌, not, Option, Some, None}
 use Rattle.adj_tree.specs.Code.{Var, plain, shadow, helper, first, stride, count, lower, name_eq, plus, Term, var, bin, Terms, none, Test, push_word, pop_word, zero_array, Mark, unmarked, with_count, count_from, Act, assign, choose, loop, during, call, runtime, Code, stop, step}
 use Rattle.adj_tree.proofs.Names.{name_refl}
@@ -16,6 +16,7 @@ use Rattle.adj_reverse.specs.AdjointOf.{adjoint_where}
 use Rattle.adj_reverse.specs.Plan.{Plan, is_emitted, names_of, actuals_named, save_group, snapshot_group, step_snapshot, found_or, Schedules, Step, reversed_by}
 use Rattle.adj_reverse.specs.ReversalCode.{at_turn, arm, advance, arms, one_action, reversal, slots_of, set_slots, push_slots, pop_slots, reversed_forward, reversed_backward, row_forward, row_backward}
 use Rattle.adj_reverse.specs.Emission.{is_empty, push, pop, pushes, pops, literal, adjoint_call, told_forward, told_backward, loop_forward, loop_backward, while_forward, while_backward, push_own, pop_own, set_own, forward_act_with, forward_with, backward_act_with, backward_with, cleared, adjoint_body_with}
+use Rattle.adj_reverse.proofs.Unsplit.{unsplit_forward, unsplit_backward}
 use Rattle.adj_reverse.specs.Program.{calls_act, calls_in, turns_act, turns_in}
 use Rattle.adj_checked.proofs.Lists.{Each, each_append}
 use Rattle.adj_emitted.proofs.StepCalls.{step_body, step_mark, from_keep, from_turn, from_advance}
@@ -105,7 +106,7 @@ module _ (f g : Name → ℕ) (inside : Name → Bool) (less : (x : Name) → in
 
 -- ---- the sweeps of a unit
 
-module _ (f g : Name → ℕ) (sc : Schedules) (p : Plan) (n : ℕ) where
+module _ (f g : Name → ℕ) (sc : Schedules) (p : Plan) (unsplit : (i : ℕ) → p.marks.split i ≡ false) (n : ℕ) where
   low_push : (line : ℕ) (x : List ℕ) → chain f (push p line x) ≤ n
   low_push line x = omega arith
 
@@ -213,16 +214,18 @@ module _ (f g : Name → ℕ) (sc : Schedules) (p : Plan) (n : ℕ) where
   call_low : (i d line : ℕ) (name : Name) (args : Terms) → g name ≤ n → Kept (λ x. calls_act p.marks.kept x i (call name args)) → Adjointed (λ x. calls_act p.marks.adjointed x i (call name args)) → (chain f (forward_act_with sc p i d line (call name args)) ≤ n) × (chain f (backward_act_with sc p i d line (call name args)) ≤ n)
   call_low i d line name args h kept adjointed =
       let callee = p.callees name in (
-        low_if f n (is_emitted p.marks i) _ (λ e.
+        subst (λ c. chain f c ≤ n) (sym (unsplit_forward sc p i d line name args (unsplit i)))
+            (low_if f n (is_emitted p.marks i) _ (λ e.
             low_append f n (pushes p line (save_group p.marks i callee (names_of args))) _ (low_pushes line (save_group p.marks i callee (names_of args)))
             (low_append f n (code_if (p.marks.adjointed i) _) _ (low_if f n (p.marks.adjointed i) _ (λ t. low_pushes line (snapshot_group callee (names_of args))))
-            (low_if f n (p.marks.kept i) (one line (call name args)) (λ t. let l = kept name (rw (t, name_refl name) refl) in omega arith)))),
-        low_if f n (is_emitted p.marks i) _ (λ e.
+            (low_if f n (p.marks.kept i) (one line (call name args)) (λ t. let l = kept name (rw (t, name_refl name) refl) in omega arith))))),
+        subst (λ c. chain f c ≤ n) (sym (unsplit_backward sc p i d line name args (unsplit i)))
+            (low_if f n (is_emitted p.marks i) _ (λ e.
             low_append f n (code_if (p.marks.adjointed i) _) _
             (low_if f n (p.marks.adjointed i) _ (λ t.
             let l = adjointed name (rw (t, name_refl name) refl) in
             low_append f n (pops p line (snapshot_group callee (names_of args))) (one line (adjoint_call callee (names_of args))) (low_pops line (snapshot_group callee (names_of args))) (omega arith)))
-            (low_pops line (save_group p.marks i callee (names_of args)))),
+            (low_pops line (save_group p.marks i callee (names_of args))))),
       )
 
   -- the rows of a loop, by how it is reversed

@@ -13,12 +13,13 @@ use Rattle.adj_reverse.specs.AdjointOf.{is_active_where, has_own_where, temps_in
 use Rattle.adj_reverse.specs.Plan.{Plan, is_emitted, names_of, actuals_named, save_group, snapshot_group, step_snapshot, found_or, Schedules, Step, reversed_by}
 use Rattle.adj_reverse.specs.ReversalCode.{at_turn, arm, advance, arms, one_action, reversal, slots_of, set_slots, push_slots, pop_slots, reversed_forward, reversed_backward, row_forward, row_backward}
 use Rattle.adj_reverse.specs.Emission.{is_empty, push, pop, pushes, pops, literal, with_shadows, adjoint_call, told_forward, told_backward, loop_forward, loop_backward, while_forward, while_backward, push_own, pop_own, set_own, resets, reset, forward_act_with, forward_with, backward_act_with, backward_with, cleared, adjoint_body_with}
+use Rattle.adj_reverse.specs.SplitRows.{forth_body, back_body}
 use Rattle.adj_reverse.specs.Marking.{ProgramMarks, first_statement, plan_in}
-use Rattle.adj_reverse.specs.Program.{has_adjoint, is_carried_with, all_units, adjoint_names_with, adjoint_unit_with, emitted_adjoint_with, emitted_units_with, emitted_for_with, schedules_in}
+use Rattle.adj_reverse.specs.Program.{has_adjoint, is_carried_with, all_units, adjoint_names_with, adjoint_unit_with, emitted_adjoint_with, emitted_units_with, emitted_for_with, schedules_in, has_pair, split_plan, left_by, forth_unit, back_unit}
 use Rattle.adj_checked.proofs.Lists.{Each, each_more}
 use Rattle.adj_emitted.specs.Emitted.{runtime_deepest, act_deepest, deepest, AreShallow, KeepsDepth}
 use Rattle.adj_emitted.proofs.StepCalls.{from_keep, from_turn, from_advance}
-use Rattle.adj_emitted.proofs.UnitFaults.{each_emitted}
+use Rattle.adj_emitted.proofs.UnitFaults.{each_made}
 
 -- ---- lists
 
@@ -29,6 +30,11 @@ deep_append n (step line a c) d h g = let rest = deep_append n c d (omega arith)
 deep_if : (n : ℕ) (b : Bool) (c : Code) → deepest c ≤ n → deepest (code_if b c) ≤ n
 deep_if n true c h = h
 deep_if n false c h = omega arith
+
+-- of two
+deep_choice : (n : ℕ) (b : Bool) (c d : Code) → deepest c ≤ n → deepest d ≤ n → deepest (if b then c else d) ≤ n
+deep_choice n true c d h g = h
+deep_choice n false c d h g = g
 
 -- ---- assignments
 
@@ -347,12 +353,12 @@ module _ (sc : Schedules) (p : Plan) (n : ℕ) where
         let shot_pushes = deep_pushes line (snapshot_group callee (names_of args)) in
         let saved_pops = deep_pops line (save_group p.marks i callee (names_of args)) in
         let shot_pops = deep_pops line (snapshot_group callee (names_of args)) in (
-          deep_if (n + 3) (is_emitted p.marks i) _
+          deep_if (n + 3) (is_emitted p.marks i) _ (deep_choice (n + 3) (p.marks.split i) (one line (call callee.forth args)) _ (omega arith)
               (deep_append (n + 3) (pushes p line (save_group p.marks i callee (names_of args))) _ (omega arith)
-              (deep_append (n + 3) (code_if (p.marks.adjointed i) (pushes p line (snapshot_group callee (names_of args)))) _ (deep_if (n + 3) (p.marks.adjointed i) (pushes p line (snapshot_group callee (names_of args))) (omega arith)) (deep_if (n + 3) (p.marks.kept i) (one line (call name args)) (omega arith)))),
-          deep_if (n + 3) (is_emitted p.marks i) _
+              (deep_append (n + 3) (code_if (p.marks.adjointed i) (pushes p line (snapshot_group callee (names_of args)))) _ (deep_if (n + 3) (p.marks.adjointed i) (pushes p line (snapshot_group callee (names_of args))) (omega arith)) (deep_if (n + 3) (p.marks.kept i) (one line (call name args)) (omega arith))))),
+          deep_if (n + 3) (is_emitted p.marks i) _ (deep_choice (n + 3) (p.marks.split i) (one line (call callee.back (with_shadows callee.shadowed callee.dummies (names_of args)))) _ (omega arith)
               (deep_append (n + 3) (code_if (p.marks.adjointed i) (pops p line (snapshot_group callee (names_of args)) +++ one line (adjoint_call callee (names_of args)))) _
-              (deep_if (n + 3) (p.marks.adjointed i) _ (deep_append (n + 3) (pops p line (snapshot_group callee (names_of args))) (one line (adjoint_call callee (names_of args))) (omega arith) (omega arith))) (omega arith)),
+              (deep_if (n + 3) (p.marks.adjointed i) _ (deep_append (n + 3) (pops p line (snapshot_group callee (names_of args))) (one line (adjoint_call callee (names_of args))) (omega arith) (omega arith))) (omega arith))),
         )
     act_deep i d line (runtime r) h = (omega arith, omega arith)
 
@@ -377,6 +383,13 @@ module _ (sc : Schedules) (p : Plan) (n : ℕ) where
   body_deep i line c at_turn at_end h =
       let sweeps = list_deep i 0 c h in
       deep_append (n + 3) (forward_with sc p i 0 c) _ sweeps.0 (deep_append (n + 3) (cleared p line at_turn) _ (deep_cleared line at_turn) (deep_append (n + 3) (backward_with sc p i 0 c) (cleared p line at_end) sweeps.1 (deep_cleared line at_end)))
+
+  -- the bodies of the forward and the backward unit
+  forth_deep : (i line : ℕ) (left : List (List ℕ)) (c : Code) → deepest c ≤ n → deepest (forth_body sc p i line left c) ≤ n + 3
+  forth_deep i line left c h = let sweeps = list_deep i 0 c h in deep_append (n + 3) (forward_with sc p i 0 c) (pushes p line left) sweeps.0 (let l = deep_pushes line left in omega arith)
+
+  back_deep : (i line : ℕ) (left : List (List ℕ)) (c : Code) → deepest c ≤ n → deepest (back_body sc p i line left c) ≤ n + 3
+  back_deep i line left c h = let sweeps = list_deep i 0 c h in deep_append (n + 3) (pops p line left) (backward_with sc p i 0 c) (let l = deep_pops line left in omega arith) sweeps.1
 
 -- ---- renaming keeps it
 
@@ -450,6 +463,15 @@ adjoint_deep n sb m ps head vars outvars u h = go (name_eq head.name u.name)
     go true = deep _ _
     go false = deep [] []
 
+-- the units of a pair
+pair_deep : (n : ℕ) (sb : Bool) (m : ProgramMarks) (ps : List Procedure) (units : List (List ℕ)) (u : Procedure) → deepest u.body ≤ n → (deepest (forth_unit sb m ps units u).body ≤ n + 3) × (deepest (back_unit sb m ps units u).body ≤ n + 3)
+pair_deep n sb m ps units u h =
+    let p = split_plan m ps u in
+    let i = first_statement ps u.name in (
+      subst (λ k. k ≤ n + 3) (sym (renamed_list _ (forth_body (schedules_in sb ps) p i u.line (left_by ps u) u.body))) (forth_deep (schedules_in sb ps) p n i u.line (left_by ps u) u.body h),
+      subst (λ k. k ≤ n + 3) (sym (renamed_list _ (back_body (schedules_in sb ps) p i u.line (left_by ps u) u.body))) (back_deep (schedules_in sb ps) p n i u.line (left_by ps u) u.body h),
+    )
+
 pub keeps_depth : KeepsDepth
 keeps_depth n ps h sb m head vars outvars = go (unit_at head ps)
   where
@@ -457,5 +479,6 @@ keeps_depth n ps h sb m head vars outvars = go (unit_at head ps)
     go [] = tt
     go (u ∷ us) =
         each_shallow (n + 3) (emitted_units_with sb m ps u vars outvars ps)
-        (each_emitted sb m ps u vars outvars (λ v. deepest v.body ≤ n + 3) ps (each_more (λ v. deepest v.body ≤ n) (λ v. is_carried_with sb m ps u v.name ≡ true → deepest v.body ≤ n + 3) (λ v k t. omega arith) ps (shallow_each n ps h))
-        (each_more (λ v. deepest v.body ≤ n) (λ v. has_adjoint m ps u v.name ≡ true → deepest (emitted_adjoint_with sb m ps u vars outvars v).body ≤ n + 3) (λ v k t. adjoint_deep n sb m ps u vars outvars v k) ps (shallow_each n ps h)))
+        (each_made sb m ps u vars outvars (λ v. deepest v.body ≤ n + 3) ps (each_more (λ v. deepest v.body ≤ n) (λ v. is_carried_with sb m ps u v.name ≡ true → deepest v.body ≤ n + 3) (λ v k t. omega arith) ps (shallow_each n ps h))
+        (each_more (λ v. deepest v.body ≤ n) (λ v. has_adjoint m ps u v.name ≡ true → deepest (emitted_adjoint_with sb m ps u vars outvars v).body ≤ n + 3) (λ v k t. adjoint_deep n sb m ps u vars outvars v k) ps (shallow_each n ps h))
+        (each_more (λ v. deepest v.body ≤ n) (λ v. has_pair m ps u v.name ≡ true → (deepest (forth_unit sb m ps (all_units m ps u) v).body ≤ n + 3) × (deepest (back_unit sb m ps (all_units m ps u) v).body ≤ n + 3)) (λ v k t. pair_deep n sb m ps (all_units m ps u) v k) ps (shallow_each n ps h)))

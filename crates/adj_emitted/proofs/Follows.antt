@@ -10,7 +10,7 @@ use Rattle.adj_emitted.specs.Shadowed.{AreCarried}
 
 -- and C holds of each CALL that is written
 abbrev mutual
-  -- an adjointed assignment has a target with a shadow; an adjointed call names an adjoint, and its actuals have shadows; a loop that is reversed
+  -- an adjointed assignment has a target with a shadow; an adjointed call names an adjoint, and its actuals have shadows; no call is split; a loop that is reversed
   -- by a schedule calls its step unit, whether that call is kept or not
   pub FollowsActBy : Schedules → (List ℕ → Terms → Type 0) → Plan → ℕ → Act → Type 0
   FollowsActBy r C p i (assign x subs e) = p.marks.adjointed i ≡ true → p.marks.shadowed x ≡ true
@@ -21,6 +21,7 @@ abbrev mutual
       let g = p.callees name in
       (p.marks.kept i ≡ true → C name args)
       × (p.marks.adjointed i ≡ true → IsName g.adjoint × ((is_runtime g.adjoint ≡ false) × (AreCarried g.shadowed p.marks.shadowed g.dummies (names_of args) × C g.adjoint (with_shadows g.shadowed g.dummies (names_of args)))))
+      × (p.marks.split i ≡ false)
   FollowsActBy r C p i (runtime o) = Unit {0}
 
   pub FollowsBy : Schedules → (List ℕ → Terms → Type 0) → Plan → ℕ → Code → Type 0

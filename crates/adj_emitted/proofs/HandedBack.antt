@@ -24,10 +24,10 @@ use Rattle.adj_transpose.proofs.Variables.{and_true, or_left, or_right}
 use Rattle.adj_reverse.specs.Names.{adjoint_name}
 use Rattle.adj_reverse.specs.Plan.{names_of, actuals_named, group, found_or, Schedules, Step, reversed_by, ByStep}
 use Rattle.adj_reverse.specs.Emission.{with_shadows, adjoint_body_with}
-use Rattle.adj_reverse.specs.Marking.{ProgramMarks, first_statement, callee_of, plan_in}
+use Rattle.adj_reverse.specs.Marking.{ProgramMarks, first_statement, callee_of, plan_in, SplitsNothing}
 use Rattle.adj_reverse.specs.Program.{calls_act, calls_in, turns_act, turns_in, has_adjoint, is_carried_with, all_units, adjoint_names_with, adjoint_unit_with, emitted_adjoint_with, emitted_units_with, schedules_in}
 use Rattle.adj_reverse.specs.Source.{CallUnits}
-use Rattle.adj_reverse.proofs.EmittedUnits.{found_there, adjoint_found, carried_common, answers_there}
+use Rattle.adj_reverse.proofs.EmittedUnits.{found_there, adjoint_found, carried_common}
 use Rattle.adj_reverse.proofs.Variables.{dummy_among}
 use Rattle.adj_checked.proofs.Lists.{Each, each_front, each_behind, each_found}
 use Rattle.adj_checked.proofs.Texts.{actuals_given}
@@ -35,7 +35,7 @@ use Rattle.adj_checked.proofs.Statements.{CallHasNone, call_of_unit}
 use Rattle.adj_checked.proofs.Callings.{calls_found_some}
 use Rattle.adj_checked.proofs.StepCalls.{turned_alone}
 use Rattle.adj_emitted.proofs.StepCalls.{step_body}
-use Rattle.adj_emitted.proofs.Carried.{kept_carried, turned_carried}
+use Rattle.adj_emitted.proofs.Carried.{kept_carried, turned_carried, adjointed_there}
 use Rattle.adj_emitted.proofs.Actuals.{named_back}
 use Rattle.adj_emitted.proofs.CallFaults.{IsSound, Cleared, names_for, keeps, name_apart, emitted_has}
 use Rattle.adj_emitted.proofs.RenamedWrites.{renamed_writes}
@@ -143,8 +143,8 @@ module _ (sb : Bool) (m : ProgramMarks) (ps : List Procedure) (head : Procedure)
   -- ---- what is known of a unit whose adjoint is emitted
 
   module _ (f : Dummies) (back : HandBackNoMore f) (u : Procedure) where
-    named_known : (i : ℕ) (name : List ℕ) (w : Procedure) (given : List (List ℕ)) → find_unit ps name ≡ Some w → (m.kept i ≡ true → is_carried_with sb m ps head name ≡ true) → (m.adjointed i ≡ true → has_adjoint m ps head name ≡ true) → CallWrites f g sc (plan_in m ps u) i name (actuals_named given)
-    named_known i name w given found kept adjointed = record {
+    named_known : SplitsNothing m → (i : ℕ) (name : List ℕ) (w : Procedure) (given : List (List ℕ)) → find_unit ps name ≡ Some w → (m.kept i ≡ true → is_carried_with sb m ps head name ≡ true) → (m.adjointed i ≡ true → has_adjoint m ps head name ≡ true) → CallWrites f g sc (plan_in m ps u) i name (actuals_named given)
+    named_known unsplit i name w given found kept adjointed = record {
       kept = λ t v e. back.carried name (kept t) v (actuals_named given) e;
       adjointed = λ t v apart.
           subst (λ o. is_handed_back v (f (callee_of m ps name o).adjoint) (with_shadows (callee_of m ps name o).shadowed (callee_of m ps name o).dummies (names_of (actuals_named given))) ≡ true → is_handed_back v (g name) (actuals_named given) ≡ true) (sym found)
@@ -154,6 +154,7 @@ module _ (sb : Bool) (m : ProgramMarks) (ps : List Procedure) (head : Procedure)
           (λ h. subst (λ l. Each (λ a. var_eq v (plain a) ≡ true → is_handed_back v (g name) (actuals_named given) ≡ true) (group dummies actuals w.dummies l)) (sym (named_back given))
           (group_each v dummies actuals (is_written ps w) (is_handed_back v (g name) (actuals_named given)) w.dummies given (λ d. h (plain d)) (λ e. subst (λ ws. is_handed_back v ws (actuals_named given) ≡ true) (sym (handed_written ps name w found)) e)));
       own = λ k. no_given turn k (g name) given;
+      unsplit = unsplit i;
     }
 
     -- the step call of a loop that is reversed by a schedule
@@ -173,32 +174,32 @@ module _ (sb : Bool) (m : ProgramMarks) (ps : List Procedure) (head : Procedure)
     loop_known i body mark inside w k (Some s) e turned = (step_turned i body mark s e inside w k (turned s.name (name_refl s.name)), λ n h. absurd (let c : true ≡ false = sym h ∙ turned_alone sc m.adjointed i body mark s n (suc i) e in cc))
 
     mutual
-      act_known : (i line : ℕ) (a : Act) → CallHasNone ps u (line, a) → Each (CallHasNone ps u) (inner a) → IsWrittenAct a → IsKernelAct a → ((n : List ℕ) → calls_act m.kept n i a ≡ true → is_carried_with sb m ps head n ≡ true) → ((n : List ℕ) → calls_act m.adjointed n i a ≡ true → has_adjoint m ps head n ≡ true) → ((n : List ℕ) → turns_act sc m.adjointed n i a ≡ true → is_carried_with sb m ps head n ≡ true) → KnownAct f g sc (plan_in m ps u) i a
-      act_known i line (assign x subs e) c inside w k kept adjointed turned = place_plain x subs w.0
-      act_known i line (choose t a b) c inside w k kept adjointed turned = (
-        code_known (suc i) a (each_front (CallHasNone ps u) (statements a) (statements b) inside) w.1 k.0 (λ n h. kept n (or_left (calls_in m.kept n (suc i) a) (calls_in m.kept n (behind (suc i) a) b) h)) (λ n h. adjointed n (or_left (calls_in m.adjointed n (suc i) a) (calls_in m.adjointed n (behind (suc i) a) b) h)) (λ n h. turned n (or_left (turns_in sc m.adjointed n (suc i) a) (turns_in sc m.adjointed n (behind (suc i) a) b) h)),
-        code_known (behind (suc i) a) b (each_behind (CallHasNone ps u) (statements a) (statements b) inside) w.2 k.1 (λ n h. kept n (or_right (calls_in m.kept n (suc i) a) (calls_in m.kept n (behind (suc i) a) b) h)) (λ n h. adjointed n (or_right (calls_in m.adjointed n (suc i) a) (calls_in m.adjointed n (behind (suc i) a) b) h)) (λ n h. turned n (or_right (turns_in sc m.adjointed n (suc i) a) (turns_in sc m.adjointed n (behind (suc i) a) b) h)),
+      act_known : SplitsNothing m → (i line : ℕ) (a : Act) → CallHasNone ps u (line, a) → Each (CallHasNone ps u) (inner a) → IsWrittenAct a → IsKernelAct a → ((n : List ℕ) → calls_act m.kept n i a ≡ true → is_carried_with sb m ps head n ≡ true) → ((n : List ℕ) → calls_act m.adjointed n i a ≡ true → has_adjoint m ps head n ≡ true) → ((n : List ℕ) → turns_act sc m.adjointed n i a ≡ true → is_carried_with sb m ps head n ≡ true) → KnownAct f g sc (plan_in m ps u) i a
+      act_known unsplit i line (assign x subs e) c inside w k kept adjointed turned = place_plain x subs w.0
+      act_known unsplit i line (choose t a b) c inside w k kept adjointed turned = (
+        code_known unsplit (suc i) a (each_front (CallHasNone ps u) (statements a) (statements b) inside) w.1 k.0 (λ n h. kept n (or_left (calls_in m.kept n (suc i) a) (calls_in m.kept n (behind (suc i) a) b) h)) (λ n h. adjointed n (or_left (calls_in m.adjointed n (suc i) a) (calls_in m.adjointed n (behind (suc i) a) b) h)) (λ n h. turned n (or_left (turns_in sc m.adjointed n (suc i) a) (turns_in sc m.adjointed n (behind (suc i) a) b) h)),
+        code_known unsplit (behind (suc i) a) b (each_behind (CallHasNone ps u) (statements a) (statements b) inside) w.2 k.1 (λ n h. kept n (or_right (calls_in m.kept n (suc i) a) (calls_in m.kept n (behind (suc i) a) b) h)) (λ n h. adjointed n (or_right (calls_in m.adjointed n (suc i) a) (calls_in m.adjointed n (behind (suc i) a) b) h)) (λ n h. turned n (or_right (turns_in sc m.adjointed n (suc i) a) (turns_in sc m.adjointed n (behind (suc i) a) b) h)),
       )
-      act_known i line (loop x a b c body mark) d inside w k kept adjointed turned =
-          let rows = loop_known i body mark inside w.4 k.1 (reversed_by sc m.adjointed i body mark) refl turned in (variable_plain x w.0, (rows.0, code_known (suc i) body inside w.4 k.1 kept adjointed rows.1))
-      act_known i line (during t body) c inside w k kept adjointed turned = code_known (suc i) body inside w.1 k kept adjointed turned
-      act_known i line (call name args) c inside w k kept adjointed turned =
+      act_known unsplit i line (loop x a b c body mark) d inside w k kept adjointed turned =
+          let rows = loop_known i body mark inside w.4 k.1 (reversed_by sc m.adjointed i body mark) refl turned in (variable_plain x w.0, (rows.0, code_known unsplit (suc i) body inside w.4 k.1 kept adjointed rows.1))
+      act_known unsplit i line (during t body) c inside w k kept adjointed turned = code_known unsplit (suc i) body inside w.1 k kept adjointed turned
+      act_known unsplit i line (call name args) c inside w k kept adjointed turned =
           let unit = call_of_unit ps u line name args c in
           let given = actuals_given args k w.1 in
-          subst (CallWrites f g sc (plan_in m ps u) i name) (sym given.1) (named_known i name unit.unit given.0 unit.found (λ t. kept name (rw (t, name_refl name) refl)) (λ t. adjointed name (rw (t, name_refl name) refl)))
-      act_known i line (runtime r) c inside w k kept adjointed turned = k
+          subst (CallWrites f g sc (plan_in m ps u) i name) (sym given.1) (named_known unsplit i name unit.unit given.0 unit.found (λ t. kept name (rw (t, name_refl name) refl)) (λ t. adjointed name (rw (t, name_refl name) refl)))
+      act_known unsplit i line (runtime r) c inside w k kept adjointed turned = k
 
-      code_known : (i : ℕ) (c : Code) → Each (CallHasNone ps u) (statements c) → IsWrittenCode c → IsKernelCode c → ((n : List ℕ) → calls_in m.kept n i c ≡ true → is_carried_with sb m ps head n ≡ true) → ((n : List ℕ) → calls_in m.adjointed n i c ≡ true → has_adjoint m ps head n ≡ true) → ((n : List ℕ) → turns_in sc m.adjointed n i c ≡ true → is_carried_with sb m ps head n ≡ true) → Known f g sc (plan_in m ps u) i c
-      code_known i stop c w k kept adjointed turned = tt
-      code_known i (step line a rest) c w k kept adjointed turned = (
-        act_known i line a c.0 (each_front (CallHasNone ps u) (inner a) (statements rest) c.1) w.0 k.0 (λ n h. kept n (or_left (calls_act m.kept n i a) (calls_in m.kept n (next i a) rest) h)) (λ n h. adjointed n (or_left (calls_act m.adjointed n i a) (calls_in m.adjointed n (next i a) rest) h)) (λ n h. turned n (or_left (turns_act sc m.adjointed n i a) (turns_in sc m.adjointed n (next i a) rest) h)),
-        code_known (next i a) rest (each_behind (CallHasNone ps u) (inner a) (statements rest) c.1) w.1 k.1 (λ n h. kept n (or_right (calls_act m.kept n i a) (calls_in m.kept n (next i a) rest) h)) (λ n h. adjointed n (or_right (calls_act m.adjointed n i a) (calls_in m.adjointed n (next i a) rest) h)) (λ n h. turned n (or_right (turns_act sc m.adjointed n i a) (turns_in sc m.adjointed n (next i a) rest) h)),
+      code_known : SplitsNothing m → (i : ℕ) (c : Code) → Each (CallHasNone ps u) (statements c) → IsWrittenCode c → IsKernelCode c → ((n : List ℕ) → calls_in m.kept n i c ≡ true → is_carried_with sb m ps head n ≡ true) → ((n : List ℕ) → calls_in m.adjointed n i c ≡ true → has_adjoint m ps head n ≡ true) → ((n : List ℕ) → turns_in sc m.adjointed n i c ≡ true → is_carried_with sb m ps head n ≡ true) → Known f g sc (plan_in m ps u) i c
+      code_known unsplit i stop c w k kept adjointed turned = tt
+      code_known unsplit i (step line a rest) c w k kept adjointed turned = (
+        act_known unsplit i line a c.0 (each_front (CallHasNone ps u) (inner a) (statements rest) c.1) w.0 k.0 (λ n h. kept n (or_left (calls_act m.kept n i a) (calls_in m.kept n (next i a) rest) h)) (λ n h. adjointed n (or_left (calls_act m.adjointed n i a) (calls_in m.adjointed n (next i a) rest) h)) (λ n h. turned n (or_left (turns_act sc m.adjointed n i a) (turns_in sc m.adjointed n (next i a) rest) h)),
+        code_known unsplit (next i a) rest (each_behind (CallHasNone ps u) (inner a) (statements rest) c.1) w.1 k.1 (λ n h. kept n (or_right (calls_act m.kept n i a) (calls_in m.kept n (next i a) rest) h)) (λ n h. adjointed n (or_right (calls_act m.adjointed n i a) (calls_in m.adjointed n (next i a) rest) h)) (λ n h. turned n (or_right (turns_act sc m.adjointed n i a) (turns_in sc m.adjointed n (next i a) rest) h)),
       )
 
     pub unit_known : IsSound m ps u → find_unit ps u.name ≡ Some u → has_adjoint m ps head u.name ≡ true → Known f g sc (plan_in m ps u) (first_statement ps u.name) u.body
     unit_known s found there =
-        code_known (first_statement ps u.name) u.body s.0.0.calls written.body s.0.0.kernel (kept_carried sb m ps head u found there)
-        (λ n c. answers_there sb m ps head vars outvars known n (calls_found_some (has_adjoint m ps head) m.adjointed n 0 ps u.name u found there c)) (turned_carried sb m ps head u found there)
+        code_known s.2 (first_statement ps u.name) u.body s.0.0.calls written.body s.0.0.kernel (kept_carried sb m ps head u found there s.2)
+        (adjointed_there sb m ps head u found there s.2) (turned_carried sb m ps head u found there s.2)
       where
         written : IsWrittenProcedure u
         written = s.0.0.written

@@ -1,15 +1,15 @@
 -- Marks of facts that meet the laws have the shadows that they use.
-use Rattle.std.proofs.Common.{◌≡◌, ℕ, suc, List, [], ◌∷◌, refl, sym, ap, ◌∙◌, subst, if◌then◌else◌}
+use Rattle.std.proofs.Common.{◌≡◌, ℕ, suc, List, [], ◌∷◌, refl, sym, ap, ◌∙◌, subst, if◌then◌else◌, Bool, true, false}
 use Rattle.std.specs.Prelude.{Option, Some, None}
 use Rattle.adj_tree.specs.Code.{plain, Act, assign, choose, loop, during, call, runtime, Code, stop, step, Procedure}
 use Rattle.adj_tree.proofs.Names.{name_refl}
 use Rattle.adj_meaning.specs.Written.{find_unit}
-use Rattle.adj_transpose.specs.Facts.{In}
+use Rattle.adj_transpose.specs.Facts.{In, Facts}
 use Rattle.adj_transpose.specs.Naming.{AreApart}
 use Rattle.adj_transpose.specs.Marks.{Vars, next, behind, point_before, point_after}
 use Rattle.adj_transpose.proofs.Variables.{and_true, has_apart}
 use Rattle.adj_reverse.specs.Plan.{beside, IsActual, names_of}
-use Rattle.adj_reverse.specs.Laws.{point_inside, ActLaws, ListLaws}
+use Rattle.adj_reverse.specs.Laws.{point_inside, ActLaws, ListLaws, CalleeFacts, CallLawsBy}
 use Rattle.adj_reverse.specs.Marking.{ProgramFacts, callee_facts, callee_in, callee_of, facts_in, first_statement, entry_point, plan_in}
 use Rattle.adj_reverse.proofs.Passing.{beside_key}
 use Rattle.adj_checked.proofs.Lists.{Each, each_found}
@@ -30,6 +30,11 @@ carried sh own (d ∷ ds) (a ∷ given) p f = (
   carried sh own ds given p.1 (λ e b h k. f e b (ap (λ t. if t then Some a else beside ds given e) (has_apart e d ds (beside_key ds given e b h) p.0) ∙ h) k),
 )
 
+-- a call, split or not, has an actual with a shadow for each dummy with one
+actual_shadowed : (b : Bool) (w : Facts) (i : ℕ) (g : CalleeFacts) (given : List (List ℕ)) → CallLawsBy b w i g given → (d a : List ℕ) → IsActual g.callee.dummies given d a → In (plain d) g.callee.shadowed → In (plain a) w.marks.shadowed
+actual_shadowed true w i g given laws = laws.call.shadows_actual
+actual_shadowed false w i g given laws = laws.shadows_actual
+
 module _ (w : ProgramFacts) (ps : List Procedure) (once : (name : List ℕ) (v : Procedure) → find_unit ps name ≡ Some v → AreApart v.dummies) (u : Procedure) where
   -- the dummies of what is called are apart
   callee_once : (name : List ℕ) → AreApart (callee_in w.marks ps name).dummies
@@ -47,7 +52,7 @@ module _ (w : ProgramFacts) (ps : List Procedure) (once : (name : List ℕ) (v :
     act_shadows i (during c body) l = list_shadows (point_inside i) (suc i) body l.1
     act_shadows i (call name args) l =
         λ h. subst (AreCarried (callee_in w.marks ps name).shadowed (w.marks.shadowed u.name) (callee_in w.marks ps name).dummies) (sym (ap names_of l.1.0 ∙ named_back l.0))
-        (let laws = l.1.1 in carried (callee_in w.marks ps name).shadowed (w.marks.shadowed u.name) (callee_in w.marks ps name).dummies l.0 (callee_once name) laws.shadows_actual)
+        (carried (callee_in w.marks ps name).shadowed (w.marks.shadowed u.name) (callee_in w.marks ps name).dummies l.0 (callee_once name) (actual_shadowed (w.marks.split i) (facts_in w u.name) i (callee_facts w ps name) l.0 l.1.1))
     act_shadows i (runtime r) l = tt
 
     list_shadows : (from i : ℕ) (c : Code) → ListLaws (callee_facts w ps) (facts_in w u.name) from i c → HasShadows (plan_in w.marks ps u) i c

@@ -13,7 +13,7 @@ use Rattle.adj_transpose.proofs.Variables.{or_left, or_right}
 use Rattle.adj_kernel.proofs.FreshWritten.{name-append, fresh-name}
 use Rattle.adj_reverse.specs.Plan.{actuals_named, Schedules, Step, reversed_by, ByStep}
 use Rattle.adj_reverse.specs.Names.{adjoint_after, source_names}
-use Rattle.adj_reverse.specs.Marking.{ProgramMarks, callee_of, callee_in, plan_in}
+use Rattle.adj_reverse.specs.Marking.{ProgramMarks, callee_of, callee_in, plan_in, SplitsNothing}
 use Rattle.adj_reverse.specs.Source.{is_unit}
 use Rattle.adj_reverse.proofs.EmittedUnits.{found_there}
 use Rattle.adj_reverse.proofs.Rounds.{either}
@@ -109,29 +109,30 @@ module _ (m : ProgramMarks) (ps : List Procedure) (named : Each (λ u. IsName u.
   any_step (Some s) X h = (tt, h)
 
   mutual
-    follows' : (sc : Schedules) (i line : ℕ) (a : Act) → CallHasNone ps u (line, a) → Each (CallHasNone ps u) (inner a) → HasShadows' (plan_in m ps u) i a → FollowsActBy sc Any (plan_in m ps u) i a
-    follows' sc i line (assign x subs e) c inside h = h
-    follows' sc i line (choose t a b) c inside h = (
-      follows_by sc (suc i) a (each_front (CallHasNone ps u) (statements a) (statements b) inside) h.0,
-      follows_by sc (behind (suc i) a) b (each_behind (CallHasNone ps u) (statements a) (statements b) inside) h.1,
+    follows' : SplitsNothing m → (sc : Schedules) (i line : ℕ) (a : Act) → CallHasNone ps u (line, a) → Each (CallHasNone ps u) (inner a) → HasShadows' (plan_in m ps u) i a → FollowsActBy sc Any (plan_in m ps u) i a
+    follows' unsplit sc i line (assign x subs e) c inside h = h
+    follows' unsplit sc i line (choose t a b) c inside h = (
+      follows_by unsplit sc (suc i) a (each_front (CallHasNone ps u) (statements a) (statements b) inside) h.0,
+      follows_by unsplit sc (behind (suc i) a) b (each_behind (CallHasNone ps u) (statements a) (statements b) inside) h.1,
     )
-    follows' sc i line (loop x a b c body n) d inside h = any_step (reversed_by sc m.adjointed i body n) (FollowsBy sc Any (plan_in m ps u) (suc i) body) (follows_by sc (suc i) body inside h)
-    follows' sc i line (during t body) c inside h = follows_by sc (suc i) body inside h
-    follows' sc i line (call name args) c inside h = (
+    follows' unsplit sc i line (loop x a b c body n) d inside h = any_step (reversed_by sc m.adjointed i body n) (FollowsBy sc Any (plan_in m ps u) (suc i) body) (follows_by unsplit sc (suc i) body inside h)
+    follows' unsplit sc i line (during t body) c inside h = follows_by unsplit sc (suc i) body inside h
+    follows' unsplit sc i line (call name args) c inside h = (
       λ t. tt,
       λ t. let unit = call_of_unit ps u line name args c in
           let made = callee_named name unit.unit unit.found in
           (made.0, (made_no_runtime (callee_in m ps name).adjoint made, (h t, tt))),
+      unsplit i,
     )
-    follows' sc i line (runtime r) c inside h = tt
+    follows' unsplit sc i line (runtime r) c inside h = tt
 
-    pub follows_by : (sc : Schedules) (i : ℕ) (c : Code) → Each (CallHasNone ps u) (statements c) → HasShadows (plan_in m ps u) i c → FollowsBy sc Any (plan_in m ps u) i c
-    follows_by sc i stop c h = tt
-    follows_by sc i (step line a rest) c h = (
-      follows' sc i line a c.0 (each_front (CallHasNone ps u) (inner a) (statements rest) c.1) h.0,
-      follows_by sc (next i a) rest (each_behind (CallHasNone ps u) (inner a) (statements rest) c.1) h.1,
+    pub follows_by : SplitsNothing m → (sc : Schedules) (i : ℕ) (c : Code) → Each (CallHasNone ps u) (statements c) → HasShadows (plan_in m ps u) i c → FollowsBy sc Any (plan_in m ps u) i c
+    follows_by unsplit sc i stop c h = tt
+    follows_by unsplit sc i (step line a rest) c h = (
+      follows' unsplit sc i line a c.0 (each_front (CallHasNone ps u) (inner a) (statements rest) c.1) h.0,
+      follows_by unsplit sc (next i a) rest (each_behind (CallHasNone ps u) (inner a) (statements rest) c.1) h.1,
     )
 
   -- where no loop is reversed by a schedule
-  pub follows : (i : ℕ) (c : Code) → Each (CallHasNone ps u) (statements c) → HasShadows (plan_in m ps u) i c → Follows Any (plan_in m ps u) i c
-  follows i c d h = follows_by None i c d h
+  pub follows : SplitsNothing m → (i : ℕ) (c : Code) → Each (CallHasNone ps u) (statements c) → HasShadows (plan_in m ps u) i c → Follows Any (plan_in m ps u) i c
+  follows unsplit i c d h = follows_by unsplit None i c d h

@@ -23,7 +23,7 @@ use Rattle.adj_transpose.specs.Program.{unit_name, unmarked, unit_at}
 use Rattle.adj_transpose.proofs.Naming.{has-append}
 use Rattle.adj_transpose.proofs.Variables.{or_false, or_left, or_right, name_comm, has_apart}
 use Rattle.adj_reverse.specs.Names.{source_names, adjoint_after, adjoint_name}
-use Rattle.adj_reverse.specs.Marking.{ProgramMarks, first_statement, plan_in}
+use Rattle.adj_reverse.specs.Marking.{ProgramMarks, first_statement, plan_in, SplitsNothing}
 use Rattle.adj_reverse.specs.Program.{has_adjoint, is_carried_with, made_names, all_units, adjoint_unit_with, emitted_adjoint_with, emitted_units_with, emitted_for_with, schedules_in}
 use Rattle.adj_reverse.specs.Source.{is_unit}
 use Rattle.adj_reverse.proofs.Names.{adjoint_free}
@@ -36,6 +36,7 @@ use Rattle.adj_checked.proofs.Units.{dummy_names, extents_dummies, names_known}
 use Rattle.adj_emitted.specs.Shadowed.{HasShadows, AllHaveShadows}
 use Rattle.adj_emitted.specs.Emitted.{NamesHaveNone}
 use Rattle.adj_emitted.proofs.MadeNames.{follows_by}
+use Rattle.adj_reverse.proofs.Unsplit.{unsplit_names}
 use Rattle.adj_emitted.proofs.Tables.{IsFree}
 use Rattle.adj_emitted.proofs.Sources.{each_name, of_each, UnitSound, each_there, all_named, all_sound}
 use Rattle.adj_emitted.proofs.Programs.{cleared}
@@ -181,7 +182,7 @@ in_flat f (u ∷ us) = (
 none_of_seven : (a b c d e f g : List Refusal) → a ≡ [] → b ≡ [] → c ≡ [] → d ≡ [] → e ≡ [] → f ≡ [] → g ≡ [] → a ++ (b ++ (c ++ (d ++ (e ++ (f ++ g))))) ≡ []
 none_of_seven a b c d e f g ha hb hc hd he hf hg = λ i. ha i ++ (hb i ++ (hc i ++ (hd i ++ (he i ++ (hf i ++ hg i)))))
 
-module _ (sb : Bool) (m : ProgramMarks) (ps : List Procedure) (head : Procedure) (vars outvars : List Bool) (named : Each (λ u. IsName u.name) ps) (there : Each (λ u. is_unit ps u.name ≡ true) ps) where
+module _ (sb : Bool) (m : ProgramMarks) (unsplit : SplitsNothing m) (ps : List Procedure) (head : Procedure) (vars outvars : List Bool) (named : Each (λ u. IsName u.name) ps) (there : Each (λ u. is_unit ps u.name ≡ true) ps) where
   abbrev qs : List Procedure
   qs = emitted_units_with sb m ps head vars outvars ps
 
@@ -191,7 +192,7 @@ module _ (sb : Bool) (m : ProgramMarks) (ps : List Procedure) (head : Procedure)
   -- a variable of the source
   own_no_unit : (x : List ℕ) → has_name x (map unit_name ps) ≡ false → has_name x (flat_map variables ps) ≡ true → NoUnit x
   own_no_unit x h k =
-      not_emitted sb m ps head vars outvars x ps (go ps (others_apart sb m ps head vars outvars ps x h) there)
+      not_emitted sb m ps head vars outvars unsplit x ps (go ps (others_apart sb m ps head vars outvars ps x h) there)
     where
       adjoint_other : (v : Procedure) → is_unit ps v.name ≡ true → name_eq x (adjoint_name ps v) ≡ false
       adjoint_other v t =
@@ -206,11 +207,13 @@ module _ (sb : Bool) (m : ProgramMarks) (ps : List Procedure) (head : Procedure)
   made_no_unit : (z : List ℕ) → has_name z (all_units m ps head) ≡ false → NoUnit z
   made_no_unit z h =
       let both = or_false (has_name z (map unit_name ps)) (has_name z (made_names m ps head ps)) (sym (has-append z (map unit_name ps) (made_names m ps head ps)) ∙ h) in
-      not_emitted sb m ps head vars outvars z ps (go ps (others_apart sb m ps head vars outvars ps z both.0) both.1)
+      not_emitted sb m ps head vars outvars unsplit z ps (go ps (others_apart sb m ps head vars outvars ps z both.0) both.1)
     where
       go : (us : List Procedure) → Each (λ u. name_eq z u.name ≡ false) us → has_name z (made_names m ps head us) ≡ false → Each (λ u. (name_eq z u.name ≡ false) × (has_adjoint m ps head u.name ≡ true → name_eq z (adjoint_after (source_names ps) ps u.name) ≡ false)) us
       go [] n k = tt
-      go (v ∷ us) n k = ((n.0, λ e. here (has_adjoint m ps head v.name) e k), go us n.1 (rest (has_adjoint m ps head v.name) k))
+      go (v ∷ us) n h =
+          let k = sym (ap (has_name z) (unsplit_names m unsplit ps head v us)) ∙ h in
+          ((n.0, λ e. here (has_adjoint m ps head v.name) e k), go us n.1 (rest (has_adjoint m ps head v.name) k))
         where
           here : (b : Bool) → b ≡ true → has_name z (if b then adjoint_name ps v ∷ made_names m ps head us else made_names m ps head us) ≡ false → name_eq z (adjoint_name ps v) ≡ false
           here true e k = (or_false (name_eq z (adjoint_name ps v)) (has_name z (made_names m ps head us)) k).0
@@ -263,7 +266,7 @@ module _ (sb : Bool) (m : ProgramMarks) (ps : List Procedure) (head : Procedure)
       clean : (at_turn at_end : List (List ℕ)) → Each (λ x. (has_name x (variables u) ≡ true) × (m.shadowed u.name (plain x) ≡ true)) at_turn → Each (λ x. (has_name x (variables u) ≡ true) × (m.shadowed u.name (plain x) ≡ true)) at_end → faults_of_names run_rules qs (adjoint_unit_with sb m ps (all_units m ps head) u at_turn at_end) ≡ []
       clean at_turn at_end turned ended =
           let v = adjoint_unit_with sb m ps (all_units m ps head) u at_turn at_end in
-          let f = follows_by m ps named u (schedules_in sb ps) (first_statement ps u.name) u.body s.calls h in
+          let f = follows_by m ps named u unsplit (schedules_in sb ps) (first_statement ps u.name) u.body s.calls h in
           none_of_seven (undeclared v) (declared_twice v) (misused run_rules v) (bad_extents v) (reserved_variables qs v) (runtime_calls run_rules v) (too_many_variables run_rules v)
           (no_undeclared sb m ps (all_units m ps head) u s.written s.kernel s.free s.calls f n.dummies_once n.extent_dummy n.extents n.stands at_turn at_end turned ended)
           (no_twice sb m ps (all_units m ps head) u s.written s.kernel s.free s.calls f n.dummies_once n.extent_dummy n.extents n.stands at_turn at_end turned ended)
@@ -280,7 +283,7 @@ module _ (sb : Bool) (m : ProgramMarks) (ps : List Procedure) (head : Procedure)
       go false = clean [] [] tt tt
 
   emitted_none : Each (λ u. UnitSound ps u × NamesSound ps u) ps → AllHaveShadows m ps ps → name_faults run_rules qs ≡ []
-  emitted_none sound shadowed = flat_none (faults_of_names run_rules qs) qs (each_emitted sb m ps head vars outvars (λ u. faults_of_names run_rules qs u ≡ []) ps (carried ps sound (in_flat variables ps)) (adjoints ps sound (in_flat variables ps) shadowed))
+  emitted_none sound shadowed = flat_none (faults_of_names run_rules qs) qs (each_emitted sb m ps head vars outvars unsplit (λ u. faults_of_names run_rules qs u ≡ []) ps (carried ps sound (in_flat variables ps)) (adjoints ps sound (in_flat variables ps) shadowed))
     where
       carried : (us : List Procedure) → Each (λ u. UnitSound ps u × NamesSound ps u) us → Each (λ u. (x : List ℕ) → has_name x (variables u) ≡ true → has_name x (flat_map variables ps) ≡ true) us → Each (λ u. is_carried_with sb m ps head u.name ≡ true → faults_of_names run_rules qs u ≡ []) us
       carried [] s f = tt
@@ -291,8 +294,8 @@ module _ (sb : Bool) (m : ProgramMarks) (ps : List Procedure) (head : Procedure)
       adjoints (u ∷ us) s f h = (λ k. adjoint_none u s.0.0 s.0.1 f.0 h.0, adjoints us s.1 f.1 h.1)
 
 pub names_have_none : NamesHaveNone
-names_have_none rules ps checked sb m shadowed head vars outvars = go (unit_at head ps)
+names_have_none rules ps checked sb m unsplit shadowed head vars outvars = go (unit_at head ps)
   where
     go : (us : List Procedure) → name_faults run_rules (emitted_for_with sb m ps vars outvars us) ≡ []
     go [] = refl
-    go (u ∷ us) = emitted_none sb m ps u vars outvars (all_named rules ps checked) (each_there ps) (all_names_sound rules ps checked) shadowed
+    go (u ∷ us) = emitted_none sb m unsplit ps u vars outvars (all_named rules ps checked) (each_there ps) (all_names_sound rules ps checked) shadowed

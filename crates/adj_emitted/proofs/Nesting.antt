@@ -12,13 +12,14 @@ use Rattle.adj_transpose.specs.Program.{unmarked, unit_at}
 use Rattle.adj_reverse.specs.AdjointOf.{is_active_where, has_own_where, temps_in_where, shrunk_where, temps_where, back_where, adjoint_where}
 use Rattle.adj_reverse.specs.Plan.{Plan, is_emitted, names_of, actuals_named, save_group, snapshot_group, step_snapshot, found_or, Schedules, Step, reversed_by}
 use Rattle.adj_reverse.specs.ReversalCode.{at_turn, arm, advance, arms, one_action, reversal, slots_of, set_slots, push_slots, pop_slots, reversed_forward, reversed_backward, row_forward, row_backward}
-use Rattle.adj_reverse.specs.Emission.{is_empty, push, pop, pushes, pops, literal, adjoint_call, told_forward, told_backward, loop_forward, loop_backward, while_forward, while_backward, push_own, pop_own, set_own, reset, forward_act_with, forward_with, backward_act_with, backward_with, cleared, adjoint_body_with}
+use Rattle.adj_reverse.specs.Emission.{is_empty, push, pop, pushes, pops, literal, adjoint_call, told_forward, told_backward, loop_forward, loop_backward, while_forward, while_backward, push_own, pop_own, set_own, reset, forward_act_with, forward_with, backward_act_with, backward_with, cleared, adjoint_body_with, with_shadows}
+use Rattle.adj_reverse.specs.SplitRows.{forth_body, back_body}
 use Rattle.adj_reverse.specs.Marking.{ProgramMarks, first_statement, plan_in}
-use Rattle.adj_reverse.specs.Program.{has_adjoint, is_carried_with, all_units, adjoint_names_with, adjoint_unit_with, emitted_adjoint_with, emitted_units_with, emitted_for_with, emitted_program_with, schedules_in}
+use Rattle.adj_reverse.specs.Program.{has_adjoint, is_carried_with, all_units, adjoint_names_with, adjoint_unit_with, emitted_adjoint_with, emitted_units_with, emitted_for_with, emitted_program_with, schedules_in, has_pair, split_plan, left_by, forth_unit, back_unit}
 use Rattle.adj_checked.proofs.Lists.{Each, each_more}
 use Rattle.adj_emitted.specs.Emitted.{nested_with, KeepsNesting}
 use Rattle.adj_emitted.proofs.StepCalls.{from_keep, from_turn, from_advance}
-use Rattle.adj_emitted.proofs.UnitFaults.{each_emitted}
+use Rattle.adj_emitted.proofs.UnitFaults.{each_made}
 
 -- ---- lists
 
@@ -29,6 +30,11 @@ below_append n (step line a c) d h g = let rest = below_append n c d (omega arit
 below_if : (n : ℕ) (b : Bool) (c : Code) → code_depth c ≤ n → code_depth (code_if b c) ≤ n
 below_if n true c h = h
 below_if n false c h = omega arith
+
+-- of two
+below_choice : (n : ℕ) (b : Bool) (c d : Code) → code_depth c ≤ n → code_depth d ≤ n → code_depth (if b then c else d) ≤ n
+below_choice n true c d h g = h
+below_choice n false c d h g = g
 
 -- ---- assignments
 
@@ -273,11 +279,11 @@ module _ (p : Plan) where
       act_below i d line (call name args) =
           let g = p.callees name in
           let high = 0 + extra in (
-            below_if high (is_emitted p.marks i) _
+            below_if high (is_emitted p.marks i) _ (below_choice high (p.marks.split i) (one line (call g.forth args)) _ (omega arith)
                 (below_append high (pushes p line (save_group p.marks i g (names_of args))) _ (flat_pushes high line (save_group p.marks i g (names_of args)))
-                (below_append high (code_if (p.marks.adjointed i) _) _ (below_if high (p.marks.adjointed i) _ (flat_pushes high line (snapshot_group g (names_of args)))) (below_if high (p.marks.kept i) (one line (call name args)) (omega arith)))),
-            below_if high (is_emitted p.marks i) _
-                (below_append high (code_if (p.marks.adjointed i) _) _ (below_if high (p.marks.adjointed i) _ (below_append high (pops p line (snapshot_group g (names_of args))) (one line (adjoint_call g (names_of args))) (flat_pops high line (snapshot_group g (names_of args))) (omega arith))) (flat_pops high line (save_group p.marks i g (names_of args)))),
+                (below_append high (code_if (p.marks.adjointed i) _) _ (below_if high (p.marks.adjointed i) _ (flat_pushes high line (snapshot_group g (names_of args)))) (below_if high (p.marks.kept i) (one line (call name args)) (omega arith))))),
+            below_if high (is_emitted p.marks i) _ (below_choice high (p.marks.split i) (one line (call g.back (with_shadows g.shadowed g.dummies (names_of args)))) _ (omega arith)
+                (below_append high (code_if (p.marks.adjointed i) _) _ (below_if high (p.marks.adjointed i) _ (below_append high (pops p line (snapshot_group g (names_of args))) (one line (adjoint_call g (names_of args))) (flat_pops high line (snapshot_group g (names_of args))) (omega arith))) (flat_pops high line (save_group p.marks i g (names_of args))))),
           )
       act_below i d line (runtime r) = (omega arith, omega arith)
 
@@ -295,6 +301,13 @@ module _ (p : Plan) where
     body_below n i line c at_turn at_end h =
         let both = list_below i 0 c in
         below_append (n + extra) (forward_with sc p i 0 c) _ (omega arith) (below_append (n + extra) (cleared p line at_turn) _ (cleared_below (n + extra) line at_turn) (below_append (n + extra) (backward_with sc p i 0 c) (cleared p line at_end) (omega arith) (cleared_below (n + extra) line at_end)))
+
+    -- the bodies of the forward and the backward unit
+    forth_below : (n i line : ℕ) (left : List (List ℕ)) (c : Code) → code_depth c ≤ n → Below n (forth_body sc p i line left c)
+    forth_below n i line left c h = let both = list_below i 0 c in below_append (n + extra) (forward_with sc p i 0 c) (pushes p line left) (omega arith) (flat_pushes (n + extra) line left)
+
+    back_below : (n i line : ℕ) (left : List (List ℕ)) (c : Code) → code_depth c ≤ n → Below n (back_body sc p i line left c)
+    back_below n i line left c h = let both = list_below i 0 c in below_append (n + extra) (pops p line left) (backward_with sc p i 0 c) (flat_pops (n + extra) line left) (omega arith)
 
 -- ---- renaming keeps it
 
@@ -342,6 +355,15 @@ adjoint_below n sb m ps head vars outvars u h = go (name_eq head.name u.name)
     go true = below _ _
     go false = below [] []
 
+-- the units of a pair
+pair_below : (n : ℕ) (sb : Bool) (m : ProgramMarks) (ps : List Procedure) (units : List (List ℕ)) (u : Procedure) → code_depth u.body ≤ n → (code_depth (forth_unit sb m ps units u).body ≤ n + levels sb) × (code_depth (back_unit sb m ps units u).body ≤ n + levels sb)
+pair_below n sb m ps units u h =
+    let p = split_plan m ps u in
+    let i = first_statement ps u.name in (
+      subst (λ k. k ≤ n + levels sb) (sym (renamed_depth _ (forth_body (schedules_in sb ps) p i u.line (left_by ps u) u.body))) (forth_below p (schedules_in sb ps) (levels sb) (levels_enough sb ps) n i u.line (left_by ps u) u.body h),
+      subst (λ k. k ≤ n + levels sb) (sym (renamed_depth _ (back_body (schedules_in sb ps) p i u.line (left_by ps u) u.body))) (back_below p (schedules_in sb ps) (levels sb) (levels_enough sb ps) n i u.line (left_by ps u) u.body h),
+    )
+
 levels_are : (sb : Bool) (n : ℕ) → n + levels sb ≡ nested_with sb n
 levels_are false n = omega arith
 levels_are true n = refl
@@ -353,5 +375,6 @@ keeps_nesting n ps h sb m head vars outvars = subst (λ k. IsNested k (emitted_p
     go [] = tt
     go (u ∷ us) =
         each_nested (n + levels sb) (emitted_units_with sb m ps u vars outvars ps)
-        (each_emitted sb m ps u vars outvars (λ v. code_depth v.body ≤ n + levels sb) ps (each_more (λ v. code_depth v.body ≤ n) (λ v. is_carried_with sb m ps u v.name ≡ true → code_depth v.body ≤ n + levels sb) (λ v k t. omega arith) ps (nested_each n ps h))
-        (each_more (λ v. code_depth v.body ≤ n) (λ v. has_adjoint m ps u v.name ≡ true → code_depth (emitted_adjoint_with sb m ps u vars outvars v).body ≤ n + levels sb) (λ v k t. adjoint_below n sb m ps u vars outvars v k) ps (nested_each n ps h)))
+        (each_made sb m ps u vars outvars (λ v. code_depth v.body ≤ n + levels sb) ps (each_more (λ v. code_depth v.body ≤ n) (λ v. is_carried_with sb m ps u v.name ≡ true → code_depth v.body ≤ n + levels sb) (λ v k t. omega arith) ps (nested_each n ps h))
+        (each_more (λ v. code_depth v.body ≤ n) (λ v. has_adjoint m ps u v.name ≡ true → code_depth (emitted_adjoint_with sb m ps u vars outvars v).body ≤ n + levels sb) (λ v k t. adjoint_below n sb m ps u vars outvars v k) ps (nested_each n ps h))
+        (each_more (λ v. code_depth v.body ≤ n) (λ v. has_pair m ps u v.name ≡ true → (code_depth (forth_unit sb m ps (all_units m ps u) v).body ≤ n + levels sb) × (code_depth (back_unit sb m ps (all_units m ps u) v).body ≤ n + levels sb)) (λ v k t. pair_below n sb m ps (all_units m ps u) v k) ps (nested_each n ps h)))

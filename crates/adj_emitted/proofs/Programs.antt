@@ -1,5 +1,5 @@
 -- What is emitted for a checked program is written.
-use Rattle.std.proofs.Common.{◌≡◌, ℕ, suc, Bool, true, false, List, [], ◌∷◌, ◌++◌, refl, if◌then◌else◌}
+use Rattle.std.proofs.Common.{◌≡◌, ℕ, suc, Bool, true, false, List, [], ◌∷◌, ◌++◌, refl, if◌then◌else◌, sym, subst}
 use Rattle.std.specs.Prelude.{Option, Some, None}
 use Rattle.std.proofs.lemmas.List.Elements.{All-nil, All-cons}
 use Rattle.adj_tree.specs.Code.{plain, name_eq, Act, assign, choose, loop, during, call, runtime, Code, stop, step, Procedure}
@@ -12,10 +12,11 @@ use Rattle.adj_transpose.specs.Marked.{names_in}
 use Rattle.adj_transpose.specs.Program.{unmarked, unit_at}
 use Rattle.adj_reverse.specs.Names.{source_names}
 use Rattle.adj_reverse.specs.Plan.{names_of}
-use Rattle.adj_reverse.specs.Marking.{ProgramMarks, full_marks, first_statement, callee_of, callee_in, plan_in}
-use Rattle.adj_reverse.specs.Program.{has_adjoint, is_carried_with, all_units, adjoint_unit_with, emitted_adjoint_with, emitted_units_with, emitted_for_with, schedules_in}
+use Rattle.adj_reverse.specs.Marking.{ProgramMarks, full_marks, first_statement, callee_of, callee_in, plan_in, SplitsNothing}
+use Rattle.adj_reverse.specs.Program.{has_adjoint, is_carried_with, all_units, adjoint_unit_with, emitted_adjoint_with, emitted_for_with, schedules_in}
 use Rattle.adj_reverse.proofs.HeadNames.{unmarked_in}
 use Rattle.adj_reverse.proofs.Variables.{dummy_among}
+use Rattle.adj_reverse.proofs.Unsplit.{adjoint_units, unsplit_units}
 use Rattle.adj_checked.proofs.Lists.{Each}
 use Rattle.adj_emitted.specs.Shadowed.{AreCarried, HasShadows', HasShadows, AllHaveShadows}
 use Rattle.adj_emitted.specs.Emitted.{MarkedIsWritten, EmittedIsWritten}
@@ -32,36 +33,36 @@ module _ (m : ProgramMarks) (ps : List Procedure) (head : Procedure) (vars outva
       each_marked (λ x. has_name x (variables u) ≡ true) (m.shadowed u.name) (unmarked u.dummies marks)
       (each_name (λ x. has_name x (variables u) ≡ true) (unmarked u.dummies marks) (λ x h. dummy_among u x (unmarked_in x u.dummies marks h)))
 
-module _ (sb : Bool) (m : ProgramMarks) (ps : List Procedure) (head : Procedure) (vars outvars : List Bool) (named : Each (λ u. IsName u.name) ps) where
+module _ (sb : Bool) (m : ProgramMarks) (unsplit : SplitsNothing m) (ps : List Procedure) (head : Procedure) (vars outvars : List Bool) (named : Each (λ u. IsName u.name) ps) where
   adjoint_written : (u : Procedure) → UnitSound ps u → HasShadows (plan_in m ps u) (first_statement ps u.name) u.body → IsWrittenProcedure (emitted_adjoint_with sb m ps head vars outvars u)
   adjoint_written u s h = go (name_eq head.name u.name)
     where
       written : (at_turn at_end : List (List ℕ)) → Each (λ x. (has_name x (variables u) ≡ true) × (m.shadowed u.name (plain x) ≡ true)) at_turn → Each (λ x. (has_name x (variables u) ≡ true) × (m.shadowed u.name (plain x) ≡ true)) at_end → IsWrittenProcedure (adjoint_unit_with sb m ps (all_units m ps head) u at_turn at_end)
-      written at_turn at_end turned ended = unit_written sb m ps (all_units m ps head) u s.written s.kernel s.free s.calls (follows_by m ps named u (schedules_in sb ps) (first_statement ps u.name) u.body s.calls h) at_turn at_end (adjoint_named (source_names ps) ps u.name named s.there).0 turned ended
+      written at_turn at_end turned ended = unit_written sb m ps (all_units m ps head) u s.written s.kernel s.free s.calls (follows_by m ps named u unsplit (schedules_in sb ps) (first_statement ps u.name) u.body s.calls h) at_turn at_end (adjoint_named (source_names ps) ps u.name named s.there).0 turned ended
 
       go : (b : Bool) → IsWrittenProcedure (if b then adjoint_unit_with sb m ps (all_units m ps head) u (names_in (m.shadowed u.name) (unmarked u.dummies outvars)) (names_in (m.shadowed u.name) (unmarked u.dummies vars)) else adjoint_unit_with sb m ps (all_units m ps head) u [] [])
       go true = written _ _ (cleared m ps head vars outvars named u outvars) (cleared m ps head vars outvars named u vars)
       go false = written [] [] tt tt
 
-  units_written : (us : List Procedure) → Each (UnitSound ps) us → AllHaveShadows m ps us → IsWritten (emitted_units_with sb m ps head vars outvars us)
+  units_written : (us : List Procedure) → Each (UnitSound ps) us → AllHaveShadows m ps us → IsWritten (adjoint_units sb m ps head vars outvars us)
   units_written [] s h = All-nil IsWrittenProcedure
   units_written (u ∷ us) s h = carried (is_carried_with sb m ps head u.name) (made (has_adjoint m ps head u.name) (units_written us s.1 h.1))
     where
-      made : (b : Bool) → IsWritten (emitted_units_with sb m ps head vars outvars us) → IsWritten ((if b then emitted_adjoint_with sb m ps head vars outvars u ∷ [] else []) ++ emitted_units_with sb m ps head vars outvars us)
-      made true ih = All-cons IsWrittenProcedure (emitted_adjoint_with sb m ps head vars outvars u) (emitted_units_with sb m ps head vars outvars us) (adjoint_written u s.0 h.0) ih
+      made : (b : Bool) → IsWritten (adjoint_units sb m ps head vars outvars us) → IsWritten ((if b then emitted_adjoint_with sb m ps head vars outvars u ∷ [] else []) ++ adjoint_units sb m ps head vars outvars us)
+      made true ih = All-cons IsWrittenProcedure (emitted_adjoint_with sb m ps head vars outvars u) (adjoint_units sb m ps head vars outvars us) (adjoint_written u s.0 h.0) ih
       made false ih = ih
 
-      carried : (b : Bool) → IsWritten ((if has_adjoint m ps head u.name then emitted_adjoint_with sb m ps head vars outvars u ∷ [] else []) ++ emitted_units_with sb m ps head vars outvars us) → IsWritten ((if b then u ∷ [] else []) ++ ((if has_adjoint m ps head u.name then emitted_adjoint_with sb m ps head vars outvars u ∷ [] else []) ++ emitted_units_with sb m ps head vars outvars us))
+      carried : (b : Bool) → IsWritten ((if has_adjoint m ps head u.name then emitted_adjoint_with sb m ps head vars outvars u ∷ [] else []) ++ adjoint_units sb m ps head vars outvars us) → IsWritten ((if b then u ∷ [] else []) ++ ((if has_adjoint m ps head u.name then emitted_adjoint_with sb m ps head vars outvars u ∷ [] else []) ++ adjoint_units sb m ps head vars outvars us))
       carried true ih = let sound = s.0 in All-cons IsWrittenProcedure u _ sound.written ih
       carried false ih = ih
 
 -- what is emitted by marks with shadows is written
 pub marked_written : MarkedIsWritten
-marked_written rules ps checked sb m shadowed head vars outvars = go (unit_at head ps)
+marked_written rules ps checked sb m unsplit shadowed head vars outvars = go (unit_at head ps)
   where
     go : (us : List Procedure) → IsWritten (emitted_for_with sb m ps vars outvars us)
     go [] = All-nil IsWrittenProcedure
-    go (u ∷ us) = units_written sb m ps u vars outvars (all_named rules ps checked) ps (all_sound rules ps checked) shadowed
+    go (u ∷ us) = subst IsWritten (sym (unsplit_units sb m unsplit ps u vars outvars ps)) (units_written sb m unsplit ps u vars outvars (all_named rules ps checked) ps (all_sound rules ps checked) shadowed)
 
 -- ---- full marks
 
@@ -98,4 +99,4 @@ full_shadows ps [] = tt
 full_shadows ps (u ∷ us) = (full_list ps u (first_statement ps u.name) u.body, full_shadows ps us)
 
 pub emitted_written : EmittedIsWritten
-emitted_written rules ps checked head vars outvars = marked_written rules ps checked false full_marks (full_shadows ps ps) head vars outvars
+emitted_written rules ps checked head vars outvars = marked_written rules ps checked false full_marks (λ i. refl) (full_shadows ps ps) head vars outvars

@@ -1,5 +1,5 @@
 -- What is emitted has no fault as a text that is run.
-use Rattle.std.proofs.Common.{◌≡◌, List, [], ◌∷◌, false}
+use Rattle.std.proofs.Common.{◌≡◌, List, [], ◌∷◌, false, refl}
 use Rattle.adj_tree.specs.Code.{Procedure}
 use Rattle.adj_names.specs.Fault.{run_rules, first_in_passes}
 use Rattle.adj_names.specs.UnitFaults.{unit_faults}
@@ -23,9 +23,9 @@ none_first : (qs : List Procedure) → unit_faults qs ≡ [] → name_faults run
 none_first qs units names calls chains writes = λ i. first_in_passes (units i ∷ names i ∷ calls i ∷ chains i ∷ writes i ∷ [])
 
 pub marked_sound : MarkedIsSound
-marked_sound rules ps checked few sb m shadowed head vars outvars =
-    none_first (emitted_program_with sb m ps head vars outvars) (units_have_none rules ps checked sb m head vars outvars) (names_have_none rules ps checked sb m shadowed head vars outvars) (calls_have_none rules ps checked sb m shadowed head vars outvars)
-    (chains_have_none rules ps checked few sb m head vars outvars) (writes_have_none rules ps checked sb m shadowed head vars outvars)
+marked_sound rules ps checked few sb m unsplit shadowed head vars outvars =
+    none_first (emitted_program_with sb m ps head vars outvars) (units_have_none rules ps checked sb m unsplit head vars outvars) (names_have_none rules ps checked sb m unsplit shadowed head vars outvars) (calls_have_none rules ps checked sb m unsplit shadowed head vars outvars)
+    (chains_have_none rules ps checked few sb m unsplit head vars outvars) (writes_have_none rules ps checked sb m unsplit shadowed head vars outvars)
 
 pub emitted_sound : EmittedIsSound
-emitted_sound rules ps checked few head vars outvars = marked_sound rules ps checked few false full_marks (full_shadows ps ps) head vars outvars
+emitted_sound rules ps checked few head vars outvars = marked_sound rules ps checked few false full_marks (λ i. refl) (full_shadows ps ps) head vars outvars

@@ -1,5 +1,5 @@
 -- No loop in the sweeps of a unit may write its variable: not in its body.
-use Rattle.std.proofs.Common.{◌≡◌, ℕ, suc, ◌<◌, Bool, true, false, List, [], ◌∷◌, refl, sym, ◌∙◌, arith, if◌then◌else◌}
+use Rattle.std.proofs.Common.{◌≡◌, ℕ, suc, ◌<◌, Bool, true, false, List, [], ◌∷◌, refl, sym, ◌∙◌, arith, if◌then◌else◌, subst}
 use Rattle.std.specs.Prelude.{◌&&◌, ◌||◌, ◌==◌, not, Option, Some, None}
 use Rattle.adj_tree.specs.Code.{Var, var_eq, plain, shadow, helper, turn, Role, entry, kind, lower, is_same, compare, Term, var, none, Test, Mark, unmarked, with_count, count_from, push_array, pop_array, push_word, pop_word, push_control, zero_array, Act, assign, choose, loop, during, call, runtime, Code, stop, step}
 use Rattle.adj_tree.proofs.Names.{nat_same}
@@ -16,6 +16,7 @@ use Rattle.adj_reverse.specs.AdjointOf.{adjoint_where}
 use Rattle.adj_reverse.specs.Plan.{Callee, Plan, is_emitted, names_of, actuals_named, save_group, snapshot_group, step_snapshot, Schedules, Step, reversed_by, ByStep}
 use Rattle.adj_reverse.specs.ReversalCode.{at_turn, arm, advance, arms, one_action, reversal, slots_of, set_slots, push_slots, pop_slots, reversed_forward, reversed_backward, row_forward, row_backward}
 use Rattle.adj_reverse.specs.Emission.{is_empty, push, pop, pushes, pops, literal, with_shadows, adjoint_call, told_forward, told_backward, loop_forward, loop_backward, while_forward, while_backward, resets, reset, forward_act_with, forward_with, backward_act_with, backward_with, cleared, adjoint_body_with}
+use Rattle.adj_reverse.proofs.Unsplit.{unsplit_forward, unsplit_backward}
 use Rattle.adj_emitted.proofs.StepCalls.{from_keep, from_turn, from_advance}
 use Rattle.adj_emitted.proofs.Assigned.{AreMaking, making_adjoint}
 use Rattle.adj_emitted.proofs.Writing.{plain_apart, turn_apart, no_given, no_shadows_given, Turned, KnownAct, Known, no_turns, rows_forth, rows_back, neither, Only, raised, only_raised, list_only}
@@ -290,13 +291,13 @@ module _ (f g : Dummies) (sc : Schedules) (p : Plan) where
     act_spared i d line (call name args) w s h =
         let callee = p.callees name in
         let given = names_of args in (
-          spared_if (is_emitted p.marks i) _
+          subst (AreSpared f) (sym (unsplit_forward sc p i d line name args w.unsplit)) (spared_if (is_emitted p.marks i) _
               (join (pushes p line (save_group p.marks i callee given)) _ (spared_pushes line (save_group p.marks i callee given))
-              (join (code_if (p.marks.adjointed i) (pushes p line (snapshot_group callee given))) _ (spared_if (p.marks.adjointed i) _ (spared_pushes line (snapshot_group callee given))) (spared_if (p.marks.kept i) (one line (call name args)) (tt, (tt, tt))))),
-          spared_if (is_emitted p.marks i) _
+              (join (code_if (p.marks.adjointed i) (pushes p line (snapshot_group callee given))) _ (spared_if (p.marks.adjointed i) _ (spared_pushes line (snapshot_group callee given))) (spared_if (p.marks.kept i) (one line (call name args)) (tt, (tt, tt)))))),
+          subst (AreSpared f) (sym (unsplit_backward sc p i d line name args w.unsplit)) (spared_if (is_emitted p.marks i) _
               (join (code_if (p.marks.adjointed i) (pops p line (snapshot_group callee given) +++ one line (adjoint_call callee given))) _
               (spared_if (p.marks.adjointed i) _ (join (pops p line (snapshot_group callee given)) (one line (adjoint_call callee given)) (spared_pops line (snapshot_group callee given)) (tt, (tt, tt))))
-              (spared_pops line (save_group p.marks i callee given))),
+              (spared_pops line (save_group p.marks i callee given)))),
         )
     act_spared i d line (runtime r) w s h = absurd w
 

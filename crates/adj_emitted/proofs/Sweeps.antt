@@ -13,6 +13,7 @@ use Rattle.adj_reverse.specs.AdjointOf.{works_in_where, temps_in_where, adjoint_
 use Rattle.adj_reverse.specs.Plan.{Callee, Plan, is_emitted, names_of, actuals_named, group, save_group, snapshot_group, step_snapshot, found_or, Schedules, Step, is_from_variable, reversed_by, ByStep}
 use Rattle.adj_reverse.specs.ReversalCode.{at_turn, arm, advance, arms, one_action, reversal, slots_of, set_slots, push_slots, pop_slots, reversed_forward, reversed_backward, row_forward, row_backward}
 use Rattle.adj_reverse.specs.Emission.{is_empty, push, pop, pushes, pops, literal, told_forward, told_backward, loop_forward, loop_backward, while_forward, while_backward, resets, reset, with_shadows, adjoint_call, forward_act_with, forward_with, backward_act_with, backward_with, cleared, adjoint_body_with}
+use Rattle.adj_reverse.proofs.Unsplit.{unsplit_forward, unsplit_backward}
 use Rattle.adj_reverse.specs.Program.{works_act, works_used, temps_act, temps_used}
 use Rattle.adj_checked.proofs.Lists.{Each}
 use Rattle.adj_emitted.specs.Shadowed.{AreCarried}
@@ -525,7 +526,10 @@ module _ (Q : Var → Option ℕ → Type 0) (A : Var → Type 0) (C : List ℕ 
     act_over i d line (loop (shadow x) a b c body m) f o h most all = (tt, tt)
     act_over i d line (loop (helper r k) a b c body m) f o h most all = (tt, tt)
     act_over i d line (during c body) f o h most all = while_over i d line c body o.0 h (λ g. code_over (suc i) (suc d) body f o.1 g most all)
-    act_over i d line (call name args) f o h most all = (call_forward i line (p.callees name) name args o f.0, call_backward i line (p.callees name) args o.1.0 f.1)
+    act_over i d line (call name args) f o h most all = (
+      subst (OverCode Q A C) (sym (unsplit_forward sc p i d line name args f.2)) (call_forward i line (p.callees name) name args o f.0),
+      subst (OverCode Q A C) (sym (unsplit_backward sc p i d line name args f.2)) (call_backward i line (p.callees name) args o.1.0 f.1),
+    )
     act_over i d line (runtime r) f o h most all = (tt, tt)
 
     code_over : (i d : ℕ) (c : Code) → FollowsBy sc C p i c → OverCode Q A Any c → IsHelped i d c → works_used p.marks i c ≤ works → temps_used p.marks i c ≤ temps → Both i d c

@@ -18,7 +18,7 @@ use Rattle.adj_transpose.specs.MarkedProgram.{declared_behind}
 use Rattle.adj_transpose.specs.Program.{declaration, declared_helpers, unit_at}
 use Rattle.adj_transpose.proofs.Variables.{not_true, or_left, or_right}
 use Rattle.adj_reverse.specs.Emission.{adjoint_body_with}
-use Rattle.adj_reverse.specs.Marking.{ProgramMarks, first_statement, plan_in}
+use Rattle.adj_reverse.specs.Marking.{ProgramMarks, first_statement, plan_in, SplitsNothing}
 use Rattle.adj_reverse.specs.Program.{helpers_used_with, has_adjoint, is_carried_with, all_units, adjoint_unit_with, emitted_adjoint_with, emitted_units_with, emitted_for_with, schedules_in}
 use Rattle.adj_reverse.specs.Source.{CallUnits}
 use Rattle.adj_reverse.proofs.Variables.{dummy_among}
@@ -154,25 +154,25 @@ module _ (sb : Bool) (m : ProgramMarks) (ps : List Procedure) (head : Procedure)
           let kept : writes g (plain d) u.body ≡ false = tame.1 d dummy own in
           not_true (writes f (plain d) unit.body) (λ w. let z : true ≡ false = sym (unit_writes sb m ps head vars outvars named known sound f back u s at_turn at_end turned ended found there d (dummy_among u d dummy) w) ∙ kept in cc)
 
-  all_neither : Each (Found ps) ps → Each (IsTame ps) ps → Each HasNeither qs
-  all_neither found tame =
-      each_emitted sb m ps head vars outvars HasNeither ps (each_more (λ u. Found ps u × IsTame ps u) (λ u. is_carried_with sb m ps head u.name ≡ true → HasNeither u) (λ u k h. carried_neither u k.0.0 k.1 h) ps (each_both (Found ps) (IsTame ps) ps found tame))
+  all_neither : SplitsNothing m → Each (Found ps) ps → Each (IsTame ps) ps → Each HasNeither qs
+  all_neither unsplit found tame =
+      each_emitted sb m ps head vars outvars unsplit HasNeither ps (each_more (λ u. Found ps u × IsTame ps u) (λ u. is_carried_with sb m ps head u.name ≡ true → HasNeither u) (λ u k h. carried_neither u k.0.0 k.1 h) ps (each_both (Found ps) (IsTame ps) ps found tame))
       (each_more (λ u. (Found ps u × IsTame ps u) × IsSound m ps u) (λ u. has_adjoint m ps head u.name ≡ true → HasNeither (emitted_adjoint_with sb m ps head vars outvars u))
       (λ u k there. emitted_has sb m ps head vars outvars named known sound (λ u v. find_unit ps u.name ≡ Some u → IsTame ps u → has_adjoint m ps head u.name ≡ true → HasNeither v) made_neither u k.1 k.0.0.0 k.0.1 there) ps
       (each_both (λ u. Found ps u × IsTame ps u) (IsSound m ps) ps (each_both (Found ps) (IsTame ps) ps found tame) sound))
 
-  emitted_none : Each (Found ps) ps → Each (IsTame ps) ps → write_faults qs ≡ []
-  emitted_none found tame =
+  emitted_none : SplitsNothing m → Each (Found ps) ps → Each (IsTame ps) ps → write_faults qs ≡ []
+  emitted_none unsplit found tame =
       flat_none (faults_of_writes f) qs
       (each_more (λ v. HasNeither v × (shared_variables f v ++ written_values f v ≡ [])) (λ v. faults_of_writes f v ≡ []) (λ v h. λ i. h.0.0 i ++ (h.0.1 i ++ h.1 i)) qs
-      (each_both HasNeither (λ v. shared_variables f v ++ written_values f v ≡ []) qs (all_neither found tame) (none_each (λ v. shared_variables f v ++ written_values f v) qs (emitted_clean f sb m ps head vars outvars named known sound found))))
+      (each_both HasNeither (λ v. shared_variables f v ++ written_values f v ≡ []) qs (all_neither unsplit found tame) (none_each (λ v. shared_variables f v ++ written_values f v) qs (emitted_clean f sb m ps head vars outvars named known sound unsplit found))))
 
 pub writes_have_none : WritesHaveNone
-writes_have_none rules ps checked sb m shadowed head vars outvars = go (unit_at head ps)
+writes_have_none rules ps checked sb m unsplit shadowed head vars outvars = go (unit_at head ps)
   where
     tame : Each (IsTame ps) ps
     tame = each_more (λ u. faults_of_writes (handed_back ps) u ≡ []) (IsTame ps) (λ u h. tame_of ps u h) ps (none_each (faults_of_writes (handed_back ps)) ps (sound_has_none rules ps checked.sound).writes)
 
     go : (us : List Procedure) → write_faults (emitted_for_with sb m ps vars outvars us) ≡ []
     go [] = refl
-    go (u ∷ us) = emitted_none sb m ps u vars outvars (all_named rules ps checked) (all_known rules ps checked) (each_sound rules ps checked m shadowed) (all_there rules ps checked) tame
+    go (u ∷ us) = emitted_none sb m ps u vars outvars (all_named rules ps checked) (all_known rules ps checked) (each_sound rules ps checked m unsplit shadowed) unsplit (all_there rules ps checked) tame

@@ -1,5 +1,5 @@
 -- What the sweeps of a unit may write: of the unit's variables those that the unit may write, and no turn of an outer loop. So no loop writes its variable.
-use Rattle.std.proofs.Common.{◌≡◌, ℕ, suc, ◌<◌, Bool, true, false, List, [], ◌∷◌, refl, sym, ◌∙◌, arith, if◌then◌else◌}
+use Rattle.std.proofs.Common.{◌≡◌, ℕ, suc, ◌<◌, Bool, true, false, List, [], ◌∷◌, refl, sym, ◌∙◌, arith, if◌then◌else◌, subst}
 use Rattle.std.specs.Prelude.{◌&&◌, ◌||◌, not, Option, Some, None}
 use Rattle.adj_tree.specs.Code.{Role, work, temp, control, first, stride, count, turn, entry, entries, kind, lower, upper, slots, Var, var_eq, plain, shadow, helper, plus, Term, var, bin, Terms, none, more, Test, Mark, unmarked, with_count, count_from, push_word, pop_word, push_array, pop_array, push_control, zero_array, Act, assign, choose, loop, during, call, runtime, Code, stop, step}
 use Rattle.adj_meaning.specs.Append.{◌+++◌, one}
@@ -13,6 +13,7 @@ use Rattle.adj_reverse.specs.AdjointOf.{adjoint_where}
 use Rattle.adj_reverse.specs.Plan.{Callee, Plan, is_emitted, names_of, actuals_named, group, save_group, snapshot_group, step_snapshot, found_or, Schedules, Step, reversed_by, ByStep}
 use Rattle.adj_reverse.specs.ReversalCode.{at_turn, arm, advance, arms, one_action, reversal, slots_of, set_slots, push_slots, pop_slots, reversed_forward, reversed_backward, row_forward, row_backward}
 use Rattle.adj_reverse.specs.Emission.{is_empty, push, pop, pushes, pops, literal, adjoint_call, with_shadows, told_forward, told_backward, loop_forward, loop_backward, while_forward, while_backward, reset, push_own, pop_own, forward_act_with, forward_with, backward_act_with, backward_with, cleared, adjoint_body_with}
+use Rattle.adj_reverse.proofs.Unsplit.{unsplit_forward, unsplit_backward}
 use Rattle.adj_checked.proofs.Lists.{Each}
 use Rattle.adj_emitted.proofs.StepCalls.{step_body, step_mark, from_keep, from_turn, from_advance}
 use Rattle.adj_emitted.proofs.Assigned.{IsMade, AreMaking, making_adjoint}
@@ -103,12 +104,13 @@ raised k line = one line (assign (helper count k) none (bin plus (var (helper co
 -- ---- what is known of the source: f says which dummies are written in what is emitted, g which in the source
 
 module _ (f g : Dummies) (sc : Schedules) (p : Plan) where
-  -- of a CALL: what it and the call of the adjoint hand back, and what is pushed and popped for it, the source's CALL hands back
+  -- of a CALL: what it and the call of the adjoint hand back, and what is pushed and popped for it, the source's CALL hands back; and it isn't split
   pub record CallWrites (i : ℕ) (name : List ℕ) (args : Terms) : Type 0 where
     pub kept : p.marks.kept i ≡ true → (v : Var) → is_handed_back v (f name) args ≡ true → is_handed_back v (g name) args ≡ true
     pub adjointed : p.marks.adjointed i ≡ true → (v : Var) → IsApart v → is_handed_back v (f (p.callees name).adjoint) (with_shadows (p.callees name).shadowed (p.callees name).dummies (names_of args)) ≡ true → is_handed_back v (g name) args ≡ true
     pub groups : (v : Var) (dummies actuals : Vars) → ((d : Var) → dummies d ≡ true → (p.callees name).written d ≡ true) → Each (λ a. var_eq v (plain a) ≡ true → is_handed_back v (g name) args ≡ true) (group dummies actuals (p.callees name).dummies (names_of args))
     pub own : (k : ℕ) → is_handed_back (helper turn k) (g name) args ≡ false
+    pub unsplit : p.marks.split i ≡ false
 
   -- of the step call of a loop that is reversed: what it hands back the body of the loop may write in the source
   abbrev pub Turned : Code → Step → Type 0
@@ -352,16 +354,16 @@ module _ (f g : Dummies) (sc : Schedules) (p : Plan) where
     call_only i d line name args w h =
         let callee = p.callees name in
         let given = names_of args in (
-          only_if (is_emitted p.marks i) _ (λ e.
+          subst Only (sym (unsplit_forward sc p i d line name args w.unsplit)) (only_if (is_emitted p.marks i) _ (λ e.
               only_append (pushes p line (save_group p.marks i callee given)) _ (only_pushes line (save_group p.marks i callee given))
               (only_append (code_if (p.marks.adjointed i) _) _ (only_if (p.marks.adjointed i) _ (λ t. only_pushes line (snapshot_group callee given)))
-              (only_if (p.marks.kept i) (one line (call name args)) (λ t. both (λ b. h (w.kept t v b)) quiet)))),
-          only_if (is_emitted p.marks i) _ (λ e.
+              (only_if (p.marks.kept i) (one line (call name args)) (λ t. both (λ b. h (w.kept t v b)) quiet))))),
+          subst Only (sym (unsplit_backward sc p i d line name args w.unsplit)) (only_if (is_emitted p.marks i) _ (λ e.
               only_append (code_if (p.marks.adjointed i) _) _
               (only_if (p.marks.adjointed i) _ (λ t.
               only_append (pops p line (snapshot_group callee given)) (one line (adjoint_call callee given)) (only_pops line (snapshot_group callee given) (then_each v (is_handed_back v (g name) args) n (snapshot_group callee given) h (w.groups v (λ d. callee.written d && callee.members d) everything (λ d b. (and_true (callee.written d) (callee.members d) b).0))))
               (both (λ b. h (w.adjointed t v apart b)) quiet)))
-              (only_pops line (save_group p.marks i callee given) (then_each v (is_handed_back v (g name) args) n (save_group p.marks i callee given) h (w.groups v callee.written (p.marks.saved i) (λ d b. b))))),
+              (only_pops line (save_group p.marks i callee given) (then_each v (is_handed_back v (g name) args) n (save_group p.marks i callee given) h (w.groups v callee.written (p.marks.saved i) (λ d b. b)))))),
         )
 
     rows_only : (i d line : ℕ) (x : List ℕ) (a b c : Term) (body : Code) (m : Mark) (o : Option Step) → reversed_by sc p.marks.adjointed i body m ≡ o → ByStep o (Unit {0}) (Turned body) → Known (suc i) body → var_eq v (helper turn (suc d)) ≡ false → (var_eq v (plain x) ≡ true → n ≡ true) → (writes g v body ≡ true → n ≡ true) →

@@ -11,7 +11,7 @@ use Rattle.adj_names.specs.CallFaults.{faults_of_call}
 use Rattle.adj_names.specs.Check.{IsSound}
 use Rattle.adj_names.proofs.Sound.{sound_has_none}
 use Rattle.adj_transpose.specs.Program.{unit_at}
-use Rattle.adj_reverse.specs.Marking.{ProgramMarks}
+use Rattle.adj_reverse.specs.Marking.{ProgramMarks, SplitsNothing}
 use Rattle.adj_reverse.specs.Names.{adjoint_name}
 use Rattle.adj_reverse.specs.Program.{emitted_units_with, emitted_for_with, emitted_program_with}
 use Rattle.adj_kernel.specs.Kernel.{locals_count, lowered_unit, EachUnit}
@@ -154,16 +154,16 @@ module _ (qs : List Procedure) (all : Each HasShortNames qs) where
       let none = sound_has_none run_rules qs sound in
       units_pass qs all (none_each (faults_of_names run_rules qs) qs none.names) (none_each (λ (u : Procedure). flat_map (λ s. faults_of_call qs u s.0 s.1) (statements u.body)) qs none.calls)
 
-module _ (sb : Bool) (m : ProgramMarks) (ks : List Procedure) (vars outvars : List Bool) (checked : IsChecked run_rules ks) (less : length ks ≤ 402000) (adjoints : (u : Procedure) → length (adjoint_name ks u) ≤ 63) (each : Each (IsModest ks) ks) (shadows : AllHaveShadows m ks ks) where
+module _ (sb : Bool) (m : ProgramMarks) (ks : List Procedure) (vars outvars : List Bool) (checked : IsChecked run_rules ks) (less : length ks ≤ 402000) (adjoints : (u : Procedure) → length (adjoint_name ks u) ≤ 63) (each : Each (IsModest ks) ks) (unsplit : SplitsNothing m) (shadows : AllHaveShadows m ks ks) where
   emitted_short : (us : List Procedure) → IsSound run_rules (emitted_for_with sb m ks vars outvars us) → keeps (short_names 63) (emitted_for_with sb m ks vars outvars us) ≡ true
   emitted_short [] sound = refl
   emitted_short (u ∷ us) sound =
       let named = all_named run_rules ks checked in
       program_passes (emitted_units_with sb m ks u vars outvars ks)
-      (each_emitted sb m ks u vars outvars HasShortNames ks (carried_short sb m ks u vars outvars named less adjoints ks each) (adjoints_short sb m ks u vars outvars named less adjoints ks each shadows)) sound
+      (each_emitted sb m ks u vars outvars unsplit HasShortNames ks (carried_short sb m ks u vars outvars named less adjoints unsplit ks each) (adjoints_short sb m ks u vars outvars named less adjoints unsplit ks each shadows)) sound
 
 pub emitted_runnable : KeptReads → SourceIsKept → (schedules : Bool) → EmittedIsRunnableWith schedules
-emitted_runnable reads source sb bytes ps h accepted known m shadows head vars outvars =
+emitted_runnable reads source sb bytes ps h accepted known m unsplit shadows head vars outvars =
     let s = source bytes ps h in
     let kept = s.kept in
     let ks = kernel_of ps in
@@ -177,7 +177,7 @@ emitted_runnable reads source sb bytes ps h accepted known m shadows head vars o
     let few : run_rules.chain ≤ run_rules.chain = omega arith in
     let each = modest ks ks (all_names_sound run_rules ks checked) short known units.names nested shallow in
     let adjoints = adjoint_short ks units.few_units units.names short known in
-    let sound = marked_sound run_rules ks checked few sb m shadows head vars outvars in
+    let sound = marked_sound run_rules ks checked few sb m unsplit shadows head vars outvars in
     let limits = emitted_shallow source sb bytes ps h m head vars outvars in
-    reads (emitted_program_with sb m ks head vars outvars) (marked_written run_rules ks checked sb m shadows head vars outvars)
-    (record { names = emitted_short sb m ks vars outvars checked units.few_units adjoints each shadows (unit_at head ks) sound; depths = limits.depths; nested = limits.nested })
+    reads (emitted_program_with sb m ks head vars outvars) (marked_written run_rules ks checked sb m unsplit shadows head vars outvars)
+    (record { names = emitted_short sb m ks vars outvars checked units.few_units adjoints each unsplit shadows (unit_at head ks) sound; depths = limits.depths; nested = limits.nested })

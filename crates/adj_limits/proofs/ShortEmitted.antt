@@ -1,5 +1,5 @@
 -- The names of what is emitted for the kernel of an accepted program are short.
-use Rattle.std.proofs.Common.{◌≡◌, ◌≤◌, ℕ, Bool, true, false, List, [], ◌∷◌, length, map, refl, sym, ap, ◌∙◌, arith, length-append, if◌then◌else◌}
+use Rattle.std.proofs.Common.{◌≡◌, ◌≤◌, ℕ, Bool, true, false, List, [], ◌∷◌, length, map, refl, sym, ap, ◌∙◌, arith, length-append, if◌then◌else◌, subst}
 use Rattle.adj_tree.specs.Code.{Var, plain, shadow, name_eq, Declaration, Procedure}
 use Rattle.adj_tree.specs.Size.{code_depth}
 use Rattle.adj_text.specs.Written.{IsName}
@@ -15,10 +15,11 @@ use Rattle.adj_transpose.specs.Marked.{names_in}
 use Rattle.adj_transpose.specs.Program.{unmarked, unit_name}
 use Rattle.adj_transpose.proofs.Variables.{or_left, or_right, var_refl}
 use Rattle.adj_tree.proofs.Names.{name_same}
-use Rattle.adj_reverse.specs.Marking.{ProgramMarks, first_statement, plan_in}
+use Rattle.adj_reverse.specs.Marking.{ProgramMarks, first_statement, plan_in, SplitsNothing}
 use Rattle.adj_reverse.specs.Names.{adjoint_name}
 use Rattle.adj_reverse.specs.Program.{helpers_used_with, adjoint_names_with, adjoint_unit_with, made_names, all_units, has_adjoint, is_carried_with, emitted_adjoint_with, schedules_in}
 use Rattle.adj_reverse.proofs.Variables.{variables_stand}
+use Rattle.adj_reverse.proofs.Unsplit.{unsplit_names}
 use Rattle.adj_checked.proofs.Lists.{Each, each_append}
 use Rattle.adj_emitted.specs.Shadowed.{HasShadows, AllHaveShadows}
 use Rattle.adj_emitted.specs.Emitted.{deepest}
@@ -40,11 +41,12 @@ declaration_name line [] x = refl
 declaration_name line (d ∷ ds) x =
     elim (name_eq d.name x) as (λ b. name_eq d.name x ≡ b → (if b then d else declaration line ds x).name ≡ x) [ true ↦ λ e. name_same d.name x e | false ↦ λ e. declaration_name line ds x ] refl
 
-made_count : (m : ProgramMarks) (ps : List Procedure) (head : Procedure) (us : List Procedure) → length (made_names m ps head us) ≤ length us
-made_count m ps head [] = omega arith
-made_count m ps head (u ∷ us) =
-    let rest = made_count m ps head us in
-    elim (has_adjoint m ps head u.name) as (λ b. length (if b then adjoint_name ps u ∷ made_names m ps head us else made_names m ps head us) ≤ length (u ∷ us)) [ true ↦ omega arith | false ↦ omega arith ]
+made_count : (m : ProgramMarks) → SplitsNothing m → (ps : List Procedure) (head : Procedure) (us : List Procedure) → length (made_names m ps head us) ≤ length us
+made_count m unsplit ps head [] = omega arith
+made_count m unsplit ps head (u ∷ us) =
+    let rest = made_count m unsplit ps head us in
+    subst (λ l. length l ≤ length (u ∷ us)) (sym (unsplit_names m unsplit ps head u us))
+    (elim (has_adjoint m ps head u.name) as (λ b. length (if b then adjoint_name ps u ∷ made_names m ps head us else made_names m ps head us) ≤ length (u ∷ us)) [ true ↦ omega arith | false ↦ omega arith ])
 
 named_count : (us : List Procedure) → length (map unit_name us) ≡ length us
 named_count [] = refl
@@ -89,7 +91,7 @@ module _ (sb : Bool) (m : ProgramMarks) (ps : List Procedure) (units : List (Lis
   declared_names [] h = tt
   declared_names (d ∷ ds) h = (h.0, declared_names ds h.1)
 
-  module _ (shadows : HasShadows (plan_in m ps u) (first_statement ps u.name) u.body) (named : Each (λ u. IsName u.name) ps) (at_turn at_end : List (List ℕ)) (turned : Each (λ x. (has_name x (variables u) ≡ true) × (m.shadowed u.name (plain x) ≡ true)) at_turn) (ended : Each (λ x. (has_name x (variables u) ≡ true) × (m.shadowed u.name (plain x) ≡ true)) at_end) where
+  module _ (unsplit : SplitsNothing m) (shadows : HasShadows (plan_in m ps u) (first_statement ps u.name) u.body) (named : Each (λ u. IsName u.name) ps) (at_turn at_end : List (List ℕ)) (turned : Each (λ x. (has_name x (variables u) ≡ true) × (m.shadowed u.name (plain x) ≡ true)) at_turn) (ended : Each (λ x. (has_name x (variables u) ≡ true) × (m.shadowed u.name (plain x) ≡ true)) at_end) where
     abbrev v : Procedure
     v = adjoint_unit_with sb m ps units u at_turn at_end
 
@@ -104,7 +106,7 @@ module _ (sb : Bool) (m : ProgramMarks) (ps : List Procedure) (units : List (Lis
     pub adjoint_variable : (x : List ℕ) → has_name x (variables v) ≡ true → length x ≤ 63
     adjoint_variable x h =
         of_each Short (names_at (places v))
-        (at_places (places v) (places_declared sb m ps units u s.written s.kernel s.free s.calls (follows_by m ps named u (schedules_in sb ps) (first_statement ps u.name) u.body s.calls shadows) n.dummies_once n.extent_dummy n.extents n.stands at_turn at_end turned ended)) x (sym (variables_stand v x) ∙ h)
+        (at_places (places v) (places_declared sb m ps units u s.written s.kernel s.free s.calls (follows_by m ps named u unsplit (schedules_in sb ps) (first_statement ps u.name) u.body s.calls shadows) n.dummies_once n.extent_dummy n.extents n.stands at_turn at_end turned ended)) x (sym (variables_stand v x) ∙ h)
 
 -- ---- the emitted units
 
@@ -126,7 +128,7 @@ pub record HasShortNames (u : Procedure) : Type 0 where
 each_short : (xs : List (List ℕ)) → ((x : List ℕ) → has_name x xs ≡ true → length x ≤ 31) → Each (λ x. length x ≤ 31) xs
 each_short xs f = each_name (λ x. length x ≤ 31) xs f
 
-module _ (sb : Bool) (m : ProgramMarks) (ps : List Procedure) (head : Procedure) (vars outvars : List Bool) (named : Each (λ u. IsName u.name) ps) (less : length ps ≤ 402000) (adjoints : (u : Procedure) → length (adjoint_name ps u) ≤ 63) where
+module _ (sb : Bool) (m : ProgramMarks) (ps : List Procedure) (head : Procedure) (vars outvars : List Bool) (named : Each (λ u. IsName u.name) ps) (less : length ps ≤ 402000) (adjoints : (u : Procedure) → length (adjoint_name ps u) ≤ 63) (unsplit : SplitsNothing m) where
   abbrev units : List (List ℕ)
   units = all_units m ps head
 
@@ -140,7 +142,7 @@ module _ (sb : Bool) (m : ProgramMarks) (ps : List Procedure) (head : Procedure)
       let nest = k.nested in
       let few = k.few in
       let a = named_count ps in
-      let b = made_count m ps head ps in
+      let b = made_count m unsplit ps head ps in
       let c = length-append (map unit_name ps) (made_names m ps head ps) in
       table_short (schedules_in sb ps) p i u.body (omega arith) (omega arith) (omega arith) (m.shadowed u.name) (variables u) units (each_short (variables u) k.short) (omega arith) (omega arith)
 
@@ -148,7 +150,7 @@ module _ (sb : Bool) (m : ProgramMarks) (ps : List Procedure) (head : Procedure)
   adjoint_names_short u k shadows = go (name_eq head.name u.name)
     where
       made : (at_turn at_end : List (List ℕ)) → Each (λ x. (has_name x (variables u) ≡ true) × (m.shadowed u.name (plain x) ≡ true)) at_turn → Each (λ x. (has_name x (variables u) ≡ true) × (m.shadowed u.name (plain x) ≡ true)) at_end → HasShortNames (adjoint_unit_with sb m ps units u at_turn at_end)
-      made at_turn at_end turned ended = record { name = adjoints u; known = adjoint_variable sb m ps units u k.sound k.names (table u k) k.short shadows named at_turn at_end turned ended }
+      made at_turn at_end turned ended = record { name = adjoints u; known = adjoint_variable sb m ps units u k.sound k.names (table u k) k.short unsplit shadows named at_turn at_end turned ended }
 
       go : (b : Bool) → HasShortNames (if b then adjoint_unit_with sb m ps units u (names_in (m.shadowed u.name) (unmarked u.dummies outvars)) (names_in (m.shadowed u.name) (unmarked u.dummies vars)) else adjoint_unit_with sb m ps units u [] [])
       go true = made _ _ (cleared m ps head vars outvars named u outvars) (cleared m ps head vars outvars named u vars)

@@ -1,4 +1,4 @@
--- Limits: how deep kernels and emitted programs are, and that what is emitted for the program of a text in Source mode reads in Run mode. (docs/LANGUAGE.md, "Limits")
+-- Limits: how deep kernels and emitted programs are, and that what is emitted for the program of a text in Source mode reads in Run mode. (docs/LANGUAGE.md, "Modes")
 use Rattle.std.specs.Prelude.{◌≡◌, ◌≤◌, ℕ, ◌+◌, true, false, List, length, Bool, Ok}
 use Rattle.adj_tree.specs.Code.{Procedure}
 use Rattle.adj_tree.specs.Lines.{unlined}
@@ -6,7 +6,7 @@ use Rattle.adj_tree.specs.Size.{IsNested}
 use Rattle.adj_text.specs.Text.{text_of}
 use Rattle.adj_text.specs.declared.mode.Mode.TheVariants.{Source, Run}
 use Rattle.adj_names.specs.Variables.{variables}
-use Rattle.adj_reverse.specs.Marking.{ProgramMarks}
+use Rattle.adj_reverse.specs.Marking.{ProgramMarks, SplitsNothing}
 use Rattle.adj_reverse.specs.Program.{emitted_program_with}
 use Rattle.adj_kernel.specs.Kernel.{EachUnit}
 use Rattle.adj_kernel.specs.Stepped.{kernel_of}
@@ -37,12 +37,12 @@ EmittedIsShallowWith schedules = (bytes : List ℕ) (ps : List Procedure) → pr
 abbrev pub EmittedIsShallow : Type 0
 EmittedIsShallow = EmittedIsShallowWith false
 
--- where each unit of the kernel of an accepted program has fewer than 2^30 variables, the text that is emitted for it by any marks whose shadows are there reads in Run mode
--- as what was emitted, up to line numbers, or has too many statements
+-- where each unit of the kernel of an accepted program has fewer than 2^30 variables, the text that is emitted for it by any marks that split no call and whose shadows are there
+-- reads in Run mode as what was emitted, up to line numbers, or has too many statements (the units of split calls aren't treated here yet)
 abbrev pub EmittedIsRunnableWith : (schedules : Bool) → Type 0
 EmittedIsRunnableWith schedules =
     (bytes : List ℕ) (ps : List Procedure) → program_of Source bytes ≡ Ok ps → IsAccepted ps → EachUnit (λ v. length (variables v) ≤ 1073741823) (kernel_of ps) →
-    (m : ProgramMarks) → AllHaveShadows m (kernel_of ps) (kernel_of ps) → (head : ℕ) (vars outvars : List Bool) →
+    (m : ProgramMarks) → SplitsNothing m → AllHaveShadows m (kernel_of ps) (kernel_of ps) → (head : ℕ) (vars outvars : List Bool) →
     OrTooMany (λ found. unlined found ≡ unlined (emitted_program_with schedules m (kernel_of ps) head vars outvars)) (program_of Run (text_of (emitted_program_with schedules m (kernel_of ps) head vars outvars)))
 
 abbrev pub EmittedIsRunnable : Type 0

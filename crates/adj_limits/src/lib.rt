@@ -16,7 +16,8 @@ pub fn kernel_law()
 {}
 
 /// What is emitted for the kernel of a program that a text gives in Source mode is no deeper than a run takes. Where the program is accepted and its
-/// kernel has no more variables than there are numbers for, the text of what is emitted reads in Run mode as it, or has too many statements.
+/// kernel has no more variables than there are numbers for, the text of what is emitted by marks that split no call reads in Run mode as it, or has
+/// too many statements.
 /// So it is where marked loops are reversed by schedules.
 pub fn emitted_law()
     ensures shallow { EmittedIsShallow }

@@ -1,4 +1,5 @@
 -- What is emitted for the kernel of an accepted program has its shape.
+use Rattle.std.proofs.Common.{false, refl}
 use Rattle.adj_names.specs.Fault.{run_rules}
 use Rattle.adj_names.specs.HeadFaults.{unit_number}
 use Rattle.adj_kernel.specs.Stepped.{kernel_of}
@@ -15,11 +16,11 @@ accepted_has_shape schedules ps accepted name u found vars outvars a l saved hel
     let k = whole_units ps name u found in
     let at = (numbered (kernel_of ps) name k.becomes k.found).1 in
     let checked = kernel_checked ps accepted in
-    let problem : Problem = record { units = kernel_of ps; head = unit_number (kernel_of ps) name; vars = vars; outvars = outvars } in
+    let problem : Problem = record { units = kernel_of ps; head = unit_number (kernel_of ps) name; vars = vars; outvars = outvars; split = λ n. false } in
     record {
       head = k.becomes;
       is_head = k.found;
       shape =
-          emitted_has_shape schedules run_rules (kernel_of ps) checked (program_facts (kernel_of ps) a l saved held).marks (unit_number (kernel_of ps) name) vars outvars k.becomes at
+          emitted_has_shape schedules run_rules (kernel_of ps) checked (program_facts (kernel_of ps) (λ n. false) a l saved held).marks (λ i. refl) (unit_number (kernel_of ps) name) vars outvars k.becomes at
           (analysed_are_closed run_rules problem checked a l saved held analysed k.becomes at) qs same;
     }

@@ -22,7 +22,7 @@ use Rattle.adj_reverse.specs.Plan.{Plan, Schedules}
 use Rattle.adj_reverse.specs.Names.{adjoint_name, source_names}
 use Rattle.adj_reverse.specs.Emission as emission
 use Rattle.adj_reverse.specs.Emission.{forward_with, backward_with, adjoint_body_with}
-use Rattle.adj_reverse.specs.Marking.{ProgramMarks, marks_in, first_statement, callee_of, callee_in, plan_in}
+use Rattle.adj_reverse.specs.Marking.{ProgramMarks, marks_in, first_statement, callee_of, callee_in, plan_in, SplitsNothing}
 use Rattle.adj_reverse.specs.Program.{calls_in, turns_in, helpers_used_with, all_units, adjoint_names_with, adjoint_unit_with, emitted_adjoint_with, schedules_in}
 use Rattle.adj_reverse.specs.Source.{is_unit}
 use Rattle.adj_reverse.proofs.EmittedUnits.{found_there}
@@ -82,7 +82,7 @@ declared_unlined : (ds : List Declaration) (v : Var) → declared (map unlined_d
 declared_unlined [] v = refl
 declared_unlined (d ∷ ds) v = ap (λ z. if var_eq v (plain d.name) then d.extents else z) (declared_unlined ds v)
 
-module _ (sb : Bool) (rules : Rules) (ps : List Procedure) (checked : IsChecked rules ps) (m : ProgramMarks) (head : Procedure) (vars outvars : List Bool) (u : Procedure) (found : find_unit ps u.name ≡ Some u) (closed : IsClosed (marks_in m u.name) (first_statement ps u.name) u.body) where
+module _ (sb : Bool) (rules : Rules) (ps : List Procedure) (checked : IsChecked rules ps) (m : ProgramMarks) (unsplit : SplitsNothing m) (head : Procedure) (vars outvars : List Bool) (u : Procedure) (found : find_unit ps u.name ≡ Some u) (closed : IsClosed (marks_in m u.name) (first_statement ps u.name) u.body) where
   abbrev p : Plan
   p = plan_in m ps u
 
@@ -134,18 +134,18 @@ module _ (sb : Bool) (rules : Rules) (ps : List Procedure) (checked : IsChecked 
   -- the calls of the forward sweep are those that are kept
   pub forward_calls : gathered called (seen r (forward_with sc p i 0 u.body)) ≡ due_code (λ i a. if p.marks.kept i then called a else []) i u.body
   forward_calls =
-      code_taken called (λ i a. if p.marks.kept i then called a else []) (λ i s. if p.marks.kept (suc i) then s.name ∷ [] else []) r sc p u (called_rows u r own_kept own_same p) i 0 u.body code closed
+      code_taken called (λ i a. if p.marks.kept i then called a else []) (λ i s. if p.marks.kept (suc i) then s.name ∷ [] else []) r sc p unsplit u (called_rows u r own_kept own_same p) i 0 u.body code closed
       ∙ numbered_code u sc p.marks.adjointed (λ i a. if p.marks.kept i then called a else []) (λ i s. if p.marks.kept (suc i) then s.name ∷ [] else []) (λ i name args read n d o. refl) i u.body code kernel_body
 
   -- the statements of the forward sweep are those that stay
   forward_keeps : gathered (primal (is_own u)) (seen r (forward_with sc p i 0 u.body)) ≡ due_code (kept_of p.marks (is_own u)) i u.body
   forward_keeps =
-      code_taken (primal (is_own u)) (kept_of p.marks (is_own u)) (kept_turns u r own_kept own_same p) r sc p u (kept_rows u r own_kept own_same p) i 0 u.body code closed
+      code_taken (primal (is_own u)) (kept_of p.marks (is_own u)) (kept_turns u r own_kept own_same p) r sc p unsplit u (kept_rows u r own_kept own_same p) i 0 u.body code closed
       ∙ numbered_code u sc p.marks.adjointed (kept_of p.marks (is_own u)) (kept_turns u r own_kept own_same p) (λ i name args read n d o. ap (λ es. if p.marks.kept (suc i) then call name es ∷ [] else []) (named_again u args d o)) i u.body code kernel_body
 
   -- what the backward sweep does is what the loops do that are reversed
   backward_does : done_list (deeds (is_own u) (λ x. has_name x (map unit_name ps))) None 0 (seen r (backward_with sc p i 0 u.body)) ≡ deeds_back sc p i u.body
-  backward_does = code_done u r own_kept own_same (λ x. has_name x (map unit_name ps)) (is_unit ps) sc p (adjoint_apart m ps) (named_there ps) i 0 u.body code inside closed
+  backward_does = code_done u r own_kept own_same (λ x. has_name x (map unit_name ps)) (is_unit ps) sc p unsplit (adjoint_apart m ps) (named_there ps) i 0 u.body code inside closed
 
   -- so it calls the units of the kernel that these turn
   backward_calls : (x : List ℕ) → has_name x (map unit_name ps) ≡ true → has_name x (gathered called (seen r (backward_with sc p i 0 u.body))) ≡ turns_in sc m.adjointed x i u.body
@@ -191,12 +191,12 @@ module _ (sb : Bool) (rules : Rules) (ps : List Procedure) (checked : IsChecked 
         back = seen r (backward_with sc p i 0 u.body);
         body = body_same (cleared_dummies m head u outvars) (cleared_dummies m head u vars);
         keeps = forward_keeps ∙ sym (from_statements (kept_of p.marks (is_own u)) i u.body);
-        spares = forward_clean r (is_shadow m ps head u) (naming_facts.plain_unshadowed sb m ps head u helpers sep keeps) (naming_facts.helper_unshadowed sb m ps head u helpers sep keeps) sc p i 0 u.body;
-        pushes_alone = forward_pushes r (is_shadow m ps head u) (naming_facts.plain_unshadowed sb m ps head u helpers sep keeps) (naming_facts.helper_unshadowed sb m ps head u helpers sep keeps) sc p i 0 u.body;
-        saves = code_taken (pushed (is_own u)) (due p) (due_turns p) r sc p u (due_rows u r own_kept own_same p) i 0 u.body code closed;
-        sparing = forward_sparing u r own_same (is_shadow m ps head u) (naming_facts.helper_unshadowed sb m ps head u helpers sep keeps) sc p i 0 u.body code;
+        spares = forward_clean r (is_shadow m ps head u) (naming_facts.plain_unshadowed sb m ps head u helpers sep keeps) (naming_facts.helper_unshadowed sb m ps head u helpers sep keeps) sc p unsplit i 0 u.body;
+        pushes_alone = forward_pushes r (is_shadow m ps head u) (naming_facts.plain_unshadowed sb m ps head u helpers sep keeps) (naming_facts.helper_unshadowed sb m ps head u helpers sep keeps) sc p unsplit i 0 u.body;
+        saves = code_taken (pushed (is_own u)) (due p) (due_turns p) r sc p unsplit u (due_rows u r own_kept own_same p) i 0 u.body code closed;
+        sparing = forward_sparing u r own_same (is_shadow m ps head u) (naming_facts.helper_unshadowed sb m ps head u helpers sep keeps) sc p unsplit i 0 u.body code;
         reverses = backward_does;
-        assigns = backward_assigns u r own_kept own_same counts sc p i 0 u.body code (loops_in counts u.body (λ v h. h));
+        assigns = backward_assigns u r own_kept own_same counts sc p unsplit i 0 u.body code (loops_in counts u.body (λ v h. h));
       }
 
   pub adjoint_shaped : IsAdjointUnit sb m ps head vars outvars u (unlined_procedure (emitted_adjoint_with sb m ps head vars outvars u))

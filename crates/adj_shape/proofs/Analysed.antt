@@ -12,11 +12,12 @@ use Rattle.adj_reverse.specs.Marking.{full_marks, marks_in, first_statement}
 use Rattle.adj_reverse.specs.Program.{calls_act, calls_in, calls_some, reached_after}
 use Rattle.adj_reverse.proofs.Rounds.{either, calls_rise}
 use Rattle.adj_checked.proofs.Premises.{units_apart, found}
+use Rattle.adj_checked.proofs.Pairs.{adjoint_part}
+use Rattle.adj_analysed.specs.Meets.{program_facts}
 use Rattle.adj_facts.specs.Parts.{Part, statements_in}
 use Rattle.adj_facts.specs.Standing.{Place, outermost, part_of, body_of, Standing, held_in, standing}
 use Rattle.adj_facts.specs.Problem.{IsHead, statements_of}
 use Rattle.adj_facts.specs.Activity.{Holds}
-use Rattle.adj_facts.specs.Held.{marks_of}
 use Rattle.adj_facts.specs.Laws.{InUnit, facts_of}
 use Rattle.adj_facts.proofs.Heads.{head_part}
 use Rattle.adj_facts.proofs.Members.{is_first, is_later}
@@ -167,10 +168,10 @@ analysed_are_closed rules k checked a l saved held y top at u f there =
     let finds = part_found (statements_in 0 k.units) 0 0 k.units (units_apart rules k.units checked) k.head h.0 h.1 in
     let is : IsHead k h.0 = record { is = h.1 } in
     let reached : reached_after (name_eq h.0.unit.name) (λ j. true) k.units (length k.units) u.name ≡ true =
-    ap (λ z. reached_after (name_eq z.name) (λ j. true) k.units (length k.units) u.name) h.2 ∙ any_reached (name_eq top.name) a.adjointed k.units (length k.units) u.name there in
+    ap (λ z. reached_after (name_eq z.name) (λ j. true) k.units (length k.units) u.name) h.2 ∙ any_reached (name_eq top.name) a.adjointed k.units (length k.units) u.name (adjoint_part (program_facts k.units k.split a l saved held).marks k.units top u.name u f there) in
     let t = taking k (found rules k.units checked) h.0 is finds (length k.units) u.name u f reached in
     let placed_at = placed k.units u.name t.part t.finds in
     let unit : t.part.unit ≡ u = some_same t.part.unit u (sym placed_at.found ∙ f) in
-    let own : IsClosed (marks_of a l saved t.part.number) t.part.first t.part.unit.body = unit_closed (facts_of a l saved held t.part.number) t.part (analysed_is_closed k a l saved held y t.part t.takes) in
-    subst (λ n. IsClosed (marks_of a l saved n) (first_statement k.units u.name) u.body) placed_at.number
-    (subst (λ n. IsClosed (marks_of a l saved t.part.number) n u.body) placed_at.first (subst (λ (v : Procedure). IsClosed (marks_of a l saved t.part.number) t.part.first v.body) unit own))
+    let own : IsClosed (facts_of k a l saved held t.part.number).marks t.part.first t.part.unit.body = unit_closed (facts_of k a l saved held t.part.number) t.part (analysed_is_closed k a l saved held y t.part t.takes) in
+    subst (λ n. IsClosed (facts_of k a l saved held n).marks (first_statement k.units u.name) u.body) placed_at.number
+    (subst (λ n. IsClosed (facts_of k a l saved held t.part.number).marks n u.body) placed_at.first (subst (λ (v : Procedure). IsClosed (facts_of k a l saved held t.part.number).marks t.part.first v.body) unit own))

@@ -16,6 +16,7 @@ use Rattle.adj_transpose.proofs.Variables.{and_true, or_false, or_assoc, var_ref
 use Rattle.adj_reverse.specs.Plan.{Plan, is_emitted, names_of, actuals_named, found_or, save_group, snapshot_group, step_snapshot, Schedules, Step, reversed_by}
 use Rattle.adj_reverse.specs.AdjointOf.{adjoint_where}
 use Rattle.adj_reverse.specs.Emission.{is_empty, push, pop, pushes, pops, literal, told_backward, loop_backward, while_backward, pop_own, reset, resets, with_shadows, adjoint_call, backward_act_with, backward_with}
+use Rattle.adj_reverse.proofs.Unsplit.{unsplit_backward}
 use Rattle.adj_reverse.specs.ReversalCode.{at_turn, arm, advance, arms, reversal, slots_of, pop_slots, row_backward}
 use Rattle.adj_reverse.specs.Laws.{IsIdle', IsIdle}
 use Rattle.adj_reverse.specs.Program.{turns_act, turns_in}
@@ -62,7 +63,7 @@ module _ (sc : Schedules) (p : Plan) where
 
 -- ---- the backward sweep
 
-module _ (u : Procedure) (r : Var → Var) (own_kept : (v : Var) → is_own u v ≡ true → r v ≡ v) (own_same : (v : Var) → is_own u (r v) ≡ is_own u v) (units inside_units : List ℕ → Bool) (sc : Schedules) (p : Plan)
+module _ (u : Procedure) (r : Var → Var) (own_kept : (v : Var) → is_own u v ≡ true → r v ≡ v) (own_same : (v : Var) → is_own u (r v) ≡ is_own u v) (units inside_units : List ℕ → Bool) (sc : Schedules) (p : Plan) (unsplit : (i : ℕ) → p.marks.split i ≡ false)
     (apart : (name : List ℕ) → inside_units name ≡ true → units (p.callees name).adjoint ≡ false) (there : (name : List ℕ) → inside_units name ≡ true → units name ≡ true) where
   -- what is done in a list
   abbrev done : Option Var → ℕ → Code → List (ℕ × Act)
@@ -271,7 +272,8 @@ module _ (u : Procedure) (r : Var → Var) (own_kept : (v : Var) → is_own u v 
         let g = p.callees name in
         let saves = save_group p.marks i g (names_of args) in
         let members = snapshot_group g (names_of args) in
-        none_if None 0 (is_emitted p.marks i) (code_if (p.marks.adjointed i) (pops p line members +++ one line (adjoint_call g (names_of args))) +++ pops p line saves)
+        ap (done None 0) (unsplit_backward sc p i d line name args (unsplit i))
+        ∙ none_if None 0 (is_emitted p.marks i) (code_if (p.marks.adjointed i) (pops p line members +++ one line (adjoint_call g (names_of args))) +++ pops p line saves)
         (done_behind None 0 (code_if (p.marks.adjointed i) (pops p line members +++ one line (adjoint_call g (names_of args)))) (pops p line saves)
         (none_if None 0 (p.marks.adjointed i) (pops p line members +++ one line (adjoint_call g (names_of args))) (done_behind None 0 (pops p line members) (one line (adjoint_call g (names_of args))) (pops_none None 0 line members) ∙ adjoint_none None 0 line name (names_of args) c))
         ∙ pops_none None 0 line saves)

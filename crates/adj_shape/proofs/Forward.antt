@@ -11,6 +11,7 @@ use Rattle.adj_transpose.specs.Marked.{code_if}
 use Rattle.adj_transpose.proofs.Variables.{or_false}
 use Rattle.adj_reverse.specs.Plan.{Plan, is_emitted, names_of, actuals_named, found_or, save_group, snapshot_group, step_snapshot, Schedules, Step, reversed_by}
 use Rattle.adj_reverse.specs.Emission.{is_empty, pushes, push_own, set_own, literal, told_forward, loop_forward, while_forward, forward_act_with, forward_with, backward_with}
+use Rattle.adj_reverse.proofs.Unsplit.{unsplit_forward}
 use Rattle.adj_reverse.specs.ReversalCode.{as_slots, set_slots, push_slots, row_forward}
 use Rattle.adj_reverse.specs.Laws.{IsIdle', IsIdle}
 use Rattle.adj_emitted.proofs.Over.{OverTerm, OverTest, OverActuals, OverAct, OverCode, Any}
@@ -85,7 +86,7 @@ pub record Rows {X : Type 0} (f : Act → List X) (g : ℕ → Act → List X) (
 pub none_front : {X : Type 0} (xs ys : List X) → xs ≡ [] → xs ++ ys ≡ ys
 none_front xs ys e = ap (λ l. l ++ ys) e
 
-module _ {X : Type 0} (f : Act → List X) (g : ℕ → Act → List X) (h : ℕ → Step → List X) (r : Var → Var) (sc : Schedules) (p : Plan) (u : Procedure) (rows : Rows f g h r p u) where
+module _ {X : Type 0} (f : Act → List X) (g : ℕ → Act → List X) (h : ℕ → Step → List X) (r : Var → Var) (sc : Schedules) (p : Plan) (unsplit : (i : ℕ) → p.marks.split i ≡ false) (u : Procedure) (rows : Rows f g h r p u) where
   -- what is due for a statement and for a list
   abbrev given_act : ℕ → Act → List X
   given_act i a = gathered_act sc p.marks.adjointed g h i a
@@ -311,7 +312,7 @@ module _ {X : Type 0} (f : Act → List X) (g : ℕ → Act → List X) (h : ℕ
         go : (e : Bool) → is_emitted p.marks i ≡ e → gathered f (seen r swept) ≡ given (suc i) body → (is_emitted p.marks i ≡ false → given_act i (during c body) ≡ []) → gathered f (seen r (code_if e (while_forward idle (suc d) line c swept))) ≡ given_act i (during c body)
         go true e turn idled = while_taken i line (suc d) c body e o.0 idle swept ∙ ap (λ l. g i (during c body) ++ l) turn
         go false e turn idled = sym (idled e)
-    act_taken i d line (call name args) o k = go (is_emitted p.marks i) refl
+    act_taken i d line (call name args) o k = ap (λ c. gathered f (seen r c)) (unsplit_forward sc p i d line name args (unsplit i)) ∙ go (is_emitted p.marks i) refl
       where
         row : Code
         row = pushes p line (save_group p.marks i (p.callees name) (names_of args)) +++ (code_if (p.marks.adjointed i) (pushes p line (snapshot_group (p.callees name) (names_of args))) +++ code_if (p.marks.kept i) (one line (call name args)))

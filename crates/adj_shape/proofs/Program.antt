@@ -8,10 +8,11 @@ use Rattle.adj_names.specs.Fault.{Rules}
 use Rattle.adj_transpose.specs.Fresh.{has_name}
 use Rattle.adj_transpose.proofs.Variables.{or_left, or_right}
 use Rattle.adj_reverse.specs.Names.{adjoint_name}
-use Rattle.adj_reverse.specs.Marking.{ProgramMarks, first_statement}
+use Rattle.adj_reverse.specs.Marking.{ProgramMarks, first_statement, SplitsNothing}
 use Rattle.adj_reverse.specs.Program.{calls_in, calls_some, turns_in, turns_some, reached_after, has_adjoint, is_kept_with, is_carried_with, emitted_adjoint_with, emitted_units_with, emitted_for_with, schedules_in}
 use Rattle.adj_reverse.specs.Source.{is_unit, CallUnits}
 use Rattle.adj_reverse.proofs.EmittedUnits.{found_there, carried_found, adjoint_found, carried_common, some_there}
+use Rattle.adj_reverse.proofs.Unsplit.{kept_by_adjoints, adjoint_units, unsplit_kept, unsplit_units}
 use Rattle.adj_reverse.proofs.Names.{has-append}
 use Rattle.adj_reverse.proofs.Rounds.{either}
 use Rattle.adj_checked.specs.Checked.{IsChecked}
@@ -54,7 +55,7 @@ called_each x good [] e h = absurd cc
 called_each x good (v ∷ us) e h =
     either (has_name x (calls_of (unlined_procedure v))) (is_called (map unlined_procedure us) x) good (sym (has-append x (calls_of (unlined_procedure v)) (flat_map (λ v. gathered called v.body) (map unlined_procedure us))) ∙ h) e.0 (called_each x good us e.1)
 
-module _ (sb : Bool) (rules : Rules) (ps : List Procedure) (checked : IsChecked rules ps) (m : ProgramMarks) (head : Procedure) (vars outvars : List Bool) (closed : AreClosed m ps head) where
+module _ (sb : Bool) (rules : Rules) (ps : List Procedure) (checked : IsChecked rules ps) (m : ProgramMarks) (unsplit : SplitsNothing m) (head : Procedure) (vars outvars : List Bool) (closed : AreClosed m ps head) where
   abbrev made_units : List Procedure
   made_units = emitted_units_with sb m ps head vars outvars ps
 
@@ -74,13 +75,13 @@ module _ (sb : Bool) (rules : Rules) (ps : List Procedure) (checked : IsChecked 
   carried_by_adjoint : (x : List ℕ) → is_unit ps x ≡ true → (u : Procedure) → Found ps u → has_adjoint m ps head u.name ≡ true → has_name x (calls_of (unlined_procedure (made u))) ≡ true → is_carried_with sb m ps head x ≡ true
   carried_by_adjoint x there u f a h =
       either (calls_in m.kept x (first_statement ps u.name) u.body) (turns_in (schedules_in sb ps) m.adjointed x (first_statement ps u.name) u.body) (is_carried_with sb m ps head x)
-      (sym (body_calls sb rules ps checked m head vars outvars u f.0 (closed u f.0 a) x (named_there ps x there)) ∙ h)
-      (kept_carried sb m ps head u f.0 a x) (turned_carried sb m ps head u f.0 a x)
+      (sym (body_calls sb rules ps checked m unsplit head vars outvars u f.0 (closed u f.0 a) x (named_there ps x there)) ∙ h)
+      (kept_carried sb m ps head u f.0 a unsplit x) (turned_carried sb m ps head u f.0 a unsplit x)
 
   is_called_carried : (x : List ℕ) → is_unit ps x ≡ true → is_called (map unlined_procedure made_units) x ≡ true → is_carried_with sb m ps head x ≡ true
   is_called_carried x there =
       called_each x (is_carried_with sb m ps head x) made_units
-      (each_emitted sb m ps head vars outvars (λ v. has_name x (calls_of (unlined_procedure v)) ≡ true → is_carried_with sb m ps head x ≡ true) ps
+      (each_emitted sb m ps head vars outvars unsplit (λ v. has_name x (calls_of (unlined_procedure v)) ≡ true → is_carried_with sb m ps head x ≡ true) ps
       (each_more (Found ps) (λ u. is_carried_with sb m ps head u.name ≡ true → has_name x (calls_of (unlined_procedure u)) ≡ true → is_carried_with sb m ps head x ≡ true) (carried_by_carried x) ps (found rules ps checked))
       (each_more (Found ps) (λ u. has_adjoint m ps head u.name ≡ true → has_name x (calls_of (unlined_procedure (made u))) ≡ true → is_carried_with sb m ps head x ≡ true) (carried_by_adjoint x there) ps (found rules ps checked)))
 
@@ -91,7 +92,7 @@ module _ (sb : Bool) (rules : Rules) (ps : List Procedure) (checked : IsChecked 
   by_body x there t f h =
       let c = caller (has_adjoint m ps head) t 0 ps (units_apart rules ps checked) h in
       called_found x made_units (adjoint_name ps c.unit) (made c.unit) (adjoint_found sb m ps head vars outvars c.unit.name c.unit c.found c.inside)
-      (body_calls sb rules ps checked m head vars outvars c.unit c.found (closed c.unit c.found c.inside) x (named_there ps x there) ∙ f (first_statement ps c.unit.name) c.unit.body c.calling)
+      (body_calls sb rules ps checked m unsplit head vars outvars c.unit c.found (closed c.unit c.found c.inside) x (named_there ps x there) ∙ f (first_statement ps c.unit.name) c.unit.body c.calling)
 
   kept_known : (x : List ℕ) → calls_some (has_adjoint m ps head) m.kept x 0 ps ≡ true → is_called (map unlined_procedure made_units) x ≡ true
   kept_known x h =
@@ -104,19 +105,19 @@ module _ (sb : Bool) (rules : Rules) (ps : List Procedure) (checked : IsChecked 
       (sym (some_turns (schedules_in sb ps) (has_adjoint m ps head) m.adjointed x 0 ps) ∙ h)
 
   by_adjoint : (x : List ℕ) → is_kept_with sb m ps head x ≡ true → is_called (map unlined_procedure made_units) x ≡ true
-  by_adjoint x = go sb (kept_known x) (turned_known x)
+  by_adjoint x h = go sb (kept_known x) (turned_known x) (sym (unsplit_kept m unsplit ps head sb x) ∙ h)
     where
       called_so : Bool
       called_so = is_called (map unlined_procedure made_units) x
 
-      go : (b : Bool) → (calls_some (has_adjoint m ps head) m.kept x 0 ps ≡ true → called_so ≡ true) → (turns_some (schedules_in b ps) (has_adjoint m ps head) m.adjointed x 0 ps ≡ true → called_so ≡ true) → is_kept_with b m ps head x ≡ true → called_so ≡ true
+      go : (b : Bool) → (calls_some (has_adjoint m ps head) m.kept x 0 ps ≡ true → called_so ≡ true) → (turns_some (schedules_in b ps) (has_adjoint m ps head) m.adjointed x 0 ps ≡ true → called_so ≡ true) → kept_by_adjoints b m ps head x ≡ true → called_so ≡ true
       go false f g h = f h
       go true f g h = either (calls_some (has_adjoint m ps head) m.kept x 0 ps) (turns_some (schedules_in true ps) (has_adjoint m ps head) m.adjointed x 0 ps) called_so h f g
 
   kept_there : (x : List ℕ) → is_kept_with sb m ps head x ≡ true → is_unit ps x ≡ true
-  kept_there x = go sb
+  kept_there x h = go sb (sym (unsplit_kept m unsplit ps head sb x) ∙ h)
     where
-      go : (b : Bool) → is_kept_with b m ps head x ≡ true → is_unit ps x ≡ true
+      go : (b : Bool) → kept_by_adjoints b m ps head x ≡ true → is_unit ps x ≡ true
       go false h = some_there ps ps known (has_adjoint m ps head) m.kept x 0 h
       go true h =
           either (calls_some (has_adjoint m ps head) m.kept x 0 ps) (turns_some (schedules_in true ps) (has_adjoint m ps head) m.adjointed x 0 ps) (is_unit ps x) h
@@ -140,12 +141,12 @@ module _ (sb : Bool) (rules : Rules) (ps : List Procedure) (checked : IsChecked 
   -- ---- the units
 
   units_are : (us : List Procedure) → Each (Found ps) us →
-      unlined (emitted_units_with sb m ps head vars outvars us) ≡ flat_map (λ u. (if is_called (unlined made_units) u.name then unlined_procedure u ∷ [] else []) ++ (if has_adjoint m ps head u.name then unlined_procedure (made u) ∷ [] else [])) us
+      unlined (adjoint_units sb m ps head vars outvars us) ≡ flat_map (λ u. (if is_called (unlined made_units) u.name then unlined_procedure u ∷ [] else []) ++ (if has_adjoint m ps head u.name then unlined_procedure (made u) ∷ [] else [])) us
   units_are [] f = refl
   units_are (u ∷ us) f = go (is_carried_with sb m ps head u.name) (has_adjoint m ps head u.name) ∙ (λ j. ((if sym (called_same u f.0) j then unlined_procedure u ∷ [] else []) ++ (if has_adjoint m ps head u.name then unlined_procedure (made u) ∷ [] else [])) ++ units_are us f.1 j)
     where
       rest : List Procedure
-      rest = emitted_units_with sb m ps head vars outvars us
+      rest = adjoint_units sb m ps head vars outvars us
 
       go : (b c : Bool) → map unlined_procedure ((if b then u ∷ [] else []) ++ ((if c then made u ∷ [] else []) ++ rest)) ≡ ((if b then unlined_procedure u ∷ [] else []) ++ (if c then unlined_procedure (made u) ∷ [] else [])) ++ map unlined_procedure rest
       go true true = refl
@@ -156,10 +157,10 @@ module _ (sb : Bool) (rules : Rules) (ps : List Procedure) (checked : IsChecked 
   emitted_shaped : IsShaped sb m ps head vars outvars (unlined made_units)
   emitted_shaped = record {
     made = λ u. unlined_procedure (emitted_adjoint_with sb m ps head vars outvars u);
-    units = units_are ps (found rules ps checked);
-    adjoints = λ u f a. adjoint_shaped sb rules ps checked m head vars outvars u f (closed u f a);
+    units = ap unlined (unsplit_units sb m unsplit ps head vars outvars ps) ∙ units_are ps (found rules ps checked);
+    adjoints = λ u f a. adjoint_shaped sb rules ps checked m unsplit head vars outvars u f (closed u f a);
   }
 
 pub emitted_has_shape : EmittedHasShape
-emitted_has_shape sb rules ps checked m head vars outvars u at closed qs same =
-    subst (IsShaped sb m ps u vars outvars) (ap (λ us. unlined (emitted_for_with sb m ps vars outvars us)) (sym at) ∙ same) (emitted_shaped sb rules ps checked m u vars outvars closed)
+emitted_has_shape sb rules ps checked m unsplit head vars outvars u at closed qs same =
+    subst (IsShaped sb m ps u vars outvars) (ap (λ us. unlined (emitted_for_with sb m ps vars outvars us)) (sym at) ∙ same) (emitted_shaped sb rules ps checked m unsplit u vars outvars closed)

@@ -1,5 +1,5 @@
 -- The forward sweep assigns no shadow and has pushes alone of the runtime's calls, and the backward sweep assigns the unit's variables only as those of DOs.
-use Rattle.std.proofs.Common.{◌≡◌, ℕ, suc, Bool, true, false, List, [], ◌∷◌, ◌++◌, refl, ap, ◌∙◌, if◌then◌else◌}
+use Rattle.std.proofs.Common.{◌≡◌, ℕ, suc, Bool, true, false, List, [], ◌∷◌, ◌++◌, refl, ap, ◌∙◌, if◌then◌else◌, sym, subst}
 use Rattle.std.specs.Prelude.{◌||◌, ◌&&◌, not, Option, Some, None}
 use Rattle.std.specs.List.{list_any, list_all}
 use Rattle.std.proofs.lemmas.Grind.{flat_map-append}
@@ -12,6 +12,7 @@ use Rattle.adj_transpose.proofs.Variables.{or_left, or_right, var_refl}
 use Rattle.adj_reverse.specs.Plan.{Plan, is_emitted, names_of, actuals_named, found_or, save_group, snapshot_group, step_snapshot, Schedules, Step, reversed_by}
 use Rattle.adj_reverse.specs.AdjointOf.{adjoint_where}
 use Rattle.adj_reverse.specs.Emission.{is_empty, push, pop, pushes, pops, literal, told_forward, told_backward, loop_forward, loop_backward, while_forward, while_backward, push_own, pop_own, set_own, reset, resets, adjoint_call, forward_act_with, forward_with, backward_act_with, backward_with}
+use Rattle.adj_reverse.proofs.Unsplit.{unsplit_forward, unsplit_backward}
 use Rattle.adj_reverse.specs.ReversalCode.{at_turn, arm, advance, arms, reversal, slots_of, set_slots, push_slots, pop_slots, row_forward, row_backward}
 use Rattle.adj_emitted.proofs.Over.{OverAct, OverCode, Any}
 use Rattle.adj_emitted.proofs.Assigned.{AreMaking, making_adjoint}
@@ -23,7 +24,7 @@ use Rattle.adj_shape.proofs.Through.{Through, seen_through, guarded_through, gat
 
 -- ---- forward
 
-module _ (r : Var → Var) (made : Vars) (plain_unmade : (x : List ℕ) → made (r (plain x)) ≡ false) (helper_unmade : (o : Role) (k : ℕ) → made (r (helper o k)) ≡ false) (sc : Schedules) (p : Plan) where
+module _ (r : Var → Var) (made : Vars) (plain_unmade : (x : List ℕ) → made (r (plain x)) ≡ false) (helper_unmade : (o : Role) (k : ℕ) → made (r (helper o k)) ≡ false) (sc : Schedules) (p : Plan) (unsplit : (i : ℕ) → p.marks.split i ≡ false) where
   -- it assigns no shadow, and calls of the runtime pushes alone
   abbrev Clean : Act → Type 0
   Clean a = (list_any made (assigned a) ≡ false) × (list_all is_push (ran a) ≡ true)
@@ -137,9 +138,10 @@ module _ (r : Var → Var) (made : Vars) (plain_unmade : (x : List ℕ) → made
     clean_act i d line (call name args) =
         let saves = save_group p.marks i (p.callees name) (names_of args) in
         let members = snapshot_group (p.callees name) (names_of args) in
-        clean_if (is_emitted p.marks i) (pushes p line saves +++ (code_if (p.marks.adjointed i) (pushes p line members) +++ code_if (p.marks.kept i) (one line (call name args))))
+        subst IsClean (sym (unsplit_forward sc p i d line name args (unsplit i)))
+        (clean_if (is_emitted p.marks i) (pushes p line saves +++ (code_if (p.marks.adjointed i) (pushes p line members) +++ code_if (p.marks.kept i) (one line (call name args))))
         (clean_join (pushes p line saves) (code_if (p.marks.adjointed i) (pushes p line members) +++ code_if (p.marks.kept i) (one line (call name args))) (clean_pushes line saves)
-        (clean_join (code_if (p.marks.adjointed i) (pushes p line members)) (code_if (p.marks.kept i) (one line (call name args))) (clean_if (p.marks.adjointed i) (pushes p line members) (clean_pushes line members)) (clean_if (p.marks.kept i) (one line (call name args)) ((refl, refl), tt))))
+        (clean_join (code_if (p.marks.adjointed i) (pushes p line members)) (code_if (p.marks.kept i) (one line (call name args))) (clean_if (p.marks.adjointed i) (pushes p line members) (clean_pushes line members)) (clean_if (p.marks.kept i) (one line (call name args)) ((refl, refl), tt)))))
     clean_act i d line (runtime c) = tt
 
     clean_code : (i d : ℕ) (c : Code) → IsClean (forward_with sc p i d c)
@@ -200,7 +202,7 @@ module _ (counts : Vars) where
 
 -- ---- backward
 
-module _ (u : Procedure) (r : Var → Var) (own_kept : (v : Var) → is_own u v ≡ true → r v ≡ v) (own_same : (v : Var) → is_own u (r v) ≡ is_own u v) (counts : Vars) (sc : Schedules) (p : Plan) where
+module _ (u : Procedure) (r : Var → Var) (own_kept : (v : Var) → is_own u v ≡ true → r v ≡ v) (own_same : (v : Var) → is_own u (r v) ≡ is_own u v) (counts : Vars) (sc : Schedules) (p : Plan) (unsplit : (i : ℕ) → p.marks.split i ≡ false) where
   -- a variable that isn't the unit's, or is that of a DO
   abbrev restored : Var → Bool
   restored v = not (is_own u v) || counts v
@@ -358,10 +360,11 @@ module _ (u : Procedure) (r : Var → Var) (own_kept : (v : Var) → is_own u v 
         let g = p.callees name in
         let saves = save_group p.marks i g (names_of args) in
         let members = snapshot_group g (names_of args) in
-        turning_if (is_emitted p.marks i) (code_if (p.marks.adjointed i) (pops p line members +++ one line (adjoint_call g (names_of args))) +++ pops p line saves) (λ e.
+        subst IsTurning (sym (unsplit_backward sc p i d line name args (unsplit i)))
+        (turning_if (is_emitted p.marks i) (code_if (p.marks.adjointed i) (pops p line members +++ one line (adjoint_call g (names_of args))) +++ pops p line saves) (λ e.
         turning_join (code_if (p.marks.adjointed i) (pops p line members +++ one line (adjoint_call g (names_of args)))) (pops p line saves)
         (turning_if (p.marks.adjointed i) (pops p line members +++ one line (adjoint_call g (names_of args))) (λ t. turning_join (pops p line members) (one line (adjoint_call g (names_of args))) (pops_turn line members) (refl, tt)))
-        (pops_turn line saves))
+        (pops_turn line saves)))
     act_turns i d line (runtime t) o l = tt
 
     code_turns : (i d : ℕ) (c : Code) → OverCode (OwnVar u) NoArray Any c → LoopsIn counts c → IsTurning (backward_with sc p i d c)

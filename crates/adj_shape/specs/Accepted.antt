@@ -1,5 +1,5 @@
 -- The shape of what is emitted for the kernel of an accepted program. (docs/THEOREMS.md, "The shape of what is emitted")
-use Rattle.std.specs.Prelude.{◌≡◌, ℕ, List, Bool, Some}
+use Rattle.std.specs.Prelude.{◌≡◌, ℕ, List, Bool, Some, false}
 use Rattle.adj_tree.specs.Code.{Procedure}
 use Rattle.adj_tree.specs.Lines.{unlined}
 use Rattle.adj_meaning.specs.Written.{find_unit}
@@ -26,6 +26,6 @@ pub record HasKernelShape (schedules : Bool) (m : ProgramMarks) (ps : List Proce
 abbrev pub AcceptedHasShape : Type 0
 AcceptedHasShape =
     (schedules : Bool) (ps : List Procedure) → IsAccepted ps → (name : List ℕ) (u : Procedure) → find_unit ps name ≡ Some u → (vars outvars : List Bool) →
-    (a : Activity) (l : Liveness) (saved held : ℕ → Vars) → Analysed (record { units = kernel_of ps; head = unit_number (kernel_of ps) name; vars = vars; outvars = outvars }) a l saved held →
-    let marks = (program_facts (kernel_of ps) a l saved held).marks in
+    (a : Activity) (l : Liveness) (saved held : ℕ → Vars) → Analysed (record { units = kernel_of ps; head = unit_number (kernel_of ps) name; vars = vars; outvars = outvars; split = λ n. false }) a l saved held →
+    let marks = (program_facts (kernel_of ps) (λ n. false) a l saved held).marks in
     (qs : List Procedure) → unlined (emitted_program_with schedules marks (kernel_of ps) (unit_number (kernel_of ps) name) vars outvars) ≡ unlined qs → HasKernelShape schedules marks ps name vars outvars qs

@@ -15,7 +15,7 @@ ghost use Rattle.adj_shape.specs.Reversed.{counting_itself, dropped, dropping, n
 ghost use Rattle.adj_shape.specs.Shape.{HasShape};
 ghost use Rattle.adj_shape.specs.Worked.{emitted, fourth_power, keeping_all, pushing_helpers, pushing_more, sparing, twice_forward};
 
-/// What is emitted for a checked program in kernel form by closed marks has its shape, whether marked loops are reversed by schedules or not.
+/// What is emitted for a checked program in kernel form by closed marks that split no call has its shape, whether marked loops are reversed by schedules or not.
 pub fn shape_law()
     ensures { EmittedHasShape }
 {}
@@ -55,7 +55,9 @@ pub fn worked_reversal()
     ensures numbered_shaped { HasShape true reversing numbered_program numbered only_second only_second numbered_reversed }
 {}
 
-/// Other forms of it haven't: with a push where steps are made, with a snapshot that is pushed twice, with the step unit called where a turn is taken back, and without the call in the forward sweep. Nor has what is emitted where the loop is one as others, nor a reversal with the variable itself as its number of snapshots.
+/// These forms don't have the shape: a push where steps are made; a snapshot that is pushed twice; the step unit called where a step is
+/// reversed; no step call in the forward sweep; the marked loop emitted like any other loop; and a reversal whose number of snapshots is
+/// the variable of the directive itself.
 pub fn wrong_reversals()
     ensures pushing_in_steps { HasShape true reversing turning_program turning only_second only_second pushing_in_steps → ⊥ }
     ensures taking_twice { HasShape true reversing turning_program turning only_second only_second taking_twice → ⊥ }
