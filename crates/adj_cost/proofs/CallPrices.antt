@@ -1,8 +1,8 @@
--- A call that is done and the run of the unit's body: what it takes, and what it costs at weights.
+-- A call that is done and the run of the unit's body: what it takes, and what it costs where each statement costs so many statements more.
 use Rattle.std.proofs.Common.{◌≡◌, ℕ, suc, ◌+◌, Bool, true, false, List, refl, sym, ap, ◌∙◌}
 use Rattle.std.specs.Prelude.{Ok, Some, ◌==◌, if◌then◌else◌}
-use Rattle.adj_tree.specs.Code.{Terms, call, Procedure}
-use Rattle.adj_meaning.specs.Padded.{own_nodes, padded_program, padded_procedure}
+use Rattle.adj_tree.specs.Code.{Terms, Act, call, Procedure}
+use Rattle.adj_meaning.specs.Padded.{padded_program, padded_procedure}
 use Rattle.adj_meaning.specs.Trap.{shape_trap, schedule_trap}
 use Rattle.adj_meaning.specs.Value.{Setting}
 use Rattle.adj_meaning.specs.Scene.{Scene, stand, Outcome, Done, Trapped, then_do, with_value}
@@ -71,20 +71,20 @@ module _ {C : Type 0} (units : List Procedure) (depth : ℕ) (n : Setting C) (na
             ends = ap handed c.1 ∙ done_same (handed p.scene) e p.left left p.second;
           }
 
-  -- at its weight the call takes what its unit does at their weights
-  pub pays_call : (k left price : ℕ) (b : CallBody k left) → Pays (calls_of (padded_program own_nodes units) depth) (setting_in n u (entry_store n.numbers u.dummies got)) u.body begun b.end price → ActPays (calls_of (padded_program own_nodes units) (suc depth)) n line (call name args) s e price
-  pays_call k left price b pays j =
-      let weighed = padded_program own_nodes units in
+  -- so the call takes what its unit does
+  pub pays_call : (extra : Act → ℕ) (k left price : ℕ) (b : CallBody k left) → Pays extra (calls_of (padded_program extra units) depth) (setting_in n u (entry_store n.numbers u.dummies got)) u.body begun b.end price → ActPays extra (calls_of (padded_program extra units) (suc depth)) n line (call name args) s e price
+  pays_call extra k left price b pays j =
+      let weighed = padded_program extra units in
       let q = calls_of weighed depth in
       let start : Scene C = record s { store = entry_store n.numbers u.dummies got } in
       let close : Scene C → ℕ → Outcome (Scene C) = λ s1 i. if s1.opened == 0 then Done s1 i else Trapped schedule_trap line (stand n s1) in
       let back : Scene C → ℕ → Outcome (Scene C) = λ s1 i. Done (handed s1) i in
-      (λ i. call_in q n (handed_padded own_nodes units name i) (find_padded own_nodes units name i) args line s (price + j))
-      ∙ ap (λ o. call_in q n (handed_back units name) (padded_found own_nodes o) args line s (price + j)) found
+      (λ i. call_in q n (handed_padded extra units name i) (find_padded extra units name i) args line s (price + j))
+      ∙ ap (λ o. call_in q n (handed_back units name) (padded_found extra o) args line s (price + j)) found
       ∙ ap (λ r. with_value r line (stand n s) (λ got. if dummies_fit n.numbers u (entry_store n.numbers u.dummies got) u.dummies got
-      then then_do (unit_run q n (padded_procedure own_nodes u) line (record s { store = entry_store n.numbers u.dummies got }) (price + j)) (λ s1 i. Done (record s { store = copied_out u.dummies (handed_back units name) got s1.store s.store; tape = s1.tape; events = s1.events }) i)
+      then then_do (unit_run q n (padded_procedure extra u) line (record s { store = entry_store n.numbers u.dummies got }) (price + j)) (λ s1 i. Done (record s { store = copied_out u.dummies (handed_back units name) got s1.store s.store; tape = s1.tape; events = s1.events }) i)
       else Trapped shape_trap line (stand n s))) is
-      ∙ ap (λ f. if f then then_do (unit_run q n (padded_procedure own_nodes u) line start (price + j)) back else Trapped shape_trap line (stand n s)) b.fit
+      ∙ ap (λ f. if f then then_do (unit_run q n (padded_procedure extra u) line start (price + j)) back else Trapped shape_trap line (stand n s)) b.fit
       ∙ ap (λ o. then_do (then_do o close) back) (pays j)
       ∙ ap (λ f. then_do (if f then Done b.end j else Trapped schedule_trap line (stand n b.end)) back) b.shut
       ∙ ap (λ z. Done z j) b.ends

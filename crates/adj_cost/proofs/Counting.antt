@@ -10,7 +10,7 @@ use Rattle.adj_kernel.specs.Weights.{weight, weight_with_bodies, total_weight}
 use Rattle.adj_kernel.proofs.Weighing.{cost_append}
 use Rattle.adj_reverse.specs.Plan.{Plan, is_emitted, names_of, group, save_group, snapshot_group}
 use Rattle.adj_reverse.specs.AdjointOf.{is_active_where, has_own_where, temps_in_where, shrunk_where, temps_where, back_where, times_power, adjoint_where}
-use Rattle.adj_reverse.specs.Emission.{is_empty, literal, push, pop, pushes, pops, told_forward, told_backward, loop_forward, loop_backward, while_forward, while_backward, resets, reset, adjoint_call, forward_act, forward, backward_act, backward, cleared, adjoint_body}
+use Rattle.adj_reverse.specs.Emission.{is_empty, literal, push, pop, pushes, pops, told_forward, told_backward, loop_forward, loop_backward, while_forward, while_backward, resets, reset, with_shadows, adjoint_call, forward_act, forward, backward_act, backward, cleared, adjoint_body}
 use Rattle.adj_cost.specs.Sweeps.{statements_of, act_sweeps, list_sweeps, body_sweeps}
 
 -- ---- parts
@@ -315,8 +315,26 @@ module _ (p : Plan) where
         while_backward_few idle (suc d) line body2,
       )
 
-  call_few : (i d line : ℕ) (name : List ℕ) (args : Terms) → act_sweeps p i d line (call name args) ≤ 4 * weight (call name args)
-  call_few i d line name args =
+  -- the rows of a call, by whether it is split
+  abbrev call_forth : ℕ → ℕ → List ℕ → Terms → Bool → Code
+  call_forth i line name args split =
+      let g = p.callees name in
+      code_if (is_emitted p.marks i)
+      (if split then one line (call g.forth args)
+      else pushes p line (save_group p.marks i g (names_of args))
+      +++ (code_if (p.marks.adjointed i) (pushes p line (snapshot_group g (names_of args)))
+      +++ code_if (p.marks.kept i) (one line (call name args))))
+
+  abbrev call_back : ℕ → ℕ → List ℕ → Terms → Bool → Code
+  call_back i line name args split =
+      let g = p.callees name in
+      code_if (is_emitted p.marks i)
+      (if split then one line (call g.back (with_shadows g.shadowed g.dummies (names_of args)))
+      else code_if (p.marks.adjointed i) (pops p line (snapshot_group g (names_of args)) +++ one line (adjoint_call g (names_of args)))
+      +++ pops p line (save_group p.marks i g (names_of args)))
+
+  unsplit_few : (i line : ℕ) (name : List ℕ) (args : Terms) → statements_of (call_forth i line name args false) + statements_of (call_back i line name args false) ≤ 4 * weight (call name args)
+  unsplit_few i line name args =
       let g = p.callees name in let given = names_of args in
       let emitted = is_emitted p.marks i in let kept = p.marks.kept i in let adjointed = p.marks.adjointed i in
       let saves = save_group p.marks i g given in let snaps = snapshot_group g given in
@@ -342,6 +360,15 @@ module _ (p : Plan) where
         if_few adjointed (pop2 +++ adjoint),
         append_count pop2 adjoint,
       )
+
+  call_few : (i d line : ℕ) (name : List ℕ) (args : Terms) → act_sweeps p i d line (call name args) ≤ 4 * weight (call name args)
+  call_few i d line name args = by (p.marks.split i)
+    where
+      by : (split : Bool) → statements_of (call_forth i line name args split) + statements_of (call_back i line name args split) ≤ 4 * weight (call name args)
+      by true =
+          let g = p.callees name in
+          omega (arith, if_few (is_emitted p.marks i) (one line (call g.forth args)), if_few (is_emitted p.marks i) (one line (call g.back (with_shadows g.shadowed g.dummies (names_of args)))))
+      by false = unsplit_few i line name args
 
   -- a statement, bodies aside
   pub act_few : (i d line : ℕ) (a : Act) → act_sweeps p i d line a ≤ 4 * weight a + body_sweeps p i d a

@@ -1,7 +1,7 @@
--- What the run of the head's adjoint takes: what both sweeps do, and two statements for each dummy.
+-- What the run of the head's adjoint takes, where no call is split: what both sweeps do, and two statements for each dummy.
 use Rattle.std.proofs.Common.{◌≡◌, ◌≤◌, ℕ, suc, ◌+◌, ◌-◌, ◌*◌, Bool, true, false, List, [], ◌∷◌, refl, sym, ap, ◌∙◌, subst, arith, if◌then◌else◌}
-use Rattle.std.specs.Prelude.{ℤ, pos, length, ◌==◌, Some, None}
-use Rattle.adj_tree.specs.Code.{Var, plain, shadow, var_eq, none, lit, assign, runtime, zero_array, Code, Procedure}
+use Rattle.std.specs.Prelude.{ℤ, pos, length, reverse, ◌==◌, Some, None}
+use Rattle.adj_tree.specs.Code.{Var, plain, shadow, var_eq, none, lit, Term, Mark, Act, assign, loop, call, runtime, zero_array, Code, Procedure}
 use Rattle.adj_tree.proofs.Names.{nat_same, name_refl}
 use Rattle.adj_meaning.specs.Append.{◌+++◌, one}
 use Rattle.adj_meaning.specs.Padded.{own_nodes, padded, padded_program, padded_procedure}
@@ -15,9 +15,9 @@ use Rattle.adj_meaning.specs.Seen.{pulled, pulled_scene, pulled_setting, pulled_
 use Rattle.adj_meaning.specs.Written.{find_unit}
 use Rattle.adj_meaning.specs.Units.{Slot, Output, extents_of, shape_of, calls_of, input_store, fits, run_unit}
 use Rattle.adj_meaning.proofs.Costs.{run_later}
-use Rattle.adj_meaning.proofs.Inversions.{then_done}
+use Rattle.adj_meaning.proofs.Inversions.{then_done, done_same}
 use Rattle.adj_meaning.proofs.Renamed.{run_renamed}
-use Rattle.adj_transpose.specs.Adjoint.{AreAlike}
+use Rattle.adj_transpose.specs.Adjoint.{AreAlike, Ends}
 use Rattle.adj_transpose.specs.Marked.{names_in}
 use Rattle.adj_transpose.specs.MarkedAdjoint.{shadow_flags, joined_by}
 use Rattle.adj_transpose.specs.Marks.{Vars}
@@ -25,17 +25,17 @@ use Rattle.adj_transpose.specs.Naming.{Named, naming}
 use Rattle.adj_transpose.specs.Facts.{Facts}
 use Rattle.adj_transpose.specs.Pairs.{on_words}
 use Rattle.adj_transpose.specs.Lists.{Course, scene}
-use Rattle.adj_transpose.specs.Program.{unmarked}
+use Rattle.adj_transpose.specs.Program.{unmarked, unit_at}
 use Rattle.adj_transpose.proofs.Units.{outside}
-use Rattle.adj_reverse.specs.Plan.{Plan}
-use Rattle.adj_reverse.specs.Emission.{cleared, forward, backward, adjoint_body}
-use Rattle.adj_reverse.specs.Marking.{ProgramMarks, ProgramFacts, facts_in, callee_facts, callee_of, plan_in, first_statement, entry_point, end_point}
+use Rattle.adj_reverse.specs.Plan.{Plan, Schedules, actuals_named}
+use Rattle.adj_reverse.specs.Emission.{cleared, forward_with, backward_with, adjoint_body_with}
+use Rattle.adj_reverse.specs.Marking.{ProgramMarks, SplitsNothing, ProgramFacts, facts_in, callee_facts, callee_of, plan_in, first_statement, entry_point, end_point}
 use Rattle.adj_reverse.specs.Names.{adjoint_name}
 use Rattle.adj_reverse.specs.Passing.{plainly}
-use Rattle.adj_reverse.specs.Program.{has_adjoint, answers, is_carried, all_units, adjoint_unit, emitted_adjoint, emitted_units, emitted_for, emitted_program}
+use Rattle.adj_reverse.specs.Program.{has_adjoint, has_pair, answers, is_carried_with, all_units, adjoint_unit_with, emitted_adjoint_with, emitted_units_with, emitted_for_with, emitted_program_with}
 use Rattle.adj_reverse.specs.Runs.{SameOn}
-use Rattle.adj_reverse.specs.Source.{arrays_in, SourceFits}
-use Rattle.adj_reverse.specs.Theorem.{plan_of, ShapesFit}
+use Rattle.adj_reverse.specs.Source.{arrays_in, SourceFitsWith}
+use Rattle.adj_reverse.specs.Theorem.{plan_of, schedules_by, ShapesFit}
 use Rattle.adj_reverse.proofs.Calls.{with_shadow_shapes}
 use Rattle.adj_reverse.proofs.Emitted as emitted
 use Rattle.adj_reverse.proofs.EmittedUnits.{found_there, head_there, adjoint_found}
@@ -45,9 +45,11 @@ use Rattle.adj_reverse.proofs.Heads.{zeroed, zeroed_plain, cleared_runs}
 use Rattle.adj_reverse.proofs.Made as made
 use Rattle.adj_reverse.proofs.UnitRuns.{kept_in, unit_setting, begin, output_from, unit_ends}
 use Rattle.adj_cost.specs.Along.{BothCost}
-use Rattle.adj_cost.specs.RunTheorem.{CallsAtMost, SpendsItsPrice, EmittedCosts}
+use Rattle.adj_cost.specs.Calls.{CallsWithin}
+use Rattle.adj_cost.specs.Few.{AllFew}
+use Rattle.adj_cost.proofs.Few.{FewIn, few_reversed}
 use Rattle.adj_cost.proofs.Along.{kept_of}
-use Rattle.adj_cost.proofs.AlongUnits.{runs_cost}
+use Rattle.adj_cost.proofs.AlongUnits.{Rate, rate_of, unit_costs}
 use Rattle.adj_cost.proofs.Counting.{cleared_count}
 use Rattle.adj_cost.proofs.Runs.{one_end, left_same, append_done, IsStraight, straight_append, straight_cost}
 use Rattle.adj_reverse.specs.Reversals.{ReversedLines}
@@ -81,19 +83,20 @@ straight_cleared p line (x ∷ xs) = straight_append (if p.arrays (plain x) then
 -- ---- the body of a unit that was run
 
 module _ {C : Type 0} (n : Numbers C) (ps : List Procedure) (u : Procedure) (input : List (Slot C)) where
-  pub record UnitBody (k used : ℕ) : Type 0 where
+  pub record UnitBody (k used : ℕ) (output : Output C) : Type 0 where
     pub end : Scene C
     pub left : ℕ
     pub is : run (calls_of ps k) (unit_setting n ps u input) u.body (begin n ps u input) k ≡ Done end left
     pub shut : end.opened ≡ 0
+    pub told : output.events ≡ reverse end.events
     pub spent : used ≡ k - left
 
-  pub unit_body : (k used : ℕ) (output : Output C) → run_unit n ps u input [] None k ≡ Done output used → UnitBody k used
+  pub unit_body : (k used : ℕ) (output : Output C) → run_unit n ps u input [] None k ≡ Done output used → UnitBody k used output
   unit_body k used output h =
       let p = then_done (then_do (run (calls_of ps k) (unit_setting n ps u input) u.body (begin n ps u input) k) close) out output used h in
       let q = then_done (run (calls_of ps k) (unit_setting n ps u input) u.body (begin n ps u input) k) close p.scene p.left p.first in
       let c = closed q.scene q.left p.scene p.left (q.scene.opened == 0) refl q.second in
-      record { end = q.scene; left = q.left; is = q.first; shut = nat_same q.scene.opened 0 c.0; spent = sym (left_same (output_from n ps u input p.scene) output (k - p.left) used p.second) ∙ ap (λ l. k - l) (sym c.1) }
+      record { end = q.scene; left = q.left; is = q.first; shut = nat_same q.scene.opened 0 c.0; told = ap (λ (z : Output C). z.events) (sym (done_same (output_from n ps u input p.scene) output (k - p.left) used p.second)) ∙ ap (λ (z : Scene C). reverse z.events) (sym (done_same q.scene p.scene q.left p.left (closed_at q.scene q.left p.scene p.left (q.scene.opened == 0) q.second))); spent = sym (left_same (output_from n ps u input p.scene) output (k - p.left) used p.second) ∙ ap (λ l. k - l) (sym c.1) }
     where
       close : Scene C → ℕ → Outcome (Scene C)
       close s j = if s.opened == 0 then Done s j else Trapped schedule_trap u.line (stand (outside n) s)
@@ -105,18 +108,22 @@ module _ {C : Type 0} (n : Numbers C) (ps : List Procedure) (u : Procedure) (inp
       closed a i b j true is g = (is, left_same a b i j g)
       closed a i b j false is g = absurd cc
 
+      closed_at : (a : Scene C) (i : ℕ) (b : Scene C) (j : ℕ) (f : Bool) → (if f then Done a i else Trapped schedule_trap u.line (stand (outside n) a)) ≡ Done b j → (let o : Outcome (Scene C) = Done a i in o ≡ Done b j)
+      closed_at a i b j true g = g
+      closed_at a i b j false g = absurd cc
+
 -- ---- both sweeps, and what stands between and behind them
 
-module _ (qs : List Procedure) (depth : ℕ) (sh : Var → Shape) (level : ℕ) (p : Plan) (i line : ℕ) (c : Code) (outs ins : List (List ℕ)) (needed held : Vars) (u : Store ℤ) (most : ℕ) (x : BothCost (calls_of qs depth) sh level (forward p i 0 c) (backward p i 0 c) needed held u most) where
+module _ (r : Schedules) (qs : List Procedure) (depth : ℕ) (sh : Var → Shape) (level : ℕ) (p : Plan) (i line : ℕ) (c : Code) (outs ins : List (List ℕ)) (needed held : Vars) (u : Store ℤ) (most : ℕ) (x : BothCost (calls_of qs depth) sh level (forward_with r p i 0 c) (backward_with r p i 0 c) needed held u most) where
   abbrev q : Calls ℤ
   q = calls_of qs depth
 
   abbrev n : Setting ℤ
   n = on_words sh level
 
-  pub body_cost : (base : Course) (f : Store ℤ) (t : List ℤ) → SameOn sh needed u f → (e : Scene ℤ) (k left : ℕ) → run q n (adjoint_body p i line c outs ins) (scene base f t) k ≡ Done e left → k ≤ left + most + length outs + length ins
+  pub body_cost : (base : Course) (f : Store ℤ) (t : List ℤ) → SameOn sh needed u f → (e : Scene ℤ) (k left : ℕ) → run q n (adjoint_body_with r p i line c outs ins) (scene base f t) k ≡ Done e left → k ≤ left + most + length outs + length ins
   body_cost base f t same e k left h =
-      let forth = forward p i 0 c in let back = backward p i 0 c in
+      let forth = forward_with r p i 0 c in let back = backward_with r p i 0 c in
       let turn1 = cleared p line outs in let end1 = cleared p line ins in
       let o1 = append_done q n forth (turn1 +++ (back +++ end1)) (scene base f t) e k left h in
       let o2 = append_done q n turn1 (back +++ end1) o1.scene e o1.left left o1.second in
@@ -132,7 +139,16 @@ module _ (qs : List Procedure) (depth : ℕ) (sh : Var → Shape) (level : ℕ) 
 
 -- ---- the head
 
-module _ (lines : ReversedLines) (w : ProgramFacts) (ps : List Procedure) (u : Procedure) (vars outvars : List Bool) (good : SourceFits lines w ps u) (input given : List (Slot ℤ)) (fit : fits words u input ≡ true) (alike : AreAlike input given) (k used : ℕ) (output : Output ℤ) (done : run_unit words ps u input [] None k ≡ Done output used) where
+-- What is proved of it: u ends with each statement paid at its price, and what was spent is at most so much to each unit of what that takes, and two
+-- for each dummy. Whatever bounds the price of a run by its statements bounds this.
+pub record SpendsPriced (extra : Act → ℕ) (ps : List Procedure) (u : Procedure) (input : List (Slot ℤ)) (rate used spent : ℕ) : Type 0 where
+  pub weighed : Ends words (padded_program extra ps) (padded_procedure extra u) input
+  pub most : spent ≤ rate * weighed.used + 2 * length u.dummies
+  pub few : (times : ℕ) → ((depth : ℕ) (n : Setting ℤ) (s e : Scene ℤ) (k left price : ℕ) → run (calls_of ps depth) n u.body s k ≡ Done e left → ((j : ℕ) → run (calls_of (padded_program extra ps) depth) n (padded extra u.body) s (price + j) ≡ Done e j) → price ≤ times * (k - left)) → weighed.used ≤ times * used
+
+module _ (extra : Act → ℕ) (more : (a : Act) → own_nodes a ≤ extra a)
+    (sb : Bool) (more_steps : sb ≡ true → (x : List ℕ) (a b c : Term) (at : ℕ) (name : List ℕ) (given : List (List ℕ)) (mark : Mark) → own_nodes (loop (plain x) a b c (one at (call name (actuals_named given))) mark) + length given ≤ extra (loop (plain x) a b c (one at (call name (actuals_named given))) mark)) (reps : ℕ) (rt : Rate sb reps)
+    (lines : ReversedLines) (w : ProgramFacts) (unsplit : SplitsNothing w.marks) (ps : List Procedure) (u : Procedure) (vars outvars : List Bool) (good : SourceFitsWith sb lines w ps u) (input given : List (Slot ℤ)) (fit : fits words u input ≡ true) (alike : AreAlike input given) (k used : ℕ) (output : Output ℤ) (done : run_unit words ps u input [] None k ≡ Done output used) where
   abbrev m : ProgramMarks
   m = w.marks
 
@@ -140,7 +156,7 @@ module _ (lines : ReversedLines) (w : ProgramFacts) (ps : List Procedure) (u : P
   own = facts_in w u.name
 
   abbrev ns : List Named
-  ns = head.ns false lines w ps u vars outvars good input given fit alike k used output done
+  ns = head.ns sb lines w ps u vars outvars good input given fit alike k used output done
 
   abbrev outs : List (List ℕ)
   outs = names_in (m.shadowed u.name) (unmarked u.dummies outvars)
@@ -149,10 +165,10 @@ module _ (lines : ReversedLines) (w : ProgramFacts) (ps : List Procedure) (u : P
   ins = names_in (m.shadowed u.name) (unmarked u.dummies vars)
 
   abbrev a : Procedure
-  a = adjoint_unit m ps (all_units m ps u) u outs ins
+  a = adjoint_unit_with sb m ps (all_units m ps u) u outs ins
 
   abbrev qs : List Procedure
-  qs = emitted.qs false lines w ps u vars outvars good
+  qs = emitted.qs sb lines w ps u vars outvars good
 
   abbrev joined : List (Slot ℤ)
   joined = joined_by (shadow_flags (m.shadowed u.name) u.dummies) input given
@@ -167,31 +183,39 @@ module _ (lines : ReversedLines) (w : ProgramFacts) (ps : List Procedure) (u : P
   p = plan_in m ps u
 
   abbrev separates : (v w : Var) → var_eq (naming ns v) (naming ns w) ≡ var_eq v w
-  separates = head.separates false lines w ps u vars outvars good input given fit alike k used output done
+  separates = head.separates sb lines w ps u vars outvars good input given fit alike k used output done
 
   shapes_fit : ShapesFit p sh
-  shapes_fit = record { scalars = head.knows false lines w ps u vars outvars good input given fit alike k used output done; shadows = λ x h. ap (λ b. if b then sh (plain x) else scalar) h }
+  shapes_fit = record { scalars = head.knows sb lines w ps u vars outvars good input given fit alike k used output done; shadows = λ x h. ap (λ b. if b then sh (plain x) else scalar) h }
 
   seen_is : pulled_setting (naming ns) (unit_setting words qs a joined) ≡ on_words sh 1
   seen_is =
-      let f = head.fitting false lines w ps u vars outvars good input given fit alike k used output done in
-      let d = made.declared_alike false m ps (all_units m ps u) u f.vars_apart (good.inside u.name u good.there) (good.extents u.name u good.there) in
-      entry.setting_seen u a ns separates (callee_of m ps u.name (Some u)) refl (record { plains = d.plains; shadows = d.shadows; helpers = d.helpers; extents = d.extents }) (made.own_dummy false m ps (all_units m ps u) u f.vars_apart (good.inside u.name u good.there) (good.extents u.name u good.there)) refl input given fit alike
+      let f = head.fitting sb lines w ps u vars outvars good input given fit alike k used output done in
+      let d = made.declared_alike sb m ps (all_units m ps u) u f.vars_apart (good.inside u.name u good.there) (good.extents u.name u good.there) in
+      entry.setting_seen u a ns separates (callee_of m ps u.name (Some u)) refl (record { plains = d.plains; shadows = d.shadows; helpers = d.helpers; extents = d.extents }) (made.own_dummy sb m ps (all_units m ps u) u f.vars_apart (good.inside u.name u good.there) (good.extents u.name u good.there)) refl input given fit alike
 
-  pub spends : (calls : ℕ) → CallsAtMost ps u.name calls → (j spent : ℕ) (end : Output ℤ) → run_unit words qs a joined [] None j ≡ Done end spent → SpendsItsPrice ps u input calls spent
-  spends calls chains j spent end h =
+  abbrev sc : Schedules
+  sc = schedules_by sb (callee_facts w ps)
+
+  pub spends : (calls : ℕ) → CallsWithin ps u.name calls → (sb ≡ true → AllFew lines reps output.events) → (j spent : ℕ) (end : Output ℤ) → run_unit words qs a joined [] None j ≡ Done end spent → SpendsPriced extra ps u input (rate_of rt.base rt.more calls) used spent
+  spends calls chains few j spent end h =
       let depth = k + j in
       let b = unit_body words ps u input k used output done in
       let c = unit_body words qs a joined j spent end h in
       let g = callee_facts w ps in
       let ran : run (calls_of ps depth) (on_words (plainly sh) 1) u.body (begin words ps u input) (k + 0) ≡ Done b.end (b.left + 0) =
-      run_later ps k depth (omega arith) (on_words (plainly sh) 1) u.body (begin words ps u input) b.end k b.left 0 (ap (λ n. run (calls_of ps k) n u.body (begin words ps u input) k) (sym (head.setting_plain false lines w ps u vars outvars good input given fit alike k used output done)) ∙ b.is) in
-      let x = runs_cost lines ps qs g (has_adjoint m ps u) (answers m ps u) (is_carried m ps u) (first_statement ps) (emitted.vars_of false lines w ps u vars outvars good) (emitted.arrays false lines w ps u vars outvars good) (emitted.emitted_fits false lines w ps u vars outvars good)
-      depth calls u.name u good.there (emitted.head_within false lines w ps u vars outvars good) (head_there false m ps u vars outvars good.known (found_there ps u.name u good.there).0) chains sh 1
-      (subst (λ o. ShapesFit (plan_of g own (arrays_in o)) sh) (sym good.there) shapes_fit) (begin words ps u input) b.end (k + 0) (b.left + 0) ran in
-      let sweeps : BothCost (calls_of qs depth) sh 1 (forward p (first_statement ps u.name) 0 u.body) (backward p (first_statement ps u.name) 0 u.body) (own.needed (entry_point ps u.name)) (own.held (end_point ps u.name)) before ((4 + calls) * x.price) =
-      subst (λ o. BothCost (calls_of qs depth) sh 1 (forward (plan_of g own (arrays_in o)) (first_statement ps u.name) 0 u.body) (backward (plan_of g own (arrays_in o)) (first_statement ps u.name) 0 u.body) (own.needed (entry_point ps u.name)) (own.held (end_point ps u.name)) before ((4 + calls) * x.price)) good.there x.cost in
-      let code = adjoint_body p (first_statement ps u.name) u.line u.body outs ins in
+      run_later ps k depth (omega arith) (on_words (plainly sh) 1) u.body (begin words ps u input) b.end k b.left 0 (ap (λ n. run (calls_of ps k) n u.body (begin words ps u input) k) (sym (head.setting_plain sb lines w ps u vars outvars good input given fit alike k used output done)) ∙ b.is) in
+      let few_end : FewIn sb lines reps b.end = λ on. few_reversed lines reps b.end.events (subst (λ z. AllFew lines reps z) b.told (few on)) in
+      let rate = rate_of rt.base rt.more calls in
+      let x = unit_costs sb extra more more_steps reps rt lines ps qs g (has_adjoint m ps u) (answers m ps u) (has_pair m ps u) (is_carried_with sb m ps u) (first_statement ps) (emitted.vars_of sb lines w ps u vars outvars good) (emitted.arrays sb lines w ps u vars outvars good) (emitted.emitted_fits sb lines w ps u vars outvars good) (λ name i. unsplit i)
+      depth calls u.name u good.there (emitted.head_within sb lines w ps u vars outvars good) chains (with_shadow_shapes (m.shadowed u.name) (λ x. shape_of (extents_of words u before x))) 1
+      (subst (λ o. ShapesFit (plan_of g own (arrays_in o)) sh) (sym good.there) shapes_fit) (begin words ps u input) b.end (k + 0) (b.left + 0) ran few_end in
+      let here = head_there sb m ps u vars outvars good.known (found_there ps u.name u good.there).0 in
+      let F : Code = forward_with sc p (first_statement ps u.name) 0 u.body in
+      let B : Code = backward_with sc p (first_statement ps u.name) 0 u.body in
+      let sweeps : BothCost (calls_of qs depth) sh 1 F B (own.needed (entry_point ps u.name)) (own.held (end_point ps u.name)) before (rate * x.price) =
+      subst (λ o. BothCost (calls_of qs depth) sh 1 (forward_with sc (plan_of g own (arrays_in o)) (first_statement ps u.name) 0 u.body) (backward_with sc (plan_of g own (arrays_in o)) (first_statement ps u.name) 0 u.body) (own.needed (entry_point ps u.name)) (own.held (end_point ps u.name)) before (rate * x.price)) good.there (x.cost here) in
+      let code = adjoint_body_with sc p (first_statement ps u.name) u.line u.body outs ins in
       let kept = kept_in words qs a joined in
       let start : Store ℤ = pulled (naming ns) (input_store words a joined) in
       let turned : run (calls_of qs j) (on_words sh 1) code (scene kept start []) j ≡ Done (pulled_scene (naming ns) c.end) c.left =
@@ -199,30 +223,42 @@ module _ (lines : ReversedLines) (w : ProgramFacts) (ps : List Procedure) (u : P
       ∙ sym (run_renamed (naming ns) (record { at = separates }) qs j (unit_setting words qs a joined) code (begin words qs a joined) j)
       ∙ ap (pulled_outcome (naming ns)) c.is in
       let deeper = run_later qs j depth (omega arith) (on_words sh 1) code (scene kept start []) (pulled_scene (naming ns) c.end) j c.left 0 turned in
-      let few = body_cost qs depth sh 1 p (first_statement ps u.name) u.line u.body outs ins (own.needed (entry_point ps u.name)) (own.held (end_point ps u.name)) before ((4 + calls) * x.price) sweeps kept start []
-      (record { at = λ y i l o. head.same_plain false lines w ps u vars outvars good input given fit alike k used output done y i }) (pulled_scene (naming ns) c.end) (j + 0) (c.left + 0) deeper in
+      let few_all = body_cost sc qs depth sh 1 p (first_statement ps u.name) u.line u.body outs ins (own.needed (entry_point ps u.name)) (own.held (end_point ps u.name)) before (rate * x.price) sweeps kept start []
+      (record { at = λ y i l o. head.same_plain sb lines w ps u vars outvars good input given fit alike k used output done y i }) (pulled_scene (naming ns) c.end) (j + 0) (c.left + 0) deeper in
       let spent_is = c.spent in
-      let paid : run (calls_of (padded_program own_nodes ps) depth) (unit_setting words (padded_program own_nodes ps) (padded_procedure own_nodes u) input) (padded own_nodes u.body) (begin words (padded_program own_nodes ps) (padded_procedure own_nodes u) input) (x.price + 0) ≡ Done b.end 0 =
-      ap (λ n. run (calls_of (padded_program own_nodes ps) depth) n (padded own_nodes u.body) (begin words ps u input) (x.price + 0)) (head.setting_plain false lines w ps u vars outvars good input given fit alike k used output done) ∙ x.pays 0 in
+      let paid : run (calls_of (padded_program extra ps) depth) (unit_setting words (padded_program extra ps) (padded_procedure extra u) input) (padded extra u.body) (begin words (padded_program extra ps) (padded_procedure extra u) input) (x.price + 0) ≡ Done b.end 0 =
+      ap (λ n. run (calls_of (padded_program extra ps) depth) n (padded extra u.body) (begin words ps u input) (x.price + 0)) (head.setting_plain sb lines w ps u vars outvars good input given fit alike k used output done) ∙ x.pays 0 in
       let price_is : x.price + 0 ≡ x.price = omega arith in
       record {
-        weighed = unit_ends words (padded_program own_nodes ps) (padded_procedure own_nodes u) input depth (x.price + 0) b.end paid b.shut;
-        most = subst (λ z. spent ≤ (4 + calls) * z + 2 * length u.dummies) (sym price_is)
-            (omega (arith, few, spent_is, names_few (m.shadowed u.name) (unmarked u.dummies outvars), names_few (m.shadowed u.name) (unmarked u.dummies vars), unmarked_few u.dummies outvars, unmarked_few u.dummies vars));
+        weighed = unit_ends words (padded_program extra ps) (padded_procedure extra u) input depth (x.price + 0) b.end paid b.shut;
+        most = subst (λ z. spent ≤ rate * z + 2 * length u.dummies) (sym price_is)
+            (omega (arith, few_all, spent_is, names_few (m.shadowed u.name) (unmarked u.dummies outvars), names_few (m.shadowed u.name) (unmarked u.dummies vars), unmarked_few u.dummies outvars, unmarked_few u.dummies vars));
+        few = λ times bounds.
+            let used_is = b.spent in
+            let l = bounds depth (on_words (plainly sh) 1) (begin words ps u input) b.end (k + 0) (b.left + 0) x.price ran x.pays in
+            let same : k + 0 - (b.left + 0) ≡ used = omega (arith, used_is) in
+            subst (λ z. z ≤ times * used) (sym price_is) (subst (λ z. x.price ≤ times * z) same l);
       }
 
-pub emitted_costs : EmittedCosts
-emitted_costs lines w ps head vars outvars u is good calls chains a found input given fit alike k used output done j spent end h =
-    let it : emitted_adjoint w.marks ps u vars outvars u ≡ cleared = ap (λ b. if b then cleared else adjoint_unit w.marks ps (all_units w.marks ps u) u [] []) (name_refl u.name) in
-    let there = adjoint_found false w.marks ps u vars outvars u.name u good.there (head_there false w.marks ps u vars outvars good.known (found_there ps u.name u good.there).0) ∙ ap Some it in
+-- in the program that is emitted
+pub emitted_priced : (extra : Act → ℕ) → ((a : Act) → own_nodes a ≤ extra a) →
+    (sb : Bool) → (sb ≡ true → (x : List ℕ) (a b c : Term) (at : ℕ) (name : List ℕ) (given : List (List ℕ)) (mark : Mark) → own_nodes (loop (plain x) a b c (one at (call name (actuals_named given))) mark) + length given ≤ extra (loop (plain x) a b c (one at (call name (actuals_named given))) mark)) → (reps : ℕ) (rt : Rate sb reps) →
+    (lines : ReversedLines) (w : ProgramFacts) (ps : List Procedure) (head : ℕ) (vars outvars : List Bool) (u : Procedure) → unit_at head ps ≡ u ∷ [] → SourceFitsWith sb lines w ps u → SplitsNothing w.marks → (calls : ℕ) → CallsWithin ps u.name calls →
+    (a : Procedure) → find_unit (emitted_program_with sb w.marks ps head vars outvars) (adjoint_name ps u) ≡ Some a →
+    (input shadows : List (Slot ℤ)) → fits words u input ≡ true → AreAlike input shadows → (k used : ℕ) (output : Output ℤ) → run_unit words ps u input [] None k ≡ Done output used → (sb ≡ true → AllFew lines reps output.events) →
+    (j spent : ℕ) (end : Output ℤ) → run_unit words (emitted_program_with sb w.marks ps head vars outvars) a (joined_by (shadow_flags (w.marks.shadowed u.name) u.dummies) input shadows) [] None j ≡ Done end spent →
+    SpendsPriced extra ps u input (rate_of rt.base rt.more calls) used spent
+emitted_priced extra more sb more_steps reps rt lines w ps head vars outvars u is good unsplit calls chains a found input given fit alike k used output done few j spent end h =
+    let it : emitted_adjoint_with sb w.marks ps u vars outvars u ≡ cleared = ap (λ b. if b then cleared else adjoint_unit_with sb w.marks ps (all_units w.marks ps u) u [] []) (name_refl u.name) in
+    let there = adjoint_found sb w.marks ps u vars outvars u.name u good.there (head_there sb w.marks ps u vars outvars good.known (found_there ps u.name u good.there).0) ∙ ap Some it in
     let one : Some cleared ≡ Some a = sym there ∙ ap (λ qs. find_unit qs (adjoint_name ps u)) (sym program) ∙ found in
     let same : cleared ≡ a = cc in
-    spends lines w ps u vars outvars good input given fit alike k used output done calls chains j spent end
+    spends extra more sb more_steps reps rt lines w unsplit ps u vars outvars good input given fit alike k used output done calls chains few j spent end
     (ap (λ qs. run_unit words qs cleared (joined_by (shadow_flags (w.marks.shadowed u.name) u.dummies) input given) [] None j) (sym program)
-    ∙ ap (λ z. run_unit words (emitted_program w.marks ps head vars outvars) z (joined_by (shadow_flags (w.marks.shadowed u.name) u.dummies) input given) [] None j) same ∙ h)
+    ∙ ap (λ z. run_unit words (emitted_program_with sb w.marks ps head vars outvars) z (joined_by (shadow_flags (w.marks.shadowed u.name) u.dummies) input given) [] None j) same ∙ h)
   where
     cleared : Procedure
-    cleared = adjoint_unit w.marks ps (all_units w.marks ps u) u (names_in (w.marks.shadowed u.name) (unmarked u.dummies outvars)) (names_in (w.marks.shadowed u.name) (unmarked u.dummies vars))
+    cleared = adjoint_unit_with sb w.marks ps (all_units w.marks ps u) u (names_in (w.marks.shadowed u.name) (unmarked u.dummies outvars)) (names_in (w.marks.shadowed u.name) (unmarked u.dummies vars))
 
-    program : emitted_program w.marks ps head vars outvars ≡ emitted_units w.marks ps u vars outvars ps
-    program = ap (emitted_for w.marks ps vars outvars) is
+    program : emitted_program_with sb w.marks ps head vars outvars ≡ emitted_units_with sb w.marks ps u vars outvars ps
+    program = ap (emitted_for_with sb w.marks ps vars outvars) is

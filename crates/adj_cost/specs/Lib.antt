@@ -3,3 +3,8 @@ pub mod Sweeps
 pub mod CostTheorem
 pub mod Along
 pub mod RunTheorem
+pub mod Sums
+pub mod Few
+pub mod Calls
+pub mod Rows
+pub mod ScheduledRuns

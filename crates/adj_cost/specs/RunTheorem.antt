@@ -18,7 +18,7 @@ use Rattle.adj_transpose.specs.Program.{unit_at}
 use Rattle.adj_reverse.specs.Plan.{Plan}
 use Rattle.adj_reverse.specs.Emission.{forward, backward}
 use Rattle.adj_reverse.specs.Laws.{CalleeFacts}
-use Rattle.adj_reverse.specs.Marking.{ProgramFacts}
+use Rattle.adj_reverse.specs.Marking.{SplitsNothing, ProgramFacts}
 use Rattle.adj_reverse.specs.Names.{adjoint_name}
 use Rattle.adj_reverse.specs.Passing.{plainly}
 use Rattle.adj_reverse.specs.Program.{emitted_program}
@@ -40,10 +40,10 @@ pub record CostsItsPrice (ps qs : List Procedure) (depth calls : ℕ) (sh : Var 
   pub pays : (k : ℕ) → run (calls_of (padded_program own_nodes ps) depth) (on_words (plainly sh) level) (padded own_nodes c) s (price + k) ≡ Done e k
   pub cost : BothCost (calls_of qs depth) sh level (forward p i 0 c) (backward p i 0 c) (w.needed from) (w.held to) s.store ((4 + calls) * price)
 
--- so is each run that is done of a unit whose adjoint is emitted
+-- so is each run that is done of a unit whose adjoint is emitted, where no call is split
 abbrev pub RunsCost : Type 0
 RunsCost =
-    (lines : ReversedLines) (ps qs : List Procedure) (g : List ℕ → CalleeFacts) (there answers carried : List ℕ → Bool) (first : List ℕ → ℕ) (vars : List ℕ → List (List ℕ)) (arrays : List ℕ → Vars) → (fits : ProgramFits false lines ps qs g there answers carried first vars arrays) →
+    (lines : ReversedLines) (ps qs : List Procedure) (g : List ℕ → CalleeFacts) (there answers paired carried : List ℕ → Bool) (first : List ℕ → ℕ) (vars : List ℕ → List (List ℕ)) (arrays : List ℕ → Vars) → (fits : ProgramFits false lines ps qs g there answers paired carried first vars arrays) → ((name : List ℕ) (i : ℕ) → (g name).facts.marks.split i ≡ false) →
     (depth calls : ℕ) (name : List ℕ) (u : Procedure) → find_unit ps name ≡ Some u → IsTrue (fits.inside name) → there name ≡ true → CallsAtMost ps name calls →
     (sh : Var → Shape) (level : ℕ) → ShapesFit (plan_of g (g name).facts (arrays name)) sh →
     (s e : Scene ℤ) (k left : ℕ) → run (calls_of ps depth) (on_words (plainly sh) level) u.body s k ≡ Done e left →
@@ -57,11 +57,11 @@ pub record SpendsItsPrice (ps : List Procedure) (u : Procedure) (input : List (S
   pub weighed : Ends words (padded_program own_nodes ps) (padded_procedure own_nodes u) input
   pub most : spent ≤ (4 + calls) * weighed.used + 2 * length u.dummies
 
--- so it is with each run that is done of the head's adjoint in the program that is emitted by marks that meet the laws, on an input on
--- which the head's run is done
+-- so it is with each run that is done of the head's adjoint in the program that is emitted by marks that meet the laws and split no call, on an
+-- input on which the head's run is done
 abbrev pub EmittedCosts : Type 0
 EmittedCosts =
-    (lines : ReversedLines) (w : ProgramFacts) (ps : List Procedure) (head : ℕ) (vars outvars : List Bool) (u : Procedure) → unit_at head ps ≡ u ∷ [] → SourceFits lines w ps u → (calls : ℕ) → CallsAtMost ps u.name calls →
+    (lines : ReversedLines) (w : ProgramFacts) (ps : List Procedure) (head : ℕ) (vars outvars : List Bool) (u : Procedure) → unit_at head ps ≡ u ∷ [] → SourceFits lines w ps u → SplitsNothing w.marks → (calls : ℕ) → CallsAtMost ps u.name calls →
     (a : Procedure) → find_unit (emitted_program w.marks ps head vars outvars) (adjoint_name ps u) ≡ Some a →
     (input shadows : List (Slot ℤ)) → fits words u input ≡ true → AreAlike input shadows → (k used : ℕ) (output : Output ℤ) → run_unit words ps u input [] None k ≡ Done output used →
     (j spent : ℕ) (end : Output ℤ) → run_unit words (emitted_program w.marks ps head vars outvars) a (joined_by (shadow_flags (w.marks.shadowed u.name) u.dummies) input shadows) [] None j ≡ Done end spent →

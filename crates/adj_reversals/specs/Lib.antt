@@ -3,3 +3,4 @@ pub mod Sources
 pub mod Written
 pub mod Faulty
 pub mod Told
+pub mod Costs

@@ -7,12 +7,20 @@
 //! left on its tape, or its reversals are not those of its source's loops.
 #![tactic(auto)]
 
-ghost use Rattle.std.specs.Prelude.{◌≡◌, ℕ, pos, List, ◌∷◌, [], Bool, true, false, codes};
+ghost use Rattle.std.specs.Prelude.{◌≡◌, ℕ, ◌+◌, pos, nat_lt, nat_le, List, ◌∷◌, [], Bool, true, false, codes};
+ghost use Rattle.adj_revolve.specs.Binomial.{beta};
+ghost use Rattle.adj_meaning.specs.Padded.{own_nodes};
+ghost use Rattle.adj_kernel.specs.Kernel.{EachUnit};
+ghost use Rattle.adj_kernel.specs.Weights.{WeighsAtMost};
+ghost use Rattle.adj_cost.specs.Calls.{CallsWithin};
+ghost use Rattle.adj_cost.specs.ScheduledRuns.{row_nodes, most_scheduled};
+ghost use Rattle.adj_cost.specs.Rows.{row_takes};
+ghost use Rattle.adj_reversals.specs.Costs.{taken_by, Keeps, bound_priced, idling, wide, long};
 ghost use Rattle.adj_reverse.specs.Marking.{full_marks};
 ghost use Rattle.adj_reverse.specs.Program.{emitted_program_with};
 ghost use Rattle.adj_worked.specs.Faulty.{unchanged, unrestored};
-ghost use Rattle.adj_reversals.specs.Sources.{repeating, numbering, numbering_twice, nested, divided, leaving_fewer, sparing, one_loop, loops_of_both};
-ghost use Rattle.adj_reversals.specs.Faulty.{Serve, unpopped, unkept, farther, unended, enclosed, unheld, late, unbounded};
+ghost use Rattle.adj_reversals.specs.Sources.{repeated, repeating, numbering, numbering_twice, nested, divided, leaving_fewer, sparing, one_loop, loops_of_both};
+ghost use Rattle.adj_reversals.specs.Faulty.{faulty_program, Serve, unpopped, unkept, farther, unended, enclosed, unheld, late, unbounded};
 ghost use Rattle.adj_reversals.specs.Told.{told_after};
 ghost use Rattle.adj_reversals.specs.Written.{repeating_adjoint, numbering_adjoint};
 
@@ -61,4 +69,27 @@ pub fn wrong_reversals()
     ensures unheld { Serve true unheld (loops_of_both full_marks numbering_twice) full_marks numbering_twice 1 (true ∷ false ∷ false ∷ false ∷ []) (true ∷ false ∷ false ∷ false ∷ []) → ⊥ }
     ensures late { Serve true (late (codes "E")) (one_loop full_marks leaving_fewer) full_marks leaving_fewer 1 (true ∷ false ∷ false ∷ []) (true ∷ false ∷ false ∷ []) → ⊥ }
     ensures unbounded { Serve true (unbounded (codes "N")) (one_loop full_marks (numbering 1)) full_marks (numbering 1) 1 (true ∷ false ∷ false ∷ []) (true ∷ false ∷ false ∷ []) → ⊥ }
+{}
+
+/// What five steps with two snapshots take: 16 statements in the program, where no chain has more than one call and no statement weighs more than 4.
+/// Two repetitions serve, and one doesn't. The adjoint takes 246 statements, and the bound is 2692.
+pub fn worked_costs()
+    ensures chains { CallsWithin (repeating 5 2) (codes "P") 1 }
+    ensures weights { EachUnit (λ u. WeighsAtMost 4 u.body) (repeating 5 2) }
+    ensures run { taken_by (repeating 5 2) (codes "P") (pos 2 ∷ pos 7 ∷ []) 100 ≡ 16 }
+    ensures serve { nat_le 5 (beta 2 2) ≡ true }
+    ensures least { nat_le 5 (beta 2 1) ≡ false }
+    ensures spent { taken_by (repeating_adjoint 5 2) (codes "P_B") (pos 2 ∷ pos 1 ∷ pos 7 ∷ pos 0 ∷ []) 600 ≡ 246 }
+    ensures bound { most_scheduled 4 1 2 16 2 ≡ 2692 }
+{}
+
+/// Bounds that are passed. A loop of no turns whose step has 20 variables passes the bound where it isn't paid at its step call's actuals, and keeps it
+/// where it is. Two steps of 60 statements with one snapshot, each of which one repetition serves, pass what both sweeps of their loop take with none,
+/// and keep it with one. An adjoint that runs through an empty loop of 600 turns before a reversal of one step ends passes the bound.
+pub fn wrong_costs()
+    ensures own_nodes_alone { nat_lt (bound_priced own_nodes 1 0 (wide 20) (codes "P") (pos 7 ∷ []) 200) (taken_by (emitted_program_with true full_marks (wide 20) 1 (true ∷ []) (true ∷ [])) (codes "P_B") (pos 7 ∷ pos 0 ∷ []) 300) ≡ true }
+    ensures with_actuals { nat_le (taken_by (emitted_program_with true full_marks (wide 20) 1 (true ∷ []) (true ∷ [])) (codes "P_B") (pos 7 ∷ pos 0 ∷ []) 300) (bound_priced row_nodes 1 0 (wide 20) (codes "P") (pos 7 ∷ []) 200) ≡ true }
+    ensures one_repetition_less { nat_lt (7 + row_takes 1 (λ i. 60) (λ i. taken_by (emitted_program_with true full_marks (long 60) 1 (true ∷ false ∷ []) (true ∷ false ∷ [])) (codes "S_B") (pos 1 ∷ pos 1 ∷ []) 600) 2 0) (taken_by (emitted_program_with true full_marks (long 60) 1 (true ∷ false ∷ []) (true ∷ false ∷ [])) (codes "P_B") (pos 1 ∷ pos 1 ∷ pos 7 ∷ pos 0 ∷ []) 2000) ≡ true }
+    ensures with_one { nat_le (taken_by (emitted_program_with true full_marks (long 60) 1 (true ∷ false ∷ []) (true ∷ false ∷ [])) (codes "P_B") (pos 1 ∷ pos 1 ∷ pos 7 ∷ pos 0 ∷ []) 2000) (7 + row_takes 1 (λ i. 60) (λ i. taken_by (emitted_program_with true full_marks (long 60) 1 (true ∷ false ∷ []) (true ∷ false ∷ [])) (codes "S_B") (pos 1 ∷ pos 1 ∷ []) 600) 2 1) ≡ true }
+    ensures idle { Keeps (one_loop full_marks (repeating 1 1)) full_marks (repeating 1 1) (repeated 1 1) (faulty_program true (idling 600) full_marks (repeating 1 1) 1 (true ∷ false ∷ []) (true ∷ false ∷ [])) (codes "P_B") (λ reps used dummies. most_scheduled 4 1 reps used dummies) → ⊥ }
 {}

@@ -1,5 +1,5 @@
 -- No chain of calls of an accepted program has more units than are counted where it was checked.
-use Rattle.std.proofs.Common.{◌≡◌, ℕ, zero, suc, ◌≤◌, ◌⊎◌, inl, inr, Bool, true, false, List, [], ◌∷◌, ◌++◌, map, length, refl, sym, ap, ◌∙◌, arith, subst, if◌then◌else◌}
+use Rattle.std.proofs.Common.{◌≡◌, ℕ, zero, suc, ◌≤◌, ◌⊎◌, inl, inr, Bool, true, false, List, [], ◌∷◌, map, length, refl, sym, ap, ◌∙◌, arith, subst, if◌then◌else◌}
 use Rattle.std.proofs.lemmas.Bool.{or_cases}
 use Rattle.std.specs.Prelude.{flat_map, Option, Some, None}
 use Rattle.std.specs.List.{list_any}
@@ -9,7 +9,7 @@ use Rattle.adj_tree.proofs.Names.{name_same}
 use Rattle.adj_meaning.specs.Written.{find_unit}
 use Rattle.adj_names.specs.Statements.{At}
 use Rattle.adj_names.specs.Variables.{Name}
-use Rattle.adj_names.specs.Calls.{Call, calls, leads, calls_lead, chain, chain_found, chain_within, chain_from}
+use Rattle.adj_names.specs.Calls.{Call, calls, leads, calls_lead, chain_found, chain_within, chain_from}
 use Rattle.adj_names.specs.Fault.{source_rules, fault, faults_if}
 use Rattle.adj_names.specs.ChainFaults.{cycles, long_chains, or_else}
 use Rattle.adj_names.proofs.Sound.{sound_has_none}
@@ -44,7 +44,7 @@ each_callee P (c ∷ cs) h x k = go (or_cases (name_eq x (c.1).0) (list_any (nam
 
 module _ (ps : List Procedure) (accepted : IsAccepted ps) where
   -- no calls lead back
-  no_way : NoWayBack ps
+  pub no_way : NoWayBack ps
   no_way x u f c m k = back (leads ps k c x) refl
     where
       no_cycles : cycles ps ≡ []

@@ -1,3 +1,5 @@
 -- The proofs on what is spent.
 pub mod Chains
 pub mod Spending
+pub mod KernelChains
+pub mod KernelSpending

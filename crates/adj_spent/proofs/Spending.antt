@@ -1,18 +1,14 @@
 -- From the statements of the program to those of its adjoint: by the weights of the kernel's.
 use Rattle.std.proofs.Common.{◌≡◌, ◌≤◌, ℕ, zero, suc, ◌+◌, ◌*◌, Bool, true, false, List, [], ◌∷◌, map, refl, sym, ap, ◌∙◌, subst, arith, if◌then◌else◌}
 use Rattle.std.proofs.Math.Nat.{mul-le-mul_left, mul_comm, mul_assoc}
-use Rattle.std.specs.Prelude.{ℤ, length, Option, Some, None}
+use Rattle.std.specs.Prelude.{ℤ, length, Some, None}
 use Rattle.adj_tree.specs.Code.{name_eq, Procedure}
-use Rattle.adj_tree.specs.Lines.{unlined_procedure}
 use Rattle.adj_tree.proofs.Names.{name_same}
 use Rattle.adj_meaning.specs.Numbers.{words}
-use Rattle.adj_meaning.specs.Scene.{Outcome, Done, Trapped, More, Full}
+use Rattle.adj_meaning.specs.Scene.{Outcome, Done}
 use Rattle.adj_meaning.specs.Written.{find_unit, handed_back}
 use Rattle.adj_meaning.specs.Units.{Slot, Output, fits, run_unit}
-use Rattle.adj_meaning.specs.Unlined.{unlined_output, unlined_ending}
 use Rattle.adj_meaning.specs.Padded.{own_nodes, padded_program, padded_procedure}
-use Rattle.adj_meaning.proofs.Unlined.{runs_alike}
-use Rattle.adj_meaning.proofs.UnlinedUnits.{unlined_found, find_unlined}
 use Rattle.adj_names.specs.Calls.{chain_found, chain_within}
 use Rattle.adj_names.specs.HeadFaults.{unit_number}
 use Rattle.adj_transpose.specs.Adjoint as slots
@@ -32,7 +28,8 @@ use Rattle.adj_kernel.proofs.SoundPrograms.{sound_is_source}
 use Rattle.adj_kernel.proofs.Unmarked.{stepped_same}
 use Rattle.adj_kernel.proofs.WholeKernels.{stepped_fit}
 use Rattle.adj_cost.specs.RunTheorem.{CallsAtMost}
-use Rattle.adj_cost.proofs.Heads.{emitted_costs}
+use Rattle.adj_cost.proofs.Costs.{emitted_costs}
+use Rattle.adj_cost.proofs.ReadBack.{read_back}
 use Rattle.adj_spent.specs.Spent.{EmittedSpends, BoundIsWithin}
 
 -- ---- the bound
@@ -60,33 +57,6 @@ bound_is_within weight calls used dummies =
     let right : 40 * weight * (calls + 2) * used ≡ z * (40 * (calls + 2)) = ap (λ x. x * used) turned ∙ together (40 * (calls + 2)) weight used ∙ mul_comm (40 * (calls + 2)) z in
     omega (arith, l, left, right)
 
--- ---- line numbers
-
--- a run that is done is done with as many statements up to line numbers
-record DoneAs (o : Outcome (Output ℤ)) (used : ℕ) : Type 0 where
-  output : Output ℤ
-  is : o ≡ Done output used
-
-done_as : (o : Outcome (Output ℤ)) (out : Output ℤ) (used : ℕ) → unlined_ending o ≡ Done out used → DoneAs o used
-done_as (Done a k) out used h = let same : k ≡ used = cc in record { output = a; is = ap (Done a) same }
-done_as (Trapped t line w) out used h = absurd cc
-done_as (More w) out used h = absurd cc
-done_as (Full w) out used h = absurd cc
-
--- the same unit up to line numbers is there
-record IsThere (others : List Procedure) (name : List ℕ) (a : Procedure) : Type 0 where
-  unit : Procedure
-  is : find_unit others name ≡ Some unit
-  like : unlined_procedure unit ≡ unlined_procedure a
-
-abbrev found_or : Procedure → Option Procedure → Procedure
-found_or u None = u
-found_or u (Some v) = v
-
-there : (others : List Procedure) (name : List ℕ) (a : Procedure) (o : Option Procedure) → find_unit others name ≡ o → unlined_found o ≡ Some (unlined_procedure a) → IsThere others name a
-there others name a None is e = absurd cc
-there others name a (Some b) is e = record { unit = b; is = is; like = ap (found_or (unlined_procedure a)) e }
-
 -- ---- chains of calls
 
 module _ (all : List Procedure) where
@@ -106,11 +76,11 @@ module _ (all : List Procedure) where
 -- ---- the program
 
 -- the unit of a name has its number, and the name
-record Numbered (ps : List Procedure) (name : List ℕ) (u : Procedure) : Type 0 where
-  at : unit_at (unit_number ps name) ps ≡ u ∷ []
-  named : u.name ≡ name
+pub record Numbered (ps : List Procedure) (name : List ℕ) (u : Procedure) : Type 0 where
+  pub at : unit_at (unit_number ps name) ps ≡ u ∷ []
+  pub named : u.name ≡ name
 
-numbered : (ps : List Procedure) (name : List ℕ) (u : Procedure) → find_unit ps name ≡ Some u → Numbered ps name u
+pub numbered : (ps : List Procedure) (name : List ℕ) (u : Procedure) → find_unit ps name ≡ Some u → Numbered ps name u
 numbered [] name u f = absurd cc
 numbered (p ∷ ps) name u f = let r = go (name_eq p.name name) refl f (numbered ps name u) in record { at = r.0; named = r.1 }
   where
@@ -158,7 +128,7 @@ module _ (ps : List Procedure) (accepted : IsAccepted ps) (free : EachUnit (λ u
         omega (arith, same, most)
 
 pub emitted_spends : EmittedSpends
-emitted_spends ps accepted free weight each name calls chains lines w kernel becomes good vars outvars qs same head kernel2 adjoint found becomes2 is_there input shadows fit alike k used output done j spent end h =
+emitted_spends ps accepted free weight each name calls chains lines w kernel becomes good unsplit vars outvars qs same head kernel2 adjoint found becomes2 is_there input shadows fit alike k used output done j spent end h =
     let ks = kernel_of ps in
     let emitted = emitted_program w.marks ks (unit_number ks name) vars outvars in
     let one : Some kernel2 ≡ Some kernel = sym becomes2 ∙ becomes in
@@ -168,15 +138,13 @@ emitted_spends ps accepted free weight each name calls chains lines w kernel bec
     let dummies : kernel.dummies ≡ head.dummies = ap (λ (v : Procedure). v.dummies) unit in
     let called = adjoint_name ks kernel in
     let there_is : find_unit qs called ≡ Some adjoint = ap (λ v. find_unit qs (adjoint_name ks v)) (sym same_kernel) ∙ is_there in
-    let a = there emitted called adjoint (find_unit emitted called) refl (sym (find_unlined emitted called) ∙ ap (λ z. find_unit z called) same ∙ find_unlined qs called ∙ ap unlined_found there_is) in
     let flags : shadow_flags (w.marks.shadowed kernel.name) kernel.dummies ≡ shadow_flags (w.marks.shadowed name) head.dummies = λ i. shadow_flags (w.marks.shadowed (n.named i)) (dummies i) in
     let joined = joined_by (shadow_flags (w.marks.shadowed kernel.name) kernel.dummies) input shadows in
-    let ran = done_as (run_unit words emitted a.unit joined [] None j) (unlined_output end) spent
-    (runs_alike emitted qs same a.unit adjoint a.like words joined [] None j ∙ ap (λ f. unlined_ending (run_unit words qs adjoint (joined_by f input shadows) [] None j)) flags ∙ ap unlined_ending h) in
+    let a = read_back emitted qs same called adjoint there_is joined j spent end (ap (λ f. run_unit words qs adjoint (joined_by f input shadows) [] None j) flags ∙ h) in
     let ended = kernel_done ps accepted free name head found weight each input k used output done kernel becomes in
     let chains_there : CallsAtMost ks kernel.name calls = λ i. subst (λ x. chain_within ks i x ≤ suc calls) (sym n.named) (subst (λ us. chain_within us i name ≤ suc calls) (sym (kernel_is ps accepted free name head found)) (subst (λ m. m ≤ suc calls) (sym (within_same ps i name)) (chains i))) in
-    let x = emitted_costs lines w ks (unit_number ks name) vars outvars kernel n.at good calls chains_there a.unit a.is input shadows
-    (ap (λ u. fits words u input) unit ∙ inputs_same words ps head input ∙ fit) alike ended.enough ended.spent ended.gives ended.is j spent ran.output ran.is in
+    let x = emitted_costs lines w ks (unit_number ks name) vars outvars kernel n.at good unsplit calls chains_there a.unit a.found input shadows
+    (ap (λ u. fits words u input) unit ∙ inputs_same words ps head input ∙ fit) alike ended.enough ended.spent ended.gives ended.is j spent a.output a.done in
     let most = x.most in
     let few = nine_each calls weight used x.weighed.used (weighed_few ps accepted free name head found weight each input k used output done kernel becomes x.weighed) in
     let as_many : length kernel.dummies ≡ length head.dummies = ap length dummies in

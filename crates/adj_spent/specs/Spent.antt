@@ -11,7 +11,7 @@ use Rattle.adj_names.specs.HeadFaults.{unit_number}
 use Rattle.adj_transpose.specs.Adjoint.{AreAlike}
 use Rattle.adj_transpose.specs.MarkedAdjoint.{shadow_flags, joined_by}
 use Rattle.adj_reverse.specs.Names.{adjoint_name}
-use Rattle.adj_reverse.specs.Marking.{ProgramMarks, ProgramFacts}
+use Rattle.adj_reverse.specs.Marking.{ProgramMarks, SplitsNothing, ProgramFacts}
 use Rattle.adj_reverse.specs.Program.{emitted_program}
 use Rattle.adj_reverse.specs.Source.{SourceFits}
 use Rattle.adj_kernel.specs.Weights.{WeighsAtMost}
@@ -35,12 +35,12 @@ SpendsAtMost m ps name weight calls qs =
     (j spent : ℕ) (end : Output ℤ) → run_unit words qs adjoint (joined_by (shadow_flags (m.shadowed name) head.dummies) input shadows) [] None j ≡ Done end spent →
     spent ≤ most_spent weight calls used (length head.dummies)
 
--- so does what is emitted for the kernel of an accepted program without marked loops, by marks that meet the laws, and what differs from
--- it in line numbers alone
+-- so does what is emitted for the kernel of an accepted program without marked loops, by marks that meet the laws and split no
+-- call, and what differs from it in line numbers alone
 abbrev pub EmittedSpends : Type 0
 EmittedSpends =
     (ps : List Procedure) → IsAccepted ps → EachUnit (λ u. marked_in u.body ≡ 0) ps → (weight : ℕ) → EachUnit (λ u. WeighsAtMost weight u.body) ps → (name : List ℕ) (calls : ℕ) → CallsAtMost ps name calls →
-    (lines : ReversedLines) (w : ProgramFacts) (kernel : Procedure) → find_unit (kernel_of ps) name ≡ Some kernel → SourceFits lines w (kernel_of ps) kernel → (vars outvars : List Bool) (qs : List Procedure) →
+    (lines : ReversedLines) (w : ProgramFacts) (kernel : Procedure) → find_unit (kernel_of ps) name ≡ Some kernel → SourceFits lines w (kernel_of ps) kernel → SplitsNothing w.marks → (vars outvars : List Bool) (qs : List Procedure) →
     unlined (emitted_program w.marks (kernel_of ps) (unit_number (kernel_of ps) name) vars outvars) ≡ unlined qs → SpendsAtMost w.marks ps name weight calls qs
 
 -- a round bound

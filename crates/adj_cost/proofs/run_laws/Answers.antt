@@ -1,6 +1,5 @@
 -- Each law is a lemma.
-use Rattle.adj_cost.proofs.AlongUnits.{runs_cost}
-use Rattle.adj_cost.proofs.Heads.{emitted_costs}
+use Rattle.adj_cost.proofs.Costs.{runs_cost, emitted_costs}
 use Rattle.adj_cost.proofs.run_laws.Goals as goal
 
 pub returns-clause-units : goal.returns-clause-units
