@@ -1,5 +1,5 @@
 -- What the flow of a program is made with is what is known of it.
-use Rattle.std.proofs.Common.{◌≡◌, ℕ, suc, ◌≤◌, List, [], ◌∷◌, map, length, refl, sym, ap, ◌∙◌, subst}
+use Rattle.std.proofs.Common.{◌≡◌, ℕ, suc, ◌≤◌, List, [], ◌∷◌, map, length, refl, sym, ap, ◌∙◌, subst, false}
 use Rattle.std.specs.Prelude.{◌↔◌, ◌<◌, IsTrue, All, Contains, slice_index_or}
 use Rattle.std.proofs.lemmas.Simd.{map-map}
 use Rattle.adj_tree.specs.Code.{Procedure}
@@ -45,12 +45,12 @@ module _ (f : Flow) (h : ℕ) (ps : List Procedure) (vss : List (List (List ℕ)
       ∙ sym same
 
   pub flow_is : IsWritten ps → h < length ps → ((x : List ℕ) → value_of x f.numbers ≡ number_from 0 ps x) →
-      ((g : Part) → Contains (parts ps) g → IsTrue (flag f.taking g.number) ↔ TakesPart (record { units = ps; head = h; vars = []; outvars = [] }) g) → All (λ vs. length vs ≤ f.width) vss → IsFlow f h
+      ((g : Part) → Contains (parts ps) g → IsTrue (flag f.taking g.number) ↔ TakesPart (record { units = ps; head = h; vars = []; outvars = []; split = λ n. false }) g) → All (λ vs. length vs ≤ f.width) vss → IsFlow f h
   flow_is written inside known takes narrow = record {
     head = subst (λ z. h < length z) (sym units_are) inside;
     rows = listed ∙ (λ i. rows (sym variables_are i) (sym units_are i));
     numbers = λ x. known x ∙ ap (λ z. number_from 0 z x) (sym units_are);
-    taking = subst (λ z. (g : Part) → Contains (parts z) g → IsTrue (flag f.taking g.number) ↔ TakesPart (record { units = z; head = h; vars = []; outvars = [] }) g) (sym units_are) takes;
+    taking = subst (λ z. (g : Part) → Contains (parts z) g → IsTrue (flag f.taking g.number) ↔ TakesPart (record { units = z; head = h; vars = []; outvars = []; split = λ n. false }) g) (sym units_are) takes;
     width = subst (λ z. All (λ vs. length vs ≤ f.width) z) (sym variables_are) narrow;
     variables = subst (λ z. HoldVariables z (units_of f)) (sym (variables_are ∙ same)) (subst (λ z. HoldVariables (map variables ps) z) (sym units_are) (written_hold ps written));
   }

@@ -17,8 +17,7 @@ use adj_tree::{Act, Memory};
 pub(crate) fn statement(number: usize) -> Result<usize, Memory>
     ensures number { IfOk result (λ n. n ≡ 2 * number) }
 {
-    let even = number.checked_mul(2).ok_or(Memory)?;
-    Ok(even)
+    number.checked_mul(2).ok_or(Memory)
 }
 
 // The number of a unit.
@@ -26,8 +25,7 @@ fn unit(number: usize) -> Result<usize, Memory>
     ensures number { IfOk result (λ n. n ≡ 2 * number + 1) }
 {
     let even = number.checked_mul(2).ok_or(Memory)?;
-    let odd = even.checked_add(1).ok_or(Memory)?;
-    Ok(odd)
+    even.checked_add(1).ok_or(Memory)
 }
 
 // Adds the edge to the statement that holds what stands at a place.

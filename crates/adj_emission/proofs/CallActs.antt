@@ -11,6 +11,7 @@ use Rattle.adj_transpose.specs.Marks.{Vars}
 use Rattle.adj_transpose.specs.Marked.{code_if}
 use Rattle.adj_reverse.specs.Plan.{Plan, Callee, Schedules, is_emitted, names_of, save_group, snapshot_group}
 use Rattle.adj_reverse.specs.Emission.{pushes, pops, with_shadows, adjoint_call}
+use Rattle.adj_reverse.proofs.Unsplit.{unsplit_forward, unsplit_backward}
 use Rattle.adj_emission.specs.declared.actuals.Actual.{Actual}
 use Rattle.adj_emission.specs.declared.actuals.Group.TheVariants.{Save, Snapshot}
 use Rattle.adj_emission.specs.declared.sweeps.Sweeps.{Sweeps}
@@ -58,8 +59,9 @@ module _ (sc : Schedules) (r : Var → Var) (plainly : IsPlain r) (p : Plan) (d 
       ∙ sym (rename-append r (pops p line (snapshot_group g given)) (one line (adjoint_call g given)))
   adjoint_named false = refl
 
-  pub call_written : is_emitted p.marks old.number ≡ true → new.number ≡ suc old.number → (s1 s2 t : Code) → s1 ≡ in_order (code_of old.forward) +++ pushes p line (chosen (is_in (p.marks.saved old.number) Save) actuals) → s2 ≡ s1 +++ code_if (p.marks.adjointed old.number) (pushes p line (chosen (is_in (p.marks.saved old.number) Snapshot) actuals)) → in_order (code_of new.forward) ≡ s2 +++ code_if (p.marks.kept old.number) (one line (call name (terms_of args))) → t ≡ pops p line (chosen (is_in (p.marks.saved old.number) Save) actuals) +++ code_of old.backward → code_of new.backward ≡ code_if (p.marks.adjointed old.number) (pops p line (chosen (is_in (p.marks.saved old.number) Snapshot) actuals) +++ rename r (one line (call k.adjoint (all_with_shadows actuals)))) +++ t → SweepsAct sc r p d line (call name (terms_of args)) old new
-  call_written e n s1 s2 t h1 h2 h3 h4 h5 =
+  -- both sweeps of a call that isn't split
+  pub call_written : is_emitted p.marks old.number ≡ true → p.marks.split old.number ≡ false → new.number ≡ suc old.number → (s1 s2 t : Code) → s1 ≡ in_order (code_of old.forward) +++ pushes p line (chosen (is_in (p.marks.saved old.number) Save) actuals) → s2 ≡ s1 +++ code_if (p.marks.adjointed old.number) (pushes p line (chosen (is_in (p.marks.saved old.number) Snapshot) actuals)) → in_order (code_of new.forward) ≡ s2 +++ code_if (p.marks.kept old.number) (one line (call name (terms_of args))) → t ≡ pops p line (chosen (is_in (p.marks.saved old.number) Save) actuals) +++ code_of old.backward → code_of new.backward ≡ code_if (p.marks.adjointed old.number) (pops p line (chosen (is_in (p.marks.saved old.number) Snapshot) actuals) +++ rename r (one line (call k.adjoint (all_with_shadows actuals)))) +++ t → SweepsAct sc r p d line (call name (terms_of args)) old new
+  call_written e u n s1 s2 t h1 h2 h3 h4 h5 =
       let i = old.number in
       let o = in_order (code_of old.forward) in
       let save = pushes p line (save_group p.marks i g given) in
@@ -71,7 +73,8 @@ module _ (sc : Schedules) (r : Var → Var) (plainly : IsPlain r) (p : Plan) (d 
       let second : s2 ≡ s1 +++ rename r snap = h2 ∙ ap (λ z. s1 +++ code_if (p.marks.adjointed i) (pushes p line z)) snapshot ∙ ap (λ z. s1 +++ z) (sym (pushed_named (p.marks.adjointed i) (snapshot_group g given))) in
       let third : in_order (code_of new.forward) ≡ s2 +++ rename r kept = h3 ∙ ap (λ z. s2 +++ z) (sym (kept_named (p.marks.kept i))) in
       let tail : t ≡ rename r restored +++ code_of old.backward = h4 ∙ ap (λ z. pops p line z +++ code_of old.backward) saved ∙ ap (λ z. z +++ code_of old.backward) (sym (pops_plain r plainly p line (save_group p.marks i g given))) in
-      written sc r p d line (call name (terms_of args)) old new (save +++ (snap +++ kept)) (back +++ restored) (if_true _ _ e) (if_true _ _ e) n
+      written sc r p d line (call name (terms_of args)) old new (save +++ (snap +++ kept)) (back +++ restored)
+      (unsplit_forward sc p i d line name (terms_of args) u ∙ if_true _ _ e) (unsplit_backward sc p i d line name (terms_of args) u ∙ if_true _ _ e) n
       (third ∙ ap (λ z. z +++ rename r kept) (second ∙ ap (λ z. z +++ rename r snap) first)
       ∙ append_assoc (o +++ rename r save) (rename r snap) (rename r kept) ∙ append_assoc o (rename r save) (rename r snap +++ rename r kept)
       ∙ ap (λ z. o +++ (rename r save +++ z)) (sym (rename-append r snap kept)) ∙ ap (λ z. o +++ z) (sym (rename-append r save (snap +++ kept))))

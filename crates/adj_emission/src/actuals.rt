@@ -1,4 +1,4 @@
-//! The actuals of calls, and the groups of them that are pushed (docs/EMITTED.md, "Sweeps of every statement").
+//! The actuals of calls, and the groups of them that are pushed (docs/EMITTED.md, "Sweeps").
 
 ghost use Rattle.std.specs.Prelude.{◌≡◌, ◌++◌, ◌∷◌, [], ℕ, List, map, length, slice_get, IfOk, OnOk, if◌then◌else◌};
 ghost use Rattle.adj_tree.specs.Code.{Terms, more, none, plain, call, push_word, push_array, pop_word, pop_array, step};
@@ -114,8 +114,7 @@ pub fn actuals_of(alloc: Global, dummies: &[Dummy], actuals: &Exprs) -> Result<V
     ensures actuals { IfOk result (λ v. v.items ≡ paired dummies.now (names_of (terms_of actuals.now))) }
 {
     let given = names_of(alloc, actuals)?;
-    let made = paired(alloc, dummies, given.as_slice())?;
-    Ok(made)
+    paired(alloc, dummies, given.as_slice())
 }
 
 impl<'a> Plan<'a> {

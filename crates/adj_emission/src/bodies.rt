@@ -1,4 +1,4 @@
-//! The body of an adjoint unit (docs/EMITTED.md, "The unit").
+//! The body of an adjoint unit (docs/EMITTED.md, "The units").
 
 ghost use Rattle.std.specs.Prelude.{◌≡◌, ℕ, List, IfOk, ◌∷◌, []};
 ghost use Rattle.adj_tree.specs.View.{act_of, code_of};

@@ -1,4 +1,4 @@
-//! Both sweeps of an IF (docs/EMITTED.md, "Sweeps of every statement").
+//! Both sweeps of an IF (docs/EMITTED.md, "Sweeps").
 
 ghost use Rattle.std.specs.Prelude.{◌≡◌, ◌&&◌, ℕ, List, IfOk, suc};
 ghost use Rattle.adj_tree.specs.Code.{Code, var, compare, is_same, choose, stop, step};

@@ -1,4 +1,4 @@
-//! Both sweeps of a call (docs/EMITTED.md, "Sweeps of every statement").
+//! Both sweeps of a call (docs/EMITTED.md, "Sweeps").
 
 ghost use Rattle.std.specs.Prelude.{◌≡◌, ℕ, List, IfOk};
 ghost use Rattle.adj_tree.specs.Code.{call};

@@ -1,4 +1,4 @@
-//! The turns of loops, forward and backward (docs/EMITTED.md, "Sweeps of every statement").
+//! The turns of loops, forward and backward (docs/EMITTED.md, "Sweeps").
 
 ghost use Rattle.std.specs.Prelude.{◌≡◌, IfOk, pos, false};
 ghost use Rattle.adj_tree.specs.Code.{Code, plain, helper, first, stride, count, turn, plus, minus, times, var, lit, neg, bin, none, assign, runtime, push_word, step};
@@ -94,8 +94,7 @@ impl<'a> Plan<'a> {
         let from = bounds.first.copy_boxed(alloc)?;
         let begun = self.set_own(alloc, at.line, first, from, turned)?;
         let by = bounds.step.copy_boxed(alloc)?;
-        let code = self.set_own(alloc, at.line, stride, by, begun)?;
-        Ok(code)
+        self.set_own(alloc, at.line, stride, by, begun)
     }
 
     /// No turn is counted yet, behind what is turned round.
@@ -104,8 +103,7 @@ impl<'a> Plan<'a> {
     {
         let count = of_depth(Role::Count, at.depth);
         let none = boxed(alloc, Expr::Lit(0))?;
-        let code = self.set_own(alloc, at.line, count, none, turned)?;
-        Ok(code)
+        self.set_own(alloc, at.line, count, none, turned)
     }
 
     /// The body of a loop, which is turned round, and at its end a turn is counted.
@@ -147,8 +145,7 @@ impl<'a> Plan<'a> {
         let first = of_depth(Role::First, at.depth);
         let stride = of_depth(Role::Stride, at.depth);
         let begun = self.push_own(alloc, at.line, first, turned)?;
-        let code = self.push_own(alloc, at.line, stride, begun)?;
-        Ok(code)
+        self.push_own(alloc, at.line, stride, begun)
     }
 
     /// The number of turns is pushed, behind what is turned round.
@@ -156,8 +153,7 @@ impl<'a> Plan<'a> {
         ensures pushed { IfOk result (λ c. code_of c ≡ step at.line (runtime (push_word (naming_in self.now (helper count at.depth)) none)) (code_of turned)) }
     {
         let count = of_depth(Role::Count, at.depth);
-        let code = self.push_own(alloc, at.line, count, turned)?;
-        Ok(code)
+        self.push_own(alloc, at.line, count, turned)
     }
 
     /// The forward sweep of a DO whose turns are gone through backward, behind what is turned round.
@@ -208,8 +204,7 @@ impl<'a> Plan<'a> {
         let turn = self.own(alloc, of_depth(role, at.depth))?;
         let stride = self.own(alloc, of_depth(Role::Stride, at.depth))?;
         let steps = boxed(alloc, Expr::Bin(Op::Mul, turn, stride))?;
-        let value = sum(alloc, first, steps)?;
-        Ok(value)
+        sum(alloc, first, steps)
     }
 
     /// The variable of a DO gets its value in the turn whose number the helper of a role holds, and then the rest.

@@ -41,8 +41,7 @@ impl<'a> Plan<'a> {
         ensures term { IfOk result (λ e. term_of e.value ≡ var (naming_in self.now (variable_of own))) }
     {
         let name = self.names.helper(alloc, own.role, own.number)?;
-        let made = boxed(alloc, Expr::Var(name))?;
-        Ok(made)
+        boxed(alloc, Expr::Var(name))
     }
 
     /// A helper that becomes a value, and then the rest.
@@ -61,8 +60,7 @@ impl<'a> Plan<'a> {
             name,
             subs: Exprs::Empty,
         };
-        let code = set_before(alloc, line, place, e, rest)?;
-        Ok(code)
+        set_before(alloc, line, place, e, rest)
     }
 
     /// A helper that is pushed, and then the rest.
@@ -80,8 +78,7 @@ impl<'a> Plan<'a> {
             name,
             subs: Exprs::Empty,
         };
-        let code = before(alloc, push(line, place), rest)?;
-        Ok(code)
+        before(alloc, push(line, place), rest)
     }
 
     /// A helper that is popped, and then the rest.
@@ -99,7 +96,6 @@ impl<'a> Plan<'a> {
             name,
             subs: Exprs::Empty,
         };
-        let code = before(alloc, pop(line, place), rest)?;
-        Ok(code)
+        before(alloc, pop(line, place), rest)
     }
 }

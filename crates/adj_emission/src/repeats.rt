@@ -1,4 +1,4 @@
-//! Both sweeps of a DO and of a DO WHILE, from those of their bodies (docs/EMITTED.md, "Sweeps of every statement").
+//! Both sweeps of a DO and of a DO WHILE, from those of their bodies (docs/EMITTED.md, "Sweeps").
 
 ghost use Rattle.std.specs.Prelude.{◌≡◌, ℕ, List, None, IfOk, suc};
 ghost use Rattle.adj_tree.specs.Code.{Code, Mark, plain, none, during, runtime, push_word, pop_word, stop, step};

@@ -28,8 +28,7 @@ pub fn with_number(alloc: Global, op: Op, a: Box<Expr>, n: u32) -> Result<Box<Ex
     ensures term { IfOk result (λ e. term_of e.value ≡ bin (op_of op) (term_of a.value) (literal n)) }
 {
     let right = boxed(alloc, literal(n))?;
-    let made = boxed(alloc, Expr::Bin(op, a, right))?;
-    Ok(made)
+    boxed(alloc, Expr::Bin(op, a, right))
 }
 
 // The value of a variable as a number of snapshots: 1 where it is below 1, and 64 where it is above 64.
@@ -39,8 +38,7 @@ fn as_slots(alloc: Global, x: &Name) -> Result<Box<Expr>, Memory>
     let name = x.copy(alloc)?;
     let value = boxed(alloc, Expr::Var(name))?;
     let least = with_number(alloc, Op::Max, value, 1)?;
-    let slots = with_number(alloc, Op::Min, least, 64)?;
-    Ok(slots)
+    with_number(alloc, Op::Min, least, 64)
 }
 
 impl<'a> Plan<'a> {
@@ -49,18 +47,9 @@ impl<'a> Plan<'a> {
         ensures slots { IfOk result (λ e. term_of e.value ≡ rename_term (naming_in self.now) (slots_of depth (mark_of mark.now))) }
     {
         match mark {
-            Mark::Plain => {
-                let none = boxed(alloc, literal(0))?;
-                Ok(none)
-            }
-            Mark::Count(snapshots) => {
-                let made = boxed(alloc, literal(*snapshots))?;
-                Ok(made)
-            }
-            Mark::From(_) => {
-                let made = self.own(alloc, of_depth(Role::Slots, depth))?;
-                Ok(made)
-            }
+            Mark::Plain => { boxed(alloc, literal(0)) }
+            Mark::Count(snapshots) => { boxed(alloc, literal(*snapshots)) }
+            Mark::From(_) => { self.own(alloc, of_depth(Role::Slots, depth)) }
         }
     }
 
@@ -116,10 +105,7 @@ impl<'a> Plan<'a> {
     {
         match mark {
             Mark::Plain | Mark::Count(_) => Ok(rest),
-            Mark::From(_) => {
-                let code = self.pop_own(alloc, at.line, of_depth(Role::Slots, at.depth), rest)?;
-                Ok(code)
-            }
+            Mark::From(_) => { self.pop_own(alloc, at.line, of_depth(Role::Slots, at.depth), rest) }
         }
     }
 }

@@ -1,4 +1,4 @@
-//! Both sweeps of a list (docs/EMITTED.md, "Sweeps of every statement"). Lists are gone through by loops.
+//! Both sweeps of a list (docs/EMITTED.md, "Sweeps"). Lists are gone through by loops.
 
 ghost use Rattle.std.specs.Prelude.{◌≡◌, ℕ, List, IfOk, suc};
 ghost use Rattle.adj_tree.specs.View.{act_of, code_of};

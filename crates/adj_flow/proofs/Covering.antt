@@ -1,5 +1,5 @@
 -- The scope that flags and lists of variables make covers the problem.
-use Rattle.std.proofs.Common.{◌≡◌, ℕ, ◌+◌, ◌≤◌, ◌<◌, List, [], Bool, true, subst, sym, length, arith}
+use Rattle.std.proofs.Common.{◌≡◌, ℕ, ◌+◌, ◌≤◌, ◌<◌, List, [], Bool, true, subst, sym, length, arith, false}
 use Rattle.std.specs.Prelude.{Contains, ◌↔◌, IsTrue, All, slice_index_or}
 use Rattle.std.proofs.lemmas.List.{length-map}
 use Rattle.adj_tree.specs.Code.{plain, Procedure}
@@ -32,12 +32,12 @@ module _ (k : Problem) (vss : List (List (List ℕ))) (takes : ℕ → Bool) whe
       subst (λ z. z ≤ w) (sym (length-map (slice_index_or vss g.number []) plain)) l
 
 -- which units take part doesn't depend on what is flagged
-takes_same : (ps : List Procedure) (h : ℕ) (a b c d : List Bool) (g : Part) → TakesPart (record { units = ps; head = h; vars = a; outvars = b }) g → TakesPart (record { units = ps; head = h; vars = c; outvars = d }) g
-takes_same ps h a b c d g (begins e) = begins (record { is = e.is })
-takes_same ps h a b c d g (leads {x = f} t q) = leads (takes_same ps h a b c d f t) (q.0, q.1, record { name = q.2.name; stands = q.2.stands; act = q.2.act; finds = q.2.finds })
+takes_same : (ps : List Procedure) (h : ℕ) (a b c d : List Bool) (s t : ℕ → Bool) (g : Part) → TakesPart (record { units = ps; head = h; vars = a; outvars = b; split = s }) g → TakesPart (record { units = ps; head = h; vars = c; outvars = d; split = t }) g
+takes_same ps h a b c d s t g (begins e) = begins (record { is = e.is })
+takes_same ps h a b c d s t g (leads {x = f} r q) = leads (takes_same ps h a b c d s t f r) (q.0, q.1, record { name = q.2.name; stands = q.2.stands; act = q.2.act; finds = q.2.finds })
 
 -- so flags that say which units take part where nothing is flagged will do
 pub flags_cover : (k : Problem) (vss : List (List (List ℕ))) (taking : List Bool) → HoldVariables vss k.units →
-    ((g : Part) → Contains (parts k.units) g → IsTrue (flag taking g.number) ↔ TakesPart (record { units = k.units; head = k.head; vars = []; outvars = [] }) g) → Covers k (scope_by vss (flag taking) k.units)
+    ((g : Part) → Contains (parts k.units) g → IsTrue (flag taking g.number) ↔ TakesPart (record { units = k.units; head = k.head; vars = []; outvars = []; split = λ n. false }) g) → Covers k (scope_by vss (flag taking) k.units)
 flags_cover k vss taking hold takes =
-    scope_covers k vss (flag taking) hold (λ g c. (λ t. takes_same k.units k.head [] [] k.vars k.outvars g ((takes g c).0 t), λ t. (takes g c).1 (takes_same k.units k.head k.vars k.outvars [] [] g t)))
+    scope_covers k vss (flag taking) hold (λ g c. (λ t. takes_same k.units k.head [] [] k.vars k.outvars (λ n. false) k.split g ((takes g c).0 t), λ t. (takes g c).1 (takes_same k.units k.head k.vars k.outvars [] [] k.split (λ n. false) g t)))

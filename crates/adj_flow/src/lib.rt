@@ -1,4 +1,4 @@
-//! What the analyses go over: the statements of a program where they stand, the variables in them, the ways between its points, the units that take part,
+//! What the analyses work on: the statements of a program where they stand, the variables in them, the ways between its points, the units that take part,
 //! and its variables at points as nodes with numbers.
 //!
 //! It stands on the trees, the definitions of `adj_facts` and on `adj_reach`. The layers above use that `taking_part` gives

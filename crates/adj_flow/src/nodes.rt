@@ -27,8 +27,7 @@ fn node_at(point: usize, width: usize, place: usize) -> Result<usize, Memory>
     ensures node { IfOk result (λ n. n ≡ point * width + place) }
 {
     let first = point.checked_mul(width).ok_or(Memory)?;
-    let node = first.checked_add(place).ok_or(Memory)?;
-    Ok(node)
+    first.checked_add(place).ok_or(Memory)
 }
 
 impl End<'_, '_> {
@@ -48,8 +47,7 @@ fn point_of(statement: usize, place: usize) -> Result<usize, Memory>
     ensures point { IfOk result (λ p. p ≡ 3 * statement + place) }
 {
     let first = statement.checked_mul(3).ok_or(Memory)?;
-    let point = first.checked_add(place).ok_or(Memory)?;
-    Ok(point)
+    first.checked_add(place).ok_or(Memory)
 }
 
 /// The number of a point.

@@ -1,6 +1,6 @@
 //! Which units take part: those that calls reach from the head.
 
-ghost use Rattle.std.specs.Prelude.{◌≡◌, ◌↔◌, ◌+◌, ◌<◌, ◌^◌, ◌++◌, [], ◌∷◌, Contains, IfOk, IsTrue, OnOk, length, map};
+ghost use Rattle.std.specs.Prelude.{◌≡◌, ◌↔◌, ◌+◌, ◌<◌, ◌^◌, ◌++◌, [], ◌∷◌, false, Contains, IfOk, IsTrue, OnOk, length, map};
 ghost use Rattle.adj_tree.specs.View.{act_of, code_of, procedure_of};
 ghost use Rattle.adj_transpose.specs.Marks.{behind};
 ghost use Rattle.adj_facts.specs.Parts.{Part, parts};
@@ -117,7 +117,7 @@ pub fn taking_part(alloc: Global, units: &[Unit], head: usize) -> Result<Flags, 
     requires head { head < length units.now }
     ensures count { IfOk result (λ flags. length flags ≡ length units.now) }
     ensures exact { IfOk result (λ flags. (g : Part) → Contains (parts (map procedure_of units.now)) g →
-        (IsTrue (flag flags g.number) ↔ TakesPart (record { units = map procedure_of units.now; head = head; vars = []; outvars = [] }) g)) }
+        (IsTrue (flag flags g.number) ↔ TakesPart (record { units = map procedure_of units.now; head = head; vars = []; outvars = []; split = λ n. false }) g)) }
 {
     let edges = calls(alloc, units)?;
     let start = [head];

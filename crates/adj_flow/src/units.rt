@@ -1,6 +1,6 @@
 //! What the analyses go over: all units of a program, and which of them take part.
 
-ghost use Rattle.std.specs.Prelude.{◌≡◌, ◌↔◌, ◌+◌, ◌<◌, ◌≤◌, ◌^◌, ℕ, List, [], All, Contains, IfOk, IsTrue, OnOk, length, map};
+ghost use Rattle.std.specs.Prelude.{◌≡◌, ◌↔◌, ◌+◌, ◌<◌, ◌≤◌, ◌^◌, ℕ, List, [], false, All, Contains, IfOk, IsTrue, OnOk, length, map};
 ghost use Rattle.adj_tree.specs.View.{code_of, procedure_of};
 ghost use Rattle.adj_transpose.specs.Marks.{behind};
 ghost use Rattle.adj_facts.specs.Parts as spec;
@@ -21,7 +21,7 @@ use adj_tree::{Flags, Memory, NameList, Unit};
 use adj_writes::table::{Numbers, unit_numbers};
 use std::alloc::Global;
 
-/// The units of a program with their numbers by name, which of them take part, and a number that no unit has more variables than.
+/// The units of a program with their numbers by name, which of them take part, and an upper bound on the variables of a unit.
 #[derive(Drop)]
 pub struct Flow<'a> {
     pub parts: Vec<Part<'a>>,
@@ -85,7 +85,7 @@ impl<'a> Flow<'a> {
         ensures rows { IfOk result (λ f. map row_of f.parts.items ≡ rows (map (λ b. b.now) variables.now) (map procedure_of units.now)) }
         ensures numbers { IfOk result (λ f. (x : List ℕ) → value_of x f.numbers ≡ number_from 0 (map procedure_of units.now) x) }
         ensures taking { IfOk result (λ f. (g : spec.Part) → Contains (spec.parts (map procedure_of units.now)) g →
-            (IsTrue (flag f.taking g.number) ↔ TakesPart (record { units = map procedure_of units.now; head = head; vars = []; outvars = [] }) g)) }
+            (IsTrue (flag f.taking g.number) ↔ TakesPart (record { units = map procedure_of units.now; head = head; vars = []; outvars = []; split = λ n. false }) g)) }
         ensures width { IfOk result (λ f. All (λ v. length v.now ≤ f.width) variables.now) }
     {
         let taking = taking_part(alloc, units, head)?;

@@ -1,4 +1,4 @@
-//! The helpers that the adjoint of a unit uses (docs/EMITTED.md, "The unit"). Lists are gone through by loops.
+//! The helpers that the adjoint of a unit uses (docs/EMITTED.md, "The units"). Lists are gone through by loops.
 
 ghost use Rattle.std.specs.Prelude.{◌≡◌, ◌++◌, ℕ, List, map, IfOk, OnOk};
 ghost use Rattle.adj_tree.specs.View.{act_of, code_of, mark_of};

@@ -1,4 +1,4 @@
-//! What statements use of helpers, from what those in them use (docs/EMITTED.md, "The unit").
+//! What statements use of helpers, from what those in them use (docs/EMITTED.md, "The units").
 
 ghost use Rattle.std.specs.Prelude.{◌≡◌, ◌||◌, ◌&&◌, true, false, not, max, drop, ℕ, List, IfOk, if◌then◌else◌};
 ghost use Rattle.adj_tree.specs.Code.{Terms, more, plain, assign, call};

@@ -68,7 +68,7 @@ target_same n x local (more e es) s t h = go (reads_term x e) h
     go true h = same_then (values n (more e es) s) _ (cell_at n x) (cell_at n x) h (λ is. same_or_none (cell_at n x is) _ refl)
     go false h = same_then (values n (more e es) s) _ (cell_at n x) (cell_at n x) h (λ is. same_or_none (cell_at n x is) _ refl)
 
--- where no cell is there for want of values
+-- where no cell is there since values are missing
 no_cell : {C : Type 0} (n : Setting C) (x : Var) (subs : Terms) (s : Store C) (k : Trap) → values n subs s ≡ Err k → target n x subs s ≡ Err k
 no_cell n x none s k h = absurd cc
 no_cell n x (more e es) s k h = ap (λ z. then_ok z (cell_at n x)) h

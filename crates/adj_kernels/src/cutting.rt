@@ -44,8 +44,7 @@ fn only(alloc: Global, line: u32, act: Act) -> Result<Stmts, Memory>
     ensures one { IfOk result (λ c. code_of c ≡ one line (act_of act)) }
 {
     let stmt = Stmt { line, act };
-    let one = Stmts::Empty.behind(alloc, stmt)?;
-    Ok(one)
+    Stmts::Empty.behind(alloc, stmt)
 }
 
 // The body of a loop.
@@ -64,14 +63,8 @@ fn cut_body(
     ensures code { IfOk result (λ c. (taken : List (List ℕ)) (u : Procedure) → Knows source.entry taken u → code_of c.code ≡ cut_body taken u first line (plain x.now) (code_of body.now) (mark_of mark.now)) }
 {
     match mark {
-        Mark::Plain => {
-            let made = cut(alloc, source, first, body)?;
-            Ok(made)
-        }
-        Mark::Count(_) | Mark::From(_) => {
-            let made = cut_marked(alloc, source, first, line, x, body)?;
-            Ok(made)
-        }
+        Mark::Plain => { cut(alloc, source, first, body) }
+        Mark::Count(_) | Mark::From(_) => { cut_marked(alloc, source, first, line, x, body) }
     }
 }
 

@@ -17,22 +17,14 @@ fn marked_in_statement(stmt: &Stmt) -> Result<usize, Memory>
         Act::If(_, a, b) => {
             let first = marked_in(a)?;
             let second = marked_in(b)?;
-            let both = plus(first, second)?;
-            Ok(both)
+            plus(first, second)
         }
-        Act::Loop(_, _, _, _, body, Mark::Plain) => {
-            let inner = marked_in(body)?;
-            Ok(inner)
-        }
+        Act::Loop(_, _, _, _, body, Mark::Plain) => { marked_in(body) }
         Act::Loop(_, _, _, _, body, Mark::Count(_) | Mark::From(_)) => {
             let inner = marked_in(body)?;
-            let all = plus(inner, 1)?;
-            Ok(all)
+            plus(inner, 1)
         }
-        Act::While(_, body) => {
-            let inner = marked_in(body)?;
-            Ok(inner)
-        }
+        Act::While(_, body) => { marked_in(body) }
     }
 }
 

@@ -58,16 +58,11 @@ fn add_of_statement(
         Act::Run(_) => Ok(first),
         Act::If(_, a, b) => {
             let next = add_step_units(alloc, source, first, a, units)?;
-            let last = add_step_units(alloc, source, next, b, units)?;
-            Ok(last)
+            add_step_units(alloc, source, next, b, units)
         }
-        Act::While(_, body) => {
-            let next = add_step_units(alloc, source, first, body, units)?;
-            Ok(next)
-        }
+        Act::While(_, body) => { add_step_units(alloc, source, first, body, units) }
         Act::Loop(x, _, _, _, body, mark) => {
-            let next = add_of_loop(alloc, source, first, line, x, body, mark, units)?;
-            Ok(next)
+            add_of_loop(alloc, source, first, line, x, body, mark, units)
         }
     }
 }
@@ -89,15 +84,11 @@ fn add_of_loop(
     ensures units { OnOk result ((taken : List (List ℕ)) (u : Procedure) → Knows source.entry taken u → map procedure_of units.new.items ≡ map procedure_of units.old.items ++ units_of_loop taken u first line (plain x.now) (code_of body.now) (mark_of mark.now)) }
 {
     match mark {
-        Mark::Plain => {
-            let next = add_step_units(alloc, source, first, body, units)?;
-            Ok(next)
-        }
+        Mark::Plain => { add_step_units(alloc, source, first, body, units) }
         Mark::Count(_) | Mark::From(_) => {
             let unit = step_unit(alloc, source, first, line, x, body)?;
             units.push(unit)?;
-            let next = add_step_units(alloc, source, first + 1, body, units)?;
-            Ok(next)
+            add_step_units(alloc, source, first + 1, body, units)
         }
     }
 }

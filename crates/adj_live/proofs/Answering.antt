@@ -80,8 +80,8 @@ seen_by numbers w reads writes b us r = record {
 }
 
 module _ (k : Problem) (vss : List (List (List ℕ))) (numbers : List (List ℕ × ℕ)) (taking : List Bool) (w : ℕ) (known : (x : List ℕ) → value_of x numbers ≡ number_from 0 k.units x)
-    (takes : (g : Part) → Contains (parts k.units) g → IsTrue (flag taking g.number) ↔ TakesPart (record { units = k.units; head = k.head; vars = []; outvars = [] }) g) (lengths : length vss ≡ length k.units) (narrow : All (λ vs. length vs ≤ w) vss)
-    (hold : HoldVariables vss k.units) (rs : List Row) (same : rs ≡ rows vss k.units) (reads writes : List (List Bool)) (reads_are : reads ≡ least_rows read_rule k.units) (writes_are : writes ≡ least_rows write_rule k.units) (b : flags.Activity) where
+    (takes : (g : Part) → Contains (parts k.units) g → IsTrue (flag taking g.number) ↔ TakesPart (record { units = k.units; head = k.head; vars = []; outvars = []; split = λ n. false }) g) (lengths : length vss ≡ length k.units) (narrow : All (λ vs. length vs ≤ w) vss)
+    (hold : HoldVariables vss k.units) (rs : List Row) (same : rs ≡ rows vss k.units) (reads writes : List (List Bool)) (reads_are : reads ≡ least_rows read_rule k.units) (writes_are : writes ≡ least_rows write_rule k.units) (b : flags.Activity) (unsplit : (n : ℕ) → k.split n ≡ false) where
   abbrev o : Scope
   o = scope_by vss (flag taking) k.units
 
@@ -124,6 +124,6 @@ module _ (k : Problem) (vss : List (List (List ℕ))) (numbers : List (List ℕ 
         let nodes = nodes_same k vss taking w covers b (find us) read written in
         let es = flat_map (λ g. unit_edges (here_of vss w a (find us) read written g)) (scope_by vss (flag taking) k.units).parts in
         let ss = flat_map (λ g. unit_nodes (here_of vss w a (find us) read written g)) (scope_by vss (flag taking) k.units).parts in
-        is_live k o covers w wide a ss es (start_images k vss taking w covers wide a (find us) finds read is_read written is_written) (step_images k vss taking w covers wide a (find us) finds read is_read written is_written) facts kepts entries
+        is_live k o covers w wide a ss es (start_images k vss taking w covers wide a (find us) finds read is_read written is_written unsplit) (step_images k vss taking w covers wide a (find us) finds read is_read written is_written unsplit) facts kepts entries
         (λ m. subst (λ z. IsTrue (flag facts m) ↔ ReachedFrom z ss m) edges (subst (λ z. IsTrue (flag facts m) ↔ ReachedFrom (all_edges (seen us) us taking) z m) nodes (exact' m)))
         kept_by entry_by

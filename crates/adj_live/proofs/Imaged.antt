@@ -61,7 +61,7 @@ here_of vss w a find read written g = record { width = w; find = find; read = re
 
 module _ (k : Problem) (vss : List (List (List ℕ))) (flags : List Bool) (w : ℕ) (y : Covers k (scope_by vss (flag flags) k.units)) (wide : IsWide k (scope_by vss (flag flags) k.units) w) (a : Activity)
     (find : List ℕ → Option Row) (finds : (x : List ℕ) → find x ≡ option_map (row_in vss) (find_part (parts k.units) x))
-    (read : List ℕ → List Bool) (reads : (x : List ℕ) → read x ≡ looked_at k.units x) (written : List ℕ → List Bool) (writes : (x : List ℕ) → written x ≡ handed_back k.units x) where
+    (read : List ℕ → List Bool) (reads : (x : List ℕ) → read x ≡ looked_at k.units x) (written : List ℕ → List Bool) (writes : (x : List ℕ) → written x ≡ handed_back k.units x) (unsplit : (n : ℕ) → k.split n ≡ false) where
   abbrev o : Scope
   o = scope_by vss (flag flags) k.units
 
@@ -269,7 +269,13 @@ module _ (k : Problem) (vss : List (List (List ℕ))) (flags : List Bool) (w : �
           go (turn_of i x) = kept_one i
 
       begun_images : Nodes (live_starts_at k a g.number s) (statement_nodes h s)
-      begun_images = images_append own_images (images_if (a.adjointed s.number) (images_append holder_images turned_images))
+      begun_images = subst (λ b. Nodes (begun_by b) (statement_nodes h s)) (sym (unsplit s.number)) (images_append own_images (images_if (a.adjointed s.number) (images_append holder_images turned_images)))
+        where
+          -- where the statement begins, by whether it is to be split
+          begun_by : Bool → List Fact
+          begun_by b =
+              live_starts_by a g.number s.number s.act
+              ++ list_if (a.adjointed s.number) (list_if b (kept s.number ∷ []) ++ (map kept (holders s.place) ++ flat_map (at_actuals (live_turned k s.place)) (called (parts k.units) s.act)))
 
     -- ---- the unit
 

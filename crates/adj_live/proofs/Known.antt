@@ -23,6 +23,7 @@ module _ (k : Problem) (o : Scope) (y : Covers k o) (a : Activity) (w : ℕ) whe
   begun x (live.turns p c j h b r n) q = q
   begun x (live.holds p c j h) q = tt
   begun x (live.counts p c h r) q = tt
+  begun x (live.split p c h) q = tt
   begun x (live.extents {g = g} {d = d} p c h) q = (g, p, refl, y.dummies g p d c)
 
   led : (x z : Fact) → live.LiveLeads k a x z → listing.IsKnown k o y a z → IsKnown k o w z

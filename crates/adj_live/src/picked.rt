@@ -10,8 +10,7 @@ use std::alloc::Global;
 fn further(place: usize, stride: usize) -> Result<usize, Memory>
     ensures further { IfOk result (λ n. n ≡ place + stride) }
 {
-    let next = place.checked_add(stride).ok_or(Memory)?;
-    Ok(next)
+    place.checked_add(stride).ok_or(Memory)
 }
 
 /// Of so many flags each the one at a place.

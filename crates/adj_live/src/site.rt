@@ -36,8 +36,7 @@ pub(crate) struct Site<'p, 'a> {
 pub(crate) fn stride(width: usize) -> Result<usize, Memory>
     ensures stride { IfOk result (λ n. n ≡ width + 2) }
 {
-    let stride = width.checked_add(2).ok_or(Memory)?;
-    Ok(stride)
+    width.checked_add(2).ok_or(Memory)
 }
 
 // The number in a row of numbers behind so many such rows.
@@ -45,8 +44,7 @@ fn number(row: usize, width: usize, place: usize) -> Result<usize, Memory>
     ensures number { IfOk result (λ n. n ≡ row * (width + 2) + place) }
 {
     let first = row.checked_mul(stride(width)?).ok_or(Memory)?;
-    let number = first.checked_add(place).ok_or(Memory)?;
-    Ok(number)
+    first.checked_add(place).ok_or(Memory)
 }
 
 /// The number of a statement that is kept. An error means that numbers don't reach so far.

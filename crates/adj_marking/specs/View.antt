@@ -18,11 +18,12 @@ abbrev pub flag_of : List Bool → ℕ → ℕ → Option ℕ → Bool
 flag_of flags w n None = false
 flag_of flags w n (Some j) = flag flags (n * w + j)
 
--- the marks that analyses found, as a unit sees them
+-- the marks that analyses found, as a unit sees them: no call is split
 abbrev pub found_marks : Found → Marks
 found_marks f = record {
   kept = flag f.marks.now.kept.kept;
   adjointed = λ i. flag f.marks.now.activity.adjointed (2 * i);
+  split = λ i. false;
   saved = λ i v. flag_of f.marks.now.saved.saved f.width i (place_of f.places.now v);
   varied = λ p v. flag_of f.marks.now.activity.varied f.width p (place_of f.places.now v);
   useful = λ p v. flag_of f.marks.now.activity.useful f.width p (place_of f.places.now v);

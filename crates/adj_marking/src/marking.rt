@@ -1,4 +1,4 @@
-//! Where the marks come from, and what they say (docs/EMITTED.md, "Sweeps of every statement").
+//! Where the marks come from, and what they say (docs/EMITTED.md, "Sweeps").
 
 ghost use Rattle.std.specs.Prelude.{◌≡◌, ◌*◌, ◌||◌};
 ghost use Rattle.adj_tree.specs.Code.{plain};

@@ -30,11 +30,9 @@ pub fn candidate(alloc: Global, base: &[u8], number: usize) -> Result<Name, Memo
     ensures name { IfOk result (λ y. y ≡ candidate base.now number) }
 {
     if number == 0 {
-        let name = joined(alloc, base, &[])?;
-        Ok(name)
+        joined(alloc, base, &[])
     } else {
         let front = joined(alloc, base, b"_")?;
-        let name = with_number(alloc, front.bytes(), number)?;
-        Ok(name)
+        with_number(alloc, front.bytes(), number)
     }
 }

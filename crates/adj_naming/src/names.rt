@@ -69,14 +69,8 @@ fn shadow_at(alloc: Global, names: &[Name], place: usize, x: &Name) -> Result<Na
     ensures name { IfOk result (λ y. y ≡ unwrap_or (slice_get names.now place) (outside (shadow x.now))) }
 {
     match names.get(place) {
-        Some(name) => {
-            let name = name.copy(alloc)?;
-            Ok(name)
-        }
-        None => {
-            let name = outside_shadow(alloc, x)?;
-            Ok(name)
-        }
+        Some(name) => { name.copy(alloc) }
+        None => { outside_shadow(alloc, x) }
     }
 }
 
@@ -84,8 +78,7 @@ fn shadow_at(alloc: Global, names: &[Name], place: usize, x: &Name) -> Result<Na
 fn outside_shadow(alloc: Global, x: &Name) -> Result<Name, Memory>
     ensures name { IfOk result (λ y. y ≡ outside (shadow x.now)) }
 {
-    let name = joined(alloc, &[0, 1], x.bytes())?;
-    Ok(name)
+    joined(alloc, &[0, 1], x.bytes())
 }
 
 // The same of a helper.
@@ -93,13 +86,7 @@ fn helper_at(alloc: Global, names: &[Name], place: usize, helper: Helper) -> Res
     ensures name { IfOk result (λ y. y ≡ unwrap_or (slice_get names.now place) (outside (variable_of helper))) }
 {
     match names.get(place) {
-        Some(name) => {
-            let name = name.copy(alloc)?;
-            Ok(name)
-        }
-        None => {
-            let name = helper.outside(alloc)?;
-            Ok(name)
-        }
+        Some(name) => { name.copy(alloc) }
+        None => { helper.outside(alloc) }
     }
 }

@@ -99,14 +99,8 @@ impl Helper {
     {
         let front = self.role.letters();
         match self.role {
-            Role::Control => {
-                let name = Name::from_slice(alloc, front)?;
-                Ok(name)
-            }
-            _ => {
-                let name = with_number(alloc, front, self.number)?;
-                Ok(name)
-            }
+            Role::Control => { Name::from_slice(alloc, front) }
+            _ => { with_number(alloc, front, self.number) }
         }
     }
 
@@ -114,8 +108,7 @@ impl Helper {
     pub fn outside(&self, alloc: Global) -> Result<Name, Memory>
         ensures name { IfOk result (λ y. y ≡ outside (variable_of self.now)) }
     {
-        let name = with_number(alloc, &[0, 2, self.role.code()], self.number)?;
-        Ok(name)
+        with_number(alloc, &[0, 2, self.role.code()], self.number)
     }
 }
 

@@ -21,11 +21,13 @@ use Rattle.adj_accepted.proofs.Through.{kernels_adjoint}
 use Rattle.adj_facts.specs.Activity.{Activity}
 use Rattle.adj_facts.specs.Live.{Liveness}
 use Rattle.adj_facts.specs.Laws.{Analysed}
-use Rattle.adj_analysed.proofs.Adjoint.{analysed_fits, analysed_is_adjoint, analysed_reverses}
+use Rattle.adj_analysed.proofs.Adjoint.{analysed_fits, analysed_fits_reversed, analysed_is_adjoint, analysed_reverses}
 use Rattle.adj_weave.proofs.Lending.{exact_shadows}
-use Rattle.adj_planned.specs.Planned.{HasNoMarks, kernel_problem, planned_for, reversed_for, marks_by, PlannedIsAdjoint, PlannedSpends, PlannedIsWritten, PlannedIsSound, ReversedIsAdjoint, ReversedIsWritten, ReversedIsSound, ReversedIsPlanned, ReversedSpends}
+use Rattle.adj_planned.specs.Planned.{HasNoMarks, kernel_problem, planned_for, reversed_for, marks_by, PlannedIsAdjoint, PlannedSpends, PlannedIsWritten, PlannedIsSound, ReversedIsAdjoint, ReversedKernelSpends, ReversedIsWritten, ReversedIsSound, ReversedIsPlanned, ReversedSpends}
 use Rattle.adj_analysed.specs.Meets.{program_facts, IsUnmarkedAct, IsUnmarked}
 use Rattle.adj_analysed.specs.MarkedLines.{reversed_lines}
+use Rattle.adj_spent.specs.KernelSpent.{KernelSpendsAtMost}
+use Rattle.adj_spent.proofs.KernelSpending.{kernel_keeps_bound}
 use Rattle.adj_spent.proofs.Spending.{emitted_spends}
 use Rattle.adj_planned.proofs.Unmarked.{kernel_unmarked}
 use Rattle.adj_planned.proofs.MarkedLines.{kernel_apart}
@@ -43,7 +45,7 @@ is_adjoint ps y none name u found vars outvars a l saved held x qs same =
     let m = marks_by ps a l saved held in
     kernels_adjoint false (λ line. None) m ps y name u found vars outvars qs
     (other_lines false (λ line. None) m (kernel_of ps) (planned_for ps name vars outvars m) qs n vars outvars same
-    (analysed_is_adjoint run_rules (kernel_problem ps name vars outvars) (kernel_checked ps y) (kernel_unmarked ps none) a l saved held x k.becomes (numbered (kernel_of ps) name k.becomes k.found).1))
+    (analysed_is_adjoint run_rules (kernel_problem ps name vars outvars) (kernel_checked ps y) (kernel_unmarked ps none) a l saved held x (λ g t s c e. refl) k.becomes (numbered (kernel_of ps) name k.becomes k.found).1))
 
 -- none is counted where none is marked
 mutual
@@ -68,20 +70,20 @@ none_counted (u ∷ us) h = (none_list u.body h.0, none_counted us h.1)
 pub spends : PlannedSpends
 spends ps y none weight weighs name u found calls few vars outvars a l saved held x qs same =
     let k = whole_units ps name u found in
-    emitted_spends ps y (none_counted ps none) weight weighs name calls few (λ line. None) (program_facts (kernel_of ps) a l saved held) k.becomes k.found
-    (analysed_fits run_rules (kernel_problem ps name vars outvars) (kernel_checked ps y) (kernel_unmarked ps none) a l saved held x k.becomes (numbered (kernel_of ps) name k.becomes k.found).1)
-    vars outvars qs same
+    emitted_spends ps y (none_counted ps none) weight weighs name calls few (λ line. None) (program_facts (kernel_of ps) (λ n. false) a l saved held) k.becomes k.found
+    (analysed_fits run_rules (kernel_problem ps name vars outvars) (kernel_checked ps y) (kernel_unmarked ps none) a l saved held x (λ g t s c e. refl) k.becomes (numbered (kernel_of ps) name k.becomes k.found).1)
+    (λ i. refl) vars outvars qs same
 
 pub is_written : PlannedIsWritten
 is_written ps y name vars outvars a l saved held x =
-    marked_written run_rules (kernel_of ps) (kernel_checked ps y) false (marks_by ps a l saved held) (shadows ps y name vars outvars a l saved held x) (unit_number (kernel_of ps) name) vars outvars
+    marked_written run_rules (kernel_of ps) (kernel_checked ps y) false (marks_by ps a l saved held) (λ i. refl) (shadows ps y name vars outvars a l saved held x) (unit_number (kernel_of ps) name) vars outvars
 
 pub is_sound : PlannedIsSound
 is_sound ps y name vars outvars a l saved held x qs same =
     let few : run_rules.chain ≤ run_rules.chain = omega arith in
     let m = marks_by ps a l saved held in
     sound_lines run_rules (planned_for ps name vars outvars m) qs same
-    (marked_sound run_rules (kernel_of ps) (kernel_checked ps y) few false m (shadows ps y name vars outvars a l saved held x) (unit_number (kernel_of ps) name) vars outvars)
+    (marked_sound run_rules (kernel_of ps) (kernel_checked ps y) few false m (λ i. refl) (shadows ps y name vars outvars a l saved held x) (unit_number (kernel_of ps) name) vars outvars)
 
 -- ---- where marked loops are reversed by schedules
 
@@ -89,29 +91,39 @@ pub is_reversed : ReversedIsAdjoint
 is_reversed ps y apart name u found vars outvars a l saved held x qs same =
     let k = whole_units ps name u found in
     let n = unit_number (kernel_of ps) name in
-    let w = program_facts (kernel_of ps) a l saved held in
+    let w = program_facts (kernel_of ps) (λ n. false) a l saved held in
     let lines = reversed_lines w (kernel_of ps) in
     subst (λ z. IsAdjointOfWith true z w.marks ps name vars outvars qs) (by_marks w (kernel_of ps))
     (kernels_adjoint true lines w.marks ps y name u found vars outvars qs
     (other_lines true lines w.marks (kernel_of ps) (reversed_for ps name vars outvars w.marks) qs n vars outvars same
-    (analysed_reverses run_rules (kernel_problem ps name vars outvars) (kernel_checked ps y) (kernel_apart ps apart) a l saved held x k.becomes (numbered (kernel_of ps) name k.becomes k.found).1)))
+    (analysed_reverses run_rules (kernel_problem ps name vars outvars) (kernel_checked ps y) (kernel_apart ps apart) a l saved held x (λ g t s c e. refl) k.becomes (numbered (kernel_of ps) name k.becomes k.found).1)))
+
+pub kernel_spends : ReversedKernelSpends
+kernel_spends ps y apart weight each name u found calls few vars outvars a l saved held x qs same =
+    let k = whole_units ps name u found in
+    let w = program_facts (kernel_of ps) (λ n. false) a l saved held in
+    let lines = reversed_lines w (kernel_of ps) in
+    subst (λ z. KernelSpendsAtMost z w.marks ps name weight calls qs) (by_marks w (kernel_of ps))
+    (kernel_keeps_bound true lines w ps weight each name calls few k.becomes k.found
+    (analysed_fits_reversed run_rules (kernel_problem ps name vars outvars) (kernel_checked ps y) (kernel_apart ps apart) a l saved held x (λ g t s c e. refl) k.becomes (numbered (kernel_of ps) name k.becomes k.found).1)
+    (λ i. refl) vars outvars qs same)
 
 pub reversed_written : ReversedIsWritten
 reversed_written ps y name vars outvars a l saved held x =
-    marked_written run_rules (kernel_of ps) (kernel_checked ps y) true (marks_by ps a l saved held) (shadows ps y name vars outvars a l saved held x) (unit_number (kernel_of ps) name) vars outvars
+    marked_written run_rules (kernel_of ps) (kernel_checked ps y) true (marks_by ps a l saved held) (λ i. refl) (shadows ps y name vars outvars a l saved held x) (unit_number (kernel_of ps) name) vars outvars
 
 pub reversed_sound : ReversedIsSound
 reversed_sound ps y name vars outvars a l saved held x qs same =
     let few : run_rules.chain ≤ run_rules.chain = omega arith in
     let m = marks_by ps a l saved held in
     sound_lines run_rules (reversed_for ps name vars outvars m) qs same
-    (marked_sound run_rules (kernel_of ps) (kernel_checked ps y) few true m (shadows ps y name vars outvars a l saved held x) (unit_number (kernel_of ps) name) vars outvars)
+    (marked_sound run_rules (kernel_of ps) (kernel_checked ps y) few true m (λ i. refl) (shadows ps y name vars outvars a l saved held x) (unit_number (kernel_of ps) name) vars outvars)
 
 -- ---- where no loop is marked
 
 pub is_planned : ReversedIsPlanned
-is_planned ps none name vars outvars m = nothing_added (kernel_of ps) (kernel_unmarked ps none) m (unit_number (kernel_of ps) name) vars outvars
+is_planned ps none name vars outvars m unsplit = nothing_added (kernel_of ps) (kernel_unmarked ps none) m unsplit (unit_number (kernel_of ps) name) vars outvars
 
 pub reversed_spends : ReversedSpends
 reversed_spends ps y none weight weighs name u found calls few vars outvars a l saved held x qs same =
-    spends ps y none weight weighs name u found calls few vars outvars a l saved held x qs (ap unlined (sym (is_planned ps none name vars outvars (marks_by ps a l saved held))) ∙ same)
+    spends ps y none weight weighs name u found calls few vars outvars a l saved held x qs (ap unlined (sym (is_planned ps none name vars outvars (marks_by ps a l saved held) (λ i. refl))) ∙ same)

@@ -1,5 +1,5 @@
 -- Where no loop of a program is marked, the same is emitted for it whether marked loops are reversed by schedules or not, and none is reversed.
-use Rattle.std.proofs.Common.{◌≡◌, ℕ, zero, suc, max, List, [], ◌∷◌, ◌++◌, Bool, true, false, map, refl, ap, ◌∙◌, if◌then◌else◌}
+use Rattle.std.proofs.Common.{◌≡◌, ℕ, zero, suc, max, List, [], ◌∷◌, ◌++◌, Bool, true, false, map, refl, ap, sym, ◌∙◌, if◌then◌else◌}
 use Rattle.std.specs.Prelude.{◌&&◌, ◌||◌, ◌==◌, not, Some, None}
 use Rattle.adj_tree.specs.Code.{Role, plain, shadow, helper, none, work, temp, control, first, stride, count, turn, entry, entries, kind, lower, upper, slots, push_word, pop_word, unmarked, with_count, count_from, name_eq, Act, assign, choose, loop, during, call, runtime, Code, stop, step, Procedure}
 use Rattle.adj_meaning.specs.Append.{◌+++◌, one}
@@ -15,10 +15,11 @@ use Rattle.adj_kernel.specs.Kernel.{EachUnit}
 use Rattle.adj_kernel.specs.Stepped.{kernel_of}
 use Rattle.adj_reverse.specs.Emission.{is_empty, told_forward, told_backward, loop_forward, loop_backward, while_forward, while_backward, reset, forward_act_with, forward_with, backward_act_with, backward_with, cleared, adjoint_body_with}
 use Rattle.adj_reverse.specs.Laws.{CalleeFacts}
-use Rattle.adj_reverse.specs.Marking.{ProgramMarks, first_statement, plan_in, dummy_set, read_by, callee_facts}
+use Rattle.adj_reverse.specs.Marking.{ProgramMarks, SplitsNothing, first_statement, plan_in, dummy_set, read_by, callee_facts}
 use Rattle.adj_reverse.specs.Names.{adjoint_name}
 use Rattle.adj_reverse.specs.Plan.{Plan, Schedules, Step, is_emitted}
 use Rattle.adj_reverse.specs.Program.{works_used, temps_used, depth_act_with, depth_used_with, tells_act_with, tells_some_with, goes_back_act_with, goes_back_with, reverses_act_by, reverses_by, any_step, has_slots, is_do, is_loop, helpers_among, loop_helpers_with, reversal_helpers, all_reversal_helpers, helpers_used_with, made_for_with, adjoint_names_with, adjoint_unit_with, calls_some, is_reached, has_adjoint, turns_act, turns_in, turns_some, is_kept_with, is_carried_with, all_units, emitted_adjoint_with, emitted_units_with, emitted_for_with}
+use Rattle.adj_reverse.proofs.Unsplit.{adjoint_units, unsplit_kept, unsplit_units}
 use Rattle.adj_analysed.specs.Meets.{IsUnmarkedAct, IsUnmarked}
 use Rattle.adj_analysed.specs.MarkedLines.{told_in, told_code, told_units, tale_of}
 use Rattle.adj_planned.specs.Planned.{facts_by, SchedulesAddNothing, NoneIsReversed}
@@ -245,7 +246,7 @@ module _ (reads : List ℕ → Vars) where
 
 -- ---- the emitted program
 
-module _ (m : ProgramMarks) (ps : List Procedure) (free : EachUnit (λ u. IsUnmarked u.body) ps) where
+module _ (m : ProgramMarks) (unsplit : SplitsNothing m) (ps : List Procedure) (free : EachUnit (λ u. IsUnmarked u.body) ps) where
   -- what each unit reads
   abbrev reads_of : List ℕ → Vars
   reads_of name = dummy_set (read_by ps (find_unit ps name))
@@ -282,25 +283,28 @@ module _ (m : ProgramMarks) (ps : List Procedure) (free : EachUnit (λ u. IsUnma
     kept_same name =
         let kept = calls_some (has_adjoint m ps head) m.kept name 0 ps in
         let turned = turns_some_none reads_of m.adjointed name (has_adjoint m ps head) 0 ps free in
-        (λ k. kept || turned k) ∙ or_none kept
+        unsplit_kept m unsplit ps head true name ∙ (λ k. kept || turned k) ∙ or_none kept ∙ sym (unsplit_kept m unsplit ps head false name)
 
     carried_same : (name : List ℕ) → is_carried_with true m ps head name ≡ is_carried_with false m ps head name
     carried_same name = λ k. is_reached (λ n. kept_same n k) (λ i. true) ps name
 
-    units_same : (us : List Procedure) → EachUnit (λ u. IsUnmarked u.body) us → emitted_units_with true m ps head vars outvars us ≡ emitted_units_with false m ps head vars outvars us
-    units_same [] h = refl
-    units_same (u ∷ us) h =
+    adjoints_same : (us : List Procedure) → EachUnit (λ u. IsUnmarked u.body) us → adjoint_units true m ps head vars outvars us ≡ adjoint_units false m ps head vars outvars us
+    adjoints_same [] h = refl
+    adjoints_same (u ∷ us) h =
         let carried = carried_same u.name in
         let adjoint = adjoint_same u h.0 in
-        let later = units_same us h.1 in
+        let later = adjoints_same us h.1 in
         λ k. (if carried k then u ∷ [] else []) ++ ((if has_adjoint m ps head u.name then adjoint k ∷ [] else []) ++ later k)
+
+    units_same : emitted_units_with true m ps head vars outvars ps ≡ emitted_units_with false m ps head vars outvars ps
+    units_same = unsplit_units true m unsplit ps head vars outvars ps ∙ adjoints_same ps free ∙ sym (unsplit_units false m unsplit ps head vars outvars ps)
 
   for_same : (vars outvars : List Bool) (us : List Procedure) → emitted_for_with true m ps vars outvars us ≡ emitted_for_with false m ps vars outvars us
   for_same vars outvars [] = refl
-  for_same vars outvars (u ∷ us) = units_same u vars outvars ps free
+  for_same vars outvars (u ∷ us) = units_same u vars outvars
 
 pub nothing_added : SchedulesAddNothing
-nothing_added ps free m head vars outvars = for_same m ps free vars outvars (unit_at head ps)
+nothing_added ps free m unsplit head vars outvars = for_same m unsplit ps free vars outvars (unit_at head ps)
 
 pub none_reversed : NoneIsReversed
 none_reversed ps free m line =

@@ -1,5 +1,5 @@
 -- What is emitted for the kernel of an accepted program by the marks of exact analyses. (docs/THEOREMS.md, "Adjoints")
-use Rattle.std.specs.Prelude.{◌≡◌, ◌<◌, ℕ, List, length, Bool, true, Some, None}
+use Rattle.std.specs.Prelude.{◌≡◌, ◌<◌, ℕ, List, length, Bool, true, Some, None, false}
 use Rattle.adj_tree.specs.Code.{Procedure}
 use Rattle.adj_tree.specs.Lines.{unlined}
 use Rattle.adj_tree.specs.declared.marks.Marks as flags
@@ -10,7 +10,7 @@ use Rattle.adj_names.specs.Fault.{run_rules}
 use Rattle.adj_names.specs.Check.{IsSound}
 use Rattle.adj_names.specs.HeadFaults.{unit_number}
 use Rattle.adj_transpose.specs.Marks.{Vars, everything}
-use Rattle.adj_reverse.specs.Marking.{ProgramMarks, ProgramFacts}
+use Rattle.adj_reverse.specs.Marking.{ProgramMarks, ProgramFacts, SplitsNothing}
 use Rattle.adj_reverse.specs.Reversals.{ReversedLines}
 use Rattle.adj_reverse.specs.Program.{emitted_program_with, emitted_program}
 use Rattle.adj_kernel.specs.Kernel.{EachUnit}
@@ -19,7 +19,9 @@ use Rattle.adj_kernel.specs.Stepped.{kernel_of}
 use Rattle.adj_kernel.specs.Sound.{IsAccepted}
 use Rattle.adj_accepted.specs.Accepted.{HaveOwnNames, IsAdjointOfWith, IsAdjointOf}
 use Rattle.adj_cost.specs.RunTheorem.{CallsAtMost}
+use Rattle.adj_cost.specs.Calls.{CallsWithin}
 use Rattle.adj_spent.specs.Spent.{SpendsAtMost}
+use Rattle.adj_spent.specs.KernelSpent.{KernelSpendsAtMost}
 use Rattle.adj_facts.specs.Problem.{Problem}
 use Rattle.adj_facts.specs.Activity.{Activity}
 use Rattle.adj_facts.specs.Live.{Liveness}
@@ -49,7 +51,7 @@ ReadHaveLinesApart = (bytes : List ℕ) (ps : List Procedure) → Reads bytes ps
 
 -- what is asked of the analyses: of the kernel, with the unit of a name as the head
 abbrev pub kernel_problem : List Procedure → List ℕ → List Bool → List Bool → Problem
-kernel_problem ps name vars outvars = record { units = kernel_of ps; head = unit_number (kernel_of ps) name; vars = vars; outvars = outvars }
+kernel_problem ps name vars outvars = record { units = kernel_of ps; head = unit_number (kernel_of ps) name; vars = vars; outvars = outvars; split = λ n. false }
 
 -- what is emitted for it by some marks
 abbrev pub planned_for : List Procedure → List ℕ → List Bool → List Bool → ProgramMarks → List Procedure
@@ -68,7 +70,7 @@ lines_by ps m = reversed_lines (facts_by m) (kernel_of ps)
 
 -- the marks that analyses of the kernel give
 abbrev pub marks_by : List Procedure → Activity → Liveness → (ℕ → Vars) → (ℕ → Vars) → ProgramMarks
-marks_by ps a l saved held = (program_facts (kernel_of ps) a l saved held).marks
+marks_by ps a l saved held = (program_facts (kernel_of ps) (λ n. false) a l saved held).marks
 
 -- by exact ones it is an adjoint of the program, and so is what differs from it in line numbers alone
 abbrev pub PlannedIsAdjoint : Type 0
@@ -120,19 +122,28 @@ ReversedIsSound =
     (ps : List Procedure) → IsAccepted ps → (name : List ℕ) (vars outvars : List Bool) (a : Activity) (l : Liveness) (saved held : ℕ → Vars) → Analysed (kernel_problem ps name vars outvars) a l saved held →
     (qs : List Procedure) → unlined (reversed_for ps name vars outvars (marks_by ps a l saved held)) ≡ unlined qs → IsSound run_rules qs
 
+-- Its run takes at most so many statements for each one of the kernel's own run, by what a statement of the kernel weighs, how many calls a chain from
+-- the head has in it, and how many repetitions serve; and so does that of what differs from it in line numbers alone.
+abbrev pub ReversedKernelSpends : Type 0
+ReversedKernelSpends =
+    (ps : List Procedure) → IsAccepted ps → AreLinesApart (program_lines ps) → (weight : ℕ) → EachUnit (λ u. WeighsAtMost weight u.body) (kernel_of ps) → (name : List ℕ) (u : Procedure) → find_unit ps name ≡ Some u → (calls : ℕ) → CallsWithin (kernel_of ps) name calls → (vars outvars : List Bool) →
+    (a : Activity) (l : Liveness) (saved held : ℕ → Vars) → Analysed (kernel_problem ps name vars outvars) a l saved held → (qs : List Procedure) →
+    let m = marks_by ps a l saved held in
+    unlined (reversed_for ps name vars outvars m) ≡ unlined qs → KernelSpendsAtMost (lines_by ps m) m ps name weight calls qs
+
 -- and the step units of the loops that are reversed have other names than their adjoints, by any marks
 abbrev pub ReversedHaveOwnNames : Type 0
 ReversedHaveOwnNames = (ps : List Procedure) → IsAccepted ps → (m : ProgramMarks) → HaveOwnNames (lines_by ps m)
 
 -- ---- where no loop is marked
 
--- the same is emitted whether marked loops are reversed by schedules or not
+-- the same is emitted whether marked loops are reversed by schedules or not, where no call is split
 abbrev pub SchedulesAddNothing : Type 0
-SchedulesAddNothing = (ps : List Procedure) → HasNoMarks ps → (m : ProgramMarks) (head : ℕ) (vars outvars : List Bool) → emitted_program_with true m ps head vars outvars ≡ emitted_program m ps head vars outvars
+SchedulesAddNothing = (ps : List Procedure) → HasNoMarks ps → (m : ProgramMarks) → SplitsNothing m → (head : ℕ) (vars outvars : List Bool) → emitted_program_with true m ps head vars outvars ≡ emitted_program m ps head vars outvars
 
 -- so it is for the kernel
 abbrev pub ReversedIsPlanned : Type 0
-ReversedIsPlanned = (ps : List Procedure) → HasNoMarks ps → (name : List ℕ) (vars outvars : List Bool) (m : ProgramMarks) → reversed_for ps name vars outvars m ≡ planned_for ps name vars outvars m
+ReversedIsPlanned = (ps : List Procedure) → HasNoMarks ps → (name : List ℕ) (vars outvars : List Bool) (m : ProgramMarks) → SplitsNothing m → reversed_for ps name vars outvars m ≡ planned_for ps name vars outvars m
 
 -- no loop of it is reversed
 abbrev pub NoneIsReversed : Type 0
@@ -150,4 +161,4 @@ ReversedSpends =
 -- the marks that flags tell over a flow are those of what they tell as analyses, whatever is needed and held
 abbrev pub PlansAreAnalyses : Type 0
 PlansAreAnalyses =
-    (f : Flow) (t : flags.Marks) (needed held : ℕ → Vars) → marks_told f t ≡ (program_facts (units_of f) (activity_of f t.activity) (liveness_of needed f t.kept) (saved_of f t.saved) held).marks
+    (f : Flow) (t : flags.Marks) (needed held : ℕ → Vars) → marks_told f t ≡ (program_facts (units_of f) (λ n. false) (activity_of f t.activity) (liveness_of needed f t.kept) (saved_of f t.saved) held).marks

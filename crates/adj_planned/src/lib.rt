@@ -6,7 +6,7 @@
 //! `planned_law`, and where it reverses marked loops by schedules `reversed_law`, and `unscheduled_law` for programs without any.
 #![tactic(auto)]
 
-ghost use Rattle.adj_planned.specs.Planned.{KernelIsUnmarked, KernelKeepsLines, ReadHaveLinesApart, PlannedIsAdjoint, PlannedSpends, PlannedIsWritten, PlannedIsSound, ReversedIsAdjoint, ReversedIsWritten, ReversedIsSound, ReversedHaveOwnNames, SchedulesAddNothing, ReversedIsPlanned, NoneIsReversed, ReversedSpends, PlansAreAnalyses};
+ghost use Rattle.adj_planned.specs.Planned.{KernelIsUnmarked, KernelKeepsLines, ReadHaveLinesApart, PlannedIsAdjoint, PlannedSpends, PlannedIsWritten, PlannedIsSound, ReversedIsAdjoint, ReversedIsWritten, ReversedIsSound, ReversedHaveOwnNames, ReversedKernelSpends, SchedulesAddNothing, ReversedIsPlanned, NoneIsReversed, ReversedSpends, PlansAreAnalyses};
 
 /// In the kernel of a program without marked loops none is marked.
 pub fn unmarked_law()
@@ -33,10 +33,11 @@ pub fn planned_law()
 {}
 
 /// What is emitted by them where marked loops are reversed by schedules is an adjoint of a program no two of whose marked loops stand at one
-/// line; and of each accepted program it can be written as a text, and has no fault as a text that is run.
+/// line, and its run keeps a bound by that of the kernel; and of each accepted program it can be written as a text, and has no fault as a text that is run.
 pub fn reversed_law()
     ensures adjoint { ReversedIsAdjoint }
     ensures own_names { ReversedHaveOwnNames }
+    ensures spends { ReversedKernelSpends }
     ensures written { ReversedIsWritten }
     ensures sound { ReversedIsSound }
 {}

@@ -44,23 +44,13 @@ impl Factor {
         ensures product { IfOk result (λ e. term_of e.value ≡ scaled_by self.now (term_of w.value)) }
     {
         match self {
-            Factor::Opposite => {
-                let made = boxed(alloc, Expr::Neg(w))?;
-                Ok(made)
-            }
+            Factor::Opposite => { boxed(alloc, Expr::Neg(w)) }
             Factor::Value(value) => {
                 let copied = value.copy_boxed(alloc)?;
-                let made = boxed(alloc, Expr::Bin(Op::Mul, w, copied))?;
-                Ok(made)
+                boxed(alloc, Expr::Bin(Op::Mul, w, copied))
             }
-            Factor::Power(base, power) => {
-                let made = times_power(alloc, w, base, *power)?;
-                Ok(made)
-            }
-            Factor::PowerBy(base, exponent) => {
-                let made = times_guarded(alloc, w, base, exponent)?;
-                Ok(made)
-            }
+            Factor::Power(base, power) => { times_power(alloc, w, base, *power) }
+            Factor::PowerBy(base, exponent) => { times_guarded(alloc, w, base, exponent) }
         }
     }
 }
@@ -73,8 +63,7 @@ fn times_power(alloc: Global, w: Box<Expr>, base: &Expr, power: u32) -> Result<B
     let share = boxed(alloc, Expr::Bin(Op::Mul, w, exponent))?;
     let copied = base.copy_boxed(alloc)?;
     let less = boxed(alloc, Expr::Pow(copied, power.saturating_sub(1)))?;
-    let made = boxed(alloc, Expr::Bin(Op::Mul, share, less))?;
-    Ok(made)
+    boxed(alloc, Expr::Bin(Op::Mul, share, less))
 }
 
 // The product of a term with that of a power whose exponent is an expression.
@@ -89,8 +78,7 @@ fn times_guarded(
     let copied = exponent.copy_boxed(alloc)?;
     let share = boxed(alloc, Expr::Bin(Op::Mul, w, copied))?;
     let less = guarded(alloc, base, exponent)?;
-    let made = boxed(alloc, Expr::Bin(Op::Mul, share, less))?;
-    Ok(made)
+    boxed(alloc, Expr::Bin(Op::Mul, share, less))
 }
 
 // A term less 1, but not below 0.
@@ -101,8 +89,7 @@ fn lessened(alloc: Global, e: &Expr) -> Result<Box<Expr>, Memory>
     let one = boxed(alloc, Expr::Lit(1))?;
     let less = boxed(alloc, Expr::Bin(Op::Sub, value, one))?;
     let bound = boxed(alloc, Expr::Lit(0))?;
-    let made = boxed(alloc, Expr::Bin(Op::Max, less, bound))?;
-    Ok(made)
+    boxed(alloc, Expr::Bin(Op::Max, less, bound))
 }
 
 // The power with an exponent that is less by 1, but not below 0.
@@ -111,8 +98,7 @@ fn guarded(alloc: Global, base: &Expr, exponent: &Expr) -> Result<Box<Expr>, Mem
 {
     let less = lessened(alloc, exponent)?;
     let value = base.copy_boxed(alloc)?;
-    let made = boxed(alloc, Expr::Power(value, less))?;
-    Ok(made)
+    boxed(alloc, Expr::Power(value, less))
 }
 
 /// The share of a term whose operand has this one, by a factor; nothing where the operand isn't active.
@@ -146,8 +132,7 @@ pub fn by_value(
         return Ok(none);
     }
     let copied = value.copy_boxed(alloc)?;
-    let made = boxed(alloc, Share::Scaled(Factor::Value(copied), share))?;
-    Ok(made)
+    boxed(alloc, Share::Scaled(Factor::Value(copied), share))
 }
 
 /// The share of the base of a constant power, where its own share is this one.
@@ -165,8 +150,7 @@ pub fn by_power(
         return Ok(none);
     }
     let copied = base.copy_boxed(alloc)?;
-    let made = boxed(alloc, Share::Scaled(Factor::Power(copied, power), share))?;
-    Ok(made)
+    boxed(alloc, Share::Scaled(Factor::Power(copied, power), share))
 }
 
 /// The same where the exponent is an expression.
@@ -185,14 +169,12 @@ pub fn by_exponent(
     }
     let copied = base.copy_boxed(alloc)?;
     let raised = exponent.copy_boxed(alloc)?;
-    let made = boxed(alloc, Share::Scaled(Factor::PowerBy(copied, raised), share))?;
-    Ok(made)
+    boxed(alloc, Share::Scaled(Factor::PowerBy(copied, raised), share))
 }
 
 /// One share, and then another.
 pub fn both(alloc: Global, a: Box<Share>, b: Box<Share>) -> Result<Box<Share>, Memory>
     ensures share { IfOk result (λ s. (r : Var → Var) (line k : ℕ) → share_code r line s.value k ≡ share_code r line a.value k +++ share_code r line b.value k) }
 {
-    let made = boxed(alloc, Share::Both(a, b))?;
-    Ok(made)
+    boxed(alloc, Share::Both(a, b))
 }

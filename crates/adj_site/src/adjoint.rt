@@ -25,8 +25,7 @@ impl<'a> Site<'a> {
             subs: target.subs.copy(alloc)?,
         };
         let zero = boxed(alloc, Expr::Lit(0))?;
-        let code = set_before(alloc, self.line, place, zero, rest)?;
-        Ok(code)
+        set_before(alloc, self.line, place, zero, rest)
     }
 
     // The first work variable gets the shadow at a place, and then the rest.
@@ -38,8 +37,7 @@ impl<'a> Site<'a> {
             name: self.names.helper(alloc, Role::Work, 1)?,
             subs: Exprs::Empty,
         };
-        let code = set_before(alloc, self.line, place, adjoint, rest)?;
-        Ok(code)
+        set_before(alloc, self.line, place, adjoint, rest)
     }
 
     /// The adjoint of an assignment, and then the rest: the shadow of the target goes through the right side, and becomes 0.

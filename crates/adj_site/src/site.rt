@@ -52,8 +52,7 @@ impl<'a> Site<'a> {
         ensures variable { IfOk result (λ e. term_of e.value ≡ var (naming_of self.now (helper work number))) }
     {
         let name = self.names.helper(alloc, Role::Work, number)?;
-        let made = boxed(alloc, Expr::Var(name))?;
-        Ok(made)
+        boxed(alloc, Expr::Var(name))
     }
 
     /// The temporary of a number.
@@ -61,8 +60,7 @@ impl<'a> Site<'a> {
         ensures variable { IfOk result (λ e. term_of e.value ≡ var (naming_of self.now (helper temp number))) }
     {
         let name = self.names.helper(alloc, Role::Temp, number)?;
-        let made = boxed(alloc, Expr::Var(name))?;
-        Ok(made)
+        boxed(alloc, Expr::Var(name))
     }
 
     /// The shadow at a place.

@@ -53,8 +53,7 @@ pub fn pop(line: u32, place: Place) -> Stmt
 pub fn before(alloc: Global, stmt: Stmt, rest: Stmts) -> Result<Stmts, Memory>
     ensures step { IfOk result (λ c. code_of c ≡ step stmt.line (act_of stmt.act) (code_of rest)) }
 {
-    let all = rest.behind(alloc, stmt)?;
-    Ok(all)
+    rest.behind(alloc, stmt)
 }
 
 /// A place that becomes a value, and then the rest.
@@ -71,8 +70,7 @@ pub fn set_before(
         line,
         act: Act::Assign(target, Box::into_inner(e)),
     };
-    let code = before(alloc, stmt, rest)?;
-    Ok(code)
+    before(alloc, stmt, rest)
 }
 
 /// Statements in order, and then the rest.

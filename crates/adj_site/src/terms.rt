@@ -11,8 +11,7 @@ use std::alloc::Global;
 pub fn sum(alloc: Global, a: Box<Expr>, b: Box<Expr>) -> Result<Box<Expr>, Memory>
     ensures sum { IfOk result (λ x. term_of x.value ≡ bin plus (term_of a.value) (term_of b.value)) }
 {
-    let made = boxed(alloc, Expr::Bin(Op::Add, a, b))?;
-    Ok(made)
+    boxed(alloc, Expr::Bin(Op::Add, a, b))
 }
 
 /// An element.
@@ -21,6 +20,5 @@ pub(crate) fn element(alloc: Global, name: &Name, subs: &Exprs) -> Result<Box<Ex
 {
     let copied = name.copy(alloc)?;
     let places = subs.copy_boxed(alloc)?;
-    let made = boxed(alloc, Expr::Elem(copied, places))?;
-    Ok(made)
+    boxed(alloc, Expr::Elem(copied, places))
 }

@@ -30,8 +30,7 @@ impl<'a> Site<'a> {
     {
         let work = self.work_var(alloc, number)?;
         let more = sum(alloc, old, work)?;
-        let code = set_before(alloc, self.line, target, more, rest)?;
-        Ok(code)
+        set_before(alloc, self.line, target, more, rest)
     }
 
     // The work variable is added to a shadow of a scalar.
@@ -50,8 +49,7 @@ impl<'a> Site<'a> {
             name: shadow.copy(alloc)?,
             subs: Exprs::Empty,
         };
-        let code = self.grow(alloc, target, old, number, rest)?;
-        Ok(code)
+        self.grow(alloc, target, old, number, rest)
     }
 
     // The work variable is added to an element of a shadow.
@@ -70,8 +68,7 @@ impl<'a> Site<'a> {
             name: shadow.copy(alloc)?,
             subs: subs.copy(alloc)?,
         };
-        let code = self.grow(alloc, target, old, number, rest)?;
-        Ok(code)
+        self.grow(alloc, target, old, number, rest)
     }
 
     // The next work variable becomes the product of the work variable with a factor.
@@ -91,8 +88,7 @@ impl<'a> Site<'a> {
         };
         let work = self.work_var(alloc, number)?;
         let value = factor.times(alloc, work)?;
-        let code = set_before(alloc, self.line, target, value, rest)?;
-        Ok(code)
+        set_before(alloc, self.line, target, value, rest)
     }
 
     /// What becomes of the adjoint in the work variable of this number, and then the rest.

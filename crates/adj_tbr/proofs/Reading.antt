@@ -56,7 +56,7 @@ flat_if true c f xs = refl
 flat_if {Y = Y} false c f xs = flat_nothing Y xs
 
 module _ (k : Problem) (vss : List (List (List ℕ))) (taking : List Bool) (w : ℕ) (y : Covers k (scope_by vss (flag taking) k.units)) (f : Found) (useful : List Bool) (needed : ℕ → Vars) (t : Sides) (find : List ℕ → Option Row)
-    (finds : (x : List ℕ) → find x ≡ option_map (row_in vss) (find_part (parts k.units) x)) (read : seen t.read.now ≡ least_rows read_rule k.units) (written : seen t.written.now ≡ least_rows write_rule k.units) where
+    (finds : (x : List ℕ) → find x ≡ option_map (row_in vss) (find_part (parts k.units) x)) (read : seen t.read.now ≡ least_rows read_rule k.units) (written : seen t.written.now ≡ least_rows write_rule k.units) (unsplit : (n : ℕ) → k.split n ≡ false) where
   abbrev o : Scope
   o = scope_by vss (flag taking) k.units
 
@@ -92,7 +92,7 @@ module _ (k : Problem) (vss : List (List (List ℕ))) (taking : List Bool) (w : 
   module _ (h : Part) (s : Standing) (u : TakesPart k h) (c : Contains (statements_of h) s) where
     -- of an actual that a dummy is bound to
     abbrev is_call_read : Part → Passed → Bool
-    is_call_read g b = not (turned_by s.place b.2) && ((l.wanted g.number b.1 || (is_turn s.place && is_read k.units g.unit b.1)) && not (is_written k.units g.unit b.1))
+    is_call_read g b = not (turned_by s.place b.2) && ((l.wanted g.number b.1 || ((k.split s.number || is_turn s.place) && is_read k.units g.unit b.1)) && not (is_written k.units g.unit b.1))
 
     wanted_same : (g : Part) → TakesPart k g → (args : Terms) (b : Passed) → Contains (bound_from 0 g.unit.dummies args) b → is_wanted f t w s.place (row_in vss g) b ≡ is_call_read g b
     wanted_same g v args b m =
@@ -104,7 +104,8 @@ module _ (k : Problem) (vss : List (List (List ℕ))) (taking : List Bool) (w : 
         (λ j. flag (slice_index_or (read j) g.number []) (e j)) ∙ dummy_flag read_rule read_rises k.units g there q.0 b.1 q.2 in
         let z : flag (dummies_at t.written.now (row_in vss g)) b.0 ≡ is_written k.units g.unit b.1 =
         (λ j. flag (slice_index_or (written j) g.number []) (e j)) ∙ dummy_flag write_rule write_rises k.units g there q.0 b.1 q.2 in
-        λ j. not (turned_by s.place b.2) && ((told_here k vss taking w y f.entry.now g v (plain b.1) j || (is_turn s.place && r j)) && not (z j))
+        let n : false ≡ k.split s.number = sym (unsplit s.number) in
+        λ j. not (turned_by s.place b.2) && ((told_here k vss taking w y f.entry.now g v (plain b.1) j || ((n j || is_turn s.place) && r j)) && not (z j))
 
     found_images : (name : List ℕ) (args : Terms) → s.act ≡ call name args → (g : Option Part) → find_part (parts k.units) name ≡ g →
         Images IsRead (flat_map (at_actuals (reads_called k a l s)) (with_args args g)) (found_reads f t w (row_in vss h) s args (option_map (row_in vss) g))

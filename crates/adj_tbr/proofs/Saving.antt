@@ -1,6 +1,6 @@
 -- The numbers of what may be saved and is held are those of the definitions.
-use Rattle.std.proofs.Common.{◌≡◌, ℕ, List, [], ◌∷◌, ◌++◌, Bool, true, map, refl, sym, ap, ◌∙◌, subst, append-nil}
-use Rattle.std.specs.Prelude.{Contains, Option, Some, None, ◌||◌, flat_map, slice_index_or}
+use Rattle.std.proofs.Common.{◌≡◌, ℕ, List, [], ◌∷◌, ◌++◌, Bool, true, false, map, refl, sym, ap, ◌∙◌, subst, append-nil}
+use Rattle.std.specs.Prelude.{Contains, Option, Some, None, ◌||◌, ◌&&◌, not, flat_map, slice_index_or}
 use Rattle.std.specs.Option.{option_map}
 use Rattle.std.proofs.lemmas.List.Concat.{flat_map-cons}
 use Rattle.adj_tree.specs.Code.{Var, Terms, Act, assign, choose, loop, during, call, runtime}
@@ -16,7 +16,7 @@ use Rattle.adj_facts.specs.Activity.{Activity, IsPoint}
 use Rattle.adj_facts.specs.Live.{Liveness}
 use Rattle.adj_facts.specs.Uses.{site}
 use Rattle.adj_facts.specs.Rules.{Scope, Covers, list_of, with_args, called, may_save_by, may_save_called, may_save_list}
-use Rattle.adj_facts.specs.Variables.{handed_in, handed_in_actuals}
+use Rattle.adj_facts.specs.Variables.{list_if, handed_in, handed_in_actuals}
 use Rattle.adj_facts.proofs.Members.{if_has, if_only}
 use Rattle.adj_facts.proofs.Numbers.{part_is_there}
 use Rattle.adj_facts.proofs.OwnPoints.{own_before}
@@ -48,7 +48,7 @@ pub one_statement : (k : Problem) (f g : Part) (i : ℕ) → TakesPart k f → T
 one_statement k f g i t u p q = one_point k f g (point_before i) t u p q
 
 module _ (k : Problem) (vss : List (List (List ℕ))) (taking : List Bool) (w : ℕ) (y : Covers k (scope_by vss (flag taking) k.units)) (f : Found) (useful : List Bool) (needed : ℕ → Vars) (t : Sides) (held : List Bool) (find : List ℕ → Option Row)
-    (finds : (x : List ℕ) → find x ≡ option_map (row_in vss) (find_part (parts k.units) x)) (written : seen t.written.now ≡ least_rows write_rule k.units) where
+    (finds : (x : List ℕ) → find x ≡ option_map (row_in vss) (find_part (parts k.units) x)) (written : seen t.written.now ≡ least_rows write_rule k.units) (unsplit : (n : ℕ) → k.split n ≡ false) where
   abbrev o : Scope
   o = scope_by vss (flag taking) k.units
 
@@ -101,11 +101,15 @@ module _ (k : Problem) (vss : List (List (List ℕ))) (taking : List Bool) (w : 
     found_images name args e (Some g) p =
         let v : TakesPart k g = leads u (s, args, record { name = name; stands = c; act = e; finds = p }) in
         subst (λ z. Images IsKept z (found_saves held f t w (row_in vss h) s args (Some (row_in vss g)))) (sym (append-nil (may_save_called k a l s (g, args))) ∙ sym (flat_map-cons (may_save_called k a l s) (g, args) []))
-        (images_if (kept_by f s.number || adjointed_by f s.number)
+        (subst (λ b. Images IsKept (saves_by b) (found_saves held f t w (row_in vss h) s args (Some (row_in vss g)))) (sym (unsplit s.number)) (images_if (kept_by f s.number || adjointed_by f s.number)
         (subst (λ z. Images IsKept (map (λ x. (site (adjointed_by f s.number) s.number s.place, x)) z) (flat_map (saved_node held w (row_in vss h) (site (adjointed_by f s.number) s.number s.place)) (handed_in_actuals (dummies_at t.written.now (row_in vss g)) args)))
         (sym (handed_same name args e g v p))
         (images_map (λ x. (site (adjointed_by f s.number) s.number s.place, x)) (saved_node held w (row_in vss h) (site (adjointed_by f s.number) s.number s.place)) (handed_in_actuals (dummies_at t.written.now (row_in vss g)) args)
-        (λ x m. one_saved h (site (adjointed_by f s.number) s.number s.place) x u (site_point k o y a h s (adjointed_by f s.number) c)))))
+        (λ x m. one_saved h (site (adjointed_by f s.number) s.number s.place) x u (site_point k o y a h s (adjointed_by f s.number) c))))))
+      where
+        -- what the call may save, by whether it is to be split
+        saves_by : Bool → List (ℕ × Var)
+        saves_by b = list_if (not (b && adjointed_by f s.number) && (kept_by f s.number || adjointed_by f s.number)) (map (λ v. (site (adjointed_by f s.number) s.number s.place, v)) (handed_in k.units s.act))
 
     call_images : (b : Act) → s.act ≡ b → Images IsKept (flat_map (may_save_called k a l s) (called (parts k.units) b)) (call_saves held f t find w (row_in vss h) s b)
     call_images (assign x subs e) p = images_none

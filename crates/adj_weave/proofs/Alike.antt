@@ -8,7 +8,7 @@ use Rattle.adj_transpose.specs.Marked.{code_if}
 use Rattle.adj_transpose.specs.Program.{helpers_from}
 use Rattle.adj_reverse.specs.AdjointOf.{adjoint_where, works_in_where, temps_in_where}
 use Rattle.adj_reverse.specs.Plan.{Callee, Plan, names_of, actuals_named, found_or, group, snapshot_group, step_snapshot, Schedules, Step, step_in, reversed_by}
-use Rattle.adj_reverse.specs.Emission.{is_empty, push, pop, pushes, pops, literal, told_forward, told_backward, loop_forward, loop_backward, while_forward, while_backward, adjoint_call, forward_act_with, forward_with, backward_act_with, backward_with, cleared, adjoint_body_with}
+use Rattle.adj_reverse.specs.Emission.{is_empty, push, pop, pushes, pops, literal, told_forward, told_backward, loop_forward, loop_backward, while_forward, while_backward, with_shadows, adjoint_call, forward_act_with, forward_with, backward_act_with, backward_with, cleared, adjoint_body_with}
 use Rattle.adj_reverse.specs.ReversalCode.{reversed_forward, reversed_backward, row_forward, row_backward}
 use Rattle.adj_reverse.specs.Program.{works_act, works_used, temps_act, temps_used, depth_act_with, depth_used_with, tells_act_with, tells_some_with, goes_back_act_with, goes_back_with, any_step, has_slots, reverses_act_by, reverses_by, is_do, is_loop, helpers_among, loop_helpers_with, reversal_helpers, all_reversal_helpers, helpers_used_with}
 use Rattle.adj_weave.specs.Alike.{AreSameAt, AreSameIn, AreSameOver}
@@ -141,7 +141,8 @@ module _ (m n : Marks) (shadows : m.shadowed ≡ n.shadowed) where
           let given = names_of args in
           let snapshot = pops_same line (snapshot_group g given) in
           λ j. code_if (s.kept j || s.adjointed j)
-          (code_if (s.adjointed j) (snapshot j +++ one line (adjoint_call g given))
+          (if s.split j then one line (call g.back (with_shadows g.shadowed g.dummies given))
+          else code_if (s.adjointed j) (snapshot j +++ one line (adjoint_call g given))
           +++ pops_same line (group g.written (s.saved j) g.dummies given) j)
       backward_act_same i d line (runtime r) s h = refl
 
@@ -181,7 +182,8 @@ module _ (m n : Marks) (shadows : m.shadowed ≡ n.shadowed) where
           let given = names_of args in
           let snapshot = pushes_same line (snapshot_group g given) in
           λ j. code_if (s.kept j || s.adjointed j)
-          (pushes_same line (group g.written (s.saved j) g.dummies given) j
+          (if s.split j then one line (call g.forth args)
+          else pushes_same line (group g.written (s.saved j) g.dummies given) j
           +++ (code_if (s.adjointed j) (snapshot j)
           +++ code_if (s.kept j) (one line (call name args))))
       forward_act_same i d line (runtime r) s h = refl

@@ -4,8 +4,9 @@ use Rattle.std.specs.Prelude.{◌||◌, ◌&&◌, Option, Some, None}
 use Rattle.adj_tree.specs.Code.{name_eq, Terms, Mark, unmarked, with_count, count_from, Act, assign, choose, loop, during, call, runtime, Code, stop, step, Procedure}
 use Rattle.adj_transpose.specs.Marks.{Vars, next, behind}
 use Rattle.adj_reverse.specs.Plan.{names_of, found_or, Schedules, Step, step_in, reversed_by}
-use Rattle.adj_reverse.specs.Marking.{ProgramMarks}
-use Rattle.adj_reverse.specs.Program.{calls_act, calls_in, calls_some, turns_act, turns_in, turns_some, has_adjoint, is_kept_with, schedules_in}
+use Rattle.adj_reverse.specs.Marking.{ProgramMarks, SplitsNothing}
+use Rattle.adj_reverse.specs.Program.{calls_act, calls_in, calls_some, turns_act, turns_in, turns_some, has_adjoint, is_kept_with}
+use Rattle.adj_reverse.proofs.Unsplit.{kept_by_adjoints, unsplit_kept}
 use Rattle.adj_weave.specs.Marked.{reads_in}
 use Rattle.adj_weave.specs.Orders.{only_called, turned, is_plain_call}
 
@@ -194,9 +195,13 @@ module _ (f g : ℕ → Bool → Bool) (n : List ℕ) where
 
 -- ---- the calls that adjoints make of units as they are
 
-pub plain_calls : (b : Bool) (m : ProgramMarks) (ps : List Procedure) (head : Procedure) (n : List ℕ) → has_some (has_adjoint m ps head) (is_plain_call m b) n 0 ps ≡ is_kept_with b m ps head n
-plain_calls false m ps head n =
+by_adjoints : (b : Bool) (m : ProgramMarks) (ps : List Procedure) (head : Procedure) (n : List ℕ) → has_some (has_adjoint m ps head) (is_plain_call m b) n 0 ps ≡ kept_by_adjoints b m ps head n
+by_adjoints false m ps head n =
     (λ j. has_some (has_adjoint m ps head) (λ i turns. or_false (m.kept i) j) n 0 ps) ∙ some_same m.kept n (has_adjoint m ps head) 0 ps
-plain_calls true m ps head n =
+by_adjoints true m ps head n =
     some_either (λ i turns. m.kept i) (λ i turns. turns && m.adjointed i) n (has_adjoint m ps head) 0 ps
     ∙ (λ j. some_same m.kept n (has_adjoint m ps head) 0 ps j || some_turns (reads_in ps) m.adjointed n (has_adjoint m ps head) 0 ps j)
+
+-- where no call is split, these are all the calls of units as they are
+pub plain_calls : (b : Bool) (m : ProgramMarks) → SplitsNothing m → (ps : List Procedure) (head : Procedure) (n : List ℕ) → has_some (has_adjoint m ps head) (is_plain_call m b) n 0 ps ≡ is_kept_with b m ps head n
+plain_calls b m none ps head n = by_adjoints b m ps head n ∙ sym (unsplit_kept m none ps head b n)

@@ -80,6 +80,7 @@ module _ (f : Flow) (t : flags.Marks) (h : ℕ) (over : IsFlowOf (units_of f) h 
   same_at s c = record {
     kept = refl;
     adjointed = refl;
+    split = refl;
     saved = told_same t.saved.saved s.number (told.unit_at (scope_in f).parts (point_before s.number)) (at_point s c);
     varied = told_same t.activity.varied (point_before s.number) (told.unit_at (scope_in f).parts (point_before s.number)) (at_point s c);
   }
@@ -205,6 +206,7 @@ pub marks_found : (f : Flow) (t : flags.Marks) (k : ℕ) (p : row.Part) → At f
     (let m : Marks = record {
       kept = flag t.kept.kept;
       adjointed = λ i. flag t.activity.adjointed (2 * i);
+      split = λ i. false;
       saved = λ i v. view.flag_of t.saved.saved f.width i (view.place_of es v);
       varied = λ q v. view.flag_of t.activity.varied f.width q (view.place_of es v);
       useful = λ q v. view.flag_of t.activity.useful f.width q (view.place_of es v);
@@ -214,6 +216,7 @@ marks_found f t k p at es is =
     λ j. record {
       kept = flag t.kept.kept;
       adjointed = λ i. flag t.activity.adjointed (2 * i);
+      split = λ i. false;
       saved = λ i v. same t.saved.saved i v j;
       varied = λ q v. same t.activity.varied q v j;
       useful = λ q v. same t.activity.useful q v j;

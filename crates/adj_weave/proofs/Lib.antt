@@ -1,6 +1,8 @@
 -- Lists passed one by one, and units at their places.
 pub mod Walks
 pub mod Places
+-- The marks of a program split no call.
+pub mod Unsplit
 -- The names, numbers and calls of units in their order.
 pub mod Ordered
 pub mod Calling

@@ -9,8 +9,9 @@ use Rattle.adj_transpose.specs.Naming.{AreApart}
 use Rattle.adj_transpose.specs.Program.{unit_name}
 use Rattle.adj_names.specs.Variables.{variables}
 use Rattle.adj_reverse.specs.Names.{source_names, adjoint_after, adjoint_name}
-use Rattle.adj_reverse.specs.Marking.{ProgramMarks, first_from, first_statement, place_from}
+use Rattle.adj_reverse.specs.Marking.{ProgramMarks, SplitsNothing, first_from, first_statement, place_from}
 use Rattle.adj_reverse.specs.Program.{has_adjoint, made_names}
+use Rattle.adj_reverse.proofs.Unsplit.{unsplit_names}
 use Rattle.adj_sets.specs.Sets.{all_added}
 use Rattle.adj_sets.proofs.NameSets.{has-behind}
 use Rattle.adj_naming.proofs.Added.{SameNames, fresh_alike, once_same}
@@ -90,10 +91,10 @@ pub all_joined : (us : List Procedure) → flat_map (λ (xs : List (List ℕ)). 
 all_joined [] = refl
 all_joined (u ∷ us) = ap (λ z. variables u ++ z) (all_joined us)
 
--- the names of the adjoints that are emitted
-pub made_flagged : (m : ProgramMarks) (ps : List Procedure) (head : Procedure) (us : List Procedure) → flagged (map (λ u. has_adjoint m ps head u.name) us) (map (adjoint_name ps) us) ≡ made_names m ps head us
-made_flagged m ps head [] = refl
-made_flagged m ps head (u ∷ us) = go (has_adjoint m ps head u.name) (made_flagged m ps head us)
+-- the names of the adjoints that are emitted, where no call is split
+pub made_flagged : (m : ProgramMarks) → SplitsNothing m → (ps : List Procedure) (head : Procedure) (us : List Procedure) → flagged (map (λ u. has_adjoint m ps head u.name) us) (map (adjoint_name ps) us) ≡ made_names m ps head us
+made_flagged m none ps head [] = refl
+made_flagged m none ps head (u ∷ us) = go (has_adjoint m ps head u.name) (made_flagged m none ps head us) ∙ sym (unsplit_names m none ps head u us)
   where
     go : (b : Bool) → flagged (map (λ u. has_adjoint m ps head u.name) us) (map (adjoint_name ps) us) ≡ made_names m ps head us →
         (if b then adjoint_name ps u ∷ flagged (map (λ u. has_adjoint m ps head u.name) us) (map (adjoint_name ps) us) else flagged (map (λ u. has_adjoint m ps head u.name) us) (map (adjoint_name ps) us)) ≡ (if b then adjoint_name ps u ∷ made_names m ps head us else made_names m ps head us)

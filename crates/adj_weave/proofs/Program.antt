@@ -1,5 +1,5 @@
 -- Units emitted one by one.
-use Rattle.std.proofs.Common.{◌≡◌, ℕ, ◌+◌, ◌<◌, Bool, true, false, List, [], ◌∷◌, ◌++◌, map, length, drop, get_or, refl, sym, ap, ◌∙◌, subst, append_assoc, if◌then◌else◌}
+use Rattle.std.proofs.Common.{◌≡◌, ℕ, ◌+◌, ◌<◌, Bool, true, false, List, [], ◌∷◌, ◌++◌, map, length, drop, get_or, refl, sym, ap, ◌∙◌, subst, if◌then◌else◌}
 use Rattle.std.specs.Prelude.{◌||◌}
 use Rattle.std.proofs.lemmas.List.{length-map}
 use Rattle.adj_tree.specs.Code.{plain, name_eq, Procedure}
@@ -12,10 +12,11 @@ use Rattle.adj_transpose.specs.Marked.{names_in}
 use Rattle.adj_transpose.specs.Program.{unit_name, unit_at, unmarked}
 use Rattle.adj_transpose.proofs.Variables.{or_right}
 use Rattle.adj_reverse.specs.Names.{adjoint_name}
-use Rattle.adj_reverse.specs.Marking.{ProgramMarks}
+use Rattle.adj_reverse.specs.Marking.{ProgramMarks, SplitsNothing}
 use Rattle.adj_reverse.specs.Program as program
 use Rattle.adj_reverse.specs.Program.{has_adjoint, is_carried_with, all_units, adjoint_unit_with, emitted_adjoint_with, emitted_units_with, emitted_program_with}
 use Rattle.adj_reverse.proofs.HeadNames.{unmarked_in}
+use Rattle.adj_reverse.proofs.Unsplit.{unsplit_group}
 use Rattle.adj_reverse.proofs.Variables.{dummy_among}
 use Rattle.adj_naming.proofs.Places.{get_or_any}
 use Rattle.adj_weave.specs.declared.weave.Aim.{Aim}
@@ -66,21 +67,21 @@ pub cleared_have : (m : ProgramMarks) (u : Procedure) (marks : List Bool) → Ha
 cleared_have m u marks x h = let r = named_marked (m.shadowed u.name) x (unmarked u.dummies marks) h in (dummy_among u x (unmarked_in x u.dummies marks r.0), r.1)
 
 -- what is emitted for a unit comes before what is emitted for those behind it
-pub unit_emitted : (b : Bool) (m : ProgramMarks) (ps : List Procedure) (a : Aim) (e : Emits) (u : Procedure) (us : List Procedure) → e.carried ≡ is_carried_with b m ps (head_of a) u.name → e.adjointed ≡ has_adjoint m ps (head_of a) u.name →
+pub unit_emitted : (b : Bool) (m : ProgramMarks) → SplitsNothing m → (ps : List Procedure) (a : Aim) (e : Emits) (u : Procedure) (us : List Procedure) → e.carried ≡ is_carried_with b m ps (head_of a) u.name → e.adjointed ≡ has_adjoint m ps (head_of a) u.name →
     emitted_units_with b m ps (head_of a) a.vars.now a.outvars.now (u ∷ us) ≡ emitted_for b m e ps a u ++ emitted_units_with b m ps (head_of a) a.vars.now a.outvars.now us
-unit_emitted b m ps a e u us c d =
+unit_emitted b m none ps a e u us c d =
     let own = λ (f : Bool). if f then u ∷ [] else [] in
     let made = λ (f : Bool). if f then emitted_adjoint_with b m ps (head_of a) a.vars.now a.outvars.now u ∷ [] else [] in
     let rest = emitted_units_with b m ps (head_of a) a.vars.now a.outvars.now us in
-    (λ i. own (sym c i) ++ (made (sym d i) ++ rest)) ∙ sym (append_assoc (own e.carried) (made e.adjointed) rest)
+    ap (λ group. group ++ rest) (unsplit_group b m none ps (head_of a) a.vars.now a.outvars.now u) ∙ (λ i. (own (sym c i) ++ made (sym d i)) ++ rest)
 
 -- what is emitted for the units passed and for the next stands before what is emitted for those behind it
-pub emitted_on : (b : Bool) (m : ProgramMarks) (ps : List Procedure) (a : Aim) (us made longer : List units.Unit) (k : ℕ) (u : units.Unit) (e : Emits) → k < length us → u ≡ get_or us k u →
+pub emitted_on : (b : Bool) (m : ProgramMarks) → SplitsNothing m → (ps : List Procedure) (a : Aim) (us made longer : List units.Unit) (k : ℕ) (u : units.Unit) (e : Emits) → k < length us → u ≡ get_or us k u →
     map procedure_of longer ≡ map procedure_of made ++ emitted_for b m e ps a (procedure_of u) → e.carried ≡ is_carried_with b m ps (head_of a) u.name → e.adjointed ≡ has_adjoint m ps (head_of a) u.name →
     map procedure_of longer ++ emitted_units_with b m ps (head_of a) a.vars.now a.outvars.now (map procedure_of (drop (k + 1) us)) ≡ map procedure_of made ++ emitted_units_with b m ps (head_of a) a.vars.now a.outvars.now (map procedure_of (drop k us))
-emitted_on b m ps a us made longer k u e lt at is c d =
+emitted_on b m none ps a us made longer k u e lt at is c d =
     walked_on procedure_of (emitted_units_with b m ps (head_of a) a.vars.now a.outvars.now) (emitted_units_with b m ps (head_of a) a.vars.now a.outvars.now) us (map procedure_of made) (map procedure_of longer) (emitted_for b m e ps a (procedure_of u)) k u lt at is
-    (unit_emitted b m ps a e (procedure_of u) (map procedure_of (drop (k + 1) us)) c d)
+    (unit_emitted b m none ps a e (procedure_of u) (map procedure_of (drop (k + 1) us)) c d)
 
 -- only the head's adjoint sets shadows to 0
 pub other_adjoint : (b : Bool) (m : ProgramMarks) (ps : List Procedure) (head : Procedure) (vars outvars : List Bool) (u : Procedure) → name_eq head.name u.name ≡ false → adjoint_unit_with b m ps (all_units m ps head) u [] [] ≡ emitted_adjoint_with b m ps head vars outvars u
@@ -101,9 +102,9 @@ same_length b m ps h t told =
     ap length told.adjointed ∙ length-map ps (λ (u : Procedure). has_adjoint m ps h u.name) ∙ sym (length-map ps (adjoint_name ps)) ∙ sym (ap length told.adjoints)
 
 -- the names of all units
-pub all_are : (b : Bool) (m : ProgramMarks) (ps : List Procedure) (h : Procedure) (t : Table) → IsTable b m ps h t → (all : List (List ℕ)) → all ≡ map unit_name ps ++ flagged t.found.adjointed t.adjoints.items → all ≡ all_units m ps h
-all_are b m ps h t told all is =
-    is ∙ (λ i. map unit_name ps ++ flagged (told.adjointed i) (told.adjoints i)) ∙ ap (λ z. map unit_name ps ++ z) (made_flagged m ps h ps)
+pub all_are : (b : Bool) (m : ProgramMarks) → SplitsNothing m → (ps : List Procedure) (h : Procedure) (t : Table) → IsTable b m ps h t → (all : List (List ℕ)) → all ≡ map unit_name ps ++ flagged t.found.adjointed t.adjoints.items → all ≡ all_units m ps h
+all_are b m none ps h t told all is =
+    is ∙ (λ i. map unit_name ps ++ flagged (told.adjointed i) (told.adjoints i)) ∙ ap (λ z. map unit_name ps ++ z) (made_flagged m none ps h ps)
 
 -- what is told of each unit is told of each place of the units
 pub reaches : {B : Type 0} (f : Procedure → B) (us : List units.Unit) (xs : List B) (k : ℕ) → k < length us → xs ≡ map f (map procedure_of us) → k < length xs

@@ -9,11 +9,12 @@ use Rattle.adj_tree.proofs.Names.{name_refl, name_same}
 use Rattle.adj_transpose.specs.Naming.{AreApart}
 use Rattle.adj_transpose.specs.Program.{unit_name, unit_at}
 use Rattle.adj_transpose.proofs.Variables.{or_right}
-use Rattle.adj_reverse.specs.Marking.{ProgramMarks}
+use Rattle.adj_reverse.specs.Marking.{ProgramMarks, SplitsNothing}
 use Rattle.adj_reverse.specs.Program.{calls_some, reached_after, is_reached, has_adjoint, is_kept_with, is_carried_with}
 use Rattle.adj_reverse.specs.Source.{is_unit}
 use Rattle.adj_reverse.proofs.Rounds.{reached_last}
 use Rattle.adj_reverse.proofs.EmittedUnits.{found_there}
+use Rattle.adj_reverse.proofs.Unsplit.{unsplit_adjoint}
 use Rattle.adj_checked.proofs.Callings.{roots_reached}
 use Rattle.adj_facts.specs.Reached.{begins, leads}
 use Rattle.adj_facts.proofs.Members.{is_first, is_later, is_among, is_none, is_only}
@@ -146,9 +147,9 @@ module _ (ps : List Procedure) (apart : AreApart (map unit_name ps)) where
         (λ e. begins (whole j u h e))
         (λ e. let d = comes along (after k) j u h (some_same f u.name (after k) 0 ps ∙ e) in leads (rounds k d.place d.unit d.at d.inside) d.edge)
 
-    -- flags that say of each node whether a path meets it say of each unit whether it is reached
-    pub flags_are : (flags : List Bool) → length flags ≡ length ps → ((x : ℕ) → IsTrue (flag flags x) ↔ ReachedFrom (edges along) start x) → flags ≡ map (λ u. is_reached roots f ps u.name) ps
-    flags_are flags many exact = same_lists (λ (u : Procedure). is_reached roots f ps u.name) ps flags many one
+    -- flags that say of each node whether a path meets it say of each unit whether it is reached, or what is the same of units that are there
+    pub flags_are : (told : List ℕ → Bool) → ((n : List ℕ) → is_unit ps n ≡ true → told n ≡ is_reached roots f ps n) → (flags : List Bool) → length flags ≡ length ps → ((x : ℕ) → IsTrue (flag flags x) ↔ ReachedFrom (edges along) start x) → flags ≡ map (λ u. told u.name) ps
+    flags_are told same flags many exact = same_lists (λ (u : Procedure). told u.name) ps flags many (λ j u b h g. one j u b h g ∙ sym (same u.name (there j u h)))
       where
         one : (j : ℕ) (u : Procedure) (b : Bool) → At ps j u → At flags j b → b ≡ is_reached roots f ps u.name
         one j u b h g = same_truth b (after (length ps) u.name)
@@ -160,7 +161,7 @@ module _ (ps : List Procedure) (apart : AreApart (map unit_name ps)) where
 
   -- ---- the units that are emitted
 
-  module _ (m : ProgramMarks) (number : ℕ) (head : Procedure) (at : unit_at number ps ≡ head ∷ []) where
+  module _ (m : ProgramMarks) (none : SplitsNothing m) (number : ℕ) (head : Procedure) (at : unit_at number ps ≡ head ∷ []) where
     head_at : At ps number head
     head_at = number_at ps number head at
 
@@ -172,7 +173,7 @@ module _ (ps : List Procedure) (apart : AreApart (map unit_name ps)) where
         let same : head.name ≡ u.name = name_same head.name u.name e in
         let place : number ≡ j = one_place names number j u.name apart (subst (At names number) same (at_map unit_name ps number head head_at)) (at_map unit_name ps j u h) in
         is_first j number [] place)
-        flags many exact
+        (has_adjoint m ps head) (unsplit_adjoint m none ps head) flags many exact
 
     -- a flag says whether its unit is reached
     flag_at : (flags : List Bool) → flags ≡ map (λ u. has_adjoint m ps head u.name) ps → (j : ℕ) (u : Procedure) → At ps j u → flag flags j ≡ has_adjoint m ps head u.name
@@ -188,11 +189,11 @@ module _ (ps : List Procedure) (apart : AreApart (map unit_name ps)) where
         let o = ends_only adjointed (edges plain) j c in
         let s = step_of plain o.0 o.1 in
         let inside : has_adjoint m ps head s.from.name ≡ true = sym (flag_at adjointed are (o.0).0 s.from s.from_at) ∙ o.3 in
-        (s.to, subst (λ z. At ps z s.to) o.2 s.to_at, sym (plain_calls b m ps head s.to.name) ∙ s.calls (has_adjoint m ps head) inside))
+        (s.to, subst (λ z. At ps z s.to) o.2 s.to_at, sym (plain_calls b m none ps head s.to.name) ∙ s.calls (has_adjoint m ps head) inside))
         (λ j u h e.
-        let d = comes plain (has_adjoint m ps head) j u h (plain_calls b m ps head u.name ∙ e) in
+        let d = comes plain (has_adjoint m ps head) j u h (plain_calls b m none ps head u.name ∙ e) in
         ends_has adjointed (edges plain) (d.place, j) d.edge (flag_at adjointed are d.place d.unit d.at ∙ d.inside))
-        flags many exact
+        (is_carried_with b m ps head) (λ n there. refl) flags many exact
 
 -- the ends of edges are nodes
 pub ends_below : (n : ℕ) (flags : List Bool) (es : Edges) → AreBelow n es → All (λ x. x < n) (ends_of flags es)

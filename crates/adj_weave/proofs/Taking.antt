@@ -1,5 +1,5 @@
 -- The units whose adjoint is emitted take part.
-use Rattle.std.proofs.Common.{◌≡◌, ℕ, zero, suc, Bool, true, List, [], ◌∷◌, map, length, refl, sym, ap, ◌∙◌}
+use Rattle.std.proofs.Common.{◌≡◌, ℕ, zero, suc, Bool, true, false, List, [], ◌∷◌, map, length, refl, sym, ap, ◌∙◌}
 use Rattle.std.specs.Prelude.{◌||◌, ◌&&◌, Some}
 use Rattle.adj_tree.specs.Code.{name_eq, Act, assign, choose, loop, during, call, runtime, Code, stop, step, Procedure}
 use Rattle.adj_meaning.specs.Written.{find_unit}
@@ -11,6 +11,7 @@ use Rattle.adj_reverse.specs.Marking.{ProgramMarks, first_statement, place_from}
 use Rattle.adj_reverse.specs.Program.{calls_act, calls_in, calls_some, reached_after, has_adjoint}
 use Rattle.adj_reverse.proofs.Rounds.{either}
 use Rattle.adj_checked.proofs.Callings.{all_found}
+use Rattle.adj_checked.proofs.Pairs.{adjoint_part}
 use Rattle.adj_facts.specs.Parts.{Part, parts, statements_in, find_part}
 use Rattle.adj_facts.specs.Problem.{Problem, IsHead, TakesPart}
 use Rattle.adj_facts.proofs.Heads.{head_part}
@@ -63,7 +64,7 @@ reached_any roots f ps (suc k) n h =
 
 -- the problem of a head, without independents and dependents
 abbrev pub problem_for : List Procedure → ℕ → Problem
-problem_for ps h = record { units = ps; head = h; vars = []; outvars = [] }
+problem_for ps h = record { units = ps; head = h; vars = []; outvars = []; split = λ n. false }
 
 -- a unit has a part that takes part, with its numbers
 pub record IsTaking (ps : List Procedure) (h : ℕ) (u : Procedure) : Type 0 where
@@ -79,7 +80,7 @@ adjointed_takes m ps apart h head at u found has =
     let finds : find_part (parts ps) g.0.unit.name ≡ Some g.0 = part_found (statements_in 0 ps) 0 0 ps apart h g.0 g.1 in
     let is : IsHead (problem_for ps h) g.0 = record { is = g.1 } in
     let reached : reached_after (name_eq g.0.unit.name) any ps (length ps) u.name ≡ true =
-    ap (λ (v : Procedure). reached_after (name_eq v.name) any ps (length ps) u.name) g.2 ∙ reached_any (name_eq head.name) m.adjointed ps (length ps) u.name has in
+    ap (λ (v : Procedure). reached_after (name_eq v.name) any ps (length ps) u.name) g.2 ∙ reached_any (name_eq head.name) m.adjointed ps (length ps) u.name (adjoint_part m ps head u.name u found has) in
     let t = taking (problem_for ps h) (all_found ps apart) g.0 is finds (length ps) u.name u found reached in
     let there = placed ps u.name t.part t.finds in
     record { part = t.part; unit = some_same t.part.unit u (sym there.found ∙ found); takes = t.takes; number = there.number; first = there.first }

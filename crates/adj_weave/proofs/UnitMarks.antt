@@ -26,7 +26,7 @@ module _ (m : Marks) where
 
     self_over : (i : ℕ) (c : Code) → AreSameOver m m i c
     self_over i stop = tt
-    self_over i (step line a rest) = (record { kept = refl; adjointed = refl; saved = refl; varied = refl }, self_in i a, self_over (next i a) rest)
+    self_over i (step line a rest) = (record { kept = refl; adjointed = refl; split = refl; saved = refl; varied = refl }, self_in i a, self_over (next i a) rest)
 
 pub marks_alike : (m : Marked) (ps : List Procedure) (h : ℕ) → IsOver m ps h → AreApart (map unit_name ps) → (head : Procedure) → unit_at h ps ≡ head ∷ [] → (k : ℕ) (u : Procedure) → place_from 0 ps u.name ≡ k → find_unit ps u.name ≡ Some u → has_adjoint (program_marks m) ps head u.name ≡ true →
     AreAlike (unit_marks m k) (marks_in (program_marks m) u.name) (first_statement ps u.name) u.body

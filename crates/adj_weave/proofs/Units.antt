@@ -17,7 +17,7 @@ use Rattle.adj_transpose.proofs.Naming.{own-name}
 use Rattle.adj_transpose.proofs.Variables.{or_false}
 use Rattle.adj_reverse.specs.Plan.{Plan, Schedules}
 use Rattle.adj_reverse.specs.Names.{adjoint_name}
-use Rattle.adj_reverse.specs.Marking.{ProgramMarks, first_statement, plan_in, arrays_of}
+use Rattle.adj_reverse.specs.Marking.{ProgramMarks, SplitsNothing, first_statement, plan_in, arrays_of}
 use Rattle.adj_reverse.specs.Program.{helpers_used_with, adjoint_names_with, adjoint_unit_with, schedules_in}
 use Rattle.adj_reverse.specs.Emission.{adjoint_body_with}
 use Rattle.adj_checked.proofs.Lists.{Each, each_found}
@@ -85,7 +85,7 @@ shadows_each : (m : ProgramMarks) (ps us : List Procedure) → AllHaveShadows m 
 shadows_each m ps [] h = tt
 shadows_each m ps (u ∷ us) h = (h.0, shadows_each m ps us h.1)
 
-module _ (sb : Bool) (m : ProgramMarks) (ps : List Procedure) (checked : IsCheckedBySome ps) (shadowed : AllHaveShadows m ps ps) (u : Procedure) (found : find_unit ps u.name ≡ Some u) (units at_turn at_end : List (List ℕ)) (turned : HaveShadows m u at_turn) (ended : HaveShadows m u at_end) where
+module _ (sb : Bool) (m : ProgramMarks) (unsplit : SplitsNothing m) (ps : List Procedure) (checked : IsCheckedBySome ps) (shadowed : AllHaveShadows m ps ps) (u : Procedure) (found : find_unit ps u.name ≡ Some u) (units at_turn at_end : List (List ℕ)) (turned : HaveShadows m u at_turn) (ended : HaveShadows m u at_end) where
   abbrev a : Vars
   a = m.shadowed u.name
 
@@ -120,7 +120,7 @@ module _ (sb : Bool) (m : ProgramMarks) (ps : List Procedure) (checked : IsCheck
   over =
       let s = sound.0 in
       let n = sound.1 in
-      let f = follows_by m ps (all_named checked.rules ps checked.checked) u (schedules_in sb ps) (first_statement ps u.name) u.body s.calls shadows in
+      let f = follows_by m ps (all_named checked.rules ps checked.checked) u unsplit (schedules_in sb ps) (first_statement ps u.name) u.body s.calls shadows in
       body_holds sb m ps units u s.written s.kernel s.free s.calls f n.dummies_once n.extent_dummy n.extents n.stands at_turn at_end (marked at_turn turned) (marked at_end ended) Any f
 
   -- the names of the text are kept

@@ -7,6 +7,7 @@ use Rattle.adj_transpose.specs.Marks.{Marks, next, behind, point_before}
 pub record AreSameAt (m n : Marks) (i : ℕ) : Type 0 where
   pub kept : m.kept i ≡ n.kept i
   pub adjointed : m.adjointed i ≡ n.adjointed i
+  pub split : m.split i ≡ n.split i
   pub saved : m.saved i ≡ n.saved i
   pub varied : m.varied (point_before i) ≡ n.varied (point_before i)
 

@@ -23,7 +23,7 @@ use Rattle.adj_weave.specs.declared.marks.Marked.TheVariants as by
 abbrev pub scope_in : Flow → Scope
 scope_in f = scope_by (variables_of f) (flag f.taking) (units_of f)
 
--- the marks of the program
+-- the marks of the program: no call is split
 abbrev pub marks_told : Flow → flags.Marks → ProgramMarks
 marks_told f t =
     let a = activity_of f t.activity in
@@ -31,6 +31,7 @@ marks_told f t =
     record {
       kept = l.kept;
       adjointed = a.adjointed;
+      split = λ i. false;
       saved = saved_of f t.saved;
       varied = a.varied;
       useful = a.useful;
@@ -45,6 +46,7 @@ marks_at f t k =
     record {
       kept = flag t.kept.kept;
       adjointed = λ i. flag t.activity.adjointed (2 * i);
+      split = λ i. false;
       saved = λ i v. flag_at t.saved.saved (node_in f.width vs (i, v));
       varied = λ p v. flag_at t.activity.varied (node_in f.width vs (p, v));
       useful = λ p v. flag_at t.activity.useful (node_in f.width vs (p, v));

@@ -13,8 +13,7 @@ use adj_sets::NameSet;
 use adj_tree::{Act, Mark, Memory, Name, Stmts, Unit};
 use std::alloc::Global;
 
-/// A call: the number of its statement, the places of the unit that calls and of the one that is called, and whether it is all that the
-/// turns of a marked loop do.
+/// A call: the number of its statement, the places of the calling and of the called unit, and whether it is the step call of a marked loop.
 #[derive(Clone, Copy, PartialEq, Eq, Debug)]
 pub struct Call {
     pub number: usize,
@@ -27,7 +26,7 @@ pub struct Call {
 #[derive(Clone, Copy, PartialEq, Eq, Debug)]
 pub enum Counting {
     All,
-    /// Those that adjoints make of units as they are: kept ones, and where marked loops are reversed adjointed ones in their turns.
+    /// Calls of units as they are: kept calls, and adjointed step calls where marked loops are reversed.
     Plain(MarkedLoops),
     Adjointed,
 }
@@ -96,24 +95,16 @@ fn add_act(
     match act {
         Act::If(_, a, b) => {
             let second = add_list(names, from, inside, a, calls)?;
-            let last = add_list(names, from, second, b, calls)?;
-            Ok(last)
+            add_list(names, from, second, b, calls)
         }
         Act::Loop(_, _, _, _, body, mark) => match turned(body, mark) {
             Some(name) => {
                 add_call(names, from, inside, name, true, calls)?;
-                let last = after(inside)?;
-                Ok(last)
+                after(inside)
             }
-            None => {
-                let last = add_list(names, from, inside, body, calls)?;
-                Ok(last)
-            }
+            None => { add_list(names, from, inside, body, calls) }
         },
-        Act::While(_, body) => {
-            let last = add_list(names, from, inside, body, calls)?;
-            Ok(last)
-        }
+        Act::While(_, body) => { add_list(names, from, inside, body, calls) }
         Act::Call(name, _) => {
             add_call(names, from, number, name, false, calls)?;
             Ok(inside)

@@ -1,4 +1,4 @@
-//! Which units are emitted (docs/EMITTED.md, "The program").
+//! Which units are emitted (docs/EMITTED.md, "The units").
 
 ghost use Rattle.std.specs.Prelude.{◌≡◌, ◌∷◌, [], ◌<◌, ◌+◌, ◌^◌, IfOk, map, length};
 ghost use Rattle.adj_tree.specs.Code.{Procedure};

@@ -1,4 +1,4 @@
-//! By which marks a program's adjoint is emitted (docs/EMITTED.md, "Sweeps of every statement").
+//! By which marks a program's adjoint is emitted (docs/EMITTED.md, "Sweeps").
 
 ghost use Rattle.std.specs.Prelude.{◌≡◌, ◌+◌, ◌*◌, ◌<◌, IfOk, length};
 ghost use Rattle.adj_tree.specs.Code.{plain};
@@ -50,7 +50,7 @@ impl<'a> FoundMarks<'a> {
         Ok(flag)
     }
 
-    // What the sweeps of calls know of a dummy of a unit, whether it is read aside.
+    // What the sweeps of calls know of a dummy of a unit. Whether the unit reads it is filled in later.
     fn dummy(&self, unit: usize, name: &Name, written: bool) -> Result<Dummy, Memory>
         requires unit { unit < length self.now.flow.now.parts.items }
         ensures dummy { IfOk result (λ d. d ≡ dummy_told self.now.flow.now self.now.marks.now unit name.now written) }
@@ -123,7 +123,7 @@ impl<'a> Marked<'a> {
         }
     }
 
-    /// What the sweeps of calls know of a dummy of the unit of a number, which the unit writes or not, whether it is read aside.
+    /// What the sweeps of calls know of a dummy of the unit of a number. Whether the unit reads it is filled in later.
     pub fn dummy(&self, unit: usize, name: &Name, written: bool) -> Result<Dummy, Memory>
         requires unit { HasUnits self.now (unit + 1) }
         ensures dummy { IfOk result (λ d. d ≡ unit_dummy self.now unit name.now written) }

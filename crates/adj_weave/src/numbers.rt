@@ -27,13 +27,9 @@ fn next(number: usize, act: &Act) -> Result<usize, Memory>
     match act {
         Act::If(_, a, b) => {
             let second = behind(inside, a)?;
-            let number = behind(second, b)?;
-            Ok(number)
+            behind(second, b)
         }
-        Act::Loop(_, _, _, _, body, _) | Act::While(_, body) => {
-            let number = behind(inside, body)?;
-            Ok(number)
-        }
+        Act::Loop(_, _, _, _, body, _) | Act::While(_, body) => { behind(inside, body) }
         Act::Assign(_, _) | Act::Call(_, _) | Act::Run(_) => Ok(inside),
     }
 }

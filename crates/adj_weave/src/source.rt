@@ -1,4 +1,4 @@
-//! The names of the source, and those of the adjoints (docs/EMITTED.md, "Names").
+//! The names of the source, and those of the adjoints (docs/EMITTED.md, "Fresh names").
 
 ghost use Rattle.std.specs.Prelude.{◌≡◌, ◌++◌, ◌∷◌, [], ℕ, List, IfOk, OnOk, map, flat_map, length};
 ghost use Rattle.adj_tree.specs.View.{procedure_of};

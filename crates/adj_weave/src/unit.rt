@@ -1,4 +1,4 @@
-//! The adjoint of a unit (docs/EMITTED.md, "The unit").
+//! The adjoint of a unit (docs/EMITTED.md, "The units").
 
 ghost use Rattle.std.specs.Prelude.{◌≡◌, IfOk};
 ghost use Rattle.adj_tree.specs.View.{procedure_of};
@@ -21,9 +21,8 @@ use adj_sets::NameSet;
 use adj_tree::{Items, Memory, Name, Unit};
 use std::alloc::Global;
 
-/// What the adjoints of the units of a program share: the units, the marks, how marked loops are gone through, what is known where one
-/// is called, the names of all
-/// units and of all adjoints that are emitted, and what no variable that is made may be called.
+/// What the adjoints of all units share: the units, their marks, whether marked loops are reversed, what is known of called units, the
+/// names of the units and of the adjoints that are emitted, and the names that no new variable may have.
 #[derive(Clone, Copy)]
 pub struct Shared<'a> {
     pub units: &'a [Unit],

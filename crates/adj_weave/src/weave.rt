@@ -1,4 +1,4 @@
-//! The emitted program (docs/EMITTED.md, "The program").
+//! The emitted program (docs/EMITTED.md, "The units").
 
 ghost use Rattle.std.specs.Prelude.{◌≡◌, ◌++◌, ◌∷◌, [], ◌<◌, true, IfOk, OnOk, map, length};
 ghost use Rattle.adj_tree.specs.Code.{Procedure};

@@ -61,8 +61,7 @@ fn least(alloc: Global, side: Side, units: &[Unit]) -> Result<Vec<Flags>, Memory
 pub fn written_dummies(alloc: Global, units: &[Unit]) -> Result<Vec<Flags>, Memory>
     ensures written { IfOk result (λ v. v.items ≡ least_rows write_rule (map procedure_of units.now)) }
 {
-    let rows = least(alloc, Side::Written, units)?;
-    Ok(rows)
+    least(alloc, Side::Written, units)
 }
 
 /// Which of its dummies each unit reads, in order: those in its expressions, conditions, bounds and subscripts, the actuals of dummies that a
@@ -70,6 +69,5 @@ pub fn written_dummies(alloc: Global, units: &[Unit]) -> Result<Vec<Flags>, Memo
 pub fn read_dummies(alloc: Global, units: &[Unit]) -> Result<Vec<Flags>, Memory>
     ensures read { IfOk result (λ v. v.items ≡ least_rows read_rule (map procedure_of units.now)) }
 {
-    let rows = least(alloc, Side::Read, units)?;
-    Ok(rows)
+    least(alloc, Side::Read, units)
 }

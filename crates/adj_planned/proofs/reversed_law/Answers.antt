@@ -1,4 +1,4 @@
-use Rattle.adj_planned.proofs.Planned.{is_reversed, reversed_written, reversed_sound}
+use Rattle.adj_planned.proofs.Planned.{is_reversed, kernel_spends, reversed_written, reversed_sound}
 use Rattle.adj_planned.proofs.OwnNames.{own_names}
 use Rattle.adj_planned.proofs.reversed_law.Goals as goal
 
@@ -13,3 +13,6 @@ returns-clause-sound c = reversed_sound
 
 pub returns-clause-own_names : goal.returns-clause-own_names
 returns-clause-own_names c = own_names
+
+pub returns-clause-spends : goal.returns-clause-spends
+returns-clause-spends c = kernel_spends

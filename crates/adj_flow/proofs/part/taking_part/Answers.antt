@@ -1,5 +1,5 @@
 -- The calls that are listed are the steps, and the head is the beginning.
-use Rattle.std.proofs.Common.{◌≡◌, ◌<◌, ◌∷◌, [], length, map, sym, ◌∙◌, subst, arith, refl}
+use Rattle.std.proofs.Common.{◌≡◌, ◌<◌, ◌∷◌, [], length, map, sym, ◌∙◌, subst, arith, refl, false}
 use Rattle.std.proofs.lemmas.List.{length-map}
 use Rattle.adj_tree.specs.View.{procedure_of}
 use Rattle.adj_facts.specs.Problem.{Problem}
@@ -11,14 +11,14 @@ use Rattle.adj_flow.proofs.part.taking_part.Goals as goal
 
 pub reach-requires-clause-edges : goal.reach-requires-clause-edges
 reach-requires-clause-edges c =
-    let k : Problem = record { units = map procedure_of c.args.units.now; head = c.args.head; vars = []; outvars = [] } in
+    let k : Problem = record { units = map procedure_of c.args.units.now; head = c.args.head; vars = []; outvars = []; split = λ n. false } in
     let n : length (map procedure_of c.args.units.now) ≡ length c.args.units.now = length-map c.args.units.now procedure_of in
     let l : c.args.head < length (map procedure_of c.args.units.now) = omega (arith, c.requires.head) in
     subst (λ es. AreBelow (length c.args.units.now) es) (sym (c.as_slice.ensures.value ∙ c.in_ok-edges.ensures.edges)) (subst (λ m. AreBelow m (calls_from (map procedure_of c.args.units.now) 0 0 (map procedure_of c.args.units.now))) n (calls_within k l))
 
 pub returns-clause-exact : goal.returns-clause-exact
 returns-clause-exact c g h =
-    let k : Problem = record { units = map procedure_of c.args.units.now; head = c.args.head; vars = []; outvars = [] } in
+    let k : Problem = record { units = map procedure_of c.args.units.now; head = c.args.head; vars = []; outvars = []; split = λ n. false } in
     let l : c.args.head < length (map procedure_of c.args.units.now) = omega (arith, length-map c.args.units.now procedure_of, c.requires.head) in
     let e = c.as_slice.ensures.value ∙ c.in_ok-edges.ensures.edges in
     let x = exact_by_number (calls_listed k l) g g.number (h, refl) in

@@ -1,5 +1,5 @@
 -- What the flags tell is live.
-use Rattle.std.proofs.Common.{◌≡◌, ◌↔◌, ℕ, ◌+◌, ◌-◌, ◌*◌, List, map, length, sym, subst, ◌∙◌, arith}
+use Rattle.std.proofs.Common.{◌≡◌, ◌↔◌, ℕ, ◌+◌, ◌-◌, ◌*◌, List, map, length, refl, sym, subst, ◌∙◌, arith}
 use Rattle.std.specs.Prelude.{IsTrue}
 use Rattle.std.proofs.lemmas.List.{length-map}
 use Rattle.adj_tree.specs.View.{procedure_of}
@@ -34,6 +34,6 @@ returns c =
     record {
       live = record {
         needed = told facts (scope_by (variables_of fl) (flag fl.taking) (units_of fl)) (w + 2);
-        live = told_live (problem_of fl c.args.head.now) (variables_of fl) fl.numbers fl.taking w is.numbers is.taking lengths is.width is.variables rs is.rows reads writes c.requires.read c.requires.written b facts kepts entries exact kept_by entry_by;
+        live = told_live (problem_of fl c.args.head.now) (variables_of fl) fl.numbers fl.taking w is.numbers is.taking lengths is.width is.variables rs is.rows reads writes c.requires.read c.requires.written b (λ n. refl) facts kepts entries exact kept_by entry_by;
       };
     }

@@ -1,5 +1,5 @@
 -- What the flags tell is what is held and saved.
-use Rattle.std.proofs.Common.{◌≡◌, ℕ, [], map, length, sym, subst, ◌∙◌}
+use Rattle.std.proofs.Common.{◌≡◌, ℕ, [], map, length, refl, sym, subst, ◌∙◌}
 use Rattle.std.specs.Prelude.{◌↔◌, IsTrue}
 use Rattle.std.proofs.lemmas.List.{length-map}
 use Rattle.adj_tree.specs.Code.{plain}
@@ -52,6 +52,7 @@ returns c =
       same = is.rows;
       read = c.requires.read;
       written = c.requires.written;
+      unsplit = λ n. refl;
       reached = reached;
       found = found;
     } in

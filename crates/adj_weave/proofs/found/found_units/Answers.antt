@@ -9,6 +9,7 @@ use Rattle.adj_reach.specs.Edges.{Edges, AreBelow, ReachedFrom, flag}
 use Rattle.adj_weave.specs.Marked.{program_marks}
 use Rattle.adj_helpers.specs.Steps.{are_reversed}
 use Rattle.adj_weave.specs.Orders.{listed_from, edges_of, is_plain_call, ends_of}
+use Rattle.adj_weave.proofs.Unsplit.{splits_nothing}
 use Rattle.adj_weave.proofs.Reached.{edges_below, adjointed_are, carried_are, ends_below}
 use Rattle.adj_weave.proofs.found.found_units.Goals as goal
 
@@ -59,7 +60,7 @@ returns-clause-adjointed c h at =
     let apart : AreApart (map unit_name ps) = subst AreApart c.requires.names c.requires.apart in
     let calls = c.as_slice-calls.ensures.value ∙ c.in_ok-listed.ensures.calls ∙ ap (λ ns. listed_from ns 0 0 ps) c.requires.names in
     let es = c.as_slice.ensures.value ∙ c.in_ok-adjoint_edges.ensures.edges ∙ ap (edges_of (λ i turns. m.adjointed i)) calls in
-    adjointed_are ps apart m c.args.head h at c.in_ok-adjointed.adjointed (c.in_ok-adjointed.ensures.count ∙ sym n)
+    adjointed_are ps apart m (splits_nothing c.args.marked.now) c.args.head h at c.in_ok-adjointed.adjointed (c.in_ok-adjointed.ensures.count ∙ sym n)
     (same_paths c.as_slice.result.now (edges_of (λ i turns. m.adjointed i) (listed_from (map unit_name ps) 0 0 ps)) (c.args.head ∷ []) (c.args.head ∷ []) c.in_ok-adjointed.adjointed es refl c.in_ok-adjointed.ensures.exact)
 
 pub returns-clause-carried : goal.returns-clause-carried
@@ -73,5 +74,5 @@ returns-clause-carried c h at =
     let kept = c.as_slice-3.ensures.value ∙ c.in_ok-plain_edges.ensures.edges ∙ ap (edges_of plain) calls in
     let es = c.as_slice-4.ensures.value ∙ c.in_ok-all_edges.ensures.edges ∙ ap (edges_of (λ i turns. true)) calls in
     let called = c.as_slice-5.ensures.value ∙ c.in_ok-called.ensures.ends ∙ (λ i. ends_of (c.as_slice-2.ensures.members i) (kept i)) in
-    carried_are ps apart m c.args.head h at (are_reversed c.args.loops) c.in_ok-adjointed.adjointed c.in_ok-carried.carried (returns-clause-adjointed c h at) (c.in_ok-carried.ensures.count ∙ sym n)
+    carried_are ps apart m (splits_nothing c.args.marked.now) c.args.head h at (are_reversed c.args.loops) c.in_ok-adjointed.adjointed c.in_ok-carried.carried (returns-clause-adjointed c h at) (c.in_ok-carried.ensures.count ∙ sym n)
     (same_paths c.as_slice-4.result.now (edges_of (λ i turns. true) (listed_from (map unit_name ps) 0 0 ps)) c.as_slice-5.result.now (ends_of c.in_ok-adjointed.adjointed (edges_of plain (listed_from (map unit_name ps) 0 0 ps))) c.in_ok-carried.carried es called c.in_ok-carried.ensures.exact)

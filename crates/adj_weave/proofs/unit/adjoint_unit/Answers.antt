@@ -18,6 +18,7 @@ use Rattle.adj_naming.specs.Table.{table_of, named_by}
 use Rattle.adj_marking.specs.View.{marks_of}
 use Rattle.adj_weave.specs.Marked.{reads_in}
 use Rattle.adj_weave.specs.Shared.{sources, marks_for, reversed_for}
+use Rattle.adj_weave.proofs.Unsplit.{splits_nothing}
 use Rattle.adj_weave.proofs.Alike.{helpers_same, alike_body}
 use Rattle.adj_weave.proofs.Units.{helpers_different, shadowed_apart, arrays_are, body_same, unit_is}
 use Rattle.adj_weave.proofs.unit.adjoint_unit.Goals as goal
@@ -45,6 +46,7 @@ returns c =
     let u = procedure_of g.unit.now in
     let ps = sources s in
     let m = marks_for s in
+    let unsplit = splits_nothing s.marked in
     let units = s.names.now in
     let vs = variables u in
     let at_turn = c.args.at_turn.now in
@@ -71,11 +73,11 @@ returns c =
     ∙ (λ j. let p : Plan = record { marks = t; arrays = arrays_are u c.in_ok-arrays.arrays c.in_ok-arrays.ensures.arrays j; callees = callees } in rename (named_by n) (adjoint_body_with sc p (c.requires.part.number j) u.line u.body at_turn at_end))
     ∙ ap (rename (named_by n)) (alike_body t w shadows sc (arrays_of u) callees i u.line u.body at_turn at_end alike.over) in
     record {
-      unit = unit_is sb m ps c.requires.shared.checked c.requires.shared.shadows u c.requires.part.found units at_turn at_end c.requires.at_turn c.requires.at_end
+      unit = unit_is sb m unsplit ps c.requires.shared.checked c.requires.shared.shadows u c.requires.part.found units at_turn at_end c.requires.at_turn c.requires.at_end
           c.in_ok-copy.field-0 (table_of n) c.new.result (map variable_of c.as_slice-helpers.result.now) (map declaration_of c.new-2.result) (code_of c.in_ok-body.body)
           (c.in_ok-copy.ensures.same ∙ c.requires.part.adjoint) table
           (c.new.ensures.members ∙ c.in_ok-dummies.ensures.names ∙ (λ j. shadows_behind (shadows j) (table_of n) (c.as_slice-2.ensures.members j)))
           hs
           (ap (map declaration_of) c.new-2.ensures.members ∙ c.in_ok-decls.ensures.declarations ∙ (λ j. declared_behind (shadows j) (table_of n) u (c.requires.part.variables j) ++ declared_helpers (table_of n) u.line (map variable_of c.as_slice-helpers.result.now)))
-          (body ∙ body_same sb m ps c.requires.shared.checked c.requires.shared.shadows u c.requires.part.found units at_turn at_end c.requires.at_turn c.requires.at_end n table);
+          (body ∙ body_same sb m unsplit ps c.requires.shared.checked c.requires.shared.shadows u c.requires.part.found units at_turn at_end c.requires.at_turn c.requires.at_end n table);
     }

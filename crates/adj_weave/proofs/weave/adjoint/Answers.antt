@@ -9,6 +9,7 @@ use Rattle.adj_helpers.specs.Steps.{are_reversed}
 use Rattle.adj_weave.specs.Marked.{program_marks, KnowsUnits, IsOver}
 use Rattle.adj_weave.specs.Shared.{IsCheckedBySome}
 use Rattle.adj_weave.proofs.Known.{over_knows}
+use Rattle.adj_weave.proofs.Unsplit.{splits_nothing}
 use Rattle.adj_weave.proofs.Program.{program_emitted, unit_stands, head_there, same_length, all_are}
 use Rattle.adj_weave.proofs.Places.{at_number}
 use Rattle.adj_weave.proofs.weave.adjoint.Goals as goal
@@ -74,7 +75,7 @@ emitted-requires-clause-ready c =
         callees = c.in_ok-callees.ensures.known;
         taken = c.in_ok-taken.ensures.names;
       };
-      names = c.as_slice-listed.ensures.value ∙ all_are (are_reversed c.args.loops) (program_marks c.args.marked) ps (procedure_of h) c.in_ok-table.table told c.in_ok-all.all.items c.in_ok-all.ensures.names;
+      names = c.as_slice-listed.ensures.value ∙ all_are (are_reversed c.args.loops) (program_marks c.args.marked) (splits_nothing c.args.marked) ps (procedure_of h) c.in_ok-table.table told c.in_ok-all.all.items c.in_ok-all.ensures.names;
     }
 
 pub emitted-requires-clause-flow : goal.emitted-requires-clause-flow

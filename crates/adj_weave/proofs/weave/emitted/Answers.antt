@@ -13,6 +13,7 @@ use Rattle.adj_weave.proofs.Places.{find_at}
 use Rattle.adj_weave.proofs.Ordered.{unit_place}
 use Rattle.adj_weave.proofs.Known.{has_fewer, knows_has, over_knows}
 use Rattle.adj_weave.proofs.UnitMarks.{marks_alike}
+use Rattle.adj_weave.proofs.Unsplit.{splits_nothing}
 use Rattle.adj_weave.proofs.Program.{told_at, told_number, told_flag, unit_stands, emitted_on, reaches}
 use Rattle.adj_weave.proofs.weave.emitted.Goals as goal
 
@@ -82,7 +83,7 @@ loop-k-preserved c =
     let at = unit_stands s.units.now k u c.loop-k-test.true c.index-units-k.is in
     let carried = c.as_slice-carried.result.now in
     let adjointed = c.as_slice-adjointed.result.now in
-    emitted_on (reversed_for s) m ps a s.units.now c.loop-k.made.items c.add_unit.new.made.items k u (record { carried = get_or carried k false; adjointed = get_or adjointed k false }) c.loop-k-test.true c.index-units-k.is
+    emitted_on (reversed_for s) m (splits_nothing s.marked) ps a s.units.now c.loop-k.made.items c.add_unit.new.made.items k u (record { carried = get_or carried k false; adjointed = get_or adjointed k false }) c.loop-k-test.true c.index-units-k.is
     c.in_ok-add_unit.ensures.units
     (told_flag (λ (v : Procedure). is_carried_with (reversed_for c.args.shared.now) m ps (head_of a) v.name) ps k (procedure_of u) carried (get_or carried k false) at (c.as_slice-carried.ensures.members ∙ c.requires.table.carried) refl)
     (told_flag (λ (v : Procedure). has_adjoint m ps (head_of a) v.name) ps k (procedure_of u) adjointed (get_or adjointed k false) at (c.as_slice-adjointed.ensures.members ∙ c.requires.table.adjointed) refl)

@@ -7,6 +7,7 @@ use Rattle.adj_transpose.specs.Marked.{code_if}
 use Rattle.adj_reverse.specs.Plan.{names_of}
 use Rattle.adj_reverse.specs.Emission.{pushes, pops}
 use Rattle.adj_marking.specs.View.{marks_of}
+use Rattle.adj_marking.proofs.Unsplit.{never_split}
 use Rattle.adj_emission.specs.declared.actuals.Group.TheVariants.{Save, Snapshot}
 use Rattle.adj_emission.specs.Actuals.{paired, is_in, chosen, all_with_shadows}
 use Rattle.adj_helpers.specs.Callees.{Knows}
@@ -39,7 +40,7 @@ returns c =
       sweeps = λ sc callees reads d h.
           let p = plan_of c.args.self.now callees in
           call_written sc r (λ y. refl) p d line c.args.name.now c.args.actuals.now old _ k (reads c.args.name.now) (subst (λ z. Knows z (callees c.args.name.now) (reads c.args.name.now)) (sym c.find-callee.ensures.found) (h c.args.name.now))
-          (sym c.emitted.ensures.emitted ∙ c.if-not-emitted.false) c.in_ok-after.ensures.next s1 (in_order (code_of c.in_ok-pushed.pushed)) t
+          (sym c.emitted.ensures.emitted ∙ c.if-not-emitted.false) (never_split c.args.self.now.marks.now old.number) c.in_ok-after.ensures.next s1 (in_order (code_of c.in_ok-pushed.pushed)) t
           (c.in_ok-saved.ensures.pushed callees ∙ ap (λ z. in_order (code_of old.forward) +++ pushes p line (chosen (is_in saved Save) z)) made)
           (c.in_ok-pushed.ensures.pushed callees ∙ ap (λ z. s1 +++ code_if (m.adjointed old.number) (pushes p line (chosen (is_in saved Snapshot) z))) made)
           c.in_ok-forward.ensures.kept
