@@ -7,4 +7,5 @@ pub mod DataCodes
 pub mod Given
 pub mod Fitting
 pub mod Printed
+pub mod Sample
 pub mod Marked

@@ -8,7 +8,7 @@ use adj_tree::Memory;
 use std::alloc::{AllocError, AllocFailed};
 use thiserror::Error;
 
-/// A fault of the data, by its code and line (docs/DATA.md, "Faults"), or want of memory.
+/// A fault of the data, by its code and line (docs/DATA.md, "Faults"), or out of memory.
 #[derive(Clone, Copy, Debug, PartialEq, Eq, Error)]
 pub enum DataError {
     /// The code, and the line: 0 where something isn't there.

@@ -16,6 +16,7 @@ mod laws;
 mod marks;
 mod numbers;
 mod print;
+mod sampling;
 mod slots;
 
 pub use checking::check_values;
@@ -26,3 +27,4 @@ pub use items::{are_digits, is_name};
 pub use laws::data_fit;
 pub use marks::zeros_like;
 pub use print::{print_values, push_numbers};
+pub use sampling::{sample, sample_field, sample_snapshots, sample_steps};

@@ -20,6 +20,7 @@ use Rattle.adj_transpose.specs.MarkedAdjoint.{shadow_flags}
 use Rattle.adj_reverse.specs.Marking.{ProgramMarks}
 use Rattle.adj_emitted.specs.Shadowed.{AllHaveShadows}
 use Rattle.adj_kernel.specs.Kernel.{EachUnit}
+use Rattle.adj_kernel.specs.Weights.{WeighsAtMost}
 use Rattle.adj_kernel.specs.Stepped.{kernel_of}
 use Rattle.adj_kernel.specs.Sound.{IsAccepted}
 use Rattle.adj_accepted.specs.Accepted.{IsAdjointOfWith}
@@ -30,6 +31,9 @@ use Rattle.adj_readable.specs.Reading.{OrTooMany}
 use Rattle.adj_limits.specs.Limits.{EmittedIsRunnableWith}
 use Rattle.adj_planned.specs.Planned.{kernel_problem, lines_by, reversed_for, marks_by}
 use Rattle.adj_planned.proofs.Planned as planned
+use Rattle.adj_cost.specs.Calls.{CallsWithin}
+use Rattle.adj_spent.specs.KernelSpent.{KernelSpendsAtMost}
+use Rattle.adj_spent.proofs.KernelSpending.{round_bound_is_kept}
 use Rattle.adj_planned.proofs.OwnNames.{own_names}
 use Rattle.adj_analysed.specs.MarkedLines.{program_lines, AreLinesApart}
 use Rattle.adj_answer.specs.Answer.{Answer}
@@ -65,7 +69,7 @@ module _ (ps : List Procedure) (name : List ℕ) (h : Head) (accepted : IsAccept
       let x = known.emitted in
       let few : EachUnit (λ v. length (variables v) ≤ most_numbered) (kernel_of ps) = few_variables (kernel_of ps) (fits_widest (kernel_of ps) fits) in
       let shadows : AllHaveShadows m (kernel_of ps) (kernel_of ps) = exact_shadows run_rules (kernel_problem ps name h.vars h.outvars) (kernel_checked ps accepted) x.activity x.analysed.active m refl (λ n. refl) in
-      subst (λ z. OrTooMany (λ found. unlined found ≡ unlined z) (program_of Run (text_of z))) (sym x.emitted) (runnable bytes ps given accepted few m shadows (unit_number (kernel_of ps) name) h.vars h.outvars)
+      subst (λ z. OrTooMany (λ found. unlined found ≡ unlined z) (program_of Run (text_of z))) (sym x.emitted) (runnable bytes ps given accepted few m (λ i. refl) shadows (unit_number (kernel_of ps) name) h.vars h.outvars)
 
   module _ (apart : AreLinesApart (program_lines ps)) (u : Procedure) (found : find_unit ps name ≡ Some u) where
     pub adjoins : (others : List Procedure) → unlined qs ≡ unlined others → IsAdjointOfWith true (lines_by ps m) m ps name h.vars h.outvars others
@@ -78,11 +82,15 @@ module _ (ps : List Procedure) (name : List ℕ) (h : Head) (accepted : IsAccept
     runs_for others same =
         let x = known.emitted in
         let like = ap unlined (sym x.emitted) ∙ same in
+        let bound : (weight calls : ℕ) → EachUnit (λ u. WeighsAtMost weight u.body) (kernel_of ps) → CallsWithin (kernel_of ps) name calls → KernelSpendsAtMost (lines_by ps m) m ps name weight calls others =
+        λ weight calls weighs few. planned.kernel_spends ps accepted apart weight weighs name u found calls few h.vars h.outvars x.activity x.liveness x.saved x.held x.analysed others like in
         record {
           adjoins = adjoins others same;
           own_names = own_names ps accepted m;
           shape = accepted_has_shape true ps accepted name u found h.vars h.outvars x.activity x.liveness x.saved x.held x.analysed others like;
           spends = λ none weight calls weighs few. planned.reversed_spends ps accepted none weight weighs name u found calls few h.vars h.outvars x.activity x.liveness x.saved x.held x.analysed others like;
+          spends_reversed = bound;
+          spends_within = λ weight count calls weighs have few. round_bound_is_kept (lines_by ps m) m ps name weight count calls others (bound weight calls weighs few);
         }
 
     -- the shadows of the head are those of what it becomes

@@ -19,7 +19,7 @@ use Rattle.adj_tree.specs.Lines.{unlined}
 use Rattle.adj_text.proofs.TextUnlined.{one_text}
 use Rattle.adj_names.specs.Fault.{run_rules, first_of}
 use Rattle.adj_names.specs.HeadFaults.{first_head_fault, faults_of_head, flags_found, unit_number, head_of}
-use Rattle.adj_reverse.specs.Marking.{ProgramMarks}
+use Rattle.adj_reverse.specs.Marking.{ProgramMarks, SplitsNothing}
 use Rattle.adj_names.specs.Variables.{variables}
 use Rattle.adj_symbols.specs.Numbers.{Fits, widest}
 use Rattle.adj_symbols.specs.Checked.{Known, AreFacts}
@@ -29,6 +29,7 @@ use Rattle.adj_analysed.specs.MarkedLines.{program_lines, AreLinesApart}
 use Rattle.adj_planned.proofs.ReadLines.{read_apart}
 use Rattle.adj_emitted.specs.Shadowed.{AllHaveShadows}
 use Rattle.adj_kernel.specs.Kernel.{EachUnit}
+use Rattle.adj_kernel.specs.Weights.{WeighsAtMost}
 use Rattle.adj_kernel.specs.Stepped.{kernel_of}
 use Rattle.adj_kernel.specs.Sound.{IsAccepted}
 use Rattle.adj_accepted.specs.Accepted.{IsAdjointOfWith}
@@ -38,6 +39,9 @@ use Rattle.adj_readable.specs.Reading.{OrTooMany}
 use Rattle.adj_limits.specs.Limits.{EmittedIsRunnableWith}
 use Rattle.adj_planned.specs.Planned.{kernel_problem, lines_by, reversed_for, marks_by}
 use Rattle.adj_planned.proofs.Planned as planned
+use Rattle.adj_cost.specs.Calls.{CallsWithin}
+use Rattle.adj_spent.specs.KernelSpent.{KernelSpendsAtMost}
+use Rattle.adj_spent.proofs.KernelSpending.{round_bound_is_kept}
 use Rattle.adj_planned.proofs.OwnNames.{own_names}
 use Rattle.adj_shape.specs.Accepted.{HasKernelShape}
 use Rattle.adj_spent.specs.Spent.{SpendsAtMost}
@@ -116,7 +120,8 @@ module _ (r : Request) (ps : List Procedure) (h : Head) (sound : first_head_faul
       let few : EachUnit (λ v. length (variables v) ≤ most_numbered) (kernel_of ps) = few_variables (kernel_of ps) (fits_widest (kernel_of ps) back.fits) in
       let shadows : AllHaveShadows back.marks (kernel_of ps) (kernel_of ps) =
       subst (λ m. AllHaveShadows m (kernel_of ps) (kernel_of ps)) (sym x.are) (exact_shadows run_rules (kernel_problem ps r.head h.vars h.outvars) (kernel_checked ps accepted) x.activity x.analysed.active (marks_by ps x.activity x.liveness x.saved x.held) refl (λ n. refl)) in
-      let runs = runnable bytes ps given accepted few back.marks shadows (unit_number (kernel_of ps) r.head) h.vars h.outvars in
+      let unsplit : SplitsNothing back.marks = subst SplitsNothing (sym x.are) (λ i. refl) in
+      let runs = runnable bytes ps given accepted few back.marks unsplit shadows (unit_number (kernel_of ps) r.head) h.vars h.outvars in
       subst (λ (z : List ℕ). OrTooMany (λ found. unlined found ≡ unlined back.reads.0) (program_of Run z)) (sym back.is_text)
       (other_lines (reversed_for ps r.head h.vars h.outvars back.marks) back.reads.0 (sym back.reads.2) (program_of Run (text_of (reversed_for ps r.head h.vars h.outvars back.marks))) runs)
 
@@ -126,6 +131,10 @@ module _ (r : Request) (ps : List Procedure) (h : Head) (sound : first_head_faul
       let x = back.exact in
       let m = marks_by ps x.activity x.liveness x.saved x.held in
       let same : unlined (reversed_for ps r.head h.vars h.outvars m) ≡ unlined back.reads.0 = ap (λ n. unlined (reversed_for ps r.head h.vars h.outvars n)) (sym x.are) ∙ sym back.reads.2 in
+      let bound : (weight calls : ℕ) → EachUnit (λ u. WeighsAtMost weight u.body) (kernel_of ps) → CallsWithin (kernel_of ps) r.head calls → KernelSpendsAtMost (lines_by ps back.marks) back.marks ps r.head weight calls back.reads.0 =
+      λ weight calls weighs most.
+      subst (λ n. KernelSpendsAtMost (lines_by ps n) n ps r.head weight calls back.reads.0) (sym x.are)
+      (planned.kernel_spends ps accepted (lines_apart bytes ps few reads) weight weighs r.head there.unit there.found calls most h.vars h.outvars x.activity x.liveness x.saved x.held x.analysed back.reads.0 same) in
       record {
         source = ps;
         reads = reads;
@@ -150,6 +159,8 @@ module _ (r : Request) (ps : List Procedure) (h : Head) (sound : first_head_faul
         spends = λ none weight calls weighs most.
             subst (λ n. SpendsAtMost n ps r.head weight calls back.reads.0) (sym x.are)
             (planned.reversed_spends ps accepted none weight weighs r.head there.unit there.found calls most h.vars h.outvars x.activity x.liveness x.saved x.held x.analysed back.reads.0 same);
+        spends_reversed = bound;
+        spends_within = λ weight count calls weighs have most. round_bound_is_kept (lines_by ps back.marks) back.marks ps r.head weight count calls back.reads.0 (bound weight calls weighs most);
       }
     where
       vars_is : h.vars ≡ flags_of r.vars there.unit.dummies

@@ -85,6 +85,8 @@ pub data Command : Type 0 where
   Check : Asked → List (List ℕ) → List (List ℕ) → Command
   -- steps and snapshots
   Schedule : ℕ → ℕ → Command
+  -- the number of a sample
+  Sample : ℕ → Command
 
 -- the options of a command are absent
 abbrev pub lacks : List Text → List Row → Bool
@@ -146,12 +148,24 @@ abbrev pub numbers_asked : List Text → Option Command
 numbers_asked (l ∷ s ∷ []) = two_numbers (number_argument 0 100000 l) (number_argument 1 64 s)
 numbers_asked _ = None
 
+-- the options of a command that takes numbers alone are absent
+abbrev pub lacks_options : List Row → Bool
+lacks_options rows = lacks (codes "head" ∷ codes "vars" ∷ codes "outvars" ∷ codes "budget" ∷ codes "tape" ∷ []) rows
+
 -- schedule STEPS SNAPSHOTS, at most 100000 steps and from 1 to 64 snapshots
 abbrev pub schedule_asked : List Row → Option Command
 schedule_asked rows =
-    if lacks (codes "head" ∷ codes "vars" ∷ codes "outvars" ∷ codes "budget" ∷ codes "tape" ∷ []) rows
+    if lacks_options rows
     then option_and_then numbers_asked (all_of (codes "numbers") rows)
     else None
+
+abbrev pub number_asked : List Text → Option Command
+number_asked (n ∷ []) = option_map Sample (number_argument 0 18446744073709551615 n)
+number_asked _ = None
+
+-- sample NUMBER, at most 2^64 - 1
+abbrev pub sample_asked : List Row → Option Command
+sample_asked rows = if lacks_options rows then option_and_then number_asked (all_of (codes "numbers") rows) else None
 
 -- the place where commands are listed
 abbrev pub command_asked : Text → List Row → Option Command
@@ -161,7 +175,8 @@ command_asked name rows =
     else (if bytes_eq name (codes "run") then run_asked rows
     else (if bytes_eq name (codes "check") then check_asked rows
     else (if bytes_eq name (codes "schedule") then schedule_asked rows
-    else None))))
+    else (if bytes_eq name (codes "sample") then sample_asked rows
+    else None)))))
 
 abbrev pub asked : List Row → Option Command
 asked rows = option_and_then (λ name. command_asked name rows) (first_of (codes "command") rows)

@@ -17,7 +17,9 @@ use Rattle.adj_kernel.specs.Kernel.{EachUnit}
 use Rattle.adj_kernel.specs.Stepped.{kernel_of}
 use Rattle.adj_kernel.specs.Weights.{WeighsAtMost}
 use Rattle.adj_cost.specs.RunTheorem.{CallsAtMost}
+use Rattle.adj_cost.specs.Calls.{CallsWithin}
 use Rattle.adj_spent.specs.Spent.{SpendsAtMost}
+use Rattle.adj_spent.specs.KernelSpent.{HaveVariables, KernelSpendsAtMost, KernelSpendsWithin}
 use Rattle.adj_accepted.specs.Accepted.{HaveOwnNames, IsAdjointOfWith}
 use Rattle.adj_planned.specs.Planned.{HasNoMarks, lines_by, reversed_for}
 use Rattle.adj_shape.specs.Accepted.{HasKernelShape}
@@ -59,6 +61,9 @@ pub record RunsAdjoint (m : ProgramMarks) (ps : List Procedure) (name : List ℕ
   pub own_names : HaveOwnNames (lines_by ps m)
   pub shape : HasKernelShape true m ps name vars outvars qs
   pub spends : HasNoMarks ps → (weight calls : ℕ) → EachUnit (λ u. WeighsAtMost weight u.body) ps → CallsAtMost ps name calls → SpendsAtMost m ps name weight calls qs
+  -- whether loops are marked or not, for each statement of the kernel's run of the head
+  pub spends_reversed : (weight calls : ℕ) → EachUnit (λ u. WeighsAtMost weight u.body) (kernel_of ps) → CallsWithin (kernel_of ps) name calls → KernelSpendsAtMost (lines_by ps m) m ps name weight calls qs
+  pub spends_within : (weight count calls : ℕ) → EachUnit (λ u. WeighsAtMost weight u.body) (kernel_of ps) → HaveVariables count (kernel_of ps) → CallsWithin (kernel_of ps) name calls → KernelSpendsWithin (lines_by ps m) m ps name weight count calls qs
 
 -- the answer to the data behind a text, which tells of no trap but the head's own
 pub record IsChecked (ps : List Procedure) (h : Head) (r : Asked) (bytes : List ℕ) (a : Answer) : Type 0 where

@@ -15,7 +15,9 @@ use Rattle.adj_reverse.specs.Marking.{ProgramMarks}
 use Rattle.adj_kernel.specs.Kernel.{EachUnit}
 use Rattle.adj_kernel.specs.Weights.{WeighsAtMost}
 use Rattle.adj_cost.specs.RunTheorem.{CallsAtMost}
+use Rattle.adj_cost.specs.Calls.{CallsWithin}
 use Rattle.adj_spent.specs.Spent.{SpendsAtMost}
+use Rattle.adj_spent.specs.KernelSpent.{HaveVariables, KernelSpendsAtMost, KernelSpendsWithin}
 use Rattle.adj_accepted.specs.Accepted.{HaveOwnNames, IsAdjointOfWith}
 use Rattle.adj_planned.specs.Planned.{HasNoMarks, lines_by, reversed_for}
 use Rattle.adj_shape.specs.Accepted.{HasKernelShape}
@@ -63,6 +65,12 @@ pub record WritesAdjoint (r : Request) (bytes written : List ℕ) : Type 0 where
   -- Where no loop of the source is marked: by what a statement of the source weighs at most, and by how many calls a chain from the head has at most,
   -- its run takes so many statements for each one of the source's own run: within 40 * weight * (calls + 2), and two for each dummy of the head.
   pub spends : HasNoMarks source → (weight calls : ℕ) → EachUnit (λ u. WeighsAtMost weight u.body) source → CallsAtMost source r.head calls → SpendsAtMost marks source r.head weight calls adjoint
+  -- Whether loops are marked or not: by what a statement of the kernel weighs at most, by how many calls a chain from the head has in it at most, and by a
+  -- number of repetitions that serves each run of a reversed loop that the kernel's run of the head told of, its run takes so many statements for
+  -- each one of the kernel's run: (30 + 2 * (calls + 1) * (repetitions + 1)) * weight, and two for each dummy of the head.
+  pub spends_reversed : (weight calls : ℕ) → EachUnit (λ u. WeighsAtMost weight u.body) (kernel_of source) → CallsWithin (kernel_of source) r.head calls → KernelSpendsAtMost (lines_by source marks) marks source r.head weight calls adjoint
+  -- with the number of variables that a unit of the kernel has at most: within 100 * (weight + variables) * (calls + 2) * (repetitions + 2)
+  pub spends_within : (weight count calls : ℕ) → EachUnit (λ u. WeighsAtMost weight u.body) (kernel_of source) → HaveVariables count (kernel_of source) → CallsWithin (kernel_of source) r.head calls → KernelSpendsWithin (lines_by source marks) marks source r.head weight count calls adjoint
 
 -- where the answer is done, the kernel fits, and its text reads as the program that is emitted by the marks of exact analyses
 pub record ReadsWritten (ps : List Procedure) (name : List ℕ) (h : Head) (text : List ℕ) : Type 0 where

@@ -4,5 +4,6 @@ pub mod Planned
 pub mod Answer
 pub mod Headline
 pub mod Check
+pub mod Sample
 pub mod Views
 pub mod Tool

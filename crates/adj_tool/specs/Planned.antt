@@ -1,5 +1,5 @@
 -- What `adjoint` and `plan` write by the analyses of a kernel. (docs/ANALYSES.md)
-use Rattle.std.specs.Prelude.{◌≡◌, ℕ, List, Bool, true, Some, slice_get}
+use Rattle.std.specs.Prelude.{◌≡◌, ℕ, List, Bool, true, Some, slice_get, false}
 use Rattle.adj_tree.specs.Code.{Procedure}
 use Rattle.adj_tree.specs.declared.marks.Head.{Head}
 use Rattle.adj_text.specs.ReadsAs.{ReadsAs}
@@ -23,7 +23,7 @@ use Rattle.adj_tool.specs.declared.task.Wanted.TheVariants as wanted
 
 -- a program is asked for a head
 abbrev pub problem_for : List Procedure → Head → Problem
-problem_for us h = record { units = us; head = h.unit; vars = h.vars; outvars = h.outvars }
+problem_for us h = record { units = us; head = h.unit; vars = h.vars; outvars = h.outvars; split = λ n. false }
 
 -- it is what is emitted for some units by the marks that exact analyses give, where marked loops are reversed by schedules
 pub record IsEmittedFor (us : List Procedure) (h : Head) (qs : List Procedure) : Type 0 where
@@ -32,13 +32,13 @@ pub record IsEmittedFor (us : List Procedure) (h : Head) (qs : List Procedure) :
   pub saved : ℕ → Vars
   pub held : ℕ → Vars
   pub analysed : Analysed (problem_for us h) activity liveness saved held
-  pub emitted : qs ≡ emitted_program_with true (program_facts us activity liveness saved held).marks us h.unit h.vars h.outvars
+  pub emitted : qs ≡ emitted_program_with true (program_facts us (λ n. false) activity liveness saved held).marks us h.unit h.vars h.outvars
 
 -- the same, with the name of the adjoint of the head and the flags of its dummies that have a shadow
 pub record IsKnownFor (us : List Procedure) (h : Head) (qs : List Procedure) (adjoint : List ℕ) (shadowed : List Bool) : Type 0 where
   pub emitted : IsEmittedFor us h qs
   pub named : (u : Procedure) → slice_get us h.unit ≡ Some u → adjoint ≡ adjoint_name us u
-  pub shadows : (u : Procedure) → slice_get us h.unit ≡ Some u → shadowed ≡ shadow_flags ((program_facts us emitted.activity emitted.liveness emitted.saved emitted.held).marks.shadowed u.name) u.dummies
+  pub shadows : (u : Procedure) → slice_get us h.unit ≡ Some u → shadowed ≡ shadow_flags ((program_facts us (λ n. false) emitted.activity emitted.liveness emitted.saved emitted.held).marks.shadowed u.name) u.dummies
 
 -- these are the marks that exact analyses of a program's kernel give, for the unit of a name as its head
 pub record AreExact (ps : List Procedure) (name : List ℕ) (h : Head) (m : ProgramMarks) : Type 0 where

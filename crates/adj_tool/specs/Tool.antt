@@ -4,9 +4,10 @@ use Rattle.adj_io.specs.Bytes.{IsAtEnd, extended_by, followed_by}
 use Rattle.adj_answer.specs.Answer.{Answer, usage}
 use Rattle.adj_running.specs.Running as running
 use Rattle.adj_running.specs.Running.{Asked, AnswersRun}
-use Rattle.adj_tool.specs.Arguments.{Command, Request, Adjoint, Plan, Run, Check, Schedule}
+use Rattle.adj_tool.specs.Arguments.{Command, Request, Adjoint, Plan, Run, Check, Schedule, Sample}
 use Rattle.adj_tool.specs.Headline.{WritesAdjoint}
 use Rattle.adj_tool.specs.Check.{AnswersCheck, ChecksAdjoint}
+use Rattle.adj_tool.specs.Sample.{AnswersSample, SamplesAdjoint}
 use Rattle.adj_tool.specs.Answer.{schedule_answer, AnswersWanted, most_bytes}
 use Rattle.adj_tool.specs.declared.task.Wanted.TheVariants as wanted
 
@@ -21,6 +22,7 @@ pub record AnswersInput (most : ℕ) (Answers : List ℕ → Answer → Type 0) 
 abbrev pub IsAnswer : Option Command → Option (List ℕ) → Option (List ℕ) → Answer → Type 0
 IsAnswer None before after a = (a ≡ usage) × (after ≡ before)
 IsAnswer (Some (Schedule l s)) before after a = (a ≡ schedule_answer l s) × (after ≡ before)
+IsAnswer (Some (Sample n)) before after a = AnswersSample n a × (after ≡ before)
 IsAnswer (Some (Adjoint r)) before after a = AnswersInput most_bytes (AnswersWanted wanted.Adjoint r) before after a
 IsAnswer (Some (Plan r)) before after a = AnswersInput most_bytes (AnswersWanted wanted.Plan r) before after a
 IsAnswer (Some (Run r)) before after a = AnswersInput running.most_bytes (AnswersRun r) before after a
@@ -33,6 +35,7 @@ ReadsInput (Some (Plan r)) = Unit {0}
 ReadsInput (Some (Run r)) = Unit {0}
 ReadsInput (Some (Check r vars outvars)) = Unit {0}
 ReadsInput (Some (Schedule l s)) = ⊥
+ReadsInput (Some (Sample n)) = ⊥
 ReadsInput None = ⊥
 
 -- the answer was written whole, and the status is its own
@@ -92,12 +95,20 @@ pub record ComparesInput (r : Asked) (vars outvars : List (List ℕ)) (before af
   pub to_end : IsAtEnd after
   pub checks : ChecksAdjoint r vars outvars bytes text
 
+-- what was written is the short answer of a check of the sample, of which the text tells equal products
+pub record Samples (n : ℕ) (written_before written_after : Option (List ℕ)) : Type 0 where
+  pub text : List ℕ
+  pub whole : written_after ≡ extended_by written_before text
+  pub samples : SamplesAdjoint n text
+
 -- the answer's text tells equal products, where they were asked for
 abbrev pub IsComparedTo : Option Command → Option (List ℕ) → Option (List ℕ) → List ℕ → Type 0
 IsComparedTo (Some (Check r vars outvars)) before after text = ComparesInput r vars outvars before after text
+IsComparedTo (Some (Sample n)) before after text = SamplesAdjoint n text
 IsComparedTo _ before after text = Unit {0}
 
--- the theorem of `check`
+-- the theorem of `check`, and of `sample`
 abbrev pub IsComparison : Option Command → Option (List ℕ) → Option (List ℕ) → Option (List ℕ) → Option (List ℕ) → Type 0
 IsComparison (Some (Check r vars outvars)) before after written_before written_after = Compares r vars outvars before after written_before written_after
+IsComparison (Some (Sample n)) before after written_before written_after = Samples n written_before written_after
 IsComparison _ before after written_before written_after = Unit {0}

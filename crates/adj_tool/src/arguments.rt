@@ -1,7 +1,7 @@
 //! The arguments of a command, as `clap` reads them.
 
 ghost use Rattle.std.specs.Prelude.{◌≡◌, ◌≤◌, false, not, is_some, ℕ, List, ◌∷◌, IfOk, IfSome, Option, option_map, option_and_then, map, codes};
-ghost use Rattle.adj_tool.specs.Arguments.{bare_program, program, command_rule, numbers_rule, option_rule, lacks, name_of, names_of, request_asked, adjoint_asked, plan_asked, number_or, limits_asked, run_asked, check_asked, schedule_asked, numbers_asked, command_asked, asked, taken};
+ghost use Rattle.adj_tool.specs.Arguments.{bare_program, program, command_rule, numbers_rule, option_rule, lacks, name_of, names_of, request_asked, adjoint_asked, plan_asked, number_or, limits_asked, run_asked, check_asked, lacks_options, schedule_asked, numbers_asked, sample_asked, number_asked, command_asked, asked, taken};
 ghost use Rattle.adj_running.specs.Views.{asked_of};
 ghost use Rattle.adj_tool.specs.Views.{command_of, some_request};
 ghost use Rattle.clap.specs.Simple.{app_of, with_rule};
@@ -240,16 +240,44 @@ fn schedule_numbers(numbers: &[&str]) -> Option<Task>
     }
 }
 
+fn sample_number(numbers: &[&str]) -> Option<Task>
+    ensures { option_map command_of result ≡ number_asked (map (λ v. v.now) numbers.now) }
+{
+    match numbers {
+        [number] => {
+            let number = number_argument(0, 18_446_744_073_709_551_615, number.as_bytes())?;
+            Some(Task::Sample(number))
+        }
+        _ => None,
+    }
+}
+
+// Whether the options of a command that takes numbers alone are absent.
+fn lacks_options(matches: &ArgMatches<'_>) -> bool
+    ensures { result ≡ lacks_options (rows_of (found_of matches.now)) }
+{
+    is_absent(matches, "head")
+        && is_absent(matches, "vars")
+        && is_absent(matches, "outvars")
+        && is_absent(matches, "budget")
+        && is_absent(matches, "tape")
+}
+
+// sample NUMBER
+fn sample_task(matches: &ArgMatches<'_>) -> Option<Task>
+    ensures { option_map command_of result ≡ sample_asked (rows_of (found_of matches.now)) }
+{
+    if !lacks_options(matches) {
+        return None;
+    }
+    sample_number(values(matches, "numbers")?)
+}
+
 // schedule STEPS SNAPSHOTS
 fn schedule_task(matches: &ArgMatches<'_>) -> Option<Task>
     ensures { option_map command_of result ≡ schedule_asked (rows_of (found_of matches.now)) }
 {
-    let lacks = is_absent(matches, "head")
-        && is_absent(matches, "vars")
-        && is_absent(matches, "outvars")
-        && is_absent(matches, "budget")
-        && is_absent(matches, "tape");
-    if !lacks {
+    if !lacks_options(matches) {
         return None;
     }
     schedule_numbers(values(matches, "numbers")?)
@@ -281,6 +309,9 @@ fn task_asked(alloc: Global, matches: &ArgMatches<'_>) -> Result<Option<Task>, M
     }
     if name == "schedule" {
         return Ok(schedule_task(matches));
+    }
+    if name == "sample" {
+        return Ok(sample_task(matches));
     }
     Ok(None)
 }

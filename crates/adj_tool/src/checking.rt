@@ -130,6 +130,22 @@ fn answer_bytes(alloc: Global, request: &CheckRequest, bytes: &[u8]) -> Result<A
     }
 }
 
+/// The answer of `check` to a text with its data.
+pub(crate) fn answer_text(
+    alloc: Global,
+    request: &CheckRequest,
+    bytes: &[u8],
+) -> Result<Answer, Memory>
+    ensures answer { IfOk result (λ a. AnswersCheck (asked_of request.now.run) request.now.vars request.now.outvars bytes.now (answer_of a)) }
+    ensures compared { IfOk result (λ a. IsCompared (asked_of request.now.run) request.now.vars request.now.outvars bytes.now (answer_of a)) }
+{
+    if bytes.len() > MOST_BYTES {
+        refused(alloc, Refusal::passed(4_194_304, 0))
+    } else {
+        answer_bytes(alloc, request, bytes)
+    }
+}
+
 /// The answer of `check` to an input.
 pub(crate) fn check_input<S: Source>(
     alloc: Global,

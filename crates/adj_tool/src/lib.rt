@@ -6,6 +6,7 @@ mod arguments;
 mod checking;
 mod planned;
 mod running;
+mod sampling;
 mod schedule;
 mod stop;
 mod task;

@@ -51,4 +51,6 @@ pub enum Task {
     Check(CheckRequest),
     /// Write the schedule of a reversal.
     Schedule(Reversal),
+    /// Check a program that is made from a number.
+    Sample(u64),
 }

@@ -12,6 +12,7 @@ use crate::answering::answer_wanted;
 use crate::arguments::take;
 use crate::checking::check_input;
 use crate::running::run_input;
+use crate::sampling::sample_answer;
 use crate::schedule::schedule;
 use crate::stop::Stop;
 use crate::task::{Request, Task, Wanted};
@@ -87,6 +88,10 @@ fn answer_arguments<S: Source>(
             let answer = schedule(alloc, &reversal)?;
             Ok(answer)
         }
+        Task::Sample(number) => {
+            let answer = sample_answer(alloc, number)?;
+            Ok(answer)
+        }
     }
 }
 
@@ -110,7 +115,7 @@ pub fn tool<S: Source, K: Sink>(
     ensures unwritten { (result ≡ 7) ⊎ (result ≡ 9) → K.taken output.new ≡ K.taken output.old }
     // Where `adjoint` is done, what was written is an adjoint of what was read.
     ensures headline { result ≡ 0 → IsHeadline (taken arguments.now) (S.left input.old) (S.left input.new) (K.taken output.old) (K.taken output.new) }
-    // Where `check` is done, the two products that were written are equal, and the adjoint never trapped.
+    // Where `check` or `sample` is done, the two products that were written are equal, and the adjoint never trapped.
     ensures compared { result ≡ 0 → IsComparison (taken arguments.now) (S.left input.old) (S.left input.new) (K.taken output.old) (K.taken output.new) }
     ensures status { result < 10 }
 {
