@@ -120,6 +120,5 @@ pub fn routine_of<'a>(
     ensures routine { IfOk result (λ r. IsRoutine (map procedure_of units.old.units.now) r) }
 {
     let mut numbers = first_names(alloc, unit.dummies.as_slice())?;
-    let routine = routine_behind(alloc, &mut numbers, units, unit, writes)?;
-    Ok(routine)
+    routine_behind(alloc, &mut numbers, units, unit, writes)
 }

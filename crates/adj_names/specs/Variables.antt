@@ -1,4 +1,4 @@
--- The variables of a unit. (docs/LANGUAGE.md, "Names")
+-- The variables of a unit. (docs/REFUSALS.md, "Names")
 use Rattle.std.specs.Prelude.{ℕ, ◌==◌, nat_le, List, [], ◌∷◌, ◌++◌, map, length, flat_map, filter, Bool, false, not, ◌&&◌, ◌||◌}
 use Rattle.adj_tree.specs.Code.{plain, name_eq, Procedure}
 use Rattle.adj_meaning.specs.Units.{declared}

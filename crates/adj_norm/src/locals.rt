@@ -90,6 +90,5 @@ fn named(alloc: Global, taken: &mut Taken<'_>, number: usize) -> Result<Name, Me
     ensures taken { IfOk result (λ y. taken.new ≡ taken.old ++ (y ∷ [])) }
 {
     let base = with_number(alloc, b"ADV", number)?;
-    let name = taken.give(alloc, base.bytes())?;
-    Ok(name)
+    taken.give(alloc, base.bytes())
 }

@@ -104,6 +104,5 @@ fn only(alloc: Global, line: u32, name: Name, e: Box<Expr>) -> Result<Stmts, Mem
         line,
         act: Act::Assign(place, Box::into_inner(e)),
     };
-    let one = Stmts::Empty.behind(alloc, stmt)?;
-    Ok(one)
+    Stmts::Empty.behind(alloc, stmt)
 }

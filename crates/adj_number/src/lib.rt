@@ -1,4 +1,4 @@
-//! The numbers that a run goes over: words, or words that each carry a tangent.
+//! The numbers of a run, as code: words, or words that each carry a tangent.
 //!
 //! A run is defined over any numbers, by what the record `Numbers` of `adj_meaning` has. `Number` is a type of the code
 //! that has the same, so that one interpreter serves runs and dual runs. The crate stands on words and on the

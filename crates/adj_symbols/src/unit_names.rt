@@ -139,8 +139,7 @@ fn variables_in(alloc: Global, outline: &Outline<'_>) -> Result<NameList, Memory
 {
     let found = unit_places(alloc, outline)?;
     let chosen = first_places(alloc, found.as_slice())?;
-    let names = names_of(alloc, chosen.as_slice())?;
-    Ok(names)
+    names_of(alloc, chosen.as_slice())
 }
 
 /// The variables of a unit: dummies, then declared locals, then implicit locals by first appearance.
@@ -148,8 +147,7 @@ pub fn variables(alloc: Global, unit: &Unit) -> Result<NameList, Memory>
     ensures variables { IfOk result (λ v. v ≡ variables (procedure_of unit.now)) }
 {
     let outline = Outline::new(alloc, unit)?;
-    let names = variables_in(alloc, &outline)?;
-    Ok(names)
+    variables_in(alloc, &outline)
 }
 
 // Adds the faults of the names in a unit, and gives its variables.

@@ -18,7 +18,7 @@ refused code line = Err (record { code = code; line = line; number = 0 })
 abbrev pub limited : {A : Type 0} → ℕ → ℕ → Result A Refusal
 limited limit line = Err (record { code = 21; line = line; number = limit })
 
--- a fault is want of memory, or the refusal of the definition
+-- a fault is out of memory, or the refusal of the definition
 abbrev pub Fails : {Y : Type 0} → Fault → Result Y Refusal → Type 0
 Fails Memory spec = Unit {0}
 Fails (Refused r) spec = spec ≡ Err r

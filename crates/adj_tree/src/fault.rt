@@ -1,4 +1,4 @@
-//! Want of memory, and refusals of a text.
+//! Out of memory, and refusals of a text.
 
 ghost use Rattle.std.specs.Prelude.{◌≡◌};
 ghost use Rattle.adj_tree.specs.Codes.{code_number};
@@ -7,7 +7,7 @@ ghost use Rattle.adj_tree.specs.declared.fault.Fault.TheVariants as fault;
 use crate::code::Code;
 use std::alloc::{AllocError, AllocFailed};
 
-/// Want of memory. It is never merged with another cause.
+/// Out of memory. It is never merged with another cause.
 #[derive(Clone, Copy, Debug, PartialEq, Eq)]
 pub struct Memory;
 

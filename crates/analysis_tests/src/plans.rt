@@ -278,7 +278,8 @@ fn marks_of(alloc: Global, source: &[u8]) -> Result<Vec<u8>, Fault> {
 #[test]
 fn the_marks_are_those_worked_out_by_hand(rt: HostRuntime) -> Result<(), Fail> {
     let alloc = rt.alloc();
-    for (statements, other, expected) in PROGRAMS {
+    for case in &PROGRAMS {
+        let (statements, other, expected) = *case;
         let text = text_of(alloc, statements, other)?;
         let marks = marks_of(alloc, text.as_slice())?;
         assert_eq!(rt; marks.as_slice(), expected.as_bytes(), "{statements}");

@@ -29,7 +29,8 @@ fn tangents_and_adjoints_that_are_not_given_are_zeros(rt: HostRuntime) -> Result
         (&tangents, b"A 5 -6\nN 0\nK 0\n"),
         (&adjoints, b"A 0 0\nN 0\nK 7\n"),
     ];
-    for (values, text) in cases {
+    for case in &cases {
+        let (values, text) = *case;
         assert!(rt; values.as_slice().len() == unit.dummies.as_slice().len());
         let printed = print_values(alloc, &unit.dummies, values)?;
         assert_eq!(rt; printed.as_slice(), text);
@@ -56,7 +57,8 @@ fn the_first_fault_of_marked_data_is_given(rt: HostRuntime) -> Result<(), Fail> 
         ("N 1\nK 3\nA 1 2\nA.D 5\nK.B 7", 5, 8),
         ("N 1\nK 3\nA 1 2\nA.D 5 6\nK.B 7 8", 5, 9),
     ];
-    for (data, code, line) in faults {
+    for case in &faults {
+        let (data, code, line) = *case;
         let count = unit.dummies.as_slice().len();
         assert!(rt; head.vars.as_slice().len() == count);
         assert!(rt; head.outvars.as_slice().len() == count);

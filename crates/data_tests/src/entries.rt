@@ -140,7 +140,8 @@ pub(crate) fn code_and_line(error: Option<DataError>) -> Option<(u8, u32)> {
 #[test]
 fn the_first_fault_is_given(rt: HostRuntime) -> Result<(), Fail> {
     let unit = unit(rt.alloc())?;
-    for (data, code, line) in FAULTS {
+    for case in &FAULTS {
+        let (data, code, line) = *case;
         let found = values(rt.alloc(), data.as_bytes(), 4, &unit);
         assert_eq!(rt; code_and_line(found.err()), Some((code, line)), "{data}");
     }

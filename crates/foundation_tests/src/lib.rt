@@ -3,6 +3,8 @@
 #![tactic(auto)]
 
 #[cfg(test)]
+mod columns;
+#[cfg(test)]
 mod naming;
 #[cfg(test)]
 mod reaching;

@@ -36,7 +36,8 @@ fn along_and_against_the_edges_of_a_cycle(rt: HostRuntime) -> Result<(), Fail> {
             [false, false, false, false, true],
         ),
     ];
-    for (start, along, against) in cases {
+    for case in &cases {
+        let (start, along, against) = *case;
         let forward = reach(rt.alloc(), 5, CYCLE.as_slice(), [start].as_slice())?;
         assert_eq!(rt; forward.as_slice(), along.as_slice(), "from {start}");
         let backward = reach_back(rt.alloc(), 5, CYCLE.as_slice(), [start].as_slice())?;

@@ -58,7 +58,8 @@ fn numbers_of_the_closed_form(rt: HostRuntime) {
         (100, 5, 316),
         (1000, 10, 3636),
     ];
-    for (steps, snapshots, cost) in costs {
+    for case in &costs {
+        let (steps, snapshots, cost) = *case;
         assert_eq!(rt;
             least(steps, snapshots),
             cost,
@@ -73,20 +74,23 @@ fn numbers_of_the_closed_form(rt: HostRuntime) {
         (64, 1 << 40, None),
         (u32::MAX, u64::MAX, None),
     ];
-    for (snapshots, repetitions, steps) in ways {
+    for case in &ways {
+        let (snapshots, repetitions, steps) = *case;
         assert_eq!(rt;
             beta(snapshots, repetitions),
             steps,
             "{snapshots} snapshots, {repetitions} repetitions"
         );
     }
-    for (steps, snapshots, first) in [
+    let splits = [
         (2, 1, 1),
         (3, 1, 2),
         (3, 2, 1),
         (10, 3, 4),
         (1 << 40, 1, (1 << 40) - 1),
-    ] {
+    ];
+    for case in &splits {
+        let (steps, snapshots, first) = *case;
         assert_eq!(rt;
             split(steps, snapshots),
             first,
@@ -117,8 +121,8 @@ fn a_schedule_of_more_steps_than_a_list_can_hold_begins_at_once(rt: HostRuntime)
         Action::Keep(1_099_510_144_867),
     ];
     let mut schedule = Schedule::new(1 << 40, 2);
-    for action in first {
-        assert_eq!(rt; schedule.next(), Some(action));
+    for action in &first {
+        assert_eq!(rt; schedule.next(), Some(*action));
     }
 }
 

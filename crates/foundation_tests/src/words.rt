@@ -13,7 +13,7 @@ fn sums_and_products_wrap(rt: HostRuntime) {
 
 #[test]
 fn powers_wrap_and_begin_at_one(rt: HostRuntime) {
-    for (base, e, want) in [
+    for case in &[
         (0, 0, 1),
         (-2, 3, -8),
         (-2, 63, i64::MIN),
@@ -21,13 +21,14 @@ fn powers_wrap_and_begin_at_one(rt: HostRuntime) {
         (2, 64, 0),
         (-1, u32::MAX, -1),
     ] {
+        let (base, e, want) = *case;
         assert_eq!(rt; pow(base, e), want, "{base} to the {e}");
     }
 }
 
 #[test]
 fn quotients_are_cut_towards_zero(rt: HostRuntime) {
-    for (a, b, want) in [
+    for case in &[
         (7, 2, Some((3, 1))),
         (-7, 2, Some((-3, -1))),
         (7, -2, Some((-3, 1))),
@@ -35,6 +36,7 @@ fn quotients_are_cut_towards_zero(rt: HostRuntime) {
         (i64::MIN, -1, Some((i64::MIN, 0))),
         (5, 0, None),
     ] {
+        let (a, b, want) = *case;
         assert_eq!(rt; quot(a, b), want.map(|w| w.0), "{a} over {b}");
         assert_eq!(rt;
             rem(a, b),
@@ -46,7 +48,7 @@ fn quotients_are_cut_towards_zero(rt: HostRuntime) {
 
 #[test]
 fn loops_turn_as_often_as_without_wrapping(rt: HostRuntime) {
-    for (first, last, step, want) in [
+    for case in &[
         (1, 5, 1, Some(5)),
         (5, 1, 1, Some(0)),
         (10, 1, -3, Some(4)),
@@ -55,6 +57,7 @@ fn loops_turn_as_often_as_without_wrapping(rt: HostRuntime) {
         (i64::MIN, i64::MAX, 1, Some(1 << 64)),
         (1, 2, 0, None),
     ] {
+        let (first, last, step, want) = *case;
         assert_eq!(rt;
             trips(first, last, step),
             want,

@@ -152,7 +152,8 @@ C$AD BINOMIAL-CKP M
 
 #[test]
 fn each_program_has_its_kernel(rt: HostRuntime) -> Result<(), Fault> {
-    for (shows, source, expected) in KERNELS {
+    for case in &KERNELS {
+        let (shows, source, expected) = *case;
         assert!(rt; becomes(rt.alloc(), source, expected)?, "{shows}");
     }
     Ok(())

@@ -152,7 +152,8 @@ const STATEMENTS: [(&str, &[u8], &[u8]); 3] = [
 
 #[test]
 fn each_statement_becomes_others(rt: HostRuntime) -> Result<(), Fault> {
-    for (shows, source, expected) in STATEMENTS {
+    for case in &STATEMENTS {
+        let (shows, source, expected) = *case;
         let found = lowered_text(rt.alloc(), source)?;
         assert!(rt; found.as_slice() == expected, "{shows}");
     }

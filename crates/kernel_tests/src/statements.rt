@@ -129,7 +129,8 @@ fn expected(alloc: Global, locals: u8, lines: &str) -> Result<Vec<u8>, Memory> {
 #[test]
 fn each_statement_becomes_those_of_its_kernel(rt: HostRuntime) -> Result<(), Fail> {
     let alloc = rt.alloc();
-    for (lines, locals, lowered) in STATEMENTS {
+    for case in &STATEMENTS {
+        let (lines, locals, lowered) = *case;
         let text = source(alloc, lines)?;
         let kernel = expected(alloc, locals, lowered)?;
         assert!(rt;

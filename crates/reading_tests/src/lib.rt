@@ -9,8 +9,6 @@ mod answered;
 #[cfg(test)]
 mod heads;
 #[cfg(test)]
-mod limits;
-#[cfg(test)]
 mod printed;
 #[cfg(test)]
 mod read;

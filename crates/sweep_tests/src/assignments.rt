@@ -76,7 +76,8 @@ const ASSIGNMENTS: [(&str, &str); 2] = [
 #[test]
 fn each_assignment_has_its_adjoint(rt: HostRuntime) -> Result<(), Fault> {
     let alloc = rt.alloc();
-    for (statement, lines) in ASSIGNMENTS {
+    for case in &ASSIGNMENTS {
+        let (statement, lines) = *case;
         let program = read(alloc, statement)?;
         for unit in program.units.as_slice() {
             assert!(rt; is_adjoint(alloc, &unit.body, lines)?, "{statement}");

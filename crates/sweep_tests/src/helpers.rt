@@ -107,7 +107,8 @@ const BODIES: [(MarkedLoops, &str, &[(Role, usize)]); 5] = [
 #[test]
 fn each_body_uses_its_helpers(rt: HostRuntime) -> Result<(), Fault> {
     let alloc = rt.alloc();
-    for (loops, statements, wanted) in BODIES {
+    for case in &BODIES {
+        let (loops, statements, wanted) = *case;
         let program = read(alloc, statements)?;
         for unit in program.units.as_slice() {
             assert!(rt; uses(alloc, loops, &unit.body, wanted)?, "{statements}");

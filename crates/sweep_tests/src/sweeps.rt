@@ -110,7 +110,8 @@ const BODIES: [(&str, &str); 2] = [
 fn each_body_has_its_adjoint(rt: HostRuntime) -> Result<(), Fault> {
     let alloc = rt.alloc();
     let callees = no_callees(alloc)?;
-    for (statements, lines) in BODIES {
+    for case in &BODIES {
+        let (statements, lines) = *case;
         let program = read(alloc, statements)?;
         for unit in program.units.as_slice() {
             let code = adjoint_of(alloc, &SCALARS, &callees, &unit.body)?;
@@ -305,7 +306,8 @@ const MARKED: [(&str, &str); 2] = [
 fn marked_loops_are_reversed_by_schedules(rt: HostRuntime) -> Result<(), Fault> {
     let alloc = rt.alloc();
     let callees = one_callee(alloc, b"G", b"G_B", &STEP)?;
-    for (statements, lines) in MARKED {
+    for case in &MARKED {
+        let (statements, lines) = *case;
         let program = read(alloc, statements)?;
         for unit in program.units.as_slice() {
             let code = adjoint_of(alloc, &STEPS, &callees, &unit.body)?;

@@ -1,18 +1,10 @@
 //! Writing the texts that tests read.
 //!
-//! What the tests of several crates share: lines, statements and texts that are repeated. It stands on the trees alone, for their
+//! What the tests of several crates share: lines and statements. It stands on the trees alone, for their
 //! error, and no contract speaks of it: the tests that call it do.
 #![tactic(auto)]
 
 use adj_tree::Memory;
-
-/// Writes a text as often as that.
-pub fn push_times(all: &mut Vec<u8>, text: &[u8], count: usize) -> Result<(), Memory> {
-    for _ in 0..count {
-        all.extend_from_slice(text)?;
-    }
-    Ok(())
-}
 
 /// Writes a statement in lines of 66 characters.
 pub fn push_statement(all: &mut Vec<u8>, statement: &[u8]) -> Result<(), Memory> {

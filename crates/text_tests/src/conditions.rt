@@ -96,7 +96,8 @@ const CONDITIONS: [(&str, &str); 18] = [
 
 #[test]
 fn a_condition_is_read_at_the_front(rt: HostRuntime) -> Result<(), Fail> {
-    for (text, want) in CONDITIONS {
+    for case in &CONDITIONS {
+        let (text, want) = *case;
         let found = shown(rt.alloc(), text, 5)?;
         assert_eq!(rt; found.as_str(), want, "{text}");
     }
@@ -113,7 +114,8 @@ const DEEP: [(&str, &str, &str, &str); 4] = [
 
 #[test]
 fn a_deep_condition_is_read_without_recursion(rt: HostRuntime) -> Result<(), Fail> {
-    for (front, inner, back, want) in DEEP {
+    for case in &DEEP {
+        let (front, inner, back, want) = *case;
         let mut text = String::new(rt.alloc());
         push_times(&mut text, front, 20_000)?;
         text.push_str(inner)?;

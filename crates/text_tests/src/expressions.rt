@@ -165,7 +165,8 @@ const EXPRESSIONS: [(&str, &str); 32] = [
 
 #[test]
 fn an_expression_is_read_at_the_front(rt: HostRuntime) -> Result<(), Fail> {
-    for (text, want) in EXPRESSIONS {
+    for case in &EXPRESSIONS {
+        let (text, want) = *case;
         let found = shown(rt.alloc(), text, 4)?;
         assert_eq!(rt; found.as_str(), want, "{text}");
     }
@@ -195,7 +196,8 @@ const DEEP: [(&str, &str, &str, &str); 10] = [
 
 #[test]
 fn a_deep_expression_is_read_without_recursion(rt: HostRuntime) -> Result<(), Fail> {
-    for (front, inner, back, want) in DEEP {
+    for case in &DEEP {
+        let (front, inner, back, want) = *case;
         let mut text = String::new(rt.alloc());
         push_times(&mut text, front, 20_000)?;
         text.push_str(inner)?;

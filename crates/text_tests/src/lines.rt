@@ -142,7 +142,8 @@ c$ad binomial-ckp c
 
 #[test]
 fn texts_give_their_statements(rt: HostRuntime) -> Result<(), Fail> {
-    for (text, want) in TEXTS {
+    for case in &TEXTS {
+        let (text, want) = *case;
         assert_eq!(rt; shown(rt.alloc(), text, Mode::Source)?.as_str(), want);
         assert_eq!(rt; shown(rt.alloc(), text, Mode::Run)?.as_str(), want);
     }
@@ -194,12 +195,14 @@ fn code_of(alloc: Global, text: &str, mode: Mode) -> u8 {
 
 #[test]
 fn names_are_limited_by_mode(rt: HostRuntime) -> Result<(), Fail> {
-    for (len, source, run) in [(31, 0, 0), (32, 6, 0), (63, 6, 0), (64, 6, 6)] {
+    for case in &[(31, 0, 0), (32, 6, 0), (63, 6, 0), (64, 6, 6)] {
+        let (len, source, run) = *case;
         let name = "A".repeat(rt.alloc(), len)?;
         let used = format!(in rt.alloc(); "      IF(X)Y=\n     1{name}")?;
         let marked = format!(in rt.alloc(); "C$AD BINOMIAL-CKP {name}\n      DOI=1,2")?;
         let stray = format!(in rt.alloc(); "C$AD BINOMIAL-CKP {name}\n      X=1")?;
-        for (mode, want) in [(Mode::Source, source), (Mode::Run, run)] {
+        for case in &[(Mode::Source, source), (Mode::Run, run)] {
+            let (mode, want) = *case;
             assert_eq!(rt; code_of(rt.alloc(), &used, mode), want, "at {len}");
             assert_eq!(rt; code_of(rt.alloc(), &marked, mode), want, "at {len}");
             assert_eq!(rt; code_of(rt.alloc(), &stray, mode), 0, "at {len}");
@@ -333,7 +336,8 @@ const DATA: [(&str, (usize, u32)); 8] = [
 
 #[test]
 fn data_begin_behind_their_line(rt: HostRuntime) {
-    for (text, want) in DATA {
+    for case in &DATA {
+        let (text, want) = *case;
         assert_eq!(rt; data_part(text.as_bytes()), want, "of {text:?}");
     }
 }
