@@ -1,0 +1,213 @@
+# Makes texts of the language ready for a FORTRAN compiler: see runtime/prepare, which runs it. It writes the file `folder`/NAME for each
+# text, and the paths of these files to the standard output.
+BEGIN {
+  # the words of local arrays that a unit may have on the stack, altogether and in one array
+  on_stack = 4096
+  in_one = 1024
+  for (text = 1; text < ARGC; text++) {
+    read_text(ARGV[text])
+    find_adjoints()
+    path = path_for(ARGV[text])
+    for (unit = 1; unit <= units; unit++) take_unit()
+    close(path)
+    print path
+  }
+  exit 0
+}
+
+function path_for(file,    base, count) {
+  base = file
+  sub(/.*\//, "", base)
+  count = named[base]++
+  if (count) sub(/(\.[^.]*)?$/, "_" (count + 1) "&", base)
+  path = folder "/" base
+  printf "" > path
+  return path
+}
+
+# The unit of an earlier text whose adjoint a name is, or nothing: the adjoint of P is P_B, or P_B_k where that was taken.
+function source_of(adjoint,    source) {
+  if (!match(adjoint, /_B(_[0-9]+)?$/)) return ""
+  source = substr(adjoint, 1, RSTART - 1)
+  return (source in home) ? source : ""
+}
+
+# Which earlier texts this one is an adjoint of.
+function find_adjoints(    u) {
+  split("", adjoint_of)
+  for (u = 1; u <= units; u++) if (source_of(name[u]) != "") adjoint_of[home[source_of(name[u])]] = 1
+}
+
+# An adjoint repeats the units that it calls as they are, in another form. They are left out where a model before it has them, and so is
+# a unit that an earlier text has in the same form. Two adjoints of one unit needn't be the same.
+function take_unit(    this, whole, i) {
+  this = name[unit]
+  for (i = first[unit]; i <= last[unit]; i++) whole = whole bare[i] "\n"
+  if (!(this in home)) {
+    home[this] = text
+    form[this] = whole
+    write_unit()
+  } else if (home[this] == text) {
+    fail("the unit " this " is twice in " ARGV[text])
+  } else if (form[this] != whole && (!(home[this] in adjoint_of) || source_of(this) != "")) {
+    fail("the unit " this " is in " ARGV[home[this]] " and in " ARGV[text] ", with other statements")
+  }
+}
+
+# While a unit runs, a local of it holds the tape's height: a compiler can keep it in a register. It is written to the module
+# before a call and at the end, and read again after a call.
+function write_unit(    i, opened) {
+  look_at_unit()
+  for (i = first[unit]; i <= last[unit]; i++) {
+    if (!opened && i > last_declaration) {
+      # a local is 0 at each entry
+      printf "%s", allocations > path
+      if (has_words) put(own "H=" own "G")
+      opened = 1
+    }
+    write_statement(i)
+    if (i == first[unit] && uses != "") put("USE ADJOINT_TAPE,ONLY:" substr(uses, 2))
+    if (i == last_declaration && has_words) put("INTEGER*8 " own "H")
+    # so that no unit is taken for a subroutine of the compiler, such as EXIT
+    if (i == last_declaration && externals != "") put("EXTERNAL " substr(externals, 2))
+  }
+}
+
+function put(text) {
+  print "      " text > path
+}
+
+# Sets what the unit's statements are written by: its declarations, the arrays that are too long for the stack, the parts of the runtime
+# that it uses, and a beginning of names that the unit hasn't.
+function look_at_unit(    i, parts, count, k, seen, calls, name, called) {
+  split("", dummy); split("", long)
+  allocations = uses = externals = ""
+  kept = 0
+  count = split(bare[first[unit]], parts, /[(),]/)
+  for (k = 2; k <= count; k++) dummy[parts[k]] = 1
+  last_declaration = first[unit]
+  own = "ADRT"
+  split("", seen); split("", called)
+  for (i = first[unit] + 1; i <= last[unit]; i++) {
+    if (bare[i] == "IMPLICITNONE" || is_declaration(bare[i])) {
+      last_declaration = i
+      if (is_declaration(bare[i])) look_at_declaration(bare[i])
+    }
+    while (index(bare[i], own)) own = own "X"
+    name = called_unit(bare[i])
+    if (name != "" && !(name in called)) {
+      called[name] = 1
+      externals = externals "," name
+    }
+    if (match(bare[i], /CALL(PUSH|POP)(INTEGER8ARRAY|INTEGER8|CONTROL1B)\(/)) seen[substr(bare[i], RSTART + 4, RLENGTH - 5)] = 1
+  }
+  while (index(bare[first[unit]], own)) own = own "X"
+  for (calls in seen) if (calls ~ /ARRAY$/) uses = uses "," calls
+  has_words = ("PUSHINTEGER8" in seen) || ("PUSHCONTROL1B" in seen) || ("POPINTEGER8" in seen) || ("POPCONTROL1B" in seen)
+  if (has_words) uses = uses "," own "W=>HERE," own "G=>HEIGHT," own "R=>ROOM," own "U=>TAPE_UP," own "D=>TAPE_DOWN"
+}
+
+# The local arrays of a declaration. The extents of a local are numbers.
+function look_at_declaration(text,    item, extents, words) {
+  sub(/^INTEGER(\*8)?/, "", text)
+  while (match(text, /^[A-Z][A-Z0-9_]*(\([A-Z0-9_,]*\))?,?/)) {
+    item = substr(text, 1, RLENGTH)
+    text = substr(text, RLENGTH + 1)
+    sub(/,$/, "", item)
+    if (item !~ /\(/) continue
+    split(item, extents, /[(),]/)
+    if (extents[1] in dummy) continue
+    words = extents[2] * (extents[3] == "" ? 1 : extents[3])
+    if (words <= in_one && kept + words <= on_stack) {
+      kept += words
+    } else {
+      long[extents[1]] = extents[3] == "" ? "(:)" : "(:,:)"
+      allocations = allocations "      ALLOCATE(" item ",SOURCE=0_8)\n"
+    }
+  }
+}
+
+function write_statement(i,    text, label) {
+  text = bare[i]
+  label = substr(statement[i], 1, 6)
+  if (is_declaration(text)) {
+    write_declaration(text)
+  } else if (match(text, /^CALLPUSH(INTEGER8|CONTROL1B)\(/)) {
+    print label "IF(" own "H.GE." own "R)THEN" > path
+    put("CALL " own "U")
+    put(own "H=0")
+    put("END IF")
+    put(own "H=" own "H+1")
+    put(own "W%WORDS(" own "H)=" inner(text, RLENGTH))
+  } else if (match(text, /^CALLPOP(INTEGER8|CONTROL1B)\(/)) {
+    print label "IF(" own "H.LE.0)THEN" > path
+    put("CALL " own "D('" substr(text, 5, RLENGTH - 5) "')")
+    put(own "H=" own "R")
+    put("END IF")
+    put(inner(text, RLENGTH) "=" own "W%WORDS(" own "H)")
+    put(own "H=" own "H-1")
+  } else if (match(text, /^CALLADZERO8\(/)) {
+    print label inner(text, RLENGTH) "=0" > path
+  } else if (!has_words) {
+    print statement[i] > path
+  } else if (text == "END" || text == "RETURN") {
+    put(own "G=" own "H")
+    print statement[i] > path
+  } else if (calls_a_unit(text)) {
+    put(own "G=" own "H")
+    print statement[i] > path
+    put(own "H=" own "G")
+  } else {
+    print statement[i] > path
+  }
+}
+
+# The unit that a statement calls, alone or within an IF of one statement, or nothing.
+function called_unit(text,    name) {
+  # no actual has a `=`, so what has one is an assignment to an array whose name begins so
+  if (!calls_a_unit(text) || index(call_text, "=")) return ""
+  name = substr(call_text, 5)
+  sub(/\(.*/, "", name)
+  return name ~ /^(PUSHINTEGER8|POPINTEGER8|PUSHINTEGER8ARRAY|POPINTEGER8ARRAY|PUSHCONTROL1B|POPCONTROL1B|ADZERO8)$/ ? "" : name
+}
+
+# Whether a statement is a CALL of a unit or of a runtime call for an array, or an IF of one statement that may be such a CALL. It may say so of
+# other statements of one line. `call_text` becomes the CALL without its IF.
+function calls_a_unit(text,    at, open, letter) {
+  if (text ~ /^CALLAD(BEG|END|ACT|ACTN)(\(|$)/) return 0
+  call_text = text
+  if (text ~ /^CALL/) return 1
+  if (text !~ /^IF\(.*\)CALL/) return 0
+  # `at` becomes the place of the parenthesis that closes the condition
+  at = 3
+  open = 1
+  while (open > 0 && at < length(text)) {
+    letter = substr(text, ++at, 1)
+    open += (letter == "(") - (letter == ")")
+  }
+  call_text = substr(text, at + 1)
+  return call_text ~ /^CALL/
+}
+
+# The argument of a call with one, whose first RLENGTH characters end with its parenthesis.
+function inner(text, before) {
+  return substr(text, before + 1, length(text) - before - 1)
+}
+
+# A declaration; arrays that are too long for the stack are allocated.
+function write_declaration(text,    item, short, base) {
+  sub(/^INTEGER(\*8)?/, "", text)
+  while (match(text, /^[A-Z][A-Z0-9_]*(\([A-Z0-9_,]*\))?,?/)) {
+    item = substr(text, 1, RLENGTH)
+    text = substr(text, RLENGTH + 1)
+    sub(/,$/, "", item)
+    base = item
+    sub(/\(.*/, "", base)
+    if (base in long) {
+      put("INTEGER*8,ALLOCATABLE::" base long[base])
+    } else {
+      short = short "," item
+    }
+  }
+  if (short != "") put("INTEGER*8 " substr(short, 2))
+}
