@@ -1,12 +1,12 @@
 -- The edges between statements and units are the steps by which they are adjointed, by numbers.
 use Rattle.std.proofs.Common.{◌≡◌, ℕ, refl, sym, ap, ◌∙◌, subst, arith}
 use Rattle.std.specs.Prelude.{Contains}
-use Rattle.adj_facts.specs.Problem.{Problem}
-use Rattle.adj_facts.specs.Activity.{Activity, Adjoint, statement, unit, IsAdjointed, MakesAdjointed}
-use Rattle.adj_facts.specs.Rules.{Scope, Covers, adjoint_starts, adjoint_steps}
-use Rattle.adj_facts.proofs.Members.{map_has, map_only}
-use Rattle.adj_facts.proofs.Numbered.{IsListed}
-use Rattle.adj_facts.proofs.AdjointListed as listing
+use Rattle.def_flow.specs.Problem.{Problem}
+use Rattle.def_flow.specs.Activity.{Activity, Adjoint, statement, unit, IsAdjointed, MakesAdjointed}
+use Rattle.def_flow.specs.Rules.{Scope, Covers, adjoint_starts, adjoint_steps}
+use Rattle.adj_reach.proofs.Members.{map_has, map_only}
+use Rattle.def_flow.proofs.Numbered.{IsListed}
+use Rattle.def_flow.proofs.AdjointListed as listing
 use Rattle.adj_activity.specs.Edges.{adjoint_number, adjoint_nodes, adjoint_edges}
 use Rattle.adj_flow.proofs.Images.{Images, listed_along}
 

@@ -4,19 +4,20 @@ use Rattle.std.specs.Prelude.{◌↔◌, IsTrue, All, Contains, Some, slice_get}
 use Rattle.std.specs.Option.{option_map}
 use Rattle.std.proofs.lemmas.Option.{slice_get-map, get_or_from_slice_get}
 use Rattle.adj_tree.specs.Code.{Procedure}
-use Rattle.adj_transpose.specs.Marks.{behind}
-use Rattle.adj_facts.specs.Parts.{Part, parts, parts_from, statements_in, find_part}
-use Rattle.adj_facts.specs.Problem.{Problem, TakesPart}
-use Rattle.adj_facts.specs.Activity.{IsActivity}
-use Rattle.adj_facts.specs.Rules.{Scope, Covers}
-use Rattle.adj_writes.specs.Graph.{number_from}
-use Rattle.adj_writes.specs.Table.{value_of}
+use Rattle.def_names.specs.Numbers.{behind}
+use Rattle.def_flow.specs.Parts.{Part, parts, parts_from, find_part}
+use Rattle.def_names.specs.StatementsIn.{statements_in}
+use Rattle.def_flow.specs.Problem.{Problem, TakesPart}
+use Rattle.def_flow.specs.Activity.{IsActivity}
+use Rattle.def_flow.specs.Rules.{Scope, Covers}
+use Rattle.adj_symbols_writes.specs.Graph.{number_from}
+use Rattle.adj_symbols_writes.specs.Table.{value_of}
 use Rattle.adj_flow.specs.Rows.{Row, row_in, rows}
 use Rattle.adj_reach.specs.Edges.{ReachedFrom, ReachedBack, flag}
 use Rattle.adj_flow.specs.Nodes.{IsWide}
 use Rattle.adj_activity.specs.Edges.{flow_edges, entry_nodes, end_nodes, shadow_edges, shadow_nodes, adjoint_edges, adjoint_nodes}
 use Rattle.adj_flow.specs.Told.{told}
-use Rattle.adj_activity.specs.Told.{activity_told}
+use Rattle.adj_flow.specs.ActivityTold.{activity_told}
 use Rattle.adj_flow.specs.NodeView.{found_at}
 use Rattle.adj_activity.specs.View.{flow_listed, shadows_listed, adjoints_listed}
 use Rattle.adj_flow.specs.Scoped.{scope_by, HoldVariables}

@@ -3,23 +3,23 @@ use Rattle.std.proofs.Common.{◌≡◌, inl, inr, ℕ, List, [], ◌∷◌, ◌
 use Rattle.std.specs.Prelude.{Contains, not, ◌&&◌, map, flat_map}
 use Rattle.std.proofs.lemmas.List.Elements.{Contains-append_right}
 use Rattle.adj_tree.specs.Code.{Var, plain, Terms, Act, assign, choose, loop, during, call, runtime}
-use Rattle.adj_transpose.specs.Marks.{point_before, point_after}
-use Rattle.adj_facts.specs.Reached.{begins, leads}
-use Rattle.adj_facts.specs.Parts.{Part, parts}
-use Rattle.adj_facts.specs.Ways.{Way, assigned_on, passed_on}
-use Rattle.adj_facts.specs.Standing.{Standing}
-use Rattle.adj_facts.specs.Variables.{list_if, vars_in, vars_in_terms, occurring_in, standing_in}
-use Rattle.adj_facts.specs.Problem.{Problem, statements_of, ways_of, CallsUnit, TakesPart, flagged, bound}
-use Rattle.adj_facts.specs.Flow.{Node, AtEntry, AtEnd, Flows}
-use Rattle.adj_facts.specs.Activity.{IsPoint}
-use Rattle.adj_facts.specs.Rules.{Scope, Covers, list_of, called, at_actuals, head_parts, flow_stays, flow_assigned, flow_called, flow_at, flow_steps, varied_starts, useful_starts}
-use Rattle.adj_facts.proofs.Members.{is_first, is_later}
-use Rattle.adj_facts.proofs.Numbered.{IsListed}
-use Rattle.adj_facts.proofs.Scoped.{called_only, head_only, flagged_stands}
-use Rattle.adj_facts.proofs.FlowListed as flowing
-use Rattle.adj_facts.proofs.Points.{one_point}
-use Rattle.adj_facts.proofs.OwnPoints.{entry_point, end_point, own_before, own_after}
-use Rattle.adj_facts.proofs.Variables.{occurs_stands}
+use Rattle.def_names.specs.Numbering.{point_before, point_after}
+use Rattle.adj_reach.specs.Reached.{begins, leads}
+use Rattle.def_flow.specs.Parts.{Part, parts}
+use Rattle.def_flow.specs.Ways.{Way, assigned_on, passed_on}
+use Rattle.def_flow.specs.Standing.{Standing}
+use Rattle.def_names.specs.VariableLists.{list_if, vars_in, vars_in_terms, occurring_in, standing_in}
+use Rattle.def_flow.specs.Problem.{Problem, statements_of, ways_of, CallsUnit, TakesPart, flagged, bound}
+use Rattle.def_flow.specs.Flow.{Node, AtEntry, AtEnd, Flows}
+use Rattle.def_flow.specs.Activity.{IsPoint}
+use Rattle.def_flow.specs.Rules.{Scope, Covers, list_of, called, at_actuals, head_parts, flow_stays, flow_assigned, flow_called, flow_at, flow_steps, varied_starts, useful_starts}
+use Rattle.adj_reach.proofs.Members.{is_first, is_later}
+use Rattle.def_flow.proofs.Numbered.{IsListed}
+use Rattle.def_flow.proofs.Scoped.{called_only, head_only, flagged_stands}
+use Rattle.def_flow.proofs.FlowListed as flowing
+use Rattle.def_flow.proofs.Points.{one_point}
+use Rattle.def_flow.proofs.OwnPoints.{entry_point, end_point, own_before, own_after}
+use Rattle.def_names.proofs.VariableLists.{occurs_stands}
 use Rattle.adj_flow.specs.Nodes.{node_in, IsWide, HasNode, linked}
 use Rattle.adj_activity.specs.Edges.{way_edges, assigned_edges, called_edges, statement_edges, unit_edges, flow_edges, entry_nodes, end_nodes}
 use Rattle.adj_flow.proofs.Images.{Images, images_none, images_append, images_flat, images_map, images_if, listed_along, listed_back}

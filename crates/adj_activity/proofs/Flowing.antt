@@ -3,14 +3,15 @@ use Rattle.std.proofs.Common.{◌≡◌, ℕ, suc, ◌≤◌, List, [], ◌∷�
 use Rattle.std.specs.Prelude.{◌↔◌, ◌<◌, IsTrue, All, Contains, slice_index_or}
 use Rattle.std.proofs.lemmas.Simd.{map-map}
 use Rattle.adj_tree.specs.Code.{Procedure}
-use Rattle.adj_text.specs.Written.{IsWritten}
-use Rattle.adj_names.specs.Variables.{variables}
-use Rattle.adj_transpose.specs.Marks.{behind}
-use Rattle.adj_facts.specs.Parts.{Part, parts, parts_from, statements_in}
-use Rattle.adj_facts.specs.Problem.{TakesPart}
-use Rattle.adj_facts.proofs.Members.{is_first, is_later}
-use Rattle.adj_writes.specs.Graph.{number_from}
-use Rattle.adj_writes.specs.Table.{value_of}
+use Rattle.def_text.specs.Written.{IsWritten}
+use Rattle.def_names.specs.Variables.{variables}
+use Rattle.def_names.specs.Numbers.{behind}
+use Rattle.def_flow.specs.Parts.{Part, parts, parts_from}
+use Rattle.def_names.specs.StatementsIn.{statements_in}
+use Rattle.def_flow.specs.Problem.{TakesPart}
+use Rattle.adj_reach.proofs.Members.{is_first, is_later}
+use Rattle.adj_symbols_writes.specs.Graph.{number_from}
+use Rattle.adj_symbols_writes.specs.Table.{value_of}
 use Rattle.adj_flow.specs.Rows.{Row, row_of, row_in, rows}
 use Rattle.adj_flow.specs.declared.units.Flow.{Flow}
 use Rattle.adj_reach.specs.Edges.{flag}

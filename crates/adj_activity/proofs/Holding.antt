@@ -5,17 +5,18 @@ use Rattle.std.proofs.lemmas.List.{map-append}
 use Rattle.std.proofs.lemmas.List.Elements.{All-contains, Contains-append_left, Contains-append_right, Contains-append_cases}
 use Rattle.adj_tree.specs.Code.{Var, plain, shadow, helper, name_eq, Term, lit, var, elem, neg, bin, pow, power_of, abs, Terms, none, more, Test, compare, negation, conjunction, disjunction, Mark, unmarked, with_count, count_from, Act, assign, choose, loop, during, call, runtime, Code, stop, step, Procedure}
 use Rattle.adj_tree.proofs.Names.{name_same, name_refl}
-use Rattle.adj_text.specs.Written.{IsVariable, IsIndexed, IsWrittenTerm, AreWrittenTerms, IsWrittenTest, IsPlace, IsWrittenMark, IsWrittenAct, IsWrittenCode, IsWrittenProcedure}
-use Rattle.adj_names.specs.Fresh.{has_name}
-use Rattle.adj_names.specs.Standing as names
-use Rattle.adj_names.specs.Statements.{At, inner, statements}
-use Rattle.adj_names.specs.Variables.{places, dummy_places, declared_places, statement_places, variables}
-use Rattle.adj_names.proofs.Lists.{first_places-stand}
-use Rattle.adj_transpose.specs.Marks.{next, behind}
-use Rattle.adj_facts.specs.Parts.{Part, part, parts, parts_from, statements_in}
-use Rattle.adj_facts.specs.Standing.{Place, part_of, body_of, Standing, outermost, held_in, standing}
-use Rattle.adj_facts.specs.Variables.{vars_in, vars_in_terms, vars_in_test, vars_in_mark, standing_in}
-use Rattle.adj_facts.proofs.Members.{is_first, is_later, is_among, is_none, is_only, map_has, map_only, flat_has}
+use Rattle.def_text.specs.Written.{IsVariable, IsIndexed, IsWrittenTerm, AreWrittenTerms, IsWrittenTest, IsPlace, IsWrittenMark, IsWrittenAct, IsWrittenCode, IsWrittenProcedure}
+use Rattle.def_meaning.specs.Apart.{has_name}
+use Rattle.def_names.specs.Standing as names
+use Rattle.def_names.specs.Statements.{At, inner, statements}
+use Rattle.def_names.specs.Variables.{places, dummy_places, declared_places, statement_places, variables}
+use Rattle.def_names.proofs.Lists.{first_places-stand}
+use Rattle.def_names.specs.Numbers.{next, behind}
+use Rattle.def_flow.specs.Parts.{Part, part, parts, parts_from}
+use Rattle.def_names.specs.StatementsIn.{statements_in}
+use Rattle.def_flow.specs.Standing.{Place, part_of, body_of, Standing, outermost, held_in, standing}
+use Rattle.def_names.specs.VariableLists.{vars_in, vars_in_terms, vars_in_test, vars_in_mark, standing_in}
+use Rattle.adj_reach.proofs.Members.{is_first, is_later, is_among, is_none, is_only, map_has, map_only, flat_has}
 use Rattle.adj_flow.specs.Scoped.{HoldVariables}
 use Rattle.adj_activity.specs.Laws.{VariablesHold}
 

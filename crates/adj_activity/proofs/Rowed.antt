@@ -8,17 +8,18 @@ use Rattle.std.proofs.lemmas.List.Concat.{flat_map-cons}
 use Rattle.std.proofs.lemmas.List.Folds.{flat_map-map}
 use Rattle.adj_tree.specs.Code.{Var, plain, name_eq, Terms, Act, assign, choose, loop, during, call, runtime, Procedure}
 use Rattle.adj_tree.proofs.Names.{name_same, name_refl}
-use Rattle.adj_transpose.specs.Marks.{behind}
-use Rattle.adj_facts.specs.Reached.{leads}
-use Rattle.adj_facts.specs.Parts.{Part, part, parts_from, statements_in, parts, find_part}
-use Rattle.adj_facts.specs.Standing.{Standing}
-use Rattle.adj_facts.specs.Variables.{list_if}
-use Rattle.adj_facts.specs.Problem.{Problem, statements_of, ways_of, TakesPart, bound}
-use Rattle.adj_facts.specs.Activity.{Adjoint, statement, unit, IsPoint}
-use Rattle.adj_facts.specs.Rules.{Scope, Covers, with_args, called, at_actuals, holders, adjoint_steps_at}
-use Rattle.adj_facts.proofs.Members.{is_first, is_later}
-use Rattle.adj_facts.proofs.OwnPoints.{entry_point}
-use Rattle.adj_facts.proofs.Sets.{same_truth}
+use Rattle.def_names.specs.Numbers.{behind}
+use Rattle.adj_reach.specs.Reached.{leads}
+use Rattle.def_flow.specs.Parts.{Part, part, parts_from, parts, find_part}
+use Rattle.def_names.specs.StatementsIn.{statements_in}
+use Rattle.def_flow.specs.Standing.{Standing}
+use Rattle.def_names.specs.VariableLists.{list_if}
+use Rattle.def_flow.specs.Problem.{Problem, statements_of, ways_of, TakesPart, bound}
+use Rattle.def_flow.specs.Activity.{Adjoint, statement, unit, IsPoint}
+use Rattle.def_flow.specs.Rules.{Scope, Covers, with_args, called, at_actuals, holders, adjoint_steps_at}
+use Rattle.adj_reach.proofs.Members.{is_first, is_later}
+use Rattle.def_flow.proofs.OwnPoints.{entry_point}
+use Rattle.def_flow.proofs.Sets.{same_truth}
 use Rattle.adj_flow.specs.Rows.{Row, row_at, row_in, rows}
 use Rattle.adj_reach.specs.Edges.{Edges, flag}
 use Rattle.adj_flow.specs.Nodes.{node_in, linked}

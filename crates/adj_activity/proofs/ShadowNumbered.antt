@@ -2,20 +2,20 @@
 use Rattle.std.proofs.Common.{ℕ, List, [], ◌∷◌, ◌++◌, refl}
 use Rattle.std.specs.Prelude.{Contains, ◌&&◌, map, flat_map}
 use Rattle.adj_tree.specs.Code.{Var, plain, Terms}
-use Rattle.adj_transpose.specs.Marks.{Vars}
-use Rattle.adj_transpose.specs.Facts.{In}
-use Rattle.adj_facts.specs.Reached.{begins, leads}
-use Rattle.adj_facts.specs.Parts.{Part, parts}
-use Rattle.adj_facts.specs.Standing.{Standing}
-use Rattle.adj_facts.specs.Variables.{list_if}
-use Rattle.adj_facts.specs.Problem.{Problem, statements_of, ways_of, CallsUnit, TakesPart, flagged, bound}
-use Rattle.adj_facts.specs.Flow.{Node}
-use Rattle.adj_facts.specs.Activity.{HasShadow, LendsShadow}
-use Rattle.adj_facts.specs.Rules.{Scope, Covers, list_of, called, at_actuals, head_parts, somewhere, shadow_starts, shadow_called, shadow_steps}
-use Rattle.adj_facts.proofs.Numbered.{IsListed}
-use Rattle.adj_facts.proofs.Scoped.{called_only, head_only, flagged_stands}
-use Rattle.adj_facts.proofs.FlowListed as flowing
-use Rattle.adj_facts.proofs.ShadowListed as shadowing
+use Rattle.def_names.specs.Numbers.{Vars}
+use Rattle.def_sweep.specs.Facts.{In}
+use Rattle.adj_reach.specs.Reached.{begins, leads}
+use Rattle.def_flow.specs.Parts.{Part, parts}
+use Rattle.def_flow.specs.Standing.{Standing}
+use Rattle.def_names.specs.VariableLists.{list_if}
+use Rattle.def_flow.specs.Problem.{Problem, statements_of, ways_of, CallsUnit, TakesPart, flagged, bound}
+use Rattle.def_flow.specs.Flow.{Node}
+use Rattle.def_flow.specs.Activity.{HasShadow, LendsShadow}
+use Rattle.def_flow.specs.Rules.{Scope, Covers, list_of, called, at_actuals, head_parts, somewhere, shadow_starts, shadow_called, shadow_steps}
+use Rattle.def_flow.proofs.Numbered.{IsListed}
+use Rattle.def_flow.proofs.Scoped.{called_only, head_only, flagged_stands}
+use Rattle.def_flow.proofs.FlowListed as flowing
+use Rattle.def_flow.proofs.ShadowListed as shadowing
 use Rattle.adj_flow.specs.Nodes.{node_in, IsWide, IsNumbered, HasVariable, linked}
 use Rattle.adj_activity.specs.Edges.{head_shadows, active_shadows, shadow_nodes, lent_edges, unit_shadows, shadow_edges}
 use Rattle.adj_flow.proofs.Images.{Images, images_append, images_flat, images_map, images_if, listed_along}

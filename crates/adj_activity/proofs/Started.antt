@@ -2,23 +2,23 @@
 use Rattle.std.proofs.Common.{◌≡◌, inl, inr, ℕ, List, [], ◌∷◌, ◌++◌, Bool, map, refl, sym, ap, ◌∙◌, append-nil}
 use Rattle.std.specs.Prelude.{Contains, Some, flat_map, slice_get, slice_index_or, not, ◌&&◌, ◌||◌}
 use Rattle.adj_tree.specs.Code.{Var, plain, Act, assign, choose, loop, during, call, runtime}
-use Rattle.adj_transpose.specs.Marks.{point_before, point_after}
-use Rattle.adj_transpose.specs.Facts.{whole}
-use Rattle.adj_facts.specs.Parts.{Part, parts}
-use Rattle.adj_facts.specs.Ways.{Way}
-use Rattle.adj_facts.specs.Standing.{Standing}
-use Rattle.adj_facts.specs.Variables.{list_if}
-use Rattle.adj_facts.specs.Problem.{Problem, statements_of, ways_of, TakesPart, flagged}
-use Rattle.adj_facts.specs.Activity.{Activity, statement}
-use Rattle.adj_facts.specs.Rules.{Scope, Covers, list_of, somewhere, head_parts, adjoint_starts_at}
-use Rattle.adj_facts.proofs.Members.{is_first, is_later}
-use Rattle.adj_facts.proofs.OwnPoints.{own_before, own_after}
+use Rattle.def_names.specs.Numbering.{point_before, point_after}
+use Rattle.def_sweep.specs.Facts.{whole}
+use Rattle.def_flow.specs.Parts.{Part, parts}
+use Rattle.def_flow.specs.Ways.{Way}
+use Rattle.def_flow.specs.Standing.{Standing}
+use Rattle.def_names.specs.VariableLists.{list_if}
+use Rattle.def_flow.specs.Problem.{Problem, statements_of, ways_of, TakesPart, flagged}
+use Rattle.def_flow.specs.Activity.{Activity, statement}
+use Rattle.def_flow.specs.Rules.{Scope, Covers, list_of, somewhere, head_parts, adjoint_starts_at}
+use Rattle.adj_reach.proofs.Members.{is_first, is_later}
+use Rattle.def_flow.proofs.OwnPoints.{own_before, own_after}
 use Rattle.adj_flow.specs.Rows.{row_in, rows}
 use Rattle.adj_reach.specs.Edges.{flag}
 use Rattle.adj_flow.specs.Nodes.{node_in}
 use Rattle.adj_activity.specs.Edges.{entry_nodes, end_nodes, head_shadows, active_shadows, shadow_nodes, adjoint_number, adjoint_nodes}
 use Rattle.adj_flow.specs.Told.{told_in, told, told_of}
-use Rattle.adj_activity.specs.Told.{activity_told}
+use Rattle.adj_flow.specs.ActivityTold.{activity_told}
 use Rattle.adj_flow.specs.NodeView.{told_at}
 use Rattle.adj_flow.specs.Scoped.{scope_by}
 use Rattle.adj_activity.specs.Starts.{point_nodes, active_nodes, all_active, row_activity, outright_at, outright_in, all_outright}

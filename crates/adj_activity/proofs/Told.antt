@@ -2,19 +2,18 @@
 use Rattle.std.proofs.Common.{◌≡◌, ℕ, ◌*◌, List, Bool, true, refl}
 use Rattle.std.specs.Prelude.{◌↔◌}
 use Rattle.adj_tree.specs.Code.{Var}
-use Rattle.adj_transpose.specs.Facts.{In}
-use Rattle.adj_facts.specs.Activity.{Activity, statement, IsActivity, Adjointed, Shadowed}
-use Rattle.adj_facts.specs.Flow.{Varied, Useful}
-use Rattle.adj_facts.specs.Problem.{Problem}
-use Rattle.adj_facts.specs.Rules.{Scope, Covers}
-use Rattle.adj_facts.proofs.FlowListed as flowing
-use Rattle.adj_facts.proofs.AsLists.{reached_known}
-use Rattle.adj_facts.proofs.Numbered.{exact_by_number}
+use Rattle.def_sweep.specs.Facts.{In}
+use Rattle.def_flow.specs.Activity.{Activity, statement, IsActivity, Adjointed, Shadowed, IsPoint}
+use Rattle.def_flow.specs.Flow.{Varied, Useful}
+use Rattle.def_flow.specs.Problem.{Problem}
+use Rattle.def_flow.specs.Rules.{Scope, Covers}
+use Rattle.def_flow.proofs.FlowListed as flowing
+use Rattle.def_flow.proofs.AsLists.{reached_known}
+use Rattle.def_flow.proofs.Numbered.{exact_by_number}
 use Rattle.adj_flow.specs.Nodes.{IsWide, IsNumbered}
-use Rattle.adj_facts.specs.Activity.{IsPoint}
 use Rattle.adj_activity.specs.Laws.{AreFlags}
 use Rattle.adj_flow.specs.Told.{unit_at, unit_of, told, told_of}
-use Rattle.adj_activity.specs.Told.{activity_told}
+use Rattle.adj_flow.specs.ActivityTold.{activity_told}
 use Rattle.adj_activity.proofs.FlowNumbered.{varied_listed, useful_listed}
 use Rattle.adj_activity.proofs.ShadowNumbered.{shadow_listed}
 use Rattle.adj_activity.proofs.AdjointNumbered.{adjoint_listed}

@@ -1,14 +1,15 @@
 -- The steps of flow between numbers.
 use Rattle.std.specs.Prelude.{ℕ, ◌+◌, ◌*◌, List, [], ◌∷◌, ◌++◌, map, flat_map, not, ◌&&◌}
 use Rattle.adj_tree.specs.Code.{Var, plain, Act, assign, choose, loop, during, call, runtime}
-use Rattle.adj_transpose.specs.Marks.{Vars, point_before, point_after}
-use Rattle.adj_facts.specs.Parts.{Part, parts}
-use Rattle.adj_facts.specs.Ways.{Way, assigned_on, passed_on}
-use Rattle.adj_facts.specs.Standing.{Standing}
-use Rattle.adj_facts.specs.Variables.{list_if, occurring_in}
-use Rattle.adj_facts.specs.Problem.{Problem, statements_of, ways_of, flagged}
-use Rattle.adj_facts.specs.Activity.{Activity, Adjoint, statement, unit}
-use Rattle.adj_facts.specs.Rules.{Scope, list_of, called, at_actuals, head_parts, somewhere, adjoint_starts, adjoint_steps}
+use Rattle.def_names.specs.Numbers.{Vars}
+use Rattle.def_names.specs.Numbering.{point_before, point_after}
+use Rattle.def_flow.specs.Parts.{Part, parts}
+use Rattle.def_flow.specs.Ways.{Way, assigned_on, passed_on}
+use Rattle.def_flow.specs.Standing.{Standing}
+use Rattle.def_names.specs.VariableLists.{list_if, occurring_in}
+use Rattle.def_flow.specs.Problem.{Problem, statements_of, ways_of, flagged}
+use Rattle.def_flow.specs.Activity.{Activity, Adjoint, statement, unit}
+use Rattle.def_flow.specs.Rules.{Scope, list_of, called, at_actuals, head_parts, somewhere, adjoint_starts, adjoint_steps}
 use Rattle.adj_reach.specs.Edges.{Edges}
 use Rattle.adj_flow.specs.Nodes.{node_in, linked}
 

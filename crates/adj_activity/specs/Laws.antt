@@ -1,16 +1,16 @@
 -- What the numbers reach is what activity is to be.
 use Rattle.std.specs.Prelude.{List, ℕ, map, ◌↔◌, Bool, IsTrue}
 use Rattle.adj_tree.specs.Code.{Procedure}
-use Rattle.adj_text.specs.Written.{IsWritten}
-use Rattle.adj_names.specs.Variables.{variables}
-use Rattle.adj_facts.specs.Problem.{Problem}
-use Rattle.adj_facts.specs.Activity.{IsActivity}
-use Rattle.adj_facts.specs.Rules.{Scope, Covers}
+use Rattle.def_text.specs.Written.{IsWritten}
+use Rattle.def_names.specs.Variables.{variables}
+use Rattle.def_flow.specs.Problem.{Problem}
+use Rattle.def_flow.specs.Activity.{IsActivity}
+use Rattle.def_flow.specs.Rules.{Scope, Covers}
 use Rattle.adj_reach.specs.Edges.{ReachedFrom, ReachedBack, flag}
 use Rattle.adj_flow.specs.Nodes.{IsWide}
 use Rattle.adj_activity.specs.Edges.{flow_edges, entry_nodes, end_nodes, shadow_edges, shadow_nodes, adjoint_edges, adjoint_nodes}
 use Rattle.adj_flow.specs.Told.{told}
-use Rattle.adj_activity.specs.Told.{activity_told}
+use Rattle.adj_flow.specs.ActivityTold.{activity_told}
 use Rattle.adj_flow.specs.Scoped.{HoldVariables}
 
 -- the flags are those of what the edges of each rule reach from where it begins

@@ -1,7 +1,5 @@
 -- the definitions of the crate, a module a subject
 pub mod Edges
-pub mod Told
 pub mod View
 pub mod Starts
-pub mod Asked
 pub mod Laws

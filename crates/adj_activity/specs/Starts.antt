@@ -1,11 +1,11 @@
 -- Where the steps of each rule begin, as the code goes over the units.
 use Rattle.std.specs.Prelude.{ℕ, List, map, flat_map, Bool, true, false, ◌&&◌}
 use Rattle.adj_tree.specs.Code.{plain, Terms, none, more}
-use Rattle.adj_facts.specs.Standing.{Standing}
-use Rattle.adj_facts.specs.Variables.{list_if}
-use Rattle.adj_facts.specs.Problem.{flagged}
-use Rattle.adj_facts.specs.Activity.{Activity}
-use Rattle.adj_facts.specs.Rules.{list_of, somewhere, adjoint_starts_at}
+use Rattle.def_flow.specs.Standing.{Standing}
+use Rattle.def_names.specs.VariableLists.{list_if}
+use Rattle.def_flow.specs.Problem.{flagged}
+use Rattle.def_flow.specs.Activity.{Activity}
+use Rattle.def_flow.specs.Rules.{list_of, somewhere, adjoint_starts_at}
 use Rattle.adj_flow.specs.Rows.{Row}
 use Rattle.adj_reach.specs.Edges.{flag}
 use Rattle.adj_flow.specs.Nodes.{node_in}

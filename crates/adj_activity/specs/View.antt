@@ -1,23 +1,18 @@
 -- What the code goes over, as clauses see it.
 use Rattle.std.specs.Prelude.{ℕ, ◌+◌, ◌*◌, List, [], ◌∷◌, ◌++◌, map, flat_map, Bool, Option, Some, None}
 use Rattle.std.specs.Borrow.{Bor}
-use Rattle.adj_tree.specs.Code.{Var, plain, Terms, Act, assign, choose, loop, during, call, runtime}
-use Rattle.adj_tree.specs.declared.name.Name.{Name}
-use Rattle.adj_facts.specs.Standing.{Standing}
-use Rattle.adj_facts.specs.Variables.{list_if}
-use Rattle.adj_facts.specs.Problem.{bound}
-use Rattle.adj_facts.specs.Rules.{holders}
+use Rattle.adj_tree.specs.Code.{Var, Terms, Act, assign, choose, loop, during, call, runtime}
+use Rattle.def_flow.specs.Standing.{Standing}
+use Rattle.def_names.specs.VariableLists.{list_if}
+use Rattle.def_flow.specs.Problem.{bound}
+use Rattle.def_flow.specs.Rules.{holders}
 use Rattle.adj_flow.specs.Rows.{Row}
 use Rattle.adj_reach.specs.Edges.{Edges, flag}
-use Rattle.adj_writes.specs.Table.{value_of}
+use Rattle.adj_symbols_writes.specs.Table.{value_of}
 use Rattle.adj_flow.specs.NodeView.{vars_of, found_at, told_at}
 use Rattle.adj_activity.specs.Edges.{way_edges, assigned_edges, called_edges, lent_edges}
 use Rattle.adj_activity.specs.declared.steps.Steps.{Steps}
 use Rattle.adj_activity.specs.declared.steps.Steps.TheVariants.{Flow, Shadows, Adjoints}
-
--- a dummy and its actual
-abbrev pub pair_of : Bor Name × Bor Name → List ℕ × Var
-pair_of p = (p.0.now, plain p.1.now)
 
 -- a dummy of a unit that is called, and its actual; adjoints don't go by actuals
 abbrev pub pair_edges : Steps → ℕ → Row → ℕ → Row → List ℕ → Var → Edges

@@ -3,9 +3,9 @@
 ghost use Rattle.std.specs.Prelude.{◌≡◌, ◌++◌, ◌∷◌, ◌&&◌, ◌||◌, [], not, IfOk, OnOk, map};
 ghost use Rattle.adj_tree.specs.Code.{plain};
 ghost use Rattle.adj_tree.specs.View.{act_of, terms_of};
-ghost use Rattle.adj_transpose.specs.Facts.{whole, is_adjointed};
-ghost use Rattle.adj_facts.specs.Activity.{activity_marks, statement};
-ghost use Rattle.adj_facts.specs.Variables.{list_if};
+ghost use Rattle.def_sweep.specs.Facts.{whole, is_adjointed};
+ghost use Rattle.def_flow.specs.Activity.{activity_marks, statement};
+ghost use Rattle.def_names.specs.VariableLists.{list_if};
 ghost use Rattle.adj_flow.specs.Rows.{row_of};
 ghost use Rattle.adj_flow.specs.View.{standing_of};
 ghost use Rattle.adj_reach.specs.Edges.{flag};

@@ -2,14 +2,14 @@
 
 ghost use Rattle.std.specs.Prelude.{◌≡◌, ◌+◌, ◌*◌, ◌++◌, IfOk, OnOk, map};
 ghost use Rattle.adj_tree.specs.View.{act_of};
-ghost use Rattle.adj_facts.specs.Rules.{holders};
-ghost use Rattle.adj_writes.specs.Table.{value_of};
+ghost use Rattle.def_flow.specs.Rules.{holders};
+ghost use Rattle.adj_symbols_writes.specs.Table.{value_of};
 ghost use Rattle.adj_flow.specs.Rows.{row_of};
 ghost use Rattle.adj_flow.specs.View.{place_of, standing_of};
 ghost use Rattle.adj_flow.specs.NodeView.{found_at};
 ghost use Rattle.adj_activity.specs.View.{maker_edges, made_edges};
 
-use crate::calls::Units;
+use adj_flow::actuals::Units;
 use adj_flow::{Part, Place, Standing};
 use adj_tree::{Act, Memory};
 

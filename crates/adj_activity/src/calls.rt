@@ -1,84 +1,20 @@
 //! The edges of calls.
 
-ghost use Rattle.std.specs.Prelude.{◌≡◌, ◌++◌, ◌∷◌, [], OnOk, IfOk, MatchOption, None, Some, map, flat_map};
+ghost use Rattle.std.specs.Prelude.{◌≡◌, ◌++◌, OnOk, None, Some, map, flat_map};
 ghost use Rattle.adj_tree.specs.Code.{plain};
-ghost use Rattle.adj_tree.specs.View.{term_of, terms_of, act_of};
-ghost use Rattle.adj_facts.specs.Problem.{bound, name_of, with_actual};
+ghost use Rattle.adj_tree.specs.View.{act_of};
 ghost use Rattle.adj_flow.specs.Rows.{row_of};
-ghost use Rattle.adj_writes.specs.Table.{value_of};
+ghost use Rattle.adj_symbols_writes.specs.Table.{value_of};
 ghost use Rattle.adj_activity.specs.Edges.{called_edges, lent_edges};
 ghost use Rattle.adj_flow.specs.NodeView.{vars_of, told_at, found_at};
-ghost use Rattle.adj_activity.specs.View.{pair_of, pair_edges, found_edges, call_edges};
+ghost use Rattle.adj_flow.specs.Pairs.{pair_of};
+ghost use Rattle.adj_activity.specs.View.{pair_edges, call_edges};
 
 use crate::steps::{Site, Steps};
+use adj_flow::actuals::{Units, pairs};
 use adj_flow::{End, Part, Point, add_edge, number, told};
-use adj_tree::{Act, Expr, Exprs, Memory, Name};
-use adj_writes::table::Numbers;
+use adj_tree::{Act, Memory, Name};
 use std::alloc::Global;
-
-/// The units of a program, with their numbers by name.
-#[derive(Clone, Copy)]
-pub struct Units<'p, 'a> {
-    pub parts: &'p [Part<'a>],
-    pub numbers: &'p Numbers<'a>,
-}
-
-impl<'p, 'a> Units<'p, 'a> {
-    /// The first unit of a name.
-    pub fn find(self, name: &Name) -> Option<&'p Part<'a>>
-        ensures found { MatchOption result (found_at (map row_of self.entry.parts.now) (value_of name.now self.entry.numbers.now) ≡ None) (λ p. found_at (map row_of self.entry.parts.now) (value_of name.now self.entry.numbers.now) ≡ Some (row_of p.now)) }
-    {
-        match self.numbers.get(name) {
-            Some(number) => self.parts.get(number),
-            None => None,
-        }
-    }
-}
-
-// Adds a dummy with its actual, if that is a variable.
-fn add_pair<'a>(
-    pairs: &mut Vec<(&'a Name, &'a Name)>,
-    dummy: &'a Name,
-    actual: &'a Expr,
-) -> Result<(), Memory>
-    ensures added { OnOk result (map pair_of pairs.new.items ≡ map pair_of pairs.old.items ++ with_actual dummy.now (name_of (term_of actual.now)) []) }
-{
-    match actual {
-        Expr::Var(name) => {
-            pairs.push((dummy, name))?;
-            Ok(())
-        }
-        Expr::Lit(_)
-        | Expr::Elem(_, _)
-        | Expr::Neg(_)
-        | Expr::Bin(_, _, _)
-        | Expr::Pow(_, _)
-        | Expr::Power(_, _)
-        | Expr::Abs(_) => Ok(()),
-    }
-}
-
-/// The dummies with their actuals that are variables.
-pub fn pairs<'a>(
-    alloc: Global,
-    dummies: &'a [Name],
-    actuals: &'a Exprs,
-) -> Result<Vec<(&'a Name, &'a Name)>, Memory>
-    ensures pairs { IfOk result (λ v. map pair_of v.items ≡ bound dummies.now (terms_of actuals.now)) }
-{
-    let mut pairs = Vec::new(alloc);
-    let mut rest = actuals;
-    for dummy in dummies {
-        match rest {
-            Exprs::Empty => return Ok(pairs),
-            Exprs::More(first, next) => {
-                add_pair(&mut pairs, dummy, first)?;
-                rest = next;
-            }
-        }
-    }
-    Ok(pairs)
-}
 
 // Adds the edges of flow between a dummy and its actual in the call of a number.
 fn add_passed(

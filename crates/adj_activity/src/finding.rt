@@ -1,13 +1,13 @@
 //! The activity of a program.
 
 ghost use Rattle.std.specs.Prelude.{◌≡◌, ◌↔◌, ◌++◌, ℕ, IfOk, IsTrue, map};
-ghost use Rattle.adj_facts.specs.Activity.{IsActivity};
+ghost use Rattle.def_flow.specs.Activity.{IsActivity};
 ghost use Rattle.adj_flow.specs.Rows.{row_of};
 ghost use Rattle.adj_reach.specs.Edges.{ReachedFrom, ReachedBack, flag};
 ghost use Rattle.adj_activity.specs.View.{flow_listed, shadows_listed, adjoints_listed};
 ghost use Rattle.adj_activity.specs.Starts.{point_nodes, all_active, all_outright};
 ghost use Rattle.adj_flow.specs.Asked.{IsFlow, problem_of};
-ghost use Rattle.adj_activity.specs.Asked.{activity_of};
+ghost use Rattle.adj_flow.specs.Marked.{activity_of};
 
 use crate::adjointed::outright;
 use crate::found::{Found, Sets};

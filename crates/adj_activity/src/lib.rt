@@ -1,7 +1,7 @@
 //! Activity: which variables are varied and useful, which have a shadow, and which statements an adjoint.
 //!
 //! Variables at points, variables of units, and statements and units are nodes with numbers; edges between them are the steps of
-//! each rule (`specs/Edges.antt`), and one search finds what they reach. The crate stands on the definitions of `adj_facts`, on
+//! each rule (`specs/Edges.antt`), and one search finds what they reach. The crate stands on the definitions of `def_flow`, on
 //! `adj_flow` and on `adj_reach`; the layers above use that `activity` gives exactly the activity of a program.
 #![tactic(auto)]
 
@@ -19,7 +19,6 @@ mod ways;
 
 ghost use Rattle.adj_activity.specs.Laws.{ActivityIsTold, VariablesHold};
 
-pub use calls::{Units, pairs};
 pub use finding::activity;
 pub use program_flow::flow;
 

@@ -1,18 +1,19 @@
 //! The edges of the units that take part.
 
 ghost use Rattle.std.specs.Prelude.{◌≡◌, ◌++◌, IfOk, OnOk, map, flat_map};
-ghost use Rattle.adj_facts.specs.Variables.{list_if};
+ghost use Rattle.def_names.specs.VariableLists.{list_if};
 ghost use Rattle.adj_flow.specs.Rows.{row_of};
-ghost use Rattle.adj_writes.specs.Table.{value_of};
+ghost use Rattle.adj_symbols_writes.specs.Table.{value_of};
 ghost use Rattle.adj_flow.specs.View.{standing_of};
 ghost use Rattle.adj_flow.specs.NodeView.{found_at};
 ghost use Rattle.adj_activity.specs.View.{along_ways, standing_edges, row_edges, all_edges};
 
 use crate::adjoints::add_made;
-use crate::calls::{Units, add_call};
+use crate::calls::add_call;
 use crate::statements::add_assignment;
 use crate::steps::{Site, Steps};
 use crate::ways::add_ways;
+use adj_flow::actuals::Units;
 use adj_flow::{Flow, Standing};
 use adj_reach::flag_at;
 use adj_tree::Memory;

@@ -2,8 +2,8 @@
 
 ghost use Rattle.std.specs.Prelude.{◌≡◌, ◌+◌, ◌<◌, ◌^◌, IfOk, length, map};
 ghost use Rattle.adj_tree.specs.View.{procedure_of};
-ghost use Rattle.adj_text.specs.Written.{IsWritten};
-ghost use Rattle.adj_names.specs.Variables as names;
+ghost use Rattle.def_text.specs.Written.{IsWritten};
+ghost use Rattle.def_names.specs.Variables as names;
 ghost use Rattle.adj_flow.specs.Asked.{IsFlow, units_of};
 
 use adj_flow::Flow;

@@ -3,8 +3,8 @@
 ghost use Rattle.std.specs.Prelude.{◌≡◌, ◌+◌, ◌*◌, ◌++◌, OnOk, flat_map};
 ghost use Rattle.adj_tree.specs.Code.{plain};
 ghost use Rattle.adj_tree.specs.View.{term_of, act_of};
-ghost use Rattle.adj_facts.specs.Variables.{occurring_in};
-ghost use Rattle.adj_writes.specs.View.{vars_seen};
+ghost use Rattle.def_names.specs.VariableLists.{occurring_in};
+ghost use Rattle.adj_symbols_writes.specs.View.{vars_seen};
 ghost use Rattle.adj_flow.specs.Rows.{row_of};
 ghost use Rattle.adj_flow.specs.Nodes.{linked, node_in};
 ghost use Rattle.adj_activity.specs.Edges.{assigned_edges};

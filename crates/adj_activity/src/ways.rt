@@ -3,16 +3,16 @@
 ghost use Rattle.std.specs.Prelude.{◌≡◌, ◌++◌, ◌&&◌, ◌||◌, ℕ, List, not, is_some, IfOk, OnOk, map, flat_map};
 ghost use Rattle.adj_tree.specs.Code.{plain};
 ghost use Rattle.adj_tree.specs.View.{term_of, terms_of};
-ghost use Rattle.adj_writes.specs.Table.{value_of};
-ghost use Rattle.adj_facts.specs.Ways.{is_name, is_actual, assigned_on, passed_on};
+ghost use Rattle.adj_symbols_writes.specs.Table.{value_of};
+ghost use Rattle.def_flow.specs.Ways.{is_name, is_actual, assigned_on, passed_on};
 ghost use Rattle.adj_flow.specs.Rows.{row_of};
 ghost use Rattle.adj_flow.specs.WayView.{deed_of, way_of};
 ghost use Rattle.adj_activity.specs.Edges.{way_edges};
 ghost use Rattle.adj_flow.specs.NodeView.{vars_of};
 
 use adj_flow::{Deed, Part, Way, add_carried, number};
+use adj_symbols_writes::table::Numbers;
 use adj_tree::{Expr, Exprs, Memory, Name};
-use adj_writes::table::Numbers;
 use std::alloc::Global;
 
 // Adds the name that an actual is, if it is one.

@@ -2,11 +2,11 @@
 use Rattle.std.proofs.Common.{◌≡◌, ℕ, Bool, true, List, [], map, sym, ap, subst, ◌∙◌, Option, None}
 use Rattle.std.specs.Prelude.{ℤ}
 use Rattle.adj_tree.specs.Code.{Procedure}
-use Rattle.adj_meaning.specs.Units.{Slot}
+use Rattle.def_meaning.specs.Units.{Slot}
 use Rattle.adj_data.specs.declared.data_error.DataError.{DataError}
 use Rattle.adj_data.specs.Items.{Item}
 use Rattle.adj_data.specs.Entries.{Entry, entries_of, with_items}
-use Rattle.adj_names.specs.Fresh.{has_name}
+use Rattle.def_meaning.specs.Apart.{has_name}
 use Rattle.adj_data.specs.Faults.{Fault, or_else, data_items, items_fault, entries_fault, dummies_fault}
 use Rattle.adj_data.specs.Given.{IsFirstFault, slot_given}
 use Rattle.adj_data.specs.Marked.{wanted, titles_of, tangent_mark, adjoint_mark, marks_fault, marked_slots, slots_of, entries_check, check_fault, inputs_given, tangents_given, adjoints_given}

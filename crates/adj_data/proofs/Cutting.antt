@@ -4,8 +4,8 @@ use Rattle.std.specs.Prelude.{filter, not}
 use Rattle.std.specs.List.{prefix_len}
 use Rattle.std.proofs.lemmas.Bool.{ne_eqb}
 use Rattle.std.proofs.lemmas.List.Folds.{length-prefix_len}
-use Rattle.adj_text.specs.Char.{is_blank}
-use Rattle.adj_text.specs.Line.{in_front}
+use Rattle.def_text.specs.Char.{is_blank}
+use Rattle.def_text.specs.Line.{in_front}
 use Rattle.adj_data.specs.Items.{pieces, has_some, texts_in}
 
 -- how many characters stand before the first blank

@@ -8,9 +8,9 @@ use Rattle.adj_tree.specs.Code.{name_eq, plain, Declaration}
 use Rattle.adj_tree.specs.View.{extent_of, declaration_of}
 use Rattle.adj_tree.specs.declared.unit.Decl.{Decl}
 use Rattle.adj_tree.proofs.Names.{name_same}
-use Rattle.adj_meaning.specs.Units.{declared}
-use Rattle.adj_meaning.proofs.Booleans.{or_false}
-use Rattle.adj_names.specs.Fresh.{has_name}
+use Rattle.def_meaning.specs.Units.{declared}
+use Rattle.def_meaning.proofs.Booleans.{or_false}
+use Rattle.def_meaning.specs.Apart.{has_name}
 
 pub undeclared : (x : List ℕ) (ds : List Decl) (names : List (List ℕ)) → names ≡ map (λ e. e.name) ds → has_name x names ≡ false → declared (map declaration_of ds) (plain x) ≡ []
 undeclared x ds names h e = go ds (ap (has_name x) (sym h) ∙ e)

@@ -3,8 +3,8 @@ use Rattle.std.proofs.Common.{◌≡◌, ℕ, zero, suc, ◌*◌, ◌<◌, ◌�
 use Rattle.std.specs.Prelude.{ℤ, pos, negsuc, ◌*ℤ◌, int_le, int_lt, ◌&&◌, nat_lt}
 use Rattle.std.proofs.Math.IntN.{pos-*ℤ-pos}
 use Rattle.std.proofs.Math.Nat.{mul-le-mul_left}
-use Rattle.adj_meaning.specs.Units.{are_extents, elements}
-use Rattle.adj_meaning.proofs.Booleans.{and_true}
+use Rattle.def_meaning.specs.Units.{are_extents, elements}
+use Rattle.def_meaning.proofs.Booleans.{and_true}
 
 -- the extents multiplied so far
 pub record Multiplied (zs : List ℤ) (count : ℕ) : Type 0 where

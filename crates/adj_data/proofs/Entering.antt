@@ -3,14 +3,14 @@ use Rattle.std.proofs.Common.{◌≡◌, ℕ, Bool, true, false, List, [], ◌�
 use Rattle.std.specs.Prelude.{Option, Some, None, not, ◌||◌}
 use Rattle.adj_tree.specs.Code.{name_eq}
 use Rattle.adj_tree.proofs.Names.{name_same}
-use Rattle.adj_meaning.proofs.Booleans.{or_second}
-use Rattle.adj_text.specs.Line.{cut_lines, without_cr, next_number}
-use Rattle.adj_text.proofs.Cutting.{cut_lines-nil}
+use Rattle.def_meaning.proofs.Booleans.{or_second}
+use Rattle.def_text.specs.Line.{cut_lines, without_cr, next_number}
+use Rattle.def_text.proofs.Cutting.{cut_lines-nil}
 use Rattle.adj_data.specs.declared.data_error.DataError.{DataError}
 use Rattle.adj_data.specs.declared.data_error.DataError.TheVariants as error
 use Rattle.adj_data.specs.Items.{Item, items_with, items_of, texts_in, name_of, is_number, number_of_item}
 use Rattle.adj_data.specs.Entries.{Entry, numbers_before, entries_of, with_number, with_item, with_items}
-use Rattle.adj_names.specs.Fresh.{has_name}
+use Rattle.def_meaning.specs.Apart.{has_name}
 use Rattle.adj_sets.proofs.NameSets.{has-behind}
 use Rattle.adj_data.specs.Faults.{Fault, or_else, fault_at, number_code, name_code, item_code, items_fault, entries_fault}
 use Rattle.adj_data.specs.Given.{IsFirstFault}

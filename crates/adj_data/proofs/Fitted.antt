@@ -7,12 +7,12 @@ use Rattle.std.proofs.lemmas.List.{length-map}
 use Rattle.std.proofs.Math.IntN.{pos-*ℤ-pos}
 use Rattle.adj_tree.specs.Code.{plain, name_eq, Extent, fixed, given, Procedure}
 use Rattle.adj_tree.proofs.Names.{name_same, nat_refl}
-use Rattle.adj_meaning.specs.Numbers.{words}
-use Rattle.adj_meaning.specs.Store.{Store, Shape, size_of}
-use Rattle.adj_meaning.specs.Units.{extent_in, extents_of, shape_of, are_extents, elements, shape_fits, nth_cell, from_slot, entry_store, input_store, slot_fits, slots_fit}
-use Rattle.adj_meaning.proofs.Booleans.{and_true}
+use Rattle.def_meaning.specs.Numbers.{words}
+use Rattle.def_meaning.specs.Store.{Store, Shape, size_of}
+use Rattle.def_meaning.specs.Units.{extent_in, extents_of, shape_of, are_extents, elements, shape_fits, nth_cell, from_slot, entry_store, input_store, slot_fits, slots_fit}
+use Rattle.def_meaning.proofs.Booleans.{and_true}
 use Rattle.adj_data.specs.Entries.{Entry, entries_of, entry_named}
-use Rattle.adj_names.specs.Fresh.{has_name}
+use Rattle.def_meaning.specs.Apart.{has_name}
 use Rattle.adj_data.specs.Faults.{Fault, or_else, fault_at, only_number, extent_given, extents_given, with_first, entry_code, given_fault, dummy_fault, dummies_fault, data_items, items_fault}
 use Rattle.adj_data.specs.Given.{slot_in, slot_given}
 use Rattle.adj_data.specs.Marked.{titles_of, entries_check}

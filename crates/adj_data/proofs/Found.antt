@@ -5,10 +5,10 @@ use Rattle.std.proofs.Math.ListN.{set, get_or-map}
 use Rattle.std.proofs.lemmas.List.{length-map}
 use Rattle.std.proofs.lemmas.List.Quantifiers.{position-Some}
 use Rattle.adj_tree.specs.Code.{name_eq}
-use Rattle.adj_meaning.proofs.Booleans.{or_false}
+use Rattle.def_meaning.proofs.Booleans.{or_false}
 use Rattle.adj_data.specs.declared.entries.Entry.{Entry as CodeEntry}
 use Rattle.adj_data.specs.Entries.{Entry, entry_named, with_number}
-use Rattle.adj_names.specs.Fresh.{has_name}
+use Rattle.def_meaning.specs.Apart.{has_name}
 use Rattle.adj_data.specs.Faults.{name_code}
 use Rattle.adj_data.specs.Given.{entry_seen}
 

@@ -2,9 +2,9 @@
 use Rattle.std.specs.Prelude.{ℕ, ℤ, pos, negsuc, int_le, Bool, false, not, ◌&&◌, List, [], ◌∷◌, ◌++◌, map, length, Option, Some, None, if◌then◌else◌}
 use Rattle.std.specs.Ordering.{int_eq}
 use Rattle.adj_tree.specs.Code.{plain, Extent, fixed, given, Procedure}
-use Rattle.adj_text.specs.Line.{cut_lines}
-use Rattle.adj_meaning.specs.Units.{declared, are_extents, elements}
-use Rattle.adj_names.specs.Fresh.{has_name}
+use Rattle.def_text.specs.Line.{cut_lines}
+use Rattle.def_meaning.specs.Units.{declared, are_extents, elements}
+use Rattle.def_meaning.specs.Apart.{has_name}
 use Rattle.adj_data.specs.Items.{Item, items_of, name_of, is_number, number_of_item}
 use Rattle.adj_data.specs.Entries.{Entry, entries_of, entry_named, with_item}
 

@@ -2,9 +2,9 @@
 use Rattle.std.specs.Prelude.{◌≡◌, ℕ, ◌≤◌, Bool, List, [], length, None, true}
 use Rattle.std.specs.List.{All}
 use Rattle.adj_tree.specs.Code.{plain, Extent, fixed, given, Procedure}
-use Rattle.adj_meaning.specs.Numbers.{words}
-use Rattle.adj_meaning.specs.Units.{declared, fits}
-use Rattle.adj_names.specs.Fresh.{has_name}
+use Rattle.def_meaning.specs.Numbers.{words}
+use Rattle.def_meaning.specs.Units.{declared, fits}
+use Rattle.def_meaning.specs.Apart.{has_name}
 use Rattle.adj_data.specs.Faults.{data_fault}
 use Rattle.adj_data.specs.Given.{input_given}
 use Rattle.adj_data.specs.Marked.{check_fault, inputs_given}

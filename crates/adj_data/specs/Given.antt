@@ -2,8 +2,8 @@
 use Rattle.std.specs.Prelude.{◌≡◌, ℕ, ℤ, false, List, [], map, Option, Some}
 use Rattle.adj_tree.specs.Code.{plain, Procedure}
 use Rattle.adj_tree.specs.declared.value.Slot.{Slot as CodeSlot}
-use Rattle.adj_meaning.specs.Store.{scalar}
-use Rattle.adj_meaning.specs.Units.{Slot, declared, shape_of}
+use Rattle.def_meaning.specs.Store.{scalar}
+use Rattle.def_meaning.specs.Units.{Slot, declared, shape_of}
 use Rattle.adj_data.specs.DataCodes.{data_code_number}
 use Rattle.adj_data.specs.Entries.{Entry, entries_of, entry_named}
 use Rattle.adj_data.specs.Faults.{Fault, extents_given, data_items}

@@ -1,8 +1,8 @@
 -- Items of data: what stands between blanks, line by line. (docs/DATA.md, "Lines")
 use Rattle.std.specs.Prelude.{ℕ, ◌-◌, ◌==◌, ℤ, pos, neg_ℤ, Bool, true, false, not, ◌&&◌, ◌||◌, List, [], ◌∷◌, ◌++◌, map, filter, length, take, drop, if◌then◌else◌}
 use Rattle.std.specs.List.{list_all}
-use Rattle.adj_text.specs.Char.{minus, is_capital, is_digit, is_blank, upper, number_of}
-use Rattle.adj_text.specs.Line.{is_name_part, in_front, without_cr, next_number}
+use Rattle.def_text.specs.Char.{minus, is_capital, is_digit, is_blank, upper, number_of}
+use Rattle.def_text.specs.Line.{is_name_part, in_front, without_cr, next_number}
 
 -- one item with its line; `leads` where it is the first of that line, and `begins` where it is what begins an entry
 pub record Item : Type 0 where

@@ -1,7 +1,7 @@
 -- Marked: the data of `check`, with tangents and output adjoints. (docs/DATA.md, "Tangents and adjoints")
 use Rattle.std.specs.Prelude.{ℕ, ◌==◌, ℤ, pos, Bool, true, List, [], ◌∷◌, ◌++◌, map, length, Option, Some, None, codes, if◌then◌else◌}
 use Rattle.adj_tree.specs.Code.{Procedure}
-use Rattle.adj_meaning.specs.Units.{Slot}
+use Rattle.def_meaning.specs.Units.{Slot}
 use Rattle.adj_data.specs.Entries.{Entry, entries_of, entry_named}
 use Rattle.adj_data.specs.Faults.{Fault, or_else, fault_at, data_items, items_fault, dummies_fault}
 use Rattle.adj_data.specs.Given.{slot_given}

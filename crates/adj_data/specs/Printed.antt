@@ -1,8 +1,8 @@
 -- Printed: the lines of values. (docs/DATA.md, "Output")
 use Rattle.std.specs.Prelude.{ℕ, ℤ, List, [], ◌∷◌, ◌++◌, flat_map}
 use Rattle.std.specs.Fmt.{signed_decimal}
-use Rattle.adj_text.specs.Char.{blank, line_feed}
-use Rattle.adj_meaning.specs.Units.{Slot}
+use Rattle.def_text.specs.Char.{blank, line_feed}
+use Rattle.def_meaning.specs.Units.{Slot}
 
 -- numbers, each behind a blank
 abbrev pub numbers_text : List ℤ → List ℕ

@@ -1,6 +1,6 @@
 -- The sample: a program with a marked time loop over a field, and data for it, made from a number. (docs/COMMANDS.md, "`sample`")
 use Rattle.std.specs.Prelude.{ℕ, zero, suc, ◌+◌, ◌*◌, ◌/◌, ◌%◌, ◌^◌, List, [], ◌∷◌, ◌++◌, codes, decimal}
-use Rattle.adj_text.specs.Char.{blank}
+use Rattle.def_text.specs.Char.{blank}
 
 -- ---- sizes
 

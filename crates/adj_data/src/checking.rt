@@ -2,7 +2,7 @@
 
 ghost use Rattle.std.specs.Prelude.{◌≡◌, ℕ, List, None, length, map, IfErr, IfOk, OnOk};
 ghost use Rattle.adj_tree.specs.View.{procedure_of};
-ghost use Rattle.adj_names.specs.Fresh.{has_name};
+ghost use Rattle.def_meaning.specs.Apart.{has_name};
 ghost use Rattle.adj_data.specs.Given.{IsFirstFault, slot_seen};
 ghost use Rattle.adj_data.specs.Marked.{adjoints_given, check_fault, inputs_given, tangents_given, titles_of};
 

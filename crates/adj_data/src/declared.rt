@@ -3,7 +3,7 @@
 ghost use Rattle.std.specs.Prelude.{◌≡◌, ℕ, List, map, IfOk};
 ghost use Rattle.adj_tree.specs.Code.{plain};
 ghost use Rattle.adj_tree.specs.View.{extent_of, declaration_of};
-ghost use Rattle.adj_meaning.specs.Units.{declared as declared_in};
+ghost use Rattle.def_meaning.specs.Units.{declared as declared_in};
 
 use adj_sets::NameSet;
 use adj_tree::{Decl, Extent, Memory, Unit};

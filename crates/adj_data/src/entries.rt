@@ -1,7 +1,7 @@
 //! Entries, item by item.
 
 ghost use Rattle.std.specs.Prelude.{◌≡◌, List, ℕ, [], ◌∷◌, ◌++◌, true, map, None, Some, IfErr, IfOk, OnOk, MatchOption};
-ghost use Rattle.adj_text.specs.Line.{cut_lines};
+ghost use Rattle.def_text.specs.Line.{cut_lines};
 ghost use Rattle.adj_data.specs.Items.{Item, texts_in, items_with, items_of, is_title, name_of as capitals, number_of_item};
 ghost use Rattle.adj_data.specs.Entries.{Entry as AnEntry, entry_named, with_number, with_item, with_items};
 ghost use Rattle.adj_data.specs.Faults.{number_code, name_code, item_code, fault_at, entries_fault};

@@ -2,8 +2,8 @@
 
 ghost use Rattle.std.specs.Prelude.{◌≡◌, ◌∷◌, [], ◌<◌, ◌≤◌, not, length, map, MatchOption, IfOk};
 ghost use Rattle.std.specs.List.{list_all, prefix_len};
-ghost use Rattle.adj_text.specs.Char.{is_digit, is_blank};
-ghost use Rattle.adj_text.specs.Line.{is_name_part};
+ghost use Rattle.def_text.specs.Char.{is_digit, is_blank};
+ghost use Rattle.def_text.specs.Line.{is_name_part};
 ghost use Rattle.adj_data.specs.Titles.{takes_marks};
 ghost use Rattle.adj_data.specs.Items.{texts_in, is_name, is_mark, is_marked, is_title, name_of, are_digits, is_number};
 

@@ -1,7 +1,7 @@
 //! The data of a run: values from bytes, and lines of values.
 //!
 //! `values` gives the input of a unit that data are, or exactly their first fault; `print_values` writes values as lines.
-//! docs/DATA.md has the rules. The crate cuts lines by `adj_fixed`, and its extents and slots are those of `adj_meaning`.
+//! docs/DATA.md has the rules. The crate cuts lines by `adj_fixed`, and its extents and slots are those of `def_meaning`.
 //! The layer above uses: the values are the input that is given, which fits the unit (`data_fit`), and a fault is the first one.
 #![tactic(auto)]
 

@@ -2,7 +2,7 @@
 
 ghost use Rattle.std.specs.Prelude.{◌≡◌, ◌++◌, ℕ, ℤ, pos, List, Bool, None, Some, replicate, length, map, IfErr, IfOk, OnOk, if◌then◌else◌};
 ghost use Rattle.adj_data.specs.Entries.{entry_named};
-ghost use Rattle.adj_names.specs.Fresh.{has_name};
+ghost use Rattle.def_meaning.specs.Apart.{has_name};
 ghost use Rattle.adj_data.specs.Given.{IsFirstFault, slot_seen};
 ghost use Rattle.adj_data.specs.Marked.{mark_fault, marks_fault, marked_names, marked_slot, marked_slots, filled, wanted, zeros_like};
 

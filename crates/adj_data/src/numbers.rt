@@ -1,7 +1,7 @@
 //! Numbers of data.
 
 ghost use Rattle.std.specs.Prelude.{◌≡◌, ◌+◌, ◌^◌, min, Some, None, if◌then◌else◌};
-ghost use Rattle.adj_text.specs.Char.{number_of};
+ghost use Rattle.def_text.specs.Char.{number_of};
 ghost use Rattle.adj_data.specs.Items.{number_of_item};
 ghost use Rattle.adj_data.specs.Faults.{in_range};
 

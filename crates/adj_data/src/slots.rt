@@ -2,7 +2,7 @@
 
 ghost use Rattle.std.specs.Prelude.{◌≡◌, ◌*ℤ◌, ◌&&◌, pos, int_le, false, true, None, Some, map, option_map, IfErr, IfOk, OnOk, MatchOption};
 ghost use Rattle.adj_tree.specs.View.{extent_of};
-ghost use Rattle.adj_meaning.specs.Units.{are_extents, elements};
+ghost use Rattle.def_meaning.specs.Units.{are_extents, elements};
 ghost use Rattle.adj_data.specs.DataCodes.{data_code_number};
 ghost use Rattle.adj_data.specs.Entries.{entry_named};
 ghost use Rattle.adj_data.specs.Faults.{extent_given, extents_given, entry_code, given_fault};

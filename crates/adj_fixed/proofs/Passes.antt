@@ -4,11 +4,11 @@ use Rattle.std.proofs.lemmas.List.{nil_from_length}
 use Rattle.adj_tree.specs.declared.fault.Refusal.{Refusal}
 use Rattle.adj_tree.specs.declared.fault.Fault.{Fault}
 use Rattle.adj_tree.specs.declared.fault.Fault.TheVariants.{Memory, Refused}
-use Rattle.adj_text.specs.Limits.{Limits}
-use Rattle.adj_text.specs.Line.{cut_lines, is_data, next_number, without_cr}
-use Rattle.adj_text.specs.Lined.{Lines, Pass, ended, with_line, pass_over}
-use Rattle.adj_text.specs.Refused.{◌>>=◌, Fails}
-use Rattle.adj_text.proofs.Cutting.{cut_lines-nil}
+use Rattle.def_text.specs.Limits.{Limits}
+use Rattle.def_text.specs.Line.{cut_lines, is_data, next_number, without_cr}
+use Rattle.def_text.specs.Lined.{Lines, Pass, ended, with_line, pass_over}
+use Rattle.def_text.specs.Refused.{◌>>=◌, Fails}
+use Rattle.def_text.proofs.Cutting.{cut_lines-nil}
 
 module _ (limits : Limits) (p : Pass) (n : ℕ) (rest : List ℕ) (total : Result (List Lines) Refusal) (so_far : pass_over limits p n (cut_lines rest) ≡ total) where
   -- no line is left

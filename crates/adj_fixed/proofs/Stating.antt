@@ -4,10 +4,10 @@ use Rattle.std.proofs.lemmas.List.{drop_all, drop_more}
 use Rattle.adj_tree.specs.declared.fault.Refusal.{Refusal}
 use Rattle.adj_tree.specs.declared.fault.Fault.{Fault}
 use Rattle.adj_tree.specs.declared.fault.Fault.TheVariants.{Memory, Refused}
-use Rattle.adj_text.specs.Limits.{Limits}
-use Rattle.adj_text.specs.Refused.{◌>>=◌, Fails}
-use Rattle.adj_text.specs.Stated.{stated, all_stated}
-use Rattle.adj_text.specs.declared.stated.Stated.{Stated}
+use Rattle.def_text.specs.Limits.{Limits}
+use Rattle.def_text.specs.Refused.{◌>>=◌, Fails}
+use Rattle.def_text.specs.Stated.{stated, all_stated}
+use Rattle.def_text.specs.declared.stated.Stated.{Stated}
 use Rattle.adj_fixed.specs.declared.lined.Lined.{Lined}
 use Rattle.adj_fixed.specs.View.{lines_of, all_lines}
 

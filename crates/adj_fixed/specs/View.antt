@@ -1,6 +1,6 @@
 -- What clauses see of the reader's state.
 use Rattle.std.specs.Prelude.{List, map, option_map}
-use Rattle.adj_text.specs.Lined.{Lines, Directive, Pass}
+use Rattle.def_text.specs.Lined.{Lines, Directive, Pass}
 use Rattle.adj_fixed.specs.declared.lined.Lined.{Lined}
 use Rattle.adj_fixed.specs.declared.lined.Directive.{Directive as CodeDirective}
 use Rattle.adj_fixed.specs.declared.lined.Reader.{Reader}

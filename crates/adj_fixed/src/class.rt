@@ -2,13 +2,13 @@
 
 ghost use Rattle.std.specs.Prelude.{◌≡◌, ◌==◌, ◌+◌, ◌^◌, ◌<◌, ◌≤◌, bytes_eq, length, IfSome};
 ghost use Rattle.std.specs.List.{prefix_len};
-ghost use Rattle.adj_text.specs.Char.{nought};
-ghost use Rattle.adj_text.specs.Stated.{keyword_len, ending_len};
-ghost use Rattle.adj_text.specs.Class.{depth_behind, has_open, is_matched, group_len, begins_with_letter, behind_label, is_control, is_do, condition_end, inner, is_if, if_kind, whole, width_of, is_eight, is_integer, is_group, begun, kind_of, class_of};
+ghost use Rattle.def_text.specs.Char.{nought};
+ghost use Rattle.def_text.specs.Stated.{keyword_len, ending_len};
+ghost use Rattle.def_text.specs.Class.{depth_behind, has_open, is_matched, group_len, begins_with_letter, behind_label, is_control, is_do, condition_end, inner, is_if, if_kind, whole, width_of, is_eight, is_integer, is_group, begun, kind_of, class_of};
 
 use crate::line::behind;
 use crate::scan::{name_len, number_len};
-use adj_text::Kind;
+use def_text::Kind;
 
 // How many parentheses are open behind a character, of so many before it.
 fn depth_behind(depth: usize, c: u8) -> usize
@@ -223,7 +223,7 @@ fn if_kind(text: &[u8]) -> Kind
 }
 
 /// The class of a text, the first that fits; none where it has none.
-#[tactic(auto, using(adj_text::proofs::Fitting::kind_fits), unfolding(adj_text::specs::Class::kind_of))]
+#[tactic(auto, using(def_text::proofs::Fitting::kind_fits), unfolding(def_text::specs::Class::kind_of))]
 pub(crate) fn kind_of(text: &[u8]) -> Option<Kind>
     ensures value { result ≡ kind_of text.now }
     ensures fits { IfSome result (λ kind. keyword_len kind text.now + ending_len kind ≤ length text.now) }

@@ -1,7 +1,7 @@
 //! Where the data of a text begin.
 
 ghost use Rattle.std.specs.Prelude.{◌≡◌};
-ghost use Rattle.adj_text.specs.Data.{data_of};
+ghost use Rattle.def_text.specs.Data.{data_of};
 
 use crate::line::{is_data, next_number, split_line, without_cr};
 

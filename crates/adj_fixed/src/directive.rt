@@ -2,8 +2,8 @@
 
 ghost use Rattle.std.specs.Prelude.{◌≡◌, ◌≤◌, IfOk, length, option_map};
 ghost use Rattle.std.specs.List.{prefix_len};
-ghost use Rattle.adj_text.specs.Char.{is_blank};
-ghost use Rattle.adj_text.specs.Line.{begins_in_either_case, is_directive, behind_blanks, behind_name, snapshots_of, is_name_part, is_named, name_of, mark_in, operand, operand_of};
+ghost use Rattle.def_text.specs.Char.{is_blank};
+ghost use Rattle.def_text.specs.Line.{begins_in_either_case, is_directive, behind_blanks, behind_name, snapshots_of, is_name_part, is_named, name_of, mark_in, operand, operand_of};
 
 use crate::line::{are_blank, behind, front, number, push_folded};
 use crate::scan::{is_name_part, number_len};

@@ -2,8 +2,8 @@
 
 ghost use Rattle.std.specs.Prelude.{◌≡◌, ◌≢◌, ◌||◌, ◌+◌, ◌-◌, ◌<◌, ◌≤◌, ◌∷◌, ◌++◌, ℕ, MatchOption, OnOk, length, take, drop, slice_index};
 ghost use Rattle.std.specs.List.{list_all};
-ghost use Rattle.adj_text.specs.Char.{is_blank, are_blank, is_digit, is_allowed, folded, digits_of, number_of};
-ghost use Rattle.adj_text.specs.Line.{cut_lines, without_cr, next_number, is_data, column, is_comment, is_continuation, body, label_of};
+ghost use Rattle.def_text.specs.Char.{is_blank, are_blank, is_digit, is_allowed, folded, digits_of, number_of};
+ghost use Rattle.def_text.specs.Line.{cut_lines, without_cr, next_number, is_data, column, is_comment, is_continuation, body, label_of};
 
 use std::alloc::AllocError;
 

@@ -1,11 +1,11 @@
 //! Statements as their lines give them.
 
 ghost use Rattle.std.specs.Prelude.{◌≡◌, Ok, IsNone};
-ghost use Rattle.adj_text.specs.Limits.{limits_of};
-ghost use Rattle.adj_text.specs.Line.{label_of, operand_of};
-ghost use Rattle.adj_text.specs.Lined.{flushed, with_directive, with_initial, has_room, one_less, with_continuation, with_line, ended};
-ghost use Rattle.adj_text.specs.Lined as lined;
-ghost use Rattle.adj_text.specs.Refused.{Gives};
+ghost use Rattle.def_text.specs.Limits.{limits_of};
+ghost use Rattle.def_text.specs.Line.{label_of, operand_of};
+ghost use Rattle.def_text.specs.Lined.{flushed, with_directive, with_initial, has_room, one_less, with_continuation, with_line, ended};
+ghost use Rattle.def_text.specs.Lined as lined;
+ghost use Rattle.def_text.specs.Refused.{Gives};
 ghost use Rattle.adj_fixed.specs.View.{all_lines, pass_of};
 
 use crate::directive::{is_directive, operand_of};
@@ -13,8 +13,8 @@ use crate::line::{
     are_allowed, body, column, is_comment, is_continuation, is_data, label_of, next_number,
     push_folded, split_line, without_cr,
 };
-use adj_text::Mode;
 use adj_tree::{Code, Fault, Mark};
+use def_text::Mode;
 use std::alloc::Global;
 
 /// A statement: its lines, joined.
@@ -126,7 +126,7 @@ impl Reader {
     }
 
     // Takes the next line.
-    #[tactic(auto, unfolding(adj_text::specs::Lined::with_line))]
+    #[tactic(auto, unfolding(def_text::specs::Lined::with_line))]
     fn line(&mut self, alloc: Global, mode: Mode, number: u32, line: &[u8]) -> Result<(), Fault>
         ensures { Gives (λ _. pass_of self.new) result (with_line (limits_of mode) (pass_of self.old) number line.now) }
     {

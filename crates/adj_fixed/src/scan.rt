@@ -2,11 +2,11 @@
 
 ghost use Rattle.std.specs.Prelude.{◌≡◌, ◌+◌, ◌^◌, ◌<◌, ◌≤◌, length, IfOk, IfSome, option_map};
 ghost use Rattle.std.specs.List.{prefix_len};
-ghost use Rattle.adj_text.specs.Char.{is_digit, is_name_char};
-ghost use Rattle.adj_text.specs.Line.{is_name_part};
-ghost use Rattle.adj_text.specs.Token.{dotted, mark_of, stars, first_token, token_here, tokens_from};
+ghost use Rattle.def_text.specs.Char.{is_digit, is_name_char};
+ghost use Rattle.def_text.specs.Line.{is_name_part};
+ghost use Rattle.def_text.specs.Token.{dotted, mark_of, stars, first_token, token_here, tokens_from};
 
-use adj_text::{Token, TokenKind};
+use def_text::{Token, TokenKind};
 use std::alloc::{AllocError, Global};
 
 // What a name in capitals goes on with.

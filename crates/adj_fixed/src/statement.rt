@@ -2,16 +2,16 @@
 
 ghost use Rattle.std.specs.Prelude.{◌≡◌, ◌+◌, ◌≤◌, Ok, Some, length, All, IfOk, IfSome, option_map};
 ghost use Rattle.std.specs.List.{list_any};
-ghost use Rattle.adj_text.specs.Limits.{no_limits, limits_of};
-ghost use Rattle.adj_text.specs.Refused.{Gives};
-ghost use Rattle.adj_text.specs.Stated.{keyword_len, ending_len, call_place, tokens_of, is_too_long, is_marked_long, stated, all_stated, statements_of, IsCovered};
+ghost use Rattle.def_text.specs.Limits.{no_limits, limits_of};
+ghost use Rattle.def_text.specs.Refused.{Gives};
+ghost use Rattle.def_text.specs.Stated.{keyword_len, ending_len, call_place, tokens_of, is_too_long, is_marked_long, stated, all_stated, statements_of, IsCovered};
 ghost use Rattle.adj_fixed.specs.View.{lines_of, all_lines};
 
 use crate::class::{class_of, condition_end, inner, is_matched, kind_of, width_of};
 use crate::lined::{Lined, lines_of};
 use crate::scan::tokens;
-use adj_text::{Kind, Mode, Stated, Token, TokenKind, Tokens};
 use adj_tree::{Bytes, Code, Fault, Mark};
+use def_text::{Kind, Mode, Stated, Token, TokenKind, Tokens};
 use std::alloc::{AllocError, Global};
 
 // How many characters a name may have.
@@ -111,7 +111,7 @@ fn is_marked_long(limit: usize, kind: Kind, mark: &Mark) -> bool
 }
 
 // A statement with its class and tokens, or its first fault.
-#[tactic(auto, unfolding(adj_text::specs::Stated::stated))]
+#[tactic(auto, unfolding(def_text::specs::Stated::stated))]
 fn stated(alloc: Global, mode: Mode, lined: Lined) -> Result<Stated, Fault>
     ensures { Gives (λ s. s) result (stated (limits_of mode) (lines_of lined)) }
 {

@@ -3,14 +3,15 @@ use Rattle.std.proofs.Common.{◌≡◌, ◌⊎◌, inl, inr, ℕ, zero, suc, �
 use Rattle.std.specs.Prelude.{Contains, Option, Some, None, if◌then◌else◌, slice_get}
 use Rattle.std.proofs.lemmas.List.Elements.{Contains-get_or, Contains-append_left, Contains-append_right, Contains-append_cases}
 use Rattle.adj_tree.specs.Code.{name_eq, Terms, Act, assign, choose, loop, during, call, runtime, Procedure}
-use Rattle.adj_transpose.specs.Marks.{behind}
-use Rattle.adj_facts.specs.Parts.{Part, part, parts_from, statements_in, parts, find_part}
-use Rattle.adj_facts.specs.Standing.{Standing, standing, outermost}
-use Rattle.adj_facts.specs.Problem.{Problem, statements_of, CallsUnit, IsHead}
-use Rattle.adj_facts.proofs.Members.{is_first, is_later, is_among, is_none}
+use Rattle.def_names.specs.Numbers.{behind}
+use Rattle.def_flow.specs.Parts.{Part, part, parts_from, parts, find_part}
+use Rattle.def_names.specs.StatementsIn.{statements_in}
+use Rattle.def_flow.specs.Standing.{Standing, standing, outermost}
+use Rattle.def_flow.specs.Problem.{Problem, statements_of, CallsUnit, IsHead}
+use Rattle.adj_reach.proofs.Members.{is_first, is_later, is_among, is_none}
 use Rattle.adj_reach.specs.Edges.{AreBelow}
-use Rattle.adj_facts.proofs.Numbered.{IsListed}
-use Rattle.adj_facts.proofs.PartsListed.{part_above, part_own}
+use Rattle.def_flow.proofs.Numbered.{IsListed}
+use Rattle.def_flow.proofs.PartsListed.{part_above, part_own}
 use Rattle.adj_flow.specs.Calls.{find_number, called_by, with_call, calls_in, calls_from}
 
 -- ---- units and their numbers

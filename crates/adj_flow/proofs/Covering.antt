@@ -3,13 +3,14 @@ use Rattle.std.proofs.Common.{◌≡◌, ℕ, ◌+◌, ◌≤◌, ◌<◌, List,
 use Rattle.std.specs.Prelude.{Contains, ◌↔◌, IsTrue, All, slice_index_or}
 use Rattle.std.proofs.lemmas.List.{length-map}
 use Rattle.adj_tree.specs.Code.{plain, Procedure}
-use Rattle.adj_facts.specs.Reached.{begins, leads}
-use Rattle.adj_facts.specs.Parts.{Part, parts, statements_in}
-use Rattle.adj_facts.specs.Problem.{Problem, TakesPart}
-use Rattle.adj_facts.specs.Rules.{Covers}
-use Rattle.adj_facts.proofs.Members.{map_has, filter_has, filter_only}
-use Rattle.adj_facts.proofs.Numbers.{part_is_there}
-use Rattle.adj_facts.proofs.PartsListed.{part_above}
+use Rattle.adj_reach.specs.Reached.{begins, leads}
+use Rattle.def_flow.specs.Parts.{Part, parts}
+use Rattle.def_names.specs.StatementsIn.{statements_in}
+use Rattle.def_flow.specs.Problem.{Problem, TakesPart}
+use Rattle.def_flow.specs.Rules.{Covers}
+use Rattle.adj_reach.proofs.Members.{map_has, filter_has, filter_only}
+use Rattle.def_flow.proofs.Numbers.{part_is_there}
+use Rattle.def_flow.proofs.PartsListed.{part_above}
 use Rattle.adj_reach.specs.Edges.{flag}
 use Rattle.adj_flow.specs.Nodes.{IsWide}
 use Rattle.adj_flow.specs.Scoped.{scope_by, HoldVariables}

@@ -2,11 +2,11 @@
 use Rattle.std.proofs.Common.{◌≡◌, ◌⊎◌, inl, inr, List, [], ◌∷◌, ◌++◌, Bool, true, false, refl, sym, ap, subst}
 use Rattle.std.specs.Prelude.{Contains, map, flat_map}
 use Rattle.std.proofs.lemmas.List.Elements.{Contains-append_left, Contains-append_right, Contains-append_cases}
-use Rattle.adj_facts.specs.Variables.{list_if}
-use Rattle.adj_facts.specs.Rules.{against}
-use Rattle.adj_facts.proofs.Members.{is_first, is_none, is_only, map_has, map_only, flat_has, flat_only}
-use Rattle.adj_facts.proofs.AsLists.{AreLists}
-use Rattle.adj_facts.proofs.Numbered.{IsListed}
+use Rattle.def_names.specs.VariableLists.{list_if}
+use Rattle.def_flow.specs.Rules.{against}
+use Rattle.adj_reach.proofs.Members.{is_first, is_none, is_only, map_has, map_only, flat_has, flat_only}
+use Rattle.def_flow.proofs.AsLists.{AreLists}
+use Rattle.def_flow.proofs.Numbered.{IsListed}
 
 pub record Images {A B : Type 0} (R : A → B → Type 0) (xs : List A) (ys : List B) : Type 0 where
   pub has : (x : A) (y : B) → Contains xs x → R x y → Contains ys y

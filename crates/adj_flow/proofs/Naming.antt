@@ -3,8 +3,8 @@ use Rattle.std.proofs.Common.{◌≡◌, ℕ, suc, List, [], ◌∷◌, Bool, tr
 use Rattle.std.specs.Prelude.{◌↔◌, IsTrue, Some, if◌then◌else◌}
 use Rattle.adj_tree.specs.Code.{plain, name_eq}
 use Rattle.adj_tree.proofs.Names.{name_same, name_refl}
-use Rattle.adj_facts.proofs.Sets.{same_truth}
-use Rattle.adj_writes.specs.Graph.{place_from}
+use Rattle.def_flow.proofs.Sets.{same_truth}
+use Rattle.adj_symbols_writes.specs.Graph.{place_from}
 use Rattle.adj_flow.specs.Nodes.{place_in}
 
 -- the place of a name is that of its variable

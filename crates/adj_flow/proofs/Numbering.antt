@@ -2,9 +2,10 @@
 use Rattle.std.proofs.Common.{◌≡◌, ℕ, suc, ◌+◌, ◌++◌, List, [], ◌∷◌, ap, ◌∙◌, arith, length, map, length-append}
 use Rattle.std.proofs.lemmas.List.{length-map, append_assoc}
 use Rattle.adj_tree.specs.Code.{Test, Act, assign, choose, loop, during, call, runtime, Code, stop, step}
-use Rattle.adj_transpose.specs.Marks.{next, behind, point_before, point_after}
-use Rattle.adj_facts.specs.Standing.{Place, part_of, body_of, Standing, held_in, standing}
-use Rattle.adj_facts.specs.Ways.{Deed, passing, Way, way, act_ways, ways}
+use Rattle.def_names.specs.Numbers.{next, behind}
+use Rattle.def_names.specs.Numbering.{point_before, point_after}
+use Rattle.def_flow.specs.Standing.{Place, part_of, body_of, Standing, held_in, standing}
+use Rattle.def_flow.specs.Ways.{Deed, passing, Way, way, act_ways, ways}
 use Rattle.adj_flow.specs.View.{statement_at}
 
 mutual

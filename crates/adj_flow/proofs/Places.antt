@@ -3,12 +3,12 @@ use Rattle.std.proofs.Common.{◌≡◌, ◌⊎◌, inl, inr, ℕ, suc, ◌+◌,
 use Rattle.std.specs.Prelude.{Contains, Option, Some, None, if◌then◌else◌}
 use Rattle.std.proofs.lemmas.Nat.{div-mul-add, mod-mul-add}
 use Rattle.adj_tree.specs.Code.{Var, var_eq}
-use Rattle.adj_meaning.proofs.Variables.{var_refl, var_same}
-use Rattle.adj_facts.specs.Parts.{Part}
-use Rattle.adj_facts.specs.Problem.{Problem, TakesPart}
-use Rattle.adj_facts.specs.Flow.{Node}
-use Rattle.adj_facts.specs.Rules.{Scope, list_of}
-use Rattle.adj_facts.proofs.Members.{is_first, is_later, is_among, is_none}
+use Rattle.def_meaning.proofs.Variables.{var_refl, var_same}
+use Rattle.def_flow.specs.Parts.{Part}
+use Rattle.def_flow.specs.Problem.{Problem, TakesPart}
+use Rattle.def_flow.specs.Flow.{Node}
+use Rattle.def_flow.specs.Rules.{Scope, list_of}
+use Rattle.adj_reach.proofs.Members.{is_first, is_later, is_among, is_none}
 use Rattle.adj_flow.specs.Nodes.{place_in, number_at, node_in, IsWide, HasNumber, linked}
 use Rattle.adj_flow.proofs.Images.{Images, images_one}
 

@@ -6,16 +6,17 @@ use Rattle.std.proofs.lemmas.List.{map-append}
 use Rattle.std.proofs.lemmas.List.Concat.{flat_map-cons}
 use Rattle.std.proofs.lemmas.List.Folds.{flat_map-map}
 use Rattle.adj_tree.specs.Code.{Var, plain, name_eq, Procedure}
-use Rattle.adj_transpose.specs.Marks.{behind}
-use Rattle.adj_facts.specs.Parts.{Part, part, parts_from, statements_in, parts, find_part}
-use Rattle.adj_facts.specs.Variables.{list_if}
-use Rattle.adj_facts.specs.Problem.{Problem, TakesPart}
-use Rattle.adj_facts.specs.Activity.{IsPoint}
-use Rattle.adj_facts.specs.Rules.{Scope, Covers}
-use Rattle.adj_facts.proofs.Members.{is_first, is_later}
-use Rattle.adj_writes.specs.Graph.{number_from, place_from}
-use Rattle.adj_writes.proofs.Numbers.{place_above}
-use Rattle.adj_writes.proofs.Rows.{name_comm}
+use Rattle.def_names.specs.Numbers.{behind}
+use Rattle.def_flow.specs.Parts.{Part, part, parts_from, parts, find_part}
+use Rattle.def_names.specs.StatementsIn.{statements_in}
+use Rattle.def_names.specs.VariableLists.{list_if}
+use Rattle.def_flow.specs.Problem.{Problem, TakesPart}
+use Rattle.def_flow.specs.Activity.{IsPoint}
+use Rattle.def_flow.specs.Rules.{Scope, Covers}
+use Rattle.adj_reach.proofs.Members.{is_first, is_later}
+use Rattle.adj_symbols_writes.specs.Graph.{number_from, place_from}
+use Rattle.adj_symbols_writes.proofs.Numbers.{place_above}
+use Rattle.adj_symbols_writes.proofs.Rows.{name_comm}
 use Rattle.adj_flow.specs.Rows.{Row, row_at, row_in, rows}
 use Rattle.adj_reach.specs.Edges.{flag}
 use Rattle.adj_flow.specs.Nodes.{node_in}

@@ -2,23 +2,24 @@
 use Rattle.std.proofs.Common.{◌≡◌, ◌⊎◌, inl, inr, ℕ, ◌==◌, List, [], ◌∷◌, Bool, true, false, refl, sym, ap, ◌∙◌, subst}
 use Rattle.std.specs.Prelude.{Contains, ◌↔◌, IsTrue, Option, Some, None, if◌then◌else◌}
 use Rattle.adj_tree.specs.Code.{Var}
-use Rattle.adj_transpose.specs.Facts.{In}
-use Rattle.adj_facts.specs.Reached.{Reached}
-use Rattle.adj_facts.specs.Closure.{is_in}
-use Rattle.adj_facts.specs.Computed.{same_number}
-use Rattle.adj_facts.specs.Parts.{Part, statements_in}
-use Rattle.adj_facts.specs.Ways.{Way}
-use Rattle.adj_facts.specs.Problem.{Problem, ways_of, TakesPart}
-use Rattle.adj_facts.specs.Flow.{Node}
-use Rattle.adj_facts.specs.Activity.{IsPoint}
-use Rattle.adj_facts.specs.Rules.{Scope, Covers}
-use Rattle.adj_facts.proofs.Members.{is_first, is_later, is_among, is_none, is_only, flat_has, flat_only}
-use Rattle.adj_facts.proofs.Closure.{in_only, in_it}
-use Rattle.adj_facts.proofs.Sameness.{numbers_same}
-use Rattle.adj_facts.proofs.Numbered.{IsListed, reached_has, exact_by_number}
-use Rattle.adj_facts.proofs.Numbers.{part_is_there}
-use Rattle.adj_facts.proofs.PartsListed.{part_own}
-use Rattle.adj_facts.proofs.Points.{one_point}
+use Rattle.def_sweep.specs.Facts.{In}
+use Rattle.adj_reach.specs.Reached.{Reached}
+use Rattle.def_flow.specs.Closure.{is_in}
+use Rattle.def_flow.specs.Scopes.{same_number}
+use Rattle.def_flow.specs.Parts.{Part}
+use Rattle.def_names.specs.StatementsIn.{statements_in}
+use Rattle.def_flow.specs.Ways.{Way}
+use Rattle.def_flow.specs.Problem.{Problem, ways_of, TakesPart}
+use Rattle.def_flow.specs.Flow.{Node}
+use Rattle.def_flow.specs.Activity.{IsPoint}
+use Rattle.def_flow.specs.Rules.{Scope, Covers}
+use Rattle.adj_reach.proofs.Members.{is_first, is_later, is_among, is_none, is_only, flat_has, flat_only}
+use Rattle.def_flow.proofs.Closure.{in_only, in_it}
+use Rattle.def_flow.proofs.NumbersSame.{numbers_same}
+use Rattle.def_flow.proofs.Numbered.{IsListed, reached_has, exact_by_number}
+use Rattle.def_flow.proofs.Numbers.{part_is_there}
+use Rattle.def_flow.proofs.PartsListed.{part_own}
+use Rattle.def_flow.proofs.Points.{one_point}
 use Rattle.adj_reach.specs.Edges.{flag}
 use Rattle.adj_flow.specs.Nodes.{node_in, IsNumbered, HasNumber}
 use Rattle.adj_flow.specs.Told.{points_of, unit_at, unit_of, flag_at, told_in}

@@ -1,6 +1,7 @@
 -- The variables that are active in a statement, by flags.
 use Rattle.std.specs.Prelude.{◌&&◌}
-use Rattle.adj_transpose.specs.Marks.{Vars, point_before}
+use Rattle.def_names.specs.Numbers.{Vars}
+use Rattle.def_names.specs.Numbering.{point_before}
 use Rattle.adj_flow.specs.Rows.{row_of}
 use Rattle.adj_flow.specs.NodeView.{told_at}
 use Rattle.adj_flow.specs.declared.occurrences.Occurrences.{Occurrences}

@@ -3,10 +3,10 @@ use Rattle.std.specs.Prelude.{◌≡◌, ◌↔◌, ◌<◌, ◌≤◌, ℕ, Lis
 use Rattle.adj_tree.specs.Code.{Procedure}
 use Rattle.adj_tree.specs.View.{procedure_of}
 use Rattle.adj_tree.specs.declared.marks.Head.{Head}
-use Rattle.adj_facts.specs.Parts.{Part, parts}
-use Rattle.adj_facts.specs.Problem.{Problem, TakesPart}
-use Rattle.adj_writes.specs.Graph.{number_from}
-use Rattle.adj_writes.specs.Table.{value_of}
+use Rattle.def_flow.specs.Parts.{Part, parts}
+use Rattle.def_flow.specs.Problem.{Problem, TakesPart}
+use Rattle.adj_symbols_writes.specs.Graph.{number_from}
+use Rattle.adj_symbols_writes.specs.Table.{value_of}
 use Rattle.adj_flow.specs.Rows.{row_of, rows}
 use Rattle.adj_flow.specs.declared.units.Flow.{Flow}
 use Rattle.adj_reach.specs.Edges.{flag}

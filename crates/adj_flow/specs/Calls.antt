@@ -1,8 +1,8 @@
 -- The calls of a program by the numbers of units: what `taking_part` goes over.
 use Rattle.std.specs.Prelude.{ℕ, suc, List, [], ◌∷◌, ◌++◌, Option, Some, None, if◌then◌else◌}
 use Rattle.adj_tree.specs.Code.{name_eq, Act, assign, choose, loop, during, call, runtime, Procedure}
-use Rattle.adj_transpose.specs.Marks.{behind}
-use Rattle.adj_facts.specs.Standing.{outermost, Standing, standing}
+use Rattle.def_names.specs.Numbers.{behind}
+use Rattle.def_flow.specs.Standing.{outermost, Standing, standing}
 
 -- the number of the unit of a name, the first unit having the number u
 abbrev pub find_number : ℕ → List Procedure → List ℕ → Option ℕ

@@ -1,7 +1,7 @@
 -- What clauses see of variables at points.
 use Rattle.std.specs.Prelude.{ℕ, List, map, Bool, Option, Some, None, slice_get}
 use Rattle.adj_tree.specs.Code.{Var, plain}
-use Rattle.adj_transpose.specs.Marks.{Vars}
+use Rattle.def_names.specs.Numbers.{Vars}
 use Rattle.adj_flow.specs.Rows.{Row, row_of}
 use Rattle.adj_flow.specs.Nodes.{node_in}
 use Rattle.adj_flow.specs.Told.{flag_at}

@@ -1,11 +1,11 @@
 -- Nodes by numbers: the variable that stands at place j among those of its unit has, at the point p, the number p * w + j.
 use Rattle.std.specs.Prelude.{◌≡◌, ℕ, suc, ◌+◌, ◌*◌, ◌≤◌, List, [], ◌∷◌, length, Option, Some, None, if◌then◌else◌}
 use Rattle.adj_tree.specs.Code.{Var, var_eq}
-use Rattle.adj_facts.specs.Parts.{Part}
-use Rattle.adj_facts.specs.Problem.{Problem, TakesPart}
-use Rattle.adj_facts.specs.Activity.{IsPoint}
-use Rattle.adj_facts.specs.Rules.{Scope}
-use Rattle.adj_facts.specs.Flow.{Node}
+use Rattle.def_flow.specs.Parts.{Part}
+use Rattle.def_flow.specs.Problem.{Problem, TakesPart}
+use Rattle.def_flow.specs.Activity.{IsPoint}
+use Rattle.def_flow.specs.Rules.{Scope}
+use Rattle.def_flow.specs.Flow.{Node}
 use Rattle.adj_reach.specs.Edges.{Edges}
 
 -- the place of a variable in a list, the first place being k

@@ -2,10 +2,10 @@
 use Rattle.std.specs.Prelude.{ℕ, List, [], map, slice_index_or}
 use Rattle.adj_tree.specs.Code.{Procedure}
 use Rattle.adj_tree.specs.View.{procedure_of}
-use Rattle.adj_facts.specs.Parts as parts
-use Rattle.adj_facts.specs.Ways.{Way}
-use Rattle.adj_facts.specs.Standing.{Standing}
-use Rattle.adj_facts.specs.Problem.{statements_of, ways_of}
+use Rattle.def_flow.specs.Parts as parts
+use Rattle.def_flow.specs.Ways.{Way}
+use Rattle.def_flow.specs.Standing.{Standing}
+use Rattle.def_flow.specs.Problem.{statements_of, ways_of}
 use Rattle.adj_flow.specs.View.{standing_of}
 use Rattle.adj_flow.specs.WayView.{way_of}
 use Rattle.adj_flow.specs.declared.row.Part.{Part}

@@ -1,11 +1,11 @@
 -- The scope that flags and lists of variables make.
 use Rattle.std.specs.Prelude.{ℕ, List, [], map, filter, Bool, Contains, slice_index_or}
 use Rattle.adj_tree.specs.Code.{Var, plain, Procedure}
-use Rattle.adj_facts.specs.Parts as parts
-use Rattle.adj_facts.specs.Standing.{Standing}
-use Rattle.adj_facts.specs.Variables.{standing_in}
-use Rattle.adj_facts.specs.Problem.{statements_of}
-use Rattle.adj_facts.specs.Rules.{Scope}
+use Rattle.def_flow.specs.Parts as parts
+use Rattle.def_flow.specs.Standing.{Standing}
+use Rattle.def_names.specs.VariableLists.{standing_in}
+use Rattle.def_flow.specs.Problem.{statements_of}
+use Rattle.def_flow.specs.Rules.{Scope}
 
 -- the units that take part, with these variables
 abbrev pub scope_by : List (List (List ℕ)) → (ℕ → Bool) → List Procedure → Scope

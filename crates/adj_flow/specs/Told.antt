@@ -1,11 +1,11 @@
 -- The sets that flags tell: the flag of a node says whether its variable is in the set at its point.
 use Rattle.std.specs.Prelude.{ℕ, ◌==◌, List, [], ◌∷◌, flat_map, Bool, false, Option, Some, None, if◌then◌else◌}
-use Rattle.adj_transpose.specs.Marks.{Vars}
-use Rattle.adj_facts.specs.Closure.{is_in}
-use Rattle.adj_facts.specs.Computed.{same_number}
-use Rattle.adj_facts.specs.Parts.{Part}
-use Rattle.adj_facts.specs.Problem.{ways_of}
-use Rattle.adj_facts.specs.Rules.{Scope}
+use Rattle.def_names.specs.Numbers.{Vars}
+use Rattle.def_flow.specs.Closure.{is_in}
+use Rattle.def_flow.specs.Scopes.{same_number}
+use Rattle.def_flow.specs.Parts.{Part}
+use Rattle.def_flow.specs.Problem.{ways_of}
+use Rattle.def_flow.specs.Rules.{Scope}
 use Rattle.adj_reach.specs.Edges.{flag}
 use Rattle.adj_flow.specs.Nodes.{node_in}
 

@@ -1,27 +1,31 @@
 //! What the analyses work on: the statements of a program where they stand, the variables in them, the ways between its points, the units that take part,
 //! and its variables at points as nodes with numbers.
 //!
-//! It stands on the trees, the definitions of `adj_facts` and on `adj_reach`. The layers above use that `taking_part` gives
+//! It stands on the trees, the definitions of `def_flow` and on `adj_reach`. The layers above use that `taking_part` gives
 //! exactly the units that calls reach from the head, and that a flag of a node tells of the variable at the point.
 #![tactic(auto)]
 
+pub mod actuals;
 mod nodes;
 mod occurrences;
 mod outline;
 mod part;
 mod row;
 mod rows;
+pub mod sides;
 mod standing;
 mod units;
 pub mod variables;
 mod way;
 
+pub use actuals::{Units, pairs};
 pub use nodes::{End, add_carried, add_edge, add_link, add_node, number, told};
 pub use occurrences::Occurrences;
 pub use outline::Outline;
 pub use part::taking_part;
 pub use row::Part;
 pub use rows::parts;
+pub use sides::{Sides, dummies_of};
 pub use standing::{Place, Standing};
 pub use units::Flow;
 pub use way::{Deed, Point, Way};

@@ -2,8 +2,8 @@
 
 ghost use Rattle.std.specs.Prelude.{◌≡◌, ◌+◌, ◌*◌, ◌++◌, IfOk, OnOk};
 ghost use Rattle.adj_tree.specs.Code.{plain};
-ghost use Rattle.adj_facts.specs.Rules.{list_of};
-ghost use Rattle.adj_facts.specs.Variables.{list_if};
+ghost use Rattle.def_flow.specs.Rules.{list_of};
+ghost use Rattle.def_names.specs.VariableLists.{list_if};
 ghost use Rattle.adj_flow.specs.Rows.{row_of};
 ghost use Rattle.adj_flow.specs.WayView.{number_of};
 ghost use Rattle.adj_flow.specs.Nodes.{linked, node_in};

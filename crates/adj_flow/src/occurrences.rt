@@ -3,17 +3,18 @@
 ghost use Rattle.std.specs.Prelude.{◌≡◌, ◌++◌, ◌&&◌, IfOk, OnOk};
 ghost use Rattle.adj_tree.specs.Code.{plain};
 ghost use Rattle.adj_tree.specs.View.{term_of, terms_of};
-ghost use Rattle.adj_facts.specs.Occurrences.{is_active};
-ghost use Rattle.adj_facts.specs.Variables.{list_if, vars_in_terms, adjoint_reads_in};
-ghost use Rattle.adj_writes.specs.View.{vars_seen};
+ghost use Rattle.def_flow.specs.Occurrences.{is_active};
+ghost use Rattle.def_names.specs.VariableLists.{list_if, vars_in_terms};
+ghost use Rattle.def_flow.specs.AdjointReads.{adjoint_reads_in};
+ghost use Rattle.adj_symbols_writes.specs.View.{vars_seen};
 ghost use Rattle.adj_flow.specs.Active.{varied_by, shadowed_by, active_by};
 
 use crate::nodes::{End, number, told};
 use crate::row::Part;
 use crate::variables::add_terms_if;
 use crate::way::Point;
+use adj_symbols_writes::variables::add_term;
 use adj_tree::{Expr, Exprs, Memory, Name, Op};
-use adj_writes::variables::add_term;
 
 /// The occurrences of variables in the statement of a number of a unit, by the flags of varied variables at points and of the variables
 /// of units that have a shadow, where no unit has more variables than the width.

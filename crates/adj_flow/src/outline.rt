@@ -3,10 +3,10 @@
 ghost use Rattle.std.specs.Prelude.{◌≡◌, ◌++◌, ◌∷◌, [], length, map, OnOk};
 ghost use Rattle.adj_tree.specs.Code.{plain};
 ghost use Rattle.adj_tree.specs.View.{act_of, code_of, mark_of, terms_of};
-ghost use Rattle.adj_facts.specs.Standing.{standing, body_of};
-ghost use Rattle.adj_facts.specs.Ways.{ways, act_ways, way, passing};
-ghost use Rattle.adj_facts.specs.Parts.{point_inside};
-ghost use Rattle.adj_transpose.specs.Marks.{point_before, point_after};
+ghost use Rattle.def_flow.specs.Standing.{standing, body_of};
+ghost use Rattle.def_flow.specs.Ways.{ways, act_ways, way, passing};
+ghost use Rattle.def_names.specs.Numbering.{point_inside};
+ghost use Rattle.def_names.specs.Numbering.{point_before, point_after};
 ghost use Rattle.adj_flow.specs.View.{place_of, standing_of, statement_at};
 ghost use Rattle.adj_flow.specs.WayView.{number_of, deed_of, assigned_by, way_of};
 

@@ -2,10 +2,10 @@
 
 ghost use Rattle.std.specs.Prelude.{◌≡◌, ◌↔◌, ◌+◌, ◌<◌, ◌^◌, ◌++◌, [], ◌∷◌, false, Contains, IfOk, IsTrue, OnOk, length, map};
 ghost use Rattle.adj_tree.specs.View.{act_of, code_of, procedure_of};
-ghost use Rattle.adj_transpose.specs.Marks.{behind};
-ghost use Rattle.adj_facts.specs.Parts.{Part, parts};
-ghost use Rattle.adj_facts.specs.Problem.{TakesPart};
-ghost use Rattle.adj_facts.specs.Standing.{standing, outermost};
+ghost use Rattle.def_names.specs.Numbers.{behind};
+ghost use Rattle.def_flow.specs.Parts.{Part, parts};
+ghost use Rattle.def_flow.specs.Problem.{TakesPart};
+ghost use Rattle.def_flow.specs.Standing.{standing, outermost};
 ghost use Rattle.adj_reach.specs.Edges.{flag};
 ghost use Rattle.adj_flow.specs.Calls.{find_number, called_by, with_call, calls_in, calls_from};
 ghost use Rattle.adj_flow.specs.View.{standing_of};

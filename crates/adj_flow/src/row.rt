@@ -1,13 +1,13 @@
 //! A unit as the analyses see it.
 
 ghost use Rattle.std.specs.Prelude.{◌≡◌, ℕ, List};
-ghost use Rattle.adj_writes.specs.Graph.{place_from};
-ghost use Rattle.adj_writes.specs.Table.{value_of};
+ghost use Rattle.adj_symbols_writes.specs.Graph.{place_from};
+ghost use Rattle.adj_symbols_writes.specs.Table.{value_of};
 
 use crate::standing::Standing;
 use crate::way::Way;
+use adj_symbols_writes::table::Numbers;
 use adj_tree::{Name, NameList, Unit};
-use adj_writes::table::Numbers;
 
 /// A unit with the numbers of itself, of its first statement and of its points of entry and end; with its statements and ways;
 /// and with its variables and their places among them.

@@ -2,18 +2,19 @@
 
 ghost use Rattle.std.specs.Prelude.{◌≡◌, ◌+◌, ◌*◌, ◌<◌, ◌^◌, ℕ, List, [], map, length, IfOk, OnOk};
 ghost use Rattle.adj_tree.specs.View.{code_of, procedure_of};
-ghost use Rattle.adj_transpose.specs.Marks.{behind};
-ghost use Rattle.adj_facts.specs.Parts.{part, statements_in};
-ghost use Rattle.adj_writes.specs.Graph.{place_from};
-ghost use Rattle.adj_writes.specs.Table.{value_of};
+ghost use Rattle.def_names.specs.Numbers.{behind};
+ghost use Rattle.def_flow.specs.Parts.{part};
+ghost use Rattle.def_names.specs.StatementsIn.{statements_in};
+ghost use Rattle.adj_symbols_writes.specs.Graph.{place_from};
+ghost use Rattle.adj_symbols_writes.specs.Table.{value_of};
 ghost use Rattle.adj_flow.specs.Rows.{row_of, row_at, rows};
 
 use crate::outline::{Outline, add_list};
 use crate::row::Part;
 use crate::standing::{Place, Standing};
 use crate::way::{Deed, Point};
+use adj_symbols_writes::table::Numbers;
 use adj_tree::{Memory, NameList, Unit};
-use adj_writes::table::Numbers;
 use std::alloc::Global;
 use std::mem;
 

@@ -2,7 +2,7 @@
 
 ghost use Rattle.std.specs.Prelude.{◌≡◌};
 ghost use Rattle.adj_tree.specs.Code.{plain};
-ghost use Rattle.adj_facts.specs.Uses.{site, turned_by, is_turn};
+ghost use Rattle.def_flow.specs.Uses.{site, turned_by, is_turn};
 ghost use Rattle.adj_flow.specs.View.{place_of};
 
 use adj_tree::{Act, Name};

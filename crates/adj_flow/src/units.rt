@@ -2,13 +2,13 @@
 
 ghost use Rattle.std.specs.Prelude.{◌≡◌, ◌↔◌, ◌+◌, ◌<◌, ◌≤◌, ◌^◌, ℕ, List, [], false, All, Contains, IfOk, IsTrue, OnOk, length, map};
 ghost use Rattle.adj_tree.specs.View.{code_of, procedure_of};
-ghost use Rattle.adj_transpose.specs.Marks.{behind};
-ghost use Rattle.adj_facts.specs.Parts as spec;
-ghost use Rattle.adj_facts.specs.Parts.{statements_in};
-ghost use Rattle.adj_facts.specs.Problem.{TakesPart};
+ghost use Rattle.def_names.specs.Numbers.{behind};
+ghost use Rattle.def_flow.specs.Parts as spec;
+ghost use Rattle.def_names.specs.StatementsIn.{statements_in};
+ghost use Rattle.def_flow.specs.Problem.{TakesPart};
 ghost use Rattle.adj_reach.specs.Edges.{flag};
-ghost use Rattle.adj_writes.specs.Graph.{number_from};
-ghost use Rattle.adj_writes.specs.Table.{value_of};
+ghost use Rattle.adj_symbols_writes.specs.Graph.{number_from};
+ghost use Rattle.adj_symbols_writes.specs.Table.{value_of};
 ghost use Rattle.adj_flow.specs.Rows.{row_of, rows};
 
 use crate::outline::{Outline, add_list};
@@ -17,8 +17,8 @@ use crate::row::Part;
 use crate::rows::parts;
 use crate::standing::Place;
 use crate::way::{Deed, Point};
+use adj_symbols_writes::table::{Numbers, unit_numbers};
 use adj_tree::{Flags, Memory, NameList, Unit};
-use adj_writes::table::{Numbers, unit_numbers};
 use std::alloc::Global;
 
 /// The units of a program with their numbers by name, which of them take part, and an upper bound on the variables of a unit.

@@ -2,14 +2,14 @@
 
 ghost use Rattle.std.specs.Prelude.{◌≡◌, ◌++◌, OnOk};
 ghost use Rattle.adj_tree.specs.View.{term_of, terms_of};
-ghost use Rattle.adj_facts.specs.Problem.{name_of};
-ghost use Rattle.adj_facts.specs.Rules.{list_of};
-ghost use Rattle.adj_facts.specs.Variables.{list_if, vars_in, vars_in_terms};
-ghost use Rattle.adj_writes.specs.View.{vars_seen};
+ghost use Rattle.def_flow.specs.Problem.{name_of};
+ghost use Rattle.def_flow.specs.Rules.{list_of};
+ghost use Rattle.def_names.specs.VariableLists.{list_if, vars_in, vars_in_terms};
+ghost use Rattle.adj_symbols_writes.specs.View.{vars_seen};
 ghost use Rattle.adj_flow.specs.Passed.{passed_in};
 
+use adj_symbols_writes::variables::{add_if, add_term, add_terms};
 use adj_tree::{Expr, Exprs, Memory, Name};
-use adj_writes::variables::{add_if, add_term, add_terms};
 
 /// Adds what stands in an expression, if it is wanted.
 pub fn add_term_if<'a>(

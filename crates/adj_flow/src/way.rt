@@ -2,7 +2,7 @@
 
 ghost use Rattle.std.specs.Prelude.{◌≡◌};
 ghost use Rattle.adj_tree.specs.Code.{plain};
-ghost use Rattle.adj_facts.specs.Ways.{assigned_on};
+ghost use Rattle.def_flow.specs.Ways.{assigned_on};
 ghost use Rattle.adj_flow.specs.WayView.{deed_of};
 
 use adj_tree::{Exprs, Name};

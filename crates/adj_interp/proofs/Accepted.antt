@@ -11,24 +11,24 @@ use Rattle.adj_tree.specs.declared.fault.Refusal.{Refusal}
 use Rattle.adj_tree.specs.declared.unit.Decl.{Decl}
 use Rattle.adj_tree.specs.declared.unit.Unit.{Unit}
 use Rattle.adj_tree.proofs.Names.{name_refl, nat_same}
-use Rattle.adj_text.specs.Written.{IsWritten, IsWrittenProcedure, IsWrittenDeclaration}
-use Rattle.adj_meaning.specs.Apart.{has_name, AreApart}
-use Rattle.adj_meaning.specs.LeastSet.{Rule, row_of, rounds, least_rows, dummies_in_all}
-use Rattle.adj_meaning.specs.Units.{declared}
-use Rattle.adj_meaning.specs.Written.{find_unit, write_rule}
-use Rattle.adj_meaning.proofs.Booleans.{and_true, or_false}
-use Rattle.adj_names.specs.CallFaults.{variable_rank, is_actual_for, are_actuals_for, faults_of_unit_call, faults_of_call}
-use Rattle.adj_names.specs.Check.{IsSound}
-use Rattle.adj_names.specs.Fault.{run_rules, fault, again}
-use Rattle.adj_names.specs.NameFaults.{faults_of_names, undeclared, declared_twice}
-use Rattle.adj_names.specs.Reserved.{is_runtime}
-use Rattle.adj_names.specs.Statements.{At, inner, statements}
-use Rattle.adj_names.specs.UnitFaults.{reserved_units, repeated_units, unit_places}
-use Rattle.adj_names.specs.Variables.{dummy_places, declared_places, rank}
-use Rattle.adj_names.proofs.Sound.{sound_has_none}
-use Rattle.adj_names.proofs.Faultless.{none_front, none_behind, none_if, apart_places}
-use Rattle.adj_frame.proofs.Entering.{undeclared as declared_nowhere}
-use Rattle.adj_frame.specs.Suited.{IsScalarIn, HoldsIfWhole, AreTermsSuited, IsSuited, AreSuited}
+use Rattle.def_text.specs.Written.{IsWritten, IsWrittenProcedure, IsWrittenDeclaration}
+use Rattle.def_meaning.specs.Apart.{has_name, AreApart}
+use Rattle.def_meaning.specs.LeastSet.{Rule, row_of, rounds, least_rows, dummies_in_all}
+use Rattle.def_meaning.specs.Units.{declared}
+use Rattle.def_meaning.specs.Written.{find_unit, write_rule}
+use Rattle.def_meaning.proofs.Booleans.{and_true, or_false}
+use Rattle.def_names.specs.CallFaults.{variable_rank, is_actual_for, are_actuals_for, faults_of_unit_call, faults_of_call}
+use Rattle.def_names.specs.Check.{IsSound}
+use Rattle.def_names.specs.Fault.{run_rules, fault, again}
+use Rattle.def_names.specs.NameFaults.{faults_of_names, undeclared, declared_twice}
+use Rattle.def_names.specs.Reserved.{is_runtime}
+use Rattle.def_names.specs.Statements.{At, inner, statements}
+use Rattle.def_names.specs.UnitFaults.{reserved_units, repeated_units, unit_places}
+use Rattle.def_names.specs.Variables.{dummy_places, declared_places, rank}
+use Rattle.def_names.proofs.Sound.{sound_has_none}
+use Rattle.def_names.proofs.Faultless.{none_front, none_behind, none_if, apart_places}
+use Rattle.adj_interp_frame.proofs.Entering.{undeclared as declared_nowhere}
+use Rattle.adj_interp_frame.specs.Suited.{IsScalarIn, HoldsIfWhole, AreTermsSuited, IsSuited, AreSuited}
 
 -- ---- lists without faults
 

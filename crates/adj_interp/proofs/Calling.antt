@@ -6,28 +6,28 @@ use Rattle.adj_tree.specs.Code.{Var, Terms, Code, name_eq, Procedure}
 use Rattle.adj_tree.specs.View.{code_of, procedure_of}
 use Rattle.adj_tree.specs.declared.value.Trap.TheVariants as trap
 use Rattle.adj_tree.proofs.Names.{nat_same, nat_refl, name_same}
-use Rattle.adj_meaning.specs.Trap.{Trap, shape_trap, schedule_trap, then_ok}
-use Rattle.adj_meaning.specs.Log.{Reversal, Log}
-use Rattle.adj_meaning.specs.Store.{Shape, Store}
-use Rattle.adj_meaning.specs.Numbers.{Numbers}
-use Rattle.adj_meaning.specs.Value.{Setting}
-use Rattle.adj_meaning.specs.Scene.{Scene, Stand, stand, Outcome, Done, Trapped, More, Full, then_do, with_value}
-use Rattle.adj_meaning.specs.Run.{Calls, run}
-use Rattle.adj_meaning.specs.Written.{find_unit, handed_back}
-use Rattle.adj_meaning.specs.Units.{extents_of, shape_of, Actual, actuals, copied_out, dummies_fit, entered, unit_run, call_in, calls_of}
-use Rattle.adj_frame.specs.declared.routine.Routine.{Routine}
-use Rattle.adj_frame.specs.declared.step.Steps.{size-Steps}
+use Rattle.def_meaning.specs.Trap.{Trap, shape_trap, schedule_trap, then_ok}
+use Rattle.def_meaning.specs.Log.{Reversal, Log}
+use Rattle.def_meaning.specs.Store.{Shape, Store}
+use Rattle.def_meaning.specs.Numbers.{Numbers}
+use Rattle.def_meaning.specs.Value.{Setting}
+use Rattle.def_meaning.specs.Scene.{Scene, Stand, stand, Outcome, Done, Trapped, More, Full, then_do, with_value}
+use Rattle.def_meaning.specs.Run.{Calls, run}
+use Rattle.def_meaning.specs.Written.{find_unit, handed_back}
+use Rattle.def_meaning.specs.Units.{extents_of, shape_of, Actual, actuals, copied_out, dummies_fit, entered, unit_run, call_in, calls_of}
+use Rattle.adj_interp_frame.specs.declared.routine.Routine.{Routine}
+use Rattle.adj_interp_frame.specs.declared.step.Steps.{size-Steps}
 use Rattle.adj_tape.specs.Held.{Held}
-use Rattle.adj_frame.specs.Shown.{Shows}
-use Rattle.adj_frame.specs.declared.slot.Slot.{Slot}
-use Rattle.adj_frame.specs.declared.actual.Actual.{Actual as CodeActual}
-use Rattle.adj_frame.specs.Called.{IsActualBelow, AreActualsBelow, entered_with, shapes_with, fit_from}
-use Rattle.adj_frame.specs.Instructed.{steps_in}
-use Rattle.adj_frame.specs.declared.frame.Frame.{Frame}
-use Rattle.adj_frame.specs.Framed.{IsFrame}
-use Rattle.adj_frame.specs.Suited.{IsScalarIn, AreSuited, counts_in, HasOneCell}
-use Rattle.adj_frame.specs.Linked.{IsRoutine, units_in}
-use Rattle.adj_frame.proofs.Suiting.{one_cell, suited_on}
+use Rattle.adj_interp_frame.specs.Shown.{Shows}
+use Rattle.adj_interp_frame.specs.declared.slot.Slot.{Slot}
+use Rattle.adj_interp_frame.specs.declared.actual.Actual.{Actual as CodeActual}
+use Rattle.adj_interp_frame.specs.Called.{IsActualBelow, AreActualsBelow, entered_with, shapes_with, fit_from}
+use Rattle.adj_interp_frame.specs.Instructed.{steps_in}
+use Rattle.adj_interp_frame.specs.declared.frame.Frame.{Frame}
+use Rattle.adj_interp_frame.specs.Framed.{IsFrame}
+use Rattle.adj_interp_frame.specs.Suited.{IsScalarIn, AreSuited, counts_in, HasOneCell}
+use Rattle.adj_interp_frame.specs.Linked.{IsRoutine, units_in}
+use Rattle.adj_interp_frame.proofs.Suiting.{one_cell, suited_on}
 use Rattle.adj_interp.specs.declared.stop.Stop.{Stop}
 use Rattle.adj_interp.specs.declared.stop.Stop.TheVariants as stop
 use Rattle.adj_interp.specs.declared.machine.Machine.{Machine}

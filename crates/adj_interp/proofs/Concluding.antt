@@ -3,15 +3,15 @@ use Rattle.std.proofs.Common.{◌≡◌, ℕ, suc, ◌+◌, ◌-◌, ◌<◌, �
 use Rattle.std.specs.Prelude.{reverse, Ok, Err}
 use Rattle.std.proofs.lemmas.List.{get_or_append_left, length-append}
 use Rattle.adj_tree.specs.Code.{Var, plain}
-use Rattle.adj_meaning.specs.Numbers.{Numbers}
-use Rattle.adj_meaning.specs.Store.{Shape, size_of, Store, cells_from}
-use Rattle.adj_meaning.specs.Scene.{Scene, Stand, Outcome, Done, Trapped, More, Full, then_do}
-use Rattle.adj_meaning.specs.Units.{Slot, slot_of, Output}
-use Rattle.adj_frame.specs.declared.slot.Slot.{Slot as EntrySlot}
-use Rattle.adj_frame.specs.Prepared.{var_at}
-use Rattle.adj_frame.specs.Framed.{IsFrame, slot_shape, zero_in}
-use Rattle.adj_frame.specs.Shown.{Shows}
-use Rattle.adj_frame.proofs.Reading.{read_cell, read_shape}
+use Rattle.def_meaning.specs.Numbers.{Numbers}
+use Rattle.def_meaning.specs.Store.{Shape, size_of, Store, cells_from}
+use Rattle.def_meaning.specs.Scene.{Scene, Stand, Outcome, Done, Trapped, More, Full, then_do}
+use Rattle.def_meaning.specs.Units.{Slot, slot_of, Output}
+use Rattle.adj_interp_frame.specs.declared.slot.Slot.{Slot as EntrySlot}
+use Rattle.adj_interp_frame.specs.Prepared.{var_at}
+use Rattle.adj_interp_frame.specs.Framed.{IsFrame, slot_shape, zero_in}
+use Rattle.adj_interp_frame.specs.Shown.{Shows}
+use Rattle.adj_interp_frame.proofs.Reading.{read_cell, read_shape}
 use Rattle.adj_interp.specs.declared.log.Log.{Log}
 use Rattle.adj_interp.specs.declared.stop.Stop.{Stop}
 use Rattle.adj_interp.specs.declared.stop.Stop.TheVariants as stop

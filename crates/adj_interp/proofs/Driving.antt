@@ -5,20 +5,20 @@ use Rattle.std.proofs.lemmas.List.{append-nil, append_assoc, reverse-append}
 use Rattle.adj_tree.specs.Code.{Term, Mark, Act, Code, step}
 use Rattle.adj_tree.specs.declared.value.Trap.{Trap as CodeTrap}
 use Rattle.adj_tree.specs.declared.value.Trap.TheVariants as trap
-use Rattle.adj_meaning.specs.Trap.{Trap, step_trap, then_ok}
-use Rattle.adj_meaning.specs.Numbers.{Numbers}
-use Rattle.adj_meaning.specs.Store.{Store}
-use Rattle.adj_meaning.specs.Value.{Setting, value}
-use Rattle.adj_meaning.specs.Event.{Event, Enter, Begin, End, Marked}
-use Rattle.adj_meaning.specs.Log.{Reversal, Log, log_from, log_of}
-use Rattle.adj_meaning.specs.Scene.{Scene, Stand, stand, Outcome, Done, Trapped, More, Full, Go, then_do, with_value, counted}
-use Rattle.adj_meaning.specs.Run.{Calls, act, run, trips, turns, tests, after_loop}
-use Rattle.adj_frame.specs.declared.step.Step.{Step}
+use Rattle.def_meaning.specs.Trap.{Trap, step_trap, then_ok}
+use Rattle.def_meaning.specs.Numbers.{Numbers}
+use Rattle.def_meaning.specs.Store.{Store}
+use Rattle.def_meaning.specs.Value.{Setting, value}
+use Rattle.def_meaning.specs.Event.{Event, Enter, Begin, End, Marked}
+use Rattle.def_meaning.specs.Log.{Reversal, Log, log_from, log_of}
+use Rattle.def_meaning.specs.Scene.{Scene, Stand, stand, Outcome, Done, Trapped, More, Full, Go, then_do, with_value, counted}
+use Rattle.def_meaning.specs.Run.{Calls, act, run, trips, turns, tests, after_loop}
+use Rattle.adj_interp_frame.specs.declared.step.Step.{Step}
 use Rattle.adj_interp.specs.declared.stop.Stop.{Stop}
 use Rattle.adj_interp.specs.declared.stop.Stop.TheVariants as stop
 use Rattle.adj_interp.specs.declared.machine.Machine.{Machine}
-use Rattle.adj_frame.specs.Framed.{result_of}
-use Rattle.adj_frame.specs.Instructed.{task_in}
+use Rattle.adj_interp_frame.specs.Framed.{result_of}
+use Rattle.adj_interp_frame.specs.Instructed.{task_in}
 use Rattle.adj_interp.specs.Tallied.{Tallied, with_event}
 use Rattle.adj_interp.specs.Held.{Tells, Entry, setting_at, Holds, Stands, IsTrapped, HasMore, Ends, Reaches, Finds, stopped_at, bounds_in}
 

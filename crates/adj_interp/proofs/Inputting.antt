@@ -4,18 +4,18 @@ use Rattle.std.specs.Prelude.{◌==◌, ◌&&◌}
 use Rattle.std.proofs.lemmas.List.{length-map, get_or-map}
 use Rattle.adj_tree.specs.Code.{plain, name_eq, Procedure}
 use Rattle.adj_tree.proofs.Names.{nat_same}
-use Rattle.adj_meaning.specs.Apart.{has_name, AreApart}
-use Rattle.adj_meaning.specs.Numbers.{Numbers}
-use Rattle.adj_meaning.specs.Store.{size_of, Store, set_all}
-use Rattle.adj_meaning.specs.Units.{Slot, Actual, declared, dummies_fit, entry_store, input_store, from_slot, nth_cell, extents_of, shape_fits, slot_fits, slots_fit, fits}
-use Rattle.adj_meaning.proofs.Booleans.{and_true, or_false, or_second}
-use Rattle.adj_frame.specs.declared.slot.Slot.{Slot as EntrySlot}
-use Rattle.adj_frame.specs.declared.actual.Actual.{Actual as CodeActual}
-use Rattle.adj_frame.specs.declared.actual.Actual.TheVariants as actual
-use Rattle.adj_frame.specs.Prepared.{var_at}
-use Rattle.adj_frame.specs.Framed.{IsFrame, shapes_in, zero_in, store_in}
-use Rattle.adj_frame.specs.Called.{actual_in, actuals_in}
-use Rattle.adj_frame.proofs.Reading.{read_cell, read_shape}
+use Rattle.def_meaning.specs.Apart.{has_name, AreApart}
+use Rattle.def_meaning.specs.Numbers.{Numbers}
+use Rattle.def_meaning.specs.Store.{size_of, Store, set_all}
+use Rattle.def_meaning.specs.Units.{Slot, Actual, declared, dummies_fit, entry_store, input_store, from_slot, nth_cell, extents_of, shape_fits, slot_fits, slots_fit, fits}
+use Rattle.def_meaning.proofs.Booleans.{and_true, or_false, or_second}
+use Rattle.adj_interp_frame.specs.declared.slot.Slot.{Slot as EntrySlot}
+use Rattle.adj_interp_frame.specs.declared.actual.Actual.{Actual as CodeActual}
+use Rattle.adj_interp_frame.specs.declared.actual.Actual.TheVariants as actual
+use Rattle.adj_interp_frame.specs.Prepared.{var_at}
+use Rattle.adj_interp_frame.specs.Framed.{IsFrame, shapes_in, zero_in, store_in}
+use Rattle.adj_interp_frame.specs.Called.{actual_in, actuals_in}
+use Rattle.adj_interp_frame.proofs.Reading.{read_cell, read_shape}
 use Rattle.adj_interp.specs.Inputs.{entry_seen}
 
 -- ---- names

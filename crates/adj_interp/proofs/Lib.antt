@@ -1,3 +1,4 @@
+-- the lemmas of the crate
 pub mod Driving
 pub mod Serving
 pub mod Plans

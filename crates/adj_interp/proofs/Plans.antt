@@ -9,11 +9,11 @@ use Rattle.adj_revolve.specs.Schedule.{schedule_of}
 use Rattle.adj_revolve.proofs.ScheduleLemmas.{schedule_plays}
 use Rattle.adj_tree.specs.Code.{Term}
 use Rattle.adj_tree.specs.declared.value.Trap.{Trap as CodeTrap}
-use Rattle.adj_meaning.specs.Trap.{Trap, then_ok}
-use Rattle.adj_meaning.specs.Store.{Store as Cells}
-use Rattle.adj_meaning.specs.Value.{Setting, value}
-use Rattle.adj_meaning.specs.Scene.{Stand, Outcome, with_value}
-use Rattle.adj_meaning.specs.Runtime.{steps_of, snapshots_of, actions_of, action_at, lower_of, upper_of}
+use Rattle.def_meaning.specs.Trap.{Trap, then_ok}
+use Rattle.def_meaning.specs.Store.{Store as Cells}
+use Rattle.def_meaning.specs.Value.{Setting, value}
+use Rattle.def_meaning.specs.Scene.{Stand, Outcome, with_value}
+use Rattle.def_meaning.specs.Runtime.{steps_of, snapshots_of, actions_of, action_at, lower_of, upper_of}
 use Rattle.adj_interp.specs.Tallied.{Plan}
 use Rattle.adj_interp.specs.Held.{plan_in, action_in}
 

@@ -4,21 +4,21 @@ use Rattle.std.specs.Prelude.{ℤ, ◌&&◌, not, ◌==◌, ◌-◌, flat_map, r
 use Rattle.std.specs.List.{All}
 use Rattle.std.proofs.lemmas.List.Elements.{All-nil, All-cons, All-head, All-tail}
 use Rattle.adj_tree.specs.Code.{name_eq, Terms, Act, assign, choose, loop, during, call, runtime, Code, stop, step, Procedure}
-use Rattle.adj_meaning.specs.Trap.{Trap, shape_trap}
-use Rattle.adj_meaning.specs.Numbers.{Numbers, duals}
+use Rattle.def_meaning.specs.Trap.{Trap, shape_trap}
+use Rattle.def_meaning.specs.Numbers.{Numbers, duals}
 use Rattle.adj_word.specs.Word.{wrap}
-use Rattle.adj_meaning.specs.Store.{scalar, set}
-use Rattle.adj_meaning.specs.Value.{Setting, value, target, holds}
-use Rattle.adj_meaning.specs.Scene.{Scene, Stand, stand, Outcome, Done, Trapped, More, Full, Go, then_do, with_value, counted}
-use Rattle.adj_meaning.specs.Run.{Calls, act, run, trips, with_turn, stepped, turns, in_force, after_loop, most_tests, tests}
-use Rattle.adj_meaning.specs.Written.{find_unit, handed_back}
-use Rattle.adj_meaning.specs.Units.{Slot, Output, unit_run, actuals, call_in, calls_of, copied_out, entry_store, dummies_fit, input_store, setting_in, dummy_slots, run_unit}
-use Rattle.adj_names.specs.Statements.{At, inner, statements}
-use Rattle.adj_names.specs.Fault.{faults_if, source_rules, fault}
-use Rattle.adj_names.specs.NameFaults.{undeclared, declared_twice, misused, bad_extents, reserved_variables, calls_runtime, runtime_calls, too_many_variables, faults_of_names}
-use Rattle.adj_names.specs.Check.{IsSound}
-use Rattle.adj_names.proofs.Sound.{sound_has_none}
-use Rattle.adj_names.proofs.Faultless.{none_front, none_behind, none_if}
+use Rattle.def_meaning.specs.Store.{scalar, set}
+use Rattle.def_meaning.specs.Value.{Setting, value, target, holds}
+use Rattle.def_meaning.specs.Scene.{Scene, Stand, stand, Outcome, Done, Trapped, More, Full, Go, then_do, with_value, counted}
+use Rattle.def_meaning.specs.Run.{Calls, act, run, trips, with_turn, stepped, turns, in_force, after_loop, most_tests, tests}
+use Rattle.def_meaning.specs.Written.{find_unit, handed_back}
+use Rattle.def_meaning.specs.Units.{Slot, Output, unit_run, actuals, call_in, calls_of, copied_out, entry_store, dummies_fit, input_store, setting_in, dummy_slots, run_unit}
+use Rattle.def_names.specs.Statements.{At, inner, statements}
+use Rattle.def_names.specs.Fault.{faults_if, source_rules, fault}
+use Rattle.def_names.specs.NameFaults.{undeclared, declared_twice, misused, bad_extents, reserved_variables, calls_runtime, runtime_calls, too_many_variables, faults_of_names}
+use Rattle.def_names.specs.Check.{IsSound}
+use Rattle.def_names.proofs.Sound.{sound_has_none}
+use Rattle.def_names.proofs.Faultless.{none_front, none_behind, none_if}
 use Rattle.adj_interp.specs.Dually.{CallsNoRuntime, DualFull}
 
 -- ---- members of lists

@@ -3,14 +3,14 @@ use Rattle.std.proofs.Common.{◌≡◌, ℕ, ◌+◌, ◌-◌, List, [], length
 use Rattle.std.specs.Prelude.{reverse, Some, Ok, Err}
 use Rattle.adj_tree.specs.Code.{Procedure}
 use Rattle.adj_tape.specs.Held.{Held}
-use Rattle.adj_meaning.specs.Event.{Enter}
-use Rattle.adj_meaning.specs.Numbers.{Numbers}
-use Rattle.adj_meaning.specs.Store.{scalar, Store}
-use Rattle.adj_meaning.specs.Value.{Setting}
-use Rattle.adj_meaning.specs.Scene.{Scene, Outcome, Done, then_do}
-use Rattle.adj_meaning.specs.Run.{run}
-use Rattle.adj_meaning.specs.Units.{Slot, Output, calls_of, input_store, setting_in, entered, dummy_shapes, dummy_slots, run_unit}
-use Rattle.adj_frame.specs.Shown.{Shows}
+use Rattle.def_meaning.specs.Event.{Enter}
+use Rattle.def_meaning.specs.Numbers.{Numbers}
+use Rattle.def_meaning.specs.Store.{scalar, Store}
+use Rattle.def_meaning.specs.Value.{Setting}
+use Rattle.def_meaning.specs.Scene.{Scene, Outcome, Done, then_do}
+use Rattle.def_meaning.specs.Run.{run}
+use Rattle.def_meaning.specs.Units.{Slot, Output, calls_of, input_store, setting_in, entered, dummy_shapes, dummy_slots, run_unit}
+use Rattle.adj_interp_frame.specs.Shown.{Shows}
 use Rattle.adj_interp.specs.declared.log.Log.{Log}
 use Rattle.adj_interp.specs.declared.stop.Stop.{Stop}
 use Rattle.adj_interp.specs.declared.machine.Machine.{Machine}

@@ -3,21 +3,21 @@ use Rattle.std.proofs.Common.{◌≡◌, ℕ, zero, suc, ◌+◌, ◌-◌, ◌<�
 use Rattle.std.specs.Prelude.{nat_lt, Ok, Err, Option}
 use Rattle.adj_tree.specs.Code.{Var}
 use Rattle.adj_tree.specs.declared.value.Trap.TheVariants as trap
-use Rattle.adj_meaning.specs.Numbers.{Numbers}
-use Rattle.adj_meaning.specs.Store.{size_of, set, cells_from}
-use Rattle.adj_meaning.specs.Scene.{Scene, stand, Outcome, Done, Full, with_top, pushed, pushed_all, popped, popped_all}
-use Rattle.adj_meaning.specs.Event.{Begin, End}
-use Rattle.adj_meaning.specs.Log.{Reversal, Log}
-use Rattle.adj_meaning.specs.Runtime.{begun, ended}
+use Rattle.def_meaning.specs.Numbers.{Numbers}
+use Rattle.def_meaning.specs.Store.{size_of, set, cells_from}
+use Rattle.def_meaning.specs.Scene.{Scene, stand, Outcome, Done, Full, with_top, pushed, pushed_all, popped, popped_all}
+use Rattle.def_meaning.specs.Event.{Begin, End}
+use Rattle.def_meaning.specs.Log.{Reversal, Log}
+use Rattle.def_meaning.specs.Runtime.{begun, ended}
 use Rattle.adj_tape.specs.Held.{Held}
-use Rattle.adj_frame.specs.declared.slot.Slot.{Slot}
+use Rattle.adj_interp_frame.specs.declared.slot.Slot.{Slot}
 use Rattle.adj_interp.specs.declared.stop.Stop.{Stop}
 use Rattle.adj_interp.specs.declared.machine.Machine.{Machine}
-use Rattle.adj_frame.specs.Prepared.{var_at}
-use Rattle.adj_frame.specs.Framed.{IsFrame, zero_in}
+use Rattle.adj_interp_frame.specs.Prepared.{var_at}
+use Rattle.adj_interp_frame.specs.Framed.{IsFrame, zero_in}
 use Rattle.adj_interp.specs.Tallied.{Tallied, Plan, with_end, with_event}
 use Rattle.adj_interp.specs.Held.{Tells, Entry, setting_at, Holds, IsDone, IsTrapped, IsFull, Ends, Reaches}
-use Rattle.adj_frame.proofs.Reading.{read_cell, read_shape}
+use Rattle.adj_interp_frame.proofs.Reading.{read_cell, read_shape}
 use Rattle.adj_interp.proofs.Driving.{told_next, holds_stand, reaches_end, reaches_next, reaches_break}
 
 is_below : (a b : ℕ) → a < b → nat_lt a b ≡ true

@@ -5,12 +5,12 @@ use Rattle.std.specs.List.{zip}
 use Rattle.std.proofs.lemmas.List.{length-map}
 use Rattle.adj_tree.specs.declared.value.Slot.{Slot as CodeSlot}
 use Rattle.adj_tree.specs.Code.{plain, Procedure}
-use Rattle.adj_meaning.specs.Numbers.{Numbers, words, duals}
-use Rattle.adj_meaning.specs.Store.{size_of, Store}
-use Rattle.adj_meaning.specs.Seen.{Projects, seen, slot_seen}
-use Rattle.adj_meaning.specs.Units.{Slot, nth_cell, from_slot, input_store, shape_fits, slots_fit, fits}
-use Rattle.adj_meaning.proofs.SeenCalls.{AlikeActuals, entry_seen, extents_seen}
-use Rattle.adj_meaning.proofs.Projected.{without_tangents}
+use Rattle.def_meaning.specs.Numbers.{Numbers, words, duals}
+use Rattle.def_meaning.specs.Store.{size_of, Store}
+use Rattle.def_meaning.specs.Seen.{Projects, seen, slot_seen}
+use Rattle.def_meaning.specs.Units.{Slot, nth_cell, from_slot, input_store, shape_fits, slots_fit, fits}
+use Rattle.def_meaning.proofs.EntriesSeen.{AlikeActuals, entry_seen, extents_seen}
+use Rattle.def_meaning.proofs.WithoutTangents.{without_tangents}
 use Rattle.adj_interp.specs.Concludes.{slot_seen as word_slot}
 use Rattle.adj_interp.specs.Dually.{AreTangents, dual_slot, dual_slots}
 

@@ -4,9 +4,9 @@ use Rattle.std.specs.Prelude.{ℤ, Ok, Err}
 use Rattle.std.specs.List.{zip}
 use Rattle.std.proofs.lemmas.List.{map-id, map_push}
 use Rattle.adj_tree.specs.declared.value.Slot.{Slot as CodeSlot}
-use Rattle.adj_meaning.specs.Numbers.{words, duals}
-use Rattle.adj_meaning.specs.Scene.{Stand, Outcome, Done, Trapped, More, Full}
-use Rattle.adj_meaning.specs.Units.{Slot, Output}
+use Rattle.def_meaning.specs.Numbers.{words, duals}
+use Rattle.def_meaning.specs.Scene.{Stand, Outcome, Done, Trapped, More, Full}
+use Rattle.def_meaning.specs.Units.{Slot, Output}
 use Rattle.adj_tape.specs.Held.{Held}
 use Rattle.adj_interp.specs.declared.log.Log.{Log}
 use Rattle.adj_interp.specs.declared.stop.Stop.{Stop}

@@ -2,12 +2,12 @@
 use Rattle.std.specs.Prelude.{◌≡◌, ℕ, ℤ, List, map, Result, Ok, Err}
 use Rattle.adj_tree.specs.declared.value.Slot.{Slot as CodeSlot}
 use Rattle.adj_tree.specs.declared.value.Trap.{Trap as CodeTrap}
-use Rattle.adj_meaning.specs.Log as meaning
-use Rattle.adj_meaning.specs.Log.{log_of}
-use Rattle.adj_meaning.specs.Scene.{Stand, Outcome, Done, Trapped, More, Full}
-use Rattle.adj_meaning.specs.Units.{Slot, Output}
+use Rattle.def_meaning.specs.Log as meaning
+use Rattle.def_meaning.specs.Log.{log_of}
+use Rattle.def_meaning.specs.Scene.{Stand, Outcome, Done, Trapped, More, Full}
+use Rattle.def_meaning.specs.Units.{Slot, Output}
 use Rattle.adj_tape.specs.Held.{Held}
-use Rattle.adj_frame.specs.Framed.{trap_of}
+use Rattle.adj_interp_frame.specs.Framed.{trap_of}
 use Rattle.adj_interp.specs.declared.log.Log.{Log}
 use Rattle.adj_interp.specs.declared.stop.Stop.{Stop}
 use Rattle.adj_interp.specs.declared.stop.Stop.TheVariants as stop

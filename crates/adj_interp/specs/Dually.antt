@@ -4,11 +4,11 @@ use Rattle.std.specs.List.{zip, All, AllZip}
 use Rattle.adj_tree.specs.Code.{Procedure}
 use Rattle.adj_tree.specs.declared.value.Slot.{Slot as CodeSlot}
 use Rattle.adj_tree.specs.declared.value.Trap.{Trap as CodeTrap}
-use Rattle.adj_names.specs.Statements.{statements}
-use Rattle.adj_names.specs.NameFaults.{calls_runtime}
-use Rattle.adj_meaning.specs.Scene.{Outcome, Done, Trapped, More, Full, IsMore}
-use Rattle.adj_meaning.specs.Units.{Slot, Output}
-use Rattle.adj_frame.specs.Framed.{trap_of}
+use Rattle.def_names.specs.Statements.{statements}
+use Rattle.def_names.specs.NameFaults.{calls_runtime}
+use Rattle.def_meaning.specs.Scene.{Outcome, Done, Trapped, More, Full, IsMore}
+use Rattle.def_meaning.specs.Units.{Slot, Output}
+use Rattle.adj_interp_frame.specs.Framed.{trap_of}
 use Rattle.adj_interp.specs.declared.stop.Stop.{Stop}
 use Rattle.adj_interp.specs.declared.stop.Stop.TheVariants as stop
 

@@ -1,12 +1,12 @@
 -- Ended: how a run of a unit ends over any numbers, with what stands on the tape and in the log.
 use Rattle.std.specs.Prelude.{◌≡◌, ℕ, List, map, Result, Ok, Err}
 use Rattle.adj_tree.specs.declared.value.Trap.{Trap as CodeTrap}
-use Rattle.adj_meaning.specs.Log.{log_of}
-use Rattle.adj_meaning.specs.Numbers.{Numbers}
-use Rattle.adj_meaning.specs.Scene.{Stand, Outcome, Done, Trapped, More, Full}
-use Rattle.adj_meaning.specs.Units.{Slot, Output}
+use Rattle.def_meaning.specs.Log.{log_of}
+use Rattle.def_meaning.specs.Numbers.{Numbers}
+use Rattle.def_meaning.specs.Scene.{Stand, Outcome, Done, Trapped, More, Full}
+use Rattle.def_meaning.specs.Units.{Slot, Output}
 use Rattle.adj_tape.specs.Held.{Held}
-use Rattle.adj_frame.specs.Framed.{trap_of}
+use Rattle.adj_interp_frame.specs.Framed.{trap_of}
 use Rattle.adj_interp.specs.declared.log.Log.{Log}
 use Rattle.adj_interp.specs.declared.stop.Stop.{Stop}
 use Rattle.adj_interp.specs.declared.stop.Stop.TheVariants as stop

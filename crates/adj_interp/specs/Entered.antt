@@ -1,13 +1,13 @@
 -- Entered: what a call finds before the unit that is called runs.
 use Rattle.std.specs.Prelude.{◌≡◌, ℕ, suc, ◌==◌, Result, Ok, Err, if◌then◌else◌}
 use Rattle.adj_tree.specs.declared.value.Trap.TheVariants as trap
-use Rattle.adj_meaning.specs.Trap.{Trap, schedule_trap}
-use Rattle.adj_meaning.specs.Numbers.{Numbers}
-use Rattle.adj_meaning.specs.Value.{Setting}
-use Rattle.adj_meaning.specs.Scene.{Done, Trapped, Go, stand}
-use Rattle.adj_meaning.specs.Store.{Shape}
+use Rattle.def_meaning.specs.Trap.{Trap, schedule_trap}
+use Rattle.def_meaning.specs.Numbers.{Numbers}
+use Rattle.def_meaning.specs.Value.{Setting}
+use Rattle.def_meaning.specs.Scene.{Done, Trapped, Go, stand}
+use Rattle.def_meaning.specs.Store.{Shape}
 use Rattle.adj_tree.specs.Code.{Var}
-use Rattle.adj_frame.specs.Framed.{trap_of}
+use Rattle.adj_interp_frame.specs.Framed.{trap_of}
 use Rattle.adj_interp.specs.declared.stop.Stop.{Stop}
 use Rattle.adj_interp.specs.declared.stop.Stop.TheVariants as stop
 use Rattle.adj_interp.specs.Held.{Entry}

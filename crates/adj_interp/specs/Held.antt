@@ -2,23 +2,23 @@
 use Rattle.std.specs.Prelude.{◌≡◌, ℕ, ◌+◌, ℤ, pos, List, ◌++◌, map, length, reverse, Result, Ok, Err, Some}
 use Rattle.adj_tree.specs.declared.value.Trap.{Trap as CodeTrap}
 use Rattle.adj_tree.specs.Code.{Var, Term, Mark}
-use Rattle.adj_meaning.specs.Trap.{Trap, then_ok}
-use Rattle.adj_meaning.specs.Numbers.{Numbers}
-use Rattle.adj_meaning.specs.Store.{Shape, Store}
-use Rattle.adj_meaning.specs.Run.{trips, with_turn}
-use Rattle.adj_meaning.specs.Runtime.{steps_of, snapshots_of, actions_of, action_at, kind_of, lower_of, upper_of}
+use Rattle.def_meaning.specs.Trap.{Trap, then_ok}
+use Rattle.def_meaning.specs.Numbers.{Numbers}
+use Rattle.def_meaning.specs.Store.{Shape, Store}
+use Rattle.def_meaning.specs.Run.{trips, with_turn}
+use Rattle.def_meaning.specs.Runtime.{steps_of, snapshots_of, actions_of, action_at, kind_of, lower_of, upper_of}
 use Rattle.adj_revolve.specs.declared.machine.Action.{Action}
-use Rattle.adj_meaning.specs.Event.{Event}
-use Rattle.adj_meaning.specs.Log.{log_from, log_of}
-use Rattle.adj_meaning.specs.Value.{Setting, value}
-use Rattle.adj_meaning.specs.Scene.{Scene, Stand, Outcome, Done, Trapped, More, Full, Go}
+use Rattle.def_meaning.specs.Event.{Event}
+use Rattle.def_meaning.specs.Log.{log_from, log_of}
+use Rattle.def_meaning.specs.Value.{Setting, value}
+use Rattle.def_meaning.specs.Scene.{Scene, Stand, Outcome, Done, Trapped, More, Full, Go}
 use Rattle.adj_interp.specs.declared.stop.Stop.{Stop}
 use Rattle.adj_interp.specs.declared.stop.Stop.TheVariants as stop
 use Rattle.adj_interp.specs.declared.machine.Machine.{Machine}
 use Rattle.adj_interp.specs.Tallied.{Tallied}
-use Rattle.adj_frame.specs.Framed.{trap_of}
-use Rattle.adj_frame.specs.Shown.{on_numbers, Shows}
-use Rattle.adj_frame.specs.Suited.{counts_in, HasOneCell}
+use Rattle.adj_interp_frame.specs.Framed.{trap_of}
+use Rattle.adj_interp_frame.specs.Shown.{on_numbers, Shows}
+use Rattle.adj_interp_frame.specs.Suited.{counts_in, HasOneCell}
 
 -- whatever happens later is counted on from what was counted of what happened, the last first
 abbrev pub Tells : Tallied → List Event → Type 0

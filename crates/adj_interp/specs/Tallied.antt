@@ -2,8 +2,8 @@
 use Rattle.std.specs.Prelude.{ℕ, suc, ◌+◌, ◌-◌, max, List, [], ◌∷◌, if◌then◌else◌}
 use Rattle.adj_revolve.specs.declared.machine.Action.{Action}
 use Rattle.adj_revolve.specs.Schedule.{schedule_of}
-use Rattle.adj_meaning.specs.Event.{Event, Enter, Begin, End, Marked}
-use Rattle.adj_meaning.specs.Log.{Reversal, Log, is_direct}
+use Rattle.def_meaning.specs.Event.{Event, Enter, Begin, End, Marked}
+use Rattle.def_meaning.specs.Log.{Reversal, Log, is_direct}
 use Rattle.adj_interp.specs.declared.tally.Reversal.{Reversal as OpenReversal}
 
 -- the reversals that are open, the innermost first, and what was counted

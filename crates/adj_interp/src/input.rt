@@ -2,16 +2,16 @@
 
 ghost use Rattle.std.specs.Prelude.{◌≡◌, ◌<◌, ℕ, IfOk, length, map, slice_index_or, true};
 ghost use Rattle.adj_tree.specs.View.{procedure_of};
-ghost use Rattle.adj_meaning.specs.Apart.{AreApart};
-ghost use Rattle.adj_meaning.specs.Units.{fits, input_store};
-ghost use Rattle.adj_frame.specs.declared.actual.Actual.{Actual as AnActual};
-ghost use Rattle.adj_frame.specs.declared.actual.Actual.TheVariants as actual;
-ghost use Rattle.adj_frame.specs.Framed.{IsFrame};
-ghost use Rattle.adj_frame.specs.Shown.{Shows};
-ghost use Rattle.adj_frame.specs.Called.{IsLaidOut};
+ghost use Rattle.def_meaning.specs.Apart.{AreApart};
+ghost use Rattle.def_meaning.specs.Units.{fits, input_store};
+ghost use Rattle.adj_interp_frame.specs.declared.actual.Actual.{Actual as AnActual};
+ghost use Rattle.adj_interp_frame.specs.declared.actual.Actual.TheVariants as actual;
+ghost use Rattle.adj_interp_frame.specs.Framed.{IsFrame};
+ghost use Rattle.adj_interp_frame.specs.Shown.{Shows};
+ghost use Rattle.adj_interp_frame.specs.Called.{IsLaidOut};
 ghost use Rattle.adj_interp.specs.Inputs.{entry_seen, input_shape};
 
-use adj_frame::{Actual, Frame, Routine, Slot, Unfit};
+use adj_interp_frame::{Actual, Frame, Routine, Slot, Unfit};
 use adj_number::Number;
 use adj_tree::{Memory, Unit};
 use std::alloc::Global;

@@ -1,7 +1,7 @@
 //! The interpreter: runs of a unit of a program, on words and on words that carry tangents.
 //!
 //! `run` prepares the units of a checked program of `adj_symbols`, and a machine executes the prepared statements of
-//! `adj_frame`, calls included. The layer above uses: a run concludes as the run of `adj_meaning`, with the tape and the
+//! `adj_interp_frame`, calls included. The layer above uses: a run concludes as the run of `def_meaning`, with the tape and the
 //! log that it leaves (`specs/Concludes.antt`). docs/RUNNING.md says what programs do.
 #![tactic(auto)]
 

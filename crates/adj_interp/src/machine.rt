@@ -2,25 +2,25 @@
 
 ghost use Rattle.std.specs.Prelude.{◌≡◌, ◌<◌, List, ℕ, Some, suc, true, false, length, slice_get, slice_index_or, IfOk};
 ghost use Rattle.adj_tree.specs.Code.{Procedure};
-ghost use Rattle.adj_meaning.specs.Scene.{Scene};
-ghost use Rattle.adj_meaning.specs.Store.{set};
-ghost use Rattle.adj_meaning.specs.Value.{value, target, holds};
-ghost use Rattle.adj_meaning.specs.Units.{calls_of};
-ghost use Rattle.adj_meaning.specs.Written.{find_unit};
-ghost use Rattle.adj_meaning.specs.Run.{Calls, act, run, turns, with_turn, stepped, tests, most_tests};
-ghost use Rattle.adj_frame.specs.declared.slot.Slot.{Slot};
-ghost use Rattle.adj_frame.specs.Prepared.{var_at, term_in, test_in, terms_in, IsTermBelow, AreTermsBelow, IsTestBelow};
-ghost use Rattle.adj_frame.specs.Instructed.{task_in, steps_in, marking_in, IsCellBelow, AreBoundsBelow, IsTaskBelow, AreStepsBelow};
-ghost use Rattle.adj_frame.specs.Linked.{IsTaskLinked, AreLinked, units_in, AreRoutines};
-ghost use Rattle.adj_frame.specs.Framed.{IsFrame};
-ghost use Rattle.adj_frame.specs.Suited.{AreTermsSuited, IsSuited, AreSuited, counts_in};
+ghost use Rattle.def_meaning.specs.Scene.{Scene};
+ghost use Rattle.def_meaning.specs.Store.{set};
+ghost use Rattle.def_meaning.specs.Value.{value, target, holds};
+ghost use Rattle.def_meaning.specs.Units.{calls_of};
+ghost use Rattle.def_meaning.specs.Written.{find_unit};
+ghost use Rattle.def_meaning.specs.Run.{Calls, act, run, turns, with_turn, stepped, tests, most_tests};
+ghost use Rattle.adj_interp_frame.specs.declared.slot.Slot.{Slot};
+ghost use Rattle.adj_interp_frame.specs.Prepared.{var_at, term_in, test_in, terms_in, IsTermBelow, AreTermsBelow, IsTestBelow};
+ghost use Rattle.adj_interp_frame.specs.Instructed.{task_in, steps_in, marking_in, IsCellBelow, AreBoundsBelow, IsTaskBelow, AreStepsBelow};
+ghost use Rattle.adj_interp_frame.specs.Linked.{IsTaskLinked, AreLinked, units_in, AreRoutines};
+ghost use Rattle.adj_interp_frame.specs.Framed.{IsFrame};
+ghost use Rattle.adj_interp_frame.specs.Suited.{AreTermsSuited, IsSuited, AreSuited, counts_in};
 ghost use Rattle.adj_interp.specs.Held.{Entry, setting_at, Holds, OneCelled, Ends, Finds, stopped_at, bounds_in};
 
 use crate::cursor::Cursor;
 use crate::stop::Stop;
 use crate::tally::Tally;
 use crate::trips::{most_tests, turns_of};
-use adj_frame::{Bounds, Cell, Frame, Marking, Routine, Steps, Task, Term, Terms, Test};
+use adj_interp_frame::{Bounds, Cell, Frame, Marking, Routine, Steps, Task, Term, Terms, Test};
 use adj_number::Number;
 use adj_tape::Tape;
 use adj_tree::Trap;

@@ -4,7 +4,7 @@ ghost use Rattle.std.specs.Prelude.{◌≡◌, IfOk, map};
 ghost use Rattle.adj_interp.specs.Concludes.{slot_seen};
 ghost use Rattle.adj_interp.specs.Inputs.{entry_seen};
 
-use adj_frame::Slot;
+use adj_interp_frame::Slot;
 use adj_tree::{Items, Memory, Slot as Value, Values};
 use std::alloc::Global;
 

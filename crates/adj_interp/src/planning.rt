@@ -4,18 +4,18 @@ ghost use Rattle.std.specs.Prelude.{◌≡◌, ◌<◌, ◌≤◌, ◌-◌, ◌^
 ghost use Rattle.adj_revolve.specs.declared.machine.Action.{Action as AnAction};
 ghost use Rattle.adj_revolve.specs.Schedule.{schedule_of};
 ghost use Rattle.adj_tree.specs.Code.{begin_reversal, count_actions, give_action, end_reversal};
-ghost use Rattle.adj_meaning.specs.Trap.{schedule_trap, then_ok, or_trap};
-ghost use Rattle.adj_meaning.specs.Scene.{Scene};
-ghost use Rattle.adj_meaning.specs.Runtime.{steps_of, snapshots_of, actions_of, action_at, kind_of, lower_of, upper_of, runtime_act};
-ghost use Rattle.adj_frame.specs.Prepared.{var_at, term_in, IsTermBelow};
-ghost use Rattle.adj_frame.specs.Framed.{result_of, IsFrame};
-ghost use Rattle.adj_frame.specs.Suited.{counts_in};
+ghost use Rattle.def_meaning.specs.Trap.{schedule_trap, then_ok, or_trap};
+ghost use Rattle.def_meaning.specs.Scene.{Scene};
+ghost use Rattle.def_meaning.specs.Runtime.{steps_of, snapshots_of, actions_of, action_at, kind_of, lower_of, upper_of, runtime_act};
+ghost use Rattle.adj_interp_frame.specs.Prepared.{var_at, term_in, IsTermBelow};
+ghost use Rattle.adj_interp_frame.specs.Framed.{result_of, IsFrame};
+ghost use Rattle.adj_interp_frame.specs.Suited.{counts_in};
 ghost use Rattle.adj_interp.specs.Held.{Entry, setting_at, Holds, Ends, Finds, plan_in, action_in, given_in};
 
 use crate::cursor::Cursor;
 use crate::machine::Machine;
 use crate::stop::Stop;
-use adj_frame::Term;
+use adj_interp_frame::Term;
 use adj_number::Number;
 use adj_revolve::{Action, Schedule};
 use adj_tree::Trap;

@@ -2,9 +2,9 @@
 
 ghost use Rattle.std.specs.Prelude.{◌≡◌, ◌<◌, IfOk};
 ghost use Rattle.adj_tree.specs.View.{procedures_of};
-ghost use Rattle.adj_frame.specs.Linked.{units_in, AreRoutines};
+ghost use Rattle.adj_interp_frame.specs.Linked.{units_in, AreRoutines};
 
-use adj_frame::{Directory, Routine, routine_of};
+use adj_interp_frame::{Directory, Routine, routine_of};
 use adj_symbols::Checked;
 use adj_tree::Memory;
 use std::alloc::Global;

@@ -2,19 +2,19 @@
 
 ghost use Rattle.std.specs.Prelude.{◌≡◌, ◌<◌, ℕ, length, slice_index_or};
 ghost use Rattle.adj_tree.specs.Code.{push_word, pop_word, push_array, pop_array, push_control};
-ghost use Rattle.adj_meaning.specs.Scene.{Scene, pushed, popped};
-ghost use Rattle.adj_meaning.specs.Store.{set_all};
-ghost use Rattle.adj_meaning.specs.Runtime.{runtime_act};
-ghost use Rattle.adj_frame.specs.declared.slot.Slot.{Slot};
-ghost use Rattle.adj_frame.specs.Prepared.{var_at, term_in, terms_in, IsTermBelow};
-ghost use Rattle.adj_frame.specs.Instructed.{service_in, IsCellBelow, IsServiceBelow};
-ghost use Rattle.adj_frame.specs.Framed.{IsFrame, zero_in};
-ghost use Rattle.adj_frame.specs.Suited.{counts_in};
+ghost use Rattle.def_meaning.specs.Scene.{Scene, pushed, popped};
+ghost use Rattle.def_meaning.specs.Store.{set_all};
+ghost use Rattle.def_meaning.specs.Runtime.{runtime_act};
+ghost use Rattle.adj_interp_frame.specs.declared.slot.Slot.{Slot};
+ghost use Rattle.adj_interp_frame.specs.Prepared.{var_at, term_in, terms_in, IsTermBelow};
+ghost use Rattle.adj_interp_frame.specs.Instructed.{service_in, IsCellBelow, IsServiceBelow};
+ghost use Rattle.adj_interp_frame.specs.Framed.{IsFrame, zero_in};
+ghost use Rattle.adj_interp_frame.specs.Suited.{counts_in};
 ghost use Rattle.adj_interp.specs.Held.{Entry, setting_at, Holds, Ends};
 
 use crate::machine::Machine;
 use crate::stop::Stop;
-use adj_frame::{Cell, Service, Term};
+use adj_interp_frame::{Cell, Service, Term};
 use adj_number::Number;
 use adj_tree::Trap;
 

@@ -1,8 +1,8 @@
 //! What a run counts of its reversals.
 
 ghost use Rattle.std.specs.Prelude.{◌≡◌, List, ℕ, [], map, reverse, length, OnOk};
-ghost use Rattle.adj_meaning.specs.Event.{Enter, Begin, End};
-ghost use Rattle.adj_meaning.specs.Store.{Shape};
+ghost use Rattle.def_meaning.specs.Event.{Enter, Begin, End};
+ghost use Rattle.def_meaning.specs.Store.{Shape};
 ghost use Rattle.adj_interp.specs.Concludes.{counted_in};
 ghost use Rattle.adj_interp.specs.Tallied.{Tallied, with_event, reversal_of};
 

@@ -1,11 +1,11 @@
 //! How often a DO turns.
 
 ghost use Rattle.std.specs.Prelude.{◌≡◌, List, ℕ};
-ghost use Rattle.adj_meaning.specs.Run.{trips, most_turns, most_tests};
-ghost use Rattle.adj_frame.specs.Instructed.{marking_in};
-ghost use Rattle.adj_frame.specs.Framed.{result_of};
+ghost use Rattle.def_meaning.specs.Run.{trips, most_turns, most_tests};
+ghost use Rattle.adj_interp_frame.specs.Instructed.{marking_in};
+ghost use Rattle.adj_interp_frame.specs.Framed.{result_of};
 
-use adj_frame::Marking;
+use adj_interp_frame::Marking;
 use adj_tree::Trap;
 use adj_word::trips;
 

@@ -4,18 +4,18 @@ use Rattle.std.specs.Prelude.{◌↔◌, IsTrue, All, Contains, Option, Some, No
 use Rattle.std.specs.Option.{option_map}
 use Rattle.adj_tree.specs.Code.{plain, name_eq, Procedure}
 use Rattle.adj_tree.specs.declared.marks.Activity as flags
-use Rattle.adj_meaning.specs.LeastSet.{row_of, least_rows}
-use Rattle.adj_meaning.specs.Read.{read_rule, looked_at}
-use Rattle.adj_meaning.specs.Written.{write_rule, handed_back}
-use Rattle.adj_facts.specs.Parts.{Part, parts, find_part}
-use Rattle.adj_facts.specs.Problem.{Problem, TakesPart}
-use Rattle.adj_facts.specs.Live.{IsLive}
-use Rattle.adj_facts.specs.Rules.{Scope, Covers}
-use Rattle.adj_writes.specs.Table.{value_of}
+use Rattle.def_meaning.specs.LeastSet.{row_of, least_rows}
+use Rattle.def_meaning.specs.Read.{read_rule, looked_at}
+use Rattle.def_meaning.specs.Written.{write_rule, handed_back}
+use Rattle.def_flow.specs.Parts.{Part, parts, find_part}
+use Rattle.def_flow.specs.Problem.{Problem, TakesPart}
+use Rattle.def_flow.specs.Live.{IsLive}
+use Rattle.def_flow.specs.Rules.{Scope, Covers}
+use Rattle.adj_symbols_writes.specs.Table.{value_of}
 use Rattle.adj_reach.specs.Edges.{ReachedFrom, flag}
-use Rattle.adj_writes.specs.Graph.{number_from, place_from}
-use Rattle.adj_writes.proofs.Numbers.{place_above}
-use Rattle.adj_writes.proofs.Rows.{name_comm}
+use Rattle.adj_symbols_writes.specs.Graph.{number_from, place_from}
+use Rattle.adj_symbols_writes.proofs.Numbers.{place_above}
+use Rattle.adj_symbols_writes.proofs.Rows.{name_comm}
 use Rattle.adj_flow.specs.Rows.{Row, row_in, rows}
 use Rattle.adj_flow.specs.Nodes.{IsWide}
 use Rattle.adj_flow.specs.NodeView.{found_at}
@@ -23,9 +23,9 @@ use Rattle.adj_flow.specs.Scoped.{scope_by, HoldVariables}
 use Rattle.adj_flow.specs.Told.{told, told_of}
 use Rattle.adj_flow.proofs.Covering.{flags_cover, scope_wide}
 use Rattle.adj_flow.proofs.Scoping.{found_unit}
-use Rattle.adj_activity.specs.Told.{activity_told}
+use Rattle.adj_flow.specs.ActivityTold.{activity_told}
 use Rattle.adj_live.specs.Listed.{Here, unit_nodes, all_nodes, unit_edges, all_edges}
-use Rattle.adj_live.specs.Passed.{row_by}
+use Rattle.adj_flow.specs.Sides.{row_by}
 use Rattle.adj_live.specs.View.{activity_in}
 use Rattle.adj_live.proofs.Imaged.{here_of, start_images, step_images}
 use Rattle.adj_live.proofs.Rowed.{nodes_same, edges_same}

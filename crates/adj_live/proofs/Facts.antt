@@ -3,13 +3,13 @@ use Rattle.std.proofs.Common.{◌≡◌, ℕ, ◌+◌, ◌*◌, ◌/◌, ◌%◌
 use Rattle.std.specs.Prelude.{Contains, Some}
 use Rattle.std.proofs.lemmas.Nat.{div-mul-add, mod-mul-add}
 use Rattle.adj_tree.specs.Code.{Var, plain}
-use Rattle.adj_facts.specs.Parts.{Part}
-use Rattle.adj_facts.specs.Problem.{Problem, TakesPart}
-use Rattle.adj_facts.specs.Flow.{Node}
-use Rattle.adj_facts.specs.Activity.{IsPoint}
-use Rattle.adj_facts.specs.Live.{Fact, needed, kept, wanted}
-use Rattle.adj_facts.specs.Rules.{Scope, list_of}
-use Rattle.adj_facts.proofs.Points.{one_point}
+use Rattle.def_flow.specs.Parts.{Part}
+use Rattle.def_flow.specs.Problem.{Problem, TakesPart}
+use Rattle.def_flow.specs.Flow.{Node}
+use Rattle.def_flow.specs.Activity.{IsPoint}
+use Rattle.def_flow.specs.Live.{Fact, needed, kept, wanted}
+use Rattle.def_flow.specs.Rules.{Scope, list_of}
+use Rattle.def_flow.proofs.Points.{one_point}
 use Rattle.adj_flow.specs.Nodes.{node_in, place_in, IsWide, IsNumbered, HasNode, HasVariable, linked}
 use Rattle.adj_flow.proofs.Images.{Images, images_one}
 use Rattle.adj_flow.proofs.Places.{place_range, number_is, one_number, own_number, here_has, has_here}

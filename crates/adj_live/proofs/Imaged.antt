@@ -5,26 +5,28 @@ use Rattle.std.specs.Option.{option_map}
 use Rattle.std.proofs.lemmas.List.Concat.{flat_map-cons}
 use Rattle.std.proofs.lemmas.List.Elements.{Contains-append_left, Contains-append_right, Contains-append_cases}
 use Rattle.adj_tree.specs.Code.{Var, plain, var_eq, Terms, Term, Code, Mark, Act, assign, choose, loop, during, call, runtime}
-use Rattle.adj_meaning.specs.Read.{is_extent, is_read, looked_at, read_rule}
-use Rattle.adj_meaning.specs.Written.{handed_back, write_rule}
-use Rattle.adj_transpose.specs.Marks.{point_before, point_after}
-use Rattle.adj_facts.specs.Reached.{leads}
-use Rattle.adj_facts.specs.Parts.{Part, parts, point_inside, find_part}
-use Rattle.adj_facts.specs.Ways.{Way, assigned_on, way, ways, act_ways, assigning, passing}
-use Rattle.adj_facts.specs.Standing.{Place, outermost, part_of, turn_of, Standing}
-use Rattle.adj_facts.specs.Variables.{list_if, vars_in, vars_in_terms, vars_in_mark, adjoint_reads_in, used_in, handed_in, handed_in_actuals, standing_in}
-use Rattle.adj_facts.specs.Problem.{Problem, statements_of, ways_of, CallsUnit, TakesPart, bound}
-use Rattle.adj_facts.specs.Activity.{Activity, Holds, IsPoint, resets}
-use Rattle.adj_facts.specs.Uses.{use_point, site, turned_by}
-use Rattle.adj_facts.specs.Live.{Fact, needed, kept, wanted}
-use Rattle.adj_facts.specs.Rules.{Scope, Covers, list_of, with_args, called, at_actuals, holders, live_starts_by, live_turned, live_starts_at, live_starts, live_stays, live_assigned, live_member, live_called, live_steps_at, live_steps}
-use Rattle.adj_facts.proofs.Members.{is_first, is_later, is_none, flat_only, filter_only}
-use Rattle.adj_facts.proofs.Holders.{holder_of}
-use Rattle.adj_facts.proofs.Placed.{way_of_statement}
-use Rattle.adj_facts.proofs.OwnPoints.{entry_point, own_before, own_after, use_is_point}
-use Rattle.adj_facts.proofs.Variables.{used_stands, adjoint_reads_stand}
-use Rattle.adj_facts.proofs.FlowListed as flowing
-use Rattle.adj_facts.proofs.LiveListed as listing
+use Rattle.def_meaning.specs.Read.{is_extent, is_read, looked_at, read_rule}
+use Rattle.def_meaning.specs.Written.{handed_back, write_rule}
+use Rattle.def_names.specs.Numbering.{point_before, point_after, point_inside}
+use Rattle.adj_reach.specs.Reached.{leads}
+use Rattle.def_flow.specs.Parts.{Part, parts, find_part}
+use Rattle.def_flow.specs.Ways.{Way, assigned_on, way, ways, act_ways, assigning, passing}
+use Rattle.def_flow.specs.Standing.{Place, outermost, part_of, turn_of, Standing}
+use Rattle.def_names.specs.VariableLists.{list_if, vars_in, vars_in_terms, vars_in_mark, used_in, handed_in, handed_in_actuals, standing_in}
+use Rattle.def_flow.specs.AdjointReads.{adjoint_reads_in}
+use Rattle.def_flow.specs.Problem.{Problem, statements_of, ways_of, CallsUnit, TakesPart, bound}
+use Rattle.def_flow.specs.Activity.{Activity, Holds, IsPoint, resets}
+use Rattle.def_flow.specs.Uses.{use_point, site, turned_by}
+use Rattle.def_flow.specs.Live.{Fact, needed, kept, wanted}
+use Rattle.def_flow.specs.Rules.{Scope, Covers, list_of, with_args, called, at_actuals, holders, live_starts_by, live_turned, live_starts_at, live_starts, live_stays, live_assigned, live_member, live_called, live_steps_at, live_steps}
+use Rattle.adj_reach.proofs.Members.{is_first, is_later, is_none, flat_only, filter_only}
+use Rattle.def_flow.proofs.Holders.{holder_of}
+use Rattle.def_flow.proofs.Placed.{way_of_statement}
+use Rattle.def_flow.proofs.OwnPoints.{entry_point, own_before, own_after, use_is_point}
+use Rattle.def_names.proofs.VariableLists.{used_stands}
+use Rattle.def_flow.proofs.AdjointReads.{adjoint_reads_stand}
+use Rattle.def_flow.proofs.FlowListed as flowing
+use Rattle.def_flow.proofs.LiveListed as listing
 use Rattle.adj_flow.specs.Nodes.{IsWide, linked}
 use Rattle.adj_flow.specs.Rows.{Row, row_in}
 use Rattle.adj_flow.specs.Passed.{passed_in}

@@ -1,12 +1,12 @@
 -- What the lists of the rules have are facts that are known, a dummy that is wanted being one of its unit.
 use Rattle.std.proofs.Common.{ℕ, refl}
-use Rattle.adj_facts.specs.Problem.{Problem}
-use Rattle.adj_facts.specs.Activity.{Activity}
-use Rattle.adj_facts.specs.Live as live
-use Rattle.adj_facts.specs.Live.{Fact}
-use Rattle.adj_facts.specs.Rules.{Scope, Covers, live_starts, live_steps}
-use Rattle.adj_facts.proofs.AsLists.{AreLists}
-use Rattle.adj_facts.proofs.LiveListed as listing
+use Rattle.def_flow.specs.Problem.{Problem}
+use Rattle.def_flow.specs.Activity.{Activity}
+use Rattle.def_flow.specs.Live as live
+use Rattle.def_flow.specs.Live.{Fact}
+use Rattle.def_flow.specs.Rules.{Scope, Covers, live_starts, live_steps}
+use Rattle.def_flow.proofs.AsLists.{AreLists}
+use Rattle.def_flow.proofs.LiveListed as listing
 use Rattle.adj_live.proofs.Facts.{IsKnown}
 
 module _ (k : Problem) (o : Scope) (y : Covers k o) (a : Activity) (w : ℕ) where

@@ -3,7 +3,7 @@ use Rattle.std.proofs.Common.{◌≡◌, ℕ, ◌+◌, ◌<◌, ◌≤◌, Bool,
 use Rattle.std.specs.Prelude.{◌||◌}
 use Rattle.std.proofs.lemmas.List.{drop_more, drop_all}
 use Rattle.adj_tree.specs.Code.{Extent, fixed, given, Declaration}
-use Rattle.adj_meaning.specs.Read.{names_extent, is_extent}
+use Rattle.def_meaning.specs.Read.{names_extent, is_extent}
 use Rattle.adj_live.specs.Extents.{is_named}
 
 pub or_none : (b : Bool) → b ≡ (b || false)

@@ -3,14 +3,16 @@ use Rattle.std.proofs.Common.{◌≡◌, ℕ, ◌*◌, List, [], ◌∷◌, ◌+
 use Rattle.std.specs.Prelude.{Contains, Option, ◌&&◌, flat_map, slice_index_or}
 use Rattle.adj_tree.specs.Code.{Var, Act, assign, choose, loop, during, call, runtime}
 use Rattle.adj_tree.specs.declared.marks.Activity as flags
-use Rattle.adj_transpose.specs.Marks.{Vars, point_before}
-use Rattle.adj_facts.specs.Parts.{Part}
-use Rattle.adj_facts.specs.Standing.{outermost, Standing}
-use Rattle.adj_facts.specs.Variables.{list_if, vars_in_terms, adjoint_reads_in}
-use Rattle.adj_facts.specs.Problem.{Problem, statements_of, TakesPart}
-use Rattle.adj_facts.specs.Activity.{Activity}
-use Rattle.adj_facts.specs.Rules.{Scope, Covers}
-use Rattle.adj_facts.proofs.OwnPoints.{own_before}
+use Rattle.def_names.specs.Numbers.{Vars}
+use Rattle.def_names.specs.Numbering.{point_before}
+use Rattle.def_flow.specs.Parts.{Part}
+use Rattle.def_flow.specs.Standing.{outermost, Standing}
+use Rattle.def_names.specs.VariableLists.{list_if, vars_in_terms}
+use Rattle.def_flow.specs.AdjointReads.{adjoint_reads_in}
+use Rattle.def_flow.specs.Problem.{Problem, statements_of, TakesPart}
+use Rattle.def_flow.specs.Activity.{Activity}
+use Rattle.def_flow.specs.Rules.{Scope, Covers}
+use Rattle.def_flow.proofs.OwnPoints.{own_before}
 use Rattle.adj_reach.specs.Edges.{flag}
 use Rattle.adj_flow.specs.Rows.{Row, row_in, rows}
 use Rattle.adj_flow.specs.Told.{told_in, told, told_of}
@@ -18,7 +20,7 @@ use Rattle.adj_flow.specs.NodeView.{told_at}
 use Rattle.adj_flow.specs.Scoped.{scope_by}
 use Rattle.adj_flow.proofs.Scoping.{flat_same, scoped, told_there}
 use Rattle.adj_flow.proofs.Telling.{number_found}
-use Rattle.adj_activity.specs.Told.{activity_told}
+use Rattle.adj_flow.specs.ActivityTold.{activity_told}
 use Rattle.adj_live.specs.Numbers.{kept_at}
 use Rattle.adj_live.specs.Listed.{Here, needed_nodes, own_nodes, held_nodes, statement_nodes, extent_nodes, unit_nodes, all_nodes, unit_edges, all_edges}
 use Rattle.adj_live.specs.View.{activity_in}

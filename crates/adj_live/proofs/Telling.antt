@@ -2,12 +2,12 @@
 use Rattle.std.proofs.Common.{◌≡◌, ℕ, ◌+◌, ◌*◌, List, Bool, true, refl, sym, ap, ◌∙◌}
 use Rattle.std.specs.Prelude.{Contains, ◌↔◌, IsTrue, Option, Some, None}
 use Rattle.adj_tree.specs.Code.{Var, plain}
-use Rattle.adj_facts.specs.Parts.{Part}
-use Rattle.adj_facts.specs.Problem.{Problem, TakesPart}
-use Rattle.adj_facts.specs.Activity.{Activity, IsPoint}
-use Rattle.adj_facts.specs.Live.{Fact, needed, kept, wanted, LiveBegins, LiveLeads, Live, says, IsLive}
-use Rattle.adj_facts.specs.Rules.{Scope, Covers, live_starts, live_steps}
-use Rattle.adj_facts.proofs.Numbered.{IsListed, reached_has, exact_by_number}
+use Rattle.def_flow.specs.Parts.{Part}
+use Rattle.def_flow.specs.Problem.{Problem, TakesPart}
+use Rattle.def_flow.specs.Activity.{Activity, IsPoint}
+use Rattle.def_flow.specs.Live.{Fact, needed, kept, wanted, LiveBegins, LiveLeads, Live, says, IsLive}
+use Rattle.def_flow.specs.Rules.{Scope, Covers, live_starts, live_steps}
+use Rattle.def_flow.proofs.Numbered.{IsListed, reached_has, exact_by_number}
 use Rattle.adj_reach.specs.Edges.{ReachedFrom, flag}
 use Rattle.adj_flow.specs.Nodes.{node_in, IsWide}
 use Rattle.adj_flow.specs.Told.{unit_at, unit_of, flag_at, told_in, told, told_of}

@@ -1,22 +1,25 @@
 -- What statements use, hand back and pass, by which dummies units read and write.
-use Rattle.std.proofs.Common.{◌≡◌, ◌⊎◌, inl, inr, ℕ, suc, List, [], ◌∷◌, ◌++◌, Bool, true, false, map, refl, sym, ap, ◌∙◌}
-use Rattle.std.specs.Prelude.{Contains, Option, Some, None, ◌&&◌, flat_map, if◌then◌else◌}
+use Rattle.std.proofs.Common.{◌≡◌, ◌⊎◌, inl, inr, ℕ, suc, List, ◌∷◌, ◌++◌, Bool, true, false, map, refl, sym, ap, ◌∙◌}
+use Rattle.std.specs.Prelude.{Contains, Option, Some, None, ◌&&◌, flat_map, if◌then◌else◌, []}
 use Rattle.std.proofs.lemmas.List.Concat.{flat_map-cons}
 use Rattle.std.proofs.lemmas.List.Elements.{Contains-append_left, Contains-append_right, Contains-append_cases}
 use Rattle.adj_tree.specs.Code.{Var, name_eq, Terms, Term, lit, var, elem, neg, bin, pow, power_of, abs, none, more, Act, assign, choose, loop, during, call, runtime, Procedure}
-use Rattle.adj_meaning.specs.LeastSet.{row_of, least_rows, Rule, in_least}
-use Rattle.adj_meaning.specs.Read.{looked_at, is_read, read_rule}
-use Rattle.adj_meaning.specs.Written.{handed_back, find_unit}
-use Rattle.adj_meaning.proofs.LeastSets.{least_row}
-use Rattle.adj_meaning.proofs.ReadSets.{read_rises}
-use Rattle.adj_transpose.specs.Marks.{behind}
-use Rattle.adj_facts.specs.Parts.{Part, part, parts_from, statements_in, parts, find_part}
-use Rattle.adj_facts.specs.Variables.{list_if, vars_in, vars_in_terms, used_in, handed_in, read_in_actuals, place_of_actual, handed_in_actuals, standing_in}
-use Rattle.adj_facts.specs.Problem.{bound, name_of, with_actual}
-use Rattle.adj_facts.specs.Rules.{list_of}
-use Rattle.adj_facts.proofs.Members.{is_first, is_none, is_only, if_only}
+use Rattle.def_meaning.specs.LeastSet.{row_of, least_rows, Rule, in_least}
+use Rattle.def_meaning.specs.Read.{looked_at, is_read, read_rule}
+use Rattle.def_meaning.specs.Written.{handed_back}
+use Rattle.def_meaning.proofs.LeastSets.{least_row}
+use Rattle.def_meaning.proofs.ReadsMore.{read_rises}
+use Rattle.def_names.specs.Numbers.{behind}
+use Rattle.def_flow.specs.Parts.{Part, part, parts_from, parts, find_part}
+use Rattle.def_names.specs.StatementsIn.{statements_in}
+use Rattle.def_names.specs.VariableLists.{list_if, vars_in, vars_in_terms, used_in, handed_in, read_in_actuals, place_of_actual, handed_in_actuals, standing_in}
+use Rattle.def_flow.specs.Problem.{bound, name_of, with_actual}
+use Rattle.def_flow.specs.Rules.{list_of}
+use Rattle.adj_reach.proofs.Members.{is_first, is_none, is_only}
+use Rattle.def_names.proofs.Conditioned.{if_only}
 use Rattle.adj_flow.specs.Passed.{passed_in}
 use Rattle.adj_live.specs.Passed.{used_by, handed_by}
+use Rattle.adj_flow.proofs.UnitFound.{unit_found}
 
 -- ---- by the rows of the least sets
 
@@ -50,15 +53,6 @@ no_row t u i (p ∷ ps) (ws ∷ rows) name e = go (name_eq p.name name) e (no_ro
 
 pub no_dummies : (rule : Rule) (units : List Procedure) (name : List ℕ) → find_part (parts units) name ≡ None → in_least rule units name ≡ []
 no_dummies rule units name e = no_row (statements_in 0 units) 0 0 units (least_rows rule units) name e
-
--- the unit of a name is that of its part
-pub unit_found : (t u i : ℕ) (ps : List Procedure) (name : List ℕ) (g : Part) → find_part (parts_from t u i ps) name ≡ Some g → find_unit ps name ≡ Some g.unit
-unit_found t u i [] name g e = absurd cc
-unit_found t u i (p ∷ ps) name g e = go (name_eq p.name name) e (unit_found t (suc u) (behind i p.body) ps name g)
-  where
-    go : (b : Bool) → (if b then Some (part t u i p) else find_part (parts_from t (suc u) (behind i p.body) ps) name) ≡ Some g → (find_part (parts_from t (suc u) (behind i p.body) ps) name ≡ Some g → find_unit ps name ≡ Some g.unit) → (if b then Some p else find_unit ps name) ≡ Some g.unit
-    go true h r = let s : part t u i p ≡ g = cc in ap (λ (z : Part). Some z.unit) s
-    go false h r = r h
 
 -- its row says of each dummy whether it is read
 pub read_row : (units : List Procedure) (name : List ℕ) (g : Part) → find_part (parts units) name ≡ Some g → looked_at units name ≡ map (is_read units g.unit) g.unit.dummies

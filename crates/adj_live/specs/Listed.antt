@@ -1,16 +1,18 @@
 -- Where the rules begin, and their steps, between the numbers of facts, unit by unit.
 use Rattle.std.specs.Prelude.{ℕ, List, [], ◌∷◌, ◌++◌, map, flat_map, Bool, true, not, ◌&&◌, Option, Some, None}
 use Rattle.adj_tree.specs.Code.{Var, plain, Terms, Act, assign, choose, loop, during, call, runtime}
-use Rattle.adj_meaning.specs.Read.{is_extent}
-use Rattle.adj_transpose.specs.Marks.{Vars, point_before, point_after, active_at}
-use Rattle.adj_facts.specs.Parts.{point_inside}
-use Rattle.adj_facts.specs.Ways.{Way, assigned_on}
-use Rattle.adj_facts.specs.Standing.{Place, outermost, part_of, turn_of, Standing}
-use Rattle.adj_facts.specs.Variables.{list_if, vars_in_terms, adjoint_reads_in}
-use Rattle.adj_facts.specs.Problem.{bound}
-use Rattle.adj_facts.specs.Activity.{Activity, activity_marks, resets}
-use Rattle.adj_facts.specs.Rules.{list_of, holders}
-use Rattle.adj_facts.specs.Uses.{use_point, site, turned_by}
+use Rattle.def_meaning.specs.Read.{is_extent}
+use Rattle.def_names.specs.Numbers.{Vars}
+use Rattle.def_names.specs.Numbering.{point_before, point_after, point_inside}
+use Rattle.def_sweep.specs.Marks.{active_at}
+use Rattle.def_flow.specs.Ways.{Way, assigned_on}
+use Rattle.def_flow.specs.Standing.{Place, outermost, part_of, turn_of, Standing}
+use Rattle.def_names.specs.VariableLists.{list_if, vars_in_terms}
+use Rattle.def_flow.specs.AdjointReads.{adjoint_reads_in}
+use Rattle.def_flow.specs.Problem.{bound}
+use Rattle.def_flow.specs.Activity.{Activity, activity_marks, resets}
+use Rattle.def_flow.specs.Rules.{list_of, holders}
+use Rattle.def_flow.specs.Uses.{use_point, site, turned_by}
 use Rattle.adj_reach.specs.Edges.{Edges, flag}
 use Rattle.adj_flow.specs.Nodes.{linked}
 use Rattle.adj_flow.specs.NodeView.{vars_of}

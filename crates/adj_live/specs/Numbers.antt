@@ -2,7 +2,7 @@
 -- those below w are its variables, one is that the statement of the number is kept, and one that a dummy is wanted.
 use Rattle.std.specs.Prelude.{ℕ, ◌+◌, ◌*◌, List, Option, Some, None}
 use Rattle.adj_tree.specs.Code.{Var, plain}
-use Rattle.adj_facts.specs.Live.{Fact, needed, kept, wanted}
+use Rattle.def_flow.specs.Live.{Fact, needed, kept, wanted}
 use Rattle.adj_flow.specs.Nodes.{node_in}
 
 -- a variable of a unit is needed at a point

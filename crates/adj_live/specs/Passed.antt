@@ -1,13 +1,8 @@
 -- The variables that statements use, hand back and pass, where it is known which of their dummies units read and write.
-use Rattle.std.specs.Prelude.{ℕ, List, [], ◌∷◌, ◌++◌, Bool, Option, Some, None, slice_index_or}
+use Rattle.std.specs.Prelude.{ℕ, List, [], ◌++◌, Bool}
 use Rattle.adj_tree.specs.Code.{Var, Act, assign, choose, loop, during, call, runtime}
-use Rattle.adj_facts.specs.Variables.{vars_in, vars_in_terms, vars_in_test, vars_in_mark, read_in_actuals, handed_in_actuals}
+use Rattle.def_names.specs.VariableLists.{vars_in, vars_in_terms, vars_in_test, vars_in_mark, read_in_actuals, handed_in_actuals}
 use Rattle.adj_flow.specs.Passed.{passed_in}
-
--- which of its dummies the unit of a number has in a set
-abbrev pub row_by : List (List Bool) → Option ℕ → List Bool
-row_by rows None = []
-row_by rows (Some n) = slice_index_or rows n []
 
 -- those that a kept statement uses
 abbrev pub used_by : (List ℕ → List Bool) → Act → List Var

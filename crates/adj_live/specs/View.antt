@@ -1,12 +1,12 @@
 -- What the code goes over, as clauses see it.
 use Rattle.std.specs.Prelude.{ℕ, ◌*◌, map}
 use Rattle.adj_tree.specs.declared.marks.Activity as flags
-use Rattle.adj_facts.specs.Activity.{Activity}
+use Rattle.def_flow.specs.Activity.{Activity}
 use Rattle.adj_reach.specs.Edges.{flag}
-use Rattle.adj_writes.specs.Table.{value_of}
+use Rattle.adj_symbols_writes.specs.Table.{value_of}
 use Rattle.adj_flow.specs.Rows.{Row, row_of}
 use Rattle.adj_flow.specs.NodeView.{found_at, told_at}
-use Rattle.adj_live.specs.Passed.{row_by}
+use Rattle.adj_flow.specs.Sides.{row_by}
 use Rattle.adj_live.specs.Listed.{Here}
 use Rattle.adj_live.specs.declared.site.Known.{Known}
 use Rattle.adj_live.specs.declared.site.Site.{Site}

@@ -3,9 +3,9 @@
 ghost use Rattle.std.specs.Prelude.{◌≡◌, ◌++◌, ◌∷◌, [], IfOk, OnOk, map, flat_map};
 ghost use Rattle.adj_tree.specs.Code.{plain, assign};
 ghost use Rattle.adj_tree.specs.View.{term_of, terms_of, act_of};
-ghost use Rattle.adj_facts.specs.Variables.{list_if};
-ghost use Rattle.adj_facts.specs.Rules.{list_of, holders};
-ghost use Rattle.adj_writes.specs.View.{vars_seen};
+ghost use Rattle.def_names.specs.VariableLists.{list_if};
+ghost use Rattle.def_flow.specs.Rules.{list_of, holders};
+ghost use Rattle.adj_symbols_writes.specs.View.{vars_seen};
 ghost use Rattle.adj_flow.specs.Rows.{row_of};
 ghost use Rattle.adj_flow.specs.NodeView.{vars_of};
 ghost use Rattle.adj_flow.specs.View.{place_of, standing_of};
@@ -19,8 +19,8 @@ use crate::reads::{add_reads, resets};
 use crate::site::{Known, Site, add_number, kept, wanted};
 use adj_flow::{Flow, Place, Point, Standing, number};
 use adj_reach::flag_at;
+use adj_symbols_writes::variables::add_terms;
 use adj_tree::{Act, Expr, Memory, Name, Place as Target};
-use adj_writes::variables::add_terms;
 use std::alloc::Global;
 
 // Adds that a variable is needed at a point, if it is wanted.

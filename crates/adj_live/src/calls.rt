@@ -3,20 +3,19 @@
 ghost use Rattle.std.specs.Prelude.{◌≡◌, ◌++◌, ◌&&◌, not, true, OnOk, map, flat_map};
 ghost use Rattle.adj_tree.specs.Code.{plain};
 ghost use Rattle.adj_tree.specs.View.{act_of};
-ghost use Rattle.adj_transpose.specs.Marks.{point_before};
-ghost use Rattle.adj_facts.specs.Variables.{list_if};
+ghost use Rattle.def_names.specs.Numbering.{point_before};
+ghost use Rattle.def_names.specs.VariableLists.{list_if};
 ghost use Rattle.adj_flow.specs.Rows.{row_of};
 ghost use Rattle.adj_flow.specs.NodeView.{vars_of};
 ghost use Rattle.adj_flow.specs.Nodes.{linked};
 ghost use Rattle.adj_flow.specs.View.{standing_of};
-ghost use Rattle.adj_activity.specs.View.{pair_of};
+ghost use Rattle.adj_flow.specs.Pairs.{pair_of};
 ghost use Rattle.adj_live.specs.Numbers.{wanted_at};
 ghost use Rattle.adj_live.specs.Listed.{needed_here, member_edges, call_edges};
 ghost use Rattle.adj_live.specs.View.{here_at};
 
 use crate::site::{Site, wanted};
-use adj_activity::pairs;
-use adj_flow::{Part, Point, Standing, add_link, number};
+use adj_flow::{Part, Point, Standing, add_link, number, pairs};
 use adj_tree::{Act, Memory, Name};
 use std::alloc::Global;
 

@@ -2,12 +2,12 @@
 
 ghost use Rattle.std.specs.Prelude.{◌≡◌, ◌||◌, ℕ, List, is_some, map, IfOk, OnOk};
 ghost use Rattle.adj_tree.specs.View.{extent_of, declaration_of};
-ghost use Rattle.adj_meaning.specs.Read.{names_extent, is_extent};
-ghost use Rattle.adj_writes.specs.Table.{value_of};
+ghost use Rattle.def_meaning.specs.Read.{names_extent, is_extent};
+ghost use Rattle.adj_symbols_writes.specs.Table.{value_of};
 ghost use Rattle.adj_live.specs.Extents.{is_named};
 
+use adj_symbols_writes::table::Numbers;
 use adj_tree::{Decl, Extent, Memory, Name};
-use adj_writes::table::Numbers;
 use std::alloc::Global;
 
 // Adds the name that an extent is, if it is one.

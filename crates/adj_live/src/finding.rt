@@ -1,24 +1,23 @@
 //! What is live in a program.
 
 ghost use Rattle.std.specs.Prelude.{◌≡◌, ◌↔◌, ℕ, IfOk, IsTrue, map};
-ghost use Rattle.adj_meaning.specs.LeastSet.{least_rows};
-ghost use Rattle.adj_meaning.specs.Read.{read_rule};
-ghost use Rattle.adj_meaning.specs.Written.{write_rule};
+ghost use Rattle.def_meaning.specs.LeastSet.{least_rows};
+ghost use Rattle.def_meaning.specs.Read.{read_rule};
+ghost use Rattle.def_meaning.specs.Written.{write_rule};
 ghost use Rattle.adj_flow.specs.Rows.{row_of};
 ghost use Rattle.adj_flow.specs.Asked.{IsFlow, units_of, problem_of};
 ghost use Rattle.adj_reach.specs.Edges.{ReachedFrom, flag};
-ghost use Rattle.adj_activity.specs.Asked.{activity_of};
+ghost use Rattle.adj_flow.specs.Marked.{activity_of};
 ghost use Rattle.adj_live.specs.Listed.{all_nodes, all_edges};
 ghost use Rattle.adj_live.specs.View.{here_in};
 ghost use Rattle.adj_live.specs.Asked.{TellsLive};
 
 use crate::begins::nodes;
 use crate::picked::picked;
-use crate::sides::Sides;
 use crate::site::{Known, stride};
 use crate::steps::edges;
-use adj_activity::Units;
-use adj_flow::Flow;
+use adj_flow::sides::Sides;
+use adj_flow::{Flow, Units};
 use adj_reach::reached;
 use adj_tree::{Activity, Flags, Head, Kept, Memory};
 use std::alloc::Global;

@@ -3,7 +3,7 @@
 //!
 //! These three are one set of facts. Each fact has a number, and the steps of the rules are edges between numbers
 //! (`specs/Listed.antt`), so that one search finds them all, in time linear in facts and edges. The crate stands on the definitions of
-//! `adj_facts`, on `adj_reach`, and on the activity; the layers above use that the flags of `live` tell exactly what is live.
+//! `def_flow`, on `adj_reach`, and on the activity; the layers above use that the flags of `live` tell exactly what is live.
 #![tactic(auto)]
 
 mod begins;
@@ -13,9 +13,7 @@ mod finding;
 mod passing;
 mod picked;
 mod reads;
-mod sides;
 mod site;
 mod steps;
 
 pub use finding::live;
-pub use sides::{Sides, dummies_of};

@@ -4,13 +4,15 @@ ghost use Rattle.std.specs.Prelude.{◌≡◌, ◌++◌, OnOk};
 ghost use Rattle.adj_tree.specs.View.{act_of};
 ghost use Rattle.adj_live.specs.Passed.{used_by, handed_by, passed_by};
 ghost use Rattle.adj_live.specs.View.{here_at};
-ghost use Rattle.adj_writes.specs.View.{vars_seen};
+ghost use Rattle.adj_symbols_writes.specs.View.{vars_seen};
 
-use crate::sides::row;
 use crate::site::Site;
+use adj_flow::sides::row;
 use adj_flow::variables::add_passed;
+use adj_symbols_writes::variables::{
+    add_handed, add_mark, add_read, add_term, add_terms, add_test,
+};
 use adj_tree::{Act, Memory, Name};
-use adj_writes::variables::{add_handed, add_mark, add_read, add_term, add_terms, add_test};
 
 /// Adds what a statement uses where it is kept.
 pub(crate) fn add_used_by<'n>(

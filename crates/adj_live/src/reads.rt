@@ -3,11 +3,11 @@
 ghost use Rattle.std.specs.Prelude.{◌≡◌, ◌++◌, IfOk, OnOk};
 ghost use Rattle.adj_tree.specs.Code.{plain};
 ghost use Rattle.adj_tree.specs.View.{term_of};
-ghost use Rattle.adj_facts.specs.Activity.{resets};
-ghost use Rattle.adj_facts.specs.Variables.{adjoint_reads_in};
+ghost use Rattle.def_flow.specs.Activity.{resets};
+ghost use Rattle.def_flow.specs.AdjointReads.{adjoint_reads_in};
 ghost use Rattle.adj_live.specs.Listed.{active_here};
 ghost use Rattle.adj_live.specs.View.{here_at};
-ghost use Rattle.adj_writes.specs.View.{vars_seen};
+ghost use Rattle.adj_symbols_writes.specs.View.{vars_seen};
 
 use crate::site::Site;
 use adj_flow::Occurrences;

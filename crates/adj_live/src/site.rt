@@ -2,7 +2,7 @@
 
 ghost use Rattle.std.specs.Prelude.{◌≡◌, ◌+◌, ◌*◌, ◌++◌, IfOk, OnOk};
 ghost use Rattle.adj_tree.specs.Code.{plain};
-ghost use Rattle.adj_facts.specs.Rules.{list_of};
+ghost use Rattle.def_flow.specs.Rules.{list_of};
 ghost use Rattle.adj_reach.specs.Edges.{flag};
 ghost use Rattle.adj_flow.specs.Rows.{row_of};
 ghost use Rattle.adj_flow.specs.NodeView.{vars_of};
@@ -10,9 +10,8 @@ ghost use Rattle.adj_live.specs.Numbers.{kept_at, wanted_at};
 ghost use Rattle.adj_live.specs.Listed.{needed_here};
 ghost use Rattle.adj_live.specs.View.{here_at};
 
-use crate::sides::Sides;
-use adj_activity::Units;
-use adj_flow::{End, Part};
+use adj_flow::sides::Sides;
+use adj_flow::{End, Part, Units};
 use adj_reach::flag_at;
 use adj_tree::{Activity, Memory, Name};
 

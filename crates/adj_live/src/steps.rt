@@ -3,10 +3,10 @@
 ghost use Rattle.std.specs.Prelude.{◌≡◌, ◌++◌, not, Some, IfOk, OnOk, map, flat_map};
 ghost use Rattle.adj_tree.specs.Code.{plain};
 ghost use Rattle.adj_tree.specs.View.{act_of};
-ghost use Rattle.adj_facts.specs.Rules.{holders};
-ghost use Rattle.adj_facts.specs.Uses.{use_point};
-ghost use Rattle.adj_facts.specs.Variables.{list_if};
-ghost use Rattle.adj_writes.specs.View.{vars_seen};
+ghost use Rattle.def_flow.specs.Rules.{holders};
+ghost use Rattle.def_flow.specs.Uses.{use_point};
+ghost use Rattle.def_names.specs.VariableLists.{list_if};
+ghost use Rattle.adj_symbols_writes.specs.View.{vars_seen};
 ghost use Rattle.adj_flow.specs.Rows.{row_of};
 ghost use Rattle.adj_flow.specs.NodeView.{vars_of};
 ghost use Rattle.adj_flow.specs.Nodes.{linked};

@@ -3,10 +3,11 @@ use Rattle.std.proofs.Common.{◌≡◌, ℕ, zero, suc, Bool, true, false, List
 use Rattle.std.specs.Prelude.{◌||◌}
 use Rattle.adj_tree.specs.Code.{Var, name_eq}
 use Rattle.adj_tree.proofs.Names.{name_refl, name_same}
-use Rattle.adj_transpose.specs.Fresh.{has_name, candidate, first_free, fresh}
-use Rattle.adj_transpose.specs.Naming.{AreApart, Named, named, wanted}
-use Rattle.adj_transpose.proofs.Variables.{or_assoc, or_right, or_false, not_true}
-use Rattle.adj_transpose.proofs.Fresh.{fresh-is_free}
+use Rattle.def_meaning.specs.Apart.{has_name, AreApart}
+use Rattle.def_names.specs.Fresh.{candidate, first_free, fresh}
+use Rattle.def_sweep.specs.Naming.{Named, named, wanted}
+use Rattle.def_names.proofs.Variables.{or_assoc, or_right, or_false, not_true}
+use Rattle.def_names.proofs.Fresh.{fresh-is_free}
 use Rattle.adj_sets.specs.Sets.{with_added, all_added}
 use Rattle.adj_sets.proofs.NameSets.{has-behind, with_added_is}
 

@@ -7,9 +7,10 @@ use Rattle.adj_tree.specs.Code.{name_eq, Declaration}
 use Rattle.adj_tree.specs.View.{declaration_of}
 use Rattle.adj_tree.specs.declared.unit.Decl.{Decl}
 use Rattle.adj_tree.proofs.Names.{name_same}
-use Rattle.adj_transpose.specs.Fresh.{has_name}
-use Rattle.adj_transpose.specs.Program.{scalar, declaration}
-use Rattle.adj_transpose.proofs.Variables.{or_false, name_comm}
+use Rattle.def_meaning.specs.Apart.{has_name}
+use Rattle.def_sweep.specs.Declared.{scalar, declaration}
+use Rattle.def_names.proofs.Variables.{or_false}
+use Rattle.def_meaning.proofs.Variables.{name_comm}
 use Rattle.adj_naming.proofs.Places.{from_here}
 
 -- ---- one declaration for each variable

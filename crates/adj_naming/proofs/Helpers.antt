@@ -4,7 +4,7 @@ use Rattle.std.specs.Prelude.{◌||◌, ◌&&◌, ◌==◌, not, position}
 use Rattle.std.specs.List.{list_any, position_or_len}
 use Rattle.std.proofs.lemmas.List.{length-map, map-append}
 use Rattle.adj_tree.specs.Code.{Var, var_eq, role_code}
-use Rattle.adj_transpose.proofs.Variables.{or_false, or_assoc, var_comm}
+use Rattle.def_names.proofs.Variables.{or_false, or_assoc, var_comm}
 use Rattle.adj_naming.specs.declared.role.Helper.{Helper}
 use Rattle.adj_naming.specs.Roles.{role_of, variable_of}
 use Rattle.adj_naming.specs.declared.role.Role.{Role}

@@ -2,8 +2,10 @@
 use Rattle.std.proofs.Common.{◌≡◌, ℕ, List, [], ◌∷◌, ◌++◌, ◌+◌, ◌<◌, map, length, drop, get_or, refl, sym, ap, ◌∙◌, arith, append_assoc, append-nil}
 use Rattle.std.specs.Prelude.{◌||◌}
 use Rattle.adj_tree.specs.Code.{Var}
-use Rattle.adj_transpose.specs.Fresh.{has_name, fresh, reserved}
-use Rattle.adj_transpose.specs.Naming.{Named, own, named, wanted, unit_names}
+use Rattle.def_meaning.specs.Apart.{has_name}
+use Rattle.def_names.specs.Fresh.{fresh}
+use Rattle.def_names.specs.Reserved.{reserved}
+use Rattle.def_sweep.specs.Naming.{Named, own, named, wanted, unit_names}
 use Rattle.adj_sets.specs.Sets.{all_added}
 use Rattle.adj_naming.specs.Table.{paired}
 use Rattle.adj_naming.proofs.Places.{from_here}

@@ -1,6 +1,7 @@
 -- Names passed one by one, and candidates tried one by one.
 use Rattle.std.proofs.Common.{◌≡◌, ℕ, zero, suc, true, List, [], ◌∷◌, map, ◌+◌, ◌-◌, ◌<◌, length, drop, get_or, refl, sym, ap, ◌∙◌, arith, drop-cons, add-one, if◌then◌else◌}
-use Rattle.adj_transpose.specs.Fresh.{has_name, candidate, first_free}
+use Rattle.def_meaning.specs.Apart.{has_name}
+use Rattle.def_names.specs.Fresh.{candidate, first_free}
 
 -- what is left from a place on, by its first member
 pub from_here : {A : Type 0} (xs : List A) (i : ℕ) (a : A) → i < length xs → a ≡ get_or xs i a → drop i xs ≡ a ∷ drop (i + 1) xs

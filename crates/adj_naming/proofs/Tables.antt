@@ -4,9 +4,9 @@ use Rattle.std.specs.Prelude.{◌||◌, position, unwrap_or}
 use Rattle.std.proofs.lemmas.List.{length-map}
 use Rattle.std.proofs.lemmas.List.Quantifiers.{position-Some}
 use Rattle.adj_tree.specs.Code.{Var, plain, shadow, name_eq, var_eq}
-use Rattle.adj_transpose.specs.Fresh.{has_name}
-use Rattle.adj_transpose.specs.Naming.{Named, own, outside, name_in}
-use Rattle.adj_transpose.proofs.Variables.{or_false}
+use Rattle.def_meaning.specs.Apart.{has_name}
+use Rattle.def_sweep.specs.Naming.{Named, own, outside, name_in}
+use Rattle.def_names.proofs.Variables.{or_false}
 use Rattle.adj_naming.specs.declared.names.Names.{Names}
 use Rattle.adj_naming.specs.declared.role.Helper.{Helper}
 use Rattle.adj_naming.specs.Roles.{variable_of}

@@ -1,7 +1,7 @@
 -- The names of an emitted unit as a table.
 use Rattle.std.specs.Prelude.{ℕ, List, [], ◌∷◌, ◌++◌, map}
 use Rattle.adj_tree.specs.Code.{Var, plain, shadow, helper}
-use Rattle.adj_transpose.specs.Naming.{Named, own, naming}
+use Rattle.def_sweep.specs.Naming.{Named, own, naming}
 use Rattle.adj_naming.specs.Roles.{variable_of}
 use Rattle.adj_naming.specs.declared.names.Names.{Names}
 

@@ -2,7 +2,7 @@
 
 ghost use Rattle.std.specs.Prelude.{◌≡◌, ℕ, List, IfOk, map};
 ghost use Rattle.adj_tree.specs.View.{declaration_of};
-ghost use Rattle.adj_transpose.specs.Program.{scalar, declaration};
+ghost use Rattle.def_sweep.specs.Declared.{scalar, declaration};
 
 use adj_sets::NameSet;
 use adj_tree::{Decl, Items, Memory, Name, Unit};

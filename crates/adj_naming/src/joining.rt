@@ -1,7 +1,7 @@
 //! Names that are put together.
 
 ghost use Rattle.std.specs.Prelude.{◌≡◌, ◌++◌, IfOk};
-ghost use Rattle.adj_transpose.specs.Fresh.{digits, candidate};
+ghost use Rattle.def_names.specs.Fresh.{digits, candidate};
 
 use adj_tree::{Memory, Name};
 use itoa::Buffer;

@@ -2,7 +2,7 @@
 //!
 //! `role` says what the variables are for that a unit brings in, `naming` gives it and the shadows their names, and `names`
 //! looks them up; `taken`, `helper_set` and `declared` are the tables for that. Each clause says that the result is
-//! that of the emission's definitions (`adj_transpose/specs/Naming.antt` and `Fresh.antt`), unless memory runs out.
+//! that of the emission's definitions (`def_sweep/specs/Naming.antt` and `Fresh.antt`), unless memory runs out.
 //! The crate stands on those definitions; the layers above emit under the names of a `Names`.
 #![tactic(auto)]
 

@@ -2,7 +2,7 @@
 
 ghost use Rattle.std.specs.Prelude.{◌≡◌, IfOk, slice_get, unwrap_or};
 ghost use Rattle.adj_tree.specs.Code.{shadow};
-ghost use Rattle.adj_transpose.specs.Naming.{outside};
+ghost use Rattle.def_sweep.specs.Naming.{outside};
 ghost use Rattle.adj_naming.specs.Roles.{variable_of};
 
 use crate::helper_set::HelperSet;
@@ -26,7 +26,7 @@ pub struct Names {
 impl Names {
     ghost use Rattle.std.specs.Prelude.{◌≡◌, IfOk};
     ghost use Rattle.adj_tree.specs.Code.{shadow, helper};
-    ghost use Rattle.adj_transpose.specs.Naming.{name_in};
+    ghost use Rattle.def_sweep.specs.Naming.{name_in};
     ghost use Rattle.adj_naming.specs.Roles.{role_of};
     ghost use Rattle.adj_naming.specs.Table.{table_of};
 

@@ -2,8 +2,9 @@
 
 ghost use Rattle.std.specs.Prelude.{◌≡◌, ◌++◌, [], List, ℕ, IfOk, OnOk, map};
 ghost use Rattle.adj_tree.specs.Code.{Var, shadow};
-ghost use Rattle.adj_transpose.specs.Fresh.{reserved};
-ghost use Rattle.adj_transpose.specs.Naming.{AreApart, named, unit_names};
+ghost use Rattle.def_names.specs.Reserved.{reserved};
+ghost use Rattle.def_meaning.specs.Apart.{AreApart};
+ghost use Rattle.def_sweep.specs.Naming.{named, unit_names};
 ghost use Rattle.adj_naming.specs.Roles.{variable_of};
 ghost use Rattle.adj_sets.specs.Sets.{all_added};
 ghost use Rattle.adj_naming.specs.Sets.{AreDifferent};
@@ -14,9 +15,9 @@ use crate::joining::joined;
 use crate::names::Names;
 use crate::role::Helper;
 use crate::taken::Taken;
-use adj_names::{intrinsic_names, runtime_names};
 use adj_sets::{NameSet, add_names, add_texts};
 use adj_tree::{Items, Memory, Name};
+use def_names::{intrinsic_names, runtime_names};
 use std::alloc::Global;
 
 // Adds the names of intrinsics and of runtime calls to a set.

@@ -2,8 +2,8 @@
 
 ghost use Rattle.std.specs.Prelude.{◌≡◌, ◌++◌, IfOk, OnOk, map};
 ghost use Rattle.adj_tree.specs.Code.{role_code};
-ghost use Rattle.adj_transpose.specs.Naming.{letters, wanted, outside};
-ghost use Rattle.adj_transpose.specs.Program.{helpers_from};
+ghost use Rattle.def_sweep.specs.Naming.{letters, wanted, outside};
+ghost use Rattle.def_sweep.specs.Declared.{helpers_from};
 ghost use Rattle.adj_naming.specs.Roles.{role_of, variable_of};
 
 use crate::joining::with_number;

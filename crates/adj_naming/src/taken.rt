@@ -1,7 +1,8 @@
 //! Names that are taken.
 
 ghost use Rattle.std.specs.Prelude.{◌≡◌, ◌++◌, ◌∷◌, [], List, ℕ, length, IfOk};
-ghost use Rattle.adj_transpose.specs.Fresh.{has_name, fresh};
+ghost use Rattle.def_meaning.specs.Apart.{has_name};
+ghost use Rattle.def_names.specs.Fresh.{fresh};
 ghost use Rattle.adj_sets.specs.Sets.{all_added};
 
 use crate::joining::candidate;

@@ -1,8 +1,7 @@
-pub mod Decided
-pub mod Equal
-pub mod Made
-pub mod Onto
-pub mod Expressions
-pub mod Targets
-pub mod Held
-pub mod Calls
+-- the lemmas of the crate
+pub mod Adding
+pub mod Units
+pub mod Sources
+pub mod Rows
+pub mod Cuts
+pub mod Programs

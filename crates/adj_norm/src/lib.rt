@@ -1,18 +1,21 @@
-//! What statements become in the kernel of a program, as code.
+//! The kernel of a program, as code: names, units and programs.
 //!
-//! `form` tests whether a program is in kernel form. `locals` names the locals of a unit; `target` and `call` write what becomes of
-//! an assignment and of a CALL, by `expression` and `passing`, and `statement` does so for lists. What the kernel is, and that it means
-//! what the program means, stands in `adj_kernel`; the contracts here say that the code gives exactly that.
+//! `names` finds the variables of a unit, `unit` lowers it and declares its locals; `source`, `cutting` and `steps` make units of the
+//! bodies of marked loops, `program` does all for a program, and `checked` checks what that gives. The crate stands on `adj_norm_statement`,
+//! which lowers statements, and on `adj_symbols` for the dummies that units write; the layers above use that `kernel` gives exactly the
+//! kernel of `def_kernel`, and `checked_kernel` the same with what is known of it.
 #![tactic(auto)]
 
-pub mod call;
-pub mod expression;
-pub mod form;
-pub mod handed;
-pub mod locals;
-pub mod passing;
-pub mod statement;
-pub mod step;
-pub mod target;
+mod checked;
+pub mod cutting;
+pub mod handing;
+pub mod marked;
+pub mod names;
+pub mod once;
+pub mod program;
+pub mod source;
+pub mod steps;
+pub mod unit;
 
-pub use form::is_kernel;
+pub use checked::checked_kernel;
+pub use program::kernel;

@@ -1,7 +1,7 @@
 //! Words with tangents.
 
 ghost use Rattle.std.specs.Prelude.{◌≡◌};
-ghost use Rattle.adj_meaning.specs.Numbers.{duals, power_tangent};
+ghost use Rattle.def_meaning.specs.Numbers.{duals, power_tangent};
 
 use crate::number::Number;
 use adj_word::{add, mul, neg, pow, sub};

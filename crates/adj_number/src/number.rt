@@ -1,7 +1,7 @@
 //! What a run needs of its numbers.
 
 ghost use Rattle.std.specs.Prelude.{◌≡◌};
-ghost use Rattle.adj_meaning.specs.Numbers.{Numbers};
+ghost use Rattle.def_meaning.specs.Numbers.{Numbers};
 
 /// A number of a run. Tests, subscripts, bounds and quotients look at its word alone.
 pub trait Number: Copy {

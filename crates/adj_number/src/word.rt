@@ -1,6 +1,6 @@
 //! Words as numbers.
 
-ghost use Rattle.adj_meaning.specs.Numbers.{words};
+ghost use Rattle.def_meaning.specs.Numbers.{words};
 
 use crate::number::Number;
 use adj_word::{add, mul, neg, pow, sub};

@@ -5,12 +5,12 @@ use Rattle.std.proofs.lemmas.List.{append_assoc, append-nil}
 use Rattle.std.specs.Prelude.{◌==◌, not}
 use Rattle.adj_tree.specs.Code.{Test, Mark, Act, Code, choose, during, stop, step, Procedure}
 use Rattle.adj_tree.specs.Listed.{code_listed}
-use Rattle.adj_text.specs.Statement.{Range}
-use Rattle.adj_text.specs.Block as blocks
-use Rattle.adj_text.specs.Block.{is_open, innermost, loop_of, ReadsBody, ReadsAct, ReadsElse}
-use Rattle.adj_text.specs.Form.{Form, subroutine, implicit_none, integers, simple, logical, opens_do, opens_while, end_do, go_on, opens_if, otherwise, otherwise_if, end_if, leaves, ends, Statement, at}
-use Rattle.adj_text.specs.declared.stated.Kind.{Kind}
-use Rattle.adj_text.specs.declared.stated.Kind.TheVariants.{Do, BlockIf, LogicalIf, Assign, Continue, EndIf, EndDo, Else, ElseIf, DoWhile}
+use Rattle.def_text.specs.Statement.{Range}
+use Rattle.def_text.specs.Block as blocks
+use Rattle.def_text.specs.Block.{is_open, innermost, loop_of, ReadsBody, ReadsAct, ReadsElse}
+use Rattle.def_text.specs.Form.{Form, subroutine, implicit_none, integers, simple, logical, opens_do, opens_while, end_do, go_on, opens_if, otherwise, otherwise_if, end_if, leaves, ends, Statement, at}
+use Rattle.def_text.specs.declared.stated.Kind.{Kind}
+use Rattle.def_text.specs.declared.stated.Kind.TheVariants.{Do, BlockIf, LogicalIf, Assign, Continue, EndIf, EndDo, Else, ElseIf, DoWhile}
 use Rattle.adj_parse.specs.declared.phase.Phase.TheVariants.{Acting}
 use Rattle.adj_parse.specs.Blocks.{Acts, Part, of_loop, of_while, of_if, of_else, of_chain, Block, close_while, Nest, acted, is_chain, is_labelled}
 use Rattle.adj_parse.specs.Order.{may_follow, has_label, innermost_is, some_is, suits, reaches_out, breaks_loop}

@@ -4,12 +4,12 @@ use Rattle.std.proofs.lemmas.Bool.{ne_eqb, eq-eqb, eqb-true, eqb-false, or_parts
 use Rattle.std.specs.Prelude.{◌==◌, ◌&&◌, not}
 use Rattle.adj_tree.specs.Code.{Test, Mark, Act, Code, choose, during, stop, step}
 use Rattle.adj_tree.specs.Listed.{code_onto, code_listed}
-use Rattle.adj_text.specs.Statement.{Range}
-use Rattle.adj_text.specs.Block as blocks
-use Rattle.adj_text.specs.Block.{is_open, innermost, loop_of, ReadsBody, ReadsAct, ReadsElse}
-use Rattle.adj_text.specs.Form.{Form, subroutine, implicit_none, integers, simple, logical, opens_do, opens_while, end_do, go_on, opens_if, otherwise, otherwise_if, end_if, leaves, ends, Statement, at}
-use Rattle.adj_text.specs.declared.stated.Kind.{Kind}
-use Rattle.adj_text.specs.declared.stated.Kind.TheVariants.{Do, BlockIf, LogicalIf, Assign, Continue, EndIf, EndDo, Else, ElseIf, DoWhile}
+use Rattle.def_text.specs.Statement.{Range}
+use Rattle.def_text.specs.Block as blocks
+use Rattle.def_text.specs.Block.{is_open, innermost, loop_of, ReadsBody, ReadsAct, ReadsElse}
+use Rattle.def_text.specs.Form.{Form, subroutine, implicit_none, integers, simple, logical, opens_do, opens_while, end_do, go_on, opens_if, otherwise, otherwise_if, end_if, leaves, ends, Statement, at}
+use Rattle.def_text.specs.declared.stated.Kind.{Kind}
+use Rattle.def_text.specs.declared.stated.Kind.TheVariants.{Do, BlockIf, LogicalIf, Assign, Continue, EndIf, EndDo, Else, ElseIf, DoWhile}
 use Rattle.adj_parse.specs.Blocks.{Acts, Part, of_loop, of_while, of_if, of_else, of_chain, Block, close_while, Nest, acted, is_chain, is_labelled}
 use Rattle.adj_parse.specs.Order.{is_continue, has_no_label, is_first, is_if, innermost_is, some_is, suits, leaves_loop, breaks_loop}
 use Rattle.adj_parse.proofs.Truths.{and_true, both, not_true}

@@ -3,9 +3,9 @@ use Rattle.std.proofs.Common.{◌≡◌, ℕ, List, [], ◌∷◌, ◌++◌, map
 use Rattle.std.proofs.lemmas.List.{map_push, append_assoc}
 use Rattle.adj_tree.specs.View.{declaration_of}
 use Rattle.adj_tree.specs.declared.unit.Decl.{Decl}
-use Rattle.adj_text.specs.Unit as unit
-use Rattle.adj_statement.specs.View.{item_of}
-use Rattle.adj_statement.specs.declared.content.Item.{Item}
+use Rattle.def_text.specs.Unit as unit
+use Rattle.adj_parse_statement.specs.View.{item_of}
+use Rattle.adj_parse_statement.specs.declared.content.Item.{Item}
 
 pub one_declared : (old now : List Decl) (done : List Item) (line : ℕ) (i : Item) (d : Decl) → map declaration_of now ≡ map declaration_of old ++ map (unit.declaration_of line) (map item_of done) → declaration_of d ≡ unit.declaration_of line (item_of i) →
     map declaration_of (now ++ d ∷ []) ≡ map declaration_of old ++ map (unit.declaration_of line) (map item_of (done ++ i ∷ []))

@@ -6,27 +6,27 @@ use Rattle.std.specs.Prelude.{◌==◌, ◌&&◌, ◌||◌, not, is_none, nat_le
 use Rattle.adj_tree.specs.Code.{Mark, unmarked, with_count, count_from, Procedure}
 use Rattle.adj_tree.specs.View.{mark_of}
 use Rattle.adj_tree.specs.declared.fault.Refusal.{Refusal}
-use Rattle.adj_expression.specs.declared.flaw.Flaw.{Flaw}
-use Rattle.adj_expression.specs.declared.flaw.Flaw.TheVariants.{Large, Deep}
-use Rattle.adj_text.specs.Form as forms
-use Rattle.adj_text.specs.Form.{Form, Statement, at, ReadsForm, subroutine, ends}
-use Rattle.adj_text.specs.Reads as texts
-use Rattle.adj_text.specs.Reads.{ReadsAll}
-use Rattle.adj_text.specs.Refused.{◌>>=◌, limited}
-use Rattle.adj_text.specs.Lexeme.{Lexeme, lexemes_of}
-use Rattle.adj_text.specs.declared.mode.Mode.{Mode}
-use Rattle.adj_text.specs.declared.stated.Kind.{Kind}
-use Rattle.adj_text.specs.declared.stated.Kind.TheVariants.{Do, Assign, Call}
-use Rattle.adj_text.specs.declared.stated.Stated.{Stated}
+use Rattle.adj_parse_expression.specs.declared.flaw.Flaw.{Flaw}
+use Rattle.adj_parse_expression.specs.declared.flaw.Flaw.TheVariants.{Large, Deep}
+use Rattle.def_text.specs.Form as forms
+use Rattle.def_text.specs.Form.{Form, Statement, at, ReadsForm, subroutine, ends}
+use Rattle.def_text.specs.Reads as texts
+use Rattle.def_text.specs.Reads.{ReadsAll}
+use Rattle.def_text.specs.Refused.{◌>>=◌, limited}
+use Rattle.def_text.specs.Lexeme.{Lexeme, lexemes_of}
+use Rattle.def_text.specs.declared.mode.Mode.{Mode}
+use Rattle.def_text.specs.declared.stated.Kind.{Kind}
+use Rattle.def_text.specs.declared.stated.Kind.TheVariants.{Do, Assign, Call}
+use Rattle.def_text.specs.declared.stated.Stated.{Stated}
 use Rattle.adj_parse.specs.Order.{breaks_loop, is_end, is_heading, opens_block}
-use Rattle.adj_statement.specs.Said.{said}
+use Rattle.adj_parse_statement.specs.Said.{said}
 use Rattle.adj_parse.specs.Trees.{bounds_of, State, is_do, is_marked, has_stray_mark, is_large, is_deep, is_full, IsBeyond, with_form, is_astray, checked, behind, follow, trees_from}
 use Rattle.adj_parse.specs.Unit.{Current, followed, open_blocks, is_misplaced}
-use Rattle.adj_text.proofs.LinesMarked.{bind_ok}
+use Rattle.def_text.proofs.LinesMarked.{bind_ok}
 use Rattle.adj_parse.proofs.Truths.{and_false}
 use Rattle.adj_parse.proofs.Machine.{picked, kind_of, stands, units_of, run}
-use Rattle.adj_statement.proofs.FormsFit.{said_fits}
-use Rattle.adj_statement.proofs.SaidForms.{said_reads, said_answers}
+use Rattle.adj_parse_statement.proofs.FormsFit.{said_fits}
+use Rattle.adj_parse_statement.proofs.SaidForms.{said_reads, said_answers}
 use Rattle.adj_parse.proofs.UnitsFit.{AreFit}
 
 -- a statement stands as its form does

@@ -5,19 +5,19 @@ use Rattle.adj_tree.specs.declared.fault.Fault.{Fault}
 use Rattle.adj_tree.specs.declared.fault.Fault.TheVariants.{Memory, Refused}
 use Rattle.adj_tree.specs.Code.{Mark}
 use Rattle.adj_tree.specs.View.{mark_of}
-use Rattle.adj_expression.specs.View.{seen}
-use Rattle.adj_expression.specs.declared.flaw.Flaw.{Flaw}
-use Rattle.adj_text.specs.Refused.{◌>>=◌, Fails}
-use Rattle.adj_text.specs.Lexeme.{lexemes_of}
-use Rattle.adj_text.specs.declared.mode.Mode.{Mode}
-use Rattle.adj_text.specs.declared.stated.Stated.{Stated}
+use Rattle.adj_parse_expression.specs.View.{seen}
+use Rattle.adj_parse_expression.specs.declared.flaw.Flaw.{Flaw}
+use Rattle.def_text.specs.Refused.{◌>>=◌, Fails}
+use Rattle.def_text.specs.Lexeme.{lexemes_of}
+use Rattle.def_text.specs.declared.mode.Mode.{Mode}
+use Rattle.def_text.specs.declared.stated.Stated.{Stated}
 use Rattle.adj_tree.specs.declared.fault.Refusal.{Refusal}
 use Rattle.adj_parse.specs.declared.bounds.Bounds.{Bounds}
-use Rattle.adj_statement.specs.Said as says
+use Rattle.adj_parse_statement.specs.Said as says
 use Rattle.adj_parse.specs.Trees.{bounds_of, State, checked, behind, follow}
 use Rattle.adj_parse.specs.Unit.{Units, followed}
-use Rattle.adj_statement.specs.View.{form_of}
-use Rattle.adj_statement.specs.declared.content.Said.{Said}
+use Rattle.adj_parse_statement.specs.View.{form_of}
+use Rattle.adj_parse_statement.specs.declared.content.Said.{Said}
 use Rattle.adj_parse.proofs.Seen.{checked_seen}
 
 module _ (mode : Mode) (bounds : Bounds) (bounds_are : bounds ≡ bounds_of mode) (s : State) (t : Stated) (left : ℕ) (found : Option (Result Said Flaw)) (is : option_map (seen (form_of (mark_of t.mark))) found ≡ says.said bounds.depth (mark_of t.mark) t.kind (lexemes_of t.text t.tokens)) where

@@ -1,3 +1,4 @@
+-- the lemmas of the crate
 pub mod Truths
 pub mod Machine
 pub mod BlocksComplete

@@ -7,17 +7,17 @@ use Rattle.adj_tree.specs.Code.{Procedure}
 use Rattle.adj_tree.specs.declared.fault.Fault.{Fault}
 use Rattle.adj_tree.specs.declared.fault.Fault.TheVariants.{Memory, Refused}
 use Rattle.adj_tree.specs.declared.fault.Refusal.{Refusal}
-use Rattle.adj_expression.specs.Front.{AreSlices}
-use Rattle.adj_text.specs.Limits.{limits_of}
-use Rattle.adj_text.specs.Lined.{lines_of}
-use Rattle.adj_text.specs.Refused.{◌>>=◌, Fails}
-use Rattle.adj_text.specs.Stated.{keyword_len, ending_len, all_stated, IsCovered}
-use Rattle.adj_text.specs.Token.{AreJoined}
-use Rattle.adj_text.specs.declared.mode.Mode.{Mode}
-use Rattle.adj_text.specs.declared.stated.Stated.{Stated}
-use Rattle.adj_text.specs.declared.token.Token.{Token}
-use Rattle.adj_text.proofs.Covering.{all_covered}
-use Rattle.adj_text.proofs.LinesMarked.{bind_ok}
+use Rattle.adj_parse_expression.specs.Front.{AreSlices}
+use Rattle.def_text.specs.Limits.{limits_of}
+use Rattle.def_text.specs.Lined.{lines_of}
+use Rattle.def_text.specs.Refused.{◌>>=◌, Fails}
+use Rattle.def_text.specs.Stated.{keyword_len, ending_len, all_stated, IsCovered}
+use Rattle.def_text.specs.Token.{AreJoined}
+use Rattle.def_text.specs.declared.mode.Mode.{Mode}
+use Rattle.def_text.specs.declared.stated.Stated.{Stated}
+use Rattle.def_text.specs.declared.token.Token.{Token}
+use Rattle.def_text.proofs.Covering.{all_covered}
+use Rattle.def_text.proofs.LinesMarked.{bind_ok}
 use Rattle.adj_parse.specs.Trees.{IsText, State, follow, trees_from}
 
 module _ (mode : Mode) (s : State) (all : List Stated) (i : ℕ) (total : Result (List Procedure) Refusal) (so_far : trees_from mode s (drop i all) ≡ total) where

@@ -2,11 +2,11 @@
 use Rattle.std.proofs.Common.{◌≡◌, ℕ, Bool, true, false, cond, Option, Some, None, Result, Ok, Err, refl, sym, ap, ◌∙◌}
 use Rattle.std.specs.Prelude.{◌==◌, ◌&&◌, ◌||◌, is_none, nat_le, length, unwrap_or, option_map}
 use Rattle.adj_tree.specs.declared.fault.Refusal.{Refusal}
-use Rattle.adj_expression.specs.View.{seen}
-use Rattle.adj_expression.specs.declared.flaw.Flaw.{Flaw}
-use Rattle.adj_expression.specs.declared.flaw.Flaw.TheVariants.{Large, Deep, Exponent}
-use Rattle.adj_text.specs.Refused.{◌>>=◌, refused}
-use Rattle.adj_text.specs.declared.stated.Stated.{Stated}
+use Rattle.adj_parse_expression.specs.View.{seen}
+use Rattle.adj_parse_expression.specs.declared.flaw.Flaw.{Flaw}
+use Rattle.adj_parse_expression.specs.declared.flaw.Flaw.TheVariants.{Large, Deep, Exponent}
+use Rattle.def_text.specs.Refused.{◌>>=◌, refused}
+use Rattle.def_text.specs.declared.stated.Stated.{Stated}
 use Rattle.adj_parse.specs.declared.bounds.Bounds.{Bounds}
 use Rattle.adj_parse.specs.Order.{breaks_loop, is_heading, opens_block}
 use Rattle.adj_parse.specs.Trees.{State, has_stray_mark, is_large, is_deep, is_full, with_form, limited_by, is_astray, checked}

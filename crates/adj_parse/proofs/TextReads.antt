@@ -6,23 +6,23 @@ use Rattle.adj_tree.specs.View.{mark_of, procedures_of}
 use Rattle.adj_tree.specs.declared.unit.Program.{Program}
 use Rattle.adj_tree.specs.declared.fault.Fault.{Fault}
 use Rattle.adj_tree.specs.declared.fault.Refusal.{Refusal}
-use Rattle.adj_text.specs.Fits.{Fits}
-use Rattle.adj_text.specs.Form.{Statement}
-use Rattle.adj_text.specs.Limits.{no_limits, limits_of}
-use Rattle.adj_text.specs.Reads as texts
-use Rattle.adj_text.specs.Reads.{ReadsAll, Reads}
-use Rattle.adj_text.specs.Refused.{Gives}
-use Rattle.adj_text.specs.Stated.{statements_of}
-use Rattle.adj_text.specs.Unit.{ReadsUnits}
-use Rattle.adj_text.specs.Lexeme.{lexemes_of}
-use Rattle.adj_text.specs.Written.{IsWritten}
-use Rattle.adj_text.specs.declared.mode.Mode.{Mode}
-use Rattle.adj_text.specs.declared.stated.Stated.{Stated}
-use Rattle.adj_text.proofs.ReadingWritten.{reading_written}
-use Rattle.adj_text.proofs.Unlimited.{statements_follow}
+use Rattle.def_text.specs.Fits.{Fits}
+use Rattle.def_text.specs.Form.{Statement}
+use Rattle.def_text.specs.Limits.{no_limits, limits_of}
+use Rattle.def_text.specs.Reads as texts
+use Rattle.def_text.specs.Reads.{ReadsAll, Reads}
+use Rattle.def_text.specs.Refused.{Gives}
+use Rattle.def_text.specs.Stated.{statements_of}
+use Rattle.def_text.specs.Unit.{ReadsUnits}
+use Rattle.def_text.specs.Lexeme.{lexemes_of}
+use Rattle.def_text.specs.Written.{IsWritten}
+use Rattle.def_text.specs.declared.mode.Mode.{Mode}
+use Rattle.def_text.specs.declared.stated.Stated.{Stated}
+use Rattle.def_text.proofs.ReadingWritten.{reading_written}
+use Rattle.def_text.proofs.Unlimited.{statements_follow}
 use Rattle.adj_parse.specs.Trees.{IsText, start, trees_of, IsBeyond}
 use Rattle.adj_parse.proofs.Followed.{Closed, reads_all, all_fit, chain_runs, chain_comes}
-use Rattle.adj_statement.proofs.SaidForms.{one_form}
+use Rattle.adj_parse_statement.proofs.SaidForms.{one_form}
 use Rattle.adj_parse.proofs.UnitsComplete.{units_run, one_units}
 use Rattle.adj_parse.proofs.UnitsFit.{units_fit}
 use Rattle.adj_parse.proofs.UnitsSound.{run_reads}

@@ -2,11 +2,11 @@
 use Rattle.std.proofs.Common.{◌≡◌, ℕ, Bool, true, false, List, [], ◌∷◌, ◌++◌, map, Some, None, refl, sym, ap, ◌∙◌}
 use Rattle.std.proofs.lemmas.List.{append_assoc, append-nil}
 use Rattle.adj_tree.specs.Code.{Act, Code, stop, Declaration, Procedure}
-use Rattle.adj_text.specs.Block as blocks
-use Rattle.adj_text.specs.Block.{ReadsBody, ReadsAct}
-use Rattle.adj_text.specs.Form.{Form, integers, Statement, at}
-use Rattle.adj_text.specs.Unit as units
-use Rattle.adj_text.specs.Unit.{ReadsImplicit, declaration_of, ReadsDeclarations, ReadsEnd, ReadsUnit, ReadsUnits}
+use Rattle.def_text.specs.Block as blocks
+use Rattle.def_text.specs.Block.{ReadsBody, ReadsAct}
+use Rattle.def_text.specs.Form.{Form, integers, Statement, at}
+use Rattle.def_text.specs.Unit as units
+use Rattle.def_text.specs.Unit.{ReadsImplicit, declaration_of, ReadsDeclarations, ReadsEnd, ReadsUnit, ReadsUnits}
 use Rattle.adj_parse.specs.declared.phase.Phase.{Phase}
 use Rattle.adj_parse.specs.declared.phase.Phase.TheVariants.{Heading, Declaring, Acting, Leaving}
 use Rattle.adj_parse.specs.Blocks.{Acts, Nest, no_blocks}

@@ -2,15 +2,15 @@
 use Rattle.std.proofs.Common.{ℕ, Bool, List, [], ◌∷◌, ◌++◌, map, sym, subst}
 use Rattle.std.specs.List.{All}
 use Rattle.adj_tree.specs.Code.{Act, Code, Declaration, Procedure}
-use Rattle.adj_text.specs.Block as blocks
-use Rattle.adj_text.specs.Block.{ReadsBody, ReadsAct, ReadsElse}
-use Rattle.adj_text.specs.Fits.{FitsAct, FitsCode, FitsExtent, FitsProcedure, Fits}
-use Rattle.adj_text.specs.Form.{Form, Statement, at}
-use Rattle.adj_text.specs.Statement.{Item}
-use Rattle.adj_text.specs.Unit as units
-use Rattle.adj_text.specs.Unit.{ReadsImplicit, declaration_of, ReadsDeclarations, ReadsEnd, ReadsUnit, ReadsUnits}
-use Rattle.adj_text.proofs.FormWritten.{all_nil, all_cons}
-use Rattle.adj_statement.specs.FormFits.{FitsItems, FitsForm}
+use Rattle.def_text.specs.Block as blocks
+use Rattle.def_text.specs.Block.{ReadsBody, ReadsAct, ReadsElse}
+use Rattle.def_text.specs.Fits.{FitsAct, FitsCode, FitsExtent, FitsProcedure, Fits}
+use Rattle.def_text.specs.Form.{Form, Statement, at}
+use Rattle.def_text.specs.Statement.{Item}
+use Rattle.def_text.specs.Unit as units
+use Rattle.def_text.specs.Unit.{ReadsImplicit, declaration_of, ReadsDeclarations, ReadsEnd, ReadsUnit, ReadsUnits}
+use Rattle.def_text.proofs.FormWritten.{all_nil, all_cons}
+use Rattle.adj_parse_statement.specs.FormFits.{FitsItems, FitsForm}
 
 abbrev pub AreFit : List Statement → Type 0
 AreFit [] = Unit {0}

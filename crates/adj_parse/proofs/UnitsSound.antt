@@ -5,12 +5,12 @@ use Rattle.std.proofs.lemmas.List.{append_assoc, append-nil}
 use Rattle.std.specs.Prelude.{◌==◌, ◌&&◌, ◌||◌, not}
 use Rattle.adj_tree.specs.Code.{stop, Declaration, Procedure}
 use Rattle.adj_tree.specs.Listed.{code_listed}
-use Rattle.adj_text.specs.Block.{ReadsBody}
-use Rattle.adj_text.specs.Form.{Form, subroutine, implicit_none, integers, simple, logical, opens_do, opens_while, end_do, go_on, opens_if, otherwise, otherwise_if, end_if, leaves, ends, Statement, at}
-use Rattle.adj_text.specs.Statement.{Item}
-use Rattle.adj_text.specs.Unit as units
-use Rattle.adj_text.specs.Unit.{ReadsImplicit, declaration_of, ReadsDeclarations, ReadsEnd, ReadsUnit, ReadsUnits}
-use Rattle.adj_text.specs.declared.stated.Kind.{Kind}
+use Rattle.def_text.specs.Block.{ReadsBody}
+use Rattle.def_text.specs.Form.{Form, subroutine, implicit_none, integers, simple, logical, opens_do, opens_while, end_do, go_on, opens_if, otherwise, otherwise_if, end_if, leaves, ends, Statement, at}
+use Rattle.def_text.specs.Statement.{Item}
+use Rattle.def_text.specs.Unit as units
+use Rattle.def_text.specs.Unit.{ReadsImplicit, declaration_of, ReadsDeclarations, ReadsEnd, ReadsUnit, ReadsUnits}
+use Rattle.def_text.specs.declared.stated.Kind.{Kind}
 use Rattle.adj_parse.specs.declared.phase.Phase.{Phase}
 use Rattle.adj_parse.specs.declared.phase.Phase.TheVariants.{Heading, Declaring, Acting, Leaving}
 use Rattle.adj_parse.specs.Blocks.{Acts, Block, Nest, no_blocks, acted}

@@ -2,9 +2,9 @@
 use Rattle.std.specs.Prelude.{ℕ, Bool, true, false, not, ◌==◌, ◌&&◌, List, [], ◌∷◌, ◌++◌, Option, Some, if◌then◌else◌}
 use Rattle.adj_tree.specs.Code.{Test, Mark, Act, Code, choose, during, stop, step}
 use Rattle.adj_tree.specs.Listed.{code_listed}
-use Rattle.adj_text.specs.Statement.{Range}
-use Rattle.adj_text.specs.Block.{loop_of}
-use Rattle.adj_text.specs.Form.{Form, simple, logical, opens_do, opens_while, end_do, go_on, opens_if, otherwise, otherwise_if, end_if}
+use Rattle.def_text.specs.Statement.{Range}
+use Rattle.def_text.specs.Block.{loop_of}
+use Rattle.def_text.specs.Form.{Form, simple, logical, opens_do, opens_while, end_do, go_on, opens_if, otherwise, otherwise_if, end_if}
 
 -- statements in order, each with its line
 abbrev pub Acts : Type 0

@@ -1,3 +1,4 @@
+-- the definitions of the crate, a module a subject
 pub mod Blocks
 pub mod Order
 pub mod Unit

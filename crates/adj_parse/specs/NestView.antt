@@ -3,7 +3,7 @@ use Rattle.std.specs.Prelude.{Bool, List, map, reverse, option_map}
 use Rattle.adj_tree.specs.Code.{Test, Code}
 use Rattle.adj_tree.specs.Listed.{statement_of}
 use Rattle.adj_tree.specs.View.{test_of, mark_of, code_of}
-use Rattle.adj_statement.specs.View.{label_of, range_of}
+use Rattle.adj_parse_statement.specs.View.{label_of, range_of}
 use Rattle.adj_parse.specs.Blocks as blocks
 use Rattle.adj_parse.specs.Blocks.{of_loop, of_while, of_if, of_else, of_chain, is_labelled, is_chain}
 use Rattle.adj_parse.specs.Order.{has_label, has_no_label, is_first, is_if}

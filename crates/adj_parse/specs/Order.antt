@@ -1,8 +1,8 @@
 -- Order: which statements may stand where in a unit.
 use Rattle.std.specs.Prelude.{ℕ, Bool, true, false, not, ◌==◌, ◌&&◌, ◌||◌, List, [], ◌∷◌, length, Some, None}
 use Rattle.std.specs.List.{list_any}
-use Rattle.adj_text.specs.declared.stated.Kind.{Kind}
-use Rattle.adj_text.specs.declared.stated.Kind.TheVariants.{Do, BlockIf, LogicalIf, Continue, Return, End, EndIf, EndDo, Else, ImplicitNone, ElseIf, DoWhile, Subroutine, Integer}
+use Rattle.def_text.specs.declared.stated.Kind.{Kind}
+use Rattle.def_text.specs.declared.stated.Kind.TheVariants.{Do, BlockIf, LogicalIf, Continue, Return, End, EndIf, EndDo, Else, ImplicitNone, ElseIf, DoWhile, Subroutine, Integer}
 use Rattle.adj_parse.specs.declared.phase.Phase.{Phase}
 use Rattle.adj_parse.specs.declared.phase.Phase.TheVariants.{Heading, Declaring, Leaving}
 use Rattle.adj_parse.specs.Blocks.{Part, of_loop, of_while, of_if, of_else, Block, is_labelled}

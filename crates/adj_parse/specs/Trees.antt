@@ -3,21 +3,21 @@ use Rattle.std.specs.Prelude.{◌≡◌, ℕ, ◌-◌, ◌==◌, nat_le, Bool, t
 use Rattle.adj_tree.specs.Code.{Mark, unmarked, Procedure}
 use Rattle.adj_tree.specs.View.{mark_of}
 use Rattle.adj_tree.specs.declared.fault.Refusal.{Refusal}
-use Rattle.adj_expression.specs.declared.flaw.Flaw.{Flaw}
-use Rattle.adj_expression.specs.declared.flaw.Flaw.TheVariants.{Large, Deep}
-use Rattle.adj_text.specs.Form.{Form}
-use Rattle.adj_text.specs.Limits.{limits_of}
-use Rattle.adj_text.specs.Refused.{◌>>=◌, refused, limited}
-use Rattle.adj_text.specs.Stated.{statements_of}
-use Rattle.adj_text.specs.Lexeme.{lexemes_of}
-use Rattle.adj_text.specs.declared.mode.Mode.{Mode}
-use Rattle.adj_text.specs.declared.mode.Mode.TheVariants.{Source, Run}
-use Rattle.adj_text.specs.declared.stated.Kind.{Kind}
-use Rattle.adj_text.specs.declared.stated.Kind.TheVariants.{Do}
-use Rattle.adj_text.specs.declared.stated.Stated.{Stated}
+use Rattle.adj_parse_expression.specs.declared.flaw.Flaw.{Flaw}
+use Rattle.adj_parse_expression.specs.declared.flaw.Flaw.TheVariants.{Large, Deep}
+use Rattle.def_text.specs.Form.{Form}
+use Rattle.def_text.specs.Limits.{limits_of}
+use Rattle.def_text.specs.Refused.{◌>>=◌, refused, limited}
+use Rattle.def_text.specs.Stated.{statements_of}
+use Rattle.def_text.specs.Lexeme.{lexemes_of}
+use Rattle.def_text.specs.declared.mode.Mode.{Mode}
+use Rattle.def_text.specs.declared.mode.Mode.TheVariants.{Source, Run}
+use Rattle.def_text.specs.declared.stated.Kind.{Kind}
+use Rattle.def_text.specs.declared.stated.Kind.TheVariants.{Do}
+use Rattle.def_text.specs.declared.stated.Stated.{Stated}
 use Rattle.adj_parse.specs.declared.bounds.Bounds.{Bounds}
 use Rattle.adj_parse.specs.Order.{breaks_loop, is_end, is_heading, opens_block}
-use Rattle.adj_statement.specs.Said.{said}
+use Rattle.adj_parse_statement.specs.Said.{said}
 use Rattle.adj_parse.specs.Unit.{Current, Units, followed, open_blocks, is_misplaced}
 
 -- these are the statements of a text

@@ -2,9 +2,9 @@
 use Rattle.std.specs.Prelude.{ℕ, Bool, true, false, not, ◌&&◌, ◌||◌, List, [], ◌∷◌, ◌++◌, map, Option, Some, None}
 use Rattle.adj_tree.specs.Code.{Procedure, stop}
 use Rattle.adj_tree.specs.Listed.{code_listed}
-use Rattle.adj_text.specs.declared.stated.Kind.{Kind}
-use Rattle.adj_text.specs.Form.{Form, subroutine, implicit_none, integers, leaves, ends}
-use Rattle.adj_text.specs.Unit.{declaration_of}
+use Rattle.def_text.specs.declared.stated.Kind.{Kind}
+use Rattle.def_text.specs.Form.{Form, subroutine, implicit_none, integers, leaves, ends}
+use Rattle.def_text.specs.Unit.{declaration_of}
 use Rattle.adj_parse.specs.declared.phase.Phase.{Phase}
 use Rattle.adj_parse.specs.declared.phase.Phase.TheVariants.{Heading, Declaring, Acting, Leaving}
 use Rattle.adj_parse.specs.Blocks.{Block, Nest, no_blocks, acted}

@@ -5,7 +5,7 @@ ghost use Rattle.adj_tree.specs.View.{code_of, act_of};
 ghost use Rattle.adj_parse.specs.Blocks.{whole, turned};
 ghost use Rattle.adj_parse.specs.NestView.{part_of, is_shape, other_part};
 
-use adj_statement::{Label, Range};
+use adj_parse_statement::{Label, Range};
 use adj_tree::{Act, Cond, Mark, Stmt, Stmts};
 
 /// The part of a DO or an IF whose statements are being read.

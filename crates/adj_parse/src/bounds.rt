@@ -3,7 +3,7 @@
 ghost use Rattle.std.specs.Prelude.{◌≡◌};
 ghost use Rattle.adj_parse.specs.Trees.{bounds_of};
 
-use adj_text::Mode;
+use def_text::Mode;
 
 /// How much a text may have (docs/LANGUAGE.md).
 #[derive(Clone, Copy, PartialEq, Eq, Debug)]

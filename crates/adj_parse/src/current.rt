@@ -2,17 +2,17 @@
 
 ghost use Rattle.std.specs.Prelude.{◌≡◌, ◌++◌, map, not, ◌&&◌, ◌||◌, OnOk, IfOk};
 ghost use Rattle.adj_tree.specs.View.{declaration_of, mark_of, procedure_of};
-ghost use Rattle.adj_text.specs.Unit as unit;
+ghost use Rattle.def_text.specs.Unit as unit;
 ghost use Rattle.adj_parse.specs.Order.{may_follow, suits, leaves_loop};
 ghost use Rattle.adj_parse.specs.Unit.{begun, finished, continued};
 ghost use Rattle.adj_parse.specs.CurrentView.{current_of};
-ghost use Rattle.adj_statement.specs.View.{item_of, form_of};
+ghost use Rattle.adj_parse_statement.specs.View.{item_of, form_of};
 
 use crate::nest::Nest;
 use crate::phase::Phase;
-use adj_statement::{Item, Said};
-use adj_text::Kind;
+use adj_parse_statement::{Item, Said};
 use adj_tree::{Decl, Decls, Mark, Memory, Name, NameList, NameTable, Unit};
+use def_text::Kind;
 use std::alloc::Global;
 
 /// A unit before its END.

@@ -2,12 +2,12 @@
 
 ghost use Rattle.std.specs.Prelude.{◌≡◌, ◌⊎◌, ℕ, List, Ok};
 ghost use Rattle.adj_tree.specs.Code.{Procedure};
-ghost use Rattle.adj_text.specs.Fits.{Fits};
-ghost use Rattle.adj_text.specs.Form.{Statement};
-ghost use Rattle.adj_text.specs.Reads.{ReadsAll, Reads};
-ghost use Rattle.adj_text.specs.Unit.{ReadsUnits};
-ghost use Rattle.adj_text.specs.declared.mode.Mode.{Mode};
-ghost use Rattle.adj_text.specs.declared.stated.Stated.{Stated};
+ghost use Rattle.def_text.specs.Fits.{Fits};
+ghost use Rattle.def_text.specs.Form.{Statement};
+ghost use Rattle.def_text.specs.Reads.{ReadsAll, Reads};
+ghost use Rattle.def_text.specs.Unit.{ReadsUnits};
+ghost use Rattle.def_text.specs.declared.mode.Mode.{Mode};
+ghost use Rattle.def_text.specs.declared.stated.Stated.{Stated};
 ghost use Rattle.adj_parse.specs.Trees.{trees_of, IsBeyond};
 
 /// Where statements have units without a fault, their lexemes derive these units, whose literals and extents are words; and what they derive is

@@ -2,7 +2,7 @@
 //!
 //! `program` makes the units of a text out of its statements, or gives the first fault of their grammar, their order and their limits.
 //! `parser` takes the statements in order, `nest` holds the blocks that are open. The crate stands on the reader of one statement
-//! (`adj_statement`), on what texts mean (`adj_text`) and on the trees. The layer above uses the clauses of `program`.
+//! (`adj_parse_statement`), on what texts mean (`def_text`) and on the trees. The layer above uses the clauses of `program`.
 #![tactic(auto)]
 
 mod block;

@@ -9,12 +9,12 @@ ghost use Rattle.adj_tree.specs.View.{test_of, mark_of, act_of, code_of};
 ghost use Rattle.adj_parse.specs.Blocks.{no_blocks, add, begin, turn, close, close_while, acted};
 ghost use Rattle.adj_parse.specs.Order.{innermost_is, some_is, awaits_else, suits, reaches_out, leaves_loop, breaks_loop};
 ghost use Rattle.adj_parse.specs.NestView.{part_of, is_shape, turn_of, blocks_of, nest_of};
-ghost use Rattle.adj_statement.specs.View.{form_of};
+ghost use Rattle.adj_parse_statement.specs.View.{form_of};
 
 use crate::block::{Block, Part, Shape, Turn};
-use adj_statement::Said;
-use adj_text::Kind;
+use adj_parse_statement::Said;
 use adj_tree::{Act, Cond, Mark, Memory, Stmt, Stmts};
+use def_text::Kind;
 use std::alloc::Global;
 use std::mem;
 

@@ -4,22 +4,22 @@ ghost use Rattle.std.specs.Prelude.{◌≡◌, ◌==◌, ℕ, List, Some, None, 
 ghost use Rattle.adj_tree.specs.Code as code;
 ghost use Rattle.adj_tree.specs.Code.{Procedure};
 ghost use Rattle.adj_tree.specs.View.{mark_of, procedures_of};
-ghost use Rattle.adj_text.specs.Refused.{Gives};
-ghost use Rattle.adj_expression.specs.Front.{AreSlices};
-ghost use Rattle.adj_expression.specs.View.{seen};
+ghost use Rattle.def_text.specs.Refused.{Gives};
+ghost use Rattle.adj_parse_expression.specs.Front.{AreSlices};
+ghost use Rattle.adj_parse_expression.specs.View.{seen};
 ghost use Rattle.adj_parse.specs.Order.{breaks_loop, is_heading, opens_block};
 ghost use Rattle.adj_parse.specs.Unit.{followed, open_blocks, is_misplaced};
 ghost use Rattle.adj_parse.specs.Trees as trees;
 ghost use Rattle.adj_parse.specs.Trees.{is_marked, is_large, is_deep, is_astray, is_full, with_form, checked, behind, start};
 ghost use Rattle.adj_parse.specs.CurrentView.{current_of, units_of, state_of};
-ghost use Rattle.adj_statement.specs.View.{form_of};
+ghost use Rattle.adj_parse_statement.specs.View.{form_of};
 
 use crate::bounds::Bounds;
 use crate::current::Current;
-use adj_expression::Flaw;
-use adj_statement::{Said, said};
-use adj_text::{Kind, Mode, Stated};
+use adj_parse_expression::Flaw;
+use adj_parse_statement::{Said, said};
 use adj_tree::{Code, Fault, Mark, Memory, Program, Unit, Units};
+use def_text::{Kind, Mode, Stated};
 use std::alloc::Global;
 
 /// The units so far, and how many more statements the text may have.

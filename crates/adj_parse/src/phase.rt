@@ -3,7 +3,7 @@
 ghost use Rattle.std.specs.Prelude.{◌≡◌};
 ghost use Rattle.adj_parse.specs.Order.{may_follow};
 
-use adj_text::Kind;
+use def_text::Kind;
 
 /// What a unit has so far, in the order that its statements have.
 #[derive(Clone, Copy, PartialEq, Eq, Debug)]

@@ -2,16 +2,16 @@
 
 ghost use Rattle.std.specs.Prelude.{◌≡◌, List, ℕ, Ok, IfOk};
 ghost use Rattle.adj_tree.specs.View.{procedures_of};
-ghost use Rattle.adj_text.specs.Limits.{no_limits};
-ghost use Rattle.adj_text.specs.Reads.{Reads};
-ghost use Rattle.adj_text.specs.Refused.{Gives};
-ghost use Rattle.adj_text.specs.Stated.{statements_of};
-ghost use Rattle.adj_text.specs.Written.{IsWritten};
+ghost use Rattle.def_text.specs.Limits.{no_limits};
+ghost use Rattle.def_text.specs.Reads.{Reads};
+ghost use Rattle.def_text.specs.Refused.{Gives};
+ghost use Rattle.def_text.specs.Stated.{statements_of};
+ghost use Rattle.def_text.specs.Written.{IsWritten};
 ghost use Rattle.adj_parse.specs.Trees.{IsText, trees_of};
 
 use crate::parser::Parser;
-use adj_text::{Mode, Stated};
 use adj_tree::{Fault, Program};
+use def_text::{Mode, Stated};
 use std::alloc::Global;
 
 /// The program that the statements of a text are, or the first fault: of grammar and order (codes 4, 5, 10, 20 and 25) or of a limit (code 21).

@@ -4,10 +4,10 @@ use Rattle.std.specs.Prelude.{List}
 use Rattle.std.proofs.lemmas.List.{length-map}
 use Rattle.adj_tree.specs.Code.{Procedure}
 use Rattle.adj_tree.specs.View.{procedure_of, procedures_of}
-use Rattle.adj_meaning.specs.LeastSet.{Rule, row_of, rounds, dummies_in_all, least_rows}
-use Rattle.adj_meaning.specs.Read.{read_rule}
-use Rattle.adj_meaning.specs.Written.{write_rule}
-use Rattle.adj_names.specs.Variables.{variables}
+use Rattle.def_meaning.specs.LeastSet.{Rule, row_of, rounds, dummies_in_all, least_rows}
+use Rattle.def_meaning.specs.Read.{read_rule}
+use Rattle.def_meaning.specs.Written.{write_rule}
+use Rattle.def_names.specs.Variables.{variables}
 use Rattle.adj_symbols.specs.Checked.{Known, AreFacts}
 
 rounds_each : (rule : Rule) (ps : List Procedure) (n : ℕ) → length (rounds rule ps n) ≡ length ps

@@ -5,16 +5,17 @@ use Rattle.std.specs.List.{flat_map, list_any}
 use Rattle.adj_tree.specs.Code.{Var, plain, Procedure}
 use Rattle.adj_tree.specs.declared.marks.Head.{Head}
 use Rattle.adj_tree.specs.declared.marks.Marks as flags
-use Rattle.adj_transpose.specs.Marks.{Vars, point_before}
-use Rattle.adj_transpose.specs.Facts.{In}
-use Rattle.adj_transpose.proofs.Variables.{or_right}
-use Rattle.adj_facts.specs.Parts.{Part, parts}
-use Rattle.adj_facts.specs.Standing.{Standing}
-use Rattle.adj_facts.specs.Problem.{Problem, TakesPart, statements_of}
-use Rattle.adj_facts.specs.Rules.{Scope, Covers}
-use Rattle.adj_facts.proofs.Members.{is_among, is_none, filter_has, filter_only}
-use Rattle.adj_facts.proofs.Numbers.{part_is_there}
-use Rattle.adj_facts.proofs.OwnPoints.{own_before}
+use Rattle.def_names.specs.Numbers.{Vars}
+use Rattle.def_names.specs.Numbering.{point_before}
+use Rattle.def_sweep.specs.Facts.{In}
+use Rattle.def_names.proofs.Variables.{or_right}
+use Rattle.def_flow.specs.Parts.{Part, parts}
+use Rattle.def_flow.specs.Standing.{Standing}
+use Rattle.def_flow.specs.Problem.{Problem, TakesPart, statements_of}
+use Rattle.def_flow.specs.Rules.{Scope, Covers}
+use Rattle.adj_reach.proofs.Members.{is_among, is_none, filter_has, filter_only}
+use Rattle.def_flow.proofs.Numbers.{part_is_there}
+use Rattle.def_flow.proofs.OwnPoints.{own_before}
 use Rattle.adj_reach.specs.Edges.{flag}
 use Rattle.adj_flow.specs.Asked.{units_of, variables_of, problem_of, IsFlow}
 use Rattle.adj_flow.specs.Nodes.{node_in, number_at, place_in}
@@ -25,7 +26,7 @@ use Rattle.adj_flow.specs.declared.units.Flow.{Flow}
 use Rattle.adj_flow.proofs.Covering.{flags_cover}
 use Rattle.adj_flow.proofs.Places.{place_only}
 use Rattle.adj_flow.proofs.Telling.{point_found}
-use Rattle.adj_activity.specs.Asked.{activity_of, liveness_of, saved_of}
+use Rattle.adj_flow.specs.Marked.{activity_of, liveness_of, saved_of}
 use Rattle.adj_plan.specs.Asked.{IsPlan}
 use Rattle.adj_plan.specs.Lines.{plan_lines, TellsPlan}
 use Rattle.adj_plan.specs.View.{is_saved_in, said_in, row_lines}

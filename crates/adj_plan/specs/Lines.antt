@@ -1,16 +1,16 @@
 -- The lines of a plan: one for each statement of the units that take part. (docs/COMMANDS.md, "plan")
 use Rattle.std.specs.Prelude.{◌≡◌, ◌↔◌, ℕ, suc, List, [], ◌∷◌, ◌++◌, flat_map, Bool, true, false, Contains, codes, decimal}
 use Rattle.adj_tree.specs.Code.{Var, Mark, unmarked, with_count, count_from, Act, assign, choose, loop, during, call, runtime, Procedure}
-use Rattle.adj_names.specs.Statements.{At, statements}
-use Rattle.adj_transpose.specs.Marks.{Vars}
-use Rattle.adj_transpose.specs.Facts.{In}
-use Rattle.adj_facts.specs.Parts.{Part, parts}
-use Rattle.adj_facts.specs.Standing.{Standing}
-use Rattle.adj_facts.specs.Problem.{Problem, TakesPart, statements_of}
-use Rattle.adj_facts.specs.Activity.{Activity}
-use Rattle.adj_facts.specs.Live.{Liveness}
-use Rattle.adj_facts.specs.Laws.{Analysed}
-use Rattle.adj_facts.specs.Variables.{list_if}
+use Rattle.def_names.specs.Statements.{At, statements}
+use Rattle.def_names.specs.Numbers.{Vars}
+use Rattle.def_sweep.specs.Facts.{In}
+use Rattle.def_flow.specs.Parts.{Part, parts}
+use Rattle.def_flow.specs.Standing.{Standing}
+use Rattle.def_flow.specs.Problem.{Problem, TakesPart, statements_of}
+use Rattle.def_flow.specs.Activity.{Activity}
+use Rattle.def_flow.specs.Live.{Liveness}
+use Rattle.def_flow.specs.Analysed.{Analysed}
+use Rattle.def_names.specs.VariableLists.{list_if}
 use Rattle.adj_plan.specs.declared.lines.Said.{Said}
 
 -- the keyword for a loop

@@ -3,7 +3,7 @@ use Rattle.std.specs.Prelude.{ℕ, ◌*◌, List, [], map, Bool, slice_index_or}
 use Rattle.std.specs.List.{list_any}
 use Rattle.adj_tree.specs.Code.{Var, plain}
 use Rattle.adj_tree.specs.declared.marks.Marks as flags
-use Rattle.adj_facts.specs.Variables.{list_if}
+use Rattle.def_names.specs.VariableLists.{list_if}
 use Rattle.adj_reach.specs.Edges.{flag}
 use Rattle.adj_flow.specs.Asked.{variables_of}
 use Rattle.adj_flow.specs.Nodes.{node_in}

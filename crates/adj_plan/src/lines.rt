@@ -3,8 +3,8 @@
 ghost use Rattle.std.specs.Prelude.{◌≡◌, ◌++◌, ◌∷◌, [], IfOk, OnOk, flat_map, map};
 ghost use Rattle.adj_tree.specs.Listed.{statement_of};
 ghost use Rattle.adj_tree.specs.View.{act_of, mark_of};
-ghost use Rattle.adj_writes.specs.View.{seen};
-ghost use Rattle.adj_facts.specs.Variables.{list_if};
+ghost use Rattle.adj_symbols_writes.specs.View.{seen};
+ghost use Rattle.def_names.specs.VariableLists.{list_if};
 ghost use Rattle.adj_flow.specs.Asked.{units_of, variables_of};
 ghost use Rattle.adj_flow.specs.NodeView.{vars_of};
 ghost use Rattle.adj_flow.specs.Rows.{row_of, rows};
@@ -15,8 +15,8 @@ ghost use Rattle.adj_plan.specs.View.{is_saved_in, row_lines, said_by, said_in};
 use crate::planning::Planned;
 use adj_flow::{End, Part, told};
 use adj_reach::flag_at;
+use adj_symbols_writes::statements::statements;
 use adj_tree::{Act, Mark, Memory, Name, Stmt};
-use adj_writes::statements::statements;
 use itoa::Buffer;
 use std::alloc::Global;
 

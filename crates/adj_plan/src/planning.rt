@@ -2,17 +2,17 @@
 
 ghost use Rattle.std.specs.Prelude.{◌≡◌, ◌<◌, IfOk, length, map};
 ghost use Rattle.adj_tree.specs.View.{procedures_of};
-ghost use Rattle.adj_meaning.specs.LeastSet.{least_rows};
-ghost use Rattle.adj_meaning.specs.Read.{read_rule};
-ghost use Rattle.adj_meaning.specs.Written.{write_rule};
+ghost use Rattle.def_meaning.specs.LeastSet.{least_rows};
+ghost use Rattle.def_meaning.specs.Read.{read_rule};
+ghost use Rattle.def_meaning.specs.Written.{write_rule};
 ghost use Rattle.adj_symbols.specs.Numbers.{Fits};
 ghost use Rattle.adj_flow.specs.Asked.{IsFlow, problem_of, units_of};
 ghost use Rattle.adj_plan.specs.Asked.{IsPlan};
 
 use crate::lists::{reads, variables, writes};
 use adj_activity::{activity, flow};
-use adj_flow::Flow;
-use adj_live::{Sides, live};
+use adj_flow::{Flow, Sides};
+use adj_live::live;
 use adj_symbols::Checked;
 use adj_tbr::tbr;
 use adj_tree::{Head, Marks, Memory};

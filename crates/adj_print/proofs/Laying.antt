@@ -2,7 +2,7 @@
 use Rattle.std.proofs.Common.{◌≡◌, ℕ, ◌+◌, true, false, eqb, List, [], ◌∷◌, ◌++◌, refl, sym, ap, ◌∙◌, append_assoc}
 use Rattle.std.specs.Prelude.{codes}
 use Rattle.std.proofs.lemmas.Bool.{ne_eqb, eq-eqb}
-use Rattle.adj_text.specs.Text.{laid}
+use Rattle.def_text.specs.Text.{laid}
 
 -- the end of a statement
 pub laid-nil : (k : ℕ) → laid k [] ≡ 10 ∷ []

@@ -1,2 +1,3 @@
+-- the lemmas of the crate
 pub mod Laying
 pub mod Units

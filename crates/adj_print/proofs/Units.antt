@@ -4,7 +4,7 @@ use Rattle.std.specs.List.{flat_map}
 use Rattle.std.proofs.lemmas.List.{at_drop_more}
 use Rattle.adj_tree.specs.declared.unit.Unit.{Unit}
 use Rattle.adj_tree.specs.View.{procedure_of}
-use Rattle.adj_text.specs.Text.{procedure_text}
+use Rattle.def_text.specs.Text.{procedure_text}
 
 -- the lines of some units
 abbrev pub lines_of : List Unit → List ℕ

@@ -2,7 +2,7 @@
 
 ghost use Rattle.std.specs.Prelude.{◌≡◌, ◌++◌, OnOk, nat_lt};
 ghost use Rattle.adj_tree.specs.View.{rel_of, test_of};
-ghost use Rattle.adj_text.specs.Text.{rel_text, test_level, enclosed, test_text};
+ghost use Rattle.def_text.specs.Text.{rel_text, test_level, enclosed, test_text};
 
 use crate::expression::push_expr;
 use adj_tree::{Cond, Memory, Rel};

@@ -3,7 +3,7 @@
 ghost use Rattle.std.specs.Prelude.{◌≡◌, ◌++◌, OnOk, nat_lt};
 ghost use Rattle.adj_tree.specs.Code.{plain};
 ghost use Rattle.adj_tree.specs.View.{op_of, term_of, terms_of};
-ghost use Rattle.adj_text.specs.Text.{op_level, left_place, right_place, opening, between, closing, term_level, enclosed, term_text, term_texts, behind_commas, bracketed, place_text};
+ghost use Rattle.def_text.specs.Text.{op_level, left_place, right_place, opening, between, closing, term_level, enclosed, term_text, term_texts, behind_commas, bracketed, place_text};
 
 use crate::list::{push_count, push_name, push_number};
 use adj_tree::{Expr, Exprs, Memory, Op, Place};

@@ -1,7 +1,7 @@
 //! How the characters of a statement are laid out in lines.
 
 ghost use Rattle.std.specs.Prelude.{◌≡◌, ◌++◌, ◌∷◌, ◌≤◌, ℕ, List, OnOk, IfOk};
-ghost use Rattle.adj_text.specs.Text.{laid, statement};
+ghost use Rattle.def_text.specs.Text.{laid, statement};
 
 use adj_tree::Memory;
 

@@ -3,7 +3,7 @@
 ghost use Rattle.std.specs.Prelude.{◌≡◌, ◌++◌, OnOk, map};
 ghost use Rattle.std.specs.Fmt.{decimal, signed_decimal};
 ghost use Rattle.adj_tree.specs.View.{extent_of};
-ghost use Rattle.adj_text.specs.Text.{behind_commas, bracketed, extent_text};
+ghost use Rattle.def_text.specs.Text.{behind_commas, bracketed, extent_text};
 
 use adj_tree::{Extent, Memory, Name};
 use itoa::Buffer;

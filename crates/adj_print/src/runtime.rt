@@ -3,7 +3,7 @@
 ghost use Rattle.std.specs.Prelude.{◌≡◌, ◌++◌, ◌∷◌, [], OnOk};
 ghost use Rattle.adj_tree.specs.Code.{plain};
 ghost use Rattle.adj_tree.specs.View.{term_of, terms_of, runtime_of};
-ghost use Rattle.adj_text.specs.Text.{bracketed, term_text, place_text, runtime_name, runtime_actuals};
+ghost use Rattle.def_text.specs.Text.{bracketed, term_text, place_text, runtime_name, runtime_actuals};
 
 use crate::expression::{push_expr, push_place};
 use crate::list::push_name;

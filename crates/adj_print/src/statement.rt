@@ -3,7 +3,7 @@
 ghost use Rattle.std.specs.Prelude.{◌≡◌, ◌++◌, ◌∷◌, codes, OnOk};
 ghost use Rattle.adj_tree.specs.Code.{plain};
 ghost use Rattle.adj_tree.specs.View.{term_of, terms_of, test_of, runtime_of, mark_of, act_of, code_of};
-ghost use Rattle.adj_text.specs.Text.{statement, term_text, term_texts, test_text, place_text, call_text, runtime_name, runtime_actuals, directive, is_one, step_text, act_text, code_text, else_text, var_text};
+ghost use Rattle.def_text.specs.Text.{statement, term_text, term_texts, test_text, place_text, call_text, runtime_name, runtime_actuals, directive, is_one, step_text, act_text, code_text, else_text, var_text};
 
 use crate::condition::push_cond;
 use crate::expression::{push_expr, push_exprs, push_place};

@@ -4,9 +4,9 @@ ghost use Rattle.std.specs.Prelude.{◌≡◌, ◌++◌, codes, IfOk, OnOk};
 ghost use Rattle.std.specs.List.{flat_map};
 ghost use Rattle.std.specs.Prelude.{map};
 ghost use Rattle.adj_tree.specs.View.{declaration_of, procedure_of, procedures_of};
-ghost use Rattle.adj_text.specs.ReadsAs.{ReadsAs};
-ghost use Rattle.adj_text.specs.Written.{IsWritten};
-ghost use Rattle.adj_text.specs.Text.{statement, bracketed, declaration_text, implicit_text, procedure_text, text_of};
+ghost use Rattle.def_text.specs.ReadsAs.{ReadsAs};
+ghost use Rattle.def_text.specs.Written.{IsWritten};
+ghost use Rattle.def_text.specs.Text.{statement, bracketed, declaration_text, implicit_text, procedure_text, text_of};
 
 use crate::layout::push_statement;
 use crate::list::{push_extents, push_name, push_names};

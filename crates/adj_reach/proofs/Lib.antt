@@ -1,4 +1,6 @@
 -- the lemmas of the crate
+pub mod Reaching
+pub mod Members
 pub mod Tallies
 pub mod Placing
 pub mod Sums

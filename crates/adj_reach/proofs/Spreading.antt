@@ -5,7 +5,7 @@ use Rattle.std.proofs.lemmas.List.{map-id, get_or_default}
 use Rattle.std.proofs.lemmas.List.Elements.{Contains-get_or}
 use Rattle.std.proofs.lemmas.Nat.{div-mul-add, mod-mul-add, div-add-mod', mul-add-lt}
 use Rattle.std.proofs.Math.Nat.{mod-lt, div-lt_iff_lt-mul}
-use Rattle.adj_facts.proofs.Members.{is_first, is_later, is_among, is_none}
+use Rattle.adj_reach.proofs.Members.{is_first, is_later, is_among, is_none}
 use Rattle.adj_reach.specs.declared.arc.Arc.{Arc}
 use Rattle.adj_reach.specs.declared.arc.Kind.TheVariants.{Keep}
 use Rattle.adj_reach.specs.declared.direction.Direction.TheVariants.{Along}

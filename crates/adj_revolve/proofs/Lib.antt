@@ -1,3 +1,4 @@
+-- the lemmas of the crate
 pub mod BinomialLemmas
 pub mod LeastCostLemmas
 pub mod SplitLemmas

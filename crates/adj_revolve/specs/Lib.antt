@@ -1,3 +1,4 @@
+-- the definitions of the crate, a module a subject
 pub mod Binomial
 pub mod LeastCost
 pub mod Split

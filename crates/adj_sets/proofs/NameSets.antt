@@ -6,7 +6,7 @@ use Rattle.std.specs.Str.{bytes_eq}
 use Rattle.std.specs.Cmp.Lexicographic.{pointwise}
 use Rattle.std.proofs.lemmas.List.{map_push, length-map}
 use Rattle.adj_tree.specs.Code.{name_eq}
-use Rattle.adj_names.specs.Fresh.{has_name}
+use Rattle.def_meaning.specs.Apart.{has_name}
 use Rattle.adj_tree.proofs.Names.{name_eq-bytes}
 use Rattle.adj_sets.specs.Sets.{with_name, with_added}
 

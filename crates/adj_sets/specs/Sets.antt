@@ -1,6 +1,6 @@
 -- Sets of names, as lists in which nothing stands twice.
 use Rattle.std.specs.Prelude.{ℕ, List, [], ◌∷◌, ◌++◌, if◌then◌else◌}
-use Rattle.adj_names.specs.Fresh.{has_name}
+use Rattle.def_meaning.specs.Apart.{has_name}
 
 -- the names with one more behind them, where it isn't among them
 abbrev pub with_name : List (List ℕ) → List ℕ → List (List ℕ)

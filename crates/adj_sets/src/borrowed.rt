@@ -2,8 +2,8 @@
 
 ghost use Rattle.std.specs.Prelude.{◌≡◌, [], ℕ, List, not, map, length, position, IfOk, OnOk};
 ghost use Rattle.adj_tree.specs.Code.{name_eq};
-ghost use Rattle.adj_names.specs.Fresh.{has_name};
-ghost use Rattle.adj_names.specs.Variables.{Name};
+ghost use Rattle.def_meaning.specs.Apart.{has_name};
+ghost use Rattle.def_names.specs.Variables.{Name};
 ghost use Rattle.adj_sets.specs.Sets.{with_name};
 
 use adj_tree::{Memory, Name, boxed};

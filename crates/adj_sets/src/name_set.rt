@@ -2,7 +2,7 @@
 
 ghost use Rattle.std.specs.Prelude.{◌≡◌, List, ℕ, [], map, length, position, is_some, IfOk, OnErr, OnOk};
 ghost use Rattle.adj_tree.specs.Code.{name_eq};
-ghost use Rattle.adj_names.specs.Fresh.{has_name};
+ghost use Rattle.def_meaning.specs.Apart.{has_name};
 ghost use Rattle.adj_sets.specs.Sets.{with_added, all_added};
 
 use adj_tree::{Memory, Name, boxed};

@@ -5,8 +5,8 @@ use Rattle.std.proofs.lemmas.Grind.{flat_map-append}
 use Rattle.std.proofs.lemmas.List.Folds.{flat_map-map}
 use Rattle.std.proofs.lemmas.List.{drop_more, drop_all, append-nil}
 use Rattle.adj_tree.specs.Code.{Act}
-use Rattle.adj_names.specs.Statements.{At}
-use Rattle.adj_names.specs.Calls.{Call, call_in}
+use Rattle.def_names.specs.Statements.{At}
+use Rattle.def_names.specs.Calls.{Call, call_in}
 
 -- what the calls of statements give is what the list of all these calls gives
 pub calls_listed : {Z : Type 0} (f : At Call → List Z) (ss : List (At Act)) → flat_map (λ s. flat_map (λ c. f (s.0, c)) (call_in s.1)) ss ≡ flat_map f (flat_map (λ s. map (λ c. (s.0, c)) (call_in s.1)) ss)

@@ -3,12 +3,11 @@ use Rattle.std.proofs.Common.{◌≡◌, ℕ, ◌+◌, ◌<◌, length, get_or, 
 use Rattle.std.specs.Prelude.{◌||◌, ◌&&◌}
 use Rattle.std.proofs.lemmas.List.{drop_more}
 use Rattle.adj_tree.specs.Code.{Var, plain, shadow, helper, var_eq, Term, lit, var, elem, neg, bin, pow, power_of, abs, Terms, none, more, Procedure}
-use Rattle.adj_meaning.proofs.Variables.{var_refl, var_same}
-use Rattle.adj_meaning.specs.Apart.{is_named}
-use Rattle.adj_meaning.specs.Written.{is_place_of}
-use Rattle.adj_names.specs.Fresh.{has_name}
-use Rattle.adj_names.specs.Variables.{Name}
-use Rattle.adj_names.specs.WriteFaults.{named_by, is_named_by, name_one, is_whole_array, clash, clashes, have_clash, hands_back_values}
+use Rattle.def_meaning.proofs.Variables.{var_refl, var_same}
+use Rattle.def_meaning.specs.Apart.{is_named, has_name}
+use Rattle.def_meaning.specs.Written.{is_place_of}
+use Rattle.def_names.specs.Variables.{Name}
+use Rattle.def_names.specs.WriteFaults.{named_by, is_named_by, name_one, is_whole_array, clash, clashes, have_clash, hands_back_values}
 use Rattle.adj_sets.specs.Sets.{with_name}
 use Rattle.adj_symbols.specs.Sharing.{Named, and_named, is_met, Tests, tests_of, and_actual, meets_one, meets, some_meets}
 use Rattle.adj_symbols.proofs.Repeats.{with_name-has}

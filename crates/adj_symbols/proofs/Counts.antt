@@ -1,9 +1,9 @@
 -- How many numbers statements take, whatever number is the first.
 use Rattle.std.proofs.Common.{◌≡◌, ℕ, suc, ◌+◌, List, [], ◌∷◌, length, length-append, arith}
 use Rattle.adj_tree.specs.Code.{Act, assign, choose, loop, during, call, runtime, Code, stop, step, Procedure}
-use Rattle.adj_names.specs.Statements.{inner, statements}
-use Rattle.adj_transpose.specs.Marks.{next, behind}
-use Rattle.adj_facts.specs.Parts.{statements_in}
+use Rattle.def_names.specs.Statements.{inner, statements}
+use Rattle.def_names.specs.Numbers.{next, behind}
+use Rattle.def_names.specs.StatementsIn.{statements_in}
 
 -- a number for each statement
 mutual

@@ -5,17 +5,17 @@ use Rattle.std.specs.List.{list_any, flat_map, slice_get, Contains}
 use Rattle.std.proofs.lemmas.Option.{slice_get_within}
 use Rattle.adj_tree.specs.Code.{name_eq, Procedure}
 use Rattle.adj_tree.proofs.Names.{name_same, name_refl}
-use Rattle.adj_meaning.specs.Written.{find_unit}
-use Rattle.adj_names.specs.Variables.{Name}
-use Rattle.adj_names.specs.Calls.{calls_from, leads, calls_lead}
-use Rattle.adj_names.specs.Laws.{IsIn}
-use Rattle.adj_facts.specs.Reached as reached
+use Rattle.def_meaning.specs.Written.{find_unit}
+use Rattle.def_names.specs.Variables.{Name}
+use Rattle.def_names.specs.Calls.{calls_from, leads, calls_lead}
+use Rattle.def_names.specs.Laws.{IsIn}
+use Rattle.adj_reach.specs.Reached as reached
 use Rattle.adj_reach.specs.Edges.{ReachedFrom, AreBelow}
 use Rattle.adj_symbols.specs.Graph.{edge_of, edges_from, call_edges}
 use Rattle.adj_symbols.proofs.Scopes.{found_at, number_found, number_has}
 use Rattle.adj_symbols.proofs.Leading.{unit_cases, alone, has_call, leads_on, leads_itself}
 use Rattle.adj_symbols.proofs.Graphs.{one_member}
-use Rattle.adj_writes.specs.Graph.{number_from}
+use Rattle.adj_symbols_writes.specs.Graph.{number_from}
 
 -- ---- members
 

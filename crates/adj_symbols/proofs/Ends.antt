@@ -3,8 +3,8 @@ use Rattle.std.proofs.Common.{◌≡◌, ℕ, ◌≤◌, List, length, map, drop
 use Rattle.std.specs.List.{flat_map}
 use Rattle.std.proofs.lemmas.List.{drop_all}
 use Rattle.adj_tree.specs.declared.fault.Refusal.{Refusal}
-use Rattle.adj_names.specs.Fault.{first_of, sooner}
-use Rattle.adj_names.proofs.Order.{sooner_none}
+use Rattle.def_names.specs.Fault.{first_of, sooner}
+use Rattle.def_names.proofs.Order.{sooner_none}
 
 -- where all were looked at, the first of their faults is found
 pub sooner_end : {X Y : Type 0} (view : X → Y) (f : Y → List Refusal) (xs : List X) (i : ℕ) (a b : Option Refusal) → length xs ≤ i → sooner a (first_of (flat_map f (map view (drop i xs)))) ≡ b → a ≡ b

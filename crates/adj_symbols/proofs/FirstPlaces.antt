@@ -2,12 +2,12 @@
 use Rattle.std.proofs.Common.{◌≡◌, Bool, true, false, List, [], ◌∷◌, ◌++◌, refl, ap, ap₂, ◌∙◌, if◌then◌else◌}
 use Rattle.std.specs.Prelude.{◌||◌, not, filter}
 use Rattle.adj_tree.specs.Code.{name_eq}
-use Rattle.adj_names.specs.Fresh.{has_name}
-use Rattle.adj_names.specs.Statements.{At}
-use Rattle.adj_names.specs.Variables.{Name, first_places}
+use Rattle.def_meaning.specs.Apart.{has_name}
+use Rattle.def_names.specs.Statements.{At}
+use Rattle.def_names.specs.Variables.{Name, first_places}
 use Rattle.adj_sets.specs.Sets.{with_name}
 use Rattle.adj_symbols.proofs.Repeats.{with_name-has}
-use Rattle.adj_symbols.proofs.Scopes.{name_comm}
+use Rattle.adj_symbols_writes.proofs.Rows.{name_comm}
 
 -- the places of names that aren't among some
 abbrev pub others_at : List Name → List (At Name) → List (At Name)

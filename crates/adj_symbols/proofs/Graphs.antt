@@ -4,7 +4,7 @@ use Rattle.std.specs.Prelude.{slice_index}
 use Rattle.std.specs.List.{All, Contains}
 use Rattle.std.proofs.lemmas.List.Elements.{All-contains, All-push}
 use Rattle.std.proofs.lemmas.Option.{slice_get-get_or}
-use Rattle.adj_facts.specs.Reached.{begins, leads}
+use Rattle.adj_reach.specs.Reached.{begins, leads}
 use Rattle.adj_reach.specs.Edges.{Edges, ReachedFrom, ReachedBack}
 use Rattle.adj_symbols.specs.Graph.{AreSinking, root_at}
 

@@ -5,18 +5,18 @@ use Rattle.std.specs.List.{flat_map}
 use Rattle.std.proofs.lemmas.Bool.Decides.{nat_tests}
 use Rattle.adj_tree.specs.Code.{Act, assign, choose, loop, during, call, runtime, Procedure}
 use Rattle.adj_tree.specs.declared.fault.Refusal.{Refusal}
-use Rattle.adj_names.specs.Calls.{act_chain, chain_from}
-use Rattle.adj_names.specs.CallFaults.{call_faults}
-use Rattle.adj_names.specs.ChainFaults.{begins_chain, cycles, long_chains, or_else, chain_faults}
-use Rattle.adj_names.specs.Check.{IsSound}
-use Rattle.adj_names.specs.Fault.{source_rules, run_rules, fault, passed, faults_if, first_of}
-use Rattle.adj_names.specs.NameFaults.{undeclared, declared_twice, taken_in, misused, has_rank, bad_extents, reserved_variables, calls_runtime, runtime_calls, faults_of_names, name_faults}
-use Rattle.adj_names.specs.Statements.{At, statements}
-use Rattle.adj_names.specs.UnitFaults.{unit_faults}
-use Rattle.adj_names.specs.WriteFaults.{write_faults}
-use Rattle.adj_names.proofs.Sound.{sound_has_none}
-use Rattle.adj_text.specs.declared.mode.Mode.{Mode}
-use Rattle.adj_text.specs.declared.mode.Mode.TheVariants as mode
+use Rattle.def_names.specs.Calls.{act_chain, chain_from}
+use Rattle.def_names.specs.CallFaults.{call_faults}
+use Rattle.def_names.specs.ChainFaults.{begins_chain, cycles, long_chains, or_else, chain_faults}
+use Rattle.def_names.specs.Check.{IsSound}
+use Rattle.def_names.specs.Fault.{source_rules, run_rules, fault, passed, faults_if, first_of}
+use Rattle.def_names.specs.NameFaults.{undeclared, declared_twice, taken_in, misused, has_rank, bad_extents, reserved_variables, calls_runtime, runtime_calls, faults_of_names, name_faults}
+use Rattle.def_names.specs.Statements.{At, statements}
+use Rattle.def_names.specs.UnitFaults.{unit_faults}
+use Rattle.def_names.specs.WriteFaults.{write_faults}
+use Rattle.def_names.proofs.Sound.{sound_has_none}
+use Rattle.def_text.specs.declared.mode.Mode.{Mode}
+use Rattle.def_text.specs.declared.mode.Mode.TheVariants as mode
 use Rattle.adj_symbols.specs.Rules.{rules_for}
 use Rattle.adj_symbols.proofs.Passing.{in_writes}
 

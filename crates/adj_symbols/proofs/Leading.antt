@@ -4,10 +4,10 @@ use Rattle.std.specs.Prelude.{◌||◌}
 use Rattle.std.specs.List.{list_any}
 use Rattle.adj_tree.specs.Code.{name_eq, Procedure}
 use Rattle.adj_tree.proofs.Names.{name_same, name_refl}
-use Rattle.adj_meaning.specs.Written.{find_unit}
-use Rattle.adj_names.specs.Variables.{Name}
-use Rattle.adj_names.specs.Calls.{calls_found, calls_from, leads, calls_lead}
-use Rattle.adj_names.specs.Laws.{IsIn}
+use Rattle.def_meaning.specs.Written.{find_unit}
+use Rattle.def_names.specs.Variables.{Name}
+use Rattle.def_names.specs.Calls.{calls_found, calls_from, leads, calls_lead}
+use Rattle.def_names.specs.Laws.{IsIn}
 
 -- ---- tests
 

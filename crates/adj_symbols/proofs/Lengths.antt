@@ -7,17 +7,17 @@ use Rattle.std.proofs.lemmas.Bool.Decides.{nat_tests}
 use Rattle.std.proofs.lemmas.Option.{unwrap_or-slice_get, slice_get-map}
 use Rattle.adj_tree.specs.Code.{Mark, unmarked, with_count, count_from, Act, assign, choose, loop, during, call, runtime, Code, stop, step, Procedure}
 use Rattle.adj_tree.specs.declared.fault.Refusal.{Refusal}
-use Rattle.adj_meaning.specs.Written.{find_unit}
-use Rattle.adj_names.specs.Statements.{At, statements}
-use Rattle.adj_names.specs.Variables.{Name}
-use Rattle.adj_names.specs.Calls.{with_mark, act_chain, chain, chain_found, chain_within, chain_from}
-use Rattle.adj_names.specs.ChainFaults.{begins_chain, long_chains}
-use Rattle.adj_names.specs.Fault.{Rules, passed, faults_if, first_of, sooner}
-use Rattle.adj_names.proofs.Order.{sooner_assoc, sooner_comm, first_of-append, sooner-append}
+use Rattle.def_meaning.specs.Written.{find_unit}
+use Rattle.def_names.specs.Statements.{At, statements}
+use Rattle.def_names.specs.Variables.{Name}
+use Rattle.def_names.specs.Calls.{with_mark, act_chain, chain, chain_found, chain_within, chain_from}
+use Rattle.def_names.specs.ChainFaults.{begins_chain, long_chains}
+use Rattle.def_names.specs.Fault.{Rules, passed, faults_if, first_of, sooner}
+use Rattle.def_names.proofs.Order.{sooner_assoc, sooner_comm, first_of-append, sooner-append}
 use Rattle.std.proofs.lemmas.Grind.{flat_map-append}
 use Rattle.adj_symbols.specs.Chain.{length_at, length_of, faults_of_chain, longer}
 use Rattle.adj_symbols.proofs.Scopes.{found_at, number_found}
-use Rattle.adj_writes.specs.Graph.{number_from}
+use Rattle.adj_symbols_writes.specs.Graph.{number_from}
 
 -- a mark counts the same up to a limit
 pub mark_capped : (L : ℕ) (m : Mark) (a b : ℕ) → min L a ≡ min L b → min L (with_mark m a) ≡ min L (with_mark m b)

@@ -1,3 +1,4 @@
+-- the lemmas of the crate
 pub mod Repeats
 pub mod Outlines
 pub mod Onces

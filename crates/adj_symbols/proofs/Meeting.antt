@@ -6,19 +6,19 @@ use Rattle.std.proofs.lemmas.Bool.{or_cases}
 use Rattle.std.proofs.lemmas.List.{map-append}
 use Rattle.adj_tree.specs.Code.{plain, name_eq, Act, Extent, fixed, given, Declaration, Procedure}
 use Rattle.adj_tree.proofs.Names.{name_refl, name_same}
-use Rattle.adj_meaning.specs.LeastSet.{Dummies}
-use Rattle.adj_meaning.specs.Read.{names_extent, is_extent}
-use Rattle.adj_meaning.proofs.Booleans.{and_true, or_first, or_second}
-use Rattle.adj_names.specs.Fresh.{has_name}
-use Rattle.adj_names.specs.NameFaults.{extent_names}
-use Rattle.adj_names.specs.Variables.{Name, is_dummy}
-use Rattle.adj_names.specs.WriteFaults.{may_write}
+use Rattle.def_meaning.specs.LeastSet.{Dummies}
+use Rattle.def_meaning.specs.Read.{names_extent, is_extent}
+use Rattle.def_meaning.proofs.Booleans.{and_true, or_first, or_second}
+use Rattle.def_meaning.specs.Apart.{has_name}
+use Rattle.def_names.specs.NameFaults.{extent_names}
+use Rattle.def_names.specs.Variables.{Name, is_dummy}
+use Rattle.def_names.specs.WriteFaults.{may_write}
 use Rattle.adj_sets.specs.Sets.{with_name}
 use Rattle.adj_sets.proofs.NameSets.{has-behind}
 use Rattle.adj_symbols.specs.View.{names_at}
 use Rattle.adj_symbols.specs.Writes.{written_names, writes_one}
 use Rattle.adj_symbols.proofs.Repeats.{with_name-has}
-use Rattle.adj_symbols.proofs.Scopes.{name_comm}
+use Rattle.adj_symbols_writes.proofs.Rows.{name_comm}
 use Rattle.adj_symbols.proofs.Clashing.{both_ways}
 use Rattle.adj_symbols.proofs.Writing.{may_write_name}
 

@@ -7,10 +7,10 @@ use Rattle.std.proofs.lemmas.Grind.{flat_map-append}
 use Rattle.std.proofs.lemmas.List.Folds.{flat_map-map}
 use Rattle.std.proofs.lemmas.List.{drop-map, map-append, drop_more}
 use Rattle.adj_tree.specs.Code.{Act, assign, choose, loop, during, call, runtime, Procedure}
-use Rattle.adj_names.specs.Statements.{At}
-use Rattle.adj_names.specs.Standing.{Standing, in_act}
-use Rattle.adj_names.specs.NameFaults.{has_rank, taken_in, passed_by}
-use Rattle.adj_names.specs.Fault.{fault, passed, faults_if}
+use Rattle.def_names.specs.Statements.{At}
+use Rattle.def_names.specs.Standing.{Standing, in_act}
+use Rattle.def_names.specs.NameFaults.{has_rank, taken_in, passed_by}
+use Rattle.def_names.specs.Fault.{fault, passed, faults_if}
 use Rattle.adj_symbols.specs.View.{place_of, places_of, used_place, at_line, taken_at}
 use Rattle.adj_symbols.specs.declared.places.Placed.{Placed}
 use Rattle.adj_symbols.proofs.Repeats.{left}

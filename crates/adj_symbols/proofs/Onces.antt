@@ -3,9 +3,9 @@ use Rattle.std.proofs.Common.{◌≡◌, Bool, true, false, List, [], ◌∷◌,
 use Rattle.std.specs.Prelude.{◌||◌, not, fold, filter}
 use Rattle.adj_tree.specs.Code.{name_eq}
 use Rattle.adj_tree.proofs.Names.{name_same, name_refl}
-use Rattle.adj_names.specs.Fresh.{has_name}
-use Rattle.adj_names.specs.Statements.{At}
-use Rattle.adj_names.specs.Variables.{Name, first_places}
+use Rattle.def_meaning.specs.Apart.{has_name}
+use Rattle.def_names.specs.Statements.{At}
+use Rattle.def_names.specs.Variables.{Name, first_places}
 use Rattle.adj_sets.specs.Sets.{with_name}
 use Rattle.adj_symbols.specs.Table.{once}
 use Rattle.adj_symbols.specs.View.{names_at}

@@ -5,11 +5,11 @@ use Rattle.std.specs.List.{flat_map}
 use Rattle.std.proofs.lemmas.Grind.{flat_map-append}
 use Rattle.adj_tree.specs.Code.{Var, Act, assign, choose, loop, during, call, runtime, Code, stop, step}
 use Rattle.adj_tree.specs.declared.fault.Refusal.{Refusal}
-use Rattle.adj_meaning.specs.LeastSet.{Dummies}
-use Rattle.adj_names.specs.Statements.{At, inner, statements}
-use Rattle.adj_names.specs.Fault.{fault, faults_if, first_of, sooner}
-use Rattle.adj_names.specs.WriteFaults.{may_write, writes_of_variable}
-use Rattle.adj_names.proofs.Order.{sooner_assoc, sooner_comm, sooner_same, first_of-append}
+use Rattle.def_meaning.specs.LeastSet.{Dummies}
+use Rattle.def_names.specs.Statements.{At, inner, statements}
+use Rattle.def_names.specs.Fault.{fault, faults_if, first_of, sooner}
+use Rattle.def_names.specs.WriteFaults.{may_write, writes_of_variable}
+use Rattle.def_names.proofs.Order.{sooner_assoc, sooner_comm, sooner_same, first_of-append}
 use Rattle.adj_symbols.specs.Opening.{open_inner, open_faults}
 
 -- the first of four, in another order

@@ -2,9 +2,9 @@
 use Rattle.std.proofs.Common.{◌≡◌, Bool, true, false, List, [], ◌∷◌, map, length, refl, ap, ◌∙◌, Some, if◌then◌else◌}
 use Rattle.std.specs.Prelude.{◌||◌, is_some, unwrap_or, fold}
 use Rattle.adj_tree.specs.Code.{plain, name_eq, Declaration, Procedure}
-use Rattle.adj_meaning.specs.Units.{declared}
-use Rattle.adj_names.specs.Fresh.{has_name}
-use Rattle.adj_names.specs.Variables.{Name, declared_names, rank}
+use Rattle.def_meaning.specs.Units.{declared}
+use Rattle.def_meaning.specs.Apart.{has_name}
+use Rattle.def_names.specs.Variables.{Name, declared_names, rank}
 use Rattle.adj_symbols.specs.Outline.{declared_rank}
 use Rattle.adj_sets.specs.Sets.{with_name}
 use Rattle.adj_symbols.specs.Table.{once}

@@ -5,14 +5,14 @@ use Rattle.adj_tree.specs.declared.fault.Refusal.{Refusal}
 use Rattle.adj_tree.specs.declared.fault.Fault.{Fault}
 use Rattle.adj_tree.specs.declared.fault.Fault.TheVariants.{Memory, Refused}
 use Rattle.adj_tree.specs.Code.{Procedure}
-use Rattle.adj_names.specs.UnitFaults.{unit_faults}
-use Rattle.adj_names.specs.NameFaults.{name_faults}
-use Rattle.adj_names.specs.CallFaults.{call_faults}
-use Rattle.adj_names.specs.WriteFaults.{write_faults}
-use Rattle.adj_names.specs.Check.{first_fault}
+use Rattle.def_names.specs.UnitFaults.{unit_faults}
+use Rattle.def_names.specs.NameFaults.{name_faults}
+use Rattle.def_names.specs.CallFaults.{call_faults}
+use Rattle.def_names.specs.WriteFaults.{write_faults}
+use Rattle.def_names.specs.Check.{first_fault}
 use Rattle.adj_symbols.specs.Checked.{IfRefused}
-use Rattle.adj_names.specs.Fault.{Rules, is_before, earlier, first_of, first_in_passes}
-use Rattle.adj_names.specs.ChainFaults.{or_else, cycles, long_chains, chain_faults}
+use Rattle.def_names.specs.Fault.{Rules, is_before, earlier, first_of, first_in_passes}
+use Rattle.def_names.specs.ChainFaults.{or_else, cycles, long_chains, chain_faults}
 
 -- where there is a fault, nothing else is looked at
 kept : (r : Refusal) (found other : Option Refusal) → earlier r found ≡ option_or (earlier r found) other

@@ -6,7 +6,7 @@ use Rattle.std.proofs.lemmas.Bool.Decides.{nat_tests}
 use Rattle.std.proofs.Math.Nat.{mul-le-mul, mul_assoc}
 use Rattle.std.proofs.Math.IntN.{pos-*ℤ-pos, *ℤ_comm, *ℤ-one, one}
 use Rattle.adj_tree.specs.Code.{Extent, fixed, given, Procedure}
-use Rattle.adj_names.specs.NameFaults.{literal_product, is_bad_extent}
+use Rattle.def_names.specs.NameFaults.{literal_product, is_bad_extent}
 use Rattle.adj_symbols.specs.View.{literal_of}
 
 pub neither : (a b : Bool) → (a || b) ≡ false → (a ≡ false) × (b ≡ false)

@@ -5,11 +5,11 @@ use Rattle.std.proofs.lemmas.List.{drop_more}
 use Rattle.adj_tree.specs.Code.{name_eq}
 use Rattle.adj_tree.proofs.Names.{name_same}
 use Rattle.adj_tree.specs.declared.fault.Refusal.{Refusal}
-use Rattle.adj_names.specs.Fresh.{has_name}
-use Rattle.adj_names.specs.Statements.{At}
-use Rattle.adj_names.specs.Variables.{Name}
-use Rattle.adj_names.specs.Fault.{fault, faults_if, again, first_of, sooner}
-use Rattle.adj_names.proofs.Order.{sooner-append}
+use Rattle.def_meaning.specs.Apart.{has_name}
+use Rattle.def_names.specs.Statements.{At}
+use Rattle.def_names.specs.Variables.{Name}
+use Rattle.def_names.specs.Fault.{fault, faults_if, again, first_of, sooner}
+use Rattle.def_names.proofs.Order.{sooner-append}
 use Rattle.adj_sets.specs.Sets.{with_name}
 use Rattle.adj_symbols.specs.View.{places_of, names_at}
 use Rattle.adj_symbols.specs.declared.places.Placed.{Placed}

@@ -5,14 +5,15 @@ use Rattle.std.proofs.lemmas.Option.{slice_get_past, slice_get_read}
 use Rattle.std.proofs.lemmas.Bool.Decides.{nat_tests}
 use Rattle.std.proofs.lemmas.List.{append-nil}
 use Rattle.adj_tree.specs.Code.{name_eq, Procedure}
-use Rattle.adj_meaning.specs.LeastSet.{row_of}
-use Rattle.adj_meaning.specs.Written.{find_unit}
-use Rattle.adj_names.specs.HeadFaults.{unit_number}
-use Rattle.adj_names.specs.Variables.{Name}
+use Rattle.def_meaning.specs.LeastSet.{row_of}
+use Rattle.def_meaning.specs.Written.{find_unit}
+use Rattle.def_names.specs.HeadFaults.{unit_number}
+use Rattle.def_names.specs.Variables.{Name}
 use Rattle.adj_symbols.specs.Writes.{row_at}
-use Rattle.adj_symbols.proofs.Scopes.{name_comm, number_has}
-use Rattle.adj_writes.specs.Graph.{number_from}
-use Rattle.adj_writes.proofs.Numbers.{place_above}
+use Rattle.adj_symbols_writes.proofs.Rows.{name_comm}
+use Rattle.adj_symbols.proofs.Scopes.{number_has}
+use Rattle.adj_symbols_writes.specs.Graph.{number_from}
+use Rattle.adj_symbols_writes.proofs.Numbers.{place_above}
 
 -- behind the last row there are none
 past : (rows : List (List Bool)) (us : List Procedure) (x : Name) → row_at rows (number_from (length rows) us x) ≡ []

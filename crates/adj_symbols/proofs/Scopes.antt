@@ -6,10 +6,10 @@ use Rattle.std.specs.Option.{option_map}
 use Rattle.std.proofs.lemmas.Bool.Decides.{nat_tests}
 use Rattle.std.proofs.lemmas.Option.{slice_get_past, slice_get_read, slice_get-map}
 use Rattle.adj_tree.specs.Code.{name_eq, Procedure}
-use Rattle.adj_meaning.specs.Written.{find_unit}
-use Rattle.adj_names.specs.Variables.{Name}
-use Rattle.adj_writes.specs.Graph.{number_from}
-pub use Rattle.adj_writes.proofs.Rows.{name_comm}
+use Rattle.def_meaning.specs.Written.{find_unit}
+use Rattle.def_names.specs.Variables.{Name}
+use Rattle.adj_symbols_writes.specs.Graph.{number_from}
+pub use Rattle.adj_symbols_writes.proofs.Rows.{name_comm}
 
 -- a name has a number where it has a unit
 pub number_has : (k : ℕ) (ps : List Procedure) (x : Name) → is_some (number_from k ps x) ≡ is_some (find_unit ps x)

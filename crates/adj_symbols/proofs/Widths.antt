@@ -2,7 +2,7 @@
 use Rattle.std.proofs.Common.{ℕ, zero, suc, ◌≤◌, List, [], ◌∷◌, length, arith}
 use Rattle.std.specs.Prelude.{slice_index_or}
 use Rattle.std.proofs.Math.Nat.{le-max_left, le-max_right}
-use Rattle.adj_names.specs.Variables.{Name}
+use Rattle.def_names.specs.Variables.{Name}
 use Rattle.adj_symbols.specs.Numbers.{widest}
 
 -- no list has more names

@@ -1,14 +1,14 @@
 -- What statements may write, by the names in a list.
 use Rattle.std.proofs.Common.{◌≡◌, refl, sym, ◌∙◌}
 use Rattle.adj_tree.specs.Code.{Var, plain, Act, assign, choose, loop, during, call, runtime}
-use Rattle.adj_meaning.specs.LeastSet.{Dummies}
-use Rattle.adj_names.specs.Fresh.{has_name}
-use Rattle.adj_names.specs.Variables.{Name}
-use Rattle.adj_names.specs.WriteFaults.{may_write}
-use Rattle.adj_facts.specs.Variables.{has}
-use Rattle.adj_facts.proofs.Variables.{has_handed}
-use Rattle.adj_writes.proofs.Naming.{has_among, has_one, changed_has}
-pub use Rattle.adj_writes.proofs.Naming.{seen_among}
+use Rattle.def_meaning.specs.LeastSet.{Dummies}
+use Rattle.def_meaning.specs.Apart.{has_name}
+use Rattle.def_names.specs.Variables.{Name}
+use Rattle.def_names.specs.WriteFaults.{may_write}
+use Rattle.def_names.specs.VariableLists.{has}
+use Rattle.def_names.proofs.VariableLists.{has_handed}
+use Rattle.adj_symbols_writes.proofs.Naming.{has_among, has_one, changed_has}
+pub use Rattle.adj_symbols_writes.proofs.Naming.{seen_among}
 use Rattle.adj_symbols.specs.Writes.{written_in, written_names}
 
 may_write_in : (handed : Dummies) (v : Var) (a : Act) → may_write handed v a ≡ has (written_in handed a) v

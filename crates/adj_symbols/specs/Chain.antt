@@ -2,12 +2,12 @@
 use Rattle.std.specs.Prelude.{ℕ, suc, min, nat_lt, List, ◌&&◌, Option, Some, None, slice_index}
 use Rattle.adj_tree.specs.Code.{Act, Procedure}
 use Rattle.adj_tree.specs.declared.fault.Refusal.{Refusal}
-use Rattle.adj_names.specs.Statements.{At}
-use Rattle.adj_names.specs.Variables.{Name}
-use Rattle.adj_names.specs.Calls.{act_chain, chain}
-use Rattle.adj_names.specs.ChainFaults.{begins_chain}
-use Rattle.adj_names.specs.Fault.{passed, faults_if}
-use Rattle.adj_writes.specs.Graph.{number_from}
+use Rattle.def_names.specs.Statements.{At}
+use Rattle.def_names.specs.Variables.{Name}
+use Rattle.def_names.specs.Calls.{act_chain, chain}
+use Rattle.def_names.specs.ChainFaults.{begins_chain}
+use Rattle.def_names.specs.Fault.{passed, faults_if}
+use Rattle.adj_symbols_writes.specs.Graph.{number_from}
 
 -- the length at a number, 0 where there is none
 abbrev pub length_at : List ℕ → Option ℕ → ℕ

@@ -5,13 +5,13 @@ use Rattle.adj_tree.specs.declared.fault.Fault.TheVariants.{Memory, Refused}
 use Rattle.adj_tree.specs.declared.fault.Refusal.{Refusal}
 use Rattle.adj_tree.specs.declared.unit.Program.{Program}
 use Rattle.adj_tree.specs.View.{procedures_of}
-use Rattle.adj_text.specs.Written.{IsWritten}
-use Rattle.adj_meaning.specs.LeastSet.{least_rows}
-use Rattle.adj_meaning.specs.Read.{read_rule}
-use Rattle.adj_meaning.specs.Written.{write_rule}
-use Rattle.adj_names.specs.Fault.{run_rules}
-use Rattle.adj_names.specs.Check.{IsSound}
-use Rattle.adj_names.specs.Variables.{Name, variables}
+use Rattle.def_text.specs.Written.{IsWritten}
+use Rattle.def_meaning.specs.LeastSet.{least_rows}
+use Rattle.def_meaning.specs.Read.{read_rule}
+use Rattle.def_meaning.specs.Written.{write_rule}
+use Rattle.def_names.specs.Fault.{run_rules}
+use Rattle.def_names.specs.Check.{IsSound}
+use Rattle.def_names.specs.Variables.{Name, variables}
 
 -- the program, the variables of each unit, and which of its dummies each unit writes and reads
 pub record Known : Type 0 where

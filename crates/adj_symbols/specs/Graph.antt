@@ -2,10 +2,10 @@
 use Rattle.std.specs.Prelude.{ℕ, ◌+◌, ◌<◌, ◌≤◌, ◌^◌, List, [], ◌∷◌, Bool, Option, Some, None, All, IsTrue, slice_index}
 use Rattle.std.specs.List.{flat_map}
 use Rattle.adj_tree.specs.Code.{Procedure}
-use Rattle.adj_names.specs.Statements.{At}
-use Rattle.adj_names.specs.Calls.{Call, calls_from}
+use Rattle.def_names.specs.Statements.{At}
+use Rattle.def_names.specs.Calls.{Call, calls_from}
 use Rattle.adj_reach.specs.Edges.{Edges, ReachedFrom, AreBelow, flag}
-use Rattle.adj_writes.specs.Graph.{number_from}
+use Rattle.adj_symbols_writes.specs.Graph.{number_from}
 
 pub record Links : Type 0 where
   pub nodes : ℕ

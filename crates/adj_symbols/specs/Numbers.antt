@@ -3,8 +3,8 @@
 use Rattle.std.specs.Prelude.{◌≡◌, ℕ, ◌+◌, ◌*◌, ◌<◌, ◌^◌, max, List, [], ◌∷◌, length}
 use Rattle.adj_tree.specs.Size.{capped_u64}
 use Rattle.adj_tree.specs.View.{procedures_of}
-use Rattle.adj_names.specs.Variables.{Name}
-use Rattle.adj_facts.specs.Parts as numbering
+use Rattle.def_names.specs.Variables.{Name}
+use Rattle.def_names.specs.StatementsIn as numbering
 use Rattle.adj_symbols.specs.Checked.{Known, AreFacts}
 
 -- the greatest number of names in a list

@@ -2,9 +2,9 @@
 use Rattle.std.specs.Prelude.{List, [], ◌++◌, Bool, ◌||◌}
 use Rattle.adj_tree.specs.Code.{Act, assign, choose, loop, during, call, runtime, Code, stop, step}
 use Rattle.adj_tree.specs.declared.fault.Refusal.{Refusal}
-use Rattle.adj_meaning.specs.LeastSet.{Dummies}
-use Rattle.adj_names.specs.Fault.{fault, faults_if}
-use Rattle.adj_names.specs.WriteFaults.{may_write}
+use Rattle.def_meaning.specs.LeastSet.{Dummies}
+use Rattle.def_names.specs.Fault.{fault, faults_if}
+use Rattle.def_names.specs.WriteFaults.{may_write}
 
 abbrev mutual
   -- the faults in a statement, where it is said which statements write a variable of a DO that is open

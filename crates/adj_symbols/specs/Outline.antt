@@ -3,10 +3,10 @@ use Rattle.std.specs.Prelude.{◌≡◌, ℕ, List, [], ◌∷◌, length, Optio
 use Rattle.std.specs.Borrow.{Bor}
 use Rattle.adj_tree.specs.Code.{name_eq, Declaration, Procedure}
 use Rattle.adj_tree.specs.declared.stmt.Stmt.{Stmt}
-use Rattle.adj_names.specs.Statements.{statements}
-use Rattle.adj_names.specs.Variables.{Name}
-use Rattle.adj_writes.specs.Table.{value_of}
-use Rattle.adj_writes.specs.View.{seen}
+use Rattle.def_names.specs.Statements.{statements}
+use Rattle.def_names.specs.Variables.{Name}
+use Rattle.adj_symbols_writes.specs.Table.{value_of}
+use Rattle.adj_symbols_writes.specs.View.{seen}
 use Rattle.adj_symbols.specs.Table.{once}
 
 -- the number of extents that a name is first declared with

@@ -1,7 +1,7 @@
 -- Rules by the mode in which a text is read.
-use Rattle.adj_text.specs.declared.mode.Mode.{Mode}
-use Rattle.adj_text.specs.declared.mode.Mode.TheVariants as mode
-use Rattle.adj_names.specs.Fault as fault
+use Rattle.def_text.specs.declared.mode.Mode.{Mode}
+use Rattle.def_text.specs.declared.mode.Mode.TheVariants as mode
+use Rattle.def_names.specs.Fault as fault
 use Rattle.adj_symbols.specs.declared.rules.Rules.{Rules}
 
 abbrev pub rules_of : Rules → fault.Rules

@@ -4,10 +4,10 @@ use Rattle.adj_tree.specs.Code.{Procedure}
 use Rattle.adj_tree.specs.Codes.{code_number}
 use Rattle.adj_tree.specs.declared.code.Code.{Code}
 use Rattle.adj_tree.specs.declared.fault.Refusal.{Refusal}
-use Rattle.adj_names.specs.Fault.{fault}
-use Rattle.adj_names.specs.Variables.{Name}
-use Rattle.adj_writes.specs.Table.{value_of}
-use Rattle.adj_writes.specs.Graph.{number_from}
+use Rattle.def_names.specs.Fault.{fault}
+use Rattle.def_names.specs.Variables.{Name}
+use Rattle.adj_symbols_writes.specs.Table.{value_of}
+use Rattle.adj_symbols_writes.specs.Graph.{number_from}
 
 -- the numbers of all units
 abbrev pub AreNumbers : List Procedure → List (Name × ℕ) → Type 0

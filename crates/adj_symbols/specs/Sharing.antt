@@ -1,11 +1,10 @@
 -- Which variables the actuals of a CALL name, one after the other.
 use Rattle.std.specs.Prelude.{List, [], ◌∷◌, Bool, false, ◌&&◌, ◌||◌, Option, Some, None, if◌then◌else◌}
 use Rattle.adj_tree.specs.Code.{Var, Term, Terms, none, more, Procedure}
-use Rattle.adj_meaning.specs.Apart.{is_named}
-use Rattle.adj_meaning.specs.Written.{is_place_of}
-use Rattle.adj_names.specs.Fresh.{has_name}
-use Rattle.adj_names.specs.Variables.{Name}
-use Rattle.adj_names.specs.WriteFaults.{named_by, is_whole_array}
+use Rattle.def_meaning.specs.Apart.{is_named, has_name}
+use Rattle.def_meaning.specs.Written.{is_place_of}
+use Rattle.def_names.specs.Variables.{Name}
+use Rattle.def_names.specs.WriteFaults.{named_by, is_whole_array}
 use Rattle.adj_sets.specs.Sets.{with_name}
 
 -- the variables that are named so far, for dummies that are written, and as whole arrays

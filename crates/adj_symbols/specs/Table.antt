@@ -1,6 +1,6 @@
 -- Tables of names.
 use Rattle.std.specs.Prelude.{List, [], fold}
-use Rattle.adj_names.specs.Variables.{Name}
+use Rattle.def_names.specs.Variables.{Name}
 use Rattle.adj_sets.specs.Sets.{with_name}
 
 -- some names, each once

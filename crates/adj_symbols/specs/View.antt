@@ -2,10 +2,10 @@
 use Rattle.std.specs.Prelude.{ℕ, ℤ, pos, List, map, flat_map, Bool, Option, Some, None}
 use Rattle.adj_tree.specs.Code as code
 use Rattle.adj_tree.specs.View.{terms_of}
-use Rattle.adj_names.specs.Statements.{At}
-use Rattle.adj_names.specs.Standing.{Standing, count_of}
-use Rattle.adj_names.specs.NameFaults.{taken_in}
-use Rattle.adj_names.specs.Variables.{Name}
+use Rattle.def_names.specs.Statements.{At}
+use Rattle.def_names.specs.Standing.{Standing, count_of}
+use Rattle.def_names.specs.NameFaults.{taken_in}
+use Rattle.def_names.specs.Variables.{Name}
 use Rattle.adj_symbols.specs.declared.places.Placed.{Placed}
 use Rattle.adj_symbols.specs.declared.standing.Stands.{Stands}
 use Rattle.adj_symbols.specs.declared.standing.Stands.TheVariants.{Scalar, Element, Whole}

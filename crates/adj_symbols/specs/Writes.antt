@@ -2,11 +2,11 @@
 use Rattle.std.specs.Prelude.{ℕ, List, [], ◌∷◌, Bool, Option, Some, None, unwrap_or}
 use Rattle.std.specs.List.{list_any, slice_get}
 use Rattle.adj_tree.specs.Code.{Var, Act, assign, choose, loop, during, call, runtime}
-use Rattle.adj_meaning.specs.LeastSet.{Dummies}
-use Rattle.adj_names.specs.Fresh.{has_name}
-use Rattle.adj_names.specs.Variables.{Name}
-use Rattle.adj_facts.specs.Variables.{handed_in_actuals}
-use Rattle.adj_writes.specs.Names.{names_among, changed_by}
+use Rattle.def_meaning.specs.LeastSet.{Dummies}
+use Rattle.def_meaning.specs.Apart.{has_name}
+use Rattle.def_names.specs.Variables.{Name}
+use Rattle.def_names.specs.VariableLists.{handed_in_actuals}
+use Rattle.adj_symbols_writes.specs.Names.{names_among, changed_by}
 
 -- what a statement may write itself, those in it left aside
 abbrev pub written_in : Dummies → Act → List Var

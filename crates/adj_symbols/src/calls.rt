@@ -2,18 +2,18 @@
 
 ghost use Rattle.std.specs.Prelude.{◌≡◌, ◌==◌, [], ◌∷◌, ℕ, map, flat_map, if◌then◌else◌};
 ghost use Rattle.adj_tree.specs.View.{term_of, terms_of, runtime_of, act_of, procedure_of};
-ghost use Rattle.adj_meaning.specs.Written.{find_unit};
-ghost use Rattle.adj_names.specs.Reserved.{is_runtime};
-ghost use Rattle.adj_names.specs.CallFaults.{variable_rank, is_actual_for, are_actuals_for, array_arguments, faults_of_unit_call, faults_of_call, call_faults};
-ghost use Rattle.adj_names.specs.Fault.{fault, faults_if, first_of, sooner};
-ghost use Rattle.adj_names.specs.Statements.{statements};
+ghost use Rattle.def_meaning.specs.Written.{find_unit};
+ghost use Rattle.def_names.specs.Reserved.{is_runtime};
+ghost use Rattle.def_names.specs.CallFaults.{variable_rank, is_actual_for, are_actuals_for, array_arguments, faults_of_unit_call, faults_of_call, call_faults};
+ghost use Rattle.def_names.specs.Fault.{fault, faults_if, first_of, sooner};
+ghost use Rattle.def_names.specs.Statements.{statements};
 ghost use Rattle.adj_symbols.specs.Scope.{faults_with};
 
 use crate::first::First;
 use crate::outline::Outline;
 use crate::scope::Scope;
-use adj_names::is_runtime;
 use adj_tree::{Act, Code, Expr, Exprs, Name, RunCall};
+use def_names::is_runtime;
 
 // Whether an actual may stand for a dummy of that rank.
 fn is_actual_for(caller: &Outline<'_>, rank: usize, actual: &Expr) -> bool

@@ -3,11 +3,11 @@
 ghost use Rattle.std.specs.Prelude.{◌≡◌, ◌&&◌, [], ◌∷◌, ℕ, suc, min, map, flat_map, length, nat_le, nat_lt, IfOk, OnOk, if◌then◌else◌};
 ghost use Rattle.adj_tree.specs.Code.{Code};
 ghost use Rattle.adj_tree.specs.View.{mark_of, act_of, code_of, procedure_of};
-ghost use Rattle.adj_names.specs.Calls.{is_marked, with_mark, act_chain, chain, chain_from};
-ghost use Rattle.adj_names.specs.ChainFaults.{begins_chain, long_chains, chain_faults};
-ghost use Rattle.adj_names.specs.Fault.{passed, faults_if, first_of, sooner};
-ghost use Rattle.adj_names.specs.Statements.{inner, statements};
-ghost use Rattle.adj_names.specs.Variables.{Name};
+ghost use Rattle.def_names.specs.Calls.{is_marked, with_mark, act_chain, chain, chain_from};
+ghost use Rattle.def_names.specs.ChainFaults.{begins_chain, long_chains, chain_faults};
+ghost use Rattle.def_names.specs.Fault.{passed, faults_if, first_of, sooner};
+ghost use Rattle.def_names.specs.Statements.{inner, statements};
+ghost use Rattle.def_names.specs.Variables.{Name};
 ghost use Rattle.adj_symbols.specs.Chain.{length_of, faults_of_chain, longer};
 ghost use Rattle.adj_symbols.specs.Rules.{rules_of};
 

@@ -4,15 +4,15 @@ ghost use Rattle.std.specs.Prelude.{◌≡◌, ◌+◌, ◌*◌, ◌<◌, ◌↔
 ghost use Rattle.std.specs.Coded.{codes};
 ghost use Rattle.adj_tree.specs.contracts.unit.Program as program_row;
 ghost use Rattle.adj_tree.specs.View.{procedures_of};
-ghost use Rattle.adj_text.specs.Written.{IsWritten};
-ghost use Rattle.adj_meaning.specs.LeastSet.{least_rows};
-ghost use Rattle.adj_meaning.specs.Read.{read_rule};
-ghost use Rattle.adj_meaning.specs.Written.{write_rule};
-ghost use Rattle.adj_names.specs.Check.{IsSound};
-ghost use Rattle.adj_names.specs.Fault.{run_rules};
-ghost use Rattle.adj_names.specs.Variables as names;
-ghost use Rattle.adj_facts.specs.Parts.{point_inside};
-ghost use Rattle.adj_transpose.specs.Marks.{point_before, point_after};
+ghost use Rattle.def_text.specs.Written.{IsWritten};
+ghost use Rattle.def_meaning.specs.LeastSet.{least_rows};
+ghost use Rattle.def_meaning.specs.Read.{read_rule};
+ghost use Rattle.def_meaning.specs.Written.{write_rule};
+ghost use Rattle.def_names.specs.Check.{IsSound};
+ghost use Rattle.def_names.specs.Fault.{run_rules};
+ghost use Rattle.def_names.specs.Variables as names;
+ghost use Rattle.def_names.specs.Numbering.{point_inside};
+ghost use Rattle.def_names.specs.Numbering.{point_before, point_after};
 ghost use Rattle.adj_symbols.specs.Checked.{Known, AreFacts};
 ghost use Rattle.adj_symbols.specs.Numbers.{Fits, IsMeasured, points_in, statements_in, units_in, width_of};
 

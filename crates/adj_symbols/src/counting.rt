@@ -3,8 +3,8 @@
 ghost use Rattle.std.specs.Prelude.{◌≡◌, map, length};
 ghost use Rattle.adj_tree.specs.Size.{capped_u64};
 ghost use Rattle.adj_tree.specs.View.{act_of, code_of, procedure_of};
-ghost use Rattle.adj_names.specs.Statements.{inner, statements};
-ghost use Rattle.adj_facts.specs.Parts.{statements_in};
+ghost use Rattle.def_names.specs.Statements.{inner, statements};
+ghost use Rattle.def_names.specs.StatementsIn.{statements_in};
 ghost use Rattle.adj_symbols.specs.Numbers.{widest};
 
 use adj_tree::{Act, NameList, Stmts, Unit};

@@ -2,11 +2,11 @@
 
 ghost use Rattle.std.specs.Prelude.{◌≡◌, ◌++◌, ◌+◌, ◌<◌, ◌^◌, ℕ, true, Option, length, map, flat_map, is_some, IfOk, OnOk};
 ghost use Rattle.adj_tree.specs.View.{act_of, procedure_of};
-ghost use Rattle.adj_names.specs.Calls.{call_in, calls, calls_from, calls_lead};
-ghost use Rattle.adj_names.specs.ChainFaults.{cycles};
-ghost use Rattle.adj_names.specs.Fault.{fault, faults_if, first_of, sooner};
+ghost use Rattle.def_names.specs.Calls.{call_in, calls, calls_from, calls_lead};
+ghost use Rattle.def_names.specs.ChainFaults.{cycles};
+ghost use Rattle.def_names.specs.Fault.{fault, faults_if, first_of, sooner};
 ghost use Rattle.adj_symbols.specs.Graph.{edge_of, edges_from, call_edges};
-ghost use Rattle.adj_writes.specs.Graph.{number_from};
+ghost use Rattle.adj_symbols_writes.specs.Graph.{number_from};
 
 use crate::first::First;
 use crate::graph::Graph;

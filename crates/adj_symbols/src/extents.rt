@@ -3,8 +3,8 @@
 ghost use Rattle.std.specs.Prelude.{◌≡◌, ◌++◌, ◌*ℤ◌, ◌<◌, ◌≤◌, ◌*◌, ◌||◌, ◌&&◌, ◌==◌, MatchOption, Bool, false, not, ℕ, ℤ, pos, int_lt, List, map, flat_map, length, IfOk, OnOk};
 ghost use Rattle.std.specs.List.{list_any};
 ghost use Rattle.adj_tree.specs.View.{extent_of, declaration_of, procedure_of};
-ghost use Rattle.adj_names.specs.NameFaults.{extent_names, extent_places, is_bad_extent, literal_product, has_bad_extents};
-ghost use Rattle.adj_names.specs.Fault.{fault, faults_if, first_of, sooner};
+ghost use Rattle.def_names.specs.NameFaults.{extent_names, extent_places, is_bad_extent, literal_product, has_bad_extents};
+ghost use Rattle.def_names.specs.Fault.{fault, faults_if, first_of, sooner};
 ghost use Rattle.adj_symbols.specs.View.{places_of, literal_of};
 
 use crate::first::First;

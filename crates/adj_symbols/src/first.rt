@@ -3,7 +3,7 @@
 ghost use Rattle.std.specs.Prelude.{◌≡◌, Option, Some, None};
 ghost use Rattle.adj_tree.specs.Codes.{code_number};
 ghost use Rattle.adj_tree.specs.declared.fault.Refusal.{Refusal};
-ghost use Rattle.adj_names.specs.Fault.{is_before, fault, passed, faults_if, first_of, sooner};
+ghost use Rattle.def_names.specs.Fault.{is_before, fault, passed, faults_if, first_of, sooner};
 ghost use Rattle.adj_symbols.specs.Scope.{faults_with};
 
 use adj_tree::{Code, Refusal};

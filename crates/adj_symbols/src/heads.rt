@@ -2,10 +2,10 @@
 
 ghost use Rattle.std.specs.Prelude.{◌≡◌, ◌++◌, Some, None, not, map, flat_map, IfOk, IfErr, OnOk};
 ghost use Rattle.adj_tree.specs.View.{procedure_of, procedures_of};
-ghost use Rattle.adj_names.specs.Fault.{fault, faults_if, first_of, sooner};
-ghost use Rattle.adj_names.specs.Fresh.{has_name};
-ghost use Rattle.adj_names.specs.HeadFaults.{listed_faults, first_head_fault, head_of};
-ghost use Rattle.adj_names.specs.Variables.{is_dummy};
+ghost use Rattle.def_names.specs.Fault.{fault, faults_if, first_of, sooner};
+ghost use Rattle.def_meaning.specs.Apart.{has_name};
+ghost use Rattle.def_names.specs.HeadFaults.{listed_faults, first_head_fault, head_of};
+ghost use Rattle.def_names.specs.Variables.{is_dummy};
 ghost use Rattle.adj_symbols.specs.Checked.{IfRefused};
 ghost use Rattle.adj_symbols.specs.View.{places_of};
 

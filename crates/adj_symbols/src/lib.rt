@@ -2,7 +2,7 @@
 //!
 //! `check` gives the program with its variables and with the dummies that its units write, or the first fault of its
 //! units, names, calls, chains and writes; `head` finds the unit to be differentiated. The crate stands on the trees and on
-//! `adj_names`, whose definitions say what is a fault and which comes first; the layers above use that both are exact.
+//! `def_names`, whose definitions say what is a fault and which comes first; the layers above use that both are exact.
 #![tactic(auto)]
 
 mod calls;
@@ -28,7 +28,7 @@ mod unit_names;
 mod write_faults;
 mod written;
 
-pub use adj_writes::written_dummies;
+pub use adj_symbols_writes::written_dummies;
 pub use checked::Checked;
 pub use heads::head;
 pub use passes::check;

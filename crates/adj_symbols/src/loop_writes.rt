@@ -2,9 +2,9 @@
 
 ghost use Rattle.std.specs.Prelude.{◌≡◌, [], map, flat_map, IfOk, OnOk};
 ghost use Rattle.adj_tree.specs.View.{act_of, code_of, procedure_of};
-ghost use Rattle.adj_meaning.specs.LeastSet.{row_of};
-ghost use Rattle.adj_names.specs.Fault.{first_of, sooner};
-ghost use Rattle.adj_names.specs.WriteFaults.{written_variables};
+ghost use Rattle.def_meaning.specs.LeastSet.{row_of};
+ghost use Rattle.def_names.specs.Fault.{first_of, sooner};
+ghost use Rattle.def_names.specs.WriteFaults.{written_variables};
 ghost use Rattle.adj_symbols.specs.Opening.{open_inner, open_faults};
 ghost use Rattle.adj_symbols.specs.Writes.{writes_one};
 

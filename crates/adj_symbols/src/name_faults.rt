@@ -2,13 +2,13 @@
 
 ghost use Rattle.std.specs.Prelude.{◌≡◌, ◌++◌, ◌==◌, ◌||◌, ◌&&◌, not, is_some, ℕ, List, map, flat_map, IfOk, OnOk, if◌then◌else◌};
 ghost use Rattle.adj_tree.specs.View.{terms_of, act_of, declaration_of, procedure_of};
-ghost use Rattle.adj_meaning.specs.Written.{find_unit};
-ghost use Rattle.adj_names.specs.Reserved.{is_reserved};
-ghost use Rattle.adj_names.specs.Standing.{count_of};
-ghost use Rattle.adj_names.specs.Variables.{dummy_places, declared_places, is_integer};
-ghost use Rattle.adj_names.specs.NameFaults.{has_rank, calls_runtime};
-ghost use Rattle.adj_names.specs.Fault.{fault, faults_if, first_of, sooner};
-ghost use Rattle.adj_writes.specs.View.{seen};
+ghost use Rattle.def_meaning.specs.Written.{find_unit};
+ghost use Rattle.def_names.specs.Reserved.{is_reserved};
+ghost use Rattle.def_names.specs.Standing.{count_of};
+ghost use Rattle.def_names.specs.Variables.{dummy_places, declared_places, is_integer};
+ghost use Rattle.def_names.specs.NameFaults.{has_rank, calls_runtime};
+ghost use Rattle.def_names.specs.Fault.{fault, faults_if, first_of, sooner};
+ghost use Rattle.adj_symbols_writes.specs.View.{seen};
 ghost use Rattle.adj_symbols.specs.View.{use_of, uses_of, used_place, place_of, places_of};
 
 use crate::first::First;
@@ -16,8 +16,8 @@ use crate::outline::Outline;
 use crate::places::Placed;
 use crate::scope::Scope;
 use crate::standing::{Stands, Use};
-use adj_names::{is_reserved, is_runtime};
 use adj_tree::{Act, Code, Exprs, Memory, Name, Stmt, Unit};
+use def_names::{is_reserved, is_runtime};
 
 /// Adds the dummies, which stand in the SUBROUTINE.
 pub(crate) fn add_dummies<'a>(unit: &'a Unit, out: &mut Vec<Placed<'a>>) -> Result<(), Memory>

@@ -5,18 +5,18 @@ ghost use Rattle.std.specs.Coded.{codes};
 ghost use Rattle.adj_tree.specs.declared.unit.Unit.{Unit};
 ghost use Rattle.adj_tree.specs.contracts.unit.Unit as unit_row;
 ghost use Rattle.adj_tree.specs.View.{code_of, declaration_of, procedure_of};
-ghost use Rattle.adj_names.specs.Fresh.{has_name};
-ghost use Rattle.adj_names.specs.Statements.{statements};
-ghost use Rattle.adj_names.specs.Variables.{Name, declared_names, is_integer_name, is_integer, rank, is_dummy};
-ghost use Rattle.adj_writes.specs.Table.{value_of};
-ghost use Rattle.adj_writes.specs.View.{seen};
+ghost use Rattle.def_meaning.specs.Apart.{has_name};
+ghost use Rattle.def_names.specs.Statements.{statements};
+ghost use Rattle.def_names.specs.Variables.{Name, declared_names, is_integer_name, is_integer, rank, is_dummy};
+ghost use Rattle.adj_symbols_writes.specs.Table.{value_of};
+ghost use Rattle.adj_symbols_writes.specs.View.{seen};
 ghost use Rattle.adj_symbols.specs.Outline.{declared_rank, AreTables};
 ghost use Rattle.adj_symbols.specs.Table.{once};
 
 use adj_sets::BorrowedNames;
+use adj_symbols_writes::statements::statements;
+use adj_symbols_writes::table::Numbers;
 use adj_tree::{Decl, Memory, Name, Stmt, Unit, boxed};
-use adj_writes::statements::statements;
-use adj_writes::table::Numbers;
 use std::alloc::Global;
 use std::marker::Model;
 

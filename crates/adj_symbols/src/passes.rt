@@ -2,18 +2,18 @@
 
 ghost use Rattle.std.specs.Prelude.{◌≡◌, Some, None, map, IfOk, IfErr};
 ghost use Rattle.adj_tree.specs.View.{procedure_of, procedures_of};
-ghost use Rattle.adj_meaning.specs.LeastSet.{least_rows};
-ghost use Rattle.adj_meaning.specs.Read.{read_rule};
-ghost use Rattle.adj_meaning.specs.Written.{write_rule};
-ghost use Rattle.adj_text.specs.Written.{IsWritten};
-ghost use Rattle.adj_names.specs.CallFaults.{call_faults};
-ghost use Rattle.adj_names.specs.ChainFaults.{chain_faults};
-ghost use Rattle.adj_names.specs.Check.{first_fault, IsSound};
-ghost use Rattle.adj_names.specs.Fault.{first_of};
-ghost use Rattle.adj_names.specs.NameFaults.{name_faults};
-ghost use Rattle.adj_names.specs.UnitFaults.{unit_faults};
-ghost use Rattle.adj_names.specs.Variables.{variables};
-ghost use Rattle.adj_names.specs.WriteFaults.{write_faults};
+ghost use Rattle.def_meaning.specs.LeastSet.{least_rows};
+ghost use Rattle.def_meaning.specs.Read.{read_rule};
+ghost use Rattle.def_meaning.specs.Written.{write_rule};
+ghost use Rattle.def_text.specs.Written.{IsWritten};
+ghost use Rattle.def_names.specs.CallFaults.{call_faults};
+ghost use Rattle.def_names.specs.ChainFaults.{chain_faults};
+ghost use Rattle.def_names.specs.Check.{first_fault, IsSound};
+ghost use Rattle.def_names.specs.Fault.{first_of};
+ghost use Rattle.def_names.specs.NameFaults.{name_faults};
+ghost use Rattle.def_names.specs.UnitFaults.{unit_faults};
+ghost use Rattle.def_names.specs.Variables.{variables};
+ghost use Rattle.def_names.specs.WriteFaults.{write_faults};
 ghost use Rattle.adj_symbols.specs.Checked.{IfRefused};
 ghost use Rattle.adj_symbols.specs.Rules.{rules_of, rules_for};
 
@@ -27,9 +27,9 @@ use crate::scope::Scope;
 use crate::unit_names::add_names;
 use crate::write_faults::add_writes;
 use crate::written::{Written, handed_back};
-use adj_text::Mode;
+use adj_symbols_writes::read_dummies;
 use adj_tree::{Fault, Flags, NameList, Program, Refusal, Unit};
-use adj_writes::read_dummies;
+use def_text::Mode;
 use std::alloc::Global;
 
 /// Stops at a fault, where there is one.

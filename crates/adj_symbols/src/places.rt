@@ -3,19 +3,19 @@
 ghost use Rattle.std.specs.Prelude.{◌≡◌, ◌++◌, ◌∷◌, [], ℕ, List, map, flat_map, fold, not, IfOk, OnOk};
 ghost use Rattle.adj_tree.specs.Codes.{code_number};
 ghost use Rattle.adj_tree.specs.View.{declaration_of, procedure_of};
-ghost use Rattle.adj_names.specs.Statements.{At};
-ghost use Rattle.adj_names.specs.Variables.{Name};
-ghost use Rattle.adj_names.specs.Fault.{fault, faults_if, again, first_of, sooner};
-ghost use Rattle.adj_names.specs.Reserved.{is_reserved};
-ghost use Rattle.adj_names.specs.UnitFaults.{unit_places, reserved_units, repeated_units, unit_faults};
+ghost use Rattle.def_names.specs.Statements.{At};
+ghost use Rattle.def_names.specs.Variables.{Name};
+ghost use Rattle.def_names.specs.Fault.{fault, faults_if, again, first_of, sooner};
+ghost use Rattle.def_names.specs.Reserved.{is_reserved};
+ghost use Rattle.def_names.specs.UnitFaults.{unit_places, reserved_units, repeated_units, unit_faults};
 ghost use Rattle.adj_sets.specs.Sets.{with_name};
 ghost use Rattle.adj_symbols.specs.Table.{once};
 ghost use Rattle.adj_symbols.specs.View.{places_of, names_at};
 
 use crate::first::First;
-use adj_names::is_reserved;
 use adj_sets::BorrowedNames;
 use adj_tree::{Code, Memory, Name, Unit};
+use def_names::is_reserved;
 use std::alloc::Global;
 
 /// A name that stands at a line.

@@ -3,7 +3,7 @@
 ghost use Rattle.std.specs.Prelude.{◌≡◌};
 ghost use Rattle.adj_symbols.specs.Rules.{rules_of, rules_for};
 
-use adj_text::Mode;
+use def_text::Mode;
 
 /// What a text may have: calls of the runtime, so many variables in a unit, so many units in a chain of calls.
 #[derive(Clone, Copy)]

@@ -5,15 +5,15 @@ ghost use Rattle.std.specs.Coded.{codes};
 ghost use Rattle.adj_tree.specs.declared.unit.Unit.{Unit};
 ghost use Rattle.adj_tree.specs.contracts.unit.Unit as unit_row;
 ghost use Rattle.adj_tree.specs.View.{procedure_of};
-ghost use Rattle.adj_meaning.specs.Written.{find_unit};
-ghost use Rattle.adj_names.specs.Variables.{Name};
-ghost use Rattle.adj_writes.specs.Table.{value_of};
-ghost use Rattle.adj_writes.specs.Graph.{number_from};
+ghost use Rattle.def_meaning.specs.Written.{find_unit};
+ghost use Rattle.def_names.specs.Variables.{Name};
+ghost use Rattle.adj_symbols_writes.specs.Table.{value_of};
+ghost use Rattle.adj_symbols_writes.specs.Graph.{number_from};
 ghost use Rattle.adj_symbols.specs.Scope.{AreNumbers};
 
 use crate::outline::Outline;
+use adj_symbols_writes::table::{Numbers, unit_numbers};
 use adj_tree::{Memory, Name, Unit, boxed};
-use adj_writes::table::{Numbers, unit_numbers};
 use std::alloc::Global;
 use std::marker::Model;
 

@@ -2,10 +2,10 @@
 
 ghost use Rattle.std.specs.Prelude.{◌≡◌, [], ℕ, map, flat_map, IfOk, OnOk};
 ghost use Rattle.adj_tree.specs.View.{term_of, terms_of, act_of, procedure_of};
-ghost use Rattle.adj_meaning.specs.LeastSet.{row_of};
-ghost use Rattle.adj_names.specs.Calls.{call_in};
-ghost use Rattle.adj_names.specs.Fault.{fault, faults_if, first_of, sooner};
-ghost use Rattle.adj_names.specs.WriteFaults.{is_whole_array, have_clash, shared_variables, hands_back_values, written_values};
+ghost use Rattle.def_meaning.specs.LeastSet.{row_of};
+ghost use Rattle.def_names.specs.Calls.{call_in};
+ghost use Rattle.def_names.specs.Fault.{fault, faults_if, first_of, sooner};
+ghost use Rattle.def_names.specs.WriteFaults.{is_whole_array, have_clash, shared_variables, hands_back_values, written_values};
 ghost use Rattle.adj_symbols.specs.Sharing.{Named, and_named, is_met, tests_of, and_actual, meets, some_meets};
 
 use crate::first::First;

@@ -4,10 +4,10 @@ ghost use Rattle.std.specs.Prelude.{◌≡◌, ◌++◌, [], List, ℕ, map, fla
 ghost use Rattle.adj_tree.specs.Code.{plain, none};
 ghost use Rattle.adj_tree.specs.Listed.{statement_of};
 ghost use Rattle.adj_tree.specs.View.{term_of, terms_of, test_of, runtime_of, mark_of, act_of};
-ghost use Rattle.adj_names.specs.Statements.{At};
-ghost use Rattle.adj_names.specs.Standing.{Standing, standing, whole, scalar, in_term, in_terms, in_place, in_test, in_actual, in_actuals, in_runtime, in_mark, in_act};
-ghost use Rattle.adj_names.specs.NameFaults.{runtime_as_call, taken_in, place_as_actual};
-ghost use Rattle.adj_writes.specs.View.{seen};
+ghost use Rattle.def_names.specs.Statements.{At};
+ghost use Rattle.def_names.specs.Standing.{Standing, standing, whole, scalar, in_term, in_terms, in_place, in_test, in_actual, in_actuals, in_runtime, in_mark, in_act};
+ghost use Rattle.def_names.specs.NameFaults.{runtime_as_call, taken_in, place_as_actual};
+ghost use Rattle.adj_symbols_writes.specs.View.{seen};
 ghost use Rattle.adj_symbols.specs.View.{stands_of, uses_of, at_line, taken_at};
 
 use adj_tree::{Act, Cond, Expr, Exprs, Mark, Memory, Name, Place, RunCall, Stmt};

@@ -2,10 +2,10 @@
 
 ghost use Rattle.std.specs.Prelude.{◌≡◌, ◌++◌, [], ◌∷◌, ℕ, List, map, IfOk, OnOk, if◌then◌else◌};
 ghost use Rattle.adj_tree.specs.View.{procedure_of};
-ghost use Rattle.adj_names.specs.Fresh.{has_name};
-ghost use Rattle.adj_names.specs.Variables.{places, first_places, variables};
-ghost use Rattle.adj_names.specs.NameFaults.{undeclared, declared_twice, misused, passed_in, faults_of_names, name_faults};
-ghost use Rattle.adj_names.specs.Fault.{first_of, sooner};
+ghost use Rattle.def_meaning.specs.Apart.{has_name};
+ghost use Rattle.def_names.specs.Variables.{places, first_places, variables};
+ghost use Rattle.def_names.specs.NameFaults.{undeclared, declared_twice, misused, passed_in, faults_of_names, name_faults};
+ghost use Rattle.def_names.specs.Fault.{first_of, sooner};
 ghost use Rattle.adj_symbols.specs.Rules.{rules_of};
 ghost use Rattle.adj_sets.specs.Sets.{with_name};
 ghost use Rattle.adj_symbols.specs.View.{place_of, places_of, names_at};

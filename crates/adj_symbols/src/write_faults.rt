@@ -2,14 +2,14 @@
 
 ghost use Rattle.std.specs.Prelude.{◌≡◌, ◌&&◌, map, flat_map, IfOk, OnOk};
 ghost use Rattle.adj_tree.specs.View.{declaration_of, procedure_of};
-ghost use Rattle.adj_meaning.specs.LeastSet.{row_of, least_rows};
-ghost use Rattle.adj_meaning.specs.Written.{write_rule};
-ghost use Rattle.adj_meaning.specs.Read.{is_extent};
-ghost use Rattle.adj_names.specs.Fault.{fault, faults_if, first_of, sooner};
-ghost use Rattle.adj_names.specs.Fresh.{has_name};
-ghost use Rattle.adj_names.specs.Variables.{Name, is_dummy};
-ghost use Rattle.adj_names.specs.WriteFaults.{written_extents, faults_of_writes, write_faults};
-ghost use Rattle.adj_writes.specs.View.{seen};
+ghost use Rattle.def_meaning.specs.LeastSet.{row_of, least_rows};
+ghost use Rattle.def_meaning.specs.Written.{write_rule};
+ghost use Rattle.def_meaning.specs.Read.{is_extent};
+ghost use Rattle.def_names.specs.Fault.{fault, faults_if, first_of, sooner};
+ghost use Rattle.def_meaning.specs.Apart.{has_name};
+ghost use Rattle.def_names.specs.Variables.{Name, is_dummy};
+ghost use Rattle.def_names.specs.WriteFaults.{written_extents, faults_of_writes, write_faults};
+ghost use Rattle.adj_symbols_writes.specs.View.{seen};
 ghost use Rattle.adj_symbols.specs.Writes.{writes_one};
 
 use crate::extents::add_extent_places;

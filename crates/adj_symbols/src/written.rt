@@ -3,20 +3,20 @@
 ghost use Rattle.std.specs.Prelude.{◌≡◌, ◌++◌, Bool, List, Some, None, map, IfOk, OnOk, MatchOption};
 ghost use Rattle.adj_tree.specs.Code.{plain};
 ghost use Rattle.adj_tree.specs.View.{term_of, act_of, procedure_of};
-ghost use Rattle.adj_meaning.specs.LeastSet.{row_of, least_rows};
-ghost use Rattle.adj_meaning.specs.Written.{write_rule};
-ghost use Rattle.adj_names.specs.Fresh.{has_name};
-ghost use Rattle.adj_names.specs.Variables.{Name};
-ghost use Rattle.adj_names.specs.WriteFaults.{named_by};
-ghost use Rattle.adj_writes.specs.View.{names_seen, vars_seen};
+ghost use Rattle.def_meaning.specs.LeastSet.{row_of, least_rows};
+ghost use Rattle.def_meaning.specs.Written.{write_rule};
+ghost use Rattle.def_meaning.specs.Apart.{has_name};
+ghost use Rattle.def_names.specs.Variables.{Name};
+ghost use Rattle.def_names.specs.WriteFaults.{named_by};
+ghost use Rattle.adj_symbols_writes.specs.View.{names_seen, vars_seen};
 ghost use Rattle.adj_symbols.specs.Writes.{written_in, written_names, writes_one};
 
 use crate::scope::Scope;
 use adj_sets::BorrowedNames;
+use adj_symbols_writes::names::add_changed;
+use adj_symbols_writes::variables::add_handed;
+use adj_symbols_writes::written_dummies;
 use adj_tree::{Act, Expr, Flags, Memory, Name, Unit};
-use adj_writes::names::add_changed;
-use adj_writes::variables::add_handed;
-use adj_writes::written_dummies;
 use std::alloc::Global;
 use std::marker::Model;
 

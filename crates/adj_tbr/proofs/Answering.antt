@@ -3,28 +3,29 @@ use Rattle.std.proofs.Common.{◌≡◌, ℕ, ◌≤◌, List, [], Bool, map, le
 use Rattle.std.specs.Prelude.{◌↔◌, IsTrue, All, Contains, Option}
 use Rattle.std.specs.Option.{option_map}
 use Rattle.adj_tree.specs.Code.{Var}
-use Rattle.adj_meaning.specs.LeastSet.{least_rows}
-use Rattle.adj_meaning.specs.Read.{read_rule}
-use Rattle.adj_meaning.specs.Written.{write_rule}
-use Rattle.adj_transpose.specs.Marks.{Vars, point_before}
-use Rattle.adj_transpose.specs.Facts.{In}
-use Rattle.adj_facts.specs.Reached.{Reached, begins, leads}
-use Rattle.adj_facts.specs.Parts.{Part, parts, find_part}
-use Rattle.adj_facts.specs.Problem.{Problem, TakesPart}
-use Rattle.adj_facts.specs.Activity.{Activity, IsPoint}
-use Rattle.adj_facts.specs.Flow.{Node}
-use Rattle.adj_facts.specs.Held.{HeldLeads, Saves, IsSaved}
-use Rattle.adj_facts.specs.Laws.{IsHeld}
-use Rattle.adj_facts.specs.Live.{Liveness}
-use Rattle.adj_facts.specs.Rules.{Scope, Covers}
-use Rattle.adj_facts.proofs.AsLists.{reached_known}
-use Rattle.adj_facts.proofs.Members.{is_none}
-use Rattle.adj_facts.proofs.HeldListed.{saves_have, saves_only}
-use Rattle.adj_facts.proofs.Numbered.{IsListed}
-use Rattle.adj_facts.proofs.Points.{one_point}
-use Rattle.adj_writes.specs.Table.{value_of}
+use Rattle.def_meaning.specs.LeastSet.{least_rows}
+use Rattle.def_meaning.specs.Read.{read_rule}
+use Rattle.def_meaning.specs.Written.{write_rule}
+use Rattle.def_names.specs.Numbers.{Vars}
+use Rattle.def_names.specs.Numbering.{point_before}
+use Rattle.def_sweep.specs.Facts.{In}
+use Rattle.adj_reach.specs.Reached.{Reached, begins, leads}
+use Rattle.def_flow.specs.Parts.{Part, parts, find_part}
+use Rattle.def_flow.specs.Problem.{Problem, TakesPart}
+use Rattle.def_flow.specs.Activity.{Activity, IsPoint}
+use Rattle.def_flow.specs.Flow.{Node}
+use Rattle.def_flow.specs.Held.{HeldLeads, Saves, IsSaved}
+use Rattle.def_flow.specs.Analysed.{IsHeld}
+use Rattle.def_flow.specs.Live.{Liveness}
+use Rattle.def_flow.specs.Rules.{Scope, Covers}
+use Rattle.def_flow.proofs.AsLists.{reached_known}
+use Rattle.adj_reach.proofs.Members.{is_none}
+use Rattle.def_flow.proofs.HeldListed.{saves_have, saves_only}
+use Rattle.def_flow.proofs.Numbered.{IsListed}
+use Rattle.def_flow.proofs.Points.{one_point}
+use Rattle.adj_symbols_writes.specs.Table.{value_of}
 use Rattle.adj_flow.specs.NodeView.{found_at}
-use Rattle.adj_writes.specs.Graph.{number_from}
+use Rattle.adj_symbols_writes.specs.Graph.{number_from}
 use Rattle.adj_flow.specs.Nodes.{IsWide, HasNode, HasNumber}
 use Rattle.adj_flow.specs.Rows.{Row, row_in, rows}
 use Rattle.adj_flow.specs.Scoped.{scope_by, HoldVariables}
@@ -40,7 +41,7 @@ use Rattle.adj_tbr.specs.View.{find, held_edges}
 use Rattle.adj_tbr.specs.Reads.{read_nodes}
 use Rattle.adj_tbr.specs.Saves.{save_nodes}
 use Rattle.adj_tbr.specs.declared.found.Found.{Found}
-use Rattle.adj_live.specs.declared.sides.Sides.{Sides}
+use Rattle.adj_flow.specs.declared.sides.Sides.{Sides}
 use Rattle.adj_tbr.proofs.Given.{activity_by, liveness_by}
 use Rattle.adj_tbr.proofs.Behind.{held_by, held_exact}
 use Rattle.adj_tbr.proofs.Numbering.{images_made}

@@ -4,18 +4,18 @@ use Rattle.std.specs.Prelude.{◌↔◌, Contains, Option, Some, None, not, ◌&
 use Rattle.std.proofs.lemmas.Bool.{or_cases}
 use borrow.Author.Tests.{eq-eqb, eqb-true}
 use Rattle.adj_tree.specs.Code.{Var}
-use Rattle.adj_meaning.proofs.Booleans.{or_first, or_second}
-use Rattle.adj_transpose.specs.Marks.{Vars}
-use Rattle.adj_transpose.specs.Facts.{In}
-use Rattle.adj_facts.specs.Parts.{Part}
-use Rattle.adj_facts.specs.Ways.{Way}
-use Rattle.adj_facts.specs.Problem.{Problem, ways_of}
-use Rattle.adj_facts.specs.Activity.{Activity}
-use Rattle.adj_facts.specs.Held.{Held, replaced_on}
-use Rattle.adj_facts.specs.Live.{Liveness}
-use Rattle.adj_facts.specs.Rules.{Scope, Covers}
-use Rattle.adj_facts.proofs.Members.{is_first, is_later, is_among, is_none}
-use Rattle.adj_facts.proofs.Sets.{both, and_both, isnt}
+use Rattle.def_meaning.proofs.Booleans.{or_first, or_second}
+use Rattle.def_names.specs.Numbers.{Vars}
+use Rattle.def_sweep.specs.Facts.{In}
+use Rattle.def_flow.specs.Parts.{Part}
+use Rattle.def_flow.specs.Ways.{Way}
+use Rattle.def_flow.specs.Problem.{Problem, ways_of}
+use Rattle.def_flow.specs.Activity.{Activity}
+use Rattle.def_flow.specs.Held.{Held, replaced_on}
+use Rattle.def_flow.specs.Live.{Liveness}
+use Rattle.def_flow.specs.Rules.{Scope, Covers}
+use Rattle.adj_reach.proofs.Members.{is_first, is_later, is_among, is_none}
+use Rattle.def_flow.proofs.Sets.{both, and_both, isnt}
 use Rattle.adj_flow.specs.Told.{unit_at}
 use Rattle.adj_flow.proofs.Telling.{point_found, point_finds}
 use Rattle.adj_tbr.proofs.Standing.{Stands, held_from, held_way}

@@ -2,13 +2,15 @@
 use Rattle.std.proofs.Common.{◌≡◌, ℕ, List, [], Bool, refl, sym, ap}
 use Rattle.std.specs.Prelude.{◌&&◌, slice_index_or}
 use Rattle.adj_tree.specs.Code.{Var, plain}
-use Rattle.adj_transpose.specs.Marks.{Vars, everything, point_before, active_at}
-use Rattle.adj_facts.specs.Parts.{Part}
-use Rattle.adj_facts.specs.Problem.{Problem, TakesPart}
-use Rattle.adj_facts.specs.Activity.{Activity, IsPoint}
-use Rattle.adj_facts.specs.Held.{marks_of}
-use Rattle.adj_facts.specs.Live.{Liveness}
-use Rattle.adj_facts.specs.Rules.{Scope, Covers}
+use Rattle.def_names.specs.Numbers.{Vars, everything}
+use Rattle.def_names.specs.Numbering.{point_before}
+use Rattle.def_sweep.specs.Marks.{active_at}
+use Rattle.def_flow.specs.Parts.{Part}
+use Rattle.def_flow.specs.Problem.{Problem, TakesPart}
+use Rattle.def_flow.specs.Activity.{Activity, IsPoint}
+use Rattle.def_flow.specs.Held.{marks_of}
+use Rattle.def_flow.specs.Live.{Liveness}
+use Rattle.def_flow.specs.Rules.{Scope, Covers}
 use Rattle.adj_flow.specs.NodeView.{told_at}
 use Rattle.adj_flow.specs.Rows.{row_in}
 use Rattle.adj_flow.specs.Scoped.{scope_by}
@@ -16,7 +18,7 @@ use Rattle.adj_flow.specs.Told.{told_in, told_of}
 use Rattle.adj_flow.proofs.Scoping.{told_there}
 use Rattle.adj_flow.proofs.Telling.{number_found}
 use Rattle.adj_reach.specs.Edges.{flag}
-use Rattle.adj_activity.specs.Told.{activity_told}
+use Rattle.adj_flow.specs.ActivityTold.{activity_told}
 use Rattle.adj_tbr.specs.View.{active_by}
 use Rattle.adj_tbr.specs.declared.found.Found.{Found}
 

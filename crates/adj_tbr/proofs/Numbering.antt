@@ -1,11 +1,11 @@
 -- The number of a variable at a place of its unit, where it has one, is its only image.
 use Rattle.std.proofs.Common.{◌≡◌, ℕ, List, [], ◌∷◌, refl, sym, ap, ◌∙◌, subst}
 use Rattle.std.specs.Prelude.{Contains, Option, Some, None, map}
-use Rattle.adj_facts.specs.Flow.{Node}
-use Rattle.adj_facts.specs.Parts.{Part}
-use Rattle.adj_facts.specs.Problem.{Problem, TakesPart}
-use Rattle.adj_facts.specs.Rules.{Scope, list_of}
-use Rattle.adj_facts.proofs.Members.{is_first, is_none, is_only, map_has, map_only}
+use Rattle.def_flow.specs.Flow.{Node}
+use Rattle.def_flow.specs.Parts.{Part}
+use Rattle.def_flow.specs.Problem.{Problem, TakesPart}
+use Rattle.def_flow.specs.Rules.{Scope, list_of}
+use Rattle.adj_reach.proofs.Members.{is_first, is_none, is_only, map_has, map_only}
 use Rattle.adj_flow.specs.Nodes.{node_in, HasNumber}
 use Rattle.adj_flow.proofs.Images.{Images}
 

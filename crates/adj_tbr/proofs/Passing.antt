@@ -2,8 +2,8 @@
 use Rattle.std.proofs.Common.{◌≡◌, ◌⊎◌, inl, inr, ℕ, suc, ◌+◌, List, [], ◌∷◌, map, refl, ap, arith}
 use Rattle.std.specs.Prelude.{Contains, Option, Some, None, slice_get}
 use Rattle.adj_tree.specs.Code.{Var, Terms, none, more}
-use Rattle.adj_facts.specs.Problem.{name_of, with_actual, bound}
-use Rattle.adj_facts.proofs.Members.{is_among, is_none}
+use Rattle.def_flow.specs.Problem.{name_of, with_actual, bound}
+use Rattle.adj_reach.proofs.Members.{is_among, is_none}
 use Rattle.adj_tbr.specs.Bound.{Passed, with_place, bound_from}
 
 -- without its place

@@ -5,25 +5,27 @@ use Rattle.std.specs.Option.{option_map}
 use Rattle.std.proofs.lemmas.List.Concat.{flat_map-cons}
 use Rattle.std.proofs.lemmas.List.Folds.{flat_map-map}
 use Rattle.adj_tree.specs.Code.{Var, plain, Terms, Act, assign, choose, loop, during, call, runtime}
-use Rattle.adj_meaning.specs.LeastSet.{least_rows}
-use Rattle.adj_meaning.specs.Read.{read_rule, is_read}
-use Rattle.adj_meaning.specs.Written.{write_rule, is_written}
-use Rattle.adj_meaning.proofs.ReadSets.{read_rises}
-use Rattle.adj_meaning.proofs.WriteSets.{write_rises}
-use Rattle.adj_transpose.specs.Marks.{Vars, point_before}
-use Rattle.adj_facts.specs.Reached.{leads}
-use Rattle.adj_facts.specs.Parts.{Part, parts, find_part}
-use Rattle.adj_facts.specs.Standing.{Standing}
-use Rattle.adj_facts.specs.Problem.{Problem, statements_of, TakesPart}
-use Rattle.adj_facts.specs.Activity.{Activity, IsPoint}
-use Rattle.adj_facts.specs.Live.{Liveness}
-use Rattle.adj_facts.specs.Uses.{site, turned_by, is_turn}
-use Rattle.adj_facts.specs.Rules.{Scope, Covers, with_args, called, at_actuals, reads_by, reads_called, reads_list}
-use Rattle.adj_facts.specs.Variables.{list_if, vars_in_terms, adjoint_reads_in}
-use Rattle.adj_facts.proofs.Numbers.{part_is_there}
-use Rattle.adj_facts.proofs.OwnPoints.{own_before}
-use Rattle.adj_facts.proofs.Points.{one_point}
-use Rattle.adj_facts.proofs.LiveListed.{site_point}
+use Rattle.def_meaning.specs.LeastSet.{least_rows}
+use Rattle.def_meaning.specs.Read.{read_rule, is_read}
+use Rattle.def_meaning.specs.Written.{write_rule, is_written}
+use Rattle.def_meaning.proofs.ReadsMore.{read_rises}
+use Rattle.def_meaning.proofs.WritesMore.{write_rises}
+use Rattle.def_names.specs.Numbers.{Vars}
+use Rattle.def_names.specs.Numbering.{point_before}
+use Rattle.adj_reach.specs.Reached.{leads}
+use Rattle.def_flow.specs.Parts.{Part, parts, find_part}
+use Rattle.def_flow.specs.Standing.{Standing}
+use Rattle.def_flow.specs.Problem.{Problem, statements_of, TakesPart}
+use Rattle.def_flow.specs.Activity.{Activity, IsPoint}
+use Rattle.def_flow.specs.Live.{Liveness}
+use Rattle.def_flow.specs.Uses.{site, turned_by, is_turn}
+use Rattle.def_flow.specs.Rules.{Scope, Covers, with_args, called, at_actuals, reads_by, reads_called, reads_list}
+use Rattle.def_names.specs.VariableLists.{list_if, vars_in_terms}
+use Rattle.def_flow.specs.AdjointReads.{adjoint_reads_in}
+use Rattle.def_flow.proofs.Numbers.{part_is_there}
+use Rattle.def_flow.proofs.OwnPoints.{own_before}
+use Rattle.def_flow.proofs.Points.{one_point}
+use Rattle.def_flow.proofs.LiveListed.{site_point}
 use Rattle.adj_flow.specs.Nodes.{HasNode}
 use Rattle.adj_flow.specs.Rows.{Row, row_in, rows}
 use Rattle.adj_flow.specs.Scoped.{scope_by}
@@ -34,7 +36,7 @@ use Rattle.adj_tbr.specs.Bound.{Passed, bound_from, dummies_at, seen}
 use Rattle.adj_tbr.specs.View.{adjointed_by, kept_by}
 use Rattle.adj_tbr.specs.Reads.{node_before, assigned_reads, is_wanted, found_reads, call_reads, standing_reads, unit_reads, read_nodes}
 use Rattle.adj_tbr.specs.declared.found.Found.{Found}
-use Rattle.adj_live.specs.declared.sides.Sides.{Sides}
+use Rattle.adj_flow.specs.declared.sides.Sides.{Sides}
 use Rattle.adj_tbr.proofs.Given.{activity_by, liveness_by, told_here, active_same}
 use Rattle.adj_tbr.proofs.Numbering.{images_at, number_has, number_only}
 use Rattle.adj_tbr.proofs.Passing.{pair, pairs_bound, bound_place}

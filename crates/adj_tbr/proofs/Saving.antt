@@ -4,24 +4,25 @@ use Rattle.std.specs.Prelude.{Contains, Option, Some, None, ◌||◌, ◌&&◌, 
 use Rattle.std.specs.Option.{option_map}
 use Rattle.std.proofs.lemmas.List.Concat.{flat_map-cons}
 use Rattle.adj_tree.specs.Code.{Var, Terms, Act, assign, choose, loop, during, call, runtime}
-use Rattle.adj_meaning.specs.LeastSet.{least_rows}
-use Rattle.adj_meaning.specs.Written.{write_rule}
-use Rattle.adj_meaning.proofs.WriteSets.{write_rises}
-use Rattle.adj_transpose.specs.Marks.{Vars, point_before}
-use Rattle.adj_facts.specs.Reached.{leads}
-use Rattle.adj_facts.specs.Parts.{Part, parts, find_part}
-use Rattle.adj_facts.specs.Standing.{Standing}
-use Rattle.adj_facts.specs.Problem.{Problem, statements_of, TakesPart}
-use Rattle.adj_facts.specs.Activity.{Activity, IsPoint}
-use Rattle.adj_facts.specs.Live.{Liveness}
-use Rattle.adj_facts.specs.Uses.{site}
-use Rattle.adj_facts.specs.Rules.{Scope, Covers, list_of, with_args, called, may_save_by, may_save_called, may_save_list}
-use Rattle.adj_facts.specs.Variables.{list_if, handed_in, handed_in_actuals}
-use Rattle.adj_facts.proofs.Members.{if_has, if_only}
-use Rattle.adj_facts.proofs.Numbers.{part_is_there}
-use Rattle.adj_facts.proofs.OwnPoints.{own_before}
-use Rattle.adj_facts.proofs.Points.{one_point}
-use Rattle.adj_facts.proofs.LiveListed.{site_point}
+use Rattle.def_meaning.specs.LeastSet.{least_rows}
+use Rattle.def_meaning.specs.Written.{write_rule}
+use Rattle.def_meaning.proofs.WritesMore.{write_rises}
+use Rattle.def_names.specs.Numbers.{Vars}
+use Rattle.def_names.specs.Numbering.{point_before}
+use Rattle.adj_reach.specs.Reached.{leads}
+use Rattle.def_flow.specs.Parts.{Part, parts, find_part}
+use Rattle.def_flow.specs.Standing.{Standing}
+use Rattle.def_flow.specs.Problem.{Problem, statements_of, TakesPart}
+use Rattle.def_flow.specs.Activity.{Activity, IsPoint}
+use Rattle.def_flow.specs.Live.{Liveness}
+use Rattle.def_flow.specs.Uses.{site}
+use Rattle.def_flow.specs.Rules.{Scope, Covers, list_of, with_args, called, may_save_by, may_save_called, may_save_list}
+use Rattle.def_names.specs.VariableLists.{list_if, handed_in, handed_in_actuals}
+use Rattle.def_names.proofs.Conditioned.{if_has, if_only}
+use Rattle.def_flow.proofs.Numbers.{part_is_there}
+use Rattle.def_flow.proofs.OwnPoints.{own_before}
+use Rattle.def_flow.proofs.Points.{one_point}
+use Rattle.def_flow.proofs.LiveListed.{site_point}
 use Rattle.adj_flow.specs.NodeView.{told_at}
 use Rattle.adj_flow.specs.Nodes.{node_in, HasNumber}
 use Rattle.adj_flow.specs.Rows.{Row, row_in, rows}
@@ -34,7 +35,7 @@ use Rattle.adj_tbr.specs.Bound.{dummies_at, seen}
 use Rattle.adj_tbr.specs.View.{adjointed_by, kept_by}
 use Rattle.adj_tbr.specs.Saves.{saved_node, own_saves, found_saves, call_saves, standing_saves, unit_saves, save_nodes}
 use Rattle.adj_tbr.specs.declared.found.Found.{Found}
-use Rattle.adj_live.specs.declared.sides.Sides.{Sides}
+use Rattle.adj_flow.specs.declared.sides.Sides.{Sides}
 use Rattle.adj_tbr.proofs.Given.{activity_by, liveness_by}
 use Rattle.adj_tbr.proofs.Numbering.{images_at, number_has, number_only}
 use Rattle.adj_tbr.proofs.Sets.{named_row}

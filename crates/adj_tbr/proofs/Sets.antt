@@ -2,13 +2,14 @@
 use Rattle.std.proofs.Common.{◌≡◌, ◌⊎◌, inl, inr, ℕ, zero, suc, ◌+◌, List, [], ◌∷◌, Bool, map, sym, ap, ◌∙◌, arith}
 use Rattle.std.specs.Prelude.{Contains, Some, slice_get, slice_index_or}
 use Rattle.adj_tree.specs.Code.{Procedure}
-use Rattle.adj_meaning.specs.LeastSet.{Rule, least_rows, in_least}
-use Rattle.adj_meaning.proofs.LeastSets.{Rises, is_least, least_row}
-use Rattle.adj_transpose.specs.Marks.{behind}
-use Rattle.adj_facts.specs.Parts.{Part, part, parts, parts_from, statements_in, find_part}
-use Rattle.adj_facts.proofs.Members.{is_among, is_none}
+use Rattle.def_meaning.specs.LeastSet.{Rule, least_rows, in_least}
+use Rattle.def_meaning.proofs.LeastSets.{Rises, is_least, least_row}
+use Rattle.def_names.specs.Numbers.{behind}
+use Rattle.def_flow.specs.Parts.{Part, part, parts, parts_from, find_part}
+use Rattle.def_names.specs.StatementsIn.{statements_in}
+use Rattle.adj_reach.proofs.Members.{is_among, is_none}
 use Rattle.adj_reach.specs.Edges.{flag}
-use Rattle.adj_live.proofs.Using.{unit_found}
+use Rattle.adj_flow.proofs.UnitFound.{unit_found}
 
 -- what is made of the units stands at their numbers
 row_there : (f : Procedure → List Bool) (t u i : ℕ) (ps : List Procedure) (g : Part) → Contains (parts_from t u i ps) g → (j : ℕ) × (g.number ≡ u + j) × (slice_index_or (map f ps) j [] ≡ f g.unit)

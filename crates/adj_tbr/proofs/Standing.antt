@@ -2,20 +2,20 @@
 use Rattle.std.proofs.Common.{◌≡◌, ◌⊎◌, inl, inr, ℕ, refl, sym, ap, subst, arith}
 use Rattle.std.specs.Prelude.{◌↔◌, false, Contains, map}
 use Rattle.adj_tree.specs.Code.{Var}
-use Rattle.adj_transpose.specs.Marks.{point_before}
-use Rattle.adj_facts.specs.Reached.{Reached, begins, leads}
-use Rattle.adj_facts.specs.Parts.{Part}
-use Rattle.adj_facts.specs.Ways.{Way}
-use Rattle.adj_facts.specs.Problem.{Problem, ways_of, TakesPart}
-use Rattle.adj_facts.specs.Flow.{Node}
-use Rattle.adj_facts.specs.Activity.{Activity}
-use Rattle.adj_facts.specs.Live.{Liveness}
-use Rattle.adj_facts.specs.Held.{AdjointReads, HeldLeads, Held, replaced_on, read, stays}
-use Rattle.adj_facts.specs.Rules.{Scope, Covers, reads_list, held_steps}
-use Rattle.adj_facts.proofs.Members.{map_has, map_only}
-use Rattle.adj_facts.proofs.AsLists.{AreLists}
-use Rattle.adj_facts.proofs.FlowListed as flowing
-use Rattle.adj_facts.proofs.HeldListed.{reads_have, reads_only, held_lists}
+use Rattle.def_names.specs.Numbering.{point_before}
+use Rattle.adj_reach.specs.Reached.{Reached, begins, leads}
+use Rattle.def_flow.specs.Parts.{Part}
+use Rattle.def_flow.specs.Ways.{Way}
+use Rattle.def_flow.specs.Problem.{Problem, ways_of, TakesPart}
+use Rattle.def_flow.specs.Flow.{Node}
+use Rattle.def_flow.specs.Activity.{Activity}
+use Rattle.def_flow.specs.Live.{Liveness}
+use Rattle.def_flow.specs.Held.{AdjointReads, HeldLeads, Held, replaced_on, read, stays}
+use Rattle.def_flow.specs.Rules.{Scope, Covers, reads_list, held_steps}
+use Rattle.adj_reach.proofs.Members.{map_has, map_only}
+use Rattle.def_flow.proofs.AsLists.{AreLists}
+use Rattle.def_flow.proofs.FlowListed as flowing
+use Rattle.def_flow.proofs.HeldListed.{reads_have, reads_only, held_lists}
 
 -- before a statement
 abbrev pub before : ℕ × Var → Node

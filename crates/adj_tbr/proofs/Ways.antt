@@ -1,16 +1,16 @@
 -- The edges of ways are the steps along which variables are held, by numbers.
 use Rattle.std.proofs.Common.{inl, inr, ℕ, List, [], ◌∷◌, Bool, refl, sym, subst}
 use Rattle.std.specs.Prelude.{Contains, not, flat_map}
-use Rattle.adj_transpose.specs.Marks.{Vars}
-use Rattle.adj_facts.specs.Parts.{Part}
-use Rattle.adj_facts.specs.Ways.{Way}
-use Rattle.adj_facts.specs.Problem.{Problem, ways_of, TakesPart}
-use Rattle.adj_facts.specs.Activity.{IsPoint}
-use Rattle.adj_facts.specs.Flow.{Node}
-use Rattle.adj_facts.specs.Held.{replaced_on}
-use Rattle.adj_facts.specs.Rules.{Scope, Covers, held_stays, held_steps}
-use Rattle.adj_facts.specs.Variables.{list_if}
-use Rattle.adj_facts.proofs.Points.{one_point}
+use Rattle.def_names.specs.Numbers.{Vars}
+use Rattle.def_flow.specs.Parts.{Part}
+use Rattle.def_flow.specs.Ways.{Way}
+use Rattle.def_flow.specs.Problem.{Problem, ways_of, TakesPart}
+use Rattle.def_flow.specs.Activity.{IsPoint}
+use Rattle.def_flow.specs.Flow.{Node}
+use Rattle.def_flow.specs.Held.{replaced_on}
+use Rattle.def_flow.specs.Rules.{Scope, Covers, held_stays, held_steps}
+use Rattle.def_names.specs.VariableLists.{list_if}
+use Rattle.def_flow.proofs.Points.{one_point}
 use Rattle.adj_flow.specs.Nodes.{node_in, linked, IsWide}
 use Rattle.adj_flow.specs.Rows.{row_in, rows}
 use Rattle.adj_flow.specs.Scoped.{scope_by}

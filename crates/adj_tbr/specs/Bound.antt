@@ -2,7 +2,7 @@
 use Rattle.std.specs.Prelude.{ℕ, ◌+◌, List, [], ◌∷◌, map, Bool, Option, Some, None, slice_index_or}
 use Rattle.std.specs.Borrow.{Bor}
 use Rattle.adj_tree.specs.Code.{Var, plain, Terms, none, more}
-use Rattle.adj_facts.specs.Problem.{name_of}
+use Rattle.def_flow.specs.Problem.{name_of}
 use Rattle.adj_flow.specs.Rows.{Row}
 use Rattle.adj_tbr.specs.declared.bound.Bound.{Bound}
 

@@ -1,11 +1,12 @@
 -- The adjoint reads, as the code goes over the units.
 use Rattle.std.specs.Prelude.{ℕ, List, [], ◌++◌, flat_map, Bool, true, Option, Some, None, not, ◌&&◌, ◌||◌}
 use Rattle.adj_tree.specs.Code.{Var, plain, Terms, Act, assign, choose, loop, during, call, runtime}
-use Rattle.adj_transpose.specs.Marks.{point_before}
-use Rattle.adj_facts.specs.Standing.{Place, Standing}
-use Rattle.adj_facts.specs.Uses.{site, turned_by, is_turn}
-use Rattle.adj_facts.specs.Variables.{list_if, vars_in_terms, adjoint_reads_in}
-use Rattle.adj_facts.specs.Rules.{list_of}
+use Rattle.def_names.specs.Numbering.{point_before}
+use Rattle.def_flow.specs.Standing.{Place, Standing}
+use Rattle.def_flow.specs.Uses.{site, turned_by, is_turn}
+use Rattle.def_names.specs.VariableLists.{list_if, vars_in_terms}
+use Rattle.def_flow.specs.AdjointReads.{adjoint_reads_in}
+use Rattle.def_flow.specs.Rules.{list_of}
 use Rattle.adj_flow.specs.Nodes.{node_in}
 use Rattle.adj_flow.specs.NodeView.{vars_of, told_at}
 use Rattle.adj_flow.specs.Rows.{Row}
@@ -13,7 +14,7 @@ use Rattle.adj_reach.specs.Edges.{flag}
 use Rattle.adj_tbr.specs.Bound.{Passed, bound_from, dummies_at}
 use Rattle.adj_tbr.specs.View.{adjointed_by, kept_by, active_by}
 use Rattle.adj_tbr.specs.declared.found.Found.{Found}
-use Rattle.adj_live.specs.declared.sides.Sides.{Sides}
+use Rattle.adj_flow.specs.declared.sides.Sides.{Sides}
 
 -- a variable before a statement
 abbrev pub node_before : ℕ → Row → ℕ → Var → List ℕ

@@ -1,11 +1,11 @@
 -- The values that are saved, as the code goes over the units. A variable of the i-th statement's unit has the number that it has at a point i.
 use Rattle.std.specs.Prelude.{ℕ, List, [], ◌++◌, flat_map, Bool, Option, Some, None, ◌||◌}
 use Rattle.adj_tree.specs.Code.{Var, Terms, Act, assign, choose, loop, during, call, runtime}
-use Rattle.adj_transpose.specs.Marks.{point_before}
-use Rattle.adj_facts.specs.Standing.{Standing}
-use Rattle.adj_facts.specs.Uses.{site}
-use Rattle.adj_facts.specs.Variables.{list_if, handed_in_actuals}
-use Rattle.adj_facts.specs.Rules.{list_of}
+use Rattle.def_names.specs.Numbering.{point_before}
+use Rattle.def_flow.specs.Standing.{Standing}
+use Rattle.def_flow.specs.Uses.{site}
+use Rattle.def_names.specs.VariableLists.{list_if, handed_in_actuals}
+use Rattle.def_flow.specs.Rules.{list_of}
 use Rattle.adj_flow.specs.Nodes.{node_in}
 use Rattle.adj_flow.specs.NodeView.{vars_of, told_at}
 use Rattle.adj_flow.specs.Rows.{Row}
@@ -13,7 +13,7 @@ use Rattle.adj_reach.specs.Edges.{flag}
 use Rattle.adj_tbr.specs.Bound.{dummies_at}
 use Rattle.adj_tbr.specs.View.{adjointed_by, kept_by}
 use Rattle.adj_tbr.specs.declared.found.Found.{Found}
-use Rattle.adj_live.specs.declared.sides.Sides.{Sides}
+use Rattle.adj_flow.specs.declared.sides.Sides.{Sides}
 
 -- a variable that a statement replaces, if it is held before it
 abbrev pub saved_node : List Bool → ℕ → Row → ℕ → Var → List ℕ

@@ -1,14 +1,15 @@
 -- What the code goes over, as clauses see it.
 use Rattle.std.specs.Prelude.{ℕ, ◌*◌, List, flat_map, Bool, Option, not, ◌&&◌}
-use Rattle.adj_transpose.specs.Marks.{Vars, point_before}
-use Rattle.adj_facts.specs.Ways.{Way}
-use Rattle.adj_facts.specs.Held.{replaced_on}
-use Rattle.adj_facts.specs.Variables.{list_if}
+use Rattle.def_names.specs.Numbers.{Vars}
+use Rattle.def_names.specs.Numbering.{point_before}
+use Rattle.def_flow.specs.Ways.{Way}
+use Rattle.def_flow.specs.Held.{replaced_on}
+use Rattle.def_names.specs.VariableLists.{list_if}
 use Rattle.adj_flow.specs.Nodes.{node_in, linked}
 use Rattle.adj_flow.specs.NodeView.{vars_of, told_at, found_at}
 use Rattle.adj_flow.specs.Rows.{Row}
 use Rattle.adj_reach.specs.Edges.{Edges, flag}
-use Rattle.adj_writes.specs.Table.{value_of}
+use Rattle.adj_symbols_writes.specs.Table.{value_of}
 use Rattle.adj_tbr.specs.declared.found.Found.{Found}
 
 -- the unit of a name, by the numbers of names

@@ -2,7 +2,7 @@
 
 ghost use Rattle.std.specs.Prelude.{◌≡◌, ◌++◌, [], IfOk, OnOk, map};
 ghost use Rattle.adj_tree.specs.View.{term_of, terms_of};
-ghost use Rattle.adj_facts.specs.Problem.{name_of};
+ghost use Rattle.def_flow.specs.Problem.{name_of};
 ghost use Rattle.adj_tbr.specs.Bound.{passed_of, with_place, bound_from};
 
 use adj_tree::{Expr, Exprs, Memory, Name};

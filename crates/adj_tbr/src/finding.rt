@@ -1,13 +1,13 @@
 //! What is saved.
 
 ghost use Rattle.std.specs.Prelude.{◌≡◌, ◌↔◌, ℕ, [], IfOk, IsTrue, map};
-ghost use Rattle.adj_meaning.specs.LeastSet.{least_rows};
-ghost use Rattle.adj_meaning.specs.Read.{read_rule};
-ghost use Rattle.adj_meaning.specs.Written.{write_rule};
+ghost use Rattle.def_meaning.specs.LeastSet.{least_rows};
+ghost use Rattle.def_meaning.specs.Read.{read_rule};
+ghost use Rattle.def_meaning.specs.Written.{write_rule};
 ghost use Rattle.adj_flow.specs.Asked.{IsFlow, problem_of, units_of};
 ghost use Rattle.adj_flow.specs.Rows.{row_of};
 ghost use Rattle.adj_reach.specs.Edges.{ReachedFrom, flag};
-ghost use Rattle.adj_activity.specs.Asked.{activity_of};
+ghost use Rattle.adj_flow.specs.Marked.{activity_of};
 ghost use Rattle.adj_tbr.specs.Asked.{TellsSaved};
 ghost use Rattle.adj_tbr.specs.Bound.{seen};
 ghost use Rattle.adj_tbr.specs.Reads.{read_nodes};
@@ -19,9 +19,7 @@ use crate::held::held_edges;
 use crate::reads::read_nodes;
 use crate::saves::save_nodes;
 use crate::setting::Setting;
-use adj_activity::Units;
-use adj_flow::Flow;
-use adj_live::Sides;
+use adj_flow::{Flow, Sides, Units};
 use adj_reach::reached;
 use adj_tree::{Activity, Flags, Head, Kept, Memory, Saved};
 use std::alloc::Global;

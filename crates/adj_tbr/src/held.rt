@@ -2,8 +2,8 @@
 
 ghost use Rattle.std.specs.Prelude.{◌≡◌, ◌++◌, not, IfOk, OnOk, map};
 ghost use Rattle.adj_tree.specs.Code.{plain};
-ghost use Rattle.adj_facts.specs.Held.{replaced_on};
-ghost use Rattle.adj_facts.specs.Variables.{list_if};
+ghost use Rattle.def_flow.specs.Held.{replaced_on};
+ghost use Rattle.def_names.specs.VariableLists.{list_if};
 ghost use Rattle.adj_flow.specs.Rows.{row_of};
 ghost use Rattle.adj_flow.specs.WayView.{deed_of, way_of};
 ghost use Rattle.adj_tbr.specs.View.{kept_by, way_edges, unit_edges, held_edges};

@@ -3,9 +3,10 @@
 ghost use Rattle.std.specs.Prelude.{◌≡◌, ◌++◌, ◌&&◌, ◌||◌, true, Some, IfOk, OnOk, map, flat_map};
 ghost use Rattle.adj_tree.specs.Code.{plain};
 ghost use Rattle.adj_tree.specs.View.{act_of, term_of, terms_of};
-ghost use Rattle.adj_facts.specs.Uses.{site, is_turn};
-ghost use Rattle.adj_facts.specs.Variables.{list_if, adjoint_reads_in};
-ghost use Rattle.adj_writes.specs.View.{vars_seen};
+ghost use Rattle.def_flow.specs.Uses.{site, is_turn};
+ghost use Rattle.def_names.specs.VariableLists.{list_if};
+ghost use Rattle.def_flow.specs.AdjointReads.{adjoint_reads_in};
+ghost use Rattle.adj_symbols_writes.specs.View.{vars_seen};
 ghost use Rattle.adj_flow.specs.Active.{active_by};
 ghost use Rattle.adj_flow.specs.NodeView.{told_at};
 ghost use Rattle.adj_flow.specs.Rows.{row_of};
@@ -19,8 +20,9 @@ use crate::bound::{Bound, bounds};
 use crate::found::Found;
 use crate::setting::Setting;
 use adj_flow::variables::add_terms_if;
-use adj_flow::{End, Flow, Occurrences, Part, Place, Point, Standing, add_node, number, told};
-use adj_live::dummies_of;
+use adj_flow::{
+    End, Flow, Occurrences, Part, Place, Point, Standing, add_node, dummies_of, number, told,
+};
 use adj_reach::flag_at;
 use adj_tree::{Act, Expr, Exprs, Memory, Name};
 use std::alloc::Global;

@@ -3,19 +3,18 @@
 ghost use Rattle.std.specs.Prelude.{◌≡◌, ◌++◌, ◌||◌, IfOk, OnOk, Some, map, flat_map};
 ghost use Rattle.adj_tree.specs.Code.{plain};
 ghost use Rattle.adj_tree.specs.View.{act_of, terms_of};
-ghost use Rattle.adj_facts.specs.Variables.{list_if};
-ghost use Rattle.adj_writes.specs.View.{vars_seen};
+ghost use Rattle.def_names.specs.VariableLists.{list_if};
+ghost use Rattle.adj_symbols_writes.specs.View.{vars_seen};
 ghost use Rattle.adj_flow.specs.Rows.{row_of};
 ghost use Rattle.adj_flow.specs.View.{standing_of};
 ghost use Rattle.adj_tbr.specs.View.{find, kept_by};
 ghost use Rattle.adj_tbr.specs.Saves.{saved_node, own_saves, found_saves, call_saves, standing_saves, unit_saves, save_nodes};
 
 use crate::setting::Setting;
-use adj_flow::{End, Flow, Part, Point, Standing, add_node, number, told};
-use adj_live::dummies_of;
+use adj_flow::{End, Flow, Part, Point, Standing, add_node, dummies_of, number, told};
 use adj_reach::flag_at;
+use adj_symbols_writes::variables::add_handed;
 use adj_tree::{Act, Exprs, Memory, Name};
-use adj_writes::variables::add_handed;
 use std::alloc::Global;
 
 // Adds a variable that the statement of a number replaces, if it is held before it.

@@ -1,8 +1,7 @@
 //! What the code goes by at every statement.
 
 use crate::found::Found;
-use adj_activity::Units;
-use adj_live::Sides;
+use adj_flow::{Sides, Units};
 
 /// How many variables a unit has at most; what is found before; which of their dummies units read and write; and the units by name.
 #[derive(Clone, Copy)]

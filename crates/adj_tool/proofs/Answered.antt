@@ -4,12 +4,12 @@ use Rattle.std.proofs.lemmas.Bool.{le-ltb}
 use Rattle.std.specs.Prelude.{IfOk}
 use Rattle.adj_tree.specs.Code.{Procedure}
 use Rattle.adj_tree.specs.declared.fault.Refusal.{Refusal}
-use Rattle.adj_text.specs.declared.mode.Mode.TheVariants.{Source}
-use Rattle.adj_answer.specs.Programs.{IsProgram}
-use Rattle.adj_answer.specs.Views.{answer_of}
-use Rattle.adj_answer.specs.declared.answer.Answer.{Answer}
+use Rattle.def_text.specs.declared.mode.Mode.TheVariants.{Source}
+use Rattle.adj_tool_answer.specs.Programs.{IsProgram}
+use Rattle.adj_tool_answer.specs.Views.{answer_of}
+use Rattle.adj_tool_answer.specs.declared.answer.Answer.{Answer}
 use Rattle.adj_tool.specs.Answer.{most_bytes, AnswersText, AnswersSized, AnswersWanted}
-use Rattle.adj_running.specs.Running.{Asked}
+use Rattle.adj_tool_answer.specs.Endings.{Asked}
 use Rattle.adj_tool.specs.Check.{AnswersTextCheck, AnswersSizedCheck, AnswersCheck}
 use Rattle.adj_tool.specs.Arguments.{Request}
 use Rattle.adj_tool.specs.declared.task.Wanted.{Wanted}

@@ -6,48 +6,48 @@ use Rattle.std.proofs.lemmas.List.{length-map}
 use Rattle.adj_tree.specs.Code.{Procedure}
 use Rattle.adj_tree.specs.Lines.{unlined}
 use Rattle.adj_tree.specs.declared.marks.Head.{Head}
-use Rattle.adj_text.specs.Reads.{Reads}
-use Rattle.adj_text.specs.Text.{text_of}
-use Rattle.adj_text.specs.Written.{IsWritten}
-use Rattle.adj_text.specs.declared.mode.Mode.TheVariants.{Source, Run}
-use Rattle.adj_meaning.specs.Written.{find_unit}
-use Rattle.adj_names.specs.Fresh.{has_name}
-use Rattle.adj_names.specs.Check.{IsSound}
-use Rattle.adj_names.specs.Fault.{run_rules}
-use Rattle.adj_names.specs.HeadFaults.{first_head_fault, flags_found, unit_number, head_of}
-use Rattle.adj_names.specs.Variables.{variables}
-use Rattle.adj_transpose.specs.MarkedAdjoint.{shadow_flags}
-use Rattle.adj_reverse.specs.Marking.{ProgramMarks}
-use Rattle.adj_emitted.specs.Shadowed.{AllHaveShadows}
-use Rattle.adj_kernel.specs.Kernel.{EachUnit}
-use Rattle.adj_kernel.specs.Weights.{WeighsAtMost}
-use Rattle.adj_kernel.specs.Stepped.{kernel_of}
-use Rattle.adj_kernel.specs.Sound.{IsAccepted}
-use Rattle.adj_accepted.specs.Accepted.{IsAdjointOfWith}
-use Rattle.adj_accepted.proofs.Kernels.{kernel_checked, found_name, becomes}
-use Rattle.adj_shape.proofs.Accepted.{accepted_has_shape}
-use Rattle.adj_weave.proofs.Lending.{exact_shadows}
-use Rattle.adj_readable.specs.Reading.{OrTooMany}
-use Rattle.adj_limits.specs.Limits.{EmittedIsRunnableWith}
-use Rattle.adj_planned.specs.Planned.{kernel_problem, lines_by, reversed_for, marks_by}
-use Rattle.adj_planned.proofs.Planned as planned
-use Rattle.adj_cost.specs.Calls.{CallsWithin}
-use Rattle.adj_spent.specs.KernelSpent.{KernelSpendsAtMost}
-use Rattle.adj_spent.proofs.KernelSpending.{round_bound_is_kept}
-use Rattle.adj_planned.proofs.OwnNames.{own_names}
-use Rattle.adj_analysed.specs.MarkedLines.{program_lines, AreLinesApart}
-use Rattle.adj_answer.specs.Answer.{Answer}
-use Rattle.adj_answer.specs.Laws.{ProgramTold}
+use Rattle.def_text.specs.Reads.{Reads}
+use Rattle.def_text.specs.Text.{text_of}
+use Rattle.def_text.specs.Written.{IsWritten}
+use Rattle.def_text.specs.declared.mode.Mode.TheVariants.{Source, Run}
+use Rattle.def_meaning.specs.Written.{find_unit}
+use Rattle.def_meaning.specs.Apart.{has_name}
+use Rattle.def_names.specs.Check.{IsSound}
+use Rattle.def_names.specs.Fault.{run_rules}
+use Rattle.def_names.specs.HeadFaults.{first_head_fault, flags_found, unit_number, head_of}
+use Rattle.def_names.specs.Variables.{variables}
+use Rattle.def_sweep.specs.MarkedAdjoint.{shadow_flags}
+use Rattle.def_sweep.specs.Marking.{ProgramMarks}
+use Rattle.law_emitted.specs.Shadowed.{AllHaveShadows}
+use Rattle.def_kernel.specs.Kernel.{EachUnit}
+use Rattle.def_kernel.specs.Weights.{WeighsAtMost}
+use Rattle.def_kernel.specs.Stepped.{kernel_of}
+use Rattle.law_kernel.specs.Sound.{IsAccepted}
+use Rattle.def_adjoint.specs.Adjoint.{IsAdjointOfWith}
+use Rattle.law_emitted.proofs.Kernels.{kernel_checked, found_name, becomes}
+use Rattle.law_shape.proofs.Accepted.{accepted_has_shape}
+use Rattle.law_analysed.proofs.Lending.{exact_shadows}
+use Rattle.def_text.specs.OrTooMany.{OrTooMany}
+use Rattle.law_limits.specs.Limits.{EmittedIsRunnableWith}
+use Rattle.def_planned.specs.Planned.{kernel_problem, lines_by, reversed_for, marks_by}
+use Rattle.law_planned.proofs.Planned as planned
+use Rattle.def_adjoint.specs.Calls.{CallsWithin}
+use Rattle.def_adjoint.specs.KernelSpends.{KernelSpendsAtMost}
+use Rattle.law_cost.proofs.KernelSpending.{round_bound_is_kept}
+use Rattle.law_planned.proofs.OwnNames.{own_names}
+use Rattle.law_analysed.specs.MarkedLines.{program_lines, AreLinesApart}
+use Rattle.adj_tool_answer.specs.Answer.{Answer}
+use Rattle.adj_tool_answer.specs.Laws.{ProgramTold}
 use Rattle.adj_parse.specs.Trees.{program_of}
 use Rattle.adj_data.specs.Fitting.{IsSized}
-use Rattle.adj_running.specs.Running.{Asked}
-use Rattle.adj_running.proofs.Heads.{numbered}
-use Rattle.adj_running.proofs.Sized.{sized}
-use Rattle.adj_checking.specs.Checking.{Sides, check_answer}
-use Rattle.adj_checking.specs.Emitted as checking
-use Rattle.adj_checking.specs.Emitted.{IsRunnable, read_back}
-use Rattle.adj_checking.specs.Agreeing.{AreAdjoint, Agrees, CheckAgrees, CheckTraps}
-use Rattle.adj_checking.proofs.Readings.{alike_read}
+use Rattle.adj_tool_answer.specs.Endings.{Asked}
+use Rattle.adj_tool_answer.proofs.Heads.{numbered}
+use Rattle.adj_tool_answer.proofs.Sized.{sized}
+use Rattle.adj_tool_check.specs.Checking.{Sides, check_answer}
+use Rattle.adj_tool_check.specs.Emitted as checking
+use Rattle.adj_tool_check.specs.Emitted.{IsRunnable, read_back}
+use Rattle.adj_tool_check.specs.Agreeing.{AreAdjoint, Agrees, CheckAgrees, CheckTraps}
+use Rattle.adj_tool_check.proofs.Readings.{alike_read}
 use Rattle.adj_tool.specs.Check.{AreSides, IsReadBack, RunsAdjoint, IsChecked, IsCompared}
 use Rattle.adj_tool.specs.Fitting.{most_numbered, kernel_fits}
 use Rattle.adj_tool.specs.Headline.{IsUnit, flags_of}

@@ -4,18 +4,18 @@ use Rattle.std.specs.List.{slice_get}
 use Rattle.adj_tree.specs.Code.{Procedure}
 use Rattle.adj_tree.specs.declared.marks.Head.{Head}
 use Rattle.adj_tree.specs.declared.marks.Marks as flags
-use Rattle.adj_names.specs.Fault.{Rules}
-use Rattle.adj_transpose.specs.MarkedAdjoint.{shadow_flags}
-use Rattle.adj_reverse.specs.Names.{adjoint_name}
-use Rattle.adj_reverse.specs.Program.{emitted_program_with}
-use Rattle.adj_checked.specs.Checked.{IsChecked}
-use Rattle.adj_emitted.specs.Shadowed.{AllHaveShadows}
+use Rattle.def_names.specs.Fault.{Rules}
+use Rattle.def_sweep.specs.MarkedAdjoint.{shadow_flags}
+use Rattle.def_sweep.specs.Names.{adjoint_name}
+use Rattle.def_sweep.specs.Program.{emitted_program_with}
+use Rattle.law_emitted.specs.Checked.{IsChecked}
+use Rattle.law_emitted.specs.Shadowed.{AllHaveShadows}
 use Rattle.adj_flow.specs.Asked.{problem_of, units_of}
 use Rattle.adj_flow.specs.declared.units.Flow.{Flow}
-use Rattle.adj_activity.specs.Asked.{activity_of, liveness_of, saved_of}
+use Rattle.adj_flow.specs.Marked.{activity_of, liveness_of, saved_of}
 use Rattle.adj_plan.specs.Asked.{IsPlan}
 use Rattle.adj_weave.specs.Marked.{marks_told}
-use Rattle.adj_weave.proofs.Lending.{exact_shadows}
+use Rattle.law_analysed.proofs.Lending.{exact_shadows}
 use Rattle.adj_tool.specs.Planned.{IsEmittedFor, IsKnownFor}
 
 module _ (us : List Procedure) (f : Flow) (h : Head) (t : flags.Marks) (same : units_of f ≡ us) (x : IsPlan f (problem_of f h) t) where

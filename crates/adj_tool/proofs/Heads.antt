@@ -8,51 +8,51 @@ use Rattle.adj_tree.specs.Code.{Procedure}
 use Rattle.adj_tree.specs.View.{procedure_of, procedures_of}
 use Rattle.adj_tree.specs.declared.unit.Program.{Program}
 use Rattle.adj_tree.specs.declared.marks.Head.{Head}
-use Rattle.adj_meaning.specs.Written.{find_unit}
-use Rattle.adj_text.specs.Reads.{Reads}
-use Rattle.adj_text.specs.ReadsAs.{ReadsAs}
-use Rattle.adj_text.specs.Written as texts
-use Rattle.adj_text.specs.Text.{text_of}
-use Rattle.adj_text.specs.declared.mode.Mode.TheVariants.{Source, Run}
+use Rattle.def_meaning.specs.Written.{find_unit}
+use Rattle.def_text.specs.Reads.{Reads}
+use Rattle.def_text.specs.ReadsAs.{ReadsAs}
+use Rattle.def_text.specs.Written as texts
+use Rattle.def_text.specs.Text.{text_of}
+use Rattle.def_text.specs.declared.mode.Mode.TheVariants.{Source, Run}
 use Rattle.adj_tree.specs.declared.fault.Refusal.{Refusal}
 use Rattle.adj_tree.specs.Lines.{unlined}
-use Rattle.adj_text.proofs.TextUnlined.{one_text}
-use Rattle.adj_names.specs.Fault.{run_rules, first_of}
-use Rattle.adj_names.specs.HeadFaults.{first_head_fault, faults_of_head, flags_found, unit_number, head_of}
-use Rattle.adj_reverse.specs.Marking.{ProgramMarks, SplitsNothing}
-use Rattle.adj_names.specs.Variables.{variables}
+use Rattle.law_text.proofs.TextUnlined.{one_text}
+use Rattle.def_names.specs.Fault.{run_rules, first_of}
+use Rattle.def_names.specs.HeadFaults.{first_head_fault, faults_of_head, flags_found, unit_number, head_of}
+use Rattle.def_sweep.specs.Marking.{ProgramMarks, SplitsNothing}
+use Rattle.def_names.specs.Variables.{variables}
 use Rattle.adj_symbols.specs.Numbers.{Fits, widest}
 use Rattle.adj_symbols.specs.Checked.{Known, AreFacts}
-use Rattle.adj_transpose.proofs.Variables.{and_true}
-use Rattle.adj_facts.specs.Parts.{statements_in}
-use Rattle.adj_analysed.specs.MarkedLines.{program_lines, AreLinesApart}
-use Rattle.adj_planned.proofs.ReadLines.{read_apart}
-use Rattle.adj_emitted.specs.Shadowed.{AllHaveShadows}
-use Rattle.adj_kernel.specs.Kernel.{EachUnit}
-use Rattle.adj_kernel.specs.Weights.{WeighsAtMost}
-use Rattle.adj_kernel.specs.Stepped.{kernel_of}
-use Rattle.adj_kernel.specs.Sound.{IsAccepted}
-use Rattle.adj_accepted.specs.Accepted.{IsAdjointOfWith}
-use Rattle.adj_accepted.proofs.Kernels.{kernel_checked, head_within}
-use Rattle.adj_weave.proofs.Lending.{exact_shadows}
-use Rattle.adj_readable.specs.Reading.{OrTooMany}
-use Rattle.adj_limits.specs.Limits.{EmittedIsRunnableWith}
-use Rattle.adj_planned.specs.Planned.{kernel_problem, lines_by, reversed_for, marks_by}
-use Rattle.adj_planned.proofs.Planned as planned
-use Rattle.adj_cost.specs.Calls.{CallsWithin}
-use Rattle.adj_spent.specs.KernelSpent.{KernelSpendsAtMost}
-use Rattle.adj_spent.proofs.KernelSpending.{round_bound_is_kept}
-use Rattle.adj_planned.proofs.OwnNames.{own_names}
-use Rattle.adj_shape.specs.Accepted.{HasKernelShape}
-use Rattle.adj_spent.specs.Spent.{SpendsAtMost}
-use Rattle.adj_shape.proofs.Accepted.{accepted_has_shape}
+use Rattle.def_names.proofs.Variables.{and_true}
+use Rattle.def_names.specs.StatementsIn.{statements_in}
+use Rattle.law_analysed.specs.MarkedLines.{program_lines, AreLinesApart}
+use Rattle.law_planned.proofs.ReadLines.{read_apart}
+use Rattle.law_emitted.specs.Shadowed.{AllHaveShadows}
+use Rattle.def_kernel.specs.Kernel.{EachUnit}
+use Rattle.def_kernel.specs.Weights.{WeighsAtMost}
+use Rattle.def_kernel.specs.Stepped.{kernel_of}
+use Rattle.law_kernel.specs.Sound.{IsAccepted}
+use Rattle.def_adjoint.specs.Adjoint.{IsAdjointOfWith}
+use Rattle.law_emitted.proofs.Kernels.{kernel_checked, head_within}
+use Rattle.law_analysed.proofs.Lending.{exact_shadows}
+use Rattle.def_text.specs.OrTooMany.{OrTooMany}
+use Rattle.law_limits.specs.Limits.{EmittedIsRunnableWith}
+use Rattle.def_planned.specs.Planned.{kernel_problem, lines_by, reversed_for, marks_by}
+use Rattle.law_planned.proofs.Planned as planned
+use Rattle.def_adjoint.specs.Calls.{CallsWithin}
+use Rattle.def_adjoint.specs.KernelSpends.{KernelSpendsAtMost}
+use Rattle.law_cost.proofs.KernelSpending.{round_bound_is_kept}
+use Rattle.law_planned.proofs.OwnNames.{own_names}
+use Rattle.def_adjoint.specs.KernelShape.{HasKernelShape}
+use Rattle.def_adjoint.specs.Spends.{SpendsAtMost}
+use Rattle.law_shape.proofs.Accepted.{accepted_has_shape}
 use Rattle.adj_tool.specs.Planned.{IsEmittedFor, AreExact, IsAdjointText, IsTextFor}
 use Rattle.adj_tool.specs.declared.task.Wanted.{Wanted}
 use Rattle.adj_tool.specs.declared.task.Wanted.TheVariants as wanted
 use Rattle.adj_weave.specs.Shared.{IsCheckedBySome}
 use Rattle.adj_tool.specs.Arguments.{Request}
-use Rattle.adj_answer.specs.Answer.{Answer}
-use Rattle.adj_answer.specs.Laws.{ProgramTold}
+use Rattle.adj_tool_answer.specs.Answer.{Answer}
+use Rattle.adj_tool_answer.specs.Laws.{ProgramTold}
 use Rattle.adj_parse.specs.Trees.{program_of}
 use Rattle.adj_tool.specs.Fitting.{most_numbered, is_numbered, kernel_fits}
 use Rattle.adj_tool.specs.Answer.{most_bytes, IsWritten, IsGiven}

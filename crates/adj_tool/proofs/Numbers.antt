@@ -7,7 +7,7 @@ use Rattle.adj_tree.specs.Code.{name_eq}
 use Rattle.adj_tree.specs.View.{procedure_of}
 use Rattle.adj_tree.specs.declared.unit.Unit.{Unit as Units}
 use Rattle.adj_tree.proofs.Names.{name_refl, name_same}
-use Rattle.adj_names.specs.HeadFaults.{unit_number}
+use Rattle.def_names.specs.HeadFaults.{unit_number}
 
 module _ (us : List Units) (name : List ℕ) where
   abbrev number_from : ℕ → ℕ

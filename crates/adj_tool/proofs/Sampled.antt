@@ -3,8 +3,8 @@ use Rattle.std.proofs.Common.{◌≡◌, ℕ, List, Bool, true, false, refl, ap,
 use Rattle.std.proofs.lemmas.Bool.{eqb-true}
 use Rattle.std.specs.Prelude.{◌==◌}
 use Rattle.adj_data.specs.Sample.{sample_bytes}
-use Rattle.adj_answer.specs.Answer.{Answer}
-use Rattle.adj_running.specs.Running.{Asked}
+use Rattle.adj_tool_answer.specs.Answer.{Answer}
+use Rattle.adj_tool_answer.specs.Endings.{Asked}
 use Rattle.adj_tool.specs.Check.{AnswersCheck, ChecksAdjoint}
 use Rattle.adj_tool.specs.Sample.{AnswersSample, SamplesAdjoint, sample_asked, sample_vars, sample_outvars, summary, summary_if}
 

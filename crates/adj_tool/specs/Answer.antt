@@ -3,18 +3,18 @@ use Rattle.std.specs.Prelude.{◌≡◌, ℕ, nat_lt, Bool, true, false, List, �
 use Rattle.adj_tree.specs.Code.{Procedure}
 use Rattle.adj_tree.specs.declared.fault.Refusal.{Refusal}
 use Rattle.adj_tree.specs.declared.marks.Head.{Head}
-use Rattle.adj_names.specs.Fault.{source_rules}
-use Rattle.adj_names.specs.Check.{first_fault}
-use Rattle.adj_names.specs.HeadFaults.{first_head_fault, head_of}
-use Rattle.adj_text.specs.Text.{text_of}
-use Rattle.adj_text.specs.declared.mode.Mode.TheVariants.{Source}
-use Rattle.adj_answer.specs.Answer.{Answer, line_of_one, refused, too_long}
-use Rattle.adj_answer.specs.Programs.{TextIs}
-use Rattle.adj_kernel.specs.Stepped.{kernel_of}
-use Rattle.adj_reverse.specs.Marking.{ProgramMarks}
+use Rattle.def_names.specs.Fault.{source_rules}
+use Rattle.def_names.specs.Check.{first_fault}
+use Rattle.def_names.specs.HeadFaults.{first_head_fault, head_of}
+use Rattle.def_text.specs.Text.{text_of}
+use Rattle.def_text.specs.declared.mode.Mode.TheVariants.{Source}
+use Rattle.adj_tool_answer.specs.Answer.{Answer, line_of_one, refused, too_long}
+use Rattle.adj_tool_answer.specs.Programs.{TextIs}
+use Rattle.def_kernel.specs.Stepped.{kernel_of}
+use Rattle.def_sweep.specs.Marking.{ProgramMarks}
 use Rattle.adj_plan.specs.Lines.{plan_lines, TellsPlan}
 use Rattle.adj_plan.specs.declared.lines.Said.{Said}
-use Rattle.adj_planned.specs.Planned.{kernel_problem, reversed_for}
+use Rattle.def_planned.specs.Planned.{kernel_problem, reversed_for}
 use Rattle.adj_revolve.specs.declared.machine.Action.{Action}
 use Rattle.adj_revolve.specs.declared.machine.Action.TheVariants.{Store, Advance, Turn, Keep, Drop}
 use Rattle.adj_revolve.specs.Schedule.{schedule_of}

@@ -6,10 +6,10 @@ use Rattle.clap.specs.Kinds.{Kinds}
 use Rattle.clap.specs.Walk.{Row, Rule, Text, all_of, first_of}
 use Rattle.clap.specs.Simple.{App, matches_of, new_app, new_rule, on_top, with_rule}
 use Rattle.clap.specs.Faults.{fault_of}
-use Rattle.adj_text.specs.Char.{upper, number_of}
+use Rattle.def_text.specs.Char.{upper, number_of}
 use Rattle.adj_data.specs.Items.{is_name, are_digits}
-use Rattle.adj_meaning.specs.Trap.{number_in}
-use Rattle.adj_running.specs.Running.{Asked}
+use Rattle.def_meaning.specs.Trap.{number_in}
+use Rattle.adj_tool_answer.specs.Endings.{Asked}
 
 -- ---- the command line
 

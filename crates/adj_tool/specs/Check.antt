@@ -3,32 +3,32 @@ use Rattle.std.specs.Prelude.{◌≡◌, ℕ, nat_lt, Bool, true, false, List, l
 use Rattle.adj_tree.specs.Code.{Procedure}
 use Rattle.adj_tree.specs.declared.fault.Refusal.{Refusal}
 use Rattle.adj_tree.specs.declared.marks.Head.{Head}
-use Rattle.adj_text.specs.Reads.{Reads}
-use Rattle.adj_text.specs.Text.{text_of}
-use Rattle.adj_text.specs.declared.mode.Mode.TheVariants.{Source, Run}
-use Rattle.adj_meaning.specs.Written.{find_unit}
-use Rattle.adj_names.specs.Fault.{source_rules}
-use Rattle.adj_names.specs.Check.{first_fault}
-use Rattle.adj_names.specs.HeadFaults.{first_head_fault, head_of}
-use Rattle.adj_transpose.specs.MarkedAdjoint.{shadow_flags}
-use Rattle.adj_reverse.specs.Marking.{ProgramMarks}
-use Rattle.adj_reverse.specs.Names.{adjoint_name}
-use Rattle.adj_kernel.specs.Kernel.{EachUnit}
-use Rattle.adj_kernel.specs.Stepped.{kernel_of}
-use Rattle.adj_kernel.specs.Weights.{WeighsAtMost}
-use Rattle.adj_cost.specs.RunTheorem.{CallsAtMost}
-use Rattle.adj_cost.specs.Calls.{CallsWithin}
-use Rattle.adj_spent.specs.Spent.{SpendsAtMost}
-use Rattle.adj_spent.specs.KernelSpent.{HaveVariables, KernelSpendsAtMost, KernelSpendsWithin}
-use Rattle.adj_accepted.specs.Accepted.{HaveOwnNames, IsAdjointOfWith}
-use Rattle.adj_planned.specs.Planned.{HasNoMarks, lines_by, reversed_for}
-use Rattle.adj_shape.specs.Accepted.{HasKernelShape}
-use Rattle.adj_answer.specs.Answer.{Answer, refused, too_long}
-use Rattle.adj_answer.specs.Programs.{TextIs}
-use Rattle.adj_running.specs.Running.{Asked}
-use Rattle.adj_checking.specs.Checking.{Sides, check_answer}
-use Rattle.adj_checking.specs.Emitted.{or_itself}
-use Rattle.adj_checking.specs.Agreeing.{TrapsAlone, Agrees}
+use Rattle.def_text.specs.Reads.{Reads}
+use Rattle.def_text.specs.Text.{text_of}
+use Rattle.def_text.specs.declared.mode.Mode.TheVariants.{Source, Run}
+use Rattle.def_meaning.specs.Written.{find_unit}
+use Rattle.def_names.specs.Fault.{source_rules}
+use Rattle.def_names.specs.Check.{first_fault}
+use Rattle.def_names.specs.HeadFaults.{first_head_fault, head_of}
+use Rattle.def_sweep.specs.MarkedAdjoint.{shadow_flags}
+use Rattle.def_sweep.specs.Marking.{ProgramMarks}
+use Rattle.def_sweep.specs.Names.{adjoint_name}
+use Rattle.def_kernel.specs.Kernel.{EachUnit}
+use Rattle.def_kernel.specs.Stepped.{kernel_of}
+use Rattle.def_kernel.specs.Weights.{WeighsAtMost}
+use Rattle.def_adjoint.specs.CallsAtMost.{CallsAtMost}
+use Rattle.def_adjoint.specs.Calls.{CallsWithin}
+use Rattle.def_adjoint.specs.Spends.{SpendsAtMost}
+use Rattle.def_adjoint.specs.KernelSpends.{HaveVariables, KernelSpendsAtMost, KernelSpendsWithin}
+use Rattle.def_adjoint.specs.Adjoint.{HaveOwnNames, IsAdjointOfWith}
+use Rattle.def_planned.specs.Planned.{HasNoMarks, lines_by, reversed_for}
+use Rattle.def_adjoint.specs.KernelShape.{HasKernelShape}
+use Rattle.adj_tool_answer.specs.Answer.{Answer, refused, too_long}
+use Rattle.adj_tool_answer.specs.Programs.{TextIs}
+use Rattle.adj_tool_answer.specs.Endings.{Asked}
+use Rattle.adj_tool_check.specs.Checking.{Sides, check_answer}
+use Rattle.adj_tool_check.specs.Emitted.{or_itself}
+use Rattle.adj_tool_check.specs.Agreeing.{TrapsAlone, Agrees}
 use Rattle.adj_tool.specs.Planned.{AreExact}
 use Rattle.adj_tool.specs.Fitting.{kernel_fits}
 use Rattle.adj_tool.specs.Answer.{most_bytes, too_large}

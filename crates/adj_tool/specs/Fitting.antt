@@ -1,8 +1,8 @@
 -- Fitting: kernels that are not too large to number their points and nodes.
 use Rattle.std.specs.Prelude.{ℕ, nat_lt, Bool, not, ◌&&◌, List, length, map}
 use Rattle.adj_tree.specs.Code.{Procedure}
-use Rattle.adj_names.specs.Variables.{variables}
-use Rattle.adj_facts.specs.Parts.{statements_in}
+use Rattle.def_names.specs.Variables.{variables}
+use Rattle.def_names.specs.StatementsIn.{statements_in}
 use Rattle.adj_symbols.specs.Numbers.{widest}
 
 -- the most units, statements and variables of a unit that a kernel may have

@@ -2,33 +2,33 @@
 use Rattle.std.specs.Prelude.{◌≡◌, ℕ, List, map, Bool, true, Some}
 use Rattle.adj_tree.specs.Code.{Procedure}
 use Rattle.adj_tree.specs.Lines.{unlined}
-use Rattle.adj_text.specs.Reads.{Reads}
-use Rattle.adj_text.specs.ReadsAs.{ReadsAs}
-use Rattle.adj_text.specs.Text.{text_of}
-use Rattle.adj_text.specs.declared.mode.Mode.TheVariants.{Run}
-use Rattle.adj_meaning.specs.Written.{find_unit}
-use Rattle.adj_names.specs.Fresh.{has_name}
-use Rattle.adj_names.specs.Fault.{run_rules}
-use Rattle.adj_names.specs.Check.{IsSound}
-use Rattle.adj_names.specs.HeadFaults.{head_of}
-use Rattle.adj_reverse.specs.Marking.{ProgramMarks}
-use Rattle.adj_kernel.specs.Kernel.{EachUnit}
-use Rattle.adj_kernel.specs.Weights.{WeighsAtMost}
-use Rattle.adj_cost.specs.RunTheorem.{CallsAtMost}
-use Rattle.adj_cost.specs.Calls.{CallsWithin}
-use Rattle.adj_spent.specs.Spent.{SpendsAtMost}
-use Rattle.adj_spent.specs.KernelSpent.{HaveVariables, KernelSpendsAtMost, KernelSpendsWithin}
-use Rattle.adj_accepted.specs.Accepted.{HaveOwnNames, IsAdjointOfWith}
-use Rattle.adj_planned.specs.Planned.{HasNoMarks, lines_by, reversed_for}
-use Rattle.adj_shape.specs.Accepted.{HasKernelShape}
+use Rattle.def_text.specs.Reads.{Reads}
+use Rattle.def_text.specs.ReadsAs.{ReadsAs}
+use Rattle.def_text.specs.Text.{text_of}
+use Rattle.def_text.specs.declared.mode.Mode.TheVariants.{Run}
+use Rattle.def_meaning.specs.Written.{find_unit}
+use Rattle.def_meaning.specs.Apart.{has_name}
+use Rattle.def_names.specs.Fault.{run_rules}
+use Rattle.def_names.specs.Check.{IsSound}
+use Rattle.def_names.specs.HeadFaults.{head_of}
+use Rattle.def_sweep.specs.Marking.{ProgramMarks}
+use Rattle.def_kernel.specs.Kernel.{EachUnit}
+use Rattle.def_kernel.specs.Weights.{WeighsAtMost}
+use Rattle.def_adjoint.specs.CallsAtMost.{CallsAtMost}
+use Rattle.def_adjoint.specs.Calls.{CallsWithin}
+use Rattle.def_adjoint.specs.Spends.{SpendsAtMost}
+use Rattle.def_adjoint.specs.KernelSpends.{HaveVariables, KernelSpendsAtMost, KernelSpendsWithin}
+use Rattle.def_adjoint.specs.Adjoint.{HaveOwnNames, IsAdjointOfWith}
+use Rattle.def_planned.specs.Planned.{HasNoMarks, lines_by, reversed_for}
+use Rattle.def_adjoint.specs.KernelShape.{HasKernelShape}
 use Rattle.adj_tree.specs.declared.marks.Head.{Head}
-use Rattle.adj_kernel.specs.Stepped.{kernel_of}
+use Rattle.def_kernel.specs.Stepped.{kernel_of}
 use Rattle.adj_tool.specs.Fitting.{kernel_fits}
 use Rattle.adj_tool.specs.Planned.{AreExact}
 use Rattle.adj_tool.specs.Arguments.{Request}
-use Rattle.adj_readable.specs.Reading.{OrTooMany}
-use Rattle.adj_answer.specs.Answer.{Answer}
-use Rattle.adj_answer.specs.Programs.{TextIs}
+use Rattle.def_text.specs.OrTooMany.{OrTooMany}
+use Rattle.adj_tool_answer.specs.Answer.{Answer}
+use Rattle.adj_tool_answer.specs.Programs.{TextIs}
 
 -- a unit of the name is there
 pub record IsUnit (ps : List Procedure) (name : List ℕ) : Type 0 where

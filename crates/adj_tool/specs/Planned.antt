@@ -2,22 +2,22 @@
 use Rattle.std.specs.Prelude.{◌≡◌, ℕ, List, Bool, true, Some, slice_get, false}
 use Rattle.adj_tree.specs.Code.{Procedure}
 use Rattle.adj_tree.specs.declared.marks.Head.{Head}
-use Rattle.adj_text.specs.ReadsAs.{ReadsAs}
-use Rattle.adj_text.specs.Text.{text_of}
-use Rattle.adj_text.specs.Written.{IsWritten}
-use Rattle.adj_transpose.specs.Marks.{Vars}
-use Rattle.adj_transpose.specs.MarkedAdjoint.{shadow_flags}
-use Rattle.adj_reverse.specs.Names.{adjoint_name}
-use Rattle.adj_reverse.specs.Marking.{ProgramMarks}
-use Rattle.adj_reverse.specs.Program.{emitted_program_with}
-use Rattle.adj_facts.specs.Problem.{Problem}
-use Rattle.adj_facts.specs.Activity.{Activity}
-use Rattle.adj_facts.specs.Live.{Liveness}
-use Rattle.adj_facts.specs.Laws.{Analysed}
-use Rattle.adj_analysed.specs.Meets.{program_facts}
+use Rattle.def_text.specs.ReadsAs.{ReadsAs}
+use Rattle.def_text.specs.Text.{text_of}
+use Rattle.def_text.specs.Written.{IsWritten}
+use Rattle.def_names.specs.Numbers.{Vars}
+use Rattle.def_sweep.specs.MarkedAdjoint.{shadow_flags}
+use Rattle.def_sweep.specs.Names.{adjoint_name}
+use Rattle.def_sweep.specs.Marking.{ProgramMarks}
+use Rattle.def_sweep.specs.Program.{emitted_program_with}
+use Rattle.def_flow.specs.Problem.{Problem}
+use Rattle.def_flow.specs.Activity.{Activity}
+use Rattle.def_flow.specs.Live.{Liveness}
+use Rattle.def_flow.specs.Analysed.{Analysed}
+use Rattle.def_planned.specs.ProgramFacts.{program_facts}
 use Rattle.adj_plan.specs.Lines.{plan_lines, TellsPlan}
 use Rattle.adj_plan.specs.declared.lines.Said.{Said}
-use Rattle.adj_planned.specs.Planned.{kernel_problem, marks_by}
+use Rattle.def_planned.specs.Planned.{kernel_problem, marks_by}
 use Rattle.adj_tool.specs.declared.task.Wanted.{Wanted}
 use Rattle.adj_tool.specs.declared.task.Wanted.TheVariants as wanted
 

@@ -1,9 +1,9 @@
 -- Sample: the answer of the command `sample`. (docs/COMMANDS.md, "`sample`")
 use Rattle.std.specs.Prelude.{◌≡◌, ℕ, suc, ◌==◌, nat_le, Bool, true, false, List, [], ◌∷◌, ◌++◌, if◌then◌else◌, codes}
-use Rattle.adj_text.specs.Char.{line_feed}
+use Rattle.def_text.specs.Char.{line_feed}
 use Rattle.adj_data.specs.Sample.{field_of, steps_of, snapshots_of, with_number, sample_bytes}
-use Rattle.adj_answer.specs.Answer.{Answer}
-use Rattle.adj_running.specs.Running.{Asked}
+use Rattle.adj_tool_answer.specs.Answer.{Answer}
+use Rattle.adj_tool_answer.specs.Endings.{Asked}
 use Rattle.adj_tool.specs.Check.{AnswersCheck, ChecksAdjoint}
 
 -- ---- how the sample is checked

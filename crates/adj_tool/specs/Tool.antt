@@ -1,9 +1,10 @@
 -- Tool: what a call of the program comes to.
 use Rattle.std.specs.Prelude.{◌≡◌, ◌⊎◌, ◌+◌, ◌<◌, ℕ, List, length, take, Option, Some, None}
 use Rattle.adj_io.specs.Bytes.{IsAtEnd, extended_by, followed_by}
-use Rattle.adj_answer.specs.Answer.{Answer, usage}
-use Rattle.adj_running.specs.Running as running
-use Rattle.adj_running.specs.Running.{Asked, AnswersRun}
+use Rattle.adj_tool_answer.specs.Answer.{Answer, usage}
+use Rattle.adj_tool_run.specs.Running as running
+use Rattle.adj_tool_answer.specs.Endings.{Asked}
+use Rattle.adj_tool_run.specs.Running.{AnswersRun}
 use Rattle.adj_tool.specs.Arguments.{Command, Request, Adjoint, Plan, Run, Check, Schedule, Sample}
 use Rattle.adj_tool.specs.Headline.{WritesAdjoint}
 use Rattle.adj_tool.specs.Check.{AnswersCheck, ChecksAdjoint}

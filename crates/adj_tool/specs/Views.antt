@@ -1,6 +1,6 @@
 -- Views: what clauses see of the types of the top call.
 use Rattle.std.specs.Prelude.{Option, option_map}
-use Rattle.adj_running.specs.Views.{asked_of}
+use Rattle.adj_tool_answer.specs.EndingViews.{asked_of}
 use Rattle.adj_tool.specs.Arguments as arguments
 use Rattle.adj_tool.specs.declared.task.Request.{Request}
 use Rattle.adj_tool.specs.declared.task.Task.{Task}

@@ -2,16 +2,16 @@
 
 ghost use Rattle.std.specs.Prelude.{◌≡◌, ◌≤◌, ◌∷◌, [], ℕ, List, None, Ok, length, IfOk};
 ghost use Rattle.adj_tree.specs.View.{procedures_of};
-ghost use Rattle.adj_text.specs.Reads.{Reads};
-ghost use Rattle.adj_text.specs.Written.{IsWritten};
-ghost use Rattle.adj_text.specs.declared.mode.Mode.TheVariants.{Source};
-ghost use Rattle.adj_names.specs.Check.{IsSound};
-ghost use Rattle.adj_names.specs.Fault.{source_rules};
-ghost use Rattle.adj_names.specs.HeadFaults.{first_head_fault, head_of, unit_number};
-ghost use Rattle.adj_kernel.specs.Sound.{IsAccepted};
-ghost use Rattle.adj_kernel.specs.Stepped.{kernel_of};
+ghost use Rattle.def_text.specs.Reads.{Reads};
+ghost use Rattle.def_text.specs.Written.{IsWritten};
+ghost use Rattle.def_text.specs.declared.mode.Mode.TheVariants.{Source};
+ghost use Rattle.def_names.specs.Check.{IsSound};
+ghost use Rattle.def_names.specs.Fault.{source_rules};
+ghost use Rattle.def_names.specs.HeadFaults.{first_head_fault, head_of, unit_number};
+ghost use Rattle.law_kernel.specs.Sound.{IsAccepted};
+ghost use Rattle.def_kernel.specs.Stepped.{kernel_of};
 ghost use Rattle.adj_parse.specs.Trees.{program_of};
-ghost use Rattle.adj_answer.specs.Views.{answer_of};
+ghost use Rattle.adj_tool_answer.specs.Views.{answer_of};
 ghost use Rattle.adj_tool.specs.Answer.{AnswersAccepted, AnswersChecked, AnswersFitted, AnswersProgram, AnswersWanted, most_bytes, too_large};
 ghost use Rattle.adj_tool.specs.Fitting.{kernel_fits};
 ghost use Rattle.adj_tool.specs.Headline.{IsAdjoined, IsUnit, ReadsBack};
@@ -19,12 +19,12 @@ ghost use Rattle.adj_tool.specs.Views.{request_of};
 
 use crate::planned::text_wanted;
 use crate::task::{Request, Wanted};
-use adj_answer::{Answer, Status, read, reading_law, refused};
 use adj_fixed::Mode;
-use adj_kernels::checked_kernel;
-use adj_limits::emitted_law;
+use adj_norm::checked_kernel;
 use adj_symbols::{Checked, check, head};
+use adj_tool_answer::{Answer, Status, read, reading_law, refused};
 use adj_tree::{Fault, Head, Memory, Name, Program, Refusal};
+use law_limits::emitted_law;
 use std::alloc::Global;
 
 /// The refusal of a kernel that is too large.

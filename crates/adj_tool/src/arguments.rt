@@ -2,7 +2,7 @@
 
 ghost use Rattle.std.specs.Prelude.{◌≡◌, ◌≤◌, false, not, is_some, ℕ, List, ◌∷◌, IfOk, IfSome, Option, option_map, option_and_then, map, codes};
 ghost use Rattle.adj_tool.specs.Arguments.{bare_program, program, command_rule, numbers_rule, option_rule, lacks, name_of, names_of, request_asked, adjoint_asked, plan_asked, number_or, limits_asked, run_asked, check_asked, lacks_options, schedule_asked, numbers_asked, sample_asked, number_asked, command_asked, asked, taken};
-ghost use Rattle.adj_running.specs.Views.{asked_of};
+ghost use Rattle.adj_tool_answer.specs.EndingViews.{asked_of};
 ghost use Rattle.adj_tool.specs.Views.{command_of, some_request};
 ghost use Rattle.clap.specs.Simple.{app_of, with_rule};
 ghost use Rattle.clap.specs.Matches.{found_of};
@@ -11,7 +11,7 @@ ghost use Rattle.clap.specs.Walk.{rows_of, rule_of, first_of, all_of};
 use crate::task::{CheckRequest, Request, Reversal, Task};
 use crate::text::Text;
 use crate::values::{name_of, names_of, number_argument};
-use adj_running::RunRequest;
+use adj_tool_answer::RunRequest;
 use adj_tree::{Memory, Name, NameList};
 use clap::error::ErrorKind;
 use clap::{Arg, ArgMatches, Command};

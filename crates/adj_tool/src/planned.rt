@@ -2,7 +2,7 @@
 
 ghost use Rattle.std.specs.Prelude.{◌≡◌, ◌<◌, IfOk, length, true};
 ghost use Rattle.adj_tree.specs.View.{procedures_of};
-ghost use Rattle.adj_reverse.specs.Program.{emitted_program_with};
+ghost use Rattle.def_sweep.specs.Program.{emitted_program_with};
 ghost use Rattle.adj_symbols.specs.Numbers.{Fits};
 ghost use Rattle.adj_flow.specs.Asked.{IsFlow, problem_of, units_of};
 ghost use Rattle.adj_plan.specs.Asked.{IsPlan};
@@ -11,14 +11,13 @@ ghost use Rattle.adj_weave.specs.Shared.{IsCheckedBySome};
 ghost use Rattle.adj_tool.specs.Planned.{IsAdjointText, IsEmittedFor, IsKnownFor, IsPlanText, IsTextFor};
 
 use crate::task::Wanted;
-use adj_checking::Emitted;
-use adj_headed::head_adjoint;
-use adj_helpers::steps::MarkedLoops;
 use adj_plan::{Planned, plan, plan_text};
 use adj_print::text;
+use adj_sweep::steps::MarkedLoops;
 use adj_symbols::Checked;
+use adj_tool_check::Emitted;
 use adj_tree::{Head, Memory, Program};
-use adj_weave::{FoundMarks, Marked, adjoint as emit};
+use adj_weave::{FoundMarks, Marked, adjoint as emit, head_adjoint};
 use std::alloc::Global;
 
 // The program that is emitted for a kernel by the marks of its plan. Marked loops are reversed by schedules.

@@ -2,15 +2,15 @@
 
 ghost use Rattle.std.specs.Prelude.{◌≡◌, IfOk, IsErrOf};
 ghost use Rattle.adj_io.specs.Faults.{Rose};
-ghost use Rattle.adj_answer.specs.Views.{answer_of};
-ghost use Rattle.adj_running.specs.Running.{AnswersRun, most_bytes};
-ghost use Rattle.adj_running.specs.Views.{asked_of};
+ghost use Rattle.adj_tool_answer.specs.Views.{answer_of};
+ghost use Rattle.adj_tool_run.specs.Running.{AnswersRun, most_bytes};
+ghost use Rattle.adj_tool_answer.specs.EndingViews.{asked_of};
 ghost use Rattle.adj_tool.specs.Tool.{AnswersInput};
 
 use crate::stop::Stop;
-use adj_answer::{Answer, refused};
 use adj_io::{ReadError, Source, read_all};
-use adj_running::{RunRequest, run_answer};
+use adj_tool_answer::{Answer, RunRequest, refused};
+use adj_tool_run::run_answer;
 use adj_tree::Refusal;
 use std::alloc::Global;
 

@@ -1,15 +1,14 @@
 //! The command `sample`.
 
 ghost use Rattle.std.specs.Prelude.{◌≡◌, [], ◌∷◌, ◌++◌, IfOk, OnOk};
-ghost use Rattle.adj_answer.specs.Views.{answer_of};
-ghost use Rattle.adj_running.specs.Views.{asked_of};
+ghost use Rattle.adj_tool_answer.specs.Views.{answer_of};
+ghost use Rattle.adj_tool_answer.specs.EndingViews.{asked_of};
 ghost use Rattle.adj_tool.specs.Sample.{AnswersSample, SamplesAdjoint, last_lines, line_ends, sample_asked, sample_heading, sample_outvars, sample_vars, field_and_steps, snapshots_at_end, summary};
 
 use crate::checking::answer_text;
 use crate::task::CheckRequest;
-use adj_answer::{Answer, Status, push_number};
 use adj_data::{sample, sample_field, sample_snapshots, sample_steps};
-use adj_running::RunRequest;
+use adj_tool_answer::{Answer, RunRequest, Status, push_number};
 use adj_tree::{Memory, Name, NameList};
 use std::alloc::Global;
 

@@ -2,11 +2,11 @@
 
 ghost use Rattle.std.specs.Prelude.{◌≡◌, ◌++◌, ℕ, List, IfOk, OnOk, decimal, codes};
 ghost use Rattle.adj_tool.specs.Answer.{action_line, schedule_answer};
-ghost use Rattle.adj_answer.specs.Views.{answer_of};
+ghost use Rattle.adj_tool_answer.specs.Views.{answer_of};
 
 use crate::task::Reversal;
-use adj_answer::{Answer, Status, push_number};
 use adj_revolve::{Action, Schedule, least};
+use adj_tool_answer::{Answer, Status, push_number};
 use adj_tree::Memory;
 use std::alloc::Global;
 

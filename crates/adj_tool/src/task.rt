@@ -2,7 +2,7 @@
 
 ghost use Rattle.std.specs.Prelude.{◌<◌, ◌≤◌};
 
-use adj_running::RunRequest;
+use adj_tool_answer::RunRequest;
 use adj_tree::{Name, NameList};
 
 /// A head with its independents and its dependents.

@@ -3,7 +3,7 @@
 ghost use Rattle.std.specs.Prelude.{◌≡◌, ◌<◌, ◌⊎◌, IfOk, IsErrOf};
 ghost use Rattle.adj_io.specs.Faults.{Rose};
 ghost use Rattle.adj_tool.specs.Arguments.{taken};
-ghost use Rattle.adj_answer.specs.Views.{answer_of};
+ghost use Rattle.adj_tool_answer.specs.Views.{answer_of};
 ghost use Rattle.adj_tool.specs.Answer.{AnswersWanted, most_bytes};
 ghost use Rattle.adj_tool.specs.Views.{request_of};
 ghost use Rattle.adj_tool.specs.Tool.{AdjoinsInput, AnswersInput, IsAdjoinedTo, IsAnswer, IsComparedTo, IsComparison, IsHeadline, ReadsInput, WritesAll, WritesFront};
@@ -17,8 +17,8 @@ use crate::schedule::schedule;
 use crate::stop::Stop;
 use crate::task::{Request, Task, Wanted};
 use crate::text::Text;
-use adj_answer::{Answer, refused, usage};
 use adj_io::{ReadError, Sink, Source, WriteFault, read_all, write_all};
+use adj_tool_answer::{Answer, refused, usage};
 use adj_tree::Refusal;
 use std::alloc::Global;
 

@@ -1,7 +1,7 @@
 //! Checks on the values of arguments: names, lists of names, and numbers.
 
 ghost use Rattle.std.specs.Prelude.{◌≡◌, ◌≢◌, ◌<◌, ◌≤◌, ℕ, List, ◌∷◌, length, slice_index, IfOk, IfSome, MatchOption, Option, option_map, map};
-ghost use Rattle.adj_text.specs.Char.{upper, number_of};
+ghost use Rattle.def_text.specs.Char.{upper, number_of};
 ghost use Rattle.adj_tool.specs.Arguments.{is_name_argument, name_of, pieces, pieces_behind, names_of, number_argument};
 
 use adj_data::{are_digits, is_name};

@@ -1,2 +1,3 @@
+-- the lemmas of the crate
 pub mod Names
 pub mod Onto

@@ -2,15 +2,17 @@
 use Rattle.std.proofs.Common.{◌≡◌, ℕ, suc, List, [], ◌∷◌, ◌++◌, Bool, true, false, refl, sym, ap, ◌∙◌, subst, if◌then◌else◌}
 use Rattle.std.specs.Prelude.{◌&&◌, ◌||◌, ◌==◌, not, max, Option, Some, None}
 use Rattle.adj_tree.specs.Code.{plain, shadow, helper, Role, work, temp, control, first, stride, count, turn, entry, entries, kind, lower, upper, slots, none, Term, Mark, unmarked, with_count, count_from, Act, assign, choose, loop, during, call, runtime, push_word, pop_word, zero_array, Code, stop, step}
-use Rattle.adj_meaning.specs.Append.{◌+++◌, one}
-use Rattle.adj_transpose.specs.Marks.{Vars, Marks, next, behind}
-use Rattle.adj_transpose.specs.Marked.{code_if}
-use Rattle.adj_transpose.specs.Program.{helpers_from}
-use Rattle.adj_reverse.specs.AdjointOf.{adjoint_where, works_in_where, temps_in_where}
-use Rattle.adj_reverse.specs.Plan.{Callee, Plan, names_of, actuals_named, found_or, group, snapshot_group, step_snapshot, Schedules, Step, step_in, reversed_by}
-use Rattle.adj_reverse.specs.Emission.{is_empty, push, pop, pushes, pops, literal, told_forward, told_backward, loop_forward, loop_backward, while_forward, while_backward, with_shadows, adjoint_call, forward_act_with, forward_with, backward_act_with, backward_with, cleared, adjoint_body_with}
-use Rattle.adj_reverse.specs.ReversalCode.{reversed_forward, reversed_backward, row_forward, row_backward}
-use Rattle.adj_reverse.specs.Program.{works_act, works_used, temps_act, temps_used, depth_act_with, depth_used_with, tells_act_with, tells_some_with, goes_back_act_with, goes_back_with, any_step, has_slots, reverses_act_by, reverses_by, is_do, is_loop, helpers_among, loop_helpers_with, reversal_helpers, all_reversal_helpers, helpers_used_with}
+use Rattle.def_meaning.specs.Append.{◌+++◌, one}
+use Rattle.def_names.specs.Numbers.{Vars, next, behind}
+use Rattle.def_sweep.specs.Marks.{Marks}
+use Rattle.def_sweep.specs.Marked.{code_if}
+use Rattle.def_sweep.specs.Declared.{helpers_from}
+use Rattle.def_sweep.specs.AdjointOf.{adjoint_where, works_in_where, temps_in_where}
+use Rattle.def_sweep.specs.Plan.{Callee, Plan, names_of, actuals_named, found_or, group, snapshot_group, step_snapshot, Schedules, Step, step_in, reversed_by}
+use Rattle.def_sweep.specs.Rows.{is_empty, push, pop, pushes, pops, literal, told_forward, told_backward, loop_forward, loop_backward, while_forward, while_backward, with_shadows, adjoint_call}
+use Rattle.def_sweep.specs.Emission.{forward_act_with, forward_with, backward_act_with, backward_with, cleared, adjoint_body_with}
+use Rattle.def_sweep.specs.ReversalCode.{reversed_forward, reversed_backward, row_forward, row_backward}
+use Rattle.def_sweep.specs.Program.{works_act, works_used, temps_act, temps_used, depth_act_with, depth_used_with, tells_act_with, tells_some_with, goes_back_act_with, goes_back_with, any_step, has_slots, reverses_act_by, reverses_by, is_do, is_loop, helpers_among, loop_helpers_with, reversal_helpers, all_reversal_helpers, helpers_used_with}
 use Rattle.adj_weave.specs.Alike.{AreSameAt, AreSameIn, AreSameOver}
 
 module _ (m n : Marks) (shadows : m.shadowed ≡ n.shadowed) where

@@ -2,11 +2,11 @@
 use Rattle.std.proofs.Common.{◌≡◌, ℕ, suc, Bool, true, false, List, [], ◌∷◌, refl, sym, ap, ◌∙◌, if◌then◌else◌}
 use Rattle.std.specs.Prelude.{◌||◌, ◌&&◌, Option, Some, None}
 use Rattle.adj_tree.specs.Code.{name_eq, Terms, Mark, unmarked, with_count, count_from, Act, assign, choose, loop, during, call, runtime, Code, stop, step, Procedure}
-use Rattle.adj_transpose.specs.Marks.{Vars, next, behind}
-use Rattle.adj_reverse.specs.Plan.{names_of, found_or, Schedules, Step, step_in, reversed_by}
-use Rattle.adj_reverse.specs.Marking.{ProgramMarks, SplitsNothing}
-use Rattle.adj_reverse.specs.Program.{calls_act, calls_in, calls_some, turns_act, turns_in, turns_some, has_adjoint, is_kept_with}
-use Rattle.adj_reverse.proofs.Unsplit.{kept_by_adjoints, unsplit_kept}
+use Rattle.def_names.specs.Numbers.{Vars, next, behind}
+use Rattle.def_sweep.specs.Plan.{names_of, found_or, Schedules, Step, step_in, reversed_by}
+use Rattle.def_sweep.specs.Marking.{ProgramMarks, SplitsNothing}
+use Rattle.def_sweep.specs.Program.{calls_act, calls_in, calls_some, turns_act, turns_in, turns_some, has_adjoint, is_kept_with}
+use Rattle.law_sweep.proofs.Unsplit.{kept_by_adjoints, unsplit_kept}
 use Rattle.adj_weave.specs.Marked.{reads_in}
 use Rattle.adj_weave.specs.Orders.{only_called, turned, is_plain_call}
 

@@ -5,9 +5,9 @@ use Rattle.adj_tree.specs.Code.{plain, shadow, helper, Role, name_eq, Declaratio
 use Rattle.adj_tree.specs.View.{declaration_of}
 use Rattle.adj_tree.specs.declared.unit.Decl.{Decl}
 use Rattle.adj_tree.proofs.Names.{nat_same, name_same}
-use Rattle.adj_meaning.specs.Units.{declared}
-use Rattle.adj_transpose.specs.Fresh.{has_name}
-use Rattle.adj_transpose.proofs.Variables.{or_right, not_true}
+use Rattle.def_meaning.specs.Units.{declared}
+use Rattle.def_meaning.specs.Apart.{has_name}
+use Rattle.def_names.proofs.Variables.{or_right, not_true}
 use Rattle.adj_sets.specs.Sets.{with_added}
 use Rattle.adj_naming.proofs.Added.{has-all_added}
 use Rattle.adj_naming.proofs.Places.{from_here}

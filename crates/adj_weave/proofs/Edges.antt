@@ -4,10 +4,10 @@ use Rattle.std.specs.Prelude.{◌||◌, ◌&&◌, position, Option, Contains}
 use Rattle.std.proofs.lemmas.List.Elements.{Contains-append_left, Contains-append_right, Contains-append_cases}
 use Rattle.adj_tree.specs.Code.{name_eq, Act, assign, choose, loop, during, call, runtime, Code, stop, step, Procedure}
 use Rattle.adj_tree.proofs.Names.{name_refl, name_same}
-use Rattle.adj_transpose.specs.Marks.{next, behind}
-use Rattle.adj_transpose.proofs.Variables.{and_true, or_left, or_right}
-use Rattle.adj_reverse.specs.Plan.{found_or}
-use Rattle.adj_facts.proofs.Members.{is_first, is_later, is_among, is_none, is_only}
+use Rattle.def_names.specs.Numbers.{next, behind}
+use Rattle.def_names.proofs.Variables.{and_true, or_left, or_right}
+use Rattle.def_sweep.specs.Plan.{found_or}
+use Rattle.adj_reach.proofs.Members.{is_first, is_later, is_among, is_none, is_only}
 use Rattle.adj_weave.specs.declared.calls.Call.{Call}
 use Rattle.adj_weave.specs.Orders.{turned, call_to, listed_act, listed_in, listed_from, edges_of}
 use Rattle.adj_weave.proofs.Calling.{has_act, has_in, has_some}

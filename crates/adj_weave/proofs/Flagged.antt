@@ -4,24 +4,27 @@ use Rattle.std.specs.Prelude.{Contains, filter, Option, Some, None, slice_index_
 use Rattle.std.proofs.lemmas.List.Elements.{Contains-append_left, Contains-append_right}
 use Rattle.adj_tree.specs.Code.{Role, Var, plain, shadow, helper, Act, assign, choose, loop, during, call, runtime, Code, stop, step, Procedure}
 use Rattle.adj_tree.specs.declared.marks.Marks as flags
-use Rattle.adj_meaning.specs.Written.{find_unit}
-use Rattle.adj_transpose.specs.Marks.{Marks, next, behind, point_before}
-use Rattle.adj_transpose.specs.Naming.{AreApart}
-use Rattle.adj_transpose.specs.Program.{unit_name, unit_at}
-use Rattle.adj_reverse.specs.Marking.{marks_in, first_statement, place_from}
-use Rattle.adj_reverse.specs.Program.{has_adjoint}
-use Rattle.adj_facts.specs.Parts.{Part, part, parts_from, parts, statements_in}
-use Rattle.adj_facts.specs.Standing.{Place, outermost, part_of, body_of, Standing, held_in, standing}
-use Rattle.adj_facts.specs.Problem.{statements_of}
-use Rattle.adj_facts.specs.Rules.{Covers}
-use Rattle.adj_facts.proofs.Members.{is_first, is_later, is_among, is_none}
-use Rattle.adj_facts.proofs.OwnPoints.{own_before}
-use Rattle.adj_facts.proofs.Sameness.{numbers_same}
+use Rattle.def_meaning.specs.Written.{find_unit}
+use Rattle.def_sweep.specs.Marks.{Marks}
+use Rattle.def_names.specs.Numbers.{next, behind}
+use Rattle.def_names.specs.Numbering.{point_before}
+use Rattle.def_meaning.specs.Apart.{AreApart}
+use Rattle.def_sweep.specs.Declared.{unit_name, unit_at}
+use Rattle.def_sweep.specs.Marking.{marks_in, first_statement, place_from}
+use Rattle.def_sweep.specs.Program.{has_adjoint}
+use Rattle.def_flow.specs.Parts.{Part, part, parts_from, parts}
+use Rattle.def_names.specs.StatementsIn.{statements_in}
+use Rattle.def_flow.specs.Standing.{Place, outermost, part_of, body_of, Standing, held_in, standing}
+use Rattle.def_flow.specs.Problem.{statements_of}
+use Rattle.def_flow.specs.Rules.{Covers}
+use Rattle.adj_reach.proofs.Members.{is_first, is_later, is_among, is_none}
+use Rattle.def_flow.proofs.OwnPoints.{own_before}
+use Rattle.def_flow.proofs.NumbersSame.{numbers_same}
 use Rattle.adj_reach.specs.Edges.{flag}
-use Rattle.adj_writes.specs.Table.{value_of}
+use Rattle.adj_symbols_writes.specs.Table.{value_of}
 use Rattle.adj_flow.specs.declared.units.Flow.{Flow}
 use Rattle.adj_flow.specs.Asked.{units_of, variables_of}
-use Rattle.adj_writes.specs.Graph as places
+use Rattle.adj_symbols_writes.specs.Graph as places
 use Rattle.adj_flow.specs.declared.row.Part as row
 use Rattle.adj_flow.specs.Nodes.{place_in, number_at, node_in}
 use Rattle.adj_flow.specs.Scoped.{scope_by}
@@ -30,7 +33,7 @@ use Rattle.adj_flow.specs.Told.{flag_at, told_in, told_of}
 use Rattle.adj_flow.proofs.Covering.{scope_covers}
 use Rattle.adj_flow.proofs.Naming.{placed}
 use Rattle.adj_flow.proofs.Telling.{point_found, number_found}
-use Rattle.adj_marking.specs.View as view
+use Rattle.adj_sweep_assignment.specs.View as view
 use Rattle.adj_weave.specs.Alike.{AreSameAt, AreSameIn, AreSameOver, AreAlike}
 use Rattle.adj_weave.specs.Marked.{scope_in, marks_told, marks_at, IsFlowOf}
 use Rattle.adj_naming.proofs.Places.{get_or_any}

@@ -5,22 +5,22 @@ use Rattle.std.proofs.lemmas.List.{length-map}
 use Rattle.adj_tree.specs.Code.{plain, name_eq, Procedure}
 use Rattle.adj_tree.specs.View.{procedure_of}
 use Rattle.adj_tree.specs.declared.unit.Unit.{Unit}
-use Rattle.adj_meaning.specs.LeastSet.{least_rows}
-use Rattle.adj_meaning.specs.Written.{find_unit, write_rule, is_written}
-use Rattle.adj_meaning.specs.Read.{read_rule, is_read}
-use Rattle.adj_meaning.proofs.LeastSets.{is_least}
-use Rattle.adj_meaning.proofs.WriteSets.{write_rises}
-use Rattle.adj_meaning.proofs.ReadSets.{read_rises}
-use Rattle.adj_transpose.specs.Fresh.{has_name}
-use Rattle.adj_transpose.specs.Naming.{AreApart}
-use Rattle.adj_transpose.specs.Program.{unit_name}
-use Rattle.adj_reverse.specs.Names.{adjoint_name}
-use Rattle.adj_reverse.specs.Marking.{ProgramMarks, place_from, dummy_set, read_by, callee_in, callee_of}
-use Rattle.adj_helpers.specs.declared.callees.Dummy.{Dummy}
-use Rattle.adj_helpers.specs.declared.callees.Callee.{Callee}
-use Rattle.adj_helpers.specs.declared.callees.Callees.{Callees}
-use Rattle.adj_helpers.specs.Callees.{callee_at, seen, Knows, KnowsAll}
-use Rattle.adj_transpose.proofs.Variables.{or_false, name_comm}
+use Rattle.def_meaning.specs.LeastSet.{least_rows}
+use Rattle.def_meaning.specs.Written.{find_unit, write_rule, is_written}
+use Rattle.def_meaning.specs.Read.{read_rule, is_read}
+use Rattle.def_meaning.proofs.LeastSets.{is_least}
+use Rattle.def_meaning.proofs.WritesMore.{write_rises}
+use Rattle.def_meaning.proofs.ReadsMore.{read_rises}
+use Rattle.def_meaning.specs.Apart.{has_name, AreApart}
+use Rattle.def_sweep.specs.Declared.{unit_name}
+use Rattle.def_sweep.specs.Names.{adjoint_name}
+use Rattle.def_sweep.specs.Marking.{ProgramMarks, place_from, dummy_set, read_by, callee_in, callee_of}
+use Rattle.adj_sweep.specs.declared.callees.Dummy.{Dummy}
+use Rattle.adj_sweep.specs.declared.callees.Callee.{Callee}
+use Rattle.adj_sweep.specs.declared.callees.Callees.{Callees}
+use Rattle.adj_sweep.specs.Callees.{callee_at, seen, Knows, KnowsAll}
+use Rattle.def_names.proofs.Variables.{or_false}
+use Rattle.def_meaning.proofs.Variables.{name_comm}
 use Rattle.adj_reach.specs.Edges.{flag}
 use Rattle.adj_naming.proofs.Places.{from_here}
 use Rattle.adj_flow.specs.Asked.{units_of}

@@ -3,15 +3,15 @@ use Rattle.std.proofs.Common.{◌≡◌, ℕ, zero, suc, ◌+◌, arith, Bool, t
 use Rattle.std.specs.Prelude.{◌||◌, flat_map}
 use Rattle.adj_tree.specs.Code.{name_eq, Procedure}
 use Rattle.adj_tree.proofs.Names.{name_refl, name_same}
-use Rattle.adj_transpose.specs.Fresh.{has_name, fresh}
-use Rattle.adj_transpose.specs.Marks.{behind}
-use Rattle.adj_transpose.specs.Naming.{AreApart}
-use Rattle.adj_transpose.specs.Program.{unit_name}
-use Rattle.adj_names.specs.Variables.{variables}
-use Rattle.adj_reverse.specs.Names.{source_names, adjoint_after, adjoint_name}
-use Rattle.adj_reverse.specs.Marking.{ProgramMarks, SplitsNothing, first_from, first_statement, place_from}
-use Rattle.adj_reverse.specs.Program.{has_adjoint, made_names}
-use Rattle.adj_reverse.proofs.Unsplit.{unsplit_names}
+use Rattle.def_meaning.specs.Apart.{has_name, AreApart}
+use Rattle.def_names.specs.Fresh.{fresh}
+use Rattle.def_names.specs.Numbers.{behind}
+use Rattle.def_sweep.specs.Declared.{unit_name}
+use Rattle.def_names.specs.Variables.{variables}
+use Rattle.def_sweep.specs.Names.{source_names, adjoint_after, adjoint_name}
+use Rattle.def_sweep.specs.Marking.{ProgramMarks, SplitsNothing, first_from, first_statement, place_from}
+use Rattle.def_sweep.specs.Program.{has_adjoint, made_names}
+use Rattle.law_sweep.proofs.Unsplit.{unsplit_names}
 use Rattle.adj_sets.specs.Sets.{all_added}
 use Rattle.adj_sets.proofs.NameSets.{has-behind}
 use Rattle.adj_naming.proofs.Added.{SameNames, fresh_alike, once_same}

@@ -7,13 +7,12 @@ use Rattle.std.proofs.lemmas.List.{length-map}
 use Rattle.std.proofs.lemmas.List.Quantifiers.{position-Some}
 use Rattle.adj_tree.specs.Code.{name_eq, Procedure}
 use Rattle.adj_tree.proofs.Names.{name_refl, name_same}
-use Rattle.adj_meaning.specs.Written.{find_unit}
-use Rattle.adj_transpose.specs.Fresh.{has_name}
-use Rattle.adj_transpose.specs.Naming.{AreApart}
-use Rattle.adj_transpose.specs.Program.{unit_name, unit_at}
-use Rattle.adj_transpose.proofs.Variables.{or_left, or_right, has_apart}
-use Rattle.adj_checked.proofs.Lists.{Each}
-use Rattle.adj_checked.proofs.Callings.{Found, all_found}
+use Rattle.def_meaning.specs.Written.{find_unit}
+use Rattle.def_meaning.specs.Apart.{has_name, AreApart}
+use Rattle.def_sweep.specs.Declared.{unit_name, unit_at}
+use Rattle.def_names.proofs.Variables.{or_left, or_right, has_apart}
+use Rattle.law_emitted.proofs.Lists.{Each}
+use Rattle.law_emitted.proofs.Callings.{Found, all_found}
 use Rattle.adj_naming.proofs.Places.{get_or_any, mapped_at}
 
 -- x stands at the place j

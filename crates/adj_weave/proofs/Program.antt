@@ -6,18 +6,18 @@ use Rattle.adj_tree.specs.Code.{plain, name_eq, Procedure}
 use Rattle.adj_tree.proofs.Names.{name_same}
 use Rattle.adj_tree.specs.View.{procedure_of}
 use Rattle.adj_tree.specs.declared.unit.Unit as units
-use Rattle.adj_transpose.specs.Fresh.{has_name}
-use Rattle.adj_transpose.specs.Marks.{Vars}
-use Rattle.adj_transpose.specs.Marked.{names_in}
-use Rattle.adj_transpose.specs.Program.{unit_name, unit_at, unmarked}
-use Rattle.adj_transpose.proofs.Variables.{or_right}
-use Rattle.adj_reverse.specs.Names.{adjoint_name}
-use Rattle.adj_reverse.specs.Marking.{ProgramMarks, SplitsNothing}
-use Rattle.adj_reverse.specs.Program as program
-use Rattle.adj_reverse.specs.Program.{has_adjoint, is_carried_with, all_units, adjoint_unit_with, emitted_adjoint_with, emitted_units_with, emitted_program_with}
-use Rattle.adj_reverse.proofs.HeadNames.{unmarked_in}
-use Rattle.adj_reverse.proofs.Unsplit.{unsplit_group}
-use Rattle.adj_reverse.proofs.Variables.{dummy_among}
+use Rattle.def_meaning.specs.Apart.{has_name}
+use Rattle.def_names.specs.Numbers.{Vars}
+use Rattle.def_sweep.specs.Marked.{names_in}
+use Rattle.def_sweep.specs.Declared.{unit_name, unit_at, unmarked}
+use Rattle.def_names.proofs.Variables.{or_right}
+use Rattle.def_sweep.specs.Names.{adjoint_name}
+use Rattle.def_sweep.specs.Marking.{ProgramMarks, SplitsNothing}
+use Rattle.def_sweep.specs.Program as program
+use Rattle.def_sweep.specs.Program.{has_adjoint, is_carried_with, all_units, adjoint_unit_with, emitted_adjoint_with, emitted_units_with, emitted_program_with}
+use Rattle.law_sweep.proofs.HeadNames.{unmarked_in}
+use Rattle.law_sweep.proofs.Unsplit.{unsplit_group}
+use Rattle.law_sweep.proofs.Variables.{dummy_among}
 use Rattle.adj_naming.proofs.Places.{get_or_any}
 use Rattle.adj_weave.specs.declared.weave.Aim.{Aim}
 use Rattle.adj_weave.specs.declared.weave.Emits.{Emits}

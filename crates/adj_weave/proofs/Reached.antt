@@ -6,18 +6,18 @@ use Rattle.std.proofs.lemmas.List.{length-map}
 use Rattle.std.proofs.lemmas.List.Elements.{Contains-get_or, All-contains}
 use Rattle.adj_tree.specs.Code.{name_eq, Procedure}
 use Rattle.adj_tree.proofs.Names.{name_refl, name_same}
-use Rattle.adj_transpose.specs.Naming.{AreApart}
-use Rattle.adj_transpose.specs.Program.{unit_name, unit_at}
-use Rattle.adj_transpose.proofs.Variables.{or_right}
-use Rattle.adj_reverse.specs.Marking.{ProgramMarks, SplitsNothing}
-use Rattle.adj_reverse.specs.Program.{calls_some, reached_after, is_reached, has_adjoint, is_kept_with, is_carried_with}
-use Rattle.adj_reverse.specs.Source.{is_unit}
-use Rattle.adj_reverse.proofs.Rounds.{reached_last}
-use Rattle.adj_reverse.proofs.EmittedUnits.{found_there}
-use Rattle.adj_reverse.proofs.Unsplit.{unsplit_adjoint}
-use Rattle.adj_checked.proofs.Callings.{roots_reached}
-use Rattle.adj_facts.specs.Reached.{begins, leads}
-use Rattle.adj_facts.proofs.Members.{is_first, is_later, is_among, is_none, is_only}
+use Rattle.def_meaning.specs.Apart.{AreApart}
+use Rattle.def_sweep.specs.Declared.{unit_name, unit_at}
+use Rattle.def_names.proofs.Variables.{or_right}
+use Rattle.def_sweep.specs.Marking.{ProgramMarks, SplitsNothing}
+use Rattle.def_sweep.specs.Program.{calls_some, reached_after, is_reached, has_adjoint, is_kept_with, is_carried_with}
+use Rattle.law_sweep.specs.Source.{is_unit}
+use Rattle.law_sweep.proofs.Rounds.{reached_last}
+use Rattle.law_sweep.proofs.UnitLists.{found_there}
+use Rattle.law_sweep.proofs.Unsplit.{unsplit_adjoint}
+use Rattle.law_emitted.proofs.Callings.{roots_reached}
+use Rattle.adj_reach.specs.Reached.{begins, leads}
+use Rattle.adj_reach.proofs.Members.{is_first, is_later, is_among, is_none, is_only}
 use Rattle.adj_reach.specs.Edges.{Edges, ReachedFrom, AreBelow, flag}
 use Rattle.adj_naming.proofs.Places.{get_or_any}
 use Rattle.adj_weave.specs.declared.calls.Call.{Call}

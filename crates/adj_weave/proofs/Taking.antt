@@ -2,23 +2,24 @@
 use Rattle.std.proofs.Common.{◌≡◌, ℕ, zero, suc, Bool, true, false, List, [], ◌∷◌, map, length, refl, sym, ap, ◌∙◌}
 use Rattle.std.specs.Prelude.{◌||◌, ◌&&◌, Some}
 use Rattle.adj_tree.specs.Code.{name_eq, Act, assign, choose, loop, during, call, runtime, Code, stop, step, Procedure}
-use Rattle.adj_meaning.specs.Written.{find_unit}
-use Rattle.adj_transpose.specs.Marks.{next, behind}
-use Rattle.adj_transpose.specs.Naming.{AreApart}
-use Rattle.adj_transpose.specs.Program.{unit_name, unit_at}
-use Rattle.adj_transpose.proofs.Variables.{and_true, or_left, or_right}
-use Rattle.adj_reverse.specs.Marking.{ProgramMarks, first_statement, place_from}
-use Rattle.adj_reverse.specs.Program.{calls_act, calls_in, calls_some, reached_after, has_adjoint}
-use Rattle.adj_reverse.proofs.Rounds.{either}
-use Rattle.adj_checked.proofs.Callings.{all_found}
-use Rattle.adj_checked.proofs.Pairs.{adjoint_part}
-use Rattle.adj_facts.specs.Parts.{Part, parts, statements_in, find_part}
-use Rattle.adj_facts.specs.Problem.{Problem, IsHead, TakesPart}
-use Rattle.adj_facts.proofs.Heads.{head_part}
-use Rattle.adj_analysed.proofs.Checked.{part_found}
-use Rattle.adj_analysed.proofs.Meets.{some_same}
-use Rattle.adj_analysed.proofs.Numbers.{placed}
-use Rattle.adj_analysed.proofs.Reaching.{taking}
+use Rattle.def_meaning.specs.Written.{find_unit}
+use Rattle.def_names.specs.Numbers.{next, behind}
+use Rattle.def_meaning.specs.Apart.{AreApart}
+use Rattle.def_sweep.specs.Declared.{unit_name, unit_at}
+use Rattle.def_names.proofs.Variables.{and_true, or_left, or_right}
+use Rattle.def_sweep.specs.Marking.{ProgramMarks, first_statement, place_from}
+use Rattle.def_sweep.specs.Program.{calls_act, calls_in, calls_some, reached_after, has_adjoint}
+use Rattle.law_sweep.proofs.Rounds.{either}
+use Rattle.law_emitted.proofs.Callings.{all_found}
+use Rattle.law_emitted.proofs.Pairs.{adjoint_part}
+use Rattle.def_flow.specs.Parts.{Part, parts, find_part}
+use Rattle.def_names.specs.StatementsIn.{statements_in}
+use Rattle.def_flow.specs.Problem.{Problem, IsHead, TakesPart}
+use Rattle.law_flow.proofs.Heads.{head_part}
+use Rattle.law_analysed.proofs.Checked.{part_found}
+use Rattle.law_analysed.proofs.Meets.{some_same}
+use Rattle.law_analysed.proofs.Numbers.{placed}
+use Rattle.law_analysed.proofs.Reaching.{taking}
 
 -- ---- more is called where more calls count
 

@@ -1,12 +1,13 @@
 -- The marks of a unit by its number are those of the program there.
 use Rattle.std.proofs.Common.{◌≡◌, ℕ, suc, true, Some, List, [], ◌∷◌, map, refl}
 use Rattle.adj_tree.specs.Code.{Act, assign, choose, loop, during, call, runtime, Code, stop, step, Procedure}
-use Rattle.adj_meaning.specs.Written.{find_unit}
-use Rattle.adj_transpose.specs.Marks.{Marks, full, next, behind}
-use Rattle.adj_transpose.specs.Naming.{AreApart}
-use Rattle.adj_transpose.specs.Program.{unit_name, unit_at}
-use Rattle.adj_reverse.specs.Marking.{marks_in, first_statement, place_from}
-use Rattle.adj_reverse.specs.Program.{has_adjoint}
+use Rattle.def_meaning.specs.Written.{find_unit}
+use Rattle.def_sweep.specs.Marks.{Marks, full}
+use Rattle.def_names.specs.Numbers.{next, behind}
+use Rattle.def_meaning.specs.Apart.{AreApart}
+use Rattle.def_sweep.specs.Declared.{unit_name, unit_at}
+use Rattle.def_sweep.specs.Marking.{marks_in, first_statement, place_from}
+use Rattle.def_sweep.specs.Program.{has_adjoint}
 use Rattle.adj_weave.specs.declared.marks.Marked.{Marked}
 use Rattle.adj_weave.specs.declared.marks.Marked.TheVariants as by
 use Rattle.adj_weave.specs.Alike.{AreSameIn, AreSameOver, AreAlike}

@@ -2,34 +2,34 @@
 use Rattle.std.proofs.Common.{◌≡◌, ℕ, Bool, true, false, if◌then◌else◌, List, [], ◌∷◌, ◌++◌, map, refl, sym, ap, ◌∙◌}
 use Rattle.std.specs.Prelude.{◌||◌, ◌==◌, not, length, Option, Some}
 use Rattle.adj_tree.specs.Code.{Var, plain, shadow, helper, Code, Declaration, Procedure, var_eq, name_eq}
-use Rattle.adj_meaning.specs.Apart.{is_named}
-use Rattle.adj_meaning.specs.Rename.{rename}
-use Rattle.adj_meaning.specs.Written.{find_unit}
-use Rattle.adj_names.specs.NameFaults.{is_rank_for}
-use Rattle.adj_names.specs.Variables.{variables, rank}
-use Rattle.adj_transpose.specs.Fresh.{has_name, reserved}
-use Rattle.adj_transpose.specs.Marks.{Vars}
-use Rattle.adj_transpose.specs.Marked.{names_in}
-use Rattle.adj_transpose.specs.Naming.{Named, AreApart, named, name_in, naming}
-use Rattle.adj_transpose.specs.Program.{declared_helpers}
-use Rattle.adj_transpose.specs.MarkedProgram.{shadows_behind, declared_behind}
-use Rattle.adj_transpose.proofs.Naming.{own-name}
-use Rattle.adj_transpose.proofs.Variables.{or_false}
-use Rattle.adj_reverse.specs.Plan.{Plan, Schedules}
-use Rattle.adj_reverse.specs.Names.{adjoint_name}
-use Rattle.adj_reverse.specs.Marking.{ProgramMarks, SplitsNothing, first_statement, plan_in, arrays_of}
-use Rattle.adj_reverse.specs.Program.{helpers_used_with, adjoint_names_with, adjoint_unit_with, schedules_in}
-use Rattle.adj_reverse.specs.Emission.{adjoint_body_with}
-use Rattle.adj_checked.proofs.Lists.{Each, each_found}
-use Rattle.adj_emitted.specs.Shadowed.{HasShadows, AllHaveShadows}
-use Rattle.adj_emitted.proofs.Over.{OverCode, Any}
-use Rattle.adj_emitted.proofs.Tables.{among, has_var, plain_known}
-use Rattle.adj_emitted.proofs.Used.{used_helpers_with}
-use Rattle.adj_emitted.proofs.Apart.{VarsApart, used_apart_with}
-use Rattle.adj_emitted.proofs.MadeNames.{follows_by}
-use Rattle.adj_emitted.proofs.Sources.{each_name, UnitSound, all_named}
-use Rattle.adj_emitted.proofs.NameFaults.{NamesSound, all_names_sound}
-use Rattle.adj_emitted.proofs.AdjointNames.{body_holds}
+use Rattle.def_meaning.specs.Apart.{is_named, has_name, AreApart}
+use Rattle.def_meaning.specs.Rename.{rename}
+use Rattle.def_meaning.specs.Written.{find_unit}
+use Rattle.def_names.specs.NameFaults.{is_rank_for}
+use Rattle.def_names.specs.Variables.{variables, rank}
+use Rattle.def_names.specs.Reserved.{reserved}
+use Rattle.def_names.specs.Numbers.{Vars}
+use Rattle.def_sweep.specs.Marked.{names_in}
+use Rattle.def_sweep.specs.Naming.{Named, named, name_in, naming}
+use Rattle.def_sweep.specs.Declared.{declared_helpers}
+use Rattle.def_sweep.specs.MarkedProgram.{shadows_behind, declared_behind}
+use Rattle.law_sweep.proofs.Naming.{own-name}
+use Rattle.def_names.proofs.Variables.{or_false}
+use Rattle.def_sweep.specs.Plan.{Plan, Schedules}
+use Rattle.def_sweep.specs.Names.{adjoint_name}
+use Rattle.def_sweep.specs.Marking.{ProgramMarks, SplitsNothing, first_statement, plan_in, arrays_of}
+use Rattle.def_sweep.specs.Program.{helpers_used_with, adjoint_names_with, adjoint_unit_with, schedules_in}
+use Rattle.def_sweep.specs.Emission.{adjoint_body_with}
+use Rattle.law_emitted.proofs.Lists.{Each, each_found}
+use Rattle.law_emitted.specs.Shadowed.{HasShadows, AllHaveShadows}
+use Rattle.law_emitted.proofs.Over.{OverCode, Any}
+use Rattle.law_emitted.proofs.Tables.{among, has_var, plain_known}
+use Rattle.law_emitted.proofs.Used.{used_helpers_with}
+use Rattle.law_emitted.proofs.Apart.{VarsApart, used_apart_with}
+use Rattle.law_emitted.proofs.MadeNames.{follows_by}
+use Rattle.law_emitted.proofs.Sources.{each_name, UnitSound, all_named}
+use Rattle.law_emitted.proofs.NameFaults.{NamesSound, all_names_sound}
+use Rattle.law_emitted.proofs.AdjointNames.{body_holds}
 use Rattle.adj_naming.specs.declared.names.Names.{Names}
 use Rattle.adj_naming.specs.Sets.{has_variable, AreDifferent}
 use Rattle.adj_naming.specs.Table.{table_of, named_by}

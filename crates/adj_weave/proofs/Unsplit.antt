@@ -1,6 +1,6 @@
 -- The marks of a program split no call.
 use Rattle.std.proofs.Common.{refl}
-use Rattle.adj_reverse.specs.Marking.{SplitsNothing}
+use Rattle.def_sweep.specs.Marking.{SplitsNothing}
 use Rattle.adj_weave.specs.declared.marks.Marked.{Marked}
 use Rattle.adj_weave.specs.declared.marks.Marked.TheVariants as by
 use Rattle.adj_weave.specs.Marked.{program_marks}

@@ -1,11 +1,11 @@
 -- Lists passed one by one.
 use Rattle.std.proofs.Common.{◌≡◌, ℕ, Bool, true, false, List, [], ◌∷◌, ◌++◌, ◌+◌, ◌<◌, map, length, drop, get_or, refl, sym, ap, ◌∙◌, append_assoc, if◌then◌else◌}
 use Rattle.adj_tree.specs.Code.{plain, shadow, Declaration, Procedure}
-use Rattle.adj_transpose.specs.Marks.{Vars}
-use Rattle.adj_transpose.specs.Marked.{names_in}
-use Rattle.adj_transpose.specs.Naming.{Named, name_in}
-use Rattle.adj_transpose.specs.MarkedProgram.{shadows_behind, declared_behind}
-use Rattle.adj_transpose.specs.Program.{declaration}
+use Rattle.def_names.specs.Numbers.{Vars}
+use Rattle.def_sweep.specs.Marked.{names_in}
+use Rattle.def_sweep.specs.Naming.{Named, name_in}
+use Rattle.def_sweep.specs.MarkedProgram.{shadows_behind, declared_behind}
+use Rattle.def_sweep.specs.Declared.{declaration}
 use Rattle.adj_naming.proofs.Places.{from_here}
 use Rattle.adj_weave.specs.Parts.{with_name, declared_among}
 

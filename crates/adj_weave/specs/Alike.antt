@@ -1,7 +1,9 @@
 -- Marks that say the same of the statements of a unit, whatever they say of others.
 use Rattle.std.specs.Prelude.{◌≡◌, ℕ, suc}
 use Rattle.adj_tree.specs.Code.{Act, assign, choose, loop, during, call, runtime, Code, stop, step}
-use Rattle.adj_transpose.specs.Marks.{Marks, next, behind, point_before}
+use Rattle.def_sweep.specs.Marks.{Marks}
+use Rattle.def_names.specs.Numbers.{next, behind}
+use Rattle.def_names.specs.Numbering.{point_before}
 
 -- of the i-th statement
 pub record AreSameAt (m n : Marks) (i : ℕ) : Type 0 where

@@ -1,8 +1,8 @@
--- What clauses of this crate and of the crate above it say.
+-- the definitions of the crate, a module a subject
 pub mod Parts
 pub mod Marked
 pub mod Alike
-pub mod Lending
 pub mod Orders
 pub mod Shared
 pub mod Woven
+pub mod Analyses

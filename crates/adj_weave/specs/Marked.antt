@@ -2,18 +2,19 @@
 use Rattle.std.specs.Prelude.{◌≡◌, ℕ, ◌*◌, ◌≤◌, List, [], map, length, Bool, true, false, slice_index_or}
 use Rattle.adj_tree.specs.Code.{plain, Procedure}
 use Rattle.adj_tree.specs.declared.marks.Marks as flags
-use Rattle.adj_meaning.specs.Written.{find_unit}
-use Rattle.adj_transpose.specs.Marks.{Vars, Marks, full}
-use Rattle.adj_reverse.specs.Marking.{ProgramMarks, full_marks, dummy_set, place_from, read_by}
-use Rattle.adj_facts.specs.Rules.{Scope}
+use Rattle.def_meaning.specs.Written.{find_unit}
+use Rattle.def_names.specs.Numbers.{Vars}
+use Rattle.def_sweep.specs.Marks.{Marks, full}
+use Rattle.def_sweep.specs.Marking.{ProgramMarks, full_marks, dummy_set, place_from, read_by}
+use Rattle.def_flow.specs.Rules.{Scope}
 use Rattle.adj_reach.specs.Edges.{flag}
 use Rattle.adj_flow.specs.declared.units.Flow.{Flow}
 use Rattle.adj_flow.specs.Asked.{IsFlow, units_of, variables_of}
 use Rattle.adj_flow.specs.Nodes.{node_in}
 use Rattle.adj_flow.specs.Scoped.{scope_by}
 use Rattle.adj_flow.specs.Told.{flag_at, told_of}
-use Rattle.adj_activity.specs.Asked.{activity_of, liveness_of, saved_of}
-use Rattle.adj_helpers.specs.declared.callees.Dummy.{Dummy}
+use Rattle.adj_flow.specs.Marked.{activity_of, liveness_of, saved_of}
+use Rattle.adj_sweep.specs.declared.callees.Dummy.{Dummy}
 use Rattle.adj_weave.specs.declared.marks.Marked as marked
 use Rattle.adj_weave.specs.declared.marks.Marked.TheVariants as by
 

@@ -1,14 +1,14 @@
 -- What units get in their order: numbers of statements, names of adjoints, calls between them, and what is known of their dummies.
 use Rattle.std.specs.Prelude.{ℕ, suc, List, [], ◌∷◌, ◌++◌, Bool, true, false, ◌&&◌, ◌||◌, Option, Some, None, if◌then◌else◌, position, codes, drop}
 use Rattle.adj_tree.specs.Code.{name_eq, Mark, unmarked, with_count, count_from, Act, assign, choose, loop, during, call, runtime, Code, stop, step, Procedure}
-use Rattle.adj_transpose.specs.Fresh.{fresh}
-use Rattle.adj_transpose.specs.Marks.{next, behind}
-use Rattle.adj_reverse.specs.Plan.{found_or}
-use Rattle.adj_reverse.specs.Marking.{ProgramMarks}
+use Rattle.def_names.specs.Fresh.{fresh}
+use Rattle.def_names.specs.Numbers.{next, behind}
+use Rattle.def_sweep.specs.Plan.{found_or}
+use Rattle.def_sweep.specs.Marking.{ProgramMarks}
 use Rattle.adj_reach.specs.Edges.{Edges, flag}
-use Rattle.adj_helpers.specs.Steps.{are_reversed}
-use Rattle.adj_helpers.specs.declared.callees.Dummy.{Dummy}
-use Rattle.adj_helpers.specs.declared.callees.Callee.{Callee}
+use Rattle.adj_sweep.specs.HelperSteps.{are_reversed}
+use Rattle.adj_sweep.specs.declared.callees.Dummy.{Dummy}
+use Rattle.adj_sweep.specs.declared.callees.Callee.{Callee}
 use Rattle.adj_weave.specs.declared.calls.Call.{Call}
 use Rattle.adj_weave.specs.declared.calls.Counting as counting
 use Rattle.adj_weave.specs.declared.calls.Counting.TheVariants as which

@@ -1,9 +1,9 @@
 -- Declarations by what finds them, and declarations that are passed.
 use Rattle.std.specs.Prelude.{◌≡◌, ℕ, List, [], ◌∷◌, length, not, ◌==◌, ◌&&◌, ◌||◌, if◌then◌else◌}
 use Rattle.adj_tree.specs.Code.{plain, shadow, name_eq, Declaration}
-use Rattle.adj_transpose.specs.Fresh.{has_name}
-use Rattle.adj_transpose.specs.Naming.{Named, name_in}
-use Rattle.adj_transpose.specs.Marks.{Vars}
+use Rattle.def_meaning.specs.Apart.{has_name}
+use Rattle.def_sweep.specs.Naming.{Named, name_in}
+use Rattle.def_names.specs.Numbers.{Vars}
 
 -- a declaration under another name
 abbrev pub with_name : Declaration → List ℕ → Declaration

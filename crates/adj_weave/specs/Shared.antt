@@ -2,18 +2,19 @@
 use Rattle.std.specs.Prelude.{◌≡◌, ℕ, Bool, List, [], ◌++◌, map, Some, true}
 use Rattle.adj_tree.specs.Code.{plain, Procedure}
 use Rattle.adj_tree.specs.View.{procedure_of}
-use Rattle.adj_meaning.specs.Written.{find_unit}
-use Rattle.adj_names.specs.Fault.{Rules}
-use Rattle.adj_names.specs.Variables.{variables}
-use Rattle.adj_transpose.specs.Fresh.{has_name, reserved}
-use Rattle.adj_reverse.specs.Names.{adjoint_name}
-use Rattle.adj_reverse.specs.Marking.{ProgramMarks, marks_in, callee_in, first_statement}
-use Rattle.adj_checked.specs.Checked.{IsChecked}
-use Rattle.adj_emitted.specs.Shadowed.{AllHaveShadows}
+use Rattle.def_meaning.specs.Written.{find_unit}
+use Rattle.def_names.specs.Fault.{Rules}
+use Rattle.def_names.specs.Variables.{variables}
+use Rattle.def_meaning.specs.Apart.{has_name}
+use Rattle.def_names.specs.Reserved.{reserved}
+use Rattle.def_sweep.specs.Names.{adjoint_name}
+use Rattle.def_sweep.specs.Marking.{ProgramMarks, marks_in, callee_in, first_statement}
+use Rattle.law_emitted.specs.Checked.{IsChecked}
+use Rattle.law_emitted.specs.Shadowed.{AllHaveShadows}
 use Rattle.adj_sets.specs.Sets.{all_added}
-use Rattle.adj_marking.specs.View.{marks_of}
-use Rattle.adj_helpers.specs.Callees.{KnowsAll}
-use Rattle.adj_helpers.specs.Steps.{are_reversed}
+use Rattle.adj_sweep_assignment.specs.View.{marks_of}
+use Rattle.adj_sweep.specs.Callees.{KnowsAll}
+use Rattle.adj_sweep.specs.HelperSteps.{are_reversed}
 use Rattle.adj_weave.specs.declared.unit.Shared.{Shared}
 use Rattle.adj_weave.specs.declared.unit.Part.{Part}
 use Rattle.adj_weave.specs.Marked.{program_marks, reads_in}

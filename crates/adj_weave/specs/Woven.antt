@@ -2,10 +2,10 @@
 use Rattle.std.specs.Prelude.{◌≡◌, List, [], ◌∷◌, ◌++◌, map, Bool, if◌then◌else◌}
 use Rattle.adj_tree.specs.Code.{Procedure}
 use Rattle.adj_tree.specs.View.{procedure_of}
-use Rattle.adj_names.specs.Variables.{variables}
-use Rattle.adj_reverse.specs.Names.{adjoint_name}
-use Rattle.adj_reverse.specs.Marking.{ProgramMarks, first_statement}
-use Rattle.adj_reverse.specs.Program.{has_adjoint, is_carried_with, all_units, emitted_adjoint_with}
+use Rattle.def_names.specs.Variables.{variables}
+use Rattle.def_sweep.specs.Names.{adjoint_name}
+use Rattle.def_sweep.specs.Marking.{ProgramMarks, first_statement}
+use Rattle.def_sweep.specs.Program.{has_adjoint, is_carried_with, all_units, emitted_adjoint_with}
 use Rattle.adj_weave.specs.declared.weave.Aim.{Aim}
 use Rattle.adj_weave.specs.declared.weave.Emits.{Emits}
 use Rattle.adj_weave.specs.declared.weave.Table.{Table}

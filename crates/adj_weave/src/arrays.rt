@@ -3,8 +3,8 @@
 ghost use Rattle.std.specs.Prelude.{◌≡◌, ℕ, List, IfOk, OnOk};
 ghost use Rattle.adj_tree.specs.Code.{plain};
 ghost use Rattle.adj_tree.specs.View.{declaration_of, procedure_of};
-ghost use Rattle.adj_transpose.specs.Fresh.{has_name};
-ghost use Rattle.adj_reverse.specs.Marking.{arrays_of};
+ghost use Rattle.def_meaning.specs.Apart.{has_name};
+ghost use Rattle.def_sweep.specs.Marking.{arrays_of};
 ghost use Rattle.adj_weave.specs.Parts.{PassedBy};
 
 use adj_sets::NameSet;

@@ -2,20 +2,20 @@
 
 ghost use Rattle.std.specs.Prelude.{◌≡◌, ◌+◌, IfOk, map, length};
 ghost use Rattle.adj_tree.specs.View.{procedure_of};
-ghost use Rattle.adj_transpose.specs.Naming.{AreApart};
-ghost use Rattle.adj_transpose.specs.Program.{unit_name};
-ghost use Rattle.adj_reverse.specs.Names.{adjoint_name};
-ghost use Rattle.adj_reverse.specs.Marking.{callee_in};
-ghost use Rattle.adj_helpers.specs.Callees.{KnowsAll};
+ghost use Rattle.def_meaning.specs.Apart.{AreApart};
+ghost use Rattle.def_sweep.specs.Declared.{unit_name};
+ghost use Rattle.def_sweep.specs.Names.{adjoint_name};
+ghost use Rattle.def_sweep.specs.Marking.{callee_in};
+ghost use Rattle.adj_sweep.specs.Callees.{KnowsAll};
 ghost use Rattle.adj_weave.specs.Marked.{program_marks, reads_in, HasUnits, KnowsUnits};
 ghost use Rattle.adj_weave.specs.Orders.{dummies_said, said, said_of};
 
 use crate::marks::Marked;
-use adj_helpers::callees::{Callee, Callees, Dummy};
 use adj_reach::flag_at;
 use adj_sets::{NameSet, add_names};
+use adj_sweep::callees::{Callee, Callees, Dummy};
+use adj_symbols_writes::{read_dummies, written_dummies};
 use adj_tree::{Flags, Memory, Name, Unit};
-use adj_writes::{read_dummies, written_dummies};
 use std::alloc::Global;
 
 // What the sweeps of calls know of the dummies of the unit at a place, of which flags say whether it writes them, and whether it reads

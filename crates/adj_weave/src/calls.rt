@@ -3,13 +3,13 @@
 ghost use Rattle.std.specs.Prelude.{◌≡◌, ◌++◌, IfOk, OnOk, map, option_map, position, true, false};
 ghost use Rattle.adj_tree.specs.Code.{name_eq};
 ghost use Rattle.adj_tree.specs.View.{mark_of, act_of, code_of, procedure_of};
-ghost use Rattle.adj_transpose.specs.Marks.{next, behind};
+ghost use Rattle.def_names.specs.Numbers.{next, behind};
 ghost use Rattle.adj_weave.specs.Orders.{only_called, turned, call_to, listed_act, listed_in, listed_from, is_edge, edges_of};
 
 use crate::marks::Marked;
 use crate::numbers::after;
-use adj_helpers::steps::MarkedLoops;
 use adj_sets::NameSet;
+use adj_sweep::steps::MarkedLoops;
 use adj_tree::{Act, Mark, Memory, Name, Stmts, Unit};
 use std::alloc::Global;
 

@@ -3,18 +3,18 @@
 ghost use Rattle.std.specs.Prelude.{◌≡◌, ◌++◌, ◌∷◌, [], IfOk, OnOk, map};
 ghost use Rattle.adj_tree.specs.Code.{shadow};
 ghost use Rattle.adj_tree.specs.View.{declaration_of, procedure_of};
-ghost use Rattle.adj_transpose.specs.Naming.{name_in};
-ghost use Rattle.adj_transpose.specs.MarkedProgram.{declared_behind};
-ghost use Rattle.adj_transpose.specs.Program.{declaration, declared_helpers};
+ghost use Rattle.def_sweep.specs.Naming.{name_in};
+ghost use Rattle.def_sweep.specs.MarkedProgram.{declared_behind};
+ghost use Rattle.def_sweep.specs.Declared.{declaration, declared_helpers};
 ghost use Rattle.adj_naming.specs.Roles.{variable_of};
 ghost use Rattle.adj_naming.specs.Table.{table_of};
-ghost use Rattle.adj_marking.specs.View.{marks_of};
+ghost use Rattle.adj_sweep_assignment.specs.View.{marks_of};
 ghost use Rattle.adj_weave.specs.Parts.{with_name, declared_among};
 
-use adj_marking::Marking;
 use adj_naming::declared::{Declared, declaration, first_declarations, scalar};
 use adj_naming::names::Names;
 use adj_naming::role::Helper;
+use adj_sweep_assignment::Marking;
 use adj_tree::{Decl, Memory, Name, Unit};
 use std::alloc::Global;
 

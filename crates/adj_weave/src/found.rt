@@ -3,18 +3,18 @@
 ghost use Rattle.std.specs.Prelude.{◌≡◌, ◌∷◌, [], ◌<◌, ◌+◌, ◌^◌, IfOk, map, length};
 ghost use Rattle.adj_tree.specs.Code.{Procedure};
 ghost use Rattle.adj_tree.specs.View.{procedure_of};
-ghost use Rattle.adj_transpose.specs.Naming.{AreApart};
-ghost use Rattle.adj_transpose.specs.Program.{unit_name, unit_at};
-ghost use Rattle.adj_reverse.specs.Program.{has_adjoint, is_carried_with};
-ghost use Rattle.adj_helpers.specs.Steps.{are_reversed};
+ghost use Rattle.def_meaning.specs.Apart.{AreApart};
+ghost use Rattle.def_sweep.specs.Declared.{unit_name, unit_at};
+ghost use Rattle.def_sweep.specs.Program.{has_adjoint, is_carried_with};
+ghost use Rattle.adj_sweep.specs.HelperSteps.{are_reversed};
 ghost use Rattle.adj_weave.specs.Marked.{program_marks};
 ghost use Rattle.adj_weave.specs.Orders.{ends_of};
 
 use crate::calls::{Counting, edges, listed_calls};
 use crate::marks::Marked;
-use adj_helpers::steps::MarkedLoops;
 use adj_reach::{flag_at, reach};
 use adj_sets::NameSet;
+use adj_sweep::steps::MarkedLoops;
 use adj_tree::{Flags, Memory, Unit};
 use std::alloc::Global;
 

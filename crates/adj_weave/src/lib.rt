@@ -2,17 +2,19 @@
 //!
 //! `weave` puts the program together and `unit` an adjoint unit, of `shadows`, `declarations` and `arrays`; `source` has the names,
 //! `numbers` those of statements, `marks` what is marked, `calls` and `found` the units that are emitted, and `called` what the
-//! sweeps of calls know of units. Each clause says that the result is that of the emission's definition
-//! (`adj_reverse/specs/Program.antt`), unless memory runs out. The crate stands on those definitions, on the sweeps (adj_emission),
-//! helpers (adj_helpers), names (adj_naming), variables (adj_symbols) and the flow of a program (adj_flow). The layer above uses
-//! `adjoint`, and says whether marked loops are reversed by schedules.
+//! sweeps of calls know of units. `head` gives the adjoint of a head as its caller sees it: its name, and which dummies have a shadow.
+//! Each clause says that the result is that of the emission's definition (`def_sweep/specs/Program.antt`), unless memory runs out.
+//! The crate stands on those definitions, on the sweeps (adj_sweep), names (adj_naming), variables (adj_symbols) and the flow of a
+//! program (adj_flow). The layer above uses `adjoint` and `head_adjoint`, and says whether marked loops are reversed by schedules.
 #![tactic(auto)]
 
+pub mod analyses;
 pub mod arrays;
 pub mod called;
 pub mod calls;
 pub mod declarations;
 pub mod found;
+mod head;
 pub mod marks;
 pub mod numbers;
 pub mod shadows;
@@ -20,5 +22,7 @@ pub mod source;
 pub mod unit;
 mod weave;
 
-pub use marks::{FoundMarks, Marked, shadows_law};
+pub use analyses::told_law;
+pub use head::{HeadAdjoint, head_adjoint};
+pub use marks::{FoundMarks, Marked};
 pub use weave::adjoint;

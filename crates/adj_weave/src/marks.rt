@@ -4,14 +4,13 @@ ghost use Rattle.std.specs.Prelude.{◌≡◌, ◌+◌, ◌*◌, ◌<◌, IfOk, 
 ghost use Rattle.adj_tree.specs.Code.{plain};
 ghost use Rattle.adj_reach.specs.Edges.{flag};
 ghost use Rattle.adj_flow.specs.Told.{told_of};
-ghost use Rattle.adj_marking.specs.View.{found_marks, marks_of};
-ghost use Rattle.adj_weave.specs.Lending.{ExactHaveShadows};
+ghost use Rattle.adj_sweep_assignment.specs.View.{found_marks, marks_of};
 ghost use Rattle.adj_weave.specs.Marked.{scope_in, marks_at, dummy_told, program_marks, unit_marks, unit_dummy, HasUnits};
 
 use adj_flow::{End, Flow, told};
-use adj_helpers::callees::Dummy;
-use adj_marking::{Found, Marking};
 use adj_reach::flag_at;
+use adj_sweep::callees::Dummy;
+use adj_sweep_assignment::{Found, Marking};
 use adj_tree::{Marks, Memory, Name};
 
 /// What analyses found, by flags over the flow of the program.
@@ -139,8 +138,3 @@ impl<'a> Marked<'a> {
         }
     }
 }
-
-/// By the adjoints and shadows of an exact activity, the shadows that are used are there.
-pub fn shadows_law()
-    ensures shadows { ExactHaveShadows }
-{}

@@ -2,7 +2,7 @@
 
 ghost use Rattle.std.specs.Prelude.{◌≡◌, ◌+◌, IfOk, map};
 ghost use Rattle.adj_tree.specs.View.{act_of, code_of, procedure_of};
-ghost use Rattle.adj_transpose.specs.Marks.{next, behind};
+ghost use Rattle.def_names.specs.Numbers.{next, behind};
 ghost use Rattle.adj_weave.specs.Orders.{numbers_from};
 
 use adj_tree::{Act, Memory, Stmts, Unit};

@@ -1,14 +1,14 @@
 //! Variables with their shadows.
 
 ghost use Rattle.std.specs.Prelude.{◌≡◌, ◌++◌, ◌∷◌, [], IfOk, OnOk};
-ghost use Rattle.adj_transpose.specs.Marked.{names_in};
-ghost use Rattle.adj_transpose.specs.MarkedProgram.{shadows_behind};
-ghost use Rattle.adj_transpose.specs.Program.{unmarked};
+ghost use Rattle.def_sweep.specs.Marked.{names_in};
+ghost use Rattle.def_sweep.specs.MarkedProgram.{shadows_behind};
+ghost use Rattle.def_sweep.specs.Declared.{unmarked};
 ghost use Rattle.adj_naming.specs.Table.{table_of};
-ghost use Rattle.adj_marking.specs.View.{marks_of};
+ghost use Rattle.adj_sweep_assignment.specs.View.{marks_of};
 
-use adj_marking::Marking;
 use adj_naming::names::Names;
+use adj_sweep_assignment::Marking;
 use adj_tree::{Memory, Name};
 use std::alloc::Global;
 

@@ -2,8 +2,8 @@
 
 ghost use Rattle.std.specs.Prelude.{◌≡◌, ◌++◌, ◌∷◌, [], ℕ, List, IfOk, OnOk, map, flat_map, length};
 ghost use Rattle.adj_tree.specs.View.{procedure_of};
-ghost use Rattle.adj_names.specs.Variables.{variables};
-ghost use Rattle.adj_transpose.specs.Program.{unit_name};
+ghost use Rattle.def_names.specs.Variables.{variables};
+ghost use Rattle.def_sweep.specs.Declared.{unit_name};
 ghost use Rattle.adj_sets.specs.Sets.{all_added};
 ghost use Rattle.adj_weave.specs.Orders.{adjoints_from, flagged};
 

@@ -2,22 +2,22 @@
 
 ghost use Rattle.std.specs.Prelude.{◌≡◌, IfOk};
 ghost use Rattle.adj_tree.specs.View.{procedure_of};
-ghost use Rattle.adj_reverse.specs.Program.{adjoint_unit_with};
+ghost use Rattle.def_sweep.specs.Program.{adjoint_unit_with};
 ghost use Rattle.adj_weave.specs.Shared.{sources, marks_for, reversed_for, IsShared, IsPart, HaveShadows};
 
 use crate::arrays::arrays_of;
 use crate::declarations::declarations;
 use crate::marks::Marked;
 use crate::shadows::{shadowed, with_shadows};
-use adj_emission::bodies::Body;
-use adj_emission::plan::Plan;
-use adj_helpers::callees::Callees;
-use adj_helpers::steps::MarkedLoops;
-use adj_helpers::used::helpers_used;
-use adj_helpers::uses::Known;
-use adj_marking::Marking;
 use adj_naming::naming::names;
 use adj_sets::NameSet;
+use adj_sweep::bodies::Body;
+use adj_sweep::callees::Callees;
+use adj_sweep::plan::Plan;
+use adj_sweep::steps::MarkedLoops;
+use adj_sweep::used::helpers_used;
+use adj_sweep::uses::Known;
+use adj_sweep_assignment::Marking;
 use adj_tree::{Items, Memory, Name, Unit};
 use std::alloc::Global;
 

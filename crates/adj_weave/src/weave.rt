@@ -3,11 +3,11 @@
 ghost use Rattle.std.specs.Prelude.{◌≡◌, ◌++◌, ◌∷◌, [], ◌<◌, true, IfOk, OnOk, map, length};
 ghost use Rattle.adj_tree.specs.Code.{Procedure};
 ghost use Rattle.adj_tree.specs.View.{procedure_of, procedures_of};
-ghost use Rattle.adj_transpose.specs.Naming.{AreApart};
-ghost use Rattle.adj_transpose.specs.Program.{unit_name, unit_at};
-ghost use Rattle.adj_reverse.specs.Program.{has_adjoint, is_carried_with, emitted_adjoint_with, emitted_units_with, emitted_program_with};
-ghost use Rattle.adj_emitted.specs.Shadowed.{AllHaveShadows};
-ghost use Rattle.adj_helpers.specs.Steps.{are_reversed};
+ghost use Rattle.def_meaning.specs.Apart.{AreApart};
+ghost use Rattle.def_sweep.specs.Declared.{unit_name, unit_at};
+ghost use Rattle.def_sweep.specs.Program.{has_adjoint, is_carried_with, emitted_adjoint_with, emitted_units_with, emitted_program_with};
+ghost use Rattle.law_emitted.specs.Shadowed.{AllHaveShadows};
+ghost use Rattle.adj_sweep.specs.HelperSteps.{are_reversed};
 ghost use Rattle.adj_weave.specs.Marked.{program_marks, IsOver};
 ghost use Rattle.adj_weave.specs.Orders.{flagged};
 ghost use Rattle.adj_weave.specs.Shared.{sources, marks_for, reversed_for, IsCheckedBySome, IsPart};
@@ -20,9 +20,9 @@ use crate::numbers::first_statements;
 use crate::shadows::{shadowed, unmarked};
 use crate::source::{add_all_flagged, adjoint_names, all_variables, source_names, unit_names};
 use crate::unit::{Part, Shared, adjoint_unit};
-use adj_helpers::steps::MarkedLoops;
 use adj_naming::naming::not_free;
 use adj_sets::{NameSet, add_names};
+use adj_sweep::steps::MarkedLoops;
 use adj_tree::{Head, Items, Memory, Name, NameList, Program, Unit, Units};
 use std::alloc::Global;
 

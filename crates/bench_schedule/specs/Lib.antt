@@ -1,2 +1,3 @@
+-- the definitions of the crate, a module a subject
 pub mod Job
 pub mod Splits

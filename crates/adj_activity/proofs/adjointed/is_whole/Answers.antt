@@ -1,8 +1,8 @@
 use Rattle.std.proofs.Common.{ap, sym, ◌∙◌}
 use Rattle.adj_tree.specs.Code.{plain}
 use Rattle.adj_tree.specs.View.{terms_of}
-use Rattle.adj_meaning.proofs.Variables.{var_refl}
-use Rattle.adj_transpose.specs.Facts.{whole}
+use Rattle.def_meaning.proofs.Variables.{var_refl}
+use Rattle.def_sweep.specs.Facts.{whole}
 use Rattle.adj_activity.proofs.adjointed.is_whole.Goals as goal
 
 pub returns-in-Empty : goal.returns-in-Empty

@@ -2,7 +2,8 @@
 use Rattle.std.proofs.Common.{◌≡◌, ◌++◌, map, drop}
 use Rattle.std.specs.List.{flat_map}
 use Rattle.adj_flow.specs.Rows.{row_of}
-use Rattle.adj_activity.specs.View.{pair_edges, pair_of}
+use Rattle.adj_activity.specs.View.{pair_edges}
+use Rattle.adj_flow.specs.Pairs.{pair_of}
 use Rattle.adj_activity.proofs.calls.add_pairs.Given as goal
 
 abbrev pub invariant-loop-pair : goal.invariant-loop-pair

@@ -4,11 +4,11 @@ use Rattle.std.specs.Prelude.{IsTrue}
 use Rattle.std.proofs.lemmas.List.{length-map}
 use Rattle.std.proofs.Math.ListN.{get_or-map}
 use Rattle.adj_tree.specs.View.{procedure_of}
-use Rattle.adj_facts.specs.Activity.{IsActivity}
+use Rattle.def_flow.specs.Activity.{IsActivity}
 use Rattle.adj_flow.specs.Rows.{row_of}
 use Rattle.adj_reach.specs.Edges.{ReachedFrom, ReachedBack, flag}
 use Rattle.adj_flow.specs.Asked.{units_of, variables_of, problem_of}
-use Rattle.adj_activity.specs.Told.{activity_told}
+use Rattle.adj_flow.specs.ActivityTold.{activity_told}
 use Rattle.adj_flow.specs.Scoped.{scope_by}
 use Rattle.adj_activity.specs.View.{flow_listed, shadows_listed}
 use Rattle.adj_activity.specs.Starts.{point_nodes, all_active}

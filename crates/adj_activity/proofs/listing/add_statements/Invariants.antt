@@ -2,7 +2,7 @@
 use Rattle.std.proofs.Common.{◌≡◌, ◌++◌, map, drop}
 use Rattle.std.specs.List.{flat_map}
 use Rattle.adj_flow.specs.Rows.{row_of}
-use Rattle.adj_writes.specs.Table.{value_of}
+use Rattle.adj_symbols_writes.specs.Table.{value_of}
 use Rattle.adj_flow.specs.View.{standing_of}
 use Rattle.adj_flow.specs.NodeView.{found_at}
 use Rattle.adj_activity.specs.View.{standing_edges}

@@ -1,9 +1,9 @@
 use Rattle.std.proofs.Common.{ℕ, List, ap, ◌∙◌, ◌++◌, map}
-use Rattle.adj_facts.specs.Variables.{list_if}
+use Rattle.def_names.specs.VariableLists.{list_if}
 use Rattle.adj_flow.specs.Rows.{Row, row_of}
 use Rattle.adj_reach.specs.Edges.{flag}
-use Rattle.adj_writes.specs.Table.{value_of}
-use Rattle.adj_writes.proofs.Stepping.{flat_more}
+use Rattle.adj_symbols_writes.specs.Table.{value_of}
+use Rattle.adj_symbols_writes.proofs.Stepping.{flat_more}
 use Rattle.adj_flow.specs.NodeView.{found_at}
 use Rattle.adj_activity.specs.View.{row_edges}
 use Rattle.adj_activity.proofs.listing.edges.Goals as goal

@@ -1,9 +1,9 @@
 -- The edges of the units passed, and of those that are left.
 use Rattle.std.proofs.Common.{◌≡◌, ◌++◌, map, drop}
 use Rattle.std.specs.List.{flat_map}
-use Rattle.adj_facts.specs.Variables.{list_if}
+use Rattle.def_names.specs.VariableLists.{list_if}
 use Rattle.adj_flow.specs.Rows.{row_of}
-use Rattle.adj_writes.specs.Table.{value_of}
+use Rattle.adj_symbols_writes.specs.Table.{value_of}
 use Rattle.adj_reach.specs.Edges.{flag}
 use Rattle.adj_flow.specs.NodeView.{found_at}
 use Rattle.adj_activity.specs.View.{row_edges, all_edges}

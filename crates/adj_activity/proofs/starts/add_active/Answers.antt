@@ -1,11 +1,11 @@
 use Rattle.std.proofs.Common.{ap, ◌∙◌, ◌++◌, map}
 use Rattle.std.specs.Prelude.{◌&&◌}
 use Rattle.adj_tree.specs.Code.{Var, plain}
-use Rattle.adj_facts.specs.Rules.{list_of, somewhere}
-use Rattle.adj_facts.specs.Variables.{list_if}
+use Rattle.def_flow.specs.Rules.{list_of, somewhere}
+use Rattle.def_names.specs.VariableLists.{list_if}
 use Rattle.adj_flow.specs.Rows.{row_of}
 use Rattle.adj_flow.specs.WayView.{way_of}
-use Rattle.adj_writes.proofs.Stepping.{flat_more}
+use Rattle.adj_symbols_writes.proofs.Stepping.{flat_more}
 use Rattle.adj_flow.specs.Nodes.{node_in}
 use Rattle.adj_flow.specs.NodeView.{vars_of, told_at}
 use Rattle.adj_activity.proofs.starts.add_active.Goals as goal

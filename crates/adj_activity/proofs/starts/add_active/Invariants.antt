@@ -3,8 +3,8 @@ use Rattle.std.proofs.Common.{◌≡◌, ◌++◌, map, drop}
 use Rattle.std.specs.Prelude.{◌&&◌}
 use Rattle.std.specs.List.{flat_map}
 use Rattle.adj_tree.specs.Code.{plain}
-use Rattle.adj_facts.specs.Rules.{list_of, somewhere}
-use Rattle.adj_facts.specs.Variables.{list_if}
+use Rattle.def_flow.specs.Rules.{list_of, somewhere}
+use Rattle.def_names.specs.VariableLists.{list_if}
 use Rattle.adj_flow.specs.Rows.{row_of}
 use Rattle.adj_flow.specs.WayView.{way_of}
 use Rattle.adj_flow.specs.Nodes.{node_in}

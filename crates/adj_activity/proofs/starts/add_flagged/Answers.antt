@@ -1,6 +1,6 @@
 use Rattle.std.proofs.Common.{ℕ, List, ◌++◌}
 use Rattle.adj_tree.specs.Code.{plain}
-use Rattle.adj_facts.specs.Rules.{list_of}
+use Rattle.def_flow.specs.Rules.{list_of}
 use Rattle.adj_flow.specs.Rows.{row_of}
 use Rattle.adj_flow.specs.Nodes.{node_in}
 use Rattle.adj_flow.specs.NodeView.{vars_of}

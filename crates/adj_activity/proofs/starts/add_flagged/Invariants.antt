@@ -2,8 +2,8 @@
 use Rattle.std.proofs.Common.{◌≡◌, ◌++◌, drop}
 use Rattle.std.specs.List.{flat_map}
 use Rattle.adj_tree.specs.Code.{plain}
-use Rattle.adj_facts.specs.Problem.{flagged}
-use Rattle.adj_facts.specs.Rules.{list_of}
+use Rattle.def_flow.specs.Problem.{flagged}
+use Rattle.def_flow.specs.Rules.{list_of}
 use Rattle.adj_flow.specs.Rows.{row_of}
 use Rattle.adj_flow.specs.Nodes.{node_in}
 use Rattle.adj_flow.specs.NodeView.{vars_of}

@@ -1,7 +1,7 @@
 -- It isn't flagged on the ways passed.
 use Rattle.std.proofs.Common.{◌≡◌, map, drop}
 use Rattle.adj_tree.specs.Code.{plain}
-use Rattle.adj_facts.specs.Rules.{somewhere}
+use Rattle.def_flow.specs.Rules.{somewhere}
 use Rattle.adj_flow.specs.Rows.{row_of}
 use Rattle.adj_flow.specs.WayView.{way_of}
 use Rattle.adj_flow.specs.NodeView.{told_at}

@@ -2,7 +2,7 @@
 use Rattle.std.proofs.Common.{◌≡◌, ◌+◌, ◌*◌, ◌++◌, drop}
 use Rattle.std.specs.List.{flat_map}
 use Rattle.adj_tree.specs.Code.{plain}
-use Rattle.adj_writes.specs.View.{vars_seen}
+use Rattle.adj_symbols_writes.specs.View.{vars_seen}
 use Rattle.adj_flow.specs.Rows.{row_of}
 use Rattle.adj_flow.specs.Nodes.{linked, node_in}
 use Rattle.adj_flow.specs.NodeView.{vars_of}

@@ -2,9 +2,9 @@ use Rattle.std.proofs.Common.{ap, sym, ◌∙◌}
 use Rattle.std.specs.Prelude.{is_some, ◌||◌}
 use Rattle.adj_tree.specs.Code.{plain}
 use Rattle.adj_tree.specs.View.{term_of}
-use Rattle.adj_facts.specs.Ways.{is_name}
-use Rattle.adj_writes.specs.Table.{value_of}
-use Rattle.adj_activity.proofs.Passing.{some_more}
+use Rattle.def_flow.specs.Ways.{is_name}
+use Rattle.adj_symbols_writes.specs.Table.{value_of}
+use Rattle.adj_flow.proofs.Some.{some_more}
 use Rattle.adj_activity.proofs.ways.add_name.Goals as goal
 
 pub returns-in_ok-add-in-Var : goal.returns-in_ok-add-in-Var

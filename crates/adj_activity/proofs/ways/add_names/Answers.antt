@@ -2,8 +2,8 @@ use Rattle.std.proofs.Common.{ap, sym, ◌∙◌}
 use Rattle.std.specs.Prelude.{is_some, ◌||◌}
 use Rattle.adj_tree.specs.Code.{plain}
 use Rattle.adj_tree.specs.View.{term_of, terms_of}
-use Rattle.adj_facts.specs.Ways.{is_name, is_actual}
-use Rattle.adj_writes.specs.Table.{value_of}
+use Rattle.def_flow.specs.Ways.{is_name, is_actual}
+use Rattle.adj_symbols_writes.specs.Table.{value_of}
 use Rattle.adj_activity.proofs.Passing.{or_assoc}
 use Rattle.adj_activity.proofs.ways.add_names.Goals as goal
 

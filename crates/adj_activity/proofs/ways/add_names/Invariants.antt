@@ -3,8 +3,8 @@ use Rattle.std.proofs.Common.{◌≡◌, ℕ, List}
 use Rattle.std.specs.Prelude.{◌||◌, is_some}
 use Rattle.adj_tree.specs.Code.{plain}
 use Rattle.adj_tree.specs.View.{terms_of}
-use Rattle.adj_facts.specs.Ways.{is_actual}
-use Rattle.adj_writes.specs.Table.{value_of}
+use Rattle.def_flow.specs.Ways.{is_actual}
+use Rattle.adj_symbols_writes.specs.Table.{value_of}
 use Rattle.adj_activity.proofs.ways.add_names.Given as goal
 
 abbrev pub invariant-loop-rest : goal.invariant-loop-rest

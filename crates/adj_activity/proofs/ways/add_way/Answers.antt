@@ -1,11 +1,11 @@
 use Rattle.std.proofs.Common.{ap, ◌∙◌, ◌++◌}
 use Rattle.std.specs.Prelude.{not, ◌&&◌}
 use Rattle.adj_tree.specs.Code.{Var, plain}
-use Rattle.adj_facts.specs.Ways.{assigned_on, passed_on}
-use Rattle.adj_facts.specs.Variables.{list_if}
+use Rattle.def_flow.specs.Ways.{assigned_on, passed_on}
+use Rattle.def_names.specs.VariableLists.{list_if}
 use Rattle.adj_flow.specs.Rows.{row_of}
 use Rattle.adj_flow.specs.WayView.{number_of, deed_of}
-use Rattle.adj_writes.proofs.Stepping.{flat_more}
+use Rattle.adj_symbols_writes.proofs.Stepping.{flat_more}
 use Rattle.adj_flow.specs.Nodes.{linked, node_in}
 use Rattle.adj_flow.specs.NodeView.{vars_of}
 use Rattle.adj_activity.proofs.ways.add_way.Goals as goal

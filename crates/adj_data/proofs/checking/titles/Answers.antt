@@ -1,7 +1,7 @@
 use Rattle.std.proofs.Common.{◌≡◌, ◌++◌, ap, sym, ◌∙◌, append_assoc}
 use Rattle.std.specs.Prelude.{◌||◌}
 use Rattle.adj_tree.specs.View.{procedure_of}
-use Rattle.adj_names.specs.Fresh.{has_name}
+use Rattle.def_meaning.specs.Apart.{has_name}
 use Rattle.adj_sets.proofs.NameSets.{has-behind}
 use Rattle.adj_data.specs.Marked.{marked_names, tangent_mark, adjoint_mark}
 use Rattle.adj_data.proofs.checking.titles.Goals as goal

@@ -1,7 +1,7 @@
 use Rattle.std.proofs.Common.{◌≡◌, false, ap, sym, ◌∙◌, map}
 use Rattle.adj_tree.specs.View.{extent_of}
 use Rattle.adj_tree.specs.declared.unit.Decl.{Decl}
-use Rattle.adj_names.specs.Fresh.{has_name}
+use Rattle.def_meaning.specs.Apart.{has_name}
 use Rattle.adj_data.proofs.Declarations.{undeclared, declared_placed}
 use Rattle.adj_data.proofs.declared.extents.Goals as goal
 

@@ -3,8 +3,8 @@ use Rattle.std.proofs.lemmas.List.{map_push}
 use Rattle.adj_tree.specs.Code.{plain}
 use Rattle.adj_tree.specs.declared.unit.Decl.{Decl}
 use Rattle.adj_tree.specs.View.{declaration_of}
-use Rattle.adj_meaning.specs.Units.{declared}
-use Rattle.adj_names.specs.Fresh.{has_name}
+use Rattle.def_meaning.specs.Units.{declared}
+use Rattle.def_meaning.specs.Apart.{has_name}
 use Rattle.adj_sets.specs.Sets.{with_added}
 use Rattle.adj_sets.proofs.NameSets.{with_added_is}
 use Rattle.adj_data.proofs.Declarations.{first_kept, first_passed}

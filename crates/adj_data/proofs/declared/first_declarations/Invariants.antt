@@ -1,7 +1,7 @@
 use Rattle.std.proofs.Common.{◌≡◌, ◌++◌, ℕ, List, map, drop}
 use Rattle.adj_tree.specs.Code.{plain}
 use Rattle.adj_tree.specs.View.{declaration_of}
-use Rattle.adj_meaning.specs.Units.{declared}
+use Rattle.def_meaning.specs.Units.{declared}
 use Rattle.adj_data.proofs.declared.first_declarations.Given as goal
 
 abbrev pub invariant-loop-decl : goal.invariant-loop-decl

@@ -1,7 +1,7 @@
 use Rattle.std.proofs.Common.{length, ap, subst, sym, ◌∙◌}
 use Rattle.std.proofs.lemmas.Bool.{eqb-true}
 use Rattle.std.proofs.lemmas.Result.{err_from_is_err_and}
-use Rattle.adj_text.specs.Line.{cut_lines}
+use Rattle.def_text.specs.Line.{cut_lines}
 use Rattle.adj_data.specs.Entries.{with_items}
 use Rattle.adj_data.specs.Faults.{entries_fault}
 use Rattle.adj_data.specs.Given.{IsFirstFault}

@@ -1,5 +1,5 @@
 use Rattle.std.proofs.Common.{◌≡◌, [], length}
-use Rattle.adj_text.specs.Line.{cut_lines}
+use Rattle.def_text.specs.Line.{cut_lines}
 use Rattle.adj_data.specs.Items.{items_of}
 use Rattle.adj_data.specs.Entries.{with_items}
 use Rattle.adj_data.specs.Faults.{entries_fault}

@@ -1,6 +1,6 @@
 use Rattle.std.proofs.Common.{ap, ◌∙◌, ◌++◌, ◌∷◌, [], take, sym, add-one}
 use Rattle.std.proofs.Math.Seq.{take-suc}
-use Rattle.adj_names.specs.Fresh.{has_name}
+use Rattle.def_meaning.specs.Apart.{has_name}
 use Rattle.adj_sets.specs.Sets.{with_added}
 use Rattle.adj_sets.proofs.NameSets.{with_added_is}
 use Rattle.adj_data.proofs.Entering.{stands_more}

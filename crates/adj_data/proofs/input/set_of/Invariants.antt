@@ -1,5 +1,5 @@
 use Rattle.std.proofs.Common.{◌≡◌, ℕ, List, take}
-use Rattle.adj_names.specs.Fresh.{has_name}
+use Rattle.def_meaning.specs.Apart.{has_name}
 use Rattle.adj_data.proofs.input.set_of.Given as goal
 
 abbrev pub invariant-loop-name : goal.invariant-loop-name

@@ -2,7 +2,7 @@ use Rattle.std.proofs.Common.{◌≡◌, ◌+◌, map, drop, ap, subst, sym, ◌
 use Rattle.std.proofs.lemmas.Result.{err_from_is_err_and}
 use Rattle.adj_tree.specs.Code.{plain}
 use Rattle.adj_tree.specs.View.{extent_of, declaration_of, procedure_of}
-use Rattle.adj_meaning.specs.Units.{declared}
+use Rattle.def_meaning.specs.Units.{declared}
 use Rattle.adj_data.specs.Entries.{entry_named}
 use Rattle.adj_data.specs.Faults.{or_else, given_fault, dummy_fault, dummies_fault}
 use Rattle.adj_data.specs.Given.{IsFirstFault}

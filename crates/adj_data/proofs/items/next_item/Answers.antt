@@ -1,7 +1,7 @@
 use Rattle.std.proofs.Common.{◌≡◌, ◌-◌, ◌∙◌, ◌∷◌, List, ℕ, length, take, drop, sym, ap, arith}
 use Rattle.std.proofs.lemmas.List.{length-drop, take_rest}
 use Rattle.std.specs.List.{prefix_len}
-use Rattle.adj_text.specs.Char.{is_blank}
+use Rattle.def_text.specs.Char.{is_blank}
 use Rattle.adj_data.specs.Items.{texts_in}
 use Rattle.adj_data.proofs.Cutting.{text_len, skipped, none_left, first_text}
 use Rattle.adj_data.proofs.items.next_item.Goals as goal

@@ -1,5 +1,5 @@
 use Rattle.std.proofs.Common.{◌≡◌, ◌+◌, ◌<◌, ◌++◌, length, drop, sym, ap, subst, ◌∙◌}
-use Rattle.adj_names.specs.Fresh.{has_name}
+use Rattle.def_meaning.specs.Apart.{has_name}
 use Rattle.adj_sets.specs.Sets.{with_added}
 use Rattle.adj_sets.proofs.NameSets.{with_added_is}
 use Rattle.adj_data.specs.Marked.{marked_names}

@@ -1,5 +1,5 @@
 use Rattle.std.proofs.Common.{◌≡◌, ◌++◌, ℕ, List, drop}
-use Rattle.adj_names.specs.Fresh.{has_name}
+use Rattle.def_meaning.specs.Apart.{has_name}
 use Rattle.adj_data.specs.Marked.{marked_names}
 use Rattle.adj_data.proofs.marks.add_marked.Given as goal
 

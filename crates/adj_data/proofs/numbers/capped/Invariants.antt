@@ -1,5 +1,5 @@
 use Rattle.std.proofs.Common.{◌≡◌, ◌+◌, ◌^◌, min, take}
-use Rattle.adj_text.specs.Char.{number_of}
+use Rattle.def_text.specs.Char.{number_of}
 use Rattle.adj_data.proofs.numbers.capped.Given as goal
 
 abbrev pub invariant-loop-digit : goal.invariant-loop-digit

@@ -3,7 +3,7 @@ use Rattle.std.specs.Prelude.{int_lt, int_le, ◌&&◌}
 use Rattle.std.proofs.Math.IntN.{nat_abs}
 use Rattle.std.proofs.Math.Seq.{take-suc}
 use Rattle.std.proofs.lemmas.Int.{to_z-of_z}
-use Rattle.adj_meaning.specs.Units.{elements}
+use Rattle.def_meaning.specs.Units.{elements}
 use Rattle.adj_data.proofs.Elements.{Multiplied, multiplied_more, from_one, extents_low}
 use Rattle.adj_data.proofs.slots.elements.Goals as goal
 

@@ -1,5 +1,5 @@
 use Rattle.std.proofs.Common.{◌+◌, ◌≤◌, arith}
-use Rattle.adj_text.proofs.Parentheses.{group_ends, group_here, group_later}
+use Rattle.def_text.proofs.Parentheses.{group_ends, group_here, group_later}
 use Rattle.adj_fixed.proofs.class.group_len.Goals as goal
 use Rattle.adj_fixed.proofs.class.group_len.Goals.{else-c-eq41-via-then-c-eq41+else-depth-eq1, else-c-eq41-via-else-c-eq41}
 

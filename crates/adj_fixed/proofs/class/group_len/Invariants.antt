@@ -1,5 +1,5 @@
 use Rattle.std.proofs.Common.{◌≡◌, ◌≤◌, ◌+◌, drop, option_map}
-use Rattle.adj_text.specs.Class.{group_len}
+use Rattle.def_text.specs.Class.{group_len}
 use Rattle.adj_fixed.proofs.class.group_len.Given as goal
 
 abbrev pub invariant-loop-i : goal.invariant-loop-i

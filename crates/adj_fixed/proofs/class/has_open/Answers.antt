@@ -1,5 +1,5 @@
 use Rattle.std.proofs.Common.{◌+◌, ◌≤◌, arith}
-use Rattle.adj_text.proofs.Parentheses.{open_ends, open_here, open_later}
+use Rattle.def_text.proofs.Parentheses.{open_ends, open_here, open_later}
 use Rattle.adj_fixed.proofs.class.has_open.Goals as goal
 use Rattle.adj_fixed.proofs.class.has_open.Goals.{else-c-sought-via-then-c-sought+else-depth-eq0, else-c-sought-via-else-c-sought}
 

@@ -1,5 +1,5 @@
 use Rattle.std.proofs.Common.{◌≡◌, ◌≤◌, drop}
-use Rattle.adj_text.specs.Class.{has_open}
+use Rattle.def_text.specs.Class.{has_open}
 use Rattle.adj_fixed.proofs.class.has_open.Given as goal
 
 abbrev pub invariant-loop-c : goal.invariant-loop-c

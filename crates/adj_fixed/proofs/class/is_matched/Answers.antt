@@ -1,5 +1,5 @@
 use Rattle.std.proofs.Common.{◌+◌, ◌≤◌, arith}
-use Rattle.adj_text.proofs.Parentheses.{matched_ends, matched_fails, matched_later}
+use Rattle.def_text.proofs.Parentheses.{matched_ends, matched_fails, matched_later}
 use Rattle.adj_fixed.proofs.class.is_matched.Goals as goal
 use Rattle.adj_fixed.proofs.class.is_matched.Goals.{else-c-eq41-via-then-c-eq41+else-depth-eq0, else-c-eq41-via-else-c-eq41}
 

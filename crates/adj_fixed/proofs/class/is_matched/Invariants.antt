@@ -1,5 +1,5 @@
 use Rattle.std.proofs.Common.{◌≡◌, ◌≤◌, drop}
-use Rattle.adj_text.specs.Class.{is_matched}
+use Rattle.def_text.specs.Class.{is_matched}
 use Rattle.adj_fixed.proofs.class.is_matched.Given as goal
 
 abbrev pub invariant-loop-c : goal.invariant-loop-c

@@ -1,5 +1,5 @@
-use Rattle.adj_text.proofs.Fitting.{or_fits, whole_fits, begun_fits}
-use Rattle.adj_text.specs.Class.{whole, begun}
+use Rattle.def_text.proofs.Fitting.{or_fits, whole_fits, begun_fits}
+use Rattle.def_text.specs.Class.{whole, begun}
 use Rattle.adj_fixed.proofs.class.kind_of.Goals as goal
 
 pub returns-else-has_open-clause-fits : goal.returns-else-has_open-clause-fits

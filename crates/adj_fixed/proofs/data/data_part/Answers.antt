@@ -1,8 +1,8 @@
 use Rattle.std.proofs.Common.{◌≡◌, ◌∙◌, ◌-◌, length, min, sym, ap, arith}
 use Rattle.std.proofs.lemmas.Bool.{eqb-true}
-use Rattle.adj_text.specs.Data.{text_len, data_line}
-use Rattle.adj_text.specs.Line.{cut_lines, is_data}
-use Rattle.adj_text.proofs.Dating.{begins_here, begins_later, number_here, number_later, number_ends}
+use Rattle.def_text.specs.Data.{text_len, data_line}
+use Rattle.def_text.specs.Line.{cut_lines, is_data}
+use Rattle.def_text.proofs.Dating.{begins_here, begins_later, number_here, number_later, number_ends}
 use Rattle.adj_fixed.proofs.data.data_part.Goals as goal
 
 pub returns-then-is_data : goal.returns-then-is_data

@@ -1,6 +1,6 @@
 use Rattle.std.proofs.Common.{◌≡◌, ◌≤◌, ◌+◌, ◌-◌, length, min}
-use Rattle.adj_text.specs.Data.{text_len, data_line}
-use Rattle.adj_text.specs.Line.{cut_lines}
+use Rattle.def_text.specs.Data.{text_len, data_line}
+use Rattle.def_text.specs.Line.{cut_lines}
 use Rattle.adj_fixed.proofs.data.data_part.Given as goal
 
 abbrev pub invariant-loop-rest : goal.invariant-loop-rest

@@ -1,6 +1,6 @@
 use Rattle.std.proofs.Common.{◌∙◌, sym, ap, eqb, get_or}
 use Rattle.std.proofs.lemmas.Bool.{ne_eqb, eq-eqb}
-use Rattle.adj_text.proofs.Beginning.{found, cut_off, differs, agrees}
+use Rattle.def_text.proofs.Beginning.{found, cut_off, differs, agrees}
 use Rattle.adj_fixed.proofs.directive.begins_in_either_case.Goals as goal
 use Rattle.adj_fixed.proofs.directive.begins_in_either_case.Goals.{then-i-line-via-then-i-line, then-i-line-via-else-i-line+then-to_ascii_uppercase-w}
 

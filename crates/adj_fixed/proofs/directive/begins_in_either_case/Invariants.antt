@@ -1,5 +1,5 @@
 use Rattle.std.proofs.Common.{◌≡◌, drop}
-use Rattle.adj_text.specs.Line.{begins_in_either_case}
+use Rattle.def_text.specs.Line.{begins_in_either_case}
 use Rattle.adj_fixed.proofs.directive.begins_in_either_case.Given as goal
 
 abbrev pub invariant-loop-i : goal.invariant-loop-i

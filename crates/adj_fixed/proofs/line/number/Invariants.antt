@@ -1,5 +1,5 @@
 use Rattle.std.proofs.Common.{◌≡◌, take}
-use Rattle.adj_text.specs.Char.{digits_of, number_of}
+use Rattle.def_text.specs.Char.{digits_of, number_of}
 use Rattle.adj_fixed.proofs.Numbers.{IsShort}
 use Rattle.adj_fixed.proofs.line.number.Given as goal
 

@@ -1,5 +1,5 @@
 use Rattle.std.proofs.Common.{◌≡◌, ◌++◌, take}
-use Rattle.adj_text.specs.Char.{folded}
+use Rattle.def_text.specs.Char.{folded}
 use Rattle.adj_fixed.proofs.line.push_folded.Given as goal
 
 abbrev pub invariant-loop-c : goal.invariant-loop-c

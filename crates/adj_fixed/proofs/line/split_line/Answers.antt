@@ -1,7 +1,7 @@
 use Rattle.std.proofs.Common.{ap, ◌∙◌, ◌∷◌, ◌+◌, take, sym}
 use Rattle.std.proofs.lemmas.List.{take_rest}
-use Rattle.adj_text.specs.Line.{cut_lines}
-use Rattle.adj_text.proofs.Cutting.{cut_first, cut_last, cut_lines-nil}
+use Rattle.def_text.specs.Line.{cut_lines}
+use Rattle.def_text.proofs.Cutting.{cut_first, cut_last, cut_lines-nil}
 use Rattle.adj_fixed.proofs.line.split_line.Goals as goal
 
 pub returns-in-Some-clause-lines : goal.returns-in-Some-clause-lines

@@ -1,8 +1,8 @@
 use Rattle.std.proofs.Common.{sym, subst}
 use Rattle.std.proofs.lemmas.Result.{err_from_is_err_and}
 use Rattle.std.proofs.lemmas.Bool.{eqb-true}
-use Rattle.adj_text.specs.Limits.{limits_of}
-use Rattle.adj_text.specs.Refused.{Gives}
+use Rattle.def_text.specs.Limits.{limits_of}
+use Rattle.def_text.specs.Refused.{Gives}
 use Rattle.adj_fixed.specs.View.{all_lines, pass_of}
 use Rattle.adj_fixed.proofs.Passes.{over_end, over_data, over_more, over_fails}
 use Rattle.adj_fixed.proofs.lined.lines_of.Goals as goal

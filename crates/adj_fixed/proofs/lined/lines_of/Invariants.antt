@@ -1,7 +1,7 @@
 use Rattle.std.proofs.Common.{◌≡◌, length}
-use Rattle.adj_text.specs.Limits.{limits_of}
-use Rattle.adj_text.specs.Line.{cut_lines}
-use Rattle.adj_text.specs.Lined.{start, pass_over}
+use Rattle.def_text.specs.Limits.{limits_of}
+use Rattle.def_text.specs.Line.{cut_lines}
+use Rattle.def_text.specs.Lined.{start, pass_over}
 use Rattle.adj_fixed.specs.View.{pass_of}
 use Rattle.adj_fixed.proofs.lined.lines_of.Given as goal
 

@@ -1,8 +1,8 @@
 use Rattle.std.proofs.Common.{ℕ, ◌+◌, ◌-◌, ◌∙◌, length, drop, sym, ap, arith}
 use Rattle.std.proofs.lemmas.List.{take_rest, length-take, length-drop}
-use Rattle.adj_text.specs.declared.token.TokenKind.{TokenKind}
-use Rattle.adj_text.specs.Token.{token_here}
-use Rattle.adj_text.proofs.Scanning.{scan_goes_on, scan_stops, scan_ends}
+use Rattle.def_text.specs.declared.token.TokenKind.{TokenKind}
+use Rattle.def_text.specs.Token.{token_here}
+use Rattle.def_text.proofs.Scanning.{scan_goes_on, scan_stops, scan_ends}
 use Rattle.adj_fixed.proofs.scan.tokens.Goals as goal
 
 pub returns-in_default : goal.returns-in_default

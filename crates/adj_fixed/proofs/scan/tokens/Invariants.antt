@@ -1,6 +1,6 @@
 use Rattle.std.proofs.Common.{◌≡◌, ◌≤◌, ◌+◌, ◌-◌, length, drop}
-use Rattle.adj_text.specs.Token.{tokens_from}
-use Rattle.adj_text.proofs.Scanning.{with_front}
+use Rattle.def_text.specs.Token.{tokens_from}
+use Rattle.def_text.proofs.Scanning.{with_front}
 use Rattle.adj_fixed.proofs.scan.tokens.Given as goal
 
 abbrev pub invariant-loop-done : goal.invariant-loop-done

@@ -3,7 +3,7 @@ use Rattle.std.proofs.lemmas.Iterator.Adapters.{YieldsList-from_vec}
 use Rattle.std.proofs.lemmas.Iterator.Consumers.{YieldsList-turn, YieldsList-end}
 use Rattle.std.proofs.lemmas.List.{length_push}
 use Rattle.std.proofs.lemmas.Result.{err_from_is_err_and}
-use Rattle.adj_text.specs.Limits.{limits_of}
+use Rattle.def_text.specs.Limits.{limits_of}
 use Rattle.adj_fixed.proofs.Stating.{over_end, over_more, over_fails}
 use Rattle.adj_fixed.proofs.statement.all_stated.Goals as goal
 

@@ -1,6 +1,6 @@
 use Rattle.std.proofs.Common.{◌≡◌, length, drop}
-use Rattle.adj_text.specs.Limits.{limits_of}
-use Rattle.adj_text.specs.Stated.{all_stated}
+use Rattle.def_text.specs.Limits.{limits_of}
+use Rattle.def_text.specs.Stated.{all_stated}
 use Rattle.adj_fixed.specs.View.{all_lines}
 use Rattle.adj_fixed.proofs.Stating.{behind}
 use Rattle.adj_fixed.proofs.statement.all_stated.Given as goal

@@ -1,10 +1,10 @@
 use Rattle.std.proofs.Common.{◌≡◌, Ok, ap}
 use Rattle.std.specs.Prelude.{All}
-use Rattle.adj_text.specs.Limits.{no_limits, limits_of}
-use Rattle.adj_text.specs.Refused.{◌>>=◌}
-use Rattle.adj_text.specs.Stated.{all_stated, statements_of, IsCovered}
-use Rattle.adj_text.proofs.Covering.{all_covered, if_gives}
-use Rattle.adj_text.proofs.Unlimited.{statements_follow}
+use Rattle.def_text.specs.Limits.{no_limits, limits_of}
+use Rattle.def_text.specs.Refused.{◌>>=◌}
+use Rattle.def_text.specs.Stated.{all_stated, statements_of, IsCovered}
+use Rattle.def_text.proofs.Covering.{all_covered, if_gives}
+use Rattle.def_text.proofs.Unlimited.{statements_follow}
 use Rattle.adj_fixed.specs.View.{all_lines}
 use Rattle.adj_fixed.proofs.statement.statements.Goals as goal
 

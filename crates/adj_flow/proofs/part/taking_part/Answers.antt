@@ -2,9 +2,9 @@
 use Rattle.std.proofs.Common.{◌≡◌, ◌<◌, ◌∷◌, [], length, map, sym, ◌∙◌, subst, arith, refl, false}
 use Rattle.std.proofs.lemmas.List.{length-map}
 use Rattle.adj_tree.specs.View.{procedure_of}
-use Rattle.adj_facts.specs.Problem.{Problem}
+use Rattle.def_flow.specs.Problem.{Problem}
 use Rattle.adj_reach.specs.Edges.{AreBelow, ReachedFrom}
-use Rattle.adj_facts.proofs.Numbered.{exact_by_number}
+use Rattle.def_flow.proofs.Numbered.{exact_by_number}
 use Rattle.adj_flow.specs.Calls.{calls_from}
 use Rattle.adj_flow.proofs.Calling.{calls_listed, calls_within}
 use Rattle.adj_flow.proofs.part.taking_part.Goals as goal

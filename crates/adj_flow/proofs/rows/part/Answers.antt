@@ -2,8 +2,8 @@
 use Rattle.std.proofs.Common.{◌≡◌, ◌++◌, ℕ, drop, length, map, ap, ◌∙◌, arith}
 use Rattle.std.proofs.lemmas.List.{take_rest}
 use Rattle.adj_tree.specs.View.{code_of, procedure_of}
-use Rattle.adj_facts.specs.Standing.{standing, outermost}
-use Rattle.adj_facts.specs.Ways.{passing, ways}
+use Rattle.def_flow.specs.Standing.{standing, outermost}
+use Rattle.def_flow.specs.Ways.{passing, ways}
 use Rattle.adj_flow.specs.View.{standing_of}
 use Rattle.adj_flow.specs.WayView.{way_of}
 use Rattle.adj_flow.proofs.Numbering.{listed_length}

@@ -4,8 +4,8 @@ use Rattle.std.specs.Prelude.{slice_index_or}
 use Rattle.std.proofs.lemmas.List.{append_assoc, map-append, length-map, get_or_default}
 use Rattle.std.proofs.Math.ListN.{get_or-map}
 use Rattle.adj_tree.specs.View.{procedure_of, code_of}
-use Rattle.adj_transpose.specs.Marks.{behind}
-use Rattle.adj_facts.specs.Parts.{part, parts_from}
+use Rattle.def_names.specs.Numbers.{behind}
+use Rattle.def_flow.specs.Parts.{part, parts_from}
 use Rattle.adj_flow.specs.Rows.{row_of, row_at, row_in}
 use Rattle.adj_flow.proofs.Stepping.{drop_mapped}
 use Rattle.adj_flow.proofs.rows.parts.Goals as goal

@@ -1,7 +1,7 @@
 -- The units passed, and those that are left.
 use Rattle.std.proofs.Common.{◌≡◌, ◌++◌, [], drop, map, length}
 use Rattle.adj_tree.specs.View.{procedure_of}
-use Rattle.adj_facts.specs.Parts.{parts_from}
+use Rattle.def_flow.specs.Parts.{parts_from}
 use Rattle.adj_flow.specs.Rows.{row_of, row_in, rows}
 use Rattle.adj_flow.proofs.rows.parts.Given as goal
 

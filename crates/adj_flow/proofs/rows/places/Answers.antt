@@ -1,9 +1,9 @@
 use Rattle.std.proofs.Common.{◌≡◌, ℕ, List, ap, sym, refl, ◌∙◌, ◌∷◌, ◌+◌, ◌<◌, drop, length, get_or, subst}
 use Rattle.std.specs.Option.{option_or}
 use Rattle.std.proofs.lemmas.List.{drop_more}
-use Rattle.adj_writes.specs.Graph.{place_from}
-use Rattle.adj_writes.specs.Table.{value_of}
-use Rattle.adj_writes.proofs.Numbers.{numbers_more, place_more}
+use Rattle.adj_symbols_writes.specs.Graph.{place_from}
+use Rattle.adj_symbols_writes.specs.Table.{value_of}
+use Rattle.adj_symbols_writes.proofs.Numbers.{numbers_more, place_more}
 use Rattle.adj_flow.proofs.rows.places.Goals as goal
 
 pub loop-place-preserved : goal.loop-place-preserved

@@ -1,8 +1,8 @@
 -- The names passed, and those that are left.
 use Rattle.std.proofs.Common.{◌≡◌, ℕ, List, drop}
 use Rattle.std.specs.Option.{option_or}
-use Rattle.adj_writes.specs.Graph.{place_from}
-use Rattle.adj_writes.specs.Table.{value_of}
+use Rattle.adj_symbols_writes.specs.Graph.{place_from}
+use Rattle.adj_symbols_writes.specs.Table.{value_of}
 use Rattle.adj_flow.proofs.rows.places.Given as goal
 
 abbrev pub invariant-loop-place : goal.invariant-loop-place

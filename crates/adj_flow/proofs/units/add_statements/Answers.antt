@@ -1,6 +1,6 @@
 -- The list is longer by the statements of the unit.
 use Rattle.adj_tree.specs.View.{code_of}
-use Rattle.adj_facts.specs.Standing.{outermost}
+use Rattle.def_flow.specs.Standing.{outermost}
 use Rattle.adj_flow.specs.View.{standing_of}
 use Rattle.adj_flow.proofs.Numbering.{listed_length}
 use Rattle.adj_flow.proofs.units.add_statements.Goals as goal

@@ -1,7 +1,7 @@
 -- A unit's statements, and those of the units that are left.
 use Rattle.std.proofs.Common.{◌+◌, drop, map, length, ap, sym, ◌∙◌}
 use Rattle.adj_tree.specs.View.{procedure_of}
-use Rattle.adj_facts.specs.Parts.{statements_in}
+use Rattle.def_names.specs.StatementsIn.{statements_in}
 use Rattle.adj_flow.proofs.Stepping.{drop_mapped}
 use Rattle.adj_flow.proofs.units.count.Goals as goal
 

@@ -1,8 +1,8 @@
 use Rattle.std.proofs.Common.{◌++◌, drop, sym, ap, ◌∙◌, append-nil}
 use Rattle.adj_tree.specs.View.{terms_of}
-use Rattle.adj_writes.specs.View.{vars_seen}
+use Rattle.adj_symbols_writes.specs.View.{vars_seen}
 use Rattle.adj_flow.specs.Passed.{passed_in}
-use Rattle.adj_flow.proofs.Actuals.{no_passed}
+use Rattle.adj_flow.proofs.ActualLists.{no_passed}
 use Rattle.adj_flow.proofs.variables.add_passed.Goals as goal
 
 pub returns-in-Empty : goal.returns-in-Empty

@@ -1,7 +1,7 @@
 -- What was added and what is left are the actuals of flagged dummies.
 use Rattle.std.proofs.Common.{◌≡◌, ◌++◌, drop}
 use Rattle.adj_tree.specs.View.{terms_of}
-use Rattle.adj_writes.specs.View.{vars_seen}
+use Rattle.adj_symbols_writes.specs.View.{vars_seen}
 use Rattle.adj_flow.specs.Passed.{passed_in}
 use Rattle.adj_flow.proofs.variables.add_passed.Given as goal
 

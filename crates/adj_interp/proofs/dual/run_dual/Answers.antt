@@ -1,9 +1,9 @@
 use Rattle.std.proofs.Common.{rules, ◌≡◌, ℕ, [], true, List, map, sym, ap, subst, ◌∙◌, Vec, Global}
 use Rattle.std.specs.Prelude.{ℤ, Some, Ok, Err}
 use Rattle.adj_tree.specs.View.{procedures_of}
-use Rattle.adj_meaning.specs.Numbers.{duals}
-use Rattle.adj_meaning.specs.Units.{Slot, fits, run_unit}
-use Rattle.adj_frame.specs.declared.slot.Slot.{Slot as EntrySlot}
+use Rattle.def_meaning.specs.Numbers.{duals}
+use Rattle.def_meaning.specs.Units.{Slot, fits, run_unit}
+use Rattle.adj_interp_frame.specs.declared.slot.Slot.{Slot as EntrySlot}
 use Rattle.adj_interp.specs.declared.stop.Stop.TheVariants as stop
 use Rattle.adj_interp.specs.Dually.{dual_slots, DualEnds}
 use Rattle.adj_interp.specs.Ended.{EndsWith}

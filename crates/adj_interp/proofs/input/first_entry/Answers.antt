@@ -1,14 +1,14 @@
 use Rattle.std.proofs.Common.{◌≡◌, true, false, map, length, sym, ap, subst, ◌∙◌, arith, Vec, Global}
 use Rattle.adj_tree.specs.View.{procedure_of}
-use Rattle.adj_meaning.specs.Apart.{AreApart}
+use Rattle.def_meaning.specs.Apart.{AreApart}
 use Rattle.std.specs.Prelude.{Err}
-use Rattle.adj_frame.specs.declared.entry.Unfit.TheVariants as unfit
-use Rattle.adj_frame.specs.Framed.{shapes_in, store_in}
-use Rattle.adj_frame.specs.Shown.{Shows}
-use Rattle.adj_frame.specs.Called.{actuals_in, entered_with, fit_from}
-use Rattle.adj_frame.specs.declared.slot.Slot.{Slot as EntrySlot}
+use Rattle.adj_interp_frame.specs.declared.entry.Unfit.TheVariants as unfit
+use Rattle.adj_interp_frame.specs.Framed.{shapes_in, store_in}
+use Rattle.adj_interp_frame.specs.Shown.{Shows}
+use Rattle.adj_interp_frame.specs.Called.{actuals_in, entered_with, fit_from}
+use Rattle.adj_interp_frame.specs.declared.slot.Slot.{Slot as EntrySlot}
 use Rattle.adj_interp.specs.Inputs.{entry_seen, input_shape}
-use Rattle.adj_frame.proofs.Showing.{shows_itself}
+use Rattle.adj_interp_frame.proofs.Showing.{shows_itself}
 use Rattle.adj_interp.proofs.Inputting.{apart_front, input_entered, input_fits}
 use Rattle.adj_interp.proofs.input.first_entry.Goals as goal
 

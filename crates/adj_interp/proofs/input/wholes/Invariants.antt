@@ -1,7 +1,7 @@
 -- The actuals so far are the first variables.
 use Rattle.std.proofs.Common.{◌≡◌, ℕ, ◌<◌, length, get_or}
-use Rattle.adj_frame.specs.declared.actual.Actual.{Actual}
-use Rattle.adj_frame.specs.declared.actual.Actual.TheVariants as actual
+use Rattle.adj_interp_frame.specs.declared.actual.Actual.{Actual}
+use Rattle.adj_interp_frame.specs.declared.actual.Actual.TheVariants as actual
 use Rattle.adj_interp.proofs.input.wholes.Given as goal
 
 abbrev pub invariant-loop-i : goal.invariant-loop-i

@@ -4,13 +4,13 @@ use Rattle.adj_tree.specs.declared.unit.Program.{Program}
 use Rattle.adj_tree.specs.declared.unit.Decl.{Decl}
 use Rattle.adj_tree.specs.declared.unit.Unit.{Unit}
 use Rattle.adj_tree.specs.View.{code_of, procedure_of, procedures_of}
-use Rattle.adj_meaning.specs.Apart.{AreApart}
-use Rattle.adj_meaning.specs.LeastSet.{least_rows}
-use Rattle.adj_meaning.specs.Written.{write_rule, handed_back}
-use Rattle.adj_frame.specs.declared.routine.Routine.{Routine}
-use Rattle.adj_frame.specs.Linked.{IsRoutine, units_in}
-use Rattle.adj_frame.specs.Listed.{names_of}
-use Rattle.adj_frame.specs.Suited.{IsScalarIn, AreSuited}
+use Rattle.def_meaning.specs.Apart.{AreApart}
+use Rattle.def_meaning.specs.LeastSet.{least_rows}
+use Rattle.def_meaning.specs.Written.{write_rule, handed_back}
+use Rattle.adj_interp_frame.specs.declared.routine.Routine.{Routine}
+use Rattle.adj_interp_frame.specs.Linked.{IsRoutine, units_in}
+use Rattle.adj_interp_frame.specs.Listed.{names_of}
+use Rattle.adj_interp_frame.specs.Suited.{IsScalarIn, AreSuited}
 use Rattle.adj_interp.proofs.Accepted.{units_apart, dummies_apart, extents_few, calls_suit, rows_each, row_at, pushed_each}
 use Rattle.adj_interp.proofs.preparing.prepared.Goals as goal
 

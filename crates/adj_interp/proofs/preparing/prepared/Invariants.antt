@@ -1,9 +1,9 @@
 -- The units so far are prepared.
 use Rattle.std.proofs.Common.{◌≡◌, ℕ, ◌<◌, map, take, length, get_or}
 use Rattle.adj_tree.specs.View.{procedure_of, procedures_of}
-use Rattle.adj_frame.specs.declared.routine.Routine.{Routine}
-use Rattle.adj_frame.specs.Linked.{IsRoutine, units_in}
-use Rattle.adj_frame.specs.Listed.{IsDirectory}
+use Rattle.adj_interp_frame.specs.declared.routine.Routine.{Routine}
+use Rattle.adj_interp_frame.specs.Linked.{IsRoutine, units_in}
+use Rattle.adj_interp_frame.specs.Listed.{IsDirectory}
 use Rattle.adj_interp.proofs.preparing.prepared.Given as goal
 
 abbrev pub invariant-loop-i : goal.invariant-loop-i

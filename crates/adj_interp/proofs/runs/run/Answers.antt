@@ -1,9 +1,9 @@
 use Rattle.std.proofs.Common.{◌≡◌, true, List, map, sym, subst, Vec, Global}
 use Rattle.std.specs.Prelude.{ℤ, Some, Ok, Err}
 use Rattle.adj_tree.specs.View.{procedures_of}
-use Rattle.adj_meaning.specs.Numbers.{words}
-use Rattle.adj_meaning.specs.Units.{Slot, fits, run_unit}
-use Rattle.adj_frame.specs.declared.slot.Slot.{Slot as EntrySlot}
+use Rattle.def_meaning.specs.Numbers.{words}
+use Rattle.def_meaning.specs.Units.{Slot, fits, run_unit}
+use Rattle.adj_interp_frame.specs.declared.slot.Slot.{Slot as EntrySlot}
 use Rattle.adj_interp.specs.Ended.{EndsWith}
 use Rattle.adj_interp.specs.Inputs.{entry_seen}
 use Rattle.adj_interp.proofs.Worded.{words_stop, words_done}

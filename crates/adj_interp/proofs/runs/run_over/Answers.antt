@@ -3,13 +3,13 @@ use Rattle.std.specs.Prelude.{slice_get, Err, Ok}
 use Rattle.std.proofs.lemmas.List.{length-map}
 use Rattle.adj_tree.specs.Code.{Procedure}
 use Rattle.adj_tree.specs.View.{procedure_of, procedures_of}
-use Rattle.adj_meaning.specs.Scene.{Outcome}
-use Rattle.adj_meaning.specs.Units.{Output, input_store, run_unit}
-use Rattle.adj_frame.specs.declared.routine.Routine.{Routine}
-use Rattle.adj_frame.specs.declared.slot.Slot.{Slot as EntrySlot}
-use Rattle.adj_frame.specs.Framed.{IsFrame}
-use Rattle.adj_frame.specs.Linked.{IsRoutine, units_in}
-use Rattle.adj_frame.specs.Shown.{Shows}
+use Rattle.def_meaning.specs.Scene.{Outcome}
+use Rattle.def_meaning.specs.Units.{Output, input_store, run_unit}
+use Rattle.adj_interp_frame.specs.declared.routine.Routine.{Routine}
+use Rattle.adj_interp_frame.specs.declared.slot.Slot.{Slot as EntrySlot}
+use Rattle.adj_interp_frame.specs.Framed.{IsFrame}
+use Rattle.adj_interp_frame.specs.Linked.{IsRoutine, units_in}
+use Rattle.adj_interp_frame.specs.Shown.{Shows}
 use Rattle.adj_interp.specs.declared.stop.Stop.TheVariants as stop
 use Rattle.adj_interp.specs.Ended.{EndsWith}
 use Rattle.adj_interp.specs.Inputs.{entry_seen, input_shape}

@@ -1,5 +1,5 @@
 use Rattle.std.proofs.Common.{refl}
-use Rattle.adj_meaning.specs.Run.{most_tests}
+use Rattle.def_meaning.specs.Run.{most_tests}
 use Rattle.adj_interp.proofs.trips.most_tests.Goals as goal
 
 pub returns : goal.returns

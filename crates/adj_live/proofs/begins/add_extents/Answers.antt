@@ -1,11 +1,11 @@
 use Rattle.std.proofs.Common.{ℕ, List, ap, ◌∙◌, ◌++◌, map}
 use Rattle.adj_tree.specs.View.{declaration_of}
-use Rattle.adj_meaning.specs.Read.{is_extent}
-use Rattle.adj_facts.specs.Rules.{list_of}
-use Rattle.adj_facts.specs.Variables.{list_if}
+use Rattle.def_meaning.specs.Read.{is_extent}
+use Rattle.def_flow.specs.Rules.{list_of}
+use Rattle.def_names.specs.VariableLists.{list_if}
 use Rattle.adj_flow.specs.Rows.{row_of}
 use Rattle.adj_flow.specs.NodeView.{vars_of}
-use Rattle.adj_writes.proofs.Stepping.{flat_more}
+use Rattle.adj_symbols_writes.proofs.Stepping.{flat_more}
 use Rattle.adj_live.specs.Numbers.{wanted_at}
 use Rattle.adj_live.proofs.begins.add_extents.Goals as goal
 

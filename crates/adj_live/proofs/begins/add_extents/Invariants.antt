@@ -1,9 +1,9 @@
 -- The dummies passed, and those that are left.
 use Rattle.std.proofs.Common.{◌≡◌, ◌++◌, map, drop}
 use Rattle.std.specs.List.{flat_map}
-use Rattle.adj_meaning.specs.Read.{is_extent}
-use Rattle.adj_facts.specs.Rules.{list_of}
-use Rattle.adj_facts.specs.Variables.{list_if}
+use Rattle.def_meaning.specs.Read.{is_extent}
+use Rattle.def_flow.specs.Rules.{list_of}
+use Rattle.def_names.specs.VariableLists.{list_if}
 use Rattle.adj_flow.specs.Rows.{row_of}
 use Rattle.adj_flow.specs.NodeView.{vars_of}
 use Rattle.adj_live.specs.Numbers.{wanted_at}

@@ -1,11 +1,11 @@
 use Rattle.std.proofs.Common.{ap, ◌∙◌, ◌++◌}
 use Rattle.std.specs.Prelude.{not}
 use Rattle.adj_tree.specs.Code.{Var, plain}
-use Rattle.adj_facts.specs.Rules.{list_of}
-use Rattle.adj_facts.specs.Uses.{turned_by}
-use Rattle.adj_facts.specs.Variables.{list_if}
+use Rattle.def_flow.specs.Rules.{list_of}
+use Rattle.def_flow.specs.Uses.{turned_by}
+use Rattle.def_names.specs.VariableLists.{list_if}
 use Rattle.adj_flow.specs.View.{place_of}
-use Rattle.adj_writes.proofs.Stepping.{flat_more}
+use Rattle.adj_symbols_writes.proofs.Stepping.{flat_more}
 use Rattle.adj_live.specs.Listed.{needed_here}
 use Rattle.adj_live.specs.View.{here_at}
 use Rattle.adj_live.proofs.begins.add_needed.Goals as goal

@@ -1,6 +1,6 @@
 -- The variables passed, and those that are left.
 use Rattle.std.proofs.Common.{◌≡◌, ◌++◌, drop}
-use Rattle.adj_writes.specs.View.{vars_seen}
+use Rattle.adj_symbols_writes.specs.View.{vars_seen}
 use Rattle.adj_flow.specs.View.{place_of}
 use Rattle.adj_live.specs.Listed.{needed_nodes}
 use Rattle.adj_live.specs.View.{here_at}

@@ -3,7 +3,7 @@ use Rattle.std.proofs.Common.{◌≡◌, ◌++◌, map, drop}
 use Rattle.std.specs.List.{flat_map}
 use Rattle.adj_flow.specs.Rows.{row_of}
 use Rattle.adj_flow.specs.View.{standing_of}
-use Rattle.adj_activity.specs.View.{pair_of}
+use Rattle.adj_flow.specs.Pairs.{pair_of}
 use Rattle.adj_live.specs.Listed.{member_edges}
 use Rattle.adj_live.specs.View.{here_at}
 use Rattle.adj_live.proofs.calls.add_members.Given as goal

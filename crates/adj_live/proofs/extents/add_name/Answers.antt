@@ -1,8 +1,8 @@
 use Rattle.std.proofs.Common.{ap, sym, ◌∙◌}
 use Rattle.std.specs.Prelude.{is_some, ◌||◌}
 use Rattle.adj_tree.specs.View.{extent_of}
-use Rattle.adj_writes.specs.Table.{value_of}
-use Rattle.adj_activity.proofs.Passing.{some_more}
+use Rattle.adj_symbols_writes.specs.Table.{value_of}
+use Rattle.adj_flow.proofs.Some.{some_more}
 use Rattle.adj_live.specs.Extents.{is_named}
 use Rattle.adj_live.proofs.Naming.{or_none}
 use Rattle.adj_live.proofs.extents.add_name.Goals as goal

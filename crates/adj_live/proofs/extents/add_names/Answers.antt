@@ -1,8 +1,8 @@
 use Rattle.std.proofs.Common.{◌∙◌}
 use Rattle.std.specs.Prelude.{is_some, ◌||◌, map}
 use Rattle.adj_tree.specs.View.{extent_of}
-use Rattle.adj_meaning.specs.Read.{names_extent}
-use Rattle.adj_writes.specs.Table.{value_of}
+use Rattle.def_meaning.specs.Read.{names_extent}
+use Rattle.adj_symbols_writes.specs.Table.{value_of}
 use Rattle.adj_live.proofs.Naming.{extents_more, extents_end}
 use Rattle.adj_live.proofs.extents.add_names.Goals as goal
 

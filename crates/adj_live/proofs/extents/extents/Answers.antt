@@ -1,8 +1,8 @@
 use Rattle.std.proofs.Common.{ap, ◌∙◌}
 use Rattle.std.specs.Prelude.{is_some, ◌||◌, map}
 use Rattle.adj_tree.specs.View.{extent_of, declaration_of}
-use Rattle.adj_meaning.specs.Read.{names_extent, is_extent}
-use Rattle.adj_writes.specs.Table.{value_of}
+use Rattle.def_meaning.specs.Read.{names_extent, is_extent}
+use Rattle.adj_symbols_writes.specs.Table.{value_of}
 use Rattle.adj_live.proofs.Naming.{declared_more, declared_end}
 use Rattle.adj_live.proofs.extents.extents.Goals as goal
 

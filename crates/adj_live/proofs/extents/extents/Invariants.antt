@@ -2,8 +2,8 @@
 use Rattle.std.proofs.Common.{◌≡◌, ℕ, List, map, drop}
 use Rattle.std.specs.Prelude.{is_some, ◌||◌}
 use Rattle.adj_tree.specs.View.{declaration_of}
-use Rattle.adj_meaning.specs.Read.{is_extent}
-use Rattle.adj_writes.specs.Table.{value_of}
+use Rattle.def_meaning.specs.Read.{is_extent}
+use Rattle.adj_symbols_writes.specs.Table.{value_of}
 use Rattle.adj_live.proofs.extents.extents.Given as goal
 
 abbrev pub invariant-loop-decl : goal.invariant-loop-decl

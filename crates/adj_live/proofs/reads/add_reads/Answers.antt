@@ -1,9 +1,10 @@
 use Rattle.std.proofs.Common.{◌≡◌, ◌++◌, OnOk, subst}
 use Rattle.std.specs.Prelude.{◌&&◌}
 use Rattle.adj_tree.specs.View.{term_of}
-use Rattle.adj_transpose.specs.Marks.{Vars, point_before}
-use Rattle.adj_facts.specs.Variables.{adjoint_reads_in}
-use Rattle.adj_writes.specs.View.{vars_seen}
+use Rattle.def_names.specs.Numbers.{Vars}
+use Rattle.def_names.specs.Numbering.{point_before}
+use Rattle.def_flow.specs.AdjointReads.{adjoint_reads_in}
+use Rattle.adj_symbols_writes.specs.View.{vars_seen}
 use Rattle.adj_flow.specs.NodeView.{told_at}
 use Rattle.adj_flow.specs.Rows.{row_of}
 use Rattle.adj_live.proofs.reads.add_reads.Goals as goal

@@ -2,7 +2,7 @@
 use Rattle.std.proofs.Common.{◌≡◌, ◌++◌, drop}
 use Rattle.std.specs.Prelude.{Some}
 use Rattle.std.specs.List.{flat_map}
-use Rattle.adj_writes.specs.View.{vars_seen}
+use Rattle.adj_symbols_writes.specs.View.{vars_seen}
 use Rattle.adj_flow.specs.Nodes.{linked}
 use Rattle.adj_live.specs.Listed.{needed_here}
 use Rattle.adj_live.specs.View.{here_at}

@@ -1,8 +1,8 @@
 use Rattle.std.proofs.Common.{ap, sym, ◌∙◌}
 use Rattle.std.specs.Prelude.{position}
 use Rattle.adj_tree.specs.Code.{name_eq}
-use Rattle.adj_transpose.specs.Fresh.{has_name}
-use Rattle.adj_transpose.specs.Program.{scalar}
+use Rattle.def_meaning.specs.Apart.{has_name}
+use Rattle.def_sweep.specs.Declared.{scalar}
 use Rattle.adj_naming.proofs.Declarations.{declaration_placed, declaration_absent}
 use Rattle.adj_naming.proofs.declared.declaration.Goals as goal
 

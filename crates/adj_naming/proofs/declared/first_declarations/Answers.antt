@@ -2,8 +2,8 @@ use Rattle.std.proofs.Common.{◌≡◌, ◌++◌, ◌∷◌, [], ◌+◌, map, 
 use Rattle.std.proofs.lemmas.List.{map_push}
 use Rattle.adj_tree.specs.declared.unit.Decl.{Decl}
 use Rattle.adj_tree.specs.View.{declaration_of}
-use Rattle.adj_transpose.specs.Fresh.{has_name}
-use Rattle.adj_transpose.specs.Program.{declaration}
+use Rattle.def_meaning.specs.Apart.{has_name}
+use Rattle.def_sweep.specs.Declared.{declaration}
 use Rattle.adj_sets.specs.Sets.{with_added}
 use Rattle.adj_naming.proofs.Added.{added_new}
 use Rattle.adj_naming.proofs.Declarations.{first_kept, first_passed}

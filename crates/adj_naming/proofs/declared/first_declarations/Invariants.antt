@@ -1,7 +1,7 @@
 -- The declarations kept and those to come give each variable its declaration.
 use Rattle.std.proofs.Common.{◌≡◌, ◌++◌, ℕ, List, map, drop}
 use Rattle.adj_tree.specs.View.{declaration_of}
-use Rattle.adj_transpose.specs.Program.{declaration}
+use Rattle.def_sweep.specs.Declared.{declaration}
 use Rattle.adj_naming.proofs.declared.first_declarations.Given as goal
 
 abbrev pub invariant-loop-decl : goal.invariant-loop-decl

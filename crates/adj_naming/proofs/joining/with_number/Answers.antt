@@ -1,7 +1,7 @@
 use Rattle.std.proofs.Common.{◌≡◌, ◌++◌, sym, subst, ◌∙◌, arith}
 use Rattle.std.specs.Prelude.{IfOk}
-use Rattle.adj_transpose.specs.Fresh.{digits}
-use Rattle.adj_transpose.proofs.Fresh.{digits-decimal}
+use Rattle.def_names.specs.Fresh.{digits}
+use Rattle.def_names.proofs.Fresh.{digits-decimal}
 use Rattle.adj_naming.proofs.joining.with_number.Goals as goal
 
 pub returns : goal.returns

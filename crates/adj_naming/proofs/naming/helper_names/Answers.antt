@@ -1,7 +1,7 @@
 use Rattle.std.proofs.Common.{◌≡◌, ◌++◌, ◌∷◌, [], ◌+◌, ◌<◌, ◌≤◌, map, length, get_or, drop, drop_of_length-le, length-append, ap, ◌∙◌, sym, subst}
 use Rattle.std.proofs.lemmas.List.{length-map}
-use Rattle.adj_transpose.specs.Fresh.{fresh}
-use Rattle.adj_transpose.specs.Naming.{named, wanted}
+use Rattle.def_names.specs.Fresh.{fresh}
+use Rattle.def_sweep.specs.Naming.{named, wanted}
 use Rattle.adj_naming.specs.declared.role.Role.TheVariants.{Work}
 use Rattle.adj_naming.specs.declared.role.Helper.{Helper}
 use Rattle.adj_naming.specs.Roles.{variable_of}

@@ -1,7 +1,7 @@
 -- The helpers passed have their names, which are taken.
 use Rattle.std.proofs.Common.{◌≡◌, ◌++◌, map, length, drop, List}
 use Rattle.adj_tree.specs.Code.{Var}
-use Rattle.adj_transpose.specs.Naming.{named}
+use Rattle.def_sweep.specs.Naming.{named}
 use Rattle.adj_naming.specs.Roles.{variable_of}
 use Rattle.adj_naming.specs.Table.{paired}
 use Rattle.adj_naming.proofs.naming.helper_names.Given as goal

@@ -1,6 +1,6 @@
 use Rattle.std.proofs.Common.{◌≡◌, ◌++◌, map, ap, ◌∙◌, List, ℕ}
 use Rattle.adj_tree.specs.Code.{shadow}
-use Rattle.adj_transpose.specs.Naming.{own}
+use Rattle.def_sweep.specs.Naming.{own}
 use Rattle.adj_naming.specs.Roles.{variable_of}
 use Rattle.adj_sets.specs.Sets.{all_added}
 use Rattle.adj_naming.specs.Table.{paired}

@@ -1,5 +1,5 @@
 use Rattle.std.proofs.Common.{[], ap, sym, ◌∙◌}
-use Rattle.adj_transpose.specs.Fresh.{reserved}
+use Rattle.def_names.specs.Reserved.{reserved}
 use Rattle.adj_sets.specs.Sets.{all_added}
 use Rattle.adj_naming.proofs.Added.{all_added-append}
 use Rattle.adj_naming.proofs.naming.not_free.Goals as goal

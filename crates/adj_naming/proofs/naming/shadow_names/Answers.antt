@@ -1,7 +1,7 @@
 use Rattle.std.proofs.Common.{◌≡◌, ◌++◌, ◌∷◌, [], ◌+◌, ◌<◌, ◌≤◌, map, length, drop, drop_of_length-le, length-append, ap, ◌∙◌, sym, subst}
 use Rattle.std.proofs.lemmas.List.{length-map}
-use Rattle.adj_transpose.specs.Fresh.{fresh}
-use Rattle.adj_transpose.specs.Naming.{named, wanted}
+use Rattle.def_names.specs.Fresh.{fresh}
+use Rattle.def_sweep.specs.Naming.{named, wanted}
 use Rattle.adj_tree.specs.Code.{shadow}
 use Rattle.adj_naming.specs.Table.{paired}
 use Rattle.adj_naming.proofs.Making.{paired-empty, named_step}

@@ -1,5 +1,5 @@
 use Rattle.std.proofs.Common.{◌++◌, ◌+◌, ◌-◌, suc, map, ap, ◌∙◌}
-use Rattle.adj_transpose.specs.Program.{helpers_from}
+use Rattle.def_sweep.specs.Declared.{helpers_from}
 use Rattle.adj_naming.specs.Roles.{role_of, variable_of}
 use Rattle.adj_naming.proofs.Different.{helper_pushed}
 use Rattle.adj_naming.proofs.role.push_helpers.Goals as goal

@@ -1,6 +1,6 @@
 -- The helpers counted are there.
 use Rattle.std.proofs.Common.{◌≡◌, ◌++◌, ◌-◌, suc, map}
-use Rattle.adj_transpose.specs.Program.{helpers_from}
+use Rattle.def_sweep.specs.Declared.{helpers_from}
 use Rattle.adj_naming.specs.Roles.{role_of, variable_of}
 use Rattle.adj_naming.proofs.role.push_helpers.Given as goal
 

@@ -3,8 +3,8 @@ use Rattle.std.proofs.lemmas.Iterator.Adapters.{YieldsList-from_vec}
 use Rattle.std.proofs.lemmas.Iterator.Consumers.{YieldsList-end}
 use Rattle.std.proofs.lemmas.List.{map-id}
 use Rattle.adj_tree.specs.View.{declaration_of}
-use Rattle.adj_text.specs.Unit as unit
-use Rattle.adj_statement.specs.View.{item_of}
+use Rattle.def_text.specs.Unit as unit
+use Rattle.adj_parse_statement.specs.View.{item_of}
 use Rattle.adj_parse.proofs.Declares.{one_declared}
 use Rattle.adj_parse.proofs.current.declare.Goals as goal
 

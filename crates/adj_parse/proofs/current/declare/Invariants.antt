@@ -1,7 +1,7 @@
 use Rattle.std.proofs.Common.{◌≡◌, ◌++◌, map}
 use Rattle.adj_tree.specs.View.{declaration_of}
-use Rattle.adj_text.specs.Unit as unit
-use Rattle.adj_statement.specs.View.{item_of}
+use Rattle.def_text.specs.Unit as unit
+use Rattle.adj_parse_statement.specs.View.{item_of}
 use Rattle.adj_parse.proofs.current.declare.Given as goal
 
 abbrev pub invariant-loop-item : goal.invariant-loop-item

@@ -1,6 +1,6 @@
 -- The lines of the statements passed, and of those that are left.
 use Rattle.std.proofs.Common.{◌≡◌, ◌++◌, ◌+◌, drop}
-use Rattle.adj_writes.specs.View.{seen}
+use Rattle.adj_symbols_writes.specs.View.{seen}
 use Rattle.adj_flow.specs.NodeView.{vars_of}
 use Rattle.adj_flow.specs.Rows.{row_of}
 use Rattle.adj_plan.specs.Lines.{lines_from}

@@ -2,7 +2,7 @@
 use Rattle.std.proofs.Common.{◌≡◌, ◌≤◌, ◌++◌}
 use Rattle.adj_tree.specs.declared.expr.Exprs.{size-Exprs}
 use Rattle.adj_tree.specs.View.{terms_of}
-use Rattle.adj_text.specs.Text.{behind_commas, term_texts}
+use Rattle.def_text.specs.Text.{behind_commas, term_texts}
 use Rattle.adj_print.proofs.expression.+push.Given as goal
 
 abbrev pub invariant-push_others-loop-current : goal.invariant-push_others-loop-current

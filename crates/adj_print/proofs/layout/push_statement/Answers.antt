@@ -1,7 +1,7 @@
 -- Each character is taken off those that are left; behind the last one the line ends.
 use Rattle.std.proofs.Common.{◌∙◌, ◌++◌, ap, sym}
 use Rattle.std.proofs.lemmas.List.{at_drop_more, at_drop_all}
-use Rattle.adj_text.specs.Text.{laid}
+use Rattle.def_text.specs.Text.{laid}
 use Rattle.adj_print.proofs.Laying.{laid-nil}
 use Rattle.adj_print.proofs.layout.push_statement.Goals as goal
 

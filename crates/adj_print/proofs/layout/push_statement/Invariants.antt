@@ -1,6 +1,6 @@
 -- What was laid out and what is left are the lines of the statement.
 use Rattle.std.proofs.Common.{◌≡◌, ◌≤◌, ◌++◌, drop}
-use Rattle.adj_text.specs.Text.{laid, statement}
+use Rattle.def_text.specs.Text.{laid, statement}
 use Rattle.adj_print.proofs.layout.push_statement.Given as goal
 
 abbrev pub invariant-loop-c : goal.invariant-loop-c

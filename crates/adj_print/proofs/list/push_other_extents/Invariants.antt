@@ -1,7 +1,7 @@
 -- What was added and what is left are the extents behind commas.
 use Rattle.std.proofs.Common.{◌≡◌, ◌++◌, drop, map}
 use Rattle.adj_tree.specs.View.{extent_of}
-use Rattle.adj_text.specs.Text.{behind_commas, extent_text}
+use Rattle.def_text.specs.Text.{behind_commas, extent_text}
 use Rattle.adj_print.proofs.list.push_other_extents.Given as goal
 
 abbrev pub invariant-loop-extent : goal.invariant-loop-extent

@@ -1,6 +1,6 @@
 -- What was added and what is left are the names behind commas.
 use Rattle.std.proofs.Common.{◌≡◌, ◌++◌, drop}
-use Rattle.adj_text.specs.Text.{behind_commas}
+use Rattle.def_text.specs.Text.{behind_commas}
 use Rattle.adj_print.proofs.list.push_other_names.Given as goal
 
 abbrev pub invariant-loop-name : goal.invariant-loop-name

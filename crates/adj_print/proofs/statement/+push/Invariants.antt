@@ -2,7 +2,7 @@
 use Rattle.std.proofs.Common.{◌≡◌, ◌≤◌, ◌++◌}
 use Rattle.adj_tree.specs.declared.stmt.Stmts.{size-Stmts}
 use Rattle.adj_tree.specs.View.{code_of}
-use Rattle.adj_text.specs.Text.{code_text}
+use Rattle.def_text.specs.Text.{code_text}
 use Rattle.adj_print.proofs.statement.+push.Given as goal
 
 abbrev pub invariant-push_stmts-loop-current : goal.invariant-push_stmts-loop-current

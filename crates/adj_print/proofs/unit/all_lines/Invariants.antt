@@ -2,7 +2,7 @@
 use Rattle.std.proofs.Common.{◌≡◌, ◌++◌, drop, map}
 use Rattle.std.specs.List.{flat_map}
 use Rattle.adj_tree.specs.View.{procedure_of}
-use Rattle.adj_text.specs.Text.{procedure_text}
+use Rattle.def_text.specs.Text.{procedure_text}
 use Rattle.adj_print.proofs.unit.all_lines.Given as goal
 
 abbrev pub invariant-loop-unit : goal.invariant-loop-unit

@@ -2,7 +2,7 @@
 use Rattle.std.proofs.Common.{◌≡◌, ◌++◌, drop, map}
 use Rattle.std.specs.List.{flat_map}
 use Rattle.adj_tree.specs.View.{declaration_of}
-use Rattle.adj_text.specs.Text.{declaration_text}
+use Rattle.def_text.specs.Text.{declaration_text}
 use Rattle.adj_print.proofs.unit.push_decls.Given as goal
 
 abbrev pub invariant-loop-decl : goal.invariant-loop-decl

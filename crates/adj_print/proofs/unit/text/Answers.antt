@@ -1,8 +1,8 @@
 -- What a written program's text is, reads as the program.
 use Rattle.std.proofs.Common.{ℕ, List, sym, subst}
 use Rattle.adj_tree.specs.View.{procedures_of}
-use Rattle.adj_text.specs.ReadsAs.{ReadsAs}
-use Rattle.adj_text.proofs.WrittenBack.{written_reads_back}
+use Rattle.def_text.specs.ReadsAs.{ReadsAs}
+use Rattle.def_text.proofs.WrittenBack.{written_reads_back}
 use Rattle.adj_print.proofs.unit.text.Goals as goal
 
 pub returns-clause-reads : goal.returns-clause-reads

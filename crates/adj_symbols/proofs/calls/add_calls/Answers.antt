@@ -1,11 +1,11 @@
 use Rattle.std.proofs.Common.{map, ap, ◌∙◌}
 use Rattle.std.specs.List.{flat_map}
 use Rattle.adj_tree.specs.View.{procedure_of}
-use Rattle.adj_names.specs.CallFaults.{faults_of_call}
-use Rattle.adj_names.specs.Statements.{statements}
+use Rattle.def_names.specs.CallFaults.{faults_of_call}
+use Rattle.def_names.specs.Statements.{statements}
 use Rattle.adj_tree.specs.Code.{Procedure}
-use Rattle.adj_names.specs.Fault.{first_of, sooner}
-use Rattle.adj_names.proofs.Order.{sooner_mapped}
+use Rattle.def_names.specs.Fault.{first_of, sooner}
+use Rattle.def_names.proofs.Order.{sooner_mapped}
 use Rattle.adj_symbols.proofs.Ends.{sooner_end}
 use Rattle.adj_symbols.proofs.calls.add_calls.Goals as goal
 

@@ -2,9 +2,9 @@
 use Rattle.std.proofs.Common.{◌≡◌, map, drop}
 use Rattle.std.specs.Prelude.{flat_map}
 use Rattle.adj_tree.specs.View.{procedure_of}
-use Rattle.adj_names.specs.CallFaults.{faults_of_call}
-use Rattle.adj_names.specs.Statements.{statements}
-use Rattle.adj_names.specs.Fault.{first_of, sooner}
+use Rattle.def_names.specs.CallFaults.{faults_of_call}
+use Rattle.def_names.specs.Statements.{statements}
+use Rattle.def_names.specs.Fault.{first_of, sooner}
 use Rattle.adj_symbols.proofs.calls.add_calls.Given as goal
 
 abbrev pub invariant-loop-caller : goal.invariant-loop-caller

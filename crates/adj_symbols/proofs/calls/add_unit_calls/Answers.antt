@@ -2,12 +2,12 @@ use Rattle.std.proofs.Common.{ap, map, ◌∙◌}
 use Rattle.std.specs.List.{flat_map}
 use Rattle.adj_tree.specs.Listed.{statement_of}
 use Rattle.adj_tree.specs.View.{procedure_of}
-use Rattle.adj_names.specs.CallFaults.{faults_of_call}
-use Rattle.adj_names.specs.Fault.{first_of, sooner}
+use Rattle.def_names.specs.CallFaults.{faults_of_call}
+use Rattle.def_names.specs.Fault.{first_of, sooner}
 use Rattle.adj_tree.specs.Code.{Act}
-use Rattle.adj_names.specs.Statements.{At}
-use Rattle.adj_names.proofs.Order.{sooner_mapped}
-use Rattle.adj_writes.specs.View.{seen}
+use Rattle.def_names.specs.Statements.{At}
+use Rattle.def_names.proofs.Order.{sooner_mapped}
+use Rattle.adj_symbols_writes.specs.View.{seen}
 use Rattle.adj_symbols.proofs.Ends.{sooner_end}
 use Rattle.adj_symbols.proofs.calls.add_unit_calls.Goals as goal
 

@@ -3,8 +3,8 @@ use Rattle.std.specs.Prelude.{◌&&◌}
 use Rattle.std.proofs.lemmas.List.{drop_more}
 use Rattle.adj_tree.specs.Code.{none, more}
 use Rattle.adj_tree.specs.View.{term_of, terms_of, procedure_of}
-use Rattle.adj_names.specs.CallFaults.{is_actual_for, are_actuals_for}
-use Rattle.adj_names.specs.Variables.{rank}
+use Rattle.def_names.specs.CallFaults.{is_actual_for, are_actuals_for}
+use Rattle.def_names.specs.Variables.{rank}
 use Rattle.adj_symbols.proofs.calls.are_actuals_for.Goals as goal
 
 pub loop-dummy-preserved : goal.loop-dummy-preserved

@@ -1,7 +1,7 @@
 -- The actuals that are left fit the dummies that are left.
 use Rattle.std.proofs.Common.{◌≡◌, drop}
 use Rattle.adj_tree.specs.View.{terms_of, procedure_of}
-use Rattle.adj_names.specs.CallFaults.{are_actuals_for}
+use Rattle.def_names.specs.CallFaults.{are_actuals_for}
 use Rattle.adj_symbols.proofs.calls.are_actuals_for.Given as goal
 
 abbrev pub invariant-loop-dummy : goal.invariant-loop-dummy

@@ -3,10 +3,10 @@ use Rattle.std.specs.Prelude.{◌&&◌, nat_le}
 use Rattle.std.specs.List.{flat_map}
 use Rattle.adj_tree.specs.Size.{act_nodes, code_nodes}
 use Rattle.adj_tree.specs.View.{act_of, code_of, procedure_of}
-use Rattle.adj_names.specs.Statements.{inner, statements}
-use Rattle.adj_names.specs.Calls.{act_chain, chain}
-use Rattle.adj_names.specs.ChainFaults.{begins_chain}
-use Rattle.adj_names.specs.Fault.{passed, faults_if, first_of, sooner}
+use Rattle.def_names.specs.Statements.{inner, statements}
+use Rattle.def_names.specs.Calls.{act_chain, chain}
+use Rattle.def_names.specs.ChainFaults.{begins_chain}
+use Rattle.def_names.specs.Fault.{passed, faults_if, first_of, sooner}
 use Rattle.adj_symbols.specs.Chain.{length_of, faults_of_chain}
 use Rattle.adj_symbols.proofs.Lengths.{lists_then, inner_first, long_capped, max_more}
 use Rattle.adj_symbols.proofs.chains.+chain.Goals as goal

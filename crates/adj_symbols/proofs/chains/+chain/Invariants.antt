@@ -3,9 +3,9 @@ use Rattle.std.proofs.Common.{◌≡◌, ◌≤◌, ◌+◌, ◌*◌, map, min, 
 use Rattle.std.specs.Prelude.{flat_map}
 use Rattle.adj_tree.specs.Size.{act_nodes, code_nodes}
 use Rattle.adj_tree.specs.View.{act_of, code_of, procedure_of}
-use Rattle.adj_names.specs.Calls.{chain}
-use Rattle.adj_names.specs.Statements.{statements}
-use Rattle.adj_names.specs.Fault.{first_of, sooner}
+use Rattle.def_names.specs.Calls.{chain}
+use Rattle.def_names.specs.Statements.{statements}
+use Rattle.def_names.specs.Fault.{first_of, sooner}
 use Rattle.adj_symbols.specs.Chain.{length_of, faults_of_chain}
 use Rattle.adj_symbols.proofs.chains.+chain.Given as goal
 

@@ -2,9 +2,9 @@ use Rattle.std.proofs.Common.{ap, ◌∙◌, map, ℕ, List}
 use Rattle.std.specs.List.{flat_map}
 use Rattle.adj_tree.specs.Code.{Procedure}
 use Rattle.adj_tree.specs.View.{procedure_of, code_of}
-use Rattle.adj_names.specs.Statements.{statements}
-use Rattle.adj_names.specs.Fault.{first_of, sooner}
-use Rattle.adj_names.proofs.Order.{sooner_mapped}
+use Rattle.def_names.specs.Statements.{statements}
+use Rattle.def_names.specs.Fault.{first_of, sooner}
+use Rattle.def_names.proofs.Order.{sooner_mapped}
 use Rattle.adj_symbols.specs.Chain.{length_of, faults_of_chain}
 use Rattle.adj_symbols.specs.Rules.{rules_of}
 use Rattle.adj_symbols.proofs.Ends.{sooner_end}

@@ -2,8 +2,8 @@
 use Rattle.std.proofs.Common.{◌≡◌, map, drop}
 use Rattle.std.specs.Prelude.{flat_map}
 use Rattle.adj_tree.specs.View.{procedure_of}
-use Rattle.adj_names.specs.Statements.{statements}
-use Rattle.adj_names.specs.Fault.{first_of, sooner}
+use Rattle.def_names.specs.Statements.{statements}
+use Rattle.def_names.specs.Fault.{first_of, sooner}
 use Rattle.adj_symbols.specs.Chain.{length_of, faults_of_chain}
 use Rattle.adj_symbols.proofs.chains.add_long_chains.Given as goal
 

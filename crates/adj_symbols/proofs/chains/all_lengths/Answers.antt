@@ -1,7 +1,7 @@
 use Rattle.std.proofs.Common.{◌≡◌, ap, sym, ◌∙◌, map, min, length, arith}
 use Rattle.std.proofs.lemmas.List.{length-map}
 use Rattle.adj_tree.specs.View.{procedure_of}
-use Rattle.adj_names.specs.Calls.{chain_within}
+use Rattle.def_names.specs.Calls.{chain_within}
 use Rattle.adj_symbols.specs.Chain.{length_of, longer}
 use Rattle.adj_symbols.proofs.Lengths.{no_lengths, round_more, rounds_enough}
 use Rattle.adj_symbols.proofs.chains.all_lengths.Goals as goal

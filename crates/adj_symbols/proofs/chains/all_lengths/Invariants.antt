@@ -1,8 +1,8 @@
 -- What so many rounds tell.
 use Rattle.std.proofs.Common.{◌≡◌, map, min}
 use Rattle.adj_tree.specs.View.{procedure_of}
-use Rattle.adj_names.specs.Variables.{Name}
-use Rattle.adj_names.specs.Calls.{chain_within}
+use Rattle.def_names.specs.Variables.{Name}
+use Rattle.def_names.specs.Calls.{chain_within}
 use Rattle.adj_symbols.specs.Chain.{length_of}
 use Rattle.adj_symbols.proofs.chains.all_lengths.Given as goal
 

@@ -1,7 +1,7 @@
 use Rattle.std.proofs.Common.{ap, sym, ◌∙◌, ◌++◌, ◌∷◌, [], map, min}
 use Rattle.std.proofs.lemmas.List.{drop_all, append-nil}
 use Rattle.adj_tree.specs.View.{procedure_of, code_of}
-use Rattle.adj_names.specs.Calls.{chain}
+use Rattle.def_names.specs.Calls.{chain}
 use Rattle.adj_symbols.specs.Chain.{length_of, longer}
 use Rattle.adj_symbols.proofs.Lengths.{longer_capped}
 use Rattle.adj_symbols.proofs.Names.{map_more}

@@ -3,7 +3,7 @@ use Rattle.std.proofs.Common.{◌≡◌, ◌+◌, ◌≤◌, length}
 use Rattle.adj_tree.specs.declared.stmt.Stmts.{size-Stmts}
 use Rattle.adj_tree.specs.Size.{capped_u64}
 use Rattle.adj_tree.specs.View.{code_of}
-use Rattle.adj_names.specs.Statements.{statements}
+use Rattle.def_names.specs.Statements.{statements}
 use Rattle.adj_symbols.proofs.counting.+count.Given as goal
 
 abbrev pub invariant-count-loop-rest : goal.invariant-count-loop-rest

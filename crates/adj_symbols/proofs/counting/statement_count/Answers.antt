@@ -1,8 +1,8 @@
 use Rattle.std.proofs.Common.{◌≡◌, ◌+◌, ◌∷◌, map, length, drop, ap, sym, ◌∙◌, arith}
 use Rattle.std.proofs.lemmas.List.{drop_more}
 use Rattle.adj_tree.specs.View.{code_of, procedure_of}
-use Rattle.adj_names.specs.Statements.{statements}
-use Rattle.adj_facts.specs.Parts.{statements_in}
+use Rattle.def_names.specs.Statements.{statements}
+use Rattle.def_names.specs.StatementsIn.{statements_in}
 use Rattle.adj_symbols.proofs.Counts.{statements_first}
 use Rattle.adj_symbols.proofs.counting.statement_count.Goals as goal
 

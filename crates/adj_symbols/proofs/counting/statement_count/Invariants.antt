@@ -2,7 +2,7 @@
 use Rattle.std.proofs.Common.{◌≡◌, ◌+◌, map, drop}
 use Rattle.adj_tree.specs.Size.{capped_u64}
 use Rattle.adj_tree.specs.View.{procedure_of}
-use Rattle.adj_facts.specs.Parts.{statements_in}
+use Rattle.def_names.specs.StatementsIn.{statements_in}
 use Rattle.adj_symbols.proofs.counting.statement_count.Given as goal
 
 abbrev pub invariant-loop-unit : goal.invariant-loop-unit

@@ -1,14 +1,14 @@
 use Rattle.std.proofs.Common.{◌≡◌, ap, sym, subst, ◌∙◌, map, length}
 use Rattle.std.proofs.lemmas.List.{length-map}
-use Rattle.adj_names.specs.Laws.{IsIn}
+use Rattle.def_names.specs.Laws.{IsIn}
 use Rattle.adj_reach.specs.Edges.{AreBelow}
 use Rattle.adj_symbols.proofs.Cycling.{get_in, edges_below, member_number, in_mapped}
 use Rattle.std.specs.List.{flat_map}
 use Rattle.adj_tree.specs.Code.{Procedure}
 use Rattle.adj_tree.specs.View.{procedure_of}
-use Rattle.adj_names.specs.Calls.{calls, calls_lead}
-use Rattle.adj_names.specs.Fault.{fault, faults_if, first_of, sooner}
-use Rattle.adj_names.proofs.Order.{sooner_mapped}
+use Rattle.def_names.specs.Calls.{calls, calls_lead}
+use Rattle.def_names.specs.Fault.{fault, faults_if, first_of, sooner}
+use Rattle.def_names.proofs.Order.{sooner_mapped}
 use Rattle.adj_symbols.proofs.Ends.{sooner_end}
 use Rattle.adj_symbols.proofs.cycles.add_cycles.Goals as goal
 

@@ -2,8 +2,8 @@
 use Rattle.std.proofs.Common.{◌≡◌, map, drop}
 use Rattle.std.specs.List.{flat_map}
 use Rattle.adj_tree.specs.View.{procedure_of}
-use Rattle.adj_names.specs.Calls.{calls, calls_lead}
-use Rattle.adj_names.specs.Fault.{fault, faults_if, first_of, sooner}
+use Rattle.def_names.specs.Calls.{calls, calls_lead}
+use Rattle.def_names.specs.Fault.{fault, faults_if, first_of, sooner}
 use Rattle.adj_symbols.proofs.cycles.add_cycles.Given as goal
 
 abbrev pub invariant-loop-outline : goal.invariant-loop-outline

@@ -3,10 +3,10 @@ use Rattle.std.specs.List.{flat_map}
 use Rattle.adj_tree.specs.Code.{Act}
 use Rattle.adj_tree.specs.Listed.{statement_of}
 use Rattle.adj_tree.specs.View.{procedure_of, code_of}
-use Rattle.adj_names.specs.Statements.{At, statements}
-use Rattle.adj_names.specs.Calls.{call_in}
-use Rattle.adj_writes.specs.View.{seen}
-use Rattle.adj_writes.specs.Graph.{number_from}
+use Rattle.def_names.specs.Statements.{At, statements}
+use Rattle.def_names.specs.Calls.{call_in}
+use Rattle.adj_symbols_writes.specs.View.{seen}
+use Rattle.adj_symbols_writes.specs.Graph.{number_from}
 use Rattle.adj_symbols.specs.Graph.{edge_of}
 use Rattle.adj_symbols.proofs.CallsListed.{calls_listed, flat_more, flat_end}
 use Rattle.adj_symbols.proofs.cycles.add_edges.Goals as goal

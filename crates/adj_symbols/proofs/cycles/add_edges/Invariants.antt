@@ -2,9 +2,9 @@
 use Rattle.std.proofs.Common.{◌≡◌, ◌++◌, map, drop}
 use Rattle.std.specs.List.{flat_map}
 use Rattle.adj_tree.specs.View.{procedure_of}
-use Rattle.adj_names.specs.Calls.{call_in}
-use Rattle.adj_writes.specs.View.{seen}
-use Rattle.adj_writes.specs.Graph.{number_from}
+use Rattle.def_names.specs.Calls.{call_in}
+use Rattle.adj_symbols_writes.specs.View.{seen}
+use Rattle.adj_symbols_writes.specs.Graph.{number_from}
 use Rattle.adj_symbols.specs.Graph.{edge_of}
 use Rattle.adj_symbols.proofs.cycles.add_edges.Given as goal
 

@@ -2,9 +2,9 @@
 use Rattle.std.proofs.Common.{◌≡◌, map, drop}
 use Rattle.std.specs.List.{flat_map}
 use Rattle.adj_tree.specs.View.{procedure_of}
-use Rattle.adj_names.specs.Calls.{call_in, calls_lead}
-use Rattle.adj_names.specs.Fault.{fault, faults_if, first_of, sooner}
-use Rattle.adj_writes.specs.View.{seen}
+use Rattle.def_names.specs.Calls.{call_in, calls_lead}
+use Rattle.def_names.specs.Fault.{fault, faults_if, first_of, sooner}
+use Rattle.adj_symbols_writes.specs.View.{seen}
 use Rattle.adj_symbols.proofs.cycles.add_unit_cycles.Given as goal
 
 abbrev pub invariant-loop-stmt : goal.invariant-loop-stmt

@@ -2,11 +2,11 @@ use Rattle.std.proofs.Common.{ap, ◌∙◌, ◌++◌, map}
 use Rattle.std.specs.List.{flat_map}
 use Rattle.adj_tree.specs.Code.{Procedure}
 use Rattle.adj_tree.specs.View.{procedure_of}
-use Rattle.adj_names.specs.Calls.{calls_from}
+use Rattle.def_names.specs.Calls.{calls_from}
 use Rattle.adj_symbols.specs.Graph.{edges_from}
 use Rattle.adj_symbols.proofs.CallsListed.{flat_more, flat_end}
 use Rattle.adj_symbols.proofs.cycles.all_edges.Goals as goal
-use Rattle.adj_writes.specs.Graph.{number_from}
+use Rattle.adj_symbols_writes.specs.Graph.{number_from}
 
 pub loop-outline-preserved : goal.loop-outline-preserved
 loop-outline-preserved c =

@@ -1,6 +1,6 @@
 use Rattle.std.proofs.Common.{◌≡◌, ◌<◌, ◌∷◌, [], map, sym, subst, ◌∙◌, IsTrue, ◌↔◌}
 use Rattle.adj_tree.specs.View.{procedure_of}
-use Rattle.adj_names.specs.Calls.{calls_lead}
+use Rattle.def_names.specs.Calls.{calls_lead}
 use Rattle.adj_reach.specs.Edges.{ReachedFrom}
 use Rattle.adj_symbols.proofs.Cycling.{number_below, found_leads, lost_leads, if_ok}
 use Rattle.adj_symbols.proofs.cycles.calls_lead.Goals as goal

@@ -1,8 +1,8 @@
 use Rattle.std.proofs.Common.{ap, ◌∙◌}
-use Rattle.adj_names.specs.Fault.{fault, faults_if, first_of, sooner}
-use Rattle.adj_names.proofs.Order.{sooner_mapped}
+use Rattle.def_names.specs.Fault.{fault, faults_if, first_of, sooner}
+use Rattle.def_names.proofs.Order.{sooner_mapped}
 use Rattle.adj_tree.specs.View.{declaration_of, procedure_of}
-use Rattle.adj_names.specs.NameFaults.{has_bad_extents}
+use Rattle.def_names.specs.NameFaults.{has_bad_extents}
 use Rattle.adj_symbols.proofs.extents.add_bad_extents.Goals as goal
 
 pub loop-decl-preserved : goal.loop-decl-preserved

@@ -2,8 +2,8 @@
 use Rattle.std.proofs.Common.{◌≡◌, map, drop}
 use Rattle.std.specs.Prelude.{flat_map}
 use Rattle.adj_tree.specs.View.{declaration_of, procedure_of}
-use Rattle.adj_names.specs.NameFaults.{has_bad_extents}
-use Rattle.adj_names.specs.Fault.{fault, faults_if, first_of, sooner}
+use Rattle.def_names.specs.NameFaults.{has_bad_extents}
+use Rattle.def_names.specs.Fault.{fault, faults_if, first_of, sooner}
 use Rattle.adj_symbols.proofs.extents.add_bad_extents.Given as goal
 
 abbrev pub invariant-loop-decl : goal.invariant-loop-decl

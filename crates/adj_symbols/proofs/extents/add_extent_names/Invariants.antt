@@ -1,7 +1,7 @@
 -- The extents passed, and those that are left.
 use Rattle.std.proofs.Common.{◌≡◌, ◌++◌, map, drop}
 use Rattle.adj_tree.specs.View.{extent_of}
-use Rattle.adj_names.specs.NameFaults.{extent_names}
+use Rattle.def_names.specs.NameFaults.{extent_names}
 use Rattle.adj_symbols.specs.View.{places_of}
 use Rattle.adj_symbols.proofs.extents.add_extent_names.Given as goal
 

@@ -1,6 +1,6 @@
 use Rattle.std.proofs.Common.{◌∙◌, map}
 use Rattle.adj_tree.specs.View.{declaration_of}
-use Rattle.adj_names.specs.NameFaults.{extent_names}
+use Rattle.def_names.specs.NameFaults.{extent_names}
 use Rattle.adj_symbols.specs.View.{places_of}
 use Rattle.adj_symbols.proofs.CallsListed.{flat_more}
 use Rattle.adj_symbols.proofs.extents.add_extent_places.Goals as goal

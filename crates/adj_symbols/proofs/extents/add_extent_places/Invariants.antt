@@ -2,7 +2,7 @@
 use Rattle.std.proofs.Common.{◌≡◌, ◌++◌, map, drop}
 use Rattle.std.specs.Prelude.{flat_map}
 use Rattle.adj_tree.specs.View.{declaration_of}
-use Rattle.adj_names.specs.NameFaults.{extent_names}
+use Rattle.def_names.specs.NameFaults.{extent_names}
 use Rattle.adj_symbols.specs.View.{places_of}
 use Rattle.adj_symbols.proofs.extents.add_extent_places.Given as goal
 

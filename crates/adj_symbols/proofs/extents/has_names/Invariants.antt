@@ -2,7 +2,7 @@
 use Rattle.std.proofs.Common.{◌≡◌, map, length, drop}
 use Rattle.std.specs.Prelude.{◌==◌}
 use Rattle.adj_tree.specs.View.{extent_of}
-use Rattle.adj_names.specs.NameFaults.{extent_names}
+use Rattle.def_names.specs.NameFaults.{extent_names}
 use Rattle.adj_symbols.proofs.extents.has_names.Given as goal
 
 abbrev pub invariant-loop-extent : goal.invariant-loop-extent

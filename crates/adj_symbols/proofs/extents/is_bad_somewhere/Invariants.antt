@@ -2,7 +2,7 @@
 use Rattle.std.proofs.Common.{◌≡◌, map, drop}
 use Rattle.std.specs.List.{list_any}
 use Rattle.adj_tree.specs.View.{extent_of, procedure_of}
-use Rattle.adj_names.specs.NameFaults.{is_bad_extent}
+use Rattle.def_names.specs.NameFaults.{is_bad_extent}
 use Rattle.adj_symbols.proofs.extents.is_bad_somewhere.Given as goal
 
 abbrev pub invariant-loop-extent : goal.invariant-loop-extent

@@ -3,7 +3,7 @@ use Rattle.std.specs.Prelude.{◌*ℤ◌}
 use Rattle.std.specs.List.{list_any}
 use Rattle.std.proofs.lemmas.List.{drop_more}
 use Rattle.adj_tree.specs.View.{extent_of, procedure_of}
-use Rattle.adj_names.specs.NameFaults.{is_bad_extent, literal_product}
+use Rattle.def_names.specs.NameFaults.{is_bad_extent, literal_product}
 use Rattle.adj_symbols.proofs.Products.{good_literal, good_rest, product_more, product_great, from_literal}
 use Rattle.adj_symbols.proofs.extents.is_too_great.Goals as goal
 

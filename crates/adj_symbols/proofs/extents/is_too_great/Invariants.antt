@@ -3,7 +3,7 @@ use Rattle.std.proofs.Common.{◌≡◌, ◌≤◌, map, drop, false}
 use Rattle.std.specs.Prelude.{pos, ◌*ℤ◌}
 use Rattle.std.specs.List.{list_any}
 use Rattle.adj_tree.specs.View.{extent_of, procedure_of}
-use Rattle.adj_names.specs.NameFaults.{is_bad_extent, literal_product}
+use Rattle.def_names.specs.NameFaults.{is_bad_extent, literal_product}
 use Rattle.adj_symbols.proofs.extents.is_too_great.Given as goal
 
 abbrev pub invariant-loop-extent : goal.invariant-loop-extent

@@ -3,10 +3,10 @@ use Rattle.std.specs.Prelude.{not}
 use Rattle.std.specs.List.{flat_map}
 use Rattle.std.proofs.lemmas.List.Folds.{flat_map-map}
 use Rattle.adj_tree.specs.View.{procedure_of}
-use Rattle.adj_names.specs.Fault.{fault, faults_if, again, first_of, sooner}
-use Rattle.adj_names.specs.Fresh.{has_name}
-use Rattle.adj_names.specs.Variables.{is_dummy}
-use Rattle.adj_names.proofs.Order.{sooner_then}
+use Rattle.def_names.specs.Fault.{fault, faults_if, again, first_of, sooner}
+use Rattle.def_meaning.specs.Apart.{has_name}
+use Rattle.def_names.specs.Variables.{is_dummy}
+use Rattle.def_names.proofs.Order.{sooner_then}
 use Rattle.adj_symbols.specs.Table.{once}
 use Rattle.adj_symbols.specs.View.{places_of, names_at}
 use Rattle.adj_symbols.proofs.Meeting.{listed_names}

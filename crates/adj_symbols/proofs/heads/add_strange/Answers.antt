@@ -1,9 +1,9 @@
 use Rattle.std.proofs.Common.{ap, ◌∙◌}
 use Rattle.std.specs.Prelude.{not}
 use Rattle.adj_tree.specs.View.{procedure_of}
-use Rattle.adj_names.specs.Fault.{fault, faults_if, first_of, sooner}
-use Rattle.adj_names.specs.Variables.{is_dummy}
-use Rattle.adj_names.proofs.Order.{sooner_mapped}
+use Rattle.def_names.specs.Fault.{fault, faults_if, first_of, sooner}
+use Rattle.def_names.specs.Variables.{is_dummy}
+use Rattle.def_names.proofs.Order.{sooner_mapped}
 use Rattle.adj_symbols.specs.View.{place_of}
 use Rattle.adj_symbols.proofs.heads.add_strange.Goals as goal
 

@@ -2,11 +2,11 @@ use Rattle.std.proofs.Common.{◌≡◌, ℕ, Bool, List, ap, sym, ◌∙◌, ma
 use Rattle.std.specs.Prelude.{unwrap_or, Some}
 use Rattle.adj_tree.specs.View.{procedure_of, procedures_of}
 use Rattle.adj_tree.specs.declared.marks.Head.{Head}
-use Rattle.adj_meaning.specs.Written.{find_unit}
-use Rattle.adj_names.specs.HeadFaults.{flags_found, unit_number}
+use Rattle.def_meaning.specs.Written.{find_unit}
+use Rattle.def_names.specs.HeadFaults.{flags_found, unit_number}
 use Rattle.adj_symbols.proofs.Rows.{number_or}
 use Rattle.adj_symbols.proofs.heads.head.Goals as goal
-use Rattle.adj_writes.specs.Graph.{number_from}
+use Rattle.adj_symbols_writes.specs.Graph.{number_from}
 
 -- three equal parts make equal heads
 same_head : (a b : ℕ) (v w x y : List Bool) → a ≡ b → v ≡ w → x ≡ y → (h : Head) → h ≡ record { unit = a; vars = v; outvars = x } → h ≡ record { unit = b; vars = w; outvars = y }

@@ -1,6 +1,6 @@
 use Rattle.adj_tree.specs.View.{procedure_of}
-use Rattle.adj_names.specs.HeadFaults.{listed_faults}
-use Rattle.adj_names.proofs.Order.{sooner_then}
+use Rattle.def_names.specs.HeadFaults.{listed_faults}
+use Rattle.def_names.proofs.Order.{sooner_then}
 use Rattle.adj_symbols.proofs.heads.head_listed.Goals as goal
 
 pub returns-clause-faults : goal.returns-clause-faults

@@ -2,8 +2,8 @@
 use Rattle.std.proofs.Common.{◌≡◌, ◌≤◌, ◌+◌, ◌*◌, map}
 use Rattle.adj_tree.specs.Size.{act_nodes, code_nodes}
 use Rattle.adj_tree.specs.View.{act_of, code_of, procedure_of}
-use Rattle.adj_meaning.specs.LeastSet.{row_of}
-use Rattle.adj_names.specs.Fault.{first_of, sooner}
+use Rattle.def_meaning.specs.LeastSet.{row_of}
+use Rattle.def_names.specs.Fault.{first_of, sooner}
 use Rattle.adj_symbols.specs.Opening.{open_faults}
 use Rattle.adj_symbols.specs.Writes.{writes_one}
 use Rattle.adj_symbols.proofs.loop_writes.+open.Given as goal

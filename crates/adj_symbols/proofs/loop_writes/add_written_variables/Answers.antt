@@ -1,7 +1,7 @@
 use Rattle.std.proofs.Common.{ap, ◌∙◌, map, []}
 use Rattle.adj_tree.specs.View.{procedure_of, code_of}
-use Rattle.adj_meaning.specs.LeastSet.{row_of}
-use Rattle.adj_names.specs.Fault.{first_of, sooner}
+use Rattle.def_meaning.specs.LeastSet.{row_of}
+use Rattle.def_names.specs.Fault.{first_of, sooner}
 use Rattle.adj_symbols.specs.Opening.{open_faults}
 use Rattle.adj_symbols.specs.Writes.{writes_one}
 use Rattle.adj_symbols.proofs.Meeting.{none_open}

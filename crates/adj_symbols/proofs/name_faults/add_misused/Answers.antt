@@ -1,8 +1,8 @@
 use Rattle.std.proofs.Common.{ap, ◌∙◌}
 use Rattle.std.specs.Prelude.{not}
-use Rattle.adj_names.specs.Fault.{fault, faults_if, first_of, sooner}
-use Rattle.adj_names.proofs.Order.{sooner_mapped}
-use Rattle.adj_names.specs.NameFaults.{has_rank}
+use Rattle.def_names.specs.Fault.{fault, faults_if, first_of, sooner}
+use Rattle.def_names.proofs.Order.{sooner_mapped}
+use Rattle.def_names.specs.NameFaults.{has_rank}
 use Rattle.adj_tree.specs.View.{procedure_of}
 use Rattle.adj_symbols.specs.View.{use_of}
 use Rattle.adj_symbols.proofs.name_faults.add_misused.Goals as goal

@@ -1,11 +1,10 @@
 use Rattle.std.proofs.Common.{ap, ◌∙◌}
-use Rattle.std.specs.Prelude.{◌||◌}
-use Rattle.adj_names.specs.Fault.{fault, faults_if, first_of, sooner}
-use Rattle.adj_names.proofs.Order.{sooner_mapped}
-use Rattle.std.specs.Prelude.{is_some, map}
+use Rattle.std.specs.Prelude.{◌||◌, is_some, map}
+use Rattle.def_names.specs.Fault.{fault, faults_if, first_of, sooner}
+use Rattle.def_names.proofs.Order.{sooner_mapped}
 use Rattle.adj_tree.specs.View.{procedure_of}
-use Rattle.adj_meaning.specs.Written.{find_unit}
-use Rattle.adj_names.specs.Reserved.{is_reserved}
+use Rattle.def_meaning.specs.Written.{find_unit}
+use Rattle.def_names.specs.Reserved.{is_reserved}
 use Rattle.adj_symbols.specs.View.{place_of}
 use Rattle.adj_symbols.proofs.name_faults.add_reserved_variables.Goals as goal
 

@@ -1,11 +1,10 @@
 -- The faults of what was passed, and of what is left.
 use Rattle.std.proofs.Common.{◌≡◌, drop}
-use Rattle.std.specs.Prelude.{flat_map, ◌||◌}
-use Rattle.adj_names.specs.Fault.{fault, faults_if, first_of, sooner}
-use Rattle.std.specs.Prelude.{is_some, map}
+use Rattle.std.specs.Prelude.{flat_map, ◌||◌, is_some, map}
+use Rattle.def_names.specs.Fault.{fault, faults_if, first_of, sooner}
 use Rattle.adj_tree.specs.View.{procedure_of}
-use Rattle.adj_meaning.specs.Written.{find_unit}
-use Rattle.adj_names.specs.Reserved.{is_reserved}
+use Rattle.def_meaning.specs.Written.{find_unit}
+use Rattle.def_names.specs.Reserved.{is_reserved}
 use Rattle.adj_symbols.specs.View.{places_of}
 use Rattle.adj_symbols.proofs.name_faults.add_reserved_variables.Given as goal
 

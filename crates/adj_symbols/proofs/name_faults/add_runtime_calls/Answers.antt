@@ -1,9 +1,9 @@
 use Rattle.std.proofs.Common.{ap, ◌∙◌}
 use Rattle.std.specs.Prelude.{not, ◌&&◌}
-use Rattle.adj_names.specs.Fault.{fault, faults_if, first_of, sooner}
-use Rattle.adj_names.proofs.Order.{sooner_mapped}
+use Rattle.def_names.specs.Fault.{fault, faults_if, first_of, sooner}
+use Rattle.def_names.proofs.Order.{sooner_mapped}
 use Rattle.adj_tree.specs.Listed.{statement_of}
-use Rattle.adj_names.specs.NameFaults.{calls_runtime}
+use Rattle.def_names.specs.NameFaults.{calls_runtime}
 use Rattle.adj_symbols.proofs.name_faults.add_runtime_calls.Goals as goal
 
 pub loop-stmt-preserved : goal.loop-stmt-preserved

@@ -1,9 +1,9 @@
 -- The faults of what was passed, and of what is left.
 use Rattle.std.proofs.Common.{◌≡◌, drop}
 use Rattle.std.specs.Prelude.{flat_map, not, ◌&&◌}
-use Rattle.adj_names.specs.Fault.{fault, faults_if, first_of, sooner}
-use Rattle.adj_names.specs.NameFaults.{calls_runtime}
-use Rattle.adj_writes.specs.View.{seen}
+use Rattle.def_names.specs.Fault.{fault, faults_if, first_of, sooner}
+use Rattle.def_names.specs.NameFaults.{calls_runtime}
+use Rattle.adj_symbols_writes.specs.View.{seen}
 use Rattle.adj_symbols.proofs.name_faults.add_runtime_calls.Given as goal
 
 abbrev pub invariant-loop-stmt : goal.invariant-loop-stmt

@@ -1,9 +1,9 @@
 -- The faults of what was passed, and of what is left.
 use Rattle.std.proofs.Common.{◌≡◌, drop}
 use Rattle.std.specs.Prelude.{flat_map, not}
-use Rattle.adj_names.specs.Fault.{fault, faults_if, first_of, sooner}
+use Rattle.def_names.specs.Fault.{fault, faults_if, first_of, sooner}
 use Rattle.adj_tree.specs.View.{procedure_of}
-use Rattle.adj_names.specs.Variables.{is_integer}
+use Rattle.def_names.specs.Variables.{is_integer}
 use Rattle.adj_symbols.specs.View.{places_of}
 use Rattle.adj_symbols.proofs.name_faults.add_undeclared.Given as goal
 

@@ -2,7 +2,7 @@
 use Rattle.std.proofs.Common.{◌≡◌}
 use Rattle.std.specs.Prelude.{◌==◌}
 use Rattle.adj_tree.specs.View.{terms_of}
-use Rattle.adj_names.specs.Standing.{count_of}
+use Rattle.def_names.specs.Standing.{count_of}
 use Rattle.adj_symbols.proofs.name_faults.counts.Given as goal
 
 abbrev pub invariant-loop-rest : goal.invariant-loop-rest

@@ -2,8 +2,8 @@ use Rattle.std.proofs.Common.{ap, sym, map, ◌∙◌, ◌∷◌, ◌+◌, drop,
 use Rattle.std.specs.Option.{option_or}
 use Rattle.std.proofs.lemmas.List.{drop_more, length-map}
 use Rattle.adj_tree.specs.View.{extent_of, declaration_of}
-use Rattle.adj_writes.specs.Table.{value_of, with_value}
-use Rattle.adj_writes.proofs.Numbers.{numbers_more}
+use Rattle.adj_symbols_writes.specs.Table.{value_of, with_value}
+use Rattle.adj_symbols_writes.proofs.Numbers.{numbers_more}
 use Rattle.adj_symbols.specs.Outline.{declared_rank}
 use Rattle.adj_symbols.proofs.outline.declared_ranks.Goals as goal
 

@@ -2,8 +2,8 @@
 use Rattle.std.proofs.Common.{◌≡◌, map, drop}
 use Rattle.std.specs.Option.{option_or}
 use Rattle.adj_tree.specs.View.{declaration_of}
-use Rattle.adj_names.specs.Variables.{Name}
-use Rattle.adj_writes.specs.Table.{value_of}
+use Rattle.def_names.specs.Variables.{Name}
+use Rattle.adj_symbols_writes.specs.Table.{value_of}
 use Rattle.adj_symbols.specs.Outline.{declared_rank}
 use Rattle.adj_symbols.proofs.outline.declared_ranks.Given as goal
 

@@ -1,6 +1,6 @@
 use Rattle.std.proofs.Common.{map, subst}
 use Rattle.adj_tree.specs.View.{procedure_of, procedures_of}
-use Rattle.adj_names.specs.Check.{IsSound}
+use Rattle.def_names.specs.Check.{IsSound}
 use Rattle.adj_symbols.specs.Rules.{rules_for}
 use Rattle.adj_symbols.proofs.Laxer.{sound_in_runs}
 use Rattle.adj_symbols.proofs.passes.check.Goals as goal

@@ -1,13 +1,13 @@
 use Rattle.std.proofs.Common.{◌≡◌, ap, sym, subst, ◌∙◌, map, rules}
 use Rattle.std.specs.Prelude.{Some, None, Err, IfErr}
 use Rattle.adj_tree.specs.View.{procedure_of}
-use Rattle.adj_names.specs.CallFaults.{call_faults}
-use Rattle.adj_names.specs.ChainFaults.{chain_faults}
-use Rattle.adj_names.specs.Check.{first_fault}
-use Rattle.adj_names.specs.Fault.{first_of}
-use Rattle.adj_names.specs.NameFaults.{name_faults}
-use Rattle.adj_names.specs.UnitFaults.{unit_faults}
-use Rattle.adj_names.specs.WriteFaults.{write_faults}
+use Rattle.def_names.specs.CallFaults.{call_faults}
+use Rattle.def_names.specs.ChainFaults.{chain_faults}
+use Rattle.def_names.specs.Check.{first_fault}
+use Rattle.def_names.specs.Fault.{first_of}
+use Rattle.def_names.specs.NameFaults.{name_faults}
+use Rattle.def_names.specs.UnitFaults.{unit_faults}
+use Rattle.def_names.specs.WriteFaults.{write_faults}
 use Rattle.adj_symbols.specs.Checked.{IfRefused}
 use Rattle.adj_symbols.specs.Rules.{rules_of}
 use Rattle.adj_symbols.proofs.Passing.{refused_more, in_units, in_names, in_calls, in_chains, in_writes}

@@ -2,8 +2,8 @@ use Rattle.std.proofs.Common.{ap, sym, ◌∙◌}
 use Rattle.std.specs.Prelude.{fold}
 use Rattle.std.proofs.lemmas.List.{drop_all}
 use Rattle.adj_tree.specs.Codes.{code_number}
-use Rattle.adj_names.specs.Fault.{again, first_of, sooner}
-use Rattle.adj_names.proofs.Order.{sooner_none}
+use Rattle.def_names.specs.Fault.{again, first_of, sooner}
+use Rattle.def_names.proofs.Order.{sooner_none}
 use Rattle.adj_sets.specs.Sets.{with_name}
 use Rattle.adj_symbols.specs.View.{places_of, names_at}
 use Rattle.adj_symbols.proofs.Repeats.{again_more, once_more}

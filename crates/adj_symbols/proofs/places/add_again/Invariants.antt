@@ -2,7 +2,7 @@
 use Rattle.std.proofs.Common.{◌≡◌, drop}
 use Rattle.std.specs.Prelude.{fold, []}
 use Rattle.adj_tree.specs.Codes.{code_number}
-use Rattle.adj_names.specs.Fault.{again, first_of, sooner}
+use Rattle.def_names.specs.Fault.{again, first_of, sooner}
 use Rattle.adj_sets.specs.Sets.{with_name}
 use Rattle.adj_symbols.specs.Table.{once}
 use Rattle.adj_symbols.specs.View.{places_of, names_at}

@@ -1,7 +1,7 @@
 use Rattle.std.proofs.Common.{ap, ◌∙◌}
-use Rattle.adj_names.specs.Fault.{fault, faults_if, first_of, sooner}
-use Rattle.adj_names.specs.Reserved.{is_reserved}
-use Rattle.adj_names.proofs.Order.{sooner_mapped}
+use Rattle.def_names.specs.Fault.{fault, faults_if, first_of, sooner}
+use Rattle.def_names.specs.Reserved.{is_reserved}
+use Rattle.def_names.proofs.Order.{sooner_mapped}
 use Rattle.adj_symbols.specs.View.{place_of}
 use Rattle.adj_symbols.proofs.places.add_reserved.Goals as goal
 

@@ -1,8 +1,8 @@
 -- The faults of the names passed, and of those that are left.
 use Rattle.std.proofs.Common.{◌≡◌, drop}
 use Rattle.std.specs.Prelude.{flat_map}
-use Rattle.adj_names.specs.Fault.{fault, faults_if, first_of, sooner}
-use Rattle.adj_names.specs.Reserved.{is_reserved}
+use Rattle.def_names.specs.Fault.{fault, faults_if, first_of, sooner}
+use Rattle.def_names.specs.Reserved.{is_reserved}
 use Rattle.adj_symbols.specs.View.{places_of}
 use Rattle.adj_symbols.proofs.places.add_reserved.Given as goal
 

@@ -1,10 +1,10 @@
 use Rattle.std.proofs.Common.{ap, map, ◌∙◌, []}
 use Rattle.std.specs.Prelude.{flat_map}
 use Rattle.adj_tree.specs.View.{procedure_of}
-use Rattle.adj_names.specs.Fault.{fault, faults_if, again, first_of, sooner}
-use Rattle.adj_names.specs.Reserved.{is_reserved}
-use Rattle.adj_names.specs.UnitFaults.{reserved_units, repeated_units}
-use Rattle.adj_names.proofs.Order.{sooner_then}
+use Rattle.def_names.specs.Fault.{fault, faults_if, again, first_of, sooner}
+use Rattle.def_names.specs.Reserved.{is_reserved}
+use Rattle.def_names.specs.UnitFaults.{reserved_units, repeated_units}
+use Rattle.def_names.proofs.Order.{sooner_then}
 use Rattle.adj_symbols.specs.View.{places_of}
 use Rattle.adj_symbols.proofs.places.add_unit_faults.Goals as goal
 

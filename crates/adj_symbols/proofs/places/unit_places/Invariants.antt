@@ -1,7 +1,7 @@
 -- The names of the units passed.
 use Rattle.std.proofs.Common.{◌≡◌, ◌++◌, map, drop}
 use Rattle.adj_tree.specs.View.{procedure_of}
-use Rattle.adj_names.specs.UnitFaults.{unit_places}
+use Rattle.def_names.specs.UnitFaults.{unit_places}
 use Rattle.adj_symbols.specs.View.{places_of}
 use Rattle.adj_symbols.proofs.places.unit_places.Given as goal
 

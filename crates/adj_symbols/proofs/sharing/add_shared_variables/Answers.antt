@@ -3,13 +3,13 @@ use Rattle.std.specs.List.{flat_map}
 use Rattle.adj_tree.specs.Code.{Act}
 use Rattle.adj_tree.specs.Listed.{statement_of}
 use Rattle.adj_tree.specs.View.{procedure_of, code_of}
-use Rattle.adj_meaning.specs.LeastSet.{row_of}
-use Rattle.adj_names.specs.Statements.{At, statements}
-use Rattle.adj_names.specs.Calls.{call_in}
-use Rattle.adj_names.specs.Fault.{fault, faults_if, first_of, sooner}
-use Rattle.adj_names.specs.WriteFaults.{have_clash}
-use Rattle.adj_names.proofs.Order.{sooner_mapped}
-use Rattle.adj_writes.specs.View.{seen}
+use Rattle.def_meaning.specs.LeastSet.{row_of}
+use Rattle.def_names.specs.Statements.{At, statements}
+use Rattle.def_names.specs.Calls.{call_in}
+use Rattle.def_names.specs.Fault.{fault, faults_if, first_of, sooner}
+use Rattle.def_names.specs.WriteFaults.{have_clash}
+use Rattle.def_names.proofs.Order.{sooner_mapped}
+use Rattle.adj_symbols_writes.specs.View.{seen}
 use Rattle.adj_symbols.proofs.CallsListed.{calls_listed}
 use Rattle.adj_symbols.proofs.Ends.{sooner_end}
 use Rattle.adj_symbols.proofs.sharing.add_shared_variables.Goals as goal

@@ -2,11 +2,11 @@
 use Rattle.std.proofs.Common.{◌≡◌, map, drop}
 use Rattle.std.specs.List.{flat_map}
 use Rattle.adj_tree.specs.View.{procedure_of}
-use Rattle.adj_meaning.specs.LeastSet.{row_of}
-use Rattle.adj_names.specs.Calls.{call_in}
-use Rattle.adj_names.specs.Fault.{fault, faults_if, first_of, sooner}
-use Rattle.adj_names.specs.WriteFaults.{hands_back_values}
-use Rattle.adj_writes.specs.View.{seen}
+use Rattle.def_meaning.specs.LeastSet.{row_of}
+use Rattle.def_names.specs.Calls.{call_in}
+use Rattle.def_names.specs.Fault.{fault, faults_if, first_of, sooner}
+use Rattle.def_names.specs.WriteFaults.{hands_back_values}
+use Rattle.adj_symbols_writes.specs.View.{seen}
 use Rattle.adj_symbols.proofs.sharing.add_written_values.Given as goal
 
 abbrev pub invariant-loop-stmt : goal.invariant-loop-stmt

@@ -1,6 +1,6 @@
 use Rattle.std.proofs.Common.{ap, sym, ◌∙◌, drop}
 use Rattle.adj_tree.specs.View.{terms_of}
-use Rattle.adj_names.specs.WriteFaults.{hands_back_values}
+use Rattle.def_names.specs.WriteFaults.{hands_back_values}
 use Rattle.adj_symbols.proofs.Clashing.{no_values}
 use Rattle.adj_symbols.proofs.sharing.hands_back_values.Goals as goal
 

@@ -1,7 +1,7 @@
 -- The actuals that are left tell.
 use Rattle.std.proofs.Common.{◌≡◌, drop}
 use Rattle.adj_tree.specs.View.{terms_of}
-use Rattle.adj_names.specs.WriteFaults.{hands_back_values}
+use Rattle.def_names.specs.WriteFaults.{hands_back_values}
 use Rattle.adj_symbols.proofs.sharing.hands_back_values.Given as goal
 
 abbrev pub invariant-loop-is_written : goal.invariant-loop-is_written

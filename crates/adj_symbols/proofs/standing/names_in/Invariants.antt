@@ -1,6 +1,6 @@
 -- What was added and what is left are the names in the statements.
 use Rattle.std.proofs.Common.{◌≡◌, ◌++◌, drop}
-use Rattle.adj_writes.specs.View.{seen}
+use Rattle.adj_symbols_writes.specs.View.{seen}
 use Rattle.adj_symbols.specs.View.{taken_at}
 use Rattle.adj_symbols.proofs.standing.names_in.Given as goal
 

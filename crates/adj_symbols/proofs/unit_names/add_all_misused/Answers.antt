@@ -2,9 +2,9 @@ use Rattle.std.proofs.Common.{ap, ◌∙◌}
 use Rattle.std.specs.Prelude.{not}
 use Rattle.std.specs.List.{flat_map}
 use Rattle.adj_tree.specs.View.{procedure_of, code_of}
-use Rattle.adj_names.specs.NameFaults.{has_rank}
-use Rattle.adj_names.specs.Statements.{statements}
-use Rattle.adj_names.specs.Fault.{fault, faults_if, first_of, sooner}
+use Rattle.def_names.specs.NameFaults.{has_rank}
+use Rattle.def_names.specs.Statements.{statements}
+use Rattle.def_names.specs.Fault.{fault, faults_if, first_of, sooner}
 use Rattle.adj_symbols.specs.View.{taken_at}
 use Rattle.adj_symbols.proofs.Names.{misused_listed}
 use Rattle.adj_symbols.proofs.unit_names.add_all_misused.Goals as goal

@@ -3,11 +3,11 @@ use Rattle.std.specs.Prelude.{not}
 use Rattle.std.specs.List.{flat_map}
 use Rattle.std.proofs.lemmas.Grind.{flat_map-append}
 use Rattle.adj_tree.specs.View.{procedure_of, declaration_of}
-use Rattle.adj_names.specs.Statements.{At}
-use Rattle.adj_names.specs.Variables.{Name, is_integer, places}
-use Rattle.adj_names.specs.NameFaults.{extent_names, extent_places}
-use Rattle.adj_names.specs.Fault.{fault, faults_if, first_of, sooner}
-use Rattle.adj_names.proofs.Order.{sooner_then}
+use Rattle.def_names.specs.Statements.{At}
+use Rattle.def_names.specs.Variables.{Name, is_integer, places}
+use Rattle.def_names.specs.NameFaults.{extent_names, extent_places}
+use Rattle.def_names.specs.Fault.{fault, faults_if, first_of, sooner}
+use Rattle.def_names.proofs.Order.{sooner_then}
 use Rattle.adj_symbols.specs.View.{places_of}
 use Rattle.adj_symbols.proofs.unit_names.add_all_undeclared.Goals as goal
 

@@ -1,8 +1,8 @@
 use Rattle.std.proofs.Common.{ap, ◌∙◌, ◌++◌, []}
 use Rattle.adj_tree.specs.View.{procedure_of}
-use Rattle.adj_names.specs.Variables.{dummy_places, declared_places}
-use Rattle.adj_names.specs.Fault.{again, first_of, sooner}
-use Rattle.adj_names.proofs.Order.{sooner_then}
+use Rattle.def_names.specs.Variables.{dummy_places, declared_places}
+use Rattle.def_names.specs.Fault.{again, first_of, sooner}
+use Rattle.def_names.proofs.Order.{sooner_then}
 use Rattle.adj_symbols.specs.View.{places_of}
 use Rattle.adj_symbols.proofs.unit_names.add_declared_twice.Goals as goal
 

@@ -1,8 +1,8 @@
 use Rattle.std.proofs.Common.{ap, ◌∙◌, ◌++◌, ◌∷◌, [], map}
 use Rattle.adj_tree.specs.View.{procedure_of}
-use Rattle.adj_names.specs.Variables.{variables}
-use Rattle.adj_names.specs.NameFaults.{faults_of_names}
-use Rattle.adj_names.proofs.Order.{sooner_mapped}
+use Rattle.def_names.specs.Variables.{variables}
+use Rattle.def_names.specs.NameFaults.{faults_of_names}
+use Rattle.def_names.proofs.Order.{sooner_mapped}
 use Rattle.adj_symbols.specs.Rules.{rules_of}
 use Rattle.adj_symbols.proofs.Names.{map_more}
 use Rattle.adj_symbols.proofs.unit_names.add_names.Goals as goal

@@ -2,9 +2,9 @@
 use Rattle.std.proofs.Common.{◌≡◌, ◌++◌, map, drop}
 use Rattle.std.specs.Prelude.{flat_map}
 use Rattle.adj_tree.specs.View.{procedure_of}
-use Rattle.adj_names.specs.Variables.{variables}
-use Rattle.adj_names.specs.NameFaults.{faults_of_names}
-use Rattle.adj_names.specs.Fault.{first_of, sooner}
+use Rattle.def_names.specs.Variables.{variables}
+use Rattle.def_names.specs.NameFaults.{faults_of_names}
+use Rattle.def_names.specs.Fault.{first_of, sooner}
 use Rattle.adj_symbols.specs.Rules.{rules_of}
 use Rattle.adj_symbols.proofs.unit_names.add_names.Given as goal
 

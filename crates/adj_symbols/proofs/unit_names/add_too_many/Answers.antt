@@ -1,8 +1,8 @@
 use Rattle.std.proofs.Common.{length, ap, sym, ◌∙◌}
 use Rattle.std.specs.Prelude.{Some}
-use Rattle.adj_names.specs.NameFaults.{passed_in}
+use Rattle.def_names.specs.NameFaults.{passed_in}
 use Rattle.adj_symbols.specs.View.{places_of}
-use Rattle.adj_names.specs.Fault.{first_of, sooner}
+use Rattle.def_names.specs.Fault.{first_of, sooner}
 use Rattle.adj_symbols.proofs.Names.{passed_place, within}
 use Rattle.adj_symbols.proofs.unit_names.add_too_many.Goals as goal
 

@@ -2,12 +2,12 @@ use Rattle.std.proofs.Common.{◌≡◌, ap, ◌∙◌, ◌++◌, map}
 use Rattle.std.specs.Prelude.{is_some, ◌||◌, ◌&&◌, not}
 use Rattle.std.specs.List.{flat_map}
 use Rattle.adj_tree.specs.View.{procedure_of, declaration_of}
-use Rattle.adj_meaning.specs.Written.{find_unit}
-use Rattle.adj_names.specs.Reserved.{is_reserved}
-use Rattle.adj_names.specs.Variables.{first_places}
-use Rattle.adj_names.specs.NameFaults.{undeclared, declared_twice, misused, bad_extents, has_bad_extents, reserved_variables, runtime_calls, calls_runtime, too_many_variables, passed_in}
-use Rattle.adj_names.specs.Fault.{fault, faults_if, first_of, sooner}
-use Rattle.adj_names.proofs.Order.{sooner_then}
+use Rattle.def_meaning.specs.Written.{find_unit}
+use Rattle.def_names.specs.Reserved.{is_reserved}
+use Rattle.def_names.specs.Variables.{first_places}
+use Rattle.def_names.specs.NameFaults.{undeclared, declared_twice, misused, bad_extents, has_bad_extents, reserved_variables, runtime_calls, calls_runtime, too_many_variables, passed_in}
+use Rattle.def_names.specs.Fault.{fault, faults_if, first_of, sooner}
+use Rattle.def_names.proofs.Order.{sooner_then}
 use Rattle.adj_symbols.specs.Rules.{rules_of}
 use Rattle.adj_symbols.specs.View.{places_of}
 use Rattle.adj_symbols.proofs.unit_names.add_unit_names.Goals as goal

@@ -1,7 +1,7 @@
 use Rattle.std.proofs.Common.{ap, ap₂, sym, ◌∙◌, ◌++◌, ◌+◌, ◌∷◌, [], drop, append_assoc, if◌then◌else◌}
 use Rattle.std.proofs.lemmas.List.{drop_all, append-nil}
-use Rattle.adj_names.specs.Fresh.{has_name}
-use Rattle.adj_names.specs.Variables.{first_places}
+use Rattle.def_meaning.specs.Apart.{has_name}
+use Rattle.def_names.specs.Variables.{first_places}
 use Rattle.adj_symbols.specs.View.{place_of, places_of}
 use Rattle.adj_symbols.proofs.Repeats.{left}
 use Rattle.adj_symbols.proofs.FirstPlaces.{others_at, others_none, place_more}

@@ -1,6 +1,6 @@
 -- The first places that are found, and those behind them.
 use Rattle.std.proofs.Common.{◌≡◌, ◌++◌, drop}
-use Rattle.adj_names.specs.Variables.{first_places}
+use Rattle.def_names.specs.Variables.{first_places}
 use Rattle.adj_symbols.specs.View.{places_of}
 use Rattle.adj_symbols.proofs.FirstPlaces.{others_at}
 use Rattle.adj_symbols.proofs.unit_names.first_places.Given as goal

@@ -1,7 +1,7 @@
 use Rattle.std.proofs.Common.{ap, ◌∙◌, ◌++◌, map, append_assoc, true}
 use Rattle.adj_tree.specs.View.{procedure_of, code_of}
-use Rattle.adj_names.specs.Statements.{statements}
-use Rattle.adj_names.specs.Variables.{dummy_places, declared_places, statement_places}
+use Rattle.def_names.specs.Statements.{statements}
+use Rattle.def_names.specs.Variables.{dummy_places, declared_places, statement_places}
 use Rattle.adj_symbols.specs.View.{places_of, uses_of, used_place, taken_at}
 use Rattle.adj_symbols.proofs.Names.{used_listed}
 use Rattle.adj_symbols.proofs.unit_names.unit_places.Goals as goal

@@ -1,8 +1,8 @@
 use Rattle.std.proofs.Common.{map, ◌++◌}
 use Rattle.adj_tree.specs.View.{procedure_of}
-use Rattle.adj_meaning.specs.LeastSet.{row_of}
-use Rattle.adj_names.specs.WriteFaults.{written_variables, written_extents, shared_variables, written_values}
-use Rattle.adj_names.proofs.Order.{sooner_then}
+use Rattle.def_meaning.specs.LeastSet.{row_of}
+use Rattle.def_names.specs.WriteFaults.{written_variables, written_extents, shared_variables, written_values}
+use Rattle.def_names.proofs.Order.{sooner_then}
 use Rattle.adj_symbols.proofs.write_faults.add_unit_writes.Goals as goal
 
 pub returns : goal.returns

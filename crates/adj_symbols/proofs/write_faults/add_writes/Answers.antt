@@ -1,10 +1,10 @@
 use Rattle.std.proofs.Common.{ap, ◌∙◌, map}
 use Rattle.std.specs.List.{flat_map}
 use Rattle.adj_tree.specs.View.{procedure_of}
-use Rattle.adj_meaning.specs.LeastSet.{row_of}
-use Rattle.adj_names.specs.Fault.{first_of, sooner}
-use Rattle.adj_names.specs.WriteFaults.{faults_of_writes}
-use Rattle.adj_names.proofs.Order.{sooner_mapped}
+use Rattle.def_meaning.specs.LeastSet.{row_of}
+use Rattle.def_names.specs.Fault.{first_of, sooner}
+use Rattle.def_names.specs.WriteFaults.{faults_of_writes}
+use Rattle.def_names.proofs.Order.{sooner_mapped}
 use Rattle.adj_symbols.proofs.Ends.{sooner_end}
 use Rattle.adj_symbols.proofs.write_faults.add_writes.Goals as goal
 

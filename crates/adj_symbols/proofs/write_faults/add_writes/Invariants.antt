@@ -2,9 +2,9 @@
 use Rattle.std.proofs.Common.{◌≡◌, map, drop}
 use Rattle.std.specs.List.{flat_map}
 use Rattle.adj_tree.specs.View.{procedure_of}
-use Rattle.adj_meaning.specs.LeastSet.{row_of}
-use Rattle.adj_names.specs.Fault.{first_of, sooner}
-use Rattle.adj_names.specs.WriteFaults.{faults_of_writes}
+use Rattle.def_meaning.specs.LeastSet.{row_of}
+use Rattle.def_names.specs.Fault.{first_of, sooner}
+use Rattle.def_names.specs.WriteFaults.{faults_of_writes}
 use Rattle.adj_symbols.proofs.write_faults.add_writes.Given as goal
 
 abbrev pub invariant-loop-outline : goal.invariant-loop-outline

@@ -2,9 +2,9 @@
 use Rattle.std.proofs.Common.{◌≡◌, map, drop}
 use Rattle.std.specs.List.{flat_map}
 use Rattle.adj_tree.specs.View.{procedure_of}
-use Rattle.adj_meaning.specs.LeastSet.{row_of}
-use Rattle.adj_names.specs.Fault.{fault, faults_if, first_of, sooner}
-use Rattle.adj_writes.specs.View.{seen}
+use Rattle.def_meaning.specs.LeastSet.{row_of}
+use Rattle.def_names.specs.Fault.{fault, faults_if, first_of, sooner}
+use Rattle.adj_symbols_writes.specs.View.{seen}
 use Rattle.adj_symbols.specs.Writes.{writes_one}
 use Rattle.adj_symbols.proofs.write_faults.add_writes_of.Given as goal
 

@@ -3,9 +3,9 @@ use Rattle.std.specs.Prelude.{◌&&◌, ◌||◌}
 use Rattle.std.specs.List.{flat_map}
 use Rattle.std.proofs.lemmas.List.{drop_all}
 use Rattle.adj_tree.specs.View.{declaration_of, procedure_of}
-use Rattle.adj_names.specs.Fresh.{has_name}
-use Rattle.adj_names.specs.NameFaults.{extent_names}
-use Rattle.adj_names.specs.Variables.{is_dummy}
+use Rattle.def_meaning.specs.Apart.{has_name}
+use Rattle.def_names.specs.NameFaults.{extent_names}
+use Rattle.def_names.specs.Variables.{is_dummy}
 use Rattle.adj_symbols.specs.View.{places_of, names_at}
 use Rattle.adj_symbols.proofs.Meeting.{extent_listed, extent_more}
 use Rattle.adj_symbols.proofs.Repeats.{left}

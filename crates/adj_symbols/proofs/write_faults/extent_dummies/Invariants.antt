@@ -2,8 +2,8 @@
 use Rattle.std.proofs.Common.{◌≡◌, drop}
 use Rattle.std.specs.Prelude.{◌&&◌, ◌||◌}
 use Rattle.adj_tree.specs.View.{procedure_of}
-use Rattle.adj_names.specs.Fresh.{has_name}
-use Rattle.adj_names.specs.Variables.{Name, is_dummy}
+use Rattle.def_meaning.specs.Apart.{has_name}
+use Rattle.def_names.specs.Variables.{Name, is_dummy}
 use Rattle.adj_symbols.specs.View.{places_of, names_at}
 use Rattle.adj_symbols.proofs.write_faults.extent_dummies.Given as goal
 

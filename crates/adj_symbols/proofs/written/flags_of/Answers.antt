@@ -1,7 +1,7 @@
 use Rattle.std.proofs.Common.{ap, sym, ◌∙◌, ◌++◌, ◌∷◌, ◌+◌, [], map, drop, append_assoc}
 use Rattle.std.proofs.lemmas.List.{drop_more}
-use Rattle.adj_names.specs.Fresh.{has_name}
-use Rattle.adj_names.specs.Variables.{Name}
+use Rattle.def_meaning.specs.Apart.{has_name}
+use Rattle.def_names.specs.Variables.{Name}
 use Rattle.adj_symbols.proofs.written.flags_of.Goals as goal
 
 pub loop-name-preserved : goal.loop-name-preserved

@@ -1,6 +1,6 @@
 -- The names passed, and those that are left.
 use Rattle.std.proofs.Common.{◌≡◌, ◌++◌, map, drop}
-use Rattle.adj_names.specs.Fresh.{has_name}
+use Rattle.def_meaning.specs.Apart.{has_name}
 use Rattle.adj_symbols.proofs.written.flags_of.Given as goal
 
 abbrev pub invariant-loop-name : goal.invariant-loop-name

@@ -2,9 +2,9 @@ use Rattle.std.proofs.Common.{ap, sym, ◌∙◌, ◌∷◌, ◌+◌, drop}
 use Rattle.std.specs.Prelude.{◌||◌}
 use Rattle.std.specs.List.{list_any}
 use Rattle.std.proofs.lemmas.List.{drop_more}
-use Rattle.adj_names.specs.Fresh.{has_name}
-use Rattle.adj_names.specs.Variables.{Name}
-use Rattle.adj_writes.specs.View.{names_seen}
+use Rattle.def_meaning.specs.Apart.{has_name}
+use Rattle.def_names.specs.Variables.{Name}
+use Rattle.adj_symbols_writes.specs.View.{names_seen}
 use Rattle.adj_symbols.proofs.written.writes_one.Goals as goal
 
 pub loop-name-preserved : goal.loop-name-preserved

@@ -1,8 +1,8 @@
 -- None of the names passed is chosen.
 use Rattle.std.proofs.Common.{◌≡◌, drop}
 use Rattle.std.specs.List.{list_any}
-use Rattle.adj_names.specs.Fresh.{has_name}
-use Rattle.adj_writes.specs.View.{names_seen}
+use Rattle.def_meaning.specs.Apart.{has_name}
+use Rattle.adj_symbols_writes.specs.View.{names_seen}
 use Rattle.adj_symbols.proofs.written.writes_one.Given as goal
 
 abbrev pub invariant-loop-name : goal.invariant-loop-name

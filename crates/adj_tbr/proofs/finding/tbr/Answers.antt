@@ -4,18 +4,18 @@ use Rattle.std.specs.Prelude.{◌↔◌, IsTrue}
 use Rattle.std.proofs.lemmas.List.{length-map}
 use Rattle.adj_tree.specs.Code.{plain}
 use Rattle.adj_tree.specs.View.{procedure_of}
-use Rattle.adj_facts.specs.Activity.{Activity}
-use Rattle.adj_facts.specs.Held.{IsSaved}
-use Rattle.adj_facts.specs.Laws.{IsHeld}
-use Rattle.adj_facts.specs.Live.{Liveness}
-use Rattle.adj_facts.specs.Rules.{Scope}
+use Rattle.def_flow.specs.Activity.{Activity}
+use Rattle.def_flow.specs.Held.{IsSaved}
+use Rattle.def_flow.specs.Analysed.{IsHeld}
+use Rattle.def_flow.specs.Live.{Liveness}
+use Rattle.def_flow.specs.Rules.{Scope}
 use Rattle.adj_flow.specs.Asked.{units_of, variables_of, problem_of}
 use Rattle.adj_flow.specs.Rows.{row_of}
 use Rattle.adj_flow.specs.Scoped.{scope_by}
 use Rattle.adj_flow.specs.Told.{told, told_of}
 use Rattle.adj_reach.specs.Edges.{ReachedFrom, flag}
-use Rattle.adj_activity.specs.Asked.{saved_of}
-use Rattle.adj_activity.specs.Told.{activity_told}
+use Rattle.adj_flow.specs.Marked.{saved_of}
+use Rattle.adj_flow.specs.ActivityTold.{activity_told}
 use Rattle.adj_tbr.specs.View.{find, held_edges}
 use Rattle.adj_tbr.specs.Reads.{read_nodes}
 use Rattle.adj_tbr.specs.Saves.{save_nodes}

@@ -1,13 +1,13 @@
 use Rattle.std.proofs.Common.{◌∙◌, ◌++◌}
 use Rattle.std.specs.Prelude.{not}
 use Rattle.adj_tree.specs.Code.{Var, plain}
-use Rattle.adj_facts.specs.Held.{replaced_on}
-use Rattle.adj_facts.specs.Variables.{list_if}
+use Rattle.def_flow.specs.Held.{replaced_on}
+use Rattle.def_names.specs.VariableLists.{list_if}
 use Rattle.adj_flow.specs.Nodes.{node_in, linked}
 use Rattle.adj_flow.specs.NodeView.{vars_of}
 use Rattle.adj_flow.specs.Rows.{row_of}
 use Rattle.adj_flow.specs.WayView.{number_of, deed_of}
-use Rattle.adj_writes.proofs.Stepping.{flat_more}
+use Rattle.adj_symbols_writes.proofs.Stepping.{flat_more}
 use Rattle.adj_tbr.specs.View.{kept_by}
 use Rattle.adj_tbr.proofs.held.add_way.Goals as goal
 

@@ -3,8 +3,8 @@ use Rattle.std.proofs.Common.{◌≡◌, ◌++◌, map, drop}
 use Rattle.std.specs.Prelude.{not}
 use Rattle.std.specs.List.{flat_map}
 use Rattle.adj_tree.specs.Code.{plain}
-use Rattle.adj_facts.specs.Held.{replaced_on}
-use Rattle.adj_facts.specs.Variables.{list_if}
+use Rattle.def_flow.specs.Held.{replaced_on}
+use Rattle.def_names.specs.VariableLists.{list_if}
 use Rattle.adj_flow.specs.Nodes.{node_in, linked}
 use Rattle.adj_flow.specs.NodeView.{vars_of}
 use Rattle.adj_flow.specs.Rows.{row_of}

@@ -2,9 +2,9 @@
 use Rattle.std.proofs.Common.{◌≡◌, ◌++◌, map, drop}
 use Rattle.std.specs.Prelude.{true}
 use Rattle.std.specs.List.{flat_map}
-use Rattle.adj_facts.specs.Uses.{site}
-use Rattle.adj_facts.specs.Variables.{list_if}
-use Rattle.adj_facts.specs.Rules.{list_of}
+use Rattle.def_flow.specs.Uses.{site}
+use Rattle.def_names.specs.VariableLists.{list_if}
+use Rattle.def_flow.specs.Rules.{list_of}
 use Rattle.adj_flow.specs.Nodes.{node_in}
 use Rattle.adj_flow.specs.NodeView.{vars_of}
 use Rattle.adj_flow.specs.Rows.{row_of}

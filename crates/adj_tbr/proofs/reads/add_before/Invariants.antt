@@ -1,8 +1,8 @@
 -- The numbers of the variables passed, and of those that are left.
 use Rattle.std.proofs.Common.{◌≡◌, ◌++◌, drop}
 use Rattle.std.specs.List.{flat_map}
-use Rattle.adj_facts.specs.Rules.{list_of}
-use Rattle.adj_writes.specs.View.{vars_seen}
+use Rattle.def_flow.specs.Rules.{list_of}
+use Rattle.adj_symbols_writes.specs.View.{vars_seen}
 use Rattle.adj_flow.specs.Nodes.{node_in}
 use Rattle.adj_flow.specs.NodeView.{vars_of}
 use Rattle.adj_flow.specs.Rows.{row_of}

@@ -1,8 +1,8 @@
 use Rattle.std.proofs.Common.{◌≡◌, ◌++◌, true, map, sym, ap, ◌∙◌}
 use Rattle.std.specs.List.{flat_map}
 use Rattle.adj_tree.specs.View.{terms_of}
-use Rattle.adj_facts.specs.Uses.{site}
-use Rattle.adj_facts.specs.Variables.{list_if}
+use Rattle.def_flow.specs.Uses.{site}
+use Rattle.def_names.specs.VariableLists.{list_if}
 use Rattle.adj_flow.specs.Rows.{row_of}
 use Rattle.adj_flow.specs.View.{place_of}
 use Rattle.adj_tbr.specs.Bound.{Passed, passed_of, bound_from}

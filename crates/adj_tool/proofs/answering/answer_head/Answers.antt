@@ -1,5 +1,5 @@
 use Rattle.adj_tree.specs.View.{procedures_of}
-use Rattle.adj_kernel.specs.Sound.{IsAccepted}
+use Rattle.law_kernel.specs.Sound.{IsAccepted}
 use Rattle.adj_tool.specs.Views.{request_of}
 use Rattle.adj_tool.proofs.Heads.{head_there, head_adjoins}
 use Rattle.adj_tool.proofs.answering.answer_head.Goals as goal

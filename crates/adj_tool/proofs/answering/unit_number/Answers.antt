@@ -1,7 +1,7 @@
 use Rattle.std.proofs.Common.{arith, ◌≡◌, ◌≤◌, refl, ap, ◌∙◌}
 use Rattle.std.specs.Prelude.{length, map}
 use Rattle.adj_tree.specs.View.{procedure_of}
-use Rattle.adj_names.specs.HeadFaults.{unit_number}
+use Rattle.def_names.specs.HeadFaults.{unit_number}
 use Rattle.adj_tool.proofs.Numbers.{passed, found, none}
 use Rattle.adj_tool.proofs.answering.unit_number.Goals as goal
 

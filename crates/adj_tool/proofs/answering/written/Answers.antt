@@ -1,10 +1,10 @@
 use Rattle.std.proofs.Common.{rules, ◌≡◌, ◌∙◌, ap, sym, refl, subst, true, false}
 use Rattle.std.specs.Prelude.{IfOk}
 use Rattle.adj_tree.specs.View.{procedures_of}
-use Rattle.adj_names.specs.HeadFaults.{unit_number}
-use Rattle.adj_kernel.specs.Stepped.{kernel_of}
-use Rattle.adj_answer.specs.Answer.{Answer}
-use Rattle.adj_answer.specs.Views.{answer_of}
+use Rattle.def_names.specs.HeadFaults.{unit_number}
+use Rattle.def_kernel.specs.Stepped.{kernel_of}
+use Rattle.adj_tool_answer.specs.Answer.{Answer}
+use Rattle.adj_tool_answer.specs.Views.{answer_of}
 use Rattle.adj_tool.specs.Answer.{AnswersFitted}
 use Rattle.adj_tool.specs.Fitting.{kernel_fits}
 use Rattle.adj_tool.specs.Planned.{IsTextFor}

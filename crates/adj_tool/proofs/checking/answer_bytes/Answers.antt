@@ -1,6 +1,6 @@
 use Rattle.std.proofs.Common.{Ok, Err}
 use Rattle.adj_tree.specs.View.{procedures_of}
-use Rattle.adj_running.specs.Views.{asked_of}
+use Rattle.adj_tool_answer.specs.EndingViews.{asked_of}
 use Rattle.adj_tool.proofs.Answered.{checked}
 use Rattle.adj_tool.proofs.checking.answer_bytes.Goals as goal
 

@@ -2,13 +2,13 @@ use Rattle.std.proofs.Common.{rules, ◌≡◌, true, false, sym, ap, ◌∙◌,
 use Rattle.std.specs.Prelude.{IfOk}
 use Rattle.std.proofs.lemmas.Option.{slice_get_within}
 use Rattle.adj_tree.specs.View.{procedures_of}
-use Rattle.adj_names.specs.HeadFaults.{unit_number}
-use Rattle.adj_kernel.specs.Sound.{IsAccepted}
-use Rattle.adj_kernel.specs.Stepped.{kernel_of}
+use Rattle.def_names.specs.HeadFaults.{unit_number}
+use Rattle.law_kernel.specs.Sound.{IsAccepted}
+use Rattle.def_kernel.specs.Stepped.{kernel_of}
 use Rattle.adj_symbols.specs.Numbers.{Fits}
-use Rattle.adj_answer.specs.Views.{answer_of}
-use Rattle.adj_running.specs.Views.{asked_of}
-use Rattle.adj_checking.specs.Emitted.{IsEmittedFor}
+use Rattle.adj_tool_answer.specs.Views.{answer_of}
+use Rattle.adj_tool_answer.specs.EndingViews.{asked_of}
+use Rattle.adj_tool_check.specs.Emitted.{IsEmittedFor}
 use Rattle.adj_tool.specs.Check.{Fitted, IsChecked}
 use Rattle.adj_tool.specs.Fitting.{kernel_fits}
 use Rattle.adj_tool.specs.Planned.{IsKnownFor}

@@ -1,8 +1,8 @@
 use Rattle.std.proofs.Common.{◌≡◌, true, sym, ap, ◌∙◌, subst}
 use Rattle.std.proofs.lemmas.Result.{IfOk-weaker}
 use Rattle.adj_tree.specs.View.{procedures_of}
-use Rattle.adj_reverse.specs.Program.{emitted_program_with}
-use Rattle.adj_emitted.specs.Shadowed.{AllHaveShadows}
+use Rattle.def_sweep.specs.Program.{emitted_program_with}
+use Rattle.law_emitted.specs.Shadowed.{AllHaveShadows}
 use Rattle.adj_weave.specs.Marked.{marks_told}
 use Rattle.adj_tool.proofs.Emitting.{shadows_there}
 use Rattle.adj_tool.proofs.planned.emitted.Goals as goal

@@ -1,6 +1,6 @@
 use Rattle.std.proofs.Common.{ap, ◌∙◌, slice_get}
 use Rattle.adj_tree.specs.View.{procedures_of}
-use Rattle.adj_reverse.specs.Names.{adjoint_name}
+use Rattle.def_sweep.specs.Names.{adjoint_name}
 use Rattle.adj_tool.proofs.Emitting.{known_for_units}
 use Rattle.adj_tool.proofs.planned.known_by.Goals as goal
 

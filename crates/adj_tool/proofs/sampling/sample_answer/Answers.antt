@@ -1,7 +1,7 @@
 use Rattle.std.proofs.Common.{◌∙◌}
 use Rattle.std.proofs.lemmas.Result.{IfOk-weaker}
-use Rattle.adj_answer.specs.Views.{answer_of}
-use Rattle.adj_running.specs.Views.{asked_of}
+use Rattle.adj_tool_answer.specs.Views.{answer_of}
+use Rattle.adj_tool_answer.specs.EndingViews.{asked_of}
 use Rattle.adj_tool.proofs.Sampled.{answered, compared}
 use Rattle.adj_tool.proofs.sampling.sample_answer.Goals as goal
 

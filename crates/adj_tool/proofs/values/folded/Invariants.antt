@@ -1,5 +1,5 @@
 use Rattle.std.proofs.Common.{◌≡◌, map, take}
-use Rattle.adj_text.specs.Char.{upper}
+use Rattle.def_text.specs.Char.{upper}
 use Rattle.adj_tool.proofs.values.folded.Given as goal
 
 abbrev pub invariant-loop-c : goal.invariant-loop-c

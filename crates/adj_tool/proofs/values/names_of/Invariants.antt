@@ -1,6 +1,6 @@
 use Rattle.std.proofs.Common.{◌≡◌, ◌++◌, map, length}
 use Rattle.std.specs.List.{list_all}
-use Rattle.adj_text.specs.Char.{upper}
+use Rattle.def_text.specs.Char.{upper}
 use Rattle.adj_tool.specs.Arguments.{pieces, is_name_argument}
 use Rattle.adj_tool.proofs.values.names_of.Given as goal
 

@@ -1,5 +1,5 @@
 use Rattle.std.proofs.Common.{◌≡◌, ◌≤◌, ◌+◌, ◌*◌, ◌^◌, take}
-use Rattle.adj_text.specs.Char.{number_of}
+use Rattle.def_text.specs.Char.{number_of}
 use Rattle.adj_tool.proofs.values.number_of.Given as goal
 
 abbrev pub invariant-loop-c : goal.invariant-loop-c

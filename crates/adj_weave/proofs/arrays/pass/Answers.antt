@@ -1,7 +1,7 @@
 use Rattle.std.proofs.Common.{◌<◌, ◌≤◌, true, false, length, refl, ap, sym, ◌∙◌, subst}
 use Rattle.adj_tree.specs.View.{extent_of, declaration_of}
 use Rattle.adj_sets.specs.Sets.{with_added}
-use Rattle.adj_transpose.specs.Fresh.{has_name}
+use Rattle.def_meaning.specs.Apart.{has_name}
 use Rattle.adj_weave.proofs.Declared.{known_passed, new_passed, extents_there, extents_none}
 use Rattle.adj_weave.proofs.arrays.pass.Goals as goal
 

@@ -1,5 +1,5 @@
 use Rattle.std.proofs.Common.{◌∙◌, ◌++◌, ◌∷◌, ◌+◌, [], drop, sym, ap, append_assoc}
-use Rattle.adj_helpers.specs.declared.callees.Dummy.{Dummy}
+use Rattle.adj_sweep.specs.declared.callees.Dummy.{Dummy}
 use Rattle.adj_weave.specs.Marked.{unit_dummy}
 use Rattle.adj_weave.specs.Orders.{dummies_said}
 use Rattle.adj_weave.proofs.Known.{dummies_on}

@@ -2,14 +2,14 @@ use Rattle.std.proofs.Common.{◌≡◌, ◌∙◌, map, length, ap, subst}
 use Rattle.std.proofs.lemmas.List.{length-map}
 use Rattle.adj_tree.specs.Code.{Procedure}
 use Rattle.adj_tree.specs.View.{procedure_of}
-use Rattle.adj_meaning.specs.Written.{is_written}
-use Rattle.adj_meaning.specs.Read.{is_read}
-use Rattle.adj_transpose.specs.Naming.{AreApart}
-use Rattle.adj_transpose.specs.Program.{unit_name}
-use Rattle.adj_reverse.specs.Names.{adjoint_name}
+use Rattle.def_meaning.specs.Written.{is_written}
+use Rattle.def_meaning.specs.Read.{is_read}
+use Rattle.def_meaning.specs.Apart.{AreApart}
+use Rattle.def_sweep.specs.Declared.{unit_name}
+use Rattle.def_sweep.specs.Names.{adjoint_name}
 use Rattle.adj_sets.specs.Sets.{all_added}
 use Rattle.adj_naming.proofs.Added.{all_once}
-use Rattle.adj_helpers.specs.declared.callees.Callees.{Callees}
+use Rattle.adj_sweep.specs.declared.callees.Callees.{Callees}
 use Rattle.adj_weave.specs.Orders.{said_of}
 use Rattle.adj_weave.proofs.Known.{all_known, knows_has, rows_written, rows_read}
 use Rattle.adj_weave.proofs.called.known_callees.Goals as goal

@@ -1,9 +1,9 @@
 use Rattle.std.proofs.Common.{◌++◌, map, ap, ◌∙◌}
 use Rattle.adj_tree.specs.View.{declaration_of, procedure_of}
-use Rattle.adj_transpose.specs.Program.{declaration, declared_helpers}
+use Rattle.def_sweep.specs.Declared.{declaration, declared_helpers}
 use Rattle.adj_naming.specs.Roles.{variable_of}
 use Rattle.adj_naming.specs.Table.{table_of}
-use Rattle.adj_marking.specs.View.{marks_of}
+use Rattle.adj_sweep_assignment.specs.View.{marks_of}
 use Rattle.adj_weave.specs.Parts.{declared_among}
 use Rattle.adj_weave.proofs.Walks.{declared_same}
 use Rattle.adj_weave.proofs.declarations.declarations.Goals as goal

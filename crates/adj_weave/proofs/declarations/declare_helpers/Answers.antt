@@ -1,8 +1,8 @@
 use Rattle.std.proofs.Common.{◌++◌, List, [], ◌∷◌, map, get_or, refl, ap, ◌∙◌}
 use Rattle.std.proofs.lemmas.List.{map_push}
 use Rattle.adj_tree.specs.View.{declaration_of}
-use Rattle.adj_transpose.specs.Naming.{name_in}
-use Rattle.adj_transpose.specs.Program.{scalar, declared_helpers}
+use Rattle.def_sweep.specs.Naming.{name_in}
+use Rattle.def_sweep.specs.Declared.{scalar, declared_helpers}
 use Rattle.adj_naming.specs.declared.role.Role.TheVariants.{Work}
 use Rattle.adj_naming.specs.declared.role.Helper.{Helper}
 use Rattle.adj_naming.specs.Roles.{variable_of}

@@ -1,7 +1,7 @@
 -- The helpers passed are declared.
 use Rattle.std.proofs.Common.{◌≡◌, ◌++◌, map, drop}
 use Rattle.adj_tree.specs.View.{declaration_of}
-use Rattle.adj_transpose.specs.Program.{declared_helpers}
+use Rattle.def_sweep.specs.Declared.{declared_helpers}
 use Rattle.adj_naming.specs.Roles.{variable_of}
 use Rattle.adj_naming.specs.Table.{table_of}
 use Rattle.adj_weave.proofs.declarations.declare_helpers.Given as goal

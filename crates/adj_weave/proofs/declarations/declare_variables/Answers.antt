@@ -1,8 +1,8 @@
 use Rattle.std.proofs.Common.{◌++◌, List, ℕ, [], ◌∷◌, map, ap, ◌∙◌}
 use Rattle.adj_tree.specs.View.{declaration_of}
-use Rattle.adj_transpose.specs.Program.{declaration}
+use Rattle.def_sweep.specs.Declared.{declaration}
 use Rattle.adj_naming.specs.Table.{table_of}
-use Rattle.adj_marking.specs.View.{marks_of}
+use Rattle.adj_sweep_assignment.specs.View.{marks_of}
 use Rattle.adj_weave.specs.Parts.{declared_among}
 use Rattle.adj_weave.proofs.Walks.{walked, declared-next}
 use Rattle.adj_weave.proofs.declarations.declare_variables.Goals as goal

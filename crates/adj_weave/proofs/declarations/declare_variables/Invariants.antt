@@ -1,9 +1,9 @@
 -- The variables passed and their shadows are declared.
 use Rattle.std.proofs.Common.{◌≡◌, ◌++◌, map, drop}
 use Rattle.adj_tree.specs.View.{declaration_of}
-use Rattle.adj_transpose.specs.Program.{declaration}
+use Rattle.def_sweep.specs.Declared.{declaration}
 use Rattle.adj_naming.specs.Table.{table_of}
-use Rattle.adj_marking.specs.View.{marks_of}
+use Rattle.adj_sweep_assignment.specs.View.{marks_of}
 use Rattle.adj_weave.specs.Parts.{declared_among}
 use Rattle.adj_weave.proofs.declarations.declare_variables.Given as goal
 

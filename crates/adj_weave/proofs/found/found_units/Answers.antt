@@ -3,11 +3,11 @@ use Rattle.std.specs.Prelude.{◌↔◌, IsTrue}
 use Rattle.std.specs.List.{All}
 use Rattle.std.proofs.lemmas.List.{length-map}
 use Rattle.adj_tree.specs.View.{procedure_of}
-use Rattle.adj_transpose.specs.Naming.{AreApart}
-use Rattle.adj_transpose.specs.Program.{unit_name}
+use Rattle.def_meaning.specs.Apart.{AreApart}
+use Rattle.def_sweep.specs.Declared.{unit_name}
 use Rattle.adj_reach.specs.Edges.{Edges, AreBelow, ReachedFrom, flag}
 use Rattle.adj_weave.specs.Marked.{program_marks}
-use Rattle.adj_helpers.specs.Steps.{are_reversed}
+use Rattle.adj_sweep.specs.HelperSteps.{are_reversed}
 use Rattle.adj_weave.specs.Orders.{listed_from, edges_of, is_plain_call, ends_of}
 use Rattle.adj_weave.proofs.Unsplit.{splits_nothing}
 use Rattle.adj_weave.proofs.Reached.{edges_below, adjointed_are, carried_are, ends_below}

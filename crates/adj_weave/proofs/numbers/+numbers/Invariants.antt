@@ -2,7 +2,7 @@
 use Rattle.std.proofs.Common.{◌≡◌, ◌≤◌}
 use Rattle.adj_tree.specs.declared.stmt.Stmts.{size-Stmts}
 use Rattle.adj_tree.specs.View.{code_of}
-use Rattle.adj_transpose.specs.Marks.{behind}
+use Rattle.def_names.specs.Numbers.{behind}
 use Rattle.adj_weave.proofs.numbers.+numbers.Given as goal
 
 abbrev pub invariant-behind-loop-current : goal.invariant-behind-loop-current

@@ -1,6 +1,6 @@
 use Rattle.std.proofs.Common.{List, ℕ, [], ◌∷◌, ◌∙◌}
-use Rattle.adj_transpose.specs.Marked.{names_in}
-use Rattle.adj_marking.specs.View.{marks_of}
+use Rattle.def_sweep.specs.Marked.{names_in}
+use Rattle.adj_sweep_assignment.specs.View.{marks_of}
 use Rattle.adj_weave.proofs.Walks.{walked, names_in-next}
 use Rattle.adj_weave.proofs.shadows.shadowed.Goals as goal
 

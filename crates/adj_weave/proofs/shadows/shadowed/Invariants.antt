@@ -1,7 +1,7 @@
 -- Those of the variables passed that have a shadow are made.
 use Rattle.std.proofs.Common.{◌≡◌, ◌++◌, drop}
-use Rattle.adj_transpose.specs.Marked.{names_in}
-use Rattle.adj_marking.specs.View.{marks_of}
+use Rattle.def_sweep.specs.Marked.{names_in}
+use Rattle.adj_sweep_assignment.specs.View.{marks_of}
 use Rattle.adj_weave.proofs.shadows.shadowed.Given as goal
 
 abbrev pub invariant-loop-x : goal.invariant-loop-x

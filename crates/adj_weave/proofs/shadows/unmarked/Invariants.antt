@@ -1,6 +1,6 @@
 -- The names passed whose mark is missing are made.
 use Rattle.std.proofs.Common.{◌≡◌, ◌++◌, drop}
-use Rattle.adj_transpose.specs.Program.{unmarked}
+use Rattle.def_sweep.specs.Declared.{unmarked}
 use Rattle.adj_weave.proofs.shadows.unmarked.Given as goal
 
 abbrev pub invariant-loop-k : goal.invariant-loop-k

@@ -1,7 +1,7 @@
 use Rattle.std.proofs.Common.{List, ℕ, [], ◌∷◌, ◌∙◌}
-use Rattle.adj_transpose.specs.MarkedProgram.{shadows_behind}
+use Rattle.def_sweep.specs.MarkedProgram.{shadows_behind}
 use Rattle.adj_naming.specs.Table.{table_of}
-use Rattle.adj_marking.specs.View.{marks_of}
+use Rattle.adj_sweep_assignment.specs.View.{marks_of}
 use Rattle.adj_weave.proofs.Walks.{walked, shadows_behind-next}
 use Rattle.adj_weave.proofs.shadows.with_shadows.Goals as goal
 

@@ -1,8 +1,8 @@
 -- The dummies passed and their shadows are made.
 use Rattle.std.proofs.Common.{◌≡◌, ◌++◌, drop}
-use Rattle.adj_transpose.specs.MarkedProgram.{shadows_behind}
+use Rattle.def_sweep.specs.MarkedProgram.{shadows_behind}
 use Rattle.adj_naming.specs.Table.{table_of}
-use Rattle.adj_marking.specs.View.{marks_of}
+use Rattle.adj_sweep_assignment.specs.View.{marks_of}
 use Rattle.adj_weave.proofs.shadows.with_shadows.Given as goal
 
 abbrev pub invariant-loop-x : goal.invariant-loop-x

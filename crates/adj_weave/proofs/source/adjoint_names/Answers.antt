@@ -1,6 +1,6 @@
 use Rattle.std.proofs.Common.{◌≡◌, ◌++◌, ◌∷◌, [], ◌+◌, map, drop, append-nil, ap, sym, ◌∙◌, codes}
 use Rattle.adj_tree.specs.View.{procedure_of}
-use Rattle.adj_transpose.specs.Fresh.{fresh}
+use Rattle.def_names.specs.Fresh.{fresh}
 use Rattle.adj_weave.specs.Orders.{adjoints_from}
 use Rattle.adj_weave.proofs.Walks.{walked_on}
 use Rattle.adj_weave.proofs.source.adjoint_names.Goals as goal

@@ -1,6 +1,6 @@
 use Rattle.std.proofs.Common.{ℕ, List, ◌∷◌, [], ◌++◌, map, refl, ap, ◌∙◌}
 use Rattle.adj_tree.specs.View.{procedure_of}
-use Rattle.adj_names.specs.Variables.{variables}
+use Rattle.def_names.specs.Variables.{variables}
 use Rattle.adj_weave.proofs.Walks.{walked_on}
 use Rattle.adj_weave.proofs.source.all_variables.Goals as goal
 

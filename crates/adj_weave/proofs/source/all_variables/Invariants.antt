@@ -1,7 +1,7 @@
 -- The variables of the units passed are made.
 use Rattle.std.proofs.Common.{◌≡◌, ◌++◌, map, drop}
 use Rattle.adj_tree.specs.View.{procedure_of}
-use Rattle.adj_names.specs.Variables.{variables}
+use Rattle.def_names.specs.Variables.{variables}
 use Rattle.adj_weave.proofs.source.all_variables.Given as goal
 
 abbrev pub invariant-loop-unit : goal.invariant-loop-unit

@@ -1,6 +1,6 @@
 use Rattle.std.proofs.Common.{ℕ, List, ◌∷◌, [], ◌++◌, map, refl, ap, ◌∙◌}
 use Rattle.adj_tree.specs.View.{procedure_of}
-use Rattle.adj_transpose.specs.Program.{unit_name}
+use Rattle.def_sweep.specs.Declared.{unit_name}
 use Rattle.adj_weave.proofs.Walks.{walked_on}
 use Rattle.adj_weave.proofs.source.unit_names.Goals as goal
 

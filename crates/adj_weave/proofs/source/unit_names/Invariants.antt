@@ -1,7 +1,7 @@
 -- The names of the units passed are made.
 use Rattle.std.proofs.Common.{◌≡◌, ◌++◌, map, drop}
 use Rattle.adj_tree.specs.View.{procedure_of}
-use Rattle.adj_transpose.specs.Program.{unit_name}
+use Rattle.def_sweep.specs.Declared.{unit_name}
 use Rattle.adj_weave.proofs.source.unit_names.Given as goal
 
 abbrev pub invariant-loop-unit : goal.invariant-loop-unit

@@ -1,21 +1,22 @@
 use Rattle.std.proofs.Common.{◌≡◌, ◌++◌, map, ap, sym, subst, ◌∙◌}
 use Rattle.adj_tree.specs.Code.{shadow}
 use Rattle.adj_tree.specs.View.{declaration_of, procedure_of, code_of}
-use Rattle.adj_names.specs.Variables.{variables}
-use Rattle.adj_meaning.specs.Rename.{rename}
-use Rattle.adj_transpose.specs.Marked.{names_in}
-use Rattle.adj_transpose.specs.Naming.{AreApart, unit_names}
-use Rattle.adj_transpose.specs.Program.{declared_helpers}
-use Rattle.adj_transpose.specs.MarkedProgram.{shadows_behind, declared_behind}
-use Rattle.adj_reverse.specs.Plan.{Plan}
-use Rattle.adj_reverse.specs.Marking.{first_statement, marks_in, plan_in, arrays_of, callee_in}
-use Rattle.adj_reverse.specs.Program.{helpers_used_with, adjoint_names_with, schedules_in}
-use Rattle.adj_reverse.specs.Emission.{adjoint_body_with}
-use Rattle.adj_reverse.proofs.Variables.{variables_apart}
+use Rattle.def_names.specs.Variables.{variables}
+use Rattle.def_meaning.specs.Rename.{rename}
+use Rattle.def_sweep.specs.Marked.{names_in}
+use Rattle.def_meaning.specs.Apart.{AreApart}
+use Rattle.def_sweep.specs.Naming.{unit_names}
+use Rattle.def_sweep.specs.Declared.{declared_helpers}
+use Rattle.def_sweep.specs.MarkedProgram.{shadows_behind, declared_behind}
+use Rattle.def_sweep.specs.Plan.{Plan}
+use Rattle.def_sweep.specs.Marking.{first_statement, marks_in, plan_in, arrays_of, callee_in}
+use Rattle.def_sweep.specs.Program.{helpers_used_with, adjoint_names_with, schedules_in}
+use Rattle.def_sweep.specs.Emission.{adjoint_body_with}
+use Rattle.law_sweep.proofs.Variables.{variables_apart}
 use Rattle.adj_naming.specs.Roles.{variable_of}
 use Rattle.adj_naming.specs.Sets.{AreDifferent}
 use Rattle.adj_naming.specs.Table.{table_of, named_by}
-use Rattle.adj_marking.specs.View.{marks_of}
+use Rattle.adj_sweep_assignment.specs.View.{marks_of}
 use Rattle.adj_weave.specs.Marked.{reads_in}
 use Rattle.adj_weave.specs.Shared.{sources, marks_for, reversed_for}
 use Rattle.adj_weave.proofs.Unsplit.{splits_nothing}

@@ -1,6 +1,6 @@
 use Rattle.std.proofs.Common.{◌++◌, map, append_assoc, ap, ◌∙◌}
 use Rattle.adj_tree.specs.View.{procedure_of}
-use Rattle.adj_reverse.specs.Program.{emitted_adjoint_with}
+use Rattle.def_sweep.specs.Program.{emitted_adjoint_with}
 use Rattle.adj_weave.specs.Shared.{sources, marks_for, reversed_for}
 use Rattle.adj_weave.specs.Woven.{head_of, only_if}
 use Rattle.adj_weave.proofs.weave.add_unit.Goals as goal

@@ -1,11 +1,11 @@
 use Rattle.std.proofs.Common.{◌<◌, map, length, ap, sym, subst, ◌∙◌}
 use Rattle.adj_tree.specs.View.{procedure_of, procedures_of}
-use Rattle.adj_transpose.specs.Naming.{AreApart}
-use Rattle.adj_transpose.specs.Program.{unit_name}
-use Rattle.adj_reverse.specs.Program.{emitted_program_with}
-use Rattle.adj_checked.proofs.Premises.{units_apart}
-use Rattle.adj_emitted.specs.Shadowed.{AllHaveShadows}
-use Rattle.adj_helpers.specs.Steps.{are_reversed}
+use Rattle.def_meaning.specs.Apart.{AreApart}
+use Rattle.def_sweep.specs.Declared.{unit_name}
+use Rattle.def_sweep.specs.Program.{emitted_program_with}
+use Rattle.law_emitted.proofs.Premises.{units_apart}
+use Rattle.law_emitted.specs.Shadowed.{AllHaveShadows}
+use Rattle.adj_sweep.specs.HelperSteps.{are_reversed}
 use Rattle.adj_weave.specs.Marked.{program_marks, KnowsUnits, IsOver}
 use Rattle.adj_weave.specs.Shared.{IsCheckedBySome}
 use Rattle.adj_weave.proofs.Known.{over_knows}

@@ -1,11 +1,11 @@
 use Rattle.std.proofs.Common.{◌≡◌, ◌+◌, false, length, get_or, refl, sym, subst, ◌∙◌, arith}
 use Rattle.adj_tree.specs.View.{procedure_of, code_of}
 use Rattle.adj_tree.specs.Code.{Procedure}
-use Rattle.adj_names.specs.Variables.{variables}
-use Rattle.adj_reverse.specs.Names.{adjoint_name}
-use Rattle.adj_reverse.specs.Marking.{marks_in, first_statement, place_from}
-use Rattle.adj_reverse.specs.Program.{has_adjoint, is_carried_with}
-use Rattle.adj_checked.proofs.Premises.{units_apart}
+use Rattle.def_names.specs.Variables.{variables}
+use Rattle.def_sweep.specs.Names.{adjoint_name}
+use Rattle.def_sweep.specs.Marking.{marks_in, first_statement, place_from}
+use Rattle.def_sweep.specs.Program.{has_adjoint, is_carried_with}
+use Rattle.law_emitted.proofs.Premises.{units_apart}
 use Rattle.adj_weave.specs.Shared.{sources, marks_for, reversed_for}
 use Rattle.adj_weave.specs.Woven.{head_of}
 use Rattle.adj_weave.specs.Alike.{AreAlike}

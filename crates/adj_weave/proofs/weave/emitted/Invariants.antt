@@ -1,7 +1,7 @@
 -- What is emitted for the units passed is made.
 use Rattle.std.proofs.Common.{◌≡◌, ◌++◌, map, drop}
 use Rattle.adj_tree.specs.View.{procedure_of}
-use Rattle.adj_reverse.specs.Program.{emitted_units_with}
+use Rattle.def_sweep.specs.Program.{emitted_units_with}
 use Rattle.adj_weave.specs.Shared.{sources, marks_for, reversed_for}
 use Rattle.adj_weave.specs.Woven.{head_of}
 use Rattle.adj_weave.proofs.weave.emitted.Given as goal

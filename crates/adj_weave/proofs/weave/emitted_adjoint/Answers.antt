@@ -2,11 +2,11 @@ use Rattle.std.proofs.Common.{◌≡◌, [], true, false, ap, sym, subst, ◌∙
 use Rattle.adj_tree.specs.Code.{name_eq}
 use Rattle.adj_tree.specs.View.{procedure_of}
 use Rattle.adj_tree.proofs.Names.{name_refl, name_same}
-use Rattle.adj_transpose.specs.Marked.{names_in}
-use Rattle.adj_transpose.specs.Program.{unmarked}
-use Rattle.adj_transpose.proofs.Variables.{not_true}
-use Rattle.adj_reverse.specs.Program.{adjoint_unit_with}
-use Rattle.adj_marking.specs.View.{marks_of}
+use Rattle.def_sweep.specs.Marked.{names_in}
+use Rattle.def_sweep.specs.Declared.{unmarked}
+use Rattle.def_names.proofs.Variables.{not_true}
+use Rattle.def_sweep.specs.Program.{adjoint_unit_with}
+use Rattle.adj_sweep_assignment.specs.View.{marks_of}
 use Rattle.adj_weave.specs.Shared.{sources, marks_for, reversed_for, HaveShadows}
 use Rattle.adj_weave.specs.Woven.{head_of}
 use Rattle.adj_weave.proofs.Program.{cleared_have, other_adjoint, head_adjoint}

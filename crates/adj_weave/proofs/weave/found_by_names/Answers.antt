@@ -1,5 +1,5 @@
 use Rattle.std.proofs.Common.{◌≡◌, ap, sym, subst, ◌∙◌}
-use Rattle.adj_transpose.specs.Naming.{AreApart}
+use Rattle.def_meaning.specs.Apart.{AreApart}
 use Rattle.adj_sets.specs.Sets.{all_added}
 use Rattle.adj_naming.proofs.Added.{all_once}
 use Rattle.adj_weave.proofs.weave.found_by_names.Goals as goal

@@ -1,8 +1,8 @@
 use Rattle.std.proofs.Common.{◌++◌, [], ℕ, List, map, ap, subst, ◌∙◌}
 use Rattle.std.specs.Prelude.{flat_map}
 use Rattle.adj_tree.specs.View.{procedure_of}
-use Rattle.adj_transpose.specs.Naming.{AreApart}
-use Rattle.adj_transpose.specs.Program.{unit_name}
+use Rattle.def_meaning.specs.Apart.{AreApart}
+use Rattle.def_sweep.specs.Declared.{unit_name}
 use Rattle.adj_sets.specs.Sets.{all_added}
 use Rattle.adj_weave.specs.Orders.{adjoints_from}
 use Rattle.adj_weave.proofs.Ordered.{first_numbers, adjoint_list, all_joined}

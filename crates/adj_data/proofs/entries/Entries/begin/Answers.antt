@@ -2,7 +2,7 @@ use Rattle.std.proofs.Common.{◌≡◌, true, false, [], ◌∷◌, ◌++◌, m
 use Rattle.std.specs.Prelude.{is_ok}
 use Rattle.std.proofs.lemmas.List.{map_push}
 use Rattle.adj_data.specs.Items.{name_of}
-use Rattle.adj_names.specs.Fresh.{has_name}
+use Rattle.def_meaning.specs.Apart.{has_name}
 use Rattle.adj_sets.specs.Sets.{with_added}
 use Rattle.adj_sets.proofs.NameSets.{with_added_is}
 use Rattle.adj_data.specs.declared.entries.Entry.{Entry}

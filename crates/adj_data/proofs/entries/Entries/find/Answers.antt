@@ -1,6 +1,6 @@
 use Rattle.std.proofs.Common.{◌≡◌, Some, false, ap, sym, ◌∙◌}
 use Rattle.adj_data.specs.Entries.{entry_named}
-use Rattle.adj_names.specs.Fresh.{has_name}
+use Rattle.def_meaning.specs.Apart.{has_name}
 use Rattle.adj_data.specs.Given.{entry_seen}
 use Rattle.adj_data.proofs.Found.{stands_seen, absent, placed}
 use Rattle.adj_data.proofs.entries.Entries.find.Goals as goal

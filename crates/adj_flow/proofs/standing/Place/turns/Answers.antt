@@ -1,6 +1,6 @@
 use Rattle.std.proofs.Common.{ap, sym, ◌∙◌}
 use Rattle.adj_tree.specs.Code.{plain}
-use Rattle.adj_facts.specs.Uses.{turned_by}
+use Rattle.def_flow.specs.Uses.{turned_by}
 use Rattle.adj_flow.specs.View.{place_of}
 use Rattle.adj_flow.proofs.Naming.{named}
 use Rattle.adj_flow.proofs.standing.Place.turns.Goals as goal

@@ -1,6 +1,6 @@
 use Rattle.std.proofs.Common.{ap, sym, ◌∙◌}
 use Rattle.adj_tree.specs.Code.{plain}
-use Rattle.adj_facts.specs.Ways.{assigned_on}
+use Rattle.def_flow.specs.Ways.{assigned_on}
 use Rattle.adj_flow.specs.WayView.{deed_of}
 use Rattle.adj_flow.proofs.Naming.{named}
 use Rattle.adj_flow.proofs.way.Deed.assigns.Goals as goal

@@ -1,35 +1,35 @@
 use Rattle.std.proofs.Common.{rules, ◌≡◌, ◌*◌, ◌-◌, ◌<◌, ℕ, suc, ℤ, List, FitsSigned, w64, length, refl, sym, ap, subst, ◌∙◌, arith, Vec, Global}
 use Rattle.std.specs.Prelude.{Result, Ok, Err, Some, None, Bool, true, false}
-use Rattle.adj_meaning.specs.Trap.{Trap}
+use Rattle.def_meaning.specs.Trap.{Trap}
 use Rattle.std.proofs.lemmas.Int.{to_z-of_z}
 use Rattle.adj_word.specs.Word.{wrap}
 use Rattle.adj_word.proofs.Residues.{wrap_word}
-use Rattle.adj_meaning.specs.Scene.{Scene, Outcome, then_do, with_value, Done, stand}
-use Rattle.adj_meaning.specs.Store.{set}
-use Rattle.adj_meaning.specs.Value.{target, holds}
-use Rattle.adj_meaning.specs.Units.{calls_of, copied_out}
-use Rattle.adj_meaning.specs.Run.{run, turns, with_turn, stepped, tests, in_force, after_loop}
+use Rattle.def_meaning.specs.Scene.{Scene, Outcome, then_do, with_value, Done, stand}
+use Rattle.def_meaning.specs.Store.{set}
+use Rattle.def_meaning.specs.Value.{target, holds}
+use Rattle.def_meaning.specs.Units.{calls_of, copied_out}
+use Rattle.def_meaning.specs.Run.{run, turns, with_turn, stepped, tests, in_force, after_loop}
 use Rattle.adj_tree.specs.declared.value.Trap.TheVariants as trap
 use Rattle.adj_interp.specs.declared.machine.Machine.{Machine}
-use Rattle.adj_frame.specs.declared.step.Steps.{size-Steps}
-use Rattle.adj_frame.specs.declared.step.Steps.TheViews.{sized-More}
-use Rattle.adj_frame.specs.declared.step.Steps.TheVariants as steps
-use Rattle.adj_frame.specs.Prepared.{var_at, term_in, terms_in, test_in}
-use Rattle.adj_frame.specs.Instructed.{task_in, steps_in, marking_in, AreStepsBelow}
-use Rattle.adj_frame.specs.declared.actual.Actual.{Actual}
-use Rattle.adj_frame.specs.declared.frame.Frame.{Frame}
-use Rattle.adj_frame.specs.declared.routine.Routine.{Routine}
-use Rattle.adj_frame.specs.Linked.{IsRoutine, units_in}
-use Rattle.adj_frame.specs.Shown.{on_numbers, Shows}
-use Rattle.adj_frame.specs.Called.{actuals_in, entered_with, shapes_with, fit_from}
+use Rattle.adj_interp_frame.specs.declared.step.Steps.{size-Steps}
+use Rattle.adj_interp_frame.specs.declared.step.Steps.TheViews.{sized-More}
+use Rattle.adj_interp_frame.specs.declared.step.Steps.TheVariants as steps
+use Rattle.adj_interp_frame.specs.Prepared.{var_at, term_in, terms_in, test_in}
+use Rattle.adj_interp_frame.specs.Instructed.{task_in, steps_in, marking_in, AreStepsBelow}
+use Rattle.adj_interp_frame.specs.declared.actual.Actual.{Actual}
+use Rattle.adj_interp_frame.specs.declared.frame.Frame.{Frame}
+use Rattle.adj_interp_frame.specs.declared.routine.Routine.{Routine}
+use Rattle.adj_interp_frame.specs.Linked.{IsRoutine, units_in}
+use Rattle.adj_interp_frame.specs.Shown.{on_numbers, Shows}
+use Rattle.adj_interp_frame.specs.Called.{actuals_in, entered_with, shapes_with, fit_from}
 use Rattle.adj_interp.specs.declared.call.Outer.{Outer}
 use Rattle.adj_interp.specs.Entered.{inside}
 use Rattle.adj_tree.specs.View.{procedure_of}
 use Rattle.adj_interp.proofs.Calling.{all_sizes, unit_at, size_within, less_deep, positive, call_past, call_at, call_err, misfit_at, call_misfit, unit_ends, call_break, call_open, call_done, entered_suited}
-use Rattle.adj_frame.specs.Framed.{IsFrame, shapes_in, store_in}
-use Rattle.adj_frame.specs.Suited.{AreSuited, counts_in, HasOneCell, AreAsLarge}
-use Rattle.adj_frame.proofs.Showing.{shows_itself}
-use Rattle.adj_frame.proofs.Suiting.{got_suited, as_large}
+use Rattle.adj_interp_frame.specs.Framed.{IsFrame, shapes_in, store_in}
+use Rattle.adj_interp_frame.specs.Suited.{AreSuited, counts_in, HasOneCell, AreAsLarge}
+use Rattle.adj_interp_frame.proofs.Showing.{shows_itself}
+use Rattle.adj_interp_frame.proofs.Suiting.{got_suited, as_large}
 use Rattle.adj_interp.specs.Held.{setting_at, Holds, Ends, Finds, IsDone, IsTrapped, HasMore}
 use Rattle.adj_interp.proofs.Driving.{holds_stand, reaches_start, reaches_end, ends_ok, ends_err, list_budget, list_next, list_break, same_act, turn_budget, turn_next, turn_break, turn_end, test_err, test_end, test_last, test_break, test_budget, test_next, ends_loop, bounds_chain}
 use Rattle.adj_interp.proofs.machine.Machine.+run.Goals as goal

@@ -1,15 +1,15 @@
 -- What is left to do is what the run from the start comes to.
 use Rattle.std.proofs.Common.{◌≡◌, ◌+◌, ◌*◌, ◌≤◌, suc, length}
-use Rattle.adj_meaning.specs.Scene.{Scene}
-use Rattle.adj_meaning.specs.Value.{holds}
-use Rattle.adj_meaning.specs.Units.{calls_of}
-use Rattle.adj_meaning.specs.Run.{run, turns, stepped, tests}
-use Rattle.adj_frame.specs.declared.step.Steps.{size-Steps}
-use Rattle.adj_frame.specs.Prepared.{var_at, test_in}
-use Rattle.adj_frame.specs.Instructed.{steps_in, AreStepsBelow}
-use Rattle.adj_frame.specs.Linked.{AreLinked, units_in}
-use Rattle.adj_frame.specs.Framed.{IsFrame}
-use Rattle.adj_frame.specs.Suited.{AreSuited, counts_in}
+use Rattle.def_meaning.specs.Scene.{Scene}
+use Rattle.def_meaning.specs.Value.{holds}
+use Rattle.def_meaning.specs.Units.{calls_of}
+use Rattle.def_meaning.specs.Run.{run, turns, stepped, tests}
+use Rattle.adj_interp_frame.specs.declared.step.Steps.{size-Steps}
+use Rattle.adj_interp_frame.specs.Prepared.{var_at, test_in}
+use Rattle.adj_interp_frame.specs.Instructed.{steps_in, AreStepsBelow}
+use Rattle.adj_interp_frame.specs.Linked.{AreLinked, units_in}
+use Rattle.adj_interp_frame.specs.Framed.{IsFrame}
+use Rattle.adj_interp_frame.specs.Suited.{AreSuited, counts_in}
 use Rattle.adj_interp.specs.Held.{Entry, setting_at, Holds, OneCelled, Reaches}
 use Rattle.adj_interp.proofs.Calling.{all_sizes}
 use Rattle.adj_interp.proofs.machine.Machine.+run.Given as goal

@@ -1,10 +1,10 @@
 use Rattle.std.proofs.Common.{rules, ◌≡◌, List, sym, subst, Vec, Global}
 use Rattle.std.specs.Prelude.{Err}
-use Rattle.adj_meaning.specs.Units.{Actual, actual_of, actuals}
-use Rattle.adj_frame.specs.declared.actual.Actual.{Actual as CodeActual}
-use Rattle.adj_frame.specs.Prepared.{term_in, terms_in}
-use Rattle.adj_frame.specs.Shown.{on_numbers}
-use Rattle.adj_frame.specs.Called.{actual_in, actuals_in}
+use Rattle.def_meaning.specs.Units.{Actual, actual_of, actuals}
+use Rattle.adj_interp_frame.specs.declared.actual.Actual.{Actual as CodeActual}
+use Rattle.adj_interp_frame.specs.Prepared.{term_in, terms_in}
+use Rattle.adj_interp_frame.specs.Shown.{on_numbers}
+use Rattle.adj_interp_frame.specs.Called.{actual_in, actuals_in}
 use Rattle.adj_interp.specs.Entered.{Gets}
 use Rattle.adj_interp.proofs.Calling.{actual_breaks}
 use Rattle.adj_interp.proofs.machine.Machine.actuals.Goals as goal

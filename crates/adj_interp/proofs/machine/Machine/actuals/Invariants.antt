@@ -2,12 +2,12 @@
 use Rattle.std.proofs.Common.{◌≡◌, ◌++◌, ℕ, length}
 use Rattle.std.specs.Prelude.{Ok, Option}
 use Rattle.adj_tree.specs.Code.{Var}
-use Rattle.adj_meaning.specs.Store.{Shape, Store}
-use Rattle.adj_meaning.specs.Trap.{then_ok}
-use Rattle.adj_meaning.specs.Units.{actuals}
-use Rattle.adj_frame.specs.Prepared.{terms_in, AreTermsBelow}
-use Rattle.adj_frame.specs.Called.{actuals_in, AreActualsBelow}
-use Rattle.adj_frame.specs.Shown.{on_numbers, Shows}
+use Rattle.def_meaning.specs.Store.{Shape, Store}
+use Rattle.def_meaning.specs.Trap.{then_ok}
+use Rattle.def_meaning.specs.Units.{actuals}
+use Rattle.adj_interp_frame.specs.Prepared.{terms_in, AreTermsBelow}
+use Rattle.adj_interp_frame.specs.Called.{actuals_in, AreActualsBelow}
+use Rattle.adj_interp_frame.specs.Shown.{on_numbers, Shows}
 use Rattle.adj_interp.proofs.machine.Machine.actuals.Given as goal
 
 abbrev pub invariant-loop-current : goal.invariant-loop-current

@@ -1,13 +1,13 @@
 use Rattle.std.proofs.Common.{rules, ◌≡◌, ◌<◌, FitsSigned, w64, length, get_or, sym, ap, subst, ◌∙◌, arith}
 use Rattle.std.proofs.lemmas.Int.{to_z-of_z}
 use Rattle.adj_word.specs.Word.{add}
-use Rattle.adj_meaning.specs.Run.{with_turn}
-use Rattle.adj_meaning.proofs.Cells.{size_positive}
-use Rattle.adj_frame.specs.Framed.{zero_in}
-use Rattle.adj_frame.specs.declared.slot.Slot.{Slot}
-use Rattle.adj_frame.specs.Prepared.{var_at}
+use Rattle.def_meaning.specs.Run.{with_turn}
+use Rattle.def_meaning.proofs.Cells.{size_positive}
+use Rattle.adj_interp_frame.specs.Framed.{zero_in}
+use Rattle.adj_interp_frame.specs.declared.slot.Slot.{Slot}
+use Rattle.adj_interp_frame.specs.Prepared.{var_at}
 use Rattle.adj_interp.specs.Held.{setting_at, Holds}
-use Rattle.adj_frame.proofs.Reading.{read_cell}
+use Rattle.adj_interp_frame.proofs.Reading.{read_cell}
 use Rattle.adj_interp.proofs.machine.Machine.advance.Goals as goal
 
 pub returns-clause-holds : goal.returns-clause-holds

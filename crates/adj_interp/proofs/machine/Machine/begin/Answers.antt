@@ -1,11 +1,11 @@
 use Rattle.std.proofs.Common.{rules, ◌≡◌, ℕ, refl, subst}
 use Rattle.std.specs.Prelude.{Ok, Err}
-use Rattle.adj_meaning.specs.Event.{Begin}
-use Rattle.adj_meaning.specs.Scene.{Scene, Outcome, Done, stand}
-use Rattle.adj_meaning.specs.Runtime.{begun}
+use Rattle.def_meaning.specs.Event.{Begin}
+use Rattle.def_meaning.specs.Scene.{Scene, Outcome, Done, stand}
+use Rattle.def_meaning.specs.Runtime.{begun}
 use Rattle.adj_interp.specs.Tallied.{Tallied, with_event}
 use Rattle.adj_interp.specs.declared.machine.Machine.{Machine}
-use Rattle.adj_frame.specs.Prepared.{term_in}
+use Rattle.adj_interp_frame.specs.Prepared.{term_in}
 use Rattle.adj_interp.specs.Held.{setting_at, Ends, IsDone}
 use Rattle.adj_interp.proofs.Driving.{ends_ok, ends_err}
 use Rattle.adj_interp.proofs.Plans.{plan_chain}

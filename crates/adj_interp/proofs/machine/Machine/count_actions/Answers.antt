@@ -2,9 +2,9 @@ use Rattle.std.proofs.Common.{rules, ◌≡◌, ℕ, List, pos, length, subst}
 use Rattle.std.specs.Prelude.{Err}
 use Rattle.adj_revolve.specs.declared.machine.Action.{Action}
 use Rattle.adj_revolve.specs.Schedule.{schedule_of}
-use Rattle.adj_meaning.specs.Store.{set}
-use Rattle.adj_meaning.specs.Scene.{Scene, Outcome, Done, stand}
-use Rattle.adj_frame.specs.Prepared.{var_at, term_in}
+use Rattle.def_meaning.specs.Store.{set}
+use Rattle.def_meaning.specs.Scene.{Scene, Outcome, Done, stand}
+use Rattle.adj_interp_frame.specs.Prepared.{var_at, term_in}
 use Rattle.adj_interp.specs.Held.{setting_at, Ends}
 use Rattle.adj_interp.proofs.Driving.{ends_err}
 use Rattle.adj_interp.proofs.Plans.{count_chain}

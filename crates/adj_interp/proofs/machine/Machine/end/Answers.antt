@@ -1,5 +1,5 @@
 use Rattle.std.proofs.Common.{rules, ◌≡◌, length, refl}
-use Rattle.adj_meaning.specs.Event.{End}
+use Rattle.def_meaning.specs.Event.{End}
 use Rattle.adj_interp.specs.Tallied.{Tallied, with_event}
 use Rattle.adj_interp.specs.declared.machine.Machine.{Machine}
 use Rattle.adj_interp.proofs.Serving.{ended_none, ended_ok}

@@ -1,9 +1,9 @@
 use Rattle.std.proofs.Common.{ap, subst, ◌∙◌}
 use Rattle.adj_tree.specs.View.{code_of}
-use Rattle.adj_meaning.specs.Run.{run}
-use Rattle.adj_meaning.specs.Units.{calls_of}
-use Rattle.adj_frame.specs.Instructed.{steps_in}
-use Rattle.adj_frame.specs.Linked.{units_in}
+use Rattle.def_meaning.specs.Run.{run}
+use Rattle.def_meaning.specs.Units.{calls_of}
+use Rattle.adj_interp_frame.specs.Instructed.{steps_in}
+use Rattle.adj_interp_frame.specs.Linked.{units_in}
 use Rattle.adj_interp.specs.Held.{setting_at, IsDone}
 use Rattle.adj_interp.proofs.Calling.{finish_open}
 use Rattle.adj_interp.proofs.machine.Machine.finish.Goals as goal

@@ -1,7 +1,7 @@
 use Rattle.std.proofs.Common.{rules, FitsSigned, w64, subst, ◌∙◌}
 use Rattle.std.proofs.lemmas.Int.{to_z-of_z}
-use Rattle.adj_meaning.specs.Run.{with_turn}
-use Rattle.adj_frame.specs.Prepared.{var_at}
+use Rattle.def_meaning.specs.Run.{with_turn}
+use Rattle.adj_interp_frame.specs.Prepared.{var_at}
 use Rattle.adj_interp.specs.Held.{setting_at, Holds}
 use Rattle.adj_interp.proofs.machine.Machine.give.Goals as goal
 

@@ -1,9 +1,9 @@
 use Rattle.std.proofs.Common.{rules, ◌≡◌, sym, ap, subst, ◌∙◌}
 use Rattle.std.specs.Prelude.{Ok, Err}
 use Rattle.adj_revolve.specs.declared.machine.Action.{Action}
-use Rattle.adj_meaning.specs.Scene.{Scene, Outcome, Done, stand}
+use Rattle.def_meaning.specs.Scene.{Scene, Outcome, Done, stand}
 use Rattle.adj_interp.specs.declared.machine.Machine.{Machine}
-use Rattle.adj_frame.specs.Prepared.{var_at, term_in}
+use Rattle.adj_interp_frame.specs.Prepared.{var_at, term_in}
 use Rattle.adj_interp.specs.Held.{setting_at, Holds, Ends, given_in}
 use Rattle.adj_interp.proofs.Driving.{ends_ok, ends_err}
 use Rattle.adj_interp.proofs.Plans.{action_chain}

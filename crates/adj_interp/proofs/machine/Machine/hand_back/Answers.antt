@@ -1,5 +1,5 @@
 use Rattle.std.proofs.Common.{sym, subst}
-use Rattle.adj_frame.specs.Shown.{Shows}
+use Rattle.adj_interp_frame.specs.Shown.{Shows}
 use Rattle.adj_interp.proofs.machine.Machine.hand_back.Goals as goal
 
 pub returns-clause-handed : goal.returns-clause-handed

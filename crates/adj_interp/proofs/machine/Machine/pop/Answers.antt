@@ -1,7 +1,7 @@
 use Rattle.std.proofs.Common.{rules, ◌≡◌, [], ◌∷◌, refl, ap}
 use Rattle.adj_tape.specs.Held.{Held}
 use Rattle.adj_interp.specs.declared.machine.Machine.{Machine}
-use Rattle.adj_frame.specs.Prepared.{var_at}
+use Rattle.adj_interp_frame.specs.Prepared.{var_at}
 use Rattle.adj_interp.proofs.Serving.{popped_ok, popped_none}
 use Rattle.adj_interp.proofs.machine.Machine.pop.Goals as goal
 

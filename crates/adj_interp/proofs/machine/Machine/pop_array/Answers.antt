@@ -1,10 +1,10 @@
 use Rattle.std.proofs.Common.{rules, ◌≡◌, ◌<◌, ◌-◌, length, get_or, refl, sym, ap, subst, ◌∙◌, arith}
 use Rattle.std.specs.Prelude.{Ok, Err}
 use Rattle.std.proofs.lemmas.List.{get_or_default}
-use Rattle.adj_meaning.specs.Scene.{popped, popped_all}
-use Rattle.adj_frame.specs.declared.slot.Slot.{Slot}
-use Rattle.adj_frame.specs.Prepared.{var_at}
-use Rattle.adj_frame.specs.Framed.{IsFrame}
+use Rattle.def_meaning.specs.Scene.{popped, popped_all}
+use Rattle.adj_interp_frame.specs.declared.slot.Slot.{Slot}
+use Rattle.adj_interp_frame.specs.Prepared.{var_at}
+use Rattle.adj_interp_frame.specs.Framed.{IsFrame}
 use Rattle.adj_interp.specs.Held.{setting_at, Ends, IsDone}
 use Rattle.adj_interp.proofs.Driving.{reaches_start}
 use Rattle.adj_interp.proofs.Serving.{counted_cells, back_next, back_break, back_end}

@@ -1,10 +1,10 @@
 -- What is left to pop is what the pop of all comes to.
 use Rattle.std.proofs.Common.{◌≡◌, ◌≤◌, length, get_or}
-use Rattle.adj_meaning.specs.Scene.{Scene, popped_all}
-use Rattle.adj_frame.specs.declared.slot.Slot.{Slot}
-use Rattle.adj_frame.specs.Prepared.{var_at}
-use Rattle.adj_frame.specs.Framed.{IsFrame}
-use Rattle.adj_frame.specs.Suited.{counts_in}
+use Rattle.def_meaning.specs.Scene.{Scene, popped_all}
+use Rattle.adj_interp_frame.specs.declared.slot.Slot.{Slot}
+use Rattle.adj_interp_frame.specs.Prepared.{var_at}
+use Rattle.adj_interp_frame.specs.Framed.{IsFrame}
+use Rattle.adj_interp_frame.specs.Suited.{counts_in}
 use Rattle.adj_interp.specs.Held.{Entry, setting_at, Holds, Reaches}
 use Rattle.adj_interp.proofs.machine.Machine.pop_array.Given as goal
 

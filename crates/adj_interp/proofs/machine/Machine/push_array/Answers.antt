@@ -1,14 +1,14 @@
 use Rattle.std.proofs.Common.{rules, ◌≡◌, ◌<◌, ◌≤◌, ◌-◌, ℕ, length, get_or, refl, sym, ap, subst, ◌∙◌, arith}
 use Rattle.std.specs.Prelude.{Err}
 use Rattle.std.proofs.lemmas.List.{get_or_default}
-use Rattle.adj_meaning.specs.Numbers.{Numbers}
-use Rattle.adj_meaning.specs.Store.{cells_from}
-use Rattle.adj_meaning.specs.Scene.{Scene, pushed_all}
-use Rattle.adj_frame.specs.declared.slot.Slot.{Slot}
-use Rattle.adj_frame.specs.declared.frame.Frame.{Frame}
+use Rattle.def_meaning.specs.Numbers.{Numbers}
+use Rattle.def_meaning.specs.Store.{cells_from}
+use Rattle.def_meaning.specs.Scene.{Scene, pushed_all}
+use Rattle.adj_interp_frame.specs.declared.slot.Slot.{Slot}
+use Rattle.adj_interp_frame.specs.declared.frame.Frame.{Frame}
 use Rattle.adj_interp.specs.declared.machine.Machine.{Machine}
-use Rattle.adj_frame.specs.Prepared.{var_at}
-use Rattle.adj_frame.specs.Framed.{zero_in, IsFrame}
+use Rattle.adj_interp_frame.specs.Prepared.{var_at}
+use Rattle.adj_interp_frame.specs.Framed.{zero_in, IsFrame}
 use Rattle.adj_interp.specs.Held.{Entry, setting_at, Holds, Ends, IsDone, Reaches}
 use Rattle.adj_interp.proofs.Driving.{reaches_start}
 use Rattle.adj_interp.proofs.Serving.{counted_cells, held_cell, all_next, all_break, all_end}

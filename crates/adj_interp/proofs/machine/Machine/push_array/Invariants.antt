@@ -1,8 +1,8 @@
 -- What is left to push is what the push of all comes to.
 use Rattle.std.proofs.Common.{◌≡◌, ◌-◌}
-use Rattle.adj_meaning.specs.Store.{cells_from}
-use Rattle.adj_meaning.specs.Scene.{Scene, pushed_all}
-use Rattle.adj_frame.specs.Prepared.{var_at}
+use Rattle.def_meaning.specs.Store.{cells_from}
+use Rattle.def_meaning.specs.Scene.{Scene, pushed_all}
+use Rattle.adj_interp_frame.specs.Prepared.{var_at}
 use Rattle.adj_interp.specs.Held.{Entry, setting_at, Holds, Reaches}
 use Rattle.adj_interp.proofs.machine.Machine.push_array.Given as goal
 

@@ -1,10 +1,10 @@
 use Rattle.std.proofs.Common.{rules, ◌≡◌, ◌<◌, ℕ, length, get_or, sym, ap, subst, ◌∙◌, arith}
 use Rattle.std.specs.Prelude.{Err}
 use Rattle.std.proofs.lemmas.List.{get_or_default}
-use Rattle.adj_meaning.specs.Scene.{Scene, Outcome, stand, pushed}
-use Rattle.adj_frame.specs.Framed.{zero_in}
-use Rattle.adj_frame.specs.declared.slot.Slot.{Slot}
-use Rattle.adj_frame.specs.Prepared.{var_at}
+use Rattle.def_meaning.specs.Scene.{Scene, Outcome, stand, pushed}
+use Rattle.adj_interp_frame.specs.Framed.{zero_in}
+use Rattle.adj_interp_frame.specs.declared.slot.Slot.{Slot}
+use Rattle.adj_interp_frame.specs.Prepared.{var_at}
 use Rattle.adj_interp.specs.Held.{setting_at, Ends}
 use Rattle.adj_interp.proofs.Driving.{ends_ok, ends_err}
 use Rattle.adj_interp.proofs.Serving.{held_cell}

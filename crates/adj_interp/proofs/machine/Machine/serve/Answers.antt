@@ -1,5 +1,5 @@
 use Rattle.std.proofs.Common.{get_or, arith}
-use Rattle.adj_frame.proofs.Reading.{has_first}
+use Rattle.adj_interp_frame.proofs.Reading.{has_first}
 use Rattle.adj_interp.proofs.machine.Machine.serve.Goals as goal
 
 pub pop-requires-clause-within : goal.pop-requires-clause-within

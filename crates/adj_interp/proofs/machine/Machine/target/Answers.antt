@@ -1,9 +1,9 @@
 use Rattle.std.proofs.Common.{ℕ, ◌<◌, length, get_or, sym, subst, ◌∙◌}
 use Rattle.std.specs.Prelude.{Some, IfOk}
-use Rattle.adj_meaning.specs.Value.{target}
-use Rattle.adj_frame.specs.declared.slot.Slot.{Slot}
-use Rattle.adj_frame.specs.Prepared.{var_at, terms_in}
-use Rattle.adj_frame.proofs.Showing.{target_shown}
+use Rattle.def_meaning.specs.Value.{target}
+use Rattle.adj_interp_frame.specs.declared.slot.Slot.{Slot}
+use Rattle.adj_interp_frame.specs.Prepared.{var_at, terms_in}
+use Rattle.adj_interp_frame.proofs.Showing.{target_shown}
 use Rattle.adj_interp.specs.Held.{setting_at, Finds}
 use Rattle.adj_interp.proofs.Driving.{finds_at, found_at}
 use Rattle.adj_interp.proofs.machine.Machine.target.Goals as goal

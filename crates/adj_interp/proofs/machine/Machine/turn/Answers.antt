@@ -1,9 +1,9 @@
 use Rattle.std.proofs.Common.{w64, get_or, ap, subst, ◌∙◌, arith}
 use Rattle.std.proofs.lemmas.Int.{to_z-of_z}
-use Rattle.adj_meaning.specs.Scene.{Scene}
-use Rattle.adj_meaning.specs.Store.{set}
-use Rattle.adj_frame.specs.Prepared.{var_at}
-use Rattle.adj_frame.proofs.Reading.{has_first}
+use Rattle.def_meaning.specs.Scene.{Scene}
+use Rattle.def_meaning.specs.Store.{set}
+use Rattle.adj_interp_frame.specs.Prepared.{var_at}
+use Rattle.adj_interp_frame.proofs.Reading.{has_first}
 use Rattle.adj_interp.specs.Held.{Holds}
 use Rattle.adj_interp.proofs.machine.Machine.turn.Goals as goal
 

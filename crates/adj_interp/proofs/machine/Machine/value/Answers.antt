@@ -1,8 +1,8 @@
 use Rattle.std.proofs.Common.{sym, subst, ◌∙◌}
 use Rattle.std.specs.Prelude.{Some}
-use Rattle.adj_meaning.specs.Value.{value}
-use Rattle.adj_frame.specs.Prepared.{term_in}
-use Rattle.adj_frame.proofs.Showing.{value_shown}
+use Rattle.def_meaning.specs.Value.{value}
+use Rattle.adj_interp_frame.specs.Prepared.{term_in}
+use Rattle.adj_interp_frame.proofs.Showing.{value_shown}
 use Rattle.adj_interp.specs.Held.{setting_at, Finds}
 use Rattle.adj_interp.proofs.Driving.{finds_at}
 use Rattle.adj_interp.proofs.machine.Machine.value.Goals as goal

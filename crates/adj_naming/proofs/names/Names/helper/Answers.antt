@@ -1,7 +1,7 @@
 use Rattle.std.proofs.Common.{◌∙◌, ap, sym}
 use Rattle.std.specs.Prelude.{unwrap_or, slice_get}
 use Rattle.adj_tree.specs.Code.{helper}
-use Rattle.adj_transpose.specs.Naming.{outside}
+use Rattle.def_sweep.specs.Naming.{outside}
 use Rattle.adj_naming.specs.Roles.{role_of}
 use Rattle.adj_naming.proofs.Tables.{helper_placed, helper_absent}
 use Rattle.adj_naming.proofs.names.Names.helper.Goals as goal

@@ -1,8 +1,8 @@
 use Rattle.std.proofs.Common.{◌∙◌, ap, sym}
 use Rattle.std.specs.Prelude.{position, unwrap_or, slice_get}
 use Rattle.adj_tree.specs.Code.{shadow, name_eq}
-use Rattle.adj_transpose.specs.Fresh.{has_name}
-use Rattle.adj_transpose.specs.Naming.{outside}
+use Rattle.def_meaning.specs.Apart.{has_name}
+use Rattle.def_sweep.specs.Naming.{outside}
 use Rattle.adj_naming.proofs.Tables.{shadow_placed, shadow_absent}
 use Rattle.adj_naming.proofs.names.Names.shadow.Goals as goal
 

@@ -1,5 +1,6 @@
 use Rattle.std.proofs.Common.{◌≡◌, true, ap, sym, ◌∙◌, length, arith}
-use Rattle.adj_transpose.specs.Fresh.{has_name, candidate}
+use Rattle.def_meaning.specs.Apart.{has_name}
+use Rattle.def_names.specs.Fresh.{candidate}
 use Rattle.adj_naming.proofs.Places.{candidate_passed}
 use Rattle.adj_naming.proofs.taken.Taken.fresh.Goals as goal
 

@@ -1,6 +1,6 @@
 -- The candidates before this one are taken.
 use Rattle.std.proofs.Common.{◌≡◌, ◌-◌, length}
-use Rattle.adj_transpose.specs.Fresh.{first_free}
+use Rattle.def_names.specs.Fresh.{first_free}
 use Rattle.adj_naming.proofs.taken.Taken.fresh.Given as goal
 
 abbrev pub invariant-loop-number : goal.invariant-loop-number

@@ -1,5 +1,5 @@
 use Rattle.std.proofs.Common.{◌≡◌, ◌++◌, ◌∷◌, [], ap, sym, ◌∙◌, append_assoc}
-use Rattle.adj_transpose.specs.Fresh.{fresh}
+use Rattle.def_names.specs.Fresh.{fresh}
 use Rattle.adj_sets.specs.Sets.{with_added}
 use Rattle.adj_naming.proofs.Added.{fresh_behind}
 use Rattle.adj_naming.proofs.taken.Taken.give.Goals as goal

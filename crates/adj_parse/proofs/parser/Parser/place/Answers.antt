@@ -2,7 +2,7 @@ use Rattle.std.proofs.Common.{◌∙◌, sym, ap, map}
 use Rattle.adj_tree.specs.View.{mark_of, procedure_of}
 use Rattle.adj_parse.specs.Unit.{followed}
 use Rattle.adj_parse.specs.CurrentView.{current_of}
-use Rattle.adj_statement.specs.View.{form_of}
+use Rattle.adj_parse_statement.specs.View.{form_of}
 use Rattle.std.specs.Prelude.{option_map}
 use Rattle.adj_parse.proofs.parser.Parser.place.Goals as goal
 

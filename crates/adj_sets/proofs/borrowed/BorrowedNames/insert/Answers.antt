@@ -1,7 +1,7 @@
 use Rattle.std.proofs.Common.{ap, ap₂, map, ◌∙◌}
 use Rattle.std.specs.Prelude.{not}
 use Rattle.std.specs.Str.{bytes_eq}
-use Rattle.adj_names.specs.Fresh.{has_name}
+use Rattle.def_meaning.specs.Apart.{has_name}
 use Rattle.adj_sets.specs.Sets.{with_name}
 use Rattle.adj_sets.proofs.NameSets.{bytes_name, any_has, added_named}
 use Rattle.adj_sets.proofs.borrowed.BorrowedNames.insert.Goals as goal

@@ -3,7 +3,7 @@ use Rattle.std.specs.Cmp.Lexicographic.{pointwise}
 use Rattle.std.specs.Prelude.{position}
 use Rattle.adj_tree.specs.Code.{name_eq}
 use Rattle.std.specs.HashSet.{contains_by}
-use Rattle.adj_names.specs.Fresh.{has_name}
+use Rattle.def_meaning.specs.Apart.{has_name}
 use Rattle.adj_sets.proofs.NameSets.{pointwise_name, any_has, position_named}
 use Rattle.adj_sets.proofs.name_set.NameSet.place.Goals as goal
 

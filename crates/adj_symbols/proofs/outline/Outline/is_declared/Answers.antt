@@ -1,9 +1,9 @@
 use Rattle.std.proofs.Common.{ap, ◌∙◌}
 use Rattle.std.specs.Prelude.{is_some}
 use Rattle.adj_tree.specs.View.{procedure_of}
-use Rattle.adj_names.specs.Fresh.{has_name}
-use Rattle.adj_names.specs.Variables.{declared_names}
-use Rattle.adj_writes.specs.Table.{value_of}
+use Rattle.def_meaning.specs.Apart.{has_name}
+use Rattle.def_names.specs.Variables.{declared_names}
+use Rattle.adj_symbols_writes.specs.Table.{value_of}
 use Rattle.adj_symbols.proofs.Outlines.{declared_is}
 use Rattle.adj_symbols.proofs.outline.Outline.is_declared.Goals as goal
 

@@ -1,7 +1,7 @@
 use Rattle.std.proofs.Common.{ap, ◌∙◌}
 use Rattle.adj_tree.specs.View.{procedure_of}
-use Rattle.adj_names.specs.Fresh.{has_name}
-use Rattle.adj_names.specs.Variables.{is_dummy}
+use Rattle.def_meaning.specs.Apart.{has_name}
+use Rattle.def_names.specs.Variables.{is_dummy}
 use Rattle.adj_symbols.proofs.Outlines.{once-has}
 use Rattle.adj_symbols.proofs.outline.Outline.is_dummy.Goals as goal
 

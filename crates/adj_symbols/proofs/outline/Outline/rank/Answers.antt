@@ -1,8 +1,8 @@
 use Rattle.std.proofs.Common.{ap, ◌∙◌}
 use Rattle.std.specs.Prelude.{unwrap_or}
 use Rattle.adj_tree.specs.View.{procedure_of}
-use Rattle.adj_names.specs.Variables.{rank}
-use Rattle.adj_writes.specs.Table.{value_of}
+use Rattle.def_names.specs.Variables.{rank}
+use Rattle.adj_symbols_writes.specs.Table.{value_of}
 use Rattle.adj_symbols.proofs.Outlines.{rank_is}
 use Rattle.adj_symbols.proofs.outline.Outline.rank.Goals as goal
 

@@ -1,7 +1,7 @@
 use Rattle.std.proofs.Common.{map, ap, sym, ◌∙◌}
 use Rattle.adj_tree.specs.View.{procedure_of}
 use Rattle.std.specs.List.{slice_get}
-use Rattle.adj_meaning.specs.Written.{find_unit}
+use Rattle.def_meaning.specs.Written.{find_unit}
 use Rattle.adj_symbols.proofs.Scopes.{found_at, number_found, found_by}
 use Rattle.adj_symbols.proofs.scope.Scope.find.Goals as goal
 

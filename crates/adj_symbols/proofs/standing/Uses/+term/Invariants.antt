@@ -2,7 +2,7 @@
 use Rattle.std.proofs.Common.{◌≡◌, ◌≤◌, ◌++◌}
 use Rattle.adj_tree.specs.declared.expr.Exprs.{size-Exprs}
 use Rattle.adj_tree.specs.View.{terms_of}
-use Rattle.adj_names.specs.Standing.{in_terms}
+use Rattle.def_names.specs.Standing.{in_terms}
 use Rattle.adj_symbols.specs.View.{at_line}
 use Rattle.adj_symbols.proofs.standing.Uses.+term.Given as goal
 

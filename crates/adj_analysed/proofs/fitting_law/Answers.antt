@@ -1,8 +1,0 @@
-use Rattle.adj_analysed.proofs.Adjoint.{analysed_fits, analysed_fits_reversed}
-use Rattle.adj_analysed.proofs.fitting_law.Goals as goal
-
-pub returns-clause-unmarked : goal.returns-clause-unmarked
-returns-clause-unmarked c = analysed_fits
-
-pub returns-clause-reversed : goal.returns-clause-reversed
-returns-clause-reversed c = analysed_fits_reversed

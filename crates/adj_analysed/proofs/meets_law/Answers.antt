@@ -1,5 +1,0 @@
-use Rattle.adj_analysed.proofs.Meets.{analysed_meets, marked_calls_unsplit}
-use Rattle.adj_analysed.proofs.meets_law.Goals as goal
-
-pub returns : goal.returns
-returns c = record { meets = analysed_meets; unsplit = marked_calls_unsplit }

@@ -1,2 +1,0 @@
--- the lemmas of the crate
-pub mod Telling

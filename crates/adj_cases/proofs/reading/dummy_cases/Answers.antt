@@ -1,8 +1,0 @@
-use Rattle.adj_cases.proofs.ReadingCases.{handed_back, within}
-use Rattle.adj_cases.proofs.reading.dummy_cases.Goals as goal
-
-pub returns-clause-handed_back : goal.returns-clause-handed_back
-returns-clause-handed_back c = handed_back
-
-pub returns-clause-within : goal.returns-clause-within
-returns-clause-within c = within

@@ -1,9 +1,0 @@
-mod Turned
-mod Passed
-mod Emitted
-mod Rows
-mod Groups
-mod Acts
-mod Reversals
-mod CallActs
-mod Cleared

@@ -1,5 +1,0 @@
-pub mod Plans
-pub mod Rows
-pub mod Swept
-pub mod Actuals
-pub mod Steps

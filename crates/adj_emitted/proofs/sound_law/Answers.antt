@@ -1,8 +1,0 @@
-use Rattle.adj_emitted.proofs.SoundPrograms.{marked_sound, emitted_sound}
-use Rattle.adj_emitted.proofs.sound_law.Goals as goal
-
-pub returns-clause-marked : goal.returns-clause-marked
-returns-clause-marked c = marked_sound
-
-pub returns-clause-full : goal.returns-clause-full
-returns-clause-full c = emitted_sound

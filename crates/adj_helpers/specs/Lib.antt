@@ -1,4 +1,0 @@
-pub mod Callees
-pub mod Depths
-pub mod Steps
-pub mod Uses

@@ -1,0 +1,28 @@
+-- The measures, and what a list of expressions has left.
+use Rattle.std.proofs.Common.{◌≡◌, ◌≤◌, Ok, length}
+use Rattle.def_meaning.specs.Trap.{then_ok}
+use Rattle.def_meaning.specs.Value.{values}
+use Rattle.adj_interp_frame.specs.declared.term.Terms.{size-Terms}
+use Rattle.adj_interp_frame.specs.Prepared.{terms_in, AreTermsBelow}
+use Rattle.adj_interp_frame.specs.Framed.{store_in, setting_in_slots}
+use Rattle.adj_interp_frame.proofs.frame.Frame.+value.Given as goal
+
+abbrev pub decreases-cell : goal.decreases-cell
+decreases-cell g l = goal.size-cell g l
+
+abbrev pub decreases-cell_behind : goal.decreases-cell_behind
+decreases-cell_behind g l = goal.size-cell_behind g l
+
+abbrev pub decreases-each_value : goal.decreases-each_value
+decreases-each_value g l = goal.size-each_value g l
+
+abbrev pub decreases-value : goal.decreases-value
+decreases-value g l = goal.size-value g l
+
+abbrev pub invariant-each_value-loop-current : goal.invariant-each_value-loop-current
+invariant-each_value-loop-current g l = record {
+  no_deeper : size-Terms l.current ≤ size-Terms l.initial.current;
+  below : AreTermsBelow (length l.self.slots.items) l.current;
+  traps : then_ok (values (setting_in_slots g.N.Number.numbers l.self.names.now l.self.slots.items) (terms_in l.self.names.now l.current) (store_in g.N.Number.numbers l.self.names.now l.self.slots.items)) (λ is. Ok (tt {0}))
+      ≡ then_ok (values (setting_in_slots g.N.Number.numbers l.self.names.now l.self.slots.items) (terms_in l.self.names.now l.terms) (store_in g.N.Number.numbers l.self.names.now l.self.slots.items)) (λ is. Ok (tt {0}));
+}

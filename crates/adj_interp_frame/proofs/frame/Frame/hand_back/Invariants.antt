@@ -1,0 +1,23 @@
+-- The slots show what is handed back so far.
+use Rattle.std.proofs.Common.{◌≡◌, ℕ, length, get_or}
+use Rattle.adj_tree.specs.Code.{Var}
+use Rattle.def_meaning.specs.Store.{Shape, Store}
+use Rattle.def_meaning.specs.Units.{copied_out}
+use Rattle.adj_interp_frame.specs.declared.slot.Slot.{Slot}
+use Rattle.adj_interp_frame.specs.Framed.{IsFrame}
+use Rattle.adj_interp_frame.specs.Shown.{Shows}
+use Rattle.adj_interp_frame.specs.Called.{actuals_in}
+use Rattle.adj_interp_frame.specs.Suited.{counts_in}
+use Rattle.adj_interp_frame.proofs.Returning.{Comes, from_on}
+use Rattle.adj_interp_frame.proofs.frame.Frame.hand_back.Given as goal
+
+abbrev pub invariant-loop-i : goal.invariant-loop-i
+invariant-loop-i g l = record {
+  names : l.self.names.now ≡ l.initial.self.names.now;
+  framed : IsFrame l.initial.self.names.now l.self.slots.items;
+  count : length l.self.slots.items ≡ length l.initial.self.slots.items;
+  cells : (j : ℕ) (d : Slot _) → length (get_or l.self.slots.items j d).cells.items ≡ length (get_or l.initial.self.slots.items j d).cells.items;
+  counts : counts_in l.self.slots.items ≡ counts_in l.initial.self.slots.items;
+  handed : (shape inside : Var → Shape) (s s0 t : Store g.row.N.Denot) → Shows g.N.Number.numbers l.initial.self.names.now l.initial.self.slots.items shape s → Shows g.N.Number.numbers l.routine.names l.slots inside t
+      → Comes g.N.Number.numbers l.initial.self.names.now l.self.slots.items shape (copied_out l.routine.unit.now.dummies l.routine.writes.now (actuals_in l.initial.self.names.now shape s0 l.actuals) t s) (from_on l.routine (actuals_in l.initial.self.names.now shape s0 l.actuals) t l.i);
+}

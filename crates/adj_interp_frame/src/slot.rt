@@ -1,0 +1,86 @@
+//! What a variable holds.
+
+ghost use Rattle.std.specs.Prelude.{◌≡◌, ◌<◌, ◌∷◌, [], length, replicate, slice_index_or, IfOk};
+ghost use Rattle.def_meaning.specs.Trap.{index, or_trap};
+ghost use Rattle.def_meaning.specs.Store.{within, cell_of};
+ghost use Rattle.adj_interp_frame.specs.Framed.{result_of, slot_shape, IsSlot, zero_in};
+
+use adj_number::Number;
+use adj_tree::{Memory, Trap};
+use std::alloc::Global;
+
+/// Rows, columns and cells, column by column. A scalar has no rows, no columns and one cell, a list no columns.
+#[derive(Drop)]
+pub struct Slot<N: Number> {
+    pub rows: usize,
+    pub cols: usize,
+    pub cells: Vec<N>,
+}
+
+// A subscript that lies within its extent, counted from 0.
+fn within(subscript: i64, extent: usize) -> Option<usize>
+    ensures { result ≡ within subscript extent }
+{
+    match usize::try_from(subscript) {
+        Ok(i) if i > 0 && i <= extent => Some(i - 1),
+        _ => None,
+    }
+}
+
+impl<N: Number> Slot<N> {
+    /// The value of a scalar.
+    pub fn first(&self) -> N
+        requires { IsSlot self.now }
+        ensures { result ≡ slice_index_or self.now.cells.items 0 (zero_in N.numbers) }
+    {
+        self.cells[0]
+    }
+
+    /// The cell of one subscript.
+    pub fn in_list(&self, row: i64) -> Result<usize, Trap>
+        ensures { result_of result ≡ or_trap index (cell_of (slot_shape self.now) (row ∷ [])) }
+    {
+        within(row, self.rows).ok_or(Trap::Index)
+    }
+
+    /// The cell of two subscripts.
+    pub fn in_table(&self, row: i64, column: i64) -> Result<usize, Trap>
+        requires { IsSlot self.now }
+        ensures { result_of result ≡ or_trap index (cell_of (slot_shape self.now) (row ∷ column ∷ [])) }
+    {
+        let (Some(i), Some(j)) = (within(row, self.rows), within(column, self.cols)) else {
+            return Err(Trap::Index);
+        };
+        Ok(i + j * self.rows)
+    }
+
+    /// The same slot once more.
+    pub(crate) fn copy(&self, alloc: Global) -> Result<Slot<N>, Memory>
+        ensures shape { IfOk result (λ v. slot_shape v ≡ slot_shape self.now) }
+        ensures cells { IfOk result (λ v. v.cells.items ≡ self.now.cells.items) }
+    {
+        let cells = self.cells.as_slice().to_vec(alloc)?;
+        Ok(Slot {
+            rows: self.rows,
+            cols: self.cols,
+            cells,
+        })
+    }
+
+    /// Takes the cells of another slot, which are as many.
+    pub(crate) fn take(&mut self, other: &Slot<N>)
+        requires { length self.old.cells.items ≡ length other.now.cells.items }
+        ensures shape { slot_shape self.new ≡ slot_shape self.old }
+        ensures cells { self.new.cells.items ≡ other.now.cells.items }
+    {
+        self.cells.copy_from_slice(other.cells.as_slice());
+    }
+
+    /// Puts 0 into each cell.
+    pub fn clear(&mut self)
+        ensures shape { slot_shape self.new ≡ slot_shape self.old }
+        ensures cells { self.new.cells.items ≡ replicate (length self.old.cells.items) (zero_in N.numbers) }
+    {
+        self.cells.fill(N::of_word(0));
+    }
+}

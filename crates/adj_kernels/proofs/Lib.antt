@@ -1,6 +1,0 @@
-pub mod Adding
-pub mod Units
-pub mod Sources
-pub mod Rows
-pub mod Cuts
-pub mod Programs

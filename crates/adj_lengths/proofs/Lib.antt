@@ -1,4 +1,0 @@
--- the lemmas of the crate
-pub mod FreshLengths
-pub mod StepLengths
-pub mod KernelLengths

@@ -1,0 +1,26 @@
+use Rattle.std.proofs.Common.{◌≡◌, ◌+◌, ap, sym, ◌∙◌, arith}
+use Rattle.adj_tree.specs.Code.{step}
+use Rattle.adj_tree.specs.View.{act_of, code_of}
+use Rattle.adj_tree.specs.declared.stmt.Act.TheViews.{sized-More, size_is-Row}
+use Rattle.adj_tree.specs.declared.stmt.Stmts.{size-Stmts}
+use Rattle.def_kernel.specs.Stepped.{marked_in_act, marked_in}
+use Rattle.adj_norm.proofs.marked.+marks.Goals as goal
+
+pub marked_in-loop-current-preserved : goal.marked_in-loop-current-preserved
+marked_in-loop-current-preserved t c =
+    let l = c.loop-current in
+    let stmt = c.deref.result.now.first in
+    let others = code_of c.deref-in-More.result.now.rest in
+    let is : code_of l.current.now ≡ step stmt.line (act_of stmt.act) others = ap code_of c.in-More.is ∙ (λ i. step (sym c.deref.ensures i).first.line (act_of (sym c.deref.ensures i).first.act) (code_of (sym c.deref-in-More.ensures i).rest)) in
+    record {
+      no_deeper =
+          let whole = sized-More c.in-More.row in
+          let row = size_is-Row c.in-More.row.value in
+          let was = ap size-Stmts c.in-More.is in
+          let left = ap (λ z. size-Stmts z.rest) c.deref-in-More.ensures in
+          let earlier = l.invariant.no_deeper in
+          omega (arith, whole, row, was, left, earlier);
+      counted =
+          let here : marked_in (code_of l.current.now) ≡ marked_in_act (act_of stmt.act) + marked_in others = ap marked_in is in
+          omega (arith, here, l.invariant.counted, c.in_ok-inner.ensures.count, c.in_ok-count.ensures.sum);
+    }

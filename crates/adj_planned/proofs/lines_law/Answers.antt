@@ -1,5 +1,0 @@
-use Rattle.adj_planned.proofs.ReadLines.{read_apart}
-use Rattle.adj_planned.proofs.lines_law.Goals as goal
-
-pub returns : goal.returns
-returns c = read_apart

@@ -1,5 +1,0 @@
-use Rattle.std.proofs.Common.{refl}
-use Rattle.adj_planned.proofs.told_law.Goals as goal
-
-pub returns : goal.returns
-returns c = λ f t needed held. refl

@@ -1,5 +1,0 @@
-use Rattle.adj_planned.proofs.Unmarked.{kernel_unmarked}
-use Rattle.adj_planned.proofs.unmarked_law.Goals as goal
-
-pub returns : goal.returns
-returns c = kernel_unmarked

@@ -1,5 +1,0 @@
-use Rattle.adj_refused.proofs.Ending.{blocks_end}
-use Rattle.adj_refused.proofs.blocks_law.Goals as goal
-
-pub returns : goal.returns
-returns c = record { end = blocks_end }

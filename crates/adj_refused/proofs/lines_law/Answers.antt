@@ -1,5 +1,0 @@
-use Rattle.adj_refused.proofs.LineTests.{lines_answer, lines_refused, lines_accepted}
-use Rattle.adj_refused.proofs.lines_law.Goals as goal
-
-pub returns : goal.returns
-returns c = record { answer = lines_answer; refused = lines_refused; accepted = lines_accepted }

@@ -1,4 +1,0 @@
--- the lemmas of the crate
-mod Refusing
-pub mod Trials
-pub mod CostTrials

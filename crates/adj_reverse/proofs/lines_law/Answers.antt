@@ -1,6 +1,0 @@
--- Runs don't depend on line numbers, and an adjoint is told by runs.
-use Rattle.adj_reverse.proofs.Lines.{other_lines}
-use Rattle.adj_reverse.proofs.lines_law.Goals as goal
-
-pub returns : goal.returns
-returns c = record { other_lines = other_lines }

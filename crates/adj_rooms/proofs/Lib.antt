@@ -1,6 +1,0 @@
-mod Unlimited
-mod Kept
-pub mod Rooms
-pub mod Adjoints
-mod Nested
-mod Advances

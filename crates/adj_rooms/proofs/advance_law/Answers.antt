@@ -1,6 +1,0 @@
--- The law is a lemma.
-use Rattle.adj_rooms.proofs.Advances.{adjoints_advance}
-use Rattle.adj_rooms.proofs.advance_law.Goals as goal
-
-pub returns : goal.returns
-returns c = adjoints_advance

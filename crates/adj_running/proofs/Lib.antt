@@ -1,4 +1,0 @@
-pub mod Sized
-pub mod Heads
-mod Endings
-mod Answered

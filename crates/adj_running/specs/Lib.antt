@@ -1,3 +1,0 @@
--- What the contracts of this crate say of the command `run`.
-pub mod Running
-pub mod Views

@@ -1,8 +1,0 @@
-use Rattle.adj_shape.proofs.Analysed.{full_are_closed, analysed_are_closed}
-use Rattle.adj_shape.proofs.closed_law.Goals as goal
-
-pub returns-clause-full : goal.returns-clause-full
-returns-clause-full c = full_are_closed
-
-pub returns-clause-analysed : goal.returns-clause-analysed
-returns-clause-analysed c = analysed_are_closed

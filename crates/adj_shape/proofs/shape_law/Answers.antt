@@ -1,5 +1,0 @@
-use Rattle.adj_shape.proofs.Program.{emitted_has_shape}
-use Rattle.adj_shape.proofs.shape_law.Goals as goal
-
-pub returns : goal.returns
-returns c = emitted_has_shape

@@ -1,6 +1,0 @@
-pub mod Plain
-pub mod Onto
-mod Idle
-mod Behind
-mod Elements
-mod Adjoints

@@ -1,5 +1,0 @@
--- The proofs on what is spent.
-pub mod Chains
-pub mod Spending
-pub mod KernelChains
-pub mod KernelSpending

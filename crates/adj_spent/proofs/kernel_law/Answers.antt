@@ -1,9 +1,0 @@
--- Each law is a lemma.
-use Rattle.adj_spent.proofs.KernelSpending.{kernel_keeps_bound, round_bound_is_kept}
-use Rattle.adj_spent.proofs.kernel_law.Goals as goal
-
-pub returns-clause-keeps : goal.returns-clause-keeps
-returns-clause-keeps c = kernel_keeps_bound
-
-pub returns-clause-round : goal.returns-clause-round
-returns-clause-round c = round_bound_is_kept

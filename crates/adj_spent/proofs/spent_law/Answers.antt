@@ -1,9 +1,0 @@
--- Each law is a lemma.
-use Rattle.adj_spent.proofs.Spending.{emitted_spends, bound_is_within}
-use Rattle.adj_spent.proofs.spent_law.Goals as goal
-
-pub returns-clause-emitted : goal.returns-clause-emitted
-returns-clause-emitted c = emitted_spends
-
-pub returns-clause-within : goal.returns-clause-within
-returns-clause-within c = bound_is_within

@@ -1,9 +1,0 @@
-pub mod Phrase
-pub mod Phrases
-pub mod Flaws
-pub mod Said
-pub mod FormFits
-pub mod Fronts
-pub mod Called
-pub mod View
-pub mod LexemesView

@@ -1,0 +1,16 @@
+-- The pops of the actuals that are left, and then those of the actuals passed.
+use Rattle.std.proofs.Common.{◌≡◌, ℕ, List, drop}
+use Rattle.adj_tree.specs.View.{code_of}
+use Rattle.def_meaning.specs.Append.{◌+++◌}
+use Rattle.def_sweep.specs.Plan.{Callee}
+use Rattle.def_sweep.specs.Rows.{pops}
+use Rattle.adj_sweep_assignment.specs.View.{marks_of}
+use Rattle.adj_sweep.specs.Actuals.{is_in, chosen}
+use Rattle.adj_sweep.specs.Plans.{plan_of}
+use Rattle.adj_sweep.proofs.plan.Plan.pops.Given as goal
+
+abbrev pub invariant-loop-actual : goal.invariant-loop-actual
+invariant-loop-actual l =
+    (callees : List ℕ → Callee) →
+    pops (plan_of l.self callees) l.line (chosen (is_in ((marks_of l.self.marks.now).saved l.number) l.group) (drop l.actual-index l.actuals)) +++ code_of l.code
+    ≡ pops (plan_of l.self callees) l.line (chosen (is_in ((marks_of l.self.marks.now).saved l.number) l.group) l.actuals) +++ code_of l.fn.rest

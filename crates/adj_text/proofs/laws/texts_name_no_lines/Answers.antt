@@ -1,6 +1,0 @@
--- No line number stands in the characters of a statement or of a unit.
-use Rattle.adj_text.proofs.TextUnlined.{one_text}
-use Rattle.adj_text.proofs.laws.texts_name_no_lines.Goals as goal
-
-pub returns : goal.returns
-returns c = record { one = one_text }

@@ -1,0 +1,4 @@
+-- the lemmas of the crate
+pub mod Telling
+pub mod Sized
+pub mod Heads

@@ -1,0 +1,16 @@
+-- Answered: the answer to what a text is, is the answer to the text.
+use Rattle.std.proofs.Common.{◌≡◌, ◌≤◌, ℕ, List, length, Result, Ok, Err, sym, subst}
+use Rattle.std.proofs.lemmas.Bool.{le-ltb}
+use Rattle.std.specs.Prelude.{IfOk}
+use Rattle.adj_tree.specs.Code.{Procedure}
+use Rattle.adj_tree.specs.declared.fault.Refusal.{Refusal}
+use Rattle.def_text.specs.declared.mode.Mode.TheVariants.{Run}
+use Rattle.adj_tool_answer.specs.Programs.{IsProgram}
+use Rattle.adj_tool_answer.specs.Views.{answer_of}
+use Rattle.adj_tool_answer.specs.declared.answer.Answer.{Answer}
+use Rattle.adj_tool_answer.specs.Endings.{Asked}
+use Rattle.adj_tool_run.specs.Running.{most_bytes, text_answer, AnswersSized, AnswersRun}
+
+pub answered : {E : Type 0} (r : Asked) (bytes : List ℕ) → length bytes ≤ most_bytes → (found : Result (List Procedure) Refusal) → IsProgram Run bytes found → (result : Result Answer E) → IfOk result (λ a. answer_of a ≡ text_answer r bytes found) → IfOk result (λ a. AnswersRun r bytes (answer_of a))
+answered r bytes l found is (Ok a) h = subst (λ b. AnswersSized b r bytes (answer_of a)) (sym (le-ltb most_bytes (length bytes) l)) (record { found = found; is = is; such = h })
+answered r bytes l found is (Err e) h = tt

@@ -1,4 +1,0 @@
--- The trials of faulty programs.
-mod Trying
-mod Trials
-mod Unchanged

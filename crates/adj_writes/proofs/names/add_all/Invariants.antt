@@ -1,9 +1,0 @@
--- The variables of the statements passed, and of those that are left.
-use Rattle.std.proofs.Common.{◌≡◌, ◌++◌, drop}
-use Rattle.std.specs.List.{flat_map}
-use Rattle.adj_writes.specs.Names.{own}
-use Rattle.adj_writes.specs.View.{seen, vars_seen}
-use Rattle.adj_writes.proofs.names.add_all.Given as goal
-
-abbrev pub invariant-loop-stmt : goal.invariant-loop-stmt
-invariant-loop-stmt l = vars_seen l.out.items ++ flat_map (λ s. own l.side s.1) (seen (drop l.stmt-index l.stmts)) ≡ vars_seen l.initial.out.items ++ flat_map (λ s. own l.side s.1) (seen l.stmts)

@@ -1,0 +1,19 @@
+-- the lemmas of the crate
+pub mod Numbered
+pub mod Closure
+pub mod AsLists
+pub mod Scoped
+pub mod FlowListed
+pub mod ShadowListed
+pub mod AdjointListed
+pub mod LiveListed
+pub mod HeldListed
+pub mod PartsListed
+pub mod AdjointReads
+pub mod Numbers
+pub mod Sets
+pub mod Holders
+pub mod Placed
+pub mod OwnPoints
+pub mod Points
+pub mod NumbersSame

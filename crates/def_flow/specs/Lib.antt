@@ -1,0 +1,16 @@
+-- the definitions of the crate, a module a subject
+pub mod Parts
+pub mod Ways
+pub mod Standing
+pub mod Occurrences
+pub mod AdjointReads
+pub mod Problem
+pub mod Flow
+pub mod Activity
+pub mod Uses
+pub mod Live
+pub mod Held
+pub mod Rules
+pub mod Closure
+pub mod Analysed
+pub mod Scopes

@@ -1,0 +1,19 @@
+-- What the contracts of this crate and of the crates above it say of running.
+pub mod Append
+pub mod Trap
+pub mod Numbers
+pub mod Store
+pub mod Value
+pub mod Event
+pub mod Scene
+pub mod Runtime
+pub mod Run
+pub mod LeastSet
+pub mod Written
+pub mod Read
+pub mod Units
+pub mod Rename
+pub mod Log
+pub mod Seen
+pub mod Padded
+pub mod Apart

@@ -1,0 +1,21 @@
+-- the definitions of the crate, a module a subject
+pub mod Fresh
+pub mod Reserved
+pub mod Statements
+pub mod Standing
+pub mod Variables
+pub mod Calls
+pub mod Fault
+pub mod UnitFaults
+pub mod NameFaults
+pub mod CallFaults
+pub mod ChainFaults
+pub mod WriteFaults
+pub mod Check
+pub mod HeadFaults
+pub mod Numbering
+pub mod Laws
+pub mod Numbers
+pub mod StatementsIn
+pub mod Uses
+pub mod VariableLists

@@ -1,0 +1,2 @@
+-- The laws of sweeps.
+pub mod UnsplitRows

@@ -1,0 +1,27 @@
+-- the definitions of the crate, a module a subject
+pub mod Fresh
+pub mod Naming
+pub mod Marks
+pub mod Marked
+pub mod Facts
+pub mod Declared
+pub mod Tangents
+pub mod MarkedProgram
+pub mod MarkedAdjoint
+pub mod Plan
+pub mod AdjointOf
+pub mod Rows
+pub mod ReversalCode
+pub mod Emission
+pub mod Reversals
+pub mod Names
+pub mod Marking
+pub mod Program
+pub mod Adjoint
+pub mod SplitRows
+pub mod SplitMarks
+pub mod Callees
+pub mod MarkedUnits
+pub mod Schedules
+pub mod StepUnits
+pub mod MarkedLines

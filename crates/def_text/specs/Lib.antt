@@ -1,0 +1,24 @@
+-- the definitions of the crate, a module a subject
+pub mod Char
+pub mod Lexeme
+pub mod Token
+pub mod Refused
+pub mod Limits
+pub mod Line
+pub mod Lined
+pub mod Class
+pub mod Stated
+pub mod Data
+pub mod Grammar
+pub mod Condition
+pub mod Statement
+pub mod Form
+pub mod Block
+pub mod Unit
+pub mod Reads
+pub mod Text
+pub mod Written
+pub mod ReadsAs
+pub mod Fits
+pub mod Machine
+pub mod OrTooMany

@@ -1,0 +1,5 @@
+-- the definitions of the crate, a module a subject
+pub mod Checked
+pub mod Shadowed
+pub mod Emitted
+pub mod Accepted

@@ -1,0 +1,20 @@
+-- the lemmas of the crate
+pub mod Trying
+pub mod Trials
+pub mod Unchanged
+pub mod AnalysedWorked
+pub mod Computing
+pub mod TextCases
+pub mod Blocks
+pub mod Refusals
+pub mod Limits
+pub mod FirstFaults
+pub mod Depths
+pub mod Printed
+pub mod ReadingCases
+pub mod RunCases
+pub mod Words
+pub mod Schedules
+pub mod ReversalRefusing
+pub mod ReversalTrials
+pub mod CostTrials

@@ -1,0 +1,21 @@
+-- the definitions of the crate, a module a subject
+pub mod Programs
+pub mod Faulty
+pub mod Sources
+pub mod AnalysedWorked
+pub mod Texts
+pub mod Blocks
+pub mod Refusals
+pub mod Limits
+pub mod FirstFaults
+pub mod Depths
+pub mod Printed
+pub mod Reading
+pub mod Runs
+pub mod Words
+pub mod Schedules
+pub mod ReversalSources
+pub mod ReversalWritten
+pub mod ReversalFaulty
+pub mod ReversalTold
+pub mod Costs

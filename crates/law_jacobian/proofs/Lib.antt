@@ -1,0 +1,6 @@
+-- the lemmas of the crate
+pub mod Traced
+pub mod Runs
+pub mod Grouping
+pub mod Recovering
+pub mod Examples

@@ -1,0 +1,3 @@
+-- the lemmas of the crate
+pub mod Samples
+pub mod Lines

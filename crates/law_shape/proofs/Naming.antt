@@ -1,0 +1,150 @@
+-- The names in an adjoint unit tell its unit's variables, their shadows and helpers apart, as the shape does.
+use Rattle.std.proofs.Common.{◌≡◌, ℕ, Bool, true, false, List, [], ◌∷◌, ◌++◌, map, refl, sym, ap, ◌∙◌, if◌then◌else◌}
+use Rattle.std.specs.Prelude.{◌||◌}
+use Rattle.adj_tree.specs.Code.{Role, Var, plain, shadow, helper, name_eq, var_eq, Declaration, Procedure}
+use Rattle.adj_tree.proofs.Names.{name_refl, name_same}
+use Rattle.def_meaning.specs.Units.{declared}
+use Rattle.def_names.specs.Variables.{variables}
+use Rattle.def_meaning.specs.Apart.{has_name}
+use Rattle.def_names.specs.Fresh.{fresh}
+use Rattle.def_names.specs.Reserved.{reserved}
+use Rattle.def_sweep.specs.Naming.{Named, own as own_name, wanted, outside, named, name_in, naming}
+use Rattle.def_sweep.specs.Marked.{names_in}
+use Rattle.def_sweep.specs.Declared.{declaration, declared_helpers}
+use Rattle.def_sweep.specs.MarkedProgram.{shadows_behind, declared_behind}
+use Rattle.def_names.proofs.Variables.{or_false, or_left, or_right}
+use Rattle.def_sweep.specs.Marking.{ProgramMarks, first_statement, plan_in}
+use Rattle.def_sweep.specs.Program.{helpers_used_with, all_units, adjoint_names_with, adjoint_unit_with, schedules_in}
+use Rattle.law_emitted.proofs.Tables.{AreHelpers}
+use Rattle.def_adjoint.specs.Shape.{shadow_table, is_own, is_shadow}
+
+-- ---- a shadow's name doesn't depend on helpers
+
+no_shadow : (taken : List (List ℕ)) (hs : List Var) → AreHelpers hs → (x : List ℕ) → name_in (named taken hs) (shadow x) ≡ outside (shadow x)
+no_shadow taken [] h x = refl
+no_shadow taken (plain y ∷ hs) h x = absurd h
+no_shadow taken (shadow y ∷ hs) h x = absurd h
+no_shadow taken (helper r k ∷ hs) h x = no_shadow (taken ++ (fresh (wanted (helper r k)) taken ∷ [])) hs h x
+
+shadow_first : (taken ss : List (List ℕ)) (hs : List Var) → AreHelpers hs → (x : List ℕ) → name_in (named taken (map shadow ss ++ hs)) (shadow x) ≡ name_in (named taken (map shadow ss)) (shadow x)
+shadow_first taken [] hs h x = no_shadow taken hs h x
+shadow_first taken (s ∷ ss) hs h x = ap (λ n. if name_eq x s then fresh (wanted (shadow s)) taken else n) (shadow_first (taken ++ (fresh (wanted (shadow s)) taken ∷ [])) ss hs h x)
+
+behind_own : (xs : List (List ℕ)) (ns : List Named) (x : List ℕ) → name_in (map own_name xs ++ ns) (shadow x) ≡ name_in ns (shadow x)
+behind_own [] ns x = refl
+behind_own (y ∷ xs) ns x = behind_own xs ns x
+
+-- ---- an adjoint unit
+
+module _ (sb : Bool) (m : ProgramMarks) (ps : List Procedure) (head u : Procedure) (helpers : AreHelpers (helpers_used_with (schedules_in sb ps) (plan_in m ps u) (first_statement ps u.name) u.body))
+    (separates : (v w : Var) → var_eq (naming (adjoint_names_with sb m ps (all_units m ps head) u) v) (naming (adjoint_names_with sb m ps (all_units m ps head) u) w) ≡ var_eq v w)
+    (keeps : (x : List ℕ) → has_name x (variables u) ≡ true → name_in (adjoint_names_with sb m ps (all_units m ps head) u) (plain x) ≡ x) where
+  abbrev pub ns : List Named
+  ns = adjoint_names_with sb m ps (all_units m ps head) u
+
+  abbrev pub r : Var → Var
+  r = naming (adjoint_names_with sb m ps (all_units m ps head) u)
+
+  pub same_shadow : (x : List ℕ) → name_in (shadow_table m ps head u) (shadow x) ≡ name_in ns (shadow x)
+  same_shadow x =
+      let taken = variables u ++ (all_units m ps head ++ reserved) in
+      let ss = names_in (m.shadowed u.name) (variables u) in
+      let hs = helpers_used_with (schedules_in sb ps) (plan_in m ps u) (first_statement ps u.name) u.body in
+      behind_own (variables u) (named taken (map shadow ss)) x ∙ sym (shadow_first taken ss hs helpers x) ∙ sym (behind_own (variables u) (named taken (map shadow ss ++ hs)) x)
+
+  -- the unit's variables are told as they are
+  pub own_kept : (v : Var) → is_own u v ≡ true → r v ≡ v
+  own_kept (plain x) h = ap plain (keeps x h)
+  own_kept (shadow x) h = absurd cc
+  own_kept (helper o k) h = absurd cc
+
+  -- a name of the unit's is that of its variable alone
+  at : (v : Var) (x : List ℕ) → has_name x (variables u) ≡ true → name_eq (name_in ns v) x ≡ var_eq v (plain x)
+  at v x h = ap (name_eq (name_in ns v)) (sym (keeps x h)) ∙ separates v (plain x)
+
+  first_has : (x : List ℕ) (xs : List (List ℕ)) → has_name x (x ∷ xs) ≡ true
+  first_has x xs = or_left (name_eq x x) (has_name x xs) (name_refl x)
+
+  later_has : (y x : List ℕ) (xs : List (List ℕ)) → has_name y xs ≡ true → has_name y (x ∷ xs) ≡ true
+  later_has y x xs h = or_right (name_eq y x) (has_name y xs) h
+
+  plain_among : (y : List ℕ) (xs : List (List ℕ)) → ((x : List ℕ) → has_name x xs ≡ true → has_name x (variables u) ≡ true) → has_name (name_in ns (plain y)) xs ≡ has_name y xs
+  plain_among y [] k = refl
+  plain_among y (x ∷ xs) k = λ j. at (plain y) x (k x (first_has x xs)) j || plain_among y xs (λ z h. k z (later_has z x xs h)) j
+
+  other_among : (v : Var) → ((x : List ℕ) → var_eq v (plain x) ≡ false) → (xs : List (List ℕ)) → ((x : List ℕ) → has_name x xs ≡ true → has_name x (variables u) ≡ true) → has_name (name_in ns v) xs ≡ false
+  other_among v none [] k = refl
+  other_among v none (x ∷ xs) k = λ j. (at v x (k x (first_has x xs)) ∙ none x) j || other_among v none xs (λ z h. k z (later_has z x xs h)) j
+
+  -- its variables are told from others under their names
+  pub own_same : (v : Var) → is_own u (r v) ≡ is_own u v
+  own_same (plain y) = plain_among y (variables u) (λ x h. h)
+  own_same (shadow y) = other_among (shadow y) (λ x. refl) (variables u) (λ x h. h)
+  own_same (helper o k) = other_among (helper o k) (λ x. refl) (variables u) (λ x h. h)
+
+  -- and what is no shadow has no shadow's name
+  none_shadow : (v : Var) → ((x : List ℕ) → var_eq v (shadow x) ≡ false) → (ss : List (List ℕ)) → has_name (name_in ns v) (map (λ y. name_in (shadow_table m ps head u) (shadow y)) ss) ≡ false
+  none_shadow v none [] = refl
+  none_shadow v none (y ∷ ss) = λ j. (ap (name_eq (name_in ns v)) (same_shadow y) ∙ separates v (shadow y) ∙ none y) j || none_shadow v none ss j
+
+  pub plain_unshadowed : (x : List ℕ) → is_shadow m ps head u (r (plain x)) ≡ false
+  plain_unshadowed x = none_shadow (plain x) (λ y. refl) (names_in (m.shadowed u.name) (variables u))
+
+  pub helper_unshadowed : (o : Role) (k : ℕ) → is_shadow m ps head u (r (helper o k)) ≡ false
+  helper_unshadowed o k = none_shadow (helper o k) (λ y. refl) (names_in (m.shadowed u.name) (variables u))
+
+  -- ---- dummies and declarations
+
+  pub same_dummies : (xs : List (List ℕ)) → shadows_behind (m.shadowed u.name) ns xs ≡ shadows_behind (m.shadowed u.name) (shadow_table m ps head u) xs
+  same_dummies [] = refl
+  same_dummies (x ∷ xs) = λ j. if m.shadowed u.name (plain x) then x ∷ sym (same_shadow x) j ∷ same_dummies xs j else x ∷ same_dummies xs j
+
+  helpers_scalar : (line : ℕ) (hs : List Var) (v : Var) → declared (declared_helpers ns line hs) v ≡ []
+  helpers_scalar line [] v = refl
+  helpers_scalar line (h ∷ hs) v = go (var_eq v (plain (name_in ns h))) (helpers_scalar line hs v)
+    where
+      go : (b : Bool) → declared (declared_helpers ns line hs) v ≡ [] → (if b then [] else declared (declared_helpers ns line hs) v) ≡ []
+      go true ih = refl
+      go false ih = ih
+
+  name_declared : (line : ℕ) (ds : List Declaration) (x : List ℕ) → (declaration line ds x).name ≡ x
+  name_declared line [] x = refl
+  name_declared line (d ∷ ds) x = go (name_eq d.name x) refl (name_declared line ds x)
+    where
+      go : (b : Bool) → name_eq d.name x ≡ b → (declaration line ds x).name ≡ x → (if b then d else declaration line ds x).name ≡ x
+      go true e ih = name_same d.name x e
+      go false e ih = ih
+
+  others_scalar : (line : ℕ) (hs : List Var) (z : List ℕ) (xs : List (List ℕ)) → has_name z xs ≡ false → has_name z (map (λ y. name_in (shadow_table m ps head u) (shadow y)) (names_in (m.shadowed u.name) xs)) ≡ false →
+      declared (declared_behind (m.shadowed u.name) ns u xs ++ declared_helpers ns line hs) (plain z) ≡ []
+  others_scalar line hs z [] a b = helpers_scalar line hs (plain z)
+  others_scalar line hs z (x ∷ xs) a b =
+      let own = or_false (name_eq z x) (has_name z xs) a in
+      go (m.shadowed u.name (plain x)) (ap (name_eq z) (name_declared u.line u.declarations x) ∙ own.0) b (others_scalar line hs z xs own.1)
+    where
+      d : Declaration
+      d = declaration u.line u.declarations x
+
+      names_of : List (List ℕ) → List (List ℕ)
+      names_of ys = map (λ y. name_in (shadow_table m ps head u) (shadow y)) ys
+
+      later : List Declaration
+      later = declared_behind (m.shadowed u.name) ns u xs ++ declared_helpers ns line hs
+
+      go : (c : Bool) → name_eq z d.name ≡ false → has_name z (names_of (if c then x ∷ names_in (m.shadowed u.name) xs else names_in (m.shadowed u.name) xs)) ≡ false → (has_name z (names_of (names_in (m.shadowed u.name) xs)) ≡ false → declared later (plain z) ≡ []) →
+          declared ((if c then d ∷ record d { name = name_in ns (shadow x) } ∷ declared_behind (m.shadowed u.name) ns u xs else d ∷ declared_behind (m.shadowed u.name) ns u xs) ++ declared_helpers ns line hs) (plain z) ≡ []
+      go true e b ih =
+          let made = or_false (name_eq z (name_in (shadow_table m ps head u) (shadow x))) (has_name z (names_of (names_in (m.shadowed u.name) xs))) b in
+          ap (λ t. if t then d.extents else (if name_eq z (name_in ns (shadow x)) then d.extents else declared later (plain z))) e
+          ∙ ap (λ t. if t then d.extents else declared later (plain z)) (ap (name_eq z) (sym (same_shadow x)) ∙ made.0)
+          ∙ ih made.1
+      go false e b ih = ap (λ t. if t then d.extents else declared later (plain z)) e ∙ ih b
+
+  none_declared : (ds : List Declaration) (v : Var) → ((x : List ℕ) → var_eq v (plain x) ≡ false) → declared ds v ≡ []
+  none_declared [] v none = refl
+  none_declared (d ∷ ds) v none = ap (λ t. if t then d.extents else declared ds v) (none d.name) ∙ none_declared ds v none
+
+  pub are_scalars : (at_turn at_end : List (List ℕ)) (v : Var) → is_own u v ≡ false → is_shadow m ps head u v ≡ false → declared (adjoint_unit_with sb m ps (all_units m ps head) u at_turn at_end).declarations v ≡ []
+  are_scalars at_turn at_end (plain z) a b = others_scalar u.line (helpers_used_with (schedules_in sb ps) (plan_in m ps u) (first_statement ps u.name) u.body) z (variables u) a b
+  are_scalars at_turn at_end (shadow z) a b = none_declared (adjoint_unit_with sb m ps (all_units m ps head) u at_turn at_end).declarations (shadow z) (λ x. refl)
+  are_scalars at_turn at_end (helper o k) a b = none_declared (adjoint_unit_with sb m ps (all_units m ps head) u at_turn at_end).declarations (helper o k) (λ x. refl)

@@ -1,0 +1,20 @@
+-- the definitions of the crate, a module a subject
+pub mod Pairs
+pub mod Scenes
+pub mod AdjointExamples
+pub mod Straight
+pub mod Laws
+pub mod Runs
+pub mod Steps
+pub mod Passing
+pub mod Cells
+pub mod Kernel
+pub mod Environment
+pub mod Lists
+pub mod Emitted
+pub mod Theorem
+pub mod ReversedRow
+pub mod Source
+pub mod Examples
+pub mod SplitCalled
+pub mod Tells

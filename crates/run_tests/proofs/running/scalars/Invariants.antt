@@ -1,7 +1,0 @@
--- The scalars so far.
-use Rattle.std.proofs.Common.{◌≡◌, map, take}
-use Rattle.run_tests.specs.Scalars.{scalar_of}
-use Rattle.run_tests.proofs.running.scalars.Given as goal
-
-abbrev pub invariant-loop-word : goal.invariant-loop-word
-invariant-loop-word l = l.slots.items ≡ map scalar_of (take l.word-index l.words)

@@ -1,0 +1,9 @@
+//! Tests of the code of the analyses, and of the numbers of points and nodes of a checked program.
+#![tactic(auto)]
+
+#[cfg(test)]
+mod activities;
+#[cfg(test)]
+mod plans;
+#[cfg(test)]
+mod points;

@@ -1,0 +1,128 @@
+//! The statements of a text, the names of a unit, and the text of what is emitted.
+
+use adj_fixed::{Mode, statements};
+use adj_naming::helper_set::HelperSet;
+use adj_naming::names::Names;
+use adj_naming::role::{Helper, Role};
+use adj_parse::program;
+use adj_print::text;
+use adj_sets::{NameSet, add_texts};
+use adj_sweep::callees::{Callee, Callees, Dummy};
+use adj_tree::{Fault, Items, Memory, Name, Program, Stmts, Unit};
+use std::alloc::Global;
+
+/// A program whose one unit has these statements.
+pub(crate) fn read(alloc: Global, lines: &str) -> Result<Program, Fault> {
+    let all = format!(in alloc; "      SUBROUTINE P\n{lines}      END\n")?;
+    let stated = statements(alloc, all.as_bytes(), Mode::Source)?;
+    let read = program(alloc, stated.as_slice(), Mode::Source)?;
+    Ok(read)
+}
+
+fn name(alloc: Global, text: &[u8]) -> Result<Name, Memory> {
+    Name::from_slice(alloc, text)
+}
+
+pub(crate) fn listed(alloc: Global, texts: &[&[u8]]) -> Result<Vec<Name>, Memory> {
+    let mut made = Vec::new(alloc);
+    for text in texts {
+        made.push(name(alloc, text)?)?;
+    }
+    Ok(made)
+}
+
+fn set_of(alloc: Global, texts: &[&[u8]]) -> Result<NameSet, Memory> {
+    let mut set = NameSet::new(alloc)?;
+    add_texts(alloc, &mut set, texts)?;
+    Ok(set)
+}
+
+fn helper_set_of(alloc: Global, helpers: &[(Role, usize)]) -> Result<HelperSet, Memory> {
+    let mut set = HelperSet::new(alloc);
+    for (role, number) in helpers {
+        set.add(Helper {
+            role: *role,
+            number: *number,
+        })?;
+    }
+    Ok(set)
+}
+
+/// What a unit's variables, their shadows and its helpers are called.
+#[derive(Clone, Copy)]
+pub(crate) struct Called<'a> {
+    pub variables: &'a [&'a [u8]],
+    pub shadows: &'a [&'a [u8]],
+    pub helpers: &'a [(Role, usize)],
+    pub helper_names: &'a [&'a [u8]],
+}
+
+pub(crate) fn names(alloc: Global, called: &Called) -> Result<Names, Memory> {
+    let variables = Items::new(listed(alloc, called.variables)?);
+    let shadowed = set_of(alloc, called.variables)?;
+    let shadows = Items::new(listed(alloc, called.shadows)?);
+    let helpers = helper_set_of(alloc, called.helpers)?;
+    let helper_names = Items::new(listed(alloc, called.helper_names)?);
+    Ok(Names {
+        variables,
+        shadowed,
+        shadows,
+        helpers,
+        helper_names,
+    })
+}
+
+/// No unit is known.
+pub(crate) fn no_callees(alloc: Global) -> Result<Callees, Memory> {
+    Ok(Callees {
+        names: NameSet::new(alloc)?,
+        known: Vec::new(alloc),
+        other: Callee {
+            adjoint: name(alloc, b"")?,
+            dummies: Vec::new(alloc),
+        },
+    })
+}
+
+/// One unit is known: its name, that of its adjoint, and its dummies.
+pub(crate) fn one_callee(
+    alloc: Global,
+    unit: &[u8],
+    adjoint: &[u8],
+    dummies: &[Dummy],
+) -> Result<Callees, Memory> {
+    let mut callees = no_callees(alloc)?;
+    callees.names = set_of(alloc, &[unit])?;
+    let mut known = Vec::new(alloc);
+    for dummy in dummies {
+        known.push(*dummy)?;
+    }
+    callees.known.push(Callee {
+        adjoint: name(alloc, adjoint)?,
+        dummies: known,
+    })?;
+    Ok(callees)
+}
+
+fn unit(alloc: Global, body: Stmts) -> Result<Unit, Memory> {
+    Ok(Unit {
+        line: 1,
+        name: name(alloc, b"P")?,
+        dummies: Items::new(Vec::new(alloc)),
+        none: false,
+        decls: Items::new(Vec::new(alloc)),
+        body,
+    })
+}
+
+/// Whether statements are printed as these lines.
+pub(crate) fn is_text(alloc: Global, code: Stmts, lines: &str) -> Result<bool, Memory> {
+    let mut units = Vec::new(alloc);
+    units.push(unit(alloc, code)?)?;
+    let program = Program {
+        units: Items::new(units),
+    };
+    let printed = text(alloc, &program)?;
+    let wanted = format!(in alloc; "      SUBROUTINE P\n{lines}      END\n")?;
+    Ok(printed.as_slice() == wanted.as_bytes())
+}

@@ -1,0 +1,267 @@
+//! What is emitted by exact activity, and by flags that are given of what is kept, saved and needed.
+
+ghost use Rattle.std.specs.Prelude.{◌≡◌, ◌<◌, IfOk, length, map};
+ghost use Rattle.adj_tree.specs.View.{procedures_of};
+ghost use Rattle.def_text.specs.Written.{IsWritten};
+ghost use Rattle.def_names.specs.Fault.{run_rules};
+ghost use Rattle.law_emitted.specs.Checked.{IsChecked};
+ghost use Rattle.adj_weave.specs.Marked.{IsFlowOf};
+
+use adj_activity::{activity, flow};
+use adj_fixed::{Mode, statements};
+use adj_flow::Flow;
+use adj_norm_statement::is_kernel;
+use adj_parse::program;
+use adj_print::text;
+use adj_sweep::steps::MarkedLoops;
+use adj_symbols::{Checked, check};
+use adj_tree::{Fault, Flags, Head, Kept, Marks, Memory, NameList, Program, Saved};
+use adj_weave::{FoundMarks, Marked, adjoint};
+use std::alloc::Global;
+use std::test::Fail;
+
+// The program of a text.
+fn read(alloc: Global, source: &[u8]) -> Result<Program, Fault>
+    ensures written { IfOk result (λ p. IsWritten (procedures_of p)) }
+{
+    let stated = statements(alloc, source, Mode::Source)?;
+    let program = program(alloc, stated.as_slice(), Mode::Source)?;
+    Ok(program)
+}
+
+// The variables of each unit.
+fn variables<'c>(alloc: Global, checked: &'c Checked) -> Result<Vec<&'c NameList>, Memory>
+    ensures all { IfOk result (λ v. map (λ b. b.now) v.items ≡ checked.now.variables) }
+{
+    let count = checked.program().units.as_slice().len();
+    let mut variables = Vec::new(alloc);
+    for unit in 0..count {
+        variables.push(checked.variables(unit))?;
+    }
+    Ok(variables)
+}
+
+// A flag for each digit.
+fn flags(alloc: Global, digits: &[u8]) -> Result<Flags, Memory> {
+    let mut flags = Vec::new(alloc);
+    for digit in digits {
+        flags.push(*digit == b'1')?;
+    }
+    Ok(Flags::new(flags))
+}
+
+// A digit for each dummy of the head, whether it is independent and whether it is dependent; for each statement, whether it is kept;
+// and for each place of a variable in each unit, and in each statement, whether it is needed at the entry, and saved.
+#[derive(Clone, Copy)]
+pub(crate) struct Given<'a> {
+    pub vars: &'a [u8],
+    pub outvars: &'a [u8],
+    pub kept: &'a [u8],
+    pub entry: &'a [u8],
+    pub saved: &'a [u8],
+}
+
+// The text of what is emitted for a checked program in kernel form, of which this is the flow.
+fn emitted(
+    alloc: Global,
+    program: &Program,
+    flow: &Flow<'_>,
+    head: &Head,
+    given: Given<'_>,
+) -> Result<Vec<u8>, Memory>
+    requires head { head.now.unit < length program.now.units }
+    requires checked { IsChecked run_rules (procedures_of program.now) }
+    requires flow { IsFlowOf (procedures_of program.now) head.now.unit flow.now }
+{
+    let activity = activity(alloc, flow, head)?;
+    let marks = Marks {
+        activity,
+        kept: Kept {
+            kept: flags(alloc, given.kept)?,
+            entry: flags(alloc, given.entry)?,
+        },
+        saved: Saved {
+            saved: flags(alloc, given.saved)?,
+        },
+    };
+    let found = FoundMarks {
+        marks: &marks,
+        flow,
+    };
+    let marked = Marked::Found(found);
+    let emitted = adjoint(alloc, program, head, marked, MarkedLoops::Reversed)?;
+    text(alloc, &emitted)
+}
+
+// The same of a checked program, if it is in kernel form, with its first unit as the head.
+fn answer(alloc: Global, checked: &Checked, given: Given<'_>) -> Result<Vec<u8>, Memory> {
+    let variables = variables(alloc, checked)?;
+    let program = checked.program();
+    let units = program.units.as_slice();
+    let head = Head {
+        unit: 0,
+        vars: flags(alloc, given.vars)?,
+        outvars: flags(alloc, given.outvars)?,
+    };
+    if units.len() == 0 || units.len() == usize::MAX || !is_kernel(program) {
+        return Ok(Vec::new(alloc));
+    }
+    let flow = flow(alloc, units, variables.as_slice(), 0)?;
+    emitted(alloc, program, &flow, &head, given)
+}
+
+// Whether this is emitted for the program of a text.
+pub(crate) fn emits(
+    alloc: Global,
+    source: &[u8],
+    given: Given<'_>,
+    expected: &[u8],
+) -> Result<bool, Fault> {
+    let program = read(alloc, source)?;
+    let checked = check(alloc, program, Mode::Source)?;
+    let answer = answer(alloc, &checked, given)?;
+    Ok(answer.as_slice() == expected)
+}
+
+// The last assignment isn't kept; the first saves Y, since the flag says so; N has no shadow.
+#[test]
+fn a_unit_by_marks(rt: HostRuntime) -> Result<(), Fail> {
+    let source: &[u8] = b"      SUBROUTINE P(X,N,Y)
+      INTEGER*8 X,N,Y
+      Y=X*N
+      Y=Y*X
+      END
+";
+    let given = Given {
+        vars: b"100",
+        outvars: b"001",
+        kept: b"10",
+        entry: b"110",
+        saved: b"001000",
+    };
+    let expected: &[u8] = b"      SUBROUTINE P_B(X,XB,N,Y,YB)
+      INTEGER*8 X
+      INTEGER*8 XB
+      INTEGER*8 N
+      INTEGER*8 Y
+      INTEGER*8 YB
+      INTEGER*8 ADW1
+      INTEGER*8 ADW2
+      CALL PUSHINTEGER8(Y)
+      Y=X*N
+      XB=0
+      ADW1=YB
+      YB=0
+      ADW2=ADW1*X
+      YB=YB+ADW2
+      ADW2=ADW1*Y
+      XB=XB+ADW2
+      CALL POPINTEGER8(Y)
+      ADW1=YB
+      YB=0
+      ADW2=ADW1*N
+      XB=XB+ADW2
+      YB=0
+      END
+";
+    assert!(rt; emits(rt.alloc(), source, given, expected)?);
+    Ok(())
+}
+
+// The call isn't kept, so neither unit is emitted as it is. Q overwrites what its adjoint needs.
+#[test]
+fn a_call_by_marks(rt: HostRuntime) -> Result<(), Fail> {
+    let source: &[u8] = b"      SUBROUTINE P(X,Y)
+      INTEGER*8 X,Y
+      Y=X
+      CALL Q(Y)
+      END
+      SUBROUTINE Q(A)
+      INTEGER*8 A
+      A=A*A
+      END
+";
+    let given = Given {
+        vars: b"10",
+        outvars: b"01",
+        kept: b"100",
+        entry: b"1010",
+        saved: b"000000",
+    };
+    let expected: &[u8] = b"      SUBROUTINE P_B(X,XB,Y,YB)
+      INTEGER*8 X
+      INTEGER*8 XB
+      INTEGER*8 Y
+      INTEGER*8 YB
+      INTEGER*8 ADW1
+      Y=X
+      CALL PUSHINTEGER8(Y)
+      XB=0
+      CALL POPINTEGER8(Y)
+      CALL Q_B(Y,YB)
+      ADW1=YB
+      YB=0
+      XB=XB+ADW1
+      YB=0
+      END
+      SUBROUTINE Q_B(A,AB)
+      INTEGER*8 A
+      INTEGER*8 AB
+      INTEGER*8 ADW1
+      INTEGER*8 ADW2
+      ADW1=AB
+      AB=0
+      ADW2=ADW1*A
+      AB=AB+ADW2
+      ADW2=ADW1*A
+      AB=AB+ADW2
+      END
+";
+    assert!(rt; emits(rt.alloc(), source, given, expected)?);
+    Ok(())
+}
+
+// The call of R is kept, but R has no derivative that counts: R comes as it is, and has no adjoint.
+#[test]
+fn a_unit_without_an_adjoint(rt: HostRuntime) -> Result<(), Fail> {
+    let source: &[u8] = b"      SUBROUTINE P(X,Y,N)
+      INTEGER*8 X,Y,N
+      CALL R(N)
+      Y=X*N
+      END
+      SUBROUTINE R(A)
+      INTEGER*8 A
+      A=A+1
+      END
+";
+    let given = Given {
+        vars: b"100",
+        outvars: b"010",
+        kept: b"101",
+        entry: b"101000",
+        saved: b"",
+    };
+    let expected: &[u8] = b"      SUBROUTINE P_B(X,XB,Y,YB,N)
+      INTEGER*8 X
+      INTEGER*8 XB
+      INTEGER*8 Y
+      INTEGER*8 YB
+      INTEGER*8 N
+      INTEGER*8 ADW1
+      INTEGER*8 ADW2
+      CALL R(N)
+      XB=0
+      ADW1=YB
+      YB=0
+      ADW2=ADW1*N
+      XB=XB+ADW2
+      YB=0
+      END
+      SUBROUTINE R(A)
+      INTEGER*8 A
+      A=A+1
+      END
+";
+    assert!(rt; emits(rt.alloc(), source, given, expected)?);
+    Ok(())
+}

@@ -1,6 +1,0 @@
-use Rattle.std.proofs.Common.{◌≤◌}
-use Rattle.adj_expression.specs.Front.{AreSlices}
-use Rattle.text_tests.proofs.expressions.tokens.Given as goal
-
-abbrev pub invariant-loop-end : goal.invariant-loop-end
-invariant-loop-end l = (l.start ≤ l.end) × AreSlices l.text l.tokens.items
