@@ -158,18 +158,34 @@ is_push c = false
 
 -- ---- what the sweeps set and call
 
--- the variables that a statement assigns, as an assignment, as a DO, or by what a schedule is asked for
+-- the variables that a statement assigns, as an assignment, as a DO, by what a schedule is asked for, or as an array that is set to 0
 abbrev pub assigned : Act → List Var
 assigned (assign x subs e) = x ∷ []
 assigned (loop x first last by body m) = x ∷ []
 assigned (runtime (count_actions l s n)) = n ∷ []
 assigned (runtime (give_action l s k a f t)) = a ∷ f ∷ t ∷ []
+assigned (runtime (zero_array x)) = x ∷ []
 assigned a = []
 
 -- the variables of DOs
 abbrev pub turned : Act → List Var
 turned (loop x first last by body m) = x ∷ []
 turned a = []
+
+-- Whether a list assigns variables of the unit in bodies of loops alone, and there those in a set alone; `inside` says whether the list stands
+-- in such a body.
+abbrev mutual
+  pub restores_act : Vars → Vars → Bool → Act → Bool
+  restores_act own counts inside (assign x subs e) = list_all (λ v. not (own v) || (inside && counts v)) (assigned (assign x subs e))
+  restores_act own counts inside (choose c a b) = restores own counts inside a && restores own counts inside b
+  restores_act own counts inside (loop x first last by body m) = list_all (λ v. not (own v) || (inside && counts v)) (assigned (loop x first last by body m)) && restores own counts true body
+  restores_act own counts inside (during c body) = restores own counts true body
+  restores_act own counts inside (call name args) = true
+  restores_act own counts inside (runtime r) = list_all (λ v. not (own v) || (inside && counts v)) (assigned (runtime r))
+
+  pub restores : Vars → Vars → Bool → Code → Bool
+  restores own counts inside stop = true
+  restores own counts inside (step line a rest) = restores_act own counts inside a && restores own counts inside rest
 
 -- the names of the units that are called
 abbrev pub called : Act → List (List ℕ)
@@ -283,8 +299,8 @@ pub record IsAdjointUnit (schedules : Bool) (m : ProgramMarks) (ps : List Proced
   pub sparing : is_sparing (is_own u) (is_shadow m ps head u) false 0 forth ≡ true
   -- backward: the loops that are reversed by schedules are reversed, and besides nothing is pushed and no kernel unit is called
   pub reverses : done_list (deeds (is_own u) (λ x. has_name x (map unit_name ps))) None 0 back ≡ deeds_back (schedules_in schedules ps) (plan_in m ps u) (first_statement ps u.name) u.body
-  -- and a variable of u is assigned only where it is that of a DO of u
-  pub assigns : list_all (λ v. not (is_own u v) || list_any (var_eq v) (gathered turned u.body)) (gathered assigned back) ≡ true
+  -- and a variable of u is assigned in the body of a loop alone, where it is that of a DO of u
+  pub assigns : restores (is_own u) (λ v. list_any (var_eq v) (gathered turned u.body)) false back ≡ true
 
 -- ---- the program
 

@@ -10,7 +10,7 @@ use Rattle.def_sweep.specs.Tangents.{Ends, cells_of, with_direction, tangents_of
 use Rattle.def_sweep.specs.MarkedAdjoint.{shadow_flags, shadow_cells, joined_by}
 use Rattle.law_rooms.specs.Rooms.{IsFull}
 use Rattle.def_adjoint.specs.Trapped.{IsTrapped}
-use Rattle.law_rooms.specs.Adjoints.{AdjointsBalanceWith}
+use Rattle.law_rooms.specs.Adjoints.{AdjointsBalance}
 use Rattle.law_rooms.proofs.Rooms.{room_is_enough}
 
 -- a run that is done, or traps, isn't full and has no more to do
@@ -58,8 +58,8 @@ module _ {C : Type 0} (n : Numbers C) (ps : List Procedure) (u : Procedure) (inp
       let o = run_unit n ps u input [] room k in
       result_is out ends.output used ends.used (sym e ∙ same_end room k (done_not_full o out used e) (done_not_more o out used e))
 
-pub adjoints_balance : (schedules : Bool) → AdjointsBalanceWith schedules
-adjoints_balance schedules lines m ps name vars outvars qs x input shadows fit alike d along room k used out e =
+pub adjoints_balance : AdjointsBalance
+adjoints_balance lines m ps name vars outvars qs x input shadows fit alike d along room k used out e =
     let o = run_unit words ps x.unit input [] room k in
     let wide = room_is_enough words ps x.unit input [] room k (done_not_full o out used e) in
     let t = x.transposes input shadows fit alike k used out (sym wide ∙ e) in

@@ -238,7 +238,7 @@ costs_reversed lines es = ap (λ z. least_costs (runs_in lines z)) (sym (append-
 -- ---- runs of adjoints
 
 pub adjoints_advance : AdjointsAdvance
-adjoints_advance schedules lines own m ps name vars outvars qs x input shadows fit alike room room' k k' used used' out back e e' =
+adjoints_advance lines own m ps name vars outvars qs x input shadows fit alike room room' k k' used used' out back e e' =
     let wide = room_is_enough words ps x.unit input [] room k (done_not_full (run_unit words ps x.unit input [] room k) out used e) in
     let t = x.transposes input shadows fit alike k used out (sym wide ∙ e) in
     let joined = joined_by (shadow_flags (m.shadowed name) x.unit.dummies) input shadows in

@@ -1,5 +1,5 @@
 -- Adjoints: what the runs of an adjoint and the dual runs of its source come to with so many statements and on a tape with a room. (docs/THEOREMS.md, "Adjoints")
-use Rattle.std.specs.Prelude.{◌≡◌, ℕ, ℤ, List, [], Bool, true, false, Option}
+use Rattle.std.specs.Prelude.{◌≡◌, ℕ, ℤ, List, [], Bool, true, Option}
 use Rattle.adj_tree.specs.Code.{Procedure}
 use Rattle.def_meaning.specs.Numbers.{words, duals}
 use Rattle.def_meaning.specs.Scene.{Done}
@@ -7,7 +7,7 @@ use Rattle.def_meaning.specs.Units.{Slot, Output, fits, run_unit}
 use Rattle.def_sweep.specs.Tangents.{AreAlike, IsDirection, cells_of, with_direction, tangents_of, product}
 use Rattle.def_sweep.specs.MarkedAdjoint.{shadow_flags, shadow_cells, joined_by}
 use Rattle.def_sweep.specs.Marking.{ProgramMarks}
-use Rattle.def_adjoint.specs.Adjoint.{IsAdjointOfWith}
+use Rattle.def_adjoint.specs.Adjoint.{IsAdjointOf}
 use Rattle.def_sweep.specs.Reversals.{ReversedLines}
 use Rattle.def_adjoint.specs.Trapped.{IsTrapped}
 
@@ -26,13 +26,9 @@ pub record Balances (flags : List Bool) (ps : List Procedure) (u : Procedure) (v
       product vars (shadow_cells flags back.slots) d ≡ product outvars (cells_of shadows) (tangents_of (cells_of dual.slots))
 
 -- so it is with the adjoint of a head, on each input on which the head's run is done with some number of statements and on a tape of some room
-abbrev pub AdjointsBalanceWith : (schedules : Bool) → Type 0
-AdjointsBalanceWith schedules =
-    (lines : ReversedLines) (m : ProgramMarks) (ps : List Procedure) (name : List ℕ) (vars outvars : List Bool) (qs : List Procedure) → (x : IsAdjointOfWith schedules lines m ps name vars outvars qs) →
+abbrev pub AdjointsBalance : Type 0
+AdjointsBalance =
+    (lines : ReversedLines) (m : ProgramMarks) (ps : List Procedure) (name : List ℕ) (vars outvars : List Bool) (qs : List Procedure) → (x : IsAdjointOf lines m ps name vars outvars qs) →
     (input shadows : List (Slot ℤ)) → fits words x.unit input ≡ true → AreAlike input shadows → (d : List (List ℤ)) → IsDirection vars input d →
     (room : Option ℕ) (k used : ℕ) (out : Output ℤ) → run_unit words ps x.unit input [] room k ≡ Done out used →
     Balances (shadow_flags (m.shadowed name) x.unit.dummies) ps x.unit vars outvars qs x.adjoint input shadows d
-
--- where no loop is reversed by a schedule
-abbrev pub AdjointsBalance : Type 0
-AdjointsBalance = AdjointsBalanceWith false

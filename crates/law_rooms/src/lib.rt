@@ -7,8 +7,7 @@
 #![tactic(auto)]
 
 ghost use Rattle.law_meaning.specs.Laws.{ForBoth};
-ghost use Rattle.std.specs.Prelude.{true};
-ghost use Rattle.law_rooms.specs.Adjoints.{AdjointsBalanceWith, AdjointsBalance};
+ghost use Rattle.law_rooms.specs.Adjoints.{AdjointsBalance};
 ghost use Rattle.law_rooms.specs.Advances.{AdjointsAdvance};
 ghost use Rattle.law_rooms.specs.Rooms.{RoomIsEnough};
 
@@ -20,7 +19,6 @@ pub fn room_laws()
 /// Where the run of a head is done, its adjoint and its dual run never trap, and where they are done their products are equal.
 pub fn balance_law()
     ensures balance { AdjointsBalance }
-    ensures reversed { AdjointsBalanceWith true }
 {}
 
 /// Where the run of a head is done, and that of its adjoint, the adjoint's advances by the least costs of the head's runs of the loops that are

@@ -39,8 +39,7 @@ use Rattle.law_emitted.proofs.Texts.{Known}
 use Rattle.law_emitted.proofs.CheckedUnits.{names_known}
 use Rattle.law_emitted.proofs.Over.{OverCode, Any}
 use Rattle.law_emitted.proofs.Source.{source_code}
-use Rattle.law_emitted.proofs.Tables.{AreHelpers}
-use Rattle.law_emitted.proofs.Used.{used_helpers_with}
+use Rattle.law_emitted.proofs.ShadowNames.{same_shadow, same_dummies}
 use Rattle.def_adjoint.specs.Shape.{gathered, shadow_table, is_own, is_shadow, primal, kept_of, pushed, due, due_turns, turned, called, deeds, deeds_back, done_list, cleared, cleared_dummies, IsAdjointUnit}
 use Rattle.law_shape.specs.Closed.{IsClosed}
 use Rattle.law_shape.proofs.Gathered.{gathered_append, seen, seen_append, due_code, from_statements}
@@ -101,9 +100,6 @@ module _ (sb : Bool) (rules : Rules) (ps : List Procedure) (checked : IsChecked 
   text : IsWrittenProcedure u
   text = written rules ps checked u.name u found
 
-  helpers : AreHelpers (helpers_used_with (schedules_in sb ps) (plan_in m ps u) (first_statement ps u.name) u.body)
-  helpers = used_helpers_with (schedules_in sb ps) (plan_in m ps u) (first_statement ps u.name) u.body
-
   sep : (v w : Var) → var_eq (naming (adjoint_names_with sb m ps (all_units m ps head) u) v) (naming (adjoint_names_with sb m ps (all_units m ps head) u) w) ≡ var_eq v w
   sep v w = separates sb m ps (all_units m ps head) u (variables_apart u) (variables_inside u text) (extent_is_dummy rules ps checked u.name u found) v w
 
@@ -111,10 +107,10 @@ module _ (sb : Bool) (rules : Rules) (ps : List Procedure) (checked : IsChecked 
   keeps x h = own sb m ps (all_units m ps head) u (variables_apart u) (variables_inside u text) (extent_is_dummy rules ps checked u.name u found) x h
 
   own_kept : (v : Var) → is_own u v ≡ true → r v ≡ v
-  own_kept v h = naming_facts.own_kept sb m ps head u helpers sep keeps v h
+  own_kept v h = naming_facts.own_kept sb m ps head u sep keeps v h
 
   own_same : (v : Var) → is_own u (r v) ≡ is_own u v
-  own_same v = naming_facts.own_same sb m ps head u helpers sep keeps v
+  own_same v = naming_facts.own_same sb m ps head u sep keeps v
 
   calls : Each (CallHasNone ps u) (statements u.body)
   calls = each_found (λ v. Each (CallHasNone ps v) (statements v.body)) ps (all_calls rules ps checked) u.name u found
@@ -156,7 +152,7 @@ module _ (sb : Bool) (rules : Rules) (ps : List Procedure) (checked : IsChecked 
   cleared_same line (x ∷ xs) = go (p.arrays (plain x)) (cleared_same line xs)
     where
       name : name_in ns (shadow x) ≡ name_in (shadow_table m ps head u) (shadow x)
-      name = sym (naming_facts.same_shadow sb m ps head u helpers sep keeps x)
+      name = sym (same_shadow sb m ps head u x)
 
       go : (b : Bool) → seen r (emission.cleared p line xs) ≡ cleared p.arrays (shadow_table m ps head u) xs → seen r ((if b then one line (runtime (zero_array (shadow x))) else one line (assign (shadow x) none (lit (pos 0)))) +++ emission.cleared p line xs) ≡
           step 0 (if b then runtime (zero_array (plain (name_in (shadow_table m ps head u) (shadow x)))) else assign (plain (name_in (shadow_table m ps head u) (shadow x))) none (lit (pos 0))) (cleared p.arrays (shadow_table m ps head u) xs)
@@ -185,16 +181,16 @@ module _ (sb : Bool) (rules : Rules) (ps : List Procedure) (checked : IsChecked 
       let unit = adjoint_unit_with sb m ps (all_units m ps head) u (cleared_dummies m head u outvars) (cleared_dummies m head u vars) in
       record {
         name = refl;
-        dummies = naming_facts.same_dummies sb m ps head u helpers sep keeps u.dummies;
-        scalars = λ v a b. declared_unlined unit.declarations v ∙ naming_facts.are_scalars sb m ps head u helpers sep keeps (cleared_dummies m head u outvars) (cleared_dummies m head u vars) v a b;
+        dummies = same_dummies sb m ps head u (m.shadowed u.name) u.dummies;
+        scalars = λ v a b. declared_unlined unit.declarations v ∙ naming_facts.are_scalars sb m ps head u sep keeps (cleared_dummies m head u outvars) (cleared_dummies m head u vars) v a b;
         forth = seen r (forward_with sc p i 0 u.body);
         back = seen r (backward_with sc p i 0 u.body);
         body = body_same (cleared_dummies m head u outvars) (cleared_dummies m head u vars);
         keeps = forward_keeps ∙ sym (from_statements (kept_of p.marks (is_own u)) i u.body);
-        spares = forward_clean r (is_shadow m ps head u) (naming_facts.plain_unshadowed sb m ps head u helpers sep keeps) (naming_facts.helper_unshadowed sb m ps head u helpers sep keeps) sc p unsplit i 0 u.body;
-        pushes_alone = forward_pushes r (is_shadow m ps head u) (naming_facts.plain_unshadowed sb m ps head u helpers sep keeps) (naming_facts.helper_unshadowed sb m ps head u helpers sep keeps) sc p unsplit i 0 u.body;
+        spares = forward_clean r (is_shadow m ps head u) (naming_facts.plain_unshadowed sb m ps head u sep keeps) (naming_facts.helper_unshadowed sb m ps head u sep keeps) sc p unsplit i 0 u.body;
+        pushes_alone = forward_pushes r (is_shadow m ps head u) (naming_facts.plain_unshadowed sb m ps head u sep keeps) (naming_facts.helper_unshadowed sb m ps head u sep keeps) sc p unsplit i 0 u.body;
         saves = code_taken (pushed (is_own u)) (due p) (due_turns p) r sc p unsplit u (due_rows u r own_kept own_same p) i 0 u.body code closed;
-        sparing = forward_sparing u r own_same (is_shadow m ps head u) (naming_facts.helper_unshadowed sb m ps head u helpers sep keeps) sc p unsplit i 0 u.body code;
+        sparing = forward_sparing u r own_same (is_shadow m ps head u) (naming_facts.helper_unshadowed sb m ps head u sep keeps) sc p unsplit i 0 u.body code;
         reverses = backward_does;
         assigns = backward_assigns u r own_kept own_same counts sc p unsplit i 0 u.body code (loops_in counts u.body (λ v h. h));
       }

@@ -6,37 +6,19 @@ use Rattle.adj_tree.proofs.Names.{name_refl, name_same}
 use Rattle.def_meaning.specs.Units.{declared}
 use Rattle.def_names.specs.Variables.{variables}
 use Rattle.def_meaning.specs.Apart.{has_name}
-use Rattle.def_names.specs.Fresh.{fresh}
-use Rattle.def_names.specs.Reserved.{reserved}
-use Rattle.def_sweep.specs.Naming.{Named, own as own_name, wanted, outside, named, name_in, naming}
+use Rattle.def_sweep.specs.Naming.{Named, name_in, naming}
 use Rattle.def_sweep.specs.Marked.{names_in}
 use Rattle.def_sweep.specs.Declared.{declaration, declared_helpers}
-use Rattle.def_sweep.specs.MarkedProgram.{shadows_behind, declared_behind}
+use Rattle.def_sweep.specs.MarkedProgram.{declared_behind}
 use Rattle.def_names.proofs.Variables.{or_false, or_left, or_right}
 use Rattle.def_sweep.specs.Marking.{ProgramMarks, first_statement, plan_in}
 use Rattle.def_sweep.specs.Program.{helpers_used_with, all_units, adjoint_names_with, adjoint_unit_with, schedules_in}
-use Rattle.law_emitted.proofs.Tables.{AreHelpers}
+use Rattle.law_emitted.proofs.ShadowNames.{same_shadow}
 use Rattle.def_adjoint.specs.Shape.{shadow_table, is_own, is_shadow}
-
--- ---- a shadow's name doesn't depend on helpers
-
-no_shadow : (taken : List (List ℕ)) (hs : List Var) → AreHelpers hs → (x : List ℕ) → name_in (named taken hs) (shadow x) ≡ outside (shadow x)
-no_shadow taken [] h x = refl
-no_shadow taken (plain y ∷ hs) h x = absurd h
-no_shadow taken (shadow y ∷ hs) h x = absurd h
-no_shadow taken (helper r k ∷ hs) h x = no_shadow (taken ++ (fresh (wanted (helper r k)) taken ∷ [])) hs h x
-
-shadow_first : (taken ss : List (List ℕ)) (hs : List Var) → AreHelpers hs → (x : List ℕ) → name_in (named taken (map shadow ss ++ hs)) (shadow x) ≡ name_in (named taken (map shadow ss)) (shadow x)
-shadow_first taken [] hs h x = no_shadow taken hs h x
-shadow_first taken (s ∷ ss) hs h x = ap (λ n. if name_eq x s then fresh (wanted (shadow s)) taken else n) (shadow_first (taken ++ (fresh (wanted (shadow s)) taken ∷ [])) ss hs h x)
-
-behind_own : (xs : List (List ℕ)) (ns : List Named) (x : List ℕ) → name_in (map own_name xs ++ ns) (shadow x) ≡ name_in ns (shadow x)
-behind_own [] ns x = refl
-behind_own (y ∷ xs) ns x = behind_own xs ns x
 
 -- ---- an adjoint unit
 
-module _ (sb : Bool) (m : ProgramMarks) (ps : List Procedure) (head u : Procedure) (helpers : AreHelpers (helpers_used_with (schedules_in sb ps) (plan_in m ps u) (first_statement ps u.name) u.body))
+module _ (sb : Bool) (m : ProgramMarks) (ps : List Procedure) (head u : Procedure)
     (separates : (v w : Var) → var_eq (naming (adjoint_names_with sb m ps (all_units m ps head) u) v) (naming (adjoint_names_with sb m ps (all_units m ps head) u) w) ≡ var_eq v w)
     (keeps : (x : List ℕ) → has_name x (variables u) ≡ true → name_in (adjoint_names_with sb m ps (all_units m ps head) u) (plain x) ≡ x) where
   abbrev pub ns : List Named
@@ -45,12 +27,8 @@ module _ (sb : Bool) (m : ProgramMarks) (ps : List Procedure) (head u : Procedur
   abbrev pub r : Var → Var
   r = naming (adjoint_names_with sb m ps (all_units m ps head) u)
 
-  pub same_shadow : (x : List ℕ) → name_in (shadow_table m ps head u) (shadow x) ≡ name_in ns (shadow x)
-  same_shadow x =
-      let taken = variables u ++ (all_units m ps head ++ reserved) in
-      let ss = names_in (m.shadowed u.name) (variables u) in
-      let hs = helpers_used_with (schedules_in sb ps) (plan_in m ps u) (first_statement ps u.name) u.body in
-      behind_own (variables u) (named taken (map shadow ss)) x ∙ sym (shadow_first taken ss hs helpers x) ∙ sym (behind_own (variables u) (named taken (map shadow ss ++ hs)) x)
+  table_shadow : (x : List ℕ) → name_in (shadow_table m ps head u) (shadow x) ≡ name_in ns (shadow x)
+  table_shadow x = same_shadow sb m ps head u x
 
   -- the unit's variables are told as they are
   pub own_kept : (v : Var) → is_own u v ≡ true → r v ≡ v
@@ -85,7 +63,7 @@ module _ (sb : Bool) (m : ProgramMarks) (ps : List Procedure) (head u : Procedur
   -- and what is no shadow has no shadow's name
   none_shadow : (v : Var) → ((x : List ℕ) → var_eq v (shadow x) ≡ false) → (ss : List (List ℕ)) → has_name (name_in ns v) (map (λ y. name_in (shadow_table m ps head u) (shadow y)) ss) ≡ false
   none_shadow v none [] = refl
-  none_shadow v none (y ∷ ss) = λ j. (ap (name_eq (name_in ns v)) (same_shadow y) ∙ separates v (shadow y) ∙ none y) j || none_shadow v none ss j
+  none_shadow v none (y ∷ ss) = λ j. (ap (name_eq (name_in ns v)) (table_shadow y) ∙ separates v (shadow y) ∙ none y) j || none_shadow v none ss j
 
   pub plain_unshadowed : (x : List ℕ) → is_shadow m ps head u (r (plain x)) ≡ false
   plain_unshadowed x = none_shadow (plain x) (λ y. refl) (names_in (m.shadowed u.name) (variables u))
@@ -94,10 +72,6 @@ module _ (sb : Bool) (m : ProgramMarks) (ps : List Procedure) (head u : Procedur
   helper_unshadowed o k = none_shadow (helper o k) (λ y. refl) (names_in (m.shadowed u.name) (variables u))
 
   -- ---- dummies and declarations
-
-  pub same_dummies : (xs : List (List ℕ)) → shadows_behind (m.shadowed u.name) ns xs ≡ shadows_behind (m.shadowed u.name) (shadow_table m ps head u) xs
-  same_dummies [] = refl
-  same_dummies (x ∷ xs) = λ j. if m.shadowed u.name (plain x) then x ∷ sym (same_shadow x) j ∷ same_dummies xs j else x ∷ same_dummies xs j
 
   helpers_scalar : (line : ℕ) (hs : List Var) (v : Var) → declared (declared_helpers ns line hs) v ≡ []
   helpers_scalar line [] v = refl
@@ -136,7 +110,7 @@ module _ (sb : Bool) (m : ProgramMarks) (ps : List Procedure) (head u : Procedur
       go true e b ih =
           let made = or_false (name_eq z (name_in (shadow_table m ps head u) (shadow x))) (has_name z (names_of (names_in (m.shadowed u.name) xs))) b in
           ap (λ t. if t then d.extents else (if name_eq z (name_in ns (shadow x)) then d.extents else declared later (plain z))) e
-          ∙ ap (λ t. if t then d.extents else declared later (plain z)) (ap (name_eq z) (sym (same_shadow x)) ∙ made.0)
+          ∙ ap (λ t. if t then d.extents else declared later (plain z)) (ap (name_eq z) (sym (table_shadow x)) ∙ made.0)
           ∙ ih made.1
       go false e b ih = ap (λ t. if t then d.extents else declared later (plain z)) e ∙ ih b
 

@@ -2,6 +2,7 @@
 use Rattle.std.proofs.Common.{◌≡◌, ℕ, ◌+◌, ◌*◌, Bool, true, false, List, [], ◌∷◌, ◌++◌, map, refl, sym, ap, ◌∙◌, subst, codes, if◌then◌else◌}
 use Rattle.std.specs.Prelude.{◌&&◌, Some, None}
 use Rattle.adj_tree.specs.Code.{Var, name_eq, var_eq, plain, Term, var, begin_reversal, end_reversal, Mark, with_count, count_from, Act, choose, loop, call, runtime, Code, stop, Extent, Declaration, Procedure}
+use Rattle.std.specs.List.{list_any, list_all}
 use Rattle.adj_tree.specs.Lines.{unlined_code, unlined_procedure, unlined}
 use Rattle.def_meaning.specs.Append.{◌+++◌}
 use Rattle.def_meaning.specs.Units.{declared}
@@ -12,10 +13,10 @@ use Rattle.def_sweep.specs.Declared.{unit_name}
 use Rattle.def_names.proofs.Variables.{and_true}
 use Rattle.def_sweep.specs.Marking.{first_statement, plan_in}
 use Rattle.def_sweep.specs.Program.{emitted_program_with, schedules_in}
-use Rattle.def_adjoint.specs.Shape.{gathered, is_own, primal, done_list, deeds, deeds_back, is_called, IsAdjointUnit, HasShape}
+use Rattle.def_adjoint.specs.Shape.{gathered, is_own, primal, ran, is_push, turned as loop_variables, restores, done_list, deeds, deeds_back, is_called, IsAdjointUnit, HasShape}
 use Rattle.law_shape.specs.Worked.{squared_back, all_at}
 use Rattle.law_shape.proofs.Cuts.{none_cut, cut_not}
-use Rattle.law_shape.specs.Reversed.{directed, turning, numbered, squaring, only_second, directed_program, turning_program, numbered_program, snapshots, reversing, dropping, turned, keeps, steps_once, turns_once, turning_forth, turning_back, numbered_forth, numbered_back, unit_with, numbered_unit, squaring_back, reversed, numbered_reversed, counting_itself, pushing_in_steps, taking_twice, stepping_back, dropped}
+use Rattle.law_shape.specs.Reversed.{directed, turning, numbered, squaring, only_second, directed_program, turning_program, numbered_program, snapshots, reversing, dropping, turned, keeps, steps_once, turns_once, turning_forth, turning_back, numbered_forth, numbered_back, unit_with, numbered_unit, squaring_back, reversed, numbered_reversed, counting_itself, pushing_in_steps, taking_twice, stepping_back, setting_outside, zeroing_own, dropped}
 
 -- ---- what is emitted
 
@@ -206,6 +207,17 @@ module _ (mark : Mark) (due : are_due (due_here mark) ≡ true) (a : Procedure) 
       let z : true ≡ false = sym yes ∙ not_cut s keeps_so h in
       cc
 
+  -- a forward sweep that keeps so and of the runtime's calls has pushes alone, and a backward sweep that assigns the unit's variables in loops alone
+  abbrev restores_so : Code → Code → Bool
+  restores_so c d = (keeps_so c d && list_all is_push (gathered ran c)) && restores (is_own (directed mark)) (λ v. list_any (var_eq v) (gathered loop_variables (directed mark).body)) false d
+
+  pub not_restoring : none_cut restores_so stop (unlined_code a.body) ≡ true → HasShape true reversing (directed_program mark) (directed mark) only_second only_second (a ∷ others) → ⊥
+  not_restoring h x =
+      let s = first_shaped x in
+      let yes : restores_so s.forth s.back ≡ true = λ j. (name_eq (map kind (s.keeps j)) (4 ∷ 1 ∷ []) && s.pushes_alone j) && s.assigns j in
+      let z : true ≡ false = sym yes ∙ not_cut s restores_so h in
+      cc
+
 pub not_pushing_in_steps : HasShape true reversing turning_program turning only_second only_second pushing_in_steps → ⊥
 not_pushing_in_steps = not_reversed (with_count 2) refl (first_unit pushing_in_steps) (squaring ∷ squaring_back ∷ []) refl refl
 
@@ -214,6 +226,12 @@ not_taking_twice = not_reversed (with_count 2) refl (first_unit taking_twice) (s
 
 pub not_stepping_back : HasShape true reversing turning_program turning only_second only_second stepping_back → ⊥
 not_stepping_back = not_reversed (with_count 2) refl (first_unit stepping_back) (squaring ∷ squaring_back ∷ []) refl refl
+
+pub not_setting_outside : HasShape true reversing turning_program turning only_second only_second setting_outside → ⊥
+not_setting_outside = not_restoring (with_count 2) refl (first_unit setting_outside) (squaring ∷ squaring_back ∷ []) refl refl
+
+pub not_zeroing_own : HasShape true reversing turning_program turning only_second only_second zeroing_own → ⊥
+not_zeroing_own = not_restoring (with_count 2) refl (first_unit zeroing_own) (squaring ∷ squaring_back ∷ []) refl refl
 
 pub not_dropped : HasShape true reversing turning_program turning only_second only_second dropped → ⊥
 not_dropped = not_kept (with_count 2) refl (first_unit dropped) (squaring ∷ squaring_back ∷ []) refl refl

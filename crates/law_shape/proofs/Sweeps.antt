@@ -20,10 +20,10 @@ use Rattle.def_sweep.specs.ReversalCode.{at_turn, arm, advance, arms, reversal, 
 use Rattle.law_emitted.proofs.Over.{OverAct, OverCode, Any}
 use Rattle.law_emitted.proofs.Assigned.{AreMaking, making_adjoint}
 use Rattle.law_emitted.proofs.StepCalls.{from_keep, from_turn, from_advance}
-use Rattle.def_adjoint.specs.Shape.{gathered, is_own, ran, is_push, assigned, turned}
+use Rattle.def_adjoint.specs.Shape.{gathered, is_own, ran, is_push, assigned, turned, restores_act, restores}
 use Rattle.law_shape.proofs.Gathered.{gathered_step, inside, seen}
 use Rattle.law_shape.proofs.Forward.{OwnVar, NoArray}
-use Rattle.law_shape.proofs.Through.{Through, seen_through, guarded_through, gathered_has, any_append, any_join, all_join}
+use Rattle.law_shape.proofs.Through.{Through, seen_through, guarded_through, Placed, Placed', seen_placed, guarded_placed, gathered_has, any_append, any_join, all_join}
 
 -- ---- forward
 
@@ -206,101 +206,101 @@ module _ (counts : Vars) where
 -- ---- backward
 
 module _ (u : Procedure) (r : Var → Var) (own_kept : (v : Var) → is_own u v ≡ true → r v ≡ v) (own_same : (v : Var) → is_own u (r v) ≡ is_own u v) (counts : Vars) (sc : Schedules) (p : Plan) (unsplit : (i : ℕ) → p.marks.split i ≡ false) where
-  -- a variable that isn't the unit's, or is that of a DO
-  abbrev restored : Var → Bool
-  restored v = not (is_own u v) || counts v
+  -- a variable that isn't the unit's, or is that of a DO and stands in the body of a loop
+  abbrev restored : Bool → Var → Bool
+  restored z v = not (is_own u v) || (z && counts v)
 
   -- no other variable is assigned
-  abbrev IsTurning : Code → Type 0
-  IsTurning c = Through (λ a. list_all (λ v. not (is_own u v) || counts v) (assigned a) ≡ true) (seen r c)
+  abbrev IsTurning : Bool → Code → Type 0
+  IsTurning z c = Placed (λ y a. list_all (λ v. not (is_own u v) || (y && counts v)) (assigned a) ≡ true) z (seen r c)
 
-  turning_join : (c d : Code) → IsTurning c → IsTurning d → IsTurning (c +++ d)
-  turning_join c d h g = seen_through (λ a. list_all (λ v. not (is_own u v) || counts v) (assigned a) ≡ true) r c d h g
+  turning_join : (z : Bool) (c d : Code) → IsTurning z c → IsTurning z d → IsTurning z (c +++ d)
+  turning_join z c d h g = seen_placed (λ y a. list_all (λ v. not (is_own u v) || (y && counts v)) (assigned a) ≡ true) z r c d h g
 
-  turning_if : (b : Bool) (c : Code) → (b ≡ true → IsTurning c) → IsTurning (code_if b c)
-  turning_if b c h = guarded_through (λ a. list_all (λ v. not (is_own u v) || counts v) (assigned a) ≡ true) r b c h
+  turning_if : (z b : Bool) (c : Code) → (b ≡ true → IsTurning z c) → IsTurning z (code_if b c)
+  turning_if z b c h = guarded_placed (λ y a. list_all (λ v. not (is_own u v) || (y && counts v)) (assigned a) ≡ true) z r b c h
 
   -- a variable that isn't the unit's, before others
-  free_before : (v : Var) (b : Bool) → is_own u v ≡ false → b ≡ true → (restored (r v) && b) ≡ true
-  free_before v b h e = λ j. (not ((own_same v ∙ h) j) || counts (r v)) && e j
+  free_before : (z : Bool) (v : Var) (b : Bool) → is_own u v ≡ false → b ≡ true → (restored z (r v) && b) ≡ true
+  free_before z v b h e = λ j. (not ((own_same v ∙ h) j) || (z && counts (r v))) && e j
 
-  free : (v : Var) → is_own u v ≡ false → (restored (r v) && true) ≡ true
-  free v h = free_before v true h refl
+  free : (z : Bool) (v : Var) → is_own u v ≡ false → (restored z (r v) && true) ≡ true
+  free z v h = free_before z v true h refl
 
-  -- the variable of a DO
-  of_loop : (x : List ℕ) → is_own u (plain x) ≡ true → counts (plain x) ≡ true → (restored (r (plain x)) && true) ≡ true
-  of_loop x o h = (λ j. restored (own_kept (plain x) o j) && true) ∙ (λ j. or_right (not (is_own u (plain x))) (counts (plain x)) h j && true)
+  -- the variable of a DO, in the body of a loop
+  of_loop : (x : List ℕ) → is_own u (plain x) ≡ true → counts (plain x) ≡ true → (restored true (r (plain x)) && true) ≡ true
+  of_loop x o h = (λ j. restored true (own_kept (plain x) o j) && true) ∙ (λ j. or_right (not (is_own u (plain x))) (counts (plain x)) h j && true)
 
-  making_turns : (c : Code) → AreMaking c → IsTurning c
-  making_turns stop h = tt
-  making_turns (step line (assign (plain x) s e) c) h = absurd h.0
-  making_turns (step line (assign (shadow x) s e) c) h = (free (shadow x) refl, making_turns c h.1)
-  making_turns (step line (assign (helper o k) s e) c) h = (free (helper o k) refl, making_turns c h.1)
-  making_turns (step line (choose t a b) c) h = absurd h.0
-  making_turns (step line (loop x a b by body m) c) h = absurd h.0
-  making_turns (step line (during t body) c) h = absurd h.0
-  making_turns (step line (call name args) c) h = absurd h.0
-  making_turns (step line (runtime t) c) h = absurd h.0
+  making_turns : (z : Bool) (c : Code) → AreMaking c → IsTurning z c
+  making_turns z stop h = tt
+  making_turns z (step line (assign (plain x) s e) c) h = absurd h.0
+  making_turns z (step line (assign (shadow x) s e) c) h = (free z (shadow x) refl, making_turns z c h.1)
+  making_turns z (step line (assign (helper o k) s e) c) h = (free z (helper o k) refl, making_turns z c h.1)
+  making_turns z (step line (choose t a b) c) h = absurd h.0
+  making_turns z (step line (loop x a b by body m) c) h = absurd h.0
+  making_turns z (step line (during t body) c) h = absurd h.0
+  making_turns z (step line (call name args) c) h = absurd h.0
+  making_turns z (step line (runtime t) c) h = absurd h.0
 
-  pushes_turn : (line : ℕ) (xs : List (List ℕ)) → IsTurning (pushes p line xs)
-  pushes_turn line [] = tt
-  pushes_turn line (x ∷ xs) = turning_join (push p line x) (pushes p line xs) (here (p.arrays (plain x))) (pushes_turn line xs)
+  pushes_turn : (z : Bool) (line : ℕ) (xs : List (List ℕ)) → IsTurning z (pushes p line xs)
+  pushes_turn z line [] = tt
+  pushes_turn z line (x ∷ xs) = turning_join z (push p line x) (pushes p line xs) (here (p.arrays (plain x))) (pushes_turn z line xs)
     where
-      here : (b : Bool) → IsTurning (one line (runtime (if b then push_array (plain x) else push_word (plain x) none)))
+      here : (b : Bool) → IsTurning z (one line (runtime (if b then push_array (plain x) else push_word (plain x) none)))
       here true = (refl, tt)
       here false = (refl, tt)
 
-  pops_turn : (line : ℕ) (xs : List (List ℕ)) → IsTurning (pops p line xs)
-  pops_turn line [] = tt
-  pops_turn line (x ∷ xs) = turning_join (pops p line xs) (pop p line x) (pops_turn line xs) (here (p.arrays (plain x)))
+  pops_turn : (z : Bool) (line : ℕ) (xs : List (List ℕ)) → IsTurning z (pops p line xs)
+  pops_turn z line [] = tt
+  pops_turn z line (x ∷ xs) = turning_join z (pops p line xs) (pop p line x) (pops_turn z line xs) (here (p.arrays (plain x)))
     where
-      here : (b : Bool) → IsTurning (one line (runtime (if b then pop_array (plain x) else pop_word (plain x) none)))
+      here : (b : Bool) → IsTurning z (one line (runtime (if b then pop_array (plain x) else pop_word (plain x) none)))
       here true = (refl, tt)
       here false = (refl, tt)
 
-  told_turns : (idle : Bool) (line : ℕ) (a b : Code) → IsTurning a → IsTurning b → IsTurning (told_backward idle line a b)
-  told_turns true line a b h g = tt
-  told_turns false line a b h g = (refl, ((refl, (h, g)), tt))
+  told_turns : (z idle : Bool) (line : ℕ) (a b : Code) → IsTurning z a → IsTurning z b → IsTurning z (told_backward idle line a b)
+  told_turns z true line a b h g = tt
+  told_turns z false line a b h g = (refl, ((refl, (h, g)), tt))
 
-  loop_turns : (idle : Bool) (k line : ℕ) (x : List ℕ) (body : Code) → is_own u (plain x) ≡ true → counts (plain x) ≡ true → IsTurning body → IsTurning (loop_backward idle k line (plain x) body)
-  loop_turns true k line x body o n h = tt
-  loop_turns false k line x body o n h = (refl, (refl, (refl, ((free (helper turn k) refl, (of_loop x o n, h)), tt))))
+  loop_turns : (z idle : Bool) (k line : ℕ) (x : List ℕ) (body : Code) → is_own u (plain x) ≡ true → counts (plain x) ≡ true → IsTurning true body → IsTurning z (loop_backward idle k line (plain x) body)
+  loop_turns z true k line x body o n h = tt
+  loop_turns z false k line x body o n h = (refl, (refl, (refl, ((free z (helper turn k) refl, (of_loop x o n, h)), tt))))
 
-  while_turns : (idle : Bool) (k line : ℕ) (body : Code) → IsTurning body → IsTurning (while_backward idle k line body)
-  while_turns true k line body h = tt
-  while_turns false k line body h = (refl, ((free (helper turn k) refl, h), tt))
+  while_turns : (z idle : Bool) (k line : ℕ) (body : Code) → IsTurning true body → IsTurning z (while_backward idle k line body)
+  while_turns z true k line body h = tt
+  while_turns z false k line body h = (refl, ((free z (helper turn k) refl, h), tt))
 
   -- the arm of one action
-  arm_turns : (line k n : ℕ) (c : Code) → IsTurning c → IsTurning (arm line k n c)
-  arm_turns line k n c h = turning_if (not (is_empty c)) (one line (choose (compare is_same (var (helper kind k)) (literal n)) c stop)) (λ t. ((refl, (h, tt)), tt))
+  arm_turns : (z : Bool) (line k n : ℕ) (c : Code) → IsTurning z c → IsTurning z (arm line k n c)
+  arm_turns z line k n c h = turning_if z (not (is_empty c)) (one line (choose (compare is_same (var (helper kind k)) (literal n)) c stop)) (λ t. ((refl, (h, tt)), tt))
 
   -- a reversal
-  reversal_turns : (line k : ℕ) (x : List ℕ) (m : Term) (keep back plain_call adjoint : Code) → is_own u (plain x) ≡ true → counts (plain x) ≡ true → IsTurning keep → IsTurning back → IsTurning plain_call → IsTurning adjoint → IsTurning (reversal line k (plain x) m keep back plain_call adjoint)
-  reversal_turns line k x m keep back plain_call adjoint o n hk hb hp ha = (
+  reversal_turns : (z : Bool) (line k : ℕ) (x : List ℕ) (m : Term) (keep back plain_call adjoint : Code) → is_own u (plain x) ≡ true → counts (plain x) ≡ true → IsTurning true keep → IsTurning true back → IsTurning true plain_call → IsTurning true adjoint → IsTurning z (reversal line k (plain x) m keep back plain_call adjoint)
+  reversal_turns z line k x m keep back plain_call adjoint o n hk hb hp ha = (
     refl,
     (
-      free (helper entries k) refl,
-      ((free (helper entry k) refl, (free_before (helper kind k) (restored (r (helper lower k)) && (restored (r (helper upper k)) && true)) refl (free_before (helper lower k) (restored (r (helper upper k)) && true) refl (free (helper upper k) refl)), all_arms)), (refl, tt)),
+      free z (helper entries k) refl,
+      ((free z (helper entry k) refl, (free_before true (helper kind k) (restored true (r (helper lower k)) && (restored true (r (helper upper k)) && true)) refl (free_before true (helper lower k) (restored true (r (helper upper k)) && true) refl (free true (helper upper k) refl)), all_arms)), (refl, tt)),
     ),
   )
     where
-      all_arms : IsTurning (arms line k (plain x) keep back plain_call adjoint)
+      all_arms : IsTurning true (arms line k (plain x) keep back plain_call adjoint)
       all_arms =
-          turning_join (arm line k 1 keep) (from_advance line k (plain x) keep back plain_call adjoint) (arm_turns line k 1 keep hk)
-          (turning_join (arm line k 2 (advance line k (plain x) plain_call)) (from_turn line k (plain x) keep back adjoint) (arm_turns line k 2 (advance line k (plain x) plain_call) ((free (helper turn k) refl, (of_loop x o n, hp)), tt))
-          (turning_join (arm line k 3 (at_turn line k (plain x) lower adjoint)) (from_keep line k keep back) (arm_turns line k 3 (at_turn line k (plain x) lower adjoint) (of_loop x o n, ha))
-          (turning_join (arm line k 4 (back +++ keep)) (arm line k 5 back) (arm_turns line k 4 (back +++ keep) (turning_join back keep hb hk)) (arm_turns line k 5 back hb))))
+          turning_join true (arm line k 1 keep) (from_advance line k (plain x) keep back plain_call adjoint) (arm_turns true line k 1 keep hk)
+          (turning_join true (arm line k 2 (advance line k (plain x) plain_call)) (from_turn line k (plain x) keep back adjoint) (arm_turns true line k 2 (advance line k (plain x) plain_call) ((free true (helper turn k) refl, (of_loop x o n, hp)), tt))
+          (turning_join true (arm line k 3 (at_turn line k (plain x) lower adjoint)) (from_keep line k keep back) (arm_turns true line k 3 (at_turn line k (plain x) lower adjoint) (of_loop x o n, ha))
+          (turning_join true (arm line k 4 (back +++ keep)) (arm line k 5 back) (arm_turns true line k 4 (back +++ keep) (turning_join true back keep hb hk)) (arm_turns true line k 5 back hb))))
 
-  pop_turns : (line k : ℕ) (m : Mark) (rest : Code) → IsTurning rest → IsTurning (pop_slots line k m rest)
-  pop_turns line k unmarked rest h = h
-  pop_turns line k (with_count n) rest h = h
-  pop_turns line k (count_from y) rest h = (refl, h)
+  pop_turns : (z : Bool) (line k : ℕ) (m : Mark) (rest : Code) → IsTurning z rest → IsTurning z (pop_slots line k m rest)
+  pop_turns z line k unmarked rest h = h
+  pop_turns z line k (with_count n) rest h = h
+  pop_turns z line k (count_from y) rest h = (refl, h)
 
-  turns_turn : (i k line : ℕ) (x : List ℕ) (s : Step) → is_own u (plain x) ≡ true → counts (plain x) ≡ true → IsTurning (row_backward p i k line x s)
-  turns_turn i k line x s o n = (
+  turns_turn : (z : Bool) (i k line : ℕ) (x : List ℕ) (s : Step) → is_own u (plain x) ≡ true → counts (plain x) ≡ true → IsTurning z (row_backward p i k line x s)
+  turns_turn z i k line x s o n = (
     refl,
-    pop_turns line k s.mark (pop_own line (helper stride k) (pop_own line (helper first k) (back +++ (turns +++ unsave))))
-        (refl, (refl, turning_join back (turns +++ unsave) (pops_turn line snapshot) (turning_join turns unsave (reversal_turns line k x (slots_of k s.mark) keep back plain_call adjoint o n (pushes_turn line snapshot) (pops_turn line snapshot) (refl, tt) (refl, tt)) (pops_turn line (save_group p.marks i (p.callees s.name) s.given))))),
+    pop_turns z line k s.mark (pop_own line (helper stride k) (pop_own line (helper first k) (back +++ (turns +++ unsave))))
+        (refl, (refl, turning_join z back (turns +++ unsave) (pops_turn z line snapshot) (turning_join z turns unsave (reversal_turns z line k x (slots_of k s.mark) keep back plain_call adjoint o n (pushes_turn true line snapshot) (pops_turn true line snapshot) (refl, tt) (refl, tt)) (pops_turn z line (save_group p.marks i (p.callees s.name) s.given))))),
   )
     where
       snapshot : List (List ℕ)
@@ -325,24 +325,24 @@ module _ (u : Procedure) (r : Var → Var) (own_kept : (v : Var) → is_own u v 
       turns = reversal line k (plain x) (slots_of k s.mark) keep back plain_call adjoint
 
   mutual
-    act_turns : (i d line : ℕ) (a : Act) → OverAct (OwnVar u) NoArray Any a → LoopsIn' counts a → IsTurning (backward_act_with sc p i d line a)
-    act_turns i d line (assign (plain x) subs e) o l =
-        turning_join (code_if (p.marks.kept i && p.marks.saved i (plain x)) (one line (runtime (pop_word (plain x) subs)))) (code_if (p.marks.adjointed i) (adjoint_where (active_at p.marks i) x subs e line))
-        (turning_if (p.marks.kept i && p.marks.saved i (plain x)) (one line (runtime (pop_word (plain x) subs))) (λ t. (refl, tt)))
-        (turning_if (p.marks.adjointed i) (adjoint_where (active_at p.marks i) x subs e line) (λ t. making_turns (adjoint_where (active_at p.marks i) x subs e line) (making_adjoint (active_at p.marks i) x subs e line)))
-    act_turns i d line (assign (shadow x) subs e) o l = tt
-    act_turns i d line (assign (helper t k) subs e) o l = tt
-    act_turns i d line (choose t a b) o l =
-        let one_part = code_turns (suc i) d a o.1.0 l.0 in
-        let other_part = code_turns (behind (suc i) a) d b o.1.1 l.1 in
-        turning_if (is_emitted p.marks i) (told_backward (is_empty (backward_with sc p (suc i) d a) && is_empty (backward_with sc p (behind (suc i) a) d b)) line (backward_with sc p (suc i) d a) (backward_with sc p (behind (suc i) a) d b))
-        (λ e. told_turns (is_empty (backward_with sc p (suc i) d a) && is_empty (backward_with sc p (behind (suc i) a) d b)) line (backward_with sc p (suc i) d a) (backward_with sc p (behind (suc i) a) d b) one_part other_part)
-    act_turns i d line (loop (plain x) a b by body m) o l =
-        turning_if (is_emitted p.marks i) (row (reversed_by sc p.marks.adjointed i body m) +++ (code_if (p.marks.saved i (plain x)) (one line (runtime (pop_word (plain x) none))) +++ reset p.marks i line x)) (λ e.
-        turning_join (row (reversed_by sc p.marks.adjointed i body m)) (code_if (p.marks.saved i (plain x)) (one line (runtime (pop_word (plain x) none))) +++ reset p.marks i line x) (of_row (reversed_by sc p.marks.adjointed i body m) (code_turns (suc i) (suc d) body o.1.1.1.1.0 l.1))
-        (turning_join (code_if (p.marks.saved i (plain x)) (one line (runtime (pop_word (plain x) none)))) (reset p.marks i line x)
-        (turning_if (p.marks.saved i (plain x)) (one line (runtime (pop_word (plain x) none))) (λ t. (refl, tt)))
-        (turning_if (resets p.marks i x) (one line (assign (shadow x) none (literal 0))) (λ t. (free (shadow x) refl, tt)))))
+    act_turns : (z : Bool) (i d line : ℕ) (a : Act) → OverAct (OwnVar u) NoArray Any a → LoopsIn' counts a → IsTurning z (backward_act_with sc p i d line a)
+    act_turns z i d line (assign (plain x) subs e) o l =
+        turning_join z (code_if (p.marks.kept i && p.marks.saved i (plain x)) (one line (runtime (pop_word (plain x) subs)))) (code_if (p.marks.adjointed i) (adjoint_where (active_at p.marks i) x subs e line))
+        (turning_if z (p.marks.kept i && p.marks.saved i (plain x)) (one line (runtime (pop_word (plain x) subs))) (λ t. (refl, tt)))
+        (turning_if z (p.marks.adjointed i) (adjoint_where (active_at p.marks i) x subs e line) (λ t. making_turns z (adjoint_where (active_at p.marks i) x subs e line) (making_adjoint (active_at p.marks i) x subs e line)))
+    act_turns z i d line (assign (shadow x) subs e) o l = tt
+    act_turns z i d line (assign (helper t k) subs e) o l = tt
+    act_turns z i d line (choose t a b) o l =
+        let one_part = code_turns z (suc i) d a o.1.0 l.0 in
+        let other_part = code_turns z (behind (suc i) a) d b o.1.1 l.1 in
+        turning_if z (is_emitted p.marks i) (told_backward (is_empty (backward_with sc p (suc i) d a) && is_empty (backward_with sc p (behind (suc i) a) d b)) line (backward_with sc p (suc i) d a) (backward_with sc p (behind (suc i) a) d b))
+        (λ e. told_turns z (is_empty (backward_with sc p (suc i) d a) && is_empty (backward_with sc p (behind (suc i) a) d b)) line (backward_with sc p (suc i) d a) (backward_with sc p (behind (suc i) a) d b) one_part other_part)
+    act_turns z i d line (loop (plain x) a b by body m) o l =
+        turning_if z (is_emitted p.marks i) (row (reversed_by sc p.marks.adjointed i body m) +++ (code_if (p.marks.saved i (plain x)) (one line (runtime (pop_word (plain x) none))) +++ reset p.marks i line x)) (λ e.
+        turning_join z (row (reversed_by sc p.marks.adjointed i body m)) (code_if (p.marks.saved i (plain x)) (one line (runtime (pop_word (plain x) none))) +++ reset p.marks i line x) (of_row (reversed_by sc p.marks.adjointed i body m) (code_turns true (suc i) (suc d) body o.1.1.1.1.0 l.1))
+        (turning_join z (code_if (p.marks.saved i (plain x)) (one line (runtime (pop_word (plain x) none)))) (reset p.marks i line x)
+        (turning_if z (p.marks.saved i (plain x)) (one line (runtime (pop_word (plain x) none))) (λ t. (refl, tt)))
+        (turning_if z (resets p.marks i x) (one line (assign (shadow x) none (literal 0))) (λ t. (free z (shadow x) refl, tt)))))
       where
         idle : Bool
         idle = is_empty (backward_with sc p (suc i) (suc d) body)
@@ -350,30 +350,42 @@ module _ (u : Procedure) (r : Var → Var) (own_kept : (v : Var) → is_own u v 
         row : Option Step → Code
         row t = found_or t (loop_backward idle (suc d) line (plain x) (backward_with sc p (suc i) (suc d) body)) (λ s. row_backward p i (suc d) line x s)
 
-        of_row : (t : Option Step) → IsTurning (backward_with sc p (suc i) (suc d) body) → IsTurning (row t)
-        of_row None h = loop_turns idle (suc d) line x (backward_with sc p (suc i) (suc d) body) o.0 l.0 h
-        of_row (Some s) h = turns_turn i (suc d) line x s o.0 l.0
-    act_turns i d line (loop (shadow x) a b by body m) o l = tt
-    act_turns i d line (loop (helper t k) a b by body m) o l = tt
-    act_turns i d line (during t body) o l =
+        of_row : (t : Option Step) → IsTurning true (backward_with sc p (suc i) (suc d) body) → IsTurning z (row t)
+        of_row None h = loop_turns z idle (suc d) line x (backward_with sc p (suc i) (suc d) body) o.0 l.0 h
+        of_row (Some s) h = turns_turn z i (suc d) line x s o.0 l.0
+    act_turns z i d line (loop (shadow x) a b by body m) o l = tt
+    act_turns z i d line (loop (helper t k) a b by body m) o l = tt
+    act_turns z i d line (during t body) o l =
         let idle = is_empty (backward_with sc p (suc i) (suc d) body) in
-        let inside_it = code_turns (suc i) (suc d) body o.1 l in
-        turning_if (is_emitted p.marks i) (while_backward idle (suc d) line (backward_with sc p (suc i) (suc d) body)) (λ e. while_turns idle (suc d) line (backward_with sc p (suc i) (suc d) body) inside_it)
-    act_turns i d line (call name args) o l =
+        let inside_it = code_turns true (suc i) (suc d) body o.1 l in
+        turning_if z (is_emitted p.marks i) (while_backward idle (suc d) line (backward_with sc p (suc i) (suc d) body)) (λ e. while_turns z idle (suc d) line (backward_with sc p (suc i) (suc d) body) inside_it)
+    act_turns z i d line (call name args) o l =
         let g = p.callees name in
         let saves = save_group p.marks i g (names_of args) in
         let members = snapshot_group g (names_of args) in
-        subst IsTurning (sym (unsplit_backward sc p i d line name args (unsplit i)))
-        (turning_if (is_emitted p.marks i) (code_if (p.marks.adjointed i) (pops p line members +++ one line (adjoint_call g (names_of args))) +++ pops p line saves) (λ e.
-        turning_join (code_if (p.marks.adjointed i) (pops p line members +++ one line (adjoint_call g (names_of args)))) (pops p line saves)
-        (turning_if (p.marks.adjointed i) (pops p line members +++ one line (adjoint_call g (names_of args))) (λ t. turning_join (pops p line members) (one line (adjoint_call g (names_of args))) (pops_turn line members) (refl, tt)))
-        (pops_turn line saves)))
-    act_turns i d line (runtime t) o l = tt
+        subst (IsTurning z) (sym (unsplit_backward sc p i d line name args (unsplit i)))
+        (turning_if z (is_emitted p.marks i) (code_if (p.marks.adjointed i) (pops p line members +++ one line (adjoint_call g (names_of args))) +++ pops p line saves) (λ e.
+        turning_join z (code_if (p.marks.adjointed i) (pops p line members +++ one line (adjoint_call g (names_of args)))) (pops p line saves)
+        (turning_if z (p.marks.adjointed i) (pops p line members +++ one line (adjoint_call g (names_of args))) (λ t. turning_join z (pops p line members) (one line (adjoint_call g (names_of args))) (pops_turn z line members) (refl, tt)))
+        (pops_turn z line saves)))
+    act_turns z i d line (runtime t) o l = tt
 
-    code_turns : (i d : ℕ) (c : Code) → OverCode (OwnVar u) NoArray Any c → LoopsIn counts c → IsTurning (backward_with sc p i d c)
-    code_turns i d stop o l = tt
-    code_turns i d (step line a rest) o l = turning_join (backward_with sc p (next i a) d rest) (backward_act_with sc p i d line a) (code_turns (next i a) d rest o.1 l.1) (act_turns i d line a o.0 l.0)
+    code_turns : (z : Bool) (i d : ℕ) (c : Code) → OverCode (OwnVar u) NoArray Any c → LoopsIn counts c → IsTurning z (backward_with sc p i d c)
+    code_turns z i d stop o l = tt
+    code_turns z i d (step line a rest) o l = turning_join z (backward_with sc p (next i a) d rest) (backward_act_with sc p i d line a) (code_turns z (next i a) d rest o.1 l.1) (act_turns z i d line a o.0 l.0)
 
-  pub backward_assigns : (i d : ℕ) (c : Code) → OverCode (OwnVar u) NoArray Any c → LoopsIn counts c → list_all (λ v. not (is_own u v) || counts v) (gathered assigned (seen r (backward_with sc p i d c))) ≡ true
-  backward_assigns i d c o l =
-      gathered_has (λ l. list_all (λ v. not (is_own u v) || counts v) l ≡ true) refl (all_join (λ v. not (is_own u v) || counts v)) assigned (λ a. list_all (λ v. not (is_own u v) || counts v) (assigned a) ≡ true) (λ a h. h) (seen r (backward_with sc p i d c)) (code_turns i d c o l)
+  mutual
+    act_restores : (z : Bool) (a : Act) → Placed' (λ y a. list_all (λ v. not (is_own u v) || (y && counts v)) (assigned a) ≡ true) z a → restores_act (is_own u) counts z a ≡ true
+    act_restores z (assign x subs e) h = h
+    act_restores z (choose c a b) h = λ j. code_restores z a h.1.0 j && code_restores z b h.1.1 j
+    act_restores z (loop x a b c body m) h = λ j. h.0 j && code_restores true body h.1 j
+    act_restores z (during c body) h = code_restores true body h.1
+    act_restores z (call name args) h = refl
+    act_restores z (runtime t) h = h
+
+    code_restores : (z : Bool) (c : Code) → Placed (λ y a. list_all (λ v. not (is_own u v) || (y && counts v)) (assigned a) ≡ true) z c → restores (is_own u) counts z c ≡ true
+    code_restores z stop h = refl
+    code_restores z (step line a rest) h = λ j. act_restores z a h.0 j && code_restores z rest h.1 j
+
+  pub backward_assigns : (i d : ℕ) (c : Code) → OverCode (OwnVar u) NoArray Any c → LoopsIn counts c → restores (is_own u) counts false (seen r (backward_with sc p i d c)) ≡ true
+  backward_assigns i d c o l = code_restores false (seen r (backward_with sc p i d c)) (code_turns false i d c o l)

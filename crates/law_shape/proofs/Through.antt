@@ -35,6 +35,33 @@ module _ (P : Act → Type 0) where
   guarded_through r true c h = h refl
   guarded_through r false c h = tt
 
+-- ---- the same, by whether the list stands in the body of a loop
+
+module _ (P : Bool → Act → Type 0) where
+  abbrev mutual
+    pub Placed' : Bool → Act → Type 0
+    Placed' inside (assign x subs e) = P inside (assign x subs e)
+    Placed' inside (choose c a b) = P inside (choose c a b) × (Placed inside a × Placed inside b)
+    Placed' inside (loop x a b c body m) = P inside (loop x a b c body m) × Placed true body
+    Placed' inside (during c body) = P inside (during c body) × Placed true body
+    Placed' inside (call name args) = P inside (call name args)
+    Placed' inside (runtime r) = P inside (runtime r)
+
+    pub Placed : Bool → Code → Type 0
+    Placed inside stop = Unit {0}
+    Placed inside (step line a rest) = Placed' inside a × Placed inside rest
+
+  pub placed_append : (inside : Bool) (c d : Code) → Placed inside c → Placed inside d → Placed inside (c +++ d)
+  placed_append inside stop d h g = g
+  placed_append inside (step line a c) d h g = (h.0, placed_append inside c d h.1 g)
+
+  pub seen_placed : (inside : Bool) (r : Var → Var) (c d : Code) → Placed inside (seen r c) → Placed inside (seen r d) → Placed inside (seen r (c +++ d))
+  seen_placed inside r c d h g = subst (Placed inside) (sym (seen_append r c d)) (placed_append inside (seen r c) (seen r d) h g)
+
+  pub guarded_placed : (inside : Bool) (r : Var → Var) (b : Bool) (c : Code) → (b ≡ true → Placed inside (seen r c)) → Placed inside (seen r (code_if b c))
+  guarded_placed inside r true c h = h refl
+  guarded_placed inside r false c h = tt
+
 -- ---- what is gathered
 
 -- a property of lists that joined lists have, too

@@ -1,6 +1,6 @@
 -- Programs whose marked loop is reversed by a schedule, what is emitted for them, and forms of that which aren't what marks say.
 use Rattle.std.specs.Prelude.{ℕ, pos, nat_lt, ◌==◌, List, [], ◌∷◌, ◌++◌, map, Bool, true, false, codes}
-use Rattle.adj_tree.specs.Code.{Var, plain, name_eq, Term, lit, var, bin, plus, minus, times, greater, lesser, none, more, is_same, compare, Mark, unmarked, with_count, count_from, Act, assign, choose, loop, call, runtime, pop_word, begin_reversal, count_actions, give_action, end_reversal, Code, stop, step, Procedure}
+use Rattle.adj_tree.specs.Code.{Var, plain, name_eq, Term, lit, var, bin, plus, minus, times, greater, lesser, none, more, is_same, compare, Mark, unmarked, with_count, count_from, Act, assign, choose, loop, call, runtime, pop_word, zero_array, begin_reversal, count_actions, give_action, end_reversal, Code, stop, step, Procedure}
 use Rattle.def_sweep.specs.Marking.{ProgramMarks, full_marks}
 use Rattle.law_shape.specs.Worked.{X, XB, squared, pushes, declared_at, all_at, squared_back}
 
@@ -227,6 +227,14 @@ taking_twice = program_with (turning_forth turned (turning_back (all_at 5 (pushe
 -- the step unit called where a turn is taken back
 abbrev pub stepping_back : List Procedure
 stepping_back = program_with (turning_forth turned (turning_back keeps steps_once (all_at 5 (turn ∷ turn_back ∷ []) stop)))
+
+-- a backward sweep that begins with an assignment to the variable of the DO, outside any loop
+abbrev pub setting_outside : List Procedure
+setting_outside = program_with (turning_forth turned (step 5 (sets (codes "I") (of (codes "N"))) (turning_back keeps steps_once turns_once)))
+
+-- and one that begins by setting X to 0 as an array
+abbrev pub zeroing_own : List Procedure
+zeroing_own = program_with (turning_forth turned (step 5 (runtime (zero_array (plain X))) (turning_back keeps steps_once turns_once)))
 
 -- the call dropped from the forward sweep
 abbrev pub dropped : List Procedure

@@ -11,7 +11,7 @@ ghost use Rattle.def_sweep.specs.Marking.{full_marks};
 ghost use Rattle.def_sweep.specs.Program.{emitted_program, emitted_program_with};
 ghost use Rattle.law_shape.specs.Accepted.{AcceptedHasShape};
 ghost use Rattle.law_shape.specs.Laws.{AnalysedAreClosed, EmittedHasShape, FullAreClosed};
-ghost use Rattle.law_shape.specs.Reversed.{counting_itself, dropped, dropping, numbered, numbered_program, numbered_reversed, only_second, pushing_in_steps, reversed, reversing, stepping_back, taking_twice, turning, turning_program};
+ghost use Rattle.law_shape.specs.Reversed.{counting_itself, dropped, dropping, numbered, numbered_program, numbered_reversed, only_second, pushing_in_steps, reversed, reversing, setting_outside, stepping_back, taking_twice, turning, turning_program, zeroing_own};
 ghost use Rattle.def_adjoint.specs.Shape.{HasShape};
 ghost use Rattle.law_shape.specs.Worked.{emitted, fourth_power, keeping_all, pushing_helpers, pushing_more, sparing, twice_forward};
 
@@ -56,12 +56,14 @@ pub fn worked_reversal()
 {}
 
 /// These forms don't have the shape: a push where steps are made; a snapshot that is pushed twice; the step unit called where a step is
-/// reversed; no step call in the forward sweep; the marked loop emitted like any other loop; and a reversal whose number of snapshots is
+/// reversed; a backward sweep that assigns the loop's variable outside any loop, or sets a variable of the unit to 0 as an array; no step call in the forward sweep; the marked loop emitted like any other loop; and a reversal whose number of snapshots is
 /// the variable of the directive itself.
 pub fn wrong_reversals()
     ensures pushing_in_steps { HasShape true reversing turning_program turning only_second only_second pushing_in_steps → ⊥ }
     ensures taking_twice { HasShape true reversing turning_program turning only_second only_second taking_twice → ⊥ }
     ensures stepping_back { HasShape true reversing turning_program turning only_second only_second stepping_back → ⊥ }
+    ensures setting_outside { HasShape true reversing turning_program turning only_second only_second setting_outside → ⊥ }
+    ensures zeroing_own { HasShape true reversing turning_program turning only_second only_second zeroing_own → ⊥ }
     ensures dropped { HasShape true reversing turning_program turning only_second only_second dropped → ⊥ }
     ensures as_others { HasShape true reversing turning_program turning only_second only_second (emitted_program_with false reversing turning_program 0 only_second only_second) → ⊥ }
     ensures itself { HasShape true reversing numbered_program numbered only_second only_second counting_itself → ⊥ }

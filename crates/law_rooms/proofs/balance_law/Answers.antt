@@ -1,7 +1,6 @@
 -- The law is a lemma.
-use Rattle.std.specs.Prelude.{true, false}
 use Rattle.law_rooms.proofs.Adjoints.{adjoints_balance}
 use Rattle.law_rooms.proofs.balance_law.Goals as goal
 
 pub returns : goal.returns
-returns c = record { balance = adjoints_balance false; reversed = adjoints_balance true }
+returns c = record { balance = adjoints_balance }
